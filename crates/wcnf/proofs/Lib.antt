@@ -1,0 +1,16 @@
+pub mod Sound
+pub mod Hints
+pub mod Certificates
+pub mod Numbers
+pub mod Lines
+pub mod Texts
+pub mod Witness
+pub mod Passing
+pub mod Marks
+pub mod Zeros
+pub mod FirstPieces
+pub mod CappedNumbers
+pub mod Judgement
+pub mod Drafting
+pub mod Limits
+pub mod FromLines

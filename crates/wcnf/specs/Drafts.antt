@@ -1,0 +1,98 @@
+-- What the lines read so far make, and what one more line makes of it.
+use Rattle.std.specs.Prelude.{◌≡◌, ℕ, ◌+◌, ◌<◌, ◌*◌, max, Bool, false, List, [], ◌∷◌, ◌++◌, length, Option, Some, None, Result, Ok, Err, nat_lt, nat_le, if◌then◌else◌, slice_index_or, ◌==◌}
+use Rattle.std.specs.List.{AllByRecursion}
+use Rattle.wcnf.specs.Literal.{Literal, index_of}
+use Rattle.wcnf.specs.Clause.{contains_literal, has_repeat}
+use Rattle.wcnf.specs.Problem.{Problem, SoftClause}
+use Rattle.wcnf.specs.Text.{tokens_of, is_digit}
+use Rattle.wcnf.specs.declared.faults.FaultKind.{FaultKind}
+use Rattle.wcnf.specs.declared.faults.FaultKind.TheVariants.{Literal as LiteralFault, NoZero, Variable, TooMany}
+use Rattle.wcnf.specs.Reading.{Totals, Word, Zero, Literal_word, Other, word_of, ended_at, head_of, ◌>>=◌}
+
+-- a clause that is being read, each literal once, and the greatest variable of the text so far
+pub record Gathered : Type 0 where
+  pub variables : ℕ
+  pub literals : List Literal
+
+-- where a clause begins
+abbrev pub emptied : ℕ → Gathered
+emptied v = record { variables = v; literals = [] }
+
+-- the clause with a literal, unless it is there
+abbrev pub with_literal : List Literal → Literal → List Literal
+with_literal c l = if contains_literal l c then c else c ++ l ∷ []
+
+-- one more literal of the text
+abbrev pub gather : Gathered → Literal → Gathered
+gather g l = record { variables = max g.variables l.variable; literals = with_literal g.literals l }
+
+-- two marks for each variable, and those of the clause's literals are set
+pub record AreMarked (variables : ℕ) (marks : List Bool) (c : List Literal) : Type 0 where
+  pub count : length marks ≡ 2 * variables
+  pub marked : (l : Literal) → 0 < l.variable → slice_index_or marks (index_of l) false ≡ contains_literal l c
+  pub positive : AllByRecursion (λ l. 0 < l.variable) c
+  pub once : has_repeat c ≡ false
+
+-- the clause up to the 0 that ends the line, and how many literals stand in the text then
+abbrev pub gathered_at : Gathered → ℕ → List (List ℕ) → Result (Gathered × ℕ) FaultKind
+gathered_at g n [] = Err NoZero
+gathered_at g n (t ∷ ts) = by (word_of t) (λ l. gathered_at (gather g l) (n + 1) ts)
+  where
+    by : Word → (Literal → Result (Gathered × ℕ) FaultKind) → Result (Gathered × ℕ) FaultKind
+    by Other more = Err LiteralFault
+    by Zero more = do
+      c ← ended_at ts
+      Ok (g, n)
+    by (Literal_word l) more = if nat_lt 4194304 l.variable then Err Variable else if nat_le 67108864 n then Err TooMany else more l
+
+-- the instance that the lines so far make; literals are counted as written
+pub record Drafted : Type 0 where
+  pub variables : ℕ
+  pub hard : List (List Literal)
+  pub soft : List SoftClause
+  pub literals : ℕ
+  pub weight : ℕ
+
+abbrev pub nothing_drafted : Drafted
+nothing_drafted = record { variables = 0; hard = []; soft = []; literals = 0; weight = 0 }
+
+-- how much was read
+abbrev pub totals_of : Drafted → Totals
+totals_of d = record { hard = length d.hard; soft = length d.soft; literals = d.literals; weight = d.weight }
+
+abbrev pub problem_drafted : Drafted → Problem
+problem_drafted d = record { variables = d.variables; hard = d.hard; soft = d.soft }
+
+-- one more clause
+abbrev pub with_clause : Drafted → Option ℕ → Gathered × ℕ → Drafted
+with_clause d None g = record { variables = g.0.variables; hard = d.hard ++ g.0.literals ∷ []; soft = d.soft; literals = g.1; weight = d.weight }
+with_clause d (Some w) g = record { variables = g.0.variables; hard = d.hard; soft = d.soft ++ record { weight = w; clause = g.0.literals } ∷ []; literals = g.1; weight = d.weight + w }
+
+abbrev pub begins_with_digit : List ℕ → Bool
+begins_with_digit [] = false
+begins_with_digit (b ∷ bs) = is_digit b
+
+-- one more clause line, by its first token and the others
+abbrev pub drafted_clause : Drafted → List ℕ → List (List ℕ) → Result Drafted FaultKind
+drafted_clause d t ts = do
+  w ← head_of (totals_of d) t
+  g ← gathered_at (emptied d.variables) d.literals ts
+  Ok (with_clause d w g)
+
+-- one more line
+abbrev pub drafted_line : Drafted → List (List ℕ) → Result Drafted FaultKind
+drafted_line d [] = Ok d
+drafted_line d (t ∷ ts) = if is_comment t then Ok d else drafted_clause d t ts
+  where
+    is_comment : List ℕ → Bool
+    is_comment [] = false
+    is_comment (b ∷ bs) = b == 99
+
+-- the lines that are left, with their numbers
+abbrev pub drafted_lines : Drafted → List (ℕ × List ℕ) → Result Drafted (FaultKind × ℕ)
+drafted_lines d [] = Ok d
+drafted_lines d (line ∷ more) = on (drafted_line d (tokens_of line.1)) (λ e. drafted_lines e more)
+  where
+    on : Result Drafted FaultKind → (Drafted → Result Drafted (FaultKind × ℕ)) → Result Drafted (FaultKind × ℕ)
+    on (Ok e) next = next e
+    on (Err k) next = Err (k, line.0)

@@ -1,0 +1,16 @@
+pub mod Literal
+pub mod Packed
+pub mod Clause
+pub mod Problem
+pub mod Bits
+pub mod Instance
+pub mod Writing
+pub mod Text
+pub mod Wcnf
+pub mod Reading
+pub mod Drafts
+pub mod Seen
+pub mod Formula
+pub mod Refute
+pub mod Lrat
+pub mod ReadingVectors

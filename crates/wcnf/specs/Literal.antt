@@ -1,0 +1,29 @@
+-- Variables, literals and assignments.
+use Rattle.std.specs.Prelude.{ℕ, Bool, not, ◌+◌, ◌-◌, ◌*◌, if◌then◌else◌, ◌==◌, ◌&&◌}
+
+-- a variable from 1, or its negation
+pub record Literal : Type 0 where
+  pub variable : ℕ
+  pub negated : Bool
+
+abbrev pub negation : Literal → Literal
+negation l = record { variable = l.variable; negated = not l.negated }
+
+-- a truth value for each variable
+abbrev pub Assignment : Type 0
+Assignment = ℕ → Bool
+
+-- a positive literal is true when its variable is, a negated one when its variable is not
+abbrev pub literal_value : Assignment → Literal → Bool
+literal_value t l = if l.negated then not (t l.variable) else t l.variable
+
+abbrev pub same_bool : Bool → Bool → Bool
+same_bool a b = if a then b else not b
+
+-- the test for one literal
+abbrev pub literal_eq : Literal → Literal → Bool
+literal_eq k l = (k.variable == l.variable) && same_bool k.negated l.negated
+
+-- a literal's place in a table with one row for each literal
+abbrev pub index_of : Literal → ℕ
+index_of l = 2 * (l.variable - 1) + (if l.negated then 1 else 0)

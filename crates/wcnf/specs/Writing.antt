@@ -1,0 +1,23 @@
+-- Texts of tokens, and what a writer has of a text.
+use Rattle.std.specs.Prelude.{◌≡◌, ℕ, List, [], ◌∷◌, ◌++◌, Option}
+use Rattle.std.specs.Io.KnownBytes.{Appends}
+
+-- tokens with single spaces, and a line feed
+abbrev pub spaced : List (List ℕ) → List ℕ
+spaced [] = 10 ∷ []
+spaced (t ∷ []) = t ++ 10 ∷ []
+spaced (t ∷ u ∷ ts) = t ++ 32 ∷ spaced (u ∷ ts)
+
+-- the text begins with part
+abbrev pub Begins : List ℕ → List ℕ → Type 0
+Begins part text = (rest : List ℕ) × (text ≡ part ++ rest)
+
+-- known bytes grow by a beginning of the text
+abbrev pub AppendsPart : Option (List ℕ) → Option (List ℕ) → List ℕ → Type 0
+AppendsPart old new text = (part : List ℕ) × Begins part text × Appends old new part
+
+-- a writer by way of a block, where the text comes after what the block held: what the writer took, and what the block holds then
+pub record PassesOn (old : Option (List ℕ)) (held : List ℕ) (text : List ℕ) (new : Option (List ℕ)) (left : List ℕ) : Type 0 where
+  pub written : List ℕ
+  pub appended : Appends old new written
+  pub split : held ++ text ≡ written ++ left

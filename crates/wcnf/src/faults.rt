@@ -1,0 +1,44 @@
+// What can go wrong while a text is read or written: plain values, which carry no text of their own.
+ghost use Rattle.std.specs.Prelude.{◌≡◌};
+
+/// The kinds of fault of a WCNF text, and of reading it.
+///
+/// The first faulty line decides, and within it the first faulty token. At one token the kind that stands earlier here is given.
+#[derive(Clone, Copy, Debug, PartialEq, Eq, Drop)]
+pub enum FaultKind {
+    /// The first token is neither `h` nor `p`, and does not begin with a digit.
+    FirstToken,
+    /// The first token is `p`, which begins the header of the form before 2022.
+    OldForm,
+    /// The first token begins with a digit and is not a number from 1 to 2^62 - 1, spelled without a leading zero.
+    Weight,
+    /// A later token is neither `0` nor a number from 1, spelled without plus sign and leading zero, with or without a dash before it.
+    Literal,
+    /// The line ends without the token `0`.
+    NoZero,
+    /// A token stands after the `0`.
+    AfterZero,
+    /// The variable of a literal is above 2^22.
+    Variable,
+    /// With this weight the weights sum to 2^62 or more.
+    WeightSum,
+    /// There are more than 2^22 hard clauses, 2^18 soft clauses or 2^26 literals.
+    TooMany,
+    /// Memory was refused, which says nothing of the text.
+    Memory,
+    /// The reader failed, which says nothing of the text.
+    Read,
+}
+
+/// The first fault of a text.
+#[derive(Clone, Copy, Debug, PartialEq, Eq, Drop)]
+pub struct ReadFault {
+    /// What is wrong.
+    pub kind: FaultKind,
+    /// The line on which it stands, from 1; 0 for `Memory` and `Read`.
+    pub line: u64,
+}
+
+/// The writer answered an error, or took none of the bytes of a piece that was not empty.
+#[derive(Clone, Copy, Debug, PartialEq, Eq, Drop)]
+pub struct WriteFault;

@@ -1,0 +1,148 @@
+// The clause that is being read. Repeats are told by a mark for each literal, so a clause of n literals takes n steps,
+// and only its own marks are taken back before the next one.
+ghost use Rattle.std.specs.Prelude.{◌≡◌, ℕ, ◌<◌, ◌≤◌, ◌^◌, max, [], Ok, Err, OnOk, IfOk, MatchResult, ◌⊎◌};
+ghost use Rattle.wcnf.specs.Reading.{ended_at};
+ghost use Rattle.wcnf.specs.Drafts.{gather, emptied, gathered_at, AreMarked};
+
+use crate::faults::FaultKind;
+use crate::pieces::Tokens;
+use crate::types::{Clause, Lit};
+use crate::words::{Word, read_word};
+use std::alloc::{AllocError, Global};
+use std::marker::Model;
+
+/// How many literals a text may have, repeats too.
+const LITERALS_LIMIT: usize = 1 << 26;
+
+/// The clause that is being read, each literal once, and the greatest variable of the text so far.
+#[derive(Drop)]
+pub(crate) struct Gathering {
+    vars: u32,
+    // Two for each variable, by the literals' indices: whether the clause has the literal.
+    marks: Vec<bool>,
+    lits: Vec<Lit>,
+}
+
+impl Model for Gathering {
+    ghost use Rattle.wcnf.specs.Drafts.{Gathered, AreMarked};
+
+    ghost Value = { Gathered };
+
+    ghost view = { λ g. record { variables = g.vars; literals = g.lits.items } };
+
+    ghost invariant = { λ g. AreMarked g.vars g.marks.items g.lits.items };
+}
+
+impl Gathering {
+    pub(crate) fn new(alloc: Global) -> Self
+        ensures { result ≡ record { variables = 0; literals = [] } }
+    {
+        Gathering {
+            vars: 0,
+            marks: Vec::new(alloc),
+            lits: Vec::new(alloc),
+        }
+    }
+
+    /// The greatest variable of the text so far.
+    pub(crate) fn vars(&self) -> u32
+        ensures { result ≡ self.now.variables }
+    {
+        self.vars
+    }
+
+    /// Begins the next clause.
+    fn clear(&mut self)
+        ensures { self.new ≡ emptied self.old.variables }
+    {
+        unmark(&mut self.marks, &self.lits);
+        self.lits.clear();
+    }
+
+    /// Makes room for the marks of the variables up to this one.
+    fn cover(&mut self, variable: u32) -> Result<(), AllocError>
+        requires { variable < 2 ^ 27 }
+        ensures { OnOk result (self.new ≡ record { variables = max self.old.variables variable; literals = self.old.literals }) }
+    {
+        if variable > self.vars {
+            self.marks.resize(2 * variable as usize, false)?;
+            self.vars = variable;
+        }
+        Ok(())
+    }
+
+    /// One more literal, unless the clause has it.
+    fn add(&mut self, lit: Lit) -> Result<(), AllocError>
+        ensures { OnOk result (self.new ≡ gather self.old lit) }
+    {
+        self.cover(lit.variable())?;
+        let place = lit.index();
+        if !self.marks[place] {
+            self.lits.push(lit)?;
+            self.marks[place] = true;
+        }
+        Ok(())
+    }
+
+    /// Reads the clause of a line, from its first literal to the 0 that has to end it.
+    ///
+    /// `before` is the number of literals in the text before this line, and the result that number after it.
+    pub(crate) fn read(&mut self, before: usize, mut words: Tokens<'_>) -> Result<usize, FaultKind>
+        requires { before ≤ 2 ^ 26 }
+        ensures within { IfOk result (λ n. n ≤ 2 ^ 26) }
+        ensures read { MatchResult result
+            (λ n. gathered_at (emptied self.old.variables) before words.entry ≡ Ok (self.new, n))
+            (λ k. (k ≡ FaultKind.Memory) ⊎ (gathered_at (emptied self.old.variables) before words.entry ≡ Err k)) }
+    {
+        self.clear();
+        let mut count = before;
+        while let Some(token) = words.next() {
+            match read_word(token) {
+                Word::Literal(lit) => {
+                    if count >= LITERALS_LIMIT {
+                        return Err(FaultKind::TooMany);
+                    }
+                    self.add(lit).map_err(|_| FaultKind::Memory)?;
+                }
+                Word::End => {
+                    ended(words)?;
+                    return Ok(count);
+                }
+                Word::Above => return Err(FaultKind::Variable),
+                Word::Other => return Err(FaultKind::Literal),
+            }
+            count += 1;
+        }
+        Err(FaultKind::NoZero)
+    }
+
+    /// The clause that was read.
+    pub(crate) fn clause(&self, alloc: Global) -> Result<Clause, AllocError>
+        ensures { IfOk result (λ c. c ≡ self.now.literals) }
+    {
+        Ok(Clause::new(Vec::from_slice(alloc, &self.lits)?))
+    }
+}
+
+/// Takes back the marks of a clause.
+fn unmark(marks: &mut [bool], lits: &[Lit])
+    requires { (v : ℕ) × AreMarked v marks.old lits.now }
+    ensures { (v : ℕ) → AreMarked v marks.old lits.now → AreMarked v marks.new [] }
+{
+    for lit in lits {
+        marks[lit.index()] = false;
+    }
+}
+
+/// Refuses whatever follows the 0.
+fn ended(mut words: Tokens<'_>) -> Result<(), FaultKind>
+    ensures { MatchResult result (λ _. ended_at words.entry ≡ Ok []) (λ k. ended_at words.entry ≡ Err k) }
+{
+    match words.next() {
+        None => Ok(()),
+        Some(token) => match read_word(token) {
+            Word::Other => Err(FaultKind::Literal),
+            _ => Err(FaultKind::AfterZero),
+        },
+    }
+}

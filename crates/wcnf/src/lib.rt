@@ -1,0 +1,14 @@
+//! Weighted MaxSAT instances, their clauses and formulas, and the reader of WCNF texts.
+#![tactic(auto)]
+
+pub mod faults;
+mod gathering;
+pub mod judging;
+pub mod output;
+pub mod pieces;
+pub mod reading;
+mod rows;
+pub mod text;
+pub mod types;
+pub mod whole;
+mod words;

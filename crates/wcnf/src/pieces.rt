@@ -1,0 +1,150 @@
+// What goes over the lines of a text, and over the tokens of a line, without a copy: each item is a part of the bytes that were given.
+ghost use Rattle.std.specs.Prelude.{◌≡◌, ◌≤◌, length};
+ghost use Rattle.std.specs.Iterator.{YieldsFirstBy, YieldsFirstRef, item_count};
+ghost use Rattle.std.specs.List.{prefix_len, position_or_len};
+ghost use Rattle.std.specs.Str.Lines.{strip_carriage_return};
+ghost use Rattle.wcnf.specs.Text.{is_blank, numbered_text, tokens_of};
+
+use memchr::memchr;
+use std::marker::Model;
+
+/// The lines of a text with their numbers, from 1.
+///
+/// A line ends at a line feed, which is no part of it, and neither is a carriage return just before that line feed.
+/// Bytes after the last line feed are one more line, which keeps a carriage return at its end.
+#[derive(Drop)]
+pub struct Lines<'a> {
+    rest: &'a [u8],
+    number: u64,
+}
+
+impl<'a> Model for Lines<'a> {
+    ghost use Rattle.std.specs.Prelude.{ℕ, List, ◌+◌, ◌<◌, ◌^◌, length};
+    ghost use Rattle.std.specs.List.{enumerate_from};
+    ghost use Rattle.std.specs.Str.Lines.{lines};
+
+    ghost Value = { List (ℕ × List ℕ) };
+
+    ghost view = { λ s. enumerate_from s.number (lines s.rest.now) };
+
+    ghost invariant = { λ s. s.number + length s.rest.now < 2 ^ 64 };
+}
+
+impl<'a> Lines<'a> {
+    pub(crate) fn of(rest: &'a [u8]) -> Self
+        ensures { result ≡ numbered_text rest.now }
+    {
+        Lines { rest, number: 1 }
+    }
+}
+
+impl<'a> Iterator for Lines<'a> {
+    type Item = (u64, &'a [u8]);
+
+    ghost next_gives = { YieldsFirstBy (λ item. (item.0, item.1.now)) (λ s. s) };
+
+    ghost remaining = { item_count (λ s. s) };
+
+    fn next(&mut self) -> Option<(u64, &'a [u8])> {
+        let text = self.rest;
+        if text.is_empty() {
+            return None;
+        }
+        let number = self.number;
+        self.number += 1;
+        match memchr(b'\n', text) {
+            Some(end) => {
+                self.rest = &text[end + 1..];
+                Some((number, without_return(&text[..end])))
+            }
+            None => {
+                self.rest = &text[text.len()..];
+                Some((number, text))
+            }
+        }
+    }
+}
+
+// The bytes before a line feed, less one carriage return at their end.
+fn without_return(line: &[u8]) -> &[u8]
+    ensures { result.now ≡ strip_carriage_return line.now }
+{
+    match line {
+        [front @ .., b'\r'] => front,
+        _ => line,
+    }
+}
+
+/// The tokens of a line: the longest runs of bytes that are neither spaces nor tabs.
+#[derive(Drop)]
+pub struct Tokens<'a> {
+    rest: &'a [u8],
+}
+
+impl<'a> Model for Tokens<'a> {
+    ghost use Rattle.std.specs.Prelude.{ℕ, List};
+    ghost use Rattle.wcnf.specs.Text.{tokens_of};
+
+    ghost Value = { List (List ℕ) };
+
+    ghost view = { λ s. tokens_of s.rest.now };
+}
+
+impl<'a> Tokens<'a> {
+    pub(crate) fn of(rest: &'a [u8]) -> Self
+        ensures { result ≡ tokens_of rest.now }
+    {
+        Tokens { rest }
+    }
+}
+
+impl<'a> Iterator for Tokens<'a> {
+    type Item = &'a [u8];
+
+    ghost next_gives = { YieldsFirstRef (λ s. s) };
+
+    ghost remaining = { item_count (λ s. s) };
+
+    fn next(&mut self) -> Option<&'a [u8]> {
+        let rest = &self.rest[blanks_at(self.rest)..];
+        if rest.is_empty() {
+            self.rest = rest;
+            return None;
+        }
+        let (token, after) = rest.split_at(token_at(rest));
+        self.rest = after;
+        Some(token)
+    }
+}
+
+fn is_blank(byte: u8) -> bool
+    ensures { result ≡ is_blank byte }
+{
+    byte == b' ' || byte == b'\t'
+}
+
+// How many blanks the bytes begin with.
+fn blanks_at(bytes: &[u8]) -> usize
+    ensures blanks { result ≡ prefix_len is_blank bytes.now }
+    ensures within { result ≤ length bytes.now }
+{
+    for (i, byte) in bytes.iter().enumerate() {
+        if !is_blank(*byte) {
+            return i;
+        }
+    }
+    bytes.len()
+}
+
+// How many bytes stand before the first blank.
+fn token_at(bytes: &[u8]) -> usize
+    ensures token { result ≡ position_or_len is_blank bytes.now }
+    ensures within { result ≤ length bytes.now }
+{
+    for (i, byte) in bytes.iter().enumerate() {
+        if is_blank(*byte) {
+            return i;
+        }
+    }
+    bytes.len()
+}

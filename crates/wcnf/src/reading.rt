@@ -1,0 +1,70 @@
+// Reading a whole WCNF text, given as bytes or by a reader.
+ghost use Rattle.std.specs.Prelude.{◌≡◌, IfOk, IfErr, OnOk, IfSome, ◌⊎◌};
+ghost use Rattle.std.specs.Io.KnownBytes.{IsAtEnd};
+ghost use Rattle.wcnf.specs.Problem.{Problem};
+ghost use Rattle.wcnf.specs.Wcnf.{Reads};
+ghost use Rattle.wcnf.specs.Reading.{IsFirstFault};
+
+use crate::faults::{FaultKind, ReadFault};
+use crate::rows::Draft;
+use crate::text::lines;
+use crate::types::Instance;
+use crate::whole::read_all;
+use std::alloc::Global;
+use std::io::Read;
+
+/// The instance that a WCNF text reads as, in the form of the MaxSAT Evaluation 2022.
+///
+/// Each line is blank, a comment that begins with `c`, or a clause: `h` or a weight from 1 to 2^62 - 1, then literals,
+/// then `0`. Repeated literals are dropped, the first place stays, and the variables are those up to the greatest one.
+///
+/// # Errors
+///
+/// The first fault of the text with its line, as `FaultKind` lists them, among them a limit that is passed; or `Memory`
+/// with line 0 where a growth was refused.
+pub fn read(alloc: Global, text: &[u8]) -> Result<Instance, ReadFault>
+    ensures instance { IfOk result (λ i. Reads text.now i) }
+    ensures only_one { IfOk result (λ i. (p : Problem) → Reads text.now p → p ≡ i) }
+    ensures fault { IfErr result (λ f. (f ≡ record { kind = FaultKind.Memory; line = 0 }) ⊎ IsFirstFault text.now f.kind f.line) }
+{
+    let mut draft = Draft::new(alloc);
+    for (number, line) in lines(text) {
+        if let Err(kind) = draft.read_line(line) {
+            return Err(fault_at(kind, number));
+        }
+    }
+    Ok(draft.finish())
+}
+
+/// The fault that a line met; refused memory is of no line.
+fn fault_at(kind: FaultKind, line: u64) -> ReadFault
+    ensures { ((kind ≡ FaultKind.Memory) × (result ≡ record { kind = FaultKind.Memory; line = 0 }))
+        ⊎ ((kind ≡ FaultKind.Memory → ⊥) × (result ≡ record { kind = kind; line = line })) }
+{
+    match kind {
+        FaultKind::Memory => ReadFault { kind, line: 0 },
+        _ => ReadFault { kind, line },
+    }
+}
+
+/// Reads to the reader's end, and then as `read`.
+///
+/// # Errors
+///
+/// Those of `read`, and `Read` with line 0 where the reader failed, of whatever kind its error is.
+pub fn read_from<R: Read>(alloc: Global, reader: &mut R) -> Result<Instance, ReadFault>
+    ensures at_end { OnOk result (IsAtEnd (R.remaining reader.new)) }
+    ensures instance { IfOk result (λ i. IfSome (R.remaining reader.old) (λ text. Reads text i)) }
+    ensures only_one { IfOk result (λ i. IfSome (R.remaining reader.old) (λ text. (p : Problem) → Reads text p → p ≡ i)) }
+
+    // The reader's own fault, or that of the whole text.
+    ensures fault { IfErr result (λ f. (f ≡ record { kind = FaultKind.Memory; line = 0 })
+        ⊎ (f ≡ record { kind = FaultKind.Read; line = 0 })
+        ⊎ IfSome (R.remaining reader.old) (λ text. IsFirstFault text f.kind f.line)) }
+{
+    let text = read_all(alloc, reader)?;
+    read(alloc, &text)
+}
+
+#[cfg(test)]
+mod tests;
