@@ -1,0 +1,184 @@
+-- Each assignment extends to the relaxation literals, and then to the cells.
+use Rattle.std.proofs.Common.{◌≡◌, ℕ, zero, suc, ◌+◌, ◌*◌, ◌%◌, ◌<◌, ◌≤◌, Bool, true, false, not, ◌||◌, List, [], ◌∷◌, ◌++◌, length, map, filter, Option, Some, None, ◌==◌, nat_le, if◌then◌else◌, All, refl, sym, ◌∙◌, ap, subst, arith}
+use Rattle.std.specs.List.{AllByRecursion}
+use Rattle.std.proofs.lemmas.Bool.{eq-eqb, ne_eqb}
+use Rattle.std.proofs.lemmas.List.Elements.{All-from_recursion}
+use Rattle.wcnf.specs.Literal.{Assignment, Literal, negation, literal_value}
+use Rattle.wcnf.specs.Clause.{clause_value, greatest_variable}
+use Rattle.wcnf.specs.Problem.{Problem, SoftClause}
+use Rattle.adder.specs.declared.cells.Cell.{Cell}
+use Rattle.adder.specs.declared.cells.Profile.{Profile}
+use Rattle.adder.specs.Network.{Relaxed, Column, bit, binary_length, total_weight, positive, relaxed_from, relaxed_as, relaxed_variables, column_of, added_up, columns_from, adders_as, one_if, third_of, IsCellOf, SameUpTo}
+use Rattle.adder.proofs.Sums.{relaxed_cases}
+
+-- the assignment with one value changed
+abbrev pub put : Assignment → ℕ → Bool → Assignment
+put t n b v = if v == n then b else t v
+
+pub put_here : (t : Assignment) (n : ℕ) (b : Bool) → put t n b n ≡ b
+put_here t n b = ap (λ c. if c then b else t n) (eq-eqb n n refl)
+
+pub put_other : (t : Assignment) (n v : ℕ) (b : Bool) → (v ≡ n → ⊥) → put t n b v ≡ t v
+put_other t n v b h = ap (λ c. if c then b else t v) (ne_eqb v n h)
+
+-- the two agree below n
+abbrev pub SameBelow : ℕ → Assignment → Assignment → Type 0
+SameBelow n t u = (v : ℕ) → v < n → u v ≡ t v
+
+pub literal_same : (t u : Assignment) (l : Literal) → u l.variable ≡ t l.variable → literal_value u l ≡ literal_value t l
+literal_same t u l e = ap (λ b. if l.negated then not b else b) e
+
+pub clause_same : (t u : Assignment) (c : List Literal) → ((v : ℕ) → v ≤ greatest_variable c → u v ≡ t v) → clause_value u c ≡ clause_value t c
+clause_same t u [] h = refl
+clause_same t u (l ∷ c) h = λ i. literal_same t u l (h l.variable (omega arith)) i || clause_same t u c (λ v k. h v (omega arith)) i
+
+-- each cell takes the next two variables, and what it adds is below those
+abbrev pub IsThirdBelow : ℕ → Option Literal → Type 0
+IsThirdBelow n None = Unit {0}
+IsThirdBelow n (Some d) = d.variable < n
+
+abbrev pub IsChain : ℕ → List Cell → Type 0
+IsChain n [] = Unit {0}
+IsChain n (cell ∷ cells) = ((cell.a).variable < n) × ((cell.b).variable < n) × IsThirdBelow n cell.third × (cell.sum ≡ n) × (cell.carry ≡ n + 1) × IsChain (n + 2) cells
+
+pub chain_append : (n : ℕ) (xs ys : List Cell) (m : ℕ) → m ≡ n + 2 * length xs → IsChain n xs → IsChain m ys → IsChain n (xs ++ ys)
+chain_append n [] ys m e h k = subst (λ x. IsChain x ys) (omega arith) k
+chain_append n (x ∷ xs) ys m e h k = (h.0, h.1, h.2, h.3, h.4, chain_append (n + 2) xs ys m (omega arith) h.5 k)
+
+abbrev pub AreBelow : ℕ → List Literal → Type 0
+AreBelow n ls = AllByRecursion (λ l. l.variable < n) ls
+
+below_more : (n m : ℕ) (ls : List Literal) → n ≤ m → AreBelow n ls → AreBelow m ls
+below_more n m [] le h = tt
+below_more n m (l ∷ ls) le h = (omega (arith, h.0), below_more n m ls le h.1)
+
+below_append : (n : ℕ) (xs ys : List Literal) → AreBelow n xs → AreBelow n ys → AreBelow n (xs ++ ys)
+below_append n [] ys h k = k
+below_append n (x ∷ xs) ys h k = (h.0, below_append n xs ys h.1 k)
+
+-- what is known of a column that begins at n
+pub record IsColumnFrom (n : ℕ) (column : Column) : Type 0 where
+  pub chain : IsChain n column.cells
+  pub fresh : column.fresh ≡ n + 2 * length column.cells
+  pub carries : AreBelow column.fresh column.carries
+
+pub column_chain : (steps n : ℕ) (ls : List Literal) → AreBelow n ls → IsColumnFrom n (added_up steps n ls)
+column_chain steps n [] h = record { chain = tt; fresh = omega arith; carries = tt }
+column_chain steps n (a ∷ []) h = record { chain = tt; fresh = omega arith; carries = tt }
+column_chain zero n (a ∷ b ∷ rest) h = record { chain = tt; fresh = omega arith; carries = tt }
+column_chain (suc steps) n (a ∷ b ∷ []) h =
+    let r = column_chain steps (n + 2) (positive n ∷ []) (omega arith, tt) in
+    record { chain = (h.0, h.1.0, tt, refl, refl, r.chain); fresh = omega (arith, r.fresh); carries = (omega (arith, r.fresh), r.carries) }
+column_chain (suc steps) n (a ∷ b ∷ d ∷ rest) h =
+    let r = column_chain steps (n + 2) (rest ++ positive n ∷ []) (below_append (n + 2) rest (positive n ∷ []) (below_more n (n + 2) rest (omega arith) h.1.1.1) (omega arith, tt)) in
+    record { chain = (h.0, h.1.0, h.1.1.0, refl, refl, r.chain); fresh = omega (arith, r.fresh); carries = (omega (arith, r.fresh), r.carries) }
+
+abbrev pub AreRelaxedBelow : ℕ → List Relaxed → Type 0
+AreRelaxedBelow n es = AllByRecursion (λ e. (e.literal).variable < n) es
+
+column_below : (n : ℕ) (es : List Relaxed) (j : ℕ) → AreRelaxedBelow n es → AreBelow n (column_of es j)
+column_below n [] j h = tt
+column_below n (e ∷ es) j h =
+    elim (bit (e.soft).weight j) as (λ b. AreBelow n (map (λ e. e.literal) (if b then e ∷ filter (λ e. bit (e.soft).weight j) es else filter (λ e. bit (e.soft).weight j) es))) [
+      | true ↦ (h.0, column_below n es j h.1)
+      | false ↦ column_below n es j h.1
+    ]
+
+relaxed_more : (n m : ℕ) (es : List Relaxed) → n ≤ m → AreRelaxedBelow n es → AreRelaxedBelow m es
+relaxed_more n m [] le h = tt
+relaxed_more n m (e ∷ es) le h = (omega (arith, h.0), relaxed_more n m es le h.1)
+
+pub columns_chain : (es : List Relaxed) (more j n : ℕ) (carries : List Literal) → AreRelaxedBelow n es → AreBelow n carries → IsChain n (columns_from es more j n carries).cells
+columns_chain es zero j n carries h k = tt
+columns_chain es (suc more) j n carries h k =
+    let ls = column_of es j ++ carries in
+    let column = added_up (length ls) n ls in
+    let r = column_chain (length ls) n ls (below_append n (column_of es j) carries (column_below n es j h) k) in
+    chain_append n column.cells (columns_from es more (j + 1) column.fresh column.carries).cells column.fresh r.fresh r.chain
+    (columns_chain es more (j + 1) column.fresh column.carries (relaxed_more n column.fresh es (omega (arith, r.fresh)) h) r.carries)
+
+-- what a cell adds
+abbrev inputs : Assignment → Cell → ℕ
+inputs t cell = one_if (literal_value t cell.a) + one_if (literal_value t cell.b) + third_of t cell.third
+
+third_same : (n : ℕ) (t u : Assignment) (o : Option Literal) → SameBelow n t u → IsThirdBelow n o → third_of u o ≡ third_of t o
+third_same n t u None s h = refl
+third_same n t u (Some d) s h = ap one_if (literal_same t u d (s d.variable h))
+
+one_if_le : (b : Bool) → one_if b ≤ 1
+one_if_le true = omega arith
+one_if_le false = omega arith
+
+third_le : (t : Assignment) (o : Option Literal) → third_of t o ≤ 1
+third_le t None = omega arith
+third_le t (Some d) = one_if_le (literal_value t d)
+
+two_bits : (n : ℕ) → n ≤ 3 → 2 * one_if (nat_le 2 n) + one_if (n % 2 == 1) ≡ n
+two_bits zero h = refl
+two_bits (suc zero) h = refl
+two_bits (suc (suc zero)) h = refl
+two_bits (suc (suc (suc zero))) h = refl
+two_bits (suc (suc (suc (suc n)))) h = absurd (omega arith)
+
+pub cells_choice : (n : ℕ) (cells : List Cell) (t : Assignment) → IsChain n cells → (u : Assignment) × SameBelow n t u × AllByRecursion (IsCellOf u) cells
+cells_choice n [] t h = (t, λ v k. refl, tt)
+cells_choice n (cell ∷ cells) t h =
+    let m = inputs t cell in
+    let s = m % 2 == 1 in
+    let c = nat_le 2 m in
+    let w = put (put t n s) (n + 1) c in
+    let r = cells_choice (n + 2) cells w h.5 in
+    let same : SameBelow n t r.0 = λ v k. r.1 v (omega arith) ∙ put_other (put t n s) (n + 1) v c (omega arith) ∙ put_other t n v s (omega arith) in
+    let sum : r.0 cell.sum ≡ s = ap r.0 h.3 ∙ r.1 n (omega arith) ∙ put_other (put t n s) (n + 1) n c (omega arith) ∙ put_here t n s in
+    let carry : r.0 cell.carry ≡ c = ap r.0 h.4 ∙ r.1 (n + 1) (omega arith) ∙ put_here (put t n s) (n + 1) c in
+    let a : one_if (literal_value r.0 cell.a) ≡ one_if (literal_value t cell.a) = ap one_if (literal_same t r.0 cell.a (same _ h.0)) in
+    let b : one_if (literal_value r.0 cell.b) ≡ one_if (literal_value t cell.b) = ap one_if (literal_same t r.0 cell.b (same _ h.1)) in
+    let third = third_same n t r.0 cell.third same h.2 in
+    (r.0, same, (omega (arith, two_bits m (omega (arith, one_if_le (literal_value t cell.a), one_if_le (literal_value t cell.b), third_le t cell.third)), ap one_if sum, ap one_if carry, a, b, third), r.2))
+
+-- the clauses name variables up to n
+abbrev pub AreWithin : ℕ → List SoftClause → Type 0
+AreWithin n ss = AllByRecursion (λ s. greatest_variable s.clause ≤ n) ss
+
+pub relaxed_below : (n : ℕ) (profile : Profile) (v : ℕ) (ss : List SoftClause) (m : ℕ) → AreWithin n ss → n < v
+    → v + length (filter (λ e. e.is_fresh) (relaxed_from profile v ss)) ≤ m → AreRelaxedBelow m (relaxed_from profile v ss)
+relaxed_below n profile v [] m h k = λ room. tt
+relaxed_below n profile v (s ∷ ss) m h k =
+    relaxed_cases profile v s (λ e. v + length (filter (λ e. e.is_fresh) (e ∷ relaxed_from profile (if e.is_fresh then v + 1 else v) ss)) ≤ m → AreRelaxedBelow m (e ∷ relaxed_from profile (if e.is_fresh then v + 1 else v) ss))
+    (λ room. (omega arith, relaxed_below n profile (v + 1) ss m h.1 (omega arith) (omega arith)))
+    (λ l e room. (omega (arith, h.0, ap greatest_variable e), relaxed_below n profile v ss m h.1 k room))
+
+-- the field `choice` of `AddsUp`
+pub cells_extend : (profile : Profile) (p : Problem) (t : Assignment) → AreWithin p.variables p.soft
+    → (u : Assignment) × SameUpTo (relaxed_variables profile p) t u × All (IsCellOf u) (adders_as profile p).cells
+cells_extend profile p t h =
+    let n = relaxed_variables profile p + 1 in
+    let r = cells_choice n (adders_as profile p).cells t
+    (columns_chain (relaxed_as profile p) (binary_length (total_weight p)) 0 n [] (relaxed_below p.variables profile (p.variables + 1) p.soft n h (omega arith) (omega arith)) tt) in
+    (r.0, λ v k. r.1 v (omega arith), All-from_recursion (IsCellOf r.0) (adders_as profile p).cells r.2)
+
+negation_value : (t : Assignment) (l : Literal) → literal_value t (negation l) ≡ not (literal_value t l || false)
+negation_value t l = by l.negated (t l.variable)
+  where
+    by : (n v : Bool) → (if not n then not v else v) ≡ not ((if n then not v else v) || false)
+    by true true = refl
+    by true false = refl
+    by false true = refl
+    by false false = refl
+
+-- a relaxation literal is true just where its clause is false
+abbrev pub IsRelaxedTightly : Assignment → Relaxed → Type 0
+IsRelaxedTightly t e = literal_value t e.literal ≡ not (clause_value t (e.soft).clause)
+
+pub relaxed_choice : (n : ℕ) (profile : Profile) (v : ℕ) (ss : List SoftClause) (u : Assignment) → AreWithin n ss → n < v
+    → (t : Assignment) × SameBelow v u t × AllByRecursion (IsRelaxedTightly t) (relaxed_from profile v ss)
+relaxed_choice n profile v [] u h k = (u, λ x l. refl, tt)
+relaxed_choice n profile v (s ∷ ss) u h k =
+    relaxed_cases profile v s (λ e. (t : Assignment) × SameBelow v u t × AllByRecursion (IsRelaxedTightly t) (e ∷ relaxed_from profile (if e.is_fresh then v + 1 else v) ss))
+    (let b = not (clause_value u s.clause) in
+    let r = relaxed_choice n profile (v + 1) ss (put u v b) h.1 (omega arith) in
+    let same : SameBelow v u r.0 = λ x l. r.1 x (omega arith) ∙ put_other u v x b (omega arith) in
+    (r.0, same, (r.1 v (omega arith) ∙ put_here u v b ∙ ap not (sym (clause_same u r.0 s.clause (λ x l. same x (omega (arith, h.0))))), r.2)))
+    (λ l e.
+    let r = relaxed_choice n profile v ss u h.1 k in
+    (r.0, r.1, (negation_value r.0 l ∙ ap (λ c. not (clause_value r.0 c)) (sym e), r.2)))

@@ -1,0 +1,29 @@
+// Cells and profiles.
+use wcnf::types::Lit;
+
+/// A full adder of three literals, or a half adder of two: its carry is worth two and its sum one,
+/// and together they are the number of its inputs that are true (Eén and Sörensson, "Translating
+/// Pseudo-Boolean Constraints into SAT", 2006).
+#[derive(Clone, Copy, Debug, PartialEq, Eq, Drop)]
+pub struct Cell {
+    /// The first input.
+    pub a: Lit,
+    /// The second input.
+    pub b: Lit,
+    /// The third input, which only a full adder has.
+    pub third: Option<Lit>,
+    /// The variable of the sum: true where an odd number of inputs is true.
+    pub sum: u32,
+    /// The variable of the carry: true where two inputs or more are true.
+    pub carry: u32,
+}
+
+/// How a soft clause is relaxed: by a literal that is true where the clause may be falsified.
+#[derive(Clone, Copy, Debug, PartialEq, Eq, Drop)]
+pub enum Profile {
+    /// Each soft clause, in their order, by the next variable after those of the instance.
+    One,
+    /// A soft clause of just one literal by the negation of that literal; each other one by the
+    /// next variable after those of the instance.
+    Two,
+}

@@ -1,0 +1,83 @@
+// The columns of a network, one after the other. A column is a queue: a vector and the index of
+// its front, so that nothing is ever moved.
+ghost use Rattle.std.specs.Prelude.{◌≡◌, ◌+◌, ◌<◌, ◌≤◌, ◌^◌, ◌∷◌, [], ◌++◌, IfOk, OnOk};
+ghost use Rattle.adder.specs.Network.{positive};
+ghost use Rattle.adder.specs.Parts.{literals_with, column_from};
+
+use crate::cells::Cell;
+use crate::relaxations::Relaxation;
+use std::alloc::AllocError;
+use wcnf::types::Lit;
+
+/// The cells so far, what the column at hand has carried into the next one, and the next new
+/// variable.
+#[derive(Drop)]
+pub(crate) struct Adder {
+    pub cells: Vec<Cell>,
+    pub carries: Vec<Lit>,
+    pub fresh: u32,
+}
+
+impl Adder {
+    /// Takes a cell of these inputs and two new variables, and answers its sum.
+    fn add(&mut self, a: Lit, b: Lit, third: Option<Lit>) -> Result<Lit, AllocError>
+        requires from_one { 0 < self.old.fresh }
+        requires small { self.old.fresh < 2 ^ 26 }
+        ensures sum { IfOk result (λ s. s ≡ positive self.old.fresh) }
+        ensures cells { OnOk result (self.new.cells.items ≡ self.old.cells.items ++ record { a = a; b = b; third = third; sum = self.old.fresh; carry = self.old.fresh + 1 } ∷ []) }
+        ensures carries { OnOk result (self.new.carries.items ≡ self.old.carries.items ++ positive (self.old.fresh + 1) ∷ []) }
+        ensures fresh { OnOk result (self.new.fresh ≡ self.old.fresh + 2) }
+    {
+        let sum = self.fresh;
+        let carry = sum + 1;
+        self.cells.push(Cell {
+            a,
+            b,
+            third,
+            sum,
+            carry,
+        })?;
+        self.carries.push(Lit::new(carry, false))?;
+        self.fresh += 2;
+        Ok(Lit::new(sum, false))
+    }
+
+    /// Adds up a column, and answers its output: the literal that is left.
+    pub fn add_up(&mut self, column: &mut Vec<Lit>) -> Result<Option<Lit>, AllocError>
+        requires from_one { 0 < self.old.fresh }
+        requires small { (column_from self.old.fresh column.old.items).fresh ≤ 2 ^ 26 }
+        ensures output { IfOk result (λ o. o ≡ (column_from self.old.fresh column.old.items).output) }
+        ensures cells { OnOk result (self.new.cells.items ≡ self.old.cells.items ++ (column_from self.old.fresh column.old.items).cells) }
+        ensures carries { OnOk result (self.new.carries.items ≡ self.old.carries.items ++ (column_from self.old.fresh column.old.items).carries) }
+        ensures fresh { OnOk result (self.new.fresh ≡ (column_from self.old.fresh column.old.items).fresh) }
+    {
+        let mut front = 0;
+        loop {
+            let (sum, taken) = match &column[front..] {
+                [] => return Ok(None),
+                [last] => return Ok(Some(*last)),
+                [a, b] => (self.add(*a, *b, None)?, 2),
+                [a, b, third, ..] => (self.add(*a, *b, Some(*third))?, 3),
+            };
+            column.push(sum)?;
+            front += taken;
+        }
+    }
+}
+
+/// Puts into a column the relaxation literals of the weights with bit `j`.
+pub(crate) fn push_bit(
+    column: &mut Vec<Lit>,
+    relaxations: &[Relaxation],
+    j: u32,
+) -> Result<(), AllocError>
+    requires { j < 64 }
+    ensures { OnOk result (column.new.items ≡ column.old.items ++ literals_with j relaxations.now) }
+{
+    for relaxation in relaxations {
+        if (relaxation.weight >> j) % 2 == 1 {
+            column.push(relaxation.lit)?;
+        }
+    }
+    Ok(())
+}

@@ -1,0 +1,10 @@
+//! The adder network of an instance: it adds up the weights of the soft clauses that are given up.
+#![tactic(auto)]
+
+pub mod building;
+pub mod cells;
+mod columns;
+pub mod networks;
+mod relaxations;
+#[cfg(test)]
+mod tests;

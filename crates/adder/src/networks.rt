@@ -1,0 +1,51 @@
+// A finished network. Only this crate makes one, so that its cells and outputs belong together.
+ghost use Rattle.std.specs.Prelude.{◌≡◌};
+
+use crate::cells::Cell;
+use std::alloc::Global;
+use std::marker::Model;
+use wcnf::types::Lit;
+
+/// Cells that add up the weights of the soft clauses whose relaxation literals are true.
+#[derive(Drop)]
+pub struct Network {
+    cells: Vec<Cell>,
+    outputs: Vec<Option<Lit>>,
+}
+
+impl Model for Network {
+    ghost use Rattle.adder.specs.Network.{Adders};
+
+    ghost Value = { Adders };
+
+    ghost view = { λ n. record { cells = n.cells.items; outputs = n.outputs.items } };
+}
+
+impl Network {
+    pub(crate) fn new(cells: Vec<Cell>, outputs: Vec<Option<Lit>>) -> Self
+        ensures { result ≡ record { cells = cells.items; outputs = outputs.items } }
+    {
+        Network { cells, outputs }
+    }
+
+    /// The cells, from the lowest column up. Each has for its sum and its carry the next two
+    /// variables after those of the instance, of the relaxation and of the cells before it.
+    pub fn cells(&self) -> &[Cell]
+        ensures { result.now ≡ self.now.cells }
+    {
+        &self.cells
+    }
+
+    /// For each binary digit of the total weight, from the lowest on, the literal that is true
+    /// where the weight added up has that digit. A digit without one is always 0.
+    pub fn outputs(&self) -> &[Option<Lit>]
+        ensures { result.now ≡ self.now.outputs }
+    {
+        &self.outputs
+    }
+
+    /// Where the cells are allocated.
+    pub fn allocator(&self) -> Global {
+        *self.cells.allocator()
+    }
+}

@@ -1,0 +1,110 @@
+// Networks that were worked by hand.
+ghost use Rattle.std.specs.Prelude.{◌≡◌, ◌<◌, false, IfOk};
+ghost use Rattle.wcnf.specs.Clause.{has_repeat};
+
+use crate::building::{network, network_as};
+use crate::cells::{Cell, Profile};
+use std::alloc::{AllocError, Global};
+use std::test::Fail;
+use wcnf::types::{Clause, Instance, Lit, Soft};
+
+fn positive(variable: u32) -> Lit
+    requires from_one { 0 < variable }
+    requires small { variable < 100 }
+    ensures { result ≡ record { variable = variable; negated = false } }
+{
+    Lit::new(variable, false)
+}
+
+/// The carry is the variable after the sum.
+fn cell(a: Lit, b: Lit, third: Option<Lit>, sum: u32) -> Cell
+    requires { sum < 100 }
+{
+    Cell {
+        a,
+        b,
+        third,
+        sum,
+        carry: sum + 1,
+    }
+}
+
+fn soft(alloc: Global, weight: u64, lits: &[Lit]) -> Result<Soft, AllocError>
+    requires weight { 0 < weight }
+    requires no_repeat { has_repeat lits.now ≡ false }
+    ensures { IfOk result (λ s. s ≡ record { weight = weight; clause = lits.now }) }
+{
+    Ok(Soft::new(weight, Clause::new(lits.to_vec(alloc)?)))
+}
+
+/// Weights 3 and 1 on the same clause of one literal.
+fn three_and_one(alloc: Global) -> Result<Instance, AllocError> {
+    let first = soft(alloc, 3, &[positive(1)])?;
+    let second = soft(alloc, 1, &[positive(1)])?;
+    Ok(Instance::new(1, Vec::new(alloc), vec![in alloc; first, second]?))
+}
+
+#[test]
+fn goes_on_above_the_highest_weight(rt: HostRuntime) -> Result<(), Fail> {
+    let adders = network(&three_and_one(rt.alloc())?)?;
+    let cells = [
+        cell(positive(2), positive(3), None, 4),
+        cell(positive(2), positive(5), None, 6),
+    ];
+    let outputs = [Some(positive(4)), Some(positive(6)), Some(positive(7))];
+    assert_eq!(rt; adders.cells(), cells.as_slice());
+    assert_eq!(rt; adders.outputs(), outputs.as_slice());
+    let _ = adders.allocator();
+    Ok(())
+}
+
+#[test]
+fn relaxes_by_own_literals(rt: HostRuntime) -> Result<(), Fail> {
+    let adders = network_as(&three_and_one(rt.alloc())?, Profile::Two)?;
+    let own = positive(1).negation();
+    let cells = [cell(own, own, None, 2), cell(own, positive(3), None, 4)];
+    let outputs = [Some(positive(2)), Some(positive(4)), Some(positive(5))];
+    assert_eq!(rt; adders.cells(), cells.as_slice());
+    assert_eq!(rt; adders.outputs(), outputs.as_slice());
+    Ok(())
+}
+
+#[test]
+fn adds_three_at_once(rt: HostRuntime) -> Result<(), Fail> {
+    let alloc = rt.alloc();
+    let first = soft(alloc, 1, &[positive(1)])?;
+    let second = soft(alloc, 1, &[positive(2)])?;
+    let third = soft(alloc, 1, &[positive(3)])?;
+    let instance = Instance::new(3, Vec::new(alloc), vec![in alloc; first, second, third]?);
+    let adders = network(&instance)?;
+    let cells = [cell(positive(4), positive(5), Some(positive(6)), 7)];
+    let outputs = [Some(positive(7)), Some(positive(8))];
+    assert_eq!(rt; adders.cells(), cells.as_slice());
+    assert_eq!(rt; adders.outputs(), outputs.as_slice());
+    Ok(())
+}
+
+/// Only the clauses that have not just one literal take variables, and 4 has no lower digits.
+#[test]
+fn leaves_columns_empty(rt: HostRuntime) -> Result<(), Fail> {
+    let alloc = rt.alloc();
+    let first = soft(alloc, 4, &[positive(2)])?;
+    let second = soft(alloc, 8, &[positive(1), positive(2)])?;
+    let third = soft(alloc, 4, &[])?;
+    let instance = Instance::new(2, Vec::new(alloc), vec![in alloc; first, second, third]?);
+    let adders = network_as(&instance, Profile::Two)?;
+    let cells = [
+        cell(positive(2).negation(), positive(4), None, 5),
+        cell(positive(3), positive(6), None, 7),
+    ];
+    let outputs = [
+        None,
+        None,
+        Some(positive(5)),
+        Some(positive(7)),
+        Some(positive(8)),
+    ];
+    assert_eq!(rt; adders.cells(), cells.as_slice());
+    assert_eq!(rt; adders.outputs(), outputs.as_slice());
+    Ok(())
+}
