@@ -1,0 +1,5 @@
+pub mod Form
+pub mod Packed
+pub mod Reader
+pub mod Numbers
+pub mod Blocks

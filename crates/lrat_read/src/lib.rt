@@ -1,0 +1,8 @@
+//! Lines of LRAT certificates (Cruz-Filipe, Heule, Hunt, Kaufmann and Schneider-Kamp 2017): what a
+//! line says, read in one pass into buffers that are used again.
+#![tactic(auto)]
+
+mod blocks;
+mod numbers;
+pub mod reader;
+pub mod types;
