@@ -1,0 +1,18 @@
+# make        proves and builds the program, and leaves it as ./wmax
+# make demo   checks a SAT solver's refutation of a real problem
+# make test   the gate (rt ci), and then the scripts of tests/ on the program that it left
+.PHONY: all demo test clean
+
+all:
+	cd crates/wmax && rt run -- --help > /dev/null
+	cp crates/wmax/out/wmax wmax
+
+demo:
+	@[ -x wmax ] || $(MAKE) all
+	./wmax check examples/mul8.wcnf examples/mul8.result examples/mul8.lrat
+
+test:
+	@bash tests/all
+
+clean:
+	rm -rf crates/*/out wmax

@@ -1,0 +1,175 @@
+#!/usr/bin/env bash
+# `wmax check` from the files to the printed verdict.
+source "$(dirname "$0")/lib"
+
+verdict() { # NAME WANTED: of text, result and proof
+    run check text result proof
+    case $2 in YES) expect "$1" 0 "$2" "" ;; *) expect "$1" 1 "$2" "" ;; esac
+}
+
+# Four clauses that no assignment satisfies.
+lines text 'h 1 2 0' 'h -1 2 0' 'h 1 -2 0' 'h -1 -2 0'
+lines result 's UNSATISFIABLE'
+lines proof '5 2 0 1 2 0' '6 0 5 3 4 0'
+verdict 'two RUP lines' YES
+lines proof '5 3 1 0 0' '6 -3 2 0 -5 1 0' '7 2 0 1 2 0' '8 0 7 3 4 0'
+verdict 'a definition' YES
+lines proof '5 3 1 0 0' '6 -3 2 0 0' '7 2 0 1 2 0' '8 0 7 3 4 0'
+verdict 'a candidate that is not named' 'NO Candidates 2'
+lines proof '5 2 0 1 2 0'
+verdict 'no empty clause' 'NO NoEmptyClause 0'
+lines proof '5 d 9 0' '5 2 0 1 2 0' '6 0 5 3 4 0'
+verdict 'a dead id' 'NO DeadId 1'
+printf '5 2 0 1 2 0\n6 0 5 3 4 0' > "$work/proof"
+verdict 'a last line without LF' YES
+printf '5 2 0 1 2 0\r\n\r\n6\t0 5  3 4 0\r\n' > "$work/proof"
+verdict 'CR LF, blanks, an empty line' YES
+: > "$work/proof"
+verdict 'an empty certificate' 'NO NoEmptyClause 0'
+
+# One line or a few, and the first fault.
+while IFS='|' read -r proof wanted; do
+    printf '%b\n' "$proof" > "$work/proof"
+    verdict "$proof" "NO $wanted"
+done <<'ROWS'
+5 2 0 1 2|LineForm 1
+4 2 0 1 2 0|IdOrder 1
+5 2 2 0 1 2 0|ClauseForm 1
+5 2 0 1 9 0|DeadId 1
+5 d 1 1 0|DeadId 1
+5 0 1 0|HintNotUnit 1
+5 2 0 1 2 3 0|HintAfterConflict 1
+5 0 0|NoConflict 1
+5 2 0 1 0|Candidates 1
+5 3 1 0 0\n6 -3 2 0 -5 0|NoConflict 2
+5 3 1 0 0\n6 -3 -1 0 -5 1 3 0|HintAfterConflict 2
+5 d 4 0\n4 2 0 1 2 0|IdOrder 2
+5 3 1 0 0\n6 -3 -1 0 -5 0|NoEmptyClause 0
+5 2 0 1 2 0\n6 0 5 3 4 0\n7 1 0 0|TrailingLine 3
+5 2 0 1 2 0\n6 0 5 3 4|LineForm 2
+4611686018427387904 1 0 0|LineForm 1
+5 -0 0 0|LineForm 1
+5 134217728 0 0|ClauseForm 1
+5 134217727 0 0|NoEmptyClause 0
+ROWS
+
+# Definitions of a pair of literals.
+lines text 'h 1 2 3 0' 'h 1 2 4 0' 'h 1 2 5 0' 'h 1 2 6 0'
+lines proof '5 -7 1 2 0 0' '6 7 -1 0 -5 0' '7 7 -2 0 -5 0' '8 7 3 0 6 7 1 0' '8 d 1 0' \
+    '9 7 4 0 6 7 2 0' '9 d 2 0' '10 7 5 0 6 7 3 0' '10 d 3 0' '11 7 6 0 6 7 4 0' '11 d 4 0'
+verdict 'a pair is replaced' 'NO NoEmptyClause 0'
+lines proof '5 -7 1 2 0 0' '6 7 -1 0 0'
+verdict 'a pair with a candidate that is not named' 'NO Candidates 2'
+
+# Results.
+lines text 'h 1 2 0' '3 -1 0' '4 -2 0'
+lines result 'o 3' 's OPTIMUM FOUND' 'v 10'
+lines proof '6 0 5 4 2 3 1 0'
+verdict 'an optimum' YES
+lines proof '6 0 1 0'
+verdict 'an optimum with a wrong hint' 'NO HintNotUnit 1'
+lines result 'o 3' 's OPTIMUM FOUND' 'v 1'
+verdict 'too few bits' 'NO BitsLength 3'
+lines result 'o 3' 's OPTIMUM FOUND' 'v 00'
+verdict 'bits that break a hard clause' 'NO NotFeasible 3'
+lines result 'o 2' 's OPTIMUM FOUND' 'v 10'
+verdict 'a cost that the bits do not have' 'NO CostWrong 1'
+lines result 'c so far' 'o 7' 'o 3' 's OPTIMUM FOUND' 'v 10'
+lines proof '6 0 5 4 2 3 1 0'
+verdict 'the last cost counts' YES
+lines result 'o 3' 'o 3' 's OPTIMUM FOUND' 'v 10'
+verdict 'costs that do not fall' 'NO ResultForm 2'
+lines result 's OPTIMUM FOUND' 'v 10'
+verdict 'an optimum without cost' 'NO ResultForm 1'
+lines result 'o 3'
+verdict 'a result that ends too soon' 'NO ResultForm 0'
+lines result 'o 3' 's SATISFIABLE' 'v 10'
+verdict 'a solution is no optimum' 'NO StatusWithoutProof 2'
+lines text 'h 1 2 0'
+lines result 's UNKNOWN'
+: > "$work/proof"
+verdict 'no answer' 'NO StatusWithoutProof 1'
+: > "$work/text"
+lines result 'o 0' 's OPTIMUM FOUND' 'v'
+lines proof '2 0 1 0'
+verdict 'an empty text' YES
+lines text '5 0'
+lines result 'o 5' 's OPTIMUM FOUND' 'v'
+lines proof '3 0 1 2 0'
+verdict 'an empty soft clause' YES
+lines text 'h 1 -1 0' '2 1 1 0' '3 -1 0'
+lines result 'o 2' 's OPTIMUM FOUND' 'v 0'
+lines proof '12 -2 0 11 5 10 9 0' '13 0 12 1 2 11 4 0'
+verdict 'opposite and repeated literals' YES
+
+# Faulty texts.
+lines result 's UNSATISFIABLE'
+: > "$work/proof"
+while IFS='|' read -r text line; do
+    printf '%b' "$text" > "$work/text"
+    verdict "$text" "NO Text $line"
+done <<'ROWS'
+h 1 2\n|1
+h 01 0\n|1
+-3 1 0\n|1
+h1 0\n|1
+5x 1 0\n|1
+0 1 0\n|1
+4611686018427387904 1 0\n|1
+4611686018427387903 1 0\n1 -1 0\n|2
+4611686018427387903 1 0\n1 x 0\n|2
+h -0 0\n|1
+h 4194305 0\n|1
+h 1 0 2\n|1
+c x\n\nh 1 x\n|3
+h 1 0\r|1
+p wcnf 1 1 5\n|1
+ROWS
+
+# What is not a file, and words that the command does not take.
+lines text 'h 1 0'
+run check missing result proof
+expect 'a missing instance' 3 '' 'error: Read'
+run check text missing proof
+expect 'a missing result' 3 '' 'error: Read'
+run check text result missing
+expect 'a missing certificate' 3 '' 'error: Read'
+run check . result proof
+expect 'a folder' 3 '' 'error: Read'
+run check text result
+ok 'too few words' test "$status" = 2 -a -z "$out" -a -n "$err"
+run check text result proof more
+ok 'too many words' test "$status" = 2 -a -z "$out" -a -n "$err"
+run
+ok 'no command' test "$status" = 2 -a -z "$out" -a -n "$err"
+run check --help
+ok 'help' test "$status" = 0 -a -n "$out" -a -z "$err"
+out=$(cd "$work" && "$wmax" check text result proof 2>&1 > /dev/full)
+status=$?
+ok 'an output that is full' test "$status" = 3 -a "$out" = 'error: Output'
+
+# Bytes of any kind.
+for seed in 1 2 3 4 5 6 7 8; do
+    for f in text result proof; do
+        perl -e 'srand(shift); print chr(int(rand(256))) for 1..2000' "$seed" > "$work/$f"
+    done
+    run check text result proof
+    ok "random bytes $seed" test "$status" = 1 -a "${out% *}" = 'NO Text' -a -z "$err"
+    lines text 'h 1 2 0'
+    lines result 's UNSATISFIABLE'
+    run check text result proof
+    ok "a random certificate $seed" test "$status" = 1 -a -z "$err"
+done
+
+# The examples, and each of them with a line left out or changed.
+for text in examples/*.wcnf; do
+    name=${text%.wcnf}
+    cp "$text" "$work/text"
+    cp "$name.result" "$work/result"
+    cp "$name.lrat" "$work/proof"
+    verdict "$name" YES
+    sed '$d' "$name.lrat" > "$work/proof"
+    run check text result proof
+    ok "$name without its last line" test "$status" = 1 -a "$out" = 'NO NoEmptyClause 0'
+done
+totals
