@@ -14,3 +14,4 @@ pub mod Judgement
 pub mod Drafting
 pub mod Limits
 pub mod FromLines
+pub mod Items

@@ -1,5 +1,6 @@
-// Texts on their way to a writer. A writer over a file makes a system call of each write, and a text is made of tokens
-// of a few bytes: so they are gathered in a block of fixed size, which asks for no memory. No failed write is tried again.
+// Texts on their way to a writer. A writer over a file makes a system call of each write, and a
+// text is made of tokens of a few bytes: so they are gathered in a block of fixed size, which asks
+// for no memory. No failed write is tried again.
 ghost use Rattle.std.specs.Prelude.{◌≡◌, ◌<◌, ◌≤◌, ◌+◌, ◌++◌, [], length, OnOk, OnErr};
 ghost use Rattle.std.specs.Fmt.{decimal};
 ghost use Rattle.std.specs.Io.KnownBytes.{Appends};
@@ -47,8 +48,8 @@ impl Block {
     ///
     /// # Errors
     ///
-    /// `WriteFault` where the writer failed. It has then a beginning of what the block held and the text, and the block
-    /// is empty.
+    /// `WriteFault` where the writer failed. It has then a beginning of what the block held and the
+    /// text, and the block is empty.
     pub fn put<W: Write>(&mut self, writer: &mut W, text: &[u8]) -> Result<(), WriteFault>
         ensures ok { OnOk result (PassesOn (W.contents writer.old) self.old text.now (W.contents writer.new) self.new) }
         ensures fault { OnErr result (AppendsPart (W.contents writer.old) (W.contents writer.new) (self.old ++ text.now)) }
@@ -100,7 +101,8 @@ impl Block {
     ///
     /// # Errors
     ///
-    /// `WriteFault` where the writer failed. It has then a beginning of what the block held, and the block is empty.
+    /// `WriteFault` where the writer failed. It has then a beginning of what the block held, and
+    /// the block is empty.
     pub fn flush<W: Write>(&mut self, writer: &mut W) -> Result<(), WriteFault>
         ensures ok { OnOk result (Appends (W.contents writer.old) (W.contents writer.new) self.old) }
         ensures fault { OnErr result (AppendsPart (W.contents writer.old) (W.contents writer.new) self.old) }
@@ -126,8 +128,8 @@ impl Block {
 ///
 /// # Errors
 ///
-/// `WriteFault` where the writer answered `Err`, or took none of the bytes that were left. It has then a beginning of
-/// the piece.
+/// `WriteFault` where the writer answered `Err`, or took none of the bytes that were left. It has
+/// then a beginning of the piece.
 pub fn write_piece<W: Write>(writer: &mut W, piece: &[u8]) -> Result<(), WriteFault>
     ensures ok { OnOk result (Appends (W.contents writer.old) (W.contents writer.new) piece.now) }
     ensures fault { OnErr result (AppendsPart (W.contents writer.old) (W.contents writer.new) piece.now) }
@@ -141,3 +143,6 @@ pub fn write_piece<W: Write>(writer: &mut W, piece: &[u8]) -> Result<(), WriteFa
     }
     Ok(())
 }
+
+#[cfg(test)]
+mod tests;
