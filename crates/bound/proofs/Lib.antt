@@ -1,0 +1,15 @@
+pub mod Clauses
+pub mod Adders
+pub mod Comparator
+pub mod Cheaper
+pub mod Subsets
+pub mod Covers
+pub mod Few
+pub mod Fits
+pub mod Marking
+pub mod Kept
+pub mod Rows
+pub mod Columns
+pub mod Relaxations
+pub mod Parts
+pub mod Lines

@@ -1,0 +1,102 @@
+-- The lines of a DIMACS text, as they are put together.
+use Rattle.std.proofs.Common.{◌≡◌, ℕ, ◌+◌, ◌<◌, ◌≤◌, List, [], ◌∷◌, ◌++◌, length, map, take, drop, get_or, Option, refl, sym, ◌∙◌, ap, subst, append_assoc, append-nil, take-append-drop}
+use Rattle.std.specs.List.{flat_map}
+use Rattle.std.proofs.lemmas.List.{take_more, drop_more, take_all}
+use Rattle.std.specs.Io.KnownBytes.{Appends}
+use Rattle.std.specs.Fmt.{decimal}
+use lib.Chars.{codes}
+use Rattle.wcnf.specs.Literal.{Literal}
+use Rattle.wcnf.specs.Text.{literal_text}
+use Rattle.wcnf.specs.Formula.{Cnf}
+use Rattle.wcnf.specs.Writing.{PassesOn, AppendsPart}
+use Rattle.wcnf.proofs.Items.{items_more, items_fault, all_taken}
+use Rattle.wcnf.proofs.Passing.{first_fault, passed-more, passed_fault, passed_part-more, passed_part, passed_whole, spaced-last}
+use Rattle.bound.specs.Bound.{dimacs_clause, dimacs_header, dimacs_text}
+
+abbrev pub literals_text : List Literal → List ℕ
+literals_text c = flat_map (λ l. literal_text l ++ 32 ∷ []) c
+
+flat_map-map : (c : List Literal) → flat_map (λ t. t ++ 32 ∷ []) (map literal_text c) ≡ literals_text c
+flat_map-map [] = refl
+flat_map-map (l ∷ c) = ap (λ z. (literal_text l ++ 32 ∷ []) ++ z) (flat_map-map c)
+
+pub clause_line : (c : List Literal) → dimacs_clause c ≡ literals_text c ++ codes "0\n"
+clause_line c = spaced-last (map literal_text c) (codes "0") ∙ ap (λ z. z ++ codes "0\n") (flat_map-map c)
+
+-- the line of a clause
+module _ (a b c : Option (List ℕ)) (h j k : List ℕ) (lits : List Literal) (i : ℕ) where
+  pub literal_fault : (l : Literal) → i < length lits → l ≡ get_or lits i l → PassesOn a h (literals_text (take i lits)) b j → AppendsPart b c (j ++ literal_text l) → AppendsPart a c (h ++ dimacs_clause lits)
+  literal_fault l lt is p q = rw (clause_line lits) (items_fault (λ x. literal_text x ++ 32 ∷ []) a b c h j [] (literal_text l) (32 ∷ []) (codes "0\n") lits i l lt is refl p q)
+
+  pub space_fault : (d : Option (List ℕ)) (l : Literal) → i < length lits → l ≡ get_or lits i l → PassesOn a h (literals_text (take i lits)) b j → PassesOn b j (literal_text l) c k → AppendsPart c d (k ++ 32 ∷ [])
+      → AppendsPart a d (h ++ dimacs_clause lits)
+  space_fault d l lt is p q r =
+      let whole = passed_part-more b c d j k (literal_text l) (32 ∷ []) q r in
+      rw (clause_line lits) (items_fault (λ x. literal_text x ++ 32 ∷ []) a b d h j [] (literal_text l ++ 32 ∷ []) [] (codes "0\n") lits i l lt is (sym (append-nil (literal_text l ++ 32 ∷ []))) p whole)
+
+  pub literal_more : (d : Option (List ℕ)) (n : List ℕ) (l : Literal) → i < length lits → l ≡ get_or lits i l → PassesOn a h (literals_text (take i lits)) b j → PassesOn b j (literal_text l) c k → PassesOn c k (32 ∷ []) d n
+      → PassesOn a h (literals_text (take (i + 1) lits)) d n
+  literal_more d n l lt is p q r = items_more (λ x. literal_text x ++ 32 ∷ []) a b d h j n [] lits i l lt is p (passed-more b c d j k n (literal_text l) (32 ∷ []) q r)
+
+  pub clause_end : length lits ≤ i → PassesOn a h (literals_text (take i lits)) b j → PassesOn b j (48 ∷ 10 ∷ []) c k → PassesOn a h (dimacs_clause lits) c k
+  clause_end le p q = rw (clause_line lits, ← all_taken (λ x. literal_text x ++ 32 ∷ []) lits i le) (passed-more a b c h j k (literals_text (take i lits)) (codes "0\n") p q)
+
+  pub end_fault : length lits ≤ i → PassesOn a h (literals_text (take i lits)) b j → AppendsPart b c (j ++ 48 ∷ 10 ∷ []) → AppendsPart a c (h ++ dimacs_clause lits)
+  end_fault le p q = rw (clause_line lits, ← all_taken (λ x. literal_text x ++ 32 ∷ []) lits i le) (passed_part-more a b c h j (literals_text (take i lits)) (codes "0\n") p q)
+
+-- the first line
+abbrev pub header_text : ℕ → ℕ → List ℕ
+header_text v n = codes "p cnf " ++ (decimal v ++ ((32 ∷ []) ++ (decimal n ++ 10 ∷ [])))
+
+pub name_fault : (a b : Option (List ℕ)) (h : List ℕ) (v n : ℕ) → AppendsPart a b (h ++ codes "p cnf ") → AppendsPart a b (h ++ header_text v n)
+name_fault a b h v n q = first_fault a b h (codes "p cnf ") (decimal v ++ ((32 ∷ []) ++ (decimal n ++ 10 ∷ []))) (header_text v n) q refl
+
+pub variables_fault : (a b c : Option (List ℕ)) (h i : List ℕ) (v n : ℕ) → PassesOn a h (codes "p cnf ") b i → AppendsPart b c (i ++ decimal v) → AppendsPart a c (h ++ header_text v n)
+variables_fault a b c h i v n p q =
+    let rest = (32 ∷ []) ++ (decimal n ++ 10 ∷ []) in
+    passed_part-more a b c h i (codes "p cnf ") (decimal v ++ rest) p (first_fault b c i (decimal v) rest (decimal v ++ rest) q refl)
+
+-- the line up to the number of variables was put
+abbrev pub PutsVariables : Option (List ℕ) → List ℕ → ℕ → Option (List ℕ) → List ℕ → Type 0
+PutsVariables a h v b i = PassesOn a h (codes "p cnf " ++ decimal v) b i
+
+pub between_fault : (a b c : Option (List ℕ)) (h i : List ℕ) (v n : ℕ) → PutsVariables a h v b i → AppendsPart b c (i ++ 32 ∷ []) → AppendsPart a c (h ++ header_text v n)
+between_fault a b c h i v n p q =
+    let rest = decimal n ++ 10 ∷ [] in
+    passed_part-more a b c h i (codes "p cnf " ++ decimal v) ((32 ∷ []) ++ rest) p (first_fault b c i (32 ∷ []) rest ((32 ∷ []) ++ rest) q refl)
+
+pub count_fault : (a b c d : Option (List ℕ)) (h i j : List ℕ) (v n : ℕ) → PutsVariables a h v b i → PassesOn b i (32 ∷ []) c j → AppendsPart c d (j ++ decimal n) → AppendsPart a d (h ++ header_text v n)
+count_fault a b c d h i j v n p q r =
+    let rest = decimal n ++ 10 ∷ [] in
+    passed_part-more a b d h i (codes "p cnf " ++ decimal v) ((32 ∷ []) ++ rest) p (passed_part-more b c d i j (32 ∷ []) rest q (first_fault c d j (decimal n) (10 ∷ []) rest r refl))
+
+pub header_end : (a b c d e : Option (List ℕ)) (h i j k l : List ℕ) (v n : ℕ) → PutsVariables a h v b i → PassesOn b i (32 ∷ []) c j → PassesOn c j (decimal n) d k → PassesOn d k (10 ∷ []) e l → PassesOn a h (header_text v n) e l
+header_end a b c d e h i j k l v n p q r s =
+    passed-more a b e h i l (codes "p cnf " ++ decimal v) ((32 ∷ []) ++ (decimal n ++ 10 ∷ [])) p
+    (passed-more b c e i j l (32 ∷ []) (decimal n ++ 10 ∷ []) q (passed-more c d e j k l (decimal n) (10 ∷ []) r s))
+
+pub header_fault : (a b c d e : Option (List ℕ)) (h i j k : List ℕ) (v n : ℕ) → PutsVariables a h v b i → PassesOn b i (32 ∷ []) c j → PassesOn c j (decimal n) d k → AppendsPart d e (k ++ 10 ∷ [])
+    → AppendsPart a e (h ++ header_text v n)
+header_fault a b c d e h i j k v n p q r s =
+    passed_part-more a b e h i (codes "p cnf " ++ decimal v) ((32 ∷ []) ++ (decimal n ++ 10 ∷ [])) p
+    (passed_part-more b c e i j (32 ∷ []) (decimal n ++ 10 ∷ []) q (passed_part-more c d e j k (decimal n) (10 ∷ []) r s))
+
+-- the whole text
+pub header_first : (a b : Option (List ℕ)) (f : Cnf) → AppendsPart a b ([] ++ dimacs_header f) → AppendsPart a b (dimacs_text f)
+header_first a b f p = first_fault a b [] (dimacs_header f) (flat_map dimacs_clause f.clauses) (dimacs_text f) p refl
+
+pub clause_fault : (a b c : Option (List ℕ)) (j : List ℕ) (f : Cnf) (cs : List (List Literal)) (i : ℕ) (x : List Literal) → cs ≡ f.clauses → i < length cs → x ≡ get_or cs i x
+    → PassesOn a [] (dimacs_header f ++ flat_map dimacs_clause (take i cs)) b j → AppendsPart b c (j ++ dimacs_clause x) → AppendsPart a c (dimacs_text f)
+clause_fault a b c j f cs i x same lt is p q =
+    let whole = items_fault dimacs_clause a b c [] j (dimacs_header f) (dimacs_clause x) [] [] cs i x lt is (sym (append-nil (dimacs_clause x))) p q in
+    subst (AppendsPart a c) (append-nil (dimacs_header f ++ flat_map dimacs_clause cs) ∙ ap (λ z. dimacs_header f ++ flat_map dimacs_clause z) same) whole
+
+pub text_whole : (a b c : Option (List ℕ)) (j : List ℕ) (f : Cnf) (cs : List (List Literal)) (i : ℕ) → cs ≡ f.clauses → length cs ≤ i
+    → PassesOn a [] (dimacs_header f ++ flat_map dimacs_clause (take i cs)) b j → Appends b c j → Appends a c (dimacs_text f)
+text_whole a b c j f cs i same le p q =
+    subst (λ z. Appends a c (dimacs_header f ++ z)) (all_taken dimacs_clause cs i le ∙ ap (flat_map dimacs_clause) same) (passed_whole a b c [] j (dimacs_header f ++ flat_map dimacs_clause (take i cs)) p q)
+
+pub text_part : (a b c : Option (List ℕ)) (j : List ℕ) (f : Cnf) (cs : List (List Literal)) (i : ℕ) → cs ≡ f.clauses → length cs ≤ i
+    → PassesOn a [] (dimacs_header f ++ flat_map dimacs_clause (take i cs)) b j → AppendsPart b c j → AppendsPart a c (dimacs_text f)
+text_part a b c j f cs i same le p q =
+    subst (λ z. AppendsPart a c (dimacs_header f ++ z)) (all_taken dimacs_clause cs i le ∙ ap (flat_map dimacs_clause) same) (passed_part a b c [] j (dimacs_header f ++ flat_map dimacs_clause (take i cs)) p q)

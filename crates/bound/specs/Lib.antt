@@ -1,0 +1,4 @@
+pub mod Bound
+pub mod Marks
+pub mod Adding
+pub mod Vectors

@@ -1,0 +1,100 @@
+// The clauses of a cell, which say that its carry and its sum count the true ones of its inputs.
+ghost use Rattle.std.specs.Prelude.{◌<◌, ◌^◌, All, OnOk};
+ghost use Rattle.std.specs.List.{flat_map};
+ghost use Rattle.bound.specs.Bound.{cell_clauses, full_clauses, half_clauses};
+ghost use Rattle.bound.specs.Adding.{Adds, HasVariables};
+
+use crate::keeping::keep_short;
+use adder::cells::Cell;
+use std::alloc::AllocError;
+use wcnf::types::{Clause, Lit};
+
+/// Adds the clauses of the cells.
+pub(crate) fn keep_cells(clauses: &mut Vec<Clause>, cells: &[Cell]) -> Result<(), AllocError>
+    requires { All HasVariables cells.now }
+    ensures { OnOk result (Adds clauses.old.items clauses.new.items (flat_map cell_clauses cells.now)) }
+{
+    for cell in cells {
+        keep_cell(clauses, *cell)?;
+    }
+    Ok(())
+}
+
+/// Adds the clauses of the cell.
+fn keep_cell(clauses: &mut Vec<Clause>, cell: Cell) -> Result<(), AllocError>
+    requires { HasVariables cell }
+    ensures { OnOk result (Adds clauses.old.items clauses.new.items (cell_clauses cell)) }
+{
+    let sum = Lit::new(cell.sum, false);
+    let carry = Lit::new(cell.carry, false);
+    match cell.third {
+        None => keep_half(clauses, cell.a, cell.b, sum, carry),
+        Some(third) => keep_full(clauses, cell.a, cell.b, third, sum, carry),
+    }
+}
+
+/// A full adder of `a`, `b` and `d`: for each choice of the inputs the sum `s`, and for each two of
+/// them the carry `c`.
+fn keep_full(
+    clauses: &mut Vec<Clause>,
+    a: Lit,
+    b: Lit,
+    d: Lit,
+    s: Lit,
+    c: Lit,
+) -> Result<(), AllocError>
+    ensures { OnOk result (Adds clauses.old.items clauses.new.items (full_clauses a b d s c)) }
+{
+    let na = a.negation();
+    let nb = b.negation();
+    let nd = d.negation();
+    let ns = s.negation();
+    let nc = c.negation();
+    keep_rows(
+        clauses,
+        &[
+            [a, b, d, ns],
+            [a, b, nd, s],
+            [a, nb, d, s],
+            [a, nb, nd, ns],
+            [na, b, d, s],
+            [na, b, nd, ns],
+            [na, nb, d, ns],
+            [na, nb, nd, s],
+        ],
+    )?;
+    keep_rows(
+        clauses,
+        &[
+            [a, b, nc],
+            [a, d, nc],
+            [b, d, nc],
+            [na, nb, c],
+            [na, nd, c],
+            [nb, nd, c],
+        ],
+    )
+}
+
+/// A half adder of `a` and `b`.
+fn keep_half(clauses: &mut Vec<Clause>, a: Lit, b: Lit, s: Lit, c: Lit) -> Result<(), AllocError>
+    ensures { OnOk result (Adds clauses.old.items clauses.new.items (half_clauses a b s c)) }
+{
+    let na = a.negation();
+    let nb = b.negation();
+    let ns = s.negation();
+    let nc = c.negation();
+    keep_rows(clauses, &[[a, b, ns], [a, nb, s], [na, b, s], [na, nb, ns]])?;
+    keep_rows(clauses, &[[a, nc], [b, nc]])?;
+    keep_rows(clauses, &[[na, nb, c]])
+}
+
+/// Adds clauses that have equally many literals.
+fn keep_rows<const N: usize>(clauses: &mut Vec<Clause>, rows: &[[Lit; N]]) -> Result<(), AllocError>
+    ensures { OnOk result (Adds clauses.old.items clauses.new.items rows.now) }
+{
+    for row in rows {
+        keep_short(clauses, row)?;
+    }
+    Ok(())
+}

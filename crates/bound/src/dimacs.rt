@@ -1,0 +1,59 @@
+// The text of a formula in DIMACS CNF, the form that SAT solvers read.
+ghost use Rattle.std.specs.Prelude.{◌≡◌, [], ◌++◌, length, map, OnOk, OnErr};
+ghost use Rattle.std.specs.Io.KnownBytes.{Appends};
+ghost use Rattle.wcnf.specs.Writing.{AppendsPart, PassesOn};
+ghost use Rattle.bound.specs.Bound.{dimacs_text, dimacs_header, dimacs_clause};
+
+use std::io::Write;
+use wcnf::faults::WriteFault;
+use wcnf::output::Block;
+use wcnf::types::{Formula, Lit};
+
+/// Writes the formula as DIMACS CNF ("Satisfiability: Suggested Format", DIMACS Challenge, 1993):
+/// the line `p cnf VARIABLES CLAUSES`, and a line for each clause, its literals and then `0`. One
+/// space stands between tokens, and a line feed ends each line. The writer is given the text in
+/// pieces of some thousands of bytes, and is not flushed. No memory is asked for.
+///
+/// # Errors
+///
+/// `WriteFault` where the writer answered `Err`, or took none of the bytes that it was given. The
+/// writer then has a beginning of the text, and is not called again.
+pub fn write_dimacs<W: Write>(formula: &Formula, writer: &mut W) -> Result<(), WriteFault>
+    ensures ok { OnOk result (Appends (W.contents writer.old) (W.contents writer.new) (dimacs_text formula.now)) }
+    ensures fault { OnErr result (AppendsPart (W.contents writer.old) (W.contents writer.new) (dimacs_text formula.now)) }
+{
+    let mut block = Block::new();
+    put_header(&mut block, writer, formula)?;
+    for clause in formula.clauses() {
+        put_clause(&mut block, writer, clause.lits())?;
+    }
+    block.flush(writer)
+}
+
+/// Puts the first line.
+fn put_header<W: Write>(
+    block: &mut Block,
+    writer: &mut W,
+    formula: &Formula,
+) -> Result<(), WriteFault>
+    ensures ok { OnOk result (PassesOn (W.contents writer.old) block.old (dimacs_header formula.now) (W.contents writer.new) block.new) }
+    ensures fault { OnErr result (AppendsPart (W.contents writer.old) (W.contents writer.new) (block.old ++ dimacs_header formula.now)) }
+{
+    block.put(writer, b"p cnf ")?;
+    block.put_number(writer, u64::from(formula.vars()))?;
+    block.put(writer, b" ")?;
+    block.put_number(writer, formula.clauses().len() as u64)?;
+    block.put(writer, b"\n")
+}
+
+/// Puts the line of a clause.
+fn put_clause<W: Write>(block: &mut Block, writer: &mut W, lits: &[Lit]) -> Result<(), WriteFault>
+    ensures ok { OnOk result (PassesOn (W.contents writer.old) block.old (dimacs_clause lits.now) (W.contents writer.new) block.new) }
+    ensures fault { OnErr result (AppendsPart (W.contents writer.old) (W.contents writer.new) (block.old ++ dimacs_clause lits.now)) }
+{
+    for lit in lits {
+        block.put_literal(writer, *lit)?;
+        block.put(writer, b" ")?;
+    }
+    block.put(writer, b"0\n")
+}

@@ -1,0 +1,52 @@
+// The hard clauses as a formula.
+ghost use Rattle.std.specs.Prelude.{◌≡◌, ◌*◌, ◌<◌, ◌≤◌, ◌^◌, ◌++◌, length, All, IfOk, OnOk, ◌↔◌};
+ghost use Rattle.wcnf.specs.Literal.{Assignment};
+ghost use Rattle.wcnf.specs.Clause.{Satisfies};
+ghost use Rattle.wcnf.specs.Problem.{IsFeasible};
+ghost use Rattle.bound.specs.Bound.{hard_cnf, kept};
+
+use crate::keeping::keep;
+use crate::marks::Marks;
+use std::alloc::AllocError;
+use wcnf::types::{Clause, Formula, Instance};
+
+/// The hard clauses as a formula over the instance's variables, in their order, without those that
+/// have a literal beside its negation. The assignments that satisfy it are the instance's
+/// solutions.
+///
+/// # Errors
+///
+/// `AllocError` where memory was refused.
+pub fn hard_formula(instance: &Instance) -> Result<Formula, AllocError>
+    ensures clauses { IfOk result (λ f. f ≡ hard_cnf instance.now) }
+    ensures feasible { OnOk result ((t : Assignment) → All (Satisfies t) (hard_cnf instance.now).clauses ↔ IsFeasible instance.now t) }
+    ensures few { OnOk result (length (hard_cnf instance.now).clauses < 2 ^ 28) }
+{
+    let vars = instance.vars();
+    let mut marks = Marks::new(instance.allocator(), vars)?;
+    let mut clauses = Vec::new(instance.allocator());
+    keep_hard(&mut clauses, &mut marks, instance)?;
+    Ok(Formula::new(vars, clauses))
+}
+
+/// Adds the hard clauses, as a formula keeps them.
+pub(crate) fn keep_hard(
+    clauses: &mut Vec<Clause>,
+    marks: &mut Marks,
+    instance: &Instance,
+) -> Result<(), AllocError>
+    requires { 2 * instance.now.variables ≤ marks.old }
+    ensures clauses { OnOk result (clauses.new.items ≡ clauses.old.items ++ kept instance.now.hard) }
+    ensures marks { marks.new ≡ marks.old }
+{
+    // The contract of `vars` has the limits of the instance: its literals have places in the table.
+    let _vars = instance.vars();
+    for clause in instance.hard() {
+        keep(
+            clauses,
+            marks,
+            Vec::from_slice(instance.allocator(), clause.lits())?,
+        )?;
+    }
+    Ok(())
+}

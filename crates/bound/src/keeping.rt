@@ -1,0 +1,78 @@
+// Clauses as formulas have them: each literal once, and none with an opposite pair, which every
+// assignment satisfies.
+ghost use Rattle.std.specs.Prelude.{◌≡◌, false, [], ◌∷◌, ◌++◌, All, IfOk, OnOk};
+ghost use Rattle.wcnf.specs.Clause.{contains_literal, distinct, has_repeat, has_opposites};
+ghost use Rattle.bound.specs.Bound.{kept};
+ghost use Rattle.bound.specs.Marks.{HasPlace};
+
+use crate::marks::Marks;
+use std::alloc::{AllocError, Global};
+use wcnf::types::{Clause, Lit};
+
+/// Adds the clause of the literals, of which none stands twice, unless some literal stands with its
+/// negation. Its time is linear in their number.
+pub(crate) fn keep(
+    clauses: &mut Vec<Clause>,
+    marks: &mut Marks,
+    lits: Vec<Lit>,
+) -> Result<(), AllocError>
+    requires no_repeat { has_repeat lits.items ≡ false }
+    requires places { All (HasPlace marks.old) lits.items }
+    ensures clauses { OnOk result (clauses.new.items ≡ clauses.old.items ++ kept (lits.items ∷ [])) }
+    ensures marks { marks.new ≡ marks.old }
+{
+    if !marks.has_opposites(&lits) {
+        clauses.push(Clause::new(lits))?;
+    }
+    Ok(())
+}
+
+/// As `keep`, for a few literals, of which some may stand twice. Its time is quadratic in their
+/// number.
+pub(crate) fn keep_short(clauses: &mut Vec<Clause>, lits: &[Lit]) -> Result<(), AllocError>
+    ensures { OnOk result (clauses.new.items ≡ clauses.old.items ++ kept (lits.now ∷ [])) }
+{
+    let once = distinct(*clauses.allocator(), lits)?;
+    if !has_opposites(&once) {
+        clauses.push(Clause::new(once))?;
+    }
+    Ok(())
+}
+
+/// Each literal once, at its first place.
+fn distinct(alloc: Global, lits: &[Lit]) -> Result<Vec<Lit>, AllocError>
+    ensures { IfOk result (λ once. once.items ≡ distinct lits.now) }
+{
+    let mut once = Vec::with_capacity(alloc, lits.len())?;
+    for lit in lits {
+        if !contains(&once, *lit) {
+            once.push(*lit)?;
+        }
+    }
+    Ok(once)
+}
+
+/// Whether some literal stands with its negation.
+fn has_opposites(lits: &[Lit]) -> bool
+    ensures { result ≡ has_opposites lits.now }
+{
+    let mut rest = lits;
+    while let [first, more @ ..] = rest {
+        if contains(more, first.negation()) {
+            return true;
+        }
+        rest = more;
+    }
+    false
+}
+
+fn contains(lits: &[Lit], lit: Lit) -> bool
+    ensures { result ≡ contains_literal lit lits.now }
+{
+    for other in lits {
+        if *other == lit {
+            return true;
+        }
+    }
+    false
+}

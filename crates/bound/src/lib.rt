@@ -1,0 +1,14 @@
+//! The formulas of an instance: its hard clauses, and what says that a solution costs less than a
+//! bound; and their text.
+#![tactic(auto)]
+
+mod cells;
+mod comparators;
+mod dimacs;
+pub mod formulas;
+mod hard;
+mod keeping;
+mod marks;
+mod relaxing;
+#[cfg(test)]
+mod tests;
