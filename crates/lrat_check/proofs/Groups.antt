@@ -1,0 +1,86 @@
+-- The groups of hints of a line: what begins each, and the ids that they name.
+use Rattle.std.proofs.Common.{◌≡◌, ℕ, ◌+◌, ◌*◌, ◌<◌, ◌≤◌, Bool, true, false, not, List, [], ◌∷◌, ◌++◌, map, length, get_or, take, drop, Some, refl, sym, ◌∙◌, ap, subst, inl, inr, arith, take-append-drop}
+use Rattle.std.proofs.Math.Bool.{cond}
+use Rattle.std.specs.Prelude.{◌==◌, filter}
+use Rattle.std.specs.Bool.{then_some}
+use Rattle.std.specs.List.{list_any}
+use Rattle.std.proofs.lemmas.Bool.{or_left, or_right, cases_eq, eq-eqb, ne_eqb, not-true, both_ways, false_from_ne_true}
+use Rattle.std.proofs.lemmas.List.{drop_more, drop_all}
+use Rattle.wcnf.specs.Literal.{Literal, negation, literal_eq}
+use Rattle.wcnf.specs.Clause.{contains_literal, without_literal}
+use Rattle.wcnf.specs.Lrat.{CandidateHints}
+use Rattle.lrat_read.specs.Form.{leading, groups_of}
+use Rattle.wcnf.specs.Refute.{Clauses}
+use Rattle.wcnf.proofs.Sound.{literal_eq-true}
+use Rattle.lrat_check.specs.declared.verdicts.Cause.TheVariants.{HintAfterConflict}
+use Rattle.lrat_check.specs.Verdict.{Walk, walk, of_walk, same_ids, group_fault}
+use Rattle.lrat_check.specs.Steps.{HaveSame, EndAlike}
+use Rattle.lrat_check.proofs.Steps.{IsTrueAlready, silent_on, group_silent, group_walks}
+use Rattle.lrat_check.proofs.Alike.{EndAlike-step, walk-same, of_walk-alike}
+use Rattle.lrat_check.proofs.Effects.{drop_at}
+
+-- the groups from a place on
+abbrev pub groups_from : List (Bool × ℕ) → ℕ → List CandidateHints
+groups_from hs i = groups_of (drop i hs)
+
+dashed : (b : Bool) (n : ℕ) (rest : List (Bool × ℕ)) → b ≡ true → groups_of ((b, n) ∷ rest) ≡ record { candidate = n; hints = leading rest } ∷ groups_of rest
+dashed b n rest e = rw e refl
+
+plain : (b : Bool) (n : ℕ) (rest : List (Bool × ℕ)) → b ≡ false → groups_of ((b, n) ∷ rest) ≡ groups_of rest
+plain b n rest e = rw e refl
+
+pub groups_from-dashed : (hs : List (Bool × ℕ)) (i : ℕ) (h : Bool × ℕ) → i < length hs → h ≡ get_or hs i h → h.0 ≡ true → groups_from hs i ≡ record { candidate = h.1; hints = leading (drop (i + 1) hs) } ∷ groups_from hs (i + 1)
+groups_from-dashed hs i h lt e d = ap groups_of (drop_at hs i h lt e) ∙ dashed h.0 h.1 (drop (i + 1) hs) d
+
+pub groups_from-plain : (hs : List (Bool × ℕ)) (i : ℕ) (h : Bool × ℕ) → i < length hs → h ≡ get_or hs i h → h.0 ≡ false → groups_from hs i ≡ groups_from hs (i + 1)
+groups_from-plain hs i h lt e d = ap groups_of (drop_at hs i h lt e) ∙ plain h.0 h.1 (drop (i + 1) hs) d
+
+-- the ids named from a place on
+abbrev pub named_from : List (Bool × ℕ) → ℕ → List ℕ
+named_from hs i = map (λ g. g.candidate) (groups_from hs i)
+
+pub none_left : (ids : List ℕ) (n : ℕ) → n ≤ length ids → (n == length ids) ≡ same_ids [] (drop n ids)
+none_left ids n le =
+    elim (cases_eq n (length ids)) [
+      | inl e ↦ eq-eqb n (length ids) e ∙ sym (ap (same_ids []) (drop_all n ids (omega arith)))
+      | inr ne ↦ ne_eqb n (length ids) ne ∙ sym (ap (same_ids []) (drop_more ids n 0 (omega arith)))
+    ]
+
+-- the literals of a candidate but one
+ne_codes : (k l : Literal) → not ((2 * l.variable + cond l.negated 1 0) == (2 * k.variable + cond k.negated 1 0)) ≡ true → literal_eq k l ≡ false
+ne_codes k l h =
+    false_from_ne_true _ (λ e.
+    let same : k ≡ l = literal_eq-true k l e in
+    both_ways _ (not-true _ h) (eq-eqb _ _ (ap (λ m. 2 * m.variable + cond m.negated 1 0) (sym same))))
+
+any_kept : (p q : Literal → Bool) (ys zs : List Literal) (x : Literal) → q x ≡ true → p x ≡ true → list_any p (filter q (ys ++ x ∷ zs)) ≡ true
+any_kept p q [] zs x h k = rw h (or_left _ _ k)
+any_kept p q (y ∷ ys) zs x h k =
+    elim (q y) as (λ v. list_any p (cond v (y ∷ filter q (ys ++ x ∷ zs)) (filter q (ys ++ x ∷ zs))) ≡ true) [
+      | true ↦ or_right _ _ (any_kept p q ys zs x h k)
+      | false ↦ any_kept p q ys zs x h k
+    ]
+
+pub true_at : (A c : List Literal) (i : ℕ) (k l : Literal) → i < length c → l ≡ get_or c i l → not ((2 * l.variable + cond l.negated 1 0) == (2 * k.variable + cond k.negated 1 0)) ≡ true → contains_literal l A ≡ true → list_any (λ x. contains_literal x A) (without_literal k c) ≡ true
+true_at A c i k l lt here ne h =
+    subst (λ d. list_any (λ x. contains_literal x A) (without_literal k d) ≡ true) (ap (λ zs. take i c ++ zs) (sym (drop_at c i l lt here)) ∙ take-append-drop i c)
+    (any_kept (λ x. contains_literal x A) (λ x. not (literal_eq k x)) (take i c) (drop (i + 1) c) l (ap not (ne_codes k l ne)) h)
+
+-- how a group ends
+pub group_end : (at : Clauses) (p q : Literal) (B T : List Literal) (n : ℕ) (hs : List ℕ) (d : List Literal) (w : Walk) → q ≡ negation p → at n ≡ Some d → list_any (λ k. contains_literal k B) (without_literal q d) ≡ false → HaveSame (map negation (without_literal q d) ++ B) T → EndAlike (walk at T hs) w → group_fault at p B (record { candidate = n; hints = hs }) ≡ of_walk w
+group_end at p q B T n hs d w e u f s h =
+    let g : CandidateHints = record { candidate = n; hints = hs } in
+    let none : IsTrueAlready p B d ≡ false = subst (λ k. list_any (λ x. contains_literal x B) (without_literal k d) ≡ false) e f in
+    let start : HaveSame (map negation (without_literal (negation p) d) ++ B) T = subst (λ k. HaveSame (map negation (without_literal k d) ++ B) T) e s in
+    group_walks at p B g d u none
+    ∙ of_walk-alike _ _ (EndAlike-step _ (walk at T hs) w (walk-same at (map negation (without_literal (negation p) d) ++ B) T start hs) h)
+
+pub group_end_silent : (at : Clauses) (p q : Literal) (B : List Literal) (n : ℕ) (hs : List (Bool × ℕ)) (d : List Literal) → q ≡ negation p → at n ≡ Some d → list_any (λ k. contains_literal k B) (without_literal q d) ≡ true → group_fault at p B (record { candidate = n; hints = map (λ h. h.1) hs }) ≡ then_some (not (length hs == 0)) HintAfterConflict
+group_end_silent at p q B n hs d e u t =
+    let g : CandidateHints = record { candidate = n; hints = map (λ h. h.1) hs } in
+    let already : IsTrueAlready p B d ≡ true = subst (λ k. list_any (λ x. contains_literal x B) (without_literal k d) ≡ true) e t in
+    group_silent at p B g d u already (map (λ h. h.1) hs) refl ∙ silent hs
+  where
+    silent : (xs : List (Bool × ℕ)) → silent_on (map (λ h. h.1) xs) ≡ then_some (not (length xs == 0)) HintAfterConflict
+    silent [] = refl
+    silent (x ∷ xs) = ap (λ b. then_some (not b) HintAfterConflict) (sym (ne_eqb (length (x ∷ xs)) 0 (λ e. absurd (omega arith))))

@@ -1,0 +1,49 @@
+-- What a result says is so, where its certificate was accepted.
+use Rattle.std.proofs.Common.{◌≡◌, ℕ, ◌<◌, ◌≤◌, Bool, true, false, not, List, length, Option, Some, None, refl, sym, ◌∙◌, ap, subst, arith, ◌⊎◌, inl, inr}
+use Rattle.std.specs.Prelude.{◌==◌, ◌↔◌, All, Result, Ok, slice_get, unwrap_or, IsTrue}
+use Rattle.std.specs.List.{list_all}
+use Rattle.wcnf.specs.Literal.{Literal, Assignment}
+use Rattle.wcnf.specs.Bits.{Extends, assignment_of}
+use Rattle.wcnf.specs.Clause.{Satisfies, clause_value}
+use Rattle.wcnf.specs.Formula.{IsUnsatisfiable}
+use Rattle.wcnf.specs.Problem.{Problem, IsFeasible, cost_under, IsOptimal, IsInconsistent}
+use Rattle.wcnf.specs.Wcnf.{Reads}
+use Rattle.wcnf.proofs.Texts.{reads_one}
+use Rattle.adder.specs.declared.cells.Profile.{Profile}
+use Rattle.bound.specs.Bound.{hard_cnf, bound_as, SaysCheaper}
+use Rattle.lrat_check.specs.Result.{Said, Report, Says, report_of}
+use Rattle.lrat_check.specs.Checks.{HasCost, IsTrueOf, IsTrueResult}
+use Rattle.lrat_check.proofs.Reports.{report_from_says}
+
+-- the bits agree with their own assignment
+pub extends_own : (bits : List Bool) → Extends bits (assignment_of bits)
+extends_own bits v b e = ap (λ o. unwrap_or o false) e
+
+not_cheaper : (profile : Profile) (p : Problem) (c : ℕ) → SaysCheaper profile p c → IsUnsatisfiable (bound_as profile p c).clauses → (u : Assignment) → IsFeasible p u → cost_under p u < c → ⊥
+not_cheaper profile p c says none u f lower = let k = says.from u f lower in none k.0 k.2
+
+at_least : (m c : ℕ) → (m < c → ⊥) → c ≤ m
+at_least m c n = omega arith
+
+pub optimal_by : (profile : Profile) (p : Problem) (c : ℕ) (bits : List Bool) → SaysCheaper profile p c → IsUnsatisfiable (bound_as profile p c).clauses → HasCost p bits c → (t : Assignment) → Extends bits t → IsOptimal p t c
+optimal_by profile p c bits says none has t e =
+    let h = has t e in
+    record {
+      feasible = h.0;
+      exact = h.1;
+      least = λ u f. at_least (cost_under p u) c (not_cheaper profile p c says none u f);
+    }
+
+pub inconsistent_by : (p : Problem) → ((t : Assignment) → All (Satisfies t) (hard_cnf p).clauses ↔ IsFeasible p t) → IsUnsatisfiable (hard_cnf p).clauses → IsInconsistent p
+inconsistent_by p same none t f = none t ((same t).1 f)
+
+-- a text says one thing at most
+says_once : (text : List ℕ) (r : Report) → report_of text ≡ Ok r → (said : Said) → Says text said → r.said ≡ said
+says_once text r e said says =
+    let k = report_from_says text said says in
+    let same : Ok r ≡ Ok k.0 = sym e ∙ k.1 in
+    ap (λ (x : Report). x.said) (Rattle.wcnf.proofs.Lines.same_Ok r k.0 same) ∙ k.2
+
+pub true_by : (text answer : List ℕ) (p : Problem) (r : Report) → Reads text p → report_of answer ≡ Ok r → IsTrueOf p r.said → IsTrueResult text answer
+true_by text answer p r reads e is q said reads_q says =
+    subst (λ x. IsTrueOf x said) (reads_one text p q reads reads_q) (subst (λ s. IsTrueOf p s) (says_once answer r e said says) is)

@@ -1,0 +1,58 @@
+-- What the checker's parts answer, in the terms of the verdict.
+use Rattle.std.specs.Prelude.{◌≡◌, ℕ, ◌<◌, Bool, false, List, [], ◌∷◌, ◌++◌, length, nat_eq, Option, All}
+use Rattle.wcnf.specs.Literal.{Literal}
+use Rattle.wcnf.specs.Clause.{contains_literal}
+use Rattle.wcnf.specs.Lrat.{Live}
+use Rattle.lrat_check.specs.Assumed.{AreWithin}
+use Rattle.lrat_check.specs.Listed.{listed_at, IsRising, IsUpTo}
+use Rattle.lrat_check.specs.declared.verdicts.Cause.{Cause}
+use Rattle.lrat_read.specs.Reader.{LineState, is_large_clause}
+use Rattle.lrat_check.specs.Verdict.{addition_fault, Walk, Open, Refuted, Fault, Outcome, NotUnit, Conflict, Makes}
+use Rattle.lrat_check.specs.declared.hints.Effect.{Effect}
+use Rattle.lrat_check.specs.declared.hints.Effect.TheVariants.{Conflict as HasConflict, Makes as HasMade, NotUnit as HasMany}
+use Rattle.lrat_check.specs.declared.hints.Walked.{Walked}
+use Rattle.lrat_check.specs.declared.hints.Walked.TheVariants.{Open as IsOpen, Refuted as IsRefuted, Fault as IsFault}
+
+-- the live clauses and the last id
+abbrev pub live_of : ℕ → List (ℕ × List Literal) → Live
+live_of last es = record { clause_at = listed_at es; last = last }
+
+-- what is known of the live clauses between lines
+pub record IsBase (variables last : ℕ) (es : List (ℕ × List Literal)) : Type 0 where
+  pub rising : IsRising es
+  pub from_one : All (λ e. 0 < e.0) es
+  pub up_to : IsUpTo last es
+  pub within : All (λ e. AreWithin variables e.1) es
+
+-- the line's clause is live from now on, under an id above the last
+pub record Adds (old : List (ℕ × List Literal)) (last : ℕ) (s : LineState) (new : List (ℕ × List Literal)) (next : ℕ) (ended : Bool) : Type 0 where
+  pub small : s.is_large ≡ false
+  pub clauses : new ≡ old ++ (s.id, s.clause) ∷ []
+  pub next_is : next ≡ s.id
+  pub ended_is : ended ≡ nat_eq (length s.clause) 0
+  pub rising : last < s.id
+
+abbrev pub outcome_as : Effect → Outcome
+outcome_as HasConflict = Conflict
+outcome_as (HasMade l) = Makes l
+outcome_as HasMany = NotUnit
+
+abbrev pub walked_as : Walked → List Literal → Walk
+walked_as IsOpen A = Open A
+walked_as IsRefuted A = Refuted
+walked_as (IsFault f) A = Fault f
+
+-- the same literals, in any order
+abbrev pub HaveSame : List Literal → List Literal → Type 0
+HaveSame A B = (l : Literal) → contains_literal l A ≡ contains_literal l B
+
+-- two walks end alike
+abbrev pub EndAlike : Walk → Walk → Type 0
+EndAlike (Open A) (Open B) = HaveSame A B
+EndAlike Refuted Refuted = Unit {0}
+EndAlike (Fault f) (Fault g) = f ≡ g
+EndAlike v w = ⊥
+
+-- the first fault of the line's clause, where a literal of a large clause was left out
+abbrev pub IsFaultOf : Live → LineState → Option Cause → Type 0
+IsFaultOf live s f = (c : List Literal) → is_large_clause c ≡ s.is_large → (s.is_large ≡ false → c ≡ s.clause) → f ≡ addition_fault live s.id c s.hints

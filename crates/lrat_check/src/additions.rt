@@ -1,0 +1,91 @@
+// Additions: a clause that its hints refute to the contrary (RUP), or whose resolvents on its first
+// literal are refuted each by hints of their own (RAT).
+ghost use Rattle.std.specs.Prelude.{◌≡◌, ℕ, ◌<◌, ◌≤◌, true, false, not, ◌||◌, [], Some, None, IfOk, map, if◌then◌else◌};
+ghost use Rattle.wcnf.specs.Literal.{negation};
+ghost use Rattle.wcnf.specs.Clause.{has_repeat, has_opposites};
+ghost use Rattle.lrat_check.specs.Assumed.{AreWithin};
+ghost use Rattle.lrat_check.specs.Steps.{IsBase, live_of, IsFaultOf};
+ghost use Rattle.lrat_check.specs.Verdict.{clause_fault, walk as walk_of};
+ghost use Rattle.lrat_read.specs.Form.{leading as leading_of, groups_of};
+
+use crate::assumed::Assumed;
+use crate::hints::{Walked, leading, walk};
+use crate::live::LiveClauses;
+use crate::rat::rat_fault;
+use crate::verdicts::Cause;
+use lrat_read::reader::LineReader;
+use lrat_read::types::SignedId;
+use std::alloc::AllocError;
+use wcnf::types::Lit;
+
+/// Assumes the negation of each literal; false where a literal stands twice or with its negation.
+pub(crate) fn assume_negations(clause: &[Lit], assumed: &mut Assumed) -> Result<bool, AllocError>
+    requires { assumed.old.literals ≡ [] }
+    ensures distinct { IfOk result (λ r. r ≡ not (has_repeat clause.now || has_opposites clause.now)) }
+    ensures assumed { IfOk result (λ r. r ≡ true → assumed.new.literals ≡ map negation clause.now) }
+    ensures within { IfOk result (λ r. r ≡ true → AreWithin assumed.new.variables clause.now) }
+    ensures more { assumed.old.variables ≤ assumed.new.variables }
+{
+    for lit in clause {
+        assumed.grow(lit.variable())?;
+        if assumed.is_true(*lit) || assumed.is_true(lit.negation()) {
+            return Ok(false);
+        }
+        assumed.assume(lit.negation())?;
+    }
+    Ok(true)
+}
+
+/// The first fault of the hints of a clause whose literals are false, if any.
+fn hints_fault(
+    clause: &[Lit],
+    hints: &[SignedId],
+    live: &mut LiveClauses,
+    last: u64,
+    assumed: &mut Assumed,
+    candidates: &mut Vec<u64>,
+) -> Result<Option<Cause>, AllocError>
+    requires base { IsBase assumed.old.variables last live.old }
+    requires within { AreWithin assumed.old.variables clause.now }
+    requires negated { assumed.old.literals ≡ map negation clause.now }
+    ensures fault { IfOk result (λ f. f ≡ clause_fault (live_of last live.old) clause.now (walk_of (live_of last live.old).clause_at (map negation clause.now) (leading_of hints.now)) (groups_of hints.now)) }
+    ensures live { live.new ≡ live.old }
+    ensures variables { assumed.new.variables ≡ assumed.old.variables }
+{
+    let first = leading(hints);
+    match walk(live, assumed, first)? {
+        Walked::Fault(cause) => Ok(Some(cause)),
+        Walked::Refuted if first.len() < hints.len() => Ok(Some(Cause::HintAfterConflict)),
+        Walked::Refuted => Ok(None),
+        Walked::Open => match clause.first() {
+            None => Ok(Some(Cause::NoConflict)),
+            Some(pivot) => rat_fault(*pivot, hints, live, last, assumed, candidates),
+        },
+    }
+}
+
+/// The first fault of an addition, if any.
+pub(crate) fn addition_fault(
+    line: &LineReader,
+    live: &mut LiveClauses,
+    last: u64,
+    assumed: &mut Assumed,
+    candidates: &mut Vec<u64>,
+) -> Result<Option<Cause>, AllocError>
+    requires base { IsBase assumed.old.variables last live.old }
+    ensures fault { IfOk result (λ f. IsFaultOf (live_of last live.old) line.now f) }
+    ensures within { IfOk result (λ f. f ≡ None → AreWithin assumed.new.variables line.now.clause) }
+    ensures rising { IfOk result (λ f. f ≡ None → last < line.now.id) }
+    ensures small { IfOk result (λ f. f ≡ None → line.now.is_large ≡ false) }
+    ensures live { live.new ≡ live.old }
+    ensures more { assumed.old.variables ≤ assumed.new.variables }
+{
+    if line.id() <= last {
+        return Ok(Some(Cause::IdOrder));
+    }
+    assumed.undo_to(0);
+    if line.is_large() || !assume_negations(line.lits(), assumed)? {
+        return Ok(Some(Cause::ClauseForm));
+    }
+    hints_fault(line.lits(), line.hints(), live, last, assumed, candidates)
+}

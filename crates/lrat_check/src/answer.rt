@@ -1,0 +1,70 @@
+//! What a result says, and how far it was read.
+ghost use Rattle.std.specs.Prelude.{◌<◌, ◌^◌};
+
+/// What an `s` line says.
+#[derive(Clone, Copy, Debug, PartialEq, Eq, Drop)]
+pub(crate) enum Status {
+    Optimum,
+    Unsat,
+    Sat,
+    Limit,
+}
+
+/// A cost below 2^62 and the line that tells it.
+#[derive(Clone, Copy)]
+pub(crate) struct Cost {
+    pub(crate) cost: u64,
+    pub(crate) line: u64,
+    ghost small: { cost < 2 ^ 62 },
+}
+
+/// A solution: its cost, and its bits with their line.
+#[derive(Drop)]
+pub(crate) struct Solution {
+    pub(crate) cost: Cost,
+    pub(crate) bits: Vec<bool>,
+    pub(crate) bits_line: u64,
+}
+
+/// What a result says.
+#[derive(Drop)]
+pub(crate) enum Claim {
+    Optimum(Solution),
+    Unsat,
+    Sat(Solution),
+    Limit,
+}
+
+/// A result, with the line of its status.
+#[derive(Drop)]
+pub(crate) struct Answer {
+    pub(crate) claim: Claim,
+    pub(crate) status_line: u64,
+}
+
+/// A status that has bits: of an optimum, or of another solution.
+#[derive(Clone, Copy)]
+pub(crate) struct Found {
+    pub(crate) is_optimum: bool,
+    pub(crate) cost: Cost,
+    pub(crate) status_line: u64,
+}
+
+/// How far a result was read.
+#[derive(Drop)]
+pub(crate) enum Stage {
+    /// `o` lines, of which the last is kept.
+    Costs(Option<Cost>),
+    /// The status was read, and the bits must come.
+    Bits(Found),
+    /// Nothing more may come.
+    End(Answer),
+}
+
+/// Why a text is no result.
+#[derive(Clone, Copy, Debug, PartialEq, Eq, Drop)]
+pub(crate) enum AnswerFault {
+    /// The first line that cannot stand there, or 0 where the text ends too soon.
+    Form(u64),
+    Memory,
+}

@@ -1,0 +1,110 @@
+// Hints: what one does to the literals that are assumed true, and what several do in turn.
+ghost use Rattle.std.specs.Prelude.{◌≡◌, ℕ, ◌≤◌, List, Some, IfOk, length, map, take, All};
+ghost use Rattle.wcnf.specs.Literal.{Literal};
+ghost use Rattle.lrat_check.specs.Assumed.{AreWithin};
+ghost use Rattle.lrat_check.specs.Listed.{listed_at};
+ghost use Rattle.lrat_check.specs.Verdict.{outcome_of, of_walk, walk as walk_of};
+ghost use Rattle.lrat_check.specs.Steps.{outcome_as, walked_as, EndAlike};
+ghost use Rattle.lrat_read.specs.Form.{leading as leading_of};
+
+use crate::assumed::Assumed;
+use crate::live::LiveClauses;
+use crate::verdicts::Cause;
+use lrat_read::types::SignedId;
+use std::alloc::AllocError;
+use wcnf::types::Lit;
+
+/// What a live clause does as a hint.
+#[derive(Clone, Copy, Debug, PartialEq, Eq, Drop)]
+pub(crate) enum Effect {
+    /// All its literals are false.
+    Conflict,
+    /// All its literals but this one are false, and this one is neither false nor true.
+    Makes(Lit),
+    /// Neither.
+    NotUnit,
+}
+
+/// Where hints end.
+#[derive(Clone, Copy, Debug, PartialEq, Eq, Drop)]
+pub(crate) enum Walked {
+    /// There was no conflict.
+    Open,
+    /// The last hint, and no earlier one, was a conflict.
+    Refuted,
+    /// A hint can't be followed.
+    Fault(Cause),
+}
+
+impl Walked {
+    /// Why hints that have to end in a conflict do not.
+    pub(crate) fn fault(self) -> Option<Cause>
+        ensures { (A : List Literal) → result ≡ of_walk (walked_as self A) }
+    {
+        match self {
+            Walked::Open => Some(Cause::NoConflict),
+            Walked::Refuted => None,
+            Walked::Fault(cause) => Some(cause),
+        }
+    }
+}
+
+/// What the clause does where these literals are true.
+pub(crate) fn effect_of(clause: &[Lit], assumed: &Assumed) -> Effect
+    requires { AreWithin assumed.now.variables clause.now }
+    ensures { outcome_as result ≡ outcome_of (Some clause.now) assumed.now.literals }
+{
+    let mut open = None;
+    for lit in clause {
+        if !assumed.is_true(lit.negation()) {
+            if open.is_some() {
+                return Effect::NotUnit;
+            }
+            open = Some(*lit);
+        }
+    }
+    match open {
+        None => Effect::Conflict,
+        Some(lit) if assumed.is_true(lit) => Effect::NotUnit,
+        Some(lit) => Effect::Makes(lit),
+    }
+}
+
+/// The hints up to the first that has a dash.
+pub(crate) fn leading(hints: &[SignedId]) -> &[SignedId]
+    ensures { map (λ h. h.1) result.now ≡ leading_of hints.now }
+{
+    for (i, hint) in hints.iter().enumerate() {
+        if hint.is_dashed() {
+            return &hints[..i];
+        }
+    }
+    hints
+}
+
+/// Follows the hints in turn. What they make true is assumed.
+pub(crate) fn walk(
+    live: &LiveClauses,
+    assumed: &mut Assumed,
+    hints: &[SignedId],
+) -> Result<Walked, AllocError>
+    requires { All (λ e. AreWithin assumed.old.variables e.1) live.now }
+    ensures walked { IfOk result (λ w. EndAlike (walk_of (listed_at live.now) assumed.old.literals (map (λ h. h.1) hints.now)) (walked_as w assumed.new.literals)) }
+    ensures kept { take (length assumed.old.literals) assumed.new.literals ≡ assumed.old.literals }
+    ensures variables { assumed.new.variables ≡ assumed.old.variables }
+{
+    for (i, hint) in hints.iter().enumerate() {
+        let Some(clause) = live.find(hint.id()) else {
+            return Ok(Walked::Fault(Cause::DeadId));
+        };
+        match effect_of(clause, assumed) {
+            Effect::Conflict if i + 1 < hints.len() => {
+                return Ok(Walked::Fault(Cause::HintAfterConflict));
+            }
+            Effect::Conflict => return Ok(Walked::Refuted),
+            Effect::NotUnit => return Ok(Walked::Fault(Cause::HintNotUnit)),
+            Effect::Makes(lit) => assumed.assume(lit)?,
+        }
+    }
+    Ok(Walked::Open)
+}

@@ -1,0 +1,193 @@
+// The checker between lines: what is live, and whether the empty clause was added.
+ghost use Rattle.std.specs.Prelude.{◌≡◌, ℕ, ◌+◌, ◌<◌, ◌^◌, List, [], ◌∷◌, ◌++◌, map, length, false, nat_eq, IfOk, OnErr, IsSome, MatchOption, Some, None};
+ghost use Rattle.wcnf.specs.Formula.{IsFormula};
+ghost use Rattle.wcnf.specs.Text.{tokens_of};
+ghost use Rattle.lrat_check.specs.Machine.{MachineState, StepsTo, verdict_after, listed_from};
+ghost use Rattle.lrat_check.specs.Steps.{Adds, IsBase, IsFaultOf, live_of};
+ghost use Rattle.lrat_check.specs.Verdict.{deleted};
+ghost use Rattle.lrat_read.specs.Reader.{IsReadAs};
+
+use crate::additions::addition_fault;
+use crate::assumed::Assumed;
+use crate::live::LiveClauses;
+use crate::verdicts::{Cause, Verdict};
+use lrat_read::reader::LineReader;
+use lrat_read::types::{Form, SignedId};
+use std::alloc::AllocError;
+use std::marker::Model;
+use wcnf::types::Formula;
+
+// What the lines so far leave.
+#[derive(Drop)]
+struct Base {
+    live: LiveClauses,
+    last: u64,
+    ended: bool,
+}
+
+// What the check of a line works on. Nothing of it lasts but its memory.
+#[derive(Drop)]
+struct Scratch {
+    assumed: Assumed,
+    candidates: Vec<u64>,
+}
+
+/// Checks the lines of an LRAT certificate one after another (Cruz-Filipe et al. 2017). Between
+/// lines it is seen as the live clauses with their ids, the last id, whether the empty clause was
+/// added, and the number of lines.
+#[derive(Drop)]
+pub struct Machine {
+    reader: LineReader,
+    base: Base,
+    scratch: Scratch,
+    lines: u64,
+}
+
+impl Model for Machine {
+    ghost use Rattle.lrat_check.specs.Machine.{MachineState};
+    ghost use Rattle.lrat_check.specs.Steps.{IsBase};
+
+    ghost Value = { MachineState };
+
+    ghost view = { λ m. record { clauses = m.base.live; last = m.base.last; ended = m.base.ended; lines = m.lines } };
+
+    ghost invariant = { λ m. IsBase m.scratch.assumed.variables m.base.last m.base.live };
+}
+
+// The formula's clauses under the ids from 1.
+fn numbered(formula: &Formula) -> Result<LiveClauses, AllocError>
+    ensures { IfOk result (λ live. live ≡ listed_from 1 formula.now.clauses) }
+{
+    let mut live = LiveClauses::new(formula.allocator());
+    for (i, clause) in formula.clauses().iter().enumerate() {
+        live.add(i as u64 + 1, clause.lits())?;
+    }
+    Ok(live)
+}
+
+// Deletes the clauses of these ids in turn, up to one that is not live.
+fn delete_all(live: &mut LiveClauses, hints: &[SignedId]) -> Option<Cause>
+    ensures deleted { (last : ℕ) → MatchOption result (deleted (live_of last live.old) (map (λ h. h.1) hints.now) ≡ Some (live_of last live.new)) (λ cause. (cause ≡ Cause.DeadId) × (deleted (live_of last live.old) (map (λ h. h.1) hints.now) ≡ None)) }
+    ensures base { (variables : ℕ) (last : ℕ) → IsBase variables last live.old → IsBase variables last live.new }
+{
+    for hint in hints {
+        if !live.delete(hint.id()) {
+            return Some(Cause::DeadId);
+        }
+    }
+    None
+}
+
+// Adds the line's clause, if its hints allow it.
+fn add(
+    line: &LineReader,
+    base: &mut Base,
+    scratch: &mut Scratch,
+) -> Result<Option<Cause>, AllocError>
+    requires { IsBase scratch.old.assumed.variables base.old.last base.old.live }
+    ensures fault { IfOk result (λ f. IsFaultOf (live_of base.old.last base.old.live) line.now f) }
+    ensures added { IfOk result (λ f. f ≡ None → Adds base.old.live base.old.last line.now base.new.live base.new.last base.new.ended) }
+    ensures base { IsBase scratch.new.assumed.variables base.new.last base.new.live }
+    ensures err { OnErr result (base.new ≡ base.old) }
+{
+    let fault = addition_fault(
+        line,
+        &mut base.live,
+        base.last,
+        &mut scratch.assumed,
+        &mut scratch.candidates,
+    )?;
+    if fault.is_none() {
+        base.live.add(line.id(), line.lits())?;
+        base.last = line.id();
+        base.ended = line.lits().is_empty();
+    }
+    Ok(fault)
+}
+
+// Does what the line says, if it may. A line without tokens is always let be.
+fn judge(
+    form: Form,
+    line: &LineReader,
+    base: &mut Base,
+    scratch: &mut Scratch,
+) -> Result<Option<Cause>, AllocError>
+    requires { IsBase scratch.old.assumed.variables base.old.last base.old.live }
+    ensures steps { IfOk result (λ f. (ts : List (List ℕ)) (n : ℕ) → IsReadAs ts form line.now → StepsTo (record { clauses = base.old.live; last = base.old.last; ended = base.old.ended; lines = n }) ts f (record { clauses = base.new.live; last = base.new.last; ended = base.new.ended; lines = n + 1 })) }
+    ensures base { IsBase scratch.new.assumed.variables base.new.last base.new.live }
+    ensures err { OnErr result (base.new ≡ base.old) }
+{
+    match (form, base.ended) {
+        (Form::Blank, _) => Ok(None),
+        (_, true) => Ok(Some(Cause::TrailingLine)),
+        (Form::Malformed, false) => Ok(Some(Cause::LineForm)),
+        (Form::Deletion, false) => Ok(delete_all(&mut base.live, line.hints())),
+        (Form::Addition, false) => add(line, base, scratch),
+    }
+}
+
+impl Machine {
+    /// The checker before the first line: the formula's clauses are live under the ids from 1.
+    /// An AllocError comes where memory was refused.
+    pub fn new(formula: &Formula) -> Result<Self, AllocError>
+        ensures state { IfOk result (λ m. m ≡ record { clauses = listed_from 1 formula.now.clauses; last = length formula.now.clauses; ended = false; lines = 0 }) }
+        ensures limits { IsFormula formula.now }
+    {
+        let alloc = formula.allocator();
+        let mut assumed = Assumed::new(alloc);
+        assumed.grow(formula.vars())?;
+        Ok(Machine {
+            reader: LineReader::new(alloc),
+            base: Base {
+                live: numbered(formula)?,
+                last: formula.clauses().len() as u64,
+                ended: false,
+            },
+            scratch: Scratch {
+                assumed,
+                candidates: Vec::new(alloc),
+            },
+            lines: 0,
+        })
+    }
+
+    /// How many lines were read, those without tokens among them.
+    pub fn lines(&self) -> u64
+        ensures { result ≡ self.now.lines }
+    {
+        self.lines
+    }
+
+    /// Reads one line more, without its line end. Answers why the certificate fails at it, if it
+    /// does; no later line changes that. An AllocError comes where memory was refused, and the
+    /// line then counts as not read.
+    pub fn step(&mut self, line: &[u8]) -> Result<Option<Cause>, AllocError>
+        requires room { self.old.lines + 1 < 2 ^ 64 }
+        ensures steps { IfOk result (λ f. StepsTo self.old (tokens_of line.now) f self.new) }
+        ensures lines { IfOk result (λ f. self.new.lines ≡ self.old.lines + 1) }
+        ensures err { OnErr result (self.new ≡ self.old) }
+    {
+        let form = self.reader.read(line)?;
+        let fault = judge(form, &self.reader, &mut self.base, &mut self.scratch)?;
+        self.lines += 1;
+        Ok(fault)
+    }
+
+    /// The verdict where no further line follows.
+    pub fn verdict(&self) -> Verdict
+        ensures { result ≡ verdict_after self.now [] }
+    {
+        if self.ended() {
+            Verdict::Yes
+        } else {
+            Verdict::No(Cause::NoEmptyClause, 0)
+        }
+    }
+
+    /// Whether the empty clause was added.
+    pub fn ended(&self) -> bool
+        ensures { result ≡ self.now.ended }
+    {
+        self.base.ended
+    }
+}

@@ -1,0 +1,133 @@
+// RAT: the clauses with the negated pivot, which a line has to name all, and the hints of each.
+ghost use Rattle.std.specs.Prelude.{◌≡◌, ℕ, ◌++◌, Some, IfOk, OnOk, length, take, map, All, if◌then◌else◌};
+ghost use Rattle.std.specs.List.{list_any};
+ghost use Rattle.wcnf.specs.Literal.{negation};
+ghost use Rattle.wcnf.specs.Clause.{contains_literal, without_literal};
+ghost use Rattle.lrat_check.specs.Assumed.{AreWithin};
+ghost use Rattle.lrat_check.specs.Listed.{listed_at};
+ghost use Rattle.lrat_check.specs.Steps.{IsBase, HaveSame};
+ghost use Rattle.lrat_check.specs.Verdict.{ids_with, same_ids, group_fault as group_fault_of, groups_fault as groups_fault_of};
+ghost use Rattle.lrat_read.specs.Form.{groups_of};
+
+use crate::assumed::Assumed;
+use crate::hints::{leading, walk};
+use crate::live::LiveClauses;
+use crate::verdicts::Cause;
+use lrat_read::types::SignedId;
+use std::alloc::AllocError;
+use wcnf::types::Lit;
+
+/// Whether the ids with a dash are these, in this order.
+fn names(hints: &[SignedId], ids: &[u64]) -> bool
+    ensures { result ≡ same_ids (map (λ g. g.candidate) (groups_of hints.now)) ids.now }
+{
+    let mut named = 0;
+    for hint in hints {
+        if hint.is_dashed() {
+            if named == ids.len() || ids[named] != hint.id() {
+                return false;
+            }
+            named += 1;
+        }
+    }
+    named == ids.len()
+}
+
+/// Whether a literal other than the left out one is true.
+fn has_true(clause: &[Lit], left_out: Lit, assumed: &Assumed) -> bool
+    requires { AreWithin assumed.now.variables clause.now }
+    ensures { result ≡ list_any (λ k. contains_literal k assumed.now.literals) (without_literal left_out clause.now) }
+{
+    for lit in clause {
+        if *lit != left_out && assumed.is_true(*lit) {
+            return true;
+        }
+    }
+    false
+}
+
+/// Assumes the negations of all literals but the left out one.
+fn assume_others(clause: &[Lit], left_out: Lit, assumed: &mut Assumed) -> Result<(), AllocError>
+    requires { AreWithin assumed.old.variables clause.now }
+    ensures same { IfOk result (λ _. HaveSame (map negation (without_literal left_out clause.now) ++ assumed.old.literals) assumed.new.literals) }
+    ensures kept { take (length assumed.old.literals) assumed.new.literals ≡ assumed.old.literals }
+    ensures variables { assumed.new.variables ≡ assumed.old.variables }
+{
+    for lit in clause {
+        if *lit != left_out && !assumed.is_true(lit.negation()) {
+            assumed.assume(lit.negation())?;
+        }
+    }
+    Ok(())
+}
+
+/// The first fault of a candidate's hints, if any.
+fn group_fault(
+    candidate: u64,
+    hints: &[SignedId],
+    pivot: Lit,
+    live: &LiveClauses,
+    assumed: &mut Assumed,
+) -> Result<Option<Cause>, AllocError>
+    requires { All (λ e. AreWithin assumed.old.variables e.1) live.now }
+    ensures fault { IfOk result (λ f. f ≡ group_fault_of (listed_at live.now) pivot assumed.old.literals (record { candidate = candidate; hints = map (λ h. h.1) hints.now })) }
+    ensures same { OnOk result (assumed.new ≡ assumed.old) }
+    ensures variables { assumed.new.variables ≡ assumed.old.variables }
+{
+    let left_out = pivot.negation();
+    let Some(clause) = live.find(candidate) else {
+        return Ok(Some(Cause::DeadId));
+    };
+    if has_true(clause, left_out, assumed) {
+        return Ok((!hints.is_empty()).then_some(Cause::HintAfterConflict));
+    }
+    let before = assumed.len();
+    assume_others(clause, left_out, assumed)?;
+    let walked = walk(live, assumed, hints)?;
+    assumed.undo_to(before);
+    Ok(walked.fault())
+}
+
+/// The first fault of the groups of hints, each of which begins with a dash, if any.
+fn groups_fault(
+    hints: &[SignedId],
+    pivot: Lit,
+    live: &LiveClauses,
+    assumed: &mut Assumed,
+) -> Result<Option<Cause>, AllocError>
+    requires { All (λ e. AreWithin assumed.old.variables e.1) live.now }
+    ensures fault { IfOk result (λ f. f ≡ groups_fault_of (listed_at live.now) pivot assumed.old.literals (groups_of hints.now)) }
+    ensures variables { assumed.new.variables ≡ assumed.old.variables }
+{
+    for (i, hint) in hints.iter().enumerate() {
+        if hint.is_dashed() {
+            let own = leading(&hints[i + 1..]);
+            let fault = group_fault(hint.id(), own, pivot, live, assumed)?;
+            if fault.is_some() {
+                return Ok(fault);
+            }
+        }
+    }
+    Ok(None)
+}
+
+/// The first fault of a line whose clause was not refuted, if any. The clause begins with the pivot.
+pub(crate) fn rat_fault(
+    pivot: Lit,
+    hints: &[SignedId],
+    live: &mut LiveClauses,
+    last: u64,
+    assumed: &mut Assumed,
+    candidates: &mut Vec<u64>,
+) -> Result<Option<Cause>, AllocError>
+    requires base { IsBase assumed.old.variables last live.old }
+    ensures fault { IfOk result (λ f. f ≡ (if same_ids (map (λ g. g.candidate) (groups_of hints.now)) (ids_with (listed_at live.old) (negation pivot) last) then groups_fault_of (listed_at live.old) pivot assumed.old.literals (groups_of hints.now) else Some Cause.Candidates)) }
+    ensures live { live.new ≡ live.old }
+    ensures variables { assumed.new.variables ≡ assumed.old.variables }
+{
+    live.with_literal(pivot.negation(), candidates)?;
+    if !names(hints, candidates) {
+        return Ok(Some(Cause::Candidates));
+    }
+    groups_fault(hints, pivot, live, assumed)
+}
