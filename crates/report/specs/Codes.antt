@@ -1,0 +1,31 @@
+-- Exit statuses.
+use Rattle.std.specs.Prelude.{ℕ}
+use Rattle.wcnf.specs.declared.faults.FaultKind.{FaultKind}
+use Rattle.wcnf.specs.declared.faults.FaultKind.TheVariants.{FirstToken, OldForm, Weight, Literal, NoZero, AfterZero, Variable, WeightSum, TooMany, Memory as MemoryKind, Read as ReadKind}
+use Rattle.lrat_check.specs.declared.verdicts.Verdict.{Verdict}
+use Rattle.lrat_check.specs.declared.verdicts.Verdict.TheVariants.{Yes, No}
+use Rattle.report.specs.declared.fault.RunFault.{RunFault}
+use Rattle.report.specs.declared.fault.RunFault.TheVariants.{Read, Memory, Output}
+
+abbrev pub code_of_verdict : Verdict → ℕ
+code_of_verdict Yes = 0
+code_of_verdict (No cause line) = 1
+
+-- 2 for a faulty text, and 3 for all else
+abbrev pub code_of_kind : FaultKind → ℕ
+code_of_kind ReadKind = 3
+code_of_kind MemoryKind = 3
+code_of_kind FirstToken = 2
+code_of_kind OldForm = 2
+code_of_kind Weight = 2
+code_of_kind Literal = 2
+code_of_kind NoZero = 2
+code_of_kind AfterZero = 2
+code_of_kind Variable = 2
+code_of_kind WeightSum = 2
+code_of_kind TooMany = 2
+
+abbrev pub code_of_fault : RunFault → ℕ
+code_of_fault (Read fault) = code_of_kind fault.kind
+code_of_fault Memory = 3
+code_of_fault Output = 3

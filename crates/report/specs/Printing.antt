@@ -1,0 +1,35 @@
+-- The lines that the program prints.
+use Rattle.std.specs.Prelude.{ℕ, List, ◌++◌}
+use Rattle.std.specs.Fmt.{decimal}
+use lib.Chars.{codes}
+use Rattle.lrat_check.specs.declared.verdicts.Cause.{Cause}
+use Rattle.lrat_check.specs.declared.verdicts.Cause.TheVariants.{Text, ResultForm, BitsLength, NotFeasible, CostWrong, StatusWithoutProof, LineForm, IdOrder, DeadId, HintNotUnit, HintAfterConflict, NoConflict, Candidates, NoEmptyClause, TrailingLine, ClauseForm}
+use Rattle.lrat_check.specs.declared.verdicts.Verdict.{Verdict}
+use Rattle.lrat_check.specs.declared.verdicts.Verdict.TheVariants.{Yes, No}
+
+-- a cause is called as it is spelled here
+abbrev pub cause_name : Cause → List ℕ
+cause_name Text = codes "Text"
+cause_name ResultForm = codes "ResultForm"
+cause_name BitsLength = codes "BitsLength"
+cause_name NotFeasible = codes "NotFeasible"
+cause_name CostWrong = codes "CostWrong"
+cause_name StatusWithoutProof = codes "StatusWithoutProof"
+cause_name LineForm = codes "LineForm"
+cause_name IdOrder = codes "IdOrder"
+cause_name DeadId = codes "DeadId"
+cause_name HintNotUnit = codes "HintNotUnit"
+cause_name HintAfterConflict = codes "HintAfterConflict"
+cause_name NoConflict = codes "NoConflict"
+cause_name Candidates = codes "Candidates"
+cause_name NoEmptyClause = codes "NoEmptyClause"
+cause_name TrailingLine = codes "TrailingLine"
+cause_name ClauseForm = codes "ClauseForm"
+
+abbrev pub no_text : Cause → List ℕ
+no_text cause = codes "NO " ++ cause_name cause ++ codes " "
+
+-- the line of a verdict
+abbrev pub verdict_text : Verdict → List ℕ
+verdict_text Yes = codes "YES\n"
+verdict_text (No cause line) = no_text cause ++ (decimal line ++ codes "\n")

@@ -1,0 +1,97 @@
+//! What the program prints, and its exit statuses.
+ghost use Rattle.std.specs.Prelude.{◌≡◌, ◌++◌, OnOk, OnErr, codes};
+ghost use Rattle.std.specs.Fmt.{decimal};
+ghost use Rattle.std.specs.Io.KnownBytes.{Appends};
+ghost use Rattle.wcnf.specs.Writing.{AppendsPart};
+ghost use Rattle.report.specs.Codes.{code_of_verdict, code_of_fault};
+ghost use Rattle.report.specs.Printing.{no_text, verdict_text};
+
+use crate::fault::RunFault;
+use lrat_check::verdicts::{Cause, Verdict};
+use std::io::Write;
+use wcnf::faults::{FaultKind, ReadFault, WriteFault};
+use wcnf::output::{Block, write_piece};
+
+/// Writes the verdict's line: `YES`, or `NO`, the cause's name and the line of the text, result or certificate that it stands on.
+///
+/// # Errors
+///
+/// `WriteFault` where the writer failed. It has then a beginning of the line.
+pub fn print_verdict<W: Write>(verdict: &Verdict, writer: &mut W) -> Result<(), WriteFault>
+    ensures ok { OnOk result (Appends (W.contents writer.old) (W.contents writer.new) (verdict_text verdict.now)) }
+    ensures fault { OnErr result (AppendsPart (W.contents writer.old) (W.contents writer.new) (verdict_text verdict.now)) }
+{
+    match verdict {
+        Verdict::Yes => write_piece(writer, b"YES\n"),
+        Verdict::No(cause, line) => print_numbered(no_words(*cause), *line, writer),
+    }
+}
+
+/// Writes the words, the number and a line feed.
+fn print_numbered<W: Write>(words: &[u8], number: u64, writer: &mut W) -> Result<(), WriteFault>
+    ensures ok { OnOk result (Appends (W.contents writer.old) (W.contents writer.new) (words.now ++ (decimal number ++ codes "\n"))) }
+    ensures fault { OnErr result (AppendsPart (W.contents writer.old) (W.contents writer.new) (words.now ++ (decimal number ++ codes "\n"))) }
+{
+    let mut block = Block::new();
+    block.put(writer, words)?;
+    block.put_number(writer, number)?;
+    block.put(writer, b"\n")?;
+    block.flush(writer)
+}
+
+/// What stands before the line's number.
+fn no_words(cause: Cause) -> &'static [u8]
+    ensures { result.now ≡ no_text cause }
+{
+    match cause {
+        Cause::Text => b"NO Text ",
+        Cause::ResultForm => b"NO ResultForm ",
+        Cause::BitsLength => b"NO BitsLength ",
+        Cause::NotFeasible => b"NO NotFeasible ",
+        Cause::CostWrong => b"NO CostWrong ",
+        Cause::StatusWithoutProof => b"NO StatusWithoutProof ",
+        Cause::LineForm => b"NO LineForm ",
+        Cause::IdOrder => b"NO IdOrder ",
+        Cause::DeadId => b"NO DeadId ",
+        Cause::HintNotUnit => b"NO HintNotUnit ",
+        Cause::HintAfterConflict => b"NO HintAfterConflict ",
+        Cause::NoConflict => b"NO NoConflict ",
+        Cause::Candidates => b"NO Candidates ",
+        Cause::NoEmptyClause => b"NO NoEmptyClause ",
+        Cause::TrailingLine => b"NO TrailingLine ",
+        Cause::ClauseForm => b"NO ClauseForm ",
+    }
+}
+
+/// Writes the fault's line, which its `Display` gives: `error: line 2: WeightSum` for a faulty text, and else
+/// `error: ` with the name of the fault. Its text is shown by tests.
+///
+/// # Errors
+///
+/// `WriteFault` where the writer failed.
+pub fn print_fault<W: Write>(fault: &RunFault, writer: &mut W) -> Result<(), WriteFault> {
+    writeln!(writer, "error: {fault}").map_err(|_| WriteFault)
+}
+
+/// The exit status of a verdict: 0 for `Yes`, 1 for `No`.
+pub fn verdict_code(verdict: &Verdict) -> u8
+    ensures { result ≡ code_of_verdict verdict.now }
+{
+    match verdict {
+        Verdict::Yes => 0,
+        Verdict::No(_, _) => 1,
+    }
+}
+
+/// The exit status of a fault: 2 for a faulty text, 3 for all else.
+pub fn fault_code(fault: &RunFault) -> u8
+    ensures { result ≡ code_of_fault fault.now }
+{
+    match fault {
+        RunFault::Read(ReadFault { kind, .. }) => match kind {
+            FaultKind::Read | FaultKind::Memory => 3,
+            _ => 2,
+        },
+        RunFault::Memory | RunFault::Output => 3,
+    }
+}
