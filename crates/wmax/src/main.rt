@@ -1,0 +1,121 @@
+//! The program `wmax`: opens the files that the command line names, and hands their bytes to the libraries.
+#![tactic(auto)]
+
+use bound::formulas::{formula, write_dimacs};
+use clap::ArgMatches;
+use clap::error::ErrorKind;
+use lrat_check::checking::check;
+use report::fault::RunFault;
+use report::options::{self, MOST_COST};
+use report::printing::{fault_code, print_fault, print_verdict, verdict_code};
+use std::fs::File;
+use std::io::{Read, Write};
+use std::process::ExitCode;
+use std::rt::{Env, Files};
+use std::{env, io};
+use wcnf::faults::{FaultKind, ReadFault};
+use wcnf::reading::read_from;
+use wcnf::whole::read_all;
+
+/// The fault of a file that cannot be opened or read.
+const UNREADABLE: RunFault = RunFault::Read(ReadFault {
+    kind: FaultKind::Read,
+    line: 0,
+});
+
+/// Want of memory while a text is read is a fault of its own.
+fn run_fault(fault: ReadFault) -> RunFault {
+    match fault.kind {
+        FaultKind::Memory => RunFault::Memory,
+        _ => RunFault::Read(fault),
+    }
+}
+
+/// The whole file's bytes.
+fn contents<R: AllocGlobal, F: Read>(rt: &R, file: &mut F) -> Result<Vec<u8>, RunFault> {
+    read_all(rt.alloc(), file).map_err(run_fault)
+}
+
+/// `wmax check`: the files are opened in their order before any is read, and read in their order before the verdict.
+fn checked<R: Files + AllocGlobal + Print>(
+    rt: &R,
+    matches: &ArgMatches<'_>,
+) -> Result<u8, RunFault> {
+    let (Some(text), Some(answer), Some(proof)) = (
+        matches.get_str("FILE"),
+        matches.get_str("RESULT"),
+        matches.get_str("PROOF"),
+    ) else {
+        return Err(UNREADABLE);
+    };
+    let mut text = File::open(rt, text).map_err(|_| UNREADABLE)?;
+    let mut answer = File::open(rt, answer).map_err(|_| UNREADABLE)?;
+    let mut proof = File::open(rt, proof).map_err(|_| UNREADABLE)?;
+    let text = contents(rt, &mut text)?;
+    let answer = contents(rt, &mut answer)?;
+    let proof = contents(rt, &mut proof)?;
+    let verdict = check(rt.alloc(), &text, &answer, &proof).map_err(|_| RunFault::Memory)?;
+    let mut out = io::writer(rt);
+    print_verdict(&verdict, &mut out).map_err(|_| RunFault::Output)?;
+    out.flush().map_err(|_| RunFault::Output)?;
+    Ok(verdict_code(&verdict))
+}
+
+/// `wmax encode`: the formula for 'cost below COST'.
+fn encoded<R: Files + AllocGlobal + Print>(
+    rt: &R,
+    matches: &ArgMatches<'_>,
+) -> Result<u8, RunFault> {
+    let (Some(text), Some(cost)) = (matches.get_str("FILE"), matches.get_one::<u64>("COST")) else {
+        return Err(UNREADABLE);
+    };
+    let mut text = File::open(rt, text).map_err(|_| UNREADABLE)?;
+    let instance = read_from(rt.alloc(), &mut text).map_err(run_fault)?;
+    // `clap` lets no greater cost pass; said again, since nothing is known of that here.
+    let formula = formula(&instance, cost.min(MOST_COST)).map_err(|_| RunFault::Memory)?;
+    let mut out = io::writer(rt);
+    write_dimacs(&formula, &mut out).map_err(|_| RunFault::Output)?;
+    out.flush().map_err(|_| RunFault::Output)?;
+    Ok(0)
+}
+
+/// The exit status. A fault is told on standard error; one that cannot be told changes no status.
+fn told<E: Write>(err: &mut E, outcome: Result<u8, RunFault>) -> u8 {
+    match outcome {
+        Ok(status) => status,
+        Err(fault) => {
+            let _ = print_fault(&fault, err);
+            fault_code(&fault)
+        }
+    }
+}
+
+/// Reads the command line and does what it says.
+fn status<R: Files + AllocGlobal + Print + Eprint + Env, E: Write>(rt: &R, err: &mut E) -> u8 {
+    let Ok(args) = env::args(rt) else {
+        return told(err, Err(RunFault::Memory));
+    };
+    let Ok(words) = args.collect(rt.alloc()) else {
+        return told(err, Err(RunFault::Memory));
+    };
+    let words: Vec<String> = words;
+    let Ok(command) = options::command(rt.alloc()) else {
+        return told(err, Err(RunFault::Memory));
+    };
+    match command.try_get_matches_from(words.as_slice()) {
+        Ok(matches) => match matches.subcommand() {
+            Some(("check", found)) => told(err, checked(rt, found)),
+            Some(("encode", found)) => told(err, encoded(rt, found)),
+            _ => 2,
+        },
+        Err(error) if error.kind() == ErrorKind::OutOfMemory => told(err, Err(RunFault::Memory)),
+        Err(error) => {
+            let _ = error.print(rt);
+            if error.use_stderr() { 2 } else { 0 }
+        }
+    }
+}
+
+fn main(rt: HostRuntime) -> ExitCode {
+    ExitCode::from(status(&rt, &mut rt.stderr()))
+}
