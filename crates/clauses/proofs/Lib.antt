@@ -1,0 +1,4 @@
+pub mod Flat
+pub mod Lookup
+pub mod Renaming
+pub mod Stored

@@ -1,0 +1,168 @@
+-- The moves of a compaction: what they are, one by one, and that they rename the clauses.
+use Rattle.std.proofs.Common.{◌≡◌, ℕ, zero, suc, ◌+◌, ◌-◌, ◌<◌, ◌≤◌, true, false, List, [], ◌∷◌, ◌++◌, length, get_or, drop, map, Option, Some, None, refl, sym, ◌∙◌, ap, subst, arith, inl, inr, zero-add}
+use Rattle.std.specs.Prelude.{All, slice_index}
+use Rattle.std.specs.List.Sorted.{IsStrictlyIncreasing}
+use Rattle.std.proofs.lemmas.Bool.{cases_Bool}
+use Rattle.std.proofs.lemmas.List.{append_assoc, append-nil, drop_more, drop_all, length_push, length-take-le, length-drop}
+use Rattle.std.proofs.lemmas.List.Elements.{All-nil, All-cons}
+use Rattle.std.proofs.lemmas.List.Sums.{sum_by-cons}
+use Rattle.wcnf.specs.Literal.{Literal}
+use Rattle.clauses.specs.declared.heads.Head.{Head}
+use Rattle.clauses.specs.Heads.{literals_of, slots_of, clauses_in, AllLive, IsLaid}
+use Rattle.clauses.specs.Slots.{Slots, clause_at, places_from, live_clauses, room_of, Renaming, moves_from, moves_of, IsRenaming}
+use Rattle.clauses.proofs.Flat.{laid_le, clauses_live, clauses_dead}
+use Rattle.clauses.proofs.Stored.{slot_live, slot_dead}
+
+-- the moves, head by head
+moves_live : (old new : ℕ) (ls : List Literal) (h : Head) (hs : List Head) → h.live ≡ true → moves_from old new (slots_of ls (h ∷ hs)) ≡ (old, new) ∷ moves_from (old + 1) (new + 1) (slots_of ls hs)
+moves_live old new ls h hs e = rw (slot_live ls h e) refl
+
+moves_dead : (old new : ℕ) (ls : List Literal) (h : Head) (hs : List Head) → h.live ≡ false → moves_from old new (slots_of ls (h ∷ hs)) ≡ moves_from (old + 1) new (slots_of ls hs)
+moves_dead old new ls h hs e = rw (slot_dead ls h e) refl
+
+-- so many heads were passed, and these are their moves
+pub record IsListing (hs : List Head) (old : ℕ) (moves : Renaming) : Type 0 where
+  pub few : length moves ≤ old
+  pub all : (ls : List Literal) → moves ++ moves_from old (length moves) (slots_of ls (drop old hs)) ≡ moves_of (slots_of ls hs)
+
+pub listing_none : (hs : List Head) → IsListing hs 0 []
+listing_none hs = record { few = omega arith; all = λ ls. refl }
+
+module _ (hs : List Head) (old : ℕ) (moves : Renaming) (s : IsListing hs old moves) (h : Head) (within : old < length hs) (is : h ≡ get_or hs old h) where
+  next : drop old hs ≡ h ∷ drop (old + 1) hs
+  next = drop_more hs old h within ∙ ap (λ x. x ∷ drop (old + 1) hs) (sym is)
+
+  pub listing_live : h.live ≡ true → IsListing hs (old + 1) (moves ++ (old, length moves) ∷ [])
+  listing_live e = record {
+    few = omega (arith, s.few, length_push moves (old, length moves));
+    all = λ ls.
+        let step : moves_from old (length moves) (slots_of ls (drop old hs)) ≡ (old, length moves) ∷ moves_from (old + 1) (length moves + 1) (slots_of ls (drop (old + 1) hs)) = ap (λ xs. moves_from old (length moves) (slots_of ls xs)) next ∙ moves_live old (length moves) ls h (drop (old + 1) hs) e in
+        rw (length_push moves (old, length moves), append_assoc) (ap (λ ms. moves ++ ms) (sym step) ∙ s.all ls);
+  }
+
+  pub listing_dead : h.live ≡ false → IsListing hs (old + 1) moves
+  listing_dead e = record {
+    few = omega (arith, s.few);
+    all = λ ls. ap (λ ms. moves ++ ms) (sym (ap (λ xs. moves_from old (length moves) (slots_of ls xs)) next ∙ moves_dead old (length moves) ls h (drop (old + 1) hs) e)) ∙ s.all ls;
+  }
+
+pub listing_all : (hs : List Head) (old : ℕ) (moves : Renaming) → IsListing hs old moves → length hs ≤ old → (ls : List Literal) → moves ≡ moves_of (slots_of ls hs)
+listing_all hs old moves s past ls =
+    let none : drop old hs ≡ [] = drop_all old hs past in
+    sym (append-nil moves) ∙ subst (λ xs. moves ++ moves_from old (length moves) (slots_of ls xs) ≡ moves_of (slots_of ls hs)) none (s.all ls)
+
+-- both sides rise
+abbrev RisesFrom : ℕ → List ℕ → Type 0
+RisesFrom least [] = Unit {0}
+RisesFrom least (k ∷ ks) = (least ≤ k) × RisesFrom (k + 1) ks
+
+rises_weaker : (least more : ℕ) (ks : List ℕ) → least ≤ more → RisesFrom more ks → RisesFrom least ks
+rises_weaker least more [] h r = tt
+rises_weaker least more (k ∷ ks) h r = (omega (arith, r.0), r.1)
+
+rises_least : (least : ℕ) (ks : List ℕ) (p : ℕ) → RisesFrom least ks → p < length ks → least ≤ slice_index ks p
+rises_least least [] p r h = absurd (omega arith)
+rises_least least (k ∷ ks) zero r h = r.0
+rises_least least (k ∷ ks) (suc p) r h = omega (arith, r.0, rises_least (k + 1) ks p r.1 (omega arith))
+
+rising_from : (least : ℕ) (ks : List ℕ) → RisesFrom least ks → IsStrictlyIncreasing ks
+rising_from least [] r k h = absurd (omega arith)
+rising_from least (x ∷ ks) r zero h = omega (arith, rises_least (x + 1) ks 0 r.1 (omega arith))
+rising_from least (x ∷ ks) r (suc k) h = let z : slice_index ks k < slice_index ks (k + 1) = rising_from (x + 1) ks r.1 k (omega arith) in let e : suc k + 1 ≡ suc (k + 1) = omega arith in subst (λ n. slice_index ks k < slice_index (x ∷ ks) n) (sym e) z
+
+old_rises : (old new : ℕ) (slots : Slots) → RisesFrom old (map (λ m. m.0) (moves_from old new slots))
+old_rises old new [] = tt
+old_rises old new (None ∷ slots) = rises_weaker old (old + 1) (map (λ m. m.0) (moves_from (old + 1) new slots)) (omega arith) (old_rises (old + 1) new slots)
+old_rises old new (Some c ∷ slots) = (omega arith, old_rises (old + 1) (new + 1) slots)
+
+new_rises : (old new : ℕ) (slots : Slots) → RisesFrom new (map (λ m. m.1) (moves_from old new slots))
+new_rises old new [] = tt
+new_rises old new (None ∷ slots) = new_rises (old + 1) new slots
+new_rises old new (Some c ∷ slots) = (omega arith, new_rises (old + 1) (new + 1) slots)
+
+moves_lower : (old new : ℕ) (slots : Slots) → new ≤ old → All (λ m. m.1 ≤ m.0) (moves_from old new slots)
+moves_lower old new [] h = All-nil (λ m. m.1 ≤ m.0)
+moves_lower old new (None ∷ slots) h = moves_lower (old + 1) new slots (omega arith)
+moves_lower old new (Some c ∷ slots) h = All-cons (λ m. m.1 ≤ m.0) (old, new) (moves_from (old + 1) (new + 1) slots) h (moves_lower (old + 1) (new + 1) slots (omega arith))
+
+pub moves_rise : (slots : Slots) (moves : Renaming) → moves ≡ moves_of slots → IsStrictlyIncreasing (map (λ m. m.0) moves) × IsStrictlyIncreasing (map (λ m. m.1) moves) × All (λ m. m.1 ≤ m.0) moves
+moves_rise slots moves is =
+    let all : IsStrictlyIncreasing (map (λ m. m.0) (moves_of slots)) × IsStrictlyIncreasing (map (λ m. m.1) (moves_of slots)) × All (λ m. m.1 ≤ m.0) (moves_of slots) = (rising_from 0 _ (old_rises 0 0 slots), rising_from 0 _ (new_rises 0 0 slots), moves_lower 0 0 slots (omega arith)) in
+    rw is all
+
+-- they lead from each live reference to the one of the same clause
+abbrev together : Slots → Slots
+together slots = map Some (live_clauses slots)
+
+moves_old : (old new : ℕ) (slots : Slots) → map (λ m. m.0) (moves_from old new slots) ≡ places_from old slots
+moves_old old new [] = refl
+moves_old old new (None ∷ slots) = moves_old (old + 1) new slots
+moves_old old new (Some c ∷ slots) = ap (λ ks. old ∷ ks) (moves_old (old + 1) (new + 1) slots)
+
+moves_new : (old new : ℕ) (slots : Slots) → map (λ m. m.1) (moves_from old new slots) ≡ places_from new (together slots)
+moves_new old new [] = refl
+moves_new old new (None ∷ slots) = moves_new (old + 1) new slots
+moves_new old new (Some c ∷ slots) = ap (λ ks. new ∷ ks) (moves_new (old + 1) (new + 1) slots)
+
+-- from one place on, the slots are these
+abbrev GoesOn : Slots → ℕ → Slots → Type 0
+GoesOn whole at slots = (k : ℕ) → clause_at whole (at + k) ≡ clause_at slots k
+
+goes_on_head : (whole : Slots) (at : ℕ) (s : Option (List Literal)) (slots : Slots) → GoesOn whole at (s ∷ slots) → clause_at whole at ≡ s
+goes_on_head whole at s slots h = let e : at + 0 ≡ at = omega arith in ap (clause_at whole) (sym e) ∙ h 0
+
+goes_on_tail : (whole : Slots) (at : ℕ) (s : Option (List Literal)) (slots : Slots) → GoesOn whole at (s ∷ slots) → GoesOn whole (at + 1) slots
+goes_on_tail whole at s slots h k = let e : at + suc k ≡ at + 1 + k = omega arith in ap (clause_at whole) (sym e) ∙ h (suc k)
+
+moves_same : (before after : Slots) (old new : ℕ) (slots : Slots) → GoesOn before old slots → GoesOn after new (together slots) → All (λ m. clause_at after m.1 ≡ clause_at before m.0) (moves_from old new slots)
+moves_same before after old new [] f g = All-nil (λ m. clause_at after m.1 ≡ clause_at before m.0)
+moves_same before after old new (None ∷ slots) f g = moves_same before after (old + 1) new slots (goes_on_tail before old None slots f) g
+moves_same before after old new (Some c ∷ slots) f g =
+    All-cons (λ m. clause_at after m.1 ≡ clause_at before m.0) (old, new) (moves_from (old + 1) (new + 1) slots)
+    (goes_on_head after new (Some c) (together slots) g ∙ sym (goes_on_head before old (Some c) slots f))
+    (moves_same before after (old + 1) (new + 1) slots (goes_on_tail before old (Some c) slots f) (goes_on_tail after new (Some c) (together slots) g))
+
+goes_on_all : (slots : Slots) → GoesOn slots 0 slots
+goes_on_all slots k = ap (clause_at slots) (zero-add k)
+
+renaming_together : (slots : Slots) → IsRenaming slots (together slots) (moves_of slots)
+renaming_together slots =
+    record {
+      from = moves_old 0 0 slots;
+      to = moves_new 0 0 slots;
+      lower = moves_lower 0 0 slots (omega arith);
+      same = moves_same slots (together slots) 0 0 slots (goes_on_all slots) (goes_on_all (together slots));
+    }
+
+-- the slots of heads that are all live
+clauses_of_slots : (ls : List Literal) (hs : List Head) → live_clauses (slots_of ls hs) ≡ clauses_in ls hs
+clauses_of_slots ls [] = refl
+clauses_of_slots ls (h ∷ hs) =
+    elim (cases_Bool h.live) [
+      | inl e ↦ rw (slot_live ls h e, clauses_live ls h hs e) (ap (λ cs. literals_of ls h ∷ cs) (clauses_of_slots ls hs))
+      | inr e ↦ rw (slot_dead ls h e, clauses_dead ls h hs e) (clauses_of_slots ls hs)
+    ]
+
+slots_of_live : (ls : List Literal) (hs : List Head) → AllLive hs → slots_of ls hs ≡ map Some (clauses_in ls hs)
+slots_of_live ls [] l = refl
+slots_of_live ls (h ∷ hs) l = rw (slot_live ls h l.0, clauses_live ls h hs l.0) (ap (λ xs. Some (literals_of ls h) ∷ xs) (slots_of_live ls hs l.1))
+
+pub brought_together : (ls ms : List Literal) (hs ks : List Head) → AllLive ks → clauses_in ms ks ≡ clauses_in ls hs → slots_of ms ks ≡ map Some (live_clauses (slots_of ls hs))
+brought_together ls ms hs ks live same = slots_of_live ms ks live ∙ ap (map Some) (same ∙ sym (clauses_of_slots ls hs))
+
+pub compacted : (ls ms : List Literal) (hs ks : List Head) (moves : Renaming) → AllLive ks → clauses_in ms ks ≡ clauses_in ls hs → moves ≡ moves_of (slots_of ls hs) → IsRenaming (slots_of ls hs) (slots_of ms ks) moves
+compacted ls ms hs ks moves live same is =
+    rw (brought_together ls ms hs ks live same, is) (renaming_together (slots_of ls hs))
+
+-- the room of live clauses without gaps
+room_laid : (ls : List Literal) (from to : ℕ) (hs : List Head) → IsLaid from hs to → to ≤ length ls → AllLive hs → to + length hs ≡ from + room_of (clauses_in ls hs)
+room_laid ls from to [] p w l = omega arith
+room_laid ls from to (h ∷ hs) p w l =
+    let rest : to + length hs ≡ from + h.length + room_of (clauses_in ls hs) = room_laid ls (from + h.length) to hs p.1 w l.1 in
+    let within : h.start + h.length ≤ to = omega (arith, p.0, laid_le (from + h.length) to hs p.1) in
+    let long : length (literals_of ls h) ≡ h.length = omega (arith, length-take-le (h.start + h.length - h.start) (drop h.start ls) (omega (arith, length-drop h.start ls))) in
+    let step : room_of (literals_of ls h ∷ clauses_in ls hs) ≡ length (literals_of ls h) + 1 + room_of (clauses_in ls hs) = sum_by-cons (λ c. length c + 1) (literals_of ls h) (clauses_in ls hs) in
+    rw (clauses_live ls h hs l.0) (omega (arith, rest, long, step))
+
+pub room_of_store : (ls : List Literal) (hs : List Head) → IsLaid 0 hs (length ls) → AllLive hs → length ls + length hs ≡ room_of (live_clauses (slots_of ls hs))
+room_of_store ls hs p l = rw (clauses_of_slots ls hs) (omega (arith, room_laid ls 0 (length ls) hs p (omega arith) l))

@@ -1,0 +1,11 @@
+use Rattle.std.proofs.Common.{◌≡◌, length}
+use Rattle.clauses.specs.Heads.{clauses_in}
+use Rattle.clauses.proofs.Flat.{IsCompacting}
+use Rattle.clauses.proofs.compaction.compact.Given as goal
+
+abbrev pub invariant-loop-i : goal.invariant-loop-i
+invariant-loop-i l = record {
+  moving : IsCompacting l.literals.items l.heads.items l.kept l.end l.i (clauses_in l.fn.literals.items l.fn.heads.items);
+  heads : length l.heads.items ≡ length l.fn.heads.items;
+  literals : length l.literals.items ≡ length l.fn.literals.items;
+}

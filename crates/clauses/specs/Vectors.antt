@@ -1,0 +1,28 @@
+-- A worked store.
+use Rattle.std.specs.Prelude.{◌≡◌, ℕ, true, false, [], ◌∷◌, Some, None, refl, slice_set}
+use Rattle.wcnf.specs.Literal.{Literal}
+use Rattle.clauses.specs.Slots.{Slots, live_places, live_clauses, room_of, renamed, moves_of}
+
+abbrev p : ℕ → Literal
+p n = record { variable = n; negated = false }
+
+abbrev n : ℕ → Literal
+n v = record { variable = v; negated = true }
+
+abbrev three : Slots
+three = Some (p 1 ∷ p 2 ∷ p 3 ∷ []) ∷ Some (n 1 ∷ p 2 ∷ []) ∷ Some (p 3 ∷ []) ∷ []
+
+full : room_of (live_clauses three) ≡ 9
+full = refl
+
+left : room_of (live_clauses (slice_set three 1 None)) ≡ 6
+left = refl
+
+places : live_places (slice_set three 1 None) ≡ 0 ∷ 2 ∷ []
+places = refl
+
+moved : moves_of (slice_set three 1 None) ≡ (0, 0) ∷ (2, 1) ∷ []
+moved = refl
+
+new : renamed ((0, 0) ∷ (2, 1) ∷ []) 2 ≡ Some 1
+new = refl

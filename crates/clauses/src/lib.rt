@@ -1,0 +1,6 @@
+//! Clauses in flat memory, under references of four bytes.
+#![tactic(auto)]
+
+mod compaction;
+mod heads;
+pub mod store;

@@ -1,0 +1,205 @@
+//! The store of clauses: literals in one flat vector, a head for each clause in another. References stay valid until a
+//! compaction moves the live clauses together and tells where each went.
+ghost use Rattle.std.specs.Prelude.{◌≡◌, ℕ, ◌+◌, ◌<◌, ◌≤◌, ◌^◌, All, List, [], ◌∷◌, ◌++◌, Some, None, map, length, slice_set, IsTrue, ◌↔◌, OnErr, IfOk};
+ghost use Rattle.std.specs.List.Sorted.{IsStrictlyIncreasing};
+ghost use Rattle.wcnf.specs.Literal.{Literal};
+ghost use Rattle.clauses.specs.Heads.{slots_of};
+ghost use Rattle.clauses.specs.Slots.{IsLive, clause_at, live_clauses, moves_of, room_of, renamed, IsRenaming};
+
+use crate::compaction::compact;
+use crate::heads::Head;
+use std::alloc::{AllocError, Global};
+use std::marker::Model;
+use wcnf::types::Lit;
+
+/// A store has at most so many references and literals; what would go beyond counts as a refused growth.
+const MOST: usize = 4_294_967_295;
+
+/// Names a clause of a store: its place among all that were added, counted from 0, where a compaction closes the gaps of
+/// those that were deleted. It takes four bytes.
+#[derive(Clone, Copy, Debug, PartialEq, Eq, Drop)]
+pub struct CRef {
+    place: u32,
+}
+
+impl Model for CRef {
+    ghost Value = { ℕ };
+
+    ghost view = { λ r. r.place };
+
+    ghost inverse = { λ v. record { place = v } };
+}
+
+const _: () = prove!(size_of::<CRef>() == 4);
+
+/// A map from references to clauses, which are lists of literals; one region of memory holds them all, as in MiniSat
+/// (Eén and Sörensson 2003).
+#[derive(Drop)]
+pub struct Store {
+    literals: Vec<Lit>,
+    heads: Vec<Head>,
+}
+
+impl Model for Store {
+    ghost use Rattle.clauses.specs.Slots.{StoreState};
+
+    ghost Value = { StoreState };
+
+    ghost use Rattle.clauses.specs.Heads.{state_of, IsStore};
+
+    ghost view = { λ s. state_of s.literals.items s.heads.items };
+
+    ghost invariant = { λ s. IsStore s.literals.items s.heads.items };
+}
+
+impl Store {
+    /// A store without clauses. It takes no memory.
+    pub fn new(alloc: Global) -> Self
+        ensures { result ≡ record { slots = []; used = 0 } }
+    {
+        Store {
+            literals: Vec::new(alloc),
+            heads: Vec::new(alloc),
+        }
+    }
+
+    /// Adds a clause under a reference above all others.
+    ///
+    /// # Errors
+    ///
+    /// `AllocError` where a growth was refused, which more than 2^32 - 1 references or literals count as. The store is
+    /// then unchanged.
+    pub fn add(&mut self, lits: &[Lit]) -> Result<CRef, AllocError>
+        ensures reference { IfOk result (λ r. r ≡ length self.old.slots) }
+        ensures ok { IfOk result (λ _. self.new
+            ≡ record { slots = self.old.slots ++ Some lits.now ∷ []; used = self.old.used + (length lits.now + 1) }) }
+        ensures err { OnErr result (self.new ≡ self.old) }
+    {
+        let start = self.literals.len();
+        let place = self.heads.len();
+        if place >= MOST || lits.len() > MOST - start {
+            return Err(AllocError);
+        }
+        self.heads.reserve(1)?;
+        self.literals.extend_from_slice(lits)?;
+        let head = Head {
+            start: start as u32,
+            length: lits.len() as u32,
+            live: true,
+        };
+        self.heads.push(head)?;
+        Ok(CRef {
+            place: place as u32,
+        })
+    }
+
+    /// The literals of a live clause, in the order in which they were added.
+    pub fn lits(&self, reference: CRef) -> &[Lit]
+        requires { IsLive self.now.slots reference }
+        ensures { clause_at self.now.slots reference ≡ Some result.now }
+    {
+        let head = self.heads[reference.place as usize];
+        let start = head.start as usize;
+        &self.literals[start..start + head.length as usize]
+    }
+
+    /// Takes a live clause out. Its room is taken back by the next compaction.
+    pub fn delete(&mut self, reference: CRef)
+        requires { IsLive self.old.slots reference }
+        ensures { self.new ≡ record self.old { slots = slice_set self.old.slots reference None } }
+    {
+        self.heads[reference.place as usize].live = false;
+    }
+
+    /// Whether the reference names a clause that was added and not deleted.
+    pub fn is_live(&self, reference: CRef) -> bool
+        ensures { IsTrue result ↔ IsLive self.now.slots reference }
+    {
+        match self.heads.get(reference.place as usize) {
+            Some(head) => head.live,
+            None => false,
+        }
+    }
+
+    /// The room that clauses take, also deleted ones: a clause takes its length and one more.
+    pub fn used(&self) -> usize
+        ensures { result ≡ self.now.used }
+    {
+        self.literals.len() + self.heads.len()
+    }
+
+    /// Moves the live clauses together, in place, each to a new reference that is not above its old one, and keeps their order.
+    ///
+    /// # Errors
+    ///
+    /// `AllocError` where the list of moves found no room. The store is then unchanged.
+    pub fn compact(&mut self) -> Result<Moves, AllocError>
+        ensures moves { IfOk result (λ moves. IsRenaming self.old.slots self.new.slots moves) }
+        ensures together { IfOk result (λ _. self.new.slots ≡ map Some (live_clauses self.old.slots)) }
+        ensures used { IfOk result (λ _. self.new.used ≡ room_of (live_clauses self.new.slots)) }
+        ensures err { OnErr result (self.new ≡ self.old) }
+    {
+        let pairs = pairs_of(*self.heads.allocator(), &self.heads)?;
+        compact(&mut self.heads, &mut self.literals);
+        Ok(Moves { pairs })
+    }
+
+    /// The allocator that the store was made with.
+    pub fn allocator(&self) -> Global {
+        *self.heads.allocator()
+    }
+}
+
+// The old and the new reference of each live clause.
+fn pairs_of(alloc: Global, heads: &[Head]) -> Result<Vec<(CRef, CRef)>, AllocError>
+    requires { length heads.now < 2 ^ 32 }
+    ensures { IfOk result (λ pairs. (literals : List Literal) → pairs.items ≡ moves_of (slots_of literals heads.now)) }
+{
+    let mut pairs = Vec::new(alloc);
+    for (old, head) in heads.iter().enumerate() {
+        if head.live {
+            let new = pairs.len();
+            pairs.push((CRef { place: old as u32 }, CRef { place: new as u32 }))?;
+        }
+    }
+    Ok(pairs)
+}
+
+/// The old and the new reference of each clause that a compaction kept, in rising order.
+#[derive(Drop)]
+pub struct Moves {
+    pairs: Vec<(CRef, CRef)>,
+}
+
+impl Model for Moves {
+    ghost Value = { List (ℕ × ℕ) };
+
+    ghost view = { λ m. m.pairs.items };
+
+    ghost invariant = { λ m. IsStrictlyIncreasing (map (λ p. p.0) m.pairs.items) × IsStrictlyIncreasing (map (λ p. p.1) m.pairs.items) × All (λ p. p.1 ≤ p.0) m.pairs.items };
+}
+
+impl Moves {
+    /// The pairs of old and new references, both sides rising.
+    pub fn pairs(&self) -> &[(CRef, CRef)]
+        ensures { result.now ≡ self.now }
+    {
+        &self.pairs
+    }
+
+    /// The new reference of a clause; none where it was not kept.
+    pub fn to(&self, reference: CRef) -> Option<CRef>
+        ensures { result ≡ renamed self.now reference }
+    {
+        match self
+            .pairs
+            .binary_search_by_key(&reference.place, |(old, _)| old.place)
+        {
+            Ok(at) => Some(self.pairs[at].1),
+            Err(_) => None,
+        }
+    }
+}
+
+#[cfg(test)]
+mod tests;
