@@ -1,0 +1,30 @@
+-- The hints of a line lie between the ends of two heads.
+use Rattle.std.proofs.Common.{◌≡◌, ◌+◌, ◌<◌, length, ◌∙◌, arith}
+use Rattle.lrat_log.proofs.Flat.{below_heads, hints-line_at}
+use Rattle.lrat_log.proofs.log.Log.packed_hints.Goals as goal
+
+pub ends-start-requires : goal.ends-start-requires
+ends-start-requires c =
+    let h : c.args.line < length c.self.inside.heads.items = below_heads _ _ _ _ _ c.self.view_is c.requires in
+    rw c.deref.ensures.value (omega arith)
+
+pub ends-end-requires : goal.ends-end-requires
+ends-end-requires c =
+    let h : c.args.line < length c.self.inside.heads.items = below_heads _ _ _ _ _ c.self.view_is c.requires in
+    rw c.deref-2.ensures.value (omega arith)
+
+pub part-requires : goal.part-requires
+part-requires c =
+    let h : c.args.line < length c.self.inside.heads.items = below_heads _ _ _ _ _ c.self.view_is c.requires in
+    let start = rw c.deref.ensures.value at c.ends-start.ensures.hints in
+    let end = rw c.deref-2.ensures.value at c.ends-end.ensures.hints in
+    let p = hints-line_at _ _ _ _ _ _ c.self.invariant.ends h start end in
+    rw c.deref-3.ensures.value (p.rising, p.within)
+
+pub returns-clause-hints : goal.returns-clause-hints
+returns-clause-hints c =
+    let h : c.args.line < length c.self.inside.heads.items = below_heads _ _ _ _ _ c.self.view_is c.requires in
+    let start = rw c.deref.ensures.value at c.ends-start.ensures.hints in
+    let end = rw c.deref-2.ensures.value at c.ends-end.ensures.hints in
+    let p = hints-line_at _ _ _ _ _ _ c.self.invariant.ends h start end in
+    rw (← c.self.view_is) (rw c.deref-3.ensures.value at c.part.ensures ∙ p.part_is)

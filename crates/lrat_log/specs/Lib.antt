@@ -1,0 +1,7 @@
+pub mod Log
+pub mod Packed
+pub mod Flat
+pub mod Texts
+pub mod Steps
+pub mod Rebase
+pub mod Vectors

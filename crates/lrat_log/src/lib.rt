@@ -1,0 +1,8 @@
+//! The solver's log: lines over names, the sinks that take them, and their text as an LRAT certificate.
+#![tactic(auto)]
+
+pub mod lines;
+pub mod log;
+mod packed;
+pub mod sink;
+mod spelling;

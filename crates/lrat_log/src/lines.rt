@@ -1,0 +1,155 @@
+// Lines over names. A solver does not know under which ids a certificate will have its clauses, since that depends on the
+// formula that is given to the checker. So its lines speak of clauses by name: a clause of the formula by its number
+// there, and a clause that the log added by its number among the additions.
+ghost use Rattle.std.specs.Prelude.{◌≡◌, ℕ, ◌<◌, ◌≤◌, ◌^◌};
+
+use std::marker::Model;
+use wcnf::types::Lit;
+
+/// A number from 1, below 2^62.
+#[derive(Clone, Copy, Debug, PartialEq, Eq, Drop)]
+pub struct Number {
+    value: u64,
+}
+
+impl Model for Number {
+    ghost use Rattle.std.specs.Prelude.{ℕ, ◌<◌, ◌^◌};
+
+    ghost Value = { ℕ };
+
+    ghost view = { λ n. n.value };
+
+    ghost invariant = { λ n. (0 < n.value) × (n.value < 2 ^ 62) };
+
+    ghost inverse = { λ v. record { value = v } };
+}
+
+impl Number {
+    /// The number with this value.
+    pub fn new(value: u64) -> Self
+        requires from_one { 0 < value }
+        requires small { value < 2 ^ 62 }
+        ensures { result ≡ value }
+    {
+        Number { value }
+    }
+
+    /// The value, from 1 and below 2^62.
+    pub fn get(self) -> u64
+        ensures value { result ≡ self }
+        ensures from_one { 0 < result }
+        ensures small { result < 2 ^ 62 }
+    {
+        self.value
+    }
+}
+
+/// A clause by its number: of the formula, or among the additions of the log, each counted from 1.
+#[derive(Clone, Copy, Debug, PartialEq, Eq, Drop)]
+pub enum Name {
+    /// The clause of the formula with this number.
+    Formula(Number),
+    /// The clause that was added by the addition with this number. Deletions are not counted.
+    Added(Number),
+}
+
+/// A clause that an addition follows from (Cruz-Filipe et al. 2017).
+#[derive(Clone, Copy, Debug, PartialEq, Eq, Drop)]
+pub enum Hint {
+    /// A clause that is a unit, or empty, under the negation of the new clause and the units before it.
+    Plain(Name),
+    /// A clause with the negation of the new clause's first literal. The hints up to the next group are those by which
+    /// the resolvent with it follows.
+    Group(Name),
+}
+
+/// What a line is for.
+#[derive(Clone, Copy, Debug, PartialEq, Eq, Drop)]
+pub enum Kind {
+    /// Adds a clause that search learned.
+    Learned,
+    /// Adds a clause of one literal.
+    Unit,
+    /// Adds a resolvent of two clauses.
+    Resolvent,
+    /// Adds a clause of the definition of a new variable.
+    Definition,
+    /// Adds a clause that has another one as a subset.
+    Weaker,
+    /// Deletes the clauses that its hints name.
+    Delete,
+    /// Adds the empty clause.
+    Empty,
+}
+
+impl Kind {
+    ghost use Rattle.lrat_log.specs.Log.{is_delete};
+
+    /// Whether lines of this kind delete. All others add a clause.
+    pub fn is_delete(self) -> bool
+        ensures { result ≡ is_delete self }
+    {
+        match self {
+            Kind::Delete => true,
+            Kind::Learned
+            | Kind::Unit
+            | Kind::Resolvent
+            | Kind::Definition
+            | Kind::Weaker
+            | Kind::Empty => false,
+        }
+    }
+}
+
+/// A line of a log: the clause that it adds, with the hints by which it follows; or a deletion, whose hints name the
+/// clauses that it deletes, each a plain one, and which has no literals.
+#[derive(Drop)]
+pub struct Line {
+    kind: Kind,
+    lits: Vec<Lit>,
+    hints: Vec<Hint>,
+}
+
+impl Model for Line {
+    ghost use Rattle.lrat_log.specs.Log.{LogLine, IsLine};
+
+    ghost Value = { LogLine };
+
+    ghost view = { λ l. record { kind = l.kind; clause = l.lits.items; hints = l.hints.items } };
+
+    ghost invariant = { λ l. IsLine (record { kind = l.kind; clause = l.lits.items; hints = l.hints.items }) };
+}
+
+impl Line {
+    ghost use Rattle.lrat_log.specs.Log.{LogLine, IsLine};
+
+    /// The line with these literals and hints, in this order.
+    pub fn new(kind: Kind, lits: Vec<Lit>, hints: Vec<Hint>) -> Self
+        requires { IsLine (record { kind = kind; clause = lits.items; hints = hints.items }) }
+        ensures { result ≡ record { kind = kind; clause = lits.items; hints = hints.items } }
+    {
+        Line { kind, lits, hints }
+    }
+
+    /// What the line is for.
+    pub fn kind(&self) -> Kind
+        ensures kind { result ≡ self.now.kind }
+        ensures line { IsLine self.now }
+    {
+        self.kind
+    }
+
+    /// The literals of the clause, in the order in which they were given.
+    pub fn lits(&self) -> &[Lit]
+        ensures { result.now ≡ self.now.clause }
+    {
+        &self.lits
+    }
+
+    /// The hints, in the order in which they were given.
+    pub fn hints(&self) -> &[Hint]
+        ensures { result.now ≡ self.now.hints }
+    {
+        &self.hints
+    }
+}

@@ -1,0 +1,263 @@
+// The log in memory, and its text. A log has millions of lines of a few literals and hints each, so it keeps them in
+// three vectors: the literals of all lines, the hints of all lines, and for each line where its own end.
+ghost use Rattle.std.specs.Prelude.{◌≡◌, ℕ, ◌+◌, ◌<◌, ◌≤◌, ◌^◌, ◌++◌, List, [], Some, length, All, IfOk, OnOk, OnErr, slice_get, slice_range, ◌==◌};
+ghost use Rattle.std.specs.Io.KnownBytes.{Appends};
+ghost use Rattle.wcnf.specs.Lrat.{IsTextOf};
+ghost use Rattle.wcnf.specs.Writing.{AppendsPart, PassesOn};
+ghost use Rattle.lrat_log.specs.Log.{LogLine, IsLine, IsLog, HasSmallIds, line_at, numbered_lines, text_of};
+ghost use Rattle.lrat_log.specs.Texts.{line_text, numbered_after, last_after};
+ghost use Rattle.lrat_log.specs.Flat.{lits_before, hints_before};
+
+use crate::lines::{Hint, Kind, Line};
+use crate::packed::PackedHint;
+use crate::sink::Sink;
+use crate::spelling::{put_addition, put_deletion};
+use std::alloc::{AllocError, Global};
+use std::io::Write;
+use std::marker::Model;
+use wcnf::faults::WriteFault;
+use wcnf::output::Block;
+use wcnf::types::Lit;
+
+/// A log has fewer lines than this, 2^61.
+const LINE_LIMIT: usize = 1 << 61;
+
+/// A line, by the places where its literals and its hints end. They begin where those of the line before end.
+#[derive(Clone, Copy, Drop)]
+struct Head {
+    kind: Kind,
+    lits_end: usize,
+    hints_end: usize,
+}
+
+const _: () = prove!(size_of::<Head>() <= 24);
+
+/// The lines of a solver, in memory: 4 bytes for each literal, 8 for each hint, and 24 for each line.
+#[derive(Drop)]
+pub struct Log {
+    heads: Vec<Head>,
+    lits: Vec<Lit>,
+    hints: Vec<PackedHint>,
+}
+
+impl Model for Log {
+    ghost use Rattle.std.specs.Prelude.{List};
+    ghost use Rattle.lrat_log.specs.Log.{LogLine};
+
+    ghost Value = { List LogLine };
+
+    ghost use Rattle.lrat_log.specs.Flat.{lines_in, IsFlat};
+
+    ghost view = { λ l. lines_in l.heads.items l.lits.items l.hints.items };
+
+    ghost invariant = { λ l. IsFlat l.heads.items l.lits.items l.hints.items };
+}
+
+impl Log {
+    /// A log without lines.
+    pub fn new(alloc: Global) -> Self
+        ensures { result ≡ [] }
+    {
+        Log {
+            heads: Vec::new(alloc),
+            lits: Vec::new(alloc),
+            hints: Vec::new(alloc),
+        }
+    }
+
+    /// How many lines it has, fewer than 2^61.
+    pub fn len(&self) -> usize
+        ensures len { result ≡ length self.now }
+        ensures log { IsLog self.now }
+    {
+        self.heads.len()
+    }
+
+    /// Whether it has no lines.
+    pub fn is_empty(&self) -> bool
+        ensures { result ≡ (length self.now == 0) }
+    {
+        self.heads.is_empty()
+    }
+
+    /// What the line in this place, from 0, is for.
+    pub fn kind(&self, line: usize) -> Kind
+        requires { line < length self.now }
+        ensures { result ≡ (line_at self.now line).kind }
+    {
+        self.heads[line].kind
+    }
+
+    /// The literals of the line in this place, from 0.
+    pub fn lits(&self, line: usize) -> &[Lit]
+        requires { line < length self.now }
+        ensures { result.now ≡ (line_at self.now line).clause }
+    {
+        let (start, _) = ends(&self.heads, line);
+        let (end, _) = ends(&self.heads, line + 1);
+        part(&self.lits, start, end)
+    }
+
+    /// How many hints the line in this place, from 0, has.
+    pub fn hints_len(&self, line: usize) -> usize
+        requires { line < length self.now }
+        ensures { result ≡ length (line_at self.now line).hints }
+    {
+        self.packed_hints(line).len()
+    }
+
+    /// The hint in the place `index`, from 0, of the line in the place `line`, from 0.
+    pub fn hint(&self, line: usize, index: usize) -> Hint
+        requires line { line < length self.now }
+        requires index { index < length (line_at self.now line).hints }
+        ensures { slice_get (line_at self.now line).hints index ≡ Some result }
+    {
+        self.packed_hints(line)[index].hint()
+    }
+
+    /// What its memory comes from.
+    pub fn allocator(&self) -> Global {
+        *self.heads.allocator()
+    }
+
+    /// The hints of the line in this place, from 0.
+    fn packed_hints(&self, line: usize) -> &[PackedHint]
+        requires { line < length self.now }
+        ensures hints { result.now ≡ (line_at self.now line).hints }
+        ensures line { IsLine (line_at self.now line) }
+    {
+        let (_, start) = ends(&self.heads, line);
+        let (_, end) = ends(&self.heads, line + 1);
+        part(&self.hints, start, end)
+    }
+}
+
+impl Sink for Log {
+    ghost lines = { λ l. l };
+
+    fn append(&mut self, line: Line) -> Result<(), AllocError> {
+        if self.heads.len() >= LINE_LIMIT - 1 {
+            return Err(AllocError);
+        }
+        let lits = line.lits();
+        let hints = line.hints();
+        self.heads.reserve(1)?;
+        self.lits.reserve(lits.len())?;
+        push_hints(&mut self.hints, hints)?;
+        self.lits.extend_from_slice(lits)?;
+        let head = Head {
+            kind: line.kind(),
+            lits_end: self.lits.len(),
+            hints_end: self.hints.len(),
+        };
+        self.heads.push(head)?;
+        Ok(())
+    }
+
+    fn is_short(&self) {
+        let _ = &self.heads;
+    }
+}
+
+/// How many literals, and hints, the first lines have.
+fn ends(heads: &[Head], count: usize) -> (usize, usize)
+    requires { count ≤ length heads.now }
+    ensures lits { result.0 ≡ lits_before 0 heads.now count }
+    ensures hints { result.1 ≡ hints_before 0 heads.now count }
+{
+    if count == 0 {
+        return (0, 0);
+    }
+    let head = heads[count - 1];
+    (head.lits_end, head.hints_end)
+}
+
+/// The items from one place up to another.
+fn part<T>(items: &[T], start: usize, end: usize) -> &[T]
+    requires { (start ≤ end) × (end ≤ length items.now) }
+    ensures { result.now ≡ slice_range items.now start end }
+{
+    &items[start..end]
+}
+
+/// Packs the hints behind those that are kept.
+fn push_hints(kept: &mut Vec<PackedHint>, hints: &[Hint]) -> Result<(), AllocError>
+    ensures ok { OnOk result (kept.new.items ≡ kept.old.items ++ hints.now) }
+    ensures err { OnErr result (kept.new.items ≡ kept.old.items) }
+{
+    kept.reserve(hints.len())?;
+    for hint in hints {
+        kept.push(PackedHint::new(*hint))?;
+    }
+    Ok(())
+}
+
+/// The text of the log as an LRAT certificate (Cruz-Filipe et al. 2017), where the first addition has the id `base + 1`:
+/// a line for each line of the log, its tokens with single spaces, and a line feed behind each. An addition is spelled
+/// as its id, its literals, `0`, its hints and `0`, where a hint that begins a group is negative. A deletion is spelled
+/// as the last id that was given, `d`, the ids that are deleted and `0`.
+///
+/// # Errors
+///
+/// `AllocError` where memory for the text was refused.
+pub fn render(log: &Log, base: u64) -> Result<Vec<u8>, AllocError>
+    requires room { base + length log.now < 2 ^ 62 }
+    requires ids { HasSmallIds base log.now }
+    ensures text { IfOk result (λ bytes. bytes.items ≡ text_of base log.now) }
+    ensures lines { IfOk result (λ bytes. IsTextOf bytes.items (numbered_lines base log.now)) }
+{
+    let mut bytes = Vec::new(log.allocator());
+    // a vector fails to take bytes only where its growth was refused
+    match write_to(log, base, &mut bytes) {
+        Ok(()) => Ok(bytes),
+        Err(WriteFault) => Err(AllocError),
+    }
+}
+
+/// Writes the text that [`render`] gives, in pieces of some thousands of bytes. The writer is not flushed. No memory is
+/// asked for.
+///
+/// # Errors
+///
+/// `WriteFault` where the writer answered `Err`, or took none of the bytes that it was given. It has then a beginning of
+/// the text, and is not called again.
+pub fn write_to<W: Write>(log: &Log, base: u64, writer: &mut W) -> Result<(), WriteFault>
+    requires room { base + length log.now < 2 ^ 62 }
+    requires ids { HasSmallIds base log.now }
+    ensures ok { OnOk result (Appends (W.contents writer.old) (W.contents writer.new) (text_of base log.now)) }
+    ensures fault { OnErr result (AppendsPart (W.contents writer.old) (W.contents writer.new) (text_of base log.now)) }
+    ensures lines { IsTextOf (text_of base log.now) (numbered_lines base log.now) }
+{
+    let mut block = Block::new();
+    let mut last = base;
+    for line in 0..log.len() {
+        last = put_line(&mut block, writer, log, base, line, last)?;
+    }
+    block.flush(writer)
+}
+
+/// Puts the line in this place, where `last` is the last id that was given before; answers the last one after it.
+fn put_line<W: Write>(
+    block: &mut Block,
+    writer: &mut W,
+    log: &Log,
+    base: u64,
+    line: usize,
+    last: u64,
+) -> Result<u64, WriteFault>
+    requires line { line < length log.now }
+    requires last { last < 2 ^ 62 }
+    requires ids { HasSmallIds base log.now }
+    ensures ok { OnOk result (PassesOn (W.contents writer.old) block.old (line_text (numbered_after base last (line_at log.now line))) (W.contents writer.new) block.new) }
+    ensures fault { OnErr result (AppendsPart (W.contents writer.old) (W.contents writer.new) (block.old ++ line_text (numbered_after base last (line_at log.now line)))) }
+    ensures last { IfOk result (λ next. next ≡ last_after last (line_at log.now line)) }
+{
+    let hints = log.packed_hints(line);
+    if log.kind(line).is_delete() {
+        put_deletion(block, writer, base, last, hints)?;
+        Ok(last)
+    } else {
+        put_addition(block, writer, base, last + 1, log.lits(line), hints)?;
+        Ok(last + 1)
+    }
+}

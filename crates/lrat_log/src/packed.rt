@@ -1,0 +1,105 @@
+// Hints as the log keeps them: a log has many more hints than lines, so each takes one word.
+ghost use Rattle.std.specs.Prelude.{◌≡◌, ◌<◌, ◌≤◌, ◌-◌, ◌^◌};
+ghost use Rattle.lrat_log.specs.Log.{id_of, name_of, is_group, is_added};
+ghost use Rattle.lrat_log.specs.Packed.{name_code};
+
+use crate::lines::{Hint, Name, Number};
+use std::marker::Model;
+
+/// A hint in eight bytes: four times its number, with two more where it names an addition, and one more where it begins
+/// a group.
+#[derive(Clone, Copy, Debug, PartialEq, Eq, Drop)]
+pub struct PackedHint {
+    code: u64,
+}
+
+impl Model for PackedHint {
+    ghost use Rattle.std.specs.Prelude.{◌≤◌};
+    ghost use Rattle.lrat_log.specs.declared.lines.Hint.{Hint};
+
+    ghost Value = { Hint };
+
+    ghost use Rattle.lrat_log.specs.Packed.{hint_in, code_of, code_of-hint_in};
+
+    ghost view = { hint_in };
+
+    ghost invariant = { λ h. 4 ≤ h.code };
+
+    ghost inverse = { code_of };
+
+    ghost inverse_ok = { λ h _. code_of-hint_in h };
+}
+
+const _: () = prove!(size_of::<PackedHint>() == 8);
+
+impl PackedHint {
+    /// The hint, packed.
+    pub fn new(hint: Hint) -> Self
+        ensures { result ≡ hint }
+    {
+        match hint {
+            Hint::Plain(name) => PackedHint {
+                code: packed_name(name),
+            },
+            Hint::Group(name) => PackedHint {
+                code: packed_name(name) + 1,
+            },
+        }
+    }
+
+    /// The hint itself.
+    pub fn hint(self) -> Hint
+        ensures { result ≡ self }
+    {
+        let number = Number::new(self.code / 4);
+        let name = if self.names_addition() {
+            Name::Added(number)
+        } else {
+            Name::Formula(number)
+        };
+        if self.is_group() {
+            Hint::Group(name)
+        } else {
+            Hint::Plain(name)
+        }
+    }
+
+    /// Whether the hint begins a group.
+    pub fn is_group(self) -> bool
+        ensures { result ≡ is_group self }
+    {
+        self.code % 2 == 1
+    }
+
+    /// The id of the clause that the hint names, where the first addition has the id `base + 1`.
+    pub fn id(self, base: u64) -> u64
+        requires { id_of base (name_of self) < 2 ^ 62 }
+        ensures { result ≡ id_of base (name_of self) }
+    {
+        let number = self.code / 4;
+        if self.names_addition() {
+            base + number
+        } else {
+            number
+        }
+    }
+
+    /// Whether the hint names an addition.
+    fn names_addition(self) -> bool
+        ensures { result ≡ is_added (name_of self) }
+    {
+        self.code / 2 % 2 == 1
+    }
+}
+
+/// A name as it stands in a packed hint.
+fn packed_name(name: Name) -> u64
+    ensures code { result ≡ name_code name }
+    ensures from_four { 4 ≤ result }
+    ensures small { result < 2 ^ 64 - 1 }
+{
+    match name {
+        Name::Formula(number) => 4 * number.get(),
+        Name::Added(number) => 4 * number.get() + 2,
+    }
+}

@@ -1,0 +1,129 @@
+// The lines of a certificate, on their way to a writer.
+ghost use Rattle.std.specs.Prelude.{◌≡◌, ◌<◌, ◌≤◌, ◌^◌, ◌++◌, length, map, drop, slice_index, All, OnOk, OnErr};
+ghost use Rattle.wcnf.specs.Lrat.{Addition, Deletion};
+ghost use Rattle.wcnf.specs.Writing.{AppendsPart, PassesOn};
+ghost use Rattle.lrat_log.specs.Log.{IsPlain, id_of, name_of, leading_ids, group_ids};
+ghost use Rattle.lrat_log.specs.Texts.{number_text, literals_text, hints_text, end_text, line_text};
+
+use crate::packed::PackedHint;
+use itoa::write_digits;
+use std::io::Write;
+use wcnf::faults::WriteFault;
+use wcnf::output::Block;
+use wcnf::types::Lit;
+
+/// Room for a dash, the 20 digits of the largest number, and a space.
+const NUMBER_ROOM: usize = 22;
+
+/// Puts the line that adds a clause under this id, by these hints.
+pub fn put_addition<W: Write>(
+    block: &mut Block,
+    writer: &mut W,
+    base: u64,
+    id: u64,
+    lits: &[Lit],
+    hints: &[PackedHint],
+) -> Result<(), WriteFault>
+    requires { All (λ h. id_of base (name_of h) < 2 ^ 62) hints.now }
+    ensures ok { OnOk result (PassesOn (W.contents writer.old) block.old (line_text (Addition id lits.now (leading_ids base hints.now) (group_ids base hints.now))) (W.contents writer.new) block.new) }
+    ensures fault { OnErr result (AppendsPart (W.contents writer.old) (W.contents writer.new) (block.old ++ line_text (Addition id lits.now (leading_ids base hints.now) (group_ids base hints.now)))) }
+{
+    put_number(block, writer, false, id)?;
+    put_literals(block, writer, lits)?;
+    put_end(block, writer, b"0 ", base, hints)
+}
+
+/// Puts the line that deletes the clauses that these hints name.
+pub fn put_deletion<W: Write>(
+    block: &mut Block,
+    writer: &mut W,
+    base: u64,
+    lead: u64,
+    hints: &[PackedHint],
+) -> Result<(), WriteFault>
+    requires small { All (λ h. id_of base (name_of h) < 2 ^ 62) hints.now }
+    requires plain { All IsPlain hints.now }
+    ensures ok { OnOk result (PassesOn (W.contents writer.old) block.old (line_text (Deletion lead (map (λ h. id_of base (name_of h)) hints.now))) (W.contents writer.new) block.new) }
+    ensures fault { OnErr result (AppendsPart (W.contents writer.old) (W.contents writer.new) (block.old ++ line_text (Deletion lead (map (λ h. id_of base (name_of h)) hints.now)))) }
+{
+    put_number(block, writer, false, lead)?;
+    put_end(block, writer, b"d ", base, hints)
+}
+
+/// Puts a word, the hints and the 0 that ends the line.
+fn put_end<W: Write>(
+    block: &mut Block,
+    writer: &mut W,
+    word: &[u8],
+    base: u64,
+    hints: &[PackedHint],
+) -> Result<(), WriteFault>
+    requires { All (λ h. id_of base (name_of h) < 2 ^ 62) hints.now }
+    ensures ok { OnOk result (PassesOn (W.contents writer.old) block.old (end_text word.now base hints.now) (W.contents writer.new) block.new) }
+    ensures fault { OnErr result (AppendsPart (W.contents writer.old) (W.contents writer.new) (block.old ++ end_text word.now base hints.now)) }
+{
+    block.put(writer, word)?;
+    put_hints(block, writer, base, hints)?;
+    block.put(writer, b"0\n")
+}
+
+/// Puts the hints, each with a space behind it.
+fn put_hints<W: Write>(
+    block: &mut Block,
+    writer: &mut W,
+    base: u64,
+    hints: &[PackedHint],
+) -> Result<(), WriteFault>
+    requires { All (λ h. id_of base (name_of h) < 2 ^ 62) hints.now }
+    ensures ok { OnOk result (PassesOn (W.contents writer.old) block.old (hints_text base hints.now) (W.contents writer.new) block.new) }
+    ensures fault { OnErr result (AppendsPart (W.contents writer.old) (W.contents writer.new) (block.old ++ hints_text base hints.now)) }
+{
+    for hint in hints {
+        put_number(block, writer, hint.is_group(), hint.id(base))?;
+    }
+    Ok(())
+}
+
+/// Puts the literals, each with a space behind it.
+fn put_literals<W: Write>(
+    block: &mut Block,
+    writer: &mut W,
+    lits: &[Lit],
+) -> Result<(), WriteFault>
+    ensures ok { OnOk result (PassesOn (W.contents writer.old) block.old (literals_text lits.now) (W.contents writer.new) block.new) }
+    ensures fault { OnErr result (AppendsPart (W.contents writer.old) (W.contents writer.new) (block.old ++ literals_text lits.now)) }
+{
+    for lit in lits {
+        put_number(block, writer, lit.is_negated(), u64::from(lit.variable()))?;
+    }
+    Ok(())
+}
+
+/// Puts the number, with a dash before it where `negative` is set, and a space behind it.
+fn put_number<W: Write>(
+    block: &mut Block,
+    writer: &mut W,
+    negative: bool,
+    number: u64,
+) -> Result<(), WriteFault>
+    ensures ok { OnOk result (PassesOn (W.contents writer.old) block.old (number_text negative number) (W.contents writer.new) block.new) }
+    ensures fault { OnErr result (AppendsPart (W.contents writer.old) (W.contents writer.new) (block.old ++ number_text negative number)) }
+{
+    let mut room = [b' '; NUMBER_ROOM];
+    let start = spell(negative, number, &mut room);
+    block.put(writer, &room[start..])
+}
+
+/// Spells the number before the last byte of the room; answers where it begins.
+fn spell(negative: bool, number: u64, room: &mut [u8; NUMBER_ROOM]) -> usize
+    requires { slice_index room.old 21 ≡ 32 }
+    ensures within { result ≤ 22 }
+    ensures text { drop result room.new ≡ number_text negative number }
+{
+    let start = write_digits(number, room, NUMBER_ROOM - 1);
+    if !negative {
+        return start;
+    }
+    room[start - 1] = b'-';
+    start - 1
+}
