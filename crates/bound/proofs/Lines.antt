@@ -1,7 +1,6 @@
 -- The lines of a DIMACS text, as they are put together.
-use Rattle.std.proofs.Common.{◌≡◌, ℕ, ◌+◌, ◌<◌, ◌≤◌, List, [], ◌∷◌, ◌++◌, length, map, take, drop, get_or, Option, refl, sym, ◌∙◌, ap, subst, append_assoc, append-nil, take-append-drop}
+use Rattle.std.proofs.Common.{◌≡◌, ℕ, ◌+◌, ◌<◌, ◌≤◌, List, [], ◌∷◌, ◌++◌, length, map, take, get_or, Option, refl, sym, ◌∙◌, ap, subst, append-nil}
 use Rattle.std.specs.List.{flat_map}
-use Rattle.std.proofs.lemmas.List.{take_more, drop_more, take_all}
 use Rattle.std.specs.Io.KnownBytes.{Appends}
 use Rattle.std.specs.Fmt.{decimal}
 use lib.Chars.{codes}
@@ -10,7 +9,7 @@ use Rattle.wcnf.specs.Text.{literal_text}
 use Rattle.wcnf.specs.Formula.{Cnf}
 use Rattle.wcnf.specs.Writing.{PassesOn, AppendsPart}
 use Rattle.wcnf.proofs.Items.{items_more, items_fault, all_taken}
-use Rattle.wcnf.proofs.Passing.{first_fault, passed-more, passed_fault, passed_part-more, passed_part, passed_whole, spaced-last}
+use Rattle.wcnf.proofs.Passing.{first_fault, passed-more, passed_part-more, passed_part, passed_whole, spaced-last}
 use Rattle.bound.specs.Bound.{dimacs_clause, dimacs_header, dimacs_text}
 
 abbrev pub literals_text : List Literal → List ℕ
@@ -25,18 +24,13 @@ clause_line c = spaced-last (map literal_text c) (codes "0") ∙ ap (λ z. z ++ 
 
 -- the line of a clause
 module _ (a b c : Option (List ℕ)) (h j k : List ℕ) (lits : List Literal) (i : ℕ) where
-  pub literal_fault : (l : Literal) → i < length lits → l ≡ get_or lits i l → PassesOn a h (literals_text (take i lits)) b j → AppendsPart b c (j ++ literal_text l) → AppendsPart a c (h ++ dimacs_clause lits)
-  literal_fault l lt is p q = rw (clause_line lits) (items_fault (λ x. literal_text x ++ 32 ∷ []) a b c h j [] (literal_text l) (32 ∷ []) (codes "0\n") lits i l lt is refl p q)
+  pub literal_fault : (l : Literal) → i < length lits → l ≡ get_or lits i l → PassesOn a h (literals_text (take i lits)) b j → AppendsPart b c (j ++ (literal_text l ++ 32 ∷ [])) → AppendsPart a c (h ++ dimacs_clause lits)
+  literal_fault l lt is p q =
+      let whole = literal_text l ++ 32 ∷ [] in
+      rw (clause_line lits) (items_fault (λ x. literal_text x ++ 32 ∷ []) a b c h j [] whole [] (codes "0\n") lits i l lt is (sym (append-nil whole)) p q)
 
-  pub space_fault : (d : Option (List ℕ)) (l : Literal) → i < length lits → l ≡ get_or lits i l → PassesOn a h (literals_text (take i lits)) b j → PassesOn b j (literal_text l) c k → AppendsPart c d (k ++ 32 ∷ [])
-      → AppendsPart a d (h ++ dimacs_clause lits)
-  space_fault d l lt is p q r =
-      let whole = passed_part-more b c d j k (literal_text l) (32 ∷ []) q r in
-      rw (clause_line lits) (items_fault (λ x. literal_text x ++ 32 ∷ []) a b d h j [] (literal_text l ++ 32 ∷ []) [] (codes "0\n") lits i l lt is (sym (append-nil (literal_text l ++ 32 ∷ []))) p whole)
-
-  pub literal_more : (d : Option (List ℕ)) (n : List ℕ) (l : Literal) → i < length lits → l ≡ get_or lits i l → PassesOn a h (literals_text (take i lits)) b j → PassesOn b j (literal_text l) c k → PassesOn c k (32 ∷ []) d n
-      → PassesOn a h (literals_text (take (i + 1) lits)) d n
-  literal_more d n l lt is p q r = items_more (λ x. literal_text x ++ 32 ∷ []) a b d h j n [] lits i l lt is p (passed-more b c d j k n (literal_text l) (32 ∷ []) q r)
+  pub literal_more : (l : Literal) → i < length lits → l ≡ get_or lits i l → PassesOn a h (literals_text (take i lits)) b j → PassesOn b j (literal_text l ++ 32 ∷ []) c k → PassesOn a h (literals_text (take (i + 1) lits)) c k
+  literal_more l lt is p q = items_more (λ x. literal_text x ++ 32 ∷ []) a b c h j k [] lits i l lt is p q
 
   pub clause_end : length lits ≤ i → PassesOn a h (literals_text (take i lits)) b j → PassesOn b j (48 ∷ 10 ∷ []) c k → PassesOn a h (dimacs_clause lits) c k
   clause_end le p q = rw (clause_line lits, ← all_taken (λ x. literal_text x ++ 32 ∷ []) lits i le) (passed-more a b c h j k (literals_text (take i lits)) (codes "0\n") p q)

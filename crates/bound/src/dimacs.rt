@@ -52,8 +52,7 @@ fn put_clause<W: Write>(block: &mut Block, writer: &mut W, lits: &[Lit]) -> Resu
     ensures fault { OnErr result (AppendsPart (W.contents writer.old) (W.contents writer.new) (block.old ++ dimacs_clause lits.now)) }
 {
     for lit in lits {
-        block.put_literal(writer, *lit)?;
-        block.put(writer, b" ")?;
+        block.put_spaced(writer, *lit)?;
     }
     block.put(writer, b"0\n")
 }

@@ -9,8 +9,10 @@ use crate::marks::Marks;
 use std::alloc::{AllocError, Global};
 use wcnf::types::{Clause, Lit};
 
-/// Adds the clause of the literals, of which none stands twice, unless some literal stands with its
-/// negation. Its time is linear in their number.
+/// Clauses up to this length are searched for opposites pair by pair, which takes fewer steps than marks do.
+const FEW: usize = 8;
+
+/// Adds the clause of the literals, of which none stands twice, unless some literal stands with its negation.
 pub(crate) fn keep(
     clauses: &mut Vec<Clause>,
     marks: &mut Marks,
@@ -21,14 +23,26 @@ pub(crate) fn keep(
     ensures clauses { OnOk result (clauses.new.items ≡ clauses.old.items ++ kept (lits.items ∷ [])) }
     ensures marks { marks.new ≡ marks.old }
 {
-    if !marks.has_opposites(&lits) {
+    if !are_opposed(marks, &lits) {
         clauses.push(Clause::new(lits))?;
     }
     Ok(())
 }
 
-/// As `keep`, for a few literals, of which some may stand twice. Its time is quadratic in their
-/// number.
+/// Whether some literal stands with its negation, in time linear in their number.
+fn are_opposed(marks: &mut Marks, lits: &[Lit]) -> bool
+    requires { All (HasPlace marks.old) lits.now }
+    ensures value { result ≡ has_opposites lits.now }
+    ensures marks { marks.new ≡ marks.old }
+{
+    if lits.len() <= FEW {
+        has_opposites(lits)
+    } else {
+        marks.has_opposites(lits)
+    }
+}
+
+/// As `keep`, for a few literals, of which some may stand twice. Its time is quadratic in their number.
 pub(crate) fn keep_short(clauses: &mut Vec<Clause>, lits: &[Lit]) -> Result<(), AllocError>
     ensures { OnOk result (clauses.new.items ≡ clauses.old.items ++ kept (lits.now ∷ [])) }
 {

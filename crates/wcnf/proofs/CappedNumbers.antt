@@ -20,7 +20,7 @@ capped-digit v d =
       | inr low ↦ ap (λ n. capped (10 * n + d)) (capped-low v low)
     ]
 
-value_on-push : (n : ℕ) (ds : List ℕ) (b : ℕ) → value_on n (ds ++ b ∷ []) ≡ 10 * value_on n ds + (b - 48)
+pub value_on-push : (n : ℕ) (ds : List ℕ) (b : ℕ) → value_on n (ds ++ b ∷ []) ≡ 10 * value_on n ds + (b - 48)
 value_on-push n [] b = refl
 value_on-push n (c ∷ cs) b = value_on-push (10 * n + (c - 48)) cs b
 

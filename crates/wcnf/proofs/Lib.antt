@@ -11,7 +11,9 @@ pub mod Zeros
 pub mod FirstPieces
 pub mod CappedNumbers
 pub mod Judgement
+pub mod DigitCounts
 pub mod Drafting
 pub mod Limits
 pub mod FromLines
 pub mod Items
+pub mod AheadLaws

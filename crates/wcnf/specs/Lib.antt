@@ -10,6 +10,7 @@ pub mod Wcnf
 pub mod Reading
 pub mod Drafts
 pub mod Seen
+pub mod Ahead
 pub mod Formula
 pub mod Refute
 pub mod Lrat

@@ -96,8 +96,8 @@ impl Gathering {
     {
         self.clear();
         let mut count = before;
-        while let Some(token) = words.next() {
-            match read_word(token) {
+        while let Some(word) = words.next_word() {
+            match word {
                 Word::Literal(lit) => {
                     if count >= LITERALS_LIMIT {
                         return Err(FaultKind::TooMany);

@@ -1,10 +1,12 @@
 // What goes over the lines of a text, and over the tokens of a line, without a copy: each item is a part of the bytes that were given.
-ghost use Rattle.std.specs.Prelude.{◌≡◌, ◌≤◌, length};
+ghost use Rattle.std.specs.Prelude.{◌≡◌, ◌≤◌, [], length, MatchOption};
 ghost use Rattle.std.specs.Iterator.{YieldsFirstBy, YieldsFirstRef, item_count};
 ghost use Rattle.std.specs.List.{prefix_len, position_or_len};
 ghost use Rattle.std.specs.Str.Lines.{strip_carriage_return};
+ghost use Rattle.wcnf.specs.Ahead.{IsNextWord};
 ghost use Rattle.wcnf.specs.Text.{is_blank, numbered_text, tokens_of};
 
+use crate::words::{Word, begins_with, literal_at, read_word};
 use memchr::memchr;
 use std::marker::Model;
 
@@ -96,6 +98,23 @@ impl<'a> Tokens<'a> {
     {
         Tokens { rest }
     }
+
+    /// What the next token says. A literal after one space, as most tokens are, is read in one pass over its bytes.
+    pub(crate) fn next_word(&mut self) -> Option<Word>
+        ensures { MatchOption result (self.old ≡ []) (λ w. IsNextWord self.old w self.new) }
+    {
+        if begins_with(self.rest, b' ') {
+            let rest = &self.rest[1..];
+            if let Some(found) = literal_at(rest) {
+                self.rest = &rest[found.1..];
+                return Some(Word::Literal(found.0));
+            }
+        }
+        match self.next() {
+            None => None,
+            Some(token) => Some(read_word(token)),
+        }
+    }
 }
 
 impl<'a> Iterator for Tokens<'a> {
@@ -117,7 +136,7 @@ impl<'a> Iterator for Tokens<'a> {
     }
 }
 
-fn is_blank(byte: u8) -> bool
+pub(crate) fn is_blank(byte: u8) -> bool
     ensures { result ≡ is_blank byte }
 {
     byte == b' ' || byte == b'\t'

@@ -1,8 +1,10 @@
 // The tokens of a clause line after its first: literals, and the 0 that ends the clause.
-ghost use Rattle.std.specs.Prelude.{◌≡◌, ◌<◌};
+ghost use Rattle.std.specs.Prelude.{◌≡◌, ◌<◌, true, length, slice_index, ◌==◌, IfSome};
+ghost use Rattle.wcnf.specs.Ahead.{BeginsWithDigits, BeginsWithVariable, BeginsWithLiteral};
 ghost use Rattle.wcnf.specs.Reading.{word_of, Literal_word};
 ghost use Rattle.wcnf.specs.Seen.{seen};
 
+use crate::pieces::is_blank;
 use crate::text::number;
 use crate::types::Lit;
 
@@ -49,4 +51,60 @@ fn literal(variable: u64, negated: bool) -> Word
     } else {
         Word::Literal(Lit::new(variable as u32, negated))
     }
+}
+
+/// The literal that is the first token, and how many bytes it takes, told in one pass over these. `None` says nothing of
+/// the bytes: then the token is to be read by `read_word`.
+pub(crate) fn literal_at(bytes: &[u8]) -> Option<(Lit, usize)>
+    ensures { IfSome result (λ r. BeginsWithLiteral bytes.now r.0 r.1) }
+{
+    let negated = begins_with(bytes, b'-');
+    let dash = usize::from(negated);
+    let (variable, count) = variable_at(&bytes[dash..])?;
+    Some((Lit::new(variable, negated), count + dash))
+}
+
+/// Whether this is the first byte.
+pub(crate) fn begins_with(bytes: &[u8], byte: u8) -> bool
+    requires { 0 < byte }
+    ensures first { result ≡ (slice_index bytes.now 0 == byte) }
+    ensures some { result ≡ true → 0 < length bytes.now }
+{
+    !bytes.is_empty() && bytes[0] == byte
+}
+
+/// The variable whose digits are the first token, and how many they are.
+fn variable_at(bytes: &[u8]) -> Option<(u32, usize)>
+    ensures { IfSome result (λ r. BeginsWithVariable bytes.now r.0 r.1) }
+{
+    if begins_with(bytes, b'0') {
+        return None;
+    }
+    let (value, count) = digits_at(bytes)?;
+    if value == 0 {
+        return None;
+    }
+    Some((value, count))
+}
+
+/// The value of the digits up to the first blank, and how many they are; `None` where some byte there is no digit, or the
+/// value is above the limit.
+fn digits_at(bytes: &[u8]) -> Option<(u32, usize)>
+    ensures { IfSome result (λ r. BeginsWithDigits bytes.now r.0 r.1) }
+{
+    let mut value: u32 = 0;
+    for (i, byte) in bytes.iter().enumerate() {
+        if !byte.is_ascii_digit() {
+            return if is_blank(*byte) {
+                Some((value, i))
+            } else {
+                None
+            };
+        }
+        value = 10 * value + u32::from(*byte - b'0');
+        if value > GREATEST_VARIABLE as u32 {
+            return None;
+        }
+    }
+    Some((value, bytes.len()))
 }

@@ -10,7 +10,7 @@ returns-in_ok-push-clause-clauses c =
     let pushed : c.push.new.self.items ≡ c.args.clauses.now.items ++ c.args.lits.items ∷ [] = cc (c.in_ok-push.ensures.items) in
     pushed ∙ kept_itself c.args.clauses.now.items c.args.lits.items c.requires.no_repeat e
 
-pub returns-else-not-has_opposites-clause-clauses : goal.returns-else-not-has_opposites-clause-clauses
-returns-else-not-has_opposites-clause-clauses c =
+pub returns-else-not-are_opposed-clause-clauses : goal.returns-else-not-are_opposed-clause-clauses
+returns-else-not-are_opposed-clause-clauses c =
     let e : has_opposites c.args.lits.items ≡ true = cc in
     kept_none c.args.clauses.now.items c.args.lits.items c.requires.no_repeat e

@@ -3,8 +3,8 @@ use Rattle.std.proofs.Common.{◌≡◌, ◌≤◌, ◌^◌, length}
 use Rattle.wcnf.specs.Drafts.{gathered_at}
 use Rattle.wcnf.proofs.gathering.Gathering.read.Given as goal
 
-abbrev pub invariant-loop-token : goal.invariant-loop-token
-invariant-loop-token l = (l.count ≤ 2 ^ 26) × (gathered_at l.self l.count l.words ≡ gathered_at l.initial.self l.initial.count l.initial.words)
+abbrev pub invariant-loop-word : goal.invariant-loop-word
+invariant-loop-word l = (l.count ≤ 2 ^ 26) × (gathered_at l.self l.count l.words ≡ gathered_at l.initial.self l.initial.count l.initial.words)
 
-abbrev pub decreases-loop-token : goal.decreases-loop-token
-decreases-loop-token l = length l.words
+abbrev pub decreases-loop-word : goal.decreases-loop-word
+decreases-loop-word l = length l.words

@@ -1,0 +1,36 @@
+-- What stands at the beginning of the bytes of a line.
+use Rattle.std.specs.Prelude.{◌≡◌, ℕ, ◌<◌, ◌≤◌, true, List, ◌∷◌, length, take, Some, slice_index}
+use Rattle.std.specs.List.{position_or_len}
+use Rattle.wcnf.specs.Literal as literals
+use Rattle.wcnf.specs.Text.{is_blank, is_digit, value_on, number_of}
+use Rattle.wcnf.specs.Reading as text
+use Rattle.wcnf.specs.Seen.{seen}
+use Rattle.wcnf.specs.declared.words.Word.{Word}
+
+-- the first n bytes are digits with this value, and a blank or nothing comes after them
+pub record BeginsWithDigits (bytes : List ℕ) (v n : ℕ) : Type 0 where
+  pub digits : (k : ℕ) → k < n → is_digit (slice_index bytes k) ≡ true
+  pub value : v ≡ value_on 0 (take n bytes)
+  pub most : v ≤ 4194304
+  pub end : n < length bytes → is_blank (slice_index bytes n) ≡ true
+  pub within : n ≤ length bytes
+
+-- the first n bytes spell a variable within the limit, and a blank or nothing comes after them
+pub record BeginsWithVariable (bytes : List ℕ) (v n : ℕ) : Type 0 where
+  pub number : number_of (take n bytes) ≡ Some v
+  pub positive : 0 < v
+  pub most : v ≤ 4194304
+  pub token : position_or_len is_blank bytes ≡ n
+  pub within : n ≤ length bytes
+
+-- the first n bytes are a token that spells a literal within the limit
+pub record BeginsWithLiteral (bytes : List ℕ) (l : literals.Literal) (n : ℕ) : Type 0 where
+  pub word : text.word_of (take n bytes) ≡ text.Literal_word l
+  pub most : l.variable ≤ 4194304
+  pub token : position_or_len is_blank bytes ≡ n
+  pub some : 0 < n
+  pub within : n ≤ length bytes
+
+-- w is what the first of the tokens says, and left are those after it
+abbrev pub IsNextWord : List (List ℕ) → Word → List (List ℕ) → Type 0
+IsNextWord ts w left = (t : List ℕ) × (ts ≡ t ∷ left) × (w ≡ seen (text.word_of t))
