@@ -13,9 +13,6 @@ use Rattle.lrat_check.specs.Steps.{HaveSame, EndAlike}
 use Rattle.lrat_check.proofs.Walk.{outcome_on, outcome_is}
 use Rattle.lrat_check.proofs.Steps.{IsTrueAlready, group_dead, group_silent, group_walks}
 
-pub HaveSame-swap : (A B : List Literal) → HaveSame A B → HaveSame B A
-HaveSame-swap A B s = λ l. sym (s l)
-
 pub HaveSame-cons : (l : Literal) (A B : List Literal) → HaveSame A B → HaveSame (l ∷ A) (l ∷ B)
 HaveSame-cons l A B s = λ k. let e = s k in cc
 

@@ -1,5 +1,5 @@
 -- A result that is read line by line.
-use Rattle.std.proofs.Common.{◌≡◌, ℕ, ◌+◌, List, [], ◌∷◌, map, Result, Ok, Err, refl, sym, ◌∙◌, ap, subst}
+use Rattle.std.proofs.Common.{◌≡◌, ℕ, ◌+◌, List, [], ◌∷◌, map, Ok, Err, refl, sym, ◌∙◌, ap}
 use Rattle.std.specs.List.{enumerate_from}
 use Rattle.wcnf.specs.Text.{tokens_of}
 use Rattle.lrat_check.specs.declared.answer.Answer.{Answer}

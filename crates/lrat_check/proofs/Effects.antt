@@ -2,7 +2,7 @@
 use Rattle.std.proofs.Common.{◌≡◌, ℕ, ◌+◌, ◌<◌, ◌≤◌, Bool, true, false, not, List, [], ◌∷◌, ◌++◌, map, length, get_or, take, drop, Option, Some, None, is_some, refl, sym, ◌∙◌, ap, subst, inl, inr, arith, take-append-drop}
 use Rattle.std.proofs.Math.Bool.{cond}
 use Rattle.std.specs.Prelude.{All, ◌==◌}
-use Rattle.std.proofs.lemmas.List.{drop_more, drop_all, get_or_default, take-append-le, length-take}
+use Rattle.std.proofs.lemmas.List.{drop_more, get_or_default, take-append-le, length-take}
 use Rattle.std.specs.Option.{option_to_list}
 use Rattle.std.proofs.lemmas.Bool.{or_cases, false≢true}
 use Rattle.std.proofs.lemmas.List.Elements.{All-head, All-tail}
@@ -12,8 +12,8 @@ use Rattle.wcnf.specs.Refute.{Clauses}
 use Rattle.wcnf.proofs.Sound.{literal_eq-true}
 use Rattle.lrat_check.specs.Assumed.{AreWithin}
 use Rattle.lrat_check.specs.Listed.{listed_at}
-use Rattle.lrat_check.specs.declared.verdicts.Cause.TheVariants.{DeadId, HintNotUnit, HintAfterConflict}
-use Rattle.lrat_check.specs.Verdict.{Refuted, Fault, NotUnit, Conflict, Makes, open_literals, outcome_of, goes_on, walk}
+use Rattle.lrat_check.specs.declared.verdicts.Cause.TheVariants.{HintAfterConflict}
+use Rattle.lrat_check.specs.Verdict.{Fault, NotUnit, Conflict, Makes, open_literals, outcome_of, goes_on, walk}
 use Rattle.lrat_check.specs.Steps.{EndAlike}
 use Rattle.lrat_check.proofs.Walk.{outcome_on, outcome_is, makes_means}
 use Rattle.lrat_check.proofs.Members.{HaveSame-push}
@@ -58,9 +58,6 @@ makes_within n A c l w e =
     let same : m.0 ≡ c = cc in
     member_within n l c w (subst (λ d. contains_literal l d ≡ true) same m.2.member)
 
-pub makes_open : (A c : List Literal) (l : Literal) → outcome_of (Some c) A ≡ Makes l → contains_literal l A ≡ false
-makes_open A c l e = (makes_means (Some c) A l e).2.not_true
-
 -- a clause of the list
 pub listed_within : (n : ℕ) (es : List (ℕ × List Literal)) (i : ℕ) (c : List Literal) → All (λ e. AreWithin n e.1) es → listed_at es i ≡ Some c → AreWithin n c
 listed_within n [] i c w e = absurd (cc)
@@ -76,19 +73,6 @@ ids_from hs i = map (λ h. h.1) (drop i hs)
 
 pub walk_at : (at : Clauses) (T : List Literal) (hs : List (Bool × ℕ)) (i : ℕ) (h : Bool × ℕ) → i < length hs → h ≡ get_or hs i h → walk at T (ids_from hs i) ≡ goes_on (outcome_of (at h.1) T) (ids_from hs (i + 1)) (λ l. walk at (l ∷ T) (ids_from hs (i + 1)))
 walk_at at T hs i h lt e = ap (λ xs. walk at T (map (λ x. x.1) xs)) (drop_at hs i h lt e)
-
-pub walk_dead : (at : Clauses) (T : List Literal) (hs : List (Bool × ℕ)) (i : ℕ) (h : Bool × ℕ) → i < length hs → h ≡ get_or hs i h → at h.1 ≡ None → walk at T (ids_from hs i) ≡ Fault DeadId
-walk_dead at T hs i h lt e n = walk_at at T hs i h lt e ∙ rw n refl
-
-pub walk_not_unit : (at : Clauses) (T : List Literal) (hs : List (Bool × ℕ)) (i : ℕ) (h : Bool × ℕ) (c : List Literal) → i < length hs → h ≡ get_or hs i h → at h.1 ≡ Some c → outcome_of (Some c) T ≡ NotUnit → walk at T (ids_from hs i) ≡ Fault HintNotUnit
-walk_not_unit at T hs i h c lt e n o =
-    walk_at at T hs i h lt e ∙ ap (λ x. goes_on x (ids_from hs (i + 1)) (λ l. walk at (l ∷ T) (ids_from hs (i + 1)))) (ap (λ y. outcome_of y T) n ∙ o)
-
-pub walk_conflict : (at : Clauses) (T : List Literal) (hs : List (Bool × ℕ)) (i : ℕ) (h : Bool × ℕ) (c : List Literal) → i < length hs → h ≡ get_or hs i h → at h.1 ≡ Some c → outcome_of (Some c) T ≡ Conflict → length hs ≤ i + 1 → walk at T (ids_from hs i) ≡ Refuted
-walk_conflict at T hs i h c lt e n o end =
-    let none : ids_from hs (i + 1) ≡ [] = ap (map (λ x. x.1)) (drop_all (i + 1) hs end) in
-    walk_at at T hs i h lt e ∙ ap (λ x. goes_on x (ids_from hs (i + 1)) (λ l. walk at (l ∷ T) (ids_from hs (i + 1)))) (ap (λ y. outcome_of y T) n ∙ o)
-    ∙ ap (λ xs. goes_on Conflict xs (λ l. walk at (l ∷ T) (ids_from hs (i + 1)))) none
 
 pub walk_past_conflict : (at : Clauses) (T : List Literal) (hs : List (Bool × ℕ)) (i : ℕ) (h : Bool × ℕ) (c : List Literal) → i < length hs → h ≡ get_or hs i h → at h.1 ≡ Some c → outcome_of (Some c) T ≡ Conflict → i + 1 < length hs → walk at T (ids_from hs i) ≡ Fault HintAfterConflict
 walk_past_conflict at T hs i h c lt e n o more =

@@ -9,7 +9,7 @@ use Rattle.std.proofs.lemmas.List.{drop_more, drop_all}
 use Rattle.wcnf.specs.Literal.{Literal, negation, literal_eq}
 use Rattle.wcnf.specs.Clause.{contains_literal, without_literal}
 use Rattle.wcnf.specs.Lrat.{CandidateHints}
-use Rattle.lrat_read.specs.Form.{leading, groups_of}
+use Rattle.lrat_read.specs.Form.{groups_of}
 use Rattle.wcnf.specs.Refute.{Clauses}
 use Rattle.wcnf.proofs.Sound.{literal_eq-true}
 use Rattle.lrat_check.specs.declared.verdicts.Cause.TheVariants.{HintAfterConflict}
@@ -22,18 +22,6 @@ use Rattle.lrat_check.proofs.Effects.{drop_at}
 -- the groups from a place on
 abbrev pub groups_from : List (Bool × ℕ) → ℕ → List CandidateHints
 groups_from hs i = groups_of (drop i hs)
-
-dashed : (b : Bool) (n : ℕ) (rest : List (Bool × ℕ)) → b ≡ true → groups_of ((b, n) ∷ rest) ≡ record { candidate = n; hints = leading rest } ∷ groups_of rest
-dashed b n rest e = rw e refl
-
-plain : (b : Bool) (n : ℕ) (rest : List (Bool × ℕ)) → b ≡ false → groups_of ((b, n) ∷ rest) ≡ groups_of rest
-plain b n rest e = rw e refl
-
-pub groups_from-dashed : (hs : List (Bool × ℕ)) (i : ℕ) (h : Bool × ℕ) → i < length hs → h ≡ get_or hs i h → h.0 ≡ true → groups_from hs i ≡ record { candidate = h.1; hints = leading (drop (i + 1) hs) } ∷ groups_from hs (i + 1)
-groups_from-dashed hs i h lt e d = ap groups_of (drop_at hs i h lt e) ∙ dashed h.0 h.1 (drop (i + 1) hs) d
-
-pub groups_from-plain : (hs : List (Bool × ℕ)) (i : ℕ) (h : Bool × ℕ) → i < length hs → h ≡ get_or hs i h → h.0 ≡ false → groups_from hs i ≡ groups_from hs (i + 1)
-groups_from-plain hs i h lt e d = ap groups_of (drop_at hs i h lt e) ∙ plain h.0 h.1 (drop (i + 1) hs) d
 
 -- the ids named from a place on
 abbrev pub named_from : List (Bool × ℕ) → ℕ → List ℕ

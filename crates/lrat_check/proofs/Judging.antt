@@ -1,5 +1,5 @@
 -- The verdict on what was said, by the claim of an answer.
-use Rattle.std.proofs.Common.{◌≡◌, ℕ, List, Some, None, refl, sym, ◌∙◌, ap, subst}
+use Rattle.std.proofs.Common.{◌≡◌, ℕ, List, None, refl, sym, ◌∙◌, ap, subst}
 use Rattle.std.specs.Prelude.{IfOk, Result, Ok, Err, ◌↔◌, All}
 use Rattle.std.proofs.lemmas.Result.{IfOk-weaker}
 use Rattle.wcnf.specs.Literal.{Assignment}
@@ -12,7 +12,7 @@ use Rattle.adder.specs.declared.cells.Profile.{Profile}
 use Rattle.bound.specs.Bound.{hard_cnf, bound_as, SaysCheaper}
 use Rattle.lrat_check.specs.declared.answer.Answer.{Answer}
 use Rattle.lrat_check.specs.declared.answer.Solution.{Solution}
-use Rattle.lrat_check.specs.declared.answer.Claim.TheVariants.{Optimum, Unsat, Sat, Limit}
+use Rattle.lrat_check.specs.declared.answer.Claim.TheVariants.{Optimum, Unsat}
 use Rattle.lrat_check.specs.declared.verdicts.Verdict.{Verdict}
 use Rattle.lrat_check.specs.declared.verdicts.Verdict.TheVariants.{Yes, No}
 use Rattle.lrat_check.specs.declared.verdicts.Cause.TheVariants.{ResultForm}

@@ -9,7 +9,7 @@ use Rattle.std.proofs.lemmas.List.Elements.{All-push, All-pop, All-weaker}
 use Rattle.wcnf.specs.Literal.{Literal, index_of, literal_eq, same_bool}
 use Rattle.wcnf.specs.Clause.{contains_literal}
 use Rattle.wcnf.proofs.Sound.{literal_eq-true}
-use Rattle.lrat_check.specs.Assumed.{IsTable}
+use Rattle.lrat_check.specs.Assumed.{AreRows}
 use Rattle.lrat_check.proofs.Members.{push_other, in_push-last, has_repeat-push, has_repeat-last, none_past}
 
 -- places
@@ -30,7 +30,7 @@ pub index_of-bounds : (l : Literal) → 0 < l.variable → (2 * (l.variable - 1)
 index_of-bounds l p = place_bounds l.variable l.negated p
 
 -- one literal more
-marks_assume : (rows : List Bool) (n : ℕ) (xs : List Literal) (l : Literal) → IsTable rows n xs → 0 < l.variable → l.variable ≤ n → (k : Literal) → 0 < k.variable → k.variable ≤ n → get_or (slice_set rows (index_of l) true) (index_of k) false ≡ contains_literal k (xs ++ l ∷ [])
+marks_assume : (rows : List Bool) (n : ℕ) (xs : List Literal) (l : Literal) → AreRows rows n xs → 0 < l.variable → l.variable ≤ n → (k : Literal) → 0 < k.variable → k.variable ≤ n → get_or (slice_set rows (index_of l) true) (index_of k) false ≡ contains_literal k (xs ++ l ∷ [])
 marks_assume rows n xs l t p q k pk qk =
     let b = index_of-bounds l p in
     let long = t.long in
@@ -45,8 +45,8 @@ marks_assume rows n xs l t p q k pk qk =
           get_or-set_other rows (index_of l) (index_of k) true false ne ∙ t.marks k pk qk ∙ sym (push_other k l xs other)
     ]
 
-pub IsTable-assume : (rows : List Bool) (n : ℕ) (xs : List Literal) (l : Literal) → IsTable rows n xs → 0 < l.variable → l.variable ≤ n → contains_literal l xs ≡ false → IsTable (slice_set rows (index_of l) true) n (xs ++ l ∷ [])
-IsTable-assume rows n xs l t p q h = record {
+pub AreRows-assume : (rows : List Bool) (n : ℕ) (xs : List Literal) (l : Literal) → AreRows rows n xs → 0 < l.variable → l.variable ≤ n → contains_literal l xs ≡ false → AreRows (slice_set rows (index_of l) true) n (xs ++ l ∷ [])
+AreRows-assume rows n xs l t p q h = record {
   long = length-set rows (index_of l) true ∙ t.long;
   few = t.few;
   within = All-push (λ k. k.variable ≤ n) xs l t.within q;
@@ -55,7 +55,7 @@ IsTable-assume rows n xs l t p q h = record {
 }
 
 -- the last literal back
-marks_undo : (rows : List Bool) (n : ℕ) (xs : List Literal) (l : Literal) → IsTable rows n (xs ++ l ∷ []) → 0 < l.variable → l.variable ≤ n → (k : Literal) → 0 < k.variable → k.variable ≤ n → get_or (slice_set rows (index_of l) false) (index_of k) false ≡ contains_literal k xs
+marks_undo : (rows : List Bool) (n : ℕ) (xs : List Literal) (l : Literal) → AreRows rows n (xs ++ l ∷ []) → 0 < l.variable → l.variable ≤ n → (k : Literal) → 0 < k.variable → k.variable ≤ n → get_or (slice_set rows (index_of l) false) (index_of k) false ≡ contains_literal k xs
 marks_undo rows n xs l t p q k pk qk =
     let b = index_of-bounds l p in
     let long = t.long in
@@ -70,7 +70,7 @@ marks_undo rows n xs l t p q k pk qk =
           get_or-set_other rows (index_of l) (index_of k) false false ne ∙ t.marks k pk qk ∙ push_other k l xs other
     ]
 
-undo_last : (rows : List Bool) (n : ℕ) (xs : List Literal) (l : Literal) → IsTable rows n (xs ++ l ∷ []) → 0 < l.variable → IsTable (slice_set rows (index_of l) false) n xs
+undo_last : (rows : List Bool) (n : ℕ) (xs : List Literal) (l : Literal) → AreRows rows n (xs ++ l ∷ []) → 0 < l.variable → AreRows (slice_set rows (index_of l) false) n xs
 undo_last rows n xs l t p =
     let w = All-pop (λ k. k.variable ≤ n) (xs ++ l ∷ []) xs (Some l) refl t.within in
     record {
@@ -81,15 +81,12 @@ undo_last rows n xs l t p =
       marks = marks_undo rows n xs l t p w.1;
     }
 
-pub IsTable-undo : (rows : List Bool) (n : ℕ) (ys xs : List Literal) (l : Literal) → IsTable rows n ys → ys ≡ xs ++ l ∷ [] → 0 < l.variable → IsTable (slice_set rows (index_of l) false) n xs
-IsTable-undo rows n ys xs l t e p = undo_last rows n xs l (subst (λ zs. IsTable rows n zs) e t) p
-
-pub undo_in_table : (rows : List Bool) (n : ℕ) (ys xs : List Literal) (l : Literal) → IsTable rows n ys → ys ≡ xs ++ l ∷ [] → l.variable ≤ n
-undo_in_table rows n ys xs l t e = (All-pop (λ k. k.variable ≤ n) ys xs (Some l) e t.within).1
+pub AreRows-undo : (rows : List Bool) (n : ℕ) (ys xs : List Literal) (l : Literal) → AreRows rows n ys → ys ≡ xs ++ l ∷ [] → 0 < l.variable → AreRows (slice_set rows (index_of l) false) n xs
+AreRows-undo rows n ys xs l t e p = undo_last rows n xs l (subst (λ zs. AreRows rows n zs) e t) p
 
 -- a longer table
-pub IsTable-grow : (rows new : List Bool) (n m : ℕ) (xs : List Literal) → IsTable rows n xs → n < m → m < 2 ^ 27 → length new ≡ 2 * m → ((k : ℕ) (d : Bool) → k < 2 * m → k < length rows → get_or new k d ≡ get_or rows k d) → ((k : ℕ) (d : Bool) → length rows ≤ k → k < 2 * m → get_or new k d ≡ false) → IsTable new m xs
-IsTable-grow rows new n m xs t up few long old fresh = record {
+pub AreRows-grow : (rows new : List Bool) (n m : ℕ) (xs : List Literal) → AreRows rows n xs → n < m → m < 2 ^ 27 → length new ≡ 2 * m → ((k : ℕ) (d : Bool) → k < 2 * m → k < length rows → get_or new k d ≡ get_or rows k d) → ((k : ℕ) (d : Bool) → length rows ≤ k → k < 2 * m → get_or new k d ≡ false) → AreRows new m xs
+AreRows-grow rows new n m xs t up few long old fresh = record {
   long = long;
   few = few;
   within = All-weaker (λ k. k.variable ≤ n) (λ k. k.variable ≤ m) (λ k h. omega arith) xs t.within;

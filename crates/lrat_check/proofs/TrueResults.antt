@@ -1,10 +1,9 @@
 -- What a result says is so, where its certificate was accepted.
-use Rattle.std.proofs.Common.{◌≡◌, ℕ, ◌<◌, ◌≤◌, Bool, true, false, not, List, length, Option, Some, None, refl, sym, ◌∙◌, ap, subst, arith, ◌⊎◌, inl, inr}
-use Rattle.std.specs.Prelude.{◌==◌, ◌↔◌, All, Result, Ok, slice_get, unwrap_or, IsTrue}
-use Rattle.std.specs.List.{list_all}
-use Rattle.wcnf.specs.Literal.{Literal, Assignment}
+use Rattle.std.proofs.Common.{◌≡◌, ℕ, ◌<◌, ◌≤◌, Bool, false, List, sym, ◌∙◌, ap, subst, arith}
+use Rattle.std.specs.Prelude.{◌↔◌, All, Ok, unwrap_or}
+use Rattle.wcnf.specs.Literal.{Assignment}
 use Rattle.wcnf.specs.Bits.{Extends, assignment_of}
-use Rattle.wcnf.specs.Clause.{Satisfies, clause_value}
+use Rattle.wcnf.specs.Clause.{Satisfies}
 use Rattle.wcnf.specs.Formula.{IsUnsatisfiable}
 use Rattle.wcnf.specs.Problem.{Problem, IsFeasible, cost_under, IsOptimal, IsInconsistent}
 use Rattle.wcnf.specs.Wcnf.{Reads}

@@ -1,9 +1,8 @@
 -- What was read of a result so far, and the report where the lines that are left come.
-use Rattle.std.specs.Prelude.{◌≡◌, ℕ, ◌+◌, Bool, true, false, List, [], ◌∷◌, map, Option, Some, None, Result as Outcome, Ok, Err, nat_lt, if◌then◌else◌, ⊤}
+use Rattle.std.specs.Prelude.{◌≡◌, ℕ, ◌+◌, Bool, true, List, ◌∷◌, map, Option, Some, None, Result as Outcome, Ok, Err, nat_lt, if◌then◌else◌, ⊤}
 use Rattle.std.specs.List.{enumerate_from}
 use Rattle.wcnf.specs.Text.{tokens_of}
 use Rattle.lrat_check.specs.declared.answer.Cost.{Cost}
-use Rattle.lrat_check.specs.declared.answer.Solution.{Solution}
 use Rattle.lrat_check.specs.declared.answer.Claim.{Claim}
 use Rattle.lrat_check.specs.declared.answer.Claim.TheVariants.{Optimum, Unsat, Sat, Limit}
 use Rattle.lrat_check.specs.declared.answer.Answer.{Answer}
@@ -12,7 +11,7 @@ use Rattle.lrat_check.specs.declared.answer.Stage.{Stage}
 use Rattle.lrat_check.specs.declared.answer.Stage.TheVariants.{Costs, Bits, End}
 use Rattle.lrat_check.specs.declared.answer.AnswerFault.{AnswerFault}
 use Rattle.lrat_check.specs.declared.answer.AnswerFault.TheVariants.{Form, Memory}
-use Rattle.lrat_check.specs.Result.{Said, OptimumFound, Unsatisfiable, Satisfiable, Unknown, Report, ended, with_bits, result_on, report_of}
+use Rattle.lrat_check.specs.Result.{OptimumFound, Unsatisfiable, Satisfiable, Unknown, Report, ended, with_bits, result_on, report_of}
 
 abbrev pub reported : Answer → Report
 reported a = by a.claim

@@ -12,7 +12,7 @@ abbrev pub AreWithin : ℕ → List Literal → Type 0
 AreWithin variables c = All (λ l. l.variable ≤ variables) c
 
 -- the rows of the literals in the list are true, and no others
-pub record IsTable (rows : List Bool) (variables : ℕ) (trail : List Literal) : Type 0 where
+pub record AreRows (rows : List Bool) (variables : ℕ) (trail : List Literal) : Type 0 where
   pub long : length rows ≡ 2 * variables
   pub few : variables < 2 ^ 27
   pub within : AreWithin variables trail

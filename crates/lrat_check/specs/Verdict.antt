@@ -1,9 +1,9 @@
 -- The verdict on a certificate, line by line, and on a text with its result and certificate. The first fault decides.
-use Rattle.std.specs.Prelude.{◌≡◌, ℕ, zero, suc, ◌+◌, Bool, true, false, not, ◌||◌, ◌&&◌, List, [], ◌∷◌, ◌++◌, length, map, filter, Option, Some, None, Result, Ok, Err, is_some, nat_lt, nat_le, ◌==◌, if◌then◌else◌, ◌↔◌, All}
+use Rattle.std.specs.Prelude.{◌≡◌, ℕ, zero, suc, ◌+◌, Bool, true, false, not, ◌||◌, ◌&&◌, List, [], ◌∷◌, ◌++◌, length, map, filter, Option, Some, None, Result, Ok, Err, is_some, nat_le, ◌==◌, if◌then◌else◌, ◌↔◌, All}
 use Rattle.std.specs.List.{list_any, list_all}
 use Rattle.wcnf.specs.Literal.{Literal, negation}
 use Rattle.wcnf.specs.Clause.{clause_value, contains_literal, without_literal, has_repeat, has_opposites}
-use Rattle.wcnf.specs.Text.{token_lines, number_of}
+use Rattle.wcnf.specs.Text.{token_lines}
 use Rattle.wcnf.specs.Problem.{Problem, cost_under}
 use Rattle.wcnf.specs.declared.faults.FaultKind.{FaultKind}
 use Rattle.wcnf.specs.Reading.{reading_of}

@@ -4,9 +4,13 @@ ghost use Rattle.std.specs.Prelude.{◌<◌, ◌^◌};
 /// What an `s` line says.
 #[derive(Clone, Copy, Debug, PartialEq, Eq, Drop)]
 pub(crate) enum Status {
+    /// `OPTIMUM FOUND`
     Optimum,
+    /// `UNSATISFIABLE`
     Unsat,
+    /// `SATISFIABLE`: a solution, and nothing of its being optimal.
     Sat,
+    /// `UNKNOWN`: a limit was met before a solution.
     Limit,
 }
 
@@ -18,7 +22,7 @@ pub(crate) struct Cost {
     ghost small: { cost < 2 ^ 62 },
 }
 
-/// A solution: its cost, and its bits with their line.
+/// A solution: the last cost that was told, and the bits, from variable 1 on, with their line.
 #[derive(Drop)]
 pub(crate) struct Solution {
     pub(crate) cost: Cost,
@@ -26,7 +30,7 @@ pub(crate) struct Solution {
     pub(crate) bits_line: u64,
 }
 
-/// What a result says.
+/// What a result says: its status, with the solution where that has one.
 #[derive(Drop)]
 pub(crate) enum Claim {
     Optimum(Solution),

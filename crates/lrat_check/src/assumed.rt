@@ -16,13 +16,13 @@ pub(crate) struct Assumed {
 }
 
 impl Model for Assumed {
-    ghost use Rattle.lrat_check.specs.Assumed.{AssumedState, IsTable};
+    ghost use Rattle.lrat_check.specs.Assumed.{AssumedState, AreRows};
 
     ghost Value = { AssumedState };
 
     ghost view = { λ a. record { literals = a.trail.items; variables = a.variables } };
 
-    ghost invariant = { λ a. IsTable a.rows.items a.variables a.trail.items };
+    ghost invariant = { λ a. AreRows a.rows.items a.variables a.trail.items };
 }
 
 impl Assumed {

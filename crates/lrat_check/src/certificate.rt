@@ -1,6 +1,7 @@
 //! Whole certificates over a formula.
-ghost use Rattle.std.specs.Prelude.{◌≡◌, IfOk, ◌↔◌};
+ghost use Rattle.std.specs.Prelude.{◌≡◌, IfOk, ◌↔◌, List};
 ghost use Rattle.wcnf.specs.Formula.{IsUnsatisfiable};
+ghost use Rattle.wcnf.specs.Lrat.{ProofLine, Accepts};
 ghost use Rattle.lrat_check.specs.Checks.{IsProofOver};
 ghost use Rattle.lrat_check.specs.Verdict.{proof_verdict};
 
@@ -17,6 +18,7 @@ use wcnf::types::Formula;
 pub fn check_lines(formula: &Formula, proof: &[u8]) -> Result<Verdict, AllocError>
     ensures verdict { IfOk result (λ v. v ≡ proof_verdict formula.now.clauses proof.now) }
     ensures yes { IfOk result (λ v. (v ≡ Verdict.Yes) ↔ IsProofOver formula.now.clauses proof.now) }
+    ensures accepted { (ls : List ProofLine) → Accepts formula.now.clauses ls → IsUnsatisfiable formula.now.clauses }
     ensures sound { IfOk result (λ v. v ≡ Verdict.Yes → IsUnsatisfiable formula.now.clauses) }
 {
     let mut machine = Machine::new(formula)?;

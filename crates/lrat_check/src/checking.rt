@@ -17,7 +17,25 @@ use wcnf::faults::FaultKind;
 use wcnf::reading::read;
 use wcnf::types::Instance;
 
-/// Whether the text, what a solver answered and its proof go together.
+/// Checks what a solver answered on an instance, with its proof: `text` is the instance in the WCNF
+/// of the MaxSAT Evaluation 2022, `answer` what the solver printed, in the result lines of that
+/// evaluation, and `proof` an LRAT certificate (Cruz-Filipe et al. 2017).
+///
+/// `Yes` says that the answer is true. Of `s OPTIMUM FOUND`: the bits satisfy the hard clauses at
+/// just the cost that was told, and no solution costs less. Of `s UNSATISFIABLE`: the hard clauses
+/// have no solution. The certificate has to refute the formula for a cost below the told one, or
+/// the hard clauses alone; either formula is built here, from the text.
+///
+/// `No` gives the first of these faults, with its line from 1:
+/// - `Text`: a line of the text that cannot be read.
+/// - `ResultForm`: a line of the answer that cannot stand there; line 0 where the answer ends too soon.
+/// - `BitsLength`, `NotFeasible`: there is not one bit for each variable, or the bits falsify a hard
+///   clause; the `v` line.
+/// - `CostWrong`: the bits have another cost than the last `o` line tells; that line.
+/// - `StatusWithoutProof`: `SATISFIABLE` or `UNKNOWN`, which no certificate shows; the `s` line.
+/// - Any other cause: the first fault of the certificate, as `check_lines` tells it.
+///
+/// An AllocError comes only where memory was refused.
 pub fn check(alloc: Global, text: &[u8], answer: &[u8], proof: &[u8]) -> Result<Verdict, AllocError>
     ensures verdict { IfOk result (λ v. v ≡ verdict_as Profile.One text.now answer.now proof.now) }
     ensures yes { IfOk result (λ v. (v ≡ Verdict.Yes) ↔ ChecksAs Profile.One text.now answer.now proof.now) }
@@ -26,6 +44,7 @@ pub fn check(alloc: Global, text: &[u8], answer: &[u8], proof: &[u8]) -> Result<
     check_as(alloc, text, answer, proof, Profile::One)
 }
 
+/// As `check`, where the formula for a cost below the told one relaxes soft clauses as `profile` says.
 pub fn check_as(
     alloc: Global,
     text: &[u8],
@@ -40,7 +59,7 @@ pub fn check_as(
     texts_judged(alloc, text, answer, proof, profile)
 }
 
-// The verdict on the texts, as it is defined.
+// The verdict on the texts. That a `Yes` is a checked certificate follows from it in `check_as`, wherever it was found.
 fn texts_judged(
     alloc: Global,
     text: &[u8],
@@ -63,7 +82,7 @@ fn texts_judged(
     }
 }
 
-// What was said of an instance, with its proof.
+// The verdict on what was said of an instance. The bits come first, since they cost the least to check.
 fn judged(
     instance: &Instance,
     answer: &Answer,
@@ -112,3 +131,6 @@ fn solution_fault(instance: &Instance, solution: &Solution) -> Option<Verdict>
     }
     None
 }
+
+#[cfg(test)]
+mod tests;

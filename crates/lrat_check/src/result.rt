@@ -1,5 +1,5 @@
 //! What a result text says, read line by line: `o` lines with falling costs, one `s` line, and where that has a solution one `v` line.
-ghost use Rattle.std.specs.Prelude.{◌≡◌, ℕ, List, ◌<◌, ◌^◌, IfOk, IfSome, false, [], ◌∷◌};
+ghost use Rattle.std.specs.Prelude.{◌≡◌, ℕ, List, ◌<◌, ◌^◌, IfOk, IfErr, IfSome, false, [], ◌∷◌};
 ghost use Rattle.std.specs.Option.{option_map};
 ghost use Rattle.wcnf.specs.Text.{tokens_of};
 ghost use Rattle.lrat_check.specs.Result.{same_bytes, bits_on, cost_of, status_of, bits_of, is_ignored};
@@ -11,10 +11,10 @@ use crate::words::{Words, words_of};
 use std::alloc::{AllocError, Global};
 use wcnf::text::{lines, number};
 
-/// Costs stay below 2^62.
+// The weights of an instance sum to less than 2^62, so no cost reaches it.
 const COST_LIMIT: u64 = 4_611_686_018_427_387_904;
 
-/// What the result text says.
+/// What the result text says, or its first line that cannot stand there.
 pub(crate) fn read_answer(alloc: Global, text: &[u8]) -> Result<Answer, AnswerFault>
     ensures { IsReadAnswer text.now result }
 {
@@ -28,6 +28,7 @@ pub(crate) fn read_answer(alloc: Global, text: &[u8]) -> Result<Answer, AnswerFa
     }
 }
 
+// One line on. A line without tokens and a comment change nothing, wherever they stand.
 fn stage_after(alloc: Global, stage: Stage, number: u64, line: &[u8]) -> Result<Stage, AnswerFault>
     ensures { IsNextStage stage number (tokens_of line.now) result }
 {
@@ -44,7 +45,8 @@ fn stage_after(alloc: Global, stage: Stage, number: u64, line: &[u8]) -> Result<
 
 // After the costs so far, on a line that is not ignored: a cost or the status.
 fn after_costs(last: Option<Cost>, line: u64, words: Words<'_>) -> Result<Stage, AnswerFault>
-    ensures { (ts : List (List ℕ)) → HasWords ts words.entry → is_ignored ts ≡ false → IsNextStage (Stage.Costs last) line ts result }
+    ensures next { (ts : List (List ℕ)) → HasWords ts words.entry → is_ignored ts ≡ false → IsNextStage (Stage.Costs last) line ts result }
+    ensures form { IfErr result (λ f. f ≡ AnswerFault.Form line) }
 {
     if let Some(cost) = cost_in(words) {
         return if falls(last, cost) {

@@ -4,13 +4,14 @@ ghost use Rattle.wcnf.specs.Text.{tokens_of};
 
 use wcnf::text::tokens;
 
-/// The tokens of a line, where they are at most three.
+/// The tokens of a line, told apart up to three.
 #[derive(Clone, Copy)]
 pub(crate) enum Words<'a> {
     None,
     One(&'a [u8]),
     Two(&'a [u8], &'a [u8]),
     Three(&'a [u8], &'a [u8], &'a [u8]),
+    /// More than three: only the first is needed, since it tells a comment.
     More(&'a [u8]),
 }
 

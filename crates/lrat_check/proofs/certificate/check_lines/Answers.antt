@@ -1,5 +1,6 @@
 use Rattle.std.proofs.Common.{◌≤◌, ◌+◌, length, arith, ◌∙◌, subst}
 use Rattle.wcnf.specs.Text.{tokens_of}
+use Rattle.wcnf.proofs.Certificates.{certificate_sound}
 use Rattle.lrat_check.specs.Machine.{StepsTo}
 use Rattle.lrat_check.proofs.Whole.{reads_from_start, room_for, reads_on, stops_at, ends_with, yes_is_proof, yes_is_sound}
 use Rattle.lrat_check.proofs.certificate.check_lines.Goals as goal
@@ -48,3 +49,15 @@ pub returns-clause-sound : goal.returns-clause-sound
 returns-clause-sound c =
     yes_is_sound c.args.formula.now c.args.proof.now c.verdict.result c.in_ok-machine.ensures.limits
     (c.verdict.ensures ∙ ends_with c.args.formula.now.clauses c.args.proof.now c.loop-number.machine c.loop-number.number-iterator c.loop-number.invariant.reads_on c.in-None.ensures.steps.0)
+
+pub returns-in_err-machine-clause-accepted : goal.returns-in_err-machine-clause-accepted
+returns-in_err-machine-clause-accepted c = certificate_sound c.args.formula.now.clauses
+
+pub returns-in_err-cause-clause-accepted : goal.returns-in_err-cause-clause-accepted
+returns-in_err-cause-clause-accepted c = certificate_sound c.args.formula.now.clauses
+
+pub returns-in-Some-2-clause-accepted : goal.returns-in-Some-2-clause-accepted
+returns-in-Some-2-clause-accepted c = certificate_sound c.args.formula.now.clauses
+
+pub returns-clause-accepted : goal.returns-clause-accepted
+returns-clause-accepted c = certificate_sound c.args.formula.now.clauses

@@ -1,7 +1,5 @@
 use Rattle.std.proofs.lemmas.Result.{IfOk-weaker}
-use Rattle.std.proofs.Common.{subst, sym}
 use Rattle.wcnf.proofs.Texts.{reading_is_right}
-use Rattle.lrat_check.specs.Checks.{ChecksAs}
 use Rattle.lrat_check.proofs.Checked.{yes_by}
 use Rattle.lrat_check.proofs.checking.check_as.Goals as goal
 

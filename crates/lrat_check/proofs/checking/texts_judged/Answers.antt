@@ -1,4 +1,3 @@
-use Rattle.std.proofs.Common.{sym, ◌∙◌, ap}
 use Rattle.lrat_check.proofs.Judging.{answered_verdict, answered_sound, form_verdict}
 use Rattle.lrat_check.proofs.checking.texts_judged.Goals as goal
 
