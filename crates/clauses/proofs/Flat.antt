@@ -96,10 +96,6 @@ pub record IsCompacting (ls : List Literal) (cs : List Head) (kept end i : ℕ) 
   pub rest : IsLaid at (drop i cs) (length ls)
   pub clauses : clauses_in ls (take kept cs) ++ clauses_in ls (drop i cs) ≡ value
 
-pub compacting_none : (ls : List Literal) (cs : List Head) → IsLaid 0 cs (length ls) → IsCompacting ls cs 0 0 0 (clauses_in ls cs)
-compacting_none ls cs h =
-    record { kept_le = omega arith; laid = refl; live = tt; at = 0; end_le = omega arith; rest = h; clauses = refl }
-
 module _ (ls : List Literal) (cs : List Head) (kept end i : ℕ) (value : Listed) (d : Head) (s : IsCompacting ls cs kept end i value) (h : i < length cs) where
   abbrev c : Head
   c = get_or cs i d

@@ -1,9 +1,9 @@
 -- The moves of a compaction: what they are, one by one, and that they rename the clauses.
-use Rattle.std.proofs.Common.{◌≡◌, ℕ, zero, suc, ◌+◌, ◌-◌, ◌<◌, ◌≤◌, true, false, List, [], ◌∷◌, ◌++◌, length, get_or, drop, map, Option, Some, None, refl, sym, ◌∙◌, ap, subst, arith, inl, inr, zero-add}
+use Rattle.std.proofs.Common.{◌≡◌, ℕ, zero, suc, ◌+◌, ◌-◌, ◌<◌, ◌≤◌, true, false, List, [], ◌∷◌, ◌++◌, length, drop, map, Option, Some, None, refl, sym, ◌∙◌, ap, subst, arith, inl, inr, zero-add}
 use Rattle.std.specs.Prelude.{All, slice_index}
 use Rattle.std.specs.List.Sorted.{IsStrictlyIncreasing}
 use Rattle.std.proofs.lemmas.Bool.{cases_Bool}
-use Rattle.std.proofs.lemmas.List.{append_assoc, append-nil, drop_more, drop_all, length_push, length-take-le, length-drop}
+use Rattle.std.proofs.lemmas.List.{length-take-le, length-drop}
 use Rattle.std.proofs.lemmas.List.Elements.{All-nil, All-cons}
 use Rattle.std.proofs.lemmas.List.Sums.{sum_by-cons}
 use Rattle.wcnf.specs.Literal.{Literal}
@@ -24,32 +24,6 @@ moves_dead old new ls h hs e = rw (slot_dead ls h e) refl
 pub record IsListing (hs : List Head) (old : ℕ) (moves : Renaming) : Type 0 where
   pub few : length moves ≤ old
   pub all : (ls : List Literal) → moves ++ moves_from old (length moves) (slots_of ls (drop old hs)) ≡ moves_of (slots_of ls hs)
-
-pub listing_none : (hs : List Head) → IsListing hs 0 []
-listing_none hs = record { few = omega arith; all = λ ls. refl }
-
-module _ (hs : List Head) (old : ℕ) (moves : Renaming) (s : IsListing hs old moves) (h : Head) (within : old < length hs) (is : h ≡ get_or hs old h) where
-  next : drop old hs ≡ h ∷ drop (old + 1) hs
-  next = drop_more hs old h within ∙ ap (λ x. x ∷ drop (old + 1) hs) (sym is)
-
-  pub listing_live : h.live ≡ true → IsListing hs (old + 1) (moves ++ (old, length moves) ∷ [])
-  listing_live e = record {
-    few = omega (arith, s.few, length_push moves (old, length moves));
-    all = λ ls.
-        let step : moves_from old (length moves) (slots_of ls (drop old hs)) ≡ (old, length moves) ∷ moves_from (old + 1) (length moves + 1) (slots_of ls (drop (old + 1) hs)) = ap (λ xs. moves_from old (length moves) (slots_of ls xs)) next ∙ moves_live old (length moves) ls h (drop (old + 1) hs) e in
-        rw (length_push moves (old, length moves), append_assoc) (ap (λ ms. moves ++ ms) (sym step) ∙ s.all ls);
-  }
-
-  pub listing_dead : h.live ≡ false → IsListing hs (old + 1) moves
-  listing_dead e = record {
-    few = omega (arith, s.few);
-    all = λ ls. ap (λ ms. moves ++ ms) (sym (ap (λ xs. moves_from old (length moves) (slots_of ls xs)) next ∙ moves_dead old (length moves) ls h (drop (old + 1) hs) e)) ∙ s.all ls;
-  }
-
-pub listing_all : (hs : List Head) (old : ℕ) (moves : Renaming) → IsListing hs old moves → length hs ≤ old → (ls : List Literal) → moves ≡ moves_of (slots_of ls hs)
-listing_all hs old moves s past ls =
-    let none : drop old hs ≡ [] = drop_all old hs past in
-    sym (append-nil moves) ∙ subst (λ xs. moves ++ moves_from old (length moves) (slots_of ls xs) ≡ moves_of (slots_of ls hs)) none (s.all ls)
 
 -- both sides rise
 abbrev RisesFrom : ℕ → List ℕ → Type 0

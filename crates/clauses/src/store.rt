@@ -32,6 +32,15 @@ impl Model for CRef {
 
 const _: () = prove!(size_of::<CRef>() == 4);
 
+impl CRef {
+    /// The clause's place in a table by reference, from 0.
+    pub fn index(self) -> usize
+        ensures { result ≡ self }
+    {
+        self.place as usize
+    }
+}
+
 /// A map from references to clauses, which are lists of literals; one region of memory holds them all, as in MiniSat
 /// (Eén and Sörensson 2003).
 #[derive(Drop)]
@@ -67,8 +76,8 @@ impl Store {
     ///
     /// # Errors
     ///
-    /// `AllocError` where a growth was refused, which more than 2^32 - 1 references or literals count as. The store is
-    /// then unchanged.
+    /// `AllocError` where a growth was refused; one past 2^32 - 1 references or literals always is. The store is then
+    /// unchanged.
     pub fn add(&mut self, lits: &[Lit]) -> Result<CRef, AllocError>
         ensures reference { IfOk result (λ r. r ≡ length self.old.slots) }
         ensures ok { IfOk result (λ _. self.new

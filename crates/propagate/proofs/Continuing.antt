@@ -1,0 +1,95 @@
+-- Small changes one after another.
+use Rattle.std.proofs.Common.{◌≡◌, ℕ, true, false, List, [], ◌∷◌, ◌++◌, set, Some, inl, inr, refl, sym, ◌∙◌, ap, append_assoc}
+use Rattle.std.proofs.lemmas.Bool.{cases_eq}
+use Rattle.std.proofs.lemmas.List.{append-nil}
+use Rattle.wcnf.specs.Literal.{Literal}
+use Rattle.propagate.specs.declared.pool.Entry.{Entry}
+use Rattle.propagate.specs.declared.table.Place.{Place}
+use Rattle.propagate.specs.declared.table.Place.TheVariants.{Waiting}
+use Rattle.propagate.specs.Trail.{Assigned, is_decision}
+use Rattle.propagate.specs.Watches.{EngineState, is_attached, is_kept, place_in}
+use Rattle.propagate.specs.Steps.{Continues, with_trail}
+use Rattle.propagate.proofs.Trails.{made}
+use Rattle.propagate.proofs.Places.{with_watches, place_set_other, place_set_same}
+use Rattle.propagate.proofs.Fitting.{with_progress}
+use Rattle.propagate.proofs.Stepping.{all_join}
+use Rattle.propagate.proofs.Attaching.{kept_within}
+
+pub continues_same : (e : EngineState) → Continues e e
+continues_same e = record {
+  more = [];
+  grown = sym (append-nil e.trail);
+  forced = tt;
+  variables = refl;
+  failed = refl;
+  attached = λ r. refl;
+  waiting = λ r h. h;
+}
+
+pub continues_then : (e f g : EngineState) → Continues e f → Continues f g → Continues e g
+continues_then e f g a b = record {
+  more = a.more ++ b.more;
+  grown = b.grown ∙ ap (λ T. T ++ b.more) a.grown ∙ append_assoc e.trail a.more b.more;
+  forced = all_join (λ (x : Assigned). is_decision x ≡ false) a.more b.more a.forced b.forced;
+  variables = b.variables ∙ a.variables;
+  failed = b.failed ∙ a.failed;
+  attached = λ r. b.attached r ∙ a.attached r;
+  waiting = λ r h. a.waiting r (b.waiting r h);
+}
+
+-- only rows and the waiting list change
+pub continues_rows : (e : EngineState) (R : List (List Entry)) (w : List ℕ) → Continues e (with_watches e e.watches.table R w)
+continues_rows e R w = record {
+  more = [];
+  grown = sym (append-nil e.trail);
+  forced = tt;
+  variables = refl;
+  failed = refl;
+  attached = λ r. refl;
+  waiting = λ r h. h;
+}
+
+-- a literal becomes true, and rows change
+pub continues_unit : (e : EngineState) (l : Literal) (r : ℕ) → Continues e (with_trail e (e.trail ++ made l (Some r) ∷ []))
+continues_unit e l r = record {
+  more = made l (Some r) ∷ [];
+  grown = refl;
+  forced = (refl, tt);
+  variables = refl;
+  failed = refl;
+  attached = λ r. refl;
+  waiting = λ r h. h;
+}
+
+-- an attached clause gets a place
+pub continues_place : (e : EngineState) (r : ℕ) (p : Place) (R : List (List Entry)) → is_attached e r ≡ true → is_kept p ≡ true → (p ≡ Waiting → ⊥)
+    → Continues e (with_watches e (set e.watches.table r p) R e.watches.waiting)
+continues_place e r p R was kept new =
+    let here = place_set_same e.watches.table r p (kept_within e.watches.table r was) in
+    record {
+      more = [];
+      grown = sym (append-nil e.trail);
+      forced = tt;
+      variables = refl;
+      failed = refl;
+      attached = λ q. elim (cases_eq q r) [
+        | inl same ↦ ap (λ z. is_kept (place_in (set e.watches.table r p) z)) same ∙ ap is_kept here ∙ kept ∙ sym (ap (is_attached e) same ∙ was)
+        | inr ne ↦ ap is_kept (place_set_other e.watches.table r q p ne)
+      ];
+      waiting = λ q h. elim (cases_eq q r) [
+        | inl same ↦ absurd (new (sym (ap (place_in (set e.watches.table r p)) same ∙ here) ∙ h))
+        | inr ne ↦ sym (place_set_other e.watches.table r q p ne) ∙ h
+      ];
+    }
+
+-- only the places in the queue change
+pub continues_progress : (e : EngineState) (s p : ℕ) → Continues e (with_progress e e.trail s p)
+continues_progress e s p = record {
+  more = [];
+  grown = sym (append-nil e.trail);
+  forced = tt;
+  variables = refl;
+  failed = refl;
+  attached = λ r. refl;
+  waiting = λ r h. h;
+}

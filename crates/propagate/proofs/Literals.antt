@@ -1,0 +1,104 @@
+-- Literals among others.
+use Rattle.std.proofs.Common.{◌≡◌, ◌≢◌, ℕ, ◌*◌, ◌<◌, Bool, true, false, not, ◌||◌, ◌&&◌, eqb, List, [], ◌∷◌, ◌++◌, ◌⊎◌, inl, inr, refl, sym, ◌∙◌, ap, arith}
+use Rattle.std.specs.Prelude.{◌==◌}
+use Rattle.std.proofs.lemmas.Bool.{or_parts, or_from, and_left, eqb-false, eq-eqb, ne_eqb, cases_Bool, cases_eq}
+use Rattle.std.proofs.lemmas.List.Folds.{list_any-append}
+use Rattle.wcnf.specs.Literal.{Literal, negation, literal_eq, same_bool, index_of}
+use Rattle.wcnf.specs.Clause.{contains_literal}
+use Rattle.propagate.specs.Tables.{mentions, IsNamed}
+
+same_bool-self : (b : Bool) → same_bool b b ≡ true
+same_bool-self true = refl
+same_bool-self false = refl
+
+same_bool-not : (b : Bool) → same_bool (not b) b ≡ false
+same_bool-not true = refl
+same_bool-not false = refl
+
+not_not : (b : Bool) → not (not b) ≡ b
+not_not true = refl
+not_not false = refl
+
+pub negation_twice : (l : Literal) → negation (negation l) ≡ l
+negation_twice l = ap (λ b. record { variable = l.variable; negated = b }) (not_not l.negated)
+
+pub literal_eq-self : (l : Literal) → literal_eq l l ≡ true
+literal_eq-self l = Prim.grind (arith, eq-eqb l.variable l.variable refl, same_bool-self l.negated)
+
+pub literal_eq-negation : (l : Literal) → literal_eq (negation l) l ≡ false
+literal_eq-negation l = Prim.grind (arith, eq-eqb l.variable l.variable refl, same_bool-not l.negated)
+
+pub literal_eq-other : (k l : Literal) → k.variable ≢ l.variable → literal_eq k l ≡ false
+literal_eq-other k l h = and_left (k.variable == l.variable) (same_bool k.negated l.negated) (ne_eqb k.variable l.variable h)
+
+pub contains-append : (l : Literal) (A B : List Literal) → contains_literal l (A ++ B) ≡ (contains_literal l A || contains_literal l B)
+contains-append l A B = list_any-append (literal_eq l) A B
+
+or_false_right : (b : Bool) → (b || false) ≡ b
+or_false_right true = refl
+or_false_right false = refl
+
+pub contains-push : (l : Literal) (A : List Literal) (k : Literal) → contains_literal l (A ++ k ∷ []) ≡ (contains_literal l A || literal_eq l k)
+contains-push l A k = contains-append l A (k ∷ []) ∙ ap (λ b. contains_literal l A || b) (or_false_right (literal_eq l k))
+
+-- the literals of one variable
+same_sign : (v : Bool) (a b : Bool) → (v && same_bool a b) ≡ false → (v && same_bool (not a) b) ≡ false → v ≡ false
+same_sign true true true e f = e
+same_sign true true false e f = f
+same_sign true false true e f = f
+same_sign true false false e f = e
+same_sign false a b e f = refl
+
+eqb-sym : (m n : ℕ) → eqb m n ≡ false → eqb n m ≡ false
+eqb-sym m n e = ne_eqb n m (λ h. eqb-false m n e (sym h))
+
+pub mentions-none : (l : Literal) (A : List Literal) → contains_literal l A ≡ false → contains_literal (negation l) A ≡ false → mentions l.variable A ≡ false
+mentions-none l [] e f = refl
+mentions-none l (k ∷ A) e f =
+    let e' = or_parts (literal_eq l k) (contains_literal l A) e in
+    let f' = or_parts (literal_eq (negation l) k) (contains_literal (negation l) A) f in
+    or_from (k.variable == l.variable) (mentions l.variable A)
+    (eqb-sym l.variable k.variable (same_sign (l.variable == k.variable) l.negated k.negated e'.0 f'.0))
+    (mentions-none l A e'.1 f'.1)
+
+pub contains-none : (l : Literal) (A : List Literal) → mentions l.variable A ≡ false → contains_literal l A ≡ false
+contains-none l [] e = refl
+contains-none l (k ∷ A) e =
+    let e' = or_parts (k.variable == l.variable) (mentions l.variable A) e in
+    or_from (literal_eq l k) (contains_literal l A)
+    (literal_eq-other l k (λ h. eqb-false k.variable l.variable e'.0 (sym h)))
+    (contains-none l A e'.1)
+
+pub index-other : (variables : ℕ) (k l : Literal) → IsNamed variables k → IsNamed variables l → k.variable ≢ l.variable → index_of k ≢ index_of l
+index-other variables k l h g ne = elim (cases_Bool k.negated) [
+  | inl a ↦ elim (cases_Bool l.negated) [ inl b ↦ rw (a, b) (λ e. ne (omega arith)) | inr b ↦ rw (a, b) (λ e. ne (omega arith)) ]
+  | inr a ↦ elim (cases_Bool l.negated) [ inl b ↦ rw (a, b) (λ e. ne (omega arith)) | inr b ↦ rw (a, b) (λ e. ne (omega arith)) ]
+]
+
+pub index-negation : (l : Literal) → index_of l ≢ index_of (negation l)
+index-negation l = elim (cases_Bool l.negated) [ inl a ↦ rw a (λ e. omega arith) | inr a ↦ rw a (λ e. omega arith) ]
+
+pub index-within : (variables : ℕ) (l : Literal) → IsNamed variables l → index_of l < 2 * variables
+index-within variables l h = elim (cases_Bool l.negated) [ inl a ↦ rw a (omega arith) | inr a ↦ rw a (omega arith) ]
+
+-- a literal of the same variable is the same or its negation
+same_variable_at : (a b : Bool) → (a ≡ b) ⊎ (a ≡ not b)
+same_variable_at true true = inl refl
+same_variable_at true false = inr refl
+same_variable_at false true = inr refl
+same_variable_at false false = inl refl
+
+pub same_variable : (k l : Literal) → k.variable ≡ l.variable → (k ≡ l) ⊎ (k ≡ negation l)
+same_variable k l e = elim (same_variable_at k.negated l.negated) [
+  | inl h ↦ inl (λ i. record { variable = e i; negated = h i })
+  | inr h ↦ inr (λ i. record { variable = e i; negated = h i })
+]
+
+pub index-same : (variables : ℕ) (k l : Literal) → IsNamed variables k → IsNamed variables l → index_of k ≡ index_of l → k ≡ l
+index-same variables k l h g e = elim (cases_eq k.variable l.variable) [
+  | inr ne ↦ absurd (index-other variables k l h g ne e)
+  | inl same ↦ elim (same_variable k l same) [
+    | inl s ↦ s
+    | inr s ↦ absurd (index-negation l (sym (sym (ap index_of s) ∙ e)))
+  ]
+]

@@ -1,0 +1,109 @@
+-- What the values of a clause's literals say of the clause.
+use Rattle.std.proofs.Common.{◌≡◌, ◌≢◌, ℕ, ◌<◌, ◌≤◌, Bool, true, false, not, List, [], ◌∷◌, Option, Some, None, ◌⊎◌, inl, inr, refl, sym, subst, arith}
+use mathlib.Core.Bool.{beq}
+use Rattle.std.specs.Option.{is_some, option_eq}
+use Rattle.std.specs.Prelude.{All, if◌then◌else◌}
+use Rattle.std.specs.List.{AllByRecursion}
+use Rattle.std.proofs.lemmas.Bool.{cases_Bool, or_cases, false≢true, both_ways, false_from_ne_true}
+use Rattle.std.proofs.lemmas.List.Elements.{All-head, All-tail, All-nil, All-cons, recursion_from_All}
+use Rattle.wcnf.specs.Literal.{Literal, negation, literal_eq}
+use Rattle.wcnf.specs.Clause.{contains_literal, greatest_variable}
+use Rattle.wcnf.specs.Refute.{Clauses, IsUnit, IsFalseUnder}
+use Rattle.wcnf.proofs.Sound.{literal_eq-true}
+use Rattle.propagate.specs.declared.table.Place.{Place}
+use Rattle.propagate.specs.Trail.{Assigned, literals_of, value_in, HasReasons}
+use Rattle.propagate.specs.Watches.{IsVariable}
+use Rattle.propagate.specs.Fits.{IsWithin}
+use Rattle.propagate.specs.Steps.{IsWatchedBy}
+use Rattle.propagate.proofs.Trails.{open_at}
+use Rattle.propagate.proofs.Reasons.{no_opposites}
+
+pub within_variable : (v : ℕ) (c : List Literal) (l : Literal) → IsWithin v c → contains_literal l c ≡ true → IsVariable v l
+within_variable v [] l h e = absurd (false≢true e)
+within_variable v (k ∷ c) l h e = elim (or_cases (literal_eq l k) (contains_literal l c) e) [
+  | inl same ↦
+      let s = literal_eq-true l k same in
+      let p : 0 < k.variable = All-head (λ (x : Literal). 0 < x.variable) k c h.0 in
+      let b : k.variable ≤ v = omega (arith, h.1) in
+      subst (IsVariable v) (sym s) (p, b)
+  | inr later ↦ within_variable v c l (All-tail (λ (x : Literal). 0 < x.variable) k c h.0, omega (arith, h.1)) later
+]
+
+pub within_all : (v : ℕ) (c : List Literal) → greatest_variable c ≤ v → All (λ (l : Literal). l.variable ≤ v) c
+within_all v [] h = All-nil (λ (l : Literal). l.variable ≤ v)
+within_all v (k ∷ c) h = All-cons (λ (l : Literal). l.variable ≤ v) k c (omega arith) (within_all v c (omega arith))
+
+false_at : (a b : Bool) → ◌≡◌ {A = Option Bool} (if a then Some true else if b then Some false else None) (Some false) → b ≡ true
+false_at true b e = absurd (cc)
+false_at false true e = refl
+false_at false false e = absurd (cc)
+
+true_at : (a b : Bool) → ◌≡◌ {A = Option Bool} (if a then Some true else if b then Some false else None) (Some true) → a ≡ true
+true_at true b e = refl
+true_at false true e = absurd (cc)
+true_at false false e = absurd (cc)
+
+pub false_value : (T : List Assigned) (l : Literal) → value_in T l ≡ Some false → contains_literal (negation l) (literals_of T) ≡ true
+false_value T l e = false_at (contains_literal l (literals_of T)) (contains_literal (negation l) (literals_of T)) e
+
+pub true_value : (T : List Assigned) (l : Literal) → value_in T l ≡ Some true → contains_literal l (literals_of T) ≡ true
+true_value T l e = true_at (contains_literal l (literals_of T)) (contains_literal (negation l) (literals_of T)) e
+
+value_false : (a b : Bool) → a ≡ false → b ≡ true → ◌≡◌ {A = Option Bool} (if a then Some true else if b then Some false else None) (Some false)
+value_false true b e f = absurd (both_ways true e refl)
+value_false false true e f = refl
+value_false false false e f = absurd (false≢true f)
+
+-- what is not known to be false is not false
+pub not_false_value : (at : Clauses) (T : List Assigned) (l : Literal) → HasReasons at [] T → value_in T l ≢ Some false → contains_literal (negation l) (literals_of T) ≡ false
+not_false_value at T l h ne = false_from_ne_true (contains_literal (negation l) (literals_of T)) (λ e. elim (cases_Bool (contains_literal l (literals_of T))) [
+  | inl is ↦ no_opposites at T h l is e
+  | inr is ↦ ne (value_false (contains_literal l (literals_of T)) (contains_literal (negation l) (literals_of T)) is e)
+])
+
+all_map : {X : Type 0} (P Q : X → Type 0) (xs : List X) → ((x : X) → P x → Q x) → AllByRecursion P xs → AllByRecursion Q xs
+all_map P Q [] f h = tt
+all_map P Q (x ∷ xs) f h = (f x h.0, all_map P Q xs f h.1)
+
+-- all but one are false
+pub unit_from : (T : List Assigned) (c : List Literal) (o : Literal) → contains_literal o c ≡ true → value_in T o ≡ None → All (λ l. (l ≡ o) ⊎ (value_in T l ≡ Some false)) c → IsUnit c (literals_of T) o
+unit_from T c o member e all =
+    let n = open_at (contains_literal o (literals_of T)) (contains_literal (negation o) (literals_of T)) e in
+    record {
+      member = member;
+      not_true = n.0;
+      not_false = n.1;
+      others = all_map (λ l. (l ≡ o) ⊎ (value_in T l ≡ Some false)) (λ l. (l ≡ o) ⊎ (contains_literal (negation l) (literals_of T) ≡ true)) c
+          (λ l h. elim h [ inl s ↦ inl s | inr f ↦ inr (false_value T l f) ])
+          (recursion_from_All (λ l. (l ≡ o) ⊎ (value_in T l ≡ Some false)) c all);
+    }
+
+pub false_from : (T : List Assigned) (c : List Literal) (o : Literal) → value_in T o ≡ Some false → All (λ l. (l ≡ o) ⊎ (value_in T l ≡ Some false)) c → IsFalseUnder c (literals_of T)
+false_from T c o e all =
+    all_map (λ l. (l ≡ o) ⊎ (value_in T l ≡ Some false)) (λ l. contains_literal (negation l) (literals_of T) ≡ true) c
+    (λ l h. elim h [ inl s ↦ subst (λ x. contains_literal (negation x) (literals_of T) ≡ true) (sym s) (false_value T o e) | inr f ↦ false_value T l f ])
+    (recursion_from_All (λ l. (l ≡ o) ⊎ (value_in T l ≡ Some false)) c all)
+
+pub all_false_from : (T : List Assigned) (c : List Literal) → All (λ l. value_in T l ≡ Some false) c → IsFalseUnder c (literals_of T)
+all_false_from T c all =
+    all_map (λ l. value_in T l ≡ Some false) (λ l. contains_literal (negation l) (literals_of T) ≡ true) c (λ l f. false_value T l f)
+    (recursion_from_All (λ l. value_in T l ≡ Some false) c all)
+
+-- the other watch is one
+pub same_other : (p : Place) (w a b : Literal) → w ≢ a → IsWatchedBy p w a → IsWatchedBy p w b → b ≡ a
+same_other p w a b ne h g = elim h [
+  | inl x ↦ elim g [ inl y ↦ (cc) | inr y ↦ absurd (ne (cc)) ]
+  | inr x ↦ elim g [ inl y ↦ absurd (ne (cc)) | inr y ↦ (cc) ]
+]
+
+pub none_from : (o : Option Bool) (b : Bool) → is_some o ≡ not b → b ≡ true → o ≡ None
+none_from None b e f = refl
+none_from (Some x) true e f = absurd (cc)
+none_from (Some x) false e f = absurd (cc)
+
+-- neither open nor true
+pub false_left : (o : Option Bool) (b t : Bool) → is_some o ≡ not b → b ≡ false → t ≡ option_eq beq o (Some true) → t ≡ false → o ≡ Some false
+false_left None true t e f g h = absurd (cc)
+false_left None false t e f g h = absurd (cc)
+false_left (Some true) b t e f g h = absurd (cc)
+false_left (Some false) b t e f g h = refl

@@ -1,0 +1,228 @@
+-- The tables follow the trail.
+use Rattle.std.proofs.Common.{◌≡◌, ℕ, zero, suc, ◌+◌, ◌*◌, ◌-◌, ◌<◌, ◌≤◌, Bool, true, false, not, cond, List, [], ◌∷◌, ◌++◌, take, length, get_or, set, replicate, Option, Some, None, inl, inr, refl, sym, ◌∙◌, ap, subst, arith, zero-add}
+use mir.Val.{bool_byte}
+use Rattle.std.specs.Option.{is_some}
+use Rattle.std.specs.Prelude.{if◌then◌else◌, All, is_none, count_by}
+use Rattle.std.proofs.lemmas.Bool.{eq-eqb, ne_eqb, cases_Bool, cases_eq}
+use Rattle.std.proofs.lemmas.List.{map_push, get_or-set_other, get_or-set_same, length-set, length_push, get_or_push, get_or_append_left, length-replicate, take_all}
+use Rattle.std.proofs.lemmas.List.Sums.{sum_by-cons}
+use Rattle.std.proofs.lemmas.List.Elements.{All-push, All-nil}
+use Rattle.wcnf.specs.Literal.{Literal, negation, index_of}
+use Rattle.propagate.specs.Trail.{Assigned, literals_of, depth_of, value_in, level_in, level_after}
+use Rattle.propagate.specs.Tables.{mentions, IsNamed, reason_at, assigned_by, IsTrail}
+use Rattle.propagate.proofs.Literals.{same_variable, index-other, index-negation, index-within}
+use Rattle.propagate.proofs.Trails.{made, literals_of-assigned, open_none, assigned_by-set, value_push_other, value_push_same, value_push_negation, value_none, level_push, level_none, depth_push, once_push, once_last, once_front, values_push, values_pop}
+
+abbrev pub depth_with : ℕ → Option ℕ → ℕ
+depth_with d r = d + (if is_none r then 1 else 0)
+
+depth_with-after : (d : ℕ) (l : Literal) (r : Option ℕ) → depth_with d r ≡ level_after d (made l r)
+depth_with-after d l None = refl
+depth_with-after d l (Some r) = omega arith
+
+pub assigned_push : (R : List (Option ℕ)) (A : List Literal) (l : Literal) (r : Option ℕ) → l.variable < length R → mentions l.variable A ≡ false
+    → assigned_by (set R l.variable r) (A ++ l ∷ []) ≡ assigned_by R A ++ made l r ∷ []
+assigned_push R A l r h e =
+    map_push (λ (k : Literal). made k (reason_at (set R l.variable r) k.variable)) A l
+    ∙ ap (λ T. T ++ made l (reason_at (set R l.variable r) l.variable) ∷ []) (assigned_by-set R A l.variable r e)
+    ∙ ap (λ x. assigned_by R A ++ made l x ∷ []) (get_or-set_same R l.variable r None h)
+
+value_after : (n : ℕ) (vs : List (Option Bool)) (T : List Assigned) (l : Literal) (r : Option ℕ) → length vs ≡ 2 * n → IsNamed n l → mentions l.variable (literals_of T) ≡ false
+    → ((k : Literal) → IsNamed n k → get_or vs (index_of k) None ≡ value_in T k)
+    → (k : Literal) → IsNamed n k → get_or (set (set vs (index_of l) (Some true)) (index_of (negation l)) (Some false)) (index_of k) None ≡ value_in (T ++ made l r ∷ []) k
+value_after n vs T l r long named new says k h =
+    let inner = set vs (index_of l) (Some true) in
+    let long' = length-set vs (index_of l) (Some true) in
+    let named' : IsNamed n (negation l) = named in
+    let w = index-within n l named in
+    let w' = index-within n (negation l) named' in
+    elim (cases_eq k.variable l.variable) [
+      | inr ne ↦ get_or-set_other inner (index_of (negation l)) (index_of k) (Some false) None (index-other n k (negation l) h named' ne)
+          ∙ get_or-set_other vs (index_of l) (index_of k) (Some true) None (index-other n k l h named ne)
+          ∙ says k h ∙ sym (value_push_other T (made l r) k ne)
+      | inl same ↦ elim (same_variable k l same) [
+        | inl e ↦ rw e (get_or-set_other inner (index_of (negation l)) (index_of l) (Some false) None (index-negation l)
+            ∙ get_or-set_same vs (index_of l) (Some true) None (omega arith) ∙ sym (value_push_same T (made l r)))
+        | inr e ↦ rw e (get_or-set_same inner (index_of (negation l)) (Some false) None (omega arith) ∙ sym (value_push_negation T (made l r) new))
+      ]
+    ]
+
+level_after_push : (ls : List (Option ℕ)) (T : List Assigned) (l : Literal) (r : Option ℕ) (d : ℕ) → l.variable < length ls → d ≡ depth_of T → mentions l.variable (literals_of T) ≡ false
+    → ((v : ℕ) → get_or ls v None ≡ level_in T v)
+    → (v : ℕ) → get_or (set ls l.variable (Some (depth_with d r))) v None ≡ level_in (T ++ made l r ∷ []) v
+level_after_push ls T l r d long e new says v = elim (cases_eq v l.variable) [
+  | inl same ↦ rw same (get_or-set_same ls l.variable (Some (depth_with d r)) None long
+      ∙ ap Some (depth_with-after d l r) ∙ ap (λ k. Some (level_after k (made l r))) (e ∙ sym (zero-add (depth_of T))) ∙ sym (level_push 0 T (made l r) l.variable ∙ rw (new, eq-eqb l.variable l.variable refl) refl))
+  | inr ne ↦ get_or-set_other ls l.variable v (Some (depth_with d r)) None ne ∙ says v
+      ∙ sym (level_push 0 T (made l r) v ∙ rw (ne_eqb l.variable v (λ h. ne (sym h)))
+      (elim (cases_Bool (mentions v (literals_of T))) [ inl h ↦ rw h refl | inr h ↦ rw h (sym (level_none 0 T v h)) ]))
+]
+
+pub trail_push : (n : ℕ) (A : List Literal) (vs : List (Option Bool)) (ls : List (Option ℕ)) (R : List (Option ℕ)) (d room room' : ℕ) (l : Literal) (r : Option ℕ)
+    → n ≤ room' → IsTrail n A vs ls R d room → IsNamed n l → value_in (assigned_by R A) l ≡ None
+    → IsTrail n (A ++ l ∷ []) (set (set vs (index_of l) (Some true)) (index_of (negation l)) (Some false)) (set ls l.variable (Some (depth_with d r))) (set R l.variable r) (depth_with d r) room'
+trail_push n A vs ls R d room room' l r wide t named is_open =
+    let T = assigned_by R A in
+    let new : mentions l.variable (literals_of T) ≡ false = open_none T l is_open in
+    let new' : mentions l.variable A ≡ false = rw literals_of-assigned at new in
+    let shape = assigned_push R A l r (omega (arith, t.reasons_length)) new' in
+    let w = index-within n l named in
+    let w' = index-within n (negation l) named in
+    let e' : get_or vs (index_of (negation l)) None ≡ None = t.value_of (negation l) named ∙ value_none T (negation l) new in
+    record {
+      within = All-push (IsNamed n) A l t.within named;
+      once = once_push A l t.once new';
+      values_length = length-set (set vs (index_of l) (Some true)) (index_of (negation l)) (Some false) ∙ length-set vs (index_of l) (Some true) ∙ t.values_length;
+      levels_length = length-set ls l.variable (Some (depth_with d r)) ∙ t.levels_length;
+      reasons_length = length-set R l.variable r ∙ t.reasons_length;
+      value_of = λ k h. value_after n vs T l r t.values_length named new t.value_of k h ∙ sym (ap (λ X. value_in X k) shape);
+      level_of = λ v. level_after_push ls T l r d (omega (arith, t.levels_length)) t.depth_is new t.level_of v ∙ sym (ap (λ X. level_in X v) shape);
+      depth_is = ap (λ k. depth_with k r) t.depth_is ∙ depth_with-after (depth_of T) l r ∙ sym (depth_push T (made l r)) ∙ sym (ap depth_of shape);
+      has_room = wide;
+      open_literals = omega (
+        arith,
+        t.open_literals,
+        length_push A l,
+        values_push vs (index_of l) (index_of (negation l)) (index-negation l) (omega (arith, t.values_length)) (omega (arith, t.values_length)) (t.value_of l named ∙ is_open) e',
+      );
+    }
+
+-- an open literal leaves room
+pub room_left : (n : ℕ) (A : List Literal) (vs : List (Option Bool)) (ls : List (Option ℕ)) (R : List (Option ℕ)) (d room : ℕ) (l : Literal)
+    → IsTrail n A vs ls R d room → IsNamed n l → value_in (assigned_by R A) l ≡ None → length A < n
+room_left n A vs ls R d room l t named is_open =
+    let T = assigned_by R A in
+    let new : mentions l.variable (literals_of T) ≡ false = open_none T l is_open in
+    let w = index-within n l named in
+    let w' = index-within n (negation l) named in
+    let e' : get_or vs (index_of (negation l)) None ≡ None = t.value_of (negation l) named ∙ value_none T (negation l) new in
+    omega (
+      arith,
+      t.open_literals,
+      values_push vs (index_of l) (index_of (negation l)) (index-negation l) (omega (arith, t.values_length)) (omega (arith, t.values_length)) (t.value_of l named ∙ is_open) e',
+    )
+
+-- the last literal goes
+All-last : {X : Type 0} (P : X → Type 0) (xs : List X) (x : X) → All P (xs ++ x ∷ []) → P x
+All-last P xs x h = subst P (get_or_push xs x x (length xs) refl) (h (length xs) x (omega (arith, length_push xs x)))
+
+All-front : {X : Type 0} (P : X → Type 0) (xs : List X) (x : X) → All P (xs ++ x ∷ []) → All P xs
+All-front P xs x h k d lt = subst P (get_or_append_left xs (x ∷ []) d k lt) (h k d (omega (arith, length_push xs x)))
+
+value_before : (n : ℕ) (vs : List (Option Bool)) (T : List Assigned) (l : Literal) (r : Option ℕ) → length vs ≡ 2 * n → IsNamed n l → mentions l.variable (literals_of T) ≡ false
+    → ((k : Literal) → IsNamed n k → get_or vs (index_of k) None ≡ value_in (T ++ made l r ∷ []) k)
+    → (k : Literal) → IsNamed n k → get_or (set (set vs (index_of l) None) (index_of (negation l)) None) (index_of k) None ≡ value_in T k
+value_before n vs T l r long named new says k h =
+    let inner = set vs (index_of l) None in
+    let long' = length-set {A = Option Bool} vs (index_of l) None in
+    let w = index-within n l named in
+    let w' = index-within n (negation l) named in
+    elim (cases_eq k.variable l.variable) [
+      | inr ne ↦ get_or-set_other inner (index_of (negation l)) (index_of k) None None (index-other n k (negation l) h named ne)
+          ∙ get_or-set_other vs (index_of l) (index_of k) None None (index-other n k l h named ne)
+          ∙ says k h ∙ value_push_other T (made l r) k ne
+      | inl same ↦ elim (same_variable k l same) [
+        | inl e ↦ rw e (get_or-set_other inner (index_of (negation l)) (index_of l) None None (index-negation l)
+            ∙ get_or-set_same vs (index_of l) None None (omega arith) ∙ sym (value_none T l new))
+        | inr e ↦ rw e (get_or-set_same inner (index_of (negation l)) None None (omega arith) ∙ sym (value_none T (negation l) new))
+      ]
+    ]
+
+level_before_push : (ls : List (Option ℕ)) (T : List Assigned) (l : Literal) (r : Option ℕ) → l.variable < length ls → mentions l.variable (literals_of T) ≡ false
+    → ((v : ℕ) → get_or ls v None ≡ level_in (T ++ made l r ∷ []) v)
+    → (v : ℕ) → get_or (set ls l.variable None) v None ≡ level_in T v
+level_before_push ls T l r long new says v = elim (cases_eq v l.variable) [
+  | inl same ↦ rw same (get_or-set_same ls l.variable None None long ∙ sym (level_none 0 T l.variable new))
+  | inr ne ↦ get_or-set_other ls l.variable v None None ne ∙ says v
+      ∙ (level_push 0 T (made l r) v ∙ rw (ne_eqb l.variable v (λ h. ne (sym h)))
+      (elim (cases_Bool (mentions v (literals_of T))) [ inl h ↦ rw h refl | inr h ↦ rw h (sym (level_none 0 T v h)) ]))
+]
+
+abbrev pub depth_before : ℕ → Option ℕ → ℕ
+depth_before d r = d - (if is_none r then 1 else 0)
+
+depth_undone : (d e : ℕ) (r : Option ℕ) → d ≡ depth_with e r → depth_before d r ≡ e
+depth_undone d e None h = omega arith
+depth_undone d e (Some r) h = omega arith
+
+-- the last literal, and the rest
+pub trail_pop : (n : ℕ) (A : List Literal) (vs : List (Option Bool)) (ls : List (Option ℕ)) (R : List (Option ℕ)) (d room room' : ℕ) (l : Literal)
+    → n ≤ room' → IsTrail n (A ++ l ∷ []) vs ls R d room
+    → IsTrail n A (set (set vs (index_of l) None) (index_of (negation l)) None) (set ls l.variable None) R (depth_before d (reason_at R l.variable)) room'
+trail_pop n A vs ls R d room room' l wide t =
+    let T = assigned_by R A in
+    let r = reason_at R l.variable in
+    let new' : mentions l.variable A ≡ false = once_last A l t.once in
+    let new : mentions l.variable (literals_of T) ≡ false = rw literals_of-assigned new' in
+    let named : IsNamed n l = All-last (IsNamed n) A l t.within in
+    let shape : assigned_by R (A ++ l ∷ []) ≡ T ++ made l r ∷ [] = map_push (λ (k : Literal). made k (reason_at R k.variable)) A l in
+    let values : (k : Literal) → IsNamed n k → get_or vs (index_of k) None ≡ value_in (T ++ made l r ∷ []) k = λ k h. t.value_of k h ∙ ap (λ X. value_in X k) shape in
+    let w = index-within n l named in
+    let w' = index-within n (negation l) named in
+    let e = values l named ∙ value_push_same T (made l r) in
+    let e' = values (negation l) named ∙ value_push_negation T (made l r) new in
+    record {
+      within = All-front (IsNamed n) A l t.within;
+      once = once_front A l t.once;
+      values_length = length-set {A = Option Bool} (set vs (index_of l) None) (index_of (negation l)) None ∙ length-set {A = Option Bool} vs (index_of l) None ∙ t.values_length;
+      levels_length = length-set {A = Option ℕ} ls l.variable None ∙ t.levels_length;
+      reasons_length = t.reasons_length;
+      value_of = value_before n vs T l r t.values_length named new values;
+      level_of = level_before_push ls T l r (omega (arith, t.levels_length)) new (λ v. t.level_of v ∙ ap (λ X. level_in X v) shape);
+      depth_is = depth_undone d (depth_of T) r (t.depth_is ∙ ap depth_of shape ∙ depth_push T (made l r) ∙ sym (depth_with-after (depth_of T) l r));
+      has_room = wide;
+      open_literals = omega (
+        arith,
+        t.open_literals,
+        length_push A l,
+        values_pop vs (index_of l) (index_of (negation l)) true false (index-negation l) (omega (arith, t.values_length)) (omega (arith, t.values_length)) e e',
+      );
+    }
+
+pub trail_push_at : (n : ℕ) (A : List Literal) (vs : List (Option Bool)) (ls : List (Option ℕ)) (R : List (Option ℕ)) (d room room' : ℕ) (l : Literal) (r : Option ℕ)
+    (A' : List Literal) (vs' : List (Option Bool)) (v k : ℕ)
+    → A' ≡ A ++ l ∷ [] → vs' ≡ set (set vs (index_of l) (Some true)) (index_of (negation l)) (Some false) → v ≡ l.variable → k ≡ (if is_none r then 1 else 0)
+    → n ≤ room' → IsTrail n A vs ls R d room → IsNamed n l → value_in (assigned_by R A) l ≡ None
+    → IsTrail n A' vs' (set ls v (Some (d + k))) (set R v r) (d + k) room'
+trail_push_at n A vs ls R d room room' l r A' vs' v k a b e f wide t named o = rw (a, b, e, f) (trail_push n A vs ls R d room room' l r wide t named o)
+
+pub trail_pop_at : (n : ℕ) (A : List Literal) (vs : List (Option Bool)) (ls : List (Option ℕ)) (R : List (Option ℕ)) (d room room' : ℕ) (l : Literal)
+    (A' : List Literal) (vs' : List (Option Bool)) (v k : ℕ)
+    → A ≡ A' ++ l ∷ [] → vs' ≡ set (set vs (index_of l) None) (index_of (negation l)) None → v ≡ l.variable → k ≡ (if is_none (reason_at R l.variable) then 1 else 0)
+    → n ≤ room' → IsTrail n A vs ls R d room
+    → IsTrail n A' vs' (set ls v None) R (d - k) room'
+trail_pop_at n A vs ls R d room room' l A' vs' v k a b e f wide t = rw (b, e, f) (trail_pop n A' vs ls R d room room' l wide (rw a at t))
+
+pub one_from : (o : Option ℕ) (b : Bool) (k : ℕ) → is_some o ≡ not b → k ≡ bool_byte b → k ≡ (if is_none o then 1 else 0)
+one_from None true k e f = f
+one_from None false k e f = absurd (cc)
+one_from (Some r) true k e f = absurd (cc)
+one_from (Some r) false k e f = f
+
+-- tables of nothing
+get_none : {X : Type 0} (k v : ℕ) → get_or {A = Option X} (replicate k None) v None ≡ None
+get_none zero v = refl
+get_none (suc k) zero = refl
+get_none (suc k) (suc v) = get_none k v
+
+none_count : (k : ℕ) → count_by (is_none {T = Bool}) (replicate k None) ≡ k
+none_count zero = refl
+none_count (suc k) = sum_by-cons (λ (o : Option Bool). cond (is_none o) 1 0) None (replicate k None) ∙ omega (arith, none_count k)
+
+pub trail_none : (n room : ℕ) (vs : List (Option Bool)) (ls rs : List (Option ℕ)) → vs ≡ replicate (2 * n) None → ls ≡ replicate (n + 1) None → rs ≡ replicate (n + 1) None → n ≤ room
+    → IsTrail n [] vs ls rs 0 room
+trail_none n room vs ls rs e f g wide = record {
+  within = All-nil (IsNamed n);
+  once = λ k d lt. absurd (omega arith);
+  values_length = ap length e ∙ length-replicate (2 * n) None;
+  levels_length = ap length f ∙ length-replicate (n + 1) None;
+  reasons_length = ap length g ∙ length-replicate (n + 1) None;
+  value_of = λ l h. rw e (get_none (2 * n) (index_of l));
+  level_of = λ v. rw f (get_none (n + 1) v);
+  depth_is = refl;
+  has_room = wide;
+  open_literals = rw e (omega (arith, none_count (2 * n)));
+}
+
+pub resized : {X : Type 0} (xs ys : List X) (n k : ℕ) (x : X) → xs ≡ [] → k ≡ 0 → ys ≡ take n xs ++ replicate (n - k) x → ys ≡ replicate n x
+resized xs ys n k x e f g = g ∙ rw (take_all n xs (omega (arith, ap length e)), e) (ap (λ m. replicate m x) (omega arith))

@@ -1,0 +1,154 @@
+-- A waiting clause finds its place.
+use Rattle.std.proofs.Common.{◌≡◌, ◌≢◌, ℕ, ◌+◌, ◌<◌, Bool, true, false, List, [], ◌∷◌, ◌++◌, take, length, set, Option, Some, None, ◌⊎◌, inl, inr, refl, sym, ◌∙◌, ap, subst, arith}
+use Rattle.std.specs.Prelude.{All}
+use Rattle.std.specs.List.{AllByRecursion}
+use Rattle.std.proofs.lemmas.Bool.{cases_eq, false_from_ne_true}
+use Rattle.std.proofs.lemmas.List.{get_or-set_same, get_or-set_other, length-set, set-set, set-get_or, take_at}
+use Rattle.wcnf.specs.Literal.{Literal, negation, index_of}
+use Rattle.wcnf.specs.Clause.{contains_literal}
+use Rattle.clauses.specs.Slots.{Slots, clause_at}
+use Rattle.propagate.specs.declared.pool.Entry.{Entry}
+use Rattle.propagate.specs.declared.table.Place.TheVariants.{Waiting, Resting, Watching}
+use Rattle.propagate.specs.Rows.{row_at, with_row}
+use Rattle.propagate.specs.Trail.{literals_of, depth_of, level_in, value_in, kept_to}
+use Rattle.propagate.specs.Watches.{EngineState, IsEngine, is_attached, is_kept, place_in, watches_at, one_at, count_in}
+use Rattle.propagate.specs.Fits.{Fits, FitsPlace, IsWatch, IsWithin, HasBlocker, HasTrue}
+use Rattle.propagate.specs.Steps.{entry_of, pushed, watched, with_place, with_trail, Continues, IsMadeTrue}
+use Rattle.propagate.proofs.Literals.{index-within}
+use Rattle.propagate.proofs.Levels.{kept_all}
+use Rattle.propagate.proofs.Kept.{contains_take, in_kept}
+use Rattle.propagate.proofs.Reasons.{no_opposites}
+use Rattle.propagate.proofs.Places.{place_set_other, place_set_same, fits_place, blockers_kept, count-cons, one-same, one-other}
+use Rattle.propagate.proofs.Attaching.{kept_within}
+use Rattle.propagate.proofs.Looking.{within_variable, unit_from, true_value}
+use Rattle.propagate.proofs.Stepping.{count-append, all_join, open_watch, last_true}
+use Rattle.propagate.proofs.Continuing.{continues_unit, continues_same}
+use Rattle.propagate.proofs.Fitting.{fits_grow}
+use Rattle.propagate.proofs.Trails.{made}
+
+-- a literal of the current level, beside a true one
+pub level_watch : (e : EngineState) (c : List Literal) (one other : Literal) → contains_literal one c ≡ true → contains_literal one (literals_of e.trail) ≡ true
+    → contains_literal other c ≡ true → level_in e.trail other.variable ≡ Some (depth_of e.trail) → IsWatch e c other
+level_watch e c one other m t n at = record {
+  member = n;
+  covered = λ _. (one, m, t);
+  stays = λ to k.
+      let here = in_kept to e.trail (negation other) (depth_of e.trail) (contains_take (negation other) e.watches.settled (literals_of (kept_to to e.trail)) k) at in
+      subst (λ X. HasTrue c (literals_of X)) (sym (kept_all to e.trail here)) (one, m, t);
+}
+
+pub true_watch : (e : EngineState) (slots : Slots) (c : List Literal) (one : Literal) → Fits e slots → contains_literal one c ≡ true → contains_literal one (literals_of e.trail) ≡ true → IsWatch e c one
+true_watch e slots c one fits m t =
+    open_watch e c one m (false_from_ne_true (contains_literal (negation one) (literals_of e.trail)) (λ f. no_opposites (clause_at slots) e.trail fits.reasons one t f))
+
+count_pushed : (R : List (List Entry)) (l : Literal) (w : Entry) (q k : ℕ) → index_of l < length R → w.reference ≡ q → count_in q (row_at (pushed R l w) k) ≡ count_in q (row_at R k) + one_at (index_of l) k
+count_pushed R l w q k lt same = elim (cases_eq k (index_of l)) [
+  | inl at ↦ subst (λ z. count_in q (row_at (pushed R l w) z) ≡ count_in q (row_at R z) + one_at (index_of l) z) (sym at)
+      (let a = ap (count_in q) (get_or-set_same R (index_of l) (row_at R (index_of l) ++ w ∷ []) [] lt) ∙ count-append q (row_at R (index_of l)) (w ∷ []) in
+      let b = count-cons q w [] in let d = one-same w.reference q same in let g = one-same (index_of l) (index_of l) refl in omega arith)
+  | inr ne ↦ ap (count_in q) (get_or-set_other R (index_of l) k (row_at R (index_of l) ++ w ∷ []) [] ne) ∙ (let g = one-other (index_of l) k (λ h. ne (sym h)) in omega arith)
+]
+
+count_pushed_other : (R : List (List Entry)) (l : Literal) (w : Entry) (q k : ℕ) → index_of l < length R → w.reference ≢ q → count_in q (row_at (pushed R l w) k) ≡ count_in q (row_at R k)
+count_pushed_other R l w q k lt other = elim (cases_eq k (index_of l)) [
+  | inl at ↦ subst (λ z. count_in q (row_at (pushed R l w) z) ≡ count_in q (row_at R z)) (sym at)
+      (let a = ap (count_in q) (get_or-set_same R (index_of l) (row_at R (index_of l) ++ w ∷ []) [] lt) ∙ count-append q (row_at R (index_of l)) (w ∷ []) in
+      let b = count-cons q w [] in let d = one-other w.reference q other in omega arith)
+  | inr ne ↦ ap (count_in q) (get_or-set_other R (index_of l) k (row_at R (index_of l) ++ w ∷ []) [] ne)
+]
+
+all_pushed : (P : Entry → Type 0) (R : List (List Entry)) (l : Literal) (w : Entry) → index_of l < length R → P w → ((k : ℕ) → AllByRecursion P (row_at R k)) → (k : ℕ) → AllByRecursion P (row_at (pushed R l w) k)
+all_pushed P R l w lt h all k = elim (cases_eq k (index_of l)) [
+  | inl at ↦ subst (λ z. AllByRecursion P (row_at (pushed R l w) z)) (sym at) (subst (AllByRecursion P) (sym (get_or-set_same R (index_of l) (row_at R (index_of l) ++ w ∷ []) [] lt)) (all_join P (row_at R (index_of l)) (w ∷ []) (all (index_of l)) (h, tt)))
+  | inr ne ↦ subst (AllByRecursion P) (sym (get_or-set_other R (index_of l) k (row_at R (index_of l) ++ w ∷ []) [] ne)) (all k)
+]
+
+pub fits_watch : (e : EngineState) (slots : Slots) (r : ℕ) (c : List Literal) (one other : Literal) → IsEngine e → Fits e slots → place_in e.watches.table r ≡ Waiting
+    → clause_at slots r ≡ Some c → one ≢ other → IsWatch e c one → IsWatch e c other → Fits (watched e r one other) slots
+fits_watch e slots r c one other inv fits at live apart a b =
+    let R = e.watches.rows in
+    let w = entry_of r other in
+    let v = entry_of r one in
+    let R1 = pushed R one w in
+    let R2 = pushed R1 other v in
+    let t = set e.watches.table r (Watching one other) in
+    let was : is_attached e r ≡ true = ap is_kept at in
+    let f = fits.attached r was in
+    let same : f.0 ≡ c = cc (f.1, live) in
+    let within : IsWithin e.variables c = subst (IsWithin e.variables) same f.2.0 in
+    let l1 : index_of one < length R = let h = inv.rows in let g = index-within e.variables one (within_variable e.variables c one within a.member) in omega arith in
+    let l2 : index_of other < length R1 = let h = inv.rows in let g = index-within e.variables other (within_variable e.variables c other within b.member) in let k = length-set R (index_of one) (row_at R (index_of one) ++ w ∷ []) in omega arith in
+    let here : place_in t r ≡ Watching one other = place_set_same e.watches.table r (Watching one other) (kept_within e.watches.table r was) in
+    let elsewhere : (q : ℕ) → q ≢ r → place_in t q ≡ place_in e.watches.table q = λ q h. place_set_other e.watches.table r q (Watching one other) h in
+    let kept : is_kept (place_in t r) ≡ true = ap is_kept here in
+    fits_place e slots r t R2 e.watches.waiting fits elsewhere
+    (λ k. (c, live, (within, subst (λ z. FitsPlace e c z) (sym here) (apart, a, b))))
+    (inl kept)
+    (λ k q. elim (cases_eq r q) [
+      | inl is ↦ subst (λ z. count_in z (row_at R2 k) ≡ watches_at (place_in t z) k) is
+          (let g1 = count_pushed R1 other v r k l2 refl in let g2 = count_pushed R one w r k l1 refl in
+          let g3 = fits.rows k r ∙ ap (λ z. watches_at z k) at in let g4 = ap (λ z. watches_at z k) here in omega arith)
+      | inr ne ↦ count_pushed_other R1 other v q k l2 ne ∙ count_pushed_other R one w q k l1 ne ∙ fits.rows k q ∙ sym (ap (λ z. watches_at z k) (elsewhere q (λ h. ne (sym h))))
+    ])
+    (λ q h. elim (cases_eq q r) [
+      | inl is ↦ absurd (let h' = sym (ap (place_in t) is ∙ here) ∙ h in cc)
+      | inr nq ↦ fits.waiting q (sym (elsewhere q nq) ∙ h)
+    ])
+    (λ k. blockers_kept e slots r t R2 e.watches.waiting (row_at R2 k) elsewhere kept
+    (all_pushed (HasBlocker e slots) R1 other v l2 (c, was, live, a.member) (all_pushed (HasBlocker e slots) R one w l1 (c, was, live, b.member) fits.blockers) k))
+
+pub fits_rest : (e : EngineState) (slots : Slots) (r : ℕ) (c : List Literal) → Fits e slots → place_in e.watches.table r ≡ Waiting → clause_at slots r ≡ Some c → depth_of e.trail ≡ 0
+    → HasTrue c (literals_of e.trail) → Fits (with_place e r Resting) slots
+fits_rest e slots r c fits at live zero is_true =
+    let t = set e.watches.table r Resting in
+    let was : is_attached e r ≡ true = ap is_kept at in
+    let f = fits.attached r was in
+    let same : f.0 ≡ c = cc (f.1, live) in
+    let here : place_in t r ≡ Resting = place_set_same e.watches.table r Resting (kept_within e.watches.table r was) in
+    let elsewhere : (q : ℕ) → q ≢ r → place_in t q ≡ place_in e.watches.table q = λ q h. place_set_other e.watches.table r q Resting h in
+    let kept : is_kept (place_in t r) ≡ true = ap is_kept here in
+    fits_place e slots r t e.watches.rows e.watches.waiting fits elsewhere
+    (λ k. (c, live, (subst (IsWithin e.variables) same f.2.0, subst (λ z. FitsPlace e c z) (sym here) (subst (λ X. HasTrue c (literals_of X)) (sym (kept_all 0 e.trail (omega arith))) is_true))))
+    (inl kept)
+    (λ k q. elim (cases_eq q r) [
+      | inl is ↦ fits.rows k q ∙ ap (λ z. watches_at (place_in e.watches.table z) k) is ∙ ap (λ z. watches_at z k) at ∙ sym (ap (λ z. watches_at (place_in t z) k) is ∙ ap (λ z. watches_at z k) here)
+      | inr ne ↦ fits.rows k q ∙ sym (ap (λ z. watches_at z k) (elsewhere q ne))
+    ])
+    (λ q h. elim (cases_eq q r) [
+      | inl is ↦ absurd (let h' = sym (ap (place_in t) is ∙ here) ∙ h in cc)
+      | inr nq ↦ fits.waiting q (sym (elsewhere q nq) ∙ h)
+    ])
+    (λ k. blockers_kept e slots r t e.watches.rows e.watches.waiting (row_at e.watches.rows k) elsewhere kept (fits.blockers k))
+
+-- a pushed entry goes again
+pub unpushed : (R R1 : List (List Entry)) (i n : ℕ) (w : Entry) → i < length R → n ≡ length (row_at R i) → R1 ≡ with_row R i (row_at R i ++ w ∷ []) → with_row R1 i (take n (row_at R1 i)) ≡ R
+unpushed R R1 i n w lt len e =
+    rw (e, get_or-set_same R i (row_at R i ++ w ∷ []) [] lt, len) (set-set R i (row_at R i ++ w ∷ []) (take (length (row_at R i)) (row_at R i ++ w ∷ []))
+    ∙ ap (set R i) (take_at (row_at R i) (w ∷ []) (length (row_at R i)) refl) ∙ set-get_or R i [])
+
+value_left : (o : Option Bool) → o ≢ None → o ≢ Some false → o ≡ Some true
+value_left None n f = absurd (n refl)
+value_left (Some true) n f = refl
+value_left (Some false) n f = absurd (f refl)
+
+-- the one literal that is left becomes true
+pub made_true : (e e1 : EngineState) (slots : Slots) (r : ℕ) (c : List Literal) (l : Literal) → IsEngine e → Fits e slots → is_attached e r ≡ true → clause_at slots r ≡ Some c → IsWithin e.variables c
+    → contains_literal l c ≡ true → value_in e.trail l ≢ Some false → All (λ k. (k ≡ l) ⊎ (value_in e.trail k ≡ Some false)) c → IsMadeTrue e e1 l r
+    → Fits e1 slots × (contains_literal l (literals_of e1.trail) ≡ true) × Continues e e1 × (e1.watches ≡ e.watches)
+made_true e e1 slots r c l inv fits was live within member ne all h = elim h [
+  | inl new ↦
+      let T = e.trail ++ made l (Some r) ∷ [] in
+      let unit = unit_from e.trail c l member new.0 all in
+      let f : Fits (with_trail e T) slots = fits_grow e slots (made l (Some r)) inv.settled inv.processed (c, live, unit) was (within_variable e.variables c l within member) fits in (
+        subst (λ x. Fits x slots) (sym new.2) f,
+        subst (λ (x : EngineState). contains_literal l (literals_of x.trail) ≡ true) (sym new.2) (last_true e.trail (made l (Some r))),
+        subst (Continues e) (sym new.2) (continues_unit e l r),
+        ap (λ (x : EngineState). x.watches) new.2,
+      )
+  | inr old ↦ (
+    subst (λ x. Fits x slots) (sym old.1) fits,
+    subst (λ (x : EngineState). contains_literal l (literals_of x.trail) ≡ true) (sym old.1) (true_value e.trail l (value_left (value_in e.trail l) old.0 ne)),
+    subst (Continues e) (sym old.1) (continues_same e),
+    ap (λ (x : EngineState). x.watches) old.1,
+  )
+]

@@ -1,0 +1,36 @@
+use Rattle.std.proofs.Common.{◌≡◌, ◌+◌, ◌<◌, length, sym, ap, subst, ◌∙◌, arith}
+use Rattle.std.specs.Prelude.{IfNone}
+use Rattle.std.specs.List.{AllByRecursion}
+use Rattle.std.proofs.lemmas.List.{length-append}
+use Rattle.wcnf.specs.Literal.{index_of}
+use Rattle.propagate.specs.Rows.{row_at}
+use Rattle.propagate.specs.Trail.{literals_of}
+use Rattle.propagate.specs.Fits.{Fits}
+use Rattle.propagate.specs.Steps.{Continues, AreTrueWaiting, IsTrueEntry}
+use Rattle.propagate.proofs.Continuing.{continues_then, continues_progress}
+use Rattle.propagate.proofs.Completing.{complete, fits_advance, grown_at}
+use Rattle.propagate.proofs.engine.Engine.look_at_queue.Goals as goal
+
+pub loop-falsified-preserved : goal.loop-falsified-preserved
+loop-falsified-preserved c =
+    let slots = c.args.store.now.slots in
+    let old = c.loop-falsified.self in
+    let mid = c.look_at_row.new.self in
+    let w = c.in-Some.falsified in
+    let f = c.in_ok-conflict.ensures in
+    let g = f.continues in
+    let s = c.in-Some.ensures in
+    let long : length mid.trail ≡ length old.trail + length g.more = ap length g.grown ∙ length-append old.trail g.more in
+    let lt : mid.watches.processed < length mid.trail = let e = f.same in let b = s.0 in omega arith in
+    let row = subst (λ o. IfNone o (AllByRecursion (IsTrueEntry slots (literals_of mid.trail)) (row_at mid.watches.rows (index_of w)))) c.in_default-2.is f.done in
+    let at = grown_at old.trail mid.trail g.more old.watches.processed mid.watches.processed w w g.grown f.same s.0 s.3 in
+    let fits : Fits c.advance.new.self slots = subst (λ e. Fits e slots) (sym c.advance.ensures) (fits_advance mid slots w w lt at row f.fits) in
+    record {
+      continues = continues_then c.args.self.now mid c.advance.new.self (continues_then c.args.self.now old mid c.loop-falsified.invariant.continues g)
+          (subst (Continues mid) (sym c.advance.ensures) (continues_progress mid mid.watches.settled (mid.watches.processed + 1)));
+      fits = fits;
+      waiting = subst (AreTrueWaiting slots) (sym c.advance.ensures) f.waiting;
+    }
+
+pub returns-clause-complete : goal.returns-clause-complete
+returns-clause-complete c = complete c.loop-falsified.self c.args.store.now.slots c.in_default.ensures c.loop-falsified.invariant.waiting c.loop-falsified.invariant.fits

@@ -1,0 +1,100 @@
+use Rattle.std.proofs.Common.{◌≡◌, ◌≤◌, true, Some, refl, sym, ap, subst, ◌∙◌}
+use Rattle.std.specs.Prelude.{All, IfSome}
+use Rattle.wcnf.specs.Literal.{Literal}
+use Rattle.wcnf.specs.Clause.{contains_literal}
+use Rattle.clauses.specs.Slots.{clause_at}
+use Rattle.propagate.specs.declared.table.Place.TheVariants.{Watching, Resting}
+use Rattle.propagate.specs.Trail.{level_in, depth_of}
+use Rattle.propagate.specs.Watches.{EngineState, IsEngine, is_attached, is_kept}
+use Rattle.propagate.specs.Fits.{Fits, IsWithin}
+use Rattle.propagate.specs.Steps.{Continues}
+use Rattle.propagate.proofs.Looking.{within_variable, within_all}
+use Rattle.propagate.proofs.Continuing.{continues_place}
+use Rattle.propagate.proofs.Watching.{fits_watch, fits_rest, level_watch, true_watch}
+use Rattle.propagate.proofs.engine.Engine.settle.Goals as goal
+
+pub other_of_level-requires : goal.other_of_level-requires
+other_of_level-requires c =
+    let now = c.args.self.now in
+    let slots = c.args.store.now.slots in
+    let r = c.args.reference in
+    let was : is_attached now r ≡ true = ap is_kept c.requires.waits in
+    let f = c.requires.fits.attached r was in
+    let lits = c.lits-lits.result.now in
+    let same : f.0 ≡ lits = cc (f.1, c.lits-lits.ensures) in
+    let live : clause_at slots r ≡ Some lits = c.lits-lits.ensures in
+    let within : IsWithin now.variables lits = subst (IsWithin now.variables) same f.2.0 in
+    let v = ap (λ (x : EngineState). x.variables) c.self.view_is in
+    subst (λ n. All (λ (l : Literal). l.variable ≤ n) lits) (sym v) (within_all now.variables lits within.1)
+
+pub watch-requires-clause-one : goal.watch-requires-clause-one
+watch-requires-clause-one c =
+    let now = c.args.self.now in
+    let slots = c.args.store.now.slots in
+    let r = c.args.reference in
+    let was : is_attached now r ≡ true = ap is_kept c.requires.waits in
+    let f = c.requires.fits.attached r was in
+    let lits = c.lits-lits.result.now in
+    let same : f.0 ≡ lits = cc (f.1, c.lits-lits.ensures) in
+    let live : clause_at slots r ≡ Some lits = c.lits-lits.ensures in
+    let within : IsWithin now.variables lits = subst (IsWithin now.variables) same f.2.0 in
+    within_variable now.variables lits c.args.one within (subst (λ o. IfSome o (λ x. contains_literal c.args.one x ≡ true)) live c.requires.member)
+
+pub watch-requires-clause-other : goal.watch-requires-clause-other
+watch-requires-clause-other c =
+    let now = c.args.self.now in
+    let slots = c.args.store.now.slots in
+    let r = c.args.reference in
+    let was : is_attached now r ≡ true = ap is_kept c.requires.waits in
+    let f = c.requires.fits.attached r was in
+    let lits = c.lits-lits.result.now in
+    let same : f.0 ≡ lits = cc (f.1, c.lits-lits.ensures) in
+    let live : clause_at slots r ≡ Some lits = c.lits-lits.ensures in
+    let within : IsWithin now.variables lits = subst (IsWithin now.variables) same f.2.0 in
+    within_variable now.variables lits c.in-Some.other within c.in-Some.ensures.0
+
+pub returns-in-Some-clause-continues : goal.returns-in-Some-clause-continues
+returns-in-Some-clause-continues c =
+    let now = c.args.self.now in
+    subst (Continues now) (sym c.in_ok-watch.ensures.ok) (continues_place now c.args.reference (Watching c.args.one c.in-Some.other) _ (ap is_kept c.requires.waits) refl (λ e. (cc)))
+
+pub returns-in-Some-clause-fits : goal.returns-in-Some-clause-fits
+returns-in-Some-clause-fits c =
+    let now = c.args.self.now in
+    let slots = c.args.store.now.slots in
+    let r = c.args.reference in
+    let was : is_attached now r ≡ true = ap is_kept c.requires.waits in
+    let f = c.requires.fits.attached r was in
+    let lits = c.lits-lits.result.now in
+    let same : f.0 ≡ lits = cc (f.1, c.lits-lits.ensures) in
+    let live : clause_at slots r ≡ Some lits = c.lits-lits.ensures in
+    let within : IsWithin now.variables lits = subst (IsWithin now.variables) same f.2.0 in
+    let inv : IsEngine now = subst IsEngine c.self.view_is c.self.invariant in
+    let m : contains_literal c.args.one lits ≡ true = subst (λ o. IfSome o (λ x. contains_literal c.args.one x ≡ true)) live c.requires.member in
+    let trail = ap (λ (x : EngineState). x.trail) c.self.view_is in
+    let at : level_in now.trail c.in-Some.other.variable ≡ Some (depth_of now.trail) =
+    ap (λ T. level_in T c.in-Some.other.variable) (sym trail) ∙ c.in-Some.ensures.2 ∙ ap Some (c.depth-depth.ensures ∙ ap depth_of trail) in
+    subst (λ e. Fits e slots) (sym c.in_ok-watch.ensures.ok)
+    (fits_watch now slots r lits c.args.one c.in-Some.other inv c.requires.fits c.requires.waits live (λ e. c.in-Some.ensures.1 (sym e))
+    (true_watch now slots lits c.args.one c.requires.fits m c.requires.is_true) (level_watch now lits c.args.one c.in-Some.other m c.requires.is_true c.in-Some.ensures.0 at))
+
+pub returns-then-depth-eq0-clause-continues : goal.returns-then-depth-eq0-clause-continues
+returns-then-depth-eq0-clause-continues c =
+    let now = c.args.self.now in
+    subst (Continues now) (sym c.rest.ensures) (continues_place now c.args.reference Resting _ (ap is_kept c.requires.waits) refl (λ e. (cc)))
+
+pub returns-then-depth-eq0-clause-fits : goal.returns-then-depth-eq0-clause-fits
+returns-then-depth-eq0-clause-fits c =
+    let now = c.args.self.now in
+    let slots = c.args.store.now.slots in
+    let r = c.args.reference in
+    let was : is_attached now r ≡ true = ap is_kept c.requires.waits in
+    let f = c.requires.fits.attached r was in
+    let lits = c.lits-lits.result.now in
+    let same : f.0 ≡ lits = cc (f.1, c.lits-lits.ensures) in
+    let live : clause_at slots r ≡ Some lits = c.lits-lits.ensures in
+    let within : IsWithin now.variables lits = subst (IsWithin now.variables) same f.2.0 in
+    let m : contains_literal c.args.one lits ≡ true = subst (λ o. IfSome o (λ x. contains_literal c.args.one x ≡ true)) live c.requires.member in
+    let trail = ap (λ (x : EngineState). x.trail) c.self.view_is in
+    let zero : depth_of now.trail ≡ 0 = sym (c.depth-depth.ensures ∙ ap depth_of trail) ∙ c.if-depth-eq0.true in
+    subst (λ e. Fits e slots) (sym c.rest.ensures) (fits_rest now slots r lits c.requires.fits c.requires.waits live zero (c.args.one, m, c.requires.is_true))

@@ -1,0 +1,42 @@
+use Rattle.std.proofs.Common.{◌≡◌, ◌<◌, length, take, ◌++◌, ◌∷◌, [], ap, ◌∙◌, arith}
+use Rattle.std.proofs.lemmas.List.{length-set}
+use Rattle.wcnf.specs.Literal.{index_of}
+use Rattle.propagate.specs.declared.table.Place.TheVariants.{Watching}
+use Rattle.propagate.specs.Rows.{row_at, with_row}
+use Rattle.propagate.specs.Watches.{EngineState, engine_state, is_attached}
+use Rattle.propagate.specs.Steps.{entry_of}
+use Rattle.propagate.proofs.Pools.{on_err_at, on_ok_at}
+use Rattle.propagate.proofs.Literals.{index-within}
+use Rattle.propagate.proofs.Attaching.{engine_set, kept_within}
+use Rattle.propagate.proofs.Watching.{unpushed}
+use Rattle.propagate.proofs.engine.Engine.watch.Goals as goal
+
+pub returns-then-is_err-clause-err : goal.returns-then-is_err-clause-err
+returns-then-is_err-clause-err c =
+    let i = c.self.inside in
+    let k = index_of c.args.one in
+    let variables = ap (λ (x : EngineState). x.variables) c.self.view_is in
+    let lt : k < length i.pool = omega (arith, c.self.invariant.rows, index-within i.trail.variables c.args.one (c.requires.one.0, omega (arith, c.requires.one.1))) in
+    let e1 : c.push-2.new.self ≡ with_row i.pool k (row_at i.pool k ++ entry_of c.args.reference c.args.other ∷ []) =
+    on_err_at c.push-2.result c.if-is_err.ensures.value c.push-2.ensures.err ∙ c.in_ok-push.ensures.ok
+    ∙ ap (λ j. with_row i.pool j (row_at i.pool j ++ entry_of c.args.reference c.args.other ∷ [])) c.index-2.ensures.index in
+    let n = c.len-len.ensures ∙ ap (λ j. length (row_at i.pool j)) c.index.ensures.index in
+    let pool : c.truncate.new.self ≡ i.pool =
+    c.truncate.ensures ∙ ap (λ j. with_row c.push-2.new.self j (take c.len-len.result (row_at c.push-2.new.self j))) c.index-then-is_err.ensures.index
+    ∙ unpushed i.pool c.push-2.new.self k c.len-len.result (entry_of c.args.reference c.args.other) lt n e1 in
+    ap (λ p. engine_state i.trail i.table.items p i.waiting.items i.settled i.processed i.failed) pool ∙ c.self.view_is
+
+pub invariant_of-self-2 : goal.invariant_of-self-2
+invariant_of-self-2 c =
+    let i = c.self.inside in
+    let r = c.args.reference in
+    let e = engine_state i.trail i.table.items i.pool i.waiting.items i.settled i.processed i.failed in
+    let variables = ap (λ (x : EngineState). x.variables) c.self.view_is in
+    let lt : r < length i.table.items = kept_within i.table.items r (ap (λ x. is_attached x r) c.self.view_is ∙ c.requires.attached) in
+    let long : length c.push-2.new.self ≡ length i.pool =
+    ap length (on_ok_at c.push-2.result c.if-is_err.ensures.value c.push-2.ensures.ok) ∙ length-set _ _ _ ∙ ap length c.in_ok-push.ensures.ok ∙ length-set _ _ _ in
+    rw c.index-4.ensures (engine_set e r (Watching c.args.one c.args.other) c.push-2.new.self i.waiting.items c.self.invariant long lt
+    (λ one other at.
+    let a : one ≡ c.args.one = cc in
+    let b : other ≡ c.args.other = cc in
+    rw (a, b) ((c.requires.one.0, omega (arith, c.requires.one.1)), (c.requires.other.0, omega (arith, c.requires.other.1)))))

@@ -1,0 +1,77 @@
+-- How an engine keeps the clauses that are attached to it.
+use Rattle.std.specs.Prelude.{◌≡◌, ℕ, ◌*◌, ◌+◌, ◌<◌, ◌≤◌, Bool, true, false, List, length, slice_index_or, ◌==◌, if◌then◌else◌, count_by}
+use Rattle.wcnf.specs.Literal.{Literal, index_of}
+use Rattle.propagate.specs.declared.pool.Entry.{Entry}
+use Rattle.propagate.specs.declared.table.Place.{Place}
+use Rattle.propagate.specs.declared.table.Place.TheVariants.{Detached, Waiting, Resting, Watching}
+use Rattle.propagate.specs.Trail.{Assigned, TrailState}
+
+pub record Watches : Type 0 where
+  -- for each reference, whether it is attached, and its two watches
+  pub table : List Place
+  -- for each literal, the clauses that watch it
+  pub rows : List (List Entry)
+  -- the clauses without watches that are to be looked at, and others
+  pub waiting : List ℕ
+  -- how much of the trail was looked at, at its levels' ends too
+  pub settled : ℕ
+  -- how much of the trail was looked at
+  pub processed : ℕ
+
+pub record EngineState : Type 0 where
+  pub variables : ℕ
+  pub trail : List Assigned
+  pub failed : Bool
+  pub watches : Watches
+
+abbrev pub engine_state : TrailState → List Place → List (List Entry) → List ℕ → ℕ → ℕ → Bool → EngineState
+engine_state trail table rows waiting settled processed failed = record {
+  variables = trail.variables;
+  trail = trail.assigned;
+  failed = failed;
+  watches = record { table = table; rows = rows; waiting = waiting; settled = settled; processed = processed };
+}
+
+abbrev pub place_in : List Place → ℕ → Place
+place_in table r = slice_index_or table r Detached
+
+abbrev pub is_kept : Place → Bool
+is_kept Detached = false
+is_kept Waiting = true
+is_kept Resting = true
+is_kept (Watching one other) = true
+
+abbrev pub is_attached : EngineState → ℕ → Bool
+is_attached e r = is_kept (place_in e.watches.table r)
+
+-- the same clauses are attached
+abbrev pub SameAttached : EngineState → EngineState → Type 0
+SameAttached old new = (r : ℕ) → is_attached new r ≡ is_attached old r
+
+-- r is attached or not, and all others as before
+abbrev pub SetsAttached : EngineState → EngineState → ℕ → Bool → Type 0
+SetsAttached old new r attached = (is_attached new r ≡ attached) × ((q : ℕ) → (q ≡ r → ⊥) → is_attached new q ≡ is_attached old q)
+
+abbrev pub IsVariable : ℕ → Literal → Type 0
+IsVariable variables l = (0 < l.variable) × (l.variable ≤ variables)
+
+-- how often the row has the clause
+abbrev pub count_in : ℕ → List Entry → ℕ
+count_in r row = count_by (λ w. w.reference == r) row
+
+abbrev pub one_at : ℕ → ℕ → ℕ
+one_at i j = if i == j then 1 else 0
+
+-- how often a clause in this place stands in a row
+abbrev pub watches_at : Place → ℕ → ℕ
+watches_at Detached i = 0
+watches_at Waiting i = 0
+watches_at Resting i = 0
+watches_at (Watching one other) i = one_at (index_of one) i + one_at (index_of other) i
+
+-- what holds of an engine between its calls
+pub record IsEngine (e : EngineState) : Type 0 where
+  pub rows : length e.watches.rows ≡ 2 * e.variables
+  pub watching : (r : ℕ) (one other : Literal) → place_in e.watches.table r ≡ Watching one other → IsVariable e.variables one × IsVariable e.variables other
+  pub settled : e.watches.settled ≤ e.watches.processed
+  pub processed : e.watches.processed ≤ length e.trail

@@ -1,0 +1,304 @@
+// The trail and the clauses that are attached to it.
+ghost use Rattle.std.specs.Prelude.{◌≡◌, ℕ, ◌+◌, ◌<◌, ◌≤◌, Bool, true, false, List, [], ◌∷◌, ◌++◌, Some, None, length, map, All, Contains, OnOk, OnErr, IfOk, IfSome, IfNone, IsErr, ◌↔◌};
+ghost use Rattle.clauses.specs.Slots.{Slots, IsLive, clause_at};
+ghost use Rattle.propagate.specs.Trail.{literals_of, depth_of, value_in, level_in, reason_in, kept_to};
+ghost use Rattle.propagate.specs.Watches.{is_attached, place_in, SameAttached, SetsAttached};
+ghost use Rattle.propagate.specs.Steps.{enlisted, grown_table, with_trail, Continues, IsConflict};
+ghost use Rattle.propagate.specs.Fits.{Fits, IsWithin, GrowsByUnits, IsFalseClause, IsComplete};
+
+mod queue;
+mod waiting;
+
+use crate::pool::WatchPool;
+use crate::table::Place;
+use crate::trail::Trail;
+use clauses::store::{CRef, Store};
+use std::alloc::{AllocError, Global};
+use std::marker::Model;
+use wcnf::types::Lit;
+
+/// Why an engine gave no answer.
+#[derive(Clone, Copy, Debug, PartialEq, Eq, Drop)]
+pub enum EngineFault {
+    /// A growth was refused in this call. The engine has failed from then on.
+    Memory,
+    /// An earlier call answered `Memory`. It is answered then by each later call that can, and never else.
+    Failed,
+}
+
+/// Keeps the trail of the literals that are true, and makes true what the attached clauses leave no choice on: unit
+/// propagation (Handbook of Satisfiability, chapter 4) by two watched literals a clause (Moskewicz et al. 2001), each
+/// entry with another literal of its clause beside it, as in MiniSat 2.1 (Sörensson and Eén 2008).
+///
+/// It serves any order of calls: a clause may be attached while it is unit or false, and a literal may be decided before
+/// propagation has finished.
+#[derive(Drop)]
+pub struct Engine {
+    trail: Trail,
+    // By reference.
+    table: Vec<Place>,
+    // By literal, the clauses that watch it.
+    pool: WatchPool,
+    waiting: Vec<CRef>,
+    settled: usize,
+    processed: usize,
+    failed: bool,
+}
+
+impl Model for Engine {
+    ghost use Rattle.propagate.specs.Watches.{EngineState, engine_state, IsEngine};
+
+    ghost Value = { EngineState };
+
+    ghost view = { λ e. engine_state e.trail e.table.items e.pool e.waiting.items e.settled e.processed e.failed };
+
+    ghost invariant = { λ e. IsEngine (engine_state e.trail e.table.items e.pool e.waiting.items e.settled e.processed e.failed) };
+}
+
+/// The table gets a place for the clause. A refused growth changes nothing.
+fn make_room(table: &mut Vec<Place>, reference: CRef) -> Result<(), AllocError>
+    ensures ok { OnOk result (table.new.items ≡ grown_table table.old.items reference) }
+    ensures err { OnErr result (table.new.items ≡ table.old.items) }
+{
+    if table.len() <= reference.index() {
+        table.resize(reference.index() + 1, Place::Detached)?;
+    }
+    Ok(())
+}
+
+impl Engine {
+    /// An engine over the variables from 1 to `vars`, in which nothing is true or attached.
+    ///
+    /// # Errors
+    ///
+    /// `AllocError` where memory was refused.
+    pub fn new(alloc: Global, vars: u32) -> Result<Self, AllocError>
+        ensures empty { IfOk result (λ e. (e.variables ≡ vars) × (e.trail ≡ []) × (e.failed ≡ false)) }
+        ensures fits { IfOk result (λ e. (slots : Slots) → Fits e slots) }
+        ensures unattached { IfOk result (λ e. (r : ℕ) → is_attached e r ≡ false) }
+    {
+        let trail = Trail::new(alloc, vars)?;
+        let pool = WatchPool::new(alloc, 2 * vars as usize)?;
+        Ok(Engine {
+            trail,
+            table: Vec::new(alloc),
+            pool,
+            waiting: Vec::new(alloc),
+            settled: 0,
+            processed: 0,
+            failed: false,
+        })
+    }
+
+    /// Whether a literal is true; none where it is open. In constant time.
+    pub fn value(&self, lit: Lit) -> Option<bool>
+        requires { lit.variable ≤ self.now.variables }
+        ensures { result ≡ value_in self.now.trail lit }
+    {
+        self.trail.value(lit)
+    }
+
+    /// From now on `propagate` looks at the clause, which may be unit or false already, and may have any number of literals.
+    ///
+    /// # Errors
+    ///
+    /// `Memory` where a growth was refused: the clause is not attached, and the engine has failed. `Failed` where it had
+    /// failed before.
+    pub fn attach(&mut self, store: &Store, reference: CRef) -> Result<(), EngineFault>
+        requires fits { Fits self.old store.now.slots }
+        requires live { IsLive store.now.slots reference }
+        requires small { IfSome (clause_at store.now.slots reference) (IsWithin self.old.variables) }
+        requires once { is_attached self.old reference ≡ false }
+        ensures attached { OnOk result (SetsAttached self.old self.new reference true) }
+        ensures trail { OnOk result ((self.new.trail ≡ self.old.trail) × (self.new.variables ≡ self.old.variables)) }
+        ensures fits { OnOk result (Fits self.new store.now.slots) }
+        ensures err { OnErr result (self.new ≡ record self.old { failed = true }) }
+        ensures failed { (result ≡ Err EngineFault.Failed) ↔ (self.old.failed ≡ true) }
+        ensures fails { IsErr result ↔ (self.new.failed ≡ true) }
+    {
+        let _ = store;
+        if self.failed {
+            return Err(EngineFault::Failed);
+        }
+        match self.enlist(reference) {
+            Ok(()) => Ok(()),
+            Err(_) => {
+                self.failed = true;
+                Err(EngineFault::Memory)
+            }
+        }
+    }
+
+    /// From now on `propagate` looks past the clause, which is no reason of a literal.
+    pub fn detach(&mut self, reference: CRef)
+        requires attached { is_attached self.old reference ≡ true }
+        requires no_reason { All (λ a. a.reason ≡ Some reference → ⊥) self.old.trail }
+        ensures detached { SetsAttached self.old self.new reference false }
+        ensures same { (self.new.trail ≡ self.old.trail) × (self.new.variables ≡ self.old.variables) × (self.new.failed ≡ self.old.failed) }
+        ensures fits { (slots : Slots) → Fits self.old slots → Fits self.new slots }
+    {
+        let place = self.table[reference.index()];
+        self.table[reference.index()] = Place::Detached;
+        match place {
+            Place::Detached => {}
+            Place::Waiting => self.waiting.retain(|r| *r != reference),
+            Place::Resting => {}
+            Place::Watching(one, other) => {
+                self.pool.remove(one.index(), reference);
+                self.pool.remove(other.index(), reference);
+            }
+        }
+    }
+
+    /// Opens a level with a literal that has no value. It takes no memory.
+    pub fn decide(&mut self, lit: Lit)
+        requires small { lit.variable ≤ self.old.variables }
+        requires open { value_in self.old.trail lit ≡ None }
+        ensures trail { self.new.trail ≡ self.old.trail ++ record { literal = lit; reason = None } ∷ [] }
+        ensures attached { SameAttached self.old self.new }
+        ensures same { (self.new.variables ≡ self.old.variables) × (self.new.failed ≡ self.old.failed) }
+        ensures fits { (slots : Slots) → Fits self.old slots → Fits self.new slots }
+    {
+        self.promote();
+        self.trail.push(lit, None);
+    }
+
+    /// Keeps the literals of the levels up to `level`, at the cost of those that it undoes. It takes no memory.
+    pub fn backtrack(&mut self, level: u32)
+        requires { level ≤ depth_of self.old.trail }
+        ensures trail { self.new.trail ≡ kept_to level self.old.trail }
+        ensures attached { SameAttached self.old self.new }
+        ensures same { (self.new.variables ≡ self.old.variables) × (self.new.failed ≡ self.old.failed) }
+        ensures fits { (slots : Slots) → Fits self.old slots → Fits self.new slots }
+    {
+        self.promote();
+        self.trail.backtrack(level);
+        self.settled = self.settled.min(self.trail.len());
+        self.processed = self.settled;
+    }
+
+    /// The level of a variable that has a value, from 0: the number of decisions up to it. In constant time.
+    pub fn level(&self, variable: u32) -> Option<u32>
+        requires { variable ≤ self.now.variables }
+        ensures { result ≡ level_in self.now.trail variable }
+    {
+        self.trail.level(variable)
+    }
+
+    /// The clause that left no choice; none for a decision and where there is no value.
+    pub fn reason(&self, variable: u32) -> Option<CRef>
+        requires { variable ≤ self.now.variables }
+        ensures { result ≡ reason_in self.now.trail variable }
+    {
+        self.trail.reason(variable)
+    }
+
+    /// The literals that are true, in the order in which they became so.
+    pub fn trail(&self) -> &[Lit]
+        ensures { result.now ≡ literals_of self.now.trail }
+    {
+        self.trail.literals()
+    }
+
+    /// The current level: the number of decisions.
+    pub fn depth(&self) -> u32
+        ensures { result ≡ depth_of self.now.trail }
+    {
+        self.trail.depth()
+    }
+
+    /// Makes true what is left, and answers an attached clause that is false, or none: then no attached clause is false or
+    /// unit. What became true stands at the end of the trail, at the current level.
+    ///
+    /// # Errors
+    ///
+    /// `Memory` where a growth was refused: the engine has failed, and still belongs to the store. `Failed` where it had
+    /// failed before: nothing has changed.
+    pub fn propagate(&mut self, store: &Store) -> Result<Option<CRef>, EngineFault>
+        requires fits { Fits self.old store.now.slots }
+        ensures grows { GrowsByUnits store.now.slots self.old self.new }
+        ensures conflict { IfOk result (λ found. IfSome found (λ r. (is_attached self.new r ≡ true) × IsFalseClause store.now.slots self.new r)) }
+        ensures complete { IfOk result (λ found. IfNone found (IsComplete store.now.slots (is_attached self.new) self.new.trail)) }
+        ensures attached { SameAttached self.old self.new }
+        ensures same { self.new.variables ≡ self.old.variables }
+        ensures fits { Fits self.new store.now.slots }
+        ensures failed { (result ≡ Err EngineFault.Failed) ↔ (self.old.failed ≡ true) }
+        ensures fails { IsErr result ↔ (self.new.failed ≡ true) }
+    {
+        if self.failed {
+            return Err(EngineFault::Failed);
+        }
+        match self.propagate_all(store) {
+            Ok(found) => Ok(found),
+            Err(_) => {
+                self.failed = true;
+                Err(EngineFault::Memory)
+            }
+        }
+    }
+
+    /// The clause is to be looked at. A refused growth changes nothing.
+    fn enlist(&mut self, reference: CRef) -> Result<(), AllocError>
+        ensures ok { OnOk result (self.new ≡ enlisted self.old reference) }
+        ensures err { OnErr result (self.new ≡ self.old) }
+    {
+        let len = self.table.len();
+        make_room(&mut self.table, reference)?;
+        if self.waiting.push(reference).is_err() {
+            self.table.truncate(len);
+            return Err(AllocError);
+        }
+        self.table[reference.index()] = Place::Waiting;
+        Ok(())
+    }
+
+    /// Where the trail past `settled` is of the current level, what was looked at stays so when levels are undone.
+    fn promote(&mut self)
+        ensures shape { self.new ≡ record self.old { watches = record self.old.watches { settled = self.new.watches.settled } } }
+        ensures fits { (slots : Slots) → Fits self.old slots → Fits self.new slots }
+    {
+        if self.settled < self.processed {
+            let lit = self.trail.literals()[self.settled];
+            if self.trail.level(lit.variable()) == Some(self.trail.depth()) {
+                self.settled = self.processed;
+            }
+        }
+    }
+
+    fn place(&self, reference: CRef) -> Place
+        ensures { result ≡ place_in self.now.watches.table reference }
+    {
+        if reference.index() < self.table.len() {
+            self.table[reference.index()]
+        } else {
+            Place::Detached
+        }
+    }
+
+    /// Makes an open literal true, by the clause that leaves no choice.
+    fn imply(&mut self, lit: Lit, reference: CRef)
+        requires small { lit.variable ≤ self.old.variables }
+        requires open { value_in self.old.trail lit ≡ None }
+        ensures pushed { self.new ≡ with_trail self.old (self.old.trail ++ record { literal = lit; reason = Some reference } ∷ []) }
+        ensures from_one { 0 < lit.variable }
+    {
+        self.trail.push(lit, Some(reference));
+    }
+
+    /// The waiting clauses first, then the queue.
+    fn propagate_all(&mut self, store: &Store) -> Result<Option<CRef>, AllocError>
+        requires { Fits self.old store.now.slots }
+        ensures continues { Continues self.old self.new }
+        ensures fits { Fits self.new store.now.slots }
+        ensures conflict { IfOk result (λ found. IfSome found (IsConflict store.now.slots self.new)) }
+        ensures complete { IfOk result (λ found. IfNone found (IsComplete store.now.slots (is_attached self.new) self.new.trail)) }
+    {
+        match self.look_at_waiting(store)? {
+            Some(conflict) => Ok(Some(conflict)),
+            None => self.look_at_queue(store),
+        }
+    }
+}
+
+#[cfg(test)]
+mod tests;

@@ -1,0 +1,224 @@
+// The literals that became true, each with the clauses that watch its negation.
+ghost use Rattle.std.specs.Prelude.{◌≡◌, ◌≢◌, ℕ, ◌+◌, ◌<◌, ◌≤◌, true, Some, None, length, IfOk, IfSome, IfNone, MatchOption, OnOk, OnErr, slice_index_or, slice_set};
+ghost use Rattle.std.specs.List.{AllByRecursion};
+ghost use Rattle.wcnf.specs.Literal.{Literal, negation, index_of};
+ghost use Rattle.wcnf.specs.Clause.{contains_literal};
+ghost use Rattle.propagate.specs.Rows.{row_at, with_row};
+ghost use Rattle.propagate.specs.Trail.{literals_of, value_in};
+ghost use Rattle.propagate.specs.Watches.{IsVariable, is_attached, place_in};
+ghost use Rattle.propagate.specs.Fits.{Fits, IsComplete};
+ghost use Rattle.propagate.specs.Steps.{Continues, AreTrueWaiting, IsTrueEntry, IsConflict, IsWatched, IsWatchedBy, InRow, with_rows, closed, moved};
+ghost use Rattle.propagate.specs.Looks.{LookSays, StepSays};
+
+use super::Engine;
+use crate::pool::Entry;
+use crate::search::other_not_false;
+use crate::table::Place;
+use clauses::store::{CRef, Store};
+use std::alloc::AllocError;
+use wcnf::types::Lit;
+
+/// What is found of a clause whose watched literal is false.
+#[derive(Clone, Copy, Drop)]
+pub(crate) enum Look {
+    /// This literal of it is true.
+    True(Lit),
+    /// Beside the other watch, the first, the second literal may be watched.
+    Watch(Lit, Lit),
+    /// All literals but this one, which is open, are false.
+    Unit(Lit),
+    /// All literals are false.
+    False,
+}
+
+/// What became of an entry.
+#[derive(Clone, Copy, Drop)]
+pub(crate) enum Step {
+    /// It stays in its row.
+    Kept,
+    /// It went to another row.
+    Moved,
+    /// The clause is false.
+    Conflict(CRef),
+    /// The other row could not grow.
+    Refused,
+}
+
+impl Engine {
+    /// Looks at what the literals that became true leave no choice on.
+    pub(super) fn look_at_queue(&mut self, store: &Store) -> Result<Option<CRef>, AllocError>
+        requires fits { Fits self.old store.now.slots }
+        requires waiting { AreTrueWaiting store.now.slots self.old }
+        ensures continues { Continues self.old self.new }
+        ensures fits { Fits self.new store.now.slots }
+        ensures conflict { IfOk result (λ found. IfSome found (IsConflict store.now.slots self.new)) }
+        ensures complete { IfOk result (λ found. IfNone found (IsComplete store.now.slots (is_attached self.new) self.new.trail)) }
+    {
+        while let Some(falsified) = self.next_falsified() {
+            if let Some(conflict) = self.look_at_row(store, falsified)? {
+                return Ok(Some(conflict));
+            }
+            self.advance();
+        }
+        Ok(None)
+    }
+
+    /// The negation of the first literal that was not looked at.
+    fn next_falsified(&self) -> Option<Lit>
+        ensures { MatchOption result (self.now.watches.processed ≡ length self.now.trail)
+            (λ w. (self.now.watches.processed < length self.now.trail) × (self.now.watches.processed < self.now.variables) × IsVariable self.now.variables w
+            × (w ≡ negation (slice_index_or (literals_of self.now.trail) self.now.watches.processed w))) }
+    {
+        if self.processed < self.trail.len() {
+            Some(self.trail.literals()[self.processed].negation())
+        } else {
+            None
+        }
+    }
+
+    fn advance(&mut self)
+        requires { self.old.watches.processed < length self.old.trail }
+        ensures { self.new ≡ record self.old { watches = record self.old.watches { processed = self.old.watches.processed + 1 } } }
+    {
+        if self.processed < self.trail.len() {
+            self.processed += 1;
+        }
+    }
+
+    /// Filters the row of a literal that is false: what stays has a true literal.
+    fn look_at_row(&mut self, store: &Store, falsified: Lit) -> Result<Option<CRef>, AllocError>
+        requires fits { Fits self.old store.now.slots }
+        requires waiting { AreTrueWaiting store.now.slots self.old }
+        requires falsified { contains_literal (negation falsified) (literals_of self.old.trail) ≡ true }
+        requires named { IsVariable self.old.variables falsified }
+        ensures continues { Continues self.old self.new }
+        ensures fits { Fits self.new store.now.slots }
+        ensures waiting { AreTrueWaiting store.now.slots self.new }
+        ensures same { self.new.watches.processed ≡ self.old.watches.processed }
+        ensures conflict { IfOk result (λ found. IfSome found (IsConflict store.now.slots self.new)) }
+        ensures done { IfOk result (λ found. IfNone found (AllByRecursion (IsTrueEntry store.now.slots (literals_of self.new.trail)) (row_at self.new.watches.rows (index_of falsified)))) }
+    {
+        let mut write = 0;
+        let mut read = 0;
+        while read < self.row_len(falsified) {
+            match self.step(store, falsified, write, read) {
+                Step::Kept => {
+                    read += 1;
+                    write += 1;
+                }
+                Step::Moved => read += 1,
+                Step::Conflict(reference) => {
+                    self.close_row(falsified, write, read);
+                    return Ok(Some(reference));
+                }
+                Step::Refused => {
+                    self.close_row(falsified, write, read);
+                    return Err(AllocError);
+                }
+            }
+        }
+        self.close_row(falsified, write, read);
+        Ok(None)
+    }
+
+    fn row_len(&self, lit: Lit) -> usize
+        requires { lit.variable ≤ self.now.variables }
+        ensures { result ≡ length (row_at self.now.watches.rows (index_of lit)) }
+    {
+        self.pool.len(lit.index())
+    }
+
+    fn close_row(&mut self, lit: Lit, write: usize, read: usize)
+        requires named { lit.variable ≤ self.old.variables }
+        requires order { write ≤ read }
+        requires within { read ≤ length (row_at self.old.watches.rows (index_of lit)) }
+        ensures { self.new ≡ closed self.old (index_of lit) write read }
+    {
+        self.pool.close(lit.index(), write, read);
+    }
+
+    /// Looks at the entry at place `read`, and keeps it at place `write` where it stays.
+    fn step(&mut self, store: &Store, falsified: Lit, write: usize, read: usize) -> Step
+        requires state { InRow store.now.slots self.old falsified write read }
+        requires more { read < length (row_at self.old.watches.rows (index_of falsified)) }
+        ensures continues { Continues self.old self.new }
+        ensures same { self.new.watches.processed ≡ self.old.watches.processed }
+        ensures len { length (row_at self.new.watches.rows (index_of falsified)) ≡ length (row_at self.old.watches.rows (index_of falsified)) }
+        ensures after { StepSays store.now.slots self.new falsified write read result }
+    {
+        let entry = self.pool.get(falsified.index(), read);
+        let reference = entry.reference;
+        match self.look_at(store, falsified, entry) {
+            Look::True(blocker) => {
+                self.keep(falsified, write, Entry { reference, blocker });
+                Step::Kept
+            }
+            Look::Unit(blocker) => {
+                self.imply(blocker, reference);
+                self.keep(falsified, write, Entry { reference, blocker });
+                Step::Kept
+            }
+            Look::Watch(other, lit) => match self.rewatch(reference, other, lit) {
+                Ok(()) => Step::Moved,
+                Err(_) => Step::Refused,
+            },
+            Look::False => Step::Conflict(reference),
+        }
+    }
+
+    fn keep(&mut self, lit: Lit, at: usize, entry: Entry)
+        requires named { lit.variable ≤ self.old.variables }
+        requires within { at < length (row_at self.old.watches.rows (index_of lit)) }
+        ensures { self.new ≡ with_rows self.old (with_row self.old.watches.rows (index_of lit) (slice_set (row_at self.old.watches.rows (index_of lit)) at entry)) }
+    {
+        self.pool.set(lit.index(), at, entry);
+    }
+
+    /// Finds out what a clause that watches a false literal asks for.
+    fn look_at(&self, store: &Store, falsified: Lit, entry: Entry) -> Look
+        requires { IsWatched store.now.slots self.now falsified entry }
+        ensures { LookSays store.now.slots self.now falsified entry.reference result }
+    {
+        if self.trail.value(entry.blocker) == Some(true) {
+            return Look::True(entry.blocker);
+        }
+        let other = self.other_watch(entry.reference, falsified);
+        let value = self.trail.value(other);
+        if value == Some(true) {
+            return Look::True(other);
+        }
+        match other_not_false(&self.trail, store.lits(entry.reference), other) {
+            Some(lit) => Look::Watch(other, lit),
+            None if value.is_none() => Look::Unit(other),
+            None => Look::False,
+        }
+    }
+
+    /// The literal that a clause watches beside this one.
+    fn other_watch(&self, reference: CRef, watched: Lit) -> Lit
+        requires { (other : Literal) × IsWatchedBy (place_in self.now.watches.table reference) watched other }
+        ensures { IsWatchedBy (place_in self.now.watches.table reference) watched result }
+    {
+        match self.place(reference) {
+            Place::Watching(one, other) => { if one == watched { other } else { one } }
+            _ => watched,
+        }
+    }
+
+    /// The clause watches these two literals from now on. A refused growth changes nothing.
+    fn rewatch(&mut self, reference: CRef, other: Lit, lit: Lit) -> Result<(), AllocError>
+        requires attached { is_attached self.old reference ≡ true }
+        requires lit { IsVariable self.old.variables lit }
+        requires other { IsVariable self.old.variables other }
+        ensures ok { OnOk result (self.new ≡ moved self.old reference other lit) }
+        ensures err { OnErr result (self.new ≡ self.old) }
+    {
+        let entry = Entry {
+            reference,
+            blocker: other,
+        };
+        self.pool.push(lit.index(), entry)?;
+        self.table[reference.index()] = Place::Watching(lit, other);
+        Ok(())
+    }
+}

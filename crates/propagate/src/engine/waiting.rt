@@ -1,0 +1,184 @@
+// The clauses that have no watches yet.
+ghost use Rattle.std.specs.Prelude.{◌≡◌, ◌≢◌, ℕ, ◌<◌, ◌≤◌, Some, None, true, false, length, filter, All, IfOk, IfSome, IfNone, OnOk, OnErr, ◌⊎◌, slice_get};
+ghost use Rattle.std.specs.Bool.{MatchBool};
+ghost use Rattle.wcnf.specs.Literal.{negation};
+ghost use Rattle.wcnf.specs.Clause.{contains_literal};
+ghost use Rattle.clauses.specs.Slots.{clause_at};
+ghost use Rattle.propagate.specs.Trail.{literals_of, value_in};
+ghost use Rattle.propagate.specs.Watches.{IsVariable, is_attached, place_in};
+ghost use Rattle.propagate.specs.Fits.{Fits, HasTrue};
+ghost use Rattle.propagate.specs.Steps.{Continues, AreTrueWaiting, IsTrueWaiting, IsConflict, IsMadeTrue, is_waiting, watched, with_place};
+
+use super::Engine;
+use crate::pool::Entry;
+use crate::search::{first_not_false, other_not_false, other_of_level};
+use crate::table::Place;
+use clauses::store::{CRef, Store};
+use std::alloc::AllocError;
+use wcnf::types::Lit;
+
+/// Whether the clause is to be looked at.
+fn waits(table: &[Place], reference: CRef) -> bool
+    ensures { result ≡ is_waiting (place_in table.now reference) }
+{
+    if reference.index() < table.len() {
+        match table[reference.index()] {
+            Place::Waiting => true,
+            Place::Detached => false,
+            Place::Resting => false,
+            Place::Watching(_, _) => false,
+        }
+    } else {
+        false
+    }
+}
+
+/// Keeps the clauses that are to be looked at.
+fn keep_waiting(waiting: &mut Vec<CRef>, table: &[Place])
+    ensures { waiting.new.items ≡ filter (λ r. is_waiting (place_in table.now r)) waiting.old.items }
+{
+    waiting.retain(|r| waits(table, *r));
+}
+
+impl Engine {
+    /// Looks at each clause without watches. Those that go on to wait are true.
+    pub(super) fn look_at_waiting(&mut self, store: &Store) -> Result<Option<CRef>, AllocError>
+        requires { Fits self.old store.now.slots }
+        ensures continues { Continues self.old self.new }
+        ensures fits { Fits self.new store.now.slots }
+        ensures conflict { IfOk result (λ found. IfSome found (IsConflict store.now.slots self.new)) }
+        ensures waiting { IfOk result (λ found. IfNone found (AreTrueWaiting store.now.slots self.new)) }
+    {
+        for at in 0..self.waiting_len() {
+            let reference = self.waiting_at(at);
+            if !self.look_at_reference(store, reference)? {
+                return Ok(Some(reference));
+            }
+        }
+        self.drop_settled();
+        Ok(None)
+    }
+
+    fn waiting_len(&self) -> usize
+        ensures { result ≡ length self.now.watches.waiting }
+    {
+        self.waiting.len()
+    }
+
+    fn waiting_at(&self, at: usize) -> CRef
+        requires { at < length self.now.watches.waiting }
+        ensures { slice_get self.now.watches.waiting at ≡ Some result }
+    {
+        self.waiting[at]
+    }
+
+    /// Takes the clauses that found their place from the list of those that wait.
+    fn drop_settled(&mut self)
+        ensures { self.new ≡ record self.old { watches = record self.old.watches { waiting = filter (λ r. is_waiting (place_in self.old.watches.table r)) self.old.watches.waiting } } }
+    {
+        keep_waiting(&mut self.waiting, &self.table);
+    }
+
+    /// Looks at a clause where it waits. False where the clause is.
+    fn look_at_reference(&mut self, store: &Store, reference: CRef) -> Result<bool, AllocError>
+        requires { Fits self.old store.now.slots }
+        ensures continues { Continues self.old self.new }
+        ensures fits { Fits self.new store.now.slots }
+        ensures list { self.new.watches.waiting ≡ self.old.watches.waiting }
+        ensures done { IfOk result (λ ok. MatchBool ok (IsTrueWaiting store.now.slots self.new reference) (IsConflict store.now.slots self.new reference)) }
+    {
+        match self.place(reference) {
+            Place::Waiting => self.look_at_clause(store, reference),
+            Place::Detached => Ok(true),
+            Place::Resting => Ok(true),
+            Place::Watching(_, _) => Ok(true),
+        }
+    }
+
+    /// Makes the clause true where that is left, and finds watches where it can. False where all its literals are.
+    fn look_at_clause(&mut self, store: &Store, reference: CRef) -> Result<bool, AllocError>
+        requires fits { Fits self.old store.now.slots }
+        requires waits { place_in self.old.watches.table reference ≡ Place.Waiting }
+        ensures continues { Continues self.old self.new }
+        ensures fits { Fits self.new store.now.slots }
+        ensures list { self.new.watches.waiting ≡ self.old.watches.waiting }
+        ensures done { IfOk result (λ ok. MatchBool ok (IsTrueWaiting store.now.slots self.new reference) (IsConflict store.now.slots self.new reference)) }
+    {
+        let lits = store.lits(reference);
+        let Some(one) = first_not_false(&self.trail, lits) else {
+            return Ok(false);
+        };
+        if let Some(other) = other_not_false(&self.trail, lits, one) {
+            self.watch(reference, one, other)?;
+            return Ok(true);
+        }
+        self.make_true(one, reference);
+        self.settle(store, reference, one)?;
+        Ok(true)
+    }
+
+    fn make_true(&mut self, lit: Lit, reference: CRef)
+        requires { lit.variable ≤ self.old.variables }
+        ensures { IsMadeTrue self.old self.new lit reference }
+    {
+        if self.trail.value(lit).is_none() {
+            self.imply(lit, reference);
+        }
+    }
+
+    /// Finds watches for a clause of which this literal is true, or lets it rest, where it can.
+    fn settle(&mut self, store: &Store, reference: CRef, one: Lit) -> Result<(), AllocError>
+        requires fits { Fits self.old store.now.slots }
+        requires waits { place_in self.old.watches.table reference ≡ Place.Waiting }
+        requires member { IfSome (clause_at store.now.slots reference) (λ c. contains_literal one c ≡ true) }
+        requires is_true { contains_literal one (literals_of self.old.trail) ≡ true }
+        ensures continues { Continues self.old self.new }
+        ensures fits { Fits self.new store.now.slots }
+        ensures list { self.new.watches.waiting ≡ self.old.watches.waiting }
+        ensures trail { self.new.trail ≡ self.old.trail }
+    {
+        let lits = store.lits(reference);
+        let depth = self.trail.depth();
+        if let Some(other) = other_of_level(&self.trail, lits, one, depth) {
+            self.watch(reference, one, other)?;
+            return Ok(());
+        }
+        if depth == 0 {
+            self.rest(reference);
+        }
+        Ok(())
+    }
+
+    fn rest(&mut self, reference: CRef)
+        requires { is_attached self.old reference ≡ true }
+        ensures { self.new ≡ with_place self.old reference Place.Resting }
+    {
+        self.table[reference.index()] = Place::Resting;
+    }
+
+    /// A clause without watches watches these two literals from now on. A refused growth changes nothing.
+    fn watch(&mut self, reference: CRef, one: Lit, other: Lit) -> Result<(), AllocError>
+        requires attached { is_attached self.old reference ≡ true }
+        requires one { IsVariable self.old.variables one }
+        requires other { IsVariable self.old.variables other }
+        ensures ok { OnOk result (self.new ≡ watched self.old reference one other) }
+        ensures err { OnErr result (self.new ≡ self.old) }
+    {
+        let first = Entry {
+            reference,
+            blocker: other,
+        };
+        let second = Entry {
+            reference,
+            blocker: one,
+        };
+        let len = self.pool.len(one.index());
+        self.pool.push(one.index(), first)?;
+        if self.pool.push(other.index(), second).is_err() {
+            self.pool.truncate(one.index(), len);
+            return Err(AllocError);
+        }
+        self.table[reference.index()] = Place::Watching(one, other);
+        Ok(())
+    }
+}

@@ -1,0 +1,150 @@
+// The literals that are true, with tables by which a value, a level or a reason is found in one step.
+ghost use Rattle.std.specs.Prelude.{◌≡◌, ◌-◌, ◌<◌, ◌≤◌, ◌*◌, not, [], ◌∷◌, ◌++◌, Some, None, length, take, All, IfOk, slice_set, slice_index_or};
+ghost use Rattle.std.specs.Option.{option_map};
+ghost use Rattle.wcnf.specs.Literal.{index_of, negation};
+ghost use Rattle.propagate.specs.Tables.{IsNamed};
+ghost use Rattle.propagate.specs.Trail.{literals_of, depth_of, value_in, level_in, reason_in, kept_to};
+
+use clauses::store::CRef;
+use std::alloc::{AllocError, Global};
+use std::marker::Model;
+use wcnf::types::Lit;
+
+/// Literals in the order in which they became true. It has room for all variables, so it takes memory only when it is made.
+#[derive(Drop)]
+pub(crate) struct Trail {
+    variables: u32,
+    literals: Vec<Lit>,
+    // By literal.
+    values: Vec<Option<bool>>,
+    // By variable.
+    levels: Vec<Option<u32>>,
+    // By variable; of no meaning where there is no level.
+    reasons: Vec<Option<CRef>>,
+    depth: u32,
+}
+
+impl Model for Trail {
+    ghost use Rattle.std.specs.Prelude.{vec_capacity};
+    ghost use Rattle.propagate.specs.Trail.{TrailState};
+    ghost use Rattle.propagate.specs.Tables.{assigned_by, IsTrail};
+
+    ghost Value = { TrailState };
+
+    ghost view = { λ t. record { variables = t.variables; assigned = assigned_by t.reasons.items t.literals.items } };
+
+    ghost invariant = { λ t. IsTrail t.variables t.literals.items t.values.items t.levels.items t.reasons.items t.depth (vec_capacity t.literals) };
+}
+
+/// Writes the value of a literal, and of its negation.
+fn set_value(values: &mut Vec<Option<bool>>, lit: Lit, value: Option<bool>)
+    requires { 2 * lit.variable ≤ length values.old.items }
+    ensures { values.new.items ≡ slice_set (slice_set values.old.items (index_of lit) value) (index_of (negation lit)) (option_map not value) }
+{
+    values[lit.index()] = value;
+    values[lit.negation().index()] = value.map(|v| !v);
+}
+
+impl Trail {
+    pub(crate) fn new(alloc: Global, variables: u32) -> Result<Self, AllocError>
+        ensures { IfOk result (λ t. t ≡ record { variables = variables; assigned = [] }) }
+    {
+        let count = variables as usize;
+        let literals = Vec::with_capacity(alloc, count)?;
+        let mut values = Vec::new(alloc);
+        values.resize(2 * count, None)?;
+        let mut levels = Vec::new(alloc);
+        levels.resize(count + 1, None)?;
+        let mut reasons = Vec::new(alloc);
+        reasons.resize(count + 1, None)?;
+        Ok(Trail {
+            variables,
+            literals,
+            values,
+            levels,
+            reasons,
+            depth: 0,
+        })
+    }
+
+    pub(crate) fn value(&self, lit: Lit) -> Option<bool>
+        requires { lit.variable ≤ self.now.variables }
+        ensures { result ≡ value_in self.now.assigned lit }
+    {
+        self.values[lit.index()]
+    }
+
+    pub(crate) fn level(&self, variable: u32) -> Option<u32>
+        requires { variable ≤ self.now.variables }
+        ensures { result ≡ level_in self.now.assigned variable }
+    {
+        self.levels[variable as usize]
+    }
+
+    pub(crate) fn reason(&self, variable: u32) -> Option<CRef>
+        requires { variable ≤ self.now.variables }
+        ensures { result ≡ reason_in self.now.assigned variable }
+    {
+        match self.levels[variable as usize] {
+            Some(_) => self.reasons[variable as usize],
+            None => None,
+        }
+    }
+
+    pub(crate) fn literals(&self) -> &[Lit]
+        ensures literals { result.now ≡ literals_of self.now.assigned }
+        ensures within { All (IsNamed self.now.variables) result.now }
+    {
+        &self.literals
+    }
+
+    pub(crate) fn len(&self) -> usize
+        ensures len { result ≡ length self.now.assigned }
+        ensures room { result ≤ self.now.variables }
+    {
+        self.literals.len()
+    }
+
+    pub(crate) fn depth(&self) -> u32
+        ensures { result ≡ depth_of self.now.assigned }
+    {
+        self.depth
+    }
+
+    /// Makes an open literal true, by a decision where there is no reason.
+    pub(crate) fn push(&mut self, lit: Lit, reason: Option<CRef>)
+        requires small { lit.variable ≤ self.old.variables }
+        requires open { value_in self.old.assigned lit ≡ None }
+        ensures pushed { self.new ≡ record self.old { assigned = self.old.assigned ++ record { literal = lit; reason = reason } ∷ [] } }
+        ensures from_one { 0 < lit.variable }
+    {
+        let variable = lit.variable() as usize;
+        self.depth += u32::from(reason.is_none());
+        set_value(&mut self.values, lit, Some(true));
+        self.levels[variable] = Some(self.depth);
+        self.reasons[variable] = reason;
+        let _ = self.literals.push(lit);
+    }
+
+    /// Takes the last literal away.
+    fn pop(&mut self)
+        requires { 0 < length self.old.assigned }
+        ensures { self.new ≡ record self.old { assigned = take (length self.old.assigned - 1) self.old.assigned } }
+    {
+        if let Some(lit) = self.literals.pop() {
+            let variable = lit.variable() as usize;
+            self.depth -= u32::from(self.reasons[variable].is_none());
+            set_value(&mut self.values, lit, None);
+            self.levels[variable] = None;
+        }
+    }
+
+    /// Keeps the literals of the levels up to `level`.
+    pub(crate) fn backtrack(&mut self, level: u32)
+        ensures { self.new ≡ record self.old { assigned = kept_to level self.old.assigned } }
+    {
+        while level < self.depth() {
+            self.pop();
+        }
+    }
+}
