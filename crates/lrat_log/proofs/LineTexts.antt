@@ -1,22 +1,21 @@
 -- The text of a line, in the pieces in which it is put.
 use Rattle.std.proofs.Common.{◌≡◌, ℕ, zero, suc, ◌+◌, ◌-◌, ◌<◌, ◌≤◌, Bool, true, false, List, [], ◌∷◌, ◌++◌, length, map, take, drop, get_or, Option, refl, sym, ◌∙◌, ap, subst, arith, append_assoc, append-nil, add-zero, add-one}
-use Rattle.std.specs.Prelude.{All, slice_set, slice_index, if◌then◌else◌}
+use Rattle.std.specs.Prelude.{All, slice_set, if◌then◌else◌}
 use Rattle.std.specs.List.{flat_map, AllByRecursion}
 use Rattle.std.specs.Fmt.{decimal}
 use Rattle.std.specs.Io.KnownBytes.{Appends}
-use Rattle.std.proofs.lemmas.List.Elements.{recursion_from_All, All-head, All-tail}
-use Rattle.std.proofs.lemmas.Grind.{common_steps}
+use Rattle.std.proofs.lemmas.List.Elements.{recursion_from_All}
 use lib.Chars.{codes}
 use Rattle.wcnf.specs.Literal.{Literal}
 use Rattle.wcnf.specs.Text.{literal_text}
-use Rattle.wcnf.specs.Writing.{spaced, PassesOn, AppendsPart}
-use Rattle.wcnf.specs.Lrat.{ProofLine, Addition, Deletion, CandidateHints, group_tokens, line_tokens}
+use Rattle.wcnf.specs.Writing.{PassesOn, AppendsPart}
+use Rattle.wcnf.specs.Lrat.{ProofLine, Addition, Deletion, group_tokens}
 use Rattle.wcnf.proofs.Passing.{spaced-last, first_fault, passed-more, passed_fault, passed_part-more, passed_whole, passed_part}
 use Rattle.wcnf.proofs.Items.{flat_map-append, items_fault, items_more, all_taken}
 use Rattle.lrat_log.specs.declared.lines.Hint.{Hint}
 use Rattle.lrat_log.specs.declared.lines.Hint.TheVariants.{Plain, Group}
-use Rattle.lrat_log.specs.Log.{LogLine, IsPlain, is_delete, is_group, name_of, id_of, leading_ids, group_ids, numbered_line, numbered_on, numbered_lines, text_of, line_at}
-use Rattle.lrat_log.specs.Texts.{number_text, literals_text, hint_text, hints_text, end_text, line_text, numbered_after, last_after}
+use Rattle.lrat_log.specs.Log.{LogLine, IsPlain, is_delete, name_of, id_of, leading_ids, group_ids, numbered_on, numbered_lines, text_of, line_at}
+use Rattle.lrat_log.specs.Texts.{number_text, literals_text, hints_text, end_text, line_text, numbered_after, last_after}
 
 -- each token with the space behind it
 abbrev pub with_spaces : List (List ℕ) → List ℕ
@@ -45,19 +44,19 @@ addition_text base id c hs =
     let front : List (List ℕ) = (decimal id ∷ lits ++ codes "0" ∷ plain) ++ groups in
     let same : front ≡ decimal id ∷ lits ++ (codes "0" ∷ (plain ++ groups)) = append_assoc (decimal id ∷ lits) (codes "0" ∷ plain) groups in
     spaced-last front (codes "0")
-      ∙ ap (λ z. with_spaces z ++ codes "0\n") (same)
-      ∙ ap (λ z. z ++ codes "0\n") (flat_map-append (λ t. t ++ 32 ∷ []) (decimal id ∷ lits) (codes "0" ∷ (plain ++ groups)))
-      ∙ ap (λ z. ((number_text false id ++ z) ++ with_spaces (codes "0" ∷ (plain ++ groups))) ++ codes "0\n") (literals_spaced c)
-      ∙ ap (λ z. ((number_text false id ++ literals_text c) ++ (codes "0 " ++ z)) ++ codes "0\n") (hints_spaced base hs)
-      ∙ append_assoc (number_text false id ++ literals_text c) (codes "0 " ++ hints_text base hs) (codes "0\n")
+    ∙ ap (λ z. with_spaces z ++ codes "0\n") (same)
+    ∙ ap (λ z. z ++ codes "0\n") (flat_map-append (λ t. t ++ 32 ∷ []) (decimal id ∷ lits) (codes "0" ∷ (plain ++ groups)))
+    ∙ ap (λ z. ((number_text false id ++ z) ++ with_spaces (codes "0" ∷ (plain ++ groups))) ++ codes "0\n") (literals_spaced c)
+    ∙ ap (λ z. ((number_text false id ++ literals_text c) ++ (codes "0 " ++ z)) ++ codes "0\n") (hints_spaced base hs)
+    ∙ append_assoc (number_text false id ++ literals_text c) (codes "0 " ++ hints_text base hs) (codes "0\n")
 
 pub deletion_text : (base lead : ℕ) (hs : List Hint) → All IsPlain hs
     → line_text (Deletion lead (map (λ h. id_of base (name_of h)) hs)) ≡ number_text false lead ++ end_text (codes "d ") base hs
 deletion_text base lead hs p =
     let ids : List (List ℕ) = map decimal (map (λ h. id_of base (name_of h)) hs) in
     spaced-last (decimal lead ∷ codes "d" ∷ ids) (codes "0")
-      ∙ ap (λ z. (number_text false lead ++ (codes "d " ++ z)) ++ codes "0\n") (plain_spaced base hs (recursion_from_All IsPlain hs p))
-      ∙ append_assoc (number_text false lead) (codes "d " ++ hints_text base hs) (codes "0\n")
+    ∙ ap (λ z. (number_text false lead ++ (codes "d " ++ z)) ++ codes "0\n") (plain_spaced base hs (recursion_from_All IsPlain hs p))
+    ∙ append_assoc (number_text false lead) (codes "d " ++ hints_text base hs) (codes "0\n")
 
 -- digits at the end of a buffer
 last_byte : (xs : List ℕ) (n b : ℕ) → length xs ≡ suc n → get_or xs n 0 ≡ b → drop n xs ≡ b ∷ []

@@ -90,7 +90,7 @@ has_negation : (k : Literal) (c : List Literal) → contains_literal (negation k
 has_negation k [] = refl
 has_negation k (l ∷ c) =
     ap (λ x. ((k.variable == l.variable) && x) || contains_literal (negation k) (map negation c)) (same_negated k.negated l.negated)
-      ∙ ap (λ x. literal_eq k l || x) (has_negation k c)
+    ∙ ap (λ x. literal_eq k l || x) (has_negation k c)
 
 if_parts : (b x : Bool) → (if b then x else false) ≡ true → (b ≡ true) × (x ≡ true)
 if_parts true x e = (refl, e)
@@ -140,16 +140,19 @@ weak_step : (cs : List (List Literal)) (e : List Literal × ℕ) → IsWeakerOf 
     → ((i : ℕ) → i ≤ length cs → live.clause_at i ≡ numbered cs i) → Step live (Addition id e.0 (e.1 ∷ []) []) (with_clause live id e.0)
 weak_step cs e w live id h same = (
   record { rising = h; no_repeat = w.0; no_opposites = w.1; small = w.2 },
-  inl (refl, record {
-    front = [];
-    final = e.1;
-    split = refl;
-    reached = map negation e.0;
-    leads = refl;
-    clause = w.3;
-    live = same e.1 (numbered_within cs e.1 w.3 w.4) ∙ w.4;
-    conflict = false_under w.3 e.0 w.5;
-  }),
+  inl (
+    refl,
+    record {
+      front = [];
+      final = e.1;
+      split = refl;
+      reached = map negation e.0;
+      leads = refl;
+      clause = w.3;
+      live = same e.1 (numbered_within cs e.1 w.3 w.4) ∙ w.4;
+      conflict = false_under w.3 e.0 w.5;
+    },
+  ),
   refl,
 )
 
@@ -164,11 +167,13 @@ weak_chain cs before [] w live h same rest left ch =
 weak_chain cs before (e ∷ ws) w live h same rest left ch =
     let id : ℕ = length cs + before + 1 in
     let up : length cs + before + 1 ≡ length cs + (before + 1) = omega arith in
-    let shift : before + suc (length ws) ≡ before + 1 + length ws = omega arith in
-    (with_clause live id e.0, weak_step cs e w.0 live id (omega arith) same,
-     weak_chain cs (before + 1) ws w.1 (with_clause live id e.0) (omega arith) (λ i k. with_other live id e.0 i (λ z. absurd (omega arith)) ∙ same i k) rest left
-       (subst (λ x. Chain (weak_after (with_clause live id e.0) x ws) (numbered_on (length cs) (before + 1 + length ws) rest) left) up
-         (subst (λ x. Chain (weak_after (with_clause live id e.0) id ws) (numbered_on (length cs) x rest) left) shift ch)))
+    let shift : before + suc (length ws) ≡ before + 1 + length ws = omega arith in (
+      with_clause live id e.0,
+      weak_step cs e w.0 live id (omega arith) same,
+      weak_chain cs (before + 1) ws w.1 (with_clause live id e.0) (omega arith) (λ i k. with_other live id e.0 i (λ z. absurd (omega arith)) ∙ same i k) rest left
+          (subst (λ x. Chain (weak_after (with_clause live id e.0) x ws) (numbered_on (length cs) (before + 1 + length ws) rest) left) up
+          (subst (λ x. Chain (weak_after (with_clause live id e.0) id ws) (numbered_on (length cs) x rest) left) shift ch)),
+    )
 
 -- the ids of names after the move, where b clauses are given, and which name has an id
 module _ (fixed count b : ℕ) (low : fixed ≤ b) where
@@ -215,11 +220,11 @@ module _ (fixed count b : ℕ) (low : fixed ≤ b) where
       elim (cases_lt fixed i) [
         | inr h ↦ ap back (id_fixed i h) ∙ back_fixed i h
         | inl h ↦ elim (cases_lt (fixed + count) i) [
-            | inr k ↦ let e : ((b + (i - fixed)) - b) + fixed ≡ i = omega arith in
-                ap back (id_weak i h k) ∙ back_weak (b + (i - fixed)) (omega arith) (omega arith) ∙ ap Formula e
-            | inl k ↦ let e : (i - count) + count ≡ i = omega arith in
-                ap back (id_other i k) ∙ back_other (i - count) (omega arith) (omega arith) ∙ ap Formula e
-          ]
+          | inr k ↦ let e : ((b + (i - fixed)) - b) + fixed ≡ i = omega arith in
+              ap back (id_weak i h k) ∙ back_weak (b + (i - fixed)) (omega arith) (omega arith) ∙ ap Formula e
+          | inl k ↦ let e : (i - count) + count ≡ i = omega arith in
+              ap back (id_other i k) ∙ back_other (i - count) (omega arith) (omega arith) ∙ ap Formula e
+        ]
       ]
   back_of (Added j) p = let e : (b + (count + j)) - (b + count) ≡ j = omega arith in back_added (b + (count + j)) (omega arith) ∙ ap Added e
 
@@ -228,11 +233,11 @@ module _ (fixed count b : ℕ) (low : fixed ≤ b) where
       elim (cases_lt fixed i) [
         | inr k ↦ (Formula i, h, id_fixed i k)
         | inl k ↦ elim (cases_lt b i) [
-            | inr l ↦ let e : (i + count) - count ≡ i = omega arith in
-                (Formula (i + count), omega arith, id_other (i + count) (omega arith) ∙ e)
-            | inl l ↦ let e : b + (((i - b) + fixed) - fixed) ≡ i = omega arith in
-                (Formula ((i - b) + fixed), omega arith, id_weak ((i - b) + fixed) (omega arith) (omega arith) ∙ e)
-          ]
+          | inr l ↦ let e : (i + count) - count ≡ i = omega arith in
+              (Formula (i + count), omega arith, id_other (i + count) (omega arith) ∙ e)
+          | inl l ↦ let e : b + (((i - b) + fixed) - fixed) ≡ i = omega arith in
+              (Formula ((i - b) + fixed), omega arith, id_weak ((i - b) + fixed) (omega arith) (omega arith) ∙ e)
+        ]
       ]
 
 abbrev pub is_added : Name → Type 0
@@ -283,24 +288,24 @@ module _ (first others : List (List Literal)) (ws : WeakerList) where
       elim (cases_lt (length first) i) [
         | inr h ↦
             numbered_left (first ++ clauses_of ws) others i (omega arith) ∙ numbered_left first (clauses_of ws) i h
-              ∙ sym (numbered_left first others i h) ∙ sym (low_at i (omega arith))
-              ∙ ap weakened.clause_at (sym (id_fixed (length first) (length ws) (length kept_clauses) len.1 i h))
+            ∙ sym (numbered_left first others i h) ∙ sym (low_at i (omega arith))
+            ∙ ap weakened.clause_at (sym (id_fixed (length first) (length ws) (length kept_clauses) len.1 i h))
         | inl h ↦ elim (cases_lt (length first + length ws) i) [
-            | inr k ↦
-                let j : ℕ = i - (length first + 1) in
-                let e : i ≡ length first + suc (i - (length first + 1)) = omega arith in
-                numbered_left (first ++ clauses_of ws) others i (omega arith) ∙ numbered_right first (clauses_of ws) i j e
-                  ∙ sym (weak_inside (start_of kept_clauses) (length kept_clauses) ws (length kept_clauses + (i - length first)) j (omega arith) (omega arith))
-                  ∙ ap weakened.clause_at (sym (id_weak (length first) (length ws) (length kept_clauses) len.1 i h k))
-            | inl k ↦
-                let j : ℕ = i - (length first + length ws + 1) in
-                let e : i ≡ length (first ++ clauses_of ws) + suc (i - (length first + length ws + 1)) = omega arith in
-                let z : i - length ws ≡ length first + suc (i - (length first + length ws + 1)) = omega arith in
-                numbered_right (first ++ clauses_of ws) others i j e
-                  ∙ sym (numbered_right first others (i - length ws) j z)
-                  ∙ sym (low_at (i - length ws) (omega arith))
-                  ∙ ap weakened.clause_at (sym (id_other (length first) (length ws) (length kept_clauses) len.1 i k))
-          ]
+          | inr k ↦
+              let j : ℕ = i - (length first + 1) in
+              let e : i ≡ length first + suc (i - (length first + 1)) = omega arith in
+              numbered_left (first ++ clauses_of ws) others i (omega arith) ∙ numbered_right first (clauses_of ws) i j e
+              ∙ sym (weak_inside (start_of kept_clauses) (length kept_clauses) ws (length kept_clauses + (i - length first)) j (omega arith) (omega arith))
+              ∙ ap weakened.clause_at (sym (id_weak (length first) (length ws) (length kept_clauses) len.1 i h k))
+          | inl k ↦
+              let j : ℕ = i - (length first + length ws + 1) in
+              let e : i ≡ length (first ++ clauses_of ws) + suc (i - (length first + length ws + 1)) = omega arith in
+              let z : i - length ws ≡ length first + suc (i - (length first + length ws + 1)) = omega arith in
+              numbered_right (first ++ clauses_of ws) others i j e
+              ∙ sym (numbered_right first others (i - length ws) j z)
+              ∙ sym (low_at (i - length ws) (omega arith))
+              ∙ ap weakened.clause_at (sym (id_other (length first) (length ws) (length kept_clauses) len.1 i k))
+        ]
       ]
 
   past_at : (i : ℕ) → length kept_clauses + length ws < i → weakened.clause_at i ≡ None
@@ -314,7 +319,7 @@ module _ (first others : List (List Literal)) (ws : WeakerList) where
     names_same (Formula i) p = given_at-given_of given_clauses i ∙ formula_same i p
     names_same (Added j) p =
         given_past (given_of given_clauses) (length kept_clauses + length ws) base_given (a + j) (omega arith)
-          ∙ sym (past_at (length kept_clauses + (length ws + j)) (omega arith))
+        ∙ sym (past_at (length kept_clauses + (length ws + j)) (omega arith))
 
     start_live : SameLive (length kept_clauses + length ws) a to_id (given_at (given_of given_clauses)) weakened.clause_at
     start_live = record {
@@ -344,7 +349,7 @@ group_ids_moved f c b [] = refl
 group_ids_moved f c b (Plain n ∷ hs) = group_ids_moved f c b hs
 group_ids_moved f c b (Group n ∷ hs) =
     ap (λ x. record { candidate = id_of b (moved_name f c n); hints = x } ∷ map (group_by (id_of b)) (group_names (map (moved_hint f c) hs))) (leading_ids_moved f c b hs)
-      ∙ ap (λ x. record { candidate = id_of b (moved_name f c n); hints = map (λ n. id_of b (moved_name f c n)) (leading_names hs) } ∷ x) (group_ids_moved f c b hs)
+    ∙ ap (λ x. record { candidate = id_of b (moved_name f c n); hints = map (λ n. id_of b (moved_name f c n)) (leading_names hs) } ∷ x) (group_ids_moved f c b hs)
 
 name_moved : (f c : ℕ) (h : Hint) → name_of (moved_hint f c h) ≡ moved_name f c (name_of h)
 name_moved f c (Plain n) = refl
@@ -361,8 +366,8 @@ line_moved true f c b before k hs = ap (Deletion (b + (c + before))) (names_move
 line_moved false f c b before k hs =
     let id : b + (c + before + 1) ≡ b + (c + (before + 1)) = omega arith in
     ap (λ x. Addition x k (map (id_of b) (leading_names (map (moved_hint f c) hs))) (map (group_by (id_of b)) (group_names (map (moved_hint f c) hs)))) id
-      ∙ ap (λ x. Addition (b + (c + (before + 1))) k x (map (group_by (id_of b)) (group_names (map (moved_hint f c) hs)))) (leading_ids_moved f c b hs)
-      ∙ ap (λ x. Addition (b + (c + (before + 1))) k (map (λ n. id_of b (moved_name f c n)) (leading_names hs)) x) (group_ids_moved f c b hs)
+    ∙ ap (λ x. Addition (b + (c + (before + 1))) k x (map (group_by (id_of b)) (group_names (map (moved_hint f c) hs)))) (leading_ids_moved f c b hs)
+    ∙ ap (λ x. Addition (b + (c + (before + 1))) k (map (λ n. id_of b (moved_name f c n)) (leading_names hs)) x) (group_ids_moved f c b hs)
 
 next_moved : (d : Bool) (c before : ℕ) → (if d then c + before else c + before + 1) ≡ c + (if d then before else before + 1)
 next_moved true c before = refl
@@ -372,8 +377,8 @@ named_moved : (f c b before : ℕ) (ls : List LogLine) → named_on (id_of b) (c
 named_moved f c b before [] = refl
 named_moved f c b before (l ∷ ls) =
     ap (λ x. x ∷ named_on (id_of b) (if is_delete l.kind then c + before else c + before + 1) (map (moved_line f c) ls)) (line_moved (is_delete l.kind) f c b before l.clause l.hints)
-      ∙ ap (λ x. line_by (λ n. id_of b (moved_name f c n)) (is_delete l.kind) before l.clause l.hints ∷ x)
-          (ap (λ x. named_on (id_of b) x (map (moved_line f c) ls)) (next_moved (is_delete l.kind) c before) ∙ named_moved f c b (if is_delete l.kind then before else before + 1) ls)
+    ∙ ap (λ x. line_by (λ n. id_of b (moved_name f c n)) (is_delete l.kind) before l.clause l.hints ∷ x)
+    (ap (λ x. named_on (id_of b) x (map (moved_line f c) ls)) (next_moved (is_delete l.kind) c before) ∙ named_moved f c b (if is_delete l.kind then before else before + 1) ls)
 
 -- the names of the log, whose groups are its own
 own_group : (h : Hint) → IsOwnGroup h → GroupIs is_added h
@@ -394,9 +399,10 @@ NamesKnown a l = All (λ h. IsKnown a (name_of h)) l.hints
 lines_known : (a : ℕ) (ls : List LogLine) → HasKnownNames a ls → All IsOwn ls → AllByRecursion (LineKnown a is_added) ls
 lines_known a [] p o = tt
 lines_known a (l ∷ ls) p o =
-    let known = recursion_from_All (λ h. IsKnown a (name_of h)) l.hints (All-head (NamesKnown a) l ls p) in
-    (hints_known a l.hints known (recursion_from_All IsOwnGroup l.hints (All-head IsOwn l ls o)),
-     lines_known a ls (All-tail (NamesKnown a) l ls p) (All-tail IsOwn l ls o))
+    let known = recursion_from_All (λ h. IsKnown a (name_of h)) l.hints (All-head (NamesKnown a) l ls p) in (
+      hints_known a l.hints known (recursion_from_All IsOwnGroup l.hints (All-head IsOwn l ls o)),
+      lines_known a ls (All-tail (NamesKnown a) l ls p) (All-tail IsOwn l ls o),
+    )
 
 rebased_chain : (ws : WeakerList) (old : List LogLine) (first others : List (List Literal))
     → All (IsWeakerOf (first ++ others)) ws → IsLogOver (given_of (first ++ clauses_of ws ++ others)) old
@@ -413,16 +419,16 @@ rebased_chain ws old first others weaker log =
     let small : w.last ≤ b + c + 0 = (let z = weak_last (start_of cs) b ws (omega arith) in omega arith) in
     let to = λ (n : Name). id_of b (moved_name (length first) c n) in
     let x = chain_after (b + c) a is_added to (b + c) (renames_moved (length first) c b a len.1 (omega arith)) 0 old (lines_known a old (known_names g a base old log.steps) log.groups)
-        (start_over g a) w _ (start_live first others ws a (omega arith)) small (subst (λ y. Chain (start_over g a) y (live_after (start_over g a) (numbered_lines a old))) (numbered_on-named a 0 old) (log.steps a base)) in
+    (start_over g a) w _ (start_live first others ws a (omega arith)) small (subst (λ y. Chain (start_over g a) y (live_after (start_over g a) (numbered_lines a old))) (numbered_on-named a 0 old) (log.steps a base)) in
     let same : numbered_on b (0 + c) (map (moved_line (length first) c) old) ≡ named_on to 0 old =
-        (let e : 0 + c ≡ c + 0 = omega arith in
-         ap (λ n. numbered_on b n (map (moved_line (length first) c) old)) e ∙ numbered_on-named b (c + 0) (map (moved_line (length first) c) old) ∙ named_moved (length first) c b 0 old) in
+    (let e : 0 + c ≡ c + 0 = omega arith in
+    ap (λ n. numbered_on b n (map (moved_line (length first) c) old)) e ∙ numbered_on-named b (c + 0) (map (moved_line (length first) c) old) ∙ named_moved (length first) c b 0 old) in
     let zero_more : b ≡ b + 0 = omega arith in
     let after : Chain (weak_after (start_of cs) (b + 0) ws) (numbered_on b (0 + c) (map (moved_line (length first) c) old)) x.0 =
-        subst (λ n. Chain (weak_after (start_of cs) n ws) (numbered_on b (0 + c) (map (moved_line (length first) c) old)) x.0) zero_more
-          (subst (λ y. Chain w y x.0) (sym same) x.1) in
+    subst (λ n. Chain (weak_after (start_of cs) n ws) (numbered_on b (0 + c) (map (moved_line (length first) c) old)) x.0) zero_more
+    (subst (λ y. Chain w y x.0) (sym same) x.1) in
     steps_from_chain (start_of cs) (numbered_lines b (rebased (length first) ws old)) x.0
-      (weak_chain cs 0 ws (recursion_from_All (IsWeakerOf cs) ws weaker) (start_of cs) (omega arith) (λ i h. refl) (map (moved_line (length first) c) old) x.0 after)
+    (weak_chain cs 0 ws (recursion_from_All (IsWeakerOf cs) ws weaker) (start_of cs) (omega arith) (λ i h. refl) (map (moved_line (length first) c) old) x.0 after)
 
 -- rebasing keeps steps
 pub keeps_steps : (fixed : ℕ) (ws : WeakerList) (old : List LogLine) → KeepsSteps fixed ws old (rebased fixed ws old)
@@ -460,8 +466,8 @@ pub keeps_acceptance : (fixed : ℕ) (ws : WeakerList) (old : List LogLine) (fir
 keeps_acceptance fixed ws old first others e weaker log nonempty some =
     let moved : List LogLine = map (moved_line fixed (length ws)) old in
     accepted_on (length (first ++ others)) 0 (start_of (first ++ others)) (rebased fixed ws old) _ (keeps_steps fixed ws old first others e weaker log)
-      (stops_weaker ws moved (recursion_from_All IsSomeClause ws nonempty) (stops_moved fixed (length ws) old log.stops))
-      (any_weaker ws moved (any_moved fixed (length ws) old ∙ some))
+    (stops_weaker ws moved (recursion_from_All IsSomeClause ws nonempty) (stops_moved fixed (length ws) old log.stops))
+    (any_weaker ws moved (any_moved fixed (length ws) old ∙ some))
 
 -- a log over the clauses of a formula, from the start of a certificate
 pub start_over-given_of : (cs : List (List Literal)) → start_over (given_of cs) (length cs) ≡ start_of cs
@@ -486,9 +492,9 @@ moved_number f c (Formula i) h small =
     elim (cases_lt f i) [
       | inr k ↦ subst (λ n. IsId (number_in n)) (sym (cond-true (nat_le i f) (Formula i) _ (le-leb i f k))) h
       | inl k ↦ elim (cases_lt (f + c) i) [
-          | inr l ↦ rw (lt-leb i f k, le-leb i (f + c) l) (omega arith, omega (arith, h.1))
-          | inl l ↦ rw (lt-leb i f k, lt-leb i (f + c) l) (omega arith, omega (arith, h.1))
-        ]
+        | inr l ↦ rw (lt-leb i f k, le-leb i (f + c) l) (omega arith, omega (arith, h.1))
+        | inl l ↦ rw (lt-leb i f k, lt-leb i (f + c) l) (omega arith, omega (arith, h.1))
+      ]
     ]
 
 moved_numbers : (f c : ℕ) (hs : List Hint) → AllByRecursion HasNumber hs → AllByRecursion (HasSmallId c) hs → AllByRecursion HasNumber (map (moved_hint f c) hs)
@@ -528,8 +534,8 @@ pub rebased-lines : (fixed : ℕ) (ws : WeakerList) (old : List LogLine) → All
     → All IsLine (rebased fixed ws old)
 rebased-lines fixed ws old lines small entries =
     All-append IsLine (map weaker_line ws) (map (moved_line fixed (length ws)) old)
-      (All-map IsLine weaker_line ws (All-weaker IsWeakerEntry (λ e. IsLine (weaker_line e)) (λ e h. weaker_line-is e h.0 h.1) ws entries))
-      (moved_lines-are fixed (length ws) old lines small)
+    (All-map IsLine weaker_line ws (All-weaker IsWeakerEntry (λ e. IsLine (weaker_line e)) (λ e h. weaker_line-is e h.0 h.1) ws entries))
+    (moved_lines-are fixed (length ws) old lines small)
 
 -- the result is a log over the clauses that are left
 known_moved : (f c b : ℕ) (n : Name) → f ≤ b → IsKnown (b + c) n → IsKnown b (moved_name f c n)
@@ -538,9 +544,9 @@ known_moved f c b (Formula i) low h =
     elim (cases_lt f i) [
       | inr k ↦ subst (IsKnown b) (sym (cond-true (nat_le i f) (Formula i) _ (le-leb i f k))) (omega arith)
       | inl k ↦ elim (cases_lt (f + c) i) [
-          | inr l ↦ rw (lt-leb i f k, le-leb i (f + c) l) (omega arith)
-          | inl l ↦ rw (lt-leb i f k, lt-leb i (f + c) l) (omega arith)
-        ]
+        | inr l ↦ rw (lt-leb i f k, le-leb i (f + c) l) (omega arith)
+        | inl l ↦ rw (lt-leb i f k, lt-leb i (f + c) l) (omega arith)
+      ]
     ]
 
 abbrev HintFits : ℕ → Hint → Type 0
@@ -561,9 +567,10 @@ LineFits b l = AllByRecursion (HintFits b) l.hints
 lines_fit : (f c b : ℕ) (ls : List LogLine) → f ≤ b → HasKnownNames (b + c) ls → All IsOwn ls → AllByRecursion (LineFits b) (map (moved_line f c) ls)
 lines_fit f c b [] low k o = tt
 lines_fit f c b (l ∷ ls) low k o =
-    let known = recursion_from_All (λ h. IsKnown (b + c) (name_of h)) l.hints (All-head (NamesKnown (b + c)) l ls k) in
-    (hints_fit f c b l.hints low known (recursion_from_All IsOwnGroup l.hints (All-head IsOwn l ls o)),
-     lines_fit f c b ls low (All-tail (NamesKnown (b + c)) l ls k) (All-tail IsOwn l ls o))
+    let known = recursion_from_All (λ h. IsKnown (b + c) (name_of h)) l.hints (All-head (NamesKnown (b + c)) l ls k) in (
+      hints_fit f c b l.hints low known (recursion_from_All IsOwnGroup l.hints (All-head IsOwn l ls o)),
+      lines_fit f c b ls low (All-tail (NamesKnown (b + c)) l ls k) (All-tail IsOwn l ls o),
+    )
 
 weaker_fit : (cs : List (List Literal)) (ws : WeakerList) (rest : List LogLine) → AllByRecursion (IsWeakerOf cs) ws → AllByRecursion (LineFits (length cs)) rest
     → AllByRecursion (LineFits (length cs)) (map weaker_line ws ++ rest)
@@ -597,9 +604,9 @@ keeps_log fixed ws old first others e weaker log nonempty =
     let base : IsBaseOf g (b + length ws) = base_of (first ++ clauses_of ws ++ others) (b + length ws) (omega arith) in
     let moved : List LogLine = map (moved_line fixed (length ws)) old in
     let fits : AllByRecursion (LineFits b) (rebased fixed ws old) =
-        weaker_fit cs ws moved (recursion_from_All (IsWeakerOf cs) ws weaker) (lines_fit fixed (length ws) b old (omega arith) (known_names g (b + length ws) base old log.steps) log.groups) in
+    weaker_fit cs ws moved (recursion_from_All (IsWeakerOf cs) ws weaker) (lines_fit fixed (length ws) b old (omega arith) (known_names g (b + length ws) base old log.steps) log.groups) in
     let steps : AreSteps (start_over (given_of cs) b) (numbered_lines b (rebased fixed ws old)) =
-        subst (λ (x : Live). AreSteps x (numbered_lines b (rebased fixed ws old))) (sym (start_over-given_of cs)) (keeps_steps fixed ws old first others e weaker log) in
+    subst (λ (x : Live). AreSteps x (numbered_lines b (rebased fixed ws old))) (sym (start_over-given_of cs)) (keeps_steps fixed ws old first others e weaker log) in
     record {
       steps = log_steps_from (given_of cs) b (base_of cs b (omega arith)) (rebased fixed ws old) (all_known b (rebased fixed ws old) fits) steps;
       stops = stops_weaker ws moved (recursion_from_All IsSomeClause ws nonempty) (stops_moved fixed (length ws) old log.stops);

@@ -48,7 +48,7 @@ first_byte b bs h = rw (not_blank b h) refl
 -- a word before what begins no token
 word_tokens : (b : ℕ) (bs rest : List ℕ) → 33 ≤ b → AllByRecursion (λ c. 33 ≤ c) bs → begins_with_token rest ≡ false → tokens_of (b ∷ bs ++ rest) ≡ (b ∷ bs) ∷ tokens_of rest
 word_tokens b [] rest h all e = rw (not_blank b h, e) refl
-word_tokens b (c ∷ cs) rest h all e = 
+word_tokens b (c ∷ cs) rest h all e =
     first_byte b (c ∷ cs ++ rest) h ∙ ap (λ x. put_byte b (not x) (tokens_of (c ∷ cs ++ rest))) (not_blank c all.0) ∙ ap (put_byte b true) (word_tokens c cs rest all.0 all.1 e)
 
 pub tokens_of-joined : (ts : List (List ℕ)) → AllByRecursion IsWord ts → tokens_of (joined ts) ≡ ts
@@ -91,8 +91,8 @@ line_first : (x rest : List ℕ) → IsLineText x → lines (x ++ 10 ∷ rest) �
 line_first x rest h =
     let stripped : strip_carriage_return x ≡ x = rw (no_return x (length x - 1) h) refl in
     ap lines_of_parts (slice_split_at is_feed x 10 rest (All-from_recursion (λ b. is_feed b ≡ false) x (no_feed x h)) refl)
-      ∙ parts_cons x (slice_split is_feed rest) (omega (arith, length-slice_split is_feed rest))
-      ∙ ap (λ y. y ∷ lines rest) stripped
+    ∙ parts_cons x (slice_split is_feed rest) (omega (arith, length-slice_split is_feed rest))
+    ∙ ap (λ y. y ∷ lines rest) stripped
 
 abbrev pub HasWords : ProofLine → Type 0
 HasWords l = AllByRecursion IsWord (line_tokens l)
@@ -106,10 +106,10 @@ token_lines-text (l ∷ ls) h =
     let rest : List ℕ = flat_map (λ l. spaced (line_tokens l)) ls in
     let ts : List (List ℕ) = line_tokens l in
     ap (λ x. token_lines (x ++ rest)) (spaced-joined ts)
-      ∙ ap token_lines (append_assoc (joined ts) (10 ∷ []) rest)
-      ∙ ap (map tokens_of) (line_first (joined ts) rest (joined_text ts h.0))
-      ∙ ap (λ x. x ∷ token_lines rest) (tokens_of-joined ts h.0)
-      ∙ ap (λ x. ts ∷ x) (token_lines-text ls h.1)
+    ∙ ap token_lines (append_assoc (joined ts) (10 ∷ []) rest)
+    ∙ ap (map tokens_of) (line_first (joined ts) rest (joined_text ts h.0))
+    ∙ ap (λ x. x ∷ token_lines rest) (tokens_of-joined ts h.0)
+    ∙ ap (λ x. ts ∷ x) (token_lines-text ls h.1)
 
 kept_lines : (ls : List ProofLine) → filter has_tokens (map line_tokens ls) ≡ map line_tokens ls
 kept_lines [] = refl
@@ -231,9 +231,10 @@ numbers_on base before (l ∷ ls) a room = (
 
 small_hints : (base : ℕ) (hs : List Hint) → All (λ h. IsId (number_in (name_of h))) hs → All (λ h. id_of base (name_of h) < 2 ^ 62) hs → AllByRecursion (IsSmall base) hs
 small_hints base [] p s = tt
-small_hints base (h ∷ hs) p s =
-    (((All-head (λ h. IsId (number_in (name_of h))) h hs p).0, All-head (λ h. id_of base (name_of h) < 2 ^ 62) h hs s),
-     small_hints base hs (All-tail (λ h. IsId (number_in (name_of h))) h hs p) (All-tail (λ h. id_of base (name_of h) < 2 ^ 62) h hs s))
+small_hints base (h ∷ hs) p s = (
+  ((All-head (λ h. IsId (number_in (name_of h))) h hs p).0, All-head (λ h. id_of base (name_of h) < 2 ^ 62) h hs s),
+  small_hints base hs (All-tail (λ h. IsId (number_in (name_of h))) h hs p) (All-tail (λ h. id_of base (name_of h) < 2 ^ 62) h hs s),
+)
 
 abbrev SmallIds : ℕ → LogLine → Type 0
 SmallIds base l = All (λ h. id_of base (name_of h) < 2 ^ 62) l.hints
@@ -241,9 +242,10 @@ SmallIds base l = All (λ h. id_of base (name_of h) < 2 ^ 62) l.hints
 lines_of_log : (base : ℕ) (ls : List LogLine) → All IsLine ls → All (SmallIds base) ls → AllByRecursion (IsLineOf base) ls
 lines_of_log base [] p s = tt
 lines_of_log base (l ∷ ls) p s =
-    let h = All-head IsLine l ls p in
-    ((recursion_from_All (λ k. IsId k.variable) l.clause h.literals, small_hints base l.hints h.names (All-head (SmallIds base) l ls s)),
-     lines_of_log base ls (All-tail IsLine l ls p) (All-tail (SmallIds base) l ls s))
+    let h = All-head IsLine l ls p in (
+      (recursion_from_All (λ k. IsId k.variable) l.clause h.literals, small_hints base l.hints h.names (All-head (SmallIds base) l ls s)),
+      lines_of_log base ls (All-tail IsLine l ls p) (All-tail (SmallIds base) l ls s),
+    )
 
 pub numbered_lines-numbers : (base : ℕ) (ls : List LogLine) → All IsLine ls → HasSmallIds base ls → base + length ls < 2 ^ 62 → All HasNumbers (numbered_lines base ls)
 numbered_lines-numbers base ls lines small room =

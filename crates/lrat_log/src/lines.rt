@@ -53,7 +53,7 @@ pub enum Name {
     Added(Number),
 }
 
-/// A clause that an addition follows from (Cruz-Filipe et al. 2017).
+/// A clause that an addition follows from, or that a deletion deletes (Cruz-Filipe et al. 2017).
 #[derive(Clone, Copy, Debug, PartialEq, Eq, Drop)]
 pub enum Hint {
     /// A clause that is a unit, or empty, under the negation of the new clause and the units before it.
@@ -70,7 +70,7 @@ pub enum Kind {
     Learned,
     /// Adds a clause of one literal.
     Unit,
-    /// Adds a resolvent of two clauses.
+    /// Adds a clause that others give by resolution.
     Resolvent,
     /// Adds a clause of the definition of a new variable.
     Definition,

@@ -261,3 +261,6 @@ fn put_line<W: Write>(
         Ok(last + 1)
     }
 }
+
+#[cfg(test)]
+mod tests;

@@ -85,11 +85,7 @@ fn put_hints<W: Write>(
 }
 
 /// Puts the literals, each with a space behind it.
-fn put_literals<W: Write>(
-    block: &mut Block,
-    writer: &mut W,
-    lits: &[Lit],
-) -> Result<(), WriteFault>
+fn put_literals<W: Write>(block: &mut Block, writer: &mut W, lits: &[Lit]) -> Result<(), WriteFault>
     ensures ok { OnOk result (PassesOn (W.contents writer.old) block.old (literals_text lits.now) (W.contents writer.new) block.new) }
     ensures fault { OnErr result (AppendsPart (W.contents writer.old) (W.contents writer.new) (block.old ++ literals_text lits.now)) }
 {

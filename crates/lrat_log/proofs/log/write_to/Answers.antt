@@ -1,5 +1,5 @@
 -- What was put before a fault is a beginning of the text.
-use Rattle.std.proofs.Common.{◌≡◌, ◌<◌, ◌≤◌, [], length, arith}
+use Rattle.std.proofs.Common.{◌<◌, ◌≤◌, [], length, arith}
 use Rattle.std.proofs.lemmas.Result.{err_from_is_err_and, on_ok_weaker, on_err_weaker}
 use Rattle.lrat_log.proofs.LineTexts.{last_on-le, last_next, lines_more, line_fault, text_whole, text_part}
 use Rattle.lrat_log.proofs.Text.{text_of-lines}
@@ -24,9 +24,10 @@ returns-in_err-last-clause-lines g c = text_of-lines c.args.base c.args.log.now 
 
 pub loop-line-preserved : goal.loop-line-preserved
 loop-line-preserved g c =
-    let here : c.loop-line.line < length c.args.log.now = omega arith in
-    (last_next c.args.base c.loop-line.last c.in_ok-last.last c.args.log.now c.loop-line.line here c.loop-line.invariant.0 c.in_ok-last.ensures.last,
-     lines_more _ _ _ _ _ c.args.base c.loop-line.last c.args.log.now c.loop-line.line here c.loop-line.invariant.0 c.loop-line.invariant.1 c.in_ok-last.ensures.ok)
+    let here : c.loop-line.line < length c.args.log.now = omega arith in (
+      last_next c.args.base c.loop-line.last c.in_ok-last.last c.args.log.now c.loop-line.line here c.loop-line.invariant.0 c.in_ok-last.ensures.last,
+      lines_more _ _ _ _ _ c.args.base c.loop-line.last c.args.log.now c.loop-line.line here c.loop-line.invariant.0 c.loop-line.invariant.1 c.in_ok-last.ensures.ok,
+    )
 
 pub returns-clause-ok : goal.returns-clause-ok
 returns-clause-ok g c =

@@ -1,5 +1,5 @@
 -- The digits end before the space, and the dash is written before them.
-use Rattle.std.proofs.Common.{◌≡◌, ◌≤◌, ◌^◌, ◌<◌, length, refl, arith, rules}
+use Rattle.std.proofs.Common.{◌≡◌, ◌≤◌, length, arith}
 use Rattle.std.specs.Fmt.{decimal}
 use Rattle.std.proofs.lemmas.Fmt.{length-decimal-le}
 use Rattle.lrat_log.proofs.LineTexts.{digits_spelled, dash_spelled}

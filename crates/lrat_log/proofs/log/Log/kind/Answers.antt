@@ -1,5 +1,5 @@
 -- The line of a head has its kind.
-use Rattle.std.proofs.Common.{◌≡◌, ◌<◌, length, rules}
+use Rattle.std.proofs.Common.{◌<◌, length, rules}
 use Rattle.lrat_log.proofs.Flat.{kind-line_at, below_heads}
 use Rattle.lrat_log.proofs.log.Log.kind.Goals as goal
 

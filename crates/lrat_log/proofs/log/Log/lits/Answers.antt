@@ -1,5 +1,5 @@
 -- The literals of a line lie between the ends of two heads.
-use Rattle.std.proofs.Common.{◌≡◌, ◌+◌, ◌<◌, length, ◌∙◌, arith}
+use Rattle.std.proofs.Common.{◌<◌, length, ◌∙◌, arith}
 use Rattle.lrat_log.proofs.Flat.{below_heads, clause-line_at}
 use Rattle.lrat_log.proofs.log.Log.lits.Goals as goal
 

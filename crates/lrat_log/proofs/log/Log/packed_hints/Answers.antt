@@ -1,5 +1,5 @@
 -- The hints of a line lie between the ends of two heads.
-use Rattle.std.proofs.Common.{◌≡◌, ◌+◌, ◌<◌, length, ◌∙◌, arith}
+use Rattle.std.proofs.Common.{◌<◌, length, ◌∙◌, arith}
 use Rattle.lrat_log.proofs.Flat.{below_heads, hints-line_at}
 use Rattle.lrat_log.proofs.log.Log.packed_hints.Goals as goal
 

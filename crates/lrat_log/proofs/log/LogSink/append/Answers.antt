@@ -1,5 +1,5 @@
 -- The line lies behind those before.
-use Rattle.std.proofs.Common.{◌≡◌, ◌+◌, ◌<◌, ◌^◌, ◌++◌, ◌∷◌, [], length, length-append, arith, rules}
+use Rattle.std.proofs.Common.{◌≡◌, ◌+◌, ◌<◌, ◌^◌, length, length-append, arith, rules}
 use Rattle.lrat_log.proofs.Flat.{lines_in-push, IsFlat-push}
 use Rattle.lrat_log.proofs.log.LogSink.append.Goals as goal
 

@@ -1,0 +1,10 @@
+-- The hints so far are plain, and in range.
+use Rattle.std.proofs.Common.{◌<◌, ◌^◌}
+use Rattle.std.specs.Prelude.{All}
+use Rattle.wcnf.specs.Lrat.{IsId}
+use Rattle.lrat_log.specs.Log.{IsPlain, id_of, name_of, number_in}
+use Rattle.lrat_log.proofs.log.tests.plain_hints.Given as goal
+
+abbrev pub invariant-loop-number : goal.invariant-loop-number
+invariant-loop-number l =
+    All (λ h. IsId (number_in (name_of h))) l.hints.items × All (λ h. id_of l.base (name_of h) < 2 ^ 62) l.hints.items × All IsPlain l.hints.items

@@ -1,0 +1,2 @@
+mod Within
+mod Added

@@ -1,0 +1,27 @@
+// What keeps the program from its answer.
+use propagate::engine::EngineFault;
+use std::alloc::AllocError;
+
+#[derive(Clone, Copy, Debug, PartialEq, Eq, Drop)]
+pub(crate) enum Fault {
+    /// The words of the command line are others.
+    Usage,
+    /// The file could not be read.
+    Read,
+    /// The text is no formula.
+    Text,
+    /// Memory was refused.
+    Memory,
+}
+
+impl From<AllocError> for Fault {
+    fn from(_error: AllocError) -> Self {
+        Fault::Memory
+    }
+}
+
+impl From<EngineFault> for Fault {
+    fn from(_fault: EngineFault) -> Self {
+        Fault::Memory
+    }
+}

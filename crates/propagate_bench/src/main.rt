@@ -1,0 +1,57 @@
+//! Measures unit propagation: plays rounds of decisions on a formula, and prints how much was decided and propagated.
+#![tactic(auto)]
+
+mod faults;
+mod loading;
+mod rounds;
+
+use crate::faults::Fault;
+use crate::loading::{greatest_variable, load};
+use crate::rounds::{Counts, play_rounds};
+use clauses::store::Store;
+use propagate::engine::Engine;
+use std::process::ExitCode;
+use std::rt::{Env, Files};
+use std::{env, fs};
+
+/// Reads the formula of a file and plays so many rounds on it.
+fn measured<R: Files + AllocGlobal>(rt: &R, path: &str, rounds: u64) -> Result<Counts, Fault> {
+    let text = fs::read(rt, path).map_err(|_| Fault::Read)?;
+    let vars = greatest_variable(&text)?;
+    let mut store = Store::new(rt.alloc());
+    let mut engine = Engine::new(rt.alloc(), vars)?;
+    load(&text, &mut store, &mut engine, vars)?;
+    play_rounds(&mut engine, &store, vars, rounds)
+}
+
+/// The words `FILE ROUNDS`.
+fn told<R: Files + AllocGlobal + Env>(rt: &R) -> Result<Counts, Fault> {
+    let mut words = env::args(rt).map_err(|_| Fault::Usage)?;
+    let _program = words.next();
+    let (Some(path), Some(rounds)) = (words.next(), words.next()) else {
+        return Err(Fault::Usage);
+    };
+    let rounds = rounds.parse::<u64>().map_err(|_| Fault::Usage)?;
+    measured(rt, path.as_str(), rounds)
+}
+
+fn main(rt: HostRuntime) -> ExitCode {
+    match told(&rt) {
+        Ok(counts) => {
+            let Counts {
+                rounds,
+                decisions,
+                propagations,
+                conflicts,
+            } = counts;
+            let _ = println!(rt;
+                "rounds {rounds} decisions {decisions} propagations {propagations} conflicts {conflicts}"
+            );
+            ExitCode::from(0)
+        }
+        Err(fault) => {
+            let _ = eprintln!(rt; "error: {fault:?}");
+            ExitCode::from(3)
+        }
+    }
+}
