@@ -1,7 +1,7 @@
 //! What the program prints, and its exit statuses.
-ghost use Rattle.std.specs.Prelude.{◌≡◌, ◌++◌, OnOk, OnErr, codes};
+ghost use Rattle.std.specs.Prelude.{◌≡◌, ◌++◌, OnOk, OnErr, IfErr, IsOk, codes};
 ghost use Rattle.std.specs.Fmt.{decimal};
-ghost use Rattle.std.specs.Io.KnownBytes.{Appends};
+ghost use Rattle.std.specs.Io.KnownBytes.{Appends, Keeps};
 ghost use Rattle.wcnf.specs.Writing.{AppendsPart};
 ghost use Rattle.report.specs.Codes.{code_of_verdict, code_of_fault};
 ghost use Rattle.report.specs.Printing.{no_text, verdict_text};
@@ -71,6 +71,20 @@ fn no_words(cause: Cause) -> &'static [u8]
 /// `WriteFault` where the writer failed.
 pub fn print_fault<W: Write>(fault: &RunFault, writer: &mut W) -> Result<(), WriteFault> {
     writeln!(writer, "error: {fault}").map_err(|_| WriteFault)
+}
+
+/// Flushes what was written. No failed write or flush is tried again.
+///
+/// # Errors
+///
+/// `Output` where the writing or the flush failed.
+pub fn delivered<W: Write>(written: Result<(), WriteFault>, writer: &mut W) -> Result<(), RunFault>
+    ensures written { OnOk result (IsOk written) }
+    ensures fault { IfErr result (λ fault. fault ≡ RunFault.Output) }
+    ensures kept { Keeps (W.contents writer.old) (W.contents writer.new) }
+{
+    written.map_err(|_| RunFault::Output)?;
+    writer.flush().map_err(|_| RunFault::Output)
 }
 
 /// The exit status of a verdict: 0 for `Yes`, 1 for `No`.

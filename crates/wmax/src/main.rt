@@ -7,9 +7,10 @@ use clap::error::ErrorKind;
 use lrat_check::checking::check;
 use report::fault::RunFault;
 use report::options::{self, MOST_COST};
-use report::printing::{fault_code, print_fault, print_verdict, verdict_code};
+use report::printing::{delivered, fault_code, print_fault, print_verdict, verdict_code};
 use std::fs::File;
 use std::io::{Read, Write};
+use std::mem::ManuallyDrop;
 use std::process::ExitCode;
 use std::rt::{Env, Files};
 use std::{env, io};
@@ -56,12 +57,11 @@ fn checked<R: Files + AllocGlobal + Print>(
     let proof = contents(rt, &mut proof)?;
     let verdict = check(rt.alloc(), &text, &answer, &proof).map_err(|_| RunFault::Memory)?;
     let mut out = io::writer(rt);
-    print_verdict(&verdict, &mut out).map_err(|_| RunFault::Output)?;
-    out.flush().map_err(|_| RunFault::Output)?;
+    delivered(print_verdict(&verdict, &mut out), &mut out)?;
     Ok(verdict_code(&verdict))
 }
 
-/// `wmax encode`: the formula for 'cost below COST'.
+/// `wmax encode`: the formula for 'cost below COST'. The process ends after it, so the clauses are not given back one by one.
 fn encoded<R: Files + AllocGlobal + Print>(
     rt: &R,
     matches: &ArgMatches<'_>,
@@ -70,12 +70,12 @@ fn encoded<R: Files + AllocGlobal + Print>(
         return Err(UNREADABLE);
     };
     let mut text = File::open(rt, text).map_err(|_| UNREADABLE)?;
-    let instance = read_from(rt.alloc(), &mut text).map_err(run_fault)?;
+    let instance = ManuallyDrop::new(read_from(rt.alloc(), &mut text).map_err(run_fault)?);
     // `clap` lets no greater cost pass; said again, since nothing is known of that here.
     let formula = formula(&instance, cost.min(MOST_COST)).map_err(|_| RunFault::Memory)?;
+    let formula = ManuallyDrop::new(formula);
     let mut out = io::writer(rt);
-    write_dimacs(&formula, &mut out).map_err(|_| RunFault::Output)?;
-    out.flush().map_err(|_| RunFault::Output)?;
+    delivered(write_dimacs(&formula, &mut out), &mut out)?;
     Ok(0)
 }
 
