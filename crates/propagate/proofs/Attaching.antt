@@ -158,19 +158,19 @@ fits_detach_watching e slots r one other inv lt none at h g fits =
     let R = e.watches.rows in
     let i = index_of one in
     let j = index_of other in
-    let R1 = cleared R i r in
-    let g1 : j < length R1 = omega (arith, length-set R i (without_clause r (row_at R i))) in
-    fits_detach e slots r (cleared R1 j r) e.watches.waiting lt none
-    (λ k q ne. cleared_others R1 j r q k g1 ne ∙ cleared_others R i r q k h ne)
+    let Rj = cleared R i r in
+    let g1 : j < length Rj = omega (arith, length-set R i (without_clause r (row_at R i))) in
+    fits_detach e slots r (cleared Rj j r) e.watches.waiting lt none
+    (λ k q ne. cleared_others Rj j r q k g1 ne ∙ cleared_others R i r q k h ne)
     (λ k. elim (cases_eq k j) [
-      | inl same ↦ ap (λ x. count_in r (row_at (cleared R1 j r) x)) same ∙ cleared_here R1 j r g1
-      | inr ne ↦ cleared_elsewhere R1 j r k ne ∙ elim (cases_eq k i) [
-        | inl same ↦ ap (λ x. count_in r (row_at R1 x)) same ∙ cleared_here R i r h
+      | inl same ↦ ap (λ x. count_in r (row_at (cleared Rj j r) x)) same ∙ cleared_here Rj j r g1
+      | inr ne ↦ cleared_elsewhere Rj j r k ne ∙ elim (cases_eq k i) [
+        | inl same ↦ ap (λ x. count_in r (row_at Rj x)) same ∙ cleared_here R i r h
         | inr ne' ↦ cleared_elsewhere R i r k ne' ∙ fits.rows k r ∙ ap (λ x. watches_at x k) at
             ∙ omega (arith, one-other i k (λ x. ne' (sym x)), one-other j k (λ x. ne (sym x)))
       ]
     ])
-    (cleared_all (HasBlocker e slots) R1 j r g1 (cleared_all (HasBlocker e slots) R i r h fits.blockers))
+    (cleared_all (HasBlocker e slots) Rj j r g1 (cleared_all (HasBlocker e slots) R i r h fits.blockers))
     (λ q ne c. c) fits
 
 -- a clause without rows
