@@ -17,19 +17,19 @@ old_at ms i = (get_or ms i (0, 0)).0
 abbrev Rises : Renaming → Type 0
 Rises ms = (i j : ℕ) → i < j → j < length ms → old_at ms i < old_at ms j
 
-rises_pairs : (ms : Renaming) → IsStrictlyIncreasing (map (λ m. m.0) ms) → Rises ms
+pub rises_pairs : (ms : Renaming) → IsStrictlyIncreasing (map (λ m. m.0) ms) → Rises ms
 rises_pairs ms h i j below within =
     let long : length (map (λ m. m.0) ms) ≡ length ms = length-map ms (λ m. m.0) in
     let all : get_or (map (λ m. m.0) ms) i 0 < get_or (map (λ m. m.0) ms) j 0 = AllPairs-from_increasing (map (λ m. m.0) ms) h i j 0 below (omega arith) in
     omega (arith, all, get_or-map (λ m. m.0) ms i (0, 0) 0 (omega arith), get_or-map (λ m. m.0) ms j (0, 0) 0 within)
 
-renamed_here : (m : ℕ × ℕ) (ms : Renaming) (r : ℕ) → m.0 ≡ r → renamed (m ∷ ms) r ≡ Some m.1
+pub renamed_here : (m : ℕ × ℕ) (ms : Renaming) (r : ℕ) → m.0 ≡ r → renamed (m ∷ ms) r ≡ Some m.1
 renamed_here m ms r e = let t : (m.0 == r) ≡ true = eq-eqb m.0 r e in rw t refl
 
-renamed_later : (m : ℕ × ℕ) (ms : Renaming) (r : ℕ) → m.0 ≢ r → renamed (m ∷ ms) r ≡ renamed ms r
+pub renamed_later : (m : ℕ × ℕ) (ms : Renaming) (r : ℕ) → m.0 ≢ r → renamed (m ∷ ms) r ≡ renamed ms r
 renamed_later m ms r e = let t : (m.0 == r) ≡ false = ne_eqb m.0 r e in rw t refl
 
-renamed_at : (ms : Renaming) (r i : ℕ) → Rises ms → i < length ms → old_at ms i ≡ r → renamed ms r ≡ Some (get_or ms i (0, 0)).1
+pub renamed_at : (ms : Renaming) (r i : ℕ) → Rises ms → i < length ms → old_at ms i ≡ r → renamed ms r ≡ Some (get_or ms i (0, 0)).1
 renamed_at [] r i h l e = absurd (omega arith)
 renamed_at (m ∷ ms) r zero h l e = renamed_here m ms r e
 renamed_at (m ∷ ms) r (suc i) h l e =

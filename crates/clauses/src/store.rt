@@ -191,7 +191,10 @@ impl Model for Moves {
 impl Moves {
     /// The pairs of old and new references, both sides rising.
     pub fn pairs(&self) -> &[(CRef, CRef)]
-        ensures { result.now ≡ self.now }
+        ensures pairs { result.now ≡ self.now }
+        ensures old_rise { IsStrictlyIncreasing (map (λ p. p.0) result.now) }
+        ensures new_rise { IsStrictlyIncreasing (map (λ p. p.1) result.now) }
+        ensures lower { All (λ p. p.1 ≤ p.0) result.now }
     {
         &self.pairs
     }

@@ -18,3 +18,6 @@ pub mod Watching
 pub mod Waiting
 pub mod Following
 pub mod OneClause
+pub mod Moving
+pub mod Naming
+pub mod Renamed

@@ -5,4 +5,5 @@ pub mod Watches
 pub mod Fits
 pub mod Steps
 pub mod Looks
+pub mod Renames
 pub mod Vectors

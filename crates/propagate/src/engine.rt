@@ -7,6 +7,7 @@ ghost use Rattle.propagate.specs.Steps.{enlisted, grown_table, with_trail, Conti
 ghost use Rattle.propagate.specs.Fits.{Fits, IsWithin, GrowsByUnits, IsFalseClause, IsComplete};
 
 mod queue;
+mod renaming;
 mod waiting;
 
 use crate::pool::WatchPool;

@@ -1,8 +1,10 @@
 // Rows of watches.
 ghost use Rattle.std.specs.Prelude.{◌≡◌, ℕ, ◌<◌, ◌≤◌, List, [], ◌∷◌, ◌++◌, length, map, replicate, take, Some, slice_get, slice_set, slice_index, OnOk, OnErr, IfOk, filter, not, ◌==◌};
 ghost use Rattle.propagate.specs.Rows.{row_at, with_row, closed_row};
+ghost use Rattle.propagate.specs.Renames.{named_rows};
 
-use clauses::store::CRef;
+use crate::names::rename_entries;
+use clauses::store::{CRef, Moves};
 use std::alloc::{AllocError, Global};
 use std::marker::Model;
 use wcnf::types::Lit;
@@ -27,6 +29,14 @@ impl Model for WatchPool {
     ghost Value = { List (List Entry) };
 
     ghost view = { λ p. map (λ row. row.items) p.rows.items };
+}
+
+fn rename_rows(rows: &mut [Vec<Entry>], moves: &Moves)
+    ensures { map (λ row. row.items) rows.new ≡ named_rows moves.now (map (λ row. row.items) rows.old) }
+{
+    for row in rows.iter_mut() {
+        rename_entries(row, moves);
+    }
 }
 
 impl WatchPool {
@@ -113,5 +123,12 @@ impl WatchPool {
         ensures { self.new ≡ with_row self.old row (filter (λ w. not (w.reference == reference)) (row_at self.old row)) }
     {
         self.rows[row].retain(|w| w.reference != reference);
+    }
+
+    /// Renames the clauses of all entries.
+    pub(crate) fn rename(&mut self, moves: &Moves)
+        ensures { self.new ≡ named_rows moves.now self.old }
+    {
+        rename_rows(&mut self.rows, moves);
     }
 }

@@ -4,8 +4,10 @@ ghost use Rattle.std.specs.Option.{option_map};
 ghost use Rattle.wcnf.specs.Literal.{index_of, negation};
 ghost use Rattle.propagate.specs.Tables.{IsNamed};
 ghost use Rattle.propagate.specs.Trail.{literals_of, depth_of, value_in, level_in, reason_in, kept_to};
+ghost use Rattle.propagate.specs.Renames.{named_trail};
 
-use clauses::store::CRef;
+use crate::names::rename_reasons;
+use clauses::store::{CRef, Moves};
 use std::alloc::{AllocError, Global};
 use std::marker::Model;
 use wcnf::types::Lit;
@@ -146,5 +148,12 @@ impl Trail {
         while level < self.depth() {
             self.pop();
         }
+    }
+
+    /// Renames the reasons.
+    pub(crate) fn rename(&mut self, moves: &Moves)
+        ensures { self.new ≡ record self.old { assigned = named_trail moves.now self.old.assigned } }
+    {
+        rename_reasons(&mut self.reasons, moves);
     }
 }

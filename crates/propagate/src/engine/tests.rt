@@ -126,3 +126,13 @@ fn detached(rt: HostRuntime) -> Result<(), Fail> {
     assert_eq!(rt; engine.value(two), None);
     Ok(())
 }
+
+#[test]
+fn rename_without_clauses(rt: HostRuntime) -> Result<(), Fail> {
+    let mut store = Store::new(rt.alloc());
+    let moves = store.compact()?;
+    let mut engine = Engine::new(rt.alloc(), 3)?;
+    engine.rename(&moves);
+    assert_eq!(rt; engine.depth(), 0);
+    Ok(())
+}

@@ -1,0 +1,94 @@
+// The new references of clauses, and the tables that follow them.
+ghost use Rattle.std.specs.Prelude.{◌≡◌, ◌≤◌, All, map};
+ghost use Rattle.std.specs.List.Sorted.{IsStrictlyIncreasing};
+ghost use Rattle.propagate.specs.Watches.{place_in};
+ghost use Rattle.propagate.specs.Renames.{named, named_entry, named_reason, IsMoved};
+
+use crate::pool::Entry;
+use crate::table::Place;
+use clauses::store::{CRef, Moves};
+
+/// The new reference of a clause; one that was not kept stays as it is.
+pub(crate) fn new_name(moves: &Moves, reference: CRef) -> CRef
+    ensures { result ≡ named moves.now reference }
+{
+    match moves.to(reference) {
+        Some(new) => new,
+        None => reference,
+    }
+}
+
+fn new_reason(moves: &Moves, reason: Option<CRef>) -> Option<CRef>
+    ensures { result ≡ named_reason moves.now reason }
+{
+    match reason {
+        Some(old) => Some(new_name(moves, old)),
+        None => None,
+    }
+}
+
+/// Renames each reference of a list.
+pub(crate) fn rename_references(references: &mut [CRef], moves: &Moves)
+    ensures { references.new ≡ map (named moves.now) references.old }
+{
+    for reference in references.iter_mut() {
+        *reference = new_name(moves, *reference);
+    }
+}
+
+fn new_entry(moves: &Moves, entry: Entry) -> Entry
+    ensures { result ≡ named_entry moves.now entry }
+{
+    Entry {
+        reference: new_name(moves, entry.reference),
+        blocker: entry.blocker,
+    }
+}
+
+/// Renames the clause of each entry of a row.
+pub(crate) fn rename_entries(entries: &mut [Entry], moves: &Moves)
+    ensures { entries.new ≡ map (named_entry moves.now) entries.old }
+{
+    for entry in entries.iter_mut() {
+        *entry = new_entry(moves, *entry);
+    }
+}
+
+/// Renames each reason of a table.
+pub(crate) fn rename_reasons(reasons: &mut [Option<CRef>], moves: &Moves)
+    ensures { reasons.new ≡ map (named_reason moves.now) reasons.old }
+{
+    for reason in reasons.iter_mut() {
+        *reason = new_reason(moves, *reason);
+    }
+}
+
+fn place_at(table: &[Place], at: usize) -> Place
+    ensures { result ≡ place_in table.now at }
+{
+    if at < table.len() {
+        table[at]
+    } else {
+        Place::Detached
+    }
+}
+
+/// Moves each place to its new reference. No place is written before it is read, since no reference rises.
+pub(crate) fn move_places(table: &mut [Place], pairs: &[(CRef, CRef)])
+    requires rising { IsStrictlyIncreasing (map (λ p. p.1) pairs.now) }
+    requires lower { All (λ p. p.1 ≤ p.0) pairs.now }
+    ensures { IsMoved table.old table.new pairs.now }
+{
+    let mut next = 0;
+    for at in 0..table.len() {
+        let mut place = Place::Detached;
+        if next < pairs.len() {
+            let (old, new) = pairs[next];
+            if new.index() == at {
+                place = place_at(table, old.index());
+                next += 1;
+            }
+        }
+        table[at] = place;
+    }
+}
