@@ -16,11 +16,11 @@ use Rattle.lrat_log.specs.declared.lines.Name.TheVariants.{Formula, Added}
 use Rattle.lrat_log.specs.declared.lines.Hint.{Hint}
 use Rattle.lrat_log.specs.declared.lines.Hint.TheVariants.{Plain, Group}
 use Rattle.lrat_log.specs.Log.{LogLine, IsLine, IsPlain, is_delete, name_of, number_in, id_of, HasSmallIds, numbered_on, numbered_lines, Given, given_at, start_over}
-use Rattle.lrat_log.specs.Steps.{live_after, AreSteps, given_of, IsBaseOf, IsOwnGroup, IsLogOver, IsAcceptedLog, is_empty_clause, adds_empty_clause, StopsAtEmptyClause}
+use Rattle.lrat_log.specs.Steps.{IsKnown, HasKnownNames, live_after, AreSteps, given_of, IsBaseOf, IsOwnGroup, IsLogOver, IsAcceptedLog, is_empty_clause, adds_empty_clause, StopsAtEmptyClause}
 use Rattle.lrat_log.specs.Rebase.{WeakerList, weaker_line, moved_name, moved_hint, moved_line, rebased, IsWeakerOf, KeepsSteps}
 use Rattle.lrat_log.proofs.Accepting.{accepted_on}
-use Rattle.lrat_log.proofs.Names.{leading_names, group_names, group_by, named_on, line_by, numbered_on-named, IsKnown, Renames, SameLive, GroupIs, HintKnown, LineKnown, chain_after, steps_from_chain}
-use Rattle.lrat_log.proofs.Numbering.{HasKnownNames, log_steps_from, given_below, given_past}
+use Rattle.lrat_log.proofs.Names.{leading_names, group_names, group_by, named_on, line_by, numbered_on-named, Renames, SameLive, GroupIs, HintKnown, LineKnown, chain_after, steps_from_chain}
+use Rattle.lrat_log.proofs.Numbering.{log_steps_from, given_below, given_past}
 use Rattle.lrat_log.proofs.Ids.{known_names}
 
 -- lists by their numbers

@@ -4,6 +4,7 @@ ghost use Rattle.std.specs.Prelude.{◌≡◌, ℕ, ◌+◌, ◌<◌, ◌≤◌,
 ghost use Rattle.std.specs.Io.KnownBytes.{Appends};
 ghost use Rattle.wcnf.specs.Lrat.{IsTextOf};
 ghost use Rattle.wcnf.specs.Writing.{AppendsPart, PassesOn};
+ghost use Rattle.lrat_log.specs.Steps.{HoldsAtEachBase};
 ghost use Rattle.lrat_log.specs.Log.{LogLine, IsLine, IsLog, HasSmallIds, line_at, numbered_lines, text_of};
 ghost use Rattle.lrat_log.specs.Texts.{line_text, numbered_after, last_after};
 ghost use Rattle.lrat_log.specs.Flat.{lits_before, hints_before};
@@ -227,6 +228,9 @@ pub fn write_to<W: Write>(log: &Log, base: u64, writer: &mut W) -> Result<(), Wr
     ensures ok { OnOk result (Appends (W.contents writer.old) (W.contents writer.new) (text_of base log.now)) }
     ensures fault { OnErr result (AppendsPart (W.contents writer.old) (W.contents writer.new) (text_of base log.now)) }
     ensures lines { IsTextOf (text_of base log.now) (numbered_lines base log.now) }
+
+    // Numbering at another base renames ids alone.
+    ensures bases { HoldsAtEachBase log.now }
 {
     let mut block = Block::new();
     let mut last = base;

@@ -3,6 +3,7 @@ use Rattle.std.proofs.Common.{◌<◌, ◌≤◌, [], length, arith}
 use Rattle.std.proofs.lemmas.Result.{err_from_is_err_and, on_ok_weaker, on_err_weaker}
 use Rattle.lrat_log.proofs.LineTexts.{last_on-le, last_next, lines_more, line_fault, text_whole, text_part}
 use Rattle.lrat_log.proofs.Text.{text_of-lines}
+use Rattle.lrat_log.proofs.Numbering.{holds_at_each_base}
 use Rattle.lrat_log.proofs.log.write_to.Goals as goal
 
 pub put_line-requires-clause-last : goal.put_line-requires-clause-last
@@ -45,3 +46,9 @@ returns-clause-fault g c =
 
 pub returns-clause-lines : goal.returns-clause-lines
 returns-clause-lines g c = text_of-lines c.args.base c.args.log.now c.len-line-end.ensures.log.lines c.requires.ids c.requires.room
+
+pub returns-in_err-last-clause-bases : goal.returns-in_err-last-clause-bases
+returns-in_err-last-clause-bases g c = holds_at_each_base c.args.log.now
+
+pub returns-clause-bases : goal.returns-clause-bases
+returns-clause-bases g c = holds_at_each_base c.args.log.now
