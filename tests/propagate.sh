@@ -8,7 +8,7 @@ rm -rf "$work"/crates/*/out
 cp tests/propagate.drive "$work/crates/drive/src/main.rt"
 grep -E '^(wcnf|clauses|propagate):' crates.txt > "$work/crates.txt"
 echo 'drive: wcnf clauses propagate' >> "$work/crates.txt"
-[ $# -gt 0 ] || set -- 1 2 3 4 5 6
+[ $# -gt 0 ] || set -- 1 2 3
 for seed; do
     out=$(cd "$work/crates/drive" && "${RT:-rt}" try -- "$seed" 200000 2> "$work/.err" | grep -E '^(ok |[a-z])' | head -n 1)
     status=0
