@@ -69,33 +69,33 @@ fits_watch e slots r c one other inv fits at live apart a b =
     let R = e.watches.rows in
     let w = entry_of r other in
     let v = entry_of r one in
-    let R1 = pushed R one w in
-    let R2 = pushed R1 other v in
+    let Ri = pushed R one w in
+    let Rj = pushed Ri other v in
     let t = set e.watches.table r (Watching one other) in
     let was : is_attached e r ≡ true = ap is_kept at in
     let f = fits.attached r was in
     let same : f.0 ≡ c = cc (f.1, live) in
     let within : IsWithin e.variables c = subst (IsWithin e.variables) same f.2.0 in
     let l1 : index_of one < length R = let h = inv.rows in let g = index-within e.variables one (within_variable e.variables c one within a.member) in omega arith in
-    let l2 : index_of other < length R1 = let h = inv.rows in let g = index-within e.variables other (within_variable e.variables c other within b.member) in let k = length-set R (index_of one) (row_at R (index_of one) ++ w ∷ []) in omega arith in
+    let l2 : index_of other < length Ri = let h = inv.rows in let g = index-within e.variables other (within_variable e.variables c other within b.member) in let k = length-set R (index_of one) (row_at R (index_of one) ++ w ∷ []) in omega arith in
     let here : place_in t r ≡ Watching one other = place_set_same e.watches.table r (Watching one other) (kept_within e.watches.table r was) in
     let elsewhere : (q : ℕ) → q ≢ r → place_in t q ≡ place_in e.watches.table q = λ q h. place_set_other e.watches.table r q (Watching one other) h in
     let kept : is_kept (place_in t r) ≡ true = ap is_kept here in
-    fits_place e slots r t R2 e.watches.waiting fits elsewhere
+    fits_place e slots r t Rj e.watches.waiting fits elsewhere
     (λ k. (c, live, (within, subst (λ z. FitsPlace e c z) (sym here) (apart, a, b))))
     (inl kept)
     (λ k q. elim (cases_eq r q) [
-      | inl is ↦ subst (λ z. count_in z (row_at R2 k) ≡ watches_at (place_in t z) k) is
-          (let g1 = count_pushed R1 other v r k l2 refl in let g2 = count_pushed R one w r k l1 refl in
+      | inl is ↦ subst (λ z. count_in z (row_at Rj k) ≡ watches_at (place_in t z) k) is
+          (let g1 = count_pushed Ri other v r k l2 refl in let g2 = count_pushed R one w r k l1 refl in
           let g3 = fits.rows k r ∙ ap (λ z. watches_at z k) at in let g4 = ap (λ z. watches_at z k) here in omega arith)
-      | inr ne ↦ count_pushed_other R1 other v q k l2 ne ∙ count_pushed_other R one w q k l1 ne ∙ fits.rows k q ∙ sym (ap (λ z. watches_at z k) (elsewhere q (λ h. ne (sym h))))
+      | inr ne ↦ count_pushed_other Ri other v q k l2 ne ∙ count_pushed_other R one w q k l1 ne ∙ fits.rows k q ∙ sym (ap (λ z. watches_at z k) (elsewhere q (λ h. ne (sym h))))
     ])
     (λ q h. elim (cases_eq q r) [
       | inl is ↦ absurd (let h' = sym (ap (place_in t) is ∙ here) ∙ h in cc)
       | inr nq ↦ fits.waiting q (sym (elsewhere q nq) ∙ h)
     ])
-    (λ k. blockers_kept e slots r t R2 e.watches.waiting (row_at R2 k) elsewhere kept
-    (all_pushed (HasBlocker e slots) R1 other v l2 (c, was, live, a.member) (all_pushed (HasBlocker e slots) R one w l1 (c, was, live, b.member) fits.blockers) k))
+    (λ k. blockers_kept e slots r t Rj e.watches.waiting (row_at Rj k) elsewhere kept
+    (all_pushed (HasBlocker e slots) Ri other v l2 (c, was, live, a.member) (all_pushed (HasBlocker e slots) R one w l1 (c, was, live, b.member) fits.blockers) k))
 
 pub fits_rest : (e : EngineState) (slots : Slots) (r : ℕ) (c : List Literal) → Fits e slots → place_in e.watches.table r ≡ Waiting → clause_at slots r ≡ Some c → depth_of e.trail ≡ 0
     → HasTrue c (literals_of e.trail) → Fits (with_place e r Resting) slots
@@ -121,8 +121,8 @@ fits_rest e slots r c fits at live zero is_true =
     (λ k. blockers_kept e slots r t e.watches.rows e.watches.waiting (row_at e.watches.rows k) elsewhere kept (fits.blockers k))
 
 -- a pushed entry goes again
-pub unpushed : (R R1 : List (List Entry)) (i n : ℕ) (w : Entry) → i < length R → n ≡ length (row_at R i) → R1 ≡ with_row R i (row_at R i ++ w ∷ []) → with_row R1 i (take n (row_at R1 i)) ≡ R
-unpushed R R1 i n w lt len e =
+pub unpushed : (R Ri : List (List Entry)) (i n : ℕ) (w : Entry) → i < length R → n ≡ length (row_at R i) → Ri ≡ with_row R i (row_at R i ++ w ∷ []) → with_row Ri i (take n (row_at Ri i)) ≡ R
+unpushed R Ri i n w lt len e =
     rw (e, get_or-set_same R i (row_at R i ++ w ∷ []) [] lt, len) (set-set R i (row_at R i ++ w ∷ []) (take (length (row_at R i)) (row_at R i ++ w ∷ []))
     ∙ ap (set R i) (take_at (row_at R i) (w ∷ []) (length (row_at R i)) refl) ∙ set-get_or R i [])
 
