@@ -203,7 +203,3 @@ kept_within t r h = elim (cases_lt r (length t)) [
   | inl lt ↦ lt
   | inr le ↦ absurd (false≢true (sym (ap is_kept (get_or_past t r Detached le)) ∙ h))
 ]
-
--- what is read in a table
-pub place_read : (t : List Place) (i r : ℕ) (x p : Place) → i ≡ r → r < length t → x ≡ get_or t i x → x ≡ p → place_in t r ≡ p
-place_read t i r x p e lt at is = sym (get_or_read t r x lt (at ∙ ap (λ k. get_or t k x) e) Detached) ∙ is

@@ -1,6 +1,7 @@
 pub mod Trail
 pub mod Rows
 pub mod Tables
+pub mod Zipped
 pub mod Watches
 pub mod Fits
 pub mod Steps

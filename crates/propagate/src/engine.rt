@@ -3,7 +3,7 @@ ghost use Rattle.std.specs.Prelude.{◌≡◌, ℕ, ◌+◌, ◌<◌, ◌≤◌,
 ghost use Rattle.clauses.specs.Slots.{Slots, IsLive, clause_at};
 ghost use Rattle.propagate.specs.Trail.{literals_of, depth_of, value_in, level_in, reason_in, kept_to};
 ghost use Rattle.propagate.specs.Watches.{is_attached, place_in, SameAttached, SetsAttached};
-ghost use Rattle.propagate.specs.Steps.{enlisted, grown_table, with_trail, Continues, IsConflict};
+ghost use Rattle.propagate.specs.Steps.{enlisted, with_trail, Continues, IsConflict};
 ghost use Rattle.propagate.specs.Fits.{Fits, IsWithin, GrowsByUnits, IsFalseClause, IsComplete};
 
 mod queue;
@@ -11,7 +11,7 @@ mod renaming;
 mod waiting;
 
 use crate::pool::WatchPool;
-use crate::table::Place;
+use crate::table::{Place, Table};
 use crate::trail::Trail;
 use clauses::store::{CRef, Store};
 use std::alloc::{AllocError, Global};
@@ -37,7 +37,7 @@ pub enum EngineFault {
 pub struct Engine {
     trail: Trail,
     // By reference.
-    table: Vec<Place>,
+    table: Table,
     // By literal, the clauses that watch it.
     pool: WatchPool,
     waiting: Vec<CRef>,
@@ -51,20 +51,9 @@ impl Model for Engine {
 
     ghost Value = { EngineState };
 
-    ghost view = { λ e. engine_state e.trail e.table.items e.pool e.waiting.items e.settled e.processed e.failed };
+    ghost view = { λ e. engine_state e.trail e.table e.pool e.waiting.items e.settled e.processed e.failed };
 
-    ghost invariant = { λ e. IsEngine (engine_state e.trail e.table.items e.pool e.waiting.items e.settled e.processed e.failed) };
-}
-
-/// The table gets a place for the clause. A refused growth changes nothing.
-fn make_room(table: &mut Vec<Place>, reference: CRef) -> Result<(), AllocError>
-    ensures ok { OnOk result (table.new.items ≡ grown_table table.old.items reference) }
-    ensures err { OnErr result (table.new.items ≡ table.old.items) }
-{
-    if table.len() <= reference.index() {
-        table.resize(reference.index() + 1, Place::Detached)?;
-    }
-    Ok(())
+    ghost invariant = { λ e. IsEngine (engine_state e.trail e.table e.pool e.waiting.items e.settled e.processed e.failed) };
 }
 
 impl Engine {
@@ -82,7 +71,7 @@ impl Engine {
         let pool = WatchPool::new(alloc, 2 * vars as usize)?;
         Ok(Engine {
             trail,
-            table: Vec::new(alloc),
+            table: Table::new(alloc),
             pool,
             waiting: Vec::new(alloc),
             settled: 0,
@@ -138,8 +127,8 @@ impl Engine {
         ensures same { (self.new.trail ≡ self.old.trail) × (self.new.variables ≡ self.old.variables) × (self.new.failed ≡ self.old.failed) }
         ensures fits { (slots : Slots) → Fits self.old slots → Fits self.new slots }
     {
-        let place = self.table[reference.index()];
-        self.table[reference.index()] = Place::Detached;
+        let place = self.place(reference);
+        self.table.set(reference.index(), Place::Detached);
         match place {
             Place::Detached => {}
             Place::Waiting => self.waiting.retain(|r| *r != reference),
@@ -244,12 +233,12 @@ impl Engine {
         ensures err { OnErr result (self.new ≡ self.old) }
     {
         let len = self.table.len();
-        make_room(&mut self.table, reference)?;
+        self.table.make_room(reference)?;
         if self.waiting.push(reference).is_err() {
             self.table.truncate(len);
             return Err(AllocError);
         }
-        self.table[reference.index()] = Place::Waiting;
+        self.table.set(reference.index(), Place::Waiting);
         Ok(())
     }
 
@@ -269,11 +258,7 @@ impl Engine {
     fn place(&self, reference: CRef) -> Place
         ensures { result ≡ place_in self.now.watches.table reference }
     {
-        if reference.index() < self.table.len() {
-            self.table[reference.index()]
-        } else {
-            Place::Detached
-        }
+        self.table.get(reference.index())
     }
 
     /// Makes an open literal true, by the clause that leaves no choice.

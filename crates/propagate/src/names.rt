@@ -5,7 +5,7 @@ ghost use Rattle.propagate.specs.Watches.{place_in};
 ghost use Rattle.propagate.specs.Renames.{named, named_entry, named_reason, IsMoved};
 
 use crate::pool::Entry;
-use crate::table::Place;
+use crate::table::{Place, Table};
 use clauses::store::{CRef, Moves};
 
 /// The new reference of a clause; one that was not kept stays as it is.
@@ -63,18 +63,8 @@ pub(crate) fn rename_reasons(reasons: &mut [Option<CRef>], moves: &Moves)
     }
 }
 
-fn place_at(table: &[Place], at: usize) -> Place
-    ensures { result ≡ place_in table.now at }
-{
-    if at < table.len() {
-        table[at]
-    } else {
-        Place::Detached
-    }
-}
-
 /// Moves each place to its new reference. No place is written before it is read, since no reference rises.
-pub(crate) fn move_places(table: &mut [Place], pairs: &[(CRef, CRef)])
+pub(crate) fn move_places(table: &mut Table, pairs: &[(CRef, CRef)])
     requires rising { IsStrictlyIncreasing (map (λ p. p.1) pairs.now) }
     requires lower { All (λ p. p.1 ≤ p.0) pairs.now }
     ensures { IsMoved table.old table.new pairs.now }
@@ -85,10 +75,10 @@ pub(crate) fn move_places(table: &mut [Place], pairs: &[(CRef, CRef)])
         if next < pairs.len() {
             let (old, new) = pairs[next];
             if new.index() == at {
-                place = place_at(table, old.index());
+                place = table.get(old.index());
                 next += 1;
             }
         }
-        table[at] = place;
+        table.set(at, place);
     }
 }

@@ -1,4 +1,12 @@
-// Where a clause stands.
+// Where each clause stands.
+ghost use Rattle.std.specs.Prelude.{◌≡◌, ℕ, ◌<◌, List, [], length, take, slice_set, OnOk, OnErr};
+ghost use Rattle.wcnf.specs.Literal.{Literal};
+ghost use Rattle.propagate.specs.Watches.{place_in};
+ghost use Rattle.propagate.specs.Steps.{IsWatchedBy, grown_table};
+
+use clauses::store::CRef;
+use std::alloc::{AllocError, Global};
+use std::marker::Model;
 use wcnf::types::Lit;
 
 /// Whether the clause of a reference is attached, and how the engine keeps it.
@@ -12,4 +20,137 @@ pub(crate) enum Place {
     Resting,
     /// It stands in the rows of these two literals.
     Watching(Lit, Lit),
+}
+
+/// A place without its literals.
+#[derive(Clone, Copy, Debug, PartialEq, Eq, Drop)]
+pub(crate) enum Kind {
+    Detached,
+    Waiting,
+    Resting,
+    Watching,
+}
+
+/// The two literals that a clause watches; of no meaning where it watches none.
+#[derive(Clone, Copy, Debug, PartialEq, Eq, Drop)]
+pub(crate) struct Pair {
+    pub(crate) one: Lit,
+    pub(crate) other: Lit,
+}
+
+/// A place for each reference. The literals stand apart, eight bytes a clause, since propagation reads nothing else.
+#[derive(Drop)]
+pub(crate) struct Table {
+    kinds: Vec<Kind>,
+    pairs: Vec<Pair>,
+}
+
+impl Model for Table {
+    ghost use Rattle.std.specs.Prelude.{List, length, ◌≡◌};
+    ghost use Rattle.propagate.specs.declared.table.Place.{Place};
+    ghost use Rattle.propagate.specs.Zipped.{places};
+
+    ghost Value = { List Place };
+
+    ghost view = { λ t. places t.kinds.items t.pairs.items };
+
+    ghost invariant = { λ t. length t.pairs.items ≡ length t.kinds.items };
+}
+
+impl Table {
+    /// A table without places. It takes no memory.
+    pub(crate) fn new(alloc: Global) -> Self
+        ensures { result ≡ [] }
+    {
+        Table {
+            kinds: Vec::new(alloc),
+            pairs: Vec::new(alloc),
+        }
+    }
+
+    pub(crate) fn len(&self) -> usize
+        ensures { result ≡ length self.now }
+    {
+        self.kinds.len()
+    }
+
+    /// The place of a reference; one past the end is not attached.
+    pub(crate) fn get(&self, reference: usize) -> Place
+        ensures { result ≡ place_in self.now reference }
+    {
+        if reference >= self.kinds.len() {
+            return Place::Detached;
+        }
+        match self.kinds[reference] {
+            Kind::Detached => Place::Detached,
+            Kind::Waiting => Place::Waiting,
+            Kind::Resting => Place::Resting,
+            Kind::Watching => {
+                let Pair { one, other } = self.pairs[reference];
+                Place::Watching(one, other)
+            }
+        }
+    }
+
+    pub(crate) fn set(&mut self, reference: usize, place: Place)
+        requires { reference < length self.old }
+        ensures { self.new ≡ slice_set self.old reference place }
+    {
+        match place {
+            Place::Detached => self.kinds[reference] = Kind::Detached,
+            Place::Waiting => self.kinds[reference] = Kind::Waiting,
+            Place::Resting => self.kinds[reference] = Kind::Resting,
+            Place::Watching(one, other) => {
+                self.kinds[reference] = Kind::Watching;
+                self.pairs[reference] = Pair { one, other };
+            }
+        }
+    }
+
+    /// The literal that a clause watches beside this one.
+    pub(crate) fn other(&self, reference: CRef, watched: Lit) -> Lit
+        requires { (other : Literal) × IsWatchedBy (place_in self.now reference) watched other }
+        ensures { IsWatchedBy (place_in self.now reference) watched result }
+    {
+        let Pair { one, other } = self.pairs[reference.index()];
+        if one == watched { other } else { one }
+    }
+
+    /// A clause that watches two literals watches these from now on.
+    pub(crate) fn rewatch(&mut self, reference: CRef, one: Lit, other: Lit)
+        requires { (a b : Literal) × (place_in self.old reference ≡ Place.Watching a b) }
+        ensures { self.new ≡ slice_set self.old reference (Place.Watching one other) }
+    {
+        self.pairs[reference.index()] = Pair { one, other };
+    }
+
+    /// The table gets a place for the clause. A refused growth changes nothing.
+    pub(crate) fn make_room(&mut self, reference: CRef) -> Result<(), AllocError>
+        ensures ok { OnOk result (self.new ≡ grown_table self.old reference) }
+        ensures err { OnErr result (self.new ≡ self.old) }
+    {
+        let len = self.kinds.len();
+        if len > reference.index() {
+            return Ok(());
+        }
+        let none = Lit::new(1, false);
+        self.kinds.resize(reference.index() + 1, Kind::Detached)?;
+        let pair = Pair {
+            one: none,
+            other: none,
+        };
+        if self.pairs.resize(reference.index() + 1, pair).is_err() {
+            self.kinds.truncate(len);
+            return Err(AllocError);
+        }
+        Ok(())
+    }
+
+    /// Keeps the places of the first `len` references.
+    pub(crate) fn truncate(&mut self, len: usize)
+        ensures { self.new ≡ take len self.old }
+    {
+        self.kinds.truncate(len);
+        self.pairs.truncate(len);
+    }
 }

@@ -199,15 +199,12 @@ impl Engine {
         requires { (other : Literal) × IsWatchedBy (place_in self.now.watches.table reference) watched other }
         ensures { IsWatchedBy (place_in self.now.watches.table reference) watched result }
     {
-        match self.place(reference) {
-            Place::Watching(one, other) => { if one == watched { other } else { one } }
-            _ => watched,
-        }
+        self.table.other(reference, watched)
     }
 
     /// The clause watches these two literals from now on. A refused growth changes nothing.
     fn rewatch(&mut self, reference: CRef, other: Lit, lit: Lit) -> Result<(), AllocError>
-        requires attached { is_attached self.old reference ≡ true }
+        requires watching { (a b : Literal) × (place_in self.old.watches.table reference ≡ Place.Watching a b) }
         requires lit { IsVariable self.old.variables lit }
         requires other { IsVariable self.old.variables other }
         ensures ok { OnOk result (self.new ≡ moved self.old reference other lit) }
@@ -218,7 +215,7 @@ impl Engine {
             blocker: other,
         };
         self.pool.push(lit.index(), entry)?;
-        self.table[reference.index()] = Place::Watching(lit, other);
+        self.table.rewatch(reference, lit, other);
         Ok(())
     }
 }

@@ -12,29 +12,20 @@ ghost use Rattle.propagate.specs.Steps.{Continues, AreTrueWaiting, IsTrueWaiting
 use super::Engine;
 use crate::pool::Entry;
 use crate::search::{first_not_false, other_not_false, other_of_level};
-use crate::table::Place;
+use crate::table::{Place, Table};
 use clauses::store::{CRef, Store};
 use std::alloc::AllocError;
 use wcnf::types::Lit;
 
 /// Whether the clause is to be looked at.
-fn waits(table: &[Place], reference: CRef) -> bool
+fn waits(table: &Table, reference: CRef) -> bool
     ensures { result ≡ is_waiting (place_in table.now reference) }
 {
-    if reference.index() < table.len() {
-        match table[reference.index()] {
-            Place::Waiting => true,
-            Place::Detached => false,
-            Place::Resting => false,
-            Place::Watching(_, _) => false,
-        }
-    } else {
-        false
-    }
+    matches!(table.get(reference.index()), Place::Waiting)
 }
 
 /// Keeps the clauses that are to be looked at.
-fn keep_waiting(waiting: &mut Vec<CRef>, table: &[Place])
+fn keep_waiting(waiting: &mut Vec<CRef>, table: &Table)
     ensures { waiting.new.items ≡ filter (λ r. is_waiting (place_in table.now r)) waiting.old.items }
 {
     waiting.retain(|r| waits(table, *r));
@@ -153,7 +144,7 @@ impl Engine {
         requires { is_attached self.old reference ≡ true }
         ensures { self.new ≡ with_place self.old reference Place.Resting }
     {
-        self.table[reference.index()] = Place::Resting;
+        self.table.set(reference.index(), Place::Resting);
     }
 
     /// A clause without watches watches these two literals from now on. A refused growth changes nothing.
@@ -178,7 +169,7 @@ impl Engine {
             self.pool.truncate(one.index(), len);
             return Err(AllocError);
         }
-        self.table[reference.index()] = Place::Watching(one, other);
+        self.table.set(reference.index(), Place::Watching(one, other));
         Ok(())
     }
 }

@@ -7,43 +7,43 @@ use Rattle.propagate.specs.Trail.{Assigned}
 use Rattle.propagate.specs.Watches.{EngineState, engine_state, is_attached, place_in, watches_at}
 use Rattle.propagate.specs.Fits.{Fits}
 use Rattle.propagate.proofs.Literals.{index-within}
-use Rattle.propagate.proofs.Attaching.{fits_detach_watching, fits_detach_other, without, without_kept, kept_within, place_read, engine_set}
+use Rattle.propagate.proofs.Attaching.{fits_detach_watching, fits_detach_other, without, without_kept, kept_within, engine_set}
 use Rattle.propagate.proofs.engine.Engine.detach.Goals as goal
 
 pub returns-in-Waiting-clause-fits : goal.returns-in-Waiting-clause-fits
 returns-in-Waiting-clause-fits c = λ slots fits.
     let i = c.self.inside in
     let r = c.args.reference in
-    let e = engine_state i.trail i.table.items i.pool i.waiting.items i.settled i.processed i.failed in
+    let e = engine_state i.trail i.table i.pool i.waiting.items i.settled i.processed i.failed in
     let fits' : Fits e slots = subst (λ x. Fits x slots) (sym c.self.view_is) fits in
-    let lt : r < length i.table.items = kept_within i.table.items r (ap (λ (x : EngineState). is_attached x r) c.self.view_is ∙ c.requires.attached) in
+    let lt : r < length i.table = kept_within i.table r (ap (λ (x : EngineState). is_attached x r) c.self.view_is ∙ c.requires.attached) in
     let none : All (λ (a : Assigned). a.reason ≡ Some r → ⊥) e.trail = subst (λ (x : EngineState). All (λ (a : Assigned). a.reason ≡ Some r → ⊥) x.trail) (sym c.self.view_is) c.requires.no_reason in
-    let at : place_in i.table.items r ≡ Waiting = place_read i.table.items c.index.result r c.index-place.result.now Waiting c.index.ensures lt c.index-place.ensures c.in-Waiting.is in
+    let at : place_in i.table r ≡ Waiting = ap (λ (x : EngineState). place_in x.watches.table r) c.self.view_is ∙ sym c.place-place.ensures ∙ c.in-Waiting.is in
     let kept : c.retain.new.self.items ≡ without r i.waiting.items = filter_same _ _ _ (λ x b f' k. search rules) _ _ c.retain.ensures.filtered in
-    rw (c.index-2.ensures, kept) (fits_detach_other e slots r (without r i.waiting.items) lt none (λ k. ap (λ p. watches_at p k) at) (λ q ne h. without_kept r q i.waiting.items ne h) fits')
+    rw (c.set.ensures, c.index.ensures, kept) (fits_detach_other e slots r (without r i.waiting.items) lt none (λ k. ap (λ p. watches_at p k) at) (λ q ne h. without_kept r q i.waiting.items ne h) fits')
 
 pub returns-in-Resting-clause-fits : goal.returns-in-Resting-clause-fits
 returns-in-Resting-clause-fits c = λ slots fits.
     let i = c.self.inside in
     let r = c.args.reference in
-    let e = engine_state i.trail i.table.items i.pool i.waiting.items i.settled i.processed i.failed in
+    let e = engine_state i.trail i.table i.pool i.waiting.items i.settled i.processed i.failed in
     let fits' : Fits e slots = subst (λ x. Fits x slots) (sym c.self.view_is) fits in
-    let lt : r < length i.table.items = kept_within i.table.items r (ap (λ (x : EngineState). is_attached x r) c.self.view_is ∙ c.requires.attached) in
+    let lt : r < length i.table = kept_within i.table r (ap (λ (x : EngineState). is_attached x r) c.self.view_is ∙ c.requires.attached) in
     let none : All (λ (a : Assigned). a.reason ≡ Some r → ⊥) e.trail = subst (λ (x : EngineState). All (λ (a : Assigned). a.reason ≡ Some r → ⊥) x.trail) (sym c.self.view_is) c.requires.no_reason in
-    let at : place_in i.table.items r ≡ Resting = place_read i.table.items c.index.result r c.index-place.result.now Resting c.index.ensures lt c.index-place.ensures c.in-Resting.is in
-    rw c.index-2.ensures (fits_detach_other e slots r i.waiting.items lt none (λ k. ap (λ p. watches_at p k) at) (λ q ne h. h) fits')
+    let at : place_in i.table r ≡ Resting = ap (λ (x : EngineState). place_in x.watches.table r) c.self.view_is ∙ sym c.place-place.ensures ∙ c.in-Resting.is in
+    rw (c.set.ensures, c.index.ensures) (fits_detach_other e slots r i.waiting.items lt none (λ k. ap (λ p. watches_at p k) at) (λ q ne h. h) fits')
 
 pub returns-in-Watching-clause-fits : goal.returns-in-Watching-clause-fits
 returns-in-Watching-clause-fits c = λ slots fits.
     let i = c.self.inside in
     let r = c.args.reference in
-    let e = engine_state i.trail i.table.items i.pool i.waiting.items i.settled i.processed i.failed in
+    let e = engine_state i.trail i.table i.pool i.waiting.items i.settled i.processed i.failed in
     let fits' : Fits e slots = subst (λ x. Fits x slots) (sym c.self.view_is) fits in
-    let lt : r < length i.table.items = kept_within i.table.items r (ap (λ (x : EngineState). is_attached x r) c.self.view_is ∙ c.requires.attached) in
+    let lt : r < length i.table = kept_within i.table r (ap (λ (x : EngineState). is_attached x r) c.self.view_is ∙ c.requires.attached) in
     let none : All (λ (a : Assigned). a.reason ≡ Some r → ⊥) e.trail = subst (λ (x : EngineState). All (λ (a : Assigned). a.reason ≡ Some r → ⊥) x.trail) (sym c.self.view_is) c.requires.no_reason in
-    let at : place_in i.table.items r ≡ Watching c.in-Watching.one c.in-Watching.other = place_read i.table.items c.index.result r c.index-place.result.now _ c.index.ensures lt c.index-place.ensures c.in-Watching.is in
+    let at : place_in i.table r ≡ Watching c.in-Watching.one c.in-Watching.other = ap (λ (x : EngineState). place_in x.watches.table r) c.self.view_is ∙ sym c.place-place.ensures ∙ c.in-Watching.is in
     let w = c.self.invariant.watching r c.in-Watching.one c.in-Watching.other at in
-    rw (c.index-2.ensures, c.remove-in-Watching.ensures, c.remove.ensures, c.index-in-Watching.ensures.index, c.index-in-Watching-2.ensures.index)
+    rw (c.set.ensures, c.index.ensures, c.remove-in-Watching.ensures, c.remove.ensures, c.index-in-Watching.ensures.index, c.index-in-Watching-2.ensures.index)
     (fits_detach_watching e slots r c.in-Watching.one c.in-Watching.other c.self.invariant lt none at
     (omega (arith, c.self.invariant.rows, index-within e.variables c.in-Watching.one w.0)) (omega (arith, c.self.invariant.rows, index-within e.variables c.in-Watching.other w.1)) fits')
 
@@ -51,7 +51,7 @@ pub invariant_of-self-in-Watching : goal.invariant_of-self-in-Watching
 invariant_of-self-in-Watching c =
     let i = c.self.inside in
     let r = c.args.reference in
-    let e = engine_state i.trail i.table.items i.pool i.waiting.items i.settled i.processed i.failed in
-    let lt : r < length i.table.items = kept_within i.table.items r (ap (λ (x : EngineState). is_attached x r) c.self.view_is ∙ c.requires.attached) in
+    let e = engine_state i.trail i.table i.pool i.waiting.items i.settled i.processed i.failed in
+    let lt : r < length i.table = kept_within i.table r (ap (λ (x : EngineState). is_attached x r) c.self.view_is ∙ c.requires.attached) in
     let long : length c.remove-in-Watching.new.self ≡ length i.pool = ap length c.remove-in-Watching.ensures ∙ length-set _ _ _ ∙ ap length c.remove.ensures ∙ length-set _ _ _ in
-    rw c.index-2.ensures (engine_set e r Detached c.remove-in-Watching.new.self i.waiting.items c.self.invariant long lt (λ one other at. absurd (cc)))
+    rw (c.set.ensures, c.index.ensures) (engine_set e r Detached c.remove-in-Watching.new.self i.waiting.items c.self.invariant long lt (λ one other at. absurd (cc)))

@@ -14,25 +14,19 @@ use Rattle.propagate.proofs.Renamed.{all_renamed}
 use Rattle.propagate.proofs.engine.Engine.rename.Goals as goal
 
 module _ (c : goal.After-rename-2) where
-  long : length c.move_places.new.table ≡ c.self.inside.table.len
-  long = omega (arith, c.move_places.auto.table, c.deref_mut.ensures.len)
-
   long_waiting : length c.rename_references.new.references ≡ c.self.inside.waiting.len
-  long_waiting = omega (arith, c.rename_references.auto.references, c.deref_mut-2.ensures.len)
+  long_waiting = omega (arith, c.rename_references.auto.references, c.deref_mut.ensures.len)
 
-  moved : IsMoved c.self.inside.table.items (with_items c.self.inside.table c.move_places.new.table).items c.args.moves.now
-  moved =
-      subst (λ (t : List Place). IsMoved c.self.inside.table.items t c.args.moves.now) (sym (with_items_is c.self.inside.table c.move_places.new.table long))
-      (subst (λ (ms : Renaming). IsMoved c.self.inside.table.items c.move_places.new.table ms) c.pairs.ensures.pairs
-      (subst (λ (t : List Place). IsMoved t c.move_places.new.table c.pairs.result.now) c.deref_mut.ensures.value c.move_places.ensures))
+  moved : IsMoved c.self.inside.table c.move_places.new.table c.args.moves.now
+  moved = subst (λ (ms : Renaming). IsMoved c.self.inside.table c.move_places.new.table ms) c.pairs.ensures.pairs c.move_places.ensures
 
   waiting : (with_items c.self.inside.waiting c.rename_references.new.references).items ≡ map (named c.args.moves.now) c.self.inside.waiting.items
   waiting =
       with_items_is c.self.inside.waiting c.rename_references.new.references long_waiting
-      ∙ c.rename_references.ensures ∙ ap (map (named c.args.moves.now)) c.deref_mut-2.ensures.value
+      ∙ c.rename_references.ensures ∙ ap (map (named c.args.moves.now)) c.deref_mut.ensures.value
 
 pub returns-clause-attached : goal.returns-clause-attached
-returns-clause-attached c = (all_renamed c.args.self.now c.args.moves.now c.self.inside.trail c.rename-2.new.self c.self.inside.table.items _ c.self.inside.pool c.rename.new.self c.self.inside.waiting.items _
+returns-clause-attached c = (all_renamed c.args.self.now c.args.moves.now c.self.inside.trail c.rename-2.new.self c.self.inside.table _ c.self.inside.pool c.rename.new.self c.self.inside.waiting.items _
     c.self.inside.settled c.self.inside.processed c.self.inside.failed c.self.view_is c.rename-2.ensures c.rename.ensures (waiting c)
     (subst (λ (ms : Renaming). IsStrictlyIncreasing (map (λ m. m.0) ms)) c.pairs.ensures.pairs c.pairs.ensures.old_rise)
     (subst (λ (ms : Renaming). IsStrictlyIncreasing (map (λ m. m.1) ms)) c.pairs.ensures.pairs c.pairs.ensures.new_rise)
@@ -45,7 +39,7 @@ returns-clause-trail c =
     ∙ trail_listed c.args.moves.now c.args.self.now.trail (recursion_from_All (λ (a : Assigned). IfSome a.reason (λ r. (q : ℕ) × (renamed c.args.moves.now r ≡ Some q))) c.args.self.now.trail c.requires.reasons)
 
 pub returns-clause-fits : goal.returns-clause-fits
-returns-clause-fits c = (all_renamed c.args.self.now c.args.moves.now c.self.inside.trail c.rename-2.new.self c.self.inside.table.items _ c.self.inside.pool c.rename.new.self c.self.inside.waiting.items _
+returns-clause-fits c = (all_renamed c.args.self.now c.args.moves.now c.self.inside.trail c.rename-2.new.self c.self.inside.table _ c.self.inside.pool c.rename.new.self c.self.inside.waiting.items _
     c.self.inside.settled c.self.inside.processed c.self.inside.failed c.self.view_is c.rename-2.ensures c.rename.ensures (waiting c)
     (subst (λ (ms : Renaming). IsStrictlyIncreasing (map (λ m. m.0) ms)) c.pairs.ensures.pairs c.pairs.ensures.old_rise)
     (subst (λ (ms : Renaming). IsStrictlyIncreasing (map (λ m. m.1) ms)) c.pairs.ensures.pairs c.pairs.ensures.new_rise)

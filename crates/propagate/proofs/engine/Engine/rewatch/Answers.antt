@@ -1,7 +1,7 @@
 use Rattle.std.proofs.Common.{◌≡◌, ◌<◌, length, ap, ◌∙◌, arith}
 use Rattle.std.proofs.lemmas.List.{length-set}
 use Rattle.propagate.specs.declared.table.Place.TheVariants.{Watching}
-use Rattle.propagate.specs.Watches.{EngineState, engine_state, is_attached}
+use Rattle.propagate.specs.Watches.{EngineState, engine_state, is_attached, is_kept}
 use Rattle.propagate.proofs.Attaching.{engine_set, kept_within}
 use Rattle.propagate.proofs.engine.Engine.rewatch.Goals as goal
 
@@ -9,11 +9,11 @@ pub invariant_of-self-2 : goal.invariant_of-self-2
 invariant_of-self-2 c =
     let i = c.self.inside in
     let r = c.args.reference in
-    let e = engine_state i.trail i.table.items i.pool i.waiting.items i.settled i.processed i.failed in
+    let e = engine_state i.trail i.table i.pool i.waiting.items i.settled i.processed i.failed in
     let variables = ap (λ (x : EngineState). x.variables) c.self.view_is in
-    let lt : r < length i.table.items = kept_within i.table.items r (ap (λ (x : EngineState). is_attached x r) c.self.view_is ∙ c.requires.attached) in
+    let lt : r < length i.table = kept_within i.table r (ap (λ (x : EngineState). is_attached x r) c.self.view_is ∙ ap is_kept c.requires.watching.2) in
     let long : length c.push.new.self ≡ length i.pool = ap length c.in_ok-push.ensures.ok ∙ length-set _ _ _ in
-    rw c.index-2.ensures (engine_set e r (Watching c.args.lit c.args.other) c.push.new.self i.waiting.items c.self.invariant long lt
+    rw c.rewatch.ensures (engine_set e r (Watching c.args.lit c.args.other) c.push.new.self i.waiting.items c.self.invariant long lt
     (λ one other at.
     let a : one ≡ c.args.lit = cc in
     let b : other ≡ c.args.other = cc in

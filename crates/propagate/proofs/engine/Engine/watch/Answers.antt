@@ -24,18 +24,18 @@ returns-then-is_err-clause-err c =
     let pool : c.truncate.new.self ≡ i.pool =
     c.truncate.ensures ∙ ap (λ j. with_row c.push-2.new.self j (take c.len-len.result (row_at c.push-2.new.self j))) c.index-then-is_err.ensures.index
     ∙ unpushed i.pool c.push-2.new.self k c.len-len.result (entry_of c.args.reference c.args.other) lt n e1 in
-    ap (λ p. engine_state i.trail i.table.items p i.waiting.items i.settled i.processed i.failed) pool ∙ c.self.view_is
+    ap (λ p. engine_state i.trail i.table p i.waiting.items i.settled i.processed i.failed) pool ∙ c.self.view_is
 
 pub invariant_of-self-2 : goal.invariant_of-self-2
 invariant_of-self-2 c =
     let i = c.self.inside in
     let r = c.args.reference in
-    let e = engine_state i.trail i.table.items i.pool i.waiting.items i.settled i.processed i.failed in
+    let e = engine_state i.trail i.table i.pool i.waiting.items i.settled i.processed i.failed in
     let variables = ap (λ (x : EngineState). x.variables) c.self.view_is in
-    let lt : r < length i.table.items = kept_within i.table.items r (ap (λ x. is_attached x r) c.self.view_is ∙ c.requires.attached) in
+    let lt : r < length i.table = kept_within i.table r (ap (λ x. is_attached x r) c.self.view_is ∙ c.requires.attached) in
     let long : length c.push-2.new.self ≡ length i.pool =
     ap length (on_ok_at c.push-2.result c.if-is_err.ensures.value c.push-2.ensures.ok) ∙ length-set _ _ _ ∙ ap length c.in_ok-push.ensures.ok ∙ length-set _ _ _ in
-    rw c.index-4.ensures (engine_set e r (Watching c.args.one c.args.other) c.push-2.new.self i.waiting.items c.self.invariant long lt
+    rw (c.set.ensures, c.index-4.ensures) (engine_set e r (Watching c.args.one c.args.other) c.push-2.new.self i.waiting.items c.self.invariant long lt
     (λ one other at.
     let a : one ≡ c.args.one = cc in
     let b : other ≡ c.args.other = cc in
