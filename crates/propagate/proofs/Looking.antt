@@ -96,14 +96,8 @@ same_other p w a b ne h g = elim h [
   | inr x ↦ elim g [ inl y ↦ absurd (ne (cc)) | inr y ↦ (cc) ]
 ]
 
-pub none_from : (o : Option Bool) (b : Bool) → is_some o ≡ not b → b ≡ true → o ≡ None
-none_from None b e f = refl
-none_from (Some x) true e f = absurd (cc)
-none_from (Some x) false e f = absurd (cc)
-
--- neither open nor true
-pub false_left : (o : Option Bool) (b t : Bool) → is_some o ≡ not b → b ≡ false → t ≡ option_eq beq o (Some true) → t ≡ false → o ≡ Some false
-false_left None true t e f g h = absurd (cc)
-false_left None false t e f g h = absurd (cc)
-false_left (Some true) b t e f g h = absurd (cc)
-false_left (Some false) b t e f g h = refl
+-- neither true nor false
+pub open_left : (o : Option Bool) → o ≢ Some true → o ≢ Some false → o ≡ None
+open_left None t f = refl
+open_left (Some true) t f = absurd (t refl)
+open_left (Some false) t f = absurd (f refl)

@@ -2,6 +2,7 @@ pub mod Trail
 pub mod Rows
 pub mod Tables
 pub mod Zipped
+pub mod Truths
 pub mod Watches
 pub mod Fits
 pub mod Steps

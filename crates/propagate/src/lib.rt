@@ -7,3 +7,4 @@ pub mod pool;
 mod search;
 mod table;
 mod trail;
+mod truth;

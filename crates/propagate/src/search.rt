@@ -14,7 +14,7 @@ pub(crate) fn first_not_false(trail: &Trail, lits: &[Lit]) -> Option<Lit>
         (λ l. (contains_literal l lits.now ≡ true) × (value_in trail.now.assigned l ≢ Some false)) }
 {
     for lit in lits {
-        if trail.value(*lit) != Some(false) {
+        if !trail.is_false(*lit) {
             return Some(*lit);
         }
     }
@@ -29,7 +29,7 @@ pub(crate) fn other_not_false(trail: &Trail, lits: &[Lit], but: Lit) -> Option<L
         (λ l. (contains_literal l lits.now ≡ true) × (l ≢ but) × (value_in trail.now.assigned l ≢ Some false)) }
 {
     for lit in lits {
-        if *lit != but && trail.value(*lit) != Some(false) {
+        if *lit != but && !trail.is_false(*lit) {
             return Some(*lit);
         }
     }

@@ -1,5 +1,5 @@
 // The literals that are true, with tables by which a value, a level or a reason is found in one step.
-ghost use Rattle.std.specs.Prelude.{◌≡◌, ◌-◌, ◌<◌, ◌≤◌, ◌*◌, not, [], ◌∷◌, ◌++◌, Some, None, length, take, All, IfOk, slice_set, slice_index_or};
+ghost use Rattle.std.specs.Prelude.{◌≡◌, ◌-◌, ◌<◌, ◌≤◌, ◌*◌, not, true, false, IsTrue, ◌↔◌, [], ◌∷◌, ◌++◌, Some, None, length, take, All, IfOk, slice_set, slice_index_or};
 ghost use Rattle.std.specs.Option.{option_map};
 ghost use Rattle.wcnf.specs.Literal.{index_of, negation};
 ghost use Rattle.propagate.specs.Tables.{IsNamed};
@@ -7,6 +7,7 @@ ghost use Rattle.propagate.specs.Trail.{literals_of, depth_of, value_in, level_i
 ghost use Rattle.propagate.specs.Renames.{named_trail};
 
 use crate::names::rename_reasons;
+use crate::truth::Truth;
 use clauses::store::{CRef, Moves};
 use std::alloc::{AllocError, Global};
 use std::marker::Model;
@@ -18,7 +19,7 @@ pub(crate) struct Trail {
     variables: u32,
     literals: Vec<Lit>,
     // By literal.
-    values: Vec<Option<bool>>,
+    values: Vec<Truth>,
     // By variable.
     levels: Vec<Option<u32>>,
     // By variable; of no meaning where there is no level.
@@ -39,12 +40,12 @@ impl Model for Trail {
 }
 
 /// Writes the value of a literal, and of its negation.
-fn set_value(values: &mut Vec<Option<bool>>, lit: Lit, value: Option<bool>)
+fn set_value(values: &mut Vec<Truth>, lit: Lit, value: Option<bool>)
     requires { 2 * lit.variable ≤ length values.old.items }
     ensures { values.new.items ≡ slice_set (slice_set values.old.items (index_of lit) value) (index_of (negation lit)) (option_map not value) }
 {
-    values[lit.index()] = value;
-    values[lit.negation().index()] = value.map(|v| !v);
+    values[lit.index()] = Truth::new(value);
+    values[lit.negation().index()] = Truth::new(value.map(|v| !v));
 }
 
 impl Trail {
@@ -54,7 +55,7 @@ impl Trail {
         let count = variables as usize;
         let literals = Vec::with_capacity(alloc, count)?;
         let mut values = Vec::new(alloc);
-        values.resize(2 * count, None)?;
+        values.resize(2 * count, Truth::new(None))?;
         let mut levels = Vec::new(alloc);
         levels.resize(count + 1, None)?;
         let mut reasons = Vec::new(alloc);
@@ -73,7 +74,21 @@ impl Trail {
         requires { lit.variable ≤ self.now.variables }
         ensures { result ≡ value_in self.now.assigned lit }
     {
-        self.values[lit.index()]
+        self.values[lit.index()].get()
+    }
+
+    pub(crate) fn is_true(&self, lit: Lit) -> bool
+        requires { lit.variable ≤ self.now.variables }
+        ensures { IsTrue result ↔ (value_in self.now.assigned lit ≡ Some true) }
+    {
+        self.values[lit.index()].is_true()
+    }
+
+    pub(crate) fn is_false(&self, lit: Lit) -> bool
+        requires { lit.variable ≤ self.now.variables }
+        ensures { IsTrue result ↔ (value_in self.now.assigned lit ≡ Some false) }
+    {
+        self.values[lit.index()].is_false()
     }
 
     pub(crate) fn level(&self, variable: u32) -> Option<u32>

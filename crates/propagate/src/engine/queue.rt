@@ -179,18 +179,17 @@ impl Engine {
         requires { IsWatched store.now.slots self.now falsified entry }
         ensures { LookSays store.now.slots self.now falsified entry.reference result }
     {
-        if self.trail.value(entry.blocker) == Some(true) {
+        if self.trail.is_true(entry.blocker) {
             return Look::True(entry.blocker);
         }
         let other = self.other_watch(entry.reference, falsified);
-        let value = self.trail.value(other);
-        if value == Some(true) {
+        if self.trail.is_true(other) {
             return Look::True(other);
         }
         match other_not_false(&self.trail, store.lits(entry.reference), other) {
             Some(lit) => Look::Watch(other, lit),
-            None if value.is_none() => Look::Unit(other),
-            None => Look::False,
+            None if self.trail.is_false(other) => Look::False,
+            None => Look::Unit(other),
         }
     }
 

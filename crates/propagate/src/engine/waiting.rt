@@ -169,7 +169,8 @@ impl Engine {
             self.pool.truncate(one.index(), len);
             return Err(AllocError);
         }
-        self.table.set(reference.index(), Place::Watching(one, other));
+        self.table
+            .set(reference.index(), Place::Watching(one, other));
         Ok(())
     }
 }
