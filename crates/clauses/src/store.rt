@@ -1,6 +1,6 @@
 //! The store of clauses: literals in one flat vector, a head for each clause in another. References stay valid until a
 //! compaction moves the live clauses together and tells where each went.
-ghost use Rattle.std.specs.Prelude.{◌≡◌, ℕ, ◌+◌, ◌<◌, ◌≤◌, ◌^◌, All, List, [], ◌∷◌, ◌++◌, Some, None, map, length, slice_set, IsTrue, ◌↔◌, OnErr, IfOk};
+ghost use Rattle.std.specs.Prelude.{◌≡◌, ℕ, ◌+◌, ◌-◌, ◌<◌, ◌≤◌, ◌^◌, All, List, [], ◌∷◌, ◌++◌, Some, None, map, length, slice_set, IsTrue, ◌↔◌, OnErr, IfOk};
 ghost use Rattle.std.specs.List.Sorted.{IsStrictlyIncreasing};
 ghost use Rattle.wcnf.specs.Literal.{Literal};
 ghost use Rattle.clauses.specs.Heads.{slots_of};
@@ -27,6 +27,8 @@ impl Model for CRef {
 
     ghost view = { λ r. r.place };
 
+    ghost invariant = { λ r. r.place < 2 ^ 32 - 1 };
+
     ghost inverse = { λ v. record { place = v } };
 }
 
@@ -38,6 +40,57 @@ impl CRef {
         ensures { result ≡ self }
     {
         self.place as usize
+    }
+}
+
+/// A reference or none, in four bytes, as a table needs that has one for each variable.
+#[derive(Clone, Copy, Debug, PartialEq, Eq, Drop)]
+pub struct MaybeCRef {
+    // the place, or NONE
+    word: u32,
+}
+
+impl Model for MaybeCRef {
+    ghost use Rattle.std.specs.Prelude.{ℕ, Option};
+
+    ghost Value = { Option ℕ };
+
+    ghost use Rattle.clauses.specs.Packed.{place_in, word_of, word_of-place_in};
+
+    ghost view = { place_in };
+
+    ghost inverse = { word_of };
+
+    ghost inverse_ok = { λ m _. word_of-place_in m };
+}
+
+const _: () = prove!(size_of::<MaybeCRef>() == 4);
+
+// No clause has this place.
+const NONE: u32 = u32::MAX;
+
+impl MaybeCRef {
+    /// The reference, or none, packed.
+    pub fn new(reference: Option<CRef>) -> Self
+        ensures { result ≡ reference }
+    {
+        MaybeCRef {
+            word: match reference {
+                Some(reference) => reference.place,
+                None => NONE,
+            },
+        }
+    }
+
+    /// The reference, where there is one.
+    pub fn get(self) -> Option<CRef>
+        ensures { result ≡ self }
+    {
+        if self.word == NONE {
+            None
+        } else {
+            Some(CRef { place: self.word })
+        }
     }
 }
 
