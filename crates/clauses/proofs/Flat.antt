@@ -7,8 +7,9 @@ use Rattle.std.proofs.lemmas.List.Edits.{take-paste, drop-paste, length-paste}
 use Rattle.std.proofs.lemmas.Slice.{between_is}
 use lib.Seq.{paste}
 use Rattle.wcnf.specs.Literal.{Literal}
-use Rattle.clauses.specs.declared.heads.Head.{Head}
-use Rattle.clauses.specs.Heads.{literals_of, clauses_in, AllLive, IsLaid}
+use Rattle.clauses.specs.declared.heads.Span.{Span}
+use Rattle.clauses.specs.Heads.{Head, span_of, literals_of, clauses_in, AllLive, IsLaid}
+use Rattle.clauses.proofs.Reading.{no_head}
 
 abbrev Listed : Type 0
 Listed = List (List Literal)
@@ -180,19 +181,23 @@ compacting_all ls cs kept end i value s h =
     let all : clauses_in ls (take kept cs) ++ clauses_in ls [] ≡ value = subst (λ xs. clauses_in ls (take kept cs) ++ clauses_in ls xs ≡ value) none s.clauses in
     (within, rw (length-take-le end ls within) s.laid, clauses_below (take end ls) ls 0 end (take kept cs) s.laid front ∙ sym (append-nil (clauses_in ls (take kept cs))) ∙ all)
 
--- one head, as it was read
-module _ (ls : List Literal) (hs : List Head) (kept end i : ℕ) (value : Listed) (s : IsCompacting ls hs kept end i value) (x : Head) (h : i < length hs) (is : x ≡ get_or hs i x) where
-  pub moves_down : (end ≤ x.start) × (x.start + x.length ≤ length ls)
-  moves_down = subst (λ (c : Head). (end ≤ c.start) × (c.start + c.length ≤ length ls)) (sym is) (moved_within ls hs kept end i value x s h)
+-- one head, as its flag and its span were read
+module _ (ls : List Literal) (hs : List Head) (kept end i : ℕ) (value : Listed) (s : IsCompacting ls hs kept end i value) (h : i < length hs) where
+  abbrev pub looked : Head
+  looked = get_or hs i no_head
 
-  pub dead_head : x.live ≡ false → IsCompacting ls hs kept end (i + 1) value
-  dead_head e = compacting_dead ls hs kept end i value x s h (ap (λ (c : Head). c.live) (sym is) ∙ e)
+  pub dead_head : looked.live ≡ false → IsCompacting ls hs kept end (i + 1) value
+  dead_head e = compacting_dead ls hs kept end i value no_head s h e
 
-  abbrev moved_head : Head
-  moved_head = record { start = end; length = x.length; live = true }
+  module _ (x : Span) (is : x ≡ span_of looked) where
+    pub moves_down : (end ≤ x.start) × (x.start + x.length ≤ length ls)
+    moves_down = subst (λ (y : Span). (end ≤ y.start) × (y.start + y.length ≤ length ls)) (sym is) (moved_within ls hs kept end i value no_head s h)
 
-  pub live_head : x.live ≡ true → (n : ℕ) → n ≡ x.length → IsCompacting (paste ls end (drop x.start ls) n) (set hs kept moved_head) (kept + 1) (end + x.length) (i + 1) value
-  live_head e n long =
-      let all = compacting_live ls hs kept end i value x s h moved_head (ap (λ (c : Head). c.live) (sym is) ∙ e) refl (ap (λ (c : Head). c.length) is) refl in
-      let by_head = subst (λ (c : Head). IsCompacting (paste ls end (drop c.start ls) c.length) (set hs kept moved_head) (kept + 1) (end + c.length) (i + 1) value) (sym is) all in
-      rw long by_head
+    abbrev moved_head : Head
+    moved_head = record { start = end; length = x.length; live = true }
+
+    pub live_head : looked.live ≡ true → (n : ℕ) → n ≡ x.length → IsCompacting (paste ls end (drop x.start ls) n) (set hs kept moved_head) (kept + 1) (end + x.length) (i + 1) value
+    live_head e n long =
+        let all = compacting_live ls hs kept end i value no_head s h moved_head e refl (ap (λ (y : Span). y.length) is) refl in
+        let by_span = subst (λ (y : Span). IsCompacting (paste ls end (drop y.start ls) y.length) (set hs kept moved_head) (kept + 1) (end + y.length) (i + 1) value) (sym is) all in
+        rw long by_span

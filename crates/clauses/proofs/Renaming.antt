@@ -1,16 +1,16 @@
 -- The moves of a compaction: what they are, one by one, and that they rename the clauses.
-use Rattle.std.proofs.Common.{◌≡◌, ℕ, zero, suc, ◌+◌, ◌-◌, ◌<◌, ◌≤◌, true, false, List, [], ◌∷◌, ◌++◌, length, drop, map, Option, Some, None, refl, sym, ◌∙◌, ap, subst, arith, inl, inr, zero-add}
+use Rattle.std.proofs.Common.{◌≡◌, ℕ, zero, suc, ◌+◌, ◌-◌, ◌<◌, ◌≤◌, true, false, List, [], ◌∷◌, ◌++◌, length, get_or, drop, map, Option, Some, None, refl, sym, ◌∙◌, ap, subst, arith, inl, inr, zero-add}
 use Rattle.std.specs.Prelude.{All, slice_index}
 use Rattle.std.specs.List.Sorted.{IsStrictlyIncreasing}
 use Rattle.std.proofs.lemmas.Bool.{cases_Bool}
-use Rattle.std.proofs.lemmas.List.{length-take-le, length-drop}
+use Rattle.std.proofs.lemmas.List.{length-take-le, length-drop, length-append, append_assoc, drop_more}
 use Rattle.std.proofs.lemmas.List.Elements.{All-nil, All-cons}
 use Rattle.std.proofs.lemmas.List.Sums.{sum_by-cons}
 use Rattle.wcnf.specs.Literal.{Literal}
-use Rattle.clauses.specs.declared.heads.Head.{Head}
-use Rattle.clauses.specs.Heads.{literals_of, slots_of, clauses_in, AllLive, IsLaid}
+use Rattle.clauses.specs.Heads.{Head, literals_of, slots_of, clauses_in, AllLive, IsLaid}
 use Rattle.clauses.specs.Slots.{Slots, clause_at, places_from, live_clauses, room_of, Renaming, moves_from, moves_of, IsRenaming}
 use Rattle.clauses.proofs.Flat.{laid_le, clauses_live, clauses_dead}
+use Rattle.clauses.proofs.Reading.{no_head}
 use Rattle.clauses.proofs.Stored.{slot_live, slot_dead}
 
 -- the moves, head by head
@@ -24,6 +24,24 @@ moves_dead old new ls h hs e = rw (slot_dead ls h e) refl
 pub record IsListing (hs : List Head) (old : ℕ) (moves : Renaming) : Type 0 where
   pub few : length moves ≤ old
   pub all : (ls : List Literal) → moves ++ moves_from old (length moves) (slots_of ls (drop old hs)) ≡ moves_of (slots_of ls hs)
+
+pub listing_live : (hs : List Head) (old : ℕ) (moves : Renaming) → IsListing hs old moves → old < length hs → (get_or hs old no_head).live ≡ true → IsListing hs (old + 1) (moves ++ (old, length moves) ∷ [])
+listing_live hs old moves l h live =
+    let long : length (moves ++ (old, length moves) ∷ []) ≡ length moves + 1 = length-append moves ((old, length moves) ∷ []) in
+    record {
+      few = omega (arith, l.few);
+      all = λ ls.
+          let next : moves_from old (length moves) (slots_of ls (drop old hs)) ≡ (old, length moves) ∷ moves_from (old + 1) (length moves + 1) (slots_of ls (drop (old + 1) hs)) = rw (drop_more hs old no_head h) (moves_live old (length moves) ls (get_or hs old no_head) (drop (old + 1) hs) live) in
+          rw long (append_assoc moves ((old, length moves) ∷ []) (moves_from (old + 1) (length moves + 1) (slots_of ls (drop (old + 1) hs))) ∙ ap (λ ms. moves ++ ms) (sym next) ∙ l.all ls);
+    }
+
+pub listing_dead : (hs : List Head) (old : ℕ) (moves : Renaming) → IsListing hs old moves → old < length hs → (get_or hs old no_head).live ≡ false → IsListing hs (old + 1) moves
+listing_dead hs old moves l h dead = record {
+  few = omega (arith, l.few);
+  all = λ ls.
+      let next : moves_from old (length moves) (slots_of ls (drop old hs)) ≡ moves_from (old + 1) (length moves) (slots_of ls (drop (old + 1) hs)) = rw (drop_more hs old no_head h) (moves_dead old (length moves) ls (get_or hs old no_head) (drop (old + 1) hs) dead) in
+      ap (λ ms. moves ++ ms) (sym next) ∙ l.all ls;
+}
 
 -- both sides rise
 abbrev RisesFrom : ℕ → List ℕ → Type 0

@@ -1,16 +1,17 @@
 -- What the slots of heads are: where one is read, added or taken out.
-use Rattle.std.proofs.Common.{◌≡◌, ℕ, zero, suc, ◌+◌, ◌<◌, ◌≤◌, ◌^◌, true, false, List, [], ◌∷◌, ◌++◌, length, get_or, set, Some, None, refl, sym, ◌∙◌, ap, subst, arith, inl, inr}
+use Rattle.std.proofs.Common.{◌≡◌, ℕ, zero, suc, ◌+◌, ◌<◌, ◌≤◌, ◌^◌, true, false, List, [], ◌∷◌, ◌++◌, length, get_or, set, map, Some, None, refl, sym, ◌∙◌, ap, subst, arith, inl, inr}
 use Rattle.std.specs.Prelude.{slice_range, slice_set, slice_get, IsTrue, ◌↔◌}
 use Rattle.std.specs.Option.{option_map}
 use Rattle.std.proofs.lemmas.Bool.{cases_Bool, cases_lt}
 use Rattle.std.proofs.lemmas.List.{map-set, map-append, length-set, length-append}
-use Rattle.std.proofs.lemmas.Option.{slice_get-map, slice_get_past, slice_get_read}
+use Rattle.std.proofs.lemmas.Option.{slice_get-map, slice_get_past, slice_get_cases, slice_get-get_or}
 use Rattle.std.proofs.lemmas.Grind.{common_steps}
 use Rattle.wcnf.specs.Literal.{Literal}
-use Rattle.clauses.specs.declared.heads.Head.{Head}
-use Rattle.clauses.specs.Heads.{literals_of, slot_of, slots_of, state_of, IsLaid, IsStore}
+use Rattle.clauses.specs.declared.heads.Span.{Span}
+use Rattle.clauses.specs.Heads.{Head, span_of, literals_of, slot_of, slots_of, state_of, IsLaid, IsStore}
 use Rattle.clauses.specs.Slots.{in_slot, clause_at, IsLive}
 use Rattle.clauses.proofs.Flat.{laid_le, laid_push}
+use Rattle.clauses.proofs.Reading.{no_head}
 
 -- a slot that is read
 pub clause_of_head : (ls : List Literal) (hs : List Head) (r : ℕ) (h : Head) → slice_get hs r ≡ Some h → clause_at (slots_of ls hs) r ≡ slot_of ls h
@@ -25,7 +26,7 @@ slot_live ls h e = rw e refl
 pub slot_dead : (ls : List Literal) (h : Head) → h.live ≡ false → slot_of ls h ≡ None
 slot_dead ls h e = rw e refl
 
-pub live_by_head : (ls : List Literal) (hs : List Head) (r : ℕ) (h : Head) → slice_get hs r ≡ Some h → IsTrue h.live ↔ IsLive (slots_of ls hs) r
+live_by_head : (ls : List Literal) (hs : List Head) (r : ℕ) (h : Head) → slice_get hs r ≡ Some h → IsTrue h.live ↔ IsLive (slots_of ls hs) r
 live_by_head ls hs r h e =
     let to : h.live ≡ true → IsLive (slots_of ls hs) r = λ t. (literals_of ls h, clause_of_head ls hs r h e ∙ slot_live ls h t) in
     let from : IsLive (slots_of ls hs) r → h.live ≡ true = λ (c, at). elim (cases_Bool h.live) [
@@ -34,8 +35,23 @@ live_by_head ls hs r h e =
     ] in
     (to, from)
 
-pub not_live : (ls : List Literal) (hs : List Head) (r : ℕ) → slice_get hs r ≡ None → IsTrue false ↔ IsLive (slots_of ls hs) r
+not_live : (ls : List Literal) (hs : List Head) (r : ℕ) → slice_get hs r ≡ None → IsTrue false ↔ IsLive (slots_of ls hs) r
 not_live ls hs r e = (λ f. cc, λ (c, at). let z : None ≡ Some c = sym (clause_of_none ls hs r e) ∙ at in cc)
+
+-- the flags say which references are live
+pub live_by_flag : (ls : List Literal) (hs : List Head) (r : ℕ) → (slice_get (map (λ h. h.live) hs) r ≡ Some true) ↔ IsLive (slots_of ls hs) r
+live_by_flag ls hs r =
+    let flag : slice_get (map (λ h. h.live) hs) r ≡ option_map (λ h. h.live) (slice_get hs r) = slice_get-map (λ h. h.live) hs r in
+    elim (slice_get_cases hs r).1 [
+      | inl (h, w, at, is) ↦
+          let here : slice_get (map (λ h. h.live) hs) r ≡ Some h.live = flag ∙ ap (option_map (λ h. h.live)) at in
+          let by_head = live_by_head ls hs r h at in
+          (λ e. by_head.0 (let same : Some h.live ≡ Some true = sym here ∙ e in cc), λ live. here ∙ ap Some (by_head.1 live))
+      | inr (w, none) ↦
+          let here : slice_get (map (λ h. h.live) hs) r ≡ None = flag ∙ ap (option_map (λ h. h.live)) none in
+          let dead = not_live ls hs r none in
+          (λ e. let z : None ≡ Some true = sym here ∙ e in cc, λ live. let z : false ≡ true = dead.1 live in cc)
+    ]
 
 -- the head of a live reference
 pub live_within : (ls : List Literal) (hs : List Head) (r : ℕ) → IsLive (slots_of ls hs) r → r < length hs
@@ -45,10 +61,11 @@ live_within ls hs r live =
       | inr l ↦ let z : false ≡ true = (not_live ls hs r (slice_get_past hs r l)).1 live in absurd (cc)
     ]
 
-pub live_clause : (ls : List Literal) (hs : List Head) (r : ℕ) (h : Head) → IsLive (slots_of ls hs) r → h ≡ get_or hs r h → clause_at (slots_of ls hs) r ≡ Some (literals_of ls h)
-live_clause ls hs r h live is =
-    let e : slice_get hs r ≡ Some h = slice_get_read hs (length hs) r h refl (live_within ls hs r live) is in
-    clause_of_head ls hs r h e ∙ slot_live ls h ((live_by_head ls hs r h e).1 live)
+pub live_clause : (ls : List Literal) (hs : List Head) (r : ℕ) (s : Span) → IsLive (slots_of ls hs) r → s ≡ span_of (get_or hs r no_head) → clause_at (slots_of ls hs) r ≡ Some (slice_range ls s.start (s.start + s.length))
+live_clause ls hs r s live is =
+    let h : Head = get_or hs r no_head in
+    let e : slice_get hs r ≡ Some h = slice_get-get_or hs r no_head (live_within ls hs r live) in
+    rw is (clause_of_head ls hs r h e ∙ slot_live ls h ((live_by_head ls hs r h e).1 live))
 
 -- a clause that is added
 range-append : (ls more : List Literal) (i n : ℕ) → i + n ≤ length ls → slice_range (ls ++ more) i (i + n) ≡ slice_range ls i (i + n)

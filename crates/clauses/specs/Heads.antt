@@ -1,9 +1,27 @@
 -- Clauses in one flat list of literals, each with a head that says where its literals lie.
-use Rattle.std.specs.Prelude.{◌≡◌, ℕ, ◌+◌, ◌<◌, ◌^◌, true, List, [], ◌∷◌, Option, Some, None, map, length, slice_range, if◌then◌else◌}
+use Rattle.std.specs.Prelude.{◌≡◌, ℕ, ◌+◌, ◌<◌, ◌^◌, Bool, true, List, [], ◌∷◌, Option, Some, None, map, length, slice_range, if◌then◌else◌}
 use Rattle.std.specs.List.{AllByRecursion}
 use Rattle.wcnf.specs.Literal.{Literal}
-use Rattle.clauses.specs.declared.heads.Head.{Head}
+use Rattle.clauses.specs.declared.heads.Span.{Span}
 use Rattle.clauses.specs.Slots.{StoreState}
+
+-- where the literals of a clause lie, and whether it is still there
+pub record Head : Type 0 where
+  pub start : ℕ
+  pub length : ℕ
+  pub live : Bool
+
+abbrev pub head_of : Span → Bool → Head
+head_of s live = record { start = s.start; length = s.length; live = live }
+
+abbrev pub span_of : Head → Span
+span_of h = record { start = h.start; length = h.length }
+
+-- spans and flags, head by head
+abbrev pub heads_of : List Span → List Bool → List Head
+heads_of [] live = []
+heads_of (s ∷ spans) [] = []
+heads_of (s ∷ spans) (l ∷ live) = head_of s l ∷ heads_of spans live
 
 abbrev pub literals_of : List Literal → Head → List Literal
 literals_of literals h = slice_range literals h.start (h.start + h.length)

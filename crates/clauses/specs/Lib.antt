@@ -1,3 +1,4 @@
 pub mod Slots
 pub mod Heads
 pub mod Vectors
+pub mod Packed

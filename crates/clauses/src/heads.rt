@@ -1,9 +1,112 @@
-//! Where the literals of a clause lie.
+//! Where the literals of each clause lie, and which clauses are still there.
+ghost use Rattle.std.specs.Prelude.{◌≡◌, ℕ, ◌<◌, true, false, List, [], ◌∷◌, ◌++◌, Some, map, length, take, slice_get, slice_set, IsTrue, ◌↔◌, OnErr, IfOk};
+ghost use Rattle.clauses.specs.Heads.{Head, head_of, span_of};
 
-/// The place of a clause in the list of all literals, its length, and whether it is still there.
+use std::alloc::{AllocError, Global};
+use std::marker::Model;
+
+/// Where the literals of a clause lie among all literals: the place of the first, and how many there are.
 #[derive(Clone, Copy, Debug, PartialEq, Eq, Drop)]
-pub(crate) struct Head {
+pub(crate) struct Span {
     pub(crate) start: u32,
     pub(crate) length: u32,
-    pub(crate) live: bool,
+}
+
+const _: () = prove!(size_of::<Span>() == 8);
+
+/// A head for each clause: its span, and whether it is live. The spans have a vector of their own, since reading a clause
+/// needs no more.
+#[derive(Drop)]
+pub(crate) struct Heads {
+    spans: Vec<Span>,
+    live: Vec<bool>,
+}
+
+impl Model for Heads {
+    ghost use Rattle.std.specs.Prelude.{◌≡◌, List, length};
+    ghost use Rattle.clauses.specs.Heads.{Head, heads_of};
+
+    ghost Value = { List Head };
+
+    ghost view = { λ h. heads_of h.spans.items h.live.items };
+
+    ghost invariant = { λ h. length h.spans.items ≡ length h.live.items };
+}
+
+impl Heads {
+    /// No heads. They take no memory.
+    pub(crate) fn new(alloc: Global) -> Self
+        ensures { result ≡ [] }
+    {
+        Heads {
+            spans: Vec::new(alloc),
+            live: Vec::new(alloc),
+        }
+    }
+
+    /// How many there are.
+    pub(crate) fn len(&self) -> usize
+        ensures { result ≡ length self.now }
+    {
+        self.spans.len()
+    }
+
+    /// Where the clause of a head lies.
+    pub(crate) fn span(&self, at: usize) -> Span
+        requires { at < length self.now }
+        ensures { slice_get (map span_of self.now) at ≡ Some result }
+    {
+        self.spans[at]
+    }
+
+    /// Whether there is a head at this place, and it is live.
+    pub(crate) fn is_live(&self, at: usize) -> bool
+        ensures { IsTrue result ↔ (slice_get (map (λ h. h.live) self.now) at ≡ Some true) }
+    {
+        match self.live.get(at) {
+            Some(live) => *live,
+            None => false,
+        }
+    }
+
+    /// Adds a live head at the end.
+    ///
+    /// # Errors
+    ///
+    /// `AllocError` where a growth was refused. The heads are then unchanged.
+    pub(crate) fn push(&mut self, span: Span) -> Result<(), AllocError>
+        ensures ok { IfOk result (λ _. self.new ≡ self.old ++ head_of span true ∷ []) }
+        ensures err { OnErr result (self.new ≡ self.old) }
+    {
+        // Room for the span comes first, so that a refused growth changes nothing.
+        self.spans.reserve(1)?;
+        self.live.push(true)?;
+        self.spans.push(span)?;
+        Ok(())
+    }
+
+    /// Puts a live head at this place.
+    pub(crate) fn set(&mut self, at: usize, span: Span)
+        requires { at < length self.old }
+        ensures { self.new ≡ slice_set self.old at (head_of span true) }
+    {
+        self.spans[at] = span;
+        self.live[at] = true;
+    }
+
+    /// Makes the head at this place dead.
+    pub(crate) fn kill(&mut self, at: usize)
+        requires { at < length self.old }
+        ensures { (h : Head) → slice_get self.old at ≡ Some h → self.new ≡ slice_set self.old at (record h { live = false }) }
+    {
+        self.live[at] = false;
+    }
+
+    /// Keeps the first heads, up to so many.
+    pub(crate) fn truncate(&mut self, count: usize)
+        ensures { self.new ≡ take count self.old }
+    {
+        self.spans.truncate(count);
+        self.live.truncate(count);
+    }
 }

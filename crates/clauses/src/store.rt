@@ -1,13 +1,13 @@
 //! The store of clauses: literals in one flat vector, a head for each clause in another. References stay valid until a
 //! compaction moves the live clauses together and tells where each went.
-ghost use Rattle.std.specs.Prelude.{◌≡◌, ℕ, ◌+◌, ◌<◌, ◌≤◌, ◌^◌, All, List, [], ◌∷◌, ◌++◌, Some, None, map, length, slice_set, IsTrue, ◌↔◌, OnErr, IfOk};
+ghost use Rattle.std.specs.Prelude.{◌≡◌, ℕ, ◌+◌, ◌-◌, ◌<◌, ◌≤◌, ◌^◌, All, List, [], ◌∷◌, ◌++◌, Some, None, map, length, slice_set, IsTrue, ◌↔◌, OnErr, IfOk};
 ghost use Rattle.std.specs.List.Sorted.{IsStrictlyIncreasing};
 ghost use Rattle.wcnf.specs.Literal.{Literal};
 ghost use Rattle.clauses.specs.Heads.{slots_of};
 ghost use Rattle.clauses.specs.Slots.{IsLive, clause_at, live_clauses, moves_of, room_of, renamed, IsRenaming};
 
 use crate::compaction::compact;
-use crate::heads::Head;
+use crate::heads::{Heads, Span};
 use std::alloc::{AllocError, Global};
 use std::marker::Model;
 use wcnf::types::Lit;
@@ -27,6 +27,8 @@ impl Model for CRef {
 
     ghost view = { λ r. r.place };
 
+    ghost invariant = { λ r. r.place < 2 ^ 32 - 1 };
+
     ghost inverse = { λ v. record { place = v } };
 }
 
@@ -41,12 +43,63 @@ impl CRef {
     }
 }
 
+/// A reference or none, in four bytes, as a table needs that has one for each variable.
+#[derive(Clone, Copy, Debug, PartialEq, Eq, Drop)]
+pub struct MaybeCRef {
+    // the place, or NONE
+    word: u32,
+}
+
+impl Model for MaybeCRef {
+    ghost use Rattle.std.specs.Prelude.{ℕ, Option};
+
+    ghost Value = { Option ℕ };
+
+    ghost use Rattle.clauses.specs.Packed.{place_in, word_of, word_of-place_in};
+
+    ghost view = { place_in };
+
+    ghost inverse = { word_of };
+
+    ghost inverse_ok = { λ m _. word_of-place_in m };
+}
+
+const _: () = prove!(size_of::<MaybeCRef>() == 4);
+
+// No clause has this place.
+const NONE: u32 = u32::MAX;
+
+impl MaybeCRef {
+    /// The reference, or none, packed.
+    pub fn new(reference: Option<CRef>) -> Self
+        ensures { result ≡ reference }
+    {
+        MaybeCRef {
+            word: match reference {
+                Some(reference) => reference.place,
+                None => NONE,
+            },
+        }
+    }
+
+    /// The reference, where there is one.
+    pub fn get(self) -> Option<CRef>
+        ensures { result ≡ self }
+    {
+        if self.word == NONE {
+            None
+        } else {
+            Some(CRef { place: self.word })
+        }
+    }
+}
+
 /// A map from references to clauses, which are lists of literals; one region of memory holds them all, as in MiniSat
 /// (Eén and Sörensson 2003).
 #[derive(Drop)]
 pub struct Store {
     literals: Vec<Lit>,
-    heads: Vec<Head>,
+    heads: Heads,
 }
 
 impl Model for Store {
@@ -56,9 +109,9 @@ impl Model for Store {
 
     ghost use Rattle.clauses.specs.Heads.{state_of, IsStore};
 
-    ghost view = { λ s. state_of s.literals.items s.heads.items };
+    ghost view = { λ s. state_of s.literals.items s.heads };
 
-    ghost invariant = { λ s. IsStore s.literals.items s.heads.items };
+    ghost invariant = { λ s. IsStore s.literals.items s.heads };
 }
 
 impl Store {
@@ -68,7 +121,7 @@ impl Store {
     {
         Store {
             literals: Vec::new(alloc),
-            heads: Vec::new(alloc),
+            heads: Heads::new(alloc),
         }
     }
 
@@ -89,14 +142,14 @@ impl Store {
         if place >= MOST || lits.len() > MOST - start {
             return Err(AllocError);
         }
-        self.heads.reserve(1)?;
-        self.literals.extend_from_slice(lits)?;
-        let head = Head {
+        let span = Span {
             start: start as u32,
             length: lits.len() as u32,
-            live: true,
         };
-        self.heads.push(head)?;
+        // Room comes first, so that a refused growth changes nothing.
+        self.literals.reserve(lits.len())?;
+        self.heads.push(span)?;
+        self.literals.extend_from_slice(lits)?;
         Ok(CRef {
             place: place as u32,
         })
@@ -107,9 +160,9 @@ impl Store {
         requires { IsLive self.now.slots reference }
         ensures { clause_at self.now.slots reference ≡ Some result.now }
     {
-        let head = self.heads[reference.place as usize];
-        let start = head.start as usize;
-        &self.literals[start..start + head.length as usize]
+        let span = self.heads.span(reference.place as usize);
+        let start = span.start as usize;
+        &self.literals[start..start + span.length as usize]
     }
 
     /// Takes a live clause out. Its room is taken back by the next compaction.
@@ -117,17 +170,14 @@ impl Store {
         requires { IsLive self.old.slots reference }
         ensures { self.new ≡ record self.old { slots = slice_set self.old.slots reference None } }
     {
-        self.heads[reference.place as usize].live = false;
+        self.heads.kill(reference.place as usize);
     }
 
     /// Whether the reference names a clause that was added and not deleted.
     pub fn is_live(&self, reference: CRef) -> bool
         ensures { IsTrue result ↔ IsLive self.now.slots reference }
     {
-        match self.heads.get(reference.place as usize) {
-            Some(head) => head.live,
-            None => false,
-        }
+        self.heads.is_live(reference.place as usize)
     }
 
     /// The room that clauses take, also deleted ones: a clause takes its length and one more.
@@ -148,25 +198,25 @@ impl Store {
         ensures used { IfOk result (λ _. self.new.used ≡ room_of (live_clauses self.new.slots)) }
         ensures err { OnErr result (self.new ≡ self.old) }
     {
-        let pairs = pairs_of(*self.heads.allocator(), &self.heads)?;
+        let pairs = pairs_of(*self.literals.allocator(), &self.heads)?;
         compact(&mut self.heads, &mut self.literals);
         Ok(Moves { pairs })
     }
 
     /// The allocator that the store was made with.
     pub fn allocator(&self) -> Global {
-        *self.heads.allocator()
+        *self.literals.allocator()
     }
 }
 
 // The old and the new reference of each live clause.
-fn pairs_of(alloc: Global, heads: &[Head]) -> Result<Vec<(CRef, CRef)>, AllocError>
+fn pairs_of(alloc: Global, heads: &Heads) -> Result<Vec<(CRef, CRef)>, AllocError>
     requires { length heads.now < 2 ^ 32 }
     ensures { IfOk result (λ pairs. (literals : List Literal) → pairs.items ≡ moves_of (slots_of literals heads.now)) }
 {
     let mut pairs = Vec::new(alloc);
-    for (old, head) in heads.iter().enumerate() {
-        if head.live {
+    for old in 0..heads.len() {
+        if heads.is_live(old) {
             let new = pairs.len();
             pairs.push((CRef { place: old as u32 }, CRef { place: new as u32 }))?;
         }

@@ -44,3 +44,16 @@ fn goes_on_after_a_compaction(rt: HostRuntime) -> Result<(), Fail> {
     let _ = store.allocator();
     Ok(())
 }
+
+#[test]
+fn packs_a_reference_or_none(rt: HostRuntime) -> Result<(), Fail> {
+    let mut store = Store::new(rt.alloc());
+    let first = store.add(&[])?;
+    let second = store.add(&[])?;
+    for reference in [None, Some(first), Some(second)] {
+        assert_eq!(rt; MaybeCRef::new(reference).get(), reference);
+    }
+    assert_eq!(rt; MaybeCRef::new(None), MaybeCRef::new(None));
+    assert!(rt; MaybeCRef::new(Some(first)) != MaybeCRef::new(Some(second)));
+    Ok(())
+}

@@ -1,0 +1,6 @@
+use Rattle.std.proofs.Common.{arith}
+use Rattle.clauses.proofs.Zipped.{length-heads}
+use Rattle.clauses.proofs.heads.Heads.len.Goals as goal
+
+pub returns : goal.returns
+returns c = rw (← c.self.view_is) (omega (arith, c.len.ensures, length-heads _ _ c.self.invariant, c.self.inside.spans.ok.0))
