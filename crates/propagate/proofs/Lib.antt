@@ -8,6 +8,7 @@ pub mod FitsLaws
 pub mod Kept
 pub mod Reasons
 pub mod Fitting
+pub mod Marked
 pub mod Zipped
 pub mod Places
 pub mod Attaching

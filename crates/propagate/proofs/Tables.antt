@@ -1,5 +1,5 @@
 -- The tables follow the trail.
-use Rattle.std.proofs.Common.{◌≡◌, ℕ, zero, suc, ◌+◌, ◌*◌, ◌-◌, ◌<◌, ◌≤◌, Bool, true, false, not, cond, List, [], ◌∷◌, ◌++◌, take, length, get_or, set, replicate, Option, Some, None, inl, inr, refl, sym, ◌∙◌, ap, subst, arith, zero-add}
+use Rattle.std.proofs.Common.{◌≡◌, ℕ, zero, suc, ◌+◌, ◌*◌, ◌-◌, ◌<◌, ◌≤◌, ◌^◌, Bool, true, false, not, cond, List, [], ◌∷◌, ◌++◌, take, length, get_or, set, replicate, Option, Some, None, inl, inr, refl, sym, ◌∙◌, ap, subst, arith, zero-add}
 use mir.Val.{bool_byte}
 use Rattle.std.specs.Option.{is_some}
 use Rattle.std.specs.Prelude.{if◌then◌else◌, All, is_none, count_by}
@@ -79,6 +79,7 @@ trail_push n A vs ls R d room room' l r wide t named is_open =
       level_of = λ v. level_after_push ls T l r d (omega (arith, t.levels_length)) t.depth_is new t.level_of v ∙ sym (ap (λ X. level_in X v) shape);
       depth_is = ap (λ k. depth_with k r) t.depth_is ∙ depth_with-after (depth_of T) l r ∙ sym (depth_push T (made l r)) ∙ sym (ap depth_of shape);
       has_room = wide;
+      few = t.few;
       open_literals = omega (
         arith,
         t.open_literals,
@@ -171,6 +172,7 @@ trail_pop n A vs ls R d room room' l wide t =
       level_of = level_before_push ls T l r (omega (arith, t.levels_length)) new (λ v. t.level_of v ∙ ap (λ X. level_in X v) shape);
       depth_is = depth_undone d (depth_of T) r (t.depth_is ∙ ap depth_of shape ∙ depth_push T (made l r) ∙ sym (depth_with-after (depth_of T) l r));
       has_room = wide;
+      few = t.few;
       open_literals = omega (
         arith,
         t.open_literals,
@@ -209,9 +211,9 @@ none_count : (k : ℕ) → count_by (is_none {T = Bool}) (replicate k None) ≡ 
 none_count zero = refl
 none_count (suc k) = sum_by-cons (λ (o : Option Bool). cond (is_none o) 1 0) None (replicate k None) ∙ omega (arith, none_count k)
 
-pub trail_none : (n room : ℕ) (vs : List (Option Bool)) (ls rs : List (Option ℕ)) → vs ≡ replicate (2 * n) None → ls ≡ replicate (n + 1) None → rs ≡ replicate (n + 1) None → n ≤ room
+pub trail_none : (n room : ℕ) (vs : List (Option Bool)) (ls rs : List (Option ℕ)) → vs ≡ replicate (2 * n) None → ls ≡ replicate (n + 1) None → rs ≡ replicate (n + 1) None → n ≤ room → n < 2 ^ 32 - 1
     → IsTrail n [] vs ls rs 0 room
-trail_none n room vs ls rs e f g wide = record {
+trail_none n room vs ls rs e f g wide few = record {
   within = All-nil (IsNamed n);
   once = λ k d lt. absurd (omega arith);
   values_length = ap length e ∙ length-replicate (2 * n) None;
@@ -221,6 +223,7 @@ trail_none n room vs ls rs e f g wide = record {
   level_of = λ v. rw f (get_none (n + 1) v);
   depth_is = refl;
   has_room = wide;
+  few = few;
   open_literals = rw e (omega (arith, none_count (2 * n)));
 }
 

@@ -1,6 +1,8 @@
 pub mod Trail
 pub mod Rows
 pub mod Tables
+pub mod Levels
+pub mod Marks
 pub mod Zipped
 pub mod Truths
 pub mod Watches

@@ -1,5 +1,5 @@
 -- The tables beside the trail, by literal and by variable.
-use Rattle.std.specs.Prelude.{◌≡◌, ℕ, ◌+◌, ◌*◌, ◌<◌, ◌≤◌, Bool, false, List, length, map, take, All, Option, None, is_none, ◌==◌, slice_index_or, count_by}
+use Rattle.std.specs.Prelude.{◌≡◌, ℕ, ◌+◌, ◌*◌, ◌<◌, ◌≤◌, Bool, false, List, ◌-◌, ◌^◌, length, map, take, All, Option, None, is_none, ◌==◌, slice_index_or, count_by}
 use Rattle.std.specs.List.{list_any}
 use Rattle.wcnf.specs.Literal.{Literal, index_of}
 use Rattle.propagate.specs.Trail.{Assigned, depth_of, value_in, level_in}
@@ -20,6 +20,8 @@ IsNamed variables l = (0 < l.variable) × (l.variable ≤ variables)
 -- the tables say what the trail does, and there is room for all variables
 pub record IsTrail (variables : ℕ) (literals : List Literal) (values : List (Option Bool)) (levels : List (Option ℕ)) (reasons : List (Option ℕ)) (depth room : ℕ) : Type 0 where
   pub within : All (IsNamed variables) literals
+  -- the greatest word stands for no level
+  pub few : variables < 2 ^ 32 - 1
   pub once : (k : ℕ) (d : Literal) → k < length literals → mentions (slice_index_or literals k d).variable (take k literals) ≡ false
   pub values_length : length values ≡ 2 * variables
   pub levels_length : length levels ≡ variables + 1

@@ -61,7 +61,7 @@ impl Engine {
     ///
     /// # Errors
     ///
-    /// `AllocError` where memory was refused.
+    /// `AllocError` where memory was refused; for 2^32 - 1 variables it always is.
     pub fn new(alloc: Global, vars: u32) -> Result<Self, AllocError>
         ensures empty { IfOk result (λ e. (e.variables ≡ vars) × (e.trail ≡ []) × (e.failed ≡ false)) }
         ensures fits { IfOk result (λ e. (slots : Slots) → Fits e slots) }

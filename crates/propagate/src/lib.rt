@@ -2,6 +2,7 @@
 #![tactic(auto)]
 
 pub mod engine;
+mod marks;
 mod names;
 pub mod pool;
 mod search;

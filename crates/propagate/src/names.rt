@@ -18,7 +18,8 @@ pub(crate) fn new_name(moves: &Moves, reference: CRef) -> CRef
     }
 }
 
-fn new_reason(moves: &Moves, reason: Option<CRef>) -> Option<CRef>
+/// The new reference of a reason.
+pub(crate) fn new_reason(moves: &Moves, reason: Option<CRef>) -> Option<CRef>
     ensures { result ≡ named_reason moves.now reason }
 {
     match reason {
@@ -51,15 +52,6 @@ pub(crate) fn rename_entries(entries: &mut [Entry], moves: &Moves)
 {
     for entry in entries.iter_mut() {
         *entry = new_entry(moves, *entry);
-    }
-}
-
-/// Renames each reason of a table.
-pub(crate) fn rename_reasons(reasons: &mut [Option<CRef>], moves: &Moves)
-    ensures { reasons.new ≡ map (named_reason moves.now) reasons.old }
-{
-    for reason in reasons.iter_mut() {
-        *reason = new_reason(moves, *reason);
     }
 }
 

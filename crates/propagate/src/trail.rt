@@ -6,7 +6,7 @@ ghost use Rattle.propagate.specs.Tables.{IsNamed};
 ghost use Rattle.propagate.specs.Trail.{literals_of, depth_of, value_in, level_in, reason_in, kept_to};
 ghost use Rattle.propagate.specs.Renames.{named_trail};
 
-use crate::names::rename_reasons;
+use crate::marks::Marks;
 use crate::truth::Truth;
 use clauses::store::{CRef, Moves};
 use std::alloc::{AllocError, Global};
@@ -21,9 +21,7 @@ pub(crate) struct Trail {
     // By literal.
     values: Vec<Truth>,
     // By variable.
-    levels: Vec<Option<u32>>,
-    // By variable; of no meaning where there is no level.
-    reasons: Vec<Option<CRef>>,
+    marks: Marks,
     depth: u32,
 }
 
@@ -34,9 +32,9 @@ impl Model for Trail {
 
     ghost Value = { TrailState };
 
-    ghost view = { λ t. record { variables = t.variables; assigned = assigned_by t.reasons.items t.literals.items } };
+    ghost view = { λ t. record { variables = t.variables; assigned = assigned_by t.marks.reasons t.literals.items } };
 
-    ghost invariant = { λ t. IsTrail t.variables t.literals.items t.values.items t.levels.items t.reasons.items t.depth (vec_capacity t.literals) };
+    ghost invariant = { λ t. IsTrail t.variables t.literals.items t.values.items t.marks.levels t.marks.reasons t.depth (vec_capacity t.literals) };
 }
 
 /// Writes the value of a literal, and of its negation.
@@ -52,20 +50,19 @@ impl Trail {
     pub(crate) fn new(alloc: Global, variables: u32) -> Result<Self, AllocError>
         ensures { IfOk result (λ t. t ≡ record { variables = variables; assigned = [] }) }
     {
+        if variables == u32::MAX {
+            return Err(AllocError);
+        }
         let count = variables as usize;
         let literals = Vec::with_capacity(alloc, count)?;
         let mut values = Vec::new(alloc);
         values.resize(2 * count, Truth::new(None))?;
-        let mut levels = Vec::new(alloc);
-        levels.resize(count + 1, None)?;
-        let mut reasons = Vec::new(alloc);
-        reasons.resize(count + 1, None)?;
+        let marks = Marks::new(alloc, count + 1)?;
         Ok(Trail {
             variables,
             literals,
             values,
-            levels,
-            reasons,
+            marks,
             depth: 0,
         })
     }
@@ -95,15 +92,15 @@ impl Trail {
         requires { variable ≤ self.now.variables }
         ensures { result ≡ level_in self.now.assigned variable }
     {
-        self.levels[variable as usize]
+        self.marks.level(variable as usize)
     }
 
     pub(crate) fn reason(&self, variable: u32) -> Option<CRef>
         requires { variable ≤ self.now.variables }
         ensures { result ≡ reason_in self.now.assigned variable }
     {
-        match self.levels[variable as usize] {
-            Some(_) => self.reasons[variable as usize],
+        match self.marks.level(variable as usize) {
+            Some(_) => self.marks.reason(variable as usize),
             None => None,
         }
     }
@@ -138,8 +135,7 @@ impl Trail {
         let variable = lit.variable() as usize;
         self.depth += u32::from(reason.is_none());
         set_value(&mut self.values, lit, Some(true));
-        self.levels[variable] = Some(self.depth);
-        self.reasons[variable] = reason;
+        self.marks.set(variable, self.depth, reason);
         let _ = self.literals.push(lit);
     }
 
@@ -150,9 +146,9 @@ impl Trail {
     {
         if let Some(lit) = self.literals.pop() {
             let variable = lit.variable() as usize;
-            self.depth -= u32::from(self.reasons[variable].is_none());
+            self.depth -= u32::from(self.marks.reason(variable).is_none());
             set_value(&mut self.values, lit, None);
-            self.levels[variable] = None;
+            self.marks.clear(variable);
         }
     }
 
@@ -169,6 +165,6 @@ impl Trail {
     pub(crate) fn rename(&mut self, moves: &Moves)
         ensures { self.new ≡ record self.old { assigned = named_trail moves.now self.old.assigned } }
     {
-        rename_reasons(&mut self.reasons, moves);
+        self.marks.rename(moves);
     }
 }

@@ -1,11 +1,10 @@
-use Rattle.std.proofs.Common.{◌≡◌, ◌∙◌, ap, sym, subst, ℕ, List, Some, map, length, arith}
+use Rattle.std.proofs.Common.{◌≡◌, ◌∙◌, ap, subst, ℕ, Some, map, length, arith}
 use Rattle.std.specs.Prelude.{IfSome}
 use Rattle.std.specs.List.Sorted.{IsStrictlyIncreasing}
 use Rattle.std.specs.Vec.{with_items}
 use Rattle.std.proofs.lemmas.List.{with_items_is}
 use Rattle.std.proofs.lemmas.List.Elements.{recursion_from_All}
 use Rattle.clauses.specs.Slots.{Renaming, renamed}
-use Rattle.propagate.specs.declared.table.Place.{Place}
 use Rattle.propagate.specs.Trail.{Assigned, TrailState}
 use Rattle.propagate.specs.Watches.{EngineState}
 use Rattle.propagate.specs.Renames.{IsMoved, named, named_trail}

@@ -1,4 +1,4 @@
-use Rattle.std.proofs.Common.{◌≡◌, ◌<◌, ◌≤◌, length, refl, ◌∙◌, ap, arith}
+use Rattle.std.proofs.Common.{◌<◌, ◌≤◌, length, refl, ◌∙◌, ap, arith}
 use Rattle.propagate.specs.Watches.{place_in}
 use Rattle.propagate.proofs.Zipped.{places_past, places_kind, places_pair}
 use Rattle.propagate.proofs.table.Table.get.Goals as goal

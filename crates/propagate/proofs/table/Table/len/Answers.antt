@@ -1,4 +1,4 @@
-use Rattle.std.proofs.Common.{◌≡◌, length, ap, arith}
+use Rattle.std.proofs.Common.{length, ap, arith}
 use Rattle.propagate.proofs.Zipped.{length-places}
 use Rattle.propagate.proofs.table.Table.len.Goals as goal
 

@@ -1,8 +1,5 @@
-use Rattle.std.proofs.Common.{◌≡◌, ◌≢◌, ◌<◌, length, get_or, ◌⊎◌, ◌∙◌, ap, sym, inl, inr, arith, rules}
-use Rattle.wcnf.specs.Literal.{Literal}
-use Rattle.propagate.specs.declared.table.Place.TheVariants.{Watching}
+use Rattle.std.proofs.Common.{◌≡◌, ◌≢◌, ◌<◌, length, get_or, ◌∙◌, ap, inl, inr, arith, rules}
 use Rattle.propagate.specs.Watches.{place_in}
-use Rattle.propagate.specs.Steps.{IsWatchedBy}
 use Rattle.propagate.proofs.Zipped.{watching_within, beside_one, beside_other}
 use Rattle.propagate.proofs.table.Table.other.Goals as goal
 

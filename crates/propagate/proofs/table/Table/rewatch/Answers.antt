@@ -1,4 +1,4 @@
-use Rattle.std.proofs.Common.{◌≡◌, ◌∙◌, ap, set, arith}
+use Rattle.std.proofs.Common.{◌∙◌, ap, set, arith}
 use Rattle.propagate.specs.declared.table.Place.TheVariants.{Watching}
 use Rattle.propagate.specs.Watches.{place_in}
 use Rattle.propagate.proofs.Zipped.{watching_within, places_set_pair}

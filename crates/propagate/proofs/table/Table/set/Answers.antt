@@ -1,4 +1,4 @@
-use Rattle.std.proofs.Common.{◌≡◌, ◌<◌, ◌∙◌, ap, set, length, refl, sym, arith}
+use Rattle.std.proofs.Common.{◌∙◌, ap, set, length, refl, sym, arith}
 use Rattle.propagate.specs.declared.table.Place.TheVariants.{Detached as DetachedPlace, Waiting as WaitingPlace, Resting as RestingPlace, Watching as WatchingPlace}
 use Rattle.propagate.specs.declared.table.Kind.TheVariants.{Detached, Waiting, Resting, Watching}
 use Rattle.propagate.proofs.Zipped.{length-places, places_set, places_set_kind}

@@ -1,5 +1,4 @@
-use Rattle.std.proofs.Common.{◌≡◌, take, ap, ◌∙◌}
-use Rattle.propagate.specs.Zipped.{places}
+use Rattle.std.proofs.Common.{take, ap, ◌∙◌}
 use Rattle.propagate.proofs.Zipped.{places_take}
 use Rattle.propagate.proofs.table.Table.truncate.Goals as goal
 

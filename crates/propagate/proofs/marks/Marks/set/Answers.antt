@@ -1,0 +1,17 @@
+use Rattle.std.proofs.Common.{map, set, Some, ◌∙◌, ap}
+use Rattle.std.proofs.lemmas.List.{map-set}
+use Rattle.propagate.specs.declared.marks.Mark.{Mark}
+use Rattle.propagate.specs.Marks.{MarksState}
+use Rattle.propagate.proofs.marks.Marks.set.Goals as goal
+
+pub returns-clause-levels : goal.returns-clause-levels
+returns-clause-levels c =
+    map-set (λ (m : Mark). m.level) c.self.inside.marks.items c.args.variable _
+    ∙ ap (set (map (λ (m : Mark). m.level) c.self.inside.marks.items) c.args.variable) c.new.ensures
+    ∙ ap (λ (m : MarksState). set m.levels c.args.variable (Some c.args.level)) c.self.view_is
+
+pub returns-clause-reasons : goal.returns-clause-reasons
+returns-clause-reasons c =
+    map-set (λ (m : Mark). m.reason) c.self.inside.marks.items c.args.variable _
+    ∙ ap (set (map (λ (m : Mark). m.reason) c.self.inside.marks.items) c.args.variable) c.new-2.ensures
+    ∙ ap (λ (m : MarksState). set m.reasons c.args.variable c.args.reason) c.self.view_is

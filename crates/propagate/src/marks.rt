@@ -1,0 +1,150 @@
+// The level and the reason of each variable.
+ghost use Rattle.std.specs.Prelude.{◌≡◌, ◌-◌, ◌<◌, ◌^◌, None, Some, length, map, replicate, slice_set, slice_index_or, IfOk, IfSome};
+ghost use Rattle.propagate.specs.Renames.{named_reason};
+ghost use Rattle.propagate.specs.Marks.{named_mark};
+
+use crate::names::new_reason;
+use clauses::store::{CRef, MaybeCRef, Moves};
+use std::alloc::{AllocError, Global};
+use std::marker::Model;
+
+/// A level, or none, in four bytes.
+#[derive(Clone, Copy, Debug, PartialEq, Eq, Drop)]
+struct MaybeLevel {
+    // the level, or NONE
+    word: u32,
+}
+
+impl Model for MaybeLevel {
+    ghost use Rattle.std.specs.Prelude.{ℕ, Option};
+
+    ghost Value = { Option ℕ };
+
+    ghost use Rattle.propagate.specs.Levels.{level_of_word, word_of_level, word-again};
+
+    ghost view = { level_of_word };
+
+    ghost inverse = { word_of_level };
+
+    ghost inverse_ok = { λ m _. word-again m };
+}
+
+// No variable gets this level.
+const NONE: u32 = u32::MAX;
+
+impl MaybeLevel {
+    fn new(level: Option<u32>) -> Self
+        requires { IfSome level (λ n. n < 2 ^ 32 - 1) }
+        ensures { result ≡ level }
+    {
+        MaybeLevel {
+            word: match level {
+                Some(level) => level,
+                None => NONE,
+            },
+        }
+    }
+
+    fn get(self) -> Option<u32>
+        ensures { result ≡ self }
+    {
+        if self.word == NONE {
+            None
+        } else {
+            Some(self.word)
+        }
+    }
+}
+
+/// What is kept of a variable.
+#[derive(Clone, Copy, Debug, PartialEq, Eq, Drop)]
+pub(crate) struct Mark {
+    level: MaybeLevel,
+    // of no meaning where there is no level
+    reason: MaybeCRef,
+}
+
+const _: () = prove!(size_of::<Mark>() == 8);
+
+/// A level and a reason for each variable, side by side, so that an assignment writes to one place.
+#[derive(Drop)]
+pub(crate) struct Marks {
+    marks: Vec<Mark>,
+}
+
+impl Model for Marks {
+    ghost use Rattle.propagate.specs.Marks.{MarksState, marks_state};
+
+    ghost Value = { MarksState };
+
+    ghost view = { λ m. marks_state m.marks.items };
+}
+
+fn rename_marks(marks: &mut [Mark], moves: &Moves)
+    ensures { marks.new ≡ map (named_mark moves.now) marks.old }
+{
+    for mark in marks.iter_mut() {
+        *mark = Mark {
+            level: mark.level,
+            reason: MaybeCRef::new(new_reason(moves, mark.reason.get())),
+        };
+    }
+}
+
+impl Marks {
+    /// So many variables, without levels.
+    pub(crate) fn new(alloc: Global, count: usize) -> Result<Self, AllocError>
+        ensures { IfOk result (λ m. m ≡ record { levels = replicate count None; reasons = replicate count None }) }
+    {
+        let mut marks = Vec::new(alloc);
+        let mark = Mark {
+            level: MaybeLevel::new(None),
+            reason: MaybeCRef::new(None),
+        };
+        marks.resize(count, mark)?;
+        Ok(Marks { marks })
+    }
+
+    pub(crate) fn level(&self, variable: usize) -> Option<u32>
+        requires { variable < length self.now.levels }
+        ensures { result ≡ slice_index_or self.now.levels variable None }
+    {
+        self.marks[variable].level.get()
+    }
+
+    pub(crate) fn reason(&self, variable: usize) -> Option<CRef>
+        requires { variable < length self.now.reasons }
+        ensures { result ≡ slice_index_or self.now.reasons variable None }
+    {
+        self.marks[variable].reason.get()
+    }
+
+    pub(crate) fn set(&mut self, variable: usize, level: u32, reason: Option<CRef>)
+        requires within { variable < length self.old.levels }
+        requires small { level < 2 ^ 32 - 1 }
+        ensures levels { self.new.levels ≡ slice_set self.old.levels variable (Some level) }
+        ensures reasons { self.new.reasons ≡ slice_set self.old.reasons variable reason }
+    {
+        self.marks[variable] = Mark {
+            level: MaybeLevel::new(Some(level)),
+            reason: MaybeCRef::new(reason),
+        };
+    }
+
+    /// Takes the level away.
+    pub(crate) fn clear(&mut self, variable: usize)
+        requires { variable < length self.old.levels }
+        ensures levels { self.new.levels ≡ slice_set self.old.levels variable None }
+        ensures reasons { self.new.reasons ≡ self.old.reasons }
+    {
+        self.marks[variable].level = MaybeLevel::new(None);
+    }
+
+    /// Renames the reasons.
+    pub(crate) fn rename(&mut self, moves: &Moves)
+        ensures levels { self.new.levels ≡ self.old.levels }
+        ensures reasons { self.new.reasons ≡ map (named_reason moves.now) self.old.reasons }
+    {
+        rename_marks(&mut self.marks, moves);
+    }
+}
