@@ -1,15 +1,9 @@
 -- What a comparison with a value says.
-use Rattle.std.proofs.Common.{◌≡◌, ℕ, ◌+◌, ◌<◌, Bool, true, false, not, Option, Some, None, List, take, length, get_or, refl, sym, ◌∙◌, subst, ap, eqb}
+use Rattle.std.proofs.Common.{◌≡◌, ℕ, ◌+◌, ◌<◌, Bool, true, Option, Some, None, List, take, length, get_or, sym, ◌∙◌, subst, ap, eqb}
 use Rattle.std.specs.Prelude.{All}
 use Rattle.std.specs.Option.{option_eq}
 use Rattle.std.proofs.lemmas.Bool.{true≢false, eqb-true}
 use Rattle.std.proofs.lemmas.List.Elements.{All-more}
-use mathlib.Core.Bool.{beq}
-
-pub is_false_from : (o : Option Bool) (b : Bool) → b ≡ not (option_eq beq o (Some false)) → b ≡ false → o ≡ Some false
-is_false_from None b e f = absurd (true≢false (sym e ∙ f))
-is_false_from (Some true) b e f = absurd (true≢false (sym e ∙ f))
-is_false_from (Some false) b e f = refl
 
 -- one more element, as a loop reads it
 pub all_read : {X : Type 0} (P : X → Type 0) (xs : List X) (i : ℕ) (x : X) → i < length xs → x ≡ get_or xs i x → All P (take i xs) → P x → All P (take (i + 1) xs)
