@@ -21,3 +21,4 @@ pub mod OneClause
 pub mod Moving
 pub mod Naming
 pub mod Renamed
+pub mod Compacting
