@@ -29,3 +29,6 @@ impl Engine {
         Ok(moves)
     }
 }
+
+#[cfg(test)]
+mod tests;
