@@ -1,15 +1,14 @@
 -- A trail, rows and reasons under new names.
-use Rattle.std.proofs.Common.{◌≡◌, ℕ, zero, suc, ◌+◌, ◌≤◌, Bool, true, false, List, [], ◌∷◌, length, get_or, map, Option, Some, None, cond, refl, sym, ◌∙◌, ap, subst, arith}
+use Rattle.std.proofs.Common.{◌≡◌, ℕ, zero, suc, ◌+◌, ◌≤◌, Bool, true, false, List, [], ◌∷◌, get_or, map, Option, Some, None, cond, refl, sym, ◌∙◌, ap}
 use Rattle.std.specs.Prelude.{is_none, IfSome, nat_le, if◌then◌else◌, ◌==◌}
 use Rattle.std.specs.List.{AllByRecursion}
 use Rattle.std.proofs.lemmas.List.{length-map}
-use Rattle.std.proofs.lemmas.List.Sums.{sum_by-cons}
 use Rattle.wcnf.specs.Literal.{Literal}
 use Rattle.clauses.specs.Slots.{Renaming, renamed}
 use Rattle.propagate.specs.Trail.{Assigned, literals_of, depth_of, value_in, level_in, level_from, level_after, kept_from, kept_to, is_decision}
 use Rattle.propagate.specs.Tables.{assigned_by, reason_at, IsTrail}
 use Rattle.propagate.specs.Fits.{renamed_reason, renamed_trail}
-use Rattle.propagate.specs.Renames.{named, named_reason, named_trail}
+use Rattle.propagate.specs.Renames.{named_reason, named_trail}
 use Rattle.propagate.proofs.Trails.{depth-cons}
 use Rattle.propagate.proofs.Moving.{named_listed}
 

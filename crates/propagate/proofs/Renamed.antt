@@ -1,6 +1,6 @@
 -- The engine under the new references of the clauses.
-use Rattle.std.proofs.Common.{◌≡◌, ◌≢◌, ℕ, ◌+◌, ◌*◌, ◌<◌, ◌≤◌, Bool, true, false, List, [], ◌∷◌, length, get_or, map, Option, Some, None, inl, inr, refl, sym, ◌∙◌, ap, subst, arith}
-use Rattle.std.specs.Prelude.{All, IfSome, Contains}
+use Rattle.std.proofs.Common.{◌≡◌, ◌≢◌, ℕ, ◌+◌, ◌<◌, ◌≤◌, Bool, true, false, List, [], ◌∷◌, map, Option, Some, None, inl, inr, refl, sym, ◌∙◌, ap, subst, arith}
+use Rattle.std.specs.Prelude.{IfSome, Contains}
 use Rattle.std.specs.List.{AllByRecursion}
 use Rattle.std.specs.List.Sorted.{IsStrictlyIncreasing}
 use Rattle.std.proofs.lemmas.Bool.{cases_eq, cases_Bool, false≢true}
@@ -13,9 +13,9 @@ use Rattle.propagate.specs.declared.pool.Entry.{Entry}
 use Rattle.propagate.specs.declared.table.Place.{Place}
 use Rattle.propagate.specs.declared.table.Place.TheVariants.{Detached, Waiting, Resting, Watching}
 use Rattle.propagate.specs.Rows.{row_at}
-use Rattle.propagate.specs.Trail.{Assigned, TrailState, literals_of, kept_to, HasReasons, IsJustified}
+use Rattle.propagate.specs.Trail.{Assigned, TrailState, HasReasons, IsJustified}
 use Rattle.propagate.specs.Watches.{EngineState, engine_state, IsEngine, is_kept, is_attached, place_in, watches_at, count_in, one_at}
-use Rattle.propagate.specs.Fits.{Fits, FitsPlace, FitsMoved, MovesAttached, HasTrue, HasBlocker, IsWatch, IsWithin}
+use Rattle.propagate.specs.Fits.{FitsPlace, FitsMoved, MovesAttached, HasBlocker, IsWatch}
 use Rattle.propagate.specs.Renames.{IsMoved, named, named_entry, named_rows, named_reason, named_trail}
 use Rattle.propagate.proofs.Places.{count-cons, one-same, one-other}
 use Rattle.propagate.proofs.Moving.{moved_to, moved_from, same_origin, same_clause, named_listed}

@@ -1,6 +1,6 @@
-use Rattle.std.proofs.Common.{◌≡◌, ◌<◌, ℕ, length, sym, ◌∙◌, ap, arith, rules}
+use Rattle.std.proofs.Common.{◌≡◌, ℕ, sym, ◌∙◌, ap, arith}
 use Rattle.std.proofs.lemmas.List.{get_or_default}
-use Rattle.propagate.specs.Renames.{new_at, old_at}
+use Rattle.propagate.specs.Renames.{new_at}
 use Rattle.propagate.specs.Watches.{place_in}
 use Rattle.propagate.proofs.Moving.{moving_start, moving_end, moving_hit, moving_gap}
 use Rattle.propagate.proofs.names.move_places.Goals as goal

@@ -1,4 +1,4 @@
-use Rattle.std.proofs.Common.{◌≡◌, ◌<◌, ◌≤◌, ◌∙◌, ◌++◌, ap, sym, List, map, set, take, drop, length, Vec, Global, arith}
+use Rattle.std.proofs.Common.{◌≡◌, ◌<◌, ◌≤◌, ◌∙◌, ◌++◌, ap, sym, map, set, drop, length, Vec, Global, arith}
 use Rattle.std.specs.Prelude.{slice_index_or}
 use Rattle.std.proofs.lemmas.List.{map-set, get_or-map, length-map, take_all, drop_all, append-nil, with_items_is}
 use Rattle.std.proofs.lemmas.List.Edits.{map_over_more}
