@@ -23,3 +23,4 @@ pub mod OneClause
 pub mod Moving
 pub mod Naming
 pub mod Renamed
+pub mod Compacting

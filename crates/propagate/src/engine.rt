@@ -6,6 +6,7 @@ ghost use Rattle.propagate.specs.Watches.{is_attached, place_in, SameAttached, S
 ghost use Rattle.propagate.specs.Steps.{enlisted, with_trail, Continues, IsConflict};
 ghost use Rattle.propagate.specs.Fits.{Fits, IsWithin, GrowsByUnits, IsFalseClause, IsComplete};
 
+mod compacting;
 mod queue;
 mod renaming;
 mod waiting;
