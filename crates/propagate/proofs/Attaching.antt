@@ -9,10 +9,11 @@ use Rattle.wcnf.specs.Literal.{Literal, index_of}
 use Rattle.clauses.specs.Slots.{Slots, clause_at}
 use Rattle.propagate.specs.declared.pool.Entry.{Entry}
 use Rattle.propagate.specs.declared.table.Place.{Place}
+use Rattle.propagate.specs.declared.table.Rest.{Rest}
 use Rattle.propagate.specs.declared.table.Place.TheVariants.{Detached, Waiting, Resting, Watching}
 use Rattle.propagate.specs.Rows.{row_at, with_row}
 use Rattle.propagate.specs.Trail.{Assigned}
-use Rattle.propagate.specs.Watches.{EngineState, IsEngine, IsVariable, is_attached, is_kept, place_in, watches_at, count_in}
+use Rattle.propagate.specs.Watches.{EngineState, IsEngine, IsVariable, is_attached, is_kept, IsWatching, place_in, watches_at, count_in}
 use Rattle.propagate.specs.Steps.{grown_table}
 use Rattle.propagate.specs.Fits.{Fits, FitsPlace, IsWithin, HasBlocker}
 use Rattle.propagate.proofs.Places.{with_watches, place_set_other, place_set_same, fits_place, blockers_kept, blockers_gone, count-cons, one-other}
@@ -36,7 +37,7 @@ detached_at : (p : Place) → is_kept p ≡ false → p ≡ Detached
 detached_at Detached e = refl
 detached_at Waiting e = absurd (true≢false e)
 detached_at Resting e = absurd (true≢false e)
-detached_at (Watching one other) e = absurd (true≢false e)
+detached_at (Watching one other rest) e = absurd (true≢false e)
 
 pub fits_attach : (e : EngineState) (slots : Slots) (r : ℕ) (c : List Literal) → is_attached e r ≡ false → clause_at slots r ≡ Some c → IsWithin e.variables c
     → Fits e slots → Fits (with_watches e (set (grown_table e.watches.table r) r Waiting) e.watches.rows (e.watches.waiting ++ r ∷ [])) slots
@@ -152,7 +153,7 @@ fits_detach e slots r R w lt none others gone blockers waiting fits =
 
 -- a clause of two rows leaves both
 pub fits_detach_watching : (e : EngineState) (slots : Slots) (r : ℕ) (one other : Literal) → IsEngine e → r < length e.watches.table → All (λ (a : Assigned). a.reason ≡ Some r → ⊥) e.trail
-    → place_in e.watches.table r ≡ Watching one other → index_of one < length e.watches.rows → index_of other < length e.watches.rows
+    → IsWatching (place_in e.watches.table r) one other → index_of one < length e.watches.rows → index_of other < length e.watches.rows
     → Fits e slots → Fits (with_watches e (set e.watches.table r Detached) (cleared (cleared e.watches.rows (index_of one) r) (index_of other) r) e.watches.waiting) slots
 fits_detach_watching e slots r one other inv lt none at h g fits =
     let R = e.watches.rows in
@@ -183,19 +184,22 @@ fits_detach_other e slots r w lt none rows waiting fits =
 pub without_kept : (r q : ℕ) (xs : List ℕ) → q ≢ r → Contains xs q → Contains (without r xs) q
 without_kept r q xs ne h = Contains-filter (λ x. not (x == r)) xs q (not_from_false (q == r) (ne_eqb q r ne)) h
 
+pub watching_is : (p : Place) (one other : Literal) (rest : Rest) → p ≡ Watching one other rest → IsWatching p one other
+watching_is p one other rest e = subst (λ x. IsWatching x one other) (sym e) refl
+
 -- the table of an engine may change so
 pub engine_change : (e : EngineState) (t : List Place) (R : List (List Entry)) (w : List ℕ) → IsEngine e → length R ≡ length e.watches.rows
-    → ((r : ℕ) (one other : Literal) → place_in t r ≡ Watching one other → IsVariable e.variables one × IsVariable e.variables other)
+    → ((r : ℕ) (one other : Literal) → IsWatching (place_in t r) one other → IsVariable e.variables one × IsVariable e.variables other)
     → IsEngine (with_watches e t R w)
 engine_change e t R w inv long watching = record { rows = long ∙ inv.rows; watching = watching; settled = inv.settled; processed = inv.processed }
 
 pub engine_set : (e : EngineState) (r : ℕ) (p : Place) (R : List (List Entry)) (w : List ℕ) → IsEngine e → length R ≡ length e.watches.rows → r < length e.watches.table
-    → ((one other : Literal) → p ≡ Watching one other → IsVariable e.variables one × IsVariable e.variables other)
+    → ((one other : Literal) → IsWatching p one other → IsVariable e.variables one × IsVariable e.variables other)
     → IsEngine (with_watches e (set e.watches.table r p) R w)
 engine_set e r p R w inv long lt h = engine_change e (set e.watches.table r p) R w inv long
     (λ q one other at. elim (cases_eq q r) [
-      | inl same ↦ h one other (sym (ap (place_in (set e.watches.table r p)) same ∙ place_set_same e.watches.table r p lt) ∙ at)
-      | inr ne ↦ inv.watching q one other (sym (place_set_other e.watches.table r q p ne) ∙ at)
+      | inl same ↦ h one other (subst (λ x. IsWatching x one other) (ap (place_in (set e.watches.table r p)) same ∙ place_set_same e.watches.table r p lt) at)
+      | inr ne ↦ inv.watching q one other (subst (λ x. IsWatching x one other) (place_set_other e.watches.table r q p ne) at)
     ])
 
 pub kept_within : (t : List Place) (r : ℕ) → is_kept (place_in t r) ≡ true → r < length t

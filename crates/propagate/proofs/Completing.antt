@@ -61,10 +61,11 @@ place_advance : (e : EngineState) (slots : Slots) (w d : Literal) (r : ℕ) (c :
 place_advance e slots w d r c Detached same fits lt at row live h = h
 place_advance e slots w d r c Waiting same fits lt at row live h = h
 place_advance e slots w d r c Resting same fits lt at row live h = h
-place_advance e slots w d r c (Watching one other) same fits lt at row live h = (
+place_advance e slots w d r c (Watching one other rest) same fits lt at row live h = (
   h.0,
   watch_advance e slots w d r c one fits lt at row live (subst (λ z. 0 < watches_at z (index_of one)) same (let a = one-same (index_of one) (index_of one) refl in omega arith)) h.1,
   watch_advance e slots w d r c other fits lt at row live (subst (λ z. 0 < watches_at z (index_of other)) same (let a = one-same (index_of other) (index_of other) refl in omega arith)) h.2,
+  h.3,
 )
 
 -- one more literal was looked at
@@ -129,7 +130,7 @@ place_done e slots r c Resting same apart all waiting live h =
     let p = kept_prefix 0 e.trail in
     true_done c (literals_of e.trail) apart (true_more c (literals_of (kept_to 0 e.trail)) (literals_of e.trail)
     (λ l m. subst (λ X. contains_literal l X ≡ true) (sym (ap literals_of p.1 ∙ literals-append (kept_to 0 e.trail) p.0)) (contains_front l (literals_of (kept_to 0 e.trail)) (literals_of p.0) m)) h)
-place_done e slots r c (Watching one other) same apart all waiting live h =
+place_done e slots r c (Watching one other rest) same apart all waiting live h =
     let A = literals_of e.trail in
     elim (cases_Bool (contains_literal (negation one) A)) as (λ _. IsDone c A) [
       | inl m ↦ true_done c A apart (covered_now e c one all h.1 m)

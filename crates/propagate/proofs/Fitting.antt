@@ -28,7 +28,7 @@ place_change : (e : EngineState) (T : List Assigned) (s p : ℕ) (c : List Liter
 place_change e T s p c Detached f g h = h
 place_change e T s p c Waiting f g h = h
 place_change e T s p c Resting f g h = g h
-place_change e T s p c (Watching one other) f g h = (h.0, f one h.1, f other h.2)
+place_change e T s p c (Watching one other rest) f g h = (h.0, f one h.1, f other h.2, h.3)
 
 pub fits_change : (e : EngineState) (slots : Slots) (T : List Assigned) (s p : ℕ) → Fits e slots
     → ((c : List Literal) (w : Literal) → IsWatch e c w → IsWatch (with_progress e T s p) c w)

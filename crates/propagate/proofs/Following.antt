@@ -51,8 +51,8 @@ failed_place : (e : EngineState) (c : List Literal) (p : Place) → FitsPlace e 
 failed_place e c Detached h = h
 failed_place e c Waiting h = h
 failed_place e c Resting h = h
-failed_place e c (Watching one other) h =
-    (h.0, record { member = h.1.member; covered = h.1.covered; stays = h.1.stays }, record { member = h.2.member; covered = h.2.covered; stays = h.2.stays })
+failed_place e c (Watching one other rest) h =
+    (h.0, record { member = h.1.member; covered = h.1.covered; stays = h.1.stays }, record { member = h.2.member; covered = h.2.covered; stays = h.2.stays }, h.3)
 
 pub failed_fits : (e : EngineState) (slots : Slots) → Fits e slots → Fits (record e { failed = true }) slots
 failed_fits e slots fits = record {

@@ -9,6 +9,7 @@ pub mod Kept
 pub mod Reasons
 pub mod Fitting
 pub mod Marked
+pub mod Beside
 pub mod Zipped
 pub mod Places
 pub mod Attaching

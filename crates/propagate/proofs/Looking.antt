@@ -64,22 +64,23 @@ all_map P Q [] f h = tt
 all_map P Q (x ∷ xs) f h = (f x h.0, all_map P Q xs f h.1)
 
 -- all but one are false
-pub unit_from : (T : List Assigned) (c : List Literal) (o : Literal) → contains_literal o c ≡ true → value_in T o ≡ None → All (λ l. (l ≡ o) ⊎ (value_in T l ≡ Some false)) c → IsUnit c (literals_of T) o
-unit_from T c o member e all =
+pub unit_left : (T : List Assigned) (c : List Literal) (o : Literal) → contains_literal o c ≡ true → value_in T o ≡ None
+    → AllByRecursion (λ l. (l ≡ o) ⊎ (contains_literal (negation l) (literals_of T) ≡ true)) c → IsUnit c (literals_of T) o
+unit_left T c o member e all =
     let n = open_at (contains_literal o (literals_of T)) (contains_literal (negation o) (literals_of T)) e in
-    record {
-      member = member;
-      not_true = n.0;
-      not_false = n.1;
-      others = all_map (λ l. (l ≡ o) ⊎ (value_in T l ≡ Some false)) (λ l. (l ≡ o) ⊎ (contains_literal (negation l) (literals_of T) ≡ true)) c
-          (λ l h. elim h [ inl s ↦ inl s | inr f ↦ inr (false_value T l f) ])
-          (recursion_from_All (λ l. (l ≡ o) ⊎ (value_in T l ≡ Some false)) c all);
-    }
+    record { member = member; not_true = n.0; not_false = n.1; others = all }
 
-pub false_from : (T : List Assigned) (c : List Literal) (o : Literal) → value_in T o ≡ Some false → All (λ l. (l ≡ o) ⊎ (value_in T l ≡ Some false)) c → IsFalseUnder c (literals_of T)
-false_from T c o e all =
-    all_map (λ l. (l ≡ o) ⊎ (value_in T l ≡ Some false)) (λ l. contains_literal (negation l) (literals_of T) ≡ true) c
-    (λ l h. elim h [ inl s ↦ subst (λ x. contains_literal (negation x) (literals_of T) ≡ true) (sym s) (false_value T o e) | inr f ↦ false_value T l f ])
+pub false_left : (T : List Assigned) (c : List Literal) (o : Literal) → value_in T o ≡ Some false
+    → AllByRecursion (λ l. (l ≡ o) ⊎ (contains_literal (negation l) (literals_of T) ≡ true)) c → IsFalseUnder c (literals_of T)
+false_left T c o e all =
+    all_map (λ l. (l ≡ o) ⊎ (contains_literal (negation l) (literals_of T) ≡ true)) (λ l. contains_literal (negation l) (literals_of T) ≡ true) c
+    (λ l h. elim h [ inl s ↦ subst (λ x. contains_literal (negation x) (literals_of T) ≡ true) (sym s) (false_value T o e) | inr f ↦ f ]) all
+
+pub one_left : (T : List Assigned) (c : List Literal) (o : Literal) → All (λ l. (l ≡ o) ⊎ (value_in T l ≡ Some false)) c
+    → AllByRecursion (λ l. (l ≡ o) ⊎ (contains_literal (negation l) (literals_of T) ≡ true)) c
+one_left T c o all =
+    all_map (λ l. (l ≡ o) ⊎ (value_in T l ≡ Some false)) (λ l. (l ≡ o) ⊎ (contains_literal (negation l) (literals_of T) ≡ true)) c
+    (λ l h. elim h [ inl s ↦ inl s | inr f ↦ inr (false_value T l f) ])
     (recursion_from_All (λ l. (l ≡ o) ⊎ (value_in T l ≡ Some false)) c all)
 
 pub all_false_from : (T : List Assigned) (c : List Literal) → All (λ l. value_in T l ≡ Some false) c → IsFalseUnder c (literals_of T)

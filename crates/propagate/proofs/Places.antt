@@ -48,7 +48,7 @@ pub place_same : (e : EngineState) (t : List Place) (R : List (List Entry)) (w :
 place_same e t R w c Detached h = h
 place_same e t R w c Waiting h = h
 place_same e t R w c Resting h = h
-place_same e t R w c (Watching one other) h = (h.0, watch_same e t R w c one h.1, watch_same e t R w c other h.2)
+place_same e t R w c (Watching one other rest) h = (h.0, watch_same e t R w c one h.1, watch_same e t R w c other h.2, h.3)
 
 pub fits_place : (e : EngineState) (slots : Slots) (r : ℕ) (t : List Place) (R : List (List Entry)) (w : List ℕ) → Fits e slots
     → ((q : ℕ) → q ≢ r → place_in t q ≡ place_in e.watches.table q)

@@ -14,7 +14,7 @@ use Rattle.propagate.specs.declared.table.Place.{Place}
 use Rattle.propagate.specs.declared.table.Place.TheVariants.{Detached, Waiting, Resting, Watching}
 use Rattle.propagate.specs.Rows.{row_at}
 use Rattle.propagate.specs.Trail.{Assigned, TrailState, HasReasons, IsJustified}
-use Rattle.propagate.specs.Watches.{EngineState, engine_state, IsEngine, is_kept, is_attached, place_in, watches_at, count_in, one_at}
+use Rattle.propagate.specs.Watches.{IsWatching, EngineState, engine_state, IsEngine, is_kept, is_attached, place_in, watches_at, count_in, one_at}
 use Rattle.propagate.specs.Fits.{FitsPlace, FitsMoved, MovesAttached, HasBlocker, IsWatch}
 use Rattle.propagate.specs.Renames.{IsMoved, named, named_entry, named_rows, named_reason, named_trail}
 use Rattle.propagate.proofs.Places.{count-cons, one-same, one-other}
@@ -30,14 +30,14 @@ engine_named e ms table = record {
   watches = record { table = table; rows = named_rows ms e.watches.rows; waiting = map (named ms) e.watches.waiting; settled = e.watches.settled; processed = e.watches.processed };
 }
 
-watching_kept : (p : Place) (one other : Literal) → p ≡ Watching one other → is_kept p ≡ true
+watching_kept : (p : Place) (one other : Literal) → IsWatching p one other → is_kept p ≡ true
 watching_kept p one other e = ap is_kept e
 
 gone : (p : Place) (i : ℕ) → is_kept p ≡ false → watches_at p i ≡ 0
 gone Detached i h = refl
 gone Waiting i h = absurd (cc)
 gone Resting i h = absurd (cc)
-gone (Watching one other) i h = absurd (cc)
+gone (Watching one other rest) i h = absurd (cc)
 
 justified_named : (before after : Clauses) (ms : Renaming) (A : List Literal) (l : Literal) (o : Option ℕ) → IfSome o (λ r. after (named ms r) ≡ before r)
     → IsJustified before A l o → IsJustified after A l (named_reason ms o)
@@ -91,7 +91,7 @@ module _ (e : EngineState) (ms : Renaming) (table : List Place)
   pub engine_kept : IsEngine e → IsEngine (engine_named e ms table)
   engine_kept h = record {
     rows = length-map e.watches.rows (map (named_entry ms)) ∙ h.rows;
-    watching = λ q one other at. let z = origin q (ap is_kept at) in h.watching z.0 one other (sym z.2 ∙ at);
+    watching = λ q one other at. let z = origin q (ap is_kept at) in h.watching z.0 one other (subst (λ x. IsWatching x one other) z.2 at);
     settled = h.settled;
     processed = omega (arith, h.processed, length-map e.trail (named_assigned ms));
   }
@@ -107,7 +107,7 @@ module _ (e : EngineState) (ms : Renaming) (table : List Place)
   place_named c Detached h = h
   place_named c Waiting h = h
   place_named c Resting h = rw kept_named h
-  place_named c (Watching one other) h = (h.0, watch_named c one h.1, watch_named c other h.2)
+  place_named c (Watching one other rest) h = (h.0, watch_named c one h.1, watch_named c other h.2, h.3)
 
   count_kept : (slots : Slots) (r q : ℕ) (row : List Entry) → renamed ms r ≡ Some q → AllByRecursion (HasBlocker e slots) row → count_in q (map (named_entry ms) row) ≡ count_in r row
   count_kept slots r q [] n h = refl

@@ -12,11 +12,13 @@ use Rattle.clauses.specs.Slots.{Slots, clause_at}
 use Rattle.propagate.specs.declared.pool.Entry.{Entry}
 use Rattle.propagate.specs.declared.table.Place.{Place}
 use Rattle.propagate.specs.declared.table.Place.TheVariants.{Detached, Waiting, Resting, Watching}
+use Rattle.propagate.specs.declared.table.Rest.{Rest}
+use Rattle.propagate.specs.declared.table.Rest.TheVariants.{Nothing, One, Many}
 use Rattle.propagate.specs.Rows.{row_at, with_row, closed_row}
 use Rattle.propagate.specs.Trail.{Assigned, literals_of, kept_to}
-use Rattle.propagate.specs.Watches.{EngineState, IsEngine, IsVariable, is_attached, is_kept, place_in, watches_at, one_at, count_in}
-use Rattle.propagate.specs.Fits.{Fits, FitsPlace, IsWatch, HasBlocker}
-use Rattle.propagate.specs.Steps.{with_rows, with_trail, closed, entry_of, moved, InRow, IsWatched, IsWatchedBy, IsTrueIn, IsTrueEntry, MayBeWatched}
+use Rattle.propagate.specs.Watches.{EngineState, IsEngine, IsVariable, is_attached, is_kept, place_in, rest_in, IsWatching, watches_at, one_at, count_in}
+use Rattle.propagate.specs.Fits.{Fits, FitsPlace, IsRest, IsWatch, HasBlocker}
+use Rattle.propagate.specs.Steps.{with_rows, with_trail, closed, entry_of, moved, rest_after, InRow, IsWatched, IsWatchedBy, IsTrueIn, IsTrueEntry, MayBeWatched}
 use Rattle.propagate.proofs.Literals.{index-within, index-same, literal_eq-self}
 use Rattle.propagate.proofs.Trails.{made}
 use Rattle.propagate.proofs.Kept.{contains_take, contains_front, contains_back, kept_prefix, literals-append}
@@ -47,11 +49,16 @@ pub all_weaker : {X : Type 0} (P Q : X → Type 0) (xs : List X) → ((x : X) �
 all_weaker P Q [] f h = tt
 all_weaker P Q (x ∷ xs) f h = (f x h.0, all_weaker P Q xs f h.1)
 
-watch_from_count : (p : Place) (i : ℕ) → 0 < watches_at p i → (one : Literal) × (other : Literal) × (p ≡ Watching one other) × ((index_of one ≡ i) ⊎ (index_of other ≡ i))
+rest_swapped : (c : List Literal) (one other : Literal) (rest : Rest) → IsRest c one other rest → IsRest c other one rest
+rest_swapped c one other Nothing h = λ l m. elim (h l m) [ inl e ↦ inr e | inr e ↦ inl e ]
+rest_swapped c one other (One third) h = (h.0, h.2, h.1, λ l m. elim (h.3 l m) [ inl e ↦ inr (inl e) | inr k ↦ elim k [ inl e ↦ inl e | inr e ↦ inr (inr e) ] ])
+rest_swapped c one other Many h = tt
+
+watch_from_count : (p : Place) (i : ℕ) → 0 < watches_at p i → (one : Literal) × (other : Literal) × IsWatching p one other × ((index_of one ≡ i) ⊎ (index_of other ≡ i))
 watch_from_count Detached i h = absurd (omega arith)
 watch_from_count Waiting i h = absurd (omega arith)
 watch_from_count Resting i h = absurd (omega arith)
-watch_from_count (Watching one other) i h = (
+watch_from_count (Watching one other rest) i h = (
   one,
   other,
   refl,
@@ -104,9 +111,10 @@ watched_from slots e w write read x inv st lt at =
             within = f.2.0;
             blocker = let same : b.0 ≡ f.0 = cc (b.2, f.1) in subst (λ c. contains_literal x.blocker c ≡ true) same b.3;
             other = p.1;
-            place = inl (p.2 ∙ ap (λ y. Watching y p.1) s);
+            place = inl (p.2 ∙ ap (λ y. Watching y p.1 (rest_in (place_in e.watches.table r))) s);
             apart = λ g. fp.0 (s ∙ g);
             member = fp.2.member;
+            rest = subst (λ y. IsRest f.0 y p.1 (rest_in (place_in e.watches.table r))) s fp.3;
             falsified = st.falsified;
           }
       | inr second ↦
@@ -117,9 +125,10 @@ watched_from slots e w write read x inv st lt at =
             within = f.2.0;
             blocker = let same : b.0 ≡ f.0 = cc (b.2, f.1) in subst (λ c. contains_literal x.blocker c ≡ true) same b.3;
             other = p.0;
-            place = inr (p.2 ∙ ap (λ y. Watching p.0 y) s);
+            place = inr (p.2 ∙ ap (λ y. Watching p.0 y (rest_in (place_in e.watches.table r))) s);
             apart = λ g. fp.0 (sym g ∙ sym s);
             member = fp.1.member;
+            rest = subst (λ y. IsRest f.0 y p.0 (rest_in (place_in e.watches.table r))) s (rest_swapped f.0 p.0 p.1 (rest_in (place_in e.watches.table r)) fp.3);
             falsified = st.falsified;
           }
     ]
@@ -224,6 +233,30 @@ open_watch e c l member new = record {
       absurd (both_ways _ new (subst (λ X. contains_literal (negation l) X ≡ true) (sym (ap literals_of p.1 ∙ literals-append K p.0)) k));
 }
 
+by_swapped : (p : Place) (w other : Literal) → IsWatchedBy p w other → IsWatchedBy p other w
+by_swapped p w other by = elim by [ inl h ↦ inr h | inr h ↦ inl h ]
+
+apart_by : (e : EngineState) (c : List Literal) (p : Place) (w other : Literal) → IsWatchedBy p w other → FitsPlace e c p → w ≢ other
+apart_by e c p w other by f = elim by [
+  | inl h ↦ (subst (λ x. FitsPlace e c x) h f).0
+  | inr h ↦ λ g. (subst (λ x. FitsPlace e c x) h f).0 (sym g)
+]
+
+rest_by : (e : EngineState) (c : List Literal) (p : Place) (w other : Literal) → IsWatchedBy p w other → FitsPlace e c p → IsRest c w other (rest_in p)
+rest_by e c p w other by f = elim by [
+  | inl h ↦ (subst (λ x. FitsPlace e c x) h f).3
+  | inr h ↦ rest_swapped c other w (rest_in p) (subst (λ x. FitsPlace e c x) h f).3
+]
+
+-- `l` is watched in the place of `w`
+rest_moved : (c : List Literal) (w other l : Literal) (rest : Rest) → contains_literal w c ≡ true → contains_literal l c ≡ true → w ≢ other → l ≢ w → l ≢ other
+    → IsRest c w other rest → IsRest c l other (rest_after w rest)
+rest_moved c w other l Nothing mw ml apart a b h = elim (h l ml) [ inl e ↦ absurd (a e) | inr e ↦ absurd (b e) ]
+rest_moved c w other l (One third) mw ml apart a b h =
+    let is : l ≡ third = elim (h.3 l ml) [ inl e ↦ absurd (a e) | inr k ↦ elim k [ inl e ↦ absurd (b e) | inr e ↦ e ] ] in
+    (mw, λ e. a (sym e), apart, λ k m. elim (h.3 k m) [ inl e ↦ inr (inr e) | inr z ↦ elim z [ inl e ↦ inr (inl e) | inr e ↦ inl (e ∙ sym is) ] ])
+rest_moved c w other l Many mw ml apart a b h = tt
+
 watch_of : (e : EngineState) (c : List Literal) (p : Place) (w other : Literal) → IsWatchedBy p w other → FitsPlace e c p → IsWatch e c other
 watch_of e c p w other by f = elim by [
   | inl h ↦ (subst (λ x. FitsPlace e c x) h f).2
@@ -245,18 +278,19 @@ not_waiting_by p w other by e = elim by [ inl h ↦ cc | inr h ↦ cc ]
 -- each row has the clauses that the table says, still
 moved_counts : (slots : Slots) (e : EngineState) (w : Literal) (write read : ℕ) (x : Entry) (other l : Literal) → index_of l ≢ index_of w
     → InRow slots e w write read → IsWatchedBy (place_in e.watches.table x.reference) w other
-    → ((q : ℕ) → count_in q (row_at (closed (moved e x.reference other l) (index_of w) write (read + 1)).watches.rows (index_of w)) + one_at x.reference q ≡ count_in q (row_at (closed e (index_of w) write read).watches.rows (index_of w)))
-    → ((q : ℕ) → count_in q (row_at (closed (moved e x.reference other l) (index_of w) write (read + 1)).watches.rows (index_of l)) ≡ count_in q (row_at (closed e (index_of w) write read).watches.rows (index_of l)) + one_at x.reference q)
-    → ((k q : ℕ) → k ≢ index_of w → k ≢ index_of l → count_in q (row_at (closed (moved e x.reference other l) (index_of w) write (read + 1)).watches.rows k) ≡ count_in q (row_at (closed e (index_of w) write read).watches.rows k))
-    → place_in (set e.watches.table x.reference (Watching l other)) x.reference ≡ Watching l other
-    → ((q : ℕ) → q ≢ x.reference → place_in (set e.watches.table x.reference (Watching l other)) q ≡ place_in e.watches.table q)
-    → (k q : ℕ) → count_in q (row_at (closed (moved e x.reference other l) (index_of w) write (read + 1)).watches.rows k) ≡ watches_at (place_in (set e.watches.table x.reference (Watching l other)) q) k
+    → ((q : ℕ) → count_in q (row_at (closed (moved e w x.reference other l) (index_of w) write (read + 1)).watches.rows (index_of w)) + one_at x.reference q ≡ count_in q (row_at (closed e (index_of w) write read).watches.rows (index_of w)))
+    → ((q : ℕ) → count_in q (row_at (closed (moved e w x.reference other l) (index_of w) write (read + 1)).watches.rows (index_of l)) ≡ count_in q (row_at (closed e (index_of w) write read).watches.rows (index_of l)) + one_at x.reference q)
+    → ((k q : ℕ) → k ≢ index_of w → k ≢ index_of l → count_in q (row_at (closed (moved e w x.reference other l) (index_of w) write (read + 1)).watches.rows k) ≡ count_in q (row_at (closed e (index_of w) write read).watches.rows k))
+    → place_in (set e.watches.table x.reference (Watching l other (rest_after w (rest_in (place_in e.watches.table x.reference))))) x.reference ≡ Watching l other (rest_after w (rest_in (place_in e.watches.table x.reference)))
+    → ((q : ℕ) → q ≢ x.reference → place_in (set e.watches.table x.reference (Watching l other (rest_after w (rest_in (place_in e.watches.table x.reference))))) q ≡ place_in e.watches.table q)
+    → (k q : ℕ) → count_in q (row_at (closed (moved e w x.reference other l) (index_of w) write (read + 1)).watches.rows k) ≡ watches_at (place_in (set e.watches.table x.reference (Watching l other (rest_after w (rest_in (place_in e.watches.table x.reference))))) q) k
 moved_counts slots e w write read x other l ne st by count_here count_there count_else here elsewhere k q =
     let r = x.reference in
     let i = index_of w in
     let j = index_of l in
-    let t = set e.watches.table r (Watching l other) in
-    let C = closed (moved e r other l) i write (read + 1) in
+    let beside = rest_after w (rest_in (place_in e.watches.table r)) in
+    let t = set e.watches.table r (Watching l other beside) in
+    let C = closed (moved e w r other l) i write (read + 1) in
     elim (cases_eq q r) as (λ _. count_in q (row_at C.watches.rows k) ≡ watches_at (place_in t q) k) [
       | inr nq ↦
           let none = one-other r q (λ h. nq (sym h)) in
@@ -285,7 +319,7 @@ moved_counts slots e w write read x other l ne st by count_here count_there coun
 pub rewatch_row : (slots : Slots) (e : EngineState) (w : Literal) (write read : ℕ) (x : Entry) (other l : Literal) → IsEngine e → InRow slots e w write read
     → read < length (row_at e.watches.rows (index_of w)) → x ≡ get_or (row_at e.watches.rows (index_of w)) read x
     → IsWatchedBy (place_in e.watches.table x.reference) w other → l ≢ other → MayBeWatched slots e x.reference l
-    → InRow slots (moved e x.reference other l) w write (read + 1)
+    → InRow slots (moved e w x.reference other l) w write (read + 1)
 rewatch_row slots e w write read x other l inv st lt at by apart may =
     let r = x.reference in
     let i = index_of w in
@@ -294,8 +328,9 @@ rewatch_row slots e w write read x other l inv st lt at by apart may =
     let row = row_at R i in
     let y = entry_of r other in
     let R' = with_row R j (row_at R j ++ y ∷ []) in
-    let t = set e.watches.table r (Watching l other) in
-    let e' = moved e r other l in
+    let beside = rest_after w (rest_in (place_in e.watches.table r)) in
+    let t = set e.watches.table r (Watching l other beside) in
+    let e' = moved e w r other l in
     let ce = closed e i write read in
     let ce' = closed e' i write (read + 1) in
     let A = take write row in
@@ -314,12 +349,14 @@ rewatch_row slots e w write read x other l inv st lt at by apart may =
     let split' : row_at ce'.watches.rows i ≡ A ++ B = row_closed e' i write (read + 1) (omega (arith, length-set R j (row_at R j ++ y ∷ []))) ∙ ap (closed_row write (read + 1)) row_same in
     let other_row : (k : ℕ) → k ≢ i → row_at ce'.watches.rows k ≡ row_at R' k = λ k h. row_closed_other e' i write (read + 1) k h in
     let grown : row_at R' j ≡ row_at R j ++ y ∷ [] = get_or-set_same R j (row_at R j ++ y ∷ []) [] lj in
-    let here : place_in t r ≡ Watching l other = place_set_same e.watches.table r (Watching l other) (kept_within e.watches.table r was) in
-    let elsewhere : (q : ℕ) → q ≢ r → place_in t q ≡ place_in e.watches.table q = λ q h. place_set_other e.watches.table r q (Watching l other) h in
+    let here : place_in t r ≡ Watching l other beside = place_set_same e.watches.table r (Watching l other beside) (kept_within e.watches.table r was) in
+    let elsewhere : (q : ℕ) → q ≢ r → place_in t q ≡ place_in e.watches.table q = λ q h. place_set_other e.watches.table r q (Watching l other beside) h in
     let kept : is_kept (place_in t r) ≡ true = ap is_kept here in
     let old = subst (AllByRecursion (HasBlocker ce slots)) split (st.fits.blockers i) in
     let hx = (all_right (HasBlocker ce slots) A (x ∷ B) old).0 in
     let ow = watch_of ce c (place_in e.watches.table r) w other by f.2.1 in
+    let beside_is = rest_moved c w other l (rest_in (place_in e.watches.table r)) (watch_of ce c (place_in e.watches.table r) other w (by_swapped (place_in e.watches.table r) w other by) f.2.1).member member
+    (apart_by ce c (place_in e.watches.table r) w other by f.2.1) (λ h. ne (ap index_of h)) apart (rest_by ce c (place_in e.watches.table r) w other by f.2.1) in
     let hy : HasBlocker ce slots y = (c, hx.1, f.1, ow.member) in
     let count_here : (q : ℕ) → count_in q (row_at ce'.watches.rows i) + one_at r q ≡ count_in q (row_at ce.watches.rows i) = λ q.
     let a1 : count_in q (row_at ce'.watches.rows i) ≡ count_in q A + count_in q B = ap (count_in q) split' ∙ count-append q A B in
@@ -334,7 +371,7 @@ rewatch_row slots e w write read x other l inv st lt at by apart may =
     let count_else : (k q : ℕ) → k ≢ i → k ≢ j → count_in q (row_at ce'.watches.rows k) ≡ count_in q (row_at ce.watches.rows k) = λ k q ni nj.
     ap (count_in q) (other_row k ni ∙ get_or-set_other R j k (row_at R j ++ y ∷ []) [] nj ∙ sym (row_closed_other e i write read k ni)) in
     let fits' : Fits (with_watches ce t ce'.watches.rows e.watches.waiting) slots = fits_place ce slots r t ce'.watches.rows e.watches.waiting st.fits elsewhere
-    (λ k. (c, f.1, (f.2.0, subst (λ z. FitsPlace ce c z) (sym here) (apart, open_watch ce c l member new, ow))))
+    (λ k. (c, f.1, (f.2.0, subst (λ z. FitsPlace ce c z) (sym here) (apart, open_watch ce c l member new, ow, beside_is))))
     (inl kept)
     (moved_counts slots e w write read x other l ne st by count_here count_there count_else here elsewhere)
     (λ q h. elim (cases_eq q r) [
@@ -374,7 +411,7 @@ pub engine_trail : (e : EngineState) (a : Assigned) → IsEngine e → IsEngine 
 engine_trail e a inv = record { rows = inv.rows; watching = inv.watching; settled = inv.settled; processed = let h = inv.processed in omega (arith, length_push e.trail a) }
 
 pub moved_row : (slots : Slots) (e : EngineState) (w : Literal) (write read : ℕ) (r : ℕ) (other l : Literal) → IsEngine e → InRow slots e w write read
-    → is_attached e r ≡ true → MayBeWatched slots e r l → row_at (moved e r other l).watches.rows (index_of w) ≡ row_at e.watches.rows (index_of w)
+    → is_attached e r ≡ true → MayBeWatched slots e r l → row_at (moved e w r other l).watches.rows (index_of w) ≡ row_at e.watches.rows (index_of w)
 moved_row slots e w write read r other l inv st was may =
     let f = st.fits.attached r was in
     let named : IsVariable e.variables l = within_variable e.variables f.0 l f.2.0 (may.1 f.0 f.1) in

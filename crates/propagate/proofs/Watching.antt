@@ -8,11 +8,12 @@ use Rattle.wcnf.specs.Literal.{Literal, negation, index_of}
 use Rattle.wcnf.specs.Clause.{contains_literal}
 use Rattle.clauses.specs.Slots.{Slots, clause_at}
 use Rattle.propagate.specs.declared.pool.Entry.{Entry}
+use Rattle.propagate.specs.declared.table.Rest.{Rest}
 use Rattle.propagate.specs.declared.table.Place.TheVariants.{Waiting, Resting, Watching}
 use Rattle.propagate.specs.Rows.{row_at, with_row}
 use Rattle.propagate.specs.Trail.{literals_of, depth_of, level_in, value_in, kept_to}
 use Rattle.propagate.specs.Watches.{EngineState, IsEngine, is_attached, is_kept, place_in, watches_at, one_at, count_in}
-use Rattle.propagate.specs.Fits.{Fits, FitsPlace, IsWatch, IsWithin, HasBlocker, HasTrue}
+use Rattle.propagate.specs.Fits.{Fits, FitsPlace, IsRest, IsWatch, IsWithin, HasBlocker, HasTrue}
 use Rattle.propagate.specs.Steps.{entry_of, pushed, watched, with_place, with_trail, Continues, IsMadeTrue}
 use Rattle.propagate.proofs.Literals.{index-within}
 use Rattle.propagate.proofs.Levels.{kept_all}
@@ -20,7 +21,7 @@ use Rattle.propagate.proofs.Kept.{contains_take, in_kept}
 use Rattle.propagate.proofs.Reasons.{no_opposites}
 use Rattle.propagate.proofs.Places.{place_set_other, place_set_same, fits_place, blockers_kept, count-cons, one-same, one-other}
 use Rattle.propagate.proofs.Attaching.{kept_within}
-use Rattle.propagate.proofs.Looking.{within_variable, unit_from, true_value}
+use Rattle.propagate.proofs.Looking.{within_variable, unit_left, one_left, true_value}
 use Rattle.propagate.proofs.Stepping.{count-append, all_join, open_watch, last_true}
 use Rattle.propagate.proofs.Continuing.{continues_unit, continues_same}
 use Rattle.propagate.proofs.Fitting.{fits_grow}
@@ -63,26 +64,26 @@ all_pushed P R l w lt h all k = elim (cases_eq k (index_of l)) [
   | inr ne ↦ subst (AllByRecursion P) (sym (get_or-set_other R (index_of l) k (row_at R (index_of l) ++ w ∷ []) [] ne)) (all k)
 ]
 
-pub fits_watch : (e : EngineState) (slots : Slots) (r : ℕ) (c : List Literal) (one other : Literal) → IsEngine e → Fits e slots → place_in e.watches.table r ≡ Waiting
-    → clause_at slots r ≡ Some c → one ≢ other → IsWatch e c one → IsWatch e c other → Fits (watched e r one other) slots
-fits_watch e slots r c one other inv fits at live apart a b =
+pub fits_watch : (e : EngineState) (slots : Slots) (r : ℕ) (c : List Literal) (one other : Literal) (rest : Rest) → IsEngine e → Fits e slots → place_in e.watches.table r ≡ Waiting
+    → clause_at slots r ≡ Some c → one ≢ other → IsWatch e c one → IsWatch e c other → IsRest c one other rest → Fits (watched e r one other rest) slots
+fits_watch e slots r c one other rest inv fits at live apart a b d =
     let R = e.watches.rows in
     let w = entry_of r other in
     let v = entry_of r one in
     let Ri = pushed R one w in
     let Rj = pushed Ri other v in
-    let t = set e.watches.table r (Watching one other) in
+    let t = set e.watches.table r (Watching one other rest) in
     let was : is_attached e r ≡ true = ap is_kept at in
     let f = fits.attached r was in
     let same : f.0 ≡ c = cc (f.1, live) in
     let within : IsWithin e.variables c = subst (IsWithin e.variables) same f.2.0 in
     let l1 : index_of one < length R = let h = inv.rows in let g = index-within e.variables one (within_variable e.variables c one within a.member) in omega arith in
     let l2 : index_of other < length Ri = let h = inv.rows in let g = index-within e.variables other (within_variable e.variables c other within b.member) in let k = length-set R (index_of one) (row_at R (index_of one) ++ w ∷ []) in omega arith in
-    let here : place_in t r ≡ Watching one other = place_set_same e.watches.table r (Watching one other) (kept_within e.watches.table r was) in
-    let elsewhere : (q : ℕ) → q ≢ r → place_in t q ≡ place_in e.watches.table q = λ q h. place_set_other e.watches.table r q (Watching one other) h in
+    let here : place_in t r ≡ Watching one other rest = place_set_same e.watches.table r (Watching one other rest) (kept_within e.watches.table r was) in
+    let elsewhere : (q : ℕ) → q ≢ r → place_in t q ≡ place_in e.watches.table q = λ q h. place_set_other e.watches.table r q (Watching one other rest) h in
     let kept : is_kept (place_in t r) ≡ true = ap is_kept here in
     fits_place e slots r t Rj e.watches.waiting fits elsewhere
-    (λ k. (c, live, (within, subst (λ z. FitsPlace e c z) (sym here) (apart, a, b))))
+    (λ k. (c, live, (within, subst (λ z. FitsPlace e c z) (sym here) (apart, a, b, d))))
     (inl kept)
     (λ k q. elim (cases_eq r q) [
       | inl is ↦ subst (λ z. count_in z (row_at Rj k) ≡ watches_at (place_in t z) k) is
@@ -138,7 +139,7 @@ pub made_true : (e e1 : EngineState) (slots : Slots) (r : ℕ) (c : List Literal
 made_true e e1 slots r c l inv fits was live within member ne all h = elim h [
   | inl new ↦
       let T = e.trail ++ made l (Some r) ∷ [] in
-      let unit = unit_from e.trail c l member new.0 all in
+      let unit = unit_left e.trail c l member new.0 (one_left e.trail c l all) in
       let f : Fits (with_trail e T) slots = fits_grow e slots (made l (Some r)) inv.settled inv.processed (c, live, unit) was (within_variable e.variables c l within member) fits in (
         subst (λ x. Fits x slots) (sym new.2) f,
         subst (λ (x : EngineState). contains_literal l (literals_of x.trail) ≡ true) (sym new.2) (last_true e.trail (made l (Some r))),

@@ -7,7 +7,8 @@ use Rattle.propagate.specs.declared.table.Place.TheVariants.{Watching as Watchin
 use Rattle.propagate.specs.declared.table.Kind.{Kind}
 use Rattle.propagate.specs.declared.table.Kind.TheVariants.{Detached, Waiting, Resting, Watching}
 use Rattle.propagate.specs.declared.table.Pair.{Pair}
-use Rattle.propagate.specs.Watches.{place_in}
+use Rattle.propagate.specs.declared.table.Rest.TheVariants.{Many}
+use Rattle.propagate.specs.Watches.{place_in, rest_in, IsWatching}
 use Rattle.propagate.specs.Steps.{IsWatchedBy}
 use Rattle.propagate.specs.Zipped.{place_of, places}
 
@@ -26,7 +27,7 @@ read_at (x ∷ ks) (y ∷ ps) zero d k p h l = refl
 read_at (x ∷ ks) (y ∷ ps) (suc r) d k p h l = read_at ks ps r d k p (omega arith) (omega arith)
 
 any_pair : Pair
-any_pair = record { one = record { variable = 0; negated = false }; other = record { variable = 0; negated = false } }
+any_pair = record { one = record { variable = 0; negated = false }; other = record { variable = 0; negated = false }; rest = Many }
 
 -- a place without literals, as it is read
 pub places_kind : (ks : List Kind) (ps : List Pair) (r : ℕ) (x k : Kind) (P : Place) → length ps ≡ length ks → r < length ks → x ≡ get_or ks r x → x ≡ k
@@ -36,24 +37,24 @@ places_kind ks ps r x k P h l at is of =
 
 -- a place with literals, as it is read
 pub places_pair : (ks : List Kind) (ps : List Pair) (r : ℕ) (x : Kind) (p : Pair) → length ps ≡ length ks → r < length ks → x ≡ get_or ks r x → x ≡ Watching → p ≡ get_or ps r p
-    → WatchingPlace p.one p.other ≡ place_in (places ks ps) r
+    → WatchingPlace p.one p.other p.rest ≡ place_in (places ks ps) r
 places_pair ks ps r x p h l at is pair =
     sym (read_at ks ps r NoPlace x p h l ∙ ap (λ z. place_of z (get_or ps r p)) (sym at ∙ is) ∙ ap (place_of Watching) (sym pair))
 
-pub watching_within : (ks : List Kind) (ps : List Pair) (r : ℕ) (a b : Literal) → place_in (places ks ps) r ≡ WatchingPlace a b → (r < length ks) × (r < length ps)
+pub watching_within : (ks : List Kind) (ps : List Pair) (r : ℕ) (a b : Literal) → IsWatching (place_in (places ks ps) r) a b → (r < length ks) × (r < length ps)
 watching_within [] ps r a b e = absurd (cc)
 watching_within (k ∷ ks) [] r a b e = absurd (cc)
 watching_within (k ∷ ks) (p ∷ ps) zero a b e = (omega arith, omega arith)
 watching_within (k ∷ ks) (p ∷ ps) (suc r) a b e = let w = watching_within ks ps r a b e in (omega (arith, w.0), omega (arith, w.1))
 
-pair_here : (k : Kind) (p : Pair) (a b : Literal) → place_of k p ≡ WatchingPlace a b → (k ≡ Watching) × ((p.one ≡ a) × (p.other ≡ b))
+pair_here : (k : Kind) (p : Pair) (a b : Literal) → IsWatching (place_of k p) a b → (k ≡ Watching) × ((p.one ≡ a) × (p.other ≡ b))
 pair_here Detached p a b e = absurd (cc)
 pair_here Waiting p a b e = absurd (cc)
 pair_here Resting p a b e = absurd (cc)
 pair_here Watching p a b e = (refl, (cc e, cc e))
 
 -- the pair of a clause that watches two literals
-pub watching_pair : (ks : List Kind) (ps : List Pair) (r : ℕ) (p : Pair) (a b : Literal) → p ≡ get_or ps r p → place_in (places ks ps) r ≡ WatchingPlace a b → (p.one ≡ a) × (p.other ≡ b)
+pub watching_pair : (ks : List Kind) (ps : List Pair) (r : ℕ) (p : Pair) (a b : Literal) → p ≡ get_or ps r p → IsWatching (place_in (places ks ps) r) a b → (p.one ≡ a) × (p.other ≡ b)
 watching_pair [] ps r p a b at e = absurd (cc)
 watching_pair (k ∷ ks) [] r p a b at e = absurd (cc)
 watching_pair (k ∷ ks) (q ∷ ps) zero p a b at e = let h = pair_here k q a b e in (ap (λ (x : Pair). x.one) at ∙ h.1.0, ap (λ (x : Pair). x.other) at ∙ h.1.1)
@@ -73,8 +74,8 @@ places_set_kind (x ∷ ks) [] (suc r) k P of = refl
 places_set_kind (x ∷ ks) (y ∷ ps) zero k P of = ap (λ z. z ∷ places ks ps) (of y)
 places_set_kind (x ∷ ks) (y ∷ ps) (suc r) k P of = ap (λ zs. place_of x y ∷ zs) (places_set_kind ks ps r k P of)
 
-pub places_set_pair : (ks : List Kind) (ps : List Pair) (r : ℕ) (p : Pair) (a b : Literal) → place_in (places ks ps) r ≡ WatchingPlace a b
-    → places ks (set ps r p) ≡ set (places ks ps) r (WatchingPlace p.one p.other)
+pub places_set_pair : (ks : List Kind) (ps : List Pair) (r : ℕ) (p : Pair) (a b : Literal) → IsWatching (place_in (places ks ps) r) a b
+    → places ks (set ps r p) ≡ set (places ks ps) r (WatchingPlace p.one p.other p.rest)
 places_set_pair [] ps r p a b e = refl
 places_set_pair (x ∷ ks) [] zero p a b e = refl
 places_set_pair (x ∷ ks) [] (suc r) p a b e = refl
@@ -101,19 +102,35 @@ places_take (suc n) [] ps = refl
 places_take (suc n) (k ∷ ks) [] = refl
 places_take (suc n) (k ∷ ks) (p ∷ ps) = ap (λ zs. place_of k p ∷ zs) (places_take n ks ps)
 
+rest_here : (k : Kind) (p : Pair) → k ≡ Watching → p.rest ≡ rest_in (place_of k p)
+rest_here k p e = sym (ap (λ z. rest_in (place_of z p)) e)
+
+-- what a clause that watches two literals has beside them
+pub watching_rest : (ks : List Kind) (ps : List Pair) (r : ℕ) (p : Pair) (a b : Literal) → p ≡ get_or ps r p → IsWatching (place_in (places ks ps) r) a b → p.rest ≡ rest_in (place_in (places ks ps) r)
+watching_rest [] ps r p a b at e = absurd (cc)
+watching_rest (k ∷ ks) [] r p a b at e = absurd (cc)
+watching_rest (k ∷ ks) (q ∷ ps) zero p a b at e = let h = pair_here k q a b e in ap (λ (x : Pair). x.rest) at ∙ rest_here k q h.0
+watching_rest (k ∷ ks) (q ∷ ps) (suc r) p a b at e = watching_rest ks ps r p a b at e
+
+pub watched_rest : (ks : List Kind) (ps : List Pair) (r : ℕ) (p : Pair) (w o : Literal) → p ≡ get_or ps r p → IsWatchedBy (place_in (places ks ps) r) w o → p.rest ≡ rest_in (place_in (places ks ps) r)
+watched_rest ks ps r p w o at h = elim h [ inl f ↦ watching_rest ks ps r p w o at f | inr f ↦ watching_rest ks ps r p o w at f ]
+
+pub watched_within : (ks : List Kind) (ps : List Pair) (r : ℕ) (w o : Literal) → IsWatchedBy (place_in (places ks ps) r) w o → r < length ps
+watched_within ks ps r w o h = elim h [ inl f ↦ (watching_within ks ps r w o f).1 | inr f ↦ (watching_within ks ps r o w f).1 ]
+
 -- the literal beside a watched one
 pub beside_one : (ks : List Kind) (ps : List Pair) (r : ℕ) (p : Pair) (w o : Literal) → p ≡ get_or ps r p → IsWatchedBy (place_in (places ks ps) r) w o → p.one ≡ w
     → IsWatchedBy (place_in (places ks ps) r) w p.other
 beside_one ks ps r p w o at h e = elim h [
-  | inl f ↦ let q = watching_pair ks ps r p w o at f in inl (f ∙ ap (WatchingPlace w) (sym q.1))
-  | inr f ↦ let q = watching_pair ks ps r p o w at f in inl (f ∙ rw (q.1, sym e ∙ q.0) refl)
+  | inl f ↦ let q = watching_pair ks ps r p w o at f in inl (f ∙ ap (λ x. WatchingPlace w x (rest_in (place_in (places ks ps) r))) (sym q.1))
+  | inr f ↦ let q = watching_pair ks ps r p o w at f in inl (f ∙ ap (λ x. WatchingPlace x w (rest_in (place_in (places ks ps) r))) (sym q.0 ∙ e) ∙ ap (λ x. WatchingPlace w x (rest_in (place_in (places ks ps) r))) (sym q.1))
 ]
 
 pub beside_other : (ks : List Kind) (ps : List Pair) (r : ℕ) (p : Pair) (w o : Literal) → p ≡ get_or ps r p → IsWatchedBy (place_in (places ks ps) r) w o → p.one ≢ w
     → IsWatchedBy (place_in (places ks ps) r) w p.one
 beside_other ks ps r p w o at h ne = elim h [
   | inl f ↦ absurd (ne (watching_pair ks ps r p w o at f).0)
-  | inr f ↦ let q = watching_pair ks ps r p o w at f in inr (f ∙ ap (λ x. WatchingPlace x w) (sym q.0))
+  | inr f ↦ let q = watching_pair ks ps r p o w at f in inr (f ∙ ap (λ x. WatchingPlace x w (rest_in (place_in (places ks ps) r))) (sym q.0))
 ]
 
 -- what a resize to one past r adds

@@ -1,5 +1,5 @@
 -- How an engine and a store belong together, and what propagation does.
-use Rattle.std.specs.Prelude.{◌≡◌, ◌≢◌, ℕ, ◌<◌, ◌≤◌, Bool, true, List, [], ◌∷◌, ◌++◌, take, map, Option, Some, None, All, IfSome, Contains, ⊤}
+use Rattle.std.specs.Prelude.{◌≡◌, ◌≢◌, ℕ, ◌<◌, ◌≤◌, Bool, true, List, [], ◌∷◌, ◌++◌, take, map, Option, Some, None, All, IfSome, Contains, ⊤, ◌⊎◌}
 use Rattle.std.specs.List.{AllByRecursion}
 use Rattle.wcnf.specs.Literal.{Literal, negation}
 use Rattle.wcnf.specs.Clause.{contains_literal, greatest_variable}
@@ -10,6 +10,8 @@ use Rattle.propagate.specs.Trail.{Assigned, literals_of, kept_to, HasReasons}
 use Rattle.propagate.specs.declared.pool.Entry.{Entry}
 use Rattle.propagate.specs.declared.table.Place.{Place}
 use Rattle.propagate.specs.declared.table.Place.TheVariants.{Detached, Waiting, Resting, Watching}
+use Rattle.propagate.specs.declared.table.Rest.{Rest}
+use Rattle.propagate.specs.declared.table.Rest.TheVariants.{Nothing, One, Many}
 use Rattle.propagate.specs.Watches.{EngineState, place_in, is_attached, watches_at, count_in}
 
 -- some literal of the clause is true
@@ -34,12 +36,18 @@ pub record IsWatch (e : EngineState) (c : List Literal) (w : Literal) : Type 0 w
 abbrev pub IsWithin : ℕ → List Literal → Type 0
 IsWithin variables c = All (λ l. 0 < l.variable) c × (greatest_variable c ≤ variables)
 
+-- what a clause has beside two literals of it
+abbrev pub IsRest : List Literal → Literal → Literal → Rest → Type 0
+IsRest c one other Nothing = (l : Literal) → contains_literal l c ≡ true → (l ≡ one) ⊎ (l ≡ other)
+IsRest c one other (One third) = (contains_literal third c ≡ true) × (third ≢ one) × (third ≢ other) × ((l : Literal) → contains_literal l c ≡ true → (l ≡ one) ⊎ (l ≡ other) ⊎ (l ≡ third))
+IsRest c one other Many = ⊤
+
 -- what is known of a clause in this place
 abbrev pub FitsPlace : EngineState → List Literal → Place → Type 0
 FitsPlace e c Detached = ⊥
 FitsPlace e c Waiting = ⊤
 FitsPlace e c Resting = HasTrue c (literals_of (kept_to 0 e.trail))
-FitsPlace e c (Watching one other) = (one ≢ other) × IsWatch e c one × IsWatch e c other
+FitsPlace e c (Watching one other rest) = (one ≢ other) × IsWatch e c one × IsWatch e c other × IsRest c one other rest
 
 -- what is known of an attached clause
 abbrev pub FitsClause : EngineState → ℕ → List Literal → Type 0

@@ -8,10 +8,12 @@ use Rattle.clauses.specs.Slots.{Slots, clause_at}
 use Rattle.propagate.specs.declared.pool.Entry.{Entry}
 use Rattle.propagate.specs.declared.table.Place.{Place}
 use Rattle.propagate.specs.declared.table.Place.TheVariants.{Detached, Waiting, Resting, Watching}
+use Rattle.propagate.specs.declared.table.Rest.{Rest}
+use Rattle.propagate.specs.declared.table.Rest.TheVariants.{Nothing, One, Many}
 use Rattle.propagate.specs.Rows.{row_at, with_row, closed_row}
 use Rattle.propagate.specs.Trail.{Assigned, literals_of, is_decision, value_in}
-use Rattle.propagate.specs.Watches.{EngineState, SameAttached, IsVariable, is_attached, place_in}
-use Rattle.propagate.specs.Fits.{Fits, HasTrue, IsWithin, IsFalseClause}
+use Rattle.propagate.specs.Watches.{EngineState, SameAttached, IsVariable, is_attached, place_in, rest_in, IsWatching}
+use Rattle.propagate.specs.Fits.{Fits, HasTrue, IsRest, IsWithin, IsFalseClause}
 
 abbrev pub with_rows : EngineState → List (List Entry) → EngineState
 with_rows e rows = record e { watches = record e.watches { rows = rows } }
@@ -32,13 +34,19 @@ entry_of r blocker = record { reference = r; blocker = blocker }
 abbrev pub pushed : List (List Entry) → Literal → Entry → List (List Entry)
 pushed rows l w = with_row rows (index_of l) (row_at rows (index_of l) ++ w ∷ [])
 
--- the clause watches `l` beside `other`
-abbrev pub moved : EngineState → ℕ → Literal → Literal → EngineState
-moved e r other l = with_place (with_rows e (pushed e.watches.rows l (entry_of r other))) r (Watching l other)
+-- what is beside the watches where the only literal there took the place of `w`
+abbrev pub rest_after : Literal → Rest → Rest
+rest_after w Nothing = Nothing
+rest_after w (One third) = One w
+rest_after w Many = Many
+
+-- the clause watches `l` in the place of `w`, beside `other`
+abbrev pub moved : EngineState → Literal → ℕ → Literal → Literal → EngineState
+moved e w r other l = with_place (with_rows e (pushed e.watches.rows l (entry_of r other))) r (Watching l other (rest_after w (rest_in (place_in e.watches.table r))))
 
 -- the clause watches both
-abbrev pub watched : EngineState → ℕ → Literal → Literal → EngineState
-watched e r one other = with_place (with_rows e (pushed (pushed e.watches.rows one (entry_of r other)) other (entry_of r one))) r (Watching one other)
+abbrev pub watched : EngineState → ℕ → Literal → Literal → Rest → EngineState
+watched e r one other rest = with_place (with_rows e (pushed (pushed e.watches.rows one (entry_of r other)) other (entry_of r one))) r (Watching one other rest)
 
 -- the table has a place for the clause
 abbrev pub grown_table : List Place → ℕ → List Place
@@ -59,7 +67,7 @@ pub record Continues (old new : EngineState) : Type 0 where
   pub waiting : (r : ℕ) → place_in new.watches.table r ≡ Waiting → place_in old.watches.table r ≡ Waiting
 
 abbrev pub IsWatchedBy : Place → Literal → Literal → Type 0
-IsWatchedBy p one other = (p ≡ Watching one other) ⊎ (p ≡ Watching other one)
+IsWatchedBy p one other = IsWatching p one other ⊎ IsWatching p other one
 
 -- where the clause waits, it is true
 abbrev pub IsTrueWaiting : Slots → EngineState → ℕ → Type 0
@@ -73,7 +81,7 @@ abbrev pub is_waiting : Place → Bool
 is_waiting Waiting = true
 is_waiting Detached = false
 is_waiting Resting = false
-is_waiting (Watching one other) = false
+is_waiting (Watching one other rest) = false
 
 -- an open literal becomes true by a clause, and one that has a value stays
 abbrev pub IsMadeTrue : EngineState → EngineState → Literal → ℕ → Type 0
@@ -97,6 +105,7 @@ pub record IsWatched (slots : Slots) (e : EngineState) (w : Literal) (entry : En
   pub place : IsWatchedBy (place_in e.watches.table entry.reference) w other
   pub apart : w ≢ other
   pub member : contains_literal other clause ≡ true
+  pub rest : IsRest clause w other (rest_in (place_in e.watches.table entry.reference))
   pub falsified : contains_literal (negation w) (literals_of e.trail) ≡ true
 
 -- what a look at the clause of an entry tells
@@ -111,6 +120,10 @@ IsUnitIn slots e r l = (value_in e.trail l ≡ None) × (l.variable ≤ e.variab
 
 abbrev pub IsFalseIn : Slots → EngineState → ℕ → Type 0
 IsFalseIn slots e r = (c : List Literal) → clause_at slots r ≡ Some c → IsFalseUnder c (literals_of e.trail)
+
+-- all literals but one are false
+abbrev pub LeavesOne : Slots → EngineState → ℕ → Literal → Type 0
+LeavesOne slots e r o = (c : List Literal) → clause_at slots r ≡ Some c → AllByRecursion (λ l. (l ≡ o) ⊎ (contains_literal (negation l) (literals_of e.trail) ≡ true)) c
 
 -- a row that is being filtered: what it keeps is true
 pub record InRow (slots : Slots) (e : EngineState) (w : Literal) (write read : ℕ) : Type 0 where

@@ -2,6 +2,7 @@
 use Rattle.std.specs.Prelude.{◌≡◌, ℕ, true, false, List, [], ◌∷◌, Some, None, refl}
 use Rattle.wcnf.specs.Literal.{Literal}
 use Rattle.propagate.specs.declared.table.Place.TheVariants.{Detached, Waiting, Watching}
+use Rattle.propagate.specs.declared.table.Rest.TheVariants.{Nothing}
 use Rattle.propagate.specs.Watches.{EngineState, engine_state, is_attached}
 use Rattle.propagate.specs.Tables.{assigned_by}
 use Rattle.propagate.specs.Trail.{Assigned, TrailState, literals_of, depth_of, level_in, reason_in, value_in, kept_to}
@@ -47,7 +48,7 @@ two : TrailState
 two = record { variables = 3; assigned = assigned_by (None ∷ None ∷ Some 2 ∷ []) (p 1 ∷ p 2 ∷ []) }
 
 engine : EngineState
-engine = engine_state two (Detached ∷ Waiting ∷ Watching (p 2) (n 3) ∷ []) [] (1 ∷ []) 0 0 false
+engine = engine_state two (Detached ∷ Waiting ∷ Watching (p 2) (n 3) Nothing ∷ []) [] (1 ∷ []) 0 0 false
 
 detached : is_attached engine 0 ≡ false
 unfolding engine two

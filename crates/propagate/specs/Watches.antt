@@ -4,6 +4,8 @@ use Rattle.wcnf.specs.Literal.{Literal, index_of}
 use Rattle.propagate.specs.declared.pool.Entry.{Entry}
 use Rattle.propagate.specs.declared.table.Place.{Place}
 use Rattle.propagate.specs.declared.table.Place.TheVariants.{Detached, Waiting, Resting, Watching}
+use Rattle.propagate.specs.declared.table.Rest.{Rest}
+use Rattle.propagate.specs.declared.table.Rest.TheVariants.{Many}
 use Rattle.propagate.specs.Trail.{Assigned, TrailState}
 
 pub record Watches : Type 0 where
@@ -39,7 +41,17 @@ abbrev pub is_kept : Place → Bool
 is_kept Detached = false
 is_kept Waiting = true
 is_kept Resting = true
-is_kept (Watching one other) = true
+is_kept (Watching one other rest) = true
+
+-- what a clause has beside its watches
+abbrev pub rest_in : Place → Rest
+rest_in Detached = Many
+rest_in Waiting = Many
+rest_in Resting = Many
+rest_in (Watching one other rest) = rest
+
+abbrev pub IsWatching : Place → Literal → Literal → Type 0
+IsWatching p one other = p ≡ Watching one other (rest_in p)
 
 abbrev pub is_attached : EngineState → ℕ → Bool
 is_attached e r = is_kept (place_in e.watches.table r)
@@ -67,11 +79,11 @@ abbrev pub watches_at : Place → ℕ → ℕ
 watches_at Detached i = 0
 watches_at Waiting i = 0
 watches_at Resting i = 0
-watches_at (Watching one other) i = one_at (index_of one) i + one_at (index_of other) i
+watches_at (Watching one other rest) i = one_at (index_of one) i + one_at (index_of other) i
 
 -- what holds of an engine between its calls
 pub record IsEngine (e : EngineState) : Type 0 where
   pub rows : length e.watches.rows ≡ 2 * e.variables
-  pub watching : (r : ℕ) (one other : Literal) → place_in e.watches.table r ≡ Watching one other → IsVariable e.variables one × IsVariable e.variables other
+  pub watching : (r : ℕ) (one other : Literal) → IsWatching (place_in e.watches.table r) one other → IsVariable e.variables one × IsVariable e.variables other
   pub settled : e.watches.settled ≤ e.watches.processed
   pub processed : e.watches.processed ≤ length e.trail

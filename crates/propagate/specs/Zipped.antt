@@ -10,7 +10,7 @@ abbrev pub place_of : Kind → Pair → Place
 place_of Detached p = NoPlace
 place_of Waiting p = WaitingPlace
 place_of Resting p = RestingPlace
-place_of Watching p = WatchingPlace p.one p.other
+place_of Watching p = WatchingPlace p.one p.other p.rest
 
 abbrev pub places : List Kind → List Pair → List Place
 places [] ps = []

@@ -134,7 +134,7 @@ impl Engine {
             Place::Detached => {}
             Place::Waiting => self.waiting.retain(|r| *r != reference),
             Place::Resting => {}
-            Place::Watching(one, other) => {
+            Place::Watching(one, other, _) => {
                 self.pool.remove(one.index(), reference);
                 self.pool.remove(other.index(), reference);
             }

@@ -2,7 +2,9 @@
 ghost use Rattle.std.specs.Prelude.{◌≡◌, ◌≢◌, ◌≤◌, true, false, Some, None, All, IfSome, MatchOption, ◌⊎◌};
 ghost use Rattle.wcnf.specs.Clause.{contains_literal};
 ghost use Rattle.propagate.specs.Trail.{value_in, level_in};
+ghost use Rattle.propagate.specs.Fits.{IsRest};
 
+use crate::table::Rest;
 use crate::trail::Trail;
 use wcnf::types::Lit;
 
@@ -47,4 +49,21 @@ pub(crate) fn other_of_level(trail: &Trail, lits: &[Lit], but: Lit, level: u32) 
         }
     }
     None
+}
+
+/// What a clause has beside these two literals of it.
+pub(crate) fn rest_of(lits: &[Lit], one: Lit, other: Lit) -> Rest
+    ensures { IsRest lits.now one other result }
+{
+    let mut rest = Rest::Nothing;
+    for lit in lits {
+        if *lit == one || *lit == other {
+            continue;
+        }
+        rest = match rest {
+            Rest::Nothing => Rest::One(*lit),
+            _ => return Rest::Many,
+        };
+    }
+    rest
 }

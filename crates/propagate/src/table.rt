@@ -1,8 +1,8 @@
 // Where each clause stands.
 ghost use Rattle.std.specs.Prelude.{◌≡◌, ℕ, ◌<◌, List, [], length, take, slice_set, OnOk, OnErr};
 ghost use Rattle.wcnf.specs.Literal.{Literal};
-ghost use Rattle.propagate.specs.Watches.{place_in};
-ghost use Rattle.propagate.specs.Steps.{IsWatchedBy, grown_table};
+ghost use Rattle.propagate.specs.Watches.{place_in, rest_in, IsWatching};
+ghost use Rattle.propagate.specs.Steps.{IsWatchedBy, rest_after, grown_table};
 
 use clauses::store::CRef;
 use std::alloc::{AllocError, Global};
@@ -18,8 +18,31 @@ pub(crate) enum Place {
     Waiting,
     /// It is true as long as level 0 stands.
     Resting,
-    /// It stands in the rows of these two literals.
-    Watching(Lit, Lit),
+    /// It stands in the rows of these two literals, and has these beside.
+    Watching(Lit, Lit, Rest),
+}
+
+/// The literals of a clause beside the two that it watches.
+#[derive(Clone, Copy, Debug, PartialEq, Eq, Drop)]
+pub(crate) enum Rest {
+    Nothing,
+    /// This one alone.
+    One(Lit),
+    /// More than one, or one or none.
+    Many,
+}
+
+impl Rest {
+    /// The same where the only literal there is watched in the place of `falsified`.
+    pub(crate) fn after(self, falsified: Lit) -> Rest
+        ensures { result ≡ rest_after falsified self }
+    {
+        match self {
+            Rest::Nothing => Rest::Nothing,
+            Rest::One(_) => Rest::One(falsified),
+            Rest::Many => Rest::Many,
+        }
+    }
 }
 
 /// A place without its literals.
@@ -31,11 +54,12 @@ pub(crate) enum Kind {
     Watching,
 }
 
-/// The two literals that a clause watches; of no meaning where it watches none.
+/// The two literals that a clause watches, and those beside; of no meaning where it watches none.
 #[derive(Clone, Copy, Debug, PartialEq, Eq, Drop)]
 pub(crate) struct Pair {
     pub(crate) one: Lit,
     pub(crate) other: Lit,
+    pub(crate) rest: Rest,
 }
 
 /// A place for each reference. The literals stand apart, eight bytes a clause, since propagation reads nothing else.
@@ -86,8 +110,8 @@ impl Table {
             Kind::Waiting => Place::Waiting,
             Kind::Resting => Place::Resting,
             Kind::Watching => {
-                let Pair { one, other } = self.pairs[reference];
-                Place::Watching(one, other)
+                let Pair { one, other, rest } = self.pairs[reference];
+                Place::Watching(one, other, rest)
             }
         }
     }
@@ -100,28 +124,35 @@ impl Table {
             Place::Detached => self.kinds[reference] = Kind::Detached,
             Place::Waiting => self.kinds[reference] = Kind::Waiting,
             Place::Resting => self.kinds[reference] = Kind::Resting,
-            Place::Watching(one, other) => {
+            Place::Watching(one, other, rest) => {
                 self.kinds[reference] = Kind::Watching;
-                self.pairs[reference] = Pair { one, other };
+                self.pairs[reference] = Pair { one, other, rest };
             }
         }
     }
 
-    /// The literal that a clause watches beside this one.
-    pub(crate) fn other(&self, reference: CRef, watched: Lit) -> Lit
+    /// The literal that a clause watches beside this one, and what it has beside both.
+    pub(crate) fn other(&self, reference: CRef, watched: Lit) -> (Lit, Rest)
         requires { (other : Literal) × IsWatchedBy (place_in self.now reference) watched other }
-        ensures { IsWatchedBy (place_in self.now reference) watched result }
+        ensures other { IsWatchedBy (place_in self.now reference) watched result.0 }
+        ensures rest { result.1 ≡ rest_in (place_in self.now reference) }
     {
-        let Pair { one, other } = self.pairs[reference.index()];
-        if one == watched { other } else { one }
+        let Pair { one, other, rest } = self.pairs[reference.index()];
+        if one == watched {
+            (other, rest)
+        } else {
+            (one, rest)
+        }
     }
 
-    /// A clause that watches two literals watches these from now on.
-    pub(crate) fn rewatch(&mut self, reference: CRef, one: Lit, other: Lit)
-        requires { (a b : Literal) × (place_in self.old reference ≡ Place.Watching a b) }
-        ensures { self.new ≡ slice_set self.old reference (Place.Watching one other) }
+    /// A clause that watches two literals watches these from now on, one of them in the place of `falsified`.
+    pub(crate) fn rewatch(&mut self, reference: CRef, falsified: Lit, one: Lit, other: Lit)
+        requires { (a b : Literal) × IsWatching (place_in self.old reference) a b }
+        ensures { self.new ≡ slice_set self.old reference (Place.Watching one other (rest_after falsified (rest_in (place_in self.old reference)))) }
     {
-        self.pairs[reference.index()] = Pair { one, other };
+        let at = reference.index();
+        let rest = self.pairs[at].rest.after(falsified);
+        self.pairs[at] = Pair { one, other, rest };
     }
 
     /// The table gets a place for the clause. A refused growth changes nothing.
@@ -138,6 +169,7 @@ impl Table {
         let pair = Pair {
             one: none,
             other: none,
+            rest: Rest::Nothing,
         };
         if self.pairs.resize(reference.index() + 1, pair).is_err() {
             self.kinds.truncate(len);

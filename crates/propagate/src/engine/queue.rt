@@ -5,15 +5,15 @@ ghost use Rattle.wcnf.specs.Literal.{Literal, negation, index_of};
 ghost use Rattle.wcnf.specs.Clause.{contains_literal};
 ghost use Rattle.propagate.specs.Rows.{row_at, with_row};
 ghost use Rattle.propagate.specs.Trail.{literals_of, value_in};
-ghost use Rattle.propagate.specs.Watches.{IsVariable, is_attached, place_in};
+ghost use Rattle.propagate.specs.Watches.{IsVariable, IsWatching, is_attached, place_in, rest_in};
 ghost use Rattle.propagate.specs.Fits.{Fits, IsComplete};
-ghost use Rattle.propagate.specs.Steps.{Continues, AreTrueWaiting, IsTrueEntry, IsConflict, IsWatched, IsWatchedBy, InRow, with_rows, closed, moved};
+ghost use Rattle.propagate.specs.Steps.{Continues, AreTrueWaiting, IsTrueEntry, IsConflict, IsWatched, IsWatchedBy, LeavesOne, MayBeWatched, InRow, with_rows, closed, moved};
 ghost use Rattle.propagate.specs.Looks.{LookSays, StepSays};
 
 use super::Engine;
 use crate::pool::Entry;
 use crate::search::other_not_false;
-use crate::table::Place;
+use crate::table::Rest;
 use clauses::store::{CRef, Store};
 use std::alloc::AllocError;
 use wcnf::types::Lit;
@@ -158,7 +158,7 @@ impl Engine {
                 self.keep(falsified, write, Entry { reference, blocker });
                 Step::Kept
             }
-            Look::Watch(other, lit) => match self.rewatch(reference, other, lit) {
+            Look::Watch(other, lit) => match self.rewatch(reference, falsified, other, lit) {
                 Ok(()) => Step::Moved,
                 Err(_) => Step::Refused,
             },
@@ -182,31 +182,56 @@ impl Engine {
         if self.trail.is_true(entry.blocker) {
             return Look::True(entry.blocker);
         }
-        let other = self.other_watch(entry.reference, falsified);
+        let (other, rest) = self.table.other(entry.reference, falsified);
         if self.trail.is_true(other) {
             return Look::True(other);
         }
-        match other_not_false(&self.trail, store.lits(entry.reference), other) {
+        match self.beside(store, falsified, entry, other, rest) {
             Some(lit) => Look::Watch(other, lit),
             None if self.trail.is_false(other) => Look::False,
             None => Look::Unit(other),
         }
     }
 
-    /// The literal that a clause watches beside this one.
-    fn other_watch(&self, reference: CRef, watched: Lit) -> Lit
-        requires { (other : Literal) × IsWatchedBy (place_in self.now.watches.table reference) watched other }
-        ensures { IsWatchedBy (place_in self.now.watches.table reference) watched result }
+    /// A literal that is not false, beside the two that a clause watches. The store is not asked for a clause of up to three.
+    fn beside(
+        &self,
+        store: &Store,
+        falsified: Lit,
+        entry: Entry,
+        other: Lit,
+        rest: Rest,
+    ) -> Option<Lit>
+        requires watched { IsWatched store.now.slots self.now falsified entry }
+        requires other { IsWatchedBy (place_in self.now.watches.table entry.reference) falsified other }
+        requires rest { rest ≡ rest_in (place_in self.now.watches.table entry.reference) }
+        ensures { MatchOption result (LeavesOne store.now.slots self.now entry.reference other) (λ l. (l ≢ other) × MayBeWatched store.now.slots self.now entry.reference l) }
     {
-        self.table.other(reference, watched)
+        match rest {
+            Rest::Nothing => None,
+            Rest::One(third) => {
+                if self.trail.is_false(third) {
+                    None
+                } else {
+                    Some(third)
+                }
+            }
+            Rest::Many => other_not_false(&self.trail, store.lits(entry.reference), other),
+        }
     }
 
-    /// The clause watches these two literals from now on. A refused growth changes nothing.
-    fn rewatch(&mut self, reference: CRef, other: Lit, lit: Lit) -> Result<(), AllocError>
-        requires watching { (a b : Literal) × (place_in self.old.watches.table reference ≡ Place.Watching a b) }
+    /// The clause watches `lit` in the place of a false literal from now on. A refused growth changes nothing.
+    fn rewatch(
+        &mut self,
+        reference: CRef,
+        falsified: Lit,
+        other: Lit,
+        lit: Lit,
+    ) -> Result<(), AllocError>
+        requires watching { (a b : Literal) × IsWatching (place_in self.old.watches.table reference) a b }
         requires lit { IsVariable self.old.variables lit }
         requires other { IsVariable self.old.variables other }
-        ensures ok { OnOk result (self.new ≡ moved self.old reference other lit) }
+        ensures ok { OnOk result (self.new ≡ moved self.old falsified reference other lit) }
         ensures err { OnErr result (self.new ≡ self.old) }
     {
         let entry = Entry {
@@ -214,7 +239,7 @@ impl Engine {
             blocker: other,
         };
         self.pool.push(lit.index(), entry)?;
-        self.table.rewatch(reference, lit, other);
+        self.table.rewatch(reference, falsified, lit, other);
         Ok(())
     }
 }

@@ -6,12 +6,13 @@ ghost use Rattle.wcnf.specs.Clause.{contains_literal};
 ghost use Rattle.clauses.specs.Slots.{clause_at};
 ghost use Rattle.propagate.specs.Trail.{literals_of, value_in};
 ghost use Rattle.propagate.specs.Watches.{IsVariable, is_attached, place_in};
-ghost use Rattle.propagate.specs.Fits.{Fits, HasTrue};
+ghost use Rattle.propagate.specs.declared.table.Rest.{Rest};
+ghost use Rattle.propagate.specs.Fits.{Fits, HasTrue, IsRest};
 ghost use Rattle.propagate.specs.Steps.{Continues, AreTrueWaiting, IsTrueWaiting, IsConflict, IsMadeTrue, is_waiting, watched, with_place};
 
 use super::Engine;
 use crate::pool::Entry;
-use crate::search::{first_not_false, other_not_false, other_of_level};
+use crate::search::{first_not_false, other_not_false, other_of_level, rest_of};
 use crate::table::{Place, Table};
 use clauses::store::{CRef, Store};
 use std::alloc::AllocError;
@@ -82,7 +83,7 @@ impl Engine {
             Place::Waiting => self.look_at_clause(store, reference),
             Place::Detached => Ok(true),
             Place::Resting => Ok(true),
-            Place::Watching(_, _) => Ok(true),
+            Place::Watching(_, _, _) => Ok(true),
         }
     }
 
@@ -100,7 +101,7 @@ impl Engine {
             return Ok(false);
         };
         if let Some(other) = other_not_false(&self.trail, lits, one) {
-            self.watch(reference, one, other)?;
+            self.watch(reference, lits, one, other)?;
             return Ok(true);
         }
         self.make_true(one, reference);
@@ -131,7 +132,7 @@ impl Engine {
         let lits = store.lits(reference);
         let depth = self.trail.depth();
         if let Some(other) = other_of_level(&self.trail, lits, one, depth) {
-            self.watch(reference, one, other)?;
+            self.watch(reference, lits, one, other)?;
             return Ok(());
         }
         if depth == 0 {
@@ -148,11 +149,17 @@ impl Engine {
     }
 
     /// A clause without watches watches these two literals from now on. A refused growth changes nothing.
-    fn watch(&mut self, reference: CRef, one: Lit, other: Lit) -> Result<(), AllocError>
+    fn watch(
+        &mut self,
+        reference: CRef,
+        lits: &[Lit],
+        one: Lit,
+        other: Lit,
+    ) -> Result<(), AllocError>
         requires attached { is_attached self.old reference ≡ true }
         requires one { IsVariable self.old.variables one }
         requires other { IsVariable self.old.variables other }
-        ensures ok { OnOk result (self.new ≡ watched self.old reference one other) }
+        ensures ok { OnOk result ((rest : Rest) × IsRest lits.now one other rest × (self.new ≡ watched self.old reference one other rest)) }
         ensures err { OnErr result (self.new ≡ self.old) }
     {
         let first = Entry {
@@ -169,8 +176,9 @@ impl Engine {
             self.pool.truncate(one.index(), len);
             return Err(AllocError);
         }
+        let rest = rest_of(lits, one, other);
         self.table
-            .set(reference.index(), Place::Watching(one, other));
+            .set(reference.index(), Place::Watching(one, other, rest));
         Ok(())
     }
 }

@@ -1,5 +1,5 @@
-use Rattle.std.proofs.Common.{refl, sym, ◌∙◌}
-use Rattle.propagate.specs.Watches.{engine_state}
+use Rattle.std.proofs.Common.{refl, subst}
+use Rattle.propagate.specs.Watches.{IsWatching, engine_state}
 use Rattle.propagate.specs.Steps.{grown_table}
 use Rattle.propagate.specs.declared.table.Place.TheVariants.{Waiting}
 use Rattle.propagate.proofs.Attaching.{engine_set, engine_change, place_grown, length-grown}
@@ -11,5 +11,5 @@ invariant_of-self-2 c =
     let e = engine_state i.trail i.table i.pool i.waiting.items i.settled i.processed i.failed in
     let g = grown_table i.table c.args.reference in
     let e' = engine_state i.trail g i.pool i.waiting.items i.settled i.processed i.failed in
-    let inv' = engine_change e g i.pool i.waiting.items c.self.invariant refl (λ r one other at. c.self.invariant.watching r one other (sym (place_grown i.table c.args.reference r) ∙ at)) in
+    let inv' = engine_change e g i.pool i.waiting.items c.self.invariant refl (λ r one other at. c.self.invariant.watching r one other (subst (λ x. IsWatching x one other) (place_grown i.table c.args.reference r) at)) in
     rw (c.set.ensures, c.index.ensures, c.in_ok-make_room.ensures.ok) (engine_set e' c.args.reference Waiting i.pool c.push.new.self.items inv' refl (length-grown i.table c.args.reference) (λ one other at. absurd (cc)))

@@ -98,7 +98,7 @@ make_true-requires c =
 pub returns-in-Some-other_not_false-clause-continues : goal.returns-in-Some-other_not_false-clause-continues
 returns-in-Some-other_not_false-clause-continues c =
     let now = c.args.self.now in
-    subst (Continues now) (sym c.in_ok-watch.ensures.ok) (continues_place now c.args.reference (Watching c.in-Some.one c.in-Some-other_not_false.other) _ (ap is_kept c.requires.waits) refl (λ e. (cc)))
+    subst (Continues now) (sym c.in_ok-watch.ensures.ok.2) (continues_place now c.args.reference (Watching c.in-Some.one c.in-Some-other_not_false.other c.in_ok-watch.ensures.ok.0) _ (ap is_kept c.requires.waits) refl (λ e. (cc)))
 
 pub returns-in-Some-other_not_false-clause-fits : goal.returns-in-Some-other_not_false-clause-fits
 returns-in-Some-other_not_false-clause-fits c =
@@ -117,9 +117,9 @@ returns-in-Some-other_not_false-clause-fits c =
     let other = c.in-Some-other_not_false.other in
     let a = not_false_value (clause_at slots) now.trail one c.requires.fits.reasons (subst (λ T. value_in T one ≢ Some false) trail c.in-Some.ensures.1) in
     let b = not_false_value (clause_at slots) now.trail other c.requires.fits.reasons (subst (λ T. value_in T other ≢ Some false) trail c.in-Some-other_not_false.ensures.2) in
-    subst (λ e. Fits e slots) (sym c.in_ok-watch.ensures.ok)
-    (fits_watch now slots r lits one other inv c.requires.fits c.requires.waits live (λ e. c.in-Some-other_not_false.ensures.1 (sym e))
-    (open_watch now lits one c.in-Some.ensures.0 a) (open_watch now lits other c.in-Some-other_not_false.ensures.0 b))
+    subst (λ e. Fits e slots) (sym c.in_ok-watch.ensures.ok.2)
+    (fits_watch now slots r lits one other c.in_ok-watch.ensures.ok.0 inv c.requires.fits c.requires.waits live (λ e. c.in-Some-other_not_false.ensures.1 (sym e))
+    (open_watch now lits one c.in-Some.ensures.0 a) (open_watch now lits other c.in-Some-other_not_false.ensures.0 b) c.in_ok-watch.ensures.ok.1)
 
 pub settle-requires-clause-fits : goal.settle-requires-clause-fits
 settle-requires-clause-fits c =

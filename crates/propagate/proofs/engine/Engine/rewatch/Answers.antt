@@ -13,7 +13,7 @@ invariant_of-self-2 c =
     let variables = ap (λ (x : EngineState). x.variables) c.self.view_is in
     let lt : r < length i.table = kept_within i.table r (ap (λ (x : EngineState). is_attached x r) c.self.view_is ∙ ap is_kept c.requires.watching.2) in
     let long : length c.push.new.self ≡ length i.pool = ap length c.in_ok-push.ensures.ok ∙ length-set _ _ _ in
-    rw c.rewatch.ensures (engine_set e r (Watching c.args.lit c.args.other) c.push.new.self i.waiting.items c.self.invariant long lt
+    rw c.rewatch.ensures (engine_set e r (Watching c.args.lit c.args.other _) c.push.new.self i.waiting.items c.self.invariant long lt
     (λ one other at.
     let a : one ≡ c.args.lit = cc in
     let b : other ≡ c.args.other = cc in

@@ -56,7 +56,7 @@ watch-requires-clause-other c =
 pub returns-in-Some-clause-continues : goal.returns-in-Some-clause-continues
 returns-in-Some-clause-continues c =
     let now = c.args.self.now in
-    subst (Continues now) (sym c.in_ok-watch.ensures.ok) (continues_place now c.args.reference (Watching c.args.one c.in-Some.other) _ (ap is_kept c.requires.waits) refl (λ e. (cc)))
+    subst (Continues now) (sym c.in_ok-watch.ensures.ok.2) (continues_place now c.args.reference (Watching c.args.one c.in-Some.other c.in_ok-watch.ensures.ok.0) _ (ap is_kept c.requires.waits) refl (λ e. (cc)))
 
 pub returns-in-Some-clause-fits : goal.returns-in-Some-clause-fits
 returns-in-Some-clause-fits c =
@@ -74,9 +74,9 @@ returns-in-Some-clause-fits c =
     let trail = ap (λ (x : EngineState). x.trail) c.self.view_is in
     let at : level_in now.trail c.in-Some.other.variable ≡ Some (depth_of now.trail) =
     ap (λ T. level_in T c.in-Some.other.variable) (sym trail) ∙ c.in-Some.ensures.2 ∙ ap Some (c.depth-depth.ensures ∙ ap depth_of trail) in
-    subst (λ e. Fits e slots) (sym c.in_ok-watch.ensures.ok)
-    (fits_watch now slots r lits c.args.one c.in-Some.other inv c.requires.fits c.requires.waits live (λ e. c.in-Some.ensures.1 (sym e))
-    (true_watch now slots lits c.args.one c.requires.fits m c.requires.is_true) (level_watch now lits c.args.one c.in-Some.other m c.requires.is_true c.in-Some.ensures.0 at))
+    subst (λ e. Fits e slots) (sym c.in_ok-watch.ensures.ok.2)
+    (fits_watch now slots r lits c.args.one c.in-Some.other c.in_ok-watch.ensures.ok.0 inv c.requires.fits c.requires.waits live (λ e. c.in-Some.ensures.1 (sym e))
+    (true_watch now slots lits c.args.one c.requires.fits m c.requires.is_true) (level_watch now lits c.args.one c.in-Some.other m c.requires.is_true c.in-Some.ensures.0 at) c.in_ok-watch.ensures.ok.1)
 
 pub returns-then-depth-eq0-clause-continues : goal.returns-then-depth-eq0-clause-continues
 returns-then-depth-eq0-clause-continues c =

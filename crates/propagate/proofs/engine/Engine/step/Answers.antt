@@ -90,7 +90,7 @@ returns-in-Ok-clause-continues c =
     let now = c.args.self.now in
     let r = c.get-entry.result.reference in
     let was : is_attached now r ≡ true = kept_by (place_in now.watches.table r) c.args.falsified c.in-Watch.other c.in-Watch.ensures.0 in
-    subst (Continues now) (sym c.in-Ok.ensures.ok) (continues_place now r (Watching c.in-Watch.lit c.in-Watch.other) _ was refl (λ e. (cc)))
+    subst (Continues now) (sym c.in-Ok.ensures.ok) (continues_place now r (Watching c.in-Watch.lit c.in-Watch.other _) _ was refl (λ e. (cc)))
 
 pub returns-in-Ok-clause-len : goal.returns-in-Ok-clause-len
 returns-in-Ok-clause-len c =

@@ -1,18 +1,31 @@
-use Rattle.std.proofs.Common.{◌∙◌, ap, set, arith}
-use Rattle.propagate.specs.declared.table.Place.TheVariants.{Watching}
-use Rattle.propagate.specs.Watches.{place_in}
-use Rattle.propagate.proofs.Zipped.{watching_within, places_set_pair}
+use Rattle.std.proofs.Common.{◌≡◌, get_or, ◌∙◌, ap, arith}
+use Rattle.propagate.specs.Watches.{place_in, rest_in}
+use Rattle.propagate.specs.Steps.{rest_after}
+use Rattle.propagate.specs.Zipped.{places}
+use Rattle.propagate.proofs.Zipped.{watching_within, watching_rest, places_set_pair}
 use Rattle.propagate.proofs.table.Table.rewatch.Goals as goal
+
+pub index-requires : goal.index-requires
+index-requires c =
+    let i = c.self.inside in
+    let watching = rw (← c.self.view_is) at c.requires.2 in
+    omega (arith, c.index-at.ensures, (watching_within i.kinds.items i.pairs.items c.args.reference c.requires.0 c.requires.1 watching).1, i.pairs.ok.0)
 
 pub index_mut-requires : goal.index_mut-requires
 index_mut-requires c =
     let i = c.self.inside in
-    let at = ap (λ t. place_in t c.args.reference) c.self.view_is ∙ c.requires.2 in
-    omega (arith, c.index.ensures, (watching_within i.kinds.items i.pairs.items c.args.reference c.requires.0 c.requires.1 at).1, i.pairs.ok.0)
+    let watching = rw (← c.self.view_is) at c.requires.2 in
+    omega (arith, c.index-at.ensures, (watching_within i.kinds.items i.pairs.items c.args.reference c.requires.0 c.requires.1 watching).1, i.pairs.ok.0)
 
 pub returns : goal.returns
 returns c =
     let i = c.self.inside in
-    let at = ap (λ t. place_in t c.args.reference) c.self.view_is ∙ c.requires.2 in
-    rw c.index.ensures (places_set_pair i.kinds.items i.pairs.items c.args.reference (record { one = c.args.one; other = c.args.other }) c.requires.0 c.requires.1 at
-    ∙ ap (λ t. set t c.args.reference (Watching c.args.one c.args.other)) c.self.view_is)
+    let r = c.args.reference in
+    let p = c.index.result.now in
+    let watching = rw (← c.self.view_is) at c.requires.2 in
+    let at : p ≡ get_or i.pairs.items r p = c.index.ensures ∙ ap (λ k. get_or i.pairs.items k p) c.index-at.ensures in
+    let rest : c.after-rest.result ≡ rest_after c.args.falsified (rest_in (place_in (places i.kinds.items i.pairs.items) r)) =
+    c.after-rest.ensures ∙ ap (rest_after c.args.falsified) (watching_rest i.kinds.items i.pairs.items r p c.requires.0 c.requires.1 at watching) in
+    rw (c.index-at.ensures, rest, ← c.self.view_is)
+    (places_set_pair i.kinds.items i.pairs.items r (record { one = c.args.one; other = c.args.other; rest = rest_after c.args.falsified (rest_in (place_in (places i.kinds.items i.pairs.items) r)) })
+    c.requires.0 c.requires.1 watching)

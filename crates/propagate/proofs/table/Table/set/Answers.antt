@@ -42,5 +42,5 @@ returns-in-Watching c =
     let i = c.self.inside in
     let one = c.in-Watching.one in
     let other = c.in-Watching.other in
-    places_set i.kinds.items i.pairs.items c.args.reference Watching (record { one = one; other = other })
-    ∙ ap (λ t. set t c.args.reference (WatchingPlace one other)) c.self.view_is ∙ ap (set c.args.self.now c.args.reference) (sym c.in-Watching.is)
+    places_set i.kinds.items i.pairs.items c.args.reference Watching (record { one = one; other = other; rest = c.in-Watching.rest })
+    ∙ ap (λ t. set t c.args.reference (WatchingPlace one other c.in-Watching.rest)) c.self.view_is ∙ ap (set c.args.self.now c.args.reference) (sym c.in-Watching.is)
