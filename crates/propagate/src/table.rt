@@ -28,7 +28,7 @@ pub(crate) enum Rest {
     Nothing,
     /// This one alone.
     One(Lit),
-    /// More than one, or one or none.
+    /// More than one; no more is said of them.
     Many,
 }
 
@@ -62,7 +62,7 @@ pub(crate) struct Pair {
     pub(crate) rest: Rest,
 }
 
-/// A place for each reference. The literals stand apart, eight bytes a clause, since propagation reads nothing else.
+/// A place for each reference. The literals stand apart, sixteen bytes a clause, since propagation reads nothing else.
 #[derive(Drop)]
 pub(crate) struct Table {
     kinds: Vec<Kind>,
