@@ -28,7 +28,7 @@ pub(crate) enum Rest {
     Nothing,
     /// This one alone.
     One(Lit),
-    /// More than one; no more is said of them.
+    /// They are not kept here, since there may be more than one.
     Many,
 }
 
