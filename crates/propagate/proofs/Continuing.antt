@@ -12,7 +12,7 @@ use Rattle.propagate.specs.Steps.{Continues, with_trail}
 use Rattle.propagate.proofs.Trails.{made}
 use Rattle.propagate.proofs.Places.{with_watches, place_set_other, place_set_same}
 use Rattle.propagate.proofs.Fitting.{with_progress}
-use Rattle.propagate.proofs.Stepping.{all_join}
+use Rattle.propagate.proofs.Facts.{all_join}
 use Rattle.propagate.proofs.Attaching.{kept_within}
 
 pub continues_same : (e : EngineState) → Continues e e

@@ -9,6 +9,7 @@ use Rattle.propagate.specs.Trail.{Assigned, HasReasons, IsJustified}
 use Rattle.propagate.specs.Watches.{is_attached}
 use Rattle.propagate.specs.Rows.{row_at}
 use Rattle.propagate.specs.Fits.{FitsIsLocal, HasBlocker}
+use Rattle.propagate.proofs.Facts.{all_weaker, some_weaker}
 
 pub justified_at : (at at' : Clauses) (A : List Literal) (l : Literal) (reason : Option ℕ) → IfSome reason (λ r. at' r ≡ at r)
     → IsJustified at A l reason → IsJustified at' A l reason
@@ -21,26 +22,18 @@ reasons_at at at' A [] same h = h
 reasons_at at at' A (a ∷ trail) same h =
     (justified_at at at' A a.literal a.reason same.0 h.0, reasons_at at at' (a.literal ∷ A) trail same.1 h.1)
 
-some_fact : (P Q : ℕ → Type 0) (o : Option ℕ) → ((r : ℕ) → P r → Q r) → IfSome o P → IfSome o Q
-some_fact P Q None f h = h
-some_fact P Q (Some r) f h = f r h
-
-all_facts : {X : Type 0} (P Q : X → Type 0) (xs : List X) → ((x : X) → P x → Q x) → AllByRecursion P xs → AllByRecursion Q xs
-all_facts P Q [] f h = h
-all_facts P Q (x ∷ xs) f h = (f x h.0, all_facts P Q xs f h.1)
-
 pub fits_local : FitsIsLocal
 fits_local e old new fits same = record {
   attached = λ r h. let found = fits.attached r h in (found.0, same r h ∙ found.1, found.2);
   reasons = reasons_at (clause_at old) (clause_at new) [] e.trail
-      (all_facts (λ a. IfSome a.reason (λ r. is_attached e r ≡ true)) (λ a. IfSome a.reason (λ r. clause_at new r ≡ clause_at old r)) e.trail
-      (λ a h. some_fact (λ r. is_attached e r ≡ true) (λ r. clause_at new r ≡ clause_at old r) a.reason same h)
+      (all_weaker (λ a. IfSome a.reason (λ r. is_attached e r ≡ true)) (λ a. IfSome a.reason (λ r. clause_at new r ≡ clause_at old r)) e.trail
+      (λ a h. some_weaker (λ r. is_attached e r ≡ true) (λ r. clause_at new r ≡ clause_at old r) a.reason same h)
       (recursion_from_All (λ a. IfSome a.reason (λ r. is_attached e r ≡ true)) e.trail fits.reasons_attached))
       fits.reasons;
   reasons_attached = fits.reasons_attached;
   small = fits.small;
   rows = fits.rows;
   waiting = fits.waiting;
-  blockers = λ i. all_facts (HasBlocker e old) (HasBlocker e new) (row_at e.watches.rows i)
+  blockers = λ i. all_weaker (HasBlocker e old) (HasBlocker e new) (row_at e.watches.rows i)
       (λ w h. (h.0, h.1, same w.reference h.1 ∙ h.2, h.3)) (fits.blockers i);
 }

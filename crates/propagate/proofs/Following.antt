@@ -16,16 +16,13 @@ use Rattle.propagate.specs.Watches.{EngineState, is_attached, place_in}
 use Rattle.propagate.specs.Fits.{Fits, FitsPlace, FollowByUnits, GrowsByUnits}
 use Rattle.propagate.specs.Steps.{Continues}
 use Rattle.propagate.proofs.Reasons.{same_swap}
+use Rattle.propagate.proofs.Facts.{all_right}
 
 reasons_back : (at : Clauses) (A : List Literal) (T U : List Assigned) → HasReasons at A (T ++ U) → (B : List Literal) × SameMembers B (literals_of T ++ A) × HasReasons at B U
 reasons_back at A [] U h = (A, (λ l. refl), h)
 reasons_back at A (a ∷ T) U h =
     let w = reasons_back at (a.literal ∷ A) T U h.1 in
     (w.0, (λ l. w.1 l ∙ sym (same_swap A (literals_of T) a.literal l)), w.2)
-
-all_back : {X : Type 0} (P : X → Type 0) (xs ys : List X) → AllByRecursion P (xs ++ ys) → AllByRecursion P ys
-all_back P [] ys h = h
-all_back P (x ∷ xs) ys h = all_back P xs ys h.1
 
 follow_one : (slots : Slots) (e : EngineState) (A B : List Literal) (a : Assigned) (o : Option ℕ) → a.reason ≡ o → SameMembers B A → IsJustified (clause_at slots) B a.literal o
     → IfSome o (λ r. is_attached e r ≡ true) → is_none o ≡ false → FollowByUnits slots e A (a ∷ [])
@@ -43,7 +40,7 @@ follows slots old new fits g =
     let reasons = subst (HasReasons (clause_at slots) []) g.grown fits.reasons in
     let w = reasons_back (clause_at slots) [] old.trail g.more reasons in
     let attached = recursion_from_All (λ (a : Assigned). IfSome a.reason (λ r. is_attached new r ≡ true)) new.trail fits.reasons_attached in
-    let attached' = all_back (λ (a : Assigned). IfSome a.reason (λ r. is_attached new r ≡ true)) old.trail g.more (subst (AllByRecursion (λ (a : Assigned). IfSome a.reason (λ r. is_attached new r ≡ true))) g.grown attached) in
+    let attached' = all_right (λ (a : Assigned). IfSome a.reason (λ r. is_attached new r ≡ true)) old.trail g.more (subst (AllByRecursion (λ (a : Assigned). IfSome a.reason (λ r. is_attached new r ≡ true))) g.grown attached) in
     (g.more, g.grown, follow_on slots new (literals_of old.trail) w.0 g.more (subst (SameMembers w.0) (append-nil (literals_of old.trail)) w.1) w.2 attached' g.forced)
 
 -- an engine that failed

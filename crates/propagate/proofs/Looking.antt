@@ -15,6 +15,7 @@ use Rattle.propagate.specs.Fits.{IsWithin}
 use Rattle.propagate.specs.Steps.{IsWatchedBy}
 use Rattle.propagate.proofs.Trails.{open_at}
 use Rattle.propagate.proofs.Reasons.{no_opposites}
+use Rattle.propagate.proofs.Facts.{all_weaker}
 
 pub within_variable : (v : ℕ) (c : List Literal) (l : Literal) → IsWithin v c → contains_literal l c ≡ true → IsVariable v l
 within_variable v [] l h e = absurd (false≢true e)
@@ -59,10 +60,6 @@ not_false_value at T l h ne = false_from_ne_true (contains_literal (negation l) 
   | inr is ↦ ne (value_false (contains_literal l (literals_of T)) (contains_literal (negation l) (literals_of T)) is e)
 ])
 
-all_map : {X : Type 0} (P Q : X → Type 0) (xs : List X) → ((x : X) → P x → Q x) → AllByRecursion P xs → AllByRecursion Q xs
-all_map P Q [] f h = tt
-all_map P Q (x ∷ xs) f h = (f x h.0, all_map P Q xs f h.1)
-
 -- all but one are false
 pub unit_left : (T : List Assigned) (c : List Literal) (o : Literal) → contains_literal o c ≡ true → value_in T o ≡ None
     → AllByRecursion (λ l. (l ≡ o) ⊎ (contains_literal (negation l) (literals_of T) ≡ true)) c → IsUnit c (literals_of T) o
@@ -73,19 +70,19 @@ unit_left T c o member e all =
 pub false_left : (T : List Assigned) (c : List Literal) (o : Literal) → value_in T o ≡ Some false
     → AllByRecursion (λ l. (l ≡ o) ⊎ (contains_literal (negation l) (literals_of T) ≡ true)) c → IsFalseUnder c (literals_of T)
 false_left T c o e all =
-    all_map (λ l. (l ≡ o) ⊎ (contains_literal (negation l) (literals_of T) ≡ true)) (λ l. contains_literal (negation l) (literals_of T) ≡ true) c
+    all_weaker (λ l. (l ≡ o) ⊎ (contains_literal (negation l) (literals_of T) ≡ true)) (λ l. contains_literal (negation l) (literals_of T) ≡ true) c
     (λ l h. elim h [ inl s ↦ subst (λ x. contains_literal (negation x) (literals_of T) ≡ true) (sym s) (false_value T o e) | inr f ↦ f ]) all
 
 pub one_left : (T : List Assigned) (c : List Literal) (o : Literal) → All (λ l. (l ≡ o) ⊎ (value_in T l ≡ Some false)) c
     → AllByRecursion (λ l. (l ≡ o) ⊎ (contains_literal (negation l) (literals_of T) ≡ true)) c
 one_left T c o all =
-    all_map (λ l. (l ≡ o) ⊎ (value_in T l ≡ Some false)) (λ l. (l ≡ o) ⊎ (contains_literal (negation l) (literals_of T) ≡ true)) c
+    all_weaker (λ l. (l ≡ o) ⊎ (value_in T l ≡ Some false)) (λ l. (l ≡ o) ⊎ (contains_literal (negation l) (literals_of T) ≡ true)) c
     (λ l h. elim h [ inl s ↦ inl s | inr f ↦ inr (false_value T l f) ])
     (recursion_from_All (λ l. (l ≡ o) ⊎ (value_in T l ≡ Some false)) c all)
 
 pub all_false_from : (T : List Assigned) (c : List Literal) → All (λ l. value_in T l ≡ Some false) c → IsFalseUnder c (literals_of T)
 all_false_from T c all =
-    all_map (λ l. value_in T l ≡ Some false) (λ l. contains_literal (negation l) (literals_of T) ≡ true) c (λ l f. false_value T l f)
+    all_weaker (λ l. value_in T l ≡ Some false) (λ l. contains_literal (negation l) (literals_of T) ≡ true) c (λ l f. false_value T l f)
     (recursion_from_All (λ l. value_in T l ≡ Some false) c all)
 
 -- the other watch is one

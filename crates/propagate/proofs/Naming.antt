@@ -1,5 +1,5 @@
 -- A trail, rows and reasons under new names.
-use Rattle.std.proofs.Common.{◌≡◌, ℕ, zero, suc, ◌+◌, ◌≤◌, Bool, true, false, List, [], ◌∷◌, get_or, map, Option, Some, None, cond, refl, sym, ◌∙◌, ap}
+use Rattle.std.proofs.Common.{◌≡◌, ℕ, ◌+◌, ◌≤◌, Bool, true, false, List, [], ◌∷◌, map, Option, Some, None, cond, refl, sym, ◌∙◌, ap}
 use Rattle.std.specs.Prelude.{is_none, IfSome, nat_le, if◌then◌else◌, ◌==◌}
 use Rattle.std.specs.List.{AllByRecursion}
 use Rattle.std.proofs.lemmas.List.{length-map}
@@ -11,11 +11,7 @@ use Rattle.propagate.specs.Fits.{renamed_reason, renamed_trail}
 use Rattle.propagate.specs.Renames.{named_reason, named_trail}
 use Rattle.propagate.proofs.Trails.{depth-cons}
 use Rattle.propagate.proofs.Moving.{named_listed}
-
-pub get_or-mapped : {X Y : Type 0} (f : X → Y) (xs : List X) (i : ℕ) (d : X) → get_or (map f xs) i (f d) ≡ f (get_or xs i d)
-get_or-mapped f [] i d = refl
-get_or-mapped f (x ∷ xs) zero d = refl
-get_or-mapped f (x ∷ xs) (suc i) d = get_or-mapped f xs i d
+use Rattle.std.proofs.Math.ListN.{get_or-map}
 
 abbrev pub named_assigned : Renaming → Assigned → Assigned
 named_assigned ms a = record { literal = a.literal; reason = named_reason ms a.reason }
@@ -65,7 +61,7 @@ depth_named ms (a ∷ T) =
 pub assigned_named : (ms : Renaming) (R : List (Option ℕ)) (A : List Literal) → assigned_by (map (named_reason ms) R) A ≡ named_trail ms (assigned_by R A)
 assigned_named ms R [] = refl
 assigned_named ms R (l ∷ A) =
-    ap (λ (r : Option ℕ). record { literal = l; reason = r } ∷ assigned_by (map (named_reason ms) R) A) (get_or-mapped (named_reason ms) R l.variable None)
+    ap (λ (r : Option ℕ). record { literal = l; reason = r } ∷ assigned_by (map (named_reason ms) R) A) (get_or-map (named_reason ms) R l.variable None)
     ∙ ap (λ T. record { literal = l; reason = named_reason ms (reason_at R l.variable) } ∷ T) (assigned_named ms R A)
 
 pub trail_named : (ms : Renaming) (n : ℕ) (A : List Literal) (vs : List (Option Bool)) (ls R : List (Option ℕ)) (d room room' : ℕ) → n ≤ room' → IsTrail n A vs ls R d room

@@ -15,6 +15,7 @@ use Rattle.propagate.specs.Rows.{row_at}
 use Rattle.propagate.specs.Trail.{Assigned}
 use Rattle.propagate.specs.Watches.{EngineState, is_attached, is_kept, place_in, watches_at, one_at, count_in}
 use Rattle.propagate.specs.Fits.{Fits, FitsPlace, IsWithin, IsWatch, HasBlocker}
+use Rattle.propagate.proofs.Facts.{some_weaker}
 
 abbrev pub with_watches : EngineState → List Place → List (List Entry) → List ℕ → EngineState
 with_watches e table rows waiting = record e { watches = record e.watches { table = table; rows = rows; waiting = waiting } }
@@ -36,10 +37,6 @@ reason_kept : (e : EngineState) (t : List Place) (R : List (List Entry)) (w : Li
     → (o : Option ℕ) → IfSome o (λ q. is_attached e q ≡ true) → (o ≡ Some r → ⊥) → IfSome o (λ q. is_attached (with_watches e t R w) q ≡ true)
 reason_kept e t R w r other None h n = tt
 reason_kept e t R w r other (Some q) h n = ap is_kept (other q (λ same. n (ap Some same))) ∙ h
-
-some_weaker : (P Q : ℕ → Type 0) (o : Option ℕ) → ((r : ℕ) → P r → Q r) → IfSome o P → IfSome o Q
-some_weaker P Q None f h = h
-some_weaker P Q (Some r) f h = f r h
 
 pub watch_same : (e : EngineState) (t : List Place) (R : List (List Entry)) (w : List ℕ) (c : List Literal) (l : Literal) → IsWatch e c l → IsWatch (with_watches e t R w) c l
 watch_same e t R w c l h = record { member = h.member; covered = h.covered; stays = h.stays }

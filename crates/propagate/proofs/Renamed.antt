@@ -19,7 +19,9 @@ use Rattle.propagate.specs.Fits.{FitsPlace, FitsMoved, MovesAttached, HasBlocker
 use Rattle.propagate.specs.Renames.{IsMoved, named, named_entry, named_rows, named_reason, named_trail}
 use Rattle.propagate.proofs.Places.{count-cons, one-same, one-other}
 use Rattle.propagate.proofs.Moving.{moved_to, moved_from, same_origin, same_clause, named_listed}
-use Rattle.propagate.proofs.Naming.{get_or-mapped, literals_named, kept_named, named_assigned}
+use Rattle.propagate.proofs.Naming.{literals_named, kept_named, named_assigned}
+use Rattle.std.proofs.Math.ListN.{get_or-map}
+use Rattle.propagate.proofs.Facts.{all_weaker, some_weaker}
 
 -- the engine with this table, under new names
 abbrev pub engine_named : EngineState → Renaming → List Place → EngineState
@@ -50,20 +52,12 @@ reasons_named before after ms A [] same h = h
 reasons_named before after ms A (a ∷ T) same h =
     (justified_named before after ms A a.literal a.reason same.0 h.0, reasons_named before after ms (a.literal ∷ A) T same.1 h.1)
 
-some_fact : (P Q : ℕ → Type 0) (o : Option ℕ) → ((r : ℕ) → P r → Q r) → IfSome o P → IfSome o Q
-some_fact P Q None f h = h
-some_fact P Q (Some r) f h = f r h
-
-all_facts : {X : Type 0} (P Q : X → Type 0) (xs : List X) → ((x : X) → P x → Q x) → AllByRecursion P xs → AllByRecursion Q xs
-all_facts P Q [] f h = h
-all_facts P Q (x ∷ xs) f h = (f x h.0, all_facts P Q xs f h.1)
-
 some_named : (P Q : ℕ → Type 0) (ms : Renaming) (o : Option ℕ) → ((r : ℕ) → P r → Q (named ms r)) → IfSome o P → IfSome (named_reason ms o) Q
 some_named P Q ms None f h = h
 some_named P Q ms (Some r) f h = f r h
 
 contains_named : (ms : Renaming) (rs : List ℕ) (r : ℕ) → Contains rs r → Contains (map (named ms) rs) (named ms r)
-contains_named ms rs r h = (h.0, omega (arith, length-map rs (named ms), h.1), get_or-mapped (named ms) rs h.0 r ∙ ap (named ms) h.2)
+contains_named ms rs r h = (h.0, omega (arith, length-map rs (named ms), h.1), get_or-map (named ms) rs h.0 r ∙ ap (named ms) h.2)
 
 module _ (e : EngineState) (ms : Renaming) (table : List Place)
     (old_rise : IsStrictlyIncreasing (map (λ m. m.0) ms)) (new_rise : IsStrictlyIncreasing (map (λ m. m.1) ms))
@@ -130,7 +124,7 @@ module _ (e : EngineState) (ms : Renaming) (table : List Place)
       count-cons q (named_entry ms w) (map (named_entry ms) row) ∙ omega (arith, rest, one-other (named ms w.reference) q ne)
 
   row_named : (i : ℕ) → row_at (named_rows ms e.watches.rows) i ≡ map (named_entry ms) (row_at e.watches.rows i)
-  row_named i = get_or-mapped (map (named_entry ms)) e.watches.rows i []
+  row_named i = get_or-map (map (named_entry ms)) e.watches.rows i []
 
   blockers_named : (before after : Slots) (row : List Entry) → IsRenaming before after ms → AllByRecursion (HasBlocker e before) row
       → AllByRecursion (HasBlocker (engine_named e ms table) after) (map (named_entry ms) row)
@@ -153,14 +147,14 @@ module _ (e : EngineState) (ms : Renaming) (table : List Place)
           ),
         );
     reasons = reasons_named (clause_at before) (clause_at after) ms [] e.trail
-        (all_facts (λ a. IfSome a.reason (λ r. is_attached e r ≡ true)) (λ a. IfSome a.reason (λ r. clause_at after (named ms r) ≡ clause_at before r)) e.trail
-        (λ a h. some_fact (λ r. is_attached e r ≡ true) (λ r. clause_at after (named ms r) ≡ clause_at before r) a.reason
+        (all_weaker (λ a. IfSome a.reason (λ r. is_attached e r ≡ true)) (λ a. IfSome a.reason (λ r. clause_at after (named ms r) ≡ clause_at before r)) e.trail
+        (λ a h. some_weaker (λ r. is_attached e r ≡ true) (λ r. clause_at after (named ms r) ≡ clause_at before r) a.reason
         (λ r k. same_clause before after ms r (named ms r) n (new_name r k)) h)
         (recursion_from_All (λ a. IfSome a.reason (λ r. is_attached e r ≡ true)) e.trail fits.reasons_attached))
         fits.reasons;
     reasons_attached = All-map (λ a. IfSome a.reason (λ r. is_attached (engine_named e ms table) r ≡ true)) (named_assigned ms) e.trail
         (All-from_recursion (λ a. IfSome (named_reason ms a.reason) (λ r. is_attached (engine_named e ms table) r ≡ true)) e.trail
-        (all_facts (λ a. IfSome a.reason (λ r. is_attached e r ≡ true)) (λ a. IfSome (named_reason ms a.reason) (λ r. is_attached (engine_named e ms table) r ≡ true)) e.trail
+        (all_weaker (λ a. IfSome a.reason (λ r. is_attached e r ≡ true)) (λ a. IfSome (named_reason ms a.reason) (λ r. is_attached (engine_named e ms table) r ≡ true)) e.trail
         (λ a h. some_named (λ r. is_attached e r ≡ true) (λ r. is_attached (engine_named e ms table) r ≡ true) ms a.reason
         (λ r k. ap is_kept (new_place r k) ∙ k) h)
         (recursion_from_All (λ a. IfSome a.reason (λ r. is_attached e r ≡ true)) e.trail fits.reasons_attached)));

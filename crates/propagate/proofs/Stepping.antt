@@ -19,6 +19,7 @@ use Rattle.propagate.specs.Trail.{Assigned, literals_of, kept_to}
 use Rattle.propagate.specs.Watches.{EngineState, IsEngine, IsVariable, is_attached, is_kept, place_in, rest_in, IsWatching, watches_at, one_at, count_in}
 use Rattle.propagate.specs.Fits.{Fits, FitsPlace, IsRest, IsWatch, HasBlocker}
 use Rattle.propagate.specs.Steps.{with_rows, with_trail, closed, entry_of, moved, rest_after, InRow, IsWatched, IsWatchedBy, IsTrueIn, IsTrueEntry, MayBeWatched}
+use Rattle.propagate.proofs.Facts.{all_weaker, all_left, all_right, all_join}
 use Rattle.propagate.proofs.Literals.{index-within, index-same, literal_eq-self}
 use Rattle.propagate.proofs.Trails.{made}
 use Rattle.propagate.proofs.Kept.{contains_take, contains_front, contains_back, kept_prefix, literals-append}
@@ -32,22 +33,6 @@ count-append q A B = sum_by-append (λ (x : Entry). cond (x.reference == q) 1 0)
 
 pub closed_split : (row : List Entry) (write read : ℕ) (x : Entry) → read < length row → x ≡ get_or row read x → closed_row write read row ≡ take write row ++ x ∷ drop (read + 1) row
 closed_split row write read x lt e = ap (λ r. take write row ++ r) (drop_more row read x lt ∙ ap (λ y. y ∷ drop (read + 1) row) (sym e))
-
-all_left : {X : Type 0} (P : X → Type 0) (A B : List X) → AllByRecursion P (A ++ B) → AllByRecursion P A
-all_left P [] B h = tt
-all_left P (x ∷ A) B h = (h.0, all_left P A B h.1)
-
-all_right : {X : Type 0} (P : X → Type 0) (A B : List X) → AllByRecursion P (A ++ B) → AllByRecursion P B
-all_right P [] B h = h
-all_right P (x ∷ A) B h = all_right P A B h.1
-
-pub all_join : {X : Type 0} (P : X → Type 0) (A B : List X) → AllByRecursion P A → AllByRecursion P B → AllByRecursion P (A ++ B)
-all_join P [] B h g = g
-all_join P (x ∷ A) B h g = (h.0, all_join P A B h.1 g)
-
-pub all_weaker : {X : Type 0} (P Q : X → Type 0) (xs : List X) → ((x : X) → P x → Q x) → AllByRecursion P xs → AllByRecursion Q xs
-all_weaker P Q [] f h = tt
-all_weaker P Q (x ∷ xs) f h = (f x h.0, all_weaker P Q xs f h.1)
 
 rest_swapped : (c : List Literal) (one other : Literal) (rest : Rest) → IsRest c one other rest → IsRest c other one rest
 rest_swapped c one other Nothing h = λ l m. elim (h l m) [ inl e ↦ inr e | inr e ↦ inl e ]

@@ -22,7 +22,8 @@ use Rattle.propagate.proofs.Reasons.{no_opposites}
 use Rattle.propagate.proofs.Places.{place_set_other, place_set_same, fits_place, blockers_kept, count-cons, one-same, one-other}
 use Rattle.propagate.proofs.Attaching.{kept_within}
 use Rattle.propagate.proofs.Looking.{within_variable, unit_left, one_left, true_value}
-use Rattle.propagate.proofs.Stepping.{count-append, all_join, open_watch, last_true}
+use Rattle.propagate.proofs.Stepping.{count-append, open_watch, last_true}
+use Rattle.propagate.proofs.Facts.{all_join}
 use Rattle.propagate.proofs.Continuing.{continues_unit, continues_same}
 use Rattle.propagate.proofs.Fitting.{fits_grow}
 use Rattle.propagate.proofs.Trails.{made}
