@@ -6,6 +6,7 @@ use crate::building::{network, network_as};
 use crate::cells::{Cell, Profile};
 use std::alloc::{AllocError, Global};
 use std::test::Fail;
+use wcnf::clause_list::ClauseList;
 use wcnf::types::{Clause, Instance, Lit, Soft};
 
 fn positive(variable: u32) -> Lit
@@ -41,7 +42,7 @@ fn soft(alloc: Global, weight: u64, lits: &[Lit]) -> Result<Soft, AllocError>
 fn three_and_one(alloc: Global) -> Result<Instance, AllocError> {
     let first = soft(alloc, 3, &[positive(1)])?;
     let second = soft(alloc, 1, &[positive(1)])?;
-    Ok(Instance::new(1, Vec::new(alloc), vec![in alloc; first, second]?))
+    Ok(Instance::new(1, ClauseList::new(alloc), vec![in alloc; first, second]?))
 }
 
 #[test]
@@ -75,7 +76,11 @@ fn adds_three_at_once(rt: HostRuntime) -> Result<(), Fail> {
     let first = soft(alloc, 1, &[positive(1)])?;
     let second = soft(alloc, 1, &[positive(2)])?;
     let third = soft(alloc, 1, &[positive(3)])?;
-    let instance = Instance::new(3, Vec::new(alloc), vec![in alloc; first, second, third]?);
+    let instance = Instance::new(
+        3,
+        ClauseList::new(alloc),
+        vec![in alloc; first, second, third]?,
+    );
     let adders = network(&instance)?;
     let cells = [cell(positive(4), positive(5), Some(positive(6)), 7)];
     let outputs = [Some(positive(7)), Some(positive(8))];
@@ -91,7 +96,11 @@ fn leaves_columns_empty(rt: HostRuntime) -> Result<(), Fail> {
     let first = soft(alloc, 4, &[positive(2)])?;
     let second = soft(alloc, 8, &[positive(1), positive(2)])?;
     let third = soft(alloc, 4, &[])?;
-    let instance = Instance::new(2, Vec::new(alloc), vec![in alloc; first, second, third]?);
+    let instance = Instance::new(
+        2,
+        ClauseList::new(alloc),
+        vec![in alloc; first, second, third]?,
+    );
     let adders = network_as(&instance, Profile::Two)?;
     let cells = [
         cell(positive(2).negation(), positive(4), None, 5),

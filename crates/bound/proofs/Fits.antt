@@ -164,6 +164,22 @@ pub comparator_formula : (v : ℕ) (outputs : List (Option Literal)) (k : ℕ) �
 comparator_formula v outputs zero h = (record { no_repeat = refl; no_opposites = refl; from_one = λ i d l. absurd (omega arith); small = omega arith }, tt)
 comparator_formula v outputs (suc limit) h = kept_formula v (reverse (rising_clauses outputs limit 0)) (all_reverse (IsPlain v) (rising_clauses outputs limit 0) (rising_plain v outputs limit 0 h))
 
+abbrev IsOnce : List Literal → Type 0
+IsOnce c = has_repeat c ≡ false
+
+once_kept : (cs : List (List Literal)) → AllByRecursion IsOnce (kept cs)
+once_kept [] = tt
+once_kept (c ∷ cs) =
+    elim (has_opposites (distinct c)) as (λ b. AllByRecursion IsOnce (if not b then distinct c ∷ kept cs else kept cs)) [
+      | true ↦ once_kept cs
+      | false ↦ (repeat-distinct c, once_kept cs)
+    ]
+
+-- the comparator's clauses, whatever the outputs are
+pub comparator_once : (outputs : List (Option Literal)) (k : ℕ) → All (λ c. has_repeat c ≡ false) (comparator_of outputs k)
+comparator_once outputs zero = All-from_recursion IsOnce ([] ∷ []) (refl, tt)
+comparator_once outputs (suc limit) = All-from_recursion IsOnce (kept (reverse (rising_clauses outputs limit 0))) (once_kept (reverse (rising_clauses outputs limit 0)))
+
 plain_of : (n v : ℕ) (c : List Literal) → n ≤ v → IsClauseWithin n c → IsPlain v c
 plain_of n v c le h = within_plain n v c le (recursion_from_All (λ l. 0 < l.variable) c h.1) h.2
 

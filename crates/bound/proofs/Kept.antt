@@ -1,6 +1,8 @@
 -- Clauses as they are kept, one after another.
 use Rattle.std.proofs.Common.{◌≡◌, ℕ, ◌+◌, ◌*◌, ◌<◌, ◌≤◌, Bool, true, false, not, ◌&&◌, ◌||◌, List, [], ◌∷◌, ◌++◌, length, take, get_or, if◌then◌else◌, All, refl, sym, ◌∙◌, ap, subst, arith, append_assoc, append-nil}
+use Rattle.std.specs.Prelude.{slice_get, Some}
 use Rattle.std.specs.List.{AllByRecursion}
+use Rattle.std.proofs.lemmas.Option.{get_or_from_slice_get, slice_get_within}
 use Rattle.std.proofs.lemmas.Bool.{or_parts}
 use Rattle.std.proofs.lemmas.List.{take_more}
 use Rattle.std.proofs.lemmas.List.Elements.{All-from_recursion, recursion_from_All}
@@ -12,6 +14,7 @@ use Rattle.bound.specs.Adding.{Adds}
 use Rattle.bound.specs.Marks.{HasPlace}
 use Rattle.bound.proofs.Marking.{same_number}
 use Rattle.bound.proofs.Subsets.{contains-distinct}
+use Rattle.bound.proofs.Fits.{repeat-distinct}
 
 without_absent : (l : Literal) (c : List Literal) → contains_literal l c ≡ false → without_literal l c ≡ c
 without_absent l [] h = refl
@@ -62,6 +65,10 @@ places_each vars rows (l ∷ c) h p g = ((p.0, omega arith), places_each vars ro
 pub places_within : (vars rows : ℕ) (c : List Literal) → 2 * vars ≤ rows → IsClauseWithin vars c → All (HasPlace rows) c
 places_within vars rows c h w = All-from_recursion (HasPlace rows) c (places_each vars rows c h (recursion_from_All (λ l. 0 < l.variable) c w.1) w.2)
 
+-- repeats may be dropped before
+pub kept-distinct : (c once : List Literal) → once ≡ distinct c → kept (once ∷ []) ≡ kept (c ∷ [])
+kept-distinct c once e = ap (λ x. if not (has_opposites x) then x ∷ [] else []) (distinct_same once (rw e (repeat-distinct c)) ∙ e)
+
 -- a clause that has an opposite pair adds nothing, and another one itself
 pub kept_none : (old : List (List Literal)) (c : List Literal) → has_repeat c ≡ false → has_opposites c ≡ true → old ≡ old ++ kept (c ∷ [])
 kept_none old c h e = sym (append-nil old) ∙ ap (λ x. old ++ x) (sym (kept_one c true h (sym e)))
@@ -69,8 +76,14 @@ kept_none old c h e = sym (append-nil old) ∙ ap (λ x. old ++ x) (sym (kept_on
 pub kept_itself : (old : List (List Literal)) (c : List Literal) → has_repeat c ≡ false → has_opposites c ≡ false → old ++ c ∷ [] ≡ old ++ kept (c ∷ [])
 kept_itself old c h e = ap (λ x. old ++ x) (sym (kept_one c false h (sym e)))
 
-pub places_of : (vars rows : ℕ) (cs : List (List Literal)) (i : ℕ) (c : List Literal) → 2 * vars ≤ rows → All (IsClauseWithin vars) cs → i < length cs → c ≡ get_or cs i c → All (HasPlace rows) c
-places_of vars rows cs i c h all lt is = places_within vars rows c h (subst (IsClauseWithin vars) (sym is) (all i c lt))
+-- what is known of all clauses is known of the one at a place
+pub clause_of : (P : List Literal → Type 0) (cs : List (List Literal)) (i : ℕ) (c : List Literal) → All P cs → slice_get cs i ≡ Some c → P c
+clause_of P cs i c all e = subst P (get_or_from_slice_get cs i c c e) (all i c (slice_get_within cs i c e))
+
+-- one more clause of a list is kept
+pub kept_next : (old cs : List (List Literal)) (i : ℕ) (c : List Literal) (now new : List (List Literal)) → slice_get cs i ≡ Some c → now ≡ old ++ kept (take i cs)
+    → new ≡ now ++ kept (c ∷ []) → new ≡ old ++ kept (take (i + 1) cs)
+kept_next old cs i c now new at inv e = kept_more old cs i c now new (slice_get_within cs i c at) (sym (get_or_from_slice_get cs i c c at)) inv e
 
 without-more : (k : Literal) (c : List Literal) (l : Literal) (b : Bool) → literal_eq k l ≡ b → without_literal k (c ++ l ∷ []) ≡ without_literal k c ++ (if b then [] else l ∷ [])
 without-more k [] l b e = ap (λ x. if not x then l ∷ [] else []) e ∙ by b

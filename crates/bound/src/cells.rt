@@ -7,12 +7,13 @@ ghost use Rattle.bound.specs.Adding.{Adds, HasVariables};
 use crate::keeping::keep_short;
 use adder::cells::Cell;
 use std::alloc::AllocError;
-use wcnf::types::{Clause, Lit};
+use wcnf::clause_list::ClauseList;
+use wcnf::types::Lit;
 
 /// Adds the clauses of the cells.
-pub(crate) fn keep_cells(clauses: &mut Vec<Clause>, cells: &[Cell]) -> Result<(), AllocError>
+pub(crate) fn keep_cells(clauses: &mut ClauseList, cells: &[Cell]) -> Result<(), AllocError>
     requires { All HasVariables cells.now }
-    ensures { OnOk result (Adds clauses.old.items clauses.new.items (flat_map cell_clauses cells.now)) }
+    ensures { OnOk result (Adds clauses.old clauses.new (flat_map cell_clauses cells.now)) }
 {
     for cell in cells {
         keep_cell(clauses, *cell)?;
@@ -21,9 +22,9 @@ pub(crate) fn keep_cells(clauses: &mut Vec<Clause>, cells: &[Cell]) -> Result<()
 }
 
 /// Adds the clauses of the cell.
-fn keep_cell(clauses: &mut Vec<Clause>, cell: Cell) -> Result<(), AllocError>
+fn keep_cell(clauses: &mut ClauseList, cell: Cell) -> Result<(), AllocError>
     requires { HasVariables cell }
-    ensures { OnOk result (Adds clauses.old.items clauses.new.items (cell_clauses cell)) }
+    ensures { OnOk result (Adds clauses.old clauses.new (cell_clauses cell)) }
 {
     let sum = Lit::new(cell.sum, false);
     let carry = Lit::new(cell.carry, false);
@@ -36,14 +37,14 @@ fn keep_cell(clauses: &mut Vec<Clause>, cell: Cell) -> Result<(), AllocError>
 /// A full adder of `a`, `b` and `d`: for each choice of the inputs the sum `s`, and for each two of
 /// them the carry `c`.
 fn keep_full(
-    clauses: &mut Vec<Clause>,
+    clauses: &mut ClauseList,
     a: Lit,
     b: Lit,
     d: Lit,
     s: Lit,
     c: Lit,
 ) -> Result<(), AllocError>
-    ensures { OnOk result (Adds clauses.old.items clauses.new.items (full_clauses a b d s c)) }
+    ensures { OnOk result (Adds clauses.old clauses.new (full_clauses a b d s c)) }
 {
     let na = a.negation();
     let nb = b.negation();
@@ -77,8 +78,8 @@ fn keep_full(
 }
 
 /// A half adder of `a` and `b`.
-fn keep_half(clauses: &mut Vec<Clause>, a: Lit, b: Lit, s: Lit, c: Lit) -> Result<(), AllocError>
-    ensures { OnOk result (Adds clauses.old.items clauses.new.items (half_clauses a b s c)) }
+fn keep_half(clauses: &mut ClauseList, a: Lit, b: Lit, s: Lit, c: Lit) -> Result<(), AllocError>
+    ensures { OnOk result (Adds clauses.old clauses.new (half_clauses a b s c)) }
 {
     let na = a.negation();
     let nb = b.negation();
@@ -90,8 +91,8 @@ fn keep_half(clauses: &mut Vec<Clause>, a: Lit, b: Lit, s: Lit, c: Lit) -> Resul
 }
 
 /// Adds clauses that have equally many literals.
-fn keep_rows<const N: usize>(clauses: &mut Vec<Clause>, rows: &[[Lit; N]]) -> Result<(), AllocError>
-    ensures { OnOk result (Adds clauses.old.items clauses.new.items rows.now) }
+fn keep_rows<const N: usize>(clauses: &mut ClauseList, rows: &[[Lit; N]]) -> Result<(), AllocError>
+    ensures { OnOk result (Adds clauses.old clauses.new rows.now) }
 {
     for row in rows {
         keep_short(clauses, row)?;

@@ -1,11 +1,13 @@
 // The comparator: clauses that hold where the number that the outputs of a network spell is below a
 // bound.
-ghost use Rattle.std.specs.Prelude.{◌≡◌, ◌/◌, ◌≤◌, ◌^◌, ◌++◌, reverse, IfOk, OnOk};
+ghost use Rattle.std.specs.Prelude.{◌≡◌, ◌/◌, ◌≤◌, ◌^◌, ◌++◌, false, reverse, All, IfOk, OnOk};
+ghost use Rattle.wcnf.specs.Clause.{has_repeat};
 ghost use Rattle.bound.specs.Bound.{kept, rising_clauses, comparator_of, CoversLarger};
 
 use crate::keeping::keep_short;
 use adder::networks::Network;
 use std::alloc::AllocError;
+use wcnf::clause_list::ClauseList;
 use wcnf::types::{Clause, Lit};
 
 /// The clauses that hold exactly where the outputs of the network spell a number below `k`, a bound
@@ -21,25 +23,35 @@ pub fn comparator(network: &Network, k: u64) -> Result<Vec<Clause>, AllocError>
     ensures clauses { IfOk result (λ cs. cs.items ≡ comparator_of network.now.outputs k) }
     ensures covers { OnOk result (CoversLarger network.now.outputs k) }
 {
-    let mut clauses = Vec::new(network.allocator());
+    let mut clauses = ClauseList::new(network.allocator());
     keep_comparator(&mut clauses, network.outputs(), k)?;
-    Ok(clauses)
+    Ok(owned(&clauses)?)
+}
+
+/// Each clause by itself.
+fn owned(clauses: &ClauseList) -> Result<Vec<Clause>, AllocError>
+    requires { All (λ c. has_repeat c ≡ false) clauses.now }
+    ensures { IfOk result (λ cs. cs.items ≡ clauses.now) }
+{
+    let alloc = clauses.allocator();
+    let mut owned = Vec::new(alloc);
+    for i in 0..clauses.len() {
+        owned.push(Clause::new(Vec::from_slice(alloc, clauses.get(i))?))?;
+    }
+    Ok(owned)
 }
 
 /// Adds the comparator of the outputs.
 pub(crate) fn keep_comparator(
-    clauses: &mut Vec<Clause>,
+    clauses: &mut ClauseList,
     outputs: &[Option<Lit>],
     k: u64,
 ) -> Result<(), AllocError>
-    ensures { OnOk result (clauses.new.items ≡ clauses.old.items ++ comparator_of outputs.now k) }
+    ensures { OnOk result (clauses.new ≡ clauses.old ++ comparator_of outputs.now k) }
 {
     match k.checked_sub(1) {
         Some(limit) => keep_at_most(clauses, outputs, limit),
-        None => {
-            clauses.push(Clause::new(Vec::new(*clauses.allocator())))?;
-            Ok(())
-        }
+        None => clauses.push(&[]),
     }
 }
 
@@ -48,13 +60,13 @@ pub(crate) fn keep_comparator(
 /// column above where the limit has a bit. A clause in which an output is missing is left out: that
 /// output is false.
 fn keep_at_most(
-    clauses: &mut Vec<Clause>,
+    clauses: &mut ClauseList,
     outputs: &[Option<Lit>],
     limit: u64,
 ) -> Result<(), AllocError>
-    ensures { OnOk result (clauses.new.items ≡ clauses.old.items ++ kept (reverse (rising_clauses outputs.now limit 0))) }
+    ensures { OnOk result (clauses.new ≡ clauses.old ++ kept (reverse (rising_clauses outputs.now limit 0))) }
 {
-    let mut clause = Vec::new(*clauses.allocator());
+    let mut clause = Vec::new(clauses.allocator());
     if shifted(limit, outputs.len()) != 0 {
         return Ok(());
     }

@@ -24,8 +24,9 @@ pub fn write_dimacs<W: Write>(formula: &Formula, writer: &mut W) -> Result<(), W
 {
     let mut block = Block::new();
     put_header(&mut block, writer, formula)?;
-    for clause in formula.clauses() {
-        put_clause(&mut block, writer, clause.lits())?;
+    let clauses = formula.clauses();
+    for i in 0..clauses.len() {
+        put_clause(&mut block, writer, clauses.get(i))?;
     }
     block.flush(writer)
 }

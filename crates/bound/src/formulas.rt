@@ -14,7 +14,8 @@ use crate::relaxing::keep_relaxed;
 use adder::building::network_as;
 use adder::cells::Profile;
 use std::alloc::AllocError;
-use wcnf::types::{Clause, Formula, Instance};
+use wcnf::clause_list::ClauseList;
+use wcnf::types::{Formula, Instance};
 
 /// The formula for a cost below `k`, a bound from 0 to 2^62: the hard clauses, each soft clause
 /// with its relaxation variable, the cells of the adder network of what is relaxed, and the
@@ -52,7 +53,7 @@ pub fn formula_as(instance: &Instance, k: u64, profile: Profile) -> Result<Formu
     // The contract of `vars` has the limits of the instance, from which those of the formula
     // follow.
     let _vars = instance.vars();
-    let mut clauses = Vec::new(instance.allocator());
+    let mut clauses = ClauseList::new(instance.allocator());
     let last = keep_given(&mut clauses, instance, profile)?;
     let network = network_as(instance, profile)?;
     keep_cells(&mut clauses, network.cells())?;
@@ -64,11 +65,11 @@ pub fn formula_as(instance: &Instance, k: u64, profile: Profile) -> Result<Formu
 /// Adds the hard clauses and the soft ones with their relaxation variables; answers the last of all
 /// these variables.
 fn keep_given(
-    clauses: &mut Vec<Clause>,
+    clauses: &mut ClauseList,
     instance: &Instance,
     profile: Profile,
 ) -> Result<u32, AllocError>
-    ensures clauses { OnOk result (clauses.new.items ≡ clauses.old.items ++ (kept instance.now.hard ++ kept (relaxed_clauses profile instance.now))) }
+    ensures clauses { OnOk result (clauses.new ≡ clauses.old ++ (kept instance.now.hard ++ kept (relaxed_clauses profile instance.now))) }
     ensures last { IfOk result (λ n. n ≡ relaxed_variables profile instance.now) }
 {
     let most = instance.vars() + instance.soft().len() as u32;

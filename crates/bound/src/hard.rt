@@ -8,7 +8,8 @@ ghost use Rattle.bound.specs.Bound.{hard_cnf, kept};
 use crate::keeping::keep;
 use crate::marks::Marks;
 use std::alloc::AllocError;
-use wcnf::types::{Clause, Formula, Instance};
+use wcnf::clause_list::ClauseList;
+use wcnf::types::{Formula, Instance};
 
 /// The hard clauses as a formula over the instance's variables, in their order, without those that
 /// have a literal beside its negation. The assignments that satisfy it are the instance's
@@ -24,29 +25,26 @@ pub fn hard_formula(instance: &Instance) -> Result<Formula, AllocError>
 {
     let vars = instance.vars();
     let mut marks = Marks::new(instance.allocator(), vars)?;
-    let mut clauses = Vec::new(instance.allocator());
+    let mut clauses = ClauseList::new(instance.allocator());
     keep_hard(&mut clauses, &mut marks, instance)?;
     Ok(Formula::new(vars, clauses))
 }
 
 /// Adds the hard clauses, as a formula keeps them.
 pub(crate) fn keep_hard(
-    clauses: &mut Vec<Clause>,
+    clauses: &mut ClauseList,
     marks: &mut Marks,
     instance: &Instance,
 ) -> Result<(), AllocError>
     requires { 2 * instance.now.variables ≤ marks.old }
-    ensures clauses { OnOk result (clauses.new.items ≡ clauses.old.items ++ kept instance.now.hard) }
+    ensures clauses { OnOk result (clauses.new ≡ clauses.old ++ kept instance.now.hard) }
     ensures marks { marks.new ≡ marks.old }
 {
     // The contract of `vars` has the limits of the instance: its literals have places in the table.
     let _vars = instance.vars();
-    for clause in instance.hard() {
-        keep(
-            clauses,
-            marks,
-            Vec::from_slice(instance.allocator(), clause.lits())?,
-        )?;
+    let hard = instance.hard();
+    for i in 0..hard.len() {
+        keep(clauses, marks, hard.get(i))?;
     }
     Ok(())
 }

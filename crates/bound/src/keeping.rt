@@ -7,26 +7,27 @@ ghost use Rattle.bound.specs.Marks.{HasPlace};
 
 use crate::marks::Marks;
 use std::alloc::{AllocError, Global};
-use wcnf::types::{Clause, Lit};
+use wcnf::clause_list::ClauseList;
+use wcnf::types::Lit;
 
 /// Clauses up to this length are searched for opposites pair by pair, which takes fewer steps than marks do.
 const FEW: usize = 8;
 
 /// Adds the clause of the literals, of which none stands twice, unless some literal stands with its negation.
 pub(crate) fn keep(
-    clauses: &mut Vec<Clause>,
+    clauses: &mut ClauseList,
     marks: &mut Marks,
-    lits: Vec<Lit>,
+    lits: &[Lit],
 ) -> Result<(), AllocError>
-    requires no_repeat { has_repeat lits.items ≡ false }
-    requires places { All (HasPlace marks.old) lits.items }
-    ensures clauses { OnOk result (clauses.new.items ≡ clauses.old.items ++ kept (lits.items ∷ [])) }
+    requires no_repeat { has_repeat lits.now ≡ false }
+    requires places { All (HasPlace marks.old) lits.now }
+    ensures clauses { OnOk result (clauses.new ≡ clauses.old ++ kept (lits.now ∷ [])) }
     ensures marks { marks.new ≡ marks.old }
 {
-    if !are_opposed(marks, &lits) {
-        clauses.push(Clause::new(lits))?;
+    if are_opposed(marks, lits) {
+        return Ok(());
     }
-    Ok(())
+    clauses.push(lits)
 }
 
 /// Whether some literal stands with its negation, in time linear in their number.
@@ -43,14 +44,40 @@ fn are_opposed(marks: &mut Marks, lits: &[Lit]) -> bool
 }
 
 /// As `keep`, for a few literals, of which some may stand twice. Its time is quadratic in their number.
-pub(crate) fn keep_short(clauses: &mut Vec<Clause>, lits: &[Lit]) -> Result<(), AllocError>
-    ensures { OnOk result (clauses.new.items ≡ clauses.old.items ++ kept (lits.now ∷ [])) }
+pub(crate) fn keep_short(clauses: &mut ClauseList, lits: &[Lit]) -> Result<(), AllocError>
+    ensures { OnOk result (clauses.new ≡ clauses.old ++ kept (lits.now ∷ [])) }
 {
-    let once = distinct(*clauses.allocator(), lits)?;
-    if !has_opposites(&once) {
-        clauses.push(Clause::new(once))?;
+    if has_repeat(lits) {
+        let once = distinct(clauses.allocator(), lits)?;
+        keep_once(clauses, &once)
+    } else {
+        keep_once(clauses, lits)
     }
-    Ok(())
+}
+
+/// As `keep`, for a few literals, of which none stands twice.
+fn keep_once(clauses: &mut ClauseList, lits: &[Lit]) -> Result<(), AllocError>
+    requires { has_repeat lits.now ≡ false }
+    ensures { OnOk result (clauses.new ≡ clauses.old ++ kept (lits.now ∷ [])) }
+{
+    if has_opposites(lits) {
+        return Ok(());
+    }
+    clauses.push(lits)
+}
+
+/// Whether some literal stands twice.
+fn has_repeat(lits: &[Lit]) -> bool
+    ensures { result ≡ has_repeat lits.now }
+{
+    let mut rest = lits;
+    while let [first, more @ ..] = rest {
+        if contains(more, *first) {
+            return true;
+        }
+        rest = more;
+    }
+    false
 }
 
 /// Each literal once, at its first place.

@@ -9,18 +9,19 @@ use crate::keeping::keep;
 use crate::marks::Marks;
 use adder::cells::Profile;
 use std::alloc::{AllocError, Global};
-use wcnf::types::{Clause, Instance, Lit};
+use wcnf::clause_list::ClauseList;
+use wcnf::types::{Instance, Lit};
 
 /// Adds the soft clauses that take a relaxation variable, each with that as its last literal. These
 /// variables come after the instance's own, in the order of the clauses; answers the last of them.
 pub(crate) fn keep_relaxed(
-    clauses: &mut Vec<Clause>,
+    clauses: &mut ClauseList,
     marks: &mut Marks,
     instance: &Instance,
     profile: Profile,
 ) -> Result<u32, AllocError>
     requires { 2 * (instance.now.variables + length instance.now.soft) ≤ marks.old }
-    ensures clauses { OnOk result (clauses.new.items ≡ clauses.old.items ++ kept (relaxed_clauses profile instance.now)) }
+    ensures clauses { OnOk result (clauses.new ≡ clauses.old ++ kept (relaxed_clauses profile instance.now)) }
     ensures last { IfOk result (λ n. n ≡ relaxed_variables profile instance.now) }
 {
     let mut last = instance.vars();
@@ -29,7 +30,7 @@ pub(crate) fn keep_relaxed(
         if is_given_variable(profile, lits) {
             last += 1;
             let relaxed = with_variable(instance.allocator(), lits, last)?;
-            keep(clauses, marks, relaxed)?;
+            keep(clauses, marks, &relaxed)?;
         }
     }
     Ok(last)

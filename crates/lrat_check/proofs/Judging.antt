@@ -46,6 +46,12 @@ module _ (profile : Profile) (p : Problem) (a : Answer) (proof : List ℕ) where
   optimum_sound s e has says f is {E} result h =
       IfOk-weaker result _ _ (λ v w yes. rw e (optimal_by profile p s.cost.cost s.bits.items says (subst (λ g. IsUnsatisfiable g.clauses) is (w yes)) has)) h
 
+  pub unsat_verdict : a.claim ≡ Unsat → (f : Cnf) → f ≡ hard_cnf p → {E : Type 0} (result : Result Verdict E) → IfOk result (λ v. v ≡ proof_verdict f.clauses proof)
+      → IfOk result (λ v. v ≡ said_verdict profile p (reported a) proof)
+  unsat_verdict e f is {E} result h =
+      let said : said_verdict profile p (reported a) proof ≡ proof_verdict (hard_cnf p).clauses proof = rw e refl in
+      IfOk-weaker result _ _ (λ v w. w ∙ ap (λ g. proof_verdict g.clauses proof) is ∙ sym said) h
+
   pub unsat_sound : a.claim ≡ Unsat → ((t : Assignment) → All (Satisfies t) (hard_cnf p).clauses ↔ IsFeasible p t)
       → (f : Cnf) → f ≡ hard_cnf p → {E : Type 0} (result : Result Verdict E) → IfOk result (λ v. v ≡ Yes → IsUnsatisfiable f.clauses)
       → IfOk result (λ v. v ≡ Yes → IsTrueOf p (reported a).said)

@@ -59,8 +59,9 @@ fn numbered(formula: &Formula) -> Result<LiveClauses, AllocError>
     ensures { IfOk result (λ live. live ≡ listed_from 1 formula.now.clauses) }
 {
     let mut live = LiveClauses::new(formula.allocator());
-    for (i, clause) in formula.clauses().iter().enumerate() {
-        live.add(i as u64 + 1, clause.lits())?;
+    let clauses = formula.clauses();
+    for i in 0..clauses.len() {
+        live.add(i as u64 + 1, clauses.get(i))?;
     }
     Ok(live)
 }

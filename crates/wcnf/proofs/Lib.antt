@@ -6,6 +6,7 @@ pub mod Lines
 pub mod Texts
 pub mod Witness
 pub mod Passing
+pub mod Cutting
 pub mod Marks
 pub mod Zeros
 pub mod FirstPieces

@@ -3,6 +3,7 @@ pub mod Packed
 pub mod Clause
 pub mod Problem
 pub mod Bits
+pub mod Flat
 pub mod Instance
 pub mod Writing
 pub mod Text

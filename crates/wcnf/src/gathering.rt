@@ -1,12 +1,13 @@
 // The clause that is being read. Repeats are told by a mark for each literal, so a clause of n literals takes n steps,
 // and only its own marks are taken back before the next one.
-ghost use Rattle.std.specs.Prelude.{◌≡◌, ℕ, ◌<◌, ◌≤◌, ◌^◌, max, [], Ok, Err, OnOk, IfOk, MatchResult, ◌⊎◌};
+ghost use Rattle.std.specs.Prelude.{◌≡◌, false, ℕ, ◌<◌, ◌≤◌, ◌^◌, max, [], Ok, Err, OnOk, IfOk, MatchResult, ◌⊎◌};
+ghost use Rattle.wcnf.specs.Clause.{has_repeat};
 ghost use Rattle.wcnf.specs.Reading.{ended_at};
 ghost use Rattle.wcnf.specs.Drafts.{gather, emptied, gathered_at, AreMarked};
 
 use crate::faults::FaultKind;
 use crate::pieces::Tokens;
-use crate::types::{Clause, Lit};
+use crate::types::Lit;
 use crate::words::{Word, read_word};
 use std::alloc::{AllocError, Global};
 use std::marker::Model;
@@ -116,11 +117,12 @@ impl Gathering {
         Err(FaultKind::NoZero)
     }
 
-    /// The clause that was read.
-    pub(crate) fn clause(&self, alloc: Global) -> Result<Clause, AllocError>
-        ensures { IfOk result (λ c. c ≡ self.now.literals) }
+    /// The literals of the clause that was read.
+    pub(crate) fn lits(&self) -> &[Lit]
+        ensures lits { result.now ≡ self.now.literals }
+        ensures no_repeat { has_repeat result.now ≡ false }
     {
-        Ok(Clause::new(Vec::from_slice(alloc, &self.lits)?))
+        &self.lits
     }
 }
 

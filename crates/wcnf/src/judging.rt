@@ -1,12 +1,11 @@
 // Judging bits by an instance: whether they are a solution, and what they cost.
 ghost use Rattle.std.specs.Prelude.{◌≡◌, ◌≤◌, IsTrue, ◌↔◌, All, length};
-ghost use Rattle.std.specs.List.{list_all};
 ghost use Rattle.wcnf.specs.Literal.{Assignment, literal_value};
 ghost use Rattle.wcnf.specs.Clause.{clause_value};
 ghost use Rattle.wcnf.specs.Problem.{IsFeasible, cost_under};
 ghost use Rattle.wcnf.specs.Bits.{Extends};
 
-use crate::types::{Clause, Instance, Lit};
+use crate::types::{Instance, Lit};
 
 impl Instance {
     /// Whether the bits satisfy every hard clause.
@@ -17,7 +16,13 @@ impl Instance {
         ensures { (t : Assignment) → Extends bits.now t → (IsTrue result ↔ IsFeasible self.now t) }
     {
         prove!(bits.len() == self.vars() as usize);
-        are_satisfied(self.hard(), bits)
+        let hard = self.hard();
+        for i in 0..hard.len() {
+            if !is_satisfied(hard.get(i), bits) {
+                return false;
+            }
+        }
+        true
     }
 
     /// What the bits cost: the weights of the soft clauses that they make false, each clause by itself.
@@ -36,16 +41,6 @@ impl Instance {
         }
         cost
     }
-}
-
-// Whether the bits make every clause true.
-fn are_satisfied(clauses: &[Clause], bits: &[bool]) -> bool
-    requires { All (λ c. All (λ l. l.variable ≤ length bits.now) c) clauses.now }
-    ensures { (t : Assignment) → Extends bits.now t → result ≡ list_all (clause_value t) clauses.now }
-{
-    clauses
-        .iter()
-        .all(|clause| is_satisfied(clause.lits(), bits))
 }
 
 // Whether the bits make some literal of the clause true.
@@ -67,22 +62,21 @@ fn is_true(lit: Lit, bits: &[bool]) -> bool
 #[cfg(test)]
 mod tests {
     use super::*;
-    use crate::types::Soft;
+    use crate::reading::read;
     use std::test::Fail;
+
+    fn judged(instance: &Instance, bits: [bool; 2]) -> Option<(bool, u64)> {
+        if instance.vars() != 2 {
+            return None;
+        }
+        Some((instance.feasible(&bits), instance.cost(&bits)))
+    }
 
     #[test]
     fn judges_bits(rt: HostRuntime) -> Result<(), Fail> {
         let alloc = rt.alloc();
-        let (a, b) = (Lit::new(1, false), Lit::new(2, false));
-        let hard = vec![in alloc;
-            Clause::new(vec![in alloc; a, b]?),
-            Clause::new(vec![in alloc; a.negation()]?),
-        ]?;
-        let always = Soft::new(3, Clause::new(vec![in alloc; a, a.negation()]?));
-        let first = Soft::new(5, Clause::new(vec![in alloc; b.negation()]?));
-        let again = Soft::new(5, Clause::new(vec![in alloc; b.negation()]?));
-        let never = Soft::new(7, Clause::new(Vec::new(alloc)));
-        let instance = Instance::new(2, hard, vec![in alloc; always, first, again, never]?);
+        let text = b"h 1 2 0\nh -1 0\n3 1 -1 0\n5 -2 0\n5 -2 0\n7 0\n";
+        let instance = read(alloc, text)?;
         let cases = [
             ([false, false], false, 7),
             ([false, true], true, 17),
@@ -90,8 +84,8 @@ mod tests {
             ([true, true], false, 17),
         ];
         for (bits, feasible, cost) in cases {
-            assert_eq!(rt; instance.feasible(&bits), feasible, "at {bits:?}");
-            assert_eq!(rt; instance.cost(&bits), cost, "at {bits:?}");
+            let told = judged(&instance, bits);
+            assert_eq!(rt; told, Some((feasible, cost)), "at {bits:?}");
         }
         Ok(())
     }

@@ -1,6 +1,7 @@
 //! Weighted MaxSAT instances, their clauses and formulas, and the reader of WCNF texts.
 #![tactic(auto)]
 
+pub mod clause_list;
 pub mod faults;
 mod gathering;
 pub mod judging;

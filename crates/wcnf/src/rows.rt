@@ -1,15 +1,17 @@
 // The rows of a text, one at a time, and the instance that those so far make.
-ghost use Rattle.std.specs.Prelude.{◌≡◌, true, ◌+◌, ◌<◌, ◌≤◌, ◌^◌, Ok, Err, OnOk, IfOk, IfSome, MatchResult, ◌⊎◌};
+ghost use Rattle.std.specs.Prelude.{◌≡◌, true, false, [], ◌∷◌, ◌++◌, MatchOption, ◌+◌, ◌<◌, ◌≤◌, ◌^◌, Ok, Err, OnOk, IfOk, IfSome, MatchResult, ◌⊎◌};
 ghost use Rattle.wcnf.specs.Text.{tokens_of};
 ghost use Rattle.wcnf.specs.Reading.{head_of};
+ghost use Rattle.wcnf.specs.Clause.{has_repeat};
 ghost use Rattle.wcnf.specs.Instance.{IsInstance};
-ghost use Rattle.wcnf.specs.Drafts.{totals_of, nothing_drafted, drafted_line, drafted_clause, problem_drafted, with_clause, begins_with_digit};
+ghost use Rattle.wcnf.specs.Drafts.{totals_of, nothing_drafted, drafted_line, drafted_clause, problem_drafted, begins_with_digit};
 
+use crate::clause_list::ClauseList;
 use crate::faults::FaultKind;
 use crate::gathering::Gathering;
 use crate::pieces::Tokens;
 use crate::text::{number, tokens};
-use crate::types::{Clause, Instance, Soft};
+use crate::types::{Clause, Instance, Lit, Soft};
 use std::alloc::{AllocError, Global};
 use std::marker::Model;
 
@@ -25,7 +27,7 @@ const WEIGHT_LIMIT: u64 = 1 << 62;
 /// The instance that the lines so far make.
 #[derive(Drop)]
 pub(crate) struct Draft {
-    hard: Vec<Clause>,
+    hard: ClauseList,
     soft: Vec<Soft>,
     // The literals of the text so far, repeats too.
     literals: usize,
@@ -40,7 +42,7 @@ impl Model for Draft {
 
     ghost Value = { Drafted };
 
-    ghost view = { λ d. record { variables = d.clause.variables; hard = d.hard.items; soft = d.soft.items; literals = d.literals; weight = d.weight } };
+    ghost view = { λ d. record { variables = d.clause.variables; hard = d.hard; soft = d.soft.items; literals = d.literals; weight = d.weight } };
 
     ghost invariant = { λ d. (d.weight < 2 ^ 62) × (d.literals ≤ 2 ^ 26) };
 }
@@ -51,7 +53,7 @@ impl Draft {
         ensures { result ≡ nothing_drafted }
     {
         Draft {
-            hard: Vec::new(alloc),
+            hard: ClauseList::new(alloc),
             soft: Vec::new(alloc),
             literals: 0,
             weight: 0,
@@ -80,12 +82,12 @@ impl Draft {
     {
         let weight = self.head(first)?;
         let literals = self.clause.read(self.literals, words)?;
-        let clause = self
-            .clause
-            .clause(*self.hard.allocator())
-            .map_err(|_| FaultKind::Memory)?;
-        self.push(weight, clause, literals)
-            .map_err(|_| FaultKind::Memory)
+        put(&mut self.hard, &mut self.soft, weight, self.clause.lits()).map_err(
+            |_| FaultKind::Memory,
+        )?;
+        self.weight += weight.unwrap_or(0);
+        self.literals = literals;
+        Ok(())
     }
 
     /// What the first token of a clause line says: a weight, or none for a hard clause.
@@ -122,29 +124,6 @@ impl Draft {
         }
     }
 
-    /// Puts a clause last; `literals` is the number of literals in the text up to its line.
-    fn push(
-        &mut self,
-        weight: Option<u64>,
-        clause: Clause,
-        literals: usize,
-    ) -> Result<(), AllocError>
-        requires weight { IfSome weight (λ w. (0 < w) × (self.old.weight + w < 2 ^ 62)) }
-        requires literals { literals ≤ 2 ^ 26 }
-        ensures { OnOk result
-            (self.new ≡ with_clause self.old weight (record { variables = self.old.variables; literals = clause }, literals)) }
-    {
-        match weight {
-            None => self.hard.push(clause)?,
-            Some(weight) => {
-                self.soft.push(Soft::new(weight, clause))?;
-                self.weight += weight;
-            }
-        }
-        self.literals = literals;
-        Ok(())
-    }
-
     /// The instance that the lines make.
     pub(crate) fn finish(self) -> Instance
         requires { IsInstance (problem_drafted self) }
@@ -157,5 +136,28 @@ impl Draft {
             ..
         } = self;
         Instance::new(clause.vars(), hard, soft)
+    }
+}
+
+/// Puts a clause last, among the soft ones where it has a weight.
+fn put(
+    hard: &mut ClauseList,
+    soft: &mut Vec<Soft>,
+    weight: Option<u64>,
+    lits: &[Lit],
+) -> Result<(), AllocError>
+    requires weight { IfSome weight (λ w. 0 < w) }
+    requires no_repeat { has_repeat lits.now ≡ false }
+    ensures { OnOk result (MatchOption weight
+        ((hard.new ≡ hard.old ++ lits.now ∷ []) × (soft.new.items ≡ soft.old.items))
+        (λ w. (hard.new ≡ hard.old) × (soft.new.items ≡ soft.old.items ++ record { weight = w; clause = lits.now } ∷ []))) }
+{
+    match weight {
+        None => hard.push(lits),
+        Some(weight) => {
+            let clause = Clause::new(Vec::from_slice(*soft.allocator(), lits)?);
+            soft.push(Soft::new(weight, clause))?;
+            Ok(())
+        }
     }
 }

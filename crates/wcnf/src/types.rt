@@ -6,6 +6,7 @@ ghost use Rattle.wcnf.specs.Problem.{Problem, SoftClause};
 ghost use Rattle.wcnf.specs.Instance.{IsInstance};
 ghost use Rattle.wcnf.specs.Formula.{Cnf, IsFormula};
 
+use crate::clause_list::ClauseList;
 use std::alloc::Global;
 use std::marker::Model;
 
@@ -168,23 +169,23 @@ impl Soft {
 #[derive(Drop)]
 pub struct Instance {
     vars: u32,
-    hard: Vec<Clause>,
+    hard: ClauseList,
     soft: Vec<Soft>,
 }
 
 impl Model for Instance {
     ghost Value = { Problem };
 
-    ghost view = { λ i. record { variables = i.vars; hard = i.hard.items; soft = i.soft.items } };
+    ghost view = { λ i. record { variables = i.vars; hard = i.hard; soft = i.soft.items } };
 
-    ghost invariant = { λ i. IsInstance (record { variables = i.vars; hard = i.hard.items; soft = i.soft.items }) };
+    ghost invariant = { λ i. IsInstance (record { variables = i.vars; hard = i.hard; soft = i.soft.items }) };
 }
 
 impl Instance {
     /// The instance over the variables 1 to `vars`, with the clauses in this order.
-    pub fn new(vars: u32, hard: Vec<Clause>, soft: Vec<Soft>) -> Self
-        requires { IsInstance (record { variables = vars; hard = hard.items; soft = soft.items }) }
-        ensures { result ≡ record { variables = vars; hard = hard.items; soft = soft.items } }
+    pub fn new(vars: u32, hard: ClauseList, soft: Vec<Soft>) -> Self
+        requires { IsInstance (record { variables = vars; hard = hard; soft = soft.items }) }
+        ensures { result ≡ record { variables = vars; hard = hard; soft = soft.items } }
     {
         Instance { vars, hard, soft }
     }
@@ -198,7 +199,7 @@ impl Instance {
     }
 
     /// The hard clauses in the order of the text.
-    pub fn hard(&self) -> &[Clause]
+    pub fn hard(&self) -> &ClauseList
         ensures { result.now ≡ self.now.hard }
     {
         &self.hard
@@ -213,7 +214,7 @@ impl Instance {
 
     /// Where the clauses take their memory from.
     pub fn allocator(&self) -> Global {
-        *self.hard.allocator()
+        self.hard.allocator()
     }
 }
 
@@ -223,22 +224,22 @@ impl Instance {
 #[derive(Drop)]
 pub struct Formula {
     vars: u32,
-    clauses: Vec<Clause>,
+    clauses: ClauseList,
 }
 
 impl Model for Formula {
     ghost Value = { Cnf };
 
-    ghost view = { λ f. record { variables = f.vars; clauses = f.clauses.items } };
+    ghost view = { λ f. record { variables = f.vars; clauses = f.clauses } };
 
-    ghost invariant = { λ f. IsFormula (record { variables = f.vars; clauses = f.clauses.items }) };
+    ghost invariant = { λ f. IsFormula (record { variables = f.vars; clauses = f.clauses }) };
 }
 
 impl Formula {
     /// The formula over the variables 1 to `vars`, with the clauses in this order.
-    pub fn new(vars: u32, clauses: Vec<Clause>) -> Self
-        requires { IsFormula (record { variables = vars; clauses = clauses.items }) }
-        ensures { result ≡ record { variables = vars; clauses = clauses.items } }
+    pub fn new(vars: u32, clauses: ClauseList) -> Self
+        requires { IsFormula (record { variables = vars; clauses = clauses }) }
+        ensures { result ≡ record { variables = vars; clauses = clauses } }
     {
         Formula { vars, clauses }
     }
@@ -252,7 +253,7 @@ impl Formula {
     }
 
     /// The clauses, of which the first is number 1.
-    pub fn clauses(&self) -> &[Clause]
+    pub fn clauses(&self) -> &ClauseList
         ensures { result.now ≡ self.now.clauses }
     {
         &self.clauses
@@ -260,7 +261,7 @@ impl Formula {
 
     /// Where the clauses take their memory from.
     pub fn allocator(&self) -> Global {
-        *self.clauses.allocator()
+        self.clauses.allocator()
     }
 }
 

@@ -2,7 +2,7 @@
 ghost use Rattle.std.specs.Prelude.{Some};
 
 use super::*;
-use crate::types::{Clause, Lit};
+use crate::types::Lit;
 use std::io;
 use std::process::Abort;
 use std::test::Fail;
@@ -10,9 +10,9 @@ use std::test::Fail;
 /// Comments, a blank line, both line ends, tabs, repeats and a last line without its line feed.
 const TEXT: &[u8] = b"c one\r\n\r\nh -1 5 -1\t0\r\n c two\n7 1 1 0\n\th 0\n3 -4 5 -5 0";
 
-fn assert_literals(rt: &impl Abort, clause: &Clause, wanted: &[(u32, bool)]) {
-    assert_eq!(rt; clause.lits().len(), wanted.len());
-    for (lit, (variable, negated)) in clause.lits().iter().zip(wanted) {
+fn assert_literals(rt: &impl Abort, clause: &[Lit], wanted: &[(u32, bool)]) {
+    assert_eq!(rt; clause.len(), wanted.len());
+    for (lit, (variable, negated)) in clause.iter().zip(wanted) {
         assert_eq!(rt; lit.variable(), *variable);
         assert_eq!(rt; lit.is_negated(), *negated);
     }
@@ -22,14 +22,18 @@ fn assert_is_of_text(rt: &impl Abort, instance: &Instance) {
     assert_eq!(rt; instance.vars(), 5);
     let hard = instance.hard();
     assert_eq!(rt; hard.len(), 2);
-    assert_literals(rt, &hard[0], &[(1, true), (5, false)]);
-    assert_literals(rt, &hard[1], &[]);
+    assert_literals(rt, hard.get(0), &[(1, true), (5, false)]);
+    assert_literals(rt, hard.get(1), &[]);
     let soft = instance.soft();
     assert_eq!(rt; soft.len(), 2);
     assert_eq!(rt; soft[0].weight(), 7);
-    assert_literals(rt, soft[0].clause(), &[(1, false)]);
+    assert_literals(rt, soft[0].clause().lits(), &[(1, false)]);
     assert_eq!(rt; soft[1].weight(), 3);
-    assert_literals(rt, soft[1].clause(), &[(4, true), (5, false), (5, true)]);
+    assert_literals(
+        rt,
+        soft[1].clause().lits(),
+        &[(4, true), (5, false), (5, true)],
+    );
 }
 
 #[test]
@@ -37,7 +41,7 @@ fn reads_instances(rt: HostRuntime) -> Result<(), Fail> {
     assert_is_of_text(&rt, &read(rt.alloc(), TEXT)?);
     let empty = read(rt.alloc(), b"")?;
     assert_eq!(rt; empty.vars(), 0);
-    assert!(rt; empty.hard().is_empty() && empty.soft().is_empty());
+    assert!(rt; empty.hard().len() == 0 && empty.soft().is_empty());
     Ok(())
 }
 

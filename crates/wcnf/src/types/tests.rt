@@ -26,7 +26,9 @@ fn makes_a_formula(rt: HostRuntime) -> Result<(), Fail> {
     let (a, b) = (Lit::new(1, false), Lit::new(2, true));
     let clause = Clause::new(vec![in alloc; a, b]?);
     assert_eq!(rt; clause.lits(), [a, b].as_slice());
-    let formula = Formula::new(3, vec![in alloc; clause]?);
+    let mut clauses = ClauseList::new(alloc);
+    clauses.push(clause.lits())?;
+    let formula = Formula::new(3, clauses);
     assert_eq!(rt; formula.vars(), 3);
     assert_eq!(rt; formula.clauses().len(), 1);
     let _ = formula.allocator();
@@ -40,11 +42,9 @@ fn makes_an_instance(rt: HostRuntime) -> Result<(), Fail> {
     let soft = Soft::new(5, Clause::new(vec![in alloc; b]?));
     assert_eq!(rt; soft.weight(), 5);
     assert_eq!(rt; soft.clause().lits(), [b].as_slice());
-    let instance = Instance::new(
-        2,
-        vec![in alloc; Clause::new(vec![in alloc; a, b]?)]?,
-        vec![in alloc; soft]?,
-    );
+    let mut hard = ClauseList::new(alloc);
+    hard.push(&[a, b])?;
+    let instance = Instance::new(2, hard, vec![in alloc; soft]?);
     assert_eq!(rt; instance.vars(), 2);
     assert_eq!(rt; instance.hard().len(), 1);
     assert_eq!(rt; instance.soft().len(), 1);

@@ -4,4 +4,4 @@ use Rattle.bound.specs.Bound.{kept}
 use Rattle.bound.proofs.cells.keep_rows.Given as goal
 
 abbrev pub invariant-loop-row : goal.invariant-loop-row
-invariant-loop-row g l = l.clauses.items ≡ l.initial.clauses.items ++ kept (take l.row-index l.rows)
+invariant-loop-row g l = l.clauses ≡ l.initial.clauses ++ kept (take l.row-index l.rows)

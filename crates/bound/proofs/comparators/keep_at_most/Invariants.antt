@@ -3,4 +3,4 @@ use Rattle.bound.proofs.Columns.{IsDownTo}
 use Rattle.bound.proofs.comparators.keep_at_most.Given as goal
 
 abbrev pub invariant-loop-column : goal.invariant-loop-column
-invariant-loop-column l = IsDownTo l.outputs l.limit l.column l.initial.clauses.items l.clauses.items l.clause.items
+invariant-loop-column l = IsDownTo l.outputs l.limit l.column l.initial.clauses l.clauses l.clause.items

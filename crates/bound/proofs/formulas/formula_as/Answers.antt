@@ -19,8 +19,8 @@ keep_cells-requires c =
 pub new-requires : goal.new-requires
 new-requires c =
     let p = c.args.instance.now in
-    let same = formula_parts c.args.profile p c.args.k c.in_ok-last.last c.new-clauses.result.items c.keep_given.new.clauses.items c.keep_cells.new.clauses.items c.keep_comparator.new.clauses.items
-    c.cells-2.result.now c.outputs.result.now c.new-clauses.ensures.items c.in_ok-last.ensures.clauses
+    let same = formula_parts c.args.profile p c.args.k c.in_ok-last.last c.new-clauses.result c.keep_given.new.clauses c.keep_cells.new.clauses c.keep_comparator.new.clauses
+    c.cells-2.result.now c.outputs.result.now c.new-clauses.ensures c.in_ok-last.ensures.clauses
     (rw (c.cells-2.ensures, ← c.cells.ensures) c.in_ok-keep_cells.ensures) c.in_ok-keep_comparator.ensures c.in_ok-last.ensures.last
     (cc (c.cells-2.ensures, c.in_ok-network.ensures.cells)) (cc (c.outputs.ensures, c.in_ok-network.ensures.cells)) in
     subst IsFormula (sym same) (bound_is_formula c.args.profile p c.args.k c.vars-vars.ensures.limits)

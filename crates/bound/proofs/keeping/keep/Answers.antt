@@ -1,16 +1,16 @@
 -- The clause is kept exactly where it has no opposite pair.
-use Rattle.std.proofs.Common.{◌≡◌, true, false, ◌++◌, ◌∷◌, [], ◌∙◌}
+use Rattle.std.proofs.Common.{◌≡◌, true, false, sym, ◌∙◌}
+use Rattle.std.proofs.lemmas.Result.{on_ok_weaker}
 use Rattle.wcnf.specs.Clause.{has_opposites}
 use Rattle.bound.proofs.Kept.{kept_itself, kept_none}
 use Rattle.bound.proofs.keeping.keep.Goals as goal
 
-pub returns-in_ok-push-clause-clauses : goal.returns-in_ok-push-clause-clauses
-returns-in_ok-push-clause-clauses c =
-    let e : has_opposites c.args.lits.items ≡ false = cc in
-    let pushed : c.push.new.self.items ≡ c.args.clauses.now.items ++ c.args.lits.items ∷ [] = cc (c.in_ok-push.ensures.items) in
-    pushed ∙ kept_itself c.args.clauses.now.items c.args.lits.items c.requires.no_repeat e
+pub returns-then-are_opposed-clause-clauses : goal.returns-then-are_opposed-clause-clauses
+returns-then-are_opposed-clause-clauses c =
+    let e : has_opposites c.args.lits.now ≡ true = sym c.are_opposed.ensures.value ∙ c.if-are_opposed.true in
+    kept_none c.args.clauses.now c.args.lits.now c.requires.no_repeat e
 
-pub returns-else-not-are_opposed-clause-clauses : goal.returns-else-not-are_opposed-clause-clauses
-returns-else-not-are_opposed-clause-clauses c =
-    let e : has_opposites c.args.lits.items ≡ true = cc in
-    kept_none c.args.clauses.now.items c.args.lits.items c.requires.no_repeat e
+pub returns-clause-clauses : goal.returns-clause-clauses
+returns-clause-clauses c =
+    let e : has_opposites c.args.lits.now ≡ false = sym c.are_opposed.ensures.value ∙ c.if-are_opposed.false in
+    on_ok_weaker c.push.result (λ pushed. pushed ∙ kept_itself c.args.clauses.now c.args.lits.now c.requires.no_repeat e) c.push.ensures.ok

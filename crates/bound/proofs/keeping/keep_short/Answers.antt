@@ -1,6 +1,15 @@
--- What `distinct` gives has no repeat.
+-- What `distinct` gives has no repeat, and is kept as what it was made from.
+use Rattle.std.proofs.Common.{◌≡◌, ◌∷◌, [], ◌++◌, if◌then◌else◌, not, ap, ◌∙◌}
+use Rattle.std.proofs.lemmas.Result.{on_ok_weaker}
+use Rattle.wcnf.specs.Clause.{distinct}
 use Rattle.bound.proofs.Fits.{repeat-distinct}
+use Rattle.bound.proofs.Kept.{kept-distinct}
 use Rattle.bound.proofs.keeping.keep_short.Goals as goal
 
-pub new-requires : goal.new-requires
-new-requires c = rw (c.in_ok-once.ensures) (repeat-distinct c.args.lits.now)
+pub keep_once-requires : goal.keep_once-requires
+keep_once-requires c = rw (c.deref.ensures.value, c.in_ok-once.ensures) (repeat-distinct c.args.lits.now)
+
+pub returns-in_ok-once : goal.returns-in_ok-once
+returns-in_ok-once c =
+    let once : c.deref.result.now ≡ distinct c.args.lits.now = c.deref.ensures.value ∙ c.in_ok-once.ensures in
+    on_ok_weaker c.keep_once.result (λ kept. kept ∙ ap (λ x. c.args.clauses.now ++ x) (kept-distinct c.args.lits.now c.deref.result.now once)) c.keep_once.ensures

@@ -17,7 +17,7 @@ keep-requires-clause-no_repeat c =
     let all : All (λ x. IsClauseWithin vars x.clause) ss = rw (c.soft-soft-items.ensures) c.vars-last.ensures.limits.soft_clauses in
     let w = soft_within vars ss c.loop-soft.soft-index s all (search rules) c.soft-item.is in
     let lits : c.lits-lits.result.now ≡ s.clause = cc (c.lits-lits.ensures.lits, c.clause.ensures) in
-    let text : c.in_ok-relaxed.relaxed.items ≡ s.clause ++ positive (c.loop-soft.last + 1) ∷ [] = c.in_ok-relaxed.ensures ∙ ap (λ x. x ++ positive (c.loop-soft.last + 1) ∷ []) lits in
+    let text : c.deref.result.now ≡ s.clause ++ positive (c.loop-soft.last + 1) ∷ [] = c.deref.ensures.value ∙ c.in_ok-relaxed.ensures ∙ ap (λ x. x ++ positive (c.loop-soft.last + 1) ∷ []) lits in
     rw text (relaxed_no_repeat s.clause vars (c.loop-soft.last + 1) w.0 w (omega (arith, c.loop-soft.invariant.0.counted)))
 
 pub keep-requires-clause-places : goal.keep-requires-clause-places
@@ -28,7 +28,7 @@ keep-requires-clause-places c =
     let all : All (λ x. IsClauseWithin vars x.clause) ss = rw (c.soft-soft-items.ensures) c.vars-last.ensures.limits.soft_clauses in
     let w = soft_within vars ss c.loop-soft.soft-index s all (search rules) c.soft-item.is in
     let lits : c.lits-lits.result.now ≡ s.clause = cc (c.lits-lits.ensures.lits, c.clause.ensures) in
-    let text : c.in_ok-relaxed.relaxed.items ≡ s.clause ++ positive (c.loop-soft.last + 1) ∷ [] = c.in_ok-relaxed.ensures ∙ ap (λ x. x ++ positive (c.loop-soft.last + 1) ∷ []) lits in
+    let text : c.deref.result.now ≡ s.clause ++ positive (c.loop-soft.last + 1) ∷ [] = c.deref.ensures.value ∙ c.in_ok-relaxed.ensures ∙ ap (λ x. x ++ positive (c.loop-soft.last + 1) ∷ []) lits in
     let i = c.loop-soft.soft-index in
     let before : length (take i ss) ≡ i = length-take-le i ss (search rules) in
     let same : length ss ≡ length c.args.instance.now.soft = ap length c.soft-soft-items.ensures in
@@ -48,11 +48,11 @@ loop-soft-preserved c =
     elim c.if-is_given_variable.branch [
       | then-is_given_variable+in_ok-relaxed+in_ok-keep w ↦
           let gets : gets_variable c.args.profile s.clause ≡ true = cc (lits, c.is_given_variable.ensures, w.if-is_given_variable.true) in
-          let text : w.in_ok-relaxed.relaxed.items ≡ s.clause ++ positive (c.loop-soft.last + 1) ∷ [] = w.in_ok-relaxed.ensures ∙ ap (λ x. x ++ positive (c.loop-soft.last + 1) ∷ []) lits in
-          let added = relaxed_fresh c.args.profile vars (take i ss) s _ c.loop-soft.clauses.items c.loop-soft.last c.loop-soft.invariant.0 w.keep.new.clauses.items w.in_ok-relaxed.relaxed.items gets text w.in_ok-keep.ensures.clauses in
+          let text : w.deref.result.now ≡ s.clause ++ positive (c.loop-soft.last + 1) ∷ [] = w.deref.ensures.value ∙ w.in_ok-relaxed.ensures ∙ ap (λ x. x ++ positive (c.loop-soft.last + 1) ∷ []) lits in
+          let added = relaxed_fresh c.args.profile vars (take i ss) s _ c.loop-soft.clauses c.loop-soft.last c.loop-soft.invariant.0 w.keep.new.clauses w.deref.result.now gets text w.in_ok-keep.ensures.clauses in
           rw (more, w.clauses-is, w.last-is, w.marks-is) (added, w.in_ok-keep.ensures.marks ∙ c.loop-soft.invariant.1)
       | else-is_given_variable w ↦
           let gets : gets_variable c.args.profile s.clause ≡ false = cc (lits, c.is_given_variable.ensures, w.if-is_given_variable.false) in
-          let added = relaxed_own c.args.profile vars (take i ss) s _ c.loop-soft.clauses.items c.loop-soft.last c.loop-soft.invariant.0 gets in
+          let added = relaxed_own c.args.profile vars (take i ss) s _ c.loop-soft.clauses c.loop-soft.last c.loop-soft.invariant.0 gets in
           rw (more, w.clauses-is, w.last-is, w.marks-is) (added, c.loop-soft.invariant.1)
     ]

@@ -1,16 +1,23 @@
-use Rattle.std.proofs.Common.{◌≡◌, ◌<◌, ◌∷◌, [], ◌++◌, ◌+◌, get_or, length, ap, ◌∙◌, arith}
+use Rattle.std.proofs.Common.{◌≡◌, ◌<◌, ◌∙◌, Some, get_or, length, sym}
+use Rattle.std.specs.Prelude.{slice_get}
+use Rattle.std.proofs.lemmas.Option.{get_or_from_slice_get, slice_get_within}
 use Rattle.lrat_check.proofs.Base.{numbered_more, numbered_below}
 use Rattle.lrat_check.proofs.machine.numbered.Goals as goal
+use Rattle.lrat_check.proofs.machine.numbered.Goals.{After-get}
+
+here : (c : After-get) → slice_get c.args.formula.now.clauses c.loop-i.i ≡ Some c.get.result.now
+here c = rw (← c.clauses-clauses.ensures) c.get.ensures
+
+within : (c : After-get) → c.loop-i.i < length c.args.formula.now.clauses
+within c = slice_get_within c.args.formula.now.clauses c.loop-i.i c.get.result.now (here c)
 
 pub add-requires : goal.add-requires
 add-requires c =
-    let cs = c.args.formula.now.clauses in
-    let lt : c.loop-i.i < length cs = omega (arith, ap length c.clauses-clause-items.ensures) in
-    record { rising = numbered_below cs c.loop-i.i c.loop-i.live lt c.loop-i.invariant }
+    record { rising = numbered_below c.args.formula.now.clauses c.loop-i.i c.loop-i.live (within (goal.at.add-requires c).After-get) c.loop-i.invariant }
 
 pub loop-i-preserved : goal.loop-i-preserved
 loop-i-preserved c =
     let cs = c.args.formula.now.clauses in
-    let lt : c.loop-i.i < length cs = omega (arith, ap length c.clauses-clause-items.ensures) in
-    let here : c.clause-item.result ≡ get_or cs c.loop-i.i c.clause-item.result = c.clause-item.is ∙ ap (λ xs. get_or xs c.loop-i.i c.clause-item.result) c.clauses-clause-items.ensures in
-    c.in_ok-add.ensures.ok ∙ ap (λ d. c.loop-i.live ++ (c.loop-i.i + 1, d) ∷ []) c.lits.ensures.lits ∙ numbered_more cs c.loop-i.i c.clause-item.result c.loop-i.live lt here c.loop-i.invariant
+    let at = (goal.at.loop-i-preserved c).After-get in
+    let is = sym (get_or_from_slice_get cs c.loop-i.i c.get.result.now c.get.result.now (here at)) in
+    c.in_ok-add.ensures.ok ∙ numbered_more cs c.loop-i.i c.get.result.now c.loop-i.live (within at) is c.loop-i.invariant

@@ -1,4 +1,4 @@
-use Rattle.std.proofs.Common.{◌≤◌, length, ap, sym, subst, arith}
+use Rattle.std.proofs.Common.{◌≤◌, ◌∙◌, length, ap, sym, subst, arith}
 use Rattle.lrat_check.specs.Steps.{IsBase}
 use Rattle.lrat_check.proofs.Base.{IsBase-start, within_formula}
 use Rattle.lrat_check.proofs.machine.Machine.new.Goals as goal
@@ -8,4 +8,4 @@ invariant_of-result c =
     let f = c.args.formula.now in
     let n = c.grow.new.self.variables in
     let le : f.variables ≤ n = omega (arith, c.in_ok-grow.ensures.ok, c.vars.ensures.vars) in
-    subst (IsBase n (length c.clauses.result.now)) (sym c.in_ok-numbered.ensures) (IsBase-start n (length c.clauses.result.now) f.clauses (ap length c.clauses.ensures) (within_formula f n c.vars.ensures.limits le))
+    subst (IsBase n c.len.result) (sym c.in_ok-numbered.ensures) (IsBase-start n c.len.result f.clauses (c.len.ensures ∙ ap length c.clauses.ensures) (within_formula f n c.vars.ensures.limits le))

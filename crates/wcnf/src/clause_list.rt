@@ -1,0 +1,115 @@
+// A list of clauses in flat memory: four bytes for each literal, and four for each clause.
+ghost use Rattle.std.specs.Prelude.{◌≡◌, ◌<◌, [], ◌∷◌, ◌++◌, Some, length, slice_get, OnOk, OnErr};
+ghost use Rattle.wcnf.specs.Flat.{start_at};
+
+use crate::types::Lit;
+use std::alloc::{AllocError, Global};
+use std::marker::Model;
+
+/// There are at most so many literals, so that their places fit 32 bits; one more counts as a refused growth.
+const MOST: usize = 4_294_967_295;
+
+/// A list of clauses, which are lists of literals. Their literals stand in one vector, one clause after another.
+#[derive(Drop)]
+pub struct ClauseList {
+    lits: Vec<Lit>,
+    // For each clause the place where its literals end, and those of the next begin.
+    ends: Vec<u32>,
+}
+
+impl Model for ClauseList {
+    ghost use Rattle.std.specs.Prelude.{List};
+    ghost use Rattle.wcnf.specs.Literal.{Literal};
+    ghost use Rattle.wcnf.specs.Flat.{cut_from, AreCut};
+
+    ghost Value = { List (List Literal) };
+
+    ghost view = { λ l. cut_from 0 l.lits.items l.ends.items };
+
+    ghost invariant = { λ l. AreCut l.lits.items l.ends.items };
+}
+
+impl ClauseList {
+    /// No clauses. It takes no memory.
+    pub fn new(alloc: Global) -> Self
+        ensures { result ≡ [] }
+    {
+        ClauseList {
+            lits: Vec::new(alloc),
+            ends: Vec::new(alloc),
+        }
+    }
+
+    /// How many clauses there are.
+    pub fn len(&self) -> usize
+        ensures { result ≡ length self.now }
+    {
+        self.ends.len()
+    }
+
+    /// The literals of a clause by its place, from 0.
+    pub fn get(&self, place: usize) -> &[Lit]
+        requires { place < length self.now }
+        ensures { slice_get self.now place ≡ Some result.now }
+    {
+        let start = start_of(&self.ends, place);
+        let end = self.ends[place];
+        &self.lits[start as usize..end as usize]
+    }
+
+    /// Puts a clause last.
+    ///
+    /// # Errors
+    ///
+    /// `AllocError` where a growth was refused; one past 2^32 - 1 literals always is. The clauses are then as they were.
+    pub fn push(&mut self, lits: &[Lit]) -> Result<(), AllocError>
+        ensures ok { OnOk result (self.new ≡ self.old ++ lits.now ∷ []) }
+        ensures err { OnErr result (self.new ≡ self.old) }
+    {
+        let start = self.lits.len();
+        if lits.len() > MOST - start {
+            return Err(AllocError);
+        }
+        // Room comes first, so that a refused growth changes nothing.
+        self.ends.reserve(1)?;
+        self.lits.extend_from_slice(lits)?;
+        self.ends.push((start + lits.len()) as u32)?;
+        Ok(())
+    }
+
+    /// Where the clauses take their memory from.
+    pub fn allocator(&self) -> Global {
+        *self.lits.allocator()
+    }
+}
+
+// Where a clause begins.
+fn start_of(ends: &[u32], place: usize) -> u32
+    requires { place < length ends.now }
+    ensures { result ≡ start_at 0 ends.now place }
+{
+    if place == 0 { 0 } else { ends[place - 1] }
+}
+
+#[cfg(test)]
+mod tests {
+    use super::*;
+    use std::test::Fail;
+
+    #[test]
+    fn keeps_clauses_in_order(rt: HostRuntime) -> Result<(), Fail> {
+        let alloc = rt.alloc();
+        let (a, b) = (Lit::new(1, false), Lit::new(2, true));
+        let mut clauses = ClauseList::new(alloc);
+        assert_eq!(rt; clauses.len(), 0);
+        clauses.push(&[a, b])?;
+        clauses.push(&[])?;
+        clauses.push(&[b])?;
+        assert_eq!(rt; clauses.len(), 3);
+        assert_eq!(rt; clauses.get(0), [a, b].as_slice());
+        assert_eq!(rt; clauses.get(1).len(), 0);
+        assert_eq!(rt; clauses.get(2), [b].as_slice());
+        let _ = clauses.allocator();
+        Ok(())
+    }
+}
