@@ -237,3 +237,16 @@ cells_variables profile p h =
     each : (v : ℕ) (cells : List Cell) → v < 2 ^ 26 → AllByRecursion (IsCellWith (IsVariable v)) cells → AllByRecursion HasVariables cells
     each v [] small a = tt
     each v (cell ∷ cells) small a = ((a.0.sum.0, omega (arith, a.0.sum.1), a.0.carry.0, omega (arith, a.0.carry.1)), each v cells small a.1)
+
+-- the outputs have such variables
+pub outputs_variables : (profile : Profile) (p : Problem) → IsInstance p
+    → AllByRecursion (IsOutputOf (IsVariable (relaxed_variables profile p + 2 * length (adders_as profile p).cells))) (adders_as profile p).outputs
+outputs_variables profile p h =
+    let n = p.variables in
+    let m = relaxed_variables profile p in
+    let v = m + 2 * length (adders_as profile p).cells in
+    let es = relaxed_as profile p in
+    let soft = plain_soft n v p.soft (omega arith) (recursion_from_All (λ s. IsClauseWithin n s.clause) p.soft h.soft_clauses) in
+    let relaxed = relaxed_with (IsVariable v) profile (n + 1) p.soft soft (λ x l u. (omega arith, omega arith)) in
+    let network = columns_with (IsVariable v) es (binary_length (total_weight p)) 0 (m + 1) [] (literals_of v es relaxed) tt (λ x l u. (omega arith, omega arith)) in
+    network.1
