@@ -1,5 +1,5 @@
 -- What the slots of heads are: where one is read, added or taken out.
-use Rattle.std.proofs.Common.{◌≡◌, ℕ, zero, suc, ◌+◌, ◌<◌, ◌≤◌, ◌^◌, true, false, List, [], ◌∷◌, ◌++◌, length, get_or, set, map, Some, None, refl, sym, ◌∙◌, ap, subst, arith, inl, inr}
+use Rattle.std.proofs.Common.{◌≡◌, ℕ, zero, suc, ◌+◌, ◌<◌, ◌≤◌, ◌^◌, true, false, List, [], ◌∷◌, ◌++◌, length, get_or, set, map, Option, Some, None, refl, sym, ◌∙◌, ap, subst, arith, inl, inr}
 use Rattle.std.specs.Prelude.{slice_range, slice_set, slice_get, IsTrue, ◌↔◌}
 use Rattle.std.specs.Option.{option_map}
 use Rattle.std.proofs.lemmas.Bool.{cases_Bool, cases_lt}
@@ -115,3 +115,10 @@ store_deleted ls hs i h d s e f =
       few_literals = s.few_literals;
       few_heads = omega (arith, s.few_heads, length-set hs i h);
     }
+
+-- a place without a live clause
+pub none_live : (slots : List (Option (List Literal))) (r : ℕ) → (IsLive slots r → ⊥) → clause_at slots r ≡ None
+none_live slots r n = elim (clause_at slots r) as (λ o. clause_at slots r ≡ o → o ≡ None) [
+    | None ↦ λ e. refl
+    | Some c ↦ λ e. absurd (n (c, e))
+  ] refl

@@ -1,6 +1,6 @@
 //! The store of clauses: literals in one flat vector, a head for each clause in another. References stay valid until a
 //! compaction moves the live clauses together and tells where each went.
-ghost use Rattle.std.specs.Prelude.{◌≡◌, ℕ, ◌+◌, ◌-◌, ◌<◌, ◌≤◌, ◌^◌, All, List, [], ◌∷◌, ◌++◌, Some, None, map, length, slice_set, IsTrue, ◌↔◌, OnErr, IfOk};
+ghost use Rattle.std.specs.Prelude.{◌≡◌, ℕ, ◌+◌, ◌-◌, ◌<◌, ◌≤◌, ◌^◌, All, List, [], ◌∷◌, ◌++◌, Some, None, map, length, slice_set, IsTrue, ◌↔◌, OnErr, IfOk, IfSome};
 ghost use Rattle.std.specs.List.Sorted.{IsStrictlyIncreasing};
 ghost use Rattle.wcnf.specs.Literal.{Literal};
 ghost use Rattle.clauses.specs.Heads.{slots_of};
@@ -178,6 +178,27 @@ impl Store {
         ensures { IsTrue result ↔ IsLive self.now.slots reference }
     {
         self.heads.is_live(reference.place as usize)
+    }
+
+    /// How many references were given: the places from 0 up to this number.
+    pub fn places(&self) -> usize
+        ensures { result ≡ length self.now.slots }
+    {
+        self.heads.len()
+    }
+
+    /// The reference of the clause at this place, where it is live.
+    pub fn live_at(&self, place: usize) -> Option<CRef>
+        ensures live { IfSome result (λ r. (r ≡ place) × IsLive self.now.slots r) }
+        ensures none { result ≡ None → clause_at self.now.slots place ≡ None }
+    {
+        if place < MOST && self.heads.is_live(place) {
+            Some(CRef {
+                place: place as u32,
+            })
+        } else {
+            None
+        }
     }
 
     /// The room that clauses take, also deleted ones: a clause takes its length and one more.
