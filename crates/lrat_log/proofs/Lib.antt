@@ -4,5 +4,6 @@ pub mod Ids
 pub mod LineTexts
 pub mod Names
 pub mod Numbering
+pub mod RebasedLines
 pub mod Rebasing
 pub mod Text

@@ -16,9 +16,9 @@ use Rattle.lrat_log.specs.declared.lines.Name.TheVariants.{Formula, Added}
 use Rattle.lrat_log.specs.declared.lines.Hint.{Hint}
 use Rattle.lrat_log.specs.declared.lines.Hint.TheVariants.{Plain, Group}
 use Rattle.lrat_log.specs.Log.{LogLine, IsLine, IsPlain, is_delete, name_of, number_in, id_of, HasSmallIds, numbered_on, numbered_lines, Given, given_at, start_over}
-use Rattle.lrat_log.specs.Steps.{IsKnown, HasKnownNames, live_after, AreSteps, given_of, IsBaseOf, IsOwnGroup, IsLogOver, IsAcceptedLog, is_empty_clause, adds_empty_clause, StopsAtEmptyClause}
-use Rattle.lrat_log.specs.Rebase.{WeakerList, weaker_line, moved_name, moved_hint, moved_line, rebased, IsWeakerOf, KeepsSteps}
-use Rattle.lrat_log.proofs.Accepting.{accepted_on}
+use Rattle.lrat_log.specs.Steps.{IsKnown, HasKnownNames, live_after, AreSteps, given_of, IsBaseOf, IsOwnGroup, IsLogOver, IsAcceptedLog, adds_empty_clause, StopsAtEmptyClause}
+use Rattle.lrat_log.specs.Rebase.{WeakerList, weaker_line, moved_name, moved_hint, moved_line, rebased, IsWeakerOf, IsSomeClause, KeepsSteps, KeepsLog}
+use Rattle.lrat_log.proofs.Accepting.{accepted_on, accepted_log, refuted_log}
 use Rattle.lrat_log.proofs.Names.{leading_names, group_names, group_by, named_on, line_by, numbered_on-named, Renames, SameLive, GroupIs, HintKnown, LineKnown, chain_after, steps_from_chain}
 use Rattle.lrat_log.proofs.Numbering.{log_steps_from, given_below, given_past}
 use Rattle.lrat_log.proofs.Ids.{known_names}
@@ -59,7 +59,7 @@ base_on n [] a h k d lt = absurd (omega arith)
 base_on n (c ∷ cs) a h zero d lt = omega arith
 base_on n (c ∷ cs) a h (suc k) d lt = base_on (n + 1) cs a (omega arith) k d (omega arith)
 
-base_of : (cs : List (List Literal)) (a : ℕ) → length cs ≤ a → IsBaseOf (given_of cs) a
+pub base_of : (cs : List (List Literal)) (a : ℕ) → length cs ≤ a → IsBaseOf (given_of cs) a
 base_of cs a h = base_on 1 cs a (omega arith)
 
 given_from : (n : ℕ) (cs : List (List Literal)) (i k : ℕ) → i ≡ n + k → given_at (given_on n cs) i ≡ slice_get cs k
@@ -449,9 +449,6 @@ any_moved : (f c : ℕ) (ls : List LogLine) → list_any adds_empty_clause (map 
 any_moved f c [] = refl
 any_moved f c (l ∷ ls) = ap (λ x. adds_empty_clause l || x) (any_moved f c ls)
 
-abbrev pub IsSomeClause : List Literal × ℕ → Type 0
-IsSomeClause e = is_empty_clause e.0 ≡ false
-
 stops_weaker : (ws : WeakerList) (rest : List LogLine) → AllByRecursion IsSomeClause ws → StopsAtEmptyClause rest → StopsAtEmptyClause (map weaker_line ws ++ rest)
 stops_weaker [] rest h k = k
 stops_weaker (e ∷ ws) rest h k = stops_cons (weaker_line e) (map weaker_line ws ++ rest) h.0 (stops_weaker ws rest h.1 k)
@@ -612,3 +609,19 @@ keeps_log fixed ws old first others e weaker log nonempty =
       stops = stops_weaker ws moved (recursion_from_All IsSomeClause ws nonempty) (stops_moved fixed (length ws) old log.stops);
       groups = all_own b (rebased fixed ws old) fits;
     }
+
+pub keeps_accepted : (fixed : ℕ) (ws : WeakerList) (old : List LogLine) (first others : List (List Literal)) → length first ≡ fixed
+    → All (IsWeakerOf (first ++ others)) ws → All IsSomeClause ws → IsLogOver (given_of (first ++ map (λ e. e.0) ws ++ others)) old
+    → IsAcceptedLog (given_of (first ++ map (λ e. e.0) ws ++ others)) old → IsAcceptedLog (given_of (first ++ others)) (rebased fixed ws old)
+keeps_accepted fixed ws old first others e weaker nonempty log accepted =
+    let cs : List (List Literal) = first ++ map (λ e. e.0) ws ++ others in
+    let some : list_any adds_empty_clause old ≡ true = refuted_log (given_of cs) (length cs) (base_of cs (length cs) (omega arith)) old accepted in
+    accepted_log (given_of (first ++ others)) (rebased fixed ws old) (keeps_log fixed ws old first others e weaker log nonempty)
+    (any_weaker ws (map (moved_line fixed (length ws)) old) (any_moved fixed (length ws) old ∙ some))
+
+pub keeps_log_law : (fixed : ℕ) (ws : WeakerList) (old : List LogLine) → KeepsLog fixed ws old
+keeps_log_law fixed ws old = record {
+  steps = keeps_steps fixed ws old;
+  log = λ first others e weaker nonempty log. keeps_log fixed ws old first others e weaker log nonempty;
+  accepted = λ first others e weaker nonempty log accepted. keeps_accepted fixed ws old first others e weaker nonempty log accepted;
+}

@@ -4,5 +4,6 @@
 pub mod lines;
 pub mod log;
 mod packed;
+pub mod rebase;
 pub mod sink;
 mod spelling;

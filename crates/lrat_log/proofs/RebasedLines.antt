@@ -1,0 +1,31 @@
+-- The lines of a rebased log, one after another.
+use Rattle.std.proofs.Common.{◌≡◌, ℕ, zero, suc, ◌+◌, ◌<◌, Some, List, [], ◌∷◌, ◌++◌, length, map, take, get_or, refl, sym, ◌∙◌, ap, arith}
+use Rattle.std.specs.declared.vec.Vec.{Vec}
+use Rattle.std.specs.declared.alloc.Global.{Global}
+use Rattle.std.specs.List.{slice_get}
+use Rattle.std.proofs.lemmas.Option.{none-some}
+use Rattle.wcnf.specs.Literal.{Literal}
+use Rattle.lrat_log.specs.Rebase.{weaker_list, weaker_line}
+
+-- the first lines, and one more
+pub take_mapped : {X Y : Type 0} (f : X → Y) (xs : List X) (k : ℕ) (d : X) → k < length xs → take k (map f xs) ++ f (get_or xs k d) ∷ [] ≡ take (k + 1) (map f xs)
+take_mapped f [] k d lt = absurd (omega arith)
+take_mapped f (y ∷ ys) zero d lt = refl
+take_mapped f (y ∷ ys) (suc k) d lt =
+    let one : suc k + 1 ≡ suc (k + 1) = omega arith in
+    ap (λ z. f y ∷ z) (take_mapped f ys k d (omega arith)) ∙ sym (ap (λ n. take n (map f (y ∷ ys))) one)
+
+pub take_mapped_at : {X Y : Type 0} (f : X → Y) (xs : List X) (k : ℕ) (x : X) → slice_get xs k ≡ Some x → take k (map f xs) ++ f x ∷ [] ≡ take (k + 1) (map f xs)
+take_mapped_at f [] k x e = absurd (none-some x e)
+take_mapped_at f (y ∷ ys) zero x e = let same : y ≡ x = cc in ap (λ z. f z ∷ []) (sym same)
+take_mapped_at f (y ∷ ys) (suc k) x e =
+    let one : suc k + 1 ≡ suc (k + 1) = omega arith in
+    ap (λ z. f y ∷ z) (take_mapped_at f ys k x e) ∙ sym (ap (λ n. take n (map f (y ∷ ys))) one)
+
+pub weaker_more : (ws : List (Vec Literal Global × ℕ)) (k : ℕ) (e : Vec Literal Global × ℕ) → k < length ws → e ≡ get_or ws k e
+    → take k (map weaker_line (weaker_list ws)) ++ weaker_line ((e.0).items, e.1) ∷ [] ≡ take (k + 1) (map weaker_line (weaker_list ws))
+weaker_more [] k e lt same = absurd (omega arith)
+weaker_more (w ∷ ws) zero e lt same = ap (λ (x : Vec Literal Global × ℕ). weaker_line ((x.0).items, x.1) ∷ []) same
+weaker_more (w ∷ ws) (suc k) e lt same =
+    let one : suc k + 1 ≡ suc (k + 1) = omega arith in
+    ap (λ z. weaker_line ((w.0).items, w.1) ∷ z) (weaker_more ws k e (omega arith) same) ∙ sym (ap (λ n. take n (map weaker_line (weaker_list (w ∷ ws)))) one)

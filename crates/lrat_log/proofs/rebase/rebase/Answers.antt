@@ -1,0 +1,24 @@
+-- One more line, and what holds of the result.
+use Rattle.std.proofs.Common.{◌<◌, [], ◌∷◌, length, map, take, arith, append_assoc}
+use Rattle.lrat_log.specs.declared.lines.Kind.TheVariants.{Empty}
+use Rattle.lrat_log.specs.Log.{LogLine, line_at}
+use Rattle.lrat_log.specs.Rebase.{weaker_list, weaker_line, moved_line}
+use Rattle.lrat_log.proofs.Rebasing.{keeps_log_law}
+use Rattle.lrat_log.proofs.RebasedLines.{take_mapped, weaker_more}
+use Rattle.lrat_log.proofs.rebase.rebase.Goals as goal
+
+pub loop-entry-preserved : goal.loop-entry-preserved
+loop-entry-preserved c =
+    let t = weaker_more c.args.weaker.now c.loop-entry.entry-index c.entry-item.result (omega arith) c.entry-item.is in
+    cc (c.in_ok-append.ensures.ok, c.in_ok-weakened.ensures, c.loop-entry.invariant, t)
+
+pub loop-line-preserved : goal.loop-line-preserved
+loop-line-preserved c =
+    let none : LogLine = record { kind = Empty; clause = []; hints = [] } in
+    let lt : c.loop-line.line < length c.args.log.now = omega arith in
+    let t = take_mapped (moved_line c.args.fixed (length c.args.weaker.now)) c.args.log.now c.loop-line.line none lt in
+    let a = append_assoc (map weaker_line (weaker_list c.args.weaker.now)) (take c.loop-line.line (map (moved_line c.args.fixed (length c.args.weaker.now)) c.args.log.now)) (moved_line c.args.fixed (length c.args.weaker.now) (line_at c.args.log.now c.loop-line.line) ∷ []) in
+    cc (c.in_ok-append-2.ensures.ok, c.in_ok-moved.ensures, c.loop-line.invariant, a, t)
+
+pub returns-clause-keeps : goal.returns-clause-keeps
+returns-clause-keeps c = keeps_log_law c.args.fixed (weaker_list c.args.weaker.now) c.args.log.now

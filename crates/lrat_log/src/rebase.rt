@@ -1,0 +1,107 @@
+// A log over one set of clauses, told as one over another. A solver that is given bound after bound has a comparator for each of
+// them among its clauses, and the certificate's formula has that of the last bound alone. Each clause of the others has a clause of
+// the last as a subset: so it comes as a line of its own, and the lines of the log name it by that.
+ghost use Rattle.std.specs.Prelude.{◌≡◌, ◌+◌, ◌<◌, ◌^◌, length, map, All, IfOk, OnOk};
+ghost use Rattle.wcnf.specs.Lrat.{IsId};
+ghost use Rattle.lrat_log.specs.Log.{HasSmallIds, id_of, line_at};
+ghost use Rattle.lrat_log.specs.Rebase.{KeepsLog, moved_hint, moved_line, moved_name, rebased, weaker_line, weaker_list};
+
+use crate::lines::{Hint, Kind, Line, Name, Number};
+use crate::log::Log;
+use crate::sink::Sink;
+use std::alloc::{AllocError, Global};
+use wcnf::types::Lit;
+
+/// The log of a solver that was given `fixed` clauses, then the weaker ones, then others, as a log over the fixed clauses and the
+/// others: a line for each weaker clause, whose one hint is the clause with its number there, and then the lines of the log, with
+/// the names moved. The clause with that number has to be a subset of the weaker one.
+///
+/// # Errors
+///
+/// `AllocError` where memory was refused, or the lines would be 2^61 or more.
+pub fn rebase(log: &Log, fixed: u64, weaker: &[(Vec<Lit>, u64)]) -> Result<Log, AllocError>
+    requires numbers { All (λ e. IsId e.1) weaker.now }
+    requires literals { All (λ e. All (λ l. IsId l.variable) (e.0).items) weaker.now }
+    requires room { fixed + length weaker.now < 2 ^ 62 }
+    requires ids { HasSmallIds (length weaker.now) log.now }
+    ensures lines { IfOk result (λ new. new ≡ rebased fixed (weaker_list weaker.now) log.now) }
+
+    // What holds of the log over the clauses that the solver was given holds of the new one over those that are left.
+    ensures keeps { OnOk result (KeepsLog fixed (weaker_list weaker.now) log.now) }
+{
+    let alloc = log.allocator();
+    let count = weaker.len() as u64;
+    let mut new = Log::new(alloc);
+    for entry in weaker {
+        new.append(weakened(alloc, &entry.0, entry.1)?)?;
+    }
+    for line in 0..log.len() {
+        new.append(moved(log, line, fixed, count)?)?;
+    }
+    Ok(new)
+}
+
+/// The line that adds the clause, which the formula's clause with this number is a subset of.
+fn weakened(alloc: Global, lits: &[Lit], number: u64) -> Result<Line, AllocError>
+    requires literals { All (λ l. IsId l.variable) lits.now }
+    requires number { IsId number }
+    ensures { IfOk result (λ line. line ≡ weaker_line (lits.now, number)) }
+{
+    let mut hints = Vec::with_capacity(alloc, 1)?;
+    hints.push(Hint::Plain(Name::Formula(Number::new(number))))?;
+    let lits = Vec::from_slice(alloc, lits)?;
+    Ok(Line::new(Kind::Weaker, lits, hints))
+}
+
+/// The line in this place, with its names moved.
+fn moved(log: &Log, line: usize, fixed: u64, count: u64) -> Result<Line, AllocError>
+    requires line { line < length log.now }
+    requires room { fixed + count < 2 ^ 62 }
+    requires ids { HasSmallIds count log.now }
+    ensures { IfOk result (λ new. new ≡ moved_line fixed count (line_at log.now line)) }
+{
+    prove!(line < log.len());
+    let lits = Vec::from_slice(log.allocator(), log.lits(line))?;
+    let hints = moved_hints(log, line, fixed, count)?;
+    Ok(Line::new(log.kind(line), lits, hints))
+}
+
+/// The hints of the line in this place, with their names moved.
+fn moved_hints(log: &Log, line: usize, fixed: u64, count: u64) -> Result<Vec<Hint>, AllocError>
+    requires line { line < length log.now }
+    requires room { fixed + count < 2 ^ 62 }
+    requires ids { HasSmallIds count log.now }
+    ensures { IfOk result (λ hints. hints.items ≡ map (moved_hint fixed count) (line_at log.now line).hints) }
+{
+    let len = log.hints_len(line);
+    let mut hints = Vec::with_capacity(log.allocator(), len)?;
+    for index in 0..len {
+        let hint = match log.hint(line, index) {
+            Hint::Plain(name) => Hint::Plain(name_moved(name, fixed, count)),
+            Hint::Group(name) => Hint::Group(name_moved(name, fixed, count)),
+        };
+        hints.push(hint)?;
+    }
+    Ok(hints)
+}
+
+/// The name, where the `count` clauses after the first `fixed` ones come as lines before all others.
+fn name_moved(name: Name, fixed: u64, count: u64) -> Name
+    requires room { fixed + count < 2 ^ 62 }
+    requires id { id_of count name < 2 ^ 62 }
+    ensures { result ≡ moved_name fixed count name }
+{
+    match name {
+        Name::Added(number) => Name::Added(Number::new(count + number.get())),
+        Name::Formula(number) => {
+            let number = number.get();
+            if number <= fixed {
+                Name::Formula(Number::new(number))
+            } else if number <= fixed + count {
+                Name::Added(Number::new(number - fixed))
+            } else {
+                Name::Formula(Number::new(number - count))
+            }
+        }
+    }
+}
