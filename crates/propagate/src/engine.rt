@@ -81,6 +81,13 @@ impl Engine {
         })
     }
 
+    /// The number of variables.
+    pub fn variables(&self) -> u32
+        ensures { result ≡ self.now.variables }
+    {
+        self.trail.variables()
+    }
+
     /// Whether a literal is true; none where it is open. In constant time.
     pub fn value(&self, lit: Lit) -> Option<bool>
         requires { lit.variable ≤ self.now.variables }

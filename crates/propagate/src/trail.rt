@@ -67,6 +67,12 @@ impl Trail {
         })
     }
 
+    pub(crate) fn variables(&self) -> u32
+        ensures { result ≡ self.now.variables }
+    {
+        self.variables
+    }
+
     pub(crate) fn value(&self, lit: Lit) -> Option<bool>
         requires { lit.variable ≤ self.now.variables }
         ensures { result ≡ value_in self.now.assigned lit }
