@@ -1,5 +1,5 @@
 -- What the values of a clause's literals say of the clause.
-use Rattle.std.proofs.Common.{◌≡◌, ◌≢◌, ℕ, ◌<◌, ◌≤◌, Bool, true, false, List, [], ◌∷◌, Option, Some, None, ◌⊎◌, inl, inr, refl, sym, subst, arith}
+use Rattle.std.proofs.Common.{◌≡◌, ◌≢◌, ℕ, ◌<◌, ◌≤◌, Bool, true, false, List, [], ◌∷◌, Option, Some, None, ◌⊎◌, inl, inr, refl, sym, subst, ap, arith}
 use Rattle.std.specs.Prelude.{All, if◌then◌else◌}
 use Rattle.std.specs.List.{AllByRecursion}
 use Rattle.std.proofs.lemmas.Bool.{cases_Bool, or_cases, false≢true, both_ways, false_from_ne_true}
@@ -10,8 +10,10 @@ use Rattle.wcnf.specs.Refute.{Clauses, IsUnit, IsFalseUnder}
 use Rattle.wcnf.proofs.Sound.{literal_eq-true}
 use Rattle.propagate.specs.declared.table.Place.{Place}
 use Rattle.propagate.specs.Trail.{Assigned, literals_of, value_in, HasReasons}
-use Rattle.propagate.specs.Watches.{IsVariable}
-use Rattle.propagate.specs.Fits.{IsWithin}
+use Rattle.propagate.specs.declared.table.Place.TheVariants.{Waiting}
+use Rattle.clauses.specs.Slots.{Slots, clause_at}
+use Rattle.propagate.specs.Watches.{EngineState, IsVariable, is_attached, is_kept, place_in}
+use Rattle.propagate.specs.Fits.{Fits, IsWithin}
 use Rattle.propagate.specs.Steps.{IsWatchedBy}
 use Rattle.propagate.proofs.Trails.{open_at}
 use Rattle.propagate.proofs.Reasons.{no_opposites}
@@ -97,3 +99,13 @@ pub open_left : (o : Option Bool) → o ≢ Some true → o ≢ Some false → o
 open_left None t f = refl
 open_left (Some true) t f = absurd (t refl)
 open_left (Some false) t f = absurd (f refl)
+
+-- an attached clause is over the engine's variables
+pub attached_within : (e : EngineState) (slots : Slots) (r : ℕ) (c : List Literal) → Fits e slots → is_attached e r ≡ true → clause_at slots r ≡ Some c → IsWithin e.variables c
+attached_within e slots r c fits was live =
+    let f = fits.attached r was in
+    let same : f.0 ≡ c = cc (f.1, live) in
+    subst (IsWithin e.variables) same f.2.0
+
+pub waiting_within : (e : EngineState) (slots : Slots) (r : ℕ) (c : List Literal) → Fits e slots → place_in e.watches.table r ≡ Waiting → clause_at slots r ≡ Some c → IsWithin e.variables c
+waiting_within e slots r c fits waits live = attached_within e slots r c fits (ap is_kept waits) live

@@ -6,9 +6,9 @@ use Rattle.clauses.specs.Slots.{clause_at}
 use Rattle.propagate.specs.declared.table.Place.TheVariants.{Watching}
 use Rattle.propagate.specs.Trail.{literals_of, value_in}
 use Rattle.propagate.specs.Watches.{EngineState, IsEngine, is_attached, is_kept}
-use Rattle.propagate.specs.Fits.{Fits, IsWithin}
+use Rattle.propagate.specs.Fits.{Fits}
 use Rattle.propagate.specs.Steps.{Continues}
-use Rattle.propagate.proofs.Looking.{within_variable, within_all, all_false_from, not_false_value}
+use Rattle.propagate.proofs.Looking.{waiting_within, within_variable, within_all, all_false_from, not_false_value}
 use Rattle.propagate.proofs.Stepping.{open_watch}
 use Rattle.propagate.proofs.Continuing.{continues_place}
 use Rattle.propagate.proofs.Watching.{fits_watch, made_true}
@@ -19,12 +19,9 @@ first_not_false-requires c =
     let now = c.args.self.now in
     let slots = c.args.store.now.slots in
     let r = c.args.reference in
-    let was : is_attached now r ≡ true = ap is_kept c.requires.waits in
-    let f = c.requires.fits.attached r was in
     let lits = c.lits-lits.result.now in
-    let same : f.0 ≡ lits = cc (f.1, c.lits-lits.ensures) in
     let live : clause_at slots r ≡ Some lits = c.lits-lits.ensures in
-    let within : IsWithin now.variables lits = subst (IsWithin now.variables) same f.2.0 in
+    let within = waiting_within now slots r lits c.requires.fits c.requires.waits live in
     let v = ap (λ (x : EngineState). x.variables) c.self.view_is in
     subst (λ n. All (λ (l : Literal). l.variable ≤ n) lits) (sym v) (within_all now.variables lits within.1)
 
@@ -33,12 +30,9 @@ other_not_false-requires c =
     let now = c.args.self.now in
     let slots = c.args.store.now.slots in
     let r = c.args.reference in
-    let was : is_attached now r ≡ true = ap is_kept c.requires.waits in
-    let f = c.requires.fits.attached r was in
     let lits = c.lits-lits.result.now in
-    let same : f.0 ≡ lits = cc (f.1, c.lits-lits.ensures) in
     let live : clause_at slots r ≡ Some lits = c.lits-lits.ensures in
-    let within : IsWithin now.variables lits = subst (IsWithin now.variables) same f.2.0 in
+    let within = waiting_within now slots r lits c.requires.fits c.requires.waits live in
     let v = ap (λ (x : EngineState). x.variables) c.self.view_is in
     subst (λ n. All (λ (l : Literal). l.variable ≤ n) lits) (sym v) (within_all now.variables lits within.1)
 
@@ -48,11 +42,8 @@ returns-in_default-clause-done c =
     let slots = c.args.store.now.slots in
     let r = c.args.reference in
     let was : is_attached now r ≡ true = ap is_kept c.requires.waits in
-    let f = c.requires.fits.attached r was in
     let lits = c.lits-lits.result.now in
-    let same : f.0 ≡ lits = cc (f.1, c.lits-lits.ensures) in
     let live : clause_at slots r ≡ Some lits = c.lits-lits.ensures in
-    let within : IsWithin now.variables lits = subst (IsWithin now.variables) same f.2.0 in
     let trail = ap (λ (x : EngineState). x.trail) c.self.view_is in
     (was, (lits, live, all_false_from now.trail lits (subst (λ T. All (λ l. value_in T l ≡ Some false) lits) trail c.in_default.ensures)))
 
@@ -61,12 +52,9 @@ watch-requires-clause-one c =
     let now = c.args.self.now in
     let slots = c.args.store.now.slots in
     let r = c.args.reference in
-    let was : is_attached now r ≡ true = ap is_kept c.requires.waits in
-    let f = c.requires.fits.attached r was in
     let lits = c.lits-lits.result.now in
-    let same : f.0 ≡ lits = cc (f.1, c.lits-lits.ensures) in
     let live : clause_at slots r ≡ Some lits = c.lits-lits.ensures in
-    let within : IsWithin now.variables lits = subst (IsWithin now.variables) same f.2.0 in
+    let within = waiting_within now slots r lits c.requires.fits c.requires.waits live in
     within_variable now.variables lits c.in-Some.one within c.in-Some.ensures.0
 
 pub watch-requires-clause-other : goal.watch-requires-clause-other
@@ -74,12 +62,9 @@ watch-requires-clause-other c =
     let now = c.args.self.now in
     let slots = c.args.store.now.slots in
     let r = c.args.reference in
-    let was : is_attached now r ≡ true = ap is_kept c.requires.waits in
-    let f = c.requires.fits.attached r was in
     let lits = c.lits-lits.result.now in
-    let same : f.0 ≡ lits = cc (f.1, c.lits-lits.ensures) in
     let live : clause_at slots r ≡ Some lits = c.lits-lits.ensures in
-    let within : IsWithin now.variables lits = subst (IsWithin now.variables) same f.2.0 in
+    let within = waiting_within now slots r lits c.requires.fits c.requires.waits live in
     within_variable now.variables lits c.in-Some-other_not_false.other within c.in-Some-other_not_false.ensures.0
 
 pub make_true-requires : goal.make_true-requires
@@ -87,12 +72,9 @@ make_true-requires c =
     let now = c.args.self.now in
     let slots = c.args.store.now.slots in
     let r = c.args.reference in
-    let was : is_attached now r ≡ true = ap is_kept c.requires.waits in
-    let f = c.requires.fits.attached r was in
     let lits = c.lits-lits.result.now in
-    let same : f.0 ≡ lits = cc (f.1, c.lits-lits.ensures) in
     let live : clause_at slots r ≡ Some lits = c.lits-lits.ensures in
-    let within : IsWithin now.variables lits = subst (IsWithin now.variables) same f.2.0 in
+    let within = waiting_within now slots r lits c.requires.fits c.requires.waits live in
     (within_variable now.variables lits c.in-Some.one within c.in-Some.ensures.0).1
 
 pub returns-in-Some-other_not_false-clause-continues : goal.returns-in-Some-other_not_false-clause-continues
@@ -105,12 +87,8 @@ returns-in-Some-other_not_false-clause-fits c =
     let now = c.args.self.now in
     let slots = c.args.store.now.slots in
     let r = c.args.reference in
-    let was : is_attached now r ≡ true = ap is_kept c.requires.waits in
-    let f = c.requires.fits.attached r was in
     let lits = c.lits-lits.result.now in
-    let same : f.0 ≡ lits = cc (f.1, c.lits-lits.ensures) in
     let live : clause_at slots r ≡ Some lits = c.lits-lits.ensures in
-    let within : IsWithin now.variables lits = subst (IsWithin now.variables) same f.2.0 in
     let inv : IsEngine now = subst IsEngine c.self.view_is c.self.invariant in
     let trail = ap (λ (x : EngineState). x.trail) c.self.view_is in
     let one = c.in-Some.one in
@@ -127,11 +105,9 @@ settle-requires-clause-fits c =
     let slots = c.args.store.now.slots in
     let r = c.args.reference in
     let was : is_attached now r ≡ true = ap is_kept c.requires.waits in
-    let f = c.requires.fits.attached r was in
     let lits = c.lits-lits.result.now in
-    let same : f.0 ≡ lits = cc (f.1, c.lits-lits.ensures) in
     let live : clause_at slots r ≡ Some lits = c.lits-lits.ensures in
-    let within : IsWithin now.variables lits = subst (IsWithin now.variables) same f.2.0 in
+    let within = waiting_within now slots r lits c.requires.fits c.requires.waits live in
     let inv : IsEngine now = subst IsEngine c.self.view_is c.self.invariant in
     let trail = ap (λ (x : EngineState). x.trail) c.self.view_is in
     let one = c.in-Some.one in
@@ -145,11 +121,9 @@ returns-clause-done c =
     let slots = c.args.store.now.slots in
     let r = c.args.reference in
     let was : is_attached now r ≡ true = ap is_kept c.requires.waits in
-    let f = c.requires.fits.attached r was in
     let lits = c.lits-lits.result.now in
-    let same : f.0 ≡ lits = cc (f.1, c.lits-lits.ensures) in
     let live : clause_at slots r ≡ Some lits = c.lits-lits.ensures in
-    let within : IsWithin now.variables lits = subst (IsWithin now.variables) same f.2.0 in
+    let within = waiting_within now slots r lits c.requires.fits c.requires.waits live in
     let inv : IsEngine now = subst IsEngine c.self.view_is c.self.invariant in
     let trail = ap (λ (x : EngineState). x.trail) c.self.view_is in
     let one = c.in-Some.one in

@@ -5,10 +5,10 @@ use Rattle.wcnf.specs.Clause.{contains_literal}
 use Rattle.clauses.specs.Slots.{clause_at}
 use Rattle.propagate.specs.declared.table.Place.TheVariants.{Watching, Resting}
 use Rattle.propagate.specs.Trail.{level_in, depth_of}
-use Rattle.propagate.specs.Watches.{EngineState, IsEngine, is_attached, is_kept}
-use Rattle.propagate.specs.Fits.{Fits, IsWithin}
+use Rattle.propagate.specs.Watches.{EngineState, IsEngine, is_kept}
+use Rattle.propagate.specs.Fits.{Fits}
 use Rattle.propagate.specs.Steps.{Continues}
-use Rattle.propagate.proofs.Looking.{within_variable, within_all}
+use Rattle.propagate.proofs.Looking.{waiting_within, within_variable, within_all}
 use Rattle.propagate.proofs.Continuing.{continues_place}
 use Rattle.propagate.proofs.Watching.{fits_watch, fits_rest, level_watch, true_watch}
 use Rattle.propagate.proofs.engine.Engine.settle.Goals as goal
@@ -18,12 +18,9 @@ other_of_level-requires c =
     let now = c.args.self.now in
     let slots = c.args.store.now.slots in
     let r = c.args.reference in
-    let was : is_attached now r ≡ true = ap is_kept c.requires.waits in
-    let f = c.requires.fits.attached r was in
     let lits = c.lits-lits.result.now in
-    let same : f.0 ≡ lits = cc (f.1, c.lits-lits.ensures) in
     let live : clause_at slots r ≡ Some lits = c.lits-lits.ensures in
-    let within : IsWithin now.variables lits = subst (IsWithin now.variables) same f.2.0 in
+    let within = waiting_within now slots r lits c.requires.fits c.requires.waits live in
     let v = ap (λ (x : EngineState). x.variables) c.self.view_is in
     subst (λ n. All (λ (l : Literal). l.variable ≤ n) lits) (sym v) (within_all now.variables lits within.1)
 
@@ -32,12 +29,9 @@ watch-requires-clause-one c =
     let now = c.args.self.now in
     let slots = c.args.store.now.slots in
     let r = c.args.reference in
-    let was : is_attached now r ≡ true = ap is_kept c.requires.waits in
-    let f = c.requires.fits.attached r was in
     let lits = c.lits-lits.result.now in
-    let same : f.0 ≡ lits = cc (f.1, c.lits-lits.ensures) in
     let live : clause_at slots r ≡ Some lits = c.lits-lits.ensures in
-    let within : IsWithin now.variables lits = subst (IsWithin now.variables) same f.2.0 in
+    let within = waiting_within now slots r lits c.requires.fits c.requires.waits live in
     within_variable now.variables lits c.args.one within (subst (λ o. IfSome o (λ x. contains_literal c.args.one x ≡ true)) live c.requires.member)
 
 pub watch-requires-clause-other : goal.watch-requires-clause-other
@@ -45,12 +39,9 @@ watch-requires-clause-other c =
     let now = c.args.self.now in
     let slots = c.args.store.now.slots in
     let r = c.args.reference in
-    let was : is_attached now r ≡ true = ap is_kept c.requires.waits in
-    let f = c.requires.fits.attached r was in
     let lits = c.lits-lits.result.now in
-    let same : f.0 ≡ lits = cc (f.1, c.lits-lits.ensures) in
     let live : clause_at slots r ≡ Some lits = c.lits-lits.ensures in
-    let within : IsWithin now.variables lits = subst (IsWithin now.variables) same f.2.0 in
+    let within = waiting_within now slots r lits c.requires.fits c.requires.waits live in
     within_variable now.variables lits c.in-Some.other within c.in-Some.ensures.0
 
 pub returns-in-Some-clause-continues : goal.returns-in-Some-clause-continues
@@ -63,12 +54,8 @@ returns-in-Some-clause-fits c =
     let now = c.args.self.now in
     let slots = c.args.store.now.slots in
     let r = c.args.reference in
-    let was : is_attached now r ≡ true = ap is_kept c.requires.waits in
-    let f = c.requires.fits.attached r was in
     let lits = c.lits-lits.result.now in
-    let same : f.0 ≡ lits = cc (f.1, c.lits-lits.ensures) in
     let live : clause_at slots r ≡ Some lits = c.lits-lits.ensures in
-    let within : IsWithin now.variables lits = subst (IsWithin now.variables) same f.2.0 in
     let inv : IsEngine now = subst IsEngine c.self.view_is c.self.invariant in
     let m : contains_literal c.args.one lits ≡ true = subst (λ o. IfSome o (λ x. contains_literal c.args.one x ≡ true)) live c.requires.member in
     let trail = ap (λ (x : EngineState). x.trail) c.self.view_is in
@@ -88,12 +75,8 @@ returns-then-depth-eq0-clause-fits c =
     let now = c.args.self.now in
     let slots = c.args.store.now.slots in
     let r = c.args.reference in
-    let was : is_attached now r ≡ true = ap is_kept c.requires.waits in
-    let f = c.requires.fits.attached r was in
     let lits = c.lits-lits.result.now in
-    let same : f.0 ≡ lits = cc (f.1, c.lits-lits.ensures) in
     let live : clause_at slots r ≡ Some lits = c.lits-lits.ensures in
-    let within : IsWithin now.variables lits = subst (IsWithin now.variables) same f.2.0 in
     let m : contains_literal c.args.one lits ≡ true = subst (λ o. IfSome o (λ x. contains_literal c.args.one x ≡ true)) live c.requires.member in
     let trail = ap (λ (x : EngineState). x.trail) c.self.view_is in
     let zero : depth_of now.trail ≡ 0 = sym (c.depth-depth.ensures ∙ ap depth_of trail) ∙ c.if-depth-eq0.true in
