@@ -1,7 +1,8 @@
 # make        proves and builds the program, and leaves it as ./wmax
 # make demo   checks a SAT solver's refutation of a real problem
 # make test   the gate (rt ci), and then the scripts of tests/ on the program that it left
-.PHONY: all demo test clean
+# make edits  all edits that the prover must refuse, also those that the gate leaves out (some hours; CRATES='wcnf ..' for some)
+.PHONY: all demo test edits clean
 
 all:
 	cd crates/wmax && rt run -- --help > /dev/null
@@ -13,6 +14,9 @@ demo:
 
 test:
 	@bash tests/all
+
+edits:
+	@bash tests/edits $(CRATES)
 
 clean:
 	rm -rf crates/*/out wmax
