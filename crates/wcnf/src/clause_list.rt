@@ -1,5 +1,6 @@
 // A list of clauses in flat memory: four bytes for each literal, and four for each clause.
-ghost use Rattle.std.specs.Prelude.{◌≡◌, ◌<◌, [], ◌∷◌, ◌++◌, Some, length, slice_get, OnOk, OnErr};
+ghost use Rattle.std.specs.Prelude.{◌≡◌, ◌<◌, [], ◌∷◌, ◌++◌, ◌≤◌, Some, length, slice_get, slice_range, OnOk, OnErr};
+ghost use Rattle.std.specs.Iterator.{YieldsFirstRef, item_count};
 ghost use Rattle.wcnf.specs.Flat.{start_at};
 
 use crate::types::Lit;
@@ -53,8 +54,7 @@ impl ClauseList {
         ensures { slice_get self.now place ≡ Some result.now }
     {
         let start = start_of(&self.ends, place);
-        let end = self.ends[place];
-        &self.lits[start as usize..end as usize]
+        part(&self.lits, start, self.ends[place])
     }
 
     /// Puts a clause last.
@@ -77,10 +77,71 @@ impl ClauseList {
         Ok(())
     }
 
+    /// The clauses, in their order.
+    pub fn iter(&self) -> Clauses<'_>
+        ensures { result ≡ self.now }
+    {
+        Clauses {
+            lits: &self.lits,
+            start: 0,
+            ends: &self.ends,
+        }
+    }
+
     /// Where the clauses take their memory from.
     pub fn allocator(&self) -> Global {
         *self.lits.allocator()
     }
+}
+
+/// Goes over the clauses of a list, each lent as a part of its literals.
+#[derive(Drop)]
+pub struct Clauses<'a> {
+    lits: &'a [Lit],
+    // Where the next clause begins.
+    start: u32,
+    // Where the clauses that are left end.
+    ends: &'a [u32],
+}
+
+impl<'a> Model for Clauses<'a> {
+    ghost use Rattle.std.specs.Prelude.{List, length};
+    ghost use Rattle.wcnf.specs.Literal.{Literal};
+    ghost use Rattle.wcnf.specs.Flat.{cut_from, RiseTo};
+
+    ghost Value = { List (List Literal) };
+
+    ghost view = { λ s. cut_from s.start s.lits.now s.ends.now };
+
+    ghost invariant = { λ s. RiseTo s.start s.ends.now (length s.lits.now) };
+}
+
+impl<'a> Iterator for Clauses<'a> {
+    type Item = &'a [Lit];
+
+    ghost next_gives = { YieldsFirstRef (λ s. s) };
+
+    ghost remaining = { item_count (λ s. s) };
+
+    fn next(&mut self) -> Option<&'a [Lit]> {
+        match self.ends {
+            [] => None,
+            [end, ends @ ..] => {
+                let clause = part(self.lits, self.start, *end);
+                self.start = *end;
+                self.ends = ends;
+                Some(clause)
+            }
+        }
+    }
+}
+
+// The literals from one place to another.
+fn part(lits: &[Lit], start: u32, end: u32) -> &[Lit]
+    requires { (start ≤ end) × (end ≤ length lits.now) }
+    ensures { result.now ≡ slice_range lits.now start end }
+{
+    &lits[start as usize..end as usize]
 }
 
 // Where a clause begins.

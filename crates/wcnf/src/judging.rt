@@ -1,10 +1,12 @@
 // Judging bits by an instance: whether they are a solution, and what they cost.
 ghost use Rattle.std.specs.Prelude.{◌≡◌, ◌≤◌, IsTrue, ◌↔◌, All, length};
+ghost use Rattle.std.specs.List.{list_all};
 ghost use Rattle.wcnf.specs.Literal.{Assignment, literal_value};
 ghost use Rattle.wcnf.specs.Clause.{clause_value};
 ghost use Rattle.wcnf.specs.Problem.{IsFeasible, cost_under};
 ghost use Rattle.wcnf.specs.Bits.{Extends};
 
+use crate::clause_list::ClauseList;
 use crate::types::{Instance, Lit};
 
 impl Instance {
@@ -16,13 +18,7 @@ impl Instance {
         ensures { (t : Assignment) → Extends bits.now t → (IsTrue result ↔ IsFeasible self.now t) }
     {
         prove!(bits.len() == self.vars() as usize);
-        let hard = self.hard();
-        for i in 0..hard.len() {
-            if !is_satisfied(hard.get(i), bits) {
-                return false;
-            }
-        }
-        true
+        are_satisfied(self.hard(), bits)
     }
 
     /// What the bits cost: the weights of the soft clauses that they make false, each clause by itself.
@@ -41,6 +37,14 @@ impl Instance {
         }
         cost
     }
+}
+
+// Whether the bits make every clause true.
+fn are_satisfied(clauses: &ClauseList, bits: &[bool]) -> bool
+    requires { All (λ c. All (λ l. l.variable ≤ length bits.now) c) clauses.now }
+    ensures { (t : Assignment) → Extends bits.now t → result ≡ list_all (clause_value t) clauses.now }
+{
+    clauses.iter().all(|clause| is_satisfied(clause, bits))
 }
 
 // Whether the bits make some literal of the clause true.
