@@ -35,8 +35,8 @@ fn owned(clauses: &ClauseList) -> Result<Vec<Clause>, AllocError>
 {
     let alloc = clauses.allocator();
     let mut owned = Vec::new(alloc);
-    for i in 0..clauses.len() {
-        owned.push(Clause::new(Vec::from_slice(alloc, clauses.get(i))?))?;
+    for clause in clauses.iter() {
+        owned.push(Clause::new(Vec::from_slice(alloc, clause)?))?;
     }
     Ok(owned)
 }

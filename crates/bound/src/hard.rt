@@ -42,9 +42,8 @@ pub(crate) fn keep_hard(
 {
     // The contract of `vars` has the limits of the instance: its literals have places in the table.
     let _vars = instance.vars();
-    let hard = instance.hard();
-    for i in 0..hard.len() {
-        keep(clauses, marks, hard.get(i))?;
+    for clause in instance.hard().iter() {
+        keep(clauses, marks, clause)?;
     }
     Ok(())
 }

@@ -1,6 +1,11 @@
--- The clauses before this one were copied.
-use Rattle.std.proofs.Common.{◌≡◌, take}
+-- What was copied, with the clauses that are left, is all.
+use Rattle.std.proofs.Common.{◌≡◌, ◌++◌, false}
+use Rattle.std.specs.Prelude.{All}
+use Rattle.wcnf.specs.Clause.{has_repeat}
 use Rattle.bound.proofs.comparators.owned.Given as goal
 
-abbrev pub invariant-loop-i : goal.invariant-loop-i
-invariant-loop-i l = l.owned.items ≡ take l.i l.clauses
+abbrev pub invariant-loop-clause : goal.invariant-loop-clause
+invariant-loop-clause l = record {
+  copied : l.owned.items ++ l.clause-iterator ≡ l.clauses;
+  left : All (λ c. has_repeat c ≡ false) l.clause-iterator;
+}

@@ -1,36 +1,33 @@
--- The literals of the clause have places.
-use Rattle.std.proofs.Common.{◌≡◌, ◌*◌, ◌≤◌, ◌++◌, arith, ap, length, ◌∙◌}
-use Rattle.std.proofs.lemmas.List.{take_all}
-use Rattle.std.specs.Prelude.{slice_get, Some}
+-- One clause more was kept, and its literals have places.
+use Rattle.std.proofs.Common.{◌≡◌, ◌*◌, ◌≤◌, ◌++◌, [], ◌∷◌, List, ◌∙◌, ap, sym, subst, arith}
+use Rattle.std.proofs.lemmas.List.{append_assoc}
+use Rattle.std.proofs.lemmas.List.Elements.{All-head, All-tail}
+use Rattle.std.specs.Prelude.{All}
+use Rattle.wcnf.specs.Literal.{Literal}
 use Rattle.wcnf.specs.Instance.{IsClauseWithin}
 use Rattle.bound.specs.Bound.{kept}
-use Rattle.bound.proofs.Kept.{clause_of, places_within, kept_next}
+use Rattle.bound.proofs.Kept.{kept-append, places_within}
 use Rattle.bound.proofs.hard.keep_hard.Goals as goal
-use Rattle.bound.proofs.hard.keep_hard.Goals.{After-get}
-
-here : (c : After-get) → slice_get c.args.instance.now.hard c.loop-i.i ≡ Some c.get.result.now
-here c = rw (← c.hard-hard.ensures) c.get.ensures
-
-within : (c : After-get) → IsClauseWithin c.args.instance.now.variables c.get.result.now
-within c =
-    let p = c.args.instance.now in
-    clause_of (IsClauseWithin p.variables) p.hard c.loop-i.i c.get.result.now c.vars-vars.ensures.limits.hard_clauses (here c)
-
-pub keep-requires-clause-no_repeat : goal.keep-requires-clause-no_repeat
-keep-requires-clause-no_repeat c = (within (goal.at.keep-requires-clause-no_repeat c).After-get).0
+use Rattle.bound.proofs.hard.keep_hard.Goals.{After-next}
 
 pub keep-requires-clause-places : goal.keep-requires-clause-places
 keep-requires-clause-places c =
-    let places : 2 * c.args.instance.now.variables ≤ c.loop-i.marks = omega (arith, c.requires, c.loop-i.invariant.1) in
-    places_within c.args.instance.now.variables c.loop-i.marks c.get.result.now places (within (goal.at.keep-requires-clause-places c).After-get)
+    let n = c.args.instance.now.variables in
+    let left : All (IsClauseWithin n) (c.in-Some.clause.now ∷ c.next.new.self) = subst (All (IsClauseWithin n)) c.in-Some.ensures.steps c.loop-clause.invariant.left in
+    let places : 2 * n ≤ c.loop-clause.marks = omega (arith, c.requires, c.loop-clause.invariant.marks) in
+    places_within n c.loop-clause.marks c.in-Some.clause.now places (All-head (IsClauseWithin n) c.in-Some.clause.now c.next.new.self left)
 
-pub loop-i-preserved : goal.loop-i-preserved
-loop-i-preserved c =
-    let hard = c.args.instance.now.hard in
-    (kept_next c.args.clauses.now hard c.loop-i.i c.get.result.now c.loop-i.clauses _ (here (goal.at.loop-i-preserved c).After-get) c.loop-i.invariant.0 c.in_ok-keep.ensures.clauses, c.in_ok-keep.ensures.marks ∙ c.loop-i.invariant.1)
-
-pub returns-clause-clauses : goal.returns-clause-clauses
-returns-clause-clauses c =
-    let hard = c.args.instance.now.hard in
-    let last : length hard ≤ c.loop-i.i = omega (arith, c.loop-i-test.false, c.len-i-end.ensures, ap length c.hard-hard.ensures) in
-    c.loop-i.invariant.0 ∙ ap (λ cs. c.args.clauses.now ++ kept cs) (take_all c.loop-i.i hard last)
+pub loop-clause-preserved : goal.loop-clause-preserved
+loop-clause-preserved c =
+    let n = c.args.instance.now.variables in
+    let steps = c.in-Some.ensures.steps in
+    let left : All (IsClauseWithin n) (c.in-Some.clause.now ∷ c.next.new.self) = subst (All (IsClauseWithin n)) steps c.loop-clause.invariant.left in
+    record {
+      added =
+          ap (λ cs. cs ++ kept c.next.new.self) c.in_ok-keep.ensures.clauses
+          ∙ append_assoc c.loop-clause.clauses (kept (c.in-Some.clause.now ∷ [])) (kept c.next.new.self)
+          ∙ ap (λ cs. c.loop-clause.clauses ++ cs) (sym (kept-append (c.in-Some.clause.now ∷ []) c.next.new.self) ∙ ap kept (sym steps))
+          ∙ c.loop-clause.invariant.added;
+      marks = c.in_ok-keep.ensures.marks ∙ c.loop-clause.invariant.marks;
+      left = All-tail (IsClauseWithin n) c.in-Some.clause.now c.next.new.self left;
+    }

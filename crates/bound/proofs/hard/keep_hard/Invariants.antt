@@ -1,7 +1,13 @@
--- What is added so far is what is kept of the clauses before this one.
-use Rattle.std.proofs.Common.{◌≡◌, ◌++◌, take}
+-- What is added so far, with what is kept of the clauses that are left, is all.
+use Rattle.std.proofs.Common.{◌≡◌, ◌++◌}
+use Rattle.std.specs.Prelude.{All}
+use Rattle.wcnf.specs.Instance.{IsClauseWithin}
 use Rattle.bound.specs.Bound.{kept}
 use Rattle.bound.proofs.hard.keep_hard.Given as goal
 
-abbrev pub invariant-loop-i : goal.invariant-loop-i
-invariant-loop-i l = (l.clauses ≡ l.initial.clauses ++ kept (take l.i l.fn.instance.hard)) × (l.marks ≡ l.initial.marks)
+abbrev pub invariant-loop-clause : goal.invariant-loop-clause
+invariant-loop-clause l = record {
+  added : l.clauses ++ kept l.clause-iterator ≡ l.initial.clauses ++ kept l.fn.instance.hard;
+  marks : l.marks ≡ l.initial.marks;
+  left : All (IsClauseWithin l.fn.instance.variables) l.clause-iterator;
+}
