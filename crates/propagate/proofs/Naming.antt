@@ -64,18 +64,20 @@ assigned_named ms R (l ∷ A) =
     ap (λ (r : Option ℕ). record { literal = l; reason = r } ∷ assigned_by (map (named_reason ms) R) A) (get_or-map (named_reason ms) R l.variable None)
     ∙ ap (λ T. record { literal = l; reason = named_reason ms (reason_at R l.variable) } ∷ T) (assigned_named ms R A)
 
-pub trail_named : (ms : Renaming) (n : ℕ) (A : List Literal) (vs : List (Option Bool)) (ls R : List (Option ℕ)) (d room room' : ℕ) → n ≤ room' → IsTrail n A vs ls R d room
-    → IsTrail n A vs ls (map (named_reason ms) R) d room'
-trail_named ms n A vs ls R d room room' wide t =
+pub trail_named : (ms : Renaming) (n : ℕ) (A : List Literal) (vs : List (Option Bool)) (ls : List (Option ℕ)) (ps : List ℕ) (R : List (Option ℕ)) (d room room' : ℕ) → n ≤ room' → IsTrail n A vs ls ps R d room
+    → IsTrail n A vs ls ps (map (named_reason ms) R) d room'
+trail_named ms n A vs ls ps R d room room' wide t =
     let shape = assigned_named ms R A in
     record {
       within = t.within;
       once = t.once;
       values_length = t.values_length;
       levels_length = t.levels_length;
+      positions_length = t.positions_length;
       reasons_length = length-map R (named_reason ms) ∙ t.reasons_length;
       value_of = λ l h. t.value_of l h ∙ sym (value_named ms (assigned_by R A) l) ∙ sym (ap (λ T. value_in T l) shape);
       level_of = λ v. t.level_of v ∙ sym (level_from_named ms 0 (assigned_by R A) v) ∙ sym (ap (λ T. level_in T v) shape);
+      position_of = t.position_of;
       depth_is = t.depth_is ∙ sym (depth_named ms (assigned_by R A)) ∙ sym (ap depth_of shape);
       has_room = wide;
       few = t.few;

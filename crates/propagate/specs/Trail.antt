@@ -34,6 +34,14 @@ level_from level (a ∷ trail) v = if a.literal.variable == v then Some (level_a
 abbrev pub level_in : List Assigned → ℕ → Option ℕ
 level_in trail v = level_from 0 trail v
 
+-- how many literals stand before the variable's, where it has one
+abbrev pub position_from : ℕ → List Assigned → ℕ → Option ℕ
+position_from n [] v = None
+position_from n (a ∷ trail) v = if a.literal.variable == v then Some n else position_from (n + 1) trail v
+
+abbrev pub position_in : List Assigned → ℕ → Option ℕ
+position_in trail v = position_from 0 trail v
+
 abbrev pub reason_in : List Assigned → ℕ → Option ℕ
 reason_in [] v = None
 reason_in (a ∷ trail) v = if a.literal.variable == v then a.reason else reason_in trail v

@@ -5,7 +5,7 @@ use Rattle.propagate.specs.declared.table.Place.TheVariants.{Detached, Waiting, 
 use Rattle.propagate.specs.declared.table.Rest.TheVariants.{Nothing}
 use Rattle.propagate.specs.Watches.{EngineState, engine_state, is_attached}
 use Rattle.propagate.specs.Tables.{assigned_by}
-use Rattle.propagate.specs.Trail.{Assigned, TrailState, literals_of, depth_of, level_in, reason_in, value_in, kept_to}
+use Rattle.propagate.specs.Trail.{Assigned, TrailState, literals_of, depth_of, level_in, reason_in, position_in, value_in, kept_to}
 
 abbrev p : ℕ → Literal
 p n = record { variable = n; negated = false }
@@ -24,6 +24,12 @@ level_below = refl
 
 level_above : level_in trail 3 ≡ Some 1
 level_above = refl
+
+position : position_in trail 2 ≡ Some 2
+position = refl
+
+no_position : position_in trail 4 ≡ None
+no_position = refl
 
 reason : reason_in trail 2 ≡ Some 0
 reason = refl

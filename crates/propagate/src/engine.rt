@@ -1,7 +1,7 @@
 // The trail and the clauses that are attached to it.
 ghost use Rattle.std.specs.Prelude.{◌≡◌, ℕ, ◌+◌, ◌<◌, ◌≤◌, Bool, true, false, List, [], ◌∷◌, ◌++◌, Some, None, length, map, All, Contains, OnOk, OnErr, IfOk, IfSome, IfNone, IsErr, ◌↔◌};
 ghost use Rattle.clauses.specs.Slots.{Slots, IsLive, clause_at};
-ghost use Rattle.propagate.specs.Trail.{literals_of, depth_of, value_in, level_in, reason_in, kept_to};
+ghost use Rattle.propagate.specs.Trail.{literals_of, depth_of, value_in, level_in, position_in, reason_in, kept_to};
 ghost use Rattle.propagate.specs.Watches.{is_attached, place_in, SameAttached, SetsAttached};
 ghost use Rattle.propagate.specs.Steps.{enlisted, with_trail, Continues, IsConflict};
 ghost use Rattle.propagate.specs.Fits.{Fits, IsWithin, GrowsByUnits, IsFalseClause, IsComplete};
@@ -181,6 +181,14 @@ impl Engine {
         ensures { result ≡ level_in self.now.trail variable }
     {
         self.trail.level(variable)
+    }
+
+    /// How many literals stand before that of a variable on the trail, where it has a value. In constant time.
+    pub fn position(&self, variable: u32) -> Option<u32>
+        requires { variable ≤ self.now.variables }
+        ensures { result ≡ position_in self.now.trail variable }
+    {
+        self.trail.position(variable)
     }
 
     /// The clause that left no choice; none for a decision and where there is no value.

@@ -1,5 +1,5 @@
-// The level and the reason of each variable.
-ghost use Rattle.std.specs.Prelude.{◌≡◌, ◌-◌, ◌<◌, ◌^◌, None, Some, length, map, replicate, slice_set, slice_index_or, IfOk, IfSome};
+// The level, the position and the reason of each variable.
+ghost use Rattle.std.specs.Prelude.{◌≡◌, ◌-◌, ◌<◌, ◌^◌, None, Some, length, map, replicate, slice_set, slice_index, slice_index_or, IfOk, IfSome};
 ghost use Rattle.propagate.specs.Renames.{named_reason};
 ghost use Rattle.propagate.specs.Marks.{named_mark};
 
@@ -60,13 +60,15 @@ impl MaybeLevel {
 #[derive(Clone, Copy, Debug, PartialEq, Eq, Drop)]
 pub(crate) struct Mark {
     level: MaybeLevel,
+    // how many literals stand before it on the trail; of no meaning where there is no level
+    position: u32,
     // of no meaning where there is no level
     reason: MaybeCRef,
 }
 
-const _: () = prove!(size_of::<Mark>() == 8);
+const _: () = prove!(size_of::<Mark>() == 12);
 
-/// A level and a reason for each variable, side by side, so that an assignment writes to one place.
+/// A level, a position and a reason for each variable, side by side, so that an assignment writes to one place.
 #[derive(Drop)]
 pub(crate) struct Marks {
     marks: Vec<Mark>,
@@ -86,6 +88,7 @@ fn rename_marks(marks: &mut [Mark], moves: &Moves)
     for mark in marks.iter_mut() {
         *mark = Mark {
             level: mark.level,
+            position: mark.position,
             reason: MaybeCRef::new(new_reason(moves, mark.reason.get())),
         };
     }
@@ -94,11 +97,12 @@ fn rename_marks(marks: &mut [Mark], moves: &Moves)
 impl Marks {
     /// So many variables, without levels.
     pub(crate) fn new(alloc: Global, count: usize) -> Result<Self, AllocError>
-        ensures { IfOk result (λ m. m ≡ record { levels = replicate count None; reasons = replicate count None }) }
+        ensures { IfOk result (λ m. m ≡ record { levels = replicate count None; positions = replicate count 0; reasons = replicate count None }) }
     {
         let mut marks = Vec::new(alloc);
         let mark = Mark {
             level: MaybeLevel::new(None),
+            position: 0,
             reason: MaybeCRef::new(None),
         };
         marks.resize(count, mark)?;
@@ -112,6 +116,13 @@ impl Marks {
         self.marks[variable].level.get()
     }
 
+    pub(crate) fn position(&self, variable: usize) -> u32
+        requires { variable < length self.now.positions }
+        ensures { result ≡ slice_index self.now.positions variable }
+    {
+        self.marks[variable].position
+    }
+
     pub(crate) fn reason(&self, variable: usize) -> Option<CRef>
         requires { variable < length self.now.reasons }
         ensures { result ≡ slice_index_or self.now.reasons variable None }
@@ -119,14 +130,16 @@ impl Marks {
         self.marks[variable].reason.get()
     }
 
-    pub(crate) fn set(&mut self, variable: usize, level: u32, reason: Option<CRef>)
+    pub(crate) fn set(&mut self, variable: usize, level: u32, position: u32, reason: Option<CRef>)
         requires within { variable < length self.old.levels }
         requires small { level < 2 ^ 32 - 1 }
         ensures levels { self.new.levels ≡ slice_set self.old.levels variable (Some level) }
+        ensures positions { self.new.positions ≡ slice_set self.old.positions variable position }
         ensures reasons { self.new.reasons ≡ slice_set self.old.reasons variable reason }
     {
         self.marks[variable] = Mark {
             level: MaybeLevel::new(Some(level)),
+            position,
             reason: MaybeCRef::new(reason),
         };
     }
@@ -135,6 +148,7 @@ impl Marks {
     pub(crate) fn clear(&mut self, variable: usize)
         requires { variable < length self.old.levels }
         ensures levels { self.new.levels ≡ slice_set self.old.levels variable None }
+        ensures positions { self.new.positions ≡ self.old.positions }
         ensures reasons { self.new.reasons ≡ self.old.reasons }
     {
         self.marks[variable].level = MaybeLevel::new(None);
@@ -143,6 +157,7 @@ impl Marks {
     /// Renames the reasons.
     pub(crate) fn rename(&mut self, moves: &Moves)
         ensures levels { self.new.levels ≡ self.old.levels }
+        ensures positions { self.new.positions ≡ self.old.positions }
         ensures reasons { self.new.reasons ≡ map (named_reason moves.now) self.old.reasons }
     {
         rename_marks(&mut self.marks, moves);

@@ -3,7 +3,7 @@ ghost use Rattle.std.specs.Prelude.{◌≡◌, ◌-◌, ◌<◌, ◌≤◌, ◌*
 ghost use Rattle.std.specs.Option.{option_map};
 ghost use Rattle.wcnf.specs.Literal.{index_of, negation};
 ghost use Rattle.propagate.specs.Tables.{IsNamed};
-ghost use Rattle.propagate.specs.Trail.{literals_of, depth_of, value_in, level_in, reason_in, kept_to};
+ghost use Rattle.propagate.specs.Trail.{literals_of, depth_of, value_in, level_in, position_in, reason_in, kept_to};
 ghost use Rattle.propagate.specs.Renames.{named_trail};
 
 use crate::marks::Marks;
@@ -34,7 +34,7 @@ impl Model for Trail {
 
     ghost view = { λ t. record { variables = t.variables; assigned = assigned_by t.marks.reasons t.literals.items } };
 
-    ghost invariant = { λ t. IsTrail t.variables t.literals.items t.values.items t.marks.levels t.marks.reasons t.depth (vec_capacity t.literals) };
+    ghost invariant = { λ t. IsTrail t.variables t.literals.items t.values.items t.marks.levels t.marks.positions t.marks.reasons t.depth (vec_capacity t.literals) };
 }
 
 /// Writes the value of a literal, and of its negation.
@@ -101,6 +101,16 @@ impl Trail {
         self.marks.level(variable as usize)
     }
 
+    pub(crate) fn position(&self, variable: u32) -> Option<u32>
+        requires { variable ≤ self.now.variables }
+        ensures { result ≡ position_in self.now.assigned variable }
+    {
+        match self.marks.level(variable as usize) {
+            Some(_) => Some(self.marks.position(variable as usize)),
+            None => None,
+        }
+    }
+
     pub(crate) fn reason(&self, variable: u32) -> Option<CRef>
         requires { variable ≤ self.now.variables }
         ensures { result ≡ reason_in self.now.assigned variable }
@@ -139,9 +149,10 @@ impl Trail {
         ensures from_one { 0 < lit.variable }
     {
         let variable = lit.variable() as usize;
+        let position = self.literals.len() as u32;
         self.depth += u32::from(reason.is_none());
         set_value(&mut self.values, lit, Some(true));
-        self.marks.set(variable, self.depth, reason);
+        self.marks.set(variable, self.depth, position, reason);
         let _ = self.literals.push(lit);
     }
 

@@ -86,6 +86,15 @@ impl Lit {
     }
 }
 
+/// Variable 1 itself. It fills room that holds no literal yet, as in vectors that keep a few elements inline.
+impl Default for Lit {
+    ghost is_default = { λ l. l ≡ record { variable = 1; negated = false } };
+
+    fn default() -> Self {
+        Lit::new(1, false)
+    }
+}
+
 const _: () = prove!(size_of::<Lit>() == 4);
 
 /// A clause: literals, none of them twice (Handbook of Satisfiability).

@@ -11,6 +11,11 @@ returns-clause-levels c =
     ∙ ap (set (map (λ (m : Mark). m.level) c.self.inside.marks.items) c.args.variable) c.new.ensures
     ∙ ap (λ (m : MarksState). set m.levels c.args.variable None) c.self.view_is
 
+pub returns-clause-positions : goal.returns-clause-positions
+returns-clause-positions c =
+    map-set_same (λ (m : Mark). m.position) c.self.inside.marks.items c.args.variable _ _ (ap (λ (m : Mark). m.position) c.index_mut.ensures.value)
+    ∙ ap (λ (m : MarksState). m.positions) c.self.view_is
+
 pub returns-clause-reasons : goal.returns-clause-reasons
 returns-clause-reasons c =
     map-set_same (λ (m : Mark). m.reason) c.self.inside.marks.items c.args.variable _ _ (ap (λ (m : Mark). m.reason) c.index_mut.ensures.value)

@@ -10,6 +10,11 @@ returns-clause-levels c =
     ∙ ap (set (map (λ (m : Mark). m.level) c.self.inside.marks.items) c.args.variable) c.new.ensures
     ∙ ap (λ (m : MarksState). set m.levels c.args.variable (Some c.args.level)) c.self.view_is
 
+pub returns-clause-positions : goal.returns-clause-positions
+returns-clause-positions c =
+    map-set (λ (m : Mark). m.position) c.self.inside.marks.items c.args.variable _
+    ∙ ap (λ (m : MarksState). set m.positions c.args.variable c.args.position) c.self.view_is
+
 pub returns-clause-reasons : goal.returns-clause-reasons
 returns-clause-reasons c =
     map-set (λ (m : Mark). m.reason) c.self.inside.marks.items c.args.variable _

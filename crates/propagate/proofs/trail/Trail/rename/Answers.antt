@@ -8,8 +8,8 @@ use Rattle.propagate.proofs.trail.Trail.rename.Goals as goal
 pub invariant_of-self : goal.invariant_of-self
 invariant_of-self c =
     let i = c.self.inside in
-    rw (c.rename.ensures.levels, c.rename.ensures.reasons)
-    (trail_named c.args.moves.now i.variables i.literals.items i.values.items i.marks.levels i.marks.reasons i.depth _ _ c.self.invariant.has_room c.self.invariant)
+    rw (c.rename.ensures.levels, c.rename.ensures.positions, c.rename.ensures.reasons)
+    (trail_named c.args.moves.now i.variables i.literals.items i.values.items i.marks.levels i.marks.positions i.marks.reasons i.depth _ _ c.self.invariant.has_room c.self.invariant)
 
 pub returns : goal.returns
 returns c =

@@ -1,0 +1,128 @@
+use Rattle.std.proofs.Common.{arith, ◌≡◌, ◌≤◌, sym, ◌∙◌, ap, subst, length}
+use Rattle.std.specs.Prelude.{All, IfSome}
+use Rattle.wcnf.specs.Literal.{Literal, negation}
+use Rattle.clauses.specs.Slots.{clause_at}
+use Rattle.propagate.specs.Trail.{literals_of}
+use Rattle.analyze.specs.Learning.{IsConflict, IsAsserting, IsRefutedBy, greatest_level}
+use Rattle.analyze.specs.Marks.{kept_of, resolved_of, others_in, learned_from, IsReduced}
+use Rattle.analyze.proofs.Counting.{current_clear}
+use Rattle.analyze.proofs.Fitting.{false_within}
+use Rattle.analyze.proofs.Walking.{small_at}
+use Rattle.analyze.proofs.Resolving.{marked_start}
+use Rattle.analyze.proofs.Marked.{marked_refutes}
+use Rattle.analyze.proofs.Collecting.{start_above, start_some, learned_asserting, learned_collected, learned_within, marked_above, tail_is}
+use Rattle.analyze.proofs.learning.learn.Goals as goal
+
+pub mark_clause-count-requires-clause-named : goal.mark_clause-count-requires-clause-named
+mark_clause-count-requires-clause-named c =
+    let conflict : IsConflict c.args.engine.now.trail c.lits.result.now = subst (λ o. IfSome o (IsConflict c.args.engine.now.trail)) c.lits.ensures c.requires.falsified in
+    false_within c.args.engine.now c.args.store.now.slots c.lits.result.now c.requires.fits conflict.0
+
+pub resolve-asserting-requires-clause-above : goal.resolve-asserting-requires-clause-above
+resolve-asserting-requires-clause-above c = start_above c.args.engine.now.trail c.lits.result.now c.args.marks.now c.mark_clause-count.new.marks c.requires.clear c.mark_clause-count.ensures.marked
+
+pub resolve-asserting-requires-clause-counted : goal.resolve-asserting-requires-clause-counted
+resolve-asserting-requires-clause-counted c =
+    let zero = current_clear c.args.engine.now.trail c.args.marks.now c.requires.clear in
+    let n = c.mark_clause-count.ensures.counted in
+    omega arith
+
+pub resolve-asserting-requires-clause-some : goal.resolve-asserting-requires-clause-some
+resolve-asserting-requires-clause-some c =
+    let e = c.args.engine.now in
+    let T = e.trail in
+    let slots = c.args.store.now.slots in
+    let at = clause_at slots in
+    let ls = c.lits.result.now in
+    let old = c.args.marks.now in
+    let new = c.mark_clause-count.new.marks in
+    let conflict : IsConflict c.args.engine.now.trail c.lits.result.now = subst (λ o. IfSome o (IsConflict T)) c.lits.ensures c.requires.falsified in
+    let some = start_some T ls old new c.requires.clear c.mark_clause-count.ensures.marked c.requires.deep conflict in
+    let zero = current_clear T old c.requires.clear in
+    let n = c.mark_clause-count.ensures.counted in
+    omega arith
+
+pub collect_literals-requires : goal.collect_literals-requires
+collect_literals-requires c =
+    let a = c.minimise.ensures.long in
+    let b = c.resolve-asserting.ensures.long in
+    let d = c.mark_clause-count.ensures.marked.long in
+    let room = c.requires.room in
+    record { small = small_at c.args.engine.now.trail c.args.engine.now.variables c.requires.fits.small (length c.minimise.new.marks) (omega arith) }
+
+pub greatest-back_level-requires : goal.greatest-back_level-requires
+greatest-back_level-requires c =
+    let e = c.args.engine.now in
+    let T = e.trail in
+    let slots = c.args.store.now.slots in
+    let at = clause_at slots in
+    let ls = c.lits.result.now in
+    let old = c.args.marks.now in
+    let new = c.mark_clause-count.new.marks in
+    let conflict : IsConflict c.args.engine.now.trail c.lits.result.now = subst (λ o. IfSome o (IsConflict T)) c.lits.ensures c.requires.falsified in
+    let M = c.minimise.new.marks in
+    let u = c.resolve-asserting.result in
+    let d : IsReduced T M u = c.minimise.ensures.reduced in
+    let items : c.in_ok-lits.lits.items ≡ learned_from T M u = c.in_ok-lits.ensures in
+    let tail = tail_is (negation u) (others_in M u (literals_of T)) c.as_slice.result.now (c.as_slice.ensures ∙ items) in
+    subst (All (λ (l : Literal). l.variable ≤ c.args.engine.now.variables)) (sym tail) (learned_within e slots M u c.requires.fits d)
+
+pub returns-clause-asserting : goal.returns-clause-asserting
+returns-clause-asserting c =
+    let e = c.args.engine.now in
+    let T = e.trail in
+    let slots = c.args.store.now.slots in
+    let at = clause_at slots in
+    let ls = c.lits.result.now in
+    let old = c.args.marks.now in
+    let new = c.mark_clause-count.new.marks in
+    let conflict : IsConflict c.args.engine.now.trail c.lits.result.now = subst (λ o. IfSome o (IsConflict T)) c.lits.ensures c.requires.falsified in
+    let M = c.minimise.new.marks in
+    let u = c.resolve-asserting.result in
+    let d : IsReduced T M u = c.minimise.ensures.reduced in
+    let items : c.in_ok-lits.lits.items ≡ learned_from T M u = c.in_ok-lits.ensures in
+    let tail = tail_is (negation u) (others_in M u (literals_of T)) c.as_slice.result.now (c.as_slice.ensures ∙ items) in
+    subst (λ x. IsAsserting T x c.greatest-back_level.result) (sym items) (learned_asserting at T M u c.greatest-back_level.result c.requires.fits.reasons d (c.greatest-back_level.ensures ∙ ap (greatest_level T) tail))
+
+pub returns-clause-hints : goal.returns-clause-hints
+returns-clause-hints c =
+    let e = c.args.engine.now in
+    let T = e.trail in
+    let slots = c.args.store.now.slots in
+    let at = clause_at slots in
+    let ls = c.lits.result.now in
+    let old = c.args.marks.now in
+    let new = c.mark_clause-count.new.marks in
+    let conflict : IsConflict c.args.engine.now.trail c.lits.result.now = subst (λ o. IfSome o (IsConflict T)) c.lits.ensures c.requires.falsified in
+    let M = c.minimise.new.marks in
+    let u = c.resolve-asserting.result in
+    let d : IsReduced T M u = c.minimise.ensures.reduced in
+    let items : c.in_ok-lits.lits.items ≡ learned_from T M u = c.in_ok-lits.ensures in
+    let first = marked_start at T ls old new c.requires.clear c.mark_clause-count.ensures.marked in
+    let marked = c.minimise.ensures.same ls (c.resolve-asserting.ensures.same ls first) in
+    let r = marked_refutes slots T c.args.conflict ls (learned_from T M u) (kept_of M) (resolved_of M) c.requires.fits.reasons c.lits.ensures conflict.0 marked (learned_collected at T M u c.requires.fits.reasons d) in
+    subst (λ x. IsRefutedBy slots T x c.in_ok-hints.hints.items) (sym items) (subst (IsRefutedBy slots T (learned_from T M u)) (sym c.in_ok-hints.ensures) r)
+
+pub returns-in_err-lits-clause-above : goal.returns-in_err-lits-clause-above
+returns-in_err-lits-clause-above c =
+    let at = clause_at c.args.store.now.slots in
+    let T = c.args.engine.now.trail in
+    let ls = c.lits.result.now in
+    let first = marked_start at T ls c.args.marks.now c.mark_clause-count.new.marks c.requires.clear c.mark_clause-count.ensures.marked in
+    marked_above at T ls c.minimise.new.marks c.resolve-asserting.result (c.minimise.ensures.same ls (c.resolve-asserting.ensures.same ls first)) c.minimise.ensures.reduced
+
+pub returns-in_err-hints-clause-above : goal.returns-in_err-hints-clause-above
+returns-in_err-hints-clause-above c =
+    let at = clause_at c.args.store.now.slots in
+    let T = c.args.engine.now.trail in
+    let ls = c.lits.result.now in
+    let first = marked_start at T ls c.args.marks.now c.mark_clause-count.new.marks c.requires.clear c.mark_clause-count.ensures.marked in
+    marked_above at T ls c.minimise.new.marks c.resolve-asserting.result (c.minimise.ensures.same ls (c.resolve-asserting.ensures.same ls first)) c.minimise.ensures.reduced
+
+pub returns-clause-above : goal.returns-clause-above
+returns-clause-above c =
+    let at = clause_at c.args.store.now.slots in
+    let T = c.args.engine.now.trail in
+    let ls = c.lits.result.now in
+    let first = marked_start at T ls c.args.marks.now c.mark_clause-count.new.marks c.requires.clear c.mark_clause-count.ensures.marked in
+    marked_above at T ls c.minimise.new.marks c.resolve-asserting.result (c.minimise.ensures.same ls (c.resolve-asserting.ensures.same ls first)) c.minimise.ensures.reduced

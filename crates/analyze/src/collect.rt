@@ -1,0 +1,114 @@
+// What is learned, read off the marks.
+ghost use Rattle.std.specs.Prelude.{◌≡◌, ◌+◌, ◌<◌, ◌≤◌, ℕ, All, [], ◌∷◌, ◌++◌, length, IsTrue, IfOk};
+ghost use Rattle.propagate.specs.Trail.{literals_of};
+ghost use Rattle.propagate.specs.Fits.{Fits};
+ghost use Rattle.analyze.specs.Learning.{greatest_level, chosen_reasons};
+ghost use Rattle.analyze.specs.Marks.{IsMet, IsReduced, KeepsMarked, learned_from, resolved_of};
+
+use crate::marks::Mark;
+use clauses::store::{CRef, Store};
+use propagate::engine::Engine;
+use smallvec::SmallVec;
+use std::alloc::{AllocError, Global};
+use wcnf::types::Lit;
+
+/// Clauses of so many literals or fewer take no memory of their own.
+pub const SHORT: usize = 8;
+
+/// Whether each literal is of level 0 or marked.
+fn all_met(engine: &Engine, lits: &[Lit], marks: &[Mark]) -> bool
+    requires named { All (λ l. l.variable ≤ engine.now.variables) lits.now }
+    requires room { engine.now.variables < length marks.now }
+    ensures { IsTrue result → All (IsMet engine.now.trail marks.now) lits.now }
+{
+    for lit in lits {
+        let variable = lit.variable();
+        if marks[variable as usize] == Mark::Clear && engine.level(variable).unwrap_or(0) > 0 {
+            return false;
+        }
+    }
+    true
+}
+
+/// Drops a literal where its reason has marked literals and such of level 0 alone: it follows from the rest.
+pub(crate) fn minimise(engine: &Engine, store: &Store, asserting: Lit, marks: &mut [Mark])
+    requires fits { Fits engine.now store.now.slots }
+    requires room { engine.now.variables < length marks.old }
+    requires reduced { IsReduced engine.now.trail marks.old asserting }
+    ensures reduced { IsReduced engine.now.trail marks.new asserting }
+    ensures same { KeepsMarked store.now.slots engine.now.trail marks.old marks.new }
+    ensures long { length marks.new ≡ length marks.old }
+{
+    for lit in engine.trail() {
+        let variable = lit.variable();
+        if marks[variable as usize] == Mark::Kept
+            && variable != asserting.variable()
+            && let Some(reason) = engine.reason(variable)
+            && all_met(engine, store.lits(reason), marks)
+        {
+            marks[variable as usize] = Mark::Resolved;
+        }
+    }
+}
+
+/// The clause, its asserting literal first.
+pub(crate) fn collect_literals(
+    alloc: Global,
+    engine: &Engine,
+    asserting: Lit,
+    marks: &[Mark],
+) -> Result<SmallVec<Lit, SHORT>, AllocError>
+    requires small { All (λ l. l.variable < length marks.now) (literals_of engine.now.trail) }
+    ensures { IfOk result (λ lits. lits.items ≡ learned_from engine.now.trail marks.now asserting) }
+{
+    let mut lits = SmallVec::new(alloc);
+    lits.push(asserting.negation())?;
+    for lit in engine.trail() {
+        let variable = lit.variable();
+        if marks[variable as usize] == Mark::Kept && variable != asserting.variable() {
+            lits.push(lit.negation())?;
+        }
+    }
+    Ok(lits)
+}
+
+/// The reasons of what was resolved, in the order of the trail, and then the conflict.
+pub(crate) fn collect_hints(
+    alloc: Global,
+    engine: &Engine,
+    store: &Store,
+    conflict: CRef,
+    marks: &[Mark],
+) -> Result<Vec<CRef>, AllocError>
+    requires fits { Fits engine.now store.now.slots }
+    requires room { engine.now.variables < length marks.now }
+    ensures { IfOk result (λ hints. hints.items ≡ chosen_reasons (λ l. resolved_of marks.now l.variable) engine.now.trail ++ conflict ∷ []) }
+{
+    let _ = store;
+    let mut hints = Vec::new(alloc);
+    for lit in engine.trail() {
+        let variable = lit.variable();
+        if marks[variable as usize] == Mark::Resolved
+            && let Some(reason) = engine.reason(variable)
+        {
+            hints.push(reason)?;
+        }
+    }
+    hints.push(conflict)?;
+    Ok(hints)
+}
+
+/// The greatest level of these literals.
+pub(crate) fn greatest(engine: &Engine, lits: &[Lit]) -> u32
+    requires { All (λ l. l.variable ≤ engine.now.variables) lits.now }
+    ensures { result ≡ greatest_level engine.now.trail lits.now }
+{
+    let mut greatest = 0;
+    for lit in lits {
+        let level = engine.level(lit.variable()).unwrap_or(0);
+        if level > greatest {
+            greatest = level;
+        }
+    }
+    greatest
+}
