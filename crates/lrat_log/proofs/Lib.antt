@@ -2,8 +2,11 @@ pub mod Accepting
 pub mod Flat
 pub mod Ids
 pub mod LineTexts
+pub mod MoreGiven
 pub mod Names
+pub mod NewLines
 pub mod Numbering
 pub mod RebasedLines
+pub mod RebasedNew
 pub mod Rebasing
 pub mod Text

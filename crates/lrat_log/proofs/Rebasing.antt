@@ -17,7 +17,7 @@ use Rattle.lrat_log.specs.declared.lines.Hint.{Hint}
 use Rattle.lrat_log.specs.declared.lines.Hint.TheVariants.{Plain, Group}
 use Rattle.lrat_log.specs.Log.{LogLine, IsLine, IsPlain, is_delete, name_of, number_in, id_of, HasSmallIds, numbered_on, numbered_lines, Given, given_at, start_over}
 use Rattle.lrat_log.specs.Steps.{IsKnown, HasKnownNames, live_after, AreSteps, given_of, IsBaseOf, IsOwnGroup, IsLogOver, IsAcceptedLog, adds_empty_clause, StopsAtEmptyClause}
-use Rattle.lrat_log.specs.Rebase.{WeakerList, weaker_line, moved_name, moved_hint, moved_line, rebased, IsWeakerOf, IsSomeClause, KeepsSteps, KeepsLog}
+use Rattle.lrat_log.specs.Rebase.{WeakerList, weaker_line, moved_name, moved_hint, moved_line, rebased, IsWeakerOf, IsSomeClause, KeepsSteps}
 use Rattle.lrat_log.proofs.Accepting.{accepted_on, accepted_log, refuted_log}
 use Rattle.lrat_log.proofs.Names.{leading_names, group_names, group_by, named_on, line_by, numbered_on-named, Renames, SameLive, GroupIs, HintKnown, LineKnown, chain_after, steps_from_chain}
 use Rattle.lrat_log.proofs.Numbering.{log_steps_from, given_below, given_past}
@@ -102,7 +102,7 @@ false_under (l ∷ d) c e =
     let p = if_parts (contains_literal l c) (is_subset d c) e in
     (has_negation l c ∙ p.0, false_under d c p.1)
 
-abbrev clauses_of : WeakerList → List (List Literal)
+abbrev pub clauses_of : WeakerList → List (List Literal)
 clauses_of ws = map (λ e. e.0) ws
 
 -- what is live after the weaker lines
@@ -249,7 +249,7 @@ added_rise fixed count b a (Formula i) k p q h = absurd p
 added_rise fixed count b a (Added i) (Formula j) p q h = absurd q
 added_rise fixed count b a (Added i) (Added j) p q h = omega arith
 
-renames_moved : (fixed count b a : ℕ) → fixed ≤ b → b + count ≤ a → Renames (b + count) a is_added (λ n. id_of b (moved_name fixed count n)) (b + count)
+pub renames_moved : (fixed count b a : ℕ) → fixed ≤ b → b + count ≤ a → Renames (b + count) a is_added (λ n. id_of b (moved_name fixed count n)) (b + count)
 renames_moved fixed count b a low above = record {
   below = above;
   one = λ n k p q e. sym (back_of fixed count b low n p) ∙ ap (back fixed count b low) e ∙ back_of fixed count b low k q;
@@ -268,7 +268,7 @@ module _ (first others : List (List Literal)) (ws : WeakerList) where
   abbrev weakened : Live
   weakened = weak_after (start_of kept_clauses) (length kept_clauses) ws
 
-  lengths : (length given_clauses ≡ length kept_clauses + length ws) × (length first ≤ length kept_clauses) × (length (first ++ clauses_of ws) ≡ length first + length ws) × (length kept_clauses ≡ length first + length others)
+  pub lengths : (length given_clauses ≡ length kept_clauses + length ws) × (length first ≤ length kept_clauses) × (length (first ++ clauses_of ws) ≡ length first + length ws) × (length kept_clauses ≡ length first + length others)
   lengths =
       let a : length given_clauses ≡ length (first ++ clauses_of ws) + length others = length-append (first ++ clauses_of ws) others in
       let b : length (first ++ clauses_of ws) ≡ length first + length (clauses_of ws) = length-append first (clauses_of ws) in
@@ -341,10 +341,10 @@ map_twice : (f c b : ℕ) (ns : List Name) → map (id_of b) (map (moved_name f 
 map_twice f c b [] = refl
 map_twice f c b (n ∷ ns) = ap (λ x. id_of b (moved_name f c n) ∷ x) (map_twice f c b ns)
 
-leading_ids_moved : (f c b : ℕ) (hs : List Hint) → map (id_of b) (leading_names (map (moved_hint f c) hs)) ≡ map (λ n. id_of b (moved_name f c n)) (leading_names hs)
+pub leading_ids_moved : (f c b : ℕ) (hs : List Hint) → map (id_of b) (leading_names (map (moved_hint f c) hs)) ≡ map (λ n. id_of b (moved_name f c n)) (leading_names hs)
 leading_ids_moved f c b hs = ap (map (id_of b)) (leading_moved f c hs) ∙ map_twice f c b (leading_names hs)
 
-group_ids_moved : (f c b : ℕ) (hs : List Hint) → map (group_by (id_of b)) (group_names (map (moved_hint f c) hs)) ≡ map (group_by (λ n. id_of b (moved_name f c n))) (group_names hs)
+pub group_ids_moved : (f c b : ℕ) (hs : List Hint) → map (group_by (id_of b)) (group_names (map (moved_hint f c) hs)) ≡ map (group_by (λ n. id_of b (moved_name f c n))) (group_names hs)
 group_ids_moved f c b [] = refl
 group_ids_moved f c b (Plain n ∷ hs) = group_ids_moved f c b hs
 group_ids_moved f c b (Group n ∷ hs) =
@@ -404,31 +404,54 @@ lines_known a (l ∷ ls) p o =
       lines_known a ls (All-tail (NamesKnown a) l ls p) (All-tail IsOwn l ls o),
     )
 
-rebased_chain : (ws : WeakerList) (old : List LogLine) (first others : List (List Literal))
-    → All (IsWeakerOf (first ++ others)) ws → IsLogOver (given_of (first ++ clauses_of ws ++ others)) old
-    → AreSteps (start_of (first ++ others)) (numbered_lines (length (first ++ others)) (rebased (length first) ws old))
-rebased_chain ws old first others weaker log =
+-- a chain over the clauses given, at a base that none of their numbers exceeds, is one over those that are kept, with the same clauses live
+pub rebased_live : (ws : WeakerList) (first others : List (List Literal)) → All (IsWeakerOf (first ++ others)) ws → (a : ℕ) → length (first ++ others) + length ws ≤ a
+    → (old : List LogLine) → AllByRecursion (LineKnown a is_added) old → (left : Live)
+    → Chain (start_over (given_of (first ++ clauses_of ws ++ others)) a) (numbered_lines a old) left
+    → (after : Live) × Chain (start_of (first ++ others)) (numbered_lines (length (first ++ others)) (rebased (length first) ws old)) after
+    × SameLive (length (first ++ others) + length ws) a (λ n. id_of (length (first ++ others)) (moved_name (length first) (length ws) n)) left.clause_at after.clause_at
+rebased_live ws first others weaker a above old known left chain =
     let cs : List (List Literal) = first ++ others in
     let b : ℕ = length (first ++ others) in
     let c : ℕ = length ws in
-    let a : ℕ = length (first ++ others) + length ws in
     let g : Given = given_of (first ++ clauses_of ws ++ others) in
     let len = lengths first others ws in
-    let base : IsBaseOf g a = base_of (first ++ clauses_of ws ++ others) a (omega arith) in
     let w : Live = weak_after (start_of cs) b ws in
     let small : w.last ≤ b + c + 0 = (let z = weak_last (start_of cs) b ws (omega arith) in omega arith) in
     let to = λ (n : Name). id_of b (moved_name (length first) c n) in
-    let x = chain_after (b + c) a is_added to (b + c) (renames_moved (length first) c b a len.1 (omega arith)) 0 old (lines_known a old (known_names g a base old log.steps) log.groups)
-    (start_over g a) w _ (start_live first others ws a (omega arith)) small (subst (λ y. Chain (start_over g a) y (live_after (start_over g a) (numbered_lines a old))) (numbered_on-named a 0 old) (log.steps a base)) in
+    let x = chain_after (b + c) a is_added to (b + c) (renames_moved (length first) c b a len.1 above) 0 old known
+    (start_over g a) w left (start_live first others ws a above) small (subst (λ y. Chain (start_over g a) y left) (numbered_on-named a 0 old) chain) in
     let same : numbered_on b (0 + c) (map (moved_line (length first) c) old) ≡ named_on to 0 old =
     (let e : 0 + c ≡ c + 0 = omega arith in
     ap (λ n. numbered_on b n (map (moved_line (length first) c) old)) e ∙ numbered_on-named b (c + 0) (map (moved_line (length first) c) old) ∙ named_moved (length first) c b 0 old) in
     let zero_more : b ≡ b + 0 = omega arith in
     let after : Chain (weak_after (start_of cs) (b + 0) ws) (numbered_on b (0 + c) (map (moved_line (length first) c) old)) x.0 =
     subst (λ n. Chain (weak_after (start_of cs) n ws) (numbered_on b (0 + c) (map (moved_line (length first) c) old)) x.0) zero_more
-    (subst (λ y. Chain w y x.0) (sym same) x.1) in
-    steps_from_chain (start_of cs) (numbered_lines b (rebased (length first) ws old)) x.0
-    (weak_chain cs 0 ws (recursion_from_All (IsWeakerOf cs) ws weaker) (start_of cs) (omega arith) (λ i h. refl) (map (moved_line (length first) c) old) x.0 after)
+    (subst (λ y. Chain w y x.0) (sym same) x.1) in (
+      x.0,
+      weak_chain cs 0 ws (recursion_from_All (IsWeakerOf cs) ws weaker) (start_of cs) (omega arith) (λ i h. refl) (map (moved_line (length first) c) old) x.0 after,
+      x.2,
+    )
+
+-- a base that none of the numbers of the clauses given exceeds, and the names of a log over these
+pub given_base : (ws : WeakerList) (first others : List (List Literal)) (a : ℕ) → length (first ++ others) + length ws ≤ a → IsBaseOf (given_of (first ++ clauses_of ws ++ others)) a
+given_base ws first others a above = let len = lengths first others ws in base_of (first ++ clauses_of ws ++ others) a (omega arith)
+
+pub given_known : (ws : WeakerList) (first others : List (List Literal)) (a : ℕ) → length (first ++ others) + length ws ≤ a → (old : List LogLine)
+    → IsLogOver (given_of (first ++ clauses_of ws ++ others)) old → AllByRecursion (LineKnown a is_added) old
+given_known ws first others a above old log =
+    lines_known a old (known_names (given_of (first ++ clauses_of ws ++ others)) a (given_base ws first others a above) old log.steps) log.groups
+
+rebased_chain : (ws : WeakerList) (old : List LogLine) (first others : List (List Literal))
+    → All (IsWeakerOf (first ++ others)) ws → IsLogOver (given_of (first ++ clauses_of ws ++ others)) old
+    → AreSteps (start_of (first ++ others)) (numbered_lines (length (first ++ others)) (rebased (length first) ws old))
+rebased_chain ws old first others weaker log =
+    let a : ℕ = length (first ++ others) + length ws in
+    let g : Given = given_of (first ++ clauses_of ws ++ others) in
+    let le : length (first ++ others) + length ws ≤ a = omega arith in
+    let x = rebased_live ws first others weaker a le old (given_known ws first others a le old log) (live_after (start_over g a) (numbered_lines a old))
+    (log.steps a (given_base ws first others a le)) in
+    steps_from_chain (start_of (first ++ others)) (numbered_lines (length (first ++ others)) (rebased (length first) ws old)) x.0 x.1
 
 -- rebasing keeps steps
 pub keeps_steps : (fixed : ℕ) (ws : WeakerList) (old : List LogLine) → KeepsSteps fixed ws old (rebased fixed ws old)
@@ -618,10 +641,3 @@ keeps_accepted fixed ws old first others e weaker nonempty log accepted =
     let some : list_any adds_empty_clause old ≡ true = refuted_log (given_of cs) (length cs) (base_of cs (length cs) (omega arith)) old accepted in
     accepted_log (given_of (first ++ others)) (rebased fixed ws old) (keeps_log fixed ws old first others e weaker log nonempty)
     (any_weaker ws (map (moved_line fixed (length ws)) old) (any_moved fixed (length ws) old ∙ some))
-
-pub keeps_log_law : (fixed : ℕ) (ws : WeakerList) (old : List LogLine) → KeepsLog fixed ws old
-keeps_log_law fixed ws old = record {
-  steps = keeps_steps fixed ws old;
-  log = λ first others e weaker nonempty log. keeps_log fixed ws old first others e weaker log nonempty;
-  accepted = λ first others e weaker nonempty log accepted. keeps_accepted fixed ws old first others e weaker nonempty log accepted;
-}

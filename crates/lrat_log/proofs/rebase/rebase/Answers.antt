@@ -3,7 +3,7 @@ use Rattle.std.proofs.Common.{◌<◌, [], ◌∷◌, length, map, take, arith, 
 use Rattle.lrat_log.specs.declared.lines.Kind.TheVariants.{Empty}
 use Rattle.lrat_log.specs.Log.{LogLine, line_at}
 use Rattle.lrat_log.specs.Rebase.{weaker_list, weaker_line, moved_line}
-use Rattle.lrat_log.proofs.Rebasing.{keeps_log_law}
+use Rattle.lrat_log.proofs.RebasedNew.{keeps_log_law}
 use Rattle.lrat_log.proofs.RebasedLines.{take_mapped, weaker_more}
 use Rattle.lrat_log.proofs.rebase.rebase.Goals as goal
 
