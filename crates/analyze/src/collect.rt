@@ -1,19 +1,18 @@
 // What is learned, read off the marks.
 ghost use Rattle.std.specs.Prelude.{◌≡◌, ◌+◌, ◌<◌, ◌≤◌, ℕ, All, [], ◌∷◌, ◌++◌, length, IsTrue, IfOk};
-ghost use Rattle.propagate.specs.Trail.{literals_of};
+ghost use Rattle.clauses.specs.Slots.{Slots};
 ghost use Rattle.propagate.specs.Fits.{Fits};
 ghost use Rattle.analyze.specs.Learning.{greatest_level, chosen_reasons};
+ghost use Rattle.analyze.specs.Met.{HasMet, IsRising};
 ghost use Rattle.analyze.specs.Marks.{IsMet, IsReduced, KeepsMarked, learned_from, resolved_of};
 
-use crate::marks::Mark;
+use crate::learning::SHORT;
+use crate::marks::{Mark, literal_at};
 use clauses::store::{CRef, Store};
 use propagate::engine::Engine;
 use smallvec::SmallVec;
 use std::alloc::{AllocError, Global};
 use wcnf::types::Lit;
-
-/// Clauses of so many literals or fewer take no memory of their own.
-pub const SHORT: usize = 8;
 
 /// Whether each literal is of level 0 or marked.
 fn all_met(engine: &Engine, lits: &[Lit], marks: &[Mark]) -> bool
@@ -30,17 +29,26 @@ fn all_met(engine: &Engine, lits: &[Lit], marks: &[Mark]) -> bool
     true
 }
 
-/// Drops a literal where its reason has marked literals and such of level 0 alone: it follows from the rest.
-pub(crate) fn minimise(engine: &Engine, store: &Store, asserting: Lit, marks: &mut [Mark])
+/// Drops a literal where its reason has marked literals and such of level 0 alone: it follows from the rest. In the
+/// order of the trail, so that a literal counts as marked that was dropped on the way.
+pub(crate) fn minimise(
+    engine: &Engine,
+    store: &Store,
+    asserting: Lit,
+    marks: &mut [Mark],
+    met: &[u32],
+)
     requires fits { Fits engine.now store.now.slots }
     requires room { engine.now.variables < length marks.old }
+    requires listed { HasMet engine.now.trail marks.old met.now }
     requires reduced { IsReduced engine.now.trail marks.old asserting }
     ensures reduced { IsReduced engine.now.trail marks.new asserting }
     ensures same { KeepsMarked store.now.slots engine.now.trail marks.old marks.new }
+    ensures listed { HasMet engine.now.trail marks.new met.now }
     ensures long { length marks.new ≡ length marks.old }
 {
-    for lit in engine.trail() {
-        let variable = lit.variable();
+    for position in met {
+        let variable = literal_at(engine, *position).variable();
         if marks[variable as usize] == Mark::Kept
             && variable != asserting.variable()
             && let Some(reason) = engine.reason(variable)
@@ -51,19 +59,24 @@ pub(crate) fn minimise(engine: &Engine, store: &Store, asserting: Lit, marks: &m
     }
 }
 
-/// The clause, its asserting literal first.
+/// The clause, its asserting literal first, the others in the order of the trail.
 pub(crate) fn collect_literals(
     alloc: Global,
     engine: &Engine,
     asserting: Lit,
     marks: &[Mark],
+    met: &[u32],
 ) -> Result<SmallVec<Lit, SHORT>, AllocError>
-    requires small { All (λ l. l.variable < length marks.now) (literals_of engine.now.trail) }
+    requires fits { (slots : Slots) × Fits engine.now slots }
+    requires room { engine.now.variables < length marks.now }
+    requires listed { HasMet engine.now.trail marks.now met.now }
+    requires rising { IsRising met.now }
     ensures { IfOk result (λ lits. lits.items ≡ learned_from engine.now.trail marks.now asserting) }
 {
     let mut lits = SmallVec::new(alloc);
     lits.push(asserting.negation())?;
-    for lit in engine.trail() {
+    for position in met {
+        let lit = literal_at(engine, *position);
         let variable = lit.variable();
         if marks[variable as usize] == Mark::Kept && variable != asserting.variable() {
             lits.push(lit.negation())?;
@@ -76,18 +89,19 @@ pub(crate) fn collect_literals(
 pub(crate) fn collect_hints(
     alloc: Global,
     engine: &Engine,
-    store: &Store,
     conflict: CRef,
     marks: &[Mark],
+    met: &[u32],
 ) -> Result<Vec<CRef>, AllocError>
-    requires fits { Fits engine.now store.now.slots }
+    requires fits { (slots : Slots) × Fits engine.now slots }
     requires room { engine.now.variables < length marks.now }
+    requires listed { HasMet engine.now.trail marks.now met.now }
+    requires rising { IsRising met.now }
     ensures { IfOk result (λ hints. hints.items ≡ chosen_reasons (λ l. resolved_of marks.now l.variable) engine.now.trail ++ conflict ∷ []) }
 {
-    let _ = store;
     let mut hints = Vec::new(alloc);
-    for lit in engine.trail() {
-        let variable = lit.variable();
+    for position in met {
+        let variable = literal_at(engine, *position).variable();
         if marks[variable as usize] == Mark::Resolved
             && let Some(reason) = engine.reason(variable)
         {

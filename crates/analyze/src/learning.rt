@@ -1,12 +1,13 @@
 // First unique implication point.
-ghost use Rattle.std.specs.Prelude.{◌≡◌, ◌<◌, length, IfOk, IfSome};
-ghost use Rattle.analyze.specs.Marks.{IsClear, IsMarkedAbove};
+ghost use Rattle.std.specs.Prelude.{◌≡◌, ◌+◌, ◌<◌, ◌≤◌, [], length, vec_capacity, All, IfOk, IfSome};
+ghost use Rattle.analyze.specs.Marks.{IsClear};
+ghost use Rattle.analyze.specs.Met.{HasMet};
 ghost use Rattle.clauses.specs.Slots.{IsLive, clause_at};
 ghost use Rattle.propagate.specs.Trail.{depth_of};
 ghost use Rattle.propagate.specs.Fits.{Fits};
 ghost use Rattle.analyze.specs.Learning.{IsAsserting, IsConflict, IsRefutedBy};
 
-use crate::collect::{SHORT, collect_hints, collect_literals, greatest, minimise};
+use crate::collect::{collect_hints, collect_literals, greatest, minimise};
 use crate::marks::{Mark, clear, mark_clause, resolve};
 use clauses::store::{CRef, Store};
 use propagate::engine::Engine;
@@ -15,42 +16,65 @@ use std::alloc::{AllocError, Global};
 use std::marker::Model;
 use wcnf::types::Lit;
 
-/// A clause that follows, the level to go back to, and the clauses that show that it follows.
+/// Learned clauses of so many literals or fewer keep them inline.
+pub const SHORT: usize = 8;
+
+/// A clause that follows, and what shows it.
 #[derive(Drop)]
 pub struct Learned {
+    /// The first is the asserting literal, the only one of the current level. The others are of lower levels above 0.
     pub lits: SmallVec<Lit, SHORT>,
+    /// The greatest level of the other literals, or 0.
     pub back_level: u32,
+    /// Clauses that are unit in turn where all these literals are false and those of level 0 hold, in the order of the
+    /// trail, and last one that is false then.
     pub hints: Vec<CRef>,
 }
 
-/// Learns clauses, with memory that it keeps between calls.
+/// Learns clauses, with memory that it keeps between calls: by the first unique implication point, and then without the
+/// literals that follow from the others (Handbook of Satisfiability, chapter 4; Sörensson and Biere 2009).
 #[derive(Drop)]
 pub struct Analyzer {
-    // By variable, all clear.
+    // By variable: what the analysis at work knows of it, and all clear between calls.
     marks: Vec<Mark>,
+    // The variables that are marked, by their positions on the trail; between calls, those that the last analysis met. It
+    // has room for all variables.
+    met: Vec<u32>,
 }
 
 impl Model for Analyzer {
-    ghost use Rattle.std.specs.Prelude.{ℕ, length};
+    ghost use Rattle.std.specs.Prelude.{ℕ, ◌<◌, ◌≤◌, length, All, vec_capacity};
     ghost use Rattle.analyze.specs.Marks.{IsClear};
 
     ghost Value = { ℕ };
 
     ghost view = { λ a. length a.marks.items };
 
-    ghost invariant = { λ a. IsClear a.marks.items };
+    ghost invariant = { λ a. IsClear a.marks.items × (length a.marks.items ≤ vec_capacity a.met) × All (λ v. (0 < v) × (v < length a.marks.items)) a.met.items };
 }
 
 impl Analyzer {
     /// One for engines that have so many variables or fewer.
+    ///
+    /// # Errors
+    ///
+    /// `AllocError` where memory was refused.
     pub fn new(alloc: Global, variables: u32) -> Result<Self, AllocError>
-        ensures { IfOk result (λ a. variables < a) }
+        ensures { IfOk result (λ a. a ≡ variables + 1) }
     {
-        let marks = Vec::from_elem(alloc, Mark::Clear, variables as usize + 1)?;
-        Ok(Analyzer { marks })
+        let count = variables as usize + 1;
+        let marks = Vec::from_elem(alloc, Mark::Clear, count)?;
+        let met = Vec::with_capacity(alloc, count)?;
+        Ok(Analyzer { marks, met })
     }
 
-    /// Learns a clause from one that is false at the current level.
+    /// Learns a clause from one that is false and has a literal of the current level. Beside the clause and its hints it
+    /// takes no memory. Its time is that of the clauses that it reads and of the trail back to the asserting literal, and
+    /// of a sort of the variables that it meets.
+    ///
+    /// # Errors
+    ///
+    /// `AllocError` where memory was refused. Nothing has changed then.
     pub fn analyze(
         &mut self,
         engine: &Engine,
@@ -66,13 +90,33 @@ impl Analyzer {
         ensures hints { IfOk result (λ learned. IsRefutedBy store.now.slots engine.now.trail learned.lits.items learned.hints.items) }
         ensures same { self.new ≡ self.old }
     {
-        let learned = learn(store.allocator(), engine, store, conflict, &mut self.marks);
-        clear(engine, &mut self.marks);
+        self.met.clear();
+        let alloc = store.allocator();
+        let learned = learn(
+            alloc,
+            engine,
+            store,
+            conflict,
+            &mut self.marks,
+            &mut self.met,
+        );
+        clear(engine, &mut self.marks, &mut self.met);
         learned
+    }
+
+    /// The variables that the last analysis met.
+    pub fn met(&self) -> &[u32]
+        ensures { All (λ v. (0 < v) × (v < self.now)) result.now }
+    {
+        &self.met
     }
 }
 
-/// Learns a clause from one that is false at the current level.
+/// Learns one clause, as [`Analyzer::analyze`] does, with memory of its own for each variable.
+///
+/// # Errors
+///
+/// `AllocError` where memory was refused.
 pub fn analyze(engine: &Engine, store: &Store, conflict: CRef) -> Result<Learned, AllocError>
     requires fits { Fits engine.now store.now.slots }
     requires live { IsLive store.now.slots conflict }
@@ -85,13 +129,14 @@ pub fn analyze(engine: &Engine, store: &Store, conflict: CRef) -> Result<Learned
     analyzer.analyze(engine, store, conflict)
 }
 
-/// Learns a clause, with a clear mark for each variable.
+/// Learns a clause, with a clear mark for each variable, and lists what it marks.
 fn learn(
     alloc: Global,
     engine: &Engine,
     store: &Store,
     conflict: CRef,
     marks: &mut [Mark],
+    met: &mut Vec<u32>,
 ) -> Result<Learned, AllocError>
     requires fits { Fits engine.now store.now.slots }
     requires live { IsLive store.now.slots conflict }
@@ -99,16 +144,20 @@ fn learn(
     requires deep { 0 < depth_of engine.now.trail }
     requires room { engine.now.variables < length marks.old }
     requires clear { IsClear marks.old }
+    requires none { met.old.items ≡ [] }
+    requires spare { length marks.old ≤ vec_capacity met.old }
     ensures asserting { IfOk result (λ learned. IsAsserting engine.now.trail learned.lits.items learned.back_level) }
     ensures hints { IfOk result (λ learned. IsRefutedBy store.now.slots engine.now.trail learned.lits.items learned.hints.items) }
-    ensures above { IsMarkedAbove engine.now.trail marks.new }
+    ensures listed { HasMet engine.now.trail marks.new met.new.items }
     ensures long { length marks.new ≡ length marks.old }
+    ensures spare { length marks.old ≤ vec_capacity met.new }
 {
-    let count = mark_clause(engine, store.lits(conflict), marks);
-    let asserting = resolve(engine, store, count, marks);
-    minimise(engine, store, asserting, marks);
-    let lits = collect_literals(alloc, engine, asserting, marks)?;
-    let hints = collect_hints(alloc, engine, store, conflict, marks)?;
+    let count = mark_clause(engine, store.lits(conflict), marks, met);
+    let asserting = resolve(engine, store, count, marks, met);
+    met.sort_unstable();
+    minimise(engine, store, asserting, marks, met);
+    let lits = collect_literals(alloc, engine, asserting, marks, met)?;
+    let hints = collect_hints(alloc, engine, conflict, marks, met)?;
     let back_level = greatest(engine, &lits.as_slice()[1..]);
     Ok(Learned {
         lits,

@@ -1,3 +1,4 @@
+pub mod Sparing
 pub mod Facts
 pub mod Literals
 pub mod Trails

@@ -6,6 +6,7 @@ pub mod Marks
 pub mod Zipped
 pub mod Truths
 pub mod Watches
+pub mod Doomed
 pub mod Fits
 pub mod Steps
 pub mod Looks

@@ -7,6 +7,7 @@ ghost use Rattle.propagate.specs.Steps.{enlisted, with_trail, Continues, IsConfl
 ghost use Rattle.propagate.specs.Fits.{Fits, IsWithin, GrowsByUnits, IsFalseClause, IsComplete};
 
 mod compacting;
+mod detaching;
 mod queue;
 mod renaming;
 mod waiting;

@@ -1,8 +1,10 @@
 // Rows of watches.
 ghost use Rattle.std.specs.Prelude.{◌≡◌, ℕ, ◌<◌, ◌≤◌, List, [], ◌∷◌, ◌++◌, length, map, replicate, take, Some, slice_get, slice_set, slice_index, OnOk, OnErr, IfOk, filter, not, ◌==◌};
 ghost use Rattle.propagate.specs.Rows.{row_at, with_row, closed_row};
+ghost use Rattle.propagate.specs.Doomed.{spared_rows};
 ghost use Rattle.propagate.specs.Renames.{named_rows};
 
+use crate::doomed::is_doomed;
 use crate::names::rename_entries;
 use clauses::store::{CRef, Moves};
 use std::alloc::{AllocError, Global};
@@ -36,6 +38,14 @@ fn rename_rows(rows: &mut [Vec<Entry>], moves: &Moves)
 {
     for row in rows.iter_mut() {
         rename_entries(row, moves);
+    }
+}
+
+fn drop_rows(rows: &mut [Vec<Entry>], doomed: &[bool])
+    ensures { map (λ row. row.items) rows.new ≡ spared_rows doomed.now (map (λ row. row.items) rows.old) }
+{
+    for row in rows.iter_mut() {
+        row.retain(|w| !is_doomed(doomed, w.reference));
     }
 }
 
@@ -123,6 +133,13 @@ impl WatchPool {
         ensures { self.new ≡ with_row self.old row (filter (λ w. not (w.reference == reference)) (row_at self.old row)) }
     {
         self.rows[row].retain(|w| w.reference != reference);
+    }
+
+    /// Takes the entries of the clauses that are marked out of all rows.
+    pub(crate) fn drop_doomed(&mut self, doomed: &[bool])
+        ensures { self.new ≡ spared_rows doomed.now self.old }
+    {
+        drop_rows(&mut self.rows, doomed);
     }
 
     /// Renames the clauses of all entries.

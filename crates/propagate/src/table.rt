@@ -2,6 +2,7 @@
 ghost use Rattle.std.specs.Prelude.{◌≡◌, ℕ, ◌<◌, List, [], length, take, slice_set, OnOk, OnErr};
 ghost use Rattle.wcnf.specs.Literal.{Literal};
 ghost use Rattle.propagate.specs.Watches.{place_in, rest_in, IsWatching};
+ghost use Rattle.propagate.specs.Doomed.{IsSpared};
 ghost use Rattle.propagate.specs.Steps.{IsWatchedBy, rest_after, grown_table};
 
 use clauses::store::CRef;
@@ -127,6 +128,18 @@ impl Table {
             Place::Watching(one, other, rest) => {
                 self.kinds[reference] = Kind::Watching;
                 self.pairs[reference] = Pair { one, other, rest };
+            }
+        }
+    }
+
+    /// Takes the places of the clauses that are marked.
+    pub(crate) fn drop_doomed(&mut self, doomed: &[bool])
+        ensures { IsSpared doomed.now self.old self.new }
+    {
+        let len = self.len().min(doomed.len());
+        for at in 0..len {
+            if doomed[at] {
+                self.set(at, Place::Detached);
             }
         }
     }

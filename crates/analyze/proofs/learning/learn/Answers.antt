@@ -1,16 +1,17 @@
-use Rattle.std.proofs.Common.{arith, ◌≡◌, ◌≤◌, sym, ◌∙◌, ap, subst, length}
+use Rattle.std.proofs.Common.{arith, ◌≡◌, ◌≤◌, sym, ◌∙◌, ap, subst}
 use Rattle.std.specs.Prelude.{All, IfSome}
 use Rattle.wcnf.specs.Literal.{Literal, negation}
 use Rattle.clauses.specs.Slots.{clause_at}
 use Rattle.propagate.specs.Trail.{literals_of}
 use Rattle.analyze.specs.Learning.{IsConflict, IsAsserting, IsRefutedBy, greatest_level}
 use Rattle.analyze.specs.Marks.{kept_of, resolved_of, others_in, learned_from, IsReduced}
+use Rattle.analyze.specs.Met.{HasMet, IsRising}
 use Rattle.analyze.proofs.Counting.{current_clear}
 use Rattle.analyze.proofs.Fitting.{false_within}
-use Rattle.analyze.proofs.Walking.{small_at}
+use Rattle.analyze.proofs.Listing.{listed_none, has_sorted, rising_sorted}
 use Rattle.analyze.proofs.Resolving.{marked_start}
 use Rattle.analyze.proofs.Marked.{marked_refutes}
-use Rattle.analyze.proofs.Collecting.{start_above, start_some, learned_asserting, learned_collected, learned_within, marked_above, tail_is}
+use Rattle.analyze.proofs.Collecting.{start_above, start_some, learned_asserting, learned_collected, learned_within, tail_is}
 use Rattle.analyze.proofs.learning.learn.Goals as goal
 
 pub mark_clause-count-requires-clause-named : goal.mark_clause-count-requires-clause-named
@@ -41,14 +42,6 @@ resolve-asserting-requires-clause-some c =
     let zero = current_clear T old c.requires.clear in
     let n = c.mark_clause-count.ensures.counted in
     omega arith
-
-pub collect_literals-requires : goal.collect_literals-requires
-collect_literals-requires c =
-    let a = c.minimise.ensures.long in
-    let b = c.resolve-asserting.ensures.long in
-    let d = c.mark_clause-count.ensures.marked.long in
-    let room = c.requires.room in
-    record { small = small_at c.args.engine.now.trail c.args.engine.now.variables c.requires.fits.small (length c.minimise.new.marks) (omega arith) }
 
 pub greatest-back_level-requires : goal.greatest-back_level-requires
 greatest-back_level-requires c =
@@ -103,26 +96,22 @@ returns-clause-hints c =
     let r = marked_refutes slots T c.args.conflict ls (learned_from T M u) (kept_of M) (resolved_of M) c.requires.fits.reasons c.lits.ensures conflict.0 marked (learned_collected at T M u c.requires.fits.reasons d) in
     subst (λ x. IsRefutedBy slots T x c.in_ok-hints.hints.items) (sym items) (subst (IsRefutedBy slots T (learned_from T M u)) (sym c.in_ok-hints.ensures) r)
 
-pub returns-in_err-lits-clause-above : goal.returns-in_err-lits-clause-above
-returns-in_err-lits-clause-above c =
-    let at = clause_at c.args.store.now.slots in
-    let T = c.args.engine.now.trail in
-    let ls = c.lits.result.now in
-    let first = marked_start at T ls c.args.marks.now c.mark_clause-count.new.marks c.requires.clear c.mark_clause-count.ensures.marked in
-    marked_above at T ls c.minimise.new.marks c.resolve-asserting.result (c.minimise.ensures.same ls (c.resolve-asserting.ensures.same ls first)) c.minimise.ensures.reduced
+pub mark_clause-count-requires-clause-listed : goal.mark_clause-count-requires-clause-listed
+mark_clause-count-requires-clause-listed c = listed_none c.args.engine.now.trail c.args.marks.now c.args.met.now.items c.requires.clear c.requires.none
 
-pub returns-in_err-hints-clause-above : goal.returns-in_err-hints-clause-above
-returns-in_err-hints-clause-above c =
-    let at = clause_at c.args.store.now.slots in
+pub minimise-requires-clause-listed : goal.minimise-requires-clause-listed
+minimise-requires-clause-listed c =
     let T = c.args.engine.now.trail in
-    let ls = c.lits.result.now in
-    let first = marked_start at T ls c.args.marks.now c.mark_clause-count.new.marks c.requires.clear c.mark_clause-count.ensures.marked in
-    marked_above at T ls c.minimise.new.marks c.resolve-asserting.result (c.minimise.ensures.same ls (c.resolve-asserting.ensures.same ls first)) c.minimise.ensures.reduced
+    let M = c.resolve-asserting.new.marks in
+    let sorted = has_sorted T M c.resolve-asserting.new.met.items c.sort_unstable.new.self.items c.sort_unstable.ensures.permutation c.resolve-asserting.ensures.listed.has in
+    subst (HasMet T M) (sym c.deref.ensures.value) sorted
 
-pub returns-clause-above : goal.returns-clause-above
-returns-clause-above c =
-    let at = clause_at c.args.store.now.slots in
-    let T = c.args.engine.now.trail in
-    let ls = c.lits.result.now in
-    let first = marked_start at T ls c.args.marks.now c.mark_clause-count.new.marks c.requires.clear c.mark_clause-count.ensures.marked in
-    marked_above at T ls c.minimise.new.marks c.resolve-asserting.result (c.minimise.ensures.same ls (c.resolve-asserting.ensures.same ls first)) c.minimise.ensures.reduced
+pub collect_literals-requires-clause-rising : goal.collect_literals-requires-clause-rising
+collect_literals-requires-clause-rising c =
+    subst IsRising (sym c.deref-2.ensures.value)
+    (rising_sorted c.resolve-asserting.new.met.items c.sort_unstable.new.self.items c.sort_unstable.ensures.permutation c.sort_unstable.ensures.sorted c.resolve-asserting.ensures.listed.once)
+
+pub collect_hints-requires-clause-rising : goal.collect_hints-requires-clause-rising
+collect_hints-requires-clause-rising c =
+    subst IsRising (sym c.deref-3.ensures.value)
+    (rising_sorted c.resolve-asserting.new.met.items c.sort_unstable.new.self.items c.sort_unstable.ensures.permutation c.sort_unstable.ensures.sorted c.resolve-asserting.ensures.listed.once)

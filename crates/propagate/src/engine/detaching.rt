@@ -1,0 +1,24 @@
+// Many clauses that are detached at once.
+ghost use Rattle.std.specs.Prelude.{◌≡◌, ℕ, ◌&&◌, not, false, All, IfSome};
+ghost use Rattle.clauses.specs.Slots.{Slots};
+ghost use Rattle.propagate.specs.Watches.{is_attached};
+ghost use Rattle.propagate.specs.Fits.{Fits};
+ghost use Rattle.propagate.specs.Doomed.{is_doomed};
+
+use super::Engine;
+use crate::doomed::drop_doomed;
+
+impl Engine {
+    /// From now on `propagate` looks past the clauses that are marked here by their references' places, none of which is the
+    /// reason of a literal; references past the end are not marked. One pass over what is attached, which takes no memory.
+    pub fn detach_all(&mut self, doomed: &[bool])
+        requires no_reason { All (λ a. IfSome a.reason (λ r. is_doomed doomed.now r ≡ false)) self.old.trail }
+        ensures detached { (r : ℕ) → is_attached self.new r ≡ (is_attached self.old r && not (is_doomed doomed.now r)) }
+        ensures same { (self.new.trail ≡ self.old.trail) × (self.new.variables ≡ self.old.variables) × (self.new.failed ≡ self.old.failed) }
+        ensures fits { (slots : Slots) → Fits self.old slots → Fits self.new slots }
+    {
+        self.table.drop_doomed(doomed);
+        drop_doomed(&mut self.waiting, doomed);
+        self.pool.drop_doomed(doomed);
+    }
+}
