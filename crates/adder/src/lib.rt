@@ -5,6 +5,6 @@ pub mod building;
 pub mod cells;
 mod columns;
 pub mod networks;
-mod relaxations;
+pub mod relaxations;
 #[cfg(test)]
 mod tests;

@@ -9,16 +9,17 @@ use crate::cells::Profile;
 use std::alloc::AllocError;
 use wcnf::types::{Clause, Instance, Lit, Soft};
 
-/// A relaxation literal, and the weight of its soft clause.
+/// A relaxation literal: its soft clause may be falsified where it is true.
 #[derive(Drop)]
-pub(crate) struct Relaxation {
+pub struct Relaxation {
     pub lit: Lit,
+    /// What it costs to falsify the soft clause, from 1.
     pub weight: u64,
 }
 
 /// The relaxations of all soft clauses of an instance.
 #[derive(Drop)]
-pub(crate) struct Relaxations {
+pub struct Relaxations {
     /// In the order of the soft clauses.
     pub each: Vec<Relaxation>,
     /// The first variable that neither the instance nor a relaxation has.
@@ -28,6 +29,11 @@ pub(crate) struct Relaxations {
 }
 
 impl Relaxations {
+    /// The relaxations of the instance.
+    ///
+    /// # Errors
+    ///
+    /// `AllocError` where memory was refused.
     pub fn of(instance: &Instance, profile: Profile) -> Result<Self, AllocError>
         ensures limits { OnOk result (IsInstance instance.now) }
         ensures each { IfOk result (λ r. r.each.items ≡ map relaxation_of (relaxed_as profile instance.now)) }
