@@ -119,6 +119,6 @@ store_deleted ls hs i h d s e f =
 -- a place without a live clause
 pub none_live : (slots : List (Option (List Literal))) (r : ℕ) → (IsLive slots r → ⊥) → clause_at slots r ≡ None
 none_live slots r n = elim (clause_at slots r) as (λ o. clause_at slots r ≡ o → o ≡ None) [
-    | None ↦ λ e. refl
-    | Some c ↦ λ e. absurd (n (c, e))
-  ] refl
+  | None ↦ λ e. refl
+  | Some c ↦ λ e. absurd (n (c, e))
+] refl

@@ -63,7 +63,6 @@ kept_more [] n c i x h = absurd (none-some x h)
 kept_more ((Formula m, d) ∷ g) n c i x h = pick_kept (m == i) (Some d) (given_at g i) (given_at (g ++ (Formula n, c) ∷ []) i) x (kept_more g n c i x) h
 kept_more ((Added m, d) ∷ g) n c i x h = kept_more g n c i x h
 
-
 pub new_more : (k base : ℕ) (g : Given) (n : ℕ) (c : List Literal) (old since : List LogLine) → k < n → n ≤ base → LearnsNew (is_later k base) g base [] old → learned_count since ≡ 0
     → LearnsNew (is_later k base) (g ++ (Formula n, c) ∷ []) base [] (old ++ since)
 new_more k base g n c old since h l new none =
