@@ -207,6 +207,14 @@ impl Engine {
         self.trail.literals()
     }
 
+    /// How many literals are true: at most one for each variable.
+    pub fn assigned(&self) -> usize
+        ensures len { result ≡ length self.now.trail }
+        ensures within { result ≤ self.now.variables }
+    {
+        self.trail.len()
+    }
+
     /// The current level: the number of decisions.
     pub fn depth(&self) -> u32
         ensures { result ≡ depth_of self.now.trail }
