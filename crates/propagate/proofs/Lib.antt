@@ -27,3 +27,4 @@ pub mod Moving
 pub mod Naming
 pub mod Renamed
 pub mod Compacting
+pub mod Added

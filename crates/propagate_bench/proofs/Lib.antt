@@ -1,2 +1,1 @@
 mod Within
-mod Added
