@@ -100,16 +100,27 @@ HasWords l = AllByRecursion IsWord (line_tokens l)
 abbrev pub text_line : ProofLine → List ℕ
 text_line l = spaced (line_tokens l)
 
-pub token_lines-text : (ls : List ProofLine) → AllByRecursion HasWords ls → token_lines (flat_map (λ l. spaced (line_tokens l)) ls) ≡ map line_tokens ls
-token_lines-text [] h = refl
-token_lines-text (l ∷ ls) h =
-    let rest : List ℕ = flat_map (λ l. spaced (line_tokens l)) ls in
-    let ts : List (List ℕ) = line_tokens l in
+-- lines of words are told from their text
+pub token_lines-spaced : (tss : List (List (List ℕ))) → AllByRecursion (AllByRecursion IsWord) tss → token_lines (flat_map spaced tss) ≡ tss
+token_lines-spaced [] h = refl
+token_lines-spaced (ts ∷ tss) h =
+    let rest : List ℕ = flat_map spaced tss in
     ap (λ x. token_lines (x ++ rest)) (spaced-joined ts)
     ∙ ap token_lines (append_assoc (joined ts) (10 ∷ []) rest)
     ∙ ap (map tokens_of) (line_first (joined ts) rest (joined_text ts h.0))
     ∙ ap (λ x. x ∷ token_lines rest) (tokens_of-joined ts h.0)
-    ∙ ap (λ x. ts ∷ x) (token_lines-text ls h.1)
+    ∙ ap (λ x. ts ∷ x) (token_lines-spaced tss h.1)
+
+text-tokens : (ls : List ProofLine) → flat_map (λ l. spaced (line_tokens l)) ls ≡ flat_map spaced (map line_tokens ls)
+text-tokens [] = refl
+text-tokens (l ∷ ls) = ap (λ x. spaced (line_tokens l) ++ x) (text-tokens ls)
+
+all_words : (ls : List ProofLine) → AllByRecursion HasWords ls → AllByRecursion (AllByRecursion IsWord) (map line_tokens ls)
+all_words [] h = tt
+all_words (l ∷ ls) h = (h.0, all_words ls h.1)
+
+pub token_lines-text : (ls : List ProofLine) → AllByRecursion HasWords ls → token_lines (flat_map (λ l. spaced (line_tokens l)) ls) ≡ map line_tokens ls
+token_lines-text ls h = ap token_lines (text-tokens ls) ∙ token_lines-spaced (map line_tokens ls) (all_words ls h)
 
 kept_lines : (ls : List ProofLine) → filter has_tokens (map line_tokens ls) ≡ map line_tokens ls
 kept_lines [] = refl

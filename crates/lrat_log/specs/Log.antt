@@ -96,6 +96,9 @@ text_of base ls = flat_map (λ l. spaced (line_tokens l)) (numbered_lines base l
 abbrev pub Given : Type 0
 Given = List (Name × List Literal)
 
+abbrev pub clauses_in : Given → List (List Literal)
+clauses_in given = map (λ g. g.1) given
+
 abbrev pub given_at : Given → ℕ → Option (List Literal)
 given_at [] i = None
 given_at ((Formula n, c) ∷ more) i = if n == i then Some c else given_at more i
