@@ -1,5 +1,5 @@
 # make        proves and builds the program, and leaves it as ./wmax
-# make demo   checks a SAT solver's refutation of a real problem
+# make demo   solves a week's roster, and checks the certificate of its optimum
 # make test   the gate (rt ci), and then the scripts of tests/ on the program that it left
 # make edits  all edits that the prover must refuse, also those that the gate leaves out (some hours; CRATES='wcnf ..' for some)
 .PHONY: all demo test edits clean
@@ -10,7 +10,7 @@ all:
 
 demo:
 	@[ -x wmax ] || $(MAKE) all
-	./wmax check examples/mul8.wcnf examples/mul8.result examples/mul8.lrat
+	@bash examples/demo
 
 test:
 	@bash tests/all

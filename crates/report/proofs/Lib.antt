@@ -1,1 +1,6 @@
 pub mod NoLine
+pub mod CostLines
+pub mod Searched
+pub mod ResultTexts
+pub mod Answered
+pub mod Ends

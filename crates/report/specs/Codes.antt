@@ -5,7 +5,15 @@ use Rattle.wcnf.specs.declared.faults.FaultKind.TheVariants.{FirstToken, OldForm
 use Rattle.lrat_check.specs.declared.verdicts.Verdict.{Verdict}
 use Rattle.lrat_check.specs.declared.verdicts.Verdict.TheVariants.{Yes, No}
 use Rattle.report.specs.declared.fault.RunFault.{RunFault}
-use Rattle.report.specs.declared.fault.RunFault.TheVariants.{Read, Memory, Output}
+use Rattle.report.specs.declared.fault.RunFault.TheVariants.{Read, Memory, Output, ProofOutput}
+use Rattle.report.specs.declared.status.Status.{Status}
+use Rattle.report.specs.declared.status.Status.TheVariants.{OptimumFound, Unsatisfiable, Satisfiable, Unknown}
+
+abbrev pub code_of_status : Status → ℕ
+code_of_status OptimumFound = 30
+code_of_status Unsatisfiable = 20
+code_of_status (Satisfiable work) = 10
+code_of_status (Unknown work) = 0
 
 abbrev pub code_of_verdict : Verdict → ℕ
 code_of_verdict Yes = 0
@@ -29,3 +37,4 @@ abbrev pub code_of_fault : RunFault → ℕ
 code_of_fault (Read fault) = code_of_kind fault.kind
 code_of_fault Memory = 3
 code_of_fault Output = 3
+code_of_fault ProofOutput = 3

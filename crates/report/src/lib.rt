@@ -1,8 +1,13 @@
-//! What the program `wmax` says: its command line, the lines that it prints, and its exit statuses.
+//! The run of the solver on a reader and two writers, and what the program `wmax` says: its command
+//! line, the lines that it prints, and its exit statuses.
 #![tactic(auto)]
 
+mod answering;
 pub mod fault;
 pub mod options;
 pub mod printing;
+pub mod running;
+pub mod status;
+pub mod telling;
 #[cfg(test)]
 mod tests;

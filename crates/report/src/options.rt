@@ -1,4 +1,7 @@
 //! The command line.
+ghost use Rattle.std.specs.Prelude.{◌≡◌, Some};
+
+use adder::cells::Profile;
 use clap::builder::ValueParser;
 use clap::{Arg, ArgAction, Command, Error};
 use std::alloc::Global;
@@ -6,11 +9,79 @@ use std::alloc::Global;
 /// The greatest cost: weights of an instance sum to less than 2^62.
 pub const MOST_COST: u64 = 4_611_686_018_427_387_903;
 
+/// The greatest effort, 2^62.
+pub const MOST_CONFLICTS: u64 = 4_611_686_018_427_387_904;
+
+const SOLVE_NOTES: &str = "\
+Prints a line 'o COST' for each solution that is better than all before, as soon as it is known, then
+one line 's STATUS', and for a solution a line 'v' with a digit 0 or 1 for each variable.
+
+Statuses:
+  30  s OPTIMUM FOUND    the bits are a solution of the last cost, and none is cheaper
+  20  s UNSATISFIABLE    no assignment satisfies the hard clauses
+  10  s SATISFIABLE      the effort ran out; the bits are a solution, maybe not the cheapest
+   0  s UNKNOWN          the effort ran out before a solution was met
+   2  a faulty FILE or command line; 3  a file, memory or output that failed
+
+The certificate proves OPTIMUM FOUND and UNSATISFIABLE to whoever checks it, and is written before the
+'s' line. For the other two none is. Without --proof it is dropped.
+
+  wmax solve --proof a.lrat a.wcnf > a.result
+  wmax check a.wcnf a.result a.lrat";
+
 fn path<'a>(alloc: Global, id: &'a str, help: &'a str) -> Arg<'a> {
     Arg::new(alloc, id)
         .required(true)
         .action(ArgAction::Set)
         .help(help)
+}
+
+/// Which clauses say 'cheaper': a certificate belongs to the profile that it was made with.
+fn profile<'a>(alloc: Global) -> Arg<'a> {
+    Arg::new(alloc, "profile")
+        .long("profile")
+        .value_name("1|2")
+        .value_parser(ValueParser::unsigned(1, 2))
+        .default_value("1")
+        .help(
+            "How 'cheaper' is encoded; 2 spends no variable on soft clauses of one literal. The certificate belongs to its profile",
+        )
+}
+
+/// The profile with this number: the first where it is not 2.
+pub fn profile_of(number: Option<u64>) -> Profile
+    ensures second { number ≡ Some 2 → result ≡ Profile.Two }
+    ensures first { (number ≡ Some 2 → ⊥) → result ≡ Profile.One }
+{
+    match number {
+        Some(2) => Profile::Two,
+        _ => Profile::One,
+    }
+}
+
+fn solve<'a>(alloc: Global) -> Result<Command<'a>, Error> {
+    let conflicts = Arg::new(alloc, "conflicts")
+        .long("conflicts")
+        .value_name("N")
+        .value_parser(ValueParser::unsigned(0, MOST_CONFLICTS))
+        .default_value("1000000000")
+        .help(
+            "The effort: at most N conflicts and solutions together. Time and memory grow with it; the same N always gives the same answer",
+        );
+    let proof = Arg::new(alloc, "proof")
+        .long("proof")
+        .value_name("PATH")
+        .help(
+            "Where the LRAT certificate goes: created or emptied at once, written at the end. FILE itself is refused",
+        );
+    let command = Command::new(alloc, "solve")
+        .about("Finds a solution of least cost, and a certificate that nothing is cheaper")
+        .after_help(SOLVE_NOTES)
+        .arg(conflicts)?
+        .arg(proof)?
+        .arg(profile(alloc))?
+        .arg(path(alloc, "FILE", "The instance, a WCNF text"))?;
+    Ok(command)
 }
 
 fn check<'a>(alloc: Global) -> Result<Command<'a>, Error> {
@@ -24,7 +95,8 @@ fn check<'a>(alloc: Global) -> Result<Command<'a>, Error> {
             "RESULT",
             "The result, as a solver printed it: o, s and v lines",
         ))?
-        .arg(path(alloc, "PROOF", "The certificate, LRAT as text"))?;
+        .arg(path(alloc, "PROOF", "The certificate, LRAT as text"))?
+        .arg(profile(alloc))?;
     Ok(command)
 }
 
@@ -39,7 +111,8 @@ fn encode<'a>(alloc: Global) -> Result<Command<'a>, Error> {
             "Prints a formula as DIMACS CNF that is satisfiable exactly when some solution costs less than COST",
         )
         .arg(path(alloc, "FILE", "The instance, a WCNF text"))?
-        .arg(cost)?;
+        .arg(cost)?
+        .arg(profile(alloc))?;
     Ok(command)
 }
 
@@ -49,6 +122,7 @@ pub fn command<'a>(alloc: Global) -> Result<Command<'a>, Error> {
         .about("Certified weighted partial MaxSAT")
         .subcommand_required(true)
         .disable_help_subcommand(true)
+        .subcommand(solve(alloc)?)?
         .subcommand(check(alloc)?)?
         .subcommand(encode(alloc)?)?;
     Ok(command)

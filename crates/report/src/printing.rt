@@ -106,6 +106,6 @@ pub fn fault_code(fault: &RunFault) -> u8
             FaultKind::Read | FaultKind::Memory => 3,
             _ => 2,
         },
-        RunFault::Memory | RunFault::Output => 3,
+        RunFault::Memory | RunFault::Output | RunFault::ProofOutput => 3,
     }
 }

@@ -1,13 +1,19 @@
 //! The program `wmax`: opens the files that the command line names, and hands their bytes to the libraries.
 #![tactic(auto)]
 
-use bound::formulas::{formula, write_dimacs};
+mod placing;
+
+use adder::cells::Profile;
+use bound::formulas::{formula_as, write_dimacs};
+use cdcl::budget::Budget;
 use clap::ArgMatches;
 use clap::error::ErrorKind;
-use lrat_check::checking::check;
+use lrat_check::checking::check_as;
+use placing::open_proof;
 use report::fault::RunFault;
-use report::options::{self, MOST_COST};
+use report::options::{self, MOST_CONFLICTS, MOST_COST};
 use report::printing::{delivered, fault_code, print_fault, print_verdict, verdict_code};
+use report::running::run_as;
 use std::fs::File;
 use std::io::{Read, Write};
 use std::mem::ManuallyDrop;
@@ -24,17 +30,54 @@ const UNREADABLE: RunFault = RunFault::Read(ReadFault {
     line: 0,
 });
 
-/// Want of memory while a text is read is a fault of its own.
-fn run_fault(fault: ReadFault) -> RunFault {
-    match fault.kind {
-        FaultKind::Memory => RunFault::Memory,
-        _ => RunFault::Read(fault),
-    }
-}
-
 /// The whole file's bytes.
 fn contents<R: AllocGlobal, F: Read>(rt: &R, file: &mut F) -> Result<Vec<u8>, RunFault> {
-    read_all(rt.alloc(), file).map_err(run_fault)
+    Ok(read_all(rt.alloc(), file)?)
+}
+
+fn profile(matches: &ArgMatches<'_>) -> Profile {
+    options::profile_of(matches.get_one::<u64>("profile"))
+}
+
+/// `wmax solve`: FILE is opened, then PATH is created or emptied, then the text is read. Without PATH the certificate is dropped.
+fn solved<R: Files + AllocGlobal + Print>(
+    rt: &R,
+    matches: &ArgMatches<'_>,
+) -> Result<u8, RunFault> {
+    let (Some(text), Some(limit)) = (matches.get_str("FILE"), matches.get_one::<u64>("conflicts"))
+    else {
+        return Err(UNREADABLE);
+    };
+    let mut text = File::open(rt, text).map_err(|_| UNREADABLE)?;
+    // `clap` lets no greater effort pass; said again, since nothing is known of that here.
+    let mut budget = Budget::new(limit.min(MOST_CONFLICTS));
+    let mut out = io::writer(rt);
+    let profile = profile(matches);
+    let status = match matches.get_str("proof") {
+        Some(path) => {
+            let mut proof = open_proof(rt, path, &text)?;
+            run_as(
+                rt.alloc(),
+                &mut text,
+                &mut budget,
+                &mut out,
+                &mut proof,
+                profile,
+            )?
+        }
+        None => {
+            let mut dropped = io::sink();
+            run_as(
+                rt.alloc(),
+                &mut text,
+                &mut budget,
+                &mut out,
+                &mut dropped,
+                profile,
+            )?
+        }
+    };
+    Ok(status.code())
 }
 
 /// `wmax check`: the files are opened in their order before any is read, and read in their order before the verdict.
@@ -55,7 +98,9 @@ fn checked<R: Files + AllocGlobal + Print>(
     let text = contents(rt, &mut text)?;
     let answer = contents(rt, &mut answer)?;
     let proof = contents(rt, &mut proof)?;
-    let verdict = check(rt.alloc(), &text, &answer, &proof).map_err(|_| RunFault::Memory)?;
+    let verdict = check_as(rt.alloc(), &text, &answer, &proof, profile(matches)).map_err(
+        |_| RunFault::Memory,
+    )?;
     let mut out = io::writer(rt);
     delivered(print_verdict(&verdict, &mut out), &mut out)?;
     Ok(verdict_code(&verdict))
@@ -70,9 +115,11 @@ fn encoded<R: Files + AllocGlobal + Print>(
         return Err(UNREADABLE);
     };
     let mut text = File::open(rt, text).map_err(|_| UNREADABLE)?;
-    let instance = ManuallyDrop::new(read_from(rt.alloc(), &mut text).map_err(run_fault)?);
+    let instance = ManuallyDrop::new(read_from(rt.alloc(), &mut text)?);
     // `clap` lets no greater cost pass; said again, since nothing is known of that here.
-    let formula = formula(&instance, cost.min(MOST_COST)).map_err(|_| RunFault::Memory)?;
+    let formula = formula_as(&instance, cost.min(MOST_COST), profile(matches)).map_err(
+        |_| RunFault::Memory,
+    )?;
     let formula = ManuallyDrop::new(formula);
     let mut out = io::writer(rt);
     delivered(write_dimacs(&formula, &mut out), &mut out)?;
@@ -104,6 +151,7 @@ fn status<R: Files + AllocGlobal + Print + Eprint + Env, E: Write>(rt: &R, err: 
     };
     match command.try_get_matches_from(words.as_slice()) {
         Ok(matches) => match matches.subcommand() {
+            Some(("solve", found)) => told(err, solved(rt, found)),
             Some(("check", found)) => told(err, checked(rt, found)),
             Some(("encode", found)) => told(err, encoded(rt, found)),
             _ => 2,

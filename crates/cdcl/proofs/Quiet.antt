@@ -1,0 +1,187 @@
+-- The engine between the moves of a search: at the ends of the levels below the current one nothing was false or unit.
+use Rattle.std.proofs.Common.{◌≡◌, ℕ, ◌+◌, ◌<◌, ◌≤◌, true, false, cond, List, [], ◌∷◌, ◌++◌, length, map, set, Option, Some, None, ◌⊎◌, inl, inr, refl, sym, ◌∙◌, ap, subst, arith}
+use Rattle.std.specs.Prelude.{IfSome, is_none}
+use Rattle.std.specs.List.{AllByRecursion}
+use Rattle.std.specs.List.Sorted.{IsStrictlyIncreasing}
+use Rattle.std.proofs.lemmas.List.Elements.{recursion_from_All}
+use Rattle.std.proofs.lemmas.Bool.{cases_Bool, cases_lt, cases_eq, or_cases, both_ways, false≢true}
+use Rattle.wcnf.specs.Literal.{Literal, negation, literal_eq}
+use Rattle.wcnf.specs.Clause.{contains_literal}
+use Rattle.wcnf.specs.Refute.{Clauses, IsUnit, IsFalseUnder, Leads, Refutes}
+use Rattle.wcnf.proofs.Sound.{literal_eq-true}
+use Rattle.clauses.specs.Slots.{Slots, IsLive, Renaming, renamed, IsRenaming}
+use Rattle.propagate.specs.Trail.{Assigned, literals_of, depth_of, is_decision, kept_to}
+use Rattle.propagate.specs.Watches.{EngineState, is_attached, SameAttached, SetsAttached}
+use Rattle.propagate.specs.Fits.{Fits, IsComplete, GrowsByUnits, MovesAttached, renamed_trail}
+use Rattle.propagate.proofs.Levels.{kept_push, kept_all}
+use Rattle.propagate.proofs.Trails.{depth_push, depth-cons}
+use Rattle.propagate.proofs.Kept.{kept_kept, kept_low}
+use Rattle.propagate.proofs.FitsLaws.{fits_local}
+use Rattle.propagate.proofs.Naming.{kept_named, trail_listed}
+use Rattle.propagate.specs.Renames.{named_trail, named_reason}
+use Rattle.propagate.proofs.Compacting.{reasons_listed}
+use Rattle.cdcl.specs.Invariant.{Searches, zero_of}
+use Rattle.analyze.specs.Learning.{IsQuiet}
+use Rattle.cdcl.proofs.Places.{clause_cases, clause_left, clause_other, came, same_clause}
+use Rattle.cdcl.specs.Hinting.{Within}
+use Rattle.analyze.proofs.Levels.{kept_more, depth_follow}
+
+-- what an engine says of attached clauses is said of live ones
+pub quiet_complete : (e : EngineState) (slots : Slots) (trail : List Assigned) → ((r : ℕ) → IsLive slots r → is_attached e r ≡ true) → IsComplete slots (is_attached e) trail → IsQuiet slots (literals_of trail)
+quiet_complete e slots trail all complete r c at = complete r c (all r (c, at)) at
+
+pub searches_propagate : (slots : Slots) (e f : EngineState) → Searches e slots → GrowsByUnits slots e f → SameAttached e f → Fits f slots → f.failed ≡ false → Searches f slots
+searches_propagate slots e f s grows same fits works = record {
+  works = works;
+  fits = fits;
+  all_attached = λ r live. same r ∙ s.all_attached r live;
+  quiet = λ level below.
+      let depth : depth_of f.trail ≡ depth_of e.trail = ap depth_of grows.1 ∙ depth_follow slots f (literals_of e.trail) e.trail grows.0 grows.2 in
+      let low : level < depth_of e.trail = omega arith in
+      let kept : kept_to level f.trail ≡ kept_to level e.trail = ap (kept_to level) grows.1 ∙ kept_more level e.trail grows.0 low in
+      subst (λ T. IsQuiet slots (literals_of T)) (sym kept) (s.quiet level low);
+}
+
+pub searches_decide : (slots : Slots) (e f : EngineState) (l : Literal) → Searches e slots → IsQuiet slots (literals_of e.trail) → f.trail ≡ e.trail ++ record { literal = l; reason = None } ∷ []
+    → SameAttached e f → f.failed ≡ e.failed → Fits f slots → Searches f slots
+searches_decide slots e f l s quiet trail same failed fits = record {
+  works = failed ∙ s.works;
+  fits = fits;
+  all_attached = λ r live. same r ∙ s.all_attached r live;
+  quiet = λ level below.
+      let a : Assigned = record { literal = l; reason = None } in
+      let depth : depth_of (e.trail ++ a ∷ []) ≡ depth_of e.trail + 1 = depth_push e.trail a in
+      let deeper : depth_of f.trail ≡ depth_of (e.trail ++ a ∷ []) = ap depth_of trail in
+      let low : level < depth_of (e.trail ++ a ∷ []) = omega arith in
+      let kept : kept_to level f.trail ≡ kept_to level e.trail = ap (kept_to level) trail ∙ kept_push level e.trail a low in
+      elim (cases_lt level (depth_of e.trail)) [
+        | inl lower ↦ subst (λ T. IsQuiet slots (literals_of T)) (sym kept) (s.quiet level lower)
+        | inr here ↦ subst (λ T. IsQuiet slots (literals_of T)) (sym (kept ∙ kept_all level e.trail here)) quiet
+      ];
+}
+
+pub searches_backtrack : (slots : Slots) (e f : EngineState) (to : ℕ) → Searches e slots → to ≤ depth_of e.trail → f.trail ≡ kept_to to e.trail
+    → SameAttached e f → f.failed ≡ e.failed → Fits f slots → Searches f slots
+searches_backtrack slots e f to s within trail same failed fits = record {
+  works = failed ∙ s.works;
+  fits = fits;
+  all_attached = λ r live. same r ∙ s.all_attached r live;
+  quiet = λ level below.
+      let depth : depth_of f.trail ≤ to = subst (λ T. depth_of T ≤ to) (sym trail) (kept_low to e.trail) in
+      let kept : kept_to level f.trail ≡ kept_to level e.trail = ap (kept_to level) trail ∙ kept_kept level to e.trail (omega arith) in
+      subst (λ T. IsQuiet slots (literals_of T)) (sym kept) (s.quiet level (omega arith));
+}
+
+-- one more clause, which is neither false nor unit at the ends of lower levels
+pub searches_add : (slots : Slots) (e f : EngineState) (c : List Literal) → Searches e slots → SetsAttached e f (length slots) true → f.trail ≡ e.trail → f.failed ≡ false → Fits f (slots ++ Some c ∷ [])
+    → ((level : ℕ) → level < depth_of e.trail → (IsFalseUnder c (literals_of (kept_to level e.trail)) → ⊥) × ((l : Literal) → IsUnit c (literals_of (kept_to level e.trail)) l → ⊥))
+    → Searches f (slots ++ Some c ∷ [])
+searches_add slots e f c s sets trail works fits new = record {
+  works = works;
+  fits = fits;
+  all_attached = λ r live. elim (cases_eq r (length slots)) [
+    | inl here ↦ ap (is_attached f) here ∙ sets.0
+    | inr other ↦ elim (clause_cases slots c r live.0 live.1) [
+      | inl old ↦ sets.1 r other ∙ s.all_attached r (live.0, old)
+      | inr last ↦ absurd (other last.0)
+    ]
+  ];
+  quiet = λ level below r d at.
+      let low : level < depth_of e.trail = subst (λ T. level < depth_of T) trail below in
+      subst (λ T. (IsFalseUnder d (literals_of (kept_to level T)) → ⊥) × ((l : Literal) → IsUnit d (literals_of (kept_to level T)) l → ⊥)) (sym trail)
+      (elim (clause_cases slots c r d at) as (λ _. (IsFalseUnder d (literals_of (kept_to level e.trail)) → ⊥) × ((l : Literal) → IsUnit d (literals_of (kept_to level e.trail)) l → ⊥)) [
+        | inl old ↦ s.quiet level low r d old
+        | inr last ↦ subst (λ x. (IsFalseUnder x (literals_of (kept_to level e.trail)) → ⊥) × ((l : Literal) → IsUnit x (literals_of (kept_to level e.trail)) l → ⊥)) (sym last.1) (new level low)
+      ]);
+}
+
+-- a clause that is detached and leaves
+pub searches_delete : (slots : Slots) (e f : EngineState) (q : ℕ) → Searches e slots → SetsAttached e f q false → f.trail ≡ e.trail → f.failed ≡ e.failed → Fits f slots → Searches f (set slots q None)
+searches_delete slots e f q s sets trail failed fits = record {
+  works = failed ∙ s.works;
+  fits = fits_local f slots (set slots q None) fits
+      (λ r on. clause_other slots q r (λ same. both_ways _ (ap (is_attached f) same ∙ sets.0) on));
+  all_attached = λ r live. let old = clause_left slots q r live.0 live.1 in sets.1 r old.0 ∙ s.all_attached r (live.0, old.1);
+  quiet = λ level below r d at.
+      subst (λ T. (IsFalseUnder d (literals_of (kept_to level T)) → ⊥) × ((l : Literal) → IsUnit d (literals_of (kept_to level T)) l → ⊥)) (sym trail)
+      (s.quiet level (subst (λ T. level < depth_of T) trail below) r d (clause_left slots q r d at).1);
+}
+
+-- Hints refute nothing where no clause is false or unit.
+
+abbrev OpensNothing : Clauses → List Literal → Type 0
+OpensNothing at A = (r : ℕ) (c : List Literal) → at r ≡ Some c → (IsFalseUnder c A → ⊥) × ((l : Literal) → IsUnit c A l → ⊥)
+
+parts_more : (A B : List Literal) (l : Literal) → Within B A → (c : List Literal) → AllByRecursion (λ k. (k ≡ l) ⊎ (contains_literal (negation k) B ≡ true)) c → AllByRecursion (λ k. (k ≡ l) ⊎ (contains_literal (negation k) A ≡ true)) c
+parts_more A B l h [] p = tt
+parts_more A B l h (k ∷ c) p = (elim (p.0) [ inl s ↦ inl s | inr f ↦ inr (h (negation k) f) ], parts_more A B l h c p.1)
+
+all_false : (A : List Literal) (l : Literal) (c : List Literal) → contains_literal (negation l) A ≡ true → AllByRecursion (λ k. (k ≡ l) ⊎ (contains_literal (negation k) A ≡ true)) c → IsFalseUnder c A
+all_false A l [] f p = tt
+all_false A l (k ∷ c) f p = (elim (p.0) [ inl s ↦ ap (λ x. contains_literal (negation x) A) s ∙ f | inr g ↦ g ], all_false A l c f p.1)
+
+-- a unit clause has its literal true already
+unit_is_true : (at : Clauses) (A B : List Literal) (h : ℕ) (c : List Literal) (l : Literal) → OpensNothing at A → Within B A → at h ≡ Some c → IsUnit c B l → contains_literal l A ≡ true
+unit_is_true at A B h c l quiet within e u =
+    let others = parts_more A B l within c u.others in
+    elim (cases_Bool (contains_literal l A)) as (λ _. contains_literal l A ≡ true) [
+      | inl t ↦ t
+      | inr n ↦ elim (cases_Bool (contains_literal (negation l) A)) as (λ _. contains_literal l A ≡ true) [
+        | inl f ↦ absurd ((quiet h c e).0 (all_false A l c f others))
+        | inr o ↦ absurd ((quiet h c e).1 l (record { member = u.member; not_true = n; not_false = o; others = others }))
+      ]
+    ]
+
+quiet_leads : (at : Clauses) (A : List Literal) → OpensNothing at A → (B : List Literal) → Within B A → (hs : List ℕ) (C : List Literal) → Leads at B hs C → Within C A
+quiet_leads at A quiet B within [] C w = λ l m. within l (sym (ap (contains_literal l) w) ∙ m)
+quiet_leads at A quiet B within (h ∷ hs) C w =
+    let true_one = unit_is_true at A B h w.0 w.1 quiet within w.2 w.3 in
+    quiet_leads at A quiet (w.1 ∷ B) (λ l m. elim (or_cases (literal_eq l w.1) (contains_literal l B) m) [
+      | inl s ↦ ap (λ x. contains_literal x A) (literal_eq-true l w.1 s) ∙ true_one
+      | inr b ↦ within l b
+    ]) hs C w.4
+
+false_more : (c A B : List Literal) → ((l : Literal) → contains_literal l B ≡ true → contains_literal l A ≡ true) → IsFalseUnder c B → IsFalseUnder c A
+false_more [] A B h f = tt
+false_more (l ∷ c) A B h f = (h (negation l) f.0, false_more c A B h f.1)
+
+pub not_refuted : (at : Clauses) (A : List Literal) → OpensNothing at A → (hs : List ℕ) → Refutes at [] hs → ⊥
+not_refuted at A quiet hs w =
+    (quiet w.final w.clause w.live).0
+    (false_more w.clause A w.reached (quiet_leads at A quiet [] (λ l m. absurd (false≢true m)) w.front w.reached w.leads) w.conflict)
+
+-- A compacted store.
+
+none_moved : (ms : Renaming) (o : Option ℕ) → is_none (named_reason ms o) ≡ is_none o
+none_moved ms None = refl
+none_moved ms (Some r) = refl
+
+depth_moved : (ms : Renaming) (T : List Assigned) → depth_of (named_trail ms T) ≡ depth_of T
+depth_moved ms [] = refl
+depth_moved ms (a ∷ T) =
+    let b : Assigned = record { literal = a.literal; reason = named_reason ms a.reason } in
+    depth-cons b (named_trail ms T) ∙ ap (λ k. cond k 1 0 + depth_of (named_trail ms T)) (none_moved ms a.reason) ∙ ap (λ k. cond (is_decision a) 1 0 + k) (depth_moved ms T) ∙ sym (depth-cons a T)
+
+pub searches_move : (before after : Slots) (ms : Renaming) (e f : EngineState) → IsRenaming before after ms → IsStrictlyIncreasing (map (λ m. m.0) ms) → Searches e before
+    → MovesAttached e f ms → f.trail ≡ renamed_trail ms e.trail → f.failed ≡ e.failed → Fits f after
+    → Searches f after × (zero_of f.trail ≡ zero_of e.trail) × (depth_of f.trail ≡ depth_of e.trail)
+searches_move before after ms e f renames rises s moves trail failed fits =
+    let listed : AllByRecursion (λ a. IfSome a.reason (λ r. (q : ℕ) × (renamed ms r ≡ Some q))) e.trail =
+    recursion_from_All (λ a. IfSome a.reason (λ r. (q : ℕ) × (renamed ms r ≡ Some q))) e.trail (reasons_listed e before after ms s.fits renames) in
+    let as_named : f.trail ≡ named_trail ms e.trail = trail ∙ sym (trail_listed ms e.trail listed) in
+    let depth : depth_of f.trail ≡ depth_of e.trail = ap depth_of as_named ∙ depth_moved ms e.trail in
+    let kept : (level : ℕ) → literals_of (kept_to level f.trail) ≡ literals_of (kept_to level e.trail) = λ level. ap (λ T. literals_of (kept_to level T)) as_named ∙ kept_named ms level e.trail in (
+      record {
+        works = failed ∙ s.works;
+        fits = fits;
+        all_attached = λ q live.
+            let w = came before after ms renames rises q live.0 live.1 in
+            moves.to w.0 q w.1 ∙ s.all_attached w.0 (live.0, sym (same_clause before after ms renames w.0 q w.1) ∙ live.1);
+        quiet = λ level below q c at.
+            let w = came before after ms renames rises q c at in
+            subst (λ A. (IsFalseUnder c A → ⊥) × ((l : Literal) → IsUnit c A l → ⊥)) (sym (kept level))
+            (s.quiet level (subst (λ k. level < k) depth below) w.0 c (sym (same_clause before after ms renames w.0 q w.1) ∙ at));
+      },
+      kept 0,
+      depth,
+    )

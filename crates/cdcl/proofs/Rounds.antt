@@ -1,0 +1,109 @@
+-- Rounds of a search: each leaves fewer.
+use Rattle.std.proofs.Common.{◌≡◌, ℕ, ◌+◌, ◌-◌, ◌*◌, ◌<◌, ◌≤◌, Bool, true, false, List, length, refl, sym, ◌∙◌, ap, subst, arith}
+use Rattle.std.specs.Prelude.{nat_lt, if◌then◌else◌, Option, Some, None, Result, Ok, Err, IfOk, IfNone}
+use Rattle.std.proofs.Math.Nat.{mul-le-mul_left}
+use Rattle.std.proofs.lemmas.Bool.{cases_Bool, lt-ltb}
+use Rattle.cdcl_order.specs.Budgets.{BudgetState, left_of}
+use Rattle.lrat_log.specs.Log.{LogLine, Given}
+use Rattle.cdcl.specs.declared.problem.Problem.{Problem}
+use Rattle.cdcl.specs.declared.search.Search.{Search}
+use Rattle.cdcl.specs.Running.{Runs, Writes, Pays, StaysOpen}
+use Rattle.cdcl.specs.Moves.{rounds_left, GoesOn}
+use Rattle.cdcl.proofs.Written.{writes_none, writes_join}
+
+pub open_of : (s : Search) (p : Problem) (ls : List LogLine) → Runs s p ls → StaysOpen p ls
+open_of s p ls r = let log = r.running.recorded.log in record { stays = log.stays; unrefuted = log.unrefuted }
+
+-- What is paid.
+
+pub pays_none : (given : Given) (a b : List LogLine) (s : BudgetState) → Writes given a b 0 → Pays given a b s s
+pays_none given a b s w =
+    let e : s.learned ≡ s.learned + 0 = omega arith in
+    (0, w, λ i. record { limit = s.limit; learned = e i; answers = s.answers })
+
+pub pays_nothing : (given : Given) (a : List LogLine) (s : BudgetState) → Pays given a a s s
+pays_nothing given a s = pays_none given a a s (writes_none given a)
+
+pub pays_join : (given : Given) (a b c : List LogLine) (s t u : BudgetState) → Pays given a b s t → Pays given b c t u → Pays given a c s u
+pays_join given a b c s t u v w =
+    let e : s.learned + v.0 + w.0 ≡ s.learned + (v.0 + w.0) = omega arith in (
+      v.0 + w.0,
+      writes_join given a b c v.0 w.0 v.1 w.1,
+      w.2 ∙ ap (λ (x : BudgetState). record { limit = x.limit; learned = x.learned + w.0; answers = x.answers }) v.2 ∙ (λ i. record { limit = s.limit; learned = e i; answers = s.answers }),
+    )
+
+-- What is left.
+
+abbrev flag : ℕ → ℕ
+flag n = if nat_lt 0 n then 1 else 0
+
+flag_low : (n : ℕ) → flag n ≤ 1
+flag_low n = at (nat_lt 0 n)
+  where
+    at : (b : Bool) → (if b then 1 else 0) ≤ 1
+    at true = omega arith
+    at false = omega arith
+
+flag_one : (n : ℕ) → 0 < n → flag n ≡ 1
+flag_one n h = ap (λ b. if b then 1 else 0) (lt-ltb 0 n h)
+
+rounds_fall : (a b v s t : ℕ) → a < b → s ≤ v + 1 → a * (v + 2) + s < b * (v + 2) + t
+rounds_fall a b v s t less low = let h : (v + 2) * (a + 1) ≤ (v + 2) * b = mul-le-mul_left (v + 2) (omega arith) in omega (arith, h)
+
+-- the first factor falls
+falls_first : (old new : Search) (before after : BudgetState) (conflicts again : ℕ) → (new.engine).variables ≡ (old.engine).variables → 2 * left_of after + flag again < 2 * left_of before + flag conflicts
+    → rounds_left new after again < rounds_left old before conflicts
+falls_first old new before after conflicts again same less =
+    let v = (old.engine).variables in
+    subst (λ n. (2 * left_of after + flag again) * (n + 2) + (n + 1 - length (new.engine).trail) < rounds_left old before conflicts) (sym same)
+    (rounds_fall (2 * left_of after + flag again) (2 * left_of before + flag conflicts) v (v + 1 - length (new.engine).trail) (v + 1 - length (old.engine).trail) less (omega arith))
+
+-- a unit was paid
+pub goes_learned : (old new : Search) (p : Problem) (ls : List LogLine) (before after : BudgetState) (conflicts again : ℕ) → Runs new p ls → (new.engine).variables ≡ (old.engine).variables
+    → after ≡ record before { learned = before.learned + 1 } → 0 < left_of before → GoesOn old new p ls before after conflicts again
+goes_learned old new p ls before after conflicts again r same paid some = record {
+  runs = r;
+  fewer = falls_first old new before after conflicts again same
+      (let e : left_of after ≡ before.limit - (before.learned + 1 + before.answers) = ap left_of paid in
+      let low = flag_low again in omega arith);
+}
+
+-- it starts over
+pub goes_over : (old new : Search) (p : Problem) (ls : List LogLine) (budget : BudgetState) (conflicts : ℕ) → Runs new p ls → (new.engine).variables ≡ (old.engine).variables → 0 < conflicts
+    → GoesOn old new p ls budget budget conflicts 0
+goes_over old new p ls budget conflicts r same some = record {
+  runs = r;
+  fewer = falls_first old new budget budget conflicts 0 same (let one = flag_one conflicts some in omega arith);
+}
+
+-- one more literal is true
+pub goes_decided : (old new : Search) (p : Problem) (ls : List LogLine) (budget : BudgetState) (conflicts : ℕ) → Runs new p ls → (new.engine).variables ≡ (old.engine).variables
+    → length (new.engine).trail ≡ length (old.engine).trail + 1 → length (old.engine).trail ≤ (old.engine).variables → GoesOn old new p ls budget budget conflicts conflicts
+goes_decided old new p ls budget conflicts r same longer within = record {
+  runs = r;
+  fewer = subst (λ n. (2 * left_of budget + flag conflicts) * (n + 2) + (n + 1 - length (new.engine).trail) < rounds_left old budget conflicts) (sym same) (omega arith);
+}
+
+-- as many, or fewer, after propagation
+pub rounds_grown : (old new : Search) (budget : BudgetState) (conflicts : ℕ) → (new.engine).variables ≡ (old.engine).variables → length (old.engine).trail ≤ length (new.engine).trail
+    → rounds_left new budget conflicts ≤ rounds_left old budget conflicts
+rounds_grown old new budget conflicts same longer =
+    subst (λ n. (2 * left_of budget + flag conflicts) * (n + 2) + (n + 1 - length (new.engine).trail) ≤ rounds_left old budget conflicts) (sym same) (omega arith)
+
+pub goes_grown : (old mid new : Search) (p : Problem) (ls : List LogLine) (before after : BudgetState) (conflicts again : ℕ) → (mid.engine).variables ≡ (old.engine).variables → length (old.engine).trail ≤ length (mid.engine).trail
+    → GoesOn mid new p ls before after conflicts again → GoesOn old new p ls before after conflicts again
+goes_grown old mid new p ls before after conflicts again same longer g = record {
+  runs = g.runs;
+  fewer = (let a = rounds_grown old mid before conflicts same longer in let b = g.fewer in omega arith);
+}
+
+-- an answer that goes on
+pub goes_weaker : {A E : Type 0} (r : Result (Option A) E) (P Q : Type 0) → (P → Q) → IfOk r (λ n. IfNone n P) → IfOk r (λ n. IfNone n Q)
+goes_weaker (Ok None) P Q f h = f h
+goes_weaker (Ok (Some a)) P Q f h = h
+goes_weaker (Err e) P Q f h = h
+
+-- an answer that can't come
+pub ok_weaker : {A E : Type 0} (r : Result A E) (P Q : A → Type 0) → ((a : A) → P a → Q a) → IfOk r P → IfOk r Q
+ok_weaker (Ok a) P Q f h = f a h
+ok_weaker (Err e) P Q f h = h

@@ -1,0 +1,146 @@
+-- The tables of a search before its first move.
+use Rattle.std.proofs.Common.{◌≡◌, ◌≢◌, ℕ, zero, suc, ◌+◌, ◌<◌, ◌≤◌, ◌^◌, true, false, List, [], ◌∷◌, ◌++◌, length, take, map, get_or, set, replicate, Option, Some, None, inl, inr, refl, sym, ◌∙◌, ap, subst, arith}
+use Rattle.std.specs.Prelude.{All, slice_get, IfSome}
+use Rattle.std.specs.List.{enumerate_from}
+use Rattle.std.proofs.lemmas.Bool.{cases_eq, cases_Bool, both_ways}
+use Rattle.std.proofs.lemmas.Option.{get_or_from_slice_get, slice_get_within}
+use Rattle.std.proofs.lemmas.List.{take_more, take_all, map-append, length-set, length-replicate, get_or-set_same, get_or-set_other}
+use Rattle.std.proofs.lemmas.List.Elements.{All-set, All-replicate}
+use Rattle.wcnf.specs.Literal.{Literal}
+use Rattle.wcnf.specs.Lrat.{IsId}
+use Rattle.clauses.specs.Slots.{Slots, clause_at}
+use Rattle.propagate.specs.Watches.{EngineState, is_attached, SetsAttached}
+use Rattle.propagate.specs.Fits.{Fits, IsWithin}
+use Rattle.lrat_log.specs.declared.lines.Name.{Name}
+use Rattle.lrat_log.specs.declared.lines.Name.TheVariants.{Formula}
+use Rattle.lrat_log.specs.Log.{Given, number_in}
+use Rattle.lrat_log.specs.Steps.{given_of}
+use Rattle.cdcl.specs.Invariant.{name_at}
+use Rattle.cdcl.specs.Starts.{AreRising, IsLiveWithin}
+
+-- one more clause of a list
+pub store_more : (cs : List (List Literal)) (i : ℕ) (c : List Literal) (now new : Slots) → slice_get cs i ≡ Some c → now ≡ map Some (take i cs) → new ≡ now ++ Some c ∷ [] → new ≡ map Some (take (i + 1) cs)
+store_more cs i c now new at inv e =
+    let lt = slice_get_within cs i c at in
+    let is : get_or cs i c ≡ c = get_or_from_slice_get cs i c c at in
+    e ∙ ap (λ x. x ++ Some c ∷ []) inv ∙ ap (λ y. map Some (take i cs) ++ Some y ∷ []) (sym is) ∙ sym (map-append Some (take i cs) (get_or cs i c ∷ [])) ∙ ap (map Some) (sym (take_more cs i c lt))
+
+given_on : ℕ → List (List Literal) → Given
+given_on n cs = map (λ e. (Formula e.0, e.1)) (enumerate_from n cs)
+
+given_push : (n : ℕ) (cs : List (List Literal)) (c : List Literal) (m : ℕ) → m ≡ n + length cs → given_on n (cs ++ c ∷ []) ≡ given_on n cs ++ (Formula m, c) ∷ []
+unfolding given_on
+given_push n [] c m e = let same : n ≡ m = omega arith in ap (λ k. (Formula k, c) ∷ []) same
+given_push n (d ∷ cs) c m e = ap (λ x. (Formula n, d) ∷ x) (given_push (n + 1) cs c m (omega arith))
+
+clauses_on : (n : ℕ) (cs : List (List Literal)) → map (λ g. g.1) (given_on n cs) ≡ cs
+unfolding given_on
+clauses_on n [] = refl
+clauses_on n (c ∷ cs) = ap (λ x. c ∷ x) (clauses_on (n + 1) cs)
+
+pub clauses_given : (cs : List (List Literal)) → map (λ g. g.1) (given_of cs) ≡ cs
+unfolding given_on
+clauses_given cs = clauses_on 1 cs
+
+length_take : (cs : List (List Literal)) (i : ℕ) → i ≤ length cs → length (take i cs) ≡ i
+length_take cs zero h = refl
+length_take [] (suc i) h = absurd (omega arith)
+length_take (c ∷ cs) (suc i) h = let r : length (take i cs) ≡ i = length_take cs i (omega arith) in omega arith
+
+pub given_more : (cs : List (List Literal)) (i : ℕ) (c : List Literal) (now new : Given) → slice_get cs i ≡ Some c → now ≡ given_of (take i cs) → new ≡ now ++ (Formula (i + 1), c) ∷ [] → new ≡ given_of (take (i + 1) cs)
+unfolding given_on
+given_more cs i c now new at inv e =
+    let lt = slice_get_within cs i c at in
+    let is : get_or cs i c ≡ c = get_or_from_slice_get cs i c c at in
+    e ∙ ap (λ x. x ++ (Formula (i + 1), c) ∷ []) inv ∙ sym (given_push 1 (take i cs) c (i + 1) (omega (arith, length_take cs i (omega arith)))) ∙ ap (λ y. given_of (take i cs ++ y ∷ [])) (sym is) ∙ ap given_of (sym (take_more cs i c lt))
+
+pub get_any : {X : Type 0} (xs : List X) (i : ℕ) (d e : X) → i < length xs → get_or xs i d ≡ get_or xs i e
+get_any [] i d e h = absurd (omega arith)
+get_any (x ∷ xs) zero d e h = refl
+get_any (x ∷ xs) (suc i) d e h = get_any xs i d e (omega arith)
+
+-- Names by place.
+
+pub record AreNamed (names : List Name) (listed : List (ℕ × Name)) (n places : ℕ) : Type 0 where
+  pub long : length names ≡ places
+  pub numbers : All (λ x. IsId (number_in x)) names
+  pub named : (i : ℕ) (d : ℕ × Name) → i < n → i < length listed → name_at names (get_or listed i d).0 ≡ (get_or listed i d).1
+
+pub named_none : (names : List Name) (listed : List (ℕ × Name)) (places : ℕ) → names ≡ replicate places (Formula 1) → AreNamed names listed 0 places
+named_none names listed places e = record {
+  long = ap length e ∙ length-replicate places (Formula 1);
+  numbers = subst (All (λ x. IsId (number_in x))) (sym e) (All-replicate (λ x. IsId (number_in x)) places (Formula 1) (omega arith, omega arith));
+  named = λ i d lt within. absurd (omega arith);
+}
+
+pub named_more : (names : List Name) (listed : List (ℕ × Name)) (n places : ℕ) (item : ℕ × Name) → AreRising listed → All (λ x. x.0 < places) listed → All (λ x. IsId (number_in x.1)) listed
+    → n < length listed → item ≡ get_or listed n item → AreNamed names listed n places → AreNamed (set names item.0 item.1) listed (n + 1) places
+named_more names listed n places item rising within ids lt at a =
+    let low : item.0 < length names = subst (λ (x : ℕ × Name). x.0 < length names) (sym at) (let h = within n item lt in let l = a.long in omega arith) in
+    record {
+      long = length-set names item.0 item.1 ∙ a.long;
+      numbers = All-set (λ x. IsId (number_in x)) names item.0 item.1 (subst (λ (x : ℕ × Name). IsId (number_in x.1)) (sym at) (ids n item lt)) a.numbers;
+      named = λ i d h inside. elim (cases_eq i n) as (λ _. name_at (set names item.0 item.1) (get_or listed i d).0 ≡ (get_or listed i d).1) [
+        | inl same ↦
+            let is : get_or listed i d ≡ item = ap (λ k. get_or listed k d) same ∙ get_any listed n d item lt ∙ sym at in
+            subst (λ (x : ℕ × Name). name_at (set names item.0 item.1) x.0 ≡ x.1) (sym is) (get_or-set_same names item.0 item.1 (Formula 0) low)
+        | inr other ↦
+            let below : i < n = omega arith in
+            let is : get_or listed n d ≡ item = get_any listed n d item lt ∙ sym at in
+            let less : (get_or listed i d).0 < item.0 = subst (λ (x : ℕ × Name). (get_or listed i d).0 < x.0) is (rising i n d below lt) in
+            let ne : (get_or listed i d).0 ≢ item.0 = omega arith in
+            get_or-set_other names item.0 (get_or listed i d).0 item.1 (Formula 0) ne ∙ a.named i d below inside
+      ];
+    }
+
+-- Clauses attached in turn.
+
+pub record AreAttached (e : EngineState) (slots : Slots) (variables : ℕ) (listed : List (ℕ × Name)) (n : ℕ) : Type 0 where
+  pub fits : Fits e slots
+  pub trail : e.trail ≡ []
+  pub variables_are : e.variables ≡ variables
+  pub works : e.failed ≡ false
+  pub attached : (i : ℕ) (d : ℕ × Name) → i < n → i < length listed → is_attached e (get_or listed i d).0 ≡ true
+  pub only : (r : ℕ) → is_attached e r ≡ true → (i : ℕ) × (i < n) × (i < length listed) × ((d : ℕ × Name) → (get_or listed i d).0 ≡ r)
+
+pub attached_none : (e : EngineState) (slots : Slots) (variables : ℕ) (listed : List (ℕ × Name)) → Fits e slots → (e.variables ≡ variables) × (e.trail ≡ []) × (e.failed ≡ false) → ((r : ℕ) → is_attached e r ≡ false)
+    → AreAttached e slots variables listed 0
+attached_none e slots variables listed fits same none = record {
+  fits = fits;
+  trail = same.1;
+  variables_are = same.0;
+  works = same.2;
+  attached = λ i d lt inside. absurd (omega arith);
+  only = λ r on. absurd (both_ways (is_attached e r) (none r) on);
+}
+
+pub not_yet : (e : EngineState) (slots : Slots) (variables : ℕ) (listed : List (ℕ × Name)) (n : ℕ) (item : ℕ × Name) → AreRising listed → n < length listed → item ≡ get_or listed n item → AreAttached e slots variables listed n
+    → is_attached e item.0 ≡ false
+not_yet e slots variables listed n item rising lt at a = elim (cases_Bool (is_attached e item.0)) as (λ _. is_attached e item.0 ≡ false) [
+  | inr f ↦ f
+  | inl t ↦
+      let w = a.only item.0 t in
+      let less : (get_or listed w.0 item).0 < item.0 = subst (λ (x : ℕ × Name). (get_or listed w.0 item).0 < x.0) (sym at) (rising w.0 n item w.1 lt) in
+      let same : (get_or listed w.0 item).0 ≡ item.0 = w.3 item in
+      absurd (omega arith)
+]
+
+pub attached_more : (e f : EngineState) (slots : Slots) (variables : ℕ) (listed : List (ℕ × Name)) (n : ℕ) (item : ℕ × Name) → n < length listed → item ≡ get_or listed n item → AreAttached e slots variables listed n
+    → SetsAttached e f item.0 true → (f.trail ≡ e.trail) × (f.variables ≡ e.variables) → f.failed ≡ false → Fits f slots → AreAttached f slots variables listed (n + 1)
+attached_more e f slots variables listed n item lt at a sets same works fits = record {
+  fits = fits;
+  trail = same.0 ∙ a.trail;
+  variables_are = same.1 ∙ a.variables_are;
+  works = works;
+  attached = λ i d h inside. elim (cases_eq (get_or listed i d).0 item.0) as (λ _. is_attached f (get_or listed i d).0 ≡ true) [
+    | inl s ↦ ap (is_attached f) s ∙ sets.0
+    | inr o ↦ elim (cases_eq i n) as (λ _. is_attached f (get_or listed i d).0 ≡ true) [
+      | inl here ↦ absurd (o (ap (λ (x : ℕ × Name). x.0) (ap (λ k. get_or listed k d) here ∙ get_any listed n d item lt ∙ sym at)))
+      | inr other ↦ sets.1 (get_or listed i d).0 o ∙ a.attached i d (omega arith) inside
+    ]
+  ];
+  only = λ r on. elim (cases_eq r item.0) as (λ _. (i : ℕ) × (i < n + 1) × (i < length listed) × ((d : ℕ × Name) → (get_or listed i d).0 ≡ r)) [
+    | inl s ↦ (n, omega arith, lt, λ d. ap (λ (x : ℕ × Name). x.0) (get_any listed n d item lt ∙ sym at) ∙ sym s)
+    | inr o ↦ let w = a.only r (sym (sets.1 r o) ∙ on) in (w.0, (let h = w.1 in omega arith), w.2, w.3)
+  ];
+}

@@ -1,0 +1,179 @@
+use Rattle.std.proofs.Common.{◌≡◌, ◌≤◌, ◌<◌, ◌≢◌, ℕ, ◌-◌, true, false, Option, Some, None, [], ◌∷◌, set, length, get_or, take, subst, sym, ◌∙◌, ap, rules, arith}
+use Rattle.std.specs.Prelude.{IfSome, All, unwrap_or}
+use Rattle.std.proofs.lemmas.List.{take_all, get_or_default}
+use Rattle.std.proofs.lemmas.List.Elements.{All-set}
+use Rattle.std.proofs.lemmas.Option.{none-some, same_Some}
+use Rattle.clauses.specs.Slots.{clause_at}
+use Rattle.propagate.specs.Trail.{level_in, value_in}
+use Rattle.lrat_log.specs.declared.lines.Name.TheVariants.{Formula}
+use Rattle.cdcl.specs.Invariant.{name_at, zero_of}
+use Rattle.cdcl.specs.Hinting.{IsNotedIn}
+use Rattle.cdcl.specs.Moves.{Gathers, unit_at}
+use Rattle.cdcl.proofs.Gathering.{some_within, literal_within, gathers_miss, gathers_hit, other_level, other_value, met_before, gathers_clause, noted_unit}
+use Rattle.cdcl.proofs.Places.{live_within}
+use Rattle.cdcl.proofs.hints.add_units.Goals as goal
+use Rattle.cdcl.proofs.hints.add_units.Goals.{then-stamps-place+then-eq+then-eq-2+in-Some+in_ok-push-in-Some, else-stamps-place, else-stamps-place-via-then-stamps-place+then-eq+else-eq-2, else-stamps-place-via-then-stamps-place+else-eq, else-stamps-place-via-else-stamps-place}
+use Rattle.wcnf.specs.Literal.{negation}
+use Rattle.wcnf.specs.Clause.{contains_literal}
+
+pub loop-lit-init : goal.loop-lit-init
+loop-lit-init c = record { past = c.requires.past; gathers = λ all done listed g. g }
+
+pub bounds-stamps-place : goal.bounds-stamps-place
+bounds-stamps-place c =
+    let e = c.args.engine.now in
+    let S = c.args.store.now.slots in
+    let lits = c.lits-lit-items.result.now in
+    let i = c.loop-lit.lit-index in
+    let l = c.lit-item.result in
+    let inside = literal_within e S c.args.reference lits i l c.requires.fits c.requires.attached c.lits-lit-items.ensures c.loop-lit-test.true c.lit-item.is in
+    let variable : c.variable-variable.result ≡ l.variable = c.variable-variable.ensures.variable in
+    omega (arith, c.loop-lit.auto.stamps, c.requires.stamps)
+
+pub level-requires : goal.level-requires
+level-requires c =
+    let e = c.args.engine.now in
+    let S = c.args.store.now.slots in
+    let lits = c.lits-lit-items.result.now in
+    let i = c.loop-lit.lit-index in
+    let l = c.lit-item.result in
+    let inside = literal_within e S c.args.reference lits i l c.requires.fits c.requires.attached c.lits-lit-items.ensures c.loop-lit-test.true c.lit-item.is in
+    let variable : c.variable-variable.result ≡ l.variable = c.variable-variable.ensures.variable in
+    omega arith
+
+pub value-requires : goal.value-requires
+value-requires c =
+    let e = c.args.engine.now in
+    let S = c.args.store.now.slots in
+    let lits = c.lits-lit-items.result.now in
+    let i = c.loop-lit.lit-index in
+    let l = c.lit-item.result in
+    let inside = literal_within e S c.args.reference lits i l c.requires.fits c.requires.attached c.lits-lit-items.ensures c.loop-lit-test.true c.lit-item.is in
+    let variable : c.variable-variable.result ≡ l.variable = c.variable-variable.ensures.variable in
+    inside.1
+
+pub bounds-stamps-place-then-eq-2 : goal.bounds-stamps-place-then-eq-2
+bounds-stamps-place-then-eq-2 c =
+    let e = c.args.engine.now in
+    let S = c.args.store.now.slots in
+    let lits = c.lits-lit-items.result.now in
+    let i = c.loop-lit.lit-index in
+    let l = c.lit-item.result in
+    let inside = literal_within e S c.args.reference lits i l c.requires.fits c.requires.attached c.lits-lit-items.ensures c.loop-lit-test.true c.lit-item.is in
+    let variable : c.variable-variable.result ≡ l.variable = c.variable-variable.ensures.variable in
+    omega (arith, c.loop-lit.auto.stamps, c.requires.stamps)
+
+pub bounds-units-place : goal.bounds-units-place
+bounds-units-place c =
+    let e = c.args.engine.now in
+    let S = c.args.store.now.slots in
+    let lits = c.lits-lit-items.result.now in
+    let i = c.loop-lit.lit-index in
+    let l = c.lit-item.result in
+    let inside = literal_within e S c.args.reference lits i l c.requires.fits c.requires.attached c.lits-lit-items.ensures c.loop-lit-test.true c.lit-item.is in
+    let variable : c.variable-variable.result ≡ l.variable = c.variable-variable.ensures.variable in
+    omega (arith, c.requires.units)
+
+pub bounds-names-index : goal.bounds-names-index
+bounds-names-index c =
+    let e = c.args.engine.now in
+    let S = c.args.store.now.slots in
+    let lits = c.lits-lit-items.result.now in
+    let i = c.loop-lit.lit-index in
+    let l = c.lit-item.result in
+    let inside = literal_within e S c.args.reference lits i l c.requires.fits c.requires.attached c.lits-lit-items.ensures c.loop-lit-test.true c.lit-item.is in
+    let variable : c.variable-variable.result ≡ l.variable = c.variable-variable.ensures.variable in
+    let zero : c.level.result ≡ Some 0 = search rules in
+    let value : c.value.result ≡ Some false = search rules in
+    let has = noted_unit e S c.args.units.now c.args.reference lits i l c.requires.fits c.requires.noted c.lits-lit-items.ensures c.loop-lit-test.true c.lit-item.is
+    (sym (ap (level_in e.trail) variable) ∙ sym c.level.ensures ∙ zero) (sym c.value.ensures ∙ value) in
+    let at : get_or c.args.units.now (c.variable-variable.result - 1) None ≡ Some has.0 = ap (λ v. get_or c.args.units.now (v - 1) None) variable ∙ has.1 in
+    let lt = some_within c.args.units.now (c.variable-variable.result - 1) has.0 at in
+    let same : c.in-Some.unit ≡ has.0 = same_Some c.in-Some.unit has.0
+    (sym c.in-Some.is ∙ c.get.ensures ∙ c.index-units-place.is ∙ get_or_default c.args.units.now (c.variable-variable.result - 1) c.index-units-place.result None lt ∙ at) in
+    let inside_store = live_within S has.0 (negation l ∷ []) has.2 in
+    omega (arith, c.requires.named)
+
+pub unreachable-requires : goal.unreachable-requires
+unreachable-requires c =
+    let e = c.args.engine.now in
+    let S = c.args.store.now.slots in
+    let lits = c.lits-lit-items.result.now in
+    let i = c.loop-lit.lit-index in
+    let l = c.lit-item.result in
+    let inside = literal_within e S c.args.reference lits i l c.requires.fits c.requires.attached c.lits-lit-items.ensures c.loop-lit-test.true c.lit-item.is in
+    let variable : c.variable-variable.result ≡ l.variable = c.variable-variable.ensures.variable in
+    let zero : c.level.result ≡ Some 0 = search rules in
+    let value : c.value.result ≡ Some false = search rules in
+    let has = noted_unit e S c.args.units.now c.args.reference lits i l c.requires.fits c.requires.noted c.lits-lit-items.ensures c.loop-lit-test.true c.lit-item.is
+    (sym (ap (level_in e.trail) variable) ∙ sym c.level.ensures ∙ zero) (sym c.value.ensures ∙ value) in
+    let at : get_or c.args.units.now (c.variable-variable.result - 1) None ≡ Some has.0 = ap (λ v. get_or c.args.units.now (v - 1) None) variable ∙ has.1 in
+    let lt = some_within c.args.units.now (c.variable-variable.result - 1) has.0 at in
+    none-some has.0 (sym c.in-None.is ∙ c.get.ensures ∙ c.index-units-place.is ∙ get_or_default c.args.units.now (c.variable-variable.result - 1) c.index-units-place.result None lt ∙ at)
+
+pub loop-lit-preserved : goal.loop-lit-preserved
+loop-lit-preserved c =
+    let e = c.args.engine.now in
+    let T = e.trail in
+    let S = c.args.store.now.slots in
+    let N = c.args.names.now in
+    let U = c.args.units.now in
+    let lits = c.lits-lit-items.result.now in
+    let i = c.loop-lit.lit-index in
+    let l = c.lit-item.result in
+    let stamp = c.args.stamp in
+    let stamps = c.loop-lit.stamps in
+    let inside = literal_within e S c.args.reference lits i l c.requires.fits c.requires.attached c.lits-lit-items.ensures c.loop-lit-test.true c.lit-item.is in
+    let variable : c.variable-variable.result ≡ l.variable = c.variable-variable.ensures.variable in
+    let room : l.variable - 1 < length stamps = omega (arith, c.loop-lit.auto.stamps, c.requires.stamps) in
+    let here : get_or stamps (c.variable-variable.result - 1) 0 ≡ get_or stamps (l.variable - 1) 0 = ap (λ v. get_or stamps (v - 1) 0) variable in
+    let reasons = c.requires.fits.reasons in
+    let live = c.lits-lit-items.ensures in
+    elim c.if-stamps-place.branch [
+      | then-stamps-place+then-eq+then-eq-2+in-Some+in_ok-push-in-Some w ↦
+          let zero : w.level.result ≡ Some 0 = search rules in
+          let value : w.value.result ≡ Some false = search rules in
+          let level : level_in T l.variable ≡ Some 0 = sym (ap (level_in T) variable) ∙ sym w.level.ensures ∙ zero in
+          let is_false : value_in T l ≡ Some false = sym w.value.ensures ∙ value in
+          let has = noted_unit e S U c.args.reference lits i l c.requires.fits c.requires.noted live c.loop-lit-test.true c.lit-item.is level is_false in
+          let at : get_or U (c.variable-variable.result - 1) None ≡ Some has.0 = ap (λ v. get_or U (v - 1) None) variable ∙ has.1 in
+          let lt = some_within U (c.variable-variable.result - 1) has.0 at in
+          let same : w.in-Some.unit ≡ has.0 = same_Some w.in-Some.unit has.0
+          (sym w.in-Some.is ∙ w.get.ensures ∙ w.index-units-place.is ∙ get_or_default U (c.variable-variable.result - 1) w.index-units-place.result None lt ∙ at) in
+          let unit : w.index.result ≡ unit_at U l = w.index.ensures ∙ same ∙ sym (ap (λ o. unwrap_or o 0) has.1) in
+          let inside_store = live_within S has.0 (negation l ∷ []) has.2 in
+          let name : w.index-names-index.result ≡ name_at N (unit_at U l) =
+          w.index-names-index.is ∙ get_or_default N w.index.result w.index-names-index.result (Formula 0) (omega (arith, c.requires.named)) ∙ ap (name_at N) unit in
+          let fresh : get_or stamps (l.variable - 1) 0 < stamp = omega (arith, here, w.if-stamps-place.true) in
+          rw (w.stamps-is, w.hints-is, w.in_ok-push-in-Some.ensures.items, variable) (record {
+            past = All-set (λ n. n ≤ stamp) stamps (l.variable - 1) stamp (omega arith) c.loop-lit.invariant.past;
+            gathers = λ all done listed g. gathers_hit S N U T stamp all done c.args.reference lits listed reasons live i stamps c.loop-lit.hints.items l w.index-names-index.result
+                (c.loop-lit.invariant.gathers all done listed g) c.loop-lit-test.true c.lit-item.is level is_false fresh room inside.0
+                (subst (λ o. IfSome o (IsNotedIn S U T)) live c.requires.noted) name;
+          })
+      | else-stamps-place w ↦ rw (w.stamps-is, w.hints-is) (record {
+        past = c.loop-lit.invariant.past;
+        gathers = λ all done listed g. (let old = c.loop-lit.invariant.gathers all done listed g in
+            gathers_miss S N U T stamp all done c.args.reference lits listed reasons live i stamps c.loop-lit.hints.items l old c.loop-lit-test.true c.lit-item.is
+            (elim w.else-stamps-place.branch as (λ _. contains_literal (negation l) (zero_of T) ≡ true → contains_literal (negation l) old.zeros ≡ true) [
+              | else-stamps-place-via-then-stamps-place+then-eq+else-eq-2 x ↦
+                  let value : x.value.result ≢ Some false = search rules in
+                  other_value S N U T stamp all done c.args.reference lits listed reasons live old.zeros l (λ y. value (x.value.ensures ∙ y))
+              | else-stamps-place-via-then-stamps-place+else-eq x ↦
+                  let other : x.level.result ≢ Some 0 = search rules in
+                  other_level S N U T stamp all done c.args.reference lits listed reasons live old.zeros l (λ y. other (x.level.ensures ∙ ap (level_in T) variable ∙ y))
+              | else-stamps-place-via-else-stamps-place x ↦
+                  let low : get_or stamps (l.variable - 1) 0 ≤ stamp = c.loop-lit.invariant.past (l.variable - 1) 0 room in
+                  let met : get_or stamps (l.variable - 1) 0 ≡ stamp = omega (arith, here, x.if-stamps-place.false) in
+                  met_before S N U T stamp all done c.args.reference lits listed reasons live (take i lits) stamps c.loop-lit.hints.items l old inside.0 room met
+            ]));
+      })
+    ]
+
+pub returns-clause-gathers : goal.returns-clause-gathers
+returns-clause-gathers c all done listed g =
+    let e = c.args.engine.now in
+    let S = c.args.store.now.slots in
+    let lits = c.lits-lit-items.result.now in
+    gathers_clause S c.args.names.now c.args.units.now e.trail c.args.stamp all done c.args.reference lits listed c.requires.fits.reasons c.lits-lit-items.ensures c.loop-lit.stamps c.loop-lit.hints.items
+    (subst (λ x. Gathers S c.args.names.now c.args.units.now e.trail c.args.stamp all done x c.loop-lit.stamps c.loop-lit.hints.items) (take_all c.loop-lit.lit-index lits c.loop-lit-test.false) (c.loop-lit.invariant.gathers all done listed g))

@@ -1,0 +1,14 @@
+-- The trail stays, and each round notes its next literal.
+use Rattle.std.proofs.Common.{◌≡◌, ℕ, ◌-◌, length}
+use Rattle.propagate.specs.Trail.{literals_of}
+use Rattle.propagate.specs.Fits.{IsFalseClause}
+use Rattle.analyze.specs.Learning.{IsQuiet}
+use Rattle.cdcl.specs.Running.{Runs, Writes}
+use Rattle.cdcl.proofs.NotedUnits.{IsNoting}
+use Rattle.cdcl.proofs.noting.note_units.Given as goal
+
+abbrev pub invariant-loop-search : goal.invariant-loop-search
+invariant-loop-search g l = IsNoting l.fn.search l.search l.problem (g.S.Sink.lines l.fn.sink) (g.S.Sink.lines l.sink)
+
+abbrev pub decreases-loop-search : goal.decreases-loop-search
+decreases-loop-search g l = length (l.search.engine).trail - l.search.noted

@@ -1,0 +1,128 @@
+use Rattle.std.proofs.Common.{◌≡◌, length, sym, ◌∙◌, ap, subst}
+use Rattle.std.specs.Prelude.{All}
+use Rattle.lrat_log.specs.Steps.{IsLogOver, IsAcceptedLog, IsLearnedOrShort}
+use Rattle.cdcl.specs.Solving.{given_to, lines_since, SatisfyGiven, IsPlainlyRefuted, IsLiveRefuted}
+use Rattle.cdcl.specs.Running.{IsAnswer}
+use Rattle.cdcl.proofs.Answered.{written_short, given_seen, log_now, ended_log, not_plain, solver_runs, solver_fails, solver_ends}
+use Rattle.cdcl.proofs.solver.Solver.solve.Goals as goal
+
+pub returns-then-self-clause-lines : goal.returns-then-self-clause-lines
+returns-then-self-clause-lines g c =
+    subst (λ s. IsLogOver (given_to s) (g.S.Sink.lines s.sink)) c.self.view_is (log_now c.self.inside.problem (g.S.Sink.lines c.self.inside.sink) c.self.invariant.problem c.self.invariant.lines)
+
+pub returns-then-self-2-clause-unsat : goal.returns-then-self-2-clause-unsat
+returns-then-self-2-clause-unsat g c =
+    subst (λ s. IsAcceptedLog (given_to s) (g.S.Sink.lines s.sink)) c.self.view_is
+    (ended_log c.self.inside.problem (g.S.Sink.lines c.self.inside.sink) c.self.invariant.problem (record { stays = c.self.invariant.lines; refuted = sym c.self.invariant.refuted_is ∙ c.if-self-2.true }))
+
+pub returns-then-self-2-clause-lines : goal.returns-then-self-2-clause-lines
+returns-then-self-2-clause-lines g c =
+    subst (λ s. IsLogOver (given_to s) (g.S.Sink.lines s.sink)) c.self.view_is (log_now c.self.inside.problem (g.S.Sink.lines c.self.inside.sink) c.self.invariant.problem c.self.invariant.lines)
+
+pub returns-in-Ok-Sat-clause-refuted : goal.returns-in-Ok-Sat-clause-refuted
+returns-in-Ok-Sat-clause-refuted g c = λ h.
+    let p = c.self.inside.problem in
+    let ls = g.S.Sink.lines c.answer.new.sink in
+    let a = subst (IsAnswer c.answer.new.search p ls c.answer.new.budget) c.in-Ok-Sat.field-0-is c.in-Ok-Sat.ensures.answers in
+    absurd (not_plain c.answer.new.search p ls a.1.0 c.self.invariant.problem a.0 a.1.1 (subst IsPlainlyRefuted (sym c.self.view_is) h))
+
+pub returns-in-Ok-Sat-clause-propagates : goal.returns-in-Ok-Sat-clause-propagates
+returns-in-Ok-Sat-clause-propagates g c = λ h.
+    let seen = subst (λ s. IsLiveRefuted (given_to s) (g.S.Sink.lines s.sink)) (sym c.self.view_is) h in
+    let held = subst (λ x. IsLiveRefuted x (g.S.Sink.lines c.self.inside.sink)) (given_seen c.self.inside.problem c.self.invariant.problem) seen in
+    let e = sym c.in-Ok-Sat.field-0-is ∙ c.in-Ok-Sat.ensures.propagates held in
+    absurd (cc)
+
+pub returns-in-Ok-Sat-clause-lines : goal.returns-in-Ok-Sat-clause-lines
+returns-in-Ok-Sat-clause-lines g c =
+    let p = c.self.inside.problem in
+    let ls = g.S.Sink.lines c.answer.new.sink in
+    let a = subst (IsAnswer c.answer.new.search p ls c.answer.new.budget) c.in-Ok-Sat.field-0-is c.in-Ok-Sat.ensures.answers in
+    log_now p ls c.self.invariant.problem a.0.running.recorded.log.stays
+
+pub returns-in-Ok-Sat-clause-short : goal.returns-in-Ok-Sat-clause-short
+returns-in-Ok-Sat-clause-short g c =
+    let w = c.answer.ensures.pays in
+    subst (λ s. All IsLearnedOrShort (lines_since (g.S.Sink.lines s.sink) (g.S.Sink.lines c.answer.new.sink))) c.self.view_is
+    (written_short (c.self.inside.problem.given).items (g.S.Sink.lines c.self.inside.sink) (g.S.Sink.lines c.answer.new.sink) w.0 w.1)
+
+pub returns-in-Ok-Limit-clause-refuted : goal.returns-in-Ok-Limit-clause-refuted
+returns-in-Ok-Limit-clause-refuted g c = λ h.
+    let p = c.self.inside.problem in
+    let ls = g.S.Sink.lines c.answer.new.sink in
+    let a = subst (IsAnswer c.answer.new.search p ls c.answer.new.budget) c.in-Ok-Limit.field-0-is c.in-Ok-Limit.ensures.answers in
+    absurd (not_plain c.answer.new.search p ls a.1.0 c.self.invariant.problem a.0 a.1.1 (subst IsPlainlyRefuted (sym c.self.view_is) h))
+
+pub returns-in-Ok-Limit-clause-propagates : goal.returns-in-Ok-Limit-clause-propagates
+returns-in-Ok-Limit-clause-propagates g c = λ h.
+    let seen = subst (λ s. IsLiveRefuted (given_to s) (g.S.Sink.lines s.sink)) (sym c.self.view_is) h in
+    let held = subst (λ x. IsLiveRefuted x (g.S.Sink.lines c.self.inside.sink)) (given_seen c.self.inside.problem c.self.invariant.problem) seen in
+    let e = sym c.in-Ok-Limit.field-0-is ∙ c.in-Ok-Limit.ensures.propagates held in
+    absurd (cc)
+
+pub returns-in-Ok-Limit-clause-lines : goal.returns-in-Ok-Limit-clause-lines
+returns-in-Ok-Limit-clause-lines g c =
+    let p = c.self.inside.problem in
+    let ls = g.S.Sink.lines c.answer.new.sink in
+    let a = subst (IsAnswer c.answer.new.search p ls c.answer.new.budget) c.in-Ok-Limit.field-0-is c.in-Ok-Limit.ensures.answers in
+    log_now p ls c.self.invariant.problem a.0.running.recorded.log.stays
+
+pub returns-in-Ok-Limit-clause-short : goal.returns-in-Ok-Limit-clause-short
+returns-in-Ok-Limit-clause-short g c =
+    let w = c.answer.ensures.pays in
+    subst (λ s. All IsLearnedOrShort (lines_since (g.S.Sink.lines s.sink) (g.S.Sink.lines c.answer.new.sink))) c.self.view_is
+    (written_short (c.self.inside.problem.given).items (g.S.Sink.lines c.self.inside.sink) (g.S.Sink.lines c.answer.new.sink) w.0 w.1)
+
+pub returns-in-Ok-Sat-clause-sat : goal.returns-in-Ok-Sat-clause-sat
+returns-in-Ok-Sat-clause-sat g c =
+    let p = c.self.inside.problem in
+    let ls = g.S.Sink.lines c.answer.new.sink in
+    let a = subst (IsAnswer c.answer.new.search p ls c.answer.new.budget) c.in-Ok-Sat.field-0-is c.in-Ok-Sat.ensures.answers in
+    subst (λ s. (length (c.in-Ok-Sat.bits).items ≡ s.formula.variables) × SatisfyGiven (c.in-Ok-Sat.bits).items (given_to s)) c.self.view_is
+    (a.2, subst (SatisfyGiven (c.in-Ok-Sat.bits).items) (sym (given_seen p c.self.invariant.problem)) a.3)
+
+pub returns-in-Ok-Unsat-clause-unsat : goal.returns-in-Ok-Unsat-clause-unsat
+returns-in-Ok-Unsat-clause-unsat g c =
+    let p = c.self.inside.problem in
+    let ls = g.S.Sink.lines c.answer.new.sink in
+    let a = subst (IsAnswer c.answer.new.search p ls c.answer.new.budget) c.in-Ok-Unsat.field-0-is c.in-Ok-Unsat.ensures.answers in
+    subst (λ s. IsAcceptedLog (given_to s) ls) c.self.view_is (ended_log p ls c.self.invariant.problem a)
+
+pub returns-in-Ok-Unsat-clause-lines : goal.returns-in-Ok-Unsat-clause-lines
+returns-in-Ok-Unsat-clause-lines g c =
+    let p = c.self.inside.problem in
+    let ls = g.S.Sink.lines c.answer.new.sink in
+    let a = subst (IsAnswer c.answer.new.search p ls c.answer.new.budget) c.in-Ok-Unsat.field-0-is c.in-Ok-Unsat.ensures.answers in
+    log_now p ls c.self.invariant.problem a.stays
+
+pub returns-in-Ok-Unsat-clause-short : goal.returns-in-Ok-Unsat-clause-short
+returns-in-Ok-Unsat-clause-short g c =
+    let w = c.answer.ensures.pays in
+    subst (λ s. All IsLearnedOrShort (lines_since (g.S.Sink.lines s.sink) (g.S.Sink.lines c.answer.new.sink))) c.self.view_is
+    (written_short (c.self.inside.problem.given).items (g.S.Sink.lines c.self.inside.sink) (g.S.Sink.lines c.answer.new.sink) w.0 w.1)
+
+pub returns-in-Err-clause-lines : goal.returns-in-Err-clause-lines
+returns-in-Err-clause-lines g c = log_now c.self.inside.problem (g.S.Sink.lines c.answer.new.sink) c.self.invariant.problem c.in-Err.ensures.err.stays
+
+pub returns-in-Err-clause-short : goal.returns-in-Err-clause-short
+returns-in-Err-clause-short g c =
+    let w = c.answer.ensures.pays in
+    subst (λ s. All IsLearnedOrShort (lines_since (g.S.Sink.lines s.sink) (g.S.Sink.lines c.answer.new.sink))) c.self.view_is
+    (written_short (c.self.inside.problem.given).items (g.S.Sink.lines c.self.inside.sink) (g.S.Sink.lines c.answer.new.sink) w.0 w.1)
+
+pub invariant_of-self : goal.invariant_of-self
+invariant_of-self g c =
+    let p = c.self.inside.problem in
+    let ls = g.S.Sink.lines c.answer.new.sink in
+    let a = subst (IsAnswer c.answer.new.search p ls c.answer.new.budget) c.in-Ok-Sat.field-0-is c.in-Ok-Sat.ensures.answers in
+    solver_runs c.answer.new.search p ls c.self.inside.refuted c.self.inside.failed c.self.invariant.problem a.0 c.if-self-2.false
+
+pub invariant_of-self-in-Ok-Limit : goal.invariant_of-self-in-Ok-Limit
+invariant_of-self-in-Ok-Limit g c =
+    let p = c.self.inside.problem in
+    let ls = g.S.Sink.lines c.answer.new.sink in
+    let a = subst (IsAnswer c.answer.new.search p ls c.answer.new.budget) c.in-Ok-Limit.field-0-is c.in-Ok-Limit.ensures.answers in
+    solver_runs c.answer.new.search p ls c.self.inside.refuted c.self.inside.failed c.self.invariant.problem a.0 c.if-self-2.false
+
+pub invariant_of-self-in-Err : goal.invariant_of-self-in-Err
+invariant_of-self-in-Err g c = solver_fails c.answer.new.search c.self.inside.problem (g.S.Sink.lines c.answer.new.sink) c.self.inside.refuted c.self.invariant.problem c.in-Err.ensures.err c.if-self-2.false

@@ -1,0 +1,6 @@
+pub mod Solving
+pub mod Invariant
+pub mod Hinting
+pub mod Running
+pub mod Starts
+pub mod Moves

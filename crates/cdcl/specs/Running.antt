@@ -1,0 +1,163 @@
+-- What holds of a search between its moves, and what moves do.
+use Rattle.std.specs.Prelude.{◌≡◌, ℕ, ◌+◌, ◌<◌, ◌≤◌, ◌^◌, Bool, true, false, List, [], ◌∷◌, ◌++◌, length, take, map, Some, All, Result, Ok, Err}
+use Rattle.std.specs.List.{AllByRecursion}
+use Rattle.wcnf.specs.Literal.{Literal, negation}
+use Rattle.wcnf.specs.Clause.{greatest_variable}
+use Rattle.wcnf.specs.Lrat.{IsId}
+use Rattle.wcnf.specs.Formula.{IsFormulaClause}
+use Rattle.clauses.specs.Slots.{clause_at, IsLive}
+use Rattle.propagate.specs.Trail.{literals_of, depth_of, level_in}
+use Rattle.propagate.specs.Watches.{SetsAttached}
+use Rattle.propagate.specs.Fits.{Fits}
+use Rattle.analyze.specs.Learning.{IsQuiet}
+use Rattle.cdcl_order.specs.Budgets.{BudgetState, left_of}
+use Rattle.cdcl_order.specs.Orders.{AreClosed}
+use Rattle.lrat_log.specs.declared.lines.Name.{Name}
+use Rattle.lrat_log.specs.declared.lines.Hint.{Hint}
+use Rattle.lrat_log.specs.declared.lines.Hint.TheVariants.{Plain}
+use Rattle.lrat_log.specs.Log.{LogLine, Given, number_in}
+use Rattle.lrat_log.specs.Steps.{StaysLogOver, AddsNoEmptyClause, IsBaseOf, given_of, learned_count, IsLearnedOrShort, LearnsNew, nothing_exempt}
+use Rattle.cdcl.specs.declared.problem.Problem.{Problem}
+use Rattle.cdcl.specs.declared.search.Search.{Search}
+use Rattle.cdcl.specs.declared.searching.End.{End}
+use Rattle.cdcl.specs.declared.searching.End.TheVariants.{Satisfied, Refuted, Spent}
+use Rattle.cdcl.specs.declared.outcome.Outcome.{Outcome}
+use Rattle.cdcl.specs.declared.outcome.Outcome.TheVariants.{Sat, Unsat, Limit}
+use Rattle.cdcl.specs.Solving.{is_refuted, IsFreshName, IsFrozen, SatisfyGiven}
+use Rattle.cdcl.specs.Invariant.{Tables, name_at, HasUnit, Searches, zero_of, IsRunning}
+
+-- The state of a search.
+
+abbrev pub tables_of : Search → Tables
+tables_of s = record { names = (s.names).items; units = (s.units).items; noted = s.noted; kept = s.kept; additions = s.additions }
+
+-- the parts that go by variable have a place for each
+pub record HasRoom (s : Search) : Type 0 where
+  pub order : s.order ≡ (s.engine).variables
+  pub analyzer : (s.engine).variables < s.analyzer
+  pub few : (s.engine).variables < 2 ^ 27
+  pub stamps : length (s.stamps).items ≡ (s.engine).variables
+  pub units : length (s.units).items ≡ (s.engine).variables
+
+-- what each move asks for
+pub record IsReady (s : Search) : Type 0 where
+  pub searches : Searches s.engine (s.store).slots
+  pub room : HasRoom s
+  pub named : length (s.names).items ≡ length (s.store).slots
+
+-- it goes on over the clauses given, with these lines written
+pub record Runs (s : Search) (p : Problem) (ls : List LogLine) : Type 0 where
+  pub running : IsRunning s.engine (s.store).slots p.stack (tables_of s) (p.frozen).items p.first (p.given).items ls
+  pub room : HasRoom s
+  -- no line before the next addition has its number as a stamp
+  pub past : All (λ n. n ≤ s.additions) (s.stamps).items
+  pub few : s.additions < 2 ^ 61
+
+-- what is known of the clauses given
+pub record IsProblem (p : Problem) : Type 0 where
+  -- the first of them are the formula, and all have numbers
+  pub numbered : given_of (map (λ g. g.1) (take p.first (p.given).items)) ≡ take p.first (p.given).items
+  pub first_within : p.first ≤ length (p.given).items
+  pub based : (base : ℕ) × IsBaseOf (p.given).items base
+  pub few : (length (p.frozen).items < 2 ^ 26) × ((p.stack).variables < 2 ^ 27) × (length (p.frozen).items ≤ (p.stack).variables)
+  pub given_small : All (λ g. IsFormulaClause (length (p.frozen).items) g.1) (p.given).items
+
+-- Moves.
+
+abbrev pub KeepsRunning : Search → Search → Type 0
+KeepsRunning old new = (p : Problem) (ls : List LogLine) → Runs old p ls → Runs new p ls
+
+-- a clause came under a name, the last of the store
+pub record Places (old new : Search) (n : Name) (c : List Literal) : Type 0 where
+  pub slots : (new.store).slots ≡ (old.store).slots ++ Some c ∷ []
+  pub names : (new.names).items ≡ (old.names).items ++ n ∷ []
+  pub attached : SetsAttached old.engine new.engine (length (old.store).slots) true
+  pub trail : (new.engine).trail ≡ (old.engine).trail
+  pub variables : (new.engine).variables ≡ (old.engine).variables
+  pub works : (new.engine).failed ≡ false
+  pub fits : Fits new.engine ((old.store).slots ++ Some c ∷ [])
+  pub units : new.units ≡ old.units
+  pub noted : new.noted ≡ old.noted
+  pub kept : new.kept ≡ old.kept
+  pub stamps : new.stamps ≡ old.stamps
+  pub order : new.order ≡ old.order
+  pub analyzer : new.analyzer ≡ old.analyzer
+
+-- The log.
+
+-- what was written between two moments: the lines after `before`, of which so many were learned
+pub record Writes (given : Given) (before after : List LogLine) (learned : ℕ) : Type 0 where
+  pub more : List LogLine
+  pub grows : after ≡ before ++ more
+  pub short : All IsLearnedOrShort more
+  pub learned_is : learned_count more ≡ learned
+  pub new : (base : ℕ) → IsBaseOf given base → LearnsNew nothing_exempt given base before more
+
+-- and a unit was paid for each learned line
+abbrev pub Pays : Given → List LogLine → List LogLine → BudgetState → BudgetState → Type 0
+Pays given before after old new = (n : ℕ) × Writes given before after n × (new ≡ record old { learned = old.learned + n })
+
+-- a log to which lines may be added, now and after further clauses are given
+pub record StaysOpen (p : Problem) (ls : List LogLine) : Type 0 where
+  pub stays : StaysLogOver (length (p.frozen).items) (p.given).items ls
+  pub unrefuted : AddsNoEmptyClause ls
+
+-- a log that ends in the empty clause
+pub record IsEnded (p : Problem) (ls : List LogLine) : Type 0 where
+  pub stays : StaysLogOver (length (p.frozen).items) (p.given).items ls
+  pub refuted : is_refuted ls ≡ true
+
+-- How a search ends.
+
+abbrev pub IsEndOf : Search → Problem → List LogLine → BudgetState → End → Type 0
+IsEndOf s p ls b Satisfied = Runs s p ls × IsQuiet (s.store).slots (literals_of (s.engine).trail) × AreClosed (s.engine).trail (s.engine).variables × (0 < left_of b)
+IsEndOf s p ls b Refuted = IsEnded p ls
+IsEndOf s p ls b Spent = Runs s p ls × ((A : List Literal) × IsQuiet (s.store).slots A) × (left_of b ≡ 0)
+
+-- Clauses that are given later.
+
+-- what is asked of one
+pub record IsGivable (p : Problem) (n : Name) (c : List Literal) : Type 0 where
+  pub fresh : IsFreshName (p.given).items n
+  pub frozen : All (IsFrozen (p.frozen).items) c
+  pub id : IsId (number_in n)
+  pub from_one : All (λ l. 0 < l.variable) c
+  pub small : greatest_variable c ≤ length (p.frozen).items
+
+-- the clauses given, with one more
+pub record GivesOne (old new : Problem) (n : Name) (c : List Literal) : Type 0 where
+  pub given : (new.given).items ≡ (old.given).items ++ (n, c) ∷ []
+  pub stack : new.stack ≡ old.stack
+  pub frozen : new.frozen ≡ old.frozen
+  pub first : new.first ≡ old.first
+
+abbrev pub TakesClause : Search → Search → Name → List Literal → Type 0
+TakesClause old new n c = (p q : Problem) (ls : List LogLine) → IsGivable p n c → GivesOne p q n c → p.first ≤ length (p.given).items → Runs old p ls → Runs new q ls
+
+abbrev pub Takes : Search → Search → Problem → Problem → Name → List Literal → Type 0
+Takes old new p q n c = (ls : List LogLine) → IsGivable p n c → p.first ≤ length (p.given).items → Runs old p ls → Runs new q ls
+
+-- what holds of a solver between its calls
+pub record IsSolver (s : Search) (p : Problem) (ls : List LogLine) (refuted failed : Bool) : Type 0 where
+  pub problem : IsProblem p
+  pub lines : StaysLogOver (length (p.frozen).items) (p.given).items ls
+  pub refuted_is : refuted ≡ is_refuted ls
+  pub running : failed ≡ false → refuted ≡ false → Runs s p ls
+
+-- What a search answers.
+
+abbrev pub IsAnswer : Search → Problem → List LogLine → BudgetState → Outcome → Type 0
+IsAnswer s p ls b (Sat bits) = Runs s p ls × ((A : List Literal) × IsQuiet (s.store).slots A) × (length bits.items ≡ length (p.frozen).items) × SatisfyGiven bits.items (p.given).items
+IsAnswer s p ls b Unsat = IsEnded p ls
+IsAnswer s p ls b Limit = Runs s p ls × ((A : List Literal) × IsQuiet (s.store).slots A) × (left_of b ≡ 0)
+
+-- one for an answer with bits
+abbrev pub units_for : {E : Type 0} → Result Outcome E → ℕ
+units_for (Ok (Sat bits)) = 1
+units_for (Ok Unsat) = 0
+units_for (Ok Limit) = 0
+units_for (Err e) = 0
+
+-- and a unit was paid for each learned line, and for bits
+abbrev pub PaysFor : {E : Type 0} → Result Outcome E → Given → List LogLine → List LogLine → BudgetState → BudgetState → Type 0
+PaysFor answer given before after old new = (n : ℕ) × Writes given before after n × (new ≡ record old { learned = old.learned + n; answers = old.answers + units_for answer })

@@ -1,0 +1,39 @@
+-- A search before its first move.
+use Rattle.std.specs.Prelude.{◌≡◌, ℕ, ◌<◌, ◌≤◌, Bool, true, false, List, [], length, replicate, slice_index_or, Option, Some, None, All}
+use Rattle.wcnf.specs.Literal.{Literal}
+use Rattle.wcnf.specs.Lrat.{IsId}
+use Rattle.clauses.specs.Slots.{Slots, clause_at}
+use Rattle.propagate.specs.Watches.{is_attached}
+use Rattle.propagate.specs.Fits.{Fits, IsWithin}
+use Rattle.lrat_log.specs.declared.lines.Name.{Name}
+use Rattle.lrat_log.specs.Log.{number_in}
+use Rattle.eliminate.specs.Elimination.{StackState}
+use Rattle.cdcl.specs.declared.search.Search.{Search}
+use Rattle.cdcl.specs.Invariant.{name_at}
+use Rattle.cdcl.specs.Running.{HasRoom}
+
+-- the references rise
+abbrev pub AreRising : List (ℕ × Name) → Type 0
+AreRising listed = (i j : ℕ) (d : ℕ × Name) → i < j → j < length listed → (slice_index_or listed i d).0 < (slice_index_or listed j d).0
+
+-- a live clause over so many variables
+abbrev pub IsLiveWithin : Slots → ℕ → ℕ → Type 0
+IsLiveWithin slots variables r = (c : List Literal) × (clause_at slots r ≡ Some c) × IsWithin variables c
+
+-- nothing is true, all clauses that the stack lists are attached, and each has its name
+pub record IsStarted (slots : Slots) (stack : StackState) (additions : ℕ) (s : Search) : Type 0 where
+  pub slots_are : (s.store).slots ≡ slots
+  pub trail : (s.engine).trail ≡ []
+  pub variables : (s.engine).variables ≡ stack.variables
+  pub works : (s.engine).failed ≡ false
+  pub fits : Fits s.engine slots
+  pub attached : All (λ n. is_attached s.engine n.0 ≡ true) stack.names
+  pub long : length (s.names).items ≡ length slots
+  pub named : All (λ n. name_at (s.names).items n.0 ≡ n.1) stack.names
+  pub numbers : All (λ n. IsId (number_in n)) (s.names).items
+  pub units : (s.units).items ≡ replicate stack.variables None
+  pub noted : s.noted ≡ 0
+  pub kept : s.kept ≡ additions
+  pub counted : s.additions ≡ additions
+  pub room : HasRoom s
+  pub past : All (λ n. n ≤ s.additions) (s.stamps).items

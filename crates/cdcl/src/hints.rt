@@ -1,0 +1,96 @@
+// The hints of a line: first the clauses of one literal that it needs, then those that the search found.
+ghost use Rattle.std.specs.Prelude.{◌≡◌, ℕ, ◌<◌, ◌≤◌, true, List, [], ◌∷◌, ◌++◌, All, length, map, Contains, IfOk, OnOk, IfSome};
+ghost use Rattle.clauses.specs.Slots.{clause_at};
+ghost use Rattle.propagate.specs.Watches.{is_attached};
+ghost use Rattle.propagate.specs.Fits.{Fits};
+ghost use Rattle.cdcl.specs.Invariant.{name_at};
+ghost use Rattle.cdcl.specs.Hinting.{AreNoted, IsNotedIn, AreHintsOf, plain_hints};
+ghost use Rattle.cdcl.specs.Moves.{Gathers};
+
+use clauses::store::{CRef, MaybeCRef, Store};
+use lrat_log::lines::{Hint, Name};
+use propagate::engine::Engine;
+use std::alloc::AllocError;
+
+/// The hints by which a line follows that needs these clauses: before them the unit clauses of the literals of level 0
+/// whose negations stand in them, each once. A stamp by variable says which were met.
+pub(crate) fn hints_of(
+    store: &Store,
+    engine: &Engine,
+    names: &[Name],
+    units: &[MaybeCRef],
+    stamps: &mut [u64],
+    stamp: u64,
+    references: &[CRef],
+) -> Result<Vec<Hint>, AllocError>
+    requires fits { Fits engine.now store.now.slots }
+    requires named { length names.now ≡ length store.now.slots }
+    requires units { length units.now ≡ engine.now.variables }
+    requires stamps { length stamps.old ≡ engine.now.variables }
+    requires past { All (λ n. n < stamp) stamps.old }
+    requires attached { All (λ r. is_attached engine.now r ≡ true) references.now }
+    requires noted { AreNoted store.now.slots units.now engine.now.trail references.now }
+    ensures hints { IfOk result (λ hints. AreHintsOf store.now.slots names.now engine.now.trail references.now hints.items) }
+    ensures past { All (λ n. n ≤ stamp) stamps.new }
+    ensures long { length stamps.new ≡ length stamps.old }
+{
+    let mut hints = Vec::new(store.allocator());
+    for reference in references {
+        add_units(
+            &mut hints, store, engine, names, units, stamps, stamp, *reference,
+        )?;
+    }
+    add_named(&mut hints, names, references)?;
+    Ok(hints)
+}
+
+/// Adds the unit clauses of the literals of level 0 whose negations stand in this clause, where they were not met before.
+fn add_units(
+    hints: &mut Vec<Hint>,
+    store: &Store,
+    engine: &Engine,
+    names: &[Name],
+    units: &[MaybeCRef],
+    stamps: &mut [u64],
+    stamp: u64,
+    reference: CRef,
+) -> Result<(), AllocError>
+    requires fits { Fits engine.now store.now.slots }
+    requires named { length names.now ≡ length store.now.slots }
+    requires units { length units.now ≡ engine.now.variables }
+    requires stamps { length stamps.old ≡ engine.now.variables }
+    requires past { All (λ n. n ≤ stamp) stamps.old }
+    requires attached { is_attached engine.now reference ≡ true }
+    requires noted { IfSome (clause_at store.now.slots reference) (IsNotedIn store.now.slots units.now engine.now.trail) }
+    ensures gathers { OnOk result ((all done : List ℕ) → Contains all reference
+        → Gathers store.now.slots names.now units.now engine.now.trail stamp all done [] stamps.old hints.old.items
+        → Gathers store.now.slots names.now units.now engine.now.trail stamp all (done ++ reference ∷ []) [] stamps.new hints.new.items) }
+    ensures past { All (λ n. n ≤ stamp) stamps.new }
+{
+    for lit in store.lits(reference) {
+        let variable = lit.variable();
+        let place = variable as usize - 1;
+        if stamps[place] < stamp
+            && engine.level(variable) == Some(0)
+            && engine.value(*lit) == Some(false)
+        {
+            stamps[place] = stamp;
+            match units[place].get() {
+                Some(unit) => hints.push(Hint::Plain(names[unit.index()]))?,
+                None => unreachable!(),
+            }
+        }
+    }
+    Ok(())
+}
+
+/// Adds these clauses, by name.
+fn add_named(hints: &mut Vec<Hint>, names: &[Name], references: &[CRef]) -> Result<(), AllocError>
+    requires { All (λ r. r < length names.now) references.now }
+    ensures { OnOk result (hints.new.items ≡ hints.old.items ++ plain_hints (map (name_at names.now) references.now)) }
+{
+    for reference in references {
+        hints.push(Hint::Plain(names[reference.index()]))?;
+    }
+    Ok(())
+}

@@ -1,0 +1,51 @@
+// What a conflict teaches: a clause, a line for it, and a level to go back to.
+ghost use Rattle.std.specs.Prelude.{◌≡◌, ◌<◌, OnOk, OnErr};
+ghost use Rattle.propagate.specs.Trail.{depth_of};
+ghost use Rattle.propagate.specs.Fits.{IsFalseClause};
+ghost use Rattle.cdcl.specs.Running.{Runs, Writes};
+
+use crate::hints::hints_of;
+use crate::problem::Problem;
+use crate::search::Search;
+use clauses::store::CRef;
+use lrat_log::lines::Kind;
+use lrat_log::sink::Sink;
+use std::alloc::AllocError;
+
+/// Learns a clause from one that is false above level 0, and goes back to where it leaves no choice.
+pub(crate) fn learn<S: Sink>(
+    search: &mut Search,
+    problem: &Problem,
+    sink: &mut S,
+    conflict: CRef,
+) -> Result<(), AllocError>
+    requires runs { Runs search.old problem.now (S.lines sink.old) }
+    requires deep { 0 < depth_of search.old.engine.trail }
+    requires conflict { IsFalseClause search.old.store.slots search.old.engine conflict }
+    ensures runs { OnOk result (Runs search.new problem.now (S.lines sink.new)) }
+    ensures variables { OnOk result (search.new.engine.variables ≡ search.old.engine.variables) }
+    ensures writes { OnOk result (Writes problem.now.given.items (S.lines sink.old) (S.lines sink.new) 1) }
+    ensures err { OnErr result (S.lines sink.new ≡ S.lines sink.old) }
+{
+    let _ = problem;
+    let learned = search
+        .analyzer
+        .analyze(&search.engine, &search.store, conflict)?;
+    let hints = hints_of(
+        &search.store,
+        &search.engine,
+        &search.names,
+        &search.units,
+        &mut search.stamps,
+        search.additions + 1,
+        learned.hints.as_slice(),
+    )?;
+    search.bump();
+    search.backtrack(learned.back_level);
+    let reference = search.add_line(sink, Kind::Learned, learned.lits.as_slice(), hints)?;
+    let _ = reference;
+    if learned.lits.as_slice().len() > 2 {
+        search.long = search.long.saturating_add(1);
+    }
+    Ok(())
+}

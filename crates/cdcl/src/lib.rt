@@ -1,0 +1,20 @@
+//! Conflict-driven search under a budget.
+#![tactic(auto)]
+
+pub use cdcl_order::budget;
+
+mod answers;
+mod giving;
+mod hints;
+mod learning;
+mod noting;
+pub mod outcome;
+mod problem;
+mod reducing;
+mod search;
+mod searching;
+pub mod solver;
+mod starting;
+mod tables;
+mod tally;
+mod writing;

@@ -1,0 +1,104 @@
+// What is true at level 0 is written down as clauses of one literal, so that later lines may use it as hints.
+ghost use Rattle.std.specs.Prelude.{◌≡◌, ℕ, ◌+◌, ◌<◌, ◌≤◌, [], ◌∷◌, ◌++◌, Some, length, slice_index_or, OnOk, OnErr};
+ghost use Rattle.propagate.specs.Trail.{literals_of, depth_of};
+ghost use Rattle.propagate.specs.Fits.{IsFalseClause};
+ghost use Rattle.analyze.specs.Learning.{IsQuiet};
+ghost use Rattle.cdcl_order.specs.Orders.{positive};
+ghost use Rattle.cdcl.specs.Invariant.{zero_of};
+ghost use Rattle.cdcl.specs.Running.{Runs, Writes, StaysOpen, IsEnded};
+
+use crate::hints::hints_of;
+use crate::problem::Problem;
+use crate::search::Search;
+use clauses::store::{CRef, MaybeCRef};
+use lrat_log::lines::{Kind, Line};
+use lrat_log::sink::Sink;
+use std::alloc::AllocError;
+
+/// Writes a Unit line for each literal of level 0 that has none, in the order of the trail.
+pub(crate) fn note_units<S: Sink>(
+    search: &mut Search,
+    problem: &Problem,
+    sink: &mut S,
+) -> Result<(), AllocError>
+    requires runs { Runs search.old problem.now (S.lines sink.old) }
+    requires flat { depth_of search.old.engine.trail ≡ 0 }
+    ensures runs { OnOk result (Runs search.new problem.now (S.lines sink.new)) }
+    ensures all { OnOk result (length (zero_of search.new.engine.trail) ≤ search.new.noted) }
+    ensures trail { OnOk result (search.new.engine.trail ≡ search.old.engine.trail) }
+    ensures quiet { OnOk result (IsQuiet search.old.store.slots (literals_of search.old.engine.trail) → IsQuiet search.new.store.slots (literals_of search.new.engine.trail)) }
+    ensures clauses { OnOk result ((r : ℕ) → IsFalseClause search.old.store.slots search.old.engine r → IsFalseClause search.new.store.slots search.new.engine r) }
+    ensures variables { OnOk result (search.new.engine.variables ≡ search.old.engine.variables) }
+    ensures writes { Writes problem.now.given.items (S.lines sink.old) (S.lines sink.new) 0 }
+    ensures err { OnErr result (StaysOpen problem.now (S.lines sink.new)) }
+{
+    while search.noted < search.engine.assigned() {
+        note_unit(search, problem, sink)?;
+    }
+    Ok(())
+}
+
+/// Writes a Unit line for the next literal of level 0: by its reason, and the unit clauses of the literals before it.
+fn note_unit<S: Sink>(
+    search: &mut Search,
+    problem: &Problem,
+    sink: &mut S,
+) -> Result<(), AllocError>
+    requires runs { Runs search.old problem.now (S.lines sink.old) }
+    requires flat { depth_of search.old.engine.trail ≡ 0 }
+    requires next { search.old.noted < length search.old.engine.trail }
+    ensures runs { OnOk result (Runs search.new problem.now (S.lines sink.new)) }
+    ensures noted { OnOk result (search.new.noted ≡ search.old.noted + 1) }
+    ensures trail { OnOk result (search.new.engine.trail ≡ search.old.engine.trail) }
+    ensures slots { OnOk result (search.new.store.slots ≡ search.old.store.slots ++ Some (slice_index_or (literals_of search.old.engine.trail) search.old.noted (positive 0) ∷ []) ∷ []) }
+    ensures variables { OnOk result (search.new.engine.variables ≡ search.old.engine.variables) }
+    ensures writes { OnOk result (Writes problem.now.given.items (S.lines sink.old) (S.lines sink.new) 0) }
+    ensures err { OnErr result (S.lines sink.new ≡ S.lines sink.old) }
+{
+    let lit = search.engine.trail()[search.noted];
+    let place = lit.variable() as usize - 1;
+    let Some(reason) = search.engine.reason(lit.variable()) else {
+        unreachable!()
+    };
+    let hints = hints_of(
+        &search.store,
+        &search.engine,
+        &search.names,
+        &search.units,
+        &mut search.stamps,
+        search.additions + 1,
+        &[reason],
+    )?;
+    let unit = search.add_line(sink, Kind::Unit, &[lit], hints)?;
+    search.units[place] = MaybeCRef::new(Some(unit));
+    search.noted += 1;
+    Ok(())
+}
+
+/// Writes the Empty line, by a clause that is false at level 0.
+pub(crate) fn refute<S: Sink>(
+    search: &mut Search,
+    problem: &Problem,
+    sink: &mut S,
+    conflict: CRef,
+) -> Result<(), AllocError>
+    requires runs { Runs search.old problem.now (S.lines sink.old) }
+    requires flat { depth_of search.old.engine.trail ≡ 0 }
+    requires conflict { IsFalseClause search.old.store.slots search.old.engine conflict }
+    ensures ended { OnOk result (IsEnded problem.now (S.lines sink.new)) }
+    ensures writes { Writes problem.now.given.items (S.lines sink.old) (S.lines sink.new) 0 }
+    ensures err { OnErr result (StaysOpen problem.now (S.lines sink.new)) }
+{
+    note_units(search, problem, sink)?;
+    let hints = hints_of(
+        &search.store,
+        &search.engine,
+        &search.names,
+        &search.units,
+        &mut search.stamps,
+        search.additions + 1,
+        &[conflict],
+    )?;
+    let none = Vec::new(search.store.allocator());
+    sink.append(Line::new(Kind::Empty, none, hints))
+}

@@ -1,0 +1,142 @@
+// Learned clauses are deleted from time to time, so that propagation has fewer to look at.
+ghost use Rattle.std.specs.Prelude.{◌≡◌, ◌<◌, ◌≤◌, true, false, Some, All, length, IfOk, OnOk, OnErr};
+ghost use Rattle.propagate.specs.Trail.{reason_in};
+ghost use Rattle.cdcl.specs.Invariant.{name_at, is_kept_name};
+ghost use Rattle.cdcl.specs.Running.{IsReady, Runs, StaysOpen, Writes};
+ghost use Rattle.cdcl.specs.Moves.{MayBeDeleted};
+
+use crate::problem::Problem;
+use crate::search::Search;
+use cdcl_order::deletions::{is_due, longer_half};
+use clauses::store::CRef;
+use lrat_log::lines::{Hint, Kind, Line, Name};
+use lrat_log::sink::Sink;
+use propagate::engine::Engine;
+use std::alloc::AllocError;
+use wcnf::types::Lit;
+
+/// Deletes a clause, where that may be done: it is live, was learned, has more than two literals and is no reason.
+fn delete<S: Sink>(
+    search: &mut Search,
+    problem: &Problem,
+    sink: &mut S,
+    reference: CRef,
+) -> Result<(), AllocError>
+    requires runs { Runs search.old problem.now (S.lines sink.old) }
+    ensures runs { OnOk result (Runs search.new problem.now (S.lines sink.new)) }
+    ensures trail { OnOk result (search.new.engine.trail ≡ search.old.engine.trail) }
+    ensures variables { OnOk result (search.new.engine.variables ≡ search.old.engine.variables) }
+    ensures writes { OnOk result (Writes problem.now.given.items (S.lines sink.old) (S.lines sink.new) 0) }
+    ensures err { OnErr result (S.lines sink.new ≡ S.lines sink.old) }
+{
+    if !search.may_delete(reference) {
+        return Ok(());
+    }
+    let alloc = search.store.allocator();
+    let mut hints = Vec::new(alloc);
+    hints.push(Hint::Plain(search.names[reference.index()]))?;
+    sink.append(Line::new(Kind::Delete, Vec::new(alloc), hints))?;
+    search.engine.detach(reference);
+    search.store.delete(reference);
+    search.long = search.long.saturating_sub(1);
+    Ok(())
+}
+
+impl Search {
+    /// The learned clauses that may be deleted, each with its length, the older first.
+    fn candidates(&self) -> Result<Vec<(u32, CRef)>, AllocError>
+        requires { IsReady self.now }
+    {
+        let mut candidates = Vec::new(self.store.allocator());
+        for place in 0..self.store.places() {
+            if let Some(reference) = self.store.live_at(place)
+                && self.may_delete(reference)
+            {
+                let length = match u32::try_from(self.store.lits(reference).len()) {
+                    Ok(length) => length,
+                    Err(_) => u32::MAX,
+                };
+                candidates.push((length, reference))?;
+            }
+        }
+        Ok(candidates)
+    }
+
+    /// Whether the clause is live, was learned, has more than two literals and is no reason.
+    fn may_delete(&self, reference: CRef) -> bool
+        requires { IsReady self.now }
+        ensures { result ≡ true → MayBeDeleted self.now reference }
+    {
+        if !self.store.is_live(reference) {
+            return false;
+        }
+        let lits = self.store.lits(reference);
+        lits.len() > 2
+            && !is_kept(self.names[reference.index()], self.kept)
+            && !is_reason(&self.engine, lits, reference)
+    }
+}
+
+/// Whether the clause was given, or added by elimination.
+fn is_kept(name: Name, kept: u64) -> bool
+    ensures { result ≡ is_kept_name kept name }
+{
+    match name {
+        Name::Formula(_) => true,
+        Name::Added(number) => number.get() <= kept,
+    }
+}
+
+/// Whether this clause is the reason of one of its literals.
+fn is_reason(engine: &Engine, lits: &[Lit], reference: CRef) -> bool
+    requires { All (λ l. l.variable ≤ engine.now.variables) lits.now }
+    ensures { result ≡ false → All (λ l. reason_in engine.now.trail l.variable ≡ Some reference → ⊥) lits.now }
+{
+    for lit in lits {
+        if engine.reason(lit.variable()) == Some(reference) {
+            return true;
+        }
+    }
+    false
+}
+
+/// Deletes the longer half of the learned clauses that may be deleted, where it is time for that.
+pub(crate) fn reduce<S: Sink>(
+    search: &mut Search,
+    problem: &Problem,
+    sink: &mut S,
+) -> Result<(), AllocError>
+    requires runs { Runs search.old problem.now (S.lines sink.old) }
+    ensures runs { OnOk result (Runs search.new problem.now (S.lines sink.new)) }
+    ensures variables { OnOk result (search.new.engine.variables ≡ search.old.engine.variables) }
+    ensures writes { Writes problem.now.given.items (S.lines sink.old) (S.lines sink.new) 0 }
+    ensures err { OnErr result (StaysOpen problem.now (S.lines sink.new)) }
+{
+    if !is_due(search.long, search.reductions) {
+        return Ok(());
+    }
+    let mut chosen = search.candidates()?;
+    longer_half(&mut chosen)?;
+    delete_all(search, problem, sink, &chosen)?;
+    search.reductions = search.reductions.saturating_add(1);
+    Ok(())
+}
+
+/// Deletes those of these clauses that may be deleted.
+fn delete_all<S: Sink>(
+    search: &mut Search,
+    problem: &Problem,
+    sink: &mut S,
+    chosen: &[(u32, CRef)],
+) -> Result<(), AllocError>
+    requires runs { Runs search.old problem.now (S.lines sink.old) }
+    ensures runs { OnOk result (Runs search.new problem.now (S.lines sink.new)) }
+    ensures variables { OnOk result (search.new.engine.variables ≡ search.old.engine.variables) }
+    ensures writes { Writes problem.now.given.items (S.lines sink.old) (S.lines sink.new) 0 }
+    ensures err { OnErr result (StaysOpen problem.now (S.lines sink.new)) }
+{
+    for (_, reference) in chosen {
+        delete(search, problem, sink, *reference)?;
+    }
+    Ok(())
+}

@@ -1,0 +1,147 @@
+// The state of a search, and the moves of its engine.
+ghost use Rattle.std.specs.Prelude.{◌≡◌, ℕ, true, false, ◌+◌, ◌<◌, ◌≤◌, [], ◌∷◌, ◌++◌, Some, None, length, All, IfOk, OnOk, IfSome, IfNone};
+ghost use Rattle.propagate.specs.Trail.{literals_of, depth_of, kept_to};
+ghost use Rattle.propagate.specs.Fits.{GrowsByUnits, IsFalseClause};
+ghost use Rattle.analyze.specs.Learning.{IsQuiet};
+ghost use Rattle.cdcl_order.specs.Orders.{IsOpenVariable, AreClosed};
+ghost use Rattle.cdcl.specs.Invariant.{zero_of};
+ghost use Rattle.cdcl.specs.Running.{HasRoom, IsReady, KeepsRunning};
+ghost use Rattle.cdcl.specs.Moves.{KeepsState};
+
+use analyze::learning::Analyzer;
+use cdcl_order::order::Order;
+use clauses::store::{CRef, MaybeCRef, Store};
+use lrat_log::lines::Name;
+use propagate::engine::Engine;
+use std::alloc::AllocError;
+use wcnf::types::Lit;
+
+/// What a search works on, between its moves.
+#[derive(Drop)]
+pub(crate) struct Search {
+    /// The live clauses.
+    pub(crate) store: Store,
+    /// The trail. All live clauses are attached.
+    pub(crate) engine: Engine,
+    /// The name of the clause in each place of the store.
+    pub(crate) names: Vec<Name>,
+    /// For each variable, where its literal stands as a clause by itself.
+    pub(crate) units: Vec<MaybeCRef>,
+    /// How many literals of level 0 have such a clause: the first ones of the trail.
+    pub(crate) noted: usize,
+    /// How many additions elimination made. Their clauses are never deleted, nor are those given.
+    pub(crate) kept: u64,
+    /// How many additions the log has.
+    pub(crate) additions: u64,
+    /// For each variable, the number of the last addition that has its unit clause among the hints.
+    pub(crate) stamps: Vec<u64>,
+    /// The order of decisions.
+    pub(crate) order: Order,
+    /// The memory of conflict analysis.
+    pub(crate) analyzer: Analyzer,
+    /// How many learned clauses of more than two literals are live. It is a count for the choice of deletions alone.
+    pub(crate) long: usize,
+    /// How often clauses were deleted, likewise.
+    pub(crate) reductions: u64,
+}
+
+impl Search {
+    /// Makes true what is left, and answers a clause that is false, or none: then no clause is false or unit.
+    pub(crate) fn propagate(&mut self) -> Result<Option<CRef>, AllocError>
+        requires { IsReady self.old }
+        ensures runs { OnOk result (KeepsRunning self.old self.new) }
+        ensures ready { OnOk result (IsReady self.new) }
+        ensures conflict { IfOk result (λ found. IfSome found (IsFalseClause self.new.store.slots self.new.engine)) }
+        ensures quiet { IfOk result (λ found. IfNone found (IsQuiet self.new.store.slots (literals_of self.new.engine.trail))) }
+        ensures depth { OnOk result (depth_of self.new.engine.trail ≡ depth_of self.old.engine.trail) }
+        ensures grows { OnOk result (length self.old.engine.trail ≤ length self.new.engine.trail) }
+        ensures same { (self.new.store ≡ self.old.store) × (self.new.noted ≡ self.old.noted) × (self.new.engine.variables ≡ self.old.engine.variables) }
+    {
+        match self.engine.propagate(&self.store) {
+            Ok(found) => Ok(found),
+            Err(_) => Err(AllocError),
+        }
+    }
+
+    /// Undoes the levels above this one. Their variables may be decided again, with the value that they have now first.
+    pub(crate) fn backtrack(&mut self, level: u32)
+        requires ready { IsReady self.old }
+        requires level { level ≤ depth_of self.old.engine.trail }
+        ensures runs { KeepsRunning self.old self.new }
+        ensures state { KeepsState self.old self.new }
+        ensures ready { IsReady self.new }
+        ensures trail { self.new.engine.trail ≡ kept_to level self.old.engine.trail }
+        ensures variables { self.new.engine.variables ≡ self.old.engine.variables }
+        ensures engine { self.new ≡ record self.old { engine = self.new.engine; order = self.new.order } }
+    {
+        put_back(&mut self.order, &self.engine, level);
+        self.engine.backtrack(level);
+    }
+
+    /// The variables that the last analysis met count more from now on.
+    pub(crate) fn bump(&mut self)
+        ensures order { self.new.order ≡ self.old.order }
+        ensures same { self.new ≡ record self.old { order = self.new.order } }
+    {
+        self.order.bump_all(self.analyzer.met());
+        self.order.decay();
+    }
+
+    /// Decides a variable without a value; it answers whether there was one.
+    pub(crate) fn branch(&mut self) -> bool
+        requires ready { IsReady self.old }
+        requires quiet { IsQuiet self.old.store.slots (literals_of self.old.engine.trail) }
+        requires noted { length (zero_of self.old.engine.trail) ≤ self.old.noted }
+        ensures runs { KeepsRunning self.old self.new }
+        ensures longer { result ≡ true → length self.new.engine.trail ≡ length self.old.engine.trail + 1 }
+        ensures within { length self.old.engine.trail ≤ self.old.engine.variables }
+        ensures closed { result ≡ false → AreClosed self.old.engine.trail self.old.engine.variables }
+        ensures stays { result ≡ false → self.new.engine ≡ self.old.engine }
+        ensures variables { self.new.engine.variables ≡ self.old.engine.variables }
+        ensures store { self.new.store ≡ self.old.store }
+    {
+        let _ = self.engine.assigned();
+        match self.order.next(&self.engine) {
+            Some(variable) => {
+                self.decide(variable);
+                true
+            }
+            None => false,
+        }
+    }
+
+    /// Opens a level with the variable.
+    pub(crate) fn decide(&mut self, variable: u32)
+        requires ready { IsReady self.old }
+        requires open { IsOpenVariable self.old.engine.trail self.old.engine.variables variable }
+        requires quiet { IsQuiet self.old.store.slots (literals_of self.old.engine.trail) }
+        requires noted { length (zero_of self.old.engine.trail) ≤ self.old.noted }
+        ensures runs { KeepsRunning self.old self.new }
+        ensures ready { IsReady self.new }
+        ensures longer { length self.new.engine.trail ≡ length self.old.engine.trail + 1 }
+        ensures same { self.new ≡ record self.old { engine = self.new.engine } }
+    {
+        let negated = !self.order.phase(variable);
+        self.engine.decide(Lit::new(variable, negated));
+    }
+}
+
+/// The variables above this level may be decided again, with the value that they have now first.
+fn put_back(order: &mut Order, engine: &Engine, level: u32)
+    requires room { order.old ≡ engine.now.variables }
+    requires within { All (λ l. l.variable ≤ order.old) (literals_of engine.now.trail) }
+    ensures { order.new ≡ order.old }
+{
+    let trail = engine.trail();
+    let mut place = trail.len();
+    while place > 0 {
+        place -= 1;
+        let lit = trail[place];
+        let variable = lit.variable();
+        if engine.level(variable).unwrap_or(0) <= level {
+            break;
+        }
+        order.keep_phase(variable, !lit.is_negated());
+        order.put_back(variable);
+    }
+}

@@ -1,0 +1,192 @@
+// The loop of a search: propagate, then learn from a conflict or decide. It starts over by the Luby sequence, and only
+// after a clause was learned since it last did; so a search is bounded by its budget and the variables without a value.
+ghost use Rattle.std.specs.Prelude.{◌≡◌, ◌≤◌, length, IfOk, OnOk, OnErr, IfSome, IfNone};
+ghost use Rattle.propagate.specs.Trail.{literals_of, depth_of};
+ghost use Rattle.propagate.specs.Fits.{IsFalseClause};
+ghost use Rattle.analyze.specs.Learning.{IsQuiet};
+ghost use Rattle.cdcl.specs.Moves.{GoesOn};
+ghost use Rattle.cdcl.specs.Solving.{IsLiveRefuted};
+ghost use Rattle.cdcl.specs.Invariant.{zero_of};
+ghost use Rattle.cdcl.specs.Running.{Runs, Writes, Pays, StaysOpen, IsEndOf};
+ghost use Rattle.cdcl.specs.declared.searching.End.TheVariants.{Refuted};
+
+use crate::budget::Budget;
+use crate::learning::learn;
+use crate::noting::{note_units, refute};
+use crate::problem::Problem;
+use crate::reducing::reduce;
+use crate::search::Search;
+use cdcl_order::restarts::Luby;
+use clauses::store::CRef;
+use lrat_log::sink::Sink;
+use std::alloc::AllocError;
+
+/// How a search ended: with a value for each variable, with the empty clause, or because the budget is spent.
+#[derive(Clone, Copy, Debug, PartialEq, Eq, Drop)]
+pub(crate) enum End {
+    Satisfied,
+    Refuted,
+    Spent,
+}
+
+/// Conflicts a term of the Luby sequence.
+const RESTART: u64 = 100;
+
+/// When a search starts over.
+#[derive(Clone, Copy, Drop)]
+struct Pace {
+    luby: Luby,
+    // Since it last did.
+    conflicts: u64,
+}
+
+/// Searches from level 0 until it has an answer or the budget is spent.
+pub(crate) fn run<S: Sink>(
+    search: &mut Search,
+    problem: &Problem,
+    sink: &mut S,
+    budget: &mut Budget,
+) -> Result<End, AllocError>
+    requires runs { Runs search.old problem.now (S.lines sink.old) }
+    ensures ends { IfOk result (IsEndOf search.new problem.now (S.lines sink.new) budget.new) }
+    ensures propagates { IfOk result (λ end. IsLiveRefuted problem.now.given.items (S.lines sink.old) → end ≡ Refuted) }
+    ensures pays { Pays problem.now.given.items (S.lines sink.old) (S.lines sink.new) budget.old budget.new }
+    ensures err { OnErr result (StaysOpen problem.now (S.lines sink.new)) }
+{
+    search.backtrack(0);
+    let found = search.propagate()?;
+    match found {
+        Some(conflict) => {
+            refute(search, problem, sink, conflict)?;
+            Ok(End::Refuted)
+        }
+        None => descend(search, problem, sink, budget),
+    }
+}
+
+/// Learns and decides until it has an answer or the budget is spent.
+fn descend<S: Sink>(
+    search: &mut Search,
+    problem: &Problem,
+    sink: &mut S,
+    budget: &mut Budget,
+) -> Result<End, AllocError>
+    requires runs { Runs search.old problem.now (S.lines sink.old) }
+    ensures ends { IfOk result (IsEndOf search.new problem.now (S.lines sink.new) budget.new) }
+    ensures pays { Pays problem.now.given.items (S.lines sink.old) (S.lines sink.new) budget.old budget.new }
+    ensures err { OnErr result (StaysOpen problem.now (S.lines sink.new)) }
+{
+    let mut pace = Pace {
+        luby: Luby::new(),
+        conflicts: 0,
+    };
+    'rounds: loop {
+        match round(search, problem, sink, budget, &mut pace)? {
+            Some(end) => return Ok(end),
+            None => {}
+        }
+    }
+}
+
+/// Propagates, and then learns, starts over or decides; it answers how the search ended, if it did.
+fn round<S: Sink>(
+    search: &mut Search,
+    problem: &Problem,
+    sink: &mut S,
+    budget: &mut Budget,
+    pace: &mut Pace,
+) -> Result<Option<End>, AllocError>
+    requires runs { Runs search.old problem.now (S.lines sink.old) }
+    ensures ends { IfOk result (λ next. IfSome next (IsEndOf search.new problem.now (S.lines sink.new) budget.new)) }
+    ensures goes { IfOk result (λ next. IfNone next (GoesOn search.old search.new problem.now (S.lines sink.new) budget.old budget.new pace.old.conflicts pace.new.conflicts)) }
+    ensures pays { Pays problem.now.given.items (S.lines sink.old) (S.lines sink.new) budget.old budget.new }
+    ensures err { OnErr result (StaysOpen problem.now (S.lines sink.new)) }
+{
+    match search.propagate()? {
+        Some(conflict) => on_conflict(search, problem, sink, budget, pace, conflict),
+        None => on_quiet(search, problem, sink, budget, pace),
+    }
+}
+
+/// Learns from a conflict, if it is above level 0 and something is left of the budget.
+fn on_conflict<S: Sink>(
+    search: &mut Search,
+    problem: &Problem,
+    sink: &mut S,
+    budget: &mut Budget,
+    pace: &mut Pace,
+    conflict: CRef,
+) -> Result<Option<End>, AllocError>
+    requires runs { Runs search.old problem.now (S.lines sink.old) }
+    requires conflict { IsFalseClause search.old.store.slots search.old.engine conflict }
+    ensures ends { IfOk result (λ next. IfSome next (IsEndOf search.new problem.now (S.lines sink.new) budget.new)) }
+    ensures goes { IfOk result (λ next. IfNone next (GoesOn search.old search.new problem.now (S.lines sink.new) budget.old budget.new pace.old.conflicts pace.new.conflicts)) }
+    ensures pays { Pays problem.now.given.items (S.lines sink.old) (S.lines sink.new) budget.old budget.new }
+    ensures err { OnErr result (StaysOpen problem.now (S.lines sink.new)) }
+{
+    if search.engine.depth() == 0 {
+        refute(search, problem, sink, conflict)?;
+        return Ok(Some(End::Refuted));
+    }
+    if budget.left() == 0 {
+        return Ok(Some(End::Spent));
+    }
+    learn(search, problem, sink, conflict)?;
+    budget.count_learned();
+    pace.conflicts = pace.conflicts.saturating_add(1);
+    reduce(search, problem, sink)?;
+    Ok(None)
+}
+
+/// Starts over or decides, if something is left of the budget.
+fn on_quiet<S: Sink>(
+    search: &mut Search,
+    problem: &Problem,
+    sink: &mut S,
+    budget: &mut Budget,
+    pace: &mut Pace,
+) -> Result<Option<End>, AllocError>
+    requires runs { Runs search.old problem.now (S.lines sink.old) }
+    requires quiet { IsQuiet search.old.store.slots (literals_of search.old.engine.trail) }
+    ensures ends { IfOk result (λ next. IfSome next (IsEndOf search.new problem.now (S.lines sink.new) budget.new)) }
+    ensures goes { IfOk result (λ next. IfNone next (GoesOn search.old search.new problem.now (S.lines sink.new) budget.old budget.new pace.old.conflicts pace.new.conflicts)) }
+    ensures pays { Pays problem.now.given.items (S.lines sink.old) (S.lines sink.new) budget.old budget.new }
+    ensures err { OnErr result (StaysOpen problem.now (S.lines sink.new)) }
+{
+    if budget.left() == 0 {
+        return Ok(Some(End::Spent));
+    }
+    if pace.conflicts > 0 && pace.conflicts / RESTART >= pace.luby.term() {
+        pace.conflicts = 0;
+        pace.luby.advance();
+        search.backtrack(0);
+        return Ok(None);
+    }
+    note_level(search, problem, sink)?;
+    if search.branch() {
+        Ok(None)
+    } else {
+        Ok(Some(End::Satisfied))
+    }
+}
+
+/// Writes down what is true at level 0, if that is the current level; above it that is done.
+fn note_level<S: Sink>(
+    search: &mut Search,
+    problem: &Problem,
+    sink: &mut S,
+) -> Result<(), AllocError>
+    requires runs { Runs search.old problem.now (S.lines sink.old) }
+    ensures runs { OnOk result (Runs search.new problem.now (S.lines sink.new)) }
+    ensures all { OnOk result (length (zero_of search.new.engine.trail) ≤ search.new.noted) }
+    ensures trail { OnOk result (search.new.engine.trail ≡ search.old.engine.trail) }
+    ensures quiet { OnOk result (IsQuiet search.old.store.slots (literals_of search.old.engine.trail) → IsQuiet search.new.store.slots (literals_of search.new.engine.trail)) }
+    ensures variables { OnOk result (search.new.engine.variables ≡ search.old.engine.variables) }
+    ensures writes { Writes problem.now.given.items (S.lines sink.old) (S.lines sink.new) 0 }
+    ensures err { OnErr result (StaysOpen problem.now (S.lines sink.new)) }
+{
+    if search.engine.depth() > 0 {
+        return Ok(());
+    }
+    note_units(search, problem, sink)
+}

@@ -1,0 +1,239 @@
+// The solver.
+ghost use Rattle.std.specs.Prelude.{◌≡◌, ℕ, ◌+◌, Bool, true, false, List, [], ◌∷◌, ◌++◌, length, Ok, Err, All, IfOk, OnOk, OnErr, IsErr, ◌↔◌, ◌⊎◌};
+ghost use Rattle.std.specs.List.{AllByRecursion};
+ghost use Rattle.wcnf.specs.Clause.{has_repeat, has_opposites};
+ghost use Rattle.lrat_log.specs.Steps.{IsLogOver, IsAcceptedLog, IsBaseOf, AddsNoEmptyClause, learned_count, IsShortLine, IsLearnedOrShort, LearnsNew, nothing_exempt};
+ghost use Rattle.cdcl_order.specs.Budgets.{left_of};
+ghost use Rattle.cdcl.specs.declared.outcome.Outcome.TheVariants.{Unsat};
+ghost use Rattle.cdcl.specs.Running.{Runs, IsProblem, IsAnswer, PaysFor, StaysOpen};
+ghost use Rattle.cdcl.specs.Solving.{given_to, IsFreshName, IsFrozen, SameGiven, GivesMore, OnSat, OnUnsat, OnLimit, answer_count, SatisfyGiven, is_refuted, IsPlainlyRefuted, IsLiveRefuted, lines_since};
+
+use crate::answers::bits;
+use crate::budget::Budget;
+use crate::giving::{are_named, give};
+use crate::outcome::{Outcome, SolveFault};
+use crate::problem::Problem;
+use crate::search::Search;
+use crate::searching::{End, run};
+use crate::starting::{given_clauses, start, store_of};
+use crate::tally::Tally;
+use eliminate::elimination::eliminate;
+use lrat_log::lines::Name;
+use lrat_log::sink::Sink;
+use std::alloc::AllocError;
+use std::marker::Model;
+use wcnf::types::{Clause, Formula, Lit};
+
+/// Decides clauses, and writes down why.
+#[derive(Drop)]
+pub struct Solver<S: Sink> {
+    search: Search,
+    problem: Problem,
+    sink: S,
+    /// The empty clause was added.
+    refuted: bool,
+    /// Memory was refused.
+    failed: bool,
+}
+
+impl<S: Sink> Model for Solver<S> {
+    ghost use Rattle.std.specs.Prelude.{map, take, drop, length};
+    ghost use Rattle.cdcl.specs.Solving.{SolverState};
+    ghost use Rattle.cdcl.specs.Running.{IsSolver};
+
+    ghost Value = { SolverState S };
+
+    ghost view = { λ s. record {
+      formula = record { variables = length s.problem.frozen.items; clauses = map (λ g. g.1) (take s.problem.first s.problem.given.items) };
+      added = drop s.problem.first s.problem.given.items;
+      frozen = s.problem.frozen.items;
+      sink = s.sink;
+      failed = s.failed;
+    } };
+
+    ghost invariant = { λ s. IsSolver s.search s.problem (S.lines s.sink) s.refuted s.failed };
+}
+
+impl<S: Sink> Solver<S> {
+    /// A solver for the formula. Clauses that come later have frozen variables alone.
+    pub fn new(formula: &Formula, frozen: &[bool], sink: S) -> Result<Self, AllocError>
+        requires frozen { length frozen.now ≡ formula.now.variables }
+        requires empty { S.lines sink ≡ [] }
+        ensures given { IfOk result (λ s. (s.formula ≡ formula.now) × (s.added ≡ []) × (s.frozen ≡ frozen.now)) }
+        ensures works { IfOk result (λ s. s.failed ≡ false) }
+        ensures lines { IfOk result (λ s. IsLogOver (given_to s) (S.lines s.sink)) }
+        ensures none_learned { IfOk result (λ s. learned_count (S.lines s.sink) ≡ 0) }
+    {
+        let _ = formula.vars();
+        let clauses = formula.clauses();
+        let mut store = store_of(clauses)?;
+        let given = given_clauses(clauses)?;
+        let first = given.len();
+        let mut tally = Tally {
+            sink,
+            additions: 0,
+            refuted: false,
+        };
+        let stack = eliminate(&mut store, frozen, &mut tally)?;
+        tally.is_short();
+        let search = start(store, &stack, tally.additions)?;
+        let frozen = Vec::from_slice(formula.allocator(), frozen)?;
+        let Tally { sink, refuted, .. } = tally;
+        Ok(Solver {
+            search,
+            problem: Problem {
+                stack,
+                frozen,
+                first,
+                given,
+            },
+            sink,
+            refuted,
+            failed: false,
+        })
+    }
+
+    /// The clauses given so far, in their order.
+    pub fn given(&self) -> &[(Name, Clause)]
+        ensures { result.now ≡ given_to self.now }
+    {
+        &self.problem.given
+    }
+
+    pub fn sink(&self) -> &S
+        ensures { result.now ≡ self.now.sink }
+    {
+        &self.sink
+    }
+
+    pub fn into_sink(self) -> S
+        ensures { result ≡ self.sink }
+    {
+        self.sink
+    }
+
+    /// Gives one more clause.
+    pub fn add_clause(&mut self, name: Name, lits: &[Lit]) -> Result<(), SolveFault>
+        requires fresh { IsFreshName (given_to self.old) name }
+        requires frozen { All (IsFrozen self.old.frozen) lits.now }
+        requires no_repeat { has_repeat lits.now ≡ false }
+        requires no_opposites { has_opposites lits.now ≡ false }
+        ensures ok { OnOk result (GivesMore self.old self.new name lits.now) }
+        ensures memory { result ≡ Err SolveFault.Memory → SameGiven self.old self.new ⊎ GivesMore self.old self.new name lits.now }
+        ensures unchanged { result ≡ Err SolveFault.Failed → SameGiven self.old self.new }
+        ensures failed { (result ≡ Err SolveFault.Failed) ↔ (self.old.failed ≡ true) }
+        ensures fails { IsErr result ↔ (self.new.failed ≡ true) }
+
+        // The lines.
+        ensures grows { S.lines self.new.sink ≡ S.lines self.old.sink ++ lines_since (S.lines self.old.sink) (S.lines self.new.sink) }
+        ensures lines { IsLogOver (given_to self.new) (S.lines self.new.sink) }
+        ensures none_learned { learned_count (lines_since (S.lines self.old.sink) (S.lines self.new.sink)) ≡ 0 }
+        ensures short { All IsShortLine (lines_since (S.lines self.old.sink) (S.lines self.new.sink)) }
+    {
+        if self.failed {
+            return Err(SolveFault::Failed);
+        }
+        let number = match name {
+            Name::Formula(number) => number.get(),
+            Name::Added(_) => unreachable!(),
+        };
+        let _ = are_named(lits);
+        match give(
+            &mut self.search,
+            &mut self.problem,
+            self.refuted,
+            number,
+            lits,
+        ) {
+            Ok(()) => Ok(()),
+            Err(_) => {
+                self.failed = true;
+                Err(SolveFault::Memory)
+            }
+        }
+    }
+
+    /// A hint for the order of decisions, on which no answer depends: the literal's variable starts at the share that its
+    /// weight has of the greatest weight so far.
+    pub fn weigh(&mut self, lit: Lit, weight: u64)
+        ensures same { self.new ≡ self.old }
+    {
+        self.search.order.weigh(lit.variable(), weight);
+    }
+
+    /// Searches until it has an answer or the budget is spent.
+    pub fn solve(&mut self, budget: &mut Budget) -> Result<Outcome, SolveFault>
+        ensures sat { OnSat result (λ bits. (length bits ≡ self.old.formula.variables) × SatisfyGiven bits (given_to self.old)) }
+        ensures unsat { OnUnsat result (IsAcceptedLog (given_to self.old) (S.lines self.new.sink)) }
+        ensures limit { OnLimit result (left_of budget.new ≡ 0) }
+
+        // Where it answers at once.
+        ensures refuted { OnOk result (IsPlainlyRefuted self.old → result ≡ Ok Outcome.Unsat) }
+        ensures propagates { OnOk result (IsLiveRefuted (given_to self.old) (S.lines self.old.sink) → result ≡ Ok Outcome.Unsat) }
+        ensures again { is_refuted (S.lines self.old.sink) ≡ true → self.old.failed ≡ false → (result ≡ Ok Outcome.Unsat) × (budget.new ≡ budget.old) }
+        ensures failed { (result ≡ Err SolveFault.Failed) ↔ (self.old.failed ≡ true) }
+        ensures fails { IsErr result ↔ (self.new.failed ≡ true) }
+
+        // The lines, at every return.
+        ensures given { SameGiven self.old self.new }
+        ensures grows { S.lines self.new.sink ≡ S.lines self.old.sink ++ lines_since (S.lines self.old.sink) (S.lines self.new.sink) }
+        ensures lines { IsLogOver (given_to self.new) (S.lines self.new.sink) }
+        ensures open { OnOk result ((result ≡ Ok Outcome.Unsat → ⊥) → AddsNoEmptyClause (S.lines self.new.sink)) }
+        ensures short { All IsLearnedOrShort (lines_since (S.lines self.old.sink) (S.lines self.new.sink)) }
+        ensures new { (base : ℕ) → IsBaseOf (given_to self.old) base
+            → LearnsNew nothing_exempt (given_to self.old) base (S.lines self.old.sink) (lines_since (S.lines self.old.sink) (S.lines self.new.sink)) }
+
+        // The effort.
+        ensures learned { budget.new.learned ≡ budget.old.learned + learned_count (lines_since (S.lines self.old.sink) (S.lines self.new.sink)) }
+        ensures answers { budget.new.answers ≡ budget.old.answers + answer_count result }
+        ensures same_limit { budget.new.limit ≡ budget.old.limit }
+    {
+        if self.failed {
+            return Err(SolveFault::Failed);
+        }
+        if self.refuted {
+            return Ok(Outcome::Unsat);
+        }
+        match answer(&mut self.search, &self.problem, &mut self.sink, budget) {
+            Ok(Outcome::Sat(bits)) => Ok(Outcome::Sat(bits)),
+            Ok(Outcome::Limit) => Ok(Outcome::Limit),
+            Ok(Outcome::Unsat) => {
+                self.refuted = true;
+                Ok(Outcome::Unsat)
+            }
+            Err(_) => {
+                self.failed = true;
+                Err(SolveFault::Memory)
+            }
+        }
+    }
+}
+
+/// Searches, and reads the bits off the trail.
+fn answer<S: Sink>(
+    search: &mut Search,
+    problem: &Problem,
+    sink: &mut S,
+    budget: &mut Budget,
+) -> Result<Outcome, AllocError>
+    requires runs { Runs search.old problem.now (S.lines sink.old) }
+    requires problem { IsProblem problem.now }
+    ensures answers { IfOk result (IsAnswer search.new problem.now (S.lines sink.new) budget.new) }
+    ensures propagates { IfOk result (λ o. IsLiveRefuted problem.now.given.items (S.lines sink.old) → o ≡ Unsat) }
+    ensures pays { PaysFor result problem.now.given.items (S.lines sink.old) (S.lines sink.new) budget.old budget.new }
+    ensures err { OnErr result (StaysOpen problem.now (S.lines sink.new)) }
+{
+    let end = run(search, problem, sink, budget)?;
+    match end {
+        End::Satisfied => {
+            let bits = bits(search, problem)?;
+            budget.count_answer();
+            Ok(Outcome::Sat(bits))
+        }
+        End::Refuted => Ok(Outcome::Unsat),
+        End::Spent => Ok(Outcome::Limit),
+    }
+}
+
+#[cfg(test)]
+mod tests;

@@ -1,0 +1,124 @@
+// A search over what elimination has left of a formula.
+ghost use Rattle.std.specs.Prelude.{◌≡◌, ◌<◌, ◌^◌, false, true, [], Some, map, length, All, IfOk};
+ghost use Rattle.wcnf.specs.Clause.{has_repeat};
+ghost use Rattle.wcnf.specs.Lrat.{IsId};
+ghost use Rattle.propagate.specs.Watches.{is_attached};
+ghost use Rattle.propagate.specs.Fits.{Fits};
+ghost use Rattle.lrat_log.specs.Log.{number_in};
+ghost use Rattle.cdcl.specs.Invariant.{name_at};
+ghost use Rattle.cdcl.specs.Starts.{AreRising, IsLiveWithin, IsStarted};
+ghost use Rattle.lrat_log.specs.Steps.{given_of};
+
+use crate::search::Search;
+use analyze::learning::Analyzer;
+use cdcl_order::order::Order;
+use clauses::store::{CRef, MaybeCRef, Store};
+use eliminate::elimination::Stack;
+use lrat_log::lines::{Name, Number};
+use propagate::engine::Engine;
+use std::alloc::{AllocError, Global};
+use wcnf::clause_list::ClauseList;
+use wcnf::types::Clause;
+
+/// A store of these clauses, in their order.
+pub(crate) fn store_of(clauses: &ClauseList) -> Result<Store, AllocError>
+    ensures { IfOk result (λ store. store.slots ≡ map Some clauses.now) }
+{
+    let mut store = Store::new(clauses.allocator());
+    for place in 0..clauses.len() {
+        store.add(clauses.get(place))?;
+    }
+    Ok(store)
+}
+
+/// The clauses of a formula by name.
+pub(crate) fn given_clauses(clauses: &ClauseList) -> Result<Vec<(Name, Clause)>, AllocError>
+    requires once { All (λ c. has_repeat c ≡ false) clauses.now }
+    ensures given { IfOk result (λ given. given.items ≡ given_of clauses.now) }
+    ensures few { IfOk result (λ _. length clauses.now < 2 ^ 61) }
+{
+    // The names of clauses stay below 2^62.
+    if clauses.len() >= 1 << 61 {
+        return Err(AllocError);
+    }
+    let alloc = clauses.allocator();
+    let mut given = Vec::new(alloc);
+    for place in 0..clauses.len() {
+        let lits = Vec::from_slice(alloc, clauses.get(place))?;
+        let number = Number::new(place as u64 + 1);
+        given.push((Name::Formula(number), Clause::new(lits)))?;
+    }
+    Ok(given)
+}
+
+/// The names of the clauses by place.
+fn names_of(alloc: Global, places: usize, listed: &[(CRef, Name)]) -> Result<Vec<Name>, AllocError>
+    requires within { All (λ n. n.0 < places) listed.now }
+    requires rising { AreRising listed.now }
+    requires numbers { All (λ n. IsId (number_in n.1)) listed.now }
+    ensures long { IfOk result (λ names. length names.items ≡ places) }
+    ensures named { IfOk result (λ names. All (λ n. name_at names.items n.0 ≡ n.1) listed.now) }
+    ensures numbers { IfOk result (λ names. All (λ n. IsId (number_in n)) names.items) }
+{
+    let mut names = Vec::from_elem(alloc, Name::Formula(Number::new(1)), places)?;
+    for (reference, name) in listed {
+        names[reference.index()] = *name;
+    }
+    Ok(names)
+}
+
+/// An engine in which each of these clauses is attached.
+fn engine_of(
+    alloc: Global,
+    store: &Store,
+    variables: u32,
+    listed: &[(CRef, Name)],
+) -> Result<Engine, AllocError>
+    requires rising { AreRising listed.now }
+    requires live { All (λ n. IsLiveWithin store.now.slots variables n.0) listed.now }
+    ensures fits { IfOk result (λ e. Fits e store.now.slots) }
+    ensures fresh { IfOk result (λ e. (e.trail ≡ []) × (e.variables ≡ variables) × (e.failed ≡ false)) }
+    ensures attached { IfOk result (λ e. All (λ n. is_attached e n.0 ≡ true) listed.now) }
+{
+    let mut engine = Engine::new(alloc, variables)?;
+    for (reference, _) in listed {
+        match engine.attach(store, *reference) {
+            Ok(()) => {}
+            Err(_) => return Err(AllocError),
+        }
+    }
+    Ok(engine)
+}
+
+/// A search at level 0 over a store.
+pub(crate) fn start(store: Store, stack: &Stack, additions: u64) -> Result<Search, AllocError>
+    requires few { stack.now.variables < 2 ^ 27 }
+    requires within { All (λ n. n.0 < length store.slots) stack.now.names }
+    requires rising { AreRising stack.now.names }
+    requires numbers { All (λ n. IsId (number_in n.1)) stack.now.names }
+    requires live { All (λ n. IsLiveWithin store.slots stack.now.variables n.0) stack.now.names }
+    ensures { IfOk result (IsStarted store.slots stack.now additions) }
+{
+    let alloc = store.allocator();
+    let variables = stack.vars();
+    let names = names_of(alloc, store.places(), stack.names())?;
+    let engine = engine_of(alloc, &store, variables, stack.names())?;
+    let units = Vec::from_elem(alloc, MaybeCRef::new(None), variables as usize)?;
+    let stamps = Vec::from_elem(alloc, 0, variables as usize)?;
+    let order = Order::new(alloc, variables)?;
+    let analyzer = Analyzer::new(alloc, variables)?;
+    Ok(Search {
+        store,
+        engine,
+        names,
+        units,
+        noted: 0,
+        kept: additions,
+        additions,
+        stamps,
+        order,
+        analyzer,
+        long: 0,
+        reductions: 0,
+    })
+}

@@ -1,0 +1,39 @@
+// A sink that counts what passes through it.
+ghost use Rattle.std.specs.Prelude.{◌≡◌, [], ◌∷◌, ◌++◌, ◌<◌, ◌^◌, length, OnOk, OnErr};
+ghost use Rattle.lrat_log.specs.Steps.{added_count};
+ghost use Rattle.cdcl.specs.Solving.{is_refuted};
+
+use lrat_log::lines::Line;
+use lrat_log::sink::Sink;
+use std::alloc::AllocError;
+
+/// The sink of a solver while clauses are eliminated, which knows how many additions it has taken, and whether the empty
+/// clause was one of them.
+#[derive(Drop)]
+pub(crate) struct Tally<S: Sink> {
+    pub(crate) sink: S,
+    pub(crate) additions: u64,
+    pub(crate) refuted: bool,
+    ghost counted: { additions ≡ added_count (S.lines sink) },
+    ghost told: { refuted ≡ is_refuted (S.lines sink) },
+}
+
+impl<S: Sink> Sink for Tally<S> {
+    ghost lines = { λ t. S.lines t.sink };
+
+    fn append(&mut self, line: Line) -> Result<(), AllocError> {
+        self.sink.is_short();
+        let adds = !line.kind().is_delete();
+        let empty = line.lits().is_empty();
+        self.sink.append(line)?;
+        if adds {
+            self.additions += 1;
+            self.refuted = self.refuted || empty;
+        }
+        Ok(())
+    }
+
+    fn is_short(&self) {
+        self.sink.is_short();
+    }
+}

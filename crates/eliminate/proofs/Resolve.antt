@@ -1,0 +1,231 @@
+-- Resolvents, strengthened clauses and units are RUP lines by the hints that their makers know.
+use Rattle.std.proofs.Common.{◌≡◌, ℕ, Bool, true, false, not, ◌&&◌, List, [], ◌∷◌, ◌++◌, map, filter, Some, ◌⊎◌, inl, inr, refl, sym, ◌∙◌, ap, subst}
+use Rattle.std.specs.Prelude.{if◌then◌else◌, ◌==◌}
+use Rattle.std.specs.List.{AllByRecursion}
+use Rattle.std.proofs.lemmas.Bool.{or_cases, or_parts, or_left, or_right, or_from, and_parts, both_ways, false_from_ne_true, false≢true, eq-eqb}
+use Rattle.wcnf.specs.Literal.{Literal, negation, literal_eq, same_bool}
+use Rattle.wcnf.specs.Clause.{contains_literal, without_literal, has_opposites}
+use Rattle.wcnf.specs.Refute.{IsUnit, IsFalseUnder, Clauses, Refutes}
+use Rattle.eliminate.specs.Resolvents.{resolvent}
+use Rattle.wcnf.proofs.Sound.{literal_eq-true}
+
+same_bool-not : (a b : Bool) → same_bool (not a) (not b) ≡ same_bool a b
+same_bool-not true true = refl
+same_bool-not true false = refl
+same_bool-not false true = refl
+same_bool-not false false = refl
+
+same_bool-self : (a : Bool) → same_bool a a ≡ true
+same_bool-self true = refl
+same_bool-self false = refl
+
+pub not_not : (a : Bool) → not (not a) ≡ a
+not_not true = refl
+not_not false = refl
+
+pub negation_twice : (l : Literal) → negation (negation l) ≡ l
+negation_twice l = λ i. record { variable = l.variable; negated = not_not l.negated i }
+
+pub literal_eq-self : (l : Literal) → literal_eq l l ≡ true
+literal_eq-self l = simp (eq-eqb l.variable l.variable refl, same_bool-self)
+
+pub literal_eq-negation : (k l : Literal) → literal_eq (negation k) (negation l) ≡ literal_eq k l
+literal_eq-negation k l = ap (λ b. (k.variable == l.variable) && b) (same_bool-not k.negated l.negated)
+
+-- a literal's negation is among the negations just where the literal is in the clause
+pub contains-negations : (k : Literal) (c : List Literal) → contains_literal (negation k) (map negation c) ≡ contains_literal k c
+contains-negations k [] = refl
+contains-negations k (l ∷ c) = rw (literal_eq-negation, contains-negations k c)
+
+pub contains-twice : (k : Literal) (c : List Literal) → contains_literal k (map negation c) ≡ contains_literal (negation k) c
+contains-twice k c = ap (λ x. contains_literal x (map negation c)) (sym (negation_twice k)) ∙ contains-negations (negation k) c
+
+-- each literal of c but p is in r
+abbrev pub Covers : Literal → List Literal → List Literal → Type 0
+Covers p r c = AllByRecursion (λ k. (k ≡ p) ⊎ (contains_literal k r ≡ true)) c
+
+covered_others : (p : Literal) (r c : List Literal) → Covers p r c → AllByRecursion (λ k. (k ≡ p) ⊎ (contains_literal (negation k) (map negation r) ≡ true)) c
+covered_others p r [] h = tt
+covered_others p r (k ∷ c) h = (elim h.0 [ inl e ↦ inl e | inr e ↦ inr (contains-negations k r ∙ e) ], covered_others p r c h.1)
+
+-- a clause with p is unit with p where the rest is false
+pub covered_unit : (p : Literal) (r c : List Literal) → contains_literal p c ≡ true → Covers p r c → contains_literal p r ≡ false → contains_literal (negation p) r ≡ false → IsUnit c (map negation r) p
+covered_unit p r c member covers apart apart_not = record {
+  member = member;
+  not_true = contains-twice p r ∙ apart_not;
+  not_false = contains-negations p r ∙ apart;
+  others = covered_others p r c covers;
+}
+
+covered_false : (p : Literal) (r d : List Literal) → Covers (negation p) r d → IsFalseUnder d (p ∷ map negation r)
+covered_false p r [] h = tt
+covered_false p r (k ∷ d) h = (
+  elim h.0 [
+    | inl e ↦ subst (λ x. contains_literal (negation x) (p ∷ map negation r) ≡ true) (sym e) (or_left (literal_eq (negation (negation p)) p) (contains_literal (negation (negation p)) (map negation r)) (subst (λ x. literal_eq x p ≡ true) (sym (negation_twice p)) (literal_eq-self p)))
+    | inr e ↦ or_right (literal_eq (negation k) p) (contains_literal (negation k) (map negation r)) (contains-negations k r ∙ e)
+  ],
+  covered_false p r d h.1,
+)
+
+-- two clauses that cover r but for p and its negation refute the negations of r, in this order
+pub two_refute : (at : Clauses) (p : Literal) (r c d : List Literal) (i j : ℕ) → at i ≡ Some c → at j ≡ Some d
+    → contains_literal p c ≡ true → Covers p r c → Covers (negation p) r d
+    → contains_literal p r ≡ false → contains_literal (negation p) r ≡ false
+    → Refutes at (map negation r) (i ∷ j ∷ [])
+two_refute at p r c d i j first second member covers_c covers_d apart apart_not = record {
+  front = i ∷ [];
+  final = j;
+  split = refl;
+  reached = p ∷ map negation r;
+  leads = (c, p, first, covered_unit p r c member covers_c apart apart_not, refl);
+  clause = d;
+  live = second;
+  conflict = covered_false p r d covers_d;
+}
+
+contains_same : (k l : Literal) (c : List Literal) → k ≡ l → contains_literal k c ≡ contains_literal l c
+contains_same k l c e = ap (λ x. contains_literal x c) e
+
+-- what passes a test stays in the list
+pub contains-filter : (q : Literal → Bool) (k : Literal) (c : List Literal) → contains_literal k c ≡ true → q k ≡ true → contains_literal k (filter q c) ≡ true
+contains-filter q k [] e t = e
+contains-filter q k (l ∷ c) e t =
+    elim (or_cases (literal_eq k l) (contains_literal k c) e) [
+      | inl h ↦ rw (sym (ap q (literal_eq-true k l h)) ∙ t) (or_left (literal_eq k l) (contains_literal k (filter q c)) h)
+      | inr h ↦ elim (q l) as (λ b. contains_literal k (if b then l ∷ filter q c else filter q c) ≡ true) [
+        | true ↦ or_right (literal_eq k l) (contains_literal k (filter q c)) (contains-filter q k c h t)
+        | false ↦ contains-filter q k c h t
+      ]
+    ]
+
+-- and what is in it was in the list, and passes
+pub filter-contains : (q : Literal → Bool) (k : Literal) (c : List Literal) → contains_literal k (filter q c) ≡ true → (contains_literal k c ≡ true) × (q k ≡ true)
+filter-contains q k [] e = absurd (false≢true e)
+filter-contains q k (l ∷ c) e =
+    elim (q l) as (λ b. q l ≡ b → contains_literal k (if b then l ∷ filter q c else filter q c) ≡ true → (contains_literal k (l ∷ c) ≡ true) × (q k ≡ true)) [
+      | true ↦ λ t h. elim (or_cases (literal_eq k l) (contains_literal k (filter q c)) h) [
+        | inl same ↦ (or_left (literal_eq k l) (contains_literal k c) same, ap q (literal_eq-true k l same) ∙ t)
+        | inr more ↦ let m = filter-contains q k c more in (or_right (literal_eq k l) (contains_literal k c) m.0, m.1)
+      ]
+      | false ↦ λ t h. let m = filter-contains q k c h in (or_right (literal_eq k l) (contains_literal k c) m.0, m.1)
+    ] refl e
+
+pub contains-left : (k : Literal) (c d : List Literal) → contains_literal k c ≡ true → contains_literal k (c ++ d) ≡ true
+contains-left k [] d e = absurd (false≢true e)
+contains-left k (l ∷ c) d e =
+    elim (or_cases (literal_eq k l) (contains_literal k c) e) [
+      | inl h ↦ or_left (literal_eq k l) (contains_literal k (c ++ d)) h
+      | inr h ↦ or_right (literal_eq k l) (contains_literal k (c ++ d)) (contains-left k c d h)
+    ]
+
+pub contains-right : (k : Literal) (c d : List Literal) → contains_literal k d ≡ true → contains_literal k (c ++ d) ≡ true
+contains-right k [] d e = e
+contains-right k (l ∷ c) d e = or_right (literal_eq k l) (contains_literal k (c ++ d)) (contains-right k c d e)
+
+pub contains-either : (k : Literal) (c d : List Literal) → contains_literal k (c ++ d) ≡ true → (contains_literal k c ≡ true) ⊎ (contains_literal k d ≡ true)
+contains-either k [] d e = inr e
+contains-either k (l ∷ c) d e =
+    elim (or_cases (literal_eq k l) (contains_literal k (c ++ d)) e) [
+      | inl h ↦ inl (or_left (literal_eq k l) (contains_literal k c) h)
+      | inr h ↦ elim (contains-either k c d h) [
+        | inl m ↦ inl (or_right (literal_eq k l) (contains_literal k c) m)
+        | inr m ↦ inr m
+      ]
+    ]
+
+-- each literal of c is p or has the test
+pub each_literal : (P : Literal → Type 0) (c : List Literal) → ((k : Literal) → contains_literal k c ≡ true → P k) → AllByRecursion P c
+each_literal P [] f = tt
+each_literal P (k ∷ c) f =
+    (f k (or_left (literal_eq k k) (contains_literal k c) (literal_eq-self k)), each_literal P c (λ l h. f l (or_right (literal_eq l k) (contains_literal l c) h)))
+
+pub without-contains : (p k : Literal) (c : List Literal) → contains_literal k c ≡ true → (k ≡ p) ⊎ (contains_literal k (without_literal p c) ≡ true)
+without-contains p k c e =
+    elim (literal_eq p k) as (λ b. literal_eq p k ≡ b → (k ≡ p) ⊎ (contains_literal k (without_literal p c) ≡ true)) [
+      | true ↦ λ h. inl (sym (literal_eq-true p k h))
+      | false ↦ λ h. inr (contains-filter (λ l. not (literal_eq p l)) k c e (ap not h))
+    ] refl
+
+pub not-without : (p : Literal) (c : List Literal) → contains_literal p (without_literal p c) ≡ false
+not-without p c = false_from_ne_true (contains_literal p (without_literal p c)) (λ e.
+    both_ways (literal_eq p p) (sym (not_not (literal_eq p p)) ∙ ap not (filter-contains (λ l. not (literal_eq p l)) p c e).1) (literal_eq-self p))
+
+pub resolvent-covers_left : (p : Literal) (c d : List Literal) → Covers p (resolvent p c d) c
+resolvent-covers_left p c d = each_literal (λ k. (k ≡ p) ⊎ (contains_literal k (resolvent p c d) ≡ true)) c (λ k e.
+    elim (without-contains p k c e) [
+      | inl h ↦ inl h
+      | inr h ↦ inr (contains-left k (without_literal p c) _ h)
+    ])
+
+in_rest : (k : Literal) (a b : List Literal) → contains_literal k b ≡ true → contains_literal k (a ++ filter (λ k. not (contains_literal k a)) b) ≡ true
+in_rest k a b e =
+    elim (contains_literal k a) as (λ v. contains_literal k a ≡ v → contains_literal k (a ++ filter (λ k. not (contains_literal k a)) b) ≡ true) [
+      | true ↦ λ h. contains-left k a _ h
+      | false ↦ λ h. contains-right k a _ (contains-filter (λ k. not (contains_literal k a)) k b e (ap not h))
+    ] refl
+
+pub resolvent-covers_right : (p : Literal) (c d : List Literal) → Covers (negation p) (resolvent p c d) d
+resolvent-covers_right p c d = each_literal (λ k. (k ≡ negation p) ⊎ (contains_literal k (resolvent p c d) ≡ true)) d (λ k e.
+    elim (without-contains (negation p) k d e) [
+      | inl h ↦ inl h
+      | inr h ↦ inr (in_rest k (without_literal p c) (without_literal (negation p) d) h)
+    ])
+
+-- a literal of the resolvent is one of the parents', less the pivot
+pub resolvent-parts : (p k : Literal) (c d : List Literal) → contains_literal k (resolvent p c d) ≡ true
+    → (contains_literal k (without_literal p c) ≡ true) ⊎ (contains_literal k (without_literal (negation p) d) ≡ true)
+resolvent-parts p k c d e =
+    elim (contains-either k (without_literal p c) _ e) [
+      | inl h ↦ inl h
+      | inr h ↦ inr (filter-contains (λ k. not (contains_literal k (without_literal p c))) k (without_literal (negation p) d) h).0
+    ]
+
+literal_eq-other : (l : Literal) → literal_eq (negation l) l ≡ false
+literal_eq-other l = false_from_ne_true (literal_eq (negation l) l) (λ e. other l.negated (and_parts (l.variable == l.variable) (same_bool (not l.negated) l.negated) e).1)
+  where
+    other : (b : Bool) → same_bool (not b) b ≡ true → ⊥
+    other true e = false≢true e
+    other false e = false≢true e
+
+-- a clause without opposites that has a literal has not its negation
+pub not-opposite : (p : Literal) (c : List Literal) → has_opposites c ≡ false → contains_literal p c ≡ true → contains_literal (negation p) c ≡ false
+not-opposite p [] o e = refl
+not-opposite p (k ∷ c) o e =
+    let h = or_parts (contains_literal (negation k) c) (has_opposites c) o in
+    elim (or_cases (literal_eq p k) (contains_literal p c) e) [
+      | inl same ↦ subst (λ x. contains_literal (negation x) (k ∷ c) ≡ false) (sym (literal_eq-true p k same)) (or_from (literal_eq (negation k) k) (contains_literal (negation k) c) (literal_eq-other k) h.0)
+      | inr more ↦ or_from (literal_eq (negation p) k) (contains_literal (negation p) c)
+          (false_from_ne_true (literal_eq (negation p) k) (λ x. both_ways (contains_literal (negation k) c) h.0
+          (contains_same (negation k) p c (ap negation (sym (literal_eq-true (negation p) k x)) ∙ negation_twice p) ∙ more)))
+          (not-opposite p c h.1 more)
+    ]
+
+pub resolvent-open : (p : Literal) (c d : List Literal) → contains_literal p d ≡ false → contains_literal p (resolvent p c d) ≡ false
+resolvent-open p c d n = false_from_ne_true (contains_literal p (resolvent p c d)) (λ e. elim (resolvent-parts p p c d e) [
+  | inl h ↦ both_ways (contains_literal p (without_literal p c)) (not-without p c) h
+  | inr h ↦ both_ways (contains_literal p d) n (filter-contains (λ l. not (literal_eq (negation p) l)) p d h).0
+])
+
+pub resolvent-open_not : (p : Literal) (c d : List Literal) → contains_literal (negation p) c ≡ false → contains_literal (negation p) (resolvent p c d) ≡ false
+resolvent-open_not p c d n = false_from_ne_true (contains_literal (negation p) (resolvent p c d)) (λ e. elim (resolvent-parts p (negation p) c d e) [
+  | inl h ↦ both_ways (contains_literal (negation p) c) n (filter-contains (λ l. not (literal_eq p l)) (negation p) c h).0
+  | inr h ↦ both_ways (contains_literal (negation p) (without_literal (negation p) d)) (not-without (negation p) d) h
+])
+
+-- what is asked of two parents
+pub record AreParents (at : Clauses) (p : Literal) (c d : List Literal) (i j : ℕ) : Type 0 where
+  pub first : at i ≡ Some c
+  pub second : at j ≡ Some d
+  pub has : contains_literal p c ≡ true
+  pub has_not : contains_literal (negation p) d ≡ true
+  pub plain : has_opposites c ≡ false
+  pub plain_too : has_opposites d ≡ false
+
+pub not-opposite_too : (p : Literal) (d : List Literal) → has_opposites d ≡ false → contains_literal (negation p) d ≡ true → contains_literal p d ≡ false
+not-opposite_too p d o e = contains_same p (negation (negation p)) d (sym (negation_twice p)) ∙ not-opposite (negation p) d o e
+
+-- a resolvent is a RUP line by its parents, the one with the pivot first; has_opposites of the resolvent does not matter for that
+pub resolvent_refutes : (at : Clauses) (p : Literal) (c d : List Literal) (i j : ℕ) → AreParents at p c d i j → Refutes at (map negation (resolvent p c d)) (i ∷ j ∷ [])
+resolvent_refutes at p c d i j a = two_refute at p (resolvent p c d) c d i j a.first a.second a.has
+    (resolvent-covers_left p c d) (resolvent-covers_right p c d)
+    (resolvent-open p c d (not-opposite_too p d a.plain_too a.has_not)) (resolvent-open_not p c d (not-opposite p c a.plain a.has))

@@ -1,0 +1,13 @@
+-- Nothing is done where the empty clause is there.
+use Rattle.std.proofs.Common.{◌≡◌}
+use Rattle.std.proofs.lemmas.Bool.{both_ways}
+use Rattle.eliminate.proofs.elimination.simplify_open.Goals as goal
+
+pub returns-then-simplifier-clause-simplified : goal.returns-then-simplifier-clause-simplified
+returns-then-simplifier-clause-simplified g c start same h = h
+
+pub returns-then-simplifier-clause-refuted : goal.returns-then-simplifier-clause-refuted
+returns-then-simplifier-clause-refuted g c e = e
+
+pub returns-clause-refuted : goal.returns-clause-refuted
+returns-clause-refuted g c e = absurd (both_ways _ c.if-simplifier.false e)

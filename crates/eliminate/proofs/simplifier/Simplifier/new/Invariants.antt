@@ -1,0 +1,9 @@
+use Rattle.std.proofs.Common.{◌≡◌, ◌*◌, take, length}
+use Rattle.eliminate.specs.Rows.{AreRows}
+use Rattle.eliminate.proofs.simplifier.Simplifier.new.Given as goal
+
+abbrev pub invariant-loop-place : goal.invariant-loop-place
+invariant-loop-place l = record {
+  rows : AreRows l.occurrences (take l.place l.store.slots);
+  places : length l.occurrences ≡ 2 * l.vars;
+}

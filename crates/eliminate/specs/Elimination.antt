@@ -1,0 +1,73 @@
+-- Eliminated variables, and how they get their values back.
+use Rattle.std.specs.Prelude.{◌≡◌, ℕ, ◌-◌, ◌<◌, ◌≤◌, Bool, false, not, ◌&&◌, List, [], ◌∷◌, length, map, Some, slice_get, slice_set, slice_index_or, All, Contains, ◌==◌, nat_eq}
+use Rattle.std.specs.List.{list_any, IsDistinct}
+use Rattle.wcnf.specs.Literal.{Literal, Assignment, literal_value}
+use Rattle.wcnf.specs.Clause.{Satisfies, contains_literal, without_literal}
+use Rattle.wcnf.specs.Refute.{Clauses}
+use Rattle.wcnf.specs.Bits.{assignment_of}
+use Rattle.clauses.specs.Slots.{Slots, clause_at, live_places}
+use Rattle.lrat_log.specs.declared.lines.Name.{Name}
+use Rattle.lrat_log.specs.declared.lines.Name.TheVariants.{Formula}
+use Rattle.lrat_log.specs.Log.{id_of, number_in}
+
+-- a variable and the clauses that were removed with it
+pub record Removed : Type 0 where
+  pub variable : ℕ
+  pub clauses : List (List Literal)
+
+-- a variable that may stand in the bits
+abbrev pub IsRemovedWithin : ℕ → Removed → Type 0
+IsRemovedWithin variables r = (0 < r.variable) × (r.variable ≤ variables)
+
+-- in the order of elimination
+pub record StackState : Type 0 where
+  pub variables : ℕ
+  pub removed : List Removed
+  pub names : List (ℕ × Name)
+
+abbrev pub positive : ℕ → Literal
+positive v = record { variable = v; negated = false }
+
+-- the clause has the literal, and is otherwise false
+abbrev pub is_needed : Assignment → Literal → List Literal → Bool
+is_needed t l c = contains_literal l c && not (list_any (literal_value t) (without_literal l c))
+
+-- some removed clause with the variable is otherwise false
+abbrev pub becomes_true : Assignment → Removed → Bool
+becomes_true t r = list_any (is_needed t (positive r.variable)) r.clauses
+
+-- the eliminated variables get their values, the last eliminated first
+abbrev pub extended : List Removed → List Bool → List Bool
+extended [] bits = bits
+extended (r ∷ rs) bits = slice_set (extended rs bits) (r.variable - 1) (becomes_true (assignment_of (extended rs bits)) r)
+
+abbrev pub is_eliminated : List Removed → ℕ → Bool
+is_eliminated removed v = list_any (λ r. r.variable == v) removed
+
+-- the variable is one of the clauses before, and not frozen
+abbrev pub IsFree : List Bool → ℕ → Type 0
+IsFree frozen v = (0 < v) × (slice_get frozen (v - 1) ≡ Some false)
+
+-- no clause has an eliminated variable
+abbrev pub AreFreeOf : List Removed → List (List Literal) → Type 0
+AreFreeOf removed cs = All (All (λ l. is_eliminated removed l.variable ≡ false)) cs
+
+abbrev pub SatisfiesAll : Assignment → List (List Literal) → Type 0
+SatisfiesAll t cs = All (Satisfies t) cs
+
+-- what satisfies the clauses after satisfies those before, once it is extended
+abbrev pub ExtendsBack : StackState → List (List Literal) → List (List Literal) → Type 0
+ExtendsBack stack before after = (bits : List Bool) → stack.variables ≤ length bits
+    → SatisfiesAll (assignment_of bits) after → SatisfiesAll (assignment_of (extended stack.removed bits)) before
+
+-- the store holds just what is live, each clause under an id of its own
+pub record HoldsWhatIsLive (slots : Slots) (names : List (ℕ × Name)) (base : ℕ) (at : Clauses) : Type 0 where
+  pub from_one : All (λ n. 0 < number_in n.1) names
+  pub listed : map (λ n. n.0) names ≡ live_places slots
+  pub differ : IsDistinct nat_eq (map (λ n. id_of base n.1) names)
+  pub named : All (λ n. at (id_of base n.1) ≡ clause_at slots n.0) names
+  pub only : (i : ℕ) (c : List Literal) → at i ≡ Some c → Contains (map (λ n. id_of base n.1) names) i
+
+-- the live places with their names
+abbrev pub listed_names : List Name → Slots → List (ℕ × Name)
+listed_names names slots = map (λ r. (r, slice_index_or names r (Formula 1))) (live_places slots)

@@ -1,0 +1,12 @@
+pub mod Elimination
+pub mod Flat
+pub mod Pairs
+pub mod Resolvents
+pub mod Rows
+pub mod Simplifier
+pub mod State
+pub mod Subsuming
+pub mod Units
+pub mod Variables
+pub mod Vectors
+pub mod Work

@@ -1,0 +1,40 @@
+-- Rows of references, one for each literal.
+use Rattle.std.specs.Prelude.{◌≡◌, ℕ, ◌<◌, Bool, true, false, List, [], ◌∷◌, ◌++◌, length, Option, Some, None, slice_index_or, slice_set, Contains, fold, map, unwrap_or}
+use Rattle.wcnf.specs.Literal.{Literal, index_of}
+use Rattle.wcnf.specs.Clause.{contains_literal}
+use Rattle.clauses.specs.Slots.{Slots, clause_at}
+
+abbrev pub row_at : List (List ℕ) → ℕ → List ℕ
+row_at rows i = slice_index_or rows i []
+
+abbrev pub with_row : List (List ℕ) → ℕ → List ℕ → List (List ℕ)
+with_row rows i row = slice_set rows i row
+
+-- a reference more in the row of a literal
+abbrev pub with_entry : ℕ → List (List ℕ) → Literal → List (List ℕ)
+with_entry r rows l = with_row rows (index_of l) (row_at rows (index_of l) ++ r ∷ [])
+
+-- a clause in the rows of its literals
+abbrev pub with_clause_rows : List (List ℕ) → List Literal → ℕ → List (List ℕ)
+with_clause_rows rows c r = fold (with_entry r) rows c
+
+-- the clause under a reference; without literals, where there is none
+abbrev pub clause_under : Slots → ℕ → List Literal
+clause_under slots r = unwrap_or (clause_at slots r) []
+
+abbrev pub clauses_under : Slots → List ℕ → List (List Literal)
+clauses_under slots references = map (clause_under slots) references
+
+abbrev pub is_some : Option (List Literal) → Bool
+is_some None = false
+is_some (Some c) = true
+
+-- whether the store has a clause under this reference
+abbrev pub has_clause : Slots → ℕ → Bool
+has_clause slots r = is_some (clause_at slots r)
+
+-- each live clause stands in the rows of its literals, and live ones in no others; what stands in a row was added before
+pub record AreRows (rows : List (List ℕ)) (slots : Slots) : Type 0 where
+  pub complete : (r : ℕ) (c : List Literal) (l : Literal) → clause_at slots r ≡ Some c → contains_literal l c ≡ true → Contains (row_at rows (index_of l)) r
+  pub right : (r : ℕ) (c : List Literal) (l : Literal) → 0 < l.variable → clause_at slots r ≡ Some c → Contains (row_at rows (index_of l)) r → contains_literal l c ≡ true
+  pub before : (i r : ℕ) → Contains (row_at rows i) r → r < length slots

@@ -1,0 +1,138 @@
+// Elimination, and the way back.
+ghost use Rattle.std.specs.Prelude.{◌≡◌, ℕ, ◌+◌, ◌-◌, ◌<◌, ◌≤◌, ◌^◌, Bool, true, false, List, [], length, map, Some, slice_get, All, Contains, IfOk, OnOk, OnErr};
+ghost use Rattle.wcnf.specs.Formula.{IsFormula, IsFormulaClause};
+ghost use Rattle.wcnf.specs.Refute.{IsRefutedByHints};
+ghost use Rattle.clauses.specs.Slots.{live_clauses};
+ghost use Rattle.lrat_log.specs.Steps.{StaysLogOver, IsBaseOf, learned_count, log_live, given_of};
+ghost use Rattle.eliminate.specs.Variables.{IsSimplifierOver, StaysOver, LeavesLogOver};
+ghost use Rattle.eliminate.specs.Elimination.{extended, is_eliminated, IsFree, AreFreeOf, ExtendsBack, HoldsWhatIsLive, listed_names};
+
+use crate::ending::define_where_open;
+use crate::names::Names;
+use crate::rounds::simplify;
+use crate::simplifier::Simplifier;
+use crate::stack::Removals;
+use crate::units::propagate_units;
+use clauses::store::{CRef, Store};
+use lrat_log::lines::Name;
+use lrat_log::sink::Sink;
+use std::alloc::AllocError;
+use std::marker::Model;
+use wcnf::types::Lit;
+
+/// The eliminated variables, and the names of the clauses that are left.
+#[derive(Drop)]
+pub struct Stack {
+    vars: u32,
+    removed: Removals,
+    names: Vec<(CRef, Name)>,
+}
+
+impl Model for Stack {
+    ghost use Rattle.std.specs.Prelude.{All};
+    ghost use Rattle.eliminate.specs.Elimination.{StackState, IsRemovedWithin};
+
+    ghost Value = { StackState };
+
+    ghost view = { λ s. record { variables = s.vars; removed = s.removed; names = s.names.items } };
+
+    ghost invariant = { λ s. All (IsRemovedWithin s.vars) s.removed };
+}
+
+impl Stack {
+    /// The number of variables, with the fresh ones.
+    pub fn vars(&self) -> u32
+        ensures { result ≡ self.now.variables }
+    {
+        self.vars
+    }
+
+    /// Each live reference of the store with the name of its clause.
+    pub fn names(&self) -> &[(CRef, Name)]
+        ensures { result.now ≡ self.now.names }
+    {
+        &self.names
+    }
+
+    /// Sets the eliminated variables, the last eliminated first: each becomes true just where some removed clause with it is
+    /// otherwise false. All other variables keep their values.
+    pub fn extend(&self, bits: &mut [bool])
+        requires { length bits.old ≡ self.now.variables }
+        ensures set { bits.new ≡ extended self.now.removed bits.old }
+        ensures others { (v : ℕ) → is_eliminated self.now.removed (v + 1) ≡ false → slice_get bits.new v ≡ slice_get bits.old v }
+    {
+        self.removed.extend(bits);
+    }
+}
+
+/// Eliminates variables that are not frozen, and writes down what it adds and deletes.
+///
+/// The i-th live clause is the clause i of a formula. After an `Err` nothing is known of the store.
+pub fn eliminate<S: Sink>(
+    store: &mut Store,
+    frozen: &[bool],
+    sink: &mut S,
+) -> Result<Stack, AllocError>
+    requires formula { IsFormula (record { variables = length frozen.now; clauses = live_clauses store.old.slots }) }
+    requires empty { S.lines sink.old ≡ [] }
+
+    // The lines, also after an error.
+    ensures lines { StaysLogOver (length frozen.now) (given_of (live_clauses store.old.slots)) (S.lines sink.new) }
+    ensures none_learned { learned_count (S.lines sink.new) ≡ 0 }
+
+    // What is left in the store.
+    ensures live { IfOk result (λ stack. (base : ℕ) → IsBaseOf (given_of (live_clauses store.old.slots)) base
+        → HoldsWhatIsLive store.new.slots stack.names base (log_live (given_of (live_clauses store.old.slots)) base (S.lines sink.new))) }
+    ensures left { IfOk result (λ stack. All (IsFormulaClause stack.variables) (live_clauses store.new.slots)) }
+    ensures variables { IfOk result (λ stack. (length frozen.now ≤ stack.variables) × (stack.variables ≤ length frozen.now + 2 ^ 20)) }
+    ensures free { IfOk result (λ stack. AreFreeOf stack.removed (live_clauses store.new.slots)) }
+    ensures not_frozen { IfOk result (λ stack. All (λ r. IsFree frozen.now r.variable) stack.removed) }
+    ensures back { IfOk result (λ stack. ExtendsBack stack (live_clauses store.old.slots) (live_clauses store.new.slots)) }
+    ensures refuted { OnOk result (IsRefutedByHints (live_clauses store.old.slots) → Contains (live_clauses store.new.slots) []) }
+{
+    let mut simplifier = Simplifier::new(store.allocator(), store, frozen.len() as u32)?;
+    propagate_units(&mut simplifier, store, sink)?;
+    simplify_open(&mut simplifier, store, frozen, sink)?;
+    let vars = define_where_open(&mut simplifier, store, frozen, sink)?;
+    let names = listed(&simplifier.names, store)?;
+    Ok(Stack {
+        vars,
+        removed: simplifier.removals,
+        names,
+    })
+}
+
+/// Subsumes, strengthens and eliminates, unless the empty clause was added.
+fn simplify_open<S: Sink>(
+    simplifier: &mut Simplifier,
+    store: &mut Store,
+    frozen: &[bool],
+    sink: &mut S,
+) -> Result<(), AllocError>
+    requires { IsSimplifierOver frozen.now simplifier.old store.old.slots (S.lines sink.old) }
+    ensures simplified { IfOk result (λ _. StaysOver frozen.now simplifier.old store.old.slots (S.lines sink.old)
+        simplifier.new store.new.slots (S.lines sink.new)) }
+    ensures refuted { IfOk result (λ _. simplifier.old.is_refuted ≡ true → simplifier.new.is_refuted ≡ true) }
+    ensures err { OnErr result (LeavesLogOver frozen.now simplifier.old store.old.slots (S.lines sink.old) (S.lines sink.new)) }
+{
+    if simplifier.is_refuted {
+        return Ok(());
+    }
+    simplify(simplifier, store, frozen, sink)?;
+    Ok(())
+}
+
+/// Each live reference with the name of its clause, in rising order.
+fn listed(names: &Names, store: &Store) -> Result<Vec<(CRef, Name)>, AllocError>
+    requires { length names.now.names ≡ length store.now.slots }
+    ensures { IfOk result (λ listed. listed.items ≡ listed_names names.now.names store.now.slots) }
+{
+    let mut listed = Vec::new(store.allocator());
+    for place in 0..store.places() {
+        match store.live_at(place) {
+            Some(reference) => listed.push((reference, names.get(reference)))?,
+            None => {}
+        }
+    }
+    Ok(listed)
+}

@@ -1,0 +1,18 @@
+//! Elimination of variables before the search.
+#![tactic(auto)]
+
+mod bins;
+pub mod elimination;
+mod ending;
+mod names;
+mod pair_table;
+mod pairs;
+mod resolving;
+mod rounds;
+mod rows;
+mod schedule;
+mod simplifier;
+mod stack;
+mod subsuming;
+mod units;
+mod variables;

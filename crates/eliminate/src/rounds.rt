@@ -1,0 +1,41 @@
+// Rounds of subsumption and elimination: what one changes may let the other go on.
+ghost use Rattle.std.specs.Prelude.{IfOk, OnErr};
+ghost use Rattle.eliminate.specs.Variables.{IsSimplifierOver, StaysOver, LeavesLogOver};
+
+use crate::simplifier::Simplifier;
+use crate::subsuming::subsume;
+use crate::variables::eliminate_variables;
+use clauses::store::Store;
+use lrat_log::sink::Sink;
+use std::alloc::AllocError;
+
+/// At most so many rounds.
+const MOST_ROUNDS: u32 = 8;
+
+/// Subsumes, strengthens and eliminates, until nothing changes or the empty clause is there.
+pub(crate) fn simplify<S: Sink>(
+    simplifier: &mut Simplifier,
+    store: &mut Store,
+    frozen: &[bool],
+    sink: &mut S,
+) -> Result<(), AllocError>
+    requires { IsSimplifierOver frozen.now simplifier.old store.old.slots (S.lines sink.old) }
+    ensures simplified { IfOk result (λ _. StaysOver frozen.now simplifier.old store.old.slots (S.lines sink.old)
+        simplifier.new store.new.slots (S.lines sink.new)) }
+    ensures err { OnErr result (LeavesLogOver frozen.now simplifier.old store.old.slots (S.lines sink.old) (S.lines sink.new)) }
+{
+    for _round in 0..MOST_ROUNDS {
+        if simplifier.is_refuted {
+            return Ok(());
+        }
+        let is_shorter = subsume(simplifier, store, sink)?;
+        if simplifier.is_refuted {
+            return Ok(());
+        }
+        let is_gone = eliminate_variables(simplifier, store, frozen, sink)?;
+        if !is_shorter && !is_gone {
+            return Ok(());
+        }
+    }
+    Ok(())
+}

@@ -1,0 +1,174 @@
+// What preprocessing keeps beside the store and the log. Names, occurrences and removals are what its proof rests on;
+// the schedule only says where work may be worthwhile.
+ghost use Rattle.std.specs.Prelude.{◌≡◌, ℕ, ◌<◌, List, [], ◌∷◌, ◌++◌, Bool, true, false, length, IfOk, IfSome, OnErr, Some, None, slice_set};
+ghost use Rattle.wcnf.specs.Literal.{Literal};
+ghost use Rattle.wcnf.specs.Clause.{is_subset};
+ghost use Rattle.wcnf.specs.Formula.{IsFormula};
+ghost use Rattle.clauses.specs.Slots.{IsLive, clause_at, live_clauses};
+ghost use Rattle.lrat_log.specs.Steps.{is_empty_clause};
+ghost use Rattle.eliminate.specs.State.{Start};
+ghost use Rattle.eliminate.specs.Simplifier.{IsSimplified, IsSimplifier, StaysSimplified, LeavesLog, IsAddableLine};
+
+use crate::bins::Bins;
+use crate::names::{Names, add, delete};
+use crate::rows::Rows;
+use crate::schedule::Schedule;
+use crate::stack::Removals;
+use clauses::store::{CRef, Store};
+use lrat_log::lines::{Hint, Kind};
+use lrat_log::sink::Sink;
+use std::alloc::{AllocError, Global};
+use subsume::marks::Marks;
+use wcnf::types::Lit;
+
+/// The tables of preprocessing, which all passes share.
+#[derive(Drop)]
+pub(crate) struct Simplifier {
+    // The number of variables, with the fresh ones.
+    pub(crate) vars: u32,
+    // By reference, the name of each clause.
+    pub(crate) names: Names,
+    // By literal, the clauses in which it occurs, and some that were deleted since.
+    pub(crate) occurrences: Rows,
+    // The eliminated variables with their clauses, in the order of elimination.
+    pub(crate) removals: Removals,
+    // By literal, those of the clause in hand; between two passes they mean nothing.
+    pub(crate) marks: Marks,
+    // A clause that is being built.
+    pub(crate) clause: Vec<Lit>,
+    // Where work may be worthwhile.
+    pub(crate) schedule: Schedule,
+    // The clauses against which others are held.
+    pub(crate) bins: Bins,
+    // Whether the empty clause was added: then nothing more is.
+    pub(crate) is_refuted: bool,
+}
+
+impl Simplifier {
+    /// The tables for a store whose i-th live clause is the clause i of a formula.
+    pub(crate) fn new(alloc: Global, store: &Store, vars: u32) -> Result<Self, AllocError>
+        requires { IsFormula (record { variables = vars; clauses = live_clauses store.now.slots }) }
+        ensures simplified { IfOk result (λ s. (frozen : List Bool) → length frozen ≡ vars
+            → IsSimplified (record { clauses = live_clauses store.now.slots; frozen = frozen }) s store.now.slots []) }
+        ensures going { IfOk result (λ s. s.is_refuted ≡ false) }
+    {
+        let count = 2 * vars as usize;
+        let mut occurrences = Rows::new(alloc, count)?;
+        let mut schedule = Schedule::new(alloc, vars)?;
+        for place in 0..store.places() {
+            match store.live_at(place) {
+                Some(reference) => {
+                    let lits = store.lits(reference);
+                    occurrences.add(lits, reference)?;
+                    schedule.enter(lits)?;
+                }
+                None => {}
+            }
+        }
+        Ok(Simplifier {
+            vars,
+            names: Names::of(alloc, store)?,
+            occurrences,
+            removals: Removals::new(alloc),
+            marks: Marks::new(alloc, vars)?,
+            clause: Vec::new(alloc),
+            schedule,
+            bins: Bins::new(alloc, vars)?,
+            is_refuted: false,
+        })
+    }
+
+    /// In how many clauses, deleted ones too, a literal occurs.
+    pub(crate) fn occurrence_count(&self, lit: Lit) -> usize {
+        if lit.index() < self.occurrences.count() {
+            self.occurrences.get(lit.index()).len()
+        } else {
+            0
+        }
+    }
+
+    /// The clause at this place among those in which a literal occurs, where there is one that is live.
+    pub(crate) fn occurrence(&self, store: &Store, lit: Lit, at: usize) -> Option<CRef>
+        ensures { IfSome result (λ r. IsLive store.now.slots r) }
+    {
+        if lit.index() >= self.occurrences.count() {
+            return None;
+        }
+        match self.occurrences.get(lit.index()).get(at) {
+            Some(reference) => {
+                if store.is_live(*reference) {
+                    Some(*reference)
+                } else {
+                    None
+                }
+            }
+            None => None,
+        }
+    }
+
+    /// Adds the clause that was built, under a reference above all others, with its line.
+    pub(crate) fn add<S: Sink>(
+        &mut self,
+        store: &mut Store,
+        sink: &mut S,
+        kind: Kind,
+        hints: Vec<Hint>,
+    ) -> Result<CRef, AllocError>
+        requires simplified { IsSimplifier self.old store.old.slots (S.lines sink.old) }
+        requires going { self.old.is_refuted ≡ false }
+        requires line { (start : Start) → IsSimplified start self.old store.old.slots (S.lines sink.old)
+            → IsAddableLine start self.old (S.lines sink.old) (record { kind = kind; clause = self.old.clause.items; hints = hints.items }) }
+        ensures reference { IfOk result (λ r. r ≡ length store.old.slots) }
+        ensures slots { IfOk result (λ _. store.new.slots ≡ store.old.slots ++ Some self.old.clause.items ∷ []) }
+        ensures simplified { IfOk result (λ _.
+            StaysSimplified self.old store.old.slots (S.lines sink.old) self.new store.new.slots (S.lines sink.new)) }
+        ensures refuted { IfOk result (λ _. self.new.is_refuted ≡ is_empty_clause self.old.clause.items) }
+        ensures same { IfOk result (λ _. (self.new.vars ≡ self.old.vars) × (self.new.removals ≡ self.old.removals)) }
+        ensures err { OnErr result (LeavesLog self.old store.old.slots (S.lines sink.old) (S.lines sink.new)) }
+    {
+        sink.is_short();
+        let mut lits = Vec::with_capacity(store.allocator(), self.clause.len())?;
+        lits.extend_from_slice(&self.clause)?;
+        let reference = add(store, &mut self.names, sink, kind, lits, hints)?;
+        self.occurrences.add(&self.clause, reference)?;
+        self.schedule.enter(&self.clause)?;
+        self.is_refuted = is_empty_clause(&self.clause);
+        Ok(reference)
+    }
+
+    /// Deletes a clause that another one of the store subsumes.
+    pub(crate) fn delete_subsumed<S: Sink>(
+        &mut self,
+        store: &mut Store,
+        sink: &mut S,
+        reference: CRef,
+        by: CRef,
+    ) -> Result<(), AllocError>
+        requires simplified { IsSimplifier self.old store.old.slots (S.lines sink.old) }
+        requires going { self.old.is_refuted ≡ false }
+        requires other { by ≡ reference → ⊥ }
+        requires live { IsLive store.old.slots reference }
+        requires live_too { IsLive store.old.slots by }
+        requires subset { (c d : List Literal) → clause_at store.old.slots by ≡ Some c
+            → clause_at store.old.slots reference ≡ Some d → is_subset c d ≡ true }
+        ensures slots { IfOk result (λ _. store.new.slots ≡ slice_set store.old.slots reference None) }
+        ensures simplified { IfOk result (λ _.
+            StaysSimplified self.old store.old.slots (S.lines sink.old) self.new store.new.slots (S.lines sink.new)) }
+        ensures going { IfOk result (λ _. self.new.is_refuted ≡ false) }
+        ensures same { IfOk result (λ _. (self.new.vars ≡ self.old.vars) × (self.new.removals ≡ self.old.removals)) }
+        ensures err { OnErr result (S.lines sink.new ≡ S.lines sink.old) }
+    {
+        let _ = by;
+        self.schedule.leave(store.lits(reference))?;
+        let alloc = store.allocator();
+        delete(store, &self.names, sink, alloc, reference)?;
+        Ok(())
+    }
+}
+
+/// Whether it has no literals.
+fn is_empty_clause(lits: &[Lit]) -> bool
+    ensures { result ≡ is_empty_clause lits.now }
+{
+    lits.is_empty()
+}

@@ -1,0 +1,474 @@
+// Unit propagation before the search. Sweeps over all clauses alternate with a queue of literals that became true: the
+// queue visits the clauses in which they are false, and looks at a clause only once a count says that at most one of its
+// literals may be open, so that all visits together are linear in the literals of the formula. Nothing rests on the
+// counts: the last sweep finds no clause that is false or unit.
+ghost use Rattle.std.specs.Prelude.{◌≡◌, ℕ, ◌+◌, ◌*◌, ◌<◌, ◌≤◌, ◌∷◌, ◌++◌, [], true, false, List, length, replicate, Some, None, IfOk, OnErr};
+ghost use Rattle.wcnf.specs.Literal.{Literal, negation};
+ghost use Rattle.wcnf.specs.Clause.{contains_literal};
+ghost use Rattle.wcnf.specs.Refute.{IsUnit, IsFalseUnder, IsRefutedByHints};
+ghost use Rattle.clauses.specs.Slots.{IsLive, clause_at, live_clauses};
+ghost use Rattle.subsume.specs.Marks.{HasPlace};
+ghost use Rattle.eliminate.specs.Work.{AreClauses};
+ghost use Rattle.eliminate.specs.Simplifier.{IsSimplifier, StaysSimplified, LeavesLog, Grows};
+ghost use Rattle.eliminate.specs.Units.{HasStatus, IsSettled, AreUnits, AreSettled, unit_hints, open_count, MakesTrue};
+
+use crate::names::Names;
+use crate::simplifier::Simplifier;
+use clauses::store::{CRef, MaybeCRef, Store};
+use lrat_log::lines::{Hint, Kind};
+use lrat_log::sink::Sink;
+use std::alloc::{AllocError, Global};
+use subsume::marks::Marks;
+use wcnf::types::Lit;
+
+/// The literals that are true, each by a clause of one literal.
+#[derive(Drop)]
+pub(crate) struct Units {
+    // The true literals are marked.
+    values: Marks,
+    // By variable, the clause of one literal that made it true or false.
+    clauses: Vec<MaybeCRef>,
+    // The true literals, in the order in which they became so.
+    trail: Vec<Lit>,
+}
+
+/// How far the queue of propagation has come.
+#[derive(Drop)]
+struct Visits {
+    // The place on the trail of the first literal whose clauses were not visited.
+    qhead: usize,
+    // By reference, how many literals of the clause were not met as false.
+    unmet: Vec<u32>,
+}
+
+/// What the true literals make of a clause.
+#[derive(Clone, Copy, Debug, PartialEq, Eq, Drop)]
+pub(crate) enum Status {
+    /// It has a true literal, or two that are open.
+    Settled,
+    /// All its literals but this one are false, and this one is open.
+    Unit(Lit),
+    /// All its literals are false.
+    Falsified,
+}
+
+impl Visits {
+    /// No literal was visited.
+    fn new(alloc: Global, store: &Store) -> Result<Self, AllocError> {
+        let mut unmet = Vec::new(alloc);
+        for place in 0..store.places() {
+            unmet.push(match store.live_at(place) {
+                Some(reference) => count(store.lits(reference)),
+                None => 0,
+            })?;
+        }
+        Ok(Visits { qhead: 0, unmet })
+    }
+}
+
+impl Units {
+    /// Nothing is true.
+    fn new(alloc: Global, vars: u32, store: &Store) -> Result<Self, AllocError>
+        ensures units { IfOk result (λ u. AreUnits u store.now.slots) }
+        ensures rows { IfOk result (λ u. length u.clauses.items ≡ vars) }
+    {
+        let values = Marks::new(alloc, vars)?;
+        let clauses = no_clauses(alloc, vars as usize)?;
+        let trail = Vec::new(alloc);
+        Ok(Units {
+            values,
+            clauses,
+            trail,
+        })
+    }
+
+    /// What the true literals make of a clause of the store.
+    fn status(&self, store: &Store, reference: CRef) -> Status
+        requires units { AreUnits self.now store.now.slots }
+        requires clauses { AreClauses (length self.now.clauses.items) store.now.slots }
+        requires live { IsLive store.now.slots reference }
+        ensures { (c : List Literal) → clause_at store.now.slots reference ≡ Some c → HasStatus self.now.trail.items c result }
+    {
+        let mut found = Status::Falsified;
+        for lit in store.lits(reference) {
+            if self.values.is_marked(*lit) {
+                return Status::Settled;
+            }
+            if !self.values.is_marked(lit.negation()) {
+                match found {
+                    Status::Falsified => found = Status::Unit(*lit),
+                    Status::Unit(_) => return Status::Settled,
+                    Status::Settled => return Status::Settled,
+                }
+            }
+        }
+        found
+    }
+
+    /// The names of the clauses by which literals of the clause are false, and then the clause's.
+    fn hints(&self, names: &Names, store: &Store, reference: CRef) -> Result<Vec<Hint>, AllocError>
+        requires units { AreUnits self.now store.now.slots }
+        requires clauses { AreClauses (length self.now.clauses.items) store.now.slots }
+        requires live { IsLive store.now.slots reference }
+        requires named { length names.now.names ≡ length store.now.slots }
+        ensures { IfOk result (λ hints. (c : List Literal) → clause_at store.now.slots reference ≡ Some c
+            → hints.items ≡ unit_hints self.now names.now.names c reference) }
+    {
+        let mut hints = Vec::new(store.allocator());
+        for lit in store.lits(reference) {
+            if self.values.is_marked(lit.negation()) {
+                match self.clauses[lit.variable() as usize - 1].get() {
+                    Some(unit) => hints.push(Hint::Plain(names.get(unit)))?,
+                    None => {}
+                }
+            }
+        }
+        hints.push(Hint::Plain(names.get(reference)))?;
+        Ok(hints)
+    }
+
+    /// Adds the clause of the one literal that is open in a clause.
+    fn add_unit<S: Sink>(
+        &self,
+        simplifier: &mut Simplifier,
+        store: &mut Store,
+        sink: &mut S,
+        reference: CRef,
+        lit: Lit,
+    ) -> Result<CRef, AllocError>
+        requires simplified { IsSimplifier simplifier.old store.old.slots (S.lines sink.old) }
+        requires going { simplifier.old.is_refuted ≡ false }
+        requires units { AreUnits self.now store.old.slots }
+        requires fits { length self.now.clauses.items ≡ simplifier.old.vars }
+        requires live { IsLive store.old.slots reference }
+        requires unit { (c : List Literal) → clause_at store.old.slots reference ≡ Some c → IsUnit c self.now.trail.items lit }
+        ensures reference { IfOk result (λ r. r ≡ length store.old.slots) }
+        ensures slots { IfOk result (λ _. store.new.slots ≡ store.old.slots ++ Some (lit ∷ []) ∷ []) }
+        ensures simplified { IfOk result (λ _.
+            StaysSimplified simplifier.old store.old.slots (S.lines sink.old) simplifier.new store.new.slots (S.lines sink.new)) }
+        ensures going { IfOk result (λ _. (simplifier.new.is_refuted ≡ false) × (simplifier.new.vars ≡ simplifier.old.vars)) }
+        ensures err { OnErr result (LeavesLog simplifier.old store.old.slots (S.lines sink.old) (S.lines sink.new)) }
+    {
+        let hints = self.hints(&simplifier.names, store, reference)?;
+        simplifier.clause.clear();
+        simplifier.clause.push(lit)?;
+        let unit = simplifier.add(store, sink, Kind::Unit, hints)?;
+        Ok(unit)
+    }
+
+    /// The clause of the one literal that is open in a clause: the clause itself, where it has no other.
+    fn unit_clause<S: Sink>(
+        &self,
+        simplifier: &mut Simplifier,
+        store: &mut Store,
+        sink: &mut S,
+        reference: CRef,
+        lit: Lit,
+    ) -> Result<CRef, AllocError>
+        requires simplified { IsSimplifier simplifier.old store.old.slots (S.lines sink.old) }
+        requires going { simplifier.old.is_refuted ≡ false }
+        requires units { AreUnits self.now store.old.slots }
+        requires fits { length self.now.clauses.items ≡ simplifier.old.vars }
+        requires live { IsLive store.old.slots reference }
+        requires unit { (c : List Literal) → clause_at store.old.slots reference ≡ Some c → IsUnit c self.now.trail.items lit }
+        ensures alone { IfOk result (λ r. clause_at store.new.slots r ≡ Some (lit ∷ [])) }
+        ensures grows { IfOk result (λ _. Grows store.old.slots store.new.slots) }
+        ensures simplified { IfOk result (λ _.
+            StaysSimplified simplifier.old store.old.slots (S.lines sink.old) simplifier.new store.new.slots (S.lines sink.new)) }
+        ensures going { IfOk result (λ _. (simplifier.new.is_refuted ≡ false) × (simplifier.new.vars ≡ simplifier.old.vars)) }
+        ensures err { OnErr result (LeavesLog simplifier.old store.old.slots (S.lines sink.old) (S.lines sink.new)) }
+    {
+        if store.lits(reference).len() == 1 {
+            return Ok(reference);
+        }
+        let unit = self.add_unit(simplifier, store, sink, reference, lit)?;
+        Ok(unit)
+    }
+
+    /// Adds the empty clause, where all literals of a clause are false.
+    fn add_empty<S: Sink>(
+        &self,
+        simplifier: &mut Simplifier,
+        store: &mut Store,
+        sink: &mut S,
+        reference: CRef,
+    ) -> Result<(), AllocError>
+        requires simplified { IsSimplifier simplifier.old store.old.slots (S.lines sink.old) }
+        requires going { simplifier.old.is_refuted ≡ false }
+        requires units { AreUnits self.now store.old.slots }
+        requires fits { length self.now.clauses.items ≡ simplifier.old.vars }
+        requires live { IsLive store.old.slots reference }
+        requires falsified { (c : List Literal) → clause_at store.old.slots reference ≡ Some c → IsFalseUnder c self.now.trail.items }
+        ensures simplified { IfOk result (λ _.
+            StaysSimplified simplifier.old store.old.slots (S.lines sink.old) simplifier.new store.new.slots (S.lines sink.new)) }
+        ensures refuted { IfOk result (λ _. (simplifier.new.is_refuted ≡ true) × (simplifier.new.vars ≡ simplifier.old.vars)) }
+        ensures err { OnErr result (LeavesLog simplifier.old store.old.slots (S.lines sink.old) (S.lines sink.new)) }
+    {
+        let hints = self.hints(&simplifier.names, store, reference)?;
+        simplifier.clause.clear();
+        simplifier.add(store, sink, Kind::Empty, hints)?;
+        Ok(())
+    }
+
+    /// Makes a literal true, by a clause that has it alone.
+    fn assign(&mut self, store: &Store, lit: Lit, unit: CRef) -> Result<(), AllocError>
+        requires units { AreUnits self.old store.now.slots }
+        requires place { HasPlace (length self.old.values) lit }
+        requires not_true { contains_literal lit self.old.trail.items ≡ false }
+        requires not_false { contains_literal (negation lit) self.old.trail.items ≡ false }
+        requires alone { clause_at store.now.slots unit ≡ Some (lit ∷ []) }
+        ensures units { IfOk result (λ _. MakesTrue self.old store.now.slots self.new store.now.slots) }
+        ensures progress { IfOk result (λ _. open_count self.new < open_count self.old) }
+    {
+        let _ = store;
+        self.trail.push(lit)?;
+        self.clauses[lit.variable() as usize - 1] = MaybeCRef::new(Some(unit));
+        self.values.mark(lit);
+        Ok(())
+    }
+
+    /// Does what a clause asks for: a literal becomes true, or the empty clause is added. The answer is whether it was so.
+    fn meet<S: Sink>(
+        &mut self,
+        simplifier: &mut Simplifier,
+        store: &mut Store,
+        sink: &mut S,
+        reference: CRef,
+    ) -> Result<bool, AllocError>
+        requires simplified { IsSimplifier simplifier.old store.old.slots (S.lines sink.old) }
+        requires going { simplifier.old.is_refuted ≡ false }
+        requires units { AreUnits self.old store.old.slots }
+        requires fits { length self.old.clauses.items ≡ simplifier.old.vars }
+        requires live { IsLive store.old.slots reference }
+        ensures simplified { IfOk result (λ _.
+            StaysSimplified simplifier.old store.old.slots (S.lines sink.old) simplifier.new store.new.slots (S.lines sink.new)) }
+        ensures vars { IfOk result (λ _. simplifier.new.vars ≡ simplifier.old.vars) }
+        ensures units { IfOk result (λ _. simplifier.new.is_refuted ≡ false → MakesTrue self.old store.old.slots self.new store.new.slots) }
+        ensures settled { IfOk result (λ found. found ≡ false → (simplifier.new.is_refuted ≡ false) × (self.new ≡ self.old)
+            × (store.new.slots ≡ store.old.slots)
+            × ((c : List Literal) → clause_at store.old.slots reference ≡ Some c → IsSettled self.old.trail.items c)) }
+        ensures progress { IfOk result (λ found. found ≡ true → simplifier.new.is_refuted ≡ false → open_count self.new < open_count self.old) }
+        ensures err { OnErr result (LeavesLog simplifier.old store.old.slots (S.lines sink.old) (S.lines sink.new)) }
+    {
+        match self.status(store, reference) {
+            Status::Settled => Ok(false),
+            Status::Unit(lit) => {
+                let unit = self.unit_clause(simplifier, store, sink, reference, lit)?;
+                self.assign(store, lit, unit)?;
+                Ok(true)
+            }
+            Status::Falsified => {
+                self.add_empty(simplifier, store, sink, reference)?;
+                Ok(true)
+            }
+        }
+    }
+}
+
+impl Units {
+    /// Meets the clause at a place, where there is one. The answer is whether it asked for something.
+    fn meet_at<S: Sink>(
+        &mut self,
+        simplifier: &mut Simplifier,
+        store: &mut Store,
+        sink: &mut S,
+        place: usize,
+    ) -> Result<bool, AllocError>
+        requires simplified { IsSimplifier simplifier.old store.old.slots (S.lines sink.old) }
+        requires going { simplifier.old.is_refuted ≡ false }
+        requires units { AreUnits self.old store.old.slots }
+        requires fits { length self.old.clauses.items ≡ simplifier.old.vars }
+        ensures simplified { IfOk result (λ _.
+            StaysSimplified simplifier.old store.old.slots (S.lines sink.old) simplifier.new store.new.slots (S.lines sink.new)) }
+        ensures vars { IfOk result (λ _. simplifier.new.vars ≡ simplifier.old.vars) }
+        ensures units { IfOk result (λ _. simplifier.new.is_refuted ≡ false → MakesTrue self.old store.old.slots self.new store.new.slots) }
+        ensures settled { IfOk result (λ found. found ≡ false → (simplifier.new.is_refuted ≡ false) × (self.new ≡ self.old)
+            × (store.new.slots ≡ store.old.slots)
+            × ((c : List Literal) → clause_at store.old.slots place ≡ Some c → IsSettled self.old.trail.items c)) }
+        ensures progress { IfOk result (λ found. found ≡ true → simplifier.new.is_refuted ≡ false → open_count self.new < open_count self.old) }
+        ensures err { OnErr result (LeavesLog simplifier.old store.old.slots (S.lines sink.old) (S.lines sink.new)) }
+    {
+        match store.live_at(place) {
+            Some(reference) => {
+                let found = self.meet(simplifier, store, sink, reference)?;
+                Ok(found)
+            }
+            None => Ok(false),
+        }
+    }
+
+    /// Meets each clause of the store. The answer is whether one asked for something.
+    fn sweep<S: Sink>(
+        &mut self,
+        simplifier: &mut Simplifier,
+        store: &mut Store,
+        sink: &mut S,
+    ) -> Result<bool, AllocError>
+        requires simplified { IsSimplifier simplifier.old store.old.slots (S.lines sink.old) }
+        requires going { simplifier.old.is_refuted ≡ false }
+        requires units { AreUnits self.old store.old.slots }
+        requires fits { length self.old.clauses.items ≡ simplifier.old.vars }
+        ensures simplified { IfOk result (λ _.
+            StaysSimplified simplifier.old store.old.slots (S.lines sink.old) simplifier.new store.new.slots (S.lines sink.new)) }
+        ensures vars { IfOk result (λ _. simplifier.new.vars ≡ simplifier.old.vars) }
+        ensures units { IfOk result (λ _. simplifier.new.is_refuted ≡ false → MakesTrue self.old store.old.slots self.new store.new.slots) }
+        ensures settled { IfOk result (λ found. found ≡ false → (simplifier.new.is_refuted ≡ false) × AreSettled self.old.trail.items store.old.slots) }
+        ensures progress { IfOk result (λ found. found ≡ true → simplifier.new.is_refuted ≡ false → open_count self.new < open_count self.old) }
+        ensures err { OnErr result (LeavesLog simplifier.old store.old.slots (S.lines sink.old) (S.lines sink.new)) }
+    {
+        let mut found = false;
+        for place in 0..store.places() {
+            let asked = self.meet_at(simplifier, store, sink, place)?;
+            if simplifier.is_refuted {
+                return Ok(true);
+            }
+            if asked {
+                found = true;
+            }
+        }
+        Ok(found)
+    }
+
+    /// Meets the clause at this place among those in which a literal that is false occurs, where it may ask for something.
+    fn visit_at<S: Sink>(
+        &mut self,
+        unmet: &mut [u32],
+        simplifier: &mut Simplifier,
+        store: &mut Store,
+        sink: &mut S,
+        lit: Lit,
+        at: usize,
+    ) -> Result<(), AllocError>
+        requires simplified { IsSimplifier simplifier.old store.old.slots (S.lines sink.old) }
+        requires going { simplifier.old.is_refuted ≡ false }
+        requires units { AreUnits self.old store.old.slots }
+        requires fits { length self.old.clauses.items ≡ simplifier.old.vars }
+        ensures simplified { IfOk result (λ _.
+            StaysSimplified simplifier.old store.old.slots (S.lines sink.old) simplifier.new store.new.slots (S.lines sink.new)) }
+        ensures vars { IfOk result (λ _. simplifier.new.vars ≡ simplifier.old.vars) }
+        ensures units { IfOk result (λ _. simplifier.new.is_refuted ≡ false → MakesTrue self.old store.old.slots self.new store.new.slots) }
+        ensures err { OnErr result (LeavesLog simplifier.old store.old.slots (S.lines sink.old) (S.lines sink.new)) }
+    {
+        let reference = match simplifier.occurrence(store, lit, at) {
+            Some(reference) => reference,
+            None => return Ok(()),
+        };
+        if !is_due(unmet, reference) {
+            return Ok(());
+        }
+        self.meet(simplifier, store, sink, reference)?;
+        Ok(())
+    }
+
+    /// Visits the clauses in which a literal that is false occurs.
+    fn visit<S: Sink>(
+        &mut self,
+        unmet: &mut [u32],
+        simplifier: &mut Simplifier,
+        store: &mut Store,
+        sink: &mut S,
+        lit: Lit,
+    ) -> Result<(), AllocError>
+        requires simplified { IsSimplifier simplifier.old store.old.slots (S.lines sink.old) }
+        requires going { simplifier.old.is_refuted ≡ false }
+        requires units { AreUnits self.old store.old.slots }
+        requires fits { length self.old.clauses.items ≡ simplifier.old.vars }
+        ensures simplified { IfOk result (λ _.
+            StaysSimplified simplifier.old store.old.slots (S.lines sink.old) simplifier.new store.new.slots (S.lines sink.new)) }
+        ensures vars { IfOk result (λ _. simplifier.new.vars ≡ simplifier.old.vars) }
+        ensures units { IfOk result (λ _. simplifier.new.is_refuted ≡ false → MakesTrue self.old store.old.slots self.new store.new.slots) }
+        ensures err { OnErr result (LeavesLog simplifier.old store.old.slots (S.lines sink.old) (S.lines sink.new)) }
+    {
+        for at in 0..simplifier.occurrence_count(lit) {
+            self.visit_at(unmet, simplifier, store, sink, lit, at)?;
+            if simplifier.is_refuted {
+                return Ok(());
+            }
+        }
+        Ok(())
+    }
+
+    /// Visits the clauses of the literals on the trail that were not visited, and of those that become true on the way.
+    fn follow<S: Sink>(
+        &mut self,
+        visits: &mut Visits,
+        simplifier: &mut Simplifier,
+        store: &mut Store,
+        sink: &mut S,
+    ) -> Result<(), AllocError>
+        requires simplified { IsSimplifier simplifier.old store.old.slots (S.lines sink.old) }
+        requires going { simplifier.old.is_refuted ≡ false }
+        requires units { AreUnits self.old store.old.slots }
+        requires fits { length self.old.clauses.items ≡ simplifier.old.vars }
+        ensures simplified { IfOk result (λ _.
+            StaysSimplified simplifier.old store.old.slots (S.lines sink.old) simplifier.new store.new.slots (S.lines sink.new)) }
+        ensures vars { IfOk result (λ _. simplifier.new.vars ≡ simplifier.old.vars) }
+        ensures units { IfOk result (λ _. simplifier.new.is_refuted ≡ false → MakesTrue self.old store.old.slots self.new store.new.slots) }
+        ensures err { OnErr result (LeavesLog simplifier.old store.old.slots (S.lines sink.old) (S.lines sink.new)) }
+    {
+        while visits.qhead < self.trail.len() {
+            let lit = self.trail[visits.qhead].negation();
+            visits.qhead += 1;
+            self.visit(&mut visits.unmet, simplifier, store, sink, lit)?;
+            if simplifier.is_refuted {
+                return Ok(());
+            }
+        }
+        Ok(())
+    }
+}
+
+/// Counts a literal of a clause as false. The answer is whether all but one may be so now.
+fn is_due(unmet: &mut [u32], reference: CRef) -> bool {
+    match unmet.get_mut(reference.index()) {
+        Some(unmet) => {
+            *unmet = unmet.saturating_sub(1);
+            *unmet <= 1
+        }
+        None => false,
+    }
+}
+
+/// Propagates the clauses of one literal to the end. Either the empty clause is added then, or no hints refute the clauses
+/// before.
+pub(crate) fn propagate_units<S: Sink>(
+    simplifier: &mut Simplifier,
+    store: &mut Store,
+    sink: &mut S,
+) -> Result<(), AllocError>
+    requires simplified { IsSimplifier simplifier.old store.old.slots (S.lines sink.old) }
+    requires going { simplifier.old.is_refuted ≡ false }
+    ensures simplified { IfOk result (λ _.
+        StaysSimplified simplifier.old store.old.slots (S.lines sink.old) simplifier.new store.new.slots (S.lines sink.new)) }
+    ensures refuted { IfOk result (λ _. simplifier.new.is_refuted ≡ false → IsRefutedByHints (live_clauses store.old.slots) → ⊥) }
+    ensures err { OnErr result (LeavesLog simplifier.old store.old.slots (S.lines sink.old) (S.lines sink.new)) }
+{
+    let alloc = store.allocator();
+    let mut units = Units::new(alloc, simplifier.vars, store)?;
+    let mut visits = Visits::new(alloc, store)?;
+    'sweeps: loop {
+        let found = units.sweep(simplifier, store, sink)?;
+        if simplifier.is_refuted {
+            return Ok(());
+        }
+        if !found {
+            return Ok(());
+        }
+        units.follow(&mut visits, simplifier, store, sink)?;
+        if simplifier.is_refuted {
+            return Ok(());
+        }
+    }
+}
+
+/// No clause for each of so many variables.
+fn no_clauses(alloc: Global, count: usize) -> Result<Vec<MaybeCRef>, AllocError>
+    ensures { IfOk result (λ clauses. clauses.items ≡ replicate count None) }
+{
+    Vec::from_elem(alloc, MaybeCRef::new(None), count)
+}
+
+/// How many literals there are, up to the greatest number that a count takes.
+fn count(lits: &[Lit]) -> u32 {
+    u32::try_from(lits.len()).unwrap_or(u32::MAX)
+}

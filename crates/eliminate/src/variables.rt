@@ -1,0 +1,379 @@
+// Bounded variable elimination (Davis and Putnam 1960; Eén and Biere 2005): the clauses with a variable are replaced by
+// their resolvents on it, where these are no more and none is long. Variables are tried in the order in which their
+// clauses changed. Whether a variable goes is found by counting over marks, so that no clause is built in vain.
+ghost use Rattle.std.specs.Prelude.{◌≡◌, ℕ, ◌*◌, ◌<◌, ◌≤◌, true, false, List, length, All, IfOk, OnErr};
+ghost use Rattle.wcnf.specs.Literal.{negation};
+ghost use Rattle.clauses.specs.Slots.{IsLive};
+ghost use Rattle.lrat_log.specs.Log.{LogLine, IsLine};
+ghost use Rattle.subsume.specs.Marks.{HasPlace};
+ghost use Rattle.eliminate.specs.Elimination.{positive, IsFree};
+ghost use Rattle.eliminate.specs.Rows.{AreRows};
+ghost use Rattle.eliminate.specs.Work.{additions, name_at, delete_line};
+ghost use Rattle.eliminate.specs.Simplifier.{IsSimplifier, StaysSimplified, LeavesLog};
+ghost use Rattle.eliminate.specs.Subsuming.{ArePlaced};
+ghost use Rattle.eliminate.specs.Variables.{IsSimplifierOver, StaysOver, LeavesLogOver, IsWith, AreThoseWith, GrowsWithout, IsPairResolved, ArePairsResolved, LeavesOut, KeepsWork, KeepsLog};
+
+use crate::names::{Names, delete};
+use crate::resolving::{add_resolvent, count_rest};
+use crate::schedule::Schedule;
+use crate::simplifier::Simplifier;
+use clauses::store::{CRef, Store};
+use lrat_log::sink::Sink;
+use std::alloc::AllocError;
+use subsume::marks::Marks;
+use wcnf::types::Lit;
+
+/// A variable goes only where at most so many clauses have it, and at most so many its negation.
+const MOST_OF_A_SIGN: usize = 10;
+/// No resolvent has more literals.
+const MOST_LITERALS: usize = 32;
+/// Clauses that are longer are not tried: their resolvents are too long, but where each has an opposite pair.
+const LONGEST_PARENT: usize = 100;
+/// For each variable, so many tries in one pass.
+const MOST_TRIES: usize = 10;
+
+/// The live clauses with a literal, and those with its negation.
+#[derive(Drop)]
+struct Parents {
+    positive: Vec<CRef>,
+    negative: Vec<CRef>,
+}
+
+/// Eliminates variables that are not frozen, as long as clauses of some variable changed since it was tried. The answer
+/// is whether a variable went.
+pub(crate) fn eliminate_variables<S: Sink>(
+    simplifier: &mut Simplifier,
+    store: &mut Store,
+    frozen: &[bool],
+    sink: &mut S,
+) -> Result<bool, AllocError>
+    requires simplified { IsSimplifierOver frozen.now simplifier.old store.old.slots (S.lines sink.old) }
+    requires going { simplifier.old.is_refuted ≡ false }
+    ensures simplified { IfOk result (λ _. StaysOver frozen.now simplifier.old store.old.slots (S.lines sink.old)
+        simplifier.new store.new.slots (S.lines sink.new)) }
+    ensures err { OnErr result (LeavesLogOver frozen.now simplifier.old store.old.slots (S.lines sink.old) (S.lines sink.new)) }
+{
+    let alloc = store.allocator();
+    let mut parents = Parents {
+        positive: Vec::new(alloc),
+        negative: Vec::new(alloc),
+    };
+    let mut is_changed = false;
+    for _try in 0..frozen.len().saturating_mul(MOST_TRIES) {
+        let Some(variable) = simplifier.schedule.pop() else {
+            return Ok(is_changed);
+        };
+        if is_free(variable, frozen) {
+            let is_gone = try_variable(simplifier, store, sink, frozen, variable, &mut parents)?;
+            is_changed = is_changed || is_gone;
+            if simplifier.is_refuted {
+                return Ok(true);
+            }
+        }
+    }
+    Ok(is_changed)
+}
+
+/// Whether the variable is one of the formula's and not frozen.
+fn is_free(variable: u32, frozen: &[bool]) -> bool
+    ensures { result ≡ true → IsFree frozen.now variable }
+{
+    if variable == 0 {
+        return false;
+    }
+    match frozen.get(variable as usize - 1) {
+        Some(is_frozen) => !*is_frozen,
+        None => false,
+    }
+}
+
+/// Eliminates the variable where that does not make the formula larger. The answer is whether it went.
+fn try_variable<S: Sink>(
+    simplifier: &mut Simplifier,
+    store: &mut Store,
+    sink: &mut S,
+    frozen: &[bool],
+    variable: u32,
+    parents: &mut Parents,
+) -> Result<bool, AllocError>
+    requires simplified { IsSimplifierOver frozen.now simplifier.old store.old.slots (S.lines sink.old) }
+    requires going { simplifier.old.is_refuted ≡ false }
+    requires free { IsFree frozen.now variable }
+    ensures simplified { IfOk result (λ _. StaysOver frozen.now simplifier.old store.old.slots (S.lines sink.old)
+        simplifier.new store.new.slots (S.lines sink.new)) }
+    ensures err { OnErr result (LeavesLogOver frozen.now simplifier.old store.old.slots (S.lines sink.old) (S.lines sink.new)) }
+{
+    let pivot = Lit::new(variable, false);
+    if !find_parents(simplifier, store, pivot, parents)? {
+        return Ok(false);
+    }
+    add_resolvents(
+        simplifier,
+        store,
+        sink,
+        pivot,
+        &parents.positive,
+        &parents.negative,
+    )?;
+    if simplifier.is_refuted {
+        return Ok(false);
+    }
+    remove_variable(
+        simplifier,
+        store,
+        sink,
+        frozen,
+        variable,
+        &parents.positive,
+        &parents.negative,
+    )?;
+    Ok(true)
+}
+
+/// Finds the clauses with the variable. The answer is whether these should go.
+fn find_parents(
+    simplifier: &mut Simplifier,
+    store: &Store,
+    pivot: Lit,
+    parents: &mut Parents,
+) -> Result<bool, AllocError>
+    requires place { HasPlace (length simplifier.old.occurrences) pivot }
+    requires rows { AreRows simplifier.old.occurrences store.now.slots }
+    requires placed { ArePlaced (length simplifier.old.marks) store.now.slots }
+    ensures simplified { (lines : List LogLine) → StaysSimplified simplifier.old store.now.slots lines simplifier.new store.now.slots lines }
+    ensures same { simplifier.new.is_refuted ≡ simplifier.old.is_refuted }
+    ensures positive { IfOk result (λ good. good ≡ true → AreThoseWith pivot store.now.slots parents.new.positive.items) }
+    ensures negative { IfOk result (λ good. good ≡ true → AreThoseWith (negation pivot) store.now.slots parents.new.negative.items) }
+{
+    if !is_candidate(&simplifier.schedule, pivot) {
+        return Ok(false);
+    }
+    gather(simplifier, store, pivot, &mut parents.positive)?;
+    gather(simplifier, store, pivot.negation(), &mut parents.negative)?;
+    let is_worthwhile = is_worthwhile(
+        &mut simplifier.marks,
+        store,
+        pivot,
+        &parents.positive,
+        &parents.negative,
+    );
+    Ok(is_worthwhile)
+}
+
+/// Whether the literal's variable occurs, and each of its signs in few clauses.
+fn is_candidate(schedule: &Schedule, pivot: Lit) -> bool {
+    let positive = schedule.count(pivot) as usize;
+    let negative = schedule.count(pivot.negation()) as usize;
+    positive <= MOST_OF_A_SIGN && negative <= MOST_OF_A_SIGN && (positive > 0 || negative > 0)
+}
+
+/// The live clauses with the literal.
+fn gather(
+    simplifier: &mut Simplifier,
+    store: &Store,
+    lit: Lit,
+    references: &mut Vec<CRef>,
+) -> Result<(), AllocError>
+    requires place { HasPlace (length simplifier.old.occurrences) lit }
+    requires rows { AreRows simplifier.old.occurrences store.now.slots }
+    ensures gathered { IfOk result (λ _. AreThoseWith lit store.now.slots references.new.items) }
+    ensures rows { AreRows simplifier.new.occurrences store.now.slots }
+    ensures simplified { (lines : List LogLine) → StaysSimplified simplifier.old store.now.slots lines simplifier.new store.now.slots lines }
+    ensures same { (simplifier.new.is_refuted ≡ simplifier.old.is_refuted)
+        × (length simplifier.new.marks ≡ length simplifier.old.marks) × (length simplifier.new.occurrences ≡ length simplifier.old.occurrences) }
+{
+    let row = lit.index();
+    simplifier.occurrences.clean(row, store);
+    references.clear();
+    references.extend_from_slice(simplifier.occurrences.get(row))?;
+    Ok(())
+}
+
+/// Whether the resolvents are no more than the clauses, and none of them is long. The marks are used.
+fn is_worthwhile(
+    marks: &mut Marks,
+    store: &Store,
+    pivot: Lit,
+    firsts: &[CRef],
+    seconds: &[CRef],
+) -> bool
+    requires placed { ArePlaced (length marks.old) store.now.slots }
+    requires live { All (IsLive store.now.slots) firsts.now }
+    requires live_too { All (IsLive store.now.slots) seconds.now }
+    ensures { length marks.new ≡ length marks.old }
+{
+    if firsts.is_empty() || seconds.is_empty() {
+        return true;
+    }
+    if !are_few_and_short(store, firsts) || !are_few_and_short(store, seconds) {
+        return false;
+    }
+    let mut count = 0usize;
+    for first in firsts {
+        match count_resolvents(marks, store, pivot, *first, seconds) {
+            Some(more) => count = count.saturating_add(more),
+            None => return false,
+        }
+    }
+    count <= firsts.len().saturating_add(seconds.len())
+}
+
+/// Whether these are few clauses, none of them very long.
+fn are_few_and_short(store: &Store, references: &[CRef]) -> bool
+    requires { All (IsLive store.now.slots) references.now }
+{
+    for reference in references {
+        if store.lits(*reference).len() > LONGEST_PARENT {
+            return false;
+        }
+    }
+    references.len() <= MOST_OF_A_SIGN
+}
+
+/// How many resolvents without an opposite pair the first clause has with the others; none where one of them is long.
+fn count_resolvents(
+    marks: &mut Marks,
+    store: &Store,
+    pivot: Lit,
+    first: CRef,
+    seconds: &[CRef],
+) -> Option<usize>
+    requires placed { ArePlaced (length marks.old) store.now.slots }
+    requires live { IsLive store.now.slots first }
+    requires live_too { All (IsLive store.now.slots) seconds.now }
+    ensures { length marks.new ≡ length marks.old }
+{
+    let lits = store.lits(first);
+    marks.mark_without(lits, pivot);
+    let mut count = 0usize;
+    for second in seconds {
+        if let Some(rest) = count_rest(marks, pivot.negation(), store.lits(*second)) {
+            if rest.saturating_add(lits.len()) > MOST_LITERALS + 1 {
+                return None;
+            }
+            count = count.saturating_add(1);
+        }
+    }
+    Some(count)
+}
+
+/// Adds the resolvents of all pairs that have no opposite pair. It stops at the empty clause.
+fn add_resolvents<S: Sink>(
+    simplifier: &mut Simplifier,
+    store: &mut Store,
+    sink: &mut S,
+    pivot: Lit,
+    firsts: &[CRef],
+    seconds: &[CRef],
+) -> Result<(), AllocError>
+    requires simplified { IsSimplifier simplifier.old store.old.slots (S.lines sink.old) }
+    requires going { simplifier.old.is_refuted ≡ false }
+    requires firsts { All (IsWith pivot store.old.slots) firsts.now }
+    requires seconds { All (IsWith (negation pivot) store.old.slots) seconds.now }
+    ensures simplified { IfOk result (λ _. StaysSimplified simplifier.old store.old.slots (S.lines sink.old)
+        simplifier.new store.new.slots (S.lines sink.new)) }
+    ensures grows { IfOk result (λ _. GrowsWithout pivot store.old.slots store.new.slots) }
+    ensures resolved { IfOk result (λ _. simplifier.new.is_refuted ≡ false
+        → ArePairsResolved pivot store.old.slots store.new.slots firsts.now seconds.now) }
+    ensures err { OnErr result (LeavesLog simplifier.old store.old.slots (S.lines sink.old) (S.lines sink.new)) }
+{
+    for first in firsts {
+        add_resolvents_of(simplifier, store, sink, pivot, *first, seconds)?;
+        if simplifier.is_refuted {
+            return Ok(());
+        }
+    }
+    Ok(())
+}
+
+/// Adds the resolvents of one clause with the others.
+fn add_resolvents_of<S: Sink>(
+    simplifier: &mut Simplifier,
+    store: &mut Store,
+    sink: &mut S,
+    pivot: Lit,
+    first: CRef,
+    seconds: &[CRef],
+) -> Result<(), AllocError>
+    requires simplified { IsSimplifier simplifier.old store.old.slots (S.lines sink.old) }
+    requires going { simplifier.old.is_refuted ≡ false }
+    requires first { IsWith pivot store.old.slots first }
+    requires seconds { All (IsWith (negation pivot) store.old.slots) seconds.now }
+    ensures simplified { IfOk result (λ _. StaysSimplified simplifier.old store.old.slots (S.lines sink.old)
+        simplifier.new store.new.slots (S.lines sink.new)) }
+    ensures grows { IfOk result (λ _. GrowsWithout pivot store.old.slots store.new.slots) }
+    ensures resolved { IfOk result (λ _. simplifier.new.is_refuted ≡ false
+        → All (IsPairResolved pivot store.old.slots store.new.slots first) seconds.now) }
+    ensures err { OnErr result (LeavesLog simplifier.old store.old.slots (S.lines sink.old) (S.lines sink.new)) }
+{
+    for second in seconds {
+        add_resolvent(simplifier, store, sink, pivot, first, *second)?;
+        if simplifier.is_refuted {
+            return Ok(());
+        }
+    }
+    Ok(())
+}
+
+/// Takes the variable out, whose resolvents are all there: its clauses are kept for the way back, and deleted.
+fn remove_variable<S: Sink>(
+    simplifier: &mut Simplifier,
+    store: &mut Store,
+    sink: &mut S,
+    frozen: &[bool],
+    variable: u32,
+    firsts: &[CRef],
+    seconds: &[CRef],
+) -> Result<(), AllocError>
+    requires simplified { IsSimplifierOver frozen.now simplifier.old store.old.slots (S.lines sink.old) }
+    requires going { simplifier.old.is_refuted ≡ false }
+    requires free { IsFree frozen.now variable }
+    requires firsts { AreThoseWith (positive variable) store.old.slots firsts.now }
+    requires seconds { AreThoseWith (negation (positive variable)) store.old.slots seconds.now }
+    requires resolved { ArePairsResolved (positive variable) store.old.slots store.old.slots firsts.now seconds.now }
+    ensures simplified { IfOk result (λ _. StaysOver frozen.now simplifier.old store.old.slots (S.lines sink.old)
+        simplifier.new store.new.slots (S.lines sink.new)) }
+    ensures err { OnErr result (LeavesLogOver frozen.now simplifier.old store.old.slots (S.lines sink.old) (S.lines sink.new)) }
+{
+    simplifier.removals.push(variable, firsts, store)?;
+    delete_all(
+        &simplifier.names,
+        &mut simplifier.schedule,
+        store,
+        sink,
+        firsts,
+    )?;
+    delete_all(
+        &simplifier.names,
+        &mut simplifier.schedule,
+        store,
+        sink,
+        seconds,
+    )?;
+    Ok(())
+}
+
+/// Deletes the clauses, with a line for each.
+fn delete_all<S: Sink>(
+    names: &Names,
+    schedule: &mut Schedule,
+    store: &mut Store,
+    sink: &mut S,
+    references: &[CRef],
+) -> Result<(), AllocError>
+    requires named { length names.now.names ≡ length store.old.slots }
+    requires lines { (r : ℕ) → IsLine (delete_line (name_at names.now.names r)) }
+    ensures work { IfOk result (λ _. KeepsWork names.now.names store.old.slots (S.lines sink.old) store.new.slots (S.lines sink.new)) }
+    ensures counted { IfOk result (λ _. additions (S.lines sink.new) ≡ additions (S.lines sink.old)) }
+    ensures left { IfOk result (λ _. LeavesOut references.now store.old.slots store.new.slots) }
+    ensures err { OnErr result (KeepsLog names.now.names store.old.slots (S.lines sink.old) (S.lines sink.new)) }
+{
+    let alloc = store.allocator();
+    for reference in references {
+        if store.is_live(*reference) {
+            schedule.leave(store.lits(*reference))?;
+            delete(store, names, sink, alloc, *reference)?;
+        }
+    }
+    Ok(())
+}

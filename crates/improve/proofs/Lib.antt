@@ -1,0 +1,14 @@
+pub mod Told
+pub mod GivenNumbers
+pub mod BitLaws
+pub mod SubsetSearch
+pub mod Comparators
+pub mod FrozenOutputs
+pub mod OverBounds
+pub mod GivenParts
+pub mod LastBound
+pub mod RightEnds
+pub mod CheaperBits
+pub mod SearchEnds
+pub mod HardEnds
+pub mod Lowering

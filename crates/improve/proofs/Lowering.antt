@@ -1,0 +1,60 @@
+-- From one bound to the next: the cost in hand is one more that was told.
+use Rattle.std.proofs.Common.{◌≡◌, ℕ, ◌+◌, ◌≤◌, ◌^◌, Bool, true, false, List, [], ◌∷◌, ◌++◌, Result, Ok, Err, length, append_assoc, length-append, sym, ◌∙◌, ap, subst, arith}
+use Rattle.std.specs.Prelude.{All, OnOk, OnErr, is_err, if◌then◌else◌, sum_by}
+use Rattle.std.proofs.lemmas.List.Elements.{All-push}
+use Rattle.std.proofs.lemmas.List.Sums.{sum_by-le-sum_by}
+use Rattle.wcnf.specs.Clause.{clause_value}
+use Rattle.wcnf.specs.Problem.{Problem, SoftClause, cost_under}
+use Rattle.wcnf.specs.Instance.{IsInstance}
+use Rattle.lrat_log.specs.Log.{LogLine}
+use Rattle.lrat_log.specs.Steps.{learned_count}
+use Rattle.improve.specs.declared.found.Found.{Found}
+use Rattle.improve.specs.declared.found.Found.TheVariants.{Optimum, Unsat, Best, Nothing}
+use Rattle.improve.specs.declared.found.Work.{Work}
+use Rattle.improve.specs.declared.found.ImproveFault.{ImproveFault}
+use Rattle.improve.specs.Improving.{IsSolution, IsCostOfSome, EndsWith, OnWork, work_count}
+use Rattle.improve.proofs.CheaperBits.{cost_of_solution}
+
+part : (b : Bool) (w : ℕ) → (if b then 0 else w) ≤ w
+part true w = omega arith
+part false w = omega arith
+
+pub cost_small : (p : Problem) (bits : List Bool) (c : ℕ) → IsInstance p → IsSolution p bits c → c ≤ 2 ^ 62
+cost_small p bits c h s =
+    let k = cost_of_solution p bits c s in
+    let le : cost_under p k.0 ≤ sum_by (λ (s : SoftClause). s.weight) p.soft =
+    sum_by-le-sum_by (λ (s : SoftClause). if clause_value k.0 s.clause then 0 else s.weight) (λ (s : SoftClause). s.weight) p.soft (λ s. part (clause_value k.0 s.clause) s.weight) in
+    omega (arith, le, h.weight_sum, k.2)
+
+module _ (p : Problem) (costs new : List ℕ) (c : ℕ) (bits : List Bool) (more : new ≡ costs ++ c ∷ []) where
+  pub ends_new : EndsWith new c
+  ends_new = (costs, more)
+
+  pub honest_new : IsSolution p bits c → All (IsCostOfSome p) costs → All (IsCostOfSome p) new
+  honest_new s h = subst (All (IsCostOfSome p)) (sym more) (All-push (IsCostOfSome p) costs c h (cost_of_solution p bits c s))
+
+  pub told_new : (old mid last : List ℕ) → mid ≡ old ++ costs → last ≡ mid ++ c ∷ [] → last ≡ old ++ new
+  told_new old mid last e f = f ∙ ap (λ x. x ++ c ∷ []) e ∙ append_assoc old costs (c ∷ []) ∙ ap (λ x. old ++ x) (sym more)
+
+  pub count_new : length new ≡ length costs + 1
+  count_new = ap length more ∙ length-append costs (c ∷ [])
+
+pub at_ok : {T E P : Type 0} (r : Result T E) → false ≡ is_err r → OnOk r P → P
+at_ok (Ok x) e h = h
+at_ok (Err x) e h = absurd (cc)
+
+pub at_err : {T E P : Type 0} (r : Result T E) → true ≡ is_err r → OnErr r P → P
+at_err (Ok x) e h = absurd (cc)
+at_err (Err x) e h = h
+
+pub on_work_weaker : (r : Result Found ImproveFault) (P Q : Work → Type 0) → ((w : Work) → P w → Q w) → OnWork r P → OnWork r Q
+on_work_weaker (Ok (Optimum c bits log clauses)) P Q f h = tt
+on_work_weaker (Ok (Unsat log clauses)) P Q f h = tt
+on_work_weaker (Ok (Best c bits work)) P Q f h = f work h
+on_work_weaker (Ok (Nothing work)) P Q f h = f work h
+on_work_weaker (Err e) P Q f h = tt
+
+-- what was learned for the hard clauses and for the bounds
+pub work_learned : (w : Work) (hard sink : List LogLine) (before middle after : ℕ) → (w.hard ≡ hard) × (learned_count w.bound ≡ learned_count sink)
+    → before + learned_count hard ≡ middle → after ≡ middle + learned_count sink → after ≡ before + work_count w
+work_learned w hard sink before middle after same e f = omega (arith, ap learned_count same.0, same.1, e, f)

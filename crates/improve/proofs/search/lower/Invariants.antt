@@ -1,0 +1,26 @@
+-- The costs told are the bounds so far; the solution in hand is cheaper than they are, and was not told yet.
+use Rattle.std.proofs.Common.{◌≡◌, ◌+◌, ◌++◌, ◌∷◌, [], length}
+use Rattle.std.specs.Prelude.{All}
+use Rattle.lrat_log.specs.Steps.{learned_count}
+use Rattle.improve.specs.Improving.{AreFalling, IsCostOfSome, IsSolution}
+use Rattle.improve.specs.Bounds.{IsOver}
+use Rattle.improve.proofs.search.lower.Given as goal
+
+abbrev pub invariant-loop-bounds : goal.invariant-loop-bounds
+invariant-loop-bounds g l = record {
+  over : IsOver l.instance l.bounds;
+  profile : (l.bounds).profile ≡ l.fn.profile;
+  solution : IsSolution l.instance ((l.best).bits).items (l.best).cost;
+  falling : AreFalling (((l.bounds).costs).items ++ (l.best).cost ∷ []);
+  honest : All (IsCostOfSome l.instance) ((l.bounds).costs).items;
+  told : g.T.Progress.told l.progress ≡ g.T.Progress.told l.fn.progress ++ ((l.bounds).costs).items;
+  failures : g.T.Progress.failures l.progress ≡ g.T.Progress.failures l.fn.progress;
+  follows : (first : g.row.T.Denot) → g.T.Progress.follows first l.fn.progress → g.T.Progress.follows first l.progress;
+  hard : l.hard ≡ l.fn.hard;
+  limit : (l.budget).limit ≡ (l.fn.budget).limit;
+  answers : (l.budget).answers ≡ (l.fn.budget).answers + length ((l.bounds).costs).items;
+  learned : (l.budget).learned ≡ (l.fn.budget).learned + learned_count ((l.bounds).solver).sink;
+}
+
+abbrev pub decreases-loop-bounds : goal.decreases-loop-bounds
+decreases-loop-bounds g l = (l.best).cost

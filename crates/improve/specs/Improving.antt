@@ -1,0 +1,183 @@
+-- What the improving search finds.
+use Rattle.std.specs.Prelude.{◌≡◌, ℕ, ◌+◌, ◌<◌, ◌^◌, Bool, List, [], ◌∷◌, ◌++◌, length, map, drop, if◌then◌else◌, Option, Some, Result, Ok, Err, IfOk, OnOk, All, ⊤}
+use Rattle.std.specs.List.{flat_map}
+use Rattle.wcnf.specs.Literal.{Literal, Assignment}
+use Rattle.wcnf.specs.Clause.{is_subset}
+use Rattle.wcnf.specs.Bits.{Extends}
+use Rattle.wcnf.specs.Problem.{Problem, IsFeasible, cost_under, IsOptimal, IsInconsistent}
+use Rattle.wcnf.specs.Refute.{IsRefutedByHints}
+use Rattle.wcnf.specs.Lrat.{Accepts, start_of}
+use Rattle.lrat_log.specs.Log.{LogLine, numbered_lines}
+use Rattle.lrat_log.specs.Steps.{AreSteps, AddsNoEmptyClause, LearnsNew, nothing_exempt, is_later, given_of, learned_count}
+use Rattle.lrat_log.specs.Rebase.{WeakerList, weaker_line}
+use Rattle.adder.specs.declared.cells.Profile.{Profile}
+use Rattle.bound.specs.Bound.{hard_cnf, bound_as, fixed_clauses, comparator_for}
+use Rattle.cdcl_order.specs.Budgets.{BudgetState, left_of}
+use Rattle.improve.specs.declared.found.Work.{Work}
+use Rattle.improve.specs.declared.found.Found.{Found}
+use Rattle.improve.specs.declared.found.Found.TheVariants.{Optimum, Unsat, Best, Nothing}
+use Rattle.improve.specs.declared.found.ImproveFault.{ImproveFault}
+use Rattle.improve.specs.declared.found.ImproveFault.TheVariants.{Memory, Progress}
+
+-- the costs told since then, or tried
+abbrev pub told_since : List ℕ → List ℕ → List ℕ
+told_since old new = drop (length old) new
+
+abbrev pub AreFalling : List ℕ → Type 0
+AreFalling [] = Unit {0}
+AreFalling (c ∷ []) = Unit {0}
+AreFalling (c ∷ d ∷ cs) = (d < c) × AreFalling (d ∷ cs)
+
+-- the cost of some solution
+abbrev pub IsCostOfSome : Problem → ℕ → Type 0
+IsCostOfSome p c = (t : Assignment) × IsFeasible p t × (cost_under p t ≡ c)
+
+abbrev pub EndsWith : List ℕ → ℕ → Type 0
+EndsWith costs c = (before : List ℕ) × (costs ≡ before ++ c ∷ [])
+
+-- the bits are a solution of this cost
+abbrev pub IsSolution : Problem → List Bool → ℕ → Type 0
+IsSolution p bits c =
+    (length bits ≡ p.variables) × ((t : Assignment) → Extends bits t → IsFeasible p t × (cost_under p t ≡ c))
+
+-- from this number on, the number of the first clause that is a subset of c
+abbrev pub first_subset : ℕ → List (List Literal) → List Literal → ℕ
+first_subset n [] c = n
+first_subset n (d ∷ ds) c = if is_subset d c then n else first_subset (n + 1) ds c
+
+abbrev pub but_last : List ℕ → List ℕ
+but_last [] = []
+but_last (c ∷ []) = []
+but_last (c ∷ d ∷ cs) = c ∷ but_last (d ∷ cs)
+
+-- the clauses before, each with the number of the first of the last ones that is a subset of it; the last ones have
+-- the numbers from `first` on
+abbrev pub weaker_among : ℕ → List (List Literal) → List (List Literal) → WeakerList
+weaker_among first last before = map (λ c. (c, first_subset first last c)) before
+
+-- the comparator clauses of the bounds before the last one, each with the number of one for the last
+abbrev pub weaker_for : Profile → Problem → List ℕ → ℕ → WeakerList
+weaker_for profile p costs last =
+    weaker_among (length (fixed_clauses profile p) + 1) (comparator_for profile p last) (flat_map (comparator_for profile p) (but_last costs))
+
+-- the log begins with a line for each of those
+abbrev pub BeginsWithWeaker : Profile → Problem → List ℕ → ℕ → List LogLine → Type 0
+BeginsWithWeaker profile p costs last ls =
+    (rest : List LogLine) × (ls ≡ map weaker_line (weaker_for profile p costs last) ++ rest)
+
+-- the log is accepted over these clauses
+abbrev pub IsAcceptedOver : List (List Literal) → List LogLine → Type 0
+IsAcceptedOver cs ls = Accepts cs (numbered_lines (length cs) ls)
+
+-- steps from these clauses that don't reach the empty one
+pub record IsWorkOver (cs : List (List Literal)) (ls : List LogLine) : Type 0 where
+  pub steps : AreSteps (start_of cs) (numbered_lines (length cs) ls)
+  pub open_end : AddsNoEmptyClause ls
+
+-- no learned line has a subset that is live at its place, and each follows by propagation
+abbrev pub IsNewWork : List (List Literal) → List LogLine → Type 0
+IsNewWork cs ls = LearnsNew nothing_exempt (given_of cs) (length cs) [] ls
+
+abbrev pub IsHardLog : Problem → List LogLine → Type 0
+IsHardLog p ls = IsWorkOver (hard_cnf p).clauses ls × IsNewWork (hard_cnf p).clauses ls
+
+abbrev pub IsHardWork : Problem → Work → Type 0
+IsHardWork p w = IsHardLog p w.hard
+
+-- the ids of the last bound's clauses, and of the lines for those of the bounds before
+abbrev pub is_of_bounds : Profile → Problem → List ℕ → ℕ → ℕ → Bool
+is_of_bounds profile p costs c =
+    is_later (length (fixed_clauses profile p)) (length (bound_as profile p c).clauses + length (weaker_for profile p costs c))
+
+-- but for those, no learned line has a subset that is live at its place, and each follows by propagation
+abbrev pub IsNewBoundWork : Profile → Problem → List ℕ → ℕ → List LogLine → Type 0
+IsNewBoundWork profile p costs c ls =
+    LearnsNew (is_of_bounds profile p costs c) (given_of (bound_as profile p c).clauses) (length (bound_as profile p c).clauses) [] ls
+
+-- the log over the formula for the last bound
+pub record IsBoundWork (profile : Profile) (p : Problem) (costs : List ℕ) (c : ℕ) (w : Work) : Type 0 where
+  pub work : IsWorkOver (bound_as profile p c).clauses w.bound
+  pub begins : BeginsWithWeaker profile p costs c w.bound
+  pub new : IsNewBoundWork profile p costs c w.bound
+
+-- the number of these clauses, which are few
+abbrev pub IsClauseCount : ℕ → List (List Literal) → Type 0
+IsClauseCount n cs = (n ≡ length cs) × (n < 2 ^ 28)
+
+-- What was found is right, where these costs were told.
+
+pub record IsRightOptimum (profile : Profile) (p : Problem) (costs : List ℕ) (c : ℕ) (bits : List Bool) (log : List LogLine) (clauses : ℕ) : Type 0 where
+  pub solution : IsSolution p bits c
+  pub told : EndsWith costs c
+  pub optimal : (t : Assignment) → Extends bits t → IsOptimal p t c
+  pub accepted : IsAcceptedOver (bound_as profile p c).clauses log
+  pub begins : BeginsWithWeaker profile p costs c log
+  pub counted : IsClauseCount clauses (bound_as profile p c).clauses
+
+pub record IsRightUnsat (p : Problem) (costs : List ℕ) (log : List LogLine) (clauses : ℕ) : Type 0 where
+  pub none_told : costs ≡ []
+  pub inconsistent : IsInconsistent p
+  pub accepted : IsAcceptedOver (hard_cnf p).clauses log
+  pub counted : IsClauseCount clauses (hard_cnf p).clauses
+
+pub record IsRightBest (profile : Profile) (p : Problem) (costs : List ℕ) (c : ℕ) (bits : List Bool) (work : Work) : Type 0 where
+  pub solution : IsSolution p bits c
+  pub told : EndsWith costs c
+  pub above_zero : 0 < c
+  pub hard : IsHardWork p work
+  pub bound : IsBoundWork profile p costs c work
+
+pub record IsRightNothing (p : Problem) (costs : List ℕ) (work : Work) : Type 0 where
+  pub none_told : costs ≡ []
+  -- propagation alone does not refute the hard clauses
+  pub not_refuted : IsRefutedByHints (hard_cnf p).clauses → ⊥
+  pub hard : IsHardWork p work
+  pub no_bound : work.bound ≡ []
+
+abbrev pub IsRightFound : Profile → Problem → List ℕ → Found → Type 0
+IsRightFound profile p costs (Optimum c bits log clauses) = IsRightOptimum profile p costs c bits.items log clauses
+IsRightFound profile p costs (Unsat log clauses) = IsRightUnsat p costs log clauses
+IsRightFound profile p costs (Best c bits work) = IsRightBest profile p costs c bits.items work
+IsRightFound profile p costs (Nothing work) = IsRightNothing p costs work
+
+-- what was tried was told, but for a last cost where that failed
+abbrev pub TellsOf : Result Found ImproveFault → List ℕ → List ℕ → Option ℕ → Type 0
+TellsOf (Ok found) tried told failed = tried ≡ told
+TellsOf (Err Memory) tried told failed = tried ≡ told
+TellsOf (Err Progress) tried told failed = (c : ℕ) × (failed ≡ Some c) × (tried ≡ told ++ c ∷ [])
+
+-- for the answers with work
+abbrev pub OnWork : Result Found ImproveFault → (Work → Type 0) → Type 0
+OnWork (Ok (Best c bits work)) P = P work
+OnWork (Ok (Nothing work)) P = P work
+OnWork (Ok (Optimum c bits log clauses)) P = ⊤
+OnWork (Ok (Unsat log clauses)) P = ⊤
+OnWork (Err e) P = ⊤
+
+abbrev pub work_count : Work → ℕ
+work_count w = learned_count w.hard + learned_count w.bound
+
+-- what was told, what failed to be told last, and how often that failed
+pub record Telling : Type 0 where
+  pub told : List ℕ
+  pub failed : Option ℕ
+  pub failures : ℕ
+
+-- what a search answers, tells and spends
+pub record Improves (profile : Profile) (p : Problem) (result : Result Found ImproveFault) (old new : Telling) (budget left : BudgetState)
+    : Type 0 where
+  -- the costs fall, and each is that of a solution, also before a fault
+  pub tried : List ℕ
+  pub told : List ℕ
+  pub tells : new.told ≡ old.told ++ told
+  pub falling : AreFalling tried
+  pub honest : All (IsCostOfSome p) tried
+  pub tells_of : TellsOf result tried told new.failed
+  pub progress : result ≡ Err Progress → new.failures ≡ old.failures + 1
+  pub no_failure : (result ≡ Err Progress → ⊥) → new.failures ≡ old.failures
+  pub found : IfOk result (IsRightFound profile p told)
+  -- the effort
+  pub same_limit : left.limit ≡ budget.limit
+  pub answers : OnOk result (left.answers ≡ budget.answers + length told)
+  pub learned : OnWork result (λ work. left.learned ≡ budget.learned + work_count work)
+  pub spent : OnWork result (λ work. left_of left ≡ 0)

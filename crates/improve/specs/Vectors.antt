@@ -1,0 +1,28 @@
+-- Worked bounds: three soft clauses of weight 1, and the costs 3 and 2.
+use Rattle.std.specs.Prelude.{◌≡◌, ℕ, true, false, [], ◌∷◌, refl, length}
+use Rattle.wcnf.specs.Literal.{Literal}
+use Rattle.wcnf.specs.Problem.{Problem}
+use Rattle.adder.specs.declared.cells.Profile.TheVariants.{One}
+use Rattle.bound.specs.Bound.{fixed_clauses}
+use Rattle.improve.specs.Improving.{weaker_for}
+
+abbrev p : ℕ → Literal
+p n = record { variable = n; negated = false }
+
+abbrev n : ℕ → Literal
+n v = record { variable = v; negated = true }
+
+abbrev three : Problem
+three = record {
+  variables = 3;
+  hard = [];
+  soft =
+      record { weight = 1; clause = p 1 ∷ [] } ∷ record { weight = 1; clause = p 2 ∷ [] }
+      ∷ record { weight = 1; clause = p 3 ∷ [] } ∷ [];
+}
+
+fixed : length (fixed_clauses One three) ≡ 17
+fixed = refl
+
+weaker : weaker_for One three (3 ∷ 2 ∷ []) 2 ≡ (n 7 ∷ n 8 ∷ [], 18) ∷ []
+weaker = refl

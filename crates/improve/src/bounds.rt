@@ -1,0 +1,212 @@
+// One solver over all bounds. The formula is given once, without a bound; the clauses of each bound are
+// given beside those of the bounds before, so that what was learned stays. The certificate's formula has
+// the clauses of the last bound alone: at the end the log is told over that one.
+ghost use Rattle.std.specs.Prelude.{◌≡◌, ℕ, ◌+◌, ◌<◌, ◌≤◌, ◌^◌, false, List, [], ◌∷◌, ◌++◌, length, All, IfOk, OnOk};
+ghost use Rattle.wcnf.specs.Literal.{Literal};
+ghost use Rattle.wcnf.specs.Clause.{has_repeat, has_opposites};
+ghost use Rattle.lrat_log.specs.Log.{clauses_in};
+ghost use Rattle.lrat_log.specs.Steps.{learned_count};
+ghost use Rattle.lrat_log.specs.Rebase.{weaker_list};
+ghost use Rattle.bound.specs.Bound.{bound_as};
+ghost use Rattle.cdcl.specs.Solving.{IsFrozen};
+ghost use Rattle.improve.specs.Bounds.{IsUsable, Gives, GivesAll, IsOver, HasNoBound, IsNext, BoundLog};
+ghost use Rattle.improve.specs.Improving.{AreFalling, EndsWith, weaker_among};
+
+use crate::frozen::freeze_outputs;
+use crate::solutions::{Solution, judge};
+use crate::weaker::pair_with_subsets;
+use adder::building::network_as;
+use adder::cells::Profile;
+use adder::networks::Network;
+use adder::relaxations::{Relaxation, Relaxations};
+use bound::formulas::{comparator, formula_as};
+use cdcl::budget::Budget;
+use cdcl::outcome::Outcome;
+use cdcl::solver::Solver;
+use lrat_log::lines::{Name, Number};
+use lrat_log::log::Log;
+use lrat_log::rebase::rebase;
+use lrat_log::sink::Sink;
+use std::alloc::{AllocError, Global};
+use wcnf::types::{Clause, Instance, Lit};
+
+/// No cost reaches this, as all weights sum to less; so it has no comparator clause.
+const NO_BOUND: u64 = 1 << 62;
+
+/// The bounds so far, each lower than those before, and the solver that was given them.
+#[derive(Drop)]
+pub struct Bounds {
+    /// It was given the formula without a bound, then the comparator clauses of each bound, all under
+    /// the numbers from 1 on.
+    pub solver: Solver<Log>,
+    /// The adder network whose outputs the comparators speak of. Their variables are frozen.
+    pub network: Network,
+    /// How soft clauses are relaxed.
+    pub profile: Profile,
+    /// The bounds in the order in which they were given, each at most 2^62.
+    pub costs: Vec<u64>,
+    /// How many clauses come before those of the first bound.
+    pub fixed: usize,
+    /// How many clauses the last bound has; 0 before the first.
+    pub last: usize,
+}
+
+/// What the search below the last bound led to.
+#[derive(Drop)]
+pub enum Next {
+    /// A cheaper solution.
+    Cheaper(Solution),
+    /// No solution is cheaper.
+    Refuted,
+    /// The budget is spent.
+    Spent,
+}
+
+impl Bounds {
+    /// A solver that was given no bound.
+    pub fn new(instance: &Instance, profile: Profile) -> Result<Self, AllocError>
+        ensures over { IfOk result (λ b. IsOver instance.now b) }
+        ensures none { IfOk result (HasNoBound profile) }
+    {
+        // The contract of `vars` has the limits of the instance.
+        let _vars = instance.vars();
+        let network = network_as(instance, profile)?;
+        let formula = formula_as(instance, NO_BOUND, profile)?;
+        let alloc = instance.allocator();
+        let frozen = freeze_outputs(alloc, network.outputs(), formula.vars())?;
+        let mut solver = Solver::new(&formula, &frozen, Log::new(alloc))?;
+        weigh(&mut solver, &Relaxations::of(instance, profile)?.each);
+        Ok(Bounds {
+            solver,
+            network,
+            profile,
+            costs: Vec::new(alloc),
+            fixed: formula.clauses().len(),
+            last: 0,
+        })
+    }
+
+    /// Gives the clauses of a further bound: the cost has to be below it.
+    pub fn add(&mut self, instance: &Instance, cost: u64) -> Result<(), AllocError>
+        requires over { IsOver instance.now self.old }
+        requires small { cost ≤ 2 ^ 62 }
+        ensures over { OnOk result (IsOver instance.now self.new) }
+        ensures costs { OnOk result (self.new.costs.items ≡ self.old.costs.items ++ cost ∷ []) }
+        ensures profile { OnOk result (self.new.profile ≡ self.old.profile) }
+        ensures learned { OnOk result (learned_count self.new.solver.sink ≡ learned_count self.old.solver.sink) }
+    {
+        let _vars = instance.vars();
+        let clauses = comparator(&self.network, cost)?;
+        give_all(&mut self.solver, &clauses)?;
+        self.last = clauses.len();
+        self.costs.push(cost)?;
+        Ok(())
+    }
+
+    /// Looks for a solution below the last bound.
+    pub fn search(&mut self, instance: &Instance, budget: &mut Budget) -> Result<Next, AllocError>
+        requires over { IsOver instance.now self.old }
+        requires bounded { (c : ℕ) × EndsWith self.old.costs.items c }
+        ensures over { OnOk result (IsOver instance.now self.new) }
+        ensures costs { self.new.costs ≡ self.old.costs }
+        ensures profile { self.new.profile ≡ self.old.profile }
+        ensures next { IfOk result (IsNext instance.now self.new budget.old budget.new) }
+
+        // The effort.
+        ensures learned { budget.new.learned + learned_count self.old.solver.sink
+            ≡ budget.old.learned + learned_count self.new.solver.sink }
+        ensures limit { budget.new.limit ≡ budget.old.limit }
+    {
+        let Ok(outcome) = self.solver.solve(budget) else {
+            return Err(AllocError);
+        };
+        match outcome {
+            Outcome::Sat(bits) => Ok(Next::Cheaper(judge(instance, bits))),
+            Outcome::Unsat => Ok(Next::Refuted),
+            Outcome::Limit => Ok(Next::Spent),
+        }
+    }
+
+    /// How many clauses the formula for the last bound has.
+    pub fn count_clauses(&self, instance: &Instance) -> u64
+        requires over { IsOver instance.now self.now }
+        requires bounded { (c : ℕ) × EndsWith self.now.costs.items c }
+        ensures { (before : List ℕ) (c : ℕ) → self.now.costs.items ≡ before ++ c ∷ []
+            → result ≡ length (bound_as self.now.profile instance.now c).clauses }
+    {
+        let _vars = instance.vars();
+        self.fixed as u64 + self.last as u64
+    }
+
+    /// The log as one over the formula for the last bound: a line for each clause of the bounds before,
+    /// and then the lines of the solver's log.
+    pub fn rebase_log(&self, instance: &Instance) -> Result<Log, AllocError>
+        requires over { IsOver instance.now self.now }
+        requires bounded { (c : ℕ) × EndsWith self.now.costs.items c }
+        requires falling { AreFalling self.now.costs.items }
+        ensures { IfOk result (λ log. BoundLog instance.now self.now log) }
+    {
+        let _vars = instance.vars();
+        let sink = self.solver.sink();
+        sink.is_short();
+        let given = self.solver.given();
+        let weaker = collect_weaker(instance.allocator(), given, self.fixed, self.last)?;
+        rebase(sink, self.fixed as u64, &weaker)
+    }
+}
+
+/// Tells the solver what each relaxation literal costs: a search that decides what costs most first
+/// meets cheap solutions sooner.
+fn weigh(solver: &mut Solver<Log>, relaxations: &[Relaxation])
+    ensures { solver.new ≡ solver.old }
+{
+    for relaxation in relaxations {
+        solver.weigh(relaxation.lit, relaxation.weight);
+    }
+}
+
+/// The clauses between the fixed ones and those of the last bound, each with the number of a clause of
+/// the last one.
+fn collect_weaker(
+    alloc: Global,
+    given: &[(Name, Clause)],
+    fixed: usize,
+    last: usize,
+) -> Result<Vec<(Vec<Lit>, u64)>, AllocError>
+    requires { fixed + last ≤ length given.now }
+    ensures few { length given.now < 2 ^ 58 }
+    ensures weaker { IfOk result (λ weaker. (a b c : List (List Literal)) → clauses_in given.now ≡ a ++ (b ++ c)
+        → length a ≡ fixed → length c ≡ last → weaker_list weaker.items ≡ weaker_among (fixed + 1) c b) }
+{
+    let end = given.len() - last;
+    pair_with_subsets(alloc, &given[fixed..end], &given[end..], fixed as u64 + 1)
+}
+
+/// Gives the clauses, in their order.
+fn give_all(solver: &mut Solver<Log>, clauses: &[Clause]) -> Result<(), AllocError>
+    requires usable { IsUsable solver.old }
+    requires frozen { All (λ c. All (IsFrozen solver.old.frozen) c) clauses.now }
+    requires no_opposites { All (λ c. has_opposites c ≡ false) clauses.now }
+    ensures { OnOk result (GivesAll solver.old clauses.now solver.new) }
+{
+    for clause in clauses {
+        give(solver, clause.lits())?;
+    }
+    Ok(())
+}
+
+/// Gives the clause, under the number after those of the clauses before.
+fn give(solver: &mut Solver<Log>, lits: &[Lit]) -> Result<(), AllocError>
+    requires usable { IsUsable solver.old }
+    requires frozen { All (IsFrozen solver.old.frozen) lits.now }
+    requires no_repeat { has_repeat lits.now ≡ false }
+    requires no_opposites { has_opposites lits.now ≡ false }
+    ensures { OnOk result (Gives solver.old lits.now solver.new) }
+{
+    let count = solver.given().len();
+    let name = Name::Formula(Number::new(count as u64 + 1));
+    match solver.add_clause(name, lits) {
+        Ok(()) => Ok(()),
+        Err(_) => Err(AllocError),
+    }
+}

@@ -1,0 +1,199 @@
+//! The improving search: each solution bounds the cost of the next (Handbook of Satisfiability, chapter
+//! MaxSAT, linear search from satisfiable to unsatisfiable).
+ghost use Rattle.std.specs.Prelude.{◌≡◌, ℕ, ◌+◌, ◌<◌, ◌^◌, IfOk, IfErr};
+ghost use Rattle.lrat_log.specs.Steps.{IsAcceptedLog, AddsNoEmptyClause, learned_count};
+ghost use Rattle.cdcl_order.specs.Budgets.{BudgetState};
+ghost use Rattle.cdcl.specs.Solving.{given_to};
+ghost use Rattle.improve.specs.Improving.{Improves, IsHardLog, IsRightFound, IsSolution, OnWork, EndsWith, AreFalling};
+ghost use Rattle.improve.specs.Bounds.{IsOver, IsOverHard};
+
+use crate::bounds::{Bounds, Next};
+use crate::found::{Found, ImproveFault, Work};
+use crate::frozen::freeze_none;
+use crate::progress::Progress;
+use crate::solutions::{Solution, judge};
+use adder::cells::Profile;
+use bound::formulas::hard_formula;
+use cdcl::budget::Budget;
+use cdcl::outcome::Outcome;
+use cdcl::solver::Solver;
+use lrat_log::log::Log;
+use std::alloc::AllocError;
+use wcnf::types::Instance;
+
+/// Looks for an optimum: first for a solution of the hard clauses, and then for cheaper ones until there
+/// is none or the budget is spent. The cost of each is told to `progress` as soon as it is known. Each
+/// clause that is learned and each solution costs one unit, and nothing else does.
+///
+/// # Errors
+///
+/// `Memory` where memory was refused, `Progress` where a cost could not be told.
+pub fn improve<T: Progress>(
+    instance: &Instance,
+    budget: &mut Budget,
+    progress: &mut T,
+) -> Result<Found, ImproveFault>
+    requires { T.failures progress.old < 2 ^ 62 }
+    ensures follows { (first : T) → T.follows first progress.old → T.follows first progress.new }
+    ensures improves { Improves Profile.One instance.now result
+        (record { told = T.told progress.old; failed = T.failed progress.old; failures = T.failures progress.old })
+        (record { told = T.told progress.new; failed = T.failed progress.new; failures = T.failures progress.new })
+        budget.old budget.new }
+{
+    improve_as(instance, budget, progress, Profile::One)
+}
+
+/// As `improve`, where soft clauses are relaxed as the profile says.
+///
+/// # Errors
+///
+/// Those of `improve`.
+pub fn improve_as<T: Progress>(
+    instance: &Instance,
+    budget: &mut Budget,
+    progress: &mut T,
+    profile: Profile,
+) -> Result<Found, ImproveFault>
+    requires { T.failures progress.old < 2 ^ 62 }
+    ensures follows { (first : T) → T.follows first progress.old → T.follows first progress.new }
+    ensures improves { Improves profile instance.now result
+        (record { told = T.told progress.old; failed = T.failed progress.old; failures = T.failures progress.old })
+        (record { told = T.told progress.new; failed = T.failed progress.new; failures = T.failures progress.new })
+        budget.old budget.new }
+{
+    let Ok(mut solver) = make_hard_solver(instance) else {
+        return Err(ImproveFault::Memory);
+    };
+    match solver.solve(budget) {
+        Ok(Outcome::Sat(bits)) => {
+            let first = judge(instance, bits);
+            let hard = solver.into_sink();
+            lower(instance, budget, progress, profile, hard, first)
+        }
+        Ok(Outcome::Unsat) => {
+            let clauses = solver.given().len() as u64;
+            let log = solver.into_sink();
+            Ok(Found::Unsat { log, clauses })
+        }
+        Ok(Outcome::Limit) => {
+            let hard = solver.into_sink();
+            let bound = Log::new(instance.allocator());
+            Ok(Found::Nothing {
+                work: Work { hard, bound },
+            })
+        }
+        Err(_) => Err(ImproveFault::Memory),
+    }
+}
+
+/// A solver of the hard clauses alone.
+fn make_hard_solver(instance: &Instance) -> Result<Solver<Log>, AllocError>
+    ensures { IfOk result (IsOverHard instance.now) }
+{
+    // The contract of `vars` has the limits of the instance.
+    let _instance_vars = instance.vars();
+    let alloc = instance.allocator();
+    let formula = hard_formula(instance)?;
+    let vars = formula.vars() as usize;
+    let frozen = freeze_none(alloc, vars)?;
+    let solver = Solver::new(&formula, &frozen, Log::new(alloc))?;
+    Ok(solver)
+}
+
+/// Goes on from a solution that was not told yet to cheaper ones: each is told, and then its cost is the
+/// next bound. The log is that of the hard clauses.
+fn lower<T: Progress>(
+    instance: &Instance,
+    budget: &mut Budget,
+    progress: &mut T,
+    profile: Profile,
+    hard: Log,
+    first: Solution,
+) -> Result<Found, ImproveFault>
+    requires failures { T.failures progress.old < 2 ^ 62 }
+    requires solution { IsSolution instance.now first.bits.items first.cost }
+    requires hard { IsHardLog instance.now hard }
+    ensures follows { (first : T) → T.follows first progress.old → T.follows first progress.new }
+
+    // From before the search over the hard clauses, whose one solution and whose learned lines were counted.
+    ensures improves { (before : BudgetState) → before.limit ≡ budget.old.limit → before.answers + 1 ≡ budget.old.answers
+        → before.learned + learned_count hard ≡ budget.old.learned
+        → Improves profile instance.now result
+        (record { told = T.told progress.old; failed = T.failed progress.old; failures = T.failures progress.old })
+        (record { told = T.told progress.new; failed = T.failed progress.new; failures = T.failures progress.new })
+        before budget.new }
+{
+    let mut best = first;
+    let Ok(mut bounds) = Bounds::new(instance, profile) else {
+        return Err(ImproveFault::Memory);
+    };
+    loop {
+        if progress.improved(best.cost).is_err() {
+            return Err(ImproveFault::Progress);
+        }
+        if bounds.add(instance, best.cost).is_err() {
+            return Err(ImproveFault::Memory);
+        }
+        match bounds.search(instance, budget) {
+            Ok(Next::Cheaper(solution)) => best = solution,
+            Ok(Next::Refuted) => return conclude_optimum(instance, &bounds, best),
+            Ok(Next::Spent) => return conclude_spent(instance, &bounds, best, hard),
+            Err(AllocError) => return Err(ImproveFault::Memory),
+        }
+    }
+}
+
+/// The end where no solution is cheaper.
+fn conclude_optimum(
+    instance: &Instance,
+    bounds: &Bounds,
+    best: Solution,
+) -> Result<Found, ImproveFault>
+    requires over { IsOver instance.now bounds.now }
+    requires refuted { IsAcceptedLog (given_to bounds.now.solver) bounds.now.solver.sink }
+    requires solution { IsSolution instance.now best.bits.items best.cost }
+    requires last { EndsWith bounds.now.costs.items best.cost }
+    requires falling { AreFalling bounds.now.costs.items }
+    ensures found { IfOk result (IsRightFound bounds.now.profile instance.now bounds.now.costs.items) }
+    ensures work { OnWork result (λ _. ⊥) }
+    ensures fault { IfErr result (λ e. e ≡ ImproveFault.Memory) }
+{
+    match bounds.rebase_log(instance) {
+        Ok(log) => Ok(Found::Optimum {
+            cost: best.cost,
+            bits: best.bits,
+            log,
+            clauses: bounds.count_clauses(instance),
+        }),
+        Err(AllocError) => Err(ImproveFault::Memory),
+    }
+}
+
+/// The end where the budget is spent.
+fn conclude_spent(
+    instance: &Instance,
+    bounds: &Bounds,
+    best: Solution,
+    hard: Log,
+) -> Result<Found, ImproveFault>
+    requires over { IsOver instance.now bounds.now }
+    requires open { AddsNoEmptyClause bounds.now.solver.sink }
+    requires solution { IsSolution instance.now best.bits.items best.cost }
+    requires above { 0 < best.cost }
+    requires last { EndsWith bounds.now.costs.items best.cost }
+    requires falling { AreFalling bounds.now.costs.items }
+    requires hard { IsHardLog instance.now hard }
+    ensures found { IfOk result (IsRightFound bounds.now.profile instance.now bounds.now.costs.items) }
+    ensures work { OnWork result (λ work. (work.hard ≡ hard)
+        × (learned_count work.bound ≡ learned_count bounds.now.solver.sink)) }
+    ensures fault { IfErr result (λ e. e ≡ ImproveFault.Memory) }
+{
+    match bounds.rebase_log(instance) {
+        Ok(bound) => Ok(Found::Best {
+            cost: best.cost,
+            bits: best.bits,
+            work: Work { hard, bound },
+        }),
+        Err(AllocError) => Err(ImproveFault::Memory),
+    }
+}

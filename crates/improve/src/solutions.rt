@@ -1,0 +1,30 @@
+// Solutions with their cost.
+ghost use Rattle.std.specs.Prelude.{◌≡◌, ◌≤◌, length, take};
+ghost use Rattle.wcnf.specs.Literal.{Assignment};
+ghost use Rattle.wcnf.specs.Bits.{Extends};
+ghost use Rattle.wcnf.specs.Problem.{IsFeasible, cost_under};
+ghost use Rattle.improve.specs.Improving.{IsSolution};
+
+use wcnf::types::Instance;
+
+/// A solution: its bits satisfy the hard clauses.
+#[derive(Drop)]
+pub struct Solution {
+    /// The weights of the soft clauses that the bits falsify, below 2^62 together.
+    pub cost: u64,
+    /// One for each variable of the instance, from variable 1.
+    pub bits: Vec<bool>,
+}
+
+/// The solution that these bits begin with, and what it costs. The bits may be those of more variables.
+pub fn judge(instance: &Instance, mut bits: Vec<bool>) -> Solution
+    requires long { instance.now.variables ≤ length bits.items }
+    requires feasible { (t : Assignment) → Extends bits.items t → IsFeasible instance.now t }
+    ensures solution { IsSolution instance.now result.bits.items result.cost }
+    ensures same { (t : Assignment) → Extends bits.items t → cost_under instance.now t ≡ result.cost }
+{
+    bits.truncate(instance.vars() as usize);
+    prove!(instance.feasible(&bits));
+    let cost = instance.cost(&bits);
+    Solution { cost, bits }
+}

@@ -1,0 +1,115 @@
+-- The text of a result: its parts, and what it says.
+use Rattle.std.proofs.Common.{◌≡◌, ℕ, zero, suc, ◌+◌, ◌<◌, ◌≤◌, ◌^◌, Bool, true, false, not, List, [], ◌∷◌, ◌++◌, length, map, get_or, refl, sym, ◌∙◌, ap, subst, arith, append_assoc, append-nil}
+use Rattle.std.specs.Prelude.{All, filter, ◌==◌}
+use Rattle.std.specs.List.{flat_map, AllByRecursion}
+use Rattle.std.specs.Fmt.{decimal}
+use Rattle.std.proofs.lemmas.List.Elements.{recursion_from_All, All-from_recursion}
+use lib.Chars.{codes}
+use Rattle.wcnf.specs.Text.{token_lines}
+use Rattle.wcnf.specs.Writing.{spaced}
+use Rattle.wcnf.proofs.Items.{flat_map-append}
+use Rattle.lrat_log.proofs.Text.{IsWord, token_lines-spaced, decimal_word}
+use Rattle.lrat_check.specs.Result.{Said, OptimumFound, Unsatisfiable, Satisfiable, Unknown, FallsTo, Says, fall_to, cost_tokens, digit_of, bits_tokens, result_tokens, is_ignored, result_lines}
+use Rattle.improve.specs.Improving.{AreFalling}
+use Rattle.report.specs.Telling.{cost_lines}
+use Rattle.report.specs.Running.{result_text}
+use Rattle.report.specs.Answering.{digits_text, bits_word, words_text}
+
+-- an item of a list doesn't depend on what stands for a missing one
+pub get_or_any : {X : Type 0} (xs : List X) (i : ℕ) (x y : X) → i < length xs → get_or xs i x ≡ get_or xs i y
+get_or_any [] i x y h = absurd (omega arith)
+get_or_any (z ∷ xs) zero x y h = refl
+get_or_any (z ∷ xs) (suc i) x y h = get_or_any xs i x y (omega arith)
+
+-- the line of the bits
+digits_text-map : (bits : List Bool) → digits_text bits ≡ map digit_of bits
+digits_text-map [] = refl
+digits_text-map (b ∷ bits) = ap (λ z. digit_of b ∷ z) (digits_text-map bits)
+
+bits_line : (bits : List Bool) → spaced (bits_tokens bits) ≡ words_text (bits_word bits) bits
+bits_line [] = refl
+bits_line (b ∷ bits) = ap (λ z. 118 ∷ 32 ∷ digit_of b ∷ (z ++ 10 ∷ [])) (sym (digits_text-map bits))
+
+cost_lines-map : (costs : List ℕ) → flat_map spaced (map cost_tokens costs) ≡ cost_lines costs
+cost_lines-map [] = refl
+cost_lines-map (c ∷ costs) = ap (λ z. spaced (cost_tokens c) ++ z) (cost_lines-map costs)
+
+flat_lines-append : (xs ys : List (List (List ℕ))) → flat_map spaced (xs ++ ys) ≡ flat_map spaced xs ++ flat_map spaced ys
+flat_lines-append [] ys = refl
+flat_lines-append (x ∷ xs) ys = ap (λ z. spaced x ++ z) (flat_lines-append xs ys) ∙ sym (append_assoc (spaced x) (flat_map spaced xs) (flat_map spaced ys))
+
+-- the result with a cost and bits, where its status is spelled so
+with_bits_text : (before : List ℕ) (c : ℕ) (bits : List Bool) (status : List (List ℕ)) (words : List ℕ) → spaced status ≡ words
+    → flat_map spaced (map cost_tokens before ++ cost_tokens c ∷ status ∷ bits_tokens bits ∷ []) ≡ cost_lines (before ++ c ∷ []) ++ words_text (words ++ bits_word bits) bits
+with_bits_text before c bits status words e =
+    let tail : List ℕ = spaced (bits_tokens bits) ++ [] in
+    flat_lines-append (map cost_tokens before) (cost_tokens c ∷ status ∷ bits_tokens bits ∷ [])
+    ∙ ap (λ z. z ++ (spaced (cost_tokens c) ++ (spaced status ++ tail))) (cost_lines-map before)
+    ∙ sym (append_assoc (cost_lines before) (spaced (cost_tokens c)) (spaced status ++ tail))
+    ∙ ap (λ z. z ++ (spaced status ++ tail)) (ap (λ z. cost_lines before ++ z) (sym (append-nil (spaced (cost_tokens c)))) ∙ sym (flat_map-append (λ d. spaced (cost_tokens d)) before (c ∷ [])))
+    ∙ ap (λ z. cost_lines (before ++ c ∷ []) ++ z) (ap (λ z. z ++ tail) e ∙ ap (λ z. words ++ z) (append-nil (spaced (bits_tokens bits)) ∙ bits_line bits) ∙ sym (append_assoc words (bits_word bits) (digits_text bits ++ codes "\n")))
+
+pub optimum_text : (before : List ℕ) (c : ℕ) (bits : List Bool) → result_text before (OptimumFound c bits) ≡ cost_lines (before ++ c ∷ []) ++ words_text (codes "s OPTIMUM FOUND\n" ++ bits_word bits) bits
+optimum_text before c bits = with_bits_text before c bits (codes "s" ∷ codes "OPTIMUM" ∷ codes "FOUND" ∷ []) (codes "s OPTIMUM FOUND\n") refl
+
+pub satisfiable_text : (before : List ℕ) (c : ℕ) (bits : List Bool) → result_text before (Satisfiable c bits) ≡ cost_lines (before ++ c ∷ []) ++ words_text (codes "s SATISFIABLE\n" ++ bits_word bits) bits
+satisfiable_text before c bits = with_bits_text before c bits (codes "s" ∷ codes "SATISFIABLE" ∷ []) (codes "s SATISFIABLE\n") refl
+
+pub unsatisfiable_text : (before : List ℕ) → result_text before Unsatisfiable ≡ words_text (codes "s UNSATISFIABLE") []
+unsatisfiable_text before = refl
+
+pub unknown_text : (before : List ℕ) → result_text before Unknown ≡ words_text (codes "s UNKNOWN") []
+unknown_text before = refl
+
+-- costs that fall
+pub falls_to : (before : List ℕ) (c : ℕ) → AreFalling (before ++ c ∷ []) → fall_to before c
+falls_to [] c h = tt
+falls_to (d ∷ []) c h = h.0
+falls_to (d ∷ e ∷ before) c h = (h.0, falls_to (e ∷ before) c h.1)
+
+-- tokens are words, and no line is ignored
+abbrev IsTold : List (List ℕ) → Type 0
+IsTold ts = AllByRecursion IsWord ts × (is_ignored ts ≡ false)
+
+digits_word : (bits : List Bool) → AllByRecursion (λ c. 33 ≤ c) (map digit_of bits)
+digits_word [] = tt
+digits_word (true ∷ bits) = (omega arith, digits_word bits)
+digits_word (false ∷ bits) = (omega arith, digits_word bits)
+
+bits_words : (bits : List Bool) → IsTold (bits_tokens bits)
+bits_words [] = (((omega arith, tt), tt), refl)
+bits_words (true ∷ bits) = (((omega arith, tt), ((omega arith, digits_word bits), tt)), refl)
+bits_words (false ∷ bits) = (((omega arith, tt), ((omega arith, digits_word bits), tt)), refl)
+
+cost_words : (c : ℕ) → c < 2 ^ 62 → IsTold (cost_tokens c)
+cost_words c h = (((omega arith, tt), (decimal_word c h, tt)), refl)
+
+all_told : (costs : List ℕ) (more : List (List (List ℕ))) → AllByRecursion (λ c. c < 2 ^ 62) costs → AllByRecursion IsTold more → AllByRecursion IsTold (map cost_tokens costs ++ more)
+all_told [] more h k = k
+all_told (c ∷ costs) more h k = (cost_words c h.0, all_told costs more h.1 k)
+
+words_of : (tss : List (List (List ℕ))) → AllByRecursion IsTold tss → AllByRecursion (AllByRecursion IsWord) tss
+words_of [] h = tt
+words_of (ts ∷ tss) h = (h.0.0, words_of tss h.1)
+
+kept : (tss : List (List (List ℕ))) → AllByRecursion IsTold tss → filter (λ l. not (is_ignored l)) tss ≡ tss
+kept [] h = refl
+kept (ts ∷ tss) h = rw h.0.1 (ap (λ z. ts ∷ z) (kept tss h.1))
+
+lines_back : (tss : List (List (List ℕ))) → AllByRecursion IsTold tss → result_lines (flat_map spaced tss) ≡ tss
+lines_back tss h = ap (filter (λ l. not (is_ignored l))) (token_lines-spaced tss (words_of tss h)) ∙ kept tss h
+
+front_all : (P : ℕ → Type 0) (xs : List ℕ) (c : ℕ) → AllByRecursion P (xs ++ c ∷ []) → AllByRecursion P xs × P c
+front_all P [] c h = (tt, h.0)
+front_all P (x ∷ xs) c h = let k = front_all P xs c h.1 in ((h.0, k.0), k.1)
+
+-- a result that is spelled so says so
+pub text_says : (before : List ℕ) (said : Said) → FallsTo before said → Says (result_text before said) said
+text_says before (OptimumFound c bits) h =
+    let k = front_all (λ d. d < 2 ^ 62) before c (recursion_from_All (λ d. d < 2 ^ 62) (before ++ c ∷ []) h.1) in
+    (before, h, lines_back _ (all_told before _ k.0 (cost_words c k.1, ((((omega arith, tt), ((omega arith, (omega arith, (omega arith, (omega arith, (omega arith, (omega arith, (omega arith, tt))))))), ((omega arith, (omega arith, (omega arith, (omega arith, (omega arith, tt))))), tt))), refl), (bits_words bits, tt)))))
+text_says before (Satisfiable c bits) h =
+    let k = front_all (λ d. d < 2 ^ 62) before c (recursion_from_All (λ d. d < 2 ^ 62) (before ++ c ∷ []) h.1) in
+    (before, h, lines_back _ (all_told before _ k.0 (cost_words c k.1, ((((omega arith, tt), ((omega arith, (omega arith, (omega arith, (omega arith, (omega arith, (omega arith, (omega arith, (omega arith, (omega arith, (omega arith, (omega arith, tt))))))))))), tt)), refl), (bits_words bits, tt)))))
+text_says before Unsatisfiable h = (before, h, refl)
+text_says before Unknown h = (before, h, refl)

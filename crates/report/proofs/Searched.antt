@@ -1,0 +1,129 @@
+-- What a search leaves, from what its progress was told.
+use Rattle.std.proofs.Common.{◌≡◌, ℕ, ◌+◌, ◌<◌, ◌≤◌, ◌^◌, Bool, true, false, List, [], ◌∷◌, ◌++◌, Option, Some, Result, Ok, Err, length, refl, sym, ◌∙◌, ap, subst, arith}
+use Rattle.std.specs.Prelude.{All, IfOk, OnOk, sum_by, if◌then◌else◌}
+use Rattle.std.proofs.lemmas.List.Sums.{sum_by-le-sum_by}
+use Rattle.std.proofs.lemmas.List.Elements.{All-weaker}
+use Rattle.wcnf.specs.Clause.{clause_value}
+use Rattle.wcnf.specs.Problem.{Problem, SoftClause, cost_under}
+use Rattle.wcnf.specs.Instance.{IsInstance}
+use Rattle.wcnf.specs.Writing.{AppendsPart}
+use Rattle.std.specs.Io.KnownBytes.{Appends}
+use Rattle.std.proofs.KnownBytes.{Appends-nil}
+use Rattle.adder.specs.declared.cells.Profile.{Profile}
+use Rattle.cdcl_order.specs.Budgets.{BudgetState, left_of}
+use Rattle.improve.specs.declared.found.Found.{Found}
+use Rattle.improve.specs.declared.found.ImproveFault.{ImproveFault}
+use Rattle.improve.specs.declared.found.ImproveFault.TheVariants.{Memory as SearchMemory, Progress}
+use Rattle.improve.specs.Improving.{AreFalling, IsCostOfSome, IsRightFound, Improves, Telling, OnWork, work_count}
+use Rattle.improve.proofs.Told.{told_fall, told_each}
+use Rattle.report.specs.declared.fault.RunFault.{RunFault}
+use Rattle.report.specs.declared.fault.RunFault.TheVariants.{Memory, Output}
+use Rattle.report.specs.Telling.{Tells, cost_lines, fault_of_telling}
+use Rattle.report.specs.Running.{Searches, HasLines, outcome_of}
+
+part : (b : Bool) (w : ℕ) → (if b then 0 else w) ≤ w
+part true w = omega arith
+part false w = omega arith
+
+-- weights sum to less than 2^62, and so does what an assignment costs
+pub cost_small : (p : Problem) (c : ℕ) → IsInstance p → IsCostOfSome p c → c < 2 ^ 62
+cost_small p c h k =
+    let le : cost_under p k.0 ≤ sum_by (λ (s : SoftClause). s.weight) p.soft =
+    sum_by-le-sum_by (λ (s : SoftClause). if clause_value k.0 s.clause then 0 else s.weight) (λ (s : SoftClause). s.weight) p.soft (λ s. part (clause_value k.0 s.clause) s.weight) in
+    omega (arith, le, h.weight_sum, k.2)
+
+pub costs_small : (p : Problem) (costs : List ℕ) → IsInstance p → All (IsCostOfSome p) costs → All (λ c. c < 2 ^ 62) costs
+costs_small p costs h all = All-weaker (IsCostOfSome p) (λ c. c < 2 ^ 62) (λ c k. cost_small p c h k) costs all
+
+module _ (profile : Profile) (p : Problem) (limits : IsInstance p) (old new : Telling) (budget left : BudgetState) (out out' : Option (List ℕ)) (no_memory : Bool)
+    (none : old.told ≡ []) (fresh : old.failures ≡ 0) (tells : Tells out out' new.told new.failed no_memory new.failures) where
+  told_is : (result : Result Found ImproveFault) (i : Improves profile p result old new budget left) → new.told ≡ i.told
+  told_is result i = i.tells ∙ ap (λ z. z ++ i.told) none
+
+  search_found : (found : Found) → Improves profile p (Ok found) old new budget left → Searches profile p (Ok found) out out' budget left
+  search_found found i =
+      let same : new.told ≡ i.tried = told_is (Ok found) i ∙ sym i.tells_of in
+      let ended : new.failures ≡ 0 = i.no_failure (λ e. absurd (cc)) ∙ fresh in
+      record {
+        tried = i.tried;
+        falling = i.falling;
+        honest = i.honest;
+        small = costs_small p i.tried limits i.honest;
+        lines = subst (λ z. Appends out out' (cost_lines z)) same (tells.all_told ended);
+        found = subst (λ z. IsRightFound profile p z found) (sym i.tells_of) i.found;
+        same_limit = i.same_limit;
+        answers = i.answers ∙ ap (λ z. budget.answers + length z) (sym i.tells_of);
+        learned = i.learned;
+        spent = i.spent;
+      }
+
+  search_memory : Improves profile p (Err SearchMemory) old new budget left → Searches profile p (Err Memory) out out' budget left
+  search_memory i =
+      let same : new.told ≡ i.tried = told_is (Err SearchMemory) i ∙ sym i.tells_of in
+      let ended : new.failures ≡ 0 = i.no_failure (λ e. absurd (cc)) ∙ fresh in
+      record {
+        tried = i.tried;
+        falling = i.falling;
+        honest = i.honest;
+        small = costs_small p i.tried limits i.honest;
+        lines = subst (λ z. Appends out out' (cost_lines z)) same (tells.all_told ended);
+        found = tt;
+        same_limit = i.same_limit;
+        answers = tt;
+        learned = tt;
+        spent = tt;
+      }
+
+  failed_once : (i : Improves profile p (Err Progress) old new budget left) → new.failures ≡ 1
+  failed_once i = i.progress refl ∙ ap (λ n. n + 1) fresh
+
+  search_refused : Improves profile p (Err Progress) old new budget left → no_memory ≡ true → Searches profile p (Err Memory) out out' budget left
+  search_refused i e =
+      let honest = told_each (IsCostOfSome p) (Err Progress) i.tried i.told new.failed i.tells_of i.honest in
+      record {
+        tried = i.told;
+        falling = told_fall (Err Progress) i.tried i.told new.failed i.tells_of i.falling;
+        honest = honest;
+        small = costs_small p i.told limits honest;
+        lines = subst (λ z. Appends out out' (cost_lines z)) (told_is (Err Progress) i) (tells.refused (failed_once i) e);
+        found = tt;
+        same_limit = i.same_limit;
+        answers = tt;
+        learned = tt;
+        spent = tt;
+      }
+
+  search_broke : Improves profile p (Err Progress) old new budget left → no_memory ≡ false → Searches profile p (Err Output) out out' budget left
+  search_broke i e =
+      let t = i.tells_of in
+      let same : new.told ++ t.0 ∷ [] ≡ i.tried = ap (λ z. z ++ t.0 ∷ []) (told_is (Err Progress) i) ∙ sym t.2 in
+      record {
+        tried = i.tried;
+        falling = i.falling;
+        honest = i.honest;
+        small = costs_small p i.tried limits i.honest;
+        lines = (subst (λ z. AppendsPart out out' (cost_lines z)) same (tells.broken t.0 (failed_once i) e t.1), (t.0, (i.told, t.2)));
+        found = tt;
+        same_limit = i.same_limit;
+        answers = tt;
+        learned = tt;
+        spent = tt;
+      }
+
+  search_failed : Improves profile p (Err Progress) old new budget left → Searches profile p (Err (fault_of_telling no_memory)) out out' budget left
+  search_failed i =
+      elim no_memory as (λ b. no_memory ≡ b → Searches profile p (Err (fault_of_telling b)) out out' budget left) [
+        | true ↦ λ e. search_refused i e
+        | false ↦ λ e. search_broke i e
+      ] refl
+
+  pub search_ended : (result : Result Found ImproveFault) → Improves profile p result old new budget left → Searches profile p (outcome_of result (fault_of_telling no_memory)) out out' budget left
+  search_ended (Ok found) i = search_found found i
+  search_ended (Err SearchMemory) i = search_memory i
+  search_ended (Err Progress) i = search_failed i
+
+-- nothing was told at first
+pub tells_none : (a : Option (List ℕ)) (costs : List ℕ) (failed : Option ℕ) (no_memory : Bool) (failures : ℕ) → (costs ≡ []) × (failures ≡ 0) → Tells a a costs failed no_memory failures
+tells_none a costs failed no_memory failures n =
+    let all : Appends a a (cost_lines costs) = subst (λ z. Appends a a (cost_lines z)) (sym n.0) (Appends-nil a) in
+    record { all_told = λ z. all; refused = λ z m. all; broken = λ k z m s. absurd (omega (arith, n.1)) }

@@ -1,0 +1,84 @@
+-- What a run writes of what was found: the certificate, and the end of the result.
+use Rattle.std.specs.Prelude.{◌≡◌, ℕ, ◌+◌, ◌<◌, ◌^◌, Bool, List, [], ◌∷◌, ◌++◌, length, Option, ⊤}
+use Rattle.std.specs.List.{flat_map}
+use Rattle.std.specs.Io.KnownBytes.{Appends}
+use lib.Chars.{codes}
+use Rattle.wcnf.specs.Writing.{AppendsPart}
+use Rattle.wcnf.specs.Lrat.{IsTextOf}
+use Rattle.lrat_log.specs.Log.{LogLine, HasSmallIds, numbered_lines, text_of}
+use Rattle.lrat_check.specs.Result.{digit_of}
+use Rattle.improve.specs.declared.found.Found.{Found}
+use Rattle.improve.specs.declared.found.Found.TheVariants.{Optimum, Unsat, Best, Nothing}
+use Rattle.report.specs.declared.status.Status.{Status}
+use Rattle.report.specs.declared.status.Status.TheVariants.{OptimumFound, Unsatisfiable, Satisfiable, Unknown}
+use Rattle.report.specs.declared.fault.RunFault.{RunFault}
+use Rattle.report.specs.declared.fault.RunFault.TheVariants.{Read, Memory, Output, ProofOutput}
+
+abbrev pub status_of : Found → Status
+status_of (Optimum c bits log clauses) = OptimumFound
+status_of (Unsat log clauses) = Unsatisfiable
+status_of (Best c bits work) = Satisfiable work
+status_of (Nothing work) = Unknown work
+
+abbrev pub digits_text : List Bool → List ℕ
+digits_text bits = flat_map (λ b. digit_of b ∷ []) bits
+
+-- how the line of the bits begins
+abbrev pub bits_word : List Bool → List ℕ
+bits_word [] = codes "v"
+bits_word (b ∷ bits) = codes "v "
+
+-- words, digits and a line feed
+abbrev pub words_text : List ℕ → List Bool → List ℕ
+words_text words bits = words ++ (digits_text bits ++ codes "\n")
+
+-- the line of the status, and that of the bits
+abbrev pub end_text : Found → List ℕ
+end_text (Optimum c bits log clauses) = words_text (codes "s OPTIMUM FOUND\n" ++ bits_word bits.items) bits.items
+end_text (Unsat log clauses) = words_text (codes "s UNSATISFIABLE") []
+end_text (Best c bits work) = words_text (codes "s SATISFIABLE\n" ++ bits_word bits.items) bits.items
+end_text (Nothing work) = words_text (codes "s UNKNOWN") []
+
+-- what is written as certificate
+abbrev pub proof_text : Found → List ℕ
+proof_text (Optimum c bits log clauses) = text_of clauses log
+proof_text (Unsat log clauses) = text_of clauses log
+proof_text (Best c bits work) = []
+proof_text (Nothing work) = []
+
+-- with ids from this number on, the numbers of the log stay small where its lines are few
+abbrev pub HasRoom : ℕ → List LogLine → Type 0
+HasRoom n ls = (n < 2 ^ 28) × (n + length ls < 2 ^ 62 → HasSmallIds n ls)
+
+abbrev pub HasProofRoom : Found → Type 0
+HasProofRoom (Optimum c bits log clauses) = HasRoom clauses log
+HasProofRoom (Unsat log clauses) = HasRoom clauses log
+HasProofRoom (Best c bits work) = ⊤
+HasProofRoom (Nothing work) = ⊤
+
+-- the certificate's text has the lines of the log
+abbrev pub IsSpelledProof : Found → Type 0
+IsSpelledProof (Optimum c bits log clauses) = IsTextOf (text_of clauses log) (numbered_lines clauses log)
+IsSpelledProof (Unsat log clauses) = IsTextOf (text_of clauses log) (numbered_lines clauses log)
+IsSpelledProof (Best c bits work) = ⊤
+IsSpelledProof (Nothing work) = ⊤
+
+abbrev pub HasProof : Found → Type 0
+HasProof (Optimum c bits log clauses) = ⊤
+HasProof (Unsat log clauses) = ⊤
+HasProof (Best c bits work) = ⊥
+HasProof (Nothing work) = ⊥
+
+-- what stands after a fault: the certificate comes whole before the first byte of the end
+abbrev pub LeavesAnswer : RunFault → Found → Option (List ℕ) → Option (List ℕ) → Option (List ℕ) → Option (List ℕ) → Type 0
+LeavesAnswer Output found out out' proof proof' = AppendsPart out out' (end_text found) × Appends proof proof' (proof_text found) × IsSpelledProof found
+LeavesAnswer ProofOutput found out out' proof proof' = Appends out out' [] × AppendsPart proof proof' (proof_text found) × HasProof found × IsSpelledProof found
+LeavesAnswer Memory found out out' proof proof' = ⊥
+LeavesAnswer (Read fault) found out out' proof proof' = ⊥
+
+-- and where there was none
+pub record Answers (status : Status) (found : Found) (out out' proof proof' : Option (List ℕ)) : Type 0 where
+  pub status_is : status ≡ status_of found
+  pub out_grows : Appends out out' (end_text found)
+  pub proof_grows : Appends proof proof' (proof_text found)
+  pub spelled : IsSpelledProof found

@@ -1,0 +1,160 @@
+-- What a run reads, writes and leaves. Bytes are known where a reader or a writer tells them, as
+-- those over memory do.
+use Rattle.std.specs.Prelude.{◌≡◌, ℕ, ◌+◌, ◌<◌, ◌^◌, List, [], ◌∷◌, ◌++◌, length, Option, Result, Ok, Err, IfOk, IfErr, OnOk, IfSome, All, ⊤, ◌⊎◌}
+use Rattle.std.specs.List.{flat_map}
+use Rattle.std.specs.Io.KnownBytes.{Keeps, Appends}
+use Rattle.wcnf.specs.Literal.{Assignment}
+use Rattle.wcnf.specs.Bits.{Extends}
+use Rattle.wcnf.specs.Problem.{Problem, IsOptimal, IsInconsistent}
+use Rattle.wcnf.specs.Refute.{IsRefutedByHints}
+use Rattle.wcnf.specs.Writing.{spaced, Begins, AppendsPart}
+use Rattle.wcnf.specs.Wcnf.{Reads}
+use Rattle.wcnf.specs.Reading.{IsFirstFault}
+use Rattle.wcnf.specs.declared.faults.ReadFault.{ReadFault}
+use Rattle.wcnf.specs.declared.faults.FaultKind.TheVariants.{Memory as MemoryKind, Read as ReadKind}
+use Rattle.adder.specs.declared.cells.Profile.{Profile}
+use Rattle.bound.specs.Bound.{hard_cnf}
+use Rattle.cdcl_order.specs.Budgets.{BudgetState, left_of}
+use Rattle.lrat_check.specs.Result.{Said, OptimumFound as SaysOptimum, Unsatisfiable as SaysUnsatisfiable, Satisfiable as SaysSatisfiable, Unknown as SaysUnknown, FallsTo, Says, result_tokens}
+use Rattle.lrat_check.specs.Checks.{ChecksAs}
+use Rattle.improve.specs.declared.found.Found.{Found}
+use Rattle.improve.specs.declared.found.ImproveFault.{ImproveFault}
+use Rattle.improve.specs.declared.found.ImproveFault.TheVariants.{Memory as SearchMemory, Progress}
+use Rattle.improve.specs.Improving.{AreFalling, EndsWith, IsCostOfSome, IsSolution, IsHardWork, IsBoundWork, IsRightFound, OnWork, work_count}
+use Rattle.report.specs.Telling.{cost_lines}
+use Rattle.report.specs.declared.status.Status.{Status}
+use Rattle.report.specs.declared.status.Status.TheVariants.{OptimumFound, Unsatisfiable, Satisfiable, Unknown}
+use Rattle.report.specs.declared.fault.RunFault.{RunFault}
+use Rattle.report.specs.declared.fault.RunFault.TheVariants.{Read, Memory, Output, ProofOutput}
+
+-- the text of a result, where these costs were told before the last one
+abbrev pub result_text : List ℕ → Said → List ℕ
+result_text before said = flat_map spaced (result_tokens before said)
+
+-- all costs that the result tells
+abbrev pub told_in : List ℕ → Said → List ℕ
+told_in before (SaysOptimum c bits) = before ++ c ∷ []
+told_in before (SaysSatisfiable c bits) = before ++ c ∷ []
+told_in before SaysUnsatisfiable = []
+told_in before SaysUnknown = []
+
+-- the costs fall, and each is that of some solution of what the text reads as
+abbrev pub AreHonest : Option (List ℕ) → List ℕ → Type 0
+AreHonest text costs = AreFalling costs × IfSome text (λ bytes. (p : Problem) → Reads bytes p → All (IsCostOfSome p) costs)
+
+-- text, result and certificate check
+abbrev pub AreChecked : Profile → Option (List ℕ) → List ℕ → List ℕ → Type 0
+AreChecked profile text written proved = IfSome text (λ bytes. ChecksAs profile bytes written proved)
+
+-- What the status and the result say is so. Where no proof is written, the budget is spent, and the
+-- work is what it was spent on.
+abbrev pub IsTrueAnswer : Profile → Problem → List ℕ → Status → Said → List ℕ → BudgetState → BudgetState → Type 0
+IsTrueAnswer profile p costs OptimumFound (SaysOptimum c bits) proved old new = (t : Assignment) → Extends bits t → IsOptimal p t c
+IsTrueAnswer profile p costs Unsatisfiable SaysUnsatisfiable proved old new = IsInconsistent p
+IsTrueAnswer profile p costs (Satisfiable work) (SaysSatisfiable c bits) proved old new =
+    IsSolution p bits c × (0 < c) × (proved ≡ []) × (left_of new ≡ 0)
+    × IsHardWork p work × IsBoundWork profile p costs c work × (new.learned ≡ old.learned + work_count work)
+IsTrueAnswer profile p costs (Unknown work) SaysUnknown proved old new =
+    (IsRefutedByHints (hard_cnf p).clauses → ⊥) × (proved ≡ []) × (left_of new ≡ 0)
+    × IsHardWork p work × (work.bound ≡ []) × (new.learned ≡ old.learned + work_count work)
+IsTrueAnswer profile p costs status said proved old new = ⊥
+
+-- the statuses with a certificate
+abbrev pub NeedsProof : Said → Type 0
+NeedsProof (SaysOptimum c bits) = ⊤
+NeedsProof SaysUnsatisfiable = ⊤
+NeedsProof (SaysSatisfiable c bits) = ⊥
+NeedsProof SaysUnknown = ⊥
+
+-- a run that ended with a status, and the bytes that it wrote
+pub record IsRun (profile : Profile) (text : Option (List ℕ)) (status : Status) (written proved : List ℕ) (old new : BudgetState) : Type 0 where
+  -- the text reads as this instance
+  pub problem : Problem
+  pub reads : IfSome text (λ bytes. Reads bytes problem)
+  -- what was written is this result, and says this
+  pub before : List ℕ
+  pub said : Said
+  pub spelled : written ≡ result_text before said
+  pub says : Says written said
+  -- it is so, of the costs told too
+  pub honest : AreHonest text (told_in before said)
+  pub true_answer : IsTrueAnswer profile problem (told_in before said) status said proved old new
+  -- a checker finds it so
+  pub checked : NeedsProof said → AreChecked profile text written proved
+  pub answers : new.answers ≡ old.answers + length (told_in before said)
+
+-- the run wrote these bytes
+abbrev pub EndsAs : Profile → Option (List ℕ) → Option (List ℕ) → Option (List ℕ) → Option (List ℕ) → Option (List ℕ) → Status → BudgetState → BudgetState → Type 0
+EndsAs profile text out out' proof proof' status old new = (written proved : List ℕ) × Appends out out' written × Appends proof proof' proved
+    × IsRun profile text status written proved old new
+
+-- a fault of the reader, or the first one of the text
+abbrev pub IsReadFault : Option (List ℕ) → ReadFault → Type 0
+IsReadFault text f = (f ≡ record { kind = ReadKind; line = 0 }) ⊎ ((f.kind ≡ MemoryKind → ⊥) × IfSome text (λ bytes. IsFirstFault bytes f.kind f.line))
+
+-- whole o lines
+abbrev pub LeavesLines : Option (List ℕ) → Option (List ℕ) → Option (List ℕ) → Type 0
+LeavesLines text out out' = (costs : List ℕ) × Appends out out' (cost_lines costs) × AreHonest text costs
+
+-- A beginning of a result; past the o lines, the certificate that it needs is whole. Its last cost
+-- may be one whose line was begun.
+pub record LeavesResult (profile : Profile) (text out out' proof proof' : Option (List ℕ)) : Type 0 where
+  pub written : List ℕ
+  pub proved : List ℕ
+  pub out_grows : Appends out out' written
+  pub proof_grows : Appends proof proof' proved
+  pub before : List ℕ
+  pub said : Said
+  pub falls : FallsTo before said
+  pub honest : AreHonest text (told_in before said)
+  pub begins : Begins written (result_text before said)
+  pub no_proof : (NeedsProof said → ⊥) → proved ≡ []
+  pub proof_is_whole : NeedsProof said → length (cost_lines (told_in before said)) < length written → AreChecked profile text (result_text before said) proved
+
+-- whole o lines, and a beginning of a certificate of some result that begins with them
+pub record LeavesProof (profile : Profile) (text out out' proof proof' : Option (List ℕ)) : Type 0 where
+  pub proved : List ℕ
+  pub whole : List ℕ
+  pub before : List ℕ
+  pub said : Said
+  pub out_grows : Appends out out' (cost_lines (told_in before said))
+  pub proof_grows : Appends proof proof' proved
+  pub begins : Begins proved whole
+  pub honest : AreHonest text (told_in before said)
+  pub needed : NeedsProof said
+  pub checked : AreChecked profile text (result_text before said) whole
+
+-- what stands after a fault
+abbrev pub Leaves : Profile → RunFault → Option (List ℕ) → Option (List ℕ) → Option (List ℕ) → Option (List ℕ) → Option (List ℕ) → Type 0
+Leaves profile (Read fault) text out out' proof proof' = Keeps out out' × Keeps proof proof' × IsReadFault text fault
+Leaves profile Memory text out out' proof proof' = LeavesLines text out out' × Keeps proof proof'
+Leaves profile Output text out out' proof proof' = LeavesResult profile text out out' proof proof'
+Leaves profile ProofOutput text out out' proof proof' = LeavesProof profile text out out' proof proof'
+
+-- what the writer has of a search that ended so, where these costs were tried
+abbrev pub HasLines : Result Found RunFault → List ℕ → Option (List ℕ) → Option (List ℕ) → Type 0
+HasLines (Ok found) tried out out' = Appends out out' (cost_lines tried)
+HasLines (Err Memory) tried out out' = Appends out out' (cost_lines tried)
+HasLines (Err Output) tried out out' = AppendsPart out out' (cost_lines tried) × ((c : ℕ) × EndsWith tried c)
+HasLines (Err ProofOutput) tried out out' = ⊥
+HasLines (Err (Read fault)) tried out out' = ⊥
+
+-- a search that could not tell a cost met this fault
+abbrev pub outcome_of : Result Found ImproveFault → RunFault → Result Found RunFault
+outcome_of (Ok found) fault = Ok found
+outcome_of (Err SearchMemory) fault = Err Memory
+outcome_of (Err Progress) fault = Err fault
+
+-- what a search found, wrote and spent
+pub record Searches (profile : Profile) (p : Problem) (result : Result Found RunFault) (out out' : Option (List ℕ)) (old new : BudgetState) : Type 0 where
+  pub tried : List ℕ
+  pub falling : AreFalling tried
+  pub honest : All (IsCostOfSome p) tried
+  pub small : All (λ c. c < 2 ^ 62) tried
+  pub lines : HasLines result tried out out'
+  pub found : IfOk result (IsRightFound profile p tried)
+  -- the effort
+  pub same_limit : new.limit ≡ old.limit
+  pub answers : OnOk result (new.answers ≡ old.answers + length tried)
+  pub learned : IfOk result (λ found. OnWork (Ok found) (λ work. new.learned ≡ old.learned + work_count work))
+  pub spent : IfOk result (λ found. OnWork (Ok found) (λ work. left_of new ≡ 0))

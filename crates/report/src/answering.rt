@@ -1,0 +1,143 @@
+// What was found, on its way to the writers: the certificate first, whole and flushed, then the
+// lines of the status and the bits.
+ghost use Rattle.std.specs.Prelude.{◌≡◌, ◌+◌, ◌<◌, ◌^◌, ◌++◌, ◌∷◌, [], length, codes, OnOk, OnErr, IfOk, IfErr};
+ghost use Rattle.std.specs.Io.KnownBytes.{Appends};
+ghost use Rattle.wcnf.specs.Lrat.{IsTextOf};
+ghost use Rattle.wcnf.specs.Writing.{AppendsPart, PassesOn};
+ghost use Rattle.lrat_log.specs.Log.{HasSmallIds, numbered_lines, text_of};
+ghost use Rattle.lrat_check.specs.Result.{digit_of};
+ghost use Rattle.report.specs.Answering.{Answers, LeavesAnswer, HasProofRoom, bits_word, digits_text, words_text};
+
+use crate::fault::RunFault;
+use crate::printing::delivered;
+use crate::status::Status;
+use improve::found::Found;
+use lrat_log::log::{Log, write_to};
+use lrat_log::sink::Sink;
+use std::io::Write;
+use wcnf::faults::WriteFault;
+use wcnf::output::Block;
+
+/// Writes what was found, and flushes each writer once.
+///
+/// # Errors
+///
+/// `ProofOutput` where the certificate's writer failed: nothing of the end of the result was
+/// written then. `Output` where the result's writer failed.
+pub fn write_answer<O: Write, P: Write>(
+    found: Found,
+    out: &mut O,
+    proof: &mut P,
+) -> Result<Status, RunFault>
+    requires { HasProofRoom found }
+    ensures ok { IfOk result (λ status. Answers status found (O.contents out.old)
+        (O.contents out.new) (P.contents proof.old) (P.contents proof.new)) }
+    ensures fault { IfErr result (λ fault. LeavesAnswer fault found (O.contents out.old)
+        (O.contents out.new) (P.contents proof.old) (P.contents proof.new)) }
+{
+    match found {
+        Found::Optimum {
+            bits,
+            log,
+            clauses,
+            ..
+        } => {
+            deliver_proof(&log, clauses, proof)?;
+            deliver_end(optimum_words(&bits), &bits, out)?;
+            Ok(Status::OptimumFound)
+        }
+        Found::Unsat { log, clauses } => {
+            deliver_proof(&log, clauses, proof)?;
+            deliver_end(b"s UNSATISFIABLE", &[], out)?;
+            Ok(Status::Unsatisfiable)
+        }
+        Found::Best { bits, work, .. } => {
+            deliver_end(satisfiable_words(&bits), &bits, out)?;
+            Ok(Status::Satisfiable(work))
+        }
+        Found::Nothing { work } => {
+            deliver_end(b"s UNKNOWN", &[], out)?;
+            Ok(Status::Unknown(work))
+        }
+    }
+}
+
+/// Writes the log as a certificate whose formula has so many clauses, and flushes.
+fn deliver_proof<P: Write>(log: &Log, clauses: u64, proof: &mut P) -> Result<(), RunFault>
+    requires few { clauses < 2 ^ 28 }
+    requires ids { clauses + length log.now < 2 ^ 62 → HasSmallIds clauses log.now }
+    ensures ok { OnOk result (Appends (P.contents proof.old) (P.contents proof.new)
+        (text_of clauses log.now)) }
+    ensures fault { IfErr result (λ fault. fault ≡ RunFault.ProofOutput) }
+    ensures part { OnErr result (AppendsPart (P.contents proof.old) (P.contents proof.new)
+        (text_of clauses log.now)) }
+    ensures lines { IsTextOf (text_of clauses log.now) (numbered_lines clauses log.now) }
+{
+    log.is_short();
+    write_to(log, clauses, proof).map_err(|_| RunFault::ProofOutput)?;
+    proof.flush().map_err(|_| RunFault::ProofOutput)
+}
+
+/// Writes the words, the digits of the bits and a line feed, and flushes.
+fn deliver_end<O: Write>(words: &[u8], bits: &[bool], out: &mut O) -> Result<(), RunFault>
+    ensures ok { OnOk result (Appends (O.contents out.old) (O.contents out.new)
+        (words_text words.now bits.now)) }
+    ensures fault { IfErr result (λ fault. fault ≡ RunFault.Output) }
+    ensures part { OnErr result (AppendsPart (O.contents out.old) (O.contents out.new)
+        (words_text words.now bits.now)) }
+{
+    let written = write_end(words, bits, out);
+    delivered(written, out)
+}
+
+fn write_end<O: Write>(words: &[u8], bits: &[bool], out: &mut O) -> Result<(), WriteFault>
+    ensures ok { OnOk result (Appends (O.contents out.old) (O.contents out.new)
+        (words_text words.now bits.now)) }
+    ensures fault { OnErr result (AppendsPart (O.contents out.old) (O.contents out.new)
+        (words_text words.now bits.now)) }
+{
+    let mut block = Block::new();
+    block.put(out, words)?;
+    put_bits(&mut block, out, bits)?;
+    block.put(out, b"\n")?;
+    block.flush(out)
+}
+
+/// Puts a digit for each bit.
+fn put_bits<O: Write>(block: &mut Block, out: &mut O, bits: &[bool]) -> Result<(), WriteFault>
+    ensures ok { OnOk result (PassesOn (O.contents out.old) block.old (digits_text bits.now)
+        (O.contents out.new) block.new) }
+    ensures fault { OnErr result (AppendsPart (O.contents out.old) (O.contents out.new)
+        (block.old ++ digits_text bits.now)) }
+{
+    for bit in bits {
+        block.put(out, digit(*bit))?;
+    }
+    Ok(())
+}
+
+fn digit(bit: bool) -> &'static [u8]
+    ensures { result.now ≡ digit_of bit ∷ [] }
+{
+    if bit { b"1" } else { b"0" }
+}
+
+/// What stands before the digits; with no digit, no space does.
+fn optimum_words(bits: &[bool]) -> &'static [u8]
+    ensures { result.now ≡ codes "s OPTIMUM FOUND\n" ++ bits_word bits.now }
+{
+    match bits {
+        [] => b"s OPTIMUM FOUND\nv",
+        _ => b"s OPTIMUM FOUND\nv ",
+    }
+}
+
+/// As `optimum_words`, for a solution that may not be the cheapest.
+fn satisfiable_words(bits: &[bool]) -> &'static [u8]
+    ensures { result.now ≡ codes "s SATISFIABLE\n" ++ bits_word bits.now }
+{
+    match bits {
+        [] => b"s SATISFIABLE\nv",
+        _ => b"s SATISFIABLE\nv ",
+    }
+}

@@ -1,0 +1,34 @@
+//! How a run ends that met no fault.
+ghost use Rattle.std.specs.Prelude.{◌≡◌};
+ghost use Rattle.report.specs.Codes.{code_of_status};
+
+use improve::found::Work;
+
+/// What a run found out.
+#[derive(Drop)]
+pub enum Status {
+    /// The bits that were written are a solution, and none is cheaper.
+    OptimumFound,
+    /// No assignment satisfies the hard clauses.
+    Unsatisfiable,
+    /// The budget is spent. The bits that were written are a solution, and a cheaper one may be
+    /// there.
+    Satisfiable(Work),
+    /// The budget is spent, and no solution was met.
+    Unknown(Work),
+}
+
+impl Status {
+    /// The exit status: 30 for an optimum, 20 where there is no solution, 10 for a solution, 0
+    /// where nothing is known.
+    pub fn code(&self) -> u8
+        ensures { result ≡ code_of_status self.now }
+    {
+        match self {
+            Status::OptimumFound => 30,
+            Status::Unsatisfiable => 20,
+            Status::Satisfiable(_) => 10,
+            Status::Unknown(_) => 0,
+        }
+    }
+}

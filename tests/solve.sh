@@ -1,0 +1,126 @@
+#!/usr/bin/env bash
+# `wmax solve` from the files to the printed result, and each certificate through `wmax check`.
+source "$(dirname "$0")/lib"
+
+# solved NAME STATUS WORD..: what solving the text prints, in both profiles, and whether the certificate checks.
+# Of the `o` lines only the last is fixed.
+solved() {
+    local name=$1 wanted=$2 profile
+    shift 2
+    for profile in 1 2; do
+        rm -f "$work/proof"
+        run solve --profile $profile --proof proof "$@" text
+        printf '%s\n' "$out" > "$work/result"
+        out=$(grep -v '^o ' <<< "$out"; grep '^o ' <<< "$out" | tail -n 1)
+        expect "$name, profile $profile" "$wanted" "$result" ""
+        case $wanted in
+            20 | 30)
+                run check --profile $profile text result proof
+                expect "$name, profile $profile: certificate" 0 YES ""
+                ;;
+            *) ok "$name, profile $profile: no certificate" [ ! -s "$work/proof" ] ;;
+        esac
+    done
+}
+
+optimum() { # COST BITS
+    result=$(printf '%s\n' 's OPTIMUM FOUND' "${2:+v $2}" "o $1" | sed 's/^$/v/')
+}
+
+: > "$work/text"
+optimum 0 ''
+solved 'an empty text' 30
+lines text 'h 0'
+result='s UNSATISFIABLE'
+solved 'an empty hard clause, without effort' 20 --conflicts 0
+lines text '5 0'
+optimum 5 ''
+solved 'an empty soft clause' 30
+lines text 'h 1 2 0' '3 -1 0' '4 -2 0'
+optimum 3 10
+solved 'one of two' 30
+lines text '4611686018427387903 1 0'
+optimum 0 1
+solved 'the greatest weight' 30
+lines text 'h 1 -1 0' '2 1 1 0' '3 -1 0'
+optimum 2 0
+solved 'a clause with opposites, and a repeat' 30
+lines text 'h 1 2 0'
+result='s UNKNOWN'
+solved 'no effort' 0 --conflicts 0
+printf 'c x\r\n\r\nh -1 0\r\n7 1 0' > "$work/text"
+optimum 7 0
+solved 'CR LF, and a last line without LF' 30
+lines text 'h 1 0'
+optimum 0 1
+solved 'the effort of one solution' 30 --conflicts 1
+lines text 'h 1 2 0' 'h -1 2 0' 'h 1 -2 0' 'h -1 -2 0'
+result='s UNSATISFIABLE'
+solved 'four clauses that no assignment satisfies' 20
+
+# Exact results, where one solution alone has a cost to tell.
+exactly() { # NAME STATUS RESULT WORD..
+    local name=$1 wanted=$2 text=$3
+    shift 3
+    run solve "$@" text
+    expect "$name" "$wanted" "$text" ""
+}
+: > "$work/text"
+exactly 'an empty text, without certificate' 30 $'o 0\ns OPTIMUM FOUND\nv'
+lines text 'h 1 0'
+exactly 'one solution' 30 $'o 0\ns OPTIMUM FOUND\nv 1' --conflicts 1
+
+# Faulty texts: one line on standard error, and nothing else.
+while IFS='|' read -r text fault; do
+    printf '%b\n' "$text" > "$work/text"
+    run solve text
+    expect "$text" 2 "" "error: $fault"
+done <<'ROWS'
+4611686018427387903 1 0\n1 -1 0|line 2: WeightSum
+0 1 0|line 1: Weight
+h 1 2|line 1: NoZero
+h 01 0|line 1: Literal
+p wcnf 1 1 5|line 1: OldForm
+ROWS
+
+# The certificate's file is not the instance, whatever it is called.
+lines text 'h 1 2 0' '3 -1 0' '4 -2 0'
+cp "$work/text" "$work/kept"
+ln -s text "$work/link"
+ln "$work/text" "$work/hard"
+for path in text ./text link hard; do
+    run solve --proof $path text
+    expect "the instance as certificate, by $path" 3 "" "error: ProofOutput"
+    ok "the instance is kept, by $path" cmp -s "$work/text" "$work/kept"
+done
+run solve --proof missing/proof text
+expect 'a certificate in no folder' 3 "" "error: ProofOutput"
+run solve missing
+expect 'no instance' 3 "" "error: Read"
+lines proof 'of an earlier run, and longer than what comes' 'x' 'x' 'x' 'x' 'x' 'x' 'x' 'x' 'x' 'x' 'x' 'x' 'x' 'x'
+run solve --proof proof text
+printf '%s\n' "$out" > "$work/result"
+run check text result proof
+expect 'an older certificate is emptied' 0 YES ""
+
+# Outputs that fail.
+if [ -c /dev/full ]; then
+    run solve --proof /dev/full text
+    ok 'a certificate that cannot be written' [ "$status $err" = '3 error: ProofOutput' ]
+    ok 'no status line without its certificate' [ -z "$(grep -v '^o ' <<< "$out")" ]
+    err=$(timeout 60 "$wmax" solve "$work/text" 2>&1 > /dev/full)
+    status=$?
+    out=
+    expect 'a result that cannot be written' 3 "" "error: Output"
+fi
+
+# The command line.
+for words in '--conflicts 4611686018427387905' '--conflicts x' '--profile 3' '--proof'; do
+    run solve $words text
+    ok "refused: $words" [ "$status" = 2 ]
+done
+run solve --help
+ok 'help' [ "$status" = 0 ]
+ok 'help names the statuses' grep -q 's UNSATISFIABLE' <<< "$out"
+
+totals
