@@ -234,6 +234,3 @@ fn answer<S: Sink>(
         End::Spent => Ok(Outcome::Limit),
     }
 }
-
-#[cfg(test)]
-mod tests;
