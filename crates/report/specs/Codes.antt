@@ -1,7 +1,7 @@
 -- Exit statuses.
 use Rattle.std.specs.Prelude.{ℕ}
 use Rattle.wcnf.specs.declared.faults.FaultKind.{FaultKind}
-use Rattle.wcnf.specs.declared.faults.FaultKind.TheVariants.{FirstToken, OldForm, Weight, Literal, NoZero, AfterZero, Variable, WeightSum, TooMany, Memory as MemoryKind, Read as ReadKind}
+use Rattle.wcnf.specs.declared.faults.FaultKind.TheVariants.{FirstToken, OldForm, Weight, Literal, NoZero, AfterZero, Variable, WeightSum, TooMany, Header, Count, Memory as MemoryKind, Read as ReadKind}
 use Rattle.lrat_check.specs.declared.verdicts.Verdict.{Verdict}
 use Rattle.lrat_check.specs.declared.verdicts.Verdict.TheVariants.{Yes, No}
 use Rattle.report.specs.declared.fault.RunFault.{RunFault}
@@ -32,6 +32,8 @@ code_of_kind AfterZero = 2
 code_of_kind Variable = 2
 code_of_kind WeightSum = 2
 code_of_kind TooMany = 2
+code_of_kind Header = 2
+code_of_kind Count = 2
 
 abbrev pub code_of_fault : RunFault → ℕ
 code_of_fault (Read fault) = code_of_kind fault.kind

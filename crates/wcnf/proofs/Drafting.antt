@@ -1,6 +1,6 @@
 -- What the lines make, one after another, is what reading the whole text gives.
-use Rattle.std.proofs.Common.{◌≡◌, ℕ, ◌+◌, Bool, true, false, not, ◌||◌, List, [], ◌∷◌, ◌++◌, map, Option, Some, None, inl, inr, refl, sym, ◌∙◌, ap, arith, length, append_assoc, max}
-use Rattle.std.specs.Prelude.{if◌then◌else◌, ◌==◌, nat_lt, nat_le, filter, Result, Ok, Err}
+use Rattle.std.proofs.Common.{◌≡◌, ℕ, ◌+◌, Bool, true, false, not, ◌||◌, ◌&&◌, List, [], ◌∷◌, ◌++◌, map, Option, Some, None, inl, inr, refl, sym, ◌∙◌, ap, arith, length, append_assoc, max}
+use Rattle.std.specs.Prelude.{if◌then◌else◌, nat_lt, nat_le, filter, is_none, Result, Ok, Err}
 use Rattle.std.specs.List.{flat_map, enumerate_from}
 use Rattle.std.specs.Str.Lines.{lines}
 use Rattle.std.proofs.lemmas.Bool.{cases_Bool, or_right}
@@ -10,11 +10,12 @@ use Rattle.wcnf.specs.Clause.{contains_literal, without_literal, distinct, great
 use Rattle.wcnf.specs.Problem.{Problem, SoftClause}
 use Rattle.wcnf.specs.Text.{tokens_of, numbered_text}
 use Rattle.wcnf.specs.declared.faults.FaultKind.{FaultKind}
-use Rattle.wcnf.specs.declared.faults.FaultKind.TheVariants.{Variable, TooMany}
-use Rattle.wcnf.specs.Wcnf.{Row, Ignored, Hard, Soft, hard_of, soft_of, literals_of, problem_of}
-use Rattle.wcnf.specs.Reading.{Word, Zero, Literal_word, Other, word_of, ended_at, literals_at, head_of, row_of, with_row, rows_on, reading_of, ◌>>=◌}
-use Rattle.wcnf.specs.Drafts.{Gathered, emptied, with_literal, gather, gathered_at, Drafted, nothing_drafted, totals_of, problem_drafted, with_clause, drafted_line, drafted_lines}
+use Rattle.wcnf.specs.declared.faults.FaultKind.TheVariants.{Variable, TooMany, Count}
+use Rattle.wcnf.specs.Wcnf.{Header, Row, Ignored, Hard, Soft, hard_of, soft_of, literals_of, problem_of, headed_problem}
+use Rattle.wcnf.specs.Reading.{Word, Zero, Literal_word, Other, word_of, ended_at, literals_at, most_variable, head_of, begins_comment, row_of, with_row, no_totals, rows_on, header_of, is_p, Heading, heading_on, headed, reading_on, reading_of, clause_row, ◌>>=◌}
+use Rattle.wcnf.specs.Drafts.{Gathered, emptied, with_literal, gather, gathered_at, Drafted, nothing_drafted, is_nil, is_empty, totals_of, variables_of, problem_drafted, with_clause, with_header, drafted_header, drafted_line, drafted_lines, finished}
 use Rattle.wcnf.proofs.Sound.{literal_eq-true}
+use Rattle.wcnf.proofs.Lines.{bind_ok}
 use Rattle.wcnf.proofs.Marks.{literal_eq-refl, literal_eq_ne, literal_ne, contains-push}
 
 -- the literals of a clause, one after another
@@ -51,20 +52,20 @@ gathered_more g n l (Ok c) = ap (λ m. gathered_pair m) (omega arith)
     gathered_pair : ℕ → Result (Gathered × ℕ) FaultKind
     gathered_pair m = Ok (gather_all (gather g l) c, m)
 
-gathered_word : (g : Gathered) (n : ℕ) (t : List ℕ) (ts : List (List ℕ)) (w : Word) → word_of t ≡ w → ((l : Literal) → gathered_at (gather g l) (n + 1) ts ≡ (literals_at (n + 1) ts >>= gathered_with (gather g l) (n + 1))) → gathered_at g n (t ∷ ts) ≡ (literals_at n (t ∷ ts) >>= gathered_with g n)
-gathered_word g n t ts Other q more = rw q refl
-gathered_word g n t ts Zero q more = rw (q, gathered_zero g n) (gathered_none g n (ended_at ts) (ended_nil ts))
-gathered_word g n t ts (Literal_word l) q more =
-    rw (q, more l) (limits (nat_lt 4194304 l.variable) (nat_le 67108864 n))
+gathered_word : (most : ℕ) (g : Gathered) (n : ℕ) (t : List ℕ) (ts : List (List ℕ)) (w : Word) → word_of t ≡ w → ((l : Literal) → gathered_at most (gather g l) (n + 1) ts ≡ (literals_at most (n + 1) ts >>= gathered_with (gather g l) (n + 1))) → gathered_at most g n (t ∷ ts) ≡ (literals_at most n (t ∷ ts) >>= gathered_with g n)
+gathered_word most g n t ts Other q more = rw q refl
+gathered_word most g n t ts Zero q more = rw (q, gathered_zero g n) (gathered_none g n (ended_at ts) (ended_nil ts))
+gathered_word most g n t ts (Literal_word l) q more =
+    rw (q, more l) (limits (nat_lt most l.variable) (nat_le 67108864 n))
   where
-    limits : (a b : Bool) → (if a then Err Variable else if b then Err TooMany else (literals_at (n + 1) ts >>= gathered_with (gather g l) (n + 1))) ≡ ((if a then Err Variable else if b then Err TooMany else (literals_at (n + 1) ts >>= λ c. Ok (l ∷ c))) >>= gathered_with g n)
+    limits : (a b : Bool) → (if a then Err Variable else if b then Err TooMany else (literals_at most (n + 1) ts >>= gathered_with (gather g l) (n + 1))) ≡ ((if a then Err Variable else if b then Err TooMany else (literals_at most (n + 1) ts >>= λ c. Ok (l ∷ c))) >>= gathered_with g n)
     limits true b = refl
     limits false true = refl
-    limits false false = gathered_more g n l (literals_at (n + 1) ts)
+    limits false false = gathered_more g n l (literals_at most (n + 1) ts)
 
-gathered_at-is : (g : Gathered) (n : ℕ) (ts : List (List ℕ)) → gathered_at g n ts ≡ (literals_at n ts >>= gathered_with g n)
-gathered_at-is g n [] = refl
-gathered_at-is g n (t ∷ ts) = gathered_word g n t ts (word_of t) refl (λ l. gathered_at-is (gather g l) (n + 1) ts)
+gathered_at-is : (most : ℕ) (g : Gathered) (n : ℕ) (ts : List (List ℕ)) → gathered_at most g n ts ≡ (literals_at most n ts >>= gathered_with g n)
+gathered_at-is most g n [] = refl
+gathered_at-is most g n (t ∷ ts) = gathered_word most g n t ts (word_of t) refl (λ l. gathered_at-is most (gather g l) (n + 1) ts)
 
 -- the literals that are not in d
 abbrev without_all : List Literal → List Literal → List Literal
@@ -139,20 +140,28 @@ drafted_with d Ignored = d
 drafted_with d (Hard c) = with_clause d None (clause_kept d.variables c, d.literals + length c)
 drafted_with d (Soft w c) = with_clause d (Some w) (clause_kept d.variables c, d.literals + length c)
 
-line_at : (d : Drafted) (b : ℕ) (bs : List ℕ) (ts : List (List ℕ)) → (b == 99) ≡ false → (h : Result (Option ℕ) FaultKind) → head_of (totals_of d) (b ∷ bs) ≡ h → (r : Result (List Literal) FaultKind) → literals_at d.literals ts ≡ r → gathered_at (emptied d.variables) d.literals ts ≡ (r >>= gathered_with (emptied d.variables) d.literals) → drafted_line d ((b ∷ bs) ∷ ts) ≡ (row_of (totals_of d) ((b ∷ bs) ∷ ts) >>= λ r. Ok (drafted_with d r))
-line_at d b bs ts e (Err k) q r l g = rw (e, q) refl
-line_at d b bs ts e (Ok w) q (Err k) l g = rw (e, q, g, l) refl
-line_at d b bs ts e (Ok None) q (Ok c) l g = rw (e, q, g, l, gathered-kept d.variables c) refl
-line_at d b bs ts e (Ok (Some w)) q (Ok c) l g = rw (e, q, g, l, gathered-kept d.variables c) refl
+line_at : (n : ℕ) (d : Drafted) (t : List ℕ) (ts : List (List ℕ)) → begins_comment t ≡ false → (is_empty d && is_p t) ≡ false → (h : Result (Option ℕ) FaultKind) → head_of d.header (totals_of d) t ≡ h → (r : Result (List Literal) FaultKind) → literals_at (most_variable d.header) d.literals ts ≡ r → gathered_at (most_variable d.header) (emptied d.variables) d.literals ts ≡ (r >>= gathered_with (emptied d.variables) d.literals) → drafted_line n d (t ∷ ts) ≡ (row_of d.header (totals_of d) (t ∷ ts) >>= λ r. Ok (drafted_with d r))
+line_at n d t ts e p (Err k) q r l g = rw (e, p, q) refl
+line_at n d t ts e p (Ok w) q (Err k) l g = rw (e, p, q, g, l) refl
+line_at n d t ts e p (Ok None) q (Ok c) l g = rw (e, p, q, g, l, gathered-kept d.variables c) refl
+line_at n d t ts e p (Ok (Some w)) q (Ok c) l g = rw (e, p, q, g, l, gathered-kept d.variables c) refl
 
-pub drafted_line-is : (d : Drafted) (ts : List (List ℕ)) → drafted_line d ts ≡ (row_of (totals_of d) ts >>= λ r. Ok (drafted_with d r))
-drafted_line-is d [] = refl
-drafted_line-is d ([] ∷ ts) = refl
-drafted_line-is d ((b ∷ bs) ∷ ts) =
-    elim (cases_Bool (b == 99)) [
+clause_line : (n : ℕ) (d : Drafted) (t : List ℕ) (ts : List (List ℕ)) → begins_comment t ≡ false → (is_empty d && is_p t) ≡ false → drafted_line n d (t ∷ ts) ≡ (row_of d.header (totals_of d) (t ∷ ts) >>= λ r. Ok (drafted_with d r))
+clause_line n d t ts e p = line_at n d t ts e p _ refl _ refl (gathered_at-is (most_variable d.header) (emptied d.variables) d.literals ts)
+
+-- a line after the header, or after the first clause
+drafted_line-is : (n : ℕ) (d : Drafted) (ts : List (List ℕ)) → is_empty d ≡ false → drafted_line n d ts ≡ (row_of d.header (totals_of d) ts >>= λ r. Ok (drafted_with d r))
+drafted_line-is n d [] b = refl
+drafted_line-is n d (t ∷ ts) b =
+    elim (cases_Bool (begins_comment t)) [
       | inl e ↦ rw e refl
-      | inr e ↦ line_at d b bs ts e _ refl _ refl (gathered_at-is (emptied d.variables) d.literals ts)
+      | inr e ↦ clause_line n d t ts e (rw b refl)
     ]
+
+header-drafted_with : (d : Drafted) (r : Row) → (drafted_with d r).header ≡ d.header
+header-drafted_with d Ignored = refl
+header-drafted_with d (Hard c) = refl
+header-drafted_with d (Soft w c) = refl
 
 totals-drafted_with : (d : Drafted) (r : Row) → totals_of (drafted_with d r) ≡ with_row (totals_of d) r
 totals-drafted_with d Ignored = refl
@@ -166,17 +175,47 @@ abbrev with_rows : Drafted → List Row → Drafted
 with_rows d [] = d
 with_rows d (r ∷ rs) = with_rows (drafted_with d r) rs
 
-lines_at : (d : Drafted) (n : ℕ) (l : List ℕ) (ls : List (List ℕ)) (r : Row) → row_of (totals_of d) (tokens_of l) ≡ Ok r → (x : Result (List Row) (FaultKind × ℕ)) → rows_on (with_row (totals_of d) r) (n + 1) (map tokens_of ls) ≡ x → drafted_lines (drafted_with d r) (enumerate_from (n + 1) ls) ≡ (x >>= λ rs. Ok (with_rows (drafted_with d r) rs)) → drafted_lines d (enumerate_from n (l ∷ ls)) ≡ (rows_on (totals_of d) n (map tokens_of (l ∷ ls)) >>= λ rs. Ok (with_rows d rs))
-lines_at d n l ls r q (Err e) k more = rw (drafted_line-is d (tokens_of l), q, k, more) refl
-lines_at d n l ls r q (Ok rs) k more = rw (drafted_line-is d (tokens_of l), q, k, more) refl
+-- something was read
+nil_push : {A : Type 0} (xs : List A) (x : A) → is_nil (xs ++ x ∷ []) ≡ false
+nil_push [] x = refl
+nil_push (y ∷ ys) x = refl
 
-lines_more : (d : Drafted) (n : ℕ) (l : List ℕ) (ls : List (List ℕ)) (x : Result Row FaultKind) → row_of (totals_of d) (tokens_of l) ≡ x → ((r : Row) → drafted_lines (drafted_with d r) (enumerate_from (n + 1) ls) ≡ (rows_on (totals_of (drafted_with d r)) (n + 1) (map tokens_of ls) >>= λ rs. Ok (with_rows (drafted_with d r) rs))) → drafted_lines d (enumerate_from n (l ∷ ls)) ≡ (rows_on (totals_of d) n (map tokens_of (l ∷ ls)) >>= λ rs. Ok (with_rows d rs))
-lines_more d n l ls (Err k) q more = rw (drafted_line-is d (tokens_of l), q) refl
-lines_more d n l ls (Ok r) q more = lines_at d n l ls r q _ refl (rw (totals-drafted_with d r) at (more r))
+begun_hard : (d : Drafted) (c : List Literal) → is_empty (drafted_with d (Hard c)) ≡ false
+begun_hard d c = rw (nil_push d.hard (distinct c)) (neither (is_none d.header) (is_nil d.soft))
+  where
+    neither : (a b : Bool) → (a && false && b) ≡ false
+    neither true b = refl
+    neither false b = refl
 
-lines-are : (d : Drafted) (n : ℕ) (ls : List (List ℕ)) → drafted_lines d (enumerate_from n ls) ≡ (rows_on (totals_of d) n (map tokens_of ls) >>= λ rs. Ok (with_rows d rs))
-lines-are d n [] = refl
-lines-are d n (l ∷ ls) = lines_more d n l ls (row_of (totals_of d) (tokens_of l)) refl (λ r. lines-are (drafted_with d r) (n + 1) ls)
+begun_soft : (d : Drafted) (w : ℕ) (c : List Literal) → is_empty (drafted_with d (Soft w c)) ≡ false
+begun_soft d w c =
+    let s : SoftClause = record { weight = w; clause = distinct c } in
+    rw (nil_push d.soft s) (neither (is_none d.header && is_nil d.hard))
+  where
+    neither : (a : Bool) → (a && false) ≡ false
+    neither true = refl
+    neither false = refl
+
+begun_with : (d : Drafted) (r : Row) → is_empty d ≡ false → is_empty (drafted_with d r) ≡ false
+begun_with d Ignored b = b
+begun_with d (Hard c) b = begun_hard d c
+begun_with d (Soft w c) b = begun_soft d w c
+
+-- what the rows make of a draft
+abbrev Drafts : Drafted → ℕ → List (List ℕ) → Type 0
+Drafts d n ls = drafted_lines d (enumerate_from n ls) ≡ (rows_on d.header (totals_of d) n (map tokens_of ls) >>= λ rs. Ok (with_rows d rs))
+
+lines_at : (d : Drafted) (n : ℕ) (l : List ℕ) (ls : List (List ℕ)) (r : Row) → drafted_line n d (tokens_of l) ≡ Ok (drafted_with d r) → row_of d.header (totals_of d) (tokens_of l) ≡ Ok r → (x : Result (List Row) (FaultKind × ℕ)) → rows_on d.header (with_row (totals_of d) r) (n + 1) (map tokens_of ls) ≡ x → drafted_lines (drafted_with d r) (enumerate_from (n + 1) ls) ≡ (x >>= λ rs. Ok (with_rows (drafted_with d r) rs)) → Drafts d n (l ∷ ls)
+lines_at d n l ls r a q (Err e) k more = rw (a, q, k, more) refl
+lines_at d n l ls r a q (Ok rs) k more = rw (a, q, k, more) refl
+
+lines_more : (d : Drafted) (n : ℕ) (l : List ℕ) (ls : List (List ℕ)) → drafted_line n d (tokens_of l) ≡ (row_of d.header (totals_of d) (tokens_of l) >>= λ r. Ok (drafted_with d r)) → (x : Result Row FaultKind) → row_of d.header (totals_of d) (tokens_of l) ≡ x → ((r : Row) → x ≡ Ok r → Drafts (drafted_with d r) (n + 1) ls) → Drafts d n (l ∷ ls)
+lines_more d n l ls a (Err k) q more = rw (a, q) refl
+lines_more d n l ls a (Ok r) q more = lines_at d n l ls r (a ∙ rw q refl) q _ refl (rw (header-drafted_with d r, totals-drafted_with d r) at (more r refl))
+
+lines-are : (d : Drafted) (n : ℕ) (ls : List (List ℕ)) → is_empty d ≡ false → Drafts d n ls
+lines-are d n [] b = refl
+lines-are d n (l ∷ ls) b = lines_more d n l ls (drafted_line-is n d (tokens_of l) b) (row_of d.header (totals_of d) (tokens_of l)) refl (λ r e. lines-are (drafted_with d r) (n + 1) ls (begun_with d r b))
 
 pub greatest-append : (c d : List Literal) → greatest_variable (c ++ d) ≡ max (greatest_variable c) (greatest_variable d)
 greatest-append [] d = omega arith
@@ -184,34 +223,130 @@ greatest-append (l ∷ c) d = omega (arith, greatest-append c d)
 
 -- the rows put after what was there
 abbrev joined : Drafted → List Row → Problem
-joined d rs = record { variables = max d.variables (greatest_variable (flat_map literals_of rs)); hard = d.hard ++ hard_of rs; soft = d.soft ++ soft_of rs }
+joined d rs = record { variables = variables_of d.header (max d.variables (greatest_variable (flat_map literals_of rs))); hard = d.hard ++ hard_of rs; soft = d.soft ++ soft_of rs }
 
 with_rows-are : (d : Drafted) (rs : List Row) → problem_drafted (with_rows d rs) ≡ joined d rs
 with_rows-are d [] =
     let v : d.variables ≡ max d.variables 0 = omega arith in
     let h = sym (append-nil d.hard) in
     let s = sym (append-nil d.soft) in
-    λ i. record { variables = v i; hard = h i; soft = s i }
+    λ i. record { variables = variables_of d.header (v i); hard = h i; soft = s i }
 with_rows-are d (Ignored ∷ rs) = with_rows-are d rs
 with_rows-are d (Hard c ∷ rs) =
     let v : max (max d.variables (greatest_variable c)) (greatest_variable (flat_map literals_of rs)) ≡ max d.variables (greatest_variable (c ++ flat_map literals_of rs)) = omega (arith, greatest-append c (flat_map literals_of rs)) in
     let h = append_assoc d.hard (distinct c ∷ []) (hard_of rs) in
-    with_rows-are (drafted_with d (Hard c)) rs ∙ (λ i. record { variables = v i; hard = h i; soft = d.soft ++ soft_of rs })
+    with_rows-are (drafted_with d (Hard c)) rs ∙ (λ i. record { variables = variables_of d.header (v i); hard = h i; soft = d.soft ++ soft_of rs })
 with_rows-are d (Soft w c ∷ rs) =
     let v : max (max d.variables (greatest_variable c)) (greatest_variable (flat_map literals_of rs)) ≡ max d.variables (greatest_variable (c ++ flat_map literals_of rs)) = omega (arith, greatest-append c (flat_map literals_of rs)) in
     let k : SoftClause = record { weight = w; clause = distinct c } in
     let s = append_assoc d.soft (k ∷ []) (soft_of rs) in
-    with_rows-are (drafted_with d (Soft w c)) rs ∙ (λ i. record { variables = v i; hard = d.hard ++ hard_of rs; soft = s i })
+    with_rows-are (drafted_with d (Soft w c)) rs ∙ (λ i. record { variables = variables_of d.header (v i); hard = d.hard ++ hard_of rs; soft = s i })
+
+header-with_rows : (d : Drafted) (rs : List Row) → (with_rows d rs).header ≡ d.header
+header-with_rows d [] = refl
+header-with_rows d (r ∷ rs) = header-with_rows (drafted_with d r) rs ∙ header-drafted_with d r
+
+line-with_rows : (d : Drafted) (rs : List Row) → (with_rows d rs).line ≡ d.line
+line-with_rows d [] = refl
+line-with_rows d (Ignored ∷ rs) = line-with_rows d rs
+line-with_rows d (Hard c ∷ rs) = line-with_rows (drafted_with d (Hard c)) rs
+line-with_rows d (Soft w c ∷ rs) = line-with_rows (drafted_with d (Soft w c)) rs
+
+-- the end of a text of today's form
+finished_today : (d : Drafted) → d.header ≡ None → finished d ≡ Ok (problem_drafted d)
+finished_today d e = rw e refl
 
 drafted-joined : (rs : List Row) → problem_drafted (with_rows nothing_drafted rs) ≡ problem_of rs
 drafted-joined rs =
     let v : max 0 (greatest_variable (flat_map literals_of rs)) ≡ greatest_variable (flat_map literals_of rs) = omega arith in
     with_rows-are nothing_drafted rs ∙ (λ i. record { variables = v i; hard = hard_of rs; soft = soft_of rs })
 
-read_all : (x : Result (List Row) (FaultKind × ℕ)) → ((x >>= λ rs. Ok (with_rows nothing_drafted rs)) >>= λ d. Ok (problem_drafted d)) ≡ (x >>= λ rs. Ok (problem_of rs))
-read_all (Err e) = refl
-read_all (Ok rs) = ap (λ p. Ok p) (drafted-joined rs)
+today_read : (x : Result (List Row) (FaultKind × ℕ)) → ((x >>= λ rs. Ok (with_rows nothing_drafted rs)) >>= finished) ≡ (x >>= λ rs. Ok (problem_of rs))
+today_read (Err e) = refl
+today_read (Ok rs) = finished_today (with_rows nothing_drafted rs) (header-with_rows nothing_drafted rs) ∙ ap (λ p. Ok p) (drafted-joined rs)
+
+-- the end of a text of the older form
+finished_older : (d : Drafted) (h : Header) (m : ℕ) (n : ℕ) → d.header ≡ Some h → d.line ≡ n → length d.hard + length d.soft ≡ m → (p : Problem) → problem_drafted d ≡ p → finished d ≡ (if nat_lt m h.clauses then Err (Count, n) else Ok p)
+finished_older d h m n e l c p q = rw (sym c, sym l, sym q) (by_count (nat_lt (length d.hard + length d.soft) h.clauses) refl)
+  where
+    by_count : (b : Bool) → nat_lt (length d.hard + length d.soft) h.clauses ≡ b → finished d ≡ (if nat_lt (length d.hard + length d.soft) h.clauses then Err (Count, d.line) else Ok (problem_drafted d))
+    by_count true t = rw (e, t) refl
+    by_count false t = rw (e, t) refl
+
+abbrev begun : ℕ → Header → Drafted
+begun n h = with_header n nothing_drafted h
+
+older_problem : (n : ℕ) (h : Header) (rs : List Row) → problem_drafted (with_rows (begun n h) rs) ≡ headed_problem h rs
+older_problem n h rs = with_rows-are (begun n h) rs
+
+older_read : (n : ℕ) (h : Header) (x : Result (List Row) (FaultKind × ℕ)) → ((x >>= λ rs. Ok (with_rows (begun n h) rs)) >>= finished) ≡ (x >>= headed n h)
+older_read n h (Err e) = refl
+older_read n h (Ok rs) =
+    let p = older_problem n h rs in
+    let hard : (with_rows (begun n h) rs).hard ≡ hard_of rs = ap (λ (q : Problem). q.hard) p in
+    let soft : (with_rows (begun n h) rs).soft ≡ soft_of rs = ap (λ (q : Problem). q.soft) p in
+    finished_older (with_rows (begun n h) rs) h (length (hard_of rs) + length (soft_of rs)) n (header-with_rows (begun n h) rs) (line-with_rows (begun n h) rs) (rw (hard, soft) refl) (headed_problem h rs) p
+
+-- reading from line n on, where nothing was read so far
+abbrev OpensAt : ℕ → List (List ℕ) → Type 0
+OpensAt n ls = (drafted_lines nothing_drafted (enumerate_from n ls) >>= finished) ≡ reading_on n (map tokens_of ls) (heading_on n (map tokens_of ls))
+
+-- a line that is passed over
+passed : (n : ℕ) (l : List (List ℕ)) (ls : List (List (List ℕ))) → row_of None no_totals l ≡ Ok Ignored → (o : Option Heading) → reading_on n (l ∷ ls) o ≡ reading_on (n + 1) ls o
+passed n l ls e (Some g) = refl
+passed n l ls e None = passed_at (rows_on None no_totals (n + 1) ls) refl
+  where
+    passed_at : (x : Result (List Row) (FaultKind × ℕ)) → rows_on None no_totals (n + 1) ls ≡ x → reading_on n (l ∷ ls) None ≡ reading_on (n + 1) ls None
+    passed_at (Err f) q = rw (e, q) refl
+    passed_at (Ok rs) q = rw (e, q) refl
+
+opens_passed : (n : ℕ) (l : List ℕ) (ls : List (List ℕ)) → drafted_line n nothing_drafted (tokens_of l) ≡ Ok nothing_drafted → row_of None no_totals (tokens_of l) ≡ Ok Ignored → heading_on n (tokens_of l ∷ map tokens_of ls) ≡ heading_on (n + 1) (map tokens_of ls) → OpensAt (n + 1) ls → OpensAt n (l ∷ ls)
+opens_passed n l ls d r h more =
+    let e : drafted_lines nothing_drafted (enumerate_from n (l ∷ ls)) ≡ drafted_lines nothing_drafted (enumerate_from (n + 1) ls) = rw d refl in
+    rw (e, h) (more ∙ sym (passed n (tokens_of l) (map tokens_of ls) r (heading_on (n + 1) (map tokens_of ls))))
+
+-- the header
+opens_headed : (n : ℕ) (l : List ℕ) (ls : List (List ℕ)) (ts : List (List ℕ)) → drafted_line n nothing_drafted (tokens_of l) ≡ drafted_header n nothing_drafted ts → heading_on n (tokens_of l ∷ map tokens_of ls) ≡ Some (record { line = n; tokens = ts; after = map tokens_of ls }) → (x : Result Header FaultKind) → header_of ts ≡ x → OpensAt n (l ∷ ls)
+opens_headed n l ls ts d h (Err k) q = rw (d, h, q) refl
+opens_headed n l ls ts d h (Ok k) q =
+    let e : drafted_lines nothing_drafted (enumerate_from n (l ∷ ls)) ≡ drafted_lines (begun n k) (enumerate_from (n + 1) ls) = rw (d, q) refl in
+    rw (e, lines-are (begun n k) (n + 1) ls refl, h, q) (older_read n k (rows_on (Some k) no_totals (n + 1) (map tokens_of ls)))
+
+-- the first clause
+not_ignored : (t : List ℕ) (ts : List (List ℕ)) (r : Row) → begins_comment t ≡ false → row_of None no_totals (t ∷ ts) ≡ Ok r → is_empty (drafted_with nothing_drafted r) ≡ false
+not_ignored t ts (Hard c) b e = refl
+not_ignored t ts (Soft w c) b e = refl
+not_ignored t ts Ignored b e =
+    let p = bind_ok (head_of None no_totals t) _ Ignored (rw b at e) in
+    let q = bind_ok (literals_at 4194304 0 ts) _ Ignored p.2 in
+    absurd (no_clause p.0 q.0 q.2)
+  where
+    no_clause : (o : Option ℕ) (c : List Literal) → ◌≡◌ {A = Result Row FaultKind} (Ok (clause_row o c)) (Ok Ignored) → ⊥
+    no_clause None c e = cc
+    no_clause (Some w) c e = cc
+
+opens_clause : (n : ℕ) (l : List ℕ) (ls : List (List ℕ)) (t : List ℕ) (ts : List (List ℕ)) → tokens_of l ≡ t ∷ ts → begins_comment t ≡ false → is_p t ≡ false → OpensAt n (l ∷ ls)
+opens_clause n l ls t ts s c p =
+    let a : drafted_line n nothing_drafted (tokens_of l) ≡ (row_of None no_totals (tokens_of l) >>= λ r. Ok (drafted_with nothing_drafted r)) = rw s (clause_line n nothing_drafted t ts c p) in
+    let none : heading_on n (tokens_of l ∷ map tokens_of ls) ≡ None = rw (s, c, p) refl in
+    let drafts : Drafts nothing_drafted n (l ∷ ls) = lines_more nothing_drafted n l ls a (row_of None no_totals (tokens_of l)) refl (λ r e. lines-are (drafted_with nothing_drafted r) (n + 1) ls (not_ignored t ts r c (rw s at e))) in
+    rw (drafts, none) (today_read (rows_on None no_totals n (map tokens_of (l ∷ ls))))
+
+opens_line : (n : ℕ) (l : List ℕ) (ls : List (List ℕ)) (ts : List (List ℕ)) → tokens_of l ≡ ts → OpensAt (n + 1) ls → OpensAt n (l ∷ ls)
+opens_line n l ls [] s more = opens_passed n l ls (rw s refl) (rw s refl) (rw s refl) more
+opens_line n l ls (t ∷ ts) s more =
+    elim (cases_Bool (begins_comment t)) [
+      | inl c ↦ opens_passed n l ls (rw (s, c) refl) (rw (s, c) refl) (rw (s, c) refl) more
+      | inr c ↦ elim (cases_Bool (is_p t)) [
+        | inl p ↦ opens_headed n l ls ts (rw (s, c, p) refl) (rw (s, c, p) refl) (header_of ts) refl
+        | inr p ↦ opens_clause n l ls t ts s c p
+      ]
+    ]
+
+opens : (n : ℕ) (ls : List (List ℕ)) → OpensAt n ls
+opens n [] = refl
+opens n (l ∷ ls) = opens_line n l ls (tokens_of l) refl (opens (n + 1) ls)
 
 -- the whole text
-pub reading-drafted : (text : List ℕ) → reading_of text ≡ (drafted_lines nothing_drafted (numbered_text text) >>= λ d. Ok (problem_drafted d))
-reading-drafted text = rw (lines-are nothing_drafted 1 (lines text)) (sym (read_all (rows_on (totals_of nothing_drafted) 1 (map tokens_of (lines text)))))
+pub reading-drafted : (text : List ℕ) → reading_of text ≡ (drafted_lines nothing_drafted (numbered_text text) >>= finished)
+reading-drafted text = sym (opens 1 (lines text))

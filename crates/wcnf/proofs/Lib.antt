@@ -3,6 +3,7 @@ pub mod Hints
 pub mod Certificates
 pub mod Numbers
 pub mod Lines
+pub mod Headers
 pub mod Texts
 pub mod Witness
 pub mod Passing

@@ -1,5 +1,5 @@
 -- Rows within the limits make an instance: what holds of the literals as written holds of them with repeats dropped.
-use Rattle.std.proofs.Common.{◌≡◌, ℕ, ◌+◌, ◌^◌, ◌<◌, ◌≤◌, false, not, List, [], ◌∷◌, ◌++◌, map, inl, inr, refl, arith, length, length-append}
+use Rattle.std.proofs.Common.{◌≡◌, ℕ, ◌+◌, ◌^◌, ◌<◌, ◌≤◌, false, not, List, [], ◌∷◌, ◌++◌, map, inl, inr, refl, sym, subst, arith, length, length-append}
 use Rattle.std.specs.Prelude.{All, sum, sum_by}
 use Rattle.std.specs.List.{flat_map}
 use Rattle.std.proofs.lemmas.Bool.{cases_Bool, or_from, or_parts}
@@ -7,9 +7,9 @@ use Rattle.std.proofs.lemmas.List.Elements.{All-nil, All-cons, All-head, All-tai
 use Rattle.std.proofs.lemmas.List.Sums.{sum_by-cons}
 use Rattle.wcnf.specs.Literal.{Literal, literal_eq}
 use Rattle.wcnf.specs.Clause.{contains_literal, without_literal, distinct, has_repeat, greatest_variable}
-use Rattle.wcnf.specs.Problem.{SoftClause}
+use Rattle.wcnf.specs.Problem.{Problem, SoftClause}
 use Rattle.wcnf.specs.Instance.{IsClauseWithin, IsInstance}
-use Rattle.wcnf.specs.Wcnf.{Row, Ignored, Hard, Soft, hard_of, soft_of, literals_of, weight_of, problem_of, IsWithinLimits}
+use Rattle.wcnf.specs.Wcnf.{Row, Ignored, Hard, Soft, hard_of, soft_of, literals_of, weight_of, IsWithinLimits, Reads}
 use Rattle.wcnf.proofs.Drafting.{greatest-append}
 
 -- a clause without one of its literals
@@ -136,16 +136,25 @@ weights_within (Soft w c ∷ rs) =
     let s : SoftClause = record { weight = w; clause = distinct c } in
     omega (arith, weights_within rs, sum_by-cons (λ (x : ℕ). x) w (map weight_of rs), sum_by-cons (λ (x : SoftClause). x.weight) s (soft_of rs))
 
-pub within_instance : (rs : List Row) → IsWithinLimits rs → IsInstance (problem_of rs)
-within_instance rs w =
+greatest_at_most : (v : ℕ) (c : List Literal) → All (λ l. l.variable ≤ v) c → greatest_variable c ≤ v
+greatest_at_most v [] a = omega arith
+greatest_at_most v (l ∷ c) a = omega (arith, All-head (λ (x : Literal). x.variable ≤ v) l c a, greatest_at_most v c (All-tail (λ (x : Literal). x.variable ≤ v) l c a))
+
+rows_instance : (v : ℕ) (rs : List Row) → v ≤ 2 ^ 22 → greatest_variable (flat_map literals_of rs) ≤ v → IsWithinLimits rs → IsInstance (record { variables = v; hard = hard_of rs; soft = soft_of rs })
+rows_instance v rs m g w = record {
+  variables = m;
+  hard_count = w.hard;
+  soft_count = w.soft;
+  hard_clauses = hard_within v rs w.variables g;
+  soft_clauses = soft_within v rs w.variables g;
+  literals = omega (arith, literals_within rs, w.literals);
+  weights = w.weights;
+  weight_sum = omega (arith, weights_within rs, w.weight_sum);
+}
+
+pub reads_instance : (text : List ℕ) (p : Problem) → Reads text p → IsInstance p
+reads_instance text p (inl (rs, a, w, e)) =
     let v = greatest_variable (flat_map literals_of rs) in
-    record {
-      variables = greatest_within (flat_map literals_of rs) w.variables;
-      hard_count = w.hard;
-      soft_count = w.soft;
-      hard_clauses = hard_within v rs w.variables (omega arith);
-      soft_clauses = soft_within v rs w.variables (omega arith);
-      literals = omega (arith, literals_within rs, w.literals);
-      weights = w.weights;
-      weight_sum = omega (arith, weights_within rs, w.weight_sum);
-    }
+    subst IsInstance (sym e) (rows_instance v rs (greatest_within (flat_map literals_of rs) w.variables) (omega arith) w)
+reads_instance text p (inr (h, rs, a, w, s, e)) =
+    subst IsInstance (sym e) (rows_instance h.variables rs s.most_variables (greatest_at_most h.variables (flat_map literals_of rs) s.variables) w)

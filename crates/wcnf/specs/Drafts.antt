@@ -1,13 +1,14 @@
 -- What the lines read so far make, and what one more line makes of it.
-use Rattle.std.specs.Prelude.{◌≡◌, ℕ, ◌+◌, ◌<◌, ◌*◌, max, Bool, false, List, [], ◌∷◌, ◌++◌, length, Option, Some, None, Result, Ok, Err, nat_lt, nat_le, if◌then◌else◌, slice_index_or, ◌==◌}
+use Rattle.std.specs.Prelude.{◌≡◌, ℕ, ◌+◌, ◌<◌, ◌*◌, max, Bool, true, false, ◌&&◌, List, [], ◌∷◌, ◌++◌, length, Option, Some, None, is_none, Result, Ok, Err, nat_lt, nat_le, if◌then◌else◌, slice_index_or}
 use Rattle.std.specs.List.{AllByRecursion}
 use Rattle.wcnf.specs.Literal.{Literal, index_of}
 use Rattle.wcnf.specs.Clause.{contains_literal, has_repeat}
 use Rattle.wcnf.specs.Problem.{Problem, SoftClause}
-use Rattle.wcnf.specs.Text.{tokens_of, is_digit}
+use Rattle.wcnf.specs.Text.{tokens_of}
 use Rattle.wcnf.specs.declared.faults.FaultKind.{FaultKind}
-use Rattle.wcnf.specs.declared.faults.FaultKind.TheVariants.{Literal as LiteralFault, NoZero, Variable, TooMany}
-use Rattle.wcnf.specs.Reading.{Totals, Word, Zero, Literal_word, Other, word_of, ended_at, head_of, ◌>>=◌}
+use Rattle.wcnf.specs.declared.faults.FaultKind.TheVariants.{Literal as LiteralFault, NoZero, Variable, TooMany, Count}
+use Rattle.wcnf.specs.Wcnf.{Header}
+use Rattle.wcnf.specs.Reading.{Totals, Word, Zero, Literal_word, Other, word_of, ended_at, most_variable, head_of, begins_comment, header_of, is_p, ◌>>=◌}
 
 -- a clause that is being read, each literal once, and the greatest variable of the text so far
 pub record Gathered : Type 0 where
@@ -34,19 +35,21 @@ pub record AreMarked (variables : ℕ) (marks : List Bool) (c : List Literal) : 
   pub once : has_repeat c ≡ false
 
 -- the clause up to the 0 that ends the line, and how many literals stand in the text then
-abbrev pub gathered_at : Gathered → ℕ → List (List ℕ) → Result (Gathered × ℕ) FaultKind
-gathered_at g n [] = Err NoZero
-gathered_at g n (t ∷ ts) = by (word_of t) (λ l. gathered_at (gather g l) (n + 1) ts)
+abbrev pub gathered_at : ℕ → Gathered → ℕ → List (List ℕ) → Result (Gathered × ℕ) FaultKind
+gathered_at most g n [] = Err NoZero
+gathered_at most g n (t ∷ ts) = by (word_of t) (λ l. gathered_at most (gather g l) (n + 1) ts)
   where
     by : Word → (Literal → Result (Gathered × ℕ) FaultKind) → Result (Gathered × ℕ) FaultKind
     by Other more = Err LiteralFault
     by Zero more = do
       c ← ended_at ts
       Ok (g, n)
-    by (Literal_word l) more = if nat_lt 4194304 l.variable then Err Variable else if nat_le 67108864 n then Err TooMany else more l
+    by (Literal_word l) more = if nat_lt most l.variable then Err Variable else if nat_le 67108864 n then Err TooMany else more l
 
--- the instance that the lines so far make; literals are counted as written
+-- the instance that the lines so far make, with the header and its line; literals are counted as written
 pub record Drafted : Type 0 where
+  pub header : Option Header
+  pub line : ℕ
   pub variables : ℕ
   pub hard : List (List Literal)
   pub soft : List SoftClause
@@ -54,45 +57,80 @@ pub record Drafted : Type 0 where
   pub weight : ℕ
 
 abbrev pub nothing_drafted : Drafted
-nothing_drafted = record { variables = 0; hard = []; soft = []; literals = 0; weight = 0 }
+nothing_drafted = record { header = None; line = 0; variables = 0; hard = []; soft = []; literals = 0; weight = 0 }
+
+abbrev pub is_nil : {A : Type 0} → List A → Bool
+is_nil [] = true
+is_nil (x ∷ xs) = false
+
+-- neither a header nor a clause was read
+abbrev pub is_empty : Drafted → Bool
+is_empty d = is_none d.header && is_nil d.hard && is_nil d.soft
 
 -- how much was read
 abbrev pub totals_of : Drafted → Totals
 totals_of d = record { hard = length d.hard; soft = length d.soft; literals = d.literals; weight = d.weight }
 
+-- how many variables the text has
+abbrev pub variables_of : Option Header → ℕ → ℕ
+variables_of None greatest = greatest
+variables_of (Some h) greatest = h.variables
+
 abbrev pub problem_drafted : Drafted → Problem
-problem_drafted d = record { variables = d.variables; hard = d.hard; soft = d.soft }
+problem_drafted d = record { variables = variables_of d.header d.variables; hard = d.hard; soft = d.soft }
 
 -- one more clause
 abbrev pub with_clause : Drafted → Option ℕ → Gathered × ℕ → Drafted
-with_clause d None g = record { variables = g.0.variables; hard = d.hard ++ g.0.literals ∷ []; soft = d.soft; literals = g.1; weight = d.weight }
-with_clause d (Some w) g = record { variables = g.0.variables; hard = d.hard; soft = d.soft ++ record { weight = w; clause = g.0.literals } ∷ []; literals = g.1; weight = d.weight + w }
+with_clause d None g = record { header = d.header; line = d.line; variables = g.0.variables; hard = d.hard ++ g.0.literals ∷ []; soft = d.soft; literals = g.1; weight = d.weight }
+with_clause d (Some w) g = record { header = d.header; line = d.line; variables = g.0.variables; hard = d.hard; soft = d.soft ++ record { weight = w; clause = g.0.literals } ∷ []; literals = g.1; weight = d.weight + w }
 
-abbrev pub begins_with_digit : List ℕ → Bool
-begins_with_digit [] = false
-begins_with_digit (b ∷ bs) = is_digit b
+-- the header on line n
+abbrev pub with_header : ℕ → Drafted → Header → Drafted
+with_header n d h = record { header = Some h; line = n; variables = 0; hard = d.hard; soft = d.soft; literals = d.literals; weight = d.weight }
+
+-- the header, by its tokens after the first
+abbrev pub drafted_header : ℕ → Drafted → List (List ℕ) → Result Drafted FaultKind
+drafted_header n d ts = do
+  h ← header_of ts
+  Ok (with_header n d h)
 
 -- one more clause line, by its first token and the others
 abbrev pub drafted_clause : Drafted → List ℕ → List (List ℕ) → Result Drafted FaultKind
 drafted_clause d t ts = do
-  w ← head_of (totals_of d) t
-  g ← gathered_at (emptied d.variables) d.literals ts
+  w ← head_of d.header (totals_of d) t
+  g ← gathered_at (most_variable d.header) (emptied d.variables) d.literals ts
   Ok (with_clause d w g)
 
--- one more line
-abbrev pub drafted_line : Drafted → List (List ℕ) → Result Drafted FaultKind
-drafted_line d [] = Ok d
-drafted_line d (t ∷ ts) = if is_comment t then Ok d else drafted_clause d t ts
-  where
-    is_comment : List ℕ → Bool
-    is_comment [] = false
-    is_comment (b ∷ bs) = b == 99
+-- the header where it has to stand, else one more clause line
+abbrev pub drafted_tokens : ℕ → Drafted → List ℕ → List (List ℕ) → Result Drafted FaultKind
+drafted_tokens n d t ts = if is_empty d && is_p t then drafted_header n d ts else drafted_clause d t ts
+
+-- one more line, with its number
+abbrev pub drafted_line : ℕ → Drafted → List (List ℕ) → Result Drafted FaultKind
+drafted_line n d [] = Ok d
+drafted_line n d (t ∷ ts) = if begins_comment t then Ok d else drafted_tokens n d t ts
 
 -- the lines that are left, with their numbers
 abbrev pub drafted_lines : Drafted → List (ℕ × List ℕ) → Result Drafted (FaultKind × ℕ)
 drafted_lines d [] = Ok d
-drafted_lines d (line ∷ more) = on (drafted_line d (tokens_of line.1)) (λ e. drafted_lines e more)
+drafted_lines d (line ∷ more) = on (drafted_line line.0 d (tokens_of line.1)) (λ e. drafted_lines e more)
   where
     on : Result Drafted FaultKind → (Drafted → Result Drafted (FaultKind × ℕ)) → Result Drafted (FaultKind × ℕ)
     on (Ok e) next = next e
     on (Err k) next = Err (k, line.0)
+
+-- the line of the header, where that says more clauses than there are
+abbrev pub short_at : Drafted → Option ℕ
+short_at d = by d.header
+  where
+    by : Option Header → Option ℕ
+    by None = None
+    by (Some h) = if nat_lt (length d.hard + length d.soft) h.clauses then Some d.line else None
+
+-- what the text reads as after its last line
+abbrev pub finished : Drafted → Result Problem (FaultKind × ℕ)
+finished d = by (short_at d)
+  where
+    by : Option ℕ → Result Problem (FaultKind × ℕ)
+    by None = Ok (problem_drafted d)
+    by (Some n) = Err (Count, n)

@@ -3,7 +3,7 @@
 ghost use Rattle.std.specs.Prelude.{◌≡◌, false, ℕ, ◌<◌, ◌≤◌, ◌^◌, max, [], Ok, Err, OnOk, IfOk, MatchResult, ◌⊎◌};
 ghost use Rattle.wcnf.specs.Clause.{has_repeat};
 ghost use Rattle.wcnf.specs.Reading.{ended_at};
-ghost use Rattle.wcnf.specs.Drafts.{gather, emptied, gathered_at, AreMarked};
+ghost use Rattle.wcnf.specs.Drafts.{with_literal, emptied, gathered_at, AreMarked};
 
 use crate::faults::FaultKind;
 use crate::pieces::Tokens;
@@ -60,13 +60,22 @@ impl Gathering {
         self.lits.clear();
     }
 
-    /// Makes room for the marks of the variables up to this one.
-    fn cover(&mut self, variable: u32) -> Result<(), AllocError>
-        requires { variable < 2 ^ 27 }
-        ensures { OnOk result (self.new ≡ record { variables = max self.old.variables variable; literals = self.old.literals }) }
+    /// Makes room for the marks of the variables up to this one, unless it is above `most`.
+    fn cover(&mut self, variable: u32, most: u32) -> Result<(), FaultKind>
+        requires most { most ≤ 4194304 }
+        requires covered { self.now.variables ≤ most }
+        ensures covered { self.new.variables ≤ most }
+        ensures cover { MatchResult result
+            (λ _. (variable ≤ most) × (self.new ≡ record { variables = max self.old.variables variable; literals = self.old.literals }))
+            (λ k. (k ≡ FaultKind.Memory) ⊎ ((k ≡ FaultKind.Variable) × (most < variable))) }
     {
         if variable > self.vars {
-            self.marks.resize(2 * variable as usize, false)?;
+            if variable > most {
+                return Err(FaultKind::Variable);
+            }
+            self.marks
+                .resize(2 * variable as usize, false)
+                .map_err(|_| FaultKind::Memory)?;
             self.vars = variable;
         }
         Ok(())
@@ -74,9 +83,11 @@ impl Gathering {
 
     /// One more literal, unless the clause has it.
     fn add(&mut self, lit: Lit) -> Result<(), AllocError>
-        ensures { OnOk result (self.new ≡ gather self.old lit) }
+        requires from_one { 0 < lit.variable }
+        requires covered { lit.variable ≤ self.now.variables }
+        ensures vars { self.new.variables ≡ self.old.variables }
+        ensures add { OnOk result (self.new.literals ≡ with_literal self.old.literals lit) }
     {
-        self.cover(lit.variable())?;
         let place = lit.index();
         if !self.marks[place] {
             self.lits.push(lit)?;
@@ -87,19 +98,29 @@ impl Gathering {
 
     /// Reads the clause of a line, from its first literal to the 0 that has to end it.
     ///
-    /// `before` is the number of literals in the text before this line, and the result that number after it.
-    pub(crate) fn read(&mut self, before: usize, mut words: Tokens<'_>) -> Result<usize, FaultKind>
-        requires { before ≤ 2 ^ 26 }
+    /// `before` is the number of literals in the text before this line, and the result that number after it; `most` is
+    /// the greatest variable that a literal may have.
+    pub(crate) fn read(
+        &mut self,
+        before: usize,
+        most: u32,
+        mut words: Tokens<'_>,
+    ) -> Result<usize, FaultKind>
+        requires before { before ≤ 2 ^ 26 }
+        requires most { most ≤ 4194304 }
+        requires covered { self.now.variables ≤ most }
         ensures within { IfOk result (λ n. n ≤ 2 ^ 26) }
+        ensures covered { self.new.variables ≤ most }
         ensures read { MatchResult result
-            (λ n. gathered_at (emptied self.old.variables) before words.entry ≡ Ok (self.new, n))
-            (λ k. (k ≡ FaultKind.Memory) ⊎ (gathered_at (emptied self.old.variables) before words.entry ≡ Err k)) }
+            (λ n. gathered_at most (emptied self.old.variables) before words.entry ≡ Ok (self.new, n))
+            (λ k. (k ≡ FaultKind.Memory) ⊎ (gathered_at most (emptied self.old.variables) before words.entry ≡ Err k)) }
     {
         self.clear();
         let mut count = before;
         while let Some(word) = words.next_word() {
             match word {
                 Word::Literal(lit) => {
+                    self.cover(lit.variable(), most)?;
                     if count >= LITERALS_LIMIT {
                         return Err(FaultKind::TooMany);
                     }

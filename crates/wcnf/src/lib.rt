@@ -4,6 +4,7 @@
 pub mod clause_list;
 pub mod faults;
 mod gathering;
+mod header;
 pub mod judging;
 pub mod output;
 pub mod pieces;

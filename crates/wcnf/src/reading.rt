@@ -13,10 +13,13 @@ use crate::whole::read_all;
 use std::alloc::Global;
 use std::io::Read;
 
-/// The instance that a WCNF text reads as, in the form of the MaxSAT Evaluation 2022.
+/// The instance that a WCNF text reads as, in the form of the MaxSAT Evaluation 2022 or in the older one with a header.
 ///
 /// Each line is blank, a comment that begins with `c`, or a clause: `h` or a weight from 1 to 2^62 - 1, then literals,
 /// then `0`. Repeated literals are dropped, the first place stays, and the variables are those up to the greatest one.
+///
+/// In the older form the first line that is neither blank nor a comment is the header `p wcnf V C T`: then there are V
+/// variables and C clauses, each with a weight from 1 to T, and weight T makes a clause hard.
 ///
 /// # Errors
 ///
@@ -29,11 +32,17 @@ pub fn read(alloc: Global, text: &[u8]) -> Result<Instance, ReadFault>
 {
     let mut draft = Draft::new(alloc);
     for (number, line) in lines(text) {
-        if let Err(kind) = draft.read_line(line) {
+        if let Err(kind) = draft.read_line(number, line) {
             return Err(fault_at(kind, number));
         }
     }
-    Ok(draft.finish())
+    match draft.short() {
+        Some(line) => Err(ReadFault {
+            kind: FaultKind::Count,
+            line,
+        }),
+        None => Ok(draft.finish()),
+    }
 }
 
 /// The fault that a line met; refused memory is of no line.

@@ -46,8 +46,25 @@ fn reads_instances(rt: HostRuntime) -> Result<(), Fail> {
 }
 
 #[test]
+fn reads_the_older_form(rt: HostRuntime) -> Result<(), Fail> {
+    let instance = read(
+        rt.alloc(),
+        b"c old\np wcnf 3 3 10\n10 1 2 0\n3 -1 0\n\n4 -2 0\n",
+    )?;
+    assert_eq!(rt; instance.vars(), 3);
+    assert_eq!(rt; instance.hard().len(), 1);
+    assert_literals(&rt, instance.hard().get(0), &[(1, false), (2, false)]);
+    let soft = instance.soft();
+    assert_eq!(rt; soft.len(), 2);
+    assert_eq!(rt; soft[0].weight(), 3);
+    assert_eq!(rt; soft[1].weight(), 4);
+    assert_literals(&rt, soft[1].clause().lits(), &[(2, true)]);
+    Ok(())
+}
+
+#[test]
 fn tells_the_first_fault(rt: HostRuntime) {
-    let cases: [(&[u8], FaultKind, u64); 17] = [
+    let cases: [(&[u8], FaultKind, u64); 25] = [
         (b"-3 1 0", FaultKind::FirstToken, 1),
         (b"h1 0", FaultKind::FirstToken, 1),
         (b"5x 1 0", FaultKind::Weight, 1),
@@ -62,7 +79,15 @@ fn tells_the_first_fault(rt: HostRuntime) {
         (b"h 1 0 x", FaultKind::Literal, 1),
         (b"h 1 2\n", FaultKind::NoZero, 1),
         (b"4611686018427387903 1 0\n1 x 0", FaultKind::WeightSum, 2),
-        (b"p wcnf 1 1 5\n", FaultKind::OldForm, 1),
+        (b"p wcnf 1 1 5\n", FaultKind::Count, 1),
+        (b"p wcnf 1 1", FaultKind::Header, 1),
+        (b"p wcnf 1 1 5 1", FaultKind::Header, 1),
+        (b"p wcnf 1 1 5\n6 1 0", FaultKind::Weight, 2),
+        (b"p wcnf 1 1 5\n5 2 0", FaultKind::Variable, 2),
+        (b"p wcnf 1 1 5\nh 1 0", FaultKind::FirstToken, 2),
+        (b"p wcnf 1 1 5\n5 1 0\n2 1 0", FaultKind::Count, 3),
+        (b"h 1 0\np wcnf 1 1 5", FaultKind::OldForm, 2),
+        (b"p wcnf 1 1 5\np wcnf 1 1 5", FaultKind::OldForm, 2),
         (b"h 1 0\nh 2 0\n 3 3\n1 0", FaultKind::NoZero, 3),
         (b"h 4194304 0\nx\np", FaultKind::FirstToken, 2),
     ];

@@ -1,0 +1,112 @@
+// The header of the older form, which says what the text has.
+ghost use Rattle.std.specs.Prelude.{◌≡◌, ◌≤◌, ◌<◌, ◌^◌, ◌⊎◌, MatchResult};
+ghost use Rattle.wcnf.specs.Reading.{header_of, is_wcnf, number_within};
+
+use crate::faults::FaultKind;
+use crate::pieces::Tokens;
+use crate::text::number;
+use std::marker::Model;
+
+/// The second token of a header.
+const NAME: &[u8] = b"wcnf";
+
+/// How many variables a header may say.
+const VARIABLES_LIMIT: u64 = 1 << 22;
+
+/// How many clauses a header may say: as many hard and soft ones as a text may have.
+const CLAUSES_LIMIT: u64 = (1 << 22) + (1 << 18);
+
+/// The greatest weight of a hard clause that a header may say.
+const TOP_LIMIT: u64 = 1 << 62;
+
+/// The header of a text of the older form.
+#[derive(Drop)]
+pub(crate) struct Header {
+    // How many variables there are.
+    variables: u32,
+    // How many clauses follow.
+    clauses: u64,
+    // The weight that makes a clause hard, from 1; that of a soft clause is below it.
+    top: u64,
+}
+
+impl Model for Header {
+    ghost use Rattle.std.specs.Prelude.{◌≤◌, ◌<◌};
+    ghost use Rattle.wcnf.specs.Wcnf as texts;
+
+    ghost Value = { texts.Header };
+
+    ghost view = { λ h. record { variables = h.variables; clauses = h.clauses; top = h.top } };
+
+    ghost invariant = { λ h. (h.variables ≤ 4194304) × (h.clauses ≤ 4456448) × (0 < h.top) × (h.top ≤ 4611686018427387904) };
+}
+
+impl Header {
+    /// Reads the header, given its tokens after the first.
+    pub(crate) fn read(mut words: Tokens<'_>) -> Result<Header, FaultKind>
+        ensures { result ≡ header_of words.entry }
+    {
+        let Some(name) = words.next() else {
+            return Err(FaultKind::Header);
+        };
+        if !is_wcnf(name) {
+            return Err(FaultKind::Header);
+        }
+        let variables = number_within(&mut words, VARIABLES_LIMIT)?;
+        let clauses = number_within(&mut words, CLAUSES_LIMIT)?;
+        let top = number_within(&mut words, TOP_LIMIT)?;
+        if top == 0 || words.next().is_some() {
+            return Err(FaultKind::Header);
+        }
+        Ok(Header {
+            variables: variables as u32,
+            clauses,
+            top,
+        })
+    }
+
+    /// How many variables there are.
+    pub(crate) fn variables(&self) -> u32
+        ensures is { result ≡ self.now.variables }
+        ensures within { result ≤ 4194304 }
+    {
+        self.variables
+    }
+
+    /// How many clauses follow.
+    pub(crate) fn clauses(&self) -> u64
+        ensures { result ≡ self.now.clauses }
+    {
+        self.clauses
+    }
+
+    /// The weight that makes a clause hard.
+    pub(crate) fn top(&self) -> u64
+        ensures is { result ≡ self.now.top }
+        ensures within { result ≤ 4611686018427387904 }
+    {
+        self.top
+    }
+}
+
+fn is_wcnf(token: &[u8]) -> bool
+    ensures { result ≡ is_wcnf token.now }
+{
+    token == NAME
+}
+
+/// Takes the next token, which has to be a number up to `most`.
+fn number_within(words: &mut Tokens<'_>, most: u64) -> Result<u64, FaultKind>
+    requires { most ≤ 4611686018427387904 }
+    ensures { MatchResult result
+        (λ n. (number_within most words.old ≡ Ok (n, words.new)) × (n ≤ most))
+        (λ k. number_within most words.old ≡ Err k) }
+{
+    match words.next() {
+        None => Err(FaultKind::Header),
+        Some(token) => match number(token) {
+            Some(value) if value <= most => Ok(value),
+            _ => Err(FaultKind::Header),
+        },
+    }
+}
