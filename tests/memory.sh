@@ -50,6 +50,9 @@ printf 'c x\r\n\r\nh -1 0\r\n7 1 0' > "$work/text"
 each 'CR LF' solve --proof proof text
 lines text '3 1 0' '1 1 0'
 each 'two weights of one literal' solve --proof proof text
+each 'encode: two weights of one literal' encode text 1
+lines text 'p wcnf 2 3 10' '10 1 2 0' '3 -1 0' '4 -2 0'
+each 'the older form' solve --proof proof text
 lines text 'h 1 2 0' 'h -1 2 0' 'h 1 -2 0' 'h -1 -2 0'
 each 'no solution' solve --proof proof text
 lines result 's UNSATISFIABLE'
