@@ -34,7 +34,8 @@ lines text 'p wcnf 3 1 5' '2 1 0'
 run encode text 5
 expect 'more variables than the clauses have' 0 "$(printf '%s\n' 'p cnf 4 1' '1 4 0')" ''
 lines text 'p wcnf 3 0 5'
-optimum 'variables without a clause' 'o 0' 's OPTIMUM FOUND' 'v 000'
+run solve text
+ok 'variables without a clause' test "$status" = 30 -a -n "$(grep -xE 'v [01]{3}' <<< "$out")"
 printf 'c one\r\n\r\n\tp  wcnf 1 2 4611686018427387904\r\nc two\r\n4611686018427387904 -1 0\r\n3 1 0' > "$work/text"
 optimum 'comments, CR LF, the greatest weight' 'o 3' 's OPTIMUM FOUND' 'v 0'
 lines text 'p wcnf 1 2 5' '5 1 0' '5 -1 0'
@@ -55,7 +56,6 @@ h 1 0\np wcnf 1 1 5|2|OldForm
 p wcnf 1 0 5\np wcnf 1 0 5|2|OldForm
 c x\n\np wcnf 1 2 5\n5 1 0|3|Count
 p wcnf 1 1 5 0|1|Header
-p wcnf 1 1|1|Header
 p|1|Header
 p cnf 1 1 5|1|Header
 p wcnf 01 1 5|1|Header
