@@ -21,7 +21,7 @@ filter_le p xs = subst (λ n. n ≤ length xs) (sym (length-filter p xs)) (count
 pub kept_le : (cs : List (List Literal)) → length (kept cs) ≤ length cs
 kept_le cs = subst (λ n. length (kept cs) ≤ n) (length-map cs distinct) (filter_le (λ c. not (has_opposites c)) (map distinct cs))
 
-cells_le : (cells : List Cell) → length (flat_map cell_clauses cells) ≤ 14 * length cells
+pub cells_le : (cells : List Cell) → length (flat_map cell_clauses cells) ≤ 14 * length cells
 cells_le [] = omega arith
 cells_le (cell ∷ cells) = omega (arith, length-append (cell_clauses cell) (flat_map cell_clauses cells), cells_le cells, by cell.third)
   where

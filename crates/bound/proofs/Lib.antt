@@ -13,3 +13,4 @@ pub mod Columns
 pub mod Relaxations
 pub mod Parts
 pub mod Lines
+pub mod Streams

@@ -105,8 +105,11 @@ abbrev pub CoversLarger : List (Option Literal) → ℕ → Type 0
 CoversLarger outputs k = (larger : ℕ) → k ≤ larger → All (IsCovered (comparator_of outputs k)) (comparator_of outputs larger)
 
 -- the DIMACS text
+abbrev pub header_line : ℕ → ℕ → List ℕ
+header_line variables count = spaced (codes "p" ∷ codes "cnf" ∷ decimal variables ∷ decimal count ∷ [])
+
 abbrev pub dimacs_header : Cnf → List ℕ
-dimacs_header f = spaced (codes "p" ∷ codes "cnf" ∷ decimal f.variables ∷ decimal (length f.clauses) ∷ [])
+dimacs_header f = header_line f.variables (length f.clauses)
 
 abbrev pub dimacs_clause : List Literal → List ℕ
 dimacs_clause c = spaced (map literal_text c ++ codes "0" ∷ [])

@@ -22,7 +22,7 @@ pub(crate) fn keep_cells(clauses: &mut ClauseList, cells: &[Cell]) -> Result<(),
 }
 
 /// Adds the clauses of the cell.
-fn keep_cell(clauses: &mut ClauseList, cell: Cell) -> Result<(), AllocError>
+pub(crate) fn keep_cell(clauses: &mut ClauseList, cell: Cell) -> Result<(), AllocError>
     requires { HasVariables cell }
     ensures { OnOk result (Adds clauses.old clauses.new (cell_clauses cell)) }
 {

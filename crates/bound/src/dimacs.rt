@@ -1,10 +1,12 @@
 // The text of a formula in DIMACS CNF, the form that SAT solvers read.
-ghost use Rattle.std.specs.Prelude.{◌≡◌, [], ◌++◌, length, map, OnOk, OnErr};
+ghost use Rattle.std.specs.Prelude.{◌++◌, OnOk, OnErr};
+ghost use Rattle.std.specs.List.{flat_map};
 ghost use Rattle.std.specs.Io.KnownBytes.{Appends};
 ghost use Rattle.wcnf.specs.Writing.{AppendsPart, PassesOn};
-ghost use Rattle.bound.specs.Bound.{dimacs_text, dimacs_header, dimacs_clause};
+ghost use Rattle.bound.specs.Bound.{dimacs_text, header_line, dimacs_clause};
 
 use std::io::Write;
+use wcnf::clause_list::ClauseList;
 use wcnf::faults::WriteFault;
 use wcnf::output::Block;
 use wcnf::types::{Formula, Lit};
@@ -23,32 +25,50 @@ pub fn write_dimacs<W: Write>(formula: &Formula, writer: &mut W) -> Result<(), W
     ensures fault { OnErr result (AppendsPart (W.contents writer.old) (W.contents writer.new) (dimacs_text formula.now)) }
 {
     let mut block = Block::new();
-    put_header(&mut block, writer, formula)?;
     let clauses = formula.clauses();
-    for i in 0..clauses.len() {
-        put_clause(&mut block, writer, clauses.get(i))?;
-    }
+    put_header(&mut block, writer, formula.vars(), clauses.len())?;
+    put_clauses(&mut block, writer, clauses)?;
     block.flush(writer)
 }
 
 /// Puts the first line.
-fn put_header<W: Write>(
+pub(crate) fn put_header<W: Write>(
     block: &mut Block,
     writer: &mut W,
-    formula: &Formula,
+    vars: u32,
+    count: usize,
 ) -> Result<(), WriteFault>
-    ensures ok { OnOk result (PassesOn (W.contents writer.old) block.old (dimacs_header formula.now) (W.contents writer.new) block.new) }
-    ensures fault { OnErr result (AppendsPart (W.contents writer.old) (W.contents writer.new) (block.old ++ dimacs_header formula.now)) }
+    ensures ok { OnOk result (PassesOn (W.contents writer.old) block.old (header_line vars count) (W.contents writer.new) block.new) }
+    ensures fault { OnErr result (AppendsPart (W.contents writer.old) (W.contents writer.new) (block.old ++ header_line vars count)) }
 {
     block.put(writer, b"p cnf ")?;
-    block.put_number(writer, u64::from(formula.vars()))?;
+    block.put_number(writer, u64::from(vars))?;
     block.put(writer, b" ")?;
-    block.put_number(writer, formula.clauses().len() as u64)?;
+    block.put_number(writer, count as u64)?;
     block.put(writer, b"\n")
 }
 
+/// Puts the lines of the clauses.
+pub(crate) fn put_clauses<W: Write>(
+    block: &mut Block,
+    writer: &mut W,
+    clauses: &ClauseList,
+) -> Result<(), WriteFault>
+    ensures ok { OnOk result (PassesOn (W.contents writer.old) block.old (flat_map dimacs_clause clauses.now) (W.contents writer.new) block.new) }
+    ensures fault { OnErr result (AppendsPart (W.contents writer.old) (W.contents writer.new) (block.old ++ flat_map dimacs_clause clauses.now)) }
+{
+    for clause in clauses.iter() {
+        put_clause(block, writer, clause)?;
+    }
+    Ok(())
+}
+
 /// Puts the line of a clause.
-fn put_clause<W: Write>(block: &mut Block, writer: &mut W, lits: &[Lit]) -> Result<(), WriteFault>
+pub(crate) fn put_clause<W: Write>(
+    block: &mut Block,
+    writer: &mut W,
+    lits: &[Lit],
+) -> Result<(), WriteFault>
     ensures ok { OnOk result (PassesOn (W.contents writer.old) block.old (dimacs_clause lits.now) (W.contents writer.new) block.new) }
     ensures fault { OnErr result (AppendsPart (W.contents writer.old) (W.contents writer.new) (block.old ++ dimacs_clause lits.now)) }
 {

@@ -31,7 +31,7 @@ pub(crate) fn keep(
 }
 
 /// Whether some literal stands with its negation, in time linear in their number.
-fn are_opposed(marks: &mut Marks, lits: &[Lit]) -> bool
+pub(crate) fn are_opposed(marks: &mut Marks, lits: &[Lit]) -> bool
     requires { All (HasPlace marks.old) lits.now }
     ensures value { result ≡ has_opposites lits.now }
     ensures marks { marks.new ≡ marks.old }

@@ -5,6 +5,7 @@
 mod cells;
 mod comparators;
 mod dimacs;
+pub mod encoding;
 pub mod formulas;
 mod hard;
 mod keeping;

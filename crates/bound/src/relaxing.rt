@@ -23,6 +23,7 @@ pub(crate) fn keep_relaxed(
     requires { 2 * (instance.now.variables + length instance.now.soft) ≤ marks.old }
     ensures clauses { OnOk result (clauses.new ≡ clauses.old ++ kept (relaxed_clauses profile instance.now)) }
     ensures last { IfOk result (λ n. n ≡ relaxed_variables profile instance.now) }
+    ensures marks { marks.new ≡ marks.old }
 {
     let mut last = instance.vars();
     for soft in instance.soft() {

@@ -1,6 +1,7 @@
 // Formulas that were worked by hand, and writers that fail.
 ghost use Rattle.std.specs.Prelude.{◌≤◌, ◌^◌, Some};
 
+use crate::encoding::{EncodeFault, write_formula};
 use crate::formulas::{comparator, formula, formula_as, hard_formula, write_dimacs};
 use adder::building::network;
 use adder::cells::Profile;
@@ -65,6 +66,25 @@ fn formulas_of_costs_below(rt: HostRuntime) -> Result<(), Fail> {
     ] {
         let built = formula(&read(alloc, text)?, k)?;
         assert_eq!(rt; text_of(alloc, &built)?.as_slice(), want);
+    }
+    Ok(())
+}
+
+#[test]
+fn formulas_written_as_they_are_made(rt: HostRuntime) -> Result<(), Fail> {
+    let alloc = rt.alloc();
+    for (text, k, want) in [
+        (EMPTY, 5, EMPTY_BELOW_5),
+        (LOOSE, 5, LOOSE_BELOW_5),
+        (PAIR, 3, PAIR_BELOW_3),
+        (SAME, 1, SAME_BELOW_1),
+        (OPPOSITES, 2, OPPOSITES_BELOW_2),
+        (THREE, 2, THREE_BELOW_2),
+        (b"", 0, b"p cnf 0 1\n0\n"),
+    ] {
+        let mut written = Vec::new(alloc);
+        write_formula(&read(alloc, text)?, k, Profile::One, &mut written)?;
+        assert_eq!(rt; written.as_slice(), want);
     }
     Ok(())
 }
@@ -147,6 +167,29 @@ fn writers_that_fail(rt: HostRuntime) -> Result<(), Fail> {
                 "at {left}"
             );
             assert_eq!(rt; writer.held.as_slice(), &PAIR_BELOW_3[..left]);
+            assert_eq!(rt; writer.faults, 1);
+        }
+    }
+    Ok(())
+}
+
+#[test]
+fn writers_that_fail_midway(rt: HostRuntime) -> Result<(), Fail> {
+    let instance = read(rt.alloc(), SAME)?;
+    for refuses in [false, true] {
+        for left in [0, 1, 20, SAME_BELOW_1.len() - 1] {
+            let mut writer = FailingWriter {
+                held: Vec::new(rt.alloc()),
+                left,
+                refuses,
+                faults: 0,
+            };
+            assert_eq!(rt;
+                write_formula(&instance, 1, Profile::One, &mut writer),
+                Err(EncodeFault::Output),
+                "at {left}"
+            );
+            assert_eq!(rt; writer.held.as_slice(), &SAME_BELOW_1[..left]);
             assert_eq!(rt; writer.faults, 1);
         }
     }

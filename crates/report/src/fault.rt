@@ -1,4 +1,7 @@
 //! Why a run of the program ended without an answer.
+ghost use Rattle.std.specs.Prelude.{◌≡◌};
+
+use bound::encoding::EncodeFault;
 use std::fmt;
 use thiserror::Error;
 use wcnf::faults::{FaultKind, ReadFault};
@@ -31,6 +34,20 @@ impl From<ReadFault> for RunFault {
         match fault.kind {
             FaultKind::Memory => RunFault::Memory,
             _ => RunFault::Read(fault),
+        }
+    }
+}
+
+/// The faults of a formula that is written, by their names.
+impl From<EncodeFault> for RunFault {
+    ghost use Rattle.report.specs.Faults.{encode_fault};
+
+    ghost from_gives = { λ f g. g ≡ encode_fault f };
+
+    fn from(fault: EncodeFault) -> RunFault {
+        match fault {
+            EncodeFault::Memory => RunFault::Memory,
+            EncodeFault::Output => RunFault::Output,
         }
     }
 }

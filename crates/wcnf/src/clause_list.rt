@@ -77,6 +77,14 @@ impl ClauseList {
         Ok(())
     }
 
+    /// Drops all clauses, and keeps their memory for others.
+    pub fn clear(&mut self)
+        ensures { self.new ≡ [] }
+    {
+        self.lits.clear();
+        self.ends.clear();
+    }
+
     /// The clauses, in their order.
     pub fn iter(&self) -> Clauses<'_>
         ensures { result ≡ self.now }

@@ -4,7 +4,7 @@
 mod placing;
 
 use adder::cells::Profile;
-use bound::formulas::{formula_as, write_dimacs};
+use bound::encoding::write_formula;
 use cdcl::budget::Budget;
 use clap::ArgMatches;
 use clap::error::ErrorKind;
@@ -106,7 +106,7 @@ fn checked<R: Files + AllocGlobal + Print>(
     Ok(verdict_code(&verdict))
 }
 
-/// `wmax encode`: the formula for 'cost below COST'. The process ends after it, so the clauses are not given back one by one.
+/// `wmax encode`: the formula for 'cost below COST'. The process ends after it, so the clauses of the text are not given back one by one.
 fn encoded<R: Files + AllocGlobal + Print>(
     rt: &R,
     matches: &ArgMatches<'_>,
@@ -116,13 +116,10 @@ fn encoded<R: Files + AllocGlobal + Print>(
     };
     let mut text = File::open(rt, text).map_err(|_| UNREADABLE)?;
     let instance = ManuallyDrop::new(read_from(rt.alloc(), &mut text)?);
-    // `clap` lets no greater cost pass; said again, since nothing is known of that here.
-    let formula = formula_as(&instance, cost.min(MOST_COST), profile(matches)).map_err(
-        |_| RunFault::Memory,
-    )?;
-    let formula = ManuallyDrop::new(formula);
     let mut out = io::writer(rt);
-    delivered(write_dimacs(&formula, &mut out), &mut out)?;
+    // `clap` lets no greater cost pass; said again, since nothing is known of that here.
+    write_formula(&instance, cost.min(MOST_COST), profile(matches), &mut out)?;
+    delivered(Ok(()), &mut out)?;
     Ok(0)
 }
 
