@@ -1,16 +1,14 @@
 -- The lines of a DIMACS text, as they are put together.
-use Rattle.std.proofs.Common.{◌≡◌, ℕ, ◌+◌, ◌<◌, ◌≤◌, List, [], ◌∷◌, ◌++◌, length, map, take, get_or, Option, refl, sym, ◌∙◌, ap, subst, append-nil}
+use Rattle.std.proofs.Common.{◌≡◌, ℕ, ◌+◌, ◌<◌, ◌≤◌, List, [], ◌∷◌, ◌++◌, length, map, take, get_or, Option, refl, sym, ◌∙◌, ap, append-nil}
 use Rattle.std.specs.List.{flat_map}
-use Rattle.std.specs.Io.KnownBytes.{Appends}
 use Rattle.std.specs.Fmt.{decimal}
 use lib.Chars.{codes}
 use Rattle.wcnf.specs.Literal.{Literal}
 use Rattle.wcnf.specs.Text.{literal_text}
-use Rattle.wcnf.specs.Formula.{Cnf}
 use Rattle.wcnf.specs.Writing.{PassesOn, AppendsPart}
 use Rattle.wcnf.proofs.Items.{items_more, items_fault, all_taken}
-use Rattle.wcnf.proofs.Passing.{first_fault, passed-more, passed_part-more, passed_part, passed_whole, spaced-last}
-use Rattle.bound.specs.Bound.{dimacs_clause, dimacs_header, dimacs_text}
+use Rattle.wcnf.proofs.Passing.{first_fault, passed-more, passed_part-more, spaced-last}
+use Rattle.bound.specs.Bound.{dimacs_clause}
 
 abbrev pub literals_text : List Literal → List ℕ
 literals_text c = flat_map (λ l. literal_text l ++ 32 ∷ []) c
@@ -74,23 +72,3 @@ pub header_fault : (a b c d e : Option (List ℕ)) (h i j k : List ℕ) (v n : �
 header_fault a b c d e h i j k v n p q r s =
     passed_part-more a b e h i (codes "p cnf " ++ decimal v) ((32 ∷ []) ++ (decimal n ++ 10 ∷ [])) p
     (passed_part-more b c e i j (32 ∷ []) (decimal n ++ 10 ∷ []) q (passed_part-more c d e j k (decimal n) (10 ∷ []) r s))
-
--- the whole text
-pub header_first : (a b : Option (List ℕ)) (f : Cnf) → AppendsPart a b ([] ++ dimacs_header f) → AppendsPart a b (dimacs_text f)
-header_first a b f p = first_fault a b [] (dimacs_header f) (flat_map dimacs_clause f.clauses) (dimacs_text f) p refl
-
-pub clause_fault : (a b c : Option (List ℕ)) (j : List ℕ) (f : Cnf) (cs : List (List Literal)) (i : ℕ) (x : List Literal) → cs ≡ f.clauses → i < length cs → x ≡ get_or cs i x
-    → PassesOn a [] (dimacs_header f ++ flat_map dimacs_clause (take i cs)) b j → AppendsPart b c (j ++ dimacs_clause x) → AppendsPart a c (dimacs_text f)
-clause_fault a b c j f cs i x same lt is p q =
-    let whole = items_fault dimacs_clause a b c [] j (dimacs_header f) (dimacs_clause x) [] [] cs i x lt is (sym (append-nil (dimacs_clause x))) p q in
-    subst (AppendsPart a c) (append-nil (dimacs_header f ++ flat_map dimacs_clause cs) ∙ ap (λ z. dimacs_header f ++ flat_map dimacs_clause z) same) whole
-
-pub text_whole : (a b c : Option (List ℕ)) (j : List ℕ) (f : Cnf) (cs : List (List Literal)) (i : ℕ) → cs ≡ f.clauses → length cs ≤ i
-    → PassesOn a [] (dimacs_header f ++ flat_map dimacs_clause (take i cs)) b j → Appends b c j → Appends a c (dimacs_text f)
-text_whole a b c j f cs i same le p q =
-    subst (λ z. Appends a c (dimacs_header f ++ z)) (all_taken dimacs_clause cs i le ∙ ap (flat_map dimacs_clause) same) (passed_whole a b c [] j (dimacs_header f ++ flat_map dimacs_clause (take i cs)) p q)
-
-pub text_part : (a b c : Option (List ℕ)) (j : List ℕ) (f : Cnf) (cs : List (List Literal)) (i : ℕ) → cs ≡ f.clauses → length cs ≤ i
-    → PassesOn a [] (dimacs_header f ++ flat_map dimacs_clause (take i cs)) b j → AppendsPart b c j → AppendsPart a c (dimacs_text f)
-text_part a b c j f cs i same le p q =
-    subst (λ z. AppendsPart a c (dimacs_header f ++ z)) (all_taken dimacs_clause cs i le ∙ ap (flat_map dimacs_clause) same) (passed_part a b c [] j (dimacs_header f ++ flat_map dimacs_clause (take i cs)) p q)

@@ -1,6 +1,6 @@
 -- The clauses of one more cell were counted, and there are few in all.
-use Rattle.std.proofs.Common.{◌≡◌, ◌+◌, ◌<◌, ◌≤◌, ◌^◌, length, ap, arith, rules, ◌∙◌}
-use Rattle.bound.proofs.Streams.{cells_kept, cells_counted, cell_counted}
+use Rattle.std.proofs.Common.{◌<◌, ◌^◌, length, arith, rules}
+use Rattle.bound.proofs.Streams.{cells_counted, cell_counted}
 use Rattle.bound.proofs.encoding.count_cells.Goals as goal
 
 pub overflow_add-count : goal.overflow_add-count

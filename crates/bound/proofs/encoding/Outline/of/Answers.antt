@@ -1,5 +1,5 @@
 -- There are as many clauses as the parts have together, and so few.
-use Rattle.std.proofs.Common.{◌≡◌, ◌+◌, ◌<◌, ◌^◌, ◌++◌, List, All, sym, ap, subst, arith, ◌∙◌}
+use Rattle.std.proofs.Common.{◌++◌, List, All, sym, ap, subst, arith, ◌∙◌}
 use Rattle.adder.specs.declared.cells.Cell.{Cell}
 use Rattle.adder.specs.Network.{Adders}
 use Rattle.bound.specs.Bound.{kept, comparator_of, relaxed_clauses}
