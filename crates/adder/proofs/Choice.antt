@@ -5,10 +5,10 @@ use Rattle.std.proofs.lemmas.Bool.{eq-eqb, ne_eqb}
 use Rattle.std.proofs.lemmas.List.Elements.{All-from_recursion}
 use Rattle.wcnf.specs.Literal.{Assignment, Literal, negation, literal_value}
 use Rattle.wcnf.specs.Clause.{clause_value, greatest_variable}
-use Rattle.wcnf.specs.Problem.{Problem, SoftClause}
+use Rattle.wcnf.specs.Problem.{SoftClause}
 use Rattle.adder.specs.declared.cells.Cell.{Cell}
 use Rattle.adder.specs.declared.cells.Profile.{Profile}
-use Rattle.adder.specs.Network.{Relaxed, Column, bit, binary_length, total_weight, positive, relaxed_from, relaxed_as, relaxed_variables, column_of, added_up, columns_from, adders_as, one_if, third_of, IsCellOf, SameUpTo}
+use Rattle.adder.specs.Network.{Relaxed, Column, bit, positive, relaxed_from, column_of, added_up, columns_from, one_if, third_of, IsCellOf, SameUpTo}
 use Rattle.adder.proofs.Sums.{relaxed_cases}
 
 -- the assignment with one value changed
@@ -48,11 +48,11 @@ chain_append n (x ∷ xs) ys m e h k = (h.0, h.1, h.2, h.3, h.4, chain_append (n
 abbrev pub AreBelow : ℕ → List Literal → Type 0
 AreBelow n ls = AllByRecursion (λ l. l.variable < n) ls
 
-below_more : (n m : ℕ) (ls : List Literal) → n ≤ m → AreBelow n ls → AreBelow m ls
+pub below_more : (n m : ℕ) (ls : List Literal) → n ≤ m → AreBelow n ls → AreBelow m ls
 below_more n m [] le h = tt
 below_more n m (l ∷ ls) le h = (omega (arith, h.0), below_more n m ls le h.1)
 
-below_append : (n : ℕ) (xs ys : List Literal) → AreBelow n xs → AreBelow n ys → AreBelow n (xs ++ ys)
+pub below_append : (n : ℕ) (xs ys : List Literal) → AreBelow n xs → AreBelow n ys → AreBelow n (xs ++ ys)
 below_append n [] ys h k = k
 below_append n (x ∷ xs) ys h k = (h.0, below_append n xs ys h.1 k)
 
@@ -76,7 +76,7 @@ column_chain (suc steps) n (a ∷ b ∷ d ∷ rest) h =
 abbrev pub AreRelaxedBelow : ℕ → List Relaxed → Type 0
 AreRelaxedBelow n es = AllByRecursion (λ e. (e.literal).variable < n) es
 
-column_below : (n : ℕ) (es : List Relaxed) (j : ℕ) → AreRelaxedBelow n es → AreBelow n (column_of es j)
+pub column_below : (n : ℕ) (es : List Relaxed) (j : ℕ) → AreRelaxedBelow n es → AreBelow n (column_of es j)
 column_below n [] j h = tt
 column_below n (e ∷ es) j h =
     elim (bit (e.soft).weight j) as (λ b. AreBelow n (map (λ e. e.literal) (if b then e ∷ filter (λ e. bit (e.soft).weight j) es else filter (λ e. bit (e.soft).weight j) es))) [
@@ -84,18 +84,14 @@ column_below n (e ∷ es) j h =
       | false ↦ column_below n es j h.1
     ]
 
-relaxed_more : (n m : ℕ) (es : List Relaxed) → n ≤ m → AreRelaxedBelow n es → AreRelaxedBelow m es
-relaxed_more n m [] le h = tt
-relaxed_more n m (e ∷ es) le h = (omega (arith, h.0), relaxed_more n m es le h.1)
-
-pub columns_chain : (es : List Relaxed) (more j n : ℕ) (carries : List Literal) → AreRelaxedBelow n es → AreBelow n carries → IsChain n (columns_from es more j n carries).cells
-columns_chain es zero j n carries h k = tt
-columns_chain es (suc more) j n carries h k =
-    let ls = column_of es j ++ carries in
-    let column = added_up (length ls) n ls in
-    let r = column_chain (length ls) n ls (below_append n (column_of es j) carries (column_below n es j h) k) in
-    chain_append n column.cells (columns_from es more (j + 1) column.fresh column.carries).cells column.fresh r.fresh r.chain
-    (columns_chain es more (j + 1) column.fresh column.carries (relaxed_more n column.fresh es (omega (arith, r.fresh)) h) r.carries)
+pub columns_chain : (column : ℕ → List Literal) (more j n : ℕ) (carries : List Literal) → ((j : ℕ) → AreBelow n (column j)) → AreBelow n carries → IsChain n (columns_from column more j n carries).cells
+columns_chain column zero j n carries h k = tt
+columns_chain column (suc more) j n carries h k =
+    let ls = column j ++ carries in
+    let sum = added_up (length ls) n ls in
+    let r = column_chain (length ls) n ls (below_append n (column j) carries (h j) k) in
+    chain_append n sum.cells (columns_from column more (j + 1) sum.fresh sum.carries).cells sum.fresh r.fresh r.chain
+    (columns_chain column more (j + 1) sum.fresh sum.carries (λ i. below_more n sum.fresh (column i) (omega (arith, r.fresh)) (h i)) r.carries)
 
 -- what a cell adds
 abbrev inputs : Assignment → Cell → ℕ
@@ -148,14 +144,11 @@ relaxed_below n profile v (s ∷ ss) m h k =
     (λ room. (omega arith, relaxed_below n profile (v + 1) ss m h.1 (omega arith) (omega arith)))
     (λ l e room. (omega (arith, h.0, ap greatest_variable e), relaxed_below n profile v ss m h.1 k room))
 
--- the field `choice` of `AddsUp`
-pub cells_extend : (profile : Profile) (p : Problem) (t : Assignment) → AreWithin p.variables p.soft
-    → (u : Assignment) × SameUpTo (relaxed_variables profile p) t u × All (IsCellOf u) (adders_as profile p).cells
-cells_extend profile p t h =
-    let n = relaxed_variables profile p + 1 in
-    let r = cells_choice n (adders_as profile p).cells t
-    (columns_chain (relaxed_as profile p) (binary_length (total_weight p)) 0 n [] (relaxed_below p.variables profile (p.variables + 1) p.soft n h (omega arith) (omega arith)) tt) in
-    (r.0, λ v k. r.1 v (omega arith), All-from_recursion (IsCellOf r.0) (adders_as profile p).cells r.2)
+-- each choice of the variables up to n extends to the cells after them
+pub chain_extends : (n : ℕ) (cells : List Cell) (t : Assignment) → IsChain (n + 1) cells → (u : Assignment) × SameUpTo n t u × All (IsCellOf u) cells
+chain_extends n cells t h =
+    let r = cells_choice (n + 1) cells t h in
+    (r.0, λ v k. r.1 v (omega arith), All-from_recursion (IsCellOf r.0) cells r.2)
 
 negation_value : (t : Assignment) (l : Literal) → literal_value t (negation l) ≡ not (literal_value t l || false)
 negation_value t l = by l.negated (t l.variable)

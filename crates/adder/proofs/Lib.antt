@@ -2,6 +2,10 @@ pub mod Sums
 pub mod Choice
 pub mod Small
 pub mod Variables
+pub mod Sorting
+pub mod Numbers
+pub mod Profiles
 pub mod Queue
 pub mod Digits
+pub mod Pairs
 pub mod Whole

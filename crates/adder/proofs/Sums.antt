@@ -1,16 +1,15 @@
 -- The outputs are the weight of what is given up.
-use Rattle.std.proofs.Common.{◌≡◌, ℕ, zero, suc, ◌+◌, ◌*◌, ◌/◌, ◌%◌, ◌^◌, ◌<◌, ◌≤◌, Bool, true, false, List, [], ◌∷◌, ◌++◌, length, map, filter, sum_by, Option, Some, None, ◌==◌, if◌then◌else◌, All, refl, ◌∙◌, ap, arith, pow-suc}
+use Rattle.std.proofs.Common.{◌≡◌, ℕ, zero, suc, ◌+◌, ◌*◌, ◌/◌, ◌%◌, ◌^◌, ◌<◌, ◌≤◌, Bool, true, false, List, [], ◌∷◌, ◌++◌, length, map, filter, sum_by, Option, Some, None, ◌==◌, if◌then◌else◌, refl, ◌∙◌, ap, arith, pow-suc}
 use Rattle.std.specs.List.{AllByRecursion}
 use Rattle.std.proofs.lemmas.Nat.{shr-shr}
 use Rattle.std.proofs.lemmas.Bool.{eqb-true, eqb-false}
 use Rattle.std.proofs.lemmas.List.{length-append}
 use Rattle.std.proofs.lemmas.List.Sums.{sum_by-cons}
-use Rattle.std.proofs.lemmas.List.Elements.{recursion_from_All}
 use Rattle.wcnf.specs.Literal.{Assignment, Literal, negation, literal_value}
-use Rattle.wcnf.specs.Problem.{Problem, SoftClause}
+use Rattle.wcnf.specs.Problem.{SoftClause}
 use Rattle.adder.specs.declared.cells.Profile.{Profile}
-use Rattle.adder.specs.declared.cells.Profile.TheVariants.{One, Two}
-use Rattle.adder.specs.Network.{Relaxed, bit, binary_length, total_weight, positive, relaxed_one, relaxed_from, relaxed_as, relaxed_variables, column_of, added_up, columns_from, adders_as, value_of, relaxed_weight, one_if, third_of, IsCellOf}
+use Rattle.adder.specs.declared.cells.Profile.TheVariants.{One, Two, Three}
+use Rattle.adder.specs.Network.{Relaxed, bit, binary_length, positive, relaxed_one, relaxed_from, column_of, added_up, columns_from, along_columns, value_of, one_if, third_of, IsCellOf}
 
 pub left_part : {X : Type 0} (P : X → Type 0) (xs ys : List X) → AllByRecursion P (xs ++ ys) → AllByRecursion P xs
 left_part P [] ys h = tt
@@ -72,19 +71,20 @@ weighed_more t (e ∷ es) j =
         → one_if (literal_value t e.literal) * ((e.soft).weight / 2 ^ j) ≡ one_if (literal_value t e.literal) * n + 2 * (one_if (literal_value t e.literal) * ((e.soft).weight / 2 ^ (j + 1)))
     here n h = scaled (literal_value t e.literal) _ _ n (omega (arith, digit (e.soft).weight j))
 
--- the columns that are left add up the carries and the digits from j on, where they have room for both
-pub columns_sum : (t : Assignment) (es : List Relaxed) (more j fresh : ℕ) (carries : List Literal) → AllByRecursion (IsCellOf t) (columns_from es more j fresh carries).cells
-    → count_true t carries + weighed t es j < 2 ^ more → value_of t (columns_from es more j fresh carries).outputs ≡ count_true t carries + weighed t es j
-columns_sum t es zero j fresh carries all room = omega arith
-columns_sum t es (suc more) j fresh carries all room =
-    let ls = column_of es j ++ carries in
-    let column = added_up (length ls) fresh ls in
-    let rest = columns_from es more (j + 1) column.fresh column.carries in
+-- the columns that are left add up the carries and what the columns from j on are worth, where they have room for both
+pub columns_sum : (t : Assignment) (column : ℕ → List Literal) (worth : ℕ → ℕ) → ((j : ℕ) → worth j ≡ count_true t (column j) + 2 * worth (j + 1))
+    → (more j fresh : ℕ) (carries : List Literal) → AllByRecursion (IsCellOf t) (columns_from column more j fresh carries).cells
+    → count_true t carries + worth j < 2 ^ more → value_of t (columns_from column more j fresh carries).outputs ≡ count_true t carries + worth j
+columns_sum t column worth law zero j fresh carries all room = omega arith
+columns_sum t column worth law (suc more) j fresh carries all room =
+    let ls = column j ++ carries in
+    let sum = added_up (length ls) fresh ls in
+    let rest = columns_from column more (j + 1) sum.fresh sum.carries in
     let short : length ls ≤ length ls + 1 = omega arith in
-    let here = column_sum t (length ls) fresh ls short (left_part (IsCellOf t) column.cells rest.cells all) in
-    let below : count_true t column.carries + weighed t es (j + 1) < 2 ^ more = omega (arith, here, count_true-append t (column_of es j) carries, weighed_more t es j, pow-suc 2 more) in
-    let above = columns_sum t es more (j + 1) column.fresh column.carries (right_part (IsCellOf t) column.cells rest.cells all) below in
-    joined column.output rest.outputs (count_true t column.carries + weighed t es (j + 1)) above (omega (arith, here, count_true-append t (column_of es j) carries, weighed_more t es j))
+    let here = column_sum t (length ls) fresh ls short (left_part (IsCellOf t) sum.cells rest.cells all) in
+    let below : count_true t sum.carries + worth (j + 1) < 2 ^ more = omega (arith, here, count_true-append t (column j) carries, law j, pow-suc 2 more) in
+    let above = columns_sum t column worth law more (j + 1) sum.fresh sum.carries (right_part (IsCellOf t) sum.cells rest.cells all) below in
+    joined sum.output rest.outputs (count_true t sum.carries + worth (j + 1)) above (omega (arith, here, count_true-append t (column j) carries, law j))
   where
     joined : (o : Option Literal) (os : List (Option Literal)) (n : ℕ) {m : ℕ} → value_of t os ≡ n → m ≡ third_of t o + 2 * n → value_of t (o ∷ os) ≡ m
     joined None os n e f = omega arith
@@ -139,6 +139,7 @@ weighed_bound t (e ∷ es) = omega (arith, weighed_bound t es, sum_by-cons (λ (
 pub relaxed_cases : (profile : Profile) (v : ℕ) (s : SoftClause) (P : Relaxed → Type 0) → P (record { literal = positive v; soft = s; is_fresh = true })
     → ((l : Literal) → s.clause ≡ l ∷ [] → P (record { literal = negation l; soft = s; is_fresh = false })) → P (relaxed_one profile v s)
 relaxed_cases One v s P fresh own = fresh
+relaxed_cases Three v s P fresh own = fresh
 relaxed_cases Two v s P fresh own = at s.weight s.clause P fresh own
   where
     at : (w : ℕ) (c : List Literal) (P : Relaxed → Type 0) → P (record { literal = positive v; soft = record { weight = w; clause = c }; is_fresh = true })
@@ -150,19 +151,20 @@ relaxed_cases Two v s P fresh own = at s.weight s.clause P fresh own
 pub relaxed_soft : (profile : Profile) (v : ℕ) (s : SoftClause) → (relaxed_one profile v s).soft ≡ s
 relaxed_soft profile v s = relaxed_cases profile v s (λ e. e.soft ≡ s) refl (λ l h. refl)
 
-relaxed_weights : (profile : Profile) (v : ℕ) (ss : List SoftClause) → sum_by (λ e. (e.soft).weight) (relaxed_from profile v ss) ≡ sum_by (λ s. s.weight) ss
+pub relaxed_weights : (profile : Profile) (v : ℕ) (ss : List SoftClause) → sum_by (λ e. (e.soft).weight) (relaxed_from profile v ss) ≡ sum_by (λ s. s.weight) ss
 relaxed_weights profile v [] = refl
 relaxed_weights profile v (s ∷ ss) =
     let first = relaxed_one profile v s in
     let rest = relaxed_from profile (if first.is_fresh then v + 1 else v) ss in
     sum_by-cons (λ (e : Relaxed). (e.soft).weight) first rest ∙ omega (arith, relaxed_weights profile (if first.is_fresh then v + 1 else v) ss, sum_by-cons (λ (s : SoftClause). s.weight) s ss, ap (λ (s : SoftClause). s.weight) (relaxed_soft profile v s))
 
--- the field `sum` of `AddsUp`
-pub outputs_sum : (profile : Profile) (p : Problem) (t : Assignment) → total_weight p < 2 ^ 63 → All (IsCellOf t) (adders_as profile p).cells → value_of t (adders_as profile p).outputs ≡ relaxed_weight profile p t
-outputs_sum profile p t small all = outputs_of (relaxed_as profile p) (binary_length (total_weight p)) (relaxed_variables profile p + 1)
-    (recursion_from_All (IsCellOf t) (adders_as profile p).cells all)
-    (omega (arith, weighed_bound t (relaxed_as profile p), relaxed_weights profile (p.variables + 1) p.soft, binary_length_room (total_weight p) small))
+-- the weights of those that are given up
+abbrev pub given_up : Assignment → List Relaxed → ℕ
+given_up t es = sum_by (λ e. if literal_value t e.literal then (e.soft).weight else 0) es
+
+pub along_columns_sum : (t : Assignment) (es : List Relaxed) (total fresh : ℕ) → sum_by (λ e. (e.soft).weight) es ≡ total → total < 2 ^ 63
+    → AllByRecursion (IsCellOf t) (along_columns es total fresh).cells → value_of t (along_columns es total fresh).outputs ≡ given_up t es
+along_columns_sum t es total fresh same small = outputs_of (binary_length total) (omega (arith, weighed_bound t es, binary_length_room total small))
   where
-    outputs_of : (es : List Relaxed) (more fresh : ℕ) → AllByRecursion (IsCellOf t) (columns_from es more 0 fresh []).cells → weighed t es 0 < 2 ^ more
-        → value_of t (columns_from es more 0 fresh []).outputs ≡ sum_by (λ e. if literal_value t e.literal then (e.soft).weight else 0) es
-    outputs_of es more fresh all room = columns_sum t es more 0 fresh [] all (omega arith) ∙ omega (arith, weighed_all t es)
+    outputs_of : (more : ℕ) → weighed t es 0 < 2 ^ more → AllByRecursion (IsCellOf t) (columns_from (column_of es) more 0 fresh []).cells → value_of t (columns_from (column_of es) more 0 fresh []).outputs ≡ given_up t es
+    outputs_of more room all = columns_sum t (column_of es) (weighed t es) (weighed_more t es) more 0 fresh [] all (omega arith) ∙ omega (arith, weighed_all t es)

@@ -33,11 +33,11 @@ module _ (Q : ℕ → Type 0) where
     pub sum : Q cell.sum
     pub carry : Q cell.carry
 
-  of_append : (xs ys : List Literal) → AreOf xs → AreOf ys → AreOf (xs ++ ys)
+  pub of_append : (xs ys : List Literal) → AreOf xs → AreOf ys → AreOf (xs ++ ys)
   of_append [] ys h k = k
   of_append (x ∷ xs) ys h k = (h.0, of_append xs ys h.1 k)
 
-  all_append : (xs ys : List Cell) → AllByRecursion IsCellWith xs → AllByRecursion IsCellWith ys → AllByRecursion IsCellWith (xs ++ ys)
+  pub all_append : (xs ys : List Cell) → AllByRecursion IsCellWith xs → AllByRecursion IsCellWith ys → AllByRecursion IsCellWith (xs ++ ys)
   all_append [] ys h k = k
   all_append (x ∷ xs) ys h k = (h.0, all_append xs ys h.1 k)
 
@@ -57,7 +57,7 @@ module _ (Q : ℕ → Type 0) where
       let r = column_with steps (n + 2) (rest ++ positive n ∷ []) (of_append rest (positive n ∷ []) h.1.1.1 (s, tt)) (λ v l k. f v (omega arith) (omega arith)) in
       ((record { a = h.0; b = h.1.0; third = h.1.1.0; sum = s; carry = c }, r.0), r.1, (c, r.2))
 
-  column_of_with : (es : List Relaxed) (j : ℕ) → AllByRecursion (λ e. Q (e.literal).variable) es → AreOf (column_of es j)
+  pub column_of_with : (es : List Relaxed) (j : ℕ) → AllByRecursion (λ e. Q (e.literal).variable) es → AreOf (column_of es j)
   column_of_with [] j h = tt
   column_of_with (e ∷ es) j h =
       elim (bit (e.soft).weight j) as (λ b. AreOf (map (λ e. e.literal) (if b then e ∷ filter (λ e. bit (e.soft).weight j) es else filter (λ e. bit (e.soft).weight j) es))) [
@@ -65,19 +65,19 @@ module _ (Q : ℕ → Type 0) where
         | false ↦ column_of_with es j h.1
       ]
 
-  pub columns_with : (es : List Relaxed) (more j n : ℕ) (carries : List Literal) → AllByRecursion (λ e. Q (e.literal).variable) es → AreOf carries
-      → ((v : ℕ) → n ≤ v → v < n + 2 * length (columns_from es more j n carries).cells → Q v)
-      → AllByRecursion IsCellWith (columns_from es more j n carries).cells × AllByRecursion IsOutputOf (columns_from es more j n carries).outputs
-  columns_with es zero j n carries h k f = (tt, tt)
-  columns_with es (suc more) j n carries h k f =
-      let ls = column_of es j ++ carries in
-      let column = added_up (length ls) n ls in
-      let rest = columns_from es more (j + 1) column.fresh column.carries in
-      let many = length-append column.cells rest.cells in
+  pub columns_with : (column : ℕ → List Literal) (more j n : ℕ) (carries : List Literal) → ((j : ℕ) → AreOf (column j)) → AreOf carries
+      → ((v : ℕ) → n ≤ v → v < n + 2 * length (columns_from column more j n carries).cells → Q v)
+      → AllByRecursion IsCellWith (columns_from column more j n carries).cells × AllByRecursion IsOutputOf (columns_from column more j n carries).outputs
+  columns_with column zero j n carries h k f = (tt, tt)
+  columns_with column (suc more) j n carries h k f =
+      let ls = column j ++ carries in
+      let sum = added_up (length ls) n ls in
+      let rest = columns_from column more (j + 1) sum.fresh sum.carries in
+      let many = length-append sum.cells rest.cells in
       let next = column_fresh (length ls) n ls in
-      let c = column_with (length ls) n ls (of_append (column_of es j) carries (column_of_with es j h) k) (λ v l u. f v l (omega (arith, many))) in
-      let r = columns_with es more (j + 1) column.fresh column.carries h c.2 (λ v l u. f v (omega (arith, next)) (omega (arith, many, next))) in
-      (all_append column.cells rest.cells c.0 r.0, (c.1, r.1))
+      let c = column_with (length ls) n ls (of_append (column j) carries (h j) k) (λ v l u. f v l (omega (arith, many))) in
+      let r = columns_with column more (j + 1) sum.fresh sum.carries h c.2 (λ v l u. f v (omega (arith, next)) (omega (arith, many, next))) in
+      (all_append sum.cells rest.cells c.0 r.0, (c.1, r.1))
 
   -- the relaxation literals are those of the clauses, or new
   pub relaxed_with : (profile : Profile) (v : ℕ) (ss : List SoftClause) → AllByRecursion (λ s. AreOf s.clause) ss

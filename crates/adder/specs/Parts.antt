@@ -1,10 +1,10 @@
 -- What the parts of the building compute.
-use Rattle.std.specs.Prelude.{ℕ, false, List, [], ◌∷◌, length, map, filter, Option, Some, None}
+use Rattle.std.specs.Prelude.{ℕ, ◌+◌, List, [], ◌∷◌, length, map, filter, Option, Some, None}
 use Rattle.wcnf.specs.Literal.{Literal, negation}
 use Rattle.adder.specs.declared.cells.Profile.{Profile}
-use Rattle.adder.specs.declared.cells.Profile.TheVariants.{One, Two}
+use Rattle.adder.specs.declared.cells.Profile.TheVariants.{One, Two, Three}
 use Rattle.adder.specs.declared.relaxations.Relaxation.{Relaxation}
-use Rattle.adder.specs.Network.{Relaxed, Column, bit, added_up}
+use Rattle.adder.specs.Network.{Adders, Relaxed, Column, Number, bit, added_up, number_of, lightest_first, rounds}
 
 -- the relaxation literal of a clause that takes no fresh variable
 abbrev pub own_relaxation : Profile → List Literal → Option Literal
@@ -12,14 +12,11 @@ own_relaxation Two (l ∷ []) = Some (negation l)
 own_relaxation Two [] = None
 own_relaxation Two (l ∷ k ∷ c) = None
 own_relaxation One c = None
+own_relaxation Three c = None
 
--- what the columns read of a relaxed clause
+-- what the network reads of a relaxed clause
 abbrev pub relaxation_of : Relaxed → Relaxation
 relaxation_of e = record { lit = e.literal; weight = (e.soft).weight }
-
--- a relaxed clause of which they read the same
-abbrev pub relaxed_of : Relaxation → Relaxed
-relaxed_of r = record { literal = r.lit; soft = record { weight = r.weight; clause = [] }; is_fresh = false }
 
 -- the literals of the weights with bit j
 abbrev pub literals_with : ℕ → List Relaxation → List Literal
@@ -28,3 +25,19 @@ literals_with j rs = map (λ r. r.lit) (filter (λ r. bit r.weight j) rs)
 -- a column added up to its end, with the variables from n on
 abbrev pub column_from : ℕ → List Literal → Column
 column_from n ls = added_up (length ls) n ls
+
+-- the weights as numbers, and light ones first
+abbrev pub numbers_with : List Relaxation → List Number
+numbers_with rs = map (λ r. number_of r.lit r.weight) rs
+
+abbrev pub lightest_numbers : List Relaxation → List Number
+lightest_numbers rs = numbers_with (lightest_first (λ r. r.weight) rs)
+
+-- the most that numbers can be together
+abbrev pub most_of : List Number → ℕ
+most_of [] = 0
+most_of (x ∷ xs) = x.most + most_of xs
+
+-- the numbers added up to their end, with the variables from n on
+abbrev pub tree_from : ℕ → List Number → Adders
+tree_from n xs = rounds (length xs) n xs

@@ -1,12 +1,13 @@
-// Building the network of an instance, column by column.
+// Building the network of an instance, column by column or along a tree.
 ghost use Rattle.std.specs.Prelude.{◌≡◌, ◌+◌, ◌*◌, ◌<◌, ◌≤◌, ◌^◌, [], length, map, IfOk};
 ghost use Rattle.adder.specs.Network.{columns_from, adders_as, AddsUp};
-ghost use Rattle.adder.specs.Parts.{relaxed_of};
+ghost use Rattle.adder.specs.Parts.{literals_with};
 
 use crate::cells::Profile;
 use crate::columns::{Adder, push_bit};
 use crate::networks::Network;
 use crate::relaxations::Relaxations;
+use crate::trees::add_tree;
 use std::alloc::{AllocError, Global};
 use wcnf::types::Instance;
 
@@ -23,13 +24,18 @@ pub fn network(instance: &Instance) -> Result<Network, AllocError>
 }
 
 /// The network that adds up the weights of an instance's soft clauses, each of which counts where
-/// its relaxation literal is true.
+/// its relaxation literal is true. Its outputs are the digits of the total weight.
 ///
-/// The column of 2^j holds at first, in the order of the soft clauses, the relaxation literals of
-/// the weights with the binary digit j. From the lowest column up, each is a queue: while it holds
-/// three literals or more, the first three go into a full adder, and of two both go into a half
-/// adder; the sum goes to the back of the column and the carry to the back of the next one. The
-/// columns end with the digits of the total weight.
+/// A column of literals, which are worth the same, is a queue: while it holds three literals or
+/// more, the first three go into a full adder, and of two both go into a half adder; the sum goes
+/// to the back of the column and the carry to the back of the next one.
+///
+/// In `Profile::One` and `Profile::Two` the column of 2^j holds at first, in the order of the soft
+/// clauses, the relaxation literals of the weights with the binary digit j, and the columns are
+/// added up from the lowest on. In `Profile::Three` each weight is a number of its own. By rising
+/// weight, and in the order of the soft clauses where weights are equal, these are added in pairs,
+/// an odd one is left for the next round, and rounds follow until one number is left: a column has
+/// the bits of two numbers.
 ///
 /// # Errors
 ///
@@ -38,29 +44,27 @@ pub fn network_as(instance: &Instance, profile: Profile) -> Result<Network, Allo
     ensures cells { IfOk result (λ n. n ≡ adders_as profile instance.now) }
     ensures adds_up { IfOk result (AddsUp profile instance.now) }
 {
+    let alloc = instance.allocator();
     let relaxations = Relaxations::of(instance, profile)?;
-    add_columns(instance.allocator(), &relaxations)
+    match profile {
+        Profile::One | Profile::Two => add_columns(alloc, &relaxations),
+        Profile::Three => add_tree(alloc, relaxations),
+    }
 }
 
 fn add_columns(alloc: Global, relaxations: &Relaxations) -> Result<Network, AllocError>
     requires digits { relaxations.now.digits ≤ 64 }
     requires from_one { 0 < relaxations.now.fresh }
-    requires small { relaxations.now.fresh + 2 * length (columns_from (map relaxed_of relaxations.now.each.items) relaxations.now.digits 0 relaxations.now.fresh []).cells ≤ 2 ^ 26 }
-    ensures { IfOk result (λ n. n ≡ columns_from (map relaxed_of relaxations.now.each.items) relaxations.now.digits 0 relaxations.now.fresh []) }
+    requires small { relaxations.now.fresh + 2 * length (columns_from (λ j. literals_with j relaxations.now.each.items) relaxations.now.digits 0 relaxations.now.fresh []).cells ≤ 2 ^ 26 }
+    ensures { IfOk result (λ n. n ≡ columns_from (λ j. literals_with j relaxations.now.each.items) relaxations.now.digits 0 relaxations.now.fresh []) }
 {
-    let mut adder = Adder {
-        cells: Vec::new(alloc),
-        carries: Vec::new(alloc),
-        fresh: relaxations.fresh,
-    };
+    let mut adder = Adder::new(alloc, relaxations.fresh);
     let mut outputs = Vec::new(alloc);
     let mut column = Vec::new(alloc);
     for j in 0..relaxations.digits {
         column.clear();
         push_bit(&mut column, &relaxations.each, j)?;
-        column.extend_from_slice(&adder.carries)?;
-        adder.carries.clear();
-        outputs.push(adder.add_up(&mut column)?)?;
+        outputs.push(adder.add_column(&mut column)?)?;
     }
     Ok(Network::new(adder.cells, outputs))
 }

@@ -18,12 +18,17 @@ pub struct Cell {
     pub carry: u32,
 }
 
-/// How a soft clause is relaxed: by a literal that is true where the clause may be falsified.
+/// How soft clauses are relaxed, by literals that are true where a clause may be falsified, and in
+/// which order the weights of those are added up.
 #[derive(Clone, Copy, Debug, PartialEq, Eq, Drop)]
 pub enum Profile {
-    /// Each soft clause, in their order, by the next variable after those of the instance.
+    /// Each soft clause, in their order, by the next variable after those of the instance. The
+    /// weights are added column by column.
     One,
     /// A soft clause of just one literal by the negation of that literal; each other one by the
-    /// next variable after those of the instance.
+    /// next variable after those of the instance. The weights are added column by column.
     Two,
+    /// Relaxed as in `One`. The weights are added in pairs along a balanced tree, light ones first,
+    /// so that sums of few of them are known early.
+    Three,
 }

@@ -6,19 +6,34 @@ ghost use Rattle.adder.specs.Parts.{literals_with, column_from};
 
 use crate::cells::Cell;
 use crate::relaxations::Relaxation;
-use std::alloc::AllocError;
+use std::alloc::{AllocError, Global};
 use wcnf::types::Lit;
 
-/// The cells so far, what the column at hand has carried into the next one, and the next new
-/// variable.
+/// The cells so far, and what goes on into the next column.
 #[derive(Drop)]
 pub(crate) struct Adder {
+    /// In the order in which they were taken.
     pub cells: Vec<Cell>,
+    /// What the last column has carried into the next one.
     pub carries: Vec<Lit>,
+    /// The next new variable.
     pub fresh: u32,
 }
 
 impl Adder {
+    /// No cells, and new variables from `fresh` on.
+    pub fn new(alloc: Global, fresh: u32) -> Self
+        ensures cells { result.cells.items ≡ [] }
+        ensures carries { result.carries.items ≡ [] }
+        ensures fresh { result.fresh ≡ fresh }
+    {
+        Adder {
+            cells: Vec::new(alloc),
+            carries: Vec::new(alloc),
+            fresh,
+        }
+    }
+
     /// Takes a cell of these inputs and two new variables, and answers its sum.
     fn add(&mut self, a: Lit, b: Lit, third: Option<Lit>) -> Result<Lit, AllocError>
         requires from_one { 0 < self.old.fresh }
@@ -62,6 +77,20 @@ impl Adder {
             column.push(sum)?;
             front += taken;
         }
+    }
+
+    /// Adds up a column with what the last one has carried into it, and answers its output.
+    pub fn add_column(&mut self, column: &mut Vec<Lit>) -> Result<Option<Lit>, AllocError>
+        requires from_one { 0 < self.old.fresh }
+        requires small { (column_from self.old.fresh (column.old.items ++ self.old.carries.items)).fresh ≤ 2 ^ 26 }
+        ensures output { IfOk result (λ o. o ≡ (column_from self.old.fresh (column.old.items ++ self.old.carries.items)).output) }
+        ensures cells { OnOk result (self.new.cells.items ≡ self.old.cells.items ++ (column_from self.old.fresh (column.old.items ++ self.old.carries.items)).cells) }
+        ensures carries { OnOk result (self.new.carries.items ≡ (column_from self.old.fresh (column.old.items ++ self.old.carries.items)).carries) }
+        ensures fresh { OnOk result (self.new.fresh ≡ (column_from self.old.fresh (column.old.items ++ self.old.carries.items)).fresh) }
+    {
+        column.extend_from_slice(&self.carries)?;
+        self.carries.clear();
+        self.add_up(column)
     }
 }
 

@@ -8,3 +8,4 @@ pub mod networks;
 pub mod relaxations;
 #[cfg(test)]
 mod tests;
+mod trees;

@@ -1,6 +1,6 @@
 // What relaxes each soft clause, and the weight that this gives up: all that the columns know of
 // an instance.
-ghost use Rattle.std.specs.Prelude.{◌≡◌, ◌+◌, ◌<◌, ◌^◌, IfOk, OnOk, map, sum_by};
+ghost use Rattle.std.specs.Prelude.{◌≡◌, ◌+◌, ◌<◌, ◌≤◌, ◌^◌, IfOk, OnOk, map, sum_by};
 ghost use Rattle.wcnf.specs.Instance.{IsInstance};
 ghost use Rattle.adder.specs.Network.{relaxed_as, relaxed_variables, total_weight, binary_length};
 ghost use Rattle.adder.specs.Parts.{relaxation_of, own_relaxation};
@@ -84,9 +84,10 @@ fn weight_sum(soft_clauses: &[Soft]) -> u64
 }
 
 /// How many binary digits `n` has; none for 0.
-fn digit_count(n: u64) -> u32
+pub(crate) fn digit_count(n: u64) -> u32
     requires { n < 2 ^ 63 }
-    ensures { result ≡ binary_length n }
+    ensures digits { result ≡ binary_length n }
+    ensures few { result ≤ 63 }
 {
     u64::BITS - n.leading_zeros()
 }

@@ -70,18 +70,21 @@ fn relaxes_by_own_literals(rt: HostRuntime) -> Result<(), Fail> {
     Ok(())
 }
 
-#[test]
-fn adds_three_at_once(rt: HostRuntime) -> Result<(), Fail> {
-    let alloc = rt.alloc();
+/// Weight 1 on three clauses of one literal each.
+fn three_of_one(alloc: Global) -> Result<Instance, AllocError> {
     let first = soft(alloc, 1, &[positive(1)])?;
     let second = soft(alloc, 1, &[positive(2)])?;
     let third = soft(alloc, 1, &[positive(3)])?;
-    let instance = Instance::new(
+    Ok(Instance::new(
         3,
         ClauseList::new(alloc),
         vec![in alloc; first, second, third]?,
-    );
-    let adders = network(&instance)?;
+    ))
+}
+
+#[test]
+fn adds_three_at_once(rt: HostRuntime) -> Result<(), Fail> {
+    let adders = network(&three_of_one(rt.alloc())?)?;
     let cells = [cell(positive(4), positive(5), Some(positive(6)), 7)];
     let outputs = [Some(positive(7)), Some(positive(8))];
     assert_eq!(rt; adders.cells(), cells.as_slice());
@@ -112,6 +115,56 @@ fn leaves_columns_empty(rt: HostRuntime) -> Result<(), Fail> {
         Some(positive(5)),
         Some(positive(7)),
         Some(positive(8)),
+    ];
+    assert_eq!(rt; adders.cells(), cells.as_slice());
+    assert_eq!(rt; adders.outputs(), outputs.as_slice());
+    Ok(())
+}
+
+#[test]
+fn adds_three_in_pairs(rt: HostRuntime) -> Result<(), Fail> {
+    let adders = network_as(&three_of_one(rt.alloc())?, Profile::Three)?;
+    let cells = [
+        cell(positive(4), positive(5), None, 7),
+        cell(positive(7), positive(6), None, 9),
+        cell(positive(8), positive(10), None, 11),
+    ];
+    let outputs = [Some(positive(9)), Some(positive(11))];
+    assert_eq!(rt; adders.cells(), cells.as_slice());
+    assert_eq!(rt; adders.outputs(), outputs.as_slice());
+    Ok(())
+}
+
+/// The lightest is the last of the text, and two are equal.
+#[test]
+fn adds_light_ones_first(rt: HostRuntime) -> Result<(), Fail> {
+    let alloc = rt.alloc();
+    let five = soft(alloc, 5, &[positive(1)])?;
+    let three = soft(alloc, 3, &[positive(1)])?;
+    let again = soft(alloc, 3, &[positive(1)])?;
+    let one = soft(alloc, 1, &[positive(1)])?;
+    let instance = Instance::new(
+        1,
+        ClauseList::new(alloc),
+        vec![in alloc; five, three, again, one]?,
+    );
+    let adders = network_as(&instance, Profile::Three)?;
+    let cells = [
+        cell(positive(5), positive(3), None, 6),
+        cell(positive(3), positive(7), None, 8),
+        cell(positive(4), positive(2), None, 10),
+        cell(positive(4), positive(11), None, 12),
+        cell(positive(2), positive(13), None, 14),
+        cell(positive(6), positive(10), None, 16),
+        cell(positive(8), positive(12), Some(positive(17)), 18),
+        cell(positive(9), positive(14), Some(positive(19)), 20),
+        cell(positive(15), positive(21), None, 22),
+    ];
+    let outputs = [
+        Some(positive(16)),
+        Some(positive(18)),
+        Some(positive(20)),
+        Some(positive(22)),
     ];
     assert_eq!(rt; adders.cells(), cells.as_slice());
     assert_eq!(rt; adders.outputs(), outputs.as_slice());

@@ -10,9 +10,9 @@ use Rattle.wcnf.specs.Problem.{Problem, SoftClause}
 use Rattle.wcnf.specs.Instance.{IsInstance, IsClauseWithin}
 use Rattle.adder.specs.declared.cells.Cell.{Cell}
 use Rattle.adder.specs.declared.cells.Profile.{Profile}
-use Rattle.adder.specs.Network.{Relaxed, bit, binary_length, total_weight, relaxed_as, relaxed_variables, adders_as}
-use Rattle.adder.proofs.Small.{adds_up}
-use Rattle.adder.proofs.Variables.{AreOf, IsOutputOf, IsCellWith, columns_with, relaxed_with}
+use Rattle.adder.specs.Network.{Relaxed, bit, relaxed_as, relaxed_variables, adders_as}
+use Rattle.adder.proofs.Profiles.{adders_with, adds_up}
+use Rattle.adder.proofs.Variables.{AreOf, IsOutputOf, IsCellWith, relaxed_with}
 use Rattle.bound.specs.Adding.{HasVariables}
 use Rattle.bound.specs.Bound.{no, kept, hard_cnf, cell_clauses, relaxed_clauses, above, rising_clauses, comparator_of, comparator_for, fixed_clauses, bound_as}
 use Rattle.bound.proofs.Subsets.{all_append, all_reverse}
@@ -212,7 +212,7 @@ bound_is_formula profile p k h =
     let es = relaxed_as profile p in
     let soft = plain_soft n v p.soft (omega arith) (recursion_from_All (λ s. IsClauseWithin n s.clause) p.soft h.soft_clauses) in
     let relaxed = relaxed_with (IsVariable v) profile (n + 1) p.soft soft (λ x l u. (omega arith, omega arith)) in
-    let network = columns_with (IsVariable v) es (binary_length (total_weight p)) 0 (m + 1) [] (literals_of v es relaxed) tt (λ x l u. (omega arith, omega arith)) in
+    let network = adders_with profile p (IsVariable v) (literals_of v es relaxed) (λ x l u. (omega arith, omega arith)) in
     let P = IsFormulaClause v in
     let hard = kept_formula v p.hard (plain_each n v p.hard (omega arith) (recursion_from_All (IsClauseWithin n) p.hard h.hard_clauses)) in
     let first = all_append P (kept p.hard) (kept (relaxed_clauses profile p)) hard (kept_formula v (relaxed_clauses profile p) (relaxed_plain v es relaxed)) in
@@ -231,7 +231,7 @@ cells_variables profile p h =
     let es = relaxed_as profile p in
     let soft = plain_soft n v p.soft (omega arith) (recursion_from_All (λ s. IsClauseWithin n s.clause) p.soft h.soft_clauses) in
     let relaxed = relaxed_with (IsVariable v) profile (n + 1) p.soft soft (λ x l u. (omega arith, omega arith)) in
-    let network = columns_with (IsVariable v) es (binary_length (total_weight p)) 0 (m + 1) [] (literals_of v es relaxed) tt (λ x l u. (omega arith, omega arith)) in
+    let network = adders_with profile p (IsVariable v) (literals_of v es relaxed) (λ x l u. (omega arith, omega arith)) in
     All-from_recursion HasVariables (adders_as profile p).cells (each v (adders_as profile p).cells (omega (arith, (adds_up profile p h).small.0)) network.0)
   where
     each : (v : ℕ) (cells : List Cell) → v < 2 ^ 26 → AllByRecursion (IsCellWith (IsVariable v)) cells → AllByRecursion HasVariables cells
@@ -248,5 +248,5 @@ outputs_variables profile p h =
     let es = relaxed_as profile p in
     let soft = plain_soft n v p.soft (omega arith) (recursion_from_All (λ s. IsClauseWithin n s.clause) p.soft h.soft_clauses) in
     let relaxed = relaxed_with (IsVariable v) profile (n + 1) p.soft soft (λ x l u. (omega arith, omega arith)) in
-    let network = columns_with (IsVariable v) es (binary_length (total_weight p)) 0 (m + 1) [] (literals_of v es relaxed) tt (λ x l u. (omega arith, omega arith)) in
+    let network = adders_with profile p (IsVariable v) (literals_of v es relaxed) (λ x l u. (omega arith, omega arith)) in
     network.1

@@ -9,7 +9,7 @@ use Rattle.wcnf.specs.Clause.{contains_literal, has_repeat, greatest_variable}
 use Rattle.wcnf.specs.Problem.{SoftClause}
 use Rattle.wcnf.specs.Instance.{IsClauseWithin}
 use Rattle.adder.specs.declared.cells.Profile.{Profile}
-use Rattle.adder.specs.declared.cells.Profile.TheVariants.{One, Two}
+use Rattle.adder.specs.declared.cells.Profile.TheVariants.{One, Two, Three}
 use Rattle.adder.specs.Network.{Relaxed, relaxed_one, relaxed_from, positive}
 use Rattle.adder.proofs.Sums.{relaxed_cases}
 use Rattle.bound.specs.Bound.{kept}
@@ -27,6 +27,7 @@ fresh_count es = length (filter (λ e. e.is_fresh) es)
 
 is_fresh-gets : (profile : Profile) (v : ℕ) (s : SoftClause) → (relaxed_one profile v s).is_fresh ≡ gets_variable profile s.clause
 is_fresh-gets One v s = refl
+is_fresh-gets Three v s = refl
 is_fresh-gets Two v s = by s.weight s.clause
   where
     by : (w : ℕ) (c : List Literal) → (relaxed_one Two v (record { weight = w; clause = c })).is_fresh ≡ gets_variable Two c

@@ -3,7 +3,7 @@ use Rattle.std.specs.Prelude.{◌≡◌, ◌<◌, ◌^◌, Bool, true, not, List
 use Rattle.wcnf.specs.Literal.{Literal}
 use Rattle.adder.specs.declared.cells.Cell.{Cell}
 use Rattle.adder.specs.declared.cells.Profile.{Profile}
-use Rattle.adder.specs.declared.cells.Profile.TheVariants.{One, Two}
+use Rattle.adder.specs.declared.cells.Profile.TheVariants.{One, Two, Three}
 use Rattle.bound.specs.Bound.{kept}
 
 -- its sum and its carry are variables
@@ -13,6 +13,7 @@ HasVariables cell = (0 < cell.sum) × (cell.sum < 2 ^ 27) × (0 < cell.carry) ×
 -- a soft clause of one literal is given up by the negation of that, in profile 2
 abbrev pub gets_variable : Profile → List Literal → Bool
 gets_variable One c = true
+gets_variable Three c = true
 gets_variable Two c = not (length c == 1)
 
 -- the clauses are added, as they are kept

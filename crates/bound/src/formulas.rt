@@ -37,8 +37,9 @@ pub fn formula(instance: &Instance, k: u64) -> Result<Formula, AllocError>
     formula_as(instance, k, Profile::One)
 }
 
-/// As `formula`, in either profile: in `Profile::Two` a soft clause of one literal has no
-/// relaxation variable and is not among the clauses, as the negation of its literal relaxes it.
+/// As `formula`, in any profile: in `Profile::Two` a soft clause of one literal has no relaxation
+/// variable and is not among the clauses, as the negation of its literal relaxes it; in
+/// `Profile::Three` the network adds the weights in pairs along a balanced tree.
 ///
 /// # Errors
 ///

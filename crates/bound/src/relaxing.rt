@@ -43,7 +43,7 @@ fn is_given_variable(profile: Profile, lits: &[Lit]) -> bool
     ensures { result ≡ gets_variable profile lits.now }
 {
     match profile {
-        Profile::One => true,
+        Profile::One | Profile::Three => true,
         Profile::Two => lits.len() != 1,
     }
 }

@@ -1,25 +1,56 @@
-use Rattle.std.proofs.Common.{arith}
-use Rattle.adder.specs.Network.{total_weight}
+use Rattle.std.proofs.Common.{◌∙◌, ap, arith}
+use Rattle.adder.specs.Network.{total_weight, relaxed_as}
+use Rattle.adder.specs.Parts.{most_of}
 use Rattle.adder.proofs.Sums.{binary_length_le}
-use Rattle.adder.proofs.Small.{adds_up}
-use Rattle.adder.proofs.Whole.{columns_are, if_ok_from}
+use Rattle.adder.proofs.Numbers.{numbers_of-most}
+use Rattle.adder.proofs.Profiles.{weights, is_columns, is_tree, adds_up}
+use Rattle.adder.proofs.Whole.{columns_are, numbers_are, tree_is, if_ok_from}
 use Rattle.adder.proofs.building.network_as.Goals as goal
 
-pub add_columns-requires-clause-digits : goal.add_columns-requires-clause-digits
-add_columns-requires-clause-digits c = omega (arith, binary_length_le (total_weight c.args.instance.now), c.in_ok-relaxations.ensures.digits)
+pub add_columns-requires : goal.add_columns-requires
+add_columns-requires c =
+    let p = c.args.instance.now in
+    let r = c.in_ok-relaxations.ensures in
+    let same = columns_are (relaxed_as c.args.profile p) (total_weight p) r.each r.digits r.fresh ∙ is_columns c.args.profile p c.in-One.is in
+    let law = adds_up c.args.profile p r.limits in
+    record {
+      digits = omega (arith, binary_length_le (total_weight p), r.digits);
+      from_one = omega (arith, r.fresh);
+      small = rw same (omega (arith, law.small.0, r.fresh));
+    }
 
-pub add_columns-requires-clause-small : goal.add_columns-requires-clause-small
-add_columns-requires-clause-small c =
-    let same = columns_are c.args.profile c.args.instance.now c.in_ok-relaxations.ensures.each c.in_ok-relaxations.ensures.digits c.in_ok-relaxations.ensures.fresh in
-    let law = adds_up c.args.profile c.args.instance.now c.in_ok-relaxations.ensures.limits in
-    rw same (omega (arith, law.small.0, c.in_ok-relaxations.ensures.fresh))
+pub returns-in-One : goal.returns-in-One
+returns-in-One c =
+    let p = c.args.instance.now in
+    let r = c.in_ok-relaxations.ensures in
+    let same = columns_are (relaxed_as c.args.profile p) (total_weight p) r.each r.digits r.fresh ∙ is_columns c.args.profile p c.in-One.is in
+    let built = rw same at c.add_columns.ensures in
+    record { cells = built; adds_up = if_ok_from _ c.add_columns.result built (adds_up c.args.profile p r.limits) }
 
-pub returns-clause-cells : goal.returns-clause-cells
-returns-clause-cells c =
-    let same = columns_are c.args.profile c.args.instance.now c.in_ok-relaxations.ensures.each c.in_ok-relaxations.ensures.digits c.in_ok-relaxations.ensures.fresh in
-    rw same at c.add_columns.ensures
+pub add_tree-requires-clause-most : goal.add_tree-requires-clause-most
+add_tree-requires-clause-most c =
+    let p = c.args.instance.now in
+    let r = c.in_ok-relaxations.ensures in
+    omega (arith, ap most_of (numbers_are (relaxed_as c.args.profile p) r.each), numbers_of-most (relaxed_as c.args.profile p), weights c.args.profile p, r.limits.weight_sum)
 
-pub returns-clause-adds_up : goal.returns-clause-adds_up
-returns-clause-adds_up c =
-    let same = columns_are c.args.profile c.args.instance.now c.in_ok-relaxations.ensures.each c.in_ok-relaxations.ensures.digits c.in_ok-relaxations.ensures.fresh in
-    if_ok_from _ c.add_columns.result (rw same at c.add_columns.ensures) (adds_up c.args.profile c.args.instance.now c.in_ok-relaxations.ensures.limits)
+pub add_tree-requires-clause-small : goal.add_tree-requires-clause-small
+add_tree-requires-clause-small c =
+    let p = c.args.instance.now in
+    let r = c.in_ok-relaxations.ensures in
+    let same = tree_is (relaxed_as c.args.profile p) r.each r.fresh ∙ is_tree c.args.profile p c.in-Three.is in
+    let law = adds_up c.args.profile p r.limits in
+    rw same (omega (arith, law.small.0, r.fresh))
+
+pub returns-in-Three-clause-cells : goal.returns-in-Three-clause-cells
+returns-in-Three-clause-cells c =
+    let p = c.args.instance.now in
+    let r = c.in_ok-relaxations.ensures in
+    let same = tree_is (relaxed_as c.args.profile p) r.each r.fresh ∙ is_tree c.args.profile p c.in-Three.is in
+    rw same at c.add_tree.ensures
+
+pub returns-in-Three-clause-adds_up : goal.returns-in-Three-clause-adds_up
+returns-in-Three-clause-adds_up c =
+    let p = c.args.instance.now in
+    let r = c.in_ok-relaxations.ensures in
+    let same = tree_is (relaxed_as c.args.profile p) r.each r.fresh ∙ is_tree c.args.profile p c.in-Three.is in
+    if_ok_from _ c.add_tree.result (rw same at c.add_tree.ensures) (adds_up c.args.profile p r.limits)
