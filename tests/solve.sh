@@ -2,12 +2,12 @@
 # `wmax solve` from the files to the printed result, and each certificate through `wmax check`.
 source "$(dirname "$0")/lib"
 
-# solved NAME STATUS WORD..: what solving the text prints, in both profiles, and whether the certificate checks.
+# solved NAME STATUS WORD..: what solving the text prints, in each profile, and whether the certificate checks.
 # Of the `o` lines only the last is fixed.
 solved() {
     local name=$1 wanted=$2 profile
     shift 2
-    for profile in 1 2; do
+    for profile in 1 2 3; do
         rm -f "$work/proof"
         run solve --profile $profile --proof proof "$@" text
         printf '%s\n' "$out" > "$work/result"
@@ -115,7 +115,7 @@ if [ -c /dev/full ]; then
 fi
 
 # The command line.
-for words in '--conflicts 4611686018427387905' '--conflicts x' '--profile 3' '--proof'; do
+for words in '--conflicts 4611686018427387905' '--conflicts x' '--profile 4' '--proof'; do
     run solve $words text
     ok "refused: $words" [ "$status" = 2 ]
 done

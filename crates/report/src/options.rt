@@ -40,21 +40,23 @@ fn path<'a>(alloc: Global, id: &'a str, help: &'a str) -> Arg<'a> {
 fn profile<'a>(alloc: Global) -> Arg<'a> {
     Arg::new(alloc, "profile")
         .long("profile")
-        .value_name("1|2")
-        .value_parser(ValueParser::unsigned(1, 2))
+        .value_name("1|2|3")
+        .value_parser(ValueParser::unsigned(1, 3))
         .default_value("1")
         .help(
-            "How 'cheaper' is encoded; 2 spends no variable on soft clauses of one literal. The certificate belongs to its profile",
+            "How 'cheaper' is encoded: 1 adds all weights column by column; 2 as 1, and spends no variable on soft clauses of one literal; 3 adds weights in pairs, light ones first. solve and check need the same one",
         )
 }
 
-/// The profile with this number: the first where it is not 2.
+/// The profile with this number: the first where there is no other.
 pub fn profile_of(number: Option<u64>) -> Profile
     ensures second { number ≡ Some 2 → result ≡ Profile.Two }
-    ensures first { (number ≡ Some 2 → ⊥) → result ≡ Profile.One }
+    ensures third { number ≡ Some 3 → result ≡ Profile.Three }
+    ensures first { (number ≡ Some 2 → ⊥) → (number ≡ Some 3 → ⊥) → result ≡ Profile.One }
 {
     match number {
         Some(2) => Profile::Two,
+        Some(3) => Profile::Three,
         _ => Profile::One,
     }
 }
