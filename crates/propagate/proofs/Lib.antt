@@ -28,3 +28,5 @@ pub mod Naming
 pub mod Renamed
 pub mod Compacting
 pub mod Added
+pub mod Laid
+pub mod Rewriting

@@ -12,3 +12,5 @@ pub mod Steps
 pub mod Looks
 pub mod Renames
 pub mod Vectors
+pub mod Blocks
+pub mod Laid

@@ -1,6 +1,7 @@
 //! Unit propagation over the clauses of a store.
 #![tactic(auto)]
 
+mod block;
 mod doomed;
 pub mod engine;
 mod marks;

@@ -37,21 +37,13 @@ pub(crate) fn rename_references(references: &mut [CRef], moves: &Moves)
     }
 }
 
-fn new_entry(moves: &Moves, entry: Entry) -> Entry
+/// The entry under the new reference of its clause.
+pub(crate) fn new_entry(moves: &Moves, entry: Entry) -> Entry
     ensures { result ≡ named_entry moves.now entry }
 {
     Entry {
         reference: new_name(moves, entry.reference),
         blocker: entry.blocker,
-    }
-}
-
-/// Renames the clause of each entry of a row.
-pub(crate) fn rename_entries(entries: &mut [Entry], moves: &Moves)
-    ensures { entries.new ≡ map (named_entry moves.now) entries.old }
-{
-    for entry in entries.iter_mut() {
-        *entry = new_entry(moves, *entry);
     }
 }
 

@@ -1,11 +1,12 @@
-// Rows of watches.
-ghost use Rattle.std.specs.Prelude.{◌≡◌, ℕ, ◌<◌, ◌≤◌, List, [], ◌∷◌, ◌++◌, length, map, replicate, take, Some, slice_get, slice_set, slice_index, OnOk, OnErr, IfOk, filter, not, ◌==◌};
+// Rows of watches, in one block of memory.
+ghost use Rattle.std.specs.Prelude.{◌≡◌, ℕ, ◌<◌, ◌≤◌, List, [], ◌∷◌, ◌++◌, length, map, replicate, take, Some, slice_get, slice_set, OnOk, OnErr, IfOk, IsTrue, filter, not, ◌==◌};
 ghost use Rattle.propagate.specs.Rows.{row_at, with_row, closed_row};
-ghost use Rattle.propagate.specs.Doomed.{spared_rows};
-ghost use Rattle.propagate.specs.Renames.{named_rows};
+ghost use Rattle.propagate.specs.Doomed.{spared_entries, spared_rows};
+ghost use Rattle.propagate.specs.Renames.{named_entry, named_rows};
 
+use crate::block::Block;
 use crate::doomed::is_doomed;
-use crate::names::rename_entries;
+use crate::names::new_entry;
 use clauses::store::{CRef, Moves};
 use std::alloc::{AllocError, Global};
 use std::marker::Model;
@@ -18,35 +19,51 @@ pub struct Entry {
     pub blocker: Lit,
 }
 
-/// A list of entries for each row.
+/// Where a row lies in the block. It takes sixteen bytes, so that none lies across the lines of a cache.
+#[derive(Clone, Copy, Drop)]
+pub(crate) struct Head {
+    // The place of its first entry.
+    start: usize,
+    // The number of its entries, at most `room`.
+    length: u32,
+    // The number of places from the first on that are the row's own.
+    room: u32,
+}
+
+const _: () = prove!(size_of::<Head>() == 16);
+
+const NO_ROW: Head = Head {
+    start: 0,
+    length: 0,
+    room: 0,
+};
+
+/// The room of a row's first entry.
+const FIRST_ROOM: u32 = 4;
+
+/// A list of entries for each row, all in one block. A row without room left moves to the end of what is in use, where it
+/// has twice its room; a block without room left is copied to a larger one.
 #[derive(Drop)]
 pub struct WatchPool {
-    rows: Vec<Vec<Entry>>,
+    block: Block,
+    // For each row, where it lies in the block.
+    heads: Vec<Head>,
+    // The number of places at the block's front in which all rows lie.
+    used: usize,
+    alloc: Global,
 }
 
 impl Model for WatchPool {
-    ghost use Rattle.std.specs.Prelude.{List, map};
+    ghost use Rattle.std.specs.Prelude.{List};
     ghost use Rattle.propagate.specs.declared.pool.Entry.{Entry};
 
     ghost Value = { List (List Entry) };
 
-    ghost view = { λ p. map (λ row. row.items) p.rows.items };
-}
+    ghost use Rattle.propagate.specs.Laid.{rows_of, IsLaid};
 
-fn rename_rows(rows: &mut [Vec<Entry>], moves: &Moves)
-    ensures { map (λ row. row.items) rows.new ≡ named_rows moves.now (map (λ row. row.items) rows.old) }
-{
-    for row in rows.iter_mut() {
-        rename_entries(row, moves);
-    }
-}
+    ghost view = { λ p. rows_of p.block p.heads.items };
 
-fn drop_rows(rows: &mut [Vec<Entry>], doomed: &[bool])
-    ensures { map (λ row. row.items) rows.new ≡ spared_rows doomed.now (map (λ row. row.items) rows.old) }
-{
-    for row in rows.iter_mut() {
-        row.retain(|w| !is_doomed(doomed, w.reference));
-    }
+    ghost invariant = { λ p. IsLaid p.block p.heads.items p.used };
 }
 
 impl WatchPool {
@@ -54,18 +71,21 @@ impl WatchPool {
     pub fn new(alloc: Global, rows: usize) -> Result<Self, AllocError>
         ensures { IfOk result (λ p. p ≡ replicate rows []) }
     {
-        let mut empty = Vec::with_capacity(alloc, rows)?;
-        for _row in 0..rows {
-            empty.push(Vec::new(alloc))?;
-        }
-        Ok(WatchPool { rows: empty })
+        let block = Block::empty(alloc);
+        let heads = Vec::from_elem(alloc, NO_ROW, rows)?;
+        Ok(WatchPool {
+            block,
+            heads,
+            used: 0,
+            alloc,
+        })
     }
 
     /// The number of rows.
     pub fn rows(&self) -> usize
         ensures { result ≡ length self.now }
     {
-        self.rows.len()
+        self.heads.len()
     }
 
     /// The number of entries in a row.
@@ -73,7 +93,7 @@ impl WatchPool {
         requires { row < length self.now }
         ensures { result ≡ length (row_at self.now row) }
     {
-        self.rows[row].len()
+        self.heads[row].length as usize
     }
 
     /// The entry at place `i` of a row.
@@ -82,18 +102,25 @@ impl WatchPool {
         requires place { i < length (row_at self.now row) }
         ensures { slice_get (row_at self.now row) i ≡ Some result }
     {
-        let entries = &self.rows[row];
-        entries[i]
+        let start = self.heads[row].start;
+        self.block.get(start + i)
     }
 
-    /// Puts an entry at the end of a row. A refused growth leaves all rows as they were.
+    /// Puts an entry at the end of a row. A refused growth leaves all rows as they were; so does a row of 2^32 - 1 entries.
     pub fn push(&mut self, row: usize, entry: Entry) -> Result<(), AllocError>
         requires { row < length self.old }
         ensures ok { OnOk result (self.new ≡ with_row self.old row (row_at self.old row ++ entry ∷ [])) }
         ensures err { OnErr result (self.new ≡ self.old) }
     {
-        self.rows[row].push(entry)?;
-        Ok(())
+        if self.put(row, &entry) {
+            return Ok(());
+        }
+        self.make_room(row, &entry)?;
+        if self.put(row, &entry) {
+            Ok(())
+        } else {
+            Err(AllocError)
+        }
     }
 
     /// Writes an entry at place `i` of a row.
@@ -102,7 +129,8 @@ impl WatchPool {
         requires place { i < length (row_at self.old row) }
         ensures { self.new ≡ with_row self.old row (slice_set (row_at self.old row) i entry) }
     {
-        self.rows[row][i] = entry;
+        let start = self.heads[row].start;
+        self.block.set(start + i, entry);
     }
 
     /// Keeps the first `len` entries of a row.
@@ -111,7 +139,9 @@ impl WatchPool {
         requires shorter { len ≤ length (row_at self.old row) }
         ensures { self.new ≡ with_row self.old row (take len (row_at self.old row)) }
     {
-        self.rows[row].truncate(len);
+        if len < self.heads[row].length as usize {
+            self.heads[row].length = len as u32;
+        }
     }
 
     /// Moves the entries of a row from place `read` on down to place `write`.
@@ -121,10 +151,12 @@ impl WatchPool {
         requires within { read ≤ length (row_at self.old row) }
         ensures { self.new ≡ with_row self.old row (closed_row write read (row_at self.old row)) }
     {
-        let entries = &mut self.rows[row];
-        let len = entries.len();
-        entries.copy_within(read..len, write);
-        entries.truncate(write + (len - read));
+        let len = self.len(row);
+        for moved in 0..len - read {
+            let entry = self.get(row, read + moved);
+            self.set(row, write + moved, entry);
+        }
+        self.truncate(row, write + (len - read));
     }
 
     /// Takes the entries of a clause out of a row.
@@ -132,20 +164,129 @@ impl WatchPool {
         requires row { row < length self.old }
         ensures { self.new ≡ with_row self.old row (filter (λ w. not (w.reference == reference)) (row_at self.old row)) }
     {
-        self.rows[row].retain(|w| w.reference != reference);
+        let mut write = 0;
+        for read in 0..self.len(row) {
+            let entry = self.get(row, read);
+            if entry.reference != reference {
+                self.set(row, write, entry);
+                write += 1;
+            }
+        }
+        self.truncate(row, write);
     }
 
     /// Takes the entries of the clauses that are marked out of all rows.
     pub(crate) fn drop_doomed(&mut self, doomed: &[bool])
         ensures { self.new ≡ spared_rows doomed.now self.old }
     {
-        drop_rows(&mut self.rows, doomed);
+        for row in 0..self.rows() {
+            self.drop_doomed_of(row, doomed);
+        }
+    }
+
+    fn drop_doomed_of(&mut self, row: usize, doomed: &[bool])
+        requires row { row < length self.old }
+        ensures { self.new ≡ with_row self.old row (spared_entries doomed.now (row_at self.old row)) }
+    {
+        let mut write = 0;
+        for read in 0..self.len(row) {
+            let entry = self.get(row, read);
+            if !is_doomed(doomed, entry.reference) {
+                self.set(row, write, entry);
+                write += 1;
+            }
+        }
+        self.truncate(row, write);
     }
 
     /// Renames the clauses of all entries.
     pub(crate) fn rename(&mut self, moves: &Moves)
         ensures { self.new ≡ named_rows moves.now self.old }
     {
-        rename_rows(&mut self.rows, moves);
+        for row in 0..self.rows() {
+            self.rename_row(row, moves);
+        }
+    }
+
+    fn rename_row(&mut self, row: usize, moves: &Moves)
+        requires row { row < length self.old }
+        ensures { self.new ≡ with_row self.old row (map (named_entry moves.now) (row_at self.old row)) }
+    {
+        for i in 0..self.len(row) {
+            let entry = self.get(row, i);
+            self.set(row, i, new_entry(moves, entry));
+        }
+    }
+
+    /// Adds the entry where its row has room, and says whether it had.
+    fn put(&mut self, row: usize, entry: &Entry) -> bool
+        requires { row < length self.old }
+        ensures added { IsTrue result → self.new ≡ with_row self.old row (row_at self.old row ++ entry.now ∷ []) }
+        ensures full { ¬ IsTrue result → self.new ≡ self.old }
+    {
+        let Head {
+            start,
+            length,
+            room,
+        } = self.heads[row];
+        if length == room {
+            return false;
+        }
+        self.block.set(start + length as usize, *entry);
+        self.heads[row].length = length + 1;
+        true
+    }
+
+    /// Gives a row twice its room, in a larger block where this one has none left.
+    fn make_room(&mut self, row: usize, fill: &Entry) -> Result<(), AllocError>
+        requires { row < length self.old }
+        ensures { self.new ≡ self.old }
+    {
+        let room = self.heads[row].room.saturating_mul(2).max(FIRST_ROOM);
+        let len = self.block.len();
+        if room as usize > len - self.used {
+            let more = (len / 2).max(room as usize);
+            self.grow(len.saturating_add(more), fill)?;
+        }
+        self.relocate(row, room);
+        Ok(())
+    }
+
+    /// Moves a row to the end of what is in use, where the block has so much room left.
+    fn relocate(&mut self, row: usize, room: u32)
+        requires { row < length self.old }
+        ensures { self.new ≡ self.old }
+    {
+        let Head {
+            start,
+            length,
+            room: _,
+        } = self.heads[row];
+        let to = self.used;
+        if room < length || room as usize > self.block.len() - to {
+            return;
+        }
+        self.block.copy_within(start, to, length as usize);
+        self.heads[row] = Head {
+            start: to,
+            length,
+            room,
+        };
+        self.used = to + room as usize;
+    }
+
+    /// Moves all rows to a larger block.
+    fn grow(&mut self, count: usize, fill: &Entry) -> Result<(), AllocError>
+        ensures { self.new ≡ self.old }
+    {
+        if count < self.used {
+            return Err(AllocError);
+        }
+        let mut next = Block::new(self.alloc, count, fill)?;
+        for place in 0..self.used {
+            next.set(place, self.block.get(place));
+        }
+        self.block = next;
+        Ok(())
     }
 }

@@ -1,8 +1,14 @@
-use Rattle.std.proofs.Common.{Vec, Global, refl}
-use Rattle.std.specs.Prelude.{slice_set}
-use Rattle.propagate.specs.declared.pool.Entry.{Entry}
-use Rattle.propagate.proofs.Pools.{pool_write, row_within}
+use Rattle.std.proofs.Common.{◌≡◌, ◌<◌, ◌≤◌, ◌+◌, ◌∙◌, [], ℕ, length, get_or, ap, sym, arith}
+use Rattle.std.proofs.lemmas.List.{get_or_read}
+use Rattle.propagate.specs.Laid.{no_head}
+use Rattle.propagate.proofs.Laid.{rows_set, long_row, long_rows}
 use Rattle.propagate.proofs.pool.WatchPool.set.Goals as goal
 
 pub returns : goal.returns
-returns c = rw (← c.self.view_is) (pool_write (λ (v : Vec Entry Global). v.items) c.self.inside.rows.items c.args.row c.index_mut.result.now _ (λ xs. slice_set xs c.args.i c.args.entry) (row_within (λ (v : Vec Entry Global). v.items) c.self.inside.rows.items c.args.self.now c.args.row c.self.view_is c.requires.row) c.index_mut.ensures.value refl)
+returns c =
+    let i = c.self.inside in let laid = c.self.invariant in
+    let li : c.args.row < length i.heads.items = omega (arith, long_rows i.block i.heads.items, ap length c.self.view_is) in
+    let is : get_or i.heads.items c.args.row no_head ≡ c.index.result.now = sym (get_or_read i.heads.items c.args.row c.index.result.now li c.index.ensures no_head) in
+    let lk : c.args.i < (get_or i.heads.items c.args.row no_head).length =
+    omega (arith, long_row i.block i.heads.items i.used laid c.args.row li, ap (λ v. length (get_or v c.args.row [])) c.self.view_is) in
+    rw (c.set.ensures, ← is, ← c.self.view_is) (rows_set i.block i.heads.items i.used laid c.args.row c.args.i c.args.entry li lk)
