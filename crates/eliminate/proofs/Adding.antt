@@ -1,7 +1,7 @@
 -- What may be added: a resolvent of two clauses of a formula, as a step.
 use Rattle.std.proofs.Common.{◌≡◌, ℕ, Bool, true, false, not, List, [], ◌∷◌, ◌++◌, map, filter, Some, inl, inr, refl, sym, ap, subst, arith, ◌<◌, ◌≤◌, ◌^◌, max}
 use Rattle.std.specs.Prelude.{if◌then◌else◌}
-use Rattle.std.proofs.lemmas.Bool.{or_cases, or_parts, or_left, or_from, both_ways, false_from_ne_true, false≢true}
+use Rattle.std.proofs.lemmas.Bool.{not-true, or_cases, or_parts, or_left, or_from, both_ways, false_from_ne_true, false≢true}
 use Rattle.wcnf.specs.Literal.{Literal, negation, literal_eq}
 use Rattle.wcnf.specs.Clause.{contains_literal, without_literal, has_repeat, has_opposites, greatest_variable}
 use Rattle.wcnf.specs.Formula.{IsFormulaClause}
@@ -29,17 +29,13 @@ has_repeat-append (l ∷ c) d rc rd apart =
     ]))
     (has_repeat-append c d h.1 rd (λ k e. (or_parts (literal_eq k l) (contains_literal k c) (apart k e)).1))
 
-not_out : (b : Bool) → not b ≡ true → b ≡ false
-not_out true e = sym e
-not_out false e = refl
-
 pub resolvent-no_repeat : (p : Literal) (c d : List Literal) → has_repeat c ≡ false → has_repeat d ≡ false → has_repeat (resolvent p c d) ≡ false
 resolvent-no_repeat p c d rc rd =
     let a : List Literal = without_literal p c in
     has_repeat-append a (filter (λ k. not (contains_literal k a)) (without_literal (negation p) d))
     (has_repeat-filter (λ k. not (literal_eq p k)) c rc)
     (has_repeat-filter (λ k. not (contains_literal k a)) (without_literal (negation p) d) (has_repeat-filter (λ k. not (literal_eq (negation p) k)) d rd))
-    (λ k e. not_out (contains_literal k a) (filter-contains (λ k. not (contains_literal k a)) k (without_literal (negation p) d) e).1)
+    (λ k e. not-true (contains_literal k a) (filter-contains (λ k. not (contains_literal k a)) k (without_literal (negation p) d) e).1)
 
 pub greatest-filter : (q : Literal → Bool) (c : List Literal) → greatest_variable (filter q c) ≤ greatest_variable c
 greatest-filter q [] = omega arith
@@ -61,21 +57,6 @@ resolvent-small p c d n a b =
     greatest-append w (filter (λ k. not (contains_literal k w)) v) n
     (omega (arith, greatest-filter (λ k. not (literal_eq p k)) c))
     (omega (arith, greatest-filter (λ k. not (contains_literal k w)) v, greatest-filter (λ k. not (literal_eq (negation p) k)) d))
-
--- a resolvent without an opposite pair is a step
-pub resolvent_step : (live : Live) (id n : ℕ) (p : Literal) (c d : List Literal) (i j : ℕ) → live.last < id → n < 2 ^ 27 → IsFormulaClause n c → IsFormulaClause n d
-    → AreParents live.clause_at p c d i j → has_opposites (resolvent p c d) ≡ false
-    → Step live (Addition id (resolvent p c d) (i ∷ j ∷ []) []) (with_clause live id (resolvent p c d))
-resolvent_step live id n p c d i j rising few fc fd a plain = (
-  record {
-    rising = rising;
-    no_repeat = resolvent-no_repeat p c d fc.no_repeat fd.no_repeat;
-    no_opposites = plain;
-    small = omega (arith, resolvent-small p c d n fc.small fd.small);
-  },
-  inl (refl, resolvent_refutes live.clause_at p c d i j a),
-  refl,
-)
 
 -- and its line one of a log, where the parents are live under their names
 pub resolvent_line : (given : Given) (ls : List LogLine) (kind : Kind) (n : ℕ) (p : Literal) (c d : List Literal) (first second : Name) → is_delete kind ≡ false → n < 2 ^ 27 → IsFormulaClause n c → IsFormulaClause n d

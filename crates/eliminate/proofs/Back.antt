@@ -2,7 +2,7 @@
 use Rattle.std.proofs.Common.{◌≡◌, ℕ, zero, suc, Bool, true, false, not, ◌||◌, ◌&&◌, ◌+◌, ◌-◌, ◌<◌, ◌≤◌, List, [], ◌∷◌, ◌++◌, length, filter, ◌⊎◌, inl, inr, refl, sym, ◌∙◌, ap, subst, arith, get_or, set}
 use Rattle.std.specs.Prelude.{if◌then◌else◌, ◌==◌, All, Contains, slice_get, slice_set, unwrap_or}
 use Rattle.std.specs.List.{AllByRecursion, list_any}
-use Rattle.std.proofs.lemmas.Bool.{or_cases, or_parts, or_left, or_right, and_parts, and_cases, both_ways, cases_eq, eq-eqb, ne_eqb, false≢true, true≢false}
+use Rattle.std.proofs.lemmas.Bool.{not-true, not-false, or_cases, or_parts, or_left, or_right, and_parts, and_cases, both_ways, cases_eq, eq-eqb, ne_eqb, false≢true, true≢false}
 use Rattle.std.proofs.lemmas.List.{length-set, get_or-set_same, get_or-set_other}
 use Rattle.std.proofs.lemmas.List.Elements.{All-nil, All-cons, All-contains, All-head, All-tail}
 use Rattle.std.proofs.lemmas.Option.{unwrap_or-slice_get}
@@ -12,6 +12,7 @@ use Rattle.wcnf.specs.Bits.{assignment_of}
 use Rattle.wcnf.proofs.Sound.{literal_eq-true}
 use Rattle.wcnf.proofs.Certificates.{made_true, made, clause_kept, rest_kept}
 use Rattle.eliminate.specs.Elimination.{Removed, StackState, positive, becomes_true, is_eliminated, extended, SatisfiesAll, ExtendsBack}
+use Rattle.eliminate.specs.State.{GivesBack}
 use Rattle.eliminate.specs.Resolvents.{resolvent}
 use Rattle.eliminate.proofs.Resolve.{not_not, each_literal, resolvent-parts}
 
@@ -81,11 +82,6 @@ made_of_true t (k ∷ r) a b m e =
 pub resolvent-made_of : (p : Literal) (c d : List Literal) → IsMadeOf (resolvent p c d) (without_literal p c) (without_literal (negation p) d)
 resolvent-made_of p c d = each_literal (λ k. (contains_literal k (without_literal p c) ≡ true) ⊎ (contains_literal k (without_literal (negation p) d) ≡ true)) (resolvent p c d) (λ k e. resolvent-parts p k c d e)
 
--- where a resolvent is true, so is one of the parents without the pivot
-pub resolvent_true : (t : Assignment) (p : Literal) (c d : List Literal) → clause_value t (resolvent p c d) ≡ true
-    → (clause_value t (without_literal p c) ≡ true) ⊎ (clause_value t (without_literal (negation p) d) ≡ true)
-resolvent_true t p c d e = made_of_true t (resolvent p c d) (without_literal p c) (without_literal (negation p) d) (resolvent-made_of p c d) e
-
 pub some_at : {X : Type 0} (q : X → Bool) (xs : List X) → list_any q xs ≡ true → (x : X) × Contains xs x × (q x ≡ true)
 some_at q [] e = absurd (false≢true e)
 some_at q (x ∷ xs) e =
@@ -107,14 +103,6 @@ abbrev pub AreResolved : Assignment → ℕ → List (List Literal) → Type 0
 AreResolved t v cs = All (λ c. All (λ d. contains_literal (positive v) c ≡ true → contains_literal (negative v) d ≡ true
     → (clause_value t (without_literal (positive v) c) ≡ true) ⊎ (clause_value t (without_literal (negative v) d) ≡ true)) cs) cs
 
-not_in : (b : Bool) → not b ≡ true → b ≡ false
-not_in true e = sym e
-not_in false e = refl
-
-not_out : (b : Bool) → not b ≡ false → b ≡ true
-not_out true e = refl
-not_out false e = sym e
-
 needed_back : (t : Assignment) (r : Removed) → HaveVariable r.variable r.clauses → AreResolved t r.variable r.clauses → becomes_true t r ≡ true
     → SatisfiesAll (made_true t (positive r.variable)) r.clauses
 needed_back t r have resolved e k z lt =
@@ -126,7 +114,7 @@ needed_back t r have resolved e k z lt =
     elim (have k z lt) [
       | inl h ↦ has_true (made_true t (positive r.variable)) (positive r.variable) d h (made t (positive r.variable))
       | inr h ↦ elim (pair k z lt q.0 h) [
-        | inl a ↦ absurd (both_ways (clause_value t (without_literal (positive r.variable) w.0)) (not_in _ q.1) a)
+        | inl a ↦ absurd (both_ways (clause_value t (without_literal (positive r.variable) w.0)) (not-true _ q.1) a)
         | inr a ↦ rest_kept t (positive r.variable) d a
       ]
     ]
@@ -139,7 +127,7 @@ not_needed_back t r have e k z lt =
       | inr h ↦ has_true (made_true t (negative r.variable)) (negative r.variable) d h (made t (negative r.variable))
       | inl h ↦ elim (and_cases (contains_literal (positive r.variable) d) (not (clause_value t (without_literal (positive r.variable) d))) q) [
         | inl a ↦ absurd (both_ways (contains_literal (positive r.variable) d) a h)
-        | inr a ↦ rest_kept t (negative r.variable) d (not_out (clause_value t (without_literal (positive r.variable) d)) a)
+        | inr a ↦ rest_kept t (negative r.variable) d (not-false (clause_value t (without_literal (positive r.variable) d)) a)
       ]
     ]
 
@@ -240,36 +228,25 @@ abbrev pub AreEliminations : ℕ → List Removed → List (List Literal) → Li
 AreEliminations n [] before after = All (Entails after) before
 AreEliminations n (r ∷ rs) before after = (mid : List (List Literal)) × (r.variable ≤ n) × IsElimination r before mid × AreEliminations n rs mid after
 
--- the same as `ExtendsBack`, for any bits that are enough: so it stays true where more variables come
-abbrev pub Extends : ℕ → List Removed → List (List Literal) → List (List Literal) → Type 0
-Extends n removed before after = (bits : List Bool) → n ≤ length bits → SatisfiesAll (assignment_of bits) after → SatisfiesAll (assignment_of (extended removed bits)) before
-
 -- the whole stack
-pub eliminations_back : (n : ℕ) (rs : List Removed) (before after : List (List Literal)) → AreEliminations n rs before after → Extends n rs before after
+pub eliminations_back : (n : ℕ) (rs : List Removed) (before after : List (List Literal)) → AreEliminations n rs before after → GivesBack n rs before after
 eliminations_back n [] before after e bits few all = λ k z lt. e k z lt (assignment_of bits) all
 eliminations_back n (r ∷ rs) before after e bits few all =
     subst (λ (t : Assignment). SatisfiesAll t before) (sym (extended-value r rs bits e.2.from_one (omega (arith, e.1))))
     (elimination_back (assignment_of (extended rs bits)) r before e.0 e.2 (eliminations_back n rs e.0 after e.3 bits few all))
 
-pub extends_back : (stack : StackState) (before after : List (List Literal)) → Extends stack.variables stack.removed before after → ExtendsBack stack before after
+pub extends_back : (stack : StackState) (before after : List (List Literal)) → GivesBack stack.variables stack.removed before after → ExtendsBack stack before after
 extends_back stack before after e bits same all = e bits (omega arith) all
 
--- the steps of an invariant that says `Extends`
-pub extends_start : (n : ℕ) (cs : List (List Literal)) → Extends n [] cs cs
-extends_start n cs bits few all = all
-
-pub extends_weaker : (n : ℕ) (rs : List Removed) (before mid after : List (List Literal)) → Extends n rs before mid → All (Entails after) mid → Extends n rs before after
+pub extends_weaker : (n : ℕ) (rs : List Removed) (before mid after : List (List Literal)) → GivesBack n rs before mid → All (Entails after) mid → GivesBack n rs before after
 extends_weaker n rs before mid after e weaker bits few all = e bits few (λ k z lt. weaker k z lt (assignment_of bits) all)
-
-pub extends_more : (n m : ℕ) (rs : List Removed) (before after : List (List Literal)) → n ≤ m → Extends n rs before after → Extends m rs before after
-extends_more n m rs before after le e bits few all = e bits (omega arith) all
 
 pub extended-append : (rs qs : List Removed) (bits : List Bool) → extended (rs ++ qs) bits ≡ extended rs (extended qs bits)
 extended-append [] qs bits = refl
 extended-append (r ∷ rs) qs bits = ap (λ x. slice_set x (r.variable - 1) (becomes_true (assignment_of x) r)) (extended-append rs qs bits)
 
-pub extends_eliminated : (n : ℕ) (rs : List Removed) (r : Removed) (before mid after : List (List Literal)) → Extends n rs before mid → r.variable ≤ n → IsElimination r mid after
-    → Extends n (rs ++ r ∷ []) before after
+pub extends_eliminated : (n : ℕ) (rs : List Removed) (r : Removed) (before mid after : List (List Literal)) → GivesBack n rs before mid → r.variable ≤ n → IsElimination r mid after
+    → GivesBack n (rs ++ r ∷ []) before after
 extends_eliminated n rs r before mid after e within one bits few all =
     subst (λ (x : List Bool). SatisfiesAll (assignment_of x) before) (sym (extended-append rs (r ∷ []) bits))
     (e (extended (r ∷ []) bits) (omega (arith, length-extended (r ∷ []) bits))
@@ -293,10 +270,6 @@ subsumed_true t (l ∷ c) d s e =
 -- a subsumed clause follows from a clause after
 pub entails_subsumed : (after : List (List Literal)) (c d : List Literal) → Contains after c → is_subset c d ≡ true → Entails after d
 entails_subsumed after c d h s t all = subsumed_true t c d s (All-contains (Satisfies t) after c all h)
-
--- and so does a clause that was strengthened
-pub entails_strengthened : (after : List (List Literal)) (p : Literal) (d : List Literal) → Contains after (without_literal p d) → Entails after d
-entails_strengthened after p d h t all = value-filter t (λ k. not (literal_eq p k)) d (All-contains (Satisfies t) after (without_literal p d) all h)
 
 slice_get-set_other : (bits : List Bool) (i v : ℕ) (b : Bool) → (i ≡ v → ⊥) → slice_get (slice_set bits i b) v ≡ slice_get bits v
 slice_get-set_other [] i v b n = refl

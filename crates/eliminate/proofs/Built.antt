@@ -12,7 +12,7 @@ use Rattle.eliminate.specs.Resolvents.{resolvent, unmarked_rest, is_opposed}
 use Rattle.eliminate.proofs.Resolve.{negation_twice, literal_eq-self, contains-filter, filter-contains, contains-left, contains-right, contains-either, not-opposite}
 use Rattle.eliminate.proofs.Falsified.{has_opposites-filter, literal_eq-sides}
 use Rattle.eliminate.proofs.Definitions.{any_member}
-use Rattle.eliminate.proofs.Needed.{at_contains}
+use Rattle.subsume.proofs.Marking.{at_contains}
 
 -- what holds of each literal holds of one
 pub member_has : (P : Literal → Type 0) (c : List Literal) (k : Literal) → All P c → contains_literal k c ≡ true → P k

@@ -17,10 +17,6 @@ use Rattle.eliminate.specs.Pairs.{whole_clause, side_clause, whole_line, side_li
 use Rattle.eliminate.proofs.Naming.{additions-push, additions_few, name-push, slot_before, slot_last}
 use Rattle.eliminate.proofs.Staging.{added_stage, deleted_stage, with_whole, with_side, with_replaced, replaced_line_of}
 
-pub on_err : {T E P : Type 0} (r : Result T E) → P → OnErr r P
-on_err (Ok x) p = tt
-on_err (Err e) p = p
-
 -- right work has an open log
 pub open_log : (start : Start) (removed : List Removed) (s : Stage) → IsStage start removed s → IsOpenLog start s.lines
 open_log start removed s k = record { steps = k.work.log; none_learned = k.work.none_learned }
@@ -115,9 +111,6 @@ keeps_as s t u e keeps start removed k = subst (IsStage start removed) (sym e) (
 
 pub keeps_on : (s t u : Stage) → Keeps s t → Keeps t u → Keeps s u
 keeps_on s t u f g start removed k = g start removed (f start removed k)
-
-pub keeps_log_on : (s t : Stage) (lines : List LogLine) → Keeps s t → KeepsLog t lines → KeepsLog s lines
-keeps_log_on s t lines f g start removed k = g start removed (f start removed k)
 
 -- the name of a clause stays where another one comes
 pub name_stays : (n n' : NamesState) (r : ℕ) → n' ≡ more_names n → r < length n.names → name_at n'.names r ≡ name_at n.names r

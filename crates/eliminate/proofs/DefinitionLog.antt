@@ -13,11 +13,12 @@ use Rattle.lrat_log.specs.declared.lines.Hint.TheVariants.{Group}
 use Rattle.lrat_log.specs.declared.lines.Kind.TheVariants.{Definition}
 use Rattle.lrat_log.specs.Log.{LogLine, Given, start_over, numbered_on, numbered_lines}
 use Rattle.lrat_log.specs.Steps.{live_after, AreLogSteps, log_live}
+use Rattle.eliminate.specs.Pairs.{whole_clause, side_clause}
 use Rattle.eliminate.specs.Elimination.{positive}
 use Rattle.eliminate.proofs.Back.{negative}
 use Rattle.eliminate.specs.Work.{additions}
 use Rattle.eliminate.proofs.Logs.{last_after, log_steps_append, log_live-holds}
-use Rattle.eliminate.proofs.Definitions.{IsFreshIn, IsPairFor, first_clause, side_clause, group_for, definition_chain, defined}
+use Rattle.eliminate.proofs.Definitions.{IsFreshIn, IsPairFor, group_for, definition_chain, defined}
 
 -- a clause on smaller variables lacks the literal
 pub above-apart : (k : Literal) (c : List Literal) → greatest_variable c < k.variable → contains_literal k c ≡ false
@@ -35,16 +36,16 @@ log_fresh z n given base ls few all lines i d live =
 
 -- j is the number of the first line among the additions of the log
 abbrev pub definition_log : ℕ → ℕ → Literal → Literal → List LogLine
-definition_log j z a b = record { kind = Definition; clause = first_clause z a b; hints = [] }
+definition_log j z a b = record { kind = Definition; clause = whole_clause z a b; hints = [] }
     ∷ record { kind = Definition; clause = side_clause z a; hints = Group (Added j) ∷ [] }
     ∷ record { kind = Definition; clause = side_clause z b; hints = Group (Added j) ∷ [] }
     ∷ []
 
 numbered_definition : (base n z : ℕ) (a b : Literal) (old new : Live) (i : ℕ) → i ≡ base + (n + 1)
-    → Chain old (Addition (base + n + 1) (first_clause z a b) [] [] ∷ Addition (base + (n + 1) + 1) (side_clause z a) [] (group_for i ∷ []) ∷ Addition (base + (n + 1 + 1) + 1) (side_clause z b) [] (group_for i ∷ []) ∷ []) new
+    → Chain old (Addition (base + n + 1) (whole_clause z a b) [] [] ∷ Addition (base + (n + 1) + 1) (side_clause z a) [] (group_for i ∷ []) ∷ Addition (base + (n + 1 + 1) + 1) (side_clause z b) [] (group_for i ∷ []) ∷ []) new
     → Chain old (numbered_on base n (definition_log (n + 1) z a b)) new
 numbered_definition base n z a b old new i e c =
-    subst (λ x. Chain old (Addition (base + n + 1) (first_clause z a b) [] [] ∷ Addition (base + (n + 1) + 1) (side_clause z a) [] (group_for x ∷ []) ∷ Addition (base + (n + 1 + 1) + 1) (side_clause z b) [] (group_for x ∷ []) ∷ []) new) e c
+    subst (λ x. Chain old (Addition (base + n + 1) (whole_clause z a b) [] [] ∷ Addition (base + (n + 1) + 1) (side_clause z a) [] (group_for x ∷ []) ∷ Addition (base + (n + 1 + 1) + 1) (side_clause z b) [] (group_for x ∷ []) ∷ []) new) e c
 
 -- the definition's lines are steps after a log, over any clauses on the variables up to n
 pub definition_more : (given : Given) (ls : List LogLine) (n z : ℕ) (a b : Literal) → AreLogSteps given ls → n < z → IsPairFor z a b

@@ -10,6 +10,7 @@ use Rattle.wcnf.specs.Refute.{Clauses}
 use Rattle.wcnf.specs.Lrat.{ProofLine, Addition, CandidateHints, Live, IsAddable, IsRat, Chain, with_clause}
 use Rattle.wcnf.proofs.Sound.{literal_eq-true}
 use Rattle.eliminate.specs.Elimination.{positive}
+use Rattle.eliminate.specs.Pairs.{whole_clause, side_clause}
 use Rattle.eliminate.proofs.Resolve.{negation_twice, literal_eq-self, contains-filter}
 use Rattle.eliminate.proofs.Back.{negative}
 
@@ -27,12 +28,6 @@ pub record IsPairFor (z : ℕ) (a b : Literal) : Type 0 where
 abbrev pub group_for : ℕ → CandidateHints
 group_for i = record { candidate = i; hints = [] }
 
-abbrev pub first_clause : ℕ → Literal → Literal → List Literal
-first_clause z a b = negative z ∷ a ∷ b ∷ []
-
-abbrev pub side_clause : ℕ → Literal → List Literal
-side_clause z a = positive z ∷ negation a ∷ []
-
 pub other_variable : (k l : Literal) → (k.variable ≡ l.variable → ⊥) → literal_eq k l ≡ false
 other_variable k l n = and_left (k.variable == l.variable) (same_bool k.negated l.negated) (ne_eqb k.variable l.variable n)
 
@@ -41,12 +36,12 @@ only_hint j i (zero, l, e) = sym e
 only_hint j i (suc k, l, e) = absurd (omega arith)
 
 -- the first line has no candidates
-pub first_rat : (at : Clauses) (z : ℕ) (a b : Literal) → IsFreshIn z at → IsRat at (first_clause z a b) [] []
+pub first_rat : (at : Clauses) (z : ℕ) (a b : Literal) → IsFreshIn z at → IsRat at (whole_clause z a b) [] []
 first_rat at z a b fresh = record {
   pivot = negative z;
   others = a ∷ b ∷ [];
   first = refl;
-  reached = map negation (first_clause z a b);
+  reached = map negation (whole_clause z a b);
   leads = refl;
   rising = λ k h. absurd (omega arith);
   complete = λ i. (λ c. absurd (omega (arith, c.1)), λ x. absurd (both_ways (contains_literal (positive z) x.0) (fresh i x.0 x.1).0 x.2));
@@ -120,7 +115,7 @@ added_at at id c = rw (eq-eqb id id refl) refl
 pub kept_at : (at : Clauses) (id i : ℕ) (c d : List Literal) → (i ≡ id → ⊥) → at i ≡ Some d → (if i == id then Some c else at i) ≡ Some d
 kept_at at id i c d other live = rw (ne_eqb i id other) live
 
-pub first_addable : (live : Live) (id z : ℕ) (a b : Literal) → live.last < id → IsPairFor z a b → IsAddable live id (first_clause z a b)
+pub first_addable : (live : Live) (id z : ℕ) (a b : Literal) → live.last < id → IsPairFor z a b → IsAddable live id (whole_clause z a b)
 first_addable live id z a b rising p = record {
   rising = rising;
   no_repeat = or_from (contains_literal (negative z) (a ∷ b ∷ [])) (has_repeat (a ∷ b ∷ []))
@@ -141,38 +136,38 @@ side_addable live id z a rising other few few_too = record {
 }
 
 abbrev pub definition_lines : ℕ → ℕ → ℕ → ℕ → Literal → Literal → List ProofLine
-definition_lines i j k z a b = Addition i (first_clause z a b) [] []
+definition_lines i j k z a b = Addition i (whole_clause z a b) [] []
     ∷ Addition j (side_clause z a) [] (group_for i ∷ [])
     ∷ Addition k (side_clause z b) [] (group_for i ∷ [])
     ∷ []
 
 abbrev pub defined : Live → ℕ → ℕ → ℕ → ℕ → Literal → Literal → Live
-defined live i j k z a b = with_clause (with_clause (with_clause live i (first_clause z a b)) j (side_clause z a)) k (side_clause z b)
+defined live i j k z a b = with_clause (with_clause (with_clause live i (whole_clause z a b)) j (side_clause z a)) k (side_clause z b)
 
 -- the three lines of a definition are steps
 pub definition_chain : (live : Live) (i j k z : ℕ) (a b : Literal) → live.last < i → i < j → j < k → IsFreshIn z live.clause_at → IsPairFor z a b
     → Chain live (definition_lines i j k z a b) (defined live i j k z a b)
 definition_chain live i j k z a b above next last fresh p =
-    let one : Live = with_clause live i (first_clause z a b) in
+    let one : Live = with_clause live i (whole_clause z a b) in
     let two : Live = with_clause one j (side_clause z a) in
     let few : z < 2 ^ 27 = omega (arith, p.small) in
     let few_a : a.variable < 2 ^ 27 = omega (arith, p.small) in
     let few_b : b.variable < 2 ^ 27 = omega (arith, p.small) in
-    let has : contains_literal (negative z) (first_clause z a b) ≡ true = or_left (literal_eq (negative z) (negative z)) (contains_literal (negative z) (a ∷ b ∷ [])) (literal_eq-self (negative z)) in
-    let has_a : contains_literal a (first_clause z a b) ≡ true = or_right (literal_eq a (negative z)) (contains_literal a (a ∷ b ∷ [])) (or_left (literal_eq a a) (contains_literal a (b ∷ [])) (literal_eq-self a)) in
-    let has_b : contains_literal b (first_clause z a b) ≡ true = or_right (literal_eq b (negative z)) (contains_literal b (a ∷ b ∷ [])) (or_right (literal_eq b a) (contains_literal b (b ∷ [])) (or_left (literal_eq b b) false (literal_eq-self b))) in
-    let live_one : one.clause_at i ≡ Some (first_clause z a b) = added_at live.clause_at i (first_clause z a b) in
-    let only_one = only_first live.clause_at z i (first_clause z a b) fresh in (
+    let has : contains_literal (negative z) (whole_clause z a b) ≡ true = or_left (literal_eq (negative z) (negative z)) (contains_literal (negative z) (a ∷ b ∷ [])) (literal_eq-self (negative z)) in
+    let has_a : contains_literal a (whole_clause z a b) ≡ true = or_right (literal_eq a (negative z)) (contains_literal a (a ∷ b ∷ [])) (or_left (literal_eq a a) (contains_literal a (b ∷ [])) (literal_eq-self a)) in
+    let has_b : contains_literal b (whole_clause z a b) ≡ true = or_right (literal_eq b (negative z)) (contains_literal b (a ∷ b ∷ [])) (or_right (literal_eq b a) (contains_literal b (b ∷ [])) (or_left (literal_eq b b) false (literal_eq-self b))) in
+    let live_one : one.clause_at i ≡ Some (whole_clause z a b) = added_at live.clause_at i (whole_clause z a b) in
+    let only_one = only_first live.clause_at z i (whole_clause z a b) fresh in (
       one,
       (first_addable live i z a b above p, inr (first_rat live.clause_at z a b fresh), refl),
       (
         two,
-        (side_addable one j z a next p.not_a few few_a, inr (side_rat one.clause_at z a i (first_clause z a b) live_one has has_a p.not_a only_one), refl),
+        (side_addable one j z a next p.not_a few few_a, inr (side_rat one.clause_at z a i (whole_clause z a b) live_one has has_a p.not_a only_one), refl),
         (
           defined live i j k z a b,
           (
             side_addable two k z b last p.not_b few few_b,
-            inr (side_rat two.clause_at z b i (first_clause z a b) (kept_at one.clause_at j i (side_clause z a) (first_clause z a b) (λ e. omega arith) live_one) has has_b p.not_b
+            inr (side_rat two.clause_at z b i (whole_clause z a b) (kept_at one.clause_at j i (side_clause z a) (whole_clause z a b) (λ e. omega arith) live_one) has has_b p.not_b
                 (still_only one.clause_at (negative z) i j (side_clause z a) (side_lacks z a p.not_a) only_one)),
             refl,
           ),
@@ -180,13 +175,3 @@ definition_chain live i j k z a b above next last fresh p =
         ),
       ),
     )
-
--- what is live after the definition
-pub first_defined : (live : Live) (i j k z : ℕ) (a b : Literal) → i < j → j < k → (defined live i j k z a b).clause_at i ≡ Some (first_clause z a b)
-first_defined live i j k z a b next last = rw (ne_eqb i k (λ e. omega arith), ne_eqb i j (λ e. omega arith)) (added_at live.clause_at i (first_clause z a b))
-
-pub second_defined : (live : Live) (i j k z : ℕ) (a b : Literal) → j < k → (defined live i j k z a b).clause_at j ≡ Some (side_clause z a)
-second_defined live i j k z a b last = rw (ne_eqb j k (λ e. omega arith), eq-eqb j j refl) refl
-
-pub third_defined : (live : Live) (i j k z : ℕ) (a b : Literal) → (defined live i j k z a b).clause_at k ≡ Some (side_clause z b)
-third_defined live i j k z a b = rw (eq-eqb k k refl) refl

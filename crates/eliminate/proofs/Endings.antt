@@ -25,18 +25,6 @@ open_stage start s slots lines h running = record {
   not_frozen = h.state.not_frozen;
 }
 
--- the tables as they are
-pub tables_result : (start : Start) (s : Simplifier) (slots : Slots) (lines : List LogLine) → IsSimplified start s slots lines → IsResult start s.removals (stage_of s.vars slots s.names lines)
-tables_result start s slots lines h = record {
-  more = h.given;
-  fresh = h.fresh;
-  work = h.state.work;
-  back = h.state.back;
-  within = h.state.within;
-  free = h.state.free;
-  not_frozen = h.state.not_frozen;
-}
-
 -- and with the fresh variables
 pub stage_result : (start : Start) (removed : List Removed) (s : Stage) → IsStage start removed s → s.variables ≤ length start.frozen + 2 ^ 20 → IsResult start removed s
 stage_result start removed s k fresh = record {

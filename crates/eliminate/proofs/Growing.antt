@@ -20,9 +20,6 @@ resolvent-lacks p c d oc od has has_not = record {
   not_negation = resolvent-open_not p c d (not-opposite p c oc has);
 }
 
-pub grows_none : (l : Literal) (slots : Slots) → GrowsWithout l slots slots
-grows_none l slots = record { kept = λ r c e. e; came = λ r c e. inl e }
-
 pub grows_one : (l : Literal) (slots : Slots) (c : List Literal) → LacksBoth l c → GrowsWithout l slots (slots ++ Some c ∷ [])
 grows_one l slots c lacks = record {
   kept = λ r d e. slot_before slots c r d e;

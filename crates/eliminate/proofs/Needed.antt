@@ -8,18 +8,13 @@ use Rattle.wcnf.specs.Literal.{Literal, Assignment, literal_value, literal_eq}
 use Rattle.wcnf.specs.Clause.{contains_literal, without_literal}
 use Rattle.wcnf.specs.Bits.{assignment_of}
 use Rattle.wcnf.proofs.Sound.{literal_eq-true}
+use Rattle.subsume.proofs.Marking.{at_contains}
 use Rattle.eliminate.specs.Elimination.{Removed, extended, is_needed, becomes_true, positive}
 use Rattle.eliminate.specs.declared.stack.Piece.{Piece}
 use Rattle.eliminate.specs.declared.stack.Gone.{Gone}
 use Rattle.eliminate.specs.Flat.{clause_in, clauses_at, one_removed, removed_in, IsGone}
 use Rattle.eliminate.proofs.Resolve.{literal_eq-self, contains-filter}
 use Rattle.eliminate.proofs.Back.{has_true}
-
--- a literal that stands at some place
-pub at_contains : (c : List Literal) (i : ℕ) (l : Literal) → i < length c → l ≡ get_or c i l → contains_literal l c ≡ true
-at_contains [] i l h is = absurd (omega arith)
-at_contains (k ∷ c) zero l h is = or_left (literal_eq l k) (contains_literal l c) (subst (λ x. literal_eq l x ≡ true) is (literal_eq-self l))
-at_contains (k ∷ c) (suc i) l h is = or_right (literal_eq l k) (contains_literal l c) (at_contains c i l (omega arith) is)
 
 -- another literal is true: the clause needs nothing
 pub not_needed : (t : Assignment) (p : Literal) (c : List Literal) (i : ℕ) (l : Literal) → i < length c → l ≡ get_or c i l → literal_eq l p ≡ false → literal_value t l ≡ true → is_needed t p c ≡ false

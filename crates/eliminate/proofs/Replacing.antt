@@ -13,17 +13,13 @@ use Rattle.lrat_log.specs.declared.lines.Kind.{Kind}
 use Rattle.lrat_log.specs.declared.lines.Hint.TheVariants.{Plain}
 use Rattle.lrat_log.specs.Log.{LogLine, Given, is_delete, id_of}
 use Rattle.lrat_log.specs.Steps.{IsBaseOf, log_live}
+use Rattle.eliminate.specs.Pairs.{whole_clause, side_clause, replaced}
 use Rattle.eliminate.specs.Elimination.{positive}
 use Rattle.eliminate.specs.Work.{IsRupLine}
 use Rattle.eliminate.proofs.Resolve.{negation_twice, literal_eq-self, contains-negations, each_literal, without-contains, not-without, not-opposite, Covers, covered_unit}
 use Rattle.eliminate.proofs.Falsified.{literal_eq-sides, apart-filter, has_repeat-filter, has_opposites-filter}
 use Rattle.eliminate.proofs.Back.{negative, has_true, value-filter}
-use Rattle.eliminate.proofs.Definitions.{first_clause, side_clause}
 use Rattle.eliminate.proofs.Adding.{greatest-filter}
-
--- z and the clause's other literals in their order
-abbrev pub replaced : ℕ → Literal → Literal → List Literal → List Literal
-replaced z a b c = positive z ∷ without_literal b (without_literal a c)
 
 -- a clause with two literals and without z
 pub record HasPair (z : ℕ) (a b : Literal) (c : List Literal) : Type 0 where
@@ -119,21 +115,6 @@ replaced-no_opposites z a b c h plain = or_from (contains_literal (negative z) (
 replaced-small : (n z : ℕ) (a b : Literal) (c : List Literal) → n < 2 ^ 27 → z < 2 ^ 27 → greatest_variable c ≤ n → greatest_variable (replaced z a b c) < 2 ^ 27
 replaced-small n z a b c few few_z small = omega (arith, greatest-filter (λ k. not (literal_eq b k)) (without_literal a c), greatest-filter (λ k. not (literal_eq a k)) c)
 
--- so it is a step
-pub replaced_step : (live : Live) (id n z : ℕ) (a b : Literal) (c : List Literal) (j k i : ℕ) → live.last < id → n < 2 ^ 27 → z < 2 ^ 27 → IsFormulaClause n c
-    → live.clause_at j ≡ Some (side_clause z a) → live.clause_at k ≡ Some (side_clause z b) → live.clause_at i ≡ Some c → HasPair z a b c
-    → Step live (Addition id (replaced z a b c) (j ∷ k ∷ i ∷ []) []) (with_clause live id (replaced z a b c))
-replaced_step live id n z a b c j k i rising few few_z f live_a live_b live_c h = (
-  record {
-    rising = rising;
-    no_repeat = replaced-no_repeat z a b c h f.no_repeat;
-    no_opposites = replaced-no_opposites z a b c h f.no_opposites;
-    small = replaced-small n z a b c few few_z f.small;
-  },
-  inl (refl, replaced_refutes live.clause_at z a b c j k i live_a live_b live_c h),
-  refl,
-)
-
 -- two literals of a clause are on two variables
 pub pair_variables : (a b : Literal) (c : List Literal) → contains_literal a c ≡ true → contains_literal b c ≡ true → literal_eq a b ≡ false → has_opposites c ≡ false → a.variable ≡ b.variable → ⊥
 pair_variables a b c has_a has_b two plain e =
@@ -151,7 +132,7 @@ pair_variables a b c has_a has_b two plain e =
 
 -- z and its definition give the pair back
 pub replaced_back : (t : Assignment) (z : ℕ) (a b : Literal) (c : List Literal) → contains_literal a c ≡ true → contains_literal b c ≡ true
-    → Satisfies t (first_clause z a b) → Satisfies t (replaced z a b c) → Satisfies t c
+    → Satisfies t (whole_clause z a b) → Satisfies t (replaced z a b c) → Satisfies t c
 replaced_back t z a b c has_a has_b first second =
     elim (or_cases (t z) (clause_value t (without_literal b (without_literal a c))) second) [
       | inr h ↦ value-filter t (λ k. not (literal_eq a k)) c (value-filter t (λ k. not (literal_eq b k)) (without_literal a c) h)

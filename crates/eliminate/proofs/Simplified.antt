@@ -91,21 +91,3 @@ simplified_subsumed start s t slots ls r q c d h works other at by subset n =
 -- the lines of a simplified form
 pub log_of : (start : Start) (s : Simplifier) (slots : Slots) (ls : List LogLine) → IsSimplified start s slots ls → IsLogOf start ls
 log_of start s slots ls h = (h.state.work.log, h.state.work.none_learned)
-
--- what holds anyway holds where there is an error
-pub on_err : {T E P : Type 0} (r : Result T E) → P → OnErr r P
-on_err (Ok x) p = tt
-on_err (Err e) p = p
-
--- other scratch tables
-pub simplified_same : (start : Start) (s t : Simplifier) (slots : Slots) (ls : List LogLine) → HasSameTables s t → IsSimplified start s slots ls → IsSimplified start t slots ls
-simplified_same start s t slots ls n h = record {
-  state = rw (n.vars, n.names, n.occurrences, n.removals) h.state;
-  counted = ap (λ (x : NamesState). x.additions) n.names ∙ h.counted;
-  marks = n.marks ∙ h.marks ∙ ap (λ k. 2 * k) (sym n.vars);
-  few = h.few;
-  given = (let v = n.vars in let g = h.given in omega arith);
-  fresh = (let v = n.vars in let f = h.fresh in omega arith);
-  going = λ e. h.going (sym n.refuted ∙ e);
-  refuted = λ e. h.refuted (sym n.refuted ∙ e);
-}

@@ -143,18 +143,3 @@ goes_free removed r slots left free g q c e =
   where
     all_both : (P Q R : Literal → Type 0) → ((l : Literal) → P l → Q l → R l) → (c : List Literal) → All P c → All Q c → All R c
     all_both P Q R f c p q k d lt = f (get_or c k d) (p k d lt) (q k d lt)
-
--- a variable goes
-pub state_eliminated : (start : Start) (variables : ℕ) (slots left : Slots) (names : List Name) (ls more : List LogLine) (rows : List (List ℕ)) (removed : List Removed) (r : Removed)
-    → IsState start variables slots names ls rows removed → IsRemovedWithin variables r → IsFree start.frozen r.variable → GoesWith r slots left
-    → IsWork (length start.frozen) variables (given_of start.clauses) left names more → AreRows rows left
-    → IsState start variables left names more rows (removed ++ r ∷ [])
-state_eliminated start variables slots left names ls more rows removed r s within free g work occurrences = record {
-  work = work;
-  occurrences = occurrences;
-  places = s.places;
-  back = goes_back variables removed r start.clauses slots left s.back within.0 within.1 g;
-  within = All-push (IsRemovedWithin variables) removed r s.within within;
-  free = goes_free removed r slots left s.free g;
-  not_frozen = All-push (λ (x : Removed). IsFree start.frozen x.variable) removed r s.not_frozen free;
-}

@@ -9,6 +9,7 @@ use Rattle.wcnf.specs.Literal.{Literal, negation, literal_eq}
 use Rattle.wcnf.specs.Clause.{contains_literal, has_repeat}
 use Rattle.wcnf.specs.Refute.{IsUnit, IsFalseUnder}
 use Rattle.wcnf.proofs.Sound.{literal_eq-true}
+use Rattle.subsume.proofs.Marking.{at_contains}
 use Rattle.wcnf.specs.Formula.{IsFormulaClause}
 use Rattle.clauses.specs.Slots.{Slots, clause_at}
 use Rattle.subsume.specs.Marks.{HasPlace, mark_of}
@@ -45,11 +46,6 @@ contains-before (x ∷ c) l k e = elim (or_cases (literal_eq l x) (contains_lite
   | inr more ↦ or_right (literal_eq l x) (contains_literal l (c ++ k ∷ [])) (contains-before c l k more)
 ]
 
-pub contains-at : (c : List Literal) (i : ℕ) (l : Literal) → i < length c → l ≡ get_or c i l → contains_literal l c ≡ true
-contains-at [] i l h is = absurd (omega arith)
-contains-at (k ∷ c) zero l h is = or_left (literal_eq l k) (contains_literal l c) (subst (λ x. literal_eq l x ≡ true) is (literal_eq-self l))
-contains-at (k ∷ c) (suc i) l h is = or_right (literal_eq l k) (contains_literal l c) (contains-at c i l (omega arith) is)
-
 contains-take : (c : List Literal) (i : ℕ) (l : Literal) → contains_literal l (take i c) ≡ true → contains_literal l c ≡ true
 contains-take [] zero l e = e
 contains-take [] (suc i) l e = e
@@ -66,7 +62,7 @@ once_at (k ∷ c) zero l r h is e = absurd (false≢true e)
 once_at (k ∷ c) (suc i) l r h is e =
     let w = or_parts (contains_literal k c) (has_repeat c) r in
     elim (or_cases (literal_eq l k) (contains_literal l (take i c)) e) [
-      | inl same ↦ both_ways (contains_literal k c) w.0 (subst (λ x. contains_literal x c ≡ true) (literal_eq-true l k same) (contains-at c i l (omega arith) is))
+      | inl same ↦ both_ways (contains_literal k c) w.0 (subst (λ x. contains_literal x c ≡ true) (literal_eq-true l k same) (at_contains c i l (omega arith) is))
       | inr more ↦ once_at c i l w.1 (omega arith) is more
     ]
 
@@ -146,7 +142,7 @@ status_open A c i k h is t f so = rw (next c i k h is) (record {
 -- a second one
 pub status_second : (A c : List Literal) (i : ℕ) (k l : Literal) → has_repeat c ≡ false → i < length c → k ≡ get_or c i k → contains_literal (negation k) A ≡ false
     → IsUnit (take i c) A l → IsSettled A c
-status_second A c i k l r h is f so = settled_two A c k l (contains-at c i k h is) (contains-take c i l so.member)
+status_second A c i k l r h is f so = settled_two A c k l (at_contains c i k h is) (contains-take c i l so.member)
     (λ same. once_at c i k r h is (subst (λ x. contains_literal x (take i c) ≡ true) (sym same) so.member)) f so.not_false
 
 -- the place of a literal of a clause

@@ -1,7 +1,8 @@
 // Where the clauses lie against which others are held, to find those that are subsumed or can be strengthened. Each
 // clause stands in one bin, that of one of its literals, with its signature; a bin is held against a clause eight
 // signatures at a time, and only where one fits are literals compared. A bin has room for a hundred clauses, so that
-// no literal that stands everywhere makes the search quadratic: what finds no room is not held against others.
+// no literal that stands everywhere makes the search quadratic: what finds no room is not held against others. Each pass
+// has so many steps that it is linear in the store, also where many long clauses share most of their literals.
 ghost use Rattle.std.specs.Prelude.{◌≡◌, ℕ, length, List, Some, IfSome};
 ghost use Rattle.wcnf.specs.Literal.{Literal};
 ghost use Rattle.clauses.specs.Slots.{IsLive, clause_at};
@@ -16,6 +17,9 @@ use wcnf::types::Lit;
 
 /// So many clauses have room in a bin.
 const MOST_IN_A_BIN: usize = 100;
+/// A pass has so many steps for each literal of the store, and for each clause. A step looks at a literal, or holds eight
+/// signatures against one.
+const STEPS: usize = 64;
 
 /// Clauses, with their signatures at the same places.
 #[derive(Drop)]
@@ -35,6 +39,8 @@ pub(crate) struct Bins {
     first_new: usize,
     // For each place of the bin in hand, whether its signature fits.
     fits: Vec<bool>,
+    // How many steps are left in this pass.
+    steps: usize,
 }
 
 /// A clause that was found beside another one.
@@ -62,6 +68,7 @@ impl Bins {
             is_connected: Vec::new(alloc),
             first_new: 0,
             fits: Vec::from_elem(alloc, false, MOST_IN_A_BIN)?,
+            steps: 0,
         })
     }
 
@@ -73,6 +80,7 @@ impl Bins {
     /// A pass over the store begins: clauses that were deleted leave their bins.
     pub(crate) fn start_pass(&mut self, store: &Store) {
         self.first_new = store.places();
+        self.steps = store.used().saturating_mul(STEPS);
         for bin in self.bins.iter_mut() {
             bin.clean(store);
         }
@@ -113,7 +121,7 @@ impl Bins {
         place
     }
 
-    /// Another clause that is within the marked one, or but for one literal.
+    /// Another clause that is within the marked one, or but for one literal; none where the pass has no steps left.
     pub(crate) fn find(
         &mut self,
         marks: &Marks,
@@ -130,8 +138,12 @@ impl Bins {
         let signature = signature_both(lits);
         for lit in lits {
             for row in [lit.index(), lit.negation().index()] {
+                if self.steps == 0 {
+                    return None;
+                }
                 if let Some(bin) = self.bins.get(row) {
-                    let found = bin.find(&mut self.fits, signature, marks, store, current);
+                    let fits = &mut self.fits;
+                    let found = bin.find(fits, &mut self.steps, signature, marks, store, current);
                     if found.is_some() {
                         return found;
                     }
@@ -164,6 +176,7 @@ impl Bin {
     fn find(
         &self,
         fits: &mut [bool],
+        steps: &mut usize,
         signature: u64,
         marks: &Marks,
         store: &Store,
@@ -180,9 +193,12 @@ impl Bin {
             return None;
         }
         maybe_subsets(signature, &self.signatures, &mut fits[..count]);
+        *steps = steps.saturating_sub(1 + count / 8);
         for (by, fit) in self.references.iter().zip(fits.iter()) {
-            if *fit && *by != current && store.is_live(*by) {
-                let against = marks.against(store.lits(*by));
+            if *fit && *by != current && *steps > 0 && store.is_live(*by) {
+                let lits = store.lits(*by);
+                *steps = steps.saturating_sub(lits.len());
+                let against = marks.against(lits);
                 if against != Against::Apart {
                     return Some(Found { by: *by, against });
                 }

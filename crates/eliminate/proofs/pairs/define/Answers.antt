@@ -4,9 +4,10 @@ use Rattle.wcnf.specs.Literal.{Literal, negation}
 use Rattle.clauses.specs.Slots.{Slots}
 use Rattle.eliminate.specs.Work.{additions, name_at}
 use Rattle.eliminate.specs.Pairs.{whole_clause, side_clause, whole_line, side_line, Stage, IsStage, IsOpenLog}
-use Rattle.eliminate.proofs.Defining.{on_err, stage_of, whole_is, side_is, defined_is, kept_log, keeps_as, counted_added, few_additions}
+use Rattle.eliminate.proofs.Defining.{stage_of, whole_is, side_is, defined_is, kept_log, keeps_as, counted_added, few_additions}
 use Rattle.eliminate.proofs.Staging.{with_whole, with_side, whole_right, left_right, right_right}
 use Rattle.eliminate.proofs.pairs.define.Goals as goal
+use Rattle.eliminate.proofs.Refusals.{when_err}
 
 pub add_side-requires-clause-counted : goal.add_side-requires-clause-counted
 add_side-requires-clause-counted g c = counted_added c.args.names.now c.add.new.names (g.S.Sink.lines c.args.sink.now) (g.S.Sink.lines c.add.new.sink) _ c.requires.counted c.in_ok-whole.ensures.names c.in_ok-whole.ensures.lines refl
@@ -33,7 +34,7 @@ returns-in_err-left_side-clause-err g c =
     let small : additions s.lines + 3 < 2 ^ 62 = few_additions s.lines c.is_short.ensures in
     let one = whole_is v s.slots c.add.new.store.slots c.args.names.now c.add.new.names s.lines (L c.add.new.sink) c.in_ok-lits.lits.items c.new.result.items c.negation.result a b c.requires.counted
     c.in_ok-whole.ensures.slots c.in_ok-whole.ensures.names c.in_ok-whole.ensures.lines c.in_ok-lits.ensures.items (c.negation.ensures ∙ ap negation c.new-fresh.ensures) c.new.ensures.items in
-    on_err c.from_residual-in_err-left_side.result (kept_log s (with_whole s a b) (L c.add_side.new.sink) (c.in_err-left_side.ensures.err ∙ ap (λ (x : Stage). x.lines) one)
+    when_err c.from_residual-in_err-left_side.result (kept_log s (with_whole s a b) (L c.add_side.new.sink) (c.in_err-left_side.ensures.err ∙ ap (λ (x : Stage). x.lines) one)
     (λ start removed k. whole_right start removed s a b c.requires.shared c.requires.room small k))
 
 pub returns-in_err-right_side-clause-err : goal.returns-in_err-right_side-clause-err
@@ -49,7 +50,7 @@ returns-in_err-right_side-clause-err g c =
     let counted = counted_added c.args.names.now c.add.new.names s.lines (L c.add.new.sink) _ c.requires.counted c.in_ok-whole.ensures.names c.in_ok-whole.ensures.lines refl in
     let two = side_is (v + 1) c.add.new.store.slots c.add_side.new.store.slots c.add.new.names c.add_side.new.names (L c.add.new.sink) (L c.add_side.new.sink) (with_whole s a b) c.in_ok-whole.whole (length s.slots) a counted
     c.in_ok-left_side.ensures.slots c.in_ok-left_side.ensures.names c.in_ok-left_side.ensures.lines one c.in_ok-whole.ensures.reference in
-    on_err c.from_residual-in_err-right_side.result (kept_log s (with_side (with_whole s a b) (length s.slots) a) (L c.add_side-2.new.sink) (c.in_err-right_side.ensures.err ∙ ap (λ (x : Stage). x.lines) two)
+    when_err c.from_residual-in_err-right_side.result (kept_log s (with_side (with_whole s a b) (length s.slots) a) (L c.add_side-2.new.sink) (c.in_err-right_side.ensures.err ∙ ap (λ (x : Stage). x.lines) two)
     (λ start removed k. left_right start removed s a b c.requires.shared c.requires.room small k))
 
 pub returns-clause-defined : goal.returns-clause-defined

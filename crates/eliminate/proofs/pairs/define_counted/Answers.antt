@@ -2,16 +2,17 @@
 use Rattle.std.proofs.Common.{ap, sym, subst, refl, ℕ, arith}
 use Rattle.clauses.specs.Slots.{StoreState}
 use Rattle.eliminate.specs.Pairs.{Stage}
-use Rattle.eliminate.proofs.Defining.{on_err, open_log, stage_of, Counts, counts_same}
+use Rattle.eliminate.proofs.Defining.{open_log, stage_of, Counts, counts_same}
 use Rattle.eliminate.proofs.pairs.define_counted.Goals as goal
 use Rattle.eliminate.proofs.pairs.define_counted.Goals.{in-Some+in_ok-find+then-found-fewest+in_ok-last, in-Some+in_ok-find+else-found-fewest, in_default}
+use Rattle.eliminate.proofs.Refusals.{when_err}
 
 pub returns-in_err-find-clause-err : goal.returns-in_err-find-clause-err
-returns-in_err-find-clause-err g c = on_err c.from_residual-in_err-find.result (λ start removed k.
+returns-in_err-find-clause-err g c = when_err c.from_residual-in_err-find.result (λ start removed k.
     open_log start removed (stage_of c.loop-k.last c.loop-k.store.slots c.loop-k.names (g.S.Sink.lines c.loop-k.sink)) (c.loop-k.invariant.keeps start removed k))
 
 pub returns-in_err-last-clause-err : goal.returns-in_err-last-clause-err
-returns-in_err-last-clause-err g c = on_err c.from_residual-in_err-last.result (λ start removed k. c.in_err-last.ensures.err start removed (c.loop-k.invariant.keeps start removed k))
+returns-in_err-last-clause-err g c = when_err c.from_residual-in_err-last.result (λ start removed k. c.in_err-last.ensures.err start removed (c.loop-k.invariant.keeps start removed k))
 
 pub loop-k-preserved : goal.loop-k-preserved
 loop-k-preserved g c =

@@ -3,9 +3,10 @@ use Rattle.std.proofs.Common.{ap, sym, subst, refl, ℕ}
 use Rattle.clauses.specs.Slots.{StoreState}
 use Rattle.eliminate.specs.declared.pairs.Fresh.{Fresh}
 use Rattle.eliminate.specs.Pairs.{Stage, IsStage, Keeps}
-use Rattle.eliminate.proofs.Defining.{on_err, stage_of, Defines, defines_same, keeps_on}
+use Rattle.eliminate.proofs.Defining.{stage_of, Defines, defines_same, keeps_on}
 use Rattle.eliminate.proofs.pairs.define_found.Goals as goal
 use Rattle.eliminate.proofs.pairs.define_found.Goals.{in-Some+then-has_pair+in_ok-new, in-Some+else-has_pair, in_default}
+use Rattle.eliminate.proofs.Refusals.{when_err}
 
 pub loop-k-init : goal.loop-k-init
 loop-k-init g c =
@@ -20,7 +21,7 @@ loop-k-init g c =
     }
 
 pub returns-in_err-new-clause-err : goal.returns-in_err-new-clause-err
-returns-in_err-new-clause-err g c = on_err c.from_residual-in_err-new.result (λ start removed k. c.in_err-new.ensures.err start removed (c.loop-k.invariant.keeps start removed k))
+returns-in_err-new-clause-err g c = when_err c.from_residual-in_err-new.result (λ start removed k. c.in_err-new.ensures.err start removed (c.loop-k.invariant.keeps start removed k))
 
 pub loop-k-preserved : goal.loop-k-preserved
 loop-k-preserved g c =

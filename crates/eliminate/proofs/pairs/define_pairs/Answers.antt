@@ -1,7 +1,7 @@
 -- Count after count, each over what the one before left.
 use Rattle.std.proofs.Common.{arith}
-use Rattle.eliminate.proofs.Defining.{on_err}
 use Rattle.eliminate.proofs.pairs.define_pairs.Goals as goal
+use Rattle.eliminate.proofs.Refusals.{when_err}
 
 pub loop-round-preserved : goal.loop-round-preserved
 loop-round-preserved g c =
@@ -15,7 +15,7 @@ loop-round-preserved g c =
     }
 
 pub returns-in_err-last-clause-err : goal.returns-in_err-last-clause-err
-returns-in_err-last-clause-err g c = on_err c.from_residual.result (λ start removed k. c.in_err-last.ensures.err start removed (c.loop-round.invariant.keeps start removed k))
+returns-in_err-last-clause-err g c = when_err c.from_residual.result (λ start removed k. c.in_err-last.ensures.err start removed (c.loop-round.invariant.keeps start removed k))
 
 pub returns-then-last-before-clause-keeps : goal.returns-then-last-before-clause-keeps
 returns-then-last-before-clause-keeps g c start removed k = c.in_ok-last.ensures.keeps start removed (c.loop-round.invariant.keeps start removed k)

@@ -11,9 +11,10 @@ use Rattle.eliminate.specs.declared.pairs.Fresh.{Fresh}
 use Rattle.eliminate.specs.Work.{additions, name_at, delete_line}
 use Rattle.eliminate.specs.Pairs.{replaced, IsDefined, HasPairOf, Stage}
 use Rattle.eliminate.proofs.Naming.{slot_before, slot_within}
-use Rattle.eliminate.proofs.Defining.{on_err, stage_of, replaced_is, is_deleted, kept_log, keeps_as, keeps_on, counted_added, counted_deleted, few_additions, long_added, long_deleted, name_stays}
+use Rattle.eliminate.proofs.Defining.{stage_of, replaced_is, is_deleted, kept_log, keeps_as, keeps_on, counted_added, counted_deleted, few_additions, long_added, long_deleted, name_stays}
 use Rattle.eliminate.proofs.Staging.{with_replaced, deleted_stage, replaced_line_of, replaced_right, gone_right, defined_after, replaced-is_line, delete-is_line}
 use Rattle.eliminate.proofs.pairs.replace.Goals as goal
+use Rattle.eliminate.proofs.Refusals.{when_err}
 
 pub add-requires-clause-line : goal.add-requires-clause-line
 add-requires-clause-line g c =
@@ -47,7 +48,7 @@ pub returns-in_err-new-clause-err : goal.returns-in_err-new-clause-err
 returns-in_err-new-clause-err g c =
     let L = g.S.Sink.lines in
     let s : Stage = stage_of c.args.definition.now.variable c.args.store.now.slots c.args.names.now (L c.args.sink.now) in
-    on_err c.from_residual-in_err-new.result (kept_log s s (L c.add.new.sink) c.in_err-new.ensures.err (λ start removed k. k))
+    when_err c.from_residual-in_err-new.result (kept_log s s (L c.add.new.sink) c.in_err-new.ensures.err (λ start removed k. k))
 
 pub returns-in_err-delete-clause-err : goal.returns-in_err-delete-clause-err
 returns-in_err-delete-clause-err g c =
@@ -59,7 +60,7 @@ returns-in_err-delete-clause-err g c =
     let one = replaced_is s.slots c.add.new.store.slots c.args.names.now c.add.new.names s.lines (L c.add.new.sink) c.in_ok-lits.lits.items clause c.in_ok-hints.hints.items d c.args.reference
     c.plain-left_side.result c.plain-right_side.result c.plain-clause.result c.requires.counted c.in_ok-new.ensures.slots c.in_ok-new.ensures.names c.in_ok-new.ensures.lines c.in_ok-lits.ensures c.in_ok-hints.ensures.items
     c.plain-left_side.ensures.hint c.plain-right_side.ensures.hint c.plain-clause.ensures.hint in
-    on_err c.from_residual-in_err-delete.result (kept_log s (with_replaced s d c.args.reference clause) (L c.delete.new.sink) (c.in_err-delete.ensures.err ∙ ap (λ (x : Stage). x.lines) one)
+    when_err c.from_residual-in_err-delete.result (kept_log s (with_replaced s d c.args.reference clause) (L c.delete.new.sink) (c.in_err-delete.ensures.err ∙ ap (λ (x : Stage). x.lines) one)
     (λ start removed k. replaced_right start removed s d c.args.reference clause c.requires.defined c.lits.ensures (c.requires.pair clause c.lits.ensures) c.requires.small (omega arith) k))
 
 pub returns-clause-defined : goal.returns-clause-defined

@@ -4,8 +4,9 @@ use Rattle.std.proofs.lemmas.Bool.{both_ways}
 use Rattle.eliminate.specs.Simplifier.{LeavesLog}
 use Rattle.eliminate.specs.Units.{open_count}
 use Rattle.eliminate.proofs.Settled.{settled_not_refuted}
-use Rattle.eliminate.proofs.Simplified.{log_of, on_err}
+use Rattle.eliminate.proofs.Simplified.{log_of}
 use Rattle.eliminate.proofs.units.propagate_units.Goals as goal
+use Rattle.eliminate.proofs.Refusals.{when_err}
 
 pub sweeps-init : goal.sweeps-init
 sweeps-init g c = record {
@@ -35,22 +36,22 @@ follow-requires-clause-fits g c = (c.in_ok-found.ensures.units c.if-simplifier.f
 pub returns-in_err-units-clause-err : goal.returns-in_err-units-clause-err
 returns-in_err-units-clause-err g c =
     let logs : LeavesLog c.args.simplifier.now c.args.store.now.slots (g.S.Sink.lines c.args.sink.now) _ = (λ start h. log_of start c.args.simplifier.now c.args.store.now.slots (g.S.Sink.lines c.args.sink.now) h) in
-    on_err _ logs
+    when_err _ logs
 
 pub returns-in_err-visits-clause-err : goal.returns-in_err-visits-clause-err
 returns-in_err-visits-clause-err g c =
     let logs : LeavesLog c.args.simplifier.now c.args.store.now.slots (g.S.Sink.lines c.args.sink.now) _ = (λ start h. log_of start c.args.simplifier.now c.args.store.now.slots (g.S.Sink.lines c.args.sink.now) h) in
-    on_err _ logs
+    when_err _ logs
 
 pub returns-in_err-found-clause-err : goal.returns-in_err-found-clause-err
 returns-in_err-found-clause-err g c =
     let logs : LeavesLog c.args.simplifier.now c.args.store.now.slots (g.S.Sink.lines c.args.sink.now) _ = (λ start h. c.in_err-found.ensures.err start (c.sweeps.invariant.simplified start h)) in
-    on_err _ logs
+    when_err _ logs
 
 pub returns-in_err-follow-clause-err : goal.returns-in_err-follow-clause-err
 returns-in_err-follow-clause-err g c =
     let logs : LeavesLog c.args.simplifier.now c.args.store.now.slots (g.S.Sink.lines c.args.sink.now) _ = (λ start h. c.in_err-follow.ensures.err start (c.in_ok-found.ensures.simplified start (c.sweeps.invariant.simplified start h))) in
-    on_err _ logs
+    when_err _ logs
 
 pub returns-then-simplifier-clause-simplified : goal.returns-then-simplifier-clause-simplified
 returns-then-simplifier-clause-simplified g c start h = c.in_ok-found.ensures.simplified start (c.sweeps.invariant.simplified start h)

@@ -12,8 +12,9 @@ use Rattle.eliminate.specs.Rows.{with_clause_rows}
 use Rattle.eliminate.specs.State.{Start}
 use Rattle.eliminate.specs.Simplifier.{IsSimplified, IsLogOf, LeavesLog}
 use Rattle.eliminate.proofs.Naming.{additions_few}
-use Rattle.eliminate.proofs.Simplified.{simplified_added, clause_places, log_of, on_err}
+use Rattle.eliminate.proofs.Simplified.{simplified_added, clause_places, log_of}
 use Rattle.eliminate.proofs.simplifier.Simplifier.add.Goals as goal
+use Rattle.eliminate.proofs.Refusals.{when_err}
 
 pub add-requires-2 : goal.add-requires-2
 add-requires-2 g c =
@@ -37,7 +38,7 @@ returns-in_err-add-clause-err g c =
     let simplified = simplified_added start s t slots ls line h c.requires.going (c.requires.line start h) (omega (arith, additions_few ls, c.is_short.ensures))
     (record { vars = refl; names = c.in_ok-reference.ensures.names; occurrences = refl; removals = refl; marks = refl; refuted = refl }) in
     subst (IsLogOf start) (sym lines) (log_of start t (slots ++ Some s.clause.items ∷ []) (ls ++ line ∷ []) simplified)) in
-    on_err _ logs
+    when_err _ logs
 
 pub returns-in_err-enter-clause-err : goal.returns-in_err-enter-clause-err
 returns-in_err-enter-clause-err g c =
@@ -52,7 +53,7 @@ returns-in_err-enter-clause-err g c =
     let simplified = simplified_added start s t slots ls line h c.requires.going (c.requires.line start h) (omega (arith, additions_few ls, c.is_short.ensures))
     (record { vars = refl; names = c.in_ok-reference.ensures.names; occurrences = refl; removals = refl; marks = refl; refuted = refl }) in
     subst (IsLogOf start) (sym lines) (log_of start t (slots ++ Some s.clause.items ∷ []) (ls ++ line ∷ []) simplified)) in
-    on_err _ logs
+    when_err _ logs
 
 pub returns-clause-simplified : goal.returns-clause-simplified
 returns-clause-simplified g c start h =

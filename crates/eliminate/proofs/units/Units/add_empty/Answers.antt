@@ -8,9 +8,10 @@ use Rattle.lrat_log.specs.Log.{LogLine}
 use Rattle.eliminate.specs.declared.simplifier.Simplifier.{Simplifier}
 use Rattle.eliminate.specs.Work.{AreClauses}
 use Rattle.eliminate.specs.Simplifier.{IsSimplified, IsAddableLine, LeavesLog}
-use Rattle.eliminate.proofs.Simplified.{simplified_same, on_err}
+use Rattle.eliminate.proofs.Tables.{simplified_same}
 use Rattle.eliminate.proofs.UnitLines.{empty_addable}
 use Rattle.eliminate.proofs.units.Units.add_empty.Goals as goal
+use Rattle.eliminate.proofs.Refusals.{when_err}
 
 pub hints-requires-clause-clauses : goal.hints-requires-clause-clauses
 hints-requires-clause-clauses g c = subst (λ n. AreClauses n c.args.store.now.slots) (sym c.requires.fits) c.requires.simplified.1.state.work.clauses
@@ -34,5 +35,5 @@ returns-in_err-add-clause-err g c =
     let t : Simplifier = record s { clause = c.clear.new.self } in
     let slots : Slots = c.args.store.now.slots in
     let ls : List LogLine = g.S.Sink.lines c.args.sink.now in
-    let logs : LeavesLog s slots ls (g.S.Sink.lines c.add.new.sink) = (λ start h. c.in_err-add.ensures.err start (simplified_same start s t slots ls (record { vars = refl; names = refl; occurrences = refl; removals = refl; marks = refl; refuted = refl }) h)) in
-    on_err _ logs
+    let logs : LeavesLog s slots ls (g.S.Sink.lines c.add.new.sink) = (λ start h. c.in_err-add.ensures.err start (simplified_same start s t slots ls (record { vars = refl; names = refl; places = refl; removals = refl; marks = refl; refuted = refl }) h.state.occurrences h)) in
+    when_err _ logs

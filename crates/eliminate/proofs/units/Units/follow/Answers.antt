@@ -4,8 +4,8 @@ use Rattle.std.proofs.lemmas.Bool.{both_ways}
 use Rattle.eliminate.specs.Simplifier.{LeavesLog}
 use Rattle.eliminate.specs.Units.{open_count}
 use Rattle.eliminate.proofs.Assigned.{makes_nothing, makes_more}
-use Rattle.eliminate.proofs.Simplified.{on_err}
 use Rattle.eliminate.proofs.units.Units.follow.Goals as goal
+use Rattle.eliminate.proofs.Refusals.{when_err}
 
 pub loop-visits-init : goal.loop-visits-init
 loop-visits-init g c = record {
@@ -27,7 +27,7 @@ visit-requires-clause-fits g c = c.loop-visits.invariant.units.rows ∙ c.requir
 pub returns-in_err-visit-clause-err : goal.returns-in_err-visit-clause-err
 returns-in_err-visit-clause-err g c =
     let logs : LeavesLog c.args.simplifier.now c.args.store.now.slots (g.S.Sink.lines c.args.sink.now) _ = (λ start h. c.in_err-visit.ensures.err start (c.loop-visits.invariant.simplified start h)) in
-    on_err _ logs
+    when_err _ logs
 
 pub returns-then-simplifier-clause-simplified : goal.returns-then-simplifier-clause-simplified
 returns-then-simplifier-clause-simplified g c start h = c.in_ok-visit.ensures.simplified start (c.loop-visits.invariant.simplified start h)

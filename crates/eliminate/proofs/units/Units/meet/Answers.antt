@@ -7,10 +7,11 @@ use Rattle.eliminate.specs.Work.{AreClauses}
 use Rattle.eliminate.specs.Simplifier.{LeavesLog}
 use Rattle.eliminate.specs.Units.{AreUnits}
 use Rattle.eliminate.proofs.Assigned.{units_grown, makes_true_grown}
-use Rattle.eliminate.proofs.Simplified.{log_of, on_err}
+use Rattle.eliminate.proofs.Simplified.{log_of}
 use Rattle.eliminate.proofs.States.{places_of}
 use Rattle.eliminate.proofs.UnitLines.{all_at}
 use Rattle.eliminate.proofs.units.Units.meet.Goals as goal
+use Rattle.eliminate.proofs.Refusals.{when_err}
 
 pub status-requires-clause-clauses : goal.status-requires-clause-clauses
 status-requires-clause-clauses g c = subst (λ n. AreClauses n c.args.store.now.slots) (sym c.requires.fits) c.requires.simplified.1.state.work.clauses
@@ -39,7 +40,7 @@ pub returns-in_err-assign-in-Unit-clause-err : goal.returns-in_err-assign-in-Uni
 returns-in_err-assign-in-Unit-clause-err g c =
     let logs : LeavesLog c.args.simplifier.now c.args.store.now.slots (g.S.Sink.lines c.args.sink.now) (g.S.Sink.lines c.unit_clause.new.sink) = (λ start h.
     log_of start c.unit_clause.new.simplifier c.unit_clause.new.store.slots (g.S.Sink.lines c.unit_clause.new.sink) (c.in_ok-unit-in-Unit.ensures.simplified start h)) in
-    on_err _ logs
+    when_err _ logs
 
 pub returns-in_ok-assign-in-Unit-clause-units : goal.returns-in_ok-assign-in-Unit-clause-units
 returns-in_ok-assign-in-Unit-clause-units g c works =

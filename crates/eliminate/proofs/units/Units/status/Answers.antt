@@ -8,7 +8,8 @@ use Rattle.subsume.specs.Marks.{HasPlace, mark_of}
 use Rattle.eliminate.specs.declared.units.Units.{Units}
 use Rattle.eliminate.specs.declared.units.Status.TheVariants.{Settled, Unit, Falsified}
 use Rattle.eliminate.specs.Units.{IsSettled, HasStatus}
-use Rattle.eliminate.proofs.Statuses.{HasStatusSoFar, settled_true, status_false, status_open, status_second, literal_place, mark_says, contains-at}
+use Rattle.eliminate.proofs.Statuses.{HasStatusSoFar, settled_true, status_false, status_open, status_second, literal_place, mark_says}
+use Rattle.subsume.proofs.Marking.{at_contains}
 use Rattle.eliminate.proofs.units.Units.status.Goals as goal
 use Rattle.eliminate.proofs.units.Units.status.Goals.{then-not-is_marked+in-Falsified, else-not-is_marked}
 
@@ -25,7 +26,7 @@ returns-then-is_marked c d at =
     let place = literal_place u c.args.store.now.slots lits c.loop-lit.lit-index l c.requires.units (c.requires.clauses c.args.reference lits c.lits-lit-items.ensures) (omega arith) c.lit-item.is in
     let t = mark_says u c.args.store.now.slots l true c.requires.units place.0 c.if-is_marked.ensures in
     subst (IsSettled u.trail.items) (same_Some lits d (sym c.lits-lit-items.ensures ∙ at))
-    (settled_true u c.args.store.now.slots lits l c.requires.units (contains-at lits c.loop-lit.lit-index l (omega arith) c.lit-item.is) t)
+    (settled_true u c.args.store.now.slots lits l c.requires.units (at_contains lits c.loop-lit.lit-index l (omega arith) c.lit-item.is) t)
 
 pub is_marked-requires-in-loop-lit : goal.is_marked-requires-in-loop-lit
 is_marked-requires-in-loop-lit c =

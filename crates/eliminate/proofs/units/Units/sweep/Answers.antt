@@ -8,9 +8,9 @@ use Rattle.eliminate.specs.Simplifier.{LeavesLog}
 use Rattle.eliminate.specs.Units.{IsSettled, open_count}
 use Rattle.eliminate.proofs.Assigned.{makes_nothing, makes_more}
 use Rattle.eliminate.proofs.Naming.{slot_within}
-use Rattle.eliminate.proofs.Simplified.{on_err}
 use Rattle.eliminate.proofs.units.Units.sweep.Goals as goal
 use Rattle.eliminate.proofs.units.Units.sweep.Goals.{then-asked, else-asked}
+use Rattle.eliminate.proofs.Refusals.{when_err}
 
 pub loop-place-init : goal.loop-place-init
 loop-place-init g c = record {
@@ -34,7 +34,7 @@ meet_at-requires-clause-fits g c = c.loop-place.invariant.units.rows ∙ c.requi
 pub returns-in_err-asked-clause-err : goal.returns-in_err-asked-clause-err
 returns-in_err-asked-clause-err g c =
     let logs : LeavesLog c.args.simplifier.now c.args.store.now.slots (g.S.Sink.lines c.args.sink.now) _ = (λ start h. c.in_err-asked.ensures.err start (c.loop-place.invariant.simplified start h)) in
-    on_err _ logs
+    when_err _ logs
 
 pub returns-then-simplifier-clause-simplified : goal.returns-then-simplifier-clause-simplified
 returns-then-simplifier-clause-simplified g c start h = c.in_ok-asked.ensures.simplified start (c.loop-place.invariant.simplified start h)

@@ -3,8 +3,8 @@ use Rattle.std.proofs.Common.{◌≡◌, refl, sym, ◌∙◌}
 use Rattle.std.proofs.lemmas.Bool.{both_ways}
 use Rattle.eliminate.specs.Simplifier.{LeavesLog}
 use Rattle.eliminate.proofs.Assigned.{makes_nothing, makes_more}
-use Rattle.eliminate.proofs.Simplified.{on_err}
 use Rattle.eliminate.proofs.units.Units.visit.Goals as goal
+use Rattle.eliminate.proofs.Refusals.{when_err}
 
 pub loop-at-init : goal.loop-at-init
 loop-at-init g c = record {
@@ -26,7 +26,7 @@ visit_at-requires-clause-fits g c = c.loop-at.invariant.units.rows ∙ c.require
 pub returns-in_err-visit_at-clause-err : goal.returns-in_err-visit_at-clause-err
 returns-in_err-visit_at-clause-err g c =
     let logs : LeavesLog c.args.simplifier.now c.args.store.now.slots (g.S.Sink.lines c.args.sink.now) _ = (λ start h. c.in_err-visit_at.ensures.err start (c.loop-at.invariant.simplified start h)) in
-    on_err _ logs
+    when_err _ logs
 
 pub returns-then-simplifier-clause-simplified : goal.returns-then-simplifier-clause-simplified
 returns-then-simplifier-clause-simplified g c start h = c.in_ok-visit_at.ensures.simplified start (c.loop-at.invariant.simplified start h)
