@@ -19,7 +19,7 @@ const SHORTEST: usize = 3;
 const LONGEST: usize = 32;
 
 /// How many pairs a walk looks at.
-const MOST_MEETINGS: usize = 1 << 25;
+const MOST_MEETINGS: usize = 1 << 23;
 
 /// Two literals that stand together in a clause.
 #[derive(Clone, Copy, PartialEq, Eq, PartialOrd, Ord, Drop)]
