@@ -26,3 +26,5 @@ pub mod Moves
 pub mod Tables
 pub mod Occurrences
 pub mod Marks
+pub mod PieceLaws
+pub mod LeftLaws

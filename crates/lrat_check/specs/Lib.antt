@@ -11,3 +11,5 @@ pub mod Answer
 pub mod Chains
 pub mod Table
 pub mod Occurrences
+pub mod Pieces
+pub mod Left

@@ -1,14 +1,15 @@
 //! Whole certificates over a formula.
-ghost use Rattle.std.specs.Prelude.{◌≡◌, IfOk, ◌↔◌, List};
+ghost use Rattle.std.specs.Prelude.{◌≡◌, [], IfOk, ◌↔◌, List};
+ghost use Rattle.wcnf.specs.Literal.{Literal};
 ghost use Rattle.wcnf.specs.Formula.{IsUnsatisfiable};
 ghost use Rattle.wcnf.specs.Lrat.{ProofLine, Accepts};
 ghost use Rattle.lrat_check.specs.Checks.{IsProofOver};
+ghost use Rattle.lrat_check.specs.Pieces.{Stands};
 ghost use Rattle.lrat_check.specs.Verdict.{proof_verdict};
 
-use crate::machine::Machine;
+use crate::pieces::Checker;
 use crate::verdicts::Verdict;
 use std::alloc::AllocError;
-use wcnf::text::lines;
 use wcnf::types::Formula;
 
 /// Whether the proof, an LRAT certificate over the formula's clauses under the ids from 1, shows
@@ -21,13 +22,19 @@ pub fn check_lines(formula: &Formula, proof: &[u8]) -> Result<Verdict, AllocErro
     ensures accepted { (ls : List ProofLine) → Accepts formula.now.clauses ls → IsUnsatisfiable formula.now.clauses }
     ensures sound { IfOk result (λ v. v ≡ Verdict.Yes → IsUnsatisfiable formula.now.clauses) }
 {
-    let mut machine = Machine::new(formula)?;
-    for (number, line) in lines(proof) {
-        if let Some(cause) = machine.step(line)? {
-            return Ok(Verdict::No(cause, number));
-        }
-    }
-    Ok(machine.verdict())
+    // the clauses are those of a formula
+    let _vars = formula.vars();
+    judge_whole(Checker::new(formula)?, proof)
+}
+
+/// The verdict of a checker that has read nothing so far.
+pub(crate) fn judge_whole(checker: Checker, proof: &[u8]) -> Result<Verdict, AllocError>
+    requires { checker.fed ≡ 0 }
+    ensures { IfOk result (λ v. (formula : List (List Literal)) → Stands checker formula [] → v ≡ proof_verdict formula proof.now) }
+{
+    let mut checker = checker;
+    checker.feed(proof).map_err(|_| AllocError)?;
+    checker.finish().map_err(|_| AllocError)
 }
 
 #[cfg(test)]

@@ -1,21 +1,33 @@
 //! A result with its certificate, against the instance's text. Everything that is checked is built from that text:
 //! of the certificate, only the refutation is read.
-ghost use Rattle.std.specs.Prelude.{◌≡◌, IfOk, IfSome, ◌↔◌, None};
+ghost use Rattle.std.specs.Prelude.{◌≡◌, ℕ, List, IfOk, IfSome, ◌↔◌, None};
 ghost use Rattle.lrat_check.specs.Result.{Report};
 ghost use Rattle.lrat_check.specs.Answer.{reported};
 ghost use Rattle.lrat_check.specs.Checks.{ChecksAs, IsTrueResult, IsTrueOf, HasCost};
 ghost use Rattle.lrat_check.specs.Verdict.{verdict_as, said_verdict, bits_fault};
+ghost use Rattle.lrat_check.specs.Left.{verdict_left, Shows};
 
 use crate::answer::{Answer, AnswerFault, Claim, Solution};
 use crate::certificate::check_lines;
 use crate::result::read_answer;
-use crate::verdicts::{Cause, Verdict};
+use crate::streams::check_stream;
+use crate::verdicts::{Cause, CheckFault, Verdict};
 use adder::cells::Profile;
 use bound::formulas::{formula_as, hard_formula};
 use std::alloc::{AllocError, Global};
+use std::io::Read;
 use wcnf::faults::FaultKind;
 use wcnf::reading::read;
-use wcnf::types::Instance;
+use wcnf::types::{Formula, Instance};
+
+// What is left to check once the texts but the proof were read.
+#[derive(Drop)]
+enum Left {
+    // Nothing: the verdict stands.
+    Nothing(Verdict),
+    // A proof over this formula.
+    Proof(Formula),
+}
 
 /// Checks what a solver answered on an instance, with its proof: `text` is the instance in the WCNF
 /// of the MaxSAT Evaluation 2022, `answer` what the solver printed, in the result lines of that
@@ -56,60 +68,104 @@ pub fn check_as(
     ensures yes { IfOk result (λ v. (v ≡ Verdict.Yes) ↔ ChecksAs profile text.now answer.now proof.now) }
     ensures sound { IfOk result (λ v. v ≡ Verdict.Yes → IsTrueResult text.now answer.now) }
 {
-    texts_judged(alloc, text, answer, proof, profile)
+    let left = left_of(alloc, text, answer, profile)?;
+    match left {
+        Left::Nothing(verdict) => Ok(verdict),
+        Left::Proof(formula) => check_lines(&formula, proof),
+    }
 }
 
-// The verdict on the texts. That a `Yes` is a checked certificate follows from it in `check_as`, wherever it was found.
-fn texts_judged(
+/// As `check`, with the proof from a reader, which is read up to the first faulty line, in memory that follows the live clauses. A
+/// proof of 2^64 bytes or more counts as a failed read.
+///
+/// # Errors
+///
+/// `Memory` where memory was refused, `Read` where the reader failed.
+pub fn check_from<R: Read>(
     alloc: Global,
     text: &[u8],
     answer: &[u8],
-    proof: &[u8],
-    profile: Profile,
-) -> Result<Verdict, AllocError>
-    ensures verdict { IfOk result (λ v. v ≡ verdict_as profile text.now answer.now proof.now) }
+    proof: &mut R,
+) -> Result<Verdict, CheckFault>
+    ensures verdict { IfOk result (λ v. IfSome (R.remaining proof.old) (λ bytes. v ≡ verdict_as Profile.One text.now answer.now bytes)) }
+    ensures yes { IfOk result (λ v. IfSome (R.remaining proof.old) (λ bytes. (v ≡ Verdict.Yes) ↔ ChecksAs Profile.One text.now answer.now bytes)) }
     ensures sound { IfOk result (λ v. v ≡ Verdict.Yes → IsTrueResult text.now answer.now) }
+{
+    check_from_as(alloc, text, answer, proof, Profile::One)
+}
+
+/// As `check_from`, where the formula for a cost below the told one relaxes soft clauses as `profile` says.
+pub fn check_from_as<R: Read>(
+    alloc: Global,
+    text: &[u8],
+    answer: &[u8],
+    proof: &mut R,
+    profile: Profile,
+) -> Result<Verdict, CheckFault>
+    ensures verdict { IfOk result (λ v. IfSome (R.remaining proof.old) (λ bytes. v ≡ verdict_as profile text.now answer.now bytes)) }
+    ensures yes { IfOk result (λ v. IfSome (R.remaining proof.old) (λ bytes. (v ≡ Verdict.Yes) ↔ ChecksAs profile text.now answer.now bytes)) }
+    ensures sound { IfOk result (λ v. v ≡ Verdict.Yes → IsTrueResult text.now answer.now) }
+{
+    let Ok(left) = left_of(alloc, text, answer, profile) else {
+        return Err(CheckFault::Memory);
+    };
+    match left {
+        Left::Nothing(verdict) => Ok(verdict),
+        Left::Proof(formula) => check_stream(&formula, proof),
+    }
+}
+
+// What is left to check of the texts, before a byte of the proof is read.
+fn left_of(alloc: Global, text: &[u8], answer: &[u8], profile: Profile) -> Result<Left, AllocError>
+    ensures verdict { IfOk result (λ left. (proof : List ℕ) → verdict_left left proof ≡ verdict_as profile text.now answer.now proof) }
+    ensures sound { IfOk result (λ left. Shows left (IsTrueResult text.now answer.now)) }
 {
     let instance = match read(alloc, text) {
         Ok(instance) => instance,
         Err(fault) if fault.kind == FaultKind::Memory => return Err(AllocError),
-        Err(fault) => return Ok(Verdict::No(Cause::Text, fault.line)),
+        Err(fault) => return Ok(Left::Nothing(Verdict::No(Cause::Text, fault.line))),
     };
     match read_answer(alloc, answer) {
-        Ok(answer) => judged(&instance, &answer, proof, profile),
-        Err(AnswerFault::Form(line)) => Ok(Verdict::No(Cause::ResultForm, line)),
+        Ok(answer) => left_of_answer(&instance, &answer, profile),
+        Err(AnswerFault::Form(line)) => Ok(Left::Nothing(Verdict::No(Cause::ResultForm, line))),
         Err(AnswerFault::Memory) => Err(AllocError),
     }
 }
 
-// The verdict on what was said of an instance. The bits come first, since they cost the least to check.
-fn judged(
+// What is left of what was said of an instance. The bits come first, since they cost the least to check.
+fn left_of_answer(
     instance: &Instance,
     answer: &Answer,
-    proof: &[u8],
     profile: Profile,
-) -> Result<Verdict, AllocError>
-    ensures verdict { IfOk result (λ v. v ≡ said_verdict profile instance.now (reported answer.now) proof.now) }
-    ensures sound { IfOk result (λ v. v ≡ Verdict.Yes → IsTrueOf instance.now (reported answer.now).said) }
+) -> Result<Left, AllocError>
+    ensures verdict { IfOk result (λ left. (proof : List ℕ) → verdict_left left proof ≡ said_verdict profile instance.now (reported answer.now) proof) }
+    ensures sound { IfOk result (λ left. Shows left (IsTrueOf instance.now (reported answer.now).said)) }
 {
     match &answer.claim {
         Claim::Optimum(solution) => match solution_fault(instance, solution) {
-            Some(refused) => Ok(refused),
+            Some(refused) => Ok(Left::Nothing(refused)),
             None => {
                 let formula = formula_as(instance, solution.cost.cost, profile)?;
-                check_lines(&formula, proof)
+                Ok(Left::Proof(formula))
             }
         },
         Claim::Sat(solution) => match solution_fault(instance, solution) {
-            Some(refused) => Ok(refused),
-            None => Ok(Verdict::No(Cause::StatusWithoutProof, answer.status_line)),
+            Some(refused) => Ok(Left::Nothing(refused)),
+            None => Ok(unproved(answer)),
         },
         Claim::Unsat => {
             let formula = hard_formula(instance)?;
-            check_lines(&formula, proof)
+            Ok(Left::Proof(formula))
         }
-        Claim::Limit => Ok(Verdict::No(Cause::StatusWithoutProof, answer.status_line)),
+        Claim::Limit => Ok(unproved(answer)),
     }
+}
+
+// A certificate shows nothing of the status.
+fn unproved(answer: &Answer) -> Left
+    ensures { result ≡ Left.Nothing (Verdict.No Cause.StatusWithoutProof answer.now.status_line) }
+{
+    Left::Nothing(Verdict::No(Cause::StatusWithoutProof, answer.status_line))
 }
 
 // The first fault of a solution: the number of its bits, a hard clause that they break, a cost that they do not have.

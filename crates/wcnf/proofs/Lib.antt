@@ -19,3 +19,4 @@ pub mod Limits
 pub mod FromLines
 pub mod Items
 pub mod AheadLaws
+pub mod Feeds

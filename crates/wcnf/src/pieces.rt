@@ -4,7 +4,7 @@ ghost use Rattle.std.specs.Iterator.{YieldsFirstBy, YieldsFirstRef, item_count};
 ghost use Rattle.std.specs.List.{prefix_len, position_or_len};
 ghost use Rattle.std.specs.Str.Lines.{strip_carriage_return};
 ghost use Rattle.wcnf.specs.Ahead.{IsNextWord};
-ghost use Rattle.wcnf.specs.Text.{is_blank, numbered_text, tokens_of};
+ghost use Rattle.wcnf.specs.Text.{is_blank, numbered_text, tokens_of, IsNoFeed, IsFirstFeed};
 
 use crate::words::{Word, begins_with, literal_at, read_word};
 use memchr::memchr;
@@ -67,8 +67,18 @@ impl<'a> Iterator for Lines<'a> {
     }
 }
 
-// The bytes before a line feed, less one carriage return at their end.
-fn without_return(line: &[u8]) -> &[u8]
+/// Where the first line feed stands.
+pub fn line_feed_at(text: &[u8]) -> Option<usize>
+    ensures { MatchOption result (IsNoFeed text.now) (IsFirstFeed text.now) }
+{
+    match memchr(b'\n', text) {
+        Some(end) => Some(end),
+        None => None,
+    }
+}
+
+/// The bytes before a line feed, less one carriage return at their end.
+pub fn without_return(line: &[u8]) -> &[u8]
     ensures { result.now ≡ strip_carriage_return line.now }
 {
     match line {

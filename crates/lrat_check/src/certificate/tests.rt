@@ -1,5 +1,6 @@
 // Certificates over the four clauses of two variables, and over four clauses that share two literals.
 use super::*;
+use crate::machine::Machine;
 use crate::verdicts::Cause;
 use bound::formulas::hard_formula;
 use std::test::Fail;

@@ -1,0 +1,13 @@
+-- After a fault the piece is dropped.
+use Rattle.std.proofs.Common.{◌∙◌, sym, subst, arith, length-append}
+use Rattle.lrat_check.specs.Pieces.{CheckerState, Stands}
+use Rattle.lrat_check.proofs.PieceLaws.{holds_more, some_from_true}
+use Rattle.lrat_check.proofs.pieces.Checker.feed.Goals as goal
+
+pub returns-then-is_some-clause-stands : goal.returns-then-is_some-clause-stands
+returns-then-is_some-clause-stands c = λ formula bytes s.
+    let inside = subst (λ (x : CheckerState). Stands x formula bytes) (sym c.self.view_is) s in
+    record {
+      fed = omega (arith, inside.fed, length-append bytes c.args.piece.now);
+      holds = holds_more c.self.inside.reading formula bytes c.args.piece.now (some_from_true _ (sym c.is_some.ensures ∙ c.if-is_some.true)) inside.holds;
+    }

@@ -1,0 +1,18 @@
+-- What is left to check of a text and a result, before the certificate is read.
+use Rattle.std.specs.Prelude.{◌≡◌, ℕ, List}
+use Rattle.wcnf.specs.Formula.{IsUnsatisfiable}
+use Rattle.lrat_check.specs.declared.checking.Left.{Left}
+use Rattle.lrat_check.specs.declared.checking.Left.TheVariants.{Nothing, Proof}
+use Rattle.lrat_check.specs.declared.verdicts.Verdict.{Verdict}
+use Rattle.lrat_check.specs.declared.verdicts.Verdict.TheVariants.{Yes}
+use Rattle.lrat_check.specs.Verdict.{proof_verdict}
+
+-- the verdict with this certificate
+abbrev pub verdict_left : Left → List ℕ → Verdict
+verdict_left (Nothing v) proof = v
+verdict_left (Proof f) proof = proof_verdict f.clauses proof
+
+-- a yes, or a refutation, shows it
+abbrev pub Shows : Left → Type 0 → Type 0
+Shows (Nothing v) P = v ≡ Yes → P
+Shows (Proof f) P = IsUnsatisfiable f.clauses → P

@@ -1,0 +1,65 @@
+-- A checker that is handed the certificate in pieces.
+use Rattle.std.specs.Prelude.{◌≡◌, ℕ, Bool, List, [], ◌∷◌, ◌++◌, length, Option, Some, None, ◌⊎◌, IfSome}
+use Rattle.wcnf.specs.Literal.{Literal}
+use Rattle.wcnf.specs.Text.{token_lines, tokens_of, IsNoFeed}
+use Rattle.lrat_check.specs.declared.verdicts.Cause.{Cause}
+use Rattle.lrat_check.specs.declared.verdicts.Verdict.{Verdict}
+use Rattle.lrat_check.specs.declared.verdicts.Verdict.TheVariants.{No}
+use Rattle.lrat_check.specs.declared.reading.Reading.{Reading}
+use Rattle.lrat_check.specs.Machine.{MachineState, verdict_after}
+use Rattle.lrat_check.specs.Verdict.{proof_verdict}
+
+-- nothing, or lines that are each ended by a line feed
+abbrev pub IsEnded : List ℕ → Type 0
+IsEnded bytes = (bytes ≡ []) ⊎ ((front : List ℕ) × (bytes ≡ front ++ 10 ∷ []))
+
+-- no ended line of the bytes is faulty: the rest is what follows the last of them, and from the machine the verdict follows, whatever comes
+pub record IsOpen (r : Reading) (formula : List (List Literal)) (bytes : List ℕ) : Type 0 where
+  pub done : List ℕ
+  pub split : bytes ≡ done ++ (r.rest).items
+  pub ended : IsEnded done
+  pub unfinished : IsNoFeed (r.rest).items
+  pub resumes : (more : List ℕ) → verdict_after r.machine (token_lines more) ≡ proof_verdict formula (done ++ more)
+
+-- this is the verdict from one of the ended lines of the bytes on, whatever comes
+pub record IsRefused (v : Verdict) (formula : List (List Literal)) (bytes : List ℕ) : Type 0 where
+  pub done : List ℕ
+  pub after : List ℕ
+  pub split : bytes ≡ done ++ after
+  pub ended : IsEnded done
+  pub cause : Cause
+  pub line : ℕ
+  pub fault : v ≡ No cause line
+  pub stays : (more : List ℕ) → proof_verdict formula (done ++ more) ≡ v
+
+-- what was read stands for these bytes over the clauses
+pub record Holds (r : Reading) (formula : List (List Literal)) (bytes : List ℕ) : Type 0 where
+  pub open_end : r.refused ≡ None → IsOpen r formula bytes
+  pub refused : (v : Verdict) → r.refused ≡ Some v → IsRefused v formula bytes
+
+-- the line leads on to a state, or it is the first fault
+abbrev pub Judges : MachineState → List ℕ → MachineState → Option Verdict → Type 0
+Judges old line new None = (more : List (List (List ℕ))) → verdict_after old (tokens_of line ∷ more) ≡ verdict_after new more
+Judges old line new (Some v) = ((cause : Cause) × (n : ℕ) × (v ≡ No cause n)) × ((more : List (List (List ℕ))) → verdict_after old (tokens_of line ∷ more) ≡ v)
+
+-- all but the left part of the piece was read
+pub record HasTaken (old new : Reading) (piece left : List ℕ) : Type 0 where
+  pub taken : List ℕ
+  pub split : piece ≡ taken ++ left
+  pub holds : (formula : List (List Literal)) (bytes : List ℕ) → Holds old formula bytes → Holds new formula (bytes ++ taken)
+
+pub record CheckerState : Type 0 where
+  pub reading : Reading
+  pub fed : ℕ
+  pub failed : Bool
+
+-- the checker stands for these bytes over the clauses
+pub record Stands (c : CheckerState) (formula : List (List Literal)) (bytes : List ℕ) : Type 0 where
+  pub fed : c.fed ≡ length bytes
+  pub holds : Holds c.reading formula bytes
+
+-- the verdict is that on some bytes, which are those of the reader where they are known
+pub record IsJudged (remaining : Option (List ℕ)) (formula : List (List Literal)) (v : Verdict) : Type 0 where
+  pub bytes : List ℕ
+  pub verdict : v ≡ proof_verdict formula bytes
+  pub all : IfSome remaining (λ all. v ≡ proof_verdict formula all)

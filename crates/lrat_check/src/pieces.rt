@@ -1,0 +1,114 @@
+//! A certificate in pieces.
+ghost use Rattle.std.specs.Prelude.{◌≡◌, ℕ, ◌+◌, ◌<◌, ◌^◌, true, false, List, [], ◌++◌, length, None, Err, IfOk, OnOk, IfSome, IsErr, IsOk, IsSome, ◌↔◌};
+ghost use Rattle.wcnf.specs.Literal.{Literal};
+ghost use Rattle.lrat_check.specs.Pieces.{Stands};
+ghost use Rattle.lrat_check.specs.Verdict.{proof_verdict};
+
+use crate::machine::Machine;
+use crate::reading::Reading;
+use crate::verdicts::{FeedFault, Verdict};
+use std::alloc::AllocError;
+use std::marker::Model;
+use wcnf::types::Formula;
+
+/// Judges an LRAT certificate while it comes in, in pieces of any size (Cruz-Filipe et al. 2017). A line is judged once its line
+/// feed is there; what follows the last line feed is all of the text that is kept.
+#[derive(Drop)]
+pub struct Checker {
+    reading: Reading,
+    fed: u64,
+    failed: bool,
+}
+
+impl Model for Checker {
+    ghost use Rattle.std.specs.Prelude.{◌≡◌, ◌+◌, ◌≤◌, true, None, length};
+    ghost use Rattle.lrat_check.specs.Pieces.{CheckerState};
+
+    ghost Value = { CheckerState };
+
+    ghost view = { λ c. record { reading = c.reading; fed = c.fed; failed = c.failed } };
+
+    ghost invariant = { λ c. (((c.reading).machine).lines + length ((c.reading).rest).items ≤ c.fed) × (c.failed ≡ true → (c.reading).refused ≡ None) };
+}
+
+impl Checker {
+    /// The checker before the first byte.
+    ///
+    /// # Errors
+    ///
+    /// `AllocError` where memory was refused.
+    pub fn new(formula: &Formula) -> Result<Self, AllocError>
+        ensures stands { IfOk result (λ c. Stands c formula.now.clauses []) }
+        ensures works { IfOk result (λ c. c.failed ≡ false) }
+    {
+        Ok(Checker {
+            reading: Reading {
+                machine: Machine::new(formula)?,
+                rest: Vec::new(formula.allocator()),
+                refused: None,
+            },
+            fed: 0,
+            failed: false,
+        })
+    }
+
+    /// How many bytes it was handed, whatever it answered.
+    pub fn fed(&self) -> u64
+        ensures { result ≡ self.now.fed }
+    {
+        self.fed
+    }
+
+    /// Takes the piece after those before. After a fault of the certificate, what comes is dropped.
+    ///
+    /// # Errors
+    ///
+    /// `Memory` where memory was refused, and `Failed` after that.
+    pub fn feed(&mut self, piece: &[u8]) -> Result<(), FeedFault>
+        requires { self.old.fed + length piece.now < 2 ^ 64 }
+        ensures stands { OnOk result ((formula : List (List Literal)) (bytes : List ℕ) → Stands self.old formula bytes → Stands self.new formula (bytes ++ piece.now)) }
+        ensures fed { self.new.fed ≡ self.old.fed + length piece.now }
+        ensures failed { (result ≡ Err FeedFault.Failed) ↔ (self.old.failed ≡ true) }
+        ensures fails { IsErr result ↔ (self.new.failed ≡ true) }
+        ensures after_no { IsSome (self.old.reading).refused → IsOk result × ((self.new.reading).refused ≡ (self.old.reading).refused) }
+    {
+        self.fed += piece.len() as u64;
+        if self.failed {
+            return Err(FeedFault::Failed);
+        }
+        if self.reading.refused.is_some() {
+            return Ok(());
+        }
+        match self.reading.take(piece) {
+            Ok(()) => Ok(()),
+            Err(AllocError) => {
+                self.failed = true;
+                self.reading.refused = None;
+                Err(FeedFault::Memory)
+            }
+        }
+    }
+
+    /// The fault of the first faulty line that a line feed has ended, where there is one. It is the verdict whatever comes.
+    pub fn refused(&self) -> Option<Verdict>
+        ensures refused { result ≡ (self.now.reading).refused }
+        ensures stays { IfSome result (λ v. (formula : List (List Literal)) (bytes more : List ℕ) → Stands self.now formula bytes → v ≡ proof_verdict formula (bytes ++ more)) }
+    {
+        self.reading.refused
+    }
+
+    /// The verdict on all that it was handed.
+    ///
+    /// # Errors
+    ///
+    /// `Memory` where memory was refused, and `Failed` where `feed` answered that before.
+    pub fn finish(self) -> Result<Verdict, FeedFault>
+        ensures verdict { IfOk result (λ v. (formula : List (List Literal)) (bytes : List ℕ) → Stands self formula bytes → v ≡ proof_verdict formula bytes) }
+        ensures failed { (result ≡ Err FeedFault.Failed) ↔ (self.failed ≡ true) }
+    {
+        if self.failed {
+            return Err(FeedFault::Failed);
+        }
+        self.reading.end().map_err(|_| FeedFault::Memory)
+    }
+}

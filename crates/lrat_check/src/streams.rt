@@ -1,0 +1,70 @@
+// A certificate that a reader gives.
+ghost use Rattle.std.specs.Prelude.{◌≡◌, ℕ, ◌+◌, ◌<◌, ◌^◌, [], ◌++◌, List, length, IfOk, IfErr, IfSome, OnOk};
+ghost use Rattle.wcnf.specs.Literal.{Literal};
+ghost use Rattle.wcnf.specs.Formula.{IsUnsatisfiable};
+ghost use Rattle.lrat_check.specs.Pieces.{Stands, IsJudged};
+ghost use Rattle.lrat_check.specs.Verdict.{proof_verdict};
+
+use crate::pieces::Checker;
+use crate::verdicts::{CheckFault, Verdict};
+use std::io::Read;
+use wcnf::types::Formula;
+
+/// As `check_lines`, with the certificate from a reader.
+pub(crate) fn check_stream<R: Read>(formula: &Formula, proof: &mut R) -> Result<Verdict, CheckFault>
+    ensures verdict { IfOk result (λ v. IfSome (R.remaining proof.old) (λ bytes. v ≡ proof_verdict formula.now.clauses bytes)) }
+    ensures sound { IfOk result (λ v. v ≡ Verdict.Yes → IsUnsatisfiable formula.now.clauses) }
+{
+    // the clauses are those of a formula
+    let _vars = formula.vars();
+    let Ok(checker) = Checker::new(formula) else {
+        return Err(CheckFault::Memory);
+    };
+    judge_stream(checker, proof)
+}
+
+/// The verdict on the bytes of the reader, which is read up to the first faulty line. A certificate of 2^64 bytes or more counts as a
+/// failed read.
+fn judge_stream<R: Read>(checker: Checker, proof: &mut R) -> Result<Verdict, CheckFault>
+    ensures { IfOk result (λ v. (formula : List (List Literal)) → Stands checker formula [] → IsJudged (R.remaining proof.old) formula v) }
+{
+    let mut checker = checker;
+    let mut chunk = [0u8; 65536];
+    'pieces: loop {
+        if let Some(refused) = checker.refused() {
+            return Ok(refused);
+        }
+        let count = match proof.read(&mut chunk) {
+            Ok(0) => return ended(checker),
+            Ok(count) => count,
+            Err(_) => return Err(CheckFault::Read),
+        };
+        if checker.fed() > u64::MAX - count as u64 {
+            return Err(CheckFault::Read);
+        }
+        hand_on(&mut checker, &chunk[..count])?;
+    }
+}
+
+/// Hands the piece to the checker.
+fn hand_on(checker: &mut Checker, piece: &[u8]) -> Result<(), CheckFault>
+    requires { checker.old.fed + length piece.now < 2 ^ 64 }
+    ensures stands { OnOk result ((formula : List (List Literal)) (bytes : List ℕ) → Stands checker.old formula bytes → Stands checker.new formula (bytes ++ piece.now)) }
+    ensures fed { checker.new.fed ≡ checker.old.fed + length piece.now }
+{
+    match checker.feed(piece) {
+        Ok(()) => Ok(()),
+        Err(_) => Err(CheckFault::Memory),
+    }
+}
+
+/// The verdict, where nothing follows.
+fn ended(checker: Checker) -> Result<Verdict, CheckFault>
+    ensures verdict { IfOk result (λ v. (formula : List (List Literal)) (bytes : List ℕ) → Stands checker formula bytes → v ≡ proof_verdict formula bytes) }
+    ensures fault { IfErr result (λ fault. fault ≡ CheckFault.Memory) }
+{
+    match checker.finish() {
+        Ok(verdict) => Ok(verdict),
+        Err(_) => Err(CheckFault::Memory),
+    }
+}

@@ -1,0 +1,76 @@
+#!/usr/bin/env bash
+# A certificate in pieces has the verdict of its joined bytes: certificates and mutations of them, cut at every place, byte by byte
+# and from readers, by a driver that is run with no proof. Then the program: from a pipe, from a FIFO, up to the first faulty line,
+# and in memory that does not grow with the certificate.
+#   tests/pieces.sh [SEED..]
+source "$(dirname "$0")/lib"
+
+below='wcnf adder bound lrat_read lrat_check'
+mkdir -p "$work/crates/drive/src"
+for crate in $below; do
+    cp -r "crates/$crate" "$work/crates"
+    rm -rf "$work/crates/$crate/out"
+    grep -E "^$crate:" crates.txt >> "$work/crates.txt"
+done
+cp tests/pieces.drive "$work/crates/drive/src/main.rt"
+echo 'drive: wcnf adder bound lrat_check' >> "$work/crates.txt"
+
+# driven NAME SEED ROUNDS: of text, result and proof
+driven() {
+    out=$(cd "$work/crates/drive" && "${RT:-rt}" try --steps 1000000000 --seconds 100 -- "$work/text" "$work/result" "$work/proof" "$2" "$3" \
+        2> "$work/.err" | grep -E '^(ok |[a-z])' | head -n 1)
+    status=0
+    err=
+    expect "$1, seed $2" 0 "ok $3" ''
+}
+
+[ $# -gt 0 ] || set -- 1
+for seed; do
+    lines text 'h 1 2 0' 'h -1 2 0' 'h 1 -2 0' 'h -1 -2 0'
+    lines result 's UNSATISFIABLE'
+    lines proof '5 2 0 1 2 0' '6 0 5 3 4 0'
+    driven 'two RUP lines' "$seed" 300
+    lines proof '5 3 1 0 0' '6 -3 2 0 -5 1 0' '7 2 0 1 2 0' '8 0 7 3 4 0'
+    driven 'a definition' "$seed" 300
+    printf '\r\n5 2\t0 1 2 0 \r\n5 d 1 2 0\n\n6 0 5  3 4 0' > "$work/proof"
+    driven 'blanks, CR LF and no LF at the end' "$seed" 300
+    for name in packages timetable vcover; do
+        cp "examples/$name.wcnf" "$work/text"
+        cp "examples/$name.result" "$work/result"
+        cp "examples/$name.lrat" "$work/proof"
+        driven "$name" "$seed" 20
+    done
+done
+
+# the program
+run check "$PWD/examples/mul8.wcnf" "$PWD/examples/mul8.result" "$PWD/examples/mul8.lrat"
+expect 'a file' 0 YES ''
+mkfifo "$work/fifo"
+cat examples/mul8.lrat > "$work/fifo" &
+run check "$PWD/examples/mul8.wcnf" "$PWD/examples/mul8.result" fifo
+expect 'a FIFO' 0 YES ''
+out=$("$wmax" check examples/mul8.wcnf examples/mul8.result <(cat examples/mul8.lrat) 2> "$work/.err")
+status=$?
+err=$(cat "$work/.err")
+expect 'a pipe' 0 YES ''
+run check "$PWD/examples/mul8.wcnf" "$PWD/examples/mul8.result" .
+expect 'a folder is no certificate' 3 '' 'error: Read'
+
+# A certificate of a hundred megabytes, and what follows its first faulty line, which is not read.
+lines text 'h 1 2 0' 'h -1 2 0' 'h 1 -2 0' 'h -1 -2 0'
+lines result 's UNSATISFIABLE'
+many() {
+    awk 'BEGIN { for (i = 5; i < 3000005; i++) { print i, "2 0 1 2 0"; print i, "d", i, 0 } print "3000005 2 0 1 2 0"; print "3000006 0 3000005 3 4 0" }'
+}
+peak() {
+    many > "$work/fifo" &
+    (cd "$work" && /usr/bin/time -o peak -f %M "$wmax" check text result fifo)
+}
+ok 'a certificate of a hundred megabytes' [ "$(peak)" = YES ]
+ok "it takes little memory: $(cat "$work/peak") kB" [ "$(cat "$work/peak")" -lt 16384 ]
+lines proof '5 d 9 0'
+out=$(cd "$work" && { cat proof; yes 2> /dev/null; } | timeout 20 "$wmax" check text result /dev/stdin 2> .err)
+status=$?
+err=$(cat "$work/.err")
+expect 'what follows a faulty line is not read' 1 'NO DeadId 1' ''
+totals
