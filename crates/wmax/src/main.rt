@@ -8,7 +8,8 @@ use bound::encoding::write_formula;
 use cdcl::budget::Budget;
 use clap::ArgMatches;
 use clap::error::ErrorKind;
-use lrat_check::checking::check_as;
+use lrat_check::checking::check_from_as;
+use lrat_check::verdicts::CheckFault;
 use placing::open_proof;
 use report::fault::RunFault;
 use report::options::{self, MOST_CONFLICTS, MOST_COST};
@@ -80,7 +81,8 @@ fn solved<R: Files + AllocGlobal + Print>(
     Ok(status.code())
 }
 
-/// `wmax check`: the files are opened in their order before any is read, and read in their order before the verdict.
+/// `wmax check`: the files are opened in their order before any is read, and read in their order. The certificate is judged while it
+/// is read, so none of it is kept but the clauses that are live.
 fn checked<R: Files + AllocGlobal + Print>(
     rt: &R,
     matches: &ArgMatches<'_>,
@@ -97,10 +99,11 @@ fn checked<R: Files + AllocGlobal + Print>(
     let mut proof = File::open(rt, proof).map_err(|_| UNREADABLE)?;
     let text = contents(rt, &mut text)?;
     let answer = contents(rt, &mut answer)?;
-    let proof = contents(rt, &mut proof)?;
-    let verdict = check_as(rt.alloc(), &text, &answer, &proof, profile(matches)).map_err(
-        |_| RunFault::Memory,
-    )?;
+    let verdict = match check_from_as(rt.alloc(), &text, &answer, &mut proof, profile(matches)) {
+        Ok(verdict) => verdict,
+        Err(CheckFault::Memory) => return Err(RunFault::Memory),
+        Err(CheckFault::Read) => return Err(UNREADABLE),
+    };
     let mut out = io::writer(rt);
     delivered(print_verdict(&verdict, &mut out), &mut out)?;
     Ok(verdict_code(&verdict))
