@@ -35,7 +35,7 @@ none_left ids n le =
     ]
 
 -- the literals of a candidate but one
-ne_codes : (k l : Literal) → not ((2 * l.variable + cond l.negated 1 0) == (2 * k.variable + cond k.negated 1 0)) ≡ true → literal_eq k l ≡ false
+pub ne_codes : (k l : Literal) → not ((2 * l.variable + cond l.negated 1 0) == (2 * k.variable + cond k.negated 1 0)) ≡ true → literal_eq k l ≡ false
 ne_codes k l h =
     false_from_ne_true _ (λ e.
     let same : k ≡ l = literal_eq-true k l e in

@@ -24,7 +24,6 @@ pub mod Clauses
 pub mod Lookup
 pub mod Moves
 pub mod Tables
-pub mod Occurrences
-pub mod Marks
+pub mod CountLaws
 pub mod PieceLaws
 pub mod LeftLaws

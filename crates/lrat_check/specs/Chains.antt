@@ -1,8 +1,12 @@
 -- Hash chains in vectors. A key's bucket has the newest of its keys at its head, and each key is linked to the next older one of its bucket. Places count from 1, and 0 is none.
-use Rattle.std.specs.Prelude.{◌≡◌, ℕ, zero, suc, ◌-◌, ◌<◌, Bool, List, [], ◌∷◌, length, take, ◌==◌, bit_and, slice_index, if◌then◌else◌}
+use Rattle.std.specs.Prelude.{◌≡◌, ℕ, zero, suc, ◌-◌, ◌/◌, ◌<◌, Bool, List, [], ◌∷◌, length, take, ◌==◌, bit_and, bit_xor, slice_index, if◌then◌else◌}
+
+-- all bits of a key, folded into its low ones
+abbrev pub folded : ℕ → ℕ
+folded key = bit_xor (bit_xor (bit_xor key (key / 65536)) (key / 4294967296)) (key / 281474976710656)
 
 abbrev pub bucket_of : ℕ → ℕ → ℕ
-bucket_of buckets key = bit_and key (buckets - 1)
+bucket_of buckets key = bit_and (folded key) (buckets - 1)
 
 abbrev pub is_in_bucket : ℕ → ℕ → ℕ → Bool
 is_in_bucket buckets bucket key = bucket_of buckets key == bucket

@@ -10,6 +10,6 @@ pub mod Vectors
 pub mod Answer
 pub mod Chains
 pub mod Table
-pub mod Occurrences
+pub mod Counts
 pub mod Pieces
 pub mod Left

@@ -1,18 +1,20 @@
 // The live clauses of a certificate by id, in flat memory: it grows with what is live, and not with the length of the certificate.
-ghost use Rattle.std.specs.Prelude.{◌≡◌, ◌<◌, ◌≤◌, ◌^◌, ◌↔◌, ◌∷◌, [], ◌++◌, ◌/◌, All, IsTrue, IsSome, OnOk, OnErr, length};
+ghost use Rattle.std.specs.Prelude.{◌≡◌, ◌<◌, ◌≤◌, ◌^◌, ◌↔◌, ◌∷◌, [], ◌++◌, ◌/◌, All, IfOk, IsTrue, IsSome, OnOk, OnErr, length};
 ghost use Rattle.std.specs.Option.{option_copied};
-ghost use Rattle.lrat_check.specs.Listed.{listed_at, without_id, ids_listed, IsRising};
+ghost use Rattle.lrat_check.specs.Counts.{times_at, take_all};
+ghost use Rattle.lrat_check.specs.Listed.{listed_at, without_id, ids_listed};
+ghost use Rattle.lrat_check.specs.Verdict.{same_ids};
 
 mod append;
+mod counts;
 mod entries;
-mod occurrences;
 mod reclaim;
 #[cfg(test)]
 mod tests;
 
 use crate::live::append::append;
+use crate::live::counts::{count_all, count_last, count_of, count_out, is_next, times_in};
 use crate::live::entries::{Entry, find, is_above};
-use crate::live::occurrences::Occurrences;
 use crate::live::reclaim::reclaim;
 use std::alloc::{AllocError, Global};
 use std::marker::Model;
@@ -35,22 +37,24 @@ pub(crate) struct LiveClauses {
     heads: Vec<u32>,
     /// What reclaiming would free, in literals.
     dead: usize,
-    /// For the clauses of a literal.
-    occurrences: Occurrences,
+    /// Whether the literals of the live clauses are counted, as they are from the first RAT line on.
+    is_counted: bool,
+    /// By a literal's index, how often it stands in the live clauses, if they are counted; a literal past the end stands in none.
+    counts: Vec<u32>,
 }
 
 impl Model for LiveClauses {
-    ghost use Rattle.std.specs.Prelude.{ℕ, List};
+    ghost use Rattle.std.specs.Prelude.{◌≡◌, ℕ, List, true};
     ghost use Rattle.wcnf.specs.Literal.{Literal};
 
     ghost Value = { List (ℕ × List Literal) };
 
     ghost use Rattle.lrat_check.specs.Table.{cells_of, clauses_in, IsTable};
-    ghost use Rattle.lrat_check.specs.Occurrences.{IsIndexed};
+    ghost use Rattle.lrat_check.specs.Counts.{AreCounts};
 
     ghost view = { λ s. clauses_in s.lits.items (cells_of s.entries.items) };
 
-    ghost invariant = { λ s. IsTable s.lits.items s.entries.items s.heads.items × IsIndexed s.lits.items (cells_of s.entries.items) s.occurrences.heads.items s.occurrences.marks.items s.occurrences.indexed };
+    ghost invariant = { λ s. IsTable s.lits.items s.entries.items s.heads.items × (s.is_counted ≡ true → AreCounts s.counts.items (clauses_in s.lits.items (cells_of s.entries.items))) };
 }
 
 impl LiveClauses {
@@ -63,7 +67,8 @@ impl LiveClauses {
             entries: Vec::new(alloc),
             heads: Vec::new(alloc),
             dead: 0,
-            occurrences: Occurrences::new(alloc),
+            is_counted: false,
+            counts: Vec::new(alloc),
         }
     }
 
@@ -78,9 +83,10 @@ impl LiveClauses {
         if !is_above(&self.entries, id) || is_mostly_dead(self.dead, all) {
             reclaim(&mut self.lits, &mut self.entries, &mut self.heads);
             self.dead = 0;
-            self.occurrences.clear();
         }
-        append(&mut self.lits, &mut self.entries, &mut self.heads, id, lits)
+        append(&mut self.lits, &mut self.entries, &mut self.heads, id, lits)?;
+        self.is_counted = count_last(self.is_counted, &mut self.counts, lits);
+        Ok(())
     }
 
     /// The clause under an id, if it is live.
@@ -110,22 +116,52 @@ impl LiveClauses {
             return false;
         }
         entry.live = false;
+        let start = entry.start as usize;
         let length = entry.length as usize;
         self.dead = self.dead.saturating_add(ENTRY + length);
+        let clause = &self.lits[start..start + length];
+        count_out(self.is_counted, &mut self.counts, clause);
         true
     }
 
-    /// The ids of the clauses with the literal, in rising order, in place of what ids held. An AllocError comes where memory was refused, or where there are 2^32 - 2 literals; ids may then hold anything.
-    pub(crate) fn with_literal(&mut self, lit: Lit, ids: &mut Vec<u64>) -> Result<(), AllocError>
-        ensures ids { OnOk result (ids.new.items ≡ ids_listed lit self.old) }
+    /// Whether these ids are those of the clauses with the literal, in rising order. An AllocError comes where memory was refused, or
+    /// where a literal stands in the clauses 2^32 times.
+    pub(crate) fn are_all_with(&mut self, lit: Lit, ids: &[u64]) -> Result<bool, AllocError>
+        requires { All (λ e. 0 < e.0) self.old }
+        ensures all { IfOk result (λ all. all ≡ same_ids ids.now (ids_listed lit self.old)) }
         ensures same { self.new ≡ self.old }
-        ensures rising { IsRising self.old }
     {
-        self.occurrences.index(&self.lits, &self.entries)?;
-        ids.clear();
-        self.occurrences.collect(&self.entries, lit, ids)?;
-        ids.reverse();
-        Ok(())
+        count_all(self.is_counted, &mut self.counts, &self.lits, &self.entries)?;
+        self.is_counted = true;
+        let total = count_of(&self.counts, lit);
+        Ok(self.take_all(lit, total, ids))
+    }
+
+    /// Whether the ids rise and their clauses have the literal so often together, each at least once.
+    fn take_all(&self, lit: Lit, total: usize, ids: &[u64]) -> bool
+        ensures { result ≡ take_all (times_at lit self.now) total 0 ids.now }
+    {
+        let mut before = 0;
+        let mut left = total;
+        for id in ids {
+            let times = self.times_at(lit, *id);
+            if !is_next(before, *id, times, left) {
+                return false;
+            }
+            left -= times;
+            before = *id;
+        }
+        left == 0
+    }
+
+    /// How often the literal stands in the clause under an id, if it is live.
+    fn times_at(&self, lit: Lit, id: u64) -> usize
+        ensures { result ≡ times_at lit self.now id }
+    {
+        match self.find(id) {
+            Some(clause) => times_in(lit, clause),
+            None => 0,
+        }
     }
 }
 

@@ -17,20 +17,17 @@ use lrat_read::types::SignedId;
 use std::alloc::AllocError;
 use wcnf::types::Lit;
 
-/// Whether the ids with a dash are these, in this order.
-fn names(hints: &[SignedId], ids: &[u64]) -> bool
-    ensures { result ≡ same_ids (map (λ g. g.candidate) (groups_of hints.now)) ids.now }
+/// The ids with a dash, in their order, in place of what ids held.
+fn candidates_of(hints: &[SignedId], ids: &mut Vec<u64>) -> Result<(), AllocError>
+    ensures { OnOk result (ids.new.items ≡ map (λ g. g.candidate) (groups_of hints.now)) }
 {
-    let mut named = 0;
+    ids.clear();
     for hint in hints {
         if hint.is_dashed() {
-            if named == ids.len() || ids[named] != hint.id() {
-                return false;
-            }
-            named += 1;
+            ids.push(hint.id())?;
         }
     }
-    named == ids.len()
+    Ok(())
 }
 
 /// Whether a literal other than the left out one is true.
@@ -125,8 +122,9 @@ pub(crate) fn rat_fault(
     ensures live { live.new ≡ live.old }
     ensures variables { assumed.new.variables ≡ assumed.old.variables }
 {
-    live.with_literal(pivot.negation(), candidates)?;
-    if !names(hints, candidates) {
+    candidates_of(hints, candidates)?;
+    let named_all = live.are_all_with(pivot.negation(), candidates)?;
+    if !named_all {
         return Ok(Some(Cause::Candidates));
     }
     groups_fault(hints, pivot, live, assumed)

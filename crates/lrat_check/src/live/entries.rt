@@ -1,6 +1,6 @@
 // The entries of the live clauses, and the chains by which an id is found among them.
 ghost use Rattle.std.specs.Prelude.{◌≡◌, ℕ, ◌+◌, ◌-◌, ◌<◌, ◌≤◌, ◌^◌, length, MatchOption, OnOk, IsTrue, ◌↔◌};
-ghost use Rattle.lrat_check.specs.Chains.{bucket_of, place_of, IsChained};
+ghost use Rattle.lrat_check.specs.Chains.{folded, bucket_of, place_of, IsChained};
 ghost use Rattle.lrat_check.specs.Table.{cells_of, keys_of, nexts_of, IsAboveLast};
 
 use std::alloc::AllocError;
@@ -16,14 +16,22 @@ pub(crate) struct Entry {
     pub(crate) live: bool,
 }
 
-/// Ids mostly have no gaps, so their low bits spread them.
+/// All bits of an id, folded into its low ones. Ids that have no gaps, as most have none, stay beside one another.
+#[inline]
+fn folded(id: u64) -> u64
+    ensures { result ≡ folded id }
+{
+    id ^ (id / 65_536) ^ (id / 4_294_967_296) ^ (id / 281_474_976_710_656)
+}
+
+/// The bucket of an id.
 #[inline]
 pub(crate) fn bucket(id: u64, buckets: usize) -> usize
     requires { 0 < buckets }
     ensures value { result ≡ bucket_of buckets id }
     ensures within { result < buckets }
 {
-    (id & (buckets as u64 - 1)) as usize
+    (folded(id) & (buckets as u64 - 1)) as usize
 }
 
 /// The place of an id, from 0.

@@ -2,8 +2,6 @@ use Rattle.std.proofs.Common.{◌<◌, List, ℕ}
 use Rattle.std.specs.Prelude.{All}
 use Rattle.wcnf.specs.Literal.{Literal}
 use Rattle.lrat_check.specs.Table.{cells_of, keys_of, clauses_in, IsAboveLast, IsTable}
-use Rattle.lrat_check.specs.Occurrences.{IsIndexed}
-use Rattle.lrat_check.proofs.Marks.{indexed_none, indexed_after}
 use Rattle.lrat_check.proofs.Tables.{live_above}
 use Rattle.lrat_check.proofs.live.LiveClauses.add.Goals as goal
 use Rattle.lrat_check.proofs.live.LiveClauses.add.Goals.{then-not-is_above, else-not-is_above+else-is_mostly_dead}
@@ -20,13 +18,3 @@ append-requires-clause-above c =
           let h : IsAboveLast c.args.id (keys_of (cells_of s.entries.items)) = rw (← c.deref.ensures.value) (c.is_above.ensures.0 w.if-not-is_above.false) in
           rw w.self-inside-is h
     ]
-
-pub invariant_of-self : goal.invariant_of-self
-invariant_of-self c =
-    let s = c.if-not-is_above.self-inside in
-    let before : IsTable s.lits.items s.entries.items s.heads.items × IsIndexed s.lits.items (cells_of s.entries.items) s.occurrences.heads.items s.occurrences.marks.items s.occurrences.indexed =
-    elim c.if-not-is_above.branch [
-      | then-not-is_above w ↦ rw (w.self-inside-is, w.clear.ensures.heads, w.clear.ensures.marks, w.clear.ensures.indexed) (w.reclaim.ensures.table, indexed_none w.reclaim.new.lits.items (cells_of w.reclaim.new.entries.items))
-      | else-not-is_above+else-is_mostly_dead w ↦ rw w.self-inside-is c.self.invariant
-    ] in
-    (c.append.ensures.table, indexed_after c.append.result s.lits.items c.append.new.lits.items (cells_of s.entries.items) (cells_of c.append.new.entries.items) s.occurrences.heads.items s.occurrences.marks.items s.occurrences.indexed c.append.ensures.kept c.append.ensures.err_literals c.append.ensures.err_entries before.0.laid before.1)

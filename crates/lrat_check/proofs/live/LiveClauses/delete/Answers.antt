@@ -1,10 +1,14 @@
-use Rattle.std.proofs.Common.{◌≡◌, ◌+◌, arith, ap, sym, ◌∙◌, false, rules, ℕ, get_or, set}
+use Rattle.std.proofs.Common.{◌≡◌, ◌+◌, ◌≤◌, ◌++◌, List, Some, false, arith, sym, subst, rules, ℕ, length, take, drop, set}
 use Rattle.lrat_check.specs.Chains.{place_of}
-use Rattle.lrat_check.specs.Table.{Cell, cell_of, cells_of, keys_of}
-use Rattle.std.proofs.lemmas.List.{get_or-map, map-set}
+use Rattle.lrat_check.specs.Table.{cells_of, keys_of, clauses_in}
+use Rattle.std.proofs.lemmas.List.{take_at}
+use Rattle.std.specs.Prelude.{slice_range}
+use Rattle.wcnf.specs.Literal.{Literal}
+use Rattle.lrat_check.specs.Counts.{AreCounts}
+use Rattle.lrat_check.specs.Listed.{listed_at}
 use Rattle.lrat_check.specs.declared.live.entries.Entry.{Entry}
-use Rattle.lrat_check.proofs.Marks.{indexed_set}
-use Rattle.lrat_check.proofs.Lookup.{nothing_listed, nothing_left_out, entry_within, dead_listed, live_listed, dead_left, deleted_clauses, deleted_table}
+use Rattle.lrat_check.proofs.Lookup.{nothing_listed, nothing_left_out, entry_within, entry_ends, dead_listed, live_listed, dead_left, deleted_clauses, deleted_table}
+use Rattle.lrat_check.proofs.Tables.{table_rising}
 use Rattle.lrat_check.proofs.live.LiveClauses.delete.Goals as goal
 use Rattle.lrat_check.proofs.live.LiveClauses.delete.Goals.{In_default, In-Some, After-index_mut-entry}
 
@@ -37,18 +41,6 @@ returns-then-not-entry-clause-left c =
     let s = c.self.inside in
     rw (← c.self.view_is) (dead_left s.lits.items s.entries.items s.heads.items c.self.invariant.0 c.args.id c.in-Some.place (at_place (goal.at.returns-then-not-entry-clause-left c).In-Some) _ c.index_mut-entry.ensures.value c.if-not-entry.true)
 
-pub invariant_of-self-2 : goal.invariant_of-self-2
-invariant_of-self-2 c =
-    let s = c.self.inside in
-    let table = deleted_table s.lits.items s.entries.items s.heads.items c.self.invariant.0 c.args.id c.in-Some.place (at_place (goal.at.invariant_of-self-2 c).In-Some) _ c.index_mut-entry.ensures.value in
-    let place : ℕ = c.in-Some.place in
-    let x : Entry = c.index_mut-entry.result.now in
-    let gone : Entry = record x { live = false } in
-    let within = entry_within s.lits.items s.entries.items s.heads.items c.self.invariant.0 c.args.id place (at_place (goal.at.invariant_of-self-2 c).In-Some) in
-    let cell : get_or (cells_of s.entries.items) place (cell_of x) ≡ cell_of x = get_or-map cell_of s.entries.items place x (cell_of x) within ∙ ap cell_of (sym c.index_mut-entry.ensures.value) in
-    let cells : cells_of (set s.entries.items place gone) ≡ set (cells_of s.entries.items) place (cell_of gone) = map-set cell_of s.entries.items place gone in
-    (table, rw cells (indexed_set s.lits.items (cells_of s.entries.items) s.occurrences.heads.items s.occurrences.marks.items s.occurrences.indexed place (cell_of gone) (cell_of x) (sym (ap (λ (y : Cell). y.start) cell)) (sym (ap (λ (y : Cell). y.length) cell)) c.self.invariant.1))
-
 pub returns-clause-found : goal.returns-clause-found
 returns-clause-found c =
     let s = c.self.inside in
@@ -58,3 +50,31 @@ pub returns-clause-left : goal.returns-clause-left
 returns-clause-left c =
     let s = c.self.inside in
     rw (← c.self.view_is) (deleted_clauses s.lits.items s.entries.items s.heads.items c.self.invariant.0 c.args.id c.in-Some.place (at_place (goal.at.returns-clause-left c).In-Some) _ c.index_mut-entry.ensures.value)
+
+pub slice_bounds-clause-end : goal.slice_bounds-clause-end
+slice_bounds-clause-end c =
+    let s = c.self.inside in
+    let x = c.index_mut-entry.result.now in
+    let ends : x.start + x.length ≤ length s.lits.items = entry_ends s.lits.items s.entries.items s.heads.items c.self.invariant.0 c.args.id c.in-Some.place (at_place (goal.at.slice_bounds-clause-end c).In-Some) _ c.index_mut-entry.ensures.value in
+    let bound : x.start + x.length ≤ length c.deref-3.result.now = rw c.deref-3.ensures.value ends in
+    search rules
+
+pub invariant_of-self-2 : goal.invariant_of-self-2
+invariant_of-self-2 c =
+    let s = c.self.inside in
+    let place : ℕ = c.in-Some.place in
+    let x : Entry = c.index_mut-entry.result.now in
+    let gone : Entry = record x { live = false } in
+    let at = at_place (goal.at.invariant_of-self-2 c).In-Some in
+    let es = clauses_in s.lits.items (cells_of s.entries.items) in
+    let gs = c.count_out.new.counts in
+    let whole : take s.counts.len (gs ++ drop (length gs) s.counts.items) ≡ gs = take_at gs (drop (length gs) s.counts.items) s.counts.len (omega arith) in
+    let here : listed_at es c.args.id ≡ Some (slice_range s.lits.items x.start (x.start + x.length)) = live_listed s.lits.items s.entries.items s.heads.items c.self.invariant.0 c.args.id place at _ c.index_mut-entry.ensures.value c.if-not-entry.false in
+    let left = deleted_clauses s.lits.items s.entries.items s.heads.items c.self.invariant.0 c.args.id place at _ c.index_mut-entry.ensures.value in
+    let rising = table_rising s.lits.items s.entries.items s.heads.items c.self.invariant.0 in (
+      deleted_table s.lits.items s.entries.items s.heads.items c.self.invariant.0 c.args.id place at _ c.index_mut-entry.ensures.value,
+      λ yes.
+          subst (λ (xs : List ℕ). AreCounts xs (clauses_in s.lits.items (cells_of (set s.entries.items place gone)))) (sym whole)
+          (subst (λ (cs : List (ℕ × List Literal)). AreCounts gs cs) (sym left)
+          (c.count_out.ensures es c.args.id rising (rw c.deref-3.ensures.value here) (rw c.deref_mut.ensures.value c.self.invariant.1) yes)),
+    )
