@@ -1,5 +1,5 @@
 -- Laws of counts. A rising list of ids whose clauses have the literal in as many places as all clauses do names all that have it.
-use Rattle.std.proofs.Common.{◌≡◌, ℕ, zero, suc, ◌+◌, ◌-◌, ◌*◌, ◌<◌, ◌≤◌, Bool, true, false, not, List, [], ◌∷◌, ◌++◌, length, get_or, take, drop, set, Option, Some, None, refl, sym, ◌∙◌, ap, subst, arith, inl, inr}
+use Rattle.std.proofs.Common.{◌≡◌, ℕ, ◌+◌, ◌-◌, ◌*◌, ◌<◌, ◌≤◌, Bool, true, false, not, List, [], ◌∷◌, ◌++◌, length, get_or, take, drop, set, Option, Some, None, refl, sym, ◌∙◌, ap, subst, arith, inl, inr}
 use Rattle.std.proofs.Math.Bool.{cond}
 use Rattle.std.specs.Prelude.{◌==◌, ◌&&◌, All, nat_lt, nat_le, slice_index, slice_range}
 use Rattle.std.specs.List.{AllByRecursion}
@@ -10,7 +10,7 @@ use Rattle.std.proofs.lemmas.List.Elements.{All-head, All-tail}
 use Rattle.wcnf.specs.Literal.{Literal, literal_eq, same_bool, index_of}
 use Rattle.wcnf.specs.Clause.{contains_literal}
 use Rattle.wcnf.proofs.Sound.{literal_eq-true}
-use Rattle.lrat_check.specs.Counts.{one_if, times_in, times_of, times, times_at, is_next, take_all, AreCounts, AreRaised, AreLowered}
+use Rattle.lrat_check.specs.Counts.{one_if, times_in, times, times_at, is_next, take_all, AreCounts, AreRaised, AreLowered}
 use Rattle.lrat_check.specs.Listed.{ids_of, ids_listed, listed_at, without_id}
 use Rattle.lrat_check.specs.Verdict.{same_ids}
 use Rattle.lrat_check.proofs.Candidates.{Rises}

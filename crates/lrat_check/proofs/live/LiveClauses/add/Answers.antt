@@ -1,7 +1,7 @@
 use Rattle.std.proofs.Common.{◌<◌, List, ℕ}
 use Rattle.std.specs.Prelude.{All}
 use Rattle.wcnf.specs.Literal.{Literal}
-use Rattle.lrat_check.specs.Table.{cells_of, keys_of, clauses_in, IsAboveLast, IsTable}
+use Rattle.lrat_check.specs.Table.{cells_of, keys_of, clauses_in, IsAboveLast}
 use Rattle.lrat_check.proofs.Tables.{live_above}
 use Rattle.lrat_check.proofs.live.LiveClauses.add.Goals as goal
 use Rattle.lrat_check.proofs.live.LiveClauses.add.Goals.{then-not-is_above, else-not-is_above+else-is_mostly_dead}

@@ -1,4 +1,3 @@
-use Rattle.std.proofs.Common.{sym, ◌∙◌}
 use Rattle.lrat_check.proofs.CountLaws.{counts_push}
 use Rattle.lrat_check.proofs.live.counts.count_last.Goals as goal
 

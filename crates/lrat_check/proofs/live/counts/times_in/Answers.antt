@@ -1,4 +1,4 @@
-use Rattle.std.proofs.Common.{◌≡◌, ◌+◌, ◌∙◌, ap, sym, arith}
+use Rattle.std.proofs.Common.{◌∙◌, ap, sym, arith}
 use Rattle.std.proofs.lemmas.List.{take_all}
 use Rattle.lrat_check.specs.Counts.{times_in}
 use Rattle.lrat_check.proofs.CountLaws.{times_in-passed, times_in-found}
