@@ -1,13 +1,11 @@
 -- The Empty line, by a clause that is false at level 0.
-use Rattle.std.proofs.Common.{◌≡◌, ℕ, ◌+◌, ◌<◌, ◌≤◌, ◌^◌, true, false, List, [], ◌∷◌, ◌++◌, length, take, Some, inl, inr, refl, sym, ◌∙◌, ap, subst, arith}
-use Rattle.std.specs.Prelude.{All, Contains}
+use Rattle.std.proofs.Common.{◌≡◌, ℕ, ◌≤◌, true, List, [], ◌∷◌, ◌++◌, length, refl, sym, ◌∙◌, ap, subst, arith}
 use Rattle.std.specs.List.{AllByRecursion}
 use Rattle.std.proofs.lemmas.List.{take_all}
 use Rattle.wcnf.specs.Literal.{Literal, negation}
 use Rattle.wcnf.specs.Clause.{contains_literal}
-use Rattle.wcnf.specs.Refute.{IsFalseUnder}
-use Rattle.clauses.specs.Slots.{Slots, clause_at}
-use Rattle.propagate.specs.Trail.{Assigned, literals_of, depth_of}
+use Rattle.clauses.specs.Slots.{clause_at}
+use Rattle.propagate.specs.Trail.{literals_of, depth_of}
 use Rattle.propagate.specs.Fits.{IsFalseClause}
 use Rattle.propagate.proofs.Reasons.{no_opposites}
 use Rattle.analyze.proofs.Levels.{all_at}
@@ -18,7 +16,7 @@ use Rattle.cdcl.specs.declared.search.Search.{Search}
 use Rattle.cdcl.specs.declared.problem.Problem.{Problem}
 use Rattle.cdcl.specs.Hinting.{AreHintsOf, AreNoted}
 use Rattle.cdcl.specs.Invariant.{HasUnit, zero_of}
-use Rattle.cdcl.specs.Running.{Runs, IsEnded, Writes}
+use Rattle.cdcl.specs.Running.{Runs, IsEnded}
 use Rattle.cdcl.proofs.LogLines.{AddsByHints}
 use Rattle.cdcl.proofs.LearnedLines.{adds_learned}
 use Rattle.cdcl.proofs.ZeroLines.{refutes_empty}

@@ -1,31 +1,30 @@
 -- What elimination leaves is a search that runs.
-use Rattle.std.proofs.Common.{◌≡◌, ◌≢◌, ℕ, zero, suc, ◌+◌, ◌<◌, ◌≤◌, ◌^◌, Bool, true, false, not, ◌&&◌, List, [], ◌∷◌, ◌++◌, length, take, map, get_or, replicate, Option, Some, None, ◌⊎◌, inl, inr, refl, sym, ◌∙◌, ap, subst, arith, zero-add}
-use Rattle.std.specs.Prelude.{All, Contains, slice_get, nat_eq, ◌==◌}
-use Rattle.std.specs.List.{AllByRecursion, IsDistinct, list_any, enumerate_from}
+use Rattle.std.proofs.Common.{◌≡◌, ◌≢◌, ℕ, zero, suc, ◌+◌, ◌<◌, ◌≤◌, ◌^◌, true, false, List, [], ◌∷◌, length, take, map, get_or, Some, None, inl, inr, refl, sym, ◌∙◌, ap, subst, arith, zero-add}
+use Rattle.std.specs.Prelude.{All, Contains, nat_eq}
+use Rattle.std.specs.List.{IsDistinct, list_any, enumerate_from}
 use Rattle.std.proofs.lemmas.Map.Keys.{IsDistinct-head, IsDistinct-tail}
-use Rattle.std.proofs.lemmas.Bool.{cases_lt, lt-leb, le-leb, or_parts, both_ways, eq-eqb, or_left, or_right, cases_eq, or_from, eqb-true}
+use Rattle.std.proofs.lemmas.Bool.{cases_lt, le-leb, or_parts, both_ways, eq-eqb, cases_eq}
 use Rattle.std.proofs.lemmas.Option.{none-some, same_Some, slice_get-get_or}
 use Rattle.std.proofs.lemmas.List.{length-map, get_or-map, length-replicate, take_all}
 use Rattle.std.proofs.lemmas.List.Elements.{All-nil, All-cons, All-head, All-tail, All-from_recursion}
 use Rattle.wcnf.specs.Literal.{Literal}
 use Rattle.wcnf.specs.Clause.{Satisfies}
 use Rattle.wcnf.specs.Lrat.{IsId}
-use Rattle.wcnf.specs.Refute.{Clauses, IsRefutedByHints}
+use Rattle.wcnf.specs.Refute.{IsRefutedByHints}
 use Rattle.wcnf.specs.Bits.{assignment_of}
-use Rattle.wcnf.specs.Formula.{Cnf, IsFormula, IsFormulaClause, numbered}
+use Rattle.wcnf.specs.Formula.{Cnf, IsFormula, IsFormulaClause}
 use Rattle.clauses.specs.Slots.{Slots, clause_at, IsLive, live_places, live_clauses, places_from}
 use Rattle.propagate.specs.Trail.{depth_of}
 use Rattle.propagate.specs.Watches.{is_attached}
-use Rattle.propagate.specs.Fits.{Fits, IsWithin}
 use Rattle.lrat_log.specs.declared.lines.Name.{Name}
 use Rattle.lrat_log.specs.declared.lines.Name.TheVariants.{Formula, Added}
 use Rattle.lrat_log.specs.Log.{LogLine, Given, id_of, number_in}
 use Rattle.lrat_log.specs.Steps.{StaysLogOver, IsBaseOf, log_live, given_of, AddsNoEmptyClause, adds_empty_clause, added_count}
-use Rattle.eliminate.specs.Elimination.{StackState, HoldsWhatIsLive, ExtendsBack, IsFree, extended, SatisfiesAll}
+use Rattle.eliminate.specs.Elimination.{StackState, HoldsWhatIsLive, ExtendsBack, IsFree, extended}
 use Rattle.cdcl.specs.declared.search.Search.{Search}
 use Rattle.cdcl.specs.declared.problem.Problem.{Problem}
 use Rattle.cdcl.specs.Solving.{is_refuted}
-use Rattle.cdcl.specs.Invariant.{name_at, is_kept_name, NamesWhatIsLive, NamesStore, NotesUnits, zero_of, IsRunning}
+use Rattle.cdcl.specs.Invariant.{name_at, is_kept_name, NamesStore, NotesUnits, zero_of, IsRunning}
 use Rattle.cdcl.specs.Running.{Runs, IsProblem, tables_of}
 use Rattle.cdcl.specs.Starts.{AreRising, IsLiveWithin, IsStarted}
 use Rattle.cdcl.proofs.Places.{stands, live_within}

@@ -1,13 +1,11 @@
 -- The literals of level 0 that clauses need, and the hints that name their clauses.
-use Rattle.std.proofs.Common.{◌≡◌, ◌≢◌, ℕ, ◌+◌, ◌-◌, ◌<◌, ◌≤◌, Bool, true, false, List, [], ◌∷◌, ◌++◌, length, get_or, set, take, map, Option, Some, None, inl, inr, refl, sym, ◌∙◌, ap, subst, arith, append_assoc}
+use Rattle.std.proofs.Common.{◌≡◌, ◌≢◌, ℕ, ◌+◌, ◌-◌, ◌<◌, true, false, List, [], ◌∷◌, ◌++◌, length, get_or, set, take, map, Option, Some, None, inl, inr, refl, sym, ◌∙◌, ap, subst, arith}
 use Rattle.std.specs.Prelude.{unwrap_or, All, IfSome, Contains}
-use Rattle.std.specs.List.{AllByRecursion}
 use Rattle.std.proofs.lemmas.Bool.{cases_Bool, cases_eq, cases_lt, or_cases, or_left, or_right, or_from, or_parts, false≢true, both_ways}
-use Rattle.std.proofs.lemmas.List.{get_or_past, get_or-set_same, get_or-set_other, take_more, take_all, length-set, map_push, map-append}
+use Rattle.std.proofs.lemmas.List.{get_or_past, get_or-set_same, get_or-set_other, take_more, length-set, map_push, map-append}
 use Rattle.std.proofs.lemmas.Option.{none-some, same_Some}
 use Rattle.wcnf.specs.Literal.{Literal, negation, literal_eq}
 use Rattle.wcnf.specs.Clause.{contains_literal, has_repeat}
-use Rattle.wcnf.specs.Refute.{Clauses}
 use Rattle.wcnf.proofs.Sound.{literal_eq-true}
 use Rattle.clauses.specs.Slots.{Slots, clause_at}
 use Rattle.propagate.specs.Trail.{Assigned, literals_of, level_in, value_in, HasReasons}
@@ -23,7 +21,7 @@ use Rattle.lrat_log.specs.declared.lines.Name.{Name}
 use Rattle.lrat_log.specs.declared.lines.Hint.{Hint}
 use Rattle.lrat_log.specs.declared.lines.Hint.TheVariants.{Plain}
 use Rattle.cdcl.specs.Invariant.{name_at, HasUnit, zero_of}
-use Rattle.cdcl.specs.Hinting.{Within, AreUnits, Serves, plain_hints, IsNotedIn, AreHintsOf}
+use Rattle.cdcl.specs.Hinting.{AreUnits, plain_hints, IsNotedIn, AreHintsOf}
 use Rattle.cdcl.specs.Moves.{unit_at, HaveUnits, CoversZero, Gathers}
 use Rattle.cdcl.proofs.Conflicts.{at_zero}
 use Rattle.cdcl.proofs.LearnedLines.{kept_in}

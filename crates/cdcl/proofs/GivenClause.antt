@@ -1,5 +1,5 @@
 -- One clause more among those given.
-use Rattle.std.proofs.Common.{◌≡◌, ℕ, ◌+◌, ◌-◌, ◌<◌, ◌≤◌, ◌^◌, Bool, true, false, List, [], ◌∷◌, ◌++◌, length, take, drop, map, get_or, Some, refl, sym, ◌∙◌, ap, subst, arith}
+use Rattle.std.proofs.Common.{◌≡◌, ℕ, ◌+◌, ◌-◌, ◌<◌, ◌≤◌, ◌^◌, Bool, true, false, List, [], ◌∷◌, ◌++◌, length, take, drop, map, get_or, sym, ◌∙◌, ap, subst, arith}
 use Rattle.std.specs.Prelude.{All}
 use Rattle.std.proofs.lemmas.List.{take-append-le, drop-append-le, length-append, take_more}
 use Rattle.std.proofs.lemmas.List.Elements.{All-push, All-head, All-tail}
@@ -17,7 +17,7 @@ use Rattle.lrat_log.specs.Steps.{IsBaseOf, StaysLogOver, given_of}
 use Rattle.cdcl.specs.declared.search.Search.{Search}
 use Rattle.cdcl.specs.declared.problem.Problem.{Problem}
 use Rattle.cdcl.specs.Solving.{IsFreshName, IsFrozen}
-use Rattle.cdcl.specs.Running.{IsProblem, IsGivable, GivesOne, Takes, Runs, IsSolver}
+use Rattle.cdcl.specs.Running.{IsProblem, GivesOne, Takes, Runs, IsSolver}
 use Rattle.cdcl.proofs.MoreGiven.{log_given, based_given}
 
 pub frozen_small : (frozen : List Bool) (c : List Literal) → All (IsFrozen frozen) c → All (λ l. 0 < l.variable) c → greatest_variable c ≤ length frozen

@@ -1,14 +1,14 @@
 -- What a conflict teaches: its line is a step, and the search goes on with its clause.
-use Rattle.std.proofs.Common.{◌≡◌, ℕ, ◌+◌, ◌-◌, ◌<◌, ◌≤◌, ◌^◌, true, false, List, [], ◌∷◌, ◌++◌, length, take, map, Option, Some, inl, inr, refl, sym, ◌∙◌, ap, subst, arith}
+use Rattle.std.proofs.Common.{◌≡◌, ℕ, ◌+◌, ◌-◌, ◌<◌, ◌≤◌, ◌^◌, true, List, [], ◌∷◌, ◌++◌, Option, Some, refl, sym, ap, subst, arith}
 use Rattle.std.specs.Prelude.{All, IfSome}
 use Rattle.std.specs.List.{AllByRecursion}
 use Rattle.std.proofs.lemmas.List.{take_all}
 use Rattle.std.proofs.lemmas.List.Elements.{All-nil, All-cons, All-head, All-tail, All-from_recursion, recursion_from_All}
 use Rattle.wcnf.specs.Literal.{Literal, negation}
-use Rattle.wcnf.specs.Clause.{contains_literal, greatest_variable}
-use Rattle.wcnf.specs.Refute.{Clauses, Leads, Refutes, IsFalseUnder}
+use Rattle.wcnf.specs.Clause.{greatest_variable}
+use Rattle.wcnf.specs.Refute.{Leads, Refutes, IsFalseUnder}
 use Rattle.clauses.specs.Slots.{Slots, clause_at, IsLive}
-use Rattle.propagate.specs.Trail.{Assigned, literals_of, depth_of, kept_to, level_in, HasReasons}
+use Rattle.propagate.specs.Trail.{Assigned, literals_of, depth_of, kept_to, HasReasons}
 use Rattle.propagate.specs.Watches.{EngineState, is_attached}
 use Rattle.propagate.specs.Fits.{Fits, IsWithin, IsFalseClause}
 use Rattle.propagate.proofs.Facts.{all_weaker, all_join}
@@ -24,7 +24,7 @@ use Rattle.lrat_log.specs.Log.{LogLine, Given}
 use Rattle.cdcl.specs.declared.search.Search.{Search}
 use Rattle.cdcl.specs.declared.problem.Problem.{Problem}
 use Rattle.cdcl.specs.Invariant.{HasUnit, NotesUnits, NamesStore, Searches, IsRunning, zero_of}
-use Rattle.cdcl.specs.Hinting.{AreHintsOf, AreNoted, Serves}
+use Rattle.cdcl.specs.Hinting.{AreHintsOf, AreNoted}
 use Rattle.cdcl.specs.Running.{HasRoom, Places, Runs, tables_of}
 use Rattle.cdcl.proofs.LogLines.{AddsByHints}
 use Rattle.cdcl.proofs.LearnedLines.{adds_learned, refutes_alone, no_opposites_false}

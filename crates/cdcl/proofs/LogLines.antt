@@ -10,8 +10,6 @@ use Rattle.wcnf.specs.Literal.{Literal, negation}
 use Rattle.wcnf.specs.Clause.{has_repeat, has_opposites, greatest_variable}
 use Rattle.wcnf.specs.Refute.{Clauses, Leads, Refutes}
 use Rattle.wcnf.specs.Lrat.{ProofLine, Addition, Deletion, Live, with_clause, without_ids, Chain, Step, IsAddable}
-use Rattle.lrat_log.specs.declared.lines.Hint.{Hint}
-use Rattle.lrat_log.specs.declared.lines.Hint.TheVariants.{Plain}
 use Rattle.lrat_log.specs.declared.lines.Name.{Name}
 use Rattle.lrat_log.specs.declared.lines.Name.TheVariants.{Formula, Added}
 use Rattle.lrat_log.specs.Log.{LogLine, Given, given_at, start_over, is_delete, id_of, name_of, leading_ids, group_ids, numbered_line, numbered_on, numbered_lines}

@@ -1,5 +1,5 @@
 -- Literals of level 0 are noted, one after another.
-use Rattle.std.proofs.Common.{◌≡◌, ℕ, ◌+◌, ◌≤◌, ◌<◌, true, List, [], ◌∷◌, ◌++◌, length, get_or, Some, inl, inr, refl, sym, ◌∙◌, ap, subst, arith}
+use Rattle.std.proofs.Common.{◌≡◌, ℕ, ◌<◌, true, List, [], ◌∷◌, ◌++◌, length, Some, inl, inr, refl, sym, ◌∙◌, ap, subst, arith}
 use Rattle.std.specs.Prelude.{slice_index_or}
 use Rattle.std.proofs.lemmas.Bool.{both_ways, or_cases, false≢true}
 use Rattle.std.proofs.lemmas.List.{length-map}
@@ -13,7 +13,7 @@ use Rattle.propagate.specs.Fits.{IsFalseClause}
 use Rattle.propagate.proofs.Reasons.{NoOpposites, no_opposites}
 use Rattle.propagate.proofs.Kept.{contains_at}
 use Rattle.analyze.specs.Learning.{IsQuiet}
-use Rattle.lrat_log.specs.Log.{LogLine, Given}
+use Rattle.lrat_log.specs.Log.{LogLine}
 use Rattle.cdcl_order.specs.Orders.{positive}
 use Rattle.cdcl.specs.declared.search.Search.{Search}
 use Rattle.cdcl.specs.declared.problem.Problem.{Problem}

@@ -1,22 +1,22 @@
 -- The tables of a search before its first move.
-use Rattle.std.proofs.Common.{◌≡◌, ◌≢◌, ℕ, zero, suc, ◌+◌, ◌<◌, ◌≤◌, ◌^◌, true, false, List, [], ◌∷◌, ◌++◌, length, take, map, get_or, set, replicate, Option, Some, None, inl, inr, refl, sym, ◌∙◌, ap, subst, arith}
-use Rattle.std.specs.Prelude.{All, slice_get, IfSome}
+use Rattle.std.proofs.Common.{◌≡◌, ◌≢◌, ℕ, zero, suc, ◌+◌, ◌<◌, ◌≤◌, true, false, List, [], ◌∷◌, ◌++◌, length, take, map, get_or, set, replicate, Some, inl, inr, refl, sym, ◌∙◌, ap, subst, arith}
+use Rattle.std.specs.Prelude.{All, slice_get}
 use Rattle.std.specs.List.{enumerate_from}
 use Rattle.std.proofs.lemmas.Bool.{cases_eq, cases_Bool, both_ways}
 use Rattle.std.proofs.lemmas.Option.{get_or_from_slice_get, slice_get_within}
-use Rattle.std.proofs.lemmas.List.{take_more, take_all, map-append, length-set, length-replicate, get_or-set_same, get_or-set_other}
+use Rattle.std.proofs.lemmas.List.{take_more, map-append, length-set, length-replicate, get_or-set_same, get_or-set_other}
 use Rattle.std.proofs.lemmas.List.Elements.{All-set, All-replicate}
 use Rattle.wcnf.specs.Literal.{Literal}
 use Rattle.wcnf.specs.Lrat.{IsId}
-use Rattle.clauses.specs.Slots.{Slots, clause_at}
+use Rattle.clauses.specs.Slots.{Slots}
 use Rattle.propagate.specs.Watches.{EngineState, is_attached, SetsAttached}
-use Rattle.propagate.specs.Fits.{Fits, IsWithin}
+use Rattle.propagate.specs.Fits.{Fits}
 use Rattle.lrat_log.specs.declared.lines.Name.{Name}
 use Rattle.lrat_log.specs.declared.lines.Name.TheVariants.{Formula}
 use Rattle.lrat_log.specs.Log.{Given, number_in}
 use Rattle.lrat_log.specs.Steps.{given_of}
 use Rattle.cdcl.specs.Invariant.{name_at}
-use Rattle.cdcl.specs.Starts.{AreRising, IsLiveWithin}
+use Rattle.cdcl.specs.Starts.{AreRising}
 
 -- one more clause of a list
 pub store_more : (cs : List (List Literal)) (i : ℕ) (c : List Literal) (now new : Slots) → slice_get cs i ≡ Some c → now ≡ map Some (take i cs) → new ≡ now ++ Some c ∷ [] → new ≡ map Some (take (i + 1) cs)

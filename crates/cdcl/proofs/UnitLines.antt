@@ -1,17 +1,17 @@
 -- The line for the next literal of level 0: it follows from its reason and the literals before it.
-use Rattle.std.proofs.Common.{◌≡◌, ◌≢◌, ℕ, zero, suc, ◌+◌, ◌-◌, ◌<◌, ◌≤◌, ◌^◌, Bool, true, false, cond, List, [], ◌∷◌, ◌++◌, length, take, drop, map, get_or, set, Option, Some, None, ◌⊎◌, inl, inr, refl, sym, ◌∙◌, ap, subst, arith}
+use Rattle.std.proofs.Common.{◌≡◌, ℕ, zero, suc, ◌+◌, ◌-◌, ◌<◌, ◌≤◌, ◌^◌, true, false, cond, List, [], ◌∷◌, ◌++◌, length, take, drop, get_or, set, Option, Some, None, ◌⊎◌, inl, inr, refl, sym, ◌∙◌, ap, subst, arith}
 use Rattle.std.specs.Prelude.{All, Contains, is_none}
 use Rattle.std.specs.List.{AllByRecursion}
 use Rattle.std.proofs.Math.Seq.{split_at}
 use Rattle.std.proofs.lemmas.Bool.{cases_Bool, true≢false}
-use Rattle.std.proofs.lemmas.Option.{none-some, same_Some}
+use Rattle.std.proofs.lemmas.Option.{same_Some}
 use Rattle.std.proofs.lemmas.List.{take-map, get_or-map, length-map, length-set}
 use Rattle.std.proofs.lemmas.List.Elements.{recursion_from_All}
 use Rattle.wcnf.specs.Literal.{Literal, negation}
-use Rattle.wcnf.specs.Clause.{contains_literal, has_repeat}
-use Rattle.wcnf.specs.Refute.{IsUnit, Refutes}
-use Rattle.clauses.specs.Slots.{Slots, clause_at, IsLive}
-use Rattle.propagate.specs.Trail.{Assigned, literals_of, depth_of, is_decision, kept_to, reason_in, HasReasons, IsJustified}
+use Rattle.wcnf.specs.Clause.{contains_literal}
+use Rattle.wcnf.specs.Refute.{IsUnit}
+use Rattle.clauses.specs.Slots.{Slots, clause_at}
+use Rattle.propagate.specs.Trail.{Assigned, literals_of, depth_of, is_decision, reason_in, HasReasons, IsJustified}
 use Rattle.propagate.proofs.Literals.{negation_twice}
 use Rattle.propagate.proofs.Levels.{kept_all}
 use Rattle.propagate.proofs.Trails.{depth-cons}

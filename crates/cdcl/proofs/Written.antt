@@ -1,12 +1,9 @@
 -- What moves write, one after another.
-use Rattle.std.proofs.Common.{◌≡◌, ℕ, ◌+◌, true, false, cond, List, [], ◌∷◌, ◌++◌, length, inl, inr, sym, ◌∙◌, ap, subst, refl, arith, append_assoc, append-nil}
-use Rattle.std.specs.Prelude.{All, Result, Ok, Err, OnOk, OnErr}
+use Rattle.std.proofs.Common.{◌≡◌, ℕ, ◌+◌, true, false, cond, List, [], ◌∷◌, ◌++◌, inl, inr, sym, ◌∙◌, ap, subst, refl, arith, append_assoc, append-nil}
+use Rattle.std.specs.Prelude.{Result, Ok, Err, OnOk, OnErr}
 use Rattle.std.proofs.lemmas.List.Elements.{All-nil, All-cons, All-append}
 use Rattle.std.proofs.lemmas.List.Sums.{sum_by-append, sum_by-cons}
-use Rattle.wcnf.specs.Refute.{Refutes}
-use Rattle.wcnf.specs.Literal.{negation}
-use Rattle.std.specs.Prelude.{map}
-use Rattle.lrat_log.specs.Log.{LogLine, Given, is_learned, id_of}
+use Rattle.lrat_log.specs.Log.{LogLine, Given, is_learned}
 use Rattle.lrat_log.specs.Steps.{IsBaseOf, learned_count, IsLearnedOrShort, IsShortLine, LearnsNew, nothing_exempt, IsNewTo, log_live}
 use Rattle.cdcl.specs.Running.{Writes}
 use Rattle.cdcl.proofs.LogLines.{AddsByHints}

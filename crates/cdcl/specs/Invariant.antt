@@ -1,12 +1,11 @@
 -- What holds of a solver between its calls, and between the moves of a search.
-use Rattle.std.specs.Prelude.{◌≡◌, ℕ, ◌-◌, ◌<◌, ◌≤◌, ◌^◌, Bool, true, false, List, [], ◌∷◌, length, take, map, Option, Some, None, slice_index_or, nat_le, All, Contains, ◌⊎◌}
+use Rattle.std.specs.Prelude.{◌≡◌, ℕ, ◌-◌, ◌<◌, ◌≤◌, Bool, true, false, List, [], ◌∷◌, length, take, map, Option, Some, None, slice_index_or, nat_le, All, Contains, ◌⊎◌}
 use Rattle.std.specs.List.{AllByRecursion}
 use Rattle.wcnf.specs.Literal.{Literal}
 use Rattle.wcnf.specs.Clause.{Satisfies}
 use Rattle.wcnf.specs.Lrat.{IsId}
 use Rattle.wcnf.specs.Refute.{Clauses, IsRefutedByHints}
 use Rattle.wcnf.specs.Bits.{assignment_of}
-use Rattle.wcnf.specs.Formula.{IsFormulaClause}
 use Rattle.clauses.specs.Slots.{Slots, clause_at, IsLive}
 use Rattle.propagate.specs.Trail.{Assigned, literals_of, kept_to, depth_of}
 use Rattle.propagate.specs.Watches.{EngineState, is_attached}
@@ -15,8 +14,7 @@ use Rattle.analyze.specs.Learning.{IsQuiet}
 use Rattle.lrat_log.specs.declared.lines.Name.{Name}
 use Rattle.lrat_log.specs.declared.lines.Name.TheVariants.{Formula, Added}
 use Rattle.lrat_log.specs.Log.{LogLine, Given, id_of, number_in}
-use Rattle.lrat_log.specs.Steps.{StaysLogOver, AddsNoEmptyClause, IsBaseOf, log_live, given_of, added_count}
-use Rattle.cdcl.specs.Solving.{is_refuted}
+use Rattle.lrat_log.specs.Steps.{StaysLogOver, AddsNoEmptyClause, IsBaseOf, log_live, added_count}
 use Rattle.eliminate.specs.Elimination.{StackState, extended, IsFree}
 
 -- what a solver keeps beside its store and engine

@@ -4,3 +4,4 @@ pub mod Hinting
 pub mod Running
 pub mod Starts
 pub mod Moves
+pub mod Deletions

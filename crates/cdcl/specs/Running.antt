@@ -1,20 +1,16 @@
 -- What holds of a search between its moves, and what moves do.
 use Rattle.std.specs.Prelude.{◌≡◌, ℕ, ◌+◌, ◌<◌, ◌≤◌, ◌^◌, Bool, true, false, List, [], ◌∷◌, ◌++◌, length, take, map, Some, All, Result, Ok, Err}
-use Rattle.std.specs.List.{AllByRecursion}
-use Rattle.wcnf.specs.Literal.{Literal, negation}
+use Rattle.wcnf.specs.Literal.{Literal}
 use Rattle.wcnf.specs.Clause.{greatest_variable}
 use Rattle.wcnf.specs.Lrat.{IsId}
 use Rattle.wcnf.specs.Formula.{IsFormulaClause}
-use Rattle.clauses.specs.Slots.{clause_at, IsLive}
-use Rattle.propagate.specs.Trail.{literals_of, depth_of, level_in}
+use Rattle.propagate.specs.Trail.{literals_of}
 use Rattle.propagate.specs.Watches.{SetsAttached}
 use Rattle.propagate.specs.Fits.{Fits}
 use Rattle.analyze.specs.Learning.{IsQuiet}
 use Rattle.cdcl_order.specs.Budgets.{BudgetState, left_of}
 use Rattle.cdcl_order.specs.Orders.{AreClosed}
 use Rattle.lrat_log.specs.declared.lines.Name.{Name}
-use Rattle.lrat_log.specs.declared.lines.Hint.{Hint}
-use Rattle.lrat_log.specs.declared.lines.Hint.TheVariants.{Plain}
 use Rattle.lrat_log.specs.Log.{LogLine, Given, number_in}
 use Rattle.lrat_log.specs.Steps.{StaysLogOver, AddsNoEmptyClause, IsBaseOf, given_of, learned_count, IsLearnedOrShort, LearnsNew, nothing_exempt}
 use Rattle.cdcl.specs.declared.problem.Problem.{Problem}
@@ -24,7 +20,7 @@ use Rattle.cdcl.specs.declared.searching.End.TheVariants.{Satisfied, Refuted, Sp
 use Rattle.cdcl.specs.declared.outcome.Outcome.{Outcome}
 use Rattle.cdcl.specs.declared.outcome.Outcome.TheVariants.{Sat, Unsat, Limit}
 use Rattle.cdcl.specs.Solving.{is_refuted, IsFreshName, IsFrozen, SatisfyGiven}
-use Rattle.cdcl.specs.Invariant.{Tables, name_at, HasUnit, Searches, zero_of, IsRunning}
+use Rattle.cdcl.specs.Invariant.{Tables, Searches, IsRunning}
 
 -- The state of a search.
 

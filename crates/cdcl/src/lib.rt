@@ -4,6 +4,7 @@
 pub use cdcl_order::budget;
 
 mod answers;
+mod compacting;
 mod giving;
 mod hints;
 mod learning;

@@ -1,9 +1,12 @@
 // Learned clauses are deleted from time to time, so that propagation has fewer to look at.
-ghost use Rattle.std.specs.Prelude.{◌≡◌, ◌<◌, ◌≤◌, true, false, Some, All, length, IfOk, OnOk, OnErr};
+ghost use Rattle.std.specs.Prelude.{◌≡◌, ℕ, ◌<◌, ◌≤◌, true, false, Some, All, length, IfOk, OnOk, OnErr};
+ghost use Rattle.clauses.specs.Slots.{IsLive};
+ghost use Rattle.propagate.specs.Doomed.{is_doomed};
 ghost use Rattle.propagate.specs.Trail.{reason_in};
 ghost use Rattle.cdcl.specs.Invariant.{name_at, is_kept_name};
 ghost use Rattle.cdcl.specs.Running.{IsReady, Runs, StaysOpen, Writes};
 ghost use Rattle.cdcl.specs.Moves.{MayBeDeleted};
+ghost use Rattle.cdcl.specs.Deletions.{AreMarked, IsDeleting};
 
 use crate::problem::Problem;
 use crate::search::Search;
@@ -15,28 +18,32 @@ use propagate::engine::Engine;
 use std::alloc::AllocError;
 use wcnf::types::Lit;
 
-/// Deletes a clause, where that may be done: it is live, was learned, has more than two literals and is no reason.
+/// Deletes a clause that is detached, where it is marked and live, and writes that down.
 fn delete<S: Sink>(
     search: &mut Search,
     problem: &Problem,
     sink: &mut S,
+    doomed: &[bool],
     reference: CRef,
 ) -> Result<(), AllocError>
-    requires runs { Runs search.old problem.now (S.lines sink.old) }
-    ensures runs { OnOk result (Runs search.new problem.now (S.lines sink.new)) }
-    ensures trail { OnOk result (search.new.engine.trail ≡ search.old.engine.trail) }
-    ensures variables { OnOk result (search.new.engine.variables ≡ search.old.engine.variables) }
+    requires deleting { IsDeleting search.old problem.now (S.lines sink.old) doomed.now }
+    ensures deleting { OnOk result (IsDeleting search.new problem.now (S.lines sink.new) doomed.now) }
+    ensures gone { OnOk result (is_doomed doomed.now reference ≡ true → IsLive search.new.store.slots reference → ⊥) }
+    ensures fewer { OnOk result ((r : ℕ) → IsLive search.new.store.slots r → IsLive search.old.store.slots r) }
+    ensures engine { OnOk result (search.new.engine ≡ search.old.engine) }
     ensures writes { OnOk result (Writes problem.now.given.items (S.lines sink.old) (S.lines sink.new) 0) }
     ensures err { OnErr result (S.lines sink.new ≡ S.lines sink.old) }
 {
-    if !search.may_delete(reference) {
+    if !search.store.is_live(reference) {
+        return Ok(());
+    }
+    if !doomed[reference.index()] {
         return Ok(());
     }
     let alloc = search.store.allocator();
     let mut hints = Vec::new(alloc);
     hints.push(Hint::Plain(search.names[reference.index()]))?;
     sink.append(Line::new(Kind::Delete, Vec::new(alloc), hints))?;
-    search.engine.detach(reference);
     search.store.delete(reference);
     search.long = search.long.saturating_sub(1);
     Ok(())
@@ -60,6 +67,20 @@ impl Search {
             }
         }
         Ok(candidates)
+    }
+
+    /// Marks those of these clauses that may be deleted, by their references' places.
+    fn mark(&self, chosen: &[(u32, CRef)]) -> Result<Vec<bool>, AllocError>
+        requires { IsReady self.now }
+        ensures { IfOk result (λ doomed. AreMarked self.now chosen.now (length chosen.now) doomed.items) }
+    {
+        let mut doomed = Vec::from_elem(self.store.allocator(), false, self.store.places())?;
+        for (_, reference) in chosen {
+            if self.may_delete(*reference) {
+                doomed[reference.index()] = true;
+            }
+        }
+        Ok(doomed)
     }
 
     /// Whether the clause is live, was learned, has more than two literals and is no reason.
@@ -119,10 +140,13 @@ pub(crate) fn reduce<S: Sink>(
     longer_half(&mut chosen)?;
     delete_all(search, problem, sink, &chosen)?;
     search.reductions = search.reductions.saturating_add(1);
+    if search.is_sparse() {
+        search.compact()?;
+    }
     Ok(())
 }
 
-/// Deletes those of these clauses that may be deleted.
+/// Deletes those of these clauses that may be deleted. One pass over what is attached detaches them all.
 fn delete_all<S: Sink>(
     search: &mut Search,
     problem: &Problem,
@@ -135,8 +159,10 @@ fn delete_all<S: Sink>(
     ensures writes { Writes problem.now.given.items (S.lines sink.old) (S.lines sink.new) 0 }
     ensures err { OnErr result (StaysOpen problem.now (S.lines sink.new)) }
 {
+    let doomed = search.mark(chosen)?;
+    search.engine.detach_all(&doomed);
     for (_, reference) in chosen {
-        delete(search, problem, sink, *reference)?;
+        delete(search, problem, sink, &doomed, *reference)?;
     }
     Ok(())
 }

@@ -1,4 +1,3 @@
-use Rattle.std.proofs.Common.{◌≡◌, false, sym, ◌∙◌}
 use Rattle.std.proofs.lemmas.Bool.{both_ways}
 use Rattle.std.proofs.lemmas.Result.{on_ok_weaker}
 use Rattle.cdcl.proofs.giving.give.Goals as goal

@@ -1,9 +1,8 @@
-use Rattle.std.proofs.Common.{◌≡◌, ◌≤◌, ◌<◌, ◌≢◌, ℕ, ◌-◌, true, false, Option, Some, None, [], ◌∷◌, set, length, get_or, take, subst, sym, ◌∙◌, ap, rules, arith}
-use Rattle.std.specs.Prelude.{IfSome, All, unwrap_or}
+use Rattle.std.proofs.Common.{◌≡◌, ◌≤◌, ◌<◌, ◌≢◌, ◌-◌, true, false, Some, None, [], ◌∷◌, length, get_or, take, subst, sym, ◌∙◌, ap, rules, arith}
+use Rattle.std.specs.Prelude.{IfSome, unwrap_or}
 use Rattle.std.proofs.lemmas.List.{take_all, get_or_default}
 use Rattle.std.proofs.lemmas.List.Elements.{All-set}
 use Rattle.std.proofs.lemmas.Option.{none-some, same_Some}
-use Rattle.clauses.specs.Slots.{clause_at}
 use Rattle.propagate.specs.Trail.{level_in, value_in}
 use Rattle.lrat_log.specs.declared.lines.Name.TheVariants.{Formula}
 use Rattle.cdcl.specs.Invariant.{name_at, zero_of}

@@ -1,4 +1,4 @@
-use Rattle.std.proofs.Common.{ℕ, ◌≡◌, ◌≤◌, List, [], length, take}
+use Rattle.std.proofs.Common.{ℕ, ◌≤◌, List, [], take}
 use Rattle.std.specs.Prelude.{All, Contains}
 use Rattle.cdcl.specs.Moves.{Gathers}
 use Rattle.cdcl.proofs.hints.add_units.Given as goal

@@ -1,5 +1,4 @@
-use Rattle.std.proofs.Common.{◌≡◌, ◌≤◌, ◌<◌, ℕ, ◌+◌, true, [], ◌∷◌, ◌++◌, length, get_or, take, subst, sym, ◌∙◌, ap, arith}
-use Rattle.std.specs.Prelude.{All}
+use Rattle.std.proofs.Common.{[], ◌∷◌, ◌++◌, take, subst, sym, ◌∙◌, ap, arith}
 use Rattle.std.proofs.lemmas.List.{take_all, take_more}
 use Rattle.cdcl.specs.Moves.{Gathers}
 use Rattle.cdcl.proofs.Gathering.{gathers_start, hints_are}

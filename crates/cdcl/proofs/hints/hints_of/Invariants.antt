@@ -1,4 +1,4 @@
-use Rattle.std.proofs.Common.{ℕ, ◌≡◌, ◌≤◌, List, [], length, take}
+use Rattle.std.proofs.Common.{◌≤◌, [], take}
 use Rattle.std.specs.Prelude.{All}
 use Rattle.cdcl.specs.Moves.{Gathers}
 use Rattle.cdcl.proofs.hints.hints_of.Given as goal

@@ -1,10 +1,7 @@
-use Rattle.std.proofs.Common.{◌≡◌, ℕ, ◌+◌, ◌<◌, ◌≤◌, ◌^◌, true, List, [], ◌∷◌, ◌++◌, length, refl, sym, ◌∙◌, ap, subst, arith}
+use Rattle.std.proofs.Common.{◌≡◌, ◌+◌, ◌≤◌, true, [], ◌∷◌, ◌++◌, length, refl, sym, ◌∙◌, ap, subst, arith}
 use Rattle.std.specs.Prelude.{All}
-use Rattle.std.specs.Vec.{with_items}
 use Rattle.std.proofs.lemmas.List.{with_items_is}
-use Rattle.wcnf.specs.Literal.{Literal}
-use Rattle.clauses.specs.Slots.{clause_at}
-use Rattle.propagate.specs.Trail.{literals_of, depth_of, kept_to}
+use Rattle.propagate.specs.Trail.{depth_of, kept_to}
 use Rattle.propagate.specs.Watches.{is_attached}
 use Rattle.propagate.specs.Fits.{IsWithin}
 use Rattle.analyze.specs.Learning.{IsAsserting, IsRefutedBy}
@@ -17,7 +14,7 @@ use Rattle.cdcl.specs.Running.{Runs, Writes, tables_of}
 use Rattle.cdcl.proofs.HintNames.{hint_ids}
 use Rattle.cdcl.proofs.Written.{writes_learned}
 use Rattle.cdcl.proofs.MoreMoves.{learn_is_new}
-use Rattle.cdcl.proofs.Lessons.{refutes_live, live_attached, conflict_of, all_noted, asserting_within, within_bounds, back_low, adds_lesson, runs_learned, runs_long}
+use Rattle.cdcl.proofs.Lessons.{refutes_live, live_attached, conflict_of, all_noted, asserting_within, back_low, adds_lesson, runs_learned, runs_long}
 use Rattle.cdcl.proofs.learning.learn.Goals as goal
 use Rattle.cdcl.proofs.learning.learn.Goals.{then-as_slice-gt2, else-as_slice-gt2}
 

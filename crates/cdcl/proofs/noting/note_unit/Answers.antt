@@ -1,20 +1,19 @@
 -- The next literal of level 0 follows from its reason.
-use Rattle.std.proofs.Common.{◌≡◌, ℕ, ◌+◌, ◌-◌, ◌<◌, ◌≤◌, ◌^◌, List, [], ◌∷◌, length, get_or, true, Some, None, sym, ◌∙◌, ap, subst, arith, zero, suc, refl, set}
+use Rattle.std.proofs.Common.{◌≡◌, ◌+◌, ◌-◌, ◌<◌, ◌≤◌, ◌^◌, [], ◌∷◌, length, get_or, true, Some, None, sym, ◌∙◌, ap, subst, arith, refl, set}
 use Rattle.std.specs.Prelude.{All}
 use Rattle.std.proofs.lemmas.Option.{none-some}
-use Rattle.std.proofs.lemmas.List.{with_items_is, length-map}
+use Rattle.std.proofs.lemmas.List.{with_items_is}
 use Rattle.std.proofs.lemmas.List.Elements.{All-cons, All-nil}
 use Rattle.std.specs.Vec.{with_items}
 use Rattle.wcnf.specs.Literal.{Literal}
 use Rattle.clauses.specs.Slots.{clause_at}
-use Rattle.propagate.specs.Trail.{Assigned, literals_of, reason_in}
+use Rattle.propagate.specs.Trail.{Assigned, reason_in}
 use Rattle.propagate.specs.Watches.{is_attached}
-use Rattle.lrat_log.specs.declared.lines.Kind.TheVariants.{Unit as UnitKind}
 use Rattle.cdcl.specs.Running.{Runs, HasRoom}
 use Rattle.cdcl.specs.Hinting.{AreHintsOf, AreNoted}
 use Rattle.cdcl.proofs.HintNames.{hint_ids}
 use Rattle.cdcl.proofs.Placing.{literal_small}
-use Rattle.cdcl.proofs.UnitLines.{flat_reason, IsNext, is_next, next_noted, adds_unit, runs_noted, NotesOne}
+use Rattle.cdcl.proofs.UnitLines.{flat_reason, is_next, next_noted, adds_unit, runs_noted}
 use Rattle.analyze.proofs.Reasoning.{reason_at}
 use Rattle.std.proofs.lemmas.List.{get_or-map}
 use Rattle.cdcl.proofs.noting.note_unit.Goals as goal

@@ -1,9 +1,5 @@
 -- The trail stays, and each round notes its next literal.
-use Rattle.std.proofs.Common.{◌≡◌, ℕ, ◌-◌, length}
-use Rattle.propagate.specs.Trail.{literals_of}
-use Rattle.propagate.specs.Fits.{IsFalseClause}
-use Rattle.analyze.specs.Learning.{IsQuiet}
-use Rattle.cdcl.specs.Running.{Runs, Writes}
+use Rattle.std.proofs.Common.{◌-◌, length}
 use Rattle.cdcl.proofs.NotedUnits.{IsNoting}
 use Rattle.cdcl.proofs.noting.note_units.Given as goal
 

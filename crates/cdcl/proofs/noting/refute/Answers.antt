@@ -1,6 +1,5 @@
 -- The empty clause follows from the conflict and the unit clauses of level 0.
-use Rattle.std.proofs.Common.{◌≡◌, ℕ, ◌<◌, ◌≤◌, true, List, [], ◌∷◌, ◌++◌, refl, sym, ◌∙◌, ap, subst, arith}
-use Rattle.std.specs.Prelude.{All}
+use Rattle.std.proofs.Common.{◌≡◌, ◌<◌, true, [], ◌∷◌, ◌++◌, refl, sym, ◌∙◌, ap, subst, arith}
 use Rattle.std.proofs.lemmas.Result.{on_ok_weaker, on_err_weaker}
 use Rattle.std.proofs.lemmas.List.Elements.{All-cons, All-nil}
 use Rattle.wcnf.specs.Literal.{Literal}
@@ -12,7 +11,7 @@ use Rattle.cdcl.specs.Running.{IsEnded, StaysOpen, Writes}
 use Rattle.cdcl.specs.Hinting.{AreHintsOf, AreNoted}
 use Rattle.cdcl.proofs.HintNames.{hint_ids}
 use Rattle.cdcl.proofs.Placing.{adding_line}
-use Rattle.cdcl.proofs.Written.{writes_none, writes_short, writes_join, either}
+use Rattle.cdcl.proofs.Written.{writes_short, writes_join, either}
 use Rattle.cdcl.proofs.EmptyLine.{all_noted, adds_empty, is_ended}
 use Rattle.cdcl.proofs.noting.refute.Goals as goal
 

@@ -1,10 +1,13 @@
 use Rattle.std.proofs.Common.{◌≡◌}
-use Rattle.cdcl.specs.Running.{Runs, Writes}
+use Rattle.cdcl.specs.Running.{Writes}
+use Rattle.cdcl.specs.Deletions.{IsDeleting}
+use Rattle.cdcl.proofs.Deleting.{AreGone}
 use Rattle.cdcl.proofs.reducing.delete_all.Given as goal
 
 abbrev pub invariant-loop-reference : goal.invariant-loop-reference
 invariant-loop-reference g l = record {
-  runs : Runs l.search l.problem (g.S.Sink.lines l.sink);
+  deleting : IsDeleting l.search l.problem (g.S.Sink.lines l.sink) l.doomed.items;
+  gone : AreGone l.search.store.slots l.chosen l.reference-index l.doomed.items;
   variables : l.search.engine.variables ≡ l.fn.search.engine.variables;
   writes : Writes l.problem.given.items (g.S.Sink.lines l.fn.sink) (g.S.Sink.lines l.sink) 0;
 }

@@ -1,4 +1,3 @@
-use Rattle.std.proofs.Common.{◌≡◌}
 use Rattle.cdcl.specs.Running.{Runs, Pays}
 use Rattle.cdcl.specs.Moves.{rounds_left}
 use Rattle.cdcl.proofs.searching.descend.Given as goal

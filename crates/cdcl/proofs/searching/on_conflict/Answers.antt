@@ -1,4 +1,4 @@
-use Rattle.std.proofs.Common.{◌≡◌, ◌-◌, sym, ◌∙◌, subst, arith}
+use Rattle.std.proofs.Common.{◌-◌, sym, ◌∙◌, subst, arith}
 use Rattle.propagate.specs.Trail.{literals_of, depth_of, kept_to}
 use Rattle.cdcl.specs.Running.{Pays}
 use Rattle.cdcl.proofs.Written.{writes_join}

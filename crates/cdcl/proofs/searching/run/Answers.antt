@@ -1,5 +1,5 @@
 -- Propagation at level 0, and then the rounds.
-use Rattle.std.proofs.Common.{◌≡◌, ℕ, ◌≤◌, ◌+◌, refl, sym, ◌∙◌, ap, subst, arith}
+use Rattle.std.proofs.Common.{◌≡◌, ◌+◌, ◌∙◌, ap, subst, arith}
 use Rattle.std.specs.Prelude.{IfNone}
 use Rattle.std.proofs.lemmas.Result.{IfOk-weaker}
 use Rattle.propagate.specs.Trail.{depth_of, kept_to, literals_of}

@@ -1,4 +1,4 @@
-use Rattle.std.proofs.Common.{◌≡◌, sym, subst}
+use Rattle.std.proofs.Common.{sym, subst}
 use Rattle.lrat_log.specs.Log.{IsLine}
 use Rattle.cdcl.proofs.Placing.{adding_line}
 use Rattle.cdcl.proofs.search.Search.add_line.Goals as goal

@@ -1,5 +1,4 @@
-use Rattle.std.proofs.Common.{◌≡◌, ℕ, ◌≤◌, Bool, Some, true, false, not, length, get_or, refl, sym, ◌∙◌, ap, arith}
-use Rattle.std.specs.Prelude.{All}
+use Rattle.std.proofs.Common.{◌≡◌, ℕ, Bool, Some, true, false, not, length, get_or, refl, sym, ◌∙◌, ap, arith}
 use Rattle.std.proofs.lemmas.Bool.{ltb-true}
 use Rattle.std.proofs.lemmas.List.Elements.{recursion_from_All}
 use Rattle.wcnf.specs.Literal.{Literal}
@@ -9,7 +8,6 @@ use Rattle.propagate.proofs.Looking.{attached_within, within_all}
 use Rattle.analyze.proofs.Reasoning.{no_reason}
 use Rattle.lrat_log.specs.declared.lines.Name.{Name}
 use Rattle.cdcl.specs.Invariant.{is_kept_name}
-use Rattle.cdcl.specs.Moves.{MayBeDeleted}
 use Rattle.cdcl.proofs.Places.{live_within}
 use Rattle.cdcl.proofs.Deleting.{named_at}
 use Rattle.cdcl.proofs.search.Search.may_delete.Goals as goal

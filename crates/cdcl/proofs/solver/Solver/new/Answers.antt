@@ -1,18 +1,16 @@
 -- What elimination leaves starts the search.
-use Rattle.std.proofs.Common.{◌≡◌, ℕ, ◌<◌, ◌≤◌, ◌+◌, ◌^◌, false, List, [], length, rules, take, drop, map, refl, sym, ◌∙◌, ap, subst, arith}
-use Rattle.std.specs.Prelude.{All, Contains}
+use Rattle.std.proofs.Common.{◌≡◌, ◌<◌, ◌≤◌, ◌+◌, ◌^◌, false, List, length, rules, take, map, sym, ◌∙◌, ap, subst, arith}
+use Rattle.std.specs.Prelude.{All}
 use Rattle.std.proofs.lemmas.List.{drop_all}
 use Rattle.wcnf.specs.Literal.{Literal}
 use Rattle.wcnf.specs.Clause.{has_repeat}
 use Rattle.wcnf.specs.Refute.{IsRefutedByHints}
-use Rattle.wcnf.specs.Formula.{Cnf}
 use Rattle.clauses.specs.Slots.{live_clauses}
-use Rattle.lrat_log.specs.Steps.{StaysLogOver, given_of, IsLogOver}
+use Rattle.lrat_log.specs.Steps.{StaysLogOver, given_of}
 use Rattle.eliminate.specs.Elimination.{ExtendsBack, IsFree}
 use Rattle.cdcl.specs.declared.problem.Problem.{Problem}
-use Rattle.cdcl.specs.Running.{IsProblem, IsSolver, Runs}
 use Rattle.cdcl.proofs.Placing.{added_few}
-use Rattle.cdcl.proofs.FirstRun.{IsLeft, formula_again, left_from, live_map, left_rising, left_live, left_within, left_numbers, new_problem, first_clauses, first_runs}
+use Rattle.cdcl.proofs.FirstRun.{formula_again, left_from, live_map, left_rising, left_live, left_within, left_numbers, new_problem, first_clauses, first_runs}
 use Rattle.cdcl.proofs.Answered.{log_now}
 use Rattle.cdcl.proofs.solver.Solver.new.Goals as goal
 

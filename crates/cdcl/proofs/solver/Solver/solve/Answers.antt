@@ -1,9 +1,9 @@
-use Rattle.std.proofs.Common.{◌≡◌, length, sym, ◌∙◌, ap, subst}
+use Rattle.std.proofs.Common.{◌≡◌, length, sym, ◌∙◌, subst}
 use Rattle.std.specs.Prelude.{All}
 use Rattle.lrat_log.specs.Steps.{IsLogOver, IsAcceptedLog, IsLearnedOrShort}
 use Rattle.cdcl.specs.Solving.{given_to, lines_since, SatisfyGiven, IsPlainlyRefuted, IsLiveRefuted}
 use Rattle.cdcl.specs.Running.{IsAnswer}
-use Rattle.cdcl.proofs.Answered.{written_short, given_seen, log_now, ended_log, not_plain, solver_runs, solver_fails, solver_ends}
+use Rattle.cdcl.proofs.Answered.{written_short, given_seen, log_now, ended_log, not_plain, solver_runs, solver_fails}
 use Rattle.cdcl.proofs.solver.Solver.solve.Goals as goal
 
 pub returns-then-self-clause-lines : goal.returns-then-self-clause-lines
