@@ -119,8 +119,36 @@ for words in '--conflicts 4611686018427387905' '--conflicts x' '--profile 4' '--
     run solve $words text
     ok "refused: $words" [ "$status" = 2 ]
 done
-run solve --help
-ok 'help' [ "$status" = 0 ]
-ok 'help names the statuses' grep -q 's UNSATISFIABLE' <<< "$out"
+for words in solve check encode ''; do
+    run $words --help
+    ok "help: $words" [ "$status$err" = 0 ]
+    ok "help names the statuses: $words" grep -q '^Statuses: *' <<< "$out"
+    ok "help has an example: $words" grep -q "^  wmax ${words:-solve} " <<< "$out"
+done
+for words in --version -V; do
+    run $words
+    ok "$words" [ "$status $err" = '0 ' ]
+    ok "$words names the program" grep -qxE 'wmax [0-9]+\.[0-9]+\.[0-9]+' <<< "$out"
+done
+for words in $'te\377xt' $'--proof=\200'; do
+    run solve "$words"
+    expect 'a word that is not UTF-8' 2 "" 'error: a word of the command line is not UTF-8'
+done
+
+# Standard input, output and error may be closed at the start: no file that is opened takes their number.
+lines text 'h 1 2 0' '3 -1 0' '4 -2 0'
+run solve --proof wanted text
+for closed in '<&-' '>&-' '2>&-' '<&- >&-' '<&- 2>&-' '>&- 2>&-' '<&- >&- 2>&-'; do
+    rm -f "$work/proof"
+    printed=$(cd "$work" && eval "\"$wmax\" solve --proof proof text $closed")
+    status=$?
+    ok "closed $closed: status $status" [ "$status" = 30 ]
+    ok "closed $closed: the certificate, and nothing else" cmp -s "$work/proof" "$work/wanted"
+    ok "closed $closed: the instance is kept" cmp -s "$work/text" "$work/kept"
+    case $closed in
+        *'>&- '* | '>&-' | *' >&-') ok "closed $closed: nothing printed" [ -z "$printed" ] ;;
+        *) ok "closed $closed: the result" [ "$printed" = "$out" ] ;;
+    esac
+done
 
 totals

@@ -21,13 +21,54 @@ Statuses:
   20  s UNSATISFIABLE    no assignment satisfies the hard clauses
   10  s SATISFIABLE      the effort ran out; the bits are a solution, maybe not the cheapest
    0  s UNKNOWN          the effort ran out before a solution was met
-   2  a faulty FILE or command line; 3  a file, memory or output that failed
+   2  the FILE or the command line is faulty
+   3  a file cannot be opened, read or written, or memory is refused
+
+--conflicts N bounds the effort: each learned clause and each solution costs one unit. A million units
+take a minute or more, and some hundred bytes of memory each, as what was learned is kept for the
+certificate. The same N gives the same answer on each machine, whatever its speed.
 
 The certificate proves OPTIMUM FOUND and UNSATISFIABLE to whoever checks it, and is written before the
 's' line. For the other two none is. Without --proof it is dropped.
 
+Example:
+  wmax solve --proof a.lrat a.wcnf > a.result";
+
+const CHECK_NOTES: &str = "\
+OPTIMUM FOUND is checked against the formula for 'cheaper than the last o line', UNSATISFIABLE against the
+hard clauses. A result that says SATISFIABLE or UNKNOWN claims nothing that a certificate shows: NO.
+
+Statuses:
+   0  YES: the result is true
+   1  NO, the first fault, and the line of the text, result or certificate that it stands on
+   2  the command line is faulty
+   3  a file cannot be opened or read, the verdict cannot be written, or memory is refused
+
+Example:
+  wmax check a.wcnf a.result a.lrat";
+
+const ENCODE_NOTES: &str = "\
+A certificate for cost COST refutes this formula. Another LRAT checker takes it, and a SAT solver that
+writes LRAT can make one.
+
+Statuses:
+   0  the formula is written
+   2  the FILE or the command line is faulty
+   3  a file cannot be opened or read, the formula cannot be written, or memory is refused
+
+Example:
+  wmax encode a.wcnf 4 > a.cnf";
+
+const NOTES: &str = "\
+Statuses: solve 30, 20, 10, 0; check 0, 1; encode 0; each 2 and 3 for faults. 'wmax COMMAND --help' says
+what they mean.
+
+Example:
   wmax solve --proof a.lrat a.wcnf > a.result
   wmax check a.wcnf a.result a.lrat";
+
+/// What `--version` prints after the name.
+const VERSION: &str = "1.0.0";
 
 fn path<'a>(alloc: Global, id: &'a str, help: &'a str) -> Arg<'a> {
     Arg::new(alloc, id)
@@ -91,6 +132,7 @@ fn check<'a>(alloc: Global) -> Result<Command<'a>, Error> {
         .about(
             "Checks a result and its LRAT certificate, and prints YES, or NO with the first fault and its line",
         )
+        .after_help(CHECK_NOTES)
         .arg(path(alloc, "FILE", "The instance, a WCNF text"))?
         .arg(path(
             alloc,
@@ -112,6 +154,7 @@ fn encode<'a>(alloc: Global) -> Result<Command<'a>, Error> {
         .about(
             "Prints a formula as DIMACS CNF that is satisfiable exactly when some solution costs less than COST",
         )
+        .after_help(ENCODE_NOTES)
         .arg(path(alloc, "FILE", "The instance, a WCNF text"))?
         .arg(cost)?
         .arg(profile(alloc))?;
@@ -122,6 +165,8 @@ fn encode<'a>(alloc: Global) -> Result<Command<'a>, Error> {
 pub fn command<'a>(alloc: Global) -> Result<Command<'a>, Error> {
     let command = Command::new(alloc, "wmax")
         .about("Certified weighted partial MaxSAT")
+        .version(VERSION)
+        .after_help(NOTES)
         .subcommand_required(true)
         .disable_help_subcommand(true)
         .subcommand(solve(alloc)?)?

@@ -15,7 +15,7 @@ use report::fault::RunFault;
 use report::options::{self, MOST_CONFLICTS, MOST_COST};
 use report::printing::{delivered, fault_code, print_fault, print_verdict, verdict_code};
 use report::running::run_as;
-use std::fs::File;
+use std::fs::{File, OpenFile, OpenOptions};
 use std::io::{Read, Write};
 use std::mem::ManuallyDrop;
 use std::process::ExitCode;
@@ -137,10 +137,20 @@ fn told<E: Write>(err: &mut E, outcome: Result<u8, RunFault>) -> u8 {
     }
 }
 
+/// The exit status where the command line cannot be read: refused memory, or a word that is not UTF-8.
+fn told_words<E: Write>(err: &mut E, kind: io::ErrorKind) -> u8 {
+    if kind == io::ErrorKind::OutOfMemory {
+        return told(err, Err(RunFault::Memory));
+    }
+    let _ = writeln!(err, "error: a word of the command line is not UTF-8");
+    2
+}
+
 /// Reads the command line and does what it says.
 fn status<R: Files + AllocGlobal + Print + Eprint + Env, E: Write>(rt: &R, err: &mut E) -> u8 {
-    let Ok(args) = env::args(rt) else {
-        return told(err, Err(RunFault::Memory));
+    let args = match env::args(rt) {
+        Ok(args) => args,
+        Err(error) => return told_words(err, error.kind()),
     };
     let Ok(words) = args.collect(rt.alloc()) else {
         return told(err, Err(RunFault::Memory));
@@ -164,6 +174,24 @@ fn status<R: Files + AllocGlobal + Print + Eprint + Env, E: Write>(rt: &R, err: 
     }
 }
 
+/// The file on which nothing is read and to which anything may be written.
+const NOTHING: &str = "/dev/null";
+
+/// Opens it for reading and writing.
+fn nothing<R: Files>(rt: &R) -> Option<R::File> {
+    let mut options = OpenOptions::new();
+    options.read(true).write(true);
+    match options.open(rt, NOTHING) {
+        Ok(file) => Some(file),
+        Err(_) => None,
+    }
+}
+
+/// Where standard input, output or error was closed at the start, the next file that is opened takes its number, and
+/// what is meant for the terminal would go into that file. So nothing is opened three times first, and held to the end.
 fn main(rt: HostRuntime) -> ExitCode {
-    ExitCode::from(status(&rt, &mut rt.stderr()))
+    let held = [nothing(&rt), nothing(&rt), nothing(&rt)];
+    let ended = status(&rt, &mut rt.stderr());
+    let _ = held;
+    ExitCode::from(ended)
 }
