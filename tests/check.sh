@@ -51,7 +51,20 @@ done <<'ROWS'
 5 -0 0 0|LineForm 1
 5 134217728 0 0|ClauseForm 1
 5 134217727 0 0|NoEmptyClause 0
+\n \n|NoEmptyClause 0
+5 2 0 1 2 0\n5 2 0 1 2 0|IdOrder 2
+5 2 -2 0 1 2 0|ClauseForm 1
+5 2 0 1 2 -3 0|HintAfterConflict 1
+5 3 1 0 0\n6 -3 2 0 0|Candidates 2
+5 3 1 0 0\n6 -3 2 0 -5 1 0\n7 2 0 1 2 0|NoEmptyClause 0
 ROWS
+lines proof '9 1 0 1 3 0' '9 d 1 3 0' '12 0 9 2 4 0'
+verdict 'ids with gaps, and deletions' YES
+lines result 'c' 's UNSATISFIABLE' 'c end'
+lines text 'h 0'
+lines proof '2 0 1 0'
+verdict 'an empty hard clause' YES
+lines result 's UNSATISFIABLE'
 
 # Definitions of a pair of literals.
 lines text 'h 1 2 3 0' 'h 1 2 4 0' 'h 1 2 5 0' 'h 1 2 6 0'
@@ -83,6 +96,14 @@ lines result 's OPTIMUM FOUND' 'v 10'
 verdict 'an optimum without cost' 'NO ResultForm 1'
 lines result 'o 3'
 verdict 'a result that ends too soon' 'NO ResultForm 0'
+lines result 'o 3' 's OPTIMUM FOUND' 'v 12'
+verdict 'a digit that is no bit' 'NO ResultForm 3'
+lines result 'o 3' 's OPTIMUM FOUND' 'v 10' 'v 10'
+verdict 'bits twice' 'NO ResultForm 4'
+lines result 'o 4611686018427387904'
+verdict 'a cost beyond the limit' 'NO ResultForm 1'
+lines result 'o 3' 's SATISFIABLE' 'v 00'
+verdict 'bits of no solution' 'NO NotFeasible 3'
 lines result 'o 3' 's SATISFIABLE' 'v 10'
 verdict 'a solution is no optimum' 'NO StatusWithoutProof 2'
 lines text 'h 1 2 0'

@@ -55,7 +55,7 @@ fault 'the sum of the weights' '4611686018427387903 1 0\n1 -1 0\n' 'line 2: Weig
 fault 'weight 0' '0 1 0\n' 'line 1: Weight'
 fault 'no 0' 'h 1 2\n' 'line 1: NoZero'
 fault 'a leading zero' 'h 01 0\n' 'line 1: Literal'
-fault 'the older form' 'p wcnf 1 1 5\n' 'line 1: OldForm'
+fault 'the older form, a clause too few' 'p wcnf 1 1 5\n' 'line 1: Count'
 fault 'a first token' '-3 1 0' 'line 1: FirstToken'
 fault 'a token after 0' 'h 1 0 2' 'line 1: AfterZero'
 fault 'a great variable' 'h 4194305 0' 'line 1: Variable'

@@ -78,8 +78,12 @@ ROWS
 older() { # FILE: the text of today's form in the older one
     awk '/^(c|$)/ { next }
         { lines[++count] = $0; if ($1 != "h") sum += $1; for (i = 2; i < NF; i++) { v = $i < 0 ? -$i : $i; if (v > most) most = v } }
-        END { print "p wcnf", most + 0, count + 0, sum + 1
-            for (i = 1; i <= count; i++) { sub(/^h/, sum + 1, lines[i]); print lines[i] } }' "$1"
+        END {
+            # awk counts exactly below 2^53; the greatest weight of a header is above all others
+            top = sum < 9007199254740992 ? sprintf("%.0f", sum + 1) : "4611686018427387904"
+            print "p wcnf", most + 0, count + 0, top
+            for (i = 1; i <= count; i++) { sub(/^h/, top, lines[i]); print lines[i] }
+        }' "$1"
 }
 
 awk -v dir="$work" -v count=60 -f tests/random.awk > "$work/wanted"

@@ -80,7 +80,7 @@ done <<'ROWS'
 0 1 0|line 1: Weight
 h 1 2|line 1: NoZero
 h 01 0|line 1: Literal
-p wcnf 1 1 5|line 1: OldForm
+p wcnf 1 1 5|line 1: Count
 ROWS
 
 # The certificate's file is not the instance, whatever it is called.
@@ -135,20 +135,27 @@ for words in $'te\377xt' $'--proof=\200'; do
     expect 'a word that is not UTF-8' 2 "" 'error: a word of the command line is not UTF-8'
 done
 
-# Standard input, output and error may be closed at the start: no file that is opened takes their number.
+# Standard input, output and error may be closed at the start: no file that is opened takes their number. Without
+# standard output the run fails as with any other output that cannot be written.
 lines text 'h 1 2 0' '3 -1 0' '4 -2 0'
 run solve --proof wanted text
-for closed in '<&-' '>&-' '2>&-' '<&- >&-' '<&- 2>&-' '>&- 2>&-' '<&- >&- 2>&-'; do
+for closed in '<&-' '2>&-' '<&- 2>&-' '>&-' '<&- >&-' '2>&- >&-' '<&- 2>&- >&-'; do
     rm -f "$work/proof"
     printed=$(cd "$work" && eval "\"$wmax\" solve --proof proof text $closed")
     status=$?
-    ok "closed $closed: status $status" [ "$status" = 30 ]
-    ok "closed $closed: the certificate, and nothing else" cmp -s "$work/proof" "$work/wanted"
-    ok "closed $closed: the instance is kept" cmp -s "$work/text" "$work/kept"
-    case $closed in
-        *'>&- '* | '>&-' | *' >&-') ok "closed $closed: nothing printed" [ -z "$printed" ] ;;
-        *) ok "closed $closed: the result" [ "$printed" = "$out" ] ;;
+    case " $closed" in
+        *' >&-')
+            ok "closed $closed: status $status" [ "$status" = 3 ]
+            ok "closed $closed: nothing printed" [ -z "$printed" ]
+            ok "closed $closed: no certificate" [ ! -s "$work/proof" ]
+            ;;
+        *)
+            ok "closed $closed: status $status" [ "$status" = 30 ]
+            ok "closed $closed: the result" [ "$printed" = "$out" ]
+            ok "closed $closed: the certificate, and nothing else" cmp -s "$work/proof" "$work/wanted"
+            ;;
     esac
+    ok "closed $closed: the instance is kept" cmp -s "$work/text" "$work/kept"
 done
 
 totals

@@ -174,13 +174,13 @@ fn status<R: Files + AllocGlobal + Print + Eprint + Env, E: Write>(rt: &R, err: 
     }
 }
 
-/// The file on which nothing is read and to which anything may be written.
+/// The file on which nothing is read.
 const NOTHING: &str = "/dev/null";
 
-/// Opens it for reading and writing.
+/// Opens it for reading alone, so that what is written to it fails and is not lost unseen.
 fn nothing<R: Files>(rt: &R) -> Option<R::File> {
     let mut options = OpenOptions::new();
-    options.read(true).write(true);
+    options.read(true);
     match options.open(rt, NOTHING) {
         Ok(file) => Some(file),
         Err(_) => None,
@@ -188,7 +188,8 @@ fn nothing<R: Files>(rt: &R) -> Option<R::File> {
 }
 
 /// Where standard input, output or error was closed at the start, the next file that is opened takes its number, and
-/// what is meant for the terminal would go into that file. So nothing is opened three times first, and held to the end.
+/// what is meant for the terminal would go into that file. So the empty file is opened three times first, and held to
+/// the end.
 fn main(rt: HostRuntime) -> ExitCode {
     let held = [nothing(&rt), nothing(&rt), nothing(&rt)];
     let ended = status(&rt, &mut rt.stderr());

@@ -1,4 +1,4 @@
-// Worked propagations.
+// Small propagations; tests/propagate.drive has longer ones.
 use super::Engine;
 use clauses::store::Store;
 use std::alloc::AllocGlobal;
@@ -34,79 +34,6 @@ fn empty_clause(rt: HostRuntime) -> Result<(), Fail> {
     assert!(rt; engine.attach(&store, empty).is_ok());
     assert!(rt; engine.propagate(&store) == Ok(Some(empty)));
     assert_eq!(rt; engine.depth(), 0);
-    Ok(())
-}
-
-// 1 decides 2, 2 decides 3, and 3 rules 1 out.
-#[test]
-fn cycle(rt: HostRuntime) -> Result<(), Fail> {
-    let one = Lit::new(1, false);
-    let two = Lit::new(2, false);
-    let three = Lit::new(3, false);
-    let mut store = Store::new(rt.alloc());
-    let first = store.add(&[one.negation(), two])?;
-    let second = store.add(&[two.negation(), three])?;
-    let third = store.add(&[three.negation(), one.negation()])?;
-    let mut engine = Engine::new(rt.alloc(), 3)?;
-    assert!(rt; engine.attach(&store, first).is_ok());
-    assert!(rt; engine.attach(&store, second).is_ok());
-    assert!(rt; engine.attach(&store, third).is_ok());
-    engine.decide(one);
-    let found = engine.propagate(&store);
-    assert!(rt; found == Ok(Some(first)) || found == Ok(Some(second)) || found == Ok(Some(third)));
-    engine.backtrack(0);
-    assert_eq!(rt; engine.value(one), None);
-    assert_eq!(rt; engine.value(two), None);
-    assert_eq!(rt; engine.value(three), None);
-    Ok(())
-}
-
-// A clause is attached while it is unit at a lower level than the current one. What it makes true is found again where
-// only the upper level is undone.
-#[test]
-fn attached_while_unit(rt: HostRuntime) -> Result<(), Fail> {
-    let one = Lit::new(1, false);
-    let two = Lit::new(2, false);
-    let three = Lit::new(3, false);
-    let mut store = Store::new(rt.alloc());
-    let clause = store.add(&[one.negation(), two])?;
-    let mut engine = Engine::new(rt.alloc(), 3)?;
-    engine.decide(one);
-    assert_eq!(rt; engine.value(three), None);
-    engine.decide(three);
-    assert!(rt; engine.attach(&store, clause).is_ok());
-    assert!(rt; engine.propagate(&store) == Ok(None));
-    assert_eq!(rt; engine.value(two), Some(true));
-    assert_eq!(rt; engine.depth(), 2);
-    engine.backtrack(1);
-    assert_eq!(rt; engine.value(two), None);
-    assert!(rt; engine.propagate(&store) == Ok(None));
-    assert_eq!(rt; engine.value(two), Some(true));
-    assert_eq!(rt; engine.level(2), Some(1));
-    Ok(())
-}
-
-// A decision comes before propagation has finished, and is undone again.
-#[test]
-fn decided_before_the_end(rt: HostRuntime) -> Result<(), Fail> {
-    let one = Lit::new(1, false);
-    let two = Lit::new(2, false);
-    let three = Lit::new(3, false);
-    let mut store = Store::new(rt.alloc());
-    let clause = store.add(&[one.negation(), two])?;
-    let mut engine = Engine::new(rt.alloc(), 3)?;
-    assert!(rt; engine.attach(&store, clause).is_ok());
-    assert!(rt; engine.propagate(&store) == Ok(None));
-    assert_eq!(rt; engine.value(one), None);
-    engine.decide(one);
-    assert_eq!(rt; engine.value(three), None);
-    engine.decide(three);
-    assert!(rt; engine.propagate(&store) == Ok(None));
-    assert_eq!(rt; engine.value(two), Some(true));
-    assert_eq!(rt; engine.depth(), 2);
-    engine.backtrack(1);
-    assert!(rt; engine.propagate(&store) == Ok(None));
-    assert_eq!(rt; engine.value(two), Some(true));
     Ok(())
 }
 
