@@ -15,31 +15,31 @@ done
 cp tests/pieces.drive "$work/crates/drive/src/main.rt"
 echo 'drive: wcnf adder bound lrat_check' >> "$work/crates.txt"
 
-# driven NAME SEED ROUNDS: of text, result and proof
-driven() {
-    out=$(cd "$work/crates/drive" && "${RT:-rt}" try --steps 1000000000 --seconds 100 -- "$work/text" "$work/result" "$work/proof" "$2" "$3" \
+# some NAME TEXT: a certificate of this text over the four clauses of two variables
+some() {
+    lines "$1.wcnf" 'h 1 2 0' 'h -1 2 0' 'h 1 -2 0' 'h -1 -2 0'
+    lines "$1.result" 's UNSATISFIABLE'
+    printf "$2" > "$work/$1.lrat"
+}
+
+some rup '5 2 0 1 2 0\n6 0 5 3 4 0\n'
+some definition '5 3 1 0 0\n6 -3 2 0 -5 1 0\n7 2 0 1 2 0\n8 0 7 3 4 0\n'
+some blanks '\r\n5 2\t0 1 2 0 \r\n5 d 1 2 0\n\n6 0 5  3 4 0'
+for name in packages timetable; do
+    cp "examples/$name.wcnf" "examples/$name.result" "examples/$name.lrat" "$work"
+done
+files=
+for name in rup definition blanks packages timetable; do
+    files="$files $work/$name.wcnf $work/$name.result $work/$name.lrat"
+done
+[ $# -gt 0 ] || set -- 1
+for seed; do
+    # shellcheck disable=SC2086
+    out=$(cd "$work/crates/drive" && "${RT:-rt}" try --steps 1000000000 --seconds 400 -- "$seed" 40 $files \
         2> "$work/.err" | grep -E '^(ok |[a-z])' | head -n 1)
     status=0
     err=
-    expect "$1, seed $2" 0 "ok $3" ''
-}
-
-[ $# -gt 0 ] || set -- 1
-for seed; do
-    lines text 'h 1 2 0' 'h -1 2 0' 'h 1 -2 0' 'h -1 -2 0'
-    lines result 's UNSATISFIABLE'
-    lines proof '5 2 0 1 2 0' '6 0 5 3 4 0'
-    driven 'two RUP lines' "$seed" 300
-    lines proof '5 3 1 0 0' '6 -3 2 0 -5 1 0' '7 2 0 1 2 0' '8 0 7 3 4 0'
-    driven 'a definition' "$seed" 300
-    printf '\r\n5 2\t0 1 2 0 \r\n5 d 1 2 0\n\n6 0 5  3 4 0' > "$work/proof"
-    driven 'blanks, CR LF and no LF at the end' "$seed" 300
-    for name in packages timetable vcover; do
-        cp "examples/$name.wcnf" "$work/text"
-        cp "examples/$name.result" "$work/result"
-        cp "examples/$name.lrat" "$work/proof"
-        driven "$name" "$seed" 20
-    done
+    expect "certificates in pieces, seed $seed" 0 'ok 200' ''
 done
 
 # the program
