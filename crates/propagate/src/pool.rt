@@ -50,7 +50,6 @@ pub struct WatchPool {
     heads: Vec<Head>,
     // The number of places at the block's front in which all rows lie.
     used: usize,
-    alloc: Global,
 }
 
 impl Model for WatchPool {
@@ -77,7 +76,6 @@ impl WatchPool {
             block,
             heads,
             used: 0,
-            alloc,
         })
     }
 
@@ -282,7 +280,7 @@ impl WatchPool {
         if count < self.used {
             return Err(AllocError);
         }
-        let mut next = Block::new(self.alloc, count, fill)?;
+        let mut next = Block::new(*self.heads.allocator(), count, fill)?;
         for place in 0..self.used {
             next.set(place, self.block.get(place));
         }
