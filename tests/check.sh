@@ -60,6 +60,16 @@ done <<'ROWS'
 ROWS
 lines proof '9 1 0 1 3 0' '9 d 1 3 0' '12 0 9 2 4 0'
 verdict 'ids with gaps, and deletions' YES
+# Memory is given back: 2,000 copies of a clause, of which every fifth hundredth stays and is used.
+{
+    seq 5 2004 | sed 's/$/ 2 0 1 2 0/'
+    echo "2004 d $(seq 5 2004 | awk '$1 % 500' | tr '\n' ' ')0"
+    printf '%s\n' '2005 1 2 0 1500 0' '2006 2 0 2005 2 0' '2006 d 1000 2000 0' \
+        '2007 0 1500 3 4 0'
+} > "$work/proof"
+verdict 'a clause that stays among 2,000 that go' YES
+sed '$s/1500/1501/' "$work/proof" > "$work/proof2" && mv "$work/proof2" "$work/proof"
+verdict 'one that went' 'NO DeadId 2005'
 lines result 'c' 's UNSATISFIABLE' 'c end'
 lines text 'h 0'
 lines proof '2 0 1 0'

@@ -36,6 +36,3 @@ pub(crate) fn judge_whole(checker: Checker, proof: &[u8]) -> Result<Verdict, All
     checker.feed(proof).map_err(|_| AllocError)?;
     checker.finish().map_err(|_| AllocError)
 }
-
-#[cfg(test)]
-mod tests;

@@ -187,6 +187,3 @@ fn solution_fault(instance: &Instance, solution: &Solution) -> Option<Verdict>
     }
     None
 }
-
-#[cfg(test)]
-mod tests;

@@ -9,8 +9,6 @@ mod append;
 mod counts;
 mod entries;
 mod reclaim;
-#[cfg(test)]
-mod tests;
 
 use crate::live::append::append;
 use crate::live::counts::{count_all, count_last, count_of, count_out, is_next, times_in};

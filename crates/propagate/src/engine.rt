@@ -310,6 +310,3 @@ impl Engine {
         }
     }
 }
-
-#[cfg(test)]
-mod tests;

@@ -29,6 +29,3 @@ impl Engine {
         Ok(moves)
     }
 }
-
-#[cfg(test)]
-mod tests;
