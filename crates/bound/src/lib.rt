@@ -11,5 +11,3 @@ mod hard;
 mod keeping;
 mod marks;
 mod relaxing;
-#[cfg(test)]
-mod tests;

@@ -9,5 +9,3 @@ pub mod printing;
 pub mod running;
 pub mod status;
 pub mod telling;
-#[cfg(test)]
-mod tests;
