@@ -2,18 +2,18 @@
 use Rattle.std.proofs.Common.{◌≡◌, ℕ, suc, zero, ◌+◌, ◌-◌, ◌*◌, ◌<◌, ◌≤◌, Bool, true, false, List, [], ◌∷◌, Some, inl, inr, refl, sym, ◌∙◌, ap, subst, arith, length, get_or, take, drop}
 use Rattle.std.specs.Prelude.{◌==◌}
 use Rattle.std.specs.List.{position_or_len}
-use Rattle.std.proofs.lemmas.Bool.{ne_eqb, eqb-true, le-ltb, cases_eq}
+use Rattle.std.proofs.lemmas.Bool.{eqb-true, le-ltb, cases_eq}
 use Rattle.std.proofs.lemmas.List.{take_more, take_rest, length-take-le, get_or-take}
 use Rattle.std.proofs.lemmas.Option.{none-some}
 use Rattle.std.proofs.lemmas.List.Sums.{position_or_len_is}
 use Rattle.std.specs.Int.{from_bool}
 use Rattle.wcnf.specs.Literal.{Literal}
-use Rattle.wcnf.specs.Text.{is_blank, is_digit, value_on, number_of, tokens_of}
+use Rattle.wcnf.specs.Text.{is_blank, value_on, number_of, tokens_of}
 use Rattle.wcnf.specs.Reading.{word_of, Literal_word}
 use Rattle.wcnf.specs.Seen.{seen}
 use Rattle.wcnf.specs.declared.words.Word.TheVariants as Word
 use Rattle.wcnf.specs.Ahead.{BeginsWithDigits, BeginsWithVariable, BeginsWithLiteral, IsNextWord}
-use Rattle.wcnf.proofs.Numbers.{IsNumber, number_of-is, digit_bounds, literal_of-number}
+use Rattle.wcnf.proofs.Numbers.{IsNumber, number_of-is, digit_is_no_blank, literal_of-number}
 use Rattle.wcnf.proofs.CappedNumbers.{value_on-push, all_digits}
 use Rattle.wcnf.proofs.FirstPieces.{tokens-first}
 
@@ -22,13 +22,6 @@ pub value-more : (ds : List ℕ) (i v d : ℕ) → i < length ds → v ≡ value
 value-more ds i v d l before here =
     ap (λ n. 10 * n + d) before ∙ ap (λ m. 10 * value_on 0 (take i ds) + m) here
     ∙ sym (value_on-push 0 (take i ds) (get_or ds i 0)) ∙ ap (value_on 0) (sym (take_more ds i 0 l))
-
-digit_is_no_blank : (b : ℕ) → is_digit b ≡ true → is_blank b ≡ false
-digit_is_no_blank b e =
-    let h = digit_bounds b e in
-    let space : (b == 32) ≡ false = ne_eqb b 32 (omega (arith, h.0)) in
-    let tab : (b == 9) ≡ false = ne_eqb b 9 (omega (arith, h.0)) in
-    rw (space, tab) refl
 
 -- digits that begin with no 0, and are not all 0
 pub begins_variable : (bytes : List ℕ) (v n : ℕ) → BeginsWithDigits bytes v n → 0 < v → (get_or bytes 0 0 ≡ 48 → ⊥) → BeginsWithVariable bytes v n

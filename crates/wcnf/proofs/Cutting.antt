@@ -2,9 +2,9 @@
 use Rattle.std.proofs.Common.{◌≡◌, ℕ, zero, suc, ◌+◌, ◌-◌, ◌<◌, ◌≤◌, ◌^◌, List, [], ◌∷◌, ◌++◌, length, get_or, Some, refl, sym, ap, arith}
 use Rattle.std.specs.Prelude.{slice_range, slice_get}
 use Rattle.std.proofs.lemmas.List.{length-append}
-use Rattle.std.proofs.lemmas.Grind.{common_steps}
 use Rattle.wcnf.specs.Literal.{Literal}
 use Rattle.wcnf.specs.Flat.{cut_from, RiseTo, AreCut, start_at}
+use Rattle.wcnf.proofs.Laid.{range-append, range-appended}
 
 pub length-cut : (start : ℕ) (ls : List Literal) (es : List ℕ) → length (cut_from start ls es) ≡ length es
 length-cut start ls [] = refl
@@ -40,16 +40,10 @@ cut_at start ls (e ∷ es) zero l = refl
 cut_at start ls (e ∷ es) (suc i) l = cut_at e ls es i (omega arith)
 
 -- one more clause
-range-more : (ls more : List Literal) (start end : ℕ) → start ≤ end → end ≤ length ls → slice_range (ls ++ more) start end ≡ slice_range ls start end
-range-more ls more start end h l = Prim.grind (arith, common_steps)
-
-range-last : (ls more : List Literal) → slice_range (ls ++ more) (length ls) (length ls + length more) ≡ more
-range-last ls more = Prim.grind (arith, common_steps)
-
 cut-more : (start : ℕ) (ls more : List Literal) (es : List ℕ) → RiseTo start es (length ls) → cut_from start (ls ++ more) (es ++ (length ls + length more) ∷ []) ≡ cut_from start ls es ++ more ∷ []
-cut-more start ls more [] h = rw h (ap (λ c. c ∷ []) (range-last ls more))
+cut-more start ls more [] h = rw h (ap (λ c. c ∷ []) (range-appended ls more (length ls) (length ls + length more) refl refl))
 cut-more start ls more (e ∷ es) h =
-    λ i. range-more ls more start e h.0 (rise-le e es (length ls) h.1) i ∷ cut-more e ls more es h.1 i
+    λ i. range-append ls more start e h.0 (rise-le e es (length ls) h.1) i ∷ cut-more e ls more es h.1 i
 
 pub clause_added : (ls more : List Literal) (es : List ℕ) → AreCut ls es → cut_from 0 (ls ++ more) (es ++ (length ls + length more) ∷ []) ≡ cut_from 0 ls es ++ more ∷ []
 clause_added ls more es h = cut-more 0 ls more es h.rise

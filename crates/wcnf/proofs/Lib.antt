@@ -7,7 +7,9 @@ pub mod Headers
 pub mod Texts
 pub mod Witness
 pub mod Passing
+pub mod Laid
 pub mod Cutting
+pub mod Rising
 pub mod Marks
 pub mod Zeros
 pub mod FirstPieces

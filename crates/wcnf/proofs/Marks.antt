@@ -4,6 +4,7 @@ use Rattle.std.specs.Prelude.{if◌then◌else◌}
 use Rattle.std.specs.List.{AllByRecursion}
 use Rattle.std.proofs.lemmas.Bool.{and_from, or_from, or_parts, or_left, eq-eqb, false_from_ne_true, cases_Bool, both_ways, cases_lt}
 use Rattle.std.proofs.lemmas.List.{get_or_past}
+use Rattle.std.proofs.Math.Bool.{or-false}
 use Rattle.wcnf.specs.Literal.{Literal, literal_eq, same_bool, index_of}
 use Rattle.wcnf.specs.Clause.{contains_literal, has_repeat}
 use Rattle.wcnf.specs.Drafts.{AreMarked}
@@ -44,13 +45,9 @@ index_above_at : (v n : ℕ) (s : Bool) → n < v → 2 * n ≤ 2 * (v - 1) + (i
 index_above_at v n true h = omega arith
 index_above_at v n false h = omega arith
 
-or_nil : (b : Bool) → (b || false) ≡ b
-or_nil true = refl
-or_nil false = refl
-
 -- one more literal at the end
 pub contains-push : (m : Literal) (c : List Literal) (l : Literal) → contains_literal m (c ++ l ∷ []) ≡ (contains_literal m c || literal_eq m l)
-contains-push m [] l = or_nil (literal_eq m l)
+contains-push m [] l = or-false (literal_eq m l)
 contains-push m (k ∷ c) l = elim (literal_eq m k) as (λ b. (b || contains_literal m (c ++ l ∷ [])) ≡ ((b || contains_literal m c) || literal_eq m l)) [ true ↦ refl | false ↦ contains-push m c l ]
 
 pub repeat-push : (c : List Literal) (l : Literal) → contains_literal l c ≡ false → has_repeat c ≡ false → has_repeat (c ++ l ∷ []) ≡ false
@@ -64,9 +61,6 @@ repeat-push (k ∷ c) l n h =
 positive-push : (c : List Literal) (l : Literal) → AllByRecursion (λ k. 0 < k.variable) c → 0 < l.variable → AllByRecursion (λ k. 0 < k.variable) (c ++ l ∷ [])
 positive-push [] l a p = (p, tt)
 positive-push (k ∷ c) l a p = (a.0, positive-push c l a.1 p)
-
-pub marked-nil : AreMarked 0 [] []
-marked-nil = record { count = refl; marked = λ l p. refl; positive = tt; once = refl }
 
 marked_one : (marks : List Bool) (c : List Literal) (l m : Literal) → 0 < l.variable → 0 < m.variable → index_of l < length marks → get_or marks (index_of m) false ≡ contains_literal m c → get_or (set marks (index_of l) true) (index_of m) false ≡ contains_literal m (c ++ l ∷ [])
 marked_one marks c l m p q within e =

@@ -78,7 +78,7 @@ negation-value_at true false e = absurd (true≢false e)
 negation-value_at false true e = absurd (true≢false e)
 negation-value_at false false e = refl
 
-negation-value : (t : Assignment) (l : Literal) → literal_value t l ≡ false → literal_value t (negation l) ≡ true
+pub negation-value : (t : Assignment) (l : Literal) → literal_value t l ≡ false → literal_value t (negation l) ≡ true
 negation-value t l e = negation-value_at (t l.variable) l.negated e
 
 pub negations_true : (t : Assignment) (c : List Literal) → clause_value t c ≡ false → AreTrue t (map negation c)

@@ -10,7 +10,7 @@ literal_in a = record { variable = a.code / 2; negated = a.code % 2 == 1 }
 abbrev pub code_of : Literal → Inside
 code_of l = record { code = 2 * l.variable + (if l.negated then 1 else 0) }
 
-parity : (r : ℕ) → r < 2 → (if r == 1 then 1 else 0) ≡ r
+pub parity : (r : ℕ) → r < 2 → (if r == 1 then 1 else 0) ≡ r
 parity r h = Prim.grind arith
 
 pub code_of-literal_in : (a : Inside) → code_of (literal_in a) ≡ a
