@@ -2,7 +2,7 @@
 use Rattle.std.proofs.Common.{◌≡◌, ℕ, ◌<◌, ◌^◌, Bool, true, false, List, [], ◌∷◌, ◌++◌, map, Option, Some, None, ◌⊎◌, inl, inr, refl, sym, ◌∙◌, ap, subst, append_assoc}
 use Rattle.std.proofs.lemmas.List.{map-append}
 use Rattle.std.proofs.Math.Bool.{cond}
-use Rattle.std.specs.Prelude.{◌↔◌, ◌==◌, All}
+use Rattle.std.specs.Prelude.{◌==◌}
 use Rattle.std.specs.List.{AllByRecursion, list_any, flat_map}
 use Rattle.std.specs.Fmt.{decimal}
 use Rattle.std.proofs.lemmas.Bool.{cond-false, eqb-true, ne_eqb, cases_Bool, both_ways, eq-eqb, true≢false}
@@ -10,6 +10,7 @@ use Rattle.std.proofs.lemmas.List.Elements.{All-from_recursion, recursion_from_A
 use Rattle.wcnf.specs.Literal.{Literal}
 use Rattle.wcnf.specs.Text.{literal_text}
 use Rattle.wcnf.specs.Lrat.{CandidateHints, ProofLine, Addition as AddsLine, Deletion as DeletesLine, group_tokens, line_tokens, IsId, HasNumbers}
+use Rattle.wcnf.proofs.Hints.{GroupHasIds}
 use Rattle.lrat_read.specs.Form.{signed_of, block_of, Parsed, Addition, Deletion, Malformed, line_of, leading, groups_of}
 use lib.Chars.{codes}
 use Rattle.lrat_read.specs.Blocks.{literal_from}
@@ -157,9 +158,6 @@ ids_leading : (hs : Signed) → HasIds hs → AllByRecursion IsId (leading hs)
 ids_leading [] h = tt
 ids_leading ((false, n) ∷ hs) h = (h.0, ids_leading hs h.1)
 ids_leading ((true, n) ∷ hs) h = tt
-
-abbrev GroupHasIds : CandidateHints → Type 0
-GroupHasIds g = IsId g.candidate × All IsId g.hints
 
 ids_groups : (hs : Signed) → HasIds hs → AllByRecursion GroupHasIds (groups_of hs)
 ids_groups [] h = tt
@@ -346,14 +344,6 @@ line_read (AddsLine id c hints groups) h =
     ∙ ap (λ y. Addition id y hs) (map_signed c)
 line_read (DeletesLine lead ids) h = read_deletion lead h.0 ids (recursion_from_All IsId ids h.1)
 
--- what is read as an addition or a deletion, exactly
-pub line_of-Addition : (ts : List (List ℕ)) (id : ℕ) (c : List Literal) (hs : Signed) → (line_of ts ≡ Addition id c hs) ↔ ((ts ≡ line_tokens (AddsLine id c (leading hs) (groups_of hs))) × HasNumbers (AddsLine id c (leading hs) (groups_of hs)))
-line_of-Addition ts id c hs =
-    (addition_line ts id c hs, λ h. ap line_of h.0 ∙ line_read (AddsLine id c (leading hs) (groups_of hs)) h.1 ∙ ap (Addition id c) (signed_hints-parts hs))
-
-pub line_of-Deletion : (ts : List (List ℕ)) (ids : List ℕ) → (line_of ts ≡ Deletion ids) ↔ ((lead : ℕ) × ((ts ≡ line_tokens (DeletesLine lead ids)) × HasNumbers (DeletesLine lead ids)))
-line_of-Deletion ts ids = (λ e. let h = deletion_line ts ids e in (h.0, h.1), λ h. ap line_of h.1.0 ∙ line_read (DeletesLine h.0 ids) h.1.1)
-
 -- what a line is, by its blocks
 ends_none : (o : Option (Signed × List (List ℕ))) → ((hs : Signed) → o ≡ Some (hs, []) → ⊥) → ends_at o ≡ None
 unfolding ends_at
@@ -369,29 +359,10 @@ unfolding as_addition
 line_adds t [] n e other = line_alone t
 line_adds t (u ∷ us) n e other = line_adds_at t u us n e (λ z. other (us, ap (λ v. v ∷ us) z)) (block_of (u ∷ us)) refl
 
-pub reads_addition : (t : List ℕ) (ts : List (List ℕ)) (n : ℕ) (xs : Signed) (rest : List (List ℕ)) (hs : Signed) → signed_of t ≡ Some (false, n) → (IsLetter ts → ⊥) → block_of ts ≡ Some (xs, rest) → block_of rest ≡ Some (hs, []) → line_of (t ∷ ts) ≡ Addition n (map literal_from xs) hs
-unfolding as_addition as_hinted ends_at
-reads_addition t ts n xs rest hs e other first last =
-    line_adds t ts n e other ∙ ap (as_addition n) first ∙ ap (λ o. as_hinted n xs (ends_at o)) last
-
-pub breaks_in_clause : (t : List ℕ) (ts : List (List ℕ)) (n : ℕ) → signed_of t ≡ Some (false, n) → (IsLetter ts → ⊥) → block_of ts ≡ None → line_of (t ∷ ts) ≡ Malformed
-unfolding as_addition
-breaks_in_clause t ts n e other first = line_adds t ts n e other ∙ ap (as_addition n) first
-
 pub breaks_in_hints : (t : List ℕ) (ts : List (List ℕ)) (n : ℕ) (xs : Signed) (rest : List (List ℕ)) → signed_of t ≡ Some (false, n) → (IsLetter ts → ⊥) → block_of ts ≡ Some (xs, rest) → ((hs : Signed) → block_of rest ≡ Some (hs, []) → ⊥) → line_of (t ∷ ts) ≡ Malformed
 unfolding as_addition as_hinted
 breaks_in_hints t ts n xs rest e other first none =
     line_adds t ts n e other ∙ ap (as_addition n) first ∙ ap (as_hinted n xs) (ends_none (block_of rest) none)
-
-pub reads_deletion : (t : List ℕ) (us : List (List ℕ)) (n : ℕ) (hs : Signed) → signed_of t ≡ Some (false, n) → block_of us ≡ Some (hs, []) → list_any (λ x. x.0) hs ≡ false → line_of (t ∷ (100 ∷ []) ∷ us) ≡ Deletion (map (λ x. x.1) hs)
-unfolding as_deletion ends_at
-reads_deletion t us n hs e block plain =
-    line_deletes t us n e ∙ ap (λ o. as_deletion (ends_at o)) block ∙ cond-false (list_any (λ x. x.0) hs) Malformed (Deletion (map (λ x. x.1) hs)) plain
-
-pub breaks_at_dash : (t : List ℕ) (us : List (List ℕ)) (n : ℕ) (hs : Signed) → signed_of t ≡ Some (false, n) → block_of us ≡ Some (hs, []) → list_any (λ x. x.0) hs ≡ true → line_of (t ∷ (100 ∷ []) ∷ us) ≡ Malformed
-unfolding as_deletion ends_at
-breaks_at_dash t us n hs e block dashed =
-    line_deletes t us n e ∙ ap (λ o. as_deletion (ends_at o)) block ∙ rw dashed refl
 
 pub breaks_in_ids : (t : List ℕ) (us : List (List ℕ)) (n : ℕ) → signed_of t ≡ Some (false, n) → ((hs : Signed) → block_of us ≡ Some (hs, []) → ⊥) → line_of (t ∷ (100 ∷ []) ∷ us) ≡ Malformed
 unfolding as_deletion

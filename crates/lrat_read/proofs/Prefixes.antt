@@ -3,16 +3,14 @@ use Rattle.std.proofs.Common.{◌≡◌, ℕ, zero, suc, ◌<◌, ◌≤◌, Boo
 use Rattle.std.specs.Prelude.{◌==◌, ◌||◌, nat_le}
 use Rattle.std.proofs.lemmas.Bool.{lt-leb, le-leb, eqb-true, eqb-false}
 use Rattle.std.proofs.lemmas.List.{map_push, drop_all, drop_more}
+use Rattle.std.proofs.Math.Bool.{or-false, or-true}
 use Rattle.wcnf.specs.Literal.{Literal}
 use Rattle.wcnf.specs.Text.{is_blank, tokens_of}
 use Rattle.lrat_read.specs.Form.{signed_of, block_of}
 use Rattle.lrat_read.specs.Reader.{is_large_clause}
 use Rattle.lrat_read.specs.Blocks.{literal_from, IsHintsRead, IsLastRead}
 use Rattle.lrat_read.proofs.Scan.{token_front}
-use Rattle.lrat_read.proofs.Tokens.{Signed, block_more, block_more_none}
-
-abbrev pub Rest : Type 0
-Rest = Option (Signed × List (List ℕ))
+use Rattle.lrat_read.proofs.Tokens.{Signed, Rest, block_more, block_more_none}
 
 -- a block with these numbers before it
 abbrev pub ahead : Signed → Rest → Rest
@@ -38,16 +36,8 @@ pub record LitsSoFar (line : List ℕ) (at place : ℕ) (is_large : Bool) (lits 
   pub large : is_large_clause (map literal_from numbers) ≡ is_large
   pub same : is_large ≡ false → map literal_from numbers ≡ lits
 
-or_false : (b : Bool) → (b || false) ≡ b
-or_false true = refl
-or_false false = refl
-
-or_true : (b : Bool) → (b || true) ≡ true
-or_true true = refl
-or_true false = refl
-
 large_push : (xs : Signed) (x : Bool × ℕ) → is_large_clause (map literal_from (xs ++ x ∷ [])) ≡ (is_large_clause (map literal_from xs) || nat_le 134217728 x.1)
-large_push [] x = or_false (nat_le 134217728 x.1)
+large_push [] x = or-false (nat_le 134217728 x.1)
 large_push (y ∷ ys) x = large_push_at (nat_le 134217728 y.1) ys x (large_push ys x)
   where
     large_push_at : (b : Bool) (ys : Signed) (x : Bool × ℕ) → is_large_clause (map literal_from (ys ++ x ∷ [])) ≡ (is_large_clause (map literal_from ys) || nat_le 134217728 x.1) → (b || is_large_clause (map literal_from (ys ++ x ∷ []))) ≡ ((b || is_large_clause (map literal_from ys)) || nat_le 134217728 x.1)
@@ -59,7 +49,7 @@ pub lits_small : (line : List ℕ) (at place end : ℕ) (is_large : Bool) (lits 
 lits_small line at place end is_large lits new t s n r e u h small pushed = record {
   numbers = r.numbers ++ (s, n) ∷ [];
   block = block_next (block_of (tokens_of (drop at line))) r.numbers (tokens_of (drop place line)) t (tokens_of (drop end line)) s n r.block e u h;
-  large = large_push r.numbers (s, n) ∙ ap (λ b. is_large_clause (map literal_from r.numbers) || b) (lt-leb 134217728 n small) ∙ or_false (is_large_clause (map literal_from r.numbers)) ∙ r.large;
+  large = large_push r.numbers (s, n) ∙ ap (λ b. is_large_clause (map literal_from r.numbers) || b) (lt-leb 134217728 n small) ∙ or-false (is_large_clause (map literal_from r.numbers)) ∙ r.large;
   same = λ z. map_push literal_from r.numbers (s, n) ∙ ap (λ (c : List Literal). c ++ record { variable = n; negated = s } ∷ []) (r.same z) ∙ sym pushed;
 }
 
@@ -67,7 +57,7 @@ pub lits_large : (line : List ℕ) (at place end : ℕ) (is_large : Bool) (lits 
 lits_large line at place end is_large lits t s n r e u h large = record {
   numbers = r.numbers ++ (s, n) ∷ [];
   block = block_next (block_of (tokens_of (drop at line))) r.numbers (tokens_of (drop place line)) t (tokens_of (drop end line)) s n r.block e u h;
-  large = large_push r.numbers (s, n) ∙ ap (λ b. is_large_clause (map literal_from r.numbers) || b) (le-leb 134217728 n large) ∙ or_true (is_large_clause (map literal_from r.numbers));
+  large = large_push r.numbers (s, n) ∙ ap (λ b. is_large_clause (map literal_from r.numbers) || b) (le-leb 134217728 n large) ∙ or-true (is_large_clause (map literal_from r.numbers));
   same = λ z. absurd (cc);
 }
 

@@ -2,14 +2,13 @@
 use Rattle.std.proofs.Common.{◌≡◌, ℕ, ◌+◌, ◌-◌, ◌*◌, ◌^◌, ◌<◌, ◌≤◌, Bool, true, false, not, List, [], ◌∷◌, ◌++◌, Option, Some, None, inl, inr, refl, sym, ◌∙◌, ap, arith, length, take, drop, get_or, slice_range}
 use Rattle.std.proofs.Math.Bool.{cond}
 use Rattle.std.proofs.Math.Dec.{ltb}
-use Rattle.std.specs.Prelude.{◌==◌, nat_le}
 use Rattle.std.specs.List.{AllByRecursion, list_all}
-use Rattle.std.proofs.lemmas.Bool.{and_from, and_parts, both_ways, le-leb, eq-eqb, eqb-true, ne_eqb, lt-ltb, cases_Bool, cases_lt, cond-false}
+use Rattle.std.proofs.lemmas.Bool.{and_from, and_parts, both_ways, eq-eqb, eqb-true, ne_eqb, lt-ltb, cases_Bool, cases_lt, cond-false}
 use Rattle.std.proofs.lemmas.List.{take_more, get_or-drop, drop-drop, take-append-drop, length-drop, length-append, length-take}
 use Rattle.std.proofs.lemmas.Str.Parse.{digits_value_short}
 use Rattle.std.proofs.lemmas.Fmt.{length-decimal-le}
 use Rattle.wcnf.specs.Text.{is_blank, begins_with_token, put_byte, tokens_of, is_digit, value_on, number_of}
-use Rattle.wcnf.proofs.Numbers.{number_of-is, is_number, decimal-number_of, digit_bounds}
+use Rattle.wcnf.proofs.Numbers.{number_of-is, is_number, decimal-number_of, digit_bounds, digit_from, digit_is_no_blank}
 use Rattle.lrat_read.specs.Form.{signed_of}
 use Rattle.lrat_read.proofs.Tokens.{own, tag, signed_dash, signed_plain}
 
@@ -17,16 +16,9 @@ use Rattle.lrat_read.proofs.Tokens.{own, tag, signed_dash, signed_plain}
 abbrev pub Solid : List ℕ → Type 0
 Solid t = AllByRecursion (λ b. is_blank b ≡ false) t
 
-digit_solid : (b : ℕ) → is_digit b ≡ true → is_blank b ≡ false
-digit_solid b e =
-    let h = digit_bounds b e in
-    let space : (b == 32) ≡ false = ne_eqb b 32 (omega (arith, h.0)) in
-    let tab : (b == 9) ≡ false = ne_eqb b 9 (omega (arith, h.0)) in
-    rw (space, tab) refl
-
 digits_solid : (ds : List ℕ) → list_all is_digit ds ≡ true → Solid ds
 digits_solid [] e = tt
-digits_solid (b ∷ bs) e = let h = and_parts (is_digit b) (list_all is_digit bs) e in (digit_solid b h.0, digits_solid bs h.1)
+digits_solid (b ∷ bs) e = let h = and_parts (is_digit b) (list_all is_digit bs) e in (digit_is_no_blank b h.0, digits_solid bs h.1)
 
 -- a token, up to a blank or the end
 token_whole : (b : ℕ) (bs rest : List ℕ) → is_blank b ≡ false → Solid bs → begins_with_token rest ≡ false → tokens_of (b ∷ (bs ++ rest)) ≡ (b ∷ bs) ∷ tokens_of rest
@@ -83,14 +75,11 @@ digits_room s i j v h l few e same =
     let below = digits_value_short own (slice_range s i j) 18 e short in
     omega (arith, same, below)
 
-is_digit_from : (b : ℕ) → 48 ≤ b → b ≤ 57 → is_digit b ≡ true
-is_digit_from b l h = and_from (nat_le 48 b) (nat_le b 57) (le-leb 48 b l) (le-leb b 57 h)
-
 pub digits_step : (s : List ℕ) (i j : ℕ) → i ≤ j → j < length s → 48 ≤ get_or s j 0 → get_or s j 0 ≤ 57 → list_all is_digit (slice_range s i j) ≡ true →
     (list_all is_digit (slice_range s i (j + 1)) ≡ true) × (value_on 0 (slice_range s i (j + 1)) ≡ 10 * value_on 0 (slice_range s i j) + (get_or s j 0 - 48))
 digits_step s i j h l low high e =
     let more = range_push s i j h l in
-    (ap (list_all is_digit) more ∙ digits_push (slice_range s i j) (get_or s j 0) e (is_digit_from (get_or s j 0) low high), ap (value_on 0) more ∙ value_push 0 (slice_range s i j) (get_or s j 0))
+    (ap (list_all is_digit) more ∙ digits_push (slice_range s i j) (get_or s j 0) e (digit_from (get_or s j 0) low high), ap (value_on 0) more ∙ value_push 0 (slice_range s i j) (get_or s j 0))
 
 -- a token with the number u, with a dash before it or without
 abbrev pub lead : Bool → List ℕ → List ℕ

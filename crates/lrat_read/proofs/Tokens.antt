@@ -119,7 +119,7 @@ Signed = List (Bool × ℕ)
 abbrev pub HasIds : Signed → Type 0
 HasIds xs = AllByRecursion (λ x. IsId x.1) xs
 
-abbrev Rest : Type 0
+abbrev pub Rest : Type 0
 Rest = Option (Signed × List (List ℕ))
 
 pub block_zero : (t : List ℕ) (ts : List (List ℕ)) → signed_of t ≡ Some (false, zero) → block_of (t ∷ ts) ≡ Some ([], ts)

@@ -1,6 +1,7 @@
 -- How a signed id is kept in one word: twice the id, and one more where a dash stands before it.
 use Rattle.std.specs.Prelude.{ℕ, Bool, ◌≡◌, ◌+◌, ◌*◌, ◌/◌, ◌%◌, ◌<◌, ◌==◌, if◌then◌else◌}
 use Rattle.std.proofs.Common.{arith, ap}
+use Rattle.wcnf.specs.Packed.{parity}
 use Rattle.lrat_read.specs.declared.types.SignedId.TheInside.{Inside}
 
 abbrev pub signed_in : Inside → Bool × ℕ
@@ -8,9 +9,6 @@ signed_in a = (a.code % 2 == 1, a.code / 2)
 
 abbrev pub code_of : Bool × ℕ → Inside
 code_of x = record { code = 2 * x.1 + (if x.0 then 1 else 0) }
-
-parity : (r : ℕ) → r < 2 → (if r == 1 then 1 else 0) ≡ r
-parity r h = Prim.grind arith
 
 pub code_of-signed_in : (a : Inside) → code_of (signed_in a) ≡ a
 code_of-signed_in a =
