@@ -1,9 +1,9 @@
 -- The lines of a log that lies flat in memory.
 use Rattle.std.proofs.Common.{◌≡◌, ℕ, zero, suc, ◌+◌, ◌-◌, ◌<◌, ◌≤◌, ◌^◌, List, [], ◌∷◌, ◌++◌, length, get_or, refl, sym, ◌∙◌, ap, subst, arith, add-one, length-append}
 use Rattle.std.specs.Prelude.{slice_range}
-use Rattle.std.proofs.lemmas.Grind.{common_steps}
 use Rattle.std.proofs.lemmas.List.Elements.{All-append, All-cons, All-nil}
 use Rattle.wcnf.specs.Literal.{Literal}
+use Rattle.wcnf.proofs.Laid.{range-append, range-appended}
 use Rattle.lrat_log.specs.declared.lines.Hint.{Hint}
 use Rattle.lrat_log.specs.declared.log.Head.{Head}
 use Rattle.lrat_log.specs.Log.{LogLine, IsLine, IsLog, line_at}
@@ -66,12 +66,6 @@ module _ (hs : List Head) (lits : List Literal) (hints : List Hint) (k s e : ℕ
   hints-line_at p q = rw (p, q, add-one) (hints_placed 0 0 hs lits hints k ends lt)
 
 -- a line more
-range-append : {X : Type 0} (xs more : List X) (i n : ℕ) → i ≤ n → n ≤ length xs → slice_range (xs ++ more) i n ≡ slice_range xs i n
-range-append xs more i n h k = grind (arith, common_steps)
-
-range-appended : {X : Type 0} (xs more : List X) (i n : ℕ) → i ≡ length xs → n ≡ length xs + length more → slice_range (xs ++ more) i n ≡ more
-range-appended xs more i n h k = grind (arith, common_steps)
-
 pub lines_from-push : (i j : ℕ) (hs : List Head) (lits more_lits : List Literal) (hints more_hints : List Hint) (h : Head) → AreEndsFrom i j hs lits hints
     → h.lits_end ≡ length lits + length more_lits → h.hints_end ≡ length hints + length more_hints
     → lines_from i j (hs ++ h ∷ []) (lits ++ more_lits) (hints ++ more_hints) ≡ lines_from i j hs lits hints ++ record { kind = h.kind; clause = more_lits; hints = more_hints } ∷ []

@@ -13,6 +13,7 @@ use Rattle.wcnf.specs.Literal.{Literal}
 use Rattle.wcnf.specs.Text.{is_blank, begins_with_token, put_byte, tokens_of, token_lines, literal_text, is_digit}
 use Rattle.wcnf.specs.Writing.{spaced}
 use Rattle.wcnf.specs.Lrat.{ProofLine, Addition, Deletion, CandidateHints, group_tokens, line_tokens, has_tokens, IsId, HasNumbers, IsTextOf}
+use Rattle.wcnf.proofs.Hints.{GroupHasIds}
 use Rattle.wcnf.proofs.Numbers.{digit_bounds, is_number-decimal}
 use Rattle.lrat_log.specs.declared.lines.Hint.{Hint}
 use Rattle.lrat_log.specs.declared.lines.Hint.TheVariants.{Plain, Group}
@@ -97,9 +98,6 @@ line_first x rest h =
 abbrev pub HasWords : ProofLine → Type 0
 HasWords l = AllByRecursion IsWord (line_tokens l)
 
-abbrev pub text_line : ProofLine → List ℕ
-text_line l = spaced (line_tokens l)
-
 -- lines of words are told from their text
 pub token_lines-spaced : (tss : List (List (List ℕ))) → AllByRecursion (AllByRecursion IsWord) tss → token_lines (flat_map spaced tss) ≡ tss
 token_lines-spaced [] h = refl
@@ -161,9 +159,6 @@ words_decimal (n ∷ ns) h = (decimal_word n h.0.1, words_decimal ns h.1)
 words_clause : (c : List Literal) → AllByRecursion (λ l. IsId l.variable) c → AllByRecursion IsWord (map literal_text c)
 words_clause [] h = tt
 words_clause (l ∷ c) h = (literal_word l.negated l.variable h.0.1, words_clause c h.1)
-
-abbrev GroupHasIds : CandidateHints → Type 0
-GroupHasIds g = IsId g.candidate × All IsId g.hints
 
 words_groups : (gs : List CandidateHints) → AllByRecursion GroupHasIds gs → AllByRecursion IsWord (flat_map group_tokens gs)
 words_groups [] h = tt

@@ -1,6 +1,7 @@
 -- How a hint is kept in one word: four times its number, two more where it names an addition, and one more where it begins a group.
 use Rattle.std.specs.Prelude.{ℕ, Bool, true, false, ◌≡◌, ◌+◌, ◌*◌, ◌/◌, ◌%◌, ◌<◌, ◌==◌, if◌then◌else◌}
 use Rattle.std.proofs.Common.{arith, ap, ◌∙◌}
+use Rattle.wcnf.specs.Packed.{parity}
 use Rattle.lrat_log.specs.declared.lines.Name.{Name}
 use Rattle.lrat_log.specs.declared.lines.Name.TheVariants.{Formula, Added}
 use Rattle.lrat_log.specs.declared.lines.Hint.{Hint}
@@ -33,9 +34,6 @@ name_code-as false n = omega arith
 code_of-as : (b : Bool) (n : Name) → (code_of (hint_as b n)).code ≡ name_code n + (if b then 1 else 0)
 code_of-as true n = omega arith
 code_of-as false n = omega arith
-
-parity : (r : ℕ) → r < 2 → (if r == 1 then 1 else 0) ≡ r
-parity r h = Prim.grind arith
 
 pub code_of-hint_in : (a : Inside) → code_of (hint_in a) ≡ a
 code_of-hint_in a =
