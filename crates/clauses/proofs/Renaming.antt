@@ -1,6 +1,6 @@
 -- The moves of a compaction: what they are, one by one, and that they rename the clauses.
-use Rattle.std.proofs.Common.{◌≡◌, ℕ, zero, suc, ◌+◌, ◌-◌, ◌<◌, ◌≤◌, true, false, List, [], ◌∷◌, ◌++◌, length, get_or, drop, map, Option, Some, None, refl, sym, ◌∙◌, ap, subst, arith, inl, inr, zero-add}
-use Rattle.std.specs.Prelude.{All, slice_index}
+use Rattle.std.proofs.Common.{◌≡◌, ℕ, suc, ◌+◌, ◌-◌, ◌<◌, ◌≤◌, true, false, List, [], ◌∷◌, ◌++◌, length, get_or, drop, map, Option, Some, None, refl, sym, ◌∙◌, ap, arith, inl, inr, zero-add}
+use Rattle.std.specs.Prelude.{All}
 use Rattle.std.specs.List.Sorted.{IsStrictlyIncreasing}
 use Rattle.std.proofs.lemmas.Bool.{cases_Bool}
 use Rattle.std.proofs.lemmas.List.{length-take-le, length-drop, length-append, append_assoc, drop_more}
@@ -9,7 +9,9 @@ use Rattle.std.proofs.lemmas.List.Sums.{sum_by-cons}
 use Rattle.wcnf.specs.Literal.{Literal}
 use Rattle.clauses.specs.Heads.{Head, literals_of, slots_of, clauses_in, AllLive, IsLaid}
 use Rattle.clauses.specs.Slots.{Slots, clause_at, places_from, live_clauses, room_of, Renaming, moves_from, moves_of, IsRenaming}
-use Rattle.clauses.proofs.Flat.{laid_le, clauses_live, clauses_dead}
+use Rattle.wcnf.proofs.Laid.{laid_le, pieces_live, pieces_dead}
+use Rattle.wcnf.proofs.Rising.{RisesFrom, rises_weaker, rising_from}
+use Rattle.clauses.proofs.Flat.{heads}
 use Rattle.clauses.proofs.Reading.{no_head}
 use Rattle.clauses.proofs.Stored.{slot_live, slot_dead}
 
@@ -44,24 +46,6 @@ listing_dead hs old moves l h dead = record {
 }
 
 -- both sides rise
-abbrev RisesFrom : ℕ → List ℕ → Type 0
-RisesFrom least [] = Unit {0}
-RisesFrom least (k ∷ ks) = (least ≤ k) × RisesFrom (k + 1) ks
-
-rises_weaker : (least more : ℕ) (ks : List ℕ) → least ≤ more → RisesFrom more ks → RisesFrom least ks
-rises_weaker least more [] h r = tt
-rises_weaker least more (k ∷ ks) h r = (omega (arith, r.0), r.1)
-
-rises_least : (least : ℕ) (ks : List ℕ) (p : ℕ) → RisesFrom least ks → p < length ks → least ≤ slice_index ks p
-rises_least least [] p r h = absurd (omega arith)
-rises_least least (k ∷ ks) zero r h = r.0
-rises_least least (k ∷ ks) (suc p) r h = omega (arith, r.0, rises_least (k + 1) ks p r.1 (omega arith))
-
-rising_from : (least : ℕ) (ks : List ℕ) → RisesFrom least ks → IsStrictlyIncreasing ks
-rising_from least [] r k h = absurd (omega arith)
-rising_from least (x ∷ ks) r zero h = omega (arith, rises_least (x + 1) ks 0 r.1 (omega arith))
-rising_from least (x ∷ ks) r (suc k) h = let z : slice_index ks k < slice_index ks (k + 1) = rising_from (x + 1) ks r.1 k (omega arith) in let e : suc k + 1 ≡ suc (k + 1) = omega arith in subst (λ n. slice_index ks k < slice_index (x ∷ ks) n) (sym e) z
-
 old_rises : (old new : ℕ) (slots : Slots) → RisesFrom old (map (λ m. m.0) (moves_from old new slots))
 old_rises old new [] = tt
 old_rises old new (None ∷ slots) = rises_weaker old (old + 1) (map (λ m. m.0) (moves_from (old + 1) new slots)) (omega arith) (old_rises (old + 1) new slots)
@@ -131,13 +115,13 @@ clauses_of_slots : (ls : List Literal) (hs : List Head) → live_clauses (slots_
 clauses_of_slots ls [] = refl
 clauses_of_slots ls (h ∷ hs) =
     elim (cases_Bool h.live) [
-      | inl e ↦ rw (slot_live ls h e, clauses_live ls h hs e) (ap (λ cs. literals_of ls h ∷ cs) (clauses_of_slots ls hs))
-      | inr e ↦ rw (slot_dead ls h e, clauses_dead ls h hs e) (clauses_of_slots ls hs)
+      | inl e ↦ rw (slot_live ls h e, pieces_live heads ls h hs e) (ap (λ cs. literals_of ls h ∷ cs) (clauses_of_slots ls hs))
+      | inr e ↦ rw (slot_dead ls h e, pieces_dead heads ls h hs e) (clauses_of_slots ls hs)
     ]
 
 slots_of_live : (ls : List Literal) (hs : List Head) → AllLive hs → slots_of ls hs ≡ map Some (clauses_in ls hs)
 slots_of_live ls [] l = refl
-slots_of_live ls (h ∷ hs) l = rw (slot_live ls h l.0, clauses_live ls h hs l.0) (ap (λ xs. Some (literals_of ls h) ∷ xs) (slots_of_live ls hs l.1))
+slots_of_live ls (h ∷ hs) l = rw (slot_live ls h l.0, pieces_live heads ls h hs l.0) (ap (λ xs. Some (literals_of ls h) ∷ xs) (slots_of_live ls hs l.1))
 
 pub brought_together : (ls ms : List Literal) (hs ks : List Head) → AllLive ks → clauses_in ms ks ≡ clauses_in ls hs → slots_of ms ks ≡ map Some (live_clauses (slots_of ls hs))
 brought_together ls ms hs ks live same = slots_of_live ms ks live ∙ ap (map Some) (same ∙ sym (clauses_of_slots ls hs))
@@ -151,10 +135,10 @@ room_laid : (ls : List Literal) (from to : ℕ) (hs : List Head) → IsLaid from
 room_laid ls from to [] p w l = omega arith
 room_laid ls from to (h ∷ hs) p w l =
     let rest : to + length hs ≡ from + h.length + room_of (clauses_in ls hs) = room_laid ls (from + h.length) to hs p.1 w l.1 in
-    let within : h.start + h.length ≤ to = omega (arith, p.0, laid_le (from + h.length) to hs p.1) in
+    let within : h.start + h.length ≤ to = omega (arith, p.0, laid_le heads (from + h.length) to hs p.1) in
     let long : length (literals_of ls h) ≡ h.length = omega (arith, length-take-le (h.start + h.length - h.start) (drop h.start ls) (omega (arith, length-drop h.start ls))) in
     let step : room_of (literals_of ls h ∷ clauses_in ls hs) ≡ length (literals_of ls h) + 1 + room_of (clauses_in ls hs) = sum_by-cons (λ c. length c + 1) (literals_of ls h) (clauses_in ls hs) in
-    rw (clauses_live ls h hs l.0) (omega (arith, rest, long, step))
+    rw (pieces_live heads ls h hs l.0) (omega (arith, rest, long, step))
 
 pub room_of_store : (ls : List Literal) (hs : List Head) → IsLaid 0 hs (length ls) → AllLive hs → length ls + length hs ≡ room_of (live_clauses (slots_of ls hs))
 room_of_store ls hs p l = rw (clauses_of_slots ls hs) (omega (arith, room_laid ls 0 (length ls) hs p (omega arith) l))

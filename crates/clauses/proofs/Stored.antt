@@ -1,16 +1,16 @@
 -- What the slots of heads are: where one is read, added or taken out.
-use Rattle.std.proofs.Common.{◌≡◌, ℕ, zero, suc, ◌+◌, ◌<◌, ◌≤◌, ◌^◌, true, false, List, [], ◌∷◌, ◌++◌, length, get_or, set, map, Option, Some, None, refl, sym, ◌∙◌, ap, subst, arith, inl, inr}
+use Rattle.std.proofs.Common.{◌≡◌, ℕ, ◌+◌, ◌<◌, ◌≤◌, ◌^◌, true, false, List, [], ◌∷◌, ◌++◌, length, get_or, set, map, Option, Some, None, refl, sym, ◌∙◌, ap, arith, inl, inr}
 use Rattle.std.specs.Prelude.{slice_range, slice_set, slice_get, IsTrue, ◌↔◌}
 use Rattle.std.specs.Option.{option_map}
 use Rattle.std.proofs.lemmas.Bool.{cases_Bool, cases_lt}
 use Rattle.std.proofs.lemmas.List.{map-set, map-append, length-set, length-append}
 use Rattle.std.proofs.lemmas.Option.{slice_get-map, slice_get_past, slice_get_cases, slice_get-get_or}
-use Rattle.std.proofs.lemmas.Grind.{common_steps}
 use Rattle.wcnf.specs.Literal.{Literal}
 use Rattle.clauses.specs.declared.heads.Span.{Span}
 use Rattle.clauses.specs.Heads.{Head, span_of, literals_of, slot_of, slots_of, state_of, IsLaid, IsStore}
 use Rattle.clauses.specs.Slots.{in_slot, clause_at, IsLive}
-use Rattle.clauses.proofs.Flat.{laid_le, laid_push}
+use Rattle.wcnf.proofs.Laid.{range-append, range-appended, laid_le, laid_push, laid_set}
+use Rattle.clauses.proofs.Flat.{heads}
 use Rattle.clauses.proofs.Reading.{no_head}
 
 -- a slot that is read
@@ -68,41 +68,30 @@ live_clause ls hs r s live is =
     rw is (clause_of_head ls hs r h e ∙ slot_live ls h ((live_by_head ls hs r h e).1 live))
 
 -- a clause that is added
-range-append : (ls more : List Literal) (i n : ℕ) → i + n ≤ length ls → slice_range (ls ++ more) i (i + n) ≡ slice_range ls i (i + n)
-range-append ls more i n h = Prim.grind (arith, common_steps)
-
-range-appended : (ls more : List Literal) (n : ℕ) → n ≡ length more → slice_range (ls ++ more) (length ls) (length ls + n) ≡ more
-range-appended ls more n h = Prim.grind (arith, common_steps)
-
 slots_longer : (ls more : List Literal) (from : ℕ) (hs : List Head) → IsLaid from hs (length ls) → slots_of (ls ++ more) hs ≡ slots_of ls hs
 slots_longer ls more from [] p = refl
 slots_longer ls more from (h ∷ hs) p =
-    let here : h.start + h.length ≤ length ls = omega (arith, p.0, laid_le (from + h.length) (length ls) hs p.1) in
-    let e : slot_of (ls ++ more) h ≡ slot_of ls h = rw (range-append ls more h.start h.length here) refl in
+    let here : h.start + h.length ≤ length ls = omega (arith, p.0, laid_le heads (from + h.length) (length ls) hs p.1) in
+    let e : slot_of (ls ++ more) h ≡ slot_of ls h = rw (range-append ls more h.start (h.start + h.length) (omega arith) here) refl in
     cc (e, slots_longer ls more (from + h.length) hs p.1)
 
 pub state_added : (ls more : List Literal) (hs : List Head) (h : Head) → IsLaid 0 hs (length ls) → h.start ≡ length ls → h.length ≡ length more → h.live ≡ true → state_of (ls ++ more) (hs ++ h ∷ []) ≡ record { slots = slots_of ls hs ++ Some more ∷ []; used = length ls + length hs + (length more + 1) }
 state_added ls more hs h laid at long live =
-    let e : slot_of (ls ++ more) h ≡ Some more = rw (live, at) (ap Some (range-appended ls more h.length long)) in
+    let e : slot_of (ls ++ more) h ≡ Some more = rw live (ap Some (range-appended ls more h.start (h.start + h.length) at (omega (arith, at, long)))) in
     let slots : slots_of (ls ++ more) (hs ++ h ∷ []) ≡ slots_of ls hs ++ Some more ∷ [] = map-append (slot_of (ls ++ more)) hs (h ∷ []) ∙ rw (slots_longer ls more 0 hs laid, e) refl in
     let used : length (ls ++ more) + length (hs ++ h ∷ []) ≡ length ls + length hs + (length more + 1) = omega (arith, length-append ls more, length-append hs (h ∷ [])) in
     rw (slots, used) refl
 
 pub store_added : (ls more : List Literal) (hs : List Head) (h : Head) → IsStore ls hs → h.start ≡ length ls → h.length ≡ length more → length ls + length more < 2 ^ 32 → length hs + 1 < 2 ^ 32 → IsStore (ls ++ more) (hs ++ h ∷ [])
-store_added ls more hs h s at long literals heads =
+store_added ls more hs h s at long literals few =
     let n : length (ls ++ more) ≡ length ls + h.length = omega (arith, length-append ls more) in
     record {
-      laid = rw n (laid_push 0 (length ls) hs h s.laid at);
+      laid = rw n (laid_push heads 0 (length ls) hs h s.laid at);
       few_literals = omega (arith, n);
       few_heads = omega (arith, length-append hs (h ∷ []));
     }
 
 -- a clause that is taken out
-laid_set : (from to : ℕ) (hs : List Head) (i : ℕ) (h d : Head) → IsLaid from hs to → h.start ≡ (get_or hs i d).start → h.length ≡ (get_or hs i d).length → IsLaid from (set hs i h) to
-laid_set from to [] i h d p e f = p
-laid_set from to (x ∷ hs) zero h d p e f = (e ∙ p.0, subst (λ n. IsLaid (from + n) hs to) (sym f) p.1)
-laid_set from to (x ∷ hs) (suc i) h d p e f = (p.0, laid_set (from + x.length) to hs i h d p.1 e f)
-
 pub state_deleted : (ls : List Literal) (hs : List Head) (i : ℕ) (h : Head) → h.live ≡ false → state_of ls (slice_set hs i h) ≡ record { slots = slice_set (slots_of ls hs) i None; used = length ls + length hs }
 state_deleted ls hs i h dead =
     let slots : slots_of ls (set hs i h) ≡ set (slots_of ls hs) i None = map-set (slot_of ls) hs i h ∙ rw (slot_dead ls h dead) refl in
@@ -111,7 +100,7 @@ state_deleted ls hs i h dead =
 pub store_deleted : (ls : List Literal) (hs : List Head) (i : ℕ) (h d : Head) → IsStore ls hs → h.start ≡ (get_or hs i d).start → h.length ≡ (get_or hs i d).length → IsStore ls (slice_set hs i h)
 store_deleted ls hs i h d s e f =
     record {
-      laid = laid_set 0 (length ls) hs i h d s.laid e f;
+      laid = laid_set heads 0 (length ls) hs i h d s.laid e f;
       few_literals = s.few_literals;
       few_heads = omega (arith, s.few_heads, length-set hs i h);
     }

@@ -1,5 +1,6 @@
 use Rattle.std.proofs.Common.{ℕ, ◌≡◌, ◌+◌, ◌-◌, ◌<◌, ◌≤◌, ◌^◌, arith, ◌∙◌, length, rules, length-set}
-use Rattle.clauses.proofs.Flat.{compacting_all, moves_down, dead_head, live_head}
+use Rattle.wcnf.proofs.Laid.{compacting_all}
+use Rattle.clauses.proofs.Flat.{heads, moves_down, dead_head, live_head}
 use Rattle.clauses.proofs.Reading.{span_at, flag_at}
 use Rattle.clauses.proofs.compaction.compact.Goals as goal
 use Rattle.clauses.proofs.compaction.compact.Goals.{After-is_live, After-span-span}
@@ -65,7 +66,7 @@ loop-i-preserved c =
 
 pub returns-clause-laid : goal.returns-clause-laid
 returns-clause-laid c =
-    let all = compacting_all c.loop-i.literals.items c.loop-i.heads c.loop-i.kept c.loop-i.end c.loop-i.i _ c.loop-i.invariant.moving (omega (arith, c.loop-i.invariant.heads, c.len-i-end.ensures)) in
+    let all = compacting_all heads c.loop-i.literals.items c.loop-i.heads c.loop-i.kept c.loop-i.end c.loop-i.i _ c.loop-i.invariant.moving (omega (arith, c.loop-i.invariant.heads, c.len-i-end.ensures)) in
     rw (c.truncate.ensures, c.truncate-2.ensures.items) all.1
 
 pub returns-clause-live : goal.returns-clause-live
@@ -73,5 +74,5 @@ returns-clause-live c = rw c.truncate.ensures c.loop-i.invariant.moving.live
 
 pub returns-clause-clauses : goal.returns-clause-clauses
 returns-clause-clauses c =
-    let all = compacting_all c.loop-i.literals.items c.loop-i.heads c.loop-i.kept c.loop-i.end c.loop-i.i _ c.loop-i.invariant.moving (omega (arith, c.loop-i.invariant.heads, c.len-i-end.ensures)) in
+    let all = compacting_all heads c.loop-i.literals.items c.loop-i.heads c.loop-i.kept c.loop-i.end c.loop-i.i _ c.loop-i.invariant.moving (omega (arith, c.loop-i.invariant.heads, c.len-i-end.ensures)) in
     rw (c.truncate.ensures, c.truncate-2.ensures.items) all.2

@@ -1,7 +1,8 @@
 use Rattle.std.proofs.Common.{◌+◌, ◌≤◌, ◌<◌, length, rules}
 use Rattle.clauses.specs.Heads.{slots_of}
 use Rattle.clauses.specs.Slots.{IsLive}
-use Rattle.clauses.proofs.Flat.{laid_within}
+use Rattle.wcnf.proofs.Laid.{laid_within}
+use Rattle.clauses.proofs.Flat.{heads}
 use Rattle.clauses.proofs.Reading.{no_head, span_at}
 use Rattle.clauses.proofs.Stored.{live_within, live_clause}
 use Rattle.clauses.proofs.store.Store.lits.Goals as goal
@@ -19,7 +20,7 @@ span-span-requires c = within (goal.at.span-span-requires c).After-reference
 pub slice_bounds-result-end : goal.slice_bounds-result-end
 slice_bounds-result-end c =
     let h = within (goal.at.slice_bounds-result-end c).After-reference in
-    let here = laid_within 0 _ c.self.inside.heads c.reference.inside.place no_head c.self.invariant.laid h in
+    let here = laid_within heads 0 _ c.self.inside.heads c.reference.inside.place no_head c.self.invariant.laid h in
     let ends : c.span-span.result.start + c.span-span.result.length ≤ length c.self.inside.literals.items = rw (span_at _ _ _ h c.span-span.ensures) here in
     let same = c.deref.ensures.value in
     search rules
