@@ -2,9 +2,9 @@
 use Rattle.std.proofs.Common.{◌≡◌, ℕ, ◌+◌, ◌<◌, ◌≤◌, Bool, true, false, not, List, [], ◌∷◌, ◌++◌, map, length, get_or, take, drop, Option, Some, None, is_some, refl, sym, ◌∙◌, ap, subst, inl, inr, arith, take-append-drop}
 use Rattle.std.proofs.Math.Bool.{cond}
 use Rattle.std.specs.Prelude.{All, ◌==◌}
-use Rattle.std.proofs.lemmas.List.{drop_more, get_or_default, take-append-le, length-take}
-use Rattle.std.specs.Option.{option_to_list}
-use Rattle.std.proofs.lemmas.Bool.{or_cases, false≢true}
+use Rattle.std.proofs.lemmas.List.{append-nil, drop_more, get_or_default, take_more, take-append-le, length-take}
+use Rattle.std.specs.List.{last_or}
+use Rattle.std.proofs.lemmas.Bool.{or_cases, cases_lt, false≢true}
 use Rattle.std.proofs.lemmas.List.Elements.{All-head, All-tail}
 use Rattle.wcnf.specs.Literal.{Literal, negation, literal_eq}
 use Rattle.wcnf.specs.Clause.{contains_literal}
@@ -30,17 +30,63 @@ open-append A (x ∷ xs) ys =
 pub drop_at : {X : Type 0} (xs : List X) (i : ℕ) (x : X) → i < length xs → x ≡ get_or xs i x → drop i xs ≡ x ∷ drop (i + 1) xs
 drop_at xs i x h e = drop_more xs i x h ∙ ap (λ y. y ∷ drop (i + 1) xs) (sym e)
 
--- the second literal that is not false
-second_open : (A c : List Literal) (k l : Literal) (more : List Literal) → open_literals A c ≡ k ∷ l ∷ more → outcome_of (Some c) A ≡ NotUnit
-second_open A c k l more e = outcome_is c A ∙ ap (outcome_on A) e
+-- a literal more of the clause
+open_push : (A c : List Literal) (i : ℕ) (l : Literal) → i < length c → l ≡ get_or c i l → open_literals A (take (i + 1) c) ≡ open_literals A (take i c) ++ open_literals A (l ∷ [])
+open_push A c i l h e = ap (open_literals A) (take_more c i l h ∙ ap (λ x. take i c ++ x ∷ []) (sym e)) ∙ open-append A (take i c) (l ∷ [])
 
-pub two_open : (A c : List Literal) (i : ℕ) (l : Literal) (o : Option Literal) → open_literals A (take i c) ≡ option_to_list o → is_some o ≡ true → i < length c → l ≡ get_or c i l → contains_literal (negation l) A ≡ false → outcome_of (Some c) A ≡ NotUnit
-two_open A c i l None e s h x f = absurd (false≢true s)
-two_open A c i l (Some k) e s h x f =
-    let here : open_literals A (l ∷ drop (i + 1) c) ≡ l ∷ open_literals A (drop (i + 1) c) = rw f refl in
-    second_open A c k l (open_literals A (drop (i + 1) c))
-    (ap (open_literals A) (sym (take-append-drop i c) ∙ ap (λ zs. take i c ++ zs) (drop_at c i l h x))
-    ∙ open-append A (take i c) (l ∷ drop (i + 1) c) ∙ ap (λ zs. zs ++ open_literals A (l ∷ drop (i + 1) c)) e ∙ ap (λ zs. k ∷ zs) here)
+pub open_more : (A c : List Literal) (i : ℕ) (l : Literal) → i < length c → l ≡ get_or c i l → contains_literal (negation l) A ≡ false → open_literals A (take (i + 1) c) ≡ open_literals A (take i c) ++ l ∷ []
+open_more A c i l h e f = let here : open_literals A (l ∷ []) ≡ l ∷ [] = rw f refl in open_push A c i l h e ∙ ap (λ zs. open_literals A (take i c) ++ zs) here
+
+pub open_same : (A c : List Literal) (i : ℕ) (l : Literal) → i < length c → l ≡ get_or c i l → contains_literal (negation l) A ≡ true → open_literals A (take (i + 1) c) ≡ open_literals A (take i c)
+open_same A c i l h e t = let here : open_literals A (l ∷ []) ≡ [] = rw t refl in open_push A c i l h e ∙ ap (λ zs. open_literals A (take i c) ++ zs) here ∙ append-nil (open_literals A (take i c))
+
+-- the last of those that are not false, and how many there are
+pub last_push : (o : Option Literal) (xs : List Literal) (l : Literal) → last_or o (xs ++ l ∷ []) ≡ Some l
+last_push o [] l = refl
+last_push o (x ∷ xs) l = last_push (Some x) xs l
+
+last_some : (x : Literal) (xs : List Literal) → last_or (Some x) xs ≡ None → ⊥
+last_some x [] e = cc
+last_some x (y ∷ xs) e = last_some y xs e
+
+none_last : (xs : List Literal) → last_or None xs ≡ None → xs ≡ []
+none_last [] e = refl
+none_last (x ∷ xs) e = absurd (last_some x xs e)
+
+one_last : (xs : List Literal) (l : Literal) → length xs ≤ 1 → last_or None xs ≡ Some l → xs ≡ l ∷ []
+one_last [] l n e = absurd (cc)
+one_last (x ∷ []) l n e = let same : x ≡ l = cc in ap (λ y. y ∷ []) same
+one_last (x ∷ y ∷ xs) l n e = absurd (omega arith)
+
+many : (A xs : List Literal) → 1 < length xs → outcome_on A xs ≡ NotUnit
+unfolding outcome_on
+many A [] n = absurd (omega arith)
+many A (x ∷ []) n = absurd (omega arith)
+many A (x ∷ y ∷ xs) n = refl
+
+pub conflict_last : (A c : List Literal) → last_or None (open_literals A c) ≡ None → outcome_of (Some c) A ≡ Conflict
+conflict_last A c e = outcome_is c A ∙ ap (outcome_on A) (none_last (open_literals A c) e)
+
+pub many_open : (A c : List Literal) → 1 < length (open_literals A c) → outcome_of (Some c) A ≡ NotUnit
+many_open A c n = outcome_is c A ∙ many A (open_literals A c) n
+
+true_one : (A : List Literal) (l : Literal) → contains_literal l A ≡ true → outcome_on A (l ∷ []) ≡ NotUnit
+unfolding outcome_on
+true_one A l t = rw t refl
+
+makes_one : (A : List Literal) (l : Literal) → contains_literal l A ≡ false → outcome_on A (l ∷ []) ≡ Makes l
+unfolding outcome_on
+makes_one A l f = rw f refl
+
+pub true_last : (A c : List Literal) (l : Literal) → last_or None (open_literals A c) ≡ Some l → contains_literal l A ≡ true → outcome_of (Some c) A ≡ NotUnit
+true_last A c l e t =
+    elim (cases_lt 1 (length (open_literals A c))) [
+      | inl n ↦ many_open A c n
+      | inr n ↦ outcome_is c A ∙ ap (outcome_on A) (one_last (open_literals A c) l (omega arith) e) ∙ true_one A l t
+    ]
+
+pub makes_last : (A c : List Literal) (l : Literal) → last_or None (open_literals A c) ≡ Some l → length (open_literals A c) ≤ 1 → contains_literal l A ≡ false → outcome_of (Some c) A ≡ Makes l
+makes_last A c l e n f = outcome_is c A ∙ ap (outcome_on A) (one_last (open_literals A c) l n e) ∙ makes_one A l f
 
 -- a literal that a hint makes true
 member_within : (n : ℕ) (l : Literal) (c : List Literal) → AreWithin n c → contains_literal l c ≡ true → l.variable ≤ n

@@ -49,23 +49,23 @@ impl Walked {
     }
 }
 
-/// What the clause does where these literals are true.
+/// What the clause does where these literals are true. The pass goes over all its literals and decides nothing on the way, so that
+/// there is little for the processor to guess.
 pub(crate) fn effect_of(clause: &[Lit], assumed: &Assumed) -> Effect
     requires { AreWithin assumed.now.variables clause.now }
     ensures { outcome_as result ≡ outcome_of (Some clause.now) assumed.now.literals }
 {
-    let mut open = None;
+    let mut count = 0usize;
+    let mut last = None;
     for lit in clause {
         if !assumed.is_true(lit.negation()) {
-            if open.is_some() {
-                return Effect::NotUnit;
-            }
-            open = Some(*lit);
+            count += 1;
+            last = Some(*lit);
         }
     }
-    match open {
+    match last {
         None => Effect::Conflict,
-        Some(lit) if assumed.is_true(lit) => Effect::NotUnit,
+        Some(lit) if count > 1 || assumed.is_true(lit) => Effect::NotUnit,
         Some(lit) => Effect::Makes(lit),
     }
 }
