@@ -25,10 +25,10 @@ use Rattle.lrat_check.proofs.Candidates.{Has, Rises, rises_from_pairs, above, sa
 abbrev pub Entries : Type 0
 Entries = List (ℕ × List Literal)
 
-listed_here : (e : ℕ × List Literal) (es : Entries) (i : ℕ) → e.0 ≡ i → listed_at (e ∷ es) i ≡ Some e.1
+pub listed_here : (e : ℕ × List Literal) (es : Entries) (i : ℕ) → e.0 ≡ i → listed_at (e ∷ es) i ≡ Some e.1
 listed_here e es i h = rw (eq-eqb e.0 i h) refl
 
-listed_there : (e : ℕ × List Literal) (es : Entries) (i : ℕ) → (e.0 ≡ i → ⊥) → listed_at (e ∷ es) i ≡ listed_at es i
+pub listed_there : (e : ℕ × List Literal) (es : Entries) (i : ℕ) → (e.0 ≡ i → ⊥) → listed_at (e ∷ es) i ≡ listed_at es i
 listed_there e es i h = rw (ne_eqb e.0 i h) refl
 
 -- no clause is listed past the bounds
@@ -113,7 +113,7 @@ ids_with-listed n last es l b =
     ids_all (listed_at es) l last i bounds.0 bounds.1 found)
 
 -- an increasing list, by its pairs
-increasing_from_rises : (xs : List ℕ) → Rises xs → (k : ℕ) → k + 1 < length xs → get_or xs k 0 < get_or xs (k + 1) 0
+pub increasing_from_rises : (xs : List ℕ) → Rises xs → (k : ℕ) → k + 1 < length xs → get_or xs k 0 < get_or xs (k + 1) 0
 increasing_from_rises [] r k h = absurd (omega arith)
 increasing_from_rises (x ∷ []) r k h = absurd (omega arith)
 increasing_from_rises (x ∷ y ∷ xs) r zero h = r.0.0
@@ -225,6 +225,16 @@ rises_listed n (c ∷ cs) = (above_listed n (n + 1) cs (omega arith), rises_list
     above_listed x n [] h = tt
     above_listed x n (c ∷ cs) h = (h, above_listed x (n + 1) cs (omega arith))
 
+-- a list of live clauses stays rising
+pub rising_start : (cs : List (List Literal)) → IsRising (listed_from 1 cs)
+rising_start cs = increasing_from_rises (ids_of (listed_from 1 cs)) (rises_listed 1 cs)
+
+pub rising_push : (es : Entries) (id : ℕ) (c : List Literal) → IsRising es → All (λ e. e.0 < id) es → IsRising (es ++ (id, c) ∷ [])
+rising_push es id c r h = increasing_from_rises (ids_of (es ++ (id, c) ∷ [])) (rises_push es (id, c) (rises_from es r) h)
+
+pub rising_without : (i : ℕ) (es : Entries) → IsRising es → IsRising (without_id i es)
+rising_without i es r = increasing_from_rises (ids_of (without_id i es)) (rises_kept (λ e. not (e.0 == i)) es (rises_from es r))
+
 listed_from-all : (P : ℕ × List Literal → Type 0) (n : ℕ) (cs : List (List Literal)) → ((k : ℕ) (c : List Literal) → n ≤ k → k < n + length cs → Contains cs c → P (k, c)) → All P (listed_from n cs)
 listed_from-all P n [] f = All-nil P
 listed_from-all P n (c ∷ cs) f =
@@ -250,7 +260,7 @@ pub within_formula : (f : Cnf) (n : ℕ) → IsFormula f → f.variables ≤ n �
 within_formula f n h le = All-weaker (IsFormulaClause f.variables) (AreWithin n) (λ c k. let small = k.small in within_greatest n c (omega arith)) f.clauses h.clauses
 
 -- one deletion of several
-some_of : (o : Option (List Literal)) → IsSome o → (c : List Literal) × (o ≡ Some c)
+pub some_of : (o : Option (List Literal)) → IsSome o → (c : List Literal) × (o ≡ Some c)
 some_of None h = absurd (false≢true h)
 some_of (Some c) h = (c, refl)
 
@@ -260,15 +270,3 @@ deleted_more last es hs i h lt e f =
     ap (λ xs. deleted (live_of last es) (map (λ x. x.1) xs)) (drop_at hs i h lt e)
     ∙ deleted_live (live_of last es) h.1 (ids_from hs (i + 1)) d.0 d.1
     ∙ ap (λ l. deleted l (ids_from hs (i + 1))) (sym (live_of-without last h.1 es))
-
-pub numbered_more : (cs : List (List Literal)) (i : ℕ) (c : List Literal) (es : Entries) → i < length cs → c ≡ get_or cs i c → es ≡ listed_from 1 (take i cs) → es ++ (i + 1, c) ∷ [] ≡ listed_from 1 (take (i + 1) cs)
-numbered_more cs i c es lt e l =
-    let long : 1 + length (take i cs) ≡ i + 1 = omega (arith, length-take i cs) in
-    let more : take (i + 1) cs ≡ take i cs ++ c ∷ [] = take_more cs i c lt ∙ ap (λ x. take i cs ++ x ∷ []) (sym e) in
-    ap (λ xs. xs ++ (i + 1, c) ∷ []) l ∙ ap (λ k. listed_from 1 (take i cs) ++ (k, c) ∷ []) (sym long)
-    ∙ sym (ap (listed_from 1) more ∙ listed_from-push 1 (take i cs) c)
-
-pub numbered_below : (cs : List (List Literal)) (i : ℕ) (es : Entries) → i < length cs → es ≡ listed_from 1 (take i cs) → All (λ e. e.0 < i + 1) es
-numbered_below cs i es lt l =
-    let long : i + 1 ≡ length (take i cs) + 1 = omega (arith, length-take i cs) in
-    subst (λ xs. All (λ e. e.0 < i + 1) xs) (sym l) (listed_from-below (take i cs) (i + 1) long)

@@ -401,8 +401,8 @@ taken_are_all l count before ((j, c) ∷ es) ids above r a =
         ]
 
 -- the clauses of the first entries
-pub counts_nothing : (ls : List Literal) (es : List Entry) → AreCounts [] (clauses_in ls (cells_of (take 0 es)))
-counts_nothing ls es = λ l p. refl
+pub counts_none : AreCounts [] []
+counts_none = λ l p. refl
 
 more_cells : (es : List Entry) (i : ℕ) (d : Entry) → i < length es → cells_of (take (i + 1) es) ≡ cells_of (take i es) ++ cell_of (get_or es i d) ∷ []
 more_cells es i d h = ap cells_of (take_more es i d h) ∙ map_push cell_of (take i es) (get_or es i d)

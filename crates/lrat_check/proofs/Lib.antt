@@ -21,6 +21,7 @@ pub mod Judging
 pub mod Chains
 pub mod Table
 pub mod Clauses
+pub mod Given
 pub mod Lookup
 pub mod Moves
 pub mod Tables

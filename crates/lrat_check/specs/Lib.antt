@@ -12,4 +12,5 @@ pub mod Chains
 pub mod Table
 pub mod Counts
 pub mod Pieces
+pub mod Given
 pub mod Left

@@ -27,6 +27,16 @@ pub fn check_lines(formula: &Formula, proof: &[u8]) -> Result<Verdict, AllocErro
     judge_whole(Checker::new(formula)?, proof)
 }
 
+/// As `check_lines`, over a formula whose memory the checker takes.
+pub(crate) fn check_owned(formula: Formula, proof: &[u8]) -> Result<Verdict, AllocError>
+    ensures verdict { IfOk result (λ v. v ≡ proof_verdict formula.clauses proof.now) }
+    ensures sound { IfOk result (λ v. v ≡ Verdict.Yes → IsUnsatisfiable formula.clauses) }
+{
+    // the clauses are those of a formula
+    let _vars = formula.vars();
+    judge_whole(Checker::over(formula)?, proof)
+}
+
 /// The verdict of a checker that has read nothing so far.
 pub(crate) fn judge_whole(checker: Checker, proof: &[u8]) -> Result<Verdict, AllocError>
     requires { checker.fed ≡ 0 }

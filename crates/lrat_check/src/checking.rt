@@ -8,7 +8,7 @@ ghost use Rattle.lrat_check.specs.Verdict.{verdict_as, said_verdict, bits_fault}
 ghost use Rattle.lrat_check.specs.Left.{verdict_left, Shows};
 
 use crate::answer::{Answer, AnswerFault, Claim, Solution};
-use crate::certificate::check_lines;
+use crate::certificate::check_owned;
 use crate::result::read_answer;
 use crate::streams::check_stream;
 use crate::verdicts::{Cause, CheckFault, Verdict};
@@ -71,7 +71,7 @@ pub fn check_as(
     let left = left_of(alloc, text, answer, profile)?;
     match left {
         Left::Nothing(verdict) => Ok(verdict),
-        Left::Proof(formula) => check_lines(&formula, proof),
+        Left::Proof(formula) => check_owned(formula, proof),
     }
 }
 
@@ -111,7 +111,7 @@ pub fn check_from_as<R: Read>(
     };
     match left {
         Left::Nothing(verdict) => Ok(verdict),
-        Left::Proof(formula) => check_stream(&formula, proof),
+        Left::Proof(formula) => check_stream(formula, proof),
     }
 }
 

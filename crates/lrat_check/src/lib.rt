@@ -6,6 +6,7 @@ mod answer;
 mod assumed;
 pub mod certificate;
 pub mod checking;
+mod copies;
 mod hints;
 mod live;
 mod machine;

@@ -1,40 +1,30 @@
-// The live clauses of a certificate by id, in flat memory: it grows with what is live, and not with the length of the certificate.
-ghost use Rattle.std.specs.Prelude.{◌≡◌, ◌<◌, ◌≤◌, ◌^◌, ◌↔◌, ◌∷◌, [], ◌++◌, ◌/◌, All, IfOk, IsTrue, IsSome, OnOk, OnErr, length};
+// The live clauses of a certificate by id: those of the formula, and those that were added.
+ghost use Rattle.std.specs.Prelude.{◌≡◌, ◌<◌, ◌↔◌, ◌∷◌, [], ◌++◌, true, false, All, IfOk, IsTrue, IsSome, OnOk, OnErr};
 ghost use Rattle.std.specs.Option.{option_copied};
-ghost use Rattle.lrat_check.specs.Counts.{times_at, take_all};
-ghost use Rattle.lrat_check.specs.Listed.{listed_at, without_id, ids_listed};
+ghost use Rattle.lrat_check.specs.Counts.{times_at, take_all, AreCounts};
+ghost use Rattle.lrat_check.specs.Listed.{listed_at, without_id, ids_listed, IsRising};
+ghost use Rattle.lrat_check.specs.Machine.{listed_from};
 ghost use Rattle.lrat_check.specs.Verdict.{same_ids};
 
+mod added;
 mod append;
 mod counts;
 mod entries;
+mod given;
 mod reclaim;
 
-use crate::live::append::append;
-use crate::live::counts::{count_all, count_last, count_of, count_out, is_next, times_in};
-use crate::live::entries::{Entry, find, is_above};
-use crate::live::reclaim::reclaim;
-use std::alloc::{AllocError, Global};
+use crate::live::added::Added;
+use crate::live::counts::{count_last, count_of, is_next, lower, times_in};
+use crate::live::given::Given;
+use std::alloc::AllocError;
 use std::marker::Model;
-use wcnf::types::Lit;
-
-/// An entry takes as much memory as six literals.
-const ENTRY: usize = 6;
-
-/// So much dead memory, in literals, is left where it is.
-const LITTLE: usize = 4096;
+use wcnf::types::{Formula, Lit};
 
 /// The live clauses of a certificate with their ids.
 #[derive(Drop)]
 pub(crate) struct LiveClauses {
-    /// The clauses' literals, one after another.
-    lits: Vec<Lit>,
-    /// In rising id; their clauses lie in this order.
-    entries: Vec<Entry>,
-    /// For each bucket the place of its newest entry, from 1, or 0.
-    heads: Vec<u32>,
-    /// What reclaiming would free, in literals.
-    dead: usize,
+    given: Given,
+    added: Added,
     /// Whether the literals of the live clauses are counted, as they are from the first RAT line on.
     is_counted: bool,
     /// By a literal's index, how often it stands in the live clauses, if they are counted; a literal past the end stands in none.
@@ -42,47 +32,85 @@ pub(crate) struct LiveClauses {
 }
 
 impl Model for LiveClauses {
-    ghost use Rattle.std.specs.Prelude.{◌≡◌, ℕ, List, true};
+    ghost use Rattle.std.specs.Prelude.{◌≡◌, ◌++◌, ℕ, List, true};
     ghost use Rattle.wcnf.specs.Literal.{Literal};
 
     ghost Value = { List (ℕ × List Literal) };
 
-    ghost use Rattle.lrat_check.specs.Table.{cells_of, clauses_in, IsTable};
     ghost use Rattle.lrat_check.specs.Counts.{AreCounts};
+    ghost use Rattle.lrat_check.specs.Listed.{IsRising};
 
-    ghost view = { λ s. clauses_in s.lits.items (cells_of s.entries.items) };
+    ghost view = { λ s. s.given ++ s.added };
 
-    ghost invariant = { λ s. IsTable s.lits.items s.entries.items s.heads.items × (s.is_counted ≡ true → AreCounts s.counts.items (clauses_in s.lits.items (cells_of s.entries.items))) };
+    ghost invariant = { λ s. IsRising (s.given ++ s.added) × (s.is_counted ≡ true → AreCounts s.counts.items (s.given ++ s.added)) };
+}
+
+/// The clause under an id, of the formula or added.
+#[inline]
+fn lookup<'a>(given: &'a Given, added: &'a Added, id: u64) -> Option<&'a [Lit]>
+    ensures { option_copied result ≡ listed_at (given.now ++ added.now) id }
+{
+    match given.find(id) {
+        Some(clause) => Some(clause),
+        None => added.find(id),
+    }
+}
+
+/// Counts the literals of all clauses, unless they are counted.
+fn count_all(
+    is_counted: bool,
+    counts: &mut Vec<u32>,
+    given: &Given,
+    added: &Added,
+) -> Result<(), AllocError>
+    requires { is_counted ≡ true → AreCounts counts.old.items (given.now ++ added.now) }
+    ensures counts { OnOk result (AreCounts counts.new.items (given.now ++ added.now)) }
+    ensures err { OnErr result (is_counted ≡ false) }
+{
+    if is_counted {
+        return Ok(());
+    }
+    counts.clear();
+    given.count(counts)?;
+    added.count(counts)?;
+    Ok(())
+}
+
+/// Counts the literals of the clause under an id out, if there is one and they are counted.
+fn count_out(is_counted: bool, counts: &mut [u32], given: &Given, added: &Added, id: u64)
+    ensures { IsRising (given.now ++ added.now) → (is_counted ≡ true → AreCounts counts.old (given.now ++ added.now))
+        → is_counted ≡ true → AreCounts counts.new (without_id id (given.now ++ added.now)) }
+{
+    if !is_counted {
+        return;
+    }
+    let Some(clause) = lookup(given, added, id) else {
+        return;
+    };
+    lower(counts, clause);
 }
 
 impl LiveClauses {
-    /// No clauses. Memory comes from alloc when clauses are added.
-    pub(crate) fn new(alloc: Global) -> Self
-        ensures { result ≡ [] }
+    /// The clauses of the formula under the ids from 1. An AllocError comes where memory was refused.
+    pub(crate) fn new(formula: Formula) -> Result<Self, AllocError>
+        ensures { IfOk result (λ live. live ≡ listed_from 1 formula.clauses) }
     {
-        LiveClauses {
-            lits: Vec::new(alloc),
-            entries: Vec::new(alloc),
-            heads: Vec::new(alloc),
-            dead: 0,
+        let alloc = formula.allocator();
+        Ok(LiveClauses {
+            given: Given::new(formula)?,
+            added: Added::new(alloc),
             is_counted: false,
             counts: Vec::new(alloc),
-        }
+        })
     }
 
-    /// Adds a clause under an id above all others. An AllocError comes where memory was refused, or where there would be more than 2^32 - 2 clauses or literals, dead ones too; the clauses then stay as they are.
+    /// Adds a clause under an id above all others. An AllocError comes where memory was refused, or where there would be more than 2^32 - 2 added clauses or literals, dead ones too; the clauses then stay as they are.
     pub(crate) fn add(&mut self, id: u64, lits: &[Lit]) -> Result<(), AllocError>
         requires rising { All (λ e. e.0 < id) self.old }
         ensures ok { OnOk result (self.new ≡ self.old ++ (id, lits.now) ∷ []) }
         ensures err { OnErr result (self.new ≡ self.old) }
     {
-        let all = self.lits.len() + ENTRY * self.entries.len();
-        // a dead entry may have a later id, and ids rise
-        if !is_above(&self.entries, id) || is_mostly_dead(self.dead, all) {
-            reclaim(&mut self.lits, &mut self.entries, &mut self.heads);
-            self.dead = 0;
-        }
-        append(&mut self.lits, &mut self.entries, &mut self.heads, id, lits)?;
+        self.added.add(id, lits)?;
         self.is_counted = count_last(self.is_counted, &mut self.counts, lits);
         Ok(())
     }
@@ -92,13 +120,7 @@ impl LiveClauses {
     pub(crate) fn find(&self, id: u64) -> Option<&[Lit]>
         ensures { option_copied result ≡ listed_at self.now id }
     {
-        let place = find(&self.heads, &self.entries, id)?;
-        let entry = self.entries[place];
-        if !entry.live {
-            return None;
-        }
-        let start = entry.start as usize;
-        Some(&self.lits[start..start + entry.length as usize])
+        lookup(&self.given, &self.added, id)
     }
 
     /// Takes the clause out; false where there is none under the id.
@@ -106,20 +128,17 @@ impl LiveClauses {
         ensures found { IsTrue result ↔ IsSome (listed_at self.old id) }
         ensures left { self.new ≡ without_id id self.old }
     {
-        let Some(place) = find(&self.heads, &self.entries, id) else {
-            return false;
-        };
-        let entry = &mut self.entries[place];
-        if !entry.live {
-            return false;
+        count_out(
+            self.is_counted,
+            &mut self.counts,
+            &self.given,
+            &self.added,
+            id,
+        );
+        if self.given.delete(id) {
+            return true;
         }
-        entry.live = false;
-        let start = entry.start as usize;
-        let length = entry.length as usize;
-        self.dead = self.dead.saturating_add(ENTRY + length);
-        let clause = &self.lits[start..start + length];
-        count_out(self.is_counted, &mut self.counts, clause);
-        true
+        self.added.delete(id)
     }
 
     /// Whether these ids are those of the clauses with the literal, in rising order. An AllocError comes where memory was refused, or
@@ -129,7 +148,7 @@ impl LiveClauses {
         ensures all { IfOk result (λ all. all ≡ same_ids ids.now (ids_listed lit self.old)) }
         ensures same { self.new ≡ self.old }
     {
-        count_all(self.is_counted, &mut self.counts, &self.lits, &self.entries)?;
+        count_all(self.is_counted, &mut self.counts, &self.given, &self.added)?;
         self.is_counted = true;
         let total = count_of(&self.counts, lit);
         Ok(self.take_all(lit, total, ids))
@@ -161,11 +180,4 @@ impl LiveClauses {
             None => 0,
         }
     }
-}
-
-/// Then reclaiming, which goes over all, costs no more than what died since.
-fn is_mostly_dead(dead: usize, all: usize) -> bool
-    ensures { IsTrue result ↔ (LITTLE < dead) × (all / 2 < dead) }
-{
-    dead > LITTLE && dead > all / 2
 }

@@ -54,18 +54,6 @@ impl Model for Machine {
     ghost invariant = { λ m. IsBase m.scratch.assumed.variables m.base.last m.base.live };
 }
 
-// The formula's clauses under the ids from 1.
-fn numbered(formula: &Formula) -> Result<LiveClauses, AllocError>
-    ensures { IfOk result (λ live. live ≡ listed_from 1 formula.now.clauses) }
-{
-    let mut live = LiveClauses::new(formula.allocator());
-    let clauses = formula.clauses();
-    for i in 0..clauses.len() {
-        live.add(i as u64 + 1, clauses.get(i))?;
-    }
-    Ok(live)
-}
-
 // Deletes the clauses of these ids in turn, up to one that is not live.
 fn delete_all(live: &mut LiveClauses, hints: &[SignedId]) -> Option<Cause>
     ensures deleted { (last : ℕ) → MatchOption result (deleted (live_of last live.old) (map (λ h. h.1) hints.now) ≡ Some (live_of last live.new)) (λ cause. (cause ≡ Cause.DeadId) × (deleted (live_of last live.old) (map (λ h. h.1) hints.now) ≡ None)) }
@@ -128,20 +116,21 @@ fn judge(
 }
 
 impl Machine {
-    /// The checker before the first line: the formula's clauses are live under the ids from 1.
+    /// The checker before the first line: the formula's clauses are live under the ids from 1, in the formula's own memory.
     /// An AllocError comes where memory was refused.
-    pub fn new(formula: &Formula) -> Result<Self, AllocError>
-        ensures state { IfOk result (λ m. m ≡ record { clauses = listed_from 1 formula.now.clauses; last = length formula.now.clauses; ended = false; lines = 0 }) }
-        ensures limits { IsFormula formula.now }
+    pub fn new(formula: Formula) -> Result<Self, AllocError>
+        ensures state { IfOk result (λ m. m ≡ record { clauses = listed_from 1 formula.clauses; last = length formula.clauses; ended = false; lines = 0 }) }
+        ensures limits { IsFormula formula }
     {
         let alloc = formula.allocator();
+        let last = formula.clauses().len() as u64;
         let mut assumed = Assumed::new(alloc);
         assumed.grow(formula.vars())?;
         Ok(Machine {
             reader: LineReader::new(alloc),
             base: Base {
-                live: numbered(formula)?,
-                last: formula.clauses().len() as u64,
+                live: LiveClauses::new(formula)?,
+                last,
                 ended: false,
             },
             scratch: Scratch {

@@ -4,6 +4,7 @@ ghost use Rattle.wcnf.specs.Literal.{Literal};
 ghost use Rattle.lrat_check.specs.Pieces.{Stands};
 ghost use Rattle.lrat_check.specs.Verdict.{proof_verdict};
 
+use crate::copies::copied;
 use crate::machine::Machine;
 use crate::reading::Reading;
 use crate::verdicts::{FeedFault, Verdict};
@@ -41,10 +42,19 @@ impl Checker {
         ensures stands { IfOk result (λ c. Stands c formula.now.clauses []) }
         ensures works { IfOk result (λ c. c.failed ≡ false) }
     {
+        Checker::over(copied(formula)?)
+    }
+
+    /// As `new`, over a formula whose memory the checker takes.
+    pub(crate) fn over(formula: Formula) -> Result<Self, AllocError>
+        ensures stands { IfOk result (λ c. Stands c formula.clauses []) }
+        ensures works { IfOk result (λ c. c.failed ≡ false) }
+    {
+        let alloc = formula.allocator();
         Ok(Checker {
             reading: Reading {
                 machine: Machine::new(formula)?,
-                rest: Vec::new(formula.allocator()),
+                rest: Vec::new(alloc),
                 refused: None,
             },
             fed: 0,

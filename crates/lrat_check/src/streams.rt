@@ -10,14 +10,14 @@ use crate::verdicts::{CheckFault, Verdict};
 use std::io::Read;
 use wcnf::types::Formula;
 
-/// As `check_lines`, with the certificate from a reader.
-pub(crate) fn check_stream<R: Read>(formula: &Formula, proof: &mut R) -> Result<Verdict, CheckFault>
-    ensures verdict { IfOk result (λ v. IfSome (R.remaining proof.old) (λ bytes. v ≡ proof_verdict formula.now.clauses bytes)) }
-    ensures sound { IfOk result (λ v. v ≡ Verdict.Yes → IsUnsatisfiable formula.now.clauses) }
+/// As `check_owned`, with the certificate from a reader.
+pub(crate) fn check_stream<R: Read>(formula: Formula, proof: &mut R) -> Result<Verdict, CheckFault>
+    ensures verdict { IfOk result (λ v. IfSome (R.remaining proof.old) (λ bytes. v ≡ proof_verdict formula.clauses bytes)) }
+    ensures sound { IfOk result (λ v. v ≡ Verdict.Yes → IsUnsatisfiable formula.clauses) }
 {
     // the clauses are those of a formula
     let _vars = formula.vars();
-    let Ok(checker) = Checker::new(formula) else {
+    let Ok(checker) = Checker::over(formula) else {
         return Err(CheckFault::Memory);
     };
     judge_stream(checker, proof)

@@ -3,7 +3,6 @@
 ghost use Rattle.std.specs.Prelude.{◌≡◌, ℕ, ◌+◌, ◌-◌, ◌<◌, ◌^◌, ◌==◌, ◌++◌, ◌∷◌, [], List, true, false, slice_index, length, OnOk, OnErr, Some};
 ghost use Rattle.wcnf.specs.Literal.{Literal, index_of};
 ghost use Rattle.lrat_check.specs.Counts.{one_if, times_in, is_next, AreCounts, AreRaised, AreLowered};
-ghost use Rattle.lrat_check.specs.Listed.{listed_at, without_id, IsRising};
 ghost use Rattle.lrat_check.specs.Table.{cells_of, clauses_in, IsLaid};
 
 use crate::live::entries::Entry;
@@ -85,7 +84,7 @@ fn lower_one(counts: &mut [u32], place: usize)
 }
 
 /// Counts the literals of a clause that comes. After an AllocError the counts are of no use.
-fn raise(counts: &mut Vec<u32>, clause: &[Lit]) -> Result<(), AllocError>
+pub(crate) fn raise(counts: &mut Vec<u32>, clause: &[Lit]) -> Result<(), AllocError>
     ensures { OnOk result (AreRaised counts.old.items clause.now counts.new.items) }
 {
     for lit in clause {
@@ -95,7 +94,7 @@ fn raise(counts: &mut Vec<u32>, clause: &[Lit]) -> Result<(), AllocError>
 }
 
 /// Counts the literals of a clause that goes.
-fn lower(counts: &mut [u32], clause: &[Lit])
+pub(crate) fn lower(counts: &mut [u32], clause: &[Lit])
     ensures { AreLowered counts.old clause.now counts.new }
 {
     for lit in clause {
@@ -117,33 +116,16 @@ pub(crate) fn count_last(is_counted: bool, counts: &mut Vec<u32>, clause: &[Lit]
     }
 }
 
-/// Counts the literals of a clause that is deleted, if they are counted.
-pub(crate) fn count_out(is_counted: bool, counts: &mut [u32], clause: &[Lit])
-    ensures { (es : List (ℕ × List Literal)) (id : ℕ) → IsRising es → listed_at es id ≡ Some clause.now
-        → (is_counted ≡ true → AreCounts counts.old es) → is_counted ≡ true → AreCounts counts.new (without_id id es) }
-{
-    if !is_counted {
-        return;
-    }
-    lower(counts, clause);
-}
-
-/// Counts all live clauses, unless they are counted.
-pub(crate) fn count_all(
-    is_counted: bool,
+/// Counts the literals of the live entries, beside those that are counted.
+pub(crate) fn count_entries(
     counts: &mut Vec<u32>,
     lits: &[Lit],
     entries: &[Entry],
 ) -> Result<(), AllocError>
-    requires laid { IsLaid 0 (cells_of entries.now) (length lits.now) }
-    requires counted { is_counted ≡ true → AreCounts counts.old.items (clauses_in lits.now (cells_of entries.now)) }
-    ensures counts { OnOk result (AreCounts counts.new.items (clauses_in lits.now (cells_of entries.now))) }
-    ensures err { OnErr result (is_counted ≡ false) }
+    requires { IsLaid 0 (cells_of entries.now) (length lits.now) }
+    ensures { OnOk result ((es : List (ℕ × List Literal)) → AreCounts counts.old.items es
+        → AreCounts counts.new.items (es ++ clauses_in lits.now (cells_of entries.now))) }
 {
-    if is_counted {
-        return Ok(());
-    }
-    counts.clear();
     for entry in entries {
         if !entry.live {
             continue;

@@ -1,20 +1,22 @@
-use Rattle.std.proofs.Common.{◌<◌, List, ℕ}
+use Rattle.std.proofs.Common.{◌≡◌, ◌<◌, ◌∷◌, [], ◌++◌, ◌∙◌, List, ℕ, true, ap, sym, subst}
 use Rattle.std.specs.Prelude.{All}
+use Rattle.std.proofs.lemmas.List.{append_assoc}
 use Rattle.wcnf.specs.Literal.{Literal}
-use Rattle.lrat_check.specs.Table.{cells_of, keys_of, clauses_in, IsAboveLast}
-use Rattle.lrat_check.proofs.Tables.{live_above}
+use Rattle.lrat_check.specs.Counts.{AreCounts}
+use Rattle.lrat_check.specs.Listed.{IsRising}
+use Rattle.lrat_check.proofs.Base.{rising_push}
+use Rattle.lrat_check.proofs.Given.{all_second}
 use Rattle.lrat_check.proofs.live.LiveClauses.add.Goals as goal
-use Rattle.lrat_check.proofs.live.LiveClauses.add.Goals.{then-not-is_above, else-not-is_above+else-is_mostly_dead}
 
-pub append-requires-clause-above : goal.append-requires-clause-above
-append-requires-clause-above c =
+pub add-requires : goal.add-requires
+add-requires c = record { rising = all_second (λ e. e.0 < c.args.id) c.self.inside.given c.self.inside.added (rw c.self.view_is c.requires.rising) }
+
+pub invariant_of-self-2 : goal.invariant_of-self-2
+invariant_of-self-2 c =
     let s = c.self.inside in
-    let old : All (λ (e : ℕ × List Literal). e.0 < c.args.id) (clauses_in s.lits.items (cells_of s.entries.items)) = rw c.self.view_is c.requires.rising in
-    elim c.if-not-is_above.branch [
-      | then-not-is_above w ↦
-          let h : All (λ (e : ℕ × List Literal). e.0 < c.args.id) (clauses_in w.reclaim.new.lits.items (cells_of w.reclaim.new.entries.items)) = rw w.reclaim.ensures.clauses old in
-          rw w.self-inside-is (live_above w.reclaim.new.lits.items (cells_of w.reclaim.new.entries.items) c.args.id w.reclaim.ensures.live h)
-      | else-not-is_above+else-is_mostly_dead w ↦
-          let h : IsAboveLast c.args.id (keys_of (cells_of s.entries.items)) = rw (← c.deref.ensures.value) (c.is_above.ensures.0 w.if-not-is_above.false) in
-          rw w.self-inside-is h
-    ]
+    let es = s.given ++ s.added in
+    let d = c.args.lits.now in
+    let old : All (λ (e : ℕ × List Literal). e.0 < c.args.id) es = rw c.self.view_is c.requires.rising in
+    let now : s.given ++ c.add.new.self ≡ es ++ (c.args.id, d) ∷ [] = ap (λ x. s.given ++ x) c.in_ok-add.ensures.ok ∙ sym (append_assoc s.given s.added ((c.args.id, d) ∷ [])) in
+    subst (λ xs. IsRising xs × (c.count_last-self-inside.result ≡ true → AreCounts c.count_last-self-inside.new.counts.items xs)) (sym now)
+    (rising_push es c.args.id d c.self.invariant.0 old, λ yes. c.count_last-self-inside.ensures es c.args.id c.self.invariant.1 yes)

@@ -1,0 +1,27 @@
+// A formula of one's own.
+ghost use Rattle.std.specs.Prelude.{◌≡◌, IfOk};
+
+use std::alloc::AllocError;
+use wcnf::clause_list::ClauseList;
+use wcnf::types::Formula;
+
+/// The same formula in memory of its own.
+pub(crate) fn copied(formula: &Formula) -> Result<Formula, AllocError>
+    ensures { IfOk result (λ copy. copy ≡ formula.now) }
+{
+    // the clauses are those of a formula
+    let vars = formula.vars();
+    let clauses = copied_clauses(formula.clauses())?;
+    Ok(Formula::new(vars, clauses))
+}
+
+/// The same clauses in memory of their own.
+fn copied_clauses(clauses: &ClauseList) -> Result<ClauseList, AllocError>
+    ensures { IfOk result (λ copy. copy ≡ clauses.now) }
+{
+    let mut copy = ClauseList::new(clauses.allocator());
+    for clause in clauses.iter() {
+        copy.push(clause)?;
+    }
+    Ok(copy)
+}
