@@ -1,5 +1,6 @@
 -- Tables with one mark for each literal.
-use Rattle.std.specs.Prelude.{◌≡◌, ℕ, ◌*◌, ◌<◌, ◌≤◌, Bool, true, false, List, [], ◌∷◌, Option, Some, None, slice_index_or, if◌then◌else◌}
+use Rattle.std.specs.Prelude.{◌≡◌, ℕ, ◌*◌, ◌<◌, ◌≤◌, Bool, true, false, if◌then◌else◌}
+use Rattle.std.specs.Prelude.{List, [], ◌∷◌, Option, Some, None, slice_index_or}
 use Rattle.wcnf.specs.Literal.{Literal, index_of, negation}
 use Rattle.wcnf.specs.Clause.{contains_literal, without_literal}
 use Rattle.subsume.specs.declared.marks.Against.{Against}
@@ -21,11 +22,13 @@ abbrev pub are_marked : List Bool → List Literal → Bool
 are_marked marks [] = true
 are_marked marks (l ∷ c) = if mark_of marks l then are_marked marks c else false
 
--- what is found of a clause, of which a part was looked at: the part's literals are all marked; or all but one, whose negation is marked
+-- what is found of a clause, of which a part was looked at: the part's literals are all marked;
+-- or all but one, whose negation is marked
 abbrev pub LiesSoFar : List Bool → List Literal → List Literal → Against → Type 0
 LiesSoFar marks c part Apart = Unit {0}
 LiesSoFar marks c part Within = are_marked marks part ≡ true
-LiesSoFar marks c part (ButFor l) = (contains_literal l c ≡ true) × (mark_of marks (negation l) ≡ true) × (are_marked marks (without_literal l part) ≡ true)
+LiesSoFar marks c part (ButFor l) = (contains_literal l c ≡ true)
+    × (mark_of marks (negation l) ≡ true) × (are_marked marks (without_literal l part) ≡ true)
 
 abbrev pub LiesAgainst : List Bool → List Literal → Against → Type 0
 LiesAgainst marks c found = LiesSoFar marks c c found

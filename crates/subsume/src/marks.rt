@@ -1,8 +1,11 @@
-// Marks on the literals of one clause, against which other clauses are held in time linear in these.
-ghost use Rattle.std.specs.Prelude.{◌≡◌, ℕ, ◌*◌, ◌<◌, ◌≤◌, ◌^◌, true, false, List, length, replicate, slice_set, All, IfOk};
+// Marks on the literals of one clause, against which other clauses are held in time linear in
+// these.
+ghost use Rattle.std.specs.Prelude.{◌≡◌, ℕ, ◌*◌, ◌<◌, ◌≤◌, ◌^◌, true, false, IfOk};
+ghost use Rattle.std.specs.Prelude.{List, length, replicate, slice_set, All};
 ghost use Rattle.wcnf.specs.Literal.{Literal, index_of};
 ghost use Rattle.wcnf.specs.Clause.{without_literal};
-ghost use Rattle.subsume.specs.Marks.{HasPlace, IsMarked, LiesAgainst, are_marked, but_for, mark_of};
+ghost use Rattle.subsume.specs.Marks.{HasPlace, IsMarked, LiesAgainst};
+ghost use Rattle.subsume.specs.Marks.{are_marked, but_for, mark_of};
 
 use std::alloc::{AllocError, Global};
 use std::marker::Model;
