@@ -8,15 +8,15 @@ use Rattle.std.proofs.lemmas.List.Elements.{Contains-append_left, Contains-push}
 use Rattle.wcnf.specs.Literal.{Literal, index_of}
 use Rattle.clauses.specs.Slots.{Slots, clause_at}
 use Rattle.propagate.specs.declared.pool.Entry.{Entry}
-use Rattle.propagate.specs.declared.table.Place.{Place}
+use Rattle.propagate.specs.declared.table.Attachment.{Attachment}
 use Rattle.propagate.specs.declared.table.Rest.{Rest}
-use Rattle.propagate.specs.declared.table.Place.TheVariants.{Detached, Waiting, Resting, Watching}
-use Rattle.propagate.specs.Rows.{row_at, with_row}
+use Rattle.propagate.specs.declared.table.Attachment.TheVariants.{Detached, Waiting, Satisfied, Watching}
+use Rattle.propagate.specs.Pool.{row_at, with_row}
 use Rattle.propagate.specs.Trail.{Assigned}
-use Rattle.propagate.specs.Watches.{EngineState, IsEngine, IsVariable, is_attached, is_kept, IsWatching, place_in, watches_at, count_in}
+use Rattle.propagate.specs.Watches.{EngineState, IsEngine, IsVariable, is_attached, is_kept, IsWatching, attachment_in, watches_at, count_in}
 use Rattle.propagate.specs.Steps.{grown_table}
-use Rattle.propagate.specs.Fits.{Fits, FitsPlace, IsWithin, HasBlocker}
-use Rattle.propagate.proofs.Places.{with_watches, place_set_other, place_set_same, fits_place, blockers_kept, blockers_gone, count-cons, one-other}
+use Rattle.propagate.specs.Fits.{Fits, FitsAttachment, IsWithin, HasBlocker}
+use Rattle.propagate.proofs.Attachments.{with_watches, attachment_set_other, attachment_set_same, fits_attachment, blockers_kept, blockers_gone, count-cons, one-other}
 
 past : (k v : ℕ) → get_or (replicate k Detached) v Detached ≡ Detached
 past zero v = refl
@@ -24,19 +24,19 @@ past (suc k) zero = refl
 past (suc k) (suc v) = past k v
 
 -- a table is as long as it must be
-pub place_grown : (t : List Place) (r q : ℕ) → place_in (grown_table t r) q ≡ place_in t q
-place_grown t r q = elim (cases_lt q (length t)) [
+pub attachment_grown : (t : List Attachment) (r q : ℕ) → attachment_in (grown_table t r) q ≡ attachment_in t q
+attachment_grown t r q = elim (cases_lt q (length t)) [
   | inl lt ↦ get_or_append_left t (replicate (r + 1 - length t) Detached) Detached q lt
   | inr le ↦ get_or-append_right t (replicate (r + 1 - length t) Detached) (length t) q Detached refl le ∙ past (r + 1 - length t) (q - length t) ∙ sym (get_or_past t q Detached le)
 ]
 
-pub length-grown : (t : List Place) (r : ℕ) → r < length (grown_table t r)
+pub length-grown : (t : List Attachment) (r : ℕ) → r < length (grown_table t r)
 length-grown t r = omega (arith, length-append t (replicate (r + 1 - length t) Detached), length-replicate (r + 1 - length t) Detached)
 
-detached_at : (p : Place) → is_kept p ≡ false → p ≡ Detached
+detached_at : (p : Attachment) → is_kept p ≡ false → p ≡ Detached
 detached_at Detached e = refl
 detached_at Waiting e = absurd (true≢false e)
-detached_at Resting e = absurd (true≢false e)
+detached_at Satisfied e = absurd (true≢false e)
 detached_at (Watching one other rest) e = absurd (true≢false e)
 
 pub fits_attach : (e : EngineState) (slots : Slots) (r : ℕ) (c : List Literal) → is_attached e r ≡ false → clause_at slots r ≡ Some c → IsWithin e.variables c
@@ -46,15 +46,15 @@ fits_attach e slots r c out live within fits =
     let t = set g r Waiting in
     let R = e.watches.rows in
     let w = e.watches.waiting ++ r ∷ [] in
-    let here : place_in t r ≡ Waiting = place_set_same g r Waiting (length-grown e.watches.table r) in
-    let kept : is_kept (place_in t r) ≡ true = ap is_kept here in
-    let other : (q : ℕ) → q ≢ r → place_in t q ≡ place_in e.watches.table q = λ q ne. place_set_other g r q Waiting ne ∙ place_grown e.watches.table r q in
-    let was : place_in e.watches.table r ≡ Detached = detached_at (place_in e.watches.table r) out in
-    fits_place e slots r t R w fits other
-    (λ k. (c, live, (within, subst (λ x. FitsPlace e c x) (sym here) tt)))
+    let here : attachment_in t r ≡ Waiting = attachment_set_same g r Waiting (length-grown e.watches.table r) in
+    let kept : is_kept (attachment_in t r) ≡ true = ap is_kept here in
+    let other : (q : ℕ) → q ≢ r → attachment_in t q ≡ attachment_in e.watches.table q = λ q ne. attachment_set_other g r q Waiting ne ∙ attachment_grown e.watches.table r q in
+    let was : attachment_in e.watches.table r ≡ Detached = detached_at (attachment_in e.watches.table r) out in
+    fits_attachment e slots r t R w fits other
+    (λ k. (c, live, (within, subst (λ x. FitsAttachment e c x) (sym here) tt)))
     (inl kept)
     (λ i q. elim (cases_eq q r) [
-      | inl same ↦ fits.rows i q ∙ ap (λ x. watches_at (place_in e.watches.table x) i) same ∙ ap (λ x. watches_at x i) was ∙ sym (ap (λ x. watches_at (place_in t x) i) same ∙ ap (λ x. watches_at x i) here)
+      | inl same ↦ fits.rows i q ∙ ap (λ x. watches_at (attachment_in e.watches.table x) i) same ∙ ap (λ x. watches_at x i) was ∙ sym (ap (λ x. watches_at (attachment_in t x) i) same ∙ ap (λ x. watches_at x i) here)
       | inr ne ↦ fits.rows i q ∙ sym (ap (λ x. watches_at x i) (other q ne))
     ])
     (λ q h. elim (cases_eq q r) [
@@ -136,24 +136,24 @@ pub fits_detach : (e : EngineState) (slots : Slots) (r : ℕ) (R : List (List En
     → Fits e slots → Fits (with_watches e (set e.watches.table r Detached) R w) slots
 fits_detach e slots r R w lt none others gone blockers waiting fits =
     let t = set e.watches.table r Detached in
-    let here : place_in t r ≡ Detached = place_set_same e.watches.table r Detached lt in
-    let other : (q : ℕ) → q ≢ r → place_in t q ≡ place_in e.watches.table q = λ q ne. place_set_other e.watches.table r q Detached ne in
-    fits_place e slots r t R w fits other
+    let here : attachment_in t r ≡ Detached = attachment_set_same e.watches.table r Detached lt in
+    let other : (q : ℕ) → q ≢ r → attachment_in t q ≡ attachment_in e.watches.table q = λ q ne. attachment_set_other e.watches.table r q Detached ne in
+    fits_attachment e slots r t R w fits other
     (λ k. absurd (false≢true (sym (ap is_kept here) ∙ k)))
     (inr none)
     (λ i q. elim (cases_eq q r) [
-      | inl same ↦ ap (λ x. count_in x (row_at R i)) same ∙ gone i ∙ sym (ap (λ x. watches_at (place_in t x) i) same ∙ ap (λ x. watches_at x i) here)
+      | inl same ↦ ap (λ x. count_in x (row_at R i)) same ∙ gone i ∙ sym (ap (λ x. watches_at (attachment_in t x) i) same ∙ ap (λ x. watches_at x i) here)
       | inr ne ↦ others i q ne ∙ fits.rows i q ∙ sym (ap (λ x. watches_at x i) (other q ne))
     ])
     (λ q h. elim (cases_eq q r) [
-      | inl same ↦ absurd (let h' = sym (ap (place_in t) same ∙ here) ∙ h in cc)
+      | inl same ↦ absurd (let h' = sym (ap (attachment_in t) same ∙ here) ∙ h in cc)
       | inr ne ↦ waiting q ne (fits.waiting q (sym (other q ne) ∙ h))
     ])
     (λ i. blockers_gone e slots r t R w (row_at R i) other (gone i) (blockers i))
 
 -- a clause of two rows leaves both
 pub fits_detach_watching : (e : EngineState) (slots : Slots) (r : ℕ) (one other : Literal) → IsEngine e → r < length e.watches.table → All (λ (a : Assigned). a.reason ≡ Some r → ⊥) e.trail
-    → IsWatching (place_in e.watches.table r) one other → index_of one < length e.watches.rows → index_of other < length e.watches.rows
+    → IsWatching (attachment_in e.watches.table r) one other → index_of one < length e.watches.rows → index_of other < length e.watches.rows
     → Fits e slots → Fits (with_watches e (set e.watches.table r Detached) (cleared (cleared e.watches.rows (index_of one) r) (index_of other) r) e.watches.waiting) slots
 fits_detach_watching e slots r one other inv lt none at h g fits =
     let R = e.watches.rows in
@@ -176,7 +176,7 @@ fits_detach_watching e slots r one other inv lt none at h g fits =
 
 -- a clause without rows
 pub fits_detach_other : (e : EngineState) (slots : Slots) (r : ℕ) (w : List ℕ) → r < length e.watches.table → All (λ (a : Assigned). a.reason ≡ Some r → ⊥) e.trail
-    → ((i : ℕ) → watches_at (place_in e.watches.table r) i ≡ 0) → ((q : ℕ) → q ≢ r → Contains e.watches.waiting q → Contains w q)
+    → ((i : ℕ) → watches_at (attachment_in e.watches.table r) i ≡ 0) → ((q : ℕ) → q ≢ r → Contains e.watches.waiting q → Contains w q)
     → Fits e slots → Fits (with_watches e (set e.watches.table r Detached) e.watches.rows w) slots
 fits_detach_other e slots r w lt none rows waiting fits =
     fits_detach e slots r e.watches.rows w lt none (λ i q ne. refl) (λ i. fits.rows i r ∙ rows i) fits.blockers waiting fits
@@ -184,25 +184,25 @@ fits_detach_other e slots r w lt none rows waiting fits =
 pub without_kept : (r q : ℕ) (xs : List ℕ) → q ≢ r → Contains xs q → Contains (without r xs) q
 without_kept r q xs ne h = Contains-filter (λ x. not (x == r)) xs q (not_from_false (q == r) (ne_eqb q r ne)) h
 
-pub watching_is : (p : Place) (one other : Literal) (rest : Rest) → p ≡ Watching one other rest → IsWatching p one other
+pub watching_is : (p : Attachment) (one other : Literal) (rest : Rest) → p ≡ Watching one other rest → IsWatching p one other
 watching_is p one other rest e = subst (λ x. IsWatching x one other) (sym e) refl
 
 -- the table of an engine may change so
-pub engine_change : (e : EngineState) (t : List Place) (R : List (List Entry)) (w : List ℕ) → IsEngine e → length R ≡ length e.watches.rows
-    → ((r : ℕ) (one other : Literal) → IsWatching (place_in t r) one other → IsVariable e.variables one × IsVariable e.variables other)
+pub engine_change : (e : EngineState) (t : List Attachment) (R : List (List Entry)) (w : List ℕ) → IsEngine e → length R ≡ length e.watches.rows
+    → ((r : ℕ) (one other : Literal) → IsWatching (attachment_in t r) one other → IsVariable e.variables one × IsVariable e.variables other)
     → IsEngine (with_watches e t R w)
-engine_change e t R w inv long watching = record { rows = long ∙ inv.rows; watching = watching; settled = inv.settled; processed = inv.processed }
+engine_change e t R w inv long watching = record { rows = long ∙ inv.rows; watching = watching; stable_qhead = inv.stable_qhead; qhead = inv.qhead }
 
-pub engine_set : (e : EngineState) (r : ℕ) (p : Place) (R : List (List Entry)) (w : List ℕ) → IsEngine e → length R ≡ length e.watches.rows → r < length e.watches.table
+pub engine_set : (e : EngineState) (r : ℕ) (p : Attachment) (R : List (List Entry)) (w : List ℕ) → IsEngine e → length R ≡ length e.watches.rows → r < length e.watches.table
     → ((one other : Literal) → IsWatching p one other → IsVariable e.variables one × IsVariable e.variables other)
     → IsEngine (with_watches e (set e.watches.table r p) R w)
 engine_set e r p R w inv long lt h = engine_change e (set e.watches.table r p) R w inv long
     (λ q one other at. elim (cases_eq q r) [
-      | inl same ↦ h one other (subst (λ x. IsWatching x one other) (ap (place_in (set e.watches.table r p)) same ∙ place_set_same e.watches.table r p lt) at)
-      | inr ne ↦ inv.watching q one other (subst (λ x. IsWatching x one other) (place_set_other e.watches.table r q p ne) at)
+      | inl same ↦ h one other (subst (λ x. IsWatching x one other) (ap (attachment_in (set e.watches.table r p)) same ∙ attachment_set_same e.watches.table r p lt) at)
+      | inr ne ↦ inv.watching q one other (subst (λ x. IsWatching x one other) (attachment_set_other e.watches.table r q p ne) at)
     ])
 
-pub kept_within : (t : List Place) (r : ℕ) → is_kept (place_in t r) ≡ true → r < length t
+pub kept_within : (t : List Attachment) (r : ℕ) → is_kept (attachment_in t r) ≡ true → r < length t
 kept_within t r h = elim (cases_lt r (length t)) [
   | inl lt ↦ lt
   | inr le ↦ absurd (false≢true (sym (ap is_kept (get_or_past t r Detached le)) ∙ h))

@@ -11,7 +11,7 @@ use Rattle.propagate.specs.declared.table.Rest.TheVariants.{Nothing, One, Many}
 use Rattle.clauses.specs.Slots.{Slots, clause_at}
 use Rattle.propagate.specs.declared.pool.Entry.{Entry}
 use Rattle.propagate.specs.Trail.{literals_of, value_in}
-use Rattle.propagate.specs.Watches.{EngineState, place_in, rest_in}
+use Rattle.propagate.specs.Watches.{EngineState, attachment_in, rest_in}
 use Rattle.propagate.specs.Fits.{IsRest}
 use Rattle.propagate.specs.Steps.{IsWatched, IsWatchedBy, LeavesOne, MayBeWatched}
 use Rattle.propagate.proofs.Literals.{literal_eq-self, contains-append}
@@ -81,11 +81,11 @@ one_false A c w o t h f g = all_members (IsLeft A o) c (λ l m. elim (h.3 l m) [
 ])
 
 -- what is beside the watches of a clause
-pub rest_known : (slots : Slots) (e : EngineState) (w o : Literal) (x : Entry) (rest k : Rest) (W : IsWatched slots e w x) → IsWatchedBy (place_in e.watches.table x.reference) w o
-    → rest ≡ rest_in (place_in e.watches.table x.reference) → rest ≡ k → IsRest W.clause w o k
+pub rest_known : (slots : Slots) (e : EngineState) (w o : Literal) (x : Entry) (rest k : Rest) (W : IsWatched slots e w x) → IsWatchedBy (attachment_in e.watches.table x.reference) w o
+    → rest ≡ rest_in (attachment_in e.watches.table x.reference) → rest ≡ k → IsRest W.clause w o k
 rest_known slots e w o x rest k W by is same =
-    let so : o ≡ W.other = same_other (place_in e.watches.table x.reference) w W.other o W.apart W.place by in
-    subst (IsRest W.clause w o) (sym is ∙ same) (subst (λ z. IsRest W.clause w z (rest_in (place_in e.watches.table x.reference))) (sym so) W.rest)
+    let so : o ≡ W.other = same_other (attachment_in e.watches.table x.reference) w W.other o W.apart W.attachment by in
+    subst (IsRest W.clause w o) (sym is ∙ same) (subst (λ z. IsRest W.clause w z (rest_in (attachment_in e.watches.table x.reference))) (sym so) W.rest)
 
 -- what a search through the whole clause leaves
 pub search_left : (slots : Slots) (e : EngineState) (r : ℕ) (o : Literal) (c : List Literal) (found : Option Literal) → clause_at slots r ≡ Some c

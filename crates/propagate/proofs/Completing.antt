@@ -9,18 +9,18 @@ use Rattle.wcnf.specs.Refute.{IsUnit, IsFalseUnder}
 use Rattle.wcnf.proofs.Sound.{literal_eq-true}
 use Rattle.clauses.specs.Slots.{Slots, clause_at}
 use Rattle.propagate.specs.declared.pool.Entry.{Entry}
-use Rattle.propagate.specs.declared.table.Place.{Place}
-use Rattle.propagate.specs.declared.table.Place.TheVariants.{Detached, Waiting, Resting, Watching}
-use Rattle.propagate.specs.Rows.{row_at}
+use Rattle.propagate.specs.declared.table.Attachment.{Attachment}
+use Rattle.propagate.specs.declared.table.Attachment.TheVariants.{Detached, Waiting, Satisfied, Watching}
+use Rattle.propagate.specs.Pool.{row_at}
 use Rattle.propagate.specs.Trail.{Assigned, literals_of, kept_to}
-use Rattle.propagate.specs.Watches.{EngineState, is_attached, place_in, watches_at, count_in}
-use Rattle.propagate.specs.Fits.{Fits, FitsPlace, IsWatch, HasTrue, IsComplete}
+use Rattle.propagate.specs.Watches.{EngineState, is_attached, attachment_in, watches_at, count_in}
+use Rattle.propagate.specs.Fits.{Fits, FitsAttachment, IsWatch, HasTrue, IsComplete}
 use Rattle.propagate.specs.Steps.{IsTrueEntry, AreTrueWaiting}
 use Rattle.propagate.proofs.Literals.{negation_twice, contains-push}
 use Rattle.propagate.proofs.Kept.{kept_prefix, literals-append, contains_front}
 use Rattle.propagate.proofs.Reasons.{NoOpposites, no_opposites}
 use Rattle.propagate.proofs.Fitting.{with_progress, true_more}
-use Rattle.propagate.proofs.Places.{count-cons, one-same, one-other}
+use Rattle.propagate.proofs.Attachments.{count-cons, one-same, one-other}
 
 -- a clause of the row is true
 true_from_row : (slots : Slots) (A : List Literal) (row : List Entry) (r : ℕ) (c : List Literal) → 0 < count_in r row → AllByRecursion (IsTrueEntry slots A) row → clause_at slots r ≡ Some c → HasTrue c A
@@ -30,13 +30,13 @@ true_from_row slots A (x ∷ row) r c n h live = elim (cases_eq x.reference r) [
   | inr ne ↦ true_from_row slots A row r c (let a = count-cons r x row in let b = one-other x.reference r ne in omega arith) h.1 live
 ]
 
-watch_advance : (e : EngineState) (slots : Slots) (w d : Literal) (r : ℕ) (c : List Literal) (x : Literal) → Fits e slots → e.watches.processed < length e.trail
-    → w ≡ negation (get_or (literals_of e.trail) e.watches.processed d)
+watch_advance : (e : EngineState) (slots : Slots) (w d : Literal) (r : ℕ) (c : List Literal) (x : Literal) → Fits e slots → e.watches.qhead < length e.trail
+    → w ≡ negation (get_or (literals_of e.trail) e.watches.qhead d)
     → AllByRecursion (IsTrueEntry slots (literals_of e.trail)) (row_at e.watches.rows (index_of w))
-    → clause_at slots r ≡ Some c → 0 < watches_at (place_in e.watches.table r) (index_of x) → IsWatch e c x → IsWatch (with_progress e e.trail e.watches.settled (e.watches.processed + 1)) c x
+    → clause_at slots r ≡ Some c → 0 < watches_at (attachment_in e.watches.table r) (index_of x) → IsWatch e c x → IsWatch (with_progress e e.trail e.watches.stable_qhead (e.watches.qhead + 1)) c x
 watch_advance e slots w d r c x fits lt at row live n h =
     let A = literals_of e.trail in
-    let p = e.watches.processed in
+    let p = e.watches.qhead in
     let l = get_or A p d in
     let long = length-map e.trail (λ (a : Assigned). a.literal) in
     record {
@@ -48,20 +48,20 @@ watch_advance e slots w d r c x fits lt at row live n h =
             | inl before ↦ h.covered before
             | inr now ↦
                 let same : x ≡ w = sym (negation_twice x) ∙ ap negation (literal_eq-true (negation x) l now) ∙ sym at in
-                let n' : 0 < count_in r (row_at e.watches.rows (index_of w)) = subst (λ k. 0 < k) (sym (fits.rows (index_of w) r)) (subst (λ z. 0 < watches_at (place_in e.watches.table r) (index_of z)) same n) in
+                let n' : 0 < count_in r (row_at e.watches.rows (index_of w)) = subst (λ k. 0 < k) (sym (fits.rows (index_of w) r)) (subst (λ z. 0 < watches_at (attachment_in e.watches.table r) (index_of z)) same n) in
                 true_from_row slots A (row_at e.watches.rows (index_of w)) r c n' row live
           ];
       stays = h.stays;
     }
 
-place_advance : (e : EngineState) (slots : Slots) (w d : Literal) (r : ℕ) (c : List Literal) (p : Place) → p ≡ place_in e.watches.table r → Fits e slots → e.watches.processed < length e.trail
-    → w ≡ negation (get_or (literals_of e.trail) e.watches.processed d)
+attachment_advance : (e : EngineState) (slots : Slots) (w d : Literal) (r : ℕ) (c : List Literal) (p : Attachment) → p ≡ attachment_in e.watches.table r → Fits e slots → e.watches.qhead < length e.trail
+    → w ≡ negation (get_or (literals_of e.trail) e.watches.qhead d)
     → AllByRecursion (IsTrueEntry slots (literals_of e.trail)) (row_at e.watches.rows (index_of w))
-    → clause_at slots r ≡ Some c → FitsPlace e c p → FitsPlace (with_progress e e.trail e.watches.settled (e.watches.processed + 1)) c p
-place_advance e slots w d r c Detached same fits lt at row live h = h
-place_advance e slots w d r c Waiting same fits lt at row live h = h
-place_advance e slots w d r c Resting same fits lt at row live h = h
-place_advance e slots w d r c (Watching one other rest) same fits lt at row live h = (
+    → clause_at slots r ≡ Some c → FitsAttachment e c p → FitsAttachment (with_progress e e.trail e.watches.stable_qhead (e.watches.qhead + 1)) c p
+attachment_advance e slots w d r c Detached same fits lt at row live h = h
+attachment_advance e slots w d r c Waiting same fits lt at row live h = h
+attachment_advance e slots w d r c Satisfied same fits lt at row live h = h
+attachment_advance e slots w d r c (Watching one other rest) same fits lt at row live h = (
   h.0,
   watch_advance e slots w d r c one fits lt at row live (subst (λ z. 0 < watches_at z (index_of one)) same (let a = one-same (index_of one) (index_of one) refl in omega arith)) h.1,
   watch_advance e slots w d r c other fits lt at row live (subst (λ z. 0 < watches_at z (index_of other)) same (let a = one-same (index_of other) (index_of other) refl in omega arith)) h.2,
@@ -69,12 +69,12 @@ place_advance e slots w d r c (Watching one other rest) same fits lt at row live
 )
 
 -- one more literal was looked at
-pub fits_advance : (e : EngineState) (slots : Slots) (w d : Literal) → e.watches.processed < length e.trail
-    → w ≡ negation (get_or (literals_of e.trail) e.watches.processed d)
+pub fits_advance : (e : EngineState) (slots : Slots) (w d : Literal) → e.watches.qhead < length e.trail
+    → w ≡ negation (get_or (literals_of e.trail) e.watches.qhead d)
     → AllByRecursion (IsTrueEntry slots (literals_of e.trail)) (row_at e.watches.rows (index_of w))
-    → Fits e slots → Fits (with_progress e e.trail e.watches.settled (e.watches.processed + 1)) slots
+    → Fits e slots → Fits (with_progress e e.trail e.watches.stable_qhead (e.watches.qhead + 1)) slots
 fits_advance e slots w d lt at row fits = record {
-  attached = λ r h. let f = fits.attached r h in (f.0, f.1, (f.2.0, place_advance e slots w d r f.0 (place_in e.watches.table r) refl fits lt at row f.1 f.2.1));
+  attached = λ r h. let f = fits.attached r h in (f.0, f.1, (f.2.0, attachment_advance e slots w d r f.0 (attachment_in e.watches.table r) refl fits lt at row f.1 f.2.1));
   reasons = fits.reasons;
   reasons_attached = fits.reasons_attached;
   small = fits.small;
@@ -118,19 +118,19 @@ two_done c A one other ne m n a b = (
       ]),
 )
 
-covered_now : (e : EngineState) (c : List Literal) (x : Literal) → e.watches.processed ≡ length e.trail → IsWatch e c x → contains_literal (negation x) (literals_of e.trail) ≡ true → HasTrue c (literals_of e.trail)
+covered_now : (e : EngineState) (c : List Literal) (x : Literal) → e.watches.qhead ≡ length e.trail → IsWatch e c x → contains_literal (negation x) (literals_of e.trail) ≡ true → HasTrue c (literals_of e.trail)
 covered_now e c x all h m =
-    h.covered (subst (λ X. contains_literal (negation x) X ≡ true) (sym (take_all e.watches.processed (literals_of e.trail) (let long = length-map e.trail (λ (a : Assigned). a.literal) in omega arith))) m)
+    h.covered (subst (λ X. contains_literal (negation x) X ≡ true) (sym (take_all e.watches.qhead (literals_of e.trail) (let long = length-map e.trail (λ (a : Assigned). a.literal) in omega arith))) m)
 
-place_done : (e : EngineState) (slots : Slots) (r : ℕ) (c : List Literal) (p : Place) → p ≡ place_in e.watches.table r → NoOpposites (literals_of e.trail) → e.watches.processed ≡ length e.trail
-    → AreTrueWaiting slots e → clause_at slots r ≡ Some c → FitsPlace e c p → IsDone c (literals_of e.trail)
-place_done e slots r c Detached same apart all waiting live h = absurd h
-place_done e slots r c Waiting same apart all waiting live h = true_done c (literals_of e.trail) apart (waiting r c (sym same) live)
-place_done e slots r c Resting same apart all waiting live h =
+attachment_done : (e : EngineState) (slots : Slots) (r : ℕ) (c : List Literal) (p : Attachment) → p ≡ attachment_in e.watches.table r → NoOpposites (literals_of e.trail) → e.watches.qhead ≡ length e.trail
+    → AreTrueWaiting slots e → clause_at slots r ≡ Some c → FitsAttachment e c p → IsDone c (literals_of e.trail)
+attachment_done e slots r c Detached same apart all waiting live h = absurd h
+attachment_done e slots r c Waiting same apart all waiting live h = true_done c (literals_of e.trail) apart (waiting r c (sym same) live)
+attachment_done e slots r c Satisfied same apart all waiting live h =
     let p = kept_prefix 0 e.trail in
     true_done c (literals_of e.trail) apart (true_more c (literals_of (kept_to 0 e.trail)) (literals_of e.trail)
     (λ l m. subst (λ X. contains_literal l X ≡ true) (sym (ap literals_of p.1 ∙ literals-append (kept_to 0 e.trail) p.0)) (contains_front l (literals_of (kept_to 0 e.trail)) (literals_of p.0) m)) h)
-place_done e slots r c (Watching one other rest) same apart all waiting live h =
+attachment_done e slots r c (Watching one other rest) same apart all waiting live h =
     let A = literals_of e.trail in
     elim (cases_Bool (contains_literal (negation one) A)) as (λ _. IsDone c A) [
       | inl m ↦ true_done c A apart (covered_now e c one all h.1 m)
@@ -140,12 +140,12 @@ place_done e slots r c (Watching one other rest) same apart all waiting live h =
       ]
     ]
 
-pub complete : (e : EngineState) (slots : Slots) → e.watches.processed ≡ length e.trail → AreTrueWaiting slots e → Fits e slots → IsComplete slots (is_attached e) e.trail
+pub complete : (e : EngineState) (slots : Slots) → e.watches.qhead ≡ length e.trail → AreTrueWaiting slots e → Fits e slots → IsComplete slots (is_attached e) e.trail
 complete e slots all waiting fits = λ r c attached live.
     let f = fits.attached r attached in
     let same : f.0 ≡ c = cc (f.1, live) in
     subst (λ x. IsDone x (literals_of e.trail)) same
-    (place_done e slots r f.0 (place_in e.watches.table r) refl (no_opposites (clause_at slots) e.trail fits.reasons) all waiting f.1 f.2.1)
+    (attachment_done e slots r f.0 (attachment_in e.watches.table r) refl (no_opposites (clause_at slots) e.trail fits.reasons) all waiting f.1 f.2.1)
 
 pub grown_at : (T U more : List Assigned) (p q : ℕ) (d w : Literal) → U ≡ T ++ more → q ≡ p → p < length T → w ≡ negation (get_or (literals_of T) p d) → w ≡ negation (get_or (literals_of U) q d)
 grown_at T U more p q d w e f lt at =

@@ -4,13 +4,13 @@ use Rattle.std.proofs.lemmas.Bool.{cases_eq}
 use Rattle.std.proofs.lemmas.List.{append-nil}
 use Rattle.wcnf.specs.Literal.{Literal}
 use Rattle.propagate.specs.declared.pool.Entry.{Entry}
-use Rattle.propagate.specs.declared.table.Place.{Place}
-use Rattle.propagate.specs.declared.table.Place.TheVariants.{Waiting}
+use Rattle.propagate.specs.declared.table.Attachment.{Attachment}
+use Rattle.propagate.specs.declared.table.Attachment.TheVariants.{Waiting}
 use Rattle.propagate.specs.Trail.{Assigned, is_decision}
-use Rattle.propagate.specs.Watches.{EngineState, is_attached, is_kept, place_in}
+use Rattle.propagate.specs.Watches.{EngineState, is_attached, is_kept, attachment_in}
 use Rattle.propagate.specs.Steps.{Continues, with_trail}
 use Rattle.propagate.proofs.Trails.{made}
-use Rattle.propagate.proofs.Places.{with_watches, place_set_other, place_set_same}
+use Rattle.propagate.proofs.Attachments.{with_watches, attachment_set_other, attachment_set_same}
 use Rattle.propagate.proofs.Fitting.{with_progress}
 use Rattle.propagate.proofs.Facts.{all_join}
 use Rattle.propagate.proofs.Attaching.{kept_within}
@@ -62,10 +62,10 @@ continues_unit e l r = record {
 }
 
 -- an attached clause gets a place
-pub continues_place : (e : EngineState) (r : ℕ) (p : Place) (R : List (List Entry)) → is_attached e r ≡ true → is_kept p ≡ true → (p ≡ Waiting → ⊥)
+pub continues_attachment : (e : EngineState) (r : ℕ) (p : Attachment) (R : List (List Entry)) → is_attached e r ≡ true → is_kept p ≡ true → (p ≡ Waiting → ⊥)
     → Continues e (with_watches e (set e.watches.table r p) R e.watches.waiting)
-continues_place e r p R was kept new =
-    let here = place_set_same e.watches.table r p (kept_within e.watches.table r was) in
+continues_attachment e r p R was kept new =
+    let here = attachment_set_same e.watches.table r p (kept_within e.watches.table r was) in
     record {
       more = [];
       grown = sym (append-nil e.trail);
@@ -73,16 +73,16 @@ continues_place e r p R was kept new =
       variables = refl;
       failed = refl;
       attached = λ q. elim (cases_eq q r) [
-        | inl same ↦ ap (λ z. is_kept (place_in (set e.watches.table r p) z)) same ∙ ap is_kept here ∙ kept ∙ sym (ap (is_attached e) same ∙ was)
-        | inr ne ↦ ap is_kept (place_set_other e.watches.table r q p ne)
+        | inl same ↦ ap (λ z. is_kept (attachment_in (set e.watches.table r p) z)) same ∙ ap is_kept here ∙ kept ∙ sym (ap (is_attached e) same ∙ was)
+        | inr ne ↦ ap is_kept (attachment_set_other e.watches.table r q p ne)
       ];
       waiting = λ q h. elim (cases_eq q r) [
-        | inl same ↦ absurd (new (sym (ap (place_in (set e.watches.table r p)) same ∙ here) ∙ h))
-        | inr ne ↦ sym (place_set_other e.watches.table r q p ne) ∙ h
+        | inl same ↦ absurd (new (sym (ap (attachment_in (set e.watches.table r p)) same ∙ here) ∙ h))
+        | inr ne ↦ sym (attachment_set_other e.watches.table r q p ne) ∙ h
       ];
     }
 
--- only the places in the queue change
+-- only the attachments in the queue change
 pub continues_progress : (e : EngineState) (s p : ℕ) → Continues e (with_progress e e.trail s p)
 continues_progress e s p = record {
   more = [];

@@ -7,11 +7,11 @@ use Rattle.std.proofs.lemmas.List.Elements.{All-push}
 use Rattle.wcnf.specs.Literal.{Literal, negation}
 use Rattle.wcnf.specs.Clause.{contains_literal}
 use Rattle.clauses.specs.Slots.{Slots, clause_at}
-use Rattle.propagate.specs.declared.table.Place.{Place}
-use Rattle.propagate.specs.declared.table.Place.TheVariants.{Detached, Waiting, Resting, Watching}
+use Rattle.propagate.specs.declared.table.Attachment.{Attachment}
+use Rattle.propagate.specs.declared.table.Attachment.TheVariants.{Detached, Waiting, Satisfied, Watching}
 use Rattle.propagate.specs.Trail.{Assigned, literals_of, depth_of, kept_to, HasReasons, IsJustified}
-use Rattle.propagate.specs.Watches.{EngineState, is_attached, place_in}
-use Rattle.propagate.specs.Fits.{Fits, FitsPlace, HasTrue, IsCovered, StaysCovered, IsWatch}
+use Rattle.propagate.specs.Watches.{EngineState, is_attached, attachment_in}
+use Rattle.propagate.specs.Fits.{Fits, FitsAttachment, HasTrue, IsCovered, StaysCovered, IsWatch}
 use Rattle.propagate.proofs.Levels.{kept_all, kept_push, depth_grows}
 use Rattle.propagate.proofs.Kept.{contains_front, contains_take_more, kept_prefix, kept_kept, kept_above}
 use Rattle.propagate.proofs.Reasons.{reasons_front, reasons_push}
@@ -20,15 +20,15 @@ pub true_more : (c A B : List Literal) → ((l : Literal) → contains_literal l
 true_more c A B f h = (h.0, h.1, f h.0 h.2)
 
 abbrev pub with_progress : EngineState → List Assigned → ℕ → ℕ → EngineState
-with_progress e trail settled processed = record e { trail = trail; watches = record e.watches { settled = settled; processed = processed } }
+with_progress e trail stable_qhead qhead = record e { trail = trail; watches = record e.watches { stable_qhead = stable_qhead; qhead = qhead } }
 
-place_change : (e : EngineState) (T : List Assigned) (s p : ℕ) (c : List Literal) (place : Place)
+attachment_change : (e : EngineState) (T : List Assigned) (s p : ℕ) (c : List Literal) (attachment : Attachment)
     → ((w : Literal) → IsWatch e c w → IsWatch (with_progress e T s p) c w) → (HasTrue c (literals_of (kept_to 0 e.trail)) → HasTrue c (literals_of (kept_to 0 T)))
-    → FitsPlace e c place → FitsPlace (with_progress e T s p) c place
-place_change e T s p c Detached f g h = h
-place_change e T s p c Waiting f g h = h
-place_change e T s p c Resting f g h = g h
-place_change e T s p c (Watching one other rest) f g h = (h.0, f one h.1, f other h.2, h.3)
+    → FitsAttachment e c attachment → FitsAttachment (with_progress e T s p) c attachment
+attachment_change e T s p c Detached f g h = h
+attachment_change e T s p c Waiting f g h = h
+attachment_change e T s p c Satisfied f g h = g h
+attachment_change e T s p c (Watching one other rest) f g h = (h.0, f one h.1, f other h.2, h.3)
 
 pub fits_change : (e : EngineState) (slots : Slots) (T : List Assigned) (s p : ℕ) → Fits e slots
     → ((c : List Literal) (w : Literal) → IsWatch e c w → IsWatch (with_progress e T s p) c w)
@@ -38,7 +38,7 @@ pub fits_change : (e : EngineState) (slots : Slots) (T : List Assigned) (s p : �
     → All (λ a. (0 < a.literal.variable) × (a.literal.variable ≤ e.variables)) T
     → Fits (with_progress e T s p) slots
 fits_change e slots T s p fits f g reasons reasons_attached small = record {
-  attached = λ r h. let w = fits.attached r h in (w.0, w.1, (w.2.0, place_change e T s p w.0 (place_in e.watches.table r) (f w.0) (g w.0) w.2.1));
+  attached = λ r h. let w = fits.attached r h in (w.0, w.1, (w.2.0, attachment_change e T s p w.0 (attachment_in e.watches.table r) (f w.0) (g w.0) w.2.1));
   reasons = reasons;
   reasons_attached = reasons_attached;
   small = small;
@@ -48,12 +48,12 @@ fits_change e slots T s p fits f g reasons reasons_attached small = record {
 }
 
 -- what was looked at stays so, where the rest of the trail is of the current level
-pub fits_settled : (e : EngineState) (slots : Slots) → e.watches.settled ≤ e.watches.processed
-    → ((to : ℕ) → to < depth_of e.trail → length (kept_to to e.trail) ≤ e.watches.settled)
-    → Fits e slots → Fits (with_progress e e.trail e.watches.processed e.watches.processed) slots
+pub fits_settled : (e : EngineState) (slots : Slots) → e.watches.stable_qhead ≤ e.watches.qhead
+    → ((to : ℕ) → to < depth_of e.trail → length (kept_to to e.trail) ≤ e.watches.stable_qhead)
+    → Fits e slots → Fits (with_progress e e.trail e.watches.qhead e.watches.qhead) slots
 fits_settled e slots le short fits =
-    let p = e.watches.processed in
-    let s = e.watches.settled in
+    let p = e.watches.qhead in
+    let s = e.watches.stable_qhead in
     let T = e.trail in
     let stays : (c : List Literal) (w : Literal) → IsWatch e c w → (to : ℕ) → IsCovered (literals_of (kept_to to T)) p c w = λ c w h to. elim (cases_lt to (depth_of T)) as (λ _. IsCovered (literals_of (kept_to to T)) p c w) [
       | inl below ↦
@@ -98,16 +98,16 @@ kept_more T a c h = elim (kept_cases 0 T a) [
   | inr all ↦ subst (λ X. HasTrue c (literals_of X)) (sym all.0) (true_more c (literals_of T) (literals_of (T ++ a ∷ [])) (more_literals T a) (subst (λ X. HasTrue c (literals_of X)) all.1 h))
 ]
 
-pub fits_grow : (e : EngineState) (slots : Slots) (a : Assigned) → e.watches.settled ≤ e.watches.processed → e.watches.processed ≤ length e.trail
+pub fits_grow : (e : EngineState) (slots : Slots) (a : Assigned) → e.watches.stable_qhead ≤ e.watches.qhead → e.watches.qhead ≤ length e.trail
     → IsJustified (clause_at slots) (literals_of e.trail) a.literal a.reason → IfSome a.reason (λ r. is_attached e r ≡ true)
     → (0 < a.literal.variable) × (a.literal.variable ≤ e.variables)
-    → Fits e slots → Fits (with_progress e (e.trail ++ a ∷ []) e.watches.settled e.watches.processed) slots
+    → Fits e slots → Fits (with_progress e (e.trail ++ a ∷ []) e.watches.stable_qhead e.watches.qhead) slots
 fits_grow e slots a le within just kept small fits =
-    fits_change e slots (e.trail ++ a ∷ []) e.watches.settled e.watches.processed fits
+    fits_change e slots (e.trail ++ a ∷ []) e.watches.stable_qhead e.watches.qhead fits
     (λ c w h. record {
       member = h.member;
-      covered = covered_more e.trail a e.watches.processed c w within h.covered;
-      stays = stays_more e.trail a e.watches.settled c w (omega arith) h.stays;
+      covered = covered_more e.trail a e.watches.qhead c w within h.covered;
+      stays = stays_more e.trail a e.watches.stable_qhead c w (omega arith) h.stays;
     })
     (kept_more e.trail a)
     (reasons_push (clause_at slots) e.trail a fits.reasons just)
@@ -121,7 +121,7 @@ all_front P xs ys h k d lt = subst P (get_or_append_left xs ys d k lt) (h k d (o
 covered_less : (A : List Literal) (s t : ℕ) (c : List Literal) (w : Literal) → t ≤ s → IsCovered A s c w → IsCovered A t c w
 covered_less A s t c w le h m = h (contains_take_more (negation w) t s A le m)
 
-pub fits_backtrack : (e : EngineState) (slots : Slots) (level t : ℕ) → t ≤ e.watches.settled
+pub fits_backtrack : (e : EngineState) (slots : Slots) (level t : ℕ) → t ≤ e.watches.stable_qhead
     → Fits e slots → Fits (with_progress e (kept_to level e.trail) t t) slots
 fits_backtrack e slots level t le fits =
     let T = e.trail in
@@ -130,10 +130,10 @@ fits_backtrack e slots level t le fits =
     fits_change e slots K t t fits
     (λ c x h. record {
       member = h.member;
-      covered = covered_less (literals_of K) e.watches.settled t c x le (h.stays level);
+      covered = covered_less (literals_of K) e.watches.stable_qhead t c x le (h.stays level);
       stays = λ to. elim (cases_lt to level) as (λ _. IsCovered (literals_of (kept_to to K)) t c x) [
-        | inl below ↦ subst (λ X. IsCovered (literals_of X) t c x) (sym (kept_kept to level T (omega arith))) (covered_less (literals_of (kept_to to T)) e.watches.settled t c x le (h.stays to))
-        | inr above ↦ subst (λ X. IsCovered (literals_of X) t c x) (sym (kept_above to level T above)) (covered_less (literals_of K) e.watches.settled t c x le (h.stays level))
+        | inl below ↦ subst (λ X. IsCovered (literals_of X) t c x) (sym (kept_kept to level T (omega arith))) (covered_less (literals_of (kept_to to T)) e.watches.stable_qhead t c x le (h.stays to))
+        | inr above ↦ subst (λ X. IsCovered (literals_of X) t c x) (sym (kept_above to level T above)) (covered_less (literals_of K) e.watches.stable_qhead t c x le (h.stays level))
       ];
     })
     (λ c h. subst (λ X. HasTrue c (literals_of X)) (sym (kept_kept 0 level T (omega arith))) h)

@@ -9,11 +9,11 @@ use Rattle.wcnf.specs.Literal.{Literal}
 use Rattle.wcnf.specs.Refute.{Clauses}
 use Rattle.wcnf.proofs.Hints.{SameMembers, unit_same, more_same}
 use Rattle.clauses.specs.Slots.{Slots, clause_at}
-use Rattle.propagate.specs.declared.table.Place.{Place}
-use Rattle.propagate.specs.declared.table.Place.TheVariants.{Detached, Waiting, Resting, Watching}
+use Rattle.propagate.specs.declared.table.Attachment.{Attachment}
+use Rattle.propagate.specs.declared.table.Attachment.TheVariants.{Detached, Waiting, Satisfied, Watching}
 use Rattle.propagate.specs.Trail.{Assigned, literals_of, is_decision, HasReasons, IsJustified}
-use Rattle.propagate.specs.Watches.{EngineState, is_attached, place_in}
-use Rattle.propagate.specs.Fits.{Fits, FitsPlace, FollowByUnits, GrowsByUnits}
+use Rattle.propagate.specs.Watches.{EngineState, is_attached, attachment_in}
+use Rattle.propagate.specs.Fits.{Fits, FitsAttachment, FollowByUnits, GrowsByUnits}
 use Rattle.propagate.specs.Steps.{Continues}
 use Rattle.propagate.proofs.Reasons.{same_swap}
 use Rattle.propagate.proofs.Facts.{all_right}
@@ -44,16 +44,16 @@ follows slots old new fits g =
     (g.more, g.grown, follow_on slots new (literals_of old.trail) w.0 g.more (subst (SameMembers w.0) (append-nil (literals_of old.trail)) w.1) w.2 attached' g.forced)
 
 -- an engine that failed
-failed_place : (e : EngineState) (c : List Literal) (p : Place) → FitsPlace e c p → FitsPlace (record e { failed = true }) c p
-failed_place e c Detached h = h
-failed_place e c Waiting h = h
-failed_place e c Resting h = h
-failed_place e c (Watching one other rest) h =
+failed_attachment : (e : EngineState) (c : List Literal) (p : Attachment) → FitsAttachment e c p → FitsAttachment (record e { failed = true }) c p
+failed_attachment e c Detached h = h
+failed_attachment e c Waiting h = h
+failed_attachment e c Satisfied h = h
+failed_attachment e c (Watching one other rest) h =
     (h.0, record { member = h.1.member; covered = h.1.covered; stays = h.1.stays }, record { member = h.2.member; covered = h.2.covered; stays = h.2.stays }, h.3)
 
 pub failed_fits : (e : EngineState) (slots : Slots) → Fits e slots → Fits (record e { failed = true }) slots
 failed_fits e slots fits = record {
-  attached = λ r h. let f = fits.attached r h in (f.0, f.1, (f.2.0, failed_place e f.0 (place_in e.watches.table r) f.2.1));
+  attached = λ r h. let f = fits.attached r h in (f.0, f.1, (f.2.0, failed_attachment e f.0 (attachment_in e.watches.table r) f.2.1));
   reasons = fits.reasons;
   reasons_attached = fits.reasons_attached;
   small = fits.small;

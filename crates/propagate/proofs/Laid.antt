@@ -5,8 +5,8 @@ use Rattle.std.proofs.lemmas.List.{length-set, length-map, length-take-le, get_o
 use Rattle.std.proofs.lemmas.Bool.{cases_eq}
 use Rattle.std.proofs.Math.ListN.{get_or-append}
 use Rattle.std.proofs.Math.Seq.{get_or-append_seam}
-use Rattle.propagate.specs.Blocks.{no_entry}
-use Rattle.propagate.specs.Laid.{IsLaid, no_head, row_of, rows_of}
+use Rattle.propagate.specs.Block.{no_entry}
+use Rattle.propagate.specs.PoolLayout.{IsLaid, no_head, row_of, rows_of}
 use Rattle.propagate.specs.declared.pool.Entry.{Entry}
 use Rattle.propagate.specs.declared.pool.Head.{Head}
 

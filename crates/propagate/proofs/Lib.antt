@@ -10,10 +10,10 @@ pub mod FitsLaws
 pub mod Kept
 pub mod Reasons
 pub mod Fitting
-pub mod Marked
+pub mod VarTables
 pub mod Beside
 pub mod Zipped
-pub mod Places
+pub mod Attachments
 pub mod Attaching
 pub mod Looking
 pub mod Stepping

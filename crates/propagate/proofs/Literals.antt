@@ -5,7 +5,8 @@ use Rattle.std.proofs.lemmas.Bool.{or_parts, or_from, and_left, eqb-false, eq-eq
 use Rattle.std.proofs.lemmas.List.Folds.{list_any-append}
 use Rattle.wcnf.specs.Literal.{Literal, negation, literal_eq, same_bool, index_of}
 use Rattle.wcnf.specs.Clause.{contains_literal}
-use Rattle.propagate.specs.Tables.{mentions, IsNamed}
+use Rattle.propagate.specs.Tables.{mentions}
+use Rattle.propagate.specs.Watches.{IsVariable}
 
 same_bool-self : (b : Bool) → same_bool b b ≡ true
 same_bool-self true = refl
@@ -34,7 +35,7 @@ literal_eq-other k l h = and_left (k.variable == l.variable) (same_bool k.negate
 pub contains-append : (l : Literal) (A B : List Literal) → contains_literal l (A ++ B) ≡ (contains_literal l A || contains_literal l B)
 contains-append l A B = list_any-append (literal_eq l) A B
 
-or_false_right : (b : Bool) → (b || false) ≡ b
+pub or_false_right : (b : Bool) → (b || false) ≡ b
 or_false_right true = refl
 or_false_right false = refl
 
@@ -69,7 +70,7 @@ contains-none l (k ∷ A) e =
     (literal_eq-other l k (λ h. eqb-false k.variable l.variable e'.0 (sym h)))
     (contains-none l A e'.1)
 
-pub index-other : (variables : ℕ) (k l : Literal) → IsNamed variables k → IsNamed variables l → k.variable ≢ l.variable → index_of k ≢ index_of l
+pub index-other : (variables : ℕ) (k l : Literal) → IsVariable variables k → IsVariable variables l → k.variable ≢ l.variable → index_of k ≢ index_of l
 index-other variables k l h g ne = elim (cases_Bool k.negated) [
   | inl a ↦ elim (cases_Bool l.negated) [ inl b ↦ rw (a, b) (λ e. ne (omega arith)) | inr b ↦ rw (a, b) (λ e. ne (omega arith)) ]
   | inr a ↦ elim (cases_Bool l.negated) [ inl b ↦ rw (a, b) (λ e. ne (omega arith)) | inr b ↦ rw (a, b) (λ e. ne (omega arith)) ]
@@ -78,7 +79,7 @@ index-other variables k l h g ne = elim (cases_Bool k.negated) [
 pub index-negation : (l : Literal) → index_of l ≢ index_of (negation l)
 index-negation l = elim (cases_Bool l.negated) [ inl a ↦ rw a (λ e. omega arith) | inr a ↦ rw a (λ e. omega arith) ]
 
-pub index-within : (variables : ℕ) (l : Literal) → IsNamed variables l → index_of l < 2 * variables
+pub index-within : (variables : ℕ) (l : Literal) → IsVariable variables l → index_of l < 2 * variables
 index-within variables l h = elim (cases_Bool l.negated) [ inl a ↦ rw a (omega arith) | inr a ↦ rw a (omega arith) ]
 
 -- a literal of the same variable is the same or its negation
@@ -94,7 +95,7 @@ same_variable k l e = elim (same_variable_at k.negated l.negated) [
   | inr h ↦ inr (λ i. record { variable = e i; negated = h i })
 ]
 
-pub index-same : (variables : ℕ) (k l : Literal) → IsNamed variables k → IsNamed variables l → index_of k ≡ index_of l → k ≡ l
+pub index-same : (variables : ℕ) (k l : Literal) → IsVariable variables k → IsVariable variables l → index_of k ≡ index_of l → k ≡ l
 index-same variables k l h g e = elim (cases_eq k.variable l.variable) [
   | inr ne ↦ absurd (index-other variables k l h g ne e)
   | inl same ↦ elim (same_variable k l same) [

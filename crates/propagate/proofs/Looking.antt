@@ -8,11 +8,11 @@ use Rattle.wcnf.specs.Literal.{Literal, negation, literal_eq}
 use Rattle.wcnf.specs.Clause.{contains_literal, greatest_variable}
 use Rattle.wcnf.specs.Refute.{Clauses, IsUnit, IsFalseUnder}
 use Rattle.wcnf.proofs.Sound.{literal_eq-true}
-use Rattle.propagate.specs.declared.table.Place.{Place}
+use Rattle.propagate.specs.declared.table.Attachment.{Attachment}
 use Rattle.propagate.specs.Trail.{Assigned, literals_of, value_in, HasReasons}
-use Rattle.propagate.specs.declared.table.Place.TheVariants.{Waiting}
+use Rattle.propagate.specs.declared.table.Attachment.TheVariants.{Waiting}
 use Rattle.clauses.specs.Slots.{Slots, clause_at}
-use Rattle.propagate.specs.Watches.{EngineState, IsVariable, is_attached, is_kept, place_in}
+use Rattle.propagate.specs.Watches.{EngineState, IsVariable, is_attached, is_kept, attachment_in}
 use Rattle.propagate.specs.Fits.{Fits, IsWithin}
 use Rattle.propagate.specs.Steps.{IsWatchedBy}
 use Rattle.propagate.proofs.Trails.{open_at}
@@ -88,7 +88,7 @@ all_false_from T c all =
     (recursion_from_All (λ l. value_in T l ≡ Some false) c all)
 
 -- the other watch is one
-pub same_other : (p : Place) (w a b : Literal) → w ≢ a → IsWatchedBy p w a → IsWatchedBy p w b → b ≡ a
+pub same_other : (p : Attachment) (w a b : Literal) → w ≢ a → IsWatchedBy p w a → IsWatchedBy p w b → b ≡ a
 same_other p w a b ne h g = elim h [
   | inl x ↦ elim g [ inl y ↦ (cc) | inr y ↦ absurd (ne (cc)) ]
   | inr x ↦ elim g [ inl y ↦ absurd (ne (cc)) | inr y ↦ (cc) ]
@@ -107,5 +107,5 @@ attached_within e slots r c fits was live =
     let same : f.0 ≡ c = cc (f.1, live) in
     subst (IsWithin e.variables) same f.2.0
 
-pub waiting_within : (e : EngineState) (slots : Slots) (r : ℕ) (c : List Literal) → Fits e slots → place_in e.watches.table r ≡ Waiting → clause_at slots r ≡ Some c → IsWithin e.variables c
+pub waiting_within : (e : EngineState) (slots : Slots) (r : ℕ) (c : List Literal) → Fits e slots → attachment_in e.watches.table r ≡ Waiting → clause_at slots r ≡ Some c → IsWithin e.variables c
 waiting_within e slots r c fits waits live = attached_within e slots r c fits (ap is_kept waits) live

@@ -1,4 +1,4 @@
--- Places move to the new references of the clauses.
+-- Attachments move to the new references of the clauses.
 use Rattle.std.proofs.Common.{◌≡◌, ◌≢◌, ℕ, suc, ◌+◌, ◌<◌, ◌≤◌, true, List, [], ◌∷◌, length, get_or, set, map, Some, inl, inr, refl, sym, ◌∙◌, ap, arith}
 use Rattle.std.specs.Prelude.{All}
 use Rattle.std.specs.List.Sorted.{IsStrictlyIncreasing}
@@ -7,18 +7,18 @@ use Rattle.std.proofs.lemmas.List.{get_or-map, get_or_past, length-map, length-s
 use Rattle.std.proofs.lemmas.List.Kept.{AllPairs-from_increasing}
 use Rattle.clauses.specs.Slots.{Slots, clause_at, Renaming, renamed, IsRenaming}
 use Rattle.clauses.proofs.Lookup.{renamed_here, renamed_later, renamed_at, rises_pairs}
-use Rattle.propagate.specs.declared.table.Place.{Place}
-use Rattle.propagate.specs.declared.table.Place.TheVariants.{Detached}
-use Rattle.propagate.specs.Watches.{place_in, is_kept}
+use Rattle.propagate.specs.declared.table.Attachment.{Attachment}
+use Rattle.propagate.specs.declared.table.Attachment.TheVariants.{Detached}
+use Rattle.propagate.specs.Watches.{attachment_in, is_kept}
 use Rattle.propagate.specs.Renames.{name_or, named, old_at, new_at, IsMoved, IsMoving}
-use Rattle.propagate.proofs.Places.{place_set_other, place_set_same}
+use Rattle.propagate.proofs.Attachments.{attachment_set_other, attachment_set_same}
 
 -- the place of a move
-pub renamed_place : (ms : Renaming) (r q : ℕ) → renamed ms r ≡ Some q → (i : ℕ) × (i < length ms) × (old_at ms i ≡ r) × (new_at ms i ≡ q)
-renamed_place [] r q e = absurd (cc)
-renamed_place (m ∷ ms) r q e = elim (cases_eq m.0 r) [
+pub renamed_attachment : (ms : Renaming) (r q : ℕ) → renamed ms r ≡ Some q → (i : ℕ) × (i < length ms) × (old_at ms i ≡ r) × (new_at ms i ≡ q)
+renamed_attachment [] r q e = absurd (cc)
+renamed_attachment (m ∷ ms) r q e = elim (cases_eq m.0 r) [
   | inl same ↦ (0, omega arith, same, ap (λ o. name_or o 0) (sym (renamed_here m ms r same) ∙ e))
-  | inr ne ↦ let z = renamed_place ms r q (sym (renamed_later m ms r ne) ∙ e) in (suc z.0, omega (arith, z.1), z.2, z.3)
+  | inr ne ↦ let z = renamed_attachment ms r q (sym (renamed_later m ms r ne) ∙ e) in (suc z.0, omega (arith, z.1), z.2, z.3)
 ]
 
 pub named_listed : (ms : Renaming) (r q : ℕ) → renamed ms r ≡ Some q → named ms r ≡ q
@@ -33,8 +33,8 @@ new_rise ms h i j below within =
 -- no two clauses get one reference
 pub same_origin : (ms : Renaming) (r s q : ℕ) → IsStrictlyIncreasing (map (λ m. m.1) ms) → renamed ms r ≡ Some q → renamed ms s ≡ Some q → r ≡ s
 same_origin ms r s q h e f =
-    let z = renamed_place ms r q e in
-    let w = renamed_place ms s q f in
+    let z = renamed_attachment ms r q e in
+    let w = renamed_attachment ms s q f in
     elim (cases_lt z.0 w.0) [
       | inl lt ↦ absurd (omega (arith, new_rise ms h z.0 w.0 lt w.1, z.3, w.3))
       | inr ge ↦ elim (cases_lt w.0 z.0) [
@@ -43,22 +43,22 @@ same_origin ms r s q h e f =
       ]
     ]
 
-pub moved_to : (old new : List Place) (ms : Renaming) (r q : ℕ) → IsMoved old new ms → renamed ms r ≡ Some q → place_in new q ≡ place_in old r
+pub moved_to : (old new : List Attachment) (ms : Renaming) (r q : ℕ) → IsMoved old new ms → renamed ms r ≡ Some q → attachment_in new q ≡ attachment_in old r
 moved_to old new ms r q m e =
-    let z = renamed_place ms r q e in
-    ap (place_in new) (sym z.3) ∙ m.to z.0 z.1 ∙ ap (place_in old) z.2
+    let z = renamed_attachment ms r q e in
+    ap (attachment_in new) (sym z.3) ∙ m.to z.0 z.1 ∙ ap (attachment_in old) z.2
 
-pub moved_from : (old new : List Place) (ms : Renaming) (q : ℕ) → IsStrictlyIncreasing (map (λ m. m.0) ms) → IsMoved old new ms → is_kept (place_in new q) ≡ true → (r : ℕ) × (renamed ms r ≡ Some q)
+pub moved_from : (old new : List Attachment) (ms : Renaming) (q : ℕ) → IsStrictlyIncreasing (map (λ m. m.0) ms) → IsMoved old new ms → is_kept (attachment_in new q) ≡ true → (r : ℕ) × (renamed ms r ≡ Some q)
 moved_from old new ms q h m k =
     let z = m.from q k in
     (old_at ms z.0, renamed_at ms (old_at ms z.0) z.0 (rises_pairs ms h) z.1 refl ∙ ap Some z.2)
 
 pub same_clause : (before after : Slots) (ms : Renaming) (r q : ℕ) → IsRenaming before after ms → renamed ms r ≡ Some q → clause_at after q ≡ clause_at before r
 same_clause before after ms r q n e =
-    let z = renamed_place ms r q e in
+    let z = renamed_attachment ms r q e in
     ap (clause_at after) (sym z.3) ∙ n.same z.0 (0, 0) z.1 ∙ ap (clause_at before) z.2
 
-module _ (old : List Place) (ms : Renaming) (rising : IsStrictlyIncreasing (map (λ m. m.1) ms)) (lower : All (λ m. m.1 ≤ m.0) ms) where
+module _ (old : List Attachment) (ms : Renaming) (rising : IsStrictlyIncreasing (map (λ m. m.1) ms)) (lower : All (λ m. m.1 ≤ m.0) ms) where
   pub moving_start : IsMoving old old ms 0 0
   moving_start = record {
     later = λ j h. refl;
@@ -71,22 +71,22 @@ module _ (old : List Place) (ms : Renaming) (rising : IsStrictlyIncreasing (map 
   }
 
   -- a place that a move leads to
-  pub moving_hit : (new : List Place) (at next : ℕ) (p : Place) → IsMoving old new ms at next → at < length old → next < length ms → new_at ms next ≡ at → p ≡ place_in new (old_at ms next)
+  pub moving_hit : (new : List Attachment) (at next : ℕ) (p : Attachment) → IsMoving old new ms at next → at < length old → next < length ms → new_at ms next ≡ at → p ≡ attachment_in new (old_at ms next)
       → IsMoving old (set new at p) ms (at + 1) (next + 1)
   moving_hit new at next p m lt some e is = record {
-    later = λ j h. let ne : j ≢ at = omega arith in place_set_other new at j p ne ∙ m.later j (omega arith);
+    later = λ j h. let ne : j ≢ at = omega arith in attachment_set_other new at j p ne ∙ m.later j (omega arith);
     to = λ i h. elim (cases_lt i next) [
-      | inl less ↦ let ne : new_at ms i ≢ at = omega (arith, m.below i less) in place_set_other new at (new_at ms i) p ne ∙ m.to i less
+      | inl less ↦ let ne : new_at ms i ≢ at = omega (arith, m.below i less) in attachment_set_other new at (new_at ms i) p ne ∙ m.to i less
       | inr more ↦
           let same : i ≡ next = omega arith in
           let here : new_at ms i ≡ at = ap (new_at ms) same ∙ e in
           let low : at ≤ old_at ms next = omega (arith, lower next (0, 0) some) in
-          ap (place_in (set new at p)) here ∙ place_set_same new at p (omega (arith, m.long)) ∙ is ∙ m.later (old_at ms next) low ∙ ap (λ k. place_in old (old_at ms k)) (sym same)
+          ap (attachment_in (set new at p)) here ∙ attachment_set_same new at p (omega (arith, m.long)) ∙ is ∙ m.later (old_at ms next) low ∙ ap (λ k. attachment_in old (old_at ms k)) (sym same)
     ];
     from = λ j h k. elim (cases_lt j at) [
       | inl less ↦
           let ne : j ≢ at = omega arith in
-          let z = m.from j less (ap is_kept (sym (place_set_other new at j p ne)) ∙ k) in
+          let z = m.from j less (ap is_kept (sym (attachment_set_other new at j p ne)) ∙ k) in
           (z.0, omega (arith, z.1), z.2)
       | inr more ↦ let same : at ≡ j = omega arith in (next, omega arith, e ∙ same)
     ];
@@ -100,16 +100,16 @@ module _ (old : List Place) (ms : Renaming) (rising : IsStrictlyIncreasing (map 
   }
 
   -- a place that none does
-  pub moving_gap : (new : List Place) (at next : ℕ) → IsMoving old new ms at next → at < length old → (next < length ms → new_at ms next ≢ at)
+  pub moving_gap : (new : List Attachment) (at next : ℕ) → IsMoving old new ms at next → at < length old → (next < length ms → new_at ms next ≢ at)
       → IsMoving old (set new at Detached) ms (at + 1) next
   moving_gap new at next m lt none = record {
-    later = λ j h. let ne : j ≢ at = omega arith in place_set_other new at j Detached ne ∙ m.later j (omega arith);
-    to = λ i h. let ne : new_at ms i ≢ at = omega (arith, m.below i h) in place_set_other new at (new_at ms i) Detached ne ∙ m.to i h;
+    later = λ j h. let ne : j ≢ at = omega arith in attachment_set_other new at j Detached ne ∙ m.later j (omega arith);
+    to = λ i h. let ne : new_at ms i ≢ at = omega (arith, m.below i h) in attachment_set_other new at (new_at ms i) Detached ne ∙ m.to i h;
     from = λ j h k. elim (cases_lt j at) [
-      | inl less ↦ let ne : j ≢ at = omega arith in m.from j less (ap is_kept (sym (place_set_other new at j Detached ne)) ∙ k)
+      | inl less ↦ let ne : j ≢ at = omega arith in m.from j less (ap is_kept (sym (attachment_set_other new at j Detached ne)) ∙ k)
       | inr more ↦
           let same : j ≡ at = omega arith in
-          absurd (false≢true (sym (ap is_kept (ap (place_in (set new at Detached)) same ∙ place_set_same new at Detached (omega (arith, m.long)))) ∙ k))
+          absurd (false≢true (sym (ap is_kept (ap (attachment_in (set new at Detached)) same ∙ attachment_set_same new at Detached (omega (arith, m.long)))) ∙ k))
     ];
     below = λ i h. omega (arith, m.below i h);
     above = λ i h l. elim (cases_lt next i) [
@@ -125,7 +125,7 @@ module _ (old : List Place) (ms : Renaming) (rising : IsStrictlyIncreasing (map 
     within = m.within;
   }
 
-  pub moving_end : (new : List Place) (at next : ℕ) → IsMoving old new ms at next → length old ≤ at → IsMoved old new ms
+  pub moving_end : (new : List Attachment) (at next : ℕ) → IsMoving old new ms at next → length old ≤ at → IsMoved old new ms
   moving_end new at next m done = record {
     to = λ i h. elim (cases_lt i next) [
       | inl less ↦ m.to i less

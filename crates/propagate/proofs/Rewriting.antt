@@ -6,7 +6,7 @@ use Rattle.std.proofs.lemmas.Grind.{drop_more_same}
 use Rattle.std.proofs.lemmas.List.Edits.{map_over_more}
 use Rattle.std.proofs.lemmas.List.Filters.{FiltersInPlace, FiltersInPlace-all, FiltersInPlace-more_no, FiltersInPlace-more_set}
 use Rattle.std.proofs.lemmas.Option.{get_or_from_slice_get}
-use Rattle.propagate.specs.Rows.{row_at, with_row, closed_row}
+use Rattle.propagate.specs.Pool.{row_at, with_row, closed_row}
 
 module _ {A : Type 0} where
   -- a row is written in rows of which it alone was written before

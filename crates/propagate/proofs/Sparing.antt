@@ -7,14 +7,14 @@ use Rattle.std.proofs.lemmas.List.{get_or-map, get_or_past, length-map, length-s
 use Rattle.wcnf.specs.Literal.{Literal}
 use Rattle.clauses.specs.Slots.{Slots, clause_at}
 use Rattle.propagate.specs.declared.pool.Entry.{Entry}
-use Rattle.propagate.specs.declared.table.Place.{Place}
-use Rattle.propagate.specs.declared.table.Place.TheVariants.{Detached, Waiting, Watching}
-use Rattle.propagate.specs.Rows.{row_at}
+use Rattle.propagate.specs.declared.table.Attachment.{Attachment}
+use Rattle.propagate.specs.declared.table.Attachment.TheVariants.{Detached, Waiting, Watching}
+use Rattle.propagate.specs.Pool.{row_at}
 use Rattle.propagate.specs.Trail.{Assigned}
-use Rattle.propagate.specs.Watches.{EngineState, IsEngine, IsWatching, IsVariable, is_attached, is_kept, place_in, watches_at, count_in}
-use Rattle.propagate.specs.Fits.{Fits, FitsPlace, HasBlocker}
+use Rattle.propagate.specs.Watches.{EngineState, IsEngine, IsWatching, IsVariable, is_attached, is_kept, attachment_in, watches_at, count_in}
+use Rattle.propagate.specs.Fits.{Fits, FitsAttachment, HasBlocker}
 use Rattle.propagate.specs.Doomed.{is_doomed, spared, spared_entries, spared_rows, IsSpared, IsSparing}
-use Rattle.propagate.proofs.Places.{with_watches, place_set_other, place_set_same, place_same, count-cons, one-other}
+use Rattle.propagate.proofs.Attachments.{with_watches, attachment_set_other, attachment_set_same, attachment_same, count-cons, one-other}
 use Rattle.propagate.proofs.Attaching.{Contains-filter, engine_change}
 
 -- rows
@@ -44,21 +44,21 @@ row_spared doomed (row ∷ R) (suc i) = row_spared doomed R i
 
 -- what stays attached
 
-attached_spared : (e : EngineState) (doomed : List Bool) (t : List Place) (R : List (List Entry)) (w : List ℕ) (q : ℕ) → IsSpared doomed e.watches.table t → is_doomed doomed q ≡ false → is_attached e q ≡ true
+attached_spared : (e : EngineState) (doomed : List Bool) (t : List Attachment) (R : List (List Entry)) (w : List ℕ) (q : ℕ) → IsSpared doomed e.watches.table t → is_doomed doomed q ≡ false → is_attached e q ≡ true
     → is_attached (with_watches e t R w) q ≡ true
 attached_spared e doomed t R w q s d h = ap is_kept (s.stays q d) ∙ h
 
-not_kept : (p : Place) → p ≡ Detached → is_kept p ≡ false
+not_kept : (p : Attachment) → p ≡ Detached → is_kept p ≡ false
 not_kept p e = ap is_kept e
 
 -- what is attached is spared
-spared_at : (doomed : List Bool) (old t : List Place) (q : ℕ) → IsSpared doomed old t → is_kept (place_in t q) ≡ true → is_doomed doomed q ≡ false
+spared_at : (doomed : List Bool) (old t : List Attachment) (q : ℕ) → IsSpared doomed old t → is_kept (attachment_in t q) ≡ true → is_doomed doomed q ≡ false
 spared_at doomed old t q s h = elim (cases_Bool (is_doomed doomed q)) [
-  | inl d ↦ absurd (both_ways _ (not_kept (place_in t q) (s.gone q d)) h)
+  | inl d ↦ absurd (both_ways _ (not_kept (attachment_in t q) (s.gone q d)) h)
   | inr d ↦ d
 ]
 
-blockers_spared : (e : EngineState) (slots : Slots) (doomed : List Bool) (t : List Place) (R : List (List Entry)) (w : List ℕ) (row : List Entry) → IsSpared doomed e.watches.table t
+blockers_spared : (e : EngineState) (slots : Slots) (doomed : List Bool) (t : List Attachment) (R : List (List Entry)) (w : List ℕ) (row : List Entry) → IsSpared doomed e.watches.table t
     → AllByRecursion (HasBlocker e slots) row → AllByRecursion (HasBlocker (with_watches e t R w) slots) (spared_entries doomed row)
 blockers_spared e slots doomed t R w [] s h = tt
 blockers_spared e slots doomed t R w (x ∷ row) s h = elim (cases_Bool (is_doomed doomed x.reference)) [
@@ -66,12 +66,12 @@ blockers_spared e slots doomed t R w (x ∷ row) s h = elim (cases_Bool (is_doom
   | inr d ↦ rw d ((h.0.0, attached_spared e doomed t R w x.reference s d h.0.1, h.0.2, h.0.3), blockers_spared e slots doomed t R w row s h.1)
 ]
 
-reason_spared : (e : EngineState) (doomed : List Bool) (t : List Place) (R : List (List Entry)) (w : List ℕ) (o : Option ℕ) → IsSpared doomed e.watches.table t
+reason_spared : (e : EngineState) (doomed : List Bool) (t : List Attachment) (R : List (List Entry)) (w : List ℕ) (o : Option ℕ) → IsSpared doomed e.watches.table t
     → IfSome o (λ r. is_attached e r ≡ true) → IfSome o (λ r. is_doomed doomed r ≡ false) → IfSome o (λ r. is_attached (with_watches e t R w) r ≡ true)
 reason_spared e doomed t R w None s h d = tt
 reason_spared e doomed t R w (Some r) s h d = attached_spared e doomed t R w r s d h
 
-pub fits_spared : (e : EngineState) (slots : Slots) (doomed : List Bool) (t : List Place) → IsSpared doomed e.watches.table t → All (λ (a : Assigned). IfSome a.reason (λ r. is_doomed doomed r ≡ false)) e.trail
+pub fits_spared : (e : EngineState) (slots : Slots) (doomed : List Bool) (t : List Attachment) → IsSpared doomed e.watches.table t → All (λ (a : Assigned). IfSome a.reason (λ r. is_doomed doomed r ≡ false)) e.trail
     → Fits e slots → Fits (with_watches e t (spared_rows doomed e.watches.rows) (spared doomed e.watches.waiting)) slots
 fits_spared e slots doomed t s none fits =
     let R = spared_rows doomed e.watches.rows in
@@ -80,11 +80,11 @@ fits_spared e slots doomed t s none fits =
       attached = λ q h.
           let d = spared_at doomed e.watches.table t q s h in
           let g = fits.attached q (sym (ap is_kept (s.stays q d)) ∙ h) in
-          (g.0, g.1, (g.2.0, place_same e t R w g.0 (place_in t q) (subst (λ x. FitsPlace e g.0 x) (sym (s.stays q d)) g.2.1)));
+          (g.0, g.1, (g.2.0, attachment_same e t R w g.0 (attachment_in t q) (subst (λ x. FitsAttachment e g.0 x) (sym (s.stays q d)) g.2.1)));
       reasons = fits.reasons;
       reasons_attached = λ k d lt. reason_spared e doomed t R w (get_or e.trail k d).reason s (fits.reasons_attached k d lt) (none k d lt);
       small = fits.small;
-      rows = λ i q. ap (count_in q) (row_spared doomed e.watches.rows i) ∙ elim (cases_Bool (is_doomed doomed q)) as (λ _. count_in q (spared_entries doomed (row_at e.watches.rows i)) ≡ watches_at (place_in t q) i) [
+      rows = λ i q. ap (count_in q) (row_spared doomed e.watches.rows i) ∙ elim (cases_Bool (is_doomed doomed q)) as (λ _. count_in q (spared_entries doomed (row_at e.watches.rows i)) ≡ watches_at (attachment_in t q) i) [
         | inl d ↦ counted_gone doomed q (row_at e.watches.rows i) d ∙ sym (ap (λ p. watches_at p i) (s.gone q d))
         | inr d ↦ counted_same doomed q (row_at e.watches.rows i) d ∙ fits.rows i q ∙ sym (ap (λ p. watches_at p i) (s.stays q d))
       ];

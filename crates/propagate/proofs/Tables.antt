@@ -9,7 +9,8 @@ use Rattle.std.proofs.lemmas.List.Sums.{sum_by-cons}
 use Rattle.std.proofs.lemmas.List.Elements.{All-push, All-nil}
 use Rattle.wcnf.specs.Literal.{Literal, negation, index_of}
 use Rattle.propagate.specs.Trail.{Assigned, literals_of, depth_of, value_in, level_in, level_after, position_in, position_from}
-use Rattle.propagate.specs.Tables.{mentions, IsNamed, reason_at, assigned_by, IsTrail}
+use Rattle.propagate.specs.Tables.{mentions, reason_at, assigned_by, IsTrail}
+use Rattle.propagate.specs.Watches.{IsVariable}
 use Rattle.propagate.proofs.Literals.{same_variable, index-other, index-negation, index-within}
 use Rattle.propagate.proofs.Trails.{made, literals_of-assigned, open_none, assigned_by-set, value_push_other, value_push_same, value_push_negation, value_none, level_push, level_none, depth_push, once_push, once_last, once_front, values_push, values_pop}
 
@@ -27,13 +28,13 @@ assigned_push R A l r h e =
     ∙ ap (λ T. T ++ made l (reason_at (set R l.variable r) l.variable) ∷ []) (assigned_by-set R A l.variable r e)
     ∙ ap (λ x. assigned_by R A ++ made l x ∷ []) (get_or-set_same R l.variable r None h)
 
-value_after : (n : ℕ) (vs : List (Option Bool)) (T : List Assigned) (l : Literal) (r : Option ℕ) → length vs ≡ 2 * n → IsNamed n l → mentions l.variable (literals_of T) ≡ false
-    → ((k : Literal) → IsNamed n k → get_or vs (index_of k) None ≡ value_in T k)
-    → (k : Literal) → IsNamed n k → get_or (set (set vs (index_of l) (Some true)) (index_of (negation l)) (Some false)) (index_of k) None ≡ value_in (T ++ made l r ∷ []) k
+value_after : (n : ℕ) (vs : List (Option Bool)) (T : List Assigned) (l : Literal) (r : Option ℕ) → length vs ≡ 2 * n → IsVariable n l → mentions l.variable (literals_of T) ≡ false
+    → ((k : Literal) → IsVariable n k → get_or vs (index_of k) None ≡ value_in T k)
+    → (k : Literal) → IsVariable n k → get_or (set (set vs (index_of l) (Some true)) (index_of (negation l)) (Some false)) (index_of k) None ≡ value_in (T ++ made l r ∷ []) k
 value_after n vs T l r long named new says k h =
     let inner = set vs (index_of l) (Some true) in
     let long' = length-set vs (index_of l) (Some true) in
-    let named' : IsNamed n (negation l) = named in
+    let named' : IsVariable n (negation l) = named in
     let w = index-within n l named in
     let w' = index-within n (negation l) named' in
     elim (cases_eq k.variable l.variable) [
@@ -109,7 +110,7 @@ position_none n (a ∷ T) v e =
     cond-false (a.literal.variable == v) (Some n) (position_from (n + 1) T v) e'.0 ∙ position_none (n + 1) T v e'.1
 
 pub trail_push : (n : ℕ) (A : List Literal) (vs : List (Option Bool)) (ls : List (Option ℕ)) (ps : List ℕ) (R : List (Option ℕ)) (d room room' : ℕ) (l : Literal) (r : Option ℕ)
-    → n ≤ room' → IsTrail n A vs ls ps R d room → IsNamed n l → value_in (assigned_by R A) l ≡ None
+    → n ≤ room' → IsTrail n A vs ls ps R d room → IsVariable n l → value_in (assigned_by R A) l ≡ None
     → IsTrail n (A ++ l ∷ []) (set (set vs (index_of l) (Some true)) (index_of (negation l)) (Some false)) (set ls l.variable (Some (depth_with d r))) (set ps l.variable (length A)) (set R l.variable r) (depth_with d r) room'
 trail_push n A vs ls ps R d room room' l r wide t named is_open =
     let T = assigned_by R A in
@@ -120,7 +121,7 @@ trail_push n A vs ls ps R d room room' l r wide t named is_open =
     let w' = index-within n (negation l) named in
     let e' : get_or vs (index_of (negation l)) None ≡ None = t.value_of (negation l) named ∙ value_none T (negation l) new in
     record {
-      within = All-push (IsNamed n) A l t.within named;
+      within = All-push (IsVariable n) A l t.within named;
       once = once_push A l t.once new';
       values_length = length-set (set vs (index_of l) (Some true)) (index_of (negation l)) (Some false) ∙ length-set vs (index_of l) (Some true) ∙ t.values_length;
       levels_length = length-set ls l.variable (Some (depth_with d r)) ∙ t.levels_length;
@@ -142,7 +143,7 @@ trail_push n A vs ls ps R d room room' l r wide t named is_open =
 
 -- an open literal leaves room
 pub room_left : (n : ℕ) (A : List Literal) (vs : List (Option Bool)) (ls : List (Option ℕ)) (ps : List ℕ) (R : List (Option ℕ)) (d room : ℕ) (l : Literal)
-    → IsTrail n A vs ls ps R d room → IsNamed n l → value_in (assigned_by R A) l ≡ None → length A < n
+    → IsTrail n A vs ls ps R d room → IsVariable n l → value_in (assigned_by R A) l ≡ None → length A < n
 room_left n A vs ls ps R d room l t named is_open =
     let T = assigned_by R A in
     let new : mentions l.variable (literals_of T) ≡ false = open_none T l is_open in
@@ -162,9 +163,9 @@ All-last P xs x h = subst P (get_or_push xs x x (length xs) refl) (h (length xs)
 All-front : {X : Type 0} (P : X → Type 0) (xs : List X) (x : X) → All P (xs ++ x ∷ []) → All P xs
 All-front P xs x h k d lt = subst P (get_or_append_left xs (x ∷ []) d k lt) (h k d (omega (arith, length_push xs x)))
 
-value_before : (n : ℕ) (vs : List (Option Bool)) (T : List Assigned) (l : Literal) (r : Option ℕ) → length vs ≡ 2 * n → IsNamed n l → mentions l.variable (literals_of T) ≡ false
-    → ((k : Literal) → IsNamed n k → get_or vs (index_of k) None ≡ value_in (T ++ made l r ∷ []) k)
-    → (k : Literal) → IsNamed n k → get_or (set (set vs (index_of l) None) (index_of (negation l)) None) (index_of k) None ≡ value_in T k
+value_before : (n : ℕ) (vs : List (Option Bool)) (T : List Assigned) (l : Literal) (r : Option ℕ) → length vs ≡ 2 * n → IsVariable n l → mentions l.variable (literals_of T) ≡ false
+    → ((k : Literal) → IsVariable n k → get_or vs (index_of k) None ≡ value_in (T ++ made l r ∷ []) k)
+    → (k : Literal) → IsVariable n k → get_or (set (set vs (index_of l) None) (index_of (negation l)) None) (index_of k) None ≡ value_in T k
 value_before n vs T l r long named new says k h =
     let inner = set vs (index_of l) None in
     let long' = length-set {A = Option Bool} vs (index_of l) None in
@@ -207,15 +208,15 @@ trail_pop n A vs ls ps R d room room' l wide t =
     let r = reason_at R l.variable in
     let new' : mentions l.variable A ≡ false = once_last A l t.once in
     let new : mentions l.variable (literals_of T) ≡ false = rw literals_of-assigned new' in
-    let named : IsNamed n l = All-last (IsNamed n) A l t.within in
+    let named : IsVariable n l = All-last (IsVariable n) A l t.within in
     let shape : assigned_by R (A ++ l ∷ []) ≡ T ++ made l r ∷ [] = map_push (λ (k : Literal). made k (reason_at R k.variable)) A l in
-    let values : (k : Literal) → IsNamed n k → get_or vs (index_of k) None ≡ value_in (T ++ made l r ∷ []) k = λ k h. t.value_of k h ∙ ap (λ X. value_in X k) shape in
+    let values : (k : Literal) → IsVariable n k → get_or vs (index_of k) None ≡ value_in (T ++ made l r ∷ []) k = λ k h. t.value_of k h ∙ ap (λ X. value_in X k) shape in
     let w = index-within n l named in
     let w' = index-within n (negation l) named in
     let e = values l named ∙ value_push_same T (made l r) in
     let e' = values (negation l) named ∙ value_push_negation T (made l r) new in
     record {
-      within = All-front (IsNamed n) A l t.within;
+      within = All-front (IsVariable n) A l t.within;
       once = once_front A l t.once;
       values_length = length-set {A = Option Bool} (set vs (index_of l) None) (index_of (negation l)) None ∙ length-set {A = Option Bool} vs (index_of l) None ∙ t.values_length;
       levels_length = length-set {A = Option ℕ} ls l.variable None ∙ t.levels_length;
@@ -238,7 +239,7 @@ trail_pop n A vs ls ps R d room room' l wide t =
 pub trail_push_at : (n : ℕ) (A : List Literal) (vs : List (Option Bool)) (ls : List (Option ℕ)) (ps : List ℕ) (R : List (Option ℕ)) (d room room' : ℕ) (l : Literal) (r : Option ℕ)
     (A' : List Literal) (vs' : List (Option Bool)) (v p k : ℕ)
     → A' ≡ A ++ l ∷ [] → vs' ≡ set (set vs (index_of l) (Some true)) (index_of (negation l)) (Some false) → v ≡ l.variable → p ≡ length A → k ≡ (if is_none r then 1 else 0)
-    → n ≤ room' → IsTrail n A vs ls ps R d room → IsNamed n l → value_in (assigned_by R A) l ≡ None
+    → n ≤ room' → IsTrail n A vs ls ps R d room → IsVariable n l → value_in (assigned_by R A) l ≡ None
     → IsTrail n A' vs' (set ls v (Some (d + k))) (set ps v p) (set R v r) (d + k) room'
 trail_push_at n A vs ls ps R d room room' l r A' vs' v p k a b e g f wide t named o = rw (a, b, e, g, f) (trail_push n A vs ls ps R d room room' l r wide t named o)
 
@@ -268,7 +269,7 @@ none_count (suc k) = sum_by-cons (λ (o : Option Bool). cond (is_none o) 1 0) No
 pub trail_none : (n room : ℕ) (vs : List (Option Bool)) (ls : List (Option ℕ)) (ps : List ℕ) (rs : List (Option ℕ)) → vs ≡ replicate (2 * n) None → ls ≡ replicate (n + 1) None → ps ≡ replicate (n + 1) 0 → rs ≡ replicate (n + 1) None → n ≤ room → n < 2 ^ 32 - 1
     → IsTrail n [] vs ls ps rs 0 room
 trail_none n room vs ls ps rs e f p g wide few = record {
-  within = All-nil (IsNamed n);
+  within = All-nil (IsVariable n);
   once = λ k d lt. absurd (omega arith);
   values_length = ap length e ∙ length-replicate (2 * n) None;
   levels_length = ap length f ∙ length-replicate (n + 1) None;

@@ -8,7 +8,7 @@ use Rattle.wcnf.specs.Literal.{Literal, negation, literal_eq}
 use Rattle.wcnf.specs.Clause.{contains_literal}
 use Rattle.propagate.specs.Trail.{Assigned, literals_of, depth_of, is_decision, value_in, level_from, level_after, reason_in}
 use Rattle.propagate.specs.Tables.{mentions, reason_at, assigned_by}
-use Rattle.propagate.proofs.Literals.{contains-push, contains-none, mentions-none, negation_twice, literal_eq-self, literal_eq-negation, literal_eq-other}
+use Rattle.propagate.proofs.Literals.{or_false_right, contains-push, contains-none, mentions-none, negation_twice, literal_eq-self, literal_eq-negation, literal_eq-other}
 
 abbrev pub made : Literal → Option ℕ → Assigned
 made l r = record { literal = l; reason = r }
@@ -88,10 +88,6 @@ pub value_push : (T : List Assigned) (a : Assigned) (l : Literal)
     → value_in (T ++ a ∷ []) l ≡ value_by (contains_literal l (literals_of T) || literal_eq l a.literal) (contains_literal (negation l) (literals_of T) || literal_eq (negation l) a.literal)
 value_push T a l =
     rw (map_push (λ (x : Assigned). x.literal) T a, contains-push l (literals_of T) a.literal, contains-push (negation l) (literals_of T) a.literal) refl
-
-or_false_right : (b : Bool) → (b || false) ≡ b
-or_false_right true = refl
-or_false_right false = refl
 
 pub value_push_other : (T : List Assigned) (a : Assigned) (l : Literal) → l.variable ≢ a.literal.variable → value_in (T ++ a ∷ []) l ≡ value_in T l
 value_push_other T a l ne =

@@ -5,13 +5,13 @@ use Rattle.std.proofs.lemmas.List.{take_more, take_all}
 use Rattle.std.proofs.lemmas.List.Elements.{Contains-push_cases}
 use Rattle.clauses.specs.Slots.{Slots}
 use Rattle.propagate.specs.Trail.{literals_of}
-use Rattle.propagate.specs.Watches.{EngineState, place_in}
+use Rattle.propagate.specs.Watches.{EngineState, attachment_in}
 use Rattle.propagate.specs.Fits.{Fits}
 use Rattle.propagate.specs.Steps.{Continues, IsTrueWaiting, AreTrueWaiting, is_waiting}
 use Rattle.propagate.proofs.Kept.{literals-append, contains_front}
 use Rattle.wcnf.specs.Clause.{contains_literal}
 use Rattle.propagate.proofs.Fitting.{true_more}
-use Rattle.propagate.proofs.Places.{with_watches, place_same}
+use Rattle.propagate.proofs.Attachments.{with_watches, attachment_same}
 use Rattle.propagate.proofs.Attaching.{Contains-filter}
 
 pub waiting_more : (slots : Slots) (e f : EngineState) (r : ℕ) → Continues e f → IsTrueWaiting slots e r → IsTrueWaiting slots f r
@@ -39,15 +39,15 @@ pub all_seen : (slots : Slots) (e : EngineState) (w : List ℕ) (n : ℕ) → Fi
 all_seen slots e w n fits same le seen r c p live =
     seen r (subst (λ z. Contains z r) (same ∙ sym (take_all n w le)) (fits.waiting r p)) c p live
 
-pub fits_waiting : (e : EngineState) (slots : Slots) → Fits e slots → Fits (with_watches e e.watches.table e.watches.rows (filter (λ r. is_waiting (place_in e.watches.table r)) e.watches.waiting)) slots
+pub fits_waiting : (e : EngineState) (slots : Slots) → Fits e slots → Fits (with_watches e e.watches.table e.watches.rows (filter (λ r. is_waiting (attachment_in e.watches.table r)) e.watches.waiting)) slots
 fits_waiting e slots fits =
-    let w = filter (λ r. is_waiting (place_in e.watches.table r)) e.watches.waiting in
+    let w = filter (λ r. is_waiting (attachment_in e.watches.table r)) e.watches.waiting in
     record {
-      attached = λ r h. let f = fits.attached r h in (f.0, f.1, (f.2.0, place_same e e.watches.table e.watches.rows w f.0 (place_in e.watches.table r) f.2.1));
+      attached = λ r h. let f = fits.attached r h in (f.0, f.1, (f.2.0, attachment_same e e.watches.table e.watches.rows w f.0 (attachment_in e.watches.table r) f.2.1));
       reasons = fits.reasons;
       reasons_attached = fits.reasons_attached;
       small = fits.small;
       rows = fits.rows;
-      waiting = λ r h. Contains-filter (λ x. is_waiting (place_in e.watches.table x)) e.watches.waiting r (ap is_waiting h) (fits.waiting r h);
+      waiting = λ r h. Contains-filter (λ x. is_waiting (attachment_in e.watches.table x)) e.watches.waiting r (ap is_waiting h) (fits.waiting r h);
       blockers = fits.blockers;
     }

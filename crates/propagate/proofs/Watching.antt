@@ -9,17 +9,17 @@ use Rattle.wcnf.specs.Clause.{contains_literal}
 use Rattle.clauses.specs.Slots.{Slots, clause_at}
 use Rattle.propagate.specs.declared.pool.Entry.{Entry}
 use Rattle.propagate.specs.declared.table.Rest.{Rest}
-use Rattle.propagate.specs.declared.table.Place.TheVariants.{Waiting, Resting, Watching}
-use Rattle.propagate.specs.Rows.{row_at, with_row}
+use Rattle.propagate.specs.declared.table.Attachment.TheVariants.{Waiting, Satisfied, Watching}
+use Rattle.propagate.specs.Pool.{row_at, with_row}
 use Rattle.propagate.specs.Trail.{literals_of, depth_of, level_in, value_in, kept_to}
-use Rattle.propagate.specs.Watches.{EngineState, IsEngine, is_attached, is_kept, place_in, watches_at, one_at, count_in}
-use Rattle.propagate.specs.Fits.{Fits, FitsPlace, IsRest, IsWatch, IsWithin, HasBlocker, HasTrue}
-use Rattle.propagate.specs.Steps.{entry_of, pushed, watched, with_place, with_trail, Continues, IsMadeTrue}
+use Rattle.propagate.specs.Watches.{EngineState, IsEngine, is_attached, is_kept, attachment_in, watches_at, one_at, count_in}
+use Rattle.propagate.specs.Fits.{Fits, FitsAttachment, IsRest, IsWatch, IsWithin, HasBlocker, HasTrue}
+use Rattle.propagate.specs.Steps.{entry_of, pushed, watched, with_attachment, with_trail, Continues, IsMadeTrue}
 use Rattle.propagate.proofs.Literals.{index-within}
 use Rattle.propagate.proofs.Levels.{kept_all}
 use Rattle.propagate.proofs.Kept.{contains_take, in_kept}
 use Rattle.propagate.proofs.Reasons.{no_opposites}
-use Rattle.propagate.proofs.Places.{place_set_other, place_set_same, fits_place, blockers_kept, count-cons, one-same, one-other}
+use Rattle.propagate.proofs.Attachments.{attachment_set_other, attachment_set_same, fits_attachment, blockers_kept, count-cons, one-same, one-other}
 use Rattle.propagate.proofs.Attaching.{kept_within}
 use Rattle.propagate.proofs.Looking.{within_variable, unit_left, one_left, true_value}
 use Rattle.propagate.proofs.Stepping.{count-append, open_watch, last_true}
@@ -35,7 +35,7 @@ level_watch e c one other m t n at = record {
   member = n;
   covered = λ _. (one, m, t);
   stays = λ to k.
-      let here = in_kept to e.trail (negation other) (depth_of e.trail) (contains_take (negation other) e.watches.settled (literals_of (kept_to to e.trail)) k) at in
+      let here = in_kept to e.trail (negation other) (depth_of e.trail) (contains_take (negation other) e.watches.stable_qhead (literals_of (kept_to to e.trail)) k) at in
       subst (λ X. HasTrue c (literals_of X)) (sym (kept_all to e.trail here)) (one, m, t);
 }
 
@@ -65,7 +65,7 @@ all_pushed P R l w lt h all k = elim (cases_eq k (index_of l)) [
   | inr ne ↦ subst (AllByRecursion P) (sym (get_or-set_other R (index_of l) k (row_at R (index_of l) ++ w ∷ []) [] ne)) (all k)
 ]
 
-pub fits_watch : (e : EngineState) (slots : Slots) (r : ℕ) (c : List Literal) (one other : Literal) (rest : Rest) → IsEngine e → Fits e slots → place_in e.watches.table r ≡ Waiting
+pub fits_watch : (e : EngineState) (slots : Slots) (r : ℕ) (c : List Literal) (one other : Literal) (rest : Rest) → IsEngine e → Fits e slots → attachment_in e.watches.table r ≡ Waiting
     → clause_at slots r ≡ Some c → one ≢ other → IsWatch e c one → IsWatch e c other → IsRest c one other rest → Fits (watched e r one other rest) slots
 fits_watch e slots r c one other rest inv fits at live apart a b d =
     let R = e.watches.rows in
@@ -80,44 +80,44 @@ fits_watch e slots r c one other rest inv fits at live apart a b d =
     let within : IsWithin e.variables c = subst (IsWithin e.variables) same f.2.0 in
     let l1 : index_of one < length R = let h = inv.rows in let g = index-within e.variables one (within_variable e.variables c one within a.member) in omega arith in
     let l2 : index_of other < length Ri = let h = inv.rows in let g = index-within e.variables other (within_variable e.variables c other within b.member) in let k = length-set R (index_of one) (row_at R (index_of one) ++ w ∷ []) in omega arith in
-    let here : place_in t r ≡ Watching one other rest = place_set_same e.watches.table r (Watching one other rest) (kept_within e.watches.table r was) in
-    let elsewhere : (q : ℕ) → q ≢ r → place_in t q ≡ place_in e.watches.table q = λ q h. place_set_other e.watches.table r q (Watching one other rest) h in
-    let kept : is_kept (place_in t r) ≡ true = ap is_kept here in
-    fits_place e slots r t Rj e.watches.waiting fits elsewhere
-    (λ k. (c, live, (within, subst (λ z. FitsPlace e c z) (sym here) (apart, a, b, d))))
+    let here : attachment_in t r ≡ Watching one other rest = attachment_set_same e.watches.table r (Watching one other rest) (kept_within e.watches.table r was) in
+    let elsewhere : (q : ℕ) → q ≢ r → attachment_in t q ≡ attachment_in e.watches.table q = λ q h. attachment_set_other e.watches.table r q (Watching one other rest) h in
+    let kept : is_kept (attachment_in t r) ≡ true = ap is_kept here in
+    fits_attachment e slots r t Rj e.watches.waiting fits elsewhere
+    (λ k. (c, live, (within, subst (λ z. FitsAttachment e c z) (sym here) (apart, a, b, d))))
     (inl kept)
     (λ k q. elim (cases_eq r q) [
-      | inl is ↦ subst (λ z. count_in z (row_at Rj k) ≡ watches_at (place_in t z) k) is
+      | inl is ↦ subst (λ z. count_in z (row_at Rj k) ≡ watches_at (attachment_in t z) k) is
           (let g1 = count_pushed Ri other v r k l2 refl in let g2 = count_pushed R one w r k l1 refl in
           let g3 = fits.rows k r ∙ ap (λ z. watches_at z k) at in let g4 = ap (λ z. watches_at z k) here in omega arith)
       | inr ne ↦ count_pushed_other Ri other v q k l2 ne ∙ count_pushed_other R one w q k l1 ne ∙ fits.rows k q ∙ sym (ap (λ z. watches_at z k) (elsewhere q (λ h. ne (sym h))))
     ])
     (λ q h. elim (cases_eq q r) [
-      | inl is ↦ absurd (let h' = sym (ap (place_in t) is ∙ here) ∙ h in cc)
+      | inl is ↦ absurd (let h' = sym (ap (attachment_in t) is ∙ here) ∙ h in cc)
       | inr nq ↦ fits.waiting q (sym (elsewhere q nq) ∙ h)
     ])
     (λ k. blockers_kept e slots r t Rj e.watches.waiting (row_at Rj k) elsewhere kept
     (all_pushed (HasBlocker e slots) Ri other v l2 (c, was, live, a.member) (all_pushed (HasBlocker e slots) R one w l1 (c, was, live, b.member) fits.blockers) k))
 
-pub fits_rest : (e : EngineState) (slots : Slots) (r : ℕ) (c : List Literal) → Fits e slots → place_in e.watches.table r ≡ Waiting → clause_at slots r ≡ Some c → depth_of e.trail ≡ 0
-    → HasTrue c (literals_of e.trail) → Fits (with_place e r Resting) slots
-fits_rest e slots r c fits at live zero is_true =
-    let t = set e.watches.table r Resting in
+pub fits_satisfied : (e : EngineState) (slots : Slots) (r : ℕ) (c : List Literal) → Fits e slots → attachment_in e.watches.table r ≡ Waiting → clause_at slots r ≡ Some c → depth_of e.trail ≡ 0
+    → HasTrue c (literals_of e.trail) → Fits (with_attachment e r Satisfied) slots
+fits_satisfied e slots r c fits at live zero is_true =
+    let t = set e.watches.table r Satisfied in
     let was : is_attached e r ≡ true = ap is_kept at in
     let f = fits.attached r was in
     let same : f.0 ≡ c = cc (f.1, live) in
-    let here : place_in t r ≡ Resting = place_set_same e.watches.table r Resting (kept_within e.watches.table r was) in
-    let elsewhere : (q : ℕ) → q ≢ r → place_in t q ≡ place_in e.watches.table q = λ q h. place_set_other e.watches.table r q Resting h in
-    let kept : is_kept (place_in t r) ≡ true = ap is_kept here in
-    fits_place e slots r t e.watches.rows e.watches.waiting fits elsewhere
-    (λ k. (c, live, (subst (IsWithin e.variables) same f.2.0, subst (λ z. FitsPlace e c z) (sym here) (subst (λ X. HasTrue c (literals_of X)) (sym (kept_all 0 e.trail (omega arith))) is_true))))
+    let here : attachment_in t r ≡ Satisfied = attachment_set_same e.watches.table r Satisfied (kept_within e.watches.table r was) in
+    let elsewhere : (q : ℕ) → q ≢ r → attachment_in t q ≡ attachment_in e.watches.table q = λ q h. attachment_set_other e.watches.table r q Satisfied h in
+    let kept : is_kept (attachment_in t r) ≡ true = ap is_kept here in
+    fits_attachment e slots r t e.watches.rows e.watches.waiting fits elsewhere
+    (λ k. (c, live, (subst (IsWithin e.variables) same f.2.0, subst (λ z. FitsAttachment e c z) (sym here) (subst (λ X. HasTrue c (literals_of X)) (sym (kept_all 0 e.trail (omega arith))) is_true))))
     (inl kept)
     (λ k q. elim (cases_eq q r) [
-      | inl is ↦ fits.rows k q ∙ ap (λ z. watches_at (place_in e.watches.table z) k) is ∙ ap (λ z. watches_at z k) at ∙ sym (ap (λ z. watches_at (place_in t z) k) is ∙ ap (λ z. watches_at z k) here)
+      | inl is ↦ fits.rows k q ∙ ap (λ z. watches_at (attachment_in e.watches.table z) k) is ∙ ap (λ z. watches_at z k) at ∙ sym (ap (λ z. watches_at (attachment_in t z) k) is ∙ ap (λ z. watches_at z k) here)
       | inr ne ↦ fits.rows k q ∙ sym (ap (λ z. watches_at z k) (elsewhere q ne))
     ])
     (λ q h. elim (cases_eq q r) [
-      | inl is ↦ absurd (let h' = sym (ap (place_in t) is ∙ here) ∙ h in cc)
+      | inl is ↦ absurd (let h' = sym (ap (attachment_in t) is ∙ here) ∙ h in cc)
       | inr nq ↦ fits.waiting q (sym (elsewhere q nq) ∙ h)
     ])
     (λ k. blockers_kept e slots r t e.watches.rows e.watches.waiting (row_at e.watches.rows k) elsewhere kept (fits.blockers k))
@@ -141,7 +141,7 @@ made_true e e1 slots r c l inv fits was live within member ne all h = elim h [
   | inl new ↦
       let T = e.trail ++ made l (Some r) ∷ [] in
       let unit = unit_left e.trail c l member new.0 (one_left e.trail c l all) in
-      let f : Fits (with_trail e T) slots = fits_grow e slots (made l (Some r)) inv.settled inv.processed (c, live, unit) was (within_variable e.variables c l within member) fits in (
+      let f : Fits (with_trail e T) slots = fits_grow e slots (made l (Some r)) inv.stable_qhead inv.qhead (c, live, unit) was (within_variable e.variables c l within member) fits in (
         subst (λ x. Fits x slots) (sym new.2) f,
         subst (λ (x : EngineState). contains_literal l (literals_of x.trail) ≡ true) (sym new.2) (last_true e.trail (made l (Some r))),
         subst (Continues e) (sym new.2) (continues_unit e l r),

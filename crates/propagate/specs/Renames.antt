@@ -1,11 +1,12 @@
 -- Clauses under new references.
-use Rattle.std.specs.Prelude.{◌≡◌, ℕ, ◌<◌, ◌≤◌, true, List, length, map, slice_index_or, Option, Some, None}
+use Rattle.std.specs.Prelude.{◌≡◌, ℕ, ◌<◌, ◌≤◌, true, List, length, map, slice_index_or, Option}
+use Rattle.std.specs.Prelude.{Some, None}
 use Rattle.std.specs.Option.{option_map}
 use Rattle.clauses.specs.Slots.{Renaming, renamed}
 use Rattle.propagate.specs.declared.pool.Entry.{Entry}
-use Rattle.propagate.specs.declared.table.Place.{Place}
+use Rattle.propagate.specs.declared.table.Attachment.{Attachment}
 use Rattle.propagate.specs.Trail.{Assigned}
-use Rattle.propagate.specs.Watches.{place_in, is_kept}
+use Rattle.propagate.specs.Watches.{attachment_in, is_kept}
 
 abbrev pub name_or : Option ℕ → ℕ → ℕ
 name_or None r = r
@@ -25,7 +26,8 @@ abbrev pub named_reason : Renaming → Option ℕ → Option ℕ
 named_reason moves reason = option_map (named moves) reason
 
 abbrev pub named_trail : Renaming → List Assigned → List Assigned
-named_trail moves trail = map (λ a. record { literal = a.literal; reason = named_reason moves a.reason }) trail
+named_trail moves trail =
+    map (λ a. record { literal = a.literal; reason = named_reason moves a.reason }) trail
 
 abbrev pub old_at : Renaming → ℕ → ℕ
 old_at moves i = (slice_index_or moves i (0, 0)).0
@@ -34,15 +36,19 @@ abbrev pub new_at : Renaming → ℕ → ℕ
 new_at moves i = (slice_index_or moves i (0, 0)).1
 
 -- each place went to the new reference, and nothing else is left
-pub record IsMoved (old new : List Place) (moves : Renaming) : Type 0 where
-  pub to : (i : ℕ) → i < length moves → place_in new (new_at moves i) ≡ place_in old (old_at moves i)
-  pub from : (q : ℕ) → is_kept (place_in new q) ≡ true → (i : ℕ) × (i < length moves) × (new_at moves i ≡ q)
+pub record IsMoved (old new : List Attachment) (moves : Renaming) : Type 0 where
+  pub to : (i : ℕ) → i < length moves → attachment_in new (new_at moves i)
+      ≡ attachment_in old (old_at moves i)
+  pub from : (q : ℕ) → is_kept (attachment_in new q) ≡ true → (i : ℕ) × (i < length moves)
+      × (new_at moves i ≡ q)
 
--- so many places have what goes there, by so many moves
-pub record IsMoving (old new : List Place) (moves : Renaming) (at next : ℕ) : Type 0 where
-  pub later : (j : ℕ) → at ≤ j → place_in new j ≡ place_in old j
-  pub to : (i : ℕ) → i < next → place_in new (new_at moves i) ≡ place_in old (old_at moves i)
-  pub from : (j : ℕ) → j < at → is_kept (place_in new j) ≡ true → (i : ℕ) × (i < next) × (new_at moves i ≡ j)
+-- so many references have what goes there, by so many moves
+pub record IsMoving (old new : List Attachment) (moves : Renaming) (at next : ℕ) : Type 0 where
+  pub later : (j : ℕ) → at ≤ j → attachment_in new j ≡ attachment_in old j
+  pub to : (i : ℕ) → i < next → attachment_in new (new_at moves i)
+      ≡ attachment_in old (old_at moves i)
+  pub from : (j : ℕ) → j < at → is_kept (attachment_in new j) ≡ true → (i : ℕ) × (i < next)
+      × (new_at moves i ≡ j)
   pub below : (i : ℕ) → i < next → new_at moves i < at
   pub above : (i : ℕ) → next ≤ i → i < length moves → at ≤ new_at moves i
   pub long : length new ≡ length old

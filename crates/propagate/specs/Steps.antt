@@ -1,18 +1,21 @@
 -- The small changes of an engine that propagation is made of.
-use Rattle.std.specs.Prelude.{◌≡◌, ◌≢◌, ℕ, ◌+◌, ◌-◌, ◌≤◌, ◌<◌, length, replicate, take, Bool, true, false, List, [], ◌∷◌, ◌++◌, Some, None, slice_set, ◌⊎◌}
+use Rattle.std.specs.Prelude.{◌≡◌, ◌≢◌, ℕ, ◌+◌, ◌-◌, ◌≤◌, ◌<◌, length, replicate, take, Bool, true}
+use Rattle.std.specs.Prelude.{false, List, [], ◌∷◌, ◌++◌, Some, None, slice_set, ◌⊎◌}
 use Rattle.std.specs.List.{AllByRecursion}
 use Rattle.wcnf.specs.Literal.{Literal, negation, index_of}
 use Rattle.wcnf.specs.Clause.{contains_literal}
 use Rattle.wcnf.specs.Refute.{IsUnit, IsFalseUnder}
 use Rattle.clauses.specs.Slots.{Slots, clause_at}
 use Rattle.propagate.specs.declared.pool.Entry.{Entry}
-use Rattle.propagate.specs.declared.table.Place.{Place}
-use Rattle.propagate.specs.declared.table.Place.TheVariants.{Detached, Waiting, Resting, Watching}
+use Rattle.propagate.specs.declared.table.Attachment.{Attachment}
+use Rattle.propagate.specs.declared.table.Attachment.TheVariants.{Detached, Waiting, Satisfied}
+use Rattle.propagate.specs.declared.table.Attachment.TheVariants.{Watching}
 use Rattle.propagate.specs.declared.table.Rest.{Rest}
 use Rattle.propagate.specs.declared.table.Rest.TheVariants.{Nothing, One, Many}
-use Rattle.propagate.specs.Rows.{row_at, with_row, closed_row}
+use Rattle.propagate.specs.Pool.{row_at, with_row, closed_row}
 use Rattle.propagate.specs.Trail.{Assigned, literals_of, is_decision, value_in}
-use Rattle.propagate.specs.Watches.{EngineState, SameAttached, IsVariable, is_attached, place_in, rest_in, IsWatching}
+use Rattle.propagate.specs.Watches.{EngineState, SameAttached, IsVariable, is_attached}
+use Rattle.propagate.specs.Watches.{attachment_in, rest_in, IsWatching}
 use Rattle.propagate.specs.Fits.{Fits, HasTrue, IsRest, IsWithin, IsFalseClause}
 
 abbrev pub with_rows : EngineState → List (List Entry) → EngineState
@@ -21,12 +24,14 @@ with_rows e rows = record e { watches = record e.watches { rows = rows } }
 abbrev pub with_trail : EngineState → List Assigned → EngineState
 with_trail e trail = record e { trail = trail }
 
-abbrev pub with_place : EngineState → ℕ → Place → EngineState
-with_place e r p = record e { watches = record e.watches { table = slice_set e.watches.table r p } }
+abbrev pub with_attachment : EngineState → ℕ → Attachment → EngineState
+with_attachment e r p =
+    record e { watches = record e.watches { table = slice_set e.watches.table r p } }
 
 -- the engine with a row in which the entries from place `write` to place `read` are gone
 abbrev pub closed : EngineState → ℕ → ℕ → ℕ → EngineState
-closed e i write read = with_rows e (with_row e.watches.rows i (closed_row write read (row_at e.watches.rows i)))
+closed e i write read = with_rows e (with_row e.watches.rows i
+    (closed_row write read (row_at e.watches.rows i)))
 
 abbrev pub entry_of : ℕ → Literal → Entry
 entry_of r blocker = record { reference = r; blocker = blocker }
@@ -42,19 +47,27 @@ rest_after w Many = Many
 
 -- the clause watches `l` in the place of `w`, beside `other`
 abbrev pub moved : EngineState → Literal → ℕ → Literal → Literal → EngineState
-moved e w r other l = with_place (with_rows e (pushed e.watches.rows l (entry_of r other))) r (Watching l other (rest_after w (rest_in (place_in e.watches.table r))))
+moved e w r other l = with_attachment (with_rows e (pushed e.watches.rows l (entry_of r other))) r
+    (Watching l other (rest_after w (rest_in (attachment_in e.watches.table r))))
 
 -- the clause watches both
 abbrev pub watched : EngineState → ℕ → Literal → Literal → Rest → EngineState
-watched e r one other rest = with_place (with_rows e (pushed (pushed e.watches.rows one (entry_of r other)) other (entry_of r one))) r (Watching one other rest)
+watched e r one other rest = with_attachment (with_rows e
+    (pushed (pushed e.watches.rows one (entry_of r other)) other (entry_of r one))) r
+    (Watching one other rest)
 
 -- the table has a place for the clause
-abbrev pub grown_table : List Place → ℕ → List Place
+abbrev pub grown_table : List Attachment → ℕ → List Attachment
 grown_table t r = t ++ replicate (r + 1 - length t) Detached
 
 -- the clause waits
 abbrev pub enlisted : EngineState → ℕ → EngineState
-enlisted e r = record e { watches = record e.watches { table = slice_set (grown_table e.watches.table r) r Waiting; waiting = e.watches.waiting ++ r ∷ [] } }
+enlisted e r = record e {
+  watches = record e.watches {
+    table = slice_set (grown_table e.watches.table r) r Waiting;
+    waiting = e.watches.waiting ++ r ∷ [];
+  };
+}
 
 -- the trail grows by literals with reasons, and nothing else that a caller sees changes
 pub record Continues (old new : EngineState) : Type 0 where
@@ -64,28 +77,32 @@ pub record Continues (old new : EngineState) : Type 0 where
   pub variables : new.variables ≡ old.variables
   pub failed : new.failed ≡ old.failed
   pub attached : SameAttached old new
-  pub waiting : (r : ℕ) → place_in new.watches.table r ≡ Waiting → place_in old.watches.table r ≡ Waiting
+  pub waiting : (r : ℕ) → attachment_in new.watches.table r ≡ Waiting
+      → attachment_in old.watches.table r ≡ Waiting
 
-abbrev pub IsWatchedBy : Place → Literal → Literal → Type 0
+abbrev pub IsWatchedBy : Attachment → Literal → Literal → Type 0
 IsWatchedBy p one other = IsWatching p one other ⊎ IsWatching p other one
 
 -- where the clause waits, it is true
 abbrev pub IsTrueWaiting : Slots → EngineState → ℕ → Type 0
-IsTrueWaiting slots e r = (c : List Literal) → place_in e.watches.table r ≡ Waiting → clause_at slots r ≡ Some c → HasTrue c (literals_of e.trail)
+IsTrueWaiting slots e r = (c : List Literal) → attachment_in e.watches.table r ≡ Waiting
+    → clause_at slots r ≡ Some c → HasTrue c (literals_of e.trail)
 
 -- each clause that waits is true
 abbrev pub AreTrueWaiting : Slots → EngineState → Type 0
 AreTrueWaiting slots e = (r : ℕ) → IsTrueWaiting slots e r
 
-abbrev pub is_waiting : Place → Bool
+abbrev pub is_waiting : Attachment → Bool
 is_waiting Waiting = true
 is_waiting Detached = false
-is_waiting Resting = false
+is_waiting Satisfied = false
 is_waiting (Watching one other rest) = false
 
 -- an open literal becomes true by a clause, and one that has a value stays
 abbrev pub IsMadeTrue : EngineState → EngineState → Literal → ℕ → Type 0
-IsMadeTrue old new l r = ((value_in old.trail l ≡ None) × (0 < l.variable) × (new ≡ with_trail old (old.trail ++ record { literal = l; reason = Some r } ∷ []))) ⊎ ((value_in old.trail l ≢ None) × (new ≡ old))
+IsMadeTrue old new l r = ((value_in old.trail l ≡ None) × (0 < l.variable)
+    × (new ≡ with_trail old (old.trail ++ record { literal = l; reason = Some r } ∷ [])))
+    ⊎ ((value_in old.trail l ≢ None) × (new ≡ old))
 
 -- the clause of the entry is true
 abbrev pub IsTrueEntry : Slots → List Literal → Entry → Type 0
@@ -102,35 +119,41 @@ pub record IsWatched (slots : Slots) (e : EngineState) (w : Literal) (entry : En
   pub within : IsWithin e.variables clause
   pub blocker : contains_literal entry.blocker clause ≡ true
   pub other : Literal
-  pub place : IsWatchedBy (place_in e.watches.table entry.reference) w other
+  pub attachment : IsWatchedBy (attachment_in e.watches.table entry.reference) w other
   pub apart : w ≢ other
   pub member : contains_literal other clause ≡ true
-  pub rest : IsRest clause w other (rest_in (place_in e.watches.table entry.reference))
+  pub rest : IsRest clause w other (rest_in (attachment_in e.watches.table entry.reference))
   pub falsified : contains_literal (negation w) (literals_of e.trail) ≡ true
 
 -- what a look at the clause of an entry tells
 abbrev pub IsTrueIn : Slots → EngineState → ℕ → Literal → Type 0
-IsTrueIn slots e r l = (c : List Literal) → clause_at slots r ≡ Some c → (contains_literal l c ≡ true) × (contains_literal l (literals_of e.trail) ≡ true)
+IsTrueIn slots e r l = (c : List Literal) → clause_at slots r ≡ Some c
+    → (contains_literal l c ≡ true) × (contains_literal l (literals_of e.trail) ≡ true)
 
 abbrev pub MayBeWatched : Slots → EngineState → ℕ → Literal → Type 0
-MayBeWatched slots e r l = (value_in e.trail l ≢ Some false) × ((c : List Literal) → clause_at slots r ≡ Some c → contains_literal l c ≡ true)
+MayBeWatched slots e r l = (value_in e.trail l ≢ Some false)
+    × ((c : List Literal) → clause_at slots r ≡ Some c → contains_literal l c ≡ true)
 
 abbrev pub IsUnitIn : Slots → EngineState → ℕ → Literal → Type 0
-IsUnitIn slots e r l = (value_in e.trail l ≡ None) × (l.variable ≤ e.variables) × ((c : List Literal) → clause_at slots r ≡ Some c → IsUnit c (literals_of e.trail) l)
+IsUnitIn slots e r l = (value_in e.trail l ≡ None) × (l.variable ≤ e.variables)
+    × ((c : List Literal) → clause_at slots r ≡ Some c → IsUnit c (literals_of e.trail) l)
 
 abbrev pub IsFalseIn : Slots → EngineState → ℕ → Type 0
-IsFalseIn slots e r = (c : List Literal) → clause_at slots r ≡ Some c → IsFalseUnder c (literals_of e.trail)
+IsFalseIn slots e r = (c : List Literal) → clause_at slots r ≡ Some c
+    → IsFalseUnder c (literals_of e.trail)
 
 -- all literals but one are false
 abbrev pub LeavesOne : Slots → EngineState → ℕ → Literal → Type 0
-LeavesOne slots e r o = (c : List Literal) → clause_at slots r ≡ Some c → AllByRecursion (λ l. (l ≡ o) ⊎ (contains_literal (negation l) (literals_of e.trail) ≡ true)) c
+LeavesOne slots e r o = (c : List Literal) → clause_at slots r ≡ Some c
+    → AllByRecursion (λ l. (l ≡ o) ⊎ (contains_literal (negation l) (literals_of e.trail) ≡ true)) c
 
 -- a row that is being filtered: what it keeps is true
 pub record InRow (slots : Slots) (e : EngineState) (w : Literal) (write read : ℕ) : Type 0 where
   pub fits : Fits (closed e (index_of w) write read) slots
   pub waiting : AreTrueWaiting slots e
   pub falsified : contains_literal (negation w) (literals_of e.trail) ≡ true
-  pub named : IsVariable e.variables w
-  pub kept : AllByRecursion (IsTrueEntry slots (literals_of e.trail)) (take write (row_at e.watches.rows (index_of w)))
+  pub in_range : IsVariable e.variables w
+  pub kept : AllByRecursion (IsTrueEntry slots (literals_of e.trail))
+      (take write (row_at e.watches.rows (index_of w)))
   pub order : write ≤ read
   pub within : read ≤ length (row_at e.watches.rows (index_of w))

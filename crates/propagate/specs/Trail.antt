@@ -1,5 +1,6 @@
 -- The trail: the literals that are true, in the order in which they became so.
-use Rattle.std.specs.Prelude.{◌≡◌, ℕ, ◌+◌, Bool, true, false, List, [], ◌∷◌, map, Option, Some, None, is_none, ◌==◌, nat_le, if◌then◌else◌, count_by}
+use Rattle.std.specs.Prelude.{◌≡◌, ℕ, ◌+◌, Bool, true, false, List, [], ◌∷◌, map, Option, Some}
+use Rattle.std.specs.Prelude.{None, is_none, ◌==◌, nat_le, if◌then◌else◌, count_by}
 use Rattle.wcnf.specs.Literal.{Literal, negation}
 use Rattle.wcnf.specs.Clause.{contains_literal}
 use Rattle.wcnf.specs.Refute.{Clauses, IsUnit}
@@ -29,7 +30,8 @@ level_after level a = if is_decision a then level + 1 else level
 -- the decisions up to the variable's literal, where it has one
 abbrev pub level_from : ℕ → List Assigned → ℕ → Option ℕ
 level_from level [] v = None
-level_from level (a ∷ trail) v = if a.literal.variable == v then Some (level_after level a) else level_from (level_after level a) trail v
+level_from level (a ∷ trail) v = if a.literal.variable == v then Some (level_after level a)
+    else level_from (level_after level a) trail v
 
 abbrev pub level_in : List Assigned → ℕ → Option ℕ
 level_in trail v = level_from 0 trail v
@@ -37,7 +39,8 @@ level_in trail v = level_from 0 trail v
 -- how many literals stand before the variable's, where it has one
 abbrev pub position_from : ℕ → List Assigned → ℕ → Option ℕ
 position_from n [] v = None
-position_from n (a ∷ trail) v = if a.literal.variable == v then Some n else position_from (n + 1) trail v
+position_from n (a ∷ trail) v = if a.literal.variable == v then Some n else position_from (n + 1)
+    trail v
 
 abbrev pub position_in : List Assigned → ℕ → Option ℕ
 position_in trail v = position_from 0 trail v
@@ -56,7 +59,8 @@ value_in trail l =
 -- the trail up to the end of a level
 abbrev pub kept_from : ℕ → ℕ → List Assigned → List Assigned
 kept_from level to [] = []
-kept_from level to (a ∷ trail) = if nat_le (level_after level a) to then a ∷ kept_from (level_after level a) to trail else []
+kept_from level to (a ∷ trail) = if nat_le (level_after level a) to then a
+    ∷ kept_from (level_after level a) to trail else []
 
 abbrev pub kept_to : ℕ → List Assigned → List Assigned
 kept_to to trail = kept_from 0 to trail
@@ -69,4 +73,5 @@ IsJustified at A l (Some r) = (c : List Literal) × (at r ≡ Some c) × IsUnit 
 -- the same of each literal after A
 abbrev pub HasReasons : Clauses → List Literal → List Assigned → Type 0
 HasReasons at A [] = Unit {0}
-HasReasons at A (a ∷ trail) = IsJustified at A a.literal a.reason × HasReasons at (a.literal ∷ A) trail
+HasReasons at A (a ∷ trail) = IsJustified at A a.literal a.reason
+    × HasReasons at (a.literal ∷ A) trail

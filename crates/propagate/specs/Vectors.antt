@@ -1,11 +1,12 @@
 -- A worked trail: 1 is decided, 2 follows by the clause 0 and 3 by the clause 1.
 use Rattle.std.specs.Prelude.{◌≡◌, ℕ, true, false, List, [], ◌∷◌, Some, None, refl}
 use Rattle.wcnf.specs.Literal.{Literal}
-use Rattle.propagate.specs.declared.table.Place.TheVariants.{Detached, Waiting, Watching}
+use Rattle.propagate.specs.declared.table.Attachment.TheVariants.{Detached, Waiting, Watching}
 use Rattle.propagate.specs.declared.table.Rest.TheVariants.{Nothing}
 use Rattle.propagate.specs.Watches.{EngineState, engine_state, is_attached}
 use Rattle.propagate.specs.Tables.{assigned_by}
-use Rattle.propagate.specs.Trail.{Assigned, TrailState, literals_of, depth_of, level_in, reason_in, position_in, value_in, kept_to}
+use Rattle.propagate.specs.Trail.{Assigned, TrailState, literals_of, depth_of, level_in, reason_in}
+use Rattle.propagate.specs.Trail.{position_in, value_in, kept_to}
 
 abbrev p : ℕ → Literal
 p n = record { variable = n; negated = false }
@@ -14,7 +15,8 @@ abbrev n : ℕ → Literal
 n v = record { variable = v; negated = true }
 
 abbrev trail : List Assigned
-trail = record { literal = n 9; reason = Some 7 } ∷ record { literal = p 1; reason = None } ∷ record { literal = p 2; reason = Some 0 } ∷ record { literal = p 3; reason = Some 1 } ∷ []
+trail = record { literal = n 9; reason = Some 7 } ∷ record { literal = p 1; reason = None }
+    ∷ record { literal = p 2; reason = Some 0 } ∷ record { literal = p 3; reason = Some 1 } ∷ []
 
 depth : depth_of trail ≡ 1
 depth = refl
@@ -54,7 +56,8 @@ two : TrailState
 two = record { variables = 3; assigned = assigned_by (None ∷ None ∷ Some 2 ∷ []) (p 1 ∷ p 2 ∷ []) }
 
 engine : EngineState
-engine = engine_state two (Detached ∷ Waiting ∷ Watching (p 2) (n 3) Nothing ∷ []) [] (1 ∷ []) 0 0 false
+engine = engine_state two (Detached ∷ Waiting ∷ Watching (p 2) (n 3) Nothing ∷ []) [] (1 ∷ []) 0 0
+    false
 
 detached : is_attached engine 0 ≡ false
 unfolding engine two
@@ -72,6 +75,7 @@ beyond : is_attached engine 3 ≡ false
 unfolding engine two
 beyond = refl
 
-assigned : engine.trail ≡ record { literal = p 1; reason = None } ∷ record { literal = p 2; reason = Some 2 } ∷ []
+assigned : engine.trail ≡ record { literal = p 1; reason = None }
+    ∷ record { literal = p 2; reason = Some 2 } ∷ []
 unfolding engine two
 assigned = refl

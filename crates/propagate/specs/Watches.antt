@@ -1,24 +1,26 @@
 -- How an engine keeps the clauses that are attached to it.
-use Rattle.std.specs.Prelude.{◌≡◌, ℕ, ◌*◌, ◌+◌, ◌<◌, ◌≤◌, Bool, true, false, List, length, slice_index_or, ◌==◌, if◌then◌else◌, count_by}
+use Rattle.std.specs.Prelude.{◌≡◌, ℕ, ◌*◌, ◌+◌, ◌<◌, ◌≤◌, Bool, true, false, List, length}
+use Rattle.std.specs.Prelude.{slice_index_or, ◌==◌, if◌then◌else◌, count_by}
 use Rattle.wcnf.specs.Literal.{Literal, index_of}
 use Rattle.propagate.specs.declared.pool.Entry.{Entry}
-use Rattle.propagate.specs.declared.table.Place.{Place}
-use Rattle.propagate.specs.declared.table.Place.TheVariants.{Detached, Waiting, Resting, Watching}
+use Rattle.propagate.specs.declared.table.Attachment.{Attachment}
+use Rattle.propagate.specs.declared.table.Attachment.TheVariants.{Detached, Waiting, Satisfied}
+use Rattle.propagate.specs.declared.table.Attachment.TheVariants.{Watching}
 use Rattle.propagate.specs.declared.table.Rest.{Rest}
 use Rattle.propagate.specs.declared.table.Rest.TheVariants.{Many}
 use Rattle.propagate.specs.Trail.{Assigned, TrailState}
 
 pub record Watches : Type 0 where
   -- for each reference, whether it is attached, and its two watches
-  pub table : List Place
+  pub table : List Attachment
   -- for each literal, the clauses that watch it
   pub rows : List (List Entry)
   -- the clauses without watches that are to be looked at, and others
   pub waiting : List ℕ
   -- how much of the trail was looked at, at its levels' ends too
-  pub settled : ℕ
+  pub stable_qhead : ℕ
   -- how much of the trail was looked at
-  pub processed : ℕ
+  pub qhead : ℕ
 
 pub record EngineState : Type 0 where
   pub variables : ℕ
@@ -26,35 +28,43 @@ pub record EngineState : Type 0 where
   pub failed : Bool
   pub watches : Watches
 
-abbrev pub engine_state : TrailState → List Place → List (List Entry) → List ℕ → ℕ → ℕ → Bool → EngineState
-engine_state trail table rows waiting settled processed failed = record {
+abbrev pub engine_state : TrailState → List Attachment → List (List Entry) → List ℕ → ℕ → ℕ → Bool
+    → EngineState
+engine_state trail table rows waiting stable_qhead qhead failed = record {
   variables = trail.variables;
   trail = trail.assigned;
   failed = failed;
-  watches = record { table = table; rows = rows; waiting = waiting; settled = settled; processed = processed };
+  watches = record {
+    table = table;
+    rows = rows;
+    waiting = waiting;
+    stable_qhead =
+        stable_qhead;
+    qhead = qhead;
+  };
 }
 
-abbrev pub place_in : List Place → ℕ → Place
-place_in table r = slice_index_or table r Detached
+abbrev pub attachment_in : List Attachment → ℕ → Attachment
+attachment_in table r = slice_index_or table r Detached
 
-abbrev pub is_kept : Place → Bool
+abbrev pub is_kept : Attachment → Bool
 is_kept Detached = false
 is_kept Waiting = true
-is_kept Resting = true
+is_kept Satisfied = true
 is_kept (Watching one other rest) = true
 
 -- what a clause has beside its watches
-abbrev pub rest_in : Place → Rest
+abbrev pub rest_in : Attachment → Rest
 rest_in Detached = Many
 rest_in Waiting = Many
-rest_in Resting = Many
+rest_in Satisfied = Many
 rest_in (Watching one other rest) = rest
 
-abbrev pub IsWatching : Place → Literal → Literal → Type 0
+abbrev pub IsWatching : Attachment → Literal → Literal → Type 0
 IsWatching p one other = p ≡ Watching one other (rest_in p)
 
 abbrev pub is_attached : EngineState → ℕ → Bool
-is_attached e r = is_kept (place_in e.watches.table r)
+is_attached e r = is_kept (attachment_in e.watches.table r)
 
 -- the same clauses are attached
 abbrev pub SameAttached : EngineState → EngineState → Type 0
@@ -62,7 +72,8 @@ SameAttached old new = (r : ℕ) → is_attached new r ≡ is_attached old r
 
 -- r is attached or not, and all others as before
 abbrev pub SetsAttached : EngineState → EngineState → ℕ → Bool → Type 0
-SetsAttached old new r attached = (is_attached new r ≡ attached) × ((q : ℕ) → (q ≡ r → ⊥) → is_attached new q ≡ is_attached old q)
+SetsAttached old new r attached = (is_attached new r ≡ attached)
+    × ((q : ℕ) → (q ≡ r → ⊥) → is_attached new q ≡ is_attached old q)
 
 abbrev pub IsVariable : ℕ → Literal → Type 0
 IsVariable variables l = (0 < l.variable) × (l.variable ≤ variables)
@@ -75,15 +86,17 @@ abbrev pub one_at : ℕ → ℕ → ℕ
 one_at i j = if i == j then 1 else 0
 
 -- how often a clause in this place stands in a row
-abbrev pub watches_at : Place → ℕ → ℕ
+abbrev pub watches_at : Attachment → ℕ → ℕ
 watches_at Detached i = 0
 watches_at Waiting i = 0
-watches_at Resting i = 0
+watches_at Satisfied i = 0
 watches_at (Watching one other rest) i = one_at (index_of one) i + one_at (index_of other) i
 
 -- what holds of an engine between its calls
 pub record IsEngine (e : EngineState) : Type 0 where
   pub rows : length e.watches.rows ≡ 2 * e.variables
-  pub watching : (r : ℕ) (one other : Literal) → IsWatching (place_in e.watches.table r) one other → IsVariable e.variables one × IsVariable e.variables other
-  pub settled : e.watches.settled ≤ e.watches.processed
-  pub processed : e.watches.processed ≤ length e.trail
+  pub watching : (r : ℕ) (one other : Literal)
+      → IsWatching (attachment_in e.watches.table r) one other → IsVariable e.variables one
+      × IsVariable e.variables other
+  pub stable_qhead : e.watches.stable_qhead ≤ e.watches.qhead
+  pub qhead : e.watches.qhead ≤ length e.trail

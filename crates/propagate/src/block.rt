@@ -1,6 +1,7 @@
 // A list of entries in one block of memory, all of whose places are filled.
-ghost use Rattle.std.specs.Prelude.{◌≡◌, ℕ, ◌+◌, ◌^◌, ◌<◌, ◌≤◌, [], length, get_or, slice_set, replicate, IfOk};
-ghost use Rattle.propagate.specs.Blocks.{no_entry};
+ghost use Rattle.std.specs.Prelude.{◌≡◌, ℕ, ◌+◌, ◌^◌, ◌<◌, ◌≤◌, [], length, get_or, slice_set};
+ghost use Rattle.std.specs.Prelude.{replicate, IfOk};
+ghost use Rattle.propagate.specs.Block.{no_entry};
 
 use crate::pool::Entry;
 use std::alloc::{AllocError, Global};
@@ -9,6 +10,7 @@ use std::marker::Model;
 /// As many entries as were asked for.
 #[derive(Drop)]
 pub(crate) struct Block {
+    // As many as were asked for: it never grows.
     entries: Vec<Entry>,
 }
 
@@ -67,7 +69,8 @@ impl Block {
         requires small { to + count < 2 ^ 64 }
         ensures long { length self.new ≡ length self.old }
         ensures kept { (k : ℕ) → k < to → get_or self.new k no_entry ≡ get_or self.old k no_entry }
-        ensures copied { (k : ℕ) → k < count → get_or self.new (to + k) no_entry ≡ get_or self.old (from + k) no_entry }
+        ensures copied { (k : ℕ) → k < count → get_or self.new (to + k) no_entry
+            ≡ get_or self.old (from + k) no_entry }
     {
         for place in 0..count {
             let entry = self.get(from + place);

@@ -1,8 +1,11 @@
 // The trail and the clauses that are attached to it.
-ghost use Rattle.std.specs.Prelude.{◌≡◌, ℕ, ◌+◌, ◌<◌, ◌≤◌, Bool, true, false, List, [], ◌∷◌, ◌++◌, Some, None, length, map, All, Contains, OnOk, OnErr, IfOk, IfSome, IfNone, IsErr, ◌↔◌};
+ghost use Rattle.std.specs.Prelude.{◌≡◌, ℕ, ◌+◌, ◌<◌, ◌≤◌, Bool, true, false, List, [], ◌∷◌, ◌++◌};
+ghost use Rattle.std.specs.Prelude.{Some, None, length, map, All, Contains, OnOk, OnErr, IfOk};
+ghost use Rattle.std.specs.Prelude.{IfSome, IfNone, IsErr, ◌↔◌};
 ghost use Rattle.clauses.specs.Slots.{Slots, IsLive, clause_at};
-ghost use Rattle.propagate.specs.Trail.{literals_of, depth_of, value_in, level_in, position_in, reason_in, kept_to};
-ghost use Rattle.propagate.specs.Watches.{is_attached, place_in, SameAttached, SetsAttached};
+ghost use Rattle.propagate.specs.Trail.{literals_of, depth_of, value_in, level_in, position_in};
+ghost use Rattle.propagate.specs.Trail.{reason_in, kept_to};
+ghost use Rattle.propagate.specs.Watches.{is_attached, attachment_in, SameAttached, SetsAttached};
 ghost use Rattle.propagate.specs.Steps.{enlisted, with_trail, Continues, IsConflict};
 ghost use Rattle.propagate.specs.Fits.{Fits, IsWithin, GrowsByUnits, IsFalseClause, IsComplete};
 
@@ -13,7 +16,7 @@ mod renaming;
 mod waiting;
 
 use crate::pool::WatchPool;
-use crate::table::{Place, Table};
+use crate::table::{Attachment, Table};
 use crate::trail::Trail;
 use clauses::store::{CRef, Store};
 use std::alloc::{AllocError, Global};
@@ -25,26 +28,36 @@ use wcnf::types::Lit;
 pub enum EngineFault {
     /// A growth was refused in this call. The engine has failed from then on.
     Memory,
-    /// An earlier call answered `Memory`. It is answered then by each later call that can, and never else.
+    /// An earlier call answered `Memory`. It is answered then by each later call that can, and
+    /// never else.
     Failed,
 }
 
-/// Keeps the trail of the literals that are true, and makes true what the attached clauses leave no choice on: unit
-/// propagation (Handbook of Satisfiability, chapter 4) by two watched literals a clause (Moskewicz et al. 2001), each
-/// entry with another literal of its clause beside it, as in MiniSat 2.1 (Sörensson and Eén 2008).
+/// Keeps the trail of the literals that are true, and makes true what the attached clauses leave no
+/// choice on: unit propagation (Handbook of Satisfiability, chapter 4) by two watched literals a
+/// clause (Moskewicz et al. 2001), each entry with another literal of its clause beside it, as in
+/// MiniSat 2.1 (Sörensson and Eén 2008).
 ///
-/// It serves any order of calls: a clause may be attached while it is unit or false, and a literal may be decided before
-/// propagation has finished.
+/// It serves any order of calls: a clause may be attached while it is unit or false, and a literal
+/// may be decided before propagation has finished.
 #[derive(Drop)]
 pub struct Engine {
+    // The literals that are true, with levels, positions and reasons, over at most 2^32 - 2
+    // variables.
     trail: Trail,
-    // By reference.
+    // By reference, whether the clause is attached, and what it watches; shorter than the store
+    // where the clauses at the end were never attached.
     table: Table,
-    // By literal, the clauses that watch it.
+    // By literal, the clauses that watch it: two rows for each variable.
     pool: WatchPool,
+    // The clauses that were attached and are to get watches, and others that need none any more.
     waiting: Vec<CRef>,
-    settled: usize,
-    processed: usize,
+    // How many literals of the trail were propagated, also after any levels are undone; at most
+    // `qhead`.
+    stable_qhead: usize,
+    // How many literals of the trail were propagated; at most the trail's length.
+    qhead: usize,
+    // Whether a growth was refused. It stays so.
     failed: bool,
 }
 
@@ -53,9 +66,11 @@ impl Model for Engine {
 
     ghost Value = { EngineState };
 
-    ghost view = { λ e. engine_state e.trail e.table e.pool e.waiting.items e.settled e.processed e.failed };
+    ghost view = { λ e. engine_state e.trail e.table e.pool e.waiting.items e.stable_qhead e.qhead
+        e.failed };
 
-    ghost invariant = { λ e. IsEngine (engine_state e.trail e.table e.pool e.waiting.items e.settled e.processed e.failed) };
+    ghost invariant = { λ e. IsEngine (engine_state e.trail e.table e.pool e.waiting.items
+        e.stable_qhead e.qhead e.failed) };
 }
 
 impl Engine {
@@ -65,7 +80,8 @@ impl Engine {
     ///
     /// `AllocError` where memory was refused; for 2^32 - 1 variables it always is.
     pub fn new(alloc: Global, vars: u32) -> Result<Self, AllocError>
-        ensures empty { IfOk result (λ e. (e.variables ≡ vars) × (e.trail ≡ []) × (e.failed ≡ false)) }
+        ensures empty { IfOk result (λ e. (e.variables ≡ vars) × (e.trail ≡ [])
+            × (e.failed ≡ false)) }
         ensures fits { IfOk result (λ e. (slots : Slots) → Fits e slots) }
         ensures unattached { IfOk result (λ e. (r : ℕ) → is_attached e r ≡ false) }
     {
@@ -76,8 +92,8 @@ impl Engine {
             table: Table::new(alloc),
             pool,
             waiting: Vec::new(alloc),
-            settled: 0,
-            processed: 0,
+            stable_qhead: 0,
+            qhead: 0,
             failed: false,
         })
     }
@@ -97,19 +113,22 @@ impl Engine {
         self.trail.value(lit)
     }
 
-    /// From now on `propagate` looks at the clause, which may be unit or false already, and may have any number of literals.
+    /// From now on `propagate` looks at the clause, which may be unit or false already, and may
+    /// have any number of literals.
     ///
     /// # Errors
     ///
-    /// `Memory` where a growth was refused: the clause is not attached, and the engine has failed. `Failed` where it had
-    /// failed before.
+    /// `Memory` where a growth was refused: the clause is not attached, and the engine has failed.
+    /// `Failed` where it had failed before.
     pub fn attach(&mut self, store: &Store, reference: CRef) -> Result<(), EngineFault>
         requires fits { Fits self.old store.now.slots }
         requires live { IsLive store.now.slots reference }
-        requires small { IfSome (clause_at store.now.slots reference) (IsWithin self.old.variables) }
+        requires small { IfSome (clause_at store.now.slots reference)
+            (IsWithin self.old.variables) }
         requires once { is_attached self.old reference ≡ false }
         ensures attached { OnOk result (SetsAttached self.old self.new reference true) }
-        ensures trail { OnOk result ((self.new.trail ≡ self.old.trail) × (self.new.variables ≡ self.old.variables)) }
+        ensures trail { OnOk result ((self.new.trail ≡ self.old.trail)
+            × (self.new.variables ≡ self.old.variables)) }
         ensures fits { OnOk result (Fits self.new store.now.slots) }
         ensures err { OnErr result (self.new ≡ record self.old { failed = true }) }
         ensures failed { (result ≡ Err EngineFault.Failed) ↔ (self.old.failed ≡ true) }
@@ -133,16 +152,17 @@ impl Engine {
         requires attached { is_attached self.old reference ≡ true }
         requires no_reason { All (λ a. a.reason ≡ Some reference → ⊥) self.old.trail }
         ensures detached { SetsAttached self.old self.new reference false }
-        ensures same { (self.new.trail ≡ self.old.trail) × (self.new.variables ≡ self.old.variables) × (self.new.failed ≡ self.old.failed) }
+        ensures same { (self.new.trail ≡ self.old.trail) × (self.new.variables ≡ self.old.variables)
+            × (self.new.failed ≡ self.old.failed) }
         ensures fits { (slots : Slots) → Fits self.old slots → Fits self.new slots }
     {
-        let place = self.place(reference);
-        self.table.set(reference.index(), Place::Detached);
-        match place {
-            Place::Detached => {}
-            Place::Waiting => self.waiting.retain(|r| *r != reference),
-            Place::Resting => {}
-            Place::Watching(one, other, _) => {
+        let attachment = self.attachment(reference);
+        self.table.set(reference.index(), Attachment::Detached);
+        match attachment {
+            Attachment::Detached => {}
+            Attachment::Waiting => self.waiting.retain(|r| *r != reference),
+            Attachment::Satisfied => {}
+            Attachment::Watching(one, other, _) => {
                 self.pool.remove(one.index(), reference);
                 self.pool.remove(other.index(), reference);
             }
@@ -153,30 +173,35 @@ impl Engine {
     pub fn decide(&mut self, lit: Lit)
         requires small { lit.variable ≤ self.old.variables }
         requires open { value_in self.old.trail lit ≡ None }
-        ensures trail { self.new.trail ≡ self.old.trail ++ record { literal = lit; reason = None } ∷ [] }
+        ensures trail { self.new.trail ≡ self.old.trail ++ record { literal = lit; reason = None }
+            ∷ [] }
         ensures attached { SameAttached self.old self.new }
-        ensures same { (self.new.variables ≡ self.old.variables) × (self.new.failed ≡ self.old.failed) }
+        ensures same { (self.new.variables ≡ self.old.variables)
+            × (self.new.failed ≡ self.old.failed) }
         ensures fits { (slots : Slots) → Fits self.old slots → Fits self.new slots }
     {
         self.promote();
         self.trail.push(lit, None);
     }
 
-    /// Keeps the literals of the levels up to `level`, at the cost of those that it undoes. It takes no memory.
+    /// Keeps the literals of the levels up to `level`, at the cost of those that it undoes. It
+    /// takes no memory.
     pub fn backtrack(&mut self, level: u32)
         requires { level ≤ depth_of self.old.trail }
         ensures trail { self.new.trail ≡ kept_to level self.old.trail }
         ensures attached { SameAttached self.old self.new }
-        ensures same { (self.new.variables ≡ self.old.variables) × (self.new.failed ≡ self.old.failed) }
+        ensures same { (self.new.variables ≡ self.old.variables)
+            × (self.new.failed ≡ self.old.failed) }
         ensures fits { (slots : Slots) → Fits self.old slots → Fits self.new slots }
     {
         self.promote();
         self.trail.backtrack(level);
-        self.settled = self.settled.min(self.trail.len());
-        self.processed = self.settled;
+        self.stable_qhead = self.stable_qhead.min(self.trail.len());
+        self.qhead = self.stable_qhead;
     }
 
-    /// The level of a variable that has a value, from 0: the number of decisions up to it. In constant time.
+    /// The level of a variable that has a value, from 0: the number of decisions up to it. In
+    /// constant time.
     pub fn level(&self, variable: u32) -> Option<u32>
         requires { variable ≤ self.now.variables }
         ensures { result ≡ level_in self.now.trail variable }
@@ -184,7 +209,8 @@ impl Engine {
         self.trail.level(variable)
     }
 
-    /// How many literals stand before that of a variable on the trail, where it has a value. In constant time.
+    /// How many literals stand before that of a variable on the trail, where it has a value. In
+    /// constant time.
     pub fn position(&self, variable: u32) -> Option<u32>
         requires { variable ≤ self.now.variables }
         ensures { result ≡ position_in self.now.trail variable }
@@ -222,18 +248,21 @@ impl Engine {
         self.trail.depth()
     }
 
-    /// Makes true what is left, and answers an attached clause that is false, or none: then no attached clause is false or
-    /// unit. What became true stands at the end of the trail, at the current level.
+    /// Makes true what is left, and answers an attached clause that is false, or none: then no
+    /// attached clause is false or unit. What became true stands at the end of the trail, at the
+    /// current level.
     ///
     /// # Errors
     ///
-    /// `Memory` where a growth was refused: the engine has failed, and still belongs to the store. `Failed` where it had
-    /// failed before: nothing has changed.
+    /// `Memory` where a growth was refused: the engine has failed, and still belongs to the store.
+    /// `Failed` where it had failed before: nothing has changed.
     pub fn propagate(&mut self, store: &Store) -> Result<Option<CRef>, EngineFault>
         requires fits { Fits self.old store.now.slots }
         ensures grows { GrowsByUnits store.now.slots self.old self.new }
-        ensures conflict { IfOk result (λ found. IfSome found (λ r. (is_attached self.new r ≡ true) × IsFalseClause store.now.slots self.new r)) }
-        ensures complete { IfOk result (λ found. IfNone found (IsComplete store.now.slots (is_attached self.new) self.new.trail)) }
+        ensures conflict { IfOk result (λ found. IfSome found
+            (λ r. (is_attached self.new r ≡ true) × IsFalseClause store.now.slots self.new r)) }
+        ensures complete { IfOk result (λ found. IfNone found
+            (IsComplete store.now.slots (is_attached self.new) self.new.trail)) }
         ensures attached { SameAttached self.old self.new }
         ensures same { self.new.variables ≡ self.old.variables }
         ensures fits { Fits self.new store.now.slots }
@@ -263,25 +292,27 @@ impl Engine {
             self.table.truncate(len);
             return Err(AllocError);
         }
-        self.table.set(reference.index(), Place::Waiting);
+        self.table.set(reference.index(), Attachment::Waiting);
         Ok(())
     }
 
-    /// Where the trail past `settled` is of the current level, what was looked at stays so when levels are undone.
+    /// Where the trail past `stable_qhead` is of the current level, what was propagated stays so
+    /// when levels are undone.
     fn promote(&mut self)
-        ensures shape { self.new ≡ record self.old { watches = record self.old.watches { settled = self.new.watches.settled } } }
+        ensures shape { self.new ≡ record self.old
+            { watches = record self.old.watches { stable_qhead = self.new.watches.stable_qhead } } }
         ensures fits { (slots : Slots) → Fits self.old slots → Fits self.new slots }
     {
-        if self.settled < self.processed {
-            let lit = self.trail.literals()[self.settled];
+        if self.stable_qhead < self.qhead {
+            let lit = self.trail.literals()[self.stable_qhead];
             if self.trail.level(lit.variable()) == Some(self.trail.depth()) {
-                self.settled = self.processed;
+                self.stable_qhead = self.qhead;
             }
         }
     }
 
-    fn place(&self, reference: CRef) -> Place
-        ensures { result ≡ place_in self.now.watches.table reference }
+    fn attachment(&self, reference: CRef) -> Attachment
+        ensures { result ≡ attachment_in self.now.watches.table reference }
     {
         self.table.get(reference.index())
     }
@@ -290,7 +321,8 @@ impl Engine {
     fn imply(&mut self, lit: Lit, reference: CRef)
         requires small { lit.variable ≤ self.old.variables }
         requires open { value_in self.old.trail lit ≡ None }
-        ensures pushed { self.new ≡ with_trail self.old (self.old.trail ++ record { literal = lit; reason = Some reference } ∷ []) }
+        ensures pushed { self.new ≡ with_trail self.old
+            (self.old.trail ++ record { literal = lit; reason = Some reference } ∷ []) }
         ensures from_one { 0 < lit.variable }
     {
         self.trail.push(lit, Some(reference));
@@ -301,8 +333,10 @@ impl Engine {
         requires { Fits self.old store.now.slots }
         ensures continues { Continues self.old self.new }
         ensures fits { Fits self.new store.now.slots }
-        ensures conflict { IfOk result (λ found. IfSome found (IsConflict store.now.slots self.new)) }
-        ensures complete { IfOk result (λ found. IfNone found (IsComplete store.now.slots (is_attached self.new) self.new.trail)) }
+        ensures conflict { IfOk result (λ found. IfSome found
+            (IsConflict store.now.slots self.new)) }
+        ensures complete { IfOk result (λ found. IfNone found
+            (IsComplete store.now.slots (is_attached self.new) self.new.trail)) }
     {
         match self.look_at_waiting(store)? {
             Some(conflict) => Ok(Some(conflict)),

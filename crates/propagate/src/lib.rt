@@ -4,10 +4,10 @@
 mod block;
 mod doomed;
 pub mod engine;
-mod marks;
 mod names;
 pub mod pool;
 mod search;
 mod table;
 mod trail;
 mod truth;
+mod vardata;

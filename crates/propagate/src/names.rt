@@ -1,15 +1,15 @@
 // The new references of clauses, and the tables that follow them.
 ghost use Rattle.std.specs.Prelude.{◌≡◌, ◌≤◌, All, map};
 ghost use Rattle.std.specs.List.Sorted.{IsStrictlyIncreasing};
-ghost use Rattle.propagate.specs.Watches.{place_in};
+ghost use Rattle.propagate.specs.Watches.{attachment_in};
 ghost use Rattle.propagate.specs.Renames.{named, named_entry, named_reason, IsMoved};
 
 use crate::pool::Entry;
-use crate::table::{Place, Table};
+use crate::table::{Attachment, Table};
 use clauses::store::{CRef, Moves};
 
 /// The new reference of a clause; one that was not kept stays as it is.
-pub(crate) fn new_name(moves: &Moves, reference: CRef) -> CRef
+pub(crate) fn new_reference(moves: &Moves, reference: CRef) -> CRef
     ensures { result ≡ named moves.now reference }
 {
     match moves.to(reference) {
@@ -23,7 +23,7 @@ pub(crate) fn new_reason(moves: &Moves, reason: Option<CRef>) -> Option<CRef>
     ensures { result ≡ named_reason moves.now reason }
 {
     match reason {
-        Some(old) => Some(new_name(moves, old)),
+        Some(old) => Some(new_reference(moves, old)),
         None => None,
     }
 }
@@ -33,7 +33,7 @@ pub(crate) fn rename_references(references: &mut [CRef], moves: &Moves)
     ensures { references.new ≡ map (named moves.now) references.old }
 {
     for reference in references.iter_mut() {
-        *reference = new_name(moves, *reference);
+        *reference = new_reference(moves, *reference);
     }
 }
 
@@ -42,27 +42,28 @@ pub(crate) fn new_entry(moves: &Moves, entry: Entry) -> Entry
     ensures { result ≡ named_entry moves.now entry }
 {
     Entry {
-        reference: new_name(moves, entry.reference),
+        reference: new_reference(moves, entry.reference),
         blocker: entry.blocker,
     }
 }
 
-/// Moves each place to its new reference. No place is written before it is read, since no reference rises.
-pub(crate) fn move_places(table: &mut Table, pairs: &[(CRef, CRef)])
+/// Moves each attachment to its new reference. No attachment is written before it is read, since no
+/// reference rises.
+pub(crate) fn move_attachments(table: &mut Table, pairs: &[(CRef, CRef)])
     requires rising { IsStrictlyIncreasing (map (λ p. p.1) pairs.now) }
     requires lower { All (λ p. p.1 ≤ p.0) pairs.now }
     ensures { IsMoved table.old table.new pairs.now }
 {
     let mut next = 0;
     for at in 0..table.len() {
-        let mut place = Place::Detached;
+        let mut attachment = Attachment::Detached;
         if next < pairs.len() {
             let (old, new) = pairs[next];
             if new.index() == at {
-                place = table.get(old.index());
+                attachment = table.get(old.index());
                 next += 1;
             }
         }
-        table.set(at, place);
+        table.set(at, attachment);
     }
 }

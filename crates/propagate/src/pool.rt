@@ -1,6 +1,8 @@
 // Rows of watches, in one block of memory.
-ghost use Rattle.std.specs.Prelude.{◌≡◌, ℕ, ◌<◌, ◌≤◌, List, [], ◌∷◌, ◌++◌, length, map, replicate, take, Some, slice_get, slice_set, OnOk, OnErr, IfOk, IsTrue, filter, not, ◌==◌};
-ghost use Rattle.propagate.specs.Rows.{row_at, with_row, closed_row};
+ghost use Rattle.std.specs.Prelude.{◌≡◌, ℕ, ◌<◌, ◌≤◌, List, [], ◌∷◌, ◌++◌, length, map, replicate};
+ghost use Rattle.std.specs.Prelude.{take, Some, slice_get, slice_set, OnOk, OnErr, IfOk, IsTrue};
+ghost use Rattle.std.specs.Prelude.{filter, not, ◌==◌};
+ghost use Rattle.propagate.specs.Pool.{row_at, with_row, closed_row};
 ghost use Rattle.propagate.specs.Doomed.{spared_entries, spared_rows};
 ghost use Rattle.propagate.specs.Renames.{named_entry, named_rows};
 
@@ -19,7 +21,8 @@ pub struct Entry {
     pub blocker: Lit,
 }
 
-/// Where a row lies in the block. It takes sixteen bytes, so that none lies across the lines of a cache.
+/// Where a row lies in the block. It takes sixteen bytes, so that none lies across the lines of a
+/// cache.
 #[derive(Clone, Copy, Drop)]
 pub(crate) struct Head {
     // The place of its first entry.
@@ -41,10 +44,12 @@ const NO_ROW: Head = Head {
 /// The room of a row's first entry.
 const FIRST_ROOM: u32 = 4;
 
-/// A list of entries for each row, all in one block. A row without room left moves to the end of what is in use, where it
-/// has twice its room; a block without room left is copied to a larger one.
+/// A list of entries for each row, all in one block. A row without room left moves to the end of
+/// what is in use, where it has twice its room; a block without room left is copied to a larger
+/// one.
 #[derive(Drop)]
 pub struct WatchPool {
+    // The rows, and the places between them that none has.
     block: Block,
     // For each row, where it lies in the block.
     heads: Vec<Head>,
@@ -58,7 +63,7 @@ impl Model for WatchPool {
 
     ghost Value = { List (List Entry) };
 
-    ghost use Rattle.propagate.specs.Laid.{rows_of, IsLaid};
+    ghost use Rattle.propagate.specs.PoolLayout.{rows_of, IsLaid};
 
     ghost view = { λ p. rows_of p.block p.heads.items };
 
@@ -104,10 +109,13 @@ impl WatchPool {
         self.block.get(start + i)
     }
 
-    /// Puts an entry at the end of a row. A refused growth leaves all rows as they were; so does a row of 2^32 - 1 entries.
+    /// Puts an entry at the end of a row. A refused growth leaves all rows as they were; so does a
+    /// row of 2^32 - 1 entries.
+    #[inline]
     pub fn push(&mut self, row: usize, entry: Entry) -> Result<(), AllocError>
         requires { row < length self.old }
-        ensures ok { OnOk result (self.new ≡ with_row self.old row (row_at self.old row ++ entry ∷ [])) }
+        ensures ok { OnOk result (self.new ≡ with_row self.old row
+            (row_at self.old row ++ entry ∷ [])) }
         ensures err { OnErr result (self.new ≡ self.old) }
     {
         if self.put(row, &entry) {
@@ -160,7 +168,8 @@ impl WatchPool {
     /// Takes the entries of a clause out of a row.
     pub(crate) fn remove(&mut self, row: usize, reference: CRef)
         requires row { row < length self.old }
-        ensures { self.new ≡ with_row self.old row (filter (λ w. not (w.reference == reference)) (row_at self.old row)) }
+        ensures { self.new ≡ with_row self.old row
+            (filter (λ w. not (w.reference == reference)) (row_at self.old row)) }
     {
         let mut write = 0;
         for read in 0..self.len(row) {
@@ -184,7 +193,8 @@ impl WatchPool {
 
     fn drop_doomed_of(&mut self, row: usize, doomed: &[bool])
         requires row { row < length self.old }
-        ensures { self.new ≡ with_row self.old row (spared_entries doomed.now (row_at self.old row)) }
+        ensures { self.new ≡ with_row self.old row
+            (spared_entries doomed.now (row_at self.old row)) }
     {
         let mut write = 0;
         for read in 0..self.len(row) {
@@ -208,7 +218,8 @@ impl WatchPool {
 
     fn rename_row(&mut self, row: usize, moves: &Moves)
         requires row { row < length self.old }
-        ensures { self.new ≡ with_row self.old row (map (named_entry moves.now) (row_at self.old row)) }
+        ensures { self.new ≡ with_row self.old row
+            (map (named_entry moves.now) (row_at self.old row)) }
     {
         for i in 0..self.len(row) {
             let entry = self.get(row, i);
@@ -217,9 +228,11 @@ impl WatchPool {
     }
 
     /// Adds the entry where its row has room, and says whether it had.
+    #[inline]
     fn put(&mut self, row: usize, entry: &Entry) -> bool
         requires { row < length self.old }
-        ensures added { IsTrue result → self.new ≡ with_row self.old row (row_at self.old row ++ entry.now ∷ []) }
+        ensures added { IsTrue result → self.new
+            ≡ with_row self.old row (row_at self.old row ++ entry.now ∷ []) }
         ensures full { ¬ IsTrue result → self.new ≡ self.old }
     {
         let Head {
@@ -235,7 +248,10 @@ impl WatchPool {
         true
     }
 
-    /// Gives a row twice its room, in a larger block where this one has none left.
+    /// Gives a row twice its room, in a larger block where this one has none left. A row seldom
+    /// needs it, so it stands apart from the loop that pushes.
+    #[cold]
+    #[inline(never)]
     fn make_room(&mut self, row: usize, fill: &Entry) -> Result<(), AllocError>
         requires { row < length self.old }
         ensures { self.new ≡ self.old }
@@ -246,12 +262,12 @@ impl WatchPool {
             let more = (len / 2).max(room as usize);
             self.grow(len.saturating_add(more), fill)?;
         }
-        self.relocate(row, room);
+        self.move_row(row, room);
         Ok(())
     }
 
     /// Moves a row to the end of what is in use, where the block has so much room left.
-    fn relocate(&mut self, row: usize, room: u32)
+    fn move_row(&mut self, row: usize, room: u32)
         requires { row < length self.old }
         ensures { self.new ≡ self.old }
     {

@@ -1,5 +1,6 @@
 // Searches in the literals of a clause.
-ghost use Rattle.std.specs.Prelude.{◌≡◌, ◌≢◌, ◌≤◌, true, false, Some, None, All, IfSome, MatchOption, ◌⊎◌};
+ghost use Rattle.std.specs.Prelude.{◌≡◌, ◌≢◌, ◌≤◌, true, false, Some, None, All, IfSome};
+ghost use Rattle.std.specs.Prelude.{MatchOption, ◌⊎◌};
 ghost use Rattle.wcnf.specs.Clause.{contains_literal};
 ghost use Rattle.propagate.specs.Trail.{value_in, level_in};
 ghost use Rattle.propagate.specs.Fits.{IsRest};
@@ -28,7 +29,8 @@ pub(crate) fn other_not_false(trail: &Trail, lits: &[Lit], but: Lit) -> Option<L
     requires { All (λ l. l.variable ≤ trail.now.variables) lits.now }
     ensures { MatchOption result
         (All (λ l. (l ≡ but) ⊎ (value_in trail.now.assigned l ≡ Some false)) lits.now)
-        (λ l. (contains_literal l lits.now ≡ true) × (l ≢ but) × (value_in trail.now.assigned l ≢ Some false)) }
+        (λ l. (contains_literal l lits.now ≡ true) × (l ≢ but)
+        × (value_in trail.now.assigned l ≢ Some false)) }
 {
     for lit in lits {
         if *lit != but && !trail.is_false(*lit) {
@@ -41,7 +43,8 @@ pub(crate) fn other_not_false(trail: &Trail, lits: &[Lit], but: Lit) -> Option<L
 /// A literal whose variable got its value at this level, other than this one.
 pub(crate) fn other_of_level(trail: &Trail, lits: &[Lit], but: Lit, level: u32) -> Option<Lit>
     requires { All (λ l. l.variable ≤ trail.now.variables) lits.now }
-    ensures { IfSome result (λ l. (contains_literal l lits.now ≡ true) × (l ≢ but) × (level_in trail.now.assigned l.variable ≡ Some level)) }
+    ensures { IfSome result (λ l. (contains_literal l lits.now ≡ true) × (l ≢ but)
+        × (level_in trail.now.assigned l.variable ≡ Some level)) }
 {
     for lit in lits {
         if *lit != but && trail.level(lit.variable()) == Some(level) {

@@ -1,7 +1,7 @@
 // Where each clause stands.
 ghost use Rattle.std.specs.Prelude.{◌≡◌, ℕ, ◌<◌, List, [], length, take, slice_set, OnOk, OnErr};
 ghost use Rattle.wcnf.specs.Literal.{Literal};
-ghost use Rattle.propagate.specs.Watches.{place_in, rest_in, IsWatching};
+ghost use Rattle.propagate.specs.Watches.{attachment_in, rest_in, IsWatching};
 ghost use Rattle.propagate.specs.Doomed.{IsSpared};
 ghost use Rattle.propagate.specs.Steps.{IsWatchedBy, rest_after, grown_table};
 
@@ -12,13 +12,13 @@ use wcnf::types::Lit;
 
 /// Whether the clause of a reference is attached, and how the engine keeps it.
 #[derive(Clone, Copy, Debug, PartialEq, Eq, Drop)]
-pub(crate) enum Place {
+pub(crate) enum Attachment {
     /// It is not attached.
     Detached,
     /// It is to be looked at by the next propagation.
     Waiting,
-    /// It is true as long as level 0 stands.
-    Resting,
+    /// It is satisfied at level 0, and needs no watches.
+    Satisfied,
     /// It stands in the rows of these two literals, and has these beside.
     Watching(Lit, Lit, Rest),
 }
@@ -46,12 +46,12 @@ impl Rest {
     }
 }
 
-/// A place without its literals.
+/// An attachment without its literals.
 #[derive(Clone, Copy, Debug, PartialEq, Eq, Drop)]
 pub(crate) enum Kind {
     Detached,
     Waiting,
-    Resting,
+    Satisfied,
     Watching,
 }
 
@@ -63,27 +63,30 @@ pub(crate) struct Pair {
     pub(crate) rest: Rest,
 }
 
-/// A place for each reference. The literals stand apart, sixteen bytes a clause, since propagation reads nothing else.
+/// An attachment for each reference. The literals stand apart, sixteen bytes a clause, since
+/// propagation reads nothing else.
 #[derive(Drop)]
 pub(crate) struct Table {
+    // By reference.
     kinds: Vec<Kind>,
+    // By reference, as many as kinds; of no meaning where the kind is not `Watching`.
     pairs: Vec<Pair>,
 }
 
 impl Model for Table {
     ghost use Rattle.std.specs.Prelude.{List, length, ◌≡◌};
-    ghost use Rattle.propagate.specs.declared.table.Place.{Place};
-    ghost use Rattle.propagate.specs.Zipped.{places};
+    ghost use Rattle.propagate.specs.declared.table.Attachment.{Attachment};
+    ghost use Rattle.propagate.specs.Table.{attachments};
 
-    ghost Value = { List Place };
+    ghost Value = { List Attachment };
 
-    ghost view = { λ t. places t.kinds.items t.pairs.items };
+    ghost view = { λ t. attachments t.kinds.items t.pairs.items };
 
     ghost invariant = { λ t. length t.pairs.items ≡ length t.kinds.items };
 }
 
 impl Table {
-    /// A table without places. It takes no memory.
+    /// A table without attachments. It takes no memory.
     pub(crate) fn new(alloc: Global) -> Self
         ensures { result ≡ [] }
     {
@@ -99,56 +102,57 @@ impl Table {
         self.kinds.len()
     }
 
-    /// The place of a reference; one past the end is not attached.
-    pub(crate) fn get(&self, reference: usize) -> Place
-        ensures { result ≡ place_in self.now reference }
+    /// The attachment of a reference; one past the end is not attached.
+    pub(crate) fn get(&self, reference: usize) -> Attachment
+        ensures { result ≡ attachment_in self.now reference }
     {
         if reference >= self.kinds.len() {
-            return Place::Detached;
+            return Attachment::Detached;
         }
         match self.kinds[reference] {
-            Kind::Detached => Place::Detached,
-            Kind::Waiting => Place::Waiting,
-            Kind::Resting => Place::Resting,
+            Kind::Detached => Attachment::Detached,
+            Kind::Waiting => Attachment::Waiting,
+            Kind::Satisfied => Attachment::Satisfied,
             Kind::Watching => {
                 let Pair { one, other, rest } = self.pairs[reference];
-                Place::Watching(one, other, rest)
+                Attachment::Watching(one, other, rest)
             }
         }
     }
 
-    pub(crate) fn set(&mut self, reference: usize, place: Place)
+    pub(crate) fn set(&mut self, reference: usize, attachment: Attachment)
         requires { reference < length self.old }
-        ensures { self.new ≡ slice_set self.old reference place }
+        ensures { self.new ≡ slice_set self.old reference attachment }
     {
-        match place {
-            Place::Detached => self.kinds[reference] = Kind::Detached,
-            Place::Waiting => self.kinds[reference] = Kind::Waiting,
-            Place::Resting => self.kinds[reference] = Kind::Resting,
-            Place::Watching(one, other, rest) => {
+        match attachment {
+            Attachment::Detached => self.kinds[reference] = Kind::Detached,
+            Attachment::Waiting => self.kinds[reference] = Kind::Waiting,
+            Attachment::Satisfied => self.kinds[reference] = Kind::Satisfied,
+            Attachment::Watching(one, other, rest) => {
                 self.kinds[reference] = Kind::Watching;
                 self.pairs[reference] = Pair { one, other, rest };
             }
         }
     }
 
-    /// Takes the places of the clauses that are marked.
+    /// Detaches the clauses that are marked.
     pub(crate) fn drop_doomed(&mut self, doomed: &[bool])
         ensures { IsSpared doomed.now self.old self.new }
     {
         let len = self.len().min(doomed.len());
         for at in 0..len {
             if doomed[at] {
-                self.set(at, Place::Detached);
+                self.set(at, Attachment::Detached);
             }
         }
     }
 
     /// The literal that a clause watches beside this one, and what it has beside both.
     pub(crate) fn other(&self, reference: CRef, watched: Lit) -> (Lit, Rest)
-        requires { (other : Literal) × IsWatchedBy (place_in self.now reference) watched other }
-        ensures other { IsWatchedBy (place_in self.now reference) watched result.0 }
-        ensures rest { result.1 ≡ rest_in (place_in self.now reference) }
+        requires { (other : Literal) × IsWatchedBy (attachment_in self.now reference) watched
+            other }
+        ensures other { IsWatchedBy (attachment_in self.now reference) watched result.0 }
+        ensures rest { result.1 ≡ rest_in (attachment_in self.now reference) }
     {
         let Pair { one, other, rest } = self.pairs[reference.index()];
         if one == watched {
@@ -158,17 +162,20 @@ impl Table {
         }
     }
 
-    /// A clause that watches two literals watches these from now on, one of them in the place of `falsified`.
+    /// A clause that watches two literals watches these from now on, one of them in the place of
+    /// `falsified`.
     pub(crate) fn rewatch(&mut self, reference: CRef, falsified: Lit, one: Lit, other: Lit)
-        requires { (a b : Literal) × IsWatching (place_in self.old reference) a b }
-        ensures { self.new ≡ slice_set self.old reference (Place.Watching one other (rest_after falsified (rest_in (place_in self.old reference)))) }
+        requires { (a b : Literal) × IsWatching (attachment_in self.old reference) a b }
+        ensures { self.new ≡ slice_set self.old reference
+            (Attachment.Watching one other (rest_after falsified
+            (rest_in (attachment_in self.old reference)))) }
     {
         let at = reference.index();
         let rest = self.pairs[at].rest.after(falsified);
         self.pairs[at] = Pair { one, other, rest };
     }
 
-    /// The table gets a place for the clause. A refused growth changes nothing.
+    /// The table gets an attachment for the clause. A refused growth changes nothing.
     pub(crate) fn make_room(&mut self, reference: CRef) -> Result<(), AllocError>
         ensures ok { OnOk result (self.new ≡ grown_table self.old reference) }
         ensures err { OnErr result (self.new ≡ self.old) }
@@ -191,7 +198,7 @@ impl Table {
         Ok(())
     }
 
-    /// Keeps the places of the first `len` references.
+    /// Keeps the attachments of the first `len` references.
     pub(crate) fn truncate(&mut self, len: usize)
         ensures { self.new ≡ take len self.old }
     {

@@ -1,27 +1,35 @@
-// The literals that are true, with tables by which a value, a level or a reason is found in one step.
-ghost use Rattle.std.specs.Prelude.{◌≡◌, ◌-◌, ◌<◌, ◌≤◌, ◌*◌, not, true, false, IsTrue, ◌↔◌, [], ◌∷◌, ◌++◌, Some, None, length, take, All, IfOk, slice_set, slice_index_or};
+// The literals that are true, with tables by which a value, a level or a reason is found in one
+// step.
+ghost use Rattle.std.specs.Prelude.{◌≡◌, ◌-◌, ◌<◌, ◌≤◌, ◌*◌, not, true, false, IsTrue, ◌↔◌, []};
+ghost use Rattle.std.specs.Prelude.{◌∷◌, ◌++◌, Some, None, length, take, All, IfOk, slice_set};
+ghost use Rattle.std.specs.Prelude.{slice_index_or};
 ghost use Rattle.std.specs.Option.{option_map};
 ghost use Rattle.wcnf.specs.Literal.{index_of, negation};
-ghost use Rattle.propagate.specs.Tables.{IsNamed};
-ghost use Rattle.propagate.specs.Trail.{literals_of, depth_of, value_in, level_in, position_in, reason_in, kept_to};
+ghost use Rattle.propagate.specs.Watches.{IsVariable};
+ghost use Rattle.propagate.specs.Trail.{literals_of, depth_of, value_in, level_in, position_in};
+ghost use Rattle.propagate.specs.Trail.{reason_in, kept_to};
 ghost use Rattle.propagate.specs.Renames.{named_trail};
 
-use crate::marks::Marks;
 use crate::truth::Truth;
+use crate::vardata::VarTable;
 use clauses::store::{CRef, Moves};
 use std::alloc::{AllocError, Global};
 use std::marker::Model;
 use wcnf::types::Lit;
 
-/// Literals in the order in which they became true. It has room for all variables, so it takes memory only when it is made.
+/// Literals in the order in which they became true. It has room for all variables, so it takes
+/// memory only when it is made.
 #[derive(Drop)]
 pub(crate) struct Trail {
+    // The number of variables, at most 2^32 - 2.
     variables: u32,
+    // No two of one variable, each of a variable from 1 to `variables`.
     literals: Vec<Lit>,
-    // By literal.
+    // By literal, two for each variable.
     values: Vec<Truth>,
-    // By variable.
-    marks: Marks,
+    // By variable from 0; that of variable 0 is never written.
+    vardata: VarTable,
+    // The number of decisions on the trail.
     depth: u32,
 }
 
@@ -32,15 +40,21 @@ impl Model for Trail {
 
     ghost Value = { TrailState };
 
-    ghost view = { λ t. record { variables = t.variables; assigned = assigned_by t.marks.reasons t.literals.items } };
+    ghost view = { λ t. record {
+      variables = t.variables;
+      assigned =
+          assigned_by t.vardata.reasons t.literals.items;
+    } };
 
-    ghost invariant = { λ t. IsTrail t.variables t.literals.items t.values.items t.marks.levels t.marks.positions t.marks.reasons t.depth (vec_capacity t.literals) };
+    ghost invariant = { λ t. IsTrail t.variables t.literals.items t.values.items t.vardata.levels
+        t.vardata.positions t.vardata.reasons t.depth (vec_capacity t.literals) };
 }
 
 /// Writes the value of a literal, and of its negation.
 fn set_value(values: &mut Vec<Truth>, lit: Lit, value: Option<bool>)
     requires { 2 * lit.variable ≤ length values.old.items }
-    ensures { values.new.items ≡ slice_set (slice_set values.old.items (index_of lit) value) (index_of (negation lit)) (option_map not value) }
+    ensures { values.new.items ≡ slice_set (slice_set values.old.items (index_of lit) value)
+        (index_of (negation lit)) (option_map not value) }
 {
     values[lit.index()] = Truth::new(value);
     values[lit.negation().index()] = Truth::new(value.map(|v| !v));
@@ -57,12 +71,12 @@ impl Trail {
         let literals = Vec::with_capacity(alloc, count)?;
         let mut values = Vec::new(alloc);
         values.resize(2 * count, Truth::new(None))?;
-        let marks = Marks::new(alloc, count + 1)?;
+        let vardata = VarTable::new(alloc, count + 1)?;
         Ok(Trail {
             variables,
             literals,
             values,
-            marks,
+            vardata,
             depth: 0,
         })
     }
@@ -98,15 +112,15 @@ impl Trail {
         requires { variable ≤ self.now.variables }
         ensures { result ≡ level_in self.now.assigned variable }
     {
-        self.marks.level(variable as usize)
+        self.vardata.level(variable as usize)
     }
 
     pub(crate) fn position(&self, variable: u32) -> Option<u32>
         requires { variable ≤ self.now.variables }
         ensures { result ≡ position_in self.now.assigned variable }
     {
-        match self.marks.level(variable as usize) {
-            Some(_) => Some(self.marks.position(variable as usize)),
+        match self.vardata.level(variable as usize) {
+            Some(_) => Some(self.vardata.position(variable as usize)),
             None => None,
         }
     }
@@ -115,15 +129,15 @@ impl Trail {
         requires { variable ≤ self.now.variables }
         ensures { result ≡ reason_in self.now.assigned variable }
     {
-        match self.marks.level(variable as usize) {
-            Some(_) => self.marks.reason(variable as usize),
+        match self.vardata.level(variable as usize) {
+            Some(_) => self.vardata.reason(variable as usize),
             None => None,
         }
     }
 
     pub(crate) fn literals(&self) -> &[Lit]
         ensures literals { result.now ≡ literals_of self.now.assigned }
-        ensures within { All (IsNamed self.now.variables) result.now }
+        ensures within { All (IsVariable self.now.variables) result.now }
     {
         &self.literals
     }
@@ -145,27 +159,31 @@ impl Trail {
     pub(crate) fn push(&mut self, lit: Lit, reason: Option<CRef>)
         requires small { lit.variable ≤ self.old.variables }
         requires open { value_in self.old.assigned lit ≡ None }
-        ensures pushed { self.new ≡ record self.old { assigned = self.old.assigned ++ record { literal = lit; reason = reason } ∷ [] } }
+        ensures pushed { self.new ≡ record self.old
+            { assigned = self.old.assigned ++ record { literal = lit; reason = reason } ∷ [] } }
         ensures from_one { 0 < lit.variable }
     {
         let variable = lit.variable() as usize;
         let position = self.literals.len() as u32;
         self.depth += u32::from(reason.is_none());
         set_value(&mut self.values, lit, Some(true));
-        self.marks.set(variable, self.depth, position, reason);
+        self.vardata.set(variable, self.depth, position, reason);
         let _ = self.literals.push(lit);
     }
 
     /// Takes the last literal away.
     fn pop(&mut self)
         requires { 0 < length self.old.assigned }
-        ensures { self.new ≡ record self.old { assigned = take (length self.old.assigned - 1) self.old.assigned } }
+        ensures { self.new ≡ record self.old {
+          assigned =
+              take (length self.old.assigned - 1) self.old.assigned;
+        } }
     {
         if let Some(lit) = self.literals.pop() {
             let variable = lit.variable() as usize;
-            self.depth -= u32::from(self.marks.reason(variable).is_none());
+            self.depth -= u32::from(self.vardata.reason(variable).is_none());
             set_value(&mut self.values, lit, None);
-            self.marks.clear(variable);
+            self.vardata.clear(variable);
         }
     }
 
@@ -180,8 +198,11 @@ impl Trail {
 
     /// Renames the reasons.
     pub(crate) fn rename(&mut self, moves: &Moves)
-        ensures { self.new ≡ record self.old { assigned = named_trail moves.now self.old.assigned } }
+        ensures { self.new ≡ record self.old {
+          assigned =
+              named_trail moves.now self.old.assigned;
+        } }
     {
-        self.marks.rename(moves);
+        self.vardata.rename(moves);
     }
 }

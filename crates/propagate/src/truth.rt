@@ -22,7 +22,7 @@ impl Model for Truth {
 
     ghost Value = { Option Bool };
 
-    ghost use Rattle.propagate.specs.Truths.{truth_in, known_of, known_of-truth_in};
+    ghost use Rattle.propagate.specs.Truth.{truth_in, known_of, known_of-truth_in};
 
     ghost view = { truth_in };
 

@@ -9,12 +9,16 @@ use super::Engine;
 use crate::doomed::drop_doomed;
 
 impl Engine {
-    /// From now on `propagate` looks past the clauses that are marked here by their references' places, none of which is the
-    /// reason of a literal; references past the end are not marked. One pass over what is attached, which takes no memory.
+    /// From now on `propagate` looks past the clauses that are marked here by their references'
+    /// places, none of which is the reason of a literal; references past the end are not marked.
+    /// One pass over what is attached, which takes no memory.
     pub fn detach_all(&mut self, doomed: &[bool])
-        requires no_reason { All (λ a. IfSome a.reason (λ r. is_doomed doomed.now r ≡ false)) self.old.trail }
-        ensures detached { (r : ℕ) → is_attached self.new r ≡ (is_attached self.old r && not (is_doomed doomed.now r)) }
-        ensures same { (self.new.trail ≡ self.old.trail) × (self.new.variables ≡ self.old.variables) × (self.new.failed ≡ self.old.failed) }
+        requires no_reason { All (λ a. IfSome a.reason (λ r. is_doomed doomed.now r ≡ false))
+            self.old.trail }
+        ensures detached { (r : ℕ) → is_attached self.new r
+            ≡ (is_attached self.old r && not (is_doomed doomed.now r)) }
+        ensures same { (self.new.trail ≡ self.old.trail) × (self.new.variables ≡ self.old.variables)
+            × (self.new.failed ≡ self.old.failed) }
         ensures fits { (slots : Slots) → Fits self.old slots → Fits self.new slots }
     {
         self.table.drop_doomed(doomed);

@@ -1,14 +1,19 @@
 // The literals that became true, each with the clauses that watch its negation.
-ghost use Rattle.std.specs.Prelude.{◌≡◌, ◌≢◌, ℕ, ◌+◌, ◌<◌, ◌≤◌, true, Some, None, length, IfOk, IfSome, IfNone, MatchOption, OnOk, OnErr, slice_index_or, slice_set};
+ghost use Rattle.std.specs.Prelude.{◌≡◌, ◌≢◌, ℕ, ◌+◌, ◌<◌, ◌≤◌, true, Some, None, length, IfOk};
+ghost use Rattle.std.specs.Prelude.{IfSome, IfNone, MatchOption, OnOk, OnErr, slice_index_or};
+ghost use Rattle.std.specs.Prelude.{slice_set};
 ghost use Rattle.std.specs.List.{AllByRecursion};
 ghost use Rattle.wcnf.specs.Literal.{Literal, negation, index_of};
 ghost use Rattle.wcnf.specs.Clause.{contains_literal};
-ghost use Rattle.propagate.specs.Rows.{row_at, with_row};
+ghost use Rattle.propagate.specs.Pool.{row_at, with_row};
 ghost use Rattle.propagate.specs.Trail.{literals_of, value_in};
-ghost use Rattle.propagate.specs.Watches.{IsVariable, IsWatching, is_attached, place_in, rest_in};
+ghost use Rattle.propagate.specs.Watches.{IsVariable, IsWatching, is_attached, attachment_in};
+ghost use Rattle.propagate.specs.Watches.{rest_in};
 ghost use Rattle.propagate.specs.Fits.{Fits, IsComplete};
-ghost use Rattle.propagate.specs.Steps.{Continues, AreTrueWaiting, IsTrueEntry, IsConflict, IsWatched, IsWatchedBy, LeavesOne, MayBeWatched, InRow, with_rows, closed, moved};
-ghost use Rattle.propagate.specs.Looks.{LookSays, StepSays};
+ghost use Rattle.propagate.specs.Steps.{Continues, AreTrueWaiting, IsTrueEntry, IsConflict};
+ghost use Rattle.propagate.specs.Steps.{IsWatched, IsWatchedBy, LeavesOne, MayBeWatched, InRow};
+ghost use Rattle.propagate.specs.Steps.{with_rows, closed, moved};
+ghost use Rattle.propagate.specs.Queue.{LookSays, StepSays};
 
 use super::Engine;
 use crate::pool::Entry;
@@ -51,8 +56,10 @@ impl Engine {
         requires waiting { AreTrueWaiting store.now.slots self.old }
         ensures continues { Continues self.old self.new }
         ensures fits { Fits self.new store.now.slots }
-        ensures conflict { IfOk result (λ found. IfSome found (IsConflict store.now.slots self.new)) }
-        ensures complete { IfOk result (λ found. IfNone found (IsComplete store.now.slots (is_attached self.new) self.new.trail)) }
+        ensures conflict { IfOk result (λ found. IfSome found
+            (IsConflict store.now.slots self.new)) }
+        ensures complete { IfOk result (λ found. IfNone found
+            (IsComplete store.now.slots (is_attached self.new) self.new.trail)) }
     {
         while let Some(falsified) = self.next_falsified() {
             if let Some(conflict) = self.look_at_row(store, falsified)? {
@@ -65,23 +72,28 @@ impl Engine {
 
     /// The negation of the first literal that was not looked at.
     fn next_falsified(&self) -> Option<Lit>
-        ensures { MatchOption result (self.now.watches.processed ≡ length self.now.trail)
-            (λ w. (self.now.watches.processed < length self.now.trail) × (self.now.watches.processed < self.now.variables) × IsVariable self.now.variables w
-            × (w ≡ negation (slice_index_or (literals_of self.now.trail) self.now.watches.processed w))) }
+        ensures { MatchOption result (self.now.watches.qhead ≡ length self.now.trail)
+            (λ w. (self.now.watches.qhead < length self.now.trail)
+            × (self.now.watches.qhead < self.now.variables) × IsVariable self.now.variables w
+            × (w ≡ negation (slice_index_or (literals_of self.now.trail) self.now.watches.qhead
+            w))) }
     {
-        if self.processed < self.trail.len() {
-            Some(self.trail.literals()[self.processed].negation())
+        if self.qhead < self.trail.len() {
+            Some(self.trail.literals()[self.qhead].negation())
         } else {
             None
         }
     }
 
     fn advance(&mut self)
-        requires { self.old.watches.processed < length self.old.trail }
-        ensures { self.new ≡ record self.old { watches = record self.old.watches { processed = self.old.watches.processed + 1 } } }
+        requires { self.old.watches.qhead < length self.old.trail }
+        ensures { self.new ≡ record self.old {
+          watches =
+              record self.old.watches { qhead = self.old.watches.qhead + 1 };
+        } }
     {
-        if self.processed < self.trail.len() {
-            self.processed += 1;
+        if self.qhead < self.trail.len() {
+            self.qhead += 1;
         }
     }
 
@@ -89,14 +101,18 @@ impl Engine {
     fn look_at_row(&mut self, store: &Store, falsified: Lit) -> Result<Option<CRef>, AllocError>
         requires fits { Fits self.old store.now.slots }
         requires waiting { AreTrueWaiting store.now.slots self.old }
-        requires falsified { contains_literal (negation falsified) (literals_of self.old.trail) ≡ true }
-        requires named { IsVariable self.old.variables falsified }
+        requires falsified { contains_literal (negation falsified) (literals_of self.old.trail)
+            ≡ true }
+        requires in_range { IsVariable self.old.variables falsified }
         ensures continues { Continues self.old self.new }
         ensures fits { Fits self.new store.now.slots }
         ensures waiting { AreTrueWaiting store.now.slots self.new }
-        ensures same { self.new.watches.processed ≡ self.old.watches.processed }
-        ensures conflict { IfOk result (λ found. IfSome found (IsConflict store.now.slots self.new)) }
-        ensures done { IfOk result (λ found. IfNone found (AllByRecursion (IsTrueEntry store.now.slots (literals_of self.new.trail)) (row_at self.new.watches.rows (index_of falsified)))) }
+        ensures same { self.new.watches.qhead ≡ self.old.watches.qhead }
+        ensures conflict { IfOk result (λ found. IfSome found
+            (IsConflict store.now.slots self.new)) }
+        ensures done { IfOk result (λ found. IfNone found
+            (AllByRecursion (IsTrueEntry store.now.slots (literals_of self.new.trail))
+            (row_at self.new.watches.rows (index_of falsified)))) }
     {
         let mut write = 0;
         let mut read = 0;
@@ -129,7 +145,7 @@ impl Engine {
     }
 
     fn close_row(&mut self, lit: Lit, write: usize, read: usize)
-        requires named { lit.variable ≤ self.old.variables }
+        requires in_range { lit.variable ≤ self.old.variables }
         requires order { write ≤ read }
         requires within { read ≤ length (row_at self.old.watches.rows (index_of lit)) }
         ensures { self.new ≡ closed self.old (index_of lit) write read }
@@ -142,8 +158,9 @@ impl Engine {
         requires state { InRow store.now.slots self.old falsified write read }
         requires more { read < length (row_at self.old.watches.rows (index_of falsified)) }
         ensures continues { Continues self.old self.new }
-        ensures same { self.new.watches.processed ≡ self.old.watches.processed }
-        ensures len { length (row_at self.new.watches.rows (index_of falsified)) ≡ length (row_at self.old.watches.rows (index_of falsified)) }
+        ensures same { self.new.watches.qhead ≡ self.old.watches.qhead }
+        ensures len { length (row_at self.new.watches.rows (index_of falsified))
+            ≡ length (row_at self.old.watches.rows (index_of falsified)) }
         ensures after { StepSays store.now.slots self.new falsified write read result }
     {
         let entry = self.pool.get(falsified.index(), read);
@@ -167,9 +184,11 @@ impl Engine {
     }
 
     fn keep(&mut self, lit: Lit, at: usize, entry: Entry)
-        requires named { lit.variable ≤ self.old.variables }
+        requires in_range { lit.variable ≤ self.old.variables }
         requires within { at < length (row_at self.old.watches.rows (index_of lit)) }
-        ensures { self.new ≡ with_rows self.old (with_row self.old.watches.rows (index_of lit) (slice_set (row_at self.old.watches.rows (index_of lit)) at entry)) }
+        ensures { self.new ≡ with_rows self.old
+            (with_row self.old.watches.rows (index_of lit)
+            (slice_set (row_at self.old.watches.rows (index_of lit)) at entry)) }
     {
         self.pool.set(lit.index(), at, entry);
     }
@@ -193,7 +212,8 @@ impl Engine {
         }
     }
 
-    /// A literal that is not false, beside the two that a clause watches. The store is not asked for a clause of up to three.
+    /// A literal that is not false, beside the two that a clause watches. The store is not asked
+    /// for a clause of up to three.
     fn beside(
         &self,
         store: &Store,
@@ -203,9 +223,11 @@ impl Engine {
         rest: Rest,
     ) -> Option<Lit>
         requires watched { IsWatched store.now.slots self.now falsified entry }
-        requires other { IsWatchedBy (place_in self.now.watches.table entry.reference) falsified other }
-        requires rest { rest ≡ rest_in (place_in self.now.watches.table entry.reference) }
-        ensures { MatchOption result (LeavesOne store.now.slots self.now entry.reference other) (λ l. (l ≢ other) × MayBeWatched store.now.slots self.now entry.reference l) }
+        requires other { IsWatchedBy (attachment_in self.now.watches.table entry.reference)
+            falsified other }
+        requires rest { rest ≡ rest_in (attachment_in self.now.watches.table entry.reference) }
+        ensures { MatchOption result (LeavesOne store.now.slots self.now entry.reference other)
+            (λ l. (l ≢ other) × MayBeWatched store.now.slots self.now entry.reference l) }
     {
         match rest {
             Rest::Nothing => None,
@@ -220,7 +242,8 @@ impl Engine {
         }
     }
 
-    /// The clause watches `lit` in the place of a false literal from now on. A refused growth changes nothing.
+    /// The clause watches `lit` in the place of a false literal from now on. A refused growth
+    /// changes nothing.
     fn rewatch(
         &mut self,
         reference: CRef,
@@ -228,7 +251,8 @@ impl Engine {
         other: Lit,
         lit: Lit,
     ) -> Result<(), AllocError>
-        requires watching { (a b : Literal) × IsWatching (place_in self.old.watches.table reference) a b }
+        requires watching { (a b : Literal) × IsWatching
+            (attachment_in self.old.watches.table reference) a b }
         requires lit { IsVariable self.old.variables lit }
         requires other { IsVariable self.old.variables other }
         ensures ok { OnOk result (self.new ≡ moved self.old falsified reference other lit) }

@@ -5,20 +5,24 @@ ghost use Rattle.propagate.specs.Watches.{is_attached};
 ghost use Rattle.propagate.specs.Fits.{MovesAttached, renamed_trail, FitsMoved};
 
 use super::Engine;
-use crate::names::{move_places, rename_references};
+use crate::names::{move_attachments, rename_references};
 use clauses::store::Moves;
 
 impl Engine {
-    /// Goes over to the new references of the clauses, after a store was compacted. It takes no memory.
+    /// Goes over to the new references of the clauses, after a store was compacted. It takes no
+    /// memory.
     pub fn rename(&mut self, moves: &Moves)
-        requires listed { (r : ℕ) → is_attached self.old r ≡ true → (q : ℕ) × (renamed moves.now r ≡ Some q) }
-        requires reasons { All (λ a. IfSome a.reason (λ r. (q : ℕ) × (renamed moves.now r ≡ Some q))) self.old.trail }
+        requires listed { (r : ℕ) → is_attached self.old r ≡ true → (q : ℕ)
+            × (renamed moves.now r ≡ Some q) }
+        requires reasons { All (λ a. IfSome a.reason
+            (λ r. (q : ℕ) × (renamed moves.now r ≡ Some q))) self.old.trail }
         ensures attached { MovesAttached self.old self.new moves.now }
         ensures trail { self.new.trail ≡ renamed_trail moves.now self.old.trail }
-        ensures same { (self.new.variables ≡ self.old.variables) × (self.new.failed ≡ self.old.failed) }
+        ensures same { (self.new.variables ≡ self.old.variables)
+            × (self.new.failed ≡ self.old.failed) }
         ensures fits { FitsMoved self.old self.new moves.now }
     {
-        move_places(&mut self.table, moves.pairs());
+        move_attachments(&mut self.table, moves.pairs());
         rename_references(&mut self.waiting, moves);
         self.pool.rename(moves);
         self.trail.rename(moves);

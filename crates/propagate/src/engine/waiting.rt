@@ -1,33 +1,36 @@
 // The clauses that have no watches yet.
-ghost use Rattle.std.specs.Prelude.{◌≡◌, ◌≢◌, ℕ, ◌<◌, ◌≤◌, Some, None, true, false, length, filter, All, IfOk, IfSome, IfNone, OnOk, OnErr, ◌⊎◌, slice_get};
+ghost use Rattle.std.specs.Prelude.{◌≡◌, ◌≢◌, ℕ, ◌<◌, ◌≤◌, Some, None, true, false, length, filter};
+ghost use Rattle.std.specs.Prelude.{All, IfOk, IfSome, IfNone, OnOk, OnErr, ◌⊎◌, slice_get};
 ghost use Rattle.std.specs.Bool.{MatchBool};
 ghost use Rattle.wcnf.specs.Literal.{negation};
 ghost use Rattle.wcnf.specs.Clause.{contains_literal};
 ghost use Rattle.clauses.specs.Slots.{clause_at};
 ghost use Rattle.propagate.specs.Trail.{literals_of, value_in};
-ghost use Rattle.propagate.specs.Watches.{IsVariable, is_attached, place_in};
+ghost use Rattle.propagate.specs.Watches.{IsVariable, is_attached, attachment_in};
 ghost use Rattle.propagate.specs.declared.table.Rest.{Rest};
 ghost use Rattle.propagate.specs.Fits.{Fits, HasTrue, IsRest};
-ghost use Rattle.propagate.specs.Steps.{Continues, AreTrueWaiting, IsTrueWaiting, IsConflict, IsMadeTrue, is_waiting, watched, with_place};
+ghost use Rattle.propagate.specs.Steps.{Continues, AreTrueWaiting, IsTrueWaiting, IsConflict};
+ghost use Rattle.propagate.specs.Steps.{IsMadeTrue, is_waiting, watched, with_attachment};
 
 use super::Engine;
 use crate::pool::Entry;
 use crate::search::{first_not_false, other_not_false, other_of_level, rest_of};
-use crate::table::{Place, Table};
+use crate::table::{Attachment, Table};
 use clauses::store::{CRef, Store};
 use std::alloc::AllocError;
 use wcnf::types::Lit;
 
 /// Whether the clause is to be looked at.
 fn waits(table: &Table, reference: CRef) -> bool
-    ensures { result ≡ is_waiting (place_in table.now reference) }
+    ensures { result ≡ is_waiting (attachment_in table.now reference) }
 {
-    matches!(table.get(reference.index()), Place::Waiting)
+    matches!(table.get(reference.index()), Attachment::Waiting)
 }
 
 /// Keeps the clauses that are to be looked at.
 fn keep_waiting(waiting: &mut Vec<CRef>, table: &Table)
-    ensures { waiting.new.items ≡ filter (λ r. is_waiting (place_in table.now r)) waiting.old.items }
+    ensures { waiting.new.items ≡ filter (λ r. is_waiting (attachment_in table.now r))
+        waiting.old.items }
 {
     waiting.retain(|r| waits(table, *r));
 }
@@ -38,8 +41,10 @@ impl Engine {
         requires { Fits self.old store.now.slots }
         ensures continues { Continues self.old self.new }
         ensures fits { Fits self.new store.now.slots }
-        ensures conflict { IfOk result (λ found. IfSome found (IsConflict store.now.slots self.new)) }
-        ensures waiting { IfOk result (λ found. IfNone found (AreTrueWaiting store.now.slots self.new)) }
+        ensures conflict { IfOk result (λ found. IfSome found
+            (IsConflict store.now.slots self.new)) }
+        ensures waiting { IfOk result (λ found. IfNone found
+            (AreTrueWaiting store.now.slots self.new)) }
     {
         for at in 0..self.waiting_len() {
             let reference = self.waiting_at(at);
@@ -47,7 +52,7 @@ impl Engine {
                 return Ok(Some(reference));
             }
         }
-        self.drop_settled();
+        self.prune_waiting();
         Ok(None)
     }
 
@@ -64,9 +69,16 @@ impl Engine {
         self.waiting[at]
     }
 
-    /// Takes the clauses that found their place from the list of those that wait.
-    fn drop_settled(&mut self)
-        ensures { self.new ≡ record self.old { watches = record self.old.watches { waiting = filter (λ r. is_waiting (place_in self.old.watches.table r)) self.old.watches.waiting } } }
+    /// Takes the clauses that wait no longer from the list of those that do.
+    fn prune_waiting(&mut self)
+        ensures { self.new ≡ record self.old {
+          watches =
+              record self.old.watches {
+                waiting =
+                    filter (λ r. is_waiting (attachment_in self.old.watches.table r))
+                    self.old.watches.waiting;
+              };
+        } }
     {
         keep_waiting(&mut self.waiting, &self.table);
     }
@@ -77,24 +89,29 @@ impl Engine {
         ensures continues { Continues self.old self.new }
         ensures fits { Fits self.new store.now.slots }
         ensures list { self.new.watches.waiting ≡ self.old.watches.waiting }
-        ensures done { IfOk result (λ ok. MatchBool ok (IsTrueWaiting store.now.slots self.new reference) (IsConflict store.now.slots self.new reference)) }
+        ensures done { IfOk result (λ ok. MatchBool ok
+            (IsTrueWaiting store.now.slots self.new reference)
+            (IsConflict store.now.slots self.new reference)) }
     {
-        match self.place(reference) {
-            Place::Waiting => self.look_at_clause(store, reference),
-            Place::Detached => Ok(true),
-            Place::Resting => Ok(true),
-            Place::Watching(_, _, _) => Ok(true),
+        match self.attachment(reference) {
+            Attachment::Waiting => self.look_at_clause(store, reference),
+            Attachment::Detached => Ok(true),
+            Attachment::Satisfied => Ok(true),
+            Attachment::Watching(_, _, _) => Ok(true),
         }
     }
 
-    /// Makes the clause true where that is left, and finds watches where it can. False where all its literals are.
+    /// Makes the clause true where that is left, and finds watches where it can. False where all
+    /// its literals are.
     fn look_at_clause(&mut self, store: &Store, reference: CRef) -> Result<bool, AllocError>
         requires fits { Fits self.old store.now.slots }
-        requires waits { place_in self.old.watches.table reference ≡ Place.Waiting }
+        requires waits { attachment_in self.old.watches.table reference ≡ Attachment.Waiting }
         ensures continues { Continues self.old self.new }
         ensures fits { Fits self.new store.now.slots }
         ensures list { self.new.watches.waiting ≡ self.old.watches.waiting }
-        ensures done { IfOk result (λ ok. MatchBool ok (IsTrueWaiting store.now.slots self.new reference) (IsConflict store.now.slots self.new reference)) }
+        ensures done { IfOk result (λ ok. MatchBool ok
+            (IsTrueWaiting store.now.slots self.new reference)
+            (IsConflict store.now.slots self.new reference)) }
     {
         let lits = store.lits(reference);
         let Some(one) = first_not_false(&self.trail, lits) else {
@@ -105,7 +122,7 @@ impl Engine {
             return Ok(true);
         }
         self.make_true(one, reference);
-        self.settle(store, reference, one)?;
+        self.watch_satisfied(store, reference, one)?;
         Ok(true)
     }
 
@@ -118,11 +135,18 @@ impl Engine {
         }
     }
 
-    /// Finds watches for a clause of which this literal is true, or lets it rest, where it can.
-    fn settle(&mut self, store: &Store, reference: CRef, one: Lit) -> Result<(), AllocError>
+    /// Finds watches for a clause of which this literal is true, or drops it as satisfied at level
+    /// 0, where it can.
+    fn watch_satisfied(
+        &mut self,
+        store: &Store,
+        reference: CRef,
+        one: Lit,
+    ) -> Result<(), AllocError>
         requires fits { Fits self.old store.now.slots }
-        requires waits { place_in self.old.watches.table reference ≡ Place.Waiting }
-        requires member { IfSome (clause_at store.now.slots reference) (λ c. contains_literal one c ≡ true) }
+        requires waits { attachment_in self.old.watches.table reference ≡ Attachment.Waiting }
+        requires member { IfSome (clause_at store.now.slots reference)
+            (λ c. contains_literal one c ≡ true) }
         requires is_true { contains_literal one (literals_of self.old.trail) ≡ true }
         ensures continues { Continues self.old self.new }
         ensures fits { Fits self.new store.now.slots }
@@ -136,19 +160,20 @@ impl Engine {
             return Ok(());
         }
         if depth == 0 {
-            self.rest(reference);
+            self.set_satisfied(reference);
         }
         Ok(())
     }
 
-    fn rest(&mut self, reference: CRef)
+    fn set_satisfied(&mut self, reference: CRef)
         requires { is_attached self.old reference ≡ true }
-        ensures { self.new ≡ with_place self.old reference Place.Resting }
+        ensures { self.new ≡ with_attachment self.old reference Attachment.Satisfied }
     {
-        self.table.set(reference.index(), Place::Resting);
+        self.table.set(reference.index(), Attachment::Satisfied);
     }
 
-    /// A clause without watches watches these two literals from now on. A refused growth changes nothing.
+    /// A clause without watches watches these two literals from now on. A refused growth changes
+    /// nothing.
     fn watch(
         &mut self,
         reference: CRef,
@@ -159,7 +184,8 @@ impl Engine {
         requires attached { is_attached self.old reference ≡ true }
         requires one { IsVariable self.old.variables one }
         requires other { IsVariable self.old.variables other }
-        ensures ok { OnOk result ((rest : Rest) × IsRest lits.now one other rest × (self.new ≡ watched self.old reference one other rest)) }
+        ensures ok { OnOk result ((rest : Rest) × IsRest lits.now one other rest
+            × (self.new ≡ watched self.old reference one other rest)) }
         ensures err { OnErr result (self.new ≡ self.old) }
     {
         let first = Entry {
@@ -178,7 +204,7 @@ impl Engine {
         }
         let rest = rest_of(lits, one, other);
         self.table
-            .set(reference.index(), Place::Watching(one, other, rest));
+            .set(reference.index(), Attachment::Watching(one, other, rest));
         Ok(())
     }
 }

@@ -11,7 +11,7 @@ pub returns-clause-fits : goal.returns-clause-fits
 returns-clause-fits c = λ slots fits.
     let i = c.self.inside in
     let doomed = c.args.doomed.now in
-    let e = engine_state i.trail i.table i.pool i.waiting.items i.settled i.processed i.failed in
+    let e = engine_state i.trail i.table i.pool i.waiting.items i.stable_qhead i.qhead i.failed in
     let fits' : Fits e slots = subst (λ x. Fits x slots) (sym c.self.view_is) fits in
     let none : All (λ (a : Assigned). IfSome a.reason (λ r. is_doomed doomed r ≡ false)) e.trail =
     subst (λ (x : EngineState). All (λ (a : Assigned). IfSome a.reason (λ r. is_doomed doomed r ≡ false)) x.trail) (sym c.self.view_is) c.requires.no_reason in

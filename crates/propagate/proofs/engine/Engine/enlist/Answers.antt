@@ -1,15 +1,15 @@
 use Rattle.std.proofs.Common.{refl, subst}
 use Rattle.propagate.specs.Watches.{IsWatching, engine_state}
 use Rattle.propagate.specs.Steps.{grown_table}
-use Rattle.propagate.specs.declared.table.Place.TheVariants.{Waiting}
-use Rattle.propagate.proofs.Attaching.{engine_set, engine_change, place_grown, length-grown}
+use Rattle.propagate.specs.declared.table.Attachment.TheVariants.{Waiting}
+use Rattle.propagate.proofs.Attaching.{engine_set, engine_change, attachment_grown, length-grown}
 use Rattle.propagate.proofs.engine.Engine.enlist.Goals as goal
 
 pub invariant_of-self-2 : goal.invariant_of-self-2
 invariant_of-self-2 c =
     let i = c.self.inside in
-    let e = engine_state i.trail i.table i.pool i.waiting.items i.settled i.processed i.failed in
+    let e = engine_state i.trail i.table i.pool i.waiting.items i.stable_qhead i.qhead i.failed in
     let g = grown_table i.table c.args.reference in
-    let e' = engine_state i.trail g i.pool i.waiting.items i.settled i.processed i.failed in
-    let inv' = engine_change e g i.pool i.waiting.items c.self.invariant refl (λ r one other at. c.self.invariant.watching r one other (subst (λ x. IsWatching x one other) (place_grown i.table c.args.reference r) at)) in
+    let e' = engine_state i.trail g i.pool i.waiting.items i.stable_qhead i.qhead i.failed in
+    let inv' = engine_change e g i.pool i.waiting.items c.self.invariant refl (λ r one other at. c.self.invariant.watching r one other (subst (λ x. IsWatching x one other) (attachment_grown i.table c.args.reference r) at)) in
     rw (c.set.ensures, c.index.ensures, c.in_ok-make_room.ensures.ok) (engine_set e' c.args.reference Waiting i.pool c.push.new.self.items inv' refl (length-grown i.table c.args.reference) (λ one other at. absurd (cc)))

@@ -2,7 +2,7 @@ use Rattle.std.proofs.Common.{◌≡◌, true, false, None, Some, sym, ap, subst
 use Rattle.std.proofs.lemmas.Bool.{true≢false}
 use Rattle.wcnf.specs.Clause.{contains_literal}
 use Rattle.propagate.specs.Trail.{value_in}
-use Rattle.propagate.specs.Watches.{EngineState, place_in}
+use Rattle.propagate.specs.Watches.{EngineState, attachment_in}
 use Rattle.propagate.specs.Steps.{IsWatchedBy}
 use Rattle.propagate.proofs.Looking.{within_variable, same_other, open_left, unit_left, false_left}
 use Rattle.propagate.proofs.engine.Engine.look_at.Goals as goal
@@ -14,8 +14,8 @@ pub returns-in-None-2 : goal.returns-in-None-2
 returns-in-None-2 c =
     let now = c.args.self.now in
     let o = c.other.result.0 in
-    let by = subst (λ (x : EngineState). IsWatchedBy (place_in x.watches.table c.args.entry.reference) c.args.falsified o) c.self.view_is c.other.ensures.other in
-    let so : o ≡ c.requires.other = same_other (place_in now.watches.table c.args.entry.reference) c.args.falsified c.requires.other o c.requires.apart c.requires.place by in
+    let by = subst (λ (x : EngineState). IsWatchedBy (attachment_in x.watches.table c.args.entry.reference) c.args.falsified o) c.self.view_is c.other.ensures.other in
+    let so : o ≡ c.requires.other = same_other (attachment_in now.watches.table c.args.entry.reference) c.args.falsified c.requires.other o c.requires.apart c.requires.attachment by in
     let member : contains_literal o c.requires.clause ≡ true = subst (λ x. contains_literal x c.requires.clause ≡ true) (sym so) c.requires.member in
     let T = now.trail in
     let trail = ap (λ (x : EngineState). x.trail) c.self.view_is in

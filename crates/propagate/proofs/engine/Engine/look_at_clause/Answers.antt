@@ -3,14 +3,14 @@ use Rattle.std.specs.Prelude.{All}
 use Rattle.wcnf.specs.Literal.{Literal}
 use Rattle.wcnf.specs.Clause.{contains_literal}
 use Rattle.clauses.specs.Slots.{clause_at}
-use Rattle.propagate.specs.declared.table.Place.TheVariants.{Watching}
+use Rattle.propagate.specs.declared.table.Attachment.TheVariants.{Watching}
 use Rattle.propagate.specs.Trail.{literals_of, value_in}
 use Rattle.propagate.specs.Watches.{EngineState, IsEngine, is_attached, is_kept}
 use Rattle.propagate.specs.Fits.{Fits}
 use Rattle.propagate.specs.Steps.{Continues}
 use Rattle.propagate.proofs.Looking.{waiting_within, within_variable, within_all, all_false_from, not_false_value}
 use Rattle.propagate.proofs.Stepping.{open_watch}
-use Rattle.propagate.proofs.Continuing.{continues_place}
+use Rattle.propagate.proofs.Continuing.{continues_attachment}
 use Rattle.propagate.proofs.Watching.{fits_watch, made_true}
 use Rattle.propagate.proofs.engine.Engine.look_at_clause.Goals as goal
 
@@ -80,7 +80,7 @@ make_true-requires c =
 pub returns-in-Some-other_not_false-clause-continues : goal.returns-in-Some-other_not_false-clause-continues
 returns-in-Some-other_not_false-clause-continues c =
     let now = c.args.self.now in
-    subst (Continues now) (sym c.in_ok-watch.ensures.ok.2) (continues_place now c.args.reference (Watching c.in-Some.one c.in-Some-other_not_false.other c.in_ok-watch.ensures.ok.0) _ (ap is_kept c.requires.waits) refl (λ e. (cc)))
+    subst (Continues now) (sym c.in_ok-watch.ensures.ok.2) (continues_attachment now c.args.reference (Watching c.in-Some.one c.in-Some-other_not_false.other c.in_ok-watch.ensures.ok.0) _ (ap is_kept c.requires.waits) refl (λ e. (cc)))
 
 pub returns-in-Some-other_not_false-clause-fits : goal.returns-in-Some-other_not_false-clause-fits
 returns-in-Some-other_not_false-clause-fits c =
@@ -99,8 +99,8 @@ returns-in-Some-other_not_false-clause-fits c =
     (fits_watch now slots r lits one other c.in_ok-watch.ensures.ok.0 inv c.requires.fits c.requires.waits live (λ e. c.in-Some-other_not_false.ensures.1 (sym e))
     (open_watch now lits one c.in-Some.ensures.0 a) (open_watch now lits other c.in-Some-other_not_false.ensures.0 b) c.in_ok-watch.ensures.ok.1)
 
-pub settle-requires-clause-fits : goal.settle-requires-clause-fits
-settle-requires-clause-fits c =
+pub watch_satisfied-requires-clause-fits : goal.watch_satisfied-requires-clause-fits
+watch_satisfied-requires-clause-fits c =
     let now = c.args.self.now in
     let slots = c.args.store.now.slots in
     let r = c.args.reference in
@@ -130,4 +130,4 @@ returns-clause-done c =
     let m = made_true now c.make_true.new.self slots r lits one inv c.requires.fits was live within c.in-Some.ensures.0 (subst (λ T. value_in T one ≢ Some false) trail c.in-Some.ensures.1)
     (subst (λ T. All (λ k. (k ≡ one) ⊎ (value_in T k ≡ Some false)) lits) trail c.in_default-other_not_false.ensures) c.make_true.ensures in
     λ x p l. let e : lits ≡ x = cc (live, l) in
-    (one, subst (λ z. contains_literal one z ≡ true) e c.in-Some.ensures.0, subst (λ T. contains_literal one (literals_of T) ≡ true) (sym c.in_ok-settle.ensures.trail) m.1)
+    (one, subst (λ z. contains_literal one z ≡ true) e c.in-Some.ensures.0, subst (λ T. contains_literal one (literals_of T) ≡ true) (sym c.in_ok-watch_satisfied.ensures.trail) m.1)

@@ -3,7 +3,7 @@ use Rattle.std.specs.Prelude.{IfNone}
 use Rattle.std.specs.List.{AllByRecursion}
 use Rattle.std.proofs.lemmas.List.{length-append}
 use Rattle.wcnf.specs.Literal.{index_of}
-use Rattle.propagate.specs.Rows.{row_at}
+use Rattle.propagate.specs.Pool.{row_at}
 use Rattle.propagate.specs.Trail.{literals_of}
 use Rattle.propagate.specs.Fits.{Fits}
 use Rattle.propagate.specs.Steps.{Continues, AreTrueWaiting, IsTrueEntry}
@@ -21,13 +21,13 @@ loop-falsified-preserved c =
     let g = f.continues in
     let s = c.in-Some.ensures in
     let long : length mid.trail ≡ length old.trail + length g.more = ap length g.grown ∙ length-append old.trail g.more in
-    let lt : mid.watches.processed < length mid.trail = let e = f.same in let b = s.0 in omega arith in
+    let lt : mid.watches.qhead < length mid.trail = let e = f.same in let b = s.0 in omega arith in
     let row = subst (λ o. IfNone o (AllByRecursion (IsTrueEntry slots (literals_of mid.trail)) (row_at mid.watches.rows (index_of w)))) c.in_default-2.is f.done in
-    let at = grown_at old.trail mid.trail g.more old.watches.processed mid.watches.processed w w g.grown f.same s.0 s.3 in
+    let at = grown_at old.trail mid.trail g.more old.watches.qhead mid.watches.qhead w w g.grown f.same s.0 s.3 in
     let fits : Fits c.advance.new.self slots = subst (λ e. Fits e slots) (sym c.advance.ensures) (fits_advance mid slots w w lt at row f.fits) in
     record {
       continues = continues_then c.args.self.now mid c.advance.new.self (continues_then c.args.self.now old mid c.loop-falsified.invariant.continues g)
-          (subst (Continues mid) (sym c.advance.ensures) (continues_progress mid mid.watches.settled (mid.watches.processed + 1)));
+          (subst (Continues mid) (sym c.advance.ensures) (continues_progress mid mid.watches.stable_qhead (mid.watches.qhead + 1)));
       fits = fits;
       waiting = subst (AreTrueWaiting slots) (sym c.advance.ensures) f.waiting;
     }

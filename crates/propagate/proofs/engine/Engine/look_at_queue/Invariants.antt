@@ -11,4 +11,4 @@ invariant-loop-falsified l = record {
 }
 
 abbrev pub decreases-loop-falsified : goal.decreases-loop-falsified
-decreases-loop-falsified l = l.self.variables - l.self.watches.processed
+decreases-loop-falsified l = l.self.variables - l.self.watches.qhead

@@ -1,6 +1,6 @@
 use Rattle.std.proofs.Common.{◌≡◌, ◌-◌, length}
 use Rattle.wcnf.specs.Literal.{index_of}
-use Rattle.propagate.specs.Rows.{row_at}
+use Rattle.propagate.specs.Pool.{row_at}
 use Rattle.propagate.specs.Steps.{Continues, InRow}
 use Rattle.propagate.proofs.engine.Engine.look_at_row.Given as goal
 
@@ -8,7 +8,7 @@ abbrev pub invariant-loop-read : goal.invariant-loop-read
 invariant-loop-read l = record {
   continues : Continues l.initial.self l.self;
   state : InRow l.store.slots l.self l.falsified l.write l.read;
-  same : l.self.watches.processed ≡ l.initial.self.watches.processed;
+  same : l.self.watches.qhead ≡ l.initial.self.watches.qhead;
 }
 
 abbrev pub decreases-loop-read : goal.decreases-loop-read

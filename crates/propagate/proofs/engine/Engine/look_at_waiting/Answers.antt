@@ -25,16 +25,16 @@ loop-at-preserved c =
 pub returns-clause-fits : goal.returns-clause-fits
 returns-clause-fits c =
     let slots = c.args.store.now.slots in
-    subst (λ e. Fits e slots) (sym c.drop_settled.ensures) (fits_waiting c.loop-at.self slots c.loop-at.invariant.fits)
+    subst (λ e. Fits e slots) (sym c.prune_waiting.ensures) (fits_waiting c.loop-at.self slots c.loop-at.invariant.fits)
 
 pub returns-clause-continues : goal.returns-clause-continues
 returns-clause-continues c =
     let e = c.loop-at.self in
-    continues_then c.args.self.now e c.drop_settled.new.self c.loop-at.invariant.continues (subst (Continues e) (sym c.drop_settled.ensures) (continues_rows e e.watches.rows _))
+    continues_then c.args.self.now e c.prune_waiting.new.self c.loop-at.invariant.continues (subst (Continues e) (sym c.prune_waiting.ensures) (continues_rows e e.watches.rows _))
 
 pub returns-clause-waiting : goal.returns-clause-waiting
 returns-clause-waiting c =
     let slots = c.args.store.now.slots in
     let le : length c.args.self.now.watches.waiting ≤ c.loop-at.at = let t = c.loop-at-test.false in let n = c.waiting_len-at-end.ensures in omega arith in
-    subst (AreTrueWaiting slots) (sym c.drop_settled.ensures)
+    subst (AreTrueWaiting slots) (sym c.prune_waiting.ensures)
     (all_seen slots c.loop-at.self c.args.self.now.watches.waiting c.loop-at.at c.loop-at.invariant.fits c.loop-at.invariant.list le c.loop-at.invariant.seen)

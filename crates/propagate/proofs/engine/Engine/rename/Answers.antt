@@ -16,8 +16,8 @@ module _ (c : goal.After-rename-2) where
   long_waiting : length c.rename_references.new.references ≡ c.self.inside.waiting.len
   long_waiting = omega (arith, c.rename_references.auto.references, c.deref_mut.ensures.len)
 
-  moved : IsMoved c.self.inside.table c.move_places.new.table c.args.moves.now
-  moved = subst (λ (ms : Renaming). IsMoved c.self.inside.table c.move_places.new.table ms) c.pairs.ensures.pairs c.move_places.ensures
+  moved : IsMoved c.self.inside.table c.move_attachments.new.table c.args.moves.now
+  moved = subst (λ (ms : Renaming). IsMoved c.self.inside.table c.move_attachments.new.table ms) c.pairs.ensures.pairs c.move_attachments.ensures
 
   waiting : (with_items c.self.inside.waiting c.rename_references.new.references).items ≡ map (named c.args.moves.now) c.self.inside.waiting.items
   waiting =
@@ -26,7 +26,7 @@ module _ (c : goal.After-rename-2) where
 
 pub returns-clause-attached : goal.returns-clause-attached
 returns-clause-attached c = (all_renamed c.args.self.now c.args.moves.now c.self.inside.trail c.rename-2.new.self c.self.inside.table _ c.self.inside.pool c.rename.new.self c.self.inside.waiting.items _
-    c.self.inside.settled c.self.inside.processed c.self.inside.failed c.self.view_is c.rename-2.ensures c.rename.ensures (waiting c)
+    c.self.inside.stable_qhead c.self.inside.qhead c.self.inside.failed c.self.view_is c.rename-2.ensures c.rename.ensures (waiting c)
     (subst (λ (ms : Renaming). IsStrictlyIncreasing (map (λ m. m.0) ms)) c.pairs.ensures.pairs c.pairs.ensures.old_rise)
     (subst (λ (ms : Renaming). IsStrictlyIncreasing (map (λ m. m.1) ms)) c.pairs.ensures.pairs c.pairs.ensures.new_rise)
     (moved c) c.requires.listed).1
@@ -39,7 +39,7 @@ returns-clause-trail c =
 
 pub returns-clause-fits : goal.returns-clause-fits
 returns-clause-fits c = (all_renamed c.args.self.now c.args.moves.now c.self.inside.trail c.rename-2.new.self c.self.inside.table _ c.self.inside.pool c.rename.new.self c.self.inside.waiting.items _
-    c.self.inside.settled c.self.inside.processed c.self.inside.failed c.self.view_is c.rename-2.ensures c.rename.ensures (waiting c)
+    c.self.inside.stable_qhead c.self.inside.qhead c.self.inside.failed c.self.view_is c.rename-2.ensures c.rename.ensures (waiting c)
     (subst (λ (ms : Renaming). IsStrictlyIncreasing (map (λ m. m.0) ms)) c.pairs.ensures.pairs c.pairs.ensures.old_rise)
     (subst (λ (ms : Renaming). IsStrictlyIncreasing (map (λ m. m.1) ms)) c.pairs.ensures.pairs c.pairs.ensures.new_rise)
     (moved c) c.requires.listed).2

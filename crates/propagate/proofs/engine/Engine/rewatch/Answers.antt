@@ -1,6 +1,6 @@
 use Rattle.std.proofs.Common.{◌≡◌, ◌<◌, length, ap, ◌∙◌, arith}
 use Rattle.std.proofs.lemmas.List.{length-set}
-use Rattle.propagate.specs.declared.table.Place.TheVariants.{Watching}
+use Rattle.propagate.specs.declared.table.Attachment.TheVariants.{Watching}
 use Rattle.propagate.specs.Watches.{EngineState, engine_state, is_attached, is_kept}
 use Rattle.propagate.proofs.Attaching.{engine_set, kept_within}
 use Rattle.propagate.proofs.engine.Engine.rewatch.Goals as goal
@@ -9,7 +9,7 @@ pub invariant_of-self-2 : goal.invariant_of-self-2
 invariant_of-self-2 c =
     let i = c.self.inside in
     let r = c.args.reference in
-    let e = engine_state i.trail i.table i.pool i.waiting.items i.settled i.processed i.failed in
+    let e = engine_state i.trail i.table i.pool i.waiting.items i.stable_qhead i.qhead i.failed in
     let variables = ap (λ (x : EngineState). x.variables) c.self.view_is in
     let lt : r < length i.table = kept_within i.table r (ap (λ (x : EngineState). is_attached x r) c.self.view_is ∙ ap is_kept c.requires.watching.2) in
     let long : length c.push.new.self ≡ length i.pool = ap length c.in_ok-push.ensures.ok ∙ length-set _ _ _ in

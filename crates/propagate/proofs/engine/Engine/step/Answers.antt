@@ -1,14 +1,14 @@
 use Rattle.std.proofs.Common.{◌≡◌, ◌+◌, ◌++◌, ◌∷◌, [], true, length, get_or, set, Some, refl, sym, ap, subst, ◌∙◌}
 use Rattle.std.specs.Prelude.{slice_get}
 use Rattle.wcnf.specs.Literal.{index_of}
-use Rattle.propagate.specs.declared.table.Place.TheVariants.{Watching}
-use Rattle.propagate.specs.Rows.{row_at, with_row}
-use Rattle.propagate.specs.Watches.{EngineState, IsEngine, IsVariable, is_attached, place_in}
+use Rattle.propagate.specs.declared.table.Attachment.TheVariants.{Watching}
+use Rattle.propagate.specs.Pool.{row_at, with_row}
+use Rattle.propagate.specs.Watches.{EngineState, IsEngine, IsVariable, is_attached, attachment_in}
 use Rattle.propagate.specs.Steps.{InRow, IsTrueIn, Continues, with_rows, with_trail, entry_of}
 use Rattle.propagate.proofs.Trails.{made}
 use Rattle.propagate.proofs.Looking.{within_variable}
 use Rattle.propagate.proofs.Stepping.{watched_from, keep_row, imply_row, rewatch_row, got_at, kept_by, moved_row, engine_trail, last_true}
-use Rattle.propagate.proofs.Continuing.{continues_place}
+use Rattle.propagate.proofs.Continuing.{continues_attachment}
 use Rattle.propagate.proofs.engine.Engine.step.Goals as goal
 
 pub look_at-requires : goal.look_at-requires
@@ -62,7 +62,7 @@ returns-in-Unit-clause-after c =
     let W = watched_from slots now w c.args.write c.args.read x inv c.requires.state c.requires.more at in
     let l = c.in-Unit.blocker in
     let r = x.reference in
-    let was : is_attached now r ≡ true = kept_by (place_in now.watches.table r) w W.other W.place in
+    let was : is_attached now r ≡ true = kept_by (attachment_in now.watches.table r) w W.other W.attachment in
     let unit = c.in-Unit.ensures.2 W.clause W.live in
     let named : IsVariable now.variables l = within_variable now.variables W.clause l W.within unit.member in
     let e1 = with_trail now (now.trail ++ made l (Some r) ∷ []) in
@@ -89,8 +89,8 @@ pub returns-in-Ok-clause-continues : goal.returns-in-Ok-clause-continues
 returns-in-Ok-clause-continues c =
     let now = c.args.self.now in
     let r = c.get-entry.result.reference in
-    let was : is_attached now r ≡ true = kept_by (place_in now.watches.table r) c.args.falsified c.in-Watch.other c.in-Watch.ensures.0 in
-    subst (Continues now) (sym c.in-Ok.ensures.ok) (continues_place now r (Watching c.in-Watch.lit c.in-Watch.other _) _ was refl (λ e. (cc)))
+    let was : is_attached now r ≡ true = kept_by (attachment_in now.watches.table r) c.args.falsified c.in-Watch.other c.in-Watch.ensures.0 in
+    subst (Continues now) (sym c.in-Ok.ensures.ok) (continues_attachment now r (Watching c.in-Watch.lit c.in-Watch.other _) _ was refl (λ e. (cc)))
 
 pub returns-in-Ok-clause-len : goal.returns-in-Ok-clause-len
 returns-in-Ok-clause-len c =
@@ -98,7 +98,7 @@ returns-in-Ok-clause-len c =
     let r = c.get-entry.result.reference in
     let w = c.args.falsified in
     let inv : IsEngine now = subst IsEngine c.self.view_is c.self.invariant in
-    let was : is_attached now r ≡ true = kept_by (place_in now.watches.table r) w c.in-Watch.other c.in-Watch.ensures.0 in
+    let was : is_attached now r ≡ true = kept_by (attachment_in now.watches.table r) w c.in-Watch.other c.in-Watch.ensures.0 in
     ap (λ (e : EngineState). length (row_at e.watches.rows (index_of w))) c.in-Ok.ensures.ok
     ∙ ap length (moved_row c.args.store.now.slots now w c.args.write c.args.read r c.in-Watch.other c.in-Watch.lit inv c.requires.state was c.in-Watch.ensures.2)
 
@@ -113,4 +113,4 @@ returns-in-False-clause-after c =
     got_at (row_at now.watches.rows (index_of w)) c.args.read x
     (sym (ap (λ k. slice_get (row_at c.self.inside.pool k) c.args.read) c.index.ensures.index ∙ ap (λ (e : EngineState). slice_get (row_at e.watches.rows (index_of w)) c.args.read) c.self.view_is) ∙ c.get-entry.ensures) in
     let W = watched_from slots now w c.args.write c.args.read x inv c.requires.state c.requires.more at in
-    (c.requires.state, (kept_by (place_in now.watches.table x.reference) w W.other W.place, (W.clause, W.live, c.in-False.ensures W.clause W.live)))
+    (c.requires.state, (kept_by (attachment_in now.watches.table x.reference) w W.other W.attachment, (W.clause, W.live, c.in-False.ensures W.clause W.live)))

@@ -1,8 +1,8 @@
 use Rattle.std.proofs.Common.{◌≡◌, ◌<◌, length, take, ◌++◌, ◌∷◌, [], refl, ap, ◌∙◌, arith}
 use Rattle.std.proofs.lemmas.List.{length-set}
 use Rattle.wcnf.specs.Literal.{index_of}
-use Rattle.propagate.specs.declared.table.Place.TheVariants.{Watching}
-use Rattle.propagate.specs.Rows.{row_at, with_row}
+use Rattle.propagate.specs.declared.table.Attachment.TheVariants.{Watching}
+use Rattle.propagate.specs.Pool.{row_at, with_row}
 use Rattle.propagate.specs.Watches.{EngineState, engine_state, is_attached}
 use Rattle.propagate.specs.Steps.{entry_of}
 use Rattle.propagate.proofs.Pools.{on_err_at, on_ok_at}
@@ -24,13 +24,13 @@ returns-then-is_err-clause-err c =
     let pool : c.truncate.new.self ≡ i.pool =
     c.truncate.ensures ∙ ap (λ j. with_row c.push-2.new.self j (take c.len-len.result (row_at c.push-2.new.self j))) c.index-then-is_err.ensures.index
     ∙ unpushed i.pool c.push-2.new.self k c.len-len.result (entry_of c.args.reference c.args.other) lt n e1 in
-    ap (λ p. engine_state i.trail i.table p i.waiting.items i.settled i.processed i.failed) pool ∙ c.self.view_is
+    ap (λ p. engine_state i.trail i.table p i.waiting.items i.stable_qhead i.qhead i.failed) pool ∙ c.self.view_is
 
 pub invariant_of-self-2 : goal.invariant_of-self-2
 invariant_of-self-2 c =
     let i = c.self.inside in
     let r = c.args.reference in
-    let e = engine_state i.trail i.table i.pool i.waiting.items i.settled i.processed i.failed in
+    let e = engine_state i.trail i.table i.pool i.waiting.items i.stable_qhead i.qhead i.failed in
     let variables = ap (λ (x : EngineState). x.variables) c.self.view_is in
     let lt : r < length i.table = kept_within i.table r (ap (λ x. is_attached x r) c.self.view_is ∙ c.requires.attached) in
     let long : length c.push-2.new.self ≡ length i.pool =

@@ -2,7 +2,7 @@ use Rattle.std.proofs.Common.{◌≡◌, ◌<◌, ◌∙◌, length, arith, rule
 use Rattle.std.specs.Prelude.{not}
 use Rattle.propagate.specs.declared.pool.Entry.{Entry}
 use Rattle.propagate.specs.Doomed.{is_doomed}
-use Rattle.propagate.specs.Rows.{row_at}
+use Rattle.propagate.specs.Pool.{row_at}
 use Rattle.propagate.proofs.Rewriting.{sieved_kept, sieved_left, sieved_all}
 use Rattle.propagate.proofs.pool.WatchPool.drop_doomed_of.Goals as goal
 use Rattle.propagate.proofs.pool.WatchPool.drop_doomed_of.Goals.{then-not-is_doomed, else-not-is_doomed}

@@ -1,5 +1,5 @@
 use Rattle.std.proofs.Common.{◌≡◌, ◌<◌, ◌≤◌, ◌∙◌, ℕ, length, get_or, arith}
-use Rattle.propagate.specs.Blocks.{no_entry}
+use Rattle.propagate.specs.Block.{no_entry}
 use Rattle.propagate.proofs.Laid.{rows_same}
 use Rattle.propagate.proofs.pool.WatchPool.grow.Goals as goal
 

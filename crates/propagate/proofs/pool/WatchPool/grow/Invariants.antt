@@ -1,5 +1,5 @@
 use Rattle.std.proofs.Common.{◌≡◌, ℕ, ◌<◌, ◌≤◌, length, get_or}
-use Rattle.propagate.specs.Blocks.{no_entry}
+use Rattle.propagate.specs.Block.{no_entry}
 use Rattle.propagate.proofs.pool.WatchPool.grow.Given as goal
 
 abbrev pub invariant-loop-place : goal.invariant-loop-place

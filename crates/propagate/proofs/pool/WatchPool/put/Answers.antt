@@ -1,6 +1,6 @@
 use Rattle.std.proofs.Common.{◌≡◌, ◌≢◌, ◌<◌, ◌≤◌, ◌+◌, ◌∙◌, [], ℕ, length, get_or, ap, sym, arith, refl}
 use Rattle.std.proofs.lemmas.List.{get_or_read}
-use Rattle.propagate.specs.Laid.{no_head}
+use Rattle.propagate.specs.PoolLayout.{no_head}
 use Rattle.propagate.specs.declared.pool.Head.{Head}
 use Rattle.propagate.proofs.Laid.{rows_put, long_rows}
 use Rattle.propagate.proofs.pool.WatchPool.put.Goals as goal

@@ -1,7 +1,7 @@
 use Rattle.std.proofs.Common.{◌≡◌, ◌<◌, ◌∙◌, length, arith, rules}
 use Rattle.std.specs.Prelude.{not, ◌==◌}
 use Rattle.propagate.specs.declared.pool.Entry.{Entry}
-use Rattle.propagate.specs.Rows.{row_at}
+use Rattle.propagate.specs.Pool.{row_at}
 use Rattle.propagate.proofs.Rewriting.{sieved_kept, sieved_left, sieved_all}
 use Rattle.propagate.proofs.pool.WatchPool.remove.Goals as goal
 use Rattle.propagate.proofs.pool.WatchPool.remove.Goals.{then-ne, else-ne}

@@ -1,6 +1,6 @@
 use Rattle.std.proofs.Common.{◌≡◌, ◌<◌, ◌≤◌, [], length, get_or, ap, arith, refl}
 use Rattle.std.proofs.lemmas.List.{get_or_read}
-use Rattle.propagate.specs.Laid.{no_head}
+use Rattle.propagate.specs.PoolLayout.{no_head}
 use Rattle.propagate.specs.declared.pool.Head.{Head}
 use Rattle.propagate.proofs.Laid.{rows_truncate, long_row, long_rows}
 use Rattle.propagate.proofs.pool.WatchPool.truncate.Goals as goal

@@ -1,8 +1,8 @@
 use Rattle.std.proofs.Common.{◌≡◌, get_or, ◌∙◌, ap, arith}
-use Rattle.propagate.specs.Watches.{place_in, rest_in}
+use Rattle.propagate.specs.Watches.{attachment_in, rest_in}
 use Rattle.propagate.specs.Steps.{rest_after}
-use Rattle.propagate.specs.Zipped.{places}
-use Rattle.propagate.proofs.Zipped.{watching_within, watching_rest, places_set_pair}
+use Rattle.propagate.specs.Table.{attachments}
+use Rattle.propagate.proofs.Zipped.{watching_within, watching_rest, attachments_set_pair}
 use Rattle.propagate.proofs.table.Table.rewatch.Goals as goal
 
 pub index-requires : goal.index-requires
@@ -24,8 +24,8 @@ returns c =
     let p = c.index.result.now in
     let watching = rw (← c.self.view_is) at c.requires.2 in
     let at : p ≡ get_or i.pairs.items r p = c.index.ensures ∙ ap (λ k. get_or i.pairs.items k p) c.index-at.ensures in
-    let rest : c.after-rest.result ≡ rest_after c.args.falsified (rest_in (place_in (places i.kinds.items i.pairs.items) r)) =
+    let rest : c.after-rest.result ≡ rest_after c.args.falsified (rest_in (attachment_in (attachments i.kinds.items i.pairs.items) r)) =
     c.after-rest.ensures ∙ ap (rest_after c.args.falsified) (watching_rest i.kinds.items i.pairs.items r p c.requires.0 c.requires.1 at watching) in
     rw (c.index-at.ensures, rest, ← c.self.view_is)
-    (places_set_pair i.kinds.items i.pairs.items r (record { one = c.args.one; other = c.args.other; rest = rest_after c.args.falsified (rest_in (place_in (places i.kinds.items i.pairs.items) r)) })
+    (attachments_set_pair i.kinds.items i.pairs.items r (record { one = c.args.one; other = c.args.other; rest = rest_after c.args.falsified (rest_in (attachment_in (attachments i.kinds.items i.pairs.items) r)) })
     c.requires.0 c.requires.1 watching)

@@ -1,10 +1,10 @@
 use Rattle.std.proofs.Common.{◌≡◌, ◌≢◌, ◌<◌, ◌≤◌, ◌+◌, ◌^◌, ◌∙◌, [], ℕ, length, get_or, ap, sym, arith, refl}
 use Rattle.std.proofs.lemmas.List.{get_or_read}
-use Rattle.propagate.specs.Laid.{no_head, IsLaid, rows_of}
-use Rattle.propagate.specs.Blocks.{no_entry}
+use Rattle.propagate.specs.PoolLayout.{no_head, IsLaid, rows_of}
+use Rattle.propagate.specs.Block.{no_entry}
 use Rattle.propagate.specs.declared.pool.Head.{Head}
 use Rattle.propagate.proofs.Laid.{laid_moved, rows_moved, long_rows}
-use Rattle.propagate.proofs.pool.WatchPool.relocate.Goals as goal
+use Rattle.propagate.proofs.pool.WatchPool.move_row.Goals as goal
 
 pub invariant_of-self : goal.invariant_of-self
 invariant_of-self c =

@@ -2,7 +2,7 @@
 use Rattle.std.specs.Prelude.{ℕ, ◌≡◌, ◌-◌, ◌^◌, ◌==◌, if◌then◌else◌, Option, Some, None, refl}
 use Rattle.std.proofs.Common.{ap, sym}
 use Rattle.std.proofs.lemmas.Bool.{cond_both, eqb-true}
-use Rattle.propagate.specs.declared.marks.MaybeLevel.TheInside.{Inside}
+use Rattle.propagate.specs.declared.vardata.MaybeLevel.TheInside.{Inside}
 
 abbrev pub level_of_word : Inside → Option ℕ
 level_of_word m = if m.word == 2 ^ 32 - 1 then None else Some m.word

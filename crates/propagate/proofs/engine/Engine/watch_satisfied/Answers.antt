@@ -3,15 +3,15 @@ use Rattle.std.specs.Prelude.{All, IfSome}
 use Rattle.wcnf.specs.Literal.{Literal}
 use Rattle.wcnf.specs.Clause.{contains_literal}
 use Rattle.clauses.specs.Slots.{clause_at}
-use Rattle.propagate.specs.declared.table.Place.TheVariants.{Watching, Resting}
+use Rattle.propagate.specs.declared.table.Attachment.TheVariants.{Watching, Satisfied}
 use Rattle.propagate.specs.Trail.{level_in, depth_of}
 use Rattle.propagate.specs.Watches.{EngineState, IsEngine, is_kept}
 use Rattle.propagate.specs.Fits.{Fits}
 use Rattle.propagate.specs.Steps.{Continues}
 use Rattle.propagate.proofs.Looking.{waiting_within, within_variable, within_all}
-use Rattle.propagate.proofs.Continuing.{continues_place}
-use Rattle.propagate.proofs.Watching.{fits_watch, fits_rest, level_watch, true_watch}
-use Rattle.propagate.proofs.engine.Engine.settle.Goals as goal
+use Rattle.propagate.proofs.Continuing.{continues_attachment}
+use Rattle.propagate.proofs.Watching.{fits_watch, fits_satisfied, level_watch, true_watch}
+use Rattle.propagate.proofs.engine.Engine.watch_satisfied.Goals as goal
 
 pub other_of_level-requires : goal.other_of_level-requires
 other_of_level-requires c =
@@ -47,7 +47,7 @@ watch-requires-clause-other c =
 pub returns-in-Some-clause-continues : goal.returns-in-Some-clause-continues
 returns-in-Some-clause-continues c =
     let now = c.args.self.now in
-    subst (Continues now) (sym c.in_ok-watch.ensures.ok.2) (continues_place now c.args.reference (Watching c.args.one c.in-Some.other c.in_ok-watch.ensures.ok.0) _ (ap is_kept c.requires.waits) refl (λ e. (cc)))
+    subst (Continues now) (sym c.in_ok-watch.ensures.ok.2) (continues_attachment now c.args.reference (Watching c.args.one c.in-Some.other c.in_ok-watch.ensures.ok.0) _ (ap is_kept c.requires.waits) refl (λ e. (cc)))
 
 pub returns-in-Some-clause-fits : goal.returns-in-Some-clause-fits
 returns-in-Some-clause-fits c =
@@ -68,7 +68,7 @@ returns-in-Some-clause-fits c =
 pub returns-then-depth-eq0-clause-continues : goal.returns-then-depth-eq0-clause-continues
 returns-then-depth-eq0-clause-continues c =
     let now = c.args.self.now in
-    subst (Continues now) (sym c.rest.ensures) (continues_place now c.args.reference Resting _ (ap is_kept c.requires.waits) refl (λ e. (cc)))
+    subst (Continues now) (sym c.set_satisfied.ensures) (continues_attachment now c.args.reference Satisfied _ (ap is_kept c.requires.waits) refl (λ e. (cc)))
 
 pub returns-then-depth-eq0-clause-fits : goal.returns-then-depth-eq0-clause-fits
 returns-then-depth-eq0-clause-fits c =
@@ -80,4 +80,4 @@ returns-then-depth-eq0-clause-fits c =
     let m : contains_literal c.args.one lits ≡ true = subst (λ o. IfSome o (λ x. contains_literal c.args.one x ≡ true)) live c.requires.member in
     let trail = ap (λ (x : EngineState). x.trail) c.self.view_is in
     let zero : depth_of now.trail ≡ 0 = sym (c.depth-depth.ensures ∙ ap depth_of trail) ∙ c.if-depth-eq0.true in
-    subst (λ e. Fits e slots) (sym c.rest.ensures) (fits_rest now slots r lits c.requires.fits c.requires.waits live zero (c.args.one, m, c.requires.is_true))
+    subst (λ e. Fits e slots) (sym c.set_satisfied.ensures) (fits_satisfied now slots r lits c.requires.fits c.requires.waits live zero (c.args.one, m, c.requires.is_true))

@@ -1,7 +1,8 @@
 // The level, the position and the reason of each variable.
-ghost use Rattle.std.specs.Prelude.{◌≡◌, ◌-◌, ◌<◌, ◌^◌, None, Some, length, map, replicate, slice_set, slice_index, slice_index_or, IfOk, IfSome};
+ghost use Rattle.std.specs.Prelude.{◌≡◌, ◌-◌, ◌<◌, ◌^◌, None, Some, length, map, replicate};
+ghost use Rattle.std.specs.Prelude.{slice_set, slice_index, slice_index_or, IfOk, IfSome};
 ghost use Rattle.propagate.specs.Renames.{named_reason};
-ghost use Rattle.propagate.specs.Marks.{named_mark};
+ghost use Rattle.propagate.specs.Vardata.{named_var_data};
 
 use crate::names::new_reason;
 use clauses::store::{CRef, MaybeCRef, Moves};
@@ -20,7 +21,7 @@ impl Model for MaybeLevel {
 
     ghost Value = { Option ℕ };
 
-    ghost use Rattle.propagate.specs.Levels.{level_of_word, word_of_level, word-again};
+    ghost use Rattle.propagate.specs.VardataLevel.{level_of_word, word_of_level, word-again};
 
     ghost view = { level_of_word };
 
@@ -58,7 +59,7 @@ impl MaybeLevel {
 
 /// What is kept of a variable.
 #[derive(Clone, Copy, Debug, PartialEq, Eq, Drop)]
-pub(crate) struct Mark {
+pub(crate) struct VarData {
     level: MaybeLevel,
     // how many literals stand before it on the trail; of no meaning where there is no level
     position: u32,
@@ -66,68 +67,74 @@ pub(crate) struct Mark {
     reason: MaybeCRef,
 }
 
-const _: () = prove!(size_of::<Mark>() == 12);
+const _: () = prove!(size_of::<VarData>() == 12);
 
-/// A level, a position and a reason for each variable, side by side, so that an assignment writes to one place.
+/// A level, a position and a reason for each variable, side by side, so that an assignment writes
+/// to one place.
 #[derive(Drop)]
-pub(crate) struct Marks {
-    marks: Vec<Mark>,
+pub(crate) struct VarTable {
+    vardata: Vec<VarData>,
 }
 
-impl Model for Marks {
-    ghost use Rattle.propagate.specs.Marks.{MarksState, marks_state};
+impl Model for VarTable {
+    ghost use Rattle.propagate.specs.Vardata.{VarTableState, var_table_state};
 
-    ghost Value = { MarksState };
+    ghost Value = { VarTableState };
 
-    ghost view = { λ m. marks_state m.marks.items };
+    ghost view = { λ m. var_table_state m.vardata.items };
 }
 
-fn rename_marks(marks: &mut [Mark], moves: &Moves)
-    ensures { marks.new ≡ map (named_mark moves.now) marks.old }
+fn rename_vardata(vardata: &mut [VarData], moves: &Moves)
+    ensures { vardata.new ≡ map (named_var_data moves.now) vardata.old }
 {
-    for mark in marks.iter_mut() {
-        *mark = Mark {
-            level: mark.level,
-            position: mark.position,
-            reason: MaybeCRef::new(new_reason(moves, mark.reason.get())),
+    for data in vardata.iter_mut() {
+        *data = VarData {
+            level: data.level,
+            position: data.position,
+            reason: MaybeCRef::new(new_reason(moves, data.reason.get())),
         };
     }
 }
 
-impl Marks {
+impl VarTable {
     /// So many variables, without levels.
     pub(crate) fn new(alloc: Global, count: usize) -> Result<Self, AllocError>
-        ensures { IfOk result (λ m. m ≡ record { levels = replicate count None; positions = replicate count 0; reasons = replicate count None }) }
+        ensures { IfOk result (λ m. m ≡ record {
+          levels = replicate count None;
+          positions =
+              replicate count 0;
+          reasons = replicate count None;
+        }) }
     {
-        let mut marks = Vec::new(alloc);
-        let mark = Mark {
+        let mut vardata = Vec::new(alloc);
+        let data = VarData {
             level: MaybeLevel::new(None),
             position: 0,
             reason: MaybeCRef::new(None),
         };
-        marks.resize(count, mark)?;
-        Ok(Marks { marks })
+        vardata.resize(count, data)?;
+        Ok(VarTable { vardata })
     }
 
     pub(crate) fn level(&self, variable: usize) -> Option<u32>
         requires { variable < length self.now.levels }
         ensures { result ≡ slice_index_or self.now.levels variable None }
     {
-        self.marks[variable].level.get()
+        self.vardata[variable].level.get()
     }
 
     pub(crate) fn position(&self, variable: usize) -> u32
         requires { variable < length self.now.positions }
         ensures { result ≡ slice_index self.now.positions variable }
     {
-        self.marks[variable].position
+        self.vardata[variable].position
     }
 
     pub(crate) fn reason(&self, variable: usize) -> Option<CRef>
         requires { variable < length self.now.reasons }
         ensures { result ≡ slice_index_or self.now.reasons variable None }
     {
-        self.marks[variable].reason.get()
+        self.vardata[variable].reason.get()
     }
 
     pub(crate) fn set(&mut self, variable: usize, level: u32, position: u32, reason: Option<CRef>)
@@ -137,7 +144,7 @@ impl Marks {
         ensures positions { self.new.positions ≡ slice_set self.old.positions variable position }
         ensures reasons { self.new.reasons ≡ slice_set self.old.reasons variable reason }
     {
-        self.marks[variable] = Mark {
+        self.vardata[variable] = VarData {
             level: MaybeLevel::new(Some(level)),
             position,
             reason: MaybeCRef::new(reason),
@@ -151,7 +158,7 @@ impl Marks {
         ensures positions { self.new.positions ≡ self.old.positions }
         ensures reasons { self.new.reasons ≡ self.old.reasons }
     {
-        self.marks[variable].level = MaybeLevel::new(None);
+        self.vardata[variable].level = MaybeLevel::new(None);
     }
 
     /// Renames the reasons.
@@ -160,6 +167,6 @@ impl Marks {
         ensures positions { self.new.positions ≡ self.old.positions }
         ensures reasons { self.new.reasons ≡ map (named_reason moves.now) self.old.reasons }
     {
-        rename_marks(&mut self.marks, moves);
+        rename_vardata(&mut self.vardata, moves);
     }
 }
