@@ -1,10 +1,10 @@
 -- The first line of a text and the first token of a line, and what is left after them.
-use Rattle.std.proofs.Common.{◌≡◌, ℕ, suc, ◌+◌, ◌-◌, ◌<◌, Bool, true, false, List, [], ◌∷◌, inl, inr, refl, sym, ◌∙◌, ap, arith, length, get_or, take, drop}
+use Rattle.std.proofs.Common.{◌≡◌, ℕ, suc, ◌+◌, ◌-◌, ◌<◌, Bool, true, false, List, [], ◌∷◌, ◌++◌, inl, inr, refl, sym, ◌∙◌, ap, arith, length, get_or, take, drop}
 use Rattle.std.specs.Prelude.{◌==◌, All}
 use Rattle.std.specs.List.{prefix_len, position_or_len, slice_split, before_first, after_first, enumerate_from}
 use Rattle.std.specs.Str.Lines.{lines, lines_of_parts, strip_carriage_return}
 use Rattle.std.proofs.lemmas.Bool.{cases_Bool, not_from_false, ne_eqb, eqb-true, eqb-false, cond-false}
-use Rattle.std.proofs.lemmas.List.Splits.{slice_split_none, slice_split_first, length-slice_split}
+use Rattle.std.proofs.lemmas.List.Splits.{slice_split_none, slice_split_first, slice_split_at, length-slice_split}
 use Rattle.std.proofs.lemmas.List.Sums.{position_or_len_is}
 use Rattle.std.proofs.lemmas.List.{get_or_default, take_rest, drop_all, nil_from_length}
 use Rattle.wcnf.specs.Text.{is_blank, begins_with_token, put_byte, tokens_of}
@@ -18,6 +18,11 @@ parts-cons x [] l = absurd (omega arith)
 parts-cons x (y ∷ more) l = refl
 
 -- the first line ends at the first line feed
+pub lines-split : (x more : List ℕ) → All (λ b. is_feed b ≡ false) x → lines (x ++ 10 ∷ more) ≡ strip_carriage_return x ∷ lines more
+lines-split x more h =
+    ap lines_of_parts (slice_split_at is_feed x 10 more h refl)
+    ∙ parts-cons x (slice_split is_feed more) (omega (arith, length-slice_split is_feed more))
+
 pub lines-first : (w : List ℕ) (n : ℕ) → n < length w → get_or w n 0 ≡ 10 → ((k : ℕ) → k < n → is_feed (get_or w k 0) ≡ false) → lines w ≡ strip_carriage_return (take n w) ∷ lines (drop (n + 1) w)
 lines-first w n l here before =
     let at : position_or_len is_feed w ≡ n = position_or_len_is is_feed w n 0 (omega arith) before (λ _. rw here) in

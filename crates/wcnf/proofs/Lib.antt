@@ -22,3 +22,4 @@ pub mod FromLines
 pub mod Items
 pub mod AheadLaws
 pub mod Feeds
+pub mod ParserLaws

@@ -15,4 +15,5 @@ pub mod Ahead
 pub mod Formula
 pub mod Refute
 pub mod Lrat
+pub mod Parsing
 pub mod ReadingVectors

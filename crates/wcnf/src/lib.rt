@@ -7,6 +7,7 @@ mod gathering;
 mod header;
 pub mod judging;
 pub mod output;
+mod parser;
 pub mod pieces;
 pub mod reading;
 mod rows;

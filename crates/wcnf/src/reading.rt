@@ -1,4 +1,4 @@
-// Reading a whole WCNF text, given as bytes or by a reader.
+// Reading a WCNF text, given as bytes or by a reader.
 ghost use Rattle.std.specs.Prelude.{◌≡◌, IfOk, IfErr, OnOk, IfSome, ◌⊎◌};
 ghost use Rattle.std.specs.Io.KnownBytes.{IsAtEnd};
 ghost use Rattle.wcnf.specs.Problem.{Problem};
@@ -6,10 +6,9 @@ ghost use Rattle.wcnf.specs.Wcnf.{Reads};
 ghost use Rattle.wcnf.specs.Reading.{IsFirstFault};
 
 use crate::faults::{FaultKind, ReadFault};
-use crate::rows::Draft;
-use crate::text::lines;
+use crate::parser::Parser;
 use crate::types::Instance;
-use crate::whole::read_all;
+use crate::whole::FAILED;
 use std::alloc::Global;
 use std::io::Read;
 
@@ -30,37 +29,18 @@ pub fn read(alloc: Global, text: &[u8]) -> Result<Instance, ReadFault>
     ensures only_one { IfOk result (λ i. (p : Problem) → Reads text.now p → p ≡ i) }
     ensures fault { IfErr result (λ f. (f ≡ record { kind = FaultKind.Memory; line = 0 }) ⊎ IsFirstFault text.now f.kind f.line) }
 {
-    let mut draft = Draft::new(alloc);
-    for (number, line) in lines(text) {
-        if let Err(kind) = draft.read_line(number, line) {
-            return Err(fault_at(kind, number));
-        }
-    }
-    match draft.short() {
-        Some(line) => Err(ReadFault {
-            kind: FaultKind::Count,
-            line,
-        }),
-        None => Ok(draft.finish()),
-    }
+    let mut parser = Parser::new(alloc);
+    parser.feed(text)?;
+    parser.finish()
 }
 
-/// The fault that a line met; refused memory is of no line.
-fn fault_at(kind: FaultKind, line: u64) -> ReadFault
-    ensures { ((kind ≡ FaultKind.Memory) × (result ≡ record { kind = FaultKind.Memory; line = 0 }))
-        ⊎ ((kind ≡ FaultKind.Memory → ⊥) × (result ≡ record { kind = kind; line = line })) }
-{
-    match kind {
-        FaultKind::Memory => ReadFault { kind, line: 0 },
-        _ => ReadFault { kind, line },
-    }
-}
-
-/// Reads to the reader's end, and then as `read`.
+/// As `read`, of the bytes that the reader gives. They are read in pieces, up to the first faulty line, and of the text
+/// only the instance and the line that is being read are in memory.
 ///
 /// # Errors
 ///
-/// Those of `read`, and `Read` with line 0 where the reader failed, of whatever kind its error is.
+/// Those of `read`, and `Read` with line 0 where the reader failed, of whatever kind its error is. A text of 2^64 pieces
+/// or more counts as a failed read.
 pub fn read_from<R: Read>(alloc: Global, reader: &mut R) -> Result<Instance, ReadFault>
     ensures at_end { OnOk result (IsAtEnd (R.remaining reader.new)) }
     ensures instance { IfOk result (λ i. IfSome (R.remaining reader.old) (λ text. Reads text i)) }
@@ -71,8 +51,17 @@ pub fn read_from<R: Read>(alloc: Global, reader: &mut R) -> Result<Instance, Rea
         ⊎ (f ≡ record { kind = FaultKind.Read; line = 0 })
         ⊎ IfSome (R.remaining reader.old) (λ text. IsFirstFault text f.kind f.line)) }
 {
-    let text = read_all(alloc, reader)?;
-    read(alloc, &text)
+    let mut parser = Parser::new(alloc);
+    let mut chunk = [0u8; 65536];
+    'pieces: for _ in 0..u64::MAX {
+        let count = match reader.read(&mut chunk) {
+            Ok(0) => return parser.finish(),
+            Ok(count) => count,
+            Err(_) => return Err(FAILED),
+        };
+        parser.feed(&chunk[..count])?;
+    }
+    Err(FAILED)
 }
 
 #[cfg(test)]

@@ -6,7 +6,8 @@ use crate::faults::{FaultKind, ReadFault};
 use std::alloc::Global;
 use std::io::Read;
 
-const FAILED: ReadFault = ReadFault {
+/// The reader failed.
+pub(crate) const FAILED: ReadFault = ReadFault {
     kind: FaultKind::Read,
     line: 0,
 };

@@ -1,6 +1,45 @@
--- The text that was read is all of the reader's.
-use Rattle.wcnf.proofs.FromLines.{only_one_whole}
+-- What the pieces so far say of all bytes of the reader.
+use Rattle.std.proofs.Common.{rules, ◌≡◌, [], ◌++◌, arith}
+use Rattle.std.specs.Io.KnownBytes.{IsAtEnd}
+use Rattle.std.proofs.KnownBytes.{Consumes-nil, Consumes-trans}
+use Rattle.std.proofs.lemmas.Result.{err_from_is_err_and}
+use Rattle.wcnf.proofs.ParserLaws.{all_read, piece_refused, reader_refused, reader_read, reader_read_one}
 use Rattle.wcnf.proofs.reading.read_from.Goals as goal
 
-pub returns-clause-only_one : goal.returns-clause-only_one
-returns-clause-only_one g c = only_one_whole _ c.read.result c.deref.result.now _ c.in_ok-text.ensures.whole c.deref.ensures.value c.read.ensures.only_one
+pub pieces-init : goal.pieces-init
+pieces-init g c = ([], c.new-parser.ensures, Consumes-nil _)
+
+pub finish-requires : goal.finish-requires
+finish-requires g c = let i = c.pieces.invariant in (i.0, i.1)
+
+pub returns-in-Ok-eq0-clause-instance : goal.returns-in-Ok-eq0-clause-instance
+returns-in-Ok-eq0-clause-instance g c =
+    let i = c.pieces.invariant in
+    let zero : c.in-Ok-eq0.field-0 ≡ 0 = first_of (omega arith, search rules, cc) in
+    let end : IsAtEnd (g.R.Read.remaining c.read.new.self) = search rules in
+    reader_read _ _ i.0 c.pieces.parser c.finish.result (all_read _ _ _ i.0 _ c.in-Ok-eq0.field-0 i.2 c.in-Ok-eq0.ensures.bytes.0 zero) end i.1 c.finish.ensures.instance
+
+pub returns-in-Ok-eq0-clause-only_one : goal.returns-in-Ok-eq0-clause-only_one
+returns-in-Ok-eq0-clause-only_one g c =
+    let i = c.pieces.invariant in
+    let zero : c.in-Ok-eq0.field-0 ≡ 0 = first_of (omega arith, search rules, cc) in
+    let end : IsAtEnd (g.R.Read.remaining c.read.new.self) = search rules in
+    reader_read_one _ _ i.0 c.pieces.parser c.finish.result (all_read _ _ _ i.0 _ c.in-Ok-eq0.field-0 i.2 c.in-Ok-eq0.ensures.bytes.0 zero) end i.1 c.finish.ensures.instance
+
+pub returns-in-Ok-eq0-clause-fault : goal.returns-in-Ok-eq0-clause-fault
+returns-in-Ok-eq0-clause-fault g c =
+    let i = c.pieces.invariant in
+    let zero : c.in-Ok-eq0.field-0 ≡ 0 = first_of (omega arith, search rules, cc) in
+    let end : IsAtEnd (g.R.Read.remaining c.read.new.self) = search rules in
+    reader_refused _ _ i.0 c.pieces.parser c.finish.result (all_read _ _ _ i.0 _ c.in-Ok-eq0.field-0 i.2 c.in-Ok-eq0.ensures.bytes.0 zero) end i.1 c.finish.ensures.fault
+
+pub returns-in_err-feed-clause-fault : goal.returns-in_err-feed-clause-fault
+returns-in_err-feed-clause-fault g c =
+    let i = c.pieces.invariant in
+    let p = err_from_is_err_and c.from_residual.result c.from_residual.ensures.1 in
+    rw (p.1, p.2) (piece_refused _ _ _ i.0 _ c.pieces.parser _ i.2 c.in-Ok.ensures.bytes.0 i.1 c.in_err-feed.ensures.fault)
+
+pub pieces-preserved : goal.pieces-preserved
+pieces-preserved g c =
+    let i = c.pieces.invariant in
+    (_, c.in_ok-feed.ensures.stands i.0 i.1, Consumes-trans _ _ _ i.0 _ i.2 c.in-Ok.ensures.bytes.0)

@@ -1,0 +1,39 @@
+-- A text that is read in pieces.
+use Rattle.std.specs.Prelude.{◌≡◌, ℕ, List, [], ◌++◌, Err, ◌⊎◌}
+use Rattle.std.specs.List.{enumerate_from}
+use Rattle.std.specs.Str.Lines.{lines}
+use Rattle.wcnf.specs.Text.{tokens_of, numbered_text, IsNoFeed}
+use Rattle.wcnf.specs.Reading.{IsFirstFault}
+use Rattle.wcnf.specs.Drafts.{Drafted, nothing_drafted, drafted_line, drafted_lines}
+use Rattle.wcnf.specs.declared.faults.ReadFault.{ReadFault}
+use Rattle.wcnf.specs.declared.faults.FaultKind.TheVariants.{Memory}
+use Rattle.wcnf.specs.declared.parser.Parser.{Parser}
+
+-- the parser stands for these bytes: they read on, whatever comes, from its draft and its rest
+pub record Stands (p : Parser) (bytes : List ℕ) : Type 0 where
+  pub unfinished : IsNoFeed (p.rest).items
+  pub resumes : (more : List ℕ) → drafted_lines p.draft (enumerate_from p.number (lines ((p.rest).items ++ more)))
+      ≡ drafted_lines nothing_drafted (numbered_text (bytes ++ more))
+
+-- the draft is that of all lines of the bytes
+abbrev pub Ends : Drafted → List ℕ → Type 0
+Ends d bytes = drafted_lines d [] ≡ drafted_lines nothing_drafted (numbered_text bytes)
+
+abbrev pub NoMemory : ReadFault → Type 0
+NoMemory f = f ≡ record { kind = Memory; line = 0 }
+
+-- the fault of this line, after the lines that make the draft
+abbrev pub IsLineFault : Drafted → ℕ → List ℕ → ReadFault → Type 0
+IsLineFault d n line f =
+    NoMemory f ⊎ ((drafted_line n d (tokens_of line) ≡ Err f.kind) × (f.line ≡ n))
+
+-- the first fault of the text, which is in the piece
+abbrev pub Refuses : Parser → List ℕ → ReadFault → Type 0
+Refuses p piece f =
+    NoMemory f ⊎ ((bytes more : List ℕ) → Stands p bytes → IsFirstFault (bytes ++ piece ++ more) f.kind f.line)
+
+-- all but the left part of the piece was read
+pub record HasRead (old new : Parser) (piece left : List ℕ) : Type 0 where
+  pub taken : List ℕ
+  pub split : piece ≡ taken ++ left
+  pub stands : (bytes : List ℕ) → Stands old bytes → Stands new (bytes ++ taken)

@@ -1,0 +1,158 @@
+// A text that comes in pieces, which may end anywhere: also within a token, or between a carriage
+// return and its line feed. Each line is read once its line feed is there, and only what follows
+// the last line feed is kept.
+ghost use Rattle.std.specs.Prelude.{◌≡◌, ℕ, List, [], ◌∷◌, ◌++◌, ◌+◌, Ok, IfOk, IfErr, OnOk, ◌⊎◌};
+ghost use Rattle.wcnf.specs.Text.{IsNoFeed, tokens_of};
+ghost use Rattle.wcnf.specs.Wcnf.{Reads};
+ghost use Rattle.wcnf.specs.Reading.{IsFirstFault};
+ghost use Rattle.wcnf.specs.Drafts.{drafted_line};
+ghost use Rattle.wcnf.specs.Parsing.{Stands, Ends, IsLineFault, Refuses, NoMemory};
+
+use crate::faults::{FaultKind, ReadFault};
+use crate::pieces::{line_feed_at, without_return};
+use crate::rows::Draft;
+use crate::types::Instance;
+use std::alloc::Global;
+
+/// A growth was refused. A text of 2^64 lines, which no machine can hand over, counts as one.
+const NO_MEMORY: ReadFault = ReadFault {
+    kind: FaultKind::Memory,
+    line: 0,
+};
+
+/// What the pieces so far leave.
+#[derive(Drop)]
+pub(crate) struct Parser {
+    /// What the lines make that a line feed has ended.
+    pub draft: Draft,
+    /// The number of the next line, from 1.
+    pub number: u64,
+    /// What follows the last line feed.
+    pub rest: Vec<u8>,
+}
+
+impl Parser {
+    /// The parser of no bytes.
+    pub(crate) fn new(alloc: Global) -> Self
+        ensures { Stands result [] }
+    {
+        Parser {
+            draft: Draft::new(alloc),
+            number: 1,
+            rest: Vec::new(alloc),
+        }
+    }
+
+    /// Reads the piece, up to its first faulty line.
+    pub(crate) fn feed(&mut self, piece: &[u8]) -> Result<(), ReadFault>
+        ensures stands { OnOk result
+            ((bytes : List ℕ) → Stands self.old bytes → Stands self.new (bytes ++ piece.now)) }
+        ensures fault { IfErr result (Refuses self.old piece.now) }
+    {
+        let mut left = piece;
+        while let Some(end) = line_feed_at(left) {
+            self.end_line(&left[..end])?;
+            left = &left[end + 1..];
+        }
+        keep(&mut self.rest, left)?;
+        Ok(())
+    }
+
+    /// Reads the line that these bytes and a line feed end.
+    fn end_line(&mut self, end: &[u8]) -> Result<(), ReadFault>
+        requires { IsNoFeed end.now }
+        ensures stands { OnOk result ((bytes : List ℕ) → Stands self.old bytes
+            → Stands self.new (bytes ++ end.now ++ 10 ∷ [])) }
+        ensures fault { IfErr result (Refuses self.old (end.now ++ 10 ∷ [])) }
+    {
+        if self.rest.as_slice().is_empty() {
+            read_line(&mut self.draft, &mut self.number, without_return(end))?;
+        } else {
+            keep(&mut self.rest, end)?;
+            read_line(
+                &mut self.draft,
+                &mut self.number,
+                without_return(&self.rest),
+            )?;
+            self.rest.clear();
+        }
+        Ok(())
+    }
+
+    /// The instance, where nothing follows.
+    pub(crate) fn finish(mut self) -> Result<Instance, ReadFault>
+        requires { (bytes : List ℕ) × Stands self bytes }
+        ensures instance { IfOk result
+            (λ i. (bytes : List ℕ) → Stands self bytes → Reads bytes i) }
+        ensures fault { IfErr result (λ f. NoMemory f
+            ⊎ ((bytes : List ℕ) → Stands self bytes → IsFirstFault bytes f.kind f.line)) }
+    {
+        self.end_text()?;
+        ended(self.draft)
+    }
+
+    /// Reads what follows the last line feed, if it is not empty, as one more line.
+    fn end_text(&mut self) -> Result<(), ReadFault>
+        ensures ends { OnOk result
+            ((bytes : List ℕ) → Stands self.old bytes → Ends self.new.draft bytes) }
+        ensures fault { IfErr result (λ f. NoMemory f
+            ⊎ ((bytes : List ℕ) → Stands self.old bytes → IsFirstFault bytes f.kind f.line)) }
+    {
+        if self.rest.as_slice().is_empty() {
+            return Ok(());
+        }
+        read_line(&mut self.draft, &mut self.number, &self.rest)?;
+        Ok(())
+    }
+}
+
+/// Puts the bytes behind the rest.
+fn keep(rest: &mut Vec<u8>, bytes: &[u8]) -> Result<(), ReadFault>
+    ensures kept { OnOk result (rest.new.items ≡ rest.old.items ++ bytes.now) }
+    ensures fault { IfErr result NoMemory }
+{
+    rest.extend_from_slice(bytes).map_err(|_| NO_MEMORY)?;
+    Ok(())
+}
+
+/// Reads the line of this number, and counts it.
+fn read_line(draft: &mut Draft, number: &mut u64, line: &[u8]) -> Result<(), ReadFault>
+    ensures read { OnOk result
+        (drafted_line number.old draft.old (tokens_of line.now) ≡ Ok draft.new) }
+    ensures counted { OnOk result (number.new ≡ number.old + 1) }
+    ensures fault { IfErr result (IsLineFault draft.old number.old line.now) }
+{
+    if let Err(kind) = draft.read_line(*number, line) {
+        return Err(fault_at(kind, *number));
+    }
+    *number = number.checked_add(1).ok_or(NO_MEMORY)?;
+    Ok(())
+}
+
+/// The fault that a line met; refused memory is of no line.
+fn fault_at(kind: FaultKind, line: u64) -> ReadFault
+    ensures memory { kind ≡ FaultKind.Memory → NoMemory result }
+    ensures other { (kind ≡ FaultKind.Memory → ⊥)
+        → result ≡ record { kind = kind; line = line } }
+{
+    match kind {
+        FaultKind::Memory => NO_MEMORY,
+        _ => ReadFault { kind, line },
+    }
+}
+
+/// The instance that all lines make.
+fn ended(draft: Draft) -> Result<Instance, ReadFault>
+    requires { (bytes : List ℕ) × Ends draft bytes }
+    ensures instance { IfOk result (λ i. (bytes : List ℕ) → Ends draft bytes → Reads bytes i) }
+    ensures fault { IfErr result
+        (λ f. (bytes : List ℕ) → Ends draft bytes → IsFirstFault bytes f.kind f.line) }
+{
+    match draft.short() {
+        Some(line) => Err(ReadFault {
+            kind: FaultKind::Count,
+            line,
+        }),
+        None => Ok(draft.finish()),
+    }
+}
