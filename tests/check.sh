@@ -133,6 +133,25 @@ lines result 'o 2' 's OPTIMUM FOUND' 'v 0'
 lines proof '12 -2 0 11 5 10 9 0' '13 0 12 1 2 11 4 0'
 verdict 'opposite and repeated literals' YES
 
+# A certificate belongs to its profile: that of one profile is refused in another.
+lines text 'h 1 2 0' '3 -1 0' '4 -2 0'
+lines result 'o 3' 's OPTIMUM FOUND' 'v 10'
+lines proof '4 0 3 2 1 0'
+run check --profile 2 text result proof
+expect 'profile 2' 0 YES ''
+run check --profile 1 text result proof
+expect 'a certificate of profile 2 in profile 1' 1 'NO IdOrder 1' ''
+run check --profile 3 text result proof
+expect 'a certificate of profile 2 in profile 3' 1 'NO IdOrder 1' ''
+
+# The clause of a greater bound follows from that of a smaller one, and is no unit.
+lines text '1 1 0' '1 2 0' '1 3 0'
+lines result 'o 2' 's OPTIMUM FOUND' 'v 100'
+lines proof '19 -7 -8 0 18 0'
+verdict 'the clause of a weaker bound' 'NO NoEmptyClause 0'
+lines proof '19 -7 -8 0 18 0' '20 1 0 19 18 1 0'
+verdict 'the clause of a weaker bound as a hint' 'NO HintNotUnit 2'
+
 # Faulty texts.
 lines result 's UNSATISFIABLE'
 : > "$work/proof"

@@ -28,22 +28,28 @@ formula 'a full adder' 2 'p cnf 8 18' '1 4 0' '2 5 0' '3 6 0' '4 5 6 -7 0' '4 5 
     '-4 5 6 7 0' '-4 5 -6 -7 0' '-4 -5 6 -7 0' '-4 -5 -6 7 0' '4 5 -8 0' '4 6 -8 0' '5 6 -8 0' '-4 -5 8 0' '-4 -6 8 0' \
     '-5 -6 8 0' '-8 0'
 
-formula_three() { # NAME COST LINE..: the formula of text in profile 3
-    local name=$1 cost=$2
-    shift 2
-    run encode --profile 3 text "$cost"
-    expect "$name, profile 3" 0 "$(printf '%s\n' "$@")" ""
+formula_as() { # PROFILE NAME COST LINE..: the formula of text in this profile
+    local profile=$1 name=$2 cost=$3
+    shift 3
+    run encode --profile "$profile" text "$cost"
+    expect "$name, profile $profile" 0 "$(printf '%s\n' "$@")" ""
 }
-formula_three 'three in pairs' 2 'p cnf 12 25' '1 4 0' '2 5 0' '3 6 0' '4 5 -7 0' '4 -5 7 0' '-4 5 7 0' '-4 -5 -7 0' '4 -8 0' '5 -8 0' \
+lines text 'h 1 2 0' '3 -1 0' '4 -2 0'
+formula_as 2 'no cells' 3 'p cnf 2 3' '1 2 0' '-2 0' '-1 0'
+lines text '3 1 0' '1 1 0'
+formula_as 2 'one literal in two columns' 1 'p cnf 5 15' '-1 -2 0' '1 -2 0' '-1 -3 0' '-1 -3 0' '1 3 0' '-1 3 -4 0' '-1 -3 4 0' \
+    '1 3 4 0' '1 -3 -4 0' '-1 -5 0' '3 -5 0' '1 -3 5 0' '-5 0' '-4 0' '-2 0'
+lines text '1 1 0' '1 2 0' '1 3 0'
+formula_as 3 'three in pairs' 2 'p cnf 12 25' '1 4 0' '2 5 0' '3 6 0' '4 5 -7 0' '4 -5 7 0' '-4 5 7 0' '-4 -5 -7 0' '4 -8 0' '5 -8 0' \
     '-4 -5 8 0' '7 6 -9 0' '7 -6 9 0' '-7 6 9 0' '-7 -6 -9 0' '7 -10 0' '6 -10 0' '-7 -6 10 0' '8 10 -11 0' '8 -10 11 0' \
     '-8 10 11 0' '-8 -10 -11 0' '8 -12 0' '10 -12 0' '-8 -10 12 0' '-11 0'
 : > "$work/text"
-formula_three 'an empty text' 0 'p cnf 0 1' '0'
+formula_as 3 'an empty text' 0 'p cnf 0 1' '0'
 lines text '5 0'
-formula_three 'an empty soft clause' 5 'p cnf 1 2' '1 0' '-1 0'
+formula_as 3 'an empty soft clause' 5 'p cnf 1 2' '1 0' '-1 0'
 # 2^60 + 1 and 2^60: 61 bits, of which the lighter one comes first, and so is the first literal of the cell
 lines text '1152921504606846977 1 0' '1152921504606846976 2 0'
-formula_three 'weights of 61 bits' 1 'p cnf 6 12' '1 3 0' '2 4 0' '4 3 -5 0' '4 -3 5 0' '-4 3 5 0' '-4 -3 -5 0' '4 -6 0' '3 -6 0' \
+formula_as 3 'weights of 61 bits' 1 'p cnf 6 12' '1 3 0' '2 4 0' '4 3 -5 0' '4 -3 5 0' '-4 3 5 0' '-4 -3 -5 0' '4 -6 0' '3 -6 0' \
     '-4 -3 6 0' '-6 0' '-5 0' '-3 0'
 
 fault() { # NAME TEXT MESSAGE

@@ -41,6 +41,72 @@ fails 'a certificate that is a folder' Read
 run solve "$work"
 fails 'a text that is a folder' Read
 
+# A device that fails after each number of bytes, by an error or by taking nothing, until it meets no failure: what is left is a
+# beginning of the plain output, with the whole certificate before the first byte of the `s` line.
+device() { # AT WORD..: the program with a device that fails after so many bytes
+    local at=$1
+    shift
+    rm -f "$work/mark" "$work/proof"
+    (cd "$work" && DEVICE_AT=$at DEVICE_MARK=mark LD_PRELOAD="$work/device.so" timeout 60 "$wmax" "$@" > .out 2> .err < /dev/null)
+    status=$?
+    err=$(cat "$work/.err")
+}
+
+begins() { # AT FILE: the first bytes of the plain one, and no more
+    touch "$work/$2"
+    head -c "$1" "$work/plain/$2" | cmp -s - "$work/$2"
+}
+
+left_well() { # DEVICE AT COMMAND: what stands after the failure
+    case $1 in
+        out)
+            [ "$err" = 'error: Output' ] && begins "$2" .out &&
+                { [ "$3" != solve ] || [ "$2" -le "$lines_end" ] || cmp -s "$work/proof" "$work/plain/proof"; } ;;
+        proof) [ "$err" = 'error: ProofOutput' ] && begins "$2" proof && begins "$lines_end" .out ;;
+        text) [ "$err" = 'error: Read' ] && begins 0 .out && begins 0 proof ;;
+    esac && [ "$status" = 3 ]
+}
+
+each() { # DEVICE WORD..
+    local device=$1 how at wrong=0 count=0
+    shift
+    rm -rf "$work/plain"
+    mkdir "$work/plain"
+    DEVICE='' device 0 "$@"
+    mv "$work/.out" "$work/plain"
+    touch "$work/proof"
+    mv "$work/proof" "$work/plain"
+    lines_end=$(grep '^o ' "$work/plain/.out" | wc -c)
+    for how in error none; do
+        [ "$device $how" != 'text none' ] || continue # no bytes are the end of a text
+        for ((at = 0; at < 10000; at++)); do
+            DEVICE=$device DEVICE_FAILS=$how device $at "$@"
+            [ -e "$work/mark" ] || break
+            count=$((count + 1))
+            left_well "$device" $at "$1" || { wrong=$((wrong + 1)); echo "$device after $at bytes, $how: $status [$err]"; }
+        done
+    done
+    ok "$*: $device fails at $count places" test $wrong = 0 -a $count -gt 5
+}
+
+if command -v cc > /dev/null && cc -O1 -shared -fPIC -o "$work/device.so" tests/device.c; then
+    for text in 'h 1 2 0\n3 -1 0\n4 -2 0\n' 'h 1 -1 0\n2 1 1 0\n3 -1 0\n'; do
+        printf "$text" > "$work/text"
+        for device in out proof text; do each $device solve --proof proof text; done
+    done
+    lines text 'h 1 2 0' '3 -1 0' '4 -2 0'
+    lines given '6 0 5 4 2 3 1 0'
+    each text check text result given
+    each out encode text 3
+    each text encode text 3
+    lines given '6 0 1 0'
+    each out check text result given
+else
+    echo 'no C compiler: devices that fail after some bytes were not tried'
+fi
+lines text 'h 1 2 0' '3 -1 0' '4 -2 0'
+lines proof '6 0 5 4 2 3 1 0'
+
 # Each beginning of a file: never a crash, and never YES but for the whole of it, less its last line feed.
 beginnings() { # NAME FILE: of text, result and proof
     local name=$1 file=$2 size n wrong=0 yes=0
@@ -83,6 +149,81 @@ done
 printf 'h 1 2 0\n3 -1' > "$work/text"
 run solve text
 expect 'a clause without its 0' 2 '' 'error: line 2: NoZero'
+
+# What each beginning of two texts comes to: a formula, or a fault and its line.
+each_beginning() { # NAME, then 'FROM TO ANSWER' a line: of text
+    local name=$1 from to wanted n wrong=0 next=0
+    cp "$work/text" "$work/whole"
+    while read -r from to wanted; do
+        [ "$from" = $next ] || wrong=$((wrong + 1))
+        next=$((to + 1))
+        for n in $(seq "$from" "$to"); do
+            head -c "$n" "$work/whole" > "$work/text"
+            run encode text 0
+            case "$status $wanted" in
+                '0 ok') [ -z "$err" ] && continue ;;
+                2*) [ -z "$out" ] && [ "$err" = "error: $wanted" ] && continue ;;
+            esac
+            wrong=$((wrong + 1))
+            echo "$n bytes of $name: $status [$out] [$err]"
+        done
+    done
+    ok "$name: each beginning" test $wrong = 0 -a $next = $(($(stat -c %s "$work/whole") + 1))
+}
+lines text 'h 1 2 0' '3 -1 0' '4 -2 0'
+each_beginning 'one of two' <<'ROWS'
+0 0 ok
+1 6 line 1: NoZero
+7 8 ok
+9 10 line 2: NoZero
+11 11 line 2: Literal
+12 13 line 2: NoZero
+14 15 ok
+16 17 line 3: NoZero
+18 18 line 3: Literal
+19 20 line 3: NoZero
+21 22 ok
+ROWS
+printf 'c x\r\n\r\nh -1 0\r\n7 1 0' > "$work/text"
+each_beginning 'CR LF' <<'ROWS'
+0 5 ok
+6 6 line 2: FirstToken
+7 7 ok
+8 9 line 3: NoZero
+10 10 line 3: Literal
+11 12 line 3: NoZero
+13 13 ok
+14 14 line 3: Literal
+15 15 ok
+16 19 line 4: NoZero
+20 20 ok
+ROWS
+
+# A beginning of a certificate ends within a line, which has then no form, or with whole lines, of which the last one alone
+# adds the empty clause.
+each_certificate() { # NAME LINE..: over the four clauses that no assignment satisfies
+    local name=$1 line n before='' wanted wrong=0 count=0
+    shift
+    for line; do
+        count=$((count + 1))
+        for n in $(seq 0 $((${#line} + 1))); do
+            case $n in
+                0) wanted='NO NoEmptyClause 0' ;;
+                ${#line} | $((${#line} + 1))) wanted='NO NoEmptyClause 0'; [ $count -lt $# ] || wanted=YES ;;
+                *) wanted="NO LineForm $count" ;;
+            esac
+            { printf '%s' "$before"; printf '%s\n' "$line" | head -c "$n"; } > "$work/proof"
+            run check text result proof
+            [ "$out" = "$wanted" ] || { wrong=$((wrong + 1)); echo "$name, line $count, $n bytes: $out"; }
+        done
+        before+=$line$'\n'
+    done
+    ok "$name: each beginning" test $wrong = 0
+}
+lines text 'h 1 2 0' 'h -1 2 0' 'h 1 -2 0' 'h -1 -2 0'
+lines result 's UNSATISFIABLE'
+each_certificate 'RUP lines' '5 2 0 1 2 0' '6 0 5 3 4 0'
+each_certificate 'a definition' '5 3 1 0 0' '6 -3 2 0 -5 1 0' '7 2 0 1 2 0' '8 0 7 3 4 0'
 
 # The certificates of four clauses that no assignment satisfies.
 lines text 'h 1 2 0' 'h -1 2 0' 'h 1 -2 0' 'h -1 -2 0'

@@ -1,5 +1,6 @@
 #!/usr/bin/env bash
-# Each allocation of the program refused in turn, until a run meets none: it gives the plain answer, or `error: Memory` with status 3.
+# Each allocation of the program refused in turn, until a run meets none: it gives the plain answer, or `error: Memory` with status 3,
+# whole `o` lines and no certificate. What it reads stays as it is.
 source "$(dirname "$0")/lib"
 
 if ! command -v cc > /dev/null || ! cc -O1 -shared -fPIC -o "$work/refuse.so" tests/refuse.c; then
@@ -8,55 +9,82 @@ if ! command -v cc > /dev/null || ! cc -O1 -shared -fPIC -o "$work/refuse.so" te
     exit
 fi
 
+# refused N WORD..: the program with these words, with its Nth allocation refused
+refused() {
+    local at=$1
+    shift
+    rm -f "$work/mark" "$work/proof"
+    (cd "$work" && REFUSE_AT=$at REFUSE_MARK=mark LD_PRELOAD="$work/refuse.so" timeout 60 "$wmax" "$@" > .out 2> .err < /dev/null)
+    status=$?
+    err=$(cat "$work/.err")
+}
+
+is_plain() {
+    [ "$status" = "$plain_status" ] && cmp -s "$work/.out" "$work/plain.out" && cmp -s "$work/proof" "$work/plain.proof" && [ -z "$err" ]
+}
+
+# the fault; whole `o` lines alone; no byte of a certificate
+is_want_of_memory() {
+    [ "$status" = 3 ] && [ "$err" = 'error: Memory' ] && [ -z "$(grep -vE '^o [0-9]+$' "$work/.out")" ] &&
+        [ -z "$(tail -c 1 "$work/.out")" ] && [ ! -s "$work/proof" ]
+}
+
 # each NAME WORD..: the program with these words, with its first allocation refused, its second, and so on
 each() {
-    local name=$1 n=0 plain_status plain_out wrong=0
+    local name=$1 n=0 plain_status wrong=0
     shift
-    run "$@"
+    refused 0 "$@"
     plain_status=$status
-    plain_out=$out
     if [ -n "$err" ]; then
         ok "$name: $err" false
         return
     fi
+    mv "$work/.out" "$work/plain.out"
+    touch "$work/proof"
+    mv "$work/proof" "$work/plain.proof"
+    (cd "$work" && cat text result given 2> /dev/null) > "$work/inputs"
     while [ $n -lt 20000 ]; do
         n=$((n + 1))
-        rm -f "$work/mark"
-        out=$(cd "$work" && REFUSE_AT=$n REFUSE_MARK=mark LD_PRELOAD="$work/refuse.so" timeout 60 "$wmax" "$@" 2> .err < /dev/null)
-        status=$?
-        err=$(cat "$work/.err")
-        if [ "$status" = "$plain_status" ] && [ "$out" = "$plain_out" ] && [ -z "$err" ]; then
+        refused $n "$@"
+        [ -e "$work/proof" ] || touch "$work/proof"
+        if is_plain; then
             [ -e "$work/mark" ] && continue
             break
         fi
-        if [ "$status" != 3 ] || [ "$err" != 'error: Memory' ] || [ -n "$(grep -vE '^o [0-9]+$' <<< "$out")" ]; then
+        if ! is_want_of_memory; then
             wrong=$((wrong + 1))
-            echo "allocation $n of $name: $status [$out] [$err]"
+            echo "allocation $n of $name: $status [$(cat "$work/.out")] [$err]"
         fi
     done
     ok "$name: $n allocations" [ $wrong -eq 0 ]
     ok "$name: the last run met none" [ ! -e "$work/mark" ]
     ok "$name: some were refused" [ $n -gt 1 ]
+    (cd "$work" && cat text result given 2> /dev/null) > "$work/inputs.now"
+    ok "$name: nothing is lost of what it reads" cmp -s "$work/inputs" "$work/inputs.now"
 }
 
 lines text 'h 1 2 0' '3 -1 0' '4 -2 0'
 each 'one of two' solve --proof proof text
 lines result 'o 3' 's OPTIMUM FOUND' 'v 10'
-lines proof '6 0 5 4 2 3 1 0'
-each 'check: one of two' check text result proof
+lines given '6 0 5 4 2 3 1 0'
+each 'check: one of two' check text result given
 lines text 'h 1 -1 0' '2 1 1 0' '3 -1 0'
 each 'a clause with opposites' solve --proof proof text
 printf 'c x\r\n\r\nh -1 0\r\n7 1 0' > "$work/text"
 each 'CR LF' solve --proof proof text
 lines text '3 1 0' '1 1 0'
 each 'two weights of one literal' solve --proof proof text
+each 'two weights of one literal, profile 3' solve --profile 3 --proof proof text
 each 'encode: two weights of one literal' encode text 1
+each 'encode: two weights of one literal, profile 3' encode --profile 3 text 1
 lines text 'p wcnf 2 3 10' '10 1 2 0' '3 -1 0' '4 -2 0'
 each 'the older form' solve --proof proof text
 lines text 'h 1 2 0' 'h -1 2 0' 'h 1 -2 0' 'h -1 -2 0'
 each 'no solution' solve --proof proof text
 lines result 's UNSATISFIABLE'
-lines proof '5 3 1 0 0' '6 -3 2 0 -5 1 0' '7 2 0 1 2 0' '8 0 7 3 4 0'
-each 'check: no solution' check text result proof
+lines given '5 3 1 0 0' '6 -3 2 0 -5 1 0' '7 2 0 1 2 0' '8 0 7 3 4 0'
+each 'check: a definition' check text result given
+lines given '5 2 0 1 2 0' '6 0 5 3 4 0'
+each 'check: RUP lines' check text result given
 
 totals
