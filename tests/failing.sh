@@ -9,7 +9,7 @@ fails() { # NAME FAULT: what was run ended with this fault
 lines text 'h 1 2 0' '3 -1 0' '4 -2 0'
 lines result 'o 3' 's OPTIMUM FOUND' 'v 10'
 lines proof '6 0 5 4 2 3 1 0'
-for words in 'solve text' 'check text result proof' 'encode text 3'; do
+for words in 'solve text' 'check text result proof' 'encode text 3' '--help' 'solve --help' '--version'; do
     # shellcheck disable=SC2086
     if [ -c /dev/full ]; then
         err=$(cd "$work" && timeout 60 "$wmax" $words 2>&1 > /dev/full)

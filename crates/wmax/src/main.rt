@@ -1,4 +1,5 @@
-//! The program `wmax`: opens the files that the command line names, and hands their bytes to the libraries.
+//! The program `wmax`: opens the files that the command line names, and hands their bytes to the
+//! libraries.
 #![tactic(auto)]
 
 mod placing;
@@ -6,8 +7,8 @@ mod placing;
 use adder::cells::Profile;
 use bound::encoding::write_formula;
 use cdcl::budget::Budget;
-use clap::ArgMatches;
 use clap::error::ErrorKind;
+use clap::{ArgMatches, Error};
 use lrat_check::checking::check_from_as;
 use lrat_check::verdicts::CheckFault;
 use placing::open_proof;
@@ -32,19 +33,17 @@ const UNREADABLE: RunFault = RunFault::Read(ReadFault {
 });
 
 /// The whole file's bytes.
-fn contents<R: AllocGlobal, F: Read>(rt: &R, file: &mut F) -> Result<Vec<u8>, RunFault> {
+fn read_file<R: AllocGlobal, F: Read>(rt: &R, file: &mut F) -> Result<Vec<u8>, RunFault> {
     Ok(read_all(rt.alloc(), file)?)
 }
 
-fn profile(matches: &ArgMatches<'_>) -> Profile {
+fn read_profile(matches: &ArgMatches<'_>) -> Profile {
     options::profile_of(matches.get_one::<u64>("profile"))
 }
 
-/// `wmax solve`: FILE is opened, then PATH is created or emptied, then the text is read. Without PATH the certificate is dropped.
-fn solved<R: Files + AllocGlobal + Print>(
-    rt: &R,
-    matches: &ArgMatches<'_>,
-) -> Result<u8, RunFault> {
+/// `wmax solve`: FILE is opened, then PATH is created or emptied, then the text is read. Without
+/// PATH the certificate is dropped.
+fn solve<R: Files + AllocGlobal + Print>(rt: &R, matches: &ArgMatches<'_>) -> Result<u8, RunFault> {
     let (Some(text), Some(limit)) = (matches.get_str("FILE"), matches.get_one::<u64>("conflicts"))
     else {
         return Err(UNREADABLE);
@@ -53,7 +52,7 @@ fn solved<R: Files + AllocGlobal + Print>(
     // `clap` lets no greater effort pass; said again, since nothing is known of that here.
     let mut budget = Budget::new(limit.min(MOST_CONFLICTS));
     let mut out = io::writer(rt);
-    let profile = profile(matches);
+    let profile = read_profile(matches);
     let status = match matches.get_str("proof") {
         Some(path) => {
             let mut proof = open_proof(rt, path, &text)?;
@@ -81,12 +80,9 @@ fn solved<R: Files + AllocGlobal + Print>(
     Ok(status.code())
 }
 
-/// `wmax check`: the files are opened in their order before any is read, and read in their order. The certificate is judged while it
-/// is read, so none of it is kept but the clauses that are live.
-fn checked<R: Files + AllocGlobal + Print>(
-    rt: &R,
-    matches: &ArgMatches<'_>,
-) -> Result<u8, RunFault> {
+/// `wmax check`: the files are opened in their order before any is read, and read in their order.
+/// The certificate is judged while it is read, so none of it is kept but the clauses that are live.
+fn check<R: Files + AllocGlobal + Print>(rt: &R, matches: &ArgMatches<'_>) -> Result<u8, RunFault> {
     let (Some(text), Some(answer), Some(proof)) = (
         matches.get_str("FILE"),
         matches.get_str("RESULT"),
@@ -97,9 +93,15 @@ fn checked<R: Files + AllocGlobal + Print>(
     let mut text = File::open(rt, text).map_err(|_| UNREADABLE)?;
     let mut answer = File::open(rt, answer).map_err(|_| UNREADABLE)?;
     let mut proof = File::open(rt, proof).map_err(|_| UNREADABLE)?;
-    let text = contents(rt, &mut text)?;
-    let answer = contents(rt, &mut answer)?;
-    let verdict = match check_from_as(rt.alloc(), &text, &answer, &mut proof, profile(matches)) {
+    let text = read_file(rt, &mut text)?;
+    let answer = read_file(rt, &mut answer)?;
+    let verdict = match check_from_as(
+        rt.alloc(),
+        &text,
+        &answer,
+        &mut proof,
+        read_profile(matches),
+    ) {
         Ok(verdict) => verdict,
         Err(CheckFault::Memory) => return Err(RunFault::Memory),
         Err(CheckFault::Read) => return Err(UNREADABLE),
@@ -109,8 +111,9 @@ fn checked<R: Files + AllocGlobal + Print>(
     Ok(verdict_code(&verdict))
 }
 
-/// `wmax encode`: the formula for 'cost below COST'. The process ends after it, so the clauses of the text are not given back one by one.
-fn encoded<R: Files + AllocGlobal + Print>(
+/// `wmax encode`: the formula for 'cost below COST'. The process ends after it, so the clauses of
+/// the text are not given back one by one.
+fn encode<R: Files + AllocGlobal + Print>(
     rt: &R,
     matches: &ArgMatches<'_>,
 ) -> Result<u8, RunFault> {
@@ -121,13 +124,18 @@ fn encoded<R: Files + AllocGlobal + Print>(
     let instance = ManuallyDrop::new(read_from(rt.alloc(), &mut text)?);
     let mut out = io::writer(rt);
     // `clap` lets no greater cost pass; said again, since nothing is known of that here.
-    write_formula(&instance, cost.min(MOST_COST), profile(matches), &mut out)?;
+    write_formula(
+        &instance,
+        cost.min(MOST_COST),
+        read_profile(matches),
+        &mut out,
+    )?;
     delivered(Ok(()), &mut out)?;
     Ok(0)
 }
 
 /// The exit status. A fault is told on standard error; one that cannot be told changes no status.
-fn told<E: Write>(err: &mut E, outcome: Result<u8, RunFault>) -> u8 {
+fn tell<E: Write>(err: &mut E, outcome: Result<u8, RunFault>) -> u8 {
     match outcome {
         Ok(status) => status,
         Err(fault) => {
@@ -137,40 +145,51 @@ fn told<E: Write>(err: &mut E, outcome: Result<u8, RunFault>) -> u8 {
     }
 }
 
-/// The exit status where the command line cannot be read: refused memory, or a word that is not UTF-8.
-fn told_words<E: Write>(err: &mut E, kind: io::ErrorKind) -> u8 {
+/// The exit status where the command line cannot be read: refused memory, or a word that is not
+/// UTF-8.
+fn tell_words<E: Write>(err: &mut E, kind: io::ErrorKind) -> u8 {
     if kind == io::ErrorKind::OutOfMemory {
-        return told(err, Err(RunFault::Memory));
+        return tell(err, Err(RunFault::Memory));
     }
     let _ = writeln!(err, "error: a word of the command line is not UTF-8");
     2
 }
 
+/// Prints what `clap` says: help that was asked for on standard output, and a mistake on standard
+/// error, where a failure changes no status.
+fn print_refusal<R: Print + Eprint, E: Write>(rt: &R, err: &mut E, error: &Error) -> u8 {
+    let printed = error.print(rt);
+    if error.use_stderr() {
+        return 2;
+    }
+    match printed {
+        Ok(()) => 0,
+        Err(_) => tell(err, Err(RunFault::Output)),
+    }
+}
+
 /// Reads the command line and does what it says.
-fn status<R: Files + AllocGlobal + Print + Eprint + Env, E: Write>(rt: &R, err: &mut E) -> u8 {
+fn run_command<R: Files + AllocGlobal + Print + Eprint + Env, E: Write>(rt: &R, err: &mut E) -> u8 {
     let args = match env::args(rt) {
         Ok(args) => args,
-        Err(error) => return told_words(err, error.kind()),
+        Err(error) => return tell_words(err, error.kind()),
     };
     let Ok(words) = args.collect(rt.alloc()) else {
-        return told(err, Err(RunFault::Memory));
+        return tell(err, Err(RunFault::Memory));
     };
     let words: Vec<String> = words;
     let Ok(command) = options::command(rt.alloc()) else {
-        return told(err, Err(RunFault::Memory));
+        return tell(err, Err(RunFault::Memory));
     };
     match command.try_get_matches_from(words.as_slice()) {
         Ok(matches) => match matches.subcommand() {
-            Some(("solve", found)) => told(err, solved(rt, found)),
-            Some(("check", found)) => told(err, checked(rt, found)),
-            Some(("encode", found)) => told(err, encoded(rt, found)),
+            Some(("solve", found)) => tell(err, solve(rt, found)),
+            Some(("check", found)) => tell(err, check(rt, found)),
+            Some(("encode", found)) => tell(err, encode(rt, found)),
             _ => 2,
         },
-        Err(error) if error.kind() == ErrorKind::OutOfMemory => told(err, Err(RunFault::Memory)),
-        Err(error) => {
-            let _ = error.print(rt);
-            if error.use_stderr() { 2 } else { 0 }
-        }
+        Err(error) if error.kind() == ErrorKind::OutOfMemory => tell(err, Err(RunFault::Memory)),
+        Err(error) => print_refusal(rt, err, &error),
     }
 }
 
@@ -178,7 +197,7 @@ fn status<R: Files + AllocGlobal + Print + Eprint + Env, E: Write>(rt: &R, err: 
 const NOTHING: &str = "/dev/null";
 
 /// Opens it for reading alone, so that what is written to it fails and is not lost unseen.
-fn nothing<R: Files>(rt: &R) -> Option<R::File> {
+fn open_nothing<R: Files>(rt: &R) -> Option<R::File> {
     let mut options = OpenOptions::new();
     options.read(true);
     match options.open(rt, NOTHING) {
@@ -187,12 +206,12 @@ fn nothing<R: Files>(rt: &R) -> Option<R::File> {
     }
 }
 
-/// Where standard input, output or error was closed at the start, the next file that is opened takes its number, and
-/// what is meant for the terminal would go into that file. So the empty file is opened three times first, and held to
-/// the end.
+/// Where standard input, output or error was closed at the start, the next file that is opened
+/// takes its number, and what is meant for the terminal would go into that file. So the empty file
+/// is opened three times first, and held to the end.
 fn main(rt: HostRuntime) -> ExitCode {
-    let held = [nothing(&rt), nothing(&rt), nothing(&rt)];
-    let ended = status(&rt, &mut rt.stderr());
+    let held = [open_nothing(&rt), open_nothing(&rt), open_nothing(&rt)];
+    let ended = run_command(&rt, &mut rt.stderr());
     let _ = held;
     ExitCode::from(ended)
 }
