@@ -1,5 +1,6 @@
-// The loop of a search: propagate, then learn from a conflict or decide. It starts over by the Luby sequence, and only
-// after a clause was learned since it last did; so a search is bounded by its budget and the variables without a value.
+// The loop of a search: propagate, then learn from a conflict or decide. It starts over less and
+// less often, and only after a clause was learned since it last did; so a search is bounded by its
+// budget and the variables without a value.
 ghost use Rattle.std.specs.Prelude.{◌≡◌, ◌≤◌, length, IfOk, OnOk, OnErr, IfSome, IfNone};
 ghost use Rattle.propagate.specs.Trail.{literals_of, depth_of};
 ghost use Rattle.propagate.specs.Fits.{IsFalseClause};
@@ -16,7 +17,7 @@ use crate::noting::{note_units, refute};
 use crate::problem::Problem;
 use crate::reducing::reduce;
 use crate::search::Search;
-use cdcl_order::restarts::Luby;
+use cdcl_order::restarts::Powers;
 use clauses::store::CRef;
 use lrat_log::sink::Sink;
 use std::alloc::AllocError;
@@ -29,13 +30,13 @@ pub(crate) enum End {
     Spent,
 }
 
-/// Conflicts a term of the Luby sequence.
+/// Conflicts a term of the sequence.
 const RESTART: u64 = 100;
 
 /// When a search starts over.
 #[derive(Clone, Copy, Drop)]
 struct Pace {
-    luby: Luby,
+    powers: Powers,
     // Since it last did.
     conflicts: u64,
 }
@@ -77,7 +78,7 @@ fn descend<S: Sink>(
     ensures err { OnErr result (StaysOpen problem.now (S.lines sink.new)) }
 {
     let mut pace = Pace {
-        luby: Luby::new(),
+        powers: Powers::new(),
         conflicts: 0,
     };
     'rounds: loop {
@@ -156,9 +157,9 @@ fn on_quiet<S: Sink>(
     if budget.left() == 0 {
         return Ok(Some(End::Spent));
     }
-    if pace.conflicts > 0 && pace.conflicts / RESTART >= pace.luby.term() {
+    if pace.conflicts > 0 && pace.conflicts / RESTART >= pace.powers.term() {
         pace.conflicts = 0;
-        pace.luby.advance();
+        pace.powers.advance();
         search.backtrack(0);
         return Ok(None);
     }
