@@ -135,10 +135,6 @@ module _ {C X V : Type 0} (k : Layout C X V) where
     pub rest : IsLaid at (drop i cs) (length xs)
     pub pieces_are : pieces xs (take kept cs) ++ pieces xs (drop i cs) ≡ value
 
-  pub compacting_none : (xs : List X) (cs : List C) → IsLaid 0 cs (length xs) → IsCompacting xs cs 0 0 0 (pieces xs cs)
-  compacting_none xs cs h =
-      record { kept_le = omega arith; laid = refl; live = tt; at = 0; end_le = omega arith; rest = h; pieces_are = refl }
-
   module _ (xs : List X) (cs : List C) (kept end i : ℕ) (value : List V) (d : C) (s : IsCompacting xs cs kept end i value) (h : i < length cs) where
     abbrev c : C
     c = get_or cs i d
