@@ -33,4 +33,3 @@ pub mod States
 pub mod Statuses
 pub mod Tables
 pub mod UnitLines
-pub mod Witness

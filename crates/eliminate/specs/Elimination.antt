@@ -1,5 +1,7 @@
 -- Eliminated variables, and how they get their values back.
-use Rattle.std.specs.Prelude.{◌≡◌, ℕ, ◌-◌, ◌<◌, ◌≤◌, Bool, false, not, ◌&&◌, List, [], ◌∷◌, length, map, Some, slice_get, slice_set, slice_index_or, All, Contains, ◌==◌, nat_eq}
+use Rattle.std.specs.Prelude.{◌≡◌, ℕ, ◌-◌, ◌<◌, ◌≤◌, Bool, false, not, ◌&&◌, List, [], ◌∷◌, length}
+use Rattle.std.specs.Prelude.{map, Some, slice_get, slice_set, slice_index_or, All, Contains, ◌==◌}
+use Rattle.std.specs.Prelude.{nat_eq}
 use Rattle.std.specs.List.{list_any, IsDistinct}
 use Rattle.wcnf.specs.Literal.{Literal, Assignment, literal_value}
 use Rattle.wcnf.specs.Clause.{Satisfies, contains_literal, without_literal}
@@ -39,7 +41,8 @@ becomes_true t r = list_any (is_needed t (positive r.variable)) r.clauses
 -- the eliminated variables get their values, the last eliminated first
 abbrev pub extended : List Removed → List Bool → List Bool
 extended [] bits = bits
-extended (r ∷ rs) bits = slice_set (extended rs bits) (r.variable - 1) (becomes_true (assignment_of (extended rs bits)) r)
+extended (r ∷ rs) bits = slice_set (extended rs bits) (r.variable - 1)
+    (becomes_true (assignment_of (extended rs bits)) r)
 
 abbrev pub is_eliminated : List Removed → ℕ → Bool
 is_eliminated removed v = list_any (λ r. r.variable == v) removed
@@ -58,15 +61,18 @@ SatisfiesAll t cs = All (Satisfies t) cs
 -- what satisfies the clauses after satisfies those before, once it is extended
 abbrev pub ExtendsBack : StackState → List (List Literal) → List (List Literal) → Type 0
 ExtendsBack stack before after = (bits : List Bool) → stack.variables ≤ length bits
-    → SatisfiesAll (assignment_of bits) after → SatisfiesAll (assignment_of (extended stack.removed bits)) before
+    → SatisfiesAll (assignment_of bits) after
+    → SatisfiesAll (assignment_of (extended stack.removed bits)) before
 
 -- the store holds just what is live, each clause under an id of its own
-pub record HoldsWhatIsLive (slots : Slots) (names : List (ℕ × Name)) (base : ℕ) (at : Clauses) : Type 0 where
+pub record HoldsWhatIsLive (slots : Slots) (names : List (ℕ × Name)) (base : ℕ) (at : Clauses)
+    : Type 0 where
   pub from_one : All (λ n. 0 < number_in n.1) names
   pub listed : map (λ n. n.0) names ≡ live_places slots
   pub differ : IsDistinct nat_eq (map (λ n. id_of base n.1) names)
   pub named : All (λ n. at (id_of base n.1) ≡ clause_at slots n.0) names
-  pub only : (i : ℕ) (c : List Literal) → at i ≡ Some c → Contains (map (λ n. id_of base n.1) names) i
+  pub only : (i : ℕ) (c : List Literal) → at i ≡ Some c
+      → Contains (map (λ n. id_of base n.1) names) i
 
 -- the live places with their names
 abbrev pub listed_names : List Name → Slots → List (ℕ × Name)

@@ -1,5 +1,6 @@
 -- Pairs of literals that a fresh variable stands for, and what their definition keeps.
-use Rattle.std.specs.Prelude.{◌≡◌, ◌≢◌, ℕ, ◌+◌, ◌<◌, ◌≤◌, ◌^◌, true, false, List, [], ◌∷◌, ◌++◌, length, Some, All}
+use Rattle.std.specs.Prelude.{◌≡◌, ◌≢◌, ℕ, ◌+◌, ◌<◌, ◌≤◌, ◌^◌, true, false, List, [], ◌∷◌, ◌++◌}
+use Rattle.std.specs.Prelude.{length, Some, All}
 use Rattle.std.specs.List.{AllByRecursion}
 use Rattle.wcnf.specs.Literal.{Literal, negation, literal_eq}
 use Rattle.wcnf.specs.Clause.{contains_literal, without_literal}
@@ -70,7 +71,8 @@ pub record Stage : Type 0 where
 -- the log is open, the store holds what is live, and what was removed comes back
 pub record IsStage (start : Start) (removed : List Removed) (s : Stage) : Type 0 where
   pub more : length start.frozen ≤ s.variables
-  pub work : IsWork (length start.frozen) s.variables (given_of start.clauses) s.slots s.names s.lines
+  pub work : IsWork (length start.frozen) s.variables (given_of start.clauses) s.slots s.names
+      s.lines
   pub going : AddsNoEmptyClause s.lines
   pub back : GivesBack s.variables removed start.clauses (live_clauses s.slots)
   pub within : All (IsRemovedWithin s.variables) removed
@@ -79,7 +81,8 @@ pub record IsStage (start : Start) (removed : List Removed) (s : Stage) : Type 0
 
 -- what was right stays so
 abbrev pub Keeps : Stage → Stage → Type 0
-Keeps before after = (start : Start) (removed : List Removed) → IsStage start removed before → IsStage start removed after
+Keeps before after = (start : Start) (removed : List Removed) → IsStage start removed before
+    → IsStage start removed after
 
 -- a log over the clauses at the start that learns nothing
 pub record IsOpenLog (start : Start) (lines : List LogLine) : Type 0 where
@@ -88,13 +91,15 @@ pub record IsOpenLog (start : Start) (lines : List LogLine) : Type 0 where
 
 -- where more was to come, its lines are still those of a log
 abbrev pub KeepsLog : Stage → List LogLine → Type 0
-KeepsLog before lines = (start : Start) (removed : List Removed) → IsStage start removed before → IsOpenLog start lines
+KeepsLog before lines = (start : Start) (removed : List Removed) → IsStage start removed before
+    → IsOpenLog start lines
 
 -- what is left at the end, with the empty clause or without it
 pub record IsResult (start : Start) (removed : List Removed) (s : Stage) : Type 0 where
   pub more : length start.frozen ≤ s.variables
   pub fresh : s.variables ≤ length start.frozen + 2 ^ 20
-  pub work : IsWork (length start.frozen) s.variables (given_of start.clauses) s.slots s.names s.lines
+  pub work : IsWork (length start.frozen) s.variables (given_of start.clauses) s.slots s.names
+      s.lines
   pub back : GivesBack s.variables removed start.clauses (live_clauses s.slots)
   pub within : All (IsRemovedWithin s.variables) removed
   pub free : AreFree removed s.slots

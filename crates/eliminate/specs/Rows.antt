@@ -1,5 +1,6 @@
 -- Rows of references, one for each literal.
-use Rattle.std.specs.Prelude.{◌≡◌, ℕ, ◌<◌, Bool, true, false, List, [], ◌∷◌, ◌++◌, length, Option, Some, None, slice_index_or, slice_set, Contains, fold, map, unwrap_or}
+use Rattle.std.specs.Prelude.{◌≡◌, ℕ, ◌<◌, Bool, true, false, List, [], ◌∷◌, ◌++◌, length, Option}
+use Rattle.std.specs.Prelude.{Some, None, slice_index_or, slice_set, Contains, fold, map, unwrap_or}
 use Rattle.wcnf.specs.Literal.{Literal, index_of}
 use Rattle.wcnf.specs.Clause.{contains_literal}
 use Rattle.clauses.specs.Slots.{Slots, clause_at}
@@ -33,8 +34,11 @@ is_some (Some c) = true
 abbrev pub has_clause : Slots → ℕ → Bool
 has_clause slots r = is_some (clause_at slots r)
 
--- each live clause stands in the rows of its literals, and live ones in no others; what stands in a row was added before
+-- each live clause stands in the rows of its literals, and live ones in no others; what stands in a
+-- row was added before
 pub record AreRows (rows : List (List ℕ)) (slots : Slots) : Type 0 where
-  pub complete : (r : ℕ) (c : List Literal) (l : Literal) → clause_at slots r ≡ Some c → contains_literal l c ≡ true → Contains (row_at rows (index_of l)) r
-  pub right : (r : ℕ) (c : List Literal) (l : Literal) → 0 < l.variable → clause_at slots r ≡ Some c → Contains (row_at rows (index_of l)) r → contains_literal l c ≡ true
+  pub complete : (r : ℕ) (c : List Literal) (l : Literal) → clause_at slots r ≡ Some c
+      → contains_literal l c ≡ true → Contains (row_at rows (index_of l)) r
+  pub right : (r : ℕ) (c : List Literal) (l : Literal) → 0 < l.variable → clause_at slots r ≡ Some c
+      → Contains (row_at rows (index_of l)) r → contains_literal l c ≡ true
   pub before : (i r : ℕ) → Contains (row_at rows i) r → r < length slots

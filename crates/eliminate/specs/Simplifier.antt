@@ -1,17 +1,21 @@
--- What a simplifier's tables say of the store and the log: that together they are a simplified form of some formula.
-use Rattle.std.specs.Prelude.{◌≡◌, ℕ, ◌*◌, ◌+◌, ◌<◌, ◌≤◌, ◌^◌, Bool, true, false, List, [], length, Some, All, Contains, ◌⊎◌}
+-- What a simplifier's tables say of the store and the log: that together they are a simplified form
+-- of some formula.
+use Rattle.std.specs.Prelude.{◌≡◌, ℕ, ◌*◌, ◌+◌, ◌<◌, ◌≤◌, ◌^◌, Bool, true, false, List, [], length}
+use Rattle.std.specs.Prelude.{Some, All, Contains, ◌⊎◌}
 use Rattle.wcnf.specs.Literal.{Literal}
 use Rattle.wcnf.specs.Formula.{IsFormulaClause}
 use Rattle.clauses.specs.Slots.{Slots, clause_at, live_clauses}
 use Rattle.lrat_log.specs.Log.{LogLine, IsLine, is_learned}
-use Rattle.lrat_log.specs.Steps.{given_of, StaysLogOver, AddsNoEmptyClause, learned_count, IsOwnGroup}
+use Rattle.lrat_log.specs.Steps.{given_of, StaysLogOver, AddsNoEmptyClause, learned_count}
+use Rattle.lrat_log.specs.Steps.{IsOwnGroup}
 use Rattle.eliminate.specs.declared.simplifier.Simplifier.{Simplifier}
 use Rattle.eliminate.specs.Elimination.{is_eliminated}
 use Rattle.eliminate.specs.Work.{additions, IsRupLine}
 use Rattle.eliminate.specs.State.{Start, IsState}
 
 -- the store and the tables are a simplified form of the formula at the start
-pub record IsSimplified (start : Start) (s : Simplifier) (slots : Slots) (lines : List LogLine) : Type 0 where
+pub record IsSimplified (start : Start) (s : Simplifier) (slots : Slots) (lines : List LogLine) :
+    Type 0 where
   pub state : IsState start s.vars slots s.names.names lines s.occurrences s.removals
   pub counted : s.names.additions ≡ additions lines
   pub marks : length s.marks ≡ 2 * s.vars
@@ -26,19 +30,24 @@ abbrev pub IsSimplifier : Simplifier → Slots → List LogLine → Type 0
 IsSimplifier s slots lines = (start : Start) × IsSimplified start s slots lines
 
 -- a simplified form of a formula stays one of it
-abbrev pub StaysSimplified : Simplifier → Slots → List LogLine → Simplifier → Slots → List LogLine → Type 0
-StaysSimplified s slots lines t left more = (start : Start) → IsSimplified start s slots lines → IsSimplified start t left more
+abbrev pub StaysSimplified : Simplifier → Slots → List LogLine → Simplifier → Slots → List LogLine
+    → Type 0
+StaysSimplified s slots lines t left more = (start : Start) → IsSimplified start s slots lines
+    → IsSimplified start t left more
 
 -- lines that stay a log over the formula, and learn nothing
 abbrev pub IsLogOf : Start → List LogLine → Type 0
-IsLogOf start lines = StaysLogOver (length start.frozen) (given_of start.clauses) lines × (learned_count lines ≡ 0)
+IsLogOf start lines = StaysLogOver (length start.frozen) (given_of start.clauses) lines
+    × (learned_count lines ≡ 0)
 
 -- what was simplified leaves such lines
 abbrev pub LeavesLog : Simplifier → Slots → List LogLine → List LogLine → Type 0
-LeavesLog s slots lines more = (start : Start) → IsSimplified start s slots lines → IsLogOf start more
+LeavesLog s slots lines more = (start : Start) → IsSimplified start s slots lines
+    → IsLogOf start more
 
 -- a line that may be added
-pub record IsAddableLine (start : Start) (s : Simplifier) (lines : List LogLine) (l : LogLine) : Type 0 where
+pub record IsAddableLine (start : Start) (s : Simplifier) (lines : List LogLine) (l : LogLine) :
+    Type 0 where
   pub follows : IsRupLine (given_of start.clauses) lines l
   pub own : All IsOwnGroup l.hints
   pub unlearned : is_learned l.kind ≡ false
@@ -48,4 +57,5 @@ pub record IsAddableLine (start : Start) (s : Simplifier) (lines : List LogLine)
 
 -- each clause keeps its place, and some may come
 abbrev pub Grows : Slots → Slots → Type 0
-Grows slots more = (r : ℕ) (c : List Literal) → clause_at slots r ≡ Some c → clause_at more r ≡ Some c
+Grows slots more = (r : ℕ) (c : List Literal) → clause_at slots r ≡ Some c
+    → clause_at more r ≡ Some c

@@ -1,5 +1,7 @@
 -- Literals that clauses of one literal make true.
-use Rattle.std.specs.Prelude.{◌≡◌, ℕ, ◌+◌, ◌-◌, ◌*◌, ◌<◌, ◌≤◌, true, List, [], ◌∷◌, ◌++◌, length, map, filter, Option, Some, None, slice_index_or, unwrap_or, sum_by, if◌then◌else◌}
+use Rattle.std.specs.Prelude.{◌≡◌, ℕ, ◌+◌, ◌-◌, ◌*◌, ◌<◌, ◌≤◌, true, List, [], ◌∷◌, ◌++◌, length}
+use Rattle.std.specs.Prelude.{map, filter, Option, Some, None, slice_index_or, unwrap_or, sum_by}
+use Rattle.std.specs.Prelude.{if◌then◌else◌}
 use Rattle.wcnf.specs.Literal.{Literal, negation}
 use Rattle.wcnf.specs.Clause.{contains_literal}
 use Rattle.wcnf.specs.Refute.{IsUnit, IsFalseUnder}
@@ -45,7 +47,8 @@ pub record IsByUnit (clauses : List (Option ℕ)) (slots : Slots) (l : Literal) 
 pub record AreUnits (u : Units) (slots : Slots) : Type 0 where
   pub marked : IsMarked u.values u.trail.items
   pub places : length u.values ≡ 2 * length u.clauses.items
-  pub by_units : (l : Literal) → contains_literal l u.trail.items ≡ true → IsByUnit u.clauses.items slots l
+  pub by_units : (l : Literal) → contains_literal l u.trail.items ≡ true
+      → IsByUnit u.clauses.items slots l
 
 -- the literals of the clause that are false
 abbrev pub falsified_in : Units → List Literal → List Literal
@@ -53,7 +56,8 @@ falsified_in u c = filter (λ l. mark_of u.values (negation l)) c
 
 -- the hints by which a clause is false, or all of it but one literal
 abbrev pub unit_hints : Units → List Name → List Literal → ℕ → List Hint
-unit_hints u names c r = map (λ l. Plain (unit_name u.clauses.items names l)) (falsified_in u c) ++ Plain (name_at names r) ∷ []
+unit_hints u names c r = map (λ l. Plain (unit_name u.clauses.items names l)) (falsified_in u c)
+    ++ Plain (name_at names r) ∷ []
 
 -- how many literals are not true
 abbrev pub open_count : Units → ℕ

@@ -1,5 +1,6 @@
 -- One variable goes: its clauses are found, their resolvents are added, and then they are deleted.
-use Rattle.std.specs.Prelude.{◌≡◌, ℕ, ◌<◌, Bool, true, false, List, length, Some, ◌⊎◌, All, Contains}
+use Rattle.std.specs.Prelude.{◌≡◌, ℕ, ◌<◌, Bool, true, false, List, length, Some, ◌⊎◌, All}
+use Rattle.std.specs.Prelude.{Contains}
 use Rattle.wcnf.specs.Literal.{Literal, negation}
 use Rattle.wcnf.specs.Clause.{contains_literal, has_opposites}
 use Rattle.clauses.specs.Slots.{Slots, clause_at}
@@ -14,13 +15,17 @@ use Rattle.eliminate.specs.Work.{IsWork}
 
 -- a simplified form of some formula, of which these variables are frozen
 abbrev pub IsSimplifierOver : List Bool → Simplifier → Slots → List LogLine → Type 0
-IsSimplifierOver frozen s slots lines = (start : Start) × (start.frozen ≡ frozen) × IsSimplified start s slots lines
+IsSimplifierOver frozen s slots lines = (start : Start) × (start.frozen ≡ frozen)
+    × IsSimplified start s slots lines
 
-abbrev pub StaysOver : List Bool → Simplifier → Slots → List LogLine → Simplifier → Slots → List LogLine → Type 0
-StaysOver frozen s slots lines t left more = (start : Start) → start.frozen ≡ frozen → IsSimplified start s slots lines → IsSimplified start t left more
+abbrev pub StaysOver : List Bool → Simplifier → Slots → List LogLine → Simplifier → Slots
+    → List LogLine → Type 0
+StaysOver frozen s slots lines t left more = (start : Start) → start.frozen ≡ frozen
+    → IsSimplified start s slots lines → IsSimplified start t left more
 
 abbrev pub LeavesLogOver : List Bool → Simplifier → Slots → List LogLine → List LogLine → Type 0
-LeavesLogOver frozen s slots lines more = (start : Start) → start.frozen ≡ frozen → IsSimplified start s slots lines → IsLogOf start more
+LeavesLogOver frozen s slots lines more = (start : Start) → start.frozen ≡ frozen
+    → IsSimplified start s slots lines → IsLogOf start more
 
 -- the reference is that of a live clause with the literal
 abbrev pub IsWith : Literal → Slots → ℕ → Type 0
@@ -39,32 +44,39 @@ pub record LacksBoth (l : Literal) (c : List Literal) : Type 0 where
 -- each clause keeps its place, and what came has neither the literal nor its negation
 pub record GrowsWithout (l : Literal) (slots more : Slots) : Type 0 where
   pub kept : Grows slots more
-  pub came : (r : ℕ) (c : List Literal) → clause_at more r ≡ Some c → (clause_at slots r ≡ Some c) ⊎ LacksBoth l c
+  pub came : (r : ℕ) (c : List Literal) → clause_at more r ≡ Some c
+      → (clause_at slots r ≡ Some c) ⊎ LacksBoth l c
 
 -- the resolvent of two clauses has an opposite pair or is there
 abbrev pub IsResolvedIn : Slots → Literal → List Literal → List Literal → Type 0
-IsResolvedIn slots p c d = (has_opposites (resolvent p c d) ≡ true) ⊎ ((r : ℕ) × (clause_at slots r ≡ Some (resolvent p c d)))
+IsResolvedIn slots p c d = (has_opposites (resolvent p c d) ≡ true)
+    ⊎ ((r : ℕ) × (clause_at slots r ≡ Some (resolvent p c d)))
 
 -- so is that of the clauses under two references, which the store before has
 abbrev pub IsPairResolved : Literal → Slots → Slots → ℕ → ℕ → Type 0
 IsPairResolved p slots more first second =
-    (c d : List Literal) → clause_at slots first ≡ Some c → clause_at slots second ≡ Some d → IsResolvedIn more p c d
+    (c d : List Literal) → clause_at slots first ≡ Some c → clause_at slots second ≡ Some d
+    → IsResolvedIn more p c d
 
 abbrev pub ArePairsResolved : Literal → Slots → Slots → List ℕ → List ℕ → Type 0
-ArePairsResolved p slots more firsts seconds = All (λ first. All (IsPairResolved p slots more first) seconds) firsts
+ArePairsResolved p slots more firsts seconds =
+    All (λ first. All (IsPairResolved p slots more first) seconds) firsts
 
 -- just the clauses under these references were deleted
 pub record LeavesOut (references : List ℕ) (slots left : Slots) : Type 0 where
   pub long : length left ≡ length slots
   pub stays : (r : ℕ) (c : List Literal) → clause_at left r ≡ Some c → clause_at slots r ≡ Some c
   pub gone : (r : ℕ) (c : List Literal) → clause_at left r ≡ Some c → Contains references r → ⊥
-  pub each : (r : ℕ) (c : List Literal) → clause_at slots r ≡ Some c → (clause_at left r ≡ Some c) ⊎ Contains references r
+  pub each : (r : ℕ) (c : List Literal) → clause_at slots r ≡ Some c
+      → (clause_at left r ≡ Some c) ⊎ Contains references r
 
 -- what belongs together still does
 abbrev pub KeepsWork : List Name → Slots → List LogLine → Slots → List LogLine → Type 0
-KeepsWork names slots lines left more = (first variables : ℕ) (given : Given) → IsWork first variables given slots names lines → AddsNoEmptyClause lines
+KeepsWork names slots lines left more = (first variables : ℕ) (given : Given)
+    → IsWork first variables given slots names lines → AddsNoEmptyClause lines
     → IsWork first variables given left names more × AddsNoEmptyClause more
 
 abbrev pub KeepsLog : List Name → Slots → List LogLine → List LogLine → Type 0
-KeepsLog names slots lines more = (first variables : ℕ) (given : Given) → IsWork first variables given slots names lines → AddsNoEmptyClause lines
+KeepsLog names slots lines more = (first variables : ℕ) (given : Given)
+    → IsWork first variables given slots names lines → AddsNoEmptyClause lines
     → StaysLogOver first given more × (learned_count more ≡ 0)

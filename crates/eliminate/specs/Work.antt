@@ -1,5 +1,6 @@
 -- The work in hand: clauses in a store, each under a name, and the lines of the log so far.
-use Rattle.std.specs.Prelude.{◌≡◌, ℕ, suc, ◌+◌, ◌<◌, ◌≤◌, ◌^◌, false, List, [], ◌∷◌, length, map, Some, None, All, slice_index_or, if◌then◌else◌}
+use Rattle.std.specs.Prelude.{◌≡◌, ℕ, suc, ◌+◌, ◌<◌, ◌≤◌, ◌^◌, false, List, [], ◌∷◌, length, map}
+use Rattle.std.specs.Prelude.{Some, None, All, slice_index_or, if◌then◌else◌}
 use Rattle.wcnf.specs.Literal.{Literal, negation}
 use Rattle.wcnf.specs.Clause.{has_repeat, has_opposites, greatest_variable}
 use Rattle.wcnf.specs.Formula.{IsFormulaClause}
@@ -38,25 +39,34 @@ formula_names n (Some c ∷ slots) = Formula n ∷ formula_names (n + 1) slots
 abbrev pub delete_line : Name → LogLine
 delete_line n = record { kind = Delete; clause = []; hints = Plain n ∷ [] }
 
--- the clauses of the store are just those that are live, each under an id of its own, up to the last
+-- the clauses of the store are just those that are live, each under an id of its own, up to the
+-- last
 pub record AreLiveAs (id : ℕ → ℕ) (slots : Slots) (at : Clauses) (last : ℕ) : Type 0 where
   pub named : (r : ℕ) (c : List Literal) → clause_at slots r ≡ Some c → at (id r) ≡ Some c
-  pub only : (i : ℕ) (c : List Literal) → at i ≡ Some c → (r : ℕ) × (clause_at slots r ≡ Some c) × (id r ≡ i)
-  pub differ : (r s : ℕ) (c d : List Literal) → clause_at slots r ≡ Some c → clause_at slots s ≡ Some d → id r ≡ id s → r ≡ s
+  pub only : (i : ℕ) (c : List Literal) → at i ≡ Some c → (r : ℕ) × (clause_at slots r ≡ Some c)
+      × (id r ≡ i)
+  pub differ : (r s : ℕ) (c d : List Literal) → clause_at slots r ≡ Some c
+      → clause_at slots s ≡ Some d → id r ≡ id s → r ≡ s
   pub below : (r : ℕ) (c : List Literal) → clause_at slots r ≡ Some c → id r ≤ last
 
 -- names and lines belong to the store
-pub record IsNamed (given : Given) (slots : Slots) (names : List Name) (lines : List LogLine) : Type 0 where
+pub record IsNamed (given : Given) (slots : Slots) (names : List Name) (lines : List LogLine) : Type
+    0 where
   pub long : length names ≡ length slots
   pub numbers : All (λ n. IsId (number_in n)) names
-  pub live : (base : ℕ) → IsBaseOf given base → AreLiveAs (λ r. id_of base (name_at names r)) slots (log_live given base lines) (base + additions lines)
+  pub live : (base : ℕ) → IsBaseOf given base
+      → AreLiveAs (λ r. id_of base (name_at names r)) slots (log_live given base lines)
+      (base + additions lines)
 
 -- each clause of the store is one of a formula with so many variables
 abbrev pub AreClauses : ℕ → Slots → Type 0
-AreClauses variables slots = (r : ℕ) (c : List Literal) → clause_at slots r ≡ Some c → IsFormulaClause variables c
+AreClauses variables slots = (r : ℕ) (c : List Literal) → clause_at slots r ≡ Some c
+    → IsFormulaClause variables c
 
--- what each move keeps: the log is one over the formula's clauses and learns nothing, and the store holds what is live
-pub record IsWork (first variables : ℕ) (given : Given) (slots : Slots) (names : List Name) (lines : List LogLine) : Type 0 where
+-- what each move keeps: the log is one over the formula's clauses and learns nothing, and the store
+-- holds what is live
+pub record IsWork (first variables : ℕ) (given : Given) (slots : Slots) (names : List Name)
+    (lines : List LogLine) : Type 0 where
   pub log : StaysLogOver first given lines
   pub none_learned : learned_count lines ≡ 0
   pub named : IsNamed given slots names lines
@@ -69,4 +79,5 @@ pub record IsRupLine (given : Given) (ls : List LogLine) (l : LogLine) : Type 0 
   pub no_opposites : has_opposites l.clause ≡ false
   pub small : greatest_variable l.clause < 2 ^ 27
   pub plain : (base : ℕ) → group_ids base l.hints ≡ []
-  pub refutes : (base : ℕ) → IsBaseOf given base → Refutes (log_live given base ls) (map negation l.clause) (leading_ids base l.hints)
+  pub refutes : (base : ℕ) → IsBaseOf given base
+      → Refutes (log_live given base ls) (map negation l.clause) (leading_ids base l.hints)

@@ -1,8 +1,9 @@
-// Where the clauses lie against which others are held, to find those that are subsumed or can be strengthened. Each
-// clause stands in one bin, that of one of its literals, with its signature; a bin is held against a clause eight
-// signatures at a time, and only where one fits are literals compared. A bin has room for a hundred clauses, so that
-// no literal that stands everywhere makes the search quadratic: what finds no room is not held against others. Each pass
-// has so many steps that it is linear in the store, also where many long clauses share most of their literals.
+// Where the clauses lie against which others are held, to find those that are subsumed or can be
+// strengthened. Each clause stands in one bin, that of one of its literals, with its signature; a
+// bin is held against a clause eight signatures at a time, and only where one fits are literals
+// compared. A bin has room for a hundred clauses, so that no literal that stands everywhere makes
+// the search quadratic: what finds no room is not held against others. Each pass has so many steps
+// that it is linear in the store, also where many long clauses share most of their literals.
 ghost use Rattle.std.specs.Prelude.{◌≡◌, ℕ, length, List, Some, IfSome};
 ghost use Rattle.wcnf.specs.Literal.{Literal};
 ghost use Rattle.clauses.specs.Slots.{IsLive, clause_at};
@@ -17,8 +18,8 @@ use wcnf::types::Lit;
 
 /// So many clauses have room in a bin.
 const MOST_IN_A_BIN: usize = 100;
-/// A pass has so many steps for each literal of the store, and for each clause. A step looks at a literal, or holds eight
-/// signatures against one.
+/// A pass has so many steps for each literal of the store, and for each clause. A step looks at a
+/// literal, or holds eight signatures against one.
 const STEPS: usize = 64;
 
 /// Clauses, with their signatures at the same places.
@@ -121,7 +122,8 @@ impl Bins {
         place
     }
 
-    /// Another clause that is within the marked one, or but for one literal; none where the pass has no steps left.
+    /// Another clause that is within the marked one, or but for one literal; none where the pass
+    /// has no steps left.
     pub(crate) fn find(
         &mut self,
         marks: &Marks,
@@ -132,8 +134,8 @@ impl Bins {
         requires { ArePlaced (length marks.now) store.now.slots }
         ensures other { IfSome result (λ found. found.by ≡ current → ⊥) }
         ensures live { IfSome result (λ found. IsLive store.now.slots found.by) }
-        ensures against { IfSome result (λ found. (c : List Literal) → clause_at store.now.slots found.by ≡ Some c
-            → LiesAgainst marks.now c found.against) }
+        ensures against { IfSome result (λ found. (c : List Literal)
+            → clause_at store.now.slots found.by ≡ Some c → LiesAgainst marks.now c found.against) }
     {
         let signature = signature_both(lits);
         for lit in lits {
@@ -185,8 +187,8 @@ impl Bin {
         requires { ArePlaced (length marks.now) store.now.slots }
         ensures other { IfSome result (λ found. found.by ≡ current → ⊥) }
         ensures live { IfSome result (λ found. IsLive store.now.slots found.by) }
-        ensures against { IfSome result (λ found. (c : List Literal) → clause_at store.now.slots found.by ≡ Some c
-            → LiesAgainst marks.now c found.against) }
+        ensures against { IfSome result (λ found. (c : List Literal)
+            → clause_at store.now.slots found.by ≡ Some c → LiesAgainst marks.now c found.against) }
     {
         let count = self.signatures.len();
         if count > fits.len() {
@@ -208,7 +210,8 @@ impl Bin {
     }
 }
 
-/// The bits of the literals and of their negations: a clause that strengthens has one literal negated.
+/// The bits of the literals and of their negations: a clause that strengthens has one literal
+/// negated.
 fn signature_both(lits: &[Lit]) -> u64 {
     let mut signature = 0u64;
     for lit in lits {

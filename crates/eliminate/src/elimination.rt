@@ -1,11 +1,13 @@
 // Elimination, and the way back.
-ghost use Rattle.std.specs.Prelude.{◌≡◌, ℕ, ◌+◌, ◌-◌, ◌<◌, ◌≤◌, ◌^◌, Bool, true, false, List, [], length, map, Some, slice_get, All, Contains, IfOk, OnOk, OnErr};
+ghost use Rattle.std.specs.Prelude.{◌≡◌, ℕ, ◌+◌, ◌-◌, ◌<◌, ◌≤◌, ◌^◌, Bool, true, false, List, []};
+ghost use Rattle.std.specs.Prelude.{length, map, Some, slice_get, All, Contains, IfOk, OnOk, OnErr};
 ghost use Rattle.wcnf.specs.Formula.{IsFormula, IsFormulaClause};
 ghost use Rattle.wcnf.specs.Refute.{IsRefutedByHints};
 ghost use Rattle.clauses.specs.Slots.{live_clauses};
 ghost use Rattle.lrat_log.specs.Steps.{StaysLogOver, IsBaseOf, learned_count, log_live, given_of};
 ghost use Rattle.eliminate.specs.Variables.{IsSimplifierOver, StaysOver, LeavesLogOver};
-ghost use Rattle.eliminate.specs.Elimination.{extended, is_eliminated, IsFree, AreFreeOf, ExtendsBack, HoldsWhatIsLive, listed_names};
+ghost use Rattle.eliminate.specs.Elimination.{extended, is_eliminated, IsFree, AreFreeOf};
+ghost use Rattle.eliminate.specs.Elimination.{ExtendsBack, HoldsWhatIsLive, listed_names};
 
 use crate::ending::define_where_open;
 use crate::names::Names;
@@ -54,12 +56,13 @@ impl Stack {
         &self.names
     }
 
-    /// Sets the eliminated variables, the last eliminated first: each becomes true just where some removed clause with it is
-    /// otherwise false. All other variables keep their values.
+    /// Sets the eliminated variables, the last eliminated first: each becomes true just where some
+    /// removed clause with it is otherwise false. All other variables keep their values.
     pub fn extend(&self, bits: &mut [bool])
         requires { length bits.old ≡ self.now.variables }
         ensures set { bits.new ≡ extended self.now.removed bits.old }
-        ensures others { (v : ℕ) → is_eliminated self.now.removed (v + 1) ≡ false → slice_get bits.new v ≡ slice_get bits.old v }
+        ensures others { (v : ℕ) → is_eliminated self.now.removed (v + 1) ≡ false
+            → slice_get bits.new v ≡ slice_get bits.old v }
     {
         self.removed.extend(bits);
     }
@@ -73,22 +76,33 @@ pub fn eliminate<S: Sink>(
     frozen: &[bool],
     sink: &mut S,
 ) -> Result<Stack, AllocError>
-    requires formula { IsFormula (record { variables = length frozen.now; clauses = live_clauses store.old.slots }) }
+    requires formula { IsFormula (record {
+      variables = length frozen.now;
+      clauses = live_clauses store.old.slots;
+    }) }
     requires empty { S.lines sink.old ≡ [] }
 
     // The lines, also after an error.
-    ensures lines { StaysLogOver (length frozen.now) (given_of (live_clauses store.old.slots)) (S.lines sink.new) }
+    ensures lines { StaysLogOver (length frozen.now) (given_of (live_clauses store.old.slots))
+        (S.lines sink.new) }
     ensures none_learned { learned_count (S.lines sink.new) ≡ 0 }
 
     // What is left in the store.
-    ensures live { IfOk result (λ stack. (base : ℕ) → IsBaseOf (given_of (live_clauses store.old.slots)) base
-        → HoldsWhatIsLive store.new.slots stack.names base (log_live (given_of (live_clauses store.old.slots)) base (S.lines sink.new))) }
-    ensures left { IfOk result (λ stack. All (IsFormulaClause stack.variables) (live_clauses store.new.slots)) }
-    ensures variables { IfOk result (λ stack. (length frozen.now ≤ stack.variables) × (stack.variables ≤ length frozen.now + 2 ^ 20)) }
+    ensures live { IfOk result (λ stack. (base : ℕ)
+        → IsBaseOf (given_of (live_clauses store.old.slots)) base
+        → HoldsWhatIsLive store.new.slots stack.names base
+        (log_live (given_of (live_clauses store.old.slots)) base (S.lines sink.new))) }
+    ensures left { IfOk result (λ stack.
+        All (IsFormulaClause stack.variables) (live_clauses store.new.slots)) }
+    ensures variables { IfOk result (λ stack. (length frozen.now ≤ stack.variables)
+        × (stack.variables ≤ length frozen.now + 2 ^ 20)) }
     ensures free { IfOk result (λ stack. AreFreeOf stack.removed (live_clauses store.new.slots)) }
-    ensures not_frozen { IfOk result (λ stack. All (λ r. IsFree frozen.now r.variable) stack.removed) }
-    ensures back { IfOk result (λ stack. ExtendsBack stack (live_clauses store.old.slots) (live_clauses store.new.slots)) }
-    ensures refuted { OnOk result (IsRefutedByHints (live_clauses store.old.slots) → Contains (live_clauses store.new.slots) []) }
+    ensures not_frozen { IfOk result (λ stack.
+        All (λ r. IsFree frozen.now r.variable) stack.removed) }
+    ensures back { IfOk result (λ stack.
+        ExtendsBack stack (live_clauses store.old.slots) (live_clauses store.new.slots)) }
+    ensures refuted { OnOk result (IsRefutedByHints (live_clauses store.old.slots)
+        → Contains (live_clauses store.new.slots) []) }
 {
     let mut simplifier = Simplifier::new(store.allocator(), store, frozen.len() as u32)?;
     propagate_units(&mut simplifier, store, sink)?;
@@ -110,10 +124,13 @@ fn simplify_open<S: Sink>(
     sink: &mut S,
 ) -> Result<(), AllocError>
     requires { IsSimplifierOver frozen.now simplifier.old store.old.slots (S.lines sink.old) }
-    ensures simplified { IfOk result (λ _. StaysOver frozen.now simplifier.old store.old.slots (S.lines sink.old)
+    ensures simplified { IfOk result (λ _.
+        StaysOver frozen.now simplifier.old store.old.slots (S.lines sink.old)
         simplifier.new store.new.slots (S.lines sink.new)) }
-    ensures refuted { IfOk result (λ _. simplifier.old.is_refuted ≡ true → simplifier.new.is_refuted ≡ true) }
-    ensures err { OnErr result (LeavesLogOver frozen.now simplifier.old store.old.slots (S.lines sink.old) (S.lines sink.new)) }
+    ensures refuted { IfOk result (λ _. simplifier.old.is_refuted ≡ true
+        → simplifier.new.is_refuted ≡ true) }
+    ensures err { OnErr result (LeavesLogOver frozen.now simplifier.old store.old.slots
+        (S.lines sink.old) (S.lines sink.new)) }
 {
     if simplifier.is_refuted {
         return Ok(());

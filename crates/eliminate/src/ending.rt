@@ -14,20 +14,29 @@ use std::alloc::AllocError;
 /// At most so many variables are fresh.
 const MOST_FRESH: u32 = 1 << 20;
 
-/// Replaces pairs of literals by fresh variables, unless the empty clause was added. The answer is the number of variables.
-/// The store and the names are then those of what is left; the other tables are not.
+/// Replaces pairs of literals by fresh variables, unless the empty clause was added. The answer is
+/// the number of variables. The store and the names are then those of what is left; the other
+/// tables are not.
 pub(crate) fn define_where_open<S: Sink>(
     simplifier: &mut Simplifier,
     store: &mut Store,
     frozen: &[bool],
     sink: &mut S,
 ) -> Result<u32, AllocError>
-    requires simplified { IsSimplifierOver frozen.now simplifier.old store.old.slots (S.lines sink.old) }
+    requires simplified { IsSimplifierOver frozen.now simplifier.old store.old.slots
+        (S.lines sink.old) }
     ensures result { IfOk result (λ v. (start : Start) → start.frozen ≡ frozen.now
         → IsSimplified start simplifier.old store.old.slots (S.lines sink.old)
-        → IsResult start simplifier.new.removals (record { variables = v; slots = store.new.slots; names = simplifier.new.names.names; lines = S.lines sink.new })) }
-    ensures same { OnOk result (simplifier.old.is_refuted ≡ true → store.new.slots ≡ store.old.slots) }
-    ensures err { OnErr result (LeavesLogOver frozen.now simplifier.old store.old.slots (S.lines sink.old) (S.lines sink.new)) }
+        → IsResult start simplifier.new.removals (record {
+          variables = v;
+          slots = store.new.slots;
+          names = simplifier.new.names.names;
+          lines = S.lines sink.new;
+        })) }
+    ensures same { OnOk result (simplifier.old.is_refuted ≡ true
+        → store.new.slots ≡ store.old.slots) }
+    ensures err { OnErr result (LeavesLogOver frozen.now simplifier.old store.old.slots
+        (S.lines sink.old) (S.lines sink.new)) }
 {
     if simplifier.is_refuted {
         return Ok(simplifier.vars);

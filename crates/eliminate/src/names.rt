@@ -1,5 +1,7 @@
-// The name of each clause in the store, and how many additions the log has: so an added clause knows its name.
-ghost use Rattle.std.specs.Prelude.{◌≡◌, ℕ, ◌+◌, ◌<◌, ◌≤◌, ◌^◌, List, [], ◌∷◌, ◌++◌, length, IfOk, OnErr, slice_set, Some, None, All};
+// The name of each clause in the store, and how many additions the log has: so an added clause
+// knows its name.
+ghost use Rattle.std.specs.Prelude.{◌≡◌, ℕ, ◌+◌, ◌<◌, ◌≤◌, ◌^◌, List, [], ◌∷◌, ◌++◌, length, IfOk};
+ghost use Rattle.std.specs.Prelude.{OnErr, slice_set, Some, None, All};
 ghost use Rattle.clauses.specs.Slots.{IsLive};
 ghost use Rattle.wcnf.specs.Lrat.{IsId};
 ghost use Rattle.lrat_log.specs.Log.{IsLine, number_in};
@@ -30,7 +32,10 @@ impl Model for Names {
 impl Names {
     /// The i-th live clause of the store has the name of the clause i of a formula.
     pub(crate) fn of(alloc: Global, store: &Store) -> Result<Self, AllocError>
-        ensures named { IfOk result (λ n. n ≡ record { names = formula_names 1 store.now.slots; additions = 0 }) }
+        ensures named { IfOk result (λ n. n ≡ record {
+          names = formula_names 1 store.now.slots;
+          additions = 0;
+        }) }
         ensures numbers { IfOk result (λ n. All (λ k. IsId (number_in k)) n.names) }
     {
         let mut names = Vec::with_capacity(alloc, store.places())?;
@@ -57,7 +62,8 @@ impl Names {
     }
 }
 
-/// Adds a clause to the store and its line to the log. The line comes last: where one is refused, the log is as it was.
+/// Adds a clause to the store and its line to the log. The line comes last: where one is refused,
+/// the log is as it was.
 pub(crate) fn add<S: Sink>(
     store: &mut Store,
     names: &mut Names,
@@ -74,7 +80,11 @@ pub(crate) fn add<S: Sink>(
       names = names.old.names ++ added_line names.old.additions ∷ [];
       additions = names.old.additions + 1;
     }) }
-    ensures lines { IfOk result (λ _. S.lines sink.new ≡ S.lines sink.old ++ record { kind = kind; clause = lits.items; hints = hints.items } ∷ []) }
+    ensures lines { IfOk result (λ _. S.lines sink.new ≡ S.lines sink.old ++ record {
+      kind = kind;
+      clause = lits.items;
+      hints = hints.items;
+    } ∷ []) }
     ensures err { OnErr result (S.lines sink.new ≡ S.lines sink.old) }
 {
     sink.is_short();
@@ -98,7 +108,9 @@ pub(crate) fn delete<S: Sink>(
     requires named { reference < length names.now.names }
     requires line { IsLine (delete_line (name_at names.now.names reference)) }
     ensures slots { IfOk result (λ _. store.new.slots ≡ slice_set store.old.slots reference None) }
-    ensures lines { IfOk result (λ _. S.lines sink.new ≡ S.lines sink.old ++ delete_line (name_at names.now.names reference) ∷ []) }
+    ensures lines { IfOk result (λ _.
+        S.lines sink.new ≡ S.lines sink.old ++ delete_line (name_at names.now.names reference) ∷
+        []) }
     ensures err { OnErr result (S.lines sink.new ≡ S.lines sink.old) }
 {
     let mut hints = Vec::with_capacity(alloc, 1)?;

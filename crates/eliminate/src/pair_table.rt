@@ -1,8 +1,9 @@
-// Which pairs of literals stand together in many clauses, by counting. A first walk over the store counts pairs in a
-// table of small counters by a hash (a counting filter, Fan et al. 2000): a counter is never below the number of the
-// clauses with one of its pairs. A second walk writes down the pairs with a large counter, each with its clause, and
-// sorts these; so what is written down stays small on sparse formulas. Long clauses and literals that stand in few
-// clauses are passed over, and each walk ends after a fixed number of pairs: so the work is near linear.
+// Which pairs of literals stand together in many clauses, by counting. A first walk over the store
+// counts pairs in a table of small counters by a hash (a counting filter, Fan et al. 2000): a
+// counter is never below the number of the clauses with one of its pairs. A second walk writes down
+// the pairs with a large counter, each with its clause, and sorts these; so what is written down
+// stays small on sparse formulas. Long clauses and literals that stand in few clauses are passed
+// over, and each walk ends after a fixed number of pairs: so the work is near linear.
 ghost use Rattle.std.specs.Prelude.{◌≡◌, ◌≤◌, IfSome};
 ghost use Rattle.clauses.specs.Slots.{IsLive};
 
@@ -33,7 +34,8 @@ struct Meeting {
     place: u32,
 }
 
-/// A pair with its meetings. The order puts the pair of most meetings first, and then the pair that was met first.
+/// A pair with its meetings. The order puts the pair of most meetings first, and then the pair that
+/// was met first.
 #[derive(Clone, Copy, PartialEq, Eq, PartialOrd, Ord, Drop)]
 struct Run {
     // A number that falls as the meetings are more.
@@ -200,7 +202,8 @@ fn literal_counts(alloc: Global, store: &Store, vars: u32) -> Result<Vec<u32>, A
     Ok(counts)
 }
 
-/// Puts the indices of the literals that stand in enough clauses into `out`, where pairs are looked for in the clause.
+/// Puts the indices of the literals that stand in enough clauses into `out`, where pairs are looked
+/// for in the clause.
 fn frequent(
     store: &Store,
     place: usize,

@@ -1,9 +1,11 @@
-// Fresh variables for pairs of literals that stand together in many clauses (extended resolution as bounded variable
-// addition, Manthey, Heule and Biere 2012). The pair l1, l2 gets a variable z with 'not z, or l1 or l2', 'z or not l1'
-// and 'z or not l2', and each clause with the pair becomes one with z. Which pairs are worthwhile is found by counting
-// and may be wrong: each clause is looked at again before it changes. A pair whose count has fallen to less than half
-// since it was counted waits for the next round.
-ghost use Rattle.std.specs.Prelude.{◌≡◌, ℕ, ◌+◌, ◌<◌, ◌≤◌, ◌^◌, List, [], ◌∷◌, ◌++◌, length, IsTrue, IfOk, OnOk, OnErr, Some};
+// Fresh variables for pairs of literals that stand together in many clauses (extended resolution as
+// bounded variable addition, Manthey, Heule and Biere 2012). The pair l1, l2 gets a variable z with
+// 'not z, or l1 or l2', 'z or not l1' and 'z or not l2', and each clause with the pair becomes one
+// with z. Which pairs are worthwhile is found by counting and may be wrong: each clause is looked
+// at again before it changes. A pair whose count has fallen to less than half since it was counted
+// waits for the next round.
+ghost use Rattle.std.specs.Prelude.{◌≡◌, ℕ, ◌+◌, ◌<◌, ◌≤◌, ◌^◌, List, [], ◌∷◌, ◌++◌, length};
+ghost use Rattle.std.specs.Prelude.{IsTrue, IfOk, OnOk, OnErr, Some};
 ghost use Rattle.std.specs.List.{AllByRecursion};
 ghost use Rattle.wcnf.specs.Literal.{Literal};
 ghost use Rattle.wcnf.specs.Clause.{contains_literal};
@@ -12,7 +14,8 @@ ghost use Rattle.clauses.specs.Slots.{IsLive, clause_at};
 ghost use Rattle.lrat_log.specs.Log.{number_in};
 ghost use Rattle.lrat_log.specs.declared.lines.Hint.TheVariants.{Plain};
 ghost use Rattle.eliminate.specs.Work.{additions, name_at, added_line};
-ghost use Rattle.eliminate.specs.Pairs.{side_clause, side_line, replaced, ShareClause, IsOnOther, HasPairOf, IsDefined, Keeps, KeepsLog};
+ghost use Rattle.eliminate.specs.Pairs.{side_clause, side_line, replaced, ShareClause, IsOnOther};
+ghost use Rattle.eliminate.specs.Pairs.{HasPairOf, IsDefined, Keeps, KeepsLog};
 
 use crate::names::{Names, add, delete};
 use crate::pair_table::{Candidate, FEWEST, PairTable};
@@ -40,8 +43,8 @@ pub(crate) struct Fresh {
     right_side: CRef,
 }
 
-/// Replaces pairs that stand in many clauses by fresh variables, the first of which is `vars + 1`; the answer is the
-/// last variable, which is at most `most`.
+/// Replaces pairs that stand in many clauses by fresh variables, the first of which is `vars + 1`;
+/// the answer is the last variable, which is at most `most`.
 pub(crate) fn define_pairs<S: Sink>(
     store: &mut Store,
     names: &mut Names,
@@ -57,12 +60,23 @@ pub(crate) fn define_pairs<S: Sink>(
     ensures most { IfOk result (λ v. v ≤ most) }
     ensures counted { OnOk result (names.new.additions ≡ additions (S.lines sink.new)) }
     ensures long { OnOk result (length names.new.names ≡ length store.new.slots) }
-    ensures keeps { IfOk result (λ v. Keeps
-        (record { variables = vars; slots = store.old.slots; names = names.old.names; lines = S.lines sink.old })
-        (record { variables = v; slots = store.new.slots; names = names.new.names; lines = S.lines sink.new })) }
-    ensures err { OnErr result (KeepsLog
-        (record { variables = vars; slots = store.old.slots; names = names.old.names; lines = S.lines sink.old })
-        (S.lines sink.new)) }
+    ensures keeps { IfOk result (λ v. Keeps (record {
+      variables = vars;
+      slots = store.old.slots;
+      names = names.old.names;
+      lines = S.lines sink.old;
+    }) (record {
+      variables = v;
+      slots = store.new.slots;
+      names = names.new.names;
+      lines = S.lines sink.new;
+    })) }
+    ensures err { OnErr result (KeepsLog (record {
+      variables = vars;
+      slots = store.old.slots;
+      names = names.old.names;
+      lines = S.lines sink.old;
+    }) (S.lines sink.new)) }
 {
     let mut last = vars;
     for _round in 0..MOST_ROUNDS {
@@ -91,12 +105,23 @@ fn define_counted<S: Sink>(
     ensures most { IfOk result (λ v. v ≤ most) }
     ensures counted { OnOk result (names.new.additions ≡ additions (S.lines sink.new)) }
     ensures long { OnOk result (length names.new.names ≡ length store.new.slots) }
-    ensures keeps { IfOk result (λ v. Keeps
-        (record { variables = vars; slots = store.old.slots; names = names.old.names; lines = S.lines sink.old })
-        (record { variables = v; slots = store.new.slots; names = names.new.names; lines = S.lines sink.new })) }
-    ensures err { OnErr result (KeepsLog
-        (record { variables = vars; slots = store.old.slots; names = names.old.names; lines = S.lines sink.old })
-        (S.lines sink.new)) }
+    ensures keeps { IfOk result (λ v. Keeps (record {
+      variables = vars;
+      slots = store.old.slots;
+      names = names.old.names;
+      lines = S.lines sink.old;
+    }) (record {
+      variables = v;
+      slots = store.new.slots;
+      names = names.new.names;
+      lines = S.lines sink.new;
+    })) }
+    ensures err { OnErr result (KeepsLog (record {
+      variables = vars;
+      slots = store.old.slots;
+      names = names.old.names;
+      lines = S.lines sink.old;
+    }) (S.lines sink.new)) }
 {
     let mut table = PairTable::new(store, vars)?;
     let mut last = vars;
@@ -130,12 +155,23 @@ fn define_found<S: Sink>(
     ensures most { IfOk result (λ v. v ≤ vars + 1) }
     ensures counted { OnOk result (names.new.additions ≡ additions (S.lines sink.new)) }
     ensures long { OnOk result (length names.new.names ≡ length store.new.slots) }
-    ensures keeps { IfOk result (λ v. Keeps
-        (record { variables = vars; slots = store.old.slots; names = names.old.names; lines = S.lines sink.old })
-        (record { variables = v; slots = store.new.slots; names = names.new.names; lines = S.lines sink.new })) }
-    ensures err { OnErr result (KeepsLog
-        (record { variables = vars; slots = store.old.slots; names = names.old.names; lines = S.lines sink.old })
-        (S.lines sink.new)) }
+    ensures keeps { IfOk result (λ v. Keeps (record {
+      variables = vars;
+      slots = store.old.slots;
+      names = names.old.names;
+      lines = S.lines sink.old;
+    }) (record {
+      variables = v;
+      slots = store.new.slots;
+      names = names.new.names;
+      lines = S.lines sink.new;
+    })) }
+    ensures err { OnErr result (KeepsLog (record {
+      variables = vars;
+      slots = store.old.slots;
+      names = names.old.names;
+      lines = S.lines sink.old;
+    }) (S.lines sink.new)) }
 {
     if !shares_first(store, candidate, table.found()) {
         return Ok(vars);
@@ -218,12 +254,23 @@ fn define<S: Sink>(
     ensures defined { IfOk result (λ d. IsDefined store.new.slots d) }
     ensures counted { OnOk result (names.new.additions ≡ additions (S.lines sink.new)) }
     ensures long { OnOk result (length names.new.names ≡ length store.new.slots) }
-    ensures keeps { IfOk result (λ d. Keeps
-        (record { variables = vars; slots = store.old.slots; names = names.old.names; lines = S.lines sink.old })
-        (record { variables = vars + 1; slots = store.new.slots; names = names.new.names; lines = S.lines sink.new })) }
-    ensures err { OnErr result (KeepsLog
-        (record { variables = vars; slots = store.old.slots; names = names.old.names; lines = S.lines sink.old })
-        (S.lines sink.new)) }
+    ensures keeps { IfOk result (λ d. Keeps (record {
+      variables = vars;
+      slots = store.old.slots;
+      names = names.old.names;
+      lines = S.lines sink.old;
+    }) (record {
+      variables = vars + 1;
+      slots = store.new.slots;
+      names = names.new.names;
+      lines = S.lines sink.new;
+    })) }
+    ensures err { OnErr result (KeepsLog (record {
+      variables = vars;
+      slots = store.old.slots;
+      names = names.old.names;
+      lines = S.lines sink.old;
+    }) (S.lines sink.new)) }
 {
     sink.is_short();
     let alloc = store.allocator();
@@ -243,7 +290,8 @@ fn define<S: Sink>(
     })
 }
 
-/// Adds the clause 'the variable, or not the literal', after the clause with the variable's negation.
+/// Adds the clause 'the variable, or not the literal', after the clause with the variable's
+/// negation.
 fn add_side<S: Sink>(
     store: &mut Store,
     names: &mut Names,
@@ -257,7 +305,8 @@ fn add_side<S: Sink>(
     requires named { whole < length names.old.names }
     requires counted { names.old.additions ≡ additions (S.lines sink.old) }
     ensures reference { IfOk result (λ r. r ≡ length store.old.slots) }
-    ensures slots { OnOk result (store.new.slots ≡ store.old.slots ++ Some (side_clause variable lit) ∷ []) }
+    ensures slots { OnOk result (store.new.slots ≡ store.old.slots ++ Some
+        (side_clause variable lit) ∷ []) }
     ensures names { OnOk result (names.new ≡ record {
       names = names.old.names ++ added_line names.old.additions ∷ [];
       additions = names.old.additions + 1;
@@ -272,8 +321,8 @@ fn add_side<S: Sink>(
     add(store, names, sink, Kind::Definition, lits, hints)
 }
 
-/// Puts the variable of a definition into a clause in the place of its pair: a clause with the variable is added, and
-/// the clause is deleted.
+/// Puts the variable of a definition into a clause in the place of its pair: a clause with the
+/// variable is added, and the clause is deleted.
 fn replace<S: Sink>(
     store: &mut Store,
     names: &mut Names,
@@ -292,12 +341,23 @@ fn replace<S: Sink>(
     ensures defined { OnOk result (IsDefined store.new.slots definition.now) }
     ensures counted { OnOk result (names.new.additions ≡ additions (S.lines sink.new)) }
     ensures long { OnOk result (length names.new.names ≡ length store.new.slots) }
-    ensures keeps { OnOk result (Keeps
-        (record { variables = definition.now.variable; slots = store.old.slots; names = names.old.names; lines = S.lines sink.old })
-        (record { variables = definition.now.variable; slots = store.new.slots; names = names.new.names; lines = S.lines sink.new })) }
-    ensures err { OnErr result (KeepsLog
-        (record { variables = definition.now.variable; slots = store.old.slots; names = names.old.names; lines = S.lines sink.old })
-        (S.lines sink.new)) }
+    ensures keeps { OnOk result (Keeps (record {
+      variables = definition.now.variable;
+      slots = store.old.slots;
+      names = names.old.names;
+      lines = S.lines sink.old;
+    }) (record {
+      variables = definition.now.variable;
+      slots = store.new.slots;
+      names = names.new.names;
+      lines = S.lines sink.new;
+    })) }
+    ensures err { OnErr result (KeepsLog (record {
+      variables = definition.now.variable;
+      slots = store.old.slots;
+      names = names.old.names;
+      lines = S.lines sink.old;
+    }) (S.lines sink.new)) }
 {
     sink.is_short();
     let alloc = store.allocator();

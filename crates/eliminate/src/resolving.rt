@@ -1,5 +1,6 @@
 // Resolvents, built in a scratch vector against marks.
-ghost use Rattle.std.specs.Prelude.{◌≡◌, ℕ, ◌<◌, List, [], ◌∷◌, true, false, not, ◌++◌, length, All, IfOk, OnErr, IfSome, Some, None, filter, if◌then◌else◌};
+ghost use Rattle.std.specs.Prelude.{◌≡◌, ℕ, ◌<◌, List, [], ◌∷◌, true, false, not, ◌++◌, length};
+ghost use Rattle.std.specs.Prelude.{All, IfOk, OnErr, IfSome, Some, None, filter, if◌then◌else◌};
 ghost use Rattle.std.specs.List.{list_any};
 ghost use Rattle.wcnf.specs.Literal.{negation};
 ghost use Rattle.wcnf.specs.Clause.{without_literal, has_opposites};
@@ -21,8 +22,8 @@ use std::alloc::{AllocError, Global};
 use subsume::marks::Marks;
 use wcnf::types::Lit;
 
-/// Builds the resolvent of two clauses, the first with the pivot and the second with its negation. The answer is whether
-/// it has no opposite pair; where it has one, what was built is of no use.
+/// Builds the resolvent of two clauses, the first with the pivot and the second with its negation.
+/// The answer is whether it has no opposite pair; where it has one, what was built is of no use.
 pub(crate) fn resolve(
     marks: &mut Marks,
     pivot: Lit,
@@ -35,8 +36,10 @@ pub(crate) fn resolve(
     requires plain_first { has_opposites first.now ≡ false }
     requires plain_second { has_opposites second.now ≡ false }
     ensures len { length marks.new ≡ length marks.old }
-    ensures plain { IfOk result (λ plain. plain ≡ not (has_opposites (resolvent pivot first.now second.now))) }
-    ensures built { IfOk result (λ plain. plain ≡ true → out.new.items ≡ resolvent pivot first.now second.now) }
+    ensures plain { IfOk result (λ plain.
+        plain ≡ not (has_opposites (resolvent pivot first.now second.now))) }
+    ensures built { IfOk result (λ plain. plain ≡ true
+        → out.new.items ≡ resolvent pivot first.now second.now) }
 {
     out.clear();
     add_others(pivot, first, out)?;
@@ -47,7 +50,8 @@ pub(crate) fn resolve(
 
 /// Adds the literals but for one.
 fn add_others(left_out: Lit, lits: &[Lit], out: &mut Vec<Lit>) -> Result<(), AllocError>
-    ensures { IfOk result (λ _. out.new.items ≡ out.old.items ++ without_literal left_out lits.now) }
+    ensures { IfOk result (λ _.
+        out.new.items ≡ out.old.items ++ without_literal left_out lits.now) }
 {
     for lit in lits {
         if *lit != left_out {
@@ -57,7 +61,8 @@ fn add_others(left_out: Lit, lits: &[Lit], out: &mut Vec<Lit>) -> Result<(), All
     Ok(())
 }
 
-/// Adds the literals that are not marked, but for one, and says whether the negation of none of these is marked.
+/// Adds the literals that are not marked, but for one, and says whether the negation of none of
+/// these is marked.
 fn add_rest(
     marks: &Marks,
     left_out: Lit,
@@ -65,8 +70,10 @@ fn add_rest(
     out: &mut Vec<Lit>,
 ) -> Result<bool, AllocError>
     requires { All (HasPlace (length marks.now)) lits.now }
-    ensures plain { IfOk result (λ plain. plain ≡ not (list_any (is_opposed marks.now) (unmarked_rest marks.now left_out lits.now))) }
-    ensures built { IfOk result (λ plain. plain ≡ true → out.new.items ≡ out.old.items ++ unmarked_rest marks.now left_out lits.now) }
+    ensures plain { IfOk result (λ plain.
+        plain ≡ not (list_any (is_opposed marks.now) (unmarked_rest marks.now left_out lits.now))) }
+    ensures built { IfOk result (λ plain. plain ≡ true
+        → out.new.items ≡ out.old.items ++ unmarked_rest marks.now left_out lits.now) }
 {
     for lit in lits {
         if *lit != left_out && !marks.is_marked(*lit) {
@@ -79,10 +86,12 @@ fn add_rest(
     Ok(true)
 }
 
-/// How many of the literals are not marked, but for one; none where the negation of such a one is marked.
+/// How many of the literals are not marked, but for one; none where the negation of such a one is
+/// marked.
 pub(crate) fn count_rest(marks: &Marks, left_out: Lit, lits: &[Lit]) -> Option<usize>
     requires { All (HasPlace (length marks.now)) lits.now }
-    ensures opposed { result ≡ None → list_any (is_opposed marks.now) (unmarked_rest marks.now left_out lits.now) ≡ true }
+    ensures opposed { result ≡ None
+        → list_any (is_opposed marks.now) (unmarked_rest marks.now left_out lits.now) ≡ true }
     ensures count { IfSome result (λ n. n ≡ length (unmarked_rest marks.now left_out lits.now)) }
 {
     let mut count = 0usize;
@@ -97,8 +106,8 @@ pub(crate) fn count_rest(marks: &Marks, left_out: Lit, lits: &[Lit]) -> Option<u
     Some(count)
 }
 
-/// Adds the resolvent of two clauses, the first with the pivot and the second with its negation, where it has no
-/// opposite pair. The empty one ends everything.
+/// Adds the resolvent of two clauses, the first with the pivot and the second with its negation,
+/// where it has no opposite pair. The empty one ends everything.
 pub(crate) fn add_resolvent<S: Sink>(
     simplifier: &mut Simplifier,
     store: &mut Store,
@@ -111,15 +120,19 @@ pub(crate) fn add_resolvent<S: Sink>(
     requires going { simplifier.old.is_refuted ≡ false }
     requires first { IsWith pivot store.old.slots first }
     requires second { IsWith (negation pivot) store.old.slots second }
-    ensures simplified { IfOk result (λ _. StaysSimplified simplifier.old store.old.slots (S.lines sink.old)
+    ensures simplified { IfOk result (λ _.
+        StaysSimplified simplifier.old store.old.slots (S.lines sink.old)
         simplifier.new store.new.slots (S.lines sink.new)) }
     ensures grows { IfOk result (λ _. GrowsWithout pivot store.old.slots store.new.slots) }
-    ensures resolved { IfOk result (λ _. IsPairResolved pivot store.old.slots store.new.slots first second) }
+    ensures resolved { IfOk result (λ _.
+        IsPairResolved pivot store.old.slots store.new.slots first second) }
     ensures added { IfOk result (λ added. IfSome added (λ r. (r ≡ length store.old.slots)
-        × ((c d : List Literal) → clause_at store.old.slots first ≡ Some c → clause_at store.old.slots second ≡ Some d
+        × ((c d : List Literal) → clause_at store.old.slots first ≡ Some c
+        → clause_at store.old.slots second ≡ Some d
         → clause_at store.new.slots r ≡ Some (resolvent pivot c d)))) }
     ensures none { IfOk result (λ added. added ≡ None → simplifier.new.is_refuted ≡ false) }
-    ensures err { OnErr result (LeavesLog simplifier.old store.old.slots (S.lines sink.old) (S.lines sink.new)) }
+    ensures err { OnErr result (LeavesLog simplifier.old store.old.slots (S.lines sink.old)
+        (S.lines sink.new)) }
 {
     let is_plain = resolve(
         &mut simplifier.marks,
@@ -141,7 +154,9 @@ pub(crate) fn add_resolvent<S: Sink>(
 fn parents(alloc: Global, names: &Names, first: CRef, second: CRef) -> Result<Vec<Hint>, AllocError>
     requires first { first < length names.now.names }
     requires second { second < length names.now.names }
-    ensures { IfOk result (λ hints. hints.items ≡ Hint.Plain (name_at names.now.names first) ∷ Hint.Plain (name_at names.now.names second) ∷ []) }
+    ensures { IfOk result (λ hints.
+        hints.items ≡ Hint.Plain (name_at names.now.names first) ∷ Hint.Plain
+        (name_at names.now.names second) ∷ []) }
 {
     let mut hints = Vec::with_capacity(alloc, 2)?;
     hints.push(Hint::Plain(names.get(first)))?;

@@ -20,9 +20,11 @@ pub(crate) fn simplify<S: Sink>(
     sink: &mut S,
 ) -> Result<(), AllocError>
     requires { IsSimplifierOver frozen.now simplifier.old store.old.slots (S.lines sink.old) }
-    ensures simplified { IfOk result (λ _. StaysOver frozen.now simplifier.old store.old.slots (S.lines sink.old)
+    ensures simplified { IfOk result (λ _.
+        StaysOver frozen.now simplifier.old store.old.slots (S.lines sink.old)
         simplifier.new store.new.slots (S.lines sink.new)) }
-    ensures err { OnErr result (LeavesLogOver frozen.now simplifier.old store.old.slots (S.lines sink.old) (S.lines sink.new)) }
+    ensures err { OnErr result (LeavesLogOver frozen.now simplifier.old store.old.slots
+        (S.lines sink.old) (S.lines sink.new)) }
 {
     for _round in 0..MOST_ROUNDS {
         if simplifier.is_refuted {

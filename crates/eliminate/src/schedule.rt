@@ -1,5 +1,5 @@
-// Where work may be worthwhile: how often each literal occurs, and which variables have clauses that changed. Nothing
-// that is proved rests on it.
+// Where work may be worthwhile: how often each literal occurs, and which variables have clauses
+// that changed. Nothing that is proved rests on it.
 use std::alloc::{AllocError, Global};
 use wcnf::types::Lit;
 

@@ -1,13 +1,15 @@
-// What preprocessing keeps beside the store and the log. Names, occurrences and removals are what its proof rests on;
-// the schedule only says where work may be worthwhile.
-ghost use Rattle.std.specs.Prelude.{◌≡◌, ℕ, ◌<◌, List, [], ◌∷◌, ◌++◌, Bool, true, false, length, IfOk, IfSome, OnErr, Some, None, slice_set};
+// What preprocessing keeps beside the store and the log. Names, occurrences and removals are what
+// its proof rests on; the schedule only says where work may be worthwhile.
+ghost use Rattle.std.specs.Prelude.{◌≡◌, ℕ, ◌<◌, List, [], ◌∷◌, ◌++◌, Bool, true, false, length};
+ghost use Rattle.std.specs.Prelude.{IfOk, IfSome, OnErr, Some, None, slice_set};
 ghost use Rattle.wcnf.specs.Literal.{Literal};
 ghost use Rattle.wcnf.specs.Clause.{is_subset};
 ghost use Rattle.wcnf.specs.Formula.{IsFormula};
 ghost use Rattle.clauses.specs.Slots.{IsLive, clause_at, live_clauses};
 ghost use Rattle.lrat_log.specs.Steps.{is_empty_clause};
 ghost use Rattle.eliminate.specs.State.{Start};
-ghost use Rattle.eliminate.specs.Simplifier.{IsSimplified, IsSimplifier, StaysSimplified, LeavesLog, IsAddableLine};
+ghost use Rattle.eliminate.specs.Simplifier.{IsSimplified, IsSimplifier, StaysSimplified};
+ghost use Rattle.eliminate.specs.Simplifier.{LeavesLog, IsAddableLine};
 
 use crate::bins::Bins;
 use crate::names::{Names, add, delete};
@@ -49,7 +51,10 @@ impl Simplifier {
     pub(crate) fn new(alloc: Global, store: &Store, vars: u32) -> Result<Self, AllocError>
         requires { IsFormula (record { variables = vars; clauses = live_clauses store.now.slots }) }
         ensures simplified { IfOk result (λ s. (frozen : List Bool) → length frozen ≡ vars
-            → IsSimplified (record { clauses = live_clauses store.now.slots; frozen = frozen }) s store.now.slots []) }
+            → IsSimplified (record {
+              clauses = live_clauses store.now.slots;
+              frozen = frozen;
+            }) s store.now.slots []) }
         ensures going { IfOk result (λ s. s.is_refuted ≡ false) }
     {
         let count = 2 * vars as usize;
@@ -87,7 +92,8 @@ impl Simplifier {
         }
     }
 
-    /// The clause at this place among those in which a literal occurs, where there is one that is live.
+    /// The clause at this place among those in which a literal occurs, where there is one that is
+    /// live.
     pub(crate) fn occurrence(&self, store: &Store, lit: Lit, at: usize) -> Option<CRef>
         ensures { IfSome result (λ r. IsLive store.now.slots r) }
     {
@@ -116,15 +122,25 @@ impl Simplifier {
     ) -> Result<CRef, AllocError>
         requires simplified { IsSimplifier self.old store.old.slots (S.lines sink.old) }
         requires going { self.old.is_refuted ≡ false }
-        requires line { (start : Start) → IsSimplified start self.old store.old.slots (S.lines sink.old)
-            → IsAddableLine start self.old (S.lines sink.old) (record { kind = kind; clause = self.old.clause.items; hints = hints.items }) }
+        requires line { (start : Start)
+            → IsSimplified start self.old store.old.slots (S.lines sink.old)
+            → IsAddableLine start self.old (S.lines sink.old) (record {
+              kind = kind;
+              clause = self.old.clause.items;
+              hints = hints.items;
+            }) }
         ensures reference { IfOk result (λ r. r ≡ length store.old.slots) }
-        ensures slots { IfOk result (λ _. store.new.slots ≡ store.old.slots ++ Some self.old.clause.items ∷ []) }
+        ensures slots { IfOk result (λ _.
+            store.new.slots ≡ store.old.slots ++ Some self.old.clause.items ∷ []) }
         ensures simplified { IfOk result (λ _.
-            StaysSimplified self.old store.old.slots (S.lines sink.old) self.new store.new.slots (S.lines sink.new)) }
-        ensures refuted { IfOk result (λ _. self.new.is_refuted ≡ is_empty_clause self.old.clause.items) }
-        ensures same { IfOk result (λ _. (self.new.vars ≡ self.old.vars) × (self.new.removals ≡ self.old.removals)) }
-        ensures err { OnErr result (LeavesLog self.old store.old.slots (S.lines sink.old) (S.lines sink.new)) }
+            StaysSimplified self.old store.old.slots (S.lines sink.old) self.new store.new.slots
+            (S.lines sink.new)) }
+        ensures refuted { IfOk result (λ _.
+            self.new.is_refuted ≡ is_empty_clause self.old.clause.items) }
+        ensures same { IfOk result (λ _. (self.new.vars ≡ self.old.vars)
+            × (self.new.removals ≡ self.old.removals)) }
+        ensures err { OnErr result (LeavesLog self.old store.old.slots (S.lines sink.old)
+            (S.lines sink.new)) }
     {
         sink.is_short();
         let mut lits = Vec::with_capacity(store.allocator(), self.clause.len())?;
@@ -151,11 +167,14 @@ impl Simplifier {
         requires live_too { IsLive store.old.slots by }
         requires subset { (c d : List Literal) → clause_at store.old.slots by ≡ Some c
             → clause_at store.old.slots reference ≡ Some d → is_subset c d ≡ true }
-        ensures slots { IfOk result (λ _. store.new.slots ≡ slice_set store.old.slots reference None) }
+        ensures slots { IfOk result (λ _.
+            store.new.slots ≡ slice_set store.old.slots reference None) }
         ensures simplified { IfOk result (λ _.
-            StaysSimplified self.old store.old.slots (S.lines sink.old) self.new store.new.slots (S.lines sink.new)) }
+            StaysSimplified self.old store.old.slots (S.lines sink.old) self.new store.new.slots
+            (S.lines sink.new)) }
         ensures going { IfOk result (λ _. self.new.is_refuted ≡ false) }
-        ensures same { IfOk result (λ _. (self.new.vars ≡ self.old.vars) × (self.new.removals ≡ self.old.removals)) }
+        ensures same { IfOk result (λ _. (self.new.vars ≡ self.old.vars)
+            × (self.new.removals ≡ self.old.removals)) }
         ensures err { OnErr result (S.lines sink.new ≡ S.lines sink.old) }
     {
         let _ = by;

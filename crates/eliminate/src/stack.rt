@@ -1,10 +1,13 @@
-// The eliminated variables with the clauses that went with them, and how the variables get their values back.
-ghost use Rattle.std.specs.Prelude.{◌≡◌, ℕ, ◌+◌, ◌-◌, ◌<◌, ◌≤◌, ◌^◌, Bool, false, not, ◌&&◌, List, [], ◌∷◌, ◌++◌, length, map, All, IfOk, OnErr, slice_get};
+// The eliminated variables with the clauses that went with them, and how the variables get their
+// values back.
+ghost use Rattle.std.specs.Prelude.{◌≡◌, ℕ, ◌+◌, ◌-◌, ◌<◌, ◌≤◌, ◌^◌, Bool, false, not, ◌&&◌, List};
+ghost use Rattle.std.specs.Prelude.{[], ◌∷◌, ◌++◌, length, map, All, IfOk, OnErr, slice_get};
 ghost use Rattle.std.specs.List.{list_any};
 ghost use Rattle.wcnf.specs.Literal.{Literal, literal_value};
 ghost use Rattle.wcnf.specs.Clause.{contains_literal, without_literal};
 ghost use Rattle.wcnf.specs.Bits.{assignment_of};
-ghost use Rattle.eliminate.specs.Elimination.{Removed, extended, is_eliminated, is_needed, becomes_true, positive};
+ghost use Rattle.eliminate.specs.Elimination.{Removed, extended, is_eliminated, is_needed};
+ghost use Rattle.eliminate.specs.Elimination.{becomes_true, positive};
 ghost use Rattle.clauses.specs.Slots.{IsLive};
 ghost use Rattle.eliminate.specs.Flat.{clauses_at, IsWithin, AddsClauses};
 ghost use Rattle.eliminate.specs.Rows.{clauses_under};
@@ -71,8 +74,10 @@ impl Removals {
         requires from_one { 0 < variable }
         requires small { variable < 2 ^ 27 }
         requires live { All (IsLive store.now.slots) references.now }
-        ensures { IfOk result (λ _. self.new
-            ≡ self.old ++ record { variable = variable; clauses = clauses_under store.now.slots references.now } ∷ []) }
+        ensures { IfOk result (λ _. self.new ≡ self.old ++ record {
+          variable = variable;
+          clauses = clauses_under store.now.slots references.now;
+        } ∷ []) }
     {
         let start = place(self.pieces.len())?;
         keep_clauses(references, store, &mut self.pieces, &mut self.literals)?;
@@ -118,10 +123,12 @@ fn keep_clauses(
     literals: &mut Vec<Lit>,
 ) -> Result<(), AllocError>
     requires { All (IsLive store.now.slots) references.now }
-    ensures ok { IfOk result (λ _. AddsClauses pieces.old.items pieces.new.items literals.old.items literals.new.items
+    ensures ok { IfOk result (λ _.
+        AddsClauses pieces.old.items pieces.new.items literals.old.items literals.new.items
         (clauses_under store.now.slots references.now)) }
     ensures err { OnErr result ((some : List (List Literal))
-        × AddsClauses pieces.old.items pieces.new.items literals.old.items literals.new.items some) }
+        × AddsClauses pieces.old.items pieces.new.items literals.old.items literals.new.items
+        some) }
 {
     for reference in references {
         keep(store.lits(*reference), pieces, literals)?;
@@ -131,9 +138,11 @@ fn keep_clauses(
 
 /// Copies a clause to the end, as a piece.
 fn keep(clause: &[Lit], pieces: &mut Vec<Piece>, literals: &mut Vec<Lit>) -> Result<(), AllocError>
-    ensures ok { IfOk result (λ _. AddsClauses pieces.old.items pieces.new.items literals.old.items literals.new.items
+    ensures ok { IfOk result (λ _.
+        AddsClauses pieces.old.items pieces.new.items literals.old.items literals.new.items
         (clause.now ∷ [])) }
-    ensures err { OnErr result (AddsClauses pieces.old.items pieces.new.items literals.old.items literals.new.items []) }
+    ensures err { OnErr result (AddsClauses pieces.old.items pieces.new.items literals.old.items
+        literals.new.items []) }
 {
     let start = place(literals.len())?;
     literals.extend_from_slice(clause)?;
@@ -146,7 +155,10 @@ fn keep(clause: &[Lit], pieces: &mut Vec<Piece>, literals: &mut Vec<Lit>) -> Res
 fn some_needed(pieces: &[Piece], literals: &[Lit], variable: u32, bits: &[bool]) -> bool
     requires variable { (0 < variable) × (variable < 2 ^ 27) }
     requires within { All (IsWithin (length literals.now)) pieces.now }
-    ensures { result ≡ becomes_true (assignment_of bits.now) (record { variable = variable; clauses = clauses_at literals.now pieces.now }) }
+    ensures { result ≡ becomes_true (assignment_of bits.now) (record {
+      variable = variable;
+      clauses = clauses_at literals.now pieces.now;
+    }) }
 {
     let literal = Lit::new(variable, false);
     for piece in pieces {

@@ -1,8 +1,10 @@
-// Unit propagation before the search. Sweeps over all clauses alternate with a queue of literals that became true: the
-// queue visits the clauses in which they are false, and looks at a clause only once a count says that at most one of its
-// literals may be open, so that all visits together are linear in the literals of the formula. Nothing rests on the
-// counts: the last sweep finds no clause that is false or unit.
-ghost use Rattle.std.specs.Prelude.{◌≡◌, ℕ, ◌+◌, ◌*◌, ◌<◌, ◌≤◌, ◌∷◌, ◌++◌, [], true, false, List, length, replicate, Some, None, IfOk, OnErr};
+// Unit propagation before the search. Sweeps over all clauses alternate with a queue of literals
+// that became true: the queue visits the clauses in which they are false, and looks at a clause
+// only once a count says that at most one of its literals may be open, so that all visits together
+// are linear in the literals of the formula. Nothing rests on the counts: the last sweep finds no
+// clause that is false or unit.
+ghost use Rattle.std.specs.Prelude.{◌≡◌, ℕ, ◌+◌, ◌*◌, ◌<◌, ◌≤◌, ◌∷◌, ◌++◌, [], true, false, List};
+ghost use Rattle.std.specs.Prelude.{length, replicate, Some, None, IfOk, OnErr};
 ghost use Rattle.wcnf.specs.Literal.{Literal, negation};
 ghost use Rattle.wcnf.specs.Clause.{contains_literal};
 ghost use Rattle.wcnf.specs.Refute.{IsUnit, IsFalseUnder, IsRefutedByHints};
@@ -10,7 +12,8 @@ ghost use Rattle.clauses.specs.Slots.{IsLive, clause_at, live_clauses};
 ghost use Rattle.subsume.specs.Marks.{HasPlace};
 ghost use Rattle.eliminate.specs.Work.{AreClauses};
 ghost use Rattle.eliminate.specs.Simplifier.{IsSimplifier, StaysSimplified, LeavesLog, Grows};
-ghost use Rattle.eliminate.specs.Units.{HasStatus, IsSettled, AreUnits, AreSettled, unit_hints, open_count, MakesTrue};
+ghost use Rattle.eliminate.specs.Units.{HasStatus, IsSettled, AreUnits, AreSettled, unit_hints};
+ghost use Rattle.eliminate.specs.Units.{open_count, MakesTrue};
 
 use crate::names::Names;
 use crate::simplifier::Simplifier;
@@ -87,7 +90,8 @@ impl Units {
         requires units { AreUnits self.now store.now.slots }
         requires clauses { AreClauses (length self.now.clauses.items) store.now.slots }
         requires live { IsLive store.now.slots reference }
-        ensures { (c : List Literal) → clause_at store.now.slots reference ≡ Some c → HasStatus self.now.trail.items c result }
+        ensures { (c : List Literal) → clause_at store.now.slots reference ≡ Some c
+            → HasStatus self.now.trail.items c result }
     {
         let mut found = Status::Falsified;
         for lit in store.lits(reference) {
@@ -111,7 +115,8 @@ impl Units {
         requires clauses { AreClauses (length self.now.clauses.items) store.now.slots }
         requires live { IsLive store.now.slots reference }
         requires named { length names.now.names ≡ length store.now.slots }
-        ensures { IfOk result (λ hints. (c : List Literal) → clause_at store.now.slots reference ≡ Some c
+        ensures { IfOk result (λ hints. (c : List Literal)
+            → clause_at store.now.slots reference ≡ Some c
             → hints.items ≡ unit_hints self.now names.now.names c reference) }
     {
         let mut hints = Vec::new(store.allocator());
@@ -141,13 +146,18 @@ impl Units {
         requires units { AreUnits self.now store.old.slots }
         requires fits { length self.now.clauses.items ≡ simplifier.old.vars }
         requires live { IsLive store.old.slots reference }
-        requires unit { (c : List Literal) → clause_at store.old.slots reference ≡ Some c → IsUnit c self.now.trail.items lit }
+        requires unit { (c : List Literal) → clause_at store.old.slots reference ≡ Some c
+            → IsUnit c self.now.trail.items lit }
         ensures reference { IfOk result (λ r. r ≡ length store.old.slots) }
-        ensures slots { IfOk result (λ _. store.new.slots ≡ store.old.slots ++ Some (lit ∷ []) ∷ []) }
+        ensures slots { IfOk result (λ _.
+            store.new.slots ≡ store.old.slots ++ Some (lit ∷ []) ∷ []) }
         ensures simplified { IfOk result (λ _.
-            StaysSimplified simplifier.old store.old.slots (S.lines sink.old) simplifier.new store.new.slots (S.lines sink.new)) }
-        ensures going { IfOk result (λ _. (simplifier.new.is_refuted ≡ false) × (simplifier.new.vars ≡ simplifier.old.vars)) }
-        ensures err { OnErr result (LeavesLog simplifier.old store.old.slots (S.lines sink.old) (S.lines sink.new)) }
+            StaysSimplified simplifier.old store.old.slots (S.lines sink.old)
+            simplifier.new store.new.slots (S.lines sink.new)) }
+        ensures going { IfOk result (λ _. (simplifier.new.is_refuted ≡ false)
+            × (simplifier.new.vars ≡ simplifier.old.vars)) }
+        ensures err { OnErr result (LeavesLog simplifier.old store.old.slots (S.lines sink.old)
+            (S.lines sink.new)) }
     {
         let hints = self.hints(&simplifier.names, store, reference)?;
         simplifier.clause.clear();
@@ -156,7 +166,8 @@ impl Units {
         Ok(unit)
     }
 
-    /// The clause of the one literal that is open in a clause: the clause itself, where it has no other.
+    /// The clause of the one literal that is open in a clause: the clause itself, where it has no
+    /// other.
     fn unit_clause<S: Sink>(
         &self,
         simplifier: &mut Simplifier,
@@ -170,13 +181,17 @@ impl Units {
         requires units { AreUnits self.now store.old.slots }
         requires fits { length self.now.clauses.items ≡ simplifier.old.vars }
         requires live { IsLive store.old.slots reference }
-        requires unit { (c : List Literal) → clause_at store.old.slots reference ≡ Some c → IsUnit c self.now.trail.items lit }
+        requires unit { (c : List Literal) → clause_at store.old.slots reference ≡ Some c
+            → IsUnit c self.now.trail.items lit }
         ensures alone { IfOk result (λ r. clause_at store.new.slots r ≡ Some (lit ∷ [])) }
         ensures grows { IfOk result (λ _. Grows store.old.slots store.new.slots) }
         ensures simplified { IfOk result (λ _.
-            StaysSimplified simplifier.old store.old.slots (S.lines sink.old) simplifier.new store.new.slots (S.lines sink.new)) }
-        ensures going { IfOk result (λ _. (simplifier.new.is_refuted ≡ false) × (simplifier.new.vars ≡ simplifier.old.vars)) }
-        ensures err { OnErr result (LeavesLog simplifier.old store.old.slots (S.lines sink.old) (S.lines sink.new)) }
+            StaysSimplified simplifier.old store.old.slots (S.lines sink.old)
+            simplifier.new store.new.slots (S.lines sink.new)) }
+        ensures going { IfOk result (λ _. (simplifier.new.is_refuted ≡ false)
+            × (simplifier.new.vars ≡ simplifier.old.vars)) }
+        ensures err { OnErr result (LeavesLog simplifier.old store.old.slots (S.lines sink.old)
+            (S.lines sink.new)) }
     {
         if store.lits(reference).len() == 1 {
             return Ok(reference);
@@ -198,11 +213,15 @@ impl Units {
         requires units { AreUnits self.now store.old.slots }
         requires fits { length self.now.clauses.items ≡ simplifier.old.vars }
         requires live { IsLive store.old.slots reference }
-        requires falsified { (c : List Literal) → clause_at store.old.slots reference ≡ Some c → IsFalseUnder c self.now.trail.items }
+        requires falsified { (c : List Literal) → clause_at store.old.slots reference ≡ Some c
+            → IsFalseUnder c self.now.trail.items }
         ensures simplified { IfOk result (λ _.
-            StaysSimplified simplifier.old store.old.slots (S.lines sink.old) simplifier.new store.new.slots (S.lines sink.new)) }
-        ensures refuted { IfOk result (λ _. (simplifier.new.is_refuted ≡ true) × (simplifier.new.vars ≡ simplifier.old.vars)) }
-        ensures err { OnErr result (LeavesLog simplifier.old store.old.slots (S.lines sink.old) (S.lines sink.new)) }
+            StaysSimplified simplifier.old store.old.slots (S.lines sink.old)
+            simplifier.new store.new.slots (S.lines sink.new)) }
+        ensures refuted { IfOk result (λ _. (simplifier.new.is_refuted ≡ true)
+            × (simplifier.new.vars ≡ simplifier.old.vars)) }
+        ensures err { OnErr result (LeavesLog simplifier.old store.old.slots (S.lines sink.old)
+            (S.lines sink.new)) }
     {
         let hints = self.hints(&simplifier.names, store, reference)?;
         simplifier.clause.clear();
@@ -217,7 +236,8 @@ impl Units {
         requires not_true { contains_literal lit self.old.trail.items ≡ false }
         requires not_false { contains_literal (negation lit) self.old.trail.items ≡ false }
         requires alone { clause_at store.now.slots unit ≡ Some (lit ∷ []) }
-        ensures units { IfOk result (λ _. MakesTrue self.old store.now.slots self.new store.now.slots) }
+        ensures units { IfOk result (λ _.
+            MakesTrue self.old store.now.slots self.new store.now.slots) }
         ensures progress { IfOk result (λ _. open_count self.new < open_count self.old) }
     {
         let _ = store;
@@ -227,7 +247,8 @@ impl Units {
         Ok(())
     }
 
-    /// Does what a clause asks for: a literal becomes true, or the empty clause is added. The answer is whether it was so.
+    /// Does what a clause asks for: a literal becomes true, or the empty clause is added. The
+    /// answer is whether it was so.
     fn meet<S: Sink>(
         &mut self,
         simplifier: &mut Simplifier,
@@ -241,14 +262,19 @@ impl Units {
         requires fits { length self.old.clauses.items ≡ simplifier.old.vars }
         requires live { IsLive store.old.slots reference }
         ensures simplified { IfOk result (λ _.
-            StaysSimplified simplifier.old store.old.slots (S.lines sink.old) simplifier.new store.new.slots (S.lines sink.new)) }
+            StaysSimplified simplifier.old store.old.slots (S.lines sink.old)
+            simplifier.new store.new.slots (S.lines sink.new)) }
         ensures vars { IfOk result (λ _. simplifier.new.vars ≡ simplifier.old.vars) }
-        ensures units { IfOk result (λ _. simplifier.new.is_refuted ≡ false → MakesTrue self.old store.old.slots self.new store.new.slots) }
-        ensures settled { IfOk result (λ found. found ≡ false → (simplifier.new.is_refuted ≡ false) × (self.new ≡ self.old)
-            × (store.new.slots ≡ store.old.slots)
-            × ((c : List Literal) → clause_at store.old.slots reference ≡ Some c → IsSettled self.old.trail.items c)) }
-        ensures progress { IfOk result (λ found. found ≡ true → simplifier.new.is_refuted ≡ false → open_count self.new < open_count self.old) }
-        ensures err { OnErr result (LeavesLog simplifier.old store.old.slots (S.lines sink.old) (S.lines sink.new)) }
+        ensures units { IfOk result (λ _. simplifier.new.is_refuted ≡ false
+            → MakesTrue self.old store.old.slots self.new store.new.slots) }
+        ensures settled { IfOk result (λ found. found ≡ false → (simplifier.new.is_refuted ≡ false)
+            × (self.new ≡ self.old) × (store.new.slots ≡ store.old.slots)
+            × ((c : List Literal) → clause_at store.old.slots reference ≡ Some c
+            → IsSettled self.old.trail.items c)) }
+        ensures progress { IfOk result (λ found. found ≡ true → simplifier.new.is_refuted ≡ false
+            → open_count self.new < open_count self.old) }
+        ensures err { OnErr result (LeavesLog simplifier.old store.old.slots (S.lines sink.old)
+            (S.lines sink.new)) }
     {
         match self.status(store, reference) {
             Status::Settled => Ok(false),
@@ -266,7 +292,8 @@ impl Units {
 }
 
 impl Units {
-    /// Meets the clause at a place, where there is one. The answer is whether it asked for something.
+    /// Meets the clause at a place, where there is one. The answer is whether it asked for
+    /// something.
     fn meet_at<S: Sink>(
         &mut self,
         simplifier: &mut Simplifier,
@@ -279,14 +306,19 @@ impl Units {
         requires units { AreUnits self.old store.old.slots }
         requires fits { length self.old.clauses.items ≡ simplifier.old.vars }
         ensures simplified { IfOk result (λ _.
-            StaysSimplified simplifier.old store.old.slots (S.lines sink.old) simplifier.new store.new.slots (S.lines sink.new)) }
+            StaysSimplified simplifier.old store.old.slots (S.lines sink.old)
+            simplifier.new store.new.slots (S.lines sink.new)) }
         ensures vars { IfOk result (λ _. simplifier.new.vars ≡ simplifier.old.vars) }
-        ensures units { IfOk result (λ _. simplifier.new.is_refuted ≡ false → MakesTrue self.old store.old.slots self.new store.new.slots) }
-        ensures settled { IfOk result (λ found. found ≡ false → (simplifier.new.is_refuted ≡ false) × (self.new ≡ self.old)
-            × (store.new.slots ≡ store.old.slots)
-            × ((c : List Literal) → clause_at store.old.slots place ≡ Some c → IsSettled self.old.trail.items c)) }
-        ensures progress { IfOk result (λ found. found ≡ true → simplifier.new.is_refuted ≡ false → open_count self.new < open_count self.old) }
-        ensures err { OnErr result (LeavesLog simplifier.old store.old.slots (S.lines sink.old) (S.lines sink.new)) }
+        ensures units { IfOk result (λ _. simplifier.new.is_refuted ≡ false
+            → MakesTrue self.old store.old.slots self.new store.new.slots) }
+        ensures settled { IfOk result (λ found. found ≡ false → (simplifier.new.is_refuted ≡ false)
+            × (self.new ≡ self.old) × (store.new.slots ≡ store.old.slots)
+            × ((c : List Literal) → clause_at store.old.slots place ≡ Some c
+            → IsSettled self.old.trail.items c)) }
+        ensures progress { IfOk result (λ found. found ≡ true → simplifier.new.is_refuted ≡ false
+            → open_count self.new < open_count self.old) }
+        ensures err { OnErr result (LeavesLog simplifier.old store.old.slots (S.lines sink.old)
+            (S.lines sink.new)) }
     {
         match store.live_at(place) {
             Some(reference) => {
@@ -309,12 +341,17 @@ impl Units {
         requires units { AreUnits self.old store.old.slots }
         requires fits { length self.old.clauses.items ≡ simplifier.old.vars }
         ensures simplified { IfOk result (λ _.
-            StaysSimplified simplifier.old store.old.slots (S.lines sink.old) simplifier.new store.new.slots (S.lines sink.new)) }
+            StaysSimplified simplifier.old store.old.slots (S.lines sink.old)
+            simplifier.new store.new.slots (S.lines sink.new)) }
         ensures vars { IfOk result (λ _. simplifier.new.vars ≡ simplifier.old.vars) }
-        ensures units { IfOk result (λ _. simplifier.new.is_refuted ≡ false → MakesTrue self.old store.old.slots self.new store.new.slots) }
-        ensures settled { IfOk result (λ found. found ≡ false → (simplifier.new.is_refuted ≡ false) × AreSettled self.old.trail.items store.old.slots) }
-        ensures progress { IfOk result (λ found. found ≡ true → simplifier.new.is_refuted ≡ false → open_count self.new < open_count self.old) }
-        ensures err { OnErr result (LeavesLog simplifier.old store.old.slots (S.lines sink.old) (S.lines sink.new)) }
+        ensures units { IfOk result (λ _. simplifier.new.is_refuted ≡ false
+            → MakesTrue self.old store.old.slots self.new store.new.slots) }
+        ensures settled { IfOk result (λ found. found ≡ false → (simplifier.new.is_refuted ≡ false)
+            × AreSettled self.old.trail.items store.old.slots) }
+        ensures progress { IfOk result (λ found. found ≡ true → simplifier.new.is_refuted ≡ false
+            → open_count self.new < open_count self.old) }
+        ensures err { OnErr result (LeavesLog simplifier.old store.old.slots (S.lines sink.old)
+            (S.lines sink.new)) }
     {
         let mut found = false;
         for place in 0..store.places() {
@@ -329,7 +366,8 @@ impl Units {
         Ok(found)
     }
 
-    /// Meets the clause at this place among those in which a literal that is false occurs, where it may ask for something.
+    /// Meets the clause at this place among those in which a literal that is false occurs, where it
+    /// may ask for something.
     fn visit_at<S: Sink>(
         &mut self,
         unmet: &mut [u32],
@@ -344,10 +382,13 @@ impl Units {
         requires units { AreUnits self.old store.old.slots }
         requires fits { length self.old.clauses.items ≡ simplifier.old.vars }
         ensures simplified { IfOk result (λ _.
-            StaysSimplified simplifier.old store.old.slots (S.lines sink.old) simplifier.new store.new.slots (S.lines sink.new)) }
+            StaysSimplified simplifier.old store.old.slots (S.lines sink.old)
+            simplifier.new store.new.slots (S.lines sink.new)) }
         ensures vars { IfOk result (λ _. simplifier.new.vars ≡ simplifier.old.vars) }
-        ensures units { IfOk result (λ _. simplifier.new.is_refuted ≡ false → MakesTrue self.old store.old.slots self.new store.new.slots) }
-        ensures err { OnErr result (LeavesLog simplifier.old store.old.slots (S.lines sink.old) (S.lines sink.new)) }
+        ensures units { IfOk result (λ _. simplifier.new.is_refuted ≡ false
+            → MakesTrue self.old store.old.slots self.new store.new.slots) }
+        ensures err { OnErr result (LeavesLog simplifier.old store.old.slots (S.lines sink.old)
+            (S.lines sink.new)) }
     {
         let reference = match simplifier.occurrence(store, lit, at) {
             Some(reference) => reference,
@@ -374,10 +415,13 @@ impl Units {
         requires units { AreUnits self.old store.old.slots }
         requires fits { length self.old.clauses.items ≡ simplifier.old.vars }
         ensures simplified { IfOk result (λ _.
-            StaysSimplified simplifier.old store.old.slots (S.lines sink.old) simplifier.new store.new.slots (S.lines sink.new)) }
+            StaysSimplified simplifier.old store.old.slots (S.lines sink.old)
+            simplifier.new store.new.slots (S.lines sink.new)) }
         ensures vars { IfOk result (λ _. simplifier.new.vars ≡ simplifier.old.vars) }
-        ensures units { IfOk result (λ _. simplifier.new.is_refuted ≡ false → MakesTrue self.old store.old.slots self.new store.new.slots) }
-        ensures err { OnErr result (LeavesLog simplifier.old store.old.slots (S.lines sink.old) (S.lines sink.new)) }
+        ensures units { IfOk result (λ _. simplifier.new.is_refuted ≡ false
+            → MakesTrue self.old store.old.slots self.new store.new.slots) }
+        ensures err { OnErr result (LeavesLog simplifier.old store.old.slots (S.lines sink.old)
+            (S.lines sink.new)) }
     {
         for at in 0..simplifier.occurrence_count(lit) {
             self.visit_at(unmet, simplifier, store, sink, lit, at)?;
@@ -388,7 +432,8 @@ impl Units {
         Ok(())
     }
 
-    /// Visits the clauses of the literals on the trail that were not visited, and of those that become true on the way.
+    /// Visits the clauses of the literals on the trail that were not visited, and of those that
+    /// become true on the way.
     fn follow<S: Sink>(
         &mut self,
         visits: &mut Visits,
@@ -401,10 +446,13 @@ impl Units {
         requires units { AreUnits self.old store.old.slots }
         requires fits { length self.old.clauses.items ≡ simplifier.old.vars }
         ensures simplified { IfOk result (λ _.
-            StaysSimplified simplifier.old store.old.slots (S.lines sink.old) simplifier.new store.new.slots (S.lines sink.new)) }
+            StaysSimplified simplifier.old store.old.slots (S.lines sink.old)
+            simplifier.new store.new.slots (S.lines sink.new)) }
         ensures vars { IfOk result (λ _. simplifier.new.vars ≡ simplifier.old.vars) }
-        ensures units { IfOk result (λ _. simplifier.new.is_refuted ≡ false → MakesTrue self.old store.old.slots self.new store.new.slots) }
-        ensures err { OnErr result (LeavesLog simplifier.old store.old.slots (S.lines sink.old) (S.lines sink.new)) }
+        ensures units { IfOk result (λ _. simplifier.new.is_refuted ≡ false
+            → MakesTrue self.old store.old.slots self.new store.new.slots) }
+        ensures err { OnErr result (LeavesLog simplifier.old store.old.slots (S.lines sink.old)
+            (S.lines sink.new)) }
     {
         while visits.qhead < self.trail.len() {
             let lit = self.trail[visits.qhead].negation();
@@ -429,8 +477,8 @@ fn is_due(unmet: &mut [u32], reference: CRef) -> bool {
     }
 }
 
-/// Propagates the clauses of one literal to the end. Either the empty clause is added then, or no hints refute the clauses
-/// before.
+/// Propagates the clauses of one literal to the end. Either the empty clause is added then, or no
+/// hints refute the clauses before.
 pub(crate) fn propagate_units<S: Sink>(
     simplifier: &mut Simplifier,
     store: &mut Store,
@@ -439,9 +487,12 @@ pub(crate) fn propagate_units<S: Sink>(
     requires simplified { IsSimplifier simplifier.old store.old.slots (S.lines sink.old) }
     requires going { simplifier.old.is_refuted ≡ false }
     ensures simplified { IfOk result (λ _.
-        StaysSimplified simplifier.old store.old.slots (S.lines sink.old) simplifier.new store.new.slots (S.lines sink.new)) }
-    ensures refuted { IfOk result (λ _. simplifier.new.is_refuted ≡ false → IsRefutedByHints (live_clauses store.old.slots) → ⊥) }
-    ensures err { OnErr result (LeavesLog simplifier.old store.old.slots (S.lines sink.old) (S.lines sink.new)) }
+        StaysSimplified simplifier.old store.old.slots (S.lines sink.old)
+        simplifier.new store.new.slots (S.lines sink.new)) }
+    ensures refuted { IfOk result (λ _. simplifier.new.is_refuted ≡ false
+        → IsRefutedByHints (live_clauses store.old.slots) → ⊥) }
+    ensures err { OnErr result (LeavesLog simplifier.old store.old.slots (S.lines sink.old)
+        (S.lines sink.new)) }
 {
     let alloc = store.allocator();
     let mut units = Units::new(alloc, simplifier.vars, store)?;

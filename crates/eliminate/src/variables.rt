@@ -1,7 +1,9 @@
-// Bounded variable elimination (Davis and Putnam 1960; Eén and Biere 2005): the clauses with a variable are replaced by
-// their resolvents on it, where these are no more and none is long. Variables are tried in the order in which their
-// clauses changed. Whether a variable goes is found by counting over marks, so that no clause is built in vain.
-ghost use Rattle.std.specs.Prelude.{◌≡◌, ℕ, ◌*◌, ◌<◌, ◌≤◌, true, false, List, length, All, IfOk, OnErr};
+// Bounded variable elimination (Davis and Putnam 1960; Eén and Biere 2005): the clauses with a
+// variable are replaced by their resolvents on it, where these are no more and none is long.
+// Variables are tried in the order in which their clauses changed. Whether a variable goes is found
+// by counting over marks, so that no clause is built in vain.
+ghost use Rattle.std.specs.Prelude.{◌≡◌, ℕ, ◌*◌, ◌<◌, ◌≤◌, true, false, List, length, All, IfOk};
+ghost use Rattle.std.specs.Prelude.{OnErr};
 ghost use Rattle.wcnf.specs.Literal.{negation};
 ghost use Rattle.clauses.specs.Slots.{IsLive};
 ghost use Rattle.lrat_log.specs.Log.{LogLine, IsLine};
@@ -11,7 +13,9 @@ ghost use Rattle.eliminate.specs.Rows.{AreRows};
 ghost use Rattle.eliminate.specs.Work.{additions, name_at, delete_line};
 ghost use Rattle.eliminate.specs.Simplifier.{IsSimplifier, StaysSimplified, LeavesLog};
 ghost use Rattle.eliminate.specs.Subsuming.{ArePlaced};
-ghost use Rattle.eliminate.specs.Variables.{IsSimplifierOver, StaysOver, LeavesLogOver, IsWith, AreThoseWith, GrowsWithout, IsPairResolved, ArePairsResolved, LeavesOut, KeepsWork, KeepsLog};
+ghost use Rattle.eliminate.specs.Variables.{IsSimplifierOver, StaysOver, LeavesLogOver, IsWith};
+ghost use Rattle.eliminate.specs.Variables.{AreThoseWith, GrowsWithout, IsPairResolved};
+ghost use Rattle.eliminate.specs.Variables.{ArePairsResolved, LeavesOut, KeepsWork, KeepsLog};
 
 use crate::names::{Names, delete};
 use crate::resolving::{add_resolvent, count_rest};
@@ -27,7 +31,8 @@ use wcnf::types::Lit;
 const MOST_OF_A_SIGN: usize = 10;
 /// No resolvent has more literals.
 const MOST_LITERALS: usize = 32;
-/// Clauses that are longer are not tried: their resolvents are too long, but where each has an opposite pair.
+/// Clauses that are longer are not tried: their resolvents are too long, but where each has an
+/// opposite pair.
 const LONGEST_PARENT: usize = 100;
 /// For each variable, so many tries in one pass.
 const MOST_TRIES: usize = 10;
@@ -39,19 +44,22 @@ struct Parents {
     negative: Vec<CRef>,
 }
 
-/// Eliminates variables that are not frozen, as long as clauses of some variable changed since it was tried. The answer
-/// is whether a variable went.
+/// Eliminates variables that are not frozen, as long as clauses of some variable changed since it
+/// was tried. The answer is whether a variable went.
 pub(crate) fn eliminate_variables<S: Sink>(
     simplifier: &mut Simplifier,
     store: &mut Store,
     frozen: &[bool],
     sink: &mut S,
 ) -> Result<bool, AllocError>
-    requires simplified { IsSimplifierOver frozen.now simplifier.old store.old.slots (S.lines sink.old) }
+    requires simplified { IsSimplifierOver frozen.now simplifier.old store.old.slots
+        (S.lines sink.old) }
     requires going { simplifier.old.is_refuted ≡ false }
-    ensures simplified { IfOk result (λ _. StaysOver frozen.now simplifier.old store.old.slots (S.lines sink.old)
+    ensures simplified { IfOk result (λ _.
+        StaysOver frozen.now simplifier.old store.old.slots (S.lines sink.old)
         simplifier.new store.new.slots (S.lines sink.new)) }
-    ensures err { OnErr result (LeavesLogOver frozen.now simplifier.old store.old.slots (S.lines sink.old) (S.lines sink.new)) }
+    ensures err { OnErr result (LeavesLogOver frozen.now simplifier.old store.old.slots
+        (S.lines sink.old) (S.lines sink.new)) }
 {
     let alloc = store.allocator();
     let mut parents = Parents {
@@ -87,7 +95,8 @@ fn is_free(variable: u32, frozen: &[bool]) -> bool
     }
 }
 
-/// Eliminates the variable where that does not make the formula larger. The answer is whether it went.
+/// Eliminates the variable where that does not make the formula larger. The answer is whether it
+/// went.
 fn try_variable<S: Sink>(
     simplifier: &mut Simplifier,
     store: &mut Store,
@@ -96,12 +105,15 @@ fn try_variable<S: Sink>(
     variable: u32,
     parents: &mut Parents,
 ) -> Result<bool, AllocError>
-    requires simplified { IsSimplifierOver frozen.now simplifier.old store.old.slots (S.lines sink.old) }
+    requires simplified { IsSimplifierOver frozen.now simplifier.old store.old.slots
+        (S.lines sink.old) }
     requires going { simplifier.old.is_refuted ≡ false }
     requires free { IsFree frozen.now variable }
-    ensures simplified { IfOk result (λ _. StaysOver frozen.now simplifier.old store.old.slots (S.lines sink.old)
+    ensures simplified { IfOk result (λ _.
+        StaysOver frozen.now simplifier.old store.old.slots (S.lines sink.old)
         simplifier.new store.new.slots (S.lines sink.new)) }
-    ensures err { OnErr result (LeavesLogOver frozen.now simplifier.old store.old.slots (S.lines sink.old) (S.lines sink.new)) }
+    ensures err { OnErr result (LeavesLogOver frozen.now simplifier.old store.old.slots
+        (S.lines sink.old) (S.lines sink.new)) }
 {
     let pivot = Lit::new(variable, false);
     if !find_parents(simplifier, store, pivot, parents)? {
@@ -140,10 +152,14 @@ fn find_parents(
     requires place { HasPlace (length simplifier.old.occurrences) pivot }
     requires rows { AreRows simplifier.old.occurrences store.now.slots }
     requires placed { ArePlaced (length simplifier.old.marks) store.now.slots }
-    ensures simplified { (lines : List LogLine) → StaysSimplified simplifier.old store.now.slots lines simplifier.new store.now.slots lines }
+    ensures simplified { (lines : List LogLine)
+        → StaysSimplified simplifier.old store.now.slots lines
+        simplifier.new store.now.slots lines }
     ensures same { simplifier.new.is_refuted ≡ simplifier.old.is_refuted }
-    ensures positive { IfOk result (λ good. good ≡ true → AreThoseWith pivot store.now.slots parents.new.positive.items) }
-    ensures negative { IfOk result (λ good. good ≡ true → AreThoseWith (negation pivot) store.now.slots parents.new.negative.items) }
+    ensures positive { IfOk result (λ good. good ≡ true
+        → AreThoseWith pivot store.now.slots parents.new.positive.items) }
+    ensures negative { IfOk result (λ good. good ≡ true
+        → AreThoseWith (negation pivot) store.now.slots parents.new.negative.items) }
 {
     if !is_candidate(&simplifier.schedule, pivot) {
         return Ok(false);
@@ -178,9 +194,12 @@ fn gather(
     requires rows { AreRows simplifier.old.occurrences store.now.slots }
     ensures gathered { IfOk result (λ _. AreThoseWith lit store.now.slots references.new.items) }
     ensures rows { AreRows simplifier.new.occurrences store.now.slots }
-    ensures simplified { (lines : List LogLine) → StaysSimplified simplifier.old store.now.slots lines simplifier.new store.now.slots lines }
+    ensures simplified { (lines : List LogLine)
+        → StaysSimplified simplifier.old store.now.slots lines
+        simplifier.new store.now.slots lines }
     ensures same { (simplifier.new.is_refuted ≡ simplifier.old.is_refuted)
-        × (length simplifier.new.marks ≡ length simplifier.old.marks) × (length simplifier.new.occurrences ≡ length simplifier.old.occurrences) }
+        × (length simplifier.new.marks ≡ length simplifier.old.marks)
+        × (length simplifier.new.occurrences ≡ length simplifier.old.occurrences) }
 {
     let row = lit.index();
     simplifier.occurrences.clean(row, store);
@@ -189,7 +208,8 @@ fn gather(
     Ok(())
 }
 
-/// Whether the resolvents are no more than the clauses, and none of them is long. The marks are used.
+/// Whether the resolvents are no more than the clauses, and none of them is long. The marks are
+/// used.
 fn is_worthwhile(
     marks: &mut Marks,
     store: &Store,
@@ -230,7 +250,8 @@ fn are_few_and_short(store: &Store, references: &[CRef]) -> bool
     references.len() <= MOST_OF_A_SIGN
 }
 
-/// How many resolvents without an opposite pair the first clause has with the others; none where one of them is long.
+/// How many resolvents without an opposite pair the first clause has with the others; none where
+/// one of them is long.
 fn count_resolvents(
     marks: &mut Marks,
     store: &Store,
@@ -270,12 +291,14 @@ fn add_resolvents<S: Sink>(
     requires going { simplifier.old.is_refuted ≡ false }
     requires firsts { All (IsWith pivot store.old.slots) firsts.now }
     requires seconds { All (IsWith (negation pivot) store.old.slots) seconds.now }
-    ensures simplified { IfOk result (λ _. StaysSimplified simplifier.old store.old.slots (S.lines sink.old)
+    ensures simplified { IfOk result (λ _.
+        StaysSimplified simplifier.old store.old.slots (S.lines sink.old)
         simplifier.new store.new.slots (S.lines sink.new)) }
     ensures grows { IfOk result (λ _. GrowsWithout pivot store.old.slots store.new.slots) }
     ensures resolved { IfOk result (λ _. simplifier.new.is_refuted ≡ false
         → ArePairsResolved pivot store.old.slots store.new.slots firsts.now seconds.now) }
-    ensures err { OnErr result (LeavesLog simplifier.old store.old.slots (S.lines sink.old) (S.lines sink.new)) }
+    ensures err { OnErr result (LeavesLog simplifier.old store.old.slots (S.lines sink.old)
+        (S.lines sink.new)) }
 {
     for first in firsts {
         add_resolvents_of(simplifier, store, sink, pivot, *first, seconds)?;
@@ -299,12 +322,14 @@ fn add_resolvents_of<S: Sink>(
     requires going { simplifier.old.is_refuted ≡ false }
     requires first { IsWith pivot store.old.slots first }
     requires seconds { All (IsWith (negation pivot) store.old.slots) seconds.now }
-    ensures simplified { IfOk result (λ _. StaysSimplified simplifier.old store.old.slots (S.lines sink.old)
+    ensures simplified { IfOk result (λ _.
+        StaysSimplified simplifier.old store.old.slots (S.lines sink.old)
         simplifier.new store.new.slots (S.lines sink.new)) }
     ensures grows { IfOk result (λ _. GrowsWithout pivot store.old.slots store.new.slots) }
     ensures resolved { IfOk result (λ _. simplifier.new.is_refuted ≡ false
         → All (IsPairResolved pivot store.old.slots store.new.slots first) seconds.now) }
-    ensures err { OnErr result (LeavesLog simplifier.old store.old.slots (S.lines sink.old) (S.lines sink.new)) }
+    ensures err { OnErr result (LeavesLog simplifier.old store.old.slots (S.lines sink.old)
+        (S.lines sink.new)) }
 {
     for second in seconds {
         add_resolvent(simplifier, store, sink, pivot, first, *second)?;
@@ -315,7 +340,8 @@ fn add_resolvents_of<S: Sink>(
     Ok(())
 }
 
-/// Takes the variable out, whose resolvents are all there: its clauses are kept for the way back, and deleted.
+/// Takes the variable out, whose resolvents are all there: its clauses are kept for the way back,
+/// and deleted.
 fn remove_variable<S: Sink>(
     simplifier: &mut Simplifier,
     store: &mut Store,
@@ -325,15 +351,19 @@ fn remove_variable<S: Sink>(
     firsts: &[CRef],
     seconds: &[CRef],
 ) -> Result<(), AllocError>
-    requires simplified { IsSimplifierOver frozen.now simplifier.old store.old.slots (S.lines sink.old) }
+    requires simplified { IsSimplifierOver frozen.now simplifier.old store.old.slots
+        (S.lines sink.old) }
     requires going { simplifier.old.is_refuted ≡ false }
     requires free { IsFree frozen.now variable }
     requires firsts { AreThoseWith (positive variable) store.old.slots firsts.now }
     requires seconds { AreThoseWith (negation (positive variable)) store.old.slots seconds.now }
-    requires resolved { ArePairsResolved (positive variable) store.old.slots store.old.slots firsts.now seconds.now }
-    ensures simplified { IfOk result (λ _. StaysOver frozen.now simplifier.old store.old.slots (S.lines sink.old)
+    requires resolved { ArePairsResolved (positive variable) store.old.slots store.old.slots
+        firsts.now seconds.now }
+    ensures simplified { IfOk result (λ _.
+        StaysOver frozen.now simplifier.old store.old.slots (S.lines sink.old)
         simplifier.new store.new.slots (S.lines sink.new)) }
-    ensures err { OnErr result (LeavesLogOver frozen.now simplifier.old store.old.slots (S.lines sink.old) (S.lines sink.new)) }
+    ensures err { OnErr result (LeavesLogOver frozen.now simplifier.old store.old.slots
+        (S.lines sink.old) (S.lines sink.new)) }
 {
     simplifier.removals.push(variable, firsts, store)?;
     delete_all(
@@ -363,10 +393,14 @@ fn delete_all<S: Sink>(
 ) -> Result<(), AllocError>
     requires named { length names.now.names ≡ length store.old.slots }
     requires lines { (r : ℕ) → IsLine (delete_line (name_at names.now.names r)) }
-    ensures work { IfOk result (λ _. KeepsWork names.now.names store.old.slots (S.lines sink.old) store.new.slots (S.lines sink.new)) }
-    ensures counted { IfOk result (λ _. additions (S.lines sink.new) ≡ additions (S.lines sink.old)) }
+    ensures work { IfOk result (λ _.
+        KeepsWork names.now.names store.old.slots (S.lines sink.old) store.new.slots
+        (S.lines sink.new)) }
+    ensures counted { IfOk result (λ _.
+        additions (S.lines sink.new) ≡ additions (S.lines sink.old)) }
     ensures left { IfOk result (λ _. LeavesOut references.now store.old.slots store.new.slots) }
-    ensures err { OnErr result (KeepsLog names.now.names store.old.slots (S.lines sink.old) (S.lines sink.new)) }
+    ensures err { OnErr result (KeepsLog names.now.names store.old.slots (S.lines sink.old)
+        (S.lines sink.new)) }
 {
     let alloc = store.allocator();
     for reference in references {
