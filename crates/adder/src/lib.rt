@@ -6,6 +6,4 @@ pub mod cells;
 mod columns;
 pub mod networks;
 pub mod relaxations;
-#[cfg(test)]
-mod tests;
 mod trees;

@@ -283,6 +283,3 @@ impl Moves {
         }
     }
 }
-
-#[cfg(test)]
-mod tests;

@@ -265,6 +265,3 @@ fn put_line<W: Write>(
         Ok(last + 1)
     }
 }
-
-#[cfg(test)]
-mod tests;

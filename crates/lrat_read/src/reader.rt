@@ -125,6 +125,3 @@ impl LineReader {
         &self.hints
     }
 }
-
-#[cfg(test)]
-mod tests;

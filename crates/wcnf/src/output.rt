@@ -210,6 +210,3 @@ pub fn write_piece<W: Write>(writer: &mut W, piece: &[u8]) -> Result<(), WriteFa
     }
     Ok(())
 }
-
-#[cfg(test)]
-mod tests;

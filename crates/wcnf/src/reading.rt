@@ -63,6 +63,3 @@ pub fn read_from<R: Read>(alloc: Global, reader: &mut R) -> Result<Instance, Rea
     }
     Err(FAILED)
 }
-
-#[cfg(test)]
-mod tests;

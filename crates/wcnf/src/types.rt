@@ -273,6 +273,3 @@ impl Formula {
         self.clauses.allocator()
     }
 }
-
-#[cfg(test)]
-mod tests;

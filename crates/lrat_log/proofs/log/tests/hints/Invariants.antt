@@ -1,9 +1,0 @@
--- The hints so far are in range.
-use Rattle.std.proofs.Common.{◌<◌, ◌^◌}
-use Rattle.std.specs.Prelude.{All}
-use Rattle.wcnf.specs.Lrat.{IsId}
-use Rattle.lrat_log.specs.Log.{id_of, name_of, number_in}
-use Rattle.lrat_log.proofs.log.tests.hints.Given as goal
-
-abbrev pub invariant-loop-number : goal.invariant-loop-number
-invariant-loop-number l = All (λ h. IsId (number_in (name_of h))) l.hints.items × All (λ h. id_of l.base (name_of h) < 2 ^ 62) l.hints.items

@@ -1,0 +1,31 @@
+#!/usr/bin/env bash
+# The tests of single crates: tests/units/CRATE/PATH/tests.rt is the module `tests` of crates/CRATE/src/PATH.rt, or of the
+# crate's root. They stand here and not in the crates, where the gate would prove each crate once more for its tests. They
+# are run with no proof, by `rt try`.
+#   tests/units.sh [CRATE..]
+source "$(dirname "$0")/lib"
+mkdir -p "$work/crates"
+for crate in $(sed -E '/^(wmax|render_bench|propagate_bench):/d; s/:.*//' crates.txt); do
+    cp -r "crates/$crate" "$work/crates"
+    rm -rf "$work/crates/$crate/out"
+    grep -E "^$crate:" crates.txt >> "$work/crates.txt"
+done
+[ $# -gt 0 ] || set -- $(ls tests/units)
+for crate; do
+    src=$work/crates/$crate/src
+    wanted=0
+    for file in $(cd "tests/units/$crate" && find . -name tests.rt); do
+        at=$(dirname "$file")
+        root=$src/lib.rt
+        [ "$at" = . ] || root=$src/$at.rt
+        mkdir -p "$src/$at"
+        cp "tests/units/$crate/$file" "$src/$at/tests.rt"
+        printf '\n#[cfg(test)]\nmod tests;\n' >> "$root"
+        wanted=$((wanted + $(grep -c '^#\[test\]' "$src/$at/tests.rt")))
+    done
+    out=$(cd "$work/crates/$crate" && "${RT:-rt}" try --test --steps 1000 --seconds 100 2>&1)
+    ran=$(grep -cE '^test .* \.\.\. ok$' <<< "$out")
+    ok "$crate: $ran of $wanted tests" [ "$ran" = "$wanted" ]
+    [ "$ran" = "$wanted" ] || grep -E '^test .*FAILED|^error|panicked' <<< "$out" | head -n 20
+done
+totals
