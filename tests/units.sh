@@ -1,6 +1,5 @@
 #!/usr/bin/env bash
-# The tests of single crates: tests/units/CRATE/PATH/tests.rt is the module `tests` of crates/CRATE/src/PATH.rt, or of the
-# crate's root. They stand here and not in the crates, where the gate would prove each crate once more for its tests. They
+# The tests of single crates: tests/units/CRATE/PATH.tests is the module `tests` of crates/CRATE/src/PATH.rt. They stand here and not in the crates, where the gate would prove each crate once more for its tests. They
 # are run with no proof, by `rt try`.
 #   tests/units.sh [CRATE..]
 source "$(dirname "$0")/lib"
@@ -14,14 +13,14 @@ done
 for crate; do
     src=$work/crates/$crate/src
     wanted=0
-    for file in $(cd "tests/units/$crate" && find . -name tests.rt); do
-        at=$(dirname "$file")
-        root=$src/lib.rt
-        [ "$at" = . ] || root=$src/$at.rt
-        mkdir -p "$src/$at"
-        cp "tests/units/$crate/$file" "$src/$at/tests.rt"
-        printf '\n#[cfg(test)]\nmod tests;\n' >> "$root"
-        wanted=$((wanted + $(grep -c '^#\[test\]' "$src/$at/tests.rt")))
+    for file in $(cd "tests/units/$crate" && find . -name '*.tests'); do
+        of=${file%.tests}
+        folder=$src/$of
+        [ "$of" = ./lib ] && folder=$src
+        mkdir -p "$folder"
+        cp "tests/units/$crate/$file" "$folder/tests.rt"
+        printf '\n#[cfg(test)]\nmod tests;\n' >> "$src/$of.rt"
+        wanted=$((wanted + $(grep -c '^#\[test\]' "$folder/tests.rt")))
     done
     out=$(cd "$work/crates/$crate" && "${RT:-rt}" try --test --steps 1000 --seconds 100 2>&1)
     ran=$(grep -cE '^test .* \.\.\. ok$' <<< "$out")
