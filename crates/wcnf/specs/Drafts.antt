@@ -1,14 +1,18 @@
 -- What the lines read so far make, and what one more line makes of it.
-use Rattle.std.specs.Prelude.{◌≡◌, ℕ, ◌+◌, ◌<◌, ◌*◌, max, Bool, true, false, ◌&&◌, List, [], ◌∷◌, ◌++◌, length, Option, Some, None, is_none, Result, Ok, Err, nat_lt, nat_le, if◌then◌else◌, slice_index_or}
+use Rattle.std.specs.Prelude.{◌≡◌, ℕ, ◌+◌, ◌<◌, ◌*◌, max, Bool, true, false, ◌&&◌, List, [], ◌∷◌}
+use Rattle.std.specs.Prelude.{◌++◌, length, Option, Some, None, is_none, Result, Ok, Err, nat_lt}
+use Rattle.std.specs.Prelude.{nat_le, if◌then◌else◌, slice_index_or}
 use Rattle.std.specs.List.{AllByRecursion}
 use Rattle.wcnf.specs.Literal.{Literal, index_of}
 use Rattle.wcnf.specs.Clause.{contains_literal, has_repeat}
 use Rattle.wcnf.specs.Problem.{Problem, SoftClause}
 use Rattle.wcnf.specs.Text.{tokens_of}
 use Rattle.wcnf.specs.declared.faults.FaultKind.{FaultKind}
-use Rattle.wcnf.specs.declared.faults.FaultKind.TheVariants.{Literal as LiteralFault, NoZero, Variable, TooMany, Count}
+use Rattle.wcnf.specs.declared.faults.FaultKind.TheVariants.{Literal as LiteralFault, NoZero}
+use Rattle.wcnf.specs.declared.faults.FaultKind.TheVariants.{Variable, TooMany, Count}
 use Rattle.wcnf.specs.Wcnf.{Header}
-use Rattle.wcnf.specs.Reading.{Totals, Word, Zero, Literal_word, Other, word_of, ended_at, most_variable, head_of, begins_comment, header_of, is_p, ◌>>=◌}
+use Rattle.wcnf.specs.Reading.{Totals, Word, Zero, Literal_word, Other, word_of, ended_at}
+use Rattle.wcnf.specs.Reading.{most_variable, head_of, begins_comment, header_of, is_p, ◌>>=◌}
 
 -- a clause that is being read, each literal once, and the greatest variable of the text so far
 pub record Gathered : Type 0 where
@@ -30,7 +34,8 @@ gather g l = record { variables = max g.variables l.variable; literals = with_li
 -- two marks for each variable, and those of the clause's literals are set
 pub record AreMarked (variables : ℕ) (marks : List Bool) (c : List Literal) : Type 0 where
   pub count : length marks ≡ 2 * variables
-  pub marked : (l : Literal) → 0 < l.variable → slice_index_or marks (index_of l) false ≡ contains_literal l c
+  pub marked : (l : Literal) → 0 < l.variable
+      → slice_index_or marks (index_of l) false ≡ contains_literal l c
   pub positive : AllByRecursion (λ l. 0 < l.variable) c
   pub once : has_repeat c ≡ false
 
@@ -44,9 +49,12 @@ gathered_at most g n (t ∷ ts) = by (word_of t) (λ l. gathered_at most (gather
     by Zero more = do
       c ← ended_at ts
       Ok (g, n)
-    by (Literal_word l) more = if nat_lt most l.variable then Err Variable else if nat_le 67108864 n then Err TooMany else more l
+    by (Literal_word l) more =
+        if nat_lt most l.variable then Err Variable else if nat_le 67108864 n then Err TooMany
+        else more l
 
--- the instance that the lines so far make, with the header and its line; literals are counted as written
+-- the instance that the lines so far make, with the header and its line; literals are counted as
+-- written
 pub record Drafted : Type 0 where
   pub header : Option Header
   pub line : ℕ
@@ -57,7 +65,16 @@ pub record Drafted : Type 0 where
   pub weight : ℕ
 
 abbrev pub nothing_drafted : Drafted
-nothing_drafted = record { header = None; line = 0; variables = 0; hard = []; soft = []; literals = 0; weight = 0 }
+nothing_drafted =
+    record {
+      header = None;
+      line = 0;
+      variables = 0;
+      hard = [];
+      soft = [];
+      literals = 0;
+      weight = 0;
+    }
 
 abbrev pub is_nil : {A : Type 0} → List A → Bool
 is_nil [] = true
@@ -69,7 +86,8 @@ is_empty d = is_none d.header && is_nil d.hard && is_nil d.soft
 
 -- how much was read
 abbrev pub totals_of : Drafted → Totals
-totals_of d = record { hard = length d.hard; soft = length d.soft; literals = d.literals; weight = d.weight }
+totals_of d =
+    record { hard = length d.hard; soft = length d.soft; literals = d.literals; weight = d.weight }
 
 -- how many variables the text has
 abbrev pub variables_of : Option Header → ℕ → ℕ
@@ -77,16 +95,44 @@ variables_of None greatest = greatest
 variables_of (Some h) greatest = h.variables
 
 abbrev pub problem_drafted : Drafted → Problem
-problem_drafted d = record { variables = variables_of d.header d.variables; hard = d.hard; soft = d.soft }
+problem_drafted d =
+    record { variables = variables_of d.header d.variables; hard = d.hard; soft = d.soft }
 
 -- one more clause
 abbrev pub with_clause : Drafted → Option ℕ → Gathered × ℕ → Drafted
-with_clause d None g = record { header = d.header; line = d.line; variables = g.0.variables; hard = d.hard ++ g.0.literals ∷ []; soft = d.soft; literals = g.1; weight = d.weight }
-with_clause d (Some w) g = record { header = d.header; line = d.line; variables = g.0.variables; hard = d.hard; soft = d.soft ++ record { weight = w; clause = g.0.literals } ∷ []; literals = g.1; weight = d.weight + w }
+with_clause d None g =
+    record {
+      header = d.header;
+      line = d.line;
+      variables = g.0.variables;
+      hard = d.hard ++ g.0.literals ∷ [];
+      soft = d.soft;
+      literals = g.1;
+      weight = d.weight;
+    }
+with_clause d (Some w) g =
+    record {
+      header = d.header;
+      line = d.line;
+      variables = g.0.variables;
+      hard = d.hard;
+      soft = d.soft ++ record { weight = w; clause = g.0.literals } ∷ [];
+      literals = g.1;
+      weight = d.weight + w;
+    }
 
 -- the header on line n
 abbrev pub with_header : ℕ → Drafted → Header → Drafted
-with_header n d h = record { header = Some h; line = n; variables = 0; hard = d.hard; soft = d.soft; literals = d.literals; weight = d.weight }
+with_header n d h =
+    record {
+      header = Some h;
+      line = n;
+      variables = 0;
+      hard = d.hard;
+      soft = d.soft;
+      literals = d.literals;
+      weight = d.weight;
+    }
 
 -- the header, by its tokens after the first
 abbrev pub drafted_header : ℕ → Drafted → List (List ℕ) → Result Drafted FaultKind
@@ -103,7 +149,8 @@ drafted_clause d t ts = do
 
 -- the header where it has to stand, else one more clause line
 abbrev pub drafted_tokens : ℕ → Drafted → List ℕ → List (List ℕ) → Result Drafted FaultKind
-drafted_tokens n d t ts = if is_empty d && is_p t then drafted_header n d ts else drafted_clause d t ts
+drafted_tokens n d t ts =
+    if is_empty d && is_p t then drafted_header n d ts else drafted_clause d t ts
 
 -- one more line, with its number
 abbrev pub drafted_line : ℕ → Drafted → List (List ℕ) → Result Drafted FaultKind
@@ -113,9 +160,11 @@ drafted_line n d (t ∷ ts) = if begins_comment t then Ok d else drafted_tokens 
 -- the lines that are left, with their numbers
 abbrev pub drafted_lines : Drafted → List (ℕ × List ℕ) → Result Drafted (FaultKind × ℕ)
 drafted_lines d [] = Ok d
-drafted_lines d (line ∷ more) = on (drafted_line line.0 d (tokens_of line.1)) (λ e. drafted_lines e more)
+drafted_lines d (line ∷ more) =
+    on (drafted_line line.0 d (tokens_of line.1)) (λ e. drafted_lines e more)
   where
-    on : Result Drafted FaultKind → (Drafted → Result Drafted (FaultKind × ℕ)) → Result Drafted (FaultKind × ℕ)
+    on : Result Drafted FaultKind → (Drafted → Result Drafted (FaultKind × ℕ))
+        → Result Drafted (FaultKind × ℕ)
     on (Ok e) next = next e
     on (Err k) next = Err (k, line.0)
 

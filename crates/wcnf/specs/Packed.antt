@@ -16,5 +16,6 @@ parity r h = Prim.grind arith
 pub code_of-literal_in : (a : Inside) → code_of (literal_in a) ≡ a
 code_of-literal_in a =
     let r : a.code % 2 < 2 = omega arith in
-    let e : 2 * (a.code / 2) + (if a.code % 2 == 1 then 1 else 0) ≡ a.code = omega (arith, parity (a.code % 2) r) in
+    let e : 2 * (a.code / 2) + (if a.code % 2 == 1 then 1 else 0) ≡ a.code
+    = omega (arith, parity (a.code % 2) r) in
     ap (λ (n : ℕ). record { code = n }) e

@@ -12,7 +12,8 @@ use Rattle.wcnf.specs.declared.parser.Parser.{Parser}
 -- the parser stands for these bytes: they read on, whatever comes, from its draft and its rest
 pub record Stands (p : Parser) (bytes : List ℕ) : Type 0 where
   pub unfinished : IsNoFeed (p.rest).items
-  pub resumes : (more : List ℕ) → drafted_lines p.draft (enumerate_from p.number (lines ((p.rest).items ++ more)))
+  pub resumes : (more : List ℕ)
+      → drafted_lines p.draft (enumerate_from p.number (lines ((p.rest).items ++ more)))
       ≡ drafted_lines nothing_drafted (numbered_text (bytes ++ more))
 
 -- the draft is that of all lines of the bytes
@@ -30,7 +31,8 @@ IsLineFault d n line f =
 -- the first fault of the text, which is in the piece
 abbrev pub Refuses : Parser → List ℕ → ReadFault → Type 0
 Refuses p piece f =
-    NoMemory f ⊎ ((bytes more : List ℕ) → Stands p bytes → IsFirstFault (bytes ++ piece ++ more) f.kind f.line)
+    NoMemory f ⊎ ((bytes more : List ℕ) → Stands p bytes
+    → IsFirstFault (bytes ++ piece ++ more) f.kind f.line)
 
 -- all but the left part of the piece was read
 pub record HasRead (old new : Parser) (piece left : List ℕ) : Type 0 where

@@ -1,4 +1,5 @@
--- What the reader sees in a token, by what the token says: a literal above the limit is told from the others.
+-- What the reader sees in a token, by what the token says: a literal above the limit is told from
+-- the others.
 use Rattle.std.specs.Prelude.{nat_lt, if◌then◌else◌}
 use Rattle.wcnf.specs.Reading as text
 use Rattle.wcnf.specs.declared.words.Word.{Word}

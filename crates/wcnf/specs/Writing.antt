@@ -16,8 +16,10 @@ Begins part text = (rest : List ℕ) × (text ≡ part ++ rest)
 abbrev pub AppendsPart : Option (List ℕ) → Option (List ℕ) → List ℕ → Type 0
 AppendsPart old new text = (part : List ℕ) × Begins part text × Appends old new part
 
--- a writer by way of a block, where the text comes after what the block held: what the writer took, and what the block holds then
-pub record PassesOn (old : Option (List ℕ)) (held : List ℕ) (text : List ℕ) (new : Option (List ℕ)) (left : List ℕ) : Type 0 where
+-- a writer by way of a block, where the text comes after what the block held: what the writer took,
+-- and what the block holds then
+pub record PassesOn (old : Option (List ℕ)) (held : List ℕ) (text : List ℕ) (new : Option (List ℕ))
+    (left : List ℕ) : Type 0 where
   pub written : List ℕ
   pub appended : Appends old new written
   pub split : held ++ text ≡ written ++ left

@@ -1,5 +1,6 @@
 // A list of clauses in flat memory: four bytes for each literal, and four for each clause.
-ghost use Rattle.std.specs.Prelude.{◌≡◌, ◌<◌, [], ◌∷◌, ◌++◌, ◌≤◌, Some, length, slice_get, slice_range, OnOk, OnErr};
+ghost use Rattle.std.specs.Prelude.{◌≡◌, ◌<◌, [], ◌∷◌, ◌++◌, ◌≤◌, Some, length, slice_get};
+ghost use Rattle.std.specs.Prelude.{slice_range, OnOk, OnErr};
 ghost use Rattle.std.specs.Iterator.{YieldsFirstRef, item_count};
 ghost use Rattle.wcnf.specs.Flat.{start_at};
 
@@ -7,10 +8,12 @@ use crate::types::Lit;
 use std::alloc::{AllocError, Global};
 use std::marker::Model;
 
-/// There are at most so many literals, so that their places fit 32 bits; one more counts as a refused growth.
+/// There are at most so many literals, so that their places fit 32 bits; one more counts as a
+/// refused growth.
 const MOST: usize = 4_294_967_295;
 
-/// A list of clauses, which are lists of literals. Their literals stand in one vector, one clause after another.
+/// A list of clauses, which are lists of literals. Their literals stand in one vector, one clause
+/// after another.
 #[derive(Drop)]
 pub struct ClauseList {
     lits: Vec<Lit>,
@@ -61,7 +64,8 @@ impl ClauseList {
     ///
     /// # Errors
     ///
-    /// `AllocError` where a growth was refused; one past 2^32 - 1 literals always is. The clauses are then as they were.
+    /// `AllocError` where a growth was refused; one past 2^32 - 1 literals always is. The clauses
+    /// are then as they were.
     pub fn push(&mut self, lits: &[Lit]) -> Result<(), AllocError>
         ensures ok { OnOk result (self.new ≡ self.old ++ lits.now ∷ []) }
         ensures err { OnErr result (self.new ≡ self.old) }

@@ -1,26 +1,30 @@
-// What can go wrong while a text is read or written: plain values, which carry no text of their own.
+// What can go wrong while a text is read or written: plain values, which carry no text of their
+// own.
 ghost use Rattle.std.specs.Prelude.{◌≡◌};
 
 /// The kinds of fault of a WCNF text, and of reading it.
 ///
-/// The first faulty line decides, and within it the first faulty token. At one token the kind that stands earlier here is given.
+/// The first faulty line decides, and within it the first faulty token. At one token the kind that
+/// stands earlier here is given.
 #[derive(Clone, Copy, Debug, PartialEq, Eq, Drop)]
 pub enum FaultKind {
-    /// The first token is neither `h` nor `p`, and does not begin with a digit; in the older form it is not `p`, and does
-    /// not begin with a digit.
+    /// The first token is neither `h` nor `p`, and does not begin with a digit; in the older form
+    /// it is not `p`, and does not begin with a digit.
     FirstToken,
     /// The first token is `p`, in a line after the first that is neither blank nor a comment.
     OldForm,
-    /// The first token begins with a digit and is not a number from 1 to 2^62 - 1, spelled without a leading zero; in the
-    /// older form, from 1 to the header's weight of a hard clause.
+    /// The first token begins with a digit and is not a number from 1 to 2^62 - 1, spelled without
+    /// a leading zero; in the older form, from 1 to the header's weight of a hard clause.
     Weight,
-    /// A later token is neither `0` nor a number from 1, spelled without plus sign and leading zero, with or without a dash before it.
+    /// A later token is neither `0` nor a number from 1, spelled without plus sign and leading
+    /// zero, with or without a dash before it.
     Literal,
     /// The line ends without the token `0`.
     NoZero,
     /// A token stands after the `0`.
     AfterZero,
-    /// The variable of a literal is above 2^22; in the older form, above the header's number of variables.
+    /// The variable of a literal is above 2^22; in the older form, above the header's number of
+    /// variables.
     Variable,
     /// With this weight the weights sum to 2^62 or more.
     WeightSum,
@@ -30,11 +34,11 @@ pub enum FaultKind {
     Memory,
     /// The reader failed, which says nothing of the text.
     Read,
-    /// The first token of the first line that is neither blank nor a comment is `p`, and the line is not the header of the
-    /// older form.
+    /// The first token of the first line that is neither blank nor a comment is `p`, and the line
+    /// is not the header of the older form.
     Header,
-    /// In the older form, there are more clauses than the header says, or fewer: the fault of the first one more, or of the
-    /// header.
+    /// In the older form, there are more clauses than the header says, or fewer: the fault of the
+    /// first one more, or of the header.
     Count,
 }
 

@@ -1,6 +1,7 @@
-// The clause that is being read. Repeats are told by a mark for each literal, so a clause of n literals takes n steps,
-// and only its own marks are taken back before the next one.
-ghost use Rattle.std.specs.Prelude.{◌≡◌, false, ℕ, ◌<◌, ◌≤◌, ◌^◌, max, [], Ok, Err, OnOk, IfOk, MatchResult, ◌⊎◌};
+// The clause that is being read. Repeats are told by a mark for each literal, so a clause of n
+// literals takes n steps, and only its own marks are taken back before the next one.
+ghost use Rattle.std.specs.Prelude.{◌≡◌, false, ℕ, ◌<◌, ◌≤◌, ◌^◌, max, [], Ok, Err, OnOk, IfOk};
+ghost use Rattle.std.specs.Prelude.{MatchResult, ◌⊎◌};
 ghost use Rattle.wcnf.specs.Clause.{has_repeat};
 ghost use Rattle.wcnf.specs.Reading.{ended_at};
 ghost use Rattle.wcnf.specs.Drafts.{with_literal, emptied, gathered_at, AreMarked};
@@ -66,7 +67,11 @@ impl Gathering {
         requires covered { self.now.variables ≤ most }
         ensures covered { self.new.variables ≤ most }
         ensures cover { MatchResult result
-            (λ _. (variable ≤ most) × (self.new ≡ record { variables = max self.old.variables variable; literals = self.old.literals }))
+            (λ _. (variable ≤ most)
+            × (self.new ≡ record {
+              variables = max self.old.variables variable;
+              literals = self.old.literals;
+            }))
             (λ k. (k ≡ FaultKind.Memory) ⊎ ((k ≡ FaultKind.Variable) × (most < variable))) }
     {
         if variable > self.vars {
@@ -98,8 +103,8 @@ impl Gathering {
 
     /// Reads the clause of a line, from its first literal to the 0 that has to end it.
     ///
-    /// `before` is the number of literals in the text before this line, and the result that number after it; `most` is
-    /// the greatest variable that a literal may have.
+    /// `before` is the number of literals in the text before this line, and the result that number
+    /// after it; `most` is the greatest variable that a literal may have.
     pub(crate) fn read(
         &mut self,
         before: usize,
@@ -112,8 +117,10 @@ impl Gathering {
         ensures within { IfOk result (λ n. n ≤ 2 ^ 26) }
         ensures covered { self.new.variables ≤ most }
         ensures read { MatchResult result
-            (λ n. gathered_at most (emptied self.old.variables) before words.entry ≡ Ok (self.new, n))
-            (λ k. (k ≡ FaultKind.Memory) ⊎ (gathered_at most (emptied self.old.variables) before words.entry ≡ Err k)) }
+            (λ n. gathered_at most (emptied self.old.variables) before words.entry
+            ≡ Ok (self.new, n))
+            (λ k. (k ≡ FaultKind.Memory)
+            ⊎ (gathered_at most (emptied self.old.variables) before words.entry ≡ Err k)) }
     {
         self.clear();
         let mut count = before;
@@ -159,7 +166,8 @@ fn unmark(marks: &mut [bool], lits: &[Lit])
 
 /// Refuses whatever follows the 0.
 fn ended(mut words: Tokens<'_>) -> Result<(), FaultKind>
-    ensures { MatchResult result (λ _. ended_at words.entry ≡ Ok []) (λ k. ended_at words.entry ≡ Err k) }
+    ensures { MatchResult result (λ _. ended_at words.entry ≡ Ok [])
+        (λ k. ended_at words.entry ≡ Err k) }
 {
     match words.next() {
         None => Ok(()),

@@ -38,7 +38,8 @@ impl Model for Header {
 
     ghost view = { λ h. record { variables = h.variables; clauses = h.clauses; top = h.top } };
 
-    ghost invariant = { λ h. (h.variables ≤ 4194304) × (h.clauses ≤ 4456448) × (0 < h.top) × (h.top ≤ 4611686018427387904) };
+    ghost invariant = { λ h. (h.variables ≤ 4194304) × (h.clauses ≤ 4456448) × (0 < h.top)
+        × (h.top ≤ 4611686018427387904) };
 }
 
 impl Header {

@@ -21,7 +21,8 @@ impl Instance {
         are_satisfied(self.hard(), bits)
     }
 
-    /// What the bits cost: the weights of the soft clauses that they make false, each clause by itself.
+    /// What the bits cost: the weights of the soft clauses that they make false, each clause by
+    /// itself.
     ///
     /// There is one bit for each variable, from variable 1. The cost is below 2^62.
     pub fn cost(&self, bits: &[bool]) -> u64
@@ -42,7 +43,8 @@ impl Instance {
 // Whether the bits make every clause true.
 fn are_satisfied(clauses: &ClauseList, bits: &[bool]) -> bool
     requires { All (λ c. All (λ l. l.variable ≤ length bits.now) c) clauses.now }
-    ensures { (t : Assignment) → Extends bits.now t → result ≡ list_all (clause_value t) clauses.now }
+    ensures { (t : Assignment) → Extends bits.now t
+        → result ≡ list_all (clause_value t) clauses.now }
 {
     clauses.iter().all(|clause| is_satisfied(clause, bits))
 }

@@ -1,6 +1,8 @@
-// Texts on their way to a writer. A writer over a file makes a system call of each write, and a text is made of tokens
-// of a few bytes: so they are gathered in a block of fixed size, which asks for no memory. No failed write is tried again.
-ghost use Rattle.std.specs.Prelude.{◌≡◌, ◌<◌, ◌≤◌, ◌+◌, ◌^◌, ◌∷◌, ◌++◌, [], length, take, OnOk, OnErr};
+// Texts on their way to a writer. A writer over a file makes a system call of each write, and a
+// text is made of tokens of a few bytes: so they are gathered in a block of fixed size, which asks
+// for no memory. No failed write is tried again.
+ghost use Rattle.std.specs.Prelude.{◌≡◌, ◌<◌, ◌≤◌, ◌+◌, ◌^◌, ◌∷◌, ◌++◌, [], length, take, OnOk};
+ghost use Rattle.std.specs.Prelude.{OnErr};
 ghost use Rattle.std.specs.Fmt.{decimal};
 ghost use Rattle.std.specs.Io.KnownBytes.{Appends};
 ghost use Rattle.wcnf.specs.Text.{literal_text};
@@ -53,8 +55,10 @@ impl Block {
     /// `WriteFault` where the writer failed. It has then a beginning of what the block held and the
     /// text, and the block is empty.
     pub fn put<W: Write>(&mut self, writer: &mut W, text: &[u8]) -> Result<(), WriteFault>
-        ensures ok { OnOk result (PassesOn (W.contents writer.old) self.old text.now (W.contents writer.new) self.new) }
-        ensures fault { OnErr result (AppendsPart (W.contents writer.old) (W.contents writer.new) (self.old ++ text.now)) }
+        ensures ok { OnOk result
+            (PassesOn (W.contents writer.old) self.old text.now (W.contents writer.new) self.new) }
+        ensures fault { OnErr result
+            (AppendsPart (W.contents writer.old) (W.contents writer.new) (self.old ++ text.now)) }
         ensures lost { OnErr result (self.new ≡ []) }
     {
         if BLOCK_SIZE - self.filled < text.len() {
@@ -73,8 +77,12 @@ impl Block {
     ///
     /// As `put`.
     pub fn put_number<W: Write>(&mut self, writer: &mut W, number: u64) -> Result<(), WriteFault>
-        ensures ok { OnOk result (PassesOn (W.contents writer.old) self.old (decimal number) (W.contents writer.new) self.new) }
-        ensures fault { OnErr result (AppendsPart (W.contents writer.old) (W.contents writer.new) (self.old ++ decimal number)) }
+        ensures ok { OnOk result
+            (PassesOn (W.contents writer.old) self.old (decimal number) (W.contents writer.new)
+            self.new) }
+        ensures fault { OnErr result
+            (AppendsPart (W.contents writer.old) (W.contents writer.new)
+            (self.old ++ decimal number)) }
         ensures lost { OnErr result (self.new ≡ []) }
     {
         self.put(writer, Buffer::new().format(number).as_bytes())
@@ -86,8 +94,12 @@ impl Block {
     ///
     /// As `put`.
     pub fn put_literal<W: Write>(&mut self, writer: &mut W, lit: Lit) -> Result<(), WriteFault>
-        ensures ok { OnOk result (PassesOn (W.contents writer.old) self.old (literal_text lit) (W.contents writer.new) self.new) }
-        ensures fault { OnErr result (AppendsPart (W.contents writer.old) (W.contents writer.new) (self.old ++ literal_text lit)) }
+        ensures ok { OnOk result
+            (PassesOn (W.contents writer.old) self.old (literal_text lit) (W.contents writer.new)
+            self.new) }
+        ensures fault { OnErr result
+            (AppendsPart (W.contents writer.old) (W.contents writer.new)
+            (self.old ++ literal_text lit)) }
         ensures lost { OnErr result (self.new ≡ []) }
     {
         let variable = u64::from(lit.variable());
@@ -105,8 +117,12 @@ impl Block {
     ///
     /// As `put`.
     pub fn put_spaced<W: Write>(&mut self, writer: &mut W, lit: Lit) -> Result<(), WriteFault>
-        ensures ok { OnOk result (PassesOn (W.contents writer.old) self.old (literal_text lit ++ 32 ∷ []) (W.contents writer.new) self.new) }
-        ensures fault { OnErr result (AppendsPart (W.contents writer.old) (W.contents writer.new) (self.old ++ (literal_text lit ++ 32 ∷ []))) }
+        ensures ok { OnOk result
+            (PassesOn (W.contents writer.old) self.old (literal_text lit ++ 32 ∷ [])
+            (W.contents writer.new) self.new) }
+        ensures fault { OnErr result
+            (AppendsPart (W.contents writer.old) (W.contents writer.new)
+            (self.old ++ (literal_text lit ++ 32 ∷ []))) }
         ensures lost { OnErr result (self.new ≡ []) }
     {
         if BLOCK_SIZE - self.filled < LITERAL_ROOM {
@@ -123,8 +139,10 @@ impl Block {
     /// `WriteFault` where the writer failed. It has then a beginning of what the block held, and
     /// the block is empty.
     pub fn flush<W: Write>(&mut self, writer: &mut W) -> Result<(), WriteFault>
-        ensures ok { OnOk result (Appends (W.contents writer.old) (W.contents writer.new) self.old) }
-        ensures fault { OnErr result (AppendsPart (W.contents writer.old) (W.contents writer.new) self.old) }
+        ensures ok { OnOk result
+            (Appends (W.contents writer.old) (W.contents writer.new) self.old) }
+        ensures fault { OnErr result
+            (AppendsPart (W.contents writer.old) (W.contents writer.new) self.old) }
         ensures empty { self.new ≡ [] }
     {
         let held = self.filled;
@@ -142,8 +160,8 @@ impl Block {
         self.filled = end;
     }
 
-    /// Puts the literal and a space behind what the block holds. The digits begin after the dash or in its place: a branch
-    /// on the sign would be guessed wrong half of the time.
+    /// Puts the literal and a space behind what the block holds. The digits begin after the dash or
+    /// in its place: a branch on the sign would be guessed wrong half of the time.
     fn fill_spaced(&mut self, lit: Lit)
         requires { length self.old + LITERAL_ROOM ≤ BLOCK_SIZE }
         ensures { self.new ≡ self.old ++ (literal_text lit ++ 32 ∷ []) }
@@ -199,7 +217,8 @@ fn reaches(number: u32, bound: u32) -> usize
 /// then a beginning of the piece.
 pub fn write_piece<W: Write>(writer: &mut W, piece: &[u8]) -> Result<(), WriteFault>
     ensures ok { OnOk result (Appends (W.contents writer.old) (W.contents writer.new) piece.now) }
-    ensures fault { OnErr result (AppendsPart (W.contents writer.old) (W.contents writer.new) piece.now) }
+    ensures fault { OnErr result
+        (AppendsPart (W.contents writer.old) (W.contents writer.new) piece.now) }
 {
     let mut rest = piece;
     while !rest.is_empty() {

@@ -1,4 +1,5 @@
-// What goes over the lines of a text, and over the tokens of a line, without a copy: each item is a part of the bytes that were given.
+// What goes over the lines of a text, and over the tokens of a line, without a copy: each item is a
+// part of the bytes that were given.
 ghost use Rattle.std.specs.Prelude.{◌≡◌, ◌≤◌, [], length, MatchOption};
 ghost use Rattle.std.specs.Iterator.{YieldsFirstBy, YieldsFirstRef, item_count};
 ghost use Rattle.std.specs.List.{prefix_len, position_or_len};
@@ -12,8 +13,9 @@ use std::marker::Model;
 
 /// The lines of a text with their numbers, from 1.
 ///
-/// A line ends at a line feed, which is no part of it, and neither is a carriage return just before that line feed.
-/// Bytes after the last line feed are one more line, which keeps a carriage return at its end.
+/// A line ends at a line feed, which is no part of it, and neither is a carriage return just before
+/// that line feed. Bytes after the last line feed are one more line, which keeps a carriage return
+/// at its end.
 #[derive(Drop)]
 pub struct Lines<'a> {
     rest: &'a [u8],
@@ -109,7 +111,8 @@ impl<'a> Tokens<'a> {
         Tokens { rest }
     }
 
-    /// What the next token says. A literal after one space, as most tokens are, is read in one pass over its bytes.
+    /// What the next token says. A literal after one space, as most tokens are, is read in one pass
+    /// over its bytes.
     pub(crate) fn next_word(&mut self) -> Option<Word>
         ensures { MatchOption result (self.old ≡ []) (λ w. IsNextWord self.old w self.new) }
     {

@@ -1,10 +1,14 @@
 // The lines of a text, one at a time, and the instance that those so far make.
-ghost use Rattle.std.specs.Prelude.{◌≡◌, ℕ, false, ◌&&◌, [], ◌∷◌, ◌++◌, length, MatchOption, ◌+◌, ◌<◌, ◌≤◌, ◌^◌, Ok, Err, None, OnOk, IfOk, IfSome, MatchResult, ◌⊎◌};
+ghost use Rattle.std.specs.Prelude.{◌≡◌, ℕ, false, ◌&&◌, [], ◌∷◌, ◌++◌, length, MatchOption, ◌+◌};
+ghost use Rattle.std.specs.Prelude.{◌<◌, ◌≤◌, ◌^◌, Ok, Err, None, OnOk, IfOk, IfSome, MatchResult};
+ghost use Rattle.std.specs.Prelude.{◌⊎◌};
 ghost use Rattle.wcnf.specs.Text.{tokens_of, capped};
 ghost use Rattle.wcnf.specs.Reading.{most_variable, one_hard, one_soft, weighed, head_of, is_p};
 ghost use Rattle.wcnf.specs.Clause.{has_repeat};
 ghost use Rattle.wcnf.specs.Instance.{IsInstance};
-ghost use Rattle.wcnf.specs.Drafts.{totals_of, nothing_drafted, is_empty, drafted_line, drafted_tokens, drafted_header, drafted_clause, short_at, problem_drafted};
+ghost use Rattle.wcnf.specs.Drafts.{totals_of, nothing_drafted, is_empty, drafted_line};
+ghost use Rattle.wcnf.specs.Drafts.{drafted_tokens, drafted_header, drafted_clause, short_at};
+ghost use Rattle.wcnf.specs.Drafts.{problem_drafted};
 
 use crate::clause_list::ClauseList;
 use crate::faults::FaultKind;
@@ -51,9 +55,19 @@ impl Model for Draft {
 
     ghost Value = { Drafted };
 
-    ghost view = { λ d. record { header = d.header; line = d.header_line; variables = d.clause.variables; hard = d.hard; soft = d.soft.items; literals = d.literals; weight = d.weight } };
+    ghost view = { λ d.
+        record {
+          header = d.header;
+          line = d.header_line;
+          variables = d.clause.variables;
+          hard = d.hard;
+          soft = d.soft.items;
+          literals = d.literals;
+          weight = d.weight;
+        } };
 
-    ghost invariant = { λ d. (d.weight < 2 ^ 62) × (d.literals ≤ 2 ^ 26) × (d.clause.variables ≤ most_variable d.header) };
+    ghost invariant = { λ d. (d.weight < 2 ^ 62) × (d.literals ≤ 2 ^ 26)
+        × (d.clause.variables ≤ most_variable d.header) };
 }
 
 impl Draft {
@@ -72,11 +86,13 @@ impl Draft {
         }
     }
 
-    /// Reads one more line, given its number; a line without tokens and a comment leave the draft as it is.
+    /// Reads one more line, given its number; a line without tokens and a comment leave the draft
+    /// as it is.
     pub(crate) fn read_line(&mut self, number: u64, line: &[u8]) -> Result<(), FaultKind>
         ensures { MatchResult result
             (λ _. drafted_line number self.old (tokens_of line.now) ≡ Ok self.new)
-            (λ k. (k ≡ FaultKind.Memory) ⊎ (drafted_line number self.old (tokens_of line.now) ≡ Err k)) }
+            (λ k. (k ≡ FaultKind.Memory)
+            ⊎ (drafted_line number self.old (tokens_of line.now) ≡ Err k)) }
     {
         let mut words = tokens(line);
         match words.next() {
@@ -89,7 +105,8 @@ impl Draft {
     fn read_tokens(&mut self, number: u64, first: &[u8], words: Tokens<'_>) -> Result<(), FaultKind>
         ensures { MatchResult result
             (λ _. drafted_tokens number self.old first.now words.entry ≡ Ok self.new)
-            (λ k. (k ≡ FaultKind.Memory) ⊎ (drafted_tokens number self.old first.now words.entry ≡ Err k)) }
+            (λ k. (k ≡ FaultKind.Memory)
+            ⊎ (drafted_tokens number self.old first.now words.entry ≡ Err k)) }
     {
         if self.begins_header(first) {
             self.read_header(number, words)
@@ -129,7 +146,8 @@ impl Draft {
     fn read_clause(&mut self, first: &[u8], words: Tokens<'_>) -> Result<(), FaultKind>
         ensures { MatchResult result
             (λ _. drafted_clause self.old first.now words.entry ≡ Ok self.new)
-            (λ k. (k ≡ FaultKind.Memory) ⊎ (drafted_clause self.old first.now words.entry ≡ Err k)) }
+            (λ k. (k ≡ FaultKind.Memory)
+            ⊎ (drafted_clause self.old first.now words.entry ≡ Err k)) }
     {
         let weight = self.head(first)?;
         let most = self.most();
@@ -169,7 +187,8 @@ impl Draft {
 
     /// What a weight says of its clause.
     fn weighed(&self, weight: u64) -> Result<Option<u64>, FaultKind>
-        ensures weighed { (v : ℕ) → weight ≡ capped v → result ≡ weighed self.now.header (totals_of self.now) v }
+        ensures weighed { (v : ℕ) → weight ≡ capped v
+            → result ≡ weighed self.now.header (totals_of self.now) v }
         ensures limits { IfOk result
             (λ o. IfSome o (λ w. (0 < w) × (self.now.weight + w < 2 ^ 62))) }
     {
@@ -271,7 +290,8 @@ fn put(
     requires no_repeat { has_repeat lits.now ≡ false }
     ensures { OnOk result (MatchOption weight
         ((hard.new ≡ hard.old ++ lits.now ∷ []) × (soft.new.items ≡ soft.old.items))
-        (λ w. (hard.new ≡ hard.old) × (soft.new.items ≡ soft.old.items ++ record { weight = w; clause = lits.now } ∷ []))) }
+        (λ w. (hard.new ≡ hard.old)
+        × (soft.new.items ≡ soft.old.items ++ record { weight = w; clause = lits.now } ∷ []))) }
 {
     match weight {
         None => hard.push(lits),

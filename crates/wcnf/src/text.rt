@@ -9,24 +9,28 @@ use crate::pieces::{Lines, Tokens};
 /// The lines of a text with their numbers, from 1, in one pass and with no copy.
 ///
 /// Each line feed ends a line, and one carriage return just before it is dropped.
-/// Bytes that no line feed follows are one more line, in which a carriage return at the end is an ordinary byte.
-/// A text that ends with a line feed has no line after it, and the empty text has no lines.
+/// Bytes that no line feed follows are one more line, in which a carriage return at the end is an
+/// ordinary byte. A text that ends with a line feed has no line after it, and the empty text has no
+/// lines.
 pub fn lines(text: &[u8]) -> Lines<'_>
     ensures { result ≡ numbered_text text.now }
 {
     Lines::of(text)
 }
 
-/// The tokens of a line, in one pass and with no copy: the longest runs of bytes that are neither spaces nor tabs.
+/// The tokens of a line, in one pass and with no copy: the longest runs of bytes that are neither
+/// spaces nor tabs.
 pub fn tokens(line: &[u8]) -> Tokens<'_>
     ensures { result ≡ tokens_of line.now }
 {
     Tokens::of(line)
 }
 
-/// The value of a number that is spelled in decimal digits with no leading zero and no sign; `None` for any other bytes.
+/// The value of a number that is spelled in decimal digits with no leading zero and no sign; `None`
+/// for any other bytes.
 ///
-/// Values up to 2^62 are told exactly, and any value above that as 2^62 + 1. There may be any number of digits.
+/// Values up to 2^62 are told exactly, and any value above that as 2^62 + 1. There may be any
+/// number of digits.
 pub fn number(digits: &[u8]) -> Option<u64>
     ensures { result ≡ option_map capped (number_of digits.now) }
 {
@@ -41,7 +45,8 @@ const GREATEST_EXACT: u64 = 1 << 62;
 
 // The value of digits; `None` where a byte is no digit.
 fn value(digits: &[u8]) -> Option<u64>
-    ensures { result ≡ (if list_all is_digit digits.now then Some (capped (value_on 0 digits.now)) else None) }
+    ensures { result
+        ≡ (if list_all is_digit digits.now then Some (capped (value_on 0 digits.now)) else None) }
 {
     let mut value = 0;
     for digit in digits {

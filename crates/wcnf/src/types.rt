@@ -1,4 +1,5 @@
-// Literals, clauses, instances and formulas: the values that the other crates speak of, whose types keep the limits of the text form.
+// Literals, clauses, instances and formulas: the values that the other crates speak of, whose types
+// keep the limits of the text form.
 ghost use Rattle.std.specs.Prelude.{◌≡◌, ◌*◌, ◌<◌, ◌^◌, false, List};
 ghost use Rattle.wcnf.specs.Literal.{Literal, negation, index_of};
 ghost use Rattle.wcnf.specs.Clause.{has_repeat};
@@ -76,7 +77,8 @@ impl Lit {
         }
     }
 
-    /// The literal's place in a table with one row for each literal: 0 and 1 for variable 1 and its negation, 2 and 3 for variable 2, and so on.
+    /// The literal's place in a table with one row for each literal: 0 and 1 for variable 1 and its
+    /// negation, 2 and 3 for variable 2, and so on.
     pub fn index(self) -> usize
         ensures index { result ≡ index_of self }
         ensures within { result < 2 * self.variable }
@@ -86,7 +88,8 @@ impl Lit {
     }
 }
 
-/// Variable 1 itself. It fills room that holds no literal yet, as in vectors that keep a few elements inline.
+/// Variable 1 itself. It fills room that holds no literal yet, as in vectors that keep a few
+/// elements inline.
 impl Default for Lit {
     ghost is_default = { λ l. l ≡ record { variable = 1; negated = false } };
 
@@ -132,7 +135,8 @@ impl Clause {
     }
 }
 
-/// A soft clause and its weight, from 1: what it costs to make the clause false (MaxSAT Evaluation 2022).
+/// A soft clause and its weight, from 1: what it costs to make the clause false (MaxSAT Evaluation
+/// 2022).
 #[derive(Drop)]
 pub struct Soft {
     weight: u64,
@@ -171,10 +175,12 @@ impl Soft {
     }
 }
 
-/// An instance of weighted partial MaxSAT: hard clauses, which a solution makes true, and soft clauses, whose weights it pays where they are false (MaxSAT Evaluation 2022).
+/// An instance of weighted partial MaxSAT: hard clauses, which a solution makes true, and soft
+/// clauses, whose weights it pays where they are false (MaxSAT Evaluation 2022).
 ///
-/// There are at most 2^22 variables, 2^22 hard clauses and 2^18 soft clauses, with at most 2^26 literals together.
-/// The weights sum to less than 2^62, and no literal has a variable above `vars`.
+/// There are at most 2^22 variables, 2^22 hard clauses and 2^18 soft clauses, with at most 2^26
+/// literals together. The weights sum to less than 2^62, and no literal has a variable above
+/// `vars`.
 #[derive(Drop)]
 pub struct Instance {
     vars: u32,
@@ -187,7 +193,8 @@ impl Model for Instance {
 
     ghost view = { λ i. record { variables = i.vars; hard = i.hard; soft = i.soft.items } };
 
-    ghost invariant = { λ i. IsInstance (record { variables = i.vars; hard = i.hard; soft = i.soft.items }) };
+    ghost invariant = { λ i.
+        IsInstance (record { variables = i.vars; hard = i.hard; soft = i.soft.items }) };
 }
 
 impl Instance {
@@ -227,9 +234,11 @@ impl Instance {
     }
 }
 
-/// A formula in conjunctive normal form: clauses, numbered from 1 in their order (Handbook of Satisfiability).
+/// A formula in conjunctive normal form: clauses, numbered from 1 in their order (Handbook of
+/// Satisfiability).
 ///
-/// No clause has a variable beside its negation. There are fewer than 2^26 variables, and no literal has a variable above `vars`.
+/// No clause has a variable beside its negation. There are fewer than 2^26 variables, and no
+/// literal has a variable above `vars`.
 #[derive(Drop)]
 pub struct Formula {
     vars: u32,

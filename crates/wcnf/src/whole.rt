@@ -1,4 +1,5 @@
-// All bytes of a reader. This is a loop over `read`, since `read_to_end` does not tell a failed read from refused memory.
+// All bytes of a reader. This is a loop over `read`, since `read_to_end` does not tell a failed
+// read from refused memory.
 ghost use Rattle.std.specs.Prelude.{◌≡◌, IfOk, IfErr, IfSome, OnOk, ◌⊎◌};
 ghost use Rattle.std.specs.Io.KnownBytes.{IsAtEnd};
 
@@ -23,7 +24,8 @@ const NO_MEMORY: ReadFault = ReadFault {
 ///
 /// `Memory` where a growth was refused, `Read` where the reader failed; both with line 0.
 pub fn read_all<R: Read>(alloc: Global, reader: &mut R) -> Result<Vec<u8>, ReadFault>
-    ensures whole { IfOk result (λ text. IfSome (R.remaining reader.old) (λ all. text.items ≡ all)) }
+    ensures whole { IfOk result
+        (λ text. IfSome (R.remaining reader.old) (λ all. text.items ≡ all)) }
     ensures at_end { OnOk result (IsAtEnd (R.remaining reader.new)) }
     ensures fault { IfErr result (λ f. (f ≡ record { kind = FaultKind.Memory; line = 0 })
         ⊎ (f ≡ record { kind = FaultKind.Read; line = 0 })) }

@@ -24,7 +24,8 @@ pub(crate) enum Word {
     Other,
 }
 
-/// What the token says. A literal is a number from 1 without leading zero, with a dash before it for negation.
+/// What the token says. A literal is a number from 1 without leading zero, with a dash before it
+/// for negation.
 pub(crate) fn read_word(token: &[u8]) -> Word
     ensures { result ≡ seen (word_of token.now) }
 {
@@ -53,8 +54,8 @@ fn literal(variable: u64, negated: bool) -> Word
     }
 }
 
-/// The literal that is the first token, and how many bytes it takes, told in one pass over these. `None` says nothing of
-/// the bytes: then the token is to be read by `read_word`.
+/// The literal that is the first token, and how many bytes it takes, told in one pass over these.
+/// `None` says nothing of the bytes: then the token is to be read by `read_word`.
 pub(crate) fn literal_at(bytes: &[u8]) -> Option<(Lit, usize)>
     ensures { IfSome result (λ r. BeginsWithLiteral bytes.now r.0 r.1) }
 {
@@ -87,8 +88,8 @@ fn variable_at(bytes: &[u8]) -> Option<(u32, usize)>
     Some((value, count))
 }
 
-/// The value of the digits up to the first blank, and how many they are; `None` where some byte there is no digit, or the
-/// value is above the limit.
+/// The value of the digits up to the first blank, and how many they are; `None` where some byte
+/// there is no digit, or the value is above the limit.
 fn digits_at(bytes: &[u8]) -> Option<(u32, usize)>
     ensures { IfSome result (λ r. BeginsWithDigits bytes.now r.0 r.1) }
 {
