@@ -4,7 +4,8 @@ use Rattle.wcnf.specs.Literal.{Literal, negation}
 use Rattle.adder.specs.declared.cells.Profile.{Profile}
 use Rattle.adder.specs.declared.cells.Profile.TheVariants.{One, Two, Three}
 use Rattle.adder.specs.declared.relaxations.Relaxation.{Relaxation}
-use Rattle.adder.specs.Network.{Adders, Relaxed, Column, Number, bit, added_up, number_of, lightest_first, rounds}
+use Rattle.adder.specs.Network.{Adders, Relaxed, Column, Number, bit, added_up, number_of}
+use Rattle.adder.specs.Network.{lightest_first, rounds}
 
 -- the relaxation literal of a clause that takes no fresh variable
 abbrev pub own_relaxation : Profile → List Literal → Option Literal

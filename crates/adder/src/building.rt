@@ -55,8 +55,12 @@ pub fn network_as(instance: &Instance, profile: Profile) -> Result<Network, Allo
 fn add_columns(alloc: Global, relaxations: &Relaxations) -> Result<Network, AllocError>
     requires digits { relaxations.now.digits ≤ 64 }
     requires from_one { 0 < relaxations.now.fresh }
-    requires small { relaxations.now.fresh + 2 * length (columns_from (λ j. literals_with j relaxations.now.each.items) relaxations.now.digits 0 relaxations.now.fresh []).cells ≤ 2 ^ 26 }
-    ensures { IfOk result (λ n. n ≡ columns_from (λ j. literals_with j relaxations.now.each.items) relaxations.now.digits 0 relaxations.now.fresh []) }
+    requires small { relaxations.now.fresh + 2 * length
+        (columns_from (λ j. literals_with j relaxations.now.each.items) relaxations.now.digits 0
+        relaxations.now.fresh []).cells ≤ 2 ^ 26 }
+    ensures { IfOk result (λ n. n
+        ≡ columns_from (λ j. literals_with j relaxations.now.each.items) relaxations.now.digits
+        0 relaxations.now.fresh []) }
 {
     let mut adder = Adder::new(alloc, relaxations.fresh);
     let mut outputs = Vec::new(alloc);

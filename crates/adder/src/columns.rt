@@ -39,8 +39,17 @@ impl Adder {
         requires from_one { 0 < self.old.fresh }
         requires small { self.old.fresh < 2 ^ 26 }
         ensures sum { IfOk result (λ s. s ≡ positive self.old.fresh) }
-        ensures cells { OnOk result (self.new.cells.items ≡ self.old.cells.items ++ record { a = a; b = b; third = third; sum = self.old.fresh; carry = self.old.fresh + 1 } ∷ []) }
-        ensures carries { OnOk result (self.new.carries.items ≡ self.old.carries.items ++ positive (self.old.fresh + 1) ∷ []) }
+        ensures cells { OnOk result (self.new.cells.items
+            ≡ self.old.cells.items
+            ++ record {
+              a = a;
+              b = b;
+              third = third;
+              sum = self.old.fresh;
+              carry = self.old.fresh + 1;
+            } ∷ []) }
+        ensures carries { OnOk result (self.new.carries.items
+            ≡ self.old.carries.items ++ positive (self.old.fresh + 1) ∷ []) }
         ensures fresh { OnOk result (self.new.fresh ≡ self.old.fresh + 2) }
     {
         let sum = self.fresh;
@@ -61,10 +70,14 @@ impl Adder {
     pub fn add_up(&mut self, column: &mut Vec<Lit>) -> Result<Option<Lit>, AllocError>
         requires from_one { 0 < self.old.fresh }
         requires small { (column_from self.old.fresh column.old.items).fresh ≤ 2 ^ 26 }
-        ensures output { IfOk result (λ o. o ≡ (column_from self.old.fresh column.old.items).output) }
-        ensures cells { OnOk result (self.new.cells.items ≡ self.old.cells.items ++ (column_from self.old.fresh column.old.items).cells) }
-        ensures carries { OnOk result (self.new.carries.items ≡ self.old.carries.items ++ (column_from self.old.fresh column.old.items).carries) }
-        ensures fresh { OnOk result (self.new.fresh ≡ (column_from self.old.fresh column.old.items).fresh) }
+        ensures output { IfOk result
+            (λ o. o ≡ (column_from self.old.fresh column.old.items).output) }
+        ensures cells { OnOk result (self.new.cells.items
+            ≡ self.old.cells.items ++ (column_from self.old.fresh column.old.items).cells) }
+        ensures carries { OnOk result (self.new.carries.items
+            ≡ self.old.carries.items ++ (column_from self.old.fresh column.old.items).carries) }
+        ensures fresh { OnOk result
+            (self.new.fresh ≡ (column_from self.old.fresh column.old.items).fresh) }
     {
         let mut front = 0;
         loop {
@@ -82,11 +95,20 @@ impl Adder {
     /// Adds up a column with what the last one has carried into it, and answers its output.
     pub fn add_column(&mut self, column: &mut Vec<Lit>) -> Result<Option<Lit>, AllocError>
         requires from_one { 0 < self.old.fresh }
-        requires small { (column_from self.old.fresh (column.old.items ++ self.old.carries.items)).fresh ≤ 2 ^ 26 }
-        ensures output { IfOk result (λ o. o ≡ (column_from self.old.fresh (column.old.items ++ self.old.carries.items)).output) }
-        ensures cells { OnOk result (self.new.cells.items ≡ self.old.cells.items ++ (column_from self.old.fresh (column.old.items ++ self.old.carries.items)).cells) }
-        ensures carries { OnOk result (self.new.carries.items ≡ (column_from self.old.fresh (column.old.items ++ self.old.carries.items)).carries) }
-        ensures fresh { OnOk result (self.new.fresh ≡ (column_from self.old.fresh (column.old.items ++ self.old.carries.items)).fresh) }
+        requires small { (column_from self.old.fresh
+            (column.old.items ++ self.old.carries.items)).fresh ≤ 2 ^ 26 }
+        ensures output { IfOk result (λ o. o
+            ≡ (column_from self.old.fresh
+            (column.old.items ++ self.old.carries.items)).output) }
+        ensures cells { OnOk result (self.new.cells.items
+            ≡ self.old.cells.items
+            ++ (column_from self.old.fresh
+            (column.old.items ++ self.old.carries.items)).cells) }
+        ensures carries { OnOk result (self.new.carries.items
+            ≡ (column_from self.old.fresh
+            (column.old.items ++ self.old.carries.items)).carries) }
+        ensures fresh { OnOk result (self.new.fresh
+            ≡ (column_from self.old.fresh (column.old.items ++ self.old.carries.items)).fresh) }
     {
         column.extend_from_slice(&self.carries)?;
         self.carries.clear();

@@ -36,7 +36,8 @@ impl Relaxations {
     /// `AllocError` where memory was refused.
     pub fn of(instance: &Instance, profile: Profile) -> Result<Self, AllocError>
         ensures limits { OnOk result (IsInstance instance.now) }
-        ensures each { IfOk result (λ r. r.each.items ≡ map relaxation_of (relaxed_as profile instance.now)) }
+        ensures each { IfOk result
+            (λ r. r.each.items ≡ map relaxation_of (relaxed_as profile instance.now)) }
         ensures fresh { IfOk result (λ r. r.fresh ≡ relaxed_variables profile instance.now + 1) }
         ensures digits { IfOk result (λ r. r.digits ≡ binary_length (total_weight instance.now)) }
     {

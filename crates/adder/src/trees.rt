@@ -1,5 +1,6 @@
 // Numbers, and their sums in pairs along a balanced tree.
-ghost use Rattle.std.specs.Prelude.{◌≡◌, ◌+◌, ◌*◌, ◌<◌, ◌≤◌, ◌^◌, ◌++◌, Some, None, length, slice_index_or, if◌then◌else◌, IfOk, OnOk};
+ghost use Rattle.std.specs.Prelude.{◌≡◌, ◌+◌, ◌*◌, ◌<◌, ◌≤◌, ◌^◌, ◌++◌, Some, None, length};
+ghost use Rattle.std.specs.Prelude.{slice_index_or, if◌then◌else◌, IfOk, OnOk};
 ghost use Rattle.adder.specs.Network.{addition, bit, lightest_first, literal_at, number_of, round};
 ghost use Rattle.adder.specs.Parts.{lightest_numbers, most_of, numbers_with, tree_from};
 
@@ -71,11 +72,16 @@ impl Number {
     ) -> Result<Self, AllocError>
         requires from_one { 0 < adder.old.fresh }
         requires most { self.now.most + other.now.most < 2 ^ 63 }
-        requires small { adder.old.fresh + 2 * length (addition adder.old.fresh self.now other.now).cells ≤ 2 ^ 26 }
-        ensures bits { IfOk result (λ n. n.bits ≡ (addition adder.old.fresh self.now other.now).outputs) }
+        requires small { adder.old.fresh
+            + 2 * length (addition adder.old.fresh self.now other.now).cells ≤ 2 ^ 26 }
+        ensures bits { IfOk result
+            (λ n. n.bits ≡ (addition adder.old.fresh self.now other.now).outputs) }
         ensures most { IfOk result (λ n. n.most ≡ self.now.most + other.now.most) }
-        ensures cells { OnOk result (adder.new.cells.items ≡ adder.old.cells.items ++ (addition adder.old.fresh self.now other.now).cells) }
-        ensures fresh { OnOk result (adder.new.fresh ≡ adder.old.fresh + 2 * length (addition adder.old.fresh self.now other.now).cells) }
+        ensures cells { OnOk result (adder.new.cells.items
+            ≡ adder.old.cells.items ++ (addition adder.old.fresh self.now other.now).cells) }
+        ensures fresh { OnOk result (adder.new.fresh
+            ≡ adder.old.fresh + 2 * length
+            (addition adder.old.fresh self.now other.now).cells) }
     {
         let most = self.most + other.most;
         let digits = digit_count(most);
@@ -122,8 +128,10 @@ fn fill(column: &mut Vec<Lit>, x: &Number, y: &Number, j: u32) -> Result<(), All
 pub(crate) fn add_tree(alloc: Global, relaxations: Relaxations) -> Result<Network, AllocError>
     requires from_one { 0 < relaxations.fresh }
     requires most { most_of (lightest_numbers relaxations.each.items) < 2 ^ 63 }
-    requires small { relaxations.fresh + 2 * length (tree_from relaxations.fresh (lightest_numbers relaxations.each.items)).cells ≤ 2 ^ 26 }
-    ensures { IfOk result (λ n. n ≡ tree_from relaxations.fresh (lightest_numbers relaxations.each.items)) }
+    requires small { relaxations.fresh + 2 * length
+        (tree_from relaxations.fresh (lightest_numbers relaxations.each.items)).cells ≤ 2 ^ 26 }
+    ensures { IfOk result (λ n. n
+        ≡ tree_from relaxations.fresh (lightest_numbers relaxations.each.items)) }
 {
     let mut each = relaxations.each;
     sort(&mut each)?;
@@ -133,7 +141,8 @@ pub(crate) fn add_tree(alloc: Global, relaxations: Relaxations) -> Result<Networ
 
 /// Sorts by weight. Relaxations of one weight stay in their order.
 fn sort(relaxations: &mut Vec<Relaxation>) -> Result<(), AllocError>
-    ensures { OnOk result (relaxations.new.items ≡ lightest_first (λ r. r.weight) relaxations.old.items) }
+    ensures { OnOk result
+        (relaxations.new.items ≡ lightest_first (λ r. r.weight) relaxations.old.items) }
 {
     relaxations.sort_by_key(|relaxation| relaxation.weight)?;
     Ok(())
@@ -178,10 +187,13 @@ fn add_round(
 ) -> Result<Vec<Number>, AllocError>
     requires from_one { 0 < adder.old.fresh }
     requires most { most_of numbers.now < 2 ^ 63 }
-    requires small { adder.old.fresh + 2 * length (round adder.old.fresh numbers.now).cells ≤ 2 ^ 26 }
+    requires small { adder.old.fresh
+        + 2 * length (round adder.old.fresh numbers.now).cells ≤ 2 ^ 26 }
     ensures numbers { IfOk result (λ ns. ns.items ≡ (round adder.old.fresh numbers.now).numbers) }
-    ensures cells { OnOk result (adder.new.cells.items ≡ adder.old.cells.items ++ (round adder.old.fresh numbers.now).cells) }
-    ensures fresh { OnOk result (adder.new.fresh ≡ adder.old.fresh + 2 * length (round adder.old.fresh numbers.now).cells) }
+    ensures cells { OnOk result (adder.new.cells.items
+        ≡ adder.old.cells.items ++ (round adder.old.fresh numbers.now).cells) }
+    ensures fresh { OnOk result (adder.new.fresh
+        ≡ adder.old.fresh + 2 * length (round adder.old.fresh numbers.now).cells) }
 {
     let mut sums = Vec::with_capacity(alloc, numbers.len() / 2 + 1)?;
     let mut column = Vec::new(alloc);

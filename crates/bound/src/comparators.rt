@@ -64,7 +64,8 @@ fn keep_at_most(
     outputs: &[Option<Lit>],
     limit: u64,
 ) -> Result<(), AllocError>
-    ensures { OnOk result (clauses.new ≡ clauses.old ++ kept (reverse (rising_clauses outputs.now limit 0))) }
+    ensures { OnOk result (clauses.new
+        ≡ clauses.old ++ kept (reverse (rising_clauses outputs.now limit 0))) }
 {
     let mut clause = Vec::new(clauses.allocator());
     if shifted(limit, outputs.len()) != 0 {

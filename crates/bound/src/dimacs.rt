@@ -21,8 +21,10 @@ use wcnf::types::{Formula, Lit};
 /// `WriteFault` where the writer answered `Err`, or took none of the bytes that it was given. The
 /// writer then has a beginning of the text, and is not called again.
 pub fn write_dimacs<W: Write>(formula: &Formula, writer: &mut W) -> Result<(), WriteFault>
-    ensures ok { OnOk result (Appends (W.contents writer.old) (W.contents writer.new) (dimacs_text formula.now)) }
-    ensures fault { OnErr result (AppendsPart (W.contents writer.old) (W.contents writer.new) (dimacs_text formula.now)) }
+    ensures ok { OnOk result (Appends (W.contents writer.old) (W.contents writer.new)
+        (dimacs_text formula.now)) }
+    ensures fault { OnErr result (AppendsPart (W.contents writer.old) (W.contents writer.new)
+        (dimacs_text formula.now)) }
 {
     let mut block = Block::new();
     let clauses = formula.clauses();
@@ -38,8 +40,10 @@ pub(crate) fn put_header<W: Write>(
     vars: u32,
     count: usize,
 ) -> Result<(), WriteFault>
-    ensures ok { OnOk result (PassesOn (W.contents writer.old) block.old (header_line vars count) (W.contents writer.new) block.new) }
-    ensures fault { OnErr result (AppendsPart (W.contents writer.old) (W.contents writer.new) (block.old ++ header_line vars count)) }
+    ensures ok { OnOk result (PassesOn (W.contents writer.old) block.old (header_line vars count)
+        (W.contents writer.new) block.new) }
+    ensures fault { OnErr result (AppendsPart (W.contents writer.old) (W.contents writer.new)
+        (block.old ++ header_line vars count)) }
 {
     block.put(writer, b"p cnf ")?;
     block.put_number(writer, u64::from(vars))?;
@@ -54,8 +58,11 @@ pub(crate) fn put_clauses<W: Write>(
     writer: &mut W,
     clauses: &ClauseList,
 ) -> Result<(), WriteFault>
-    ensures ok { OnOk result (PassesOn (W.contents writer.old) block.old (flat_map dimacs_clause clauses.now) (W.contents writer.new) block.new) }
-    ensures fault { OnErr result (AppendsPart (W.contents writer.old) (W.contents writer.new) (block.old ++ flat_map dimacs_clause clauses.now)) }
+    ensures ok { OnOk result
+        (PassesOn (W.contents writer.old) block.old (flat_map dimacs_clause clauses.now)
+        (W.contents writer.new) block.new) }
+    ensures fault { OnErr result (AppendsPart (W.contents writer.old) (W.contents writer.new)
+        (block.old ++ flat_map dimacs_clause clauses.now)) }
 {
     for clause in clauses.iter() {
         put_clause(block, writer, clause)?;
@@ -69,8 +76,10 @@ pub(crate) fn put_clause<W: Write>(
     writer: &mut W,
     lits: &[Lit],
 ) -> Result<(), WriteFault>
-    ensures ok { OnOk result (PassesOn (W.contents writer.old) block.old (dimacs_clause lits.now) (W.contents writer.new) block.new) }
-    ensures fault { OnErr result (AppendsPart (W.contents writer.old) (W.contents writer.new) (block.old ++ dimacs_clause lits.now)) }
+    ensures ok { OnOk result (PassesOn (W.contents writer.old) block.old (dimacs_clause lits.now)
+        (W.contents writer.new) block.new) }
+    ensures fault { OnErr result (AppendsPart (W.contents writer.old) (W.contents writer.new)
+        (block.old ++ dimacs_clause lits.now)) }
 {
     for lit in lits {
         block.put_spaced(writer, *lit)?;

@@ -1,11 +1,13 @@
 // The text of a formula, written while its clauses are made: in memory stand what the formula is
 // made of and the clauses of one cell, so that it may be far longer than what there is room for.
-ghost use Rattle.std.specs.Prelude.{◌≡◌, ◌+◌, ◌*◌, ◌<◌, ◌≤◌, ◌^◌, ◌++◌, length, All, IfOk, OnOk, OnErr};
+ghost use Rattle.std.specs.Prelude.{◌≡◌, ◌+◌, ◌*◌, ◌<◌, ◌≤◌, ◌^◌, ◌++◌, length, All, IfOk, OnOk};
+ghost use Rattle.std.specs.Prelude.{OnErr};
 ghost use Rattle.std.specs.List.{flat_map};
 ghost use Rattle.std.specs.Io.KnownBytes.{Appends};
 ghost use Rattle.wcnf.specs.Writing.{AppendsPart, PassesOn};
 ghost use Rattle.adder.specs.Network.{adders_as};
-ghost use Rattle.bound.specs.Bound.{kept, bound_as, cell_clauses, comparator_for, dimacs_clause, dimacs_text, relaxed_clauses};
+ghost use Rattle.bound.specs.Bound.{kept, bound_as, cell_clauses, comparator_for, dimacs_clause};
+ghost use Rattle.bound.specs.Bound.{dimacs_text, relaxed_clauses};
 ghost use Rattle.bound.specs.Adding.{HasVariables};
 
 use crate::cells::keep_cell;
@@ -108,11 +110,14 @@ impl Outline {
     ) -> Result<Self, AllocError>
         requires bound { k ≤ 2 ^ 62 }
         requires places { 2 * (instance.now.variables + length instance.now.soft) ≤ marks.old }
-        ensures relaxed { IfOk result (λ o. o.relaxed ≡ kept (relaxed_clauses profile instance.now)) }
+        ensures relaxed { IfOk result
+            (λ o. o.relaxed ≡ kept (relaxed_clauses profile instance.now)) }
         ensures network { IfOk result (λ o. o.network ≡ adders_as profile instance.now) }
-        ensures comparator { IfOk result (λ o. o.comparator ≡ comparator_for profile instance.now k) }
+        ensures comparator { IfOk result
+            (λ o. o.comparator ≡ comparator_for profile instance.now k) }
         ensures vars { IfOk result (λ o. o.vars ≡ (bound_as profile instance.now k).variables) }
-        ensures count { IfOk result (λ o. o.count ≡ length (bound_as profile instance.now k).clauses) }
+        ensures count { IfOk result
+            (λ o. o.count ≡ length (bound_as profile instance.now k).clauses) }
         ensures marks { marks.new ≡ marks.old }
     {
         // The contract of `vars` has the limits of the instance, from which those of the formula

@@ -70,7 +70,9 @@ fn keep_given(
     instance: &Instance,
     profile: Profile,
 ) -> Result<u32, AllocError>
-    ensures clauses { OnOk result (clauses.new ≡ clauses.old ++ (kept instance.now.hard ++ kept (relaxed_clauses profile instance.now))) }
+    ensures clauses { OnOk result (clauses.new
+        ≡ clauses.old
+        ++ (kept instance.now.hard ++ kept (relaxed_clauses profile instance.now))) }
     ensures last { IfOk result (λ n. n ≡ relaxed_variables profile instance.now) }
 {
     let most = instance.vars() + instance.soft().len() as u32;

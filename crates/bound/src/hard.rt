@@ -20,7 +20,9 @@ use wcnf::types::{Formula, Instance};
 /// `AllocError` where memory was refused.
 pub fn hard_formula(instance: &Instance) -> Result<Formula, AllocError>
     ensures clauses { IfOk result (λ f. f ≡ hard_cnf instance.now) }
-    ensures feasible { OnOk result ((t : Assignment) → All (Satisfies t) (hard_cnf instance.now).clauses ↔ IsFeasible instance.now t) }
+    ensures feasible { OnOk result
+        ((t : Assignment) → All (Satisfies t) (hard_cnf instance.now).clauses
+        ↔ IsFeasible instance.now t) }
     ensures few { OnOk result (length (hard_cnf instance.now).clauses < 2 ^ 28) }
 {
     let vars = instance.vars();

@@ -10,10 +10,12 @@ use std::alloc::{AllocError, Global};
 use wcnf::clause_list::ClauseList;
 use wcnf::types::Lit;
 
-/// Clauses up to this length are searched for opposites pair by pair, which takes fewer steps than marks do.
+/// Clauses up to this length are searched for opposites pair by pair, which takes fewer steps than
+/// marks do.
 const FEW: usize = 8;
 
-/// Adds the clause of the literals, of which none stands twice, unless some literal stands with its negation.
+/// Adds the clause of the literals, of which none stands twice, unless some literal stands with its
+/// negation.
 pub(crate) fn keep(
     clauses: &mut ClauseList,
     marks: &mut Marks,
@@ -43,7 +45,8 @@ pub(crate) fn are_opposed(marks: &mut Marks, lits: &[Lit]) -> bool
     }
 }
 
-/// As `keep`, for a few literals, of which some may stand twice. Its time is quadratic in their number.
+/// As `keep`, for a few literals, of which some may stand twice. Its time is quadratic in their
+/// number.
 pub(crate) fn keep_short(clauses: &mut ClauseList, lits: &[Lit]) -> Result<(), AllocError>
     ensures { OnOk result (clauses.new ≡ clauses.old ++ kept (lits.now ∷ [])) }
 {

@@ -1,6 +1,7 @@
 // The soft clauses of a formula, each with a variable that is true where the clause may be
 // falsified.
-ghost use Rattle.std.specs.Prelude.{◌≡◌, ◌+◌, ◌*◌, ◌<◌, ◌≤◌, ◌^◌, [], ◌∷◌, ◌++◌, length, IfOk, OnOk};
+ghost use Rattle.std.specs.Prelude.{◌≡◌, ◌+◌, ◌*◌, ◌<◌, ◌≤◌, ◌^◌, [], ◌∷◌, ◌++◌, length, IfOk};
+ghost use Rattle.std.specs.Prelude.{OnOk};
 ghost use Rattle.adder.specs.Network.{positive, relaxed_variables};
 ghost use Rattle.bound.specs.Bound.{kept, relaxed_clauses};
 ghost use Rattle.bound.specs.Adding.{gets_variable};
@@ -21,7 +22,8 @@ pub(crate) fn keep_relaxed(
     profile: Profile,
 ) -> Result<u32, AllocError>
     requires { 2 * (instance.now.variables + length instance.now.soft) ≤ marks.old }
-    ensures clauses { OnOk result (clauses.new ≡ clauses.old ++ kept (relaxed_clauses profile instance.now)) }
+    ensures clauses { OnOk result
+        (clauses.new ≡ clauses.old ++ kept (relaxed_clauses profile instance.now)) }
     ensures last { IfOk result (λ n. n ≡ relaxed_variables profile instance.now) }
     ensures marks { marks.new ≡ marks.old }
 {
