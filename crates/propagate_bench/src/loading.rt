@@ -7,7 +7,8 @@ use clauses::store::{CRef, Store};
 use propagate::engine::Engine;
 use std::alloc::AllocError;
 use wcnf::text::{lines, number, tokens};
-use wcnf::types::{Lit, VARIABLE_LIMIT};
+use wcnf::limits::VARIABLE_LIMIT;
+use wcnf::types::Lit;
 
 /// What a token says.
 #[derive(Clone, Copy, Drop)]

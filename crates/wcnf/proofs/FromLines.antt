@@ -10,7 +10,7 @@ use Rattle.wcnf.specs.Reading.{reading_of, IsFirstFault}
 use Rattle.wcnf.specs.Drafts.{Drafted, nothing_drafted, problem_drafted, drafted_line, drafted_lines, short_at, finished}
 use Rattle.wcnf.proofs.Texts.{reading_is_right, first_fault}
 use Rattle.wcnf.proofs.Drafting.{reading-drafted}
-use Rattle.wcnf.proofs.Limits.{reads_instance}
+use Rattle.wcnf.proofs.WithinLimits.{reads_instance}
 
 whole_read : (text : List ℕ) (d : Drafted) → drafted_lines d [] ≡ drafted_lines nothing_drafted (numbered_text text) → reading_of text ≡ finished d
 whole_read text d e = reading-drafted text ∙ rw (sym e) refl

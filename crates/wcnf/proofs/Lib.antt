@@ -17,9 +17,9 @@ pub mod CappedNumbers
 pub mod Judgement
 pub mod DigitCounts
 pub mod Drafting
-pub mod Limits
 pub mod FromLines
 pub mod Items
 pub mod AheadLaws
 pub mod Feeds
 pub mod ParserLaws
+pub mod WithinLimits

@@ -7,14 +7,12 @@ ghost use Rattle.wcnf.specs.Reading.{ended_at};
 ghost use Rattle.wcnf.specs.Drafts.{with_literal, emptied, gathered_at, AreMarked};
 
 use crate::faults::FaultKind;
+use crate::limits::MOST_LITERALS;
 use crate::pieces::Tokens;
 use crate::types::Lit;
 use crate::words::{Word, read_word};
 use std::alloc::{AllocError, Global};
 use std::marker::Model;
-
-/// How many literals a text may have, repeats too.
-const LITERALS_LIMIT: usize = 1 << 26;
 
 /// The clause that is being read, each literal once, and the greatest variable of the text so far.
 #[derive(Drop)]
@@ -128,7 +126,7 @@ impl Gathering {
             match word {
                 Word::Literal(lit) => {
                     self.cover(lit.variable(), most)?;
-                    if count >= LITERALS_LIMIT {
+                    if count >= MOST_LITERALS {
                         return Err(FaultKind::TooMany);
                     }
                     self.add(lit).map_err(|_| FaultKind::Memory)?;

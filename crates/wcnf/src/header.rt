@@ -3,6 +3,7 @@ ghost use Rattle.std.specs.Prelude.{◌≡◌, ◌≤◌, ◌<◌, ◌^◌, ◌�
 ghost use Rattle.wcnf.specs.Reading.{header_of, is_wcnf, number_within};
 
 use crate::faults::FaultKind;
+use crate::limits::{MOST_HARD, MOST_SOFT, MOST_VARIABLES, NUMBER_LIMIT};
 use crate::pieces::Tokens;
 use crate::text::number;
 use std::marker::Model;
@@ -10,14 +11,8 @@ use std::marker::Model;
 /// The second token of a header.
 const NAME: &[u8] = b"wcnf";
 
-/// How many variables a header may say.
-const VARIABLES_LIMIT: u64 = 1 << 22;
-
 /// How many clauses a header may say: as many hard and soft ones as a text may have.
-const CLAUSES_LIMIT: u64 = (1 << 22) + (1 << 18);
-
-/// The greatest weight of a hard clause that a header may say.
-const TOP_LIMIT: u64 = 1 << 62;
+const MOST_CLAUSES: u64 = (MOST_HARD + MOST_SOFT) as u64;
 
 /// The header of a text of the older form.
 #[derive(Drop)]
@@ -53,9 +48,9 @@ impl Header {
         if !is_wcnf(name) {
             return Err(FaultKind::Header);
         }
-        let variables = number_within(&mut words, VARIABLES_LIMIT)?;
-        let clauses = number_within(&mut words, CLAUSES_LIMIT)?;
-        let top = number_within(&mut words, TOP_LIMIT)?;
+        let variables = number_within(&mut words, u64::from(MOST_VARIABLES))?;
+        let clauses = number_within(&mut words, MOST_CLAUSES)?;
+        let top = number_within(&mut words, NUMBER_LIMIT)?;
         if top == 0 || words.next().is_some() {
             return Err(FaultKind::Header);
         }

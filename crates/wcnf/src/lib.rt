@@ -6,6 +6,7 @@ pub mod faults;
 mod gathering;
 mod header;
 pub mod judging;
+pub mod limits;
 pub mod output;
 mod parser;
 pub mod pieces;

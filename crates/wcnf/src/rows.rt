@@ -14,23 +14,12 @@ use crate::clause_list::ClauseList;
 use crate::faults::FaultKind;
 use crate::gathering::Gathering;
 use crate::header::Header;
+use crate::limits::{MOST_HARD, MOST_SOFT, MOST_VARIABLES, NUMBER_LIMIT};
 use crate::pieces::Tokens;
 use crate::text::{number, tokens};
 use crate::types::{Clause, Instance, Lit, Soft};
 use std::alloc::{AllocError, Global};
 use std::marker::Model;
-
-/// How many hard clauses a text may have.
-const HARD_LIMIT: usize = 1 << 22;
-
-/// How many soft clauses a text may have.
-const SOFT_LIMIT: usize = 1 << 18;
-
-/// Weights, and the sum of them all, stay below this.
-const WEIGHT_LIMIT: u64 = 1 << 62;
-
-/// The greatest variable of a text without a header.
-const VARIABLE_LIMIT: u32 = 1 << 22;
 
 /// The instance that the lines so far make.
 #[derive(Drop)]
@@ -166,7 +155,7 @@ impl Draft {
         ensures within { result ≤ 4194304 }
     {
         match &self.header {
-            None => VARIABLE_LIMIT,
+            None => MOST_VARIABLES,
             Some(header) => header.variables(),
         }
     }
@@ -193,7 +182,7 @@ impl Draft {
             (λ o. IfSome o (λ w. (0 < w) × (self.now.weight + w < 2 ^ 62))) }
     {
         let Some(header) = &self.header else {
-            return if weight == 0 || weight >= WEIGHT_LIMIT {
+            return if weight == 0 || weight >= NUMBER_LIMIT {
                 Err(FaultKind::Weight)
             } else {
                 self.soft(weight)
@@ -219,7 +208,7 @@ impl Draft {
         ensures hard { result ≡ one_hard (totals_of self.now) }
         ensures none { IfOk result (λ o. o ≡ None) }
     {
-        if self.hard.len() >= HARD_LIMIT {
+        if self.hard.len() >= MOST_HARD {
             Err(FaultKind::TooMany)
         } else {
             Ok(None)
@@ -233,9 +222,9 @@ impl Draft {
         ensures limits { IfOk result
             (λ o. IfSome o (λ w. (w ≡ weight) × (self.now.weight + w < 2 ^ 62))) }
     {
-        if self.weight + weight >= WEIGHT_LIMIT {
+        if self.weight + weight >= NUMBER_LIMIT {
             Err(FaultKind::WeightSum)
-        } else if self.soft.len() >= SOFT_LIMIT {
+        } else if self.soft.len() >= MOST_SOFT {
             Err(FaultKind::TooMany)
         } else {
             Ok(Some(weight))

@@ -4,6 +4,7 @@ ghost use Rattle.std.specs.List.{list_all};
 ghost use Rattle.std.specs.Option.{option_map};
 ghost use Rattle.wcnf.specs.Text.{numbered_text, tokens_of, is_digit, value_on, number_of, capped};
 
+use crate::limits::NUMBER_LIMIT;
 use crate::pieces::{Lines, Tokens};
 
 /// The lines of a text with their numbers, from 1, in one pass and with no copy.
@@ -40,9 +41,6 @@ pub fn number(digits: &[u8]) -> Option<u64>
     }
 }
 
-// Numbers up to this one are told exactly, and those above it as one more.
-const GREATEST_EXACT: u64 = 1 << 62;
-
 // The value of digits; `None` where a byte is no digit.
 fn value(digits: &[u8]) -> Option<u64>
     ensures { result
@@ -58,15 +56,15 @@ fn value(digits: &[u8]) -> Option<u64>
     Some(value)
 }
 
-// The value with one more digit after it.
+// The value with one more digit after it; all above the limit count as one more than it.
 fn with_digit(value: u64, digit: u8) -> u64
     requires low { 48 ≤ digit }
     requires high { digit ≤ 57 }
     ensures { result ≡ capped (10 * value + (digit - 48)) }
 {
-    if value > GREATEST_EXACT / 10 {
-        return GREATEST_EXACT + 1;
+    if value > NUMBER_LIMIT / 10 {
+        return NUMBER_LIMIT + 1;
     }
     let more = 10 * value + u64::from(digit - b'0');
-    more.min(GREATEST_EXACT + 1)
+    more.min(NUMBER_LIMIT + 1)
 }

@@ -11,12 +11,9 @@ use crate::clause_list::ClauseList;
 use std::alloc::Global;
 use std::marker::Model;
 
-/// Variables stay below this number, 2^27.
-pub const VARIABLE_LIMIT: u32 = 1 << 27;
-
 /// A literal: a variable or its negation (Handbook of Satisfiability). It takes four bytes.
 ///
-/// A variable is a number from 1, below [`VARIABLE_LIMIT`].
+/// A variable is a number from 1, below 2^27 (`limits::VARIABLE_LIMIT`).
 /// A positive literal is true when its variable is, and a negated one when its variable is not.
 #[derive(Clone, Copy, Debug, PartialEq, Eq, Drop)]
 pub struct Lit {

@@ -4,12 +4,10 @@ ghost use Rattle.wcnf.specs.Ahead.{BeginsWithDigits, BeginsWithVariable, BeginsW
 ghost use Rattle.wcnf.specs.Reading.{word_of, Literal_word};
 ghost use Rattle.wcnf.specs.Seen.{seen};
 
+use crate::limits::MOST_VARIABLES;
 use crate::pieces::is_blank;
 use crate::text::number;
 use crate::types::Lit;
-
-/// The greatest variable that a text may have.
-const GREATEST_VARIABLE: u64 = 1 << 22;
 
 /// What a token after the first says.
 #[derive(Drop)]
@@ -47,7 +45,7 @@ fn literal(variable: u64, negated: bool) -> Word
     requires { 0 < variable }
     ensures { result ≡ seen (Literal_word (record { variable = variable; negated = negated })) }
 {
-    if variable > GREATEST_VARIABLE {
+    if variable > u64::from(MOST_VARIABLES) {
         Word::Above
     } else {
         Word::Literal(Lit::new(variable as u32, negated))
@@ -103,7 +101,7 @@ fn digits_at(bytes: &[u8]) -> Option<(u32, usize)>
             };
         }
         value = 10 * value + u32::from(*byte - b'0');
-        if value > GREATEST_VARIABLE as u32 {
+        if value > MOST_VARIABLES {
             return None;
         }
     }

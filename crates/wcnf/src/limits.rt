@@ -1,0 +1,19 @@
+//! The limits of texts, formulas and certificates, each in one place.
+
+/// Weights, the sum of all weights of a text, costs, and the numbers of a certificate lie below this.
+pub const NUMBER_LIMIT: u64 = 1 << 62;
+
+/// The variables of literals lie below this: the greatest bound of a certificate's literal.
+pub const VARIABLE_LIMIT: u32 = 1 << 27;
+
+/// The greatest variable that a text may have.
+pub const MOST_VARIABLES: u32 = 1 << 22;
+
+/// How many hard clauses a text may have.
+pub const MOST_HARD: usize = 1 << 22;
+
+/// How many soft clauses a text may have.
+pub const MOST_SOFT: usize = 1 << 18;
+
+/// How many literals a text may have, repeats too.
+pub const MOST_LITERALS: usize = 1 << 26;
