@@ -5,15 +5,7 @@
 #   tests/pieces.sh [SEED..]
 source "$(dirname "$0")/lib"
 
-below='wcnf adder bound lrat_read lrat_check'
-mkdir -p "$work/crates/drive/src"
-for crate in $below; do
-    cp -r "crates/$crate" "$work/crates"
-    rm -rf "$work/crates/$crate/out"
-    grep -E "^$crate:" crates.txt >> "$work/crates.txt"
-done
-cp tests/pieces.drive "$work/crates/drive/src/main.rt"
-echo 'drive: wcnf adder bound lrat_check' >> "$work/crates.txt"
+driver pieces wcnf adder bound lrat_check
 
 # some NAME TEXT: a certificate of this text over the four clauses of two variables
 some() {
@@ -35,10 +27,7 @@ done
 [ $# -gt 0 ] || set -- 1
 for seed; do
     # shellcheck disable=SC2086
-    out=$(cd "$work/crates/drive" && "${RT:-rt}" try --steps 1000000000 --seconds 400 -- "$seed" 40 $files \
-        2> "$work/.err" | grep -E '^(ok |[a-z])' | head -n 1)
-    status=0
-    err=
+    drive --steps 1000000000 --seconds 400 -- "$seed" 40 $files
     expect "certificates in pieces, seed $seed" 0 'ok 200' ''
 done
 

@@ -15,20 +15,10 @@ for cnf in tests/cnf/*.cnf; do
     ok "$(basename "$cnf")" refuted "$work/hard.wcnf"
 done
 
-below='wcnf clauses propagate analyze subsume eliminate cdcl_order cdcl lrat_log adder bound lrat_read lrat_check'
-mkdir -p "$work/crates/drive/src"
-for crate in $below; do
-    cp -r "crates/$crate" "$work/crates"
-    rm -rf "$work/crates/$crate/out"
-    grep -E "^$crate:" crates.txt >> "$work/crates.txt"
-done
-cp tests/solver.drive "$work/crates/drive/src/main.rt"
-echo 'drive: wcnf clauses propagate analyze cdcl lrat_log lrat_check' >> "$work/crates.txt"
+driver solver wcnf clauses propagate analyze cdcl lrat_log lrat_check
 [ $# -gt 0 ] || set -- 1
 for seed; do
-    out=$(cd "$work/crates/drive" && "${RT:-rt}" try --steps 1000 --seconds 100 -- "$seed" 300 2> "$work/.err" | grep -E '^(ok |[a-z])' | head -n 1)
-    status=0
-    err=
+    drive --steps 1000 --seconds 100 -- "$seed" 300
     expect "seed $seed" 0 'ok 300' ''
 done
 totals

@@ -1,15 +1,10 @@
 #!/usr/bin/env bash
-# The tests of single crates: tests/units/CRATE/PATH.tests is the module `tests` of crates/CRATE/src/PATH.rt. They stand here and not in the crates, where the gate would prove each crate once more for its tests. They
-# are run with no proof, by `rt try`.
+# The tests of single crates: tests/units/CRATE/PATH.tests is the module `tests` of crates/CRATE/src/PATH.rt. They stand here and
+# not in the crates, where the gate would prove each crate once more for its tests. They are run with no proof, by `rt try`.
 #   tests/units.sh [CRATE..]
 source "$(dirname "$0")/lib"
-mkdir -p "$work/crates"
-for crate in $(sed -E '/^(wmax|render_bench|propagate_bench):/d; s/:.*//' crates.txt); do
-    cp -r "crates/$crate" "$work/crates"
-    rm -rf "$work/crates/$crate/out"
-    grep -E "^$crate:" crates.txt >> "$work/crates.txt"
-done
 [ $# -gt 0 ] || set -- $(ls tests/units)
+copied "$@"
 for crate; do
     src=$work/crates/$crate/src
     wanted=0
