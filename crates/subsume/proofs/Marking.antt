@@ -1,14 +1,15 @@
 -- What is marked in a table, and clauses that are held against it.
-use Rattle.std.proofs.Common.{◌≡◌, ℕ, zero, suc, ◌+◌, ◌-◌, ◌*◌, ◌<◌, ◌≤◌, Bool, true, false, not, ◌&&◌, ◌==◌, ◌||◌, List, [], ◌∷◌, ◌++◌, length, take, get_or, set, replicate, if◌then◌else◌, refl, sym, ◌∙◌, ap, subst, arith, get_or-set_same, get_or-set_other, add-one}
+use Rattle.std.proofs.Common.{◌≡◌, ℕ, zero, suc, ◌+◌, ◌-◌, ◌*◌, ◌<◌, ◌≤◌, Bool, true, false, not, ◌&&◌, ◌==◌, ◌||◌, List, [], ◌∷◌, ◌++◌, length, take, drop, get_or, set, replicate, if◌then◌else◌, refl, sym, ◌∙◌, ap, subst, arith, get_or-set_same, get_or-set_other, add-one}
 use Rattle.std.specs.Prelude.{All}
-use Rattle.std.proofs.lemmas.Bool.{false≢true, eq-eqb, and_from, or_left, or_right}
-use Rattle.std.proofs.lemmas.List.{take_more}
+use Rattle.std.proofs.lemmas.Bool.{false≢true, true≢false, eq-eqb, and_from, or_left, or_right}
+use Rattle.std.proofs.lemmas.List.{take_more, take-append-drop, append-nil}
 use Rattle.std.proofs.lemmas.List.Folds.{list_any-append}
 use Rattle.std.proofs.lemmas.List.Elements.{All-head, All-tail, filter-append}
-use Rattle.wcnf.specs.Literal.{Literal, literal_eq, same_bool, index_of}
+use Rattle.wcnf.specs.Literal.{Literal, literal_eq, same_bool, index_of, negation}
 use Rattle.wcnf.specs.Clause.{contains_literal, without_literal, is_subset}
+use Rattle.wcnf.proofs.Marks.{literal_eq-refl}
 use Rattle.wcnf.proofs.Sound.{literal_eq-true}
-use Rattle.subsume.specs.Marks.{mark_of, are_marked, IsMarked, HasPlace, LiesSoFar}
+use Rattle.subsume.specs.Marks.{mark_of, are_marked, IsMarked, HasPlace, LiesAgainst, unmarked, against_without, against_of}
 use Rattle.subsume.specs.declared.marks.Against.{Against}
 use Rattle.subsume.specs.declared.marks.Against.TheVariants.{Apart, Within, ButFor}
 
@@ -83,15 +84,11 @@ marked_other marks c i p l h is place e m =
     let more : without_literal p (take (i + 1) c) ≡ without_literal p (take i c) ++ l ∷ [] = without_next p l c i h is ∙ ap (λ xs. without_literal p (take i c) ++ xs) (one_other p l e) in
     subst (IsMarked (set marks (index_of l) true)) (sym more) (marked_one marks (without_literal p (take i c)) l place m)
 
-append-none : (c : List Literal) → c ++ [] ≡ c
-append-none [] = refl
-append-none (l ∷ c) = ap (λ xs. l ∷ xs) (append-none c)
-
 -- and stays out
 pub marked_same : (marks : List Bool) (c : List Literal) (i : ℕ) (p l : Literal) → i < length c → l ≡ get_or c i l → literal_eq p l ≡ true
     → IsMarked marks (without_literal p (take i c)) → IsMarked marks (without_literal p (take (i + 1) c))
 marked_same marks c i p l h is e m =
-    let more : without_literal p (take (i + 1) c) ≡ without_literal p (take i c) = without_next p l c i h is ∙ ap (λ xs. without_literal p (take i c) ++ xs) (one_same p l e) ∙ append-none (without_literal p (take i c)) in
+    let more : without_literal p (take (i + 1) c) ≡ without_literal p (take i c) = without_next p l c i h is ∙ ap (λ xs. without_literal p (take i c) ++ xs) (one_same p l e) ∙ append-nil (without_literal p (take i c)) in
     subst (IsMarked marks) (sym more) m
 
 all_so_far : (marks : List Bool) (c : List Literal) (i : ℕ) (l : Literal) → i < length c → l ≡ get_or c i l → mark_of marks l ≡ true → are_marked marks (take i c) ≡ true → are_marked marks (take (suc i) c) ≡ true
@@ -123,27 +120,6 @@ marked_subset marks [] d m some = refl
 marked_subset marks (l ∷ c) d m some =
     (λ i. if m.marked l (All-head (λ l. 0 < l.variable) l c some) i then marked_subset marks c d m (All-tail (λ l. 0 < l.variable) l c some) i else false)
 
-literal_eq-self : (l : Literal) → literal_eq l l ≡ true
-literal_eq-self l = and_from (l.variable == l.variable) (same_bool l.negated l.negated) (eq-eqb l.variable l.variable refl) (by l.negated)
-  where
-    by : (b : Bool) → same_bool b b ≡ true
-    by true = refl
-    by false = refl
-
--- a literal that stands at some place
-pub at_contains : (c : List Literal) (i : ℕ) (l : Literal) → i < length c → l ≡ get_or c i l → contains_literal l c ≡ true
-at_contains [] i l h is = absurd (omega arith)
-at_contains (k ∷ c) zero l h is = or_left (literal_eq l k) (contains_literal l c) (subst (λ x. literal_eq l x ≡ true) is (literal_eq-self l))
-at_contains (k ∷ c) (suc i) l h is = or_right (literal_eq l k) (contains_literal l c) (at_contains c i l (omega arith) is)
-
-are_marked-append : (marks : List Bool) (a b : List Literal) → are_marked marks a ≡ true → are_marked marks b ≡ true → are_marked marks (a ++ b) ≡ true
-are_marked-append marks [] b p q = q
-are_marked-append marks (k ∷ a) b p q =
-    elim (mark_of marks k) as (λ x. (if x then are_marked marks a else false) ≡ true → (if x then are_marked marks (a ++ b) else false) ≡ true) [
-      | true ↦ λ rest. are_marked-append marks a b rest q
-      | false ↦ λ rest. rest
-    ] p
-
 are_marked-without : (marks : List Bool) (p : Literal) (a : List Literal) → are_marked marks a ≡ true → are_marked marks (without_literal p a) ≡ true
 are_marked-without marks p [] m = refl
 are_marked-without marks p (k ∷ a) m =
@@ -155,20 +131,79 @@ are_marked-without marks p (k ∷ a) m =
       | false ↦ λ here rest. absurd (false≢true rest)
     ] refl m
 
--- the first literal whose negation is marked instead
-pub lies_but : (marks : List Bool) (c : List Literal) (i : ℕ) (l : Literal) → i < length c → l ≡ get_or c i l → are_marked marks (take i c) ≡ true → are_marked marks (without_literal l (take (i + 1) c)) ≡ true
-lies_but marks c i l h is m =
-    subst (λ xs. are_marked marks xs ≡ true) (sym (without_next l l c i h is))
-    (are_marked-append marks (without_literal l (take i c)) (without_literal l (l ∷ [])) (are_marked-without marks l (take i c) m) (subst (λ xs. are_marked marks xs ≡ true) (sym (one_same l l (literal_eq-self l))) refl))
+-- what was found of these literals that are not marked, while no answer is given
+abbrev pub IsOpen : List Bool → List Literal → Against → Type 0
+IsOpen marks c Apart = ⊥
+IsOpen marks c Within = c ≡ []
+IsOpen marks c (ButFor l) = (c ≡ l ∷ []) × (mark_of marks (negation l) ≡ true)
 
--- a literal more that is marked
-pub lies_next : (marks : List Bool) (c : List Literal) (i : ℕ) (l : Literal) (found : Against) → i < length c → l ≡ get_or c i l → mark_of marks l ≡ true
-    → LiesSoFar marks c (take i c) found → LiesSoFar marks c (take (i + 1) c) found
-lies_next marks c i l Apart h is m lies = tt
-lies_next marks c i l Within h is m lies = all_next marks c i l h is m lies
-lies_next marks c i l (ButFor k) h is m lies = (
-  lies.0,
-  lies.1,
-  subst (λ xs. are_marked marks xs ≡ true) (sym (without_next k l c i h is))
-      (are_marked-append marks (without_literal k (take i c)) (without_literal k (l ∷ [])) lies.2 (are_marked-without marks k (l ∷ []) (let one : are_marked marks (l ∷ []) ≡ true = rw m refl in one))),
-)
+unmarked_next : (marks : List Bool) (c : List Literal) (i : ℕ) (l : Literal) → i < length c → l ≡ get_or c i l → mark_of marks l ≡ false → unmarked marks (take (i + 1) c) ≡ unmarked marks (take i c) ++ l ∷ []
+unmarked_next marks c i l h is m =
+    let one : unmarked marks (l ∷ []) ≡ l ∷ [] = rw m refl in
+    ap (unmarked marks) (take_more c i l h ∙ ap (λ x. take i c ++ x ∷ []) (sym is))
+    ∙ filter-append (λ k. not (mark_of marks k)) (take i c) (l ∷ []) ∙ ap (λ u. unmarked marks (take i c) ++ u) one
+
+abbrev is_within : Against → Bool
+is_within Apart = false
+is_within Within = true
+is_within (ButFor l) = false
+
+-- what is apart stays so with more literals
+apart-append : (marks : List Bool) (a b : List Literal) → against_without marks a ≡ Apart → against_without marks (a ++ b) ≡ Apart
+apart-append marks [] b e = absurd (true≢false (ap is_within e))
+apart-append marks (l ∷ []) [] e = e
+apart-append marks (l ∷ []) (k ∷ b) e = refl
+apart-append marks (l ∷ k ∷ a) b e = refl
+
+apart_so_far : (marks : List Bool) (c : List Literal) (i : ℕ) (l : Literal) → i < length c → l ≡ get_or c i l → mark_of marks l ≡ false
+    → against_without marks (unmarked marks (take i c) ++ l ∷ []) ≡ Apart → against_of marks c ≡ Apart
+apart_so_far marks c i l h is m e =
+    let whole : unmarked marks c ≡ unmarked marks (take (i + 1) c) ++ unmarked marks (drop (i + 1) c) =
+    ap (unmarked marks) (sym (take-append-drop (i + 1) c)) ∙ filter-append (λ k. not (mark_of marks k)) (take (i + 1) c) (drop (i + 1) c) in
+    ap (against_without marks) whole
+    ∙ apart-append marks (unmarked marks (take (i + 1) c)) (unmarked marks (drop (i + 1) c)) (ap (against_without marks) (unmarked_next marks c i l h is m) ∙ e)
+
+-- a literal of which neither sign is marked
+pub apart_neither : (marks : List Bool) (c : List Literal) (i : ℕ) (l : Literal) (found : Against) → i < length c → l ≡ get_or c i l → mark_of marks l ≡ false → mark_of marks (negation l) ≡ false
+    → IsOpen marks (unmarked marks (take i c)) found → against_of marks c ≡ Apart
+apart_neither marks c i l Apart h is m opposite lies = absurd lies
+apart_neither marks c i l Within h is m opposite lies = apart_so_far marks c i l h is m (ap (λ u. against_without marks (u ++ l ∷ [])) lies ∙ rw opposite refl)
+apart_neither marks c i l (ButFor k) h is m opposite lies = apart_so_far marks c i l h is m (ap (λ u. against_without marks (u ++ l ∷ [])) lies.0)
+
+-- a second literal that is not marked
+pub apart_second : (marks : List Bool) (c : List Literal) (i : ℕ) (l : Literal) (found : Against) → i < length c → l ≡ get_or c i l → mark_of marks l ≡ false → (found ≡ Within → ⊥)
+    → IsOpen marks (unmarked marks (take i c)) found → against_of marks c ≡ Apart
+apart_second marks c i l Apart h is m other lies = absurd lies
+apart_second marks c i l Within h is m other lies = absurd (other refl)
+apart_second marks c i l (ButFor k) h is m other lies = apart_so_far marks c i l h is m (ap (λ u. against_without marks (u ++ l ∷ [])) lies.0)
+
+none_unmarked : (marks : List Bool) (c : List Literal) → unmarked marks c ≡ [] → are_marked marks c ≡ true
+none_unmarked marks [] none = refl
+none_unmarked marks (k ∷ c) none =
+    elim (mark_of marks k) as (λ b. (if not b then k ∷ unmarked marks c else unmarked marks c) ≡ [] → (if b then are_marked marks c else false) ≡ true) [
+      | true ↦ λ rest. none_unmarked marks c rest
+      | false ↦ λ rest. absurd (omega (arith, ap length rest))
+    ] none
+
+one_unmarked : (marks : List Bool) (c : List Literal) (l : Literal) → unmarked marks c ≡ l ∷ [] → (contains_literal l c ≡ true) × (are_marked marks (without_literal l c) ≡ true)
+one_unmarked marks [] l one = absurd (omega (arith, ap length one))
+one_unmarked marks (k ∷ c) l one =
+    elim (mark_of marks k) as (λ b. mark_of marks k ≡ b → (if not b then k ∷ unmarked marks c else unmarked marks c) ≡ l ∷ [] → (contains_literal l (k ∷ c) ≡ true) × (are_marked marks (without_literal l (k ∷ c)) ≡ true)) [
+      | true ↦ λ here rest. let more = one_unmarked marks c l rest in (
+        or_right (literal_eq l k) (contains_literal l c) more.0,
+        elim (literal_eq l k) as (λ b. are_marked marks (if not b then k ∷ without_literal l c else without_literal l c) ≡ true) [
+          | true ↦ more.1
+          | false ↦ rw here more.1
+        ],
+      )
+      | false ↦ λ here rest.
+          let same : literal_eq l k ≡ true = ap (λ u. literal_eq l (get_or u 0 l)) rest ∙ literal_eq-refl l in
+          let more : are_marked marks (without_literal l c) ≡ true = are_marked-without marks l c (none_unmarked marks c (ap (drop 1) rest)) in
+          (or_left (literal_eq l k) (contains_literal l c) same, rw same more)
+    ] refl one
+
+-- what an answer shows
+pub open_lies : (marks : List Bool) (c : List Literal) (found : Against) → IsOpen marks (unmarked marks c) found → LiesAgainst marks c found
+open_lies marks c Apart lies = absurd lies
+open_lies marks c Within lies = none_unmarked marks c lies
+open_lies marks c (ButFor l) lies = let one = one_unmarked marks c l lies.0 in (one.0, lies.1, one.1)

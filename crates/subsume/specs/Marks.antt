@@ -1,6 +1,6 @@
 -- Tables with one mark for each literal.
-use Rattle.std.specs.Prelude.{◌≡◌, ℕ, ◌*◌, ◌<◌, ◌≤◌, Bool, true, false, if◌then◌else◌}
-use Rattle.std.specs.Prelude.{List, [], ◌∷◌, Option, Some, None, slice_index_or}
+use Rattle.std.specs.Prelude.{◌≡◌, ℕ, ◌*◌, ◌<◌, ◌≤◌, Bool, true, false, not, if◌then◌else◌}
+use Rattle.std.specs.Prelude.{List, [], ◌∷◌, Option, Some, None, filter, slice_index_or}
 use Rattle.wcnf.specs.Literal.{Literal, index_of, negation}
 use Rattle.wcnf.specs.Clause.{contains_literal, without_literal}
 use Rattle.subsume.specs.declared.marks.Against.{Against}
@@ -22,16 +22,26 @@ abbrev pub are_marked : List Bool → List Literal → Bool
 are_marked marks [] = true
 are_marked marks (l ∷ c) = if mark_of marks l then are_marked marks c else false
 
--- what is found of a clause, of which a part was looked at: the part's literals are all marked;
--- or all but one, whose negation is marked
-abbrev pub LiesSoFar : List Bool → List Literal → List Literal → Against → Type 0
-LiesSoFar marks c part Apart = Unit {0}
-LiesSoFar marks c part Within = are_marked marks part ≡ true
-LiesSoFar marks c part (ButFor l) = (contains_literal l c ≡ true)
-    × (mark_of marks (negation l) ≡ true) × (are_marked marks (without_literal l part) ≡ true)
+-- the literals of a clause that are not marked
+abbrev pub unmarked : List Bool → List Literal → List Literal
+unmarked marks c = filter (λ l. not (mark_of marks l)) c
 
+-- how a clause lies of which these literals are not marked: a single one may have its negation marked
+abbrev pub against_without : List Bool → List Literal → Against
+against_without marks [] = Within
+against_without marks (l ∷ []) = if mark_of marks (negation l) then ButFor l else Apart
+against_without marks (k ∷ l ∷ c) = Apart
+
+-- how a clause lies against the marked one
+abbrev pub against_of : List Bool → List Literal → Against
+against_of marks c = against_without marks (unmarked marks c)
+
+-- what the answer shows: the literals are all marked; or all but one, whose negation is
 abbrev pub LiesAgainst : List Bool → List Literal → Against → Type 0
-LiesAgainst marks c found = LiesSoFar marks c c found
+LiesAgainst marks c Apart = Unit {0}
+LiesAgainst marks c Within = are_marked marks c ≡ true
+LiesAgainst marks c (ButFor l) = (contains_literal l c ≡ true)
+    × (mark_of marks (negation l) ≡ true) × (are_marked marks (without_literal l c) ≡ true)
 
 -- the literal but for which a clause is within another one
 abbrev pub but_for : Against → Option Literal

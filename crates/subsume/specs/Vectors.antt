@@ -1,7 +1,10 @@
--- Worked signatures: those of 'one or not two' and of 33 alone, and five entries against the first.
-use Rattle.std.specs.Prelude.{◌≡◌, ℕ, true, false, [], ◌∷◌, refl}
+-- Worked signatures: those of 'one or not two' and of 33 alone, and five entries against the first;
+-- and clauses against the marks of 'one or not two'.
+use Rattle.std.specs.Prelude.{◌≡◌, ℕ, Bool, true, false, List, [], ◌∷◌, refl}
 use Rattle.wcnf.specs.Literal.{Literal}
 use Rattle.subsume.specs.Signatures.{signature_of, all_within}
+use Rattle.subsume.specs.Marks.{against_of}
+use Rattle.subsume.specs.declared.marks.Against.TheVariants.{Apart, Within, ButFor}
 
 abbrev p : ℕ → Literal
 p n = record { variable = n; negated = false }
@@ -18,3 +21,22 @@ wrapped = refl
 
 five_entries : all_within 9 (1 ∷ 8 ∷ 9 ∷ 2 ∷ 0 ∷ []) ≡ true ∷ true ∷ true ∷ false ∷ true ∷ []
 five_entries = refl
+
+-- the marks of 'one or not two'
+abbrev marks : List Bool
+marks = true ∷ false ∷ false ∷ true ∷ []
+
+within : against_of marks (n 2 ∷ p 1 ∷ []) ≡ Within
+within = refl
+
+-- one literal stands here with the other sign
+but_for_two : against_of marks (p 1 ∷ p 2 ∷ []) ≡ ButFor (p 2)
+but_for_two = refl
+
+-- two do
+apart : against_of marks (n 1 ∷ p 2 ∷ []) ≡ Apart
+apart = refl
+
+-- of three neither sign is marked
+apart_three : against_of marks (p 1 ∷ p 3 ∷ []) ≡ Apart
+apart_three = refl

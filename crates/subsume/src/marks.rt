@@ -5,7 +5,7 @@ ghost use Rattle.std.specs.Prelude.{List, length, replicate, slice_set, All};
 ghost use Rattle.wcnf.specs.Literal.{Literal, index_of};
 ghost use Rattle.wcnf.specs.Clause.{without_literal};
 ghost use Rattle.subsume.specs.Marks.{HasPlace, IsMarked, LiesAgainst};
-ghost use Rattle.subsume.specs.Marks.{are_marked, but_for, mark_of};
+ghost use Rattle.subsume.specs.Marks.{against_of, are_marked, but_for, mark_of};
 
 use std::alloc::{AllocError, Global};
 use std::marker::Model;
@@ -138,7 +138,8 @@ impl Marks {
     /// How a clause lies against the marked one.
     pub fn against(&self, lits: &[Lit]) -> Against
         requires { All (HasPlace (length self.now)) lits.now }
-        ensures { LiesAgainst self.now lits.now result }
+        ensures exact { result ≡ against_of self.now lits.now }
+        ensures lies { LiesAgainst self.now lits.now result }
     {
         let mut found = Against::Within;
         for lit in lits {

@@ -1,23 +1,26 @@
--- One more literal was looked at.
-use Rattle.std.proofs.Common.{◌≡◌, ◌∙◌, true, sym, ap, take, subst, rules}
+-- A second literal that is not marked, or one of which neither sign is, ends the search.
+use Rattle.std.proofs.Common.{◌≡◌, ◌∙◌, false, take, sym, ap, subst, rules}
+use Rattle.std.proofs.lemmas.List.{take_all}
 use Rattle.wcnf.specs.Literal.{negation}
-use Rattle.subsume.specs.Marks.{mark_of, are_marked, LiesSoFar}
+use Rattle.subsume.specs.Marks.{mark_of, unmarked}
 use Rattle.subsume.specs.declared.marks.Against.TheVariants.{Within}
-use Rattle.subsume.proofs.Marking.{lies_next, lies_but, at_contains}
+use Rattle.subsume.proofs.Marking.{IsOpen, apart_second, apart_neither, open_lies}
 use Rattle.subsume.proofs.marks.Marks.against.Goals as goal
-use Rattle.subsume.proofs.marks.Marks.against.Goals.{then-not-is_marked+else-ne+else-not-is_marked-2, else-not-is_marked}
+use Rattle.subsume.proofs.marks.Marks.against.Goals.{then-ne-via-then-ne, then-ne-via-else-ne+then-not-is_marked-2}
 
-pub loop-lit-preserved : goal.loop-lit-preserved
-loop-lit-preserved c = elim c.if-not-is_marked.branch [
-  | then-not-is_marked+else-ne+else-not-is_marked-2 w ↦
-      let opposite : mark_of c.args.self.now (negation c.lit-item.result) ≡ true =
-      ap (mark_of c.args.self.now) (sym w.negation.ensures) ∙ sym w.is_marked-else-ne.ensures ∙ w.if-not-is_marked-2.false in
-      let within : are_marked c.args.self.now (take c.loop-lit.lit-index c.args.lits.now) ≡ true = (let h = w.if-ne.ensures in let g = w.ne.ensures in let e : c.loop-lit.found ≡ Within = search rules in subst (LiesSoFar c.args.self.now c.args.lits.now (take c.loop-lit.lit-index c.args.lits.now)) e c.loop-lit.invariant) in
-      rw w.found-is (
-        at_contains c.args.lits.now c.loop-lit.lit-index c.lit-item.result c.loop-lit-test.true c.lit-item.is,
-        opposite,
-        lies_but c.args.self.now c.args.lits.now c.loop-lit.lit-index c.lit-item.result c.loop-lit-test.true c.lit-item.is within,
-      )
-  | else-not-is_marked w ↦
-      rw w.found-is (lies_next c.args.self.now c.args.lits.now c.loop-lit.lit-index c.lit-item.result c.loop-lit.found c.loop-lit-test.true c.lit-item.is (sym c.is_marked.ensures ∙ w.if-not-is_marked.false) c.loop-lit.invariant)
-]
+pub returns-then-ne-clause-exact : goal.returns-then-ne-clause-exact
+returns-then-ne-clause-exact c =
+    let here : mark_of c.args.self.now c.lit-item.result ≡ false = sym c.is_marked.ensures ∙ c.if-not-is_marked.true in
+    elim c.then-ne.branch [
+      | then-ne-via-then-ne w ↦
+          let other : c.loop-lit.found ≡ Within → ⊥ = (let h = w.if-ne.ensures in let g = c.ne.ensures in search rules) in
+          sym (apart_second c.args.self.now c.args.lits.now c.loop-lit.lit-index c.lit-item.result c.loop-lit.found c.loop-lit-test.true c.lit-item.is here other c.loop-lit.invariant)
+      | then-ne-via-else-ne+then-not-is_marked-2 w ↦
+          let opposite : mark_of c.args.self.now (negation c.lit-item.result) ≡ false = ap (mark_of c.args.self.now) (sym w.negation.ensures) ∙ sym w.is_marked-else-ne.ensures ∙ w.if-not-is_marked-2.true in
+          sym (apart_neither c.args.self.now c.args.lits.now c.loop-lit.lit-index c.lit-item.result c.loop-lit.found c.loop-lit-test.true c.lit-item.is here opposite c.loop-lit.invariant)
+    ]
+
+pub returns-clause-lies : goal.returns-clause-lies
+returns-clause-lies c =
+    let whole : take c.loop-lit.lit-index c.args.lits.now ≡ c.args.lits.now = take_all c.loop-lit.lit-index c.args.lits.now c.loop-lit-test.false in
+    open_lies c.args.self.now c.args.lits.now c.loop-lit.found (subst (λ part. IsOpen c.args.self.now (unmarked c.args.self.now part) c.loop-lit.found) whole c.loop-lit.invariant)
