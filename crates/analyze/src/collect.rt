@@ -1,5 +1,6 @@
 // What is learned, read off the marks.
-ghost use Rattle.std.specs.Prelude.{◌≡◌, ◌+◌, ◌<◌, ◌≤◌, ℕ, All, [], ◌∷◌, ◌++◌, length, IsTrue, IfOk};
+ghost use Rattle.std.specs.Prelude.{◌≡◌, ◌+◌, ◌<◌, ◌≤◌, ℕ, All, [], ◌∷◌, ◌++◌, length, IsTrue};
+ghost use Rattle.std.specs.Prelude.{IfOk};
 ghost use Rattle.clauses.specs.Slots.{Slots};
 ghost use Rattle.propagate.specs.Fits.{Fits};
 ghost use Rattle.analyze.specs.Learning.{greatest_level, chosen_reasons};
@@ -29,8 +30,9 @@ fn all_met(engine: &Engine, lits: &[Lit], marks: &[Mark]) -> bool
     true
 }
 
-/// Drops a literal where its reason has marked literals and such of level 0 alone: it follows from the rest. In the
-/// order of the trail, so that a literal counts as marked that was dropped on the way.
+/// Drops a literal where its reason has marked literals and such of level 0 alone: it follows from
+/// the rest. In the order of the trail, so that a literal counts as marked that was dropped on the
+/// way.
 pub(crate) fn minimise(
     engine: &Engine,
     store: &Store,
@@ -97,7 +99,8 @@ pub(crate) fn collect_hints(
     requires room { engine.now.variables < length marks.now }
     requires listed { HasMet engine.now.trail marks.now met.now }
     requires rising { IsRising met.now }
-    ensures { IfOk result (λ hints. hints.items ≡ chosen_reasons (λ l. resolved_of marks.now l.variable) engine.now.trail ++ conflict ∷ []) }
+    ensures { IfOk result (λ hints. hints.items ≡ chosen_reasons
+        (λ l. resolved_of marks.now l.variable) engine.now.trail ++ conflict ∷ []) }
 {
     let mut hints = Vec::new(alloc);
     for position in met {

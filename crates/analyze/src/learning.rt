@@ -1,5 +1,6 @@
 // First unique implication point.
-ghost use Rattle.std.specs.Prelude.{◌≡◌, ◌+◌, ◌<◌, ◌≤◌, [], length, vec_capacity, All, IfOk, IfSome};
+ghost use Rattle.std.specs.Prelude.{◌≡◌, ◌+◌, ◌<◌, ◌≤◌, [], length, vec_capacity, All, IfOk};
+ghost use Rattle.std.specs.Prelude.{IfSome};
 ghost use Rattle.analyze.specs.Marks.{IsClear};
 ghost use Rattle.analyze.specs.Met.{HasMet};
 ghost use Rattle.clauses.specs.Slots.{IsLive, clause_at};
@@ -22,35 +23,37 @@ pub const SHORT: usize = 8;
 /// A clause that follows, and what shows it.
 #[derive(Drop)]
 pub struct Learned {
-    /// The first is the asserting literal, the only one of the current level. The others are of lower levels above 0.
+    /// The first is the asserting literal, the only one of the current level. The others are of
+    /// lower levels above 0.
     pub lits: SmallVec<Lit, SHORT>,
     /// The greatest level of the other literals, or 0.
     pub back_level: u32,
-    /// Clauses that are unit in turn where all these literals are false and those of level 0 hold, in the order of the
-    /// trail, and last one that is false then.
+    /// Clauses that are unit in turn where all these literals are false and those of level 0 hold,
+    /// in the order of the trail, and last one that is false then.
     pub hints: Vec<CRef>,
 }
 
-/// Learns clauses, with memory that it keeps between calls: by the first unique implication point, and then without the
-/// literals that follow from the others (Handbook of Satisfiability, chapter 4; Sörensson and Biere 2009).
+/// Learns clauses, with memory that it keeps between calls: by the first unique implication point,
+/// and then without the literals that follow from the others (Handbook of Satisfiability, chapter
+/// 4; Sörensson and Biere 2009).
 #[derive(Drop)]
 pub struct Analyzer {
     // By variable: what the analysis at work knows of it, and all clear between calls.
     marks: Vec<Mark>,
-    // The variables that are marked, by their positions on the trail; between calls, those that the last analysis met. It
-    // has room for all variables.
+    // The variables that are marked, by their positions on the trail; between calls, those that the
+    // last analysis met. It has room for all variables.
     met: Vec<u32>,
 }
 
 impl Model for Analyzer {
-    ghost use Rattle.std.specs.Prelude.{ℕ, ◌<◌, ◌≤◌, length, All, vec_capacity};
-    ghost use Rattle.analyze.specs.Marks.{IsClear};
+    ghost use Rattle.std.specs.Prelude.{ℕ, length, vec_capacity};
+    ghost use Rattle.analyze.specs.Met.{IsAtRest};
 
     ghost Value = { ℕ };
 
     ghost view = { λ a. length a.marks.items };
 
-    ghost invariant = { λ a. IsClear a.marks.items × (length a.marks.items ≤ vec_capacity a.met) × All (λ v. (0 < v) × (v < length a.marks.items)) a.met.items };
+    ghost invariant = { λ a. IsAtRest a.marks.items a.met.items (vec_capacity a.met) };
 }
 
 impl Analyzer {
@@ -68,9 +71,9 @@ impl Analyzer {
         Ok(Analyzer { marks, met })
     }
 
-    /// Learns a clause from one that is false and has a literal of the current level. Beside the clause and its hints it
-    /// takes no memory. Its time is that of the clauses that it reads and of the trail back to the asserting literal, and
-    /// of a sort of the variables that it meets.
+    /// Learns a clause from one that is false and has a literal of the current level. Beside the
+    /// clause and its hints it takes no memory. Its time is that of the clauses that it reads and
+    /// of the trail back to the asserting literal, and of a sort of the variables that it meets.
     ///
     /// # Errors
     ///
@@ -83,11 +86,14 @@ impl Analyzer {
     ) -> Result<Learned, AllocError>
         requires fits { Fits engine.now store.now.slots }
         requires live { IsLive store.now.slots conflict }
-        requires falsified { IfSome (clause_at store.now.slots conflict) (IsConflict engine.now.trail) }
+        requires falsified { IfSome (clause_at store.now.slots conflict)
+            (IsConflict engine.now.trail) }
         requires deep { 0 < depth_of engine.now.trail }
         requires room { engine.now.variables < self.old }
-        ensures asserting { IfOk result (λ learned. IsAsserting engine.now.trail learned.lits.items learned.back_level) }
-        ensures hints { IfOk result (λ learned. IsRefutedBy store.now.slots engine.now.trail learned.lits.items learned.hints.items) }
+        ensures asserting { IfOk result (λ learned.
+            IsAsserting engine.now.trail learned.lits.items learned.back_level) }
+        ensures hints { IfOk result (λ learned. IsRefutedBy store.now.slots engine.now.trail
+            learned.lits.items learned.hints.items) }
         ensures same { self.new ≡ self.old }
     {
         self.met.clear();
@@ -122,8 +128,10 @@ pub fn analyze(engine: &Engine, store: &Store, conflict: CRef) -> Result<Learned
     requires live { IsLive store.now.slots conflict }
     requires falsified { IfSome (clause_at store.now.slots conflict) (IsConflict engine.now.trail) }
     requires deep { 0 < depth_of engine.now.trail }
-    ensures asserting { IfOk result (λ learned. IsAsserting engine.now.trail learned.lits.items learned.back_level) }
-    ensures hints { IfOk result (λ learned. IsRefutedBy store.now.slots engine.now.trail learned.lits.items learned.hints.items) }
+    ensures asserting { IfOk result (λ learned.
+        IsAsserting engine.now.trail learned.lits.items learned.back_level) }
+    ensures hints { IfOk result (λ learned. IsRefutedBy store.now.slots engine.now.trail
+        learned.lits.items learned.hints.items) }
 {
     let mut analyzer = Analyzer::new(store.allocator(), engine.variables())?;
     analyzer.analyze(engine, store, conflict)
@@ -146,8 +154,10 @@ fn learn(
     requires clear { IsClear marks.old }
     requires none { met.old.items ≡ [] }
     requires spare { length marks.old ≤ vec_capacity met.old }
-    ensures asserting { IfOk result (λ learned. IsAsserting engine.now.trail learned.lits.items learned.back_level) }
-    ensures hints { IfOk result (λ learned. IsRefutedBy store.now.slots engine.now.trail learned.lits.items learned.hints.items) }
+    ensures asserting { IfOk result (λ learned.
+        IsAsserting engine.now.trail learned.lits.items learned.back_level) }
+    ensures hints { IfOk result (λ learned. IsRefutedBy store.now.slots engine.now.trail
+        learned.lits.items learned.hints.items) }
     ensures listed { HasMet engine.now.trail marks.new met.new.items }
     ensures long { length marks.new ≡ length marks.old }
     ensures spare { length marks.old ≤ vec_capacity met.new }
