@@ -1,5 +1,7 @@
 pub mod Flat
 pub mod Lookup
+pub mod Places
+pub mod Quiet
 pub mod Reading
 pub mod Renaming
 pub mod Stored

@@ -1,5 +1,6 @@
 -- Clauses in one flat list of literals, each with a head that says where its literals lie.
-use Rattle.std.specs.Prelude.{◌≡◌, ℕ, ◌+◌, ◌<◌, ◌^◌, Bool, true, List, [], ◌∷◌, Option, Some, None, map, length, slice_range, if◌then◌else◌}
+use Rattle.std.specs.Prelude.{◌≡◌, ℕ, ◌+◌, ◌<◌, ◌^◌, Bool, true, List, [], ◌∷◌, Option, Some, None}
+use Rattle.std.specs.Prelude.{map, length, slice_range, if◌then◌else◌}
 use Rattle.std.specs.List.{AllByRecursion}
 use Rattle.wcnf.specs.Literal.{Literal}
 use Rattle.clauses.specs.declared.heads.Span.{Span}
@@ -17,12 +18,6 @@ head_of s live = record { start = s.start; length = s.length; live = live }
 abbrev pub span_of : Head → Span
 span_of h = record { start = h.start; length = h.length }
 
--- spans and flags, head by head
-abbrev pub heads_of : List Span → List Bool → List Head
-heads_of [] live = []
-heads_of (s ∷ spans) [] = []
-heads_of (s ∷ spans) (l ∷ live) = head_of s l ∷ heads_of spans live
-
 abbrev pub literals_of : List Literal → Head → List Literal
 literals_of literals h = slice_range literals h.start (h.start + h.length)
 
@@ -33,7 +28,10 @@ abbrev pub slots_of : List Literal → List Head → List (Option (List Literal)
 slots_of literals heads = map (slot_of literals) heads
 
 abbrev pub state_of : List Literal → List Head → StoreState
-state_of literals heads = record { slots = slots_of literals heads; used = length literals + length heads }
+state_of literals heads = record {
+  slots = slots_of literals heads;
+  used = length literals + length heads;
+}
 
 -- each clause lies where the one before it ends, from one place to another
 abbrev pub IsLaid : ℕ → List Head → ℕ → Type 0
@@ -43,7 +41,8 @@ IsLaid from (h ∷ hs) to = (h.start ≡ from) × IsLaid (from + h.length) hs to
 -- the live clauses
 abbrev pub clauses_in : List Literal → List Head → List (List Literal)
 clauses_in literals [] = []
-clauses_in literals (h ∷ hs) = if h.live then literals_of literals h ∷ clauses_in literals hs else clauses_in literals hs
+clauses_in literals (h ∷ hs) =
+    if h.live then literals_of literals h ∷ clauses_in literals hs else clauses_in literals hs
 
 abbrev pub AllLive : List Head → Type 0
 AllLive hs = AllByRecursion (λ h. h.live ≡ true) hs

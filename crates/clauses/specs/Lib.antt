@@ -1,4 +1,5 @@
 pub mod Slots
+pub mod Zipped
 pub mod Heads
 pub mod Vectors
 pub mod Packed

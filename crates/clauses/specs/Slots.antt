@@ -1,5 +1,6 @@
 -- A store of clauses: a clause for each live reference.
-use Rattle.std.specs.Prelude.{◌≡◌, ℕ, ◌+◌, ◌≤◌, List, [], ◌∷◌, map, Option, Some, None, slice_get, All, ◌==◌, if◌then◌else◌, sum_by, length}
+use Rattle.std.specs.Prelude.{◌≡◌, ℕ, ◌+◌, ◌≤◌, List, [], ◌∷◌, map, Option, Some, None, slice_get}
+use Rattle.std.specs.Prelude.{All, ◌==◌, if◌then◌else◌, sum_by, length}
 use Rattle.wcnf.specs.Literal.{Literal}
 use Rattle.wcnf.specs.Refute.{Clauses}
 
@@ -48,7 +49,8 @@ abbrev pub renamed : Renaming → ℕ → Option ℕ
 renamed [] r = None
 renamed (m ∷ ms) r = if m.0 == r then Some m.1 else renamed ms r
 
--- the moves that bring the live clauses together, where so many references and so many live ones came before
+-- the moves that bring the live clauses together, where so many references and so many live ones
+-- came before
 abbrev pub moves_from : ℕ → ℕ → Slots → Renaming
 moves_from old new [] = []
 moves_from old new (None ∷ slots) = moves_from (old + 1) new slots
@@ -57,7 +59,8 @@ moves_from old new (Some c ∷ slots) = (old, new) ∷ moves_from (old + 1) (new
 abbrev pub moves_of : Slots → Renaming
 moves_of slots = moves_from 0 0 slots
 
--- the moves list each live reference once, on both sides rising, keep the clauses, and raise no reference
+-- the moves list each live reference once, on both sides rising, keep the clauses, and raise no
+-- reference
 pub record IsRenaming (old new : Slots) (moves : Renaming) : Type 0 where
   pub from : map (λ m. m.0) moves ≡ live_places old
   pub to : map (λ m. m.1) moves ≡ live_places new

@@ -11,7 +11,8 @@ pub(crate) fn compact(heads: &mut Heads, literals: &mut Vec<Lit>)
     requires few { length literals.old.items < 2 ^ 32 }
     ensures laid { IsLaid 0 heads.new (length literals.new.items) }
     ensures live { AllLive heads.new }
-    ensures clauses { clauses_in literals.new.items heads.new ≡ clauses_in literals.old.items heads.old }
+    ensures clauses { clauses_in literals.new.items heads.new
+        ≡ clauses_in literals.old.items heads.old }
     ensures fewer_heads { length heads.new ≤ length heads.old }
     ensures fewer_literals { length literals.new.items ≤ length literals.old.items }
 {

@@ -1,11 +1,13 @@
 //! Where the literals of each clause lie, and which clauses are still there.
-ghost use Rattle.std.specs.Prelude.{◌≡◌, ℕ, ◌<◌, true, false, List, [], ◌∷◌, ◌++◌, Some, map, length, take, slice_get, slice_set, IsTrue, ◌↔◌, OnErr, IfOk};
+ghost use Rattle.std.specs.Prelude.{◌≡◌, ℕ, ◌<◌, true, false, List, [], ◌∷◌, ◌++◌, Some, map, length};
+ghost use Rattle.std.specs.Prelude.{take, slice_get, slice_set, IsTrue, ◌↔◌, OnErr, IfOk};
 ghost use Rattle.clauses.specs.Heads.{Head, head_of, span_of};
 
 use std::alloc::{AllocError, Global};
 use std::marker::Model;
 
-/// Where the literals of a clause lie among all literals: the place of the first, and how many there are.
+/// Where the literals of a clause lie among all literals: the place of the first, and how many there
+/// are.
 #[derive(Clone, Copy, Debug, PartialEq, Eq, Drop)]
 pub(crate) struct Span {
     pub(crate) start: u32,
@@ -14,8 +16,8 @@ pub(crate) struct Span {
 
 const _: () = prove!(size_of::<Span>() == 8);
 
-/// A head for each clause: its span, and whether it is live. The spans have a vector of their own, since reading a clause
-/// needs no more.
+/// A head for each clause: its span, and whether it is live. The spans have a vector of their own,
+/// since reading a clause needs no more.
 #[derive(Drop)]
 pub(crate) struct Heads {
     spans: Vec<Span>,
@@ -24,13 +26,14 @@ pub(crate) struct Heads {
 
 impl Model for Heads {
     ghost use Rattle.std.specs.Prelude.{◌≡◌, List, length};
-    ghost use Rattle.clauses.specs.Heads.{Head, heads_of};
+    ghost use Rattle.clauses.specs.Heads.{Head, head_of};
+    ghost use Rattle.clauses.specs.Zipped.{zipped};
 
     ghost Value = { List Head };
 
-    ghost view = { λ h. heads_of h.spans.items h.live.items };
+    ghost view = { λ h. zipped head_of h.spans.items h.live.items };
 
-    ghost invariant = { λ h. length h.spans.items ≡ length h.live.items };
+    ghost invariant = { λ h. length h.live.items ≡ length h.spans.items };
 }
 
 impl Heads {
@@ -97,7 +100,8 @@ impl Heads {
     /// Makes the head at this place dead.
     pub(crate) fn kill(&mut self, at: usize)
         requires { at < length self.old }
-        ensures { (h : Head) → slice_get self.old at ≡ Some h → self.new ≡ slice_set self.old at (record h { live = false }) }
+        ensures { (h : Head) → slice_get self.old at ≡ Some h
+            → self.new ≡ slice_set self.old at (record h { live = false }) }
     {
         self.live[at] = false;
     }

@@ -4,3 +4,4 @@
 mod compaction;
 mod heads;
 pub mod store;
+pub mod words;

@@ -1,22 +1,27 @@
-//! The store of clauses: literals in one flat vector, a head for each clause in another. References stay valid until a
-//! compaction moves the live clauses together and tells where each went.
-ghost use Rattle.std.specs.Prelude.{◌≡◌, ℕ, ◌+◌, ◌-◌, ◌<◌, ◌≤◌, ◌^◌, All, List, [], ◌∷◌, ◌++◌, Some, None, map, length, slice_set, IsTrue, ◌↔◌, OnErr, IfOk, IfSome};
+//! The store of clauses: literals in one flat vector, a head for each clause in another. References
+//! stay valid until a compaction moves the live clauses together and tells where each went.
+ghost use Rattle.std.specs.Prelude.{◌≡◌, ℕ, ◌+◌, ◌-◌, ◌<◌, ◌≤◌, ◌^◌, All, List, [], ◌∷◌, ◌++◌};
+ghost use Rattle.std.specs.Prelude.{Some, None, map, length, slice_set, IsTrue, ◌↔◌, OnErr};
+ghost use Rattle.std.specs.Prelude.{IfOk, IfSome};
 ghost use Rattle.std.specs.List.Sorted.{IsStrictlyIncreasing};
 ghost use Rattle.wcnf.specs.Literal.{Literal};
 ghost use Rattle.clauses.specs.Heads.{slots_of};
-ghost use Rattle.clauses.specs.Slots.{IsLive, clause_at, live_clauses, moves_of, room_of, renamed, IsRenaming};
+ghost use Rattle.clauses.specs.Slots.{IsLive, clause_at, live_clauses, moves_of, room_of, renamed};
+ghost use Rattle.clauses.specs.Slots.{IsRenaming};
 
 use crate::compaction::compact;
 use crate::heads::{Heads, Span};
+use crate::words::MaybeWord;
 use std::alloc::{AllocError, Global};
 use std::marker::Model;
 use wcnf::types::Lit;
 
-/// A store has at most so many references and literals; what would go beyond counts as a refused growth.
+/// A store has at most so many references and literals; what would go beyond counts as a refused
+/// growth.
 const MOST: usize = 4_294_967_295;
 
-/// Names a clause of a store: its place among all that were added, counted from 0, where a compaction closes the gaps of
-/// those that were deleted. It takes four bytes.
+/// Names a clause of a store: its place among all that were added, counted from 0, where a
+/// compaction closes the gaps of those that were deleted. It takes four bytes.
 #[derive(Clone, Copy, Debug, PartialEq, Eq, Drop)]
 pub struct CRef {
     place: u32,
@@ -43,11 +48,11 @@ impl CRef {
     }
 }
 
-/// A reference or none, in four bytes, as a table needs that has one for each variable.
+/// A reference or none, in four bytes.
 #[derive(Clone, Copy, Debug, PartialEq, Eq, Drop)]
 pub struct MaybeCRef {
-    // the place, or NONE
-    word: u32,
+    // the place, where there is one
+    word: MaybeWord,
 }
 
 impl Model for MaybeCRef {
@@ -55,47 +60,38 @@ impl Model for MaybeCRef {
 
     ghost Value = { Option ℕ };
 
-    ghost use Rattle.clauses.specs.Packed.{place_in, word_of, word_of-place_in};
+    ghost view = { λ m. m.word };
 
-    ghost view = { place_in };
-
-    ghost inverse = { word_of };
-
-    ghost inverse_ok = { λ m _. word_of-place_in m };
+    ghost inverse = { λ v. record { word = v } };
 }
 
 const _: () = prove!(size_of::<MaybeCRef>() == 4);
-
-// No clause has this place.
-const NONE: u32 = u32::MAX;
 
 impl MaybeCRef {
     /// The reference, or none, packed.
     pub fn new(reference: Option<CRef>) -> Self
         ensures { result ≡ reference }
     {
-        MaybeCRef {
-            word: match reference {
-                Some(reference) => reference.place,
-                None => NONE,
-            },
-        }
+        let word = match reference {
+            Some(reference) => MaybeWord::new(Some(reference.place)),
+            None => MaybeWord::new(None),
+        };
+        MaybeCRef { word }
     }
 
     /// The reference, where there is one.
     pub fn get(self) -> Option<CRef>
         ensures { result ≡ self }
     {
-        if self.word == NONE {
-            None
-        } else {
-            Some(CRef { place: self.word })
+        match self.word.get() {
+            Some(place) => Some(CRef { place }),
+            None => None,
         }
     }
 }
 
-/// A map from references to clauses, which are lists of literals; one region of memory holds them all, as in MiniSat
-/// (Eén and Sörensson 2003).
+/// A map from references to clauses, which are lists of literals; one region of memory holds them
+/// all, as in MiniSat (Eén and Sörensson 2003).
 #[derive(Drop)]
 pub struct Store {
     literals: Vec<Lit>,
@@ -129,12 +125,14 @@ impl Store {
     ///
     /// # Errors
     ///
-    /// `AllocError` where a growth was refused; one past 2^32 - 1 references or literals always is. The store is then
-    /// unchanged.
+    /// `AllocError` where a growth was refused; one past 2^32 - 1 references or literals always is.
+    /// The store is then unchanged.
     pub fn add(&mut self, lits: &[Lit]) -> Result<CRef, AllocError>
         ensures reference { IfOk result (λ r. r ≡ length self.old.slots) }
-        ensures ok { IfOk result (λ _. self.new
-            ≡ record { slots = self.old.slots ++ Some lits.now ∷ []; used = self.old.used + (length lits.now + 1) }) }
+        ensures ok { IfOk result (λ _. self.new ≡ record {
+          slots = self.old.slots ++ Some lits.now ∷ [];
+          used = self.old.used + (length lits.now + 1);
+        }) }
         ensures err { OnErr result (self.new ≡ self.old) }
     {
         let start = self.literals.len();
@@ -208,14 +206,16 @@ impl Store {
         self.literals.len() + self.heads.len()
     }
 
-    /// Moves the live clauses together, in place, each to a new reference that is not above its old one, and keeps their order.
+    /// Moves the live clauses together, in place, each to a new reference that is not above its old
+    /// one, and keeps their order.
     ///
     /// # Errors
     ///
     /// `AllocError` where the list of moves found no room. The store is then unchanged.
     pub fn compact(&mut self) -> Result<Moves, AllocError>
         ensures moves { IfOk result (λ moves. IsRenaming self.old.slots self.new.slots moves) }
-        ensures together { IfOk result (λ _. self.new.slots ≡ map Some (live_clauses self.old.slots)) }
+        ensures together { IfOk result (λ _. self.new.slots
+            ≡ map Some (live_clauses self.old.slots)) }
         ensures used { IfOk result (λ _. self.new.used ≡ room_of (live_clauses self.new.slots)) }
         ensures err { OnErr result (self.new ≡ self.old) }
     {
@@ -233,7 +233,8 @@ impl Store {
 // The old and the new reference of each live clause.
 fn pairs_of(alloc: Global, heads: &Heads) -> Result<Vec<(CRef, CRef)>, AllocError>
     requires { length heads.now < 2 ^ 32 }
-    ensures { IfOk result (λ pairs. (literals : List Literal) → pairs.items ≡ moves_of (slots_of literals heads.now)) }
+    ensures { IfOk result (λ pairs. (literals : List Literal)
+        → pairs.items ≡ moves_of (slots_of literals heads.now)) }
 {
     let mut pairs = Vec::new(alloc);
     for old in 0..heads.len() {
@@ -256,7 +257,9 @@ impl Model for Moves {
 
     ghost view = { λ m. m.pairs.items };
 
-    ghost invariant = { λ m. IsStrictlyIncreasing (map (λ p. p.0) m.pairs.items) × IsStrictlyIncreasing (map (λ p. p.1) m.pairs.items) × All (λ p. p.1 ≤ p.0) m.pairs.items };
+    ghost invariant = { λ m. IsStrictlyIncreasing (map (λ p. p.0) m.pairs.items)
+        × IsStrictlyIncreasing (map (λ p. p.1) m.pairs.items)
+        × All (λ p. p.1 ≤ p.0) m.pairs.items };
 }
 
 impl Moves {

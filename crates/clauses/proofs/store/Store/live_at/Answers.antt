@@ -1,7 +1,6 @@
 -- A live head has a clause, and no other place has one.
-use Rattle.std.proofs.Common.{◌≡◌, ◌≤◌, ◌<◌, ◌^◌, true, false, sym, ◌∙◌, refl, arith, length, None, Some}
+use Rattle.std.proofs.Common.{sym, ◌∙◌, refl, arith}
 use Rattle.std.proofs.lemmas.Bool.{true≢false}
-use Rattle.clauses.specs.Slots.{IsLive, clause_at}
 use Rattle.clauses.proofs.Stored.{live_by_flag, live_within, none_live}
 use Rattle.clauses.proofs.store.Store.live_at.Goals as goal
 use Rattle.clauses.proofs.store.Store.live_at.Goals.{else-place-lt-MOST-via-then-place-lt-MOST+else-is_live, else-place-lt-MOST-via-else-place-lt-MOST}
