@@ -13,10 +13,11 @@ use Rattle.lrat_log.specs.declared.lines.Kind.{Kind}
 use Rattle.lrat_log.specs.declared.lines.Hint.TheVariants.{Plain}
 use Rattle.lrat_log.specs.Log.{LogLine, Given, is_delete, id_of, leading_ids, group_ids}
 use Rattle.lrat_log.specs.Steps.{IsBaseOf, log_live}
-use Rattle.eliminate.specs.Work.{IsRupLine}
+use Rattle.names.specs.Work.{IsRupLine}
 use Rattle.eliminate.specs.Resolvents.{resolvent}
 use Rattle.eliminate.proofs.Resolve.{literal_eq-self, filter-contains, contains-either, AreParents, resolvent_refutes}
 use Rattle.eliminate.proofs.Falsified.{has_repeat-filter, AreFalseByUnits, unit_refutes, empty_refutes}
+pub use Rattle.pairs.proofs.Literals.{greatest-filter, member-small}
 
 has_repeat-append : (c d : List Literal) → has_repeat c ≡ false → has_repeat d ≡ false → ((k : Literal) → contains_literal k d ≡ true → contains_literal k c ≡ false) → has_repeat (c ++ d) ≡ false
 has_repeat-append [] d rc rd apart = rd
@@ -36,15 +37,6 @@ resolvent-no_repeat p c d rc rd =
     (has_repeat-filter (λ k. not (literal_eq p k)) c rc)
     (has_repeat-filter (λ k. not (contains_literal k a)) (without_literal (negation p) d) (has_repeat-filter (λ k. not (literal_eq (negation p) k)) d rd))
     (λ k e. not-true (contains_literal k a) (filter-contains (λ k. not (contains_literal k a)) k (without_literal (negation p) d) e).1)
-
-pub greatest-filter : (q : Literal → Bool) (c : List Literal) → greatest_variable (filter q c) ≤ greatest_variable c
-greatest-filter q [] = omega arith
-greatest-filter q (k ∷ c) =
-    let h = greatest-filter q c in
-    elim (q k) as (λ b. greatest_variable (if b then k ∷ filter q c else filter q c) ≤ greatest_variable (k ∷ c)) [
-      | true ↦ omega arith
-      | false ↦ omega arith
-    ]
 
 greatest-append : (c d : List Literal) (n : ℕ) → greatest_variable c ≤ n → greatest_variable d ≤ n → greatest_variable (c ++ d) ≤ n
 greatest-append [] d n a b = b
@@ -81,14 +73,6 @@ plain_ids base f (k ∷ ks) m = ap (λ x. id_of base (f k) ∷ x) (plain_ids bas
 no_groups : (base : ℕ) (f : Literal → Name) (ks : List Literal) (m : Name) → group_ids base (map (λ k. Plain (f k)) ks ++ Plain m ∷ []) ≡ []
 no_groups base f [] m = refl
 no_groups base f (k ∷ ks) m = no_groups base f ks m
-
-pub member-small : (l : Literal) (c : List Literal) → contains_literal l c ≡ true → l.variable ≤ greatest_variable c
-member-small l [] e = absurd (false≢true e)
-member-small l (k ∷ c) e =
-    elim (or_cases (literal_eq l k) (contains_literal l c) e) [
-      | inl h ↦ subst (λ (x : Literal). x.variable ≤ greatest_variable (k ∷ c)) (sym (literal_eq-true l k h)) (let m : k.variable ≤ max k.variable (greatest_variable c) = omega arith in m)
-      | inr h ↦ omega (arith, member-small l c h)
-    ]
 
 -- the line of a unit: the names of the unit clauses that make the others false, and then the clause's
 pub unit_line : (given : Given) (ls : List LogLine) (kind : Kind) (n : ℕ) (l : Literal) (c : List Literal) (unit_name : Literal → Name) (name : Name) → is_delete kind ≡ false → n < 2 ^ 27 → IsFormulaClause n c

@@ -11,7 +11,7 @@ use Rattle.subsume.specs.Marks.{IsMarked, mark_of}
 use Rattle.eliminate.specs.Resolvents.{resolvent, unmarked_rest, is_opposed}
 use Rattle.eliminate.proofs.Resolve.{negation_twice, literal_eq-self, contains-filter, filter-contains, contains-left, contains-right, contains-either, not-opposite}
 use Rattle.eliminate.proofs.Falsified.{has_opposites-filter, literal_eq-sides}
-use Rattle.eliminate.proofs.Definitions.{any_member}
+use Rattle.pairs.proofs.Literals.{any_member}
 use Rattle.subsume.proofs.Marking.{at_contains}
 
 -- what holds of each literal holds of one

@@ -10,11 +10,11 @@ use Rattle.clauses.specs.Slots.{Slots, clause_at, IsLive}
 use Rattle.lrat_log.specs.declared.lines.Name.{Name}
 use Rattle.lrat_log.specs.Log.{LogLine, Given}
 use Rattle.lrat_log.specs.Steps.{AddsNoEmptyClause}
-use Rattle.eliminate.specs.Work.{additions, name_at, delete_line, IsWork}
+use Rattle.names.specs.Work.{additions, name_at, delete_line, IsWork}
 use Rattle.eliminate.specs.Rows.{AreRows}
 use Rattle.eliminate.specs.Variables.{LeavesOut, KeepsWork, KeepsLog}
-use Rattle.eliminate.proofs.Moving.{work_deleted, open_deleted}
-use Rattle.eliminate.proofs.Naming.{slot_deleted, slot_kept, additions-push}
+use Rattle.names.proofs.Moving.{work_deleted, open_deleted}
+use Rattle.names.proofs.Naming.{slot_deleted, slot_kept, additions-push}
 
 pub leaves_all : (slots : Slots) → LeavesOut [] slots slots
 leaves_all slots = record {

@@ -16,7 +16,7 @@ use Rattle.lrat_log.specs.declared.lines.Name.{Name}
 use Rattle.lrat_log.specs.declared.lines.Hint.{Hint}
 use Rattle.lrat_log.specs.declared.lines.Hint.TheVariants.{Plain}
 use Rattle.lrat_log.specs.Log.{LogLine, IsLine, IsPlain, name_of, number_in}
-use Rattle.eliminate.specs.Work.{name_at, delete_line}
+use Rattle.names.specs.Work.{name_at, delete_line}
 use Rattle.eliminate.specs.declared.simplifier.Simplifier.{Simplifier}
 use Rattle.eliminate.specs.Elimination.{Removed, IsFree, IsRemovedWithin, positive, is_needed, becomes_true, extended, is_eliminated, SatisfiesAll}
 use Rattle.eliminate.specs.Resolvents.{resolvent}

@@ -1,55 +1,69 @@
 -- From the tables of all passes to what the pairs need of them, and to what is left at the end.
-use Rattle.std.proofs.Common.{◌≡◌, ℕ, ◌+◌, ◌≤◌, ◌^◌, Bool, false, List, length, ap, arith}
-use Rattle.std.specs.Prelude.{Result, Ok, Err, IfOk, OnErr}
+use Rattle.std.proofs.Common.{◌≡◌, ℕ, ◌+◌, ◌<◌, ◌≤◌, ◌^◌, ◌==◌, Bool, false, List, [], ◌∷◌, length, refl, ap, arith}
+use Rattle.std.specs.Prelude.{Result, Ok, Err, IfOk, OnErr, All}
+use Rattle.std.proofs.lemmas.Bool.{or_from, ne_eqb}
+use Rattle.std.proofs.lemmas.List.Elements.{All-head, All-tail, All-weaker}
 use Rattle.wcnf.specs.Literal.{Literal}
-use Rattle.clauses.specs.Slots.{Slots}
+use Rattle.wcnf.specs.Bits.{assignment_of}
+use Rattle.clauses.specs.Slots.{Slots, live_clauses}
 use Rattle.lrat_log.specs.Log.{LogLine}
+use Rattle.lrat_log.specs.Steps.{given_of}
+use Rattle.names.specs.Work.{NamesState}
+use Rattle.pairs.specs.Pairs.{Stage, Ground, IsStage, Keeps, KeepsLog, stage_of}
 use Rattle.eliminate.specs.declared.simplifier.Simplifier.{Simplifier}
-use Rattle.eliminate.specs.Elimination.{Removed}
+use Rattle.eliminate.specs.Elimination.{Removed, is_eliminated, IsRemovedWithin}
+use Rattle.eliminate.specs.Ending.{IsResult}
 use Rattle.eliminate.specs.State.{Start}
-use Rattle.eliminate.specs.Work.{NamesState}
 use Rattle.eliminate.specs.Variables.{LeavesLogOver}
-use Rattle.eliminate.specs.Simplifier.{IsSimplified, IsLogOf}
-use Rattle.eliminate.specs.Pairs.{Stage, IsStage, IsOpenLog, IsResult, Keeps, KeepsLog}
-use Rattle.eliminate.proofs.Defining.{stage_of}
+use Rattle.eliminate.specs.Simplifier.{IsSimplified}
+
+-- a variable above all that were eliminated is none of these
+none_above : (v z : ℕ) (removed : List Removed) → v < z → All (IsRemovedWithin v) removed → is_eliminated removed z ≡ false
+none_above v z [] above within = refl
+none_above v z (r ∷ removed) above within =
+    let w = All-head (IsRemovedWithin v) r removed within in
+    or_from (r.variable == z) (is_eliminated removed z) (ne_eqb r.variable z (λ e. omega (arith, w.1))) (none_above v z removed above (All-tail (IsRemovedWithin v) r removed within))
+
+-- the pairs keep what the store held before them, and bring no eliminated variable back
+abbrev ground_of : Start → Simplifier → Slots → Ground
+ground_of start s slots = record { first = length start.frozen; given = given_of start.clauses; clauses = live_clauses slots; is_gone = is_eliminated s.removals }
 
 -- where the log is open, the tables are a stage
-pub open_stage : (start : Start) (s : Simplifier) (slots : Slots) (lines : List LogLine) → IsSimplified start s slots lines → s.is_refuted ≡ false → IsStage start s.removals (stage_of s.vars slots s.names lines)
+open_stage : (start : Start) (s : Simplifier) (slots : Slots) (lines : List LogLine) → IsSimplified start s slots lines → s.is_refuted ≡ false → IsStage (ground_of start s slots) (stage_of s.vars slots s.names lines)
 open_stage start s slots lines h running = record {
   more = h.given;
   work = h.state.work;
   going = h.going running;
-  back = h.state.back;
-  within = h.state.within;
+  back = λ t all. all;
+  above = λ v over. none_above s.vars v s.removals over h.state.within;
   free = h.state.free;
-  not_frozen = h.state.not_frozen;
 }
 
 -- and with the fresh variables
-pub stage_result : (start : Start) (removed : List Removed) (s : Stage) → IsStage start removed s → s.variables ≤ length start.frozen + 2 ^ 20 → IsResult start removed s
-stage_result start removed s k fresh = record {
+stage_result : (start : Start) (s : Simplifier) (slots : Slots) (lines : List LogLine) (t : Stage) → IsSimplified start s slots lines → s.vars ≤ t.variables → IsStage (ground_of start s slots) t
+    → t.variables ≤ length start.frozen + 2 ^ 20 → IsResult start s.removals t
+stage_result start s slots lines t h more k fresh = record {
   more = k.more;
   fresh = fresh;
   work = k.work;
-  back = k.back;
-  within = k.within;
+  back = λ bits few all. h.state.back bits (omega arith) (k.back (assignment_of bits) all);
+  within = All-weaker (IsRemovedWithin s.vars) (IsRemovedWithin t.variables) (λ r w. (w.0, omega (arith, w.1))) s.removals h.state.within;
   free = k.free;
-  not_frozen = k.not_frozen;
+  not_frozen = h.state.not_frozen;
 }
-
-pub open_log_of : (start : Start) (lines : List LogLine) → IsOpenLog start lines → IsLogOf start lines
-open_log_of start lines h = (h.steps, h.none_learned)
 
 -- where the pairs were done
 pub ended : {E : Type 0} (r : Result ℕ E) (frozen : List Bool) (s : Simplifier) (slots slots' : Slots) (n' : NamesState) (lines lines' : List LogLine) → s.is_refuted ≡ false
-    → IfOk r (λ v. v ≤ length frozen + 2 ^ 20) → IfOk r (λ v. Keeps (stage_of s.vars slots s.names lines) (stage_of v slots' n' lines'))
+    → IfOk r (λ v. s.vars ≤ v) → IfOk r (λ v. v ≤ length frozen + 2 ^ 20) → IfOk r (λ v. Keeps (stage_of s.vars slots s.names lines) (stage_of v slots' n' lines'))
     → IfOk r (λ v. (start : Start) → start.frozen ≡ frozen → IsSimplified start s slots lines → IsResult start s.removals (stage_of v slots' n' lines'))
-ended (Ok v) frozen s slots slots' n' lines lines' running most keeps = λ start is h.
+ended (Ok v) frozen s slots slots' n' lines lines' running more most keeps = λ start is h.
     let same : length start.frozen ≡ length frozen = ap length is in
-    stage_result start s.removals (stage_of v slots' n' lines') (keeps start s.removals (open_stage start s slots lines h running)) (omega arith)
-ended (Err x) frozen s slots slots' n' lines lines' running most keeps = tt
+    stage_result start s slots lines (stage_of v slots' n' lines') h more (keeps (ground_of start s slots) (open_stage start s slots lines h running)) (omega arith)
+ended (Err x) frozen s slots slots' n' lines lines' running more most keeps = tt
 
 pub refused : {T E : Type 0} (r : Result T E) (frozen : List Bool) (s : Simplifier) (slots : Slots) (lines lines' : List LogLine) → s.is_refuted ≡ false
     → OnErr r (KeepsLog (stage_of s.vars slots s.names lines) lines') → OnErr r (LeavesLogOver frozen s slots lines lines')
 refused (Ok v) frozen s slots lines lines' running k = tt
-refused (Err e) frozen s slots lines lines' running k = λ start is h. open_log_of start lines' (k start s.removals (open_stage start s slots lines h running))
+refused (Err e) frozen s slots lines lines' running k = λ start is h.
+    let log = k (ground_of start s slots) (open_stage start s slots lines h running) in
+    (log.steps, log.none_learned)

@@ -11,7 +11,7 @@ use Rattle.eliminate.specs.Resolvents.{resolvent}
 use Rattle.eliminate.specs.Simplifier.{Grows}
 use Rattle.eliminate.specs.Variables.{IsWith, AreThoseWith, LacksBoth, GrowsWithout, IsResolvedIn, IsPairResolved, ArePairsResolved}
 use Rattle.eliminate.proofs.Deleting.{take_next}
-use Rattle.eliminate.proofs.Naming.{slot_before, slot_pushed, slot_last}
+use Rattle.names.proofs.Naming.{slot_before, slot_pushed, slot_last}
 use Rattle.eliminate.proofs.Resolve.{resolvent-open, resolvent-open_not, not-opposite, not-opposite_too}
 
 pub resolvent-lacks : (p : Literal) (c d : List Literal) → has_opposites c ≡ false → has_opposites d ≡ false → contains_literal p c ≡ true → contains_literal (negation p) d ≡ true → LacksBoth p (resolvent p c d)

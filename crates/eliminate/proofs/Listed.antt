@@ -14,7 +14,7 @@ use Rattle.lrat_log.specs.declared.lines.Name.{Name}
 use Rattle.lrat_log.specs.declared.lines.Name.TheVariants.{Formula}
 use Rattle.lrat_log.specs.Log.{id_of, number_in}
 use Rattle.eliminate.specs.Elimination.{HoldsWhatIsLive, listed_names}
-use Rattle.eliminate.specs.Work.{name_at, AreLiveAs}
+use Rattle.names.specs.Work.{name_at, AreLiveAs}
 use Rattle.eliminate.proofs.UnitLines.{name_id}
 
 -- the next place has a clause

@@ -11,7 +11,7 @@ use Rattle.clauses.specs.Slots.{Slots, clause_at, IsLive}
 use Rattle.eliminate.specs.Rows.{row_at, with_row, with_entry, with_clause_rows, is_some, has_clause, AreRows}
 use Rattle.subsume.specs.Marks.{HasPlace}
 use Rattle.subsume.proofs.Marking.{place_within, same_place}
-use Rattle.eliminate.proofs.Naming.{slot_pushed, slot_within, slot_deleted}
+use Rattle.names.proofs.Naming.{slot_pushed, slot_within, slot_deleted}
 use Rattle.eliminate.proofs.Resolve.{literal_eq-self}
 
 -- the row that is written, and what stands in it afterwards

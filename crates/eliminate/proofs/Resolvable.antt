@@ -21,11 +21,11 @@ use Rattle.eliminate.specs.declared.simplifier.Simplifier.{Simplifier}
 use Rattle.eliminate.specs.Elimination.{is_eliminated}
 use Rattle.eliminate.specs.Resolvents.{resolvent}
 use Rattle.eliminate.specs.State.{Start}
-use Rattle.eliminate.specs.Work.{name_at}
+use Rattle.names.specs.Work.{name_at}
 use Rattle.eliminate.specs.Simplifier.{IsSimplified, IsSimplifier, IsAddableLine}
 use Rattle.eliminate.proofs.Adding.{resolvent_line, resolvent-no_repeat, resolvent-small}
 use Rattle.eliminate.proofs.Eliminating.{number_at}
-use Rattle.eliminate.proofs.Naming.{slot_within, slot_last}
+use Rattle.names.proofs.Naming.{slot_within, slot_last}
 use Rattle.eliminate.proofs.States.{places_of}
 
 -- what holds of the literals of both parents holds of the resolvent's

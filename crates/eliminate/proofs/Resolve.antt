@@ -8,54 +8,14 @@ use Rattle.wcnf.specs.Clause.{contains_literal, without_literal, has_opposites}
 use Rattle.wcnf.specs.Refute.{IsUnit, IsFalseUnder, Clauses, Refutes}
 use Rattle.eliminate.specs.Resolvents.{resolvent}
 use Rattle.wcnf.proofs.Sound.{literal_eq-true}
-
-same_bool-not : (a b : Bool) → same_bool (not a) (not b) ≡ same_bool a b
-same_bool-not true true = refl
-same_bool-not true false = refl
-same_bool-not false true = refl
-same_bool-not false false = refl
+pub use Rattle.pairs.proofs.Literals.{not_not, negation_twice, literal_eq-negation, contains-negations, Covers, covered_unit, contains_same, contains-filter, filter-contains, each_literal, without-contains, not-without, not-opposite}
 
 same_bool-self : (a : Bool) → same_bool a a ≡ true
 same_bool-self true = refl
 same_bool-self false = refl
 
-pub not_not : (a : Bool) → not (not a) ≡ a
-not_not true = refl
-not_not false = refl
-
-pub negation_twice : (l : Literal) → negation (negation l) ≡ l
-negation_twice l = λ i. record { variable = l.variable; negated = not_not l.negated i }
-
 pub literal_eq-self : (l : Literal) → literal_eq l l ≡ true
 literal_eq-self l = simp (eq-eqb l.variable l.variable refl, same_bool-self)
-
-pub literal_eq-negation : (k l : Literal) → literal_eq (negation k) (negation l) ≡ literal_eq k l
-literal_eq-negation k l = ap (λ b. (k.variable == l.variable) && b) (same_bool-not k.negated l.negated)
-
--- a literal's negation is among the negations just where the literal is in the clause
-pub contains-negations : (k : Literal) (c : List Literal) → contains_literal (negation k) (map negation c) ≡ contains_literal k c
-contains-negations k [] = refl
-contains-negations k (l ∷ c) = rw (literal_eq-negation, contains-negations k c)
-
-pub contains-twice : (k : Literal) (c : List Literal) → contains_literal k (map negation c) ≡ contains_literal (negation k) c
-contains-twice k c = ap (λ x. contains_literal x (map negation c)) (sym (negation_twice k)) ∙ contains-negations (negation k) c
-
--- each literal of c but p is in r
-abbrev pub Covers : Literal → List Literal → List Literal → Type 0
-Covers p r c = AllByRecursion (λ k. (k ≡ p) ⊎ (contains_literal k r ≡ true)) c
-
-covered_others : (p : Literal) (r c : List Literal) → Covers p r c → AllByRecursion (λ k. (k ≡ p) ⊎ (contains_literal (negation k) (map negation r) ≡ true)) c
-covered_others p r [] h = tt
-covered_others p r (k ∷ c) h = (elim h.0 [ inl e ↦ inl e | inr e ↦ inr (contains-negations k r ∙ e) ], covered_others p r c h.1)
-
--- a clause with p is unit with p where the rest is false
-pub covered_unit : (p : Literal) (r c : List Literal) → contains_literal p c ≡ true → Covers p r c → contains_literal p r ≡ false → contains_literal (negation p) r ≡ false → IsUnit c (map negation r) p
-covered_unit p r c member covers apart apart_not = record {
-  member = member;
-  not_true = contains-twice p r ∙ apart_not;
-  not_false = contains-negations p r ∙ apart;
-  others = covered_others p r c covers;
-}
 
 covered_false : (p : Literal) (r d : List Literal) → Covers (negation p) r d → IsFalseUnder d (p ∷ map negation r)
 covered_false p r [] h = tt
@@ -83,33 +43,6 @@ two_refute at p r c d i j first second member covers_c covers_d apart apart_not 
   conflict = covered_false p r d covers_d;
 }
 
-contains_same : (k l : Literal) (c : List Literal) → k ≡ l → contains_literal k c ≡ contains_literal l c
-contains_same k l c e = ap (λ x. contains_literal x c) e
-
--- what passes a test stays in the list
-pub contains-filter : (q : Literal → Bool) (k : Literal) (c : List Literal) → contains_literal k c ≡ true → q k ≡ true → contains_literal k (filter q c) ≡ true
-contains-filter q k [] e t = e
-contains-filter q k (l ∷ c) e t =
-    elim (or_cases (literal_eq k l) (contains_literal k c) e) [
-      | inl h ↦ rw (sym (ap q (literal_eq-true k l h)) ∙ t) (or_left (literal_eq k l) (contains_literal k (filter q c)) h)
-      | inr h ↦ elim (q l) as (λ b. contains_literal k (if b then l ∷ filter q c else filter q c) ≡ true) [
-        | true ↦ or_right (literal_eq k l) (contains_literal k (filter q c)) (contains-filter q k c h t)
-        | false ↦ contains-filter q k c h t
-      ]
-    ]
-
--- and what is in it was in the list, and passes
-pub filter-contains : (q : Literal → Bool) (k : Literal) (c : List Literal) → contains_literal k (filter q c) ≡ true → (contains_literal k c ≡ true) × (q k ≡ true)
-filter-contains q k [] e = absurd (false≢true e)
-filter-contains q k (l ∷ c) e =
-    elim (q l) as (λ b. q l ≡ b → contains_literal k (if b then l ∷ filter q c else filter q c) ≡ true → (contains_literal k (l ∷ c) ≡ true) × (q k ≡ true)) [
-      | true ↦ λ t h. elim (or_cases (literal_eq k l) (contains_literal k (filter q c)) h) [
-        | inl same ↦ (or_left (literal_eq k l) (contains_literal k c) same, ap q (literal_eq-true k l same) ∙ t)
-        | inr more ↦ let m = filter-contains q k c more in (or_right (literal_eq k l) (contains_literal k c) m.0, m.1)
-      ]
-      | false ↦ λ t h. let m = filter-contains q k c h in (or_right (literal_eq k l) (contains_literal k c) m.0, m.1)
-    ] refl e
-
 pub contains-left : (k : Literal) (c d : List Literal) → contains_literal k c ≡ true → contains_literal k (c ++ d) ≡ true
 contains-left k [] d e = absurd (false≢true e)
 contains-left k (l ∷ c) d e =
@@ -132,23 +65,6 @@ contains-either k (l ∷ c) d e =
         | inr m ↦ inr m
       ]
     ]
-
--- each literal of c is p or has the test
-pub each_literal : (P : Literal → Type 0) (c : List Literal) → ((k : Literal) → contains_literal k c ≡ true → P k) → AllByRecursion P c
-each_literal P [] f = tt
-each_literal P (k ∷ c) f =
-    (f k (or_left (literal_eq k k) (contains_literal k c) (literal_eq-self k)), each_literal P c (λ l h. f l (or_right (literal_eq l k) (contains_literal l c) h)))
-
-pub without-contains : (p k : Literal) (c : List Literal) → contains_literal k c ≡ true → (k ≡ p) ⊎ (contains_literal k (without_literal p c) ≡ true)
-without-contains p k c e =
-    elim (literal_eq p k) as (λ b. literal_eq p k ≡ b → (k ≡ p) ⊎ (contains_literal k (without_literal p c) ≡ true)) [
-      | true ↦ λ h. inl (sym (literal_eq-true p k h))
-      | false ↦ λ h. inr (contains-filter (λ l. not (literal_eq p l)) k c e (ap not h))
-    ] refl
-
-pub not-without : (p : Literal) (c : List Literal) → contains_literal p (without_literal p c) ≡ false
-not-without p c = false_from_ne_true (contains_literal p (without_literal p c)) (λ e.
-    both_ways (literal_eq p p) (sym (not_not (literal_eq p p)) ∙ ap not (filter-contains (λ l. not (literal_eq p l)) p c e).1) (literal_eq-self p))
 
 pub resolvent-covers_left : (p : Literal) (c d : List Literal) → Covers p (resolvent p c d) c
 resolvent-covers_left p c d = each_literal (λ k. (k ≡ p) ⊎ (contains_literal k (resolvent p c d) ≡ true)) c (λ k e.
@@ -178,26 +94,6 @@ resolvent-parts p k c d e =
     elim (contains-either k (without_literal p c) _ e) [
       | inl h ↦ inl h
       | inr h ↦ inr (filter-contains (λ k. not (contains_literal k (without_literal p c))) k (without_literal (negation p) d) h).0
-    ]
-
-literal_eq-other : (l : Literal) → literal_eq (negation l) l ≡ false
-literal_eq-other l = false_from_ne_true (literal_eq (negation l) l) (λ e. other l.negated (and_parts (l.variable == l.variable) (same_bool (not l.negated) l.negated) e).1)
-  where
-    other : (b : Bool) → same_bool (not b) b ≡ true → ⊥
-    other true e = false≢true e
-    other false e = false≢true e
-
--- a clause without opposites that has a literal has not its negation
-pub not-opposite : (p : Literal) (c : List Literal) → has_opposites c ≡ false → contains_literal p c ≡ true → contains_literal (negation p) c ≡ false
-not-opposite p [] o e = refl
-not-opposite p (k ∷ c) o e =
-    let h = or_parts (contains_literal (negation k) c) (has_opposites c) o in
-    elim (or_cases (literal_eq p k) (contains_literal p c) e) [
-      | inl same ↦ subst (λ x. contains_literal (negation x) (k ∷ c) ≡ false) (sym (literal_eq-true p k same)) (or_from (literal_eq (negation k) k) (contains_literal (negation k) c) (literal_eq-other k) h.0)
-      | inr more ↦ or_from (literal_eq (negation p) k) (contains_literal (negation p) c)
-          (false_from_ne_true (literal_eq (negation p) k) (λ x. both_ways (contains_literal (negation k) c) h.0
-          (contains_same (negation k) p c (ap negation (sym (literal_eq-true (negation p) k x)) ∙ negation_twice p) ∙ more)))
-          (not-opposite p c h.1 more)
     ]
 
 pub resolvent-open : (p : Literal) (c d : List Literal) → contains_literal p d ≡ false → contains_literal p (resolvent p c d) ≡ false

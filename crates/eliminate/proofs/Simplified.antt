@@ -12,12 +12,12 @@ use Rattle.lrat_log.specs.Steps.{is_empty_clause, adds_empty_clause, AddsNoEmpty
 use Rattle.subsume.specs.Marks.{HasPlace}
 use Rattle.eliminate.specs.declared.simplifier.Simplifier.{Simplifier}
 use Rattle.eliminate.specs.Elimination.{Removed}
-use Rattle.eliminate.specs.Work.{NamesState, additions, name_at, added_line, delete_line}
+use Rattle.names.specs.Work.{NamesState, additions, name_at, added_line, delete_line}
 use Rattle.eliminate.specs.Rows.{with_clause_rows}
 use Rattle.eliminate.specs.State.{Start, IsState}
 use Rattle.eliminate.specs.Simplifier.{IsSimplified, IsAddableLine, IsLogOf}
-use Rattle.eliminate.proofs.Moving.{open_added, open_deleted}
-use Rattle.eliminate.proofs.Naming.{additions-push, slot_last}
+use Rattle.names.proofs.Moving.{open_added, open_deleted}
+use Rattle.names.proofs.Naming.{additions-push, slot_last}
 use Rattle.eliminate.proofs.States.{state_added, state_subsumed, contains_live, places_of}
 
 no_empty : (b e : Bool) → e ≡ false → (b && e) ≡ false

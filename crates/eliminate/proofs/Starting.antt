@@ -19,9 +19,9 @@ use Rattle.eliminate.specs.declared.simplifier.Simplifier.{Simplifier}
 use Rattle.eliminate.specs.Elimination.{Removed, IsFree, IsRemovedWithin}
 use Rattle.eliminate.specs.State.{Start, IsState}
 use Rattle.eliminate.specs.Simplifier.{IsSimplified}
-use Rattle.eliminate.specs.Work.{NamesState, name_at, formula_names, AreLiveAs, IsNamed, IsWork}
+use Rattle.names.specs.Work.{NamesState, name_at, formula_names, AreLiveAs, IsNamed, IsWork}
 use Rattle.eliminate.specs.Rows.{row_at, AreRows}
-use Rattle.eliminate.proofs.Naming.{slot_within}
+use Rattle.names.proofs.Naming.{slot_within}
 use Rattle.eliminate.proofs.States.{live_all}
 
 abbrev given_from : ℕ → Slots → Given

@@ -16,29 +16,14 @@ use Rattle.lrat_log.specs.Steps.{given_of, AddsNoEmptyClause, IsOwnGroup}
 use Rattle.subsume.specs.Marks.{HasPlace}
 use Rattle.eliminate.specs.Elimination.{Removed, is_eliminated, positive, IsRemovedWithin, IsFree}
 use Rattle.eliminate.specs.Resolvents.{resolvent}
-use Rattle.eliminate.specs.Work.{additions, name_at, added_line, delete_line, IsWork, IsRupLine}
+use Rattle.names.specs.Work.{additions, name_at, added_line, delete_line, IsWork, IsRupLine}
 use Rattle.eliminate.specs.Rows.{with_clause_rows, AreRows}
 use Rattle.eliminate.specs.State.{Start, IsState, AreFree, GivesBack}
 use Rattle.eliminate.proofs.Back.{Entails, IsKept, HaveVariable, negative, extends_weaker, extends_eliminated, resolve_to, entails_subsumed, entails_member}
-use Rattle.eliminate.proofs.Moving.{work_added, work_deleted}
-use Rattle.eliminate.proofs.Naming.{slot_pushed, slot_before, slot_deleted, slot_kept}
+use Rattle.names.proofs.Moving.{work_added, work_deleted}
+use Rattle.names.proofs.Naming.{slot_pushed, slot_before, slot_deleted, slot_kept}
 use Rattle.eliminate.proofs.Occurring.{rows_added, rows_deleted, rows-length}
-
--- what holds of each clause of the store holds of the live ones in order, and back
-pub all_live : (P : List Literal → Type 0) (slots : Slots) → ((r : ℕ) (c : List Literal) → clause_at slots r ≡ Some c → P c) → All P (live_clauses slots)
-all_live P [] h = All-nil P
-all_live P (None ∷ slots) h = all_live P slots (λ r c e. h (suc r) c e)
-all_live P (Some c ∷ slots) h = All-cons P c (live_clauses slots) (h 0 c refl) (all_live P slots (λ r d e. h (suc r) d e))
-
-pub live_all : (P : List Literal → Type 0) (slots : Slots) → All P (live_clauses slots) → (r : ℕ) (c : List Literal) → clause_at slots r ≡ Some c → P c
-live_all P [] all r c e = absurd (none-some c e)
-live_all P (None ∷ slots) all zero c e = absurd (none-some c e)
-live_all P (None ∷ slots) all (suc r) c e = live_all P slots all r c e
-live_all P (Some d ∷ slots) all zero c e = subst P (same_Some d c e) (All-head P d (live_clauses slots) all)
-live_all P (Some d ∷ slots) all (suc r) c e = live_all P slots (All-tail P d (live_clauses slots) all) r c e
-
-pub contains_live : (slots : Slots) (r : ℕ) (c : List Literal) → clause_at slots r ≡ Some c → Contains (live_clauses slots) c
-contains_live slots r c e = live_all (Contains (live_clauses slots)) slots (λ k d lt. Contains-get_or (live_clauses slots) k d lt) r c e
+pub use Rattle.pairs.proofs.LiveClauses.{all_live, live_all, contains_live}
 
 place_of : (n : ℕ) (l : Literal) → 0 < l.variable → l.variable ≤ n → HasPlace (2 * n) l
 place_of n l some few = (some, omega arith)

@@ -5,7 +5,7 @@ use Rattle.lrat_log.specs.Log.{LogLine}
 use Rattle.eliminate.specs.declared.simplifier.Simplifier.{Simplifier}
 use Rattle.eliminate.specs.Rows.{AreRows}
 use Rattle.eliminate.specs.State.{Start, IsState}
-use Rattle.eliminate.specs.Work.{NamesState}
+use Rattle.names.specs.Work.{NamesState}
 use Rattle.eliminate.specs.Simplifier.{IsSimplified, StaysSimplified}
 
 -- the same but for the rows, and for what proofs don't speak of

@@ -23,7 +23,7 @@ use Rattle.subsume.specs.Marks.{mark_of}
 use Rattle.eliminate.specs.declared.simplifier.Simplifier.{Simplifier}
 use Rattle.eliminate.specs.declared.units.Units.{Units}
 use Rattle.eliminate.specs.Elimination.{is_eliminated}
-use Rattle.eliminate.specs.Work.{name_at, IsRupLine}
+use Rattle.names.specs.Work.{name_at, IsRupLine}
 use Rattle.eliminate.specs.State.{Start}
 use Rattle.eliminate.specs.Simplifier.{IsSimplified, IsAddableLine}
 use Rattle.eliminate.specs.Units.{AreUnits, unit_of, unit_name, falsified_in, unit_hints}

@@ -11,6 +11,7 @@ use Rattle.clauses.specs.Slots.{Slots, clause_at, live_places}
 use Rattle.lrat_log.specs.declared.lines.Name.{Name}
 use Rattle.lrat_log.specs.declared.lines.Name.TheVariants.{Formula}
 use Rattle.lrat_log.specs.Log.{id_of, number_in}
+pub use Rattle.pairs.specs.Pairs.{positive}
 
 -- a variable and the clauses that were removed with it
 pub record Removed : Type 0 where
@@ -26,9 +27,6 @@ pub record StackState : Type 0 where
   pub variables : ℕ
   pub removed : List Removed
   pub names : List (ℕ × Name)
-
-abbrev pub positive : ℕ → Literal
-positive v = record { variable = v; negated = false }
 
 -- the clause has the literal, and is otherwise false
 abbrev pub is_needed : Assignment → Literal → List Literal → Bool

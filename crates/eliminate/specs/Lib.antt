@@ -1,6 +1,6 @@
 pub mod Elimination
+pub mod Ending
 pub mod Flat
-pub mod Pairs
 pub mod Resolvents
 pub mod Rows
 pub mod Simplifier
@@ -9,4 +9,3 @@ pub mod Subsuming
 pub mod Units
 pub mod Variables
 pub mod Vectors
-pub mod Work

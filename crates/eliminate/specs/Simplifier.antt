@@ -10,7 +10,7 @@ use Rattle.lrat_log.specs.Steps.{given_of, StaysLogOver, AddsNoEmptyClause, lear
 use Rattle.lrat_log.specs.Steps.{IsOwnGroup}
 use Rattle.eliminate.specs.declared.simplifier.Simplifier.{Simplifier}
 use Rattle.eliminate.specs.Elimination.{is_eliminated}
-use Rattle.eliminate.specs.Work.{additions, IsRupLine}
+use Rattle.names.specs.Work.{additions, IsRupLine}
 use Rattle.eliminate.specs.State.{Start, IsState}
 
 -- the store and the tables are a simplified form of the formula at the start

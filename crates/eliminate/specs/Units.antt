@@ -14,7 +14,7 @@ use Rattle.eliminate.specs.declared.units.Units.{Units}
 use Rattle.eliminate.specs.declared.units.Status.{Status}
 use Rattle.eliminate.specs.declared.units.Status.TheVariants.{Settled, Unit, Falsified}
 use Rattle.eliminate.specs.Simplifier.{Grows}
-use Rattle.eliminate.specs.Work.{name_at}
+use Rattle.names.specs.Work.{name_at}
 
 -- with the literals of A true, the clause is neither false nor unit
 abbrev pub IsSettled : List Literal → List Literal → Type 0

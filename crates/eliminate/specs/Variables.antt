@@ -11,7 +11,7 @@ use Rattle.eliminate.specs.declared.simplifier.Simplifier.{Simplifier}
 use Rattle.eliminate.specs.Resolvents.{resolvent}
 use Rattle.eliminate.specs.State.{Start}
 use Rattle.eliminate.specs.Simplifier.{IsSimplified, IsLogOf, Grows}
-use Rattle.eliminate.specs.Work.{IsWork}
+use Rattle.names.specs.Work.{IsWork}
 
 -- a simplified form of some formula, of which these variables are frozen
 abbrev pub IsSimplifierOver : List Bool → Simplifier → Slots → List LogLine → Type 0

@@ -10,7 +10,6 @@ ghost use Rattle.eliminate.specs.Elimination.{extended, is_eliminated, IsFree, A
 ghost use Rattle.eliminate.specs.Elimination.{ExtendsBack, HoldsWhatIsLive, listed_names};
 
 use crate::ending::define_where_open;
-use crate::names::Names;
 use crate::rounds::simplify;
 use crate::simplifier::Simplifier;
 use crate::stack::Removals;
@@ -18,6 +17,7 @@ use crate::units::propagate_units;
 use clauses::store::{CRef, Store};
 use lrat_log::lines::Name;
 use lrat_log::sink::Sink;
+use names::names::Names;
 use std::alloc::AllocError;
 use std::marker::Model;
 use wcnf::types::Lit;

@@ -3,12 +3,13 @@ ghost use Rattle.std.specs.Prelude.{◌≡◌, ◌+◌, ◌≤◌, ◌^◌, true
 ghost use Rattle.eliminate.specs.State.{Start};
 ghost use Rattle.eliminate.specs.Simplifier.{IsSimplified};
 ghost use Rattle.eliminate.specs.Variables.{IsSimplifierOver, LeavesLogOver};
-ghost use Rattle.eliminate.specs.Pairs.{IsResult};
+ghost use Rattle.pairs.specs.Pairs.{stage_of};
+ghost use Rattle.eliminate.specs.Ending.{IsResult};
 
-use crate::pairs::define_pairs;
 use crate::simplifier::Simplifier;
 use clauses::store::Store;
 use lrat_log::sink::Sink;
+use pairs::pairs::define_pairs;
 use std::alloc::AllocError;
 
 /// At most so many variables are fresh.
@@ -27,12 +28,8 @@ pub(crate) fn define_where_open<S: Sink>(
         (S.lines sink.old) }
     ensures result { IfOk result (λ v. (start : Start) → start.frozen ≡ frozen.now
         → IsSimplified start simplifier.old store.old.slots (S.lines sink.old)
-        → IsResult start simplifier.new.removals (record {
-          variables = v;
-          slots = store.new.slots;
-          names = simplifier.new.names.names;
-          lines = S.lines sink.new;
-        })) }
+        → IsResult start simplifier.new.removals
+        (stage_of v store.new.slots simplifier.new.names (S.lines sink.new))) }
     ensures same { OnOk result (simplifier.old.is_refuted ≡ true
         → store.new.slots ≡ store.old.slots) }
     ensures err { OnErr result (LeavesLogOver frozen.now simplifier.old store.old.slots

@@ -4,9 +4,6 @@
 mod bins;
 pub mod elimination;
 mod ending;
-mod names;
-mod pair_table;
-mod pairs;
 mod resolving;
 mod rounds;
 mod rows;

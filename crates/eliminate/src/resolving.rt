@@ -11,13 +11,13 @@ ghost use Rattle.lrat_log.specs.Steps.{is_empty_clause};
 ghost use Rattle.eliminate.specs.Resolvents.{resolvent, unmarked_rest, is_opposed};
 ghost use Rattle.eliminate.specs.Simplifier.{IsSimplifier, StaysSimplified, LeavesLog};
 ghost use Rattle.eliminate.specs.Variables.{IsWith, GrowsWithout, IsPairResolved};
-ghost use Rattle.eliminate.specs.Work.{name_at};
+ghost use Rattle.names.specs.Work.{name_at};
 
-use crate::names::Names;
 use crate::simplifier::Simplifier;
 use clauses::store::{CRef, Store};
 use lrat_log::lines::{Hint, Kind};
 use lrat_log::sink::Sink;
+use names::names::Names;
 use std::alloc::{AllocError, Global};
 use subsume::marks::Marks;
 use wcnf::types::Lit;

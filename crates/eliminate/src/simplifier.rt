@@ -12,13 +12,13 @@ ghost use Rattle.eliminate.specs.Simplifier.{IsSimplified, IsSimplifier, StaysSi
 ghost use Rattle.eliminate.specs.Simplifier.{LeavesLog, IsAddableLine};
 
 use crate::bins::Bins;
-use crate::names::{Names, add, delete};
 use crate::rows::Rows;
 use crate::schedule::Schedule;
 use crate::stack::Removals;
 use clauses::store::{CRef, Store};
 use lrat_log::lines::{Hint, Kind};
 use lrat_log::sink::Sink;
+use names::names::{Names, add, delete};
 use std::alloc::{AllocError, Global};
 use subsume::marks::Marks;
 use wcnf::types::Lit;

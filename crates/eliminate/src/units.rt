@@ -10,16 +10,16 @@ ghost use Rattle.wcnf.specs.Clause.{contains_literal};
 ghost use Rattle.wcnf.specs.Refute.{IsUnit, IsFalseUnder, IsRefutedByHints};
 ghost use Rattle.clauses.specs.Slots.{IsLive, clause_at, live_clauses};
 ghost use Rattle.subsume.specs.Marks.{HasPlace};
-ghost use Rattle.eliminate.specs.Work.{AreClauses};
+ghost use Rattle.names.specs.Work.{AreClauses};
 ghost use Rattle.eliminate.specs.Simplifier.{IsSimplifier, StaysSimplified, LeavesLog, Grows};
 ghost use Rattle.eliminate.specs.Units.{HasStatus, IsSettled, AreUnits, AreSettled, unit_hints};
 ghost use Rattle.eliminate.specs.Units.{open_count, MakesTrue};
 
-use crate::names::Names;
 use crate::simplifier::Simplifier;
 use clauses::store::{CRef, MaybeCRef, Store};
 use lrat_log::lines::{Hint, Kind};
 use lrat_log::sink::Sink;
+use names::names::Names;
 use std::alloc::{AllocError, Global};
 use subsume::marks::Marks;
 use wcnf::types::Lit;

@@ -4,9 +4,9 @@ use Rattle.std.proofs.lemmas.List.{take_all}
 use Rattle.clauses.specs.Slots.{Slots, clause_at}
 use Rattle.lrat_log.specs.declared.lines.Name.{Name}
 use Rattle.eliminate.specs.Elimination.{listed_names}
-use Rattle.eliminate.specs.Work.{name_at}
+use Rattle.names.specs.Work.{name_at}
 use Rattle.eliminate.proofs.Listed.{listed_some, listed_none}
-use Rattle.eliminate.proofs.Naming.{slot_within}
+use Rattle.names.proofs.Naming.{slot_within}
 use Rattle.eliminate.proofs.elimination.listed.Goals as goal
 use Rattle.eliminate.proofs.elimination.listed.Goals.{in-Some+in_ok-push-in-Some, in-None}
 

@@ -1,7 +1,7 @@
 -- A refused growth leaves the pieces.
 use Rattle.std.proofs.Common.{[]}
 use Rattle.eliminate.specs.Flat.{AddsClauses}
-use Rattle.eliminate.proofs.Refusals.{when_err}
+use Rattle.names.proofs.Refusals.{when_err}
 use Rattle.eliminate.proofs.StackPieces.{adds_none, adds_longer}
 use Rattle.eliminate.proofs.stack.keep.Goals as goal
 

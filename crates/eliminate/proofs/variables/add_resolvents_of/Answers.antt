@@ -8,7 +8,7 @@ use Rattle.lrat_log.specs.Log.{LogLine}
 use Rattle.eliminate.specs.Simplifier.{LeavesLog}
 use Rattle.eliminate.specs.Variables.{IsWith, IsPairResolved}
 use Rattle.eliminate.proofs.Growing.{with_later, grows_join, next_pair}
-use Rattle.eliminate.proofs.Refusals.{when_err}
+use Rattle.names.proofs.Refusals.{when_err}
 use Rattle.eliminate.proofs.variables.add_resolvents_of.Goals as goal
 
 pub add_resolvent-requires-clause-second : goal.add_resolvent-requires-clause-second

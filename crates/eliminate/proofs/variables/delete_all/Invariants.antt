@@ -1,6 +1,6 @@
 -- The clauses so far were deleted.
 use Rattle.std.proofs.Common.{◌≡◌, length, take}
-use Rattle.eliminate.specs.Work.{additions}
+use Rattle.names.specs.Work.{additions}
 use Rattle.eliminate.specs.Variables.{LeavesOut, KeepsWork}
 use Rattle.eliminate.proofs.variables.delete_all.Given as goal
 

@@ -7,14 +7,14 @@ use Rattle.lrat_log.specs.Log.{LogLine}
 use Rattle.lrat_log.specs.Steps.{is_empty_clause}
 use Rattle.subsume.specs.Marks.{HasPlace}
 use Rattle.eliminate.specs.declared.simplifier.Simplifier.{Simplifier}
-use Rattle.eliminate.specs.Work.{additions, added_line}
+use Rattle.names.specs.Work.{additions, added_line}
 use Rattle.eliminate.specs.Rows.{with_clause_rows}
 use Rattle.eliminate.specs.State.{Start}
 use Rattle.eliminate.specs.Simplifier.{IsSimplified, IsLogOf, LeavesLog}
-use Rattle.eliminate.proofs.Naming.{additions_few}
+use Rattle.names.proofs.Naming.{additions_few}
 use Rattle.eliminate.proofs.Simplified.{simplified_added, clause_places, log_of}
 use Rattle.eliminate.proofs.simplifier.Simplifier.add.Goals as goal
-use Rattle.eliminate.proofs.Refusals.{when_err}
+use Rattle.names.proofs.Refusals.{when_err}
 
 pub add-requires-2 : goal.add-requires-2
 add-requires-2 g c =

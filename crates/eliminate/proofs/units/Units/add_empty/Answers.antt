@@ -6,12 +6,12 @@ use Rattle.lrat_log.specs.declared.lines.Hint.{Hint}
 use Rattle.lrat_log.specs.declared.lines.Kind.TheVariants.{Empty}
 use Rattle.lrat_log.specs.Log.{LogLine}
 use Rattle.eliminate.specs.declared.simplifier.Simplifier.{Simplifier}
-use Rattle.eliminate.specs.Work.{AreClauses}
+use Rattle.names.specs.Work.{AreClauses}
 use Rattle.eliminate.specs.Simplifier.{IsSimplified, IsAddableLine, LeavesLog}
 use Rattle.eliminate.proofs.Tables.{simplified_same}
 use Rattle.eliminate.proofs.UnitLines.{empty_addable}
 use Rattle.eliminate.proofs.units.Units.add_empty.Goals as goal
-use Rattle.eliminate.proofs.Refusals.{when_err}
+use Rattle.names.proofs.Refusals.{when_err}
 
 pub hints-requires-clause-clauses : goal.hints-requires-clause-clauses
 hints-requires-clause-clauses g c = subst (λ n. AreClauses n c.args.store.now.slots) (sym c.requires.fits) c.requires.simplified.1.state.work.clauses

@@ -5,7 +5,7 @@ use Rattle.eliminate.specs.Simplifier.{LeavesLog}
 use Rattle.eliminate.specs.Units.{open_count}
 use Rattle.eliminate.proofs.Assigned.{makes_nothing, makes_more}
 use Rattle.eliminate.proofs.units.Units.follow.Goals as goal
-use Rattle.eliminate.proofs.Refusals.{when_err}
+use Rattle.names.proofs.Refusals.{when_err}
 
 pub loop-visits-init : goal.loop-visits-init
 loop-visits-init g c = record {

@@ -3,7 +3,7 @@ use Rattle.std.proofs.Common.{◌≡◌, ◌*◌, ap, ◌∷◌, [], List, Some,
 use Rattle.wcnf.specs.Literal.{Literal}
 use Rattle.clauses.specs.Slots.{Slots}
 use Rattle.subsume.specs.Marks.{HasPlace}
-use Rattle.eliminate.specs.Work.{AreClauses}
+use Rattle.names.specs.Work.{AreClauses}
 use Rattle.eliminate.specs.Simplifier.{LeavesLog}
 use Rattle.eliminate.specs.Units.{AreUnits}
 use Rattle.eliminate.proofs.Assigned.{units_grown, makes_true_grown}
@@ -11,7 +11,7 @@ use Rattle.eliminate.proofs.Simplified.{log_of}
 use Rattle.eliminate.proofs.States.{places_of}
 use Rattle.eliminate.proofs.UnitLines.{all_at}
 use Rattle.eliminate.proofs.units.Units.meet.Goals as goal
-use Rattle.eliminate.proofs.Refusals.{when_err}
+use Rattle.names.proofs.Refusals.{when_err}
 
 pub status-requires-clause-clauses : goal.status-requires-clause-clauses
 status-requires-clause-clauses g c = subst (λ n. AreClauses n c.args.store.now.slots) (sym c.requires.fits) c.requires.simplified.1.state.work.clauses

@@ -7,10 +7,10 @@ use Rattle.eliminate.specs.declared.units.Units.{Units}
 use Rattle.eliminate.specs.Simplifier.{LeavesLog}
 use Rattle.eliminate.specs.Units.{IsSettled, open_count}
 use Rattle.eliminate.proofs.Assigned.{makes_nothing, makes_more}
-use Rattle.eliminate.proofs.Naming.{slot_within}
+use Rattle.names.proofs.Naming.{slot_within}
 use Rattle.eliminate.proofs.units.Units.sweep.Goals as goal
 use Rattle.eliminate.proofs.units.Units.sweep.Goals.{then-asked, else-asked}
-use Rattle.eliminate.proofs.Refusals.{when_err}
+use Rattle.names.proofs.Refusals.{when_err}
 
 pub loop-place-init : goal.loop-place-init
 loop-place-init g c = record {

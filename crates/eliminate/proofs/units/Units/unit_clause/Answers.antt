@@ -4,7 +4,7 @@ use Rattle.wcnf.specs.Literal.{Literal}
 use Rattle.clauses.specs.Slots.{Slots, clause_at}
 use Rattle.eliminate.specs.Simplifier.{Grows}
 use Rattle.eliminate.proofs.Assigned.{single}
-use Rattle.eliminate.proofs.Naming.{slot_before, slot_last}
+use Rattle.names.proofs.Naming.{slot_before, slot_last}
 use Rattle.eliminate.proofs.units.Units.unit_clause.Goals as goal
 
 pub returns-then-lits-eq1-clause-alone : goal.returns-then-lits-eq1-clause-alone

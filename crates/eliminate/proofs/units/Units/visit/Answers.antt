@@ -4,7 +4,7 @@ use Rattle.std.proofs.lemmas.Bool.{both_ways}
 use Rattle.eliminate.specs.Simplifier.{LeavesLog}
 use Rattle.eliminate.proofs.Assigned.{makes_nothing, makes_more}
 use Rattle.eliminate.proofs.units.Units.visit.Goals as goal
-use Rattle.eliminate.proofs.Refusals.{when_err}
+use Rattle.names.proofs.Refusals.{when_err}
 
 pub loop-at-init : goal.loop-at-init
 loop-at-init g c = record {

@@ -1,0 +1,5 @@
+//! The clauses of a store under the names that a log gives them: each clause that comes or goes
+//! does so with its line.
+#![tactic(auto)]
+
+pub mod names;

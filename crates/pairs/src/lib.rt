@@ -1,0 +1,5 @@
+//! Fresh variables for pairs of literals that stand together in many clauses.
+#![tactic(auto)]
+
+mod pair_table;
+pub mod pairs;
