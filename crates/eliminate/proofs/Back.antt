@@ -2,16 +2,16 @@
 use Rattle.std.proofs.Common.{◌≡◌, ℕ, zero, suc, Bool, true, false, not, ◌||◌, ◌&&◌, ◌+◌, ◌-◌, ◌<◌, ◌≤◌, List, [], ◌∷◌, ◌++◌, length, filter, ◌⊎◌, inl, inr, refl, sym, ◌∙◌, ap, subst, arith, get_or, set}
 use Rattle.std.specs.Prelude.{if◌then◌else◌, ◌==◌, All, Contains, slice_get, slice_set, unwrap_or}
 use Rattle.std.specs.List.{AllByRecursion, list_any}
-use Rattle.std.proofs.lemmas.Bool.{not-true, not-false, or_cases, or_parts, or_left, or_right, and_parts, and_cases, both_ways, cases_eq, eq-eqb, ne_eqb, false≢true, true≢false}
+use Rattle.std.proofs.lemmas.Bool.{not-true, not-false, or_cases, or_parts, or_left, or_right, and_parts, and_cases, both_ways, cases_eq, eq-eqb, ne_eqb, false≢true}
 use Rattle.std.proofs.lemmas.List.{length-set, get_or-set_same, get_or-set_other}
 use Rattle.std.proofs.lemmas.List.Elements.{All-nil, All-cons, All-contains, All-head, All-tail}
 use Rattle.std.proofs.lemmas.Option.{unwrap_or-slice_get}
 use Rattle.wcnf.specs.Literal.{Literal, Assignment, negation, literal_value, literal_eq}
 use Rattle.wcnf.specs.Clause.{Satisfies, clause_value, contains_literal, without_literal, has_opposites, is_subset}
 use Rattle.wcnf.specs.Bits.{assignment_of}
-use Rattle.wcnf.proofs.Sound.{literal_eq-true}
+use Rattle.wcnf.proofs.Sound.{literal_eq-true, negation-value}
 use Rattle.wcnf.proofs.Certificates.{made_true, made, clause_kept, rest_kept}
-use Rattle.eliminate.specs.Elimination.{Removed, StackState, positive, becomes_true, is_eliminated, extended, SatisfiesAll, ExtendsBack}
+use Rattle.eliminate.specs.Elimination.{Removed, positive, becomes_true, is_eliminated, extended, SatisfiesAll}
 use Rattle.eliminate.specs.State.{GivesBack}
 use Rattle.eliminate.specs.Resolvents.{resolvent}
 use Rattle.eliminate.proofs.Resolve.{not_not, each_literal, resolvent-parts}
@@ -31,15 +31,6 @@ has_true t p (k ∷ c) e h =
       | inl same ↦ or_left (literal_value t k) (clause_value t c) (subst (λ x. literal_value t x ≡ true) (literal_eq-true p k same) h)
       | inr more ↦ or_right (literal_value t k) (clause_value t c) (has_true t p c more h)
     ]
-
-negation-value_at : (v : Bool) (n : Bool) → (if n then not v else v) ≡ false → (if not n then not v else v) ≡ true
-negation-value_at true true e = refl
-negation-value_at true false e = absurd (true≢false e)
-negation-value_at false true e = absurd (true≢false e)
-negation-value_at false false e = refl
-
-negation-value : (t : Assignment) (l : Literal) → literal_value t l ≡ false → literal_value t (negation l) ≡ true
-negation-value t l e = negation-value_at (t l.variable) l.negated e
 
 -- a clause with an opposite pair is true
 pub opposites_true : (t : Assignment) (c : List Literal) → has_opposites c ≡ true → clause_value t c ≡ true
@@ -234,9 +225,6 @@ eliminations_back n [] before after e bits few all = λ k z lt. e k z lt (assign
 eliminations_back n (r ∷ rs) before after e bits few all =
     subst (λ (t : Assignment). SatisfiesAll t before) (sym (extended-value r rs bits e.2.from_one (omega (arith, e.1))))
     (elimination_back (assignment_of (extended rs bits)) r before e.0 e.2 (eliminations_back n rs e.0 after e.3 bits few all))
-
-pub extends_back : (stack : StackState) (before after : List (List Literal)) → GivesBack stack.variables stack.removed before after → ExtendsBack stack before after
-extends_back stack before after e bits same all = e bits (omega arith) all
 
 pub extends_weaker : (n : ℕ) (rs : List Removed) (before mid after : List (List Literal)) → GivesBack n rs before mid → All (Entails after) mid → GivesBack n rs before after
 extends_weaker n rs before mid after e weaker bits few all = e bits few (λ k z lt. weaker k z lt (assignment_of bits) all)

@@ -66,8 +66,9 @@ once_at (k ∷ c) (suc i) l r h is e =
       | inr more ↦ once_at c i l w.1 (omega arith) is more
     ]
 
-next : (c : List Literal) (i : ℕ) (l : Literal) → i < length c → l ≡ get_or c i l → take (i + 1) c ≡ take i c ++ l ∷ []
-next c i l h is = take_more c i l h ∙ ap (λ x. take i c ++ x ∷ []) (sym is)
+-- the literals up to one more
+pub take_next : (c : List Literal) (i : ℕ) (l : Literal) → i < length c → l ≡ get_or c i l → take (i + 1) c ≡ take i c ++ l ∷ []
+take_next c i l h is = take_more c i l h ∙ ap (λ x. take i c ++ x ∷ []) (sym is)
 
 -- no literal and its negation are both true
 pub consistent : (u : Units) (slots : Slots) (l : Literal) → AreUnits u slots → contains_literal l u.trail.items ≡ true → contains_literal (negation l) u.trail.items ≡ true → ⊥
@@ -120,18 +121,18 @@ HasStatusSoFar A c Falsified = IsFalseUnder c A
 pub status_false : (A c : List Literal) (i : ℕ) (k : Literal) (s : Status) → i < length c → k ≡ get_or c i k → contains_literal (negation k) A ≡ true
     → HasStatusSoFar A (take i c) s → HasStatusSoFar A (take (i + 1) c) s
 status_false A c i k Settled h is f so = so
-status_false A c i k (Unit l) h is f so = rw (next c i k h is) (record {
+status_false A c i k (Unit l) h is f so = rw (take_next c i k h is) (record {
   member = contains-before (take i c) l k so.member;
   not_true = so.not_true;
   not_false = so.not_false;
   others = all_pushed (λ x. (x ≡ l) ⊎ (contains_literal (negation x) A ≡ true)) (take i c) k so.others (inr f);
 })
-status_false A c i k Falsified h is f so = rw (next c i k h is) (all_pushed (λ x. contains_literal (negation x) A ≡ true) (take i c) k so f)
+status_false A c i k Falsified h is f so = rw (take_next c i k h is) (all_pushed (λ x. contains_literal (negation x) A ≡ true) (take i c) k so f)
 
 -- a first open one
 pub status_open : (A c : List Literal) (i : ℕ) (k : Literal) → i < length c → k ≡ get_or c i k → contains_literal k A ≡ false → contains_literal (negation k) A ≡ false
     → IsFalseUnder (take i c) A → IsUnit (take (i + 1) c) A k
-status_open A c i k h is t f so = rw (next c i k h is) (record {
+status_open A c i k h is t f so = rw (take_next c i k h is) (record {
   member = contains-last (take i c) k;
   not_true = t;
   not_false = f;

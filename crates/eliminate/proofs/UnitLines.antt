@@ -3,7 +3,7 @@ use Rattle.std.proofs.Common.{◌≡◌, ℕ, zero, suc, ◌+◌, ◌-◌, ◌*�
 use Rattle.std.specs.Prelude.{All, if◌then◌else◌, slice_index_or, unwrap_or}
 use Rattle.std.specs.List.{AllByRecursion}
 use Rattle.std.proofs.lemmas.Bool.{or_cases, or_left, or_right, both_ways, false≢true, cases_lt, false_from_ne_true}
-use Rattle.std.proofs.lemmas.List.{take_more, map-append, get_or_past, get_or_read}
+use Rattle.std.proofs.lemmas.List.{append-nil, map-append, get_or_past, get_or_read}
 use Rattle.std.proofs.lemmas.List.Elements.{All-nil, All-cons, All-head, All-tail, filter-append}
 use Rattle.wcnf.specs.Literal.{Literal, negation, literal_eq}
 use Rattle.wcnf.specs.Clause.{contains_literal, without_literal, greatest_variable}
@@ -30,14 +30,11 @@ use Rattle.eliminate.specs.Units.{AreUnits, unit_of, unit_name, falsified_in, un
 use Rattle.eliminate.proofs.Adding.{unit_line, empty_line}
 use Rattle.eliminate.proofs.Falsified.{AreFalseByUnits}
 use Rattle.eliminate.proofs.Resolve.{literal_eq-self, each_literal, filter-contains}
-use Rattle.eliminate.proofs.Statuses.{all_member}
+use Rattle.eliminate.proofs.Statuses.{all_member, take_next}
 
 -- the next literal of a clause is false, or not
 falsified-pushed : (u : Units) (c : List Literal) (l : Literal) → falsified_in u (c ++ l ∷ []) ≡ falsified_in u c ++ falsified_in u (l ∷ [])
 falsified-pushed u c l = filter-append (λ k. mark_of u.values (negation k)) c (l ∷ [])
-
-next : (c : List Literal) (i : ℕ) (l : Literal) → i < length c → l ≡ get_or c i l → take (i + 1) c ≡ take i c ++ l ∷ []
-next c i l h is = take_more c i l h ∙ ap (λ x. take i c ++ x ∷ []) (sym is)
 
 pub falsified_more : (u : Units) (names : List Name) (c : List Literal) (i : ℕ) (l : Literal) (hints more : List Hint) (n : Name) → i < length c → l ≡ get_or c i l → mark_of u.values (negation l) ≡ true
     → n ≡ unit_name u.clauses.items names l → hints ≡ map (λ k. Plain (unit_name u.clauses.items names k)) (falsified_in u (take i c)) → more ≡ hints ++ Plain n ∷ []
@@ -45,17 +42,13 @@ pub falsified_more : (u : Units) (names : List Name) (c : List Literal) (i : ℕ
 falsified_more u names c i l hints more n h is m e old new =
     let f : Literal → Hint = λ k. Plain (unit_name u.clauses.items names k) in
     let one : falsified_in u (l ∷ []) ≡ l ∷ [] = rw m refl in
-    let both : falsified_in u (take (i + 1) c) ≡ falsified_in u (take i c) ++ l ∷ [] = ap (falsified_in u) (next c i l h is) ∙ falsified-pushed u (take i c) l ∙ ap (λ xs. falsified_in u (take i c) ++ xs) one in
+    let both : falsified_in u (take (i + 1) c) ≡ falsified_in u (take i c) ++ l ∷ [] = ap (falsified_in u) (take_next c i l h is) ∙ falsified-pushed u (take i c) l ∙ ap (λ xs. falsified_in u (take i c) ++ xs) one in
     new ∙ ap (λ xs. xs ++ Plain n ∷ []) old ∙ ap (λ x. map f (falsified_in u (take i c)) ++ Plain x ∷ []) e ∙ sym (ap (map f) both ∙ map-append f (falsified_in u (take i c)) (l ∷ []))
 
 pub falsified_same : (u : Units) (c : List Literal) (i : ℕ) (l : Literal) → i < length c → l ≡ get_or c i l → mark_of u.values (negation l) ≡ false → falsified_in u (take i c) ≡ falsified_in u (take (i + 1) c)
 falsified_same u c i l h is m =
     let none : falsified_in u (l ∷ []) ≡ [] = rw m refl in
-    sym (ap (falsified_in u) (next c i l h is) ∙ falsified-pushed u (take i c) l ∙ ap (λ xs. falsified_in u (take i c) ++ xs) none ∙ append-none (falsified_in u (take i c)))
-  where
-    append-none : (xs : List Literal) → xs ++ [] ≡ xs
-    append-none [] = refl
-    append-none (x ∷ xs) = ap (λ ys. x ∷ ys) (append-none xs)
+    sym (ap (falsified_in u) (take_next c i l h is) ∙ falsified-pushed u (take i c) l ∙ ap (λ xs. falsified_in u (take i c) ++ xs) none ∙ append-nil (falsified_in u (take i c)))
 
 -- two tests that agree on the literals of a clause keep the same ones
 same_filter : (p q : Literal → Bool) (c : List Literal) → ((k : Literal) → contains_literal k c ≡ true → p k ≡ q k) → filter p c ≡ filter q c

@@ -132,42 +132,8 @@ impl Units {
         Ok(hints)
     }
 
-    /// Adds the clause of the one literal that is open in a clause.
-    fn add_unit<S: Sink>(
-        &self,
-        simplifier: &mut Simplifier,
-        store: &mut Store,
-        sink: &mut S,
-        reference: CRef,
-        lit: Lit,
-    ) -> Result<CRef, AllocError>
-        requires simplified { IsSimplifier simplifier.old store.old.slots (S.lines sink.old) }
-        requires going { simplifier.old.is_refuted ≡ false }
-        requires units { AreUnits self.now store.old.slots }
-        requires fits { length self.now.clauses.items ≡ simplifier.old.vars }
-        requires live { IsLive store.old.slots reference }
-        requires unit { (c : List Literal) → clause_at store.old.slots reference ≡ Some c
-            → IsUnit c self.now.trail.items lit }
-        ensures reference { IfOk result (λ r. r ≡ length store.old.slots) }
-        ensures slots { IfOk result (λ _.
-            store.new.slots ≡ store.old.slots ++ Some (lit ∷ []) ∷ []) }
-        ensures simplified { IfOk result (λ _.
-            StaysSimplified simplifier.old store.old.slots (S.lines sink.old)
-            simplifier.new store.new.slots (S.lines sink.new)) }
-        ensures going { IfOk result (λ _. (simplifier.new.is_refuted ≡ false)
-            × (simplifier.new.vars ≡ simplifier.old.vars)) }
-        ensures err { OnErr result (LeavesLog simplifier.old store.old.slots (S.lines sink.old)
-            (S.lines sink.new)) }
-    {
-        let hints = self.hints(&simplifier.names, store, reference)?;
-        simplifier.clause.clear();
-        simplifier.clause.push(lit)?;
-        let unit = simplifier.add(store, sink, Kind::Unit, hints)?;
-        Ok(unit)
-    }
-
     /// The clause of the one literal that is open in a clause: the clause itself, where it has no
-    /// other.
+    /// other, or one that is added.
     fn unit_clause<S: Sink>(
         &self,
         simplifier: &mut Simplifier,
@@ -196,7 +162,10 @@ impl Units {
         if store.lits(reference).len() == 1 {
             return Ok(reference);
         }
-        let unit = self.add_unit(simplifier, store, sink, reference, lit)?;
+        let hints = self.hints(&simplifier.names, store, reference)?;
+        simplifier.clause.clear();
+        simplifier.clause.push(lit)?;
+        let unit = simplifier.add(store, sink, Kind::Unit, hints)?;
         Ok(unit)
     }
 

@@ -1,11 +1,19 @@
--- The clause itself, or the one that is added.
+-- The clause itself, or one that is added: the literal that is open follows by the units.
 use Rattle.std.proofs.Common.{◌≡◌, ◌++◌, ◌∷◌, [], List, length, Some, refl, sym, ◌∙◌, ap, subst}
 use Rattle.wcnf.specs.Literal.{Literal}
 use Rattle.clauses.specs.Slots.{Slots, clause_at}
-use Rattle.eliminate.specs.Simplifier.{Grows}
+use Rattle.lrat_log.specs.declared.lines.Hint.{Hint}
+use Rattle.lrat_log.specs.declared.lines.Kind.TheVariants.{Unit}
+use Rattle.lrat_log.specs.Log.{LogLine}
+use Rattle.eliminate.specs.declared.simplifier.Simplifier.{Simplifier}
+use Rattle.names.specs.Work.{AreClauses}
+use Rattle.eliminate.specs.Simplifier.{Grows, IsSimplified, IsAddableLine, LeavesLog}
 use Rattle.eliminate.proofs.Assigned.{single}
 use Rattle.names.proofs.Naming.{slot_before, slot_last}
+use Rattle.eliminate.proofs.Tables.{simplified_same}
+use Rattle.eliminate.proofs.UnitLines.{unit_addable}
 use Rattle.eliminate.proofs.units.Units.unit_clause.Goals as goal
+use Rattle.names.proofs.Refusals.{when_err}
 
 pub returns-then-lits-eq1-clause-alone : goal.returns-then-lits-eq1-clause-alone
 returns-then-lits-eq1-clause-alone g c =
@@ -13,11 +21,39 @@ returns-then-lits-eq1-clause-alone g c =
     let unit = c.requires.unit d c.lits.ensures in
     c.lits.ensures ∙ ap Some (single d c.args.lit c.if-lits-eq1.true unit.member)
 
+pub hints-requires-clause-clauses : goal.hints-requires-clause-clauses
+hints-requires-clause-clauses g c = subst (λ n. AreClauses n c.args.store.now.slots) (sym c.requires.fits) c.requires.simplified.1.state.work.clauses
+
+pub add-requires-clause-line : goal.add-requires-clause-line
+add-requires-clause-line g c start h =
+    let s : Simplifier = record c.args.simplifier.now { clause = c.push.new.self } in
+    let slots : Slots = c.args.store.now.slots in
+    let ls : List LogLine = g.S.Sink.lines c.args.sink.now in
+    let d = c.requires.live.0 in
+    let at = c.requires.live.1 in
+    let r = c.args.reference in
+    let l : Literal = c.args.lit in
+    let line = unit_addable start s slots ls c.args.self.now h c.requires.units d r at l (c.requires.unit d at) in
+    let clause : c.push.new.self.items ≡ l ∷ [] = c.in_ok-push.ensures.items ∙ ap (λ (xs : List Literal). xs ++ l ∷ []) c.clear.ensures.items in
+    subst (λ (xs : List Literal). IsAddableLine start s ls (record { kind = Unit; clause = xs; hints = c.in_ok-hints.hints.items })) (sym clause)
+    (subst (λ (hs : List Hint). IsAddableLine start s ls (record { kind = Unit; clause = l ∷ []; hints = hs })) (sym (c.in_ok-hints.ensures d at)) line)
+
+pub returns-in_err-unit-clause-err : goal.returns-in_err-unit-clause-err
+returns-in_err-unit-clause-err g c =
+    let s : Simplifier = c.args.simplifier.now in
+    let t : Simplifier = record s { clause = c.push.new.self } in
+    let slots : Slots = c.args.store.now.slots in
+    let ls : List LogLine = g.S.Sink.lines c.args.sink.now in
+    let logs : LeavesLog s slots ls (g.S.Sink.lines c.add.new.sink) = (λ start h. c.in_err-unit.ensures.err start (simplified_same start s t slots ls (record { vars = refl; names = refl; places = refl; removals = refl; marks = refl; refuted = refl }) h.state.occurrences h)) in
+    when_err _ logs
+
 pub returns-clause-alone : goal.returns-clause-alone
 returns-clause-alone g c =
     let slots : Slots = c.args.store.now.slots in
-    let d : List Literal = c.args.lit ∷ [] in
-    ap (λ xs. clause_at xs c.in_ok-unit.unit) c.in_ok-unit.ensures.slots ∙ ap (clause_at (slots ++ Some d ∷ [])) c.in_ok-unit.ensures.reference ∙ slot_last slots d
+    let l : Literal = c.args.lit in
+    let clause : c.push.new.self.items ≡ l ∷ [] = c.in_ok-push.ensures.items ∙ ap (λ (xs : List Literal). xs ++ l ∷ []) c.clear.ensures.items in
+    ap (λ xs. clause_at xs c.in_ok-unit.unit) c.in_ok-unit.ensures.slots ∙ ap (clause_at (slots ++ Some c.push.new.self.items ∷ [])) c.in_ok-unit.ensures.reference
+    ∙ slot_last slots c.push.new.self.items ∙ ap Some clause
 
 pub returns-clause-grows : goal.returns-clause-grows
-returns-clause-grows g c = subst (Grows c.args.store.now.slots) (sym c.in_ok-unit.ensures.slots) (λ r d e. slot_before c.args.store.now.slots (c.args.lit ∷ []) r d e)
+returns-clause-grows g c = subst (Grows c.args.store.now.slots) (sym c.in_ok-unit.ensures.slots) (λ r d e. slot_before c.args.store.now.slots c.push.new.self.items r d e)
