@@ -120,6 +120,12 @@ marked_subset marks [] d m some = refl
 marked_subset marks (l ∷ c) d m some =
     (λ i. if m.marked l (All-head (λ l. 0 < l.variable) l c some) i then marked_subset marks c d m (All-tail (λ l. 0 < l.variable) l c some) i else false)
 
+-- a literal that stands at some place
+pub at_contains : (c : List Literal) (i : ℕ) (l : Literal) → i < length c → l ≡ get_or c i l → contains_literal l c ≡ true
+at_contains [] i l h is = absurd (omega arith)
+at_contains (k ∷ c) zero l h is = or_left (literal_eq l k) (contains_literal l c) (subst (λ x. literal_eq l x ≡ true) is (literal_eq-refl l))
+at_contains (k ∷ c) (suc i) l h is = or_right (literal_eq l k) (contains_literal l c) (at_contains c i l (omega arith) is)
+
 are_marked-without : (marks : List Bool) (p : Literal) (a : List Literal) → are_marked marks a ≡ true → are_marked marks (without_literal p a) ≡ true
 are_marked-without marks p [] m = refl
 are_marked-without marks p (k ∷ a) m =
