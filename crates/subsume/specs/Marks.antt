@@ -26,7 +26,7 @@ are_marked marks (l ∷ c) = if mark_of marks l then are_marked marks c else fal
 abbrev pub unmarked : List Bool → List Literal → List Literal
 unmarked marks c = filter (λ l. not (mark_of marks l)) c
 
--- how a clause lies of which these literals are not marked: a single one may have its negation marked
+-- how a clause lies of which these literals are not marked: the negation of a single one may be
 abbrev pub against_without : List Bool → List Literal → Against
 against_without marks [] = Within
 against_without marks (l ∷ []) = if mark_of marks (negation l) then ButFor l else Apart

@@ -1,5 +1,5 @@
 -- The clause itself, or one that is added: the literal that is open follows by the units.
-use Rattle.std.proofs.Common.{◌≡◌, ◌++◌, ◌∷◌, [], List, length, Some, refl, sym, ◌∙◌, ap, subst}
+use Rattle.std.proofs.Common.{◌≡◌, ◌++◌, ◌∷◌, [], List, Some, refl, sym, ◌∙◌, ap, subst}
 use Rattle.wcnf.specs.Literal.{Literal}
 use Rattle.clauses.specs.Slots.{Slots, clause_at}
 use Rattle.lrat_log.specs.declared.lines.Hint.{Hint}
@@ -7,7 +7,7 @@ use Rattle.lrat_log.specs.declared.lines.Kind.TheVariants.{Unit}
 use Rattle.lrat_log.specs.Log.{LogLine}
 use Rattle.eliminate.specs.declared.simplifier.Simplifier.{Simplifier}
 use Rattle.names.specs.Work.{AreClauses}
-use Rattle.eliminate.specs.Simplifier.{Grows, IsSimplified, IsAddableLine, LeavesLog}
+use Rattle.eliminate.specs.Simplifier.{Grows, IsAddableLine, LeavesLog}
 use Rattle.eliminate.proofs.Assigned.{single}
 use Rattle.names.proofs.Naming.{slot_before, slot_last}
 use Rattle.eliminate.proofs.Tables.{simplified_same}
