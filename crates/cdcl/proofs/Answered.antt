@@ -13,8 +13,13 @@ use Rattle.lrat_log.specs.Steps.{IsBaseOf, IsLogOver, IsAcceptedLog, StaysLogOve
 use Rattle.lrat_log.proofs.Accepting.{accepted_log}
 use Rattle.cdcl.specs.declared.search.Search.{Search}
 use Rattle.cdcl.specs.declared.problem.Problem.{Problem}
+use Rattle.cdcl.specs.declared.outcome.Outcome.{Outcome}
+use Rattle.cdcl.specs.declared.outcome.Outcome.TheVariants.{Sat, Unsat, Limit}
 use Rattle.cdcl.specs.Solving.{lines_since, is_refuted}
-use Rattle.cdcl.specs.Running.{Writes, IsProblem, Runs, IsEnded, StaysOpen, IsSolver}
+use Rattle.cdcl_order.specs.Budgets.{BudgetState}
+use Rattle.cdcl.specs.declared.searching.End.{End}
+use Rattle.cdcl.specs.declared.searching.End.TheVariants.{Satisfied}
+use Rattle.cdcl.specs.Running.{Writes, IsProblem, Runs, IsEnded, StaysOpen, IsSolver, IsSatisfied, IsEndOf, IsAnswer}
 use Rattle.cdcl.proofs.MoreMoves.{plain_open}
 
 drop_front : (before more : List LogLine) → drop (length before) (before ++ more) ≡ more
@@ -73,5 +78,17 @@ solver_runs s p ls refuted failed i r e =
 pub solver_fails : (s : Search) (p : Problem) (ls : List LogLine) (refuted : Bool) → IsProblem p → StaysOpen p ls → refuted ≡ false → IsSolver s p ls refuted true
 solver_fails s p ls refuted i o e = record { problem = i; lines = o.stays; refuted_is = e ∙ sym (not_refuted ls o.unrefuted); running = λ f u. absurd (true≢false f) }
 
-pub solver_ends : (s : Search) (p : Problem) (ls : List LogLine) (failed : Bool) → IsProblem p → IsEnded p ls → IsSolver s p ls true failed
-solver_ends s p ls failed i e = record { problem = i; lines = e.stays; refuted_is = sym e.refuted; running = λ f u. absurd (true≢false u) }
+-- what an end or an answer says
+pub answered_log : (s : Search) (p : Problem) (ls : List LogLine) (b : BudgetState) (o : Outcome) → IsProblem p → IsAnswer s p ls b o → IsLogOver (seen_given p) ls
+answered_log s p ls b (Sat bits) i a = log_now p ls i a.runs.running.recorded.log.stays
+answered_log s p ls b Unsat i a = log_now p ls i a.stays
+answered_log s p ls b Limit i a = log_now p ls i a.runs.running.recorded.log.stays
+
+pub plain_unsat : (s : Search) (p : Problem) (ls : List LogLine) (b : BudgetState) (o : Outcome) → IsProblem p → IsAnswer s p ls b o
+    → IsRefutedByHints (map (λ g. g.1) (take p.first (p.given).items)) ⊎ Contains (map (λ g. g.1) (seen_given p)) [] → o ≡ Unsat
+plain_unsat s p ls b (Sat bits) i a h = absurd (not_plain s p ls a.quiet.0 i a.runs a.quiet.1 h)
+plain_unsat s p ls b Unsat i a h = refl
+plain_unsat s p ls b Limit i a h = absurd (not_plain s p ls a.quiet.0 i a.runs a.quiet.1 h)
+
+pub is_satisfied : (s : Search) (p : Problem) (ls : List LogLine) (b : BudgetState) (end : End) → end ≡ Satisfied → IsEndOf s p ls b end → IsSatisfied s p ls b
+is_satisfied s p ls b end e h = subst (IsEndOf s p ls b) e h

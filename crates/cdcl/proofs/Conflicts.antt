@@ -11,7 +11,8 @@ use Rattle.clauses.specs.Slots.{Slots, clause_at}
 use Rattle.propagate.specs.Trail.{Assigned, literals_of, depth_of, level_after, level_from, level_in, kept_to, value_in, HasReasons}
 use Rattle.propagate.specs.Tables.{mentions}
 use Rattle.propagate.proofs.Levels.{depth_step}
-use Rattle.propagate.proofs.Literals.{literal_eq-self, negation_twice, contains-append}
+use Rattle.propagate.proofs.Literals.{negation_twice, contains-append}
+use Rattle.wcnf.proofs.Marks.{literal_eq-refl}
 use Rattle.propagate.proofs.Kept.{in_kept, contains_front, contains_back, kept_prefix, literals-append}
 use Rattle.propagate.proofs.Trails.{open_none, value_none}
 use Rattle.propagate.proofs.Facts.{all_weaker}
@@ -36,7 +37,7 @@ current_or_below at T [] reasons deep f = inr tt
 current_or_below at T (l ∷ c) reasons deep f =
     let low : level_of T l ≤ 0 + depth_of T = level_from-le 0 T l.variable (level_of T l) (level_is T l f.0) in
     elim (cases_eq (level_of T l) (depth_of T)) [
-      | inl s ↦ inl (l, or_left (literal_eq l l) (contains_literal l c) (literal_eq-self l), s)
+      | inl s ↦ inl (l, or_left (literal_eq l l) (contains_literal l c) (literal_eq-refl l), s)
       | inr ne ↦ elim (current_or_below at T c reasons deep f.1) [
         | inl w ↦ inl (w.0, or_right (literal_eq w.0 l) (contains_literal w.0 c) w.1, w.2)
         | inr g ↦ inr (false_below at T l (depth_of T - 1) reasons f.0 (omega arith), g)
@@ -47,13 +48,9 @@ current_or_below at T (l ∷ c) reasons deep f =
 pub is_conflict : (slots : Slots) (T : List Assigned) (r : ℕ) (c : List Literal) → HasReasons (clause_at slots) [] T → 0 < depth_of T → IsQuiet slots (literals_of (kept_to (depth_of T - 1) T))
     → clause_at slots r ≡ Some c → IsFalseUnder c (literals_of T) → IsConflict T c
 is_conflict slots T r c reasons deep quiet here wrong = elim (current_or_below (clause_at slots) T c reasons deep wrong) [
-  | inl w ↦ (wrong, w.0, w.1, w.2)
+  | inl w ↦ record { falsified = wrong; literal = w.0; stands = w.1; current = w.2 }
   | inr f ↦ absurd ((quiet r c here).0 f)
 ]
-
--- a variable that is open is so with either sign
-pub open_either : (T : List Assigned) (l k : Literal) → k.variable ≡ l.variable → value_in T l ≡ None → value_in T k ≡ None
-open_either T l k s e = value_none T k (subst (λ v. mentions v (literals_of T) ≡ false) (sym s) (open_none T l e))
 
 pub at_zero : (T : List Assigned) (k : Literal) → contains_literal k (zero_of T) ≡ true → level_in T k.variable ≡ Some 0
 at_zero T k m =

@@ -5,7 +5,7 @@ use Rattle.std.specs.List.{IsDistinct, list_any, enumerate_from}
 use Rattle.std.proofs.lemmas.Map.Keys.{IsDistinct-head, IsDistinct-tail}
 use Rattle.std.proofs.lemmas.Bool.{cases_lt, le-leb, or_parts, both_ways, eq-eqb, cases_eq}
 use Rattle.std.proofs.lemmas.Option.{none-some, same_Some, slice_get-get_or}
-use Rattle.std.proofs.lemmas.List.{length-map, get_or-map, length-replicate, take_all}
+use Rattle.std.proofs.lemmas.List.{length-map, get_or-map, length-replicate, take_all, get_or_default}
 use Rattle.std.proofs.lemmas.List.Elements.{All-nil, All-cons, All-head, All-tail, All-from_recursion}
 use Rattle.wcnf.specs.Literal.{Literal}
 use Rattle.wcnf.specs.Clause.{Satisfies}
@@ -26,11 +26,12 @@ use Rattle.cdcl.specs.declared.problem.Problem.{Problem}
 use Rattle.cdcl.specs.Solving.{is_refuted}
 use Rattle.cdcl.specs.Invariant.{name_at, is_kept_name, NamesStore, NotesUnits, zero_of, IsRunning}
 use Rattle.cdcl.specs.Running.{Runs, IsProblem, tables_of}
+use Rattle.eliminate.proofs.States.{live_all}
 use Rattle.cdcl.specs.Starts.{AreRising, IsLiveWithin, IsStarted}
 use Rattle.cdcl.proofs.Places.{stands, live_within}
 use Rattle.cdcl.proofs.FirstNames.{names_start}
 use Rattle.cdcl.proofs.Named.{live_below}
-use Rattle.cdcl.proofs.Started.{clauses_given, get_any}
+use Rattle.cdcl.proofs.Started.{clauses_given, given_on}
 
 -- Lists of places.
 
@@ -53,13 +54,6 @@ place_live n [] i lt = absurd (omega arith)
 place_live n (None ∷ slots) i lt = let w = place_live (n + 1) slots i lt in (suc w.0, w.1, w.2 ∙ omega arith, w.3)
 place_live n (Some c ∷ slots) zero lt = (0, c, omega arith, refl)
 place_live n (Some c ∷ slots) (suc i) lt = let w = place_live (n + 1) slots i (omega arith) in (suc w.0, w.1, w.2 ∙ omega arith, w.3)
-
-live_all : (P : List Literal → Type 0) (slots : Slots) → All P (live_clauses slots) → (r : ℕ) (c : List Literal) → clause_at slots r ≡ Some c → P c
-live_all P [] all r c e = absurd (none-some c e)
-live_all P (None ∷ slots) all zero c e = absurd (none-some c e)
-live_all P (None ∷ slots) all (suc r) c e = live_all P slots all r c e
-live_all P (Some d ∷ slots) all zero c e = subst P (same_Some d c e) (All-head P d (live_clauses slots) all)
-live_all P (Some d ∷ slots) all (suc r) c e = live_all P slots (All-tail P d (live_clauses slots) all) r c e
 
 all_live : (P : List Literal → Type 0) (slots : Slots) → ((r : ℕ) (c : List Literal) → clause_at slots r ≡ Some c → P c) → All P (live_clauses slots)
 all_live P [] h = All-nil P
@@ -101,9 +95,6 @@ distinct_same is j k d a b e = elim (cases_eq j k) [
     | inr ge ↦ absurd (distinct_apart is k j d (omega arith) a (sym e))
   ]
 ]
-
-abbrev given_on : ℕ → List (List Literal) → Given
-given_on n cs = map (λ e. (Formula e.0, e.1)) (enumerate_from n cs)
 
 based_on : (n b : ℕ) (cs : List (List Literal)) → n + length cs ≤ b + 1 → IsBaseOf (given_on n cs) b
 based_on n b [] h k d lt = absurd (omega arith)
@@ -149,7 +140,7 @@ module _ (cs : List (List Literal)) (slots : Slots) (stack : StackState) (ls : L
   left_live i d lt =
       let w = live_here i d lt in
       let f = live_all (IsFormulaClause stack.variables) slots h.left (get_or stack.names i d).0 w.0 w.1 in
-      (w.0, w.1, (f.from_one, f.small))
+      record { clause = w.0; live = w.1; within = (f.from_one, f.small) }
 
   pub left_within : All (λ n. n.0 < length slots) stack.names
   left_within i d lt = let w = live_here i d lt in live_within slots (get_or stack.names i d).0 w.0 w.1
@@ -188,7 +179,7 @@ module _ (cs : List (List Literal)) (slots : Slots) (stack : StackState) (ls : L
         let wide : length (map (λ (n : ℕ × Name). id_of base n.1) stack.names) ≡ length stack.names = length-map stack.names (λ (n : ℕ × Name). id_of base n.1) in
         let same : j ≡ k = distinct_same (map (λ (n : ℕ × Name). id_of base n.1) stack.names) j k w.differ (omega arith) (omega arith)
         (get_or-map (λ (n : ℕ × Name). id_of base n.1) stack.names j d 0 a ∙ s ∙ sym (get_or-map (λ (n : ℕ × Name). id_of base n.1) stack.names k e 0 b)) in
-        ap (λ i. (get_or stack.names i d).0) same ∙ ap (λ (x : ℕ × Name). x.0) (get_any stack.names k d e b))
+        ap (λ i. (get_or stack.names i d).0) same ∙ ap (λ (x : ℕ × Name). x.0) (get_or_default stack.names k d e b))
         tabled;
   }
 
@@ -293,7 +284,9 @@ new_problem f p cs h same wide given firsts low high =
       numbered = ap given_of (first_clauses p cs given firsts) ∙ sym (take_all p.first (p.given).items (omega arith) ∙ given);
       first_within = omega arith;
       based = (length cs, subst (λ g. IsBaseOf g (length cs)) (sym given) (based_first cs));
-      few = (few, bound, low);
+      few_given = few;
+      few = bound;
+      no_fewer = low;
       given_small = subst (All (λ g. IsFormulaClause (length (p.frozen).items) g.1)) (sym given)
           (all_given (IsFormulaClause (length (p.frozen).items)) cs (subst (λ n. All (IsFormulaClause n) cs) (sym wide) (subst (All (IsFormulaClause f.variables)) (sym same) h.clauses)));
     }

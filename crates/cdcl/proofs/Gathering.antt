@@ -11,7 +11,8 @@ use Rattle.clauses.specs.Slots.{Slots, clause_at}
 use Rattle.propagate.specs.Trail.{Assigned, literals_of, level_in, value_in, HasReasons}
 use Rattle.propagate.specs.Watches.{EngineState, is_attached, IsVariable}
 use Rattle.propagate.specs.Fits.{Fits}
-use Rattle.propagate.proofs.Literals.{literal_eq-self, negation_twice, contains-push, same_variable}
+use Rattle.propagate.proofs.Literals.{negation_twice, contains-push, same_variable}
+use Rattle.wcnf.proofs.Marks.{literal_eq-refl}
 use Rattle.propagate.proofs.Kept.{contains_at, contains_front}
 use Rattle.propagate.proofs.Facts.{all_weaker, all_join}
 use Rattle.propagate.proofs.Looking.{attached_within, within_variable, false_value, not_false_value}
@@ -21,7 +22,7 @@ use Rattle.lrat_log.specs.declared.lines.Name.{Name}
 use Rattle.lrat_log.specs.declared.lines.Hint.{Hint}
 use Rattle.lrat_log.specs.declared.lines.Hint.TheVariants.{Plain}
 use Rattle.cdcl.specs.Invariant.{name_at, HasUnit, zero_of}
-use Rattle.cdcl.specs.Hinting.{AreUnits, plain_hints, IsNotedIn, AreHintsOf}
+use Rattle.cdcl.specs.Hinting.{AreUnits, plain_hints, IsNotedIn, IsNeededBy, AreHintsOf}
 use Rattle.cdcl.specs.Moves.{unit_at, HaveUnits, CoversZero, Gathers}
 use Rattle.cdcl.proofs.Conflicts.{at_zero}
 use Rattle.cdcl.proofs.LearnedLines.{kept_in}
@@ -49,7 +50,7 @@ repeat_push (k ∷ c) l e h =
     let q = or_parts (contains_literal k c) (has_repeat c) h in
     let other : literal_eq k l ≡ false = elim (cases_Bool (literal_eq k l)) as (λ _. literal_eq k l ≡ false) [
       | inr n ↦ n
-      | inl y ↦ absurd (both_ways _ p.0 (ap (λ x. literal_eq l x) (literal_eq-true k l y) ∙ literal_eq-self l))
+      | inl y ↦ absurd (both_ways _ p.0 (ap (λ x. literal_eq l x) (literal_eq-true k l y) ∙ literal_eq-refl l))
     ] in
     or_from (contains_literal k (c ++ l ∷ [])) (has_repeat (c ++ l ∷ []))
     (contains-push k c l ∙ or_from (contains_literal k c) (literal_eq k l) q.0 other)
@@ -62,7 +63,7 @@ push_cases k c l P e old new = elim (or_cases (contains_literal k c) (literal_eq
 ]
 
 in_push : (k : Literal) (c : List Literal) (l : Literal) → k ≡ l → contains_literal k (c ++ l ∷ []) ≡ true
-in_push k c l e = contains-push k c l ∙ or_right (contains_literal k c) (literal_eq k l) (ap (λ x. literal_eq x l) e ∙ literal_eq-self l)
+in_push k c l e = contains-push k c l ∙ or_right (contains_literal k c) (literal_eq k l) (ap (λ x. literal_eq x l) e ∙ literal_eq-refl l)
 
 same_place : (k l : Literal) → 0 < k.variable → 0 < l.variable → k.variable - 1 ≡ l.variable - 1 → k.variable ≡ l.variable
 same_place k l a b e = omega arith
@@ -159,9 +160,15 @@ module _ (slots : Slots) (names : List Name) (units : List (Option ℕ)) (T : Li
             (λ same. subst (HasUnit slots units) (sym same) (noted l member zero));
         serves = all_weaker _ _ done (λ h f d e k m z. contains_front (negation k) g.zeros (k0 ∷ []) (f d e k m z)) g.serves;
         covers = covers_more F i l lt is (λ k m z. contains_front (negation k) g.zeros (k0 ∷ []) (g.covers k m z)) (λ z. in_push k0 g.zeros k0 refl);
-        needed = λ k m. push_cases k g.zeros k0 ((q : ℕ) × (d : List Literal) × Contains all q × (clause_at slots q ≡ Some d) × (contains_literal (negation k) d ≡ true)) m
+        needed = λ k m. push_cases k g.zeros k0 (IsNeededBy slots all k) m
             (λ before. g.needed k before)
-            (λ same. (r, c, listed, live, ap (λ x. contains_literal (negation x) c) same ∙ ap (λ x. contains_literal x c) (negation_twice l) ∙ member));
+            (λ same. record {
+              reference = r;
+              clause = c;
+              listed = listed;
+              live = live;
+              stands = ap (λ x. contains_literal (negation x) c) same ∙ ap (λ x. contains_literal x c) (negation_twice l) ∙ member;
+            });
       }
 
   -- why a literal is passed over
@@ -201,7 +208,7 @@ module _ (slots : Slots) (names : List Name) (units : List (Option ℕ)) (T : Li
 units_of : (slots : Slots) (units : List (Option ℕ)) (zeros : List Literal) → HaveUnits slots units zeros → AreUnits (clause_at slots) (map (unit_at units) zeros) zeros
 units_of slots units [] have = tt
 units_of slots units (z ∷ zs) have =
-    let h = have z (or_left (literal_eq z z) (contains_literal z zs) (literal_eq-self z)) in
+    let h = have z (or_left (literal_eq z z) (contains_literal z zs) (literal_eq-refl z)) in
     (ap (clause_at slots) (ap (λ o. unwrap_or o 0) h.1) ∙ h.2, units_of slots units zs (λ l m. have l (or_right (literal_eq l z) (contains_literal l zs) m)))
 
 pub hints_are : (slots : Slots) (names : List Name) (units : List (Option ℕ)) (T : List Assigned) (stamp : ℕ) (rs : List ℕ) (stamps : List ℕ) (hints all : List Hint)

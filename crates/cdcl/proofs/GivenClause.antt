@@ -37,8 +37,9 @@ same_problem p q i given stack frozen first = record {
   numbered = subst (λ g. given_of (map (λ x. x.1) (take q.first g)) ≡ take q.first g) (sym given) (subst (λ k. given_of (map (λ x. x.1) (take k (p.given).items)) ≡ take k (p.given).items) (sym first) i.numbered);
   first_within = subst (λ g. q.first ≤ length g) (sym given) (subst (λ k. k ≤ length (p.given).items) (sym first) i.first_within);
   based = subst (λ g. (base : ℕ) × IsBaseOf g base) (sym given) i.based;
-  few = subst (λ f. (length f.items < 2 ^ 26) × ((q.stack).variables < 2 ^ 27) × (length f.items ≤ (q.stack).variables)) (sym frozen)
-      (subst (λ s. (length (p.frozen).items < 2 ^ 26) × (s.variables < 2 ^ 27) × (length (p.frozen).items ≤ s.variables)) (sym stack) i.few);
+  few_given = subst (λ f. length f.items < 2 ^ 26) (sym frozen) i.few_given;
+  few = subst (λ s. s.variables < 2 ^ 27) (sym stack) i.few;
+  no_fewer = subst (λ f. length f.items ≤ (q.stack).variables) (sym frozen) (subst (λ s. length (p.frozen).items ≤ s.variables) (sym stack) i.no_fewer);
   given_small = subst (λ f. All (λ g. IsFormulaClause (length f.items) g.1) (q.given).items) (sym frozen) (subst (All (λ g. IsFormulaClause (length (p.frozen).items) g.1)) (sym given) i.given_small);
 }
 
@@ -53,8 +54,9 @@ problem_gives p q n c i gives fresh once apart ones small =
           (subst (λ g. given_of (map (λ x. x.1) g) ≡ g) (sym front) i.numbered));
       first_within = subst (λ g. q.first ≤ length g) (sym gives.given) (subst (λ k. k ≤ length ((p.given).items ++ (n, c) ∷ [])) (sym gives.first) (let w = i.first_within in omega (arith, length-append (p.given).items ((n, c) ∷ []))));
       based = subst (λ g. (base : ℕ) × IsBaseOf g base) (named ∙ sym gives.given) (based_given (p.given).items fresh.0 c i.based);
-      few = subst (λ f. (length f.items < 2 ^ 26) × ((q.stack).variables < 2 ^ 27) × (length f.items ≤ (q.stack).variables)) (sym gives.frozen)
-          (subst (λ s. (length (p.frozen).items < 2 ^ 26) × (s.variables < 2 ^ 27) × (length (p.frozen).items ≤ s.variables)) (sym gives.stack) i.few);
+      few_given = subst (λ f. length f.items < 2 ^ 26) (sym gives.frozen) i.few_given;
+      few = subst (λ s. s.variables < 2 ^ 27) (sym gives.stack) i.few;
+      no_fewer = subst (λ f. length f.items ≤ (q.stack).variables) (sym gives.frozen) (subst (λ s. length (p.frozen).items ≤ s.variables) (sym gives.stack) i.no_fewer);
       given_small = subst (λ f. All (λ g. IsFormulaClause (length f.items) g.1) (q.given).items) (sym gives.frozen)
           (subst (All (λ g. IsFormulaClause (length (p.frozen).items) g.1)) (sym gives.given)
           (All-push (λ (g : Name × List Literal). IsFormulaClause (length (p.frozen).items) g.1) (p.given).items (n, c) i.given_small (record { no_repeat = once; no_opposites = apart; from_one = ones; small = small })));
@@ -82,19 +84,10 @@ view_gives p q n c within gives = (
 abbrev pub formula_of : Problem → Cnf
 formula_of p = record { variables = length (p.frozen).items; clauses = map (λ g. g.1) (take p.first (p.given).items) }
 
-pub formula_gives : (p q : Problem) (n : Name) (c : List Literal) → p.first ≤ length (p.given).items → GivesOne p q n c → formula_of q ≡ formula_of p
-formula_gives p q n c within gives =
-    let wide : length (q.frozen).items ≡ length (p.frozen).items = ap (λ f. length f.items) gives.frozen in
-    let clauses = (view_gives p q n c within gives).0 in
-    λ i. record { variables = wide i; clauses = clauses i }
-
 pub formula_same : (p q : Problem) → (q.given).items ≡ (p.given).items → q.frozen ≡ p.frozen → q.first ≡ p.first → formula_of q ≡ formula_of p
 formula_same p q given frozen first =
     let wide : length (q.frozen).items ≡ length (p.frozen).items = ap (λ f. length f.items) frozen in
     λ i. record { variables = wide i; clauses = map (λ g. g.1) (take (first i) (given i)) }
-
-pub added_same : (p q : Problem) → (q.given).items ≡ (p.given).items → q.first ≡ p.first → drop q.first (q.given).items ≡ drop p.first (p.given).items
-added_same p q given first = λ i. drop (first i) (given i)
 
 pub gives_solver : (s t : Search) (p q : Problem) (n : Name) (c : List Literal) (ls : List LogLine) (refuted failed : Bool) → IsSolver s p ls refuted failed → failed ≡ false → GivesOne p q n c → IsFreshName (p.given).items n → IsId (number_in n)
     → All (IsFrozen (p.frozen).items) c → has_repeat c ≡ false → has_opposites c ≡ false → All (λ l. 0 < l.variable) c → (refuted ≡ false → Takes s t p q n c) → IsSolver t q ls refuted failed
@@ -119,6 +112,6 @@ fails_solver s t p q ls refuted failed i given stack frozen first = record {
 pub frozen_within : (s : Search) (p : Problem) (ls : List LogLine) (c : List Literal) → IsProblem p → Runs s p ls → All (IsFrozen (p.frozen).items) c → All (λ l. 0 < l.variable) c → IsWithin (s.engine).variables c
 frozen_within s p ls c i r fixed ones =
     let small = frozen_small (p.frozen).items c fixed ones in
-    let low = i.few.2 in
+    let low = i.no_fewer in
     let same = r.running.variables in
     (ones, omega arith)

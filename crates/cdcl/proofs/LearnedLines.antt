@@ -9,18 +9,19 @@ use Rattle.wcnf.specs.Refute.{Clauses, Refutes, IsFalseUnder}
 use Rattle.wcnf.proofs.Sound.{literal_eq-true}
 use Rattle.clauses.specs.Slots.{Slots, clause_at}
 use Rattle.propagate.specs.Trail.{Assigned, literals_of, depth_of, kept_to, HasReasons}
-use Rattle.propagate.proofs.Literals.{literal_eq-self, negation_twice, contains-append}
+use Rattle.propagate.proofs.Literals.{negation_twice, contains-append}
+use Rattle.wcnf.proofs.Marks.{literal_eq-refl}
 use Rattle.propagate.proofs.Kept.{kept_prefix, contains_front, contains_back, literals-append}
 use Rattle.propagate.proofs.Reasons.{NoOpposites, no_opposites}
 use Rattle.lrat_log.specs.declared.lines.Name.{Name}
 use Rattle.lrat_log.specs.Log.{LogLine, Given, is_learned, is_delete, id_of, leading_ids, group_ids}
 use Rattle.lrat_log.specs.Steps.{log_live, LearnsNew, IsNewTo, IsByRup, nothing_exempt}
-use Rattle.analyze.specs.Learning.{IsAsserting, IsRefutedBy, level_of}
+use Rattle.analyze.specs.Learning.{IsAsserting, IsRefutedBy, level_of, Within}
 use Rattle.analyze.proofs.Marked.{contains_negation}
 use Rattle.cdcl.specs.Invariant.{NamesWhatIsLive, NamesStore, name_at, zero_of}
 use Rattle.cdcl.proofs.LogLines.{IsNewClause, AddsByHints, leading-plain, groups-plain}
 use Rattle.cdcl.proofs.Named.{refutes_named}
-use Rattle.cdcl.specs.Hinting.{plain_hints, Within, Serves, AreUnits}
+use Rattle.cdcl.specs.Hinting.{plain_hints, Serves, AreUnits}
 use Rattle.cdcl.proofs.Zero.{AreOpen, refutes_served, refutes_after_units}
 use Rattle.analyze.proofs.Levels.{all_at, open_below}
 
@@ -91,7 +92,7 @@ pub open_all : (A zs : List Literal) → ((z : Literal) → contains_literal z z
 open_all A [] each once apart = tt
 open_all A (z ∷ zs) each once apart =
     let parts = or_parts (contains_literal z zs) (has_repeat zs) once in
-    let here = each z (or_left (literal_eq z z) (contains_literal z zs) (literal_eq-self z)) in (
+    let here = each z (or_left (literal_eq z z) (contains_literal z zs) (literal_eq-refl z)) in (
       here.0,
       here.1,
       open_all (z ∷ A) zs

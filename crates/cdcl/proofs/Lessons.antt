@@ -98,6 +98,27 @@ adds_lesson slots T names given ls c back variables rs hints reasons w deep refu
     (refutes_alone slots T c back rs h.units h.zeros reasons w deep refutes h.within h.once h.are_units
     (serves_zero (clause_at slots) T c h.zeros rs reasons (all_weaker _ _ rs (λ r f d at k m level z. f d at k m z) h.serves)))
 
+-- what was learned, in the words in which the line is written
+pub record IsLesson (s : Search) (p : Problem) (ls : List LogLine) (c : List Literal) (back : ℕ) (hints : List Hint) : Type 0 where
+  pub asserting : IsAsserting (s.engine).trail c back
+  pub adds : AddsByHints (p.given).items ls (record { kind = Learned; clause = c; hints = hints })
+
+pub is_lesson : (s : Search) (p : Problem) (ls : List LogLine) (learned c : List Literal) (back : ℕ) (found rs : List ℕ) (names : List Name) (hints : List Hint) → Runs s p ls → 0 < depth_of (s.engine).trail
+    → IsAsserting (s.engine).trail learned back → IsRefutedBy (s.store).slots (s.engine).trail learned found → AreHintsOf (s.store).slots names (s.engine).trail rs hints → c ≡ learned → rs ≡ found → names ≡ (s.names).items
+    → IsLesson s p ls c back hints
+is_lesson s p ls learned c back found rs names hints r deep asserting refuted hinted is_c is_rs is_names =
+    let slots = (s.store).slots in
+    let T = (s.engine).trail in
+    let run = r.running in
+    let w = subst (λ x. IsAsserting T x back) (sym is_c) asserting in
+    let refutes = subst (λ x. IsRefutedBy slots T x rs) (sym is_c) (subst (IsRefutedBy slots T learned) (sym is_rs) refuted) in
+    let h = subst (λ x. AreHintsOf slots x T rs hints) is_names hinted in
+    let within = asserting_within s.engine slots c back run.searches.fits w in
+    record {
+      asserting = w;
+      adds = adds_lesson slots T (s.names).items (p.given).items ls c back (s.engine).variables rs hints run.searches.fits.reasons w deep refutes run.recorded.names h r.room.few within;
+    }
+
 -- What the search is once the line is written.
 pub runs_learned : (m n : Search) (p : Problem) (ls : List LogLine) (l : LogLine) (T : List Assigned) (back : ℕ) → IsRunning m.engine (m.store).slots p.stack (tables_of m) (p.frozen).items p.first (p.given).items ls → HasRoom m
     → All (λ x. x ≤ m.additions + 1) (m.stamps).items → IsAsserting T l.clause back → (m.engine).trail ≡ kept_to back T → AddsByHints (p.given).items ls l

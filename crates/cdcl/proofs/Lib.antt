@@ -1,4 +1,3 @@
-pub mod GivenLaws
 pub mod Chains
 pub mod LogLines
 pub mod Places

@@ -130,15 +130,3 @@ recorded_delete slots stack t frozen first given ls l q c r here long dropped de
       back = leads_back slots (set slots q None) t.names t.names t.kept stack given (kept_delete slots t.names q t.kept dropped) r.back;
       plain = keeps_plain slots (set slots q None) first given (empty_long slots q c here long) r.plain;
     }
-
-pub run_delete : (e f : EngineState) (slots : Slots) (stack : StackState) (t : Tables) (frozen : List Bool) (first : ℕ) (given : Given) (ls : List LogLine) (l : LogLine) (q : ℕ) (c : List Literal)
-    → IsRunning e slots stack t frozen first given ls → clause_at slots q ≡ Some c → 1 < length c → is_kept_name t.kept (name_at t.names q) ≡ false
-    → is_delete l.kind ≡ true → l.hints ≡ plain_hints (name_at t.names q ∷ [])
-    → SetsAttached e f q false → (f.trail ≡ e.trail) × (f.variables ≡ e.variables) × (f.failed ≡ e.failed) → Fits f slots
-    → IsRunning f (set slots q None) stack t frozen first given (ls ++ l ∷ [])
-run_delete e f slots stack t frozen first given ls l q c r here long dropped deletes plain sets same fits = record {
-  recorded = recorded_delete slots stack t frozen first given ls l q c r.recorded here long dropped deletes plain;
-  searches = searches_delete slots e f q r.searches sets same.0 same.2 fits;
-  variables = same.1 ∙ r.variables;
-  units = subst (λ T. NotesUnits (set slots q None) (zero_of T) (depth_of T) t.units t.noted) (sym same.0) (units_delete slots q c (zero_of e.trail) (depth_of e.trail) t.units t.noted here long r.units);
-}

@@ -23,7 +23,8 @@ use Rattle.cdcl.specs.declared.search.Search.{Search}
 use Rattle.cdcl.specs.Invariant.{Tables, IsRunning}
 use Rattle.cdcl.specs.Running.{HasRoom, Places}
 use Rattle.cdcl.proofs.Chains.{count_push_addition}
-use Rattle.cdcl.proofs.Places.{clause_new, clause_old, live_within}
+use Rattle.cdcl.proofs.Places.{clause_old, live_within}
+use Rattle.eliminate.proofs.Naming.{slot_last}
 
 -- an engine belongs to the store with one clause more
 pub fits_more : (e : EngineState) (slots : Slots) (c : List Literal) → Fits e slots → Fits e (slots ++ Some c ∷ [])
@@ -37,7 +38,7 @@ not_attached e slots fits = elim (cases_Bool (is_attached e (length slots))) as 
 ]
 
 pub new_at : (slots now : Slots) (c : List Literal) (r : ℕ) → now ≡ slots ++ Some c ∷ [] → r ≡ length slots → clause_at now r ≡ Some c
-new_at slots now c r e is = subst (λ s. clause_at s r ≡ Some c) (sym e) (subst (λ k. clause_at (slots ++ Some c ∷ []) k ≡ Some c) (sym is) (clause_new slots c))
+new_at slots now c r e is = subst (λ s. clause_at s r ≡ Some c) (sym e) (subst (λ k. clause_at (slots ++ Some c ∷ []) k ≡ Some c) (sym is) (slot_last slots c))
 
 pub new_live : (slots now : Slots) (c : List Literal) (r : ℕ) → now ≡ slots ++ Some c ∷ [] → r ≡ length slots → IsLive now r
 new_live slots now c r e is = (c, new_at slots now c r e is)
@@ -74,9 +75,6 @@ room_placed s n name c r w = record {
 -- additions are no more than lines
 pub added_few : (ls : List LogLine) (n : ℕ) → n ≡ added_count ls → length ls < 2 ^ 61 → n < 2 ^ 61
 added_few ls n e short = omega (arith, count_by-le-length (λ (l : LogLine). not (is_delete l.kind)) ls)
-
-pub added_more : (ls : List LogLine) (l : LogLine) (more : List LogLine) (n : ℕ) → more ≡ ls ++ l ∷ [] → is_delete l.kind ≡ false → n ≡ added_count ls → length more < 2 ^ 61 → n + 1 < 2 ^ 61
-added_more ls l more n e adds counted short = added_few more (n + 1) (ap (λ k. k + 1) counted ∙ sym (ap added_count e ∙ count_push_addition ls l adds)) short
 
 -- the same state in other words
 pub running_same : (e f : EngineState) (slots now : Slots) (stack : StackState) (t u : Tables) (frozen : List Bool) (first : ℕ) (given : Given) (ls : List LogLine) → f ≡ e → now ≡ slots → u ≡ t

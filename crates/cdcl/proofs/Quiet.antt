@@ -21,14 +21,9 @@ use Rattle.propagate.proofs.Naming.{kept_named, trail_listed}
 use Rattle.propagate.specs.Renames.{named_trail, named_reason}
 use Rattle.propagate.proofs.Compacting.{reasons_listed}
 use Rattle.cdcl.specs.Invariant.{Searches, zero_of}
-use Rattle.analyze.specs.Learning.{IsQuiet}
+use Rattle.analyze.specs.Learning.{IsQuiet, Within}
 use Rattle.cdcl.proofs.Places.{clause_cases, clause_left, clause_other, came, same_clause}
-use Rattle.cdcl.specs.Hinting.{Within}
 use Rattle.analyze.proofs.Levels.{kept_more, depth_follow}
-
--- what an engine says of attached clauses is said of live ones
-pub quiet_complete : (e : EngineState) (slots : Slots) (trail : List Assigned) → ((r : ℕ) → IsLive slots r → is_attached e r ≡ true) → IsComplete slots (is_attached e) trail → IsQuiet slots (literals_of trail)
-quiet_complete e slots trail all complete r c at = complete r c (all r (c, at)) at
 
 pub searches_propagate : (slots : Slots) (e f : EngineState) → Searches e slots → GrowsByUnits slots e f → SameAttached e f → Fits f slots → f.failed ≡ false → Searches f slots
 searches_propagate slots e f s grows same fits works = record {
@@ -106,49 +101,6 @@ searches_delete slots e f q s sets trail failed fits = record {
       subst (λ T. (IsFalseUnder d (literals_of (kept_to level T)) → ⊥) × ((l : Literal) → IsUnit d (literals_of (kept_to level T)) l → ⊥)) (sym trail)
       (s.quiet level (subst (λ T. level < depth_of T) trail below) r d (clause_left slots q r d at).1);
 }
-
--- Hints refute nothing where no clause is false or unit.
-
-abbrev OpensNothing : Clauses → List Literal → Type 0
-OpensNothing at A = (r : ℕ) (c : List Literal) → at r ≡ Some c → (IsFalseUnder c A → ⊥) × ((l : Literal) → IsUnit c A l → ⊥)
-
-parts_more : (A B : List Literal) (l : Literal) → Within B A → (c : List Literal) → AllByRecursion (λ k. (k ≡ l) ⊎ (contains_literal (negation k) B ≡ true)) c → AllByRecursion (λ k. (k ≡ l) ⊎ (contains_literal (negation k) A ≡ true)) c
-parts_more A B l h [] p = tt
-parts_more A B l h (k ∷ c) p = (elim (p.0) [ inl s ↦ inl s | inr f ↦ inr (h (negation k) f) ], parts_more A B l h c p.1)
-
-all_false : (A : List Literal) (l : Literal) (c : List Literal) → contains_literal (negation l) A ≡ true → AllByRecursion (λ k. (k ≡ l) ⊎ (contains_literal (negation k) A ≡ true)) c → IsFalseUnder c A
-all_false A l [] f p = tt
-all_false A l (k ∷ c) f p = (elim (p.0) [ inl s ↦ ap (λ x. contains_literal (negation x) A) s ∙ f | inr g ↦ g ], all_false A l c f p.1)
-
--- a unit clause has its literal true already
-unit_is_true : (at : Clauses) (A B : List Literal) (h : ℕ) (c : List Literal) (l : Literal) → OpensNothing at A → Within B A → at h ≡ Some c → IsUnit c B l → contains_literal l A ≡ true
-unit_is_true at A B h c l quiet within e u =
-    let others = parts_more A B l within c u.others in
-    elim (cases_Bool (contains_literal l A)) as (λ _. contains_literal l A ≡ true) [
-      | inl t ↦ t
-      | inr n ↦ elim (cases_Bool (contains_literal (negation l) A)) as (λ _. contains_literal l A ≡ true) [
-        | inl f ↦ absurd ((quiet h c e).0 (all_false A l c f others))
-        | inr o ↦ absurd ((quiet h c e).1 l (record { member = u.member; not_true = n; not_false = o; others = others }))
-      ]
-    ]
-
-quiet_leads : (at : Clauses) (A : List Literal) → OpensNothing at A → (B : List Literal) → Within B A → (hs : List ℕ) (C : List Literal) → Leads at B hs C → Within C A
-quiet_leads at A quiet B within [] C w = λ l m. within l (sym (ap (contains_literal l) w) ∙ m)
-quiet_leads at A quiet B within (h ∷ hs) C w =
-    let true_one = unit_is_true at A B h w.0 w.1 quiet within w.2 w.3 in
-    quiet_leads at A quiet (w.1 ∷ B) (λ l m. elim (or_cases (literal_eq l w.1) (contains_literal l B) m) [
-      | inl s ↦ ap (λ x. contains_literal x A) (literal_eq-true l w.1 s) ∙ true_one
-      | inr b ↦ within l b
-    ]) hs C w.4
-
-false_more : (c A B : List Literal) → ((l : Literal) → contains_literal l B ≡ true → contains_literal l A ≡ true) → IsFalseUnder c B → IsFalseUnder c A
-false_more [] A B h f = tt
-false_more (l ∷ c) A B h f = (h (negation l) f.0, false_more c A B h f.1)
-
-pub not_refuted : (at : Clauses) (A : List Literal) → OpensNothing at A → (hs : List ℕ) → Refutes at [] hs → ⊥
-not_refuted at A quiet hs w =
-    (quiet w.final w.clause w.live).0
-    (false_more w.clause A w.reached (quiet_leads at A quiet [] (λ l m. absurd (false≢true m)) w.front w.reached w.leads) w.conflict)
 
 -- A compacted store.
 

@@ -11,9 +11,6 @@ use Rattle.cdcl.specs.Running.{Runs, Writes, Pays, StaysOpen}
 use Rattle.cdcl.specs.Moves.{rounds_left, GoesOn}
 use Rattle.cdcl.proofs.Written.{writes_none, writes_join}
 
-pub open_of : (s : Search) (p : Problem) (ls : List LogLine) → Runs s p ls → StaysOpen p ls
-open_of s p ls r = let log = r.running.recorded.log in record { stays = log.stays; unrefuted = log.unrefuted }
-
 -- What is paid.
 
 pub pays_none : (given : Given) (a b : List LogLine) (s : BudgetState) → Writes given a b 0 → Pays given a b s s
@@ -89,13 +86,6 @@ pub rounds_grown : (old new : Search) (budget : BudgetState) (conflicts : ℕ) �
     → rounds_left new budget conflicts ≤ rounds_left old budget conflicts
 rounds_grown old new budget conflicts same longer =
     subst (λ n. (2 * left_of budget + flag conflicts) * (n + 2) + (n + 1 - length (new.engine).trail) ≤ rounds_left old budget conflicts) (sym same) (omega arith)
-
-pub goes_grown : (old mid new : Search) (p : Problem) (ls : List LogLine) (before after : BudgetState) (conflicts again : ℕ) → (mid.engine).variables ≡ (old.engine).variables → length (old.engine).trail ≤ length (mid.engine).trail
-    → GoesOn mid new p ls before after conflicts again → GoesOn old new p ls before after conflicts again
-goes_grown old mid new p ls before after conflicts again same longer g = record {
-  runs = g.runs;
-  fewer = (let a = rounds_grown old mid before conflicts same longer in let b = g.fewer in omega arith);
-}
 
 -- an answer that goes on
 pub goes_weaker : {A E : Type 0} (r : Result (Option A) E) (P Q : Type 0) → (P → Q) → IfOk r (λ n. IfNone n P) → IfOk r (λ n. IfNone n Q)

@@ -13,7 +13,8 @@ use Rattle.clauses.specs.Slots.{Slots, clause_at}
 use Rattle.propagate.specs.Trail.{Assigned, literals_of, value_in}
 use Rattle.propagate.specs.Fits.{IsWithin}
 use Rattle.analyze.specs.Learning.{IsQuiet}
-use Rattle.cdcl.specs.Moves.{positive, AreValues}
+use Rattle.cdcl.specs.Moves.{AreValues}
+use Rattle.cdcl_order.specs.Orders.{positive}
 
 value_by : (a b : Bool) (v : Bool) → ◌≡◌ {A = Option Bool} (if a then Some true else if b then Some false else None) (Some v) → ((v ≡ true) × (a ≡ true)) ⊎ ((v ≡ false) × (b ≡ true))
 value_by true b v e = inl (sym (same_Some true v e), refl)

@@ -3,8 +3,7 @@ use Rattle.std.proofs.Common.{◌≡◌, ◌≢◌, ℕ, zero, suc, ◌+◌, ◌
 use Rattle.std.specs.Prelude.{All, slice_get}
 use Rattle.std.specs.List.{enumerate_from}
 use Rattle.std.proofs.lemmas.Bool.{cases_eq, cases_Bool, both_ways}
-use Rattle.std.proofs.lemmas.Option.{get_or_from_slice_get, slice_get_within}
-use Rattle.std.proofs.lemmas.List.{take_more, map-append, length-set, length-replicate, get_or-set_same, get_or-set_other}
+use Rattle.std.proofs.lemmas.List.{length-set, length-replicate, get_or-set_same, get_or-set_other, get_or_default, length_push, append_assoc}
 use Rattle.std.proofs.lemmas.List.Elements.{All-set, All-replicate}
 use Rattle.wcnf.specs.Literal.{Literal}
 use Rattle.wcnf.specs.Lrat.{IsId}
@@ -18,46 +17,24 @@ use Rattle.lrat_log.specs.Steps.{given_of}
 use Rattle.cdcl.specs.Invariant.{name_at}
 use Rattle.cdcl.specs.Starts.{AreRising}
 
--- one more clause of a list
-pub store_more : (cs : List (List Literal)) (i : ℕ) (c : List Literal) (now new : Slots) → slice_get cs i ≡ Some c → now ≡ map Some (take i cs) → new ≡ now ++ Some c ∷ [] → new ≡ map Some (take (i + 1) cs)
-store_more cs i c now new at inv e =
-    let lt = slice_get_within cs i c at in
-    let is : get_or cs i c ≡ c = get_or_from_slice_get cs i c c at in
-    e ∙ ap (λ x. x ++ Some c ∷ []) inv ∙ ap (λ y. map Some (take i cs) ++ Some y ∷ []) (sym is) ∙ sym (map-append Some (take i cs) (get_or cs i c ∷ [])) ∙ ap (map Some) (sym (take_more cs i c lt))
-
-given_on : ℕ → List (List Literal) → Given
+abbrev pub given_on : ℕ → List (List Literal) → Given
 given_on n cs = map (λ e. (Formula e.0, e.1)) (enumerate_from n cs)
 
-given_push : (n : ℕ) (cs : List (List Literal)) (c : List Literal) (m : ℕ) → m ≡ n + length cs → given_on n (cs ++ c ∷ []) ≡ given_on n cs ++ (Formula m, c) ∷ []
-unfolding given_on
-given_push n [] c m e = let same : n ≡ m = omega arith in ap (λ k. (Formula k, c) ∷ []) same
-given_push n (d ∷ cs) c m e = ap (λ x. (Formula n, d) ∷ x) (given_push (n + 1) cs c m (omega arith))
+-- one more clause under its number
+pub given_next : (now : Given) (c : List Literal) (left : List (List Literal)) (all : Given) → now ++ given_on (length now + 1) (c ∷ left) ≡ all
+    → (now ++ (Formula (length now + 1), c) ∷ []) ++ given_on (length (now ++ (Formula (length now + 1), c) ∷ []) + 1) left ≡ all
+given_next now c left all e =
+    let g : Name × List Literal = (Formula (length now + 1), c) in
+    append_assoc now (g ∷ []) (given_on (length (now ++ g ∷ []) + 1) left)
+    ∙ ap (λ n. now ++ g ∷ given_on (n + 1) left) (length_push now g)
+    ∙ e
 
 clauses_on : (n : ℕ) (cs : List (List Literal)) → map (λ g. g.1) (given_on n cs) ≡ cs
-unfolding given_on
 clauses_on n [] = refl
 clauses_on n (c ∷ cs) = ap (λ x. c ∷ x) (clauses_on (n + 1) cs)
 
 pub clauses_given : (cs : List (List Literal)) → map (λ g. g.1) (given_of cs) ≡ cs
-unfolding given_on
 clauses_given cs = clauses_on 1 cs
-
-length_take : (cs : List (List Literal)) (i : ℕ) → i ≤ length cs → length (take i cs) ≡ i
-length_take cs zero h = refl
-length_take [] (suc i) h = absurd (omega arith)
-length_take (c ∷ cs) (suc i) h = let r : length (take i cs) ≡ i = length_take cs i (omega arith) in omega arith
-
-pub given_more : (cs : List (List Literal)) (i : ℕ) (c : List Literal) (now new : Given) → slice_get cs i ≡ Some c → now ≡ given_of (take i cs) → new ≡ now ++ (Formula (i + 1), c) ∷ [] → new ≡ given_of (take (i + 1) cs)
-unfolding given_on
-given_more cs i c now new at inv e =
-    let lt = slice_get_within cs i c at in
-    let is : get_or cs i c ≡ c = get_or_from_slice_get cs i c c at in
-    e ∙ ap (λ x. x ++ (Formula (i + 1), c) ∷ []) inv ∙ sym (given_push 1 (take i cs) c (i + 1) (omega (arith, length_take cs i (omega arith)))) ∙ ap (λ y. given_of (take i cs ++ y ∷ [])) (sym is) ∙ ap given_of (sym (take_more cs i c lt))
-
-pub get_any : {X : Type 0} (xs : List X) (i : ℕ) (d e : X) → i < length xs → get_or xs i d ≡ get_or xs i e
-get_any [] i d e h = absurd (omega arith)
-get_any (x ∷ xs) zero d e h = refl
-get_any (x ∷ xs) (suc i) d e h = get_any xs i d e (omega arith)
 
 -- Names by place.
 
@@ -65,13 +42,6 @@ pub record AreNamed (names : List Name) (listed : List (ℕ × Name)) (n places 
   pub long : length names ≡ places
   pub numbers : All (λ x. IsId (number_in x)) names
   pub named : (i : ℕ) (d : ℕ × Name) → i < n → i < length listed → name_at names (get_or listed i d).0 ≡ (get_or listed i d).1
-
-pub named_none : (names : List Name) (listed : List (ℕ × Name)) (places : ℕ) → names ≡ replicate places (Formula 1) → AreNamed names listed 0 places
-named_none names listed places e = record {
-  long = ap length e ∙ length-replicate places (Formula 1);
-  numbers = subst (All (λ x. IsId (number_in x))) (sym e) (All-replicate (λ x. IsId (number_in x)) places (Formula 1) (omega arith, omega arith));
-  named = λ i d lt within. absurd (omega arith);
-}
 
 pub named_more : (names : List Name) (listed : List (ℕ × Name)) (n places : ℕ) (item : ℕ × Name) → AreRising listed → All (λ x. x.0 < places) listed → All (λ x. IsId (number_in x.1)) listed
     → n < length listed → item ≡ get_or listed n item → AreNamed names listed n places → AreNamed (set names item.0 item.1) listed (n + 1) places
@@ -82,11 +52,11 @@ named_more names listed n places item rising within ids lt at a =
       numbers = All-set (λ x. IsId (number_in x)) names item.0 item.1 (subst (λ (x : ℕ × Name). IsId (number_in x.1)) (sym at) (ids n item lt)) a.numbers;
       named = λ i d h inside. elim (cases_eq i n) as (λ _. name_at (set names item.0 item.1) (get_or listed i d).0 ≡ (get_or listed i d).1) [
         | inl same ↦
-            let is : get_or listed i d ≡ item = ap (λ k. get_or listed k d) same ∙ get_any listed n d item lt ∙ sym at in
+            let is : get_or listed i d ≡ item = ap (λ k. get_or listed k d) same ∙ get_or_default listed n d item lt ∙ sym at in
             subst (λ (x : ℕ × Name). name_at (set names item.0 item.1) x.0 ≡ x.1) (sym is) (get_or-set_same names item.0 item.1 (Formula 0) low)
         | inr other ↦
             let below : i < n = omega arith in
-            let is : get_or listed n d ≡ item = get_any listed n d item lt ∙ sym at in
+            let is : get_or listed n d ≡ item = get_or_default listed n d item lt ∙ sym at in
             let less : (get_or listed i d).0 < item.0 = subst (λ (x : ℕ × Name). (get_or listed i d).0 < x.0) is (rising i n d below lt) in
             let ne : (get_or listed i d).0 ≢ item.0 = omega arith in
             get_or-set_other names item.0 (get_or listed i d).0 item.1 (Formula 0) ne ∙ a.named i d below inside
@@ -135,12 +105,12 @@ attached_more e f slots variables listed n item lt at a sets same works fits = r
   attached = λ i d h inside. elim (cases_eq (get_or listed i d).0 item.0) as (λ _. is_attached f (get_or listed i d).0 ≡ true) [
     | inl s ↦ ap (is_attached f) s ∙ sets.0
     | inr o ↦ elim (cases_eq i n) as (λ _. is_attached f (get_or listed i d).0 ≡ true) [
-      | inl here ↦ absurd (o (ap (λ (x : ℕ × Name). x.0) (ap (λ k. get_or listed k d) here ∙ get_any listed n d item lt ∙ sym at)))
+      | inl here ↦ absurd (o (ap (λ (x : ℕ × Name). x.0) (ap (λ k. get_or listed k d) here ∙ get_or_default listed n d item lt ∙ sym at)))
       | inr other ↦ sets.1 (get_or listed i d).0 o ∙ a.attached i d (omega arith) inside
     ]
   ];
   only = λ r on. elim (cases_eq r item.0) as (λ _. (i : ℕ) × (i < n + 1) × (i < length listed) × ((d : ℕ × Name) → (get_or listed i d).0 ≡ r)) [
-    | inl s ↦ (n, omega arith, lt, λ d. ap (λ (x : ℕ × Name). x.0) (get_any listed n d item lt ∙ sym at) ∙ sym s)
+    | inl s ↦ (n, omega arith, lt, λ d. ap (λ (x : ℕ × Name). x.0) (get_or_default listed n d item lt ∙ sym at) ∙ sym s)
     | inr o ↦ let w = a.only r (sym (sets.1 r o) ∙ on) in (w.0, (let h = w.1 in omega arith), w.2, w.3)
   ];
 }

@@ -117,8 +117,8 @@ adds_unit slots T names given ls hints k i r reasons flat n store h few =
     let in_trail : (y : Literal) → contains_literal y h.zeros ≡ true → contains_literal y (literals_of T) ≡ true = λ y m. ap (contains_literal y) (sym z) ∙ h.within y m in
     let within : (y : Literal) → contains_literal y h.zeros ≡ true → contains_literal y A ≡ true = λ y m.
     (let w = h.needed y m in
-    let same : w.1 ≡ n.clause = same_reference slots r w.0 n.clause w.1 (only_one r w.0 w.2) n.here w.3 in
-    let b = false_before slots T i k r n (negation y) apart (ap (contains_literal (negation y)) (sym same) ∙ w.4) (ap (λ x. contains_literal x (literals_of T)) (negation_twice y) ∙ in_trail y m) in
+    let same : w.clause ≡ n.clause = same_reference slots r w.reference n.clause w.clause (only_one r w.reference w.listed) n.here w.live in
+    let b = false_before slots T i k r n (negation y) apart (ap (contains_literal (negation y)) (sym same) ∙ w.stands) (ap (λ x. contains_literal x (literals_of T)) (negation_twice y) ∙ in_trail y m) in
     ap (λ x. contains_literal x A) (sym (negation_twice y)) ∙ b) in
     adds_learned slots names given ls (record { kind = UnitKind; clause = k ∷ []; hints = hints }) (h.units ++ r ∷ []) store refl h.spelled
     (record { no_repeat = refl; no_opposites = refl; small = omega arith })

@@ -1,21 +1,24 @@
 -- Literals that hints do not need, and clauses of one literal as hints.
 use Rattle.std.proofs.Common.{◌≡◌, ℕ, Bool, true, false, ◌||◌, List, [], ◌∷◌, ◌++◌, ◌⊎◌, inl, inr, refl, sym, ◌∙◌, subst}
 use Rattle.std.specs.List.{AllByRecursion}
+use Rattle.std.proofs.Math.Bool.{or-false}
 use Rattle.std.proofs.lemmas.Bool.{cases_Bool, or_cases, or_left, or_right, both_ways}
 use Rattle.wcnf.specs.Literal.{Literal, negation, literal_eq}
 use Rattle.wcnf.specs.Clause.{contains_literal}
 use Rattle.wcnf.specs.Refute.{Clauses, IsUnit, Leads, Refutes}
 use Rattle.wcnf.proofs.Hints.{SameMembers, refutes_after}
-use Rattle.propagate.proofs.Literals.{literal_eq-self, contains-append}
+use Rattle.propagate.proofs.Literals.{contains-append}
+use Rattle.wcnf.proofs.Marks.{literal_eq-refl}
 use Rattle.propagate.proofs.Facts.{all_weaker}
-use Rattle.cdcl.specs.Hinting.{Serves, Within, AreUnits}
+use Rattle.cdcl.specs.Hinting.{Serves, AreUnits}
+use Rattle.analyze.specs.Learning.{Within}
 
 -- A literal whose negation stands in no hinted clause is not needed.
 
 all_in : (P Q : Literal → Type 0) (c : List Literal) → ((l : Literal) → contains_literal l c ≡ true → P l → Q l) → AllByRecursion P c → AllByRecursion Q c
 all_in P Q [] f h = tt
 all_in P Q (l ∷ c) f h = (
-  f l (or_left (literal_eq l l) (contains_literal l c) (literal_eq-self l)) h.0,
+  f l (or_left (literal_eq l l) (contains_literal l c) (literal_eq-refl l)) h.0,
   all_in P Q c (λ k m. f k (or_right (literal_eq k l) (contains_literal k c) m)) h.1,
 )
 
@@ -78,7 +81,7 @@ with_all A [] = A
 with_all A (l ∷ ls) = with_all (l ∷ A) ls
 
 one_unit : (l : Literal) (A : List Literal) → contains_literal l A ≡ false → contains_literal (negation l) A ≡ false → IsUnit (l ∷ []) A l
-one_unit l A e f = record { member = or_left (literal_eq l l) false (literal_eq-self l); not_true = e; not_false = f; others = (inl refl, tt) }
+one_unit l A e f = record { member = or_left (literal_eq l l) false (literal_eq-refl l); not_true = e; not_false = f; others = (inl refl, tt) }
 
 pub leads_units : (at : Clauses) (A : List Literal) (rs : List ℕ) (ls : List Literal) → AreUnits at rs ls → AreOpen A ls → Leads at A rs (with_all A ls)
 leads_units at A [] [] u o = refl
@@ -91,10 +94,6 @@ or_swap true true c = refl
 or_swap true false c = refl
 or_swap false b c = refl
 
-or_right_false : (b : Bool) → (b || false) ≡ b
-or_right_false true = refl
-or_right_false false = refl
-
 pub contains-with_all : (k : Literal) (A ls : List Literal) → contains_literal k (with_all A ls) ≡ (contains_literal k ls || contains_literal k A)
 contains-with_all k A [] = refl
 contains-with_all k A (l ∷ ls) = contains-with_all k (l ∷ A) ls ∙ sym (or_swap (literal_eq k l) (contains_literal k ls) (contains_literal k A))
@@ -102,7 +101,7 @@ contains-with_all k A (l ∷ ls) = contains-with_all k (l ∷ A) ls ∙ sym (or_
 or_comm : (a b : Bool) → (a || b) ≡ (b || a)
 or_comm true true = refl
 or_comm true false = refl
-or_comm false b = sym (or_right_false b)
+or_comm false b = sym (or-false b)
 
 same_front : (A ls : List Literal) → SameMembers (A ++ ls) (with_all A ls)
 same_front A ls k = contains-append k A ls ∙ or_comm (contains_literal k A) (contains_literal k ls) ∙ sym (contains-with_all k A ls)

@@ -7,9 +7,11 @@ use Rattle.wcnf.specs.Clause.{contains_literal, has_repeat}
 use Rattle.wcnf.specs.Refute.{Clauses, Refutes, IsUnit, IsFalseUnder}
 use Rattle.wcnf.proofs.Sound.{literal_eq-true}
 use Rattle.propagate.specs.Trail.{Assigned, literals_of, HasReasons, IsJustified}
-use Rattle.propagate.proofs.Literals.{literal_eq-self, negation_twice}
+use Rattle.propagate.proofs.Literals.{negation_twice}
+use Rattle.wcnf.proofs.Marks.{literal_eq-refl}
 use Rattle.propagate.proofs.Reasons.{NoOpposites, justified_same, same_swap}
-use Rattle.cdcl.specs.Hinting.{Within, AreUnits}
+use Rattle.cdcl.specs.Hinting.{AreUnits}
+use Rattle.analyze.specs.Learning.{Within}
 use Rattle.cdcl.proofs.Zero.{AreOpen, refutes_after_units}
 use Rattle.analyze.proofs.Levels.{all_from}
 use Rattle.cdcl.proofs.LearnedLines.{open_all}
@@ -51,8 +53,8 @@ refutes_unit at A l us zs r c units once apart within here u wrong =
     (open_all (negation l ∷ []) zs (λ z m. (or_from (literal_eq z (negation l)) false (other z (within z m)) refl, or_from (literal_eq (negation z) (negation l)) false (not_it z (within z m)) refl)) once apart)
     here
     (all_from (λ k. contains_literal (negation k) (negation l ∷ zs) ≡ true) c (λ k m. elim (cases_Bool (literal_eq k l)) as (λ _. contains_literal (negation k) (negation l ∷ zs) ≡ true) [
-      | inl s ↦ or_left (literal_eq (negation k) (negation l)) (contains_literal (negation k) zs) (ap (λ x. literal_eq (negation x) (negation l)) (literal_eq-true k l s) ∙ literal_eq-self (negation l))
-      | inr n ↦ or_right (literal_eq (negation k) (negation l)) (contains_literal (negation k) zs) (wrong k m (λ same. both_ways _ n (ap (λ x. literal_eq x l) same ∙ literal_eq-self l)))
+      | inl s ↦ or_left (literal_eq (negation k) (negation l)) (contains_literal (negation k) zs) (ap (λ x. literal_eq (negation x) (negation l)) (literal_eq-true k l s) ∙ literal_eq-refl (negation l))
+      | inr n ↦ or_right (literal_eq (negation k) (negation l)) (contains_literal (negation k) zs) (wrong k m (λ same. both_ways _ n (ap (λ x. literal_eq x l) same ∙ literal_eq-refl l)))
     ]))
 
 -- the reason of a literal in its place on the trail

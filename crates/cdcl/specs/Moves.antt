@@ -1,10 +1,13 @@
 -- What is known while hints are gathered, and of tables after a compaction.
-use Rattle.std.specs.Prelude.{◌≡◌, ℕ, ◌+◌, ◌-◌, ◌*◌, ◌<◌, nat_lt, if◌then◌else◌, Bool, true, false, List, length, map, Option, Some, None, Contains, All, unwrap_or, slice_index_or}
+use Rattle.std.specs.Prelude.{◌≡◌, ℕ, ◌+◌, ◌-◌, ◌*◌, ◌<◌, nat_lt, if◌then◌else◌, Bool, true, false}
+use Rattle.std.specs.Prelude.{List, length, map, Option, Some, None, Contains, All, unwrap_or}
+use Rattle.std.specs.Prelude.{slice_index_or}
 use Rattle.wcnf.specs.Literal.{Literal, negation}
 use Rattle.wcnf.specs.Clause.{contains_literal, has_repeat}
 use Rattle.clauses.specs.Slots.{Slots, clause_at, Renaming}
 use Rattle.propagate.specs.Trail.{Assigned, value_in}
 use Rattle.propagate.specs.Fits.{renamed_reason}
+use Rattle.analyze.specs.Learning.{Within}
 use Rattle.lrat_log.specs.declared.lines.Name.{Name}
 use Rattle.lrat_log.specs.declared.lines.Hint.{Hint}
 use Rattle.lrat_log.specs.Log.{LogLine}
@@ -12,35 +15,42 @@ use Rattle.cdcl.specs.declared.problem.Problem.{Problem}
 use Rattle.cdcl.specs.declared.search.Search.{Search}
 use Rattle.cdcl.specs.Invariant.{name_at, is_kept_name, HasUnit, zero_of, IsRunning}
 use Rattle.cdcl_order.specs.Budgets.{BudgetState, left_of}
+use Rattle.cdcl_order.specs.Orders.{positive}
 use Rattle.cdcl.specs.Running.{tables_of, Runs}
-use Rattle.cdcl.specs.Hinting.{plain_hints, Within, Serves}
+use Rattle.cdcl.specs.Hinting.{plain_hints, Serves, IsNeededBy}
 
 -- where the clause of a literal of level 0 stands
 abbrev pub unit_at : List (Option ℕ) → Literal → ℕ
 unit_at units l = unwrap_or (slice_index_or units (l.variable - 1) None) 0
 
 abbrev pub HaveUnits : Slots → List (Option ℕ) → List Literal → Type 0
-HaveUnits slots units zeros = (l : Literal) → contains_literal l zeros ≡ true → HasUnit slots units l
+HaveUnits slots units zeros = (l : Literal) → contains_literal l zeros ≡ true
+    → HasUnit slots units l
 
 -- what is false of the literals at level 0 is so by these
 abbrev pub CoversZero : List Assigned → List Literal → List Literal → Type 0
-CoversZero T zeros c = (k : Literal) → contains_literal k c ≡ true → contains_literal (negation k) (zero_of T) ≡ true → contains_literal (negation k) zeros ≡ true
+CoversZero T zeros c = (k : Literal) → contains_literal k c ≡ true
+    → contains_literal (negation k) (zero_of T) ≡ true
+    → contains_literal (negation k) zeros ≡ true
 
--- the hints name the clauses of literals of level 0, each once, which are those that have the stamp; of some clauses, and
--- of some literals of one more, they are all that is needed
-pub record Gathers (slots : Slots) (names : List Name) (units : List (Option ℕ)) (T : List Assigned) (stamp : ℕ)
-    (all done : List ℕ) (part : List Literal) (stamps : List ℕ) (hints : List Hint) : Type 0 where
+-- the hints name the clauses of literals of level 0, each once, which are those that have the
+-- stamp; of some clauses, and of some literals of one more, they are all that is needed
+pub record Gathers (slots : Slots) (names : List Name) (units : List (Option ℕ)) (T : List Assigned)
+    (stamp : ℕ) (all done : List ℕ) (part : List Literal) (stamps : List ℕ)
+    (hints : List Hint) : Type 0 where
   pub zeros : List Literal
   pub spelled : hints ≡ plain_hints (map (name_at names) (map (unit_at units) zeros))
-  pub marked : (l : Literal) → contains_literal l zeros ≡ true → slice_index_or stamps (l.variable - 1) 0 ≡ stamp
-  pub stands : (v : ℕ) → v < length stamps → slice_index_or stamps v 0 ≡ stamp → (l : Literal) × (contains_literal l zeros ≡ true) × (l.variable - 1 ≡ v)
+  pub marked : (l : Literal) → contains_literal l zeros ≡ true
+      → slice_index_or stamps (l.variable - 1) 0 ≡ stamp
+  pub stands : (v : ℕ) → v < length stamps → slice_index_or stamps v 0 ≡ stamp
+      → (l : Literal) × (contains_literal l zeros ≡ true) × (l.variable - 1 ≡ v)
   pub from_one : (l : Literal) → contains_literal l zeros ≡ true → 0 < l.variable
   pub within : Within zeros (zero_of T)
   pub once : has_repeat zeros ≡ false
   pub have : HaveUnits slots units zeros
   pub serves : Serves (clause_at slots) (zero_of T) zeros done
   pub covers : CoversZero T zeros part
-  pub needed : (z : Literal) → contains_literal z zeros ≡ true → (r : ℕ) × (c : List Literal) × Contains all r × (clause_at slots r ≡ Some c) × (contains_literal (negation z) c ≡ true)
+  pub needed : (z : Literal) → contains_literal z zeros ≡ true → IsNeededBy slots all z
 
 -- each clause has its name at its new place
 abbrev pub NamesMoved : List Name → List Name → Renaming → Type 0
@@ -48,26 +58,32 @@ NamesMoved old new moves = All (λ m. name_at new m.1 ≡ name_at old m.0) moves
 
 -- each clause of one literal stands under its new reference
 abbrev pub UnitsMoved : List (Option ℕ) → List (Option ℕ) → Renaming → Type 0
-UnitsMoved old new moves = (v : ℕ) → slice_index_or new v None ≡ renamed_reason moves (slice_index_or old v None)
-
-abbrev pub positive : ℕ → Literal
-positive v = record { variable = v; negated = false }
+UnitsMoved old new moves = (v : ℕ) → slice_index_or new v None
+    ≡ renamed_reason moves (slice_index_or old v None)
 
 -- the bits are the values of the variables from 1, each of which has one
 abbrev pub AreValues : List Assigned → List Bool → Type 0
-AreValues T bits = (i : ℕ) → i < length bits → value_in T (positive (i + 1)) ≡ Some (slice_index_or bits i false)
+AreValues T bits = (i : ℕ) → i < length bits
+    → value_in T (positive (i + 1)) ≡ Some (slice_index_or bits i false)
 
 -- whatever clauses are given and lines are written: what is known of store, engine and tables stays
 abbrev pub KeepsState : Search → Search → Type 0
-KeepsState old new = (p : Problem) (ls : List LogLine) → IsRunning old.engine (old.store).slots p.stack (tables_of old) (p.frozen).items p.first (p.given).items ls
-    → IsRunning new.engine (new.store).slots p.stack (tables_of new) (p.frozen).items p.first (p.given).items ls
+KeepsState old new = (p : Problem) (ls : List LogLine)
+    → IsRunning old.engine (old.store).slots p.stack (tables_of old) (p.frozen).items p.first
+    (p.given).items ls
+    → IsRunning new.engine (new.store).slots p.stack (tables_of new) (p.frozen).items p.first
+    (p.given).items ls
 
--- Rounds of a search: each learns and pays a unit, starts over after something was learned, or makes one more literal true.
+-- Rounds of a search: each learns and pays a unit, starts over after something was learned, or
+-- makes one more literal true.
 abbrev pub rounds_left : Search → BudgetState → ℕ → ℕ
-rounds_left s b conflicts = (2 * left_of b + (if nat_lt 0 conflicts then 1 else 0)) * ((s.engine).variables + 2) + ((s.engine).variables + 1 - length (s.engine).trail)
+rounds_left s b conflicts =
+    (2 * left_of b + (if nat_lt 0 conflicts then 1 else 0)) * ((s.engine).variables + 2)
+    + ((s.engine).variables + 1 - length (s.engine).trail)
 
 -- after a round the search goes on, and fewer are left
-pub record GoesOn (old new : Search) (p : Problem) (ls : List LogLine) (before after : BudgetState) (conflicts again : ℕ) : Type 0 where
+pub record GoesOn (old new : Search) (p : Problem) (ls : List LogLine) (before after : BudgetState)
+    (conflicts again : ℕ) : Type 0 where
   pub runs : Runs new p ls
   pub fewer : rounds_left new after again < rounds_left old before conflicts
 

@@ -1,5 +1,6 @@
 -- What holds of a search between its moves, and what moves do.
-use Rattle.std.specs.Prelude.{◌≡◌, ℕ, ◌+◌, ◌<◌, ◌≤◌, ◌^◌, Bool, true, false, List, [], ◌∷◌, ◌++◌, length, take, map, Some, All, Result, Ok, Err}
+use Rattle.std.specs.Prelude.{◌≡◌, ℕ, ◌+◌, ◌<◌, ◌≤◌, ◌^◌, Bool, true, false, List, [], ◌∷◌, ◌++◌}
+use Rattle.std.specs.Prelude.{length, take, map, Some, All, Result, Ok, Err}
 use Rattle.wcnf.specs.Literal.{Literal}
 use Rattle.wcnf.specs.Clause.{greatest_variable}
 use Rattle.wcnf.specs.Lrat.{IsId}
@@ -12,7 +13,8 @@ use Rattle.cdcl_order.specs.Budgets.{BudgetState, left_of}
 use Rattle.cdcl_order.specs.Orders.{AreClosed}
 use Rattle.lrat_log.specs.declared.lines.Name.{Name}
 use Rattle.lrat_log.specs.Log.{LogLine, Given, number_in}
-use Rattle.lrat_log.specs.Steps.{StaysLogOver, AddsNoEmptyClause, IsBaseOf, given_of, learned_count, IsLearnedOrShort, LearnsNew, nothing_exempt}
+use Rattle.lrat_log.specs.Steps.{StaysLogOver, AddsNoEmptyClause, IsBaseOf, given_of, learned_count}
+use Rattle.lrat_log.specs.Steps.{IsLearnedOrShort, LearnsNew, nothing_exempt}
 use Rattle.cdcl.specs.declared.problem.Problem.{Problem}
 use Rattle.cdcl.specs.declared.search.Search.{Search}
 use Rattle.cdcl.specs.declared.searching.End.{End}
@@ -25,7 +27,13 @@ use Rattle.cdcl.specs.Invariant.{Tables, Searches, IsRunning}
 -- The state of a search.
 
 abbrev pub tables_of : Search → Tables
-tables_of s = record { names = (s.names).items; units = (s.units).items; noted = s.noted; kept = s.kept; additions = s.additions }
+tables_of s = record {
+  names = (s.names).items;
+  units = (s.units).items;
+  noted = s.noted;
+  kept = s.kept;
+  additions = s.additions;
+}
 
 -- the parts that go by variable have a place for each
 pub record HasRoom (s : Search) : Type 0 where
@@ -43,7 +51,8 @@ pub record IsReady (s : Search) : Type 0 where
 
 -- it goes on over the clauses given, with these lines written
 pub record Runs (s : Search) (p : Problem) (ls : List LogLine) : Type 0 where
-  pub running : IsRunning s.engine (s.store).slots p.stack (tables_of s) (p.frozen).items p.first (p.given).items ls
+  pub running : IsRunning s.engine (s.store).slots p.stack (tables_of s) (p.frozen).items p.first
+      (p.given).items ls
   pub room : HasRoom s
   -- no line before the next addition has its number as a stamp
   pub past : All (λ n. n ≤ s.additions) (s.stamps).items
@@ -52,10 +61,13 @@ pub record Runs (s : Search) (p : Problem) (ls : List LogLine) : Type 0 where
 -- what is known of the clauses given
 pub record IsProblem (p : Problem) : Type 0 where
   -- the first of them are the formula, and all have numbers
-  pub numbered : given_of (map (λ g. g.1) (take p.first (p.given).items)) ≡ take p.first (p.given).items
+  pub numbered : given_of (map (λ g. g.1) (take p.first (p.given).items))
+      ≡ take p.first (p.given).items
   pub first_within : p.first ≤ length (p.given).items
   pub based : (base : ℕ) × IsBaseOf (p.given).items base
-  pub few : (length (p.frozen).items < 2 ^ 26) × ((p.stack).variables < 2 ^ 27) × (length (p.frozen).items ≤ (p.stack).variables)
+  pub few_given : length (p.frozen).items < 2 ^ 26
+  pub few : (p.stack).variables < 2 ^ 27
+  pub no_fewer : length (p.frozen).items ≤ (p.stack).variables
   pub given_small : All (λ g. IsFormulaClause (length (p.frozen).items) g.1) (p.given).items
 
 -- Moves.
@@ -91,7 +103,8 @@ pub record Writes (given : Given) (before after : List LogLine) (learned : ℕ) 
 
 -- and a unit was paid for each learned line
 abbrev pub Pays : Given → List LogLine → List LogLine → BudgetState → BudgetState → Type 0
-Pays given before after old new = (n : ℕ) × Writes given before after n × (new ≡ record old { learned = old.learned + n })
+Pays given before after old new = (n : ℕ) × Writes given before after n
+    × (new ≡ record old { learned = old.learned + n })
 
 -- a log to which lines may be added, now and after further clauses are given
 pub record StaysOpen (p : Problem) (ls : List LogLine) : Type 0 where
@@ -105,10 +118,24 @@ pub record IsEnded (p : Problem) (ls : List LogLine) : Type 0 where
 
 -- How a search ends.
 
+-- each variable has a value, no clause is false, and the answer can be paid for
+pub record IsSatisfied (s : Search) (p : Problem) (ls : List LogLine)
+    (b : BudgetState) : Type 0 where
+  pub runs : Runs s p ls
+  pub quiet : IsQuiet (s.store).slots (literals_of (s.engine).trail)
+  pub closed : AreClosed (s.engine).trail (s.engine).variables
+  pub left : 0 < left_of b
+
+-- nothing is left of the budget, and hints do not refute what is live
+pub record IsSpent (s : Search) (p : Problem) (ls : List LogLine) (b : BudgetState) : Type 0 where
+  pub runs : Runs s p ls
+  pub quiet : (A : List Literal) × IsQuiet (s.store).slots A
+  pub spent : left_of b ≡ 0
+
 abbrev pub IsEndOf : Search → Problem → List LogLine → BudgetState → End → Type 0
-IsEndOf s p ls b Satisfied = Runs s p ls × IsQuiet (s.store).slots (literals_of (s.engine).trail) × AreClosed (s.engine).trail (s.engine).variables × (0 < left_of b)
+IsEndOf s p ls b Satisfied = IsSatisfied s p ls b
 IsEndOf s p ls b Refuted = IsEnded p ls
-IsEndOf s p ls b Spent = Runs s p ls × ((A : List Literal) × IsQuiet (s.store).slots A) × (left_of b ≡ 0)
+IsEndOf s p ls b Spent = IsSpent s p ls b
 
 -- Clauses that are given later.
 
@@ -128,13 +155,16 @@ pub record GivesOne (old new : Problem) (n : Name) (c : List Literal) : Type 0 w
   pub first : new.first ≡ old.first
 
 abbrev pub TakesClause : Search → Search → Name → List Literal → Type 0
-TakesClause old new n c = (p q : Problem) (ls : List LogLine) → IsGivable p n c → GivesOne p q n c → p.first ≤ length (p.given).items → Runs old p ls → Runs new q ls
+TakesClause old new n c = (p q : Problem) (ls : List LogLine) → IsGivable p n c → GivesOne p q n c
+    → p.first ≤ length (p.given).items → Runs old p ls → Runs new q ls
 
 abbrev pub Takes : Search → Search → Problem → Problem → Name → List Literal → Type 0
-Takes old new p q n c = (ls : List LogLine) → IsGivable p n c → p.first ≤ length (p.given).items → Runs old p ls → Runs new q ls
+Takes old new p q n c = (ls : List LogLine) → IsGivable p n c
+    → p.first ≤ length (p.given).items → Runs old p ls → Runs new q ls
 
 -- what holds of a solver between its calls
-pub record IsSolver (s : Search) (p : Problem) (ls : List LogLine) (refuted failed : Bool) : Type 0 where
+pub record IsSolver (s : Search) (p : Problem) (ls : List LogLine)
+    (refuted failed : Bool) : Type 0 where
   pub problem : IsProblem p
   pub lines : StaysLogOver (length (p.frozen).items) (p.given).items ls
   pub refuted_is : refuted ≡ is_refuted ls
@@ -142,10 +172,18 @@ pub record IsSolver (s : Search) (p : Problem) (ls : List LogLine) (refuted fail
 
 -- What a search answers.
 
+-- the bits satisfy what was given, and the search may go on
+pub record IsSatisfying (s : Search) (p : Problem) (ls : List LogLine)
+    (bits : List Bool) : Type 0 where
+  pub runs : Runs s p ls
+  pub quiet : (A : List Literal) × IsQuiet (s.store).slots A
+  pub long : length bits ≡ length (p.frozen).items
+  pub satisfied : SatisfyGiven bits (p.given).items
+
 abbrev pub IsAnswer : Search → Problem → List LogLine → BudgetState → Outcome → Type 0
-IsAnswer s p ls b (Sat bits) = Runs s p ls × ((A : List Literal) × IsQuiet (s.store).slots A) × (length bits.items ≡ length (p.frozen).items) × SatisfyGiven bits.items (p.given).items
+IsAnswer s p ls b (Sat bits) = IsSatisfying s p ls bits.items
 IsAnswer s p ls b Unsat = IsEnded p ls
-IsAnswer s p ls b Limit = Runs s p ls × ((A : List Literal) × IsQuiet (s.store).slots A) × (left_of b ≡ 0)
+IsAnswer s p ls b Limit = IsSpent s p ls b
 
 -- one for an answer with bits
 abbrev pub units_for : {E : Type 0} → Result Outcome E → ℕ
@@ -155,5 +193,7 @@ units_for (Ok Limit) = 0
 units_for (Err e) = 0
 
 -- and a unit was paid for each learned line, and for bits
-abbrev pub PaysFor : {E : Type 0} → Result Outcome E → Given → List LogLine → List LogLine → BudgetState → BudgetState → Type 0
-PaysFor answer given before after old new = (n : ℕ) × Writes given before after n × (new ≡ record old { learned = old.learned + n; answers = old.answers + units_for answer })
+abbrev pub PaysFor : {E : Type 0} → Result Outcome E → Given → List LogLine → List LogLine
+    → BudgetState → BudgetState → Type 0
+PaysFor answer given before after old new = (n : ℕ) × Writes given before after n
+    × (new ≡ record old { learned = old.learned + n; answers = old.answers + units_for answer })

@@ -1,5 +1,6 @@
 -- A search before its first move.
-use Rattle.std.specs.Prelude.{◌≡◌, ℕ, ◌<◌, ◌≤◌, true, false, List, [], length, replicate, slice_index_or, Some, None, All}
+use Rattle.std.specs.Prelude.{◌≡◌, ℕ, ◌<◌, ◌≤◌, true, false, List, [], length, replicate}
+use Rattle.std.specs.Prelude.{slice_index_or, Some, None, All}
 use Rattle.wcnf.specs.Literal.{Literal}
 use Rattle.wcnf.specs.Lrat.{IsId}
 use Rattle.clauses.specs.Slots.{Slots, clause_at}
@@ -14,14 +15,18 @@ use Rattle.cdcl.specs.Running.{HasRoom}
 
 -- the references rise
 abbrev pub AreRising : List (ℕ × Name) → Type 0
-AreRising listed = (i j : ℕ) (d : ℕ × Name) → i < j → j < length listed → (slice_index_or listed i d).0 < (slice_index_or listed j d).0
+AreRising listed = (i j : ℕ) (d : ℕ × Name) → i < j → j < length listed
+    → (slice_index_or listed i d).0 < (slice_index_or listed j d).0
 
 -- a live clause over so many variables
-abbrev pub IsLiveWithin : Slots → ℕ → ℕ → Type 0
-IsLiveWithin slots variables r = (c : List Literal) × (clause_at slots r ≡ Some c) × IsWithin variables c
+pub record IsLiveWithin (slots : Slots) (variables r : ℕ) : Type 0 where
+  pub clause : List Literal
+  pub live : clause_at slots r ≡ Some clause
+  pub within : IsWithin variables clause
 
 -- nothing is true, all clauses that the stack lists are attached, and each has its name
-pub record IsStarted (slots : Slots) (stack : StackState) (additions : ℕ) (s : Search) : Type 0 where
+pub record IsStarted (slots : Slots) (stack : StackState) (additions : ℕ)
+    (s : Search) : Type 0 where
   pub slots_are : (s.store).slots ≡ slots
   pub trail : (s.engine).trail ≡ []
   pub variables : (s.engine).variables ≡ stack.variables

@@ -12,7 +12,8 @@ use crate::search::Search;
 use std::alloc::AllocError;
 use wcnf::types::Lit;
 
-/// The values of the formula's variables: those of the trail, with the eliminated ones set on the way back.
+/// The values of the formula's variables: those of the trail, with the eliminated ones set on the
+/// way back.
 pub(crate) fn bits(search: &Search, problem: &Problem) -> Result<Vec<bool>, AllocError>
     requires runs { (ls : List LogLine) × Runs search.now problem.now ls }
     requires problem { IsProblem problem.now }

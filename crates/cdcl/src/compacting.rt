@@ -26,7 +26,8 @@ impl Search {
         requires { IsReady self.old }
         ensures runs { OnOk result (KeepsRunning self.old self.new) }
         ensures variables { OnOk result (self.new.engine.variables ≡ self.old.engine.variables) }
-        ensures together { OnOk result (self.new.store.slots ≡ map Some (live_clauses self.old.store.slots)) }
+        ensures together { OnOk result (self.new.store.slots
+            ≡ map Some (live_clauses self.old.store.slots)) }
         ensures err { OnErr result (self.new ≡ self.old) }
     {
         let moves = self.engine.compact(&mut self.store)?;

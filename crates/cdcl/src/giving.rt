@@ -27,8 +27,11 @@ fn take_clause(search: &mut Search, number: u64, lits: &[Lit]) -> Result<(), All
 fn keep_clause(problem: &mut Problem, number: u64, lits: &[Lit]) -> Result<(), AllocError>
     requires number { (0 < number) × (number < 2 ^ 62) }
     requires no_repeat { has_repeat lits.now ≡ false }
-    ensures given { OnOk result (problem.new.given.items ≡ problem.old.given.items ++ (Formula number, lits.now) ∷ []) }
-    ensures same { (problem.new.stack ≡ problem.old.stack) × (problem.new.frozen ≡ problem.old.frozen) × (problem.new.first ≡ problem.old.first) }
+    ensures given { OnOk result (problem.new.given.items
+        ≡ problem.old.given.items ++ (Formula number, lits.now) ∷ []) }
+    ensures stack { problem.new.stack ≡ problem.old.stack }
+    ensures frozen { problem.new.frozen ≡ problem.old.frozen }
+    ensures first { problem.new.first ≡ problem.old.first }
     ensures err { OnErr result (problem.new.given.items ≡ problem.old.given.items) }
 {
     let lits = Vec::from_slice(*problem.given.allocator(), lits)?;
@@ -41,7 +44,8 @@ fn keep_clause(problem: &mut Problem, number: u64, lits: &[Lit]) -> Result<(), A
     }
 }
 
-/// Gives the clause to the search, unless that has ended with the empty clause, and keeps it among those given.
+/// Gives the clause to the search, unless that has ended with the empty clause, and keeps it among
+/// those given.
 pub(crate) fn give(
     search: &mut Search,
     problem: &mut Problem,
@@ -53,9 +57,12 @@ pub(crate) fn give(
     requires ready { refuted ≡ false → IsReady search.old }
     requires within { refuted ≡ false → IsWithin search.old.engine.variables lits.now }
     requires no_repeat { has_repeat lits.now ≡ false }
-    ensures takes { OnOk result (refuted ≡ false → Takes search.old search.new problem.old problem.new (Formula number) lits.now) }
+    ensures takes { OnOk result (refuted ≡ false
+        → Takes search.old search.new problem.old problem.new (Formula number) lits.now) }
     ensures given { OnOk result (GivesOne problem.old problem.new (Formula number) lits.now) }
-    ensures same { (problem.new.stack ≡ problem.old.stack) × (problem.new.frozen ≡ problem.old.frozen) × (problem.new.first ≡ problem.old.first) }
+    ensures stack { problem.new.stack ≡ problem.old.stack }
+    ensures frozen { problem.new.frozen ≡ problem.old.frozen }
+    ensures first { problem.new.first ≡ problem.old.first }
     ensures err { OnErr result (problem.new.given.items ≡ problem.old.given.items) }
 {
     if refuted {

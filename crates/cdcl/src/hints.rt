@@ -1,5 +1,7 @@
-// The hints of a line: first the clauses of one literal that it needs, then those that the search found.
-ghost use Rattle.std.specs.Prelude.{◌≡◌, ℕ, ◌<◌, ◌≤◌, true, List, [], ◌∷◌, ◌++◌, All, length, map, Contains, IfOk, OnOk, IfSome};
+// The hints of a line: first the clauses of one literal that it needs, then those that the search
+// found.
+ghost use Rattle.std.specs.Prelude.{◌≡◌, ℕ, ◌<◌, ◌≤◌, true, List, [], ◌∷◌, ◌++◌, All, length, map};
+ghost use Rattle.std.specs.Prelude.{Contains, IfOk, OnOk, IfSome};
 ghost use Rattle.clauses.specs.Slots.{clause_at};
 ghost use Rattle.propagate.specs.Watches.{is_attached};
 ghost use Rattle.propagate.specs.Fits.{Fits};
@@ -12,8 +14,9 @@ use lrat_log::lines::{Hint, Name};
 use propagate::engine::Engine;
 use std::alloc::AllocError;
 
-/// The hints by which a line follows that needs these clauses: before them the unit clauses of the literals of level 0
-/// whose negations stand in them, each once. A stamp by variable says which were met.
+/// The hints by which a line follows that needs these clauses: before them the unit clauses of the
+/// literals of level 0 whose negations stand in them, each once. A stamp by variable says which
+/// were met.
 pub(crate) fn hints_of(
     store: &Store,
     engine: &Engine,
@@ -30,7 +33,8 @@ pub(crate) fn hints_of(
     requires past { All (λ n. n < stamp) stamps.old }
     requires attached { All (λ r. is_attached engine.now r ≡ true) references.now }
     requires noted { AreNoted store.now.slots units.now engine.now.trail references.now }
-    ensures hints { IfOk result (λ hints. AreHintsOf store.now.slots names.now engine.now.trail references.now hints.items) }
+    ensures hints { IfOk result (λ hints.
+        AreHintsOf store.now.slots names.now engine.now.trail references.now hints.items) }
     ensures past { All (λ n. n ≤ stamp) stamps.new }
     ensures long { length stamps.new ≡ length stamps.old }
 {
@@ -44,7 +48,8 @@ pub(crate) fn hints_of(
     Ok(hints)
 }
 
-/// Adds the unit clauses of the literals of level 0 whose negations stand in this clause, where they were not met before.
+/// Adds the unit clauses of the literals of level 0 whose negations stand in this clause, where
+/// they were not met before.
 fn add_units(
     hints: &mut Vec<Hint>,
     store: &Store,
@@ -61,10 +66,13 @@ fn add_units(
     requires stamps { length stamps.old ≡ engine.now.variables }
     requires past { All (λ n. n ≤ stamp) stamps.old }
     requires attached { is_attached engine.now reference ≡ true }
-    requires noted { IfSome (clause_at store.now.slots reference) (IsNotedIn store.now.slots units.now engine.now.trail) }
+    requires noted { IfSome (clause_at store.now.slots reference)
+        (IsNotedIn store.now.slots units.now engine.now.trail) }
     ensures gathers { OnOk result ((all done : List ℕ) → Contains all reference
-        → Gathers store.now.slots names.now units.now engine.now.trail stamp all done [] stamps.old hints.old.items
-        → Gathers store.now.slots names.now units.now engine.now.trail stamp all (done ++ reference ∷ []) [] stamps.new hints.new.items) }
+        → Gathers store.now.slots names.now units.now engine.now.trail stamp all
+        done [] stamps.old hints.old.items
+        → Gathers store.now.slots names.now units.now engine.now.trail stamp all
+        (done ++ reference ∷ []) [] stamps.new hints.new.items) }
     ensures past { All (λ n. n ≤ stamp) stamps.new }
 {
     for lit in store.lits(reference) {
@@ -87,7 +95,8 @@ fn add_units(
 /// Adds these clauses, by name.
 fn add_named(hints: &mut Vec<Hint>, names: &[Name], references: &[CRef]) -> Result<(), AllocError>
     requires { All (λ r. r < length names.now) references.now }
-    ensures { OnOk result (hints.new.items ≡ hints.old.items ++ plain_hints (map (name_at names.now) references.now)) }
+    ensures { OnOk result (hints.new.items
+        ≡ hints.old.items ++ plain_hints (map (name_at names.now) references.now)) }
 {
     for reference in references {
         hints.push(Hint::Plain(names[reference.index()]))?;

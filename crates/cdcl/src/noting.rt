@@ -1,5 +1,7 @@
-// What is true at level 0 is written down as clauses of one literal, so that later lines may use it as hints.
-ghost use Rattle.std.specs.Prelude.{◌≡◌, ℕ, ◌+◌, ◌<◌, ◌≤◌, [], ◌∷◌, ◌++◌, Some, length, slice_index_or, OnOk, OnErr};
+// What is true at level 0 is written down as clauses of one literal, so that later lines may use it
+// as hints.
+ghost use Rattle.std.specs.Prelude.{◌≡◌, ℕ, ◌+◌, ◌<◌, ◌≤◌, [], ◌∷◌, ◌++◌, Some, length};
+ghost use Rattle.std.specs.Prelude.{slice_index_or, OnOk, OnErr};
 ghost use Rattle.propagate.specs.Trail.{literals_of, depth_of};
 ghost use Rattle.propagate.specs.Fits.{IsFalseClause};
 ghost use Rattle.analyze.specs.Learning.{IsQuiet};
@@ -26,8 +28,12 @@ pub(crate) fn note_units<S: Sink>(
     ensures runs { OnOk result (Runs search.new problem.now (S.lines sink.new)) }
     ensures all { OnOk result (length (zero_of search.new.engine.trail) ≤ search.new.noted) }
     ensures trail { OnOk result (search.new.engine.trail ≡ search.old.engine.trail) }
-    ensures quiet { OnOk result (IsQuiet search.old.store.slots (literals_of search.old.engine.trail) → IsQuiet search.new.store.slots (literals_of search.new.engine.trail)) }
-    ensures clauses { OnOk result ((r : ℕ) → IsFalseClause search.old.store.slots search.old.engine r → IsFalseClause search.new.store.slots search.new.engine r) }
+    ensures quiet { OnOk result
+        (IsQuiet search.old.store.slots (literals_of search.old.engine.trail)
+        → IsQuiet search.new.store.slots (literals_of search.new.engine.trail)) }
+    ensures clauses { OnOk result ((r : ℕ)
+        → IsFalseClause search.old.store.slots search.old.engine r
+        → IsFalseClause search.new.store.slots search.new.engine r) }
     ensures variables { OnOk result (search.new.engine.variables ≡ search.old.engine.variables) }
     ensures writes { Writes problem.now.given.items (S.lines sink.old) (S.lines sink.new) 0 }
     ensures err { OnErr result (StaysOpen problem.now (S.lines sink.new)) }
@@ -38,7 +44,8 @@ pub(crate) fn note_units<S: Sink>(
     Ok(())
 }
 
-/// Writes a Unit line for the next literal of level 0: by its reason, and the unit clauses of the literals before it.
+/// Writes a Unit line for the next literal of level 0: by its reason, and the unit clauses of the
+/// literals before it.
 fn note_unit<S: Sink>(
     search: &mut Search,
     problem: &Problem,
@@ -50,9 +57,12 @@ fn note_unit<S: Sink>(
     ensures runs { OnOk result (Runs search.new problem.now (S.lines sink.new)) }
     ensures noted { OnOk result (search.new.noted ≡ search.old.noted + 1) }
     ensures trail { OnOk result (search.new.engine.trail ≡ search.old.engine.trail) }
-    ensures slots { OnOk result (search.new.store.slots ≡ search.old.store.slots ++ Some (slice_index_or (literals_of search.old.engine.trail) search.old.noted (positive 0) ∷ []) ∷ []) }
+    ensures slots { OnOk result (search.new.store.slots ≡ search.old.store.slots ++ Some (
+        slice_index_or (literals_of search.old.engine.trail) search.old.noted (positive 0) ∷ []
+        ) ∷ []) }
     ensures variables { OnOk result (search.new.engine.variables ≡ search.old.engine.variables) }
-    ensures writes { OnOk result (Writes problem.now.given.items (S.lines sink.old) (S.lines sink.new) 0) }
+    ensures writes { OnOk result (
+        Writes problem.now.given.items (S.lines sink.old) (S.lines sink.new) 0) }
     ensures err { OnErr result (S.lines sink.new ≡ S.lines sink.old) }
 {
     let lit = search.engine.trail()[search.noted];

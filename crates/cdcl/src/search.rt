@@ -1,5 +1,6 @@
 // The state of a search, and the moves of its engine.
-ghost use Rattle.std.specs.Prelude.{◌≡◌, ℕ, true, false, ◌+◌, ◌<◌, ◌≤◌, [], ◌∷◌, ◌++◌, Some, None, length, All, IfOk, OnOk, IfSome, IfNone};
+ghost use Rattle.std.specs.Prelude.{◌≡◌, ℕ, true, false, ◌+◌, ◌<◌, ◌≤◌, [], ◌∷◌, ◌++◌, Some, None};
+ghost use Rattle.std.specs.Prelude.{length, All, IfOk, OnOk, IfSome, IfNone};
 ghost use Rattle.propagate.specs.Trail.{literals_of, depth_of, kept_to};
 ghost use Rattle.propagate.specs.Fits.{GrowsByUnits, IsFalseClause};
 ghost use Rattle.analyze.specs.Learning.{IsQuiet};
@@ -39,23 +40,30 @@ pub(crate) struct Search {
     pub(crate) order: Order,
     /// The memory of conflict analysis.
     pub(crate) analyzer: Analyzer,
-    /// How many learned clauses of more than two literals are live. It is a count for the choice of deletions alone.
+    /// How many learned clauses of more than two literals are live. It is a count for the choice of
+    /// deletions alone.
     pub(crate) long: usize,
     /// How often clauses were deleted, likewise.
     pub(crate) reductions: u64,
 }
 
 impl Search {
-    /// Makes true what is left, and answers a clause that is false, or none: then no clause is false or unit.
+    /// Makes true what is left, and answers a clause that is false, or none: then no clause is
+    /// false or unit.
     pub(crate) fn propagate(&mut self) -> Result<Option<CRef>, AllocError>
         requires { IsReady self.old }
         ensures runs { OnOk result (KeepsRunning self.old self.new) }
         ensures ready { OnOk result (IsReady self.new) }
-        ensures conflict { IfOk result (λ found. IfSome found (IsFalseClause self.new.store.slots self.new.engine)) }
-        ensures quiet { IfOk result (λ found. IfNone found (IsQuiet self.new.store.slots (literals_of self.new.engine.trail))) }
-        ensures depth { OnOk result (depth_of self.new.engine.trail ≡ depth_of self.old.engine.trail) }
+        ensures conflict { IfOk result (λ found.
+            IfSome found (IsFalseClause self.new.store.slots self.new.engine)) }
+        ensures quiet { IfOk result (λ found. IfNone found
+            (IsQuiet self.new.store.slots (literals_of self.new.engine.trail))) }
+        ensures depth { OnOk result (depth_of self.new.engine.trail
+            ≡ depth_of self.old.engine.trail) }
         ensures grows { OnOk result (length self.old.engine.trail ≤ length self.new.engine.trail) }
-        ensures same { (self.new.store ≡ self.old.store) × (self.new.noted ≡ self.old.noted) × (self.new.engine.variables ≡ self.old.engine.variables) }
+        ensures store { self.new.store ≡ self.old.store }
+        ensures noted { self.new.noted ≡ self.old.noted }
+        ensures variables { self.new.engine.variables ≡ self.old.engine.variables }
     {
         match self.engine.propagate(&self.store) {
             Ok(found) => Ok(found),
@@ -63,7 +71,8 @@ impl Search {
         }
     }
 
-    /// Undoes the levels above this one. Their variables may be decided again, with the value that they have now first.
+    /// Undoes the levels above this one. Their variables may be decided again, with the value that
+    /// they have now first.
     pub(crate) fn backtrack(&mut self, level: u32)
         requires ready { IsReady self.old }
         requires level { level ≤ depth_of self.old.engine.trail }
@@ -72,7 +81,10 @@ impl Search {
         ensures ready { IsReady self.new }
         ensures trail { self.new.engine.trail ≡ kept_to level self.old.engine.trail }
         ensures variables { self.new.engine.variables ≡ self.old.engine.variables }
-        ensures engine { self.new ≡ record self.old { engine = self.new.engine; order = self.new.order } }
+        ensures engine { self.new ≡ record self.old {
+          engine = self.new.engine;
+          order = self.new.order;
+        } }
     {
         put_back(&mut self.order, &self.engine, level);
         self.engine.backtrack(level);
@@ -93,9 +105,11 @@ impl Search {
         requires quiet { IsQuiet self.old.store.slots (literals_of self.old.engine.trail) }
         requires noted { length (zero_of self.old.engine.trail) ≤ self.old.noted }
         ensures runs { KeepsRunning self.old self.new }
-        ensures longer { result ≡ true → length self.new.engine.trail ≡ length self.old.engine.trail + 1 }
+        ensures longer { result ≡ true
+            → length self.new.engine.trail ≡ length self.old.engine.trail + 1 }
         ensures within { length self.old.engine.trail ≤ self.old.engine.variables }
-        ensures closed { result ≡ false → AreClosed self.old.engine.trail self.old.engine.variables }
+        ensures closed { result ≡ false
+            → AreClosed self.old.engine.trail self.old.engine.variables }
         ensures stays { result ≡ false → self.new.engine ≡ self.old.engine }
         ensures variables { self.new.engine.variables ≡ self.old.engine.variables }
         ensures store { self.new.store ≡ self.old.store }

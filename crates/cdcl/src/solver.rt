@@ -1,12 +1,17 @@
 // The solver.
-ghost use Rattle.std.specs.Prelude.{◌≡◌, ℕ, ◌+◌, Bool, true, false, List, [], ◌∷◌, ◌++◌, length, Ok, Err, All, IfOk, OnOk, OnErr, IsErr, ◌↔◌, ◌⊎◌};
+ghost use Rattle.std.specs.Prelude.{◌≡◌, ℕ, ◌+◌, Bool, true, false, List, [], ◌∷◌, ◌++◌, length};
+ghost use Rattle.std.specs.Prelude.{Ok, Err, All, IfOk, OnOk, OnErr, IsErr, ◌↔◌, ◌⊎◌};
 ghost use Rattle.std.specs.List.{AllByRecursion};
 ghost use Rattle.wcnf.specs.Clause.{has_repeat, has_opposites};
-ghost use Rattle.lrat_log.specs.Steps.{IsLogOver, IsAcceptedLog, IsBaseOf, AddsNoEmptyClause, learned_count, IsShortLine, IsLearnedOrShort, LearnsNew, nothing_exempt};
+ghost use Rattle.lrat_log.specs.Steps.{IsLogOver, IsAcceptedLog, IsBaseOf, AddsNoEmptyClause};
+ghost use Rattle.lrat_log.specs.Steps.{learned_count, IsShortLine, IsLearnedOrShort, LearnsNew};
+ghost use Rattle.lrat_log.specs.Steps.{nothing_exempt};
 ghost use Rattle.cdcl_order.specs.Budgets.{left_of};
 ghost use Rattle.cdcl.specs.declared.outcome.Outcome.TheVariants.{Unsat};
 ghost use Rattle.cdcl.specs.Running.{Runs, IsProblem, IsAnswer, PaysFor, StaysOpen};
-ghost use Rattle.cdcl.specs.Solving.{given_to, IsFreshName, IsFrozen, SameGiven, GivesMore, OnSat, OnUnsat, OnLimit, answer_count, SatisfyGiven, is_refuted, IsPlainlyRefuted, IsLiveRefuted, lines_since};
+ghost use Rattle.cdcl.specs.Solving.{given_to, IsFreshName, IsFrozen, SameGiven, GivesMore, OnSat};
+ghost use Rattle.cdcl.specs.Solving.{OnUnsat, OnLimit, answer_count, SatisfyGiven, is_refuted};
+ghost use Rattle.cdcl.specs.Solving.{IsPlainlyRefuted, IsLiveRefuted, lines_since};
 
 use crate::answers::bits;
 use crate::budget::Budget;
@@ -44,7 +49,10 @@ impl<S: Sink> Model for Solver<S> {
     ghost Value = { SolverState S };
 
     ghost view = { λ s. record {
-      formula = record { variables = length s.problem.frozen.items; clauses = map (λ g. g.1) (take s.problem.first s.problem.given.items) };
+      formula = record {
+        variables = length s.problem.frozen.items;
+        clauses = map (λ g. g.1) (take s.problem.first s.problem.given.items);
+      };
       added = drop s.problem.first s.problem.given.items;
       frozen = s.problem.frozen.items;
       sink = s.sink;
@@ -59,7 +67,8 @@ impl<S: Sink> Solver<S> {
     pub fn new(formula: &Formula, frozen: &[bool], sink: S) -> Result<Self, AllocError>
         requires frozen { length frozen.now ≡ formula.now.variables }
         requires empty { S.lines sink ≡ [] }
-        ensures given { IfOk result (λ s. (s.formula ≡ formula.now) × (s.added ≡ []) × (s.frozen ≡ frozen.now)) }
+        ensures given { IfOk result (λ s.
+            (s.formula ≡ formula.now) × (s.added ≡ []) × (s.frozen ≡ frozen.now)) }
         ensures works { IfOk result (λ s. s.failed ≡ false) }
         ensures lines { IfOk result (λ s. IsLogOver (given_to s) (S.lines s.sink)) }
         ensures none_learned { IfOk result (λ s. learned_count (S.lines s.sink) ≡ 0) }
@@ -119,16 +128,20 @@ impl<S: Sink> Solver<S> {
         requires no_repeat { has_repeat lits.now ≡ false }
         requires no_opposites { has_opposites lits.now ≡ false }
         ensures ok { OnOk result (GivesMore self.old self.new name lits.now) }
-        ensures memory { result ≡ Err SolveFault.Memory → SameGiven self.old self.new ⊎ GivesMore self.old self.new name lits.now }
+        ensures memory { result ≡ Err SolveFault.Memory
+            → SameGiven self.old self.new ⊎ GivesMore self.old self.new name lits.now }
         ensures unchanged { result ≡ Err SolveFault.Failed → SameGiven self.old self.new }
         ensures failed { (result ≡ Err SolveFault.Failed) ↔ (self.old.failed ≡ true) }
         ensures fails { IsErr result ↔ (self.new.failed ≡ true) }
 
         // The lines.
-        ensures grows { S.lines self.new.sink ≡ S.lines self.old.sink ++ lines_since (S.lines self.old.sink) (S.lines self.new.sink) }
+        ensures grows { S.lines self.new.sink
+            ≡ S.lines self.old.sink ++ lines_since (S.lines self.old.sink) (S.lines self.new.sink) }
         ensures lines { IsLogOver (given_to self.new) (S.lines self.new.sink) }
-        ensures none_learned { learned_count (lines_since (S.lines self.old.sink) (S.lines self.new.sink)) ≡ 0 }
-        ensures short { All IsShortLine (lines_since (S.lines self.old.sink) (S.lines self.new.sink)) }
+        ensures none_learned { learned_count
+            (lines_since (S.lines self.old.sink) (S.lines self.new.sink)) ≡ 0 }
+        ensures short { All IsShortLine
+            (lines_since (S.lines self.old.sink) (S.lines self.new.sink)) }
     {
         if self.failed {
             return Err(SolveFault::Failed);
@@ -153,8 +166,8 @@ impl<S: Sink> Solver<S> {
         }
     }
 
-    /// A hint for the order of decisions, on which no answer depends: the literal's variable starts at the share that its
-    /// weight has of the greatest weight so far.
+    /// A hint for the order of decisions, on which no answer depends: the literal's variable starts
+    /// at the share that its weight has of the greatest weight so far.
     pub fn weigh(&mut self, lit: Lit, weight: u64)
         ensures same { self.new ≡ self.old }
     {
@@ -163,28 +176,36 @@ impl<S: Sink> Solver<S> {
 
     /// Searches until it has an answer or the budget is spent.
     pub fn solve(&mut self, budget: &mut Budget) -> Result<Outcome, SolveFault>
-        ensures sat { OnSat result (λ bits. (length bits ≡ self.old.formula.variables) × SatisfyGiven bits (given_to self.old)) }
+        ensures sat { OnSat result (λ bits. (length bits ≡ self.old.formula.variables)
+            × SatisfyGiven bits (given_to self.old)) }
         ensures unsat { OnUnsat result (IsAcceptedLog (given_to self.old) (S.lines self.new.sink)) }
         ensures limit { OnLimit result (left_of budget.new ≡ 0) }
 
         // Where it answers at once.
         ensures refuted { OnOk result (IsPlainlyRefuted self.old → result ≡ Ok Outcome.Unsat) }
-        ensures propagates { OnOk result (IsLiveRefuted (given_to self.old) (S.lines self.old.sink) → result ≡ Ok Outcome.Unsat) }
-        ensures again { is_refuted (S.lines self.old.sink) ≡ true → self.old.failed ≡ false → (result ≡ Ok Outcome.Unsat) × (budget.new ≡ budget.old) }
+        ensures propagates { OnOk result (IsLiveRefuted (given_to self.old) (S.lines self.old.sink)
+            → result ≡ Ok Outcome.Unsat) }
+        ensures again { is_refuted (S.lines self.old.sink) ≡ true → self.old.failed ≡ false
+            → (result ≡ Ok Outcome.Unsat) × (budget.new ≡ budget.old) }
         ensures failed { (result ≡ Err SolveFault.Failed) ↔ (self.old.failed ≡ true) }
         ensures fails { IsErr result ↔ (self.new.failed ≡ true) }
 
         // The lines, at every return.
         ensures given { SameGiven self.old self.new }
-        ensures grows { S.lines self.new.sink ≡ S.lines self.old.sink ++ lines_since (S.lines self.old.sink) (S.lines self.new.sink) }
+        ensures grows { S.lines self.new.sink
+            ≡ S.lines self.old.sink ++ lines_since (S.lines self.old.sink) (S.lines self.new.sink) }
         ensures lines { IsLogOver (given_to self.new) (S.lines self.new.sink) }
-        ensures open { OnOk result ((result ≡ Ok Outcome.Unsat → ⊥) → AddsNoEmptyClause (S.lines self.new.sink)) }
-        ensures short { All IsLearnedOrShort (lines_since (S.lines self.old.sink) (S.lines self.new.sink)) }
+        ensures open { OnOk result ((result ≡ Ok Outcome.Unsat → ⊥)
+            → AddsNoEmptyClause (S.lines self.new.sink)) }
+        ensures short { All IsLearnedOrShort
+            (lines_since (S.lines self.old.sink) (S.lines self.new.sink)) }
         ensures new { (base : ℕ) → IsBaseOf (given_to self.old) base
-            → LearnsNew nothing_exempt (given_to self.old) base (S.lines self.old.sink) (lines_since (S.lines self.old.sink) (S.lines self.new.sink)) }
+            → LearnsNew nothing_exempt (given_to self.old) base (S.lines self.old.sink)
+            (lines_since (S.lines self.old.sink) (S.lines self.new.sink)) }
 
         // The effort.
-        ensures learned { budget.new.learned ≡ budget.old.learned + learned_count (lines_since (S.lines self.old.sink) (S.lines self.new.sink)) }
+        ensures learned { budget.new.learned ≡ budget.old.learned
+            + learned_count (lines_since (S.lines self.old.sink) (S.lines self.new.sink)) }
         ensures answers { budget.new.answers ≡ budget.old.answers + answer_count result }
         ensures same_limit { budget.new.limit ≡ budget.old.limit }
     {
@@ -219,8 +240,10 @@ fn answer<S: Sink>(
     requires runs { Runs search.old problem.now (S.lines sink.old) }
     requires problem { IsProblem problem.now }
     ensures answers { IfOk result (IsAnswer search.new problem.now (S.lines sink.new) budget.new) }
-    ensures propagates { IfOk result (λ o. IsLiveRefuted problem.now.given.items (S.lines sink.old) → o ≡ Unsat) }
-    ensures pays { PaysFor result problem.now.given.items (S.lines sink.old) (S.lines sink.new) budget.old budget.new }
+    ensures propagates { IfOk result (λ o.
+        IsLiveRefuted problem.now.given.items (S.lines sink.old) → o ≡ Unsat) }
+    ensures pays { PaysFor result problem.now.given.items (S.lines sink.old) (S.lines sink.new)
+        budget.old budget.new }
     ensures err { OnErr result (StaysOpen problem.now (S.lines sink.new)) }
 {
     let end = run(search, problem, sink, budget)?;

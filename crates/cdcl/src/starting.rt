@@ -25,8 +25,8 @@ pub(crate) fn store_of(clauses: &ClauseList) -> Result<Store, AllocError>
     ensures { IfOk result (λ store. store.slots ≡ map Some clauses.now) }
 {
     let mut store = Store::new(clauses.allocator());
-    for place in 0..clauses.len() {
-        store.add(clauses.get(place))?;
+    for clause in clauses.iter() {
+        store.add(clause)?;
     }
     Ok(store)
 }
@@ -43,9 +43,9 @@ pub(crate) fn given_clauses(clauses: &ClauseList) -> Result<Vec<(Name, Clause)>,
     }
     let alloc = clauses.allocator();
     let mut given = Vec::new(alloc);
-    for place in 0..clauses.len() {
-        let lits = Vec::from_slice(alloc, clauses.get(place))?;
-        let number = Number::new(place as u64 + 1);
+    for clause in clauses.iter() {
+        let lits = Vec::from_slice(alloc, clause)?;
+        let number = Number::new(given.len() as u64 + 1);
         given.push((Name::Formula(number), Clause::new(lits)))?;
     }
     Ok(given)
@@ -77,7 +77,9 @@ fn engine_of(
     requires rising { AreRising listed.now }
     requires live { All (λ n. IsLiveWithin store.now.slots variables n.0) listed.now }
     ensures fits { IfOk result (λ e. Fits e store.now.slots) }
-    ensures fresh { IfOk result (λ e. (e.trail ≡ []) × (e.variables ≡ variables) × (e.failed ≡ false)) }
+    ensures empty { IfOk result (λ e. e.trail ≡ []) }
+    ensures variables { IfOk result (λ e. e.variables ≡ variables) }
+    ensures works { IfOk result (λ e. e.failed ≡ false) }
     ensures attached { IfOk result (λ e. All (λ n. is_attached e n.0 ≡ true) listed.now) }
 {
     let mut engine = Engine::new(alloc, variables)?;

@@ -7,8 +7,8 @@ ghost use Rattle.cdcl.specs.Moves.{NamesMoved, UnitsMoved};
 use clauses::store::{CRef, MaybeCRef, Moves};
 use lrat_log::lines::Name;
 
-/// Moves each name to its clause's new place, of which there are so many. No place is written before it is read, since no
-/// reference rises.
+/// Moves each name to its clause's new place, of which there are so many. No place is written
+/// before it is read, since no reference rises.
 pub(crate) fn move_names(names: &mut Vec<Name>, pairs: &[(CRef, CRef)], places: usize)
     requires rising { IsStrictlyIncreasing (map (λ p. p.1) pairs.now) }
     requires lower { All (λ p. p.1 ≤ p.0) pairs.now }

@@ -7,8 +7,8 @@ use lrat_log::lines::Line;
 use lrat_log::sink::Sink;
 use std::alloc::AllocError;
 
-/// The sink of a solver while clauses are eliminated, which knows how many additions it has taken, and whether the empty
-/// clause was one of them.
+/// The sink of a solver while clauses are eliminated, which knows how many additions it has taken,
+/// and whether the empty clause was one of them.
 #[derive(Drop)]
 pub(crate) struct Tally<S: Sink> {
     pub(crate) sink: S,

@@ -1,5 +1,6 @@
 // Clauses come to the store, the engine and the log together.
-ghost use Rattle.std.specs.Prelude.{◌≡◌, ◌+◌, ◌<◌, ◌^◌, false, All, [], ◌∷◌, ◌++◌, length, IfOk, OnOk, OnErr};
+ghost use Rattle.std.specs.Prelude.{◌≡◌, ◌+◌, ◌<◌, ◌^◌, false, All, [], ◌∷◌, ◌++◌, length, IfOk};
+ghost use Rattle.std.specs.Prelude.{OnOk, OnErr};
 ghost use Rattle.wcnf.specs.Lrat.{IsId};
 ghost use Rattle.propagate.specs.Fits.{IsWithin};
 ghost use Rattle.lrat_log.specs.declared.lines.Name.TheVariants.{Added};
@@ -31,7 +32,8 @@ impl Search {
         }
     }
 
-    /// Adds a clause that follows by these hints. Its line is written last, so that a refused growth writes none.
+    /// Adds a clause that follows by these hints. Its line is written last, so that a refused
+    /// growth writes none.
     pub(crate) fn add_line<S: Sink>(
         &mut self,
         sink: &mut S,
@@ -45,11 +47,16 @@ impl Search {
         requires hints { All (λ h. IsId (number_in (name_of h))) hints.items }
         requires counted { self.old.additions ≡ added_count (S.lines sink.old) }
         requires few { self.old.additions < 2 ^ 61 }
-        ensures placed { OnOk result (Places self.old self.new (Added (self.old.additions + 1)) lits.now) }
+        ensures placed { OnOk result
+            (Places self.old self.new (Added (self.old.additions + 1)) lits.now) }
         ensures additions { OnOk result (self.new.additions ≡ self.old.additions + 1) }
         ensures few { OnOk result (self.new.additions < 2 ^ 61) }
         ensures reference { IfOk result (λ r. r ≡ length self.old.store.slots) }
-        ensures lines { OnOk result (S.lines sink.new ≡ S.lines sink.old ++ record { kind = kind; clause = lits.now; hints = hints.items } ∷ []) }
+        ensures lines { OnOk result (S.lines sink.new ≡ S.lines sink.old ++ record {
+          kind = kind;
+          clause = lits.now;
+          hints = hints.items;
+        } ∷ []) }
         ensures err { OnErr result (S.lines sink.new ≡ S.lines sink.old) }
     {
         let name = Name::Added(Number::new(self.additions + 1));

@@ -1,12 +1,12 @@
 use Rattle.std.proofs.Common.{rules, ◌≡◌, ◌≢◌, ◌<◌, ◌+◌, ◌++◌, ◌∷◌, [], sym, ◌∙◌, ap, length, get_or, take, inl, inr, arith}
-use Rattle.std.proofs.lemmas.List.{take_more, get_or_default}
+use Rattle.std.proofs.lemmas.List.{take_more, get_or_default, length-map}
 use Rattle.wcnf.specs.Literal.{negation}
 use Rattle.clauses.specs.Slots.{clause_at}
-use Rattle.propagate.specs.Trail.{literals_of}
+use Rattle.propagate.specs.Trail.{Assigned, literals_of}
 use Rattle.analyze.specs.declared.marks.Mark.TheVariants.{Kept}
 use Rattle.analyze.specs.Marks.{mark_at, others_in}
 use Rattle.analyze.proofs.Listing.{sweep_first, sweep_next}
-use Rattle.analyze.proofs.Walking.{literal_here, length_literals}
+use Rattle.analyze.proofs.Walking.{literal_here}
 use Rattle.analyze.proofs.Collecting.{passes_is, passes_not, others_yes, others_no, others_pass}
 use Rattle.analyze.proofs.collect.collect_literals.Goals as goal
 use Rattle.analyze.proofs.collect.collect_literals.Goals.{then-eq+then-variable+in_ok-push-2, else-eq, else-eq-via-then-eq+else-variable, else-eq-via-else-eq}
@@ -32,7 +32,7 @@ loop-position-preserved c =
     let within : p < length T = c.requires.listed.within q 0 lt in
     let k = c.literal_at-lit.result in
     let here : get_or L p k ≡ k = literal_here T p k within ∙ sym c.literal_at-lit.ensures in
-    let long = length_literals T in
+    let long = length-map T (λ (x : Assigned). x.literal) in
     let in_list : p < length L = omega arith in
     let next = sweep_next (others_in M u) L (clause_at c.requires.fits.0) T M met q c.requires.fits.1.reasons c.requires.listed c.requires.rising lt (others_pass T M u) in
     let more : others_in M u (take (get_or met (q + 1) (length T)) L) ≡ others_in M u (take p L ++ k ∷ []) = next ∙ ap (others_in M u) (take_more L p k in_list) ∙ ap (λ x. others_in M u (take p L ++ x ∷ [])) here in

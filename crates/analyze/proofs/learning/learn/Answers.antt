@@ -1,23 +1,23 @@
-use Rattle.std.proofs.Common.{arith, ◌≡◌, ◌≤◌, sym, ◌∙◌, ap, subst}
-use Rattle.std.specs.Prelude.{All, IfSome}
+use Rattle.std.proofs.Common.{arith, ◌≤◌, sym, ◌∙◌, ap, subst}
+use Rattle.std.specs.Prelude.{All}
 use Rattle.wcnf.specs.Literal.{Literal, negation}
 use Rattle.clauses.specs.Slots.{clause_at}
 use Rattle.propagate.specs.Trail.{literals_of}
-use Rattle.analyze.specs.Learning.{IsConflict, IsAsserting, IsRefutedBy, greatest_level}
-use Rattle.analyze.specs.Marks.{kept_of, resolved_of, others_in, learned_from, IsReduced}
-use Rattle.analyze.specs.Met.{HasMet, IsRising}
+use Rattle.analyze.specs.Learning.{IsAsserting, IsRefutedBy, greatest_level}
+use Rattle.analyze.specs.Marks.{kept_of, resolved_of, others_in, learned_from}
+use Rattle.analyze.specs.Met.{HasMet}
 use Rattle.analyze.proofs.Counting.{current_clear}
 use Rattle.analyze.proofs.Fitting.{false_within}
 use Rattle.analyze.proofs.Listing.{listed_none, has_sorted, rising_sorted}
 use Rattle.analyze.proofs.Resolving.{marked_start}
 use Rattle.analyze.proofs.Marked.{marked_refutes}
-use Rattle.analyze.proofs.Collecting.{start_above, start_some, learned_asserting, learned_collected, learned_within, tail_is}
+use Rattle.analyze.proofs.Collecting.{conflict_is, start_above, start_some, learned_asserting, learned_collected, learned_within, tail_is}
 use Rattle.analyze.proofs.learning.learn.Goals as goal
 
 pub mark_clause-count-requires-clause-named : goal.mark_clause-count-requires-clause-named
 mark_clause-count-requires-clause-named c =
-    let conflict : IsConflict c.args.engine.now.trail c.lits.result.now = subst (λ o. IfSome o (IsConflict c.args.engine.now.trail)) c.lits.ensures c.requires.falsified in
-    false_within c.args.engine.now c.args.store.now.slots c.lits.result.now c.requires.fits conflict.0
+    let conflict = conflict_is c.args.engine.now.trail c.lits.result.now _ c.lits.ensures c.requires.falsified in
+    false_within c.args.engine.now c.args.store.now.slots c.lits.result.now c.requires.fits conflict.falsified
 
 pub resolve-asserting-requires-clause-above : goal.resolve-asserting-requires-clause-above
 resolve-asserting-requires-clause-above c = start_above c.args.engine.now.trail c.lits.result.now c.args.marks.now c.mark_clause-count.new.marks c.requires.clear c.mark_clause-count.ensures.marked
@@ -30,15 +30,10 @@ resolve-asserting-requires-clause-counted c =
 
 pub resolve-asserting-requires-clause-some : goal.resolve-asserting-requires-clause-some
 resolve-asserting-requires-clause-some c =
-    let e = c.args.engine.now in
-    let T = e.trail in
-    let slots = c.args.store.now.slots in
-    let at = clause_at slots in
-    let ls = c.lits.result.now in
+    let T = c.args.engine.now.trail in
     let old = c.args.marks.now in
-    let new = c.mark_clause-count.new.marks in
-    let conflict : IsConflict c.args.engine.now.trail c.lits.result.now = subst (λ o. IfSome o (IsConflict T)) c.lits.ensures c.requires.falsified in
-    let some = start_some T ls old new c.requires.clear c.mark_clause-count.ensures.marked c.requires.deep conflict in
+    let conflict = conflict_is T c.lits.result.now _ c.lits.ensures c.requires.falsified in
+    let some = start_some T c.lits.result.now old c.mark_clause-count.new.marks c.requires.clear c.mark_clause-count.ensures.marked c.requires.deep conflict in
     let zero = current_clear T old c.requires.clear in
     let n = c.mark_clause-count.ensures.counted in
     omega arith
@@ -46,55 +41,36 @@ resolve-asserting-requires-clause-some c =
 pub greatest-back_level-requires : goal.greatest-back_level-requires
 greatest-back_level-requires c =
     let e = c.args.engine.now in
-    let T = e.trail in
-    let slots = c.args.store.now.slots in
-    let at = clause_at slots in
-    let ls = c.lits.result.now in
-    let old = c.args.marks.now in
-    let new = c.mark_clause-count.new.marks in
-    let conflict : IsConflict c.args.engine.now.trail c.lits.result.now = subst (λ o. IfSome o (IsConflict T)) c.lits.ensures c.requires.falsified in
     let M = c.minimise.new.marks in
     let u = c.resolve-asserting.result in
-    let d : IsReduced T M u = c.minimise.ensures.reduced in
-    let items : c.in_ok-lits.lits.items ≡ learned_from T M u = c.in_ok-lits.ensures in
-    let tail = tail_is (negation u) (others_in M u (literals_of T)) c.as_slice.result.now (c.as_slice.ensures ∙ items) in
-    subst (All (λ (l : Literal). l.variable ≤ c.args.engine.now.variables)) (sym tail) (learned_within e slots M u c.requires.fits d)
+    let tail = tail_is (negation u) (others_in M u (literals_of e.trail)) c.as_slice.result.now (c.as_slice.ensures ∙ c.in_ok-lits.ensures) in
+    subst (All (λ (l : Literal). l.variable ≤ e.variables)) (sym tail) (learned_within e c.args.store.now.slots M u c.requires.fits c.minimise.ensures.reduced)
 
 pub returns-clause-asserting : goal.returns-clause-asserting
 returns-clause-asserting c =
-    let e = c.args.engine.now in
-    let T = e.trail in
-    let slots = c.args.store.now.slots in
-    let at = clause_at slots in
-    let ls = c.lits.result.now in
-    let old = c.args.marks.now in
-    let new = c.mark_clause-count.new.marks in
-    let conflict : IsConflict c.args.engine.now.trail c.lits.result.now = subst (λ o. IfSome o (IsConflict T)) c.lits.ensures c.requires.falsified in
+    let T = c.args.engine.now.trail in
     let M = c.minimise.new.marks in
     let u = c.resolve-asserting.result in
-    let d : IsReduced T M u = c.minimise.ensures.reduced in
-    let items : c.in_ok-lits.lits.items ≡ learned_from T M u = c.in_ok-lits.ensures in
-    let tail = tail_is (negation u) (others_in M u (literals_of T)) c.as_slice.result.now (c.as_slice.ensures ∙ items) in
-    subst (λ x. IsAsserting T x c.greatest-back_level.result) (sym items) (learned_asserting at T M u c.greatest-back_level.result c.requires.fits.reasons d (c.greatest-back_level.ensures ∙ ap (greatest_level T) tail))
+    let back = c.greatest-back_level.result in
+    let tail = tail_is (negation u) (others_in M u (literals_of T)) c.as_slice.result.now (c.as_slice.ensures ∙ c.in_ok-lits.ensures) in
+    let greatest = c.greatest-back_level.ensures ∙ ap (greatest_level T) tail in
+    subst (λ x. IsAsserting T x back) (sym c.in_ok-lits.ensures) (learned_asserting (clause_at c.args.store.now.slots) T M u back c.requires.fits.reasons c.minimise.ensures.reduced greatest)
 
 pub returns-clause-hints : goal.returns-clause-hints
 returns-clause-hints c =
-    let e = c.args.engine.now in
-    let T = e.trail in
+    let T = c.args.engine.now.trail in
     let slots = c.args.store.now.slots in
     let at = clause_at slots in
     let ls = c.lits.result.now in
-    let old = c.args.marks.now in
-    let new = c.mark_clause-count.new.marks in
-    let conflict : IsConflict c.args.engine.now.trail c.lits.result.now = subst (λ o. IfSome o (IsConflict T)) c.lits.ensures c.requires.falsified in
     let M = c.minimise.new.marks in
     let u = c.resolve-asserting.result in
-    let d : IsReduced T M u = c.minimise.ensures.reduced in
-    let items : c.in_ok-lits.lits.items ≡ learned_from T M u = c.in_ok-lits.ensures in
-    let first = marked_start at T ls old new c.requires.clear c.mark_clause-count.ensures.marked in
+    let clause = learned_from T M u in
+    let conflict = conflict_is T ls _ c.lits.ensures c.requires.falsified in
+    let first = marked_start at T ls c.args.marks.now c.mark_clause-count.new.marks c.requires.clear c.mark_clause-count.ensures.marked in
     let marked = c.minimise.ensures.same ls (c.resolve-asserting.ensures.same ls first) in
-    let r = marked_refutes slots T c.args.conflict ls (learned_from T M u) (kept_of M) (resolved_of M) c.requires.fits.reasons c.lits.ensures conflict.0 marked (learned_collected at T M u c.requires.fits.reasons d) in
-    subst (λ x. IsRefutedBy slots T x c.in_ok-hints.hints.items) (sym items) (subst (IsRefutedBy slots T (learned_from T M u)) (sym c.in_ok-hints.ensures) r)
+    let collected = learned_collected at T M u c.requires.fits.reasons c.minimise.ensures.reduced in
+    let r = marked_refutes slots T c.args.conflict ls clause (kept_of M) (resolved_of M) c.requires.fits.reasons c.lits.ensures conflict.falsified marked collected in
+    subst (λ x. IsRefutedBy slots T x c.in_ok-hints.hints.items) (sym c.in_ok-lits.ensures) (subst (IsRefutedBy slots T clause) (sym c.in_ok-hints.ensures) r)
 
 pub mark_clause-count-requires-clause-listed : goal.mark_clause-count-requires-clause-listed
 mark_clause-count-requires-clause-listed c = listed_none c.args.engine.now.trail c.args.marks.now c.args.met.now.items c.requires.clear c.requires.none
@@ -108,10 +84,8 @@ minimise-requires-clause-listed c =
 
 pub collect_literals-requires-clause-rising : goal.collect_literals-requires-clause-rising
 collect_literals-requires-clause-rising c =
-    subst IsRising (sym c.deref-2.ensures.value)
-    (rising_sorted c.resolve-asserting.new.met.items c.sort_unstable.new.self.items c.sort_unstable.ensures.permutation c.sort_unstable.ensures.sorted c.resolve-asserting.ensures.listed.once)
+    rising_sorted c.resolve-asserting.new.met.items c.sort_unstable.new.self.items _ c.deref-2.ensures.value c.sort_unstable.ensures.permutation c.sort_unstable.ensures.sorted c.resolve-asserting.ensures.listed.once
 
 pub collect_hints-requires-clause-rising : goal.collect_hints-requires-clause-rising
 collect_hints-requires-clause-rising c =
-    subst IsRising (sym c.deref-3.ensures.value)
-    (rising_sorted c.resolve-asserting.new.met.items c.sort_unstable.new.self.items c.sort_unstable.ensures.permutation c.sort_unstable.ensures.sorted c.resolve-asserting.ensures.listed.once)
+    rising_sorted c.resolve-asserting.new.met.items c.sort_unstable.new.self.items _ c.deref-3.ensures.value c.sort_unstable.ensures.permutation c.sort_unstable.ensures.sorted c.resolve-asserting.ensures.listed.once

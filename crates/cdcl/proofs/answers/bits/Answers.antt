@@ -22,6 +22,6 @@ returns-clause-satisfied c =
     let count : c.len.result ≡ n = omega (arith, c.len.ensures, p.frozen.ok.0) in
     let items : c.truncate.new.self.items ≡ take n (extended removed read) =
     c.truncate.ensures.items ∙ ap (take c.len.result) (with_items_is c.loop-variable.bits c.extend.new.bits long ∙ set) ∙ ap (λ k. take k (extended removed read)) count in
-    let fits : n ≤ length (extended removed read) = omega (arith, wide, many, c.requires.problem.few.2) in
+    let fits : n ≤ length (extended removed read) = omega (arith, wide, many, c.requires.problem.no_fewer) in
     subst (λ bits. SatisfyGiven bits p.given.items) (sym items)
     (answer_sat s.engine s.store.slots p.stack (tables_of s) p.frozen.items p.first p.given.items c.requires.runs.0 read r c.requires.quiet many c.loop-variable.invariant.read c.requires.problem.given_small fits)

@@ -7,13 +7,13 @@ returns-then-refuted-clause-takes c = on_ok_weaker c.keep_clause.result (λ give
 
 pub returns-then-refuted-clause-given : goal.returns-then-refuted-clause-given
 returns-then-refuted-clause-given c =
-    on_ok_weaker c.keep_clause.result (λ given. record { given = given; stack = c.keep_clause.ensures.same.0; frozen = c.keep_clause.ensures.same.1; first = c.keep_clause.ensures.same.2 }) c.keep_clause.ensures.given
+    on_ok_weaker c.keep_clause.result (λ given. record { given = given; stack = c.keep_clause.ensures.stack; frozen = c.keep_clause.ensures.frozen; first = c.keep_clause.ensures.first }) c.keep_clause.ensures.given
 
 pub returns-clause-takes : goal.returns-clause-takes
 returns-clause-takes c =
     on_ok_weaker c.keep_clause-2.result (λ given f ls ask first r. c.in_ok-take_clause.ensures c.args.problem.now c.keep_clause-2.new.problem ls ask
-    (record { given = given; stack = c.keep_clause-2.ensures.same.0; frozen = c.keep_clause-2.ensures.same.1; first = c.keep_clause-2.ensures.same.2 }) first r) c.keep_clause-2.ensures.given
+    (record { given = given; stack = c.keep_clause-2.ensures.stack; frozen = c.keep_clause-2.ensures.frozen; first = c.keep_clause-2.ensures.first }) first r) c.keep_clause-2.ensures.given
 
 pub returns-clause-given : goal.returns-clause-given
 returns-clause-given c =
-    on_ok_weaker c.keep_clause-2.result (λ given. record { given = given; stack = c.keep_clause-2.ensures.same.0; frozen = c.keep_clause-2.ensures.same.1; first = c.keep_clause-2.ensures.same.2 }) c.keep_clause-2.ensures.given
+    on_ok_weaker c.keep_clause-2.result (λ given. record { given = given; stack = c.keep_clause-2.ensures.stack; frozen = c.keep_clause-2.ensures.frozen; first = c.keep_clause-2.ensures.first }) c.keep_clause-2.ensures.given

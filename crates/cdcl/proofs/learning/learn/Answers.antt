@@ -14,7 +14,7 @@ use Rattle.cdcl.specs.Running.{Runs, Writes, tables_of}
 use Rattle.cdcl.proofs.HintNames.{hint_ids}
 use Rattle.cdcl.proofs.Written.{writes_learned}
 use Rattle.cdcl.proofs.MoreMoves.{learn_is_new}
-use Rattle.cdcl.proofs.Lessons.{refutes_live, live_attached, conflict_of, all_noted, asserting_within, back_low, adds_lesson, runs_learned, runs_long}
+use Rattle.cdcl.proofs.Lessons.{refutes_live, live_attached, conflict_of, all_noted, asserting_within, back_low, is_lesson, runs_learned, runs_long}
 use Rattle.cdcl.proofs.learning.learn.Goals as goal
 use Rattle.cdcl.proofs.learning.learn.Goals.{then-as_slice-gt2, else-as_slice-gt2}
 
@@ -68,32 +68,24 @@ returns-clause-runs g c =
     let s = c.args.search.now in
     let p = c.args.problem.now in
     let ls = g.S.Sink.lines c.args.sink.now in
-    let slots = s.store.slots in
     let T = s.engine.trail in
     let learned = c.in_ok-learned.learned in
-    let back = learned.back_level in
-    let rs = c.as_slice.result.now in
-    let lits = c.as_slice-2.result.now in
-    let run = c.requires.runs.running in
-    let w = subst (λ x. IsAsserting T x back) (sym c.as_slice-2.ensures) c.in_ok-learned.ensures.asserting in
-    let refutes = subst (λ x. IsRefutedBy slots T x rs) (sym c.as_slice-2.ensures) (subst (IsRefutedBy slots T learned.lits.items) (sym c.as_slice.ensures.value) c.in_ok-learned.ensures.hints) in
-    let h = subst (λ x. AreHintsOf slots x T rs c.in_ok-hints.hints.items) c.deref.ensures.value c.in_ok-hints.ensures.hints in
-    let within = asserting_within s.engine slots lits back run.searches.fits w in
-    let adds = adds_lesson slots T s.names.items p.given.items ls lits back s.engine.variables rs c.in_ok-hints.hints.items run.searches.fits.reasons w c.requires.deep refutes run.recorded.names h c.requires.runs.room.few within in
+    let lesson = is_lesson s p ls learned.lits.items c.as_slice-2.result.now learned.back_level learned.hints.items c.as_slice.result.now _ c.in_ok-hints.hints.items c.requires.runs c.requires.deep
+    c.in_ok-learned.ensures.asserting c.in_ok-learned.ensures.hints c.in_ok-hints.ensures.hints c.as_slice-2.ensures c.as_slice.ensures.value c.deref.ensures.value in
     let m = c.backtrack.new.self in
     let n = c.add_line.new.self in
-    let l : LogLine = record { kind = Learned; clause = lits; hints = c.in_ok-hints.hints.items } in
+    let l : LogLine = record { kind = Learned; clause = c.as_slice-2.result.now; hints = c.in_ok-hints.hints.items } in
     let bumped : IsRunning c.bump.new.self.engine c.bump.new.self.store.slots p.stack (tables_of c.bump.new.self) p.frozen.items p.first p.given.items ls =
-    subst (λ (x : Search). IsRunning x.engine (x.store).slots p.stack (tables_of x) p.frozen.items p.first p.given.items ls) (sym c.bump.ensures.same) run in
+    subst (λ (x : Search). IsRunning x.engine (x.store).slots p.stack (tables_of x) p.frozen.items p.first p.given.items ls) (sym c.bump.ensures.same) c.requires.runs.running in
     let moved = c.backtrack.ensures.state p ls bumped in
-    let trail : m.engine.trail ≡ kept_to back T = c.backtrack.ensures.trail ∙ ap (λ (x : Search). kept_to back (x.engine).trail) c.bump.ensures.same in
+    let trail : m.engine.trail ≡ kept_to learned.back_level T = c.backtrack.ensures.trail ∙ ap (λ (x : Search). kept_to learned.back_level (x.engine).trail) c.bump.ensures.same in
     let long : length c.hints_of.new.stamps ≡ s.stamps.len = c.hints_of.ensures.long ∙ ap length c.deref_mut.ensures.value ∙ sym s.stamps.ok.0 in
     let stamps : m.stamps.items ≡ c.hints_of.new.stamps =
     ap (λ (x : Search). (x.stamps).items) c.backtrack.ensures.engine ∙ ap (λ (x : Search). (x.stamps).items) c.bump.ensures.same ∙ with_items_is s.stamps c.hints_of.new.stamps long in
     let additions : m.additions ≡ s.additions = ap (λ (x : Search). x.additions) c.backtrack.ensures.engine ∙ ap (λ (x : Search). x.additions) c.bump.ensures.same in
     let past : All (λ x. x ≤ m.additions + 1) m.stamps.items =
     subst (λ k. All (λ x. x ≤ k + 1) m.stamps.items) (sym additions) (subst (All (λ x. x ≤ s.additions + 1)) (sym stamps) c.hints_of.ensures.past) in
-    let on : Runs n p (ls ++ l ∷ []) = runs_learned m n p ls l T back moved c.backtrack.ensures.ready.room past w trail adds c.in_ok-reference.ensures.placed c.in_ok-reference.ensures.additions c.in_ok-reference.ensures.few in
+    let on : Runs n p (ls ++ l ∷ []) = runs_learned m n p ls l T learned.back_level moved c.backtrack.ensures.ready.room past lesson.asserting trail lesson.adds c.in_ok-reference.ensures.placed c.in_ok-reference.ensures.additions c.in_ok-reference.ensures.few in
     let written : Runs n p (g.S.Sink.lines c.add_line.new.sink) = subst (Runs n p) (sym c.in_ok-reference.ensures.lines) on in
     elim c.if-as_slice-gt2.branch [
       | then-as_slice-gt2 x ↦ runs_long n c.if-as_slice-gt2.search x.saturating_add-search.result p _ x.search-is written
@@ -105,18 +97,10 @@ returns-clause-writes g c =
     let s = c.args.search.now in
     let p = c.args.problem.now in
     let ls = g.S.Sink.lines c.args.sink.now in
-    let slots = s.store.slots in
-    let T = s.engine.trail in
     let learned = c.in_ok-learned.learned in
-    let back = learned.back_level in
-    let rs = c.as_slice.result.now in
-    let lits = c.as_slice-2.result.now in
     let run = c.requires.runs.running in
-    let w = subst (λ x. IsAsserting T x back) (sym c.as_slice-2.ensures) c.in_ok-learned.ensures.asserting in
-    let refutes = subst (λ x. IsRefutedBy slots T x rs) (sym c.as_slice-2.ensures) (subst (IsRefutedBy slots T learned.lits.items) (sym c.as_slice.ensures.value) c.in_ok-learned.ensures.hints) in
-    let h = subst (λ x. AreHintsOf slots x T rs c.in_ok-hints.hints.items) c.deref.ensures.value c.in_ok-hints.ensures.hints in
-    let within = asserting_within s.engine slots lits back run.searches.fits w in
-    let adds = adds_lesson slots T s.names.items p.given.items ls lits back s.engine.variables rs c.in_ok-hints.hints.items run.searches.fits.reasons w c.requires.deep refutes run.recorded.names h c.requires.runs.room.few within in
-    let l : LogLine = record { kind = Learned; clause = lits; hints = c.in_ok-hints.hints.items } in
+    let lesson = is_lesson s p ls learned.lits.items c.as_slice-2.result.now learned.back_level learned.hints.items c.as_slice.result.now _ c.in_ok-hints.hints.items c.requires.runs c.requires.deep
+    c.in_ok-learned.ensures.asserting c.in_ok-learned.ensures.hints c.in_ok-hints.ensures.hints c.as_slice-2.ensures c.as_slice.ensures.value c.deref.ensures.value in
+    let l : LogLine = record { kind = Learned; clause = c.as_slice-2.result.now; hints = c.in_ok-hints.hints.items } in
     subst (λ x. Writes p.given.items ls x 1) (sym c.in_ok-reference.ensures.lines)
-    (writes_learned p.given.items ls l refl adds (λ base above. learn_is_new s.engine slots s.names.items p.given.items ls l back run.searches run.recorded.names w c.requires.deep base above))
+    (writes_learned p.given.items ls l refl lesson.adds (λ base above. learn_is_new s.engine s.store.slots s.names.items p.given.items ls l learned.back_level run.searches run.recorded.names lesson.asserting c.requires.deep base above))

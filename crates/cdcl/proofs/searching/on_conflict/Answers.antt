@@ -7,11 +7,12 @@ use Rattle.cdcl.proofs.searching.on_conflict.Goals as goal
 
 pub returns-then-left-eq0-clause-ends : goal.returns-then-left-eq0-clause-ends
 returns-then-left-eq0-clause-ends g c =
-    let T = c.args.search.now.engine.trail in (
-      c.requires.runs,
-      (literals_of (kept_to (depth_of T - 1) T), c.requires.runs.running.searches.quiet (depth_of T - 1) (omega (arith, c.depth.ensures, c.if-depth-eq0.false))),
-      sym c.left.ensures.left ∙ c.if-left-eq0.true,
-    )
+    let T = c.args.search.now.engine.trail in
+    record {
+      runs = c.requires.runs;
+      quiet = (literals_of (kept_to (depth_of T - 1) T), c.requires.runs.running.searches.quiet (depth_of T - 1) (omega (arith, c.depth.ensures, c.if-depth-eq0.false)));
+      spent = sym c.left.ensures.left ∙ c.if-left-eq0.true;
+    }
 
 pub returns-then-left-eq0-clause-pays : goal.returns-then-left-eq0-clause-pays
 returns-then-left-eq0-clause-pays g c = pays_nothing c.args.problem.now.given.items (g.S.Sink.lines c.args.sink.now) c.args.budget.now

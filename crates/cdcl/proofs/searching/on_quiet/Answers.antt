@@ -47,10 +47,11 @@ returns-else-branch-clause-ends g c =
     let b = c.branch-search.ensures in
     let f = c.branch-search.new.self in
     let ls = g.S.Sink.lines c.note_level.new.sink in
-    let stays = b.stays c.if-branch.false in (
-      b.runs p ls c.in_ok-note_level.ensures.runs,
-      subst (λ (e : EngineState). IsQuiet f.store.slots (literals_of e.trail)) (sym stays)
-          (subst (λ (t : StoreState). IsQuiet t.slots (literals_of n.engine.trail)) (sym b.store) (c.in_ok-note_level.ensures.quiet c.requires.quiet)),
-      subst (λ (e : EngineState). AreClosed e.trail e.variables) (sym stays) (b.closed c.if-branch.false),
-      omega (arith, c.left.ensures.left, c.if-left-eq0.false),
-    )
+    let stays = b.stays c.if-branch.false in
+    record {
+      runs = b.runs p ls c.in_ok-note_level.ensures.runs;
+      quiet = subst (λ (e : EngineState). IsQuiet f.store.slots (literals_of e.trail)) (sym stays)
+          (subst (λ (t : StoreState). IsQuiet t.slots (literals_of n.engine.trail)) (sym b.store) (c.in_ok-note_level.ensures.quiet c.requires.quiet));
+      closed = subst (λ (e : EngineState). AreClosed e.trail e.variables) (sym stays) (b.closed c.if-branch.false);
+      left = omega (arith, c.left.ensures.left, c.if-left-eq0.false);
+    }

@@ -13,12 +13,12 @@ loop-reference-init c = attached_none c.in_ok-engine.engine c.args.store.now.slo
 pub attach-requires-clause-live : goal.attach-requires-clause-live
 attach-requires-clause-live c =
     let w = subst (λ (x : ℕ × Name). IsLiveWithin c.args.store.now.slots c.args.variables x.0) (sym c.loop-reference-item.is) (c.requires.live c.loop-reference.reference-index c.loop-reference-item.result c.loop-reference-test.true) in
-    (w.0, w.1)
+    (w.clause, w.live)
 
 pub attach-requires-clause-small : goal.attach-requires-clause-small
 attach-requires-clause-small c =
     let w = subst (λ (x : ℕ × Name). IsLiveWithin c.args.store.now.slots c.args.variables x.0) (sym c.loop-reference-item.is) (c.requires.live c.loop-reference.reference-index c.loop-reference-item.result c.loop-reference-test.true) in
-    subst (λ o. IfSome o (IsWithin (c.loop-reference.engine).variables)) (sym w.1) (subst (λ n. IsWithin n w.0) (sym c.loop-reference.invariant.variables_are) w.2)
+    subst (λ o. IfSome o (IsWithin (c.loop-reference.engine).variables)) (sym w.live) (subst (λ n. IsWithin n w.clause) (sym c.loop-reference.invariant.variables_are) w.within)
 
 pub attach-requires-clause-once : goal.attach-requires-clause-once
 attach-requires-clause-once c =

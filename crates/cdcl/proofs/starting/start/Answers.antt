@@ -15,14 +15,14 @@ engine_of-requires-clause-live c =
 
 pub returns : goal.returns
 returns c =
-    let fresh = c.in_ok-engine.ensures.fresh in
+    let many = c.in_ok-engine.ensures.variables in
     let stamps : (c.in_ok-stamps.stamps).items ≡ replicate c.vars-variables.result 0 = search rules in
     let units : (c.in_ok-units.units).items ≡ replicate c.vars-variables.result c.new.result = search rules in
     record {
       slots_are = refl;
-      trail = fresh.0;
-      variables = fresh.1 ∙ c.vars-variables.ensures;
-      works = fresh.2;
+      trail = c.in_ok-engine.ensures.empty;
+      variables = many ∙ c.vars-variables.ensures;
+      works = c.in_ok-engine.ensures.works;
       fits = c.in_ok-engine.ensures.fits;
       attached = subst (All (λ (n : ℕ × Name). is_attached c.in_ok-engine.engine n.0 ≡ true)) c.names-2.ensures c.in_ok-engine.ensures.attached;
       long = c.in_ok-names.ensures.long ∙ c.places.ensures;
@@ -33,11 +33,11 @@ returns c =
       kept = refl;
       counted = refl;
       room = record {
-        order = c.in_ok-order.ensures ∙ sym fresh.1;
-        analyzer = (let room = c.in_ok-analyzer.ensures in let same = fresh.1 in omega arith);
-        few = subst (λ n. n < 2 ^ 27) (sym (fresh.1 ∙ c.vars-variables.ensures)) c.requires.few;
-        stamps = ap length stamps ∙ length-replicate c.vars-variables.result 0 ∙ sym fresh.1;
-        units = ap length units ∙ length-replicate c.vars-variables.result c.new.result ∙ sym fresh.1;
+        order = c.in_ok-order.ensures ∙ sym many;
+        analyzer = (let room = c.in_ok-analyzer.ensures in omega arith);
+        few = subst (λ n. n < 2 ^ 27) (sym (many ∙ c.vars-variables.ensures)) c.requires.few;
+        stamps = ap length stamps ∙ length-replicate c.vars-variables.result 0 ∙ sym many;
+        units = ap length units ∙ length-replicate c.vars-variables.result c.new.result ∙ sym many;
       };
       past = subst (All (λ n. n ≤ c.args.additions)) (sym stamps) (All-replicate (λ n. n ≤ c.args.additions) c.vars-variables.result 0 (omega arith));
     }

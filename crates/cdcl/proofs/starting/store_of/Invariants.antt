@@ -1,6 +1,6 @@
--- The clauses so far.
-use Rattle.std.proofs.Common.{◌≡◌, map, take, Some}
+-- The clauses so far, with those that are left, are all.
+use Rattle.std.proofs.Common.{◌≡◌, ◌++◌, map, Some}
 use Rattle.cdcl.proofs.starting.store_of.Given as goal
 
-abbrev pub invariant-loop-place : goal.invariant-loop-place
-invariant-loop-place l = (l.store).slots ≡ map Some (take l.place l.fn.clauses)
+abbrev pub invariant-loop-clause : goal.invariant-loop-clause
+invariant-loop-clause l = (l.store).slots ++ map Some l.clause-iterator ≡ map Some l.clauses

@@ -33,8 +33,7 @@ pub invariant_of-self-in-Err : goal.invariant_of-self-in-Err
 invariant_of-self-in-Err g c =
     let p = c.self.inside.problem in
     let ls = g.S.Sink.lines c.self.inside.sink in
-    let same = c.give.ensures.same in
-    let bad = fails_solver c.self.inside.search c.give.new.search p c.give.new.problem ls c.self.inside.refuted c.self.inside.failed c.self.invariant c.in-Err.ensures.err same.0 same.1 same.2 in
+    let bad = fails_solver c.self.inside.search c.give.new.search p c.give.new.problem ls c.self.inside.refuted c.self.inside.failed c.self.invariant c.in-Err.ensures.err c.give.ensures.stack c.give.ensures.frozen c.give.ensures.first in
     bad
 
 pub returns-in-Ok-clause-lines : goal.returns-in-Ok-clause-lines
@@ -54,6 +53,5 @@ pub returns-in-Err-clause-lines : goal.returns-in-Err-clause-lines
 returns-in-Err-clause-lines g c =
     let p = c.self.inside.problem in
     let ls = g.S.Sink.lines c.self.inside.sink in
-    let same = c.give.ensures.same in
-    let bad = fails_solver c.self.inside.search c.give.new.search p c.give.new.problem ls c.self.inside.refuted c.self.inside.failed c.self.invariant c.in-Err.ensures.err same.0 same.1 same.2 in
+    let bad = fails_solver c.self.inside.search c.give.new.search p c.give.new.problem ls c.self.inside.refuted c.self.inside.failed c.self.invariant c.in-Err.ensures.err c.give.ensures.stack c.give.ensures.frozen c.give.ensures.first in
     log_now c.give.new.problem ls bad.problem bad.lines

@@ -3,7 +3,7 @@ use Rattle.std.specs.Prelude.{All}
 use Rattle.lrat_log.specs.Steps.{IsLogOver, IsAcceptedLog, IsLearnedOrShort}
 use Rattle.cdcl.specs.Solving.{given_to, lines_since, SatisfyGiven, IsPlainlyRefuted, IsLiveRefuted}
 use Rattle.cdcl.specs.Running.{IsAnswer}
-use Rattle.cdcl.proofs.Answered.{written_short, given_seen, log_now, ended_log, not_plain, solver_runs, solver_fails}
+use Rattle.cdcl.proofs.Answered.{written_short, given_seen, log_now, ended_log, answered_log, plain_unsat, solver_runs, solver_fails}
 use Rattle.cdcl.proofs.solver.Solver.solve.Goals as goal
 
 pub returns-then-self-clause-lines : goal.returns-then-self-clause-lines
@@ -21,10 +21,9 @@ returns-then-self-2-clause-lines g c =
 
 pub returns-in-Ok-Sat-clause-refuted : goal.returns-in-Ok-Sat-clause-refuted
 returns-in-Ok-Sat-clause-refuted g c = λ h.
-    let p = c.self.inside.problem in
-    let ls = g.S.Sink.lines c.answer.new.sink in
-    let a = subst (IsAnswer c.answer.new.search p ls c.answer.new.budget) c.in-Ok-Sat.field-0-is c.in-Ok-Sat.ensures.answers in
-    absurd (not_plain c.answer.new.search p ls a.1.0 c.self.invariant.problem a.0 a.1.1 (subst IsPlainlyRefuted (sym c.self.view_is) h))
+    let plain = plain_unsat c.answer.new.search c.self.inside.problem (g.S.Sink.lines c.answer.new.sink) c.answer.new.budget _ c.self.invariant.problem c.in-Ok-Sat.ensures.answers (subst IsPlainlyRefuted (sym c.self.view_is) h) in
+    let e = sym c.in-Ok-Sat.field-0-is ∙ plain in
+    absurd (cc)
 
 pub returns-in-Ok-Sat-clause-propagates : goal.returns-in-Ok-Sat-clause-propagates
 returns-in-Ok-Sat-clause-propagates g c = λ h.
@@ -34,11 +33,7 @@ returns-in-Ok-Sat-clause-propagates g c = λ h.
     absurd (cc)
 
 pub returns-in-Ok-Sat-clause-lines : goal.returns-in-Ok-Sat-clause-lines
-returns-in-Ok-Sat-clause-lines g c =
-    let p = c.self.inside.problem in
-    let ls = g.S.Sink.lines c.answer.new.sink in
-    let a = subst (IsAnswer c.answer.new.search p ls c.answer.new.budget) c.in-Ok-Sat.field-0-is c.in-Ok-Sat.ensures.answers in
-    log_now p ls c.self.invariant.problem a.0.running.recorded.log.stays
+returns-in-Ok-Sat-clause-lines g c = answered_log c.answer.new.search c.self.inside.problem (g.S.Sink.lines c.answer.new.sink) c.answer.new.budget _ c.self.invariant.problem c.in-Ok-Sat.ensures.answers
 
 pub returns-in-Ok-Sat-clause-short : goal.returns-in-Ok-Sat-clause-short
 returns-in-Ok-Sat-clause-short g c =
@@ -48,10 +43,9 @@ returns-in-Ok-Sat-clause-short g c =
 
 pub returns-in-Ok-Limit-clause-refuted : goal.returns-in-Ok-Limit-clause-refuted
 returns-in-Ok-Limit-clause-refuted g c = λ h.
-    let p = c.self.inside.problem in
-    let ls = g.S.Sink.lines c.answer.new.sink in
-    let a = subst (IsAnswer c.answer.new.search p ls c.answer.new.budget) c.in-Ok-Limit.field-0-is c.in-Ok-Limit.ensures.answers in
-    absurd (not_plain c.answer.new.search p ls a.1.0 c.self.invariant.problem a.0 a.1.1 (subst IsPlainlyRefuted (sym c.self.view_is) h))
+    let plain = plain_unsat c.answer.new.search c.self.inside.problem (g.S.Sink.lines c.answer.new.sink) c.answer.new.budget _ c.self.invariant.problem c.in-Ok-Limit.ensures.answers (subst IsPlainlyRefuted (sym c.self.view_is) h) in
+    let e = sym c.in-Ok-Limit.field-0-is ∙ plain in
+    absurd (cc)
 
 pub returns-in-Ok-Limit-clause-propagates : goal.returns-in-Ok-Limit-clause-propagates
 returns-in-Ok-Limit-clause-propagates g c = λ h.
@@ -61,11 +55,7 @@ returns-in-Ok-Limit-clause-propagates g c = λ h.
     absurd (cc)
 
 pub returns-in-Ok-Limit-clause-lines : goal.returns-in-Ok-Limit-clause-lines
-returns-in-Ok-Limit-clause-lines g c =
-    let p = c.self.inside.problem in
-    let ls = g.S.Sink.lines c.answer.new.sink in
-    let a = subst (IsAnswer c.answer.new.search p ls c.answer.new.budget) c.in-Ok-Limit.field-0-is c.in-Ok-Limit.ensures.answers in
-    log_now p ls c.self.invariant.problem a.0.running.recorded.log.stays
+returns-in-Ok-Limit-clause-lines g c = answered_log c.answer.new.search c.self.inside.problem (g.S.Sink.lines c.answer.new.sink) c.answer.new.budget _ c.self.invariant.problem c.in-Ok-Limit.ensures.answers
 
 pub returns-in-Ok-Limit-clause-short : goal.returns-in-Ok-Limit-clause-short
 returns-in-Ok-Limit-clause-short g c =
@@ -79,7 +69,7 @@ returns-in-Ok-Sat-clause-sat g c =
     let ls = g.S.Sink.lines c.answer.new.sink in
     let a = subst (IsAnswer c.answer.new.search p ls c.answer.new.budget) c.in-Ok-Sat.field-0-is c.in-Ok-Sat.ensures.answers in
     subst (λ s. (length (c.in-Ok-Sat.bits).items ≡ s.formula.variables) × SatisfyGiven (c.in-Ok-Sat.bits).items (given_to s)) c.self.view_is
-    (a.2, subst (SatisfyGiven (c.in-Ok-Sat.bits).items) (sym (given_seen p c.self.invariant.problem)) a.3)
+    (a.long, subst (SatisfyGiven (c.in-Ok-Sat.bits).items) (sym (given_seen p c.self.invariant.problem)) a.satisfied)
 
 pub returns-in-Ok-Unsat-clause-unsat : goal.returns-in-Ok-Unsat-clause-unsat
 returns-in-Ok-Unsat-clause-unsat g c =
@@ -89,11 +79,7 @@ returns-in-Ok-Unsat-clause-unsat g c =
     subst (λ s. IsAcceptedLog (given_to s) ls) c.self.view_is (ended_log p ls c.self.invariant.problem a)
 
 pub returns-in-Ok-Unsat-clause-lines : goal.returns-in-Ok-Unsat-clause-lines
-returns-in-Ok-Unsat-clause-lines g c =
-    let p = c.self.inside.problem in
-    let ls = g.S.Sink.lines c.answer.new.sink in
-    let a = subst (IsAnswer c.answer.new.search p ls c.answer.new.budget) c.in-Ok-Unsat.field-0-is c.in-Ok-Unsat.ensures.answers in
-    log_now p ls c.self.invariant.problem a.stays
+returns-in-Ok-Unsat-clause-lines g c = answered_log c.answer.new.search c.self.inside.problem (g.S.Sink.lines c.answer.new.sink) c.answer.new.budget _ c.self.invariant.problem c.in-Ok-Unsat.ensures.answers
 
 pub returns-in-Ok-Unsat-clause-short : goal.returns-in-Ok-Unsat-clause-short
 returns-in-Ok-Unsat-clause-short g c =
@@ -115,14 +101,14 @@ invariant_of-self g c =
     let p = c.self.inside.problem in
     let ls = g.S.Sink.lines c.answer.new.sink in
     let a = subst (IsAnswer c.answer.new.search p ls c.answer.new.budget) c.in-Ok-Sat.field-0-is c.in-Ok-Sat.ensures.answers in
-    solver_runs c.answer.new.search p ls c.self.inside.refuted c.self.inside.failed c.self.invariant.problem a.0 c.if-self-2.false
+    solver_runs c.answer.new.search p ls c.self.inside.refuted c.self.inside.failed c.self.invariant.problem a.runs c.if-self-2.false
 
 pub invariant_of-self-in-Ok-Limit : goal.invariant_of-self-in-Ok-Limit
 invariant_of-self-in-Ok-Limit g c =
     let p = c.self.inside.problem in
     let ls = g.S.Sink.lines c.answer.new.sink in
     let a = subst (IsAnswer c.answer.new.search p ls c.answer.new.budget) c.in-Ok-Limit.field-0-is c.in-Ok-Limit.ensures.answers in
-    solver_runs c.answer.new.search p ls c.self.inside.refuted c.self.inside.failed c.self.invariant.problem a.0 c.if-self-2.false
+    solver_runs c.answer.new.search p ls c.self.inside.refuted c.self.inside.failed c.self.invariant.problem a.runs c.if-self-2.false
 
 pub invariant_of-self-in-Err : goal.invariant_of-self-in-Err
 invariant_of-self-in-Err g c = solver_fails c.answer.new.search c.self.inside.problem (g.S.Sink.lines c.answer.new.sink) c.self.inside.refuted c.self.invariant.problem c.in-Err.ensures.err c.if-self-2.false
