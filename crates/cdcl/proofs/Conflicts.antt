@@ -1,5 +1,5 @@
 -- What an analysis asks of a conflict, what a decision asks, and which literals of level 0 hints need.
-use Rattle.std.proofs.Common.{◌≡◌, ℕ, ◌+◌, ◌-◌, ◌<◌, ◌≤◌, true, false, List, [], ◌∷◌, ◌++◌, map, Some, None, ◌⊎◌, inl, inr, sym, ◌∙◌, ap, subst, arith}
+use Rattle.std.proofs.Common.{◌≡◌, ℕ, ◌+◌, ◌-◌, ◌<◌, ◌≤◌, true, List, [], ◌∷◌, ◌++◌, map, Some, ◌⊎◌, inl, inr, sym, ◌∙◌, ap, arith}
 use Rattle.std.specs.Prelude.{◌==◌}
 use Rattle.std.specs.List.{AllByRecursion}
 use Rattle.std.proofs.lemmas.Bool.{cases_Bool, cases_eq, or_left, or_right, or_cases}
@@ -8,13 +8,11 @@ use Rattle.wcnf.specs.Literal.{Literal, negation, literal_eq}
 use Rattle.wcnf.specs.Clause.{contains_literal}
 use Rattle.wcnf.specs.Refute.{Clauses, IsFalseUnder}
 use Rattle.clauses.specs.Slots.{Slots, clause_at}
-use Rattle.propagate.specs.Trail.{Assigned, literals_of, depth_of, level_after, level_from, level_in, kept_to, value_in, HasReasons}
-use Rattle.propagate.specs.Tables.{mentions}
+use Rattle.propagate.specs.Trail.{Assigned, literals_of, depth_of, level_after, level_from, level_in, kept_to, HasReasons}
 use Rattle.propagate.proofs.Levels.{depth_step}
 use Rattle.propagate.proofs.Literals.{negation_twice, contains-append}
 use Rattle.wcnf.proofs.Marks.{literal_eq-refl}
 use Rattle.propagate.proofs.Kept.{in_kept, contains_front, contains_back, kept_prefix, literals-append}
-use Rattle.propagate.proofs.Trails.{open_none, value_none}
 use Rattle.propagate.proofs.Facts.{all_weaker}
 use Rattle.analyze.specs.Learning.{level_of, IsConflict, IsQuiet}
 use Rattle.analyze.proofs.Levels.{level_is, false_below}

@@ -4,7 +4,7 @@ use Rattle.std.specs.Prelude.{All, Contains, nat_eq}
 use Rattle.std.specs.List.{IsDistinct, list_any, enumerate_from}
 use Rattle.std.proofs.lemmas.Map.Keys.{IsDistinct-head, IsDistinct-tail}
 use Rattle.std.proofs.lemmas.Bool.{cases_lt, le-leb, or_parts, both_ways, eq-eqb, cases_eq}
-use Rattle.std.proofs.lemmas.Option.{none-some, same_Some, slice_get-get_or}
+use Rattle.std.proofs.lemmas.Option.{slice_get-get_or}
 use Rattle.std.proofs.lemmas.List.{length-map, get_or-map, length-replicate, take_all, get_or_default}
 use Rattle.std.proofs.lemmas.List.Elements.{All-nil, All-cons, All-head, All-tail, All-from_recursion}
 use Rattle.wcnf.specs.Literal.{Literal}
@@ -18,7 +18,7 @@ use Rattle.propagate.specs.Trail.{depth_of}
 use Rattle.propagate.specs.Watches.{is_attached}
 use Rattle.lrat_log.specs.declared.lines.Name.{Name}
 use Rattle.lrat_log.specs.declared.lines.Name.TheVariants.{Formula, Added}
-use Rattle.lrat_log.specs.Log.{LogLine, Given, id_of, number_in}
+use Rattle.lrat_log.specs.Log.{LogLine, id_of, number_in}
 use Rattle.lrat_log.specs.Steps.{StaysLogOver, IsBaseOf, log_live, given_of, AddsNoEmptyClause, adds_empty_clause, added_count}
 use Rattle.eliminate.specs.Elimination.{StackState, HoldsWhatIsLive, ExtendsBack, IsFree, extended}
 use Rattle.cdcl.specs.declared.search.Search.{Search}

@@ -21,8 +21,8 @@ use Rattle.cdcl.proofs.Chains.{count_push_addition, count_push_deletion}
 use Rattle.cdcl.specs.Hinting.{plain_hints}
 use Rattle.cdcl.proofs.LogLines.{AddsByHints, DeletesNames, open_push, log_add, log_delete}
 use Rattle.cdcl.proofs.Named.{names_add, names_delete}
-use Rattle.cdcl.proofs.Quiet.{searches_propagate, searches_decide, searches_backtrack, searches_add, searches_delete}
-use Rattle.cdcl.proofs.Units.{units_propagate, units_decide, units_backtrack, units_delete}
+use Rattle.cdcl.proofs.Quiet.{searches_propagate, searches_decide, searches_backtrack, searches_add}
+use Rattle.cdcl.proofs.Units.{units_propagate, units_decide, units_backtrack}
 use Rattle.cdcl.proofs.Keeping.{EmptyStays, leads_back, keeps_plain, kept_add, kept_delete, empty_add, empty_delete}
 
 -- the engine alone

@@ -1,5 +1,5 @@
 -- A clause comes to a store and its engine.
-use Rattle.std.proofs.Common.{◌≡◌, ℕ, ◌+◌, ◌<◌, ◌≤◌, ◌^◌, Bool, false, not, List, [], ◌∷◌, ◌++◌, length, get_or, Some, None, inl, inr, arith, sym, subst, ◌∙◌, ap}
+use Rattle.std.proofs.Common.{◌≡◌, ℕ, ◌<◌, ◌≤◌, ◌^◌, Bool, false, not, List, [], ◌∷◌, ◌++◌, length, get_or, Some, None, inl, inr, arith, sym, subst, ◌∙◌, ap}
 use Rattle.std.specs.Prelude.{IfSome, All}
 use Rattle.std.proofs.lemmas.Bool.{cases_Bool, both_ways}
 use Rattle.std.proofs.lemmas.List.Elements.{All-cons, All-nil, All-head, All-tail}
@@ -22,7 +22,6 @@ use Rattle.lrat_log.specs.Steps.{added_count}
 use Rattle.cdcl.specs.declared.search.Search.{Search}
 use Rattle.cdcl.specs.Invariant.{Tables, IsRunning}
 use Rattle.cdcl.specs.Running.{HasRoom, Places}
-use Rattle.cdcl.proofs.Chains.{count_push_addition}
 use Rattle.cdcl.proofs.Places.{clause_old, live_within}
 use Rattle.eliminate.proofs.Naming.{slot_last}
 

@@ -1,18 +1,16 @@
 -- The engine between the moves of a search: at the ends of the levels below the current one nothing was false or unit.
-use Rattle.std.proofs.Common.{◌≡◌, ℕ, ◌+◌, ◌<◌, ◌≤◌, true, false, cond, List, [], ◌∷◌, ◌++◌, length, map, set, Option, Some, None, ◌⊎◌, inl, inr, refl, sym, ◌∙◌, ap, subst, arith}
+use Rattle.std.proofs.Common.{◌≡◌, ℕ, ◌+◌, ◌<◌, ◌≤◌, true, false, cond, List, [], ◌∷◌, ◌++◌, length, map, set, Option, Some, None, inl, inr, refl, sym, ◌∙◌, ap, subst, arith}
 use Rattle.std.specs.Prelude.{IfSome, is_none}
 use Rattle.std.specs.List.{AllByRecursion}
 use Rattle.std.specs.List.Sorted.{IsStrictlyIncreasing}
 use Rattle.std.proofs.lemmas.List.Elements.{recursion_from_All}
-use Rattle.std.proofs.lemmas.Bool.{cases_Bool, cases_lt, cases_eq, or_cases, both_ways, false≢true}
-use Rattle.wcnf.specs.Literal.{Literal, negation, literal_eq}
-use Rattle.wcnf.specs.Clause.{contains_literal}
-use Rattle.wcnf.specs.Refute.{Clauses, IsUnit, IsFalseUnder, Leads, Refutes}
-use Rattle.wcnf.proofs.Sound.{literal_eq-true}
-use Rattle.clauses.specs.Slots.{Slots, IsLive, Renaming, renamed, IsRenaming}
+use Rattle.std.proofs.lemmas.Bool.{cases_lt, cases_eq, both_ways}
+use Rattle.wcnf.specs.Literal.{Literal}
+use Rattle.wcnf.specs.Refute.{IsUnit, IsFalseUnder}
+use Rattle.clauses.specs.Slots.{Slots, Renaming, renamed, IsRenaming}
 use Rattle.propagate.specs.Trail.{Assigned, literals_of, depth_of, is_decision, kept_to}
 use Rattle.propagate.specs.Watches.{EngineState, is_attached, SameAttached, SetsAttached}
-use Rattle.propagate.specs.Fits.{Fits, IsComplete, GrowsByUnits, MovesAttached, renamed_trail}
+use Rattle.propagate.specs.Fits.{Fits, GrowsByUnits, MovesAttached, renamed_trail}
 use Rattle.propagate.proofs.Levels.{kept_push, kept_all}
 use Rattle.propagate.proofs.Trails.{depth_push, depth-cons}
 use Rattle.propagate.proofs.Kept.{kept_kept, kept_low}
@@ -21,7 +19,7 @@ use Rattle.propagate.proofs.Naming.{kept_named, trail_listed}
 use Rattle.propagate.specs.Renames.{named_trail, named_reason}
 use Rattle.propagate.proofs.Compacting.{reasons_listed}
 use Rattle.cdcl.specs.Invariant.{Searches, zero_of}
-use Rattle.analyze.specs.Learning.{IsQuiet, Within}
+use Rattle.analyze.specs.Learning.{IsQuiet}
 use Rattle.cdcl.proofs.Places.{clause_cases, clause_left, clause_other, came, same_clause}
 use Rattle.analyze.proofs.Levels.{kept_more, depth_follow}
 

@@ -7,7 +7,7 @@ use Rattle.cdcl_order.specs.Budgets.{BudgetState, left_of}
 use Rattle.lrat_log.specs.Log.{LogLine, Given}
 use Rattle.cdcl.specs.declared.problem.Problem.{Problem}
 use Rattle.cdcl.specs.declared.search.Search.{Search}
-use Rattle.cdcl.specs.Running.{Runs, Writes, Pays, StaysOpen}
+use Rattle.cdcl.specs.Running.{Runs, Writes, Pays}
 use Rattle.cdcl.specs.Moves.{rounds_left, GoesOn}
 use Rattle.cdcl.proofs.Written.{writes_none, writes_join}
 

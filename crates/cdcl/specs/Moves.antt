@@ -1,6 +1,6 @@
 -- What is known while hints are gathered, and of tables after a compaction.
 use Rattle.std.specs.Prelude.{◌≡◌, ℕ, ◌+◌, ◌-◌, ◌*◌, ◌<◌, nat_lt, if◌then◌else◌, Bool, true, false}
-use Rattle.std.specs.Prelude.{List, length, map, Option, Some, None, Contains, All, unwrap_or}
+use Rattle.std.specs.Prelude.{List, length, map, Option, Some, None, All, unwrap_or}
 use Rattle.std.specs.Prelude.{slice_index_or}
 use Rattle.wcnf.specs.Literal.{Literal, negation}
 use Rattle.wcnf.specs.Clause.{contains_literal, has_repeat}

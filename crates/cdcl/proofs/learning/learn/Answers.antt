@@ -4,7 +4,7 @@ use Rattle.std.proofs.lemmas.List.{with_items_is}
 use Rattle.propagate.specs.Trail.{depth_of, kept_to}
 use Rattle.propagate.specs.Watches.{is_attached}
 use Rattle.propagate.specs.Fits.{IsWithin}
-use Rattle.analyze.specs.Learning.{IsAsserting, IsRefutedBy}
+use Rattle.analyze.specs.Learning.{IsRefutedBy}
 use Rattle.lrat_log.specs.declared.lines.Kind.TheVariants.{Learned}
 use Rattle.lrat_log.specs.Log.{LogLine}
 use Rattle.cdcl.specs.declared.search.Search.{Search}
