@@ -1,7 +1,7 @@
 -- One clause more among those given.
-use Rattle.std.proofs.Common.{◌≡◌, ℕ, ◌+◌, ◌-◌, ◌<◌, ◌≤◌, ◌^◌, Bool, true, false, List, [], ◌∷◌, ◌++◌, length, take, drop, map, get_or, sym, ◌∙◌, ap, subst, arith}
+use Rattle.std.proofs.Common.{◌≡◌, ℕ, ◌+◌, ◌-◌, ◌<◌, ◌≤◌, ◌^◌, Bool, true, false, List, [], ◌∷◌, ◌++◌, length, take, map, get_or, sym, ◌∙◌, ap, subst, arith}
 use Rattle.std.specs.Prelude.{All}
-use Rattle.std.proofs.lemmas.List.{take-append-le, drop-append-le, length-append, take_more}
+use Rattle.std.proofs.lemmas.List.{take-append-le, length-append, take_more}
 use Rattle.std.proofs.lemmas.List.Elements.{All-push, All-head, All-tail}
 use Rattle.std.proofs.lemmas.Option.{slice_get_within}
 use Rattle.wcnf.specs.Literal.{Literal}
@@ -71,13 +71,6 @@ lines_given p q n c ls gives small stays =
 pub lines_same : (p q : Problem) (ls : List LogLine) → (q.given).items ≡ (p.given).items → q.frozen ≡ p.frozen → StaysLogOver (length (p.frozen).items) (p.given).items ls → StaysLogOver (length (q.frozen).items) (q.given).items ls
 lines_same p q ls given frozen stays =
     subst (λ f. StaysLogOver (length f.items) (q.given).items ls) (sym frozen) (subst (λ g. StaysLogOver (length (p.frozen).items) g ls) (sym given) stays)
-
-pub view_gives : (p q : Problem) (n : Name) (c : List Literal) → p.first ≤ length (p.given).items → GivesOne p q n c
-    → (map (λ g. g.1) (take q.first (q.given).items) ≡ map (λ g. g.1) (take p.first (p.given).items)) × (drop q.first (q.given).items ≡ drop p.first (p.given).items ++ (n, c) ∷ [])
-view_gives p q n c within gives = (
-  ap (λ g. map (λ x. x.1) (take q.first g)) gives.given ∙ ap (λ k. map (λ x. x.1) (take k ((p.given).items ++ (n, c) ∷ []))) gives.first ∙ ap (map (λ x. x.1)) (take-append-le p.first (p.given).items ((n, c) ∷ []) within),
-  ap (drop q.first) gives.given ∙ ap (λ k. drop k ((p.given).items ++ (n, c) ∷ [])) gives.first ∙ drop-append-le p.first (p.given).items ((n, c) ∷ []) within,
-)
 
 -- What the solver is then.
 

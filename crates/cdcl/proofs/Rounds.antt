@@ -81,12 +81,6 @@ goes_decided old new p ls budget conflicts r same longer within = record {
   fewer = subst (λ n. (2 * left_of budget + flag conflicts) * (n + 2) + (n + 1 - length (new.engine).trail) < rounds_left old budget conflicts) (sym same) (omega arith);
 }
 
--- as many, or fewer, after propagation
-pub rounds_grown : (old new : Search) (budget : BudgetState) (conflicts : ℕ) → (new.engine).variables ≡ (old.engine).variables → length (old.engine).trail ≤ length (new.engine).trail
-    → rounds_left new budget conflicts ≤ rounds_left old budget conflicts
-rounds_grown old new budget conflicts same longer =
-    subst (λ n. (2 * left_of budget + flag conflicts) * (n + 2) + (n + 1 - length (new.engine).trail) ≤ rounds_left old budget conflicts) (sym same) (omega arith)
-
 -- an answer that goes on
 pub goes_weaker : {A E : Type 0} (r : Result (Option A) E) (P Q : Type 0) → (P → Q) → IfOk r (λ n. IfNone n P) → IfOk r (λ n. IfNone n Q)
 goes_weaker (Ok None) P Q f h = f h
