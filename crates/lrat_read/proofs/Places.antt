@@ -1,14 +1,16 @@
 -- What stands in a line from a place on, in the words of the contracts.
 use Rattle.std.proofs.Common.{◌≡◌, ℕ, ◌+◌, ◌-◌, ◌^◌, ◌<◌, ◌≤◌, Bool, true, false, not, List, [], ◌∷◌, ◌++◌, Some, refl, sym, ◌∙◌, ap, arith, length, drop, get_or, slice_range, inl, inr}
 use Rattle.std.specs.Int.{from_bool}
+use Rattle.std.specs.List.{list_all}
 use Rattle.std.specs.Prelude.{◌==◌}
 use Rattle.std.proofs.lemmas.Bool.{cases_Bool, cases_lt, cond-false, eqb-true, eqb-false}
 use Rattle.std.proofs.lemmas.List.{drop_more, drop_all, get_or-drop, length-drop, length-take, get_or-take}
 use Rattle.wcnf.specs.Text.{is_blank, begins_with_token, put_byte, tokens_of, is_digit, value_on}
-use Rattle.lrat_read.specs.Numbers.{IsDigitsAt, IsNumber, IsNumberAt}
+use Rattle.wcnf.proofs.Numbers.{digit_is_no_blank}
+use Rattle.lrat_read.specs.Numbers.{IsDigitsAt, IsSpaced, IsNumber, IsNumberAt}
 use Rattle.lrat_read.specs.declared.numbers.Digits.{Digits}
 use Rattle.lrat_read.specs.declared.numbers.NumberAt.TheVariants.{Malformed, Number}
-use Rattle.lrat_read.proofs.Scan.{lead, split_at, number_here, none_here, token_front, NoNumber}
+use Rattle.lrat_read.proofs.Scan.{lead, split_at, digits_room, first_is_digit, number_here, none_here, token_front, NoNumber}
 
 -- the place after a dash, where there is one
 abbrev pub after_dash : List ℕ → ℕ → ℕ
@@ -56,6 +58,52 @@ first_not_dash : (line : List ℕ) (first start : ℕ) → start ≡ after_dash 
 first_not_dash line first start begins e z =
     let same : start ≡ first = begins ∙ ap (λ (b : Bool). first + from_bool b) e ∙ omega arith in
     eqb-false (get_or line first 0) 45 e (ap (λ k. get_or line k 0) (sym same) ∙ sym (first_of_drop start line) ∙ z)
+
+-- a number, and a place further on with nothing but blanks between
+pub number_past : (line : List ℕ) (at : ℕ) (s : Bool) (n end place : ℕ) → IsNumberAt line at (Number s n end) → tokens_of (drop place line) ≡ tokens_of (drop end line) → end ≤ place → place ≤ length line → IsNumberAt line at (Number s n place)
+number_past line at s n end place h same from within =
+    (h.0, h.1 ∙ ap (λ (ts : List (List ℕ)). h.0 ∷ ts) (sym same), h.2, h.3, omega (arith, h.4), within)
+
+-- digits from one that is not 0 on, up to a space
+pub spaced : (line : List ℕ) (start end value : ℕ) → start < end → end < length line → end < start + 19 → list_all is_digit (slice_range line start end) ≡ true → value ≡ value_on 0 (slice_range line start end) →
+    48 < get_or line start 0 → get_or line end 0 ≡ 32 → IsSpaced line start (record { value = value; end = end })
+spaced line start end value some within few digits same first space =
+    let room : value < 10 ^ 18 = digits_room line start end value (omega arith) (omega arith) few digits same in
+    let small : value < 2 ^ 62 = omega arith in
+    let before : start ≤ end = omega arith in
+    let inside : end ≤ length line = omega arith in
+    let short : end ≤ start + 19 = omega arith in
+    let ends : begins_with_token (drop end line) ≡ false = ap begins_with_token (drop_more line end 0 within) ∙ ap (λ b. not (is_blank b)) space in
+    let run : IsDigitsAt line start (record { value = value; end = end }) = record {
+      from = before;
+      within = inside;
+      short = short;
+      digits = digits;
+      value = same;
+      stops = λ _ _. ap is_digit space;
+    } in
+    let number : IsNumber line start (record { value = value; end = end }) = record {
+      nonempty = some;
+      lead = λ z. let zero_first : get_or line start 0 ≡ 48 = z in absurd (omega (arith, zero_first, first));
+      small = small;
+      ends = ends;
+    } in
+    record { run = run; number = number; within = within; space = space }
+
+no_blank_at : (line : List ℕ) (at start : ℕ) (s : Bool) → (get_or line at 0 == 45) ≡ s → start ≡ at + from_bool s → is_digit (get_or line start 0) ≡ true → is_blank (get_or line at 0) ≡ false
+no_blank_at line at start true e begins digit = ap is_blank (eqb-true (get_or line at 0) 45 e)
+no_blank_at line at start false e begins digit =
+    let same : start ≡ at = begins ∙ omega arith in
+    digit_is_no_blank (get_or line at 0) (ap (λ k. is_digit (get_or line k 0)) (sym same) ∙ digit)
+
+pub spaced_found : (line : List ℕ) (at start : ℕ) (d : Digits) → at < length line → start ≡ after_dash line at → IsSpaced line start d → IsNumberAt line at (Number (get_or line at 0 == 45) d.value (d.end + 1))
+spaced_found line at start d inside begins h =
+    let size = range_length line start d.end h.run.from h.run.within in
+    let digit : is_digit (get_or line start 0) ≡ true = ap is_digit (sym (first_of_range line start d.end h.number.nonempty)) ∙ first_is_digit (slice_range line start d.end) h.run.digits (omega (arith, size, h.number.nonempty)) in
+    let blank = no_blank_at line at start (get_or line at 0 == 45) refl begins digit in
+    let same : tokens_of (drop d.end line) ≡ tokens_of (drop (d.end + 1) line) = ap tokens_of (drop_more line d.end 0 h.within ∙ ap (λ b. b ∷ drop (d.end + 1) line) h.space) in
+    let here = number_found line at at start d refl (omega arith) inside blank begins h.run h.number in
+    number_past line at (get_or line at 0 == 45) d.value d.end (d.end + 1) here (sym same) (omega arith) (omega (arith, h.within))
 
 no_number : (line : List ℕ) (at first : ℕ) (s : Bool) (u rest : List ℕ) → tokens_of (drop first line) ≡ tokens_of (drop at line) → drop first line ≡ lead s (u ++ rest) → NoNumber s u rest → IsNumberAt line at Malformed
 no_number line at first s u rest same split none = (none.0, none.1, sym same ∙ ap tokens_of split ∙ none.2, none.3)

@@ -81,6 +81,22 @@ digits_step s i j h l low high e =
     let more = range_push s i j h l in
     (ap (list_all is_digit) more ∙ digits_push (slice_range s i j) (get_or s j 0) e (digit_from (get_or s j 0) low high), ap (value_on 0) more ∙ value_push 0 (slice_range s i j) (get_or s j 0))
 
+range_none : (s : List ℕ) (i : ℕ) → slice_range s i i ≡ []
+range_none s i = let none : i - i ≡ 0 = omega arith in ap (λ k. take k (drop i s)) none
+
+-- a run of one digit
+pub digits_one : (s : List ℕ) (i : ℕ) → i < length s → 48 ≤ get_or s i 0 → get_or s i 0 ≤ 57 →
+    (list_all is_digit (slice_range s i (i + 1)) ≡ true) × (value_on 0 (slice_range s i (i + 1)) ≡ get_or s i 0 - 48)
+digits_one s i l low high =
+    let none = range_none s i in
+    let step = digits_step s i i (omega arith) l low high (ap (list_all is_digit) none) in
+    let zero_value : value_on 0 (slice_range s i i) ≡ 0 = ap (value_on 0) none in
+    (step.0, step.1 ∙ omega (arith, zero_value))
+
+pub first_is_digit : (u : List ℕ) → list_all is_digit u ≡ true → 0 < length u → is_digit (get_or u 0 0) ≡ true
+first_is_digit [] e h = absurd (omega arith)
+first_is_digit (d ∷ ds) e h = (and_parts (is_digit d) (list_all is_digit ds) e).0
+
 -- a token with the number u, with a dash before it or without
 abbrev pub lead : Bool → List ℕ → List ℕ
 lead s u = cond s (45 ∷ u) u

@@ -23,6 +23,13 @@ pub record IsNumber (line : List ℕ) (start : ℕ) (d : Digits) : Type 0 where
   pub small : d.value < 2 ^ 62
   pub ends : begins_with_token (drop d.end line) ≡ false
 
+-- the run is a number, and a space follows
+pub record IsSpaced (line : List ℕ) (start : ℕ) (d : Digits) : Type 0 where
+  pub run : IsDigitsAt line start d
+  pub number : IsNumber line start d
+  pub within : d.end < length line
+  pub space : slice_index line d.end ≡ 32
+
 abbrev pub IsNumberAt : List ℕ → ℕ → NumberAt → Type 0
 IsNumberAt line at End = tokens_of (drop at line) ≡ []
 IsNumberAt line at Malformed = (t : List ℕ) × (ts : List (List ℕ)) × (tokens_of (drop at line) ≡ t ∷ ts) × (signed_of t ≡ None)
