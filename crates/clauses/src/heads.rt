@@ -1,12 +1,12 @@
 //! Where the literals of each clause lie, and which clauses are still there.
-ghost use Rattle.std.specs.Prelude.{◌≡◌, ℕ, ◌<◌, true, false, List, [], ◌∷◌, ◌++◌, Some, map, length};
-ghost use Rattle.std.specs.Prelude.{take, slice_get, slice_set, IsTrue, ◌↔◌, OnErr, IfOk};
+ghost use Rattle.std.specs.Prelude.{◌≡◌, ℕ, ◌<◌, true, false, List, [], ◌∷◌, ◌++◌, Some, map};
+ghost use Rattle.std.specs.Prelude.{length, take, slice_get, slice_set, IsTrue, ◌↔◌, OnErr, IfOk};
 ghost use Rattle.clauses.specs.Heads.{Head, head_of, span_of};
 
 use std::alloc::{AllocError, Global};
 use std::marker::Model;
 
-/// Where the literals of a clause lie among all literals: the place of the first, and how many there
+/// Where the literals of a clause lie among all literals: the place of the first, and how many they
 /// are.
 #[derive(Clone, Copy, Debug, PartialEq, Eq, Drop)]
 pub(crate) struct Span {
