@@ -1,7 +1,6 @@
 -- What was written of what was found.
-use Rattle.std.proofs.Common.{◌≡◌, ℕ, Bool, List, [], ◌∷◌, ◌++◌, Option, sym, ◌∙◌, ap, subst}
+use Rattle.std.proofs.Common.{◌≡◌, ℕ, Bool, List, ◌++◌, Option, sym, ◌∙◌, ap, subst}
 use Rattle.std.specs.Io.KnownBytes.{Appends}
-use lib.Chars.{codes}
 use Rattle.wcnf.specs.Writing.{AppendsPart}
 use Rattle.improve.specs.declared.found.Found.{Found}
 use Rattle.report.specs.declared.status.Status.{Status}
@@ -15,7 +14,7 @@ end_is status words bits first last e d f = ap (λ z. words_text z last) (e ∙ 
 
 module _ (found same : Found) (is : found ≡ same) (a b c d : Option (List ℕ)) where
   pub output_left : (fault : RunFault) → fault ≡ Output → AppendsPart a b (end_text same) → Appends c d (proof_text same) → IsSpelledProof same → LeavesAnswer fault found a b c d
-  output_left fault e p q s = subst (λ f. LeavesAnswer f found a b c d) (sym e) (subst (λ f. LeavesAnswer Output f a b c d) (sym is) (p, q, s))
+  output_left fault e p q s = subst (λ f. LeavesAnswer f found a b c d) (sym e) (subst (λ f. LeavesAnswer Output f a b c d) (sym is) (record { out_part = p; proof_grows = q; spelled = s }))
 
   pub answers : (status : Status) → status ≡ status_of same → Appends a b (end_text same) → Appends c d (proof_text same) → IsSpelledProof same → Answers status found a b c d
   answers status e p q s = subst (λ f. Answers status f a b c d) (sym is) (record { status_is = e; out_grows = p; proof_grows = q; spelled = s })

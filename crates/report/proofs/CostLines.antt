@@ -1,12 +1,12 @@
 -- Lines of costs, and what a writer has of them.
-use Rattle.std.proofs.Common.{◌≡◌, ℕ, ◌+◌, ◌<◌, ◌≤◌, ◌-◌, List, [], ◌∷◌, ◌++◌, length, drop, set, get_or, Option, Some, Bool, true, false, Result, Ok, Err, refl, sym, ◌∙◌, ap, subst, arith, append_assoc, append-nil}
+use Rattle.std.proofs.Common.{◌≡◌, ℕ, ◌+◌, ◌<◌, ◌≤◌, ◌-◌, List, [], ◌∷◌, ◌++◌, length, drop, set, get_or, Option, Some, Bool, false, Result, Ok, Err, sym, ◌∙◌, ap, subst, arith, append_assoc, append-nil}
 use Rattle.std.specs.Fmt.{decimal}
 use Rattle.std.specs.Prelude.{OnErr}
 use Rattle.std.specs.Io.KnownBytes.{Appends, Keeps}
 use Rattle.std.proofs.KnownBytes.{Appends-trans, Appends-kept}
-use Rattle.std.proofs.lemmas.List.{drop-set, drop-set-lt, drop_more, drop_all, length-set}
+use Rattle.std.proofs.lemmas.List.{drop-set, drop_more, drop_all, length-set}
 use Rattle.wcnf.specs.Writing.{spaced, AppendsPart}
-use Rattle.wcnf.proofs.Items.{flat_map-append}
+use Rattle.std.proofs.lemmas.Grind.{flat_map-append}
 use Rattle.lrat_check.specs.Result.{cost_tokens}
 use Rattle.report.specs.Telling.{cost_lines, Tells}
 

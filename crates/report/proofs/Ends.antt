@@ -1,19 +1,15 @@
 -- What a run ends with, or leaves.
-use Rattle.std.proofs.Common.{◌≡◌, ℕ, ◌+◌, ◌<◌, ◌≤◌, ◌^◌, Bool, List, [], ◌∷◌, ◌++◌, length, Option, Some, None, Result, Ok, Err, ◌⊎◌, inl, inr, refl, sym, ◌∙◌, ap, subst, arith, append_assoc, append-nil, length-append}
-use Rattle.std.specs.Prelude.{All, IfOk, IfErr, IfSome}
-use Rattle.std.specs.Io.KnownBytes.{Keeps, Appends}
+use Rattle.std.proofs.Common.{◌≡◌, ℕ, ◌+◌, ◌<◌, ◌^◌, Bool, List, [], ◌∷◌, ◌++◌, length, Option, Some, None, Ok, Err, refl, sym, ◌∙◌, ap, subst, arith, append_assoc, append-nil}
+use Rattle.std.specs.Prelude.{All, IfSome}
+use Rattle.std.specs.Io.KnownBytes.{Appends}
 use Rattle.std.proofs.KnownBytes.{Appends-nil, Appends-trans, Keeps-refl}
-use Rattle.std.proofs.lemmas.List.Elements.{All-nil}
 use lib.Chars.{codes}
 use Rattle.wcnf.specs.Literal.{Literal}
 use Rattle.wcnf.specs.Bits.{assignment_of}
 use Rattle.wcnf.specs.Problem.{Problem}
 use Rattle.wcnf.specs.Wcnf.{Reads}
-use Rattle.wcnf.specs.Reading.{IsFirstFault}
 use Rattle.wcnf.specs.Writing.{AppendsPart, Begins}
 use Rattle.wcnf.specs.Lrat.{IsTextOf, Accepts}
-use Rattle.wcnf.specs.declared.faults.ReadFault.{ReadFault}
-use Rattle.wcnf.specs.declared.faults.FaultKind.TheVariants.{Memory as MemoryKind, Read as ReadKind}
 use Rattle.adder.specs.declared.cells.Profile.{Profile}
 use Rattle.bound.specs.Bound.{hard_cnf, bound_as}
 use Rattle.cdcl_order.specs.Budgets.{BudgetState}
@@ -23,15 +19,14 @@ use Rattle.lrat_check.specs.Result.{Said, OptimumFound as SaysOptimum, Unsatisfi
 use Rattle.lrat_check.specs.Checks.{IsProofOver, ChecksAs}
 use Rattle.improve.specs.declared.found.Found.{Found}
 use Rattle.improve.specs.declared.found.Found.TheVariants.{Optimum, Unsat, Best, Nothing}
-use Rattle.improve.specs.Improving.{AreFalling, EndsWith, IsCostOfSome, IsSolution, IsAcceptedOver, IsClauseCount, IsBoundWork}
+use Rattle.improve.specs.Improving.{AreFalling, IsCostOfSome, IsSolution, IsAcceptedOver, IsClauseCount, IsBoundWork}
 use Rattle.improve.proofs.BitLaws.{extends_own}
 use Rattle.report.specs.declared.status.Status.{Status}
 use Rattle.report.specs.declared.fault.RunFault.{RunFault}
 use Rattle.report.specs.declared.fault.RunFault.TheVariants.{Read, Memory, Output, ProofOutput}
-use Rattle.report.specs.Faults.{IsRunFault}
 use Rattle.report.specs.Telling.{cost_lines}
 use Rattle.report.specs.Answering.{status_of, end_text, proof_text, HasRoom, HasProofRoom, IsSpelledProof, HasProof, LeavesAnswer, Answers}
-use Rattle.report.specs.Running.{result_text, told_in, AreHonest, AreChecked, IsTrueAnswer, NeedsProof, IsRun, EndsAs, IsReadFault, LeavesLines, LeavesResult, LeavesProof, Leaves, Searches, HasLines}
+use Rattle.report.specs.Running.{result_text, told_in, AreHonest, AreChecked, IsTrueAnswer, NeedsProof, EndsAs, LeavesResult, LeavesProof, Leaves, Searches}
 use Rattle.report.proofs.ResultTexts.{optimum_text, satisfiable_text, falls_to, text_says}
 
 -- the accepted log, spelled with the ids from the formula's number of clauses on
@@ -47,14 +42,6 @@ proof_room profile p out out' old new (Optimum c bits log clauses) s = let f = s
 proof_room profile p out out' old new (Unsat log clauses) s = let f = s.found in room (hard_cnf p).clauses clauses log f.accepted f.counted
 proof_room profile p out out' old new (Best c bits work) s = tt
 proof_room profile p out out' old new (Nothing work) s = tt
-
-pub if_ok_map : {T E : Type 0} (r : Result T E) (P Q : T → Type 0) → ((x : T) → P x → Q x) → IfOk r P → IfOk r Q
-if_ok_map (Ok x) P Q f h = f x h
-if_ok_map (Err e) P Q f h = tt
-
-pub if_err_map : {T E : Type 0} (r : Result T E) (P Q : E → Type 0) → ((e : E) → P e → Q e) → IfErr r P → IfErr r Q
-if_err_map (Ok x) P Q f h = tt
-if_err_map (Err e) P Q f h = f e h
 
 -- a result that says what was found, where these costs were told
 record Spells (profile : Profile) (text : Option (List ℕ)) (p : Problem) (tried : List ℕ) (found : Found) (old new : BudgetState) : Type 0 where
@@ -128,7 +115,12 @@ module _ (profile : Profile) (text : Option (List ℕ)) (p : Problem) (reads : I
           told = sym f.told.1;
           spelled = satisfiable_text before c bits.items ∙ ap (λ z. cost_lines z ++ end_text (Best c bits work)) (sym f.told.1);
           falls = falls_in s.tried before c f.told.1 s.falling s.small;
-          true_answer = (f.solution, f.above_zero, refl, s.spent, f.hard, subst (λ z. IsBoundWork profile p z c work) f.told.1 f.bound, s.learned);
+          true_answer = record {
+            solution = f.solution;
+            above_zero = f.above_zero;
+            spent = record { no_proof = refl; none_left = s.spent; hard = f.hard; learned = s.learned };
+            bound = subst (λ z. IsBoundWork profile p z c work) f.told.1 f.bound;
+          };
           needed = λ n. absurd n;
           no_proof = λ n. refl;
           checked = λ n. absurd n;
@@ -140,7 +132,11 @@ module _ (profile : Profile) (text : Option (List ℕ)) (p : Problem) (reads : I
           told = sym f.none_told;
           spelled = ap (λ z. cost_lines z ++ end_text (Nothing work)) (sym f.none_told);
           falls = refl;
-          true_answer = (f.not_refuted, refl, s.spent, f.hard, f.no_bound, s.learned);
+          true_answer = record {
+            not_refuted = f.not_refuted;
+            spent = record { no_proof = refl; none_left = s.spent; hard = f.hard; learned = s.learned };
+            no_bound = f.no_bound;
+          };
           needed = λ n. absurd n;
           no_proof = λ n. refl;
           checked = λ n. absurd n;
@@ -155,12 +151,12 @@ module _ (profile : Profile) (text : Option (List ℕ)) (p : Problem) (reads : I
       ends status w =
           let r = spells found s in
           let whole = subst (Appends out last) (sym r.spelled) (Appends-trans out out' last (cost_lines s.tried) (end_text found) s.lines w.out_grows) in
-          subst (λ st. EndsAs profile text out last proof proof' st old new) (sym w.status_is) (
-            result_text r.before r.said,
-            proof_text found,
-            whole,
-            w.proof_grows,
-            record {
+          subst (λ st. EndsAs profile text out last proof proof' st old new) (sym w.status_is) (record {
+            written = result_text r.before r.said;
+            proved = proof_text found;
+            out_grows = whole;
+            proof_grows = w.proof_grows;
+            run = record {
               problem = p;
               reads = reads;
               before = r.before;
@@ -171,8 +167,8 @@ module _ (profile : Profile) (text : Option (List ℕ)) (p : Problem) (reads : I
               true_answer = r.true_answer;
               checked = λ n. r.checked n w.spelled;
               answers = s.answers ∙ ap (λ z. old.answers + length z) (sym r.told);
-            },
-          )
+            };
+          })
 
       -- a fault of the result's writer
       output_leaves : AppendsPart out' last (end_text found) → Appends proof proof' (proof_text found) → IsSpelledProof found → LeavesResult profile text out last proof proof'
@@ -208,8 +204,8 @@ module _ (profile : Profile) (text : Option (List ℕ)) (p : Problem) (reads : I
           }
 
       pub answer_leaves : (fault : RunFault) → LeavesAnswer fault found out' last proof proof' → Leaves profile fault text out last proof proof'
-      answer_leaves Output w = output_leaves w.0 w.1 w.2
-      answer_leaves ProofOutput w = proof_leaves w.0 w.1 w.2 w.3
+      answer_leaves Output w = output_leaves w.out_part w.proof_grows w.spelled
+      answer_leaves ProofOutput w = proof_leaves w.out_kept w.proof_part w.has_proof w.spelled
       answer_leaves Memory w = absurd w
       answer_leaves (Read fault) w = absurd w
 
@@ -218,7 +214,12 @@ module _ (profile : Profile) (text : Option (List ℕ)) (p : Problem) (reads : I
     begun lines part tail whole b e = (b.0 ++ tail, e ∙ ap (λ z. z ++ tail) b.1 ∙ append_assoc part b.0 tail)
 
     pub search_leaves : (proof : Option (List ℕ)) (fault : RunFault) → Searches profile p (Err fault) out out' old new → Leaves profile fault text out out' proof proof
-    search_leaves proof Memory s = ((s.tried, s.lines, honest_costs s.tried s.falling s.honest), Keeps-refl proof)
+    search_leaves proof Memory s = record {
+      costs = s.tried;
+      out_grows = s.lines;
+      honest = honest_costs s.tried s.falling s.honest;
+      proof_kept = Keeps-refl proof;
+    }
     search_leaves proof Output s =
         let part = s.lines.0 in
         let c = s.lines.1.0 in

@@ -1,5 +1,5 @@
 -- A line of words, a number and a line feed, as it is put together.
-use Rattle.std.proofs.Common.{◌≡◌, ℕ, List, [], ◌∷◌, ◌++◌, Option, refl, sym, ◌∙◌, ap, subst, append_assoc, append-nil}
+use Rattle.std.proofs.Common.{ℕ, List, [], ◌++◌, Option, refl, sym, ◌∙◌, ap, subst, append_assoc, append-nil}
 use Rattle.std.specs.Io.KnownBytes.{Appends}
 use Rattle.wcnf.specs.Writing.{PassesOn, AppendsPart}
 use Rattle.wcnf.proofs.Passing.{first_fault, passed-more, passed_fault, passed_part, passed_whole}

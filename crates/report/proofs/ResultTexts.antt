@@ -1,50 +1,32 @@
 -- The text of a result: its parts, and what it says.
-use Rattle.std.proofs.Common.{◌≡◌, ℕ, zero, suc, ◌+◌, ◌<◌, ◌≤◌, ◌^◌, Bool, true, false, not, List, [], ◌∷◌, ◌++◌, length, map, get_or, refl, sym, ◌∙◌, ap, subst, arith, append_assoc, append-nil}
-use Rattle.std.specs.Prelude.{All, filter, ◌==◌}
+use Rattle.std.proofs.Common.{◌≡◌, ℕ, ◌+◌, ◌<◌, ◌≤◌, ◌^◌, Bool, true, false, not, List, [], ◌∷◌, ◌++◌, map, refl, sym, ◌∙◌, ap, arith, append_assoc, append-nil}
+use Rattle.std.specs.Prelude.{filter}
 use Rattle.std.specs.List.{flat_map, AllByRecursion}
-use Rattle.std.specs.Fmt.{decimal}
-use Rattle.std.proofs.lemmas.List.Elements.{recursion_from_All, All-from_recursion}
+use Rattle.std.proofs.lemmas.Grind.{flat_map-append}
+use Rattle.std.proofs.lemmas.List.Concat.{flat_map_single}
+use Rattle.std.proofs.lemmas.List.Elements.{recursion_from_All}
+use Rattle.std.proofs.lemmas.List.Folds.{flat_map-map}
 use lib.Chars.{codes}
-use Rattle.wcnf.specs.Text.{token_lines}
 use Rattle.wcnf.specs.Writing.{spaced}
-use Rattle.wcnf.proofs.Items.{flat_map-append}
 use Rattle.lrat_log.proofs.Text.{IsWord, token_lines-spaced, decimal_word}
-use Rattle.lrat_check.specs.Result.{Said, OptimumFound, Unsatisfiable, Satisfiable, Unknown, FallsTo, Says, fall_to, cost_tokens, digit_of, bits_tokens, result_tokens, is_ignored, result_lines}
+use Rattle.lrat_check.specs.Result.{Said, OptimumFound, Unsatisfiable, Satisfiable, Unknown, FallsTo, Says, fall_to, cost_tokens, digit_of, bits_tokens, is_ignored, result_lines}
 use Rattle.improve.specs.Improving.{AreFalling}
 use Rattle.report.specs.Telling.{cost_lines}
 use Rattle.report.specs.Running.{result_text}
 use Rattle.report.specs.Answering.{digits_text, bits_word, words_text}
 
--- an item of a list doesn't depend on what stands for a missing one
-pub get_or_any : {X : Type 0} (xs : List X) (i : ℕ) (x y : X) → i < length xs → get_or xs i x ≡ get_or xs i y
-get_or_any [] i x y h = absurd (omega arith)
-get_or_any (z ∷ xs) zero x y h = refl
-get_or_any (z ∷ xs) (suc i) x y h = get_or_any xs i x y (omega arith)
-
 -- the line of the bits
-digits_text-map : (bits : List Bool) → digits_text bits ≡ map digit_of bits
-digits_text-map [] = refl
-digits_text-map (b ∷ bits) = ap (λ z. digit_of b ∷ z) (digits_text-map bits)
-
 bits_line : (bits : List Bool) → spaced (bits_tokens bits) ≡ words_text (bits_word bits) bits
 bits_line [] = refl
-bits_line (b ∷ bits) = ap (λ z. 118 ∷ 32 ∷ digit_of b ∷ (z ++ 10 ∷ [])) (sym (digits_text-map bits))
-
-cost_lines-map : (costs : List ℕ) → flat_map spaced (map cost_tokens costs) ≡ cost_lines costs
-cost_lines-map [] = refl
-cost_lines-map (c ∷ costs) = ap (λ z. spaced (cost_tokens c) ++ z) (cost_lines-map costs)
-
-flat_lines-append : (xs ys : List (List (List ℕ))) → flat_map spaced (xs ++ ys) ≡ flat_map spaced xs ++ flat_map spaced ys
-flat_lines-append [] ys = refl
-flat_lines-append (x ∷ xs) ys = ap (λ z. spaced x ++ z) (flat_lines-append xs ys) ∙ sym (append_assoc (spaced x) (flat_map spaced xs) (flat_map spaced ys))
+bits_line (b ∷ bits) = ap (λ z. 118 ∷ 32 ∷ digit_of b ∷ (z ++ 10 ∷ [])) (sym (flat_map_single digit_of bits))
 
 -- the result with a cost and bits, where its status is spelled so
 with_bits_text : (before : List ℕ) (c : ℕ) (bits : List Bool) (status : List (List ℕ)) (words : List ℕ) → spaced status ≡ words
     → flat_map spaced (map cost_tokens before ++ cost_tokens c ∷ status ∷ bits_tokens bits ∷ []) ≡ cost_lines (before ++ c ∷ []) ++ words_text (words ++ bits_word bits) bits
 with_bits_text before c bits status words e =
     let tail : List ℕ = spaced (bits_tokens bits) ++ [] in
-    flat_lines-append (map cost_tokens before) (cost_tokens c ∷ status ∷ bits_tokens bits ∷ [])
-    ∙ ap (λ z. z ++ (spaced (cost_tokens c) ++ (spaced status ++ tail))) (cost_lines-map before)
+    flat_map-append spaced (map cost_tokens before) (cost_tokens c ∷ status ∷ bits_tokens bits ∷ [])
+    ∙ ap (λ z. z ++ (spaced (cost_tokens c) ++ (spaced status ++ tail))) (flat_map-map spaced cost_tokens before)
     ∙ sym (append_assoc (cost_lines before) (spaced (cost_tokens c)) (spaced status ++ tail))
     ∙ ap (λ z. z ++ (spaced status ++ tail)) (ap (λ z. cost_lines before ++ z) (sym (append-nil (spaced (cost_tokens c)))) ∙ sym (flat_map-append (λ d. spaced (cost_tokens d)) before (c ∷ [])))
     ∙ ap (λ z. cost_lines (before ++ c ∷ []) ++ z) (ap (λ z. z ++ tail) e ∙ ap (λ z. words ++ z) (append-nil (spaced (bits_tokens bits)) ∙ bits_line bits) ∙ sym (append_assoc words (bits_word bits) (digits_text bits ++ codes "\n")))
@@ -54,12 +36,6 @@ optimum_text before c bits = with_bits_text before c bits (codes "s" ∷ codes "
 
 pub satisfiable_text : (before : List ℕ) (c : ℕ) (bits : List Bool) → result_text before (Satisfiable c bits) ≡ cost_lines (before ++ c ∷ []) ++ words_text (codes "s SATISFIABLE\n" ++ bits_word bits) bits
 satisfiable_text before c bits = with_bits_text before c bits (codes "s" ∷ codes "SATISFIABLE" ∷ []) (codes "s SATISFIABLE\n") refl
-
-pub unsatisfiable_text : (before : List ℕ) → result_text before Unsatisfiable ≡ words_text (codes "s UNSATISFIABLE") []
-unsatisfiable_text before = refl
-
-pub unknown_text : (before : List ℕ) → result_text before Unknown ≡ words_text (codes "s UNKNOWN") []
-unknown_text before = refl
 
 -- costs that fall
 pub falls_to : (before : List ℕ) (c : ℕ) → AreFalling (before ++ c ∷ []) → fall_to before c

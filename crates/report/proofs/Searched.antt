@@ -1,25 +1,26 @@
 -- What a search leaves, from what its progress was told.
-use Rattle.std.proofs.Common.{◌≡◌, ℕ, ◌+◌, ◌<◌, ◌≤◌, ◌^◌, Bool, true, false, List, [], ◌∷◌, ◌++◌, Option, Some, Result, Ok, Err, length, refl, sym, ◌∙◌, ap, subst, arith}
-use Rattle.std.specs.Prelude.{All, IfOk, OnOk, sum_by, if◌then◌else◌}
-use Rattle.std.proofs.lemmas.List.Sums.{sum_by-le-sum_by}
+use Rattle.std.proofs.Common.{◌≡◌, ℕ, ◌+◌, ◌<◌, ◌≤◌, ◌^◌, Bool, true, false, List, [], ◌∷◌, ◌++◌, Option, Result, Ok, Err, length, refl, sym, ◌∙◌, ap, subst, arith}
+use Rattle.std.specs.Prelude.{All}
 use Rattle.std.proofs.lemmas.List.Elements.{All-weaker}
-use Rattle.wcnf.specs.Clause.{clause_value}
-use Rattle.wcnf.specs.Problem.{Problem, SoftClause, cost_under}
+use Rattle.wcnf.specs.Problem.{Problem}
 use Rattle.wcnf.specs.Instance.{IsInstance}
 use Rattle.wcnf.specs.Writing.{AppendsPart}
 use Rattle.std.specs.Io.KnownBytes.{Appends}
 use Rattle.std.proofs.KnownBytes.{Appends-nil}
 use Rattle.adder.specs.declared.cells.Profile.{Profile}
-use Rattle.cdcl_order.specs.Budgets.{BudgetState, left_of}
+use Rattle.cdcl_order.specs.Budgets.{BudgetState}
 use Rattle.improve.specs.declared.found.Found.{Found}
 use Rattle.improve.specs.declared.found.ImproveFault.{ImproveFault}
 use Rattle.improve.specs.declared.found.ImproveFault.TheVariants.{Memory as SearchMemory, Progress}
-use Rattle.improve.specs.Improving.{AreFalling, IsCostOfSome, IsRightFound, Improves, Telling, OnWork, work_count}
+use Rattle.improve.specs.Improving.{IsCostOfSome, IsRightFound, Improves, Telling}
+use Rattle.std.specs.Prelude.{sum_by, if◌then◌else◌}
+use Rattle.std.proofs.lemmas.List.Sums.{sum_by-le-sum_by}
+use Rattle.wcnf.specs.Clause.{clause_value}
+use Rattle.wcnf.specs.Problem.{SoftClause, cost_under}
 use Rattle.improve.proofs.Told.{told_fall, told_each}
-use Rattle.report.specs.declared.fault.RunFault.{RunFault}
 use Rattle.report.specs.declared.fault.RunFault.TheVariants.{Memory, Output}
 use Rattle.report.specs.Telling.{Tells, cost_lines, fault_of_telling}
-use Rattle.report.specs.Running.{Searches, HasLines, outcome_of}
+use Rattle.report.specs.Running.{Searches, outcome_of}
 
 part : (b : Bool) (w : ℕ) → (if b then 0 else w) ≤ w
 part true w = omega arith

@@ -10,7 +10,8 @@ use Rattle.lrat_check.specs.Result.{digit_of}
 use Rattle.improve.specs.declared.found.Found.{Found}
 use Rattle.improve.specs.declared.found.Found.TheVariants.{Optimum, Unsat, Best, Nothing}
 use Rattle.report.specs.declared.status.Status.{Status}
-use Rattle.report.specs.declared.status.Status.TheVariants.{OptimumFound, Unsatisfiable, Satisfiable, Unknown}
+use Rattle.report.specs.declared.status.Status.TheVariants.{OptimumFound, Unsatisfiable}
+use Rattle.report.specs.declared.status.Status.TheVariants.{Satisfiable, Unknown}
 use Rattle.report.specs.declared.fault.RunFault.{RunFault}
 use Rattle.report.specs.declared.fault.RunFault.TheVariants.{Read, Memory, Output, ProofOutput}
 
@@ -34,9 +35,11 @@ words_text words bits = words ++ (digits_text bits ++ codes "\n")
 
 -- the line of the status, and that of the bits
 abbrev pub end_text : Found → List ℕ
-end_text (Optimum c bits log clauses) = words_text (codes "s OPTIMUM FOUND\n" ++ bits_word bits.items) bits.items
+end_text (Optimum c bits log clauses) =
+    words_text (codes "s OPTIMUM FOUND\n" ++ bits_word bits.items) bits.items
 end_text (Unsat log clauses) = words_text (codes "s UNSATISFIABLE") []
-end_text (Best c bits work) = words_text (codes "s SATISFIABLE\n" ++ bits_word bits.items) bits.items
+end_text (Best c bits work) =
+    words_text (codes "s SATISFIABLE\n" ++ bits_word bits.items) bits.items
 end_text (Nothing work) = words_text (codes "s UNKNOWN") []
 
 -- what is written as certificate
@@ -58,7 +61,8 @@ HasProofRoom (Nothing work) = ⊤
 
 -- the certificate's text has the lines of the log
 abbrev pub IsSpelledProof : Found → Type 0
-IsSpelledProof (Optimum c bits log clauses) = IsTextOf (text_of clauses log) (numbered_lines clauses log)
+IsSpelledProof (Optimum c bits log clauses) =
+    IsTextOf (text_of clauses log) (numbered_lines clauses log)
 IsSpelledProof (Unsat log clauses) = IsTextOf (text_of clauses log) (numbered_lines clauses log)
 IsSpelledProof (Best c bits work) = ⊤
 IsSpelledProof (Nothing work) = ⊤
@@ -69,15 +73,31 @@ HasProof (Unsat log clauses) = ⊤
 HasProof (Best c bits work) = ⊥
 HasProof (Nothing work) = ⊥
 
+-- a beginning of the end, after the whole certificate
+pub record LeavesEnd (found : Found) (out out' proof proof' : Option (List ℕ)) : Type 0 where
+  pub out_part : AppendsPart out out' (end_text found)
+  pub proof_grows : Appends proof proof' (proof_text found)
+  pub spelled : IsSpelledProof found
+
+-- a beginning of the certificate, and nothing of the end
+pub record LeavesCertificate (found : Found) (out out' proof proof' : Option (List ℕ))
+    : Type 0 where
+  pub out_kept : Appends out out' []
+  pub proof_part : AppendsPart proof proof' (proof_text found)
+  pub has_proof : HasProof found
+  pub spelled : IsSpelledProof found
+
 -- what stands after a fault: the certificate comes whole before the first byte of the end
-abbrev pub LeavesAnswer : RunFault → Found → Option (List ℕ) → Option (List ℕ) → Option (List ℕ) → Option (List ℕ) → Type 0
-LeavesAnswer Output found out out' proof proof' = AppendsPart out out' (end_text found) × Appends proof proof' (proof_text found) × IsSpelledProof found
-LeavesAnswer ProofOutput found out out' proof proof' = Appends out out' [] × AppendsPart proof proof' (proof_text found) × HasProof found × IsSpelledProof found
+abbrev pub LeavesAnswer : RunFault → Found
+    → Option (List ℕ) → Option (List ℕ) → Option (List ℕ) → Option (List ℕ) → Type 0
+LeavesAnswer Output found out out' proof proof' = LeavesEnd found out out' proof proof'
+LeavesAnswer ProofOutput found out out' proof proof' = LeavesCertificate found out out' proof proof'
 LeavesAnswer Memory found out out' proof proof' = ⊥
 LeavesAnswer (Read fault) found out out' proof proof' = ⊥
 
 -- and where there was none
-pub record Answers (status : Status) (found : Found) (out out' proof proof' : Option (List ℕ)) : Type 0 where
+pub record Answers (status : Status) (found : Found) (out out' proof proof' : Option (List ℕ))
+    : Type 0 where
   pub status_is : status ≡ status_of found
   pub out_grows : Appends out out' (end_text found)
   pub proof_grows : Appends proof proof' (proof_text found)

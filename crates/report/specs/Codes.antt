@@ -1,13 +1,17 @@
 -- Exit statuses.
 use Rattle.std.specs.Prelude.{ℕ}
 use Rattle.wcnf.specs.declared.faults.FaultKind.{FaultKind}
-use Rattle.wcnf.specs.declared.faults.FaultKind.TheVariants.{FirstToken, OldForm, Weight, Literal, NoZero, AfterZero, Variable, WeightSum, TooMany, Header, Count, Memory as MemoryKind, Read as ReadKind}
+use Rattle.wcnf.specs.declared.faults.FaultKind.TheVariants.{FirstToken, OldForm, Weight, Literal}
+use Rattle.wcnf.specs.declared.faults.FaultKind.TheVariants.{NoZero, AfterZero, Variable, WeightSum}
+use Rattle.wcnf.specs.declared.faults.FaultKind.TheVariants.{TooMany, Header, Count}
+use Rattle.wcnf.specs.declared.faults.FaultKind.TheVariants.{Memory as MemoryKind, Read as ReadKind}
 use Rattle.lrat_check.specs.declared.verdicts.Verdict.{Verdict}
 use Rattle.lrat_check.specs.declared.verdicts.Verdict.TheVariants.{Yes, No}
 use Rattle.report.specs.declared.fault.RunFault.{RunFault}
 use Rattle.report.specs.declared.fault.RunFault.TheVariants.{Read, Memory, Output, ProofOutput}
 use Rattle.report.specs.declared.status.Status.{Status}
-use Rattle.report.specs.declared.status.Status.TheVariants.{OptimumFound, Unsatisfiable, Satisfiable, Unknown}
+use Rattle.report.specs.declared.status.Status.TheVariants.{OptimumFound, Unsatisfiable}
+use Rattle.report.specs.declared.status.Status.TheVariants.{Satisfiable, Unknown}
 
 abbrev pub code_of_status : Status → ℕ
 code_of_status OptimumFound = 30

@@ -3,7 +3,13 @@ use Rattle.std.specs.Prelude.{ℕ, List, ◌++◌}
 use Rattle.std.specs.Fmt.{decimal}
 use lib.Chars.{codes}
 use Rattle.lrat_check.specs.declared.verdicts.Cause.{Cause}
-use Rattle.lrat_check.specs.declared.verdicts.Cause.TheVariants.{Text, ResultForm, BitsLength, NotFeasible, CostWrong, StatusWithoutProof, LineForm, IdOrder, DeadId, HintNotUnit, HintAfterConflict, NoConflict, Candidates, NoEmptyClause, TrailingLine, ClauseForm}
+use Rattle.lrat_check.specs.declared.verdicts.Cause.TheVariants.{Text, ResultForm, BitsLength}
+use Rattle.lrat_check.specs.declared.verdicts.Cause.TheVariants.{NotFeasible, CostWrong}
+use Rattle.lrat_check.specs.declared.verdicts.Cause.TheVariants.{StatusWithoutProof, LineForm}
+use Rattle.lrat_check.specs.declared.verdicts.Cause.TheVariants.{IdOrder, DeadId, HintNotUnit}
+use Rattle.lrat_check.specs.declared.verdicts.Cause.TheVariants.{HintAfterConflict, NoConflict}
+use Rattle.lrat_check.specs.declared.verdicts.Cause.TheVariants.{Candidates, NoEmptyClause}
+use Rattle.lrat_check.specs.declared.verdicts.Cause.TheVariants.{TrailingLine, ClauseForm}
 use Rattle.lrat_check.specs.declared.verdicts.Verdict.{Verdict}
 use Rattle.lrat_check.specs.declared.verdicts.Verdict.TheVariants.{Yes, No}
 

@@ -1,12 +1,14 @@
 // What was found, on its way to the writers: the certificate first, whole and flushed, then the
 // lines of the status and the bits.
-ghost use Rattle.std.specs.Prelude.{◌≡◌, ◌+◌, ◌<◌, ◌^◌, ◌++◌, ◌∷◌, [], length, codes, OnOk, OnErr, IfOk, IfErr};
+ghost use Rattle.std.specs.Prelude.{◌≡◌, ◌+◌, ◌<◌, ◌^◌, ◌++◌, ◌∷◌, []};
+ghost use Rattle.std.specs.Prelude.{length, codes, OnOk, OnErr, IfOk, IfErr};
 ghost use Rattle.std.specs.Io.KnownBytes.{Appends};
 ghost use Rattle.wcnf.specs.Lrat.{IsTextOf};
 ghost use Rattle.wcnf.specs.Writing.{AppendsPart, PassesOn};
 ghost use Rattle.lrat_log.specs.Log.{HasSmallIds, numbered_lines, text_of};
 ghost use Rattle.lrat_check.specs.Result.{digit_of};
-ghost use Rattle.report.specs.Answering.{Answers, LeavesAnswer, HasProofRoom, bits_word, digits_text, words_text};
+ghost use Rattle.report.specs.Answering.{Answers, LeavesAnswer, HasProofRoom};
+ghost use Rattle.report.specs.Answering.{bits_word, digits_text, words_text};
 
 use crate::fault::RunFault;
 use crate::printing::delivered;
@@ -43,7 +45,7 @@ pub fn write_answer<O: Write, P: Write>(
             ..
         } => {
             deliver_proof(&log, clauses, proof)?;
-            deliver_end(optimum_words(&bits), &bits, out)?;
+            deliver_end(spell_optimum(&bits), &bits, out)?;
             Ok(Status::OptimumFound)
         }
         Found::Unsat { log, clauses } => {
@@ -52,7 +54,7 @@ pub fn write_answer<O: Write, P: Write>(
             Ok(Status::Unsatisfiable)
         }
         Found::Best { bits, work, .. } => {
-            deliver_end(satisfiable_words(&bits), &bits, out)?;
+            deliver_end(spell_satisfiable(&bits), &bits, out)?;
             Ok(Status::Satisfiable(work))
         }
         Found::Nothing { work } => {
@@ -111,19 +113,19 @@ fn put_bits<O: Write>(block: &mut Block, out: &mut O, bits: &[bool]) -> Result<(
         (block.old ++ digits_text bits.now)) }
 {
     for bit in bits {
-        block.put(out, digit(*bit))?;
+        block.put(out, spell_digit(*bit))?;
     }
     Ok(())
 }
 
-fn digit(bit: bool) -> &'static [u8]
+fn spell_digit(bit: bool) -> &'static [u8]
     ensures { result.now ≡ digit_of bit ∷ [] }
 {
     if bit { b"1" } else { b"0" }
 }
 
 /// What stands before the digits; with no digit, no space does.
-fn optimum_words(bits: &[bool]) -> &'static [u8]
+fn spell_optimum(bits: &[bool]) -> &'static [u8]
     ensures { result.now ≡ codes "s OPTIMUM FOUND\n" ++ bits_word bits.now }
 {
     match bits {
@@ -132,8 +134,8 @@ fn optimum_words(bits: &[bool]) -> &'static [u8]
     }
 }
 
-/// As `optimum_words`, for a solution that may not be the cheapest.
-fn satisfiable_words(bits: &[bool]) -> &'static [u8]
+/// As `spell_optimum`, for a solution that may not be the cheapest.
+fn spell_satisfiable(bits: &[bool]) -> &'static [u8]
     ensures { result.now ≡ codes "s SATISFIABLE\n" ++ bits_word bits.now }
 {
     match bits {

@@ -12,25 +12,30 @@ use std::io::Write;
 use wcnf::faults::{FaultKind, ReadFault, WriteFault};
 use wcnf::output::{Block, write_piece};
 
-/// Writes the verdict's line: `YES`, or `NO`, the cause's name and the line of the text, result or certificate that it stands on.
+/// Writes the verdict's line: `YES`, or `NO`, the cause's name and the line of the text, result or
+/// certificate that it stands on.
 ///
 /// # Errors
 ///
 /// `WriteFault` where the writer failed. It has then a beginning of the line.
 pub fn print_verdict<W: Write>(verdict: &Verdict, writer: &mut W) -> Result<(), WriteFault>
-    ensures ok { OnOk result (Appends (W.contents writer.old) (W.contents writer.new) (verdict_text verdict.now)) }
-    ensures fault { OnErr result (AppendsPart (W.contents writer.old) (W.contents writer.new) (verdict_text verdict.now)) }
+    ensures ok { OnOk result (Appends (W.contents writer.old) (W.contents writer.new)
+        (verdict_text verdict.now)) }
+    ensures fault { OnErr result (AppendsPart (W.contents writer.old) (W.contents writer.new)
+        (verdict_text verdict.now)) }
 {
     match verdict {
         Verdict::Yes => write_piece(writer, b"YES\n"),
-        Verdict::No(cause, line) => print_numbered(no_words(*cause), *line, writer),
+        Verdict::No(cause, line) => print_numbered(spell_no(*cause), *line, writer),
     }
 }
 
 /// Writes the words, the number and a line feed.
 fn print_numbered<W: Write>(words: &[u8], number: u64, writer: &mut W) -> Result<(), WriteFault>
-    ensures ok { OnOk result (Appends (W.contents writer.old) (W.contents writer.new) (words.now ++ (decimal number ++ codes "\n"))) }
-    ensures fault { OnErr result (AppendsPart (W.contents writer.old) (W.contents writer.new) (words.now ++ (decimal number ++ codes "\n"))) }
+    ensures ok { OnOk result (Appends (W.contents writer.old) (W.contents writer.new)
+        (words.now ++ (decimal number ++ codes "\n"))) }
+    ensures fault { OnErr result (AppendsPart (W.contents writer.old) (W.contents writer.new)
+        (words.now ++ (decimal number ++ codes "\n"))) }
 {
     let mut block = Block::new();
     block.put(writer, words)?;
@@ -40,7 +45,7 @@ fn print_numbered<W: Write>(words: &[u8], number: u64, writer: &mut W) -> Result
 }
 
 /// What stands before the line's number.
-fn no_words(cause: Cause) -> &'static [u8]
+fn spell_no(cause: Cause) -> &'static [u8]
     ensures { result.now ≡ no_text cause }
 {
     match cause {
@@ -63,8 +68,8 @@ fn no_words(cause: Cause) -> &'static [u8]
     }
 }
 
-/// Writes the fault's line, which its `Display` gives: `error: line 2: WeightSum` for a faulty text, and else
-/// `error: ` with the name of the fault. Its text is shown by tests.
+/// Writes the fault's line, which its `Display` gives: `error: line 2: WeightSum` for a faulty
+/// text, and else `error: ` with the name of the fault. Its text is shown by tests.
 ///
 /// # Errors
 ///

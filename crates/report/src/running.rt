@@ -35,8 +35,7 @@ use wcnf::types::Instance;
 /// - `Memory`: a growth was refused. The result has whole `o` lines, and no `s` line; the
 ///   certificate has nothing.
 /// - `Output`: the result's writer failed. It has a beginning of a result; where that reaches an
-///   `s` line that needs a certificate,
-///   the certificate is whole.
+///   `s` line that needs a certificate, the certificate is whole.
 /// - `ProofOutput`: the certificate's writer failed. The result has whole `o` lines, and no `s`
 ///   line.
 ///
@@ -101,11 +100,11 @@ fn search<O: Write>(
     let Finished { writer, fault } = told.finish();
     // Nothing is done here: the proof learns from this use what the writer holds.
     let _ = &*writer;
-    outcome(searched, fault)
+    conclude(searched, fault)
 }
 
 /// The outcome of a search, where this is why a telling failed.
-fn outcome(searched: Result<Found, ImproveFault>, fault: RunFault) -> Result<Found, RunFault>
+fn conclude(searched: Result<Found, ImproveFault>, fault: RunFault) -> Result<Found, RunFault>
     ensures { result ≡ outcome_of searched fault }
 {
     match searched {

@@ -98,7 +98,8 @@ impl<'a, W: Write> Progress for Told<'a, W> {
     ghost failures = { λ t. t.failures };
 
     ghost follows = { λ first now. (now.writer.ghost_name ≡ first.writer.ghost_name)
-        × Tells (W.contents first.writer.now) (W.contents now.writer.now) now.costs.items now.failed now.no_memory now.failures };
+        × Tells (W.contents first.writer.now) (W.contents now.writer.now) now.costs.items
+        now.failed now.no_memory now.failures };
 
     fn improved(&mut self, cost: u64) -> Result<(), ProgressFault> {
         if self.failures > 0 {

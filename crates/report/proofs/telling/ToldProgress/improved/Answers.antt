@@ -1,6 +1,5 @@
 -- A failed write leaves a beginning of the line.
-use Rattle.std.proofs.Common.{◌≡◌, ◌∙◌, ap, sym, subst, arith}
-use Rattle.std.specs.declared.vec.Vec.{Vec}
+use Rattle.std.proofs.Common.{◌∙◌, ap, sym, subst, arith}
 use Rattle.wcnf.specs.Writing.{AppendsPart, spaced}
 use Rattle.lrat_check.specs.Result.{cost_tokens}
 use Rattle.improve.proofs.Lowering.{at_err}
