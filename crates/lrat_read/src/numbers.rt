@@ -4,10 +4,12 @@
 // Most numbers have few digits and stand between two single spaces. `few_digits_at` reads these
 // in one pass: where nine bytes are left, no byte needs a test for the line's end, the compiler
 // unrolls the loop, and the place that is handed on is the next token's own, behind the space.
-// All else is left to `any_number_at`. That took 36 to 45 % off the instructions of a reading.
-// Tried and left, with more instructions each: eight digits by one multiplication chain (a fifth
-// more than the loop, since most numbers have two to four), a test for the line's end at each
-// digit (a third more), one loop for both ways with its tests behind it (a sixth more).
+// All else is left to `any_number_at`. That took 27 to 44 % off the instructions of a reading of
+// real certificates, and a quarter to a third off its time.
+// Tried in C and left: eight digits by one chain of multiplications (28 % more instructions than
+// the loop, since most numbers have two to four digits), a test for the line's end at each digit
+// (23 % more), one loop for both ways with its tests behind it (16 % more), room for the line's
+// numbers reserved once (2 % less), 0 read here too (no change).
 ghost use Rattle.std.specs.Prelude.{◌≡◌, ◌+◌, ◌<◌, ◌≤◌, ◌↔◌, length, drop, slice_index, not, false, IsTrue, IfSome};
 ghost use Rattle.wcnf.specs.Text.{tokens_of, is_blank, begins_with_token};
 ghost use Rattle.lrat_read.specs.Numbers.{IsDigitsAt, IsSpaced, IsNumber, IsNumberAt, IsAfterLetter};
