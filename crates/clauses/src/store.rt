@@ -219,7 +219,7 @@ impl Store {
         ensures used { IfOk result (λ _. self.new.used ≡ room_of (live_clauses self.new.slots)) }
         ensures err { OnErr result (self.new ≡ self.old) }
     {
-        let pairs = pairs_of(*self.literals.allocator(), &self.heads)?;
+        let pairs = list_moves(*self.literals.allocator(), &self.heads)?;
         compact(&mut self.heads, &mut self.literals);
         Ok(Moves { pairs })
     }
@@ -231,7 +231,7 @@ impl Store {
 }
 
 // The old and the new reference of each live clause.
-fn pairs_of(alloc: Global, heads: &Heads) -> Result<Vec<(CRef, CRef)>, AllocError>
+fn list_moves(alloc: Global, heads: &Heads) -> Result<Vec<(CRef, CRef)>, AllocError>
     requires { length heads.now < 2 ^ 32 }
     ensures { IfOk result (λ pairs. (literals : List Literal)
         → pairs.items ≡ moves_of (slots_of literals heads.now)) }

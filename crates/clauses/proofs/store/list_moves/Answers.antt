@@ -1,8 +1,8 @@
 use Rattle.std.proofs.Common.{◌≡◌, ◌<◌, ◌∙◌, length, arith}
 use Rattle.clauses.proofs.Reading.{flag_at}
 use Rattle.clauses.proofs.Renaming.{listing_live, listing_dead}
-use Rattle.clauses.proofs.store.pairs_of.Goals as goal
-use Rattle.clauses.proofs.store.pairs_of.Goals.{then-is_live+in_ok-push, else-is_live}
+use Rattle.clauses.proofs.store.list_moves.Goals as goal
+use Rattle.clauses.proofs.store.list_moves.Goals.{then-is_live+in_ok-push, else-is_live}
 
 pub loop-old-preserved : goal.loop-old-preserved
 loop-old-preserved c =
