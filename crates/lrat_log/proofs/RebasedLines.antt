@@ -1,5 +1,5 @@
 -- The lines of a rebased log, one after another.
-use Rattle.std.proofs.Common.{◌≡◌, ℕ, zero, suc, ◌+◌, ◌<◌, false, Some, List, [], ◌∷◌, ◌++◌, length, map, take, get_or, refl, sym, ◌∙◌, ap, arith}
+use Rattle.std.proofs.Common.{◌≡◌, ℕ, zero, suc, ◌+◌, ◌<◌, Some, List, [], ◌∷◌, ◌++◌, length, map, take, get_or, refl, sym, ◌∙◌, ap, arith}
 use Rattle.std.specs.declared.vec.Vec.{Vec}
 use Rattle.std.specs.declared.alloc.Global.{Global}
 use Rattle.std.specs.Prelude.{if◌then◌else◌, All}
@@ -9,7 +9,7 @@ use Rattle.std.proofs.lemmas.List.Sums.{sum_by-append}
 use Rattle.std.proofs.lemmas.Option.{none-some}
 use Rattle.wcnf.specs.Literal.{Literal}
 use Rattle.lrat_log.specs.Log.{LogLine, is_learned}
-use Rattle.lrat_log.specs.Steps.{AddsNoEmptyClause, adds_empty_clause, learned_count}
+use Rattle.lrat_log.specs.Steps.{AddsNoEmptyClause, learned_count}
 use Rattle.lrat_log.specs.Rebase.{WeakerList, weaker_list, weaker_line, moved_line, rebased, IsSomeClause}
 
 -- the first lines, and one more

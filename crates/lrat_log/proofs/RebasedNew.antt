@@ -1,20 +1,19 @@
 -- What a log learns is new also where it is told over other clauses: by their names the same clauses are live at each line.
-use Rattle.std.proofs.Common.{◌≡◌, ℕ, ◌+◌, ◌-◌, ◌<◌, ◌≤◌, Bool, true, false, List, [], ◌∷◌, ◌++◌, length, map, Some, inl, inr, refl, sym, ◌∙◌, ap, subst, arith, append_assoc, append-nil}
+use Rattle.std.proofs.Common.{◌≡◌, ℕ, ◌+◌, ◌-◌, ◌<◌, ◌≤◌, Bool, true, false, List, [], ◌∷◌, ◌++◌, length, map, inl, inr, refl, sym, ◌∙◌, ap, subst, arith, append_assoc, append-nil}
 use Rattle.std.specs.Prelude.{◌&&◌, nat_le, if◌then◌else◌, All}
 use Rattle.std.specs.List.{AllByRecursion}
 use Rattle.std.proofs.lemmas.Bool.{cases_lt, le-leb, lt-leb, false≢true}
 use Rattle.std.proofs.lemmas.List.{map-append}
-use Rattle.std.proofs.lemmas.List.Sums.{sum_by-cons}
 use Rattle.wcnf.specs.Literal.{Literal}
 use Rattle.wcnf.specs.Refute.{Clauses}
-use Rattle.wcnf.specs.Lrat.{CandidateHints, Live, Chain, IsRup, start_of}
+use Rattle.wcnf.specs.Lrat.{Live, Chain, IsRup, start_of}
 use Rattle.lrat_log.specs.declared.lines.Name.{Name}
 use Rattle.lrat_log.specs.declared.lines.Name.TheVariants.{Formula, Added}
 use Rattle.lrat_log.specs.declared.lines.Hint.{Hint}
-use Rattle.lrat_log.specs.Log.{LogLine, is_learned, is_delete, id_of, leading_ids, group_ids, numbered_on, numbered_lines, Given, start_over}
-use Rattle.lrat_log.specs.Steps.{IsKnown, live_after, given_of, log_live, is_later, IsNewTo, IsByRup, IsLogOver, LearnsNew, learned_count}
+use Rattle.lrat_log.specs.Log.{LogLine, is_delete, id_of, leading_ids, group_ids, numbered_on, numbered_lines, Given, start_over}
+use Rattle.lrat_log.specs.Steps.{IsKnown, live_after, given_of, log_live, is_later, IsNewTo, IsByRup, IsLogOver, LearnsNew}
 use Rattle.lrat_log.specs.Rebase.{WeakerList, weaker_line, moved_name, moved_hint, moved_line, rebased, IsWeakerOf, KeepsLog}
-use Rattle.lrat_log.proofs.Names.{leading_names, group_names, group_by, leading_ids-names, group_ids-names, all_append, Renames, SameLive, LineKnown, rup_after, leading_known, chain_end}
+use Rattle.lrat_log.proofs.Names.{leading_names, group_names, group_by, leading_ids-names, group_ids-names, all_append, SameLive, LineKnown, rup_after, leading_known, chain_end}
 use Rattle.lrat_log.proofs.NewLines.{later_true, none_new, append_new}
 use Rattle.lrat_log.proofs.RebasedLines.{learned_weaker}
 use Rattle.lrat_log.proofs.Rebasing.{clauses_of, lengths, is_added, renames_moved, leading_ids_moved, group_ids_moved, rebased_live, given_base, given_known, start_over-given_of, keeps_steps, keeps_log, keeps_accepted}

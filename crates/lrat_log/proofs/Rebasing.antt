@@ -4,7 +4,7 @@ use Rattle.std.specs.Prelude.{◌==◌, nat_le, if◌then◌else◌, All}
 use Rattle.std.specs.List.{AllByRecursion, list_any, enumerate_from, slice_get}
 use Rattle.std.proofs.lemmas.Bool.{cases_lt, eq-eqb, ne_eqb, le-leb, lt-leb, cond-true, cond-false, false≢true, or_right}
 use Rattle.std.proofs.lemmas.List.{length-map}
-use Rattle.std.proofs.lemmas.List.Elements.{All-from_recursion, recursion_from_All, All-nil, All-cons, All-append, All-map, All-weaker, All-head, All-tail}
+use Rattle.std.proofs.lemmas.List.Elements.{All-from_recursion, recursion_from_All, All-nil, All-cons, All-head, All-tail}
 use Rattle.std.proofs.lemmas.Option.{none-some, slice_get_past, slice_get_within}
 use Rattle.wcnf.specs.Literal.{Literal, negation, literal_eq, same_bool}
 use Rattle.wcnf.specs.Clause.{contains_literal, is_subset}
@@ -15,10 +15,10 @@ use Rattle.lrat_log.specs.declared.lines.Name.{Name}
 use Rattle.lrat_log.specs.declared.lines.Name.TheVariants.{Formula, Added}
 use Rattle.lrat_log.specs.declared.lines.Hint.{Hint}
 use Rattle.lrat_log.specs.declared.lines.Hint.TheVariants.{Plain, Group}
-use Rattle.lrat_log.specs.Log.{LogLine, IsLine, IsPlain, is_delete, name_of, number_in, id_of, HasSmallIds, numbered_on, numbered_lines, Given, given_at, start_over}
+use Rattle.lrat_log.specs.Log.{LogLine, IsLine, IsPlain, is_delete, name_of, number_in, id_of, numbered_on, numbered_lines, Given, given_at, start_over}
 use Rattle.lrat_log.specs.Steps.{IsKnown, HasKnownNames, live_after, AreSteps, given_of, IsBaseOf, IsOwnGroup, IsLogOver, IsAcceptedLog, adds_empty_clause, StopsAtEmptyClause}
 use Rattle.lrat_log.specs.Rebase.{WeakerList, weaker_line, moved_name, moved_hint, moved_line, rebased, IsWeakerOf, IsSomeClause, KeepsSteps}
-use Rattle.lrat_log.proofs.Accepting.{accepted_on, accepted_log, refuted_log}
+use Rattle.lrat_log.proofs.Accepting.{accepted_log, refuted_log}
 use Rattle.lrat_log.proofs.Names.{leading_names, group_names, group_by, named_on, line_by, numbered_on-named, Renames, SameLive, GroupIs, HintKnown, LineKnown, chain_after, steps_from_chain}
 use Rattle.lrat_log.proofs.Numbering.{log_steps_from, given_below, given_past}
 use Rattle.lrat_log.proofs.Ids.{known_names}
@@ -480,15 +480,6 @@ any_weaker : (ws : WeakerList) (rest : List LogLine) → list_any adds_empty_cla
 any_weaker [] rest h = h
 any_weaker (e ∷ ws) rest h = or_right (adds_empty_clause (weaker_line e)) (list_any adds_empty_clause (map weaker_line ws ++ rest)) (any_weaker ws rest h)
 
-pub keeps_acceptance : (fixed : ℕ) (ws : WeakerList) (old : List LogLine) (first others : List (List Literal)) → length first ≡ fixed
-    → All (IsWeakerOf (first ++ others)) ws → IsLogOver (given_of (first ++ map (λ e. e.0) ws ++ others)) old
-    → All IsSomeClause ws → list_any adds_empty_clause old ≡ true → Accepts (first ++ others) (numbered_lines (length (first ++ others)) (rebased fixed ws old))
-keeps_acceptance fixed ws old first others e weaker log nonempty some =
-    let moved : List LogLine = map (moved_line fixed (length ws)) old in
-    accepted_on (length (first ++ others)) 0 (start_of (first ++ others)) (rebased fixed ws old) _ (keeps_steps fixed ws old first others e weaker log)
-    (stops_weaker ws moved (recursion_from_All IsSomeClause ws nonempty) (stops_moved fixed (length ws) old log.stops))
-    (any_weaker ws moved (any_moved fixed (length ws) old ∙ some))
-
 -- a log over the clauses of a formula, from the start of a certificate
 pub start_over-given_of : (cs : List (List Literal)) → start_over (given_of cs) (length cs) ≡ start_of cs
 start_over-given_of cs = λ i. record { clause_at = λ k. given_at-given_of cs k i; last = length cs }
@@ -533,29 +524,6 @@ moved_line-is f c l h s = record {
   names = All-from_recursion HasNumber _ (moved_numbers f c l.hints (recursion_from_All HasNumber l.hints h.names) (recursion_from_All (HasSmallId c) l.hints s));
   deletes = λ d. ((h.deletes d).0, All-from_recursion IsPlain _ (hints_plain f c l.hints (recursion_from_All IsPlain l.hints (h.deletes d).1)));
 }
-
-pub weaker_line-is : (e : List Literal × ℕ) → All (λ l. IsId l.variable) e.0 → IsId e.1 → IsLine (weaker_line e)
-weaker_line-is e v p = record {
-  literals = v;
-  names = All-cons HasNumber (Plain (Formula e.1)) [] p (All-nil HasNumber);
-  deletes = λ d. absurd (false≢true d);
-}
-
-abbrev IsWeakerEntry : List Literal × ℕ → Type 0
-IsWeakerEntry e = All (λ l. IsId l.variable) e.0 × IsId e.1
-
-moved_lines-are : (f c : ℕ) (ls : List LogLine) → All IsLine ls → HasSmallIds c ls → All IsLine (map (moved_line f c) ls)
-moved_lines-are f c [] h s = All-nil IsLine
-moved_lines-are f c (l ∷ ls) h s =
-    let SmallIds : LogLine → Type 0 = λ k. All (HasSmallId c) k.hints in
-    All-cons IsLine (moved_line f c l) (map (moved_line f c) ls) (moved_line-is f c l (All-head IsLine l ls h) (All-head SmallIds l ls s)) (moved_lines-are f c ls (All-tail IsLine l ls h) (All-tail SmallIds l ls s))
-
-pub rebased-lines : (fixed : ℕ) (ws : WeakerList) (old : List LogLine) → All IsLine old → HasSmallIds (length ws) old → All (λ e. All (λ l. IsId l.variable) e.0 × IsId e.1) ws
-    → All IsLine (rebased fixed ws old)
-rebased-lines fixed ws old lines small entries =
-    All-append IsLine (map weaker_line ws) (map (moved_line fixed (length ws)) old)
-    (All-map IsLine weaker_line ws (All-weaker IsWeakerEntry (λ e. IsLine (weaker_line e)) (λ e h. weaker_line-is e h.0 h.1) ws entries))
-    (moved_lines-are fixed (length ws) old lines small)
 
 -- the result is a log over the clauses that are left
 known_moved : (f c b : ℕ) (n : Name) → f ≤ b → IsKnown (b + c) n → IsKnown b (moved_name f c n)

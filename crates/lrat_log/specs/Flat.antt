@@ -1,4 +1,5 @@
--- How a log lies in memory: the literals of all lines in one list, their hints in another, and for each line where its own end.
+-- How a log lies in memory: the literals of all lines in one list, their hints in another, and for
+-- each line where its own end.
 use Rattle.std.specs.Prelude.{◌≡◌, ℕ, zero, suc, ◌≤◌, List, [], ◌∷◌, length, slice_range}
 use Rattle.wcnf.specs.Literal.{Literal}
 use Rattle.lrat_log.specs.declared.lines.Hint.{Hint}
@@ -9,7 +10,11 @@ use Rattle.lrat_log.specs.Log.{LogLine, IsLog}
 abbrev pub lines_from : ℕ → ℕ → List Head → List Literal → List Hint → List LogLine
 lines_from i j [] lits hints = []
 lines_from i j (h ∷ hs) lits hints =
-    record { kind = h.kind; clause = slice_range lits i h.lits_end; hints = slice_range hints j h.hints_end } ∷ lines_from h.lits_end h.hints_end hs lits hints
+    record {
+      kind = h.kind;
+      clause = slice_range lits i h.lits_end;
+      hints = slice_range hints j h.hints_end;
+    } ∷ lines_from h.lits_end h.hints_end hs lits hints
 
 abbrev pub lines_in : List Head → List Literal → List Hint → List LogLine
 lines_in heads lits hints = lines_from 0 0 heads lits hints
@@ -18,7 +23,8 @@ lines_in heads lits hints = lines_from 0 0 heads lits hints
 abbrev pub AreEndsFrom : ℕ → ℕ → List Head → List Literal → List Hint → Type 0
 AreEndsFrom i j [] lits hints = (i ≡ length lits) × (j ≡ length hints)
 AreEndsFrom i j (h ∷ hs) lits hints =
-    (i ≤ h.lits_end) × (h.lits_end ≤ length lits) × (j ≤ h.hints_end) × (h.hints_end ≤ length hints) × AreEndsFrom h.lits_end h.hints_end hs lits hints
+    (i ≤ h.lits_end) × (h.lits_end ≤ length lits) × (j ≤ h.hints_end) × (h.hints_end ≤ length hints)
+    × AreEndsFrom h.lits_end h.hints_end hs lits hints
 
 pub record IsFlat (heads : List Head) (lits : List Literal) (hints : List Hint) : Type 0 where
   pub log : IsLog (lines_in heads lits hints)

@@ -1,5 +1,6 @@
 -- The solver's log: lines over names, and how names become ids.
-use Rattle.std.specs.Prelude.{◌≡◌, ℕ, ◌+◌, ◌<◌, ◌^◌, Bool, true, false, List, [], ◌∷◌, length, map, Option, Some, None, ◌==◌, if◌then◌else◌, All, ⊤, slice_index_or}
+use Rattle.std.specs.Prelude.{◌≡◌, ℕ, ◌+◌, ◌<◌, ◌^◌, Bool, true, false, List, [], ◌∷◌, length, map}
+use Rattle.std.specs.Prelude.{Option, Some, None, ◌==◌, if◌then◌else◌, All, ⊤, slice_index_or}
 use Rattle.std.specs.List.{flat_map}
 use Rattle.wcnf.specs.Literal.{Literal}
 use Rattle.wcnf.specs.Writing.{spaced}
@@ -44,7 +45,8 @@ abbrev pub is_group : Hint → Bool
 is_group (Plain n) = false
 is_group (Group n) = true
 
--- what is known of each line: variables and numbers are from 1 and below 2^62; one that deletes has no literals, and its hints are plain
+-- what is known of each line: variables and numbers are from 1 and below 2^62; one that deletes has
+-- no literals, and its hints are plain
 pub record IsLine (l : LogLine) : Type 0 where
   pub literals : All (λ k. IsId k.variable) l.clause
   pub names : All (λ h. IsId (number_in (name_of h))) l.hints
@@ -72,7 +74,8 @@ leading_ids base (Group n ∷ hs) = []
 abbrev pub group_ids : ℕ → List Hint → List CandidateHints
 group_ids base [] = []
 group_ids base (Plain n ∷ hs) = group_ids base hs
-group_ids base (Group n ∷ hs) = record { candidate = id_of base n; hints = leading_ids base hs } ∷ group_ids base hs
+group_ids base (Group n ∷ hs) =
+    record { candidate = id_of base n; hints = leading_ids base hs } ∷ group_ids base hs
 
 -- the line, where the log has so many additions before it
 abbrev pub numbered_line : ℕ → ℕ → LogLine → ProofLine
@@ -83,7 +86,8 @@ numbered_line base before l =
 -- the lines of a log with ids in the place of names
 abbrev pub numbered_on : ℕ → ℕ → List LogLine → List ProofLine
 numbered_on base before [] = []
-numbered_on base before (l ∷ ls) = numbered_line base before l ∷ numbered_on base (if is_delete l.kind then before else before + 1) ls
+numbered_on base before (l ∷ ls) = numbered_line base before l
+    ∷ numbered_on base (if is_delete l.kind then before else before + 1) ls
 
 abbrev pub numbered_lines : ℕ → List LogLine → List ProofLine
 numbered_lines base ls = numbered_on base 0 ls

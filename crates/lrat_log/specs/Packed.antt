@@ -1,5 +1,7 @@
--- How a hint is kept in one word: four times its number, two more where it names an addition, and one more where it begins a group.
-use Rattle.std.specs.Prelude.{ℕ, Bool, true, false, ◌≡◌, ◌+◌, ◌*◌, ◌/◌, ◌%◌, ◌<◌, ◌==◌, if◌then◌else◌}
+-- How a hint is kept in one word: four times its number, two more where it names an addition, and
+-- one more where it begins a group.
+use Rattle.std.specs.Prelude.{ℕ, Bool, true, false, ◌≡◌, ◌+◌, ◌*◌, ◌/◌, ◌%◌, ◌<◌, ◌==◌}
+use Rattle.std.specs.Prelude.{if◌then◌else◌}
 use Rattle.std.proofs.Common.{arith, ap, ◌∙◌}
 use Rattle.wcnf.specs.Packed.{parity}
 use Rattle.lrat_log.specs.declared.lines.Name.{Name}
@@ -31,7 +33,8 @@ name_code-as : (b : Bool) (n : ℕ) → name_code (name_as b n) ≡ 4 * n + 2 * 
 name_code-as true n = omega arith
 name_code-as false n = omega arith
 
-code_of-as : (b : Bool) (n : Name) → (code_of (hint_as b n)).code ≡ name_code n + (if b then 1 else 0)
+code_of-as : (b : Bool) (n : Name)
+    → (code_of (hint_as b n)).code ≡ name_code n + (if b then 1 else 0)
 code_of-as true n = omega arith
 code_of-as false n = omega arith
 
@@ -42,5 +45,10 @@ code_of-hint_in a =
     let p : a.code % 2 < 2 = omega arith in
     let q : a.code / 2 % 2 < 2 = omega arith in
     let e : name_code (name_as high (a.code / 4)) + (if low then 1 else 0) ≡ a.code =
-    omega (arith, parity (a.code % 2) p, parity (a.code / 2 % 2) q, name_code-as high (a.code / 4)) in
+    omega (
+      arith,
+      parity (a.code % 2) p,
+      parity (a.code / 2 % 2) q,
+      name_code-as high (a.code / 4),
+    ) in
     ap (λ (n : ℕ). record { code = n }) (code_of-as low (name_as high (a.code / 4)) ∙ e)

@@ -1,4 +1,5 @@
-//! The solver's log: lines over names, the sinks that take them, and their text as an LRAT certificate.
+//! The solver's log: lines over names, the sinks that take them, and their text as an LRAT
+//! certificate.
 #![tactic(auto)]
 
 pub mod lines;

@@ -1,6 +1,7 @@
-// Lines over names. A solver does not know under which ids a certificate will have its clauses, since that depends on the
-// formula that is given to the checker. So its lines speak of clauses by name: a clause of the formula by its number
-// there, and a clause that the log added by its number among the additions.
+// Lines over names. A solver does not know under which ids a certificate will have its clauses,
+// since that depends on the formula that is given to the checker. So its lines speak of clauses by
+// name: a clause of the formula by its number there, and a clause that the log added by its number
+// among the additions.
 ghost use Rattle.std.specs.Prelude.{◌≡◌, ℕ, ◌<◌, ◌≤◌, ◌^◌};
 
 use std::marker::Model;
@@ -56,10 +57,11 @@ pub enum Name {
 /// A clause that an addition follows from, or that a deletion deletes (Cruz-Filipe et al. 2017).
 #[derive(Clone, Copy, Debug, PartialEq, Eq, Drop)]
 pub enum Hint {
-    /// A clause that is a unit, or empty, under the negation of the new clause and the units before it.
+    /// A clause that is a unit, or empty, under the negation of the new clause and the units before
+    /// it.
     Plain(Name),
-    /// A clause with the negation of the new clause's first literal. The hints up to the next group are those by which
-    /// the resolvent with it follows.
+    /// A clause with the negation of the new clause's first literal. The hints up to the next group
+    /// are those by which the resolvent with it follows.
     Group(Name),
 }
 
@@ -101,8 +103,8 @@ impl Kind {
     }
 }
 
-/// A line of a log: the clause that it adds, with the hints by which it follows; or a deletion, whose hints name the
-/// clauses that it deletes, each a plain one, and which has no literals.
+/// A line of a log: the clause that it adds, with the hints by which it follows; or a deletion,
+/// whose hints name the clauses that it deletes, each a plain one, and which has no literals.
 #[derive(Drop)]
 pub struct Line {
     kind: Kind,
@@ -117,7 +119,11 @@ impl Model for Line {
 
     ghost view = { λ l. record { kind = l.kind; clause = l.lits.items; hints = l.hints.items } };
 
-    ghost invariant = { λ l. IsLine (record { kind = l.kind; clause = l.lits.items; hints = l.hints.items }) };
+    ghost invariant = { λ l. IsLine (record {
+      kind = l.kind;
+      clause = l.lits.items;
+      hints = l.hints.items;
+    }) };
 }
 
 impl Line {

@@ -1,11 +1,14 @@
-// The log in memory, and its text. A log has millions of lines of a few literals and hints each, so it keeps them in
-// three vectors: the literals of all lines, the hints of all lines, and for each line where its own end.
-ghost use Rattle.std.specs.Prelude.{◌≡◌, ℕ, ◌+◌, ◌<◌, ◌≤◌, ◌^◌, ◌++◌, List, [], Some, length, All, IfOk, OnOk, OnErr, slice_get, slice_range, ◌==◌};
+// The log in memory, and its text. A log has millions of lines of a few literals and hints each, so
+// it keeps them in three vectors: the literals of all lines, the hints of all lines, and for each
+// line where its own end.
+ghost use Rattle.std.specs.Prelude.{◌≡◌, ℕ, ◌+◌, ◌<◌, ◌≤◌, ◌^◌, ◌++◌, List, [], Some, length, All};
+ghost use Rattle.std.specs.Prelude.{IfOk, OnOk, OnErr, slice_get, slice_range, ◌==◌};
 ghost use Rattle.std.specs.Io.KnownBytes.{Appends};
 ghost use Rattle.wcnf.specs.Lrat.{IsTextOf};
 ghost use Rattle.wcnf.specs.Writing.{AppendsPart, PassesOn};
 ghost use Rattle.lrat_log.specs.Steps.{HoldsAtEachBase};
-ghost use Rattle.lrat_log.specs.Log.{LogLine, IsLine, IsLog, HasSmallIds, line_at, numbered_lines, text_of};
+ghost use Rattle.lrat_log.specs.Log.{LogLine, IsLine, IsLog, HasSmallIds, line_at, numbered_lines};
+ghost use Rattle.lrat_log.specs.Log.{text_of};
 ghost use Rattle.lrat_log.specs.Texts.{line_text, numbered_after, last_after};
 ghost use Rattle.lrat_log.specs.Flat.{lits_before, hints_before};
 
@@ -23,7 +26,8 @@ use wcnf::types::Lit;
 /// A log has fewer lines than this, 2^61.
 const LINE_LIMIT: usize = 1 << 61;
 
-/// A line, by the places where its literals and its hints end. They begin where those of the line before end.
+/// A line, by the places where its literals and its hints end. They begin where those of the line
+/// before end.
 #[derive(Clone, Copy, Drop)]
 struct Head {
     kind: Kind,
@@ -33,7 +37,8 @@ struct Head {
 
 const _: () = prove!(size_of::<Head>() <= 24);
 
-/// The lines of a solver, in memory: 4 bytes for each literal, 8 for each hint, and 24 for each line.
+/// The lines of a solver, in memory: 4 bytes for each literal, 8 for each hint, and 24 for each
+/// line.
 #[derive(Drop)]
 pub struct Log {
     heads: Vec<Head>,
@@ -94,9 +99,9 @@ impl Log {
         requires { line < length self.now }
         ensures { result.now ≡ (line_at self.now line).clause }
     {
-        let (start, _) = ends(&self.heads, line);
-        let (end, _) = ends(&self.heads, line + 1);
-        part(&self.lits, start, end)
+        let (start, _) = find_ends(&self.heads, line);
+        let (end, _) = find_ends(&self.heads, line + 1);
+        cut_out(&self.lits, start, end)
     }
 
     /// How many hints the line in this place, from 0, has.
@@ -127,9 +132,9 @@ impl Log {
         ensures hints { result.now ≡ (line_at self.now line).hints }
         ensures line { IsLine (line_at self.now line) }
     {
-        let (_, start) = ends(&self.heads, line);
-        let (_, end) = ends(&self.heads, line + 1);
-        part(&self.hints, start, end)
+        let (_, start) = find_ends(&self.heads, line);
+        let (_, end) = find_ends(&self.heads, line + 1);
+        cut_out(&self.hints, start, end)
     }
 }
 
@@ -161,7 +166,7 @@ impl Sink for Log {
 }
 
 /// How many literals, and hints, the first lines have.
-fn ends(heads: &[Head], count: usize) -> (usize, usize)
+fn find_ends(heads: &[Head], count: usize) -> (usize, usize)
     requires { count ≤ length heads.now }
     ensures lits { result.0 ≡ lits_before 0 heads.now count }
     ensures hints { result.1 ≡ hints_before 0 heads.now count }
@@ -174,7 +179,7 @@ fn ends(heads: &[Head], count: usize) -> (usize, usize)
 }
 
 /// The items from one place up to another.
-fn part<T>(items: &[T], start: usize, end: usize) -> &[T]
+fn cut_out<T>(items: &[T], start: usize, end: usize) -> &[T]
     requires { (start ≤ end) × (end ≤ length items.now) }
     ensures { result.now ≡ slice_range items.now start end }
 {
@@ -193,10 +198,11 @@ fn push_hints(kept: &mut Vec<PackedHint>, hints: &[Hint]) -> Result<(), AllocErr
     Ok(())
 }
 
-/// The text of the log as an LRAT certificate (Cruz-Filipe et al. 2017), where the first addition has the id `base + 1`:
-/// a line for each line of the log, its tokens with single spaces, and a line feed behind each. An addition is spelled
-/// as its id, its literals, `0`, its hints and `0`, where a hint that begins a group is negative. A deletion is spelled
-/// as the last id that was given, `d`, the ids that are deleted and `0`.
+/// The text of the log as an LRAT certificate (Cruz-Filipe et al. 2017), where the first addition
+/// has the id `base + 1`: a line for each line of the log, its tokens with single spaces, and a
+/// line feed behind each. An addition is spelled as its id, its literals, `0`, its hints and `0`,
+/// where a hint that begins a group is negative. A deletion is spelled as the last id that was
+/// given, `d`, the ids that are deleted and `0`.
 ///
 /// # Errors
 ///
@@ -215,18 +221,20 @@ pub fn render(log: &Log, base: u64) -> Result<Vec<u8>, AllocError>
     }
 }
 
-/// Writes the text that [`render`] gives, in pieces of some thousands of bytes. The writer is not flushed. No memory is
-/// asked for.
+/// Writes the text that [`render`] gives, in pieces of some thousands of bytes. The writer is not
+/// flushed. No memory is asked for.
 ///
 /// # Errors
 ///
-/// `WriteFault` where the writer answered `Err`, or took none of the bytes that it was given. It has then a beginning of
-/// the text, and is not called again.
+/// `WriteFault` where the writer answered `Err`, or took none of the bytes that it was given. It
+/// has then a beginning of the text, and is not called again.
 pub fn write_to<W: Write>(log: &Log, base: u64, writer: &mut W) -> Result<(), WriteFault>
     requires room { base + length log.now < 2 ^ 62 }
     requires ids { HasSmallIds base log.now }
-    ensures ok { OnOk result (Appends (W.contents writer.old) (W.contents writer.new) (text_of base log.now)) }
-    ensures fault { OnErr result (AppendsPart (W.contents writer.old) (W.contents writer.new) (text_of base log.now)) }
+    ensures ok { OnOk result (Appends (W.contents writer.old) (W.contents writer.new)
+        (text_of base log.now)) }
+    ensures fault { OnErr result (AppendsPart (W.contents writer.old) (W.contents writer.new)
+        (text_of base log.now)) }
     ensures lines { IsTextOf (text_of base log.now) (numbered_lines base log.now) }
 
     // Numbering at another base renames ids alone.
@@ -240,7 +248,8 @@ pub fn write_to<W: Write>(log: &Log, base: u64, writer: &mut W) -> Result<(), Wr
     block.flush(writer)
 }
 
-/// Puts the line in this place, where `last` is the last id that was given before; answers the last one after it.
+/// Puts the line in this place, where `last` is the last id that was given before; answers the last
+/// one after it.
 fn put_line<W: Write>(
     block: &mut Block,
     writer: &mut W,
@@ -252,8 +261,11 @@ fn put_line<W: Write>(
     requires line { line < length log.now }
     requires last { last < 2 ^ 62 }
     requires ids { HasSmallIds base log.now }
-    ensures ok { OnOk result (PassesOn (W.contents writer.old) block.old (line_text (numbered_after base last (line_at log.now line))) (W.contents writer.new) block.new) }
-    ensures fault { OnErr result (AppendsPart (W.contents writer.old) (W.contents writer.new) (block.old ++ line_text (numbered_after base last (line_at log.now line)))) }
+    ensures ok { OnOk result (PassesOn (W.contents writer.old) block.old
+        (line_text (numbered_after base last (line_at log.now line)))
+        (W.contents writer.new) block.new) }
+    ensures fault { OnErr result (AppendsPart (W.contents writer.old) (W.contents writer.new)
+        (block.old ++ line_text (numbered_after base last (line_at log.now line)))) }
     ensures last { IfOk result (λ next. next ≡ last_after last (line_at log.now line)) }
 {
     let hints = log.packed_hints(line);

@@ -6,8 +6,8 @@ ghost use Rattle.lrat_log.specs.Packed.{name_code};
 use crate::lines::{Hint, Name, Number};
 use std::marker::Model;
 
-/// A hint in eight bytes: four times its number, with two more where it names an addition, and one more where it begins
-/// a group.
+/// A hint in eight bytes: four times its number, with two more where it names an addition, and one
+/// more where it begins a group.
 #[derive(Clone, Copy, Debug, PartialEq, Eq, Drop)]
 pub struct PackedHint {
     code: u64,

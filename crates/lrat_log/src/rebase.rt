@@ -1,10 +1,12 @@
-// A log over one set of clauses, told as one over another. A solver that is given bound after bound has a comparator for each of
-// them among its clauses, and the certificate's formula has that of the last bound alone. Each clause of the others has a clause of
-// the last as a subset: so it comes as a line of its own, and the lines of the log name it by that.
+// A log over one set of clauses, told as one over another. A solver that is given bound after bound
+// has a comparator for each of them among its clauses, and the certificate's formula has that of
+// the last bound alone. Each clause of the others has a clause of the last as a subset: so it comes
+// as a line of its own, and the lines of the log name it by that.
 ghost use Rattle.std.specs.Prelude.{◌≡◌, ◌+◌, ◌<◌, ◌^◌, length, map, All, IfOk, OnOk};
 ghost use Rattle.wcnf.specs.Lrat.{IsId};
 ghost use Rattle.lrat_log.specs.Log.{HasSmallIds, id_of, line_at};
-ghost use Rattle.lrat_log.specs.Rebase.{KeepsLog, moved_hint, moved_line, moved_name, rebased, weaker_line, weaker_list};
+ghost use Rattle.lrat_log.specs.Rebase.{KeepsLog, moved_hint, moved_line, moved_name, rebased};
+ghost use Rattle.lrat_log.specs.Rebase.{weaker_line, weaker_list};
 
 use crate::lines::{Hint, Kind, Line, Name, Number};
 use crate::log::Log;
@@ -12,9 +14,10 @@ use crate::sink::Sink;
 use std::alloc::{AllocError, Global};
 use wcnf::types::Lit;
 
-/// The log of a solver that was given `fixed` clauses, then the weaker ones, then others, as a log over the fixed clauses and the
-/// others: a line for each weaker clause, whose one hint is the clause with its number there, and then the lines of the log, with
-/// the names moved. The clause with that number has to be a subset of the weaker one.
+/// The log of a solver that was given `fixed` clauses, then the weaker ones, then others, as a log
+/// over the fixed clauses and the others: a line for each weaker clause, whose one hint is the
+/// clause with its number there, and then the lines of the log, with the names moved. The clause
+/// with that number has to be a subset of the weaker one.
 ///
 /// # Errors
 ///
@@ -26,23 +29,24 @@ pub fn rebase(log: &Log, fixed: u64, weaker: &[(Vec<Lit>, u64)]) -> Result<Log, 
     requires ids { HasSmallIds (length weaker.now) log.now }
     ensures lines { IfOk result (λ new. new ≡ rebased fixed (weaker_list weaker.now) log.now) }
 
-    // What holds of the log over the clauses that the solver was given holds of the new one over those that are left.
+    // What holds of the log over the clauses that the solver was given holds of the new one over
+    // those that are left.
     ensures keeps { OnOk result (KeepsLog fixed (weaker_list weaker.now) log.now) }
 {
     let alloc = log.allocator();
     let count = weaker.len() as u64;
     let mut new = Log::new(alloc);
     for entry in weaker {
-        new.append(weakened(alloc, &entry.0, entry.1)?)?;
+        new.append(weaken(alloc, &entry.0, entry.1)?)?;
     }
     for line in 0..log.len() {
-        new.append(moved(log, line, fixed, count)?)?;
+        new.append(move_line(log, line, fixed, count)?)?;
     }
     Ok(new)
 }
 
-/// The line that adds the clause, which the formula's clause with this number is a subset of.
-fn weakened(alloc: Global, lits: &[Lit], number: u64) -> Result<Line, AllocError>
+/// Makes the line that adds the clause, which the formula's clause with this number is a subset of.
+fn weaken(alloc: Global, lits: &[Lit], number: u64) -> Result<Line, AllocError>
     requires literals { All (λ l. IsId l.variable) lits.now }
     requires number { IsId number }
     ensures { IfOk result (λ line. line ≡ weaker_line (lits.now, number)) }
@@ -53,8 +57,8 @@ fn weakened(alloc: Global, lits: &[Lit], number: u64) -> Result<Line, AllocError
     Ok(Line::new(Kind::Weaker, lits, hints))
 }
 
-/// The line in this place, with its names moved.
-fn moved(log: &Log, line: usize, fixed: u64, count: u64) -> Result<Line, AllocError>
+/// Copies the line in this place, with its names moved.
+fn move_line(log: &Log, line: usize, fixed: u64, count: u64) -> Result<Line, AllocError>
     requires line { line < length log.now }
     requires room { fixed + count < 2 ^ 62 }
     requires ids { HasSmallIds count log.now }
@@ -62,31 +66,33 @@ fn moved(log: &Log, line: usize, fixed: u64, count: u64) -> Result<Line, AllocEr
 {
     prove!(line < log.len());
     let lits = Vec::from_slice(log.allocator(), log.lits(line))?;
-    let hints = moved_hints(log, line, fixed, count)?;
+    let hints = move_hints(log, line, fixed, count)?;
     Ok(Line::new(log.kind(line), lits, hints))
 }
 
-/// The hints of the line in this place, with their names moved.
-fn moved_hints(log: &Log, line: usize, fixed: u64, count: u64) -> Result<Vec<Hint>, AllocError>
+/// Copies the hints of the line in this place, with their names moved.
+fn move_hints(log: &Log, line: usize, fixed: u64, count: u64) -> Result<Vec<Hint>, AllocError>
     requires line { line < length log.now }
     requires room { fixed + count < 2 ^ 62 }
     requires ids { HasSmallIds count log.now }
-    ensures { IfOk result (λ hints. hints.items ≡ map (moved_hint fixed count) (line_at log.now line).hints) }
+    ensures { IfOk result (λ hints. hints.items
+        ≡ map (moved_hint fixed count) (line_at log.now line).hints) }
 {
     let len = log.hints_len(line);
     let mut hints = Vec::with_capacity(log.allocator(), len)?;
     for index in 0..len {
         let hint = match log.hint(line, index) {
-            Hint::Plain(name) => Hint::Plain(name_moved(name, fixed, count)),
-            Hint::Group(name) => Hint::Group(name_moved(name, fixed, count)),
+            Hint::Plain(name) => Hint::Plain(move_name(name, fixed, count)),
+            Hint::Group(name) => Hint::Group(move_name(name, fixed, count)),
         };
         hints.push(hint)?;
     }
     Ok(hints)
 }
 
-/// The name, where the `count` clauses after the first `fixed` ones come as lines before all others.
-fn name_moved(name: Name, fixed: u64, count: u64) -> Name
+/// The new name, where the `count` clauses after the first `fixed` ones come as lines before all
+/// others.
+fn move_name(name: Name, fixed: u64, count: u64) -> Name
     requires room { fixed + count < 2 ^ 62 }
     requires id { id_of count name < 2 ^ 62 }
     ensures { result ≡ moved_name fixed count name }

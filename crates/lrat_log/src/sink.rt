@@ -14,7 +14,8 @@ pub trait Sink: Drop {
     ///
     /// # Errors
     ///
-    /// `AllocError` where memory was refused, or the line would be the 2^61st. The lines stay as they were.
+    /// `AllocError` where memory was refused, or the line would be the 2^61st. The lines stay as
+    /// they were.
     fn append(&mut self, line: Line) -> Result<(), AllocError>
         ensures ok { OnOk result (lines self.new ≡ lines self.old ++ line ∷ []) }
         ensures err { OnErr result (lines self.new ≡ lines self.old) };

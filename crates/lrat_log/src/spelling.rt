@@ -1,5 +1,6 @@
 // The lines of a certificate, on their way to a writer.
-ghost use Rattle.std.specs.Prelude.{◌≡◌, ◌<◌, ◌≤◌, ◌^◌, ◌++◌, length, map, drop, slice_index, All, OnOk, OnErr};
+ghost use Rattle.std.specs.Prelude.{◌≡◌, ◌<◌, ◌≤◌, ◌^◌, ◌++◌, length, map, drop, slice_index, All};
+ghost use Rattle.std.specs.Prelude.{OnOk, OnErr};
 ghost use Rattle.wcnf.specs.Lrat.{Addition, Deletion};
 ghost use Rattle.wcnf.specs.Writing.{AppendsPart, PassesOn};
 ghost use Rattle.lrat_log.specs.Log.{IsPlain, id_of, name_of, leading_ids, group_ids};
@@ -25,8 +26,12 @@ pub fn put_addition<W: Write>(
     hints: &[PackedHint],
 ) -> Result<(), WriteFault>
     requires { All (λ h. id_of base (name_of h) < 2 ^ 62) hints.now }
-    ensures ok { OnOk result (PassesOn (W.contents writer.old) block.old (line_text (Addition id lits.now (leading_ids base hints.now) (group_ids base hints.now))) (W.contents writer.new) block.new) }
-    ensures fault { OnErr result (AppendsPart (W.contents writer.old) (W.contents writer.new) (block.old ++ line_text (Addition id lits.now (leading_ids base hints.now) (group_ids base hints.now)))) }
+    ensures ok { OnOk result (PassesOn (W.contents writer.old) block.old
+        (line_text (Addition id lits.now (leading_ids base hints.now)
+        (group_ids base hints.now))) (W.contents writer.new) block.new) }
+    ensures fault { OnErr result (AppendsPart (W.contents writer.old) (W.contents writer.new)
+        (block.old ++ line_text (Addition id lits.now (leading_ids base hints.now)
+        (group_ids base hints.now)))) }
 {
     put_number(block, writer, false, id)?;
     put_literals(block, writer, lits)?;
@@ -43,8 +48,11 @@ pub fn put_deletion<W: Write>(
 ) -> Result<(), WriteFault>
     requires small { All (λ h. id_of base (name_of h) < 2 ^ 62) hints.now }
     requires plain { All IsPlain hints.now }
-    ensures ok { OnOk result (PassesOn (W.contents writer.old) block.old (line_text (Deletion lead (map (λ h. id_of base (name_of h)) hints.now))) (W.contents writer.new) block.new) }
-    ensures fault { OnErr result (AppendsPart (W.contents writer.old) (W.contents writer.new) (block.old ++ line_text (Deletion lead (map (λ h. id_of base (name_of h)) hints.now)))) }
+    ensures ok { OnOk result (PassesOn (W.contents writer.old) block.old
+        (line_text (Deletion lead (map (λ h. id_of base (name_of h)) hints.now)))
+        (W.contents writer.new) block.new) }
+    ensures fault { OnErr result (AppendsPart (W.contents writer.old) (W.contents writer.new)
+        (block.old ++ line_text (Deletion lead (map (λ h. id_of base (name_of h)) hints.now)))) }
 {
     put_number(block, writer, false, lead)?;
     put_end(block, writer, b"d ", base, hints)
@@ -59,8 +67,10 @@ fn put_end<W: Write>(
     hints: &[PackedHint],
 ) -> Result<(), WriteFault>
     requires { All (λ h. id_of base (name_of h) < 2 ^ 62) hints.now }
-    ensures ok { OnOk result (PassesOn (W.contents writer.old) block.old (end_text word.now base hints.now) (W.contents writer.new) block.new) }
-    ensures fault { OnErr result (AppendsPart (W.contents writer.old) (W.contents writer.new) (block.old ++ end_text word.now base hints.now)) }
+    ensures ok { OnOk result (PassesOn (W.contents writer.old) block.old
+        (end_text word.now base hints.now) (W.contents writer.new) block.new) }
+    ensures fault { OnErr result (AppendsPart (W.contents writer.old) (W.contents writer.new)
+        (block.old ++ end_text word.now base hints.now)) }
 {
     block.put(writer, word)?;
     put_hints(block, writer, base, hints)?;
@@ -75,8 +85,10 @@ fn put_hints<W: Write>(
     hints: &[PackedHint],
 ) -> Result<(), WriteFault>
     requires { All (λ h. id_of base (name_of h) < 2 ^ 62) hints.now }
-    ensures ok { OnOk result (PassesOn (W.contents writer.old) block.old (hints_text base hints.now) (W.contents writer.new) block.new) }
-    ensures fault { OnErr result (AppendsPart (W.contents writer.old) (W.contents writer.new) (block.old ++ hints_text base hints.now)) }
+    ensures ok { OnOk result (PassesOn (W.contents writer.old) block.old
+        (hints_text base hints.now) (W.contents writer.new) block.new) }
+    ensures fault { OnErr result (AppendsPart (W.contents writer.old) (W.contents writer.new)
+        (block.old ++ hints_text base hints.now)) }
 {
     for hint in hints {
         put_number(block, writer, hint.is_group(), hint.id(base))?;
@@ -86,8 +98,10 @@ fn put_hints<W: Write>(
 
 /// Puts the literals, each with a space behind it.
 fn put_literals<W: Write>(block: &mut Block, writer: &mut W, lits: &[Lit]) -> Result<(), WriteFault>
-    ensures ok { OnOk result (PassesOn (W.contents writer.old) block.old (literals_text lits.now) (W.contents writer.new) block.new) }
-    ensures fault { OnErr result (AppendsPart (W.contents writer.old) (W.contents writer.new) (block.old ++ literals_text lits.now)) }
+    ensures ok { OnOk result (PassesOn (W.contents writer.old) block.old
+        (literals_text lits.now) (W.contents writer.new) block.new) }
+    ensures fault { OnErr result (AppendsPart (W.contents writer.old) (W.contents writer.new)
+        (block.old ++ literals_text lits.now)) }
 {
     for lit in lits {
         put_number(block, writer, lit.is_negated(), u64::from(lit.variable()))?;
@@ -102,8 +116,10 @@ fn put_number<W: Write>(
     negative: bool,
     number: u64,
 ) -> Result<(), WriteFault>
-    ensures ok { OnOk result (PassesOn (W.contents writer.old) block.old (number_text negative number) (W.contents writer.new) block.new) }
-    ensures fault { OnErr result (AppendsPart (W.contents writer.old) (W.contents writer.new) (block.old ++ number_text negative number)) }
+    ensures ok { OnOk result (PassesOn (W.contents writer.old) block.old
+        (number_text negative number) (W.contents writer.new) block.new) }
+    ensures fault { OnErr result (AppendsPart (W.contents writer.old) (W.contents writer.new)
+        (block.old ++ number_text negative number)) }
 {
     let mut room = [b' '; NUMBER_ROOM];
     let start = spell(negative, number, &mut room);

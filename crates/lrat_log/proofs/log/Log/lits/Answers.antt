@@ -3,28 +3,28 @@ use Rattle.std.proofs.Common.{◌<◌, length, ◌∙◌, arith}
 use Rattle.lrat_log.proofs.Flat.{below_heads, clause-line_at}
 use Rattle.lrat_log.proofs.log.Log.lits.Goals as goal
 
-pub ends-start-requires : goal.ends-start-requires
-ends-start-requires c =
+pub find_ends-start-requires : goal.find_ends-start-requires
+find_ends-start-requires c =
     let h : c.args.line < length c.self.inside.heads.items = below_heads _ _ _ _ _ c.self.view_is c.requires in
     rw c.deref.ensures.value (omega arith)
 
-pub ends-end-requires : goal.ends-end-requires
-ends-end-requires c =
+pub find_ends-end-requires : goal.find_ends-end-requires
+find_ends-end-requires c =
     let h : c.args.line < length c.self.inside.heads.items = below_heads _ _ _ _ _ c.self.view_is c.requires in
     rw c.deref-2.ensures.value (omega arith)
 
-pub part-requires : goal.part-requires
-part-requires c =
+pub cut_out-requires : goal.cut_out-requires
+cut_out-requires c =
     let h : c.args.line < length c.self.inside.heads.items = below_heads _ _ _ _ _ c.self.view_is c.requires in
-    let start = rw c.deref.ensures.value at c.ends-start.ensures.lits in
-    let end = rw c.deref-2.ensures.value at c.ends-end.ensures.lits in
+    let start = rw c.deref.ensures.value at c.find_ends-start.ensures.lits in
+    let end = rw c.deref-2.ensures.value at c.find_ends-end.ensures.lits in
     let p = clause-line_at _ _ _ _ _ _ c.self.invariant.ends h start end in
     rw c.deref-3.ensures.value (p.rising, p.within)
 
 pub returns : goal.returns
 returns c =
     let h : c.args.line < length c.self.inside.heads.items = below_heads _ _ _ _ _ c.self.view_is c.requires in
-    let start = rw c.deref.ensures.value at c.ends-start.ensures.lits in
-    let end = rw c.deref-2.ensures.value at c.ends-end.ensures.lits in
+    let start = rw c.deref.ensures.value at c.find_ends-start.ensures.lits in
+    let end = rw c.deref-2.ensures.value at c.find_ends-end.ensures.lits in
     let p = clause-line_at _ _ _ _ _ _ c.self.invariant.ends h start end in
-    rw (← c.self.view_is) (rw c.deref-3.ensures.value at c.part.ensures ∙ p.part_is)
+    rw (← c.self.view_is) (rw c.deref-3.ensures.value at c.cut_out.ensures ∙ p.part_is)

@@ -1,6 +1,6 @@
 -- The lines up to one end where its head says.
 use Rattle.lrat_log.proofs.Flat.{lits_before-last, hints_before-last}
-use Rattle.lrat_log.proofs.log.ends.Goals as goal
+use Rattle.lrat_log.proofs.log.find_ends.Goals as goal
 
 pub returns-clause-lits : goal.returns-clause-lits
 returns-clause-lits c = lits_before-last c.args.heads.now c.args.count _ c.if-count-eq0.false c.requires

@@ -3,7 +3,7 @@ use Rattle.std.proofs.Common.{[]}
 use Rattle.lrat_log.specs.declared.lines.Kind.TheVariants.{Empty}
 use Rattle.lrat_log.specs.Log.{LogLine, line_at}
 use Rattle.lrat_log.proofs.Rebasing.{moved_line-is}
-use Rattle.lrat_log.proofs.rebase.moved.Goals as goal
+use Rattle.lrat_log.proofs.rebase.move_line.Goals as goal
 
 pub new-requires : goal.new-requires
 new-requires c =
