@@ -12,7 +12,8 @@ use lrat_log::lines::Kind;
 use lrat_log::sink::Sink;
 use std::alloc::AllocError;
 
-/// Learns a clause from one that is false above level 0, and goes back to where it leaves no choice.
+/// Learns a clause from one that is false above level 0, and goes back to where it leaves no
+/// choice.
 pub(crate) fn learn<S: Sink>(
     search: &mut Search,
     problem: &Problem,
@@ -24,7 +25,8 @@ pub(crate) fn learn<S: Sink>(
     requires conflict { IsFalseClause search.old.store.slots search.old.engine conflict }
     ensures runs { OnOk result (Runs search.new problem.now (S.lines sink.new)) }
     ensures variables { OnOk result (search.new.engine.variables ≡ search.old.engine.variables) }
-    ensures writes { OnOk result (Writes problem.now.given.items (S.lines sink.old) (S.lines sink.new) 1) }
+    ensures writes { OnOk result
+        (Writes problem.now.given.items (S.lines sink.old) (S.lines sink.new) 1) }
     ensures err { OnErr result (S.lines sink.new ≡ S.lines sink.old) }
 {
     let _ = problem;

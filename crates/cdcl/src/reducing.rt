@@ -1,5 +1,6 @@
 // Learned clauses are deleted from time to time, so that propagation has fewer to look at.
-ghost use Rattle.std.specs.Prelude.{◌≡◌, ℕ, ◌<◌, ◌≤◌, true, false, Some, All, length, IfOk, OnOk, OnErr};
+ghost use Rattle.std.specs.Prelude.{◌≡◌, ℕ, ◌<◌, ◌≤◌, true, false, Some, All, length, IfOk, OnOk};
+ghost use Rattle.std.specs.Prelude.{OnErr};
 ghost use Rattle.clauses.specs.Slots.{IsLive};
 ghost use Rattle.propagate.specs.Doomed.{is_doomed};
 ghost use Rattle.propagate.specs.Trail.{reason_in};
@@ -27,11 +28,16 @@ fn delete<S: Sink>(
     reference: CRef,
 ) -> Result<(), AllocError>
     requires deleting { IsDeleting search.old problem.now (S.lines sink.old) doomed.now }
-    ensures deleting { OnOk result (IsDeleting search.new problem.now (S.lines sink.new) doomed.now) }
-    ensures gone { OnOk result (is_doomed doomed.now reference ≡ true → IsLive search.new.store.slots reference → ⊥) }
-    ensures fewer { OnOk result ((r : ℕ) → IsLive search.new.store.slots r → IsLive search.old.store.slots r) }
+    ensures deleting { OnOk result
+        (IsDeleting search.new problem.now (S.lines sink.new) doomed.now) }
+    ensures gone { OnOk result
+        (is_doomed doomed.now reference ≡ true → IsLive search.new.store.slots reference
+        → ⊥) }
+    ensures fewer { OnOk result
+        ((r : ℕ) → IsLive search.new.store.slots r → IsLive search.old.store.slots r) }
     ensures engine { OnOk result (search.new.engine ≡ search.old.engine) }
-    ensures writes { OnOk result (Writes problem.now.given.items (S.lines sink.old) (S.lines sink.new) 0) }
+    ensures writes { OnOk result
+        (Writes problem.now.given.items (S.lines sink.old) (S.lines sink.new) 0) }
     ensures err { OnErr result (S.lines sink.new ≡ S.lines sink.old) }
 {
     if !search.store.is_live(reference) {
@@ -72,7 +78,8 @@ impl Search {
     /// Marks those of these clauses that may be deleted, by their references' places.
     fn mark(&self, chosen: &[(u32, CRef)]) -> Result<Vec<bool>, AllocError>
         requires { IsReady self.now }
-        ensures { IfOk result (λ doomed. AreMarked self.now chosen.now (length chosen.now) doomed.items) }
+        ensures { IfOk result
+            (λ doomed. AreMarked self.now chosen.now (length chosen.now) doomed.items) }
     {
         let mut doomed = Vec::from_elem(self.store.allocator(), false, self.store.places())?;
         for (_, reference) in chosen {
@@ -111,7 +118,8 @@ fn is_kept(name: Name, kept: u64) -> bool
 /// Whether this clause is the reason of one of its literals.
 fn is_reason(engine: &Engine, lits: &[Lit], reference: CRef) -> bool
     requires { All (λ l. l.variable ≤ engine.now.variables) lits.now }
-    ensures { result ≡ false → All (λ l. reason_in engine.now.trail l.variable ≡ Some reference → ⊥) lits.now }
+    ensures { result ≡ false
+        → All (λ l. reason_in engine.now.trail l.variable ≡ Some reference → ⊥) lits.now }
 {
     for lit in lits {
         if engine.reason(lit.variable()) == Some(reference) {
@@ -146,7 +154,8 @@ pub(crate) fn reduce<S: Sink>(
     Ok(())
 }
 
-/// Deletes those of these clauses that may be deleted. One pass over what is attached detaches them all.
+/// Deletes those of these clauses that may be deleted. One pass over what is attached detaches them
+/// all.
 fn delete_all<S: Sink>(
     search: &mut Search,
     problem: &Problem,

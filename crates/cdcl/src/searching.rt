@@ -22,7 +22,8 @@ use clauses::store::CRef;
 use lrat_log::sink::Sink;
 use std::alloc::AllocError;
 
-/// How a search ended: with a value for each variable, with the empty clause, or because the budget is spent.
+/// How a search ended: with a value for each variable, with the empty clause, or because the budget
+/// is spent.
 #[derive(Clone, Copy, Debug, PartialEq, Eq, Drop)]
 pub(crate) enum End {
     Satisfied,
@@ -50,8 +51,11 @@ pub(crate) fn run<S: Sink>(
 ) -> Result<End, AllocError>
     requires runs { Runs search.old problem.now (S.lines sink.old) }
     ensures ends { IfOk result (IsEndOf search.new problem.now (S.lines sink.new) budget.new) }
-    ensures propagates { IfOk result (λ end. IsLiveRefuted problem.now.given.items (S.lines sink.old) → end ≡ Refuted) }
-    ensures pays { Pays problem.now.given.items (S.lines sink.old) (S.lines sink.new) budget.old budget.new }
+    ensures propagates { IfOk result
+        (λ end. IsLiveRefuted problem.now.given.items (S.lines sink.old)
+        → end ≡ Refuted) }
+    ensures pays { Pays problem.now.given.items (S.lines sink.old) (S.lines sink.new) budget.old
+        budget.new }
     ensures err { OnErr result (StaysOpen problem.now (S.lines sink.new)) }
 {
     search.backtrack(0);
@@ -74,7 +78,8 @@ fn descend<S: Sink>(
 ) -> Result<End, AllocError>
     requires runs { Runs search.old problem.now (S.lines sink.old) }
     ensures ends { IfOk result (IsEndOf search.new problem.now (S.lines sink.new) budget.new) }
-    ensures pays { Pays problem.now.given.items (S.lines sink.old) (S.lines sink.new) budget.old budget.new }
+    ensures pays { Pays problem.now.given.items (S.lines sink.old) (S.lines sink.new) budget.old
+        budget.new }
     ensures err { OnErr result (StaysOpen problem.now (S.lines sink.new)) }
 {
     let mut pace = Pace {
@@ -98,9 +103,13 @@ fn round<S: Sink>(
     pace: &mut Pace,
 ) -> Result<Option<End>, AllocError>
     requires runs { Runs search.old problem.now (S.lines sink.old) }
-    ensures ends { IfOk result (λ next. IfSome next (IsEndOf search.new problem.now (S.lines sink.new) budget.new)) }
-    ensures goes { IfOk result (λ next. IfNone next (GoesOn search.old search.new problem.now (S.lines sink.new) budget.old budget.new pace.old.conflicts pace.new.conflicts)) }
-    ensures pays { Pays problem.now.given.items (S.lines sink.old) (S.lines sink.new) budget.old budget.new }
+    ensures ends { IfOk result (λ next.
+        IfSome next (IsEndOf search.new problem.now (S.lines sink.new) budget.new)) }
+    ensures goes { IfOk result (λ next.
+        IfNone next (GoesOn search.old search.new problem.now (S.lines sink.new) budget.old
+        budget.new pace.old.conflicts pace.new.conflicts)) }
+    ensures pays { Pays problem.now.given.items (S.lines sink.old) (S.lines sink.new) budget.old
+        budget.new }
     ensures err { OnErr result (StaysOpen problem.now (S.lines sink.new)) }
 {
     match search.propagate()? {
@@ -120,9 +129,13 @@ fn on_conflict<S: Sink>(
 ) -> Result<Option<End>, AllocError>
     requires runs { Runs search.old problem.now (S.lines sink.old) }
     requires conflict { IsFalseClause search.old.store.slots search.old.engine conflict }
-    ensures ends { IfOk result (λ next. IfSome next (IsEndOf search.new problem.now (S.lines sink.new) budget.new)) }
-    ensures goes { IfOk result (λ next. IfNone next (GoesOn search.old search.new problem.now (S.lines sink.new) budget.old budget.new pace.old.conflicts pace.new.conflicts)) }
-    ensures pays { Pays problem.now.given.items (S.lines sink.old) (S.lines sink.new) budget.old budget.new }
+    ensures ends { IfOk result (λ next.
+        IfSome next (IsEndOf search.new problem.now (S.lines sink.new) budget.new)) }
+    ensures goes { IfOk result (λ next.
+        IfNone next (GoesOn search.old search.new problem.now (S.lines sink.new) budget.old
+        budget.new pace.old.conflicts pace.new.conflicts)) }
+    ensures pays { Pays problem.now.given.items (S.lines sink.old) (S.lines sink.new) budget.old
+        budget.new }
     ensures err { OnErr result (StaysOpen problem.now (S.lines sink.new)) }
 {
     if search.engine.depth() == 0 {
@@ -149,9 +162,13 @@ fn on_quiet<S: Sink>(
 ) -> Result<Option<End>, AllocError>
     requires runs { Runs search.old problem.now (S.lines sink.old) }
     requires quiet { IsQuiet search.old.store.slots (literals_of search.old.engine.trail) }
-    ensures ends { IfOk result (λ next. IfSome next (IsEndOf search.new problem.now (S.lines sink.new) budget.new)) }
-    ensures goes { IfOk result (λ next. IfNone next (GoesOn search.old search.new problem.now (S.lines sink.new) budget.old budget.new pace.old.conflicts pace.new.conflicts)) }
-    ensures pays { Pays problem.now.given.items (S.lines sink.old) (S.lines sink.new) budget.old budget.new }
+    ensures ends { IfOk result (λ next.
+        IfSome next (IsEndOf search.new problem.now (S.lines sink.new) budget.new)) }
+    ensures goes { IfOk result (λ next.
+        IfNone next (GoesOn search.old search.new problem.now (S.lines sink.new) budget.old
+        budget.new pace.old.conflicts pace.new.conflicts)) }
+    ensures pays { Pays problem.now.given.items (S.lines sink.old) (S.lines sink.new) budget.old
+        budget.new }
     ensures err { OnErr result (StaysOpen problem.now (S.lines sink.new)) }
 {
     if budget.left() == 0 {
@@ -181,7 +198,9 @@ fn note_level<S: Sink>(
     ensures runs { OnOk result (Runs search.new problem.now (S.lines sink.new)) }
     ensures all { OnOk result (length (zero_of search.new.engine.trail) ≤ search.new.noted) }
     ensures trail { OnOk result (search.new.engine.trail ≡ search.old.engine.trail) }
-    ensures quiet { OnOk result (IsQuiet search.old.store.slots (literals_of search.old.engine.trail) → IsQuiet search.new.store.slots (literals_of search.new.engine.trail)) }
+    ensures quiet { OnOk result
+        (IsQuiet search.old.store.slots (literals_of search.old.engine.trail)
+        → IsQuiet search.new.store.slots (literals_of search.new.engine.trail)) }
     ensures variables { OnOk result (search.new.engine.variables ≡ search.old.engine.variables) }
     ensures writes { Writes problem.now.given.items (S.lines sink.old) (S.lines sink.new) 0 }
     ensures err { OnErr result (StaysOpen problem.now (S.lines sink.new)) }

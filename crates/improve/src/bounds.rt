@@ -28,10 +28,11 @@ use lrat_log::log::Log;
 use lrat_log::rebase::rebase;
 use lrat_log::sink::Sink;
 use std::alloc::{AllocError, Global};
+use wcnf::limits::NUMBER_LIMIT;
 use wcnf::types::{Clause, Instance, Lit};
 
 /// No cost reaches this, as all weights sum to less; so it has no comparator clause.
-const NO_BOUND: u64 = 1 << 62;
+const NO_BOUND: u64 = NUMBER_LIMIT;
 
 /// The bounds so far, each lower than those before, and the solver that was given them.
 #[derive(Drop)]

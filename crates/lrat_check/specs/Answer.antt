@@ -1,5 +1,6 @@
 -- What was read of a result so far, and the report where the lines that are left come.
-use Rattle.std.specs.Prelude.{◌≡◌, ℕ, ◌+◌, Bool, true, List, ◌∷◌, map, Option, Some, None, Result as Outcome, Ok, Err, nat_lt, if◌then◌else◌, ⊤}
+use Rattle.std.specs.Prelude.{◌≡◌, ℕ, ◌+◌, Bool, true, List, ◌∷◌, map, Option, Some, None}
+use Rattle.std.specs.Prelude.{Result as Outcome, Ok, Err, nat_lt, if◌then◌else◌, ⊤}
 use Rattle.std.specs.List.{enumerate_from}
 use Rattle.wcnf.specs.Text.{tokens_of}
 use Rattle.lrat_check.specs.declared.answer.Cost.{Cost}
@@ -11,15 +12,29 @@ use Rattle.lrat_check.specs.declared.answer.Stage.{Stage}
 use Rattle.lrat_check.specs.declared.answer.Stage.TheVariants.{Costs, Bits, End}
 use Rattle.lrat_check.specs.declared.answer.AnswerFault.{AnswerFault}
 use Rattle.lrat_check.specs.declared.answer.AnswerFault.TheVariants.{Form, Memory}
-use Rattle.lrat_check.specs.Result.{OptimumFound, Unsatisfiable, Satisfiable, Unknown, Report, ended, with_bits, result_on, report_of}
+use Rattle.lrat_check.specs.Result.{OptimumFound, Unsatisfiable, Satisfiable, Unknown, Report}
+use Rattle.lrat_check.specs.Result.{ended, with_bits, result_on, report_of}
 
 abbrev pub reported : Answer → Report
 reported a = by a.claim
   where
     by : Claim → Report
-    by (Optimum s) = record { said = OptimumFound s.cost.cost s.bits.items; cost_line = s.cost.line; status_line = a.status_line; bits_line = s.bits_line }
-    by (Sat s) = record { said = Satisfiable s.cost.cost s.bits.items; cost_line = s.cost.line; status_line = a.status_line; bits_line = s.bits_line }
-    by Unsat = record { said = Unsatisfiable; cost_line = 0; status_line = a.status_line; bits_line = 0 }
+    by (Optimum s) =
+        record {
+          said = OptimumFound s.cost.cost s.bits.items;
+          cost_line = s.cost.line;
+          status_line = a.status_line;
+          bits_line = s.bits_line;
+        }
+    by (Sat s) =
+        record {
+          said = Satisfiable s.cost.cost s.bits.items;
+          cost_line = s.cost.line;
+          status_line = a.status_line;
+          bits_line = s.bits_line;
+        }
+    by Unsat =
+        record { said = Unsatisfiable; cost_line = 0; status_line = a.status_line; bits_line = 0 }
     by Limit = record { said = Unknown; cost_line = 0; status_line = a.status_line; bits_line = 0 }
 
 -- the report of a status with these bits on this line
@@ -47,8 +62,10 @@ resumed (End answer) n ls = ended n (reported answer) ls
 
 -- one line on
 abbrev pub IsNextStage : Stage → ℕ → List (List ℕ) → Outcome Stage AnswerFault → Type 0
-IsNextStage stage n ts (Ok next) = (ls : List (List (List ℕ))) → resumed stage n (ts ∷ ls) ≡ resumed next (n + 1) ls
-IsNextStage stage n ts (Err (Form m)) = (ls : List (List (List ℕ))) → resumed stage n (ts ∷ ls) ≡ Err m
+IsNextStage stage n ts (Ok next) =
+    (ls : List (List (List ℕ))) → resumed stage n (ts ∷ ls) ≡ resumed next (n + 1) ls
+IsNextStage stage n ts (Err (Form m)) =
+    (ls : List (List (List ℕ))) → resumed stage n (ts ∷ ls) ≡ Err m
 IsNextStage stage n ts (Err Memory) = ⊤
 
 -- where these numbered lines are left, the stage gives the report of the text

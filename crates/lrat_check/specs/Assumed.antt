@@ -1,5 +1,6 @@
 -- The literals that are assumed true: as a list, and as a table with one row for each literal.
-use Rattle.std.specs.Prelude.{◌≡◌, ℕ, ◌*◌, ◌<◌, ◌≤◌, ◌^◌, Bool, false, List, length, slice_index_or, All}
+use Rattle.std.specs.Prelude.{◌≡◌, ℕ, ◌*◌, ◌<◌, ◌≤◌, ◌^◌, Bool, false, List, length, slice_index_or}
+use Rattle.std.specs.Prelude.{All}
 use Rattle.wcnf.specs.Literal.{Literal, index_of}
 use Rattle.wcnf.specs.Clause.{contains_literal, has_repeat}
 
@@ -17,4 +18,5 @@ pub record AreRows (rows : List Bool) (variables : ℕ) (trail : List Literal) :
   pub few : variables < 2 ^ 27
   pub within : AreWithin variables trail
   pub once : has_repeat trail ≡ false
-  pub marks : (l : Literal) → 0 < l.variable → l.variable ≤ variables → slice_index_or rows (index_of l) false ≡ contains_literal l trail
+  pub marks : (l : Literal) → 0 < l.variable → l.variable ≤ variables
+      → slice_index_or rows (index_of l) false ≡ contains_literal l trail

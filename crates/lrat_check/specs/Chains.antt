@@ -1,9 +1,12 @@
--- Hash chains in vectors. A key's bucket has the newest of its keys at its head, and each key is linked to the next older one of its bucket. Places count from 1, and 0 is none.
-use Rattle.std.specs.Prelude.{◌≡◌, ℕ, zero, suc, ◌-◌, ◌/◌, ◌<◌, Bool, List, [], ◌∷◌, length, take, ◌==◌, bit_and, bit_xor, slice_index, if◌then◌else◌}
+-- Hash chains in vectors. A key's bucket has the newest of its keys at its head, and each key is
+-- linked to the next older one of its bucket. Places count from 1, and 0 is none.
+use Rattle.std.specs.Prelude.{◌≡◌, ℕ, zero, suc, ◌-◌, ◌/◌, ◌<◌, Bool, List, [], ◌∷◌, length, take}
+use Rattle.std.specs.Prelude.{◌==◌, bit_and, bit_xor, slice_index, if◌then◌else◌}
 
 -- all bits of a key, folded into its low ones
 abbrev pub folded : ℕ → ℕ
-folded key = bit_xor (bit_xor (bit_xor key (key / 65536)) (key / 4294967296)) (key / 281474976710656)
+folded key =
+    bit_xor (bit_xor (bit_xor key (key / 65536)) (key / 4294967296)) (key / 281474976710656)
 
 abbrev pub bucket_of : ℕ → ℕ → ℕ
 bucket_of buckets key = bit_and (folded key) (buckets - 1)
@@ -27,4 +30,6 @@ place_of key keys = newest (λ k. k == key) keys
 pub record IsChained (buckets : ℕ) (heads keys nexts : List ℕ) : Type 0 where
   pub all : length heads ≡ buckets
   pub heads_at : (b : ℕ) → b < buckets → slice_index heads b ≡ newest (is_in_bucket buckets b) keys
-  pub nexts_at : (i : ℕ) → i < length keys → slice_index nexts i ≡ newest (is_in_bucket buckets (bucket_of buckets (slice_index keys i))) (take i keys)
+  pub nexts_at : (i : ℕ) → i < length keys
+      → slice_index nexts i
+      ≡ newest (is_in_bucket buckets (bucket_of buckets (slice_index keys i))) (take i keys)

@@ -16,13 +16,16 @@ IsProofOver formula proof = (ls : List ProofLine) × IsTextOf proof ls × Accept
 
 abbrev pub ChecksSaid : Profile → Problem → Said → List ℕ → Type 0
 ChecksSaid profile p (OptimumFound c bits) proof =
-    (length bits ≡ p.variables) × IsFeasible p (assignment_of bits) × (cost_under p (assignment_of bits) ≡ c) × IsProofOver (bound_as profile p c).clauses proof
+    (length bits ≡ p.variables) × IsFeasible p (assignment_of bits)
+    × (cost_under p (assignment_of bits) ≡ c) × IsProofOver (bound_as profile p c).clauses proof
 ChecksSaid profile p Unsatisfiable proof = IsProofOver (hard_cnf p).clauses proof
 ChecksSaid profile p (Satisfiable c bits) proof = ⊥
 ChecksSaid profile p Unknown proof = ⊥
 
 abbrev pub ChecksAs : Profile → List ℕ → List ℕ → List ℕ → Type 0
-ChecksAs profile text result proof = (p : Problem) × (said : Said) × Reads text p × Says result said × ChecksSaid profile p said proof
+ChecksAs profile text result proof =
+    (p : Problem) × (said : Said) × Reads text p × Says result said
+    × ChecksSaid profile p said proof
 
 abbrev pub Checks : List ℕ → List ℕ → List ℕ → Type 0
 Checks text result proof = ChecksAs One text result proof
@@ -40,4 +43,5 @@ IsTrueOf p Unknown = ⊥
 
 -- of whatever the text reads as and the result says
 abbrev pub IsTrueResult : List ℕ → List ℕ → Type 0
-IsTrueResult text result = (p : Problem) (said : Said) → Reads text p → Says result said → IsTrueOf p said
+IsTrueResult text result =
+    (p : Problem) (said : Said) → Reads text p → Says result said → IsTrueOf p said

@@ -1,5 +1,6 @@
 -- How often literals stand in the live clauses, and the candidates of a RAT line by these counts.
-use Rattle.std.specs.Prelude.{◌≡◌, ℕ, ◌+◌, ◌-◌, ◌<◌, Bool, false, List, [], ◌∷◌, Option, Some, None, nat_lt, nat_le, ◌==◌, ◌&&◌, slice_index, if◌then◌else◌}
+use Rattle.std.specs.Prelude.{◌≡◌, ℕ, ◌+◌, ◌-◌, ◌<◌, Bool, false, List, [], ◌∷◌, Option, Some, None}
+use Rattle.std.specs.Prelude.{nat_lt, nat_le, ◌==◌, ◌&&◌, slice_index, if◌then◌else◌}
 use Rattle.wcnf.specs.Literal.{Literal, literal_eq, index_of}
 use Rattle.lrat_check.specs.Listed.{listed_at}
 
@@ -26,20 +27,26 @@ AreCounts counts es = (l : Literal) → 0 < l.variable → slice_index counts (i
 
 -- the clause came, and its counts
 abbrev pub AreRaised : List ℕ → List Literal → List ℕ → Type 0
-AreRaised old c new = (l : Literal) → 0 < l.variable → slice_index new (index_of l) ≡ slice_index old (index_of l) + times_in l c
+AreRaised old c new =
+    (l : Literal) → 0 < l.variable
+    → slice_index new (index_of l) ≡ slice_index old (index_of l) + times_in l c
 
 -- the clause went, and its counts
 abbrev pub AreLowered : List ℕ → List Literal → List ℕ → Type 0
-AreLowered old c new = (l : Literal) → 0 < l.variable → slice_index new (index_of l) ≡ slice_index old (index_of l) - times_in l c
+AreLowered old c new =
+    (l : Literal) → 0 < l.variable
+    → slice_index new (index_of l) ≡ slice_index old (index_of l) - times_in l c
 
--- the next id is above the last one, and its clause has the literal, though not more often than is left
+-- the next id is above the last one, and its clause has the literal, though not more often than is
+-- left
 abbrev pub is_next : ℕ → ℕ → ℕ → ℕ → Bool
 is_next before id count left = nat_lt before id && nat_lt 0 count && nat_le count left
 
 -- the clauses of these ids, which rise, have the literal in all places that are left
 abbrev pub take_all : (ℕ → ℕ) → ℕ → ℕ → List ℕ → Bool
 take_all count left before [] = left == 0
-take_all count left before (i ∷ is) = if is_next before i (count i) left then take_all count (left - count i) i is else false
+take_all count left before (i ∷ is) =
+    if is_next before i (count i) left then take_all count (left - count i) i is else false
 
 abbrev pub times_at : Literal → List (ℕ × List Literal) → ℕ → ℕ
 times_at l es i = times_of l (listed_at es i)

@@ -1,5 +1,6 @@
 -- The live clauses of a certificate as a list, each with its id, in rising id.
-use Rattle.std.specs.Prelude.{ℕ, ◌≤◌, not, List, [], ◌∷◌, map, filter, Some, None, ◌==◌, if◌then◌else◌, All}
+use Rattle.std.specs.Prelude.{ℕ, ◌≤◌, not, List, [], ◌∷◌, map, filter, Some, None, ◌==◌}
+use Rattle.std.specs.Prelude.{if◌then◌else◌, All}
 use Rattle.std.specs.List.Sorted.{IsStrictlyIncreasing}
 use Rattle.wcnf.specs.Literal.{Literal}
 use Rattle.wcnf.specs.Clause.{contains_literal}

@@ -30,4 +30,7 @@ listed_from n (c ∷ cs) = (n, c) ∷ listed_from (n + 1) cs
 
 -- a line with these tokens leads on to a state, or the certificate fails at it
 abbrev pub StepsTo : MachineState → List (List ℕ) → Option Cause → MachineState → Type 0
-StepsTo old ts fault new = (more : List (List (List ℕ))) → MatchOption fault (verdict_after old (ts ∷ more) ≡ verdict_after new more) (λ cause. verdict_after old (ts ∷ more) ≡ No cause (old.lines + 1))
+StepsTo old ts fault new =
+    (more : List (List (List ℕ)))
+    → MatchOption fault (verdict_after old (ts ∷ more) ≡ verdict_after new more)
+    (λ cause. verdict_after old (ts ∷ more) ≡ No cause (old.lines + 1))

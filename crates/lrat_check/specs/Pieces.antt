@@ -1,5 +1,6 @@
 -- A checker that is handed the certificate in pieces.
-use Rattle.std.specs.Prelude.{◌≡◌, ℕ, Bool, List, [], ◌∷◌, ◌++◌, length, Option, Some, None, ◌⊎◌, IfSome}
+use Rattle.std.specs.Prelude.{◌≡◌, ℕ, Bool, List, [], ◌∷◌, ◌++◌, length, Option, Some, None, ◌⊎◌}
+use Rattle.std.specs.Prelude.{IfSome}
 use Rattle.wcnf.specs.Literal.{Literal}
 use Rattle.wcnf.specs.Text.{token_lines, tokens_of, IsNoFeed}
 use Rattle.lrat_check.specs.declared.verdicts.Cause.{Cause}
@@ -13,13 +14,15 @@ use Rattle.lrat_check.specs.Verdict.{proof_verdict}
 abbrev pub IsEnded : List ℕ → Type 0
 IsEnded bytes = (bytes ≡ []) ⊎ ((front : List ℕ) × (bytes ≡ front ++ 10 ∷ []))
 
--- no ended line of the bytes is faulty: the rest is what follows the last of them, and from the machine the verdict follows, whatever comes
+-- no ended line of the bytes is faulty: the rest is what follows the last of them, and from the
+-- machine the verdict follows, whatever comes
 pub record IsOpen (r : Reading) (formula : List (List Literal)) (bytes : List ℕ) : Type 0 where
   pub done : List ℕ
   pub split : bytes ≡ done ++ (r.rest).items
   pub ended : IsEnded done
   pub unfinished : IsNoFeed (r.rest).items
-  pub resumes : (more : List ℕ) → verdict_after r.machine (token_lines more) ≡ proof_verdict formula (done ++ more)
+  pub resumes : (more : List ℕ)
+      → verdict_after r.machine (token_lines more) ≡ proof_verdict formula (done ++ more)
 
 -- this is the verdict from one of the ended lines of the bytes on, whatever comes
 pub record IsRefused (v : Verdict) (formula : List (List Literal)) (bytes : List ℕ) : Type 0 where
@@ -39,14 +42,19 @@ pub record Holds (r : Reading) (formula : List (List Literal)) (bytes : List ℕ
 
 -- the line leads on to a state, or it is the first fault
 abbrev pub Judges : MachineState → List ℕ → MachineState → Option Verdict → Type 0
-Judges old line new None = (more : List (List (List ℕ))) → verdict_after old (tokens_of line ∷ more) ≡ verdict_after new more
-Judges old line new (Some v) = ((cause : Cause) × (n : ℕ) × (v ≡ No cause n)) × ((more : List (List (List ℕ))) → verdict_after old (tokens_of line ∷ more) ≡ v)
+Judges old line new None =
+    (more : List (List (List ℕ)))
+    → verdict_after old (tokens_of line ∷ more) ≡ verdict_after new more
+Judges old line new (Some v) =
+    ((cause : Cause) × (n : ℕ) × (v ≡ No cause n))
+    × ((more : List (List (List ℕ))) → verdict_after old (tokens_of line ∷ more) ≡ v)
 
 -- all but the left part of the piece was read
 pub record HasTaken (old new : Reading) (piece left : List ℕ) : Type 0 where
   pub taken : List ℕ
   pub split : piece ≡ taken ++ left
-  pub holds : (formula : List (List Literal)) (bytes : List ℕ) → Holds old formula bytes → Holds new formula (bytes ++ taken)
+  pub holds : (formula : List (List Literal)) (bytes : List ℕ) → Holds old formula bytes
+      → Holds new formula (bytes ++ taken)
 
 pub record CheckerState : Type 0 where
   pub reading : Reading
@@ -59,7 +67,8 @@ pub record Stands (c : CheckerState) (formula : List (List Literal)) (bytes : Li
   pub holds : Holds c.reading formula bytes
 
 -- the verdict is that on some bytes, which are those of the reader where they are known
-pub record IsJudged (remaining : Option (List ℕ)) (formula : List (List Literal)) (v : Verdict) : Type 0 where
+pub record IsJudged (remaining : Option (List ℕ)) (formula : List (List Literal)) (v : Verdict) :
+    Type 0 where
   pub bytes : List ℕ
   pub verdict : v ≡ proof_verdict formula bytes
   pub all : IfSome remaining (λ all. v ≡ proof_verdict formula all)

@@ -1,5 +1,7 @@
 -- Result texts: what they say, and the first line that cannot stand there.
-use Rattle.std.specs.Prelude.{◌≡◌, ℕ, ◌+◌, ◌<◌, ◌^◌, Bool, true, false, not, ◌&&◌, List, [], ◌∷◌, ◌++◌, map, filter, Option, Some, None, Result as Outcome, Ok, Err, nat_lt, ◌==◌, if◌then◌else◌, All}
+use Rattle.std.specs.Prelude.{◌≡◌, ℕ, ◌+◌, ◌<◌, ◌^◌, Bool, true, false, not, ◌&&◌, List, [], ◌∷◌}
+use Rattle.std.specs.Prelude.{◌++◌, map, filter, Option, Some, None, Result as Outcome, Ok, Err}
+use Rattle.std.specs.Prelude.{nat_lt, ◌==◌, if◌then◌else◌, All}
 use Rattle.std.specs.Fmt.{decimal}
 use lib.Chars.{codes}
 use Rattle.wcnf.specs.Text.{token_lines, number_of}
@@ -31,8 +33,12 @@ bits_tokens (b ∷ bs) = codes "v" ∷ map digit_of (b ∷ bs) ∷ []
 
 -- the lines of a result, where costs are told before the last one
 abbrev pub result_tokens : List ℕ → Said → List (List (List ℕ))
-result_tokens before (OptimumFound c bits) = map cost_tokens before ++ cost_tokens c ∷ (codes "s" ∷ codes "OPTIMUM" ∷ codes "FOUND" ∷ []) ∷ bits_tokens bits ∷ []
-result_tokens before (Satisfiable c bits) = map cost_tokens before ++ cost_tokens c ∷ (codes "s" ∷ codes "SATISFIABLE" ∷ []) ∷ bits_tokens bits ∷ []
+result_tokens before (OptimumFound c bits) =
+    map cost_tokens before ++ cost_tokens c ∷ (codes "s" ∷ codes "OPTIMUM" ∷ codes "FOUND" ∷ [])
+    ∷ bits_tokens bits ∷ []
+result_tokens before (Satisfiable c bits) =
+    map cost_tokens before ++ cost_tokens c ∷ (codes "s" ∷ codes "SATISFIABLE" ∷ [])
+    ∷ bits_tokens bits ∷ []
 result_tokens before Unsatisfiable = (codes "s" ∷ codes "UNSATISFIABLE" ∷ []) ∷ []
 result_tokens before Unknown = (codes "s" ∷ codes "UNKNOWN" ∷ []) ∷ []
 
@@ -53,7 +59,8 @@ result_lines text = filter (λ l. not (is_ignored l)) (token_lines text)
 
 -- the result says this
 abbrev pub Says : List ℕ → Said → Type 0
-Says text said = (before : List ℕ) × FallsTo before said × (result_lines text ≡ result_tokens before said)
+Says text said =
+    (before : List ℕ) × FallsTo before said × (result_lines text ≡ result_tokens before said)
 
 -- a result as it was read, with the lines that a verdict names
 pub record Report : Type 0 where
@@ -71,8 +78,13 @@ abbrev pub status_of : List (List ℕ) → Option Status
 status_of (s ∷ t ∷ []) = if same_bytes s (codes "s") then alone t else None
   where
     alone : List ℕ → Option Status
-    alone u = if same_bytes u (codes "UNSATISFIABLE") then Some Unsat else if same_bytes u (codes "SATISFIABLE") then Some Sat else if same_bytes u (codes "UNKNOWN") then Some Limit else None
-status_of (s ∷ t ∷ u ∷ []) = if same_bytes s (codes "s") && same_bytes t (codes "OPTIMUM") && same_bytes u (codes "FOUND") then Some Optimum else None
+    alone u =
+        if same_bytes u (codes "UNSATISFIABLE") then Some Unsat
+        else if same_bytes u (codes "SATISFIABLE") then Some Sat
+        else if same_bytes u (codes "UNKNOWN") then Some Limit else None
+status_of (s ∷ t ∷ u ∷ []) =
+    if same_bytes s (codes "s") && same_bytes t (codes "OPTIMUM")
+    && same_bytes u (codes "FOUND") then Some Optimum else None
 status_of other = None
 
 abbrev pub cost_of : List (List ℕ) → Option ℕ
@@ -85,7 +97,8 @@ cost_of other = None
 
 abbrev pub bits_on : List ℕ → Option (List Bool)
 bits_on [] = Some []
-bits_on (b ∷ bs) = if b == 48 then onto false (bits_on bs) else if b == 49 then onto true (bits_on bs) else None
+bits_on (b ∷ bs) =
+    if b == 48 then onto false (bits_on bs) else if b == 49 then onto true (bits_on bs) else None
   where
     onto : Bool → Option (List Bool) → Option (List Bool)
     onto x None = None
@@ -113,7 +126,9 @@ with_bits n report (l ∷ ls) = if is_ignored l then with_bits (n + 1) report ls
 -- the last cost, with its line
 abbrev pub result_on : Option (ℕ × ℕ) → ℕ → List (List (List ℕ)) → Outcome Report ℕ
 result_on last n [] = Err 0
-result_on last n (l ∷ ls) = if is_ignored l then result_on last (n + 1) ls else cost (cost_of l) (λ c. result_on (Some (c, n)) (n + 1) ls)
+result_on last n (l ∷ ls) =
+    if is_ignored l then result_on last (n + 1) ls
+    else cost (cost_of l) (λ c. result_on (Some (c, n)) (n + 1) ls)
   where
     falls : Option (ℕ × ℕ) → ℕ → Bool
     falls None c = true
@@ -121,10 +136,19 @@ result_on last n (l ∷ ls) = if is_ignored l then result_on last (n + 1) ls els
 
     with_status : Option Status → Option (ℕ × ℕ) → Outcome Report ℕ
     with_status None x = Err n
-    with_status (Some Unsat) None = ended (n + 1) (record { said = Unsatisfiable; cost_line = 0; status_line = n; bits_line = 0 }) ls
-    with_status (Some Limit) None = ended (n + 1) (record { said = Unknown; cost_line = 0; status_line = n; bits_line = 0 }) ls
-    with_status (Some Optimum) (Some (c, at)) = with_bits (n + 1) (λ bits m. record { said = OptimumFound c bits; cost_line = at; status_line = n; bits_line = m }) ls
-    with_status (Some Sat) (Some (c, at)) = with_bits (n + 1) (λ bits m. record { said = Satisfiable c bits; cost_line = at; status_line = n; bits_line = m }) ls
+    with_status (Some Unsat) None =
+        ended (n + 1)
+        (record { said = Unsatisfiable; cost_line = 0; status_line = n; bits_line = 0 }) ls
+    with_status (Some Limit) None =
+        ended (n + 1) (record { said = Unknown; cost_line = 0; status_line = n; bits_line = 0 }) ls
+    with_status (Some Optimum) (Some (c, at)) =
+        with_bits (n + 1)
+        (λ bits m. record
+        { said = OptimumFound c bits; cost_line = at; status_line = n; bits_line = m }) ls
+    with_status (Some Sat) (Some (c, at)) =
+        with_bits (n + 1)
+        (λ bits m. record
+        { said = Satisfiable c bits; cost_line = at; status_line = n; bits_line = m }) ls
     with_status other x = Err n
 
     cost : Option ℕ → (ℕ → Outcome Report ℕ) → Outcome Report ℕ

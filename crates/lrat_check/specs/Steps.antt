@@ -1,5 +1,6 @@
 -- What the checker's parts answer, in the terms of the verdict.
-use Rattle.std.specs.Prelude.{◌≡◌, ℕ, ◌<◌, Bool, false, List, [], ◌∷◌, ◌++◌, length, nat_eq, Option, All}
+use Rattle.std.specs.Prelude.{◌≡◌, ℕ, ◌<◌, Bool, false, List, [], ◌∷◌, ◌++◌, length, nat_eq, Option}
+use Rattle.std.specs.Prelude.{All}
 use Rattle.wcnf.specs.Literal.{Literal}
 use Rattle.wcnf.specs.Clause.{contains_literal}
 use Rattle.wcnf.specs.Lrat.{Live}
@@ -7,11 +8,14 @@ use Rattle.lrat_check.specs.Assumed.{AreWithin}
 use Rattle.lrat_check.specs.Listed.{listed_at, IsRising, IsUpTo}
 use Rattle.lrat_check.specs.declared.verdicts.Cause.{Cause}
 use Rattle.lrat_read.specs.Reader.{LineState, is_large_clause}
-use Rattle.lrat_check.specs.Verdict.{addition_fault, Walk, Open, Refuted, Fault, Outcome, NotUnit, Conflict, Makes}
+use Rattle.lrat_check.specs.Verdict.{addition_fault, Walk, Open, Refuted, Fault, Outcome, NotUnit}
+use Rattle.lrat_check.specs.Verdict.{Conflict, Makes}
 use Rattle.lrat_check.specs.declared.hints.Effect.{Effect}
-use Rattle.lrat_check.specs.declared.hints.Effect.TheVariants.{Conflict as HasConflict, Makes as HasMade, NotUnit as HasMany}
+use Rattle.lrat_check.specs.declared.hints.Effect.TheVariants.{Conflict as HasConflict}
+use Rattle.lrat_check.specs.declared.hints.Effect.TheVariants.{Makes as HasMade, NotUnit as HasMany}
 use Rattle.lrat_check.specs.declared.hints.Walked.{Walked}
-use Rattle.lrat_check.specs.declared.hints.Walked.TheVariants.{Open as IsOpen, Refuted as IsRefuted, Fault as IsFault}
+use Rattle.lrat_check.specs.declared.hints.Walked.TheVariants.{Open as IsOpen, Refuted as IsRefuted}
+use Rattle.lrat_check.specs.declared.hints.Walked.TheVariants.{Fault as IsFault}
 
 -- the live clauses and the last id
 abbrev pub live_of : ℕ → List (ℕ × List Literal) → Live
@@ -25,7 +29,8 @@ pub record IsBase (variables last : ℕ) (es : List (ℕ × List Literal)) : Typ
   pub within : All (λ e. AreWithin variables e.1) es
 
 -- the line's clause is live from now on, under an id above the last
-pub record Adds (old : List (ℕ × List Literal)) (last : ℕ) (s : LineState) (new : List (ℕ × List Literal)) (next : ℕ) (ended : Bool) : Type 0 where
+pub record Adds (old : List (ℕ × List Literal)) (last : ℕ) (s : LineState)
+    (new : List (ℕ × List Literal)) (next : ℕ) (ended : Bool) : Type 0 where
   pub small : s.is_large ≡ false
   pub clauses : new ≡ old ++ (s.id, s.clause) ∷ []
   pub next_is : next ≡ s.id
@@ -55,4 +60,6 @@ EndAlike v w = ⊥
 
 -- the first fault of the line's clause, where a literal of a large clause was left out
 abbrev pub IsFaultOf : Live → LineState → Option Cause → Type 0
-IsFaultOf live s f = (c : List Literal) → is_large_clause c ≡ s.is_large → (s.is_large ≡ false → c ≡ s.clause) → f ≡ addition_fault live s.id c s.hints
+IsFaultOf live s f =
+    (c : List Literal) → is_large_clause c ≡ s.is_large → (s.is_large ≡ false → c ≡ s.clause)
+    → f ≡ addition_fault live s.id c s.hints

@@ -1,5 +1,6 @@
 -- Clauses in one flat list of literals, each with an entry that says where its literals lie.
-use Rattle.std.specs.Prelude.{◌≡◌, ℕ, ◌+◌, ◌<◌, ◌≤◌, ◌^◌, Bool, true, List, [], ◌∷◌, map, length, slice_index, slice_range, take, if◌then◌else◌}
+use Rattle.std.specs.Prelude.{◌≡◌, ℕ, ◌+◌, ◌<◌, ◌≤◌, ◌^◌, Bool, true, List, [], ◌∷◌, map, length}
+use Rattle.std.specs.Prelude.{slice_index, slice_range, take, if◌then◌else◌}
 use Rattle.std.specs.List.{AllByRecursion}
 use Rattle.wcnf.specs.Literal.{Literal}
 use Rattle.lrat_check.specs.Chains.{IsChained}
@@ -30,7 +31,9 @@ literals_of literals c = slice_range literals c.start (c.start + c.length)
 -- the live clauses
 abbrev pub clauses_in : List Literal → List Cell → List (ℕ × List Literal)
 clauses_in literals [] = []
-clauses_in literals (c ∷ cs) = if c.live then (c.id, literals_of literals c) ∷ clauses_in literals cs else clauses_in literals cs
+clauses_in literals (c ∷ cs) =
+    if c.live then (c.id, literals_of literals c) ∷ clauses_in literals cs
+    else clauses_in literals cs
 
 abbrev pub AllLive : List Cell → Type 0
 AllLive cs = AllByRecursion (λ c. c.live ≡ true) cs
@@ -46,7 +49,8 @@ RisesFrom least [] = Unit {0}
 RisesFrom least (k ∷ ks) = (least ≤ k) × RisesFrom (k + 1) ks
 
 -- clauses and literals came behind those that were there
-pub record IsGrown (ls : List Literal) (cs : List Cell) (ms : List Literal) (ds : List Cell) : Type 0 where
+pub record IsGrown (ls : List Literal) (cs : List Cell) (ms : List Literal) (ds : List Cell) : Type
+    0 where
   pub literals : take (length ls) ms ≡ ls
   pub count : length cs ≤ length ds
   pub cells : take (length cs) ds ≡ cs

@@ -1,8 +1,12 @@
--- The verdict on a certificate, line by line, and on a text with its result and certificate. The first fault decides.
-use Rattle.std.specs.Prelude.{◌≡◌, ℕ, zero, suc, ◌+◌, Bool, true, false, not, ◌||◌, ◌&&◌, List, [], ◌∷◌, ◌++◌, length, map, filter, Option, Some, None, Result, Ok, Err, is_some, nat_le, ◌==◌, if◌then◌else◌, ◌↔◌, All}
+-- The verdict on a certificate, line by line, and on a text with its result and certificate. The
+-- first fault decides.
+use Rattle.std.specs.Prelude.{◌≡◌, ℕ, zero, suc, ◌+◌, Bool, true, false, not, ◌||◌, ◌&&◌, List, []}
+use Rattle.std.specs.Prelude.{◌∷◌, ◌++◌, length, map, filter, Option, Some, None, Result, Ok, Err}
+use Rattle.std.specs.Prelude.{is_some, nat_le, ◌==◌, if◌then◌else◌, ◌↔◌, All}
 use Rattle.std.specs.List.{list_any, list_all}
 use Rattle.wcnf.specs.Literal.{Literal, negation}
-use Rattle.wcnf.specs.Clause.{clause_value, contains_literal, without_literal, has_repeat, has_opposites}
+use Rattle.wcnf.specs.Clause.{clause_value, contains_literal, without_literal, has_repeat}
+use Rattle.wcnf.specs.Clause.{has_opposites}
 use Rattle.wcnf.specs.Text.{token_lines}
 use Rattle.wcnf.specs.Problem.{Problem, cost_under}
 use Rattle.wcnf.specs.declared.faults.FaultKind.{FaultKind}
@@ -14,10 +18,17 @@ use Rattle.adder.specs.declared.cells.Profile.{Profile}
 use Rattle.adder.specs.declared.cells.Profile.TheVariants.{One}
 use Rattle.bound.specs.Bound.{hard_cnf, bound_as}
 use Rattle.lrat_read.specs.Form.{Parsed, Addition, Deletion, Malformed, line_of, leading, groups_of}
-use Rattle.lrat_check.specs.Result.{Said, OptimumFound, Unsatisfiable, Satisfiable, Unknown, Report, report_of}
+use Rattle.lrat_check.specs.Result.{Said, OptimumFound, Unsatisfiable, Satisfiable, Unknown, Report}
+use Rattle.lrat_check.specs.Result.{report_of}
 use Rattle.lrat_check.specs.Checks.{IsProofOver, ChecksAs}
 use Rattle.lrat_check.specs.declared.verdicts.Cause.{Cause}
-use Rattle.lrat_check.specs.declared.verdicts.Cause.TheVariants.{Text, ResultForm, BitsLength, NotFeasible, CostWrong, StatusWithoutProof, LineForm, IdOrder, DeadId, HintNotUnit, HintAfterConflict, NoConflict, Candidates, NoEmptyClause, TrailingLine, ClauseForm}
+use Rattle.lrat_check.specs.declared.verdicts.Cause.TheVariants.{Text, ResultForm, BitsLength}
+use Rattle.lrat_check.specs.declared.verdicts.Cause.TheVariants.{NotFeasible, CostWrong}
+use Rattle.lrat_check.specs.declared.verdicts.Cause.TheVariants.{StatusWithoutProof, LineForm}
+use Rattle.lrat_check.specs.declared.verdicts.Cause.TheVariants.{IdOrder, DeadId, HintNotUnit}
+use Rattle.lrat_check.specs.declared.verdicts.Cause.TheVariants.{HintAfterConflict, NoConflict}
+use Rattle.lrat_check.specs.declared.verdicts.Cause.TheVariants.{Candidates, NoEmptyClause}
+use Rattle.lrat_check.specs.declared.verdicts.Cause.TheVariants.{TrailingLine, ClauseForm}
 use Rattle.lrat_check.specs.declared.verdicts.Verdict.{Verdict}
 use Rattle.lrat_check.specs.declared.verdicts.Verdict.TheVariants.{Yes, No}
 
@@ -90,7 +101,9 @@ group_fault at pivot B g = for_candidate (at g.candidate)
 
     for_candidate : Option (List Literal) → Option Cause
     for_candidate None = Some DeadId
-    for_candidate (Some d) = if list_any (λ k. contains_literal k B) (others d) then silent g.hints else of_walk (walk at (map negation (others d) ++ B) g.hints)
+    for_candidate (Some d) =
+        if list_any (λ k. contains_literal k B) (others d) then silent g.hints
+        else of_walk (walk at (map negation (others d) ++ B) g.hints)
 
 abbrev pub or_else : Option Cause → Option Cause → Option Cause
 or_else None next = next
@@ -106,18 +119,24 @@ clause_fault live c Refuted [] = None
 clause_fault live c Refuted (g ∷ gs) = Some HintAfterConflict
 clause_fault live [] (Open B) gs = Some NoConflict
 clause_fault live (p ∷ c) (Open B) gs =
-    if same_ids (map (λ g. g.candidate) gs) (ids_with live.clause_at (negation p) live.last) then groups_fault live.clause_at p B gs else Some Candidates
+    if same_ids (map (λ g. g.candidate) gs) (ids_with live.clause_at (negation p) live.last) then
+    groups_fault live.clause_at p B gs else Some Candidates
 
 abbrev pub addition_fault : Live → ℕ → List Literal → List (Bool × ℕ) → Option Cause
 addition_fault live id c hints =
     if nat_le id live.last then Some IdOrder
-    else if has_repeat c || has_opposites c || list_any (λ l. nat_le 134217728 l.variable) c then Some ClauseForm
-    else clause_fault live c (walk live.clause_at (map negation c) (leading hints)) (groups_of hints)
+    else if has_repeat c || has_opposites c
+    || list_any (λ l. nat_le 134217728 l.variable) c then Some ClauseForm
+    else clause_fault live c (walk live.clause_at (map negation c) (leading hints))
+    (groups_of hints)
 
 -- after the ids of a deletion, in order
 abbrev pub deleted : Live → List ℕ → Option Live
 deleted live [] = Some live
-deleted live (i ∷ is) = if is_some (live.clause_at i) then deleted (record { clause_at = λ j. if j == i then None else live.clause_at j; last = live.last }) is else None
+deleted live (i ∷ is) =
+    if is_some (live.clause_at i) then deleted
+    (record { clause_at = λ j. if j == i then None else live.clause_at j; last = live.last }) is
+    else None
 
 -- the verdict on the lines that are left; done says that the empty clause was added
 abbrev pub verdict_on : Live → Bool → ℕ → List (List (List ℕ)) → Verdict
@@ -125,7 +144,8 @@ verdict_on live true n [] = Yes
 verdict_on live false n [] = No NoEmptyClause 0
 verdict_on live done n ([] ∷ more) = verdict_on live done (n + 1) more
 verdict_on live true n ((t ∷ ts) ∷ more) = No TrailingLine n
-verdict_on live false n ((t ∷ ts) ∷ more) = judged (line_of (t ∷ ts)) (λ l d. verdict_on l d (n + 1) more)
+verdict_on live false n ((t ∷ ts) ∷ more) =
+    judged (line_of (t ∷ ts)) (λ l d. verdict_on l d (n + 1) more)
   where
     is_empty : List Literal → Bool
     is_empty [] = true
@@ -151,7 +171,8 @@ proof_verdict formula bytes = verdict_on (start_of formula) false 1 (token_lines
 abbrev pub bits_fault : Problem → Report → ℕ → List Bool → Option Verdict
 bits_fault p r cost bits =
     if not (length bits == p.variables) then Some (No BitsLength r.bits_line)
-    else if not (list_all (clause_value (assignment_of bits)) p.hard) then Some (No NotFeasible r.bits_line)
+    else if not (list_all (clause_value (assignment_of bits)) p.hard) then Some
+    (No NotFeasible r.bits_line)
     else if not (cost_under p (assignment_of bits) == cost) then Some (No CostWrong r.cost_line)
     else None
 
@@ -163,7 +184,8 @@ said_verdict profile p r proof = by r.said
     first (Some v) next = v
 
     by : Said → Verdict
-    by (OptimumFound c bits) = first (bits_fault p r c bits) (proof_verdict (bound_as profile p c).clauses proof)
+    by (OptimumFound c bits) =
+        first (bits_fault p r c bits) (proof_verdict (bound_as profile p c).clauses proof)
     by (Satisfiable c bits) = first (bits_fault p r c bits) (No StatusWithoutProof r.status_line)
     by Unsatisfiable = proof_verdict (hard_cnf p).clauses proof
     by Unknown = No StatusWithoutProof r.status_line
@@ -184,7 +206,11 @@ check_verdict text result proof = verdict_as One text result proof
 
 -- the laws that tie verdicts to what a certificate is
 abbrev pub ProofVerdictIsRight : Type 0
-ProofVerdictIsRight = (formula : List (List Literal)) (bytes : List ℕ) → All (λ c. has_repeat c ≡ false) formula → (proof_verdict formula bytes ≡ Yes) ↔ IsProofOver formula bytes
+ProofVerdictIsRight =
+    (formula : List (List Literal)) (bytes : List ℕ) → All (λ c. has_repeat c ≡ false) formula
+    → (proof_verdict formula bytes ≡ Yes) ↔ IsProofOver formula bytes
 
 abbrev pub CheckVerdictIsRight : Type 0
-CheckVerdictIsRight = (profile : Profile) (text result proof : List ℕ) → (verdict_as profile text result proof ≡ Yes) ↔ ChecksAs profile text result proof
+CheckVerdictIsRight =
+    (profile : Profile) (text result proof : List ℕ) → (verdict_as profile text result proof ≡ Yes)
+    ↔ ChecksAs profile text result proof

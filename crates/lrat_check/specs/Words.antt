@@ -8,4 +8,6 @@ HasWords ts None = ts ≡ []
 HasWords ts (One a) = ts ≡ a.now ∷ []
 HasWords ts (Two a b) = ts ≡ a.now ∷ b.now ∷ []
 HasWords ts (Three a b c) = ts ≡ a.now ∷ b.now ∷ c.now ∷ []
-HasWords ts (More a) = (b : List ℕ) × (c : List ℕ) × (d : List ℕ) × (more : List (List ℕ)) × (ts ≡ a.now ∷ b ∷ c ∷ d ∷ more)
+HasWords ts (More a) =
+    (b : List ℕ) × (c : List ℕ) × (d : List ℕ) × (more : List (List ℕ))
+    × (ts ≡ a.now ∷ b ∷ c ∷ d ∷ more)

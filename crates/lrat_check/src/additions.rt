@@ -1,6 +1,7 @@
 // Additions: a clause that its hints refute to the contrary (RUP), or whose resolvents on its first
 // literal are refuted each by hints of their own (RAT).
-ghost use Rattle.std.specs.Prelude.{◌≡◌, ℕ, ◌<◌, ◌≤◌, true, false, not, ◌||◌, [], Some, None, IfOk, map, if◌then◌else◌};
+ghost use Rattle.std.specs.Prelude.{◌≡◌, ℕ, ◌<◌, ◌≤◌, true, false, not, ◌||◌, [], Some, None, IfOk};
+ghost use Rattle.std.specs.Prelude.{map, if◌then◌else◌};
 ghost use Rattle.wcnf.specs.Literal.{negation};
 ghost use Rattle.wcnf.specs.Clause.{has_repeat, has_opposites};
 ghost use Rattle.lrat_check.specs.Assumed.{AreWithin};
@@ -21,7 +22,8 @@ use wcnf::types::Lit;
 /// Assumes the negation of each literal; false where a literal stands twice or with its negation.
 pub(crate) fn assume_negations(clause: &[Lit], assumed: &mut Assumed) -> Result<bool, AllocError>
     requires { assumed.old.literals ≡ [] }
-    ensures distinct { IfOk result (λ r. r ≡ not (has_repeat clause.now || has_opposites clause.now)) }
+    ensures distinct { IfOk result
+        (λ r. r ≡ not (has_repeat clause.now || has_opposites clause.now)) }
     ensures assumed { IfOk result (λ r. r ≡ true → assumed.new.literals ≡ map negation clause.now) }
     ensures within { IfOk result (λ r. r ≡ true → AreWithin assumed.new.variables clause.now) }
     ensures more { assumed.old.variables ≤ assumed.new.variables }
@@ -48,7 +50,10 @@ fn hints_fault(
     requires base { IsBase assumed.old.variables last live.old }
     requires within { AreWithin assumed.old.variables clause.now }
     requires negated { assumed.old.literals ≡ map negation clause.now }
-    ensures fault { IfOk result (λ f. f ≡ clause_fault (live_of last live.old) clause.now (walk_of (live_of last live.old).clause_at (map negation clause.now) (leading_of hints.now)) (groups_of hints.now)) }
+    ensures fault { IfOk result (λ f. f
+        ≡ clause_fault (live_of last live.old) clause.now
+        (walk_of (live_of last live.old).clause_at (map negation clause.now)
+        (leading_of hints.now)) (groups_of hints.now)) }
     ensures live { live.new ≡ live.old }
     ensures variables { assumed.new.variables ≡ assumed.old.variables }
 {

@@ -19,7 +19,8 @@ use wcnf::types::Formula;
 pub fn check_lines(formula: &Formula, proof: &[u8]) -> Result<Verdict, AllocError>
     ensures verdict { IfOk result (λ v. v ≡ proof_verdict formula.now.clauses proof.now) }
     ensures yes { IfOk result (λ v. (v ≡ Verdict.Yes) ↔ IsProofOver formula.now.clauses proof.now) }
-    ensures accepted { (ls : List ProofLine) → Accepts formula.now.clauses ls → IsUnsatisfiable formula.now.clauses }
+    ensures accepted { (ls : List ProofLine) → Accepts formula.now.clauses ls
+        → IsUnsatisfiable formula.now.clauses }
     ensures sound { IfOk result (λ v. v ≡ Verdict.Yes → IsUnsatisfiable formula.now.clauses) }
 {
     // the clauses are those of a formula
@@ -40,7 +41,8 @@ pub(crate) fn check_owned(formula: Formula, proof: &[u8]) -> Result<Verdict, All
 /// The verdict of a checker that has read nothing so far.
 pub(crate) fn judge_whole(checker: Checker, proof: &[u8]) -> Result<Verdict, AllocError>
     requires { checker.fed ≡ 0 }
-    ensures { IfOk result (λ v. (formula : List (List Literal)) → Stands checker formula [] → v ≡ proof_verdict formula proof.now) }
+    ensures { IfOk result (λ v. (formula : List (List Literal)) → Stands checker formula []
+        → v ≡ proof_verdict formula proof.now) }
 {
     let mut checker = checker;
     checker.feed(proof).map_err(|_| AllocError)?;

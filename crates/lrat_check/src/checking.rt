@@ -1,5 +1,5 @@
-//! A result with its certificate, against the instance's text. Everything that is checked is built from that text:
-//! of the certificate, only the refutation is read.
+//! A result with its certificate, against the instance's text. Everything that is checked is built
+//! from that text: of the certificate, only the refutation is read.
 ghost use Rattle.std.specs.Prelude.{◌≡◌, ℕ, List, IfOk, IfSome, ◌↔◌, None};
 ghost use Rattle.lrat_check.specs.Result.{Report};
 ghost use Rattle.lrat_check.specs.Answer.{reported};
@@ -40,9 +40,10 @@ enum Left {
 ///
 /// `No` gives the first of these faults, with its line from 1:
 /// - `Text`: a line of the text that cannot be read.
-/// - `ResultForm`: a line of the answer that cannot stand there; line 0 where the answer ends too soon.
-/// - `BitsLength`, `NotFeasible`: there is not one bit for each variable, or the bits falsify a hard
-///   clause; the `v` line.
+/// - `ResultForm`: a line of the answer that cannot stand there; line 0 where the answer ends too
+/// soon.
+/// - `BitsLength`, `NotFeasible`: there is not one bit for each variable, or the bits falsify a
+/// hard   clause; the `v` line.
 /// - `CostWrong`: the bits have another cost than the last `o` line tells; that line.
 /// - `StatusWithoutProof`: `SATISFIABLE` or `UNKNOWN`, which no certificate shows; the `s` line.
 /// - Any other cause: the first fault of the certificate, as `check_lines` tells it.
@@ -50,13 +51,15 @@ enum Left {
 /// An AllocError comes only where memory was refused.
 pub fn check(alloc: Global, text: &[u8], answer: &[u8], proof: &[u8]) -> Result<Verdict, AllocError>
     ensures verdict { IfOk result (λ v. v ≡ verdict_as Profile.One text.now answer.now proof.now) }
-    ensures yes { IfOk result (λ v. (v ≡ Verdict.Yes) ↔ ChecksAs Profile.One text.now answer.now proof.now) }
+    ensures yes { IfOk result
+        (λ v. (v ≡ Verdict.Yes) ↔ ChecksAs Profile.One text.now answer.now proof.now) }
     ensures sound { IfOk result (λ v. v ≡ Verdict.Yes → IsTrueResult text.now answer.now) }
 {
     check_as(alloc, text, answer, proof, Profile::One)
 }
 
-/// As `check`, where the formula for a cost below the told one relaxes soft clauses as `profile` says.
+/// As `check`, where the formula for a cost below the told one relaxes soft clauses as `profile`
+/// says.
 pub fn check_as(
     alloc: Global,
     text: &[u8],
@@ -65,7 +68,8 @@ pub fn check_as(
     profile: Profile,
 ) -> Result<Verdict, AllocError>
     ensures verdict { IfOk result (λ v. v ≡ verdict_as profile text.now answer.now proof.now) }
-    ensures yes { IfOk result (λ v. (v ≡ Verdict.Yes) ↔ ChecksAs profile text.now answer.now proof.now) }
+    ensures yes { IfOk result
+        (λ v. (v ≡ Verdict.Yes) ↔ ChecksAs profile text.now answer.now proof.now) }
     ensures sound { IfOk result (λ v. v ≡ Verdict.Yes → IsTrueResult text.now answer.now) }
 {
     let left = left_of(alloc, text, answer, profile)?;
@@ -75,8 +79,8 @@ pub fn check_as(
     }
 }
 
-/// As `check`, with the proof from a reader, which is read up to the first faulty line, in memory that follows the live clauses. A
-/// proof of 2^64 bytes or more counts as a failed read.
+/// As `check`, with the proof from a reader, which is read up to the first faulty line, in memory
+/// that follows the live clauses. A proof of 2^64 bytes or more counts as a failed read.
 ///
 /// # Errors
 ///
@@ -87,14 +91,19 @@ pub fn check_from<R: Read>(
     answer: &[u8],
     proof: &mut R,
 ) -> Result<Verdict, CheckFault>
-    ensures verdict { IfOk result (λ v. IfSome (R.remaining proof.old) (λ bytes. v ≡ verdict_as Profile.One text.now answer.now bytes)) }
-    ensures yes { IfOk result (λ v. IfSome (R.remaining proof.old) (λ bytes. (v ≡ Verdict.Yes) ↔ ChecksAs Profile.One text.now answer.now bytes)) }
+    ensures verdict { IfOk result (λ v.
+        IfSome (R.remaining proof.old)
+        (λ bytes. v ≡ verdict_as Profile.One text.now answer.now bytes)) }
+    ensures yes { IfOk result (λ v.
+        IfSome (R.remaining proof.old)
+        (λ bytes. (v ≡ Verdict.Yes) ↔ ChecksAs Profile.One text.now answer.now bytes)) }
     ensures sound { IfOk result (λ v. v ≡ Verdict.Yes → IsTrueResult text.now answer.now) }
 {
     check_from_as(alloc, text, answer, proof, Profile::One)
 }
 
-/// As `check_from`, where the formula for a cost below the told one relaxes soft clauses as `profile` says.
+/// As `check_from`, where the formula for a cost below the told one relaxes soft clauses as
+/// `profile` says.
 pub fn check_from_as<R: Read>(
     alloc: Global,
     text: &[u8],
@@ -102,8 +111,12 @@ pub fn check_from_as<R: Read>(
     proof: &mut R,
     profile: Profile,
 ) -> Result<Verdict, CheckFault>
-    ensures verdict { IfOk result (λ v. IfSome (R.remaining proof.old) (λ bytes. v ≡ verdict_as profile text.now answer.now bytes)) }
-    ensures yes { IfOk result (λ v. IfSome (R.remaining proof.old) (λ bytes. (v ≡ Verdict.Yes) ↔ ChecksAs profile text.now answer.now bytes)) }
+    ensures verdict { IfOk result (λ v.
+        IfSome (R.remaining proof.old)
+        (λ bytes. v ≡ verdict_as profile text.now answer.now bytes)) }
+    ensures yes { IfOk result (λ v.
+        IfSome (R.remaining proof.old)
+        (λ bytes. (v ≡ Verdict.Yes) ↔ ChecksAs profile text.now answer.now bytes)) }
     ensures sound { IfOk result (λ v. v ≡ Verdict.Yes → IsTrueResult text.now answer.now) }
 {
     let Ok(left) = left_of(alloc, text, answer, profile) else {
@@ -117,7 +130,8 @@ pub fn check_from_as<R: Read>(
 
 // What is left to check of the texts, before a byte of the proof is read.
 fn left_of(alloc: Global, text: &[u8], answer: &[u8], profile: Profile) -> Result<Left, AllocError>
-    ensures verdict { IfOk result (λ left. (proof : List ℕ) → verdict_left left proof ≡ verdict_as profile text.now answer.now proof) }
+    ensures verdict { IfOk result (λ left. (proof : List ℕ)
+        → verdict_left left proof ≡ verdict_as profile text.now answer.now proof) }
     ensures sound { IfOk result (λ left. Shows left (IsTrueResult text.now answer.now)) }
 {
     let instance = match read(alloc, text) {
@@ -132,14 +146,18 @@ fn left_of(alloc: Global, text: &[u8], answer: &[u8], profile: Profile) -> Resul
     }
 }
 
-// What is left of what was said of an instance. The bits come first, since they cost the least to check.
+// What is left of what was said of an instance. The bits come first, since they cost the least to
+// check.
 fn left_of_answer(
     instance: &Instance,
     answer: &Answer,
     profile: Profile,
 ) -> Result<Left, AllocError>
-    ensures verdict { IfOk result (λ left. (proof : List ℕ) → verdict_left left proof ≡ said_verdict profile instance.now (reported answer.now) proof) }
-    ensures sound { IfOk result (λ left. Shows left (IsTrueOf instance.now (reported answer.now).said)) }
+    ensures verdict { IfOk result (λ left. (proof : List ℕ)
+        → verdict_left left proof
+        ≡ said_verdict profile instance.now (reported answer.now) proof) }
+    ensures sound { IfOk result
+        (λ left. Shows left (IsTrueOf instance.now (reported answer.now).said)) }
 {
     match &answer.claim {
         Claim::Optimum(solution) => match solution_fault(instance, solution) {
@@ -168,12 +186,15 @@ fn unproved(answer: &Answer) -> Left
     Left::Nothing(Verdict::No(Cause::StatusWithoutProof, answer.status_line))
 }
 
-// The first fault of a solution: the number of its bits, a hard clause that they break, a cost that they do not have.
+// The first fault of a solution: the number of its bits, a hard clause that they break, a cost that
+// they do not have.
 fn solution_fault(instance: &Instance, solution: &Solution) -> Option<Verdict>
-    ensures fault { (r : Report) → r.bits_line ≡ solution.now.bits_line → r.cost_line ≡ solution.now.cost.line
+    ensures fault { (r : Report) → r.bits_line ≡ solution.now.bits_line
+        → r.cost_line ≡ solution.now.cost.line
         → result ≡ bits_fault instance.now r solution.now.cost.cost solution.now.bits.items }
     ensures no { IfSome result (λ v. v ≡ Verdict.Yes → ⊥) }
-    ensures right { result ≡ None → HasCost instance.now solution.now.bits.items solution.now.cost.cost }
+    ensures right { result ≡ None
+        → HasCost instance.now solution.now.bits.items solution.now.cost.cost }
 {
     let bits = solution.bits.as_slice();
     if bits.len() != instance.vars() as usize {

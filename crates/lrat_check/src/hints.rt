@@ -49,8 +49,8 @@ impl Walked {
     }
 }
 
-/// What the clause does where these literals are true. The pass goes over all its literals and decides nothing on the way, so that
-/// there is little for the processor to guess.
+/// What the clause does where these literals are true. The pass goes over all its literals and
+/// decides nothing on the way, so that there is little for the processor to guess.
 pub(crate) fn effect_of(clause: &[Lit], assumed: &Assumed) -> Effect
     requires { AreWithin assumed.now.variables clause.now }
     ensures { outcome_as result ≡ outcome_of (Some clause.now) assumed.now.literals }
@@ -89,7 +89,9 @@ pub(crate) fn walk(
     hints: &[SignedId],
 ) -> Result<Walked, AllocError>
     requires { All (λ e. AreWithin assumed.old.variables e.1) live.now }
-    ensures walked { IfOk result (λ w. EndAlike (walk_of (listed_at live.now) assumed.old.literals (map (λ h. h.1) hints.now)) (walked_as w assumed.new.literals)) }
+    ensures walked { IfOk result (λ w.
+        EndAlike (walk_of (listed_at live.now) assumed.old.literals (map (λ h. h.1) hints.now))
+        (walked_as w assumed.new.literals)) }
     ensures kept { take (length assumed.old.literals) assumed.new.literals ≡ assumed.old.literals }
     ensures variables { assumed.new.variables ≡ assumed.old.variables }
 {

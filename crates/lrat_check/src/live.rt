@@ -1,5 +1,6 @@
 // The live clauses of a certificate by id: those of the formula, and those that were added.
-ghost use Rattle.std.specs.Prelude.{◌≡◌, ◌<◌, ◌↔◌, ◌∷◌, [], ◌++◌, true, false, All, IfOk, IsTrue, IsSome, OnOk, OnErr};
+ghost use Rattle.std.specs.Prelude.{◌≡◌, ◌<◌, ◌↔◌, ◌∷◌, [], ◌++◌, true, false, All, IfOk, IsTrue};
+ghost use Rattle.std.specs.Prelude.{IsSome, OnOk, OnErr};
 ghost use Rattle.std.specs.Option.{option_copied};
 ghost use Rattle.lrat_check.specs.Counts.{times_at, take_all, AreCounts};
 ghost use Rattle.lrat_check.specs.Listed.{listed_at, without_id, ids_listed, IsRising};
@@ -25,9 +26,11 @@ use wcnf::types::{Formula, Lit};
 pub(crate) struct LiveClauses {
     given: Given,
     added: Added,
-    /// Whether the literals of the live clauses are counted, as they are from the first RAT line on.
+    /// Whether the literals of the live clauses are counted, as they are from the first RAT line
+    /// on.
     is_counted: bool,
-    /// By a literal's index, how often it stands in the live clauses, if they are counted; a literal past the end stands in none.
+    /// By a literal's index, how often it stands in the live clauses, if they are counted; a
+    /// literal past the end stands in none.
     counts: Vec<u32>,
 }
 
@@ -42,7 +45,8 @@ impl Model for LiveClauses {
 
     ghost view = { λ s. s.given ++ s.added };
 
-    ghost invariant = { λ s. IsRising (s.given ++ s.added) × (s.is_counted ≡ true → AreCounts s.counts.items (s.given ++ s.added)) };
+    ghost invariant = { λ s. IsRising (s.given ++ s.added)
+        × (s.is_counted ≡ true → AreCounts s.counts.items (s.given ++ s.added)) };
 }
 
 /// The clause under an id, of the formula or added.
@@ -78,7 +82,8 @@ fn count_all(
 
 /// Counts the literals of the clause under an id out, if there is one and they are counted.
 fn count_out(is_counted: bool, counts: &mut [u32], given: &Given, added: &Added, id: u64)
-    ensures { IsRising (given.now ++ added.now) → (is_counted ≡ true → AreCounts counts.old (given.now ++ added.now))
+    ensures { IsRising (given.now ++ added.now)
+        → (is_counted ≡ true → AreCounts counts.old (given.now ++ added.now))
         → is_counted ≡ true → AreCounts counts.new (without_id id (given.now ++ added.now)) }
 {
     if !is_counted {
@@ -91,7 +96,8 @@ fn count_out(is_counted: bool, counts: &mut [u32], given: &Given, added: &Added,
 }
 
 impl LiveClauses {
-    /// The clauses of the formula under the ids from 1. An AllocError comes where memory was refused.
+    /// The clauses of the formula under the ids from 1. An AllocError comes where memory was
+    /// refused.
     pub(crate) fn new(formula: Formula) -> Result<Self, AllocError>
         ensures { IfOk result (λ live. live ≡ listed_from 1 formula.clauses) }
     {
@@ -104,7 +110,9 @@ impl LiveClauses {
         })
     }
 
-    /// Adds a clause under an id above all others. An AllocError comes where memory was refused, or where there would be more than 2^32 - 2 added clauses or literals, dead ones too; the clauses then stay as they are.
+    /// Adds a clause under an id above all others. An AllocError comes where memory was refused, or
+    /// where there would be more than 2^32 - 2 added clauses or literals, dead ones too; the
+    /// clauses then stay as they are.
     pub(crate) fn add(&mut self, id: u64, lits: &[Lit]) -> Result<(), AllocError>
         requires rising { All (λ e. e.0 < id) self.old }
         ensures ok { OnOk result (self.new ≡ self.old ++ (id, lits.now) ∷ []) }
@@ -141,8 +149,8 @@ impl LiveClauses {
         self.added.delete(id)
     }
 
-    /// Whether these ids are those of the clauses with the literal, in rising order. An AllocError comes where memory was refused, or
-    /// where a literal stands in the clauses 2^32 times.
+    /// Whether these ids are those of the clauses with the literal, in rising order. An AllocError
+    /// comes where memory was refused, or where a literal stands in the clauses 2^32 times.
     pub(crate) fn are_all_with(&mut self, lit: Lit, ids: &[u64]) -> Result<bool, AllocError>
         requires { All (λ e. 0 < e.0) self.old }
         ensures all { IfOk result (λ all. all ≡ same_ids ids.now (ids_listed lit self.old)) }
@@ -154,7 +162,8 @@ impl LiveClauses {
         Ok(self.take_all(lit, total, ids))
     }
 
-    /// Whether the ids rise and their clauses have the literal so often together, each at least once.
+    /// Whether the ids rise and their clauses have the literal so often together, each at least
+    /// once.
     fn take_all(&self, lit: Lit, total: usize, ids: &[u64]) -> bool
         ensures { result ≡ take_all (times_at lit self.now) total 0 ids.now }
     {

@@ -1,5 +1,6 @@
 // The checker between lines: what is live, and whether the empty clause was added.
-ghost use Rattle.std.specs.Prelude.{◌≡◌, ℕ, ◌+◌, ◌<◌, ◌^◌, List, [], ◌∷◌, ◌++◌, map, length, false, nat_eq, IfOk, OnErr, IsSome, MatchOption, Some, None};
+ghost use Rattle.std.specs.Prelude.{◌≡◌, ℕ, ◌+◌, ◌<◌, ◌^◌, List, [], ◌∷◌, ◌++◌, map, length, false};
+ghost use Rattle.std.specs.Prelude.{nat_eq, IfOk, OnErr, IsSome, MatchOption, Some, None};
 ghost use Rattle.wcnf.specs.Formula.{IsFormula};
 ghost use Rattle.wcnf.specs.Text.{tokens_of};
 ghost use Rattle.lrat_check.specs.Machine.{MachineState, StepsTo, verdict_after, listed_from};
@@ -49,15 +50,25 @@ impl Model for Machine {
 
     ghost Value = { MachineState };
 
-    ghost view = { λ m. record { clauses = m.base.live; last = m.base.last; ended = m.base.ended; lines = m.lines } };
+    ghost view = { λ m. record {
+      clauses = m.base.live;
+      last = m.base.last;
+      ended = m.base.ended;
+      lines = m.lines;
+    } };
 
     ghost invariant = { λ m. IsBase m.scratch.assumed.variables m.base.last m.base.live };
 }
 
 // Deletes the clauses of these ids in turn, up to one that is not live.
 fn delete_all(live: &mut LiveClauses, hints: &[SignedId]) -> Option<Cause>
-    ensures deleted { (last : ℕ) → MatchOption result (deleted (live_of last live.old) (map (λ h. h.1) hints.now) ≡ Some (live_of last live.new)) (λ cause. (cause ≡ Cause.DeadId) × (deleted (live_of last live.old) (map (λ h. h.1) hints.now) ≡ None)) }
-    ensures base { (variables : ℕ) (last : ℕ) → IsBase variables last live.old → IsBase variables last live.new }
+    ensures deleted { (last : ℕ) → MatchOption result
+        (deleted (live_of last live.old) (map (λ h. h.1) hints.now)
+        ≡ Some (live_of last live.new))
+        (λ cause. (cause ≡ Cause.DeadId)
+        × (deleted (live_of last live.old) (map (λ h. h.1) hints.now) ≡ None)) }
+    ensures base { (variables : ℕ) (last : ℕ) → IsBase variables last live.old
+        → IsBase variables last live.new }
 {
     for hint in hints {
         if !live.delete(hint.id()) {
@@ -75,7 +86,9 @@ fn add(
 ) -> Result<Option<Cause>, AllocError>
     requires { IsBase scratch.old.assumed.variables base.old.last base.old.live }
     ensures fault { IfOk result (λ f. IsFaultOf (live_of base.old.last base.old.live) line.now f) }
-    ensures added { IfOk result (λ f. f ≡ None → Adds base.old.live base.old.last line.now base.new.live base.new.last base.new.ended) }
+    ensures added { IfOk result (λ f. f ≡ None
+        → Adds base.old.live base.old.last line.now base.new.live base.new.last
+        base.new.ended) }
     ensures base { IsBase scratch.new.assumed.variables base.new.last base.new.live }
     ensures err { OnErr result (base.new ≡ base.old) }
 {
@@ -102,7 +115,15 @@ fn judge(
     scratch: &mut Scratch,
 ) -> Result<Option<Cause>, AllocError>
     requires { IsBase scratch.old.assumed.variables base.old.last base.old.live }
-    ensures steps { IfOk result (λ f. (ts : List (List ℕ)) (n : ℕ) → IsReadAs ts form line.now → StepsTo (record { clauses = base.old.live; last = base.old.last; ended = base.old.ended; lines = n }) ts f (record { clauses = base.new.live; last = base.new.last; ended = base.new.ended; lines = n + 1 })) }
+    ensures steps { IfOk result (λ f. (ts : List (List ℕ)) (n : ℕ) → IsReadAs ts form line.now
+        → StepsTo (record
+        { clauses = base.old.live; last = base.old.last; ended = base.old.ended; lines = n }) ts
+        f (record {
+          clauses = base.new.live;
+          last = base.new.last;
+          ended = base.new.ended;
+          lines = n + 1;
+        })) }
     ensures base { IsBase scratch.new.assumed.variables base.new.last base.new.live }
     ensures err { OnErr result (base.new ≡ base.old) }
 {
@@ -116,10 +137,16 @@ fn judge(
 }
 
 impl Machine {
-    /// The checker before the first line: the formula's clauses are live under the ids from 1, in the formula's own memory.
-    /// An AllocError comes where memory was refused.
+    /// The checker before the first line: the formula's clauses are live under the ids from 1, in
+    /// the formula's own memory. An AllocError comes where memory was refused.
     pub fn new(formula: Formula) -> Result<Self, AllocError>
-        ensures state { IfOk result (λ m. m ≡ record { clauses = listed_from 1 formula.clauses; last = length formula.clauses; ended = false; lines = 0 }) }
+        ensures state { IfOk result (λ m. m
+            ≡ record {
+              clauses = listed_from 1 formula.clauses;
+              last = length formula.clauses;
+              ended = false;
+              lines = 0;
+            }) }
         ensures limits { IsFormula formula }
     {
         let alloc = formula.allocator();

@@ -1,5 +1,6 @@
 //! A certificate in pieces.
-ghost use Rattle.std.specs.Prelude.{◌≡◌, ℕ, ◌+◌, ◌<◌, ◌^◌, true, false, List, [], ◌++◌, length, None, Err, IfOk, OnOk, IfSome, IsErr, IsOk, IsSome, ◌↔◌};
+ghost use Rattle.std.specs.Prelude.{◌≡◌, ℕ, ◌+◌, ◌<◌, ◌^◌, true, false, List, [], ◌++◌, length};
+ghost use Rattle.std.specs.Prelude.{None, Err, IfOk, OnOk, IfSome, IsErr, IsOk, IsSome, ◌↔◌};
 ghost use Rattle.wcnf.specs.Literal.{Literal};
 ghost use Rattle.lrat_check.specs.Pieces.{Stands};
 ghost use Rattle.lrat_check.specs.Verdict.{proof_verdict};
@@ -12,8 +13,9 @@ use std::alloc::AllocError;
 use std::marker::Model;
 use wcnf::types::Formula;
 
-/// Judges an LRAT certificate while it comes in, in pieces of any size (Cruz-Filipe et al. 2017). A line is judged once its line
-/// feed is there; what follows the last line feed is all of the text that is kept.
+/// Judges an LRAT certificate while it comes in, in pieces of any size (Cruz-Filipe et al. 2017). A
+/// line is judged once its line feed is there; what follows the last line feed is all of the text
+/// that is kept.
 #[derive(Drop)]
 pub struct Checker {
     reading: Reading,
@@ -29,7 +31,8 @@ impl Model for Checker {
 
     ghost view = { λ c. record { reading = c.reading; fed = c.fed; failed = c.failed } };
 
-    ghost invariant = { λ c. (((c.reading).machine).lines + length ((c.reading).rest).items ≤ c.fed) × (c.failed ≡ true → (c.reading).refused ≡ None) };
+    ghost invariant = { λ c. (((c.reading).machine).lines + length ((c.reading).rest).items ≤ c.fed)
+        × (c.failed ≡ true → (c.reading).refused ≡ None) };
 }
 
 impl Checker {
@@ -76,11 +79,13 @@ impl Checker {
     /// `Memory` where memory was refused, and `Failed` after that.
     pub fn feed(&mut self, piece: &[u8]) -> Result<(), FeedFault>
         requires { self.old.fed + length piece.now < 2 ^ 64 }
-        ensures stands { OnOk result ((formula : List (List Literal)) (bytes : List ℕ) → Stands self.old formula bytes → Stands self.new formula (bytes ++ piece.now)) }
+        ensures stands { OnOk result ((formula : List (List Literal)) (bytes : List ℕ)
+            → Stands self.old formula bytes → Stands self.new formula (bytes ++ piece.now)) }
         ensures fed { self.new.fed ≡ self.old.fed + length piece.now }
         ensures failed { (result ≡ Err FeedFault.Failed) ↔ (self.old.failed ≡ true) }
         ensures fails { IsErr result ↔ (self.new.failed ≡ true) }
-        ensures after_no { IsSome (self.old.reading).refused → IsOk result × ((self.new.reading).refused ≡ (self.old.reading).refused) }
+        ensures after_no { IsSome (self.old.reading).refused
+            → IsOk result × ((self.new.reading).refused ≡ (self.old.reading).refused) }
     {
         self.fed += piece.len() as u64;
         if self.failed {
@@ -99,10 +104,13 @@ impl Checker {
         }
     }
 
-    /// The fault of the first faulty line that a line feed has ended, where there is one. It is the verdict whatever comes.
+    /// The fault of the first faulty line that a line feed has ended, where there is one. It is the
+    /// verdict whatever comes.
     pub fn refused(&self) -> Option<Verdict>
         ensures refused { result ≡ (self.now.reading).refused }
-        ensures stays { IfSome result (λ v. (formula : List (List Literal)) (bytes more : List ℕ) → Stands self.now formula bytes → v ≡ proof_verdict formula (bytes ++ more)) }
+        ensures stays { IfSome result
+            (λ v. (formula : List (List Literal)) (bytes more : List ℕ)
+            → Stands self.now formula bytes → v ≡ proof_verdict formula (bytes ++ more)) }
     {
         self.reading.refused
     }
@@ -113,7 +121,8 @@ impl Checker {
     ///
     /// `Memory` where memory was refused, and `Failed` where `feed` answered that before.
     pub fn finish(self) -> Result<Verdict, FeedFault>
-        ensures verdict { IfOk result (λ v. (formula : List (List Literal)) (bytes : List ℕ) → Stands self formula bytes → v ≡ proof_verdict formula bytes) }
+        ensures verdict { IfOk result (λ v. (formula : List (List Literal)) (bytes : List ℕ)
+            → Stands self formula bytes → v ≡ proof_verdict formula bytes) }
         ensures failed { (result ≡ Err FeedFault.Failed) ↔ (self.failed ≡ true) }
     {
         if self.failed {

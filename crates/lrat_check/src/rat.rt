@@ -1,12 +1,14 @@
 // RAT: the clauses with the negated pivot, which a line has to name all, and the hints of each.
-ghost use Rattle.std.specs.Prelude.{◌≡◌, ℕ, ◌++◌, Some, IfOk, OnOk, length, take, map, All, if◌then◌else◌};
+ghost use Rattle.std.specs.Prelude.{◌≡◌, ℕ, ◌++◌, Some, IfOk, OnOk, length, take, map, All};
+ghost use Rattle.std.specs.Prelude.{if◌then◌else◌};
 ghost use Rattle.std.specs.List.{list_any};
 ghost use Rattle.wcnf.specs.Literal.{negation};
 ghost use Rattle.wcnf.specs.Clause.{contains_literal, without_literal};
 ghost use Rattle.lrat_check.specs.Assumed.{AreWithin};
 ghost use Rattle.lrat_check.specs.Listed.{listed_at};
 ghost use Rattle.lrat_check.specs.Steps.{IsBase, HaveSame};
-ghost use Rattle.lrat_check.specs.Verdict.{ids_with, same_ids, group_fault as group_fault_of, groups_fault as groups_fault_of};
+ghost use Rattle.lrat_check.specs.Verdict.{ids_with, same_ids, group_fault as group_fault_of};
+ghost use Rattle.lrat_check.specs.Verdict.{groups_fault as groups_fault_of};
 ghost use Rattle.lrat_read.specs.Form.{groups_of};
 
 use crate::assumed::Assumed;
@@ -33,7 +35,8 @@ fn candidates_of(hints: &[SignedId], ids: &mut Vec<u64>) -> Result<(), AllocErro
 /// Whether a literal other than the left out one is true.
 fn has_true(clause: &[Lit], left_out: Lit, assumed: &Assumed) -> bool
     requires { AreWithin assumed.now.variables clause.now }
-    ensures { result ≡ list_any (λ k. contains_literal k assumed.now.literals) (without_literal left_out clause.now) }
+    ensures { result ≡ list_any (λ k. contains_literal k assumed.now.literals)
+        (without_literal left_out clause.now) }
 {
     for lit in clause {
         if *lit != left_out && assumed.is_true(*lit) {
@@ -46,7 +49,9 @@ fn has_true(clause: &[Lit], left_out: Lit, assumed: &Assumed) -> bool
 /// Assumes the negations of all literals but the left out one.
 fn assume_others(clause: &[Lit], left_out: Lit, assumed: &mut Assumed) -> Result<(), AllocError>
     requires { AreWithin assumed.old.variables clause.now }
-    ensures same { IfOk result (λ _. HaveSame (map negation (without_literal left_out clause.now) ++ assumed.old.literals) assumed.new.literals) }
+    ensures same { IfOk result (λ _.
+        HaveSame (map negation (without_literal left_out clause.now) ++ assumed.old.literals)
+        assumed.new.literals) }
     ensures kept { take (length assumed.old.literals) assumed.new.literals ≡ assumed.old.literals }
     ensures variables { assumed.new.variables ≡ assumed.old.variables }
 {
@@ -67,7 +72,9 @@ fn group_fault(
     assumed: &mut Assumed,
 ) -> Result<Option<Cause>, AllocError>
     requires { All (λ e. AreWithin assumed.old.variables e.1) live.now }
-    ensures fault { IfOk result (λ f. f ≡ group_fault_of (listed_at live.now) pivot assumed.old.literals (record { candidate = candidate; hints = map (λ h. h.1) hints.now })) }
+    ensures fault { IfOk result (λ f. f
+        ≡ group_fault_of (listed_at live.now) pivot assumed.old.literals
+        (record { candidate = candidate; hints = map (λ h. h.1) hints.now })) }
     ensures same { OnOk result (assumed.new ≡ assumed.old) }
     ensures variables { assumed.new.variables ≡ assumed.old.variables }
 {
@@ -93,7 +100,9 @@ fn groups_fault(
     assumed: &mut Assumed,
 ) -> Result<Option<Cause>, AllocError>
     requires { All (λ e. AreWithin assumed.old.variables e.1) live.now }
-    ensures fault { IfOk result (λ f. f ≡ groups_fault_of (listed_at live.now) pivot assumed.old.literals (groups_of hints.now)) }
+    ensures fault { IfOk result (λ f. f
+        ≡ groups_fault_of (listed_at live.now) pivot assumed.old.literals
+        (groups_of hints.now)) }
     ensures variables { assumed.new.variables ≡ assumed.old.variables }
 {
     for (i, hint) in hints.iter().enumerate() {
@@ -108,7 +117,8 @@ fn groups_fault(
     Ok(None)
 }
 
-/// The first fault of a line whose clause was not refuted, if any. The clause begins with the pivot.
+/// The first fault of a line whose clause was not refuted, if any. The clause begins with the
+/// pivot.
 pub(crate) fn rat_fault(
     pivot: Lit,
     hints: &[SignedId],
@@ -118,7 +128,11 @@ pub(crate) fn rat_fault(
     candidates: &mut Vec<u64>,
 ) -> Result<Option<Cause>, AllocError>
     requires base { IsBase assumed.old.variables last live.old }
-    ensures fault { IfOk result (λ f. f ≡ (if same_ids (map (λ g. g.candidate) (groups_of hints.now)) (ids_with (listed_at live.old) (negation pivot) last) then groups_fault_of (listed_at live.old) pivot assumed.old.literals (groups_of hints.now) else Some Cause.Candidates)) }
+    ensures fault { IfOk result (λ f. f
+        ≡ (if same_ids (map (λ g. g.candidate) (groups_of hints.now))
+        (ids_with (listed_at live.old) (negation pivot) last) then groups_fault_of
+        (listed_at live.old) pivot assumed.old.literals (groups_of hints.now)
+        else Some Cause.Candidates)) }
     ensures live { live.new ≡ live.old }
     ensures variables { assumed.new.variables ≡ assumed.old.variables }
 {

@@ -1,6 +1,8 @@
-// A certificate that comes in pieces, which may end anywhere: also within a token, or between a carriage return and its line feed.
-// Each line is judged once its line feed is there, and only what follows the last line feed is kept.
-ghost use Rattle.std.specs.Prelude.{◌≡◌, ℕ, ◌+◌, ◌<◌, ◌≤◌, ◌^◌, ◌∷◌, ◌++◌, [], List, length, None, IfOk, OnOk, OnErr};
+// A certificate that comes in pieces, which may end anywhere: also within a token, or between a
+// carriage return and its line feed. Each line is judged once its line feed is there, and only what
+// follows the last line feed is kept.
+ghost use Rattle.std.specs.Prelude.{◌≡◌, ℕ, ◌+◌, ◌<◌, ◌≤◌, ◌^◌, ◌∷◌, ◌++◌, [], List, length, None};
+ghost use Rattle.std.specs.Prelude.{IfOk, OnOk, OnErr};
 ghost use Rattle.wcnf.specs.Literal.{Literal};
 ghost use Rattle.wcnf.specs.Text.{IsNoFeed};
 ghost use Rattle.lrat_check.specs.Pieces.{Holds, Judges};
@@ -39,8 +41,11 @@ impl Reading {
     /// Reads the piece, up to the first fault.
     pub fn take(&mut self, piece: &[u8]) -> Result<(), AllocError>
         requires { self.old.machine.lines + length self.old.rest.items + length piece.now < 2 ^ 64 }
-        ensures holds { OnOk result ((formula : List (List Literal)) (bytes : List ℕ) → Holds self.old formula bytes → Holds self.new formula (bytes ++ piece.now)) }
-        ensures lines { self.new.machine.lines + length self.new.rest.items ≤ self.old.machine.lines + length self.old.rest.items + length piece.now }
+        ensures holds { OnOk result ((formula : List (List Literal)) (bytes : List ℕ)
+            → Holds self.old formula bytes → Holds self.new formula (bytes ++ piece.now)) }
+        ensures lines { self.new.machine.lines + length self.new.rest.items ≤ self.old.machine.lines
+            + length
+            self.old.rest.items + length piece.now }
     {
         let mut left = piece;
         while self.refused.is_none() {
@@ -63,8 +68,12 @@ impl Reading {
         requires room { self.old.machine.lines + 1 < 2 ^ 64 }
         requires open { self.old.refused ≡ None }
         requires no_feed { IsNoFeed end.now }
-        ensures holds { OnOk result ((formula : List (List Literal)) (bytes : List ℕ) → Holds self.old formula bytes → Holds self.new formula (bytes ++ end.now ++ 10 ∷ [])) }
-        ensures lines { self.new.machine.lines + length self.new.rest.items ≤ self.old.machine.lines + length self.old.rest.items + length end.now + 1 }
+        ensures holds { OnOk result ((formula : List (List Literal)) (bytes : List ℕ)
+            → Holds self.old formula bytes
+            → Holds self.new formula (bytes ++ end.now ++ 10 ∷ [])) }
+        ensures lines { self.new.machine.lines + length self.new.rest.items ≤ self.old.machine.lines
+            + length
+            self.old.rest.items + length end.now + 1 }
     {
         if self.rest.as_slice().is_empty() {
             self.refused = judge(&mut self.machine, without_return(end))?;
@@ -79,7 +88,8 @@ impl Reading {
     /// The verdict, where nothing follows.
     pub fn end(mut self) -> Result<Verdict, AllocError>
         requires { self.machine.lines + length self.rest.items < 2 ^ 64 }
-        ensures { IfOk result (λ v. (formula : List (List Literal)) (bytes : List ℕ) → Holds self formula bytes → v ≡ proof_verdict formula bytes) }
+        ensures { IfOk result (λ v. (formula : List (List Literal)) (bytes : List ℕ)
+            → Holds self formula bytes → v ≡ proof_verdict formula bytes) }
     {
         match self.refused {
             Some(refused) => Ok(refused),

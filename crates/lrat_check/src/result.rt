@@ -1,18 +1,19 @@
-//! What a result text says, read line by line: `o` lines with falling costs, one `s` line, and where that has a solution one `v` line.
+//! What a result text says, read line by line: `o` lines with falling costs, one `s` line, and
+//! where that has a solution one `v` line.
 ghost use Rattle.std.specs.Prelude.{◌≡◌, ℕ, List, ◌<◌, ◌^◌, IfOk, IfErr, IfSome, false, [], ◌∷◌};
 ghost use Rattle.std.specs.Option.{option_map};
 ghost use Rattle.wcnf.specs.Text.{tokens_of};
-ghost use Rattle.lrat_check.specs.Result.{same_bytes, bits_on, cost_of, status_of, bits_of, is_ignored};
+ghost use Rattle.lrat_check.specs.Result.{same_bytes, bits_on, cost_of, status_of, bits_of};
+ghost use Rattle.lrat_check.specs.Result.{is_ignored};
 ghost use Rattle.lrat_check.specs.Words.{HasWords};
-ghost use Rattle.lrat_check.specs.Answer.{IsNextStage, IsReadAnswer, falls_below, reported, found_report};
+ghost use Rattle.lrat_check.specs.Answer.{IsNextStage, IsReadAnswer, falls_below, reported};
+ghost use Rattle.lrat_check.specs.Answer.{found_report};
 
 use crate::answer::{Answer, AnswerFault, Claim, Cost, Found, Solution, Stage, Status};
 use crate::words::{Words, words_of};
 use std::alloc::{AllocError, Global};
+use wcnf::limits::NUMBER_LIMIT;
 use wcnf::text::{lines, number};
-
-// The weights of an instance sum to less than 2^62, so no cost reaches it.
-const COST_LIMIT: u64 = 4_611_686_018_427_387_904;
 
 /// What the result text says, or its first line that cannot stand there.
 pub(crate) fn read_answer(alloc: Global, text: &[u8]) -> Result<Answer, AnswerFault>
@@ -45,7 +46,8 @@ fn stage_after(alloc: Global, stage: Stage, number: u64, line: &[u8]) -> Result<
 
 // After the costs so far, on a line that is not ignored: a cost or the status.
 fn after_costs(last: Option<Cost>, line: u64, words: Words<'_>) -> Result<Stage, AnswerFault>
-    ensures next { (ts : List (List ℕ)) → HasWords ts words.entry → is_ignored ts ≡ false → IsNextStage (Stage.Costs last) line ts result }
+    ensures next { (ts : List (List ℕ)) → HasWords ts words.entry → is_ignored ts ≡ false
+        → IsNextStage (Stage.Costs last) line ts result }
     ensures form { IfErr result (λ f. f ≡ AnswerFault.Form line) }
 {
     if let Some(cost) = cost_in(words) {
@@ -85,7 +87,8 @@ fn after_status(
     line: u64,
     words: Words<'_>,
 ) -> Result<Stage, AnswerFault>
-    ensures { (ts : List (List ℕ)) → HasWords ts words.entry → is_ignored ts ≡ false → IsNextStage (Stage.Bits found) line ts result }
+    ensures { (ts : List (List ℕ)) → HasWords ts words.entry → is_ignored ts ≡ false
+        → IsNextStage (Stage.Bits found) line ts result }
 {
     match bits_in(alloc, words) {
         Err(_) => Err(AnswerFault::Memory),
@@ -146,7 +149,7 @@ fn cost_in(words: Words<'_>) -> Option<u64>
 {
     match words {
         Words::Two(first, digits) if is(first, b"o") => {
-            number(digits).filter(|cost| *cost < COST_LIMIT)
+            number(digits).filter(|cost| *cost < NUMBER_LIMIT)
         }
         _ => None,
     }
@@ -178,7 +181,8 @@ fn status_in(words: Words<'_>) -> Option<Status>
 
 // The bits that a `v` line gives.
 fn bits_in(alloc: Global, words: Words<'_>) -> Result<Option<Vec<bool>>, AllocError>
-    ensures { (ts : List (List ℕ)) → HasWords ts words.entry → IfOk result (λ bits. option_map (λ v. v.items) bits ≡ bits_of ts) }
+    ensures { (ts : List (List ℕ)) → HasWords ts words.entry
+        → IfOk result (λ bits. option_map (λ v. v.items) bits ≡ bits_of ts) }
 {
     match words {
         Words::One(first) if is(first, b"v") => Ok(Some(Vec::new(alloc))),

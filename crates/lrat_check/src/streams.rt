@@ -1,5 +1,6 @@
 // A certificate that a reader gives.
-ghost use Rattle.std.specs.Prelude.{◌≡◌, ℕ, ◌+◌, ◌<◌, ◌^◌, [], ◌++◌, List, length, IfOk, IfErr, IfSome, OnOk};
+ghost use Rattle.std.specs.Prelude.{◌≡◌, ℕ, ◌+◌, ◌<◌, ◌^◌, [], ◌++◌, List, length, IfOk, IfErr};
+ghost use Rattle.std.specs.Prelude.{IfSome, OnOk};
 ghost use Rattle.wcnf.specs.Literal.{Literal};
 ghost use Rattle.wcnf.specs.Formula.{IsUnsatisfiable};
 ghost use Rattle.lrat_check.specs.Pieces.{Stands, IsJudged};
@@ -12,7 +13,8 @@ use wcnf::types::Formula;
 
 /// As `check_owned`, with the certificate from a reader.
 pub(crate) fn check_stream<R: Read>(formula: Formula, proof: &mut R) -> Result<Verdict, CheckFault>
-    ensures verdict { IfOk result (λ v. IfSome (R.remaining proof.old) (λ bytes. v ≡ proof_verdict formula.clauses bytes)) }
+    ensures verdict { IfOk result (λ v.
+        IfSome (R.remaining proof.old) (λ bytes. v ≡ proof_verdict formula.clauses bytes)) }
     ensures sound { IfOk result (λ v. v ≡ Verdict.Yes → IsUnsatisfiable formula.clauses) }
 {
     // the clauses are those of a formula
@@ -23,10 +25,11 @@ pub(crate) fn check_stream<R: Read>(formula: Formula, proof: &mut R) -> Result<V
     judge_stream(checker, proof)
 }
 
-/// The verdict on the bytes of the reader, which is read up to the first faulty line. A certificate of 2^64 bytes or more counts as a
-/// failed read.
+/// The verdict on the bytes of the reader, which is read up to the first faulty line. A certificate
+/// of 2^64 bytes or more counts as a failed read.
 fn judge_stream<R: Read>(checker: Checker, proof: &mut R) -> Result<Verdict, CheckFault>
-    ensures { IfOk result (λ v. (formula : List (List Literal)) → Stands checker formula [] → IsJudged (R.remaining proof.old) formula v) }
+    ensures { IfOk result (λ v. (formula : List (List Literal)) → Stands checker formula []
+        → IsJudged (R.remaining proof.old) formula v) }
 {
     let mut checker = checker;
     let mut chunk = [0u8; 65536];
@@ -49,7 +52,8 @@ fn judge_stream<R: Read>(checker: Checker, proof: &mut R) -> Result<Verdict, Che
 /// Hands the piece to the checker.
 fn hand_on(checker: &mut Checker, piece: &[u8]) -> Result<(), CheckFault>
     requires { checker.old.fed + length piece.now < 2 ^ 64 }
-    ensures stands { OnOk result ((formula : List (List Literal)) (bytes : List ℕ) → Stands checker.old formula bytes → Stands checker.new formula (bytes ++ piece.now)) }
+    ensures stands { OnOk result ((formula : List (List Literal)) (bytes : List ℕ)
+        → Stands checker.old formula bytes → Stands checker.new formula (bytes ++ piece.now)) }
     ensures fed { checker.new.fed ≡ checker.old.fed + length piece.now }
 {
     match checker.feed(piece) {
@@ -60,7 +64,8 @@ fn hand_on(checker: &mut Checker, piece: &[u8]) -> Result<(), CheckFault>
 
 /// The verdict, where nothing follows.
 fn ended(checker: Checker) -> Result<Verdict, CheckFault>
-    ensures verdict { IfOk result (λ v. (formula : List (List Literal)) (bytes : List ℕ) → Stands checker formula bytes → v ≡ proof_verdict formula bytes) }
+    ensures verdict { IfOk result (λ v. (formula : List (List Literal)) (bytes : List ℕ)
+        → Stands checker formula bytes → v ≡ proof_verdict formula bytes) }
     ensures fault { IfErr result (λ fault. fault ≡ CheckFault.Memory) }
 {
     match checker.finish() {

@@ -1,6 +1,7 @@
 // What the checker answers.
 
-/// Why something is refused: of the instance's text, of the result, or of a line of the certificate.
+/// Why something is refused: of the instance's text, of the result, or of a line of the
+/// certificate.
 #[derive(Clone, Copy, Debug, PartialEq, Eq, Drop)]
 pub enum Cause {
     /// The instance's text can't be read.
@@ -37,7 +38,8 @@ pub enum Cause {
     ClauseForm,
 }
 
-/// The certificate holds, or the first fault and its line: from 1, or 0 where the text ends too soon.
+/// The certificate holds, or the first fault and its line: from 1, or 0 where the text ends too
+/// soon.
 #[derive(Clone, Copy, Debug, PartialEq, Eq, Drop)]
 pub enum Verdict {
     Yes,

@@ -1,5 +1,6 @@
 -- What the blocks of a line are read as.
-use Rattle.std.specs.Prelude.{◌≡◌, ℕ, ◌≤◌, Bool, false, true, List, [], map, length, drop, Option, Some, None}
+use Rattle.std.specs.Prelude.{◌≡◌, ℕ, ◌≤◌, Bool, false, true, List, [], map, length, drop, Option}
+use Rattle.std.specs.Prelude.{Some, None}
 use Rattle.wcnf.specs.Literal.{Literal}
 use Rattle.wcnf.specs.Text.{tokens_of}
 use Rattle.lrat_read.specs.Form.{block_of}
@@ -13,15 +14,21 @@ literal_from x = record { variable = x.1; negated = x.0 }
 abbrev pub IsLitsRead : List ℕ → ℕ → List Literal → Option LitsEnd → Type 0
 IsLitsRead line at lits None = block_of (tokens_of (drop at line)) ≡ None
 IsLitsRead line at lits (Some e) =
-    (xs : List (Bool × ℕ)) × (block_of (tokens_of (drop at line)) ≡ Some (xs, tokens_of (drop e.end line))) × (e.end ≤ length line)
-    × (is_large_clause (map literal_from xs) ≡ e.is_large) × (e.is_large ≡ false → map literal_from xs ≡ lits)
+    (xs : List (Bool × ℕ))
+    × (block_of (tokens_of (drop at line)) ≡ Some (xs, tokens_of (drop e.end line)))
+    × (e.end ≤ length line)
+    × (is_large_clause (map literal_from xs) ≡ e.is_large)
+    × (e.is_large ≡ false → map literal_from xs ≡ lits)
 
 -- the block that begins at a place, as hints
 abbrev pub IsHintsRead : List ℕ → ℕ → List (Bool × ℕ) → Option ℕ → Type 0
 IsHintsRead line at hints None = block_of (tokens_of (drop at line)) ≡ None
-IsHintsRead line at hints (Some e) = (block_of (tokens_of (drop at line)) ≡ Some (hints, tokens_of (drop e line))) × (e ≤ length line)
+IsHintsRead line at hints (Some e) =
+    (block_of (tokens_of (drop at line)) ≡ Some (hints, tokens_of (drop e line)))
+    × (e ≤ length line)
 
 -- the last block of a line, as hints: whether it is one, with nothing after it
 abbrev pub IsLastRead : List ℕ → ℕ → List (Bool × ℕ) → Bool → Type 0
 IsLastRead line at hints true = block_of (tokens_of (drop at line)) ≡ Some (hints, [])
-IsLastRead line at hints false = (xs : List (Bool × ℕ)) → block_of (tokens_of (drop at line)) ≡ Some (xs, []) → ⊥
+IsLastRead line at hints false =
+    (xs : List (Bool × ℕ)) → block_of (tokens_of (drop at line)) ≡ Some (xs, []) → ⊥

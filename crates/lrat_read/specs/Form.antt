@@ -1,5 +1,7 @@
--- The form of a certificate's line: signed numbers, blocks of them that 0 ends, additions and deletions.
-use Rattle.std.specs.Prelude.{ℕ, zero, suc, Bool, true, false, List, [], ◌∷◌, map, Option, Some, None, nat_lt, ◌==◌, if◌then◌else◌}
+-- The form of a certificate's line: signed numbers, blocks of them that 0 ends, additions and
+-- deletions.
+use Rattle.std.specs.Prelude.{ℕ, zero, suc, Bool, true, false, List, [], ◌∷◌, map, Option, Some}
+use Rattle.std.specs.Prelude.{None, nat_lt, ◌==◌, if◌then◌else◌}
 use Rattle.std.specs.List.{list_any}
 use Rattle.wcnf.specs.Literal.{Literal}
 use Rattle.wcnf.specs.Text.{number_of}
@@ -8,7 +10,8 @@ use Rattle.wcnf.specs.Lrat.{CandidateHints}
 -- with its dash, where it has one
 abbrev pub signed_of : List ℕ → Option (Bool × ℕ)
 signed_of [] = None
-signed_of (b ∷ bs) = if b == 45 then tagged true (number_of bs) else tagged false (number_of (b ∷ bs))
+signed_of (b ∷ bs) =
+    if b == 45 then tagged true (number_of bs) else tagged false (number_of (b ∷ bs))
   where
     tagged : Bool → Option ℕ → Option (Bool × ℕ)
     tagged s None = None
@@ -19,11 +22,13 @@ abbrev pub block_of : List (List ℕ) → Option (List (Bool × ℕ) × List (Li
 block_of [] = None
 block_of (t ∷ ts) = on (signed_of t) ts (block_of ts)
   where
-    onto : Bool × ℕ → Option (List (Bool × ℕ) × List (List ℕ)) → Option (List (Bool × ℕ) × List (List ℕ))
+    onto : Bool × ℕ → Option (List (Bool × ℕ) × List (List ℕ))
+        → Option (List (Bool × ℕ) × List (List ℕ))
     onto x None = None
     onto x (Some (xs, rest)) = Some (x ∷ xs, rest)
 
-    on : Option (Bool × ℕ) → List (List ℕ) → Option (List (Bool × ℕ) × List (List ℕ)) → Option (List (Bool × ℕ) × List (List ℕ))
+    on : Option (Bool × ℕ) → List (List ℕ) → Option (List (Bool × ℕ) × List (List ℕ))
+        → Option (List (Bool × ℕ) × List (List ℕ))
     on None ts more = None
     on (Some (false, zero)) ts more = Some ([], ts)
     on (Some (true, zero)) ts more = None
@@ -60,7 +65,8 @@ line_of (t ∷ ts) = led (signed_of t) ts
 
     after_lead : ℕ → List (List ℕ) → Parsed
     after_lead id [] = Malformed
-    after_lead id (u ∷ us) = if is_d u then deletion (ends (block_of us)) else addition id (block_of (u ∷ us))
+    after_lead id (u ∷ us) =
+        if is_d u then deletion (ends (block_of us)) else addition id (block_of (u ∷ us))
       where
         is_d : List ℕ → Bool
         is_d (b ∷ []) = b == 100

@@ -1,5 +1,6 @@
 -- What stands in a line from a place on: a run of digits, a number, or a lone letter d.
-use Rattle.std.specs.Prelude.{◌≡◌, ℕ, ◌+◌, ◌<◌, ◌≤◌, ◌^◌, true, false, List, [], ◌∷◌, length, drop, slice_index, slice_range, Option, Some, None}
+use Rattle.std.specs.Prelude.{◌≡◌, ℕ, ◌+◌, ◌<◌, ◌≤◌, ◌^◌, true, false, List, [], ◌∷◌, length, drop}
+use Rattle.std.specs.Prelude.{slice_index, slice_range, Option, Some, None}
 use Rattle.std.specs.List.{list_all}
 use Rattle.wcnf.specs.Text.{tokens_of, begins_with_token, is_digit, value_on}
 use Rattle.lrat_read.specs.Form.{signed_of}
@@ -32,11 +33,14 @@ pub record IsSpaced (line : List ℕ) (start : ℕ) (d : Digits) : Type 0 where
 
 abbrev pub IsNumberAt : List ℕ → ℕ → NumberAt → Type 0
 IsNumberAt line at End = tokens_of (drop at line) ≡ []
-IsNumberAt line at Malformed = (t : List ℕ) × (ts : List (List ℕ)) × (tokens_of (drop at line) ≡ t ∷ ts) × (signed_of t ≡ None)
+IsNumberAt line at Malformed =
+    (t : List ℕ) × (ts : List (List ℕ)) × (tokens_of (drop at line) ≡ t ∷ ts) × (signed_of t ≡ None)
 IsNumberAt line at (Number s n end) =
-    (t : List ℕ) × (tokens_of (drop at line) ≡ t ∷ tokens_of (drop end line)) × (signed_of t ≡ Some (s, n)) × (n < 2 ^ 62) × (at < end) × (end ≤ length line)
+    (t : List ℕ) × (tokens_of (drop at line) ≡ t ∷ tokens_of (drop end line))
+    × (signed_of t ≡ Some (s, n)) × (n < 2 ^ 62) × (at < end) × (end ≤ length line)
 
 -- the place after the letter d, where that is the next token
 abbrev pub IsAfterLetter : List ℕ → ℕ → Option ℕ → Type 0
 IsAfterLetter line at None = (ts : List (List ℕ)) → tokens_of (drop at line) ≡ (100 ∷ []) ∷ ts → ⊥
-IsAfterLetter line at (Some end) = (tokens_of (drop at line) ≡ (100 ∷ []) ∷ tokens_of (drop end line)) × (end ≤ length line)
+IsAfterLetter line at (Some end) =
+    (tokens_of (drop at line) ≡ (100 ∷ []) ∷ tokens_of (drop end line)) × (end ≤ length line)

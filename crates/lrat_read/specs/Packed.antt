@@ -13,5 +13,6 @@ code_of x = record { code = 2 * x.1 + (if x.0 then 1 else 0) }
 pub code_of-signed_in : (a : Inside) → code_of (signed_in a) ≡ a
 code_of-signed_in a =
     let r : a.code % 2 < 2 = omega arith in
-    let e : 2 * (a.code / 2) + (if a.code % 2 == 1 then 1 else 0) ≡ a.code = omega (arith, parity (a.code % 2) r) in
+    let e : 2 * (a.code / 2) + (if a.code % 2 == 1 then 1 else 0)
+    ≡ a.code = omega (arith, parity (a.code % 2) r) in
     ap (λ (n : ℕ). record { code = n }) e

@@ -44,7 +44,8 @@ pub fn read_lits(lits: &mut Vec<Lit>, line: &[u8], at: usize) -> Result<Option<L
     Ok(None)
 }
 
-/// Reads the block that begins at a place as hints, and says where it ends; None where it is malformed.
+/// Reads the block that begins at a place as hints, and says where it ends; None where it is
+/// malformed.
 pub fn read_hints(
     hints: &mut Vec<SignedId>,
     line: &[u8],

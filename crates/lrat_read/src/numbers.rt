@@ -10,12 +10,13 @@
 // the loop, since most numbers have two to four digits), a test for the line's end at each digit
 // (23 % more), one loop for both ways with its tests behind it (16 % more), room for the line's
 // numbers reserved once (2 % less), 0 read here too (no change).
-ghost use Rattle.std.specs.Prelude.{◌≡◌, ◌+◌, ◌<◌, ◌≤◌, ◌↔◌, length, drop, slice_index, not, false, IsTrue, IfSome};
+ghost use Rattle.std.specs.Prelude.{◌≡◌, ◌+◌, ◌<◌, ◌≤◌, ◌↔◌, length, drop, slice_index, not, false};
+ghost use Rattle.std.specs.Prelude.{IsTrue, IfSome};
 ghost use Rattle.wcnf.specs.Text.{tokens_of, is_blank, begins_with_token};
-ghost use Rattle.lrat_read.specs.Numbers.{IsDigitsAt, IsSpaced, IsNumber, IsNumberAt, IsAfterLetter};
+ghost use Rattle.lrat_read.specs.Numbers.{IsDigitsAt, IsSpaced, IsNumber, IsNumberAt};
+ghost use Rattle.lrat_read.specs.Numbers.{IsAfterLetter};
 
-/// Ids and variables are below 2^62.
-const NUMBER_LIMIT: u64 = 4611686018427387904;
+use wcnf::limits::NUMBER_LIMIT;
 
 /// Any number of so many digits fits 64 bits, and one with more is too large for an id.
 const MOST_DIGITS: usize = 19;

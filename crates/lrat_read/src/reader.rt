@@ -25,7 +25,12 @@ impl Model for LineReader {
 
     ghost Value = { LineState };
 
-    ghost view = { λ r. record { id = r.id; clause = r.lits.items; is_large = r.is_large; hints = r.hints.items } };
+    ghost view = { λ r. record {
+      id = r.id;
+      clause = r.lits.items;
+      is_large = r.is_large;
+      hints = r.hints.items;
+    } };
 
     ghost invariant = { λ r. r.id < 2 ^ 62 };
 }
@@ -70,7 +75,8 @@ impl LineReader {
     /// Reads what follows the leading number of an addition.
     fn read_addition(&mut self, line: &[u8], at: usize) -> Result<Form, AllocError>
         requires { at ≤ length line.now }
-        ensures { IfOk result (λ form. IsAdditionRead self.old.id (tokens_of (drop at line.now)) form self.new) }
+        ensures { IfOk result (λ form.
+            IsAdditionRead self.old.id (tokens_of (drop at line.now)) form self.new) }
     {
         let Some(clause) = read_lits(&mut self.lits, line, at)? else {
             return Ok(Form::Malformed);
@@ -85,7 +91,8 @@ impl LineReader {
     /// Reads what follows the letter of a deletion.
     fn read_deletion(&mut self, line: &[u8], at: usize) -> Result<Form, AllocError>
         requires { at ≤ length line.now }
-        ensures { IfOk result (λ form. IsDeletionRead (tokens_of (drop at line.now)) form self.new) }
+        ensures { IfOk result
+            (λ form. IsDeletionRead (tokens_of (drop at line.now)) form self.new) }
     {
         if !read_last(&mut self.hints, line, at)? {
             return Ok(Form::Malformed);

@@ -63,7 +63,8 @@ pub fn define_pairs<S: Sink>(
     ensures keeps { IfOk result (λ v. Keeps
         (stage_of vars store.old.slots names.old (S.lines sink.old))
         (stage_of v store.new.slots names.new (S.lines sink.new))) }
-    ensures err { OnErr result (KeepsLog (stage_of vars store.old.slots names.old (S.lines sink.old))
+    ensures err { OnErr result
+        (KeepsLog (stage_of vars store.old.slots names.old (S.lines sink.old))
         (S.lines sink.new)) }
 {
     let mut last = vars;
@@ -96,7 +97,8 @@ fn define_counted<S: Sink>(
     ensures keeps { IfOk result (λ v. Keeps
         (stage_of vars store.old.slots names.old (S.lines sink.old))
         (stage_of v store.new.slots names.new (S.lines sink.new))) }
-    ensures err { OnErr result (KeepsLog (stage_of vars store.old.slots names.old (S.lines sink.old))
+    ensures err { OnErr result
+        (KeepsLog (stage_of vars store.old.slots names.old (S.lines sink.old))
         (S.lines sink.new)) }
 {
     let mut table = PairTable::new(store, vars)?;
@@ -134,7 +136,8 @@ fn define_found<S: Sink>(
     ensures keeps { IfOk result (λ v. Keeps
         (stage_of vars store.old.slots names.old (S.lines sink.old))
         (stage_of v store.new.slots names.new (S.lines sink.new))) }
-    ensures err { OnErr result (KeepsLog (stage_of vars store.old.slots names.old (S.lines sink.old))
+    ensures err { OnErr result
+        (KeepsLog (stage_of vars store.old.slots names.old (S.lines sink.old))
         (S.lines sink.new)) }
 {
     if !shares_first(store, candidate, table.found()) {
@@ -221,7 +224,8 @@ fn define<S: Sink>(
     ensures keeps { IfOk result (λ d. Keeps
         (stage_of vars store.old.slots names.old (S.lines sink.old))
         (stage_of (vars + 1) store.new.slots names.new (S.lines sink.new))) }
-    ensures err { OnErr result (KeepsLog (stage_of vars store.old.slots names.old (S.lines sink.old))
+    ensures err { OnErr result
+        (KeepsLog (stage_of vars store.old.slots names.old (S.lines sink.old))
         (S.lines sink.new)) }
 {
     sink.is_short();
@@ -296,7 +300,8 @@ fn replace<S: Sink>(
     ensures keeps { OnOk result (Keeps
         (stage_of definition.now.variable store.old.slots names.old (S.lines sink.old))
         (stage_of definition.now.variable store.new.slots names.new (S.lines sink.new))) }
-    ensures err { OnErr result (KeepsLog (stage_of definition.now.variable store.old.slots names.old (S.lines sink.old))
+    ensures err { OnErr result (KeepsLog
+        (stage_of definition.now.variable store.old.slots names.old (S.lines sink.old))
         (S.lines sink.new)) }
 {
     sink.is_short();

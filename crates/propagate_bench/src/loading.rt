@@ -1,4 +1,5 @@
-// From a text in the DIMACS form to clauses that are attached. A clause may span lines, and a line may hold several.
+// From a text in the DIMACS form to clauses that are attached. A clause may span lines, and a line
+// may hold several.
 ghost use Rattle.std.specs.Prelude.{◌≡◌, ◌<◌, ◌≤◌, ◌^◌, IsTrue, IfOk, OnOk};
 ghost use Rattle.propagate.specs.Fits.{Fits, IsWithin};
 
@@ -6,8 +7,8 @@ use crate::faults::Fault;
 use clauses::store::{CRef, Store};
 use propagate::engine::Engine;
 use std::alloc::AllocError;
-use wcnf::text::{lines, number, tokens};
 use wcnf::limits::VARIABLE_LIMIT;
+use wcnf::text::{lines, number, tokens};
 use wcnf::types::Lit;
 
 /// What a token says.

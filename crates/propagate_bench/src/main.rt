@@ -1,4 +1,5 @@
-//! Measures unit propagation: plays rounds of decisions on a formula, and prints how much was decided and propagated.
+//! Measures unit propagation: plays rounds of decisions on a formula, and prints how much was
+//! decided and propagated.
 #![tactic(auto)]
 
 mod faults;

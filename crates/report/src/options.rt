@@ -5,12 +5,13 @@ use adder::cells::Profile;
 use clap::builder::ValueParser;
 use clap::{Arg, ArgAction, Command, Error};
 use std::alloc::Global;
+use wcnf::limits::NUMBER_LIMIT;
 
 /// The greatest cost: weights of an instance sum to less than 2^62.
-pub const MOST_COST: u64 = 4_611_686_018_427_387_903;
+pub const MOST_COST: u64 = NUMBER_LIMIT - 1;
 
 /// The greatest effort, 2^62.
-pub const MOST_CONFLICTS: u64 = 4_611_686_018_427_387_904;
+pub const MOST_CONFLICTS: u64 = NUMBER_LIMIT;
 
 const SOLVE_NOTES: &str = "\
 Prints a line 'o COST' for each solution that is better than all before, as soon as it is known,

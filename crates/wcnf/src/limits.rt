@@ -1,6 +1,7 @@
 //! The limits of texts, formulas and certificates, each in one place.
 
-/// Weights, the sum of all weights of a text, costs, and the numbers of a certificate lie below this.
+/// Weights, the sum of all weights of a text, costs, and the numbers of a certificate lie below
+/// this.
 pub const NUMBER_LIMIT: u64 = 1 << 62;
 
 /// The variables of literals lie below this: the greatest bound of a certificate's literal.

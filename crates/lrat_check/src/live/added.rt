@@ -1,5 +1,7 @@
-// The clauses that a certificate adds, in flat memory: it grows with what is live, and not with the length of the certificate.
-ghost use Rattle.std.specs.Prelude.{◌≡◌, ℕ, List, ◌<◌, ◌↔◌, ◌∷◌, [], ◌++◌, ◌/◌, All, IsTrue, IsSome, OnOk, OnErr};
+// The clauses that a certificate adds, in flat memory: it grows with what is live, and not with the
+// length of the certificate.
+ghost use Rattle.std.specs.Prelude.{◌≡◌, ℕ, List, ◌<◌, ◌↔◌, ◌∷◌, [], ◌++◌, ◌/◌, All, IsTrue};
+ghost use Rattle.std.specs.Prelude.{IsSome, OnOk, OnErr};
 ghost use Rattle.std.specs.Option.{option_copied};
 ghost use Rattle.wcnf.specs.Literal.{Literal};
 ghost use Rattle.lrat_check.specs.Counts.{AreCounts};
@@ -58,7 +60,9 @@ impl Added {
         }
     }
 
-    /// Adds a clause under an id above all others. An AllocError comes where memory was refused, or where there would be more than 2^32 - 2 clauses or literals, dead ones too; the clauses then stay as they are.
+    /// Adds a clause under an id above all others. An AllocError comes where memory was refused, or
+    /// where there would be more than 2^32 - 2 clauses or literals, dead ones too; the clauses then
+    /// stay as they are.
     pub(crate) fn add(&mut self, id: u64, lits: &[Lit]) -> Result<(), AllocError>
         requires rising { All (λ e. e.0 < id) self.old }
         ensures ok { OnOk result (self.new ≡ self.old ++ (id, lits.now) ∷ []) }
@@ -107,7 +111,8 @@ impl Added {
 
     /// Counts the literals of the clauses, beside those that are counted.
     pub(crate) fn count(&self, counts: &mut Vec<u32>) -> Result<(), AllocError>
-        ensures { OnOk result ((es : List (ℕ × List Literal)) → AreCounts counts.old.items es → AreCounts counts.new.items (es ++ self.now)) }
+        ensures { OnOk result ((es : List (ℕ × List Literal)) → AreCounts counts.old.items es
+            → AreCounts counts.new.items (es ++ self.now)) }
     {
         count_entries(counts, &self.lits, &self.entries)
     }

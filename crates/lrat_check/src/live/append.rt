@@ -1,6 +1,7 @@
 // One more clause behind those of a table.
 ghost use Rattle.std.specs.Prelude.{◌≡◌, ◌∷◌, [], ◌++◌, OnOk, OnErr};
-ghost use Rattle.lrat_check.specs.Table.{cells_of, keys_of, clauses_in, IsTable, IsGrown, IsAboveLast};
+ghost use Rattle.lrat_check.specs.Table.{cells_of, keys_of, clauses_in, IsTable, IsGrown};
+ghost use Rattle.lrat_check.specs.Table.{IsAboveLast};
 
 use crate::live::entries::{Entry, bucket, grow};
 use std::alloc::AllocError;
@@ -20,8 +21,10 @@ pub(crate) fn append(
     requires table { IsTable lits.old.items entries.old.items heads.old.items }
     requires above { IsAboveLast id (keys_of (cells_of entries.old.items)) }
     ensures table { IsTable lits.new.items entries.new.items heads.new.items }
-    ensures ok { OnOk result (clauses_in lits.new.items (cells_of entries.new.items) ≡ clauses_in lits.old.items (cells_of entries.old.items) ++ (id, clause.now) ∷ []) }
-    ensures kept { OnOk result (IsGrown lits.old.items (cells_of entries.old.items) lits.new.items (cells_of entries.new.items)) }
+    ensures ok { OnOk result (clauses_in lits.new.items (cells_of entries.new.items)
+        ≡ clauses_in lits.old.items (cells_of entries.old.items) ++ (id, clause.now) ∷ []) }
+    ensures kept { OnOk result (IsGrown lits.old.items (cells_of entries.old.items) lits.new.items
+        (cells_of entries.new.items)) }
     ensures err_literals { OnErr result (lits.new.items ≡ lits.old.items) }
     ensures err_entries { OnErr result (cells_of entries.new.items ≡ cells_of entries.old.items) }
 {

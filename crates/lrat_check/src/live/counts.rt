@@ -1,8 +1,11 @@
-// How often each literal stands in the live clauses, by its place in a table. Candidates that a RAT line names are all that
-// there are if they have the literal in as many places, so they need not be looked for.
-ghost use Rattle.std.specs.Prelude.{◌≡◌, ℕ, ◌+◌, ◌-◌, ◌<◌, ◌^◌, ◌==◌, ◌++◌, ◌∷◌, [], List, true, false, slice_index, length, OnOk, OnErr, Some};
+// How often each literal stands in the live clauses, by its place in a table. Candidates that a RAT
+// line names are all that there are if they have the literal in as many places, so they need not be
+// looked for.
+ghost use Rattle.std.specs.Prelude.{◌≡◌, ℕ, ◌+◌, ◌-◌, ◌<◌, ◌^◌, ◌==◌, ◌++◌, ◌∷◌, [], List, true};
+ghost use Rattle.std.specs.Prelude.{false, slice_index, length, OnOk, OnErr, Some};
 ghost use Rattle.wcnf.specs.Literal.{Literal, index_of};
-ghost use Rattle.lrat_check.specs.Counts.{one_if, times_in, is_next, AreCounts, AreRaised, AreLowered};
+ghost use Rattle.lrat_check.specs.Counts.{one_if, times_in, is_next, AreCounts, AreRaised};
+ghost use Rattle.lrat_check.specs.Counts.{AreLowered};
 ghost use Rattle.lrat_check.specs.Table.{cells_of, clauses_in, IsLaid};
 
 use crate::live::entries::Entry;
@@ -35,7 +38,8 @@ pub(crate) fn count_of(counts: &[u32], lit: Lit) -> usize
     counts[place] as usize
 }
 
-/// Whether an id may be the next candidate: it is above the last one, and its clause has the literal, though not more often than is left.
+/// Whether an id may be the next candidate: it is above the last one, and its clause has the
+/// literal, though not more often than is left.
 pub(crate) fn is_next(before: u64, id: u64, times: usize, left: usize) -> bool
     ensures { result ≡ is_next before id times left }
 {
@@ -45,7 +49,8 @@ pub(crate) fn is_next(before: u64, id: u64, times: usize, left: usize) -> bool
 /// Lets the table reach a place.
 fn reach(counts: &mut Vec<u32>, place: usize) -> Result<(), AllocError>
     requires { place < 2 ^ 28 }
-    ensures same { OnOk result ((p : ℕ) → slice_index counts.new.items p ≡ slice_index counts.old.items p) }
+    ensures same { OnOk result
+        ((p : ℕ) → slice_index counts.new.items p ≡ slice_index counts.old.items p) }
     ensures within { OnOk result (place < length counts.new.items) }
 {
     if place < counts.len() {
@@ -55,10 +60,13 @@ fn reach(counts: &mut Vec<u32>, place: usize) -> Result<(), AllocError>
     Ok(())
 }
 
-/// One more at a place. An AllocError comes where memory was refused, or where the count would be 2^32.
+/// One more at a place. An AllocError comes where memory was refused, or where the count would be
+/// 2^32.
 fn raise_one(counts: &mut Vec<u32>, place: usize) -> Result<(), AllocError>
     requires { place < 2 ^ 28 }
-    ensures { OnOk result ((p : ℕ) → slice_index counts.new.items p ≡ slice_index counts.old.items p + one_if (p == place)) }
+    ensures { OnOk result ((p : ℕ)
+        → slice_index counts.new.items p
+        ≡ slice_index counts.old.items p + one_if (p == place)) }
 {
     reach(counts, place)?;
     let count = counts[place];
@@ -102,9 +110,11 @@ pub(crate) fn lower(counts: &mut [u32], clause: &[Lit])
     }
 }
 
-/// Counts the literals of a clause that came last, if the others are counted; whether all are counted then.
+/// Counts the literals of a clause that came last, if the others are counted; whether all are
+/// counted then.
 pub(crate) fn count_last(is_counted: bool, counts: &mut Vec<u32>, clause: &[Lit]) -> bool
-    ensures { (es : List (ℕ × List Literal)) (id : ℕ) → (is_counted ≡ true → AreCounts counts.old.items es)
+    ensures { (es : List (ℕ × List Literal)) (id : ℕ)
+        → (is_counted ≡ true → AreCounts counts.old.items es)
         → result ≡ true → AreCounts counts.new.items (es ++ (id, clause.now) ∷ []) }
 {
     if !is_counted {

@@ -1,5 +1,6 @@
 // The entries of the live clauses, and the chains by which an id is found among them.
-ghost use Rattle.std.specs.Prelude.{◌≡◌, ℕ, ◌+◌, ◌-◌, ◌<◌, ◌≤◌, ◌^◌, length, MatchOption, OnOk, IsTrue, ◌↔◌};
+ghost use Rattle.std.specs.Prelude.{◌≡◌, ℕ, ◌+◌, ◌-◌, ◌<◌, ◌≤◌, ◌^◌, length, MatchOption, OnOk};
+ghost use Rattle.std.specs.Prelude.{IsTrue, ◌↔◌};
 ghost use Rattle.lrat_check.specs.Chains.{folded, bucket_of, place_of, IsChained};
 ghost use Rattle.lrat_check.specs.Table.{cells_of, keys_of, nexts_of, IsAboveLast};
 
@@ -16,7 +17,8 @@ pub(crate) struct Entry {
     pub(crate) live: bool,
 }
 
-/// All bits of an id, folded into its low ones. Ids that have no gaps, as most have none, stay beside one another.
+/// All bits of an id, folded into its low ones. Ids that have no gaps, as most have none, stay
+/// beside one another.
 #[inline]
 fn folded(id: u64) -> u64
     ensures { result ≡ folded id }
@@ -37,9 +39,11 @@ pub(crate) fn bucket(id: u64, buckets: usize) -> usize
 /// The place of an id, from 0.
 #[inline]
 pub(crate) fn find(heads: &[u32], entries: &[Entry], id: u64) -> Option<usize>
-    requires chained { IsChained (length heads.now) heads.now (keys_of (cells_of entries.now)) (nexts_of entries.now) }
+    requires chained { IsChained (length heads.now) heads.now (keys_of (cells_of entries.now))
+        (nexts_of entries.now) }
     requires room { length entries.now ≤ length heads.now }
-    ensures { MatchOption result (place_of id (keys_of (cells_of entries.now)) ≡ 0) (λ p. place_of id (keys_of (cells_of entries.now)) ≡ p + 1) }
+    ensures { MatchOption result (place_of id (keys_of (cells_of entries.now)) ≡ 0)
+        (λ p. place_of id (keys_of (cells_of entries.now)) ≡ p + 1) }
 {
     if heads.is_empty() {
         return None;
@@ -69,7 +73,8 @@ pub(crate) fn is_above(entries: &[Entry], id: u64) -> bool
 pub(crate) fn link(heads: &mut [u32], entries: &mut [Entry])
     requires room { length entries.old ≤ length heads.old }
     requires few { length entries.old < 2 ^ 32 }
-    ensures chained { IsChained (length heads.new) heads.new (keys_of (cells_of entries.new)) (nexts_of entries.new) }
+    ensures chained { IsChained (length heads.new) heads.new (keys_of (cells_of entries.new))
+        (nexts_of entries.new) }
     ensures cells { cells_of entries.new ≡ cells_of entries.old }
 {
     heads.fill(0);
@@ -84,14 +89,19 @@ pub(crate) fn link(heads: &mut [u32], entries: &mut [Entry])
 /// The first number of buckets; it is a power of two, and so are those after it.
 const BUCKETS: usize = 16;
 
-/// Makes room for one more entry in the buckets, of which there are at least as many as entries. When it is refused nothing changes.
+/// Makes room for one more entry in the buckets, of which there are at least as many as entries.
+/// When it is refused nothing changes.
 pub(crate) fn grow(heads: &mut Vec<u32>, entries: &mut [Entry]) -> Result<(), AllocError>
     requires room { length entries.old ≤ length heads.old.items }
     requires few { length entries.old < 2 ^ 32 }
-    requires chained { IsChained (length heads.old.items) heads.old.items (keys_of (cells_of entries.old)) (nexts_of entries.old) }
+    requires chained { IsChained (length heads.old.items) heads.old.items
+        (keys_of (cells_of entries.old))
+        (nexts_of entries.old) }
     ensures room { OnOk result (length entries.new < length heads.new.items) }
     ensures kept_room { length entries.new ≤ length heads.new.items }
-    ensures chained { IsChained (length heads.new.items) heads.new.items (keys_of (cells_of entries.new)) (nexts_of entries.new) }
+    ensures chained { IsChained (length heads.new.items) heads.new.items
+        (keys_of (cells_of entries.new))
+        (nexts_of entries.new) }
     ensures cells { cells_of entries.new ≡ cells_of entries.old }
 {
     if entries.len() < heads.len() {

@@ -1,5 +1,7 @@
-// The clauses of the formula. They stay where the formula has them: a deletion takes back a flag, and no memory.
-ghost use Rattle.std.specs.Prelude.{◌≡◌, ℕ, List, ◌+◌, ◌↔◌, ◌++◌, length, replicate, false, true, slice_index_or, IfOk, IsTrue, IsSome, MatchOption, OnOk};
+// The clauses of the formula. They stay where the formula has them: a deletion takes back a flag,
+// and no memory.
+ghost use Rattle.std.specs.Prelude.{◌≡◌, ℕ, List, ◌+◌, ◌↔◌, ◌++◌, length, replicate, false, true};
+ghost use Rattle.std.specs.Prelude.{slice_index_or, IfOk, IsTrue, IsSome, MatchOption, OnOk};
 ghost use Rattle.std.specs.Option.{option_copied};
 ghost use Rattle.wcnf.specs.Literal.{Literal};
 ghost use Rattle.lrat_check.specs.Counts.{AreCounts};
@@ -37,7 +39,8 @@ impl Model for Given {
 /// The place of the clause under an id, if it is live.
 #[inline]
 fn place_of(flags: &[bool], id: u64) -> Option<usize>
-    ensures { MatchOption result (is_given flags.now id ≡ false) (λ p. (id ≡ p + 1) × (slice_index_or flags.now p false ≡ true)) }
+    ensures { MatchOption result (is_given flags.now id ≡ false)
+        (λ p. (id ≡ p + 1) × (slice_index_or flags.now p false ≡ true)) }
 {
     if id == 0 || id > flags.len() as u64 {
         return None;
@@ -100,7 +103,8 @@ impl Given {
 
     /// Counts the literals of the clauses, beside those that are counted.
     pub(crate) fn count(&self, counts: &mut Vec<u32>) -> Result<(), AllocError>
-        ensures { OnOk result ((es : List (ℕ × List Literal)) → AreCounts counts.old.items es → AreCounts counts.new.items (es ++ self.now)) }
+        ensures { OnOk result ((es : List (ℕ × List Literal)) → AreCounts counts.old.items es
+            → AreCounts counts.new.items (es ++ self.now)) }
     {
         count_live(counts, self.formula.clauses(), &self.flags)
     }

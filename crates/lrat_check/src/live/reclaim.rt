@@ -12,7 +12,8 @@ pub(crate) fn compact(entries: &mut Vec<Entry>, lits: &mut Vec<Lit>)
     requires few { length lits.old.items < 2 ^ 32 }
     ensures laid { IsLaid 0 (cells_of entries.new.items) (length lits.new.items) }
     ensures live { AllLive (cells_of entries.new.items) }
-    ensures clauses { clauses_in lits.new.items (cells_of entries.new.items) ≡ clauses_in lits.old.items (cells_of entries.old.items) }
+    ensures clauses { clauses_in lits.new.items (cells_of entries.new.items)
+        ≡ clauses_in lits.old.items (cells_of entries.old.items) }
     ensures fewer_entries { length entries.new.items ≤ length entries.old.items }
     ensures fewer_literals { length lits.new.items ≤ length lits.old.items }
 {
@@ -57,7 +58,8 @@ pub(crate) fn reclaim(lits: &mut Vec<Lit>, entries: &mut Vec<Entry>, heads: &mut
     requires { IsTable lits.old.items entries.old.items heads.old.items }
     ensures table { IsTable lits.new.items entries.new.items heads.new.items }
     ensures live { AllLive (cells_of entries.new.items) }
-    ensures clauses { clauses_in lits.new.items (cells_of entries.new.items) ≡ clauses_in lits.old.items (cells_of entries.old.items) }
+    ensures clauses { clauses_in lits.new.items (cells_of entries.new.items)
+        ≡ clauses_in lits.old.items (cells_of entries.old.items) }
 {
     compact(entries, lits);
     heads.truncate((2 * entries.len()).next_power_of_two());
