@@ -56,9 +56,6 @@ rest_third c one other x a b h = (
   ],
 )
 
-pub rest_none : (one other : Literal) → IsRest [] one other Nothing
-rest_none one other = λ l m. absurd (false≢true m)
-
 pub all_members : (P : Literal → Type 0) (c : List Literal) → ((l : Literal) → contains_literal l c ≡ true → P l) → AllByRecursion P c
 all_members P [] f = tt
 all_members P (x ∷ c) f = (f x (or_left (literal_eq x x) (contains_literal x c) (literal_eq-self x)), all_members P c (λ l m. f l (or_right (literal_eq l x) (contains_literal l c) m)))

@@ -22,7 +22,6 @@ pub mod Completing
 pub mod Watching
 pub mod Waiting
 pub mod Following
-pub mod OneClause
 pub mod Moving
 pub mod Naming
 pub mod Renamed

@@ -2,29 +2,21 @@
 use Rattle.std.proofs.Common.{◌≡◌, ◌≢◌, ℕ, ◌*◌, ◌<◌, Bool, true, false, not, ◌||◌, ◌&&◌, eqb, List, [], ◌∷◌, ◌++◌, ◌⊎◌, inl, inr, refl, sym, ◌∙◌, ap, arith}
 use Rattle.std.specs.Prelude.{◌==◌}
 use Rattle.std.proofs.lemmas.Bool.{or_parts, or_from, and_left, eqb-false, eq-eqb, ne_eqb, cases_Bool, cases_eq}
+use Rattle.std.proofs.Math.Bool.{not-not}
 use Rattle.std.proofs.lemmas.List.Folds.{list_any-append}
 use Rattle.wcnf.specs.Literal.{Literal, negation, literal_eq, same_bool, index_of}
 use Rattle.wcnf.specs.Clause.{contains_literal}
+pub use Rattle.wcnf.proofs.Marks.{contains-push, literal_eq-refl as literal_eq-self}
+use Rattle.wcnf.proofs.Marks.{index_same, index_below}
 use Rattle.propagate.specs.Tables.{mentions}
 use Rattle.propagate.specs.Watches.{IsVariable}
-
-same_bool-self : (b : Bool) → same_bool b b ≡ true
-same_bool-self true = refl
-same_bool-self false = refl
 
 same_bool-not : (b : Bool) → same_bool (not b) b ≡ false
 same_bool-not true = refl
 same_bool-not false = refl
 
-not_not : (b : Bool) → not (not b) ≡ b
-not_not true = refl
-not_not false = refl
-
 pub negation_twice : (l : Literal) → negation (negation l) ≡ l
-negation_twice l = ap (λ b. record { variable = l.variable; negated = b }) (not_not l.negated)
-
-pub literal_eq-self : (l : Literal) → literal_eq l l ≡ true
-literal_eq-self l = Prim.grind (arith, eq-eqb l.variable l.variable refl, same_bool-self l.negated)
+negation_twice l = ap (λ b. record { variable = l.variable; negated = b }) (not-not l.negated)
 
 pub literal_eq-negation : (l : Literal) → literal_eq (negation l) l ≡ false
 literal_eq-negation l = Prim.grind (arith, eq-eqb l.variable l.variable refl, same_bool-not l.negated)
@@ -34,13 +26,6 @@ literal_eq-other k l h = and_left (k.variable == l.variable) (same_bool k.negate
 
 pub contains-append : (l : Literal) (A B : List Literal) → contains_literal l (A ++ B) ≡ (contains_literal l A || contains_literal l B)
 contains-append l A B = list_any-append (literal_eq l) A B
-
-pub or_false_right : (b : Bool) → (b || false) ≡ b
-or_false_right true = refl
-or_false_right false = refl
-
-pub contains-push : (l : Literal) (A : List Literal) (k : Literal) → contains_literal l (A ++ k ∷ []) ≡ (contains_literal l A || literal_eq l k)
-contains-push l A k = contains-append l A (k ∷ []) ∙ ap (λ b. contains_literal l A || b) (or_false_right (literal_eq l k))
 
 -- the literals of one variable
 same_sign : (v : Bool) (a b : Bool) → (v && same_bool a b) ≡ false → (v && same_bool (not a) b) ≡ false → v ≡ false
@@ -71,16 +56,13 @@ contains-none l (k ∷ A) e =
     (contains-none l A e'.1)
 
 pub index-other : (variables : ℕ) (k l : Literal) → IsVariable variables k → IsVariable variables l → k.variable ≢ l.variable → index_of k ≢ index_of l
-index-other variables k l h g ne = elim (cases_Bool k.negated) [
-  | inl a ↦ elim (cases_Bool l.negated) [ inl b ↦ rw (a, b) (λ e. ne (omega arith)) | inr b ↦ rw (a, b) (λ e. ne (omega arith)) ]
-  | inr a ↦ elim (cases_Bool l.negated) [ inl b ↦ rw (a, b) (λ e. ne (omega arith)) | inr b ↦ rw (a, b) (λ e. ne (omega arith)) ]
-]
+index-other variables k l h g ne e = ne (ap (λ (x : Literal). x.variable) (index_same k l h.0 g.0 e))
 
 pub index-negation : (l : Literal) → index_of l ≢ index_of (negation l)
 index-negation l = elim (cases_Bool l.negated) [ inl a ↦ rw a (λ e. omega arith) | inr a ↦ rw a (λ e. omega arith) ]
 
 pub index-within : (variables : ℕ) (l : Literal) → IsVariable variables l → index_of l < 2 * variables
-index-within variables l h = elim (cases_Bool l.negated) [ inl a ↦ rw a (omega arith) | inr a ↦ rw a (omega arith) ]
+index-within variables l h = index_below l variables h.0 h.1
 
 -- a literal of the same variable is the same or its negation
 same_variable_at : (a b : Bool) → (a ≡ b) ⊎ (a ≡ not b)
@@ -93,13 +75,4 @@ pub same_variable : (k l : Literal) → k.variable ≡ l.variable → (k ≡ l) 
 same_variable k l e = elim (same_variable_at k.negated l.negated) [
   | inl h ↦ inl (λ i. record { variable = e i; negated = h i })
   | inr h ↦ inr (λ i. record { variable = e i; negated = h i })
-]
-
-pub index-same : (variables : ℕ) (k l : Literal) → IsVariable variables k → IsVariable variables l → index_of k ≡ index_of l → k ≡ l
-index-same variables k l h g e = elim (cases_eq k.variable l.variable) [
-  | inr ne ↦ absurd (index-other variables k l h g ne e)
-  | inl same ↦ elim (same_variable k l same) [
-    | inl s ↦ s
-    | inr s ↦ absurd (index-negation l (sym (sym (ap index_of s) ∙ e)))
-  ]
 ]

@@ -20,7 +20,8 @@ use Rattle.propagate.specs.Watches.{EngineState, IsEngine, IsVariable, is_attach
 use Rattle.propagate.specs.Fits.{Fits, FitsAttachment, IsRest, IsWatch, HasBlocker}
 use Rattle.propagate.specs.Steps.{with_rows, with_trail, closed, entry_of, moved, rest_after, InRow, IsWatched, IsWatchedBy, IsTrueIn, IsTrueEntry, MayBeWatched}
 use Rattle.propagate.proofs.Facts.{all_weaker, all_left, all_right, all_join}
-use Rattle.propagate.proofs.Literals.{index-within, index-same, literal_eq-self}
+use Rattle.propagate.proofs.Literals.{index-within, literal_eq-self}
+use Rattle.wcnf.proofs.Marks.{index_same}
 use Rattle.propagate.proofs.Trails.{made}
 use Rattle.propagate.proofs.Kept.{contains_take, contains_front, contains_back, kept_prefix, literals-append}
 use Rattle.propagate.proofs.Fitting.{fits_grow, more_literals, true_more}
@@ -89,7 +90,7 @@ watched_from slots e w write read x inv st lt at =
     let fp = subst (λ y. FitsAttachment ce f.0 y) p.2 f.2.1 in
     elim p.3 [
       | inl first ↦
-          let s : p.0 ≡ w = index-same e.variables p.0 w named.0 st.in_range first in
+          let s : p.0 ≡ w = index_same p.0 w named.0.0 st.in_range.0 first in
           record {
             clause = f.0;
             live = f.1;
@@ -103,7 +104,7 @@ watched_from slots e w write read x inv st lt at =
             falsified = st.falsified;
           }
       | inr second ↦
-          let s : p.1 ≡ w = index-same e.variables p.1 w named.1 st.in_range second in
+          let s : p.1 ≡ w = index_same p.1 w named.1.0 st.in_range.0 second in
           record {
             clause = f.0;
             live = f.1;
@@ -257,9 +258,6 @@ watches_by p w other k by = elim by [
 pub kept_by : (p : Attachment) (w other : Literal) → IsWatchedBy p w other → is_kept p ≡ true
 kept_by p w other by = elim by [ inl h ↦ ap is_kept h | inr h ↦ ap is_kept h ]
 
-pub not_waiting_by : (p : Attachment) (w other : Literal) → IsWatchedBy p w other → p ≡ Waiting → ⊥
-not_waiting_by p w other by e = elim by [ inl h ↦ cc | inr h ↦ cc ]
-
 -- each row has the clauses that the table says, still
 moved_counts : (slots : Slots) (e : EngineState) (w : Literal) (write read : ℕ) (x : Entry) (other l : Literal) → index_of l ≢ index_of w
     → InRow slots e w write read → IsWatchedBy (attachment_in e.watches.table x.reference) w other
@@ -326,7 +324,7 @@ rewatch_row slots e w write read x other l inv st lt at by apart may =
     let member = may.1 c f.1 in
     let named : IsVariable e.variables l = within_variable e.variables c l f.2.0 member in
     let new : contains_literal (negation l) (literals_of e.trail) ≡ false = not_false_value (clause_at slots) e.trail l st.fits.reasons may.0 in
-    let ne : j ≢ i = λ h. both_ways _ new (subst (λ z. contains_literal (negation z) (literals_of e.trail) ≡ true) (sym (index-same e.variables l w named st.in_range h)) st.falsified) in
+    let ne : j ≢ i = λ h. both_ways _ new (subst (λ z. contains_literal (negation z) (literals_of e.trail) ≡ true) (sym (index_same l w named.0 st.in_range.0 h)) st.falsified) in
     let li = row_in e w inv st.in_range in
     let lj = row_in e l inv named in
     let row_same : row_at R' i ≡ row = get_or-set_other R j i (row_at R j ++ y ∷ []) [] (λ h. ne (sym h)) in
@@ -401,7 +399,7 @@ moved_row slots e w write read r other l inv st was may =
     let f = st.fits.attached r was in
     let named : IsVariable e.variables l = within_variable e.variables f.0 l f.2.0 (may.1 f.0 f.1) in
     let new : contains_literal (negation l) (literals_of e.trail) ≡ false = not_false_value (clause_at slots) e.trail l st.fits.reasons may.0 in
-    let ne : index_of l ≢ index_of w = λ h. both_ways _ new (subst (λ z. contains_literal (negation z) (literals_of e.trail) ≡ true) (sym (index-same e.variables l w named st.in_range h)) st.falsified) in
+    let ne : index_of l ≢ index_of w = λ h. both_ways _ new (subst (λ z. contains_literal (negation z) (literals_of e.trail) ≡ true) (sym (index_same l w named.0 st.in_range.0 h)) st.falsified) in
     get_or-set_other e.watches.rows (index_of l) (index_of w) (row_at e.watches.rows (index_of l) ++ entry_of r other ∷ []) [] (λ h. ne (sym h))
 
 pub last_true : (T : List Assigned) (a : Assigned) → contains_literal a.literal (literals_of (T ++ a ∷ [])) ≡ true

@@ -8,7 +8,8 @@ use Rattle.wcnf.specs.Literal.{Literal, negation, literal_eq}
 use Rattle.wcnf.specs.Clause.{contains_literal}
 use Rattle.propagate.specs.Trail.{Assigned, literals_of, depth_of, is_decision, value_in, level_from, level_after, reason_in}
 use Rattle.propagate.specs.Tables.{mentions, reason_at, assigned_by}
-use Rattle.propagate.proofs.Literals.{or_false_right, contains-push, contains-none, mentions-none, negation_twice, literal_eq-self, literal_eq-negation, literal_eq-other}
+use Rattle.std.proofs.Math.Bool.{or-false}
+use Rattle.propagate.proofs.Literals.{contains-push, contains-none, mentions-none, negation_twice, literal_eq-self, literal_eq-negation, literal_eq-other}
 
 abbrev pub made : Literal → Option ℕ → Assigned
 made l r = record { literal = l; reason = r }
@@ -91,7 +92,7 @@ value_push T a l =
 
 pub value_push_other : (T : List Assigned) (a : Assigned) (l : Literal) → l.variable ≢ a.literal.variable → value_in (T ++ a ∷ []) l ≡ value_in T l
 value_push_other T a l ne =
-    value_push T a l ∙ rw (literal_eq-other l a.literal ne, literal_eq-other (negation l) a.literal ne, or_false_right (contains_literal l (literals_of T)), or_false_right (contains_literal (negation l) (literals_of T))) refl
+    value_push T a l ∙ rw (literal_eq-other l a.literal ne, literal_eq-other (negation l) a.literal ne, or-false (contains_literal l (literals_of T)), or-false (contains_literal (negation l) (literals_of T))) refl
 
 pub value_push_same : (T : List Assigned) (a : Assigned) → value_in (T ++ a ∷ []) a.literal ≡ Some true
 value_push_same T a = value_push T a a.literal ∙ rw (or_right (contains_literal a.literal (literals_of T)) (literal_eq a.literal a.literal) (literal_eq-self a.literal)) refl

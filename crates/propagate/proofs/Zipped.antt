@@ -11,20 +11,10 @@ use Rattle.propagate.specs.declared.table.Rest.TheVariants.{Many}
 use Rattle.propagate.specs.Watches.{attachment_in, rest_in, IsWatching}
 use Rattle.propagate.specs.Steps.{IsWatchedBy}
 use Rattle.propagate.specs.Table.{attachment_of, attachments}
-
-pub length-attachments : (ks : List Kind) (ps : List Pair) → length ps ≡ length ks → length (attachments ks ps) ≡ length ks
-length-attachments [] ps h = refl
-length-attachments (k ∷ ks) [] h = absurd (omega arith)
-length-attachments (k ∷ ks) (p ∷ ps) h = omega (arith, length-attachments ks ps (omega arith))
+use Rattle.clauses.proofs.Zipped.{length-zipped, get_or-zipped, zipped-append, zipped-replicate}
 
 pub attachments_past : (ks : List Kind) (ps : List Pair) (r : ℕ) → length ps ≡ length ks → length ks ≤ r → NoAttachment ≡ attachment_in (attachments ks ps) r
-attachments_past ks ps r h le = sym (get_or_past (attachments ks ps) r NoAttachment (omega (arith, length-attachments ks ps h)))
-
-read_at : (ks : List Kind) (ps : List Pair) (r : ℕ) (d : Attachment) (k : Kind) (p : Pair) → length ps ≡ length ks → r < length ks → get_or (attachments ks ps) r d ≡ attachment_of (get_or ks r k) (get_or ps r p)
-read_at [] ps r d k p h l = absurd (omega arith)
-read_at (x ∷ ks) [] r d k p h l = absurd (omega arith)
-read_at (x ∷ ks) (y ∷ ps) zero d k p h l = refl
-read_at (x ∷ ks) (y ∷ ps) (suc r) d k p h l = read_at ks ps r d k p (omega arith) (omega arith)
+attachments_past ks ps r h le = sym (get_or_past (attachments ks ps) r NoAttachment (omega (arith, length-zipped attachment_of ks ps h)))
 
 any_pair : Pair
 any_pair = record { one = record { variable = 0; negated = false }; other = record { variable = 0; negated = false }; rest = Many }
@@ -33,13 +23,13 @@ any_pair = record { one = record { variable = 0; negated = false }; other = reco
 pub attachments_kind : (ks : List Kind) (ps : List Pair) (r : ℕ) (x k : Kind) (P : Attachment) → length ps ≡ length ks → r < length ks → x ≡ get_or ks r x → x ≡ k
     → ((p : Pair) → attachment_of k p ≡ P) → P ≡ attachment_in (attachments ks ps) r
 attachments_kind ks ps r x k P h l at is of =
-    sym (read_at ks ps r NoAttachment x any_pair h l ∙ ap (λ z. attachment_of z (get_or ps r any_pair)) (sym at ∙ is) ∙ of (get_or ps r any_pair))
+    sym (get_or-zipped attachment_of ks ps r NoAttachment x any_pair h l ∙ ap (λ z. attachment_of z (get_or ps r any_pair)) (sym at ∙ is) ∙ of (get_or ps r any_pair))
 
 -- a place with literals, as it is read
 pub attachments_pair : (ks : List Kind) (ps : List Pair) (r : ℕ) (x : Kind) (p : Pair) → length ps ≡ length ks → r < length ks → x ≡ get_or ks r x → x ≡ Watching → p ≡ get_or ps r p
     → WatchingAttachment p.one p.other p.rest ≡ attachment_in (attachments ks ps) r
 attachments_pair ks ps r x p h l at is pair =
-    sym (read_at ks ps r NoAttachment x p h l ∙ ap (λ z. attachment_of z (get_or ps r p)) (sym at ∙ is) ∙ ap (attachment_of Watching) (sym pair))
+    sym (get_or-zipped attachment_of ks ps r NoAttachment x p h l ∙ ap (λ z. attachment_of z (get_or ps r p)) (sym at ∙ is) ∙ ap (attachment_of Watching) (sym pair))
 
 pub watching_within : (ks : List Kind) (ps : List Pair) (r : ℕ) (a b : Literal) → IsWatching (attachment_in (attachments ks ps) r) a b → (r < length ks) × (r < length ps)
 watching_within [] ps r a b e = absurd (cc)
@@ -60,20 +50,6 @@ watching_pair (k ∷ ks) [] r p a b at e = absurd (cc)
 watching_pair (k ∷ ks) (q ∷ ps) zero p a b at e = let h = pair_here k q a b e in (ap (λ (x : Pair). x.one) at ∙ h.1.0, ap (λ (x : Pair). x.other) at ∙ h.1.1)
 watching_pair (k ∷ ks) (q ∷ ps) (suc r) p a b at e = watching_pair ks ps r p a b at e
 
-pub attachments_set : (ks : List Kind) (ps : List Pair) (r : ℕ) (k : Kind) (p : Pair) → attachments (set ks r k) (set ps r p) ≡ set (attachments ks ps) r (attachment_of k p)
-attachments_set [] ps r k p = refl
-attachments_set (x ∷ ks) [] zero k p = refl
-attachments_set (x ∷ ks) [] (suc r) k p = refl
-attachments_set (x ∷ ks) (y ∷ ps) zero k p = refl
-attachments_set (x ∷ ks) (y ∷ ps) (suc r) k p = ap (λ zs. attachment_of x y ∷ zs) (attachments_set ks ps r k p)
-
-pub attachments_set_kind : (ks : List Kind) (ps : List Pair) (r : ℕ) (k : Kind) (P : Attachment) → ((p : Pair) → attachment_of k p ≡ P) → attachments (set ks r k) ps ≡ set (attachments ks ps) r P
-attachments_set_kind [] ps r k P of = refl
-attachments_set_kind (x ∷ ks) [] zero k P of = refl
-attachments_set_kind (x ∷ ks) [] (suc r) k P of = refl
-attachments_set_kind (x ∷ ks) (y ∷ ps) zero k P of = ap (λ z. z ∷ attachments ks ps) (of y)
-attachments_set_kind (x ∷ ks) (y ∷ ps) (suc r) k P of = ap (λ zs. attachment_of x y ∷ zs) (attachments_set_kind ks ps r k P of)
-
 pub attachments_set_pair : (ks : List Kind) (ps : List Pair) (r : ℕ) (p : Pair) (a b : Literal) → IsWatching (attachment_in (attachments ks ps) r) a b
     → attachments ks (set ps r p) ≡ set (attachments ks ps) r (WatchingAttachment p.one p.other p.rest)
 attachments_set_pair [] ps r p a b e = refl
@@ -82,25 +58,9 @@ attachments_set_pair (x ∷ ks) [] (suc r) p a b e = refl
 attachments_set_pair (x ∷ ks) (y ∷ ps) zero p a b e = let h = pair_here x y a b e in ap (λ z. attachment_of z p ∷ attachments ks ps) h.0
 attachments_set_pair (x ∷ ks) (y ∷ ps) (suc r) p a b e = ap (λ zs. attachment_of x y ∷ zs) (attachments_set_pair ks ps r p a b e)
 
-attachments-append : (ks ls : List Kind) (ps qs : List Pair) → length ps ≡ length ks → attachments (ks ++ ls) (ps ++ qs) ≡ attachments ks ps ++ attachments ls qs
-attachments-append [] ls [] qs h = refl
-attachments-append [] ls (p ∷ ps) qs h = absurd (omega arith)
-attachments-append (k ∷ ks) ls [] qs h = absurd (omega arith)
-attachments-append (k ∷ ks) ls (p ∷ ps) qs h = ap (λ zs. attachment_of k p ∷ zs) (attachments-append ks ls ps qs (omega arith))
-
-attachments-replicate : (n : ℕ) (k : Kind) (p : Pair) → attachments (replicate n k) (replicate n p) ≡ replicate n (attachment_of k p)
-attachments-replicate zero k p = refl
-attachments-replicate (suc n) k p = ap (λ zs. attachment_of k p ∷ zs) (attachments-replicate n k p)
-
 -- both lists grow by so many
 pub attachments_grow : (ks : List Kind) (ps : List Pair) (n : ℕ) (k : Kind) (p : Pair) → length ps ≡ length ks → attachments (ks ++ replicate n k) (ps ++ replicate n p) ≡ attachments ks ps ++ replicate n (attachment_of k p)
-attachments_grow ks ps n k p h = attachments-append ks (replicate n k) ps (replicate n p) h ∙ ap (λ zs. attachments ks ps ++ zs) (attachments-replicate n k p)
-
-pub attachments_take : (n : ℕ) (ks : List Kind) (ps : List Pair) → attachments (take n ks) (take n ps) ≡ take n (attachments ks ps)
-attachments_take zero ks ps = refl
-attachments_take (suc n) [] ps = refl
-attachments_take (suc n) (k ∷ ks) [] = refl
-attachments_take (suc n) (k ∷ ks) (p ∷ ps) = ap (λ zs. attachment_of k p ∷ zs) (attachments_take n ks ps)
+attachments_grow ks ps n k p h = zipped-append attachment_of ks (replicate n k) ps (replicate n p) h ∙ ap (λ zs. attachments ks ps ++ zs) (zipped-replicate attachment_of n k p)
 
 rest_here : (k : Kind) (p : Pair) → k ≡ Watching → p.rest ≡ rest_in (attachment_of k p)
 rest_here k p e = sym (ap (λ z. rest_in (attachment_of z p)) e)

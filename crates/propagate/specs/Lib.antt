@@ -1,7 +1,6 @@
 pub mod Trail
 pub mod Pool
 pub mod Tables
-pub mod VardataLevel
 pub mod Vardata
 pub mod Table
 pub mod Truth

@@ -7,6 +7,10 @@ use Rattle.propagate.specs.declared.pool.Head.{Head}
 abbrev pub no_head : Head
 no_head = record { start = 0; length = 0; room = 0 }
 
+-- the first place behind those that are the row's own
+abbrev pub end_of : Head → ℕ
+end_of r = r.start + r.room
+
 abbrev pub row_of : List Entry → Head → List Entry
 row_of block r = slice_range block r.start (r.start + r.length)
 
@@ -20,7 +24,7 @@ pub record IsLaid (block : List Entry) (heads : List Head) (used : ℕ) : Type 0
   pub filled : (i : ℕ) → i < length heads
       → (get_or heads i no_head).length ≤ (get_or heads i no_head).room
   pub inside : (i : ℕ) → i < length heads
-      → (get_or heads i no_head).start + (get_or heads i no_head).room ≤ used
+      → end_of (get_or heads i no_head) ≤ used
   pub apart : (i j : ℕ) → i < length heads → j < length heads → i ≢ j
-      → ((get_or heads i no_head).start + (get_or heads i no_head).room ≤ (get_or heads j no_head).start)
-      ⊎ ((get_or heads j no_head).start + (get_or heads j no_head).room ≤ (get_or heads i no_head).start)
+      → (end_of (get_or heads i no_head) ≤ (get_or heads j no_head).start)
+      ⊎ (end_of (get_or heads j no_head) ≤ (get_or heads i no_head).start)

@@ -1,6 +1,7 @@
 -- A list of attachments, kept as two lists: the kind of each, and the two literals that its clause
 -- watches.
-use Rattle.std.specs.Prelude.{List, [], ◌∷◌}
+use Rattle.std.specs.Prelude.{List}
+use Rattle.clauses.specs.Zipped.{zipped}
 use Rattle.propagate.specs.declared.table.Attachment.{Attachment}
 use Rattle.propagate.specs.declared.table.Attachment.TheVariants.{Detached as NoAttachment}
 use Rattle.propagate.specs.declared.table.Attachment.TheVariants.{Waiting as WaitingAttachment}
@@ -17,6 +18,4 @@ attachment_of Satisfied p = SatisfiedAttachment
 attachment_of Watching p = WatchingAttachment p.one p.other p.rest
 
 abbrev pub attachments : List Kind → List Pair → List Attachment
-attachments [] ps = []
-attachments (k ∷ ks) [] = []
-attachments (k ∷ ks) (p ∷ ps) = attachment_of k p ∷ attachments ks ps
+attachments ks ps = zipped attachment_of ks ps

@@ -10,7 +10,7 @@ use crate::trail::Trail;
 use wcnf::types::Lit;
 
 /// A literal that is not false.
-pub(crate) fn first_not_false(trail: &Trail, lits: &[Lit]) -> Option<Lit>
+pub(crate) fn find_not_false(trail: &Trail, lits: &[Lit]) -> Option<Lit>
     requires { All (λ l. l.variable ≤ trail.now.variables) lits.now }
     ensures { MatchOption result
         (All (λ l. value_in trail.now.assigned l ≡ Some false) lits.now)
@@ -25,7 +25,7 @@ pub(crate) fn first_not_false(trail: &Trail, lits: &[Lit]) -> Option<Lit>
 }
 
 /// A literal that is not false, other than this one.
-pub(crate) fn other_not_false(trail: &Trail, lits: &[Lit], but: Lit) -> Option<Lit>
+pub(crate) fn find_other_not_false(trail: &Trail, lits: &[Lit], but: Lit) -> Option<Lit>
     requires { All (λ l. l.variable ≤ trail.now.variables) lits.now }
     ensures { MatchOption result
         (All (λ l. (l ≡ but) ⊎ (value_in trail.now.assigned l ≡ Some false)) lits.now)
@@ -41,7 +41,7 @@ pub(crate) fn other_not_false(trail: &Trail, lits: &[Lit], but: Lit) -> Option<L
 }
 
 /// A literal whose variable got its value at this level, other than this one.
-pub(crate) fn other_of_level(trail: &Trail, lits: &[Lit], but: Lit, level: u32) -> Option<Lit>
+pub(crate) fn find_other_of_level(trail: &Trail, lits: &[Lit], but: Lit, level: u32) -> Option<Lit>
     requires { All (λ l. l.variable ≤ trail.now.variables) lits.now }
     ensures { IfSome result (λ l. (contains_literal l lits.now ≡ true) × (l ≢ but)
         × (level_in trail.now.assigned l.variable ≡ Some level)) }
@@ -55,7 +55,7 @@ pub(crate) fn other_of_level(trail: &Trail, lits: &[Lit], but: Lit, level: u32) 
 }
 
 /// What a clause has beside these two literals of it.
-pub(crate) fn rest_of(lits: &[Lit], one: Lit, other: Lit) -> Rest
+pub(crate) fn gather_rest(lits: &[Lit], one: Lit, other: Lit) -> Rest
     ensures { IsRest lits.now one other result }
 {
     let mut rest = Rest::Nothing;

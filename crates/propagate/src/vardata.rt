@@ -1,66 +1,20 @@
 // The level, the position and the reason of each variable.
 ghost use Rattle.std.specs.Prelude.{◌≡◌, ◌-◌, ◌<◌, ◌^◌, None, Some, length, map, replicate};
-ghost use Rattle.std.specs.Prelude.{slice_set, slice_index, slice_index_or, IfOk, IfSome};
+ghost use Rattle.std.specs.Prelude.{slice_set, slice_index, slice_index_or, IfOk};
 ghost use Rattle.propagate.specs.Renames.{named_reason};
 ghost use Rattle.propagate.specs.Vardata.{named_var_data};
 
 use crate::names::new_reason;
 use clauses::store::{CRef, MaybeCRef, Moves};
+use clauses::words::MaybeWord;
 use std::alloc::{AllocError, Global};
 use std::marker::Model;
-
-/// A level, or none, in four bytes.
-#[derive(Clone, Copy, Debug, PartialEq, Eq, Drop)]
-struct MaybeLevel {
-    // the level, or NONE
-    word: u32,
-}
-
-impl Model for MaybeLevel {
-    ghost use Rattle.std.specs.Prelude.{ℕ, Option};
-
-    ghost Value = { Option ℕ };
-
-    ghost use Rattle.propagate.specs.VardataLevel.{level_of_word, word_of_level, word-again};
-
-    ghost view = { level_of_word };
-
-    ghost inverse = { word_of_level };
-
-    ghost inverse_ok = { λ m _. word-again m };
-}
-
-// No variable gets this level.
-const NONE: u32 = u32::MAX;
-
-impl MaybeLevel {
-    fn new(level: Option<u32>) -> Self
-        requires { IfSome level (λ n. n < 2 ^ 32 - 1) }
-        ensures { result ≡ level }
-    {
-        MaybeLevel {
-            word: match level {
-                Some(level) => level,
-                None => NONE,
-            },
-        }
-    }
-
-    fn get(self) -> Option<u32>
-        ensures { result ≡ self }
-    {
-        if self.word == NONE {
-            None
-        } else {
-            Some(self.word)
-        }
-    }
-}
 
 /// What is kept of a variable.
 #[derive(Clone, Copy, Debug, PartialEq, Eq, Drop)]
 pub(crate) struct VarData {
-    level: MaybeLevel,
+    // of the current level at most, which is below 2^32 - 1
+    level: MaybeWord,
     // how many literals stand before it on the trail; of no meaning where there is no level
     position: u32,
     // of no meaning where there is no level
@@ -108,7 +62,7 @@ impl VarTable {
     {
         let mut vardata = Vec::new(alloc);
         let data = VarData {
-            level: MaybeLevel::new(None),
+            level: MaybeWord::new(None),
             position: 0,
             reason: MaybeCRef::new(None),
         };
@@ -145,7 +99,7 @@ impl VarTable {
         ensures reasons { self.new.reasons ≡ slice_set self.old.reasons variable reason }
     {
         self.vardata[variable] = VarData {
-            level: MaybeLevel::new(Some(level)),
+            level: MaybeWord::new(Some(level)),
             position,
             reason: MaybeCRef::new(reason),
         };
@@ -158,7 +112,7 @@ impl VarTable {
         ensures positions { self.new.positions ≡ self.old.positions }
         ensures reasons { self.new.reasons ≡ self.old.reasons }
     {
-        self.vardata[variable].level = MaybeLevel::new(None);
+        self.vardata[variable].level = MaybeWord::new(None);
     }
 
     /// Renames the reasons.

@@ -17,7 +17,7 @@ ghost use Rattle.propagate.specs.Queue.{LookSays, StepSays};
 
 use super::Engine;
 use crate::pool::Entry;
-use crate::search::other_not_false;
+use crate::search::find_other_not_false;
 use crate::table::Rest;
 use clauses::store::{CRef, Store};
 use std::alloc::AllocError;
@@ -238,7 +238,7 @@ impl Engine {
                     Some(third)
                 }
             }
-            Rest::Many => other_not_false(&self.trail, store.lits(entry.reference), other),
+            Rest::Many => find_other_not_false(&self.trail, store.lits(entry.reference), other),
         }
     }
 

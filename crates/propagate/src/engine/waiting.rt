@@ -14,7 +14,7 @@ ghost use Rattle.propagate.specs.Steps.{IsMadeTrue, is_waiting, watched, with_at
 
 use super::Engine;
 use crate::pool::Entry;
-use crate::search::{first_not_false, other_not_false, other_of_level, rest_of};
+use crate::search::{find_not_false, find_other_not_false, find_other_of_level, gather_rest};
 use crate::table::{Attachment, Table};
 use clauses::store::{CRef, Store};
 use std::alloc::AllocError;
@@ -114,10 +114,10 @@ impl Engine {
             (IsConflict store.now.slots self.new reference)) }
     {
         let lits = store.lits(reference);
-        let Some(one) = first_not_false(&self.trail, lits) else {
+        let Some(one) = find_not_false(&self.trail, lits) else {
             return Ok(false);
         };
-        if let Some(other) = other_not_false(&self.trail, lits, one) {
+        if let Some(other) = find_other_not_false(&self.trail, lits, one) {
             self.watch(reference, lits, one, other)?;
             return Ok(true);
         }
@@ -155,7 +155,7 @@ impl Engine {
     {
         let lits = store.lits(reference);
         let depth = self.trail.depth();
-        if let Some(other) = other_of_level(&self.trail, lits, one, depth) {
+        if let Some(other) = find_other_of_level(&self.trail, lits, one, depth) {
             self.watch(reference, lits, one, other)?;
             return Ok(());
         }
@@ -202,7 +202,7 @@ impl Engine {
             self.pool.truncate(one.index(), len);
             return Err(AllocError);
         }
-        let rest = rest_of(lits, one, other);
+        let rest = gather_rest(lits, one, other);
         self.table
             .set(reference.index(), Attachment::Watching(one, other, rest));
         Ok(())

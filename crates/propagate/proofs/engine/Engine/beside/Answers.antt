@@ -48,8 +48,8 @@ is_false-requires c =
     let rest = rest_known c.args.store.now.slots c.args.self.now c.args.falsified c.args.other c.args.entry c.args.rest (One t) W c.requires.other c.requires.rest c.in-One.is in
     omega (arith, (within_variable c.args.self.now.variables W.clause t W.within rest.0).1, ap (λ (x : EngineState). x.variables) c.self.view_is)
 
-pub other_not_false-requires : goal.other_not_false-requires
-other_not_false-requires c =
+pub find_other_not_false-requires : goal.find_other_not_false-requires
+find_other_not_false-requires c =
     let W = c.requires.watched in
     let same : W.clause ≡ c.lits.result.now = cc (W.live, c.lits.ensures) in
     let v : c.self.inside.trail.variables ≡ c.args.self.now.variables = ap (λ (x : EngineState). x.variables) c.self.view_is in
@@ -58,6 +58,6 @@ other_not_false-requires c =
 pub returns-in-Many : goal.returns-in-Many
 returns-in-Many c =
     let trail = ap (λ (x : EngineState). x.trail) c.self.view_is in
-    search_left c.args.store.now.slots c.args.self.now c.args.entry.reference c.args.other c.lits.result.now c.other_not_false.result c.lits.ensures
-    (subst (λ T. MatchOption c.other_not_false.result (All (λ l. (l ≡ c.args.other) ⊎ (value_in T l ≡ Some false)) c.lits.result.now)
-    (λ l. (contains_literal l c.lits.result.now ≡ true) × (l ≢ c.args.other) × (value_in T l ≢ Some false))) trail c.other_not_false.ensures)
+    search_left c.args.store.now.slots c.args.self.now c.args.entry.reference c.args.other c.lits.result.now c.find_other_not_false.result c.lits.ensures
+    (subst (λ T. MatchOption c.find_other_not_false.result (All (λ l. (l ≡ c.args.other) ⊎ (value_in T l ≡ Some false)) c.lits.result.now)
+    (λ l. (contains_literal l c.lits.result.now ≡ true) × (l ≢ c.args.other) × (value_in T l ≢ Some false))) trail c.find_other_not_false.ensures)

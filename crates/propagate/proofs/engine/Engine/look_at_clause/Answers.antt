@@ -14,8 +14,8 @@ use Rattle.propagate.proofs.Continuing.{continues_attachment}
 use Rattle.propagate.proofs.Watching.{fits_watch, made_true}
 use Rattle.propagate.proofs.engine.Engine.look_at_clause.Goals as goal
 
-pub first_not_false-requires : goal.first_not_false-requires
-first_not_false-requires c =
+pub find_not_false-requires : goal.find_not_false-requires
+find_not_false-requires c =
     let now = c.args.self.now in
     let slots = c.args.store.now.slots in
     let r = c.args.reference in
@@ -25,8 +25,8 @@ first_not_false-requires c =
     let v = ap (λ (x : EngineState). x.variables) c.self.view_is in
     subst (λ n. All (λ (l : Literal). l.variable ≤ n) lits) (sym v) (within_all now.variables lits within.1)
 
-pub other_not_false-requires : goal.other_not_false-requires
-other_not_false-requires c =
+pub find_other_not_false-requires : goal.find_other_not_false-requires
+find_other_not_false-requires c =
     let now = c.args.self.now in
     let slots = c.args.store.now.slots in
     let r = c.args.reference in
@@ -65,7 +65,7 @@ watch-requires-clause-other c =
     let lits = c.lits-lits.result.now in
     let live : clause_at slots r ≡ Some lits = c.lits-lits.ensures in
     let within = waiting_within now slots r lits c.requires.fits c.requires.waits live in
-    within_variable now.variables lits c.in-Some-other_not_false.other within c.in-Some-other_not_false.ensures.0
+    within_variable now.variables lits c.in-Some-find_other_not_false.other within c.in-Some-find_other_not_false.ensures.0
 
 pub make_true-requires : goal.make_true-requires
 make_true-requires c =
@@ -77,13 +77,13 @@ make_true-requires c =
     let within = waiting_within now slots r lits c.requires.fits c.requires.waits live in
     (within_variable now.variables lits c.in-Some.one within c.in-Some.ensures.0).1
 
-pub returns-in-Some-other_not_false-clause-continues : goal.returns-in-Some-other_not_false-clause-continues
-returns-in-Some-other_not_false-clause-continues c =
+pub returns-in-Some-find_other_not_false-clause-continues : goal.returns-in-Some-find_other_not_false-clause-continues
+returns-in-Some-find_other_not_false-clause-continues c =
     let now = c.args.self.now in
-    subst (Continues now) (sym c.in_ok-watch.ensures.ok.2) (continues_attachment now c.args.reference (Watching c.in-Some.one c.in-Some-other_not_false.other c.in_ok-watch.ensures.ok.0) _ (ap is_kept c.requires.waits) refl (λ e. (cc)))
+    subst (Continues now) (sym c.in_ok-watch.ensures.ok.2) (continues_attachment now c.args.reference (Watching c.in-Some.one c.in-Some-find_other_not_false.other c.in_ok-watch.ensures.ok.0) _ (ap is_kept c.requires.waits) refl (λ e. (cc)))
 
-pub returns-in-Some-other_not_false-clause-fits : goal.returns-in-Some-other_not_false-clause-fits
-returns-in-Some-other_not_false-clause-fits c =
+pub returns-in-Some-find_other_not_false-clause-fits : goal.returns-in-Some-find_other_not_false-clause-fits
+returns-in-Some-find_other_not_false-clause-fits c =
     let now = c.args.self.now in
     let slots = c.args.store.now.slots in
     let r = c.args.reference in
@@ -92,12 +92,12 @@ returns-in-Some-other_not_false-clause-fits c =
     let inv : IsEngine now = subst IsEngine c.self.view_is c.self.invariant in
     let trail = ap (λ (x : EngineState). x.trail) c.self.view_is in
     let one = c.in-Some.one in
-    let other = c.in-Some-other_not_false.other in
+    let other = c.in-Some-find_other_not_false.other in
     let a = not_false_value (clause_at slots) now.trail one c.requires.fits.reasons (subst (λ T. value_in T one ≢ Some false) trail c.in-Some.ensures.1) in
-    let b = not_false_value (clause_at slots) now.trail other c.requires.fits.reasons (subst (λ T. value_in T other ≢ Some false) trail c.in-Some-other_not_false.ensures.2) in
+    let b = not_false_value (clause_at slots) now.trail other c.requires.fits.reasons (subst (λ T. value_in T other ≢ Some false) trail c.in-Some-find_other_not_false.ensures.2) in
     subst (λ e. Fits e slots) (sym c.in_ok-watch.ensures.ok.2)
-    (fits_watch now slots r lits one other c.in_ok-watch.ensures.ok.0 inv c.requires.fits c.requires.waits live (λ e. c.in-Some-other_not_false.ensures.1 (sym e))
-    (open_watch now lits one c.in-Some.ensures.0 a) (open_watch now lits other c.in-Some-other_not_false.ensures.0 b) c.in_ok-watch.ensures.ok.1)
+    (fits_watch now slots r lits one other c.in_ok-watch.ensures.ok.0 inv c.requires.fits c.requires.waits live (λ e. c.in-Some-find_other_not_false.ensures.1 (sym e))
+    (open_watch now lits one c.in-Some.ensures.0 a) (open_watch now lits other c.in-Some-find_other_not_false.ensures.0 b) c.in_ok-watch.ensures.ok.1)
 
 pub watch_satisfied-requires-clause-fits : goal.watch_satisfied-requires-clause-fits
 watch_satisfied-requires-clause-fits c =
@@ -112,7 +112,7 @@ watch_satisfied-requires-clause-fits c =
     let trail = ap (λ (x : EngineState). x.trail) c.self.view_is in
     let one = c.in-Some.one in
     let m = made_true now c.make_true.new.self slots r lits one inv c.requires.fits was live within c.in-Some.ensures.0 (subst (λ T. value_in T one ≢ Some false) trail c.in-Some.ensures.1)
-    (subst (λ T. All (λ k. (k ≡ one) ⊎ (value_in T k ≡ Some false)) lits) trail c.in_default-other_not_false.ensures) c.make_true.ensures in
+    (subst (λ T. All (λ k. (k ≡ one) ⊎ (value_in T k ≡ Some false)) lits) trail c.in_default-find_other_not_false.ensures) c.make_true.ensures in
     m.0
 
 pub returns-clause-done : goal.returns-clause-done
@@ -128,6 +128,6 @@ returns-clause-done c =
     let trail = ap (λ (x : EngineState). x.trail) c.self.view_is in
     let one = c.in-Some.one in
     let m = made_true now c.make_true.new.self slots r lits one inv c.requires.fits was live within c.in-Some.ensures.0 (subst (λ T. value_in T one ≢ Some false) trail c.in-Some.ensures.1)
-    (subst (λ T. All (λ k. (k ≡ one) ⊎ (value_in T k ≡ Some false)) lits) trail c.in_default-other_not_false.ensures) c.make_true.ensures in
+    (subst (λ T. All (λ k. (k ≡ one) ⊎ (value_in T k ≡ Some false)) lits) trail c.in_default-find_other_not_false.ensures) c.make_true.ensures in
     λ x p l. let e : lits ≡ x = cc (live, l) in
     (one, subst (λ z. contains_literal one z ≡ true) e c.in-Some.ensures.0, subst (λ T. contains_literal one (literals_of T) ≡ true) (sym c.in_ok-watch_satisfied.ensures.trail) m.1)

@@ -35,7 +35,7 @@ invariant_of-self-2 c =
     let lt : r < length i.table = kept_within i.table r (ap (λ x. is_attached x r) c.self.view_is ∙ c.requires.attached) in
     let long : length c.push-2.new.self ≡ length i.pool =
     ap length (on_ok_at c.push-2.result c.if-is_err.ensures.value c.push-2.ensures.ok) ∙ length-set _ _ _ ∙ ap length c.in_ok-push.ensures.ok ∙ length-set _ _ _ in
-    rw (c.set.ensures, c.index-4.ensures) (engine_set e r (Watching c.args.one c.args.other c.rest_of-rest.result) c.push-2.new.self i.waiting.items c.self.invariant long lt
+    rw (c.set.ensures, c.index-4.ensures) (engine_set e r (Watching c.args.one c.args.other c.gather_rest-rest.result) c.push-2.new.self i.waiting.items c.self.invariant long lt
     (λ one other at.
     let a : one ≡ c.args.one = cc in
     let b : other ≡ c.args.other = cc in
@@ -45,7 +45,7 @@ pub returns-clause-ok : goal.returns-clause-ok
 returns-clause-ok c =
     let i = c.self.inside in
     let second = on_ok_at c.push-2.result c.if-is_err.ensures.value c.push-2.ensures.ok in (
-      c.rest_of-rest.result,
-      c.rest_of-rest.ensures,
+      c.gather_rest-rest.result,
+      c.gather_rest-rest.ensures,
       rw (c.set.ensures, c.index-4.ensures, second, c.in_ok-push.ensures.ok, c.index-2.ensures.index, c.index-3.ensures.index, ← c.self.view_is) refl,
     )

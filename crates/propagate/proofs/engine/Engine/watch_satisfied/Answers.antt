@@ -13,8 +13,8 @@ use Rattle.propagate.proofs.Continuing.{continues_attachment}
 use Rattle.propagate.proofs.Watching.{fits_watch, fits_satisfied, level_watch, true_watch}
 use Rattle.propagate.proofs.engine.Engine.watch_satisfied.Goals as goal
 
-pub other_of_level-requires : goal.other_of_level-requires
-other_of_level-requires c =
+pub find_other_of_level-requires : goal.find_other_of_level-requires
+find_other_of_level-requires c =
     let now = c.args.self.now in
     let slots = c.args.store.now.slots in
     let r = c.args.reference in

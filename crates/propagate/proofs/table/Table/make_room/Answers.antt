@@ -5,13 +5,15 @@ use Rattle.std.proofs.lemmas.List.{append-nil}
 use Rattle.propagate.specs.declared.table.Attachment.TheVariants.{Detached}
 use Rattle.propagate.specs.declared.table.Kind.TheVariants.{Detached as Nothing}
 use Rattle.propagate.specs.declared.table.Rest.TheVariants.{Nothing as NoRest}
-use Rattle.propagate.proofs.Zipped.{length-attachments, attachments_grow, grown_by}
+use Rattle.clauses.proofs.Zipped.{length-zipped}
+use Rattle.propagate.specs.Table.{attachment_of}
+use Rattle.propagate.proofs.Zipped.{attachments_grow, grown_by}
 use Rattle.propagate.proofs.table.Table.make_room.Goals as goal
 
 pub returns-then-len-index-clause-ok : goal.returns-then-len-index-clause-ok
 returns-then-len-index-clause-ok c =
     let i = c.self.inside in
-    let none : c.args.reference + 1 - length c.args.self.now ≡ 0 = omega (arith, c.if-len-index.true, c.index.ensures, c.len-len.ensures, i.kinds.ok.0, ap length c.self.view_is, length-attachments i.kinds.items i.pairs.items c.self.invariant) in
+    let none : c.args.reference + 1 - length c.args.self.now ≡ 0 = omega (arith, c.if-len-index.true, c.index.ensures, c.len-len.ensures, i.kinds.ok.0, ap length c.self.view_is, length-zipped attachment_of i.kinds.items i.pairs.items c.self.invariant) in
     rw none (sym (append-nil c.args.self.now))
 
 pub returns-clause-ok : goal.returns-clause-ok
@@ -19,7 +21,7 @@ returns-clause-ok c =
     let i = c.self.inside in
     let r = c.args.reference in
     let short : length i.kinds.items ≤ r = omega (arith, c.if-len-index.false, c.index.ensures, c.len-len.ensures, i.kinds.ok.0) in
-    let same : length c.args.self.now ≡ length i.kinds.items = sym (ap length c.self.view_is) ∙ length-attachments i.kinds.items i.pairs.items c.self.invariant in
+    let same : length c.args.self.now ≡ length i.kinds.items = sym (ap length c.self.view_is) ∙ length-zipped attachment_of i.kinds.items i.pairs.items c.self.invariant in
     let n = r + 1 - length c.args.self.now in
     let ok : is_ok c.resize-2.result ≡ true = c.is_err.ensures.negation ∙ ap not c.if-is_err.false in
     let kinds : c.resize.new.self.items ≡ i.kinds.items ++ replicate n Nothing = c.in_ok-resize.ensures.items ∙ grown_by _ _ r _ _ Nothing c.index-2.ensures (omega (arith, i.kinds.ok.0, same)) short in

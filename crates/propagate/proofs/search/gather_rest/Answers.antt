@@ -3,8 +3,8 @@ use Rattle.std.proofs.lemmas.List.{take_all, take_more}
 use Rattle.propagate.specs.declared.table.Rest.TheVariants.{One}
 use Rattle.propagate.specs.Fits.{IsRest}
 use Rattle.propagate.proofs.Beside.{rest_same, rest_third}
-use Rattle.propagate.proofs.search.rest_of.Goals as goal
-use Rattle.propagate.proofs.search.rest_of.Goals.{then-eq-via-then-eq, then-eq-via-else-eq+then-eq-2}
+use Rattle.propagate.proofs.search.gather_rest.Goals as goal
+use Rattle.propagate.proofs.search.gather_rest.Goals.{then-eq-via-then-eq, then-eq-via-else-eq+then-eq-2}
 
 pub loop-lit-preserved-then-eq : goal.loop-lit-preserved-then-eq
 loop-lit-preserved-then-eq c =

@@ -4,7 +4,7 @@ use Rattle.wcnf.specs.Literal.{Literal}
 use Rattle.std.proofs.lemmas.List.{take_all}
 use Rattle.propagate.specs.Trail.{value_in}
 use Rattle.propagate.proofs.Searches.{all_read}
-use Rattle.propagate.proofs.search.first_not_false.Goals as goal
+use Rattle.propagate.proofs.search.find_not_false.Goals as goal
 
 pub loop-lit-preserved : goal.loop-lit-preserved
 loop-lit-preserved c =
