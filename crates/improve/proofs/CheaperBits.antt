@@ -1,7 +1,7 @@
 -- Bits that satisfy all that was given are a solution that is cheaper than the last bound.
 use Rattle.std.proofs.Common.{◌≡◌, ℕ, zero, suc, ◌+◌, ◌<◌, ◌≤◌, Bool, true, List, [], ◌∷◌, ◌++◌, length, inr, append_assoc, refl, sym, ◌∙◌, ap, subst, arith, All}
 use Rattle.std.specs.List.{AllByRecursion, flat_map}
-use Rattle.std.proofs.lemmas.List.Elements.{recursion_from_All, All-from_recursion, All-map}
+use Rattle.std.proofs.lemmas.List.Elements.{recursion_from_All, All-from_recursion, All-map, Contains-push}
 use Rattle.wcnf.specs.Literal.{Literal, Assignment}
 use Rattle.wcnf.specs.Clause.{Satisfies}
 use Rattle.wcnf.specs.Bits.{Extends, assignment_of}
@@ -17,6 +17,7 @@ use Rattle.lrat_log.specs.Log.{LogLine, is_learned, clauses_in}
 use Rattle.lrat_log.specs.Steps.{IsLogOver, IsBaseOf, LearnsNew, is_later, nothing_exempt, learned_count, given_of}
 use Rattle.lrat_log.proofs.Rebasing.{base_of}
 use Rattle.adder.specs.Network.{adders_as}
+use Rattle.adder.proofs.Sums.{left_part, right_part}
 use Rattle.improve.specs.Frozen.{AreFrozen}
 use Rattle.cdcl.specs.Solving.{given_to, SatisfyGiven, SameGiven, IsPlainlyRefuted, lines_since}
 use Rattle.improve.specs.Improving.{IsSolution, IsCostOfSome, AreFalling}
@@ -28,14 +29,6 @@ use Rattle.improve.specs.declared.bounds.Bounds.{Bounds}
 use Rattle.improve.proofs.BitLaws.{extends_own}
 use Rattle.improve.proofs.GivenParts.{given_split}
 
-left_all : {X : Type 0} (P : X → Type 0) (xs ys : List X) → AllByRecursion P (xs ++ ys) → AllByRecursion P xs
-left_all P [] ys h = tt
-left_all P (x ∷ xs) ys h = (h.0, left_all P xs ys h.1)
-
-right_all : {X : Type 0} (P : X → Type 0) (xs ys : List X) → AllByRecursion P (xs ++ ys) → AllByRecursion P ys
-right_all P [] ys h = h
-right_all P (x ∷ xs) ys h = right_all P xs ys h.1
-
 -- all clauses given hold, so those of the formula for the last bound do
 pub last_satisfied : (p : Problem) (b : Bounds) (before : List ℕ) (c : ℕ) (t : Assignment) → IsOver p b → (b.costs).items ≡ before ++ c ∷ []
     → All (λ (g : Name × List Literal). Satisfies t g.1) (given_to b.solver) → All (Satisfies t) (bound_as b.profile p c).clauses
@@ -44,7 +37,7 @@ last_satisfied p b before c t h e s =
     let B = flat_map (comparator_for b.profile p) before in
     let C = comparator_for b.profile p c in
     let all = subst (AllByRecursion (Satisfies t)) (given_split p b before c h e) (recursion_from_All (Satisfies t) (clauses_in (given_to b.solver)) (All-map (Satisfies t) (λ (g : Name × List Literal). g.1) (given_to b.solver) s)) in
-    All-from_recursion (Satisfies t) (A ++ C) (all_append (Satisfies t) A C (left_all (Satisfies t) A (B ++ C) all) (right_all (Satisfies t) B C (right_all (Satisfies t) A (B ++ C) all)))
+    All-from_recursion (Satisfies t) (A ++ C) (all_append (Satisfies t) A C (left_part (Satisfies t) A (B ++ C) all) (right_part (Satisfies t) B C (right_part (Satisfies t) A (B ++ C) all)))
 
 pub bits_cheaper : (p : Problem) (b : Bounds) (before : List ℕ) (c : ℕ) (bits : List Bool) → IsOver p b → (b.costs).items ≡ before ++ c ∷ []
     → SatisfyGiven bits (given_to b.solver) → (t : Assignment) → Extends bits t → IsFeasible p t × (cost_under p t < c)
@@ -108,17 +101,13 @@ learned_more old new before after e h =
     omega (arith, h, ap learned_count e, sum_by-append (λ (l : LogLine). if is_learned l.kind then 1 else 0) old (lines_since old new))
 
 -- the bound 0 is refuted at once
-contains_last : (xs : List (List Literal)) (x : List Literal) → Contains (xs ++ x ∷ []) x
-contains_last [] x = (0, omega arith, refl)
-contains_last (y ∷ xs) x = let r = contains_last xs x in (suc r.0, omega (arith, r.1), r.2)
-
 pub zero_refuted : (p : Problem) (b : Bounds) (before : List ℕ) (c : ℕ) → IsOver p b → (b.costs).items ≡ before ++ c ∷ [] → c ≡ 0 → IsPlainlyRefuted b.solver
 zero_refuted p b before c h e none =
     let A = fixed_clauses b.profile p in
     let B = flat_map (comparator_for b.profile p) before in
     let parts : clauses_in (given_to b.solver) ≡ (fixed_clauses b.profile p ++ flat_map (comparator_for b.profile p) before) ++ [] ∷ [] =
     given_split p b before c h e ∙ ap (λ k. A ++ (B ++ comparator_for b.profile p k)) none ∙ sym (append_assoc A B ([] ∷ [])) in
-    inr (subst (λ x. Contains x []) (sym parts) (contains_last (A ++ B) []))
+    inr (subst (λ x. Contains x []) (sym parts) (Contains-push (A ++ B) []))
 
 pub above_zero : (n : ℕ) → (n ≡ 0 → ⊥) → 0 < n
 above_zero zero h = absurd (h refl)

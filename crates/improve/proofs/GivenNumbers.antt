@@ -15,6 +15,7 @@ use Rattle.lrat_log.specs.Log.{LogLine, Given, given_at, is_learned, clauses_in}
 use Rattle.lrat_log.specs.Steps.{IsLogOver, LearnsNew, is_later, learned_count, given_of}
 use Rattle.lrat_log.proofs.Rebasing.{given_at-given_of}
 use Rattle.cdcl.specs.Solving.{given_to, GivesMore, lines_since}
+use Rattle.cdcl.proofs.Started.{clauses_given}
 use Rattle.improve.specs.Bounds.{LogSolver, IsUsable, GivesAll}
 use Rattle.lrat_log.proofs.NewLines.{none_new}
 use Rattle.lrat_log.proofs.MoreGiven.{new_more}
@@ -37,16 +38,7 @@ unfolding given_on
 given_push n [] c m e = let same : n ≡ m = omega arith in ap (λ k. (Formula k, c) ∷ []) same
 given_push n (d ∷ cs) c m e = ap (λ x. (Formula n, d) ∷ x) (given_push (n + 1) cs c m (omega arith))
 
-clauses_on : (n : ℕ) (cs : List (List Literal)) → clauses_in (given_on n cs) ≡ cs
-unfolding given_on
-clauses_on n [] = refl
-clauses_on n (c ∷ cs) = ap (λ x. c ∷ x) (clauses_on (n + 1) cs)
-
-pub clauses_given : (cs : List (List Literal)) → clauses_in (given_of cs) ≡ cs
-unfolding given_on
-clauses_given cs = clauses_on 1 cs
-
-pub given_more : (cs : List (List Literal)) (c : List Literal) (m : ℕ) → m ≡ length cs + 1 → given_of (cs ++ c ∷ []) ≡ given_of cs ++ (Formula m, c) ∷ []
+given_more : (cs : List (List Literal)) (c : List Literal) (m : ℕ) → m ≡ length cs + 1 → given_of (cs ++ c ∷ []) ≡ given_of cs ++ (Formula m, c) ∷ []
 unfolding given_on
 given_more cs c m e = given_push 1 cs c m (omega arith)
 

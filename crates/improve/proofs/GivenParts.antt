@@ -1,11 +1,12 @@
 -- The clauses given, in parts: the fixed ones, those of the bounds before the last, and those of the last.
-use Rattle.std.proofs.Common.{◌≡◌, ℕ, zero, suc, ◌+◌, ◌-◌, ◌<◌, ◌≤◌, ◌^◌, List, [], ◌∷◌, ◌++◌, length, take, drop, refl, sym, ◌∙◌, ap, subst, arith, All, length-append, append-nil, append_assoc}
+use Rattle.std.proofs.Common.{◌≡◌, ℕ, ◌+◌, ◌-◌, ◌<◌, ◌≤◌, ◌^◌, List, [], ◌∷◌, ◌++◌, length, take, drop, sym, ◌∙◌, ap, subst, arith, All, length-append, append-nil, append_assoc}
 use Rattle.std.specs.Prelude.{Result, Ok, Err, IfOk, OnOk}
 use Rattle.std.specs.List.{AllByRecursion, flat_map}
 use Rattle.std.specs.declared.vec.Vec.{Vec}
 use Rattle.std.specs.declared.alloc.Global.{Global}
 use Rattle.std.proofs.lemmas.Grind.{flat_map-append}
 use Rattle.std.proofs.lemmas.List.{length-map, drop-map, take-map, take_rest}
+use Rattle.std.proofs.Math.Seq.{drop-append_seam, take-append_seam}
 use Rattle.std.proofs.lemmas.List.Elements.{recursion_from_All, All-from_recursion, All-weaker}
 use Rattle.wcnf.specs.Literal.{Literal}
 use Rattle.wcnf.specs.Clause.{greatest_variable}
@@ -27,25 +28,13 @@ use Rattle.improve.specs.Bounds.{LogSolver, IsUsable, IsOver}
 use Rattle.improve.specs.declared.bounds.Bounds.{Bounds}
 use Rattle.improve.proofs.SubsetSearch.{first_bounds}
 
-pub if_ok : {X E : Type 0} (r : Result X E) (P Q : X → Type 0) → ((x : X) → P x → Q x) → IfOk r P → IfOk r Q
-if_ok (Ok x) P Q f h = f x h
-if_ok (Err e) P Q f h = h
-
-drop_front : (xs ys : List (List Literal)) (n : ℕ) → n ≡ length xs → drop n (xs ++ ys) ≡ ys
-drop_front [] ys n e = ap (λ m. drop m ys) e
-drop_front (x ∷ xs) ys zero e = absurd (omega arith)
-drop_front (x ∷ xs) ys (suc n) e = drop_front xs ys n (omega arith)
-
-take_front : (xs ys : List (List Literal)) (n : ℕ) → n ≡ length xs → take n (xs ++ ys) ≡ xs
-take_front [] ys n e = ap (λ m. take m ys) e
-take_front (x ∷ xs) ys zero e = absurd (omega arith)
-take_front (x ∷ xs) ys (suc n) e = ap (λ z. x ∷ z) (take_front xs ys n (omega arith))
-
 last_part : (a b c : List (List Literal)) (n : ℕ) → n ≡ length a + length b → drop n (a ++ (b ++ c)) ≡ c
-last_part a b c n e = ap (drop n) (sym (append_assoc a b c)) ∙ drop_front (a ++ b) c n (omega (arith, length-append a b))
+last_part a b c n e =
+    let len : n ≡ length (a ++ b) = omega (arith, e, length-append a b) in
+    ap (drop n) (sym (append_assoc a b c)) ∙ ap (λ m. drop m ((a ++ b) ++ c)) len ∙ drop-append_seam (a ++ b) c
 
 middle_part : (a b c : List (List Literal)) (n : ℕ) → n ≡ length b → take n (drop (length a) (a ++ (b ++ c))) ≡ b
-middle_part a b c n e = ap (take n) (drop_front a (b ++ c) (length a) refl) ∙ take_front b c n e
+middle_part a b c n e = ap (take n) (drop-append_seam a (b ++ c)) ∙ ap (λ m. take m (b ++ c)) e ∙ take-append_seam b c
 
 pub parts_weaker : (given : Given) (fixed last : ℕ) (a b c : List (List Literal)) (before end : Given) → clauses_in given ≡ a ++ (b ++ c) → length a ≡ fixed → length c ≡ last
     → before ≡ take (length given - last - fixed) (drop fixed given) → end ≡ take (length given - (length given - last)) (drop (length given - last) given)

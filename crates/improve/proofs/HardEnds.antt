@@ -21,7 +21,7 @@ use Rattle.cdcl.specs.Solving.{given_to, SatisfyGiven, SameGiven, IsPlainlyRefut
 use Rattle.improve.specs.Improving.{IsHardLog, IsRightFound, work_count}
 use Rattle.improve.specs.Bounds.{LogSolver, IsOverHard}
 use Rattle.improve.specs.declared.found.Found.TheVariants.{Unsat, Nothing}
-use Rattle.improve.proofs.GivenNumbers.{clauses_given}
+use Rattle.cdcl.proofs.Started.{clauses_given}
 use Rattle.lrat_log.proofs.NewLines.{first_new}
 use Rattle.improve.proofs.CheaperBits.{same_given, learned_more}
 

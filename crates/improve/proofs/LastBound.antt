@@ -17,6 +17,7 @@ use Rattle.lrat_log.specs.Steps.{IsLogOver, IsAcceptedLog, AddsNoEmptyClause, is
 use Rattle.lrat_log.specs.Rebase.{WeakerList, rebased, IsWeakerOf, IsSomeClause, KeepsLog}
 use Rattle.adder.specs.declared.cells.Profile.{Profile}
 use Rattle.adder.specs.Network.{adders_as}
+use Rattle.adder.proofs.Sums.{right_part}
 use Rattle.bound.specs.Bound.{bound_as, fixed_clauses, comparator_for, IsCovered}
 use Rattle.bound.proofs.Subsets.{all_append}
 use Rattle.bound.proofs.Covers.{covers_larger}
@@ -54,10 +55,6 @@ get_after (x ∷ xs) ys (suc i) k e = get_after xs ys i k (omega arith)
 number_after : (xs ys : List (List Literal)) (m k : ℕ) → m ≡ length xs + 1 + k → numbered (xs ++ ys) m ≡ slice_get ys k
 number_after xs ys zero k e = absurd (omega arith)
 number_after xs ys (suc i) k e = get_after xs ys i k (omega arith)
-
-right_part : {X : Type 0} (P : X → Type 0) (xs ys : List X) → AllByRecursion P (xs ++ ys) → AllByRecursion P ys
-right_part P [] ys h = h
-right_part P (x ∷ xs) ys h = right_part P xs ys h.1
 
 all_flat : {X : Type 0} (P : X → Type 0) (f : ℕ → List X) (ns : List ℕ) → AllByRecursion (λ n. AllByRecursion P (f n)) ns → AllByRecursion P (flat_map f ns)
 all_flat P f [] h = tt

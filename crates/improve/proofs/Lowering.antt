@@ -1,5 +1,5 @@
 -- From one bound to the next: the cost in hand is one more that was told.
-use Rattle.std.proofs.Common.{◌≡◌, ℕ, ◌+◌, ◌≤◌, ◌^◌, Bool, true, false, List, [], ◌∷◌, ◌++◌, Result, Ok, Err, length, append_assoc, length-append, sym, ◌∙◌, ap, subst, arith}
+use Rattle.std.proofs.Common.{◌≡◌, ℕ, ◌+◌, ◌<◌, ◌≤◌, ◌^◌, Bool, true, false, List, [], ◌∷◌, ◌++◌, Result, Ok, Err, length, append_assoc, length-append, sym, ◌∙◌, ap, subst, arith}
 use Rattle.std.specs.Prelude.{All, OnOk, OnErr, is_err, if◌then◌else◌, sum_by}
 use Rattle.std.proofs.lemmas.List.Elements.{All-push}
 use Rattle.std.proofs.lemmas.List.Sums.{sum_by-le-sum_by}
@@ -19,9 +19,9 @@ part : (b : Bool) (w : ℕ) → (if b then 0 else w) ≤ w
 part true w = omega arith
 part false w = omega arith
 
-pub cost_small : (p : Problem) (bits : List Bool) (c : ℕ) → IsInstance p → IsSolution p bits c → c ≤ 2 ^ 62
-cost_small p bits c h s =
-    let k = cost_of_solution p bits c s in
+-- weights sum to less than 2^62, and so does what an assignment costs
+pub cost_small : (p : Problem) (c : ℕ) → IsInstance p → IsCostOfSome p c → c < 2 ^ 62
+cost_small p c h k =
     let le : cost_under p k.0 ≤ sum_by (λ (s : SoftClause). s.weight) p.soft =
     sum_by-le-sum_by (λ (s : SoftClause). if clause_value k.0 s.clause then 0 else s.weight) (λ (s : SoftClause). s.weight) p.soft (λ s. part (clause_value k.0 s.clause) s.weight) in
     omega (arith, le, h.weight_sum, k.2)

@@ -35,7 +35,7 @@ module _ (profile : Profile) (p : Problem) (old new : Telling) (before left : Bu
     tells = tells;
     falling = falling;
     honest = honest;
-    tells_of = (c, failed, refl);
+    tells_of = record { last = c; last_failed = failed; tried_is = refl };
     progress = λ e. more;
     no_failure = λ e. absurd (e refl);
     found = tt;

@@ -1,18 +1,19 @@
 -- A solver that is given bound after bound.
 use Rattle.std.specs.Prelude.{◌≡◌, ℕ, ◌+◌, ◌<◌, ◌≤◌, ◌^◌, Bool, false, List, [], ◌∷◌, ◌++◌, length}
-use Rattle.std.specs.List.{flat_map}
 use Rattle.wcnf.specs.Literal.{Literal}
 use Rattle.wcnf.specs.Problem.{Problem}
 use Rattle.wcnf.specs.Instance.{IsInstance}
 use Rattle.lrat_log.specs.Log.{LogLine, clauses_in}
-use Rattle.lrat_log.specs.Steps.{IsLogOver, IsAcceptedLog, AddsNoEmptyClause, LearnsNew, is_later, learned_count, given_of}
+use Rattle.lrat_log.specs.Steps.{IsLogOver, IsAcceptedLog, AddsNoEmptyClause, LearnsNew}
+use Rattle.lrat_log.specs.Steps.{is_later, learned_count, given_of}
 use Rattle.lrat_log.specs.Rebase.{rebased}
 use Rattle.adder.specs.declared.cells.Profile.{Profile}
 use Rattle.adder.specs.Network.{adders_as}
 use Rattle.bound.specs.Bound.{hard_cnf, bound_as, fixed_clauses, comparator_for}
 use Rattle.cdcl.specs.Solving.{SolverState, given_to}
 use Rattle.improve.specs.Frozen.{AreFrozen}
-use Rattle.improve.specs.Improving.{AreFalling, IsSolution, weaker_among}
+use Rattle.improve.specs.Improving.{AreFalling, IsSolution, IsNewOver}
+use Rattle.improve.specs.Improving.{comparators_for, weaker_before}
 use Rattle.improve.specs.declared.bounds.Bounds.{Bounds}
 use Rattle.improve.specs.declared.bounds.Next.{Next}
 use Rattle.improve.specs.declared.bounds.Next.TheVariants.{Cheaper, Refuted, Spent}
@@ -41,17 +42,21 @@ pub record GivesAll (old : LogSolver) (cs : List (List Literal)) (new : LogSolve
 abbrev pub Gives : LogSolver → List Literal → LogSolver → Type 0
 Gives old c new = GivesAll old (c ∷ []) new
 
+-- the bounds are those before and then a last one
+abbrev pub HasLast : Bounds → List ℕ → ℕ → Type 0
+HasLast b before c = (b.costs).items ≡ before ++ c ∷ []
+
 -- the solver was given the formula without a bound, and then these bounds
 pub record IsOver (p : Problem) (b : Bounds) : Type 0 where
   pub instance : IsInstance p
   pub usable : IsUsable b.solver
   pub formula : (b.solver).formula ≡ bound_as b.profile p (2 ^ 62)
   pub clauses : clauses_in (given_to b.solver)
-      ≡ fixed_clauses b.profile p ++ flat_map (comparator_for b.profile p) (b.costs).items
+      ≡ fixed_clauses b.profile p ++ comparators_for b.profile p (b.costs).items
   pub network : b.network ≡ adders_as b.profile p
   pub frozen : AreFrozen (b.solver).frozen (adders_as b.profile p).outputs
   pub fixed : b.fixed ≡ length (fixed_clauses b.profile p)
-  pub last : (before : List ℕ) (c : ℕ) → (b.costs).items ≡ before ++ c ∷ []
+  pub last : (before : List ℕ) (c : ℕ) → HasLast b before c
       → b.last ≡ length (comparator_for b.profile p c)
 
 -- no bound was given yet, and nothing learned
@@ -70,27 +75,28 @@ pub record IsOverHard (p : Problem) (s : LogSolver) : Type 0 where
 
 -- the log over the formula for the last bound, where the bounds fall
 pub record BoundLog (p : Problem) (b : Bounds) (log : List LogLine) : Type 0 where
-  pub lines : (before : List ℕ) (c : ℕ) → (b.costs).items ≡ before ++ c ∷ []
-      → log ≡ rebased (length (fixed_clauses b.profile p))
-      (weaker_among (length (fixed_clauses b.profile p) + 1) (comparator_for b.profile p c) (flat_map (comparator_for b.profile p) before))
+  pub lines : (before : List ℕ) (c : ℕ) → HasLast b before c
+      → log ≡ rebased (length (fixed_clauses b.profile p)) (weaker_before b.profile p before c)
       (b.solver).sink
-  pub is_log : (before : List ℕ) (c : ℕ) → (b.costs).items ≡ before ++ c ∷ [] → AreFalling (b.costs).items
+  pub is_log : (before : List ℕ) (c : ℕ) → HasLast b before c → AreFalling (b.costs).items
       → IsLogOver (given_of (bound_as b.profile p c).clauses) log
-  pub accepted : (before : List ℕ) (c : ℕ) → (b.costs).items ≡ before ++ c ∷ [] → AreFalling (b.costs).items
-      → IsAcceptedLog (given_to b.solver) (b.solver).sink → IsAcceptedLog (given_of (bound_as b.profile p c).clauses) log
-  pub open_end : (before : List ℕ) (c : ℕ) → (b.costs).items ≡ before ++ c ∷ [] → AreFalling (b.costs).items
+  pub accepted : (before : List ℕ) (c : ℕ) → HasLast b before c → AreFalling (b.costs).items
+      → IsAcceptedLog (given_to b.solver) (b.solver).sink
+      → IsAcceptedLog (given_of (bound_as b.profile p c).clauses) log
+  pub open_end : (before : List ℕ) (c : ℕ) → HasLast b before c → AreFalling (b.costs).items
       → AddsNoEmptyClause (b.solver).sink → AddsNoEmptyClause log
-  -- what it learned is new but for the clauses of the last bound and the lines for those of the bounds before
-  pub new : (before : List ℕ) (c : ℕ) → (b.costs).items ≡ before ++ c ∷ [] → AreFalling (b.costs).items
-      → LearnsNew (is_later (length (fixed_clauses b.profile p)) (length (bound_as b.profile p c).clauses + length (flat_map (comparator_for b.profile p) before)))
-      (given_of (bound_as b.profile p c).clauses) (length (bound_as b.profile p c).clauses) [] log
+  -- what it learned is new but for the clauses of the last bound and the lines for those of the
+  -- bounds before
+  pub new : (before : List ℕ) (c : ℕ) → HasLast b before c → AreFalling (b.costs).items
+      → IsNewOver b.profile p c (length (comparators_for b.profile p before)) log
   pub learned : learned_count log ≡ learned_count (b.solver).sink
 
 -- What was answered is so, where the budget went from old to new.
 
-pub record IsNextCheaper (p : Problem) (b : Bounds) (old new : BudgetState) (bits : List Bool) (cost : ℕ) : Type 0 where
+pub record IsNextCheaper (p : Problem) (b : Bounds) (old new : BudgetState) (bits : List Bool)
+    (cost : ℕ) : Type 0 where
   pub solution : IsSolution p bits cost
-  pub below : (before : List ℕ) (c : ℕ) → (b.costs).items ≡ before ++ c ∷ [] → cost < c
+  pub below : (before : List ℕ) (c : ℕ) → HasLast b before c → cost < c
   pub answers : new.answers ≡ old.answers + 1
 
 pub record IsNextRefuted (b : Bounds) (old new : BudgetState) : Type 0 where
@@ -99,7 +105,7 @@ pub record IsNextRefuted (b : Bounds) (old new : BudgetState) : Type 0 where
 
 pub record IsNextSpent (b : Bounds) (old new : BudgetState) : Type 0 where
   pub open_end : AddsNoEmptyClause (b.solver).sink
-  pub above_zero : (before : List ℕ) (c : ℕ) → (b.costs).items ≡ before ++ c ∷ [] → 0 < c
+  pub above_zero : (before : List ℕ) (c : ℕ) → HasLast b before c → 0 < c
   pub none_left : left_of new ≡ 0
   pub answers : new.answers ≡ old.answers
 

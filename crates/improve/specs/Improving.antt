@@ -1,5 +1,7 @@
 -- What the improving search finds.
-use Rattle.std.specs.Prelude.{◌≡◌, ℕ, ◌+◌, ◌<◌, ◌^◌, Bool, List, [], ◌∷◌, ◌++◌, length, map, drop, if◌then◌else◌, Option, Some, Result, Ok, Err, IfOk, OnOk, All, ⊤}
+use Rattle.std.specs.Prelude.{◌≡◌, ◌+◌, ◌<◌, ◌^◌, [], ◌∷◌, ◌++◌, if◌then◌else◌, ⊤}
+use Rattle.std.specs.Prelude.{ℕ, Bool, List, length, map, drop, All}
+use Rattle.std.specs.Prelude.{Option, Some, Result, Ok, Err, IfOk, OnOk}
 use Rattle.std.specs.List.{flat_map}
 use Rattle.wcnf.specs.Literal.{Literal, Assignment}
 use Rattle.wcnf.specs.Clause.{is_subset}
@@ -8,7 +10,8 @@ use Rattle.wcnf.specs.Problem.{Problem, IsFeasible, cost_under, IsOptimal, IsInc
 use Rattle.wcnf.specs.Refute.{IsRefutedByHints}
 use Rattle.wcnf.specs.Lrat.{Accepts, start_of}
 use Rattle.lrat_log.specs.Log.{LogLine, numbered_lines}
-use Rattle.lrat_log.specs.Steps.{AreSteps, AddsNoEmptyClause, LearnsNew, nothing_exempt, is_later, given_of, learned_count}
+use Rattle.lrat_log.specs.Steps.{AreSteps, AddsNoEmptyClause, LearnsNew}
+use Rattle.lrat_log.specs.Steps.{nothing_exempt, is_later, given_of, learned_count}
 use Rattle.lrat_log.specs.Rebase.{WeakerList, weaker_line}
 use Rattle.adder.specs.declared.cells.Profile.{Profile}
 use Rattle.bound.specs.Bound.{hard_cnf, bound_as, fixed_clauses, comparator_for}
@@ -38,7 +41,8 @@ EndsWith costs c = (before : List ℕ) × (costs ≡ before ++ c ∷ [])
 -- the bits are a solution of this cost
 abbrev pub IsSolution : Problem → List Bool → ℕ → Type 0
 IsSolution p bits c =
-    (length bits ≡ p.variables) × ((t : Assignment) → Extends bits t → IsFeasible p t × (cost_under p t ≡ c))
+    (length bits ≡ p.variables)
+    × ((t : Assignment) → Extends bits t → IsFeasible p t × (cost_under p t ≡ c))
 
 -- from this number on, the number of the first clause that is a subset of c
 abbrev pub first_subset : ℕ → List (List Literal) → List Literal → ℕ
@@ -50,15 +54,24 @@ but_last [] = []
 but_last (c ∷ []) = []
 but_last (c ∷ d ∷ cs) = c ∷ but_last (d ∷ cs)
 
--- the clauses before, each with the number of the first of the last ones that is a subset of it; the last ones have
--- the numbers from `first` on
+-- the clauses before, each with the number of the first of the last ones that is a subset of it;
+-- the last ones have the numbers from `first` on
 abbrev pub weaker_among : ℕ → List (List Literal) → List (List Literal) → WeakerList
 weaker_among first last before = map (λ c. (c, first_subset first last c)) before
 
--- the comparator clauses of the bounds before the last one, each with the number of one for the last
+-- the comparator clauses of these bounds
+abbrev pub comparators_for : Profile → Problem → List ℕ → List (List Literal)
+comparators_for profile p costs = flat_map (comparator_for profile p) costs
+
+-- the comparator clauses of the bounds before, each with the number of one for the last
+abbrev pub weaker_before : Profile → Problem → List ℕ → ℕ → WeakerList
+weaker_before profile p before last =
+    weaker_among (length (fixed_clauses profile p) + 1) (comparator_for profile p last)
+    (comparators_for profile p before)
+
+-- the same, where the last bound is the last cost
 abbrev pub weaker_for : Profile → Problem → List ℕ → ℕ → WeakerList
-weaker_for profile p costs last =
-    weaker_among (length (fixed_clauses profile p) + 1) (comparator_for profile p last) (flat_map (comparator_for profile p) (but_last costs))
+weaker_for profile p costs last = weaker_before profile p (but_last costs) last
 
 -- the log begins with a line for each of those
 abbrev pub BeginsWithWeaker : Profile → Problem → List ℕ → ℕ → List LogLine → Type 0
@@ -84,18 +97,25 @@ IsHardLog p ls = IsWorkOver (hard_cnf p).clauses ls × IsNewWork (hard_cnf p).cl
 abbrev pub IsHardWork : Problem → Work → Type 0
 IsHardWork p w = IsHardLog p w.hard
 
--- the ids of the last bound's clauses, and of the lines for those of the bounds before
-abbrev pub is_of_bounds : Profile → Problem → List ℕ → ℕ → ℕ → Bool
-is_of_bounds profile p costs c =
-    is_later (length (fixed_clauses profile p)) (length (bound_as profile p c).clauses + length (weaker_for profile p costs c))
+-- the ids of the last bound's clauses, and of so many lines for those of the bounds before
+abbrev pub is_of_bounds : Profile → Problem → ℕ → ℕ → ℕ → Bool
+is_of_bounds profile p c lines =
+    is_later (length (fixed_clauses profile p)) (length (bound_as profile p c).clauses + lines)
 
--- but for those, no learned line has a subset that is live at its place, and each follows by propagation
+-- but for those, no learned line has a subset that is live at its place, and each follows by
+-- propagation
+abbrev pub IsNewOver : Profile → Problem → ℕ → ℕ → List LogLine → Type 0
+IsNewOver profile p c lines ls =
+    LearnsNew (is_of_bounds profile p c lines) (given_of (bound_as profile p c).clauses)
+    (length (bound_as profile p c).clauses) [] ls
+
 abbrev pub IsNewBoundWork : Profile → Problem → List ℕ → ℕ → List LogLine → Type 0
 IsNewBoundWork profile p costs c ls =
-    LearnsNew (is_of_bounds profile p costs c) (given_of (bound_as profile p c).clauses) (length (bound_as profile p c).clauses) [] ls
+    IsNewOver profile p c (length (weaker_for profile p costs c)) ls
 
 -- the log over the formula for the last bound
-pub record IsBoundWork (profile : Profile) (p : Problem) (costs : List ℕ) (c : ℕ) (w : Work) : Type 0 where
+pub record IsBoundWork (profile : Profile) (p : Problem) (costs : List ℕ) (c : ℕ) (w : Work)
+    : Type 0 where
   pub work : IsWorkOver (bound_as profile p c).clauses w.bound
   pub begins : BeginsWithWeaker profile p costs c w.bound
   pub new : IsNewBoundWork profile p costs c w.bound
@@ -106,7 +126,8 @@ IsClauseCount n cs = (n ≡ length cs) × (n < 2 ^ 28)
 
 -- What was found is right, where these costs were told.
 
-pub record IsRightOptimum (profile : Profile) (p : Problem) (costs : List ℕ) (c : ℕ) (bits : List Bool) (log : List LogLine) (clauses : ℕ) : Type 0 where
+pub record IsRightOptimum (profile : Profile) (p : Problem) (costs : List ℕ) (c : ℕ)
+    (bits : List Bool) (log : List LogLine) (clauses : ℕ) : Type 0 where
   pub solution : IsSolution p bits c
   pub told : EndsWith costs c
   pub optimal : (t : Assignment) → Extends bits t → IsOptimal p t c
@@ -114,13 +135,15 @@ pub record IsRightOptimum (profile : Profile) (p : Problem) (costs : List ℕ) (
   pub begins : BeginsWithWeaker profile p costs c log
   pub counted : IsClauseCount clauses (bound_as profile p c).clauses
 
-pub record IsRightUnsat (p : Problem) (costs : List ℕ) (log : List LogLine) (clauses : ℕ) : Type 0 where
+pub record IsRightUnsat (p : Problem) (costs : List ℕ) (log : List LogLine) (clauses : ℕ)
+    : Type 0 where
   pub none_told : costs ≡ []
   pub inconsistent : IsInconsistent p
   pub accepted : IsAcceptedOver (hard_cnf p).clauses log
   pub counted : IsClauseCount clauses (hard_cnf p).clauses
 
-pub record IsRightBest (profile : Profile) (p : Problem) (costs : List ℕ) (c : ℕ) (bits : List Bool) (work : Work) : Type 0 where
+pub record IsRightBest (profile : Profile) (p : Problem) (costs : List ℕ) (c : ℕ)
+    (bits : List Bool) (work : Work) : Type 0 where
   pub solution : IsSolution p bits c
   pub told : EndsWith costs c
   pub above_zero : 0 < c
@@ -135,16 +158,23 @@ pub record IsRightNothing (p : Problem) (costs : List ℕ) (work : Work) : Type 
   pub no_bound : work.bound ≡ []
 
 abbrev pub IsRightFound : Profile → Problem → List ℕ → Found → Type 0
-IsRightFound profile p costs (Optimum c bits log clauses) = IsRightOptimum profile p costs c bits.items log clauses
+IsRightFound profile p costs (Optimum c bits log clauses) =
+    IsRightOptimum profile p costs c bits.items log clauses
 IsRightFound profile p costs (Unsat log clauses) = IsRightUnsat p costs log clauses
 IsRightFound profile p costs (Best c bits work) = IsRightBest profile p costs c bits.items work
 IsRightFound profile p costs (Nothing work) = IsRightNothing p costs work
+
+-- all that was tried was told but the last cost, where telling failed
+pub record TellsAllButLast (tried told : List ℕ) (failed : Option ℕ) : Type 0 where
+  pub last : ℕ
+  pub last_failed : failed ≡ Some last
+  pub tried_is : tried ≡ told ++ last ∷ []
 
 -- what was tried was told, but for a last cost where that failed
 abbrev pub TellsOf : Result Found ImproveFault → List ℕ → List ℕ → Option ℕ → Type 0
 TellsOf (Ok found) tried told failed = tried ≡ told
 TellsOf (Err Memory) tried told failed = tried ≡ told
-TellsOf (Err Progress) tried told failed = (c : ℕ) × (failed ≡ Some c) × (tried ≡ told ++ c ∷ [])
+TellsOf (Err Progress) tried told failed = TellsAllButLast tried told failed
 
 -- for the answers with work
 abbrev pub OnWork : Result Found ImproveFault → (Work → Type 0) → Type 0
@@ -164,8 +194,8 @@ pub record Telling : Type 0 where
   pub failures : ℕ
 
 -- what a search answers, tells and spends
-pub record Improves (profile : Profile) (p : Problem) (result : Result Found ImproveFault) (old new : Telling) (budget left : BudgetState)
-    : Type 0 where
+pub record Improves (profile : Profile) (p : Problem) (result : Result Found ImproveFault)
+    (old new : Telling) (budget left : BudgetState) : Type 0 where
   -- the costs fall, and each is that of a solution, also before a fault
   pub tried : List ℕ
   pub told : List ℕ

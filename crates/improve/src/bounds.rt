@@ -1,7 +1,8 @@
-// One solver over all bounds. The formula is given once, without a bound; the clauses of each bound are
-// given beside those of the bounds before, so that what was learned stays. The certificate's formula has
-// the clauses of the last bound alone: at the end the log is told over that one.
-ghost use Rattle.std.specs.Prelude.{◌≡◌, ℕ, ◌+◌, ◌<◌, ◌≤◌, ◌^◌, false, List, [], ◌∷◌, ◌++◌, length, All, IfOk, OnOk};
+// One solver over all bounds. The formula is given once, without a bound; the clauses of each bound
+// are given beside those of the bounds before, so that what was learned stays. The certificate's
+// formula has the clauses of the last bound alone: at the end the log is told over that one.
+ghost use Rattle.std.specs.Prelude.{◌≡◌, ◌+◌, ◌<◌, ◌≤◌, ◌^◌, [], ◌∷◌, ◌++◌};
+ghost use Rattle.std.specs.Prelude.{ℕ, false, List, length, All, IfOk, OnOk};
 ghost use Rattle.wcnf.specs.Literal.{Literal};
 ghost use Rattle.wcnf.specs.Clause.{has_repeat, has_opposites};
 ghost use Rattle.lrat_log.specs.Log.{clauses_in};
@@ -9,7 +10,8 @@ ghost use Rattle.lrat_log.specs.Steps.{learned_count};
 ghost use Rattle.lrat_log.specs.Rebase.{weaker_list};
 ghost use Rattle.bound.specs.Bound.{bound_as};
 ghost use Rattle.cdcl.specs.Solving.{IsFrozen};
-ghost use Rattle.improve.specs.Bounds.{IsUsable, Gives, GivesAll, IsOver, HasNoBound, IsNext, BoundLog};
+ghost use Rattle.improve.specs.Bounds.{IsUsable, Gives, GivesAll};
+ghost use Rattle.improve.specs.Bounds.{IsOver, HasNoBound, IsNext, BoundLog};
 ghost use Rattle.improve.specs.Improving.{AreFalling, EndsWith, weaker_among};
 
 use crate::frozen::freeze_outputs;
@@ -37,8 +39,8 @@ const NO_BOUND: u64 = NUMBER_LIMIT;
 /// The bounds so far, each lower than those before, and the solver that was given them.
 #[derive(Drop)]
 pub struct Bounds {
-    /// It was given the formula without a bound, then the comparator clauses of each bound, all under
-    /// the numbers from 1 on.
+    /// It was given the formula without a bound, then the comparator clauses of each bound, all
+    /// under the numbers from 1 on.
     pub solver: Solver<Log>,
     /// The adder network whose outputs the comparators speak of. Their variables are frozen.
     pub network: Network,
@@ -94,7 +96,8 @@ impl Bounds {
         ensures over { OnOk result (IsOver instance.now self.new) }
         ensures costs { OnOk result (self.new.costs.items ≡ self.old.costs.items ++ cost ∷ []) }
         ensures profile { OnOk result (self.new.profile ≡ self.old.profile) }
-        ensures learned { OnOk result (learned_count self.new.solver.sink ≡ learned_count self.old.solver.sink) }
+        ensures learned { OnOk result
+            (learned_count self.new.solver.sink ≡ learned_count self.old.solver.sink) }
     {
         let _vars = instance.vars();
         let clauses = comparator(&self.network, cost)?;
@@ -139,8 +142,8 @@ impl Bounds {
         self.fixed as u64 + self.last as u64
     }
 
-    /// The log as one over the formula for the last bound: a line for each clause of the bounds before,
-    /// and then the lines of the solver's log.
+    /// The log as one over the formula for the last bound: a line for each clause of the bounds
+    /// before, and then the lines of the solver's log.
     pub fn rebase_log(&self, instance: &Instance) -> Result<Log, AllocError>
         requires over { IsOver instance.now self.now }
         requires bounded { (c : ℕ) × EndsWith self.now.costs.items c }
@@ -166,8 +169,8 @@ fn weigh(solver: &mut Solver<Log>, relaxations: &[Relaxation])
     }
 }
 
-/// The clauses between the fixed ones and those of the last bound, each with the number of a clause of
-/// the last one.
+/// The clauses between the fixed ones and those of the last bound, each with the number of a clause
+/// of the last one.
 fn collect_weaker(
     alloc: Global,
     given: &[(Name, Clause)],
@@ -176,14 +179,16 @@ fn collect_weaker(
 ) -> Result<Vec<(Vec<Lit>, u64)>, AllocError>
     requires { fixed + last ≤ length given.now }
     ensures few { length given.now < 2 ^ 58 }
-    ensures weaker { IfOk result (λ weaker. (a b c : List (List Literal)) → clauses_in given.now ≡ a ++ (b ++ c)
-        → length a ≡ fixed → length c ≡ last → weaker_list weaker.items ≡ weaker_among (fixed + 1) c b) }
+    ensures weaker { IfOk result (λ weaker. (a b c : List (List Literal))
+        → clauses_in given.now ≡ a ++ (b ++ c) → length a ≡ fixed → length c ≡ last
+        → weaker_list weaker.items ≡ weaker_among (fixed + 1) c b) }
 {
     let end = given.len() - last;
     pair_with_subsets(alloc, &given[fixed..end], &given[end..], fixed as u64 + 1)
 }
 
 /// Gives the clauses, in their order.
+#[tactic(auto, using(crate::proofs::GivenNumbers::gives_none, crate::proofs::GivenNumbers::gives_on))]
 fn give_all(solver: &mut Solver<Log>, clauses: &[Clause]) -> Result<(), AllocError>
     requires usable { IsUsable solver.old }
     requires frozen { All (λ c. All (IsFrozen solver.old.frozen) c) clauses.now }

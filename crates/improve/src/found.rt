@@ -1,29 +1,32 @@
 // What the search finds.
 use lrat_log::log::Log;
 
-/// What the budget was spent on. Each line that was learned cost a unit, and none adds the empty clause.
+/// What the budget was spent on. Each line that was learned cost a unit, and none adds the empty
+/// clause.
 #[derive(Drop)]
 pub struct Work {
     /// The log over the hard clauses.
     pub hard: Log,
-    /// The log over the formula for 'cheaper than the best solution'; without lines where none was met.
+    /// The log over the formula for 'cheaper than the best solution'; without lines where none was
+    /// met.
     pub bound: Log,
 }
 
-/// The end of a search. A cost is the sum of the weights of the soft clauses that the bits falsify, below
-/// 2^62. There are as many bits as the instance has variables, and the first is the value of variable 1.
+/// The end of a search. A cost is the sum of the weights of the soft clauses that the bits falsify,
+/// below 2^62. There are as many bits as the instance has variables, and the first is the value of
+/// variable 1.
 #[derive(Drop)]
 pub enum Found {
-    /// The bits are a solution of this cost, and none is cheaper. The log refutes the formula for 'cheaper
-    /// than that', which has so many clauses, fewer than 2^28.
+    /// The bits are a solution of this cost, and none is cheaper. The log refutes the formula for
+    /// 'cheaper than that', which has so many clauses, fewer than 2^28.
     Optimum {
         cost: u64,
         bits: Vec<bool>,
         log: Log,
         clauses: u64,
     },
-    /// There is no solution. The log refutes the formula of the hard clauses, which has so many clauses,
-    /// fewer than 2^28.
+    /// There is no solution. The log refutes the formula of the hard clauses, which has so many
+    /// clauses, fewer than 2^28.
     Unsat {
         log: Log,
         clauses: u64,

@@ -1,5 +1,6 @@
 // Who is told of each better solution.
-ghost use Rattle.std.specs.Prelude.{◌≡◌, ℕ, ◌+◌, ◌<◌, ◌^◌, List, [], ◌∷◌, ◌++◌, Option, Some, OnOk, OnErr};
+ghost use Rattle.std.specs.Prelude.{◌≡◌, ◌+◌, ◌<◌, ◌^◌, [], ◌∷◌, ◌++◌};
+ghost use Rattle.std.specs.Prelude.{ℕ, List, Option, Some, OnOk, OnErr};
 
 /// A cost could not be told.
 #[derive(Clone, Copy, Debug, PartialEq, Eq, Drop)]
@@ -16,8 +17,8 @@ pub trait Progress {
     /// How often it failed.
     ghost failures: { Self → ℕ };
 
-    /// Whether the second came from the first by calls of `improved` alone. A caller of the search learns
-    /// by it what was told to.
+    /// Whether the second came from the first by calls of `improved` alone. A caller of the search
+    /// learns by it what was told to.
     ghost follows: { Self → Self → Type 0 };
 
     /// Tells the cost, which is below 2^62.

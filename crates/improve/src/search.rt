@@ -1,10 +1,11 @@
-//! The improving search: each solution bounds the cost of the next (Handbook of Satisfiability, chapter
-//! MaxSAT, linear search from satisfiable to unsatisfiable).
+//! The improving search: each solution bounds the cost of the next (Handbook of Satisfiability,
+//! chapter MaxSAT, linear search from satisfiable to unsatisfiable).
 ghost use Rattle.std.specs.Prelude.{◌≡◌, ℕ, ◌+◌, ◌<◌, ◌^◌, IfOk, IfErr};
 ghost use Rattle.lrat_log.specs.Steps.{IsAcceptedLog, AddsNoEmptyClause, learned_count};
 ghost use Rattle.cdcl_order.specs.Budgets.{BudgetState};
 ghost use Rattle.cdcl.specs.Solving.{given_to};
-ghost use Rattle.improve.specs.Improving.{Improves, IsHardLog, IsRightFound, IsSolution, OnWork, EndsWith, AreFalling};
+ghost use Rattle.improve.specs.Improving.{Improves, IsHardLog, IsRightFound, IsSolution, OnWork};
+ghost use Rattle.improve.specs.Improving.{EndsWith, AreFalling};
 ghost use Rattle.improve.specs.Bounds.{IsOver, IsOverHard};
 
 use crate::bounds::{Bounds, Next};
@@ -21,9 +22,9 @@ use lrat_log::log::Log;
 use std::alloc::AllocError;
 use wcnf::types::Instance;
 
-/// Looks for an optimum: first for a solution of the hard clauses, and then for cheaper ones until there
-/// is none or the budget is spent. The cost of each is told to `progress` as soon as it is known. Each
-/// clause that is learned and each solution costs one unit, and nothing else does.
+/// Looks for an optimum: first for a solution of the hard clauses, and then for cheaper ones until
+/// there is none or the budget is spent. The cost of each is told to `progress` as soon as it is
+/// known. Each clause that is learned and each solution costs one unit, and nothing else does.
 ///
 /// # Errors
 ///
@@ -36,8 +37,16 @@ pub fn improve<T: Progress>(
     requires { T.failures progress.old < 2 ^ 62 }
     ensures follows { (first : T) → T.follows first progress.old → T.follows first progress.new }
     ensures improves { Improves Profile.One instance.now result
-        (record { told = T.told progress.old; failed = T.failed progress.old; failures = T.failures progress.old })
-        (record { told = T.told progress.new; failed = T.failed progress.new; failures = T.failures progress.new })
+        (record {
+          told = T.told progress.old;
+          failed = T.failed progress.old;
+          failures = T.failures progress.old;
+        })
+        (record {
+          told = T.told progress.new;
+          failed = T.failed progress.new;
+          failures = T.failures progress.new;
+        })
         budget.old budget.new }
 {
     improve_as(instance, budget, progress, Profile::One)
@@ -57,8 +66,16 @@ pub fn improve_as<T: Progress>(
     requires { T.failures progress.old < 2 ^ 62 }
     ensures follows { (first : T) → T.follows first progress.old → T.follows first progress.new }
     ensures improves { Improves profile instance.now result
-        (record { told = T.told progress.old; failed = T.failed progress.old; failures = T.failures progress.old })
-        (record { told = T.told progress.new; failed = T.failed progress.new; failures = T.failures progress.new })
+        (record {
+          told = T.told progress.old;
+          failed = T.failed progress.old;
+          failures = T.failures progress.old;
+        })
+        (record {
+          told = T.told progress.new;
+          failed = T.failed progress.new;
+          failures = T.failures progress.new;
+        })
         budget.old budget.new }
 {
     let Ok(mut solver) = make_hard_solver(instance) else {
@@ -100,8 +117,8 @@ fn make_hard_solver(instance: &Instance) -> Result<Solver<Log>, AllocError>
     Ok(solver)
 }
 
-/// Goes on from a solution that was not told yet to cheaper ones: each is told, and then its cost is the
-/// next bound. The log is that of the hard clauses.
+/// Goes on from a solution that was not told yet to cheaper ones: each is told, and then its cost
+/// is the next bound. The log is that of the hard clauses.
 fn lower<T: Progress>(
     instance: &Instance,
     budget: &mut Budget,
@@ -115,12 +132,22 @@ fn lower<T: Progress>(
     requires hard { IsHardLog instance.now hard }
     ensures follows { (first : T) → T.follows first progress.old → T.follows first progress.new }
 
-    // From before the search over the hard clauses, whose one solution and whose learned lines were counted.
-    ensures improves { (before : BudgetState) → before.limit ≡ budget.old.limit → before.answers + 1 ≡ budget.old.answers
+    // From before the search over the hard clauses, whose one solution and whose learned lines were
+    // counted.
+    ensures improves { (before : BudgetState) → before.limit ≡ budget.old.limit
+        → before.answers + 1 ≡ budget.old.answers
         → before.learned + learned_count hard ≡ budget.old.learned
         → Improves profile instance.now result
-        (record { told = T.told progress.old; failed = T.failed progress.old; failures = T.failures progress.old })
-        (record { told = T.told progress.new; failed = T.failed progress.new; failures = T.failures progress.new })
+        (record {
+          told = T.told progress.old;
+          failed = T.failed progress.old;
+          failures = T.failures progress.old;
+        })
+        (record {
+          told = T.told progress.new;
+          failed = T.failed progress.new;
+          failures = T.failures progress.new;
+        })
         before budget.new }
 {
     let mut best = first;
@@ -154,7 +181,8 @@ fn conclude_optimum(
     requires solution { IsSolution instance.now best.bits.items best.cost }
     requires last { EndsWith bounds.now.costs.items best.cost }
     requires falling { AreFalling bounds.now.costs.items }
-    ensures found { IfOk result (IsRightFound bounds.now.profile instance.now bounds.now.costs.items) }
+    ensures found { IfOk result
+        (IsRightFound bounds.now.profile instance.now bounds.now.costs.items) }
     ensures work { OnWork result (λ _. ⊥) }
     ensures fault { IfErr result (λ e. e ≡ ImproveFault.Memory) }
 {
@@ -183,7 +211,8 @@ fn conclude_spent(
     requires last { EndsWith bounds.now.costs.items best.cost }
     requires falling { AreFalling bounds.now.costs.items }
     requires hard { IsHardLog instance.now hard }
-    ensures found { IfOk result (IsRightFound bounds.now.profile instance.now bounds.now.costs.items) }
+    ensures found { IfOk result
+        (IsRightFound bounds.now.profile instance.now bounds.now.costs.items) }
     ensures work { OnWork result (λ work. (work.hard ≡ hard)
         × (learned_count work.bound ≡ learned_count bounds.now.solver.sink)) }
     ensures fault { IfErr result (λ e. e ≡ ImproveFault.Memory) }

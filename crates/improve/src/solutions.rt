@@ -16,12 +16,14 @@ pub struct Solution {
     pub bits: Vec<bool>,
 }
 
-/// The solution that these bits begin with, and what it costs. The bits may be those of more variables.
+/// The solution that these bits begin with, and what it costs. The bits may be those of more
+/// variables.
 pub fn judge(instance: &Instance, mut bits: Vec<bool>) -> Solution
     requires long { instance.now.variables ≤ length bits.items }
     requires feasible { (t : Assignment) → Extends bits.items t → IsFeasible instance.now t }
     ensures solution { IsSolution instance.now result.bits.items result.cost }
-    ensures same { (t : Assignment) → Extends bits.items t → cost_under instance.now t ≡ result.cost }
+    ensures same { (t : Assignment) → Extends bits.items t
+        → cost_under instance.now t ≡ result.cost }
 {
     bits.truncate(instance.vars() as usize);
     prove!(instance.feasible(&bits));

@@ -1,5 +1,5 @@
-// The clauses of the bounds before the last one, each with a clause of the last one that is a subset of
-// it: by that clause alone it follows.
+// The clauses of the bounds before the last one, each with a clause of the last one that is a
+// subset of it: by that clause alone it follows.
 ghost use Rattle.std.specs.Prelude.{◌≡◌, ℕ, ◌+◌, ◌<◌, ◌^◌, List, length, map, IfOk};
 ghost use Rattle.wcnf.specs.Literal.{Literal};
 ghost use Rattle.wcnf.specs.Clause.{contains_literal, is_subset};
@@ -11,8 +11,9 @@ use lrat_log::lines::Name;
 use std::alloc::{AllocError, Global};
 use wcnf::types::{Clause, Lit};
 
-/// The clauses before, each with the number of the first of the last ones that is a subset of it, where
-/// the last ones have the numbers from `first` on. A bound has at most 62 clauses of at most 62 literals.
+/// The clauses before, each with the number of the first of the last ones that is a subset of it,
+/// where the last ones have the numbers from `first` on. A bound has at most 62 clauses of at most
+/// 62 literals.
 pub fn pair_with_subsets(
     alloc: Global,
     before: &[(Name, Clause)],
@@ -32,8 +33,9 @@ pub fn pair_with_subsets(
     Ok(weaker)
 }
 
-/// The number of the first clause that is a subset of these literals, where the first clause has the
-/// number `first`; one more than the last one's where none is.
+/// The number of the first clause that is a subset of these literals, where the first clause has
+/// the number `first`; one more than the last one's where none is.
+#[tactic(auto, using(crate::proofs::SubsetSearch::first_on, crate::proofs::SubsetSearch::first_end))]
 fn find_subset(clauses: &[(Name, Clause)], lits: &[Lit], first: u64) -> u64
     requires { first + length clauses.now < 2 ^ 62 }
     ensures { result ≡ first_subset first (clauses_in clauses.now) lits.now }
@@ -49,6 +51,7 @@ fn find_subset(clauses: &[(Name, Clause)], lits: &[Lit], first: u64) -> u64
 }
 
 /// Whether each of the first literals stands among the others.
+#[tactic(auto, using(crate::proofs::SubsetSearch::subset_on, crate::proofs::SubsetSearch::subset_end))]
 fn is_subset(lits: &[Lit], others: &[Lit]) -> bool
     ensures { result ≡ is_subset lits.now others.now }
 {

@@ -1,5 +1,5 @@
 -- What a search leaves, from what its progress was told.
-use Rattle.std.proofs.Common.{◌≡◌, ℕ, ◌+◌, ◌<◌, ◌≤◌, ◌^◌, Bool, true, false, List, [], ◌∷◌, ◌++◌, Option, Result, Ok, Err, length, refl, sym, ◌∙◌, ap, subst, arith}
+use Rattle.std.proofs.Common.{◌≡◌, ℕ, ◌+◌, ◌<◌, ◌^◌, Bool, true, false, List, [], ◌∷◌, ◌++◌, Option, Result, Ok, Err, length, refl, sym, ◌∙◌, ap, subst, arith}
 use Rattle.std.specs.Prelude.{All}
 use Rattle.std.proofs.lemmas.List.Elements.{All-weaker}
 use Rattle.wcnf.specs.Problem.{Problem}
@@ -13,25 +13,11 @@ use Rattle.improve.specs.declared.found.Found.{Found}
 use Rattle.improve.specs.declared.found.ImproveFault.{ImproveFault}
 use Rattle.improve.specs.declared.found.ImproveFault.TheVariants.{Memory as SearchMemory, Progress}
 use Rattle.improve.specs.Improving.{IsCostOfSome, IsRightFound, Improves, Telling}
-use Rattle.std.specs.Prelude.{sum_by, if◌then◌else◌}
-use Rattle.std.proofs.lemmas.List.Sums.{sum_by-le-sum_by}
-use Rattle.wcnf.specs.Clause.{clause_value}
-use Rattle.wcnf.specs.Problem.{SoftClause, cost_under}
+use Rattle.improve.proofs.Lowering.{cost_small}
 use Rattle.improve.proofs.Told.{told_fall, told_each}
 use Rattle.report.specs.declared.fault.RunFault.TheVariants.{Memory, Output}
 use Rattle.report.specs.Telling.{Tells, cost_lines, fault_of_telling}
 use Rattle.report.specs.Running.{Searches, outcome_of}
-
-part : (b : Bool) (w : ℕ) → (if b then 0 else w) ≤ w
-part true w = omega arith
-part false w = omega arith
-
--- weights sum to less than 2^62, and so does what an assignment costs
-pub cost_small : (p : Problem) (c : ℕ) → IsInstance p → IsCostOfSome p c → c < 2 ^ 62
-cost_small p c h k =
-    let le : cost_under p k.0 ≤ sum_by (λ (s : SoftClause). s.weight) p.soft =
-    sum_by-le-sum_by (λ (s : SoftClause). if clause_value k.0 s.clause then 0 else s.weight) (λ (s : SoftClause). s.weight) p.soft (λ s. part (clause_value k.0 s.clause) s.weight) in
-    omega (arith, le, h.weight_sum, k.2)
 
 pub costs_small : (p : Problem) (costs : List ℕ) → IsInstance p → All (IsCostOfSome p) costs → All (λ c. c < 2 ^ 62) costs
 costs_small p costs h all = All-weaker (IsCostOfSome p) (λ c. c < 2 ^ 62) (λ c k. cost_small p c h k) costs all
@@ -97,13 +83,13 @@ module _ (profile : Profile) (p : Problem) (limits : IsInstance p) (old new : Te
   search_broke : Improves profile p (Err Progress) old new budget left → no_memory ≡ false → Searches profile p (Err Output) out out' budget left
   search_broke i e =
       let t = i.tells_of in
-      let same : new.told ++ t.0 ∷ [] ≡ i.tried = ap (λ z. z ++ t.0 ∷ []) (told_is (Err Progress) i) ∙ sym t.2 in
+      let same : new.told ++ t.last ∷ [] ≡ i.tried = ap (λ z. z ++ t.last ∷ []) (told_is (Err Progress) i) ∙ sym t.tried_is in
       record {
         tried = i.tried;
         falling = i.falling;
         honest = i.honest;
         small = costs_small p i.tried limits i.honest;
-        lines = (subst (λ z. AppendsPart out out' (cost_lines z)) same (tells.broken t.0 (failed_once i) e t.1), (t.0, (i.told, t.2)));
+        lines = (subst (λ z. AppendsPart out out' (cost_lines z)) same (tells.broken t.last (failed_once i) e t.last_failed), (t.last, (i.told, t.tried_is)));
         found = tt;
         same_limit = i.same_limit;
         answers = tt;

@@ -11,7 +11,7 @@ ghost use Rattle.report.specs.Answering.{Answers, LeavesAnswer, HasProofRoom};
 ghost use Rattle.report.specs.Answering.{bits_word, digits_text, words_text};
 
 use crate::fault::RunFault;
-use crate::printing::delivered;
+use crate::printing::deliver;
 use crate::status::Status;
 use improve::found::Found;
 use lrat_log::log::{Log, write_to};
@@ -89,7 +89,7 @@ fn deliver_end<O: Write>(words: &[u8], bits: &[bool], out: &mut O) -> Result<(),
         (words_text words.now bits.now)) }
 {
     let written = write_end(words, bits, out);
-    delivered(written, out)
+    deliver(written, out)
 }
 
 fn write_end<O: Write>(words: &[u8], bits: &[bool], out: &mut O) -> Result<(), WriteFault>

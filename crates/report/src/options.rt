@@ -94,7 +94,7 @@ fn make_profile<'a>(alloc: Global) -> Arg<'a> {
 }
 
 /// The profile with this number: the first where there is no other.
-pub fn profile_of(number: Option<u64>) -> Profile
+pub fn pick_profile(number: Option<u64>) -> Profile
     ensures second { number ≡ Some 2 → result ≡ Profile.Two }
     ensures third { number ≡ Some 3 → result ≡ Profile.Three }
     ensures first { (number ≡ Some 2 → ⊥) → (number ≡ Some 3 → ⊥) → result ≡ Profile.One }
@@ -170,7 +170,7 @@ fn make_encode<'a>(alloc: Global) -> Result<Command<'a>, Error> {
 }
 
 /// The whole command line. The error is want of memory.
-pub fn command<'a>(alloc: Global) -> Result<Command<'a>, Error> {
+pub fn make_command<'a>(alloc: Global) -> Result<Command<'a>, Error> {
     let command = Command::new(alloc, "wmax")
         .about("Certified weighted partial MaxSAT")
         .version(VERSION)

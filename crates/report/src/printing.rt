@@ -83,7 +83,7 @@ pub fn print_fault<W: Write>(fault: &RunFault, writer: &mut W) -> Result<(), Wri
 /// # Errors
 ///
 /// `Output` where the writing or the flush failed.
-pub fn delivered<W: Write>(written: Result<(), WriteFault>, writer: &mut W) -> Result<(), RunFault>
+pub fn deliver<W: Write>(written: Result<(), WriteFault>, writer: &mut W) -> Result<(), RunFault>
     ensures written { OnOk result (IsOk written) }
     ensures fault { IfErr result (λ fault. fault ≡ RunFault.Output) }
     ensures kept { Keeps (W.contents writer.old) (W.contents writer.new) }

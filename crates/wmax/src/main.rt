@@ -14,7 +14,7 @@ use lrat_check::verdicts::CheckFault;
 use placing::open_proof;
 use report::fault::RunFault;
 use report::options::{self, MOST_CONFLICTS, MOST_COST};
-use report::printing::{delivered, fault_code, print_fault, print_verdict, verdict_code};
+use report::printing::{deliver, fault_code, print_fault, print_verdict, verdict_code};
 use report::running::run_as;
 use std::fs::{File, OpenFile, OpenOptions};
 use std::io::{Read, Write};
@@ -38,7 +38,7 @@ fn read_file<R: AllocGlobal, F: Read>(rt: &R, file: &mut F) -> Result<Vec<u8>, R
 }
 
 fn read_profile(matches: &ArgMatches<'_>) -> Profile {
-    options::profile_of(matches.get_one::<u64>("profile"))
+    options::pick_profile(matches.get_one::<u64>("profile"))
 }
 
 /// `wmax solve`: FILE is opened, then PATH is created or emptied, then the text is read. Without
@@ -107,7 +107,7 @@ fn check<R: Files + AllocGlobal + Print>(rt: &R, matches: &ArgMatches<'_>) -> Re
         Err(CheckFault::Read) => return Err(UNREADABLE),
     };
     let mut out = io::writer(rt);
-    delivered(print_verdict(&verdict, &mut out), &mut out)?;
+    deliver(print_verdict(&verdict, &mut out), &mut out)?;
     Ok(verdict_code(&verdict))
 }
 
@@ -130,7 +130,7 @@ fn encode<R: Files + AllocGlobal + Print>(
         read_profile(matches),
         &mut out,
     )?;
-    delivered(Ok(()), &mut out)?;
+    deliver(Ok(()), &mut out)?;
     Ok(0)
 }
 
@@ -178,7 +178,7 @@ fn run_command<R: Files + AllocGlobal + Print + Eprint + Env, E: Write>(rt: &R, 
         return tell(err, Err(RunFault::Memory));
     };
     let words: Vec<String> = words;
-    let Ok(command) = options::command(rt.alloc()) else {
+    let Ok(command) = options::make_command(rt.alloc()) else {
         return tell(err, Err(RunFault::Memory));
     };
     match command.try_get_matches_from(words.as_slice()) {

@@ -6,7 +6,7 @@ use Rattle.std.specs.declared.alloc.Global.{Global}
 use Rattle.cdcl_order.specs.Budgets.{left_of}
 use Rattle.lrat_log.specs.Steps.{learned_count}
 use Rattle.improve.specs.Improving.{AreFalling, IsHardLog, IsRightFound, work_count}
-use Rattle.improve.proofs.CheaperBits.{falling_more}
+use Rattle.improve.proofs.CheaperBits.{cost_of_solution, falling_more}
 use Rattle.improve.proofs.SearchEnds.{memory_end, progress_end, found_end}
 use Rattle.improve.proofs.Lowering.{cost_small, honest_new, told_new, count_new, at_ok, at_err, on_work_weaker, work_learned}
 use Rattle.improve.proofs.search.lower.Goals as goal
@@ -14,7 +14,10 @@ use Rattle.improve.proofs.search.lower.Goals as goal
 pub add-requires-clause-small : goal.add-requires-clause-small
 add-requires-clause-small g c =
     let i = c.loop-bounds.invariant in
-    cost_small c.args.instance.now c.loop-bounds.best.bits.items c.loop-bounds.best.cost i.over.instance i.solution
+    let p = c.args.instance.now in
+    let best = c.loop-bounds.best in
+    let small = cost_small p best.cost i.over.instance (cost_of_solution p best.bits.items best.cost i.solution) in
+    omega (arith, small)
 
 pub returns-then-is_err-clause-improves : goal.returns-then-is_err-clause-improves
 returns-then-is_err-clause-improves g c = λ before l a e.
