@@ -3,7 +3,7 @@ use Rattle.std.specs.Prelude.{◌≡◌, ℕ, zero, suc, List, [], ◌∷◌, re
 use Rattle.cdcl_order.specs.Restarts.{first_power, next_power, term_of}
 
 -- so many terms from this power on
-terms : ℕ → ℕ → List ℕ
+abbrev terms : ℕ → ℕ → List ℕ
 terms zero _ = []
 terms (suc n) h = term_of h ∷ terms n (next_power h)
 
