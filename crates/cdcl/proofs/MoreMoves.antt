@@ -40,7 +40,7 @@ use Rattle.cdcl.proofs.Units.{units_add, units_note, units_move}
 use Rattle.cdcl.proofs.Keeping.{leads_back, keeps_plain, kept_move, empty_move, empty_add, back_given}
 use Rattle.cdcl.specs.Moves.{AreValues}
 use Rattle.cdcl.proofs.Satisfied.{live_satisfied, satisfied_agrees, extends_agrees, value_agrees}
-use Rattle.eliminate.proofs.Naming.{slot_last}
+use Rattle.clauses.proofs.Places.{clause_new}
 use Rattle.cdcl.proofs.Moves.{with_addition, run_add}
 
 -- the store is compacted, and engine and tables go along
@@ -111,7 +111,7 @@ plain_given slots first given n c within plain (inl h) =
 plain_given slots first given n c within plain (inr h) =
     elim (Contains-push_cases (map (λ (g : Name × List Literal). g.1) given) c [] (subst (λ x. Contains x []) (map_push (λ (g : Name × List Literal). g.1) given (n, c)) h)) [
       | inl old ↦ let w = plain (inr old) in empty_add slots c w.0 w.1
-      | inr new ↦ (length slots, slot_last slots c ∙ ap Some new)
+      | inr new ↦ (length slots, clause_new slots c ∙ ap Some new)
     ]
 
 abbrev pub with_given : Tables → ℕ → Tables

@@ -20,7 +20,7 @@ use Rattle.cdcl.proofs.Chains.{live_of, count_deletion, count_addition}
 use Rattle.cdcl.specs.Hinting.{plain_hints}
 use Rattle.cdcl.proofs.LogLines.{live-add, live-delete}
 use Rattle.cdcl.proofs.Places.{live_within, clause_kept, clause_cases, clause_left, clause_other, went, came, same_clause, moved_all}
-use Rattle.eliminate.proofs.Naming.{slot_last}
+use Rattle.clauses.proofs.Places.{clause_new}
 
 -- hints over the store are hints over what is live
 
@@ -127,7 +127,7 @@ module _ (slots : Slots) (names : List Name) (given : Given) (ls : List LogLine)
     only_new i c e = elim (cases_Bool (i == id)) [
       | inl t ↦
           let same : l.clause ≡ c = same_Some l.clause c (rw t at e) in
-          (length slots, slot_last slots l.clause ∙ ap Some same, ap (id_of base) (last_name (length slots) refl) ∙ same_id ∙ sym (eqb-true i id t))
+          (length slots, clause_new slots l.clause ∙ ap Some same, ap (id_of base) (last_name (length slots) refl) ∙ same_id ∙ sym (eqb-true i id t))
       | inr t ↦
           let w = (old.live base above).only i c (rw t at e) in
           (w.0, clause_kept slots l.clause c w.0 w.1, ap (id_of base) (old_name w.0 c w.1) ∙ w.2)

@@ -23,7 +23,7 @@ use Rattle.cdcl.specs.declared.search.Search.{Search}
 use Rattle.cdcl.specs.Invariant.{Tables, IsRunning}
 use Rattle.cdcl.specs.Running.{HasRoom, Places}
 use Rattle.cdcl.proofs.Places.{clause_old, live_within}
-use Rattle.eliminate.proofs.Naming.{slot_last}
+use Rattle.clauses.proofs.Places.{clause_new}
 
 -- an engine belongs to the store with one clause more
 pub fits_more : (e : EngineState) (slots : Slots) (c : List Literal) → Fits e slots → Fits e (slots ++ Some c ∷ [])
@@ -37,7 +37,7 @@ not_attached e slots fits = elim (cases_Bool (is_attached e (length slots))) as 
 ]
 
 pub new_at : (slots now : Slots) (c : List Literal) (r : ℕ) → now ≡ slots ++ Some c ∷ [] → r ≡ length slots → clause_at now r ≡ Some c
-new_at slots now c r e is = subst (λ s. clause_at s r ≡ Some c) (sym e) (subst (λ k. clause_at (slots ++ Some c ∷ []) k ≡ Some c) (sym is) (slot_last slots c))
+new_at slots now c r e is = subst (λ s. clause_at s r ≡ Some c) (sym e) (subst (λ k. clause_at (slots ++ Some c ∷ []) k ≡ Some c) (sym is) (clause_new slots c))
 
 pub new_live : (slots now : Slots) (c : List Literal) (r : ℕ) → now ≡ slots ++ Some c ∷ [] → r ≡ length slots → IsLive now r
 new_live slots now c r e is = (c, new_at slots now c r e is)
