@@ -7,16 +7,17 @@ use Rattle.std.proofs.lemmas.List.{get_or-set_same, get_or-set_other, get_or_app
 use Rattle.std.proofs.lemmas.List.Elements.{Contains-append_left, Contains-push}
 use Rattle.wcnf.specs.Literal.{Literal, index_of}
 use Rattle.clauses.specs.Slots.{Slots, clause_at}
-use Rattle.propagate.specs.declared.pool.Entry.{Entry}
-use Rattle.propagate.specs.declared.table.Attachment.{Attachment}
-use Rattle.propagate.specs.declared.table.Rest.{Rest}
-use Rattle.propagate.specs.declared.table.Attachment.TheVariants.{Detached, Waiting, Satisfied, Watching}
-use Rattle.propagate.specs.Pool.{row_at, with_row}
+use Rattle.watches.specs.declared.pool.Entry.{Entry}
+use Rattle.watches.specs.declared.table.Attachment.{Attachment}
+use Rattle.watches.specs.declared.table.Rest.{Rest}
+use Rattle.watches.specs.declared.table.Attachment.TheVariants.{Detached, Waiting, Satisfied, Watching}
+use Rattle.watches.specs.Pool.{row_at, with_row}
+use Rattle.watches.specs.Table.{is_kept, IsWatching, attachment_in, grown_table}
+use Rattle.watches.proofs.Attachments.{attachment_set_other, attachment_set_same}
 use Rattle.propagate.specs.Trail.{Assigned}
-use Rattle.propagate.specs.Watches.{EngineState, IsEngine, IsVariable, is_attached, is_kept, IsWatching, attachment_in, watches_at, count_in}
-use Rattle.propagate.specs.Steps.{grown_table}
+use Rattle.propagate.specs.Watches.{EngineState, IsEngine, IsVariable, is_attached, watches_at, count_in}
 use Rattle.propagate.specs.Fits.{Fits, FitsAttachment, IsWithin, HasBlocker}
-use Rattle.propagate.proofs.Attachments.{with_watches, attachment_set_other, attachment_set_same, fits_attachment, blockers_kept, blockers_gone, count-cons, one-other}
+use Rattle.propagate.proofs.Attachments.{with_watches, fits_attachment, blockers_kept, blockers_gone, count-cons, one-other}
 
 past : (k v : ℕ) → get_or (replicate k Detached) v Detached ≡ Detached
 past zero v = refl

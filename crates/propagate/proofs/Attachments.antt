@@ -1,30 +1,24 @@
 -- A clause that gets another place.
-use Rattle.std.proofs.Common.{◌≡◌, ◌≢◌, ℕ, ◌+◌, ◌<◌, true, cond, eqb, List, [], ◌∷◌, length, get_or, set, Option, Some, None, ◌⊎◌, inl, inr, sym, ◌∙◌, ap, subst, arith}
+use Rattle.std.proofs.Common.{◌≡◌, ◌≢◌, ℕ, ◌+◌, true, cond, eqb, List, [], ◌∷◌, get_or, Option, Some, None, ◌⊎◌, inl, inr, sym, ◌∙◌, ap, subst, arith}
 use Rattle.std.specs.Prelude.{All, IfSome, Contains, ◌==◌}
 use Rattle.std.specs.List.{AllByRecursion}
 use Rattle.std.proofs.lemmas.Bool.{cases_eq, eq-eqb, ne_eqb, cond-true, cond-false}
-use Rattle.std.proofs.lemmas.List.{get_or-set_same, get_or-set_other}
 use Rattle.std.proofs.lemmas.List.Elements.{All-weaker}
 use Rattle.std.proofs.lemmas.List.Sums.{sum_by-cons}
 use Rattle.wcnf.specs.Literal.{Literal}
 use Rattle.clauses.specs.Slots.{Slots, clause_at}
-use Rattle.propagate.specs.declared.pool.Entry.{Entry}
-use Rattle.propagate.specs.declared.table.Attachment.{Attachment}
-use Rattle.propagate.specs.declared.table.Attachment.TheVariants.{Detached, Waiting, Satisfied, Watching}
-use Rattle.propagate.specs.Pool.{row_at}
+use Rattle.watches.specs.declared.pool.Entry.{Entry}
+use Rattle.watches.specs.declared.table.Attachment.{Attachment}
+use Rattle.watches.specs.declared.table.Attachment.TheVariants.{Detached, Waiting, Satisfied, Watching}
+use Rattle.watches.specs.Pool.{row_at}
+use Rattle.watches.specs.Table.{is_kept, attachment_in}
 use Rattle.propagate.specs.Trail.{Assigned}
-use Rattle.propagate.specs.Watches.{EngineState, is_attached, is_kept, attachment_in, watches_at, one_at, count_in}
+use Rattle.propagate.specs.Watches.{EngineState, is_attached, watches_at, one_at, count_in}
 use Rattle.propagate.specs.Fits.{Fits, FitsAttachment, IsWithin, IsWatch, HasBlocker}
 use Rattle.propagate.proofs.Facts.{some_weaker}
 
 abbrev pub with_watches : EngineState → List Attachment → List (List Entry) → List ℕ → EngineState
 with_watches e table rows waiting = record e { watches = record e.watches { table = table; rows = rows; waiting = waiting } }
-
-pub attachment_set_other : (t : List Attachment) (r q : ℕ) (p : Attachment) → q ≢ r → attachment_in (set t r p) q ≡ attachment_in t q
-attachment_set_other t r q p ne = get_or-set_other t r q p Detached ne
-
-pub attachment_set_same : (t : List Attachment) (r : ℕ) (p : Attachment) → r < length t → attachment_in (set t r p) r ≡ p
-attachment_set_same t r p lt = get_or-set_same t r p Detached lt
 
 kept_other : (e : EngineState) (t : List Attachment) (R : List (List Entry)) (w : List ℕ) (r : ℕ) → ((q : ℕ) → q ≢ r → attachment_in t q ≡ attachment_in e.watches.table q)
     → is_kept (attachment_in t r) ≡ true → (q : ℕ) → is_attached e q ≡ true → is_attached (with_watches e t R w) q ≡ true

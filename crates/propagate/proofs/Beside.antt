@@ -6,14 +6,15 @@ use Rattle.std.proofs.lemmas.Bool.{or_cases, or_left, or_right, false≢true}
 use Rattle.wcnf.specs.Literal.{Literal, literal_eq, negation}
 use Rattle.wcnf.specs.Clause.{contains_literal}
 use Rattle.wcnf.proofs.Sound.{literal_eq-true}
-use Rattle.propagate.specs.declared.table.Rest.{Rest}
-use Rattle.propagate.specs.declared.table.Rest.TheVariants.{Nothing, One, Many}
 use Rattle.clauses.specs.Slots.{Slots, clause_at}
-use Rattle.propagate.specs.declared.pool.Entry.{Entry}
+use Rattle.watches.specs.declared.table.Rest.{Rest}
+use Rattle.watches.specs.declared.table.Rest.TheVariants.{Nothing, One, Many}
+use Rattle.watches.specs.declared.pool.Entry.{Entry}
+use Rattle.watches.specs.Table.{attachment_in, rest_in, IsWatchedBy}
 use Rattle.propagate.specs.Trail.{literals_of, value_in}
-use Rattle.propagate.specs.Watches.{EngineState, attachment_in, rest_in}
+use Rattle.propagate.specs.Watches.{EngineState}
 use Rattle.propagate.specs.Fits.{IsRest}
-use Rattle.propagate.specs.Steps.{IsWatched, IsWatchedBy, LeavesOne, MayBeWatched}
+use Rattle.propagate.specs.Steps.{IsWatched, LeavesOne, MayBeWatched}
 use Rattle.propagate.proofs.Literals.{literal_eq-self, contains-append}
 use Rattle.propagate.proofs.Looking.{same_other, one_left}
 use Rattle.propagate.proofs.Kept.{contains_front, contains_back}

@@ -3,14 +3,16 @@ use Rattle.std.proofs.Common.{◌≡◌, ℕ, true, false, List, [], ◌∷◌, 
 use Rattle.std.proofs.lemmas.Bool.{cases_eq}
 use Rattle.std.proofs.lemmas.List.{append-nil}
 use Rattle.wcnf.specs.Literal.{Literal}
-use Rattle.propagate.specs.declared.pool.Entry.{Entry}
-use Rattle.propagate.specs.declared.table.Attachment.{Attachment}
-use Rattle.propagate.specs.declared.table.Attachment.TheVariants.{Waiting}
+use Rattle.watches.specs.declared.pool.Entry.{Entry}
+use Rattle.watches.specs.declared.table.Attachment.{Attachment}
+use Rattle.watches.specs.declared.table.Attachment.TheVariants.{Waiting}
+use Rattle.watches.specs.Table.{is_kept, attachment_in}
+use Rattle.watches.proofs.Attachments.{attachment_set_other, attachment_set_same}
 use Rattle.propagate.specs.Trail.{Assigned, is_decision}
-use Rattle.propagate.specs.Watches.{EngineState, is_attached, is_kept, attachment_in}
+use Rattle.propagate.specs.Watches.{EngineState, is_attached}
 use Rattle.propagate.specs.Steps.{Continues, with_trail}
 use Rattle.propagate.proofs.Trails.{made}
-use Rattle.propagate.proofs.Attachments.{with_watches, attachment_set_other, attachment_set_same}
+use Rattle.propagate.proofs.Attachments.{with_watches}
 use Rattle.propagate.proofs.Fitting.{with_progress}
 use Rattle.propagate.proofs.Facts.{all_join}
 use Rattle.propagate.proofs.Attaching.{kept_within}

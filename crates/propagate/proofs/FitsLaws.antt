@@ -5,9 +5,9 @@ use Rattle.std.proofs.lemmas.List.Elements.{recursion_from_All}
 use Rattle.wcnf.specs.Literal.{Literal}
 use Rattle.wcnf.specs.Refute.{Clauses}
 use Rattle.clauses.specs.Slots.{clause_at}
+use Rattle.watches.specs.Pool.{row_at}
 use Rattle.propagate.specs.Trail.{Assigned, HasReasons, IsJustified}
 use Rattle.propagate.specs.Watches.{is_attached}
-use Rattle.propagate.specs.Pool.{row_at}
 use Rattle.propagate.specs.Fits.{FitsIsLocal, HasBlocker}
 use Rattle.propagate.proofs.Facts.{all_weaker, some_weaker}
 

@@ -7,10 +7,11 @@ use Rattle.std.proofs.lemmas.List.Elements.{All-push}
 use Rattle.wcnf.specs.Literal.{Literal, negation}
 use Rattle.wcnf.specs.Clause.{contains_literal}
 use Rattle.clauses.specs.Slots.{Slots, clause_at}
-use Rattle.propagate.specs.declared.table.Attachment.{Attachment}
-use Rattle.propagate.specs.declared.table.Attachment.TheVariants.{Detached, Waiting, Satisfied, Watching}
+use Rattle.watches.specs.declared.table.Attachment.{Attachment}
+use Rattle.watches.specs.declared.table.Attachment.TheVariants.{Detached, Waiting, Satisfied, Watching}
+use Rattle.watches.specs.Table.{attachment_in}
 use Rattle.propagate.specs.Trail.{Assigned, literals_of, depth_of, kept_to, HasReasons, IsJustified}
-use Rattle.propagate.specs.Watches.{EngineState, is_attached, attachment_in}
+use Rattle.propagate.specs.Watches.{EngineState, is_attached}
 use Rattle.propagate.specs.Fits.{Fits, FitsAttachment, HasTrue, IsCovered, StaysCovered, IsWatch}
 use Rattle.propagate.proofs.Levels.{kept_all, kept_push, depth_grows}
 use Rattle.propagate.proofs.Kept.{contains_front, contains_take_more, kept_prefix, kept_kept, kept_above}

@@ -9,10 +9,11 @@ use Rattle.wcnf.specs.Literal.{Literal}
 use Rattle.wcnf.specs.Refute.{Clauses}
 use Rattle.wcnf.proofs.Hints.{SameMembers, unit_same, more_same}
 use Rattle.clauses.specs.Slots.{Slots, clause_at}
-use Rattle.propagate.specs.declared.table.Attachment.{Attachment}
-use Rattle.propagate.specs.declared.table.Attachment.TheVariants.{Detached, Waiting, Satisfied, Watching}
+use Rattle.watches.specs.declared.table.Attachment.{Attachment}
+use Rattle.watches.specs.declared.table.Attachment.TheVariants.{Detached, Waiting, Satisfied, Watching}
+use Rattle.watches.specs.Table.{attachment_in}
 use Rattle.propagate.specs.Trail.{Assigned, literals_of, is_decision, HasReasons, IsJustified}
-use Rattle.propagate.specs.Watches.{EngineState, is_attached, attachment_in}
+use Rattle.propagate.specs.Watches.{EngineState, is_attached}
 use Rattle.propagate.specs.Fits.{Fits, FitsAttachment, FollowByUnits, GrowsByUnits}
 use Rattle.propagate.specs.Steps.{Continues}
 use Rattle.propagate.proofs.Reasons.{same_swap}

@@ -12,7 +12,6 @@ pub mod Reasons
 pub mod Fitting
 pub mod VarTables
 pub mod Beside
-pub mod Zipped
 pub mod Attachments
 pub mod Attaching
 pub mod Looking
@@ -22,10 +21,7 @@ pub mod Completing
 pub mod Watching
 pub mod Waiting
 pub mod Following
-pub mod Moving
 pub mod Naming
 pub mod Renamed
 pub mod Compacting
 pub mod Added
-pub mod Laid
-pub mod Rewriting

@@ -8,13 +8,13 @@ use Rattle.wcnf.specs.Literal.{Literal, negation, literal_eq}
 use Rattle.wcnf.specs.Clause.{contains_literal, greatest_variable}
 use Rattle.wcnf.specs.Refute.{Clauses, IsUnit, IsFalseUnder}
 use Rattle.wcnf.proofs.Sound.{literal_eq-true}
-use Rattle.propagate.specs.declared.table.Attachment.{Attachment}
-use Rattle.propagate.specs.Trail.{Assigned, literals_of, value_in, HasReasons}
-use Rattle.propagate.specs.declared.table.Attachment.TheVariants.{Waiting}
 use Rattle.clauses.specs.Slots.{Slots, clause_at}
-use Rattle.propagate.specs.Watches.{EngineState, IsVariable, is_attached, is_kept, attachment_in}
+use Rattle.watches.specs.declared.table.Attachment.{Attachment}
+use Rattle.watches.specs.declared.table.Attachment.TheVariants.{Waiting}
+use Rattle.watches.specs.Table.{is_kept, attachment_in, IsWatchedBy}
+use Rattle.propagate.specs.Trail.{Assigned, literals_of, value_in, HasReasons}
+use Rattle.propagate.specs.Watches.{EngineState, IsVariable, is_attached}
 use Rattle.propagate.specs.Fits.{Fits, IsWithin}
-use Rattle.propagate.specs.Steps.{IsWatchedBy}
 use Rattle.propagate.proofs.Trails.{open_at}
 use Rattle.propagate.proofs.Reasons.{no_opposites}
 use Rattle.propagate.proofs.Facts.{all_weaker}

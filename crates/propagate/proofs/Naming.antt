@@ -3,15 +3,15 @@ use Rattle.std.proofs.Common.{◌≡◌, ℕ, ◌+◌, ◌≤◌, Bool, true, fa
 use Rattle.std.specs.Prelude.{is_none, IfSome, nat_le, if◌then◌else◌, ◌==◌}
 use Rattle.std.specs.List.{AllByRecursion}
 use Rattle.std.proofs.lemmas.List.{length-map}
+use Rattle.std.proofs.Math.ListN.{get_or-map}
 use Rattle.wcnf.specs.Literal.{Literal}
 use Rattle.clauses.specs.Slots.{Renaming, renamed}
+use Rattle.watches.proofs.Moving.{named_listed}
 use Rattle.propagate.specs.Trail.{Assigned, literals_of, depth_of, value_in, level_in, level_from, level_after, kept_from, kept_to, is_decision}
 use Rattle.propagate.specs.Tables.{assigned_by, reason_at, IsTrail}
 use Rattle.propagate.specs.Fits.{renamed_reason, renamed_trail}
 use Rattle.propagate.specs.Renames.{named_reason, named_trail}
 use Rattle.propagate.proofs.Trails.{depth-cons}
-use Rattle.propagate.proofs.Moving.{named_listed}
-use Rattle.std.proofs.Math.ListN.{get_or-map}
 
 abbrev pub named_assigned : Renaming → Assigned → Assigned
 named_assigned ms a = record { literal = a.literal; reason = named_reason ms a.reason }

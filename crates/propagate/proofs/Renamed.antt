@@ -6,21 +6,23 @@ use Rattle.std.specs.List.Sorted.{IsStrictlyIncreasing}
 use Rattle.std.proofs.lemmas.Bool.{cases_eq, cases_Bool, false≢true}
 use Rattle.std.proofs.lemmas.List.{length-map}
 use Rattle.std.proofs.lemmas.List.Elements.{recursion_from_All, All-from_recursion, All-map}
+use Rattle.std.proofs.Math.ListN.{get_or-map}
 use Rattle.wcnf.specs.Literal.{Literal}
 use Rattle.wcnf.specs.Refute.{Clauses}
 use Rattle.clauses.specs.Slots.{Slots, clause_at, Renaming, renamed, IsRenaming}
-use Rattle.propagate.specs.declared.pool.Entry.{Entry}
-use Rattle.propagate.specs.declared.table.Attachment.{Attachment}
-use Rattle.propagate.specs.declared.table.Attachment.TheVariants.{Detached, Waiting, Satisfied, Watching}
-use Rattle.propagate.specs.Pool.{row_at}
+use Rattle.watches.specs.declared.pool.Entry.{Entry}
+use Rattle.watches.specs.declared.table.Attachment.{Attachment}
+use Rattle.watches.specs.declared.table.Attachment.TheVariants.{Detached, Waiting, Satisfied, Watching}
+use Rattle.watches.specs.Pool.{row_at}
+use Rattle.watches.specs.Table.{IsWatching, is_kept, attachment_in}
+use Rattle.watches.specs.Renames.{IsMoved, named, named_entry, named_rows}
+use Rattle.watches.proofs.Moving.{moved_to, moved_from, same_origin, same_clause, named_listed}
 use Rattle.propagate.specs.Trail.{Assigned, TrailState, HasReasons, IsJustified}
-use Rattle.propagate.specs.Watches.{IsWatching, EngineState, engine_state, IsEngine, is_kept, is_attached, attachment_in, watches_at, count_in, one_at}
+use Rattle.propagate.specs.Watches.{EngineState, engine_state, IsEngine, is_attached, watches_at, count_in, one_at}
 use Rattle.propagate.specs.Fits.{FitsAttachment, FitsMoved, MovesAttached, HasBlocker, IsWatch}
-use Rattle.propagate.specs.Renames.{IsMoved, named, named_entry, named_rows, named_reason, named_trail}
+use Rattle.propagate.specs.Renames.{named_reason, named_trail}
 use Rattle.propagate.proofs.Attachments.{count-cons, one-same, one-other}
-use Rattle.propagate.proofs.Moving.{moved_to, moved_from, same_origin, same_clause, named_listed}
 use Rattle.propagate.proofs.Naming.{literals_named, kept_named, named_assigned}
-use Rattle.std.proofs.Math.ListN.{get_or-map}
 use Rattle.propagate.proofs.Facts.{all_weaker, some_weaker}
 
 -- the engine with this table, under new names

@@ -1,21 +1,21 @@
 -- Many clauses that are detached at once.
-use Rattle.std.proofs.Common.{◌≡◌, ◌≢◌, ℕ, zero, suc, ◌+◌, ◌<◌, ◌≤◌, Bool, true, false, not, List, [], ◌∷◌, length, map, get_or, set, filter, Option, Some, None, inl, inr, refl, sym, ◌∙◌, ap, subst, arith}
-use Rattle.std.specs.Prelude.{All, IfSome, Contains, ◌==◌, ◌&&◌}
+use Rattle.std.proofs.Common.{◌≡◌, ◌≢◌, ℕ, zero, suc, Bool, true, false, not, List, [], ◌∷◌, get_or, Option, Some, None, inl, inr, refl, sym, ◌∙◌, ap, subst, arith}
+use Rattle.std.specs.Prelude.{All, IfSome}
 use Rattle.std.specs.List.{AllByRecursion}
-use Rattle.std.proofs.lemmas.Bool.{cases_eq, cases_lt, cases_Bool, both_ways, false≢true}
-use Rattle.std.proofs.lemmas.List.{get_or-map, get_or_past, length-map, length-set}
-use Rattle.wcnf.specs.Literal.{Literal}
-use Rattle.clauses.specs.Slots.{Slots, clause_at}
-use Rattle.propagate.specs.declared.pool.Entry.{Entry}
-use Rattle.propagate.specs.declared.table.Attachment.{Attachment}
-use Rattle.propagate.specs.declared.table.Attachment.TheVariants.{Detached, Waiting, Watching}
-use Rattle.propagate.specs.Pool.{row_at}
+use Rattle.std.proofs.lemmas.Bool.{cases_Bool, both_ways}
+use Rattle.clauses.specs.Slots.{Slots}
+use Rattle.watches.specs.declared.pool.Entry.{Entry}
+use Rattle.watches.specs.declared.table.Attachment.{Attachment}
+use Rattle.watches.specs.declared.table.Attachment.TheVariants.{Detached}
+use Rattle.watches.specs.Pool.{row_at}
+use Rattle.watches.specs.Table.{is_kept, attachment_in}
+use Rattle.watches.specs.Doomed.{is_doomed, spared_entries, spared_rows, IsSpared}
 use Rattle.propagate.specs.Trail.{Assigned}
-use Rattle.propagate.specs.Watches.{EngineState, IsEngine, IsWatching, IsVariable, is_attached, is_kept, attachment_in, watches_at, count_in}
+use Rattle.propagate.specs.Watches.{EngineState, is_attached, watches_at, count_in}
 use Rattle.propagate.specs.Fits.{Fits, FitsAttachment, HasBlocker}
-use Rattle.propagate.specs.Doomed.{is_doomed, spared, spared_entries, spared_rows, IsSpared, IsSparing}
-use Rattle.propagate.proofs.Attachments.{with_watches, attachment_set_other, attachment_set_same, attachment_same, count-cons, one-other}
-use Rattle.propagate.proofs.Attaching.{Contains-filter, engine_change}
+use Rattle.propagate.specs.Doomed.{spared}
+use Rattle.propagate.proofs.Attachments.{with_watches, attachment_same, count-cons, one-other}
+use Rattle.propagate.proofs.Attaching.{Contains-filter}
 
 -- rows
 

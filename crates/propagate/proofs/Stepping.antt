@@ -8,24 +8,26 @@ use Rattle.std.proofs.lemmas.List.Sums.{sum_by-append}
 use Rattle.wcnf.specs.Literal.{Literal, negation, index_of, literal_eq}
 use Rattle.wcnf.specs.Clause.{contains_literal}
 use Rattle.wcnf.specs.Refute.{IsUnit}
+use Rattle.wcnf.proofs.Marks.{index_same}
 use Rattle.clauses.specs.Slots.{Slots, clause_at}
-use Rattle.propagate.specs.declared.pool.Entry.{Entry}
-use Rattle.propagate.specs.declared.table.Attachment.{Attachment}
-use Rattle.propagate.specs.declared.table.Attachment.TheVariants.{Detached, Waiting, Satisfied, Watching}
-use Rattle.propagate.specs.declared.table.Rest.{Rest}
-use Rattle.propagate.specs.declared.table.Rest.TheVariants.{Nothing, One, Many}
-use Rattle.propagate.specs.Pool.{row_at, with_row, closed_row}
+use Rattle.watches.specs.declared.pool.Entry.{Entry}
+use Rattle.watches.specs.declared.table.Attachment.{Attachment}
+use Rattle.watches.specs.declared.table.Attachment.TheVariants.{Detached, Waiting, Satisfied, Watching}
+use Rattle.watches.specs.declared.table.Rest.{Rest}
+use Rattle.watches.specs.declared.table.Rest.TheVariants.{Nothing, One, Many}
+use Rattle.watches.specs.Pool.{row_at, with_row, closed_row}
+use Rattle.watches.specs.Table.{is_kept, attachment_in, rest_in, IsWatching, rest_after, IsWatchedBy}
+use Rattle.watches.proofs.Attachments.{attachment_set_other, attachment_set_same}
 use Rattle.propagate.specs.Trail.{Assigned, literals_of, kept_to}
-use Rattle.propagate.specs.Watches.{EngineState, IsEngine, IsVariable, is_attached, is_kept, attachment_in, rest_in, IsWatching, watches_at, one_at, count_in}
+use Rattle.propagate.specs.Watches.{EngineState, IsEngine, IsVariable, is_attached, watches_at, one_at, count_in}
 use Rattle.propagate.specs.Fits.{Fits, FitsAttachment, IsRest, IsWatch, HasBlocker}
-use Rattle.propagate.specs.Steps.{with_rows, with_trail, closed, entry_of, moved, rest_after, InRow, IsWatched, IsWatchedBy, IsTrueIn, IsTrueEntry, MayBeWatched}
+use Rattle.propagate.specs.Steps.{with_rows, with_trail, closed, entry_of, moved, InRow, IsWatched, IsTrueIn, IsTrueEntry, MayBeWatched}
 use Rattle.propagate.proofs.Facts.{all_weaker, all_left, all_right, all_join}
 use Rattle.propagate.proofs.Literals.{index-within, literal_eq-self}
-use Rattle.wcnf.proofs.Marks.{index_same}
 use Rattle.propagate.proofs.Trails.{made}
 use Rattle.propagate.proofs.Kept.{contains_take, contains_front, contains_back, kept_prefix, literals-append}
 use Rattle.propagate.proofs.Fitting.{fits_grow, more_literals, true_more}
-use Rattle.propagate.proofs.Attachments.{with_watches, attachment_same, attachment_set_other, attachment_set_same, fits_attachment, blockers_kept, count-cons, one-same, one-other}
+use Rattle.propagate.proofs.Attachments.{with_watches, attachment_same, fits_attachment, blockers_kept, count-cons, one-same, one-other}
 use Rattle.propagate.proofs.Attaching.{kept_within}
 use Rattle.propagate.proofs.Looking.{not_false_value, within_variable}
 

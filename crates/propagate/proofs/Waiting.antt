@@ -3,13 +3,14 @@ use Rattle.std.proofs.Common.{◌≡◌, ℕ, zero, suc, ◌+◌, ◌<◌, ◌�
 use Rattle.std.specs.Prelude.{Contains, slice_get}
 use Rattle.std.proofs.lemmas.List.{take_more, take_all}
 use Rattle.std.proofs.lemmas.List.Elements.{Contains-push_cases}
+use Rattle.wcnf.specs.Clause.{contains_literal}
 use Rattle.clauses.specs.Slots.{Slots}
+use Rattle.watches.specs.Table.{attachment_in}
 use Rattle.propagate.specs.Trail.{literals_of}
-use Rattle.propagate.specs.Watches.{EngineState, attachment_in}
+use Rattle.propagate.specs.Watches.{EngineState}
 use Rattle.propagate.specs.Fits.{Fits}
 use Rattle.propagate.specs.Steps.{Continues, IsTrueWaiting, AreTrueWaiting, is_waiting}
 use Rattle.propagate.proofs.Kept.{literals-append, contains_front}
-use Rattle.wcnf.specs.Clause.{contains_literal}
 use Rattle.propagate.proofs.Fitting.{true_more}
 use Rattle.propagate.proofs.Attachments.{with_watches, attachment_same}
 use Rattle.propagate.proofs.Attaching.{Contains-filter}

@@ -7,19 +7,21 @@ use Rattle.std.proofs.lemmas.List.{get_or-set_same, get_or-set_other, length-set
 use Rattle.wcnf.specs.Literal.{Literal, negation, index_of}
 use Rattle.wcnf.specs.Clause.{contains_literal}
 use Rattle.clauses.specs.Slots.{Slots, clause_at}
-use Rattle.propagate.specs.declared.pool.Entry.{Entry}
-use Rattle.propagate.specs.declared.table.Rest.{Rest}
-use Rattle.propagate.specs.declared.table.Attachment.TheVariants.{Waiting, Satisfied, Watching}
-use Rattle.propagate.specs.Pool.{row_at, with_row}
+use Rattle.watches.specs.declared.pool.Entry.{Entry}
+use Rattle.watches.specs.declared.table.Rest.{Rest}
+use Rattle.watches.specs.declared.table.Attachment.TheVariants.{Waiting, Satisfied, Watching}
+use Rattle.watches.specs.Pool.{row_at, with_row}
+use Rattle.watches.specs.Table.{is_kept, attachment_in}
+use Rattle.watches.proofs.Attachments.{attachment_set_other, attachment_set_same}
 use Rattle.propagate.specs.Trail.{literals_of, depth_of, level_in, value_in, kept_to}
-use Rattle.propagate.specs.Watches.{EngineState, IsEngine, is_attached, is_kept, attachment_in, watches_at, one_at, count_in}
+use Rattle.propagate.specs.Watches.{EngineState, IsEngine, is_attached, watches_at, one_at, count_in}
 use Rattle.propagate.specs.Fits.{Fits, FitsAttachment, IsRest, IsWatch, IsWithin, HasBlocker, HasTrue}
 use Rattle.propagate.specs.Steps.{entry_of, pushed, watched, with_attachment, with_trail, Continues, IsMadeTrue}
 use Rattle.propagate.proofs.Literals.{index-within}
 use Rattle.propagate.proofs.Levels.{kept_all}
 use Rattle.propagate.proofs.Kept.{contains_take, in_kept}
 use Rattle.propagate.proofs.Reasons.{no_opposites}
-use Rattle.propagate.proofs.Attachments.{attachment_set_other, attachment_set_same, fits_attachment, blockers_kept, count-cons, one-same, one-other}
+use Rattle.propagate.proofs.Attachments.{fits_attachment, blockers_kept, count-cons, one-same, one-other}
 use Rattle.propagate.proofs.Attaching.{kept_within}
 use Rattle.propagate.proofs.Looking.{within_variable, unit_left, one_left, true_value}
 use Rattle.propagate.proofs.Stepping.{count-append, open_watch, last_true}

@@ -6,15 +6,16 @@ use Rattle.wcnf.specs.Literal.{Literal, negation}
 use Rattle.wcnf.specs.Clause.{contains_literal, greatest_variable}
 use Rattle.wcnf.specs.Refute.{IsUnit, IsFalseUnder}
 use Rattle.clauses.specs.Slots.{Slots, clause_at, Renaming, renamed, IsRenaming}
-use Rattle.propagate.specs.Pool.{row_at}
+use Rattle.watches.specs.Pool.{row_at}
+use Rattle.watches.specs.declared.pool.Entry.{Entry}
+use Rattle.watches.specs.declared.table.Attachment.{Attachment}
+use Rattle.watches.specs.declared.table.Attachment.TheVariants.{Detached, Waiting, Satisfied}
+use Rattle.watches.specs.declared.table.Attachment.TheVariants.{Watching}
+use Rattle.watches.specs.declared.table.Rest.{Rest}
+use Rattle.watches.specs.declared.table.Rest.TheVariants.{Nothing, One, Many}
+use Rattle.watches.specs.Table.{attachment_in}
 use Rattle.propagate.specs.Trail.{Assigned, literals_of, kept_to, HasReasons}
-use Rattle.propagate.specs.declared.pool.Entry.{Entry}
-use Rattle.propagate.specs.declared.table.Attachment.{Attachment}
-use Rattle.propagate.specs.declared.table.Attachment.TheVariants.{Detached, Waiting, Satisfied}
-use Rattle.propagate.specs.declared.table.Attachment.TheVariants.{Watching}
-use Rattle.propagate.specs.declared.table.Rest.{Rest}
-use Rattle.propagate.specs.declared.table.Rest.TheVariants.{Nothing, One, Many}
-use Rattle.propagate.specs.Watches.{EngineState, attachment_in, is_attached, watches_at, count_in}
+use Rattle.propagate.specs.Watches.{EngineState, is_attached, watches_at, count_in}
 
 -- some literal of the clause is true
 abbrev pub HasTrue : List Literal → List Literal → Type 0

@@ -1,8 +1,6 @@
 pub mod Trail
-pub mod Pool
 pub mod Tables
 pub mod Vardata
-pub mod Table
 pub mod Truth
 pub mod Watches
 pub mod Doomed
@@ -11,5 +9,3 @@ pub mod Steps
 pub mod Queue
 pub mod Renames
 pub mod Vectors
-pub mod Block
-pub mod PoolLayout

@@ -2,14 +2,14 @@
 use Rattle.std.specs.Prelude.{◌≢◌, ℕ, ◌+◌}
 use Rattle.wcnf.specs.Literal.{Literal}
 use Rattle.clauses.specs.Slots.{Slots}
+use Rattle.watches.specs.Table.{attachment_in, IsWatchedBy}
 use Rattle.propagate.specs.declared.engine.queue.Look.{Look}
 use Rattle.propagate.specs.declared.engine.queue.Look.TheVariants.{True, Watch, Unit as UnitLook}
 use Rattle.propagate.specs.declared.engine.queue.Look.TheVariants.{False}
 use Rattle.propagate.specs.declared.engine.queue.Step.{Step}
 use Rattle.propagate.specs.declared.engine.queue.Step.TheVariants.{Kept, Moved, Conflict, Refused}
-use Rattle.propagate.specs.Watches.{EngineState, attachment_in}
-use Rattle.propagate.specs.Steps.{IsTrueIn, MayBeWatched, IsUnitIn, IsFalseIn, IsWatchedBy, InRow}
-use Rattle.propagate.specs.Steps.{IsConflict}
+use Rattle.propagate.specs.Watches.{EngineState}
+use Rattle.propagate.specs.Steps.{IsTrueIn, MayBeWatched, IsUnitIn, IsFalseIn, InRow, IsConflict}
 
 abbrev pub LookSays : Slots → EngineState → Literal → ℕ → Look → Type 0
 LookSays slots e w r (True l) = IsTrueIn slots e r l

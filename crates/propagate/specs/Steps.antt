@@ -1,21 +1,21 @@
 -- The small changes of an engine that propagation is made of.
-use Rattle.std.specs.Prelude.{◌≡◌, ◌≢◌, ℕ, ◌+◌, ◌-◌, ◌≤◌, ◌<◌, length, replicate, take, Bool, true}
+use Rattle.std.specs.Prelude.{◌≡◌, ◌≢◌, ℕ, ◌≤◌, ◌<◌, length, take, Bool, true}
 use Rattle.std.specs.Prelude.{false, List, [], ◌∷◌, ◌++◌, Some, None, slice_set, ◌⊎◌}
 use Rattle.std.specs.List.{AllByRecursion}
 use Rattle.wcnf.specs.Literal.{Literal, negation, index_of}
 use Rattle.wcnf.specs.Clause.{contains_literal}
 use Rattle.wcnf.specs.Refute.{IsUnit, IsFalseUnder}
 use Rattle.clauses.specs.Slots.{Slots, clause_at}
-use Rattle.propagate.specs.declared.pool.Entry.{Entry}
-use Rattle.propagate.specs.declared.table.Attachment.{Attachment}
-use Rattle.propagate.specs.declared.table.Attachment.TheVariants.{Detached, Waiting, Satisfied}
-use Rattle.propagate.specs.declared.table.Attachment.TheVariants.{Watching}
-use Rattle.propagate.specs.declared.table.Rest.{Rest}
-use Rattle.propagate.specs.declared.table.Rest.TheVariants.{Nothing, One, Many}
-use Rattle.propagate.specs.Pool.{row_at, with_row, closed_row}
+use Rattle.watches.specs.declared.pool.Entry.{Entry}
+use Rattle.watches.specs.declared.table.Attachment.{Attachment}
+use Rattle.watches.specs.declared.table.Attachment.TheVariants.{Detached, Waiting, Satisfied}
+use Rattle.watches.specs.declared.table.Attachment.TheVariants.{Watching}
+use Rattle.watches.specs.declared.table.Rest.{Rest}
+use Rattle.watches.specs.Pool.{row_at, with_row, closed_row}
+use Rattle.watches.specs.Table.{attachment_in, rest_in, IsWatchedBy, rest_after}
+use Rattle.watches.specs.Table.{grown_table}
 use Rattle.propagate.specs.Trail.{Assigned, literals_of, is_decision, value_in}
 use Rattle.propagate.specs.Watches.{EngineState, SameAttached, IsVariable, is_attached}
-use Rattle.propagate.specs.Watches.{attachment_in, rest_in, IsWatching}
 use Rattle.propagate.specs.Fits.{Fits, HasTrue, IsRest, IsWithin, IsFalseClause}
 
 abbrev pub with_rows : EngineState → List (List Entry) → EngineState
@@ -39,12 +39,6 @@ entry_of r blocker = record { reference = r; blocker = blocker }
 abbrev pub pushed : List (List Entry) → Literal → Entry → List (List Entry)
 pushed rows l w = with_row rows (index_of l) (row_at rows (index_of l) ++ w ∷ [])
 
--- what is beside the watches where the only literal there took the place of `w`
-abbrev pub rest_after : Literal → Rest → Rest
-rest_after w Nothing = Nothing
-rest_after w (One third) = One w
-rest_after w Many = Many
-
 -- the clause watches `l` in the place of `w`, beside `other`
 abbrev pub moved : EngineState → Literal → ℕ → Literal → Literal → EngineState
 moved e w r other l = with_attachment (with_rows e (pushed e.watches.rows l (entry_of r other))) r
@@ -55,10 +49,6 @@ abbrev pub watched : EngineState → ℕ → Literal → Literal → Rest → En
 watched e r one other rest = with_attachment (with_rows e
     (pushed (pushed e.watches.rows one (entry_of r other)) other (entry_of r one))) r
     (Watching one other rest)
-
--- the table has a place for the clause
-abbrev pub grown_table : List Attachment → ℕ → List Attachment
-grown_table t r = t ++ replicate (r + 1 - length t) Detached
 
 -- the clause waits
 abbrev pub enlisted : EngineState → ℕ → EngineState
@@ -79,9 +69,6 @@ pub record Continues (old new : EngineState) : Type 0 where
   pub attached : SameAttached old new
   pub waiting : (r : ℕ) → attachment_in new.watches.table r ≡ Waiting
       → attachment_in old.watches.table r ≡ Waiting
-
-abbrev pub IsWatchedBy : Attachment → Literal → Literal → Type 0
-IsWatchedBy p one other = IsWatching p one other ⊎ IsWatching p other one
 
 -- where the clause waits, it is true
 abbrev pub IsTrueWaiting : Slots → EngineState → ℕ → Type 0

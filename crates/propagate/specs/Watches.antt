@@ -1,13 +1,12 @@
 -- How an engine keeps the clauses that are attached to it.
-use Rattle.std.specs.Prelude.{◌≡◌, ℕ, ◌*◌, ◌+◌, ◌<◌, ◌≤◌, Bool, true, false, List, length}
-use Rattle.std.specs.Prelude.{slice_index_or, ◌==◌, if◌then◌else◌, count_by}
+use Rattle.std.specs.Prelude.{◌≡◌, ℕ, ◌*◌, ◌+◌, ◌<◌, ◌≤◌, Bool, List, length}
+use Rattle.std.specs.Prelude.{◌==◌, if◌then◌else◌, count_by}
 use Rattle.wcnf.specs.Literal.{Literal, index_of}
-use Rattle.propagate.specs.declared.pool.Entry.{Entry}
-use Rattle.propagate.specs.declared.table.Attachment.{Attachment}
-use Rattle.propagate.specs.declared.table.Attachment.TheVariants.{Detached, Waiting, Satisfied}
-use Rattle.propagate.specs.declared.table.Attachment.TheVariants.{Watching}
-use Rattle.propagate.specs.declared.table.Rest.{Rest}
-use Rattle.propagate.specs.declared.table.Rest.TheVariants.{Many}
+use Rattle.watches.specs.declared.pool.Entry.{Entry}
+use Rattle.watches.specs.declared.table.Attachment.{Attachment}
+use Rattle.watches.specs.declared.table.Attachment.TheVariants.{Detached, Waiting, Satisfied}
+use Rattle.watches.specs.declared.table.Attachment.TheVariants.{Watching}
+use Rattle.watches.specs.Table.{attachment_in, is_kept, IsWatching}
 use Rattle.propagate.specs.Trail.{Assigned, TrailState}
 
 pub record Watches : Type 0 where
@@ -43,25 +42,6 @@ engine_state trail table rows waiting stable_qhead qhead failed = record {
     qhead = qhead;
   };
 }
-
-abbrev pub attachment_in : List Attachment → ℕ → Attachment
-attachment_in table r = slice_index_or table r Detached
-
-abbrev pub is_kept : Attachment → Bool
-is_kept Detached = false
-is_kept Waiting = true
-is_kept Satisfied = true
-is_kept (Watching one other rest) = true
-
--- what a clause has beside its watches
-abbrev pub rest_in : Attachment → Rest
-rest_in Detached = Many
-rest_in Waiting = Many
-rest_in Satisfied = Many
-rest_in (Watching one other rest) = rest
-
-abbrev pub IsWatching : Attachment → Literal → Literal → Type 0
-IsWatching p one other = p ≡ Watching one other (rest_in p)
 
 abbrev pub is_attached : EngineState → ℕ → Bool
 is_attached e r = is_kept (attachment_in e.watches.table r)

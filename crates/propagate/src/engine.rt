@@ -3,9 +3,10 @@ ghost use Rattle.std.specs.Prelude.{◌≡◌, ℕ, ◌+◌, ◌<◌, ◌≤◌,
 ghost use Rattle.std.specs.Prelude.{Some, None, length, map, All, Contains, OnOk, OnErr, IfOk};
 ghost use Rattle.std.specs.Prelude.{IfSome, IfNone, IsErr, ◌↔◌};
 ghost use Rattle.clauses.specs.Slots.{Slots, IsLive, clause_at};
+ghost use Rattle.watches.specs.Table.{attachment_in};
 ghost use Rattle.propagate.specs.Trail.{literals_of, depth_of, value_in, level_in, position_in};
 ghost use Rattle.propagate.specs.Trail.{reason_in, kept_to};
-ghost use Rattle.propagate.specs.Watches.{is_attached, attachment_in, SameAttached, SetsAttached};
+ghost use Rattle.propagate.specs.Watches.{is_attached, SameAttached, SetsAttached};
 ghost use Rattle.propagate.specs.Steps.{enlisted, with_trail, Continues, IsConflict};
 ghost use Rattle.propagate.specs.Fits.{Fits, IsWithin, GrowsByUnits, IsFalseClause, IsComplete};
 
@@ -15,12 +16,12 @@ mod queue;
 mod renaming;
 mod waiting;
 
-use crate::pool::WatchPool;
-use crate::table::{Attachment, Table};
 use crate::trail::Trail;
 use clauses::store::{CRef, Store};
 use std::alloc::{AllocError, Global};
 use std::marker::Model;
+use watches::pool::WatchPool;
+use watches::table::{Attachment, Table};
 use wcnf::types::Lit;
 
 /// Why an engine gave no answer.

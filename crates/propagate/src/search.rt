@@ -5,8 +5,8 @@ ghost use Rattle.wcnf.specs.Clause.{contains_literal};
 ghost use Rattle.propagate.specs.Trail.{value_in, level_in};
 ghost use Rattle.propagate.specs.Fits.{IsRest};
 
-use crate::table::Rest;
 use crate::trail::Trail;
+use watches::table::Rest;
 use wcnf::types::Lit;
 
 /// A literal that is not false.

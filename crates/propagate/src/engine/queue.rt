@@ -5,22 +5,22 @@ ghost use Rattle.std.specs.Prelude.{slice_set};
 ghost use Rattle.std.specs.List.{AllByRecursion};
 ghost use Rattle.wcnf.specs.Literal.{Literal, negation, index_of};
 ghost use Rattle.wcnf.specs.Clause.{contains_literal};
-ghost use Rattle.propagate.specs.Pool.{row_at, with_row};
+ghost use Rattle.watches.specs.Pool.{row_at, with_row};
+ghost use Rattle.watches.specs.Table.{IsWatching, attachment_in, rest_in, IsWatchedBy};
 ghost use Rattle.propagate.specs.Trail.{literals_of, value_in};
-ghost use Rattle.propagate.specs.Watches.{IsVariable, IsWatching, is_attached, attachment_in};
-ghost use Rattle.propagate.specs.Watches.{rest_in};
+ghost use Rattle.propagate.specs.Watches.{IsVariable, is_attached};
 ghost use Rattle.propagate.specs.Fits.{Fits, IsComplete};
 ghost use Rattle.propagate.specs.Steps.{Continues, AreTrueWaiting, IsTrueEntry, IsConflict};
-ghost use Rattle.propagate.specs.Steps.{IsWatched, IsWatchedBy, LeavesOne, MayBeWatched, InRow};
-ghost use Rattle.propagate.specs.Steps.{with_rows, closed, moved};
+ghost use Rattle.propagate.specs.Steps.{IsWatched, LeavesOne, MayBeWatched, InRow, with_rows};
+ghost use Rattle.propagate.specs.Steps.{closed, moved};
 ghost use Rattle.propagate.specs.Queue.{LookSays, StepSays};
 
 use super::Engine;
-use crate::pool::Entry;
 use crate::search::find_other_not_false;
-use crate::table::Rest;
 use clauses::store::{CRef, Store};
 use std::alloc::AllocError;
+use watches::pool::Entry;
+use watches::table::Rest;
 use wcnf::types::Lit;
 
 /// What is found of a clause whose watched literal is false.

@@ -5,19 +5,20 @@ ghost use Rattle.std.specs.Bool.{MatchBool};
 ghost use Rattle.wcnf.specs.Literal.{negation};
 ghost use Rattle.wcnf.specs.Clause.{contains_literal};
 ghost use Rattle.clauses.specs.Slots.{clause_at};
+ghost use Rattle.watches.specs.Table.{attachment_in};
+ghost use Rattle.watches.specs.declared.table.Rest.{Rest};
 ghost use Rattle.propagate.specs.Trail.{literals_of, value_in};
-ghost use Rattle.propagate.specs.Watches.{IsVariable, is_attached, attachment_in};
-ghost use Rattle.propagate.specs.declared.table.Rest.{Rest};
+ghost use Rattle.propagate.specs.Watches.{IsVariable, is_attached};
 ghost use Rattle.propagate.specs.Fits.{Fits, HasTrue, IsRest};
 ghost use Rattle.propagate.specs.Steps.{Continues, AreTrueWaiting, IsTrueWaiting, IsConflict};
 ghost use Rattle.propagate.specs.Steps.{IsMadeTrue, is_waiting, watched, with_attachment};
 
 use super::Engine;
-use crate::pool::Entry;
 use crate::search::{find_not_false, find_other_not_false, find_other_of_level, gather_rest};
-use crate::table::{Attachment, Table};
 use clauses::store::{CRef, Store};
 use std::alloc::AllocError;
+use watches::pool::Entry;
+use watches::table::{Attachment, Table};
 use wcnf::types::Lit;
 
 /// Whether the clause is to be looked at.

@@ -1,7 +1,7 @@
 use Rattle.std.proofs.Common.{rules}
 use Rattle.std.proofs.lemmas.List.{take_all, drop_all}
 use Rattle.std.proofs.lemmas.List.Edits.{map_over_more}
-use Rattle.propagate.specs.Renames.{named}
+use Rattle.watches.specs.Renames.{named}
 use Rattle.propagate.proofs.names.rename_references.Goals as goal
 
 pub loop-reference-preserved : goal.loop-reference-preserved

@@ -1,5 +1,5 @@
 use Rattle.std.proofs.Common.{◌≡◌, ◌++◌, map, take, drop}
-use Rattle.propagate.specs.Renames.{named}
+use Rattle.watches.specs.Renames.{named}
 use Rattle.propagate.proofs.names.rename_references.Given as goal
 
 abbrev pub invariant-loop-reference : goal.invariant-loop-reference

@@ -2,10 +2,11 @@ use Rattle.std.proofs.Common.{◌≡◌, ◌<◌, length, Some, sym, ap, subst, 
 use Rattle.std.specs.Prelude.{All}
 use Rattle.std.proofs.lemmas.Fn.{filter_same}
 use Rattle.std.proofs.lemmas.List.{length-set}
-use Rattle.propagate.specs.declared.table.Attachment.TheVariants.{Detached, Waiting, Satisfied}
+use Rattle.watches.specs.declared.table.Attachment.TheVariants.{Detached, Waiting, Satisfied}
+use Rattle.watches.specs.Table.{IsWatching, attachment_in}
+use Rattle.watches.specs.Pool.{row_at}
 use Rattle.propagate.specs.Trail.{Assigned}
-use Rattle.propagate.specs.Watches.{EngineState, engine_state, IsWatching, is_attached, attachment_in, watches_at}
-use Rattle.propagate.specs.Pool.{row_at}
+use Rattle.propagate.specs.Watches.{EngineState, engine_state, is_attached, watches_at}
 use Rattle.propagate.specs.Fits.{Fits}
 use Rattle.propagate.proofs.Literals.{index-within}
 use Rattle.propagate.proofs.Attaching.{fits_detach_watching, fits_detach_other, without, without_kept, without_clause, kept_within, engine_set, watching_is}

@@ -1,9 +1,9 @@
 use Rattle.std.proofs.Common.{◌≡◌, false, sym, subst}
 use Rattle.std.specs.Prelude.{All, IfSome}
+use Rattle.watches.specs.Doomed.{is_doomed}
 use Rattle.propagate.specs.Trail.{Assigned}
 use Rattle.propagate.specs.Watches.{EngineState, engine_state}
 use Rattle.propagate.specs.Fits.{Fits}
-use Rattle.propagate.specs.Doomed.{is_doomed}
 use Rattle.propagate.proofs.Sparing.{fits_spared}
 use Rattle.propagate.proofs.engine.Engine.detach_all.Goals as goal
 

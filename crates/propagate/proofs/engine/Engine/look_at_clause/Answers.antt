@@ -3,9 +3,10 @@ use Rattle.std.specs.Prelude.{All}
 use Rattle.wcnf.specs.Literal.{Literal}
 use Rattle.wcnf.specs.Clause.{contains_literal}
 use Rattle.clauses.specs.Slots.{clause_at}
-use Rattle.propagate.specs.declared.table.Attachment.TheVariants.{Watching}
+use Rattle.watches.specs.declared.table.Attachment.TheVariants.{Watching}
+use Rattle.watches.specs.Table.{is_kept}
 use Rattle.propagate.specs.Trail.{literals_of, value_in}
-use Rattle.propagate.specs.Watches.{EngineState, IsEngine, is_attached, is_kept}
+use Rattle.propagate.specs.Watches.{EngineState, IsEngine, is_attached}
 use Rattle.propagate.specs.Fits.{Fits}
 use Rattle.propagate.specs.Steps.{Continues}
 use Rattle.propagate.proofs.Looking.{waiting_within, within_variable, within_all, all_false_from, not_false_value}

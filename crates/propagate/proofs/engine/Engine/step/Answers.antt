@@ -1,9 +1,10 @@
 use Rattle.std.proofs.Common.{◌≡◌, ◌+◌, ◌++◌, ◌∷◌, [], true, length, get_or, set, Some, refl, sym, ap, subst, ◌∙◌}
 use Rattle.std.specs.Prelude.{slice_get}
 use Rattle.wcnf.specs.Literal.{index_of}
-use Rattle.propagate.specs.declared.table.Attachment.TheVariants.{Watching}
-use Rattle.propagate.specs.Pool.{row_at, with_row}
-use Rattle.propagate.specs.Watches.{EngineState, IsEngine, IsVariable, is_attached, attachment_in}
+use Rattle.watches.specs.declared.table.Attachment.TheVariants.{Watching}
+use Rattle.watches.specs.Pool.{row_at, with_row}
+use Rattle.watches.specs.Table.{attachment_in}
+use Rattle.propagate.specs.Watches.{EngineState, IsEngine, IsVariable, is_attached}
 use Rattle.propagate.specs.Steps.{InRow, IsTrueIn, Continues, with_rows, with_trail, entry_of}
 use Rattle.propagate.proofs.Trails.{made}
 use Rattle.propagate.proofs.Looking.{within_variable}

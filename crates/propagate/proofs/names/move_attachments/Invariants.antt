@@ -1,5 +1,0 @@
-use Rattle.propagate.specs.Renames.{IsMoving}
-use Rattle.propagate.proofs.names.move_attachments.Given as goal
-
-abbrev pub invariant-loop-at : goal.invariant-loop-at
-invariant-loop-at l = IsMoving l.initial.table l.table l.pairs l.at l.next

@@ -1,6 +1,0 @@
-use Rattle.propagate.specs.Renames.{named_entry}
-use Rattle.propagate.proofs.Rewriting.{IsMapped}
-use Rattle.propagate.proofs.pool.WatchPool.rename_row.Given as goal
-
-abbrev pub invariant-loop-i : goal.invariant-loop-i
-invariant-loop-i l = IsMapped (named_entry l.moves) l.fn.self l.self l.row l.i

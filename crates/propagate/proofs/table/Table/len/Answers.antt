@@ -1,9 +1,0 @@
-use Rattle.std.proofs.Common.{length, ap, arith}
-use Rattle.clauses.proofs.Zipped.{length-zipped}
-use Rattle.propagate.specs.Table.{attachment_of}
-use Rattle.propagate.proofs.table.Table.len.Goals as goal
-
-pub returns : goal.returns
-returns c =
-    let i = c.self.inside in
-    omega (arith, c.len.ensures, i.kinds.ok.0, length-zipped attachment_of i.kinds.items i.pairs.items c.self.invariant, ap length c.self.view_is)

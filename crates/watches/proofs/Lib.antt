@@ -1,0 +1,5 @@
+pub mod Attachments
+pub mod Zipped
+pub mod Moving
+pub mod Laid
+pub mod Rewriting

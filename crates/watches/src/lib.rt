@@ -1,0 +1,9 @@
+//! Which clauses watch a literal, and what each clause watches: rows of entries in one block of
+//! memory, and a table by reference.
+#![tactic(auto)]
+
+mod block;
+pub mod doomed;
+pub mod names;
+pub mod pool;
+pub mod table;
