@@ -8,7 +8,8 @@ use Rattle.wcnf.specs.Clause.{contains_literal, without_literal}
 use Rattle.wcnf.specs.Refute.{Clauses}
 use Rattle.wcnf.specs.Lrat.{Live, CandidateHints}
 use Rattle.lrat_check.specs.declared.verdicts.Cause.TheVariants.{Candidates}
-use Rattle.lrat_check.specs.Verdict.{Walk, Open, Refuted, Fault, Outcome, Dead, NotUnit, Conflict, Makes, open_literals, outcome_of, goes_on, walk, of_walk, ids_with, same_ids, group_fault, groups_fault, clause_fault}
+use Rattle.lrat_live.specs.Listed.{same_ids}
+use Rattle.lrat_check.specs.Verdict.{Walk, Open, Refuted, Fault, Outcome, Dead, NotUnit, Conflict, Makes, open_literals, outcome_of, goes_on, walk, of_walk, ids_with, group_fault, groups_fault, clause_fault}
 use Rattle.lrat_check.specs.Steps.{HaveSame, EndAlike}
 use Rattle.lrat_check.proofs.Walk.{outcome_on, outcome_is}
 use Rattle.lrat_check.proofs.Steps.{IsTrueAlready, group_dead, group_silent, group_walks}

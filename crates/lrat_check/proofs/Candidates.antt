@@ -4,14 +4,16 @@ use Rattle.std.specs.Prelude.{◌↔◌, Contains, nat_eq}
 use Rattle.std.specs.List.{AllByRecursion, list_any, AllPairs}
 use Rattle.std.specs.List.Sorted.{IsStrictlyIncreasing}
 use Rattle.std.proofs.lemmas.Bool.{and_from, and_parts, or_cases, or_left, or_right, cases_Bool, both_ways, eq-eqb, eqb-true, eqb-false, cases_lt, false≢true}
-use Rattle.std.proofs.lemmas.List.Elements.{recursion_from_All, Contains-get_or}
+use Rattle.std.proofs.lemmas.List.Elements.{Contains-get_or}
 use Rattle.std.proofs.lemmas.List.Kept.{AllPairs-from_increasing}
 use Rattle.std.proofs.lemmas.List.Quantifiers.{all_pairs_push}
 use Rattle.std.proofs.lemmas.List.Folds.{list_any-append}
 use Rattle.wcnf.specs.Literal.{Literal}
 use Rattle.wcnf.specs.Clause.{contains_literal}
 use Rattle.wcnf.specs.Refute.{Clauses}
-use Rattle.lrat_check.specs.Verdict.{ids_with, same_ids}
+use Rattle.lrat_live.specs.Listed.{same_ids}
+use Rattle.lrat_live.proofs.Listed.{Rises, rises_from_pairs}
+use Rattle.lrat_check.specs.Verdict.{ids_with}
 
 -- membership, as a test
 abbrev pub Has : List ℕ → ℕ → Type 0
@@ -29,15 +31,6 @@ Contains-from_Has (x ∷ xs) i e =
       | inl h ↦ (0, omega arith, sym (eqb-true i x h))
       | inr h ↦ let r = Contains-from_Has xs i h in (suc r.0, omega arith, r.2)
     ]
-
--- each number is below all later ones
-abbrev pub Rises : List ℕ → Type 0
-Rises [] = Unit {0}
-Rises (x ∷ xs) = AllByRecursion (λ y. x < y) xs × Rises xs
-
-pub rises_from_pairs : (xs : List ℕ) → AllPairs (λ x y. x < y) xs → Rises xs
-rises_from_pairs [] p = tt
-rises_from_pairs (x ∷ xs) p = (recursion_from_All (λ y. x < y) xs (λ k d h. p 0 (suc k) d (omega arith) (omega arith)), rises_from_pairs xs (λ i j d h k. p (suc i) (suc j) d (omega arith) (omega arith)))
 
 pub above : (x i : ℕ) (xs : List ℕ) → AllByRecursion (λ y. x < y) xs → Has xs i → x < i
 above x i [] a e = absurd (false≢true e)

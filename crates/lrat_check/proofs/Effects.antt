@@ -1,5 +1,5 @@
 -- What one hint does, from a pass over its clause, and the steps of a walk along hints.
-use Rattle.std.proofs.Common.{◌≡◌, ℕ, ◌+◌, ◌<◌, ◌≤◌, Bool, true, false, not, List, [], ◌∷◌, ◌++◌, map, length, get_or, take, drop, Option, Some, None, is_some, refl, sym, ◌∙◌, ap, subst, inl, inr, arith, take-append-drop}
+use Rattle.std.proofs.Common.{◌≡◌, ℕ, ◌+◌, ◌<◌, ◌≤◌, Bool, true, false, not, List, [], ◌∷◌, ◌++◌, map, length, get_or, take, drop, Option, Some, None, refl, sym, ◌∙◌, ap, subst, inl, inr, arith}
 use Rattle.std.proofs.Math.Bool.{cond}
 use Rattle.std.specs.Prelude.{All, ◌==◌}
 use Rattle.std.proofs.lemmas.List.{append-nil, drop_more, get_or_default, take_more, take-append-le, length-take}
@@ -11,7 +11,7 @@ use Rattle.wcnf.specs.Clause.{contains_literal}
 use Rattle.wcnf.specs.Refute.{Clauses}
 use Rattle.wcnf.proofs.Sound.{literal_eq-true}
 use Rattle.lrat_check.specs.Assumed.{AreWithin}
-use Rattle.lrat_check.specs.Listed.{listed_at}
+use Rattle.lrat_live.specs.Listed.{listed_at}
 use Rattle.lrat_check.specs.declared.verdicts.Cause.TheVariants.{HintAfterConflict}
 use Rattle.lrat_check.specs.Verdict.{Fault, NotUnit, Conflict, Makes, open_literals, outcome_of, goes_on, walk}
 use Rattle.lrat_check.specs.Steps.{EndAlike}

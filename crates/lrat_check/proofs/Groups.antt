@@ -4,17 +4,18 @@ use Rattle.std.proofs.Math.Bool.{cond}
 use Rattle.std.specs.Prelude.{◌==◌, filter}
 use Rattle.std.specs.Bool.{then_some}
 use Rattle.std.specs.List.{list_any}
-use Rattle.std.proofs.lemmas.Bool.{or_left, or_right, cases_eq, eq-eqb, ne_eqb, not-true, both_ways, false_from_ne_true}
+use Rattle.std.proofs.lemmas.Bool.{or_left, or_right, cases_eq, eq-eqb, ne_eqb}
 use Rattle.std.proofs.lemmas.List.{drop_more, drop_all}
 use Rattle.wcnf.specs.Literal.{Literal, negation, literal_eq}
 use Rattle.wcnf.specs.Clause.{contains_literal, without_literal}
 use Rattle.wcnf.specs.Lrat.{CandidateHints}
 use Rattle.lrat_read.specs.Form.{groups_of}
 use Rattle.wcnf.specs.Refute.{Clauses}
-use Rattle.wcnf.proofs.Sound.{literal_eq-true}
 use Rattle.lrat_check.specs.declared.verdicts.Cause.TheVariants.{HintAfterConflict}
-use Rattle.lrat_check.specs.Verdict.{Walk, walk, of_walk, same_ids, group_fault}
+use Rattle.lrat_live.specs.Listed.{same_ids}
+use Rattle.lrat_check.specs.Verdict.{Walk, walk, of_walk, group_fault}
 use Rattle.lrat_check.specs.Steps.{HaveSame, EndAlike}
+use Rattle.lrat_live.proofs.CountLaws.{ne_codes}
 use Rattle.lrat_check.proofs.Steps.{IsTrueAlready, silent_on, group_silent, group_walks}
 use Rattle.lrat_check.proofs.Alike.{EndAlike-step, walk-same, of_walk-alike}
 use Rattle.lrat_check.proofs.Effects.{drop_at}
@@ -35,12 +36,6 @@ none_left ids n le =
     ]
 
 -- the literals of a candidate but one
-pub ne_codes : (k l : Literal) → not ((2 * l.variable + cond l.negated 1 0) == (2 * k.variable + cond k.negated 1 0)) ≡ true → literal_eq k l ≡ false
-ne_codes k l h =
-    false_from_ne_true _ (λ e.
-    let same : k ≡ l = literal_eq-true k l e in
-    both_ways _ (not-true _ h) (eq-eqb _ _ (ap (λ m. 2 * m.variable + cond m.negated 1 0) (sym same))))
-
 any_kept : (p q : Literal → Bool) (ys zs : List Literal) (x : Literal) → q x ≡ true → p x ≡ true → list_any p (filter q (ys ++ x ∷ zs)) ≡ true
 any_kept p q [] zs x h k = rw h (or_left _ _ k)
 any_kept p q (y ∷ ys) zs x h k =

@@ -18,13 +18,5 @@ pub mod AnswerRead
 pub mod TrueResults
 pub mod BitsFaults
 pub mod Judging
-pub mod Chains
-pub mod Table
-pub mod Clauses
-pub mod Given
-pub mod Lookup
-pub mod Moves
-pub mod Tables
-pub mod CountLaws
 pub mod PieceLaws
 pub mod LeftLaws

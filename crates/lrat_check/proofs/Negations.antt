@@ -12,7 +12,8 @@ use Rattle.lrat_read.specs.Form.{leading, groups_of}
 use Rattle.lrat_check.specs.Assumed.{AreWithin}
 use Rattle.lrat_check.specs.declared.verdicts.Cause.TheVariants.{HintAfterConflict, Candidates}
 use Rattle.lrat_check.specs.declared.hints.Walked.{Walked}
-use Rattle.lrat_check.specs.Verdict.{Open, Refuted, walk, ids_with, same_ids, groups_fault, clause_fault}
+use Rattle.lrat_live.specs.Listed.{same_ids}
+use Rattle.lrat_check.specs.Verdict.{Open, Refuted, walk, ids_with, groups_fault, clause_fault}
 use Rattle.lrat_check.specs.Steps.{EndAlike, walked_as}
 use Rattle.lrat_check.proofs.Members.{negation-negation, contains-negations, has_repeat-push, has_opposites-push, repeat_at, opposite_at}
 use Rattle.lrat_check.proofs.Alike.{clause_fault-alike}

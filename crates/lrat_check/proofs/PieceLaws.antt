@@ -18,7 +18,8 @@ use Rattle.lrat_check.specs.declared.verdicts.Verdict.TheVariants.{Yes}
 use Rattle.lrat_check.specs.Checks.{IsProofOver}
 use Rattle.lrat_check.proofs.Whole.{yes_is_proof}
 use Rattle.lrat_check.specs.declared.reading.Reading.{Reading}
-use Rattle.lrat_check.specs.Machine.{MachineState, verdict_after, listed_from}
+use Rattle.lrat_live.specs.Listed.{listed_from}
+use Rattle.lrat_check.specs.Machine.{MachineState, verdict_after}
 use Rattle.lrat_check.specs.Verdict.{verdict_on, proof_verdict}
 use Rattle.lrat_check.proofs.Base.{live_of-start}
 use Rattle.lrat_check.proofs.Judged.{state_of}

@@ -15,7 +15,8 @@ use Rattle.wcnf.specs.Refute.{Clauses}
 use Rattle.wcnf.specs.Lrat.{CandidateHints, Addition as AddsLine, Deletion as DeletesLine, Live, start_of, with_clause, without_ids, IsAddable, HoldsForCandidate, candidates_of, IsRat, IsRup, Step}
 use Rattle.lrat_check.specs.declared.verdicts.Cause.{Cause}
 use Rattle.lrat_check.specs.declared.verdicts.Cause.TheVariants.{IdOrder, DeadId, HintAfterConflict, Candidates, ClauseForm}
-use Rattle.lrat_check.specs.Verdict.{Walk, Open, Refuted, Fault, walk, ids_with, same_ids, of_walk, group_fault, or_else, groups_fault, clause_fault, addition_fault, deleted}
+use Rattle.lrat_live.specs.Listed.{same_ids}
+use Rattle.lrat_check.specs.Verdict.{Walk, Open, Refuted, Fault, walk, ids_with, of_walk, group_fault, or_else, groups_fault, clause_fault, addition_fault, deleted}
 use Rattle.lrat_read.specs.Form.{leading, groups_of}
 use Rattle.lrat_check.proofs.Walk.{NoneRepeats, refutes_from_walk, leads_from_walk, walk_from_refutes, walk_from_leads}
 use Rattle.lrat_check.proofs.Candidates.{InRange, same_ids_rising}

@@ -1,16 +1,11 @@
 pub mod Result
 pub mod Checks
 pub mod Verdict
-pub mod Listed
 pub mod Machine
 pub mod Assumed
 pub mod Steps
 pub mod Words
 pub mod Vectors
 pub mod Answer
-pub mod Chains
-pub mod Table
-pub mod Counts
 pub mod Pieces
-pub mod Given
 pub mod Left

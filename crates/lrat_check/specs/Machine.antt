@@ -1,8 +1,8 @@
 -- What the checker knows after some lines, and the verdict where further lines follow.
-use Rattle.std.specs.Prelude.{◌≡◌, ℕ, ◌+◌, Bool, List, [], ◌∷◌, Option, MatchOption}
+use Rattle.std.specs.Prelude.{◌≡◌, ℕ, ◌+◌, Bool, List, ◌∷◌, Option, MatchOption}
 use Rattle.wcnf.specs.Literal.{Literal}
 use Rattle.wcnf.specs.Lrat.{Live}
-use Rattle.lrat_check.specs.Listed.{listed_at}
+use Rattle.lrat_live.specs.Listed.{listed_at}
 use Rattle.lrat_check.specs.Verdict.{verdict_on}
 use Rattle.lrat_check.specs.declared.verdicts.Cause.{Cause}
 use Rattle.lrat_check.specs.declared.verdicts.Verdict.{Verdict}
@@ -22,11 +22,6 @@ live_in s = record { clause_at = listed_at s.clauses; last = s.last }
 -- the verdict where these lines still come, each as its tokens
 abbrev pub verdict_after : MachineState → List (List (List ℕ)) → Verdict
 verdict_after s more = verdict_on (live_in s) s.ended (s.lines + 1) more
-
--- clauses under the ids from n on
-abbrev pub listed_from : ℕ → List (List Literal) → List (ℕ × List Literal)
-listed_from n [] = []
-listed_from n (c ∷ cs) = (n, c) ∷ listed_from (n + 1) cs
 
 -- a line with these tokens leads on to a state, or the certificate fails at it
 abbrev pub StepsTo : MachineState → List (List ℕ) → Option Cause → MachineState → Type 0

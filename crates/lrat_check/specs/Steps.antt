@@ -1,11 +1,11 @@
 -- What the checker's parts answer, in the terms of the verdict.
-use Rattle.std.specs.Prelude.{◌≡◌, ℕ, ◌<◌, Bool, false, List, [], ◌∷◌, ◌++◌, length, nat_eq, Option}
+use Rattle.std.specs.Prelude.{◌≡◌, ℕ, ◌<◌, ◌≤◌, Bool, false, List, [], ◌∷◌, ◌++◌, length, nat_eq, Option}
 use Rattle.std.specs.Prelude.{All}
 use Rattle.wcnf.specs.Literal.{Literal}
 use Rattle.wcnf.specs.Clause.{contains_literal}
 use Rattle.wcnf.specs.Lrat.{Live}
 use Rattle.lrat_check.specs.Assumed.{AreWithin}
-use Rattle.lrat_check.specs.Listed.{listed_at, IsRising, IsUpTo}
+use Rattle.lrat_live.specs.Listed.{listed_at, IsRising}
 use Rattle.lrat_check.specs.declared.verdicts.Cause.{Cause}
 use Rattle.lrat_read.specs.Reader.{LineState, is_large_clause}
 use Rattle.lrat_check.specs.Verdict.{addition_fault, Walk, Open, Refuted, Fault, Outcome, NotUnit}
@@ -20,6 +20,10 @@ use Rattle.lrat_check.specs.declared.hints.Walked.TheVariants.{Fault as IsFault}
 -- the live clauses and the last id
 abbrev pub live_of : ℕ → List (ℕ × List Literal) → Live
 live_of last es = record { clause_at = listed_at es; last = last }
+
+-- no id is above last
+abbrev pub IsUpTo : ℕ → List (ℕ × List Literal) → Type 0
+IsUpTo last es = All (λ e. e.0 ≤ last) es
 
 -- what is known of the live clauses between lines
 pub record IsBase (variables last : ℕ) (es : List (ℕ × List Literal)) : Type 0 where

@@ -1,6 +1,6 @@
 -- The verdict on a certificate, line by line, and on a text with its result and certificate. The
 -- first fault decides.
-use Rattle.std.specs.Prelude.{◌≡◌, ℕ, zero, suc, ◌+◌, Bool, true, false, not, ◌||◌, ◌&&◌, List, []}
+use Rattle.std.specs.Prelude.{◌≡◌, ℕ, zero, suc, ◌+◌, Bool, true, false, not, ◌||◌, List, []}
 use Rattle.std.specs.Prelude.{◌∷◌, ◌++◌, length, map, filter, Option, Some, None, Result, Ok, Err}
 use Rattle.std.specs.Prelude.{is_some, nat_le, ◌==◌, if◌then◌else◌, ◌↔◌, All}
 use Rattle.std.specs.List.{list_any, list_all}
@@ -18,6 +18,7 @@ use Rattle.adder.specs.declared.cells.Profile.{Profile}
 use Rattle.adder.specs.declared.cells.Profile.TheVariants.{One}
 use Rattle.bound.specs.Bound.{hard_cnf, bound_as}
 use Rattle.lrat_read.specs.Form.{Parsed, Addition, Deletion, Malformed, line_of, leading, groups_of}
+use Rattle.lrat_live.specs.Listed.{same_ids}
 use Rattle.lrat_check.specs.Result.{Said, OptimumFound, Unsatisfiable, Satisfiable, Unknown, Report}
 use Rattle.lrat_check.specs.Result.{report_of}
 use Rattle.lrat_check.specs.Checks.{IsProofOver, ChecksAs}
@@ -77,11 +78,6 @@ ids_with at l (suc i) = ids_with at l i ++ (if stands (at (suc i)) then suc i �
     stands : Option (List Literal) → Bool
     stands None = false
     stands (Some c) = contains_literal l c
-
-abbrev pub same_ids : List ℕ → List ℕ → Bool
-same_ids [] [] = true
-same_ids (i ∷ is) (j ∷ js) = (i == j) && same_ids is js
-same_ids other others = false
 
 abbrev pub of_walk : Walk → Option Cause
 of_walk (Open B) = Some NoConflict

@@ -11,9 +11,9 @@ ghost use Rattle.lrat_read.specs.Form.{leading as leading_of, groups_of};
 
 use crate::assumed::Assumed;
 use crate::hints::{Walked, leading, walk};
-use crate::live::LiveClauses;
 use crate::rat::rat_fault;
 use crate::verdicts::Cause;
+use lrat_live::live::LiveClauses;
 use lrat_read::reader::LineReader;
 use lrat_read::types::SignedId;
 use std::alloc::AllocError;

@@ -2,14 +2,14 @@
 ghost use Rattle.std.specs.Prelude.{◌≡◌, ℕ, ◌≤◌, List, Some, IfOk, length, map, take, All};
 ghost use Rattle.wcnf.specs.Literal.{Literal};
 ghost use Rattle.lrat_check.specs.Assumed.{AreWithin};
-ghost use Rattle.lrat_check.specs.Listed.{listed_at};
+ghost use Rattle.lrat_live.specs.Listed.{listed_at};
 ghost use Rattle.lrat_check.specs.Verdict.{outcome_of, of_walk, walk as walk_of};
 ghost use Rattle.lrat_check.specs.Steps.{outcome_as, walked_as, EndAlike};
 ghost use Rattle.lrat_read.specs.Form.{leading as leading_of};
 
 use crate::assumed::Assumed;
-use crate::live::LiveClauses;
 use crate::verdicts::Cause;
+use lrat_live::live::LiveClauses;
 use lrat_read::types::SignedId;
 use std::alloc::AllocError;
 use wcnf::types::Lit;

@@ -8,7 +8,6 @@ pub mod certificate;
 pub mod checking;
 mod copies;
 mod hints;
-mod live;
 mod machine;
 pub mod pieces;
 mod rat;

@@ -3,15 +3,16 @@ ghost use Rattle.std.specs.Prelude.{◌≡◌, ℕ, ◌+◌, ◌<◌, ◌^◌, L
 ghost use Rattle.std.specs.Prelude.{nat_eq, IfOk, OnErr, IsSome, MatchOption, Some, None};
 ghost use Rattle.wcnf.specs.Formula.{IsFormula};
 ghost use Rattle.wcnf.specs.Text.{tokens_of};
-ghost use Rattle.lrat_check.specs.Machine.{MachineState, StepsTo, verdict_after, listed_from};
+ghost use Rattle.lrat_live.specs.Listed.{listed_from};
+ghost use Rattle.lrat_check.specs.Machine.{MachineState, StepsTo, verdict_after};
 ghost use Rattle.lrat_check.specs.Steps.{Adds, IsBase, IsFaultOf, live_of};
 ghost use Rattle.lrat_check.specs.Verdict.{deleted};
 ghost use Rattle.lrat_read.specs.Reader.{IsReadAs};
 
 use crate::additions::addition_fault;
 use crate::assumed::Assumed;
-use crate::live::LiveClauses;
 use crate::verdicts::{Cause, Verdict};
+use lrat_live::live::LiveClauses;
 use lrat_read::reader::LineReader;
 use lrat_read::types::{Form, SignedId};
 use std::alloc::AllocError;

@@ -1,4 +1,4 @@
-use Rattle.std.proofs.Common.{◌≡◌, ◌++◌, ◌∷◌, [], ◌∙◌, ap, sym}
+use Rattle.std.proofs.Common.{◌++◌, ◌∷◌, [], ◌∙◌, ap, sym}
 use Rattle.std.proofs.lemmas.List.{append_assoc}
 use Rattle.lrat_check.proofs.copies.copied_clauses.Goals as goal
 

@@ -1,7 +1,7 @@
 use Rattle.std.proofs.Common.{◌≡◌, ℕ, Bool, map, ◌+◌, ◌++◌, ◌∷◌, [], Some, length, take, ap, sym, ◌∙◌, subst}
 use Rattle.std.specs.Prelude.{All}
 use Rattle.lrat_check.specs.Assumed.{AreWithin}
-use Rattle.lrat_check.specs.Listed.{listed_at}
+use Rattle.lrat_live.specs.Listed.{listed_at}
 use Rattle.lrat_check.specs.Verdict.{walk}
 use Rattle.lrat_check.specs.Steps.{EndAlike}
 use Rattle.lrat_check.proofs.Alike.{EndAlike-step}

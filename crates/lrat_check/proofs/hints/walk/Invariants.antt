@@ -1,5 +1,5 @@
 use Rattle.std.proofs.Common.{◌≡◌, length, take, map}
-use Rattle.lrat_check.specs.Listed.{listed_at}
+use Rattle.lrat_live.specs.Listed.{listed_at}
 use Rattle.lrat_check.specs.Verdict.{walk}
 use Rattle.lrat_check.specs.Steps.{EndAlike}
 use Rattle.lrat_check.proofs.Effects.{ids_from}

@@ -1,5 +1,5 @@
 use Rattle.std.proofs.Common.{◌≡◌, ◌+◌, refl, ap, sym, ◌∙◌, subst}
-use Rattle.lrat_check.specs.Listed.{without_id, listed_at}
+use Rattle.lrat_live.specs.Listed.{without_id, listed_at}
 use Rattle.lrat_check.specs.Steps.{IsBase, live_of}
 use Rattle.lrat_check.specs.Verdict.{deleted}
 use Rattle.std.specs.Prelude.{IsSome}

@@ -1,6 +1,6 @@
 use Rattle.std.proofs.Common.{not, map, ap, sym, ◌∙◌}
 use Rattle.std.specs.Bool.{then_some}
-use Rattle.lrat_check.specs.Listed.{listed_at}
+use Rattle.lrat_live.specs.Listed.{listed_at}
 use Rattle.lrat_check.specs.declared.verdicts.Cause.TheVariants.{HintAfterConflict}
 use Rattle.lrat_check.specs.Steps.{walked_as}
 use Rattle.lrat_check.proofs.Effects.{listed_within}

@@ -1,5 +1,5 @@
 use Rattle.std.proofs.Common.{◌≡◌}
-use Rattle.lrat_check.specs.Listed.{listed_at}
+use Rattle.lrat_live.specs.Listed.{listed_at}
 use Rattle.lrat_check.specs.Verdict.{groups_fault}
 use Rattle.lrat_check.proofs.Groups.{groups_from}
 use Rattle.lrat_check.proofs.rat.groups_fault.Given as goal

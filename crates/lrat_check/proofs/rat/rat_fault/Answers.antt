@@ -3,8 +3,8 @@ use Rattle.std.proofs.lemmas.Bool.{cond-true, cond-false}
 use Rattle.std.specs.Prelude.{IfOk}
 use Rattle.wcnf.specs.Literal.{negation}
 use Rattle.lrat_read.specs.Form.{groups_of}
-use Rattle.lrat_check.specs.Listed.{listed_at, ids_listed}
-use Rattle.lrat_check.specs.Verdict.{ids_with, same_ids, groups_fault}
+use Rattle.lrat_live.specs.Listed.{listed_at, ids_listed, same_ids}
+use Rattle.lrat_check.specs.Verdict.{ids_with, groups_fault}
 use Rattle.lrat_check.proofs.Base.{ids_with-listed}
 use Rattle.lrat_check.proofs.rat.rat_fault.Goals as goal
 use Rattle.lrat_check.proofs.rat.rat_fault.Goals.{In_ok-named_all}

@@ -1,5 +1,0 @@
-use Rattle.lrat_check.proofs.CountLaws.{counts_push}
-use Rattle.lrat_check.proofs.live.counts.count_last.Goals as goal
-
-pub returns-in-Ok : goal.returns-in-Ok
-returns-in-Ok c = λ es id old yes. counts_push c.args.counts.now.items c.raise.new.counts.items es id c.args.clause.now (old c.if-not-is_counted.false) c.in-Ok.ensures

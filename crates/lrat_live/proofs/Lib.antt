@@ -1,0 +1,9 @@
+pub mod Listed
+pub mod GivenLaws
+pub mod Chains
+pub mod Table
+pub mod Clauses
+pub mod Tables
+pub mod Lookup
+pub mod Moves
+pub mod CountLaws

@@ -1,0 +1,17 @@
+use Rattle.std.proofs.Common.{◌≡◌, ◌<◌, ◌∙◌, ◌++◌, ap}
+use Rattle.std.specs.Prelude.{All, slice_index}
+use Rattle.wcnf.specs.Literal.{index_of}
+use Rattle.lrat_live.specs.Counts.{AreCounts, take_all, times, times_at}
+use Rattle.lrat_live.proofs.Listed.{rises_from}
+use Rattle.lrat_live.proofs.CountLaws.{agrees_start}
+use Rattle.lrat_live.proofs.live.LiveClauses.are_all_with.Goals as goal
+
+pub returns-clause-all : goal.returns-clause-all
+returns-clause-all c =
+    let s = c.self.inside in
+    let es = s.given ++ s.added in
+    let counts : AreCounts c.count_all.new.counts.items es = c.in_ok-count_all.ensures.counts in
+    let total : c.count_of-total.result ≡ times c.args.lit es =
+    c.count_of-total.ensures.count ∙ ap (λ xs. slice_index xs (index_of c.args.lit)) c.deref.ensures.value ∙ counts c.args.lit c.count_of-total.ensures.from_one in
+    let from_one : All (λ e. 0 < e.0) es = rw c.self.view_is c.requires in
+    rw (← c.self.view_is) (c.take_all.ensures ∙ ap (λ n. take_all (times_at c.args.lit es) n 0 c.args.ids.now) total ∙ agrees_start c.args.lit es from_one (rises_from es c.self.invariant.0) c.args.ids.now)

@@ -1,0 +1,52 @@
+-- How often literals stand in the live clauses, and the candidates of a RAT line by these counts.
+use Rattle.std.specs.Prelude.{◌≡◌, ℕ, ◌+◌, ◌-◌, ◌<◌, Bool, false, List, [], ◌∷◌, Option, Some, None}
+use Rattle.std.specs.Prelude.{nat_lt, nat_le, ◌==◌, ◌&&◌, slice_index, if◌then◌else◌}
+use Rattle.wcnf.specs.Literal.{Literal, literal_eq, index_of}
+use Rattle.lrat_live.specs.Listed.{listed_at}
+
+abbrev pub one_if : Bool → ℕ
+one_if b = if b then 1 else 0
+
+-- how often the literal stands in the clause
+abbrev pub times_in : Literal → List Literal → ℕ
+times_in l [] = 0
+times_in l (k ∷ c) = one_if (literal_eq l k) + times_in l c
+
+abbrev pub times_of : Literal → Option (List Literal) → ℕ
+times_of l None = 0
+times_of l (Some c) = times_in l c
+
+-- how often it stands in the clauses
+abbrev pub times : Literal → List (ℕ × List Literal) → ℕ
+times l [] = 0
+times l (e ∷ es) = times_in l e.1 + times l es
+
+-- a row for each literal says how often it stands in the clauses
+abbrev pub AreCounts : List ℕ → List (ℕ × List Literal) → Type 0
+AreCounts counts es = (l : Literal) → 0 < l.variable → slice_index counts (index_of l) ≡ times l es
+
+-- the clause came, and its counts
+abbrev pub AreRaised : List ℕ → List Literal → List ℕ → Type 0
+AreRaised old c new =
+    (l : Literal) → 0 < l.variable
+    → slice_index new (index_of l) ≡ slice_index old (index_of l) + times_in l c
+
+-- the clause went, and its counts
+abbrev pub AreLowered : List ℕ → List Literal → List ℕ → Type 0
+AreLowered old c new =
+    (l : Literal) → 0 < l.variable
+    → slice_index new (index_of l) ≡ slice_index old (index_of l) - times_in l c
+
+-- the next id is above the last one, and its clause has the literal, though not more often than is
+-- left
+abbrev pub is_next : ℕ → ℕ → ℕ → ℕ → Bool
+is_next before id count left = nat_lt before id && nat_lt 0 count && nat_le count left
+
+-- the clauses of these ids, which rise, have the literal in all places that are left
+abbrev pub take_all : (ℕ → ℕ) → ℕ → ℕ → List ℕ → Bool
+take_all count left before [] = left == 0
+take_all count left before (i ∷ is) =
+    if is_next before i (count i) left then take_all count (left - count i) i is else false
+
+abbrev pub times_at : Literal → List (ℕ × List Literal) → ℕ → ℕ
+times_at l es i = times_of l (listed_at es i)

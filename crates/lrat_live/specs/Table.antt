@@ -1,0 +1,68 @@
+-- Clauses in one flat list of literals, each with an entry that says where its literals lie.
+use Rattle.std.specs.Prelude.{◌≡◌, ℕ, ◌+◌, ◌<◌, ◌≤◌, ◌^◌, Bool, true, List, [], ◌∷◌, map, length}
+use Rattle.std.specs.Prelude.{slice_index, slice_range, take, if◌then◌else◌}
+use Rattle.std.specs.List.{AllByRecursion}
+use Rattle.wcnf.specs.Literal.{Literal}
+use Rattle.lrat_live.specs.Chains.{IsChained}
+use Rattle.lrat_live.specs.declared.entries.Entry.{Entry}
+
+-- an entry without its link
+pub record Cell : Type 0 where
+  pub id : ℕ
+  pub start : ℕ
+  pub length : ℕ
+  pub live : Bool
+
+abbrev pub cell_of : Entry → Cell
+cell_of e = record { id = e.id; start = e.start; length = e.length; live = e.live }
+
+abbrev pub cells_of : List Entry → List Cell
+cells_of es = map cell_of es
+
+abbrev pub keys_of : List Cell → List ℕ
+keys_of cs = map (λ c. c.id) cs
+
+abbrev pub nexts_of : List Entry → List ℕ
+nexts_of es = map (λ e. e.next) es
+
+abbrev pub literals_of : List Literal → Cell → List Literal
+literals_of literals c = slice_range literals c.start (c.start + c.length)
+
+-- the live clauses
+abbrev pub clauses_in : List Literal → List Cell → List (ℕ × List Literal)
+clauses_in literals [] = []
+clauses_in literals (c ∷ cs) =
+    if c.live then (c.id, literals_of literals c) ∷ clauses_in literals cs
+    else clauses_in literals cs
+
+abbrev pub AllLive : List Cell → Type 0
+AllLive cs = AllByRecursion (λ c. c.live ≡ true) cs
+
+-- each lies where the one before it ends, from one place to another
+abbrev pub IsLaid : ℕ → List Cell → ℕ → Type 0
+IsLaid from [] to = from ≡ to
+IsLaid from (c ∷ cs) to = (c.start ≡ from) × IsLaid (from + c.length) cs to
+
+-- each key is above those before it, and the first is not below the least
+abbrev pub RisesFrom : ℕ → List ℕ → Type 0
+RisesFrom least [] = Unit {0}
+RisesFrom least (k ∷ ks) = (least ≤ k) × RisesFrom (k + 1) ks
+
+-- clauses and literals came behind those that were there
+pub record IsGrown (ls : List Literal) (cs : List Cell) (ms : List Literal) (ds : List Cell) : Type
+    0 where
+  pub literals : take (length ls) ms ≡ ls
+  pub count : length cs ≤ length ds
+  pub cells : take (length cs) ds ≡ cs
+
+-- the last key is below
+abbrev pub IsAboveLast : ℕ → List ℕ → Type 0
+IsAboveLast key ks = (p : ℕ) → p + 1 ≡ length ks → slice_index ks p < key
+
+pub record IsTable (literals : List Literal) (entries : List Entry) (heads : List ℕ) : Type 0 where
+  pub laid : IsLaid 0 (cells_of entries) (length literals)
+  pub rising : RisesFrom 0 (keys_of (cells_of entries))
+  pub few_literals : length literals + 1 < 2 ^ 32
+  pub few_entries : length entries + 1 < 2 ^ 32
+  pub room : length entries ≤ length heads
+  pub chained : IsChained (length heads) heads (keys_of (cells_of entries)) (nexts_of entries)

@@ -1,0 +1,48 @@
+// One more clause behind those of a table.
+ghost use Rattle.std.specs.Prelude.{◌≡◌, ◌∷◌, [], ◌++◌, OnOk, OnErr};
+ghost use Rattle.lrat_live.specs.Table.{cells_of, keys_of, clauses_in, IsTable, IsGrown};
+ghost use Rattle.lrat_live.specs.Table.{IsAboveLast};
+
+use crate::entries::{Entry, bucket, grow};
+use std::alloc::AllocError;
+use wcnf::types::Lit;
+
+/// There are at most so many literals and so many entries, that their places fit 32 bits.
+const MOST: usize = 4294967294;
+
+/// Adds a clause under an id above all others; when room is refused the clauses stay as they are.
+pub(crate) fn append(
+    lits: &mut Vec<Lit>,
+    entries: &mut Vec<Entry>,
+    heads: &mut Vec<u32>,
+    id: u64,
+    clause: &[Lit],
+) -> Result<(), AllocError>
+    requires table { IsTable lits.old.items entries.old.items heads.old.items }
+    requires above { IsAboveLast id (keys_of (cells_of entries.old.items)) }
+    ensures table { IsTable lits.new.items entries.new.items heads.new.items }
+    ensures ok { OnOk result (clauses_in lits.new.items (cells_of entries.new.items)
+        ≡ clauses_in lits.old.items (cells_of entries.old.items) ++ (id, clause.now) ∷ []) }
+    ensures kept { OnOk result (IsGrown lits.old.items (cells_of entries.old.items) lits.new.items
+        (cells_of entries.new.items)) }
+    ensures err_literals { OnErr result (lits.new.items ≡ lits.old.items) }
+    ensures err_entries { OnErr result (cells_of entries.new.items ≡ cells_of entries.old.items) }
+{
+    let start = lits.len();
+    if entries.len() >= MOST || clause.len() > MOST - start {
+        return Err(AllocError);
+    }
+    grow(heads, entries)?;
+    entries.reserve(1)?;
+    lits.extend_from_slice(clause)?;
+    let bucket = bucket(id, heads.len());
+    entries.push(Entry {
+        id,
+        start: start as u32,
+        length: clause.len() as u32,
+        next: heads[bucket],
+        live: true,
+    })?;
+    heads[bucket] = entries.len() as u32;
+    Ok(())
+}

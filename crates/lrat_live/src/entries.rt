@@ -1,0 +1,118 @@
+// The entries of the live clauses, and the chains by which an id is found among them.
+ghost use Rattle.std.specs.Prelude.{◌≡◌, ℕ, ◌+◌, ◌-◌, ◌<◌, ◌≤◌, ◌^◌, length, MatchOption, OnOk};
+ghost use Rattle.std.specs.Prelude.{IsTrue, ◌↔◌};
+ghost use Rattle.lrat_live.specs.Chains.{folded, bucket_of, place_of, IsChained};
+ghost use Rattle.lrat_live.specs.Table.{cells_of, keys_of, nexts_of, IsAboveLast};
+
+use std::alloc::AllocError;
+
+/// A clause that was added: its id, and where its literals lie.
+#[derive(Clone, Copy, Drop)]
+pub(crate) struct Entry {
+    pub(crate) id: u64,
+    pub(crate) start: u32,
+    pub(crate) length: u32,
+    /// The place of the next older entry of the bucket, from 1, or 0.
+    pub(crate) next: u32,
+    pub(crate) live: bool,
+}
+
+/// All bits of an id, folded into its low ones. Ids that have no gaps, as most have none, stay
+/// beside one another.
+#[inline]
+fn folded(id: u64) -> u64
+    ensures { result ≡ folded id }
+{
+    id ^ (id / 65_536) ^ (id / 4_294_967_296) ^ (id / 281_474_976_710_656)
+}
+
+/// The bucket of an id.
+#[inline]
+pub(crate) fn bucket(id: u64, buckets: usize) -> usize
+    requires { 0 < buckets }
+    ensures value { result ≡ bucket_of buckets id }
+    ensures within { result < buckets }
+{
+    (folded(id) & (buckets as u64 - 1)) as usize
+}
+
+/// The place of an id, from 0.
+#[inline]
+pub(crate) fn find(heads: &[u32], entries: &[Entry], id: u64) -> Option<usize>
+    requires chained { IsChained (length heads.now) heads.now (keys_of (cells_of entries.now))
+        (nexts_of entries.now) }
+    requires room { length entries.now ≤ length heads.now }
+    ensures { MatchOption result (place_of id (keys_of (cells_of entries.now)) ≡ 0)
+        (λ p. place_of id (keys_of (cells_of entries.now)) ≡ p + 1) }
+{
+    if heads.is_empty() {
+        return None;
+    }
+    let mut place = heads[bucket(id, heads.len())];
+    while place > 0 {
+        let entry = entries[place as usize - 1];
+        if entry.id == id {
+            return Some(place as usize - 1);
+        }
+        place = entry.next;
+    }
+    None
+}
+
+/// Whether an id is above those of all entries, dead ones too.
+pub(crate) fn is_above(entries: &[Entry], id: u64) -> bool
+    ensures { IsTrue result ↔ IsAboveLast id (keys_of (cells_of entries.now)) }
+{
+    match entries.last() {
+        Some(entry) => entry.id < id,
+        None => true,
+    }
+}
+
+/// Links all entries anew.
+pub(crate) fn link(heads: &mut [u32], entries: &mut [Entry])
+    requires room { length entries.old ≤ length heads.old }
+    requires few { length entries.old < 2 ^ 32 }
+    ensures chained { IsChained (length heads.new) heads.new (keys_of (cells_of entries.new))
+        (nexts_of entries.new) }
+    ensures cells { cells_of entries.new ≡ cells_of entries.old }
+{
+    heads.fill(0);
+    let buckets = heads.len();
+    for i in 0..entries.len() {
+        let bucket = bucket(entries[i].id, buckets);
+        entries[i].next = heads[bucket];
+        heads[bucket] = i as u32 + 1;
+    }
+}
+
+/// The first number of buckets; it is a power of two, and so are those after it.
+const BUCKETS: usize = 16;
+
+/// Makes room for one more entry in the buckets, of which there are at least as many as entries.
+/// When it is refused nothing changes.
+pub(crate) fn grow(heads: &mut Vec<u32>, entries: &mut [Entry]) -> Result<(), AllocError>
+    requires room { length entries.old ≤ length heads.old.items }
+    requires few { length entries.old < 2 ^ 32 }
+    requires chained { IsChained (length heads.old.items) heads.old.items
+        (keys_of (cells_of entries.old))
+        (nexts_of entries.old) }
+    ensures room { OnOk result (length entries.new < length heads.new.items) }
+    ensures kept_room { length entries.new ≤ length heads.new.items }
+    ensures chained { IsChained (length heads.new.items) heads.new.items
+        (keys_of (cells_of entries.new))
+        (nexts_of entries.new) }
+    ensures cells { cells_of entries.new ≡ cells_of entries.old }
+{
+    if entries.len() < heads.len() {
+        return Ok(());
+    }
+    let buckets = if heads.is_empty() {
+        BUCKETS
+    } else {
+        2 * heads.len()
+    };
+    heads.resize(buckets, 0)?;
+    link(heads, entries);
+    Ok(())
+}
