@@ -15,7 +15,8 @@ use Rattle.lrat_log.specs.Log.{LogLine, Given, is_delete, id_of, leading_ids, gr
 use Rattle.lrat_log.specs.Steps.{IsBaseOf, log_live}
 use Rattle.names.specs.Work.{IsRupLine}
 use Rattle.eliminate.specs.Resolvents.{resolvent}
-use Rattle.eliminate.proofs.Resolve.{literal_eq-self, filter-contains, contains-either, AreParents, resolvent_refutes}
+use Rattle.wcnf.proofs.Marks.{literal_eq-refl}
+use Rattle.eliminate.proofs.Resolve.{filter-contains, contains-either, AreParents, resolvent_refutes}
 use Rattle.eliminate.proofs.Falsified.{has_repeat-filter, AreFalseByUnits, unit_refutes, empty_refutes}
 pub use Rattle.pairs.proofs.Literals.{greatest-filter, member-small}
 
@@ -26,7 +27,7 @@ has_repeat-append (l ∷ c) d rc rd apart =
     or_from (contains_literal l (c ++ d)) (has_repeat (c ++ d))
     (false_from_ne_true (contains_literal l (c ++ d)) (λ e. elim (contains-either l c d e) [
       | inl m ↦ both_ways (contains_literal l c) h.0 m
-      | inr m ↦ both_ways (contains_literal l (l ∷ c)) (apart l m) (or_left (literal_eq l l) (contains_literal l c) (literal_eq-self l))
+      | inr m ↦ both_ways (contains_literal l (l ∷ c)) (apart l m) (or_left (literal_eq l l) (contains_literal l c) (literal_eq-refl l))
     ]))
     (has_repeat-append c d h.1 rd (λ k e. (or_parts (literal_eq k l) (contains_literal k c) (apart k e)).1))
 

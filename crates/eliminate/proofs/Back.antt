@@ -14,6 +14,7 @@ use Rattle.wcnf.proofs.Certificates.{made_true, made, clause_kept, rest_kept}
 use Rattle.eliminate.specs.Elimination.{Removed, positive, becomes_true, is_eliminated, extended, SatisfiesAll}
 use Rattle.eliminate.specs.State.{GivesBack}
 use Rattle.eliminate.specs.Resolvents.{resolvent}
+use Rattle.pairs.proofs.Literals.{has_true, value-filter}
 use Rattle.eliminate.proofs.Resolve.{not_not, each_literal, resolvent-parts}
 
 -- the variable with this value, as a literal
@@ -22,15 +23,6 @@ valued v b = record { variable = v; negated = not b }
 
 abbrev pub negative : ℕ → Literal
 negative v = record { variable = v; negated = true }
-
--- a clause with a true literal is true
-pub has_true : (t : Assignment) (p : Literal) (c : List Literal) → contains_literal p c ≡ true → literal_value t p ≡ true → clause_value t c ≡ true
-has_true t p [] e h = absurd (false≢true e)
-has_true t p (k ∷ c) e h =
-    elim (or_cases (literal_eq p k) (contains_literal p c) e) [
-      | inl same ↦ or_left (literal_value t k) (clause_value t c) (subst (λ x. literal_value t x ≡ true) (literal_eq-true p k same) h)
-      | inr more ↦ or_right (literal_value t k) (clause_value t c) (has_true t p c more h)
-    ]
 
 -- a clause with an opposite pair is true
 pub opposites_true : (t : Assignment) (c : List Literal) → has_opposites c ≡ true → clause_value t c ≡ true
@@ -43,17 +35,6 @@ opposites_true t (k ∷ c) e =
       ] refl
       | inr more ↦ or_right (literal_value t k) (clause_value t c) (opposites_true t c more)
     ]
-
-pub value-filter : (t : Assignment) (q : Literal → Bool) (c : List Literal) → clause_value t (filter q c) ≡ true → clause_value t c ≡ true
-value-filter t q [] e = e
-value-filter t q (k ∷ c) e =
-    elim (q k) as (λ b. clause_value t (if b then k ∷ filter q c else filter q c) ≡ true → clause_value t (k ∷ c) ≡ true) [
-      | true ↦ λ h. elim (or_cases (literal_value t k) (clause_value t (filter q c)) h) [
-        | inl m ↦ or_left (literal_value t k) (clause_value t c) m
-        | inr m ↦ or_right (literal_value t k) (clause_value t c) (value-filter t q c m)
-      ]
-      | false ↦ λ h. or_right (literal_value t k) (clause_value t c) (value-filter t q c h)
-    ] e
 
 -- each literal of r is in a or b, as those of a resolvent are in what is left of its parents
 abbrev pub IsMadeOf : List Literal → List Literal → List Literal → Type 0

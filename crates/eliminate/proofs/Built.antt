@@ -9,7 +9,8 @@ use Rattle.wcnf.specs.Clause.{contains_literal, without_literal, has_opposites}
 use Rattle.wcnf.proofs.Sound.{literal_eq-true}
 use Rattle.subsume.specs.Marks.{IsMarked, mark_of}
 use Rattle.eliminate.specs.Resolvents.{resolvent, unmarked_rest, is_opposed}
-use Rattle.eliminate.proofs.Resolve.{negation_twice, literal_eq-self, contains-filter, filter-contains, contains-left, contains-right, contains-either, not-opposite}
+use Rattle.wcnf.proofs.Marks.{literal_eq-refl}
+use Rattle.eliminate.proofs.Resolve.{negation_twice, contains-filter, filter-contains, contains-left, contains-right, contains-either, not-opposite}
 use Rattle.eliminate.proofs.Falsified.{has_opposites-filter, literal_eq-sides}
 use Rattle.pairs.proofs.Literals.{any_member}
 use Rattle.subsume.proofs.Marking.{at_contains}
@@ -51,7 +52,7 @@ no_opposites-append (l ∷ c) d oc od apart =
     (false_from_ne_true (contains_literal (negation l) (c ++ d)) (λ e. elim (contains-either (negation l) c d e) [
       | inl m ↦ both_ways (contains_literal (negation l) c) h.0 m
       | inr m ↦ both_ways (contains_literal (negation (negation l)) (l ∷ c)) (apart (negation l) m)
-          (subst (λ x. contains_literal x (l ∷ c) ≡ true) (sym (negation_twice l)) (or_left (literal_eq l l) (contains_literal l c) (literal_eq-self l)))
+          (subst (λ x. contains_literal x (l ∷ c) ≡ true) (sym (negation_twice l)) (or_left (literal_eq l l) (contains_literal l c) (literal_eq-refl l)))
     ]))
     (no_opposites-append c d h.1 od (λ k e. (or_parts (literal_eq (negation k) l) (contains_literal (negation k) c) (apart k e)).1))
 
@@ -66,7 +67,7 @@ some_member : (q : Literal → Bool) (c : List Literal) → list_any q c ≡ tru
 some_member q [] e = absurd (false≢true e)
 some_member q (l ∷ c) e =
     elim (or_cases (q l) (list_any q c) e) [
-      | inl h ↦ (l, or_left (literal_eq l l) (contains_literal l c) (literal_eq-self l), h)
+      | inl h ↦ (l, or_left (literal_eq l l) (contains_literal l c) (literal_eq-refl l), h)
       | inr h ↦ let w = some_member q c h in (w.0, or_right (literal_eq w.0 l) (contains_literal w.0 c) w.1, w.2)
     ]
 

@@ -13,13 +13,14 @@ use Rattle.eliminate.specs.Elimination.{Removed, extended, is_needed, becomes_tr
 use Rattle.eliminate.specs.declared.stack.Piece.{Piece}
 use Rattle.eliminate.specs.declared.stack.Gone.{Gone}
 use Rattle.eliminate.specs.Flat.{clause_in, clauses_at, one_removed, removed_in, IsGone}
-use Rattle.eliminate.proofs.Resolve.{literal_eq-self, contains-filter}
-use Rattle.eliminate.proofs.Back.{has_true}
+use Rattle.wcnf.proofs.Marks.{literal_eq-refl}
+use Rattle.eliminate.proofs.Resolve.{contains-filter}
+use Rattle.pairs.proofs.Literals.{has_true}
 
 -- another literal is true: the clause needs nothing
 pub not_needed : (t : Assignment) (p : Literal) (c : List Literal) (i : ℕ) (l : Literal) → i < length c → l ≡ get_or c i l → literal_eq l p ≡ false → literal_value t l ≡ true → is_needed t p c ≡ false
 not_needed t p c i l h is other value =
-    let apart : literal_eq p l ≡ false = false_from_ne_true (literal_eq p l) (λ e. both (literal_eq l p) other (subst (λ x. literal_eq l x ≡ true) (sym (literal_eq-true p l e)) (literal_eq-self l))) in
+    let apart : literal_eq p l ≡ false = false_from_ne_true (literal_eq p l) (λ e. both (literal_eq l p) other (subst (λ x. literal_eq l x ≡ true) (sym (literal_eq-true p l e)) (literal_eq-refl l))) in
     let in_rest : contains_literal l (without_literal p c) ≡ true = contains-filter (λ k. not (literal_eq p k)) l c (at_contains c i l h is) (ap not apart) in
     rw (has_true t l (without_literal p c) in_rest value) (none (contains_literal p c))
   where

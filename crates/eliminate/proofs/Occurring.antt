@@ -12,7 +12,7 @@ use Rattle.eliminate.specs.Rows.{row_at, with_row, with_entry, with_clause_rows,
 use Rattle.subsume.specs.Marks.{HasPlace}
 use Rattle.subsume.proofs.Marking.{place_within, same_place}
 use Rattle.names.proofs.Naming.{slot_pushed, slot_within, slot_deleted}
-use Rattle.eliminate.proofs.Resolve.{literal_eq-self}
+use Rattle.wcnf.proofs.Marks.{literal_eq-refl}
 
 -- the row that is written, and what stands in it afterwards
 pub row_written : {X E : Type 0} (f : X → List E) (rows : List X) (i : ℕ) (old new : X) (after : List E → List E) → i < length rows → old ≡ get_or rows i old → f new ≡ after (f old)
@@ -98,7 +98,7 @@ rows_from rows (l ∷ c) r i s all h =
     elim (rows_from (with_entry r rows l) c r i s (places_after r rows l c all) h) [
       | inl old ↦ elim (entry_from r rows l i s (All-head (HasPlace (length rows)) l c all) old) [
         | inl older ↦ inl older
-        | inr new ↦ inr (new.0, (l, or_left (literal_eq l l) (contains_literal l c) (literal_eq-self l), (All-head (HasPlace (length rows)) l c all).0, new.1))
+        | inr new ↦ inr (new.0, (l, or_left (literal_eq l l) (contains_literal l c) (literal_eq-refl l), (All-head (HasPlace (length rows)) l c all).0, new.1))
       ]
       | inr new ↦ inr (new.0, (new.1.0, or_right (literal_eq new.1.0 l) (contains_literal new.1.0 c) new.1.1, new.1.2, new.1.3))
     ]

@@ -7,21 +7,15 @@ use Rattle.wcnf.specs.Literal.{Literal, negation, literal_eq, same_bool}
 use Rattle.wcnf.specs.Clause.{contains_literal, without_literal, has_opposites}
 use Rattle.wcnf.specs.Refute.{IsUnit, IsFalseUnder, Clauses, Refutes}
 use Rattle.eliminate.specs.Resolvents.{resolvent}
+use Rattle.wcnf.proofs.Marks.{literal_eq-refl}
 use Rattle.wcnf.proofs.Sound.{literal_eq-true}
 pub use Rattle.pairs.proofs.Literals.{not_not, negation_twice, literal_eq-negation, contains-negations, Covers, covered_unit, contains_same, contains-filter, filter-contains, each_literal, without-contains, not-without, not-opposite}
-
-same_bool-self : (a : Bool) → same_bool a a ≡ true
-same_bool-self true = refl
-same_bool-self false = refl
-
-pub literal_eq-self : (l : Literal) → literal_eq l l ≡ true
-literal_eq-self l = simp (eq-eqb l.variable l.variable refl, same_bool-self)
 
 covered_false : (p : Literal) (r d : List Literal) → Covers (negation p) r d → IsFalseUnder d (p ∷ map negation r)
 covered_false p r [] h = tt
 covered_false p r (k ∷ d) h = (
   elim h.0 [
-    | inl e ↦ subst (λ x. contains_literal (negation x) (p ∷ map negation r) ≡ true) (sym e) (or_left (literal_eq (negation (negation p)) p) (contains_literal (negation (negation p)) (map negation r)) (subst (λ x. literal_eq x p ≡ true) (sym (negation_twice p)) (literal_eq-self p)))
+    | inl e ↦ subst (λ x. contains_literal (negation x) (p ∷ map negation r) ≡ true) (sym e) (or_left (literal_eq (negation (negation p)) p) (contains_literal (negation (negation p)) (map negation r)) (subst (λ x. literal_eq x p ≡ true) (sym (negation_twice p)) (literal_eq-refl p)))
     | inr e ↦ or_right (literal_eq (negation k) p) (contains_literal (negation k) (map negation r)) (contains-negations k r ∙ e)
   ],
   covered_false p r d h.1,

@@ -17,7 +17,7 @@ use Rattle.eliminate.specs.declared.units.Units.{Units}
 use Rattle.eliminate.specs.declared.units.Status.{Status}
 use Rattle.eliminate.specs.declared.units.Status.TheVariants.{Settled, Unit, Falsified}
 use Rattle.eliminate.specs.Units.{IsSettled, IsByUnit, AreUnits}
-use Rattle.eliminate.proofs.Resolve.{literal_eq-self}
+use Rattle.wcnf.proofs.Marks.{literal_eq-refl}
 use Rattle.eliminate.proofs.States.{places_of}
 
 pub all_member : (P : Literal → Type 0) (c : List Literal) (l : Literal) → AllByRecursion P c → contains_literal l c ≡ true → P l
@@ -36,7 +36,7 @@ all_weaker P Q [] f all = tt
 all_weaker P Q (k ∷ c) f all = (f k all.0, all_weaker P Q c f all.1)
 
 contains-last : (c : List Literal) (l : Literal) → contains_literal l (c ++ l ∷ []) ≡ true
-contains-last [] l = or_left (literal_eq l l) false (literal_eq-self l)
+contains-last [] l = or_left (literal_eq l l) false (literal_eq-refl l)
 contains-last (k ∷ c) l = or_right (literal_eq l k) (contains_literal l (c ++ l ∷ [])) (contains-last c l)
 
 contains-before : (c : List Literal) (l k : Literal) → contains_literal l c ≡ true → contains_literal l (c ++ k ∷ []) ≡ true

@@ -29,7 +29,8 @@ use Rattle.eliminate.specs.Simplifier.{IsSimplified, IsAddableLine}
 use Rattle.eliminate.specs.Units.{AreUnits, unit_of, unit_name, falsified_in, unit_hints}
 use Rattle.eliminate.proofs.Adding.{unit_line, empty_line}
 use Rattle.eliminate.proofs.Falsified.{AreFalseByUnits}
-use Rattle.eliminate.proofs.Resolve.{literal_eq-self, each_literal, filter-contains}
+use Rattle.wcnf.proofs.Marks.{literal_eq-refl}
+use Rattle.eliminate.proofs.Resolve.{each_literal, filter-contains}
 use Rattle.eliminate.proofs.Statuses.{all_member, take_next}
 
 -- the next literal of a clause is false, or not
@@ -54,14 +55,14 @@ falsified_same u c i l h is m =
 same_filter : (p q : Literal → Bool) (c : List Literal) → ((k : Literal) → contains_literal k c ≡ true → p k ≡ q k) → filter p c ≡ filter q c
 same_filter p q [] h = refl
 same_filter p q (k ∷ c) h =
-    let here : p k ≡ q k = h k (or_left (literal_eq k k) (contains_literal k c) (literal_eq-self k)) in
+    let here : p k ≡ q k = h k (or_left (literal_eq k k) (contains_literal k c) (literal_eq-refl k)) in
     let rest : filter p c ≡ filter q c = same_filter p q c (λ l e. h l (or_right (literal_eq l k) (contains_literal l c) e)) in
     ap (λ b. if b then k ∷ filter p c else filter p c) here ∙ ap (λ xs. if q k then k ∷ xs else xs) rest
 
 all_kept : (p : Literal → Bool) (c : List Literal) → ((k : Literal) → contains_literal k c ≡ true → p k ≡ true) → filter p c ≡ c
 all_kept p [] h = refl
 all_kept p (k ∷ c) h =
-    ap (λ b. if b then k ∷ filter p c else filter p c) (h k (or_left (literal_eq k k) (contains_literal k c) (literal_eq-self k)))
+    ap (λ b. if b then k ∷ filter p c else filter p c) (h k (or_left (literal_eq k k) (contains_literal k c) (literal_eq-refl k)))
     ∙ ap (λ xs. k ∷ xs) (all_kept p c (λ l e. h l (or_right (literal_eq l k) (contains_literal l c) e)))
 
 pub all_at : (P : Literal → Type 0) (c : List Literal) (l : Literal) → All P c → contains_literal l c ≡ true → P l
@@ -79,7 +80,7 @@ module _ (u : Units) (slots : Slots) (c : List Literal) (a : AreUnits u slots) (
   pub falsified_unit : (l : Literal) → IsUnit c u.trail.items l → falsified_in u c ≡ without_literal l c
   falsified_unit l w = same_filter (λ k. mark_of u.values (negation k)) (λ k. not (literal_eq l k)) c (λ k has.
       elim (all_member (λ x. (x ≡ l) ⊎ (contains_literal (negation x) u.trail.items ≡ true)) c k w.others has) [
-        | inl same ↦ marked_as k false has (ap (λ x. contains_literal (negation x) u.trail.items) same ∙ w.not_false) ∙ sym (ap not (ap (literal_eq l) same ∙ literal_eq-self l))
+        | inl same ↦ marked_as k false has (ap (λ x. contains_literal (negation x) u.trail.items) same ∙ w.not_false) ∙ sym (ap not (ap (literal_eq l) same ∙ literal_eq-refl l))
         | inr false_one ↦ marked_as k true has false_one ∙ sym (ap not (false_from_ne_true (literal_eq l k) (λ e.
             both_ways (contains_literal (negation l) u.trail.items) w.not_false (subst (λ x. contains_literal (negation x) u.trail.items ≡ true) (sym (literal_eq-true l k e)) false_one))))
       ])
@@ -153,7 +154,7 @@ module _ (start : Start) (s : Simplifier) (slots : Slots) (ls : List LogLine) (u
           false_by_units base above (without_literal l c) (λ k has.
               let in_c = filter-contains (λ x. not (literal_eq l x)) k c has in
               elim (all_member (λ x. (x ≡ l) ⊎ (contains_literal (negation x) u.trail.items ≡ true)) c k w.others in_c.0) [
-                | inl is ↦ absurd (not_itself (literal_eq l k) in_c.1 (ap (literal_eq l) is ∙ literal_eq-self l))
+                | inl is ↦ absurd (not_itself (literal_eq l k) in_c.1 (ap (literal_eq l) is ∙ literal_eq-refl l))
                 | inr false_one ↦ false_one
               ]),
         )) in
