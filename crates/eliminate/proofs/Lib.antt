@@ -11,6 +11,7 @@ pub mod Growing
 pub mod Listed
 pub mod Needed
 pub mod Occurring
+pub mod Propagating
 pub mod Resolvable
 pub mod Resolve
 pub mod Settled

@@ -1,5 +1,5 @@
 -- Literals that clauses of one literal make true.
-use Rattle.std.specs.Prelude.{◌≡◌, ℕ, ◌+◌, ◌-◌, ◌*◌, ◌<◌, ◌≤◌, true, List, [], ◌∷◌, ◌++◌, length}
+use Rattle.std.specs.Prelude.{◌≡◌, ℕ, ◌+◌, ◌-◌, ◌*◌, ◌<◌, ◌≤◌, true, false, List, [], ◌∷◌, ◌++◌, length}
 use Rattle.std.specs.Prelude.{map, filter, Option, Some, None, slice_index_or, unwrap_or, sum_by}
 use Rattle.std.specs.Prelude.{if◌then◌else◌}
 use Rattle.wcnf.specs.Literal.{Literal, negation}
@@ -9,11 +9,13 @@ use Rattle.clauses.specs.Slots.{Slots, clause_at}
 use Rattle.lrat_log.specs.declared.lines.Name.{Name}
 use Rattle.lrat_log.specs.declared.lines.Hint.{Hint}
 use Rattle.lrat_log.specs.declared.lines.Hint.TheVariants.{Plain}
+use Rattle.lrat_log.specs.Log.{LogLine}
 use Rattle.subsume.specs.Marks.{IsMarked, mark_of}
+use Rattle.eliminate.specs.declared.simplifier.Simplifier.{Simplifier}
 use Rattle.eliminate.specs.declared.units.Units.{Units}
 use Rattle.eliminate.specs.declared.units.Status.{Status}
 use Rattle.eliminate.specs.declared.units.Status.TheVariants.{Settled, Unit, Falsified}
-use Rattle.eliminate.specs.Simplifier.{Grows}
+use Rattle.eliminate.specs.Simplifier.{IsSimplifier, StaysSimplified, Grows}
 use Rattle.names.specs.Work.{name_at}
 
 -- with the literals of A true, the clause is neither false nor unit
@@ -71,3 +73,23 @@ pub record MakesTrue (u : Units) (slots : Slots) (v : Units) (left : Slots) : Ty
   pub longer : length u.trail.items ≤ length v.trail.items
   pub fewer : open_count v ≤ open_count u
   pub paid : 2 * open_count v + length v.trail.items ≤ 2 * open_count u + length u.trail.items
+
+-- a simplified form without the empty clause, and literals that its clauses make true
+pub record IsPropagating (u : Units) (s : Simplifier) (slots : Slots) (lines : List LogLine) :
+    Type 0 where
+  pub simplified : IsSimplifier s slots lines
+  pub going : s.is_refuted ≡ false
+  pub units : AreUnits u slots
+  pub fits : length u.clauses.items ≡ s.vars
+
+-- what a move of propagation keeps: more literals may be true, unless the empty clause was added
+pub record Propagates (u : Units) (s : Simplifier) (slots : Slots) (lines : List LogLine)
+    (v : Units) (t : Simplifier) (left : Slots) (more : List LogLine) : Type 0 where
+  pub simplified : StaysSimplified s slots lines t left more
+  pub vars : t.vars ≡ s.vars
+  pub units : t.is_refuted ≡ false → MakesTrue u slots v left
+
+-- the clause at a place is settled, and nothing changed
+abbrev pub AsksNothing : Units → Slots → ℕ → Units → Simplifier → Slots → Type 0
+AsksNothing u slots place v t left = (t.is_refuted ≡ false) × (v ≡ u) × (left ≡ slots)
+    × ((c : List Literal) → clause_at slots place ≡ Some c → IsSettled u.trail.items c)

@@ -12,8 +12,8 @@ ghost use Rattle.clauses.specs.Slots.{IsLive, clause_at, live_clauses};
 ghost use Rattle.subsume.specs.Marks.{HasPlace};
 ghost use Rattle.names.specs.Work.{AreClauses};
 ghost use Rattle.eliminate.specs.Simplifier.{IsSimplifier, StaysSimplified, LeavesLog, Grows};
-ghost use Rattle.eliminate.specs.Units.{HasStatus, IsSettled, AreUnits, AreSettled, unit_hints};
-ghost use Rattle.eliminate.specs.Units.{open_count, MakesTrue};
+ghost use Rattle.eliminate.specs.Units.{HasStatus, AreUnits, AreSettled, unit_hints, open_count};
+ghost use Rattle.eliminate.specs.Units.{MakesTrue, IsPropagating, Propagates, AsksNothing};
 
 use crate::simplifier::Simplifier;
 use clauses::store::{CRef, MaybeCRef, Store};
@@ -142,10 +142,7 @@ impl Units {
         reference: CRef,
         lit: Lit,
     ) -> Result<CRef, AllocError>
-        requires simplified { IsSimplifier simplifier.old store.old.slots (S.lines sink.old) }
-        requires going { simplifier.old.is_refuted ≡ false }
-        requires units { AreUnits self.now store.old.slots }
-        requires fits { length self.now.clauses.items ≡ simplifier.old.vars }
+        requires propagating { IsPropagating self.now simplifier.old store.old.slots (S.lines sink.old) }
         requires live { IsLive store.old.slots reference }
         requires unit { (c : List Literal) → clause_at store.old.slots reference ≡ Some c
             → IsUnit c self.now.trail.items lit }
@@ -177,10 +174,7 @@ impl Units {
         sink: &mut S,
         reference: CRef,
     ) -> Result<(), AllocError>
-        requires simplified { IsSimplifier simplifier.old store.old.slots (S.lines sink.old) }
-        requires going { simplifier.old.is_refuted ≡ false }
-        requires units { AreUnits self.now store.old.slots }
-        requires fits { length self.now.clauses.items ≡ simplifier.old.vars }
+        requires propagating { IsPropagating self.now simplifier.old store.old.slots (S.lines sink.old) }
         requires live { IsLive store.old.slots reference }
         requires falsified { (c : List Literal) → clause_at store.old.slots reference ≡ Some c
             → IsFalseUnder c self.now.trail.items }
@@ -225,21 +219,13 @@ impl Units {
         sink: &mut S,
         reference: CRef,
     ) -> Result<bool, AllocError>
-        requires simplified { IsSimplifier simplifier.old store.old.slots (S.lines sink.old) }
-        requires going { simplifier.old.is_refuted ≡ false }
-        requires units { AreUnits self.old store.old.slots }
-        requires fits { length self.old.clauses.items ≡ simplifier.old.vars }
+        requires propagating { IsPropagating self.old simplifier.old store.old.slots (S.lines sink.old) }
         requires live { IsLive store.old.slots reference }
-        ensures simplified { IfOk result (λ _.
-            StaysSimplified simplifier.old store.old.slots (S.lines sink.old)
-            simplifier.new store.new.slots (S.lines sink.new)) }
-        ensures vars { IfOk result (λ _. simplifier.new.vars ≡ simplifier.old.vars) }
-        ensures units { IfOk result (λ _. simplifier.new.is_refuted ≡ false
-            → MakesTrue self.old store.old.slots self.new store.new.slots) }
-        ensures settled { IfOk result (λ found. found ≡ false → (simplifier.new.is_refuted ≡ false)
-            × (self.new ≡ self.old) × (store.new.slots ≡ store.old.slots)
-            × ((c : List Literal) → clause_at store.old.slots reference ≡ Some c
-            → IsSettled self.old.trail.items c)) }
+        ensures propagated { IfOk result (λ _.
+            Propagates self.old simplifier.old store.old.slots (S.lines sink.old)
+            self.new simplifier.new store.new.slots (S.lines sink.new)) }
+        ensures settled { IfOk result (λ found. found ≡ false
+            → AsksNothing self.old store.old.slots reference self.new simplifier.new store.new.slots) }
         ensures progress { IfOk result (λ found. found ≡ true → simplifier.new.is_refuted ≡ false
             → open_count self.new < open_count self.old) }
         ensures err { OnErr result (LeavesLog simplifier.old store.old.slots (S.lines sink.old)
@@ -270,20 +256,12 @@ impl Units {
         sink: &mut S,
         place: usize,
     ) -> Result<bool, AllocError>
-        requires simplified { IsSimplifier simplifier.old store.old.slots (S.lines sink.old) }
-        requires going { simplifier.old.is_refuted ≡ false }
-        requires units { AreUnits self.old store.old.slots }
-        requires fits { length self.old.clauses.items ≡ simplifier.old.vars }
-        ensures simplified { IfOk result (λ _.
-            StaysSimplified simplifier.old store.old.slots (S.lines sink.old)
-            simplifier.new store.new.slots (S.lines sink.new)) }
-        ensures vars { IfOk result (λ _. simplifier.new.vars ≡ simplifier.old.vars) }
-        ensures units { IfOk result (λ _. simplifier.new.is_refuted ≡ false
-            → MakesTrue self.old store.old.slots self.new store.new.slots) }
-        ensures settled { IfOk result (λ found. found ≡ false → (simplifier.new.is_refuted ≡ false)
-            × (self.new ≡ self.old) × (store.new.slots ≡ store.old.slots)
-            × ((c : List Literal) → clause_at store.old.slots place ≡ Some c
-            → IsSettled self.old.trail.items c)) }
+        requires { IsPropagating self.old simplifier.old store.old.slots (S.lines sink.old) }
+        ensures propagated { IfOk result (λ _.
+            Propagates self.old simplifier.old store.old.slots (S.lines sink.old)
+            self.new simplifier.new store.new.slots (S.lines sink.new)) }
+        ensures settled { IfOk result (λ found. found ≡ false
+            → AsksNothing self.old store.old.slots place self.new simplifier.new store.new.slots) }
         ensures progress { IfOk result (λ found. found ≡ true → simplifier.new.is_refuted ≡ false
             → open_count self.new < open_count self.old) }
         ensures err { OnErr result (LeavesLog simplifier.old store.old.slots (S.lines sink.old)
@@ -305,16 +283,10 @@ impl Units {
         store: &mut Store,
         sink: &mut S,
     ) -> Result<bool, AllocError>
-        requires simplified { IsSimplifier simplifier.old store.old.slots (S.lines sink.old) }
-        requires going { simplifier.old.is_refuted ≡ false }
-        requires units { AreUnits self.old store.old.slots }
-        requires fits { length self.old.clauses.items ≡ simplifier.old.vars }
-        ensures simplified { IfOk result (λ _.
-            StaysSimplified simplifier.old store.old.slots (S.lines sink.old)
-            simplifier.new store.new.slots (S.lines sink.new)) }
-        ensures vars { IfOk result (λ _. simplifier.new.vars ≡ simplifier.old.vars) }
-        ensures units { IfOk result (λ _. simplifier.new.is_refuted ≡ false
-            → MakesTrue self.old store.old.slots self.new store.new.slots) }
+        requires { IsPropagating self.old simplifier.old store.old.slots (S.lines sink.old) }
+        ensures propagated { IfOk result (λ _.
+            Propagates self.old simplifier.old store.old.slots (S.lines sink.old)
+            self.new simplifier.new store.new.slots (S.lines sink.new)) }
         ensures settled { IfOk result (λ found. found ≡ false → (simplifier.new.is_refuted ≡ false)
             × AreSettled self.old.trail.items store.old.slots) }
         ensures progress { IfOk result (λ found. found ≡ true → simplifier.new.is_refuted ≡ false
@@ -346,16 +318,10 @@ impl Units {
         lit: Lit,
         at: usize,
     ) -> Result<(), AllocError>
-        requires simplified { IsSimplifier simplifier.old store.old.slots (S.lines sink.old) }
-        requires going { simplifier.old.is_refuted ≡ false }
-        requires units { AreUnits self.old store.old.slots }
-        requires fits { length self.old.clauses.items ≡ simplifier.old.vars }
-        ensures simplified { IfOk result (λ _.
-            StaysSimplified simplifier.old store.old.slots (S.lines sink.old)
-            simplifier.new store.new.slots (S.lines sink.new)) }
-        ensures vars { IfOk result (λ _. simplifier.new.vars ≡ simplifier.old.vars) }
-        ensures units { IfOk result (λ _. simplifier.new.is_refuted ≡ false
-            → MakesTrue self.old store.old.slots self.new store.new.slots) }
+        requires { IsPropagating self.old simplifier.old store.old.slots (S.lines sink.old) }
+        ensures propagated { IfOk result (λ _.
+            Propagates self.old simplifier.old store.old.slots (S.lines sink.old)
+            self.new simplifier.new store.new.slots (S.lines sink.new)) }
         ensures err { OnErr result (LeavesLog simplifier.old store.old.slots (S.lines sink.old)
             (S.lines sink.new)) }
     {
@@ -379,16 +345,10 @@ impl Units {
         sink: &mut S,
         lit: Lit,
     ) -> Result<(), AllocError>
-        requires simplified { IsSimplifier simplifier.old store.old.slots (S.lines sink.old) }
-        requires going { simplifier.old.is_refuted ≡ false }
-        requires units { AreUnits self.old store.old.slots }
-        requires fits { length self.old.clauses.items ≡ simplifier.old.vars }
-        ensures simplified { IfOk result (λ _.
-            StaysSimplified simplifier.old store.old.slots (S.lines sink.old)
-            simplifier.new store.new.slots (S.lines sink.new)) }
-        ensures vars { IfOk result (λ _. simplifier.new.vars ≡ simplifier.old.vars) }
-        ensures units { IfOk result (λ _. simplifier.new.is_refuted ≡ false
-            → MakesTrue self.old store.old.slots self.new store.new.slots) }
+        requires { IsPropagating self.old simplifier.old store.old.slots (S.lines sink.old) }
+        ensures propagated { IfOk result (λ _.
+            Propagates self.old simplifier.old store.old.slots (S.lines sink.old)
+            self.new simplifier.new store.new.slots (S.lines sink.new)) }
         ensures err { OnErr result (LeavesLog simplifier.old store.old.slots (S.lines sink.old)
             (S.lines sink.new)) }
     {
@@ -410,16 +370,10 @@ impl Units {
         store: &mut Store,
         sink: &mut S,
     ) -> Result<(), AllocError>
-        requires simplified { IsSimplifier simplifier.old store.old.slots (S.lines sink.old) }
-        requires going { simplifier.old.is_refuted ≡ false }
-        requires units { AreUnits self.old store.old.slots }
-        requires fits { length self.old.clauses.items ≡ simplifier.old.vars }
-        ensures simplified { IfOk result (λ _.
-            StaysSimplified simplifier.old store.old.slots (S.lines sink.old)
-            simplifier.new store.new.slots (S.lines sink.new)) }
-        ensures vars { IfOk result (λ _. simplifier.new.vars ≡ simplifier.old.vars) }
-        ensures units { IfOk result (λ _. simplifier.new.is_refuted ≡ false
-            → MakesTrue self.old store.old.slots self.new store.new.slots) }
+        requires { IsPropagating self.old simplifier.old store.old.slots (S.lines sink.old) }
+        ensures propagated { IfOk result (λ _.
+            Propagates self.old simplifier.old store.old.slots (S.lines sink.old)
+            self.new simplifier.new store.new.slots (S.lines sink.new)) }
         ensures err { OnErr result (LeavesLog simplifier.old store.old.slots (S.lines sink.old)
             (S.lines sink.new)) }
     {

@@ -3,6 +3,7 @@ use Rattle.std.proofs.Common.{◌≡◌, ◌<◌, ◌≤◌, length, refl, sym, 
 use Rattle.std.proofs.lemmas.Bool.{both_ways}
 use Rattle.eliminate.specs.Simplifier.{LeavesLog}
 use Rattle.eliminate.specs.Units.{open_count}
+use Rattle.eliminate.proofs.Propagating.{still_propagating}
 use Rattle.eliminate.proofs.Settled.{settled_not_refuted}
 use Rattle.eliminate.proofs.Simplified.{log_of}
 use Rattle.eliminate.proofs.units.propagate_units.Goals as goal
@@ -11,27 +12,21 @@ use Rattle.names.proofs.Refusals.{when_err}
 pub sweeps-init : goal.sweeps-init
 sweeps-init g c = record {
   simplified = λ start h. h;
-  going = c.requires.going;
-  vars = refl;
-  units = c.in_ok-units.ensures.units;
-  fits = c.in_ok-units.ensures.rows;
+  propagating = record {
+    simplified = c.requires.simplified;
+    going = c.requires.going;
+    units = c.in_ok-units.ensures.units;
+    fits = c.in_ok-units.ensures.rows;
+  };
   grows = λ r d e. e;
 }
 
-pub sweep-requires-clause-simplified : goal.sweep-requires-clause-simplified
-sweep-requires-clause-simplified g c = (c.requires.simplified.0, c.sweeps.invariant.simplified c.requires.simplified.0 c.requires.simplified.1)
+pub sweep-requires : goal.sweep-requires
+sweep-requires g c = c.sweeps.invariant.propagating
 
-pub sweep-requires-clause-fits : goal.sweep-requires-clause-fits
-sweep-requires-clause-fits g c = c.sweeps.invariant.fits ∙ sym c.sweeps.invariant.vars
-
-pub follow-requires-clause-simplified : goal.follow-requires-clause-simplified
-follow-requires-clause-simplified g c = (c.requires.simplified.0, c.in_ok-found.ensures.simplified c.requires.simplified.0 (c.sweeps.invariant.simplified c.requires.simplified.0 c.requires.simplified.1))
-
-pub follow-requires-clause-units : goal.follow-requires-clause-units
-follow-requires-clause-units g c = (c.in_ok-found.ensures.units c.if-simplifier.false).units
-
-pub follow-requires-clause-fits : goal.follow-requires-clause-fits
-follow-requires-clause-fits g c = (c.in_ok-found.ensures.units c.if-simplifier.false).rows ∙ c.sweeps.invariant.fits ∙ sym (c.in_ok-found.ensures.vars ∙ c.sweeps.invariant.vars)
+pub follow-requires : goal.follow-requires
+follow-requires g c =
+    still_propagating _ _ _ _ _ _ _ _ c.in_ok-found.ensures.propagated c.sweeps.invariant.propagating c.if-simplifier.false
 
 pub returns-in_err-units-clause-err : goal.returns-in_err-units-clause-err
 returns-in_err-units-clause-err g c =
@@ -50,44 +45,43 @@ returns-in_err-found-clause-err g c =
 
 pub returns-in_err-follow-clause-err : goal.returns-in_err-follow-clause-err
 returns-in_err-follow-clause-err g c =
-    let logs : LeavesLog c.args.simplifier.now c.args.store.now.slots (g.S.Sink.lines c.args.sink.now) _ = (λ start h. c.in_err-follow.ensures.err start (c.in_ok-found.ensures.simplified start (c.sweeps.invariant.simplified start h))) in
+    let logs : LeavesLog c.args.simplifier.now c.args.store.now.slots (g.S.Sink.lines c.args.sink.now) _ = (λ start h. c.in_err-follow.ensures.err start (c.in_ok-found.ensures.propagated.simplified start (c.sweeps.invariant.simplified start h))) in
     when_err _ logs
 
 pub returns-then-simplifier-clause-simplified : goal.returns-then-simplifier-clause-simplified
-returns-then-simplifier-clause-simplified g c start h = c.in_ok-found.ensures.simplified start (c.sweeps.invariant.simplified start h)
+returns-then-simplifier-clause-simplified g c start h = c.in_ok-found.ensures.propagated.simplified start (c.sweeps.invariant.simplified start h)
 
 pub returns-then-simplifier-clause-refuted : goal.returns-then-simplifier-clause-refuted
 returns-then-simplifier-clause-refuted g c works = absurd (both_ways _ works c.if-simplifier.true)
 
 pub returns-then-not-found-clause-simplified : goal.returns-then-not-found-clause-simplified
-returns-then-not-found-clause-simplified g c start h = c.in_ok-found.ensures.simplified start (c.sweeps.invariant.simplified start h)
+returns-then-not-found-clause-simplified g c start h = c.in_ok-found.ensures.propagated.simplified start (c.sweeps.invariant.simplified start h)
 
 pub returns-then-not-found-clause-refuted : goal.returns-then-not-found-clause-refuted
 returns-then-not-found-clause-refuted g c works =
     settled_not_refuted c.sweeps.units.trail.items c.args.store.now.slots c.sweeps.store.slots (c.in_ok-found.ensures.settled c.if-not-found.true).1 c.sweeps.invariant.grows
 
 pub returns-then-simplifier-2-clause-simplified : goal.returns-then-simplifier-2-clause-simplified
-returns-then-simplifier-2-clause-simplified g c start h = c.in_ok-follow.ensures.simplified start (c.in_ok-found.ensures.simplified start (c.sweeps.invariant.simplified start h))
+returns-then-simplifier-2-clause-simplified g c start h = c.in_ok-follow.ensures.propagated.simplified start (c.in_ok-found.ensures.propagated.simplified start (c.sweeps.invariant.simplified start h))
 
 pub returns-then-simplifier-2-clause-refuted : goal.returns-then-simplifier-2-clause-refuted
 returns-then-simplifier-2-clause-refuted g c works = absurd (both_ways _ works c.if-simplifier-2.true)
 
 pub sweeps-preserved : goal.sweeps-preserved
 sweeps-preserved g c =
-    let swept = c.in_ok-found.ensures.units c.if-simplifier.false in
-    let followed = c.in_ok-follow.ensures.units c.if-simplifier-2.false in
+    let swept = c.in_ok-found.ensures.propagated.units c.if-simplifier.false in
+    let followed = c.in_ok-follow.ensures.propagated.units c.if-simplifier-2.false in
     record {
-      simplified = λ start h. c.in_ok-follow.ensures.simplified start (c.in_ok-found.ensures.simplified start (c.sweeps.invariant.simplified start h));
-      going = c.if-simplifier-2.false;
-      vars = c.in_ok-follow.ensures.vars ∙ c.in_ok-found.ensures.vars ∙ c.sweeps.invariant.vars;
-      units = followed.units;
-      fits = followed.rows ∙ swept.rows ∙ c.sweeps.invariant.fits;
+      simplified = λ start h. c.in_ok-follow.ensures.propagated.simplified start (c.in_ok-found.ensures.propagated.simplified start (c.sweeps.invariant.simplified start h));
+      propagating = still_propagating _ _ _ _ _ _ _ _ c.in_ok-follow.ensures.propagated
+          (still_propagating _ _ _ _ _ _ _ _ c.in_ok-found.ensures.propagated c.sweeps.invariant.propagating c.if-simplifier.false)
+          c.if-simplifier-2.false;
       grows = λ r d e. followed.grows r d (swept.grows r d (c.sweeps.invariant.grows r d e));
     }
 
 pub sweeps-smaller : goal.sweeps-smaller
 sweeps-smaller g c =
     let less = c.in_ok-found.ensures.progress c.if-not-found.false c.if-simplifier.false in
-    let followed = c.in_ok-follow.ensures.units c.if-simplifier-2.false in
+    let followed = c.in_ok-follow.ensures.propagated.units c.if-simplifier-2.false in
     let few = followed.fewer in
     omega arith

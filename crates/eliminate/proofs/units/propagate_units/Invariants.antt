@@ -1,15 +1,12 @@
-use Rattle.std.proofs.Common.{◌≡◌, false, length}
+use Rattle.std.proofs.Common.{ℕ}
 use Rattle.eliminate.specs.Simplifier.{StaysSimplified, Grows}
-use Rattle.eliminate.specs.Units.{AreUnits, open_count}
+use Rattle.eliminate.specs.Units.{IsPropagating, open_count}
 use Rattle.eliminate.proofs.units.propagate_units.Given as goal
 
 abbrev pub invariant-sweeps : goal.invariant-sweeps
 invariant-sweeps g l = record {
   simplified : StaysSimplified l.fn.simplifier l.fn.store.slots (g.S.Sink.lines l.fn.sink) l.simplifier l.store.slots (g.S.Sink.lines l.sink);
-  going : l.simplifier.is_refuted ≡ false;
-  vars : l.simplifier.vars ≡ l.fn.simplifier.vars;
-  units : AreUnits l.units l.store.slots;
-  fits : length l.units.clauses.items ≡ l.fn.simplifier.vars;
+  propagating : IsPropagating l.units l.simplifier l.store.slots (g.S.Sink.lines l.sink);
   grows : Grows l.fn.store.slots l.store.slots;
 }
 

@@ -7,6 +7,7 @@ use Rattle.names.specs.Work.{AreClauses}
 use Rattle.eliminate.specs.Simplifier.{LeavesLog}
 use Rattle.eliminate.specs.Units.{AreUnits}
 use Rattle.eliminate.proofs.Assigned.{units_grown, makes_true_grown}
+use Rattle.eliminate.proofs.Propagating.{propagates_nothing}
 use Rattle.eliminate.proofs.Simplified.{log_of}
 use Rattle.eliminate.proofs.States.{places_of}
 use Rattle.eliminate.proofs.UnitLines.{all_at}
@@ -14,10 +15,10 @@ use Rattle.eliminate.proofs.units.Units.meet.Goals as goal
 use Rattle.names.proofs.Refusals.{when_err}
 
 pub status-requires-clause-clauses : goal.status-requires-clause-clauses
-status-requires-clause-clauses g c = subst (λ n. AreClauses n c.args.store.now.slots) (sym c.requires.fits) c.requires.simplified.1.state.work.clauses
+status-requires-clause-clauses g c = subst (λ n. AreClauses n c.args.store.now.slots) (sym c.requires.propagating.fits) c.requires.propagating.simplified.1.state.work.clauses
 
 pub assign-requires-clause-units : goal.assign-requires-clause-units
-assign-requires-clause-units g c = units_grown c.args.self.now c.args.store.now.slots c.unit_clause.new.store.slots c.requires.units c.in_ok-unit-in-Unit.ensures.grows
+assign-requires-clause-units g c = units_grown c.args.self.now c.args.store.now.slots c.unit_clause.new.store.slots c.requires.propagating.units c.in_ok-unit-in-Unit.ensures.grows
 
 pub assign-requires-clause-alone : goal.assign-requires-clause-alone
 assign-requires-clause-alone g c = c.in_ok-unit-in-Unit.ensures.alone
@@ -25,9 +26,9 @@ assign-requires-clause-alone g c = c.in_ok-unit-in-Unit.ensures.alone
 pub assign-requires-clause-place : goal.assign-requires-clause-place
 assign-requires-clause-place g c =
     let d : List Literal = c.requires.live.0 in
-    let f = c.requires.simplified.1.state.work.clauses c.args.reference d c.requires.live.1 in
+    let f = c.requires.propagating.simplified.1.state.work.clauses c.args.reference d c.requires.live.1 in
     let unit = c.in-Unit.ensures d c.requires.live.1 in
-    subst (λ n. HasPlace n c.in-Unit.lit) (sym (c.requires.units.places ∙ ap (λ n. 2 * n) c.requires.fits))
+    subst (λ n. HasPlace n c.in-Unit.lit) (sym (c.requires.propagating.units.places ∙ ap (λ n. 2 * n) c.requires.propagating.fits))
     (all_at (HasPlace (2 * c.args.simplifier.now.vars)) d c.in-Unit.lit (places_of c.args.simplifier.now.vars d f.from_one f.small) unit.member)
 
 pub assign-requires-clause-not_true : goal.assign-requires-clause-not_true
@@ -42,6 +43,12 @@ returns-in_err-assign-in-Unit-clause-err g c =
     log_of start c.unit_clause.new.simplifier c.unit_clause.new.store.slots (g.S.Sink.lines c.unit_clause.new.sink) (c.in_ok-unit-in-Unit.ensures.simplified start h)) in
     when_err _ logs
 
-pub returns-in_ok-assign-in-Unit-clause-units : goal.returns-in_ok-assign-in-Unit-clause-units
-returns-in_ok-assign-in-Unit-clause-units g c works =
-    makes_true_grown c.args.self.now c.assign.new.self c.args.store.now.slots c.unit_clause.new.store.slots c.in_ok-unit-in-Unit.ensures.grows c.in_ok-assign-in-Unit.ensures.units
+pub returns-in-Settled-clause-propagated : goal.returns-in-Settled-clause-propagated
+returns-in-Settled-clause-propagated g c = propagates_nothing _ _ _ _ c.requires.propagating.units
+
+pub returns-in_ok-assign-in-Unit-clause-propagated : goal.returns-in_ok-assign-in-Unit-clause-propagated
+returns-in_ok-assign-in-Unit-clause-propagated g c = record {
+  simplified = c.in_ok-unit-in-Unit.ensures.simplified;
+  vars = c.in_ok-unit-in-Unit.ensures.going.1;
+  units = λ works. makes_true_grown c.args.self.now c.assign.new.self c.args.store.now.slots c.unit_clause.new.store.slots c.in_ok-unit-in-Unit.ensures.grows c.in_ok-assign-in-Unit.ensures.units;
+}

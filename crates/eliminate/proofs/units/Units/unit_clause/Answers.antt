@@ -22,7 +22,7 @@ returns-then-lits-eq1-clause-alone g c =
     c.lits.ensures ∙ ap Some (single d c.args.lit c.if-lits-eq1.true unit.member)
 
 pub hints-requires-clause-clauses : goal.hints-requires-clause-clauses
-hints-requires-clause-clauses g c = subst (λ n. AreClauses n c.args.store.now.slots) (sym c.requires.fits) c.requires.simplified.1.state.work.clauses
+hints-requires-clause-clauses g c = subst (λ n. AreClauses n c.args.store.now.slots) (sym c.requires.propagating.fits) c.requires.propagating.simplified.1.state.work.clauses
 
 pub add-requires-clause-line : goal.add-requires-clause-line
 add-requires-clause-line g c start h =
@@ -33,7 +33,7 @@ add-requires-clause-line g c start h =
     let at = c.requires.live.1 in
     let r = c.args.reference in
     let l : Literal = c.args.lit in
-    let line = unit_addable start s slots ls c.args.self.now h c.requires.units d r at l (c.requires.unit d at) in
+    let line = unit_addable start s slots ls c.args.self.now h c.requires.propagating.units d r at l (c.requires.unit d at) in
     let clause : c.push.new.self.items ≡ l ∷ [] = c.in_ok-push.ensures.items ∙ ap (λ (xs : List Literal). xs ++ l ∷ []) c.clear.ensures.items in
     subst (λ (xs : List Literal). IsAddableLine start s ls (record { kind = Unit; clause = xs; hints = c.in_ok-hints.hints.items })) (sym clause)
     (subst (λ (hs : List Hint). IsAddableLine start s ls (record { kind = Unit; clause = l ∷ []; hints = hs })) (sym (c.in_ok-hints.ensures d at)) line)
