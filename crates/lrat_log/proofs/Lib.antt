@@ -1,7 +1,10 @@
 pub mod Accepting
 pub mod Flat
+pub mod GivenNumbers
+pub mod Growing
 pub mod Ids
 pub mod LineTexts
+pub mod Literals
 pub mod MoreGiven
 pub mod Names
 pub mod NewLines

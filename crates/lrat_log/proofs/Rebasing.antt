@@ -1,12 +1,12 @@
 -- A log in another form, over other clauses, keeps its steps.
-use Rattle.std.proofs.Common.{◌≡◌, ℕ, zero, suc, ◌+◌, ◌-◌, ◌<◌, ◌≤◌, ◌^◌, Bool, true, false, not, ◌||◌, ◌&&◌, List, [], ◌∷◌, ◌++◌, length, map, Some, None, ◌⊎◌, inl, inr, refl, sym, ◌∙◌, ap, subst, arith, length-append}
+use Rattle.std.proofs.Common.{◌≡◌, ℕ, zero, suc, ◌+◌, ◌-◌, ◌<◌, ◌≤◌, ◌^◌, Bool, true, false, ◌||◌, List, [], ◌∷◌, ◌++◌, length, map, Some, None, ◌⊎◌, inl, inr, refl, sym, ◌∙◌, ap, subst, arith, length-append}
 use Rattle.std.specs.Prelude.{◌==◌, nat_le, if◌then◌else◌, All}
-use Rattle.std.specs.List.{AllByRecursion, list_any, enumerate_from, slice_get}
+use Rattle.std.specs.List.{AllByRecursion, list_any, slice_get}
 use Rattle.std.proofs.lemmas.Bool.{cases_lt, eq-eqb, ne_eqb, le-leb, lt-leb, cond-true, cond-false, false≢true, or_right}
 use Rattle.std.proofs.lemmas.List.{length-map}
 use Rattle.std.proofs.lemmas.List.Elements.{All-from_recursion, recursion_from_All, All-nil, All-cons, All-head, All-tail}
-use Rattle.std.proofs.lemmas.Option.{none-some, slice_get_past, slice_get_within}
-use Rattle.wcnf.specs.Literal.{Literal, negation, literal_eq, same_bool}
+use Rattle.std.proofs.lemmas.Option.{none-some}
+use Rattle.wcnf.specs.Literal.{Literal, negation}
 use Rattle.wcnf.specs.Clause.{contains_literal, is_subset}
 use Rattle.wcnf.specs.Formula.{numbered}
 use Rattle.wcnf.specs.Refute.{IsFalseUnder}
@@ -22,76 +22,11 @@ use Rattle.lrat_log.proofs.Accepting.{accepted_log, refuted_log}
 use Rattle.lrat_log.proofs.Names.{leading_names, group_names, group_by, named_on, line_by, numbered_on-named, Renames, SameLive, GroupIs, HintKnown, LineKnown, chain_after, steps_from_chain}
 use Rattle.lrat_log.proofs.Numbering.{log_steps_from, given_below, given_past}
 use Rattle.lrat_log.proofs.Ids.{known_names}
-
--- lists by their numbers
-get_left : (xs ys : List (List Literal)) (i : ℕ) → i < length xs → slice_get (xs ++ ys) i ≡ slice_get xs i
-get_left [] ys i h = absurd (omega arith)
-get_left (x ∷ xs) ys zero h = refl
-get_left (x ∷ xs) ys (suc i) h = get_left xs ys i (omega arith)
-
-get_right : (xs ys : List (List Literal)) (i k : ℕ) → i ≡ length xs + k → slice_get (xs ++ ys) i ≡ slice_get ys k
-get_right [] ys i k e = let same : i ≡ k = omega arith in ap (slice_get ys) same
-get_right (x ∷ xs) ys zero k e = absurd (omega arith)
-get_right (x ∷ xs) ys (suc i) k e = get_right xs ys i k (omega arith)
-
-numbered_left : (xs ys : List (List Literal)) (i : ℕ) → i ≤ length xs → numbered (xs ++ ys) i ≡ numbered xs i
-numbered_left xs ys zero h = refl
-numbered_left xs ys (suc i) h = get_left xs ys i (omega arith)
-
-numbered_right : (xs ys : List (List Literal)) (i k : ℕ) → i ≡ length xs + suc k → numbered (xs ++ ys) i ≡ slice_get ys k
-numbered_right xs ys zero k e = absurd (omega arith)
-numbered_right xs ys (suc i) k e = get_right xs ys i k (omega arith)
-
-numbered_past : (xs : List (List Literal)) (i : ℕ) → length xs < i → numbered xs i ≡ None
-numbered_past xs zero h = refl
-numbered_past xs (suc i) h = slice_get_past xs i (omega arith)
-
-numbered_within : (xs : List (List Literal)) (i : ℕ) (c : List Literal) → numbered xs i ≡ Some c → i ≤ length xs
-numbered_within xs zero c e = absurd (none-some c e)
-numbered_within xs (suc i) c e = let h = slice_get_within xs i c e in omega arith
-
--- clauses given in their order
-abbrev given_on : ℕ → List (List Literal) → Given
-given_on n cs = map (λ e. (Formula e.0, e.1)) (enumerate_from n cs)
-
-base_on : (n : ℕ) (cs : List (List Literal)) (a : ℕ) → n + length cs ≤ a + 1 → IsBaseOf (given_on n cs) a
-base_on n [] a h k d lt = absurd (omega arith)
-base_on n (c ∷ cs) a h zero d lt = omega arith
-base_on n (c ∷ cs) a h (suc k) d lt = base_on (n + 1) cs a (omega arith) k d (omega arith)
-
-pub base_of : (cs : List (List Literal)) (a : ℕ) → length cs ≤ a → IsBaseOf (given_of cs) a
-base_of cs a h = base_on 1 cs a (omega arith)
-
-given_from : (n : ℕ) (cs : List (List Literal)) (i k : ℕ) → i ≡ n + k → given_at (given_on n cs) i ≡ slice_get cs k
-given_from n [] i k e = refl
-given_from n (c ∷ cs) i zero e = let same : n ≡ i = omega arith in cond-true (n == i) (Some c) (given_at (given_on (n + 1) cs) i) (eq-eqb n i same)
-given_from n (c ∷ cs) i (suc k) e =
-    let differ : (n == i) ≡ false = ne_eqb n i (λ z. absurd (omega arith)) in
-    cond-false (n == i) (Some c) (given_at (given_on (n + 1) cs) i) differ ∙ given_from (n + 1) cs i k (omega arith)
-
-given_before : (n : ℕ) (cs : List (List Literal)) (i : ℕ) → i < n → given_at (given_on n cs) i ≡ None
-given_before n [] i h = refl
-given_before n (c ∷ cs) i h =
-    let differ : (n == i) ≡ false = ne_eqb n i (λ z. absurd (omega arith)) in
-    cond-false (n == i) (Some c) (given_at (given_on (n + 1) cs) i) differ ∙ given_before (n + 1) cs i (omega arith)
-
-pub given_at-given_of : (cs : List (List Literal)) (i : ℕ) → given_at (given_of cs) i ≡ numbered cs i
-given_at-given_of cs zero = given_before 1 cs 0 (omega arith)
-given_at-given_of cs (suc i) = given_from 1 cs (suc i) i (omega arith)
+use Rattle.lrat_log.proofs.Literals.{contains-negations}
+use Rattle.lrat_log.proofs.GivenNumbers.{numbered_left, numbered_right, numbered_past}
+use Rattle.lrat_log.proofs.GivenNumbers.{numbered_within, base_of, given_at-given_of}
 
 -- a weaker clause by the hint of its number
-same_negated : (a b : Bool) → same_bool (not a) (not b) ≡ same_bool a b
-same_negated true true = refl
-same_negated true false = refl
-same_negated false true = refl
-same_negated false false = refl
-
-has_negation : (k : Literal) (c : List Literal) → contains_literal (negation k) (map negation c) ≡ contains_literal k c
-has_negation k [] = refl
-has_negation k (l ∷ c) =
-    ap (λ x. ((k.variable == l.variable) && x) || contains_literal (negation k) (map negation c)) (same_negated k.negated l.negated)
-    ∙ ap (λ x. literal_eq k l || x) (has_negation k c)
-
 if_parts : (b x : Bool) → (if b then x else false) ≡ true → (b ≡ true) × (x ≡ true)
 if_parts true x e = (refl, e)
 if_parts false x e = absurd (false≢true e)
@@ -100,7 +35,7 @@ false_under : (d c : List Literal) → is_subset d c ≡ true → IsFalseUnder d
 false_under [] c e = tt
 false_under (l ∷ d) c e =
     let p = if_parts (contains_literal l c) (is_subset d c) e in
-    (has_negation l c ∙ p.0, false_under d c p.1)
+    (contains-negations l c ∙ p.0, false_under d c p.1)
 
 abbrev pub clauses_of : WeakerList → List (List Literal)
 clauses_of ws = map (λ e. e.0) ws
@@ -491,7 +426,7 @@ pub accepts_of_log : (cs : List (List Literal)) (ls : List LogLine) → IsAccept
 accepts_of_log cs ls log = subst (λ x. AcceptsFrom x (numbered_lines (length cs) ls)) (start_over-given_of cs) (log (length cs) (base_of cs (length cs) (omega arith)))
 
 -- the lines of the result are lines
-abbrev HasNumber : Hint → Type 0
+abbrev pub HasNumber : Hint → Type 0
 HasNumber h = IsId (number_in (name_of h))
 
 abbrev HasSmallId : ℕ → Hint → Type 0
