@@ -1,7 +1,6 @@
 -- What each move keeps: a line that follows by its hints, and a deletion.
 use Rattle.std.proofs.Common.{◌≡◌, ℕ, ◌+◌, ◌<◌, ◌^◌, false, List, [], ◌∷◌, ◌++◌, Some, None, inl, inr, refl, sym, ◌∙◌, subst, arith, slice_set, sum_by}
-use Rattle.std.specs.Prelude.{if◌then◌else◌, nat_eq, All}
-use Rattle.std.specs.List.{IsDistinct}
+use Rattle.std.specs.Prelude.{if◌then◌else◌, All}
 use Rattle.std.proofs.lemmas.List.Elements.{All-push, All-nil, All-cons}
 use Rattle.std.proofs.lemmas.List.Sums.{sum_by-append}
 use Rattle.wcnf.specs.Literal.{Literal}
@@ -10,8 +9,9 @@ use Rattle.clauses.specs.Slots.{Slots, clause_at}
 use Rattle.lrat_log.specs.declared.lines.Name.{Name}
 use Rattle.lrat_log.specs.Log.{LogLine, Given, id_of, is_learned}
 use Rattle.lrat_log.specs.Steps.{IsBaseOf, log_live, StaysLogOver, AddsNoEmptyClause, IsOwnGroup, learned_count, adds_empty_clause}
+use Rattle.lrat_log.proofs.Growing.{one_apart, open_push, stops_push}
 use Rattle.names.specs.Work.{additions, name_at, added_line, delete_line, IsWork, IsRupLine}
-use Rattle.names.proofs.Logs.{rup_line_more, delete_line_more, stops_more}
+use Rattle.names.proofs.Logs.{rup_line_more, delete_line_more}
 use Rattle.names.proofs.Naming.{named_added, named_deleted, slot_pushed, slot_deleted}
 
 pub learned-push : (ls : List LogLine) (l : LogLine) → is_learned l.kind ≡ false → learned_count (ls ++ l ∷ []) ≡ learned_count ls
@@ -24,20 +24,16 @@ learned-push ls l e =
 pub stays_added : (first : ℕ) (given : Given) (ls : List LogLine) (l : LogLine) → StaysLogOver first given ls → AddsNoEmptyClause ls → IsRupLine given ls l → All IsOwnGroup l.hints → StaysLogOver first given (ls ++ l ∷ [])
 stays_added first given ls l log going rup own more small = record {
   steps = rup_line_more given more ls l rup (log more small).steps;
-  stops = stops_more ls l going;
+  stops = stops_push ls l going;
   groups = All-push (λ (k : LogLine). All IsOwnGroup k.hints) ls l (log more small).groups own;
 }
-
-only_one : (i : ℕ) → IsDistinct nat_eq (i ∷ [])
-unfolding IsDistinct
-only_one i = (tt, tt)
 
 -- and with one that deletes a clause by its name
 pub stays_deleted : (first : ℕ) (given : Given) (ls : List LogLine) (n : Name) (c : List Literal) → StaysLogOver first given ls → AddsNoEmptyClause ls
     → ((base : ℕ) → IsBaseOf given base → log_live given base ls (id_of base n) ≡ Some c) → StaysLogOver first given (ls ++ delete_line n ∷ [])
 stays_deleted first given ls n c log going live more small = record {
-  steps = delete_line_more given more ls (delete_line n) (record { deletes = refl; distinct = λ base above. only_one (id_of base n); live = λ base above. ((c, live base above), tt) }) (log more small).steps;
-  stops = stops_more ls (delete_line n) going;
+  steps = delete_line_more given more ls (delete_line n) (record { deletes = refl; distinct = λ base above. one_apart (id_of base n); live = λ base above. ((c, live base above), tt) }) (log more small).steps;
+  stops = stops_push ls (delete_line n) going;
   groups = All-push (λ (k : LogLine). All IsOwnGroup k.hints) ls (delete_line n) (log more small).groups (All-cons IsOwnGroup _ [] tt (All-nil IsOwnGroup));
 }
 
@@ -65,13 +61,9 @@ work_deleted first variables given slots names ls r c w going live = record {
   clauses = λ s d h. w.clauses s d (slot_deleted slots r s d h).1;
 }
 
-none_empty-push : (ls : List LogLine) (l : LogLine) → AddsNoEmptyClause ls → adds_empty_clause l ≡ false → AddsNoEmptyClause (ls ++ l ∷ [])
-none_empty-push [] l h e = (e, tt)
-none_empty-push (k ∷ ls) l h e = (h.0, none_empty-push ls l h.1 e)
-
 -- the log stays open
 pub open_added : (ls : List LogLine) (l : LogLine) → AddsNoEmptyClause ls → adds_empty_clause l ≡ false → AddsNoEmptyClause (ls ++ l ∷ [])
-open_added ls l h e = none_empty-push ls l h e
+open_added ls l h e = open_push ls l h e
 
 pub open_deleted : (ls : List LogLine) (n : Name) → AddsNoEmptyClause ls → AddsNoEmptyClause (ls ++ delete_line n ∷ [])
-open_deleted ls n h = none_empty-push ls (delete_line n) h refl
+open_deleted ls n h = open_push ls (delete_line n) h refl
