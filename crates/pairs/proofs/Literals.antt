@@ -1,5 +1,5 @@
 -- Literals in clauses: negations, tests, and which of them a clause covers.
-use Rattle.std.proofs.Common.{◌≡◌, Bool, true, false, not, ◌&&◌, ◌≤◌, max, List, [], ◌∷◌, map, filter, ◌⊎◌, inl, inr, refl, sym, ◌∙◌, ap, subst, arith}
+use Rattle.std.proofs.Common.{◌≡◌, Bool, true, false, not, ◌≤◌, max, List, [], ◌∷◌, map, filter, ◌⊎◌, inl, inr, refl, sym, ◌∙◌, ap, subst, arith}
 use Rattle.std.specs.Prelude.{if◌then◌else◌, ◌==◌}
 use Rattle.std.specs.List.{AllByRecursion, list_any}
 use Rattle.std.proofs.lemmas.Bool.{or_cases, or_parts, or_left, or_right, or_from, and_parts, both_ways, false_from_ne_true, false≢true}
@@ -8,12 +8,7 @@ use Rattle.wcnf.specs.Clause.{clause_value, contains_literal, without_literal, h
 use Rattle.wcnf.specs.Refute.{IsUnit}
 use Rattle.wcnf.proofs.Marks.{literal_eq-refl}
 use Rattle.wcnf.proofs.Sound.{literal_eq-true}
-
-same_bool-not : (a b : Bool) → same_bool (not a) (not b) ≡ same_bool a b
-same_bool-not true true = refl
-same_bool-not true false = refl
-same_bool-not false true = refl
-same_bool-not false false = refl
+pub use Rattle.lrat_log.proofs.Literals.{literal_eq-negation, contains-negations}
 
 pub not_not : (a : Bool) → not (not a) ≡ a
 not_not true = refl
@@ -21,14 +16,6 @@ not_not false = refl
 
 pub negation_twice : (l : Literal) → negation (negation l) ≡ l
 negation_twice l = λ i. record { variable = l.variable; negated = not_not l.negated i }
-
-pub literal_eq-negation : (k l : Literal) → literal_eq (negation k) (negation l) ≡ literal_eq k l
-literal_eq-negation k l = ap (λ b. (k.variable == l.variable) && b) (same_bool-not k.negated l.negated)
-
--- a literal's negation is among the negations just where the literal is in the clause
-pub contains-negations : (k : Literal) (c : List Literal) → contains_literal (negation k) (map negation c) ≡ contains_literal k c
-contains-negations k [] = refl
-contains-negations k (l ∷ c) = rw (literal_eq-negation, contains-negations k c)
 
 pub contains-twice : (k : Literal) (c : List Literal) → contains_literal k (map negation c) ≡ contains_literal (negation k) c
 contains-twice k c = ap (λ x. contains_literal x (map negation c)) (sym (negation_twice k)) ∙ contains-negations (negation k) c

@@ -16,7 +16,8 @@ use Rattle.lrat_log.specs.Log.{LogLine, Given, id_of, given_at, start_over, numb
 use Rattle.lrat_log.specs.Steps.{live_after, log_live, IsBaseOf, StaysLogOver, AddsNoEmptyClause, IsOwnGroup}
 use Rattle.names.specs.Work.{additions, name_at, IsNamed}
 use Rattle.pairs.specs.Pairs.{positive, whole_clause, side_clause, whole_line, side_line}
-use Rattle.names.proofs.Logs.{log_steps_more, log_live-within, base_left, last_after, stops_more}
+use Rattle.lrat_log.proofs.Growing.{live_more, base_front, stops_push}
+use Rattle.names.proofs.Logs.{log_steps_more, last_after}
 use Rattle.pairs.proofs.Definitions.{IsFreshIn, IsPairFor, first_addable, side_addable, first_rat, side_rat}
 
 -- what is live where more is given is live without, or is something of P
@@ -66,7 +67,7 @@ lacks_both z d h = (above-apart (positive z) d h, above-apart (negation (positiv
 module _ (first : ℕ) (given : Given) (slots : Slots) (names : List Name) (ls : List LogLine) (n : IsNamed given slots names ls) where
   -- the clause of a place, whatever more is given
   pub live_named : (more : Given) (base r : ℕ) (c : List Literal) → IsBaseOf (given ++ more) base → clause_at slots r ≡ Some c → log_live (given ++ more) base ls (id_of base (name_at names r)) ≡ Some c
-  live_named more base r c above live = log_live-within given more base ls (id_of base (name_at names r)) c ((n.live base (base_left given more base above)).named r c live)
+  live_named more base r c above live = live_more given more base ls (id_of base (name_at names r)) c ((n.live base (base_front given more base above)).named r c live)
 
   -- no clause of the log or of more that is given has the fresh variable
   fresh_more : (v z : ℕ) (more : Given) (base : ℕ) → first < z → v < z → ((r : ℕ) (c : List Literal) → clause_at slots r ≡ Some c → greatest_variable c ≤ v)
@@ -74,7 +75,7 @@ module _ (first : ℕ) (given : Given) (slots : Slots) (names : List Name) (ls :
   fresh_more v z more base few above small all is_base i d e =
       elim (live_either first given more base ls all i d e) [
         | inl here ↦
-            let o = (n.live base (base_left given more base is_base)).only i d here in
+            let o = (n.live base (base_front given more base is_base)).only i d here in
             let s : greatest_variable d ≤ v = small o.0 d o.1 in
             lacks_both z d (omega arith)
         | inr other ↦ lacks_both z d (omega arith)
@@ -87,7 +88,7 @@ module _ (first : ℕ) (given : Given) (slots : Slots) (names : List Name) (ls :
   only_more l f more base few only all is_base i d e has =
       elim (live_either first given more base ls all i d e) [
         | inl here ↦
-            let o = (n.live base (base_left given more base is_base)).only i d here in
+            let o = (n.live base (base_front given more base is_base)).only i d here in
             sym o.2 ∙ ap (λ r. id_of base (name_at names r)) (only o.0 d o.1 has)
         | inr other ↦ absurd (both_ways (contains_literal l d) (above-apart l d (omega arith)) has)
       ]
@@ -103,7 +104,7 @@ module _ (first : ℕ) (given : Given) (slots : Slots) (names : List Name) (ls :
           with_clause old id (whole_clause z a b),
           (first_addable old id z a b (omega (arith, last)) p, inr (first_rat old.clause_at z a b (fresh_more v z more base few above small all is_base)), refl),
         ));
-    stops = stops_more ls (whole_line z a b) going;
+    stops = stops_push ls (whole_line z a b) going;
     groups = All-push (λ (k : LogLine). All IsOwnGroup k.hints) ls (whole_line z a b) (log more all).groups (All-nil IsOwnGroup);
   }
 
@@ -125,7 +126,7 @@ module _ (first : ℕ) (given : Given) (slots : Slots) (names : List Name) (ls :
             refl,
           ),
         ));
-    stops = stops_more ls (side_line z a (name_at names f)) going;
+    stops = stops_push ls (side_line z a (name_at names f)) going;
     groups = All-push (λ (k : LogLine). All IsOwnGroup k.hints) ls (side_line z a (name_at names f)) (log more all).groups
         (All-cons IsOwnGroup (Group (name_at names f)) [] (rw named tt) (All-nil IsOwnGroup));
   }
