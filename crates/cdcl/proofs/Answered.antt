@@ -15,7 +15,8 @@ use Rattle.cdcl.specs.declared.search.Search.{Search}
 use Rattle.cdcl.specs.declared.problem.Problem.{Problem}
 use Rattle.cdcl.specs.declared.outcome.Outcome.{Outcome}
 use Rattle.cdcl.specs.declared.outcome.Outcome.TheVariants.{Sat, Unsat, Limit}
-use Rattle.cdcl.specs.Solving.{lines_since, is_refuted}
+use Rattle.cdcl.specs.Solving.{SolverState, given_to, lines_since, is_refuted}
+use Rattle.cdcl.specs.Solving.{IsPlainlyRefuted, IsLiveRefuted}
 use Rattle.cdcl_order.specs.Budgets.{BudgetState}
 use Rattle.cdcl.specs.declared.searching.End.{End}
 use Rattle.cdcl.specs.declared.searching.End.TheVariants.{Satisfied}
@@ -92,3 +93,43 @@ plain_unsat s p ls b Limit i a h = absurd (not_plain s p ls a.quiet.0 i a.runs a
 
 pub is_satisfied : (s : Search) (p : Problem) (ls : List LogLine) (b : BudgetState) (end : End) → end ≡ Satisfied → IsEndOf s p ls b end → IsSatisfied s p ls b
 is_satisfied s p ls b end e h = subst (IsEndOf s p ls b) e h
+
+-- What a caller sees: the view of a solver over this problem.
+abbrev pub view_of : {S : Type 0} → Problem → S → Bool → SolverState S
+view_of p sink failed = record {
+  formula = record {
+    variables = length (p.frozen).items;
+    clauses = map (λ g. g.1) (take p.first (p.given).items);
+  };
+  added = drop p.first (p.given).items;
+  frozen = (p.frozen).items;
+  sink = sink;
+  failed = failed;
+}
+
+module _ {S : Type 0} (lines : S → List LogLine) (p : Problem) (sink : S) (failed : Bool) (i : IsProblem p)
+    (old : SolverState S) (same : view_of p sink failed ≡ old) where
+  pub seen_log : StaysLogOver (length (p.frozen).items) (p.given).items (lines sink)
+      → IsLogOver (given_to old) (lines old.sink)
+  seen_log stays =
+      subst (λ s. IsLogOver (given_to s) (lines s.sink)) same (log_now p (lines sink) i stays)
+
+  pub seen_ended : IsEnded p (lines sink) → IsAcceptedLog (given_to old) (lines old.sink)
+  seen_ended e =
+      subst (λ s. IsAcceptedLog (given_to s) (lines s.sink)) same (ended_log p (lines sink) i e)
+
+  pub seen_plain : (s : Search) (ls : List LogLine) (b : BudgetState) (o : Outcome)
+      → IsAnswer s p ls b o → IsPlainlyRefuted old → o ≡ Unsat
+  seen_plain s ls b o a h = plain_unsat s p ls b o i a (subst IsPlainlyRefuted (sym same) h)
+
+  pub seen_live : IsLiveRefuted (given_to old) (lines old.sink)
+      → IsLiveRefuted (p.given).items (lines sink)
+  seen_live h =
+      subst (λ g. IsLiveRefuted g (lines sink)) (given_seen p i)
+      (subst (λ s. IsLiveRefuted (given_to s) (lines s.sink)) (sym same) h)
+
+  pub seen_short : (now : List LogLine) (n : ℕ) → Writes (p.given).items (lines sink) now n
+      → All IsLearnedOrShort (lines_since (lines old.sink) now)
+  seen_short now n w =
+      subst (λ s. All IsLearnedOrShort (lines_since (lines s.sink) now)) same
+      (written_short (p.given).items (lines sink) now n w)

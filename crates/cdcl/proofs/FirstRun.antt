@@ -31,7 +31,7 @@ use Rattle.cdcl.specs.Starts.{AreRising, IsLiveWithin, IsStarted}
 use Rattle.cdcl.proofs.Places.{stands, live_within}
 use Rattle.cdcl.proofs.FirstNames.{names_start}
 use Rattle.cdcl.proofs.Named.{live_below}
-use Rattle.cdcl.proofs.Started.{clauses_given, given_on}
+use Rattle.lrat_log.proofs.GivenNumbers.{base_of, clauses_given}
 
 -- Lists of places.
 
@@ -96,13 +96,8 @@ distinct_same is j k d a b e = elim (cases_eq j k) [
   ]
 ]
 
-based_on : (n b : ℕ) (cs : List (List Literal)) → n + length cs ≤ b + 1 → IsBaseOf (given_on n cs) b
-based_on n b [] h k d lt = absurd (omega arith)
-based_on n b (c ∷ cs) h zero d lt = omega arith
-based_on n b (c ∷ cs) h (suc k) d lt = based_on (n + 1) b cs (omega arith) k d (omega arith)
-
 pub based_first : (cs : List (List Literal)) → IsBaseOf (given_of cs) (length cs)
-based_first cs = based_on 1 (length cs) cs (omega arith)
+based_first cs = base_of cs (length cs) (omega arith)
 
 -- What elimination says of the names that it lists.
 

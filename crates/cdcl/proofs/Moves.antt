@@ -1,7 +1,5 @@
 -- Each move of a search keeps what holds of a running solver.
 use Rattle.std.proofs.Common.{◌≡◌, ℕ, ◌+◌, ◌<◌, ◌≤◌, ◌^◌, Bool, true, false, not, ◌&&◌, List, [], ◌∷◌, ◌++◌, length, set, Option, Some, None, sym, ◌∙◌, ap, subst, arith}
-use Rattle.std.specs.Prelude.{nat_eq}
-use Rattle.std.specs.List.{IsDistinct}
 use Rattle.std.proofs.lemmas.List.Elements.{All-push}
 use Rattle.wcnf.specs.Literal.{Literal}
 use Rattle.wcnf.specs.Lrat.{IsId}
@@ -14,12 +12,13 @@ use Rattle.lrat_log.specs.declared.lines.Name.{Name}
 use Rattle.lrat_log.specs.declared.lines.Name.TheVariants.{Added}
 use Rattle.lrat_log.specs.Log.{LogLine, Given, is_delete, number_in}
 use Rattle.lrat_log.specs.Steps.{adds_empty_clause, is_empty_clause}
+use Rattle.lrat_log.proofs.Growing.{one_apart, open_push}
 use Rattle.eliminate.specs.Elimination.{StackState}
 use Rattle.cdcl.specs.Invariant.{Tables, name_at, is_kept_name, NamesStore, NotesUnits, zero_of, IsRecorded, IsRunning}
 use Rattle.analyze.specs.Learning.{IsQuiet}
 use Rattle.cdcl.proofs.Chains.{count_push_addition, count_push_deletion}
 use Rattle.cdcl.specs.Hinting.{plain_hints}
-use Rattle.cdcl.proofs.LogLines.{AddsByHints, DeletesNames, open_push, log_add, log_delete}
+use Rattle.cdcl.proofs.LogLines.{AddsByHints, DeletesNames, log_add, log_delete}
 use Rattle.cdcl.proofs.Named.{names_add, names_delete}
 use Rattle.cdcl.proofs.Quiet.{searches_propagate, searches_decide, searches_backtrack, searches_add}
 use Rattle.cdcl.proofs.Units.{units_propagate, units_decide, units_backtrack}
@@ -92,10 +91,6 @@ run_add e f slots stack t frozen first given ls l units noted r adds goes_on roo
   variables = same.1 ∙ r.variables;
   units = subst (λ T. NotesUnits (slots ++ Some l.clause ∷ []) (zero_of T) (depth_of T) units noted) (sym same.0) notes;
 }
-
-one_apart : (i : ℕ) → IsDistinct nat_eq (i ∷ [])
-unfolding IsDistinct
-one_apart i = (tt, tt)
 
 deletes_not_empty : (l : LogLine) → is_delete l.kind ≡ true → adds_empty_clause l ≡ false
 deletes_not_empty l e = ap (λ b. not b && is_empty_clause l.clause) e

@@ -1,10 +1,10 @@
 -- The engine between the moves of a search: at the ends of the levels below the current one nothing was false or unit.
-use Rattle.std.proofs.Common.{◌≡◌, ℕ, ◌+◌, ◌<◌, ◌≤◌, true, false, cond, List, [], ◌∷◌, ◌++◌, length, map, set, Option, Some, None, inl, inr, refl, sym, ◌∙◌, ap, subst, arith}
+use Rattle.std.proofs.Common.{◌≡◌, ℕ, ◌+◌, ◌<◌, ◌≤◌, true, false, cond, List, [], ◌∷◌, ◌++◌, length, map, Option, Some, None, inl, inr, refl, sym, ◌∙◌, ap, subst, arith}
 use Rattle.std.specs.Prelude.{IfSome, is_none}
 use Rattle.std.specs.List.{AllByRecursion}
 use Rattle.std.specs.List.Sorted.{IsStrictlyIncreasing}
 use Rattle.std.proofs.lemmas.List.Elements.{recursion_from_All}
-use Rattle.std.proofs.lemmas.Bool.{cases_lt, cases_eq, both_ways}
+use Rattle.std.proofs.lemmas.Bool.{cases_lt, cases_eq}
 use Rattle.wcnf.specs.Literal.{Literal}
 use Rattle.wcnf.specs.Refute.{IsUnit, IsFalseUnder}
 use Rattle.clauses.specs.Slots.{Slots, Renaming, renamed, IsRenaming}
@@ -14,13 +14,12 @@ use Rattle.propagate.specs.Fits.{Fits, GrowsByUnits, MovesAttached, renamed_trai
 use Rattle.propagate.proofs.Levels.{kept_push, kept_all}
 use Rattle.propagate.proofs.Trails.{depth_push, depth-cons}
 use Rattle.propagate.proofs.Kept.{kept_kept, kept_low}
-use Rattle.propagate.proofs.FitsLaws.{fits_local}
 use Rattle.propagate.proofs.Naming.{kept_named, trail_listed}
 use Rattle.propagate.specs.Renames.{named_trail, named_reason}
 use Rattle.propagate.proofs.Compacting.{reasons_listed}
 use Rattle.cdcl.specs.Invariant.{Searches, zero_of}
 use Rattle.analyze.specs.Learning.{IsQuiet}
-use Rattle.cdcl.proofs.Places.{clause_cases, clause_left, clause_other, came, same_clause}
+use Rattle.cdcl.proofs.Places.{clause_cases, came, same_clause}
 use Rattle.analyze.proofs.Levels.{kept_more, depth_follow}
 
 pub searches_propagate : (slots : Slots) (e f : EngineState) → Searches e slots → GrowsByUnits slots e f → SameAttached e f → Fits f slots → f.failed ≡ false → Searches f slots
@@ -86,18 +85,6 @@ searches_add slots e f c s sets trail works fits new = record {
         | inl old ↦ s.quiet level low r d old
         | inr last ↦ subst (λ x. (IsFalseUnder x (literals_of (kept_to level e.trail)) → ⊥) × ((l : Literal) → IsUnit x (literals_of (kept_to level e.trail)) l → ⊥)) (sym last.1) (new level low)
       ]);
-}
-
--- a clause that is detached and leaves
-pub searches_delete : (slots : Slots) (e f : EngineState) (q : ℕ) → Searches e slots → SetsAttached e f q false → f.trail ≡ e.trail → f.failed ≡ e.failed → Fits f slots → Searches f (set slots q None)
-searches_delete slots e f q s sets trail failed fits = record {
-  works = failed ∙ s.works;
-  fits = fits_local f slots (set slots q None) fits
-      (λ r on. clause_other slots q r (λ same. both_ways _ (ap (is_attached f) same ∙ sets.0) on));
-  all_attached = λ r live. let old = clause_left slots q r live.0 live.1 in sets.1 r old.0 ∙ s.all_attached r (live.0, old.1);
-  quiet = λ level below r d at.
-      subst (λ T. (IsFalseUnder d (literals_of (kept_to level T)) → ⊥) × ((l : Literal) → IsUnit d (literals_of (kept_to level T)) l → ⊥)) (sym trail)
-      (s.quiet level (subst (λ T. level < depth_of T) trail below) r d (clause_left slots q r d at).1);
 }
 
 -- A compacted store.

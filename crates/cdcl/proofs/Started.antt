@@ -1,7 +1,6 @@
 -- The tables of a search before its first move.
-use Rattle.std.proofs.Common.{◌≡◌, ◌≢◌, ℕ, ◌+◌, ◌<◌, true, false, List, [], ◌∷◌, ◌++◌, length, map, get_or, set, inl, inr, refl, sym, ◌∙◌, ap, subst, arith}
+use Rattle.std.proofs.Common.{◌≡◌, ◌≢◌, ℕ, ◌+◌, ◌<◌, true, false, List, [], ◌∷◌, ◌++◌, length, get_or, set, inl, inr, sym, ◌∙◌, ap, subst, arith}
 use Rattle.std.specs.Prelude.{All}
-use Rattle.std.specs.List.{enumerate_from}
 use Rattle.std.proofs.lemmas.Bool.{cases_eq, cases_Bool, both_ways}
 use Rattle.std.proofs.lemmas.List.{length-set, get_or-set_same, get_or-set_other, get_or_default, length_push, append_assoc}
 use Rattle.std.proofs.lemmas.List.Elements.{All-set}
@@ -13,12 +12,9 @@ use Rattle.propagate.specs.Fits.{Fits}
 use Rattle.lrat_log.specs.declared.lines.Name.{Name}
 use Rattle.lrat_log.specs.declared.lines.Name.TheVariants.{Formula}
 use Rattle.lrat_log.specs.Log.{Given, number_in}
-use Rattle.lrat_log.specs.Steps.{given_of}
+use Rattle.lrat_log.proofs.GivenNumbers.{given_on}
 use Rattle.cdcl.specs.Invariant.{name_at}
 use Rattle.cdcl.specs.Starts.{AreRising}
-
-abbrev pub given_on : ℕ → List (List Literal) → Given
-given_on n cs = map (λ e. (Formula e.0, e.1)) (enumerate_from n cs)
 
 -- one more clause under its number
 pub given_next : (now : Given) (c : List Literal) (left : List (List Literal)) (all : Given) → now ++ given_on (length now + 1) (c ∷ left) ≡ all
@@ -28,13 +24,6 @@ given_next now c left all e =
     append_assoc now (g ∷ []) (given_on (length (now ++ g ∷ []) + 1) left)
     ∙ ap (λ n. now ++ g ∷ given_on (n + 1) left) (length_push now g)
     ∙ e
-
-clauses_on : (n : ℕ) (cs : List (List Literal)) → map (λ g. g.1) (given_on n cs) ≡ cs
-clauses_on n [] = refl
-clauses_on n (c ∷ cs) = ap (λ x. c ∷ x) (clauses_on (n + 1) cs)
-
-pub clauses_given : (cs : List (List Literal)) → map (λ g. g.1) (given_of cs) ≡ cs
-clauses_given cs = clauses_on 1 cs
 
 -- Names by place.
 

@@ -1,4 +1,4 @@
-use Rattle.std.proofs.Common.{arith, ◌≡◌, ◌+◌, false, List, ◌∷◌, [], ◌++◌, length, ap, sym, ◌∙◌, subst}
+use Rattle.std.proofs.Common.{arith, ◌≡◌, ◌+◌, false, List, [], ◌∷◌, ◌++◌, length, ap, sym, ◌∙◌, subst}
 use Rattle.std.specs.Prelude.{All}
 use Rattle.std.proofs.lemmas.List.{length_push}
 use Rattle.std.proofs.lemmas.List.Elements.{All-head, All-tail}
@@ -7,7 +7,8 @@ use Rattle.wcnf.specs.Clause.{has_repeat}
 use Rattle.lrat_log.specs.declared.lines.Name.{Name}
 use Rattle.lrat_log.specs.declared.lines.Name.TheVariants.{Formula}
 use Rattle.lrat_log.specs.Steps.{given_of}
-use Rattle.cdcl.proofs.Started.{given_on, given_next}
+use Rattle.lrat_log.proofs.GivenNumbers.{given_on}
+use Rattle.cdcl.proofs.Started.{given_next}
 use Rattle.cdcl.proofs.starting.given_clauses.Goals as goal
 
 pub new-requires : goal.new-requires

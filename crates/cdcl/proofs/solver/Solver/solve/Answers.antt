@@ -1,67 +1,78 @@
 use Rattle.std.proofs.Common.{◌≡◌, length, sym, ◌∙◌, subst}
-use Rattle.std.specs.Prelude.{All}
-use Rattle.lrat_log.specs.Steps.{IsLogOver, IsAcceptedLog, IsLearnedOrShort}
-use Rattle.cdcl.specs.Solving.{given_to, lines_since, SatisfyGiven, IsPlainlyRefuted, IsLiveRefuted}
+use Rattle.lrat_log.specs.Steps.{IsAcceptedLog}
+use Rattle.cdcl.specs.Solving.{given_to, SatisfyGiven}
 use Rattle.cdcl.specs.Running.{IsAnswer}
-use Rattle.cdcl.proofs.Answered.{written_short, given_seen, log_now, ended_log, answered_log, plain_unsat, solver_runs, solver_fails}
+use Rattle.cdcl.proofs.Answered.{given_seen, log_now, ended_log, answered_log, solver_runs, solver_fails}
+use Rattle.cdcl.proofs.Answered.{seen_log, seen_ended, seen_plain, seen_live, seen_short}
 use Rattle.cdcl.proofs.solver.Solver.solve.Goals as goal
 
 pub returns-then-self-clause-lines : goal.returns-then-self-clause-lines
 returns-then-self-clause-lines g c =
-    subst (λ s. IsLogOver (given_to s) (g.S.Sink.lines s.sink)) c.self.view_is (log_now c.self.inside.problem (g.S.Sink.lines c.self.inside.sink) c.self.invariant.problem c.self.invariant.lines)
+    seen_log g.S.Sink.lines c.self.inside.problem c.self.inside.sink c.self.inside.failed
+    c.self.invariant.problem _ c.self.view_is c.self.invariant.lines
 
 pub returns-then-self-2-clause-unsat : goal.returns-then-self-2-clause-unsat
 returns-then-self-2-clause-unsat g c =
-    subst (λ s. IsAcceptedLog (given_to s) (g.S.Sink.lines s.sink)) c.self.view_is
-    (ended_log c.self.inside.problem (g.S.Sink.lines c.self.inside.sink) c.self.invariant.problem (record { stays = c.self.invariant.lines; refuted = sym c.self.invariant.refuted_is ∙ c.if-self-2.true }))
+    seen_ended g.S.Sink.lines c.self.inside.problem c.self.inside.sink c.self.inside.failed
+    c.self.invariant.problem _ c.self.view_is
+    (record { stays = c.self.invariant.lines; refuted = sym c.self.invariant.refuted_is ∙ c.if-self-2.true })
 
 pub returns-then-self-2-clause-lines : goal.returns-then-self-2-clause-lines
 returns-then-self-2-clause-lines g c =
-    subst (λ s. IsLogOver (given_to s) (g.S.Sink.lines s.sink)) c.self.view_is (log_now c.self.inside.problem (g.S.Sink.lines c.self.inside.sink) c.self.invariant.problem c.self.invariant.lines)
+    seen_log g.S.Sink.lines c.self.inside.problem c.self.inside.sink c.self.inside.failed
+    c.self.invariant.problem _ c.self.view_is c.self.invariant.lines
 
 pub returns-in-Ok-Sat-clause-refuted : goal.returns-in-Ok-Sat-clause-refuted
 returns-in-Ok-Sat-clause-refuted g c = λ h.
-    let plain = plain_unsat c.answer.new.search c.self.inside.problem (g.S.Sink.lines c.answer.new.sink) c.answer.new.budget _ c.self.invariant.problem c.in-Ok-Sat.ensures.answers (subst IsPlainlyRefuted (sym c.self.view_is) h) in
+    let plain = seen_plain g.S.Sink.lines c.self.inside.problem c.self.inside.sink c.self.inside.failed
+    c.self.invariant.problem _ c.self.view_is
+    c.answer.new.search (g.S.Sink.lines c.answer.new.sink) c.answer.new.budget _ c.in-Ok-Sat.ensures.answers h in
     let e = sym c.in-Ok-Sat.field-0-is ∙ plain in
     absurd (cc)
 
 pub returns-in-Ok-Sat-clause-propagates : goal.returns-in-Ok-Sat-clause-propagates
 returns-in-Ok-Sat-clause-propagates g c = λ h.
-    let seen = subst (λ s. IsLiveRefuted (given_to s) (g.S.Sink.lines s.sink)) (sym c.self.view_is) h in
-    let held = subst (λ x. IsLiveRefuted x (g.S.Sink.lines c.self.inside.sink)) (given_seen c.self.inside.problem c.self.invariant.problem) seen in
+    let held = seen_live g.S.Sink.lines c.self.inside.problem c.self.inside.sink c.self.inside.failed
+    c.self.invariant.problem _ c.self.view_is h in
     let e = sym c.in-Ok-Sat.field-0-is ∙ c.in-Ok-Sat.ensures.propagates held in
     absurd (cc)
 
 pub returns-in-Ok-Sat-clause-lines : goal.returns-in-Ok-Sat-clause-lines
-returns-in-Ok-Sat-clause-lines g c = answered_log c.answer.new.search c.self.inside.problem (g.S.Sink.lines c.answer.new.sink) c.answer.new.budget _ c.self.invariant.problem c.in-Ok-Sat.ensures.answers
+returns-in-Ok-Sat-clause-lines g c =
+    answered_log c.answer.new.search c.self.inside.problem (g.S.Sink.lines c.answer.new.sink)
+    c.answer.new.budget _ c.self.invariant.problem c.in-Ok-Sat.ensures.answers
 
 pub returns-in-Ok-Sat-clause-short : goal.returns-in-Ok-Sat-clause-short
 returns-in-Ok-Sat-clause-short g c =
-    let w = c.answer.ensures.pays in
-    subst (λ s. All IsLearnedOrShort (lines_since (g.S.Sink.lines s.sink) (g.S.Sink.lines c.answer.new.sink))) c.self.view_is
-    (written_short (c.self.inside.problem.given).items (g.S.Sink.lines c.self.inside.sink) (g.S.Sink.lines c.answer.new.sink) w.0 w.1)
+    seen_short g.S.Sink.lines c.self.inside.problem c.self.inside.sink c.self.inside.failed
+    c.self.invariant.problem _ c.self.view_is
+    (g.S.Sink.lines c.answer.new.sink) c.answer.ensures.pays.0 c.answer.ensures.pays.1
 
 pub returns-in-Ok-Limit-clause-refuted : goal.returns-in-Ok-Limit-clause-refuted
 returns-in-Ok-Limit-clause-refuted g c = λ h.
-    let plain = plain_unsat c.answer.new.search c.self.inside.problem (g.S.Sink.lines c.answer.new.sink) c.answer.new.budget _ c.self.invariant.problem c.in-Ok-Limit.ensures.answers (subst IsPlainlyRefuted (sym c.self.view_is) h) in
+    let plain = seen_plain g.S.Sink.lines c.self.inside.problem c.self.inside.sink c.self.inside.failed
+    c.self.invariant.problem _ c.self.view_is
+    c.answer.new.search (g.S.Sink.lines c.answer.new.sink) c.answer.new.budget _ c.in-Ok-Limit.ensures.answers h in
     let e = sym c.in-Ok-Limit.field-0-is ∙ plain in
     absurd (cc)
 
 pub returns-in-Ok-Limit-clause-propagates : goal.returns-in-Ok-Limit-clause-propagates
 returns-in-Ok-Limit-clause-propagates g c = λ h.
-    let seen = subst (λ s. IsLiveRefuted (given_to s) (g.S.Sink.lines s.sink)) (sym c.self.view_is) h in
-    let held = subst (λ x. IsLiveRefuted x (g.S.Sink.lines c.self.inside.sink)) (given_seen c.self.inside.problem c.self.invariant.problem) seen in
+    let held = seen_live g.S.Sink.lines c.self.inside.problem c.self.inside.sink c.self.inside.failed
+    c.self.invariant.problem _ c.self.view_is h in
     let e = sym c.in-Ok-Limit.field-0-is ∙ c.in-Ok-Limit.ensures.propagates held in
     absurd (cc)
 
 pub returns-in-Ok-Limit-clause-lines : goal.returns-in-Ok-Limit-clause-lines
-returns-in-Ok-Limit-clause-lines g c = answered_log c.answer.new.search c.self.inside.problem (g.S.Sink.lines c.answer.new.sink) c.answer.new.budget _ c.self.invariant.problem c.in-Ok-Limit.ensures.answers
+returns-in-Ok-Limit-clause-lines g c =
+    answered_log c.answer.new.search c.self.inside.problem (g.S.Sink.lines c.answer.new.sink)
+    c.answer.new.budget _ c.self.invariant.problem c.in-Ok-Limit.ensures.answers
 
 pub returns-in-Ok-Limit-clause-short : goal.returns-in-Ok-Limit-clause-short
 returns-in-Ok-Limit-clause-short g c =
-    let w = c.answer.ensures.pays in
-    subst (λ s. All IsLearnedOrShort (lines_since (g.S.Sink.lines s.sink) (g.S.Sink.lines c.answer.new.sink))) c.self.view_is
-    (written_short (c.self.inside.problem.given).items (g.S.Sink.lines c.self.inside.sink) (g.S.Sink.lines c.answer.new.sink) w.0 w.1)
+    seen_short g.S.Sink.lines c.self.inside.problem c.self.inside.sink c.self.inside.failed
+    c.self.invariant.problem _ c.self.view_is
+    (g.S.Sink.lines c.answer.new.sink) c.answer.ensures.pays.0 c.answer.ensures.pays.1
 
 pub returns-in-Ok-Sat-clause-sat : goal.returns-in-Ok-Sat-clause-sat
 returns-in-Ok-Sat-clause-sat g c =
@@ -79,22 +90,24 @@ returns-in-Ok-Unsat-clause-unsat g c =
     subst (λ s. IsAcceptedLog (given_to s) ls) c.self.view_is (ended_log p ls c.self.invariant.problem a)
 
 pub returns-in-Ok-Unsat-clause-lines : goal.returns-in-Ok-Unsat-clause-lines
-returns-in-Ok-Unsat-clause-lines g c = answered_log c.answer.new.search c.self.inside.problem (g.S.Sink.lines c.answer.new.sink) c.answer.new.budget _ c.self.invariant.problem c.in-Ok-Unsat.ensures.answers
+returns-in-Ok-Unsat-clause-lines g c =
+    answered_log c.answer.new.search c.self.inside.problem (g.S.Sink.lines c.answer.new.sink)
+    c.answer.new.budget _ c.self.invariant.problem c.in-Ok-Unsat.ensures.answers
 
 pub returns-in-Ok-Unsat-clause-short : goal.returns-in-Ok-Unsat-clause-short
 returns-in-Ok-Unsat-clause-short g c =
-    let w = c.answer.ensures.pays in
-    subst (λ s. All IsLearnedOrShort (lines_since (g.S.Sink.lines s.sink) (g.S.Sink.lines c.answer.new.sink))) c.self.view_is
-    (written_short (c.self.inside.problem.given).items (g.S.Sink.lines c.self.inside.sink) (g.S.Sink.lines c.answer.new.sink) w.0 w.1)
+    seen_short g.S.Sink.lines c.self.inside.problem c.self.inside.sink c.self.inside.failed
+    c.self.invariant.problem _ c.self.view_is
+    (g.S.Sink.lines c.answer.new.sink) c.answer.ensures.pays.0 c.answer.ensures.pays.1
 
 pub returns-in-Err-clause-lines : goal.returns-in-Err-clause-lines
 returns-in-Err-clause-lines g c = log_now c.self.inside.problem (g.S.Sink.lines c.answer.new.sink) c.self.invariant.problem c.in-Err.ensures.err.stays
 
 pub returns-in-Err-clause-short : goal.returns-in-Err-clause-short
 returns-in-Err-clause-short g c =
-    let w = c.answer.ensures.pays in
-    subst (λ s. All IsLearnedOrShort (lines_since (g.S.Sink.lines s.sink) (g.S.Sink.lines c.answer.new.sink))) c.self.view_is
-    (written_short (c.self.inside.problem.given).items (g.S.Sink.lines c.self.inside.sink) (g.S.Sink.lines c.answer.new.sink) w.0 w.1)
+    seen_short g.S.Sink.lines c.self.inside.problem c.self.inside.sink c.self.inside.failed
+    c.self.invariant.problem _ c.self.view_is
+    (g.S.Sink.lines c.answer.new.sink) c.answer.ensures.pays.0 c.answer.ensures.pays.1
 
 pub invariant_of-self : goal.invariant_of-self
 invariant_of-self g c =
