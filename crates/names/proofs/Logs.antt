@@ -1,42 +1,55 @@
 -- A log grows by a line: what is live after it, and that its lines are steps.
-use Rattle.std.proofs.Common.{◌≡◌, ℕ, suc, ◌+◌, Bool, true, false, List, [], ◌∷◌, ◌++◌, map, Some, inl, refl, sym, ◌∙◌, ap, subst, arith}
+use Rattle.std.proofs.Common.{◌≡◌, ℕ, suc, ◌+◌, Bool, true, false, List, [], ◌∷◌, ◌++◌, map, Some}
+use Rattle.std.proofs.Common.{inl, refl, sym, ◌∙◌, ap, subst, arith}
 use Rattle.std.specs.Prelude.{if◌then◌else◌, nat_eq}
 use Rattle.std.specs.List.{AllByRecursion, IsDistinct}
 use Rattle.wcnf.specs.Literal.{Literal, negation}
-use Rattle.wcnf.specs.Lrat.{ProofLine, CandidateHints, Addition, Deletion, Live, Step, Chain, with_clause, without_ids}
-use Rattle.lrat_log.specs.Log.{LogLine, Given, start_over, is_delete, id_of, name_of, leading_ids, group_ids, numbered_line, numbered_on, numbered_lines}
+use Rattle.wcnf.specs.Lrat.{ProofLine, CandidateHints, Addition, Deletion, Live, Step, Chain}
+use Rattle.wcnf.specs.Lrat.{with_clause, without_ids}
+use Rattle.lrat_log.specs.Log.{LogLine, Given, start_over, is_delete, id_of, name_of, leading_ids}
+use Rattle.lrat_log.specs.Log.{group_ids, numbered_line, numbered_on, numbered_lines}
 use Rattle.names.specs.Work.{additions, IsRupLine}
 use Rattle.lrat_log.proofs.Growing.{live_after-append, chain_join, live_more, base_front}
 use Rattle.lrat_log.proofs.Growing.{refutes_covered, ids_covered}
 use Rattle.lrat_log.specs.Steps.{live_after, AreLogSteps, IsBaseOf, log_live}
 
-sums : (b : Bool) (before n : ℕ) → (if b then before else before + 1) + n ≡ before + (if b then n else suc n)
+sums : (b : Bool) (before n : ℕ)
+    → (if b then before else before + 1) + n ≡ before + (if b then n else suc n)
 sums true before n = refl
 sums false before n = omega arith
 
-pub numbered_on-append : (base before : ℕ) (ls ms : List LogLine) → numbered_on base before (ls ++ ms) ≡ numbered_on base before ls ++ numbered_on base (before + additions ls) ms
-numbered_on-append base before [] ms = ap (λ n. numbered_on base n ms) (let e : before ≡ before + 0 = omega arith in e)
+pub numbered_on-append : (base before : ℕ) (ls ms : List LogLine)
+    → numbered_on base before (ls ++ ms)
+    ≡ numbered_on base before ls ++ numbered_on base (before + additions ls) ms
+numbered_on-append base before [] ms =
+    ap (λ n. numbered_on base n ms) (let e : before ≡ before + 0 = omega arith in e)
 numbered_on-append base before (l ∷ ls) ms =
     let next : ℕ = (if is_delete l.kind then before else before + 1) in
     ap (λ x. numbered_line base before l ∷ x) (numbered_on-append base next ls ms
     ∙ ap (λ n. numbered_on base next ls ++ numbered_on base n ms) (sums (is_delete l.kind) before (additions ls)))
 
-pub numbered_lines-more : (base : ℕ) (ls : List LogLine) (l : LogLine) → numbered_lines base (ls ++ l ∷ []) ≡ numbered_lines base ls ++ numbered_line base (additions ls) l ∷ []
+pub numbered_lines-more : (base : ℕ) (ls : List LogLine) (l : LogLine)
+    → numbered_lines base (ls ++ l ∷ [])
+    ≡ numbered_lines base ls ++ numbered_line base (additions ls) l ∷ []
 numbered_lines-more base ls l = numbered_on-append base 0 ls (l ∷ [])
     ∙ ap (λ n. numbered_on base 0 ls ++ numbered_on base n (l ∷ [])) (let e : 0 + additions ls ≡ additions ls = omega arith in e)
 
 live_line : (b : Bool) (live : Live) (lead id : ℕ) (ids hints : List ℕ) (c : List Literal) (groups : List CandidateHints) (ls : List ProofLine)
-    → live_after live ((if b then Deletion lead ids else Addition id c hints groups) ∷ ls) ≡ live_after (if b then without_ids live ids else with_clause live id c) ls
+    → live_after live ((if b then Deletion lead ids else Addition id c hints groups) ∷ ls)
+    ≡ live_after (if b then without_ids live ids else with_clause live id c) ls
 live_line true live lead id ids hints c groups ls = refl
 live_line false live lead id ids hints c groups ls = refl
 
-line_last : (b : Bool) (live : Live) (base before id : ℕ) (ids : List ℕ) (c : List Literal) → live.last ≡ base + before → id ≡ base + before + 1
-    → (if b then without_ids live ids else with_clause live id c).last ≡ base + (if b then before else before + 1)
+line_last : (b : Bool) (live : Live) (base before id : ℕ) (ids : List ℕ) (c : List Literal)
+    → live.last ≡ base + before → id ≡ base + before + 1
+    → (if b then without_ids live ids else with_clause live id c).last
+    ≡ base + (if b then before else before + 1)
 line_last true live base before id ids c e f = e
 line_last false live base before id ids c e f = omega arith
 
 -- the number of additions is the distance of the last id from the base
-pub last_after : (base before : ℕ) (live : Live) (ls : List LogLine) → live.last ≡ base + before → (live_after live (numbered_on base before ls)).last ≡ base + (before + additions ls)
+pub last_after : (base before : ℕ) (live : Live) (ls : List LogLine) → live.last ≡ base + before
+    → (live_after live (numbered_on base before ls)).last ≡ base + (before + additions ls)
 last_after base before live [] e = omega (arith, e)
 last_after base before live (l ∷ ls) e =
     let next : ℕ = (if is_delete l.kind then before else before + 1) in
@@ -46,11 +59,13 @@ last_after base before live (l ∷ ls) e =
     ∙ last_after base next mid ls (line_last (is_delete l.kind) live base before (base + before + 1) ids l.clause e refl)
     ∙ ap (λ n. base + n) (sums (is_delete l.kind) before (additions ls))
 
-step_live : (old : Live) (l : ProofLine) (new : Live) → Step old l new → new ≡ live_after old (l ∷ [])
+step_live : (old : Live) (l : ProofLine) (new : Live) → Step old l new
+    → new ≡ live_after old (l ∷ [])
 step_live old (Addition id c hints groups) new s = s.2
 step_live old (Deletion lead ids) new s = s.2
 
-step_chain : (old : Live) (l : ProofLine) (new : Live) → Step old l new → Chain old (l ∷ []) (live_after old (l ∷ []))
+step_chain : (old : Live) (l : ProofLine) (new : Live) → Step old l new
+    → Chain old (l ∷ []) (live_after old (l ∷ []))
 step_chain old l new s = (new, s, sym (step_live old l new s))
 
 -- a log is longer by a line that is a step at its end, whatever the base
@@ -67,7 +82,8 @@ log_steps_more given ls l steps one base above =
     (step_chain mid (numbered_line base (additions ls) l) s.0 s.1)))
 
 -- it is a step at the end of the log, where more clauses are given
-pub rup_line_more : (given more : Given) (ls : List LogLine) (l : LogLine) → IsRupLine given ls l → AreLogSteps (given ++ more) ls → AreLogSteps (given ++ more) (ls ++ l ∷ [])
+pub rup_line_more : (given more : Given) (ls : List LogLine) (l : LogLine) → IsRupLine given ls l
+    → AreLogSteps (given ++ more) ls → AreLogSteps (given ++ more) (ls ++ l ∷ [])
 rup_line_more given more ls l r steps = log_steps_more (given ++ more) ls l steps (λ base above.
     let old : Live = live_after (start_over (given ++ more) base) (numbered_lines base ls) in
     let id : ℕ = base + additions ls + 1 in (
@@ -92,10 +108,14 @@ rup_line_more given more ls l r steps = log_steps_more (given ++ more) ls l step
 -- a line that deletes what is live
 pub record IsDeleteLine (given : Given) (ls : List LogLine) (l : LogLine) : Type 0 where
   pub deletes : is_delete l.kind ≡ true
-  pub distinct : (base : ℕ) → IsBaseOf given base → IsDistinct nat_eq (map (λ h. id_of base (name_of h)) l.hints)
-  pub live : (base : ℕ) → IsBaseOf given base → AllByRecursion (λ i. (c : List Literal) × (log_live given base ls i ≡ Some c)) (map (λ h. id_of base (name_of h)) l.hints)
+  pub distinct : (base : ℕ) → IsBaseOf given base
+      → IsDistinct nat_eq (map (λ h. id_of base (name_of h)) l.hints)
+  pub live : (base : ℕ) → IsBaseOf given base
+      → AllByRecursion (λ i. (c : List Literal) × (log_live given base ls i ≡ Some c)) (map (λ h. id_of base (name_of h)) l.hints)
 
-pub delete_line_more : (given more : Given) (ls : List LogLine) (l : LogLine) → IsDeleteLine given ls l → AreLogSteps (given ++ more) ls → AreLogSteps (given ++ more) (ls ++ l ∷ [])
+pub delete_line_more : (given more : Given) (ls : List LogLine) (l : LogLine)
+    → IsDeleteLine given ls l → AreLogSteps (given ++ more) ls
+    → AreLogSteps (given ++ more) (ls ++ l ∷ [])
 delete_line_more given more ls l r steps = log_steps_more (given ++ more) ls l steps (λ base above.
     let old : Live = live_after (start_over (given ++ more) base) (numbered_lines base ls) in
     let ids : List ℕ = map (λ h. id_of base (name_of h)) l.hints in (
@@ -109,7 +129,8 @@ delete_line_more given more ls l r steps = log_steps_more (given ++ more) ls l s
     ))
 
 -- what is live after one more line
-pub log_live-more : (given : Given) (base : ℕ) (ls : List LogLine) (l : LogLine) → log_live given base (ls ++ l ∷ [])
+pub log_live-more : (given : Given) (base : ℕ) (ls : List LogLine) (l : LogLine)
+    → log_live given base (ls ++ l ∷ [])
     ≡ (if is_delete l.kind then without_ids (live_after (start_over given base) (numbered_lines base ls)) (map (λ h. id_of base (name_of h)) l.hints)
     else with_clause (live_after (start_over given base) (numbered_lines base ls)) (base + additions ls + 1) l.clause).clause_at
 log_live-more given base ls l =
