@@ -1,6 +1,6 @@
 pub mod Walk
 pub mod Members
-pub mod Rows
+pub mod AssumedLaws
 pub mod Candidates
 pub mod Steps
 pub mod Alike

@@ -1,4 +1,4 @@
--- The literals that are assumed true: as a list, and as a table with one row for each literal.
+-- The literals that are assumed true: as a trail, and as a table of each literal's value.
 use Rattle.std.specs.Prelude.{◌≡◌, ℕ, ◌*◌, ◌<◌, ◌≤◌, ◌^◌, Bool, false, List, length, slice_index_or}
 use Rattle.std.specs.Prelude.{All}
 use Rattle.wcnf.specs.Literal.{Literal, index_of}
@@ -12,11 +12,11 @@ pub record AssumedState : Type 0 where
 abbrev pub AreWithin : ℕ → List Literal → Type 0
 AreWithin variables c = All (λ l. l.variable ≤ variables) c
 
--- the rows of the literals in the list are true, and no others
-pub record AreRows (rows : List Bool) (variables : ℕ) (trail : List Literal) : Type 0 where
-  pub long : length rows ≡ 2 * variables
+-- the literals of the trail have the value true, and no others
+pub record AreValues (values : List Bool) (variables : ℕ) (trail : List Literal) : Type 0 where
+  pub long : length values ≡ 2 * variables
   pub few : variables < 2 ^ 27
   pub within : AreWithin variables trail
   pub once : has_repeat trail ≡ false
-  pub marks : (l : Literal) → 0 < l.variable → l.variable ≤ variables
-      → slice_index_or rows (index_of l) false ≡ contains_literal l trail
+  pub value : (l : Literal) → 0 < l.variable → l.variable ≤ variables
+      → slice_index_or values (index_of l) false ≡ contains_literal l trail

@@ -11,19 +11,22 @@ use wcnf::types::Lit;
 /// The literals that are assumed true, in the order in which they were assumed.
 #[derive(Drop)]
 pub(crate) struct Assumed {
-    rows: Vec<bool>,
+    /// By a literal's index, whether it is assumed; two for each variable that may be.
+    values: Vec<bool>,
+    /// The greatest variable that may be assumed, below 2^27.
     variables: u32,
+    /// The literals in the order in which they were assumed, each once.
     trail: Vec<Lit>,
 }
 
 impl Model for Assumed {
-    ghost use Rattle.lrat_check.specs.Assumed.{AssumedState, AreRows};
+    ghost use Rattle.lrat_check.specs.Assumed.{AssumedState, AreValues};
 
     ghost Value = { AssumedState };
 
     ghost view = { λ a. record { literals = a.trail.items; variables = a.variables } };
 
-    ghost invariant = { λ a. AreRows a.rows.items a.variables a.trail.items };
+    ghost invariant = { λ a. AreValues a.values.items a.variables a.trail.items };
 }
 
 impl Assumed {
@@ -32,7 +35,7 @@ impl Assumed {
         ensures { result ≡ record { literals = []; variables = 0 } }
     {
         Assumed {
-            rows: Vec::new(alloc),
+            values: Vec::new(alloc),
             variables: 0,
             trail: Vec::new(alloc),
         }
@@ -54,7 +57,7 @@ impl Assumed {
         ensures err { OnErr result (self.new ≡ self.old) }
     {
         if self.variables < variable {
-            self.rows.resize(2 * variable as usize, false)?;
+            self.values.resize(2 * variable as usize, false)?;
             self.variables = variable;
         }
         Ok(())
@@ -65,7 +68,7 @@ impl Assumed {
         requires { lit.variable ≤ self.now.variables }
         ensures { result ≡ contains_literal lit self.now.literals }
     {
-        self.rows[lit.index()]
+        self.values[lit.index()]
     }
 
     /// Assumes one literal more.
@@ -77,7 +80,7 @@ impl Assumed {
         ensures err { OnErr result (self.new ≡ self.old) }
     {
         self.trail.push(lit)?;
-        self.rows[lit.index()] = true;
+        self.values[lit.index()] = true;
         Ok(())
     }
 
@@ -88,7 +91,7 @@ impl Assumed {
     {
         while self.trail.len() > len {
             if let Some(lit) = self.trail.pop() {
-                self.rows[lit.index()] = false;
+                self.values[lit.index()] = false;
             }
         }
     }

@@ -1,6 +1,6 @@
 use Rattle.std.proofs.Common.{◌≡◌, ◌<◌, ◌≤◌, false, ap, ◌∙◌, arith}
 use Rattle.wcnf.specs.Clause.{contains_literal}
-use Rattle.lrat_check.proofs.Rows.{AreRows-assume}
+use Rattle.lrat_check.proofs.AssumedLaws.{AreValues-assume}
 use Rattle.lrat_check.proofs.assumed.Assumed.assume.Goals as goal
 
 pub invariant_of-self-2 : goal.invariant_of-self-2
@@ -11,4 +11,4 @@ invariant_of-self-2 c =
     let variables : s.variables ≡ c.args.self.now.variables = ap (λ x. x.variables) c.self.view_is in
     let within : c.args.lit.variable ≤ s.variables = omega (arith, c.requires.within) in
     let fresh : contains_literal c.args.lit s.trail.items ≡ false = ap (contains_literal c.args.lit) literals ∙ c.requires.not_true in
-    rw (c.in_ok-push.ensures.items, c.index.ensures.index) (AreRows-assume s.rows.items s.variables s.trail.items c.args.lit c.self.invariant first within fresh)
+    rw (c.in_ok-push.ensures.items, c.index.ensures.index) (AreValues-assume s.values.items s.variables s.trail.items c.args.lit c.self.invariant first within fresh)

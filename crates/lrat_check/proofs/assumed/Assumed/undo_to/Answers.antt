@@ -1,6 +1,6 @@
 use Rattle.std.proofs.Common.{◌≡◌, ◌<◌, ◌≤◌, ◌+◌, ◌++◌, ◌∷◌, [], length, take, ap, sym, ◌∙◌, arith, length-append}
 use Rattle.std.proofs.lemmas.List.{take-append-le}
-use Rattle.lrat_check.proofs.Rows.{AreRows-undo}
+use Rattle.lrat_check.proofs.AssumedLaws.{AreValues-undo}
 use Rattle.lrat_check.proofs.assumed.Assumed.undo_to.Goals as goal
 
 pub loop-self-preserved-in-Some : goal.loop-self-preserved-in-Some
@@ -11,7 +11,7 @@ loop-self-preserved-in-Some c =
     let long : length s.trail.items ≡ length c.pop.new.self.items + 1 = ap length split ∙ length-append c.pop.new.self.items (c.in-Some.lit ∷ []) in
     let more : c.args.len ≤ length c.pop.new.self.items = omega (arith, s.trail.ok.0) in
     record {
-      table = rw c.index.ensures.index (AreRows-undo s.rows.items s.variables s.trail.items c.pop.new.self.items c.in-Some.lit c.loop-self.invariant.table split first);
+      table = rw c.index.ensures.index (AreValues-undo s.values.items s.variables s.trail.items c.pop.new.self.items c.in-Some.lit c.loop-self.invariant.table split first);
       same = c.loop-self.invariant.same;
       front = sym (take-append-le c.args.len c.pop.new.self.items (c.in-Some.lit ∷ []) more) ∙ ap (take c.args.len) (sym split) ∙ c.loop-self.invariant.front;
     }

@@ -1,10 +1,10 @@
 use Rattle.std.proofs.Common.{◌≡◌, length, take}
-use Rattle.lrat_check.specs.Assumed.{AreRows}
+use Rattle.lrat_check.specs.Assumed.{AreValues}
 use Rattle.lrat_check.proofs.assumed.Assumed.undo_to.Given as goal
 
 abbrev pub invariant-loop-self : goal.invariant-loop-self
 invariant-loop-self l = record {
-  table : AreRows l.self-inside.rows.items l.self-inside.variables l.self-inside.trail.items;
+  table : AreValues l.self-inside.values.items l.self-inside.variables l.self-inside.trail.items;
   same : l.self-inside.variables ≡ l.fn.self.variables;
   front : take l.len l.self-inside.trail.items ≡ take l.len l.fn.self.literals;
 }
