@@ -12,8 +12,8 @@ ghost use Rattle.lrat_read.specs.Form.{leading as leading_of, groups_of};
 use crate::assumed::Assumed;
 use crate::hints::{Walked, leading, walk};
 use crate::rat::rat_fault;
+use crate::state::{Base, Scratch};
 use crate::verdicts::Cause;
-use lrat_live::live::LiveClauses;
 use lrat_read::reader::LineReader;
 use lrat_read::types::SignedId;
 use std::alloc::AllocError;
@@ -42,29 +42,27 @@ pub(crate) fn assume_negations(clause: &[Lit], assumed: &mut Assumed) -> Result<
 fn hints_fault(
     clause: &[Lit],
     hints: &[SignedId],
-    live: &mut LiveClauses,
-    last: u64,
-    assumed: &mut Assumed,
-    candidates: &mut Vec<u64>,
+    base: &mut Base,
+    scratch: &mut Scratch,
 ) -> Result<Option<Cause>, AllocError>
-    requires base { IsBase assumed.old.variables last live.old }
-    requires within { AreWithin assumed.old.variables clause.now }
-    requires negated { assumed.old.literals ≡ map negation clause.now }
+    requires base { IsBase scratch.old.assumed.variables base.old.last base.old.live }
+    requires within { AreWithin scratch.old.assumed.variables clause.now }
+    requires negated { scratch.old.assumed.literals ≡ map negation clause.now }
     ensures fault { IfOk result (λ f. f
-        ≡ clause_fault (live_of last live.old) clause.now
-        (walk_of (live_of last live.old).clause_at (map negation clause.now)
+        ≡ clause_fault (live_of base.old.last base.old.live) clause.now
+        (walk_of (live_of base.old.last base.old.live).clause_at (map negation clause.now)
         (leading_of hints.now)) (groups_of hints.now)) }
-    ensures live { live.new ≡ live.old }
-    ensures variables { assumed.new.variables ≡ assumed.old.variables }
+    ensures same { base.new ≡ base.old }
+    ensures variables { scratch.new.assumed.variables ≡ scratch.old.assumed.variables }
 {
     let first = leading(hints);
-    match walk(live, assumed, first)? {
+    match walk(&base.live, &mut scratch.assumed, first)? {
         Walked::Fault(cause) => Ok(Some(cause)),
         Walked::Refuted if first.len() < hints.len() => Ok(Some(Cause::HintAfterConflict)),
         Walked::Refuted => Ok(None),
         Walked::Open => match clause.first() {
             None => Ok(Some(Cause::NoConflict)),
-            Some(pivot) => rat_fault(*pivot, hints, live, last, assumed, candidates),
+            Some(pivot) => rat_fault(*pivot, hints, base, scratch),
         },
     }
 }
@@ -72,25 +70,24 @@ fn hints_fault(
 /// The first fault of an addition, if any.
 pub(crate) fn addition_fault(
     line: &LineReader,
-    live: &mut LiveClauses,
-    last: u64,
-    assumed: &mut Assumed,
-    candidates: &mut Vec<u64>,
+    base: &mut Base,
+    scratch: &mut Scratch,
 ) -> Result<Option<Cause>, AllocError>
-    requires base { IsBase assumed.old.variables last live.old }
-    ensures fault { IfOk result (λ f. IsFaultOf (live_of last live.old) line.now f) }
-    ensures within { IfOk result (λ f. f ≡ None → AreWithin assumed.new.variables line.now.clause) }
-    ensures rising { IfOk result (λ f. f ≡ None → last < line.now.id) }
+    requires base { IsBase scratch.old.assumed.variables base.old.last base.old.live }
+    ensures fault { IfOk result (λ f. IsFaultOf (live_of base.old.last base.old.live) line.now f) }
+    ensures within { IfOk result
+        (λ f. f ≡ None → AreWithin scratch.new.assumed.variables line.now.clause) }
+    ensures rising { IfOk result (λ f. f ≡ None → base.old.last < line.now.id) }
     ensures small { IfOk result (λ f. f ≡ None → line.now.is_large ≡ false) }
-    ensures live { live.new ≡ live.old }
-    ensures more { assumed.old.variables ≤ assumed.new.variables }
+    ensures same { base.new ≡ base.old }
+    ensures more { scratch.old.assumed.variables ≤ scratch.new.assumed.variables }
 {
-    if line.id() <= last {
+    if line.id() <= base.last {
         return Ok(Some(Cause::IdOrder));
     }
-    assumed.undo_to(0);
-    if line.is_large() || !assume_negations(line.lits(), assumed)? {
+    scratch.assumed.undo_to(0);
+    if line.is_large() || !assume_negations(line.lits(), &mut scratch.assumed)? {
         return Ok(Some(Cause::ClauseForm));
     }
-    hints_fault(line.lits(), line.hints(), live, last, assumed, candidates)
+    hints_fault(line.lits(), line.hints(), base, scratch)
 }

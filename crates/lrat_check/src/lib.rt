@@ -13,6 +13,7 @@ pub mod pieces;
 mod rat;
 mod reading;
 mod result;
+mod state;
 mod streams;
 pub mod verdicts;
 mod words;

@@ -11,6 +11,7 @@ ghost use Rattle.lrat_read.specs.Reader.{IsReadAs};
 
 use crate::additions::addition_fault;
 use crate::assumed::Assumed;
+use crate::state::{Base, Scratch};
 use crate::verdicts::{Cause, Verdict};
 use lrat_live::live::LiveClauses;
 use lrat_read::reader::LineReader;
@@ -18,21 +19,6 @@ use lrat_read::types::{Form, SignedId};
 use std::alloc::AllocError;
 use std::marker::Model;
 use wcnf::types::Formula;
-
-// What the lines so far leave.
-#[derive(Drop)]
-struct Base {
-    live: LiveClauses,
-    last: u64,
-    ended: bool,
-}
-
-// What the check of a line works on. Nothing of it lasts but its memory.
-#[derive(Drop)]
-struct Scratch {
-    assumed: Assumed,
-    candidates: Vec<u64>,
-}
 
 /// Checks the lines of an LRAT certificate one after another (Cruz-Filipe et al. 2017). Between
 /// lines it is seen as the live clauses with their ids, the last id, whether the empty clause was
@@ -42,6 +28,7 @@ pub struct Machine {
     reader: LineReader,
     base: Base,
     scratch: Scratch,
+    /// How many lines were read.
     lines: u64,
 }
 
@@ -93,13 +80,7 @@ fn add(
     ensures base { IsBase scratch.new.assumed.variables base.new.last base.new.live }
     ensures err { OnErr result (base.new ≡ base.old) }
 {
-    let fault = addition_fault(
-        line,
-        &mut base.live,
-        base.last,
-        &mut scratch.assumed,
-        &mut scratch.candidates,
-    )?;
+    let fault = addition_fault(line, base, scratch)?;
     if fault.is_none() {
         base.live.add(line.id(), line.lits())?;
         base.last = line.id();

@@ -13,6 +13,7 @@ ghost use Rattle.lrat_read.specs.Form.{groups_of};
 
 use crate::assumed::Assumed;
 use crate::hints::{leading, walk};
+use crate::state::{Base, Scratch};
 use crate::verdicts::Cause;
 use lrat_live::live::LiveClauses;
 use lrat_read::types::SignedId;
@@ -122,24 +123,24 @@ fn groups_fault(
 pub(crate) fn rat_fault(
     pivot: Lit,
     hints: &[SignedId],
-    live: &mut LiveClauses,
-    last: u64,
-    assumed: &mut Assumed,
-    candidates: &mut Vec<u64>,
+    base: &mut Base,
+    scratch: &mut Scratch,
 ) -> Result<Option<Cause>, AllocError>
-    requires base { IsBase assumed.old.variables last live.old }
+    requires base { IsBase scratch.old.assumed.variables base.old.last base.old.live }
     ensures fault { IfOk result (λ f. f
         ≡ (if same_ids (map (λ g. g.candidate) (groups_of hints.now))
-        (ids_with (listed_at live.old) (negation pivot) last) then groups_fault_of
-        (listed_at live.old) pivot assumed.old.literals (groups_of hints.now)
+        (ids_with (listed_at base.old.live) (negation pivot) base.old.last) then groups_fault_of
+        (listed_at base.old.live) pivot scratch.old.assumed.literals (groups_of hints.now)
         else Some Cause.Candidates)) }
-    ensures live { live.new ≡ live.old }
-    ensures variables { assumed.new.variables ≡ assumed.old.variables }
+    ensures same { base.new ≡ base.old }
+    ensures variables { scratch.new.assumed.variables ≡ scratch.old.assumed.variables }
 {
-    candidates_of(hints, candidates)?;
-    let named_all = live.are_all_with(pivot.negation(), candidates)?;
+    candidates_of(hints, &mut scratch.candidates)?;
+    let named_all = base
+        .live
+        .are_all_with(pivot.negation(), &scratch.candidates)?;
     if !named_all {
         return Ok(Some(Cause::Candidates));
     }
-    groups_fault(hints, pivot, live, assumed)
+    groups_fault(hints, pivot, &base.live, &mut scratch.assumed)
 }

@@ -7,10 +7,10 @@ pub returns-in_ok-add-clause-base : goal.returns-in_ok-add-clause-base
 returns-in_ok-add-clause-base c =
     let s = c.args.line.now in
     let b = c.args.base.now in
-    let n = c.addition_fault.new.assumed.variables in
+    let n = c.addition_fault.new.scratch.assumed.variables in
     let fine : c.in_ok-fault.fault ≡ None = search rules in
     let live : c.add.new.self ≡ b.live ++ (s.id, s.clause) ∷ [] =
-    c.in_ok-add.ensures.ok ∙ ap (λ es. es ++ (c.id.result, c.lits.result.now) ∷ []) c.in_ok-fault.ensures.live
+    c.in_ok-add.ensures.ok ∙ ap (λ x. x.live ++ (c.id.result, c.lits.result.now) ∷ []) c.in_ok-fault.ensures.same
     ∙ ap (λ k. b.live ++ (k, c.lits.result.now) ∷ []) c.id.ensures.id ∙ ap (λ d. b.live ++ (s.id, d) ∷ []) c.lits.ensures in
     subst (λ k. IsBase n k c.add.new.self) (sym c.id-base.ensures.id)
     (subst (IsBase n s.id) (sym live)
