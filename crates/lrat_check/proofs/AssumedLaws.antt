@@ -1,12 +1,12 @@
 -- The table of the assumed literals, at each step.
 use Rattle.std.proofs.Common.{◌≡◌, ℕ, ◌+◌, ◌-◌, ◌*◌, ◌<◌, ◌≤◌, ◌^◌, Bool, true, false, List, [], ◌∷◌, ◌++◌, length, get_or, refl, sym, ◌∙◌, ap, subst, inl, inr, arith, Some}
-use Rattle.std.specs.Prelude.{◌==◌, slice_set}
+use Rattle.std.specs.Prelude.{slice_set}
 use Rattle.std.proofs.Math.Bool.{cond}
 use Rattle.std.proofs.Math.ListN.{length-set}
-use Rattle.std.proofs.lemmas.Bool.{and_from, cases_eq, cases_lt, eq-eqb, false_from_ne_true}
+use Rattle.std.proofs.lemmas.Bool.{cases_eq, cases_lt, false_from_ne_true}
 use Rattle.std.proofs.lemmas.List.{get_or-set_same, get_or-set_other}
 use Rattle.std.proofs.lemmas.List.Elements.{All-push, All-pop, All-weaker}
-use Rattle.wcnf.specs.Literal.{Literal, index_of, literal_eq, same_bool}
+use Rattle.wcnf.specs.Literal.{Literal, index_of, literal_eq}
 use Rattle.wcnf.specs.Clause.{contains_literal}
 use Rattle.wcnf.proofs.Marks.{index_same, index_below}
 use Rattle.wcnf.proofs.Sound.{literal_eq-true}

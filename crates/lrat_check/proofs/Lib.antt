@@ -14,7 +14,7 @@ pub mod Judged
 pub mod Whole
 pub mod Checked
 pub mod BitsRead
-pub mod AnswerRead
+pub mod ReportRead
 pub mod TrueResults
 pub mod BitsFaults
 pub mod Judging

@@ -12,8 +12,8 @@ use Rattle.std.proofs.lemmas.List.Elements.{All-from_recursion, recursion_from_A
 use lib.Chars.{codes}
 use Rattle.wcnf.specs.Text.{is_blank, begins_with_token, put_byte, tokens_of, token_lines, number_of}
 use Rattle.lrat_check.specs.Result.{Said, OptimumFound, Unsatisfiable, Satisfiable, Unknown, fall_to, cost_tokens, digit_of, bits_tokens, result_tokens, FallsTo, is_ignored, result_lines, Says, Report, same_bytes, status_of, cost_of, bits_on, bits_of, ended, with_bits, result_on, report_of}
-use Rattle.lrat_check.specs.declared.answer.Status.{Status}
-use Rattle.lrat_check.specs.declared.answer.Status.TheVariants.{Optimum, Unsat, Sat, Limit}
+use Rattle.lrat_check.specs.declared.report.Status.{Status}
+use Rattle.lrat_check.specs.declared.report.Status.TheVariants.{Optimum, Unsat, Sat, Limit}
 use Rattle.lrat_read.proofs.Tokens.{number_means, number_from}
 
 abbrev Line : Type 0

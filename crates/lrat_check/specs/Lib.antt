@@ -6,6 +6,6 @@ pub mod Assumed
 pub mod Steps
 pub mod Words
 pub mod Vectors
-pub mod Answer
+pub mod Report
 pub mod Pieces
 pub mod Left

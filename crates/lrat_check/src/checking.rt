@@ -1,15 +1,15 @@
 //! A result with its certificate, against the instance's text. Everything that is checked is built
 //! from that text: of the certificate, only the refutation is read.
 ghost use Rattle.std.specs.Prelude.{◌≡◌, ℕ, List, IfOk, IfSome, ◌↔◌, None};
-ghost use Rattle.lrat_check.specs.Result.{Report};
-ghost use Rattle.lrat_check.specs.Answer.{reported};
+ghost use Rattle.lrat_check.specs.Result.{Report as Reported};
+ghost use Rattle.lrat_check.specs.Report.{reported};
 ghost use Rattle.lrat_check.specs.Checks.{ChecksAs, IsTrueResult, IsTrueOf, HasCost};
 ghost use Rattle.lrat_check.specs.Verdict.{verdict_as, said_verdict, bits_fault};
 ghost use Rattle.lrat_check.specs.Left.{verdict_left, Shows};
 
-use crate::answer::{Answer, AnswerFault, Claim, Solution};
 use crate::certificate::check_owned;
-use crate::result::read_answer;
+use crate::report::{Report, ReportFault, Said, Solution};
+use crate::result::read_report;
 use crate::streams::check_stream;
 use crate::verdicts::{Cause, CheckFault, Verdict};
 use adder::cells::Profile;
@@ -139,57 +139,57 @@ fn left_of(alloc: Global, text: &[u8], answer: &[u8], profile: Profile) -> Resul
         Err(fault) if fault.kind == FaultKind::Memory => return Err(AllocError),
         Err(fault) => return Ok(Left::Nothing(Verdict::No(Cause::Text, fault.line))),
     };
-    match read_answer(alloc, answer) {
-        Ok(answer) => left_of_answer(&instance, &answer, profile),
-        Err(AnswerFault::Form(line)) => Ok(Left::Nothing(Verdict::No(Cause::ResultForm, line))),
-        Err(AnswerFault::Memory) => Err(AllocError),
+    match read_report(alloc, answer) {
+        Ok(report) => left_of_report(&instance, &report, profile),
+        Err(ReportFault::Form(line)) => Ok(Left::Nothing(Verdict::No(Cause::ResultForm, line))),
+        Err(ReportFault::Memory) => Err(AllocError),
     }
 }
 
 // What is left of what was said of an instance. The bits come first, since they cost the least to
 // check.
-fn left_of_answer(
+fn left_of_report(
     instance: &Instance,
-    answer: &Answer,
+    report: &Report,
     profile: Profile,
 ) -> Result<Left, AllocError>
     ensures verdict { IfOk result (λ left. (proof : List ℕ)
         → verdict_left left proof
-        ≡ said_verdict profile instance.now (reported answer.now) proof) }
+        ≡ said_verdict profile instance.now (reported report.now) proof) }
     ensures sound { IfOk result
-        (λ left. Shows left (IsTrueOf instance.now (reported answer.now).said)) }
+        (λ left. Shows left (IsTrueOf instance.now (reported report.now).said)) }
 {
-    match &answer.claim {
-        Claim::Optimum(solution) => match solution_fault(instance, solution) {
+    match &report.said {
+        Said::Optimum(solution) => match solution_fault(instance, solution) {
             Some(refused) => Ok(Left::Nothing(refused)),
             None => {
                 let formula = formula_as(instance, solution.cost.cost, profile)?;
                 Ok(Left::Proof(formula))
             }
         },
-        Claim::Sat(solution) => match solution_fault(instance, solution) {
+        Said::Sat(solution) => match solution_fault(instance, solution) {
             Some(refused) => Ok(Left::Nothing(refused)),
-            None => Ok(unproved(answer)),
+            None => Ok(unproved(report)),
         },
-        Claim::Unsat => {
+        Said::Unsat => {
             let formula = hard_formula(instance)?;
             Ok(Left::Proof(formula))
         }
-        Claim::Limit => Ok(unproved(answer)),
+        Said::Limit => Ok(unproved(report)),
     }
 }
 
 // A certificate shows nothing of the status.
-fn unproved(answer: &Answer) -> Left
-    ensures { result ≡ Left.Nothing (Verdict.No Cause.StatusWithoutProof answer.now.status_line) }
+fn unproved(report: &Report) -> Left
+    ensures { result ≡ Left.Nothing (Verdict.No Cause.StatusWithoutProof report.now.status_line) }
 {
-    Left::Nothing(Verdict::No(Cause::StatusWithoutProof, answer.status_line))
+    Left::Nothing(Verdict::No(Cause::StatusWithoutProof, report.status_line))
 }
 
 // The first fault of a solution: the number of its bits, a hard clause that they break, a cost that
 // they do not have.
 fn solution_fault(instance: &Instance, solution: &Solution) -> Option<Verdict>
-    ensures fault { (r : Report) → r.bits_line ≡ solution.now.bits_line
+    ensures fault { (r : Reported) → r.bits_line ≡ solution.now.bits_line
         → r.cost_line ≡ solution.now.cost.line
         → result ≡ bits_fault instance.now r solution.now.cost.cost solution.now.bits.items }
     ensures no { IfSome result (λ v. v ≡ Verdict.Yes → ⊥) }

@@ -2,7 +2,6 @@
 #![tactic(auto)]
 
 mod additions;
-mod answer;
 mod assumed;
 pub mod certificate;
 pub mod checking;
@@ -12,6 +11,7 @@ mod machine;
 pub mod pieces;
 mod rat;
 mod reading;
+mod report;
 mod result;
 mod state;
 mod streams;

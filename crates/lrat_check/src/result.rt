@@ -6,31 +6,31 @@ ghost use Rattle.wcnf.specs.Text.{tokens_of};
 ghost use Rattle.lrat_check.specs.Result.{same_bytes, bits_on, cost_of, status_of, bits_of};
 ghost use Rattle.lrat_check.specs.Result.{is_ignored};
 ghost use Rattle.lrat_check.specs.Words.{HasWords};
-ghost use Rattle.lrat_check.specs.Answer.{IsNextStage, IsReadAnswer, falls_below, reported};
-ghost use Rattle.lrat_check.specs.Answer.{found_report};
+ghost use Rattle.lrat_check.specs.Report.{IsNextStage, IsReadReport, falls_below, reported};
+ghost use Rattle.lrat_check.specs.Report.{report_with};
 
-use crate::answer::{Answer, AnswerFault, Claim, Cost, Found, Solution, Stage, Status};
+use crate::report::{Cost, Heading, Report, ReportFault, Said, Solution, Stage, Status};
 use crate::words::{Words, words_of};
 use std::alloc::{AllocError, Global};
 use wcnf::limits::NUMBER_LIMIT;
 use wcnf::text::{lines, number};
 
 /// What the result text says, or its first line that cannot stand there.
-pub(crate) fn read_answer(alloc: Global, text: &[u8]) -> Result<Answer, AnswerFault>
-    ensures { IsReadAnswer text.now result }
+pub(crate) fn read_report(alloc: Global, text: &[u8]) -> Result<Report, ReportFault>
+    ensures { IsReadReport text.now result }
 {
     let mut stage = Stage::Costs(None);
     for (number, line) in lines(text) {
         stage = stage_after(alloc, stage, number, line)?;
     }
     match stage {
-        Stage::End(answer) => Ok(answer),
-        _ => Err(AnswerFault::Form(0)),
+        Stage::End(report) => Ok(report),
+        _ => Err(ReportFault::Form(0)),
     }
 }
 
 // One line on. A line without tokens and a comment change nothing, wherever they stand.
-fn stage_after(alloc: Global, stage: Stage, number: u64, line: &[u8]) -> Result<Stage, AnswerFault>
+fn stage_after(alloc: Global, stage: Stage, number: u64, line: &[u8]) -> Result<Stage, ReportFault>
     ensures { IsNextStage stage number (tokens_of line.now) result }
 {
     let words = words_of(line);
@@ -39,79 +39,79 @@ fn stage_after(alloc: Global, stage: Stage, number: u64, line: &[u8]) -> Result<
     }
     match stage {
         Stage::Costs(last) => after_costs(last, number, words),
-        Stage::Bits(found) => after_status(alloc, found, number, words),
-        Stage::End(_) => Err(AnswerFault::Form(number)),
+        Stage::Bits(heading) => after_status(alloc, heading, number, words),
+        Stage::End(_) => Err(ReportFault::Form(number)),
     }
 }
 
 // After the costs so far, on a line that is not ignored: a cost or the status.
-fn after_costs(last: Option<Cost>, line: u64, words: Words<'_>) -> Result<Stage, AnswerFault>
+fn after_costs(last: Option<Cost>, line: u64, words: Words<'_>) -> Result<Stage, ReportFault>
     ensures next { (ts : List (List ℕ)) → HasWords ts words.entry → is_ignored ts ≡ false
         → IsNextStage (Stage.Costs last) line ts result }
-    ensures form { IfErr result (λ f. f ≡ AnswerFault.Form line) }
+    ensures form { IfErr result (λ f. f ≡ ReportFault.Form line) }
 {
     if let Some(cost) = cost_in(words) {
         return if falls(last, cost) {
             Ok(Stage::Costs(Some(Cost { cost, line })))
         } else {
-            Err(AnswerFault::Form(line))
+            Err(ReportFault::Form(line))
         };
     }
     match (status_in(words), last) {
-        (Some(Status::Unsat), None) => Ok(Stage::End(Answer {
-            claim: Claim::Unsat,
+        (Some(Status::Unsat), None) => Ok(Stage::End(Report {
+            said: Said::Unsat,
             status_line: line,
         })),
-        (Some(Status::Limit), None) => Ok(Stage::End(Answer {
-            claim: Claim::Limit,
+        (Some(Status::Limit), None) => Ok(Stage::End(Report {
+            said: Said::Limit,
             status_line: line,
         })),
-        (Some(Status::Optimum), Some(cost)) => Ok(Stage::Bits(Found {
+        (Some(Status::Optimum), Some(cost)) => Ok(Stage::Bits(Heading {
             is_optimum: true,
             cost,
             status_line: line,
         })),
-        (Some(Status::Sat), Some(cost)) => Ok(Stage::Bits(Found {
+        (Some(Status::Sat), Some(cost)) => Ok(Stage::Bits(Heading {
             is_optimum: false,
             cost,
             status_line: line,
         })),
-        _ => Err(AnswerFault::Form(line)),
+        _ => Err(ReportFault::Form(line)),
     }
 }
 
 // After the status, on a line that is not ignored: the bits.
 fn after_status(
     alloc: Global,
-    found: Found,
+    heading: Heading,
     line: u64,
     words: Words<'_>,
-) -> Result<Stage, AnswerFault>
+) -> Result<Stage, ReportFault>
     ensures { (ts : List (List ℕ)) → HasWords ts words.entry → is_ignored ts ≡ false
-        → IsNextStage (Stage.Bits found) line ts result }
+        → IsNextStage (Stage.Bits heading) line ts result }
 {
     match bits_in(alloc, words) {
-        Err(_) => Err(AnswerFault::Memory),
-        Ok(None) => Err(AnswerFault::Form(line)),
-        Ok(Some(bits)) => Ok(Stage::End(answer_of(found, bits, line))),
+        Err(_) => Err(ReportFault::Memory),
+        Ok(None) => Err(ReportFault::Form(line)),
+        Ok(Some(bits)) => Ok(Stage::End(report_with(heading, bits, line))),
     }
 }
 
-fn answer_of(found: Found, bits: Vec<bool>, bits_line: u64) -> Answer
-    ensures { reported result ≡ found_report found bits.items bits_line }
+fn report_with(heading: Heading, bits: Vec<bool>, bits_line: u64) -> Report
+    ensures { reported result ≡ report_with heading bits.items bits_line }
 {
     let solution = Solution {
-        cost: found.cost,
+        cost: heading.cost,
         bits,
         bits_line,
     };
-    Answer {
-        claim: if found.is_optimum {
-            Claim::Optimum(solution)
+    Report {
+        said: if heading.is_optimum {
+            Said::Optimum(solution)
         } else {
-            Claim::Sat(solution)
+            Said::Sat(solution)
         },
-        status_line: found.status_line,
+        status_line: heading.status_line,
     }
 }
 

@@ -2,13 +2,13 @@
 use Rattle.std.proofs.Common.{◌≡◌, ℕ, ◌+◌, List, [], ◌∷◌, map, Ok, Err, refl, sym, ◌∙◌, ap}
 use Rattle.std.specs.List.{enumerate_from}
 use Rattle.wcnf.specs.Text.{tokens_of}
-use Rattle.lrat_check.specs.declared.answer.Answer.{Answer}
-use Rattle.lrat_check.specs.declared.answer.AnswerFault.{AnswerFault}
-use Rattle.lrat_check.specs.declared.answer.AnswerFault.TheVariants.{Form, Memory}
-use Rattle.lrat_check.specs.declared.answer.Stage.{Stage}
-use Rattle.lrat_check.specs.declared.answer.Stage.TheVariants.{Costs, Bits, End}
+use Rattle.lrat_check.specs.declared.report.Report.{Report as ReadReport}
+use Rattle.lrat_check.specs.declared.report.ReportFault.{ReportFault}
+use Rattle.lrat_check.specs.declared.report.ReportFault.TheVariants.{Form, Memory}
+use Rattle.lrat_check.specs.declared.report.Stage.{Stage}
+use Rattle.lrat_check.specs.declared.report.Stage.TheVariants.{Costs, Bits, End}
 use Rattle.lrat_check.specs.Result.{report_of}
-use Rattle.lrat_check.specs.Answer.{reported, resumed, IsNextStage, GoesOn, IsReadAnswer}
+use Rattle.lrat_check.specs.Report.{reported, resumed, IsNextStage, GoesOn, IsReadReport}
 
 record Next (text : List ℕ) (stage : Stage) (number : ℕ) (line : List ℕ) (rest : List (ℕ × List ℕ)) : Type 0 where
   pub others : List (List ℕ)
@@ -38,7 +38,7 @@ goes_on text stage left g number line rest e next s =
     record { number = number + 1; lines = n.others; numbered = n.numbered; report = n.report ∙ s (map tokens_of n.others) }
 
 pub stops : (text : List ℕ) (stage : Stage) (left : List (ℕ × List ℕ)) → GoesOn text stage left → (number : ℕ) (line : List ℕ) (rest : List (ℕ × List ℕ)) → left ≡ (number, line) ∷ rest
-    → (f : AnswerFault) → IsNextStage stage number (tokens_of line) (Err f) → IsReadAnswer text (Err f)
+    → (f : ReportFault) → IsNextStage stage number (tokens_of line) (Err f) → IsReadReport text (Err f)
 stops text stage left g number line rest e (Form m) s =
     let n = next_of text stage left g number line rest e in
     n.report ∙ s (map tokens_of n.others)
@@ -48,10 +48,10 @@ ends_at : (text : List ℕ) (stage : Stage) (n : ℕ) (ls : List (List ℕ)) →
 ends_at text stage n [] e r = r
 ends_at text stage n (l ∷ ls) e r = absurd (cc)
 
-pub ended_at : (text : List ℕ) (stage : Stage) (left : List (ℕ × List ℕ)) → GoesOn text stage left → left ≡ [] → (answer : Answer) → stage ≡ End answer → report_of text ≡ Ok (reported answer)
-ended_at text stage left g e answer is = ends_at text stage g.number g.lines (sym g.numbered ∙ e) g.report ∙ ap (λ s. resumed s g.number []) is
+pub ended_at : (text : List ℕ) (stage : Stage) (left : List (ℕ × List ℕ)) → GoesOn text stage left → left ≡ [] → (report : ReadReport) → stage ≡ End report → report_of text ≡ Ok (reported report)
+ended_at text stage left g e report is = ends_at text stage g.number g.lines (sym g.numbered ∙ e) g.report ∙ ap (λ s. resumed s g.number []) is
 
-pub unended_at : (text : List ℕ) (stage : Stage) (left : List (ℕ × List ℕ)) → GoesOn text stage left → left ≡ [] → ((answer : Answer) → stage ≡ End answer → ⊥) → report_of text ≡ Err 0
+pub unended_at : (text : List ℕ) (stage : Stage) (left : List (ℕ × List ℕ)) → GoesOn text stage left → left ≡ [] → ((report : ReadReport) → stage ≡ End report → ⊥) → report_of text ≡ Err 0
 unended_at text (Costs last) left g e n = ends_at text (Costs last) g.number g.lines (sym g.numbered ∙ e) g.report
-unended_at text (Bits found) left g e n = ends_at text (Bits found) g.number g.lines (sym g.numbered ∙ e) g.report
-unended_at text (End answer) left g e n = absurd (n answer refl)
+unended_at text (Bits heading) left g e n = ends_at text (Bits heading) g.number g.lines (sym g.numbered ∙ e) g.report
+unended_at text (End report) left g e n = absurd (n report refl)

@@ -1,4 +1,5 @@
-//! What a result says, and how far it was read.
+//! A result as it is read. The result itself is a text, which `checking` calls the answer, since in a
+//! contract `result` is what a function returns.
 ghost use Rattle.std.specs.Prelude.{◌<◌, ◌^◌};
 
 /// What an `s` line says.
@@ -30,25 +31,25 @@ pub(crate) struct Solution {
     pub(crate) bits_line: u64,
 }
 
-/// What a result says: its status, with the solution where that has one.
+/// What a result says, with the lines of its solution where it has one.
 #[derive(Drop)]
-pub(crate) enum Claim {
+pub(crate) enum Said {
     Optimum(Solution),
     Unsat,
     Sat(Solution),
     Limit,
 }
 
-/// A result, with the line of its status.
+/// A whole result as it was read: what it says, with the lines that a verdict names.
 #[derive(Drop)]
-pub(crate) struct Answer {
-    pub(crate) claim: Claim,
+pub(crate) struct Report {
+    pub(crate) said: Said,
     pub(crate) status_line: u64,
 }
 
-/// A status that has bits: of an optimum, or of another solution.
+/// What stands before the bits: the last cost, and the status of an optimum or of another solution.
 #[derive(Clone, Copy)]
-pub(crate) struct Found {
+pub(crate) struct Heading {
     pub(crate) is_optimum: bool,
     pub(crate) cost: Cost,
     pub(crate) status_line: u64,
@@ -60,14 +61,14 @@ pub(crate) enum Stage {
     /// `o` lines, of which the last is kept.
     Costs(Option<Cost>),
     /// The status was read, and the bits must come.
-    Bits(Found),
+    Bits(Heading),
     /// Nothing more may come.
-    End(Answer),
+    End(Report),
 }
 
 /// Why a text is no result.
 #[derive(Clone, Copy, Debug, PartialEq, Eq, Drop)]
-pub(crate) enum AnswerFault {
+pub(crate) enum ReportFault {
     /// The first line that cannot stand there, or 0 where the text ends too soon.
     Form(u64),
     Memory,

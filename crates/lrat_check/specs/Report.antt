@@ -3,22 +3,22 @@ use Rattle.std.specs.Prelude.{◌≡◌, ℕ, ◌+◌, Bool, true, List, ◌∷�
 use Rattle.std.specs.Prelude.{Result as Outcome, Ok, Err, nat_lt, if◌then◌else◌, ⊤}
 use Rattle.std.specs.List.{enumerate_from}
 use Rattle.wcnf.specs.Text.{tokens_of}
-use Rattle.lrat_check.specs.declared.answer.Cost.{Cost}
-use Rattle.lrat_check.specs.declared.answer.Claim.{Claim}
-use Rattle.lrat_check.specs.declared.answer.Claim.TheVariants.{Optimum, Unsat, Sat, Limit}
-use Rattle.lrat_check.specs.declared.answer.Answer.{Answer}
-use Rattle.lrat_check.specs.declared.answer.Found.{Found}
-use Rattle.lrat_check.specs.declared.answer.Stage.{Stage}
-use Rattle.lrat_check.specs.declared.answer.Stage.TheVariants.{Costs, Bits, End}
-use Rattle.lrat_check.specs.declared.answer.AnswerFault.{AnswerFault}
-use Rattle.lrat_check.specs.declared.answer.AnswerFault.TheVariants.{Form, Memory}
+use Rattle.lrat_check.specs.declared.report.Cost.{Cost}
+use Rattle.lrat_check.specs.declared.report.Said.{Said}
+use Rattle.lrat_check.specs.declared.report.Said.TheVariants.{Optimum, Unsat, Sat, Limit}
+use Rattle.lrat_check.specs.declared.report.Report.{Report as ReadReport}
+use Rattle.lrat_check.specs.declared.report.Heading.{Heading}
+use Rattle.lrat_check.specs.declared.report.Stage.{Stage}
+use Rattle.lrat_check.specs.declared.report.Stage.TheVariants.{Costs, Bits, End}
+use Rattle.lrat_check.specs.declared.report.ReportFault.{ReportFault}
+use Rattle.lrat_check.specs.declared.report.ReportFault.TheVariants.{Form, Memory}
 use Rattle.lrat_check.specs.Result.{OptimumFound, Unsatisfiable, Satisfiable, Unknown, Report}
 use Rattle.lrat_check.specs.Result.{ended, with_bits, result_on, report_of}
 
-abbrev pub reported : Answer → Report
-reported a = by a.claim
+abbrev pub reported : ReadReport → Report
+reported a = by a.said
   where
-    by : Claim → Report
+    by : Said → Report
     by (Optimum s) =
         record {
           said = OptimumFound s.cost.cost s.bits.items;
@@ -38,8 +38,8 @@ reported a = by a.claim
     by Limit = record { said = Unknown; cost_line = 0; status_line = a.status_line; bits_line = 0 }
 
 -- the report of a status with these bits on this line
-abbrev pub found_report : Found → List Bool → ℕ → Report
-found_report f bits line = record {
+abbrev pub report_with : Heading → List Bool → ℕ → Report
+report_with f bits line = record {
   said = if f.is_optimum then OptimumFound f.cost.cost bits else Satisfiable f.cost.cost bits;
   cost_line = f.cost.line;
   status_line = f.status_line;
@@ -57,11 +57,11 @@ falls_below (Some d) c = nat_lt c d.cost
 -- the report where these lines still come, each as its tokens
 abbrev pub resumed : Stage → ℕ → List (List (List ℕ)) → Outcome Report ℕ
 resumed (Costs last) n ls = result_on (last_of last) n ls
-resumed (Bits found) n ls = with_bits n (found_report found) ls
-resumed (End answer) n ls = ended n (reported answer) ls
+resumed (Bits heading) n ls = with_bits n (report_with heading) ls
+resumed (End report) n ls = ended n (reported report) ls
 
 -- one line on
-abbrev pub IsNextStage : Stage → ℕ → List (List ℕ) → Outcome Stage AnswerFault → Type 0
+abbrev pub IsNextStage : Stage → ℕ → List (List ℕ) → Outcome Stage ReportFault → Type 0
 IsNextStage stage n ts (Ok next) =
     (ls : List (List (List ℕ))) → resumed stage n (ts ∷ ls) ≡ resumed next (n + 1) ls
 IsNextStage stage n ts (Err (Form m)) =
@@ -75,7 +75,7 @@ pub record GoesOn (text : List ℕ) (stage : Stage) (left : List (ℕ × List �
   pub numbered : left ≡ enumerate_from number lines
   pub report : report_of text ≡ resumed stage number (map tokens_of lines)
 
-abbrev pub IsReadAnswer : List ℕ → Outcome Answer AnswerFault → Type 0
-IsReadAnswer text (Ok a) = report_of text ≡ Ok (reported a)
-IsReadAnswer text (Err (Form n)) = report_of text ≡ Err n
-IsReadAnswer text (Err Memory) = ⊤
+abbrev pub IsReadReport : List ℕ → Outcome ReadReport ReportFault → Type 0
+IsReadReport text (Ok a) = report_of text ≡ Ok (reported a)
+IsReadReport text (Err (Form n)) = report_of text ≡ Err n
+IsReadReport text (Err Memory) = ⊤
