@@ -64,7 +64,7 @@ adding_line kind c hints variables adds few w names = record {
 -- the parts by variable
 pub room_placed : (s n : Search) (name : Name) (c : List Literal) → HasRoom s → Places s n name c → HasRoom n
 room_placed s n name c r w = record {
-  order = w.order ∙ r.order ∙ sym w.variables;
+  order = ap (λ o. o.variables) w.order ∙ r.order ∙ sym w.variables;
   analyzer = subst (λ k. k < n.analyzer) (sym w.variables) (subst (λ k. (s.engine).variables < k) (sym w.analyzer) r.analyzer);
   few = subst (λ k. k < 2 ^ 27) (sym w.variables) r.few;
   stamps = ap (λ v. length v.items) w.stamps ∙ r.stamps ∙ sym w.variables;

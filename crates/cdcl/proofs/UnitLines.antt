@@ -176,7 +176,7 @@ runs_noted m n u p ls hints k v r run room past flat left at adds w more few vis
           (d.units ∙ ap (λ x. set x v (Some r)) (ap (λ x. x.items) w.units) ∙ (λ i. set (m.units).items (vis i) (Some (ris i)))) (d.noted ∙ ap (λ x. x + 1) w.noted) (d.kept ∙ w.kept) (d.additions ∙ more))
           ran;
       room = record {
-        order = d.order ∙ placed.order ∙ sym (ap (λ x. x.variables) d.engine);
+        order = ap (λ x. x.variables) d.order ∙ placed.order ∙ sym (ap (λ x. x.variables) d.engine);
         analyzer = subst (λ x. x.variables < u.analyzer) (sym d.engine) (subst (λ x. (n.engine).variables < x) (sym d.analyzer) placed.analyzer);
         few = subst (λ x. x.variables < 2 ^ 27) (sym d.engine) placed.few;
         stamps = ap (λ x. length x.items) d.stamps ∙ placed.stamps ∙ sym (ap (λ x. x.variables) d.engine);

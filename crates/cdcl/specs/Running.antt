@@ -37,7 +37,7 @@ tables_of s = record {
 
 -- the parts that go by variable have a place for each
 pub record HasRoom (s : Search) : Type 0 where
-  pub order : s.order ≡ (s.engine).variables
+  pub order : (s.order).variables ≡ (s.engine).variables
   pub analyzer : (s.engine).variables < s.analyzer
   pub few : (s.engine).variables < 2 ^ 27
   pub stamps : length (s.stamps).items ≡ (s.engine).variables

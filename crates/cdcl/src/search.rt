@@ -4,7 +4,7 @@ ghost use Rattle.std.specs.Prelude.{length, All, IfOk, OnOk, IfSome, IfNone};
 ghost use Rattle.propagate.specs.Trail.{literals_of, depth_of, kept_to};
 ghost use Rattle.propagate.specs.Fits.{GrowsByUnits, IsFalseClause};
 ghost use Rattle.analyze.specs.Learning.{IsQuiet};
-ghost use Rattle.cdcl_order.specs.Orders.{IsOpenVariable, AreClosed};
+ghost use Rattle.cdcl_order.specs.Orders.{IsOpenVariable, AreClosed, tried_literal};
 ghost use Rattle.cdcl.specs.Invariant.{zero_of};
 ghost use Rattle.cdcl.specs.Running.{HasRoom, IsReady, KeepsRunning};
 ghost use Rattle.cdcl.specs.Moves.{KeepsState};
@@ -124,7 +124,7 @@ impl Search {
         }
     }
 
-    /// Opens a level with the variable.
+    /// Opens a level with the variable, at the value that is to be tried first.
     pub(crate) fn decide(&mut self, variable: u32)
         requires ready { IsReady self.old }
         requires open { IsOpenVariable self.old.engine.trail self.old.engine.variables variable }
@@ -132,6 +132,10 @@ impl Search {
         requires noted { length (zero_of self.old.engine.trail) ≤ self.old.noted }
         ensures runs { KeepsRunning self.old self.new }
         ensures ready { IsReady self.new }
+        ensures trail { self.new.engine.trail ≡ self.old.engine.trail ++ record {
+          literal = tried_literal self.old.order variable;
+          reason = None;
+        } ∷ [] }
         ensures longer { length self.new.engine.trail ≡ length self.old.engine.trail + 1 }
         ensures same { self.new ≡ record self.old { engine = self.new.engine } }
     {
@@ -142,9 +146,9 @@ impl Search {
 
 /// The variables above this level may be decided again, with the value that they have now first.
 fn put_back(order: &mut Order, engine: &Engine, level: u32)
-    requires room { order.old ≡ engine.now.variables }
-    requires within { All (λ l. l.variable ≤ order.old) (literals_of engine.now.trail) }
-    ensures { order.new ≡ order.old }
+    requires room { order.old.variables ≡ engine.now.variables }
+    requires within { All (λ l. l.variable ≤ order.old.variables) (literals_of engine.now.trail) }
+    ensures { order.new ≡ record order.old { phases = order.new.phases } }
 {
     let trail = engine.trail();
     let mut place = trail.len();

@@ -1,4 +1,4 @@
-use Rattle.std.proofs.Common.{◌≤◌, sym, subst}
+use Rattle.std.proofs.Common.{◌≤◌, sym, ap, subst}
 use Rattle.std.specs.Prelude.{All}
 use Rattle.wcnf.specs.Literal.{Literal}
 use Rattle.propagate.specs.Trail.{literals_of}
@@ -24,12 +24,12 @@ pub returns-clause-runs : goal.returns-clause-runs
 returns-clause-runs c p ls r =
     let s = c.args.self.now in
     let b = c.backtrack.ensures in
-    runs_moved s c.backtrack.new.self c.put_back.new.order p ls r b.same.0 c.put_back.ensures
+    runs_moved s c.backtrack.new.self c.put_back.new.order p ls r b.same.0 (ap (λ o. o.variables) c.put_back.ensures)
     (run_backtrack s.engine c.backtrack.new.self s.store.slots p.stack (tables_of s) p.frozen.items p.first p.given.items ls c.args.level r.running c.requires.level b.trail b.attached b.same (b.fits s.store.slots c.requires.ready.searches.fits))
 
 pub returns-clause-ready : goal.returns-clause-ready
 returns-clause-ready c =
     let s = c.args.self.now in
     let b = c.backtrack.ensures in
-    ready_moved s c.backtrack.new.self c.put_back.new.order c.requires.ready b.same.0 c.put_back.ensures
+    ready_moved s c.backtrack.new.self c.put_back.new.order c.requires.ready b.same.0 (ap (λ o. o.variables) c.put_back.ensures)
     (searches_backtrack s.store.slots s.engine c.backtrack.new.self c.args.level c.requires.ready.searches c.requires.level b.trail b.attached b.same.1 (b.fits s.store.slots c.requires.ready.searches.fits))

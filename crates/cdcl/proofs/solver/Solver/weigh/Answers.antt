@@ -1,8 +1,17 @@
--- The order is seen as the number of its variables, which stays.
-use Rattle.std.proofs.Common.{sym, subst}
-use Rattle.cdcl.specs.Running.{IsSolver}
+-- Of the order a solver knows the number of its variables, which stays.
+use Rattle.std.proofs.Common.{◌≡◌, refl, rules}
+use Rattle.cdcl.proofs.EngineMoves.{runs_moved}
 use Rattle.cdcl.proofs.solver.Solver.weigh.Goals as goal
 
 pub invariant_of-self : goal.invariant_of-self
 invariant_of-self g c =
-    subst (λ o. IsSolver (record c.self.inside.search { order = o }) c.self.inside.problem (g.S.Sink.lines c.self.inside.sink) c.self.inside.refuted c.self.inside.failed) (sym c.weigh.ensures) c.self.invariant
+    let s = c.self.inside.search in
+    let many : c.weigh.new.self.variables ≡ s.order.variables = search rules in
+    record {
+      problem = c.self.invariant.problem;
+      lines = c.self.invariant.lines;
+      refuted_is = c.self.invariant.refuted_is;
+      running = λ works goes.
+          let r = c.self.invariant.running works goes in
+          runs_moved s s.engine c.weigh.new.self c.self.inside.problem (g.S.Sink.lines c.self.inside.sink) r refl many r.running;
+    }
