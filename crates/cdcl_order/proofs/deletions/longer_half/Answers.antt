@@ -1,11 +1,15 @@
-use Rattle.std.proofs.Common.{rules}
+use Rattle.std.proofs.Common.{◌≡◌, ◌/◌, length, take, rules}
+use Rattle.std.proofs.lemmas.Fn.{always_returns_same}
 use Rattle.cdcl_order.specs.Deletions.{is_longer}
 use Rattle.cdcl_order.proofs.LongerHalf.{is_longer_half, longer_orders}
-use Rattle.std.proofs.lemmas.Fn.{always_returns_same}
 use Rattle.cdcl_order.proofs.deletions.longer_half.Goals as goal
 
 pub returns-clause-half : goal.returns-clause-half
 returns-clause-half c =
+    let all = c.sort_by.ensures in
+    let sorted = c.sort_by.new.self.items in
     let by = always_returns_same _ _ _ (λ a r f' k. search rules) in
-    let s = c.in_ok-sort_by.ensures in
-    is_longer_half _ c.sort_by.new.self.items _ c.sort_by.ensures.permutation (s.sorted is_longer longer_orders by) (c.sort_by.ensures.stable is_longer longer_orders by) (search rules)
+    let first : c.truncate.new.self.items ≡ take (length sorted / 2) sorted = search rules in
+    is_longer_half c.args.clauses.now.items sorted c.truncate.new.self.items all.permutation
+    (c.in_ok-sort_by.ensures.sorted is_longer longer_orders by)
+    (all.stable is_longer longer_orders by) first
