@@ -30,11 +30,12 @@ pub(crate) struct Search {
     pub(crate) units: Vec<MaybeCRef>,
     /// How many literals of level 0 have such a clause: the first ones of the trail.
     pub(crate) noted: usize,
-    /// How many additions elimination made. Their clauses are never deleted, nor are those given.
+    /// How many additions elimination made, at most `additions`. Their clauses are never deleted, nor are those given.
     pub(crate) kept: u64,
-    /// How many additions the log has.
+    /// How many additions the log has, below 2^61.
     pub(crate) additions: u64,
-    /// For each variable, the number of the last addition that has its unit clause among the hints.
+    /// For each variable, the number of the last addition that has its unit clause among the hints,
+    /// at most `additions`; 0 where none has.
     pub(crate) stamps: Vec<u64>,
     /// The order of decisions.
     pub(crate) order: Order,

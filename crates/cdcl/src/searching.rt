@@ -1,6 +1,7 @@
-// The loop of a search: propagate, then learn from a conflict or decide. It starts over less and
-// less often, and only after a clause was learned since it last did; so a search is bounded by its
-// budget and the variables without a value.
+// The loop of a search (Handbook of Satisfiability, chapter on conflict-driven clause learning):
+// propagate, then learn from a conflict or decide. It starts over less and less often, and only
+// after a clause was learned since it last did; so a search is bounded by its budget and the
+// variables without a value.
 ghost use Rattle.std.specs.Prelude.{◌≡◌, ◌≤◌, length, IfOk, OnOk, OnErr, IfSome, IfNone};
 ghost use Rattle.propagate.specs.Trail.{literals_of, depth_of};
 ghost use Rattle.propagate.specs.Fits.{IsFalseClause};
@@ -37,8 +38,9 @@ const RESTART: u64 = 100;
 /// When a search starts over.
 #[derive(Clone, Copy, Drop)]
 struct Pace {
+    // Where the sequence stands: its term, in hundreds of conflicts, is when it does next.
     powers: Powers,
-    // Since it last did.
+    // Conflicts since it last did.
     conflicts: u64,
 }
 

@@ -32,12 +32,15 @@ use wcnf::types::{Clause, Formula, Lit};
 /// Decides clauses, and writes down why.
 #[derive(Drop)]
 pub struct Solver<S: Sink> {
+    // What it works on; after `refuted` or `failed` it is not used.
     search: Search,
+    // What it was given.
     problem: Problem,
+    // What its lines go to.
     sink: S,
-    /// The empty clause was added.
+    // The empty clause was added.
     refuted: bool,
-    /// Memory was refused.
+    // Memory was refused.
     failed: bool,
 }
 
@@ -63,7 +66,12 @@ impl<S: Sink> Model for Solver<S> {
 }
 
 impl<S: Sink> Solver<S> {
-    /// A solver for the formula. Clauses that come later have frozen variables alone.
+    /// A solver for the formula, whose variables may be eliminated but for the frozen ones, by
+    /// variable from 1. Clauses that come later have frozen variables alone.
+    ///
+    /// # Errors
+    ///
+    /// Where memory was refused.
     pub fn new(formula: &Formula, frozen: &[bool], sink: S) -> Result<Self, AllocError>
         requires frozen { length frozen.now ≡ formula.now.variables }
         requires empty { S.lines sink ≡ [] }
@@ -109,19 +117,25 @@ impl<S: Sink> Solver<S> {
         &self.problem.given
     }
 
+    /// The lines written so far.
     pub fn sink(&self) -> &S
         ensures { result.now ≡ self.now.sink }
     {
         &self.sink
     }
 
+    /// The lines, once the solver is done with.
     pub fn into_sink(self) -> S
         ensures { result ≡ self.sink }
     {
         self.sink
     }
 
-    /// Gives one more clause.
+    /// Gives one more clause, under a name that none has.
+    ///
+    /// # Errors
+    ///
+    /// `Memory` where memory was refused: the clause may have been given. `Failed` after that.
     pub fn add_clause(&mut self, name: Name, lits: &[Lit]) -> Result<(), SolveFault>
         requires fresh { IsFreshName (given_to self.old) name }
         requires frozen { All (IsFrozen self.old.frozen) lits.now }
@@ -174,7 +188,12 @@ impl<S: Sink> Solver<S> {
         self.search.order.weigh(lit.variable(), weight);
     }
 
-    /// Searches until it has an answer or the budget is spent.
+    /// Searches until it has an answer or the budget is spent. Each call begins at level 0, with
+    /// what was learned before.
+    ///
+    /// # Errors
+    ///
+    /// `Memory` where memory was refused: the lines are steps also then. `Failed` after that.
     pub fn solve(&mut self, budget: &mut Budget) -> Result<Outcome, SolveFault>
         ensures sat { OnSat result (λ bits. (length bits ≡ self.old.formula.variables)
             × SatisfyGiven bits (given_to self.old)) }

@@ -11,8 +11,11 @@ use std::alloc::AllocError;
 /// and whether the empty clause was one of them.
 #[derive(Drop)]
 pub(crate) struct Tally<S: Sink> {
+    /// What the lines go to.
     pub(crate) sink: S,
+    /// How many additions it took, below 2^61.
     pub(crate) additions: u64,
+    /// The empty clause was one of them.
     pub(crate) refuted: bool,
     ghost counted: { additions ≡ added_count (S.lines sink) },
     ghost told: { refuted ≡ is_refuted (S.lines sink) },

@@ -13,5 +13,6 @@ invariant_of-self g c =
       refuted_is = c.self.invariant.refuted_is;
       running = λ works goes.
           let r = c.self.invariant.running works goes in
-          runs_moved s s.engine c.weigh.new.self c.self.inside.problem (g.S.Sink.lines c.self.inside.sink) r refl many r.running;
+          runs_moved s s.engine c.weigh.new.self c.self.inside.problem
+          (g.S.Sink.lines c.self.inside.sink) r refl many r.running;
     }
