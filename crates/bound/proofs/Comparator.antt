@@ -1,13 +1,13 @@
 -- The comparator says that the value of the outputs is below the bound.
-use Rattle.std.proofs.Common.{◌≡◌, ℕ, zero, suc, ◌+◌, ◌*◌, ◌/◌, ◌^◌, ◌<◌, ◌≤◌, Bool, true, false, not, ◌&&◌, ◌||◌, List, [], ◌∷◌, reverse, Option, Some, None, ◌==◌, nat_le, nat_lt, All, ◌↔◌, inl, inr, refl, sym, ◌∙◌, ap, arith}
-use Rattle.std.proofs.lemmas.Bool.{eqb-true, eq-eqb, false≢true, and_parts, and_from, leb-true, le-leb, lt-leb, leb-false, cases_lt, le-ltb, lt-ltb, ltb-true}
+use Rattle.std.proofs.Common.{◌≡◌, ℕ, zero, suc, ◌+◌, ◌*◌, ◌/◌, ◌^◌, ◌≤◌, Bool, true, false, not, ◌&&◌, ◌||◌, List, [], ◌∷◌, reverse, Option, Some, None, ◌==◌, nat_le, nat_lt, inl, inr, refl, sym, ◌∙◌, ap, arith}
+use Rattle.std.proofs.lemmas.Bool.{eqb-true, eq-eqb, false≢true, and_parts, and_from, leb-true, le-leb, lt-leb, leb-false, cases_lt, le-ltb}
 use Rattle.std.proofs.lemmas.Bool.Decides.{nat_tests}
 use Rattle.wcnf.specs.Literal.{Assignment, Literal, literal_value}
-use Rattle.wcnf.specs.Clause.{Satisfies, clause_value}
+use Rattle.wcnf.specs.Clause.{clause_value}
 use Rattle.adder.specs.Network.{bit, value_of, one_if}
 use Rattle.adder.proofs.Sums.{digit}
 use Rattle.bound.specs.Bound.{no, above, rising_clauses, comparator_of}
-use Rattle.bound.proofs.Clauses.{all_true, all_true-from, from_all_true, value-no, all_true-kept, all_true-reverse}
+use Rattle.bound.proofs.Clauses.{all_true, value-no, all_true-kept, all_true-reverse}
 
 -- the clause is there, and false
 abbrev pub falsified : Assignment → Option (List Literal) → Bool
@@ -63,10 +63,6 @@ rising_clear t (Some v) outputs limit j e =
 value-cons : (t : Assignment) (o : Option Literal) (outputs : List (Option Literal)) → value_of t (o ∷ outputs) ≡ one_if (output_true t o) + 2 * value_of t outputs
 value-cons t None outputs = omega arith
 value-cons t (Some v) outputs = refl
-
-one_if_true : (b : Bool) → one_if b ≡ 1 → b ≡ true
-one_if_true true e = refl
-one_if_true false e = absurd (omega (arith, e))
 
 -- the clause of the limit's digits is false where they are all outputs, and so where the two numbers are one
 pub record AboveSays (t : Assignment) (outputs : List (Option Literal)) (limit j : ℕ) : Type 0 where
@@ -141,9 +137,3 @@ pub comparator_true : (t : Assignment) (outputs : List (Option Literal)) (k : �
 comparator_true t outputs zero = sym (le-ltb (value_of t outputs) 0 (omega arith))
 comparator_true t outputs (suc limit) =
     all_true-kept t (reverse (rising_clauses outputs limit 0)) ∙ all_true-reverse t (rising_clauses outputs limit 0) ∙ rising_true t outputs limit 0 ∙ up_to (value_of t outputs) (limit / 1) limit (omega arith)
-
-pub comparator_law : (t : Assignment) (outputs : List (Option Literal)) (k : ℕ) → All (Satisfies t) (comparator_of outputs k) ↔ (value_of t outputs < k)
-comparator_law t outputs k = (
-  λ h. ltb-true (value_of t outputs) k (sym (comparator_true t outputs k) ∙ all_true-from t (comparator_of outputs k) h),
-  λ h. from_all_true t (comparator_of outputs k) (comparator_true t outputs k ∙ lt-ltb (value_of t outputs) k h),
-)

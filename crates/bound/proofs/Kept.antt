@@ -1,8 +1,6 @@
 -- Clauses as they are kept, one after another.
-use Rattle.std.proofs.Common.{◌≡◌, ℕ, ◌+◌, ◌*◌, ◌<◌, ◌≤◌, Bool, true, false, not, ◌&&◌, ◌||◌, List, [], ◌∷◌, ◌++◌, length, take, get_or, if◌then◌else◌, All, refl, sym, ◌∙◌, ap, subst, arith, append_assoc, append-nil}
-use Rattle.std.specs.Prelude.{slice_get, Some}
+use Rattle.std.proofs.Common.{◌≡◌, ℕ, ◌+◌, ◌*◌, ◌<◌, ◌≤◌, Bool, true, false, not, ◌&&◌, ◌||◌, List, [], ◌∷◌, ◌++◌, length, take, get_or, if◌then◌else◌, All, refl, sym, ◌∙◌, ap, arith, append_assoc, append-nil}
 use Rattle.std.specs.List.{AllByRecursion}
-use Rattle.std.proofs.lemmas.Option.{get_or_from_slice_get, slice_get_within}
 use Rattle.std.proofs.lemmas.Bool.{or_parts}
 use Rattle.std.proofs.lemmas.List.{take_more}
 use Rattle.std.proofs.lemmas.List.Elements.{All-from_recursion, recursion_from_All}
@@ -75,15 +73,6 @@ kept_none old c h e = sym (append-nil old) ∙ ap (λ x. old ++ x) (sym (kept_on
 
 pub kept_itself : (old : List (List Literal)) (c : List Literal) → has_repeat c ≡ false → has_opposites c ≡ false → old ++ c ∷ [] ≡ old ++ kept (c ∷ [])
 kept_itself old c h e = ap (λ x. old ++ x) (sym (kept_one c false h (sym e)))
-
--- what is known of all clauses is known of the one at a place
-pub clause_of : (P : List Literal → Type 0) (cs : List (List Literal)) (i : ℕ) (c : List Literal) → All P cs → slice_get cs i ≡ Some c → P c
-clause_of P cs i c all e = subst P (get_or_from_slice_get cs i c c e) (all i c (slice_get_within cs i c e))
-
--- one more clause of a list is kept
-pub kept_next : (old cs : List (List Literal)) (i : ℕ) (c : List Literal) (now new : List (List Literal)) → slice_get cs i ≡ Some c → now ≡ old ++ kept (take i cs)
-    → new ≡ now ++ kept (c ∷ []) → new ≡ old ++ kept (take (i + 1) cs)
-kept_next old cs i c now new at inv e = kept_more old cs i c now new (slice_get_within cs i c at) (sym (get_or_from_slice_get cs i c c at)) inv e
 
 without-more : (k : Literal) (c : List Literal) (l : Literal) (b : Bool) → literal_eq k l ≡ b → without_literal k (c ++ l ∷ []) ≡ without_literal k c ++ (if b then [] else l ∷ [])
 without-more k [] l b e = ap (λ x. if not x then l ∷ [] else []) e ∙ by b

@@ -50,16 +50,6 @@ unmarked_one marks c l q h m = record {
 pub none_marked : (marks : List Bool) → IsClear marks → IsMarked marks []
 none_marked marks h = record { marked = h.clear }
 
-pub marked_within : (marks : List Bool) (c : List Literal) → IsMarked marks c → IsMarkedWithin marks c
-marked_within marks c h = record { marked = λ l p e. sym (h.marked l p) ∙ e }
-
-pub clear_within : (marks : List Bool) → IsMarkedWithin marks [] → IsClear marks
-clear_within marks h = record { clear = λ l p. by (mark_of marks l) (h.marked l p) }
-  where
-    by : (m : Bool) → (m ≡ true → false ≡ true) → m ≡ false
-    by true f = sym (f refl)
-    by false f = refl
-
 pub same_number : (m n : ℕ) → (m == n) ≡ (n == m)
 same_number m n =
     elim (m == n) as (λ b. (m == n) ≡ b → b ≡ (n == m)) [

@@ -86,9 +86,6 @@ count-more es e b h =
     by true = refl
     by false = refl
 
-pub none_relaxed : (profile : Profile) (vars : ℕ) (old : List (List Literal)) → IsRelaxedTo profile vars [] old old vars
-none_relaxed profile vars old = record { added = sym (append-nil old); counted = omega arith; few = omega arith }
-
 module _ (profile : Profile) (vars : ℕ) (ss : List SoftClause) (s : SoftClause) (old now : List (List Literal)) (last : ℕ) (h : IsRelaxedTo profile vars ss old now last) where
   abbrev es : List Relaxed
   es = relaxed_from profile (vars + 1) ss

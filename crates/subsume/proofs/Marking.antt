@@ -2,7 +2,7 @@
 use Rattle.std.proofs.Common.{◌≡◌, ℕ, zero, suc, ◌+◌, ◌-◌, ◌*◌, ◌<◌, ◌≤◌, Bool, true, false, not, ◌&&◌, ◌==◌, ◌||◌, List, [], ◌∷◌, ◌++◌, length, take, drop, get_or, set, replicate, if◌then◌else◌, refl, sym, ◌∙◌, ap, subst, arith, get_or-set_same, get_or-set_other, add-one}
 use Rattle.std.specs.Prelude.{All}
 use Rattle.std.proofs.lemmas.Bool.{false≢true, true≢false, eq-eqb, and_from, or_left, or_right}
-use Rattle.std.proofs.lemmas.List.{take_more, take-append-drop, append-nil}
+use Rattle.std.proofs.lemmas.List.{take_more, take-append-drop}
 use Rattle.std.proofs.lemmas.List.Folds.{list_any-append}
 use Rattle.std.proofs.lemmas.List.Elements.{All-head, All-tail, filter-append}
 use Rattle.wcnf.specs.Literal.{Literal, literal_eq, same_bool, index_of, negation}
@@ -58,38 +58,6 @@ none_marked n = record { marked = λ l p. none_at n (index_of l) }
     none_at zero i = refl
     none_at (suc n) zero = refl
     none_at (suc n) (suc i) = none_at n i
-
--- the next literal of a clause is marked
-pub marked_next : (marks : List Bool) (c : List Literal) (i : ℕ) (l : Literal) → i < length c → l ≡ get_or c i l → HasPlace (length marks) l → IsMarked marks (take i c) → IsMarked (set marks (index_of l) true) (take (i + 1) c)
-marked_next marks c i l h is place m =
-    let more : take (i + 1) c ≡ take i c ++ l ∷ [] = take_more c i l h ∙ ap (λ x. take i c ++ x ∷ []) (sym is) in
-    subst (IsMarked (set marks (index_of l) true)) (sym more) (marked_one marks (take i c) l place m)
-
-without-push : (p l : Literal) (c : List Literal) → without_literal p (c ++ l ∷ []) ≡ without_literal p c ++ without_literal p (l ∷ [])
-without-push p l c = filter-append (λ k. not (literal_eq p k)) c (l ∷ [])
-
-without_next : (p l : Literal) (c : List Literal) (i : ℕ) → i < length c → l ≡ get_or c i l → without_literal p (take (i + 1) c) ≡ without_literal p (take i c) ++ without_literal p (l ∷ [])
-without_next p l c i h is = ap (without_literal p) (take_more c i l h ∙ ap (λ x. take i c ++ x ∷ []) (sym is)) ∙ without-push p l (take i c)
-
-one_other : (p l : Literal) → literal_eq p l ≡ false → without_literal p (l ∷ []) ≡ l ∷ []
-one_other p l e = rw e refl
-
-one_same : (p l : Literal) → literal_eq p l ≡ true → without_literal p (l ∷ []) ≡ []
-one_same p l e = rw e refl
-
--- the next literal of a clause is marked, where it is another than the one that is left out
-pub marked_other : (marks : List Bool) (c : List Literal) (i : ℕ) (p l : Literal) → i < length c → l ≡ get_or c i l → HasPlace (length marks) l → literal_eq p l ≡ false
-    → IsMarked marks (without_literal p (take i c)) → IsMarked (set marks (index_of l) true) (without_literal p (take (i + 1) c))
-marked_other marks c i p l h is place e m =
-    let more : without_literal p (take (i + 1) c) ≡ without_literal p (take i c) ++ l ∷ [] = without_next p l c i h is ∙ ap (λ xs. without_literal p (take i c) ++ xs) (one_other p l e) in
-    subst (IsMarked (set marks (index_of l) true)) (sym more) (marked_one marks (without_literal p (take i c)) l place m)
-
--- and stays out
-pub marked_same : (marks : List Bool) (c : List Literal) (i : ℕ) (p l : Literal) → i < length c → l ≡ get_or c i l → literal_eq p l ≡ true
-    → IsMarked marks (without_literal p (take i c)) → IsMarked marks (without_literal p (take (i + 1) c))
-marked_same marks c i p l h is e m =
-    let more : without_literal p (take (i + 1) c) ≡ without_literal p (take i c) = without_next p l c i h is ∙ ap (λ xs. without_literal p (take i c) ++ xs) (one_same p l e) ∙ append-nil (without_literal p (take i c)) in
-    subst (IsMarked marks) (sym more) m
 
 all_so_far : (marks : List Bool) (c : List Literal) (i : ℕ) (l : Literal) → i < length c → l ≡ get_or c i l → mark_of marks l ≡ true → are_marked marks (take i c) ≡ true → are_marked marks (take (suc i) c) ≡ true
 all_so_far marks [] i l h is m a = absurd (omega arith)
