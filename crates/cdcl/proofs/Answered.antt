@@ -1,5 +1,6 @@
 -- What a solver says of its lines, from what its search wrote.
-use Rattle.std.proofs.Common.{◌≡◌, ℕ, ◌≤◌, true, false, List, [], ◌∷◌, ◌++◌, length, take, drop, map, refl, sym, ◌∙◌, ap, subst, append-nil, take-append-drop}
+use Rattle.std.proofs.Common.{◌≡◌, ℕ, ◌≤◌, true, false, List, [], ◌∷◌, ◌++◌, length, take, drop}
+use Rattle.std.proofs.Common.{map, refl, sym, ◌∙◌, ap, subst, append-nil, take-append-drop}
 use Rattle.std.specs.Prelude.{All, Contains, ◌⊎◌, Bool}
 use Rattle.std.specs.List.{list_any}
 use Rattle.std.proofs.lemmas.Bool.{or_from, true≢false}
@@ -9,7 +10,9 @@ use Rattle.wcnf.specs.Clause.{greatest_variable}
 use Rattle.wcnf.specs.Refute.{IsRefutedByHints}
 use Rattle.analyze.specs.Learning.{IsQuiet}
 use Rattle.lrat_log.specs.Log.{LogLine, Given}
-use Rattle.lrat_log.specs.Steps.{IsBaseOf, IsLogOver, IsAcceptedLog, StaysLogOver, AddsNoEmptyClause, adds_empty_clause, learned_count, IsLearnedOrShort, LearnsNew, nothing_exempt, given_of}
+use Rattle.lrat_log.specs.Steps.{IsLogOver, IsAcceptedLog, StaysLogOver}
+use Rattle.lrat_log.specs.Steps.{AddsNoEmptyClause, adds_empty_clause}
+use Rattle.lrat_log.specs.Steps.{IsLearnedOrShort, given_of}
 use Rattle.lrat_log.proofs.Accepting.{accepted_log}
 use Rattle.cdcl.specs.declared.search.Search.{Search}
 use Rattle.cdcl.specs.declared.problem.Problem.{Problem}
@@ -20,48 +23,48 @@ use Rattle.cdcl.specs.Solving.{IsPlainlyRefuted, IsLiveRefuted}
 use Rattle.cdcl_order.specs.Budgets.{BudgetState}
 use Rattle.cdcl.specs.declared.searching.End.{End}
 use Rattle.cdcl.specs.declared.searching.End.TheVariants.{Satisfied}
-use Rattle.cdcl.specs.Running.{Writes, IsProblem, Runs, IsEnded, StaysOpen, IsSolver, IsSatisfied, IsEndOf, IsAnswer}
+use Rattle.cdcl.specs.Running.{Writes, IsProblem, Runs, IsEnded, StaysOpen, IsSolver, IsSatisfied}
+use Rattle.cdcl.specs.Running.{IsEndOf, IsAnswer}
 use Rattle.cdcl.proofs.MoreMoves.{plain_open}
 
 drop_front : (before more : List LogLine) → drop (length before) (before ++ more) ≡ more
 drop_front [] more = refl
 drop_front (l ∷ before) more = drop_front before more
 
-pub since_more : (before after more : List LogLine) → after ≡ before ++ more → lines_since before after ≡ more
+pub since_more : (before after more : List LogLine) → after ≡ before ++ more
+    → lines_since before after ≡ more
 since_more before after more e = ap (drop (length before)) e ∙ drop_front before more
 
 module _ (given : Given) (before after : List LogLine) (n : ℕ) (w : Writes given before after n) where
   since : lines_since before after ≡ w.more
   since = since_more before after w.more w.grows
 
-  pub written_grows : after ≡ before ++ lines_since before after
-  written_grows = w.grows ∙ ap (λ x. before ++ x) (sym since)
-
   pub written_short : All IsLearnedOrShort (lines_since before after)
   written_short = subst (All IsLearnedOrShort) (sym since) w.short
 
-  pub written_new : (base : ℕ) → IsBaseOf given base → LearnsNew nothing_exempt given base before (lines_since before after)
-  written_new base above = subst (LearnsNew nothing_exempt given base before) (sym since) (w.new base above)
-
-  pub written_learned : learned_count (lines_since before after) ≡ n
-  written_learned = ap learned_count since ∙ w.learned_is
-
 -- the clauses given, as they are seen
 abbrev pub seen_given : Problem → Given
-seen_given p = given_of (map (λ g. g.1) (take p.first (p.given).items)) ++ drop p.first (p.given).items
+seen_given p =
+    given_of (map (λ g. g.1) (take p.first (p.given).items)) ++ drop p.first (p.given).items
 
 pub given_seen : (p : Problem) → IsProblem p → seen_given p ≡ (p.given).items
-given_seen p i = ap (λ x. x ++ drop p.first (p.given).items) i.numbered ∙ take-append-drop p.first (p.given).items
+given_seen p i =
+    ap (λ x. x ++ drop p.first (p.given).items) i.numbered
+    ∙ take-append-drop p.first (p.given).items
 
-pub log_now : (p : Problem) (ls : List LogLine) → IsProblem p → StaysLogOver (length (p.frozen).items) (p.given).items ls → IsLogOver (seen_given p) ls
+pub log_now : (p : Problem) (ls : List LogLine) → IsProblem p
+    → StaysLogOver (length (p.frozen).items) (p.given).items ls → IsLogOver (seen_given p) ls
 log_now p ls i stays =
     subst (λ g. IsLogOver g ls) (append-nil (p.given).items ∙ sym (given_seen p i)) (stays [] (All-nil (λ g. greatest_variable g.1 ≤ length (p.frozen).items)))
 
-pub ended_log : (p : Problem) (ls : List LogLine) → IsProblem p → IsEnded p ls → IsAcceptedLog (seen_given p) ls
+pub ended_log : (p : Problem) (ls : List LogLine) → IsProblem p → IsEnded p ls
+    → IsAcceptedLog (seen_given p) ls
 ended_log p ls i e = accepted_log (seen_given p) ls (log_now p ls i e.stays) e.refuted
 
-pub not_plain : (s : Search) (p : Problem) (ls : List LogLine) (A : List Literal) → IsProblem p → Runs s p ls → IsQuiet (s.store).slots A
-    → IsRefutedByHints (map (λ g. g.1) (take p.first (p.given).items)) ⊎ Contains (map (λ g. g.1) (seen_given p)) [] → ⊥
+pub not_plain : (s : Search) (p : Problem) (ls : List LogLine) (A : List Literal) → IsProblem p
+    → Runs s p ls → IsQuiet (s.store).slots A
+    → IsRefutedByHints (map (λ g. g.1) (take p.first (p.given).items)) ⊎ Contains (map (λ g. g.1) (seen_given p)) []
+    → ⊥
 not_plain s p ls A i r quiet h =
     plain_open (s.store).slots A p.first (p.given).items r.running.recorded.plain quiet
     (subst (λ g. IsRefutedByHints (map (λ x. x.1) (take p.first (p.given).items)) ⊎ Contains (map (λ x. x.1) g) []) (given_seen p i) h)
@@ -69,29 +72,36 @@ not_plain s p ls A i r quiet h =
 -- no line added the empty clause
 pub not_refuted : (ls : List LogLine) → AddsNoEmptyClause ls → is_refuted ls ≡ false
 not_refuted [] h = refl
-not_refuted (l ∷ ls) h = or_from (adds_empty_clause l) (list_any adds_empty_clause ls) h.0 (not_refuted ls h.1)
+not_refuted (l ∷ ls) h =
+    or_from (adds_empty_clause l) (list_any adds_empty_clause ls) h.0 (not_refuted ls h.1)
 
-pub solver_runs : (s : Search) (p : Problem) (ls : List LogLine) (refuted failed : Bool) → IsProblem p → Runs s p ls → refuted ≡ false → IsSolver s p ls refuted failed
+pub solver_runs : (s : Search) (p : Problem) (ls : List LogLine) (refuted failed : Bool)
+    → IsProblem p → Runs s p ls → refuted ≡ false → IsSolver s p ls refuted failed
 solver_runs s p ls refuted failed i r e =
     let log = r.running.recorded.log in
     record { problem = i; lines = log.stays; refuted_is = e ∙ sym (not_refuted ls log.unrefuted); running = λ f u. r }
 
-pub solver_fails : (s : Search) (p : Problem) (ls : List LogLine) (refuted : Bool) → IsProblem p → StaysOpen p ls → refuted ≡ false → IsSolver s p ls refuted true
+pub solver_fails : (s : Search) (p : Problem) (ls : List LogLine) (refuted : Bool) → IsProblem p
+    → StaysOpen p ls → refuted ≡ false → IsSolver s p ls refuted true
 solver_fails s p ls refuted i o e = record { problem = i; lines = o.stays; refuted_is = e ∙ sym (not_refuted ls o.unrefuted); running = λ f u. absurd (true≢false f) }
 
 -- what an end or an answer says
-pub answered_log : (s : Search) (p : Problem) (ls : List LogLine) (b : BudgetState) (o : Outcome) → IsProblem p → IsAnswer s p ls b o → IsLogOver (seen_given p) ls
+pub answered_log : (s : Search) (p : Problem) (ls : List LogLine) (b : BudgetState) (o : Outcome)
+    → IsProblem p → IsAnswer s p ls b o → IsLogOver (seen_given p) ls
 answered_log s p ls b (Sat bits) i a = log_now p ls i a.runs.running.recorded.log.stays
 answered_log s p ls b Unsat i a = log_now p ls i a.stays
 answered_log s p ls b Limit i a = log_now p ls i a.runs.running.recorded.log.stays
 
-pub plain_unsat : (s : Search) (p : Problem) (ls : List LogLine) (b : BudgetState) (o : Outcome) → IsProblem p → IsAnswer s p ls b o
-    → IsRefutedByHints (map (λ g. g.1) (take p.first (p.given).items)) ⊎ Contains (map (λ g. g.1) (seen_given p)) [] → o ≡ Unsat
+pub plain_unsat : (s : Search) (p : Problem) (ls : List LogLine) (b : BudgetState) (o : Outcome)
+    → IsProblem p → IsAnswer s p ls b o
+    → IsRefutedByHints (map (λ g. g.1) (take p.first (p.given).items)) ⊎ Contains (map (λ g. g.1) (seen_given p)) []
+    → o ≡ Unsat
 plain_unsat s p ls b (Sat bits) i a h = absurd (not_plain s p ls a.quiet.0 i a.runs a.quiet.1 h)
 plain_unsat s p ls b Unsat i a h = refl
 plain_unsat s p ls b Limit i a h = absurd (not_plain s p ls a.quiet.0 i a.runs a.quiet.1 h)
 
-pub is_satisfied : (s : Search) (p : Problem) (ls : List LogLine) (b : BudgetState) (end : End) → end ≡ Satisfied → IsEndOf s p ls b end → IsSatisfied s p ls b
+pub is_satisfied : (s : Search) (p : Problem) (ls : List LogLine) (b : BudgetState) (end : End)
+    → end ≡ Satisfied → IsEndOf s p ls b end → IsSatisfied s p ls b
 is_satisfied s p ls b end e h = subst (IsEndOf s p ls b) e h
 
 -- What a caller sees: the view of a solver over this problem.

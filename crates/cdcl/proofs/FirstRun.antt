@@ -1,12 +1,16 @@
 -- What elimination leaves is a search that runs.
-use Rattle.std.proofs.Common.{◌≡◌, ◌≢◌, ℕ, zero, suc, ◌+◌, ◌<◌, ◌≤◌, ◌^◌, true, false, List, [], ◌∷◌, length, take, map, get_or, Some, None, inl, inr, refl, sym, ◌∙◌, ap, subst, arith, zero-add}
+use Rattle.std.proofs.Common.{◌≡◌, ◌≢◌, ℕ, zero, suc, ◌+◌, ◌<◌, ◌≤◌, ◌^◌, true, false, List, []}
+use Rattle.std.proofs.Common.{◌∷◌, length, take, map, get_or, Some, None, inl, inr, refl, sym, ◌∙◌}
+use Rattle.std.proofs.Common.{ap, subst, arith, zero-add}
 use Rattle.std.specs.Prelude.{All, Contains, nat_eq}
 use Rattle.std.specs.List.{IsDistinct, list_any, enumerate_from}
 use Rattle.std.proofs.lemmas.Map.Keys.{IsDistinct-head, IsDistinct-tail}
 use Rattle.std.proofs.lemmas.Bool.{cases_lt, le-leb, or_parts, both_ways, eq-eqb, cases_eq}
 use Rattle.std.proofs.lemmas.Option.{slice_get-get_or}
-use Rattle.std.proofs.lemmas.List.{length-map, get_or-map, length-replicate, take_all, get_or_default}
-use Rattle.std.proofs.lemmas.List.Elements.{All-nil, All-cons, All-head, All-tail, All-from_recursion}
+use Rattle.std.proofs.lemmas.List.{length-map, get_or-map, length-replicate, take_all}
+use Rattle.std.proofs.lemmas.List.{get_or_default}
+use Rattle.std.proofs.lemmas.List.Elements.{All-nil, All-cons, All-head, All-tail}
+use Rattle.std.proofs.lemmas.List.Elements.{All-from_recursion}
 use Rattle.wcnf.specs.Literal.{Literal}
 use Rattle.wcnf.specs.Clause.{Satisfies}
 use Rattle.wcnf.specs.Lrat.{IsId}
@@ -19,7 +23,8 @@ use Rattle.propagate.specs.Watches.{is_attached}
 use Rattle.lrat_log.specs.declared.lines.Name.{Name}
 use Rattle.lrat_log.specs.declared.lines.Name.TheVariants.{Formula, Added}
 use Rattle.lrat_log.specs.Log.{LogLine, id_of, number_in}
-use Rattle.lrat_log.specs.Steps.{StaysLogOver, IsBaseOf, log_live, given_of, AddsNoEmptyClause, adds_empty_clause, added_count}
+use Rattle.lrat_log.specs.Steps.{StaysLogOver, IsBaseOf, log_live, given_of, AddsNoEmptyClause}
+use Rattle.lrat_log.specs.Steps.{adds_empty_clause, added_count}
 use Rattle.eliminate.specs.Elimination.{StackState, HoldsWhatIsLive, ExtendsBack, IsFree, extended}
 use Rattle.cdcl.specs.declared.search.Search.{Search}
 use Rattle.cdcl.specs.declared.problem.Problem.{Problem}
@@ -35,59 +40,79 @@ use Rattle.lrat_log.proofs.GivenNumbers.{base_of, clauses_given}
 
 -- Lists of places.
 
-places_low : (n : ℕ) (slots : Slots) (i : ℕ) → i < length (places_from n slots) → n ≤ get_or (places_from n slots) i 0
+places_low : (n : ℕ) (slots : Slots) (i : ℕ) → i < length (places_from n slots)
+    → n ≤ get_or (places_from n slots) i 0
 places_low n [] i lt = absurd (omega arith)
-places_low n (None ∷ slots) i lt = (let h : n + 1 ≤ get_or (places_from (n + 1) slots) i 0 = places_low (n + 1) slots i lt in omega arith)
+places_low n (None ∷ slots) i lt =
+    (let h : n + 1 ≤ get_or (places_from (n + 1) slots) i 0 = places_low (n + 1) slots i lt in omega arith)
 places_low n (Some c ∷ slots) zero lt = omega arith
-places_low n (Some c ∷ slots) (suc i) lt = (let h : n + 1 ≤ get_or (places_from (n + 1) slots) i 0 = places_low (n + 1) slots i (omega arith) in omega arith)
+places_low n (Some c ∷ slots) (suc i) lt =
+    (let h : n + 1 ≤ get_or (places_from (n + 1) slots) i 0 = places_low (n + 1) slots i (omega arith) in omega arith)
 
-places_rise : (n : ℕ) (slots : Slots) (i j : ℕ) → i < j → j < length (places_from n slots) → get_or (places_from n slots) i 0 < get_or (places_from n slots) j 0
+places_rise : (n : ℕ) (slots : Slots) (i j : ℕ) → i < j → j < length (places_from n slots)
+    → get_or (places_from n slots) i 0 < get_or (places_from n slots) j 0
 places_rise n [] i j lt within = absurd (omega arith)
 places_rise n (None ∷ slots) i j lt within = places_rise (n + 1) slots i j lt within
 places_rise n (Some c ∷ slots) zero zero lt within = absurd (omega arith)
-places_rise n (Some c ∷ slots) zero (suc j) lt within = (let h : n + 1 ≤ get_or (places_from (n + 1) slots) j 0 = places_low (n + 1) slots j (omega arith) in omega arith)
+places_rise n (Some c ∷ slots) zero (suc j) lt within =
+    (let h : n + 1 ≤ get_or (places_from (n + 1) slots) j 0 = places_low (n + 1) slots j (omega arith) in omega arith)
 places_rise n (Some c ∷ slots) (suc i) zero lt within = absurd (omega arith)
-places_rise n (Some c ∷ slots) (suc i) (suc j) lt within = places_rise (n + 1) slots i j (omega arith) (omega arith)
+places_rise n (Some c ∷ slots) (suc i) (suc j) lt within =
+    places_rise (n + 1) slots i j (omega arith) (omega arith)
 
-place_live : (n : ℕ) (slots : Slots) (i : ℕ) → i < length (places_from n slots) → (r : ℕ) × (c : List Literal) × (get_or (places_from n slots) i 0 ≡ n + r) × (clause_at slots r ≡ Some c)
+place_live : (n : ℕ) (slots : Slots) (i : ℕ) → i < length (places_from n slots)
+    → (r : ℕ) × (c : List Literal) × (get_or (places_from n slots) i 0 ≡ n + r) × (clause_at slots r ≡ Some c)
 place_live n [] i lt = absurd (omega arith)
-place_live n (None ∷ slots) i lt = let w = place_live (n + 1) slots i lt in (suc w.0, w.1, w.2 ∙ omega arith, w.3)
+place_live n (None ∷ slots) i lt =
+    let w = place_live (n + 1) slots i lt in (suc w.0, w.1, w.2 ∙ omega arith, w.3)
 place_live n (Some c ∷ slots) zero lt = (0, c, omega arith, refl)
-place_live n (Some c ∷ slots) (suc i) lt = let w = place_live (n + 1) slots i (omega arith) in (suc w.0, w.1, w.2 ∙ omega arith, w.3)
+place_live n (Some c ∷ slots) (suc i) lt =
+    let w = place_live (n + 1) slots i (omega arith) in (suc w.0, w.1, w.2 ∙ omega arith, w.3)
 
-all_live : (P : List Literal → Type 0) (slots : Slots) → ((r : ℕ) (c : List Literal) → clause_at slots r ≡ Some c → P c) → All P (live_clauses slots)
+all_live : (P : List Literal → Type 0) (slots : Slots)
+    → ((r : ℕ) (c : List Literal) → clause_at slots r ≡ Some c → P c) → All P (live_clauses slots)
 all_live P [] h = All-nil P
 all_live P (None ∷ slots) h = all_live P slots (λ r c e. h (suc r) c e)
-all_live P (Some d ∷ slots) h = All-cons P d (live_clauses slots) (h 0 d refl) (all_live P slots (λ r c e. h (suc r) c e))
+all_live P (Some d ∷ slots) h =
+    All-cons P d (live_clauses slots) (h 0 d refl) (all_live P slots (λ r c e. h (suc r) c e))
 
-live_found : (slots : Slots) (i : ℕ) (c : List Literal) → i < length (live_clauses slots) → get_or (live_clauses slots) i c ≡ c → (r : ℕ) × (clause_at slots r ≡ Some c)
+live_found : (slots : Slots) (i : ℕ) (c : List Literal) → i < length (live_clauses slots)
+    → get_or (live_clauses slots) i c ≡ c → (r : ℕ) × (clause_at slots r ≡ Some c)
 live_found [] i c lt e = absurd (omega arith)
 live_found (None ∷ slots) i c lt e = let w = live_found slots i c lt e in (suc w.0, w.1)
 live_found (Some d ∷ slots) zero c lt e = (0, ap Some e)
-live_found (Some d ∷ slots) (suc i) c lt e = let w = live_found slots i c (omega arith) e in (suc w.0, w.1)
+live_found (Some d ∷ slots) (suc i) c lt e =
+    let w = live_found slots i c (omega arith) e in (suc w.0, w.1)
 
-all_given_on : (P : List Literal → Type 0) (n : ℕ) (cs : List (List Literal)) → All P cs → All (λ (g : Name × List Literal). P g.1) (map (λ e. (Formula e.0, e.1)) (enumerate_from n cs))
+all_given_on : (P : List Literal → Type 0) (n : ℕ) (cs : List (List Literal)) → All P cs
+    → All (λ (g : Name × List Literal). P g.1) (map (λ e. (Formula e.0, e.1)) (enumerate_from n cs))
 all_given_on P n [] all = All-nil (λ (g : Name × List Literal). P g.1)
-all_given_on P n (c ∷ cs) all = All-cons (λ (g : Name × List Literal). P g.1) (Formula n, c) (map (λ e. (Formula e.0, e.1)) (enumerate_from (n + 1) cs)) (All-head P c cs all) (all_given_on P (n + 1) cs (All-tail P c cs all))
+all_given_on P n (c ∷ cs) all =
+    All-cons (λ (g : Name × List Literal). P g.1) (Formula n, c) (map (λ e. (Formula e.0, e.1)) (enumerate_from (n + 1) cs)) (All-head P c cs all) (all_given_on P (n + 1) cs (All-tail P c cs all))
 
-pub all_given : (P : List Literal → Type 0) (cs : List (List Literal)) → All P cs → All (λ (g : Name × List Literal). P g.1) (given_of cs)
+pub all_given : (P : List Literal → Type 0) (cs : List (List Literal)) → All P cs
+    → All (λ (g : Name × List Literal). P g.1) (given_of cs)
 all_given P cs all = all_given_on P 1 cs all
 
 -- no line added the empty clause
 pub unrefuted : (ls : List LogLine) → is_refuted ls ≡ false → AddsNoEmptyClause ls
 unrefuted [] e = tt
-unrefuted (l ∷ ls) e = let w = or_parts (adds_empty_clause l) (list_any adds_empty_clause ls) e in (w.0, unrefuted ls w.1)
+unrefuted (l ∷ ls) e =
+    let w = or_parts (adds_empty_clause l) (list_any adds_empty_clause ls) e in (w.0, unrefuted ls w.1)
 
 -- distinct ids stand in different places
-distinct_apart : (is : List ℕ) (j k : ℕ) → IsDistinct nat_eq is → j < k → k < length is → get_or is j 0 ≢ get_or is k 0
+distinct_apart : (is : List ℕ) (j k : ℕ) → IsDistinct nat_eq is → j < k → k < length is
+    → get_or is j 0 ≢ get_or is k 0
 distinct_apart [] j k d lt within e = absurd (omega arith)
 distinct_apart (i ∷ is) zero zero d lt within e = absurd (omega arith)
 distinct_apart (i ∷ is) zero (suc k) d lt within e =
     both_ways (nat_eq i (get_or is k 0)) (All-from_recursion (λ y. nat_eq i y ≡ false) is (IsDistinct-head nat_eq i is d) k 0 (omega arith)) (eq-eqb i (get_or is k 0) e)
 distinct_apart (i ∷ is) (suc j) zero d lt within e = absurd (omega arith)
-distinct_apart (i ∷ is) (suc j) (suc k) d lt within e = distinct_apart is j k (IsDistinct-tail nat_eq i is d) (omega arith) (omega arith) e
+distinct_apart (i ∷ is) (suc j) (suc k) d lt within e =
+    distinct_apart is j k (IsDistinct-tail nat_eq i is d) (omega arith) (omega arith) e
 
-distinct_same : (is : List ℕ) (j k : ℕ) → IsDistinct nat_eq is → j < length is → k < length is → get_or is j 0 ≡ get_or is k 0 → j ≡ k
+distinct_same : (is : List ℕ) (j k : ℕ) → IsDistinct nat_eq is → j < length is → k < length is
+    → get_or is j 0 ≡ get_or is k 0 → j ≡ k
 distinct_same is j k d a b e = elim (cases_eq j k) [
   | inl s ↦ s
   | inr ne ↦ elim (cases_lt j k) [
@@ -102,7 +127,8 @@ based_first cs = base_of cs (length cs) (omega arith)
 -- What elimination says of the names that it lists.
 
 pub record IsLeft (cs : List (List Literal)) (slots : Slots) (stack : StackState) (ls : List LogLine) : Type 0 where
-  pub live : (base : ℕ) → IsBaseOf (given_of cs) base → HoldsWhatIsLive slots stack.names base (log_live (given_of cs) base ls)
+  pub live : (base : ℕ) → IsBaseOf (given_of cs) base
+      → HoldsWhatIsLive slots stack.names base (log_live (given_of cs) base ls)
   pub left : All (IsFormulaClause stack.variables) (live_clauses slots)
 
 module _ (cs : List (List Literal)) (slots : Slots) (stack : StackState) (ls : List LogLine) (h : IsLeft cs slots stack ls) where
@@ -115,17 +141,22 @@ module _ (cs : List (List Literal)) (slots : Slots) (stack : StackState) (ls : L
   places_long : length (live_places slots) ≡ length stack.names
   places_long = sym (ap length first.listed) ∙ length-map stack.names (λ (n : ℕ × Name). n.0)
 
-  place_is : (i : ℕ) (d : ℕ × Name) → i < length stack.names → (get_or stack.names i d).0 ≡ get_or (live_places slots) i 0
-  place_is i d lt = sym (get_or-map (λ (n : ℕ × Name). n.0) stack.names i d 0 lt) ∙ ap (λ ps. get_or ps i 0) first.listed
+  place_is : (i : ℕ) (d : ℕ × Name) → i < length stack.names
+      → (get_or stack.names i d).0 ≡ get_or (live_places slots) i 0
+  place_is i d lt =
+      sym (get_or-map (λ (n : ℕ × Name). n.0) stack.names i d 0 lt)
+      ∙ ap (λ ps. get_or ps i 0) first.listed
 
   pub left_rising : AreRising stack.names
   left_rising i j d lt within =
       let a = place_is i d (omega arith) in
       let b = place_is j d within in
-      let r : get_or (live_places slots) i 0 < get_or (live_places slots) j 0 = places_rise 0 slots i j lt (omega (arith, places_long)) in
+      let r : get_or (live_places slots) i 0 < get_or (live_places slots) j 0 =
+      places_rise 0 slots i j lt (omega (arith, places_long)) in
       omega arith
 
-  live_here : (i : ℕ) (d : ℕ × Name) → i < length stack.names → (c : List Literal) × (clause_at slots (get_or stack.names i d).0 ≡ Some c)
+  live_here : (i : ℕ) (d : ℕ × Name) → i < length stack.names
+      → (c : List Literal) × (clause_at slots (get_or stack.names i d).0 ≡ Some c)
   live_here i d lt =
       let w = place_live 0 slots i (omega (arith, places_long)) in
       let at : (get_or stack.names i d).0 ≡ w.0 = place_is i d lt ∙ w.2 ∙ zero-add w.0 in
@@ -134,14 +165,17 @@ module _ (cs : List (List Literal)) (slots : Slots) (stack : StackState) (ls : L
   pub left_live : All (λ n. IsLiveWithin slots stack.variables n.0) stack.names
   left_live i d lt =
       let w = live_here i d lt in
-      let f = live_all (IsFormulaClause stack.variables) slots h.left (get_or stack.names i d).0 w.0 w.1 in
+      let f =
+      live_all (IsFormulaClause stack.variables) slots h.left (get_or stack.names i d).0 w.0 w.1 in
       record { clause = w.0; live = w.1; within = (f.from_one, f.small) }
 
   pub left_within : All (λ n. n.0 < length slots) stack.names
-  left_within i d lt = let w = live_here i d lt in live_within slots (get_or stack.names i d).0 w.0 w.1
+  left_within i d lt =
+      let w = live_here i d lt in live_within slots (get_or stack.names i d).0 w.0 w.1
 
   -- each has the id of something live
-  id_below : (i : ℕ) (d : ℕ × Name) → i < length stack.names → id_of (length cs) (get_or stack.names i d).1 ≤ length cs + added_count ls
+  id_below : (i : ℕ) (d : ℕ × Name) → i < length stack.names
+      → id_of (length cs) (get_or stack.names i d).1 ≤ length cs + added_count ls
   id_below i d lt =
       let w = live_here i d lt in
       live_below (given_of cs) (length cs) (based_first cs) ls (id_of (length cs) (get_or stack.names i d).1) w.0 (first.named i d lt ∙ w.1)
@@ -154,17 +188,21 @@ module _ (cs : List (List Literal)) (slots : Slots) (stack : StackState) (ls : L
   kept_below (Formula i) b k h = refl
   kept_below (Added j) b k h = le-leb j k (omega arith)
 
-  pub left_numbers : length cs + added_count ls < 2 ^ 62 → All (λ n. IsId (number_in n.1)) stack.names
-  left_numbers few i d lt = (first.from_one i d lt, (let b = number_below (get_or stack.names i d).1 (length cs) (length cs + added_count ls) (id_below i d lt) in omega arith))
+  pub left_numbers : length cs + added_count ls < 2 ^ 62
+      → All (λ n. IsId (number_in n.1)) stack.names
+  left_numbers few i d lt =
+      (first.from_one i d lt, (let b = number_below (get_or stack.names i d).1 (length cs) (length cs + added_count ls) (id_below i d lt) in omega arith))
 
   -- a live clause stands in the list
-  listed_at : (r : ℕ) (c : List Literal) → clause_at slots r ≡ Some c → (i : ℕ) × (i < length stack.names) × ((get_or stack.names i none).0 ≡ r)
+  listed_at : (r : ℕ) (c : List Literal) → clause_at slots r ≡ Some c
+      → (i : ℕ) × (i < length stack.names) × ((get_or stack.names i none).0 ≡ r)
   listed_at r c e =
       let z = stands 0 slots (live_places slots) r c refl e in
       let lt : z.0 < length stack.names = (let a = z.1 in omega (arith, places_long)) in
       (z.0, lt, place_is z.0 none lt ∙ z.2 ∙ zero-add r)
 
-  pub first_names : (table : List Name) → All (λ n. name_at table n.0 ≡ n.1) stack.names → length table ≡ length slots → NamesStore slots table (given_of cs) ls
+  pub first_names : (table : List Name) → All (λ n. name_at table n.0 ≡ n.1) stack.names
+      → length table ≡ length slots → NamesStore slots table (given_of cs) ls
   first_names table tabled long = record {
     as_many = long;
     live = λ base above.
@@ -178,14 +216,19 @@ module _ (cs : List (List Literal)) (slots : Slots) (stack : StackState) (ls : L
         tabled;
   }
 
-  pub all_kept : (table : List Name) → All (λ n. name_at table n.0 ≡ n.1) stack.names → (r : ℕ) (c : List Literal) → clause_at slots r ≡ Some c → is_kept_name (added_count ls) (name_at table r) ≡ true
+  pub all_kept : (table : List Name) → All (λ n. name_at table n.0 ≡ n.1) stack.names
+      → (r : ℕ) (c : List Literal) → clause_at slots r ≡ Some c
+      → is_kept_name (added_count ls) (name_at table r) ≡ true
   all_kept table tabled r c e =
       let w = listed_at r c e in
-      let name : name_at table r ≡ (get_or stack.names w.0 none).1 = ap (name_at table) (sym w.2) ∙ tabled w.0 none w.1 in
+      let name : name_at table r ≡ (get_or stack.names w.0 none).1 =
+      ap (name_at table) (sym w.2) ∙ tabled w.0 none w.1 in
       ap (is_kept_name (added_count ls)) name ∙ kept_below (get_or stack.names w.0 none).1 (length cs) (added_count ls) (id_below w.0 none w.1)
 
-  pub all_attached : (e : Search) → All (λ n. is_attached e.engine n.0 ≡ true) stack.names → (r : ℕ) → IsLive slots r → is_attached e.engine r ≡ true
-  all_attached e on r live = let w = listed_at r live.0 live.1 in ap (is_attached e.engine) (sym w.2) ∙ on w.0 none w.1
+  pub all_attached : (e : Search) → All (λ n. is_attached e.engine n.0 ≡ true) stack.names → (r : ℕ)
+      → IsLive slots r → is_attached e.engine r ≡ true
+  all_attached e on r live =
+      let w = listed_at r live.0 live.1 in ap (is_attached e.engine) (sym w.2) ∙ on w.0 none w.1
 
 -- a store of these clauses
 pub live_map : (cs : List (List Literal)) → live_clauses (map Some cs) ≡ cs
@@ -208,17 +251,25 @@ empty_refutes cs w = (
   },
 )
 
-pub first_runs : (s : Search) (p : Problem) (ls : List LogLine) (cs : List (List Literal)) (slots : Slots) (additions : ℕ) → IsStarted slots p.stack additions s → IsLeft cs slots p.stack ls
+pub first_runs : (s : Search) (p : Problem) (ls : List LogLine) (cs : List (List Literal)) (slots : Slots) (additions : ℕ)
+    → IsStarted slots p.stack additions s → IsLeft cs slots p.stack ls
     → (p.given).items ≡ given_of cs → p.first ≡ length (p.given).items
-    → StaysLogOver (length (p.frozen).items) (given_of cs) ls → is_refuted ls ≡ false → additions ≡ added_count ls → additions < 2 ^ 61
-    → All (λ r. IsFree (p.frozen).items r.variable) (p.stack).removed → ExtendsBack p.stack cs (live_clauses slots) → (IsRefutedByHints cs → Contains (live_clauses slots) []) → Runs s p ls
+    → StaysLogOver (length (p.frozen).items) (given_of cs) ls → is_refuted ls ≡ false
+    → additions ≡ added_count ls → additions < 2 ^ 61
+    → All (λ r. IsFree (p.frozen).items r.variable) (p.stack).removed
+    → ExtendsBack p.stack cs (live_clauses slots)
+    → (IsRefutedByHints cs → Contains (live_clauses slots) []) → Runs s p ls
 first_runs s p ls cs slots additions t h given firsts stays open_log counted few not_frozen back plain =
     let n = p.stack in
     let named = first_names cs slots n ls h (s.names).items t.named t.long in
-    let all : map (λ g. g.1) (take p.first (p.given).items) ≡ cs = ap (λ x. map (λ g. g.1) x) (take_all p.first (p.given).items (omega arith) ∙ given) ∙ clauses_given cs in
-    let whole : map (λ g. g.1) (p.given).items ≡ cs = ap (map (λ g. g.1)) given ∙ clauses_given cs in
+    let all : map (λ g. g.1) (take p.first (p.given).items) ≡ cs =
+    ap (λ x. map (λ g. g.1) x) (take_all p.first (p.given).items (omega arith) ∙ given)
+    ∙ clauses_given cs in
+    let whole : map (λ g. g.1) (p.given).items ≡ cs =
+    ap (map (λ g. g.1)) given ∙ clauses_given cs in
     let kept : additions ≡ s.kept = sym t.kept in
-    let run : IsRunning s.engine slots n (tables_of s) (p.frozen).items p.first (p.given).items ls = record {
+    let run : IsRunning s.engine slots n (tables_of s) (p.frozen).items p.first (p.given).items ls =
+    record {
       recorded = record {
         log = record { stays = subst (λ x. StaysLogOver (length (p.frozen).items) x ls) (sym given) stays; unrefuted = unrefuted ls open_log; counted = t.counted ∙ counted };
         names = subst (λ x. NamesStore slots (s.names).items x ls) (sym given) named;
@@ -260,18 +311,26 @@ formula_again f n cs h a b = record {
   clauses = subst (λ x. All (IsFormulaClause x) cs) (sym a) (subst (All (IsFormulaClause f.variables)) (sym b) h.clauses);
 }
 
-pub left_from : (cs ds : List (List Literal)) (slots : Slots) (stack : StackState) (ls : List LogLine) → ds ≡ cs
-    → ((base : ℕ) → IsBaseOf (given_of ds) base → HoldsWhatIsLive slots stack.names base (log_live (given_of ds) base ls)) → All (IsFormulaClause stack.variables) (live_clauses slots) → IsLeft cs slots stack ls
+pub left_from : (cs ds : List (List Literal)) (slots : Slots) (stack : StackState) (ls : List LogLine)
+    → ds ≡ cs
+    → ((base : ℕ) → IsBaseOf (given_of ds) base → HoldsWhatIsLive slots stack.names base (log_live (given_of ds) base ls))
+    → All (IsFormulaClause stack.variables) (live_clauses slots) → IsLeft cs slots stack ls
 left_from cs ds slots stack ls e live left = record {
   live = subst (λ x. (base : ℕ) → IsBaseOf (given_of x) base → HoldsWhatIsLive slots stack.names base (log_live (given_of x) base ls)) e live;
   left = left;
 }
 
-pub first_clauses : (p : Problem) (cs : List (List Literal)) → (p.given).items ≡ given_of cs → p.first ≡ length (p.given).items → map (λ g. g.1) (take p.first (p.given).items) ≡ cs
-first_clauses p cs given firsts = ap (λ x. map (λ g. g.1) x) (take_all p.first (p.given).items (omega arith) ∙ given) ∙ clauses_given cs
+pub first_clauses : (p : Problem) (cs : List (List Literal)) → (p.given).items ≡ given_of cs
+    → p.first ≡ length (p.given).items → map (λ g. g.1) (take p.first (p.given).items) ≡ cs
+first_clauses p cs given firsts =
+    ap (λ x. map (λ g. g.1) x) (take_all p.first (p.given).items (omega arith) ∙ given)
+    ∙ clauses_given cs
 
-pub new_problem : (f : Cnf) (p : Problem) (cs : List (List Literal)) → IsFormula f → cs ≡ f.clauses → length (p.frozen).items ≡ f.variables → (p.given).items ≡ given_of cs → p.first ≡ length (p.given).items
-    → length (p.frozen).items ≤ (p.stack).variables → (p.stack).variables ≤ length (p.frozen).items + 2 ^ 20 → IsProblem p
+pub new_problem : (f : Cnf) (p : Problem) (cs : List (List Literal)) → IsFormula f → cs ≡ f.clauses
+    → length (p.frozen).items ≡ f.variables → (p.given).items ≡ given_of cs
+    → p.first ≡ length (p.given).items
+    → length (p.frozen).items ≤ (p.stack).variables
+    → (p.stack).variables ≤ length (p.frozen).items + 2 ^ 20 → IsProblem p
 new_problem f p cs h same wide given firsts low high =
     let few : length (p.frozen).items < 2 ^ 26 = subst (λ x. x < 2 ^ 26) (sym wide) h.few in
     let bound : (p.stack).variables < 2 ^ 27 = omega arith in

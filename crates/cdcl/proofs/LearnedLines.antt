@@ -1,7 +1,6 @@
 -- A learned line: it is a step, what it adds is new, and it follows by hints alone.
-use Rattle.std.proofs.Common.{◌≡◌, ℕ, ◌<◌, true, false, List, [], ◌∷◌, ◌++◌, map, Some, inl, inr, refl, sym, ◌∙◌, ap, subst, append_assoc}
+use Rattle.std.proofs.Common.{◌≡◌, ℕ, ◌<◌, true, false, List, [], ◌∷◌, ◌++◌, map, Some, inl, inr, refl, sym, ◌∙◌, ap, subst}
 use Rattle.std.proofs.lemmas.Bool.{cases_Bool, both_ways, or_left, or_right, or_cases, or_from, or_parts}
-use Rattle.std.proofs.lemmas.List.{append-nil}
 use Rattle.std.proofs.lemmas.List.Elements.{recursion_from_All}
 use Rattle.wcnf.specs.Literal.{Literal, negation, literal_eq}
 use Rattle.wcnf.specs.Clause.{contains_literal, has_repeat, has_opposites, is_subset}
@@ -14,8 +13,8 @@ use Rattle.wcnf.proofs.Marks.{literal_eq-refl}
 use Rattle.propagate.proofs.Kept.{kept_prefix, contains_front, contains_back, literals-append}
 use Rattle.propagate.proofs.Reasons.{NoOpposites, no_opposites}
 use Rattle.lrat_log.specs.declared.lines.Name.{Name}
-use Rattle.lrat_log.specs.Log.{LogLine, Given, is_learned, is_delete, id_of, leading_ids, group_ids}
-use Rattle.lrat_log.specs.Steps.{log_live, LearnsNew, IsNewTo, IsByRup, nothing_exempt}
+use Rattle.lrat_log.specs.Log.{LogLine, Given, is_delete, id_of, leading_ids, group_ids}
+use Rattle.lrat_log.specs.Steps.{log_live, IsNewTo, IsByRup, nothing_exempt}
 use Rattle.analyze.specs.Learning.{IsAsserting, IsRefutedBy, level_of, Within}
 use Rattle.analyze.proofs.Marked.{contains_negation}
 use Rattle.cdcl.specs.Invariant.{NamesWhatIsLive, NamesStore, name_at, zero_of}
@@ -24,18 +23,6 @@ use Rattle.cdcl.proofs.Named.{refutes_named}
 use Rattle.cdcl.specs.Hinting.{plain_hints, Serves, AreUnits}
 use Rattle.cdcl.proofs.Zero.{AreOpen, refutes_served, refutes_after_units}
 use Rattle.analyze.proofs.Levels.{all_at, open_below}
-
--- one more line after others
-pub learns_push : (given : Given) (base : ℕ) (before ls : List LogLine) (l : LogLine) → LearnsNew nothing_exempt given base before ls
-    → (is_learned l.kind ≡ true → IsNewTo nothing_exempt (log_live given base (before ++ ls)) l.clause × IsByRup base (log_live given base (before ++ ls)) l)
-    → LearnsNew nothing_exempt given base before (ls ++ l ∷ [])
-learns_push given base before [] l w h =
-    (λ e. subst (λ x. IsNewTo nothing_exempt (log_live given base x) l.clause × IsByRup base (log_live given base x) l) (append-nil before) (h e), tt)
-learns_push given base before (k ∷ ls) l w h = (
-  w.0,
-  learns_push given base (before ++ k ∷ []) ls l w.1
-      (λ e. subst (λ x. IsNewTo nothing_exempt (log_live given base x) l.clause × IsByRup base (log_live given base x) l) (sym (append_assoc before (k ∷ []) ls)) (h e)),
-)
 
 pub new_to_log : (slots : Slots) (names : List Name) (base : ℕ) (at : Clauses) (c : List Literal) → NamesWhatIsLive slots names base at
     → ((r : ℕ) (d : List Literal) → clause_at slots r ≡ Some d → is_subset d c ≡ false) → IsNewTo nothing_exempt at c

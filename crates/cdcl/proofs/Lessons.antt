@@ -73,10 +73,6 @@ pub asserting_within : (e : EngineState) (slots : Slots) (c : List Literal) (bac
 asserting_within e slots c back fits w =
     false_small (literals_of e.trail) e.variables c (small_literals e.trail e.variables (recursion_from_All (λ (a : Assigned). (0 < a.literal.variable) × (a.literal.variable ≤ e.variables)) e.trail fits.small)) w.falsified
 
-pub within_bounds : (n : ℕ) (c : List Literal) → greatest_variable c ≤ n → All (λ l. l.variable ≤ n) c
-within_bounds n [] h = All-nil (λ (l : Literal). l.variable ≤ n)
-within_bounds n (l ∷ c) h = All-cons (λ (k : Literal). k.variable ≤ n) l c (omega arith) (within_bounds n c (omega arith))
-
 greatest_low : (T : List Assigned) (c : List Literal) (d : ℕ) → All (λ l. level_of T l < d) c → greatest_level T c ≤ d
 greatest_low T [] d h = omega arith
 greatest_low T (l ∷ c) d h =

@@ -1,5 +1,7 @@
 -- Each move of a search keeps what holds of a running solver.
-use Rattle.std.proofs.Common.{◌≡◌, ℕ, ◌+◌, ◌<◌, ◌≤◌, ◌^◌, Bool, true, false, not, ◌&&◌, List, [], ◌∷◌, ◌++◌, length, set, Option, Some, None, sym, ◌∙◌, ap, subst, arith}
+use Rattle.std.proofs.Common.{◌≡◌, ℕ, ◌+◌, ◌<◌, ◌≤◌, ◌^◌, Bool, true, false, not, ◌&&◌, List, []}
+use Rattle.std.proofs.Common.{◌∷◌, ◌++◌, length, set, Option, Some, None, sym, ◌∙◌, ap, subst}
+use Rattle.std.proofs.Common.{arith}
 use Rattle.std.proofs.lemmas.List.Elements.{All-push}
 use Rattle.wcnf.specs.Literal.{Literal}
 use Rattle.wcnf.specs.Lrat.{IsId}
@@ -14,7 +16,8 @@ use Rattle.lrat_log.specs.Log.{LogLine, Given, is_delete, number_in}
 use Rattle.lrat_log.specs.Steps.{adds_empty_clause, is_empty_clause}
 use Rattle.lrat_log.proofs.Growing.{one_apart, open_push}
 use Rattle.eliminate.specs.Elimination.{StackState}
-use Rattle.cdcl.specs.Invariant.{Tables, name_at, is_kept_name, NamesStore, NotesUnits, zero_of, IsRecorded, IsRunning}
+use Rattle.cdcl.specs.Invariant.{Tables, name_at, is_kept_name, NamesStore, NotesUnits, zero_of}
+use Rattle.cdcl.specs.Invariant.{IsRecorded, IsRunning}
 use Rattle.analyze.specs.Learning.{IsQuiet}
 use Rattle.cdcl.proofs.Chains.{count_push_addition, count_push_deletion}
 use Rattle.cdcl.specs.Hinting.{plain_hints}
@@ -22,12 +25,15 @@ use Rattle.cdcl.proofs.LogLines.{AddsByHints, DeletesNames, log_add, log_delete}
 use Rattle.cdcl.proofs.Named.{names_add, names_delete}
 use Rattle.cdcl.proofs.Quiet.{searches_propagate, searches_decide, searches_backtrack, searches_add}
 use Rattle.cdcl.proofs.Units.{units_propagate, units_decide, units_backtrack}
-use Rattle.cdcl.proofs.Keeping.{EmptyStays, leads_back, keeps_plain, kept_add, kept_delete, empty_add, empty_delete}
+use Rattle.cdcl.proofs.Keeping.{EmptyStays, leads_back, keeps_plain, kept_add, kept_delete}
+use Rattle.cdcl.proofs.Keeping.{empty_add, empty_delete}
 
 -- the engine alone
 
-pub run_propagate : (e f : EngineState) (slots : Slots) (stack : StackState) (t : Tables) (frozen : List Bool) (first : ℕ) (given : Given) (ls : List LogLine) → IsRunning e slots stack t frozen first given ls
-    → GrowsByUnits slots e f → SameAttached e f → f.variables ≡ e.variables → f.failed ≡ false → Fits f slots → IsRunning f slots stack t frozen first given ls
+pub run_propagate : (e f : EngineState) (slots : Slots) (stack : StackState) (t : Tables) (frozen : List Bool) (first : ℕ) (given : Given) (ls : List LogLine)
+    → IsRunning e slots stack t frozen first given ls
+    → GrowsByUnits slots e f → SameAttached e f → f.variables ≡ e.variables → f.failed ≡ false
+    → Fits f slots → IsRunning f slots stack t frozen first given ls
 run_propagate e f slots stack t frozen first given ls r grows same vars works fits = record {
   recorded = r.recorded;
   searches = searches_propagate slots e f r.searches grows same fits works;
@@ -35,9 +41,12 @@ run_propagate e f slots stack t frozen first given ls r grows same vars works fi
   units = subst (λ T. NotesUnits slots (zero_of T) (depth_of T) t.units t.noted) (sym grows.1) (units_propagate slots f e.trail grows.0 t.units t.noted grows.2 r.units);
 }
 
-pub run_decide : (e f : EngineState) (slots : Slots) (stack : StackState) (t : Tables) (frozen : List Bool) (first : ℕ) (given : Given) (ls : List LogLine) (l : Literal) → IsRunning e slots stack t frozen first given ls
+pub run_decide : (e f : EngineState) (slots : Slots) (stack : StackState) (t : Tables) (frozen : List Bool) (first : ℕ) (given : Given) (ls : List LogLine) (l : Literal)
+    → IsRunning e slots stack t frozen first given ls
     → IsQuiet slots (literals_of e.trail) → length (zero_of e.trail) ≤ t.noted
-    → f.trail ≡ e.trail ++ record { literal = l; reason = None } ∷ [] → SameAttached e f → (f.variables ≡ e.variables) × (f.failed ≡ e.failed) → Fits f slots → IsRunning f slots stack t frozen first given ls
+    → f.trail ≡ e.trail ++ record { literal = l; reason = None } ∷ [] → SameAttached e f
+    → (f.variables ≡ e.variables) × (f.failed ≡ e.failed) → Fits f slots
+    → IsRunning f slots stack t frozen first given ls
 run_decide e f slots stack t frozen first given ls l r quiet full trail attached same fits = record {
   recorded = r.recorded;
   searches = searches_decide slots e f l r.searches quiet trail attached same.1 fits;
@@ -45,8 +54,11 @@ run_decide e f slots stack t frozen first given ls l r quiet full trail attached
   units = subst (λ T. NotesUnits slots (zero_of T) (depth_of T) t.units t.noted) (sym trail) (units_decide slots e.trail l t.units t.noted full r.units);
 }
 
-pub run_backtrack : (e f : EngineState) (slots : Slots) (stack : StackState) (t : Tables) (frozen : List Bool) (first : ℕ) (given : Given) (ls : List LogLine) (level : ℕ) → IsRunning e slots stack t frozen first given ls
-    → level ≤ depth_of e.trail → f.trail ≡ kept_to level e.trail → SameAttached e f → (f.variables ≡ e.variables) × (f.failed ≡ e.failed) → Fits f slots → IsRunning f slots stack t frozen first given ls
+pub run_backtrack : (e f : EngineState) (slots : Slots) (stack : StackState) (t : Tables) (frozen : List Bool) (first : ℕ) (given : Given) (ls : List LogLine) (level : ℕ)
+    → IsRunning e slots stack t frozen first given ls
+    → level ≤ depth_of e.trail → f.trail ≡ kept_to level e.trail → SameAttached e f
+    → (f.variables ≡ e.variables) × (f.failed ≡ e.failed) → Fits f slots
+    → IsRunning f slots stack t frozen first given ls
 run_backtrack e f slots stack t frozen first given ls level r within trail attached same fits = record {
   recorded = r.recorded;
   searches = searches_backtrack slots e f level r.searches within trail attached same.1 fits;
@@ -59,7 +71,8 @@ abbrev pub with_addition : Tables → List (Option ℕ) → ℕ → Tables
 with_addition t units noted = record { names = t.names ++ Added (t.additions + 1) ∷ []; units = units; noted = noted; kept = t.kept; additions = t.additions + 1 }
 
 pub recorded_add : (slots : Slots) (stack : StackState) (t : Tables) (frozen : List Bool) (first : ℕ) (given : Given) (ls : List LogLine) (l : LogLine) (units : List (Option ℕ)) (noted : ℕ)
-    → IsRecorded slots stack t frozen first given ls → AddsByHints given ls l → adds_empty_clause l ≡ false → t.additions + 1 < 2 ^ 62 → length units ≡ length t.units
+    → IsRecorded slots stack t frozen first given ls → AddsByHints given ls l
+    → adds_empty_clause l ≡ false → t.additions + 1 < 2 ^ 62 → length units ≡ length t.units
     → IsRecorded (slots ++ Some l.clause ∷ []) stack (with_addition t units noted) frozen first given (ls ++ l ∷ [])
 recorded_add slots stack t frozen first given ls l units noted r adds goes_on room long =
     let n : Name = Added (t.additions + 1) in
@@ -80,10 +93,13 @@ recorded_add slots stack t frozen first given ls l units noted r adds goes_on ro
     }
 
 pub run_add : (e f : EngineState) (slots : Slots) (stack : StackState) (t : Tables) (frozen : List Bool) (first : ℕ) (given : Given) (ls : List LogLine) (l : LogLine) (units : List (Option ℕ)) (noted : ℕ)
-    → IsRunning e slots stack t frozen first given ls → AddsByHints given ls l → adds_empty_clause l ≡ false → t.additions + 1 < 2 ^ 62
-    → SetsAttached e f (length slots) true → (f.trail ≡ e.trail) × (f.variables ≡ e.variables) → f.failed ≡ false → Fits f (slots ++ Some l.clause ∷ [])
+    → IsRunning e slots stack t frozen first given ls → AddsByHints given ls l
+    → adds_empty_clause l ≡ false → t.additions + 1 < 2 ^ 62
+    → SetsAttached e f (length slots) true → (f.trail ≡ e.trail) × (f.variables ≡ e.variables)
+    → f.failed ≡ false → Fits f (slots ++ Some l.clause ∷ [])
     → ((level : ℕ) → level < depth_of e.trail → (IsFalseUnder l.clause (literals_of (kept_to level e.trail)) → ⊥) × ((k : Literal) → IsUnit l.clause (literals_of (kept_to level e.trail)) k → ⊥))
-    → length units ≡ length t.units → NotesUnits (slots ++ Some l.clause ∷ []) (zero_of e.trail) (depth_of e.trail) units noted
+    → length units ≡ length t.units
+    → NotesUnits (slots ++ Some l.clause ∷ []) (zero_of e.trail) (depth_of e.trail) units noted
     → IsRunning f (slots ++ Some l.clause ∷ []) stack (with_addition t units noted) frozen first given (ls ++ l ∷ [])
 run_add e f slots stack t frozen first given ls l units noted r adds goes_on room sets same works fits quiet long notes = record {
   recorded = recorded_add slots stack t frozen first given ls l units noted r.recorded adds goes_on room long;
@@ -95,14 +111,18 @@ run_add e f slots stack t frozen first given ls l units noted r adds goes_on roo
 deletes_not_empty : (l : LogLine) → is_delete l.kind ≡ true → adds_empty_clause l ≡ false
 deletes_not_empty l e = ap (λ b. not b && is_empty_clause l.clause) e
 
-empty_long : (slots : Slots) (q : ℕ) (c : List Literal) → clause_at slots q ≡ Some c → 1 < length c → EmptyStays slots (set slots q None)
+empty_long : (slots : Slots) (q : ℕ) (c : List Literal) → clause_at slots q ≡ Some c → 1 < length c
+    → EmptyStays slots (set slots q None)
 empty_long slots q [] e long = absurd (omega arith)
 empty_long slots q (l ∷ c) e long = empty_delete slots q l c e
 
--- a clause of two literals or more, which is not kept, is detached, deleted, and written down as deleted
+-- a clause of two literals or more, which is not kept, is detached, deleted, and written down as
+-- deleted
 pub recorded_delete : (slots : Slots) (stack : StackState) (t : Tables) (frozen : List Bool) (first : ℕ) (given : Given) (ls : List LogLine) (l : LogLine) (q : ℕ) (c : List Literal)
-    → IsRecorded slots stack t frozen first given ls → clause_at slots q ≡ Some c → 1 < length c → is_kept_name t.kept (name_at t.names q) ≡ false
-    → is_delete l.kind ≡ true → l.hints ≡ plain_hints (name_at t.names q ∷ []) → IsRecorded (set slots q None) stack t frozen first given (ls ++ l ∷ [])
+    → IsRecorded slots stack t frozen first given ls → clause_at slots q ≡ Some c → 1 < length c
+    → is_kept_name t.kept (name_at t.names q) ≡ false
+    → is_delete l.kind ≡ true → l.hints ≡ plain_hints (name_at t.names q ∷ [])
+    → IsRecorded (set slots q None) stack t frozen first given (ls ++ l ∷ [])
 recorded_delete slots stack t frozen first given ls l q c r here long dropped deletes plain =
     let d : DeletesNames given ls l = record {
       names = name_at t.names q ∷ [];

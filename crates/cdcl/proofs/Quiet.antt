@@ -1,5 +1,7 @@
--- The engine between the moves of a search: at the ends of the levels below the current one nothing was false or unit.
-use Rattle.std.proofs.Common.{◌≡◌, ℕ, ◌+◌, ◌<◌, ◌≤◌, true, false, cond, List, [], ◌∷◌, ◌++◌, length, map, Option, Some, None, inl, inr, refl, sym, ◌∙◌, ap, subst, arith}
+-- The engine between the moves of a search: at the ends of the levels below the current one nothing
+-- was false or unit.
+use Rattle.std.proofs.Common.{◌≡◌, ℕ, ◌+◌, ◌<◌, ◌≤◌, true, false, cond, List, [], ◌∷◌, ◌++◌, length}
+use Rattle.std.proofs.Common.{map, Option, Some, None, inl, inr, refl, sym, ◌∙◌, ap, subst, arith}
 use Rattle.std.specs.Prelude.{IfSome, is_none}
 use Rattle.std.specs.List.{AllByRecursion}
 use Rattle.std.specs.List.Sorted.{IsStrictlyIncreasing}
@@ -22,15 +24,18 @@ use Rattle.analyze.specs.Learning.{IsQuiet}
 use Rattle.cdcl.proofs.Places.{clause_cases, came, same_clause}
 use Rattle.analyze.proofs.Levels.{kept_more, depth_follow}
 
-pub searches_propagate : (slots : Slots) (e f : EngineState) → Searches e slots → GrowsByUnits slots e f → SameAttached e f → Fits f slots → f.failed ≡ false → Searches f slots
+pub searches_propagate : (slots : Slots) (e f : EngineState) → Searches e slots
+    → GrowsByUnits slots e f → SameAttached e f → Fits f slots → f.failed ≡ false → Searches f slots
 searches_propagate slots e f s grows same fits works = record {
   works = works;
   fits = fits;
   all_attached = λ r live. same r ∙ s.all_attached r live;
   quiet = λ level below.
-      let depth : depth_of f.trail ≡ depth_of e.trail = ap depth_of grows.1 ∙ depth_follow slots f (literals_of e.trail) e.trail grows.0 grows.2 in
+      let depth : depth_of f.trail ≡ depth_of e.trail =
+      ap depth_of grows.1 ∙ depth_follow slots f (literals_of e.trail) e.trail grows.0 grows.2 in
       let low : level < depth_of e.trail = omega arith in
-      let kept : kept_to level f.trail ≡ kept_to level e.trail = ap (kept_to level) grows.1 ∙ kept_more level e.trail grows.0 low in
+      let kept : kept_to level f.trail ≡ kept_to level e.trail =
+      ap (kept_to level) grows.1 ∙ kept_more level e.trail grows.0 low in
       subst (λ T. IsQuiet slots (literals_of T)) (sym kept) (s.quiet level low);
 }
 
@@ -45,27 +50,33 @@ searches_decide slots e f l s quiet trail same failed fits = record {
       let depth : depth_of (e.trail ++ a ∷ []) ≡ depth_of e.trail + 1 = depth_push e.trail a in
       let deeper : depth_of f.trail ≡ depth_of (e.trail ++ a ∷ []) = ap depth_of trail in
       let low : level < depth_of (e.trail ++ a ∷ []) = omega arith in
-      let kept : kept_to level f.trail ≡ kept_to level e.trail = ap (kept_to level) trail ∙ kept_push level e.trail a low in
+      let kept : kept_to level f.trail ≡ kept_to level e.trail =
+      ap (kept_to level) trail ∙ kept_push level e.trail a low in
       elim (cases_lt level (depth_of e.trail)) [
         | inl lower ↦ subst (λ T. IsQuiet slots (literals_of T)) (sym kept) (s.quiet level lower)
         | inr here ↦ subst (λ T. IsQuiet slots (literals_of T)) (sym (kept ∙ kept_all level e.trail here)) quiet
       ];
 }
 
-pub searches_backtrack : (slots : Slots) (e f : EngineState) (to : ℕ) → Searches e slots → to ≤ depth_of e.trail → f.trail ≡ kept_to to e.trail
+pub searches_backtrack : (slots : Slots) (e f : EngineState) (to : ℕ) → Searches e slots
+    → to ≤ depth_of e.trail → f.trail ≡ kept_to to e.trail
     → SameAttached e f → f.failed ≡ e.failed → Fits f slots → Searches f slots
 searches_backtrack slots e f to s within trail same failed fits = record {
   works = failed ∙ s.works;
   fits = fits;
   all_attached = λ r live. same r ∙ s.all_attached r live;
   quiet = λ level below.
-      let depth : depth_of f.trail ≤ to = subst (λ T. depth_of T ≤ to) (sym trail) (kept_low to e.trail) in
-      let kept : kept_to level f.trail ≡ kept_to level e.trail = ap (kept_to level) trail ∙ kept_kept level to e.trail (omega arith) in
+      let depth : depth_of f.trail ≤ to =
+      subst (λ T. depth_of T ≤ to) (sym trail) (kept_low to e.trail) in
+      let kept : kept_to level f.trail ≡ kept_to level e.trail =
+      ap (kept_to level) trail ∙ kept_kept level to e.trail (omega arith) in
       subst (λ T. IsQuiet slots (literals_of T)) (sym kept) (s.quiet level (omega arith));
 }
 
 -- one more clause, which is neither false nor unit at the ends of lower levels
-pub searches_add : (slots : Slots) (e f : EngineState) (c : List Literal) → Searches e slots → SetsAttached e f (length slots) true → f.trail ≡ e.trail → f.failed ≡ false → Fits f (slots ++ Some c ∷ [])
+pub searches_add : (slots : Slots) (e f : EngineState) (c : List Literal) → Searches e slots
+    → SetsAttached e f (length slots) true → f.trail ≡ e.trail → f.failed ≡ false
+    → Fits f (slots ++ Some c ∷ [])
     → ((level : ℕ) → level < depth_of e.trail → (IsFalseUnder c (literals_of (kept_to level e.trail)) → ⊥) × ((l : Literal) → IsUnit c (literals_of (kept_to level e.trail)) l → ⊥))
     → Searches f (slots ++ Some c ∷ [])
 searches_add slots e f c s sets trail works fits new = record {
@@ -99,14 +110,17 @@ depth_moved ms (a ∷ T) =
     let b : Assigned = record { literal = a.literal; reason = named_reason ms a.reason } in
     depth-cons b (named_trail ms T) ∙ ap (λ k. cond k 1 0 + depth_of (named_trail ms T)) (none_moved ms a.reason) ∙ ap (λ k. cond (is_decision a) 1 0 + k) (depth_moved ms T) ∙ sym (depth-cons a T)
 
-pub searches_move : (before after : Slots) (ms : Renaming) (e f : EngineState) → IsRenaming before after ms → IsStrictlyIncreasing (map (λ m. m.0) ms) → Searches e before
+pub searches_move : (before after : Slots) (ms : Renaming) (e f : EngineState)
+    → IsRenaming before after ms → IsStrictlyIncreasing (map (λ m. m.0) ms) → Searches e before
     → MovesAttached e f ms → f.trail ≡ renamed_trail ms e.trail → f.failed ≡ e.failed → Fits f after
     → Searches f after × (zero_of f.trail ≡ zero_of e.trail) × (depth_of f.trail ≡ depth_of e.trail)
 searches_move before after ms e f renames rises s moves trail failed fits =
     let listed : AllByRecursion (λ a. IfSome a.reason (λ r. (q : ℕ) × (renamed ms r ≡ Some q))) e.trail =
     recursion_from_All (λ a. IfSome a.reason (λ r. (q : ℕ) × (renamed ms r ≡ Some q))) e.trail (reasons_listed e before after ms s.fits renames) in
-    let as_named : f.trail ≡ named_trail ms e.trail = trail ∙ sym (trail_listed ms e.trail listed) in
-    let depth : depth_of f.trail ≡ depth_of e.trail = ap depth_of as_named ∙ depth_moved ms e.trail in
+    let as_named : f.trail ≡ named_trail ms e.trail =
+    trail ∙ sym (trail_listed ms e.trail listed) in
+    let depth : depth_of f.trail ≡ depth_of e.trail =
+    ap depth_of as_named ∙ depth_moved ms e.trail in
     let kept : (level : ℕ) → literals_of (kept_to level f.trail) ≡ literals_of (kept_to level e.trail) = λ level. ap (λ T. literals_of (kept_to level T)) as_named ∙ kept_named ms level e.trail in (
       record {
         works = failed ∙ s.works;

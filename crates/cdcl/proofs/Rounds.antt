@@ -1,6 +1,6 @@
 -- Rounds of a search: each leaves fewer.
 use Rattle.std.proofs.Common.{◌≡◌, ℕ, ◌+◌, ◌-◌, ◌*◌, ◌<◌, ◌≤◌, Bool, true, false, List, length, sym, ◌∙◌, ap, subst, arith}
-use Rattle.std.specs.Prelude.{nat_lt, if◌then◌else◌, Option, Some, None, Result, Ok, Err, IfOk, IfNone}
+use Rattle.std.specs.Prelude.{nat_lt, if◌then◌else◌}
 use Rattle.std.proofs.Math.Nat.{mul-le-mul_left}
 use Rattle.std.proofs.lemmas.Bool.{lt-ltb}
 use Rattle.cdcl_order.specs.Budgets.{BudgetState, left_of}
@@ -80,14 +80,3 @@ goes_decided old new p ls budget conflicts r same longer within = record {
   runs = r;
   fewer = subst (λ n. (2 * left_of budget + flag conflicts) * (n + 2) + (n + 1 - length (new.engine).trail) < rounds_left old budget conflicts) (sym same) (omega arith);
 }
-
--- an answer that goes on
-pub goes_weaker : {A E : Type 0} (r : Result (Option A) E) (P Q : Type 0) → (P → Q) → IfOk r (λ n. IfNone n P) → IfOk r (λ n. IfNone n Q)
-goes_weaker (Ok None) P Q f h = f h
-goes_weaker (Ok (Some a)) P Q f h = h
-goes_weaker (Err e) P Q f h = h
-
--- an answer that can't come
-pub ok_weaker : {A E : Type 0} (r : Result A E) (P Q : A → Type 0) → ((a : A) → P a → Q a) → IfOk r P → IfOk r Q
-ok_weaker (Ok a) P Q f h = f a h
-ok_weaker (Err e) P Q f h = h

@@ -1,8 +1,10 @@
 -- The tables of a search before its first move.
-use Rattle.std.proofs.Common.{◌≡◌, ◌≢◌, ℕ, ◌+◌, ◌<◌, true, false, List, [], ◌∷◌, ◌++◌, length, get_or, set, inl, inr, sym, ◌∙◌, ap, subst, arith}
+use Rattle.std.proofs.Common.{◌≡◌, ◌≢◌, ℕ, ◌+◌, ◌<◌, true, false, List, [], ◌∷◌, ◌++◌, length}
+use Rattle.std.proofs.Common.{get_or, set, inl, inr, sym, ◌∙◌, ap, subst, arith}
 use Rattle.std.specs.Prelude.{All}
 use Rattle.std.proofs.lemmas.Bool.{cases_eq, cases_Bool, both_ways}
-use Rattle.std.proofs.lemmas.List.{length-set, get_or-set_same, get_or-set_other, get_or_default, length_push, append_assoc}
+use Rattle.std.proofs.lemmas.List.{length-set, get_or-set_same, get_or-set_other, get_or_default}
+use Rattle.std.proofs.lemmas.List.{length_push, append_assoc}
 use Rattle.std.proofs.lemmas.List.Elements.{All-set}
 use Rattle.wcnf.specs.Literal.{Literal}
 use Rattle.wcnf.specs.Lrat.{IsId}
@@ -17,8 +19,10 @@ use Rattle.cdcl.specs.Invariant.{name_at}
 use Rattle.cdcl.specs.Starts.{AreRising}
 
 -- one more clause under its number
-pub given_next : (now : Given) (c : List Literal) (left : List (List Literal)) (all : Given) → now ++ given_on (length now + 1) (c ∷ left) ≡ all
-    → (now ++ (Formula (length now + 1), c) ∷ []) ++ given_on (length (now ++ (Formula (length now + 1), c) ∷ []) + 1) left ≡ all
+pub given_next : (now : Given) (c : List Literal) (left : List (List Literal)) (all : Given)
+    → now ++ given_on (length now + 1) (c ∷ left) ≡ all
+    → (now ++ (Formula (length now + 1), c) ∷ []) ++ given_on (length (now ++ (Formula (length now + 1), c) ∷ []) + 1) left
+    ≡ all
 given_next now c left all e =
     let g : Name × List Literal = (Formula (length now + 1), c) in
     append_assoc now (g ∷ []) (given_on (length (now ++ g ∷ []) + 1) left)
@@ -30,10 +34,13 @@ given_next now c left all e =
 pub record AreNamed (names : List Name) (listed : List (ℕ × Name)) (n places : ℕ) : Type 0 where
   pub long : length names ≡ places
   pub numbers : All (λ x. IsId (number_in x)) names
-  pub named : (i : ℕ) (d : ℕ × Name) → i < n → i < length listed → name_at names (get_or listed i d).0 ≡ (get_or listed i d).1
+  pub named : (i : ℕ) (d : ℕ × Name) → i < n → i < length listed
+      → name_at names (get_or listed i d).0 ≡ (get_or listed i d).1
 
-pub named_more : (names : List Name) (listed : List (ℕ × Name)) (n places : ℕ) (item : ℕ × Name) → AreRising listed → All (λ x. x.0 < places) listed → All (λ x. IsId (number_in x.1)) listed
-    → n < length listed → item ≡ get_or listed n item → AreNamed names listed n places → AreNamed (set names item.0 item.1) listed (n + 1) places
+pub named_more : (names : List Name) (listed : List (ℕ × Name)) (n places : ℕ) (item : ℕ × Name)
+    → AreRising listed → All (λ x. x.0 < places) listed → All (λ x. IsId (number_in x.1)) listed
+    → n < length listed → item ≡ get_or listed n item → AreNamed names listed n places
+    → AreNamed (set names item.0 item.1) listed (n + 1) places
 named_more names listed n places item rising within ids lt at a =
     let low : item.0 < length names = subst (λ (x : ℕ × Name). x.0 < length names) (sym at) (let h = within n item lt in let l = a.long in omega arith) in
     record {
@@ -41,12 +48,14 @@ named_more names listed n places item rising within ids lt at a =
       numbers = All-set (λ x. IsId (number_in x)) names item.0 item.1 (subst (λ (x : ℕ × Name). IsId (number_in x.1)) (sym at) (ids n item lt)) a.numbers;
       named = λ i d h inside. elim (cases_eq i n) as (λ _. name_at (set names item.0 item.1) (get_or listed i d).0 ≡ (get_or listed i d).1) [
         | inl same ↦
-            let is : get_or listed i d ≡ item = ap (λ k. get_or listed k d) same ∙ get_or_default listed n d item lt ∙ sym at in
+            let is : get_or listed i d ≡ item =
+            ap (λ k. get_or listed k d) same ∙ get_or_default listed n d item lt ∙ sym at in
             subst (λ (x : ℕ × Name). name_at (set names item.0 item.1) x.0 ≡ x.1) (sym is) (get_or-set_same names item.0 item.1 (Formula 0) low)
         | inr other ↦
             let below : i < n = omega arith in
             let is : get_or listed n d ≡ item = get_or_default listed n d item lt ∙ sym at in
-            let less : (get_or listed i d).0 < item.0 = subst (λ (x : ℕ × Name). (get_or listed i d).0 < x.0) is (rising i n d below lt) in
+            let less : (get_or listed i d).0 < item.0 =
+            subst (λ (x : ℕ × Name). (get_or listed i d).0 < x.0) is (rising i n d below lt) in
             let ne : (get_or listed i d).0 ≢ item.0 = omega arith in
             get_or-set_other names item.0 (get_or listed i d).0 item.1 (Formula 0) ne ∙ a.named i d below inside
       ];
@@ -59,10 +68,14 @@ pub record AreAttached (e : EngineState) (slots : Slots) (variables : ℕ) (list
   pub trail : e.trail ≡ []
   pub variables_are : e.variables ≡ variables
   pub works : e.failed ≡ false
-  pub attached : (i : ℕ) (d : ℕ × Name) → i < n → i < length listed → is_attached e (get_or listed i d).0 ≡ true
-  pub only : (r : ℕ) → is_attached e r ≡ true → (i : ℕ) × (i < n) × (i < length listed) × ((d : ℕ × Name) → (get_or listed i d).0 ≡ r)
+  pub attached : (i : ℕ) (d : ℕ × Name) → i < n → i < length listed
+      → is_attached e (get_or listed i d).0 ≡ true
+  pub only : (r : ℕ) → is_attached e r ≡ true
+      → (i : ℕ) × (i < n) × (i < length listed) × ((d : ℕ × Name) → (get_or listed i d).0 ≡ r)
 
-pub attached_none : (e : EngineState) (slots : Slots) (variables : ℕ) (listed : List (ℕ × Name)) → Fits e slots → (e.variables ≡ variables) × (e.trail ≡ []) × (e.failed ≡ false) → ((r : ℕ) → is_attached e r ≡ false)
+pub attached_none : (e : EngineState) (slots : Slots) (variables : ℕ) (listed : List (ℕ × Name))
+    → Fits e slots → (e.variables ≡ variables) × (e.trail ≡ []) × (e.failed ≡ false)
+    → ((r : ℕ) → is_attached e r ≡ false)
     → AreAttached e slots variables listed 0
 attached_none e slots variables listed fits same none = record {
   fits = fits;
@@ -73,7 +86,9 @@ attached_none e slots variables listed fits same none = record {
   only = λ r on. absurd (both_ways (is_attached e r) (none r) on);
 }
 
-pub not_yet : (e : EngineState) (slots : Slots) (variables : ℕ) (listed : List (ℕ × Name)) (n : ℕ) (item : ℕ × Name) → AreRising listed → n < length listed → item ≡ get_or listed n item → AreAttached e slots variables listed n
+pub not_yet : (e : EngineState) (slots : Slots) (variables : ℕ) (listed : List (ℕ × Name)) (n : ℕ) (item : ℕ × Name)
+    → AreRising listed → n < length listed → item ≡ get_or listed n item
+    → AreAttached e slots variables listed n
     → is_attached e item.0 ≡ false
 not_yet e slots variables listed n item rising lt at a = elim (cases_Bool (is_attached e item.0)) as (λ _. is_attached e item.0 ≡ false) [
   | inr f ↦ f
@@ -84,8 +99,10 @@ not_yet e slots variables listed n item rising lt at a = elim (cases_Bool (is_at
       absurd (omega arith)
 ]
 
-pub attached_more : (e f : EngineState) (slots : Slots) (variables : ℕ) (listed : List (ℕ × Name)) (n : ℕ) (item : ℕ × Name) → n < length listed → item ≡ get_or listed n item → AreAttached e slots variables listed n
-    → SetsAttached e f item.0 true → (f.trail ≡ e.trail) × (f.variables ≡ e.variables) → f.failed ≡ false → Fits f slots → AreAttached f slots variables listed (n + 1)
+pub attached_more : (e f : EngineState) (slots : Slots) (variables : ℕ) (listed : List (ℕ × Name)) (n : ℕ) (item : ℕ × Name)
+    → n < length listed → item ≡ get_or listed n item → AreAttached e slots variables listed n
+    → SetsAttached e f item.0 true → (f.trail ≡ e.trail) × (f.variables ≡ e.variables)
+    → f.failed ≡ false → Fits f slots → AreAttached f slots variables listed (n + 1)
 attached_more e f slots variables listed n item lt at a sets same works fits = record {
   fits = fits;
   trail = same.0 ∙ a.trail;

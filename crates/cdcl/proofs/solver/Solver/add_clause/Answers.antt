@@ -1,30 +1,35 @@
 use Rattle.std.proofs.Common.{◌≡◌, sym, ◌∙◌, ap, subst}
 use Rattle.std.specs.Prelude.{All}
 use Rattle.lrat_log.specs.declared.lines.Name.TheVariants.{Formula}
-use Rattle.lrat_log.specs.Steps.{IsLogOver}
 use Rattle.cdcl.specs.Solving.{given_to, IsFrozen, IsFreshName}
-use Rattle.cdcl.proofs.Answered.{given_seen, log_now}
+use Rattle.cdcl.proofs.Answered.{given_seen, log_now, seen_log}
 use Rattle.cdcl.proofs.GivenClause.{gives_solver, fails_solver, frozen_within}
 use Rattle.cdcl.proofs.solver.Solver.add_clause.Goals as goal
 
 pub returns-then-self-clause-lines : goal.returns-then-self-clause-lines
 returns-then-self-clause-lines g c =
-    subst (λ s. IsLogOver (given_to s) (g.S.Sink.lines s.sink)) c.self.view_is (log_now c.self.inside.problem (g.S.Sink.lines c.self.inside.sink) c.self.invariant.problem c.self.invariant.lines)
+    seen_log g.S.Sink.lines c.self.inside.problem c.self.inside.sink c.self.inside.failed
+    c.self.invariant.problem _ c.self.view_is c.self.invariant.lines
 
 pub give-requires-clause-within : goal.give-requires-clause-within
 give-requires-clause-within g c = λ u.
-    let fixed = subst (λ s. All (IsFrozen s.frozen) c.args.lits.now) (sym c.self.view_is) c.requires.frozen in
+    let fixed =
+    subst (λ s. All (IsFrozen s.frozen) c.args.lits.now) (sym c.self.view_is) c.requires.frozen in
     frozen_within c.self.inside.search c.self.inside.problem (g.S.Sink.lines c.self.inside.sink) c.args.lits.now c.self.invariant.problem (c.self.invariant.running c.if-self.false u) fixed c.are_named.ensures
 
 pub invariant_of-self : goal.invariant_of-self
 invariant_of-self g c =
     let p = c.self.inside.problem in
     let ls = g.S.Sink.lines c.self.inside.sink in
-    let seen = subst (λ s. IsFreshName (given_to s) c.args.name) (sym c.self.view_is) c.requires.fresh in
-    let free = subst (λ x. IsFreshName x c.args.name) (given_seen p c.self.invariant.problem) seen in
-    let name : c.args.name ≡ Formula c.get-number.result = c.in-Formula.is ∙ ap Formula (sym c.get-number.ensures.value) in
+    let seen =
+    subst (λ s. IsFreshName (given_to s) c.args.name) (sym c.self.view_is) c.requires.fresh in
+    let free =
+    subst (λ x. IsFreshName x c.args.name) (given_seen p c.self.invariant.problem) seen in
+    let name : c.args.name ≡ Formula c.get-number.result =
+    c.in-Formula.is ∙ ap Formula (sym c.get-number.ensures.value) in
     let fresh = subst (IsFreshName (p.given).items) name free in
-    let fixed = subst (λ s. All (IsFrozen s.frozen) c.args.lits.now) (sym c.self.view_is) c.requires.frozen in
+    let fixed =
+    subst (λ s. All (IsFrozen s.frozen) c.args.lits.now) (sym c.self.view_is) c.requires.frozen in
     let ok = gives_solver c.self.inside.search c.give.new.search p c.give.new.problem (Formula c.get-number.result) c.args.lits.now ls c.self.inside.refuted c.self.inside.failed c.self.invariant c.if-self.false c.in-Ok.ensures.given fresh
     (c.get-number.ensures.from_one, c.get-number.ensures.small) fixed c.requires.no_repeat c.requires.no_opposites c.are_named.ensures c.in-Ok.ensures.takes in
     ok
@@ -40,11 +45,15 @@ pub returns-in-Ok-clause-lines : goal.returns-in-Ok-clause-lines
 returns-in-Ok-clause-lines g c =
     let p = c.self.inside.problem in
     let ls = g.S.Sink.lines c.self.inside.sink in
-    let seen = subst (λ s. IsFreshName (given_to s) c.args.name) (sym c.self.view_is) c.requires.fresh in
-    let free = subst (λ x. IsFreshName x c.args.name) (given_seen p c.self.invariant.problem) seen in
-    let name : c.args.name ≡ Formula c.get-number.result = c.in-Formula.is ∙ ap Formula (sym c.get-number.ensures.value) in
+    let seen =
+    subst (λ s. IsFreshName (given_to s) c.args.name) (sym c.self.view_is) c.requires.fresh in
+    let free =
+    subst (λ x. IsFreshName x c.args.name) (given_seen p c.self.invariant.problem) seen in
+    let name : c.args.name ≡ Formula c.get-number.result =
+    c.in-Formula.is ∙ ap Formula (sym c.get-number.ensures.value) in
     let fresh = subst (IsFreshName (p.given).items) name free in
-    let fixed = subst (λ s. All (IsFrozen s.frozen) c.args.lits.now) (sym c.self.view_is) c.requires.frozen in
+    let fixed =
+    subst (λ s. All (IsFrozen s.frozen) c.args.lits.now) (sym c.self.view_is) c.requires.frozen in
     let ok = gives_solver c.self.inside.search c.give.new.search p c.give.new.problem (Formula c.get-number.result) c.args.lits.now ls c.self.inside.refuted c.self.inside.failed c.self.invariant c.if-self.false c.in-Ok.ensures.given fresh
     (c.get-number.ensures.from_one, c.get-number.ensures.small) fixed c.requires.no_repeat c.requires.no_opposites c.are_named.ensures c.in-Ok.ensures.takes in
     log_now c.give.new.problem ls ok.problem ok.lines

@@ -2,7 +2,8 @@ use Rattle.std.proofs.Common.{◌≡◌, length, sym, ◌∙◌, subst}
 use Rattle.lrat_log.specs.Steps.{IsAcceptedLog}
 use Rattle.cdcl.specs.Solving.{given_to, SatisfyGiven}
 use Rattle.cdcl.specs.Running.{IsAnswer}
-use Rattle.cdcl.proofs.Answered.{given_seen, log_now, ended_log, answered_log, solver_runs, solver_fails}
+use Rattle.cdcl.proofs.Answered.{given_seen, log_now, ended_log, answered_log, solver_runs}
+use Rattle.cdcl.proofs.Answered.{solver_fails}
 use Rattle.cdcl.proofs.Answered.{seen_log, seen_ended, seen_plain, seen_live, seen_short}
 use Rattle.cdcl.proofs.solver.Solver.solve.Goals as goal
 
@@ -24,7 +25,8 @@ returns-then-self-2-clause-lines g c =
 
 pub returns-in-Ok-Sat-clause-refuted : goal.returns-in-Ok-Sat-clause-refuted
 returns-in-Ok-Sat-clause-refuted g c = λ h.
-    let plain = seen_plain g.S.Sink.lines c.self.inside.problem c.self.inside.sink c.self.inside.failed
+    let plain =
+    seen_plain g.S.Sink.lines c.self.inside.problem c.self.inside.sink c.self.inside.failed
     c.self.invariant.problem _ c.self.view_is
     c.answer.new.search (g.S.Sink.lines c.answer.new.sink) c.answer.new.budget _ c.in-Ok-Sat.ensures.answers h in
     let e = sym c.in-Ok-Sat.field-0-is ∙ plain in
@@ -32,7 +34,8 @@ returns-in-Ok-Sat-clause-refuted g c = λ h.
 
 pub returns-in-Ok-Sat-clause-propagates : goal.returns-in-Ok-Sat-clause-propagates
 returns-in-Ok-Sat-clause-propagates g c = λ h.
-    let held = seen_live g.S.Sink.lines c.self.inside.problem c.self.inside.sink c.self.inside.failed
+    let held =
+    seen_live g.S.Sink.lines c.self.inside.problem c.self.inside.sink c.self.inside.failed
     c.self.invariant.problem _ c.self.view_is h in
     let e = sym c.in-Ok-Sat.field-0-is ∙ c.in-Ok-Sat.ensures.propagates held in
     absurd (cc)
@@ -50,7 +53,8 @@ returns-in-Ok-Sat-clause-short g c =
 
 pub returns-in-Ok-Limit-clause-refuted : goal.returns-in-Ok-Limit-clause-refuted
 returns-in-Ok-Limit-clause-refuted g c = λ h.
-    let plain = seen_plain g.S.Sink.lines c.self.inside.problem c.self.inside.sink c.self.inside.failed
+    let plain =
+    seen_plain g.S.Sink.lines c.self.inside.problem c.self.inside.sink c.self.inside.failed
     c.self.invariant.problem _ c.self.view_is
     c.answer.new.search (g.S.Sink.lines c.answer.new.sink) c.answer.new.budget _ c.in-Ok-Limit.ensures.answers h in
     let e = sym c.in-Ok-Limit.field-0-is ∙ plain in
@@ -58,7 +62,8 @@ returns-in-Ok-Limit-clause-refuted g c = λ h.
 
 pub returns-in-Ok-Limit-clause-propagates : goal.returns-in-Ok-Limit-clause-propagates
 returns-in-Ok-Limit-clause-propagates g c = λ h.
-    let held = seen_live g.S.Sink.lines c.self.inside.problem c.self.inside.sink c.self.inside.failed
+    let held =
+    seen_live g.S.Sink.lines c.self.inside.problem c.self.inside.sink c.self.inside.failed
     c.self.invariant.problem _ c.self.view_is h in
     let e = sym c.in-Ok-Limit.field-0-is ∙ c.in-Ok-Limit.ensures.propagates held in
     absurd (cc)
@@ -101,7 +106,8 @@ returns-in-Ok-Unsat-clause-short g c =
     (g.S.Sink.lines c.answer.new.sink) c.answer.ensures.pays.0 c.answer.ensures.pays.1
 
 pub returns-in-Err-clause-lines : goal.returns-in-Err-clause-lines
-returns-in-Err-clause-lines g c = log_now c.self.inside.problem (g.S.Sink.lines c.answer.new.sink) c.self.invariant.problem c.in-Err.ensures.err.stays
+returns-in-Err-clause-lines g c =
+    log_now c.self.inside.problem (g.S.Sink.lines c.answer.new.sink) c.self.invariant.problem c.in-Err.ensures.err.stays
 
 pub returns-in-Err-clause-short : goal.returns-in-Err-clause-short
 returns-in-Err-clause-short g c =
@@ -124,4 +130,5 @@ invariant_of-self-in-Ok-Limit g c =
     solver_runs c.answer.new.search p ls c.self.inside.refuted c.self.inside.failed c.self.invariant.problem a.runs c.if-self-2.false
 
 pub invariant_of-self-in-Err : goal.invariant_of-self-in-Err
-invariant_of-self-in-Err g c = solver_fails c.answer.new.search c.self.inside.problem (g.S.Sink.lines c.answer.new.sink) c.self.inside.refuted c.self.invariant.problem c.in-Err.ensures.err c.if-self-2.false
+invariant_of-self-in-Err g c =
+    solver_fails c.answer.new.search c.self.inside.problem (g.S.Sink.lines c.answer.new.sink) c.self.inside.refuted c.self.invariant.problem c.in-Err.ensures.err c.if-self-2.false
