@@ -15,7 +15,7 @@ use Rattle.std.proofs.lemmas.Bool.{false_from_ne_true}
 use Rattle.std.proofs.lemmas.List.Sums.{sum_by-append}
 use Rattle.lrat_log.specs.Log.{LogLine, is_learned, clauses_in}
 use Rattle.lrat_log.specs.Steps.{IsLogOver, IsBaseOf, LearnsNew, is_later, nothing_exempt, learned_count, given_of}
-use Rattle.lrat_log.proofs.Rebasing.{base_of}
+use Rattle.lrat_log.proofs.GivenNumbers.{base_of}
 use Rattle.adder.specs.Network.{adders_as}
 use Rattle.adder.proofs.Sums.{left_part, right_part}
 use Rattle.improve.specs.Frozen.{AreFrozen}

@@ -1,5 +1,6 @@
 -- The ends of a search over the hard clauses alone.
-use Rattle.std.proofs.Common.{◌≡◌, ℕ, ◌+◌, ◌≤◌, Bool, List, [], ◌++◌, length, inl, refl, sym, ◌∙◌, ap, subst, arith}
+use Rattle.std.proofs.Common.{◌≡◌, ℕ, ◌+◌, Bool, List, [], ◌++◌, length, inl, refl, sym, ◌∙◌}
+use Rattle.std.proofs.Common.{ap, subst, arith}
 use Rattle.std.specs.Prelude.{All}
 use Rattle.std.proofs.lemmas.List.{length-map}
 use Rattle.std.proofs.lemmas.List.Elements.{All-map}
@@ -11,8 +12,10 @@ use Rattle.wcnf.specs.Refute.{IsRefutedByHints}
 use Rattle.wcnf.proofs.Certificates.{certificate_sound}
 use Rattle.lrat_log.specs.declared.lines.Name.{Name}
 use Rattle.lrat_log.specs.Log.{LogLine, numbered_lines, clauses_in}
-use Rattle.lrat_log.specs.Steps.{IsLogOver, IsAcceptedLog, IsBaseOf, AddsNoEmptyClause, LearnsNew, nothing_exempt, learned_count}
-use Rattle.lrat_log.proofs.Rebasing.{accepts_of_log, steps_of_log, base_of}
+use Rattle.lrat_log.specs.Steps.{IsLogOver, IsAcceptedLog, IsBaseOf, AddsNoEmptyClause, LearnsNew}
+use Rattle.lrat_log.specs.Steps.{nothing_exempt, learned_count}
+use Rattle.lrat_log.proofs.GivenNumbers.{base_of, clauses_given}
+use Rattle.lrat_log.proofs.Rebasing.{accepts_of_log, steps_of_log}
 use Rattle.adder.specs.declared.cells.Profile.{Profile}
 use Rattle.bound.specs.Bound.{hard_cnf}
 use Rattle.bound.proofs.Clauses.{feasible}
@@ -21,20 +24,19 @@ use Rattle.cdcl.specs.Solving.{given_to, SatisfyGiven, SameGiven, IsPlainlyRefut
 use Rattle.improve.specs.Improving.{IsHardLog, IsRightFound, work_count}
 use Rattle.improve.specs.Bounds.{LogSolver, IsOverHard}
 use Rattle.improve.specs.declared.found.Found.TheVariants.{Unsat, Nothing}
-use Rattle.cdcl.proofs.Started.{clauses_given}
 use Rattle.lrat_log.proofs.NewLines.{first_new}
 use Rattle.improve.proofs.CheaperBits.{same_given, learned_more}
 
 module _ (p : Problem) (old : LogSolver) (h : IsOverHard p old) where
-  pub hard_feasible : (bits : List Bool) → SatisfyGiven bits (given_to old) → (t : Assignment) → Extends bits t → IsFeasible p t
+  pub hard_feasible : (bits : List Bool) → SatisfyGiven bits (given_to old) → (t : Assignment)
+      → Extends bits t → IsFeasible p t
   hard_feasible bits sat t x =
       (feasible p t).0 (subst (All (Satisfies t)) (ap clauses_in h.given ∙ clauses_given (hard_cnf p).clauses) (All-map (Satisfies t) (λ (g : Name × List Literal). g.1) (given_to old) (sat t x)))
 
-  pub hard_long : (bits : List Bool) → length bits ≡ old.formula.variables → p.variables ≤ length bits
-  hard_long bits e = omega (arith, e, ap (λ f. f.variables) h.formula)
-
-  pub hard_log : (new : LogSolver) → SameGiven old new → IsLogOver (given_to new) new.sink → AddsNoEmptyClause new.sink → new.sink ≡ old.sink ++ lines_since old.sink new.sink
-      → ((base : ℕ) → IsBaseOf (given_to old) base → LearnsNew nothing_exempt (given_to old) base old.sink (lines_since old.sink new.sink)) → IsHardLog p new.sink
+  pub hard_log : (new : LogSolver) → SameGiven old new → IsLogOver (given_to new) new.sink
+      → AddsNoEmptyClause new.sink → new.sink ≡ old.sink ++ lines_since old.sink new.sink
+      → ((base : ℕ) → IsBaseOf (given_to old) base → LearnsNew nothing_exempt (given_to old) base old.sink (lines_since old.sink new.sink))
+      → IsHardLog p new.sink
   hard_log new same log free grows fresh =
       let cs : List (List Literal) = (hard_cnf p).clauses in
       let base : IsBaseOf (given_to old) (length (hard_cnf p).clauses) = subst (λ g. IsBaseOf g (length (hard_cnf p).clauses)) (sym h.given) (base_of cs (length cs) (omega arith)) in (
@@ -43,9 +45,12 @@ module _ (p : Problem) (old : LogSolver) (h : IsOverHard p old) where
             (first_new nothing_exempt (given_to old) (length cs) old.sink (lines_since old.sink new.sink) new.sink h.learned grows (fresh (length cs) base)),
       )
 
-  pub right_unsat : (profile : Profile) (log : List LogLine) (count : ℕ) → IsAcceptedLog (given_to old) log → count ≡ length (given_to old) → IsRightFound profile p [] (Unsat log count)
+  pub right_unsat : (profile : Profile) (log : List LogLine) (count : ℕ)
+      → IsAcceptedLog (given_to old) log → count ≡ length (given_to old)
+      → IsRightFound profile p [] (Unsat log count)
   right_unsat profile log count a e =
-      let accepted = accepts_of_log (hard_cnf p).clauses log (subst (λ g. IsAcceptedLog g log) h.given a) in
+      let accepted =
+      accepts_of_log (hard_cnf p).clauses log (subst (λ g. IsAcceptedLog g log) h.given a) in
       record {
         none_told = refl;
         inconsistent = λ t f. certificate_sound (hard_cnf p).clauses (numbered_lines (length (hard_cnf p).clauses) log) accepted t ((feasible p t).1 f);
@@ -58,7 +63,8 @@ module _ (p : Problem) (old : LogSolver) (h : IsOverHard p old) where
           e ∙ sym (length-map (given_to old) (λ (g : Name × List Literal). g.1))
           ∙ ap length (ap clauses_in h.given ∙ clauses_given (hard_cnf p).clauses)
 
-  pub right_nothing : (profile : Profile) (hard bound : List LogLine) → IsHardLog p hard → bound ≡ [] → (IsPlainlyRefuted old → ⊥)
+  pub right_nothing : (profile : Profile) (hard bound : List LogLine) → IsHardLog p hard
+      → bound ≡ [] → (IsPlainlyRefuted old → ⊥)
       → IsRightFound profile p [] (Nothing (record { hard = hard; bound = bound }))
   right_nothing profile hard bound work none free =
       record {
@@ -69,9 +75,12 @@ module _ (p : Problem) (old : LogSolver) (h : IsOverHard p old) where
       }
 
   -- what was learned in the first search
-  pub hard_learned : (new : List LogLine) (before after : ℕ) → new ≡ old.sink ++ lines_since old.sink new → after ≡ before + learned_count (lines_since old.sink new)
+  pub hard_learned : (new : List LogLine) (before after : ℕ)
+      → new ≡ old.sink ++ lines_since old.sink new
+      → after ≡ before + learned_count (lines_since old.sink new)
       → after ≡ before + learned_count new
-  hard_learned new before after e l = omega (arith, learned_more old.sink new before after e l, h.learned)
+  hard_learned new before after e l =
+      omega (arith, learned_more old.sink new before after e l, h.learned)
 
 pub nothing_learned : (hard bound sink : List LogLine) (before after : ℕ) → hard ≡ sink → bound ≡ [] → after ≡ before + learned_count sink → after ≡ before + work_count (record { hard = hard; bound = bound })
 nothing_learned hard bound sink before after e none h =

@@ -1,5 +1,7 @@
 -- The log of a solver over several bounds, told as one over the last of them.
-use Rattle.std.proofs.Common.{◌≡◌, ℕ, zero, suc, ◌+◌, ◌<◌, true, false, ◌||◌, List, [], ◌∷◌, ◌++◌, length, map, Some, refl, sym, ◌∙◌, ap, subst, arith, All, append_assoc, append-nil, length-append}
+use Rattle.std.proofs.Common.{◌≡◌, ℕ, suc, ◌+◌, ◌<◌, true, false, ◌||◌, List, [], ◌∷◌, ◌++◌, length}
+use Rattle.std.proofs.Common.{map, Some, refl, sym, ◌∙◌, ap, subst, arith, All, append_assoc}
+use Rattle.std.proofs.Common.{append-nil, length-append}
 use Rattle.std.specs.Prelude.{if◌then◌else◌}
 use Rattle.std.specs.List.{AllByRecursion, flat_map, list_any, slice_get}
 use Rattle.std.proofs.lemmas.Grind.{flat_map-append}
@@ -13,7 +15,8 @@ use Rattle.wcnf.specs.Problem.{Problem}
 use Rattle.wcnf.specs.Instance.{IsInstance}
 use Rattle.lrat_log.specs.declared.lines.Name.{Name}
 use Rattle.lrat_log.specs.Log.{LogLine, clauses_in}
-use Rattle.lrat_log.specs.Steps.{IsLogOver, IsAcceptedLog, AddsNoEmptyClause, is_empty_clause, LearnsNew, is_later, learned_count, given_of}
+use Rattle.lrat_log.specs.Steps.{IsLogOver, IsAcceptedLog, AddsNoEmptyClause, is_empty_clause}
+use Rattle.lrat_log.specs.Steps.{LearnsNew, is_later, learned_count, given_of}
 use Rattle.lrat_log.specs.Rebase.{WeakerList, rebased, IsWeakerOf, IsSomeClause, KeepsLog}
 use Rattle.adder.specs.declared.cells.Profile.{Profile}
 use Rattle.adder.specs.Network.{adders_as}
@@ -23,6 +26,7 @@ use Rattle.bound.proofs.Subsets.{all_append}
 use Rattle.bound.proofs.Covers.{covers_larger}
 use Rattle.bound.proofs.Few.{without_bound}
 use Rattle.bound.proofs.Fits.{bound_is_formula}
+use Rattle.lrat_log.proofs.GivenNumbers.{numbered_right}
 use Rattle.lrat_log.proofs.RebasedLines.{open_rebased, learned_rebased}
 use Rattle.cdcl.specs.Solving.{given_to}
 use Rattle.improve.specs.Improving.{AreFalling, first_subset, weaker_among}
@@ -37,7 +41,8 @@ use Rattle.improve.proofs.Comparators.{comparator_some}
 use Rattle.improve.proofs.GivenParts.{clause_ids, given_split}
 
 -- the first subset is one
-first_found : (n : ℕ) (ds : List (List Literal)) (x : List Literal) → list_any (λ d. is_subset d x) ds ≡ true
+first_found : (n : ℕ) (ds : List (List Literal)) (x : List Literal)
+    → list_any (λ d. is_subset d x) ds ≡ true
     → (k : ℕ) × (d : List Literal) × (first_subset n ds x ≡ n + k) × (slice_get ds k ≡ Some d) × (is_subset d x ≡ true)
 first_found n [] x h = absurd (false≢true h)
 first_found n (d ∷ ds) x h =
@@ -47,28 +52,23 @@ first_found n (d ∷ ds) x h =
       | false ↦ λ e g. (let r = first_found (n + 1) ds x g in (suc r.0, r.1, omega (arith, r.2), r.3, r.4))
     ] refl h
 
-get_after : (xs ys : List (List Literal)) (i k : ℕ) → i ≡ length xs + k → slice_get (xs ++ ys) i ≡ slice_get ys k
-get_after [] ys i k e = let same : i ≡ k = omega arith in ap (slice_get ys) same
-get_after (x ∷ xs) ys zero k e = absurd (omega arith)
-get_after (x ∷ xs) ys (suc i) k e = get_after xs ys i k (omega arith)
-
-number_after : (xs ys : List (List Literal)) (m k : ℕ) → m ≡ length xs + 1 + k → numbered (xs ++ ys) m ≡ slice_get ys k
-number_after xs ys zero k e = absurd (omega arith)
-number_after xs ys (suc i) k e = get_after xs ys i k (omega arith)
-
-all_flat : {X : Type 0} (P : X → Type 0) (f : ℕ → List X) (ns : List ℕ) → AllByRecursion (λ n. AllByRecursion P (f n)) ns → AllByRecursion P (flat_map f ns)
+all_flat : {X : Type 0} (P : X → Type 0) (f : ℕ → List X) (ns : List ℕ)
+    → AllByRecursion (λ n. AllByRecursion P (f n)) ns → AllByRecursion P (flat_map f ns)
 all_flat P f [] h = tt
 all_flat P f (n ∷ ns) h = all_append P (f n) (flat_map f ns) h.0 (all_flat P f ns h.1)
 
-all_mapped : {X Y : Type 0} (P : Y → Type 0) (f : X → Y) (xs : List X) → AllByRecursion (λ x. P (f x)) xs → AllByRecursion P (map f xs)
+all_mapped : {X Y : Type 0} (P : Y → Type 0) (f : X → Y) (xs : List X)
+    → AllByRecursion (λ x. P (f x)) xs → AllByRecursion P (map f xs)
 all_mapped P f [] h = tt
 all_mapped P f (x ∷ xs) h = (h.0, all_mapped P f xs h.1)
 
-each : {X : Type 0} (P Q : X → Type 0) → ((x : X) → P x → Q x) → (xs : List X) → AllByRecursion P xs → AllByRecursion Q xs
+each : {X : Type 0} (P Q : X → Type 0) → ((x : X) → P x → Q x) → (xs : List X) → AllByRecursion P xs
+    → AllByRecursion Q xs
 each P Q f [] h = tt
 each P Q f (x ∷ xs) h = (f x h.0, each P Q f xs h.1)
 
-both : {X : Type 0} (P Q : X → Type 0) (xs : List X) → AllByRecursion P xs → AllByRecursion Q xs → AllByRecursion (λ x. P x × Q x) xs
+both : {X : Type 0} (P Q : X → Type 0) (xs : List X) → AllByRecursion P xs → AllByRecursion Q xs
+    → AllByRecursion (λ x. P x × Q x) xs
 both P Q [] h g = tt
 both P Q (x ∷ xs) h g = ((h.0, g.0), both P Q xs h.1 g.1)
 
@@ -76,7 +76,8 @@ both P Q (x ∷ xs) h g = ((h.0, g.0), both P Q xs h.1 g.1)
 falling_above : (ds : List ℕ) (c : ℕ) → AreFalling (ds ++ c ∷ []) → AllByRecursion (λ d. c < d) ds
 falling_above [] c h = tt
 falling_above (d ∷ []) c h = (h.0, tt)
-falling_above (d ∷ e ∷ ds) c h = let r = falling_above (e ∷ ds) c h.1 in (omega (arith, h.0, r.0), r)
+falling_above (d ∷ e ∷ ds) c h =
+    let r = falling_above (e ∷ ds) c h.1 in (omega (arith, h.0, r.0), r)
 
 same_clauses : (n : ℕ) (C B : List (List Literal)) → map (λ e. e.0) (weaker_among n C B) ≡ B
 same_clauses n C [] = refl
@@ -111,7 +112,8 @@ module _ (profile : Profile) (p : Problem) (h : IsInstance p) (before : List ℕ
   fits : AllByRecursion Fits earlier
   fits = all_flat Fits (comparator_for profile p) before (each (λ d. c < d) (λ d. AllByRecursion Fits (comparator_for profile p d)) fits_at before (falling_above before c falling))
 
-  weaker_one : (x : List Literal) → Fits x → IsWeakerOf (fixed ++ last) (x, first_subset (length fixed + 1) last x)
+  weaker_one : (x : List Literal) → Fits x
+      → IsWeakerOf (fixed ++ last) (x, first_subset (length fixed + 1) last x)
   weaker_one x f =
       let r = first_found (length fixed + 1) last x f.1 in
       let few = (bound_is_formula profile p c h).few in (
@@ -119,7 +121,7 @@ module _ (profile : Profile) (p : Problem) (h : IsInstance p) (before : List ℕ
         f.0.no_opposites,
         omega (arith, f.0.small, few),
         r.1,
-        number_after fixed last (first_subset (length fixed + 1) last x) r.0 r.2 ∙ r.3,
+        numbered_right fixed last (first_subset (length fixed + 1) last x) r.0 (omega (arith, r.2)) ∙ r.3,
         r.4,
       )
 
@@ -138,7 +140,8 @@ module _ (profile : Profile) (p : Problem) (h : IsInstance p) (before : List ℕ
   pub weaker_some : All IsSomeClause weaker
   weaker_some = All-from_recursion IsSomeClause weaker some_each
 
-  pub given_parts : fixed ++ map (λ e. e.0) weaker ++ last ≡ fixed ++ flat_map (comparator_for profile p) (before ++ c ∷ [])
+  pub given_parts : fixed ++ map (λ e. e.0) weaker ++ last
+      ≡ fixed ++ flat_map (comparator_for profile p) (before ++ c ∷ [])
   given_parts =
       ap (λ x. (fixed ++ x) ++ last) (same_clauses (length fixed + 1) last earlier)
       ∙ append_assoc fixed earlier last
@@ -146,10 +149,13 @@ module _ (profile : Profile) (p : Problem) (h : IsInstance p) (before : List ℕ
       ∙ ap (λ x. fixed ++ x) (sym (flat_map-append (comparator_for profile p) before (c ∷ [])))
 
   module _ (sink : List LogLine) (keeps : KeepsLog (length fixed) weaker sink) (cs : List (List Literal)) (is : cs ≡ fixed ++ flat_map (comparator_for profile p) (before ++ c ∷ [])) where
-    pub last_log : IsLogOver (given_of cs) sink → IsLogOver (given_of (bound_as profile p c).clauses) (rebased (length fixed) weaker sink)
-    last_log log = keeps.log fixed last refl weaker_fits weaker_some (subst (λ x. IsLogOver (given_of x) sink) (is ∙ sym given_parts) log)
+    pub last_log : IsLogOver (given_of cs) sink
+        → IsLogOver (given_of (bound_as profile p c).clauses) (rebased (length fixed) weaker sink)
+    last_log log =
+        keeps.log fixed last refl weaker_fits weaker_some (subst (λ x. IsLogOver (given_of x) sink) (is ∙ sym given_parts) log)
 
-    pub last_accepted : IsLogOver (given_of cs) sink → IsAcceptedLog (given_of cs) sink → IsAcceptedLog (given_of (bound_as profile p c).clauses) (rebased (length fixed) weaker sink)
+    pub last_accepted : IsLogOver (given_of cs) sink → IsAcceptedLog (given_of cs) sink
+        → IsAcceptedLog (given_of (bound_as profile p c).clauses) (rebased (length fixed) weaker sink)
     last_accepted log accepted =
         keeps.accepted fixed last refl weaker_fits weaker_some (subst (λ x. IsLogOver (given_of x) sink) (is ∙ sym given_parts) log) (subst (λ x. IsAcceptedLog (given_of x) sink) (is ∙ sym given_parts) accepted)
 
@@ -157,11 +163,15 @@ module _ (profile : Profile) (p : Problem) (h : IsInstance p) (before : List ℕ
   weaker_count = sym (length-map weaker (λ e. e.0)) ∙ ap length (same_clauses (length fixed + 1) last earlier)
 
   -- how many clauses were given over the bounds
-  count_given : length (fixed ++ map (λ e. e.0) weaker ++ last) ≡ length (fixed ++ last) + length earlier
+  count_given : length (fixed ++ map (λ e. e.0) weaker ++ last)
+      ≡ length (fixed ++ last) + length earlier
   count_given =
       omega (arith, length-append (fixed ++ map (λ e. e.0) weaker) last, length-append fixed (map (λ e. e.0) weaker), length-append fixed last, length-map weaker (λ e. e.0), weaker_count)
 
-  pub last_new : (sink : List LogLine) → KeepsLog (length fixed) weaker sink → (cs : List (List Literal)) → cs ≡ fixed ++ flat_map (comparator_for profile p) (before ++ c ∷ []) → IsLogOver (given_of cs) sink
+  pub last_new : (sink : List LogLine) → KeepsLog (length fixed) weaker sink
+      → (cs : List (List Literal))
+      → cs ≡ fixed ++ flat_map (comparator_for profile p) (before ++ c ∷ [])
+      → IsLogOver (given_of cs) sink
       → LearnsNew (is_later (length fixed) (length cs)) (given_of cs) (length cs) [] sink
       → LearnsNew (is_later (length fixed) (length (fixed ++ last) + length earlier)) (given_of (fixed ++ last)) (length (fixed ++ last)) [] (rebased (length fixed) weaker sink)
   last_new sink keeps cs is log h =
@@ -171,13 +181,16 @@ module _ (profile : Profile) (p : Problem) (h : IsInstance p) (before : List ℕ
       (keeps.new fixed last refl weaker_fits (subst (λ x. IsLogOver (given_of x) sink) parts log) (length all) refl
       (subst (λ x. LearnsNew (is_later (length fixed) (length x)) (given_of x) (length x) [] sink) parts h))
 
-  pub last_open : (sink : List LogLine) → AddsNoEmptyClause sink → AddsNoEmptyClause (rebased (length fixed) weaker sink)
+  pub last_open : (sink : List LogLine) → AddsNoEmptyClause sink
+      → AddsNoEmptyClause (rebased (length fixed) weaker sink)
   last_open sink o = open_rebased (length fixed) weaker sink weaker_some o
 
 -- the log that `rebase` gives
-pub bound_log : (p : Problem) (b : Bounds) (ws : List (Vec Literal Global × ℕ)) (log : List LogLine) → IsOver p b
+pub bound_log : (p : Problem) (b : Bounds) (ws : List (Vec Literal Global × ℕ)) (log : List LogLine)
+    → IsOver p b
     → ((x y z : List (List Literal)) → clauses_in (given_to b.solver) ≡ x ++ (y ++ z) → length x ≡ b.fixed → length z ≡ b.last → weaker_list ws ≡ weaker_among (b.fixed + 1) z y)
-    → log ≡ rebased b.fixed (weaker_list ws) (b.solver).sink → KeepsLog b.fixed (weaker_list ws) (b.solver).sink → BoundLog p b log
+    → log ≡ rebased b.fixed (weaker_list ws) (b.solver).sink
+    → KeepsLog b.fixed (weaker_list ws) (b.solver).sink → BoundLog p b log
 bound_log p b ws log h parts e keeps = record {
   lines = is_rebased;
   is_log = λ before c x f. subst (IsLogOver (given_of (bound_as b.profile p c).clauses)) (sym (is_rebased before c x))
@@ -205,7 +218,8 @@ bound_log p b ws log h parts e keeps = record {
     formula_count : length (b.solver).formula.clauses ≡ length (fixed_clauses b.profile p)
     formula_count =
         ap (λ (f : Cnf). length f.clauses) h.formula
-        ∙ ap (λ x. length (fixed_clauses b.profile p ++ x)) (without_bound b.profile p h.instance) ∙ ap length (append-nil (fixed_clauses b.profile p))
+        ∙ ap (λ x. length (fixed_clauses b.profile p ++ x)) (without_bound b.profile p h.instance)
+        ∙ ap length (append-nil (fixed_clauses b.profile p))
 
     new_over_all : LearnsNew (is_later (length (fixed_clauses b.profile p)) (length cs)) (given_of cs) (length cs) [] sink
     new_over_all =
@@ -213,22 +227,31 @@ bound_log p b ws log h parts e keeps = record {
         (subst (λ g. LearnsNew (is_later (length (b.solver).formula.clauses) (length cs)) g (length cs) [] sink) (h.usable).numbered
         ((h.usable).new (length cs) (omega (arith, length-map (given_to b.solver) (λ (g : Name × List Literal). g.1)))))
 
-    given : (before : List ℕ) (c : ℕ) → (b.costs).items ≡ before ++ c ∷ [] → clauses_in (given_to b.solver) ≡ fixed_clauses b.profile p ++ flat_map (comparator_for b.profile p) (before ++ c ∷ [])
-    given before c x = h.clauses ∙ ap (λ y. fixed_clauses b.profile p ++ flat_map (comparator_for b.profile p) y) x
+    given : (before : List ℕ) (c : ℕ) → (b.costs).items ≡ before ++ c ∷ []
+        → clauses_in (given_to b.solver)
+        ≡ fixed_clauses b.profile p ++ flat_map (comparator_for b.profile p) (before ++ c ∷ [])
+    given before c x =
+        h.clauses ∙ ap (λ y. fixed_clauses b.profile p ++ flat_map (comparator_for b.profile p) y) x
 
-    falls : (before : List ℕ) (c : ℕ) → (b.costs).items ≡ before ++ c ∷ [] → AreFalling (b.costs).items → AreFalling (before ++ c ∷ [])
+    falls : (before : List ℕ) (c : ℕ) → (b.costs).items ≡ before ++ c ∷ []
+        → AreFalling (b.costs).items → AreFalling (before ++ c ∷ [])
     falls before c x f = subst AreFalling x f
 
     numbers : (before : List ℕ) (c : ℕ) → (b.costs).items ≡ before ++ c ∷ []
-        → weaker_list ws ≡ weaker_among (length (fixed_clauses b.profile p) + 1) (comparator_for b.profile p c) (flat_map (comparator_for b.profile p) before)
+        → weaker_list ws
+        ≡ weaker_among (length (fixed_clauses b.profile p) + 1) (comparator_for b.profile p c) (flat_map (comparator_for b.profile p) before)
     numbers before c x =
         parts (fixed_clauses b.profile p) (flat_map (comparator_for b.profile p) before) (comparator_for b.profile p c) (given_split p b before c h x) (sym h.fixed) (sym (h.last before c x))
         ∙ ap (λ n. weaker_among (n + 1) (comparator_for b.profile p c) (flat_map (comparator_for b.profile p) before)) h.fixed
 
     is_rebased : (before : List ℕ) (c : ℕ) → (b.costs).items ≡ before ++ c ∷ []
-        → log ≡ rebased (length (fixed_clauses b.profile p)) (weaker_among (length (fixed_clauses b.profile p) + 1) (comparator_for b.profile p c) (flat_map (comparator_for b.profile p) before)) (b.solver).sink
-    is_rebased before c x = e ∙ ap (λ n. rebased n (weaker_list ws) (b.solver).sink) h.fixed ∙ ap (λ w. rebased (length (fixed_clauses b.profile p)) w (b.solver).sink) (numbers before c x)
+        → log
+        ≡ rebased (length (fixed_clauses b.profile p)) (weaker_among (length (fixed_clauses b.profile p) + 1) (comparator_for b.profile p c) (flat_map (comparator_for b.profile p) before)) (b.solver).sink
+    is_rebased before c x =
+        e ∙ ap (λ n. rebased n (weaker_list ws) (b.solver).sink) h.fixed
+        ∙ ap (λ w. rebased (length (fixed_clauses b.profile p)) w (b.solver).sink) (numbers before c x)
 
     kept : (before : List ℕ) (c : ℕ) → (b.costs).items ≡ before ++ c ∷ []
         → KeepsLog (length (fixed_clauses b.profile p)) (weaker_among (length (fixed_clauses b.profile p) + 1) (comparator_for b.profile p c) (flat_map (comparator_for b.profile p) before)) (b.solver).sink
-    kept before c x = subst (λ w. KeepsLog (length (fixed_clauses b.profile p)) w (b.solver).sink) (numbers before c x) (subst (λ n. KeepsLog n (weaker_list ws) (b.solver).sink) h.fixed keeps)
+    kept before c x =
+        subst (λ w. KeepsLog (length (fixed_clauses b.profile p)) w (b.solver).sink) (numbers before c x) (subst (λ n. KeepsLog n (weaker_list ws) (b.solver).sink) h.fixed keeps)

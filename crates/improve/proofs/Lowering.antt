@@ -1,6 +1,8 @@
 -- From one bound to the next: the cost in hand is one more that was told.
-use Rattle.std.proofs.Common.{◌≡◌, ℕ, ◌+◌, ◌<◌, ◌≤◌, ◌^◌, Bool, true, false, List, [], ◌∷◌, ◌++◌, Result, Ok, Err, length, append_assoc, length-append, sym, ◌∙◌, ap, subst, arith}
-use Rattle.std.specs.Prelude.{All, OnOk, OnErr, is_err, if◌then◌else◌, sum_by}
+use Rattle.std.proofs.Common.{◌≡◌, ℕ, ◌+◌, ◌<◌, ◌≤◌, ◌^◌, Bool, true, false, List, [], ◌∷◌, ◌++◌}
+use Rattle.std.proofs.Common.{Result, Ok, Err, length, append_assoc, length-append, sym, ◌∙◌, ap}
+use Rattle.std.proofs.Common.{subst, arith}
+use Rattle.std.specs.Prelude.{All, OnOk, OnErr, IfOk, IfErr, is_err, if◌then◌else◌, sum_by}
 use Rattle.std.proofs.lemmas.List.Elements.{All-push}
 use Rattle.std.proofs.lemmas.List.Sums.{sum_by-le-sum_by}
 use Rattle.wcnf.specs.Clause.{clause_value}
@@ -12,7 +14,12 @@ use Rattle.improve.specs.declared.found.Found.{Found}
 use Rattle.improve.specs.declared.found.Found.TheVariants.{Optimum, Unsat, Best, Nothing}
 use Rattle.improve.specs.declared.found.Work.{Work}
 use Rattle.improve.specs.declared.found.ImproveFault.{ImproveFault}
-use Rattle.improve.specs.Improving.{IsSolution, IsCostOfSome, EndsWith, OnWork, work_count}
+use Rattle.improve.specs.declared.found.ImproveFault.TheVariants.{Memory}
+use Rattle.adder.specs.declared.cells.Profile.{Profile}
+use Rattle.cdcl_order.specs.Budgets.{BudgetState, left_of}
+use Rattle.improve.specs.Improving.{IsSolution, IsCostOfSome, OnWork, work_count}
+use Rattle.improve.specs.Improving.{AreFalling, IsRightFound, Telling, Improves}
+use Rattle.improve.proofs.SearchEnds.{found_end}
 use Rattle.improve.proofs.CheaperBits.{cost_of_solution}
 
 part : (b : Bool) (w : ℕ) → (if b then 0 else w) ≤ w
@@ -27,17 +34,34 @@ cost_small p c h k =
     omega (arith, le, h.weight_sum, k.2)
 
 module _ (p : Problem) (costs new : List ℕ) (c : ℕ) (bits : List Bool) (more : new ≡ costs ++ c ∷ []) where
-  pub ends_new : EndsWith new c
-  ends_new = (costs, more)
-
   pub honest_new : IsSolution p bits c → All (IsCostOfSome p) costs → All (IsCostOfSome p) new
-  honest_new s h = subst (All (IsCostOfSome p)) (sym more) (All-push (IsCostOfSome p) costs c h (cost_of_solution p bits c s))
+  honest_new s h =
+      subst (All (IsCostOfSome p)) (sym more) (All-push (IsCostOfSome p) costs c h (cost_of_solution p bits c s))
 
-  pub told_new : (old mid last : List ℕ) → mid ≡ old ++ costs → last ≡ mid ++ c ∷ [] → last ≡ old ++ new
-  told_new old mid last e f = f ∙ ap (λ x. x ++ c ∷ []) e ∙ append_assoc old costs (c ∷ []) ∙ ap (λ x. old ++ x) (sym more)
+  pub told_new : (old mid last : List ℕ) → mid ≡ old ++ costs → last ≡ mid ++ c ∷ []
+      → last ≡ old ++ new
+  told_new old mid last e f =
+      f ∙ ap (λ x. x ++ c ∷ []) e ∙ append_assoc old costs (c ∷ []) ∙ ap (λ x. old ++ x) (sym more)
 
   pub count_new : length new ≡ length costs + 1
   count_new = ap length more ∙ length-append costs (c ∷ [])
+
+  -- a search that told these costs, the last of them too, comes to its end
+  pub lowered_end : (profile used : Profile) (old now : Telling) (mid : List ℕ) (before left : BudgetState)
+      (result : Result Found ImproveFault) → left.limit ≡ before.limit
+      → mid ≡ old.told ++ costs → now.told ≡ mid ++ c ∷ [] → now.failures ≡ old.failures
+      → AreFalling (costs ++ c ∷ []) → IsSolution p bits c → All (IsCostOfSome p) costs
+      → IfErr result (λ e. e ≡ Memory) → used ≡ profile → IfOk result (IsRightFound used p new)
+      → left.answers ≡ before.answers + (length costs + 1)
+      → OnWork result (λ work. left.learned ≡ before.learned + work_count work)
+      → OnWork result (λ work. left_of left ≡ 0) → Improves profile p result old now before left
+  lowered_end profile used old now mid before left result limit
+      told_first told_last failures falling solution honest fault same right answers learned spent =
+      found_end profile p old now before left limit new
+      (told_new old.told mid now.told told_first told_last) result
+      (subst AreFalling (sym more) falling) (honest_new solution honest) failures fault
+      (subst (λ q. IfOk result (IsRightFound q p new)) same right)
+      (omega (arith, answers, count_new)) learned spent
 
 pub at_ok : {T E P : Type 0} (r : Result T E) → false ≡ is_err r → OnOk r P → P
 at_ok (Ok x) e h = h
@@ -47,7 +71,8 @@ pub at_err : {T E P : Type 0} (r : Result T E) → true ≡ is_err r → OnErr r
 at_err (Ok x) e h = absurd (cc)
 at_err (Err x) e h = h
 
-pub on_work_weaker : (r : Result Found ImproveFault) (P Q : Work → Type 0) → ((w : Work) → P w → Q w) → OnWork r P → OnWork r Q
+pub on_work_weaker : (r : Result Found ImproveFault) (P Q : Work → Type 0)
+    → ((w : Work) → P w → Q w) → OnWork r P → OnWork r Q
 on_work_weaker (Ok (Optimum c bits log clauses)) P Q f h = tt
 on_work_weaker (Ok (Unsat log clauses)) P Q f h = tt
 on_work_weaker (Ok (Best c bits work)) P Q f h = f work h
@@ -55,6 +80,9 @@ on_work_weaker (Ok (Nothing work)) P Q f h = f work h
 on_work_weaker (Err e) P Q f h = tt
 
 -- what was learned for the hard clauses and for the bounds
-pub work_learned : (w : Work) (hard sink : List LogLine) (before middle after : ℕ) → (w.hard ≡ hard) × (learned_count w.bound ≡ learned_count sink)
-    → before + learned_count hard ≡ middle → after ≡ middle + learned_count sink → after ≡ before + work_count w
-work_learned w hard sink before middle after same e f = omega (arith, ap learned_count same.0, same.1, e, f)
+pub work_learned : (w : Work) (hard sink : List LogLine) (before middle after : ℕ)
+    → (w.hard ≡ hard) × (learned_count w.bound ≡ learned_count sink)
+    → before + learned_count hard ≡ middle → after ≡ middle + learned_count sink
+    → after ≡ before + work_count w
+work_learned w hard sink before middle after same e f =
+    omega (arith, ap learned_count same.0, same.1, e, f)

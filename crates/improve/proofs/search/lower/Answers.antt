@@ -1,14 +1,14 @@
 -- What was told are the bounds so far; the last of them is the cost in hand.
 use Rattle.std.proofs.Common.{◌≡◌, ℕ, ◌+◌, [], ◌∷◌, ◌++◌, refl, sym, ◌∙◌, ap, subst, arith}
-use Rattle.std.specs.Prelude.{IfOk}
 use Rattle.std.specs.declared.vec.Vec.{Vec}
 use Rattle.std.specs.declared.alloc.Global.{Global}
 use Rattle.cdcl_order.specs.Budgets.{left_of}
 use Rattle.lrat_log.specs.Steps.{learned_count}
-use Rattle.improve.specs.Improving.{AreFalling, IsHardLog, IsRightFound, work_count}
+use Rattle.improve.specs.Improving.{AreFalling, IsHardLog, work_count}
 use Rattle.improve.proofs.CheaperBits.{cost_of_solution, falling_more}
-use Rattle.improve.proofs.SearchEnds.{memory_end, progress_end, found_end}
-use Rattle.improve.proofs.Lowering.{cost_small, honest_new, told_new, count_new, at_ok, at_err, on_work_weaker, work_learned}
+use Rattle.improve.proofs.SearchEnds.{memory_end, progress_end}
+use Rattle.improve.proofs.Lowering.{cost_small, honest_new, told_new, count_new, at_ok, at_err}
+use Rattle.improve.proofs.Lowering.{on_work_weaker, work_learned, lowered_end}
 use Rattle.improve.proofs.search.lower.Goals as goal
 
 pub add-requires-clause-small : goal.add-requires-clause-small
@@ -68,7 +68,8 @@ loop-bounds-preserved g c =
     let added = at_ok c.add.result c.if-is_err-2.ensures.value c.add.ensures.costs in
     let same = at_ok c.add.result c.if-is_err-2.ensures.value c.add.ensures.profile in
     let unlearned = at_ok c.add.result c.if-is_err-2.ensures.value c.add.ensures.learned in
-    let more : c.search.new.self.costs.items ≡ costs ++ cost ∷ [] = ap (λ (v : Vec ℕ Global). v.items) c.search.ensures.costs ∙ added in
+    let more : c.search.new.self.costs.items ≡ costs ++ cost ∷ [] =
+    ap (λ (v : Vec ℕ Global). v.items) c.search.ensures.costs ∙ added in
     record {
       over = c.in-Ok-Cheaper.ensures.over;
       profile = c.search.ensures.profile ∙ same ∙ i.profile;
@@ -86,24 +87,19 @@ loop-bounds-preserved g c =
 
 pub returns-in-Ok-Refuted-clause-improves : goal.returns-in-Ok-Refuted-clause-improves
 returns-in-Ok-Refuted-clause-improves g c = λ before l a e.
-    let p = c.args.instance.now in
     let i = c.loop-bounds.invariant in
-    let costs = c.loop-bounds.bounds.costs.items in
-    let cost = c.loop-bounds.best.cost in
-    let bits = c.loop-bounds.best.bits.items in
     let next = rw c.in-Ok-Refuted.field-0-is at c.in-Ok-Refuted.ensures.next in
     let ok = at_ok c.improved.result c.if-is_err.ensures.value c.improved.ensures.ok in
-    let added = at_ok c.add.result c.if-is_err-2.ensures.value c.add.ensures.costs in
-    let same = at_ok c.add.result c.if-is_err-2.ensures.value c.add.ensures.profile in
-    let unlearned = at_ok c.add.result c.if-is_err-2.ensures.value c.add.ensures.learned in
-    let new = c.search.new.self.costs.items in
-    let more : c.search.new.self.costs.items ≡ costs ++ cost ∷ [] = ap (λ (v : Vec ℕ Global). v.items) c.search.ensures.costs ∙ added in
-    found_end c.args.profile p _ _ before c.search.new.budget (c.search.ensures.limit ∙ i.limit ∙ sym l) new (told_new p costs new cost bits more _ _ _ i.told ok.0) c.conclude_optimum.result
-    (subst AreFalling (sym more) i.falling) (honest_new p costs new cost bits more i.solution i.honest) (ok.2 ∙ i.failures) c.conclude_optimum.ensures.fault
-    (subst (λ q. IfOk c.conclude_optimum.result (IsRightFound q p new)) (c.search.ensures.profile ∙ same ∙ i.profile) c.conclude_optimum.ensures.found)
-    (omega (arith, next.answers, i.answers, a, count_new p costs new cost bits more))
-    (on_work_weaker c.conclude_optimum.result (λ w. ⊥) (λ w. c.search.new.budget.learned ≡ before.learned + work_count w) (λ w x. absurd x) c.conclude_optimum.ensures.work)
-    (on_work_weaker c.conclude_optimum.result (λ w. ⊥) (λ w. left_of c.search.new.budget ≡ 0) (λ w x. absurd x) c.conclude_optimum.ensures.work)
+    let r = c.conclude_optimum in
+    lowered_end c.args.instance.now c.loop-bounds.bounds.costs.items c.search.new.self.costs.items
+    c.loop-bounds.best.cost c.loop-bounds.best.bits.items
+    (ap (λ (v : Vec ℕ Global). v.items) c.search.ensures.costs ∙ at_ok c.add.result c.if-is_err-2.ensures.value c.add.ensures.costs)
+    c.args.profile _ _ _ _ before c.search.new.budget r.result (c.search.ensures.limit ∙ i.limit ∙ sym l)
+    i.told ok.0 (ok.2 ∙ i.failures) i.falling i.solution i.honest r.ensures.fault
+    (c.search.ensures.profile ∙ at_ok c.add.result c.if-is_err-2.ensures.value c.add.ensures.profile ∙ i.profile)
+    r.ensures.found (omega (arith, next.answers, i.answers, a))
+    (on_work_weaker r.result (λ w. ⊥) (λ w. c.search.new.budget.learned ≡ before.learned + work_count w) (λ w x. absurd x) r.ensures.work)
+    (on_work_weaker r.result (λ w. ⊥) (λ w. left_of c.search.new.budget ≡ 0) (λ w x. absurd x) r.ensures.work)
 
 pub conclude_spent-requires-clause-above : goal.conclude_spent-requires-clause-above
 conclude_spent-requires-clause-above g c =
@@ -112,30 +108,31 @@ conclude_spent-requires-clause-above g c =
     next.above_zero c.loop-bounds.bounds.costs.items c.loop-bounds.best.cost (ap (λ (v : Vec ℕ Global). v.items) c.search.ensures.costs ∙ added)
 
 pub conclude_spent-requires-clause-hard : goal.conclude_spent-requires-clause-hard
-conclude_spent-requires-clause-hard g c = subst (IsHardLog c.args.instance.now) (sym c.loop-bounds.invariant.hard) c.requires.hard
+conclude_spent-requires-clause-hard g c =
+    subst (IsHardLog c.args.instance.now) (sym c.loop-bounds.invariant.hard) c.requires.hard
 
 pub returns-in-Ok-Spent-clause-improves : goal.returns-in-Ok-Spent-clause-improves
 returns-in-Ok-Spent-clause-improves g c = λ before l a e.
-    let p = c.args.instance.now in
     let i = c.loop-bounds.invariant in
-    let costs = c.loop-bounds.bounds.costs.items in
-    let cost = c.loop-bounds.best.cost in
-    let bits = c.loop-bounds.best.bits.items in
     let next = rw c.in-Ok-Spent.field-0-is at c.in-Ok-Spent.ensures.next in
     let ok = at_ok c.improved.result c.if-is_err.ensures.value c.improved.ensures.ok in
-    let added = at_ok c.add.result c.if-is_err-2.ensures.value c.add.ensures.costs in
-    let same = at_ok c.add.result c.if-is_err-2.ensures.value c.add.ensures.profile in
+    let r = c.conclude_spent in
+    let sink = c.search.new.self.solver.sink in
     let unlearned = at_ok c.add.result c.if-is_err-2.ensures.value c.add.ensures.learned in
-    let new = c.search.new.self.costs.items in
-    let more : c.search.new.self.costs.items ≡ costs ++ cost ∷ [] = ap (λ (v : Vec ℕ Global). v.items) c.search.ensures.costs ∙ added in
-    let learned : c.search.new.budget.learned ≡ c.args.budget.now.learned + learned_count c.search.new.self.solver.sink = omega (arith, c.search.ensures.learned, unlearned, i.learned) in
-    found_end c.args.profile p _ _ before c.search.new.budget (c.search.ensures.limit ∙ i.limit ∙ sym l) new (told_new p costs new cost bits more _ _ _ i.told ok.0) c.conclude_spent.result
-    (subst AreFalling (sym more) i.falling) (honest_new p costs new cost bits more i.solution i.honest) (ok.2 ∙ i.failures) c.conclude_spent.ensures.fault
-    (subst (λ q. IfOk c.conclude_spent.result (IsRightFound q p new)) (c.search.ensures.profile ∙ same ∙ i.profile) c.conclude_spent.ensures.found)
-    (omega (arith, next.answers, i.answers, a, count_new p costs new cost bits more))
-    (on_work_weaker c.conclude_spent.result (λ w. (w.hard ≡ c.loop-bounds.hard) × (learned_count w.bound ≡ learned_count c.search.new.self.solver.sink)) (λ w. c.search.new.budget.learned ≡ before.learned + work_count w)
-    (λ w x. work_learned w c.args.hard c.search.new.self.solver.sink before.learned c.args.budget.now.learned c.search.new.budget.learned (x.0 ∙ i.hard, x.1) e learned) c.conclude_spent.ensures.work)
-    (on_work_weaker c.conclude_spent.result (λ w. (w.hard ≡ c.loop-bounds.hard) × (learned_count w.bound ≡ learned_count c.search.new.self.solver.sink)) (λ w. left_of c.search.new.budget ≡ 0) (λ w x. next.none_left) c.conclude_spent.ensures.work)
+    let learned : c.search.new.budget.learned ≡ c.args.budget.now.learned + learned_count c.search.new.self.solver.sink =
+    omega (arith, c.search.ensures.learned, unlearned, i.learned) in
+    lowered_end c.args.instance.now c.loop-bounds.bounds.costs.items c.search.new.self.costs.items
+    c.loop-bounds.best.cost c.loop-bounds.best.bits.items
+    (ap (λ (v : Vec ℕ Global). v.items) c.search.ensures.costs ∙ at_ok c.add.result c.if-is_err-2.ensures.value c.add.ensures.costs)
+    c.args.profile _ _ _ _ before c.search.new.budget r.result (c.search.ensures.limit ∙ i.limit ∙ sym l)
+    i.told ok.0 (ok.2 ∙ i.failures) i.falling i.solution i.honest r.ensures.fault
+    (c.search.ensures.profile ∙ at_ok c.add.result c.if-is_err-2.ensures.value c.add.ensures.profile ∙ i.profile)
+    r.ensures.found (omega (arith, next.answers, i.answers, a))
+    (on_work_weaker r.result (λ w. (w.hard ≡ c.loop-bounds.hard) × (learned_count w.bound ≡ learned_count sink))
+    (λ w. c.search.new.budget.learned ≡ before.learned + work_count w)
+    (λ w x. work_learned w c.args.hard sink before.learned c.args.budget.now.learned c.search.new.budget.learned (x.0 ∙ i.hard, x.1) e learned) r.ensures.work)
+    (on_work_weaker r.result (λ w. (w.hard ≡ c.loop-bounds.hard) × (learned_count w.bound ≡ learned_count sink))
+    (λ w. left_of c.search.new.budget ≡ 0) (λ w x. next.none_left) r.ensures.work)
 
 pub returns-then-is_err-clause-follows : goal.returns-then-is_err-clause-follows
 returns-then-is_err-clause-follows g c = λ first h. c.improved.ensures.follows first (c.loop-bounds.invariant.follows first h)
