@@ -33,7 +33,7 @@ use Rattle.cdcl.proofs.LogLines.{AddsByHints, log_add}
 use Rattle.cdcl.proofs.Named.{names_move}
 use Rattle.cdcl.proofs.MoreGiven.{log_given, names_given}
 use Rattle.cdcl.proofs.Quiet.{searches_move, searches_add}
-use Rattle.eliminate.proofs.Settled.{not_refuted}
+use Rattle.clauses.proofs.Quiet.{not_refuted}
 use Rattle.analyze.proofs.Levels.{learned_quiet, is_new}
 use Rattle.cdcl.proofs.LearnedLines.{new_to_log}
 use Rattle.cdcl.proofs.Units.{units_add, units_note, units_move}
