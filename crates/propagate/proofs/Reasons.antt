@@ -41,7 +41,7 @@ reasons_push at T a h j = reasons_push_on at [] T a h (subst (λ A. IsJustified 
 abbrev pub NoOpposites : List Literal → Type 0
 NoOpposites A = (l : Literal) → contains_literal l A ≡ true → contains_literal (negation l) A ≡ true → ⊥
 
-open_literal : (at : Clauses) (A : List Literal) (l : Literal) (r : Option ℕ) → IsJustified at A l r → (contains_literal l A ≡ false) × (contains_literal (negation l) A ≡ false)
+pub open_literal : (at : Clauses) (A : List Literal) (l : Literal) (r : Option ℕ) → IsJustified at A l r → (contains_literal l A ≡ false) × (contains_literal (negation l) A ≡ false)
 open_literal at A l None h = h
 open_literal at A l (Some r) h = (h.2.not_true, h.2.not_false)
 
