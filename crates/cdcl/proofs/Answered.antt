@@ -55,7 +55,8 @@ given_seen p i =
 pub log_now : (p : Problem) (ls : List LogLine) → IsProblem p
     → StaysLogOver (length (p.frozen).items) (p.given).items ls → IsLogOver (seen_given p) ls
 log_now p ls i stays =
-    subst (λ g. IsLogOver g ls) (append-nil (p.given).items ∙ sym (given_seen p i)) (stays [] (All-nil (λ g. greatest_variable g.1 ≤ length (p.frozen).items)))
+    subst (λ g. IsLogOver g ls) (append-nil (p.given).items ∙ sym (given_seen p i))
+    (stays [] (All-nil (λ g. greatest_variable g.1 ≤ length (p.frozen).items)))
 
 pub ended_log : (p : Problem) (ls : List LogLine) → IsProblem p → IsEnded p ls
     → IsAcceptedLog (seen_given p) ls
@@ -117,8 +118,8 @@ view_of p sink failed = record {
   failed = failed;
 }
 
-module _ {S : Type 0} (lines : S → List LogLine) (p : Problem) (sink : S) (failed : Bool) (i : IsProblem p)
-    (old : SolverState S) (same : view_of p sink failed ≡ old) where
+module _ {S : Type 0} (lines : S → List LogLine) {p : Problem} {sink : S} {failed : Bool}
+    {old : SolverState S} (i : IsProblem p) (same : view_of p sink failed ≡ old) where
   pub seen_log : StaysLogOver (length (p.frozen).items) (p.given).items (lines sink)
       → IsLogOver (given_to old) (lines old.sink)
   seen_log stays =

@@ -88,7 +88,9 @@ all_given_on : (P : List Literal → Type 0) (n : ℕ) (cs : List (List Literal)
     → All (λ (g : Name × List Literal). P g.1) (map (λ e. (Formula e.0, e.1)) (enumerate_from n cs))
 all_given_on P n [] all = All-nil (λ (g : Name × List Literal). P g.1)
 all_given_on P n (c ∷ cs) all =
-    All-cons (λ (g : Name × List Literal). P g.1) (Formula n, c) (map (λ e. (Formula e.0, e.1)) (enumerate_from (n + 1) cs)) (All-head P c cs all) (all_given_on P (n + 1) cs (All-tail P c cs all))
+    All-cons (λ (g : Name × List Literal). P g.1) (Formula n, c)
+    (map (λ e. (Formula e.0, e.1)) (enumerate_from (n + 1) cs)) (All-head P c cs all)
+    (all_given_on P (n + 1) cs (All-tail P c cs all))
 
 pub all_given : (P : List Literal → Type 0) (cs : List (List Literal)) → All P cs
     → All (λ (g : Name × List Literal). P g.1) (given_of cs)
@@ -98,7 +100,8 @@ all_given P cs all = all_given_on P 1 cs all
 pub unrefuted : (ls : List LogLine) → is_refuted ls ≡ false → AddsNoEmptyClause ls
 unrefuted [] e = tt
 unrefuted (l ∷ ls) e =
-    let w = or_parts (adds_empty_clause l) (list_any adds_empty_clause ls) e in (w.0, unrefuted ls w.1)
+    let w =
+    or_parts (adds_empty_clause l) (list_any adds_empty_clause ls) e in (w.0, unrefuted ls w.1)
 
 -- distinct ids stand in different places
 distinct_apart : (is : List ℕ) (j k : ℕ) → IsDistinct nat_eq is → j < k → k < length is
@@ -178,7 +181,8 @@ module _ (cs : List (List Literal)) (slots : Slots) (stack : StackState) (ls : L
       → id_of (length cs) (get_or stack.names i d).1 ≤ length cs + added_count ls
   id_below i d lt =
       let w = live_here i d lt in
-      live_below (given_of cs) (length cs) (based_first cs) ls (id_of (length cs) (get_or stack.names i d).1) w.0 (first.named i d lt ∙ w.1)
+      live_below (given_of cs) (length cs) (based_first cs) ls
+      (id_of (length cs) (get_or stack.names i d).1) w.0 (first.named i d lt ∙ w.1)
 
   number_below : (n : Name) (b k : ℕ) → id_of b n ≤ k → number_in n ≤ k
   number_below (Formula i) b k h = h
@@ -207,12 +211,14 @@ module _ (cs : List (List Literal)) (slots : Slots) (stack : StackState) (ls : L
     as_many = long;
     live = λ base above.
         let w = h.live base above in
-        names_start slots stack.names table base (log_live (given_of cs) base ls) w.listed w.named w.only
+        names_start slots stack.names table base (log_live (given_of cs) base ls) w.listed w.named
+        w.only
         (λ j k d e a b s.
         let wide : length (map (λ (n : ℕ × Name). id_of base n.1) stack.names) ≡ length stack.names = length-map stack.names (λ (n : ℕ × Name). id_of base n.1) in
         let same : j ≡ k = distinct_same (map (λ (n : ℕ × Name). id_of base n.1) stack.names) j k w.differ (omega arith) (omega arith)
         (get_or-map (λ (n : ℕ × Name). id_of base n.1) stack.names j d 0 a ∙ s ∙ sym (get_or-map (λ (n : ℕ × Name). id_of base n.1) stack.names k e 0 b)) in
-        ap (λ i. (get_or stack.names i d).0) same ∙ ap (λ (x : ℕ × Name). x.0) (get_or_default stack.names k d e b))
+        ap (λ i. (get_or stack.names i d).0) same
+        ∙ ap (λ (x : ℕ × Name). x.0) (get_or_default stack.names k d e b))
         tabled;
   }
 
@@ -223,7 +229,9 @@ module _ (cs : List (List Literal)) (slots : Slots) (stack : StackState) (ls : L
       let w = listed_at r c e in
       let name : name_at table r ≡ (get_or stack.names w.0 none).1 =
       ap (name_at table) (sym w.2) ∙ tabled w.0 none w.1 in
-      ap (is_kept_name (added_count ls)) name ∙ kept_below (get_or stack.names w.0 none).1 (length cs) (added_count ls) (id_below w.0 none w.1)
+      ap (is_kept_name (added_count ls)) name
+      ∙ kept_below (get_or stack.names w.0 none).1 (length cs) (added_count ls)
+      (id_below w.0 none w.1)
 
   pub all_attached : (e : Search) → All (λ n. is_attached e.engine n.0 ≡ true) stack.names → (r : ℕ)
       → IsLive slots r → is_attached e.engine r ≡ true
@@ -297,7 +305,9 @@ first_runs s p ls cs slots additions t h given firsts stays open_log counted few
           (subst (λ k. NotesUnits slots [] 0 (s.units).items k) (sym t.noted) (record { have = tt; within = omega arith; all = λ deep. omega arith }));
     } in
     record {
-      running = subst (λ x. IsRunning s.engine x n (tables_of s) (p.frozen).items p.first (p.given).items ls) (sym t.slots_are) run;
+      running = subst
+          (λ x. IsRunning s.engine x n (tables_of s) (p.frozen).items p.first (p.given).items ls)
+          (sym t.slots_are) run;
       room = t.room;
       past = t.past;
       few = subst (λ k. k < 2 ^ 61) (sym t.counted) few;
@@ -308,7 +318,8 @@ first_runs s p ls cs slots additions t h given firsts stays open_log counted few
 pub formula_again : (f : Cnf) (n : ℕ) (cs : List (List Literal)) → IsFormula f → n ≡ f.variables → cs ≡ f.clauses → IsFormula (record { variables = n; clauses = cs })
 formula_again f n cs h a b = record {
   few = subst (λ x. x < 2 ^ 26) (sym a) h.few;
-  clauses = subst (λ x. All (IsFormulaClause x) cs) (sym a) (subst (All (IsFormulaClause f.variables)) (sym b) h.clauses);
+  clauses = subst (λ x. All (IsFormulaClause x) cs) (sym a)
+      (subst (All (IsFormulaClause f.variables)) (sym b) h.clauses);
 }
 
 pub left_from : (cs ds : List (List Literal)) (slots : Slots) (stack : StackState) (ls : List LogLine)
@@ -335,7 +346,8 @@ new_problem f p cs h same wide given firsts low high =
     let few : length (p.frozen).items < 2 ^ 26 = subst (λ x. x < 2 ^ 26) (sym wide) h.few in
     let bound : (p.stack).variables < 2 ^ 27 = omega arith in
     record {
-      numbered = ap given_of (first_clauses p cs given firsts) ∙ sym (take_all p.first (p.given).items (omega arith) ∙ given);
+      numbered = ap given_of (first_clauses p cs given firsts) ∙ sym
+          (take_all p.first (p.given).items (omega arith) ∙ given);
       first_within = omega arith;
       based = (length cs, subst (λ g. IsBaseOf g (length cs)) (sym given) (based_first cs));
       few_given = few;

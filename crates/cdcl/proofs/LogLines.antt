@@ -82,7 +82,9 @@ addition_line : (d : Bool) (base before : ℕ) (c : List Literal) (ns : List Nam
     ≡ Addition (base + before + 1) c (map (id_of base) ns) []
 addition_line true base before c ns e = absurd (cc)
 addition_line false base before c ns e =
-    ap (λ x. Addition (base + before + 1) c x (group_ids base (plain_hints ns))) (leading-plain base ns) ∙ ap (λ x. Addition (base + before + 1) c (map (id_of base) ns) x) (groups-plain base ns)
+    ap (λ x. Addition (base + before + 1) c x (group_ids base (plain_hints ns)))
+    (leading-plain base ns)
+    ∙ ap (λ x. Addition (base + before + 1) c (map (id_of base) ns) x) (groups-plain base ns)
 
 deletion_line : (d : Bool) (base before : ℕ) (c : List Literal) (ns : List Name) → d ≡ true
     → (if d then Deletion (base + before) (map (λ h. id_of base (name_of h)) (plain_hints ns)) else Addition (base + before + 1) c (leading_ids base (plain_hints ns)) (group_ids base (plain_hints ns)))
@@ -146,7 +148,8 @@ log_delete variables given ls l stays unrefuted a =
     let ids : List ℕ = map (id_of base) a.names in
     let b = base_front given more base above in (
       without_ids live ids,
-      subst (λ x. Step live x (without_ids live ids)) (sym (line_of_deletion base (added_count ls) l a.names a.deletes a.plain))
+      subst (λ x. Step live x (without_ids live ids))
+          (sym (line_of_deletion base (added_count ls) l a.names a.deletes a.plain))
           (a.apart base b, ids_covered (log_live given base ls) (log_live (given ++ more) base ls) (live_more given more base ls) ids (a.live base b), refl),
     ))
 

@@ -38,7 +38,8 @@ run_propagate e f slots stack t frozen first given ls r grows same vars works fi
   recorded = r.recorded;
   searches = searches_propagate slots e f r.searches grows same fits works;
   variables = vars ∙ r.variables;
-  units = subst (λ T. NotesUnits slots (zero_of T) (depth_of T) t.units t.noted) (sym grows.1) (units_propagate slots f e.trail grows.0 t.units t.noted grows.2 r.units);
+  units = subst (λ T. NotesUnits slots (zero_of T) (depth_of T) t.units t.noted) (sym grows.1)
+      (units_propagate slots f e.trail grows.0 t.units t.noted grows.2 r.units);
 }
 
 pub run_decide : (e f : EngineState) (slots : Slots) (stack : StackState) (t : Tables) (frozen : List Bool) (first : ℕ) (given : Given) (ls : List LogLine) (l : Literal)
@@ -51,7 +52,8 @@ run_decide e f slots stack t frozen first given ls l r quiet full trail attached
   recorded = r.recorded;
   searches = searches_decide slots e f l r.searches quiet trail attached same.1 fits;
   variables = same.0 ∙ r.variables;
-  units = subst (λ T. NotesUnits slots (zero_of T) (depth_of T) t.units t.noted) (sym trail) (units_decide slots e.trail l t.units t.noted full r.units);
+  units = subst (λ T. NotesUnits slots (zero_of T) (depth_of T) t.units t.noted) (sym trail)
+      (units_decide slots e.trail l t.units t.noted full r.units);
 }
 
 pub run_backtrack : (e f : EngineState) (slots : Slots) (stack : StackState) (t : Tables) (frozen : List Bool) (first : ℕ) (given : Given) (ls : List LogLine) (level : ℕ)
@@ -63,7 +65,8 @@ run_backtrack e f slots stack t frozen first given ls level r within trail attac
   recorded = r.recorded;
   searches = searches_backtrack slots e f level r.searches within trail attached same.1 fits;
   variables = same.0 ∙ r.variables;
-  units = subst (λ T. NotesUnits slots (zero_of T) (depth_of T) t.units t.noted) (sym trail) (units_backtrack slots e.trail level t.units t.noted r.units);
+  units = subst (λ T. NotesUnits slots (zero_of T) (depth_of T) t.units t.noted) (sym trail)
+      (units_backtrack slots e.trail level t.units t.noted r.units);
 }
 
 -- a clause follows, is written down, comes to the store and is attached
@@ -88,8 +91,10 @@ recorded_add slots stack t frozen first given ls l units noted r adds goes_on ro
       many_units = long ∙ r.many_units;
       kept = (let low = r.kept in omega arith);
       not_frozen = r.not_frozen;
-      back = leads_back slots (slots ++ Some l.clause ∷ []) t.names (t.names ++ n ∷ []) t.kept stack given (kept_add slots t.names l.clause n t.kept r.names.as_many) r.back;
-      plain = keeps_plain slots (slots ++ Some l.clause ∷ []) first given (empty_add slots l.clause) r.plain;
+      back = leads_back slots (slots ++ Some l.clause ∷ []) t.names (t.names ++ n ∷ []) t.kept stack
+          given (kept_add slots t.names l.clause n t.kept r.names.as_many) r.back;
+      plain = keeps_plain slots (slots ++ Some l.clause ∷ []) first given (empty_add slots l.clause)
+          r.plain;
     }
 
 pub run_add : (e f : EngineState) (slots : Slots) (stack : StackState) (t : Tables) (frozen : List Bool) (first : ℕ) (given : Given) (ls : List LogLine) (l : LogLine) (units : List (Option ℕ)) (noted : ℕ)
@@ -102,10 +107,12 @@ pub run_add : (e f : EngineState) (slots : Slots) (stack : StackState) (t : Tabl
     → NotesUnits (slots ++ Some l.clause ∷ []) (zero_of e.trail) (depth_of e.trail) units noted
     → IsRunning f (slots ++ Some l.clause ∷ []) stack (with_addition t units noted) frozen first given (ls ++ l ∷ [])
 run_add e f slots stack t frozen first given ls l units noted r adds goes_on room sets same works fits quiet long notes = record {
-  recorded = recorded_add slots stack t frozen first given ls l units noted r.recorded adds goes_on room long;
+  recorded = recorded_add slots stack t frozen first given ls l units noted r.recorded adds goes_on
+      room long;
   searches = searches_add slots e f l.clause r.searches sets same.0 works fits quiet;
   variables = same.1 ∙ r.variables;
-  units = subst (λ T. NotesUnits (slots ++ Some l.clause ∷ []) (zero_of T) (depth_of T) units noted) (sym same.0) notes;
+  units = subst (λ T. NotesUnits (slots ++ Some l.clause ∷ []) (zero_of T) (depth_of T) units noted)
+      (sym same.0) notes;
 }
 
 deletes_not_empty : (l : LogLine) → is_delete l.kind ≡ true → adds_empty_clause l ≡ false
@@ -142,6 +149,8 @@ recorded_delete slots stack t frozen first given ls l q c r here long dropped de
       many_units = r.many_units;
       kept = r.kept;
       not_frozen = r.not_frozen;
-      back = leads_back slots (set slots q None) t.names t.names t.kept stack given (kept_delete slots t.names q t.kept dropped) r.back;
-      plain = keeps_plain slots (set slots q None) first given (empty_long slots q c here long) r.plain;
+      back = leads_back slots (set slots q None) t.names t.names t.kept stack given
+          (kept_delete slots t.names q t.kept dropped) r.back;
+      plain = keeps_plain slots (set slots q None) first given (empty_long slots q c here long)
+          r.plain;
     }

@@ -54,7 +54,9 @@ searches_decide slots e f l s quiet trail same failed fits = record {
       ap (kept_to level) trail ∙ kept_push level e.trail a low in
       elim (cases_lt level (depth_of e.trail)) [
         | inl lower ↦ subst (λ T. IsQuiet slots (literals_of T)) (sym kept) (s.quiet level lower)
-        | inr here ↦ subst (λ T. IsQuiet slots (literals_of T)) (sym (kept ∙ kept_all level e.trail here)) quiet
+        | inr here ↦
+            subst (λ T. IsQuiet slots (literals_of T)) (sym (kept ∙ kept_all level e.trail here))
+            quiet
       ];
 }
 
@@ -108,7 +110,10 @@ depth_moved : (ms : Renaming) (T : List Assigned) → depth_of (named_trail ms T
 depth_moved ms [] = refl
 depth_moved ms (a ∷ T) =
     let b : Assigned = record { literal = a.literal; reason = named_reason ms a.reason } in
-    depth-cons b (named_trail ms T) ∙ ap (λ k. cond k 1 0 + depth_of (named_trail ms T)) (none_moved ms a.reason) ∙ ap (λ k. cond (is_decision a) 1 0 + k) (depth_moved ms T) ∙ sym (depth-cons a T)
+    depth-cons b (named_trail ms T)
+    ∙ ap (λ k. cond k 1 0 + depth_of (named_trail ms T)) (none_moved ms a.reason)
+    ∙ ap (λ k. cond (is_decision a) 1 0 + k) (depth_moved ms T)
+    ∙ sym (depth-cons a T)
 
 pub searches_move : (before after : Slots) (ms : Renaming) (e f : EngineState)
     → IsRenaming before after ms → IsStrictlyIncreasing (map (λ m. m.0) ms) → Searches e before
@@ -116,7 +121,8 @@ pub searches_move : (before after : Slots) (ms : Renaming) (e f : EngineState)
     → Searches f after × (zero_of f.trail ≡ zero_of e.trail) × (depth_of f.trail ≡ depth_of e.trail)
 searches_move before after ms e f renames rises s moves trail failed fits =
     let listed : AllByRecursion (λ a. IfSome a.reason (λ r. (q : ℕ) × (renamed ms r ≡ Some q))) e.trail =
-    recursion_from_All (λ a. IfSome a.reason (λ r. (q : ℕ) × (renamed ms r ≡ Some q))) e.trail (reasons_listed e before after ms s.fits renames) in
+    recursion_from_All (λ a. IfSome a.reason (λ r. (q : ℕ) × (renamed ms r ≡ Some q))) e.trail
+    (reasons_listed e before after ms s.fits renames) in
     let as_named : f.trail ≡ named_trail ms e.trail =
     trail ∙ sym (trail_listed ms e.trail listed) in
     let depth : depth_of f.trail ≡ depth_of e.trail =
@@ -130,7 +136,8 @@ searches_move before after ms e f renames rises s moves trail failed fits =
             moves.to w.0 q w.1 ∙ s.all_attached w.0 (live.0, sym (same_clause before after ms renames w.0 q w.1) ∙ live.1);
         quiet = λ level below q c at.
             let w = came before after ms renames rises q c at in
-            subst (λ A. (IsFalseUnder c A → ⊥) × ((l : Literal) → IsUnit c A l → ⊥)) (sym (kept level))
+            subst (λ A. (IsFalseUnder c A → ⊥) × ((l : Literal) → IsUnit c A l → ⊥))
+            (sym (kept level))
             (s.quiet level (subst (λ k. level < k) depth below) w.0 c (sym (same_clause before after ms renames w.0 q w.1) ∙ at));
       },
       kept 0,

@@ -1,5 +1,6 @@
 -- Rounds of a search: each leaves fewer.
-use Rattle.std.proofs.Common.{◌≡◌, ℕ, ◌+◌, ◌-◌, ◌*◌, ◌<◌, ◌≤◌, Bool, true, false, List, length, sym, ◌∙◌, ap, subst, arith}
+use Rattle.std.proofs.Common.{◌≡◌, ℕ, ◌+◌, ◌-◌, ◌*◌, ◌<◌, ◌≤◌, Bool, true, false, List, length, sym}
+use Rattle.std.proofs.Common.{◌∙◌, ap, subst, arith}
 use Rattle.std.specs.Prelude.{nat_lt, if◌then◌else◌}
 use Rattle.std.proofs.Math.Nat.{mul-le-mul_left}
 use Rattle.std.proofs.lemmas.Bool.{lt-ltb}
@@ -13,7 +14,8 @@ use Rattle.cdcl.proofs.Written.{writes_none, writes_join}
 
 -- What is paid.
 
-pub pays_none : (given : Given) (a b : List LogLine) (s : BudgetState) → Writes given a b 0 → Pays given a b s s
+pub pays_none : (given : Given) (a b : List LogLine) (s : BudgetState) → Writes given a b 0
+    → Pays given a b s s
 pays_none given a b s w =
     let e : s.learned ≡ s.learned + 0 = omega arith in
     (0, w, λ i. record { limit = s.limit; learned = e i; answers = s.answers })
@@ -21,7 +23,8 @@ pays_none given a b s w =
 pub pays_nothing : (given : Given) (a : List LogLine) (s : BudgetState) → Pays given a a s s
 pays_nothing given a s = pays_none given a a s (writes_none given a)
 
-pub pays_join : (given : Given) (a b c : List LogLine) (s t u : BudgetState) → Pays given a b s t → Pays given b c t u → Pays given a c s u
+pub pays_join : (given : Given) (a b c : List LogLine) (s t u : BudgetState) → Pays given a b s t
+    → Pays given b c t u → Pays given a c s u
 pays_join given a b c s t u v w =
     let e : s.learned + v.0 + w.0 ≡ s.learned + (v.0 + w.0) = omega arith in (
       v.0 + w.0,
@@ -45,10 +48,13 @@ flag_one : (n : ℕ) → 0 < n → flag n ≡ 1
 flag_one n h = ap (λ b. if b then 1 else 0) (lt-ltb 0 n h)
 
 rounds_fall : (a b v s t : ℕ) → a < b → s ≤ v + 1 → a * (v + 2) + s < b * (v + 2) + t
-rounds_fall a b v s t less low = let h : (v + 2) * (a + 1) ≤ (v + 2) * b = mul-le-mul_left (v + 2) (omega arith) in omega (arith, h)
+rounds_fall a b v s t less low =
+    let h : (v + 2) * (a + 1) ≤ (v + 2) * b = mul-le-mul_left (v + 2) (omega arith) in omega (arith, h)
 
 -- the first factor falls
-falls_first : (old new : Search) (before after : BudgetState) (conflicts again : ℕ) → (new.engine).variables ≡ (old.engine).variables → 2 * left_of after + flag again < 2 * left_of before + flag conflicts
+falls_first : (old new : Search) (before after : BudgetState) (conflicts again : ℕ)
+    → (new.engine).variables ≡ (old.engine).variables
+    → 2 * left_of after + flag again < 2 * left_of before + flag conflicts
     → rounds_left new after again < rounds_left old before conflicts
 falls_first old new before after conflicts again same less =
     let v = (old.engine).variables in
@@ -56,8 +62,10 @@ falls_first old new before after conflicts again same less =
     (rounds_fall (2 * left_of after + flag again) (2 * left_of before + flag conflicts) v (v + 1 - length (new.engine).trail) (v + 1 - length (old.engine).trail) less (omega arith))
 
 -- a unit was paid
-pub goes_learned : (old new : Search) (p : Problem) (ls : List LogLine) (before after : BudgetState) (conflicts again : ℕ) → Runs new p ls → (new.engine).variables ≡ (old.engine).variables
-    → after ≡ record before { learned = before.learned + 1 } → 0 < left_of before → GoesOn old new p ls before after conflicts again
+pub goes_learned : (old new : Search) (p : Problem) (ls : List LogLine) (before after : BudgetState) (conflicts again : ℕ)
+    → Runs new p ls → (new.engine).variables ≡ (old.engine).variables
+    → after ≡ record before { learned = before.learned + 1 } → 0 < left_of before
+    → GoesOn old new p ls before after conflicts again
 goes_learned old new p ls before after conflicts again r same paid some = record {
   runs = r;
   fewer = falls_first old new before after conflicts again same
@@ -66,16 +74,21 @@ goes_learned old new p ls before after conflicts again r same paid some = record
 }
 
 -- it starts over
-pub goes_over : (old new : Search) (p : Problem) (ls : List LogLine) (budget : BudgetState) (conflicts : ℕ) → Runs new p ls → (new.engine).variables ≡ (old.engine).variables → 0 < conflicts
+pub goes_over : (old new : Search) (p : Problem) (ls : List LogLine) (budget : BudgetState) (conflicts : ℕ)
+    → Runs new p ls → (new.engine).variables ≡ (old.engine).variables → 0 < conflicts
     → GoesOn old new p ls budget budget conflicts 0
 goes_over old new p ls budget conflicts r same some = record {
   runs = r;
-  fewer = falls_first old new budget budget conflicts 0 same (let one = flag_one conflicts some in omega arith);
+  fewer = falls_first old new budget budget conflicts 0 same
+      (let one = flag_one conflicts some in omega arith);
 }
 
 -- one more literal is true
-pub goes_decided : (old new : Search) (p : Problem) (ls : List LogLine) (budget : BudgetState) (conflicts : ℕ) → Runs new p ls → (new.engine).variables ≡ (old.engine).variables
-    → length (new.engine).trail ≡ length (old.engine).trail + 1 → length (old.engine).trail ≤ (old.engine).variables → GoesOn old new p ls budget budget conflicts conflicts
+pub goes_decided : (old new : Search) (p : Problem) (ls : List LogLine) (budget : BudgetState) (conflicts : ℕ)
+    → Runs new p ls → (new.engine).variables ≡ (old.engine).variables
+    → length (new.engine).trail ≡ length (old.engine).trail + 1
+    → length (old.engine).trail ≤ (old.engine).variables
+    → GoesOn old new p ls budget budget conflicts conflicts
 goes_decided old new p ls budget conflicts r same longer within = record {
   runs = r;
   fewer = subst (λ n. (2 * left_of budget + flag conflicts) * (n + 2) + (n + 1 - length (new.engine).trail) < rounds_left old budget conflicts) (sym same) (omega arith);

@@ -45,19 +45,22 @@ named_more names listed n places item rising within ids lt at a =
     let low : item.0 < length names = subst (λ (x : ℕ × Name). x.0 < length names) (sym at) (let h = within n item lt in let l = a.long in omega arith) in
     record {
       long = length-set names item.0 item.1 ∙ a.long;
-      numbers = All-set (λ x. IsId (number_in x)) names item.0 item.1 (subst (λ (x : ℕ × Name). IsId (number_in x.1)) (sym at) (ids n item lt)) a.numbers;
+      numbers = All-set (λ x. IsId (number_in x)) names item.0 item.1
+          (subst (λ (x : ℕ × Name). IsId (number_in x.1)) (sym at) (ids n item lt)) a.numbers;
       named = λ i d h inside. elim (cases_eq i n) as (λ _. name_at (set names item.0 item.1) (get_or listed i d).0 ≡ (get_or listed i d).1) [
         | inl same ↦
             let is : get_or listed i d ≡ item =
             ap (λ k. get_or listed k d) same ∙ get_or_default listed n d item lt ∙ sym at in
-            subst (λ (x : ℕ × Name). name_at (set names item.0 item.1) x.0 ≡ x.1) (sym is) (get_or-set_same names item.0 item.1 (Formula 0) low)
+            subst (λ (x : ℕ × Name). name_at (set names item.0 item.1) x.0 ≡ x.1) (sym is)
+            (get_or-set_same names item.0 item.1 (Formula 0) low)
         | inr other ↦
             let below : i < n = omega arith in
             let is : get_or listed n d ≡ item = get_or_default listed n d item lt ∙ sym at in
             let less : (get_or listed i d).0 < item.0 =
             subst (λ (x : ℕ × Name). (get_or listed i d).0 < x.0) is (rising i n d below lt) in
             let ne : (get_or listed i d).0 ≢ item.0 = omega arith in
-            get_or-set_other names item.0 (get_or listed i d).0 item.1 (Formula 0) ne ∙ a.named i d below inside
+            get_or-set_other names item.0 (get_or listed i d).0 item.1 (Formula 0) ne
+            ∙ a.named i d below inside
       ];
     }
 

@@ -36,7 +36,8 @@ loop-clause-preserved c =
     let left : All (λ x. has_repeat x ≡ false) (clause ∷ rest) =
     subst (All (λ x. has_repeat x ≡ false)) steps i.once in
     record {
-      given = subst (λ g. g ++ given_on (length g + 1) rest ≡ all) (sym pushed) (given_next now clause rest all before);
+      given = subst (λ g. g ++ given_on (length g + 1) rest ≡ all) (sym pushed)
+          (given_next now clause rest all before);
       many = (let long = ap length pushed ∙ length_push now (Formula (length now + 1), clause) in let one = ap length steps in let many = i.many in omega arith);
       once = All-tail (λ x. has_repeat x ≡ false) clause rest left;
     }

@@ -8,14 +8,15 @@ use Rattle.cdcl.proofs.solver.Solver.add_clause.Goals as goal
 
 pub returns-then-self-clause-lines : goal.returns-then-self-clause-lines
 returns-then-self-clause-lines g c =
-    seen_log g.S.Sink.lines c.self.inside.problem c.self.inside.sink c.self.inside.failed
-    c.self.invariant.problem _ c.self.view_is c.self.invariant.lines
+    seen_log g.S.Sink.lines c.self.invariant.problem c.self.view_is c.self.invariant.lines
 
 pub give-requires-clause-within : goal.give-requires-clause-within
 give-requires-clause-within g c = λ u.
     let fixed =
     subst (λ s. All (IsFrozen s.frozen) c.args.lits.now) (sym c.self.view_is) c.requires.frozen in
-    frozen_within c.self.inside.search c.self.inside.problem (g.S.Sink.lines c.self.inside.sink) c.args.lits.now c.self.invariant.problem (c.self.invariant.running c.if-self.false u) fixed c.are_named.ensures
+    frozen_within c.self.inside.search c.self.inside.problem (g.S.Sink.lines c.self.inside.sink)
+    c.args.lits.now c.self.invariant.problem (c.self.invariant.running c.if-self.false u) fixed
+    c.are_named.ensures
 
 pub invariant_of-self : goal.invariant_of-self
 invariant_of-self g c =
@@ -31,7 +32,8 @@ invariant_of-self g c =
     let fixed =
     subst (λ s. All (IsFrozen s.frozen) c.args.lits.now) (sym c.self.view_is) c.requires.frozen in
     let ok = gives_solver c.self.inside.search c.give.new.search p c.give.new.problem (Formula c.get-number.result) c.args.lits.now ls c.self.inside.refuted c.self.inside.failed c.self.invariant c.if-self.false c.in-Ok.ensures.given fresh
-    (c.get-number.ensures.from_one, c.get-number.ensures.small) fixed c.requires.no_repeat c.requires.no_opposites c.are_named.ensures c.in-Ok.ensures.takes in
+    (c.get-number.ensures.from_one, c.get-number.ensures.small) fixed c.requires.no_repeat
+    c.requires.no_opposites c.are_named.ensures c.in-Ok.ensures.takes in
     ok
 
 pub invariant_of-self-in-Err : goal.invariant_of-self-in-Err
@@ -55,7 +57,8 @@ returns-in-Ok-clause-lines g c =
     let fixed =
     subst (λ s. All (IsFrozen s.frozen) c.args.lits.now) (sym c.self.view_is) c.requires.frozen in
     let ok = gives_solver c.self.inside.search c.give.new.search p c.give.new.problem (Formula c.get-number.result) c.args.lits.now ls c.self.inside.refuted c.self.inside.failed c.self.invariant c.if-self.false c.in-Ok.ensures.given fresh
-    (c.get-number.ensures.from_one, c.get-number.ensures.small) fixed c.requires.no_repeat c.requires.no_opposites c.are_named.ensures c.in-Ok.ensures.takes in
+    (c.get-number.ensures.from_one, c.get-number.ensures.small) fixed c.requires.no_repeat
+    c.requires.no_opposites c.are_named.ensures c.in-Ok.ensures.takes in
     log_now c.give.new.problem ls ok.problem ok.lines
 
 pub returns-in-Err-clause-lines : goal.returns-in-Err-clause-lines

@@ -9,34 +9,31 @@ use Rattle.cdcl.proofs.solver.Solver.solve.Goals as goal
 
 pub returns-then-self-clause-lines : goal.returns-then-self-clause-lines
 returns-then-self-clause-lines g c =
-    seen_log g.S.Sink.lines c.self.inside.problem c.self.inside.sink c.self.inside.failed
-    c.self.invariant.problem _ c.self.view_is c.self.invariant.lines
+    seen_log g.S.Sink.lines c.self.invariant.problem c.self.view_is c.self.invariant.lines
 
 pub returns-then-self-2-clause-unsat : goal.returns-then-self-2-clause-unsat
 returns-then-self-2-clause-unsat g c =
-    seen_ended g.S.Sink.lines c.self.inside.problem c.self.inside.sink c.self.inside.failed
-    c.self.invariant.problem _ c.self.view_is
-    (record { stays = c.self.invariant.lines; refuted = sym c.self.invariant.refuted_is ∙ c.if-self-2.true })
+    seen_ended g.S.Sink.lines c.self.invariant.problem c.self.view_is
+    (record {
+      stays = c.self.invariant.lines;
+      refuted = sym c.self.invariant.refuted_is ∙ c.if-self-2.true;
+    })
 
 pub returns-then-self-2-clause-lines : goal.returns-then-self-2-clause-lines
 returns-then-self-2-clause-lines g c =
-    seen_log g.S.Sink.lines c.self.inside.problem c.self.inside.sink c.self.inside.failed
-    c.self.invariant.problem _ c.self.view_is c.self.invariant.lines
+    seen_log g.S.Sink.lines c.self.invariant.problem c.self.view_is c.self.invariant.lines
 
 pub returns-in-Ok-Sat-clause-refuted : goal.returns-in-Ok-Sat-clause-refuted
 returns-in-Ok-Sat-clause-refuted g c = λ h.
-    let plain =
-    seen_plain g.S.Sink.lines c.self.inside.problem c.self.inside.sink c.self.inside.failed
-    c.self.invariant.problem _ c.self.view_is
-    c.answer.new.search (g.S.Sink.lines c.answer.new.sink) c.answer.new.budget _ c.in-Ok-Sat.ensures.answers h in
+    let plain = seen_plain g.S.Sink.lines c.self.invariant.problem c.self.view_is
+    c.answer.new.search (g.S.Sink.lines c.answer.new.sink) c.answer.new.budget _
+    c.in-Ok-Sat.ensures.answers h in
     let e = sym c.in-Ok-Sat.field-0-is ∙ plain in
     absurd (cc)
 
 pub returns-in-Ok-Sat-clause-propagates : goal.returns-in-Ok-Sat-clause-propagates
 returns-in-Ok-Sat-clause-propagates g c = λ h.
-    let held =
-    seen_live g.S.Sink.lines c.self.inside.problem c.self.inside.sink c.self.inside.failed
-    c.self.invariant.problem _ c.self.view_is h in
+    let held = seen_live g.S.Sink.lines c.self.invariant.problem c.self.view_is h in
     let e = sym c.in-Ok-Sat.field-0-is ∙ c.in-Ok-Sat.ensures.propagates held in
     absurd (cc)
 
@@ -47,24 +44,19 @@ returns-in-Ok-Sat-clause-lines g c =
 
 pub returns-in-Ok-Sat-clause-short : goal.returns-in-Ok-Sat-clause-short
 returns-in-Ok-Sat-clause-short g c =
-    seen_short g.S.Sink.lines c.self.inside.problem c.self.inside.sink c.self.inside.failed
-    c.self.invariant.problem _ c.self.view_is
-    (g.S.Sink.lines c.answer.new.sink) c.answer.ensures.pays.0 c.answer.ensures.pays.1
+    seen_short g.S.Sink.lines c.self.invariant.problem c.self.view_is _ _ c.answer.ensures.pays.1
 
 pub returns-in-Ok-Limit-clause-refuted : goal.returns-in-Ok-Limit-clause-refuted
 returns-in-Ok-Limit-clause-refuted g c = λ h.
-    let plain =
-    seen_plain g.S.Sink.lines c.self.inside.problem c.self.inside.sink c.self.inside.failed
-    c.self.invariant.problem _ c.self.view_is
-    c.answer.new.search (g.S.Sink.lines c.answer.new.sink) c.answer.new.budget _ c.in-Ok-Limit.ensures.answers h in
+    let plain = seen_plain g.S.Sink.lines c.self.invariant.problem c.self.view_is
+    c.answer.new.search (g.S.Sink.lines c.answer.new.sink) c.answer.new.budget _
+    c.in-Ok-Limit.ensures.answers h in
     let e = sym c.in-Ok-Limit.field-0-is ∙ plain in
     absurd (cc)
 
 pub returns-in-Ok-Limit-clause-propagates : goal.returns-in-Ok-Limit-clause-propagates
 returns-in-Ok-Limit-clause-propagates g c = λ h.
-    let held =
-    seen_live g.S.Sink.lines c.self.inside.problem c.self.inside.sink c.self.inside.failed
-    c.self.invariant.problem _ c.self.view_is h in
+    let held = seen_live g.S.Sink.lines c.self.invariant.problem c.self.view_is h in
     let e = sym c.in-Ok-Limit.field-0-is ∙ c.in-Ok-Limit.ensures.propagates held in
     absurd (cc)
 
@@ -75,9 +67,7 @@ returns-in-Ok-Limit-clause-lines g c =
 
 pub returns-in-Ok-Limit-clause-short : goal.returns-in-Ok-Limit-clause-short
 returns-in-Ok-Limit-clause-short g c =
-    seen_short g.S.Sink.lines c.self.inside.problem c.self.inside.sink c.self.inside.failed
-    c.self.invariant.problem _ c.self.view_is
-    (g.S.Sink.lines c.answer.new.sink) c.answer.ensures.pays.0 c.answer.ensures.pays.1
+    seen_short g.S.Sink.lines c.self.invariant.problem c.self.view_is _ _ c.answer.ensures.pays.1
 
 pub returns-in-Ok-Sat-clause-sat : goal.returns-in-Ok-Sat-clause-sat
 returns-in-Ok-Sat-clause-sat g c =
@@ -92,7 +82,8 @@ returns-in-Ok-Unsat-clause-unsat g c =
     let p = c.self.inside.problem in
     let ls = g.S.Sink.lines c.answer.new.sink in
     let a = subst (IsAnswer c.answer.new.search p ls c.answer.new.budget) c.in-Ok-Unsat.field-0-is c.in-Ok-Unsat.ensures.answers in
-    subst (λ s. IsAcceptedLog (given_to s) ls) c.self.view_is (ended_log p ls c.self.invariant.problem a)
+    subst (λ s. IsAcceptedLog (given_to s) ls) c.self.view_is
+    (ended_log p ls c.self.invariant.problem a)
 
 pub returns-in-Ok-Unsat-clause-lines : goal.returns-in-Ok-Unsat-clause-lines
 returns-in-Ok-Unsat-clause-lines g c =
@@ -101,34 +92,34 @@ returns-in-Ok-Unsat-clause-lines g c =
 
 pub returns-in-Ok-Unsat-clause-short : goal.returns-in-Ok-Unsat-clause-short
 returns-in-Ok-Unsat-clause-short g c =
-    seen_short g.S.Sink.lines c.self.inside.problem c.self.inside.sink c.self.inside.failed
-    c.self.invariant.problem _ c.self.view_is
-    (g.S.Sink.lines c.answer.new.sink) c.answer.ensures.pays.0 c.answer.ensures.pays.1
+    seen_short g.S.Sink.lines c.self.invariant.problem c.self.view_is _ _ c.answer.ensures.pays.1
 
 pub returns-in-Err-clause-lines : goal.returns-in-Err-clause-lines
 returns-in-Err-clause-lines g c =
-    log_now c.self.inside.problem (g.S.Sink.lines c.answer.new.sink) c.self.invariant.problem c.in-Err.ensures.err.stays
+    log_now c.self.inside.problem (g.S.Sink.lines c.answer.new.sink) c.self.invariant.problem
+    c.in-Err.ensures.err.stays
 
 pub returns-in-Err-clause-short : goal.returns-in-Err-clause-short
 returns-in-Err-clause-short g c =
-    seen_short g.S.Sink.lines c.self.inside.problem c.self.inside.sink c.self.inside.failed
-    c.self.invariant.problem _ c.self.view_is
-    (g.S.Sink.lines c.answer.new.sink) c.answer.ensures.pays.0 c.answer.ensures.pays.1
+    seen_short g.S.Sink.lines c.self.invariant.problem c.self.view_is _ _ c.answer.ensures.pays.1
 
 pub invariant_of-self : goal.invariant_of-self
 invariant_of-self g c =
     let p = c.self.inside.problem in
     let ls = g.S.Sink.lines c.answer.new.sink in
     let a = subst (IsAnswer c.answer.new.search p ls c.answer.new.budget) c.in-Ok-Sat.field-0-is c.in-Ok-Sat.ensures.answers in
-    solver_runs c.answer.new.search p ls c.self.inside.refuted c.self.inside.failed c.self.invariant.problem a.runs c.if-self-2.false
+    solver_runs c.answer.new.search p ls c.self.inside.refuted c.self.inside.failed
+    c.self.invariant.problem a.runs c.if-self-2.false
 
 pub invariant_of-self-in-Ok-Limit : goal.invariant_of-self-in-Ok-Limit
 invariant_of-self-in-Ok-Limit g c =
     let p = c.self.inside.problem in
     let ls = g.S.Sink.lines c.answer.new.sink in
     let a = subst (IsAnswer c.answer.new.search p ls c.answer.new.budget) c.in-Ok-Limit.field-0-is c.in-Ok-Limit.ensures.answers in
-    solver_runs c.answer.new.search p ls c.self.inside.refuted c.self.inside.failed c.self.invariant.problem a.runs c.if-self-2.false
+    solver_runs c.answer.new.search p ls c.self.inside.refuted c.self.inside.failed
+    c.self.invariant.problem a.runs c.if-self-2.false
 
 pub invariant_of-self-in-Err : goal.invariant_of-self-in-Err
 invariant_of-self-in-Err g c =
-    solver_fails c.answer.new.search c.self.inside.problem (g.S.Sink.lines c.answer.new.sink) c.self.inside.refuted c.self.invariant.problem c.in-Err.ensures.err c.if-self-2.false
+    solver_fails c.answer.new.search c.self.inside.problem (g.S.Sink.lines c.answer.new.sink)
+    c.self.inside.refuted c.self.invariant.problem c.in-Err.ensures.err c.if-self-2.false
