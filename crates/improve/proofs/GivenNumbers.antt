@@ -53,7 +53,10 @@ module _ (old new : LogSolver) (n : ℕ) (c : List Literal) (usable : IsUsable o
   numbered_are =
       let len : n ≡ length (clauses_in (given_to old)) + 1 =
       omega (arith, length-map (given_to old) (λ g. g.1)) in
-      given_is ∙ ap (λ x. x ++ (Formula n, c) ∷ []) usable.numbered ∙ sym (given_more (clauses_in (given_to old)) c n len) ∙ ap given_of (sym clauses_are)
+      given_is
+      ∙ ap (λ x. x ++ (Formula n, c) ∷ []) usable.numbered
+      ∙ sym (given_more (clauses_in (given_to old)) c n len)
+      ∙ ap given_of (sym clauses_are)
 
   formula_few : length old.formula.clauses < n
   formula_few =
@@ -95,7 +98,9 @@ gives_on old mid new all i c p q lt is =
       usable = q.usable;
       formula = q.formula ∙ p.formula;
       frozen = q.frozen ∙ p.frozen;
-      clauses = q.clauses ∙ ap (λ x. x ++ c ∷ []) p.clauses ∙ append_assoc (clauses_in (given_to old)) (take i all) (c ∷ []) ∙ ap (λ x. clauses_in (given_to old) ++ x) one;
+      clauses = q.clauses ∙ ap (λ x. x ++ c ∷ []) p.clauses ∙ append_assoc
+          (clauses_in (given_to old)) (take i all) (c ∷ []) ∙ ap
+          (λ x. clauses_in (given_to old) ++ x) one;
       learned = q.learned ∙ p.learned;
     }
 

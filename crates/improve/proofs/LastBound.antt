@@ -132,7 +132,8 @@ module _ (profile : Profile) (p : Problem) (h : IsInstance p) (before : List ℕ
   pub earlier_ids : AllByRecursion (λ x. All (λ l. IsId l.variable) x) earlier
   earlier_ids =
       let few = (bound_is_formula profile p c h).few in
-      each Fits (λ x. All (λ l. IsId l.variable) x) (λ x f. clause_ids (bound_as profile p c).variables x (omega arith) f.0) earlier fits
+      each Fits (λ x. All (λ l. IsId l.variable) x)
+      (λ x f. clause_ids (bound_as profile p c).variables x (omega arith) f.0) earlier fits
 
   some_each : AllByRecursion IsSomeClause weaker
   some_each = all_mapped IsSomeClause (λ x. (x, first_subset (length fixed + 1) last x)) earlier (each Fits (λ x. is_empty_clause x ≡ false) (λ x f. f.2) earlier fits)
@@ -152,12 +153,15 @@ module _ (profile : Profile) (p : Problem) (h : IsInstance p) (before : List ℕ
     pub last_log : IsLogOver (given_of cs) sink
         → IsLogOver (given_of (bound_as profile p c).clauses) (rebased (length fixed) weaker sink)
     last_log log =
-        keeps.log fixed last refl weaker_fits weaker_some (subst (λ x. IsLogOver (given_of x) sink) (is ∙ sym given_parts) log)
+        keeps.log fixed last refl weaker_fits weaker_some
+        (subst (λ x. IsLogOver (given_of x) sink) (is ∙ sym given_parts) log)
 
     pub last_accepted : IsLogOver (given_of cs) sink → IsAcceptedLog (given_of cs) sink
         → IsAcceptedLog (given_of (bound_as profile p c).clauses) (rebased (length fixed) weaker sink)
     last_accepted log accepted =
-        keeps.accepted fixed last refl weaker_fits weaker_some (subst (λ x. IsLogOver (given_of x) sink) (is ∙ sym given_parts) log) (subst (λ x. IsAcceptedLog (given_of x) sink) (is ∙ sym given_parts) accepted)
+        keeps.accepted fixed last refl weaker_fits weaker_some
+        (subst (λ x. IsLogOver (given_of x) sink) (is ∙ sym given_parts) log)
+        (subst (λ x. IsAcceptedLog (given_of x) sink) (is ∙ sym given_parts) accepted)
 
   weaker_count : length weaker ≡ length earlier
   weaker_count = sym (length-map weaker (λ e. e.0)) ∙ ap length (same_clauses (length fixed + 1) last earlier)
@@ -223,7 +227,8 @@ bound_log p b ws log h parts e keeps = record {
 
     new_over_all : LearnsNew (is_later (length (fixed_clauses b.profile p)) (length cs)) (given_of cs) (length cs) [] sink
     new_over_all =
-        subst (λ n. LearnsNew (is_later n (length cs)) (given_of cs) (length cs) [] sink) formula_count
+        subst (λ n. LearnsNew (is_later n (length cs)) (given_of cs) (length cs) [] sink)
+        formula_count
         (subst (λ g. LearnsNew (is_later (length (b.solver).formula.clauses) (length cs)) g (length cs) [] sink) (h.usable).numbered
         ((h.usable).new (length cs) (omega (arith, length-map (given_to b.solver) (λ (g : Name × List Literal). g.1)))))
 
@@ -241,7 +246,9 @@ bound_log p b ws log h parts e keeps = record {
         → weaker_list ws
         ≡ weaker_among (length (fixed_clauses b.profile p) + 1) (comparator_for b.profile p c) (flat_map (comparator_for b.profile p) before)
     numbers before c x =
-        parts (fixed_clauses b.profile p) (flat_map (comparator_for b.profile p) before) (comparator_for b.profile p c) (given_split p b before c h x) (sym h.fixed) (sym (h.last before c x))
+        parts (fixed_clauses b.profile p) (flat_map (comparator_for b.profile p) before)
+        (comparator_for b.profile p c) (given_split p b before c h x) (sym h.fixed)
+        (sym (h.last before c x))
         ∙ ap (λ n. weaker_among (n + 1) (comparator_for b.profile p c) (flat_map (comparator_for b.profile p) before)) h.fixed
 
     is_rebased : (before : List ℕ) (c : ℕ) → (b.costs).items ≡ before ++ c ∷ []
@@ -249,9 +256,12 @@ bound_log p b ws log h parts e keeps = record {
         ≡ rebased (length (fixed_clauses b.profile p)) (weaker_among (length (fixed_clauses b.profile p) + 1) (comparator_for b.profile p c) (flat_map (comparator_for b.profile p) before)) (b.solver).sink
     is_rebased before c x =
         e ∙ ap (λ n. rebased n (weaker_list ws) (b.solver).sink) h.fixed
-        ∙ ap (λ w. rebased (length (fixed_clauses b.profile p)) w (b.solver).sink) (numbers before c x)
+        ∙ ap (λ w. rebased (length (fixed_clauses b.profile p)) w (b.solver).sink)
+        (numbers before c x)
 
     kept : (before : List ℕ) (c : ℕ) → (b.costs).items ≡ before ++ c ∷ []
         → KeepsLog (length (fixed_clauses b.profile p)) (weaker_among (length (fixed_clauses b.profile p) + 1) (comparator_for b.profile p c) (flat_map (comparator_for b.profile p) before)) (b.solver).sink
     kept before c x =
-        subst (λ w. KeepsLog (length (fixed_clauses b.profile p)) w (b.solver).sink) (numbers before c x) (subst (λ n. KeepsLog n (weaker_list ws) (b.solver).sink) h.fixed keeps)
+        subst (λ w. KeepsLog (length (fixed_clauses b.profile p)) w (b.solver).sink)
+        (numbers before c x)
+        (subst (λ n. KeepsLog n (weaker_list ws) (b.solver).sink) h.fixed keeps)

@@ -30,13 +30,15 @@ part false w = omega arith
 pub cost_small : (p : Problem) (c : ℕ) → IsInstance p → IsCostOfSome p c → c < 2 ^ 62
 cost_small p c h k =
     let le : cost_under p k.0 ≤ sum_by (λ (s : SoftClause). s.weight) p.soft =
-    sum_by-le-sum_by (λ (s : SoftClause). if clause_value k.0 s.clause then 0 else s.weight) (λ (s : SoftClause). s.weight) p.soft (λ s. part (clause_value k.0 s.clause) s.weight) in
+    sum_by-le-sum_by (λ (s : SoftClause). if clause_value k.0 s.clause then 0 else s.weight)
+    (λ (s : SoftClause). s.weight) p.soft (λ s. part (clause_value k.0 s.clause) s.weight) in
     omega (arith, le, h.weight_sum, k.2)
 
 module _ (p : Problem) (costs new : List ℕ) (c : ℕ) (bits : List Bool) (more : new ≡ costs ++ c ∷ []) where
   pub honest_new : IsSolution p bits c → All (IsCostOfSome p) costs → All (IsCostOfSome p) new
   honest_new s h =
-      subst (All (IsCostOfSome p)) (sym more) (All-push (IsCostOfSome p) costs c h (cost_of_solution p bits c s))
+      subst (All (IsCostOfSome p)) (sym more)
+      (All-push (IsCostOfSome p) costs c h (cost_of_solution p bits c s))
 
   pub told_new : (old mid last : List ℕ) → mid ≡ old ++ costs → last ≡ mid ++ c ∷ []
       → last ≡ old ++ new

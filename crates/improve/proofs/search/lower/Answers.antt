@@ -25,7 +25,8 @@ returns-then-is_err-clause-improves g c = λ before l a e.
     let costs = c.loop-bounds.bounds.costs.items in
     let cost = c.loop-bounds.best.cost in
     let err = at_err c.improved.result c.if-is_err.ensures.value c.improved.ensures.err in
-    progress_end c.args.profile c.args.instance.now _ _ before c.loop-bounds.budget (i.limit ∙ sym l) costs (err.0 ∙ i.told) cost i.falling
+    progress_end c.args.profile c.args.instance.now _ _ before c.loop-bounds.budget
+    (i.limit ∙ sym l) costs (err.0 ∙ i.told) cost i.falling
     (honest_new c.args.instance.now costs (costs ++ cost ∷ []) cost c.loop-bounds.best.bits.items refl i.solution i.honest) err.1 (err.2 ∙ ap (λ n. n + 1) i.failures)
 
 pub returns-then-is_err-2-clause-improves : goal.returns-then-is_err-2-clause-improves
@@ -35,9 +36,12 @@ returns-then-is_err-2-clause-improves g c = λ before l a e.
     let cost = c.loop-bounds.best.cost in
     let bits = c.loop-bounds.best.bits.items in
     let ok = at_ok c.improved.result c.if-is_err.ensures.value c.improved.ensures.ok in
-    memory_end c.args.profile c.args.instance.now _ _ before c.loop-bounds.budget (i.limit ∙ sym l) (costs ++ cost ∷ [])
-    (told_new c.args.instance.now costs (costs ++ cost ∷ []) cost bits refl _ _ _ i.told ok.0) i.falling
-    (honest_new c.args.instance.now costs (costs ++ cost ∷ []) cost bits refl i.solution i.honest) (ok.2 ∙ i.failures)
+    memory_end c.args.profile c.args.instance.now _ _ before c.loop-bounds.budget (i.limit ∙ sym l)
+    (costs ++ cost ∷ [])
+    (told_new c.args.instance.now costs (costs ++ cost ∷ []) cost bits refl _ _ _ i.told ok.0)
+    i.falling
+    (honest_new c.args.instance.now costs (costs ++ cost ∷ []) cost bits refl i.solution i.honest)
+    (ok.2 ∙ i.failures)
 
 pub returns-in-Err-clause-improves : goal.returns-in-Err-clause-improves
 returns-in-Err-clause-improves g c = λ before l a e.
@@ -46,15 +50,19 @@ returns-in-Err-clause-improves g c = λ before l a e.
     let cost = c.loop-bounds.best.cost in
     let bits = c.loop-bounds.best.bits.items in
     let ok = at_ok c.improved.result c.if-is_err.ensures.value c.improved.ensures.ok in
-    memory_end c.args.profile c.args.instance.now _ _ before c.search.new.budget (c.search.ensures.limit ∙ i.limit ∙ sym l) (costs ++ cost ∷ [])
-    (told_new c.args.instance.now costs (costs ++ cost ∷ []) cost bits refl _ _ _ i.told ok.0) i.falling
-    (honest_new c.args.instance.now costs (costs ++ cost ∷ []) cost bits refl i.solution i.honest) (ok.2 ∙ i.failures)
+    memory_end c.args.profile c.args.instance.now _ _ before c.search.new.budget
+    (c.search.ensures.limit ∙ i.limit ∙ sym l) (costs ++ cost ∷ [])
+    (told_new c.args.instance.now costs (costs ++ cost ∷ []) cost bits refl _ _ _ i.told ok.0)
+    i.falling
+    (honest_new c.args.instance.now costs (costs ++ cost ∷ []) cost bits refl i.solution i.honest)
+    (ok.2 ∙ i.failures)
 
 pub loop-bounds-smaller : goal.loop-bounds-smaller
 loop-bounds-smaller g c =
     let added = at_ok c.add.result c.if-is_err-2.ensures.value c.add.ensures.costs in
     let next = rw c.in-Ok-Cheaper.field-0-is at c.in-Ok-Cheaper.ensures.next in
-    next.below c.loop-bounds.bounds.costs.items c.loop-bounds.best.cost (ap (λ (v : Vec ℕ Global). v.items) c.search.ensures.costs ∙ added)
+    next.below c.loop-bounds.bounds.costs.items c.loop-bounds.best.cost
+    (ap (λ (v : Vec ℕ Global). v.items) c.search.ensures.costs ∙ added)
 
 pub loop-bounds-preserved : goal.loop-bounds-preserved
 loop-bounds-preserved g c =
@@ -94,7 +102,8 @@ returns-in-Ok-Refuted-clause-improves g c = λ before l a e.
     lowered_end c.args.instance.now c.loop-bounds.bounds.costs.items c.search.new.self.costs.items
     c.loop-bounds.best.cost c.loop-bounds.best.bits.items
     (ap (λ (v : Vec ℕ Global). v.items) c.search.ensures.costs ∙ at_ok c.add.result c.if-is_err-2.ensures.value c.add.ensures.costs)
-    c.args.profile _ _ _ _ before c.search.new.budget r.result (c.search.ensures.limit ∙ i.limit ∙ sym l)
+    c.args.profile _ _ _ _ before c.search.new.budget r.result
+    (c.search.ensures.limit ∙ i.limit ∙ sym l)
     i.told ok.0 (ok.2 ∙ i.failures) i.falling i.solution i.honest r.ensures.fault
     (c.search.ensures.profile ∙ at_ok c.add.result c.if-is_err-2.ensures.value c.add.ensures.profile ∙ i.profile)
     r.ensures.found (omega (arith, next.answers, i.answers, a))
@@ -105,7 +114,8 @@ pub conclude_spent-requires-clause-above : goal.conclude_spent-requires-clause-a
 conclude_spent-requires-clause-above g c =
     let added = at_ok c.add.result c.if-is_err-2.ensures.value c.add.ensures.costs in
     let next = rw c.in-Ok-Spent.field-0-is at c.in-Ok-Spent.ensures.next in
-    next.above_zero c.loop-bounds.bounds.costs.items c.loop-bounds.best.cost (ap (λ (v : Vec ℕ Global). v.items) c.search.ensures.costs ∙ added)
+    next.above_zero c.loop-bounds.bounds.costs.items c.loop-bounds.best.cost
+    (ap (λ (v : Vec ℕ Global). v.items) c.search.ensures.costs ∙ added)
 
 pub conclude_spent-requires-clause-hard : goal.conclude_spent-requires-clause-hard
 conclude_spent-requires-clause-hard g c =
@@ -124,7 +134,8 @@ returns-in-Ok-Spent-clause-improves g c = λ before l a e.
     lowered_end c.args.instance.now c.loop-bounds.bounds.costs.items c.search.new.self.costs.items
     c.loop-bounds.best.cost c.loop-bounds.best.bits.items
     (ap (λ (v : Vec ℕ Global). v.items) c.search.ensures.costs ∙ at_ok c.add.result c.if-is_err-2.ensures.value c.add.ensures.costs)
-    c.args.profile _ _ _ _ before c.search.new.budget r.result (c.search.ensures.limit ∙ i.limit ∙ sym l)
+    c.args.profile _ _ _ _ before c.search.new.budget r.result
+    (c.search.ensures.limit ∙ i.limit ∙ sym l)
     i.told ok.0 (ok.2 ∙ i.failures) i.falling i.solution i.honest r.ensures.fault
     (c.search.ensures.profile ∙ at_ok c.add.result c.if-is_err-2.ensures.value c.add.ensures.profile ∙ i.profile)
     r.ensures.found (omega (arith, next.answers, i.answers, a))
