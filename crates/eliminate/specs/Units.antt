@@ -1,7 +1,7 @@
 -- Literals that clauses of one literal make true.
-use Rattle.std.specs.Prelude.{◌≡◌, ℕ, ◌+◌, ◌-◌, ◌*◌, ◌<◌, ◌≤◌, true, false, List, [], ◌∷◌, ◌++◌, length}
-use Rattle.std.specs.Prelude.{map, filter, Option, Some, None, slice_index_or, unwrap_or, sum_by}
-use Rattle.std.specs.Prelude.{if◌then◌else◌}
+use Rattle.std.specs.Prelude.{◌≡◌, ℕ, ◌+◌, ◌-◌, ◌*◌, ◌<◌, ◌≤◌, true, false, List, [], ◌∷◌, ◌++◌}
+use Rattle.std.specs.Prelude.{length, map, filter, Option, Some, None, slice_index_or, unwrap_or}
+use Rattle.std.specs.Prelude.{sum_by, if◌then◌else◌}
 use Rattle.wcnf.specs.Literal.{Literal, negation}
 use Rattle.wcnf.specs.Clause.{contains_literal}
 use Rattle.wcnf.specs.Refute.{IsUnit, IsFalseUnder}

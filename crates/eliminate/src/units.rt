@@ -142,7 +142,8 @@ impl Units {
         reference: CRef,
         lit: Lit,
     ) -> Result<CRef, AllocError>
-        requires propagating { IsPropagating self.now simplifier.old store.old.slots (S.lines sink.old) }
+        requires propagating { IsPropagating self.now simplifier.old store.old.slots
+            (S.lines sink.old) }
         requires live { IsLive store.old.slots reference }
         requires unit { (c : List Literal) → clause_at store.old.slots reference ≡ Some c
             → IsUnit c self.now.trail.items lit }
@@ -174,7 +175,8 @@ impl Units {
         sink: &mut S,
         reference: CRef,
     ) -> Result<(), AllocError>
-        requires propagating { IsPropagating self.now simplifier.old store.old.slots (S.lines sink.old) }
+        requires propagating { IsPropagating self.now simplifier.old store.old.slots
+            (S.lines sink.old) }
         requires live { IsLive store.old.slots reference }
         requires falsified { (c : List Literal) → clause_at store.old.slots reference ≡ Some c
             → IsFalseUnder c self.now.trail.items }
@@ -219,13 +221,15 @@ impl Units {
         sink: &mut S,
         reference: CRef,
     ) -> Result<bool, AllocError>
-        requires propagating { IsPropagating self.old simplifier.old store.old.slots (S.lines sink.old) }
+        requires propagating { IsPropagating self.old simplifier.old store.old.slots
+            (S.lines sink.old) }
         requires live { IsLive store.old.slots reference }
         ensures propagated { IfOk result (λ _.
             Propagates self.old simplifier.old store.old.slots (S.lines sink.old)
             self.new simplifier.new store.new.slots (S.lines sink.new)) }
         ensures settled { IfOk result (λ found. found ≡ false
-            → AsksNothing self.old store.old.slots reference self.new simplifier.new store.new.slots) }
+            → AsksNothing self.old store.old.slots reference self.new simplifier.new
+            store.new.slots) }
         ensures progress { IfOk result (λ found. found ≡ true → simplifier.new.is_refuted ≡ false
             → open_count self.new < open_count self.old) }
         ensures err { OnErr result (LeavesLog simplifier.old store.old.slots (S.lines sink.old)
