@@ -10,16 +10,27 @@ loop-place-init g c =
 
 pub put-requires : goal.put-requires
 put-requires g c =
-    let i = c.loop-place.invariant in
-    (sym i.at, subst (λ (n : ℕ). c.loop-place.place < n) (sym (ap length i.same ∙ length-replicate c.args.count c.args.fill.now)) (omega arith))
+    let i = c.loop-place.invariant in (
+      sym i.at,
+      subst (λ (n : ℕ). c.loop-place.place < n)
+          (sym (ap length i.same ∙ length-replicate c.args.count c.args.fill.now)) (omega arith),
+    )
 
 pub loop-place-preserved : goal.loop-place-preserved
 loop-place-preserved g c =
     let i = c.loop-place.invariant in let p = c.put.ensures in
     record {
       at = p.0 ∙ i.at;
-      same = p.1 ∙ ap (λ (xs : List g.row.T.Denot). slice_set xs c.loop-place.place c.args.fill.now) i.same ∙ replicate_set c.args.count c.loop-place.place c.args.fill.now;
-      full = rw p.2 (filled_more c.loop-place.places.filled c.loop-place.place (omega (arith, c.loop-place.places.even, ap length i.same, length-replicate c.args.count c.args.fill.now)) i.full);
+      same = p.1 ∙ ap (λ (xs : List g.row.T.Denot). slice_set xs c.loop-place.place c.args.fill.now)
+          i.same ∙ replicate_set c.args.count c.loop-place.place c.args.fill.now;
+      full = rw p.2 (filled_more c.loop-place.places.filled c.loop-place.place
+          (omega (
+            arith,
+            c.loop-place.places.even,
+            ap length i.same,
+            length-replicate c.args.count
+                c.args.fill.now,
+          )) i.full);
     }
 
 pub invariant_of-result : goal.invariant_of-result

@@ -13,6 +13,9 @@ use Rattle.watches_block.proofs.places.Deed.TheLaw.Statement.{statement}
 
 pub shares : (R W : RattleType) (g : Ghosts W.Denot) (L : Laws R) (P : Laws W) → statement R W g L P
 shares R W g L P =
-    of_Lends (C.struct R W g) (C.the_codes R.Denot W.Denot R.coded W.coded (marker.the_row RawPtr).coded) (C.the_heap R W g) (C.the_lent R W g)
-    (λ d p. nothing_shr_laws) (copy_shared (marker.the_field RawPtr) (field_copy (marker.the_type RawPtr) tt), tt)
+    of_Lends (C.struct R W g)
+    (C.the_codes R.Denot W.Denot R.coded W.coded (marker.the_row RawPtr).coded) (C.the_heap R W g)
+    (C.the_lent R W g)
+    (λ d p. nothing_shr_laws)
+    (copy_shared (marker.the_field RawPtr) (field_copy (marker.the_type RawPtr) tt), tt)
     (λ M 𝓤 𝓛 d p. Lends-nothing 𝓛 (C.the_heap R W g d) (C.the_row R W g).lives)

@@ -15,8 +15,11 @@ use Rattle.watches_block.proofs.places.Places.TheLaw.Statement.{statement}
 use Rattle.watches_block.proofs.Sharing.{places_law, lends_places}
 
 pub shares : (R : RattleType) (L : Laws R) → statement R L
-shares R L = of_Lends (C.struct R) (C.the_codes R.Denot R.coded (marker.the_row RawPtr).coded) (C.the_heap R) (C.the_lent R)
+shares R L = of_Lends (C.struct R) (C.the_codes R.Denot R.coded (marker.the_row RawPtr).coded)
+    (C.the_heap R) (C.the_lent R)
     (λ d p. places_law R L.shr_laws d.at d.items d.filled)
     (copy_shared (marker.the_field RawPtr) (field_copy (marker.the_type RawPtr) tt), tt)
     (λ M 𝓤 𝓛 d p. let l = (C.the_row R).lives in
-    lends_places 𝓛 R l (Shares-less 𝓛 R R.lives l (Incl-trans (meet_⊑_left (R.lives ++ []) _) (meet_⊑_left R.lives [])) (L.shares 𝓛)) d.at d.items d.filled)
+    lends_places 𝓛 R l (Shares-less 𝓛 R R.lives l
+    (Incl-trans (meet_⊑_left (R.lives ++ []) _) (meet_⊑_left R.lives [])) (L.shares 𝓛)) d.at d.items
+    d.filled)
