@@ -2,7 +2,6 @@
 //! memory, and a table by reference.
 #![tactic(auto)]
 
-mod block;
 pub mod doomed;
 pub mod names;
 pub mod pool;

@@ -6,12 +6,12 @@ ghost use Rattle.watches.specs.Pool.{row_at, with_row, closed_row};
 ghost use Rattle.watches.specs.Doomed.{spared_entries, spared_rows};
 ghost use Rattle.watches.specs.Renames.{named_entry, named_rows};
 
-use crate::block::Block;
 use crate::doomed::is_doomed;
 use crate::names::new_entry;
 use clauses::store::{CRef, Moves};
 use std::alloc::{AllocError, Global};
 use std::marker::Model;
+use watches_block::Block;
 use wcnf::types::Lit;
 
 /// A clause that watches a literal, and another literal of it.
@@ -50,7 +50,7 @@ const FIRST_ROOM: u32 = 4;
 #[derive(Drop)]
 pub struct WatchPool {
     // The rows, and the places between them that none has.
-    block: Block,
+    block: Block<Entry>,
     // For each row, where it lies in the block.
     heads: Vec<Head>,
     // The number of places at the block's front in which all rows lie.
