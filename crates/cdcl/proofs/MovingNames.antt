@@ -5,10 +5,10 @@ use Rattle.std.specs.List.Sorted.{IsStrictlyIncreasing}
 use Rattle.std.proofs.lemmas.Bool.{cases_lt}
 use Rattle.std.proofs.lemmas.List.{get_or-map, length-map, length-set, get_or-set_same, get_or-set_other, get_or-take, get_or_default}
 use Rattle.std.proofs.lemmas.List.Kept.{AllPairs-from_increasing}
-use Rattle.clauses.specs.Slots.{Renaming}
+use Rattle.clauses.specs.Slots.{Renaming, old_at, new_at}
+use Rattle.clauses.proofs.Moves.{new_rise}
 use Rattle.lrat_log.specs.declared.lines.Name.{Name}
 use Rattle.lrat_log.specs.declared.lines.Name.TheVariants.{Formula}
-use Rattle.propagate.specs.Renames.{old_at, new_at}
 use Rattle.cdcl.specs.Invariant.{name_at}
 use Rattle.cdcl.specs.Moves.{NamesMoved}
 
@@ -20,12 +20,6 @@ pub record IsMovingNames (old new : List Name) (ms : Renaming) (next : ℕ) : Ty
 
 pub names_start : (old : List Name) (ms : Renaming) → IsMovingNames old old ms 0
 names_start old ms = record { done = λ i h. absurd (omega arith); later = λ j h. refl; long = refl }
-
-new_rise : (ms : Renaming) → IsStrictlyIncreasing (map (λ m. m.1) ms) → (i j : ℕ) → i < j → j < length ms → new_at ms i < new_at ms j
-new_rise ms h i j below within =
-    let long : length (map (λ m. m.1) ms) ≡ length ms = length-map ms (λ m. m.1) in
-    let all : get_or (map (λ m. m.1) ms) i 0 < get_or (map (λ m. m.1) ms) j 0 = AllPairs-from_increasing (map (λ m. m.1) ms) h i j 0 below (omega arith) in
-    omega (arith, all, get_or-map (λ m. m.1) ms i (0, 0) 0 (omega arith), get_or-map (λ m. m.1) ms j (0, 0) 0 within)
 
 module _ (old : List Name) (ms : Renaming) (rising : IsStrictlyIncreasing (map (λ m. m.1) ms)) (lower : All (λ m. m.1 ≤ m.0) ms) (within : All (λ m. m.0 < length old) ms) where
   pub names_step : (new : List Name) (next : ℕ) → IsMovingNames old new ms next → next < length ms

@@ -1,5 +1,6 @@
 pub mod Flat
 pub mod Lookup
+pub mod Moves
 pub mod Places
 pub mod Quiet
 pub mod Reading

@@ -9,10 +9,7 @@ use Rattle.std.proofs.lemmas.Cmp.{ranked}
 use Rattle.std.proofs.lemmas.List.{get_or-map, get_or_default, length-map}
 use Rattle.std.proofs.lemmas.List.Kept.{AllPairs-from_increasing}
 use Rattle.std.proofs.lemmas.List.Sorted.{IsNonDecreasingBy-from_default}
-use Rattle.clauses.specs.Slots.{Renaming, renamed}
-
-abbrev old_at : Renaming → ℕ → ℕ
-old_at ms i = (get_or ms i (0, 0)).0
+use Rattle.clauses.specs.Slots.{Renaming, renamed, old_at}
 
 abbrev Rises : Renaming → Type 0
 Rises ms = (i j : ℕ) → i < j → j < length ms → old_at ms i < old_at ms j

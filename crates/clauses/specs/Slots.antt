@@ -1,6 +1,6 @@
 -- A store of clauses: a clause for each live reference.
 use Rattle.std.specs.Prelude.{◌≡◌, ℕ, ◌+◌, ◌≤◌, List, [], ◌∷◌, map, Option, Some, None, slice_get}
-use Rattle.std.specs.Prelude.{All, ◌==◌, if◌then◌else◌, sum_by, length}
+use Rattle.std.specs.Prelude.{All, ◌==◌, if◌then◌else◌, sum_by, length, slice_index_or}
 use Rattle.wcnf.specs.Literal.{Literal}
 use Rattle.wcnf.specs.Refute.{Clauses}
 
@@ -48,6 +48,13 @@ Renaming = List (ℕ × ℕ)
 abbrev pub renamed : Renaming → ℕ → Option ℕ
 renamed [] r = None
 renamed (m ∷ ms) r = if m.0 == r then Some m.1 else renamed ms r
+
+-- the references of a move
+abbrev pub old_at : Renaming → ℕ → ℕ
+old_at moves i = (slice_index_or moves i (0, 0)).0
+
+abbrev pub new_at : Renaming → ℕ → ℕ
+new_at moves i = (slice_index_or moves i (0, 0)).1
 
 -- the moves that bring the live clauses together, where so many references and so many live ones
 -- came before

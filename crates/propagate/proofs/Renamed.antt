@@ -10,13 +10,14 @@ use Rattle.std.proofs.Math.ListN.{get_or-map}
 use Rattle.wcnf.specs.Literal.{Literal}
 use Rattle.wcnf.specs.Refute.{Clauses}
 use Rattle.clauses.specs.Slots.{Slots, clause_at, Renaming, renamed, IsRenaming}
+use Rattle.clauses.proofs.Moves.{same_origin, same_clause}
 use Rattle.watches.specs.declared.pool.Entry.{Entry}
 use Rattle.watches.specs.declared.table.Attachment.{Attachment}
 use Rattle.watches.specs.declared.table.Attachment.TheVariants.{Detached, Waiting, Satisfied, Watching}
 use Rattle.watches.specs.Pool.{row_at}
 use Rattle.watches.specs.Table.{IsWatching, is_kept, attachment_in}
 use Rattle.watches.specs.Renames.{IsMoved, named, named_entry, named_rows}
-use Rattle.watches.proofs.Moving.{moved_to, moved_from, same_origin, same_clause, named_listed}
+use Rattle.watches.proofs.Moving.{moved_to, moved_from, named_listed}
 use Rattle.propagate.specs.Trail.{Assigned, TrailState, HasReasons, IsJustified}
 use Rattle.propagate.specs.Watches.{EngineState, engine_state, IsEngine, is_attached, watches_at, count_in, one_at}
 use Rattle.propagate.specs.Fits.{FitsAttachment, FitsMoved, MovesAttached, HasBlocker, IsWatch}
@@ -132,7 +133,7 @@ module _ (e : EngineState) (ms : Renaming) (table : List Attachment)
       → AllByRecursion (HasBlocker (engine_named e ms table) after) (map (named_entry ms) row)
   blockers_named before after [] n h = h
   blockers_named before after (w ∷ row) n h = (
-    (h.0.0, ap is_kept (new_attachment w.reference h.0.1) ∙ h.0.1, same_clause before after ms w.reference (named ms w.reference) n (new_reference w.reference h.0.1) ∙ h.0.2, h.0.3),
+    (h.0.0, ap is_kept (new_attachment w.reference h.0.1) ∙ h.0.1, same_clause before after ms n w.reference (named ms w.reference) (new_reference w.reference h.0.1) ∙ h.0.2, h.0.3),
     blockers_named before after row n h.1,
   )
 
@@ -142,7 +143,7 @@ module _ (e : EngineState) (ms : Renaming) (table : List Attachment)
         let z = origin q k in
         let found = fits.attached z.0 z.3 in (
           found.0,
-          same_clause before after ms z.0 q n z.1 ∙ found.1,
+          same_clause before after ms n z.0 q z.1 ∙ found.1,
           (
             found.2.0,
             subst (FitsAttachment (engine_named e ms table) found.0) (sym z.2) (attachment_named found.0 (attachment_in e.watches.table z.0) found.2.1),
@@ -151,7 +152,7 @@ module _ (e : EngineState) (ms : Renaming) (table : List Attachment)
     reasons = reasons_named (clause_at before) (clause_at after) ms [] e.trail
         (all_weaker (λ a. IfSome a.reason (λ r. is_attached e r ≡ true)) (λ a. IfSome a.reason (λ r. clause_at after (named ms r) ≡ clause_at before r)) e.trail
         (λ a h. some_weaker (λ r. is_attached e r ≡ true) (λ r. clause_at after (named ms r) ≡ clause_at before r) a.reason
-        (λ r k. same_clause before after ms r (named ms r) n (new_reference r k)) h)
+        (λ r k. same_clause before after ms n r (named ms r) (new_reference r k)) h)
         (recursion_from_All (λ a. IfSome a.reason (λ r. is_attached e r ≡ true)) e.trail fits.reasons_attached))
         fits.reasons;
     reasons_attached = All-map (λ a. IfSome a.reason (λ r. is_attached (engine_named e ms table) r ≡ true)) (named_assigned ms) e.trail

@@ -3,7 +3,6 @@ use Rattle.std.specs.Prelude.{ℕ, List, map, Option}
 use Rattle.std.specs.Option.{option_map}
 use Rattle.clauses.specs.Slots.{Renaming}
 use Rattle.watches.specs.Renames.{named}
-pub use Rattle.watches.specs.Renames.{old_at, new_at}
 use Rattle.propagate.specs.Trail.{Assigned}
 
 abbrev pub named_reason : Renaming → Option ℕ → Option ℕ

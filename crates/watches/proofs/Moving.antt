@@ -1,62 +1,30 @@
 -- Attachments move to the new references of the clauses.
-use Rattle.std.proofs.Common.{◌≡◌, ◌≢◌, ℕ, suc, ◌+◌, ◌<◌, ◌≤◌, true, List, [], ◌∷◌, length, get_or, set, map, Some, inl, inr, refl, sym, ◌∙◌, ap, arith}
+use Rattle.std.proofs.Common.{◌≡◌, ◌≢◌, ℕ, ◌+◌, ◌<◌, ◌≤◌, true, List, length, set, map, Some, inl, inr, refl, sym, ◌∙◌, ap, arith}
 use Rattle.std.specs.Prelude.{All}
 use Rattle.std.specs.List.Sorted.{IsStrictlyIncreasing}
-use Rattle.std.proofs.lemmas.Bool.{cases_eq, cases_lt, false≢true}
-use Rattle.std.proofs.lemmas.List.{get_or-map, get_or_past, length-map, length-set}
-use Rattle.std.proofs.lemmas.List.Kept.{AllPairs-from_increasing}
-use Rattle.clauses.specs.Slots.{Slots, clause_at, Renaming, renamed, IsRenaming}
-use Rattle.clauses.proofs.Lookup.{renamed_here, renamed_later, renamed_at, rises_pairs}
+use Rattle.std.proofs.lemmas.Bool.{cases_lt, false≢true}
+use Rattle.std.proofs.lemmas.List.{get_or_past, length-set}
+use Rattle.clauses.specs.Slots.{Renaming, renamed, old_at, new_at}
+use Rattle.clauses.proofs.Lookup.{renamed_at, rises_pairs}
+use Rattle.clauses.proofs.Moves.{renamed_place, new_rise}
 use Rattle.watches.specs.declared.table.Attachment.{Attachment}
 use Rattle.watches.specs.declared.table.Attachment.TheVariants.{Detached}
 use Rattle.watches.specs.Table.{attachment_in, is_kept}
-use Rattle.watches.specs.Renames.{name_or, named, old_at, new_at, IsMoved, IsMoving}
+use Rattle.watches.specs.Renames.{name_or, named, IsMoved, IsMoving}
 use Rattle.watches.proofs.Attachments.{attachment_set_other, attachment_set_same}
-
--- the place of a move
-pub renamed_attachment : (ms : Renaming) (r q : ℕ) → renamed ms r ≡ Some q → (i : ℕ) × (i < length ms) × (old_at ms i ≡ r) × (new_at ms i ≡ q)
-renamed_attachment [] r q e = absurd (cc)
-renamed_attachment (m ∷ ms) r q e = elim (cases_eq m.0 r) [
-  | inl same ↦ (0, omega arith, same, ap (λ o. name_or o 0) (sym (renamed_here m ms r same) ∙ e))
-  | inr ne ↦ let z = renamed_attachment ms r q (sym (renamed_later m ms r ne) ∙ e) in (suc z.0, omega (arith, z.1), z.2, z.3)
-]
 
 pub named_listed : (ms : Renaming) (r q : ℕ) → renamed ms r ≡ Some q → named ms r ≡ q
 named_listed ms r q e = ap (λ o. name_or o r) e
 
-new_rise : (ms : Renaming) → IsStrictlyIncreasing (map (λ m. m.1) ms) → (i j : ℕ) → i < j → j < length ms → new_at ms i < new_at ms j
-new_rise ms h i j below within =
-    let long : length (map (λ m. m.1) ms) ≡ length ms = length-map ms (λ m. m.1) in
-    let all : get_or (map (λ m. m.1) ms) i 0 < get_or (map (λ m. m.1) ms) j 0 = AllPairs-from_increasing (map (λ m. m.1) ms) h i j 0 below (omega arith) in
-    omega (arith, all, get_or-map (λ m. m.1) ms i (0, 0) 0 (omega arith), get_or-map (λ m. m.1) ms j (0, 0) 0 within)
-
--- no two clauses get one reference
-pub same_origin : (ms : Renaming) (r s q : ℕ) → IsStrictlyIncreasing (map (λ m. m.1) ms) → renamed ms r ≡ Some q → renamed ms s ≡ Some q → r ≡ s
-same_origin ms r s q h e f =
-    let z = renamed_attachment ms r q e in
-    let w = renamed_attachment ms s q f in
-    elim (cases_lt z.0 w.0) [
-      | inl lt ↦ absurd (omega (arith, new_rise ms h z.0 w.0 lt w.1, z.3, w.3))
-      | inr ge ↦ elim (cases_lt w.0 z.0) [
-        | inl lt ↦ absurd (omega (arith, new_rise ms h w.0 z.0 lt z.1, z.3, w.3))
-        | inr le ↦ let same : z.0 ≡ w.0 = omega arith in sym z.2 ∙ ap (old_at ms) same ∙ w.2
-      ]
-    ]
-
 pub moved_to : (old new : List Attachment) (ms : Renaming) (r q : ℕ) → IsMoved old new ms → renamed ms r ≡ Some q → attachment_in new q ≡ attachment_in old r
 moved_to old new ms r q m e =
-    let z = renamed_attachment ms r q e in
+    let z = renamed_place ms r q e in
     ap (attachment_in new) (sym z.3) ∙ m.to z.0 z.1 ∙ ap (attachment_in old) z.2
 
 pub moved_from : (old new : List Attachment) (ms : Renaming) (q : ℕ) → IsStrictlyIncreasing (map (λ m. m.0) ms) → IsMoved old new ms → is_kept (attachment_in new q) ≡ true → (r : ℕ) × (renamed ms r ≡ Some q)
 moved_from old new ms q h m k =
     let z = m.from q k in
     (old_at ms z.0, renamed_at ms (old_at ms z.0) z.0 (rises_pairs ms h) z.1 refl ∙ ap Some z.2)
-
-pub same_clause : (before after : Slots) (ms : Renaming) (r q : ℕ) → IsRenaming before after ms → renamed ms r ≡ Some q → clause_at after q ≡ clause_at before r
-same_clause before after ms r q n e =
-    let z = renamed_attachment ms r q e in
-    ap (clause_at after) (sym z.3) ∙ n.same z.0 (0, 0) z.1 ∙ ap (clause_at before) z.2
 
 module _ (old : List Attachment) (ms : Renaming) (rising : IsStrictlyIncreasing (map (λ m. m.1) ms)) (lower : All (λ m. m.1 ≤ m.0) ms) where
   pub moving_start : IsMoving old old ms 0 0

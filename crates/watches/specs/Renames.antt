@@ -1,7 +1,7 @@
 -- Clauses under new references.
-use Rattle.std.specs.Prelude.{◌≡◌, ℕ, ◌<◌, ◌≤◌, true, List, length, map, slice_index_or, Option}
+use Rattle.std.specs.Prelude.{◌≡◌, ℕ, ◌<◌, ◌≤◌, true, List, length, map, Option}
 use Rattle.std.specs.Prelude.{Some, None}
-use Rattle.clauses.specs.Slots.{Renaming, renamed}
+use Rattle.clauses.specs.Slots.{Renaming, renamed, old_at, new_at}
 use Rattle.watches.specs.declared.pool.Entry.{Entry}
 use Rattle.watches.specs.declared.table.Attachment.{Attachment}
 use Rattle.watches.specs.Table.{attachment_in, is_kept}
@@ -19,12 +19,6 @@ named_entry moves w = record { reference = named moves w.reference; blocker = w.
 
 abbrev pub named_rows : Renaming → List (List Entry) → List (List Entry)
 named_rows moves rows = map (map (named_entry moves)) rows
-
-abbrev pub old_at : Renaming → ℕ → ℕ
-old_at moves i = (slice_index_or moves i (0, 0)).0
-
-abbrev pub new_at : Renaming → ℕ → ℕ
-new_at moves i = (slice_index_or moves i (0, 0)).1
 
 -- each place went to the new reference, and nothing else is left
 pub record IsMoved (old new : List Attachment) (moves : Renaming) : Type 0 where

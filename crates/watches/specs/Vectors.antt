@@ -1,7 +1,7 @@
 -- Worked rows, a worked table, and references that move.
 use Rattle.std.specs.Prelude.{◌≡◌, ℕ, true, false, List, [], ◌∷◌, refl}
 use Rattle.wcnf.specs.Literal.{Literal}
-use Rattle.clauses.specs.Slots.{Renaming}
+use Rattle.clauses.specs.Slots.{Renaming, old_at, new_at}
 use Rattle.watches.specs.declared.pool.Entry.{Entry}
 use Rattle.watches.specs.declared.table.Attachment.{Attachment}
 use Rattle.watches.specs.declared.table.Attachment.TheVariants.{Detached, Waiting, Watching}
@@ -9,7 +9,7 @@ use Rattle.watches.specs.declared.table.Rest.TheVariants.{One}
 use Rattle.watches.specs.Pool.{row_at, with_row, closed_row}
 use Rattle.watches.specs.Table.{attachment_in, is_kept, rest_in, rest_after, grown_table}
 use Rattle.watches.specs.Doomed.{is_doomed, spared_rows}
-use Rattle.watches.specs.Renames.{named, named_rows, old_at, new_at}
+use Rattle.watches.specs.Renames.{named, named_rows}
 
 p : ℕ → Literal
 p n = record { variable = n; negated = false }

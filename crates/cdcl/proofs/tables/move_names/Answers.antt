@@ -1,7 +1,7 @@
 use Rattle.std.proofs.Common.{◌≡◌, ◌<◌, ℕ, length, sym, ◌∙◌, ap, subst, arith}
 use Rattle.std.proofs.lemmas.List.{get_or_default}
 use Rattle.lrat_log.specs.declared.lines.Name.TheVariants.{Formula}
-use Rattle.propagate.specs.Renames.{old_at, new_at}
+use Rattle.clauses.specs.Slots.{old_at, new_at}
 use Rattle.cdcl.specs.Invariant.{name_at}
 use Rattle.cdcl.specs.Moves.{NamesMoved}
 use Rattle.cdcl.proofs.MovingNames.{names_start, names_step_at, names_end}

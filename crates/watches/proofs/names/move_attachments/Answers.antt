@@ -1,6 +1,6 @@
 use Rattle.std.proofs.Common.{◌≡◌, ℕ, sym, ◌∙◌, ap, arith}
 use Rattle.std.proofs.lemmas.List.{get_or_default}
-use Rattle.watches.specs.Renames.{new_at}
+use Rattle.clauses.specs.Slots.{new_at}
 use Rattle.watches.specs.Table.{attachment_in}
 use Rattle.watches.proofs.Moving.{moving_start, moving_end, moving_hit, moving_gap}
 use Rattle.watches.proofs.names.move_attachments.Goals as goal
