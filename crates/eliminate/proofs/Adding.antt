@@ -1,22 +1,19 @@
 -- What may be added: a resolvent of two clauses of a formula, as a step.
-use Rattle.std.proofs.Common.{◌≡◌, ℕ, Bool, true, false, not, List, [], ◌∷◌, ◌++◌, map, filter, Some, inl, inr, refl, sym, ap, subst, arith, ◌<◌, ◌≤◌, ◌^◌, max}
-use Rattle.std.specs.Prelude.{if◌then◌else◌}
-use Rattle.std.proofs.lemmas.Bool.{not-true, or_cases, or_parts, or_left, or_from, both_ways, false_from_ne_true, false≢true}
+use Rattle.std.proofs.Common.{◌≡◌, ℕ, true, false, not, List, [], ◌∷◌, ◌++◌, map, filter, Some, inl, inr, refl, sym, ap, subst, arith, ◌<◌, ◌≤◌, ◌^◌}
+use Rattle.std.proofs.lemmas.Bool.{not-true, or_parts, or_left, or_from, both_ways, false_from_ne_true}
 use Rattle.wcnf.specs.Literal.{Literal, negation, literal_eq}
 use Rattle.wcnf.specs.Clause.{contains_literal, without_literal, has_repeat, has_opposites, greatest_variable}
 use Rattle.wcnf.specs.Formula.{IsFormulaClause}
 use Rattle.wcnf.specs.Refute.{Refutes}
-use Rattle.wcnf.proofs.Sound.{literal_eq-true}
-use Rattle.wcnf.specs.Lrat.{Live, Addition, Step, with_clause}
 use Rattle.lrat_log.specs.declared.lines.Name.{Name}
 use Rattle.lrat_log.specs.declared.lines.Kind.{Kind}
 use Rattle.lrat_log.specs.declared.lines.Hint.TheVariants.{Plain}
 use Rattle.lrat_log.specs.Log.{LogLine, Given, is_delete, id_of, leading_ids, group_ids}
 use Rattle.lrat_log.specs.Steps.{IsBaseOf, log_live}
 use Rattle.names.specs.Work.{IsRupLine}
-use Rattle.eliminate.specs.Resolvents.{resolvent}
+use Rattle.eliminate_tables.specs.Resolvents.{resolvent}
 use Rattle.wcnf.proofs.Marks.{literal_eq-refl}
-use Rattle.eliminate.proofs.Resolve.{filter-contains, contains-either, AreParents, resolvent_refutes}
+use Rattle.eliminate_tables.proofs.Resolve.{filter-contains, contains-either, resolvent_refutes}
 use Rattle.eliminate.proofs.Falsified.{has_repeat-filter, AreFalseByUnits, unit_refutes, empty_refutes}
 pub use Rattle.pairs.proofs.Literals.{greatest-filter, member-small}
 

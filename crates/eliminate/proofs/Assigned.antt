@@ -1,14 +1,14 @@
 -- A literal becomes true by a clause that has it alone, and what that pays for.
-use Rattle.std.proofs.Common.{◌≡◌, ◌≢◌, ℕ, zero, suc, ◌+◌, ◌-◌, ◌*◌, ◌<◌, ◌≤◌, Bool, true, false, not, List, [], ◌∷◌, ◌++◌, length, set, get_or, Some, None, Option, ◌⊎◌, inl, inr, refl, sym, ◌∙◌, ap, subst, arith, length-append}
+use Rattle.std.proofs.Common.{◌≡◌, ◌≢◌, ℕ, ◌+◌, ◌-◌, ◌*◌, ◌<◌, ◌≤◌, Bool, true, false, List, [], ◌∷◌, ◌++◌, length, set, get_or, Some, None, ◌⊎◌, inl, inr, refl, sym, ◌∙◌, ap, subst, arith, length-append}
 use Rattle.std.specs.Prelude.{sum_by, if◌then◌else◌, replicate}
-use Rattle.std.proofs.lemmas.Bool.{or_cases, or_left, or_right, both_ways, cases_eq, false≢true}
+use Rattle.std.proofs.lemmas.Bool.{or_cases, or_left, or_right, both_ways, false≢true}
 use Rattle.std.proofs.lemmas.List.{length-replicate, length-set, get_or-set_same, get_or-set_other}
 use Rattle.std.proofs.lemmas.List.Sums.{sum_by-set}
 use Rattle.wcnf.specs.Literal.{Literal, negation, literal_eq, index_of}
 use Rattle.wcnf.specs.Clause.{contains_literal}
 use Rattle.wcnf.proofs.Sound.{literal_eq-true}
 use Rattle.clauses.specs.Slots.{Slots, clause_at}
-use Rattle.subsume.specs.Marks.{HasPlace, IsMarked, mark_of}
+use Rattle.subsume.specs.Marks.{HasPlace, IsMarked}
 use Rattle.subsume.proofs.Marking.{marked_one, place_within, none_marked}
 use Rattle.eliminate.specs.declared.units.Units.{Units}
 use Rattle.eliminate.specs.Simplifier.{Grows}

@@ -1,21 +1,21 @@
 -- Eliminated variables get values that satisfy the clauses that went with them, the last eliminated first.
-use Rattle.std.proofs.Common.{◌≡◌, ℕ, zero, suc, Bool, true, false, not, ◌||◌, ◌&&◌, ◌+◌, ◌-◌, ◌<◌, ◌≤◌, List, [], ◌∷◌, ◌++◌, length, filter, ◌⊎◌, inl, inr, refl, sym, ◌∙◌, ap, subst, arith, get_or, set}
+use Rattle.std.proofs.Common.{◌≡◌, ℕ, zero, suc, Bool, true, false, not, ◌||◌, ◌&&◌, ◌+◌, ◌-◌, ◌<◌, ◌≤◌, List, [], ◌∷◌, ◌++◌, length, ◌⊎◌, inl, inr, refl, sym, ◌∙◌, ap, subst, arith, get_or, set}
 use Rattle.std.specs.Prelude.{if◌then◌else◌, ◌==◌, All, Contains, slice_get, slice_set, unwrap_or}
 use Rattle.std.specs.List.{AllByRecursion, list_any}
-use Rattle.std.proofs.lemmas.Bool.{not-true, not-false, or_cases, or_parts, or_left, or_right, and_parts, and_cases, both_ways, cases_eq, eq-eqb, ne_eqb, false≢true}
+use Rattle.std.proofs.lemmas.Bool.{not-true, not-false, or_cases, or_parts, or_right, and_parts, and_cases, both_ways, cases_eq, eq-eqb, ne_eqb, false≢true}
 use Rattle.std.proofs.lemmas.List.{length-set, get_or-set_same, get_or-set_other}
 use Rattle.std.proofs.lemmas.List.Elements.{All-nil, All-cons, All-contains, All-head, All-tail}
 use Rattle.std.proofs.lemmas.Option.{unwrap_or-slice_get}
-use Rattle.wcnf.specs.Literal.{Literal, Assignment, negation, literal_value, literal_eq}
+use Rattle.wcnf.specs.Literal.{Literal, Assignment, negation, literal_value}
 use Rattle.wcnf.specs.Clause.{Satisfies, clause_value, contains_literal, without_literal, has_opposites, is_subset}
 use Rattle.wcnf.specs.Bits.{assignment_of}
-use Rattle.wcnf.proofs.Sound.{literal_eq-true, negation-value}
+use Rattle.wcnf.proofs.Sound.{negation-value}
 use Rattle.wcnf.proofs.Certificates.{made_true, made, clause_kept, rest_kept}
 use Rattle.eliminate.specs.Elimination.{Removed, positive, becomes_true, is_eliminated, extended, SatisfiesAll}
 use Rattle.eliminate.specs.State.{GivesBack}
-use Rattle.eliminate.specs.Resolvents.{resolvent}
-use Rattle.pairs.proofs.Literals.{has_true, value-filter}
-use Rattle.eliminate.proofs.Resolve.{not_not, each_literal, resolvent-parts}
+use Rattle.eliminate_tables.specs.Resolvents.{resolvent}
+use Rattle.pairs.proofs.Literals.{has_true}
+use Rattle.eliminate_tables.proofs.Resolve.{not_not, each_literal, resolvent-parts}
 
 -- the variable with this value, as a literal
 abbrev pub valued : ℕ → Bool → Literal

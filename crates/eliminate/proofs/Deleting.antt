@@ -1,17 +1,15 @@
 -- Clauses that are deleted one after another.
-use Rattle.std.proofs.Common.{◌≡◌, ◌≢◌, ℕ, zero, suc, ◌+◌, ◌<◌, Bool, true, false, List, [], ◌∷◌, ◌++◌, length, take, get_or, Some, None, ◌⊎◌, inl, inr, refl, sym, ◌∙◌, ap, subst, arith, slice_set}
-use Rattle.std.specs.Prelude.{All, Contains}
+use Rattle.std.proofs.Common.{◌≡◌, ℕ, ◌+◌, ◌<◌, List, [], ◌∷◌, ◌++◌, length, take, get_or, Some, None, inl, inr, refl, sym, ◌∙◌, ap, subst, arith, slice_set}
+use Rattle.std.specs.Prelude.{Contains}
 use Rattle.std.proofs.lemmas.Bool.{cases_eq}
-use Rattle.std.proofs.lemmas.Option.{none-some}
 use Rattle.std.proofs.lemmas.List.{take_more, length-set}
 use Rattle.std.proofs.lemmas.List.Elements.{Contains-push, Contains-push_cases, Contains-append_left, Contains-append_right, Contains-append_cases}
 use Rattle.wcnf.specs.Literal.{Literal}
 use Rattle.clauses.specs.Slots.{Slots, clause_at, IsLive}
 use Rattle.lrat_log.specs.declared.lines.Name.{Name}
-use Rattle.lrat_log.specs.Log.{LogLine, Given}
-use Rattle.lrat_log.specs.Steps.{AddsNoEmptyClause}
-use Rattle.names.specs.Work.{additions, name_at, delete_line, IsWork}
-use Rattle.eliminate.specs.Rows.{AreRows}
+use Rattle.lrat_log.specs.Log.{LogLine}
+use Rattle.names.specs.Work.{additions, name_at, delete_line}
+use Rattle.eliminate_tables.specs.Rows.{AreRows}
 use Rattle.eliminate.specs.Variables.{LeavesOut, KeepsWork, KeepsLog}
 use Rattle.names.proofs.Moving.{work_deleted, open_deleted}
 use Rattle.names.proofs.Naming.{slot_deleted, slot_kept, additions-push}

@@ -1,10 +1,10 @@
 -- A variable goes: the clauses with it are deleted once their resolvents are there, and those with the variable itself are kept for the way back.
-use Rattle.std.proofs.Common.{◌≡◌, ℕ, zero, suc, ◌+◌, ◌-◌, ◌<◌, ◌≤◌, ◌^◌, Bool, true, false, ◌&&◌, ◌||◌, List, [], ◌∷◌, ◌++◌, length, map, get_or, Some, None, ◌⊎◌, inl, inr, refl, sym, ◌∙◌, ap, subst, arith, lit<}
+use Rattle.std.proofs.Common.{◌≡◌, ℕ, zero, suc, ◌-◌, ◌≤◌, Bool, true, false, ◌||◌, List, [], ◌∷◌, ◌++◌, length, get_or, Some, ◌⊎◌, inl, inr, refl, sym, ◌∙◌, ap, subst, arith, lit<}
 use Rattle.std.specs.Prelude.{All, Contains, slice_set, unwrap_or, ◌==◌}
 use Rattle.std.specs.List.{list_any}
 use Rattle.std.proofs.lemmas.Bool.{both_ways, false_from_ne_true, and_left, or_from, cases_lt}
 use Rattle.std.proofs.lemmas.Option.{same_Some, none-some, slice_get_past}
-use Rattle.std.proofs.lemmas.List.{map-append, get_or-map, length-map, append-nil}
+use Rattle.std.proofs.lemmas.List.{map-append, get_or-map, length-map}
 use Rattle.std.proofs.lemmas.List.Folds.{list_any-append}
 use Rattle.std.proofs.lemmas.List.Elements.{All-nil, All-cons, All-head, All-tail, All-append, All-map, All-weaker, All-push, All-contains, Contains-get_or, Contains-append_left, Contains-append_right, Contains-append_cases}
 use Rattle.wcnf.specs.Literal.{Literal, Assignment, negation}
@@ -19,15 +19,15 @@ use Rattle.lrat_log.specs.Log.{LogLine, IsLine, IsPlain, name_of, number_in}
 use Rattle.names.specs.Work.{name_at, delete_line}
 use Rattle.eliminate.specs.declared.simplifier.Simplifier.{Simplifier}
 use Rattle.eliminate.specs.Elimination.{Removed, IsFree, IsRemovedWithin, positive, is_needed, becomes_true, extended, is_eliminated, SatisfiesAll}
-use Rattle.eliminate.specs.Resolvents.{resolvent}
-use Rattle.eliminate.specs.Rows.{clause_under, clauses_under}
+use Rattle.eliminate_tables.specs.Resolvents.{resolvent}
+use Rattle.eliminate_tables.specs.Rows.{clause_under, clauses_under}
 use Rattle.eliminate.specs.State.{Start, IsState, AreFree, GivesBack}
 use Rattle.eliminate.specs.Simplifier.{IsSimplified}
-use Rattle.eliminate.specs.Variables.{IsWith, AreThoseWith, IsResolvedIn, IsPairResolved, ArePairsResolved, LeavesOut, KeepsWork}
-use Rattle.eliminate.proofs.Back.{HaveVariable, negative, extended-append}
+use Rattle.eliminate.specs.Variables.{IsWith, AreThoseWith, IsPairResolved, ArePairsResolved, LeavesOut, KeepsWork}
+use Rattle.eliminate.proofs.Back.{negative, extended-append}
 use Rattle.eliminate.proofs.Deleting.{leaves_join, rows_left}
 use Rattle.eliminate.proofs.Growing.{resolvent-lacks}
-use Rattle.eliminate.proofs.Resolve.{not-opposite_too}
+use Rattle.eliminate_tables.proofs.Resolve.{not-opposite_too}
 use Rattle.eliminate.proofs.States.{GoesWith, Lacks, goes_back, goes_free, contains_live}
 
 -- a live clause is what stands under its reference

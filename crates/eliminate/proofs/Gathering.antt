@@ -1,17 +1,16 @@
 -- Rows that are cleaned, and the clauses that are then found in them.
-use Rattle.std.proofs.Common.{◌≡◌, ℕ, zero, suc, ◌<◌, Bool, true, false, List, [], ◌∷◌, length, filter, Some, None, inl, inr, refl, sym, ◌∙◌, ap, subst, arith, get_or}
-use Rattle.std.specs.Prelude.{All, Contains, if◌then◌else◌}
+use Rattle.std.proofs.Common.{◌≡◌, ℕ, zero, suc, ◌<◌, Bool, true, false, List, [], ◌∷◌, length, filter, inl, inr, sym, ◌∙◌, ap, subst, arith, get_or}
+use Rattle.std.specs.Prelude.{Contains, if◌then◌else◌}
 use Rattle.std.proofs.lemmas.Bool.{cases_eq}
-use Rattle.std.proofs.lemmas.List.{length-set, get_or-set_same, get_or-set_other}
+use Rattle.std.proofs.lemmas.List.{get_or-set_same, get_or-set_other}
 use Rattle.std.proofs.lemmas.List.Elements.{All-contains, All-filter, All-contains_itself, Contains-get_or, filter_passes}
 use Rattle.wcnf.specs.Literal.{Literal, index_of}
-use Rattle.wcnf.specs.Clause.{contains_literal}
 use Rattle.clauses.specs.Slots.{Slots, clause_at}
 use Rattle.subsume.specs.Marks.{HasPlace}
 use Rattle.subsume.proofs.Marking.{place_within}
-use Rattle.eliminate.specs.Rows.{row_at, with_row, is_some, has_clause, AreRows}
-use Rattle.eliminate.specs.Variables.{IsWith, AreThoseWith}
-use Rattle.eliminate.proofs.Occurring.{some_clause}
+use Rattle.eliminate_tables.specs.Rows.{row_at, with_row, is_some, has_clause, AreRows}
+use Rattle.eliminate.specs.Variables.{AreThoseWith}
+use Rattle.eliminate_tables.proofs.Writing.{some_clause}
 
 contains_later : {X : Type 0} (x y : X) (xs : List X) → Contains xs x → Contains (y ∷ xs) x
 contains_later x y xs h = (suc h.0, (let lt = h.1 in omega arith), h.2)

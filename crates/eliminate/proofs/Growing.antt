@@ -1,18 +1,17 @@
 -- A store grows by resolvents, which have neither the pivot nor its negation.
-use Rattle.std.proofs.Common.{◌≡◌, ℕ, ◌+◌, ◌<◌, Bool, true, false, List, [], ◌∷◌, ◌++◌, length, take, get_or, Some, ◌⊎◌, inl, inr, refl, sym, ◌∙◌, ap, subst}
-use Rattle.std.specs.Prelude.{All, Contains}
+use Rattle.std.proofs.Common.{◌≡◌, ℕ, ◌+◌, ◌<◌, true, false, List, [], ◌∷◌, ◌++◌, length, take, get_or, Some, inl, inr, sym, ◌∙◌, subst}
+use Rattle.std.specs.Prelude.{All}
 use Rattle.std.proofs.lemmas.Bool.{both_ways}
 use Rattle.std.proofs.lemmas.List.Elements.{All-weaker, All-push}
-use Rattle.std.proofs.lemmas.Option.{same_Some}
 use Rattle.wcnf.specs.Literal.{Literal, negation}
 use Rattle.wcnf.specs.Clause.{contains_literal, has_opposites}
 use Rattle.clauses.specs.Slots.{Slots, clause_at, IsLive}
-use Rattle.eliminate.specs.Resolvents.{resolvent}
+use Rattle.eliminate_tables.specs.Resolvents.{resolvent}
 use Rattle.eliminate.specs.Simplifier.{Grows}
 use Rattle.eliminate.specs.Variables.{IsWith, AreThoseWith, LacksBoth, GrowsWithout, IsResolvedIn, IsPairResolved, ArePairsResolved}
 use Rattle.eliminate.proofs.Deleting.{take_next}
-use Rattle.names.proofs.Naming.{slot_before, slot_pushed, slot_last}
-use Rattle.eliminate.proofs.Resolve.{resolvent-open, resolvent-open_not, not-opposite, not-opposite_too}
+use Rattle.names.proofs.Naming.{slot_before, slot_pushed}
+use Rattle.eliminate_tables.proofs.Resolve.{resolvent-open, resolvent-open_not, not-opposite, not-opposite_too}
 
 pub resolvent-lacks : (p : Literal) (c d : List Literal) → has_opposites c ≡ false → has_opposites d ≡ false → contains_literal p c ≡ true → contains_literal (negation p) d ≡ true → LacksBoth p (resolvent p c d)
 resolvent-lacks p c d oc od has has_not = record {

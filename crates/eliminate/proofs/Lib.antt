@@ -1,7 +1,6 @@
 pub mod Adding
 pub mod Assigned
 pub mod Back
-pub mod Built
 pub mod Deleting
 pub mod Eliminating
 pub mod Endings
@@ -9,15 +8,12 @@ pub mod Falsified
 pub mod Gathering
 pub mod Growing
 pub mod Listed
-pub mod Needed
 pub mod Occurring
 pub mod Propagating
 pub mod Resolvable
-pub mod Resolve
 pub mod Settled
 pub mod Shortened
 pub mod Simplified
-pub mod StackPieces
 pub mod Starting
 pub mod States
 pub mod Statuses

@@ -1,6 +1,5 @@
 -- Moves of unit propagation, one after another.
-use Rattle.std.proofs.Common.{◌≡◌, false, true, List, refl, sym, ◌∙◌}
-use Rattle.std.proofs.lemmas.Bool.{both_ways}
+use Rattle.std.proofs.Common.{◌≡◌, false, List, refl, sym, ◌∙◌}
 use Rattle.clauses.specs.Slots.{Slots}
 use Rattle.lrat_log.specs.Log.{LogLine}
 use Rattle.eliminate.specs.declared.simplifier.Simplifier.{Simplifier}

@@ -1,11 +1,11 @@
 -- A resolvent of two live clauses may be added.
-use Rattle.std.proofs.Common.{◌≡◌, ℕ, ◌+◌, ◌*◌, ◌<◌, ◌≤◌, ◌^◌, Bool, true, false, not, List, [], ◌∷◌, ◌++◌, length, filter, Some, None, inl, inr, refl, sym, ◌∙◌, ap, subst, arith}
-use Rattle.std.specs.Prelude.{All, ⊤, if◌then◌else◌}
-use Rattle.std.proofs.lemmas.Bool.{both_ways, false≢true, true≢false}
+use Rattle.std.proofs.Common.{◌≡◌, ℕ, ◌*◌, ◌<◌, ◌^◌, Bool, true, false, not, List, [], ◌∷◌, ◌++◌, length, filter, Some, refl, sym, ◌∙◌, ap, subst, arith}
+use Rattle.std.specs.Prelude.{All, if◌then◌else◌}
+use Rattle.std.proofs.lemmas.Bool.{both_ways}
 use Rattle.std.proofs.lemmas.Option.{same_Some}
 use Rattle.std.proofs.lemmas.List.Elements.{All-nil, All-cons, All-append, All-filter, All-weaker}
 use Rattle.wcnf.specs.Literal.{Literal, negation, literal_eq}
-use Rattle.wcnf.specs.Clause.{contains_literal, without_literal, has_opposites, greatest_variable}
+use Rattle.wcnf.specs.Clause.{contains_literal, without_literal, has_opposites}
 use Rattle.wcnf.specs.Formula.{IsFormulaClause}
 use Rattle.wcnf.specs.Lrat.{IsId}
 use Rattle.clauses.specs.Slots.{Slots, clause_at}
@@ -14,12 +14,12 @@ use Rattle.lrat_log.specs.declared.lines.Kind.{Kind}
 use Rattle.lrat_log.specs.declared.lines.Kind.TheVariants.{Empty, Resolvent}
 use Rattle.lrat_log.specs.declared.lines.Hint.{Hint}
 use Rattle.lrat_log.specs.declared.lines.Hint.TheVariants.{Plain}
-use Rattle.lrat_log.specs.Log.{LogLine, IsLine, IsPlain, name_of, number_in, is_delete, is_learned}
+use Rattle.lrat_log.specs.Log.{LogLine, name_of, number_in, is_delete, is_learned}
 use Rattle.lrat_log.specs.Steps.{given_of, IsOwnGroup, is_empty_clause}
 use Rattle.subsume.specs.Marks.{HasPlace}
 use Rattle.eliminate.specs.declared.simplifier.Simplifier.{Simplifier}
 use Rattle.eliminate.specs.Elimination.{is_eliminated}
-use Rattle.eliminate.specs.Resolvents.{resolvent}
+use Rattle.eliminate_tables.specs.Resolvents.{resolvent}
 use Rattle.eliminate.specs.State.{Start}
 use Rattle.names.specs.Work.{name_at}
 use Rattle.eliminate.specs.Simplifier.{IsSimplified, IsSimplifier, IsAddableLine}

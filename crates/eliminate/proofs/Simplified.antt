@@ -1,19 +1,17 @@
 -- A simplified form of a formula stays one where a clause is added, or deleted as one that another subsumes.
-use Rattle.std.proofs.Common.{◌≡◌, ◌≢◌, ℕ, ◌+◌, ◌*◌, ◌<◌, ◌≤◌, ◌^◌, Bool, true, false, ◌&&◌, List, [], ◌∷◌, ◌++◌, length, Some, None, refl, sym, ◌∙◌, ap, subst, arith, set}
-use Rattle.std.specs.Prelude.{All, Contains, Result, Ok, Err, OnErr}
+use Rattle.std.proofs.Common.{◌≡◌, ◌≢◌, ℕ, ◌+◌, ◌*◌, ◌<◌, ◌^◌, Bool, true, false, ◌&&◌, List, [], ◌∷◌, ◌++◌, length, Some, None, refl, sym, ◌∙◌, ap, subst, arith, set}
+use Rattle.std.specs.Prelude.{All, Contains}
 use Rattle.std.proofs.lemmas.Bool.{both_ways, false≢true}
 use Rattle.wcnf.specs.Literal.{Literal}
 use Rattle.wcnf.specs.Clause.{is_subset}
 use Rattle.wcnf.specs.Formula.{IsFormulaClause}
 use Rattle.clauses.specs.Slots.{Slots, clause_at, live_clauses}
-use Rattle.lrat_log.specs.declared.lines.Name.{Name}
-use Rattle.lrat_log.specs.Log.{LogLine, is_delete}
-use Rattle.lrat_log.specs.Steps.{is_empty_clause, adds_empty_clause, AddsNoEmptyClause}
+use Rattle.lrat_log.specs.Log.{LogLine}
+use Rattle.lrat_log.specs.Steps.{is_empty_clause, AddsNoEmptyClause}
 use Rattle.subsume.specs.Marks.{HasPlace}
 use Rattle.eliminate.specs.declared.simplifier.Simplifier.{Simplifier}
-use Rattle.eliminate.specs.Elimination.{Removed}
 use Rattle.names.specs.Work.{NamesState, additions, name_at, added_line, delete_line}
-use Rattle.eliminate.specs.Rows.{with_clause_rows}
+use Rattle.eliminate_tables.specs.Rows.{with_clause_rows}
 use Rattle.eliminate.specs.State.{Start, IsState}
 use Rattle.eliminate.specs.Simplifier.{IsSimplified, IsAddableLine, IsLogOf}
 use Rattle.names.proofs.Moving.{open_added, open_deleted}

@@ -1,27 +1,25 @@
 -- The tables at the start: each clause of the formula has its number as its name, and stands in the rows of its literals.
-use Rattle.std.proofs.Common.{◌≡◌, ◌≢◌, ℕ, zero, suc, ◌+◌, ◌*◌, ◌<◌, ◌≤◌, ◌^◌, Bool, true, false, List, [], ◌∷◌, ◌++◌, length, map, take, get_or, replicate, Some, None, Option, refl, sym, ◌∙◌, ap, subst, arith, length-append, inl, inr}
+use Rattle.std.proofs.Common.{◌≡◌, ℕ, zero, suc, ◌+◌, ◌*◌, ◌<◌, ◌≤◌, Bool, true, false, List, [], ◌∷◌, ◌++◌, length, map, get_or, replicate, Some, None, refl, sym, ◌∙◌, ap, subst, arith, length-append}
 use Rattle.std.specs.Prelude.{All, Contains, ◌==◌, if◌then◌else◌}
 use Rattle.std.specs.List.{enumerate_from}
 use Rattle.std.proofs.lemmas.Bool.{eq-eqb, eqb-true, ne_eqb, both_ways}
 use Rattle.std.proofs.lemmas.List.{length-replicate}
 use Rattle.std.proofs.lemmas.List.Elements.{All-nil, All-head, All-tail}
-use Rattle.std.proofs.lemmas.Option.{none-some, same_Some}
+use Rattle.std.proofs.lemmas.Option.{none-some}
 use Rattle.wcnf.specs.Literal.{Literal}
 use Rattle.wcnf.specs.Formula.{IsFormula, IsFormulaClause}
-use Rattle.wcnf.specs.Refute.{Clauses}
 use Rattle.wcnf.specs.Lrat.{IsId}
 use Rattle.clauses.specs.Slots.{Slots, clause_at, live_clauses}
 use Rattle.lrat_log.specs.declared.lines.Name.{Name}
 use Rattle.lrat_log.specs.declared.lines.Name.TheVariants.{Formula, Added}
 use Rattle.lrat_log.specs.Log.{Given, given_at, id_of, number_in}
-use Rattle.lrat_log.specs.Steps.{IsBaseOf, given_of, log_live, StaysLogOver}
+use Rattle.lrat_log.specs.Steps.{given_of, StaysLogOver}
 use Rattle.eliminate.specs.declared.simplifier.Simplifier.{Simplifier}
 use Rattle.eliminate.specs.Elimination.{Removed, IsFree, IsRemovedWithin}
 use Rattle.eliminate.specs.State.{Start, IsState}
 use Rattle.eliminate.specs.Simplifier.{IsSimplified}
-use Rattle.names.specs.Work.{NamesState, name_at, formula_names, AreLiveAs, IsNamed, IsWork}
-use Rattle.eliminate.specs.Rows.{row_at, AreRows}
-use Rattle.names.proofs.Naming.{slot_within}
+use Rattle.names.specs.Work.{NamesState, name_at, formula_names, IsNamed}
+use Rattle.eliminate_tables.specs.Rows.{row_at, AreRows}
 use Rattle.eliminate.proofs.States.{live_all}
 
 abbrev given_from : ℕ → Slots → Given

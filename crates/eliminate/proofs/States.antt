@@ -1,10 +1,10 @@
 -- The moves of the elimination: a clause that follows is added, and one that another makes needless is deleted.
-use Rattle.std.proofs.Common.{◌≡◌, ◌≢◌, ℕ, zero, suc, ◌+◌, ◌*◌, ◌<◌, ◌≤◌, ◌^◌, Bool, true, false, List, [], ◌∷◌, ◌++◌, length, Some, None, ◌⊎◌, ◌||◌, ◌&&◌, ◌==◌, inl, inr, refl, sym, ◌∙◌, ap, subst, arith, slice_set, get_or}
+use Rattle.std.proofs.Common.{◌≡◌, ◌≢◌, ℕ, ◌+◌, ◌*◌, ◌<◌, ◌≤◌, ◌^◌, Bool, true, false, List, [], ◌∷◌, ◌++◌, length, Some, None, ◌⊎◌, ◌||◌, ◌&&◌, ◌==◌, inl, inr, refl, sym, ◌∙◌, ap, subst, arith, slice_set, get_or}
 use Rattle.std.specs.Prelude.{All, Contains}
 use Rattle.std.proofs.lemmas.Bool.{or_parts, or_from, cases_eq}
 use Rattle.std.proofs.lemmas.List.Folds.{list_any-append}
-use Rattle.std.proofs.lemmas.List.Elements.{All-nil, All-cons, All-head, All-tail, Contains-get_or, All-push}
-use Rattle.std.proofs.lemmas.Option.{same_Some, none-some}
+use Rattle.std.proofs.lemmas.List.Elements.{All-nil, All-cons, All-head, All-tail}
+use Rattle.std.proofs.lemmas.Option.{same_Some}
 use Rattle.wcnf.specs.Literal.{Literal, literal_eq, same_bool}
 use Rattle.wcnf.specs.Clause.{Satisfies, is_subset, greatest_variable, contains_literal, has_opposites}
 use Rattle.wcnf.specs.Formula.{IsFormulaClause}
@@ -14,10 +14,10 @@ use Rattle.lrat_log.specs.declared.lines.Name.{Name}
 use Rattle.lrat_log.specs.Log.{LogLine, is_learned}
 use Rattle.lrat_log.specs.Steps.{given_of, AddsNoEmptyClause, IsOwnGroup}
 use Rattle.subsume.specs.Marks.{HasPlace}
-use Rattle.eliminate.specs.Elimination.{Removed, is_eliminated, positive, IsRemovedWithin, IsFree}
-use Rattle.eliminate.specs.Resolvents.{resolvent}
-use Rattle.names.specs.Work.{additions, name_at, added_line, delete_line, IsWork, IsRupLine}
-use Rattle.eliminate.specs.Rows.{with_clause_rows, AreRows}
+use Rattle.eliminate.specs.Elimination.{Removed, is_eliminated, positive}
+use Rattle.eliminate_tables.specs.Resolvents.{resolvent}
+use Rattle.names.specs.Work.{additions, name_at, added_line, delete_line, IsRupLine}
+use Rattle.eliminate_tables.specs.Rows.{with_clause_rows}
 use Rattle.eliminate.specs.State.{Start, IsState, AreFree, GivesBack}
 use Rattle.eliminate.proofs.Back.{Entails, IsKept, HaveVariable, negative, extends_weaker, extends_eliminated, resolve_to, entails_subsumed, entails_member}
 use Rattle.names.proofs.Moving.{work_added, work_deleted}

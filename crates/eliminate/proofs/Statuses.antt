@@ -1,9 +1,8 @@
 -- What the true literals make of a clause, literal after literal.
-use Rattle.std.proofs.Common.{◌≡◌, ◌≢◌, ℕ, zero, suc, ◌+◌, ◌*◌, ◌<◌, ◌≤◌, Bool, true, false, List, [], ◌∷◌, ◌++◌, length, take, get_or, Some, None, Option, ◌⊎◌, inl, inr, refl, sym, ◌∙◌, ap, subst, arith}
+use Rattle.std.proofs.Common.{◌≡◌, ℕ, zero, suc, ◌+◌, ◌*◌, ◌<◌, Bool, true, false, List, [], ◌∷◌, ◌++◌, length, take, get_or, ◌⊎◌, inl, inr, refl, sym, ◌∙◌, ap, subst, arith}
 use Rattle.std.specs.List.{AllByRecursion}
 use Rattle.std.proofs.lemmas.Bool.{or_cases, or_parts, or_left, or_right, both_ways, false≢true, true≢false}
 use Rattle.std.proofs.lemmas.List.{take_more}
-use Rattle.std.proofs.lemmas.List.Folds.{list_any-append}
 use Rattle.std.proofs.lemmas.Option.{same_Some}
 use Rattle.wcnf.specs.Literal.{Literal, negation, literal_eq}
 use Rattle.wcnf.specs.Clause.{contains_literal, has_repeat}
@@ -16,7 +15,7 @@ use Rattle.subsume.specs.Marks.{HasPlace, mark_of}
 use Rattle.eliminate.specs.declared.units.Units.{Units}
 use Rattle.eliminate.specs.declared.units.Status.{Status}
 use Rattle.eliminate.specs.declared.units.Status.TheVariants.{Settled, Unit, Falsified}
-use Rattle.eliminate.specs.Units.{IsSettled, IsByUnit, AreUnits}
+use Rattle.eliminate.specs.Units.{IsSettled, AreUnits}
 use Rattle.wcnf.proofs.Marks.{literal_eq-refl}
 use Rattle.eliminate.proofs.States.{places_of}
 

@@ -1,9 +1,9 @@
 -- Tables that say the same: a simplified form stays one where only marks, the clause in hand, rows or bins change.
-use Rattle.std.proofs.Common.{◌≡◌, ℕ, ◌+◌, ◌*◌, ◌≤◌, ◌^◌, false, true, List, length, refl, sym, ◌∙◌, ap, subst, arith}
+use Rattle.std.proofs.Common.{◌≡◌, ◌*◌, List, length, sym, ◌∙◌, ap, subst, arith}
 use Rattle.clauses.specs.Slots.{Slots}
 use Rattle.lrat_log.specs.Log.{LogLine}
 use Rattle.eliminate.specs.declared.simplifier.Simplifier.{Simplifier}
-use Rattle.eliminate.specs.Rows.{AreRows}
+use Rattle.eliminate_tables.specs.Rows.{AreRows}
 use Rattle.eliminate.specs.State.{Start, IsState}
 use Rattle.names.specs.Work.{NamesState}
 use Rattle.eliminate.specs.Simplifier.{IsSimplified, StaysSimplified}

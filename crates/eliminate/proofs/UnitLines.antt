@@ -1,7 +1,6 @@
 -- The lines that unit propagation adds: a clause of one literal, and the empty clause.
-use Rattle.std.proofs.Common.{◌≡◌, ℕ, zero, suc, ◌+◌, ◌-◌, ◌*◌, ◌<◌, ◌≤◌, ◌^◌, max, Bool, true, false, not, List, [], ◌∷◌, ◌++◌, length, map, filter, take, get_or, Some, None, Option, ◌⊎◌, inl, inr, refl, sym, ◌∙◌, ap, subst, arith}
-use Rattle.std.specs.Prelude.{All, if◌then◌else◌, slice_index_or, unwrap_or}
-use Rattle.std.specs.List.{AllByRecursion}
+use Rattle.std.proofs.Common.{◌≡◌, ℕ, ◌+◌, ◌-◌, ◌<◌, ◌≤◌, ◌^◌, max, Bool, true, false, not, List, [], ◌∷◌, ◌++◌, length, map, filter, take, get_or, Some, None, Option, ◌⊎◌, inl, inr, refl, sym, ◌∙◌, ap, subst, arith}
+use Rattle.std.specs.Prelude.{All, if◌then◌else◌, unwrap_or}
 use Rattle.std.proofs.lemmas.Bool.{or_cases, or_left, or_right, both_ways, false≢true, cases_lt, false_from_ne_true}
 use Rattle.std.proofs.lemmas.List.{append-nil, map-append, get_or_past, get_or_read}
 use Rattle.std.proofs.lemmas.List.Elements.{All-nil, All-cons, All-head, All-tail, filter-append}
@@ -17,7 +16,7 @@ use Rattle.lrat_log.specs.declared.lines.Name.TheVariants.{Formula}
 use Rattle.lrat_log.specs.declared.lines.Hint.{Hint}
 use Rattle.lrat_log.specs.declared.lines.Hint.TheVariants.{Plain}
 use Rattle.lrat_log.specs.declared.lines.Kind.TheVariants.{Unit, Empty}
-use Rattle.lrat_log.specs.Log.{LogLine, IsLine, IsPlain, id_of, number_in, name_of}
+use Rattle.lrat_log.specs.Log.{LogLine, id_of, number_in, name_of}
 use Rattle.lrat_log.specs.Steps.{given_of, log_live, IsOwnGroup, IsBaseOf}
 use Rattle.subsume.specs.Marks.{mark_of}
 use Rattle.eliminate.specs.declared.simplifier.Simplifier.{Simplifier}
@@ -30,7 +29,7 @@ use Rattle.eliminate.specs.Units.{AreUnits, unit_of, unit_name, falsified_in, un
 use Rattle.eliminate.proofs.Adding.{unit_line, empty_line}
 use Rattle.eliminate.proofs.Falsified.{AreFalseByUnits}
 use Rattle.wcnf.proofs.Marks.{literal_eq-refl}
-use Rattle.eliminate.proofs.Resolve.{each_literal, filter-contains}
+use Rattle.eliminate_tables.proofs.Resolve.{each_literal, filter-contains}
 use Rattle.eliminate.proofs.Statuses.{all_member, take_next}
 
 -- the next literal of a clause is false, or not

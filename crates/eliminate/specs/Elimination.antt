@@ -1,22 +1,18 @@
 -- Eliminated variables, and how they get their values back.
-use Rattle.std.specs.Prelude.{◌≡◌, ℕ, ◌-◌, ◌<◌, ◌≤◌, Bool, false, not, ◌&&◌, List, [], ◌∷◌, length}
-use Rattle.std.specs.Prelude.{map, Some, slice_get, slice_set, slice_index_or, All, Contains, ◌==◌}
+use Rattle.std.specs.Prelude.{◌≡◌, ℕ, ◌-◌, ◌<◌, ◌≤◌, Bool, false, List, length}
+use Rattle.std.specs.Prelude.{map, Some, slice_get, slice_index_or, All, Contains}
 use Rattle.std.specs.Prelude.{nat_eq}
-use Rattle.std.specs.List.{list_any, IsDistinct}
-use Rattle.wcnf.specs.Literal.{Literal, Assignment, literal_value}
-use Rattle.wcnf.specs.Clause.{Satisfies, contains_literal, without_literal}
+use Rattle.std.specs.List.{IsDistinct}
+use Rattle.wcnf.specs.Literal.{Literal, Assignment}
+use Rattle.wcnf.specs.Clause.{Satisfies}
 use Rattle.wcnf.specs.Refute.{Clauses}
 use Rattle.wcnf.specs.Bits.{assignment_of}
 use Rattle.clauses.specs.Slots.{Slots, clause_at, live_places}
 use Rattle.lrat_log.specs.declared.lines.Name.{Name}
 use Rattle.lrat_log.specs.declared.lines.Name.TheVariants.{Formula}
 use Rattle.lrat_log.specs.Log.{id_of, number_in}
-pub use Rattle.pairs.specs.Pairs.{positive}
-
--- a variable and the clauses that were removed with it
-pub record Removed : Type 0 where
-  pub variable : ℕ
-  pub clauses : List (List Literal)
+pub use Rattle.eliminate_tables.specs.Removals.{Removed, positive, is_needed, becomes_true}
+pub use Rattle.eliminate_tables.specs.Removals.{extended, is_eliminated}
 
 -- a variable that may stand in the bits
 abbrev pub IsRemovedWithin : ℕ → Removed → Type 0
@@ -27,23 +23,6 @@ pub record StackState : Type 0 where
   pub variables : ℕ
   pub removed : List Removed
   pub names : List (ℕ × Name)
-
--- the clause has the literal, and is otherwise false
-abbrev pub is_needed : Assignment → Literal → List Literal → Bool
-is_needed t l c = contains_literal l c && not (list_any (literal_value t) (without_literal l c))
-
--- some removed clause with the variable is otherwise false
-abbrev pub becomes_true : Assignment → Removed → Bool
-becomes_true t r = list_any (is_needed t (positive r.variable)) r.clauses
-
--- the eliminated variables get their values, the last eliminated first
-abbrev pub extended : List Removed → List Bool → List Bool
-extended [] bits = bits
-extended (r ∷ rs) bits = slice_set (extended rs bits) (r.variable - 1)
-    (becomes_true (assignment_of (extended rs bits)) r)
-
-abbrev pub is_eliminated : List Removed → ℕ → Bool
-is_eliminated removed v = list_any (λ r. r.variable == v) removed
 
 -- the variable is one of the clauses before, and not frozen
 abbrev pub IsFree : List Bool → ℕ → Type 0

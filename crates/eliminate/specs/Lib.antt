@@ -1,11 +1,7 @@
 pub mod Elimination
 pub mod Ending
-pub mod Flat
-pub mod Resolvents
-pub mod Rows
 pub mod Simplifier
 pub mod State
 pub mod Subsuming
 pub mod Units
 pub mod Variables
-pub mod Vectors

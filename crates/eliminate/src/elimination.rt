@@ -1,6 +1,6 @@
 // Elimination, and the way back.
-ghost use Rattle.std.specs.Prelude.{◌≡◌, ℕ, ◌+◌, ◌-◌, ◌<◌, ◌≤◌, ◌^◌, Bool, true, false, List, []};
-ghost use Rattle.std.specs.Prelude.{length, map, Some, slice_get, All, Contains, IfOk, OnOk, OnErr};
+ghost use Rattle.std.specs.Prelude.{◌≡◌, ℕ, ◌+◌, ◌-◌, ◌<◌, ◌≤◌, ◌^◌, true, false, []};
+ghost use Rattle.std.specs.Prelude.{length, Some, slice_get, All, Contains, IfOk, OnOk, OnErr};
 ghost use Rattle.wcnf.specs.Formula.{IsFormula, IsFormulaClause};
 ghost use Rattle.wcnf.specs.Refute.{IsRefutedByHints};
 ghost use Rattle.clauses.specs.Slots.{live_clauses};
@@ -12,15 +12,14 @@ ghost use Rattle.eliminate.specs.Elimination.{ExtendsBack, HoldsWhatIsLive, list
 use crate::ending::define_where_open;
 use crate::rounds::simplify;
 use crate::simplifier::Simplifier;
-use crate::stack::Removals;
 use crate::units::propagate_units;
 use clauses::store::{CRef, Store};
+use eliminate_tables::stack::Removals;
 use lrat_log::lines::Name;
 use lrat_log::sink::Sink;
 use names::names::Names;
 use std::alloc::AllocError;
 use std::marker::Model;
-use wcnf::types::Lit;
 
 /// The eliminated variables, and the names of the clauses that are left.
 #[derive(Drop)]

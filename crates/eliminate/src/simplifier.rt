@@ -1,6 +1,6 @@
 // What preprocessing keeps beside the store and the log. Names, occurrences and removals are what
 // its proof rests on; the schedule only says where work may be worthwhile.
-ghost use Rattle.std.specs.Prelude.{◌≡◌, ℕ, ◌<◌, List, [], ◌∷◌, ◌++◌, Bool, true, false, length};
+ghost use Rattle.std.specs.Prelude.{◌≡◌, ◌<◌, List, [], ◌∷◌, ◌++◌, Bool, true, false, length};
 ghost use Rattle.std.specs.Prelude.{IfOk, IfSome, OnErr, Some, None, slice_set};
 ghost use Rattle.wcnf.specs.Literal.{Literal};
 ghost use Rattle.wcnf.specs.Clause.{is_subset};
@@ -11,11 +11,11 @@ ghost use Rattle.eliminate.specs.State.{Start};
 ghost use Rattle.eliminate.specs.Simplifier.{IsSimplified, IsSimplifier, StaysSimplified};
 ghost use Rattle.eliminate.specs.Simplifier.{LeavesLog, IsAddableLine};
 
-use crate::bins::Bins;
-use crate::rows::Rows;
-use crate::schedule::Schedule;
-use crate::stack::Removals;
 use clauses::store::{CRef, Store};
+use eliminate_tables::bins::Bins;
+use eliminate_tables::rows::Rows;
+use eliminate_tables::schedule::Schedule;
+use eliminate_tables::stack::Removals;
 use lrat_log::lines::{Hint, Kind};
 use lrat_log::sink::Sink;
 use names::names::{Names, add, delete};

@@ -1,5 +1,5 @@
 -- The store that is left is a simplified form of the formula.
-use Rattle.std.proofs.Common.{◌≡◌, ℕ, ◌+◌, ◌<◌, ◌≤◌, ◌^◌, true, false, List, length, sym, ◌∙◌, ap, subst, refl, arith, inl, inr}
+use Rattle.std.proofs.Common.{◌≡◌, false, List, length, sym, ap, subst, refl, inl, inr}
 use Rattle.std.specs.Prelude.{[], All, Contains}
 use Rattle.std.proofs.lemmas.Bool.{cases_Bool}
 use Rattle.wcnf.specs.Literal.{Literal}
@@ -11,7 +11,6 @@ use Rattle.eliminate.specs.Elimination.{is_eliminated, HoldsWhatIsLive}
 use Rattle.eliminate.specs.State.{Start}
 use Rattle.eliminate.specs.Simplifier.{IsSimplified}
 use Rattle.eliminate.proofs.Listed.{holds_live}
-use Rattle.eliminate.proofs.Simplified.{log_of}
 use Rattle.eliminate.proofs.Starting.{stays_start}
 use Rattle.eliminate.proofs.States.{all_live}
 use Rattle.eliminate.proofs.elimination.eliminate.Goals as goal

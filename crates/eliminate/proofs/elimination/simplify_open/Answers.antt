@@ -1,5 +1,4 @@
 -- Nothing is done where the empty clause is there.
-use Rattle.std.proofs.Common.{◌≡◌}
 use Rattle.std.proofs.lemmas.Bool.{both_ways}
 use Rattle.eliminate.proofs.elimination.simplify_open.Goals as goal
 

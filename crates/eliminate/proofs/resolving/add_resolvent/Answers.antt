@@ -1,17 +1,16 @@
 -- The resolvent is there, or has an opposite pair.
-use Rattle.std.proofs.Common.{◌≡◌, ◌∙◌, ◌++◌, ◌∷◌, [], List, Some, not, true, false, ap, sym, subst, refl, inl, inr, length}
+use Rattle.std.proofs.Common.{◌≡◌, ◌∙◌, ◌++◌, ◌∷◌, [], List, Some, true, ap, sym, subst, refl, inr, length}
 use Rattle.std.proofs.lemmas.Bool.{not-true}
 use Rattle.wcnf.specs.Literal.{Literal, negation}
-use Rattle.wcnf.specs.Clause.{contains_literal, has_opposites}
+use Rattle.wcnf.specs.Clause.{contains_literal}
 use Rattle.clauses.specs.Slots.{Slots, clause_at}
 use Rattle.lrat_log.specs.Log.{LogLine}
 use Rattle.eliminate.specs.declared.simplifier.Simplifier.{Simplifier}
-use Rattle.eliminate.specs.Resolvents.{resolvent}
+use Rattle.eliminate_tables.specs.Resolvents.{resolvent}
 use Rattle.eliminate.specs.Simplifier.{LeavesLog}
 use Rattle.eliminate.specs.Variables.{GrowsWithout}
 use Rattle.eliminate.proofs.Resolvable.{resolvent_addable, resolvent_kind, literals_placed, literals_plain, is_named, same_at, pair_added}
 use Rattle.eliminate.proofs.Growing.{grows_one, resolvent-lacks}
-use Rattle.names.proofs.Naming.{slot_last}
 use Rattle.names.proofs.Refusals.{when_err}
 use Rattle.eliminate.proofs.Tables.{simplified_same}
 use Rattle.eliminate.proofs.resolving.add_resolvent.Goals as goal

@@ -1,8 +1,7 @@
 -- A sweep that finds nothing leaves no clause that is false or unit.
-use Rattle.std.proofs.Common.{◌≡◌, ◌<◌, ◌≤◌, length, refl, sym, ◌∙◌, ap, subst, arith, false}
+use Rattle.std.proofs.Common.{arith}
 use Rattle.std.proofs.lemmas.Bool.{both_ways}
 use Rattle.eliminate.specs.Simplifier.{LeavesLog}
-use Rattle.eliminate.specs.Units.{open_count}
 use Rattle.eliminate.proofs.Propagating.{still_propagating}
 use Rattle.eliminate.proofs.Settled.{settled_not_refuted}
 use Rattle.eliminate.proofs.Simplified.{log_of}

@@ -1,4 +1,3 @@
-use Rattle.std.proofs.Common.{ℕ}
 use Rattle.eliminate.specs.Simplifier.{StaysSimplified, Grows}
 use Rattle.eliminate.specs.Units.{IsPropagating, open_count}
 use Rattle.eliminate.proofs.units.propagate_units.Given as goal

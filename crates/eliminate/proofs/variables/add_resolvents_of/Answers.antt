@@ -1,10 +1,8 @@
 -- One pair more is resolved.
-use Rattle.std.proofs.Common.{◌≡◌, ◌∙◌, List, ℕ, take, length, sym, subst, arith}
+use Rattle.std.proofs.Common.{sym, subst, arith}
 use Rattle.std.specs.Prelude.{All}
 use Rattle.std.proofs.lemmas.List.{take_all}
 use Rattle.wcnf.specs.Literal.{negation}
-use Rattle.clauses.specs.Slots.{Slots}
-use Rattle.lrat_log.specs.Log.{LogLine}
 use Rattle.eliminate.specs.Simplifier.{LeavesLog}
 use Rattle.eliminate.specs.Variables.{IsWith, IsPairResolved}
 use Rattle.eliminate.proofs.Growing.{with_later, grows_join, next_pair}

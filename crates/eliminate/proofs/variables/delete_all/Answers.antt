@@ -1,5 +1,5 @@
 -- One clause more is deleted.
-use Rattle.std.proofs.Common.{◌≡◌, ◌∙◌, ap, sym, subst, List, take, true, false, refl}
+use Rattle.std.proofs.Common.{◌∙◌, ap, sym, subst, List, refl}
 use Rattle.std.proofs.lemmas.Bool.{false≢true}
 use Rattle.clauses.specs.Slots.{Slots, StoreState}
 use Rattle.lrat_log.specs.Log.{LogLine}

@@ -1,5 +1,5 @@
 -- The clauses so far were deleted.
-use Rattle.std.proofs.Common.{◌≡◌, length, take}
+use Rattle.std.proofs.Common.{◌≡◌, take}
 use Rattle.names.specs.Work.{additions}
 use Rattle.eliminate.specs.Variables.{LeavesOut, KeepsWork}
 use Rattle.eliminate.proofs.variables.delete_all.Given as goal

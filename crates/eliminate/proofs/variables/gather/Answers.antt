@@ -1,12 +1,12 @@
 -- The row of the literal, cleaned, has just the clauses with it.
-use Rattle.std.proofs.Common.{◌≡◌, ◌∙◌, ap, refl, sym, subst, ◌++◌, List, [], ℕ, length, filter}
+use Rattle.std.proofs.Common.{◌≡◌, ◌∙◌, ap, refl, sym, subst, ◌++◌, List, ℕ, length, filter}
 use Rattle.std.proofs.lemmas.List.{length-set}
 use Rattle.wcnf.specs.Literal.{Literal, index_of}
 use Rattle.clauses.specs.Slots.{Slots}
 use Rattle.subsume.specs.Marks.{HasPlace}
 use Rattle.subsume.proofs.Marking.{place_within}
 use Rattle.eliminate.specs.declared.simplifier.Simplifier.{Simplifier}
-use Rattle.eliminate.specs.Rows.{AreRows, row_at, with_row, has_clause}
+use Rattle.eliminate_tables.specs.Rows.{AreRows, row_at, with_row, has_clause}
 use Rattle.eliminate.proofs.Gathering.{rows_cleaned, those_with}
 use Rattle.eliminate.proofs.Tables.{simplified_same}
 use Rattle.eliminate.proofs.variables.gather.Goals as goal

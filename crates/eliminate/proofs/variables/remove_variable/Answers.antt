@@ -1,13 +1,12 @@
 -- The variable is gone.
-use Rattle.std.proofs.Common.{◌≡◌, ◌∙◌, ◌≤◌, List, sym, ap, subst, refl, arith, length}
-use Rattle.std.specs.Prelude.{All}
+use Rattle.std.proofs.Common.{◌∙◌, ◌≤◌, List, sym, subst, arith, length}
 use Rattle.std.proofs.lemmas.Bool.{both_ways}
-use Rattle.clauses.specs.Slots.{Slots, IsLive}
+use Rattle.clauses.specs.Slots.{Slots}
 use Rattle.lrat_log.specs.Log.{LogLine}
 use Rattle.eliminate.specs.declared.simplifier.Simplifier.{Simplifier}
-use Rattle.eliminate.specs.Elimination.{Removed, IsFree, positive}
-use Rattle.eliminate.specs.State.{Start, IsState}
-use Rattle.eliminate.specs.Variables.{IsWith, KeepsWork, KeepsLog, LeavesLogOver}
+use Rattle.eliminate.specs.Elimination.{Removed, IsFree}
+use Rattle.eliminate.specs.State.{IsState}
+use Rattle.eliminate.specs.Variables.{KeepsWork, LeavesLogOver}
 use Rattle.eliminate.proofs.Deleting.{keeps_join, log_after}
 use Rattle.eliminate.proofs.Eliminating.{variable_goes, free_within, line_deletes}
 use Rattle.names.proofs.Refusals.{when_err}

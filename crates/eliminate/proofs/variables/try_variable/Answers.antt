@@ -1,9 +1,8 @@
 -- The clauses are those with the variable, before and after the resolvents are added.
-use Rattle.std.proofs.Common.{◌≡◌, ◌∙◌, List, ℕ, sym, subst, true, ap}
+use Rattle.std.proofs.Common.{List, ℕ, sym, subst}
 use Rattle.std.specs.Prelude.{All}
 use Rattle.wcnf.specs.Literal.{Literal, negation}
 use Rattle.clauses.specs.Slots.{Slots}
-use Rattle.lrat_log.specs.Log.{LogLine}
 use Rattle.eliminate.specs.Elimination.{positive}
 use Rattle.eliminate.specs.Variables.{IsWith, AreThoseWith, ArePairsResolved, LeavesLogOver}
 use Rattle.eliminate.proofs.Growing.{those_later, those_not_later, pairs_now}

@@ -1,5 +1,5 @@
 -- A clause that may be added is added to a simplified form.
-use Rattle.std.proofs.Common.{◌≡◌, ◌+◌, ◌*◌, ◌<◌, ◌^◌, ◌∷◌, ◌++◌, [], Some, sym, ap, subst, ◌∙◌, refl, arith, length, List}
+use Rattle.std.proofs.Common.{◌≡◌, ◌∷◌, ◌++◌, [], Some, sym, ap, subst, ◌∙◌, refl, arith, length, List}
 use Rattle.std.specs.Prelude.{All}
 use Rattle.wcnf.specs.Literal.{Literal}
 use Rattle.clauses.specs.Slots.{Slots}
@@ -7,9 +7,7 @@ use Rattle.lrat_log.specs.Log.{LogLine}
 use Rattle.lrat_log.specs.Steps.{is_empty_clause}
 use Rattle.subsume.specs.Marks.{HasPlace}
 use Rattle.eliminate.specs.declared.simplifier.Simplifier.{Simplifier}
-use Rattle.names.specs.Work.{additions, added_line}
-use Rattle.eliminate.specs.Rows.{with_clause_rows}
-use Rattle.eliminate.specs.State.{Start}
+use Rattle.eliminate_tables.specs.Rows.{with_clause_rows}
 use Rattle.eliminate.specs.Simplifier.{IsSimplified, IsLogOf, LeavesLog}
 use Rattle.names.proofs.Naming.{additions_few}
 use Rattle.eliminate.proofs.Simplified.{simplified_added, clause_places, log_of}

@@ -1,9 +1,8 @@
 -- A simplified form without a clause that another one subsumes.
-use Rattle.std.proofs.Common.{◌≡◌, ◌∷◌, [], ◌++◌, sym, subst, refl, List, None, set}
+use Rattle.std.proofs.Common.{sym, subst, refl, List, None, set}
 use Rattle.clauses.specs.Slots.{Slots}
 use Rattle.lrat_log.specs.Log.{LogLine}
 use Rattle.eliminate.specs.declared.simplifier.Simplifier.{Simplifier}
-use Rattle.names.specs.Work.{name_at, delete_line}
 use Rattle.eliminate.specs.Simplifier.{IsSimplified}
 use Rattle.eliminate.proofs.Simplified.{simplified_subsumed}
 use Rattle.eliminate.proofs.simplifier.Simplifier.delete_subsumed.Goals as goal

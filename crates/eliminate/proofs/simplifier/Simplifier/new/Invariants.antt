@@ -1,5 +1,5 @@
 use Rattle.std.proofs.Common.{◌≡◌, ◌*◌, take, length}
-use Rattle.eliminate.specs.Rows.{AreRows}
+use Rattle.eliminate_tables.specs.Rows.{AreRows}
 use Rattle.eliminate.proofs.simplifier.Simplifier.new.Given as goal
 
 abbrev pub invariant-loop-place : goal.invariant-loop-place

@@ -1,5 +1,5 @@
 -- The empty clause follows by the units.
-use Rattle.std.proofs.Common.{◌≡◌, ◌++◌, ◌∷◌, [], List, length, Some, refl, sym, ◌∙◌, ap, subst}
+use Rattle.std.proofs.Common.{◌≡◌, [], List, refl, sym, subst}
 use Rattle.wcnf.specs.Literal.{Literal}
 use Rattle.clauses.specs.Slots.{Slots}
 use Rattle.lrat_log.specs.declared.lines.Hint.{Hint}
@@ -7,7 +7,7 @@ use Rattle.lrat_log.specs.declared.lines.Kind.TheVariants.{Empty}
 use Rattle.lrat_log.specs.Log.{LogLine}
 use Rattle.eliminate.specs.declared.simplifier.Simplifier.{Simplifier}
 use Rattle.names.specs.Work.{AreClauses}
-use Rattle.eliminate.specs.Simplifier.{IsSimplified, IsAddableLine, LeavesLog}
+use Rattle.eliminate.specs.Simplifier.{IsAddableLine, LeavesLog}
 use Rattle.eliminate.proofs.Tables.{simplified_same}
 use Rattle.eliminate.proofs.UnitLines.{empty_addable}
 use Rattle.eliminate.proofs.units.Units.add_empty.Goals as goal

@@ -1,8 +1,8 @@
 -- The literal is marked, and goes to the end of the trail.
-use Rattle.std.proofs.Common.{◌≡◌, ◌+◌, ◌-◌, ◌<◌, Some, refl, sym, ◌∙◌, ap, arith, length, set}
+use Rattle.std.proofs.Common.{◌-◌, ◌∙◌, ap, arith, set}
 use Rattle.std.specs.Vec.{with_item}
 use Rattle.eliminate.specs.declared.units.Units.{Units}
-use Rattle.eliminate.proofs.Assigned.{Assigns, makes_true, less_open}
+use Rattle.eliminate.proofs.Assigned.{makes_true, less_open}
 use Rattle.eliminate.proofs.units.Units.assign.Goals as goal
 
 pub index_mut-requires : goal.index_mut-requires

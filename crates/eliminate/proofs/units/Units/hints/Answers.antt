@@ -1,17 +1,15 @@
 -- The false literals of the clause, one after another, have clauses of one literal.
-use Rattle.std.proofs.Common.{◌≡◌, ℕ, ◌+◌, ◌-◌, ◌*◌, ◌<◌, ◌≤◌, ◌++◌, ◌∷◌, [], true, false, List, length, take, get_or, map, Option, Some, None, refl, sym, ◌∙◌, ap, subst, arith, Vec, Global}
+use Rattle.std.proofs.Common.{◌≡◌, ℕ, ◌-◌, ◌<◌, ◌∷◌, [], true, List, length, get_or, map, Option, None, sym, ◌∙◌, ap, subst, arith, Vec, Global}
 use Rattle.std.specs.Prelude.{unwrap_or}
-use Rattle.std.proofs.lemmas.List.{get_or_read, take_all}
 use Rattle.std.proofs.lemmas.Option.{none-some, same_Some}
 use Rattle.wcnf.specs.Literal.{Literal, negation}
-use Rattle.wcnf.specs.Clause.{contains_literal}
 use Rattle.subsume.specs.Marks.{HasPlace, mark_of}
 use Rattle.lrat_log.specs.declared.lines.Name.{Name}
 use Rattle.lrat_log.specs.declared.lines.Hint.{Hint}
 use Rattle.lrat_log.specs.declared.lines.Hint.TheVariants.{Plain}
 use Rattle.eliminate.specs.declared.units.Units.{Units}
 use Rattle.names.specs.Work.{name_at}
-use Rattle.eliminate.specs.Units.{unit_of, unit_name, falsified_in}
+use Rattle.eliminate.specs.Units.{unit_of, unit_name}
 use Rattle.names.proofs.Naming.{slot_within}
 use Rattle.eliminate.proofs.Statuses.{literal_place, mark_says}
 use Rattle.eliminate.proofs.UnitLines.{looked_up, falsified_more, falsified_same}

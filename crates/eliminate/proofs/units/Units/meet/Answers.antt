@@ -1,11 +1,9 @@
 -- What a clause asks for is done.
-use Rattle.std.proofs.Common.{◌≡◌, ◌*◌, ap, ◌∷◌, [], List, Some, sym, ◌∙◌, subst, length}
+use Rattle.std.proofs.Common.{◌*◌, ap, List, sym, ◌∙◌, subst}
 use Rattle.wcnf.specs.Literal.{Literal}
-use Rattle.clauses.specs.Slots.{Slots}
 use Rattle.subsume.specs.Marks.{HasPlace}
 use Rattle.names.specs.Work.{AreClauses}
 use Rattle.eliminate.specs.Simplifier.{LeavesLog}
-use Rattle.eliminate.specs.Units.{AreUnits}
 use Rattle.eliminate.proofs.Assigned.{units_grown, makes_true_grown}
 use Rattle.eliminate.proofs.Propagating.{propagates_nothing}
 use Rattle.eliminate.proofs.Simplified.{log_of}

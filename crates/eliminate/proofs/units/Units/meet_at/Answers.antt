@@ -1,5 +1,5 @@
 -- The clause at the place is met.
-use Rattle.std.proofs.Common.{◌≡◌, ◌∙◌, ap}
+use Rattle.std.proofs.Common.{◌∙◌, ap}
 use Rattle.clauses.specs.Slots.{clause_at}
 use Rattle.eliminate.proofs.units.Units.meet_at.Goals as goal
 

@@ -1,5 +1,5 @@
 -- Nothing is true at the start.
-use Rattle.std.proofs.Common.{◌≡◌, ap, ◌∙◌, length, None}
+use Rattle.std.proofs.Common.{ap, ◌∙◌, length, None}
 use Rattle.std.proofs.lemmas.List.{length-replicate}
 use Rattle.eliminate.proofs.Assigned.{units_start}
 use Rattle.eliminate.proofs.units.Units.new.Goals as goal

@@ -1,13 +1,10 @@
 -- Literal after literal is looked up.
-use Rattle.std.proofs.Common.{◌≡◌, ◌+◌, ◌<◌, true, false, List, length, take, get_or, Some, refl, sym, ◌∙◌, ap, subst, arith}
+use Rattle.std.proofs.Common.{◌+◌, true, false, List, length, take, sym, ◌∙◌, ap, subst, arith}
 use Rattle.std.proofs.lemmas.Option.{same_Some}
-use Rattle.std.proofs.lemmas.List.{take_all}
 use Rattle.wcnf.specs.Literal.{Literal, negation}
-use Rattle.wcnf.specs.Clause.{contains_literal}
 use Rattle.subsume.specs.Marks.{HasPlace, mark_of}
 use Rattle.eliminate.specs.declared.units.Units.{Units}
-use Rattle.eliminate.specs.declared.units.Status.TheVariants.{Settled, Unit, Falsified}
-use Rattle.eliminate.specs.Units.{IsSettled, HasStatus}
+use Rattle.eliminate.specs.Units.{IsSettled}
 use Rattle.eliminate.proofs.Statuses.{HasStatusSoFar, settled_true, status_false, status_open, status_second, literal_place, mark_says}
 use Rattle.subsume.proofs.Marking.{at_contains}
 use Rattle.eliminate.proofs.units.Units.status.Goals as goal

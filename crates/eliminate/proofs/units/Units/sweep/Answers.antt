@@ -1,10 +1,9 @@
 -- Clause after clause is met.
-use Rattle.std.proofs.Common.{◌≡◌, ℕ, ◌+◌, ◌<◌, ◌≤◌, true, false, List, length, Some, inl, inr, refl, sym, ◌∙◌, ap, subst, arith}
+use Rattle.std.proofs.Common.{◌≡◌, inl, inr, refl, sym, ◌∙◌, ap, subst, arith}
 use Rattle.std.proofs.lemmas.Bool.{both_ways, cases_lt, false≢true, true≢false}
-use Rattle.wcnf.specs.Literal.{Literal}
 use Rattle.clauses.specs.Slots.{Slots, clause_at}
 use Rattle.eliminate.specs.declared.units.Units.{Units}
-use Rattle.eliminate.specs.Units.{IsSettled, open_count}
+use Rattle.eliminate.specs.Units.{IsSettled}
 use Rattle.eliminate.proofs.Propagating.{propagates_nothing, still_propagating, propagates_more, leaves_later}
 use Rattle.names.proofs.Naming.{slot_within}
 use Rattle.eliminate.proofs.units.Units.sweep.Goals as goal

@@ -1,0 +1,5 @@
+pub mod Built
+pub mod Needed
+pub mod Resolve
+pub mod StackPieces
+pub mod Writing

@@ -1,0 +1,10 @@
+-- The clause is in the rows of its literals so far.
+use Rattle.std.proofs.Common.{◌≡◌, length, take}
+use Rattle.eliminate_tables.specs.Rows.{with_clause_rows}
+use Rattle.eliminate_tables.proofs.rows.Rows.add.Given as goal
+
+abbrev pub invariant-loop-lit : goal.invariant-loop-lit
+invariant-loop-lit l = record {
+  long : length l.self ≡ length l.fn.self;
+  rows : l.self ≡ with_clause_rows l.fn.self (take l.lit-index l.lits) l.reference;
+}

@@ -1,0 +1,6 @@
+pub mod Bins
+pub mod Flat
+pub mod Removals
+pub mod Resolvents
+pub mod Rows
+pub mod Vectors

@@ -1,0 +1,11 @@
+//! Tables of preprocessing that know nothing of a log: in which clauses each literal occurs, which
+//! clauses others are held against, which variables are worth a try, resolvents against marks, and
+//! the eliminated variables with their clauses.
+#![tactic(auto)]
+
+pub mod bins;
+pub mod resolvents;
+pub mod rows;
+pub mod schedule;
+pub mod stack;
+pub mod worthwhile;

@@ -1,0 +1,95 @@
+// Whether a variable is worth eliminating: few clauses have it, and their resolvents are no more
+// and none is long. It is found by counting over marks, so that no clause is built in vain.
+ghost use Rattle.std.specs.Prelude.{◌≡◌, length, All};
+ghost use Rattle.clauses.specs.Slots.{IsLive};
+ghost use Rattle.eliminate_tables.specs.Bins.{ArePlaced};
+
+use crate::resolvents::count_rest;
+use crate::schedule::Schedule;
+use clauses::store::{CRef, Store};
+use subsume::marks::Marks;
+use wcnf::types::Lit;
+
+/// A variable goes only where at most so many clauses have it, and at most so many its negation.
+const MOST_OF_A_SIGN: usize = 10;
+/// No resolvent has more literals.
+const MOST_LITERALS: usize = 32;
+/// Clauses that are longer are not tried: their resolvents are too long, but where each has an
+/// opposite pair.
+const LONGEST_PARENT: usize = 100;
+/// Whether the literal's variable occurs, and each of its signs in few clauses.
+pub fn is_candidate(schedule: &Schedule, pivot: Lit) -> bool {
+    let positive = schedule.count(pivot) as usize;
+    let negative = schedule.count(pivot.negation()) as usize;
+    positive <= MOST_OF_A_SIGN && negative <= MOST_OF_A_SIGN && (positive > 0 || negative > 0)
+}
+
+/// Whether the resolvents are no more than the clauses, and none of them is long. The marks are
+/// used.
+pub fn is_worthwhile(
+    marks: &mut Marks,
+    store: &Store,
+    pivot: Lit,
+    firsts: &[CRef],
+    seconds: &[CRef],
+) -> bool
+    requires placed { ArePlaced (length marks.old) store.now.slots }
+    requires live { All (IsLive store.now.slots) firsts.now }
+    requires live_too { All (IsLive store.now.slots) seconds.now }
+    ensures { length marks.new ≡ length marks.old }
+{
+    if firsts.is_empty() || seconds.is_empty() {
+        return true;
+    }
+    if !are_few_and_short(store, firsts) || !are_few_and_short(store, seconds) {
+        return false;
+    }
+    let mut count = 0usize;
+    for first in firsts {
+        match count_resolvents(marks, store, pivot, *first, seconds) {
+            Some(more) => count = count.saturating_add(more),
+            None => return false,
+        }
+    }
+    count <= firsts.len().saturating_add(seconds.len())
+}
+
+/// Whether these are few clauses, none of them very long.
+fn are_few_and_short(store: &Store, references: &[CRef]) -> bool
+    requires { All (IsLive store.now.slots) references.now }
+{
+    for reference in references {
+        if store.lits(*reference).len() > LONGEST_PARENT {
+            return false;
+        }
+    }
+    references.len() <= MOST_OF_A_SIGN
+}
+
+/// How many resolvents without an opposite pair the first clause has with the others; none where
+/// one of them is long.
+fn count_resolvents(
+    marks: &mut Marks,
+    store: &Store,
+    pivot: Lit,
+    first: CRef,
+    seconds: &[CRef],
+) -> Option<usize>
+    requires placed { ArePlaced (length marks.old) store.now.slots }
+    requires live { IsLive store.now.slots first }
+    requires live_too { All (IsLive store.now.slots) seconds.now }
+    ensures { length marks.new ≡ length marks.old }
+{
+    let lits = store.lits(first);
+    marks.mark_without(lits, pivot);
+    let mut count = 0usize;
+    for second in seconds {
+        if let Some(rest) = count_rest(marks, pivot.negation(), store.lits(*second)) {
+            if rest.saturating_add(lits.len()) > MOST_LITERALS + 1 {
+                return None;
+            }
+            count = count.saturating_add(1);
+        }
+    }
+    Some(count)
+}
