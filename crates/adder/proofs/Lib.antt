@@ -1,11 +1,12 @@
-pub mod Sums
-pub mod Choice
-pub mod Small
-pub mod Variables
-pub mod Sorting
-pub mod Numbers
-pub mod Profiles
-pub mod Queue
-pub mod Digits
-pub mod Pairs
-pub mod Whole
+mod Sums
+mod Choice
+mod Small
+mod Variables
+mod Sorting
+mod Numbers
+mod Profiles
+mod Queue
+mod Digits
+mod Pairs
+mod Whole
+pub mod Laws

@@ -12,9 +12,9 @@ use Rattle.wcnf.specs.Instance.{IsInstance, IsClauseWithin}
 use Rattle.adder.specs.declared.cells.Cell.{Cell}
 use Rattle.adder.specs.declared.cells.Profile.{Profile}
 use Rattle.adder.specs.Network.{Relaxed, relaxed_one, relaxed_from, relaxed_as, relaxed_variables, adders_as, total_weight, value_of, positive, IsCellOf, SameUpTo}
-use Rattle.adder.proofs.Sums.{relaxed_cases, relaxed_soft}
-use Rattle.adder.proofs.Choice.{AreWithin, AreRelaxedBelow, IsRelaxedTightly, relaxed_below, relaxed_choice, clause_same, literal_same}
-use Rattle.adder.proofs.Profiles.{outputs_sum, cells_extend}
+use Rattle.adder.proofs.Laws.{relaxed_cases, relaxed_soft}
+use Rattle.adder.proofs.Laws.{AreWithin, AreRelaxedBelow, IsRelaxedTightly, relaxed_below, relaxed_choice, clause_same, literal_same}
+use Rattle.adder.proofs.Laws.{outputs_sum, cells_extend}
 use Rattle.bound.specs.Bound.{kept, cell_clauses, relaxed_clauses, comparator_for, bound_as, SaysCheaper}
 use Rattle.bound.proofs.Clauses.{all_true, all_true-from, from_all_true, all_true-kept, value-no}
 use Rattle.bound.proofs.Adders.{cell_holds, holds_cell}

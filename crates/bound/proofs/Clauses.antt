@@ -8,7 +8,7 @@ use Rattle.std.proofs.lemmas.List.Sums.{AllPass-from_list_all, list_all-from_All
 use Rattle.wcnf.specs.Literal.{Assignment, Literal, negation, literal_value, literal_eq}
 use Rattle.wcnf.specs.Clause.{Satisfies, clause_value, contains_literal, without_literal, distinct, has_opposites}
 use Rattle.wcnf.specs.Problem.{Problem, IsFeasible}
-use Rattle.wcnf.proofs.Sound.{literal_eq-true}
+use Rattle.wcnf.proofs.Laws.{literal_eq-true}
 use Rattle.bound.specs.Bound.{kept, hard_cnf}
 
 -- the clauses are all true

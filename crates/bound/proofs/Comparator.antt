@@ -5,7 +5,7 @@ use Rattle.std.proofs.lemmas.Bool.Decides.{nat_tests}
 use Rattle.wcnf.specs.Literal.{Assignment, Literal, literal_value}
 use Rattle.wcnf.specs.Clause.{clause_value}
 use Rattle.adder.specs.Network.{bit, value_of, one_if}
-use Rattle.adder.proofs.Sums.{digit}
+use Rattle.adder.proofs.Laws.{digit}
 use Rattle.bound.specs.Bound.{no, above, rising_clauses, comparator_of}
 use Rattle.bound.proofs.Clauses.{all_true, value-no, all_true-kept, all_true-reverse}
 

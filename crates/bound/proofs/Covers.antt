@@ -8,7 +8,7 @@ use Rattle.std.proofs.lemmas.List.Folds.{list_any-append}
 use Rattle.wcnf.specs.Literal.{Literal}
 use Rattle.wcnf.specs.Clause.{is_subset}
 use Rattle.adder.specs.Network.{bit, one_if}
-use Rattle.adder.proofs.Sums.{digit}
+use Rattle.adder.proofs.Laws.{digit}
 use Rattle.bound.specs.Bound.{no, above, rising_clauses, comparator_of, IsCovered, CoversLarger}
 use Rattle.bound.proofs.Subsets.{covers, covers_more, subset_self, AreCovered, covered_kept}
 

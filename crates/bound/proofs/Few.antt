@@ -12,8 +12,8 @@ use Rattle.wcnf.specs.Instance.{IsInstance}
 use Rattle.adder.specs.declared.cells.Cell.{Cell}
 use Rattle.adder.specs.declared.cells.Profile.{Profile}
 use Rattle.adder.specs.Network.{Relaxed, bit, relaxed_as, adders_as}
-use Rattle.adder.proofs.Small.{fresh_few}
-use Rattle.adder.proofs.Profiles.{outputs_few, cells_few}
+use Rattle.adder.proofs.Laws.{fresh_few}
+use Rattle.adder.proofs.Laws.{outputs_few, cells_few}
 use Rattle.bound.specs.Bound.{kept, hard_cnf, cell_clauses, relaxed_clauses, above, rising_clauses, comparator_of, comparator_for, bound_as}
 
 filter_le : {X : Type 0} (p : X → Bool) (xs : List X) → length (filter p xs) ≤ length xs

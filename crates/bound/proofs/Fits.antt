@@ -11,8 +11,8 @@ use Rattle.wcnf.specs.Instance.{IsInstance, IsClauseWithin}
 use Rattle.adder.specs.declared.cells.Cell.{Cell}
 use Rattle.adder.specs.declared.cells.Profile.{Profile}
 use Rattle.adder.specs.Network.{Relaxed, bit, relaxed_as, relaxed_variables, adders_as}
-use Rattle.adder.proofs.Profiles.{adders_with, adds_up}
-use Rattle.adder.proofs.Variables.{AreOf, IsOutputOf, IsCellWith, relaxed_with}
+use Rattle.adder.proofs.Laws.{adders_with, adds_up}
+use Rattle.adder.proofs.Laws.{AreOf, IsOutputOf, IsCellWith, relaxed_with}
 use Rattle.bound.specs.Adding.{HasVariables}
 use Rattle.bound.specs.Bound.{no, kept, hard_cnf, cell_clauses, relaxed_clauses, above, rising_clauses, comparator_of, comparator_for, fixed_clauses, bound_as}
 use Rattle.bound.proofs.Subsets.{all_append, all_reverse}

@@ -1,16 +1,17 @@
-pub mod Clauses
-pub mod Adders
-pub mod Comparator
-pub mod Cheaper
-pub mod Subsets
-pub mod Covers
-pub mod Few
-pub mod Fits
-pub mod Marking
-pub mod Kept
-pub mod Rows
-pub mod Columns
-pub mod Relaxations
-pub mod Parts
-pub mod Lines
-pub mod Streams
+mod Clauses
+mod Adders
+mod Comparator
+mod Cheaper
+mod Subsets
+mod Covers
+mod Few
+mod Fits
+mod Marking
+mod Kept
+mod Rows
+mod Columns
+mod Relaxations
+mod Parts
+mod Lines
+mod Streams
+pub mod Laws

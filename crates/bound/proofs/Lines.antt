@@ -6,8 +6,8 @@ use lib.Chars.{codes}
 use Rattle.wcnf.specs.Literal.{Literal}
 use Rattle.wcnf.specs.Text.{literal_text}
 use Rattle.wcnf.specs.Writing.{PassesOn, AppendsPart}
-use Rattle.wcnf.proofs.Items.{items_more, items_fault, all_taken}
-use Rattle.wcnf.proofs.Passing.{first_fault, passed-more, passed_part-more, spaced-last}
+use Rattle.wcnf.proofs.Laws.{items_more, items_fault, all_taken}
+use Rattle.wcnf.proofs.Laws.{first_fault, passed-more, passed_part-more, spaced-last}
 use Rattle.bound.specs.Bound.{dimacs_clause}
 
 abbrev pub literals_text : List Literal → List ℕ

@@ -5,7 +5,7 @@ use Rattle.std.proofs.lemmas.List.{take_more}
 use Rattle.std.proofs.lemmas.List.Folds.{list_any-append}
 use Rattle.wcnf.specs.Literal.{Literal, negation, literal_eq, same_bool, index_of}
 use Rattle.wcnf.specs.Clause.{contains_literal, has_opposites}
-use Rattle.wcnf.proofs.Sound.{literal_eq-true}
+use Rattle.wcnf.proofs.Laws.{literal_eq-true}
 use Rattle.bound.specs.Marks.{mark_of, IsClear, IsMarked, IsMarkedWithin}
 
 -- literals with one place are one

@@ -11,7 +11,7 @@ use Rattle.wcnf.specs.Instance.{IsClauseWithin}
 use Rattle.adder.specs.declared.cells.Profile.{Profile}
 use Rattle.adder.specs.declared.cells.Profile.TheVariants.{One, Two, Three}
 use Rattle.adder.specs.Network.{Relaxed, relaxed_one, relaxed_from, positive}
-use Rattle.adder.proofs.Sums.{relaxed_cases}
+use Rattle.adder.proofs.Laws.{relaxed_cases}
 use Rattle.bound.specs.Bound.{kept}
 use Rattle.bound.specs.Marks.{HasPlace}
 use Rattle.bound.specs.Adding.{gets_variable}

@@ -8,8 +8,8 @@ use Rattle.wcnf.specs.Literal.{Literal}
 use Rattle.wcnf.specs.Formula.{Cnf}
 use Rattle.wcnf.specs.Clause.{has_repeat, has_opposites}
 use Rattle.wcnf.specs.Writing.{PassesOn, AppendsPart}
-use Rattle.wcnf.proofs.Items.{flat_map-append}
-use Rattle.wcnf.proofs.Passing.{passed-nil, passed-more, passed_fault, passed_whole, passed_part}
+use Rattle.wcnf.proofs.Laws.{flat_map-append}
+use Rattle.wcnf.proofs.Laws.{passed-nil, passed-more, passed_fault, passed_whole, passed_part}
 use Rattle.wcnf.specs.Problem.{Problem}
 use Rattle.wcnf.specs.Instance.{IsInstance}
 use Rattle.adder.specs.declared.cells.Cell.{Cell}

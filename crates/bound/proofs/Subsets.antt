@@ -6,7 +6,7 @@ use Rattle.std.proofs.lemmas.Grind.{reverse_onto}
 use Rattle.std.proofs.lemmas.List.Folds.{list_any-append}
 use Rattle.wcnf.specs.Literal.{Literal, negation, literal_eq, same_bool}
 use Rattle.wcnf.specs.Clause.{contains_literal, without_literal, distinct, has_opposites, is_subset}
-use Rattle.wcnf.proofs.Sound.{literal_eq-true}
+use Rattle.wcnf.proofs.Laws.{literal_eq-true}
 use Rattle.bound.specs.Bound.{kept}
 
 pub literal_eq_self : (l : Literal) → literal_eq l l ≡ true

@@ -13,7 +13,7 @@ use Rattle.lrat_log.specs.Log.{LogLine, Given}
 use Rattle.lrat_log.specs.Steps.{IsLogOver, IsAcceptedLog, StaysLogOver}
 use Rattle.lrat_log.specs.Steps.{AddsNoEmptyClause, adds_empty_clause}
 use Rattle.lrat_log.specs.Steps.{IsLearnedOrShort, given_of}
-use Rattle.lrat_log.proofs.Accepting.{accepted_log}
+use Rattle.lrat_log.proofs.Laws.{accepted_log}
 use Rattle.cdcl.specs.declared.search.Search.{Search}
 use Rattle.cdcl.specs.declared.problem.Problem.{Problem}
 use Rattle.cdcl.specs.declared.outcome.Outcome.{Outcome}

@@ -9,13 +9,13 @@ use Rattle.wcnf.specs.Clause.{contains_literal}
 use Rattle.wcnf.specs.Refute.{Clauses, IsFalseUnder}
 use Rattle.clauses.specs.Slots.{Slots, clause_at}
 use Rattle.propagate.specs.Trail.{Assigned, literals_of, depth_of, level_after, level_from, level_in, kept_to, HasReasons}
-use Rattle.propagate.proofs.Levels.{depth_step}
-use Rattle.propagate.proofs.Literals.{negation_twice, contains-append}
-use Rattle.wcnf.proofs.Marks.{literal_eq-refl}
-use Rattle.propagate.proofs.Kept.{in_kept, contains_front, contains_back, kept_prefix, literals-append}
-use Rattle.propagate.proofs.Facts.{all_weaker}
+use Rattle.propagate.proofs.Laws.{depth_step}
+use Rattle.propagate.proofs.Laws.{negation_twice, contains-append}
+use Rattle.wcnf.proofs.Laws.{literal_eq-refl}
+use Rattle.propagate.proofs.Laws.{in_kept, contains_front, contains_back, kept_prefix, literals-append}
+use Rattle.propagate.proofs.Laws.{all_weaker}
 use Rattle.analyze.specs.Learning.{level_of, IsConflict, IsQuiet}
-use Rattle.analyze.proofs.Levels.{level_is, false_below}
+use Rattle.analyze.proofs.Laws.{level_is, false_below}
 use Rattle.cdcl.specs.Invariant.{zero_of}
 use Rattle.cdcl.specs.Hinting.{Serves}
 

@@ -7,8 +7,8 @@ use Rattle.wcnf.specs.Clause.{contains_literal}
 use Rattle.clauses.specs.Slots.{clause_at}
 use Rattle.propagate.specs.Trail.{literals_of, depth_of}
 use Rattle.propagate.specs.Fits.{IsFalseClause}
-use Rattle.propagate.proofs.Reasons.{no_opposites}
-use Rattle.analyze.proofs.Levels.{all_at}
+use Rattle.propagate.proofs.Laws.{no_opposites}
+use Rattle.analyze.proofs.Laws.{all_at}
 use Rattle.lrat_log.specs.declared.lines.Hint.{Hint}
 use Rattle.lrat_log.specs.declared.lines.Kind.TheVariants.{Empty}
 use Rattle.lrat_log.specs.Log.{LogLine}

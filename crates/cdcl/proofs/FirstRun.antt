@@ -31,12 +31,12 @@ use Rattle.cdcl.specs.declared.problem.Problem.{Problem}
 use Rattle.cdcl.specs.Solving.{is_refuted}
 use Rattle.cdcl.specs.Invariant.{name_at, is_kept_name, NamesStore, NotesUnits, zero_of, IsRunning}
 use Rattle.cdcl.specs.Running.{Runs, IsProblem, tables_of}
-use Rattle.eliminate.proofs.States.{live_all}
+use Rattle.eliminate.proofs.Laws.{live_all}
 use Rattle.cdcl.specs.Starts.{AreRising, IsLiveWithin, IsStarted}
 use Rattle.cdcl.proofs.Places.{stands, live_within}
 use Rattle.cdcl.proofs.FirstNames.{names_start}
 use Rattle.cdcl.proofs.Named.{live_below}
-use Rattle.lrat_log.proofs.GivenNumbers.{base_of, clauses_given}
+use Rattle.lrat_log.proofs.Laws.{base_of, clauses_given}
 
 -- Lists of places.
 

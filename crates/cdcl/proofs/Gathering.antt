@@ -6,18 +6,18 @@ use Rattle.std.proofs.lemmas.List.{get_or_past, get_or-set_same, get_or-set_othe
 use Rattle.std.proofs.lemmas.Option.{none-some, same_Some}
 use Rattle.wcnf.specs.Literal.{Literal, negation, literal_eq}
 use Rattle.wcnf.specs.Clause.{contains_literal, has_repeat}
-use Rattle.wcnf.proofs.Sound.{literal_eq-true}
+use Rattle.wcnf.proofs.Laws.{literal_eq-true}
 use Rattle.clauses.specs.Slots.{Slots, clause_at}
 use Rattle.propagate.specs.Trail.{Assigned, literals_of, level_in, value_in, HasReasons}
 use Rattle.propagate.specs.Watches.{EngineState, is_attached, IsVariable}
 use Rattle.propagate.specs.Fits.{Fits}
-use Rattle.propagate.proofs.Literals.{negation_twice, contains-push, same_variable}
-use Rattle.wcnf.proofs.Marks.{literal_eq-refl}
-use Rattle.propagate.proofs.Kept.{contains_at, contains_front}
-use Rattle.propagate.proofs.Facts.{all_weaker, all_join}
-use Rattle.propagate.proofs.Looking.{attached_within, within_variable, false_value, not_false_value}
-use Rattle.propagate.proofs.Reasons.{no_opposites}
-use Rattle.analyze.proofs.Levels.{low_kept}
+use Rattle.propagate.proofs.Laws.{negation_twice, contains-push, same_variable}
+use Rattle.wcnf.proofs.Laws.{literal_eq-refl}
+use Rattle.propagate.proofs.Laws.{contains_at, contains_front}
+use Rattle.propagate.proofs.Laws.{all_weaker, all_join}
+use Rattle.propagate.proofs.Laws.{attached_within, within_variable, false_value, not_false_value}
+use Rattle.propagate.proofs.Laws.{no_opposites}
+use Rattle.analyze.proofs.Laws.{low_kept}
 use Rattle.lrat_log.specs.declared.lines.Name.{Name}
 use Rattle.lrat_log.specs.declared.lines.Hint.{Hint}
 use Rattle.lrat_log.specs.declared.lines.Hint.TheVariants.{Plain}

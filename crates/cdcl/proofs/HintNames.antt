@@ -7,7 +7,7 @@ use Rattle.wcnf.specs.Literal.{Literal}
 use Rattle.wcnf.specs.Lrat.{IsId}
 use Rattle.clauses.specs.Slots.{Slots, clause_at, IsLive}
 use Rattle.propagate.specs.Trail.{Assigned}
-use Rattle.propagate.proofs.Facts.{all_join}
+use Rattle.propagate.proofs.Laws.{all_join}
 use Rattle.lrat_log.specs.declared.lines.Name.{Name}
 use Rattle.lrat_log.specs.declared.lines.Name.TheVariants.{Formula}
 use Rattle.lrat_log.specs.declared.lines.Hint.{Hint}

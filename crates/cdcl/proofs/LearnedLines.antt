@@ -7,24 +7,24 @@ use Rattle.std.proofs.lemmas.List.Elements.{recursion_from_All}
 use Rattle.wcnf.specs.Literal.{Literal, negation, literal_eq}
 use Rattle.wcnf.specs.Clause.{contains_literal, has_repeat, has_opposites, is_subset}
 use Rattle.wcnf.specs.Refute.{Clauses, Refutes, IsFalseUnder}
-use Rattle.wcnf.proofs.Sound.{literal_eq-true}
+use Rattle.wcnf.proofs.Laws.{literal_eq-true}
 use Rattle.clauses.specs.Slots.{Slots, clause_at}
 use Rattle.propagate.specs.Trail.{Assigned, literals_of, depth_of, kept_to, HasReasons}
-use Rattle.propagate.proofs.Literals.{negation_twice, contains-append}
-use Rattle.wcnf.proofs.Marks.{literal_eq-refl}
-use Rattle.propagate.proofs.Kept.{kept_prefix, contains_front, contains_back, literals-append}
-use Rattle.propagate.proofs.Reasons.{NoOpposites, no_opposites}
+use Rattle.propagate.proofs.Laws.{negation_twice, contains-append}
+use Rattle.wcnf.proofs.Laws.{literal_eq-refl}
+use Rattle.propagate.proofs.Laws.{kept_prefix, contains_front, contains_back, literals-append}
+use Rattle.propagate.proofs.Laws.{NoOpposites, no_opposites}
 use Rattle.lrat_log.specs.declared.lines.Name.{Name}
 use Rattle.lrat_log.specs.Log.{LogLine, Given, is_delete, id_of, leading_ids, group_ids}
 use Rattle.lrat_log.specs.Steps.{log_live, IsNewTo, IsByRup, nothing_exempt}
 use Rattle.analyze.specs.Learning.{IsAsserting, IsRefutedBy, level_of, Within}
-use Rattle.analyze.proofs.Marked.{contains_negation}
+use Rattle.analyze.proofs.Laws.{contains_negation}
 use Rattle.cdcl.specs.Invariant.{NamesWhatIsLive, NamesStore, name_at, zero_of}
 use Rattle.cdcl.proofs.LogLines.{IsNewClause, AddsByHints, leading-plain, groups-plain}
 use Rattle.cdcl.proofs.Named.{refutes_named}
 use Rattle.cdcl.specs.Hinting.{plain_hints, Serves, AreUnits}
 use Rattle.cdcl.proofs.Zero.{AreOpen, refutes_served, refutes_after_units}
-use Rattle.analyze.proofs.Levels.{all_at, open_below}
+use Rattle.analyze.proofs.Laws.{all_at, open_below}
 
 pub new_to_log : (slots : Slots) (names : List Name) (base : ℕ) (at : Clauses) (c : List Literal)
     → NamesWhatIsLive slots names base at

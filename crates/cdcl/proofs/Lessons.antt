@@ -13,11 +13,11 @@ use Rattle.clauses.specs.Slots.{Slots, clause_at, IsLive}
 use Rattle.propagate.specs.Trail.{Assigned, literals_of, depth_of, kept_to, HasReasons}
 use Rattle.propagate.specs.Watches.{EngineState, is_attached}
 use Rattle.propagate.specs.Fits.{Fits, IsWithin, IsFalseClause}
-use Rattle.propagate.proofs.Facts.{all_weaker, all_join}
-use Rattle.propagate.proofs.Kept.{kept_low}
-use Rattle.propagate.proofs.Reasons.{no_opposites}
+use Rattle.propagate.proofs.Laws.{all_weaker, all_join}
+use Rattle.propagate.proofs.Laws.{kept_low}
+use Rattle.propagate.proofs.Laws.{no_opposites}
 use Rattle.analyze.specs.Learning.{IsAsserting, IsConflict, IsRefutedBy, level_of, greatest_level}
-use Rattle.analyze.proofs.Levels.{all_at}
+use Rattle.analyze.proofs.Laws.{all_at}
 use Rattle.lrat_log.specs.declared.lines.Hint.{Hint}
 use Rattle.lrat_log.specs.declared.lines.Name.{Name}
 use Rattle.lrat_log.specs.declared.lines.Name.TheVariants.{Added}

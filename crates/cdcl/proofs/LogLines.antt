@@ -14,10 +14,10 @@ use Rattle.lrat_log.specs.Log.{LogLine, Given, start_over, is_delete, id_of, nam
 use Rattle.lrat_log.specs.Log.{group_ids, numbered_line, numbered_on, numbered_lines}
 use Rattle.lrat_log.specs.Steps.{live_after, log_live, added_count, IsBaseOf, AreSteps}
 use Rattle.lrat_log.specs.Steps.{StaysLogOver, AddsNoEmptyClause, IsOwnGroup}
-use Rattle.lrat_log.proofs.Names.{steps_from_chain}
+use Rattle.lrat_log.proofs.Laws.{steps_from_chain}
 use Rattle.cdcl.specs.Hinting.{plain_hints}
-use Rattle.lrat_log.proofs.Growing.{chain_join, stops_push, live_more, base_front}
-use Rattle.lrat_log.proofs.Growing.{refutes_covered, ids_covered}
+use Rattle.lrat_log.proofs.Laws.{chain_join, stops_push, live_more, base_front}
+use Rattle.lrat_log.proofs.Laws.{refutes_covered, ids_covered}
 use Rattle.cdcl.proofs.Chains.{live_of, last-live_of, live_of-append, numbered_on-append}
 
 -- hints that are plain

@@ -17,13 +17,13 @@ use Rattle.clauses.specs.Slots.{Slots, clause_at, Renaming, IsRenaming}
 use Rattle.propagate.specs.Trail.{Assigned, literals_of, depth_of, kept_to}
 use Rattle.propagate.specs.Watches.{EngineState, SetsAttached}
 use Rattle.propagate.specs.Fits.{Fits, IsWithin, MovesAttached, renamed_trail, renamed_reason}
-use Rattle.propagate.proofs.Reasons.{NoOpposites}
-use Rattle.propagate.proofs.Kept.{kept_kept}
+use Rattle.propagate.proofs.Laws.{NoOpposites}
+use Rattle.propagate.proofs.Laws.{kept_kept}
 use Rattle.lrat_log.specs.declared.lines.Name.{Name}
 use Rattle.lrat_log.specs.declared.lines.Name.TheVariants.{Formula}
 use Rattle.lrat_log.specs.Log.{LogLine, Given, given_at, number_in}
 use Rattle.lrat_log.specs.Steps.{StaysLogOver, IsLogOver, IsAcceptedLog, AddsNoEmptyClause, adds_empty_clause, is_empty_clause, IsBaseOf, log_live, IsNewTo, nothing_exempt}
-use Rattle.lrat_log.proofs.Accepting.{accepted_log}
+use Rattle.lrat_log.proofs.Laws.{accepted_log}
 use Rattle.eliminate.specs.Elimination.{StackState, Removed, extended, IsFree, becomes_true}
 use Rattle.analyze.specs.Learning.{IsAsserting}
 use Rattle.cdcl.specs.Solving.{is_refuted, IsFrozen, SatisfyGiven, IsLiveRefuted}
@@ -33,14 +33,14 @@ use Rattle.cdcl.proofs.LogLines.{AddsByHints, log_add}
 use Rattle.cdcl.proofs.Named.{names_move}
 use Rattle.cdcl.proofs.MoreGiven.{log_given, names_given}
 use Rattle.cdcl.proofs.Quiet.{searches_move, searches_add}
-use Rattle.clauses.proofs.Quiet.{not_refuted}
-use Rattle.analyze.proofs.Levels.{learned_quiet, is_new}
+use Rattle.clauses.proofs.Laws.{not_refuted}
+use Rattle.analyze.proofs.Laws.{learned_quiet, is_new}
 use Rattle.cdcl.proofs.LearnedLines.{new_to_log}
 use Rattle.cdcl.proofs.Units.{units_add, units_note, units_move}
 use Rattle.cdcl.proofs.Keeping.{leads_back, keeps_plain, kept_move, empty_move, empty_add, back_given}
 use Rattle.cdcl.specs.Moves.{AreValues}
 use Rattle.cdcl.proofs.Satisfied.{live_satisfied, satisfied_agrees, extends_agrees, value_agrees}
-use Rattle.clauses.proofs.Places.{clause_new}
+use Rattle.clauses.proofs.Laws.{clause_new}
 use Rattle.cdcl.proofs.Moves.{with_addition, run_add}
 
 -- the store is compacted, and engine and tables go along

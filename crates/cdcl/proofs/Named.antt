@@ -14,13 +14,13 @@ use Rattle.lrat_log.specs.declared.lines.Name.{Name}
 use Rattle.lrat_log.specs.declared.lines.Name.TheVariants.{Formula, Added}
 use Rattle.lrat_log.specs.Log.{LogLine, Given, start_over, is_delete, id_of, name_of, numbered_on}
 use Rattle.lrat_log.specs.Steps.{live_after, log_live, added_count, IsBaseOf}
-use Rattle.lrat_log.proofs.Numbering.{given_below}
+use Rattle.lrat_log.proofs.Laws.{given_below}
 use Rattle.cdcl.specs.Invariant.{name_at, NamesWhatIsLive, NamesStore}
 use Rattle.cdcl.proofs.Chains.{live_of, count_deletion, count_addition}
 use Rattle.cdcl.specs.Hinting.{plain_hints}
 use Rattle.cdcl.proofs.LogLines.{live-add, live-delete}
 use Rattle.cdcl.proofs.Places.{live_within, clause_kept, clause_cases, clause_left, clause_other, went, came, same_clause, moved_all}
-use Rattle.clauses.proofs.Places.{clause_new}
+use Rattle.clauses.proofs.Laws.{clause_new}
 
 -- hints over the store are hints over what is live
 

@@ -6,12 +6,12 @@ use Rattle.std.proofs.lemmas.List.{length-map}
 use Rattle.wcnf.specs.Literal.{Literal, literal_eq}
 use Rattle.wcnf.specs.Clause.{contains_literal}
 use Rattle.wcnf.specs.Refute.{IsUnit, IsFalseUnder}
-use Rattle.wcnf.proofs.Sound.{literal_eq-true}
+use Rattle.wcnf.proofs.Laws.{literal_eq-true}
 use Rattle.clauses.specs.Slots.{Slots, clause_at}
 use Rattle.propagate.specs.Trail.{Assigned, literals_of, depth_of}
 use Rattle.propagate.specs.Fits.{IsFalseClause}
-use Rattle.propagate.proofs.Reasons.{NoOpposites, no_opposites}
-use Rattle.propagate.proofs.Kept.{contains_at}
+use Rattle.propagate.proofs.Laws.{NoOpposites, no_opposites}
+use Rattle.propagate.proofs.Laws.{contains_at}
 use Rattle.analyze.specs.Learning.{IsQuiet}
 use Rattle.lrat_log.specs.Log.{LogLine}
 use Rattle.cdcl_order.specs.Orders.{positive}

@@ -14,7 +14,7 @@ use Rattle.propagate.specs.Fits.{Fits, IsWithin}
 use Rattle.lrat_log.specs.declared.lines.Kind.{Kind}
 use Rattle.lrat_log.specs.declared.lines.Hint.{Hint}
 use Rattle.lrat_log.specs.Log.{LogLine, Given, IsLine, is_delete, name_of, number_in}
-use Rattle.propagate.proofs.FitsLaws.{fits_local}
+use Rattle.propagate.proofs.Laws.{fits_local}
 use Rattle.propagate.specs.Trail.{Assigned, literals_of}
 use Rattle.eliminate.specs.Elimination.{StackState}
 use Rattle.lrat_log.specs.declared.lines.Name.{Name}
@@ -23,7 +23,7 @@ use Rattle.cdcl.specs.declared.search.Search.{Search}
 use Rattle.cdcl.specs.Invariant.{Tables, IsRunning}
 use Rattle.cdcl.specs.Running.{HasRoom, Places}
 use Rattle.cdcl.proofs.Places.{clause_old, live_within}
-use Rattle.clauses.proofs.Places.{clause_new}
+use Rattle.clauses.proofs.Laws.{clause_new}
 
 -- an engine belongs to the store with one clause more
 pub fits_more : (e : EngineState) (slots : Slots) (c : List Literal) → Fits e slots → Fits e (slots ++ Some c ∷ [])

@@ -13,16 +13,16 @@ use Rattle.clauses.specs.Slots.{Slots, Renaming, renamed, IsRenaming}
 use Rattle.propagate.specs.Trail.{Assigned, literals_of, depth_of, is_decision, kept_to}
 use Rattle.propagate.specs.Watches.{EngineState, is_attached, SameAttached, SetsAttached}
 use Rattle.propagate.specs.Fits.{Fits, GrowsByUnits, MovesAttached, renamed_trail}
-use Rattle.propagate.proofs.Levels.{kept_push, kept_all}
-use Rattle.propagate.proofs.Trails.{depth_push, depth-cons}
-use Rattle.propagate.proofs.Kept.{kept_kept, kept_low}
-use Rattle.propagate.proofs.Naming.{kept_named, trail_listed}
+use Rattle.propagate.proofs.Laws.{kept_push, kept_all}
+use Rattle.propagate.proofs.Laws.{depth_push, depth-cons}
+use Rattle.propagate.proofs.Laws.{kept_kept, kept_low}
+use Rattle.propagate.proofs.Laws.{kept_named, trail_listed}
 use Rattle.propagate.specs.Renames.{named_trail, named_reason}
-use Rattle.propagate.proofs.Compacting.{reasons_listed}
+use Rattle.propagate.proofs.Laws.{reasons_listed}
 use Rattle.cdcl.specs.Invariant.{Searches, zero_of}
 use Rattle.analyze.specs.Learning.{IsQuiet}
 use Rattle.cdcl.proofs.Places.{clause_cases, came, same_clause}
-use Rattle.analyze.proofs.Levels.{kept_more, depth_follow}
+use Rattle.analyze.proofs.Laws.{kept_more, depth_follow}
 
 pub searches_propagate : (slots : Slots) (e f : EngineState) → Searches e slots
     → GrowsByUnits slots e f → SameAttached e f → Fits f slots → f.failed ≡ false → Searches f slots

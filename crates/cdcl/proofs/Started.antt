@@ -14,7 +14,7 @@ use Rattle.propagate.specs.Fits.{Fits}
 use Rattle.lrat_log.specs.declared.lines.Name.{Name}
 use Rattle.lrat_log.specs.declared.lines.Name.TheVariants.{Formula}
 use Rattle.lrat_log.specs.Log.{Given, number_in}
-use Rattle.lrat_log.proofs.GivenNumbers.{given_on}
+use Rattle.lrat_log.proofs.Laws.{given_on}
 use Rattle.cdcl.specs.Invariant.{name_at}
 use Rattle.cdcl.specs.Starts.{AreRising}
 

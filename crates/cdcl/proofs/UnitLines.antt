@@ -12,13 +12,13 @@ use Rattle.wcnf.specs.Clause.{contains_literal}
 use Rattle.wcnf.specs.Refute.{IsUnit}
 use Rattle.clauses.specs.Slots.{Slots, clause_at}
 use Rattle.propagate.specs.Trail.{Assigned, literals_of, depth_of, is_decision, reason_in, HasReasons, IsJustified}
-use Rattle.propagate.proofs.Literals.{negation_twice}
-use Rattle.propagate.proofs.Levels.{kept_all}
-use Rattle.propagate.proofs.Trails.{depth-cons}
-use Rattle.propagate.proofs.Kept.{contains_at, contains_take}
-use Rattle.propagate.proofs.Reasons.{NoOpposites, no_opposites}
-use Rattle.analyze.proofs.Levels.{all_at}
-use Rattle.analyze.proofs.Reasoning.{reason_at}
+use Rattle.propagate.proofs.Laws.{negation_twice}
+use Rattle.propagate.proofs.Laws.{kept_all}
+use Rattle.propagate.proofs.Laws.{depth-cons}
+use Rattle.propagate.proofs.Laws.{contains_at, contains_take}
+use Rattle.propagate.proofs.Laws.{NoOpposites, no_opposites}
+use Rattle.analyze.proofs.Laws.{all_at}
+use Rattle.analyze.proofs.Laws.{reason_at}
 use Rattle.lrat_log.specs.declared.lines.Hint.{Hint}
 use Rattle.lrat_log.specs.declared.lines.Name.{Name}
 use Rattle.lrat_log.specs.declared.lines.Kind.TheVariants.{Unit as UnitKind}

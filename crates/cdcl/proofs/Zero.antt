@@ -6,10 +6,10 @@ use Rattle.std.proofs.lemmas.Bool.{cases_Bool, or_cases, or_left, or_right, both
 use Rattle.wcnf.specs.Literal.{Literal, negation, literal_eq}
 use Rattle.wcnf.specs.Clause.{contains_literal}
 use Rattle.wcnf.specs.Refute.{Clauses, IsUnit, Leads, Refutes}
-use Rattle.wcnf.proofs.Hints.{SameMembers, refutes_after}
-use Rattle.propagate.proofs.Literals.{contains-append}
-use Rattle.wcnf.proofs.Marks.{literal_eq-refl}
-use Rattle.propagate.proofs.Facts.{all_weaker}
+use Rattle.wcnf.proofs.Laws.{SameMembers, refutes_after}
+use Rattle.propagate.proofs.Laws.{contains-append}
+use Rattle.wcnf.proofs.Laws.{literal_eq-refl}
+use Rattle.propagate.proofs.Laws.{all_weaker}
 use Rattle.cdcl.specs.Hinting.{Serves, AreUnits}
 use Rattle.analyze.specs.Learning.{Within}
 

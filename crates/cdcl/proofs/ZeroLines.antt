@@ -5,15 +5,15 @@ use Rattle.std.proofs.lemmas.List.{append-nil}
 use Rattle.wcnf.specs.Literal.{Literal, negation, literal_eq}
 use Rattle.wcnf.specs.Clause.{contains_literal, has_repeat}
 use Rattle.wcnf.specs.Refute.{Clauses, Refutes, IsUnit, IsFalseUnder}
-use Rattle.wcnf.proofs.Sound.{literal_eq-true}
+use Rattle.wcnf.proofs.Laws.{literal_eq-true}
 use Rattle.propagate.specs.Trail.{Assigned, literals_of, HasReasons, IsJustified}
-use Rattle.propagate.proofs.Literals.{negation_twice}
-use Rattle.wcnf.proofs.Marks.{literal_eq-refl}
-use Rattle.propagate.proofs.Reasons.{NoOpposites, justified_same, same_swap}
+use Rattle.propagate.proofs.Laws.{negation_twice}
+use Rattle.wcnf.proofs.Laws.{literal_eq-refl}
+use Rattle.propagate.proofs.Laws.{NoOpposites, justified_same, same_swap}
 use Rattle.cdcl.specs.Hinting.{AreUnits}
 use Rattle.analyze.specs.Learning.{Within}
 use Rattle.cdcl.proofs.Zero.{AreOpen, refutes_after_units}
-use Rattle.analyze.proofs.Levels.{all_from}
+use Rattle.analyze.proofs.Laws.{all_from}
 use Rattle.cdcl.proofs.LearnedLines.{open_all}
 
 -- unit clauses, and one that is false with their literals

@@ -4,7 +4,7 @@ use lib.Seq.{paste}
 use Rattle.wcnf.specs.Literal.{Literal}
 use Rattle.clauses.specs.declared.heads.Span.{Span}
 use Rattle.clauses.specs.Heads.{Head, span_of}
-use Rattle.wcnf.proofs.Laid.{Layout, IsCompacting, moved_within, compacting_dead, compacting_live}
+use Rattle.wcnf.proofs.Laws.{Layout, IsCompacting, moved_within, compacting_dead, compacting_live}
 use Rattle.clauses.proofs.Reading.{no_head}
 
 abbrev pub heads : Layout Head Literal (List Literal)

@@ -1,9 +1,10 @@
-pub mod Flat
-pub mod Lookup
-pub mod Moves
-pub mod Places
-pub mod Quiet
-pub mod Reading
-pub mod Renaming
-pub mod Stored
-pub mod Zipped
+mod Flat
+mod Lookup
+mod Moves
+mod Places
+mod Quiet
+mod Reading
+mod Renaming
+mod Stored
+mod Zipped
+pub mod Laws

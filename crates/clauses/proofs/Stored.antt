@@ -9,7 +9,7 @@ use Rattle.wcnf.specs.Literal.{Literal}
 use Rattle.clauses.specs.declared.heads.Span.{Span}
 use Rattle.clauses.specs.Heads.{Head, span_of, literals_of, slot_of, slots_of, state_of, IsLaid, IsStore}
 use Rattle.clauses.specs.Slots.{in_slot, clause_at, IsLive}
-use Rattle.wcnf.proofs.Laid.{range-append, range-appended, laid_le, laid_push, laid_set}
+use Rattle.wcnf.proofs.Laws.{range-append, range-appended, laid_le, laid_push, laid_set}
 use Rattle.clauses.proofs.Flat.{heads}
 use Rattle.clauses.proofs.Reading.{no_head}
 

@@ -12,10 +12,10 @@ use Rattle.lrat_log.specs.Log.{LogLine, Given, is_delete, id_of, leading_ids, gr
 use Rattle.lrat_log.specs.Steps.{IsBaseOf, log_live}
 use Rattle.names.specs.Work.{IsRupLine}
 use Rattle.eliminate_tables.specs.Resolvents.{resolvent}
-use Rattle.wcnf.proofs.Marks.{literal_eq-refl}
-use Rattle.eliminate_tables.proofs.Resolve.{filter-contains, contains-either, resolvent_refutes}
+use Rattle.wcnf.proofs.Laws.{literal_eq-refl}
+use Rattle.eliminate_tables.proofs.Laws.{filter-contains, contains-either, resolvent_refutes}
 use Rattle.eliminate.proofs.Falsified.{has_repeat-filter, AreFalseByUnits, unit_refutes, empty_refutes}
-pub use Rattle.pairs.proofs.Literals.{greatest-filter, member-small}
+pub use Rattle.pairs.proofs.Laws.{greatest-filter, member-small}
 
 has_repeat-append : (c d : List Literal) → has_repeat c ≡ false → has_repeat d ≡ false → ((k : Literal) → contains_literal k d ≡ true → contains_literal k c ≡ false) → has_repeat (c ++ d) ≡ false
 has_repeat-append [] d rc rd apart = rd

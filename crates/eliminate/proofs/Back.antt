@@ -9,13 +9,13 @@ use Rattle.std.proofs.lemmas.Option.{unwrap_or-slice_get}
 use Rattle.wcnf.specs.Literal.{Literal, Assignment, negation, literal_value}
 use Rattle.wcnf.specs.Clause.{Satisfies, clause_value, contains_literal, without_literal, has_opposites, is_subset}
 use Rattle.wcnf.specs.Bits.{assignment_of}
-use Rattle.wcnf.proofs.Sound.{negation-value}
-use Rattle.wcnf.proofs.Certificates.{made_true, made, clause_kept, rest_kept}
+use Rattle.wcnf.proofs.Laws.{negation-value}
+use Rattle.wcnf.proofs.Laws.{made_true, made, clause_kept, rest_kept}
 use Rattle.eliminate.specs.Elimination.{Removed, positive, becomes_true, is_eliminated, extended, SatisfiesAll}
 use Rattle.eliminate.specs.State.{GivesBack}
 use Rattle.eliminate_tables.specs.Resolvents.{resolvent}
-use Rattle.pairs.proofs.Literals.{has_true}
-use Rattle.eliminate_tables.proofs.Resolve.{not_not, each_literal, resolvent-parts}
+use Rattle.pairs.proofs.Laws.{has_true}
+use Rattle.eliminate_tables.proofs.Laws.{not_not, each_literal, resolvent-parts}
 
 -- the variable with this value, as a literal
 abbrev pub valued : ℕ → Bool → Literal

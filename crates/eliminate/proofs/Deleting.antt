@@ -11,8 +11,8 @@ use Rattle.lrat_log.specs.Log.{LogLine}
 use Rattle.names.specs.Work.{additions, name_at, delete_line}
 use Rattle.eliminate_tables.specs.Rows.{AreRows}
 use Rattle.eliminate.specs.Variables.{LeavesOut, KeepsWork, KeepsLog}
-use Rattle.names.proofs.Moving.{work_deleted, open_deleted}
-use Rattle.names.proofs.Naming.{slot_deleted, slot_kept, additions-push}
+use Rattle.names.proofs.Laws.{work_deleted, open_deleted}
+use Rattle.names.proofs.Laws.{slot_deleted, slot_kept, additions-push}
 
 pub leaves_all : (slots : Slots) → LeavesOut [] slots slots
 leaves_all slots = record {

@@ -27,7 +27,7 @@ use Rattle.eliminate.specs.Variables.{IsWith, AreThoseWith, IsPairResolved, AreP
 use Rattle.eliminate.proofs.Back.{negative, extended-append}
 use Rattle.eliminate.proofs.Deleting.{leaves_join, rows_left}
 use Rattle.eliminate.proofs.Growing.{resolvent-lacks}
-use Rattle.eliminate_tables.proofs.Resolve.{not-opposite_too}
+use Rattle.eliminate_tables.proofs.Laws.{not-opposite_too}
 use Rattle.eliminate.proofs.States.{GoesWith, Lacks, goes_back, goes_free, contains_live}
 
 -- a live clause is what stands under its reference

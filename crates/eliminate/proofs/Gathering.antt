@@ -7,10 +7,10 @@ use Rattle.std.proofs.lemmas.List.Elements.{All-contains, All-filter, All-contai
 use Rattle.wcnf.specs.Literal.{Literal, index_of}
 use Rattle.clauses.specs.Slots.{Slots, clause_at}
 use Rattle.subsume.specs.Marks.{HasPlace}
-use Rattle.subsume.proofs.Marking.{place_within}
+use Rattle.subsume.proofs.Laws.{place_within}
 use Rattle.eliminate_tables.specs.Rows.{row_at, with_row, is_some, has_clause, AreRows}
 use Rattle.eliminate.specs.Variables.{AreThoseWith}
-use Rattle.eliminate_tables.proofs.Writing.{some_clause}
+use Rattle.eliminate_tables.proofs.Laws.{some_clause}
 
 contains_later : {X : Type 0} (x y : X) (xs : List X) → Contains xs x → Contains (y ∷ xs) x
 contains_later x y xs h = (suc h.0, (let lt = h.1 in omega arith), h.2)

@@ -10,8 +10,8 @@ use Rattle.eliminate_tables.specs.Resolvents.{resolvent}
 use Rattle.eliminate.specs.Simplifier.{Grows}
 use Rattle.eliminate.specs.Variables.{IsWith, AreThoseWith, LacksBoth, GrowsWithout, IsResolvedIn, IsPairResolved, ArePairsResolved}
 use Rattle.eliminate.proofs.Deleting.{take_next}
-use Rattle.names.proofs.Naming.{slot_before, slot_pushed}
-use Rattle.eliminate_tables.proofs.Resolve.{resolvent-open, resolvent-open_not, not-opposite, not-opposite_too}
+use Rattle.names.proofs.Laws.{slot_before, slot_pushed}
+use Rattle.eliminate_tables.proofs.Laws.{resolvent-open, resolvent-open_not, not-opposite, not-opposite_too}
 
 pub resolvent-lacks : (p : Literal) (c d : List Literal) → has_opposites c ≡ false → has_opposites d ≡ false → contains_literal p c ≡ true → contains_literal (negation p) d ≡ true → LacksBoth p (resolvent p c d)
 resolvent-lacks p c d oc od has has_not = record {

@@ -1,21 +1,22 @@
-pub mod Adding
-pub mod Assigned
-pub mod Back
-pub mod Deleting
-pub mod Eliminating
-pub mod Endings
-pub mod Falsified
-pub mod Gathering
-pub mod Growing
-pub mod Listed
-pub mod Occurring
-pub mod Propagating
-pub mod Resolvable
-pub mod Settled
-pub mod Shortened
-pub mod Simplified
-pub mod Starting
-pub mod States
-pub mod Statuses
-pub mod Tables
-pub mod UnitLines
+mod Adding
+mod Assigned
+mod Back
+mod Deleting
+mod Eliminating
+mod Endings
+mod Falsified
+mod Gathering
+mod Growing
+mod Listed
+mod Occurring
+mod Propagating
+mod Resolvable
+mod Settled
+mod Shortened
+mod Simplified
+mod Starting
+mod States
+mod Statuses
+mod Tables
+mod UnitLines
+pub mod Laws

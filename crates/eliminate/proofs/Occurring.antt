@@ -6,13 +6,13 @@ use Rattle.std.proofs.lemmas.List.{get_or-set_same, get_or-set_other, length-set
 use Rattle.std.proofs.lemmas.List.Elements.{Contains-push, Contains-push_cases, Contains-append_left, All-head, All-tail}
 use Rattle.wcnf.specs.Literal.{Literal, literal_eq, index_of}
 use Rattle.wcnf.specs.Clause.{contains_literal}
-use Rattle.wcnf.proofs.Sound.{literal_eq-true}
+use Rattle.wcnf.proofs.Laws.{literal_eq-true}
 use Rattle.clauses.specs.Slots.{Slots}
 use Rattle.eliminate_tables.specs.Rows.{row_at, with_row, with_entry, with_clause_rows, AreRows}
 use Rattle.subsume.specs.Marks.{HasPlace}
-use Rattle.subsume.proofs.Marking.{place_within, same_place}
-use Rattle.names.proofs.Naming.{slot_pushed, slot_within, slot_deleted}
-use Rattle.wcnf.proofs.Marks.{literal_eq-refl}
+use Rattle.subsume.proofs.Laws.{place_within, same_place}
+use Rattle.names.proofs.Laws.{slot_pushed, slot_within, slot_deleted}
+use Rattle.wcnf.proofs.Laws.{literal_eq-refl}
 
 row-same : (rows : List (List ℕ)) (i : ℕ) (row : List ℕ) → i < length rows → row_at (with_row rows i row) i ≡ row
 row-same rows i row h = get_or-set_same rows i row [] h

@@ -25,7 +25,7 @@ use Rattle.names.specs.Work.{name_at}
 use Rattle.eliminate.specs.Simplifier.{IsSimplified, IsSimplifier, IsAddableLine}
 use Rattle.eliminate.proofs.Adding.{resolvent_line, resolvent-no_repeat, resolvent-small}
 use Rattle.eliminate.proofs.Eliminating.{number_at}
-use Rattle.names.proofs.Naming.{slot_within, slot_last}
+use Rattle.names.proofs.Laws.{slot_within, slot_last}
 use Rattle.eliminate.proofs.States.{places_of}
 
 -- what holds of the literals of both parents holds of the resolvent's

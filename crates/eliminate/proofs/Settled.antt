@@ -7,7 +7,7 @@ use Rattle.wcnf.specs.Literal.{Literal}
 use Rattle.wcnf.specs.Formula.{numbered}
 use Rattle.wcnf.specs.Refute.{IsRefutedByHints}
 use Rattle.clauses.specs.Slots.{Slots, live_clauses}
-use Rattle.clauses.proofs.Quiet.{not_refuted}
+use Rattle.clauses.proofs.Laws.{not_refuted}
 use Rattle.eliminate.specs.Simplifier.{Grows}
 use Rattle.eliminate.specs.Units.{IsSettled, AreSettled}
 use Rattle.eliminate.proofs.States.{all_live}

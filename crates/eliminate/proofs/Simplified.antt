@@ -14,8 +14,8 @@ use Rattle.names.specs.Work.{NamesState, additions, name_at, added_line, delete_
 use Rattle.eliminate_tables.specs.Rows.{with_clause_rows}
 use Rattle.eliminate.specs.State.{Start, IsState}
 use Rattle.eliminate.specs.Simplifier.{IsSimplified, IsAddableLine, IsLogOf}
-use Rattle.names.proofs.Moving.{open_added, open_deleted}
-use Rattle.names.proofs.Naming.{additions-push, slot_last}
+use Rattle.names.proofs.Laws.{open_added, open_deleted}
+use Rattle.names.proofs.Laws.{additions-push, slot_last}
 use Rattle.eliminate.proofs.States.{state_added, state_subsumed, contains_live, places_of}
 
 no_empty : (b e : Bool) → e ≡ false → (b && e) ≡ false

@@ -20,10 +20,10 @@ use Rattle.names.specs.Work.{additions, name_at, added_line, delete_line, IsRupL
 use Rattle.eliminate_tables.specs.Rows.{with_clause_rows}
 use Rattle.eliminate.specs.State.{Start, IsState, AreFree, GivesBack}
 use Rattle.eliminate.proofs.Back.{Entails, IsKept, HaveVariable, negative, extends_weaker, extends_eliminated, resolve_to, entails_subsumed, entails_member}
-use Rattle.names.proofs.Moving.{work_added, work_deleted}
-use Rattle.names.proofs.Naming.{slot_pushed, slot_before, slot_deleted, slot_kept}
+use Rattle.names.proofs.Laws.{work_added, work_deleted}
+use Rattle.names.proofs.Laws.{slot_pushed, slot_before, slot_deleted, slot_kept}
 use Rattle.eliminate.proofs.Occurring.{rows_added, rows_deleted, rows-length}
-pub use Rattle.pairs.proofs.LiveClauses.{all_live, live_all, contains_live}
+pub use Rattle.pairs.proofs.Laws.{all_live, live_all, contains_live}
 
 place_of : (n : ℕ) (l : Literal) → 0 < l.variable → l.variable ≤ n → HasPlace (2 * n) l
 place_of n l some few = (some, omega arith)

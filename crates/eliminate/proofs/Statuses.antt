@@ -7,8 +7,8 @@ use Rattle.std.proofs.lemmas.Option.{same_Some}
 use Rattle.wcnf.specs.Literal.{Literal, negation, literal_eq}
 use Rattle.wcnf.specs.Clause.{contains_literal, has_repeat}
 use Rattle.wcnf.specs.Refute.{IsUnit, IsFalseUnder}
-use Rattle.wcnf.proofs.Sound.{literal_eq-true}
-use Rattle.subsume.proofs.Marking.{at_contains}
+use Rattle.wcnf.proofs.Laws.{literal_eq-true}
+use Rattle.subsume.proofs.Laws.{at_contains}
 use Rattle.wcnf.specs.Formula.{IsFormulaClause}
 use Rattle.clauses.specs.Slots.{Slots, clause_at}
 use Rattle.subsume.specs.Marks.{HasPlace, mark_of}
@@ -16,7 +16,7 @@ use Rattle.eliminate.specs.declared.units.Units.{Units}
 use Rattle.eliminate.specs.declared.units.Status.{Status}
 use Rattle.eliminate.specs.declared.units.Status.TheVariants.{Settled, Unit, Falsified}
 use Rattle.eliminate.specs.Units.{IsSettled, AreUnits}
-use Rattle.wcnf.proofs.Marks.{literal_eq-refl}
+use Rattle.wcnf.proofs.Laws.{literal_eq-refl}
 use Rattle.eliminate.proofs.States.{places_of}
 
 pub all_member : (P : Literal → Type 0) (c : List Literal) (l : Literal) → AllByRecursion P c → contains_literal l c ≡ true → P l

@@ -9,7 +9,7 @@ use Rattle.wcnf.specs.Clause.{contains_literal, without_literal, greatest_variab
 use Rattle.wcnf.specs.Formula.{IsFormulaClause}
 use Rattle.wcnf.specs.Refute.{IsUnit, IsFalseUnder}
 use Rattle.wcnf.specs.Lrat.{IsId}
-use Rattle.wcnf.proofs.Sound.{literal_eq-true}
+use Rattle.wcnf.proofs.Laws.{literal_eq-true}
 use Rattle.clauses.specs.Slots.{Slots, clause_at}
 use Rattle.lrat_log.specs.declared.lines.Name.{Name}
 use Rattle.lrat_log.specs.declared.lines.Name.TheVariants.{Formula}
@@ -28,8 +28,8 @@ use Rattle.eliminate.specs.Simplifier.{IsSimplified, IsAddableLine}
 use Rattle.eliminate.specs.Units.{AreUnits, unit_of, unit_name, falsified_in, unit_hints}
 use Rattle.eliminate.proofs.Adding.{unit_line, empty_line}
 use Rattle.eliminate.proofs.Falsified.{AreFalseByUnits}
-use Rattle.wcnf.proofs.Marks.{literal_eq-refl}
-use Rattle.eliminate_tables.proofs.Resolve.{each_literal, filter-contains}
+use Rattle.wcnf.proofs.Laws.{literal_eq-refl}
+use Rattle.eliminate_tables.proofs.Laws.{each_literal, filter-contains}
 use Rattle.eliminate.proofs.Statuses.{all_member, take_next}
 
 -- the next literal of a clause is false, or not

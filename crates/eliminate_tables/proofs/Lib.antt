@@ -1,5 +1,6 @@
-pub mod Built
-pub mod Needed
-pub mod Resolve
-pub mod StackPieces
-pub mod Writing
+mod Built
+mod Needed
+mod Resolve
+mod StackPieces
+mod Writing
+pub mod Laws

@@ -7,15 +7,15 @@ use Rattle.std.proofs.lemmas.List.Folds.{list_any_at}
 use Rattle.wcnf.specs.Literal.{Literal, Assignment, literal_value, literal_eq}
 use Rattle.wcnf.specs.Clause.{contains_literal, without_literal}
 use Rattle.wcnf.specs.Bits.{assignment_of}
-use Rattle.wcnf.proofs.Sound.{literal_eq-true}
-use Rattle.subsume.proofs.Marking.{at_contains}
+use Rattle.wcnf.proofs.Laws.{literal_eq-true}
+use Rattle.subsume.proofs.Laws.{at_contains}
 use Rattle.eliminate_tables.specs.Removals.{Removed, extended, is_needed, becomes_true, positive}
 use Rattle.eliminate_tables.specs.declared.stack.Piece.{Piece}
 use Rattle.eliminate_tables.specs.declared.stack.Gone.{Gone}
 use Rattle.eliminate_tables.specs.Flat.{clause_in, clauses_at, one_removed, removed_in, IsGone}
-use Rattle.wcnf.proofs.Marks.{literal_eq-refl}
+use Rattle.wcnf.proofs.Laws.{literal_eq-refl}
 use Rattle.eliminate_tables.proofs.Resolve.{contains-filter}
-use Rattle.pairs.proofs.Literals.{has_true}
+use Rattle.pairs.proofs.Laws.{has_true}
 
 -- another literal is true: the clause needs nothing
 pub not_needed : (t : Assignment) (p : Literal) (c : List Literal) (i : ℕ) (l : Literal) → i < length c → l ≡ get_or c i l → literal_eq l p ≡ false → literal_value t l ≡ true → is_needed t p c ≡ false

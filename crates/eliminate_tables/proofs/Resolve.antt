@@ -5,8 +5,8 @@ use Rattle.wcnf.specs.Literal.{Literal, negation, literal_eq}
 use Rattle.wcnf.specs.Clause.{contains_literal, without_literal, has_opposites}
 use Rattle.wcnf.specs.Refute.{IsFalseUnder, Clauses, Refutes}
 use Rattle.eliminate_tables.specs.Resolvents.{resolvent}
-use Rattle.wcnf.proofs.Marks.{literal_eq-refl}
-pub use Rattle.pairs.proofs.Literals.{not_not, negation_twice, literal_eq-negation, contains-negations, Covers, covered_unit, contains_same, contains-filter, filter-contains, each_literal, without-contains, not-without, not-opposite}
+use Rattle.wcnf.proofs.Laws.{literal_eq-refl}
+pub use Rattle.pairs.proofs.Laws.{not_not, negation_twice, literal_eq-negation, contains-negations, Covers, covered_unit, contains_same, contains-filter, filter-contains, each_literal, without-contains, not-without, not-opposite}
 
 covered_false : (p : Literal) (r d : List Literal) → Covers (negation p) r d → IsFalseUnder d (p ∷ map negation r)
 covered_false p r [] h = tt

@@ -10,24 +10,24 @@ use Rattle.wcnf.specs.Bits.{Extends, assignment_of}
 use Rattle.wcnf.specs.Problem.{Problem, IsFeasible, cost_under}
 use Rattle.lrat_log.specs.declared.lines.Name.{Name}
 use Rattle.bound.specs.Bound.{bound_as, fixed_clauses, comparator_for}
-use Rattle.bound.proofs.Cheaper.{says_cheaper}
-use Rattle.bound.proofs.Subsets.{all_append}
+use Rattle.bound.proofs.Laws.{says_cheaper}
+use Rattle.bound.proofs.Laws.{all_append}
 use Rattle.std.specs.Prelude.{Contains, if◌then◌else◌}
 use Rattle.std.proofs.lemmas.Bool.{false_from_ne_true}
 use Rattle.std.proofs.lemmas.List.Sums.{sum_by-append}
 use Rattle.lrat_log.specs.Log.{LogLine, is_learned, clauses_in}
 use Rattle.lrat_log.specs.Steps.{IsLogOver, IsBaseOf, LearnsNew, is_later, nothing_exempt}
 use Rattle.lrat_log.specs.Steps.{learned_count, given_of}
-use Rattle.lrat_log.proofs.GivenNumbers.{base_of}
+use Rattle.lrat_log.proofs.Laws.{base_of}
 use Rattle.adder.specs.Network.{adders_as}
-use Rattle.adder.proofs.Sums.{left_part, right_part}
+use Rattle.adder.proofs.Laws.{left_part, right_part}
 use Rattle.improve.specs.Frozen.{AreFrozen}
 use Rattle.cdcl.specs.Solving.{given_to, SatisfyGiven, SameGiven, IsPlainlyRefuted, lines_since}
 use Rattle.improve.specs.Improving.{IsSolution, IsCostOfSome, AreFalling}
 use Rattle.improve.specs.Bounds.{LogSolver, IsOver}
 use Rattle.wcnf.specs.Formula.{Cnf}
 use Rattle.std.proofs.lemmas.List.{length-map}
-use Rattle.lrat_log.proofs.MoreGiven.{new_searched}
+use Rattle.lrat_log.proofs.Laws.{new_searched}
 use Rattle.improve.specs.declared.bounds.Bounds.{Bounds}
 use Rattle.improve.proofs.BitLaws.{extends_own}
 use Rattle.improve.proofs.GivenParts.{given_split}

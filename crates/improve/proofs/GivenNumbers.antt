@@ -13,11 +13,11 @@ use Rattle.lrat_log.specs.declared.lines.Name.{Name}
 use Rattle.lrat_log.specs.declared.lines.Name.TheVariants.{Formula}
 use Rattle.lrat_log.specs.Log.{LogLine, Given, given_at, is_learned, clauses_in}
 use Rattle.lrat_log.specs.Steps.{IsLogOver, LearnsNew, is_later, learned_count, given_of}
-use Rattle.lrat_log.proofs.GivenNumbers.{numbered_past, given_on, clauses_given, given_at-given_of}
+use Rattle.lrat_log.proofs.Laws.{numbered_past, given_on, clauses_given, given_at-given_of}
 use Rattle.cdcl.specs.Solving.{given_to, GivesMore, lines_since}
 use Rattle.improve.specs.Bounds.{LogSolver, IsUsable, GivesAll}
-use Rattle.lrat_log.proofs.NewLines.{none_new}
-use Rattle.lrat_log.proofs.MoreGiven.{new_more}
+use Rattle.lrat_log.proofs.Laws.{none_new}
+use Rattle.lrat_log.proofs.Laws.{new_more}
 
 pub fresh_name : (given : Given) (n : ℕ) → given ≡ given_of (clauses_in given)
     → n ≡ length given + 1

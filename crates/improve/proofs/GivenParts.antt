@@ -22,8 +22,8 @@ use Rattle.lrat_log.specs.declared.lines.Name.TheVariants.{Formula, Added}
 use Rattle.lrat_log.specs.Log.{LogLine, Given, HasSmallIds, id_of, name_of, clauses_in}
 use Rattle.lrat_log.specs.Steps.{IsLogOver, given_of}
 use Rattle.lrat_log.specs.Rebase.{weaker_list}
-use Rattle.lrat_log.proofs.Ids.{small_ids}
-use Rattle.lrat_log.proofs.GivenNumbers.{base_of}
+use Rattle.lrat_log.proofs.Laws.{small_ids}
+use Rattle.lrat_log.proofs.Laws.{base_of}
 use Rattle.bound.specs.Bound.{fixed_clauses, comparator_for}
 use Rattle.cdcl.specs.Solving.{given_to}
 use Rattle.improve.specs.Improving.{first_subset, weaker_among}

@@ -9,22 +9,22 @@ use Rattle.wcnf.specs.Clause.{Satisfies}
 use Rattle.wcnf.specs.Bits.{Extends}
 use Rattle.wcnf.specs.Problem.{Problem, IsFeasible}
 use Rattle.wcnf.specs.Refute.{IsRefutedByHints}
-use Rattle.wcnf.proofs.Certificates.{certificate_sound}
+use Rattle.wcnf.proofs.Laws.{certificate_sound}
 use Rattle.lrat_log.specs.declared.lines.Name.{Name}
 use Rattle.lrat_log.specs.Log.{LogLine, numbered_lines, clauses_in}
 use Rattle.lrat_log.specs.Steps.{IsLogOver, IsAcceptedLog, IsBaseOf, AddsNoEmptyClause, LearnsNew}
 use Rattle.lrat_log.specs.Steps.{nothing_exempt, learned_count}
-use Rattle.lrat_log.proofs.GivenNumbers.{base_of, clauses_given}
-use Rattle.lrat_log.proofs.Rebasing.{accepts_of_log, steps_of_log}
+use Rattle.lrat_log.proofs.Laws.{base_of, clauses_given}
+use Rattle.lrat_log.proofs.Laws.{accepts_of_log, steps_of_log}
 use Rattle.adder.specs.declared.cells.Profile.{Profile}
 use Rattle.bound.specs.Bound.{hard_cnf}
-use Rattle.bound.proofs.Clauses.{feasible}
-use Rattle.bound.proofs.Few.{hard_few}
+use Rattle.bound.proofs.Laws.{feasible}
+use Rattle.bound.proofs.Laws.{hard_few}
 use Rattle.cdcl.specs.Solving.{given_to, SatisfyGiven, SameGiven, IsPlainlyRefuted, lines_since}
 use Rattle.improve.specs.Improving.{IsHardLog, IsRightFound, work_count}
 use Rattle.improve.specs.Bounds.{LogSolver, IsOverHard}
 use Rattle.improve.specs.declared.found.Found.TheVariants.{Unsat, Nothing}
-use Rattle.lrat_log.proofs.NewLines.{first_new}
+use Rattle.lrat_log.proofs.Laws.{first_new}
 use Rattle.improve.proofs.CheaperBits.{same_given, learned_more}
 
 module _ (p : Problem) (old : LogSolver) (h : IsOverHard p old) where

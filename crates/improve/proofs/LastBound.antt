@@ -20,14 +20,14 @@ use Rattle.lrat_log.specs.Steps.{LearnsNew, is_later, learned_count, given_of}
 use Rattle.lrat_log.specs.Rebase.{WeakerList, rebased, IsWeakerOf, IsSomeClause, KeepsLog}
 use Rattle.adder.specs.declared.cells.Profile.{Profile}
 use Rattle.adder.specs.Network.{adders_as}
-use Rattle.adder.proofs.Sums.{right_part}
+use Rattle.adder.proofs.Laws.{right_part}
 use Rattle.bound.specs.Bound.{bound_as, fixed_clauses, comparator_for, IsCovered}
-use Rattle.bound.proofs.Subsets.{all_append}
-use Rattle.bound.proofs.Covers.{covers_larger}
-use Rattle.bound.proofs.Few.{without_bound}
-use Rattle.bound.proofs.Fits.{bound_is_formula}
-use Rattle.lrat_log.proofs.GivenNumbers.{numbered_right}
-use Rattle.lrat_log.proofs.RebasedLines.{open_rebased, learned_rebased}
+use Rattle.bound.proofs.Laws.{all_append}
+use Rattle.bound.proofs.Laws.{covers_larger}
+use Rattle.bound.proofs.Laws.{without_bound}
+use Rattle.bound.proofs.Laws.{bound_is_formula}
+use Rattle.lrat_log.proofs.Laws.{numbered_right}
+use Rattle.lrat_log.proofs.Laws.{open_rebased, learned_rebased}
 use Rattle.cdcl.specs.Solving.{given_to}
 use Rattle.improve.specs.Improving.{AreFalling, first_subset, weaker_among}
 use Rattle.improve.specs.Bounds.{IsOver}

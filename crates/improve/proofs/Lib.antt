@@ -1,14 +1,15 @@
-pub mod Told
-pub mod GivenNumbers
-pub mod BitLaws
-pub mod SubsetSearch
-pub mod Comparators
-pub mod FrozenOutputs
-pub mod OverBounds
-pub mod GivenParts
-pub mod LastBound
-pub mod RightEnds
-pub mod CheaperBits
-pub mod SearchEnds
-pub mod HardEnds
-pub mod Lowering
+mod Told
+mod GivenNumbers
+mod BitLaws
+mod SubsetSearch
+mod Comparators
+mod FrozenOutputs
+mod OverBounds
+mod GivenParts
+mod LastBound
+mod RightEnds
+mod CheaperBits
+mod SearchEnds
+mod HardEnds
+mod Lowering
+pub mod Laws

@@ -9,15 +9,15 @@ use Rattle.wcnf.specs.Literal.{Assignment}
 use Rattle.wcnf.specs.Bits.{Extends}
 use Rattle.wcnf.specs.Problem.{Problem, IsOptimal}
 use Rattle.wcnf.specs.Instance.{IsInstance}
-use Rattle.wcnf.proofs.Certificates.{certificate_sound}
+use Rattle.wcnf.proofs.Laws.{certificate_sound}
 use Rattle.lrat_log.specs.Log.{LogLine, numbered_lines}
 use Rattle.lrat_log.specs.Steps.{IsAcceptedLog, AddsNoEmptyClause, LearnsNew, is_later, given_of}
 use Rattle.lrat_log.specs.Rebase.{weaker_line, moved_line, rebased}
-use Rattle.lrat_log.proofs.Rebasing.{accepts_of_log, steps_of_log}
+use Rattle.lrat_log.proofs.Laws.{accepts_of_log, steps_of_log}
 use Rattle.adder.specs.declared.cells.Profile.{Profile}
 use Rattle.bound.specs.Bound.{bound_as, fixed_clauses, comparator_for}
-use Rattle.bound.proofs.Cheaper.{says_cheaper}
-use Rattle.bound.proofs.Few.{clauses_few}
+use Rattle.bound.proofs.Laws.{says_cheaper}
+use Rattle.bound.proofs.Laws.{clauses_few}
 use Rattle.cdcl.specs.Solving.{given_to}
 use Rattle.improve.specs.Improving.{IsSolution, EndsWith, AreFalling, IsAcceptedOver, IsHardLog, IsRightFound, BeginsWithWeaker, but_last, first_subset, weaker_for, weaker_among}
 use Rattle.improve.specs.Bounds.{IsOver, BoundLog}

@@ -8,8 +8,8 @@ use Rattle.std.proofs.lemmas.List.{get_or-set_same, get_or-set_other}
 use Rattle.std.proofs.lemmas.List.Elements.{All-push, All-pop, All-weaker}
 use Rattle.wcnf.specs.Literal.{Literal, index_of, literal_eq}
 use Rattle.wcnf.specs.Clause.{contains_literal}
-use Rattle.wcnf.proofs.Marks.{index_same, index_below}
-use Rattle.wcnf.proofs.Sound.{literal_eq-true}
+use Rattle.wcnf.proofs.Laws.{index_same, index_below}
+use Rattle.wcnf.proofs.Laws.{literal_eq-true}
 use Rattle.lrat_check.specs.Assumed.{AreValues}
 use Rattle.lrat_check.proofs.Members.{push_other, in_push-last, has_repeat-push, has_repeat-last, none_past}
 

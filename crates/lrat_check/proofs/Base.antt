@@ -12,7 +12,7 @@ use Rattle.wcnf.specs.Formula.{Cnf, IsFormula, IsFormulaClause}
 use Rattle.wcnf.specs.Lrat.{start_of, with_clause}
 use Rattle.lrat_check.specs.Assumed.{AreWithin}
 use Rattle.lrat_live.specs.Listed.{Listed, ids_of, listed_at, listed_from, without_id, ids_listed}
-use Rattle.lrat_live.proofs.Listed.{Rises, rises_from_pairs, listed_here, listed_there, above_kept, rises_kept, rises_from, increasing_from_rises, rises_push, listed_at-push, listed_at-without, listed_numbered, rises_listed, listed_from-all, some_of}
+use Rattle.lrat_live.proofs.Laws.{Rises, rises_from_pairs, listed_here, listed_there, above_kept, rises_kept, rises_from, increasing_from_rises, rises_push, listed_at-push, listed_at-without, listed_numbered, rises_listed, listed_from-all, some_of}
 use Rattle.lrat_check.specs.Steps.{IsBase, IsUpTo, live_of}
 use Rattle.lrat_check.proofs.Steps.{less, deleted_live}
 use Rattle.lrat_check.proofs.Effects.{drop_at, ids_from}

@@ -12,7 +12,7 @@ use Rattle.wcnf.specs.Literal.{Literal}
 use Rattle.wcnf.specs.Clause.{contains_literal}
 use Rattle.wcnf.specs.Refute.{Clauses}
 use Rattle.lrat_live.specs.Listed.{same_ids}
-use Rattle.lrat_live.proofs.Listed.{Rises, rises_from_pairs}
+use Rattle.lrat_live.proofs.Laws.{Rises, rises_from_pairs}
 use Rattle.lrat_check.specs.Verdict.{ids_with}
 
 -- membership, as a test

@@ -15,7 +15,7 @@ use Rattle.lrat_check.specs.declared.verdicts.Cause.TheVariants.{HintAfterConfli
 use Rattle.lrat_live.specs.Listed.{same_ids}
 use Rattle.lrat_check.specs.Verdict.{Walk, walk, of_walk, group_fault}
 use Rattle.lrat_check.specs.Steps.{HaveSame, EndAlike}
-use Rattle.lrat_live.proofs.CountLaws.{ne_codes}
+use Rattle.lrat_live.proofs.Laws.{ne_codes}
 use Rattle.lrat_check.proofs.Steps.{IsTrueAlready, silent_on, group_silent, group_walks}
 use Rattle.lrat_check.proofs.Alike.{EndAlike-step, walk-same, of_walk-alike}
 use Rattle.lrat_check.proofs.Effects.{drop_at}

@@ -7,7 +7,7 @@ use Rattle.wcnf.specs.Clause.{Satisfies}
 use Rattle.wcnf.specs.Formula.{Cnf, IsUnsatisfiable}
 use Rattle.wcnf.specs.Problem.{Problem, IsFeasible}
 use Rattle.wcnf.specs.Wcnf.{Reads}
-use Rattle.wcnf.proofs.Texts.{reading_is_right}
+use Rattle.wcnf.proofs.Laws.{reading_is_right}
 use Rattle.adder.specs.declared.cells.Profile.{Profile}
 use Rattle.bound.specs.Bound.{hard_cnf, bound_as, SaysCheaper}
 use Rattle.lrat_check.specs.declared.report.Report.{Report as ReadReport}

@@ -12,7 +12,7 @@ use Rattle.std.specs.Io.KnownBytes.{Consumes, IsAtEnd}
 use Rattle.wcnf.specs.Literal.{Literal}
 use Rattle.wcnf.specs.Formula.{Cnf, IsFormula}
 use Rattle.wcnf.specs.Text.{tokens_of, token_lines, IsNoFeed, IsFirstFeed}
-use Rattle.wcnf.proofs.FirstPieces.{lines-last}
+use Rattle.wcnf.proofs.Laws.{lines-last}
 use Rattle.lrat_check.specs.declared.verdicts.Verdict.{Verdict}
 use Rattle.lrat_check.specs.declared.verdicts.Verdict.TheVariants.{Yes}
 use Rattle.lrat_check.specs.Checks.{IsProofOver}

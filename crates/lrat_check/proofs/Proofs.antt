@@ -16,7 +16,7 @@ use Rattle.lrat_check.specs.declared.verdicts.Verdict.{Verdict}
 use Rattle.lrat_check.specs.declared.verdicts.Verdict.TheVariants.{Yes, No}
 use Rattle.lrat_check.specs.Verdict.{addition_fault, deleted, verdict_on, proof_verdict}
 use Rattle.lrat_read.specs.Form.{Parsed, Addition, Deletion, Malformed, line_of, leading, groups_of}
-use Rattle.lrat_read.proofs.Lines.{signed_hints, leading-signed_hints, groups_of-signed_hints, parsed_of, addition_line, deletion_line, line_read}
+use Rattle.lrat_read.proofs.Laws.{signed_hints, leading-signed_hints, groups_of-signed_hints, parsed_of, addition_line, deletion_line, line_read}
 use Rattle.lrat_check.proofs.Steps.{IsSane, addition_fault-None, deleted-Some, with_clause_sane, without_ids_sane, start_sane}
 
 -- acceptance, line by line

@@ -14,7 +14,7 @@ use Rattle.wcnf.specs.Text.{is_blank, begins_with_token, put_byte, tokens_of, to
 use Rattle.lrat_check.specs.Result.{Said, OptimumFound, Unsatisfiable, Satisfiable, Unknown, fall_to, cost_tokens, digit_of, bits_tokens, result_tokens, FallsTo, is_ignored, result_lines, Says, Report, same_bytes, status_of, cost_of, bits_on, bits_of, ended, with_bits, result_on, report_of}
 use Rattle.lrat_check.specs.declared.report.Status.{Status}
 use Rattle.lrat_check.specs.declared.report.Status.TheVariants.{Optimum, Unsat, Sat, Limit}
-use Rattle.lrat_read.proofs.Tokens.{number_means, number_from}
+use Rattle.lrat_read.proofs.Laws.{number_means, number_from}
 
 abbrev Line : Type 0
 Line = List (List ℕ)

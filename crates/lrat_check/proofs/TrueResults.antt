@@ -7,7 +7,7 @@ use Rattle.wcnf.specs.Clause.{Satisfies}
 use Rattle.wcnf.specs.Formula.{IsUnsatisfiable}
 use Rattle.wcnf.specs.Problem.{Problem, IsFeasible, cost_under, IsOptimal, IsInconsistent}
 use Rattle.wcnf.specs.Wcnf.{Reads}
-use Rattle.wcnf.proofs.Texts.{reads_one}
+use Rattle.wcnf.proofs.Laws.{reads_one}
 use Rattle.adder.specs.declared.cells.Profile.{Profile}
 use Rattle.bound.specs.Bound.{hard_cnf, bound_as, SaysCheaper}
 use Rattle.lrat_check.specs.Result.{Said, Report, Says, report_of}
@@ -41,7 +41,7 @@ says_once : (text : List ℕ) (r : Report) → report_of text ≡ Ok r → (said
 says_once text r e said says =
     let k = report_from_says text said says in
     let same : Ok r ≡ Ok k.0 = sym e ∙ k.1 in
-    ap (λ (x : Report). x.said) (Rattle.wcnf.proofs.Lines.same_Ok r k.0 same) ∙ k.2
+    ap (λ (x : Report). x.said) (Rattle.wcnf.proofs.Laws.same_Ok r k.0 same) ∙ k.2
 
 pub true_by : (text answer : List ℕ) (p : Problem) (r : Report) → Reads text p → report_of answer ≡ Ok r → IsTrueOf p r.said → IsTrueResult text answer
 true_by text answer p r reads e is q said reads_q says =

@@ -7,7 +7,7 @@ use Rattle.std.proofs.lemmas.Bool.{and_from, or_cases, or_parts, or_left, or_rig
 use Rattle.wcnf.specs.Literal.{Literal, negation, literal_eq, same_bool}
 use Rattle.wcnf.specs.Clause.{contains_literal, has_repeat}
 use Rattle.wcnf.specs.Refute.{IsUnit, IsFalseUnder, Clauses, Leads, Refutes}
-use Rattle.wcnf.proofs.Sound.{literal_eq-true}
+use Rattle.wcnf.proofs.Laws.{literal_eq-true}
 use Rattle.lrat_check.specs.Verdict.{Walk, Open, Refuted, Outcome, Dead, NotUnit, Conflict, Makes, open_literals, outcome_of, goes_on, walk}
 
 same_bool-refl : (a : Bool) → same_bool a a ≡ true

@@ -2,7 +2,7 @@
 use Rattle.std.proofs.Common.{◌≡◌, ℕ, List, sym, subst}
 use Rattle.std.specs.Prelude.{◌↔◌}
 use Rattle.wcnf.specs.Formula.{Cnf, IsFormula, IsUnsatisfiable}
-use Rattle.wcnf.proofs.Certificates.{certificate_sound}
+use Rattle.wcnf.proofs.Laws.{certificate_sound}
 use Rattle.lrat_check.specs.Checks.{IsProofOver}
 use Rattle.lrat_check.specs.declared.verdicts.Verdict.{Verdict}
 use Rattle.lrat_check.specs.declared.verdicts.Verdict.TheVariants.{Yes}

@@ -6,9 +6,8 @@ use Rattle.std.proofs.lemmas.Bool.{cases_Bool, eqb-true, ne_eqb}
 use Rattle.std.proofs.lemmas.List.{take-append-drop, drop-drop, append_assoc}
 use lib.Seq.{paste}
 use Rattle.wcnf.specs.Literal.{Literal}
-use Rattle.wcnf.proofs.Laid as laid
-use Rattle.wcnf.proofs.Laid.{Layout}
-use Rattle.wcnf.proofs.Rising as rising
+use Rattle.wcnf.proofs.Laws as laws
+use Rattle.wcnf.proofs.Laws.{Layout}
 use Rattle.lrat_live.specs.Listed.{Listed, ids_of, listed_at, without_id}
 use Rattle.lrat_live.specs.Chains.{place_of}
 use Rattle.lrat_live.specs.Table.{Cell, keys_of, literals_of, clauses_in, AllLive, IsLaid, IsAboveLast, RisesFrom}
@@ -19,45 +18,45 @@ abbrev cells : Layout Cell Literal (ℕ × List Literal)
 cells = record { start = λ c. c.start; length = λ c. c.length; live = λ c. c.live; listed = λ c l. (c.id, l) }
 
 pub laid_within : (from to : ℕ) (cs : List Cell) (i : ℕ) (d : Cell) → IsLaid from cs to → i < length cs → (get_or cs i d).start + (get_or cs i d).length ≤ to
-laid_within = laid.laid_within cells
+laid_within = laws.laid_within cells
 
 pub laid_push : (from to : ℕ) (cs : List Cell) (c : Cell) → IsLaid from cs to → c.start ≡ to → IsLaid from (cs ++ c ∷ []) (to + c.length)
-laid_push = laid.laid_push cells
+laid_push = laws.laid_push cells
 
 pub laid_set : (from to : ℕ) (cs : List Cell) (i : ℕ) (c d : Cell) → IsLaid from cs to → c.start ≡ (get_or cs i d).start → c.length ≡ (get_or cs i d).length → IsLaid from (set cs i c) to
-laid_set = laid.laid_set cells
+laid_set = laws.laid_set cells
 
 pub clauses_live : (ls : List Literal) (c : Cell) (cs : List Cell) → c.live ≡ true → clauses_in ls (c ∷ cs) ≡ (c.id, literals_of ls c) ∷ clauses_in ls cs
-clauses_live = laid.pieces_live cells
+clauses_live = laws.pieces_live cells
 
 pub clauses_dead : (ls : List Literal) (c : Cell) (cs : List Cell) → c.live ≡ false → clauses_in ls (c ∷ cs) ≡ clauses_in ls cs
-clauses_dead = laid.pieces_dead cells
+clauses_dead = laws.pieces_dead cells
 
 pub clauses-append : (ls : List Literal) (xs ys : List Cell) → clauses_in ls (xs ++ ys) ≡ clauses_in ls xs ++ clauses_in ls ys
-clauses-append = laid.pieces-append cells
+clauses-append = laws.pieces-append cells
 
 pub clauses_push : (ls more : List Literal) (cs : List Cell) (c : Cell) → IsLaid 0 cs (length ls) → c.start ≡ length ls → c.length ≡ length more → c.live ≡ true → clauses_in (ls ++ more) (cs ++ c ∷ []) ≡ clauses_in ls cs ++ (c.id, more) ∷ []
-clauses_push = laid.pieces_push cells
+clauses_push = laws.pieces_push cells
 
 -- entries and literals are moved together, as far as i
 abbrev pub IsCompacting : List Literal → List Cell → ℕ → ℕ → ℕ → Listed → Type 0
-IsCompacting = laid.IsCompacting cells
+IsCompacting = laws.IsCompacting cells
 
 pub compacting_all : (ls : List Literal) (cs : List Cell) (kept end i : ℕ) (value : Listed) → IsCompacting ls cs kept end i value → length cs ≤ i → (end ≤ length ls) × IsLaid 0 (take kept cs) (length (take end ls)) × (clauses_in (take end ls) (take kept cs) ≡ value)
-compacting_all = laid.compacting_all cells
+compacting_all = laws.compacting_all cells
 
 module _ (ls : List Literal) (cs : List Cell) (kept end i : ℕ) (value : Listed) (d : Cell) (s : IsCompacting ls cs kept end i value) (h : i < length cs) where
   abbrev c : Cell
   c = get_or cs i d
 
   pub moved_within : (end ≤ c.start) × (c.start + c.length ≤ length ls)
-  moved_within = laid.moved_within cells ls cs kept end i value d s h
+  moved_within = laws.moved_within cells ls cs kept end i value d s h
 
   pub compacting_dead : c.live ≡ false → IsCompacting ls cs kept end (i + 1) value
-  compacting_dead = laid.compacting_dead cells ls cs kept end i value d s h
+  compacting_dead = laws.compacting_dead cells ls cs kept end i value d s h
 
   pub compacting_live : (z : Cell) → c.live ≡ true → z.id ≡ c.id → z.start ≡ end → z.length ≡ c.length → z.live ≡ true → IsCompacting (paste ls end (drop c.start ls) c.length) (set cs kept z) (kept + 1) (end + c.length) (i + 1) value
-  compacting_live z live id start long lives = laid.compacting_live cells ls cs kept end i value d s h z live start long lives (λ l. ap (λ n. (n, l)) id)
+  compacting_live z live id start long lives = laws.compacting_live cells ls cs kept end i value d s h z live start long lives (λ l. ap (λ n. (n, l)) id)
 
 -- what is listed under an id
 listed_other : (i : ℕ) (e : ℕ × List Literal) (es : Listed) → (e.0 == i) ≡ false → listed_at (e ∷ es) i ≡ listed_at es i
@@ -97,11 +96,11 @@ listed_nowhere ls (c ∷ cs) i h =
 
 -- keys that rise
 rises_least : (least : ℕ) (ks : List ℕ) (p : ℕ) → RisesFrom least ks → p < length ks → least ≤ slice_index ks p
-rises_least = rising.rises_least
+rises_least = laws.rises_least
 
 -- each key is below the next
 pub rising_from : (least : ℕ) (ks : List ℕ) → RisesFrom least ks → IsStrictlyIncreasing ks
-rising_from = rising.rising_from
+rising_from = laws.rising_from
 
 pub rises_push : (least : ℕ) (ks : List ℕ) (k : ℕ) → RisesFrom least ks → least ≤ k → IsAboveLast k ks → RisesFrom least (ks ++ k ∷ [])
 rises_push least [] k r h l = (h, tt)
@@ -116,7 +115,7 @@ rises_clauses ls least [] r = tt
 rises_clauses ls least (c ∷ cs) r =
     elim (cases_Bool c.live) [
       | inl h ↦ subst (λ es. RisesFrom least (ids_of es)) (sym (clauses_live ls c cs h)) (r.0, rises_clauses ls (c.id + 1) cs r.1)
-      | inr h ↦ subst (λ es. RisesFrom least (ids_of es)) (sym (clauses_dead ls c cs h)) (rising.rises_weaker least (c.id + 1) (ids_of (clauses_in ls cs)) (omega (arith, r.0)) (rises_clauses ls (c.id + 1) cs r.1))
+      | inr h ↦ subst (λ es. RisesFrom least (ids_of es)) (sym (clauses_dead ls c cs h)) (laws.rises_weaker least (c.id + 1) (ids_of (clauses_in ls cs)) (omega (arith, r.0)) (rises_clauses ls (c.id + 1) cs r.1))
     ]
 
 pub live_ids : (ls : List Literal) (cs : List Cell) → AllLive cs → ids_of (clauses_in ls cs) ≡ keys_of cs

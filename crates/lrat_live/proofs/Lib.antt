@@ -1,9 +1,10 @@
-pub mod Listed
-pub mod GivenLaws
-pub mod Chains
-pub mod Table
-pub mod Clauses
-pub mod Tables
-pub mod Lookup
-pub mod Moves
-pub mod CountLaws
+mod Listed
+mod GivenLaws
+mod Chains
+mod Table
+mod Clauses
+mod Tables
+mod Lookup
+mod Moves
+mod CountLaws
+pub mod Laws

@@ -1,15 +1,16 @@
-pub mod Accepting
-pub mod Flat
-pub mod GivenNumbers
-pub mod Growing
-pub mod Ids
-pub mod LineTexts
-pub mod Literals
-pub mod MoreGiven
-pub mod Names
-pub mod NewLines
-pub mod Numbering
-pub mod RebasedLines
-pub mod RebasedNew
-pub mod Rebasing
-pub mod Text
+mod Accepting
+mod Flat
+mod GivenNumbers
+mod Growing
+mod Ids
+mod LineTexts
+mod Literals
+mod MoreGiven
+mod Names
+mod NewLines
+mod Numbering
+mod RebasedLines
+mod RebasedNew
+mod Rebasing
+mod Text
+pub mod Laws

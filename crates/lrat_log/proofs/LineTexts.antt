@@ -10,8 +10,8 @@ use Rattle.wcnf.specs.Literal.{Literal}
 use Rattle.wcnf.specs.Text.{literal_text}
 use Rattle.wcnf.specs.Writing.{PassesOn, AppendsPart}
 use Rattle.wcnf.specs.Lrat.{ProofLine, Addition, Deletion, group_tokens}
-use Rattle.wcnf.proofs.Passing.{spaced-last, first_fault, passed-more, passed_fault, passed_part-more, passed_whole, passed_part}
-use Rattle.wcnf.proofs.Items.{flat_map-append, items_fault, items_more, all_taken}
+use Rattle.wcnf.proofs.Laws.{spaced-last, first_fault, passed-more, passed_fault, passed_part-more, passed_whole, passed_part}
+use Rattle.wcnf.proofs.Laws.{flat_map-append, items_fault, items_more, all_taken}
 use Rattle.lrat_log.specs.declared.lines.Hint.{Hint}
 use Rattle.lrat_log.specs.declared.lines.Hint.TheVariants.{Plain, Group}
 use Rattle.lrat_log.specs.Log.{LogLine, IsPlain, is_delete, name_of, id_of, leading_ids, group_ids, numbered_on, numbered_lines, text_of, line_at}

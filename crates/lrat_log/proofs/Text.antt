@@ -13,8 +13,8 @@ use Rattle.wcnf.specs.Literal.{Literal}
 use Rattle.wcnf.specs.Text.{is_blank, begins_with_token, put_byte, tokens_of, token_lines, literal_text, is_digit}
 use Rattle.wcnf.specs.Writing.{spaced}
 use Rattle.wcnf.specs.Lrat.{ProofLine, Addition, Deletion, CandidateHints, group_tokens, line_tokens, has_tokens, IsId, HasNumbers, IsTextOf}
-use Rattle.wcnf.proofs.Hints.{GroupHasIds}
-use Rattle.wcnf.proofs.Numbers.{digit_bounds, is_number-decimal}
+use Rattle.wcnf.proofs.Laws.{GroupHasIds}
+use Rattle.wcnf.proofs.Laws.{digit_bounds, is_number-decimal}
 use Rattle.lrat_log.specs.declared.lines.Hint.{Hint}
 use Rattle.lrat_log.specs.declared.lines.Hint.TheVariants.{Plain, Group}
 use Rattle.lrat_log.specs.declared.lines.Name.{Name}

@@ -1,5 +1,6 @@
-pub mod Tokens
-pub mod Lines
-pub mod Scan
-pub mod Places
-pub mod Prefixes
+mod Tokens
+mod Lines
+mod Scan
+mod Places
+mod Prefixes
+pub mod Laws

@@ -10,7 +10,7 @@ use Rattle.std.proofs.lemmas.List.Elements.{All-from_recursion, recursion_from_A
 use Rattle.wcnf.specs.Literal.{Literal}
 use Rattle.wcnf.specs.Text.{literal_text}
 use Rattle.wcnf.specs.Lrat.{CandidateHints, ProofLine, Addition as AddsLine, Deletion as DeletesLine, group_tokens, line_tokens, IsId, HasNumbers}
-use Rattle.wcnf.proofs.Hints.{GroupHasIds}
+use Rattle.wcnf.proofs.Laws.{GroupHasIds}
 use Rattle.lrat_read.specs.Form.{signed_of, block_of, Parsed, Addition, Deletion, Malformed, line_of, leading, groups_of}
 use lib.Chars.{codes}
 use Rattle.lrat_read.specs.Blocks.{literal_from}

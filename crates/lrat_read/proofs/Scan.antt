@@ -8,7 +8,7 @@ use Rattle.std.proofs.lemmas.List.{take_more, get_or-drop, drop-drop, take-appen
 use Rattle.std.proofs.lemmas.Str.Parse.{digits_value_short}
 use Rattle.std.proofs.lemmas.Fmt.{length-decimal-le}
 use Rattle.wcnf.specs.Text.{is_blank, begins_with_token, put_byte, tokens_of, is_digit, value_on, number_of}
-use Rattle.wcnf.proofs.Numbers.{number_of-is, is_number, decimal-number_of, digit_bounds, digit_from, digit_is_no_blank}
+use Rattle.wcnf.proofs.Laws.{number_of-is, is_number, decimal-number_of, digit_bounds, digit_from, digit_is_no_blank}
 use Rattle.lrat_read.specs.Form.{signed_of}
 use Rattle.lrat_read.proofs.Tokens.{own, tag, signed_dash, signed_plain}
 

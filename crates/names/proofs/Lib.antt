@@ -1,5 +1,6 @@
-pub mod Logs
-pub mod Moving
-pub mod Named
-pub mod Naming
-pub mod Refusals
+mod Logs
+mod Moving
+mod Named
+mod Naming
+mod Refusals
+pub mod Laws

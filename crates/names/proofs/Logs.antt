@@ -9,8 +9,8 @@ use Rattle.wcnf.specs.Lrat.{with_clause, without_ids}
 use Rattle.lrat_log.specs.Log.{LogLine, Given, start_over, is_delete, id_of, name_of, leading_ids}
 use Rattle.lrat_log.specs.Log.{group_ids, numbered_line, numbered_on, numbered_lines}
 use Rattle.names.specs.Work.{additions, IsRupLine}
-use Rattle.lrat_log.proofs.Growing.{live_after-append, chain_join, live_more, base_front}
-use Rattle.lrat_log.proofs.Growing.{refutes_covered, ids_covered}
+use Rattle.lrat_log.proofs.Laws.{live_after-append, chain_join, live_more, base_front}
+use Rattle.lrat_log.proofs.Laws.{refutes_covered, ids_covered}
 use Rattle.lrat_log.specs.Steps.{live_after, AreLogSteps, IsBaseOf, log_live}
 
 sums : (b : Bool) (before n : ℕ)

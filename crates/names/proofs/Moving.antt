@@ -11,7 +11,7 @@ use Rattle.lrat_log.specs.declared.lines.Name.{Name}
 use Rattle.lrat_log.specs.Log.{LogLine, Given, id_of, is_learned}
 use Rattle.lrat_log.specs.Steps.{IsBaseOf, log_live, StaysLogOver, AddsNoEmptyClause, IsOwnGroup}
 use Rattle.lrat_log.specs.Steps.{learned_count, adds_empty_clause}
-use Rattle.lrat_log.proofs.Growing.{one_apart, open_push, stops_push}
+use Rattle.lrat_log.proofs.Laws.{one_apart, open_push, stops_push}
 use Rattle.names.specs.Work.{additions, name_at, added_line, delete_line, IsWork, IsRupLine}
 use Rattle.names.proofs.Logs.{rup_line_more, delete_line_more}
 use Rattle.names.proofs.Naming.{named_added, named_deleted, slot_pushed, slot_deleted}

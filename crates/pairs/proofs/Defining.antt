@@ -11,7 +11,7 @@ use Rattle.lrat_log.specs.Log.{LogLine, is_delete}
 use Rattle.pairs.specs.declared.pairs.Fresh.{Fresh}
 use Rattle.names.specs.Work.{NamesState, additions, name_at, added_line, delete_line}
 use Rattle.pairs.specs.Pairs.{Ground, stage_of, positive, whole_clause, side_clause, whole_line, side_line, replaced, IsDefined, Stage, IsStage, IsOpenLog, Keeps, KeepsLog}
-use Rattle.names.proofs.Naming.{additions-push, additions_few, name-push, slot_before, slot_last}
+use Rattle.names.proofs.Laws.{additions-push, additions_few, name-push, slot_before, slot_last}
 use Rattle.pairs.proofs.Staging.{added_stage, deleted_stage, with_whole, with_side, with_replaced, replaced_line_of}
 
 -- right work has an open log

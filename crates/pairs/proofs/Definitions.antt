@@ -7,7 +7,7 @@ use Rattle.wcnf.specs.Clause.{contains_literal, without_literal, has_repeat, has
 use Rattle.wcnf.specs.Refute.{Clauses}
 use Rattle.wcnf.specs.Lrat.{CandidateHints, Live, IsAddable, IsRat}
 use Rattle.pairs.specs.Pairs.{positive, whole_clause, side_clause}
-use Rattle.wcnf.proofs.Marks.{literal_eq-refl}
+use Rattle.wcnf.proofs.Laws.{literal_eq-refl}
 use Rattle.pairs.proofs.Literals.{any_member, negation_twice, contains-filter}
 
 -- no live clause has the variable

@@ -1,7 +1,8 @@
-pub mod Defining
-pub mod Definitions
-pub mod Literals
-pub mod LiveClauses
-pub mod Pairing
-pub mod Replacing
-pub mod Staging
+mod Defining
+mod Definitions
+mod Literals
+mod LiveClauses
+mod Pairing
+mod Replacing
+mod Staging
+pub mod Laws

@@ -6,9 +6,9 @@ use Rattle.std.proofs.lemmas.Bool.{or_cases, or_parts, or_left, or_right, or_fro
 use Rattle.wcnf.specs.Literal.{Literal, Assignment, negation, literal_eq, literal_value, same_bool}
 use Rattle.wcnf.specs.Clause.{clause_value, contains_literal, without_literal, has_repeat, has_opposites, greatest_variable}
 use Rattle.wcnf.specs.Refute.{IsUnit}
-use Rattle.wcnf.proofs.Marks.{literal_eq-refl}
-use Rattle.wcnf.proofs.Sound.{literal_eq-true}
-pub use Rattle.lrat_log.proofs.Literals.{literal_eq-negation, contains-negations}
+use Rattle.wcnf.proofs.Laws.{literal_eq-refl}
+use Rattle.wcnf.proofs.Laws.{literal_eq-true}
+pub use Rattle.lrat_log.proofs.Laws.{literal_eq-negation, contains-negations}
 
 pub not_not : (a : Bool) → not (not a) ≡ a
 not_not true = refl

@@ -16,8 +16,8 @@ use Rattle.lrat_log.specs.Log.{LogLine, Given, id_of, given_at, start_over, numb
 use Rattle.lrat_log.specs.Steps.{live_after, log_live, IsBaseOf, StaysLogOver, AddsNoEmptyClause, IsOwnGroup}
 use Rattle.names.specs.Work.{additions, name_at, IsNamed}
 use Rattle.pairs.specs.Pairs.{positive, whole_clause, side_clause, whole_line, side_line}
-use Rattle.lrat_log.proofs.Growing.{live_more, base_front, stops_push}
-use Rattle.names.proofs.Logs.{log_steps_more, last_after}
+use Rattle.lrat_log.proofs.Laws.{live_more, base_front, stops_push}
+use Rattle.names.proofs.Laws.{log_steps_more, last_after}
 use Rattle.pairs.proofs.Definitions.{IsFreshIn, IsPairFor, first_addable, side_addable, first_rat, side_rat}
 
 -- what is live where more is given is live without, or is something of P

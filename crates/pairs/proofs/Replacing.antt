@@ -6,7 +6,7 @@ use Rattle.wcnf.specs.Literal.{Literal, Assignment, negation, literal_value, lit
 use Rattle.wcnf.specs.Clause.{Satisfies, clause_value, contains_literal, without_literal, has_repeat, has_opposites, greatest_variable}
 use Rattle.wcnf.specs.Formula.{IsFormulaClause}
 use Rattle.wcnf.specs.Refute.{Clauses, Refutes}
-use Rattle.wcnf.proofs.Sound.{literal_eq-true}
+use Rattle.wcnf.proofs.Laws.{literal_eq-true}
 use Rattle.lrat_log.specs.declared.lines.Name.{Name}
 use Rattle.lrat_log.specs.declared.lines.Kind.{Kind}
 use Rattle.lrat_log.specs.declared.lines.Hint.TheVariants.{Plain}
@@ -14,7 +14,7 @@ use Rattle.lrat_log.specs.Log.{LogLine, Given, is_delete, id_of}
 use Rattle.lrat_log.specs.Steps.{IsBaseOf, log_live}
 use Rattle.pairs.specs.Pairs.{positive, whole_clause, side_clause, replaced}
 use Rattle.names.specs.Work.{IsRupLine}
-use Rattle.wcnf.proofs.Marks.{literal_eq-refl}
+use Rattle.wcnf.proofs.Laws.{literal_eq-refl}
 use Rattle.pairs.proofs.Literals.{negation_twice, contains-negations, each_literal, without-contains, not-without, not-opposite, Covers, covered_unit, literal_eq-sides, apart-filter, has_repeat-filter, has_opposites-filter, has_true, value-filter, greatest-filter}
 
 -- a clause with two literals and without z

@@ -9,7 +9,7 @@ use Rattle.wcnf.specs.Literal.{Literal, Assignment, negation, literal_eq}
 use Rattle.wcnf.specs.Clause.{Satisfies, contains_literal, without_literal, has_opposites}
 use Rattle.wcnf.specs.Formula.{IsFormulaClause}
 use Rattle.wcnf.specs.Lrat.{IsId}
-use Rattle.wcnf.proofs.Sound.{literal_eq-true}
+use Rattle.wcnf.proofs.Laws.{literal_eq-true}
 use Rattle.clauses.specs.Slots.{Slots, clause_at, live_clauses}
 use Rattle.lrat_log.specs.declared.lines.Name.{Name}
 use Rattle.lrat_log.specs.declared.lines.Name.TheVariants.{Added}
@@ -21,10 +21,10 @@ use Rattle.pairs.specs.declared.pairs.Fresh.{Fresh}
 use Rattle.names.specs.Work.{additions, name_at, added_line, delete_line}
 use Rattle.pairs.specs.Pairs.{Ground, positive, whole_clause, side_clause, whole_line, side_line, replaced, ShareClause, IsOnOther, HasPairOf, IsDefined, Stage, IsStage}
 use Rattle.pairs.proofs.Definitions.{IsPairFor, first_addable, side_addable, side_lacks, other_variable}
-use Rattle.names.proofs.Moving.{learned-push, stays_added, work_deleted, open_added, open_deleted}
-use Rattle.names.proofs.Naming.{named_added, additions-push, name-push, name-last, slot_pushed, slot_before, slot_last, slot_within, slot_deleted, slot_kept}
+use Rattle.names.proofs.Laws.{learned-push, stays_added, work_deleted, open_added, open_deleted}
+use Rattle.names.proofs.Laws.{named_added, additions-push, name-push, name-last, slot_pushed, slot_before, slot_last, slot_within, slot_deleted, slot_kept}
 use Rattle.pairs.proofs.Replacing.{HasPair, replaced_line, replaced_back, replaced-no_repeat, replaced-no_opposites, pair_variables}
-use Rattle.wcnf.proofs.Marks.{literal_eq-refl}
+use Rattle.wcnf.proofs.Laws.{literal_eq-refl}
 use Rattle.pairs.proofs.Literals.{greatest-filter, member-small}
 use Rattle.pairs.proofs.LiveClauses.{all_live, live_all}
 use Rattle.pairs.proofs.Pairing.{lacks_both, stays_whole, stays_side}

@@ -13,7 +13,7 @@ use Rattle.watches.specs.declared.table.Rest.{Rest}
 use Rattle.watches.specs.declared.table.Attachment.TheVariants.{Detached, Waiting, Satisfied, Watching}
 use Rattle.watches.specs.Pool.{row_at, with_row}
 use Rattle.watches.specs.Table.{is_kept, IsWatching, attachment_in, grown_table}
-use Rattle.watches.proofs.Attachments.{attachment_set_other, attachment_set_same}
+use Rattle.watches.proofs.Laws.{attachment_set_other, attachment_set_same}
 use Rattle.propagate.specs.Trail.{Assigned}
 use Rattle.propagate.specs.Watches.{EngineState, IsEngine, IsVariable, is_attached, watches_at, count_in}
 use Rattle.propagate.specs.Fits.{Fits, FitsAttachment, IsWithin, HasBlocker}

@@ -5,7 +5,7 @@ use Rattle.std.specs.List.{AllByRecursion}
 use Rattle.std.proofs.lemmas.Bool.{or_cases, or_left, or_right, false≢true}
 use Rattle.wcnf.specs.Literal.{Literal, literal_eq, negation}
 use Rattle.wcnf.specs.Clause.{contains_literal}
-use Rattle.wcnf.proofs.Sound.{literal_eq-true}
+use Rattle.wcnf.proofs.Laws.{literal_eq-true}
 use Rattle.clauses.specs.Slots.{Slots, clause_at}
 use Rattle.watches.specs.declared.table.Rest.{Rest}
 use Rattle.watches.specs.declared.table.Rest.TheVariants.{Nothing, One, Many}

@@ -4,7 +4,7 @@ use Rattle.std.specs.Prelude.{All, IfSome}
 use Rattle.std.proofs.lemmas.List.Elements.{All-weaker}
 use Rattle.std.proofs.lemmas.Option.{IfSome_then}
 use Rattle.clauses.specs.Slots.{Slots, Renaming, renamed, IsRenaming}
-use Rattle.clauses.proofs.Moves.{went}
+use Rattle.clauses.proofs.Laws.{went}
 use Rattle.propagate.specs.Watches.{EngineState, is_attached}
 use Rattle.propagate.specs.Fits.{Fits}
 

@@ -6,7 +6,7 @@ use Rattle.std.proofs.lemmas.List.{take_more, take_all, length-map, get_or_appen
 use Rattle.wcnf.specs.Literal.{Literal, negation, literal_eq, index_of}
 use Rattle.wcnf.specs.Clause.{contains_literal}
 use Rattle.wcnf.specs.Refute.{IsUnit, IsFalseUnder}
-use Rattle.wcnf.proofs.Sound.{literal_eq-true}
+use Rattle.wcnf.proofs.Laws.{literal_eq-true}
 use Rattle.clauses.specs.Slots.{Slots, clause_at}
 use Rattle.watches.specs.declared.pool.Entry.{Entry}
 use Rattle.watches.specs.declared.table.Attachment.{Attachment}

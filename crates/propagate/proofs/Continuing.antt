@@ -7,7 +7,7 @@ use Rattle.watches.specs.declared.pool.Entry.{Entry}
 use Rattle.watches.specs.declared.table.Attachment.{Attachment}
 use Rattle.watches.specs.declared.table.Attachment.TheVariants.{Waiting}
 use Rattle.watches.specs.Table.{is_kept, attachment_in}
-use Rattle.watches.proofs.Attachments.{attachment_set_other, attachment_set_same}
+use Rattle.watches.proofs.Laws.{attachment_set_other, attachment_set_same}
 use Rattle.propagate.specs.Trail.{Assigned, is_decision}
 use Rattle.propagate.specs.Watches.{EngineState, is_attached}
 use Rattle.propagate.specs.Steps.{Continues, with_trail}

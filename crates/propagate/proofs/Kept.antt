@@ -6,7 +6,7 @@ use Rattle.std.proofs.lemmas.List.{map-append, length-map, get_or_append_left, t
 use Rattle.std.proofs.lemmas.List.Folds.{list_any_at}
 use Rattle.wcnf.specs.Literal.{Literal, literal_eq}
 use Rattle.wcnf.specs.Clause.{contains_literal}
-use Rattle.wcnf.proofs.Sound.{literal_eq-true}
+use Rattle.wcnf.proofs.Laws.{literal_eq-true}
 use Rattle.propagate.specs.Trail.{Assigned, literals_of, depth_of, level_after, level_from, level_in, kept_from, kept_to}
 use Rattle.propagate.proofs.Literals.{literal_eq-self, contains-append}
 use Rattle.propagate.proofs.Levels.{kept_all, depth_step}

@@ -1,27 +1,28 @@
-pub mod Sparing
-pub mod Facts
-pub mod Literals
-pub mod Trails
-pub mod Tables
-pub mod Levels
-pub mod Pools
-pub mod Searches
-pub mod FitsLaws
-pub mod Kept
-pub mod Reasons
-pub mod Fitting
-pub mod VarTables
-pub mod Beside
-pub mod Attachments
-pub mod Attaching
-pub mod Looking
-pub mod Stepping
-pub mod Continuing
-pub mod Completing
-pub mod Watching
-pub mod Waiting
-pub mod Following
-pub mod Naming
-pub mod Renamed
-pub mod Compacting
-pub mod Added
+mod Sparing
+mod Facts
+mod Literals
+mod Trails
+mod Tables
+mod Levels
+mod Pools
+mod Searches
+mod FitsLaws
+mod Kept
+mod Reasons
+mod Fitting
+mod VarTables
+mod Beside
+mod Attachments
+mod Attaching
+mod Looking
+mod Stepping
+mod Continuing
+mod Completing
+mod Watching
+mod Waiting
+mod Following
+mod Naming
+mod Renamed
+mod Compacting
+mod Added
+pub mod Laws

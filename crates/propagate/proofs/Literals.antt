@@ -6,8 +6,8 @@ use Rattle.std.proofs.Math.Bool.{not-not}
 use Rattle.std.proofs.lemmas.List.Folds.{list_any-append}
 use Rattle.wcnf.specs.Literal.{Literal, negation, literal_eq, same_bool, index_of}
 use Rattle.wcnf.specs.Clause.{contains_literal}
-pub use Rattle.wcnf.proofs.Marks.{contains-push, literal_eq-refl as literal_eq-self}
-use Rattle.wcnf.proofs.Marks.{index_same, index_below}
+pub use Rattle.wcnf.proofs.Laws.{contains-push, literal_eq-refl as literal_eq-self}
+use Rattle.wcnf.proofs.Laws.{index_same, index_below}
 use Rattle.propagate.specs.Tables.{mentions}
 use Rattle.propagate.specs.Watches.{IsVariable}
 

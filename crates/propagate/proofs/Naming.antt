@@ -6,7 +6,7 @@ use Rattle.std.proofs.lemmas.List.{length-map}
 use Rattle.std.proofs.Math.ListN.{get_or-map}
 use Rattle.wcnf.specs.Literal.{Literal}
 use Rattle.clauses.specs.Slots.{Renaming, renamed}
-use Rattle.watches.proofs.Moving.{named_listed}
+use Rattle.watches.proofs.Laws.{named_listed}
 use Rattle.propagate.specs.Trail.{Assigned, literals_of, depth_of, value_in, level_in, level_from, level_after, kept_from, kept_to, is_decision}
 use Rattle.propagate.specs.Tables.{assigned_by, reason_at, IsTrail}
 use Rattle.propagate.specs.Fits.{renamed_reason, renamed_trail}

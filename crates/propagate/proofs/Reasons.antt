@@ -5,8 +5,8 @@ use Rattle.std.proofs.lemmas.List.{append-nil}
 use Rattle.wcnf.specs.Literal.{Literal, negation, literal_eq}
 use Rattle.wcnf.specs.Clause.{contains_literal}
 use Rattle.wcnf.specs.Refute.{Clauses}
-use Rattle.wcnf.proofs.Sound.{literal_eq-true}
-use Rattle.wcnf.proofs.Hints.{SameMembers, unit_same}
+use Rattle.wcnf.proofs.Laws.{literal_eq-true}
+use Rattle.wcnf.proofs.Laws.{SameMembers, unit_same}
 use Rattle.propagate.specs.Trail.{Assigned, literals_of, HasReasons, IsJustified}
 use Rattle.propagate.proofs.Literals.{literal_eq-negation, negation_twice, contains-append}
 

@@ -10,14 +10,14 @@ use Rattle.std.proofs.Math.ListN.{get_or-map}
 use Rattle.wcnf.specs.Literal.{Literal}
 use Rattle.wcnf.specs.Refute.{Clauses}
 use Rattle.clauses.specs.Slots.{Slots, clause_at, Renaming, renamed, IsRenaming}
-use Rattle.clauses.proofs.Moves.{same_origin, same_clause}
+use Rattle.clauses.proofs.Laws.{same_origin, same_clause}
 use Rattle.watches.specs.declared.pool.Entry.{Entry}
 use Rattle.watches.specs.declared.table.Attachment.{Attachment}
 use Rattle.watches.specs.declared.table.Attachment.TheVariants.{Detached, Waiting, Satisfied, Watching}
 use Rattle.watches.specs.Pool.{row_at}
 use Rattle.watches.specs.Table.{IsWatching, is_kept, attachment_in}
 use Rattle.watches.specs.Renames.{IsMoved, named, named_entry, named_rows}
-use Rattle.watches.proofs.Moving.{moved_to, moved_from, named_listed}
+use Rattle.watches.proofs.Laws.{moved_to, moved_from, named_listed}
 use Rattle.propagate.specs.Trail.{Assigned, TrailState, HasReasons, IsJustified}
 use Rattle.propagate.specs.Watches.{EngineState, engine_state, IsEngine, is_attached, watches_at, count_in, one_at}
 use Rattle.propagate.specs.Fits.{FitsAttachment, FitsMoved, MovesAttached, HasBlocker, IsWatch}

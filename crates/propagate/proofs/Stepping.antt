@@ -8,7 +8,7 @@ use Rattle.std.proofs.lemmas.List.Sums.{sum_by-append}
 use Rattle.wcnf.specs.Literal.{Literal, negation, index_of, literal_eq}
 use Rattle.wcnf.specs.Clause.{contains_literal}
 use Rattle.wcnf.specs.Refute.{IsUnit}
-use Rattle.wcnf.proofs.Marks.{index_same}
+use Rattle.wcnf.proofs.Laws.{index_same}
 use Rattle.clauses.specs.Slots.{Slots, clause_at}
 use Rattle.watches.specs.declared.pool.Entry.{Entry}
 use Rattle.watches.specs.declared.table.Attachment.{Attachment}
@@ -17,7 +17,7 @@ use Rattle.watches.specs.declared.table.Rest.{Rest}
 use Rattle.watches.specs.declared.table.Rest.TheVariants.{Nothing, One, Many}
 use Rattle.watches.specs.Pool.{row_at, with_row, closed_row}
 use Rattle.watches.specs.Table.{is_kept, attachment_in, rest_in, IsWatching, rest_after, IsWatchedBy}
-use Rattle.watches.proofs.Attachments.{attachment_set_other, attachment_set_same}
+use Rattle.watches.proofs.Laws.{attachment_set_other, attachment_set_same}
 use Rattle.propagate.specs.Trail.{Assigned, literals_of, kept_to}
 use Rattle.propagate.specs.Watches.{EngineState, IsEngine, IsVariable, is_attached, watches_at, one_at, count_in}
 use Rattle.propagate.specs.Fits.{Fits, FitsAttachment, IsRest, IsWatch, HasBlocker}

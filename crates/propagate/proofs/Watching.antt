@@ -12,7 +12,7 @@ use Rattle.watches.specs.declared.table.Rest.{Rest}
 use Rattle.watches.specs.declared.table.Attachment.TheVariants.{Waiting, Satisfied, Watching}
 use Rattle.watches.specs.Pool.{row_at, with_row}
 use Rattle.watches.specs.Table.{is_kept, attachment_in}
-use Rattle.watches.proofs.Attachments.{attachment_set_other, attachment_set_same}
+use Rattle.watches.proofs.Laws.{attachment_set_other, attachment_set_same}
 use Rattle.propagate.specs.Trail.{literals_of, depth_of, level_in, value_in, kept_to}
 use Rattle.propagate.specs.Watches.{EngineState, IsEngine, is_attached, watches_at, one_at, count_in}
 use Rattle.propagate.specs.Fits.{Fits, FitsAttachment, IsRest, IsWatch, IsWithin, HasBlocker, HasTrue}

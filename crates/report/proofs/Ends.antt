@@ -14,13 +14,13 @@ use Rattle.adder.specs.declared.cells.Profile.{Profile}
 use Rattle.bound.specs.Bound.{hard_cnf, bound_as}
 use Rattle.cdcl_order.specs.Budgets.{BudgetState}
 use Rattle.lrat_log.specs.Log.{LogLine, HasSmallIds, numbered_lines, text_of}
-use Rattle.lrat_log.proofs.Ids.{accepted_ids}
+use Rattle.lrat_log.proofs.Laws.{accepted_ids}
 use Rattle.lrat_check.specs.Result.{Said, OptimumFound as SaysOptimum, Unsatisfiable as SaysUnsatisfiable, Satisfiable as SaysSatisfiable, Unknown as SaysUnknown, FallsTo, Says}
 use Rattle.lrat_check.specs.Checks.{IsProofOver, ChecksAs}
 use Rattle.improve.specs.declared.found.Found.{Found}
 use Rattle.improve.specs.declared.found.Found.TheVariants.{Optimum, Unsat, Best, Nothing}
 use Rattle.improve.specs.Improving.{AreFalling, IsCostOfSome, IsSolution, IsAcceptedOver, IsClauseCount, IsBoundWork}
-use Rattle.improve.proofs.BitLaws.{extends_own}
+use Rattle.improve.proofs.Laws.{extends_own}
 use Rattle.report.specs.declared.status.Status.{Status}
 use Rattle.report.specs.declared.fault.RunFault.{RunFault}
 use Rattle.report.specs.declared.fault.RunFault.TheVariants.{Read, Memory, Output, ProofOutput}

@@ -2,7 +2,7 @@
 use Rattle.std.proofs.Common.{ℕ, List, [], ◌++◌, Option, refl, sym, ◌∙◌, ap, subst, append_assoc, append-nil}
 use Rattle.std.specs.Io.KnownBytes.{Appends}
 use Rattle.wcnf.specs.Writing.{PassesOn, AppendsPart}
-use Rattle.wcnf.proofs.Passing.{first_fault, passed-more, passed_fault, passed_part, passed_whole}
+use Rattle.wcnf.proofs.Laws.{first_fault, passed-more, passed_fault, passed_part, passed_whole}
 
 module _ (a b : Option (List ℕ)) (x d e : List ℕ) where
   pub words_fault : AppendsPart a b ([] ++ x) → AppendsPart a b (x ++ (d ++ e))

@@ -8,7 +8,7 @@ use Rattle.std.proofs.lemmas.List.Elements.{recursion_from_All}
 use Rattle.std.proofs.lemmas.List.Folds.{flat_map-map}
 use lib.Chars.{codes}
 use Rattle.wcnf.specs.Writing.{spaced}
-use Rattle.lrat_log.proofs.Text.{IsWord, token_lines-spaced, decimal_word}
+use Rattle.lrat_log.proofs.Laws.{IsWord, token_lines-spaced, decimal_word}
 use Rattle.lrat_check.specs.Result.{Said, OptimumFound, Unsatisfiable, Satisfiable, Unknown, FallsTo, Says, fall_to, cost_tokens, digit_of, bits_tokens, is_ignored, result_lines}
 use Rattle.improve.specs.Improving.{AreFalling}
 use Rattle.report.specs.Telling.{cost_lines}

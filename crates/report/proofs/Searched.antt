@@ -13,8 +13,8 @@ use Rattle.improve.specs.declared.found.Found.{Found}
 use Rattle.improve.specs.declared.found.ImproveFault.{ImproveFault}
 use Rattle.improve.specs.declared.found.ImproveFault.TheVariants.{Memory as SearchMemory, Progress}
 use Rattle.improve.specs.Improving.{IsCostOfSome, IsRightFound, Improves, Telling}
-use Rattle.improve.proofs.Lowering.{cost_small}
-use Rattle.improve.proofs.Told.{told_fall, told_each}
+use Rattle.improve.proofs.Laws.{cost_small}
+use Rattle.improve.proofs.Laws.{told_fall, told_each}
 use Rattle.report.specs.declared.fault.RunFault.TheVariants.{Memory, Output}
 use Rattle.report.specs.Telling.{Tells, cost_lines, fault_of_telling}
 use Rattle.report.specs.Running.{Searches, outcome_of}

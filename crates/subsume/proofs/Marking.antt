@@ -7,8 +7,8 @@ use Rattle.std.proofs.lemmas.List.Folds.{list_any-append}
 use Rattle.std.proofs.lemmas.List.Elements.{All-head, All-tail, filter-append}
 use Rattle.wcnf.specs.Literal.{Literal, literal_eq, same_bool, index_of, negation}
 use Rattle.wcnf.specs.Clause.{contains_literal, without_literal, is_subset}
-use Rattle.wcnf.proofs.Marks.{literal_eq-refl}
-use Rattle.wcnf.proofs.Sound.{literal_eq-true}
+use Rattle.wcnf.proofs.Laws.{literal_eq-refl}
+use Rattle.wcnf.proofs.Laws.{literal_eq-true}
 use Rattle.subsume.specs.Marks.{mark_of, are_marked, IsMarked, HasPlace, LiesAgainst, unmarked, against_without, against_of}
 use Rattle.subsume.specs.declared.marks.Against.{Against}
 use Rattle.subsume.specs.declared.marks.Against.TheVariants.{Apart, Within, ButFor}

@@ -1,5 +1,6 @@
-pub mod Attachments
-pub mod Zipped
-pub mod Moving
-pub mod Laid
-pub mod Rewriting
+mod Attachments
+mod Zipped
+mod Moving
+mod Laid
+mod Rewriting
+pub mod Laws

@@ -5,8 +5,8 @@ use Rattle.std.specs.List.Sorted.{IsStrictlyIncreasing}
 use Rattle.std.proofs.lemmas.Bool.{cases_lt, false≢true}
 use Rattle.std.proofs.lemmas.List.{get_or_past, length-set}
 use Rattle.clauses.specs.Slots.{Renaming, renamed, old_at, new_at}
-use Rattle.clauses.proofs.Lookup.{renamed_at, rises_pairs}
-use Rattle.clauses.proofs.Moves.{renamed_place, new_rise}
+use Rattle.clauses.proofs.Laws.{renamed_at, rises_pairs}
+use Rattle.clauses.proofs.Laws.{renamed_place, new_rise}
 use Rattle.watches.specs.declared.table.Attachment.{Attachment}
 use Rattle.watches.specs.declared.table.Attachment.TheVariants.{Detached}
 use Rattle.watches.specs.Table.{attachment_in, is_kept}

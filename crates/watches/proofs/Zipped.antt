@@ -2,7 +2,7 @@
 use Rattle.std.proofs.Common.{◌≡◌, ◌≢◌, ℕ, zero, suc, false, ◌<◌, ◌≤◌, ◌+◌, ◌-◌, List, [], ◌∷◌, ◌++◌, length, get_or, set, take, replicate, refl, ap, ◌∙◌, sym, arith, inl, inr}
 use Rattle.std.proofs.lemmas.List.{get_or_past, take_all}
 use Rattle.wcnf.specs.Literal.{Literal}
-use Rattle.clauses.proofs.Zipped.{length-zipped, get_or-zipped, zipped-append, zipped-replicate}
+use Rattle.clauses.proofs.Laws.{length-zipped, get_or-zipped, zipped-append, zipped-replicate}
 use Rattle.watches.specs.declared.table.Attachment.{Attachment}
 use Rattle.watches.specs.declared.table.Attachment.TheVariants.{Watching as WatchingAttachment, Detached as NoAttachment}
 use Rattle.watches.specs.declared.table.Kind.{Kind}

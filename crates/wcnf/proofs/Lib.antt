@@ -1,25 +1,26 @@
-pub mod Sound
-pub mod Hints
-pub mod Certificates
-pub mod Numbers
-pub mod Lines
-pub mod Headers
-pub mod Texts
-pub mod Witness
-pub mod Passing
-pub mod Laid
-pub mod Cutting
-pub mod Rising
-pub mod Marks
-pub mod Zeros
-pub mod FirstPieces
-pub mod CappedNumbers
-pub mod Judgement
-pub mod DigitCounts
-pub mod Drafting
-pub mod FromLines
-pub mod Items
-pub mod AheadLaws
-pub mod Feeds
-pub mod ParserLaws
-pub mod WithinLimits
+mod Sound
+mod Hints
+mod Certificates
+mod Numbers
+mod Lines
+mod Headers
+mod Texts
+mod Witness
+mod Passing
+mod Laid
+mod Cutting
+mod Rising
+mod Marks
+mod Zeros
+mod FirstPieces
+mod CappedNumbers
+mod Judgement
+mod DigitCounts
+mod Drafting
+mod FromLines
+mod Items
+mod AheadLaws
+mod Feeds
+mod ParserLaws
+mod WithinLimits
+pub mod Laws

@@ -1,7 +1,7 @@
 use Rattle.std.proofs.Common.{◌≡◌, ◌≤◌, length, take, subst, sym, ◌∙◌, ap, arith}
 use Rattle.std.proofs.lemmas.List.{with_items_is}
 use Rattle.eliminate.specs.Elimination.{extended}
-use Rattle.eliminate.proofs.Back.{length-extended}
+use Rattle.eliminate.proofs.Laws.{length-extended}
 use Rattle.cdcl.specs.Solving.{SatisfyGiven}
 use Rattle.cdcl.specs.Running.{tables_of}
 use Rattle.cdcl.proofs.MoreMoves.{answer_sat}

@@ -1,6 +1,6 @@
 use Rattle.std.proofs.Common.{◌≡◌, ap, ◌∙◌, arith, subst}
 use Rattle.propagate.specs.Trail.{depth_of, kept_to}
-use Rattle.propagate.proofs.Kept.{kept_low}
+use Rattle.propagate.proofs.Laws.{kept_low}
 use Rattle.lrat_log.specs.declared.lines.Name.TheVariants.{Formula}
 use Rattle.cdcl.specs.Running.{Places}
 use Rattle.cdcl.proofs.Taking.{taken}

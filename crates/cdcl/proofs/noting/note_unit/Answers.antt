@@ -14,7 +14,7 @@ use Rattle.cdcl.specs.Hinting.{AreHintsOf, AreNoted}
 use Rattle.cdcl.proofs.HintNames.{hint_ids}
 use Rattle.cdcl.proofs.Placing.{literal_small}
 use Rattle.cdcl.proofs.UnitLines.{flat_reason, is_next, next_noted, adds_unit, runs_noted}
-use Rattle.analyze.proofs.Reasoning.{reason_at}
+use Rattle.analyze.proofs.Laws.{reason_at}
 use Rattle.std.proofs.lemmas.List.{get_or-map}
 use Rattle.cdcl.proofs.noting.note_unit.Goals as goal
 

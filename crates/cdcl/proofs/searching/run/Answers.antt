@@ -3,7 +3,7 @@ use Rattle.std.proofs.Common.{◌≡◌, ◌+◌, ◌∙◌, ap, subst, arith}
 use Rattle.std.specs.Prelude.{IfNone}
 use Rattle.std.proofs.lemmas.Result.{IfOk-weaker}
 use Rattle.propagate.specs.Trail.{depth_of, kept_to, literals_of}
-use Rattle.propagate.proofs.Kept.{kept_low}
+use Rattle.propagate.proofs.Laws.{kept_low}
 use Rattle.analyze.specs.Learning.{IsQuiet}
 use Rattle.cdcl.specs.declared.searching.End.TheVariants.{Refuted}
 use Rattle.cdcl.specs.Solving.{IsLiveRefuted}

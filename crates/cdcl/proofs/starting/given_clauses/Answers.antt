@@ -8,7 +8,7 @@ use Rattle.wcnf.specs.Clause.{has_repeat}
 use Rattle.lrat_log.specs.declared.lines.Name.{Name}
 use Rattle.lrat_log.specs.declared.lines.Name.TheVariants.{Formula}
 use Rattle.lrat_log.specs.Steps.{given_of}
-use Rattle.lrat_log.proofs.GivenNumbers.{given_on}
+use Rattle.lrat_log.proofs.Laws.{given_on}
 use Rattle.cdcl.proofs.Started.{given_next}
 use Rattle.cdcl.proofs.starting.given_clauses.Goals as goal
 

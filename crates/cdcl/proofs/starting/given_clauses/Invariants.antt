@@ -3,7 +3,7 @@ use Rattle.std.proofs.Common.{◌≡◌, ◌+◌, ◌++◌, false, length}
 use Rattle.std.specs.Prelude.{All}
 use Rattle.wcnf.specs.Clause.{has_repeat}
 use Rattle.lrat_log.specs.Steps.{given_of}
-use Rattle.lrat_log.proofs.GivenNumbers.{given_on}
+use Rattle.lrat_log.proofs.Laws.{given_on}
 use Rattle.cdcl.proofs.starting.given_clauses.Given as goal
 
 abbrev pub invariant-loop-clause : goal.invariant-loop-clause

@@ -6,7 +6,7 @@ use Rattle.lrat_log.specs.declared.lines.Name.{Name}
 use Rattle.eliminate.specs.Elimination.{listed_names}
 use Rattle.names.specs.Work.{name_at}
 use Rattle.eliminate.proofs.Listed.{listed_some, listed_none}
-use Rattle.names.proofs.Naming.{slot_within}
+use Rattle.names.proofs.Laws.{slot_within}
 use Rattle.eliminate.proofs.elimination.listed.Goals as goal
 use Rattle.eliminate.proofs.elimination.listed.Goals.{in-Some+in_ok-push-in-Some, in-None}
 

@@ -1,6 +1,6 @@
 use Rattle.std.proofs.Common.{◌∙◌}
 use Rattle.std.proofs.lemmas.Result.{IfOk-weaker}
-use Rattle.wcnf.proofs.Texts.{reading_is_right}
+use Rattle.wcnf.proofs.Laws.{reading_is_right}
 use Rattle.lrat_check.specs.Verdict.{verdict_as}
 use Rattle.lrat_check.proofs.Checked.{yes_by}
 use Rattle.lrat_check.proofs.LeftLaws.{nothing_gives, proof_gives, proof_shows, if_some_all, if_some_more}

@@ -1,7 +1,7 @@
 -- Where a fault came, a beginning of the literals was put.
 use Rattle.std.proofs.Common.{◌≡◌, [], rules}
 use Rattle.std.proofs.lemmas.Result.{err_from_is_err_and}
-use Rattle.wcnf.proofs.Items.{items_more}
+use Rattle.wcnf.proofs.Laws.{items_more}
 use Rattle.wcnf.specs.Literal.{Literal}
 use Rattle.lrat_log.specs.Texts.{number_text}
 use Rattle.lrat_log.proofs.LineTexts.{item_fault}

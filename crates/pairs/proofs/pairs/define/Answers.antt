@@ -7,7 +7,7 @@ use Rattle.pairs.specs.Pairs.{stage_of, whole_clause, Stage}
 use Rattle.pairs.proofs.Defining.{whole_is, side_is, defined_is, kept_log, keeps_as, counted_added, few_additions}
 use Rattle.pairs.proofs.Staging.{with_whole, with_side, whole_right, left_right, right_right}
 use Rattle.pairs.proofs.pairs.define.Goals as goal
-use Rattle.names.proofs.Refusals.{when_err}
+use Rattle.names.proofs.Laws.{when_err}
 
 pub add_side-requires-clause-counted : goal.add_side-requires-clause-counted
 add_side-requires-clause-counted g c = counted_added c.args.names.now c.add.new.names (g.S.Sink.lines c.args.sink.now) (g.S.Sink.lines c.add.new.sink) _ c.requires.counted c.in_ok-whole.ensures.names c.in_ok-whole.ensures.lines refl

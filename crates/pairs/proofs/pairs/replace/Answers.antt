@@ -3,11 +3,11 @@ use Rattle.std.proofs.Common.{◌≡◌, ◌+◌, ◌<◌, ◌^◌, Some, None, 
 use Rattle.clauses.specs.Slots.{Slots, clause_at}
 use Rattle.names.specs.Work.{additions}
 use Rattle.pairs.specs.Pairs.{stage_of, replaced, IsDefined, Stage}
-use Rattle.names.proofs.Naming.{slot_before, slot_within}
+use Rattle.names.proofs.Laws.{slot_before, slot_within}
 use Rattle.pairs.proofs.Defining.{replaced_is, is_deleted, kept_log, keeps_as, counted_added, counted_deleted, few_additions, long_added, long_deleted, name_stays}
 use Rattle.pairs.proofs.Staging.{with_replaced, deleted_stage, replaced_right, gone_right, defined_after, replaced-is_line, delete-is_line}
 use Rattle.pairs.proofs.pairs.replace.Goals as goal
-use Rattle.names.proofs.Refusals.{when_err}
+use Rattle.names.proofs.Laws.{when_err}
 
 pub add-requires-clause-line : goal.add-requires-clause-line
 add-requires-clause-line g c =

@@ -3,7 +3,7 @@ use Rattle.std.specs.Prelude.{IfSome}
 use Rattle.clauses.specs.Slots.{clause_at}
 use Rattle.propagate.specs.Watches.{is_attached}
 use Rattle.propagate.specs.Fits.{Fits, IsWithin}
-use Rattle.propagate.proofs.Added.{fits_added, added_live, new_is_detached}
+use Rattle.propagate.proofs.Laws.{fits_added, added_live, new_is_detached}
 use Rattle.propagate_bench.proofs.loading.add.Goals as goal
 
 grown : (c : goal.After-attach-arg-1) → c.add.new.self.slots ≡ c.args.store.now.slots ++ Some c.args.lits.now ∷ []

@@ -2,9 +2,9 @@
 use Rattle.std.proofs.Common.{◌∷◌, [], false, get_or, rules}
 use Rattle.std.proofs.lemmas.Result.{err_from_is_err_and}
 use Rattle.std.proofs.lemmas.List.{get_or_default}
-use Rattle.wcnf.proofs.Items.{items_more}
+use Rattle.wcnf.proofs.Laws.{items_more}
 use Rattle.lrat_check.specs.Result.{digit_of}
-use Rattle.lrat_log.proofs.LineTexts.{item_fault}
+use Rattle.lrat_log.proofs.Laws.{item_fault}
 use Rattle.report.proofs.answering.put_bits.Goals as goal
 
 pub returns-in_err-put-clause-fault : goal.returns-in_err-put-clause-fault

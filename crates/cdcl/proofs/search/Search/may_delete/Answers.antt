@@ -4,8 +4,8 @@ use Rattle.std.proofs.lemmas.List.Elements.{recursion_from_All}
 use Rattle.wcnf.specs.Literal.{Literal}
 use Rattle.clauses.specs.Slots.{clause_at}
 use Rattle.propagate.specs.Trail.{reason_in}
-use Rattle.propagate.proofs.Looking.{attached_within, within_all}
-use Rattle.analyze.proofs.Reasoning.{no_reason}
+use Rattle.propagate.proofs.Laws.{attached_within, within_all}
+use Rattle.analyze.proofs.Laws.{no_reason}
 use Rattle.lrat_log.specs.declared.lines.Name.{Name}
 use Rattle.cdcl.specs.Invariant.{is_kept_name}
 use Rattle.cdcl.proofs.Places.{live_within}

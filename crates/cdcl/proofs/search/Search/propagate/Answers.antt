@@ -1,7 +1,7 @@
 use Rattle.std.proofs.Common.{◌≡◌, false, refl, ap, ◌∙◌}
 use Rattle.std.proofs.lemmas.Bool.{false≢true, false_from_ne_true}
 use Rattle.propagate.specs.Trail.{literals_of, depth_of}
-use Rattle.analyze.proofs.Levels.{depth_follow}
+use Rattle.analyze.proofs.Laws.{depth_follow}
 use Rattle.cdcl.specs.Running.{tables_of}
 use Rattle.cdcl.proofs.Moves.{run_propagate}
 use Rattle.cdcl.proofs.Quiet.{searches_propagate}

@@ -9,10 +9,10 @@ use Rattle.subsume.specs.Marks.{HasPlace}
 use Rattle.eliminate.specs.declared.simplifier.Simplifier.{Simplifier}
 use Rattle.eliminate_tables.specs.Rows.{with_clause_rows}
 use Rattle.eliminate.specs.Simplifier.{IsSimplified, IsLogOf, LeavesLog}
-use Rattle.names.proofs.Naming.{additions_few}
+use Rattle.names.proofs.Laws.{additions_few}
 use Rattle.eliminate.proofs.Simplified.{simplified_added, clause_places, log_of}
 use Rattle.eliminate.proofs.simplifier.Simplifier.add.Goals as goal
-use Rattle.names.proofs.Refusals.{when_err}
+use Rattle.names.proofs.Laws.{when_err}
 
 pub add-requires-2 : goal.add-requires-2
 add-requires-2 g c =

@@ -10,7 +10,7 @@ use Rattle.lrat_log.specs.declared.lines.Hint.TheVariants.{Plain}
 use Rattle.eliminate.specs.declared.units.Units.{Units}
 use Rattle.names.specs.Work.{name_at}
 use Rattle.eliminate.specs.Units.{unit_of, unit_name}
-use Rattle.names.proofs.Naming.{slot_within}
+use Rattle.names.proofs.Laws.{slot_within}
 use Rattle.eliminate.proofs.Statuses.{literal_place, mark_says}
 use Rattle.eliminate.proofs.UnitLines.{looked_up, falsified_more, falsified_same}
 use Rattle.eliminate.proofs.units.Units.hints.Goals as goal

@@ -10,7 +10,7 @@ use Rattle.eliminate.proofs.Simplified.{log_of}
 use Rattle.eliminate.proofs.States.{places_of}
 use Rattle.eliminate.proofs.UnitLines.{all_at}
 use Rattle.eliminate.proofs.units.Units.meet.Goals as goal
-use Rattle.names.proofs.Refusals.{when_err}
+use Rattle.names.proofs.Laws.{when_err}
 
 pub status-requires-clause-clauses : goal.status-requires-clause-clauses
 status-requires-clause-clauses g c = subst (λ n. AreClauses n c.args.store.now.slots) (sym c.requires.propagating.fits) c.requires.propagating.simplified.1.state.work.clauses

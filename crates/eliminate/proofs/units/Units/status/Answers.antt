@@ -6,7 +6,7 @@ use Rattle.subsume.specs.Marks.{HasPlace, mark_of}
 use Rattle.eliminate.specs.declared.units.Units.{Units}
 use Rattle.eliminate.specs.Units.{IsSettled}
 use Rattle.eliminate.proofs.Statuses.{HasStatusSoFar, settled_true, status_false, status_open, status_second, literal_place, mark_says}
-use Rattle.subsume.proofs.Marking.{at_contains}
+use Rattle.subsume.proofs.Laws.{at_contains}
 use Rattle.eliminate.proofs.units.Units.status.Goals as goal
 use Rattle.eliminate.proofs.units.Units.status.Goals.{then-not-is_marked+in-Falsified, else-not-is_marked}
 

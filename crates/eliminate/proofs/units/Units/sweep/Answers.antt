@@ -5,10 +5,10 @@ use Rattle.clauses.specs.Slots.{Slots, clause_at}
 use Rattle.eliminate.specs.declared.units.Units.{Units}
 use Rattle.eliminate.specs.Units.{IsSettled}
 use Rattle.eliminate.proofs.Propagating.{propagates_nothing, still_propagating, propagates_more, leaves_later}
-use Rattle.names.proofs.Naming.{slot_within}
+use Rattle.names.proofs.Laws.{slot_within}
 use Rattle.eliminate.proofs.units.Units.sweep.Goals as goal
 use Rattle.eliminate.proofs.units.Units.sweep.Goals.{then-asked, else-asked}
-use Rattle.names.proofs.Refusals.{when_err}
+use Rattle.names.proofs.Laws.{when_err}
 
 pub loop-place-init : goal.loop-place-init
 loop-place-init g c = record {

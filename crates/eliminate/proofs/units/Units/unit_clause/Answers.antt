@@ -9,11 +9,11 @@ use Rattle.eliminate.specs.declared.simplifier.Simplifier.{Simplifier}
 use Rattle.names.specs.Work.{AreClauses}
 use Rattle.eliminate.specs.Simplifier.{Grows, IsAddableLine, LeavesLog}
 use Rattle.eliminate.proofs.Assigned.{single}
-use Rattle.names.proofs.Naming.{slot_before, slot_last}
+use Rattle.names.proofs.Laws.{slot_before, slot_last}
 use Rattle.eliminate.proofs.Tables.{simplified_same}
 use Rattle.eliminate.proofs.UnitLines.{unit_addable}
 use Rattle.eliminate.proofs.units.Units.unit_clause.Goals as goal
-use Rattle.names.proofs.Refusals.{when_err}
+use Rattle.names.proofs.Laws.{when_err}
 
 pub returns-then-lits-eq1-clause-alone : goal.returns-then-lits-eq1-clause-alone
 returns-then-lits-eq1-clause-alone g c =

@@ -2,7 +2,7 @@
 use Rattle.std.proofs.Common.{arith}
 use Rattle.std.proofs.lemmas.List.{length-append}
 use Rattle.bound.specs.Bound.{fixed_clauses, comparator_for}
-use Rattle.bound.proofs.Few.{clauses_few}
+use Rattle.bound.proofs.Laws.{clauses_few}
 use Rattle.improve.proofs.bounds.Bounds.count_clauses.Goals as goal
 
 pub overflow_add-result : goal.overflow_add-result

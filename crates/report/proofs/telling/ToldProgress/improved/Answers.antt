@@ -2,7 +2,7 @@
 use Rattle.std.proofs.Common.{◌∙◌, ap, sym, subst, arith}
 use Rattle.wcnf.specs.Writing.{AppendsPart, spaced}
 use Rattle.lrat_check.specs.Result.{cost_tokens}
-use Rattle.improve.proofs.Lowering.{at_err}
+use Rattle.improve.proofs.Laws.{at_err}
 use Rattle.report.proofs.CostLines.{broke}
 use Rattle.report.proofs.telling.ToldProgress.improved.Goals as goal
 

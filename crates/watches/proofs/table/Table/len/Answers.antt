@@ -1,5 +1,5 @@
 use Rattle.std.proofs.Common.{length, ap, arith}
-use Rattle.clauses.proofs.Zipped.{length-zipped}
+use Rattle.clauses.proofs.Laws.{length-zipped}
 use Rattle.watches.specs.TableLayout.{attachment_of}
 use Rattle.watches.proofs.table.Table.len.Goals as goal
 

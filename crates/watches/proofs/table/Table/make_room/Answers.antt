@@ -2,7 +2,7 @@ use Rattle.std.proofs.Common.{◌≡◌, ◌+◌, ◌-◌, ◌++◌, true, not, 
 use Rattle.std.specs.Result.{is_ok}
 use Rattle.std.proofs.lemmas.Bool.{cond-true}
 use Rattle.std.proofs.lemmas.List.{append-nil}
-use Rattle.clauses.proofs.Zipped.{length-zipped}
+use Rattle.clauses.proofs.Laws.{length-zipped}
 use Rattle.watches.specs.declared.table.Attachment.TheVariants.{Detached}
 use Rattle.watches.specs.declared.table.Kind.TheVariants.{Detached as Nothing}
 use Rattle.watches.specs.declared.table.Rest.TheVariants.{Nothing as NoRest}

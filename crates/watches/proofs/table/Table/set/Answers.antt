@@ -1,5 +1,5 @@
 use Rattle.std.proofs.Common.{◌∙◌, ap, set, length, refl, sym, arith}
-use Rattle.clauses.proofs.Zipped.{length-zipped, zipped-set, zipped-set_first}
+use Rattle.clauses.proofs.Laws.{length-zipped, zipped-set, zipped-set_first}
 use Rattle.watches.specs.declared.table.Attachment.TheVariants.{Detached as DetachedAttachment, Waiting as WaitingAttachment, Satisfied as SatisfiedAttachment, Watching as WatchingAttachment}
 use Rattle.watches.specs.declared.table.Kind.TheVariants.{Detached, Waiting, Satisfied, Watching}
 use Rattle.watches.specs.TableLayout.{attachment_of}

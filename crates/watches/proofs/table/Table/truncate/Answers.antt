@@ -1,5 +1,5 @@
 use Rattle.std.proofs.Common.{take, ap, ◌∙◌}
-use Rattle.clauses.proofs.Zipped.{zipped-take}
+use Rattle.clauses.proofs.Laws.{zipped-take}
 use Rattle.watches.specs.TableLayout.{attachment_of}
 use Rattle.watches.proofs.table.Table.truncate.Goals as goal
 

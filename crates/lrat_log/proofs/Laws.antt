@@ -1,0 +1,17 @@
+-- The laws of this crate that other crates cite, from one place.
+pub use Rattle.lrat_log.proofs.Accepting.{accepted_log}
+pub use Rattle.lrat_log.proofs.GivenNumbers.{base_more, base_of, clauses_given, given_at-given_of}
+pub use Rattle.lrat_log.proofs.GivenNumbers.{given_on, numbered_past, numbered_right}
+pub use Rattle.lrat_log.proofs.Growing.{base_front, chain_join, ids_covered, live_after-append}
+pub use Rattle.lrat_log.proofs.Growing.{live_more, one_apart, open_push, refutes_covered}
+pub use Rattle.lrat_log.proofs.Growing.{stops_push}
+pub use Rattle.lrat_log.proofs.Ids.{accepted_ids, small_ids}
+pub use Rattle.lrat_log.proofs.LineTexts.{item_fault}
+pub use Rattle.lrat_log.proofs.Literals.{contains-negations, literal_eq-negation}
+pub use Rattle.lrat_log.proofs.MoreGiven.{new_more, new_searched}
+pub use Rattle.lrat_log.proofs.Names.{steps_from_chain}
+pub use Rattle.lrat_log.proofs.NewLines.{first_new, none_new}
+pub use Rattle.lrat_log.proofs.Numbering.{given_below}
+pub use Rattle.lrat_log.proofs.RebasedLines.{learned_rebased, open_rebased}
+pub use Rattle.lrat_log.proofs.Rebasing.{accepts_of_log, steps_of_log}
+pub use Rattle.lrat_log.proofs.Text.{IsWord, decimal_word, token_lines-spaced}
