@@ -3,4 +3,5 @@ pub mod Flat
 pub mod Removals
 pub mod Resolvents
 pub mod Rows
+pub mod Schedule
 pub mod Vectors

@@ -4,7 +4,7 @@
 // compared. A bin has room for a hundred clauses, so that no literal that stands everywhere makes
 // the search quadratic: what finds no room is not held against others. Each pass has so many steps
 // that it is linear in the store, also where many long clauses share most of their literals.
-ghost use Rattle.std.specs.Prelude.{◌≡◌, length, List, Some, IfSome};
+ghost use Rattle.std.specs.Prelude.{◌≡◌, length, List, Some, IfOk, IfSome};
 ghost use Rattle.wcnf.specs.Literal.{Literal};
 ghost use Rattle.clauses.specs.Slots.{IsLive, clause_at};
 ghost use Rattle.subsume.specs.Marks.{LiesAgainst};
@@ -12,6 +12,7 @@ ghost use Rattle.eliminate_tables.specs.Bins.{ArePlaced};
 
 use clauses::store::{CRef, Store};
 use std::alloc::{AllocError, Global};
+use std::marker::Model;
 use subsume::marks::{Against, Marks};
 use subsume::signatures::{maybe_subsets, signature};
 use wcnf::types::Lit;
@@ -53,9 +54,20 @@ pub struct Found {
     pub against: Against,
 }
 
+/// Of the bins only how far passes have seen the store is told; which clauses are found is policy.
+impl Model for Bins {
+    ghost use Rattle.std.specs.Prelude.{ℕ};
+
+    ghost Value = { ℕ };
+
+    ghost view = { λ b. b.first_new };
+}
+
 impl Bins {
     /// Empty bins, for the literals of the variables 1 to `vars`.
-    pub fn new(alloc: Global, vars: u32) -> Result<Self, AllocError> {
+    pub fn new(alloc: Global, vars: u32) -> Result<Self, AllocError>
+        ensures { IfOk result (λ b. b ≡ 0) }
+    {
         let count = 2 * vars as usize;
         let mut bins = Vec::with_capacity(alloc, count)?;
         for _literal in 0..count {
@@ -74,12 +86,16 @@ impl Bins {
     }
 
     /// The first place of the store with a clause that came since the last pass began.
-    pub fn first_new(&self) -> usize {
+    pub fn first_new(&self) -> usize
+        ensures { result ≡ self.now }
+    {
         self.first_new
     }
 
     /// A pass over the store begins: clauses that were deleted leave their bins.
-    pub fn start_pass(&mut self, store: &Store) {
+    pub fn start_pass(&mut self, store: &Store)
+        ensures { self.new ≡ length store.now.slots }
+    {
         self.first_new = store.places();
         self.steps = store.used().saturating_mul(STEPS);
         for bin in self.bins.iter_mut() {
@@ -88,7 +104,9 @@ impl Bins {
     }
 
     /// Puts a clause into the least full bin of its literals, where it is in none yet.
-    pub fn connect(&mut self, reference: CRef, lits: &[Lit]) -> Result<(), AllocError> {
+    pub fn connect(&mut self, reference: CRef, lits: &[Lit]) -> Result<(), AllocError>
+        ensures { self.new ≡ self.old }
+    {
         let place = reference.index();
         for _gap in self.is_connected.len()..place + 1 {
             self.is_connected.push(false)?;
@@ -132,6 +150,7 @@ impl Bins {
         lits: &[Lit],
     ) -> Option<Found>
         requires { ArePlaced (length marks.now) store.now.slots }
+        ensures kept { self.new ≡ self.old }
         ensures other { IfSome result (λ found. found.by ≡ current → ⊥) }
         ensures live { IfSome result (λ found. IsLive store.now.slots found.by) }
         ensures against { IfSome result (λ found. (c : List Literal)

@@ -3,6 +3,7 @@
 ghost use Rattle.std.specs.Prelude.{◌≡◌, length, All};
 ghost use Rattle.clauses.specs.Slots.{IsLive};
 ghost use Rattle.eliminate_tables.specs.Bins.{ArePlaced};
+ghost use Rattle.eliminate_tables.specs.Schedule.{is_candidate};
 
 use crate::resolvents::count_rest;
 use crate::schedule::Schedule;
@@ -18,7 +19,9 @@ const MOST_LITERALS: usize = 32;
 /// opposite pair.
 const LONGEST_PARENT: usize = 100;
 /// Whether the literal's variable occurs, and each of its signs in few clauses.
-pub fn is_candidate(schedule: &Schedule, pivot: Lit) -> bool {
+pub fn is_candidate(schedule: &Schedule, pivot: Lit) -> bool
+    ensures { result ≡ is_candidate schedule.now pivot }
+{
     let positive = schedule.count(pivot) as usize;
     let negative = schedule.count(pivot.negation()) as usize;
     positive <= MOST_OF_A_SIGN && negative <= MOST_OF_A_SIGN && (positive > 0 || negative > 0)
