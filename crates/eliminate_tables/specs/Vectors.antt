@@ -1,7 +1,9 @@
--- Worked values: variable 1 was eliminated from the clauses 1 2 and -1 3.
-use Rattle.std.specs.Prelude.{◌≡◌, ℕ, true, false, List, [], ◌∷◌, refl}
+-- Worked values of extended bits, and of a schedule.
+use Rattle.std.specs.Prelude.{◌≡◌, ℕ, true, false, List, [], ◌∷◌, fold, Some, refl}
 use Rattle.wcnf.specs.Literal.{Literal}
 use Rattle.eliminate_tables.specs.Removals.{Removed, extended}
+use Rattle.eliminate_tables.specs.Schedule.{ScheduleState, entered, left, first_of, without_first}
+use Rattle.eliminate_tables.specs.Schedule.{is_candidate}
 
 abbrev p : ℕ → Literal
 p n = record { variable = n; negated = false }
@@ -9,6 +11,7 @@ p n = record { variable = n; negated = false }
 abbrev n : ℕ → Literal
 n v = record { variable = v; negated = true }
 
+-- variable 1 was eliminated from the clauses 1 2 and -1 3
 abbrev one : List Removed
 one = record { variable = 1; clauses = (p 1 ∷ p 2 ∷ []) ∷ (n 1 ∷ p 3 ∷ []) ∷ [] } ∷ []
 
@@ -17,3 +20,41 @@ needed = refl
 
 not_needed : extended one (true ∷ true ∷ false ∷ []) ≡ false ∷ true ∷ false ∷ []
 not_needed = refl
+
+-- no clause of two variables
+abbrev none : ScheduleState
+none = record {
+  counts = 0 ∷ 0 ∷ 0 ∷ 0 ∷ [];
+  queued = false ∷ false ∷ [];
+  waiting = [];
+}
+
+-- the clause -2 1 came
+abbrev entered_one : ScheduleState
+entered_one = record {
+  counts = 1 ∷ 0 ∷ 0 ∷ 1 ∷ [];
+  queued = true ∷ true ∷ [];
+  waiting = 2 ∷ 1 ∷ [];
+}
+
+enters : fold entered none (n 2 ∷ p 1 ∷ []) ≡ entered_one
+enters = refl
+
+leaves : (fold left entered_one (n 2 ∷ p 1 ∷ [])).counts ≡ none.counts
+leaves = refl
+
+pops : first_of entered_one.waiting ≡ Some 2
+pops = refl
+
+popped : without_first entered_one entered_one.waiting ≡ record {
+  counts = entered_one.counts;
+  queued = true ∷ false ∷ [];
+  waiting = 1 ∷ [];
+}
+popped = refl
+
+candidate : is_candidate entered_one (p 1) ≡ true
+candidate = refl
+
+no_candidate : is_candidate none (p 1) ≡ false
+no_candidate = refl
