@@ -2,7 +2,7 @@
 use Rattle.std.proofs.Common.{◌≡◌, ℕ, ◌+◌, ◌<◌, ◌≤◌, Bool, true, false, not, List, [], ◌∷◌, ◌++◌, map, length, get_or, take, drop, Option, Some, None, refl, sym, ◌∙◌, ap, subst, inl, inr, arith}
 use Rattle.std.proofs.Math.Bool.{cond}
 use Rattle.std.specs.Prelude.{All, ◌==◌}
-use Rattle.std.proofs.lemmas.List.{append-nil, drop_more, get_or_default, take_more, take-append-le, length-take}
+use Rattle.std.proofs.lemmas.List.{append-nil, drop_more, drop_all, get_or_default, take_more, take-append-le, length-take}
 use Rattle.std.specs.List.{last_or}
 use Rattle.std.proofs.lemmas.Bool.{or_cases, cases_lt, false≢true}
 use Rattle.std.proofs.lemmas.List.Elements.{All-head, All-tail}
@@ -12,8 +12,8 @@ use Rattle.wcnf.specs.Refute.{Clauses}
 use Rattle.wcnf.proofs.Laws.{literal_eq-true}
 use Rattle.lrat_check.specs.Assumed.{AreWithin}
 use Rattle.lrat_live.specs.Listed.{listed_at}
-use Rattle.lrat_check.specs.declared.verdicts.Cause.TheVariants.{HintAfterConflict}
-use Rattle.lrat_check.specs.Verdict.{Fault, NotUnit, Conflict, Makes, open_literals, outcome_of, goes_on, walk}
+use Rattle.lrat_check.specs.declared.verdicts.Cause.TheVariants.{DeadId, HintAfterConflict, HintNotUnit}
+use Rattle.lrat_check.specs.Verdict.{Refuted, Fault, NotUnit, Conflict, Makes, Outcome, open_literals, outcome_of, goes_on, walk}
 use Rattle.lrat_check.specs.Steps.{EndAlike}
 use Rattle.lrat_check.proofs.Walk.{outcome_on, outcome_is, makes_means}
 use Rattle.lrat_check.proofs.Members.{HaveSame-push}
@@ -117,20 +117,68 @@ listed_within n (x ∷ es) i c w e =
 abbrev pub ids_from : List (Bool × ℕ) → ℕ → List ℕ
 ids_from hs i = map (λ h. h.1) (drop i hs)
 
-pub walk_at : (at : Clauses) (T : List Literal) (hs : List (Bool × ℕ)) (i : ℕ) (h : Bool × ℕ) → i < length hs → h ≡ get_or hs i h → walk at T (ids_from hs i) ≡ goes_on (outcome_of (at h.1) T) (ids_from hs (i + 1)) (λ l. walk at (l ∷ T) (ids_from hs (i + 1)))
-walk_at at T hs i h lt e = ap (λ xs. walk at T (map (λ x. x.1) xs)) (drop_at hs i h lt e)
+abbrev pub id_at : List (Bool × ℕ) → ℕ → ℕ
+id_at hs i = (get_or hs i (false, 0)).1
 
-pub walk_past_conflict : (at : Clauses) (T : List Literal) (hs : List (Bool × ℕ)) (i : ℕ) (h : Bool × ℕ) (c : List Literal) → i < length hs → h ≡ get_or hs i h → at h.1 ≡ Some c → outcome_of (Some c) T ≡ Conflict → i + 1 < length hs → walk at T (ids_from hs i) ≡ Fault HintAfterConflict
-walk_past_conflict at T hs i h c lt e n o more =
-    let next = get_or hs (i + 1) h in
-    walk_at at T hs i h lt e ∙ ap (λ x. goes_on x (ids_from hs (i + 1)) (λ l. walk at (l ∷ T) (ids_from hs (i + 1)))) (ap (λ y. outcome_of y T) n ∙ o)
-    ∙ ap (λ xs. goes_on Conflict (map (λ x. x.1) xs) (λ l. walk at (l ∷ T) (ids_from hs (i + 1)))) (drop_at hs (i + 1) next more (get_or_default hs (i + 1) h next more))
+walk_at : (at : Clauses) (T : List Literal) (hs : List (Bool × ℕ)) (i : ℕ)
+    → i < length hs
+    → walk at T (ids_from hs i)
+    ≡ goes_on (outcome_of (at (id_at hs i)) T) (ids_from hs (i + 1))
+    (λ l. walk at (l ∷ T) (ids_from hs (i + 1)))
+walk_at at T hs i lt =
+    ap (λ xs. walk at T (map (λ x. x.1) xs)) (drop_more hs i (false, 0) lt)
 
-pub walk_makes : (at : Clauses) (T : List Literal) (hs : List (Bool × ℕ)) (i : ℕ) (h : Bool × ℕ) (c : List Literal) (l : Literal) → i < length hs → h ≡ get_or hs i h → at h.1 ≡ Some c → outcome_of (Some c) T ≡ Makes l → EndAlike (walk at T (ids_from hs i)) (walk at (T ++ l ∷ []) (ids_from hs (i + 1)))
-walk_makes at T hs i h c l lt e n o =
-    let step : walk at T (ids_from hs i) ≡ walk at (l ∷ T) (ids_from hs (i + 1)) =
-    walk_at at T hs i h lt e ∙ ap (λ x. goes_on x (ids_from hs (i + 1)) (λ l. walk at (l ∷ T) (ids_from hs (i + 1)))) (ap (λ y. outcome_of y T) n ∙ o) in
-    subst (λ w. EndAlike w (walk at (T ++ l ∷ []) (ids_from hs (i + 1)))) (sym step) (walk-same at (l ∷ T) (T ++ l ∷ []) (HaveSame-push l T) (ids_from hs (i + 1)))
+pub walk_dead : (at : Clauses) (T : List Literal) (hs : List (Bool × ℕ)) (i : ℕ)
+    → i < length hs → at (id_at hs i) ≡ None → walk at T (ids_from hs i) ≡ Fault DeadId
+walk_dead at T hs i lt n =
+    let rest = ids_from hs (i + 1) in
+    walk_at at T hs i lt ∙ ap (λ x. goes_on (outcome_of x T) rest (λ l. walk at (l ∷ T) rest)) n
+
+-- what the hint's clause does decides how the walk goes on
+walk_does : (at : Clauses) (T : List Literal) (hs : List (Bool × ℕ)) (i : ℕ) (c : List Literal)
+    (o : Outcome)
+    → i < length hs → at (id_at hs i) ≡ Some c → outcome_of (Some c) T ≡ o
+    → walk at T (ids_from hs i)
+    ≡ goes_on o (ids_from hs (i + 1)) (λ l. walk at (l ∷ T) (ids_from hs (i + 1)))
+walk_does at T hs i c o lt n e =
+    let rest = ids_from hs (i + 1) in
+    walk_at at T hs i lt
+    ∙ ap (λ x. goes_on x rest (λ l. walk at (l ∷ T) rest)) (ap (λ y. outcome_of y T) n ∙ e)
+
+pub walk_not_unit : (at : Clauses) (T : List Literal) (hs : List (Bool × ℕ)) (i : ℕ)
+    (c : List Literal)
+    → i < length hs → at (id_at hs i) ≡ Some c → outcome_of (Some c) T ≡ NotUnit
+    → walk at T (ids_from hs i) ≡ Fault HintNotUnit
+walk_not_unit at T hs i c lt n e = walk_does at T hs i c NotUnit lt n e
+
+pub walk_refuted : (at : Clauses) (T : List Literal) (hs : List (Bool × ℕ)) (i : ℕ)
+    (c : List Literal)
+    → i < length hs → at (id_at hs i) ≡ Some c → outcome_of (Some c) T ≡ Conflict
+    → length hs ≤ i + 1 → walk at T (ids_from hs i) ≡ Refuted
+walk_refuted at T hs i c lt n e last =
+    let rest = ids_from hs (i + 1) in
+    walk_does at T hs i c Conflict lt n e
+    ∙ ap (λ xs. goes_on Conflict (map (λ x. x.1) xs) (λ l. walk at (l ∷ T) rest))
+    (drop_all (i + 1) hs last)
+
+pub walk_past_conflict : (at : Clauses) (T : List Literal) (hs : List (Bool × ℕ)) (i : ℕ)
+    (c : List Literal)
+    → i < length hs → at (id_at hs i) ≡ Some c → outcome_of (Some c) T ≡ Conflict
+    → i + 1 < length hs → walk at T (ids_from hs i) ≡ Fault HintAfterConflict
+walk_past_conflict at T hs i c lt n e more =
+    let rest = ids_from hs (i + 1) in
+    walk_does at T hs i c Conflict lt n e
+    ∙ ap (λ xs. goes_on Conflict (map (λ x. x.1) xs) (λ l. walk at (l ∷ T) rest))
+    (drop_more hs (i + 1) (false, 0) more)
+
+pub walk_makes : (at : Clauses) (T : List Literal) (hs : List (Bool × ℕ)) (i : ℕ)
+    (c : List Literal) (l : Literal)
+    → i < length hs → at (id_at hs i) ≡ Some c → outcome_of (Some c) T ≡ Makes l
+    → EndAlike (walk at T (ids_from hs i)) (walk at (T ++ l ∷ []) (ids_from hs (i + 1)))
+walk_makes at T hs i c l lt n e =
+    let rest = ids_from hs (i + 1) in
+    subst (λ w. EndAlike w (walk at (T ++ l ∷ []) rest)) (sym (walk_does at T hs i c (Makes l) lt n e))
+    (walk-same at (l ∷ T) (T ++ l ∷ []) (HaveSame-push l T) rest)
 
 -- what stood before stays
 pub kept_push : (A T : List Literal) (l : Literal) → take (length A) T ≡ A → take (length A) (T ++ l ∷ []) ≡ A

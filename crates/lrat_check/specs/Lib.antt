@@ -8,4 +8,5 @@ pub mod Words
 pub mod Vectors
 pub mod Report
 pub mod Pieces
+pub mod Found
 pub mod Left

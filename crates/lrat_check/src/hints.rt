@@ -1,7 +1,10 @@
 // Hints: what one does to the literals that are assumed true, and what several do in turn.
-ghost use Rattle.std.specs.Prelude.{◌≡◌, ℕ, ◌≤◌, List, Some, IfOk, length, map, take, All};
+ghost use Rattle.std.specs.Prelude.{◌≡◌, ℕ, ◌*◌, ◌/◌, ◌%◌, ◌<◌, ◌≤◌, true, false, List, Some, IfOk};
+ghost use Rattle.std.specs.Prelude.{length, get_or, map, take, All};
+ghost use Rattle.std.specs.Option.{option_copied};
 ghost use Rattle.wcnf.specs.Literal.{Literal};
 ghost use Rattle.lrat_check.specs.Assumed.{AreWithin};
+ghost use Rattle.lrat_check.specs.Found.{IsFound, AreFound};
 ghost use Rattle.lrat_live.specs.Listed.{listed_at};
 ghost use Rattle.lrat_check.specs.Verdict.{outcome_of, of_walk, walk as walk_of};
 ghost use Rattle.lrat_check.specs.Steps.{outcome_as, walked_as, EndAlike};
@@ -82,6 +85,69 @@ pub(crate) fn leading(hints: &[SignedId]) -> &[SignedId]
     hints
 }
 
+/// So many hints are looked up together.
+const AHEAD: usize = 8;
+
+/// With more clauses than these the caches do not hold what look-ups read.
+const MANY: usize = 32_768;
+
+/// The clause under the id of a hint, if there is such a hint and the clause is live.
+#[inline(always)]
+fn clause_at<'a>(live: &'a LiveClauses, hints: &[SignedId], place: usize) -> Option<&'a [Lit]>
+    ensures { IsFound live.now hints.now place (option_copied result) }
+{
+    live.find(hints.get(place)?.id())
+}
+
+/// The clauses under the ids of the hints from a place on. Among many live clauses each look-up
+/// waits for memory, and here none waits for the one before it.
+#[inline(never)]
+fn clauses_ahead<'a>(
+    live: &'a LiveClauses,
+    hints: &[SignedId],
+    from: usize,
+) -> [Option<&'a [Lit]>; AHEAD]
+    requires { from < length hints.now }
+    ensures { AreFound live.now hints.now from (map option_copied result) }
+{
+    [
+        clause_at(live, hints, from),
+        clause_at(live, hints, from + 1),
+        clause_at(live, hints, from + 2),
+        clause_at(live, hints, from + 3),
+        clause_at(live, hints, from + 4),
+        clause_at(live, hints, from + 5),
+        clause_at(live, hints, from + 6),
+        clause_at(live, hints, from + 7),
+    ]
+}
+
+/// The clause under the id of hint i, if it is live: looked up now, or with those of its eight when
+/// the first of them comes.
+#[inline(always)]
+fn next_clause<'a>(
+    live: &'a LiveClauses,
+    hints: &[SignedId],
+    i: usize,
+    many: bool,
+    ahead: &mut [Option<&'a [Lit]>; AHEAD],
+) -> Option<&'a [Lit]>
+    requires within { i < length hints.now }
+    requires ahead { many ≡ true → 0 < i % 8
+        → AreFound live.now hints.now (8 * (i / 8)) (map option_copied ahead.old) }
+    ensures found { option_copied result ≡ listed_at live.now (get_or hints.now i (false, 0)).1 }
+    ensures ahead { many ≡ true
+        → AreFound live.now hints.now (8 * (i / 8)) (map option_copied ahead.new) }
+{
+    if !many {
+        return live.find(hints[i].id());
+    }
+    if i % AHEAD == 0 {
+        *ahead = clauses_ahead(live, hints, i);
+    }
+    ahead[i % AHEAD]
+}
+
 /// Follows the hints in turn. What they make true is assumed.
 pub(crate) fn walk(
     live: &LiveClauses,
@@ -95,8 +161,10 @@ pub(crate) fn walk(
     ensures kept { take (length assumed.old.literals) assumed.new.literals ≡ assumed.old.literals }
     ensures variables { assumed.new.variables ≡ assumed.old.variables }
 {
-    for (i, hint) in hints.iter().enumerate() {
-        let Some(clause) = live.find(hint.id()) else {
+    let many = live.entries() > MANY;
+    let mut ahead = [None; AHEAD];
+    for i in 0..hints.len() {
+        let Some(clause) = next_clause(live, hints, i, many, &mut ahead) else {
             return Ok(Walked::Fault(Cause::DeadId));
         };
         match effect_of(clause, assumed) {

@@ -38,6 +38,14 @@ clauses-append = laws.pieces-append cells
 pub clauses_push : (ls more : List Literal) (cs : List Cell) (c : Cell) → IsLaid 0 cs (length ls) → c.start ≡ length ls → c.length ≡ length more → c.live ≡ true → clauses_in (ls ++ more) (cs ++ c ∷ []) ≡ clauses_in ls cs ++ (c.id, more) ∷ []
 clauses_push = laws.pieces_push cells
 
+pub clauses-le : (ls : List Literal) (cs : List Cell) → length (clauses_in ls cs) ≤ length cs
+clauses-le ls [] = omega arith
+clauses-le ls (c ∷ cs) =
+    elim (cases_Bool c.live) [
+      | inl t ↦ omega (arith, ap length (clauses_live ls c cs t), clauses-le ls cs)
+      | inr f ↦ omega (arith, ap length (clauses_dead ls c cs f), clauses-le ls cs)
+    ]
+
 -- entries and literals are moved together, as far as i
 abbrev pub IsCompacting : List Literal → List Cell → ℕ → ℕ → ℕ → Listed → Type 0
 IsCompacting = laws.IsCompacting cells

@@ -34,6 +34,12 @@ given_gone n (d ∷ cs) (false ∷ fs) zero i e t = given_before (n + 1) cs fs i
 given_gone n (d ∷ cs) (true ∷ fs) (suc k) i e t = listed_there (n, d) (given_from (n + 1) cs fs) i (λ z. absurd (omega arith)) ∙ given_gone (n + 1) cs fs k i (omega arith) t
 given_gone n (d ∷ cs) (false ∷ fs) (suc k) i e t = given_gone (n + 1) cs fs k i (omega arith) t
 
+pub given-le : (n : ℕ) (cs : List (List Literal)) (fs : List Bool) → length (given_from n cs fs) ≤ length fs
+given-le n [] fs = omega arith
+given-le n (c ∷ cs) [] = omega arith
+given-le n (c ∷ cs) (true ∷ fs) = omega (arith, given-le (n + 1) cs fs)
+given-le n (c ∷ cs) (false ∷ fs) = omega (arith, given-le (n + 1) cs fs)
+
 -- under an id
 pub given_none : (cs : List (List Literal)) (fs : List Bool) (i : ℕ) → is_given fs i ≡ false → listed_at (given_from 1 cs fs) i ≡ None
 given_none cs fs zero t = given_before 1 cs fs 0 (omega arith)

@@ -1,6 +1,7 @@
 // The clauses that a certificate adds, in flat memory: it grows with what is live, and not with the
 // length of the certificate.
-ghost use Rattle.std.specs.Prelude.{◌≡◌, ℕ, List, ◌<◌, ◌↔◌, ◌∷◌, [], ◌++◌, ◌/◌, All, IsTrue};
+ghost use Rattle.std.specs.Prelude.{◌≡◌, ℕ, List, ◌<◌, ◌≤◌, ◌^◌, ◌↔◌, ◌∷◌, [], ◌++◌, ◌/◌, length};
+ghost use Rattle.std.specs.Prelude.{All, IsTrue};
 ghost use Rattle.std.specs.Prelude.{IsSome, OnOk, OnErr};
 ghost use Rattle.std.specs.Option.{option_copied};
 ghost use Rattle.wcnf.specs.Literal.{Literal};
@@ -75,6 +76,14 @@ impl Added {
             self.dead = 0;
         }
         append(&mut self.lits, &mut self.entries, &mut self.heads, id, lits)
+    }
+
+    /// How many clauses take room, dead ones too.
+    pub(crate) fn entries(&self) -> usize
+        ensures all { length self.now ≤ result }
+        ensures few { result < 2 ^ 32 }
+    {
+        self.entries.len()
     }
 
     /// The clause under an id, if it is live.

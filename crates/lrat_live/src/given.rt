@@ -1,6 +1,7 @@
 // The clauses of the formula. They stay where the formula has them: a deletion takes back a flag,
 // and no memory.
-ghost use Rattle.std.specs.Prelude.{◌≡◌, ℕ, List, ◌+◌, ◌↔◌, ◌++◌, length, replicate, false, true};
+ghost use Rattle.std.specs.Prelude.{◌≡◌, ℕ, List, ◌+◌, ◌<◌, ◌≤◌, ◌^◌, ◌↔◌, ◌++◌, length, replicate};
+ghost use Rattle.std.specs.Prelude.{false, true};
 ghost use Rattle.std.specs.Prelude.{slice_index_or, IfOk, IsTrue, IsSome, MatchOption, OnOk};
 ghost use Rattle.std.specs.Option.{option_copied};
 ghost use Rattle.wcnf.specs.Literal.{Literal};
@@ -77,6 +78,14 @@ impl Given {
     {
         let flags = all_set(formula.allocator(), formula.clauses().len())?;
         Ok(Given { formula, flags })
+    }
+
+    /// How many clauses the formula has, dead ones too.
+    pub(crate) fn entries(&self) -> usize
+        ensures all { length self.now ≤ result }
+        ensures few { result < 2 ^ 63 }
+    {
+        self.flags.len()
     }
 
     /// The clause under an id, if it is live.

@@ -1,5 +1,6 @@
 // The live clauses of a certificate by id: those of the formula, and those that were added.
-ghost use Rattle.std.specs.Prelude.{◌≡◌, ◌<◌, ◌↔◌, ◌∷◌, [], ◌++◌, true, false, All, IfOk, IsTrue};
+ghost use Rattle.std.specs.Prelude.{◌≡◌, ◌<◌, ◌≤◌, ◌↔◌, ◌∷◌, [], ◌++◌, length, true, false, All};
+ghost use Rattle.std.specs.Prelude.{IfOk, IsTrue};
 ghost use Rattle.std.specs.Prelude.{IsSome, OnOk, OnErr};
 ghost use Rattle.std.specs.Option.{option_copied};
 ghost use Rattle.lrat_live.specs.Counts.{times_at, take_all, AreCounts};
@@ -113,6 +114,13 @@ impl LiveClauses {
         self.added.add(id, lits)?;
         self.is_counted = count_last(self.is_counted, &mut self.counts, lits);
         Ok(())
+    }
+
+    /// How many clauses take room: those that are live, and dead ones whose room was not reclaimed.
+    pub fn entries(&self) -> usize
+        ensures { length self.now ≤ result }
+    {
+        self.given.entries() + self.added.entries()
     }
 
     /// The clause under an id, if it is live.

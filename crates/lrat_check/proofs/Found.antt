@@ -1,0 +1,36 @@
+-- One of the clauses that were looked up together.
+use Rattle.std.proofs.Common.{◌≡◌, ℕ, zero, suc, ◌+◌, ◌*◌, ◌/◌, ◌%◌, ◌<◌, Bool, false, List, [], ◌∷◌, map, length, get_or, Option, Bor, sym, ◌∙◌, ap, subst, arith}
+use Rattle.std.specs.Option.{option_copied}
+use Rattle.std.proofs.lemmas.List.{get_or_default}
+use Rattle.wcnf.specs.Literal.{Literal}
+use Rattle.lrat_check.specs.Found.{IsFound, AreFound}
+use Rattle.lrat_live.specs.Listed.{listed_at}
+
+abbrev Looked : Type 0
+Looked = Option (Bor (List Literal))
+
+found_among : (es : List (ℕ × List Literal)) (hints : List (Bool × ℕ)) (place k : ℕ)
+    (all : List Looked) (d one : Looked)
+    → k < length all → get_or all k d ≡ one → AreFound es hints place (map option_copied all)
+    → IsFound es hints (place + k) (option_copied one)
+found_among es hints place k [] d one lt e f = absurd (omega arith)
+found_among es hints place zero (x ∷ xs) d one lt e f =
+    let here : place ≡ place + 0 = omega arith in
+    subst (λ n. IsFound es hints n (option_copied one)) here
+    (subst (λ y. IsFound es hints place (option_copied y)) e f.0)
+found_among es hints place (suc k) (x ∷ xs) d one lt e f =
+    let there : place + 1 + k ≡ place + suc k = omega arith in
+    subst (λ n. IsFound es hints n (option_copied one)) there
+    (found_among es hints (place + 1) k xs d one (omega arith) e f.1)
+
+-- the clause of hint i, among those of its eight
+pub found_here : (es : List (ℕ × List Literal)) (hints : List (Bool × ℕ)) (i : ℕ)
+    (all : List Looked) (d one : Looked)
+    → i % 8 < length all → i < length hints → get_or all (i % 8) d ≡ one
+    → AreFound es hints (8 * (i / 8)) (map option_copied all)
+    → option_copied one ≡ listed_at es (get_or hints i (false, 0)).1
+found_here es hints i all d one lt within e f =
+    let h = get_or hints i (false, 0) in
+    let same : i ≡ 8 * (i / 8) + i % 8 = omega arith in
+    found_among es hints (8 * (i / 8)) (i % 8) all d one lt e f h (omega arith)
+    (get_or_default hints i (false, 0) h within ∙ ap (λ n. get_or hints n h) same)
