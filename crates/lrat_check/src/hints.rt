@@ -1,4 +1,8 @@
 // Hints: what one does to the literals that are assumed true, and what several do in turn.
+//
+// Eight hints are looked up together where many clauses take room alone. Tried: at every line. A
+// certificate with a million live clauses took 1.5 s in place of 2.3 s, but small ones, of which all
+// is in the caches, 11 to 15 % more instructions; as it is they take within 0.4 % of what they took.
 ghost use Rattle.std.specs.Prelude.{◌≡◌, ℕ, ◌*◌, ◌/◌, ◌%◌, ◌<◌, ◌≤◌, true, false, List, Some, IfOk};
 ghost use Rattle.std.specs.Prelude.{length, get_or, map, take, All};
 ghost use Rattle.std.specs.Option.{option_copied};
