@@ -6,15 +6,12 @@ use Rattle.wcnf.specs.Literal.{Literal, negation, literal_eq}
 use Rattle.wcnf.specs.Clause.{contains_literal}
 use Rattle.wcnf.specs.Refute.{Clauses, IsUnit, IsFalseUnder, Leads, Refutes}
 use Rattle.wcnf.proofs.Laws.{literal_eq-true}
-
--- A has the literals of B
-abbrev pub IsIn : List Literal → List Literal → Type 0
-IsIn B A = (l : Literal) → contains_literal l B ≡ true → contains_literal l A ≡ true
+use Rattle.clauses.specs.Within.{Within}
 
 abbrev pub OpensNothing : Clauses → List Literal → Type 0
 OpensNothing at A = (r : ℕ) (c : List Literal) → at r ≡ Some c → (IsFalseUnder c A → ⊥) × ((l : Literal) → IsUnit c A l → ⊥)
 
-parts_more : (A B : List Literal) (l : Literal) → IsIn B A → (c : List Literal) → AllByRecursion (λ k. (k ≡ l) ⊎ (contains_literal (negation k) B ≡ true)) c → AllByRecursion (λ k. (k ≡ l) ⊎ (contains_literal (negation k) A ≡ true)) c
+parts_more : (A B : List Literal) (l : Literal) → Within B A → (c : List Literal) → AllByRecursion (λ k. (k ≡ l) ⊎ (contains_literal (negation k) B ≡ true)) c → AllByRecursion (λ k. (k ≡ l) ⊎ (contains_literal (negation k) A ≡ true)) c
 parts_more A B l h [] p = tt
 parts_more A B l h (k ∷ c) p = (elim (p.0) [ inl s ↦ inl s | inr f ↦ inr (h (negation k) f) ], parts_more A B l h c p.1)
 
@@ -23,7 +20,7 @@ all_false A l [] f p = tt
 all_false A l (k ∷ c) f p = (elim (p.0) [ inl s ↦ ap (λ x. contains_literal (negation x) A) s ∙ f | inr g ↦ g ], all_false A l c f p.1)
 
 -- a unit clause has its literal true already
-unit_is_true : (at : Clauses) (A B : List Literal) (h : ℕ) (c : List Literal) (l : Literal) → OpensNothing at A → IsIn B A → at h ≡ Some c → IsUnit c B l → contains_literal l A ≡ true
+unit_is_true : (at : Clauses) (A B : List Literal) (h : ℕ) (c : List Literal) (l : Literal) → OpensNothing at A → Within B A → at h ≡ Some c → IsUnit c B l → contains_literal l A ≡ true
 unit_is_true at A B h c l quiet within e u =
     let others = parts_more A B l within c u.others in
     elim (cases_Bool (contains_literal l A)) as (λ _. contains_literal l A ≡ true) [
@@ -34,7 +31,7 @@ unit_is_true at A B h c l quiet within e u =
       ]
     ]
 
-quiet_leads : (at : Clauses) (A : List Literal) → OpensNothing at A → (B : List Literal) → IsIn B A → (hs : List ℕ) (C : List Literal) → Leads at B hs C → IsIn C A
+quiet_leads : (at : Clauses) (A : List Literal) → OpensNothing at A → (B : List Literal) → Within B A → (hs : List ℕ) (C : List Literal) → Leads at B hs C → Within C A
 quiet_leads at A quiet B within [] C w = λ l m. within l (sym (ap (contains_literal l) w) ∙ m)
 quiet_leads at A quiet B within (h ∷ hs) C w =
     let true_one = unit_is_true at A B h w.0 w.1 quiet within w.2 w.3 in
@@ -43,7 +40,7 @@ quiet_leads at A quiet B within (h ∷ hs) C w =
       | inr b ↦ within l b
     ]) hs C w.4
 
-false_more : (c A B : List Literal) → IsIn B A → IsFalseUnder c B → IsFalseUnder c A
+false_more : (c A B : List Literal) → Within B A → IsFalseUnder c B → IsFalseUnder c A
 false_more [] A B h f = tt
 false_more (l ∷ c) A B h f = (h (negation l) f.0, false_more c A B h f.1)
 

@@ -1,3 +1,4 @@
+pub mod Within
 pub mod Slots
 pub mod Zipped
 pub mod Heads

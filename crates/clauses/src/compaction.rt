@@ -1,4 +1,9 @@
 //! Live clauses move together, in place: heads and literals go down over what is dead.
+//!
+//! One pass from the first head to the last. What it has kept so far fills the front of both
+//! vectors, and each further live clause is copied to the end of that front, which is never above
+//! the place where the clause lies: so nothing is written over before it was copied. Each literal
+//! is moved at most once, and no memory is taken.
 ghost use Rattle.std.specs.Prelude.{◌≡◌, ◌<◌, ◌≤◌, ◌^◌, length};
 ghost use Rattle.clauses.specs.Heads.{clauses_in, IsLaid, AllLive};
 

@@ -10,7 +10,9 @@ use std::marker::Model;
 /// are.
 #[derive(Clone, Copy, Debug, PartialEq, Eq, Drop)]
 pub(crate) struct Span {
+    // The place of the first literal, from 0 up to the number of all literals.
     pub(crate) start: u32,
+    // How many literals the clause has: 0 for the empty clause.
     pub(crate) length: u32,
 }
 
@@ -20,7 +22,9 @@ const _: () = prove!(size_of::<Span>() == 8);
 /// since reading a clause needs no more.
 #[derive(Drop)]
 pub(crate) struct Heads {
+    // By reference, where the literals of the clause lie.
     spans: Vec<Span>,
+    // By reference, whether the clause is live; as many as spans.
     live: Vec<bool>,
 }
 
@@ -54,7 +58,7 @@ impl Heads {
         self.spans.len()
     }
 
-    /// Where the clause of a head lies.
+    /// Where the literals of the clause under this place lie, also those of a dead one.
     pub(crate) fn span(&self, at: usize) -> Span
         requires { at < length self.now }
         ensures { slice_get (map span_of self.now) at ≡ Some result }
@@ -88,7 +92,7 @@ impl Heads {
         Ok(())
     }
 
-    /// Puts a live head at this place.
+    /// Puts a live head at this place, over what stood there.
     pub(crate) fn set(&mut self, at: usize, span: Span)
         requires { at < length self.old }
         ensures { self.new ≡ slice_set self.old at (head_of span true) }
@@ -106,7 +110,7 @@ impl Heads {
         self.live[at] = false;
     }
 
-    /// Keeps the first heads, up to so many.
+    /// Keeps the first `count` heads, or all where there are no more.
     pub(crate) fn truncate(&mut self, count: usize)
         ensures { self.new ≡ take count self.old }
     {

@@ -24,6 +24,7 @@ const MOST: usize = 4_294_967_295;
 /// compaction closes the gaps of those that were deleted. It takes four bytes.
 #[derive(Clone, Copy, Debug, PartialEq, Eq, Drop)]
 pub struct CRef {
+    // From 0; below 2^32 - 1, so that a reference or none fits a word.
     place: u32,
 }
 
@@ -51,7 +52,7 @@ impl CRef {
 /// A reference or none, in four bytes.
 #[derive(Clone, Copy, Debug, PartialEq, Eq, Drop)]
 pub struct MaybeCRef {
-    // the place, where there is one
+    // The place, where there is one.
     word: MaybeWord,
 }
 
@@ -94,7 +95,10 @@ impl MaybeCRef {
 /// all, as in MiniSat (Eén and Sörensson 2003).
 #[derive(Drop)]
 pub struct Store {
+    // The literals of all clauses, also of dead ones, one clause after another by reference; fewer
+    // than 2^32.
     literals: Vec<Lit>,
+    // By reference, where the literals of the clause lie, and whether it is live; fewer than 2^32.
     heads: Heads,
 }
 
@@ -163,7 +167,8 @@ impl Store {
         &self.literals[start..start + span.length as usize]
     }
 
-    /// Takes a live clause out. Its room is taken back by the next compaction.
+    /// Takes a live clause out. Its reference is not given again before the next compaction, which
+    /// takes its room back.
     pub fn delete(&mut self, reference: CRef)
         requires { IsLive self.old.slots reference }
         ensures { self.new ≡ record self.old { slots = slice_set self.old.slots reference None } }
@@ -199,7 +204,8 @@ impl Store {
         }
     }
 
-    /// The room that clauses take, also deleted ones: a clause takes its length and one more.
+    /// The room that clauses take, also deleted ones, up to the last compaction: a clause takes its
+    /// length and one more.
     pub fn used(&self) -> usize
         ensures { result ≡ self.now.used }
     {
@@ -249,6 +255,7 @@ fn list_moves(alloc: Global, heads: &Heads) -> Result<Vec<(CRef, CRef)>, AllocEr
 /// The old and the new reference of each clause that a compaction kept, in rising order.
 #[derive(Drop)]
 pub struct Moves {
+    // The old reference, then the new one, which is not above it; both sides rise.
     pairs: Vec<(CRef, CRef)>,
 }
 
@@ -273,7 +280,8 @@ impl Moves {
         &self.pairs
     }
 
-    /// The new reference of a clause; none where it was not kept.
+    /// The new reference of the clause that had this one; none where it was not kept. By halving,
+    /// in a logarithmic number of steps.
     pub fn to(&self, reference: CRef) -> Option<CRef>
         ensures { result ≡ renamed self.now reference }
     {

@@ -7,7 +7,7 @@ use std::marker::Model;
 /// variable.
 #[derive(Clone, Copy, Debug, PartialEq, Eq, Drop)]
 pub struct MaybeWord {
-    // the number, or NONE
+    // The number, below 2^32 - 1, or NONE.
     word: u32,
 }
 

@@ -27,8 +27,9 @@ pub(crate) fn new_entry(moves: &Moves, entry: Entry) -> Entry
     }
 }
 
-/// Moves each attachment to its new reference. No attachment is written before it is read, since no
-/// reference rises.
+/// Moves each attachment to its new reference: `pairs` has the old and the new one of each clause
+/// that was kept. What is not named there is detached. No attachment is written over before it is
+/// read, since no reference rises.
 pub fn move_attachments(table: &mut Table, pairs: &[(CRef, CRef)])
     requires rising { IsStrictlyIncreasing (map (λ p. p.1) pairs.now) }
     requires lower { All (λ p. p.1 ≤ p.0) pairs.now }

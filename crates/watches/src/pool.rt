@@ -1,4 +1,11 @@
 // Rows of watches, in one block of memory.
+//
+// Propagation goes along the row of each literal that became false: `get` reads its entries one
+// after another, `set` writes those that stay over those that leave, `close` takes the gap out at
+// the end, and `push` adds an entry to another row. So an entry is found by two reads, of its row's
+// head and of its place, the entries of a row lie side by side, and what seldom happens, that a row
+// has no room left, stands apart in `make_room`. Rows that move leave their old places empty; these
+// are not used again.
 ghost use Rattle.std.specs.Prelude.{◌≡◌, ℕ, ◌<◌, ◌≤◌, List, [], ◌∷◌, ◌++◌, length, map, replicate};
 ghost use Rattle.std.specs.Prelude.{take, Some, slice_get, slice_set, OnOk, OnErr, IfOk, IsTrue};
 ghost use Rattle.std.specs.Prelude.{filter, not, ◌==◌};
@@ -17,7 +24,10 @@ use wcnf::types::Lit;
 /// A clause that watches a literal, and another literal of it.
 #[derive(Clone, Copy, Debug, PartialEq, Eq, Drop)]
 pub struct Entry {
+    /// The clause.
     pub reference: CRef,
+    /// Where this literal is true the clause need not be looked at. It may also be the other one
+    /// that is watched.
     pub blocker: Lit,
 }
 
@@ -25,7 +35,7 @@ pub struct Entry {
 /// cache.
 #[derive(Clone, Copy, Drop)]
 pub(crate) struct Head {
-    // The place of its first entry.
+    // The place of its first entry in the block.
     start: usize,
     // The number of its entries, at most `room`.
     length: u32,
@@ -41,7 +51,7 @@ const NO_ROW: Head = Head {
     room: 0,
 };
 
-/// The room of a row's first entry.
+/// The room, in entries, that a row gets with its first entry.
 const FIRST_ROOM: u32 = 4;
 
 /// A list of entries for each row, all in one block. A row without room left moves to the end of
@@ -53,7 +63,8 @@ pub struct WatchPool {
     block: Block<Entry>,
     // For each row, where it lies in the block.
     heads: Vec<Head>,
-    // The number of places at the block's front in which all rows lie.
+    // The number of places at the block's front in which all rows lie; at most the block's length,
+    // and below 2^63.
     used: usize,
 }
 
@@ -72,6 +83,10 @@ impl Model for WatchPool {
 
 impl WatchPool {
     /// So many empty rows.
+    ///
+    /// # Errors
+    ///
+    /// `AllocError` where the memory for the heads of the rows was refused.
     pub fn new(alloc: Global, rows: usize) -> Result<Self, AllocError>
         ensures { IfOk result (λ p. p ≡ replicate rows []) }
     {
@@ -109,8 +124,12 @@ impl WatchPool {
         self.block.get(start + i)
     }
 
-    /// Puts an entry at the end of a row. A refused growth leaves all rows as they were; so does a
-    /// row of 2^32 - 1 entries.
+    /// Puts an entry at the end of a row.
+    ///
+    /// # Errors
+    ///
+    /// `AllocError` where a growth was refused; for a row of 2^32 - 1 entries it always is. All
+    /// rows are then as they were.
     #[inline]
     pub fn push(&mut self, row: usize, entry: Entry) -> Result<(), AllocError>
         requires { row < length self.old }
@@ -150,7 +169,8 @@ impl WatchPool {
         }
     }
 
-    /// Moves the entries of a row from place `read` on down to place `write`.
+    /// Moves the entries of a row from place `read` on down to place `write`: those between the two
+    /// are gone, and the others keep their order.
     pub fn close(&mut self, row: usize, write: usize, read: usize)
         requires row { row < length self.old }
         requires order { write ≤ read }
@@ -165,7 +185,7 @@ impl WatchPool {
         self.truncate(row, write + (len - read));
     }
 
-    /// Takes the entries of a clause out of a row.
+    /// Takes the entries of a clause out of a row. The others keep their order.
     pub fn remove(&mut self, row: usize, reference: CRef)
         requires row { row < length self.old }
         ensures { self.new ≡ with_row self.old row
@@ -182,7 +202,8 @@ impl WatchPool {
         self.truncate(row, write);
     }
 
-    /// Takes the entries of the clauses that are marked out of all rows.
+    /// Takes the entries of the clauses that are marked out of all rows: `doomed` has a mark by
+    /// reference, and clauses past its end have none.
     pub fn drop_doomed(&mut self, doomed: &[bool])
         ensures { self.new ≡ spared_rows doomed.now self.old }
     {
@@ -207,7 +228,7 @@ impl WatchPool {
         self.truncate(row, write);
     }
 
-    /// Renames the clauses of all entries.
+    /// Puts the new reference of its clause into each entry.
     pub fn rename(&mut self, moves: &Moves)
         ensures { self.new ≡ named_rows moves.now self.old }
     {
@@ -248,8 +269,9 @@ impl WatchPool {
         true
     }
 
-    /// Gives a row twice its room, in a larger block where this one has none left. A row seldom
-    /// needs it, so it stands apart from the loop that pushes.
+    /// Gives a row twice its room, in a larger block where this one has none left: half as large
+    /// again, or by that room if it is more. A row seldom needs it, so it stands apart from the
+    /// loop that pushes.
     #[cold]
     #[inline(never)]
     fn make_room(&mut self, row: usize, fill: &Entry) -> Result<(), AllocError>
@@ -266,7 +288,8 @@ impl WatchPool {
         Ok(())
     }
 
-    /// Moves a row to the end of what is in use, where the block has so much room left.
+    /// Moves a row to the end of what is in use, where it gets `room` places. Where the block has
+    /// not so many left, or the row more entries, all stays as it is.
     fn move_row(&mut self, row: usize, room: u32)
         requires { row < length self.old }
         ensures { self.new ≡ self.old }
@@ -289,7 +312,7 @@ impl WatchPool {
         self.used = to + room as usize;
     }
 
-    /// Moves all rows to a larger block.
+    /// Moves all rows, each to the same places, to a block of `count` places.
     fn grow(&mut self, count: usize, fill: &Entry) -> Result<(), AllocError>
         ensures { self.new ≡ self.old }
     {

@@ -1,4 +1,9 @@
 // Where each clause stands.
+//
+// Propagation asks for the pair of each clause that its blocker does not settle, by `other`, and
+// writes it by `rewatch`. It knows that such a clause watches two literals, so it reads the pair
+// alone, and the kinds, one byte each, lie elsewhere. With a pair goes the third literal of a
+// clause of three: those of up to three literals need no look into the store.
 ghost use Rattle.std.specs.Prelude.{◌≡◌, ℕ, ◌<◌, List, [], length, take, slice_set, OnOk, OnErr};
 ghost use Rattle.wcnf.specs.Literal.{Literal};
 ghost use Rattle.watches.specs.Doomed.{IsSpared};
@@ -26,6 +31,7 @@ pub enum Attachment {
 /// The literals of a clause beside the two that it watches.
 #[derive(Clone, Copy, Debug, PartialEq, Eq, Drop)]
 pub enum Rest {
+    /// There is none: the clause has the two that it watches.
     Nothing,
     /// This one alone.
     One(Lit),
@@ -49,6 +55,7 @@ impl Rest {
 /// An attachment without its literals.
 #[derive(Clone, Copy, Debug, PartialEq, Eq, Drop)]
 pub(crate) enum Kind {
+    // As in `Attachment`.
     Detached,
     Waiting,
     Satisfied,
@@ -58,8 +65,10 @@ pub(crate) enum Kind {
 /// The two literals that a clause watches, and those beside; of no meaning where it watches none.
 #[derive(Clone, Copy, Debug, PartialEq, Eq, Drop)]
 pub(crate) struct Pair {
+    // The two that are watched, in any order.
     pub(crate) one: Lit,
     pub(crate) other: Lit,
+    // The others.
     pub(crate) rest: Rest,
 }
 
@@ -67,7 +76,8 @@ pub(crate) struct Pair {
 /// propagation reads nothing else.
 #[derive(Drop)]
 pub struct Table {
-    // By reference.
+    // By reference, whether the clause is attached, and how; shorter than the store where the
+    // clauses at the end never were.
     kinds: Vec<Kind>,
     // By reference, as many as kinds; of no meaning where the kind is not `Watching`.
     pairs: Vec<Pair>,
@@ -96,6 +106,7 @@ impl Table {
         }
     }
 
+    /// The number of references, from 0 up, that have a place in the table.
     pub fn len(&self) -> usize
         ensures { result ≡ length self.now }
     {
@@ -120,6 +131,7 @@ impl Table {
         }
     }
 
+    /// Puts down how the clause is attached from now on.
     pub fn set(&mut self, reference: usize, attachment: Attachment)
         requires { reference < length self.old }
         ensures { self.new ≡ slice_set self.old reference attachment }
@@ -135,7 +147,8 @@ impl Table {
         }
     }
 
-    /// Detaches the clauses that are marked.
+    /// Detaches the clauses that are marked: `doomed` has a mark by reference, and clauses past its
+    /// end have none.
     pub fn drop_doomed(&mut self, doomed: &[bool])
         ensures { IsSpared doomed.now self.old self.new }
     {
@@ -162,8 +175,8 @@ impl Table {
         }
     }
 
-    /// A clause that watches two literals watches these from now on, one of them in the place of
-    /// `falsified`.
+    /// A clause that watches two literals watches `one` and `other` from now on: one of them in the
+    /// place of `falsified`, which goes to the literals beside.
     pub fn rewatch(&mut self, reference: CRef, falsified: Lit, one: Lit, other: Lit)
         requires { (a b : Literal) × IsWatching (attachment_in self.old reference) a b }
         ensures { self.new ≡ slice_set self.old reference
@@ -175,7 +188,12 @@ impl Table {
         self.pairs[at] = Pair { one, other, rest };
     }
 
-    /// The table gets an attachment for the clause. A refused growth changes nothing.
+    /// The table gets a place for the clause, where it has none: neither it nor those before it are
+    /// attached then.
+    ///
+    /// # Errors
+    ///
+    /// `AllocError` where a growth was refused. The table is then unchanged.
     pub fn make_room(&mut self, reference: CRef) -> Result<(), AllocError>
         ensures ok { OnOk result (self.new ≡ grown_table self.old reference) }
         ensures err { OnErr result (self.new ≡ self.old) }

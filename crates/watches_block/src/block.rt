@@ -15,7 +15,7 @@ use std_alloc::room::may_hold;
 pub struct Block<T> {
     // The first place; null where there is none.
     base: *mut T,
-    // The number of places: it never changes.
+    // The number of places, below 2^63: it never changes.
     count: usize,
     // What lies in the places. It takes no space.
     places: Places<T>,
@@ -51,6 +51,11 @@ impl<T: Copy> Block<T> {
     }
 
     /// So many times the same value.
+    ///
+    /// # Errors
+    ///
+    /// `AllocError` where the memory was refused, or where so many values would take 2^63 bytes or
+    /// more.
     pub fn new(alloc: Global, count: usize, fill: &T) -> Result<Self, AllocError>
         ensures { IfOk result (λ b. b ≡ replicate count fill.now) }
     {
@@ -73,6 +78,7 @@ impl<T: Copy> Block<T> {
         })
     }
 
+    /// The number of places.
     pub fn len(&self) -> usize
         ensures count { result ≡ length self.now }
         ensures small { result < 2 ^ 63 }
@@ -80,6 +86,7 @@ impl<T: Copy> Block<T> {
         self.count
     }
 
+    /// The value at a place, counted from 0.
     pub fn get(&self, place: usize) -> T
         requires { place < length self.now }
         ensures { (d : T) → result ≡ get_or self.now place d }
@@ -87,6 +94,7 @@ impl<T: Copy> Block<T> {
         *self.places.get(self.base, place)
     }
 
+    /// Writes the value at a place, counted from 0.
     pub fn set(&mut self, place: usize, value: T)
         requires { place < length self.old }
         ensures { self.new ≡ slice_set self.old place value }
@@ -94,7 +102,8 @@ impl<T: Copy> Block<T> {
         self.places.put(self.base, place, value);
     }
 
-    /// Copies values to places after them.
+    /// Copies the `count` values from place `from` on to the places from `to` on, all of which lie
+    /// after them.
     pub fn copy_within(&mut self, from: usize, to: usize, count: usize)
         requires before { from + count ≤ to }
         requires room { to + count ≤ length self.old }

@@ -119,6 +119,7 @@ impl<T> Places<T> {
         unsafe { base.add(index).write(item) }
     }
 
+    /// The value that a filled place holds.
     pub(crate) fn get(&self, base: *mut T, index: usize) -> &T
         requires { (base ≡ self.now.at) × (index < length self.now.items)
             × (get_or self.now.filled index false ≡ true) }
