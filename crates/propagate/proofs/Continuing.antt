@@ -17,16 +17,21 @@ use Rattle.propagate.proofs.Fitting.{with_progress}
 use Rattle.propagate.proofs.Facts.{all_join}
 use Rattle.propagate.proofs.Attaching.{kept_within}
 
-pub continues_same : (e : EngineState) → Continues e e
-continues_same e = record {
+-- neither the trail nor an attachment changes
+continues_beside : (e f : EngineState) → f.trail ≡ e.trail → f.variables ≡ e.variables
+    → f.failed ≡ e.failed → f.watches.table ≡ e.watches.table → Continues e f
+continues_beside e f trail variables failed table = record {
   more = [];
-  grown = sym (append-nil e.trail);
+  grown = trail ∙ sym (append-nil e.trail);
   forced = tt;
-  variables = refl;
-  failed = refl;
-  attached = λ r. refl;
-  waiting = λ r h. h;
+  variables = variables;
+  failed = failed;
+  attached = λ r. ap (λ t. is_kept (attachment_in t r)) table;
+  waiting = λ r h. sym (ap (λ t. attachment_in t r) table) ∙ h;
 }
+
+pub continues_same : (e : EngineState) → Continues e e
+continues_same e = continues_beside e e refl refl refl refl
 
 pub continues_then : (e f g : EngineState) → Continues e f → Continues f g → Continues e g
 continues_then e f g a b = record {
@@ -41,15 +46,7 @@ continues_then e f g a b = record {
 
 -- only rows and the waiting list change
 pub continues_rows : (e : EngineState) (R : List (List Entry)) (w : List ℕ) → Continues e (with_watches e e.watches.table R w)
-continues_rows e R w = record {
-  more = [];
-  grown = sym (append-nil e.trail);
-  forced = tt;
-  variables = refl;
-  failed = refl;
-  attached = λ r. refl;
-  waiting = λ r h. h;
-}
+continues_rows e R w = continues_beside e _ refl refl refl refl
 
 -- a literal becomes true, and rows change
 pub continues_unit : (e : EngineState) (l : Literal) (r : ℕ) → Continues e (with_trail e (e.trail ++ made l (Some r) ∷ []))
@@ -86,12 +83,4 @@ continues_attachment e r p R was kept new =
 
 -- only the attachments in the queue change
 pub continues_progress : (e : EngineState) (s p : ℕ) → Continues e (with_progress e e.trail s p)
-continues_progress e s p = record {
-  more = [];
-  grown = sym (append-nil e.trail);
-  forced = tt;
-  variables = refl;
-  failed = refl;
-  attached = λ r. refl;
-  waiting = λ r h. h;
-}
+continues_progress e s p = continues_beside e _ refl refl refl refl

@@ -7,6 +7,7 @@ use Rattle.std.proofs.lemmas.List.Elements.{All-push}
 use Rattle.wcnf.specs.Literal.{Literal, negation}
 use Rattle.wcnf.specs.Clause.{contains_literal}
 use Rattle.clauses.specs.Slots.{Slots, clause_at}
+use Rattle.clauses.specs.Within.{Within}
 use Rattle.watches.specs.declared.table.Attachment.{Attachment}
 use Rattle.watches.specs.declared.table.Attachment.TheVariants.{Detached, Waiting, Satisfied, Watching}
 use Rattle.watches.specs.Table.{attachment_in}
@@ -17,7 +18,7 @@ use Rattle.propagate.proofs.Levels.{kept_all, kept_push, depth_grows}
 use Rattle.propagate.proofs.Kept.{contains_front, contains_take_more, kept_prefix, kept_kept, kept_above}
 use Rattle.propagate.proofs.Reasons.{reasons_front, reasons_push}
 
-pub true_more : (c A B : List Literal) → ((l : Literal) → contains_literal l A ≡ true → contains_literal l B ≡ true) → HasTrue c A → HasTrue c B
+pub true_more : (c A B : List Literal) → Within A B → HasTrue c A → HasTrue c B
 true_more c A B f h = (h.0, h.1, f h.0 h.2)
 
 abbrev pub with_progress : EngineState → List Assigned → ℕ → ℕ → EngineState

@@ -109,3 +109,13 @@ attached_within e slots r c fits was live =
 
 pub waiting_within : (e : EngineState) (slots : Slots) (r : ℕ) (c : List Literal) → Fits e slots → attachment_in e.watches.table r ≡ Waiting → clause_at slots r ≡ Some c → IsWithin e.variables c
 waiting_within e slots r c fits waits live = attached_within e slots r c fits (ap is_kept waits) live
+
+pub waiting_variable : (e : EngineState) (slots : Slots) (r : ℕ) (c : List Literal) (l : Literal) → Fits e slots → attachment_in e.watches.table r ≡ Waiting → clause_at slots r ≡ Some c
+    → contains_literal l c ≡ true → IsVariable e.variables l
+waiting_variable e slots r c l fits waits live = within_variable e.variables c l (waiting_within e slots r c fits waits live)
+
+-- so its literals may be asked for
+pub waiting_all : (v : ℕ) (e : EngineState) (slots : Slots) (r : ℕ) (c : List Literal) → v ≡ e.variables → Fits e slots → attachment_in e.watches.table r ≡ Waiting → clause_at slots r ≡ Some c
+    → All (λ (l : Literal). l.variable ≤ v) c
+waiting_all v e slots r c same fits waits live =
+    within_all v c (subst (λ n. greatest_variable c ≤ n) (sym same) (waiting_within e slots r c fits waits live).1)

@@ -6,7 +6,7 @@ use Rattle.std.proofs.lemmas.List.{map_push, length_push, get_or-set_other, leng
 use Rattle.std.proofs.lemmas.List.Sums.{sum_by-set, sum_by-cons, sum_by_push}
 use Rattle.wcnf.specs.Literal.{Literal, negation, literal_eq}
 use Rattle.wcnf.specs.Clause.{contains_literal}
-use Rattle.propagate.specs.Trail.{Assigned, literals_of, depth_of, is_decision, value_in, level_from, level_after, reason_in}
+use Rattle.propagate.specs.Trail.{Assigned, literals_of, depth_of, is_decision, value_in, level_in, level_from, level_after, reason_in}
 use Rattle.propagate.specs.Tables.{mentions, reason_at, assigned_by}
 use Rattle.std.proofs.Math.Bool.{or-false}
 use Rattle.propagate.proofs.Literals.{contains-push, contains-none, mentions-none, negation_twice, literal_eq-self, literal_eq-negation, literal_eq-other}
@@ -46,6 +46,13 @@ level_some n (a ∷ T) v e = elim (cases_Bool (a.literal.variable == v)) [
       let w = level_some (level_after n a) T v k in
       (w.0, cond-false (a.literal.variable == v) (Some (level_after n a)) (level_from (level_after n a) T v) h ∙ w.1)
 ]
+
+-- what has a level is mentioned, and nothing else
+pub mentioned : (T : List Assigned) (v k : ℕ) → level_in T v ≡ Some k → mentions v (literals_of T) ≡ true
+mentioned T v k e = elim (cases_Bool (mentions v (literals_of T))) [ inl h ↦ h | inr h ↦ absurd (let n = level_none 0 T v h in cc) ]
+
+pub unmentioned : (T : List Assigned) (v : ℕ) → level_in T v ≡ None → mentions v (literals_of T) ≡ false
+unmentioned T v e = elim (cases_Bool (mentions v (literals_of T))) [ inr h ↦ h | inl h ↦ absurd (let n = level_some 0 T v h in cc (n.1)) ]
 
 pub depth-cons : (b : Assigned) (T : List Assigned) → depth_of (b ∷ T) ≡ cond (is_decision b) 1 0 + depth_of T
 depth-cons b T = sum_by-cons (λ (a : Assigned). cond (is_decision a) 1 0) b T

@@ -1,49 +1,34 @@
-use Rattle.std.proofs.Common.{◌≡◌, ◌≤◌, true, Some, refl, sym, ap, subst, ◌∙◌}
-use Rattle.std.specs.Prelude.{All, IfSome}
-use Rattle.wcnf.specs.Literal.{Literal}
+use Rattle.std.proofs.Common.{◌≡◌, true, Some, refl, sym, ap, subst, ◌∙◌}
+use Rattle.std.specs.Prelude.{IfSome}
 use Rattle.wcnf.specs.Clause.{contains_literal}
-use Rattle.clauses.specs.Slots.{clause_at}
 use Rattle.watches.specs.declared.table.Attachment.TheVariants.{Watching, Satisfied}
 use Rattle.watches.specs.Table.{is_kept}
 use Rattle.propagate.specs.Trail.{level_in, depth_of}
 use Rattle.propagate.specs.Watches.{EngineState, IsEngine}
 use Rattle.propagate.specs.Fits.{Fits}
 use Rattle.propagate.specs.Steps.{Continues}
-use Rattle.propagate.proofs.Looking.{waiting_within, within_variable, within_all}
+use Rattle.propagate.proofs.Looking.{waiting_variable, waiting_all}
 use Rattle.propagate.proofs.Continuing.{continues_attachment}
 use Rattle.propagate.proofs.Watching.{fits_watch, fits_satisfied, level_watch, true_watch}
 use Rattle.propagate.proofs.engine.Engine.watch_satisfied.Goals as goal
+use Rattle.propagate.proofs.engine.Engine.watch_satisfied.Goals.{After-lits-lits}
+
+-- the clause was read
+module _ (c : After-lits-lits) where
+  member : contains_literal c.args.one c.lits-lits.result.now ≡ true
+  member = subst (λ o. IfSome o (λ x. contains_literal c.args.one x ≡ true)) c.lits-lits.ensures c.requires.member
 
 pub find_other_of_level-requires : goal.find_other_of_level-requires
 find_other_of_level-requires c =
-    let now = c.args.self.now in
-    let slots = c.args.store.now.slots in
-    let r = c.args.reference in
-    let lits = c.lits-lits.result.now in
-    let live : clause_at slots r ≡ Some lits = c.lits-lits.ensures in
-    let within = waiting_within now slots r lits c.requires.fits c.requires.waits live in
-    let v = ap (λ (x : EngineState). x.variables) c.self.view_is in
-    subst (λ n. All (λ (l : Literal). l.variable ≤ n) lits) (sym v) (within_all now.variables lits within.1)
+    waiting_all _ c.args.self.now c.args.store.now.slots c.args.reference c.lits-lits.result.now (ap (λ (x : EngineState). x.variables) c.self.view_is) c.requires.fits c.requires.waits c.lits-lits.ensures
 
 pub watch-requires-clause-one : goal.watch-requires-clause-one
 watch-requires-clause-one c =
-    let now = c.args.self.now in
-    let slots = c.args.store.now.slots in
-    let r = c.args.reference in
-    let lits = c.lits-lits.result.now in
-    let live : clause_at slots r ≡ Some lits = c.lits-lits.ensures in
-    let within = waiting_within now slots r lits c.requires.fits c.requires.waits live in
-    within_variable now.variables lits c.args.one within (subst (λ o. IfSome o (λ x. contains_literal c.args.one x ≡ true)) live c.requires.member)
+    waiting_variable c.args.self.now c.args.store.now.slots c.args.reference c.lits-lits.result.now c.args.one c.requires.fits c.requires.waits c.lits-lits.ensures (member (goal.at.watch-requires-clause-one c).After-lits-lits)
 
 pub watch-requires-clause-other : goal.watch-requires-clause-other
 watch-requires-clause-other c =
-    let now = c.args.self.now in
-    let slots = c.args.store.now.slots in
-    let r = c.args.reference in
-    let lits = c.lits-lits.result.now in
-    let live : clause_at slots r ≡ Some lits = c.lits-lits.ensures in
-    let within = waiting_within now slots r lits c.requires.fits c.requires.waits live in
-    within_variable now.variables lits c.in-Some.other within c.in-Some.ensures.0
+    waiting_variable c.args.self.now c.args.store.now.slots c.args.reference c.lits-lits.result.now c.in-Some.other c.requires.fits c.requires.waits c.lits-lits.ensures c.in-Some.ensures.0
 
 pub returns-in-Some-clause-continues : goal.returns-in-Some-clause-continues
 returns-in-Some-clause-continues c =
@@ -54,17 +39,16 @@ pub returns-in-Some-clause-fits : goal.returns-in-Some-clause-fits
 returns-in-Some-clause-fits c =
     let now = c.args.self.now in
     let slots = c.args.store.now.slots in
-    let r = c.args.reference in
     let lits = c.lits-lits.result.now in
-    let live : clause_at slots r ≡ Some lits = c.lits-lits.ensures in
-    let inv : IsEngine now = subst IsEngine c.self.view_is c.self.invariant in
-    let m : contains_literal c.args.one lits ≡ true = subst (λ o. IfSome o (λ x. contains_literal c.args.one x ≡ true)) live c.requires.member in
+    let other = c.in-Some.other in
+    let m = member (goal.at.returns-in-Some-clause-fits c).After-lits-lits in
     let trail = ap (λ (x : EngineState). x.trail) c.self.view_is in
-    let at : level_in now.trail c.in-Some.other.variable ≡ Some (depth_of now.trail) =
-    ap (λ T. level_in T c.in-Some.other.variable) (sym trail) ∙ c.in-Some.ensures.2 ∙ ap Some (c.depth-depth.ensures ∙ ap depth_of trail) in
+    let at : level_in now.trail other.variable ≡ Some (depth_of now.trail) =
+    ap (λ T. level_in T other.variable) (sym trail) ∙ c.in-Some.ensures.2 ∙ ap Some (c.depth-depth.ensures ∙ ap depth_of trail) in
     subst (λ e. Fits e slots) (sym c.in_ok-watch.ensures.ok.2)
-    (fits_watch now slots r lits c.args.one c.in-Some.other c.in_ok-watch.ensures.ok.0 inv c.requires.fits c.requires.waits live (λ e. c.in-Some.ensures.1 (sym e))
-    (true_watch now slots lits c.args.one c.requires.fits m c.requires.is_true) (level_watch now lits c.args.one c.in-Some.other m c.requires.is_true c.in-Some.ensures.0 at) c.in_ok-watch.ensures.ok.1)
+    (fits_watch now slots c.args.reference lits c.args.one other c.in_ok-watch.ensures.ok.0 (subst IsEngine c.self.view_is c.self.invariant) c.requires.fits c.requires.waits c.lits-lits.ensures
+    (λ e. c.in-Some.ensures.1 (sym e)) (true_watch now slots lits c.args.one c.requires.fits m c.requires.is_true)
+    (level_watch now lits c.args.one other m c.requires.is_true c.in-Some.ensures.0 at) c.in_ok-watch.ensures.ok.1)
 
 pub returns-then-depth-eq0-clause-continues : goal.returns-then-depth-eq0-clause-continues
 returns-then-depth-eq0-clause-continues c =
@@ -75,10 +59,7 @@ pub returns-then-depth-eq0-clause-fits : goal.returns-then-depth-eq0-clause-fits
 returns-then-depth-eq0-clause-fits c =
     let now = c.args.self.now in
     let slots = c.args.store.now.slots in
-    let r = c.args.reference in
-    let lits = c.lits-lits.result.now in
-    let live : clause_at slots r ≡ Some lits = c.lits-lits.ensures in
-    let m : contains_literal c.args.one lits ≡ true = subst (λ o. IfSome o (λ x. contains_literal c.args.one x ≡ true)) live c.requires.member in
+    let m = member (goal.at.returns-then-depth-eq0-clause-fits c).After-lits-lits in
     let trail = ap (λ (x : EngineState). x.trail) c.self.view_is in
     let zero : depth_of now.trail ≡ 0 = sym (c.depth-depth.ensures ∙ ap depth_of trail) ∙ c.if-depth-eq0.true in
-    subst (λ e. Fits e slots) (sym c.set_satisfied.ensures) (fits_satisfied now slots r lits c.requires.fits c.requires.waits live zero (c.args.one, m, c.requires.is_true))
+    subst (λ e. Fits e slots) (sym c.set_satisfied.ensures) (fits_satisfied now slots c.args.reference c.lits-lits.result.now c.requires.fits c.requires.waits c.lits-lits.ensures zero (c.args.one, m, c.requires.is_true))
