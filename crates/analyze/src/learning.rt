@@ -17,7 +17,8 @@ use std::alloc::{AllocError, Global};
 use std::marker::Model;
 use wcnf::types::Lit;
 
-/// Learned clauses of so many literals or fewer keep them inline.
+/// Learned clauses of so many literals or fewer keep them inline, so that they take no memory
+/// beside their hints.
 pub const SHORT: usize = 8;
 
 /// A clause that follows, and what shows it.
@@ -38,7 +39,8 @@ pub struct Learned {
 /// 4; Sörensson and Biere 2009).
 #[derive(Drop)]
 pub struct Analyzer {
-    // By variable: what the analysis at work knows of it, and all clear between calls.
+    // By variable, from 0, which no literal has: what the analysis at work knows of it, and all
+    // clear between calls.
     marks: Vec<Mark>,
     // The variables that are marked, by their positions on the trail; between calls, those that the
     // last analysis met. It has room for all variables.

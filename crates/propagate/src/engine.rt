@@ -53,8 +53,8 @@ pub struct Engine {
     pool: WatchPool,
     // The clauses that were attached and are to get watches, and others that need none any more.
     waiting: Vec<CRef>,
-    // How many literals of the trail were propagated, also after any levels are undone; at most
-    // `qhead`.
+    // How many literals of the trail were propagated and stay so after any levels are undone; at
+    // most `qhead`.
     stable_qhead: usize,
     // How many literals of the trail were propagated; at most the trail's length.
     qhead: usize,
@@ -312,6 +312,7 @@ impl Engine {
         }
     }
 
+    /// Whether the clause is attached, and how.
     fn attachment(&self, reference: CRef) -> Attachment
         ensures { result ≡ attachment_in self.now.watches.table reference }
     {

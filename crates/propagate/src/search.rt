@@ -1,4 +1,4 @@
-// Searches in the literals of a clause.
+// Searches in the literals of a clause, from the first on.
 ghost use Rattle.std.specs.Prelude.{◌≡◌, ◌≢◌, ◌≤◌, true, false, Some, None, All, IfSome};
 ghost use Rattle.std.specs.Prelude.{MatchOption, ◌⊎◌};
 ghost use Rattle.wcnf.specs.Clause.{contains_literal};
@@ -9,7 +9,7 @@ use crate::trail::Trail;
 use watches::table::Rest;
 use wcnf::types::Lit;
 
-/// A literal that is not false.
+/// The first literal that is not false; none where all are.
 pub(crate) fn find_not_false(trail: &Trail, lits: &[Lit]) -> Option<Lit>
     requires { All (λ l. l.variable ≤ trail.now.variables) lits.now }
     ensures { MatchOption result
@@ -24,7 +24,7 @@ pub(crate) fn find_not_false(trail: &Trail, lits: &[Lit]) -> Option<Lit>
     None
 }
 
-/// A literal that is not false, other than this one.
+/// The first literal that is not false, other than this one; none where all others are.
 pub(crate) fn find_other_not_false(trail: &Trail, lits: &[Lit], but: Lit) -> Option<Lit>
     requires { All (λ l. l.variable ≤ trail.now.variables) lits.now }
     ensures { MatchOption result

@@ -23,13 +23,14 @@ use wcnf::types::Lit;
 pub(crate) struct Trail {
     // The number of variables, at most 2^32 - 2.
     variables: u32,
-    // No two of one variable, each of a variable from 1 to `variables`.
+    // The literals that are true, in the order in which they became so: no two of one variable,
+    // each of a variable from 1 to `variables`.
     literals: Vec<Lit>,
-    // By literal, two for each variable.
+    // By literal, two for each variable: true, false or open.
     values: Vec<Truth>,
-    // By variable from 0; that of variable 0 is never written.
+    // By variable, from 0, which no literal has: level, position and reason.
     vardata: VarTable,
-    // The number of decisions on the trail.
+    // The number of decisions on the trail: the current level.
     depth: u32,
 }
 
@@ -61,6 +62,11 @@ fn set_value(values: &mut Vec<Truth>, lit: Lit, value: Option<bool>)
 }
 
 impl Trail {
+    /// A trail over the variables from 1 to `variables`, on which nothing is true.
+    ///
+    /// # Errors
+    ///
+    /// `AllocError` where memory was refused; for 2^32 - 1 variables it always is.
     pub(crate) fn new(alloc: Global, variables: u32) -> Result<Self, AllocError>
         ensures { IfOk result (λ t. t ≡ record { variables = variables; assigned = [] }) }
     {
@@ -81,12 +87,14 @@ impl Trail {
         })
     }
 
+    /// The number of variables.
     pub(crate) fn variables(&self) -> u32
         ensures { result ≡ self.now.variables }
     {
         self.variables
     }
 
+    /// Whether a literal is true; none where it is open.
     pub(crate) fn value(&self, lit: Lit) -> Option<bool>
         requires { lit.variable ≤ self.now.variables }
         ensures { result ≡ value_in self.now.assigned lit }
@@ -108,6 +116,7 @@ impl Trail {
         self.values[lit.index()].is_false()
     }
 
+    /// How many decisions stand up to the literal of a variable; none where it has no value.
     pub(crate) fn level(&self, variable: u32) -> Option<u32>
         requires { variable ≤ self.now.variables }
         ensures { result ≡ level_in self.now.assigned variable }
@@ -115,6 +124,7 @@ impl Trail {
         self.vardata.level(variable as usize)
     }
 
+    /// How many literals stand before that of a variable; none where it has no value.
     pub(crate) fn position(&self, variable: u32) -> Option<u32>
         requires { variable ≤ self.now.variables }
         ensures { result ≡ position_in self.now.assigned variable }
@@ -125,6 +135,7 @@ impl Trail {
         }
     }
 
+    /// The clause by which a variable has its value; none for a decision and where it has none.
     pub(crate) fn reason(&self, variable: u32) -> Option<CRef>
         requires { variable ≤ self.now.variables }
         ensures { result ≡ reason_in self.now.assigned variable }
@@ -135,6 +146,7 @@ impl Trail {
         }
     }
 
+    /// The literals that are true, in the order in which they became so.
     pub(crate) fn literals(&self) -> &[Lit]
         ensures literals { result.now ≡ literals_of self.now.assigned }
         ensures within { All (IsVariable self.now.variables) result.now }
@@ -142,6 +154,7 @@ impl Trail {
         &self.literals
     }
 
+    /// How many literals are true.
     pub(crate) fn len(&self) -> usize
         ensures len { result ≡ length self.now.assigned }
         ensures room { result ≤ self.now.variables }
@@ -149,6 +162,7 @@ impl Trail {
         self.literals.len()
     }
 
+    /// How many decisions were made.
     pub(crate) fn depth(&self) -> u32
         ensures { result ≡ depth_of self.now.assigned }
     {

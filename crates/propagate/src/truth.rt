@@ -3,7 +3,7 @@ ghost use Rattle.std.specs.Prelude.{◌≡◌, true, false, Some, IsTrue, ◌↔
 
 use std::marker::Model;
 
-/// What is known of a literal.
+/// What is known of a literal: it is open, false or true.
 #[derive(Clone, Copy, Debug, PartialEq, Eq, Drop)]
 enum Known {
     Open,
@@ -34,6 +34,7 @@ impl Model for Truth {
 const _: () = prove!(size_of::<Truth>() == 1);
 
 impl Truth {
+    /// The same in one byte.
     pub(crate) fn new(value: Option<bool>) -> Self
         ensures { result ≡ value }
     {
@@ -46,6 +47,7 @@ impl Truth {
         }
     }
 
+    /// Whether the literal is true; none where it is open.
     pub(crate) fn get(self) -> Option<bool>
         ensures { result ≡ self }
     {

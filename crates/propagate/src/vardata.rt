@@ -13,11 +13,11 @@ use std::marker::Model;
 /// What is kept of a variable.
 #[derive(Clone, Copy, Debug, PartialEq, Eq, Drop)]
 pub(crate) struct VarData {
-    // of the current level at most, which is below 2^32 - 1
+    // The number of decisions up to it, below 2^32 - 1; none where it has no value.
     level: MaybeWord,
-    // how many literals stand before it on the trail; of no meaning where there is no level
+    // How many literals stand before it on the trail; of no meaning where there is no level.
     position: u32,
-    // of no meaning where there is no level
+    // The clause that left no choice, none for a decision; of no meaning where there is no level.
     reason: MaybeCRef,
 }
 
@@ -27,6 +27,7 @@ const _: () = prove!(size_of::<VarData>() == 12);
 /// to one place.
 #[derive(Drop)]
 pub(crate) struct VarTable {
+    // By variable, from 0, which no literal has.
     vardata: Vec<VarData>,
 }
 
@@ -38,6 +39,7 @@ impl Model for VarTable {
     ghost view = { λ m. var_table_state m.vardata.items };
 }
 
+/// Puts the new reference of its reason into each.
 fn rename_vardata(vardata: &mut [VarData], moves: &Moves)
     ensures { vardata.new ≡ map (named_var_data moves.now) vardata.old }
 {
@@ -52,6 +54,10 @@ fn rename_vardata(vardata: &mut [VarData], moves: &Moves)
 
 impl VarTable {
     /// So many variables, without levels.
+    ///
+    /// # Errors
+    ///
+    /// `AllocError` where memory was refused.
     pub(crate) fn new(alloc: Global, count: usize) -> Result<Self, AllocError>
         ensures { IfOk result (λ m. m ≡ record {
           levels = replicate count None;
@@ -70,6 +76,7 @@ impl VarTable {
         Ok(VarTable { vardata })
     }
 
+    /// The level of a variable; none where it has no value.
     pub(crate) fn level(&self, variable: usize) -> Option<u32>
         requires { variable < length self.now.levels }
         ensures { result ≡ slice_index_or self.now.levels variable None }
@@ -77,6 +84,7 @@ impl VarTable {
         self.vardata[variable].level.get()
     }
 
+    /// The position of a variable that has a value, else any number.
     pub(crate) fn position(&self, variable: usize) -> u32
         requires { variable < length self.now.positions }
         ensures { result ≡ slice_index self.now.positions variable }
@@ -84,6 +92,7 @@ impl VarTable {
         self.vardata[variable].position
     }
 
+    /// The reason of a variable that has a value, else any or none.
     pub(crate) fn reason(&self, variable: usize) -> Option<CRef>
         requires { variable < length self.now.reasons }
         ensures { result ≡ slice_index_or self.now.reasons variable None }
@@ -91,6 +100,7 @@ impl VarTable {
         self.vardata[variable].reason.get()
     }
 
+    /// The variable has a value from now on.
     pub(crate) fn set(&mut self, variable: usize, level: u32, position: u32, reason: Option<CRef>)
         requires within { variable < length self.old.levels }
         requires small { level < 2 ^ 32 - 1 }

@@ -1,4 +1,13 @@
 // The literals that became true, each with the clauses that watch its negation.
+//
+// This is the loop in which a search spends most of its time. For each literal that became false it
+// goes along the row of entries of the clauses that watch it. An entry whose blocker is true stays,
+// and its clause is not looked at. Else the clause is asked for its other watch and, if that is not
+// true either, for a literal that is not false: to watch that one the entry goes to another row.
+// Where there is none, the clause leaves no choice on the other watch, or is false. Entries that
+// stay are written over those that left, by two places `read` and `write`, and the gap between
+// these is taken out at the end, also after a conflict or a refused growth: so each return leaves a
+// whole row. Nothing is allocated but where another row grows.
 ghost use Rattle.std.specs.Prelude.{◌≡◌, ◌≢◌, ℕ, ◌+◌, ◌<◌, ◌≤◌, true, Some, None, length, IfOk};
 ghost use Rattle.std.specs.Prelude.{IfSome, IfNone, MatchOption, OnOk, OnErr, slice_index_or};
 ghost use Rattle.std.specs.Prelude.{slice_set};
@@ -85,6 +94,7 @@ impl Engine {
         }
     }
 
+    /// One more literal was looked at.
     fn advance(&mut self)
         requires { self.old.watches.qhead < length self.old.trail }
         ensures { self.new ≡ record self.old {
@@ -137,6 +147,7 @@ impl Engine {
         Ok(None)
     }
 
+    /// How many clauses watch this literal.
     fn row_len(&self, lit: Lit) -> usize
         requires { lit.variable ≤ self.now.variables }
         ensures { result ≡ length (row_at self.now.watches.rows (index_of lit)) }
@@ -144,6 +155,7 @@ impl Engine {
         self.pool.len(lit.index())
     }
 
+    /// Takes out of a row what stands from place `write` up to place `read`.
     fn close_row(&mut self, lit: Lit, write: usize, read: usize)
         requires in_range { lit.variable ≤ self.old.variables }
         requires order { write ≤ read }
@@ -183,6 +195,7 @@ impl Engine {
         }
     }
 
+    /// Writes the entry at a place of a row.
     fn keep(&mut self, lit: Lit, at: usize, entry: Entry)
         requires in_range { lit.variable ≤ self.old.variables }
         requires within { at < length (row_at self.old.watches.rows (index_of lit)) }

@@ -1,4 +1,9 @@
 // The clauses that have no watches yet.
+//
+// A clause that was attached waits until the next propagation, which may find it unit or false
+// already. With two literals that are not false it watches these. Else the literal that is left is
+// made true, and the clause goes on to wait until it finds a second watch, a literal of the current
+// level, or is dropped as satisfied at level 0.
 ghost use Rattle.std.specs.Prelude.{◌≡◌, ◌≢◌, ℕ, ◌<◌, ◌≤◌, Some, None, true, false, length, filter};
 ghost use Rattle.std.specs.Prelude.{All, IfOk, IfSome, IfNone, OnOk, OnErr, ◌⊎◌, slice_get};
 ghost use Rattle.std.specs.Bool.{MatchBool};
@@ -57,12 +62,14 @@ impl Engine {
         Ok(None)
     }
 
+    /// How many clauses wait, with those that need it no more.
     fn waiting_len(&self) -> usize
         ensures { result ≡ length self.now.watches.waiting }
     {
         self.waiting.len()
     }
 
+    /// The clause at a place among these.
     fn waiting_at(&self, at: usize) -> CRef
         requires { at < length self.now.watches.waiting }
         ensures { slice_get self.now.watches.waiting at ≡ Some result }
@@ -127,6 +134,7 @@ impl Engine {
         Ok(true)
     }
 
+    /// Makes the literal true by the clause, where it is open.
     fn make_true(&mut self, lit: Lit, reference: CRef)
         requires { lit.variable ≤ self.old.variables }
         ensures { IsMadeTrue self.old self.new lit reference }
@@ -166,6 +174,7 @@ impl Engine {
         Ok(())
     }
 
+    /// The clause needs no watches from now on.
     fn set_satisfied(&mut self, reference: CRef)
         requires { is_attached self.old reference ≡ true }
         ensures { self.new ≡ with_attachment self.old reference Attachment.Satisfied }
