@@ -1,7 +1,7 @@
 -- The first terms of the sequence by which a search starts over; a deletion, and values to try.
 use Rattle.std.specs.Prelude.{◌≡◌, ℕ, zero, suc, true, false, List, [], ◌∷◌, refl}
 use Rattle.cdcl_order.specs.Deletions.{due_at, is_longer}
-use Rattle.cdcl_order.specs.Orders.{OrderState, phase_of, tried_literal}
+use Rattle.cdcl_order.specs.Orders.{OrderState, phase_of, tried_literal, positive, values_under}
 use Rattle.cdcl_order.specs.Restarts.{first_power, next_power, term_of}
 
 -- so many terms from this power on
@@ -33,6 +33,10 @@ last_first = refl
 
 tried : tried_literal weighed 2 ≡ record { variable = 2; negated = false }
 tried = refl
+
+-- the variable 2 becomes true, 3 has no place, and 1 stays as it was
+under : values_under (true ∷ false ∷ []) (positive 2 ∷ positive 3 ∷ []) ≡ true ∷ true ∷ []
+under = refl
 
 -- of a clause of three literals under the reference 7 and one of five under 9 the second is longer
 longer : is_longer (5, 9) (3, 7) ≡ true
