@@ -11,7 +11,7 @@ use Rattle.propagate.proofs.Laws.{contains-append}
 use Rattle.wcnf.proofs.Laws.{literal_eq-refl}
 use Rattle.propagate.proofs.Laws.{all_weaker}
 use Rattle.cdcl.specs.Hinting.{Serves, AreUnits}
-use Rattle.analyze.specs.Learning.{Within}
+use Rattle.clauses.specs.Within.{Within}
 
 -- A literal whose negation stands in no hinted clause is not needed.
 

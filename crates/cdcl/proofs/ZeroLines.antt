@@ -11,7 +11,7 @@ use Rattle.propagate.proofs.Laws.{negation_twice}
 use Rattle.wcnf.proofs.Laws.{literal_eq-refl}
 use Rattle.propagate.proofs.Laws.{NoOpposites, justified_same, same_swap}
 use Rattle.cdcl.specs.Hinting.{AreUnits}
-use Rattle.analyze.specs.Learning.{Within}
+use Rattle.clauses.specs.Within.{Within}
 use Rattle.cdcl.proofs.Zero.{AreOpen, refutes_after_units}
 use Rattle.analyze.proofs.Laws.{all_from}
 use Rattle.cdcl.proofs.LearnedLines.{open_all}

@@ -6,7 +6,7 @@ use Rattle.wcnf.specs.Clause.{contains_literal, has_repeat}
 use Rattle.wcnf.specs.Refute.{Clauses}
 use Rattle.clauses.specs.Slots.{Slots, clause_at}
 use Rattle.propagate.specs.Trail.{Assigned}
-use Rattle.analyze.specs.Learning.{Within}
+use Rattle.clauses.specs.Within.{Within}
 use Rattle.lrat_log.specs.declared.lines.Name.{Name}
 use Rattle.lrat_log.specs.declared.lines.Hint.{Hint}
 use Rattle.lrat_log.specs.declared.lines.Hint.TheVariants.{Plain}

@@ -7,7 +7,7 @@ use Rattle.wcnf.specs.Clause.{contains_literal, has_repeat}
 use Rattle.clauses.specs.Slots.{Slots, clause_at, Renaming}
 use Rattle.propagate.specs.Trail.{Assigned, value_in}
 use Rattle.propagate.specs.Fits.{renamed_reason}
-use Rattle.analyze.specs.Learning.{Within}
+use Rattle.clauses.specs.Within.{Within}
 use Rattle.lrat_log.specs.declared.lines.Name.{Name}
 use Rattle.lrat_log.specs.declared.lines.Hint.{Hint}
 use Rattle.lrat_log.specs.Log.{LogLine}
