@@ -2,7 +2,7 @@
 use Rattle.std.proofs.Common.{◌≡◌, ◌≢◌, ℕ, ◌+◌, ◌-◌, ◌<◌, true, false, List, [], ◌∷◌, ◌++◌, length, get_or, set, take, map, Option, Some, None, inl, inr, refl, sym, ◌∙◌, ap, subst, arith}
 use Rattle.std.specs.Prelude.{unwrap_or, All, IfSome, Contains}
 use Rattle.std.proofs.lemmas.Bool.{cases_Bool, cases_eq, cases_lt, or_cases, or_left, or_right, or_from, or_parts, false≢true, both_ways}
-use Rattle.std.proofs.lemmas.List.{get_or_past, get_or-set_same, get_or-set_other, take_more, length-set, map_push, map-append}
+use Rattle.std.proofs.lemmas.List.{get_or_past, get_or_default, get_or-set_same, get_or-set_other, take_more, length-set, map_push, map-append}
 use Rattle.std.proofs.lemmas.Option.{none-some, same_Some}
 use Rattle.wcnf.specs.Literal.{Literal, negation, literal_eq}
 use Rattle.wcnf.specs.Clause.{contains_literal, has_repeat}
@@ -42,6 +42,15 @@ pub noted_unit : (e : EngineState) (slots : Slots) (units : List (Option ℕ)) (
 noted_unit e slots units r c i l fits noted live lt is level value =
     let all : IsNotedIn slots units e.trail c = subst (λ o. IfSome o (IsNotedIn slots units e.trail)) live noted in
     all l (ap (λ x. contains_literal x c) is ∙ contains_at c i l lt) (low_kept (clause_at slots) e.trail 0 (negation l) 0 fits.reasons (false_value e.trail l value) level (omega arith))
+
+-- and the table has it there
+pub found_unit : (e : EngineState) (slots : Slots) (units : List (Option ℕ)) (r : ℕ) (c : List Literal) (i : ℕ) (l : Literal) → Fits e slots → IfSome (clause_at slots r) (IsNotedIn slots units e.trail)
+    → clause_at slots r ≡ Some c → i < length c → l ≡ get_or c i l → (v : ℕ) (o : Option ℕ) → v ≡ l.variable → level_in e.trail v ≡ Some 0 → value_in e.trail l ≡ Some false → o ≡ get_or units (v - 1) o
+    → (u : ℕ) × (o ≡ Some u) × (get_or units (l.variable - 1) None ≡ Some u) × (clause_at slots u ≡ Some (negation l ∷ []))
+found_unit e slots units r c i l fits noted live lt is v o named level value found =
+    let has = noted_unit e slots units r c i l fits noted live lt is (sym (ap (level_in e.trail) named) ∙ level) value in
+    let at : get_or units (v - 1) None ≡ Some has.0 = ap (λ x. get_or units (x - 1) None) named ∙ has.1 in
+    (has.0, found ∙ get_or_default units (v - 1) o None (some_within units (v - 1) has.0 at) ∙ at, has.1, has.2)
 
 repeat_push : (c : List Literal) (l : Literal) → contains_literal l c ≡ false → has_repeat c ≡ false → has_repeat (c ++ l ∷ []) ≡ false
 repeat_push [] l e h = refl

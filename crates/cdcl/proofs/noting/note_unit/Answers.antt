@@ -8,21 +8,36 @@ use Rattle.std.specs.Vec.{with_items}
 use Rattle.wcnf.specs.Literal.{Literal}
 use Rattle.clauses.specs.Slots.{clause_at}
 use Rattle.propagate.specs.Trail.{Assigned, reason_in}
-use Rattle.propagate.specs.Watches.{is_attached}
+use Rattle.propagate.specs.Watches.{is_attached, IsVariable}
 use Rattle.cdcl.specs.Running.{Runs, HasRoom}
 use Rattle.cdcl.specs.Hinting.{AreHintsOf, AreNoted}
 use Rattle.cdcl.proofs.HintNames.{hint_ids}
 use Rattle.cdcl.proofs.Placing.{literal_small}
-use Rattle.cdcl.proofs.UnitLines.{flat_reason, is_next, next_noted, adds_unit, runs_noted}
+use Rattle.cdcl.proofs.UnitLines.{flat_reason, IsNext, is_next, next_noted, adds_unit, runs_noted}
 use Rattle.analyze.proofs.Laws.{reason_at}
 use Rattle.std.proofs.lemmas.List.{get_or-map}
 use Rattle.cdcl.proofs.noting.note_unit.Goals as goal
+use Rattle.cdcl.proofs.noting.note_unit.Goals.{After-index-trail-search, In-Some}
+
+-- the literal is one of the engine's
+named : (g : _) (c : After-index-trail-search g) → IsVariable c.args.search.now.engine.variables c.index-trail-search.result
+named g c =
+    let s = c.args.search.now in
+    literal_small s.engine (s.store).slots s.noted c.index-trail-search.result c.requires.runs.running.searches.fits c.requires.next
+    (c.index-trail-search.is ∙ ap (λ x. get_or x s.noted c.index-trail-search.result) c.trail.ensures)
+
+-- it follows from its reason
+next : (g : _) (c : In-Some g) → IsNext c.args.search.now.store.slots c.args.search.now.engine.trail c.args.search.now.noted c.index-trail-search.result c.in-Some.reason
+next g c =
+    let s = c.args.search.now in
+    is_next (s.store).slots (s.engine).trail s.noted c.index-trail-search.result c.in-Some.reason c.requires.runs.running.searches.fits.reasons c.requires.next
+    (c.index-trail-search.is ∙ ap (λ x. get_or x s.noted c.index-trail-search.result) c.trail.ensures)
+    (ap (reason_in (s.engine).trail) (sym c.variable-2.ensures.variable) ∙ sym c.reason.ensures ∙ c.in-Some.is)
 
 pub reason-requires : goal.reason-requires
 reason-requires g c =
     let s = c.args.search.now in
-    let at = c.index-trail-search.is ∙ ap (λ x. get_or x s.noted c.index-trail-search.result) c.trail.ensures in
-    let small = literal_small s.engine (s.store).slots s.noted c.index-trail-search.result c.requires.runs.running.searches.fits c.requires.next at in
+    let small = named g (goal.at.reason-requires g c).After-index-trail-search in
     let v = c.variable-2.ensures.variable in
     omega (arith, small.1)
 
@@ -42,44 +57,36 @@ unreachable-requires g c =
 pub hints_of-requires-clause-attached : goal.hints_of-requires-clause-attached
 hints_of-requires-clause-attached g c =
     let s = c.args.search.now in
-    let at = c.index-trail-search.is ∙ ap (λ x. get_or x s.noted c.index-trail-search.result) c.trail.ensures in
     let r = c.in-Some.reason in
-    let why : reason_in (s.engine).trail (c.index-trail-search.result).variable ≡ Some r = ap (reason_in (s.engine).trail) (sym c.variable-2.ensures.variable) ∙ sym c.reason.ensures ∙ c.in-Some.is in
-    let n = is_next (s.store).slots (s.engine).trail s.noted c.index-trail-search.result r c.requires.runs.running.searches.fits.reasons c.requires.next at why in
+    let n = next g (goal.at.hints_of-requires-clause-attached g c).In-Some in
     All-cons (λ q. is_attached s.engine q ≡ true) r [] (c.requires.runs.running.searches.all_attached r (n.clause, n.here)) (All-nil (λ q. is_attached s.engine q ≡ true))
 
 pub hints_of-requires-clause-noted : goal.hints_of-requires-clause-noted
 hints_of-requires-clause-noted g c =
     let s = c.args.search.now in
-    let at = c.index-trail-search.is ∙ ap (λ x. get_or x s.noted c.index-trail-search.result) c.trail.ensures in
     let r = c.in-Some.reason in
-    let why : reason_in (s.engine).trail (c.index-trail-search.result).variable ≡ Some r = ap (reason_in (s.engine).trail) (sym c.variable-2.ensures.variable) ∙ sym c.reason.ensures ∙ c.in-Some.is in
-    let n = is_next (s.store).slots (s.engine).trail s.noted c.index-trail-search.result r c.requires.runs.running.searches.fits.reasons c.requires.next at why in
+    let n = next g (goal.at.hints_of-requires-clause-noted g c).In-Some in
     subst (λ us. AreNoted (s.store).slots us (s.engine).trail (r ∷ [])) (sym c.deref-2.ensures.value)
     (next_noted (s.store).slots (s.engine).trail c.index-trail-search.result r (s.units).items s.noted c.requires.runs.running.searches.fits.reasons c.requires.flat n c.requires.runs.running.units)
 
 pub add_line-requires-clause-within : goal.add_line-requires-clause-within
 add_line-requires-clause-within g c =
     let s = c.args.search.now in
-    let at = c.index-trail-search.is ∙ ap (λ x. get_or x s.noted c.index-trail-search.result) c.trail.ensures in
-    let small = literal_small s.engine (s.store).slots s.noted c.index-trail-search.result c.requires.runs.running.searches.fits c.requires.next at in
+    let small = named g (goal.at.add_line-requires-clause-within g c).After-index-trail-search in
     (All-cons (λ (l : Literal). 0 < l.variable) c.index-trail-search.result [] small.0 (All-nil (λ (l : Literal). 0 < l.variable)), (let h = small.1 in omega arith))
 
 pub add_line-requires-clause-hints : goal.add_line-requires-clause-hints
 add_line-requires-clause-hints g c =
     let s = c.args.search.now in
-    let at = c.index-trail-search.is ∙ ap (λ x. get_or x s.noted c.index-trail-search.result) c.trail.ensures in
     let r = c.in-Some.reason in
-    let why : reason_in (s.engine).trail (c.index-trail-search.result).variable ≡ Some r = ap (reason_in (s.engine).trail) (sym c.variable-2.ensures.variable) ∙ sym c.reason.ensures ∙ c.in-Some.is in
-    let n = is_next (s.store).slots (s.engine).trail s.noted c.index-trail-search.result r c.requires.runs.running.searches.fits.reasons c.requires.next at why in
+    let n = next g (goal.at.add_line-requires-clause-hints g c).In-Some in
     let h = subst (λ x. AreHintsOf (s.store).slots x (s.engine).trail (r ∷ []) c.in_ok-hints.hints.items) c.deref.ensures.value c.in_ok-hints.ensures.hints in
     hint_ids (s.store).slots (s.names).items (s.engine).trail (r ∷ []) c.in_ok-hints.hints.items h c.requires.runs.running.recorded.names.as_many c.requires.runs.running.recorded.numbers ((n.clause, n.here), tt)
 
 pub index_mut-requires : goal.index_mut-requires
 index_mut-requires g c =
     let s = c.args.search.now in
-    let at = c.index-trail-search.is ∙ ap (λ x. get_or x s.noted c.index-trail-search.result) c.trail.ensures in
-    let small = literal_small s.engine (s.store).slots s.noted c.index-trail-search.result c.requires.runs.running.searches.fits c.requires.next at in
+    let small = named g (goal.at.index_mut-requires g c).After-index-trail-search in
     let same : length (c.add_line.new.self.units).items ≡ length (s.units).items = ap (λ v. length v.items) c.in_ok-unit.ensures.placed.units in
     let room = c.requires.runs.room.units in
     let v = c.variable.ensures.variable in
@@ -97,10 +104,9 @@ returns-clause-runs g c =
     let r = c.in-Some.reason in
     let run = c.requires.runs.running in
     let reasons = run.searches.fits.reasons in
-    let why : reason_in T k.variable ≡ Some r = ap (reason_in T) (sym c.variable-2.ensures.variable) ∙ sym c.reason.ensures ∙ c.in-Some.is in
-    let n = is_next slots T s.noted k r reasons c.requires.next at why in
+    let n = next g (goal.at.returns-clause-runs g c).In-Some in
     let h = subst (λ x. AreHintsOf slots x T (r ∷ []) c.in_ok-hints.hints.items) c.deref.ensures.value c.in_ok-hints.ensures.hints in
-    let small = literal_small s.engine slots s.noted k run.searches.fits c.requires.next at in
+    let small = named g (goal.at.returns-clause-runs g c).After-index-trail-search in
     let few_k : k.variable < 2 ^ 27 = (let a = c.variable.ensures.small in let b = c.variable.ensures.variable in omega arith) in
     let adds = adds_unit slots T (s.names).items (c.args.problem.now.given).items (g.S.Sink.lines c.args.sink.now) c.in_ok-hints.hints.items k s.noted r reasons c.requires.flat n run.recorded.names h few_k in
     let long : length c.hints_of.new.stamps ≡ length (s.stamps).items = c.hints_of.ensures.long ∙ ap length c.deref_mut.ensures.value in

@@ -1,10 +1,35 @@
-use Rattle.std.proofs.Common.{◌≡◌, sym, ◌∙◌, ap, subst}
+use Rattle.std.proofs.Common.{◌≡◌, true, sym, ◌∙◌, ap, subst}
 use Rattle.std.specs.Prelude.{All}
 use Rattle.lrat_log.specs.declared.lines.Name.TheVariants.{Formula}
 use Rattle.cdcl.specs.Solving.{given_to, IsFrozen, IsFreshName}
+use Rattle.cdcl.specs.Running.{IsSolver}
 use Rattle.cdcl.proofs.Answered.{given_seen, log_now, seen_log}
 use Rattle.cdcl.proofs.GivenClause.{gives_solver, fails_solver, frozen_within}
 use Rattle.cdcl.proofs.solver.Solver.add_clause.Goals as goal
+use Rattle.cdcl.proofs.solver.Solver.add_clause.Goals.{In-Ok, In-Err}
+
+-- the clause was given
+gives : (g : _) (c : In-Ok g) → IsSolver c.give.new.search c.give.new.problem (g.S.Sink.lines c.self.inside.sink) c.self.inside.refuted c.self.inside.failed
+gives g c =
+    let p = c.self.inside.problem in
+    let seen =
+    subst (λ s. IsFreshName (given_to s) c.args.name) (sym c.self.view_is) c.requires.fresh in
+    let free =
+    subst (λ x. IsFreshName x c.args.name) (given_seen p c.self.invariant.problem) seen in
+    let name : c.args.name ≡ Formula c.get-number.result =
+    c.in-Formula.is ∙ ap Formula (sym c.get-number.ensures.value) in
+    let fresh = subst (IsFreshName (p.given).items) name free in
+    let fixed =
+    subst (λ s. All (IsFrozen s.frozen) c.args.lits.now) (sym c.self.view_is) c.requires.frozen in
+    gives_solver c.self.inside.search c.give.new.search p c.give.new.problem (Formula c.get-number.result) c.args.lits.now (g.S.Sink.lines c.self.inside.sink) c.self.inside.refuted c.self.inside.failed
+    c.self.invariant c.if-self.false c.in-Ok.ensures.given fresh (c.get-number.ensures.from_one, c.get-number.ensures.small) fixed c.requires.no_repeat
+    c.requires.no_opposites c.are_named.ensures c.in-Ok.ensures.takes
+
+-- memory was refused
+fails : (g : _) (c : In-Err g) → IsSolver c.give.new.search c.give.new.problem (g.S.Sink.lines c.self.inside.sink) c.self.inside.refuted true
+fails g c =
+    fails_solver c.self.inside.search c.give.new.search c.self.inside.problem c.give.new.problem (g.S.Sink.lines c.self.inside.sink) c.self.inside.refuted c.self.inside.failed
+    c.self.invariant c.in-Err.ensures.err c.give.ensures.stack c.give.ensures.frozen c.give.ensures.first
 
 pub returns-then-self-clause-lines : goal.returns-then-self-clause-lines
 returns-then-self-clause-lines g c =
@@ -19,51 +44,17 @@ give-requires-clause-within g c = λ u.
     c.are_named.ensures
 
 pub invariant_of-self : goal.invariant_of-self
-invariant_of-self g c =
-    let p = c.self.inside.problem in
-    let ls = g.S.Sink.lines c.self.inside.sink in
-    let seen =
-    subst (λ s. IsFreshName (given_to s) c.args.name) (sym c.self.view_is) c.requires.fresh in
-    let free =
-    subst (λ x. IsFreshName x c.args.name) (given_seen p c.self.invariant.problem) seen in
-    let name : c.args.name ≡ Formula c.get-number.result =
-    c.in-Formula.is ∙ ap Formula (sym c.get-number.ensures.value) in
-    let fresh = subst (IsFreshName (p.given).items) name free in
-    let fixed =
-    subst (λ s. All (IsFrozen s.frozen) c.args.lits.now) (sym c.self.view_is) c.requires.frozen in
-    let ok = gives_solver c.self.inside.search c.give.new.search p c.give.new.problem (Formula c.get-number.result) c.args.lits.now ls c.self.inside.refuted c.self.inside.failed c.self.invariant c.if-self.false c.in-Ok.ensures.given fresh
-    (c.get-number.ensures.from_one, c.get-number.ensures.small) fixed c.requires.no_repeat
-    c.requires.no_opposites c.are_named.ensures c.in-Ok.ensures.takes in
-    ok
+invariant_of-self g c = gives g (goal.at.invariant_of-self g c).In-Ok
 
 pub invariant_of-self-in-Err : goal.invariant_of-self-in-Err
-invariant_of-self-in-Err g c =
-    let p = c.self.inside.problem in
-    let ls = g.S.Sink.lines c.self.inside.sink in
-    let bad = fails_solver c.self.inside.search c.give.new.search p c.give.new.problem ls c.self.inside.refuted c.self.inside.failed c.self.invariant c.in-Err.ensures.err c.give.ensures.stack c.give.ensures.frozen c.give.ensures.first in
-    bad
+invariant_of-self-in-Err g c = fails g (goal.at.invariant_of-self-in-Err g c).In-Err
 
 pub returns-in-Ok-clause-lines : goal.returns-in-Ok-clause-lines
 returns-in-Ok-clause-lines g c =
-    let p = c.self.inside.problem in
-    let ls = g.S.Sink.lines c.self.inside.sink in
-    let seen =
-    subst (λ s. IsFreshName (given_to s) c.args.name) (sym c.self.view_is) c.requires.fresh in
-    let free =
-    subst (λ x. IsFreshName x c.args.name) (given_seen p c.self.invariant.problem) seen in
-    let name : c.args.name ≡ Formula c.get-number.result =
-    c.in-Formula.is ∙ ap Formula (sym c.get-number.ensures.value) in
-    let fresh = subst (IsFreshName (p.given).items) name free in
-    let fixed =
-    subst (λ s. All (IsFrozen s.frozen) c.args.lits.now) (sym c.self.view_is) c.requires.frozen in
-    let ok = gives_solver c.self.inside.search c.give.new.search p c.give.new.problem (Formula c.get-number.result) c.args.lits.now ls c.self.inside.refuted c.self.inside.failed c.self.invariant c.if-self.false c.in-Ok.ensures.given fresh
-    (c.get-number.ensures.from_one, c.get-number.ensures.small) fixed c.requires.no_repeat
-    c.requires.no_opposites c.are_named.ensures c.in-Ok.ensures.takes in
-    log_now c.give.new.problem ls ok.problem ok.lines
+    let ok = gives g (goal.at.returns-in-Ok-clause-lines g c).In-Ok in
+    log_now c.give.new.problem (g.S.Sink.lines c.self.inside.sink) ok.problem ok.lines
 
 pub returns-in-Err-clause-lines : goal.returns-in-Err-clause-lines
 returns-in-Err-clause-lines g c =
-    let p = c.self.inside.problem in
-    let ls = g.S.Sink.lines c.self.inside.sink in
-    let bad = fails_solver c.self.inside.search c.give.new.search p c.give.new.problem ls c.self.inside.refuted c.self.inside.failed c.self.invariant c.in-Err.ensures.err c.give.ensures.stack c.give.ensures.frozen c.give.ensures.first in
-    log_now c.give.new.problem ls bad.problem bad.lines
+    let bad = fails g (goal.at.returns-in-Err-clause-lines g c).In-Err in
+    log_now c.give.new.problem (g.S.Sink.lines c.self.inside.sink) bad.problem bad.lines

@@ -10,9 +10,16 @@ use Rattle.lrat_log.specs.Steps.{StaysLogOver, given_of}
 use Rattle.eliminate.specs.Elimination.{ExtendsBack, IsFree}
 use Rattle.cdcl.specs.declared.problem.Problem.{Problem}
 use Rattle.cdcl.proofs.Placing.{added_few}
-use Rattle.cdcl.proofs.FirstRun.{formula_again, left_from, live_map, left_rising, left_live, left_within, left_numbers, new_problem, first_clauses, first_runs}
+use Rattle.cdcl.proofs.FirstRun.{IsLeft, formula_again, left_from, live_map, left_rising, left_live, left_within, left_numbers, new_problem, first_clauses, first_runs}
 use Rattle.cdcl.proofs.Answered.{log_now}
 use Rattle.cdcl.proofs.solver.Solver.new.Goals as goal
+use Rattle.cdcl.proofs.solver.Solver.new.Goals.{After-is_short}
+
+-- what elimination has left
+left : (g : _) (c : After-is_short g) → IsLeft c.clauses-clauses.result.now c.eliminate.new.store.slots c.in_ok-stack.stack (g.S.Sink.lines c.eliminate.new.sink.sink)
+left g c =
+    left_from c.clauses-clauses.result.now (live_clauses c.in_ok-store.store.slots) c.eliminate.new.store.slots c.in_ok-stack.stack (g.S.Sink.lines c.eliminate.new.sink.sink)
+    (ap live_clauses c.in_ok-store.ensures ∙ live_map c.clauses-clauses.result.now) c.in_ok-stack.ensures.live c.in_ok-stack.ensures.left
 
 pub given_clauses-requires : goal.given_clauses-requires
 given_clauses-requires g c = record {
@@ -32,38 +39,23 @@ start-requires-clause-few g c =
 
 pub start-requires-clause-within : goal.start-requires-clause-within
 start-requires-clause-within g c =
-    let cs = c.clauses-clauses.result.now in
-    let slots = c.eliminate.new.store.slots in
-    let ls = g.S.Sink.lines c.eliminate.new.sink.sink in
-    let e = ap live_clauses c.in_ok-store.ensures ∙ live_map cs in
-    left_within cs slots c.in_ok-stack.stack ls (left_from cs (live_clauses c.in_ok-store.store.slots) slots c.in_ok-stack.stack ls e c.in_ok-stack.ensures.live c.in_ok-stack.ensures.left)
+    left_within c.clauses-clauses.result.now c.eliminate.new.store.slots c.in_ok-stack.stack (g.S.Sink.lines c.eliminate.new.sink.sink) (left g (goal.at.start-requires-clause-within g c).After-is_short)
 
 pub start-requires-clause-rising : goal.start-requires-clause-rising
 start-requires-clause-rising g c =
-    let cs = c.clauses-clauses.result.now in
-    let slots = c.eliminate.new.store.slots in
-    let ls = g.S.Sink.lines c.eliminate.new.sink.sink in
-    let e = ap live_clauses c.in_ok-store.ensures ∙ live_map cs in
-    left_rising cs slots c.in_ok-stack.stack ls (left_from cs (live_clauses c.in_ok-store.store.slots) slots c.in_ok-stack.stack ls e c.in_ok-stack.ensures.live c.in_ok-stack.ensures.left)
+    left_rising c.clauses-clauses.result.now c.eliminate.new.store.slots c.in_ok-stack.stack (g.S.Sink.lines c.eliminate.new.sink.sink) (left g (goal.at.start-requires-clause-rising g c).After-is_short)
 
 pub start-requires-clause-live : goal.start-requires-clause-live
 start-requires-clause-live g c =
-    let cs = c.clauses-clauses.result.now in
-    let slots = c.eliminate.new.store.slots in
-    let ls = g.S.Sink.lines c.eliminate.new.sink.sink in
-    let e = ap live_clauses c.in_ok-store.ensures ∙ live_map cs in
-    left_live cs slots c.in_ok-stack.stack ls (left_from cs (live_clauses c.in_ok-store.store.slots) slots c.in_ok-stack.stack ls e c.in_ok-stack.ensures.live c.in_ok-stack.ensures.left)
+    left_live c.clauses-clauses.result.now c.eliminate.new.store.slots c.in_ok-stack.stack (g.S.Sink.lines c.eliminate.new.sink.sink) (left g (goal.at.start-requires-clause-live g c).After-is_short)
 
 pub start-requires-clause-numbers : goal.start-requires-clause-numbers
 start-requires-clause-numbers g c =
-    let cs = c.clauses-clauses.result.now in
-    let slots = c.eliminate.new.store.slots in
     let ls = g.S.Sink.lines c.eliminate.new.sink.sink in
-    let e = ap live_clauses c.in_ok-store.ensures ∙ live_map cs in
     let few = added_few ls c.eliminate.new.sink.additions c.eliminate.new.sink.counted c.is_short.ensures in
     let same = c.eliminate.new.sink.counted in
     let many = c.in_ok-given.ensures.few in
-    left_numbers cs slots c.in_ok-stack.stack ls (left_from cs (live_clauses c.in_ok-store.store.slots) slots c.in_ok-stack.stack ls e c.in_ok-stack.ensures.live c.in_ok-stack.ensures.left) (omega (arith, few, same, many))
+    left_numbers c.clauses-clauses.result.now c.eliminate.new.store.slots c.in_ok-stack.stack ls (left g (goal.at.start-requires-clause-numbers g c).After-is_short) (omega (arith, few, same, many))
 
 pub invariant_of-result : goal.invariant_of-result
 invariant_of-result g c =
@@ -72,7 +64,7 @@ invariant_of-result g c =
     let ls = g.S.Sink.lines c.eliminate.new.sink.sink in
     let e = ap live_clauses c.in_ok-store.ensures ∙ live_map cs in
     let stack = c.in_ok-stack.ensures in
-    let left = left_from cs (live_clauses c.in_ok-store.store.slots) slots c.in_ok-stack.stack ls e stack.live stack.left in
+    let rest = left g (goal.at.invariant_of-result g c).After-is_short in
     let frozen : (c.in_ok-frozen.frozen).items ≡ c.args.frozen.now = c.in_ok-frozen.ensures.items in
     let p : Problem = record { stack = c.in_ok-stack.stack; frozen = c.in_ok-frozen.frozen; first = c.len-first.result; given = c.in_ok-given.given } in
     let firsts : c.len-first.result ≡ length (c.in_ok-given.given).items = search rules in
@@ -83,7 +75,7 @@ invariant_of-result g c =
           (subst (λ f. length f ≤ c.in_ok-stack.stack.variables) (sym frozen) stack.variables.0) (subst (λ f. c.in_ok-stack.stack.variables ≤ length f + 2 ^ 20) (sym frozen) stack.variables.1);
       lines = subst (λ x. StaysLogOver (length (c.in_ok-frozen.frozen).items) x ls) (sym c.in_ok-given.ensures.given) stays;
       refuted_is = c.eliminate.new.sink.told;
-      running = λ works not_refuted. first_runs c.in_ok-search.search p ls cs slots c.eliminate.new.sink.additions c.in_ok-search.ensures left c.in_ok-given.ensures.given firsts stays (sym c.eliminate.new.sink.told ∙ not_refuted) c.eliminate.new.sink.counted few
+      running = λ works not_refuted. first_runs c.in_ok-search.search p ls cs slots c.eliminate.new.sink.additions c.in_ok-search.ensures rest c.in_ok-given.ensures.given firsts stays (sym c.eliminate.new.sink.told ∙ not_refuted) c.eliminate.new.sink.counted few
           (subst (λ f. All (λ r. IsFree f r.variable) (c.in_ok-stack.stack).removed) (sym frozen) stack.not_frozen)
           (subst (λ x. ExtendsBack c.in_ok-stack.stack x (live_clauses slots)) e stack.back)
           (λ h. stack.refuted (subst IsRefutedByHints (sym e) h));
