@@ -6,11 +6,12 @@ use wcnf::types::Clause;
 /// The clauses given, and the way back to them from what elimination left.
 #[derive(Drop)]
 pub(crate) struct Problem {
-    /// The variables that were eliminated.
+    /// The variables that were eliminated, each with the clauses that its value has to satisfy.
     pub(crate) stack: Stack,
-    /// By variable, whether clauses that come later may have it.
+    /// By variable, that of 1 first: whether clauses that come later may have it, so that it is not
+    /// eliminated; as many as the formula has variables.
     pub(crate) frozen: Vec<bool>,
-    /// How many of the clauses given are those of the formula.
+    /// How many of the clauses given are those of the formula: the first ones.
     pub(crate) first: usize,
     /// The clauses given, in their order.
     pub(crate) given: Vec<(Name, Clause)>,

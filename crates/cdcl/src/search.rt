@@ -26,16 +26,18 @@ pub(crate) struct Search {
     pub(crate) engine: Engine,
     /// The name of the clause in each place of the store.
     pub(crate) names: Vec<Name>,
-    /// For each variable, where its literal stands as a clause by itself.
+    /// By variable, that of 1 first: the reference of the clause of one literal that it has from
+    /// level 0, or none.
     pub(crate) units: Vec<MaybeCRef>,
     /// How many literals of level 0 have such a clause: the first ones of the trail.
     pub(crate) noted: usize,
-    /// How many additions elimination made, at most `additions`. Their clauses are never deleted, nor are those given.
+    /// How many additions elimination made, at most `additions`. Their clauses are never deleted,
+    /// nor are those given.
     pub(crate) kept: u64,
     /// How many additions the log has, below 2^61.
     pub(crate) additions: u64,
-    /// For each variable, the number of the last addition that has its unit clause among the hints,
-    /// at most `additions`; 0 where none has.
+    /// By variable, that of 1 first: the number of the last addition that has its unit clause among
+    /// the hints, at most `additions`; 0 where none has.
     pub(crate) stamps: Vec<u64>,
     /// The order of decisions.
     pub(crate) order: Order,
@@ -51,6 +53,10 @@ pub(crate) struct Search {
 impl Search {
     /// Makes true what is left, and answers a clause that is false, or none: then no clause is
     /// false or unit.
+    ///
+    /// # Errors
+    ///
+    /// `AllocError` where memory was refused: the search cannot go on.
     pub(crate) fn propagate(&mut self) -> Result<Option<CRef>, AllocError>
         requires { IsReady self.old }
         ensures runs { OnOk result (KeepsRunning self.old self.new) }

@@ -27,8 +27,11 @@ use std::alloc::AllocError;
 /// is spent.
 #[derive(Clone, Copy, Debug, PartialEq, Eq, Drop)]
 pub(crate) enum End {
+    /// Each variable has a value, and no clause is false.
     Satisfied,
+    /// The empty clause was added.
     Refuted,
+    /// Nothing is left of the budget.
     Spent,
 }
 
@@ -40,7 +43,7 @@ const RESTART: u64 = 100;
 struct Pace {
     // Where the sequence stands: its term, in hundreds of conflicts, is when it does next.
     powers: Powers,
-    // Conflicts since it last did.
+    // How many conflicts came since it last did.
     conflicts: u64,
 }
 

@@ -29,7 +29,8 @@ use std::alloc::AllocError;
 use std::marker::Model;
 use wcnf::types::{Clause, Formula, Lit};
 
-/// Decides clauses, and writes down why.
+/// Decides whether clauses can be satisfied together, and writes down why not as lines of a log.
+/// Clauses may be added between two searches, and each search goes on with what was learned before.
 #[derive(Drop)]
 pub struct Solver<S: Sink> {
     // What it works on; after `refuted` or `failed` it is not used.
@@ -38,9 +39,9 @@ pub struct Solver<S: Sink> {
     problem: Problem,
     // What its lines go to.
     sink: S,
-    // The empty clause was added.
+    // Whether the empty clause was added. It stays so.
     refuted: bool,
-    // Memory was refused.
+    // Whether memory was refused. It stays so.
     failed: bool,
 }
 
@@ -71,7 +72,7 @@ impl<S: Sink> Solver<S> {
     ///
     /// # Errors
     ///
-    /// Where memory was refused.
+    /// `AllocError` where memory was refused.
     pub fn new(formula: &Formula, frozen: &[bool], sink: S) -> Result<Self, AllocError>
         requires frozen { length frozen.now ≡ formula.now.variables }
         requires empty { S.lines sink ≡ [] }

@@ -15,7 +15,7 @@ pub(crate) struct Tally<S: Sink> {
     pub(crate) sink: S,
     /// How many additions it took, below 2^61.
     pub(crate) additions: u64,
-    /// The empty clause was one of them.
+    /// Whether the empty clause was one of them.
     pub(crate) refuted: bool,
     ghost counted: { additions ≡ added_count (S.lines sink) },
     ghost told: { refuted ≡ is_refuted (S.lines sink) },
