@@ -69,6 +69,15 @@ row_closed_other e i write read k ne = get_or-set_other e.watches.rows i k (clos
 pub row_in : (e : EngineState) (w : Literal) → IsEngine e → IsVariable e.variables w → index_of w < length e.watches.rows
 row_in e w inv h = omega (arith, inv.rows, index-within e.variables w h)
 
+-- a clause that watches w, by either watch, watches another literal beside it
+watched_by : (e : EngineState) (c : List Literal) (p : Attachment) (w one other : Literal) → IsWatching p one other
+    → FitsAttachment e c (Watching one other (rest_in p)) → (one ≡ w) ⊎ (other ≡ w)
+    → (o : Literal) × IsWatchedBy p w o × (w ≢ o) × (contains_literal o c ≡ true) × IsRest c w o (rest_in p)
+watched_by e c p w one other is fp (inl s) =
+    (other, inl (is ∙ ap (λ y. Watching y other (rest_in p)) s), λ g. fp.0 (s ∙ g), fp.2.member, subst (λ y. IsRest c y other (rest_in p)) s fp.3)
+watched_by e c p w one other is fp (inr s) =
+    (one, inr (is ∙ ap (λ y. Watching one y (rest_in p)) s), λ g. fp.0 (sym g ∙ sym s), fp.1.member, subst (λ y. IsRest c y one (rest_in p)) s (rest_swapped c one other (rest_in p) fp.3))
+
 pub watched_from : (slots : Slots) (e : EngineState) (w : Literal) (write read : ℕ) (x : Entry) → IsEngine e → InRow slots e w write read
     → read < length (row_at e.watches.rows (index_of w)) → x ≡ get_or (row_at e.watches.rows (index_of w)) read x → IsWatched slots e w x
 watched_from slots e w write read x inv st lt at =
@@ -90,36 +99,20 @@ watched_from slots e w write read x inv st lt at =
     let named = inv.watching r p.0 p.1 p.2 in
     let f = st.fits.attached r b.1 in
     let fp = subst (λ y. FitsAttachment ce f.0 y) p.2 f.2.1 in
-    elim p.3 [
-      | inl first ↦
-          let s : p.0 ≡ w = index_same p.0 w named.0.0 st.in_range.0 first in
-          record {
-            clause = f.0;
-            live = f.1;
-            within = f.2.0;
-            blocker = let same : b.0 ≡ f.0 = cc (b.2, f.1) in subst (λ c. contains_literal x.blocker c ≡ true) same b.3;
-            other = p.1;
-            attachment = inl (p.2 ∙ ap (λ y. Watching y p.1 (rest_in (attachment_in e.watches.table r))) s);
-            apart = λ g. fp.0 (s ∙ g);
-            member = fp.2.member;
-            rest = subst (λ y. IsRest f.0 y p.1 (rest_in (attachment_in e.watches.table r))) s fp.3;
-            falsified = st.falsified;
-          }
-      | inr second ↦
-          let s : p.1 ≡ w = index_same p.1 w named.1.0 st.in_range.0 second in
-          record {
-            clause = f.0;
-            live = f.1;
-            within = f.2.0;
-            blocker = let same : b.0 ≡ f.0 = cc (b.2, f.1) in subst (λ c. contains_literal x.blocker c ≡ true) same b.3;
-            other = p.0;
-            attachment = inr (p.2 ∙ ap (λ y. Watching p.0 y (rest_in (attachment_in e.watches.table r))) s);
-            apart = λ g. fp.0 (sym g ∙ sym s);
-            member = fp.1.member;
-            rest = subst (λ y. IsRest f.0 y p.0 (rest_in (attachment_in e.watches.table r))) s (rest_swapped f.0 p.0 p.1 (rest_in (attachment_in e.watches.table r)) fp.3);
-            falsified = st.falsified;
-          }
-    ]
+    let by = watched_by ce f.0 (attachment_in e.watches.table r) w p.0 p.1 p.2 fp
+    (elim p.3 [ inl first ↦ inl (index_same p.0 w named.0.0 st.in_range.0 first) | inr second ↦ inr (index_same p.1 w named.1.0 st.in_range.0 second) ]) in
+    record {
+      clause = f.0;
+      live = f.1;
+      within = f.2.0;
+      blocker = let same : b.0 ≡ f.0 = cc (b.2, f.1) in subst (λ c. contains_literal x.blocker c ≡ true) same b.3;
+      other = by.0;
+      attachment = by.1;
+      apart = by.2;
+      member = by.3;
+      rest = by.4;
+      falsified = st.falsified;
+    }
 
 -- rows that have the same clauses
 pub fits_rows : (e : EngineState) (slots : Slots) (R : List (List Entry)) → Fits e slots

@@ -80,8 +80,8 @@ watch_satisfied-requires-clause-fits c = (only (goal.at.watch_satisfied-requires
 
 pub returns-clause-done : goal.returns-clause-done
 returns-clause-done c = λ x p l.
-    let e : c.lits-lits.result.now ≡ x = cc (c.lits-lits.ensures, l) in
-    (
-      c.in-Some.one, subst (λ z. contains_literal c.in-Some.one z ≡ true) e c.in-Some.ensures.0,
+    let e : c.lits-lits.result.now ≡ x = cc (c.lits-lits.ensures, l) in (
+      c.in-Some.one,
+      subst (λ z. contains_literal c.in-Some.one z ≡ true) e c.in-Some.ensures.0,
       subst (λ T. contains_literal c.in-Some.one (literals_of T) ≡ true) (sym c.in_ok-watch_satisfied.ensures.trail) (only (goal.at.returns-clause-done c).After-make_true).1,
     )
