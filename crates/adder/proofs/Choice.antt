@@ -3,12 +3,13 @@ use Rattle.std.proofs.Common.{◌≡◌, ℕ, zero, suc, ◌+◌, ◌*◌, ◌%�
 use Rattle.std.specs.List.{AllByRecursion}
 use Rattle.std.proofs.lemmas.Bool.{eq-eqb, ne_eqb}
 use Rattle.std.proofs.lemmas.List.Elements.{All-from_recursion}
-use Rattle.wcnf.specs.Literal.{Assignment, Literal, negation, literal_value}
+use Rattle.wcnf.specs.Numbers.{one_if}
+use Rattle.wcnf.specs.Literal.{Assignment, Literal, negation, literal_value, positive}
 use Rattle.wcnf.specs.Clause.{clause_value, greatest_variable}
 use Rattle.wcnf.specs.Problem.{SoftClause}
 use Rattle.adder.specs.declared.cells.Cell.{Cell}
 use Rattle.adder.specs.declared.cells.Profile.{Profile}
-use Rattle.adder.specs.Network.{Relaxed, Column, bit, positive, relaxed_from, column_of, added_up, columns_from, one_if, third_of, IsCellOf, SameUpTo}
+use Rattle.adder.specs.Network.{Relaxed, Column, bit, relaxed_from, column_of, added_up, columns_from, third_of, IsCellOf, SameUpTo}
 use Rattle.adder.proofs.Sums.{relaxed_cases}
 
 -- the assignment with one value changed

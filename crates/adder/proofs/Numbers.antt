@@ -3,11 +3,12 @@ use Rattle.std.proofs.Common.{◌≡◌, ℕ, zero, suc, ◌+◌, ◌*◌, ◌/�
 use Rattle.std.specs.List.{AllByRecursion}
 use Rattle.std.proofs.lemmas.List.{length-append, length-map}
 use Rattle.std.proofs.lemmas.List.Sums.{sum_by-cons}
+use Rattle.wcnf.specs.Numbers.{one_if}
 use Rattle.wcnf.specs.Literal.{Assignment, Literal, literal_value}
-use Rattle.adder.specs.Network.{Relaxed, Number, bit, binary_length, bits_from, number_of, literal_at, addition, round, rounds, lightest_first, numbers_of, along_tree, value_of, one_if, IsCellOf}
+use Rattle.adder.specs.Network.{Relaxed, Number, bit, binary_length, bits_from, number_of, literal_at, addition, round, rounds, lightest_first, numbers_of, along_tree, value_of, IsCellOf}
 use Rattle.adder.specs.declared.relaxations.Relaxation.{Relaxation}
 use Rattle.adder.specs.Parts.{most_of, numbers_with}
-use Rattle.adder.proofs.Sums.{left_part, right_part, count_true, count_true-append, digit, columns_sum, binary_length_room, binary_length_le, given_up}
+use Rattle.adder.proofs.Sums.{left_part, right_part, count_true, count_true-append, digit, columns_sum, binary_length_room, binary_length_le, given_up, scaled}
 use Rattle.adder.proofs.Choice.{IsChain, AreRelaxedBelow, chain_append, below_append, columns_chain}
 use Rattle.adder.proofs.Small.{columns_cells, columns_outputs, binary_length_few}
 use Rattle.adder.proofs.Variables.{AreOf, IsOutputOf, IsCellWith, of_append, all_append, columns_with}
@@ -24,10 +25,6 @@ bits_more t (Some l ∷ bits) zero = omega arith
 bits_more t (o ∷ bits) (suc j) =
     let e : suc j + 1 ≡ suc (j + 1) = omega arith in
     rw e (bits_more t bits j)
-
-scaled : (v : Bool) (x y b : ℕ) → x ≡ b + 2 * y → one_if v * x ≡ one_if v * b + 2 * (one_if v * y)
-scaled true x y b e = omega arith
-scaled false x y b e = omega arith
 
 none_left : (v : Bool) (x : ℕ) → x < 1 → 0 ≡ one_if v * x
 none_left true x h = omega arith
@@ -47,9 +44,6 @@ bits_value t l w (suc more) j h =
   where
     here : (n : ℕ) → one_if (bit w j) ≡ n → one_if (literal_value t l) * (w / 2 ^ j) ≡ one_if (literal_value t l) * n + 2 * (one_if (literal_value t l) * (w / 2 ^ (j + 1)))
     here n e = scaled (literal_value t l) _ _ n (omega (arith, digit w j))
-
-weighs : Assignment → Relaxed → ℕ
-weighs t e = if literal_value t e.literal then (e.soft).weight else 0
 
 number_value : (t : Assignment) (l : Literal) (w : ℕ) → w < 2 ^ 63 → value_of t (number_of l w).bits ≡ (if literal_value t l then w else 0)
 number_value t l w h = bits_value t l w (binary_length w) 0 (omega (arith, binary_length_room w h)) ∙ by (literal_value t l)

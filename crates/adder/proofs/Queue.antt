@@ -1,9 +1,9 @@
 -- How a column is added up cell by cell.
 use Rattle.std.proofs.Common.{◌≡◌, ℕ, zero, suc, ◌+◌, ◌-◌, ◌<◌, ◌≤◌, List, [], ◌∷◌, ◌++◌, length, take, drop, get_or, Option, Some, None, refl, sym, ◌∙◌, ap, subst, arith, append_assoc}
 use Rattle.std.proofs.lemmas.List.{length-append, length-drop, drop-append-le, drop-drop, drop_at, take_rest}
-use Rattle.wcnf.specs.Literal.{Literal}
+use Rattle.wcnf.specs.Literal.{Literal, positive}
 use Rattle.adder.specs.declared.cells.Cell.{Cell}
-use Rattle.adder.specs.Network.{Column, positive, after_cell, added_up}
+use Rattle.adder.specs.Network.{Column, after_cell, added_up}
 use Rattle.adder.specs.Parts.{column_from}
 use Rattle.adder.proofs.Variables.{column_fresh}
 

@@ -3,10 +3,10 @@ use Rattle.std.proofs.Common.{◌≡◌, ℕ, zero, suc, ◌+◌, ◌*◌, ◌/�
 use Rattle.std.proofs.lemmas.Bool.{eqb-false}
 use Rattle.std.proofs.lemmas.List.{length-append, length-map}
 use Rattle.std.proofs.lemmas.List.Sums.{length-filter, count_by-le-length}
-use Rattle.wcnf.specs.Literal.{Literal}
+use Rattle.wcnf.specs.Literal.{Literal, positive}
 use Rattle.wcnf.specs.Problem.{Problem, SoftClause}
 use Rattle.adder.specs.declared.cells.Profile.{Profile}
-use Rattle.adder.specs.Network.{Relaxed, bit, binary_length, positive, relaxed_one, relaxed_from, relaxed_as, column_of, added_up, columns_from}
+use Rattle.adder.specs.Network.{Relaxed, bit, binary_length, relaxed_one, relaxed_from, relaxed_as, column_of, added_up, columns_from}
 use Rattle.adder.proofs.Sums.{length_in}
 
 -- a column's cells are at most half of what it adds, and each has a carry
@@ -21,7 +21,7 @@ column_cells (suc steps) n (a ∷ b ∷ d ∷ rest) =
     let r = column_cells steps (n + 2) (rest ++ positive n ∷ []) in
     (omega (arith, r.0, length-append rest (positive n ∷ [])), ap suc r.1)
 
-filter_le : {X : Type 0} (p : X → Bool) (xs : List X) → length (filter p xs) ≤ length xs
+pub filter_le : {X : Type 0} (p : X → Bool) (xs : List X) → length (filter p xs) ≤ length xs
 filter_le p xs = subst (λ n. n ≤ length xs) (sym (length-filter p xs)) (count_by-le-length p xs)
 
 pub column_le : (es : List Relaxed) (j : ℕ) → length (column_of es j) ≤ length es

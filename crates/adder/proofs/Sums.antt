@@ -5,11 +5,12 @@ use Rattle.std.proofs.lemmas.Nat.{shr-shr}
 use Rattle.std.proofs.lemmas.Bool.{eqb-true, eqb-false}
 use Rattle.std.proofs.lemmas.List.{length-append}
 use Rattle.std.proofs.lemmas.List.Sums.{sum_by-cons}
-use Rattle.wcnf.specs.Literal.{Assignment, Literal, negation, literal_value}
+use Rattle.wcnf.specs.Numbers.{one_if}
+use Rattle.wcnf.specs.Literal.{Assignment, Literal, negation, literal_value, positive}
 use Rattle.wcnf.specs.Problem.{SoftClause}
 use Rattle.adder.specs.declared.cells.Profile.{Profile}
 use Rattle.adder.specs.declared.cells.Profile.TheVariants.{One, Two, Three}
-use Rattle.adder.specs.Network.{Relaxed, bit, binary_length, positive, relaxed_one, relaxed_from, column_of, added_up, columns_from, along_columns, value_of, one_if, third_of, IsCellOf}
+use Rattle.adder.specs.Network.{Relaxed, bit, binary_length, relaxed_one, relaxed_from, column_of, added_up, columns_from, along_columns, value_of, third_of, IsCellOf}
 
 pub left_part : {X : Type 0} (P : X → Type 0) (xs ys : List X) → AllByRecursion P (xs ++ ys) → AllByRecursion P xs
 left_part P [] ys h = tt
@@ -54,7 +55,7 @@ abbrev pub weighed : Assignment → List Relaxed → ℕ → ℕ
 weighed t [] j = 0
 weighed t (e ∷ es) j = one_if (literal_value t e.literal) * ((e.soft).weight / 2 ^ j) + weighed t es j
 
-scaled : (v : Bool) (x y b : ℕ) → x ≡ b + 2 * y → one_if v * x ≡ one_if v * b + 2 * (one_if v * y)
+pub scaled : (v : Bool) (x y b : ℕ) → x ≡ b + 2 * y → one_if v * x ≡ one_if v * b + 2 * (one_if v * y)
 scaled true x y b e = omega arith
 scaled false x y b e = omega arith
 

@@ -5,13 +5,13 @@ use Rattle.std.proofs.lemmas.Bool.{false≢true, and_parts, and_from, lt-ltb, lt
 use Rattle.std.proofs.lemmas.List.Folds.{list_all-append, list_any-append}
 use Rattle.std.proofs.lemmas.List.Sums.{sum_by-cons}
 use Rattle.std.proofs.lemmas.List.Elements.{recursion_from_All, All-from_recursion, All-weaker}
-use Rattle.wcnf.specs.Literal.{Assignment, Literal, negation, literal_value}
+use Rattle.wcnf.specs.Literal.{Assignment, Literal, negation, literal_value, positive}
 use Rattle.wcnf.specs.Clause.{Satisfies, clause_value, greatest_variable}
 use Rattle.wcnf.specs.Problem.{Problem, SoftClause, IsFeasible, cost_under}
 use Rattle.wcnf.specs.Instance.{IsInstance, IsClauseWithin}
 use Rattle.adder.specs.declared.cells.Cell.{Cell}
 use Rattle.adder.specs.declared.cells.Profile.{Profile}
-use Rattle.adder.specs.Network.{Relaxed, relaxed_one, relaxed_from, relaxed_as, relaxed_variables, adders_as, total_weight, value_of, positive, IsCellOf, SameUpTo}
+use Rattle.adder.specs.Network.{Relaxed, relaxed_one, relaxed_from, relaxed_as, relaxed_variables, adders_as, total_weight, value_of, IsCellOf, SameUpTo}
 use Rattle.adder.proofs.Laws.{relaxed_cases, relaxed_soft}
 use Rattle.adder.proofs.Laws.{AreWithin, AreRelaxedBelow, IsRelaxedTightly, relaxed_below, relaxed_choice, clause_same, literal_same}
 use Rattle.adder.proofs.Laws.{outputs_sum, cells_extend}
@@ -19,6 +19,7 @@ use Rattle.bound.specs.Bound.{kept, cell_clauses, relaxed_clauses, comparator_fo
 use Rattle.bound.proofs.Clauses.{all_true, all_true-from, from_all_true, all_true-kept, value-no}
 use Rattle.bound.proofs.Adders.{cell_holds, holds_cell}
 use Rattle.bound.proofs.Comparator.{comparator_true}
+use Rattle.bound.proofs.Relaxations.{with_variables}
 
 cells_hold : (t : Assignment) (cells : List Cell) → all_true t (flat_map cell_clauses cells) ≡ true → AllByRecursion (IsCellOf t) cells
 cells_hold t [] h = tt
@@ -49,9 +50,6 @@ given_up t e = if literal_value t e.literal then (e.soft).weight else 0
 abbrev cost_of : Assignment → SoftClause → ℕ
 cost_of t s = if clause_value t s.clause then 0 else s.weight
 
-abbrev with_literals : List Relaxed → List (List Literal)
-with_literals es = map (λ e. (e.soft).clause ++ e.literal ∷ []) (filter (λ e. e.is_fresh) es)
-
 value_with : (t : Assignment) (c : List Literal) (l : Literal) → clause_value t (c ++ l ∷ []) ≡ (clause_value t c || literal_value t l)
 value_with t c l = list_any-append (literal_value t) c (l ∷ []) ∙ ap (λ b. clause_value t c || b) (or_false (literal_value t l))
   where
@@ -72,15 +70,15 @@ own_cost t l w = subst (λ b. (if literal_value t l || false then 0 else w) ≤ 
     by false = omega arith
 
 -- no more costs than is given up
-cost_le : (t : Assignment) (profile : Profile) (v : ℕ) (ss : List SoftClause) → all_true t (with_literals (relaxed_from profile v ss)) ≡ true
+cost_le : (t : Assignment) (profile : Profile) (v : ℕ) (ss : List SoftClause) → all_true t (with_variables (relaxed_from profile v ss)) ≡ true
     → sum_by (cost_of t) ss ≤ sum_by (given_up t) (relaxed_from profile v ss)
 cost_le t profile v [] = λ h. omega arith
 cost_le t profile v (s ∷ ss) =
-    relaxed_cases profile v s (λ e. all_true t (with_literals (e ∷ relaxed_from profile (if e.is_fresh then v + 1 else v) ss)) ≡ true
+    relaxed_cases profile v s (λ e. all_true t (with_variables (e ∷ relaxed_from profile (if e.is_fresh then v + 1 else v) ss)) ≡ true
     → sum_by (cost_of t) (s ∷ ss) ≤ sum_by (given_up t) (e ∷ relaxed_from profile (if e.is_fresh then v + 1 else v) ss))
     (λ h.
     let e : Relaxed = record { literal = positive v; soft = s; is_fresh = true } in
-    let parts = and_parts (clause_value t (s.clause ++ positive v ∷ [])) (all_true t (with_literals (relaxed_from profile (v + 1) ss))) h in
+    let parts = and_parts (clause_value t (s.clause ++ positive v ∷ [])) (all_true t (with_variables (relaxed_from profile (v + 1) ss))) h in
     omega (
       arith,
       sum_by-cons (cost_of t) s ss,
@@ -99,11 +97,11 @@ cost_le t profile v (s ∷ ss) =
     ))
 
 -- where the relaxation literals are tight, their clauses hold and what is given up is the cost
-tight_clauses : (t : Assignment) (es : List Relaxed) → AllByRecursion (IsRelaxedTightly t) es → all_true t (with_literals es) ≡ true
+tight_clauses : (t : Assignment) (es : List Relaxed) → AllByRecursion (IsRelaxedTightly t) es → all_true t (with_variables es) ≡ true
 tight_clauses t [] h = refl
 tight_clauses t (e ∷ es) h =
     elim e.is_fresh as (λ b. all_true t (map (λ e. (e.soft).clause ++ e.literal ∷ []) (if b then e ∷ filter (λ e. e.is_fresh) es else filter (λ e. e.is_fresh) es)) ≡ true) [
-      | true ↦ and_from (clause_value t ((e.soft).clause ++ e.literal ∷ [])) (all_true t (with_literals es)) (value_with t (e.soft).clause e.literal ∙ ap (λ b. clause_value t (e.soft).clause || b) h.0 ∙ either (clause_value t (e.soft).clause)) (tight_clauses t es h.1)
+      | true ↦ and_from (clause_value t ((e.soft).clause ++ e.literal ∷ [])) (all_true t (with_variables es)) (value_with t (e.soft).clause e.literal ∙ ap (λ b. clause_value t (e.soft).clause || b) h.0 ∙ either (clause_value t (e.soft).clause)) (tight_clauses t es h.1)
       | false ↦ tight_clauses t es h.1
     ]
   where

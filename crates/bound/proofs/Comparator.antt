@@ -2,9 +2,10 @@
 use Rattle.std.proofs.Common.{◌≡◌, ℕ, zero, suc, ◌+◌, ◌*◌, ◌/◌, ◌^◌, ◌≤◌, Bool, true, false, not, ◌&&◌, ◌||◌, List, [], ◌∷◌, reverse, Option, Some, None, ◌==◌, nat_le, nat_lt, inl, inr, refl, sym, ◌∙◌, ap, arith}
 use Rattle.std.proofs.lemmas.Bool.{eqb-true, eq-eqb, false≢true, and_parts, and_from, leb-true, le-leb, lt-leb, leb-false, cases_lt, le-ltb}
 use Rattle.std.proofs.lemmas.Bool.Decides.{nat_tests}
+use Rattle.wcnf.specs.Numbers.{one_if}
 use Rattle.wcnf.specs.Literal.{Assignment, Literal, literal_value}
 use Rattle.wcnf.specs.Clause.{clause_value}
-use Rattle.adder.specs.Network.{bit, value_of, one_if}
+use Rattle.adder.specs.Network.{bit, value_of}
 use Rattle.adder.proofs.Laws.{digit}
 use Rattle.bound.specs.Bound.{no, above, rising_clauses, comparator_of}
 use Rattle.bound.proofs.Clauses.{all_true, value-no, all_true-kept, all_true-reverse}

@@ -3,7 +3,6 @@ use Rattle.std.proofs.Common.{◌≡◌, ℕ, zero, suc, ◌+◌, ◌-◌, ◌*�
 use Rattle.std.specs.List.{flat_map}
 use Rattle.std.proofs.lemmas.Bool.{eq-eqb}
 use Rattle.std.proofs.lemmas.List.{length-append, length-map, length-reverse}
-use Rattle.std.proofs.lemmas.List.Sums.{length-filter, count_by-le-length}
 use Rattle.std.proofs.lemmas.Nat.Bits.{bit_at_ones}
 use Rattle.wcnf.specs.Literal.{Literal}
 use Rattle.wcnf.specs.Clause.{distinct, has_opposites}
@@ -12,12 +11,8 @@ use Rattle.wcnf.specs.Instance.{IsInstance}
 use Rattle.adder.specs.declared.cells.Cell.{Cell}
 use Rattle.adder.specs.declared.cells.Profile.{Profile}
 use Rattle.adder.specs.Network.{Relaxed, bit, relaxed_as, adders_as}
-use Rattle.adder.proofs.Laws.{fresh_few}
-use Rattle.adder.proofs.Laws.{outputs_few, cells_few}
+use Rattle.adder.proofs.Laws.{filter_le, fresh_few, outputs_few, cells_few}
 use Rattle.bound.specs.Bound.{kept, hard_cnf, cell_clauses, relaxed_clauses, above, rising_clauses, comparator_of, comparator_for, bound_as}
-
-filter_le : {X : Type 0} (p : X → Bool) (xs : List X) → length (filter p xs) ≤ length xs
-filter_le p xs = subst (λ n. n ≤ length xs) (sym (length-filter p xs)) (count_by-le-length p xs)
 
 pub kept_le : (cs : List (List Literal)) → length (kept cs) ≤ length cs
 kept_le cs = subst (λ n. length (kept cs) ≤ n) (length-map cs distinct) (filter_le (λ c. not (has_opposites c)) (map distinct cs))

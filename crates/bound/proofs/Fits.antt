@@ -175,10 +175,14 @@ once_kept (c ∷ cs) =
       | false ↦ (repeat-distinct c, once_kept cs)
     ]
 
+pub kept_once : (cs : List (List Literal)) → All (λ c. has_repeat c ≡ false) (kept cs)
+kept_once cs = All-from_recursion IsOnce (kept cs) (once_kept cs)
+
 -- the comparator's clauses, whatever the outputs are
-pub comparator_once : (outputs : List (Option Literal)) (k : ℕ) → All (λ c. has_repeat c ≡ false) (comparator_of outputs k)
+pub comparator_once : (outputs : List (Option Literal)) (k : ℕ)
+    → All (λ c. has_repeat c ≡ false) (comparator_of outputs k)
 comparator_once outputs zero = All-from_recursion IsOnce ([] ∷ []) (refl, tt)
-comparator_once outputs (suc limit) = All-from_recursion IsOnce (kept (reverse (rising_clauses outputs limit 0))) (once_kept (reverse (rising_clauses outputs limit 0)))
+comparator_once outputs (suc limit) = kept_once (reverse (rising_clauses outputs limit 0))
 
 plain_of : (n v : ℕ) (c : List Literal) → n ≤ v → IsClauseWithin n c → IsPlain v c
 plain_of n v c le h = within_plain n v c le (recursion_from_All (λ l. 0 < l.variable) c h.1) h.2

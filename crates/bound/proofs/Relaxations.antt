@@ -4,13 +4,13 @@ use Rattle.std.proofs.lemmas.Bool.{ne_eqb, or_from, or_parts, false≢true}
 use Rattle.std.proofs.lemmas.List.{take_more, length-append}
 use Rattle.std.proofs.lemmas.List.Folds.{list_any-append}
 use Rattle.std.proofs.lemmas.List.Elements.{All-from_recursion, recursion_from_All}
-use Rattle.wcnf.specs.Literal.{Literal, literal_eq, same_bool}
+use Rattle.wcnf.specs.Literal.{Literal, literal_eq, same_bool, positive}
 use Rattle.wcnf.specs.Clause.{contains_literal, has_repeat, greatest_variable}
 use Rattle.wcnf.specs.Problem.{SoftClause}
 use Rattle.wcnf.specs.Instance.{IsClauseWithin}
 use Rattle.adder.specs.declared.cells.Profile.{Profile}
 use Rattle.adder.specs.declared.cells.Profile.TheVariants.{One, Two, Three}
-use Rattle.adder.specs.Network.{Relaxed, relaxed_one, relaxed_from, positive}
+use Rattle.adder.specs.Network.{Relaxed, relaxed_one, relaxed_from}
 use Rattle.adder.proofs.Laws.{relaxed_cases}
 use Rattle.bound.specs.Bound.{kept}
 use Rattle.bound.specs.Marks.{HasPlace}

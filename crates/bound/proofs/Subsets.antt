@@ -6,22 +6,8 @@ use Rattle.std.proofs.lemmas.Grind.{reverse_onto}
 use Rattle.std.proofs.lemmas.List.Folds.{list_any-append}
 use Rattle.wcnf.specs.Literal.{Literal, negation, literal_eq, same_bool}
 use Rattle.wcnf.specs.Clause.{contains_literal, without_literal, distinct, has_opposites, is_subset}
-use Rattle.wcnf.proofs.Laws.{literal_eq-true}
+use Rattle.wcnf.proofs.Laws.{literal_eq-refl, literal_eq-true, negation_twice}
 use Rattle.bound.specs.Bound.{kept}
-
-pub literal_eq_self : (l : Literal) → literal_eq l l ≡ true
-literal_eq_self l = λ i. eq-eqb l.variable l.variable refl i && self l.negated i
-  where
-    self : (b : Bool) → same_bool b b ≡ true
-    self true = refl
-    self false = refl
-
-negation-negation : (l : Literal) → negation (negation l) ≡ l
-negation-negation l = λ i. record { variable = l.variable; negated = by l.negated i }
-  where
-    by : (b : Bool) → not (not b) ≡ b
-    by true = refl
-    by false = refl
 
 not_own_negation : (l : Literal) → l ≡ negation l → ⊥
 not_own_negation l e = by l.negated (λ i. (e i).negated)
@@ -44,7 +30,7 @@ subset_member l (k ∷ d) c h m =
 subset_from : (d c : List Literal) → ((l : Literal) → contains_literal l d ≡ true → contains_literal l c ≡ true) → is_subset d c ≡ true
 subset_from [] c f = refl
 subset_from (k ∷ d) c f =
-    ap (λ b. if b then is_subset d c else false) (f k (or_left (literal_eq k k) (contains_literal k d) (literal_eq_self k)))
+    ap (λ b. if b then is_subset d c else false) (f k (or_left (literal_eq k k) (contains_literal k d) (literal_eq-refl k)))
     ∙ subset_from d c (λ l m. f l (or_right (literal_eq l k) (contains_literal l d) m))
 
 pub subset_self : (c : List Literal) → is_subset c c ≡ true
@@ -76,7 +62,7 @@ opposites_from : (c : List Literal) → has_opposites c ≡ true → (l : Litera
 opposites_from [] h = absurd (false≢true h)
 opposites_from (k ∷ c) h =
     elim (or_cases (contains_literal (negation k) c) (has_opposites c) h) [
-      | inl here ↦ (k, or_left (literal_eq k k) (contains_literal k c) (literal_eq_self k), or_right (literal_eq (negation k) k) (contains_literal (negation k) c) here)
+      | inl here ↦ (k, or_left (literal_eq k k) (contains_literal k c) (literal_eq-refl k), or_right (literal_eq (negation k) k) (contains_literal (negation k) c) here)
       | inr more ↦
           let r = opposites_from c more in
           (r.0, or_right (literal_eq r.0 k) (contains_literal r.0 c) r.1, or_right (literal_eq (negation r.0) k) (contains_literal (negation r.0) c) r.2)
@@ -92,7 +78,7 @@ opposites_to l (k ∷ c) h g =
       ]
       | inr more ↦ elim (or_cases (literal_eq (negation l) k) (contains_literal (negation l) c) g) [
         | inl too ↦ or_left (contains_literal (negation k) c) (has_opposites c)
-            (subst (λ x. contains_literal (negation x) c ≡ true) (literal_eq-true (negation l) k too) (subst (λ x. contains_literal x c ≡ true) (sym (negation-negation l)) more))
+            (subst (λ x. contains_literal (negation x) c ≡ true) (literal_eq-true (negation l) k too) (subst (λ x. contains_literal x c ≡ true) (sym (negation_twice l)) more))
         | inr rest ↦ or_right (contains_literal (negation k) c) (has_opposites c) (opposites_to l c more rest)
       ]
     ]

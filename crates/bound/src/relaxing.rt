@@ -2,7 +2,8 @@
 // falsified.
 ghost use Rattle.std.specs.Prelude.{◌≡◌, ◌+◌, ◌*◌, ◌<◌, ◌≤◌, ◌^◌, [], ◌∷◌, ◌++◌, length, IfOk};
 ghost use Rattle.std.specs.Prelude.{OnOk};
-ghost use Rattle.adder.specs.Network.{positive, relaxed_variables};
+ghost use Rattle.wcnf.specs.Literal.{positive};
+ghost use Rattle.adder.specs.Network.{relaxed_variables};
 ghost use Rattle.bound.specs.Bound.{kept, relaxed_clauses};
 ghost use Rattle.bound.specs.Adding.{gets_variable};
 

@@ -14,10 +14,6 @@ use Rattle.lrat_check.specs.Result.{Said, Report, Says, report_of}
 use Rattle.lrat_check.specs.Checks.{HasCost, IsTrueOf, IsTrueResult}
 use Rattle.lrat_check.proofs.Reports.{report_from_says}
 
--- the bits agree with their own assignment
-pub extends_own : (bits : List Bool) → Extends bits (assignment_of bits)
-extends_own bits v b e = ap (λ o. unwrap_or o false) e
-
 not_cheaper : (profile : Profile) (p : Problem) (c : ℕ) → SaysCheaper profile p c → IsUnsatisfiable (bound_as profile p c).clauses → (u : Assignment) → IsFeasible p u → cost_under p u < c → ⊥
 not_cheaper profile p c says none u f lower = let k = says.from u f lower in none k.0 k.2
 

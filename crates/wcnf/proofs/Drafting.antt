@@ -16,7 +16,7 @@ use Rattle.wcnf.specs.Reading.{Word, Zero, Literal_word, Other, word_of, ended_a
 use Rattle.wcnf.specs.Drafts.{Gathered, emptied, with_literal, gather, gathered_at, Drafted, nothing_drafted, is_nil, is_empty, totals_of, variables_of, problem_drafted, with_clause, with_header, drafted_header, drafted_line, drafted_lines, finished}
 use Rattle.wcnf.proofs.Sound.{literal_eq-true}
 use Rattle.wcnf.proofs.Lines.{bind_ok}
-use Rattle.wcnf.proofs.Marks.{literal_eq-refl, literal_eq_ne, literal_ne, contains-push}
+use Rattle.wcnf.proofs.Literals.{literal_eq-refl, literal_eq_ne, literal_ne, contains-push}
 
 -- the literals of a clause, one after another
 abbrev gather_all : Gathered → List Literal → Gathered

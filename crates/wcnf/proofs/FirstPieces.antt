@@ -13,7 +13,7 @@ use Rattle.wcnf.specs.Text.{is_blank, begins_with_token, put_byte, tokens_of}
 abbrev is_feed : ℕ → Bool
 is_feed b = b == 10
 
-parts-cons : (x : List ℕ) (parts : List (List ℕ)) → 0 < length parts → lines_of_parts (x ∷ parts) ≡ strip_carriage_return x ∷ lines_of_parts parts
+pub parts-cons : (x : List ℕ) (parts : List (List ℕ)) → 0 < length parts → lines_of_parts (x ∷ parts) ≡ strip_carriage_return x ∷ lines_of_parts parts
 parts-cons x [] l = absurd (omega arith)
 parts-cons x (y ∷ more) l = refl
 

@@ -1,10 +1,11 @@
 -- What clauses within the variables of an instance are under bits.
-use Rattle.std.proofs.Common.{◌≡◌, ℕ, ◌≤◌, ◌<◌, Bool, List, [], ◌∷◌, sym, ◌∙◌, subst, arith, length, get_or}
-use Rattle.std.specs.Prelude.{All, IsTrue, ◌↔◌}
+use Rattle.std.proofs.Common.{◌≡◌, ℕ, ◌≤◌, ◌<◌, Bool, false, List, [], ◌∷◌, sym, ◌∙◌, ap, subst, arith, length, get_or}
+use Rattle.std.specs.Prelude.{All, IsTrue, ◌↔◌, unwrap_or}
 use Rattle.std.specs.List.{list_all}
 use Rattle.std.proofs.lemmas.List.Elements.{All-nil, All-cons, All-weaker}
 use Rattle.std.proofs.lemmas.List.Sums.{AllPass-from_list_all, list_all-from_AllPass}
 use Rattle.wcnf.specs.Literal.{Literal, Assignment}
+use Rattle.wcnf.specs.Bits.{Extends, assignment_of}
 use Rattle.wcnf.specs.Clause.{clause_value, Satisfies, greatest_variable}
 use Rattle.wcnf.specs.Problem.{SoftClause}
 use Rattle.wcnf.specs.Instance.{IsClauseWithin}
@@ -28,3 +29,7 @@ pub soft_within : (n : ℕ) (ss : List SoftClause) → All (λ s. IsClauseWithin
 soft_within n ss all i l s at c e =
     let k : IsClauseWithin n s.clause = subst (λ (x : SoftClause). IsClauseWithin n x.clause) (sym at) (all i s l) in
     rw e (within_greatest n s.clause k.2)
+
+-- bits agree with their own assignment
+pub extends_own : (bits : List Bool) → Extends bits (assignment_of bits)
+extends_own bits v b e = ap (λ o. unwrap_or o false) e

@@ -2,11 +2,7 @@
 use Rattle.std.proofs.Common.{◌≡◌, ℕ, zero, suc, ◌+◌, ◌<◌, ◌≤◌, List, [], ◌∷◌, length, sym, subst, arith}
 use Rattle.std.specs.Prelude.{slice_index}
 use Rattle.std.specs.List.Sorted.{IsStrictlyIncreasing}
-
--- the first is not below the least
-abbrev pub RisesFrom : ℕ → List ℕ → Type 0
-RisesFrom least [] = Unit {0}
-RisesFrom least (k ∷ ks) = (least ≤ k) × RisesFrom (k + 1) ks
+use Rattle.wcnf.specs.Numbers.{RisesFrom}
 
 pub rises_weaker : (least more : ℕ) (ks : List ℕ) → least ≤ more → RisesFrom more ks → RisesFrom least ks
 rises_weaker least more [] h r = tt

@@ -1,3 +1,4 @@
+pub mod Numbers
 pub mod Literal
 pub mod Packed
 pub mod Clause

@@ -1,8 +1,7 @@
 -- A clause with the next variable, and what was added with one more.
 use Rattle.std.proofs.Common.{◌≡◌, ◌+◌, ◌*◌, ◌≤◌, List, [], ◌∷◌, ◌++◌, All, length, take, length-take-le, true, false, arith, rules, sym, ◌∙◌, ap, subst}
-use Rattle.wcnf.specs.Literal.{Literal}
+use Rattle.wcnf.specs.Literal.{Literal, positive}
 use Rattle.wcnf.specs.Instance.{IsClauseWithin}
-use Rattle.adder.specs.Network.{positive}
 use Rattle.bound.specs.Adding.{gets_variable}
 use Rattle.bound.specs.Marks.{HasPlace}
 use Rattle.bound.proofs.Relaxations.{relaxed_no_repeat, relaxed_places, relaxed_fresh, relaxed_own, soft_within, soft_more}
