@@ -1,11 +1,9 @@
 -- The marks of a clause's literals, as one more is set, as one is taken back, and as room is made for more variables.
-use Rattle.std.proofs.Common.{◌≡◌, ◌≢◌, ℕ, ◌+◌, ◌-◌, ◌*◌, ◌<◌, ◌≤◌, Bool, true, false, ◌||◌, List, [], ◌∷◌, ◌++◌, inl, inr, refl, sym, ◌∙◌, ap, arith, length, get_or, set, length-set, get_or-set_same, get_or-set_other}
-use Rattle.std.specs.Prelude.{if◌then◌else◌}
+use Rattle.std.proofs.Common.{◌≡◌, ◌≢◌, ℕ, ◌<◌, ◌≤◌, Bool, true, false, ◌||◌, List, [], ◌∷◌, ◌++◌, inl, inr, refl, sym, ◌∙◌, ap, arith, length, get_or, set, length-set, get_or-set_same, get_or-set_other}
 use Rattle.std.specs.List.{AllByRecursion}
-use Rattle.std.proofs.lemmas.Bool.{and_from, or_from, or_parts, or_left, eq-eqb, false_from_ne_true, cases_Bool, both_ways, cases_lt}
+use Rattle.std.proofs.lemmas.Bool.{or_from, or_parts, or_left, cases_Bool, both_ways, cases_lt}
 use Rattle.std.proofs.lemmas.List.{get_or_past}
-use Rattle.std.proofs.Math.Bool.{or-false}
-use Rattle.wcnf.specs.Literal.{Literal, literal_eq, same_bool, index_of}
+use Rattle.wcnf.specs.Literal.{Literal, literal_eq, index_of}
 use Rattle.wcnf.specs.Clause.{contains_literal, has_repeat}
 use Rattle.wcnf.specs.Drafts.{AreMarked}
 use Rattle.wcnf.proofs.Sound.{literal_eq-true}

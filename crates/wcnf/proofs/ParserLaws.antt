@@ -1,6 +1,6 @@
 -- A text in pieces: what holds after a line more, after a piece, and at the end.
 use Rattle.std.proofs.Common.{◌≡◌, ℕ, ◌+◌, ◌<◌, List, [], ◌∷◌, ◌++◌, length, take, drop, inl, inr, ◌⊎◌, refl, sym, ◌∙◌, ap, subst, append_assoc, append-nil, None, Some, arith, Bool, true}
-use Rattle.std.specs.Prelude.{◌-◌, ◌==◌, false, Ok, Err, All, Option, Result, IfSome, IfOk, IfErr}
+use Rattle.std.specs.Prelude.{◌-◌, ◌==◌, false, Ok, Err, Option, Result, IfSome, IfOk, IfErr}
 use Rattle.std.specs.List.{enumerate_from}
 use Rattle.std.specs.Str.Lines.{lines, strip_carriage_return}
 use Rattle.std.specs.Io.KnownBytes.{Consumes, IsAtEnd}

@@ -1,5 +1,5 @@
 -- The clause begins where the one before it ends, and both places are within the literals.
-use Rattle.std.proofs.Common.{◌≡◌, ◌<◌, ◌≤◌, ◌∙◌, ap, get_or, sym, length, arith}
+use Rattle.std.proofs.Common.{◌≡◌, ◌<◌, ◌∙◌, ap, get_or, sym, length, arith}
 use Rattle.std.proofs.lemmas.List.{get_or_default}
 use Rattle.wcnf.specs.Flat.{start_at}
 use Rattle.wcnf.proofs.Cutting.{length-cut, bounds_at, cut_at}
