@@ -1,9 +1,8 @@
 -- One clause more was kept, and its literals have places.
-use Rattle.std.proofs.Common.{◌≡◌, ◌*◌, ◌≤◌, ◌++◌, [], ◌∷◌, List, ◌∙◌, ap, sym, subst, arith}
+use Rattle.std.proofs.Common.{◌*◌, ◌≤◌, ◌++◌, [], ◌∷◌, ◌∙◌, ap, sym, subst, arith}
 use Rattle.std.proofs.lemmas.List.{append_assoc}
 use Rattle.std.proofs.lemmas.List.Elements.{All-head, All-tail}
 use Rattle.std.specs.Prelude.{All}
-use Rattle.wcnf.specs.Literal.{Literal}
 use Rattle.wcnf.specs.Instance.{IsClauseWithin}
 use Rattle.bound.specs.Bound.{kept}
 use Rattle.bound.proofs.Kept.{kept-append, places_within}
