@@ -9,8 +9,9 @@ pub use Rattle.wcnf.proofs.Laid.{compacting_live, laid_le, laid_push, laid_set, 
 pub use Rattle.wcnf.proofs.Laid.{moved_within, pieces-append, pieces_dead, pieces_live, pieces_push}
 pub use Rattle.wcnf.proofs.Laid.{range-append, range-appended}
 pub use Rattle.wcnf.proofs.Lines.{same_Ok}
-pub use Rattle.wcnf.proofs.Literals.{contains-push, index_below, index_same, literal_eq-refl}
-pub use Rattle.wcnf.proofs.Literals.{literal_eq_ne, negation_twice}
+pub use Rattle.wcnf.proofs.Literals.{at_contains, contains-push, index_below, index_same}
+pub use Rattle.wcnf.proofs.Literals.{literal_eq-refl, negation_twice}
+pub use Rattle.wcnf.proofs.Marks.{marked_one}
 pub use Rattle.wcnf.proofs.Numbers.{decimal-number_of, digit_bounds, digit_from, digit_is_no_blank}
 pub use Rattle.wcnf.proofs.Numbers.{is_number, is_number-decimal, number_of-is}
 pub use Rattle.wcnf.proofs.ParserLaws.{empty_from_test, some_from_test}
