@@ -9,8 +9,8 @@ use Rattle.wcnf.specs.Clause.{contains_literal, without_literal, distinct, has_r
 use Rattle.wcnf.specs.Instance.{IsClauseWithin}
 use Rattle.bound.specs.Bound.{kept}
 use Rattle.bound.specs.Adding.{Adds}
-use Rattle.bound.specs.Marks.{HasPlace}
-use Rattle.bound.proofs.Marking.{same_number}
+use Rattle.marks.specs.Marks.{HasPlace}
+use Rattle.bound.proofs.Opposites.{same_number}
 use Rattle.bound.proofs.Subsets.{contains-distinct}
 use Rattle.bound.proofs.Fits.{repeat-distinct}
 

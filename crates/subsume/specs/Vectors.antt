@@ -3,8 +3,8 @@
 use Rattle.std.specs.Prelude.{◌≡◌, ℕ, Bool, true, false, List, [], ◌∷◌, refl}
 use Rattle.wcnf.specs.Literal.{positive as p, negative as n}
 use Rattle.subsume.specs.Signatures.{signature_of, all_within}
-use Rattle.subsume.specs.Marks.{against_of}
-use Rattle.subsume.specs.declared.marks.Against.TheVariants.{Apart, Within, ButFor}
+use Rattle.subsume.specs.Against.{against_of}
+use Rattle.subsume.specs.declared.against.Against.TheVariants.{Apart, Within, ButFor}
 
 two_literals : signature_of (p 1 ∷ n 2 ∷ []) ≡ 9
 two_literals = refl
