@@ -1,5 +1,5 @@
 -- What was put, and the lines of what is kept of the clauses that are left, is all.
-use Rattle.std.proofs.Common.{◌≡◌}
+use Rattle.std.proofs.Common.{◌≡◌, length}
 use Rattle.std.specs.Prelude.{All}
 use Rattle.wcnf.specs.Instance.{IsClauseWithin}
 use Rattle.bound.specs.Bound.{kept}

@@ -1,5 +1,5 @@
 -- The clauses of the soft clauses before the index were added, and the variables are within those that have marks.
-use Rattle.std.proofs.Common.{◌≡◌, take}
+use Rattle.std.proofs.Common.{◌≡◌, take, length}
 use Rattle.bound.proofs.Relaxations.{IsRelaxedTo}
 use Rattle.bound.proofs.relaxing.keep_relaxed.Given as goal
 
