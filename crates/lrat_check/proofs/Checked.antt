@@ -1,19 +1,18 @@
 -- The verdict on a text with its result and certificate.
-use Rattle.std.proofs.Common.{◌≡◌, ℕ, zero, suc, Bool, true, false, not, List, [], ◌∷◌, ◌++◌, map, reverse, length, Option, Some, None, ◌⊎◌, inl, inr, refl, sym, ◌∙◌}
-use Rattle.std.specs.Prelude.{◌==◌, ◌↔◌, filter, Result, Ok, Err}
-use Rattle.std.proofs.Math.Bool.{cond}
+use Rattle.std.proofs.Common.{◌≡◌, ℕ, Bool, true, false, List, [], ◌∷◌, ◌++◌, length, Some, None, ◌⊎◌, inl, inr, refl, sym, ◌∙◌}
+use Rattle.std.specs.Prelude.{◌==◌, ◌↔◌, Result, Ok, Err}
 use Rattle.std.specs.List.{AllByRecursion, list_all, flat_map}
-use Rattle.std.proofs.lemmas.Bool.{and_from, and_parts, or_from, or_parts, cases_Bool, both_ways, eq-eqb, eqb-true}
-use Rattle.std.proofs.lemmas.List.Elements.{All-from_recursion, recursion_from_All, All-append, All-filter, All-cons, All-nil}
-use Rattle.wcnf.specs.Literal.{Literal, Assignment, literal_eq}
-use Rattle.wcnf.specs.Clause.{contains_literal, without_literal, distinct, has_repeat, has_opposites, clause_value, Satisfies}
+use Rattle.std.proofs.lemmas.Bool.{and_from, and_parts, cases_Bool, both_ways, eq-eqb, eqb-true}
+use Rattle.std.proofs.lemmas.List.Elements.{All-from_recursion, recursion_from_All, All-append}
+use Rattle.wcnf.specs.Literal.{Literal, Assignment}
+use Rattle.wcnf.specs.Clause.{has_repeat, clause_value, Satisfies}
 use Rattle.wcnf.specs.Problem.{Problem, IsFeasible, cost_under}
 use Rattle.wcnf.specs.Bits.{assignment_of}
 use Rattle.wcnf.specs.declared.faults.FaultKind.{FaultKind}
 use Rattle.wcnf.specs.Reading.{reading_of, ReadingIsRight}
 use Rattle.adder.specs.declared.cells.Profile.{Profile}
 use Rattle.adder.specs.Network.{adders_as}
-use Rattle.bound.specs.Bound.{kept, hard_cnf, comparator_of, bound_as, fixed_clauses, relaxed_clauses, cell_clauses, rising_clauses}
+use Rattle.bound.specs.Bound.{kept, hard_cnf, comparator_of, bound_as, fixed_clauses, relaxed_clauses, cell_clauses}
 use Rattle.bound.proofs.Laws.{comparator_once, kept_once}
 use Rattle.lrat_check.specs.Result.{Said, OptimumFound, Unsatisfiable, Satisfiable, Unknown, Report, report_of}
 use Rattle.lrat_check.specs.Checks.{ChecksSaid, ChecksAs}

@@ -1,8 +1,8 @@
 -- What a result says is so, where its certificate was accepted.
-use Rattle.std.proofs.Common.{◌≡◌, ℕ, ◌<◌, ◌≤◌, Bool, false, List, sym, ◌∙◌, ap, subst, arith}
-use Rattle.std.specs.Prelude.{◌↔◌, All, Ok, unwrap_or}
+use Rattle.std.proofs.Common.{◌≡◌, ℕ, ◌<◌, ◌≤◌, Bool, List, sym, ◌∙◌, ap, subst, arith}
+use Rattle.std.specs.Prelude.{◌↔◌, All, Ok}
 use Rattle.wcnf.specs.Literal.{Assignment}
-use Rattle.wcnf.specs.Bits.{Extends, assignment_of}
+use Rattle.wcnf.specs.Bits.{Extends}
 use Rattle.wcnf.specs.Clause.{Satisfies}
 use Rattle.wcnf.specs.Formula.{IsUnsatisfiable}
 use Rattle.wcnf.specs.Problem.{Problem, IsFeasible, cost_under, IsOptimal, IsInconsistent}

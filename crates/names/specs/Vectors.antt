@@ -1,6 +1,6 @@
 -- Worked values: a store of two clauses with a gap between them, and a log that adds, deletes and
 -- adds.
-use Rattle.std.specs.Prelude.{◌≡◌, ℕ, false, [], ◌∷◌, Some, None, refl}
+use Rattle.std.specs.Prelude.{◌≡◌, [], ◌∷◌, Some, None, refl}
 use Rattle.wcnf.specs.Literal.{positive as p}
 use Rattle.clauses.specs.Slots.{Slots}
 use Rattle.lrat_log.specs.declared.lines.Name.TheVariants.{Formula, Added}

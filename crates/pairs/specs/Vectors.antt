@@ -1,5 +1,5 @@
 -- Worked values: variable 7 stands for the pair 1 2 in 1 2 3.
-use Rattle.std.specs.Prelude.{◌≡◌, ℕ, false, true, [], ◌∷◌, refl}
+use Rattle.std.specs.Prelude.{◌≡◌, [], ◌∷◌, refl}
 use Rattle.wcnf.specs.Literal.{positive as p, negative as n}
 use Rattle.pairs.specs.Pairs.{whole_clause, side_clause, replaced}
 

@@ -1,5 +1,5 @@
 -- A worked trail: 1 is decided, 2 follows by the clause 0 and 3 by the clause 1.
-use Rattle.std.specs.Prelude.{◌≡◌, ℕ, true, false, List, [], ◌∷◌, Some, None, refl}
+use Rattle.std.specs.Prelude.{◌≡◌, true, false, List, [], ◌∷◌, Some, None, refl}
 use Rattle.wcnf.specs.Literal.{positive as p, negative as n}
 use Rattle.watches.specs.declared.table.Attachment.TheVariants.{Detached, Waiting, Watching}
 use Rattle.watches.specs.declared.table.Rest.TheVariants.{Nothing}

@@ -1,7 +1,7 @@
 -- One more literal is marked, and was held against those before it.
 use Rattle.std.proofs.Common.{◌≡◌, ◌+◌, ◌∙◌, ◌||◌, ap, arith, false, length, length-set, set, subst, sym, take, true}
 use Rattle.std.proofs.lemmas.List.{length-replicate}
-use Rattle.wcnf.specs.Literal.{index_of, negation}
+use Rattle.wcnf.specs.Literal.{index_of}
 use Rattle.wcnf.specs.Marks.{mark_of, IsMarked}
 use Rattle.marks.specs.Marks.{HasPlace}
 use Rattle.bound.proofs.Opposites.{mark_step}
