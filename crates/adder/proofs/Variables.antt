@@ -10,7 +10,8 @@ use Rattle.adder.specs.Network.{Relaxed, bit, relaxed_from, column_of, added_up,
 use Rattle.adder.proofs.Sums.{relaxed_cases}
 
 -- a column takes two variables for each cell
-pub column_fresh : (steps n : ℕ) (ls : List Literal) → (added_up steps n ls).fresh ≡ n + 2 * length (added_up steps n ls).cells
+pub column_fresh : (steps n : ℕ) (ls : List Literal)
+    → (added_up steps n ls).fresh ≡ n + 2 * length (added_up steps n ls).cells
 column_fresh steps n [] = omega arith
 column_fresh steps n (a ∷ []) = omega arith
 column_fresh zero n (a ∷ b ∷ rest) = omega arith

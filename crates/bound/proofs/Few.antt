@@ -25,7 +25,8 @@ cells_le (cell ∷ cells) = omega (arith, length-append (cell_clauses cell) (fla
     by None = omega arith
     by (Some d) = omega arith
 
-rising_le : (outputs : List (Option Literal)) (limit j : ℕ) → length (rising_clauses outputs limit j) ≤ length outputs
+rising_le : (outputs : List (Option Literal)) (limit j : ℕ)
+    → length (rising_clauses outputs limit j) ≤ length outputs
 rising_le [] limit j = omega arith
 rising_le (o ∷ outputs) limit j =
     elim (bit limit j) as (λ b. bit limit j ≡ b → length (rising_clauses (o ∷ outputs) limit j) ≤ suc (length outputs)) [
@@ -41,14 +42,16 @@ rising_le (o ∷ outputs) limit j =
           | Some c ↦ λ f. rw (e, f) (omega (arith, rest))
         ] refl
 
-comparator_le : (outputs : List (Option Literal)) (k : ℕ) → length (comparator_of outputs k) ≤ 1 + length outputs
+comparator_le : (outputs : List (Option Literal)) (k : ℕ)
+    → length (comparator_of outputs k) ≤ 1 + length outputs
 comparator_le outputs zero = omega arith
 comparator_le outputs (suc limit) = omega (arith, kept_le (reverse (rising_clauses outputs limit 0)), length-reverse (rising_clauses outputs limit 0), rising_le outputs limit 0)
 
 pub hard_few : (p : Problem) → IsInstance p → length (hard_cnf p).clauses < 2 ^ 28
 hard_few p h = omega (arith, kept_le p.hard, h.hard_count)
 
-pub clauses_few : (profile : Profile) (p : Problem) (k : ℕ) → IsInstance p → length (bound_as profile p k).clauses < 2 ^ 28
+pub clauses_few : (profile : Profile) (p : Problem) (k : ℕ) → IsInstance p
+    → length (bound_as profile p k).clauses < 2 ^ 28
 clauses_few profile p k h =
     let hard = kept p.hard in
     let relaxed = kept (relaxed_clauses profile p) in
@@ -66,16 +69,19 @@ clauses_few profile p k h =
     room a b c d n m w h i j k l o e = omega arith
 
 -- a limit of ones has no clause
-rising_none : (w : ℕ) (outputs : List (Option Literal)) (j : ℕ) → j + length outputs ≤ w → rising_clauses outputs (2 ^ w - 1) j ≡ []
+rising_none : (w : ℕ) (outputs : List (Option Literal)) (j : ℕ) → j + length outputs ≤ w
+    → rising_clauses outputs (2 ^ w - 1) j ≡ []
 rising_none w [] j h = refl
 rising_none w (o ∷ outputs) j h =
     let e : bit (2 ^ w - 1) j ≡ true = eq-eqb ((2 ^ w - 1) / 2 ^ j % 2) 1 (bit_at_ones w j (omega arith)) in
     rw e (rising_none w outputs (j + 1) (omega arith))
 
-comparator_none : (outputs : List (Option Literal)) (limit k : ℕ) → k ≡ suc limit → rising_clauses outputs limit 0 ≡ [] → comparator_of outputs k ≡ []
+comparator_none : (outputs : List (Option Literal)) (limit k : ℕ) → k ≡ suc limit
+    → rising_clauses outputs limit 0 ≡ [] → comparator_of outputs k ≡ []
 comparator_none outputs limit k e h = subst (λ n. comparator_of outputs n ≡ []) (sym e) (ap (λ cs. kept (reverse cs)) h)
 
-pub without_bound : (profile : Profile) (p : Problem) → IsInstance p → comparator_for profile p (2 ^ 62) ≡ []
+pub without_bound : (profile : Profile) (p : Problem) → IsInstance p
+    → comparator_for profile p (2 ^ 62) ≡ []
 without_bound profile p h =
     let os = (adders_as profile p).outputs in
     comparator_none os (2 ^ 62 - 1) (2 ^ 62) refl (rising_none 62 os 0 (omega (arith, outputs_few profile p h.weight_sum)))

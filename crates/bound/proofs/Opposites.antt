@@ -26,7 +26,8 @@ opposite_eq k l = λ i. same_number k.variable l.variable i && by k.negated l.ne
     by false false = refl
 
 -- one more literal, at the end
-pub opposites-more : (c : List Literal) (l : Literal) → has_opposites (c ++ l ∷ []) ≡ (has_opposites c || contains_literal (negation l) c)
+pub opposites-more : (c : List Literal) (l : Literal)
+    → has_opposites (c ++ l ∷ []) ≡ (has_opposites c || contains_literal (negation l) c)
 opposites-more [] l = refl
 opposites-more (k ∷ c) l =
     (λ i. list_any-append (literal_eq (negation k)) c (l ∷ []) i || opposites-more c l i)

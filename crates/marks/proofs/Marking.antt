@@ -8,7 +8,8 @@ use Rattle.wcnf.specs.Marks.{mark_of, IsMarked}
 use Rattle.wcnf.proofs.Laws as laws
 use Rattle.marks.specs.Marks.{HasPlace, are_marked}
 
-place_bound : (v : ℕ) (b : Bool) (rows : ℕ) → 0 < v → 2 * v ≤ rows → 2 * (v - 1) + (if b then 1 else 0) < rows
+place_bound : (v : ℕ) (b : Bool) (rows : ℕ) → 0 < v → 2 * v ≤ rows
+    → 2 * (v - 1) + (if b then 1 else 0) < rows
 place_bound v true rows p q = omega arith
 place_bound v false rows p q = omega arith
 
@@ -28,7 +29,9 @@ none_marked n = record { marked = λ l p. none_at n (index_of l) }
     none_at (suc n) zero = refl
     none_at (suc n) (suc i) = none_at n i
 
-all_so_far : (marks : List Bool) (c : List Literal) (i : ℕ) (l : Literal) → i < length c → l ≡ get_or c i l → mark_of marks l ≡ true → are_marked marks (take i c) ≡ true → are_marked marks (take (suc i) c) ≡ true
+all_so_far : (marks : List Bool) (c : List Literal) (i : ℕ) (l : Literal) → i < length c
+    → l ≡ get_or c i l → mark_of marks l ≡ true → are_marked marks (take i c) ≡ true
+    → are_marked marks (take (suc i) c) ≡ true
 all_so_far marks [] i l h is m a = absurd (omega arith)
 all_so_far marks (k ∷ c) zero l h is m a = rw (sym (ap (mark_of marks) is) ∙ m) refl
 all_so_far marks (k ∷ c) (suc i) l h is m a =
@@ -38,11 +41,14 @@ all_so_far marks (k ∷ c) (suc i) l h is m a =
     ] a
 
 -- the first literals are all marked, and so is the next
-pub all_next : (marks : List Bool) (c : List Literal) (i : ℕ) (l : Literal) → i < length c → l ≡ get_or c i l → mark_of marks l ≡ true → are_marked marks (take i c) ≡ true → are_marked marks (take (i + 1) c) ≡ true
+pub all_next : (marks : List Bool) (c : List Literal) (i : ℕ) (l : Literal) → i < length c
+    → l ≡ get_or c i l → mark_of marks l ≡ true → are_marked marks (take i c) ≡ true
+    → are_marked marks (take (i + 1) c) ≡ true
 all_next marks c i l h is m a = rw add-one (all_so_far marks c i l h is m a)
 
 -- a literal that is not marked
-pub not_all : (marks : List Bool) (c : List Literal) (i : ℕ) (l : Literal) → i < length c → l ≡ get_or c i l → mark_of marks l ≡ false → are_marked marks c ≡ false
+pub not_all : (marks : List Bool) (c : List Literal) (i : ℕ) (l : Literal) → i < length c
+    → l ≡ get_or c i l → mark_of marks l ≡ false → are_marked marks c ≡ false
 not_all marks [] i l h is m = absurd (omega arith)
 not_all marks (k ∷ c) zero l h is m = rw (sym (ap (mark_of marks) is) ∙ m) refl
 not_all marks (k ∷ c) (suc i) l h is m =
@@ -52,7 +58,8 @@ not_all marks (k ∷ c) (suc i) l h is m =
     ]
 
 -- where a clause's literals are marked, those whose literals are all marked are its subsets
-pub marked_subset : (marks : List Bool) (c d : List Literal) → IsMarked marks d → All (λ l. 0 < l.variable) c → are_marked marks c ≡ is_subset c d
+pub marked_subset : (marks : List Bool) (c d : List Literal) → IsMarked marks d
+    → All (λ l. 0 < l.variable) c → are_marked marks c ≡ is_subset c d
 marked_subset marks [] d m some = refl
 marked_subset marks (l ∷ c) d m some =
     (λ i. if m.marked l (All-head (λ l. 0 < l.variable) l c some) i then marked_subset marks c d m (All-tail (λ l. 0 < l.variable) l c some) i else false)

@@ -5,7 +5,8 @@ use Rattle.std.proofs.lemmas.Bool.{ne_eqb}
 use Rattle.std.proofs.lemmas.List.Elements.{All-head, All-tail}
 
 -- no stamp is one above them
-pub none_stamped : (n : ℕ) (ss : List ℕ) → All (λ s. s < n) ss → map (λ s. s == n) ss ≡ replicate (length ss) false
+pub none_stamped : (n : ℕ) (ss : List ℕ) → All (λ s. s < n) ss
+    → map (λ s. s == n) ss ≡ replicate (length ss) false
 none_stamped n [] all = refl
 none_stamped n (s ∷ ss) all =
     let below : s < n = All-head (λ s. s < n) s ss all in

@@ -20,7 +20,8 @@ literal_eq_ne k l n = false_from_ne_true (literal_eq k l) (λ e. n (literal_eq-t
 pub literal_ne : (k l : Literal) → literal_eq k l ≡ false → k ≡ l → ⊥
 literal_ne k l e s = both_ways (literal_eq k l) e (rw s (literal_eq-refl l))
 
-index_same_at : (v w : ℕ) (s t : Bool) → 0 < v → 0 < w → 2 * (v - 1) + (if s then 1 else 0) ≡ 2 * (w - 1) + (if t then 1 else 0) → (v ≡ w) × (s ≡ t)
+index_same_at : (v w : ℕ) (s t : Bool) → 0 < v → 0 < w
+    → 2 * (v - 1) + (if s then 1 else 0) ≡ 2 * (w - 1) + (if t then 1 else 0) → (v ≡ w) × (s ≡ t)
 index_same_at v w true true p q e = (omega arith, refl)
 index_same_at v w true false p q e = absurd (omega arith)
 index_same_at v w false true p q e = absurd (omega arith)
@@ -42,7 +43,8 @@ pub negation_twice : (l : Literal) → negation (negation l) ≡ l
 negation_twice l = ap (λ b. record { variable = l.variable; negated = b }) (not-not l.negated)
 
 -- one more literal at the end
-pub contains-push : (m : Literal) (c : List Literal) (l : Literal) → contains_literal m (c ++ l ∷ []) ≡ (contains_literal m c || literal_eq m l)
+pub contains-push : (m : Literal) (c : List Literal) (l : Literal)
+    → contains_literal m (c ++ l ∷ []) ≡ (contains_literal m c || literal_eq m l)
 contains-push m [] l = or-false (literal_eq m l)
 contains-push m (k ∷ c) l = elim (literal_eq m k) as (λ b. (b || contains_literal m (c ++ l ∷ [])) ≡ ((b || contains_literal m c) || literal_eq m l)) [ true ↦ refl | false ↦ contains-push m c l ]
 

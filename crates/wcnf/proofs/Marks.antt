@@ -10,7 +10,8 @@ use Rattle.wcnf.specs.Drafts.{AreMarked}
 use Rattle.wcnf.proofs.Sound.{literal_eq-true}
 use Rattle.wcnf.proofs.Literals.{literal_eq-refl, literal_eq_ne, literal_ne, index_same, index_below, contains-push}
 
-pub repeat-push : (c : List Literal) (l : Literal) → contains_literal l c ≡ false → has_repeat c ≡ false → has_repeat (c ++ l ∷ []) ≡ false
+pub repeat-push : (c : List Literal) (l : Literal) → contains_literal l c ≡ false
+    → has_repeat c ≡ false → has_repeat (c ++ l ∷ []) ≡ false
 repeat-push [] l n h = refl
 repeat-push (k ∷ c) l n h =
     let p = or_parts (literal_eq l k) (contains_literal l c) n in
@@ -18,7 +19,8 @@ repeat-push (k ∷ c) l n h =
     let other : literal_eq k l ≡ false = literal_eq_ne k l (λ e. literal_ne l k p.0 (sym e)) in
     or_from (contains_literal k (c ++ l ∷ [])) (has_repeat (c ++ l ∷ [])) (contains-push k c l ∙ or_from (contains_literal k c) (literal_eq k l) q.0 other) (repeat-push c l p.1 q.1)
 
-positive-push : (c : List Literal) (l : Literal) → AllByRecursion (λ k. 0 < k.variable) c → 0 < l.variable → AllByRecursion (λ k. 0 < k.variable) (c ++ l ∷ [])
+positive-push : (c : List Literal) (l : Literal) → AllByRecursion (λ k. 0 < k.variable) c
+    → 0 < l.variable → AllByRecursion (λ k. 0 < k.variable) (c ++ l ∷ [])
 positive-push [] l a p = (p, tt)
 positive-push (k ∷ c) l a p = (a.0, positive-push c l a.1 p)
 
@@ -34,7 +36,8 @@ mark-set marks b k l p q h =
 
 -- one literal more is marked
 pub marked_one : (marks : List Bool) (c : List Literal) (l : Literal) → 0 < l.variable
-    → index_of l < length marks → IsMarked marks c → IsMarked (set marks (index_of l) true) (c ++ l ∷ [])
+    → index_of l < length marks → IsMarked marks c
+    → IsMarked (set marks (index_of l) true) (c ++ l ∷ [])
 marked_one marks c l q h m = record {
   marked = λ k p. mark-set marks true k l p q h ∙ by (literal_eq k l) (mark_of marks k) (contains_literal k c) (m.marked k p) ∙ sym (contains-push k c l);
 }
@@ -57,7 +60,9 @@ unmarked_one marks c l q h once m = record {
       ];
 }
 
-pub marked-push : (v : ℕ) (marks : List Bool) (c : List Literal) (l : Literal) → AreMarked v marks c → 0 < l.variable → l.variable ≤ v → get_or marks (index_of l) false ≡ false → AreMarked v (set marks (index_of l) true) (c ++ l ∷ [])
+pub marked-push : (v : ℕ) (marks : List Bool) (c : List Literal) (l : Literal) → AreMarked v marks c
+    → 0 < l.variable → l.variable ≤ v → get_or marks (index_of l) false ≡ false
+    → AreMarked v (set marks (index_of l) true) (c ++ l ∷ [])
 marked-push v marks c l a p h unset =
     let within : index_of l < length marks = omega (arith, index_below l v p h, a.count) in
     record {
@@ -75,11 +80,13 @@ set_within marks i e =
       | inr h ↦ absurd (both_ways (get_or marks i false) (get_or_past marks i false h) e)
     ]
 
-pub first_within : (v : ℕ) (marks : List Bool) (c : List Literal) (l : Literal) → AreMarked v marks (l ∷ c) → index_of l < length marks
+pub first_within : (v : ℕ) (marks : List Bool) (c : List Literal) (l : Literal)
+    → AreMarked v marks (l ∷ c) → index_of l < length marks
 first_within v marks c l a =
     set_within marks (index_of l) (a.marked l a.positive.0 ∙ or_left (literal_eq l l) (contains_literal l c) (literal_eq-refl l))
 
-pub marked-first : (v : ℕ) (marks : List Bool) (c : List Literal) (l : Literal) → AreMarked v marks (l ∷ c) → AreMarked v (set marks (index_of l) false) c
+pub marked-first : (v : ℕ) (marks : List Bool) (c : List Literal) (l : Literal)
+    → AreMarked v marks (l ∷ c) → AreMarked v (set marks (index_of l) false) c
 marked-first v marks c l a =
     let once = or_parts (contains_literal l c) (has_repeat c) a.once in
     record {

@@ -11,7 +11,8 @@ within c =
     let n : length c.args.self.now ≡ length c.self.inside.ends.items = ap length (sym c.self.view_is) ∙ length-cut 0 c.self.inside.lits.items c.self.inside.ends.items in
     omega (arith, n, c.requires)
 
-begins : (c : After-index) → c.start_of-start.result ≡ start_at 0 c.self.inside.ends.items c.args.place
+begins : (c : After-index)
+    → c.start_of-start.result ≡ start_at 0 c.self.inside.ends.items c.args.place
 begins c = c.start_of-start.ensures ∙ ap (λ es. start_at 0 es c.args.place) c.deref.ensures.value
 
 ends : (c : After-index) → c.index.result.now ≡ get_or c.self.inside.ends.items c.args.place 0
