@@ -73,6 +73,6 @@ returns-clause-simplified c frozen long =
       rows = subst (λ (x : List (List ℕ)). AreRows x slots) (sym c.occurrences-2.view_is) (subst (AreRows old) end c.loop-place.invariant.rows);
       places = ap length c.occurrences-2.view_is ∙ c.loop-place.invariant.places;
       removals = c.new-3.ensures;
-      marks = c.in_ok-new.ensures;
+      marks = c.in_ok-new.ensures.none;
       works = refl;
     })
