@@ -3,12 +3,13 @@ use Rattle.std.proofs.Common.{◌≡◌, ℕ, zero, suc, ◌+◌, ◌*◌, ◌%�
 use Rattle.std.specs.List.{AllByRecursion}
 use Rattle.std.proofs.lemmas.Bool.{eq-eqb, ne_eqb}
 use Rattle.std.proofs.lemmas.List.Elements.{All-from_recursion}
-use Rattle.wcnf.specs.Literal.{Assignment, Literal, negation, literal_value}
+use Rattle.wcnf.specs.Numbers.{one_if}
+use Rattle.wcnf.specs.Literal.{Assignment, Literal, negation, literal_value, positive}
 use Rattle.wcnf.specs.Clause.{clause_value, greatest_variable}
 use Rattle.wcnf.specs.Problem.{SoftClause}
 use Rattle.adder.specs.declared.cells.Cell.{Cell}
 use Rattle.adder.specs.declared.cells.Profile.{Profile}
-use Rattle.adder.specs.Network.{Relaxed, Column, bit, positive, relaxed_from, column_of, added_up, columns_from, one_if, third_of, IsCellOf, SameUpTo}
+use Rattle.adder.specs.Network.{Relaxed, Column, bit, relaxed_from, column_of, added_up, columns_from, third_of, IsCellOf, SameUpTo}
 use Rattle.adder.proofs.Sums.{relaxed_cases}
 
 -- the assignment with one value changed
@@ -25,10 +26,12 @@ put_other t n v b h = ap (λ c. if c then b else t v) (ne_eqb v n h)
 abbrev pub SameBelow : ℕ → Assignment → Assignment → Type 0
 SameBelow n t u = (v : ℕ) → v < n → u v ≡ t v
 
-pub literal_same : (t u : Assignment) (l : Literal) → u l.variable ≡ t l.variable → literal_value u l ≡ literal_value t l
+pub literal_same : (t u : Assignment) (l : Literal) → u l.variable ≡ t l.variable
+    → literal_value u l ≡ literal_value t l
 literal_same t u l e = ap (λ b. if l.negated then not b else b) e
 
-pub clause_same : (t u : Assignment) (c : List Literal) → ((v : ℕ) → v ≤ greatest_variable c → u v ≡ t v) → clause_value u c ≡ clause_value t c
+pub clause_same : (t u : Assignment) (c : List Literal)
+    → ((v : ℕ) → v ≤ greatest_variable c → u v ≡ t v) → clause_value u c ≡ clause_value t c
 clause_same t u [] h = refl
 clause_same t u (l ∷ c) h = λ i. literal_same t u l (h l.variable (omega arith)) i || clause_same t u c (λ v k. h v (omega arith)) i
 
@@ -41,7 +44,8 @@ abbrev pub IsChain : ℕ → List Cell → Type 0
 IsChain n [] = Unit {0}
 IsChain n (cell ∷ cells) = ((cell.a).variable < n) × ((cell.b).variable < n) × IsThirdBelow n cell.third × (cell.sum ≡ n) × (cell.carry ≡ n + 1) × IsChain (n + 2) cells
 
-pub chain_append : (n : ℕ) (xs ys : List Cell) (m : ℕ) → m ≡ n + 2 * length xs → IsChain n xs → IsChain m ys → IsChain n (xs ++ ys)
+pub chain_append : (n : ℕ) (xs ys : List Cell) (m : ℕ) → m ≡ n + 2 * length xs → IsChain n xs
+    → IsChain m ys → IsChain n (xs ++ ys)
 chain_append n [] ys m e h k = subst (λ x. IsChain x ys) (omega arith) k
 chain_append n (x ∷ xs) ys m e h k = (h.0, h.1, h.2, h.3, h.4, chain_append (n + 2) xs ys m (omega arith) h.5 k)
 
@@ -52,7 +56,8 @@ pub below_more : (n m : ℕ) (ls : List Literal) → n ≤ m → AreBelow n ls �
 below_more n m [] le h = tt
 below_more n m (l ∷ ls) le h = (omega (arith, h.0), below_more n m ls le h.1)
 
-pub below_append : (n : ℕ) (xs ys : List Literal) → AreBelow n xs → AreBelow n ys → AreBelow n (xs ++ ys)
+pub below_append : (n : ℕ) (xs ys : List Literal) → AreBelow n xs → AreBelow n ys
+    → AreBelow n (xs ++ ys)
 below_append n [] ys h k = k
 below_append n (x ∷ xs) ys h k = (h.0, below_append n xs ys h.1 k)
 
@@ -62,7 +67,8 @@ pub record IsColumnFrom (n : ℕ) (column : Column) : Type 0 where
   pub fresh : column.fresh ≡ n + 2 * length column.cells
   pub carries : AreBelow column.fresh column.carries
 
-pub column_chain : (steps n : ℕ) (ls : List Literal) → AreBelow n ls → IsColumnFrom n (added_up steps n ls)
+pub column_chain : (steps n : ℕ) (ls : List Literal) → AreBelow n ls
+    → IsColumnFrom n (added_up steps n ls)
 column_chain steps n [] h = record { chain = tt; fresh = omega arith; carries = tt }
 column_chain steps n (a ∷ []) h = record { chain = tt; fresh = omega arith; carries = tt }
 column_chain zero n (a ∷ b ∷ rest) h = record { chain = tt; fresh = omega arith; carries = tt }
@@ -76,7 +82,8 @@ column_chain (suc steps) n (a ∷ b ∷ d ∷ rest) h =
 abbrev pub AreRelaxedBelow : ℕ → List Relaxed → Type 0
 AreRelaxedBelow n es = AllByRecursion (λ e. (e.literal).variable < n) es
 
-pub column_below : (n : ℕ) (es : List Relaxed) (j : ℕ) → AreRelaxedBelow n es → AreBelow n (column_of es j)
+pub column_below : (n : ℕ) (es : List Relaxed) (j : ℕ) → AreRelaxedBelow n es
+    → AreBelow n (column_of es j)
 column_below n [] j h = tt
 column_below n (e ∷ es) j h =
     elim (bit (e.soft).weight j) as (λ b. AreBelow n (map (λ e. e.literal) (if b then e ∷ filter (λ e. bit (e.soft).weight j) es else filter (λ e. bit (e.soft).weight j) es))) [
@@ -84,7 +91,9 @@ column_below n (e ∷ es) j h =
       | false ↦ column_below n es j h.1
     ]
 
-pub columns_chain : (column : ℕ → List Literal) (more j n : ℕ) (carries : List Literal) → ((j : ℕ) → AreBelow n (column j)) → AreBelow n carries → IsChain n (columns_from column more j n carries).cells
+pub columns_chain : (column : ℕ → List Literal) (more j n : ℕ) (carries : List Literal)
+    → ((j : ℕ) → AreBelow n (column j)) → AreBelow n carries
+    → IsChain n (columns_from column more j n carries).cells
 columns_chain column zero j n carries h k = tt
 columns_chain column (suc more) j n carries h k =
     let ls = column j ++ carries in
@@ -97,7 +106,8 @@ columns_chain column (suc more) j n carries h k =
 abbrev inputs : Assignment → Cell → ℕ
 inputs t cell = one_if (literal_value t cell.a) + one_if (literal_value t cell.b) + third_of t cell.third
 
-third_same : (n : ℕ) (t u : Assignment) (o : Option Literal) → SameBelow n t u → IsThirdBelow n o → third_of u o ≡ third_of t o
+third_same : (n : ℕ) (t u : Assignment) (o : Option Literal) → SameBelow n t u → IsThirdBelow n o
+    → third_of u o ≡ third_of t o
 third_same n t u None s h = refl
 third_same n t u (Some d) s h = ap one_if (literal_same t u d (s d.variable h))
 
@@ -116,7 +126,8 @@ two_bits (suc (suc zero)) h = refl
 two_bits (suc (suc (suc zero))) h = refl
 two_bits (suc (suc (suc (suc n)))) h = absurd (omega arith)
 
-pub cells_choice : (n : ℕ) (cells : List Cell) (t : Assignment) → IsChain n cells → (u : Assignment) × SameBelow n t u × AllByRecursion (IsCellOf u) cells
+pub cells_choice : (n : ℕ) (cells : List Cell) (t : Assignment) → IsChain n cells
+    → (u : Assignment) × SameBelow n t u × AllByRecursion (IsCellOf u) cells
 cells_choice n [] t h = (t, λ v k. refl, tt)
 cells_choice n (cell ∷ cells) t h =
     let m = inputs t cell in
@@ -136,8 +147,9 @@ cells_choice n (cell ∷ cells) t h =
 abbrev pub AreWithin : ℕ → List SoftClause → Type 0
 AreWithin n ss = AllByRecursion (λ s. greatest_variable s.clause ≤ n) ss
 
-pub relaxed_below : (n : ℕ) (profile : Profile) (v : ℕ) (ss : List SoftClause) (m : ℕ) → AreWithin n ss → n < v
-    → v + length (filter (λ e. e.is_fresh) (relaxed_from profile v ss)) ≤ m → AreRelaxedBelow m (relaxed_from profile v ss)
+pub relaxed_below : (n : ℕ) (profile : Profile) (v : ℕ) (ss : List SoftClause) (m : ℕ)
+    → AreWithin n ss → n < v → v + length (filter (λ e. e.is_fresh) (relaxed_from profile v ss)) ≤ m
+    → AreRelaxedBelow m (relaxed_from profile v ss)
 relaxed_below n profile v [] m h k = λ room. tt
 relaxed_below n profile v (s ∷ ss) m h k =
     relaxed_cases profile v s (λ e. v + length (filter (λ e. e.is_fresh) (e ∷ relaxed_from profile (if e.is_fresh then v + 1 else v) ss)) ≤ m → AreRelaxedBelow m (e ∷ relaxed_from profile (if e.is_fresh then v + 1 else v) ss))
@@ -145,12 +157,14 @@ relaxed_below n profile v (s ∷ ss) m h k =
     (λ l e room. (omega (arith, h.0, ap greatest_variable e), relaxed_below n profile v ss m h.1 k room))
 
 -- each choice of the variables up to n extends to the cells after them
-pub chain_extends : (n : ℕ) (cells : List Cell) (t : Assignment) → IsChain (n + 1) cells → (u : Assignment) × SameUpTo n t u × All (IsCellOf u) cells
+pub chain_extends : (n : ℕ) (cells : List Cell) (t : Assignment) → IsChain (n + 1) cells
+    → (u : Assignment) × SameUpTo n t u × All (IsCellOf u) cells
 chain_extends n cells t h =
     let r = cells_choice (n + 1) cells t h in
     (r.0, λ v k. r.1 v (omega arith), All-from_recursion (IsCellOf r.0) cells r.2)
 
-negation_value : (t : Assignment) (l : Literal) → literal_value t (negation l) ≡ not (literal_value t l || false)
+negation_value : (t : Assignment) (l : Literal)
+    → literal_value t (negation l) ≡ not (literal_value t l || false)
 negation_value t l = by l.negated (t l.variable)
   where
     by : (n v : Bool) → (if not n then not v else v) ≡ not ((if n then not v else v) || false)
@@ -163,8 +177,9 @@ negation_value t l = by l.negated (t l.variable)
 abbrev pub IsRelaxedTightly : Assignment → Relaxed → Type 0
 IsRelaxedTightly t e = literal_value t e.literal ≡ not (clause_value t (e.soft).clause)
 
-pub relaxed_choice : (n : ℕ) (profile : Profile) (v : ℕ) (ss : List SoftClause) (u : Assignment) → AreWithin n ss → n < v
-    → (t : Assignment) × SameBelow v u t × AllByRecursion (IsRelaxedTightly t) (relaxed_from profile v ss)
+pub relaxed_choice : (n : ℕ) (profile : Profile) (v : ℕ) (ss : List SoftClause) (u : Assignment)
+    → AreWithin n ss → n < v → (t : Assignment)
+    × SameBelow v u t × AllByRecursion (IsRelaxedTightly t) (relaxed_from profile v ss)
 relaxed_choice n profile v [] u h k = (u, λ x l. refl, tt)
 relaxed_choice n profile v (s ∷ ss) u h k =
     relaxed_cases profile v s (λ e. (t : Assignment) × SameBelow v u t × AllByRecursion (IsRelaxedTightly t) (e ∷ relaxed_from profile (if e.is_fresh then v + 1 else v) ss))

@@ -7,7 +7,8 @@ use Rattle.adder.specs.Parts.{most_of, tree_from}
 use Rattle.adder.proofs.Numbers.{round_most, round_length}
 
 -- so many steps are enough
-enough : (s t n : ℕ) (xs : List Number) → length xs ≤ s + 1 → length xs ≤ t + 1 → rounds s n xs ≡ rounds t n xs
+enough : (s t n : ℕ) (xs : List Number) → length xs ≤ s + 1 → length xs ≤ t + 1
+    → rounds s n xs ≡ rounds t n xs
 enough s t n [] h k = refl
 enough s t n (x ∷ []) h k = refl
 enough zero t n (x ∷ y ∷ more) h k = absurd (omega arith)
@@ -62,14 +63,17 @@ module _ {whole : Adders} {cells : List Cell} {n : ℕ} {xs : List Number} (many
   fewer = omega (arith, many, round_length n xs)
 
 -- one number is left, or none
-pub ends_one : {whole : Adders} {cells : List Cell} {n : ℕ} (x : Number) → IsRounding whole cells n (x ∷ []) → (cells ≡ whole.cells) × (x.bits ≡ whole.outputs)
+pub ends_one : {whole : Adders} {cells : List Cell} {n : ℕ} (x : Number)
+    → IsRounding whole cells n (x ∷ []) → (cells ≡ whole.cells) × (x.bits ≡ whole.outputs)
 ends_one {cells = cells} x h = (sym (append-nil cells) ∙ h.cells_are, h.outputs_are)
 
-pub ends_none : {whole : Adders} {cells : List Cell} {n : ℕ} → IsRounding whole cells n [] → (cells ≡ whole.cells) × ([] ≡ whole.outputs)
+pub ends_none : {whole : Adders} {cells : List Cell} {n : ℕ} → IsRounding whole cells n []
+    → (cells ≡ whole.cells) × ([] ≡ whole.outputs)
 ends_none {cells = cells} h = (sym (append-nil cells) ∙ h.cells_are, h.outputs_are)
 
 -- the first two of a list
-pub pair_at : {X : Type 0} (xs : List X) (x y : X) → 2 ≤ length xs → x ≡ get_or xs 0 x → y ≡ get_or xs 1 y → xs ≡ x ∷ y ∷ drop 2 xs
+pub pair_at : {X : Type 0} (xs : List X) (x y : X) → 2 ≤ length xs → x ≡ get_or xs 0 x
+    → y ≡ get_or xs 1 y → xs ≡ x ∷ y ∷ drop 2 xs
 pair_at [] x y h e f = absurd (omega arith)
 pair_at (a ∷ []) x y h e f = absurd (omega arith)
 pair_at (a ∷ b ∷ more) x y h e f = cc

@@ -16,18 +16,22 @@ use Rattle.adder.proofs.Variables.{IsOutputOf, IsCellWith, columns_with, column_
 use Rattle.adder.proofs.Numbers.{along_tree_sum, along_tree_cells, along_tree_outputs, along_tree_with, along_tree_chain}
 
 -- the two forms of the network
-pub adders_cases : (profile : Profile) (p : Problem) (P : Adders → Type 0) → P (along_columns (relaxed_as profile p) (total_weight p) (relaxed_variables profile p + 1))
-    → P (along_tree (relaxed_as profile p) (relaxed_variables profile p + 1)) → P (adders_as profile p)
+pub adders_cases : (profile : Profile) (p : Problem) (P : Adders → Type 0)
+    → P (along_columns (relaxed_as profile p) (total_weight p) (relaxed_variables profile p + 1))
+    → P (along_tree (relaxed_as profile p) (relaxed_variables profile p + 1))
+    → P (adders_as profile p)
 adders_cases One p P columns tree = columns
 adders_cases Two p P columns tree = columns
 adders_cases Three p P columns tree = tree
 
 -- which of them it is
-pub is_columns : (profile : Profile) (p : Problem) → (profile ≡ One) ⊎ (profile ≡ Two) → along_columns (relaxed_as profile p) (total_weight p) (relaxed_variables profile p + 1) ≡ adders_as profile p
+pub is_columns : (profile : Profile) (p : Problem) → (profile ≡ One) ⊎ (profile ≡ Two)
+    → along_columns (relaxed_as profile p) (total_weight p) (relaxed_variables profile p + 1) ≡ adders_as profile p
 is_columns profile p (inl e) = subst (λ (q : Profile). along_columns (relaxed_as q p) (total_weight p) (relaxed_variables q p + 1) ≡ adders_as q p) (sym e) refl
 is_columns profile p (inr e) = subst (λ (q : Profile). along_columns (relaxed_as q p) (total_weight p) (relaxed_variables q p + 1) ≡ adders_as q p) (sym e) refl
 
-pub is_tree : (profile : Profile) (p : Problem) → profile ≡ Three → along_tree (relaxed_as profile p) (relaxed_variables profile p + 1) ≡ adders_as profile p
+pub is_tree : (profile : Profile) (p : Problem) → profile ≡ Three
+    → along_tree (relaxed_as profile p) (relaxed_variables profile p + 1) ≡ adders_as profile p
 is_tree profile p e = subst (λ (q : Profile). along_tree (relaxed_as q p) (relaxed_variables q p + 1) ≡ adders_as q p) (sym e) refl
 
 module _ (profile : Profile) (p : Problem) where
@@ -79,7 +83,8 @@ module _ (profile : Profile) (p : Problem) where
       (columns_with Q (column_of es) (binary_length (total_weight p)) 0 n [] (λ j. column_of_with Q es j h) tt) (along_tree_with Q es n h)
 
 -- the law of `network_as`
-pub adds_up : (profile : Profile) (p : Problem) → IsInstance p → AddsUp profile p (adders_as profile p)
+pub adds_up : (profile : Profile) (p : Problem) → IsInstance p
+    → AddsUp profile p (adders_as profile p)
 adds_up profile p h =
     let soft : AreWithin p.variables p.soft = recursion_from_All _ p.soft (All-weaker (λ (s : SoftClause). IsClauseWithin p.variables s.clause) (λ s. greatest_variable s.clause ≤ p.variables) (λ s w. w.2) p.soft h.soft_clauses) in
     record {

@@ -1,14 +1,15 @@
 -- How a column is added up cell by cell.
 use Rattle.std.proofs.Common.{◌≡◌, ℕ, zero, suc, ◌+◌, ◌-◌, ◌<◌, ◌≤◌, List, [], ◌∷◌, ◌++◌, length, take, drop, get_or, Option, Some, None, refl, sym, ◌∙◌, ap, subst, arith, append_assoc}
 use Rattle.std.proofs.lemmas.List.{length-append, length-drop, drop-append-le, drop-drop, drop_at, take_rest}
-use Rattle.wcnf.specs.Literal.{Literal}
+use Rattle.wcnf.specs.Literal.{Literal, positive}
 use Rattle.adder.specs.declared.cells.Cell.{Cell}
-use Rattle.adder.specs.Network.{Column, positive, after_cell, added_up}
+use Rattle.adder.specs.Network.{Column, after_cell, added_up}
 use Rattle.adder.specs.Parts.{column_from}
 use Rattle.adder.proofs.Variables.{column_fresh}
 
 -- so many steps are enough
-enough : (s t n : ℕ) (ls : List Literal) → length ls ≤ s + 1 → length ls ≤ t + 1 → added_up s n ls ≡ added_up t n ls
+enough : (s t n : ℕ) (ls : List Literal) → length ls ≤ s + 1 → length ls ≤ t + 1
+    → added_up s n ls ≡ added_up t n ls
 enough s t n [] h k = refl
 enough s t n (a ∷ []) h k = refl
 enough zero t n (a ∷ b ∷ rest) h k = absurd (omega arith)
@@ -27,13 +28,15 @@ pub data Front (a b : Literal) (ls : List Literal) : Option Literal → List Lit
   Two : ls ≡ a ∷ b ∷ [] → Front a b ls None []
   Three : (d : Literal) (rest : List Literal) → ls ≡ a ∷ b ∷ d ∷ rest → Front a b ls (Some d) rest
 
-front_two : (a b : Literal) (ls : List Literal) → 2 ≤ length ls → length ls < 3 → a ≡ get_or ls 0 a → b ≡ get_or ls 1 b → Front a b ls None []
+front_two : (a b : Literal) (ls : List Literal) → 2 ≤ length ls → length ls < 3 → a ≡ get_or ls 0 a
+    → b ≡ get_or ls 1 b → Front a b ls None []
 front_two a b [] h l e f = absurd (omega arith)
 front_two a b (x ∷ []) h l e f = absurd (omega arith)
 front_two a b (x ∷ y ∷ []) h l e f = Two (cc)
 front_two a b (x ∷ y ∷ z ∷ rest) h l e f = absurd (omega arith)
 
-front_three : (a b d : Literal) (ls : List Literal) → 3 ≤ length ls → a ≡ get_or ls 0 a → b ≡ get_or ls 1 b → d ≡ get_or ls 2 d → Front a b ls (Some d) (drop 3 ls)
+front_three : (a b d : Literal) (ls : List Literal) → 3 ≤ length ls → a ≡ get_or ls 0 a
+    → b ≡ get_or ls 1 b → d ≡ get_or ls 2 d → Front a b ls (Some d) (drop 3 ls)
 front_three a b d [] h e f g = absurd (omega arith)
 front_three a b d (x ∷ []) h e f g = absurd (omega arith)
 front_three a b d (x ∷ y ∷ []) h e f g = absurd (omega arith)
@@ -47,7 +50,8 @@ behind_is : (xs ys : List Literal) (i : ℕ) → ys ≡ xs → behind i ys ≡ d
 behind_is xs ys i e = take_rest ys i ∙ ap (drop i) e
 
 -- the front that an arm reads, and where the sum goes
-pub two_at : (xs ys : List Literal) (i : ℕ) (a b s : Literal) → ys ≡ xs → 2 ≤ length (behind i ys) → length (behind i ys) < 3 → a ≡ get_or (behind i ys) 0 a → b ≡ get_or (behind i ys) 1 b
+pub two_at : (xs ys : List Literal) (i : ℕ) (a b s : Literal) → ys ≡ xs → 2 ≤ length (behind i ys)
+    → length (behind i ys) < 3 → a ≡ get_or (behind i ys) 0 a → b ≡ get_or (behind i ys) 1 b
     → Front a b (drop i xs) None [] × (i + 2 ≤ length (xs ++ s ∷ [])) × (drop (i + 2) (xs ++ s ∷ []) ≡ s ∷ [])
 two_at xs ys i a b s e h l p q =
     let here : length (drop i xs) ≡ 2 = omega (arith, ap length (behind_is xs ys i e)) in (
@@ -56,7 +60,9 @@ two_at xs ys i a b s e h l p q =
       drop_at xs (s ∷ []) (i + 2) (omega (arith, length-drop i xs)),
     )
 
-pub three_at : (xs ys : List Literal) (i : ℕ) (a b d s : Literal) → ys ≡ xs → 3 ≤ length (behind i ys) → a ≡ get_or (behind i ys) 0 a → b ≡ get_or (behind i ys) 1 b → d ≡ get_or (behind i ys) 2 d
+pub three_at : (xs ys : List Literal) (i : ℕ) (a b d s : Literal) → ys ≡ xs
+    → 3 ≤ length (behind i ys) → a ≡ get_or (behind i ys) 0 a → b ≡ get_or (behind i ys) 1 b
+    → d ≡ get_or (behind i ys) 2 d
     → Front a b (drop i xs) (Some d) (drop 3 (drop i xs)) × (i + 3 ≤ length (xs ++ s ∷ [])) × (drop (i + 3) (xs ++ s ∷ []) ≡ drop 3 (drop i xs) ++ s ∷ [])
 three_at xs ys i a b d s e h p q r =
     let here : 3 ≤ length (drop i xs) = omega (arith, ap length (behind_is xs ys i e)) in
@@ -80,10 +86,14 @@ pub record IsAddingUp (before : List Cell) (carried : List Literal) (column : Co
   pub output_is : (column_from n queue).output ≡ column.output
   pub fresh_is : (column_from n queue).fresh ≡ column.fresh
 
-pub adds_cell : {before : List Cell} {carried : List Literal} {column : Column} {cells : List Cell} {carries : List Literal} {n : ℕ} {a b : Literal} {ls : List Literal} {third : Option Literal} {rest : List Literal}
-    → IsAddingUp before carried column cells carries n ls → Front a b ls third rest
+pub adds_cell : {before : List Cell} {carried : List Literal} {column : Column} {cells : List Cell}
+    {carries : List Literal} {n : ℕ} {a b : Literal} {ls : List Literal} {third : Option Literal}
+    {rest : List Literal} → IsAddingUp before carried column cells carries n ls
+    → Front a b ls third rest
     → {cells_then : List Cell} {carries_then : List Literal} {n_then : ℕ} {ls_then : List Literal}
-    → cells_then ≡ cells ++ record { a = a; b = b; third = third; sum = n; carry = n + 1 } ∷ [] → carries_then ≡ carries ++ positive (n + 1) ∷ [] → n_then ≡ n + 2 → ls_then ≡ rest ++ positive n ∷ []
+    → cells_then ≡ cells ++ record { a = a; b = b; third = third; sum = n; carry = n + 1 } ∷ []
+    → carries_then ≡ carries ++ positive (n + 1) ∷ [] → n_then ≡ n + 2
+    → ls_then ≡ rest ++ positive n ∷ []
     → IsAddingUp before carried column cells_then carries_then n_then ls_then
 adds_cell {before} {carried} {column} {cells} {carries} {n} {a} {b} {ls} {third} {rest} h front cells_are carries_are n_is ls_is =
     let cell : Cell = record { a = a; b = b; third = third; sum = n; carry = n + 1 } in
@@ -97,6 +107,7 @@ adds_cell {before} {carried} {column} {cells} {carries} {n} {a} {b} {ls} {third}
     })
 
 -- each cell takes two variables, so a next one has room
-pub has_room : (n : ℕ) (a b : Literal) (ls : List Literal) (third : Option Literal) (rest : List Literal) → Front a b ls third rest → n + 2 ≤ (column_from n ls).fresh
+pub has_room : (n : ℕ) (a b : Literal) (ls : List Literal) (third : Option Literal)
+    (rest : List Literal) → Front a b ls third rest → n + 2 ≤ (column_from n ls).fresh
 has_room n a b ls third rest front =
     omega (arith, ap (λ (k : Column). k.fresh) (column_more n a b ls third rest front), column_fresh (length (rest ++ positive n ∷ [])) (n + 2) (rest ++ positive n ∷ []))

@@ -3,14 +3,16 @@ use Rattle.std.proofs.Common.{◌≡◌, ℕ, zero, suc, ◌+◌, ◌*◌, ◌/�
 use Rattle.std.proofs.lemmas.Bool.{eqb-false}
 use Rattle.std.proofs.lemmas.List.{length-append, length-map}
 use Rattle.std.proofs.lemmas.List.Sums.{length-filter, count_by-le-length}
-use Rattle.wcnf.specs.Literal.{Literal}
+use Rattle.wcnf.specs.Literal.{Literal, positive}
 use Rattle.wcnf.specs.Problem.{Problem, SoftClause}
 use Rattle.adder.specs.declared.cells.Profile.{Profile}
-use Rattle.adder.specs.Network.{Relaxed, bit, binary_length, positive, relaxed_one, relaxed_from, relaxed_as, column_of, added_up, columns_from}
+use Rattle.adder.specs.Network.{Relaxed, bit, binary_length, relaxed_one, relaxed_from, relaxed_as, column_of, added_up, columns_from}
 use Rattle.adder.proofs.Sums.{length_in}
 
 -- a column's cells are at most half of what it adds, and each has a carry
-column_cells : (steps n : ℕ) (ls : List Literal) → (2 * length (added_up steps n ls).cells ≤ length ls) × (length (added_up steps n ls).carries ≡ length (added_up steps n ls).cells)
+column_cells : (steps n : ℕ) (ls : List Literal)
+    → (2 * length (added_up steps n ls).cells ≤ length ls)
+    × (length (added_up steps n ls).carries ≡ length (added_up steps n ls).cells)
 column_cells steps n [] = (omega arith, refl)
 column_cells steps n (a ∷ []) = (omega arith, refl)
 column_cells zero n (a ∷ b ∷ rest) = (omega arith, refl)
@@ -21,15 +23,16 @@ column_cells (suc steps) n (a ∷ b ∷ d ∷ rest) =
     let r = column_cells steps (n + 2) (rest ++ positive n ∷ []) in
     (omega (arith, r.0, length-append rest (positive n ∷ [])), ap suc r.1)
 
-filter_le : {X : Type 0} (p : X → Bool) (xs : List X) → length (filter p xs) ≤ length xs
+pub filter_le : {X : Type 0} (p : X → Bool) (xs : List X) → length (filter p xs) ≤ length xs
 filter_le p xs = subst (λ n. n ≤ length xs) (sym (length-filter p xs)) (count_by-le-length p xs)
 
 pub column_le : (es : List Relaxed) (j : ℕ) → length (column_of es j) ≤ length es
 column_le es j = subst (λ n. n ≤ length es) (sym (length-map (filter (λ (e : Relaxed). bit (e.soft).weight j) es) (λ e. e.literal))) (filter_le (λ e. bit (e.soft).weight j) es)
 
 -- columns of at most m literals, where k carries are enough
-pub columns_cells : (column : ℕ → List Literal) (m k : ℕ) → ((j : ℕ) → length (column j) ≤ m) → m ≤ k + 1
-    → (more j n : ℕ) (carries : List Literal) → length carries ≤ k → length (columns_from column more j n carries).cells ≤ more * k
+pub columns_cells : (column : ℕ → List Literal) (m k : ℕ) → ((j : ℕ) → length (column j) ≤ m)
+    → m ≤ k + 1 → (more j n : ℕ) (carries : List Literal) → length carries ≤ k
+    → length (columns_from column more j n carries).cells ≤ more * k
 columns_cells column m k short enough zero j n carries h = omega arith
 columns_cells column m k short enough (suc more) j n carries h =
     let ls = column j ++ carries in
@@ -39,7 +42,8 @@ columns_cells column m k short enough (suc more) j n carries h =
     let few : length sum.carries ≤ k = omega (arith, r.0, r.1, short j, length-append (column j) carries) in
     omega (arith, length-append sum.cells rest.cells, columns_cells column m k short enough more (j + 1) sum.fresh sum.carries few, r.1, few)
 
-pub columns_outputs : (column : ℕ → List Literal) (more j n : ℕ) (carries : List Literal) → length (columns_from column more j n carries).outputs ≡ more
+pub columns_outputs : (column : ℕ → List Literal) (more j n : ℕ) (carries : List Literal)
+    → length (columns_from column more j n carries).outputs ≡ more
 columns_outputs column zero j n carries = refl
 columns_outputs column (suc more) j n carries =
     let ls = column j ++ carries in
@@ -62,9 +66,11 @@ length_in_below (suc f) k n h =
 pub binary_length_few : (n : ℕ) → n < 2 ^ 62 → binary_length n ≤ 62
 binary_length_few n h = length_in_below 63 62 n h
 
-pub relaxed_length : (profile : Profile) (v : ℕ) (ss : List SoftClause) → length (relaxed_from profile v ss) ≡ length ss
+pub relaxed_length : (profile : Profile) (v : ℕ) (ss : List SoftClause)
+    → length (relaxed_from profile v ss) ≡ length ss
 relaxed_length profile v [] = refl
 relaxed_length profile v (s ∷ ss) = ap suc (relaxed_length profile (if (relaxed_one profile v s).is_fresh then v + 1 else v) ss)
 
-pub fresh_few : (profile : Profile) (p : Problem) → length (filter (λ e. e.is_fresh) (relaxed_as profile p)) ≤ length p.soft
+pub fresh_few : (profile : Profile) (p : Problem)
+    → length (filter (λ e. e.is_fresh) (relaxed_as profile p)) ≤ length p.soft
 fresh_few profile p = subst (λ n. length (filter (λ e. e.is_fresh) (relaxed_as profile p)) ≤ n) (relaxed_length profile (p.variables + 1) p.soft) (filter_le (λ e. e.is_fresh) (relaxed_as profile p))

@@ -5,17 +5,20 @@ use Rattle.std.proofs.lemmas.Nat.{shr-shr}
 use Rattle.std.proofs.lemmas.Bool.{eqb-true, eqb-false}
 use Rattle.std.proofs.lemmas.List.{length-append}
 use Rattle.std.proofs.lemmas.List.Sums.{sum_by-cons}
-use Rattle.wcnf.specs.Literal.{Assignment, Literal, negation, literal_value}
+use Rattle.wcnf.specs.Numbers.{one_if}
+use Rattle.wcnf.specs.Literal.{Assignment, Literal, negation, literal_value, positive}
 use Rattle.wcnf.specs.Problem.{SoftClause}
 use Rattle.adder.specs.declared.cells.Profile.{Profile}
 use Rattle.adder.specs.declared.cells.Profile.TheVariants.{One, Two, Three}
-use Rattle.adder.specs.Network.{Relaxed, bit, binary_length, positive, relaxed_one, relaxed_from, column_of, added_up, columns_from, along_columns, value_of, one_if, third_of, IsCellOf}
+use Rattle.adder.specs.Network.{Relaxed, bit, binary_length, relaxed_one, relaxed_from, column_of, added_up, columns_from, along_columns, value_of, third_of, IsCellOf}
 
-pub left_part : {X : Type 0} (P : X → Type 0) (xs ys : List X) → AllByRecursion P (xs ++ ys) → AllByRecursion P xs
+pub left_part : {X : Type 0} (P : X → Type 0) (xs ys : List X) → AllByRecursion P (xs ++ ys)
+    → AllByRecursion P xs
 left_part P [] ys h = tt
 left_part P (x ∷ xs) ys h = (h.0, left_part P xs ys h.1)
 
-pub right_part : {X : Type 0} (P : X → Type 0) (xs ys : List X) → AllByRecursion P (xs ++ ys) → AllByRecursion P ys
+pub right_part : {X : Type 0} (P : X → Type 0) (xs ys : List X) → AllByRecursion P (xs ++ ys)
+    → AllByRecursion P ys
 right_part P [] ys h = h
 right_part P (x ∷ xs) ys h = right_part P xs ys h.1
 
@@ -24,12 +27,14 @@ abbrev pub count_true : Assignment → List Literal → ℕ
 count_true t [] = 0
 count_true t (l ∷ ls) = one_if (literal_value t l) + count_true t ls
 
-pub count_true-append : (t : Assignment) (xs ys : List Literal) → count_true t (xs ++ ys) ≡ count_true t xs + count_true t ys
+pub count_true-append : (t : Assignment) (xs ys : List Literal)
+    → count_true t (xs ++ ys) ≡ count_true t xs + count_true t ys
 count_true-append t [] ys = omega arith
 count_true-append t (x ∷ xs) ys = omega (arith, count_true-append t xs ys)
 
 -- the cells of a column keep its sum
-pub column_sum : (t : Assignment) (steps fresh : ℕ) (ls : List Literal) → length ls ≤ steps + 1 → AllByRecursion (IsCellOf t) (added_up steps fresh ls).cells
+pub column_sum : (t : Assignment) (steps fresh : ℕ) (ls : List Literal) → length ls ≤ steps + 1
+    → AllByRecursion (IsCellOf t) (added_up steps fresh ls).cells
     → count_true t ls ≡ third_of t (added_up steps fresh ls).output + 2 * count_true t (added_up steps fresh ls).carries
 column_sum t steps fresh [] h all = refl
 column_sum t steps fresh (a ∷ []) h all = omega arith
@@ -54,11 +59,13 @@ abbrev pub weighed : Assignment → List Relaxed → ℕ → ℕ
 weighed t [] j = 0
 weighed t (e ∷ es) j = one_if (literal_value t e.literal) * ((e.soft).weight / 2 ^ j) + weighed t es j
 
-scaled : (v : Bool) (x y b : ℕ) → x ≡ b + 2 * y → one_if v * x ≡ one_if v * b + 2 * (one_if v * y)
+pub scaled : (v : Bool) (x y b : ℕ) → x ≡ b + 2 * y
+    → one_if v * x ≡ one_if v * b + 2 * (one_if v * y)
 scaled true x y b e = omega arith
 scaled false x y b e = omega arith
 
-weighed_more : (t : Assignment) (es : List Relaxed) (j : ℕ) → weighed t es j ≡ count_true t (column_of es j) + 2 * weighed t es (j + 1)
+weighed_more : (t : Assignment) (es : List Relaxed) (j : ℕ)
+    → weighed t es j ≡ count_true t (column_of es j) + 2 * weighed t es (j + 1)
 weighed_more t [] j = refl
 weighed_more t (e ∷ es) j =
     elim (bit (e.soft).weight j) as (λ b. one_if (bit (e.soft).weight j) ≡ one_if b
@@ -72,9 +79,12 @@ weighed_more t (e ∷ es) j =
     here n h = scaled (literal_value t e.literal) _ _ n (omega (arith, digit (e.soft).weight j))
 
 -- the columns that are left add up the carries and what the columns from j on are worth, where they have room for both
-pub columns_sum : (t : Assignment) (column : ℕ → List Literal) (worth : ℕ → ℕ) → ((j : ℕ) → worth j ≡ count_true t (column j) + 2 * worth (j + 1))
-    → (more j fresh : ℕ) (carries : List Literal) → AllByRecursion (IsCellOf t) (columns_from column more j fresh carries).cells
-    → count_true t carries + worth j < 2 ^ more → value_of t (columns_from column more j fresh carries).outputs ≡ count_true t carries + worth j
+pub columns_sum : (t : Assignment) (column : ℕ → List Literal) (worth : ℕ → ℕ)
+    → ((j : ℕ) → worth j ≡ count_true t (column j) + 2 * worth (j + 1))
+    → (more j fresh : ℕ) (carries : List Literal)
+    → AllByRecursion (IsCellOf t) (columns_from column more j fresh carries).cells
+    → count_true t carries + worth j < 2 ^ more
+    → value_of t (columns_from column more j fresh carries).outputs ≡ count_true t carries + worth j
 columns_sum t column worth law zero j fresh carries all room = omega arith
 columns_sum t column worth law (suc more) j fresh carries all room =
     let ls = column j ++ carries in
@@ -118,7 +128,8 @@ binary_length_room n h = length_in_room 63 n h
 pub binary_length_le : (n : ℕ) → binary_length n ≤ 63
 binary_length_le n = length_in_le 63 n
 
-weighed_all : (t : Assignment) (es : List Relaxed) → weighed t es 0 ≡ sum_by (λ e. if literal_value t e.literal then (e.soft).weight else 0) es
+weighed_all : (t : Assignment) (es : List Relaxed)
+    → weighed t es 0 ≡ sum_by (λ e. if literal_value t e.literal then (e.soft).weight else 0) es
 weighed_all t [] = refl
 weighed_all t (e ∷ es) = rw (sum_by-cons (λ (e : Relaxed). if literal_value t e.literal then (e.soft).weight else 0) e es, ← weighed_all t es) (omega (arith, here (literal_value t e.literal) (e.soft).weight))
   where
@@ -127,7 +138,8 @@ weighed_all t (e ∷ es) = rw (sum_by-cons (λ (e : Relaxed). if literal_value t
     here false n = omega arith
 
 -- no more is given up than there is
-weighed_bound : (t : Assignment) (es : List Relaxed) → weighed t es 0 ≤ sum_by (λ e. (e.soft).weight) es
+weighed_bound : (t : Assignment) (es : List Relaxed)
+    → weighed t es 0 ≤ sum_by (λ e. (e.soft).weight) es
 weighed_bound t [] = omega arith
 weighed_bound t (e ∷ es) = omega (arith, weighed_bound t es, sum_by-cons (λ (e : Relaxed). (e.soft).weight) e es, here (literal_value t e.literal) (e.soft).weight)
   where
@@ -136,8 +148,10 @@ weighed_bound t (e ∷ es) = omega (arith, weighed_bound t es, sum_by-cons (λ (
     here false n = omega arith
 
 -- the two forms of relaxation
-pub relaxed_cases : (profile : Profile) (v : ℕ) (s : SoftClause) (P : Relaxed → Type 0) → P (record { literal = positive v; soft = s; is_fresh = true })
-    → ((l : Literal) → s.clause ≡ l ∷ [] → P (record { literal = negation l; soft = s; is_fresh = false })) → P (relaxed_one profile v s)
+pub relaxed_cases : (profile : Profile) (v : ℕ) (s : SoftClause) (P : Relaxed → Type 0)
+    → P (record { literal = positive v; soft = s; is_fresh = true })
+    → ((l : Literal) → s.clause ≡ l ∷ [] → P (record { literal = negation l; soft = s; is_fresh = false }))
+    → P (relaxed_one profile v s)
 relaxed_cases One v s P fresh own = fresh
 relaxed_cases Three v s P fresh own = fresh
 relaxed_cases Two v s P fresh own = at s.weight s.clause P fresh own
@@ -151,7 +165,8 @@ relaxed_cases Two v s P fresh own = at s.weight s.clause P fresh own
 pub relaxed_soft : (profile : Profile) (v : ℕ) (s : SoftClause) → (relaxed_one profile v s).soft ≡ s
 relaxed_soft profile v s = relaxed_cases profile v s (λ e. e.soft ≡ s) refl (λ l h. refl)
 
-pub relaxed_weights : (profile : Profile) (v : ℕ) (ss : List SoftClause) → sum_by (λ e. (e.soft).weight) (relaxed_from profile v ss) ≡ sum_by (λ s. s.weight) ss
+pub relaxed_weights : (profile : Profile) (v : ℕ) (ss : List SoftClause)
+    → sum_by (λ e. (e.soft).weight) (relaxed_from profile v ss) ≡ sum_by (λ s. s.weight) ss
 relaxed_weights profile v [] = refl
 relaxed_weights profile v (s ∷ ss) =
     let first = relaxed_one profile v s in
@@ -162,8 +177,10 @@ relaxed_weights profile v (s ∷ ss) =
 abbrev pub given_up : Assignment → List Relaxed → ℕ
 given_up t es = sum_by (λ e. if literal_value t e.literal then (e.soft).weight else 0) es
 
-pub along_columns_sum : (t : Assignment) (es : List Relaxed) (total fresh : ℕ) → sum_by (λ e. (e.soft).weight) es ≡ total → total < 2 ^ 63
-    → AllByRecursion (IsCellOf t) (along_columns es total fresh).cells → value_of t (along_columns es total fresh).outputs ≡ given_up t es
+pub along_columns_sum : (t : Assignment) (es : List Relaxed) (total fresh : ℕ)
+    → sum_by (λ e. (e.soft).weight) es ≡ total → total < 2 ^ 63
+    → AllByRecursion (IsCellOf t) (along_columns es total fresh).cells
+    → value_of t (along_columns es total fresh).outputs ≡ given_up t es
 along_columns_sum t es total fresh same small = outputs_of (binary_length total) (omega (arith, weighed_bound t es, binary_length_room total small))
   where
     outputs_of : (more : ℕ) → weighed t es 0 < 2 ^ more → AllByRecursion (IsCellOf t) (columns_from (column_of es) more 0 fresh []).cells → value_of t (columns_from (column_of es) more 0 fresh []).outputs ≡ given_up t es

@@ -2,15 +2,16 @@
 use Rattle.std.proofs.Common.{◌≡◌, ℕ, zero, suc, ◌+◌, ◌*◌, ◌<◌, ◌≤◌, true, false, List, [], ◌∷◌, ◌++◌, length, map, filter, Option, Some, None, if◌then◌else◌, subst, arith}
 use Rattle.std.specs.List.{AllByRecursion}
 use Rattle.std.proofs.lemmas.List.{length-append}
-use Rattle.wcnf.specs.Literal.{Literal}
+use Rattle.wcnf.specs.Literal.{Literal, positive}
 use Rattle.wcnf.specs.Problem.{SoftClause}
 use Rattle.adder.specs.declared.cells.Cell.{Cell}
 use Rattle.adder.specs.declared.cells.Profile.{Profile}
-use Rattle.adder.specs.Network.{Relaxed, bit, positive, relaxed_from, column_of, added_up, columns_from}
+use Rattle.adder.specs.Network.{Relaxed, bit, relaxed_from, column_of, added_up, columns_from}
 use Rattle.adder.proofs.Sums.{relaxed_cases}
 
 -- a column takes two variables for each cell
-pub column_fresh : (steps n : ℕ) (ls : List Literal) → (added_up steps n ls).fresh ≡ n + 2 * length (added_up steps n ls).cells
+pub column_fresh : (steps n : ℕ) (ls : List Literal)
+    → (added_up steps n ls).fresh ≡ n + 2 * length (added_up steps n ls).cells
 column_fresh steps n [] = omega arith
 column_fresh steps n (a ∷ []) = omega arith
 column_fresh zero n (a ∷ b ∷ rest) = omega arith

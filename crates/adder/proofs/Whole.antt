@@ -22,26 +22,32 @@ column_kept (e ∷ es) j =
       | false ↦ column_kept es j
     ]
 
-pub columns_are : (es : List Relaxed) (total : ℕ) {rs : List Relaxation} {digits fresh n : ℕ} → rs ≡ map relaxation_of es → digits ≡ binary_length total → fresh ≡ n
+pub columns_are : (es : List Relaxed) (total : ℕ) {rs : List Relaxation} {digits fresh n : ℕ}
+    → rs ≡ map relaxation_of es → digits ≡ binary_length total → fresh ≡ n
     → columns_from (λ j. literals_with j rs) digits 0 fresh [] ≡ along_columns es total n
 columns_are es total each_is digits_is fresh_is = at (binary_length total) each_is digits_is fresh_is
   where
     at : (m : ℕ) {rs : List Relaxation} {digits fresh n : ℕ} → rs ≡ map relaxation_of es → digits ≡ m → fresh ≡ n → columns_from (λ j. literals_with j rs) digits 0 fresh [] ≡ columns_from (column_of es) m 0 n []
     at m {n = n} e f g = rw (e, f, g) (ap (λ (column : ℕ → List Literal). columns_from column m 0 n []) (λ i j. column_kept es j i))
 
-pub filled_is : (rs : List Relaxation) (j : ℕ) {rs_read : List Relaxation} {emptied filled : List Literal} → emptied ≡ [] → rs_read ≡ rs → filled ≡ emptied ++ literals_with j rs_read → filled ≡ literals_with j rs
+pub filled_is : (rs : List Relaxation) (j : ℕ) {rs_read : List Relaxation}
+    {emptied filled : List Literal} → emptied ≡ [] → rs_read ≡ rs
+    → filled ≡ emptied ++ literals_with j rs_read → filled ≡ literals_with j rs
 filled_is rs j none read filled = filled ∙ rw (none, read) refl
 
 -- and its numbers
-number_map : (es : List Relaxed) → map (λ r. number_of r.lit r.weight) (map relaxation_of es) ≡ map (λ e. number_of e.literal (e.soft).weight) es
+number_map : (es : List Relaxed)
+    → map (λ r. number_of r.lit r.weight) (map relaxation_of es) ≡ map (λ e. number_of e.literal (e.soft).weight) es
 number_map [] = refl
 number_map (e ∷ es) = ap (λ (xs : List Number). number_of e.literal (e.soft).weight ∷ xs) (number_map es)
 
-pub numbers_are : (es : List Relaxed) {rs : List Relaxation} → rs ≡ map relaxation_of es → lightest_numbers rs ≡ numbers_of es
+pub numbers_are : (es : List Relaxed) {rs : List Relaxation} → rs ≡ map relaxation_of es
+    → lightest_numbers rs ≡ numbers_of es
 numbers_are es e =
     ap lightest_numbers e ∙ ap (map (λ (r : Relaxation). number_of r.lit r.weight)) (sym (sorted-map relaxation_of (λ r. r.weight) es)) ∙ number_map (lightest_first (λ e. (e.soft).weight) es)
 
-pub tree_is : (es : List Relaxed) {rs : List Relaxation} {fresh n : ℕ} → rs ≡ map relaxation_of es → fresh ≡ n → tree_from fresh (lightest_numbers rs) ≡ along_tree es n
+pub tree_is : (es : List Relaxed) {rs : List Relaxation} {fresh n : ℕ} → rs ≡ map relaxation_of es
+    → fresh ≡ n → tree_from fresh (lightest_numbers rs) ≡ along_tree es n
 tree_is es {n = n} e f = rw (f, numbers_are es e) (ap (λ k. rounds k n (numbers_of es)) (numbers_length es))
 
 -- what was built, with what the columns that are left give, is the whole, and the variables before end are enough
@@ -87,6 +93,7 @@ module _ {whole : Adders} {end : ℕ} {column : ℕ → List Literal} {cells : L
   builds_end e h = (sym (append-nil cells) ∙ rw e at h.cells_are, sym (append-nil outputs) ∙ rw e at h.outputs_are, omega (arith, rw e at h.end_is))
 
 -- what holds of the one answer that is Ok
-pub if_ok_from : {X E : Type 0} (P : X → Type 0) {x : X} (r : Result X E) → IfOk r (λ y. y ≡ x) → P x → IfOk r P
+pub if_ok_from : {X E : Type 0} (P : X → Type 0) {x : X} (r : Result X E) → IfOk r (λ y. y ≡ x)
+    → P x → IfOk r P
 if_ok_from P (Ok y) e h = subst P (sym e) h
 if_ok_from P (Err k) e h = tt

@@ -1,10 +1,10 @@
 -- Worked networks of profile 3.
 use Rattle.std.specs.Prelude.{◌≡◌, ℕ, ◌+◌, ◌^◌, List, [], ◌∷◌, ◌++◌, map, Option, Some, None}
 use Rattle.std.specs.Prelude.{replicate, refl}
-use Rattle.wcnf.specs.Literal.{Literal}
+use Rattle.wcnf.specs.Literal.{Literal, positive}
 use Rattle.adder.specs.declared.cells.Cell.{Cell}
 use Rattle.adder.specs.declared.cells.Profile.TheVariants.{Three}
-use Rattle.adder.specs.Network.{Adders, positive, adders_as}
+use Rattle.adder.specs.Network.{Adders, adders_as}
 
 -- one variable, and a soft clause of each weight
 abbrev network_of : List ℕ → Adders

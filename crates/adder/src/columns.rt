@@ -1,7 +1,7 @@
 // The columns of a network, one after the other. A column is a queue: a vector and the index of
 // its front, so that nothing is ever moved.
 ghost use Rattle.std.specs.Prelude.{◌≡◌, ◌+◌, ◌<◌, ◌≤◌, ◌^◌, ◌∷◌, [], ◌++◌, IfOk, OnOk};
-ghost use Rattle.adder.specs.Network.{positive};
+ghost use Rattle.wcnf.specs.Literal.{positive};
 ghost use Rattle.adder.specs.Parts.{literals_with, column_from};
 
 use crate::cells::Cell;

@@ -5,13 +5,13 @@ use Rattle.std.proofs.lemmas.Bool.{false≢true, and_parts, and_from, lt-ltb, lt
 use Rattle.std.proofs.lemmas.List.Folds.{list_all-append, list_any-append}
 use Rattle.std.proofs.lemmas.List.Sums.{sum_by-cons}
 use Rattle.std.proofs.lemmas.List.Elements.{recursion_from_All, All-from_recursion, All-weaker}
-use Rattle.wcnf.specs.Literal.{Assignment, Literal, negation, literal_value}
+use Rattle.wcnf.specs.Literal.{Assignment, Literal, negation, literal_value, positive}
 use Rattle.wcnf.specs.Clause.{Satisfies, clause_value, greatest_variable}
 use Rattle.wcnf.specs.Problem.{Problem, SoftClause, IsFeasible, cost_under}
 use Rattle.wcnf.specs.Instance.{IsInstance, IsClauseWithin}
 use Rattle.adder.specs.declared.cells.Cell.{Cell}
 use Rattle.adder.specs.declared.cells.Profile.{Profile}
-use Rattle.adder.specs.Network.{Relaxed, relaxed_one, relaxed_from, relaxed_as, relaxed_variables, adders_as, total_weight, value_of, positive, IsCellOf, SameUpTo}
+use Rattle.adder.specs.Network.{Relaxed, relaxed_one, relaxed_from, relaxed_as, relaxed_variables, adders_as, total_weight, value_of, IsCellOf, SameUpTo}
 use Rattle.adder.proofs.Laws.{relaxed_cases, relaxed_soft}
 use Rattle.adder.proofs.Laws.{AreWithin, AreRelaxedBelow, IsRelaxedTightly, relaxed_below, relaxed_choice, clause_same, literal_same}
 use Rattle.adder.proofs.Laws.{outputs_sum, cells_extend}
@@ -19,14 +19,17 @@ use Rattle.bound.specs.Bound.{kept, cell_clauses, relaxed_clauses, comparator_fo
 use Rattle.bound.proofs.Clauses.{all_true, all_true-from, from_all_true, all_true-kept, value-no}
 use Rattle.bound.proofs.Adders.{cell_holds, holds_cell}
 use Rattle.bound.proofs.Comparator.{comparator_true}
+use Rattle.bound.proofs.Relaxations.{with_variables}
 
-cells_hold : (t : Assignment) (cells : List Cell) → all_true t (flat_map cell_clauses cells) ≡ true → AllByRecursion (IsCellOf t) cells
+cells_hold : (t : Assignment) (cells : List Cell) → all_true t (flat_map cell_clauses cells) ≡ true
+    → AllByRecursion (IsCellOf t) cells
 cells_hold t [] h = tt
 cells_hold t (cell ∷ cells) h =
     let parts = and_parts (all_true t (cell_clauses cell)) (all_true t (flat_map cell_clauses cells)) (sym (list_all-append (clause_value t) (cell_clauses cell) (flat_map cell_clauses cells)) ∙ h) in
     (cell_holds t cell parts.0, cells_hold t cells parts.1)
 
-hold_cells : (t : Assignment) (cells : List Cell) → AllByRecursion (IsCellOf t) cells → all_true t (flat_map cell_clauses cells) ≡ true
+hold_cells : (t : Assignment) (cells : List Cell) → AllByRecursion (IsCellOf t) cells
+    → all_true t (flat_map cell_clauses cells) ≡ true
 hold_cells t [] h = refl
 hold_cells t (cell ∷ cells) h =
     list_all-append (clause_value t) (cell_clauses cell) (flat_map cell_clauses cells)
@@ -49,10 +52,8 @@ given_up t e = if literal_value t e.literal then (e.soft).weight else 0
 abbrev cost_of : Assignment → SoftClause → ℕ
 cost_of t s = if clause_value t s.clause then 0 else s.weight
 
-abbrev with_literals : List Relaxed → List (List Literal)
-with_literals es = map (λ e. (e.soft).clause ++ e.literal ∷ []) (filter (λ e. e.is_fresh) es)
-
-value_with : (t : Assignment) (c : List Literal) (l : Literal) → clause_value t (c ++ l ∷ []) ≡ (clause_value t c || literal_value t l)
+value_with : (t : Assignment) (c : List Literal) (l : Literal)
+    → clause_value t (c ++ l ∷ []) ≡ (clause_value t c || literal_value t l)
 value_with t c l = list_any-append (literal_value t) c (l ∷ []) ∙ ap (λ b. clause_value t c || b) (or_false (literal_value t l))
   where
     or_false : (b : Bool) → (b || false) ≡ b
@@ -64,7 +65,8 @@ one_cost true l w h = omega arith
 one_cost false true w h = omega arith
 one_cost false false w h = absurd (false≢true h)
 
-own_cost : (t : Assignment) (l : Literal) (w : ℕ) → (if literal_value t l || false then 0 else w) ≤ (if literal_value t (negation l) then w else 0)
+own_cost : (t : Assignment) (l : Literal) (w : ℕ) → (if literal_value t l || false then 0 else w)
+    ≤ (if literal_value t (negation l) then w else 0)
 own_cost t l w = subst (λ b. (if literal_value t l || false then 0 else w) ≤ (if b then w else 0)) (sym (value-no t l)) (by (literal_value t l))
   where
     by : (b : Bool) → (if b || false then 0 else w) ≤ (if not b then w else 0)
@@ -72,15 +74,16 @@ own_cost t l w = subst (λ b. (if literal_value t l || false then 0 else w) ≤ 
     by false = omega arith
 
 -- no more costs than is given up
-cost_le : (t : Assignment) (profile : Profile) (v : ℕ) (ss : List SoftClause) → all_true t (with_literals (relaxed_from profile v ss)) ≡ true
+cost_le : (t : Assignment) (profile : Profile) (v : ℕ) (ss : List SoftClause)
+    → all_true t (with_variables (relaxed_from profile v ss)) ≡ true
     → sum_by (cost_of t) ss ≤ sum_by (given_up t) (relaxed_from profile v ss)
 cost_le t profile v [] = λ h. omega arith
 cost_le t profile v (s ∷ ss) =
-    relaxed_cases profile v s (λ e. all_true t (with_literals (e ∷ relaxed_from profile (if e.is_fresh then v + 1 else v) ss)) ≡ true
+    relaxed_cases profile v s (λ e. all_true t (with_variables (e ∷ relaxed_from profile (if e.is_fresh then v + 1 else v) ss)) ≡ true
     → sum_by (cost_of t) (s ∷ ss) ≤ sum_by (given_up t) (e ∷ relaxed_from profile (if e.is_fresh then v + 1 else v) ss))
     (λ h.
     let e : Relaxed = record { literal = positive v; soft = s; is_fresh = true } in
-    let parts = and_parts (clause_value t (s.clause ++ positive v ∷ [])) (all_true t (with_literals (relaxed_from profile (v + 1) ss))) h in
+    let parts = and_parts (clause_value t (s.clause ++ positive v ∷ [])) (all_true t (with_variables (relaxed_from profile (v + 1) ss))) h in
     omega (
       arith,
       sum_by-cons (cost_of t) s ss,
@@ -99,11 +102,12 @@ cost_le t profile v (s ∷ ss) =
     ))
 
 -- where the relaxation literals are tight, their clauses hold and what is given up is the cost
-tight_clauses : (t : Assignment) (es : List Relaxed) → AllByRecursion (IsRelaxedTightly t) es → all_true t (with_literals es) ≡ true
+tight_clauses : (t : Assignment) (es : List Relaxed) → AllByRecursion (IsRelaxedTightly t) es
+    → all_true t (with_variables es) ≡ true
 tight_clauses t [] h = refl
 tight_clauses t (e ∷ es) h =
     elim e.is_fresh as (λ b. all_true t (map (λ e. (e.soft).clause ++ e.literal ∷ []) (if b then e ∷ filter (λ e. e.is_fresh) es else filter (λ e. e.is_fresh) es)) ≡ true) [
-      | true ↦ and_from (clause_value t ((e.soft).clause ++ e.literal ∷ [])) (all_true t (with_literals es)) (value_with t (e.soft).clause e.literal ∙ ap (λ b. clause_value t (e.soft).clause || b) h.0 ∙ either (clause_value t (e.soft).clause)) (tight_clauses t es h.1)
+      | true ↦ and_from (clause_value t ((e.soft).clause ++ e.literal ∷ [])) (all_true t (with_variables es)) (value_with t (e.soft).clause e.literal ∙ ap (λ b. clause_value t (e.soft).clause || b) h.0 ∙ either (clause_value t (e.soft).clause)) (tight_clauses t es h.1)
       | false ↦ tight_clauses t es h.1
     ]
   where
@@ -111,7 +115,8 @@ tight_clauses t (e ∷ es) h =
     either true = refl
     either false = refl
 
-tight_cost : (t : Assignment) (profile : Profile) (v : ℕ) (ss : List SoftClause) → AllByRecursion (IsRelaxedTightly t) (relaxed_from profile v ss)
+tight_cost : (t : Assignment) (profile : Profile) (v : ℕ) (ss : List SoftClause)
+    → AllByRecursion (IsRelaxedTightly t) (relaxed_from profile v ss)
     → sum_by (given_up t) (relaxed_from profile v ss) ≡ sum_by (cost_of t) ss
 tight_cost t profile v [] h = refl
 tight_cost t profile v (s ∷ ss) h =
@@ -124,12 +129,14 @@ tight_cost t profile v (s ∷ ss) h =
     turned true n = refl
     turned false n = refl
 
-soft_within : (n : ℕ) (profile : Profile) (v : ℕ) (ss : List SoftClause) → AreWithin n ss → AllByRecursion (λ e. greatest_variable (e.soft).clause ≤ n) (relaxed_from profile v ss)
+soft_within : (n : ℕ) (profile : Profile) (v : ℕ) (ss : List SoftClause) → AreWithin n ss
+    → AllByRecursion (λ e. greatest_variable (e.soft).clause ≤ n) (relaxed_from profile v ss)
 soft_within n profile v [] h = tt
 soft_within n profile v (s ∷ ss) h =
     (subst (λ x. greatest_variable x.clause ≤ n) (sym (relaxed_soft profile v s)) h.0, soft_within n profile (if (relaxed_one profile v s).is_fresh then v + 1 else v) ss h.1)
 
-tight_same : (n m : ℕ) (t u : Assignment) (es : List Relaxed) → n ≤ m → SameUpTo m t u → AreRelaxedBelow (m + 1) es → AllByRecursion (λ e. greatest_variable (e.soft).clause ≤ n) es
+tight_same : (n m : ℕ) (t u : Assignment) (es : List Relaxed) → n ≤ m → SameUpTo m t u
+    → AreRelaxedBelow (m + 1) es → AllByRecursion (λ e. greatest_variable (e.soft).clause ≤ n) es
     → AllByRecursion (IsRelaxedTightly t) es → AllByRecursion (IsRelaxedTightly u) es
 tight_same n m t u [] le same low within h = tt
 tight_same n m t u (e ∷ es) le same low within h = (
@@ -137,13 +144,15 @@ tight_same n m t u (e ∷ es) le same low within h = (
   tight_same n m t u es le same low.1 within.1 h.1,
 )
 
-cost_same : (n : ℕ) (t u : Assignment) (ss : List SoftClause) → SameUpTo n t u → AreWithin n ss → sum_by (cost_of u) ss ≡ sum_by (cost_of t) ss
+cost_same : (n : ℕ) (t u : Assignment) (ss : List SoftClause) → SameUpTo n t u → AreWithin n ss
+    → sum_by (cost_of u) ss ≡ sum_by (cost_of t) ss
 cost_same n t u [] same h = refl
 cost_same n t u (s ∷ ss) same h =
     let here : cost_of u s ≡ cost_of t s = ap (λ b. if b then 0 else s.weight) (clause_same t u s.clause (λ v k. same v (omega (arith, h.0)))) in
     sum_by-cons (cost_of u) s ss ∙ omega (arith, here, cost_same n t u ss same h.1, sum_by-cons (cost_of t) s ss)
 
-clauses_same : (n : ℕ) (t u : Assignment) (cs : List (List Literal)) → SameUpTo n t u → AllByRecursion (λ c. greatest_variable c ≤ n) cs → all_true u cs ≡ all_true t cs
+clauses_same : (n : ℕ) (t u : Assignment) (cs : List (List Literal)) → SameUpTo n t u
+    → AllByRecursion (λ c. greatest_variable c ≤ n) cs → all_true u cs ≡ all_true t cs
 clauses_same n t u [] same h = refl
 clauses_same n t u (c ∷ cs) same h = λ i. clause_same t u c (λ v k. same v (omega (arith, h.0))) i && clauses_same n t u cs same h.1 i
 
@@ -184,7 +193,8 @@ module _ (profile : Profile) (p : Problem) (k : ℕ) (small : total_weight p < 2
       )
 
 -- the law of `formula_as`, for each bound
-pub says_cheaper : (profile : Profile) (p : Problem) (k : ℕ) → IsInstance p → SaysCheaper profile p k
+pub says_cheaper : (profile : Profile) (p : Problem) (k : ℕ) → IsInstance p
+    → SaysCheaper profile p k
 says_cheaper profile p k h =
     let small : total_weight p < 2 ^ 63 = omega (arith, h.weight_sum) in
     let soft : AreWithin p.variables p.soft = recursion_from_All _ p.soft (All-weaker (λ (s : SoftClause). IsClauseWithin p.variables s.clause) (λ s. greatest_variable s.clause ≤ p.variables) (λ s w. w.2) p.soft h.soft_clauses) in

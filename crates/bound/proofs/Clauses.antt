@@ -15,13 +15,16 @@ use Rattle.bound.specs.Bound.{kept, hard_cnf}
 abbrev pub all_true : Assignment → List (List Literal) → Bool
 all_true t cs = list_all (clause_value t) cs
 
-pub all_true-from : (t : Assignment) (cs : List (List Literal)) → All (Satisfies t) cs → all_true t cs ≡ true
+pub all_true-from : (t : Assignment) (cs : List (List Literal)) → All (Satisfies t) cs
+    → all_true t cs ≡ true
 all_true-from t cs h = list_all-from_AllPass (clause_value t) cs h
 
-pub from_all_true : (t : Assignment) (cs : List (List Literal)) → all_true t cs ≡ true → All (Satisfies t) cs
+pub from_all_true : (t : Assignment) (cs : List (List Literal)) → all_true t cs ≡ true
+    → All (Satisfies t) cs
 from_all_true t cs h = AllPass-from_list_all (clause_value t) cs h
 
-pub value-no : (t : Assignment) (l : Literal) → literal_value t (negation l) ≡ not (literal_value t l)
+pub value-no : (t : Assignment) (l : Literal)
+    → literal_value t (negation l) ≡ not (literal_value t l)
 value-no t l = by l.negated (t l.variable)
   where
     by : (n v : Bool) → (if not n then not v else v) ≡ not (if n then not v else v)
@@ -30,7 +33,8 @@ value-no t l = by l.negated (t l.variable)
     by false true = refl
     by false false = refl
 
-pub value_member : (t : Assignment) (l : Literal) (c : List Literal) → contains_literal l c ≡ true → literal_value t l ≡ true → clause_value t c ≡ true
+pub value_member : (t : Assignment) (l : Literal) (c : List Literal) → contains_literal l c ≡ true
+    → literal_value t l ≡ true → clause_value t c ≡ true
 value_member t l [] h e = absurd (false≢true h)
 value_member t l (k ∷ c) h e =
     elim (or_cases (literal_eq l k) (contains_literal l c) h) [
@@ -43,7 +47,8 @@ value_member t l (k ∷ c) h e =
     or_true false = refl
 
 -- less a false literal, the clause has its value
-value-without : (t : Assignment) (l : Literal) (c : List Literal) → literal_value t l ≡ false → clause_value t (without_literal l c) ≡ clause_value t c
+value-without : (t : Assignment) (l : Literal) (c : List Literal) → literal_value t l ≡ false
+    → clause_value t (without_literal l c) ≡ clause_value t c
 value-without t l [] e = refl
 value-without t l (k ∷ c) e =
     elim (literal_eq l k) as (λ b. literal_eq l k ≡ b → clause_value t (if not b then k ∷ without_literal l c else without_literal l c) ≡ clause_value t (k ∷ c)) [
@@ -51,7 +56,8 @@ value-without t l (k ∷ c) e =
       | false ↦ λ h. ap (λ b. literal_value t k || b) (value-without t l c e)
     ] refl
 
-pub value-distinct : (t : Assignment) (c : List Literal) → clause_value t (distinct c) ≡ clause_value t c
+pub value-distinct : (t : Assignment) (c : List Literal)
+    → clause_value t (distinct c) ≡ clause_value t c
 value-distinct t [] = refl
 value-distinct t (l ∷ c) =
     elim (literal_value t l) as (λ b. literal_value t l ≡ b → (b || clause_value t (without_literal l (distinct c))) ≡ (b || clause_value t c)) [
@@ -60,7 +66,8 @@ value-distinct t (l ∷ c) =
     ] refl
 
 -- a clause with an opposite pair is true
-pub value_opposites : (t : Assignment) (c : List Literal) → has_opposites c ≡ true → clause_value t c ≡ true
+pub value_opposites : (t : Assignment) (c : List Literal) → has_opposites c ≡ true
+    → clause_value t c ≡ true
 value_opposites t [] h = absurd (false≢true h)
 value_opposites t (l ∷ c) h =
     elim (literal_value t l) as (λ b. literal_value t l ≡ b → (b || clause_value t c) ≡ true) [
@@ -71,7 +78,8 @@ value_opposites t (l ∷ c) h =
       ]
     ] refl
 
-pub all_true-kept : (t : Assignment) (cs : List (List Literal)) → all_true t (kept cs) ≡ all_true t cs
+pub all_true-kept : (t : Assignment) (cs : List (List Literal))
+    → all_true t (kept cs) ≡ all_true t cs
 all_true-kept t [] = refl
 all_true-kept t (c ∷ cs) =
     elim (has_opposites (distinct c)) as (λ b. has_opposites (distinct c) ≡ b → all_true t (if not b then distinct c ∷ kept cs else kept cs) ≡ all_true t (c ∷ cs)) [
@@ -85,14 +93,16 @@ and_comm true false = refl
 and_comm false true = refl
 and_comm false false = refl
 
-pub all_true-reverse : (t : Assignment) (cs : List (List Literal)) → all_true t (reverse cs) ≡ all_true t cs
+pub all_true-reverse : (t : Assignment) (cs : List (List Literal))
+    → all_true t (reverse cs) ≡ all_true t cs
 all_true-reverse t [] = refl
 all_true-reverse t (c ∷ cs) =
     ap (all_true t) (reverse_onto cs c []) ∙ list_all-append (clause_value t) (reverse cs) (c ∷ [])
     ∙ (λ i. all_true-reverse t cs i && and_comm (clause_value t c) true i) ∙ and_comm (all_true t cs) (clause_value t c)
 
 -- the law of `hard_formula`
-pub feasible : (p : Problem) (t : Assignment) → All (Satisfies t) (hard_cnf p).clauses ↔ IsFeasible p t
+pub feasible : (p : Problem) (t : Assignment)
+    → All (Satisfies t) (hard_cnf p).clauses ↔ IsFeasible p t
 feasible p t = (
   λ h. from_all_true t p.hard (sym (all_true-kept t p.hard) ∙ all_true-from t (kept p.hard) h),
   λ h. from_all_true t (kept p.hard) (all_true-kept t p.hard ∙ all_true-from t p.hard h),

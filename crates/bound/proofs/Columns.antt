@@ -14,8 +14,9 @@ pub record IsDownTo (outputs : List (Option Literal)) (limit j : ℕ) (old now :
   pub leads : above (drop j outputs) limit j ≡ Some clause
 
 -- past a column whose clause is missing none is added
-set_apart : (o : Option Literal) (outputs : List (Option Literal)) (limit j : ℕ) → above outputs limit (j + 1) ≡ None
-    → (above (o ∷ outputs) limit j ≡ None) × (rising_clauses (o ∷ outputs) limit j ≡ rising_clauses outputs limit (j + 1))
+set_apart : (o : Option Literal) (outputs : List (Option Literal)) (limit j : ℕ)
+    → above outputs limit (j + 1) ≡ None → (above (o ∷ outputs) limit j ≡ None)
+    × (rising_clauses (o ∷ outputs) limit j ≡ rising_clauses outputs limit (j + 1))
 set_apart o outputs limit j f =
     elim (bit limit j) as (λ b. bit limit j ≡ b → (above (o ∷ outputs) limit j ≡ None) × (rising_clauses (o ∷ outputs) limit j ≡ rising_clauses outputs limit (j + 1))) [
       | true ↦ λ e. (set o e, rw e refl)
@@ -30,8 +31,9 @@ set_apart o outputs limit j f =
     clear None e = rw e refl
     clear (Some v) e = rw (e, f) refl
 
-none_below : (front outputs : List (Option Literal)) (limit j n : ℕ) → n ≡ j + length front → above outputs limit n ≡ None
-    → (above (front ++ outputs) limit j ≡ None) × (rising_clauses (front ++ outputs) limit j ≡ rising_clauses outputs limit n)
+none_below : (front outputs : List (Option Literal)) (limit j n : ℕ) → n ≡ j + length front
+    → above outputs limit n ≡ None → (above (front ++ outputs) limit j ≡ None)
+    × (rising_clauses (front ++ outputs) limit j ≡ rising_clauses outputs limit n)
 none_below [] outputs limit j n e f =
     let same : n ≡ j = omega arith in
     (rw (← same) f, ap (rising_clauses outputs limit) (sym same))
@@ -40,13 +42,17 @@ none_below (o ∷ front) outputs limit j n e f =
     let here = set_apart o (front ++ outputs) limit j rest.0 in
     (here.0, here.1 ∙ rest.1)
 
-no_more : (outputs : List (Option Literal)) (limit j : ℕ) → j ≤ length outputs → above (drop j outputs) limit j ≡ None → rising_clauses outputs limit 0 ≡ rising_clauses (drop j outputs) limit j
+no_more : (outputs : List (Option Literal)) (limit j : ℕ) → j ≤ length outputs
+    → above (drop j outputs) limit j ≡ None
+    → rising_clauses outputs limit 0 ≡ rising_clauses (drop j outputs) limit j
 no_more outputs limit j le f =
     ap (λ os. rising_clauses os limit 0) (sym (take-append-drop j outputs))
     ∙ (none_below (take j outputs) (drop j outputs) limit 0 j (omega (arith, length-take-le j outputs le)) f).1
 
 -- the limit has a bit past the columns
-pub none_added : (outputs : List (Option Literal)) (limit : ℕ) (old : List (List Literal)) → (limit / 2 ^ length outputs ≡ 0 → ⊥) → old ≡ old ++ kept (reverse (rising_clauses outputs limit 0))
+pub none_added : (outputs : List (Option Literal)) (limit : ℕ) (old : List (List Literal))
+    → (limit / 2 ^ length outputs ≡ 0 → ⊥)
+    → old ≡ old ++ kept (reverse (rising_clauses outputs limit 0))
 none_added outputs limit old h =
     let n = length outputs in
     let past : drop n outputs ≡ [] = drop_all n outputs (omega arith) in
@@ -54,7 +60,9 @@ none_added outputs limit old h =
     let none : rising_clauses outputs limit 0 ≡ [] = no_more outputs limit n (omega arith) (rw past missing) ∙ ap (λ os. rising_clauses os limit n) past in
     sym (append-nil old) ∙ ap (λ cs. old ++ kept (reverse cs)) (sym none)
 
-pub starts : (outputs : List (Option Literal)) (limit n : ℕ) (old : List (List Literal)) (clause : List Literal) → n ≡ length outputs → limit / 2 ^ n ≡ 0 → clause ≡ [] → IsDownTo outputs limit n old old clause
+pub starts : (outputs : List (Option Literal)) (limit n : ℕ) (old : List (List Literal))
+    (clause : List Literal) → n ≡ length outputs → limit / 2 ^ n ≡ 0 → clause ≡ []
+    → IsDownTo outputs limit n old old clause
 starts outputs limit n old clause e h none =
     let past : drop n outputs ≡ [] = drop_all n outputs (omega arith) in
     let all : above [] limit n ≡ Some [] = ap (λ b. if b then Some [] else None) (eq-eqb (limit / 2 ^ n) 0 h) in
@@ -123,5 +131,7 @@ module _ (outputs : List (Option Literal)) (limit i j : ℕ) (old now : List (Li
       let all : rising_clauses outputs limit 0 ≡ rising_clauses (drop i outputs) limit i = no_more outputs limit i (omega arith) (ap (λ os. above os limit i) here ∙ missing) in
       added ∙ ap (λ cs. old ++ kept (reverse cs)) (sym (all ∙ ap (λ os. rising_clauses os limit i) here ∙ same))
 
-pub ends : (outputs : List (Option Literal)) (limit j : ℕ) (old now : List (List Literal)) (clause : List Literal) → j ≡ 0 → IsDownTo outputs limit j old now clause → now ≡ old ++ kept (reverse (rising_clauses outputs limit 0))
+pub ends : (outputs : List (Option Literal)) (limit j : ℕ) (old now : List (List Literal))
+    (clause : List Literal) → j ≡ 0 → IsDownTo outputs limit j old now clause
+    → now ≡ old ++ kept (reverse (rising_clauses outputs limit 0))
 ends outputs limit j old now clause e h = subst (λ n. now ≡ old ++ kept (reverse (rising_clauses (drop n outputs) limit n))) e h.added

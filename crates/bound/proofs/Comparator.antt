@@ -2,9 +2,10 @@
 use Rattle.std.proofs.Common.{◌≡◌, ℕ, zero, suc, ◌+◌, ◌*◌, ◌/◌, ◌^◌, ◌≤◌, Bool, true, false, not, ◌&&◌, ◌||◌, List, [], ◌∷◌, reverse, Option, Some, None, ◌==◌, nat_le, nat_lt, inl, inr, refl, sym, ◌∙◌, ap, arith}
 use Rattle.std.proofs.lemmas.Bool.{eqb-true, eq-eqb, false≢true, and_parts, and_from, leb-true, le-leb, lt-leb, leb-false, cases_lt, le-ltb}
 use Rattle.std.proofs.lemmas.Bool.Decides.{nat_tests}
+use Rattle.wcnf.specs.Numbers.{one_if}
 use Rattle.wcnf.specs.Literal.{Assignment, Literal, literal_value}
 use Rattle.wcnf.specs.Clause.{clause_value}
-use Rattle.adder.specs.Network.{bit, value_of, one_if}
+use Rattle.adder.specs.Network.{bit, value_of}
 use Rattle.adder.proofs.Laws.{digit}
 use Rattle.bound.specs.Bound.{no, above, rising_clauses, comparator_of}
 use Rattle.bound.proofs.Clauses.{all_true, value-no, all_true-kept, all_true-reverse}
@@ -18,7 +19,8 @@ abbrev pub output_true : Assignment → Option Literal → Bool
 output_true t None = false
 output_true t (Some v) = literal_value t v
 
-not_or : (t : Assignment) (v : Literal) (b : Bool) → not (literal_value t (no v) || b) ≡ (literal_value t v && not b)
+not_or : (t : Assignment) (v : Literal) (b : Bool)
+    → not (literal_value t (no v) || b) ≡ (literal_value t v && not b)
 not_or t v b = ap (λ n. not (n || b)) (value-no t v) ∙ by (literal_value t v)
   where
     by : (a : Bool) → not (not a || b) ≡ (a && not b)
@@ -29,7 +31,8 @@ and_false : (b : Bool) → false ≡ (b && false)
 and_false true = refl
 and_false false = refl
 
-falsified_set : (t : Assignment) (o : Option Literal) (outputs : List (Option Literal)) (limit j : ℕ) → bit limit j ≡ true
+falsified_set : (t : Assignment) (o : Option Literal) (outputs : List (Option Literal))
+    (limit j : ℕ) → bit limit j ≡ true
     → falsified t (above (o ∷ outputs) limit j) ≡ (output_true t o && falsified t (above outputs limit (j + 1)))
 falsified_set t None outputs limit j e = rw e refl
 falsified_set t (Some v) outputs limit j e =
@@ -38,11 +41,13 @@ falsified_set t (Some v) outputs limit j e =
       | Some c ↦ λ f. rw (e, f) (not_or t v (clause_value t c))
     ] refl
 
-falsified_clear : (t : Assignment) (o : Option Literal) (outputs : List (Option Literal)) (limit j : ℕ) → bit limit j ≡ false
+falsified_clear : (t : Assignment) (o : Option Literal) (outputs : List (Option Literal))
+    (limit j : ℕ) → bit limit j ≡ false
     → falsified t (above (o ∷ outputs) limit j) ≡ falsified t (above outputs limit (j + 1))
 falsified_clear t o outputs limit j e = rw e refl
 
-rising_set : (t : Assignment) (o : Option Literal) (outputs : List (Option Literal)) (limit j : ℕ) → bit limit j ≡ true
+rising_set : (t : Assignment) (o : Option Literal) (outputs : List (Option Literal)) (limit j : ℕ)
+    → bit limit j ≡ true
     → all_true t (rising_clauses (o ∷ outputs) limit j) ≡ all_true t (rising_clauses outputs limit (j + 1))
 rising_set t o outputs limit j e = rw e refl
 
@@ -60,7 +65,8 @@ rising_clear t (Some v) outputs limit j e =
     led true false = refl
     led false b = refl
 
-value-cons : (t : Assignment) (o : Option Literal) (outputs : List (Option Literal)) → value_of t (o ∷ outputs) ≡ one_if (output_true t o) + 2 * value_of t outputs
+value-cons : (t : Assignment) (o : Option Literal) (outputs : List (Option Literal))
+    → value_of t (o ∷ outputs) ≡ one_if (output_true t o) + 2 * value_of t outputs
 value-cons t None outputs = omega arith
 value-cons t (Some v) outputs = refl
 
@@ -69,7 +75,8 @@ pub record AboveSays (t : Assignment) (outputs : List (Option Literal)) (limit j
   pub to : falsified t (above outputs limit j) ≡ true → limit / 2 ^ j ≤ value_of t outputs
   pub from : value_of t outputs ≡ limit / 2 ^ j → falsified t (above outputs limit j) ≡ true
 
-pub above_says : (t : Assignment) (outputs : List (Option Literal)) (limit j : ℕ) → AboveSays t outputs limit j
+pub above_says : (t : Assignment) (outputs : List (Option Literal)) (limit j : ℕ)
+    → AboveSays t outputs limit j
 above_says t [] limit j =
     elim (limit / 2 ^ j == 0) as (λ b. (limit / 2 ^ j == 0) ≡ b → AboveSays t [] limit j) [
       | true ↦ λ e. record { to = λ h. omega (arith, eqb-true (limit / 2 ^ j) 0 e); from = λ h. rw e refl }
@@ -107,7 +114,8 @@ le_same a b c d f g =
       | false ↦ λ e. elim (cases_lt d c) [ inl h ↦ sym (lt-leb c d h) | inr h ↦ absurd (omega (arith, g h, leb-false a b e)) ]
     ] refl
 
-clear_step : (o f : Bool) (v m x y : ℕ) → (f ≡ true → m ≤ v) → (v ≡ m → f ≡ true) → x ≡ one_if o + 2 * v → y ≡ 2 * m → (not (o && f) && nat_le v m) ≡ nat_le x y
+clear_step : (o f : Bool) (v m x y : ℕ) → (f ≡ true → m ≤ v) → (v ≡ m → f ≡ true)
+    → x ≡ one_if o + 2 * v → y ≡ 2 * m → (not (o && f) && nat_le v m) ≡ nat_le x y
 clear_step false f v m x y to from e k = le_same v m x y (omega arith) (omega arith)
 clear_step true true v m x y to from e k = sym (lt-leb x y (omega (arith, to refl)))
 clear_step true false v m x y to from e k =
@@ -118,7 +126,8 @@ set_step : (o : Bool) (v m x y : ℕ) → x ≡ one_if o + 2 * v → y ≡ 1 + 2
 set_step true v m x y e k = le_same v m x y (omega arith) (omega arith)
 set_step false v m x y e k = le_same v m x y (omega arith) (omega arith)
 
-pub rising_true : (t : Assignment) (outputs : List (Option Literal)) (limit j : ℕ) → all_true t (rising_clauses outputs limit j) ≡ nat_le (value_of t outputs) (limit / 2 ^ j)
+pub rising_true : (t : Assignment) (outputs : List (Option Literal)) (limit j : ℕ)
+    → all_true t (rising_clauses outputs limit j) ≡ nat_le (value_of t outputs) (limit / 2 ^ j)
 rising_true t [] limit j = sym (le-leb 0 (limit / 2 ^ j) (omega arith))
 rising_true t (o ∷ outputs) limit j =
     elim (bit limit j) as (λ b. bit limit j ≡ b → all_true t (rising_clauses (o ∷ outputs) limit j) ≡ nat_le (value_of t (o ∷ outputs)) (limit / 2 ^ j)) [
@@ -133,7 +142,8 @@ up_to : (v m limit : ℕ) → m ≡ limit → nat_le v m ≡ nat_lt v (suc limit
 up_to v m limit e = grind (arith, nat_tests)
 
 -- the comparator holds exactly where the outputs are below the bound, for any outputs and any bound
-pub comparator_true : (t : Assignment) (outputs : List (Option Literal)) (k : ℕ) → all_true t (comparator_of outputs k) ≡ nat_lt (value_of t outputs) k
+pub comparator_true : (t : Assignment) (outputs : List (Option Literal)) (k : ℕ)
+    → all_true t (comparator_of outputs k) ≡ nat_lt (value_of t outputs) k
 comparator_true t outputs zero = sym (le-ltb (value_of t outputs) 0 (omega arith))
 comparator_true t outputs (suc limit) =
     all_true-kept t (reverse (rising_clauses outputs limit 0)) ∙ all_true-reverse t (rising_clauses outputs limit 0) ∙ rising_true t outputs limit 0 ∙ up_to (value_of t outputs) (limit / 1) limit (omega arith)

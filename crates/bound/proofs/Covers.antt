@@ -5,9 +5,10 @@ use Rattle.std.proofs.lemmas.Bool.{or_left, or_right, cases_eq, ne_eqb}
 use Rattle.std.proofs.lemmas.Nat.{shr-shr}
 use Rattle.std.proofs.lemmas.List.Elements.{All-from_recursion}
 use Rattle.std.proofs.lemmas.List.Folds.{list_any-append}
+use Rattle.wcnf.specs.Numbers.{one_if}
 use Rattle.wcnf.specs.Literal.{Literal}
 use Rattle.wcnf.specs.Clause.{is_subset}
-use Rattle.adder.specs.Network.{bit, one_if}
+use Rattle.adder.specs.Network.{bit}
 use Rattle.adder.proofs.Laws.{digit}
 use Rattle.bound.specs.Bound.{no, above, rising_clauses, comparator_of, IsCovered, CoversLarger}
 use Rattle.bound.proofs.Subsets.{covers, covers_more, subset_self, AreCovered, covered_kept}
@@ -16,17 +17,22 @@ rest_same : (m n j : ℕ) → m / 2 ^ j ≡ n / 2 ^ j → m / 2 ^ (j + 1) ≡ n 
 rest_same m n j e = sym (shr-shr m j 1) ∙ ap (λ x. x / 2 ^ 1) e ∙ shr-shr n j 1
 
 -- the same digits from j on have the same clause
-same_above : (outputs : List (Option Literal)) (m n j : ℕ) → m / 2 ^ j ≡ n / 2 ^ j → above outputs m j ≡ above outputs n j
+same_above : (outputs : List (Option Literal)) (m n j : ℕ) → m / 2 ^ j ≡ n / 2 ^ j
+    → above outputs m j ≡ above outputs n j
 same_above [] m n j e = ap (λ (x : ℕ). if x == 0 then Some [] else None) e
 same_above (o ∷ outputs) m n j e =
     let rest = same_above outputs m n (j + 1) (rest_same m n j e) in
     let first : bit m j ≡ bit n j = ap (λ x. x % 2 == 1) e in
     rw (first, rest) refl
 
-covers_rest : (o : Option Literal) (outputs : List (Option Literal)) (m j : ℕ) (c : List Literal) → covers (rising_clauses outputs m (j + 1)) c ≡ true → covers (rising_clauses (o ∷ outputs) m j) c ≡ true
+covers_rest : (o : Option Literal) (outputs : List (Option Literal)) (m j : ℕ) (c : List Literal)
+    → covers (rising_clauses outputs m (j + 1)) c ≡ true
+    → covers (rising_clauses (o ∷ outputs) m j) c ≡ true
 covers_rest o outputs m j c h = list_any-append (λ d. is_subset d c) _ (rising_clauses outputs m (j + 1)) ∙ or_right _ (covers (rising_clauses outputs m (j + 1)) c) h
 
-covers_here : (v : Literal) (outputs : List (Option Literal)) (m j : ℕ) (c : List Literal) → bit m j ≡ false → above outputs m (j + 1) ≡ Some c → covers (rising_clauses (Some v ∷ outputs) m j) (no v ∷ c) ≡ true
+covers_here : (v : Literal) (outputs : List (Option Literal)) (m j : ℕ) (c : List Literal)
+    → bit m j ≡ false → above outputs m (j + 1) ≡ Some c
+    → covers (rising_clauses (Some v ∷ outputs) m j) (no v ∷ c) ≡ true
 covers_here v outputs m j c e f = rw (e, f) (or_left (is_subset (no v ∷ c) (no v ∷ c)) (covers (rising_clauses outputs m (j + 1)) (no v ∷ c)) (subset_self (no v ∷ c)))
 
 -- what holds of the clauses of a rising list

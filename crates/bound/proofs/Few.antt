@@ -1,9 +1,8 @@
 -- How many clauses there are, and none without a bound.
-use Rattle.std.proofs.Common.{◌≡◌, ℕ, zero, suc, ◌+◌, ◌-◌, ◌*◌, ◌/◌, ◌%◌, ◌^◌, ◌<◌, ◌≤◌, Bool, true, false, not, List, [], ◌∷◌, ◌++◌, length, map, filter, reverse, Option, Some, None, refl, sym, ap, subst, arith}
+use Rattle.std.proofs.Common.{◌≡◌, ℕ, zero, suc, ◌+◌, ◌-◌, ◌*◌, ◌/◌, ◌%◌, ◌^◌, ◌<◌, ◌≤◌, true, false, not, List, [], ◌∷◌, ◌++◌, length, map, filter, reverse, Option, Some, None, refl, sym, ap, subst, arith}
 use Rattle.std.specs.List.{flat_map}
 use Rattle.std.proofs.lemmas.Bool.{eq-eqb}
 use Rattle.std.proofs.lemmas.List.{length-append, length-map, length-reverse}
-use Rattle.std.proofs.lemmas.List.Sums.{length-filter, count_by-le-length}
 use Rattle.std.proofs.lemmas.Nat.Bits.{bit_at_ones}
 use Rattle.wcnf.specs.Literal.{Literal}
 use Rattle.wcnf.specs.Clause.{distinct, has_opposites}
@@ -12,12 +11,8 @@ use Rattle.wcnf.specs.Instance.{IsInstance}
 use Rattle.adder.specs.declared.cells.Cell.{Cell}
 use Rattle.adder.specs.declared.cells.Profile.{Profile}
 use Rattle.adder.specs.Network.{Relaxed, bit, relaxed_as, adders_as}
-use Rattle.adder.proofs.Laws.{fresh_few}
-use Rattle.adder.proofs.Laws.{outputs_few, cells_few}
+use Rattle.adder.proofs.Laws.{filter_le, fresh_few, outputs_few, cells_few}
 use Rattle.bound.specs.Bound.{kept, hard_cnf, cell_clauses, relaxed_clauses, above, rising_clauses, comparator_of, comparator_for, bound_as}
-
-filter_le : {X : Type 0} (p : X → Bool) (xs : List X) → length (filter p xs) ≤ length xs
-filter_le p xs = subst (λ n. n ≤ length xs) (sym (length-filter p xs)) (count_by-le-length p xs)
 
 pub kept_le : (cs : List (List Literal)) → length (kept cs) ≤ length cs
 kept_le cs = subst (λ n. length (kept cs) ≤ n) (length-map cs distinct) (filter_le (λ c. not (has_opposites c)) (map distinct cs))
@@ -30,7 +25,8 @@ cells_le (cell ∷ cells) = omega (arith, length-append (cell_clauses cell) (fla
     by None = omega arith
     by (Some d) = omega arith
 
-rising_le : (outputs : List (Option Literal)) (limit j : ℕ) → length (rising_clauses outputs limit j) ≤ length outputs
+rising_le : (outputs : List (Option Literal)) (limit j : ℕ)
+    → length (rising_clauses outputs limit j) ≤ length outputs
 rising_le [] limit j = omega arith
 rising_le (o ∷ outputs) limit j =
     elim (bit limit j) as (λ b. bit limit j ≡ b → length (rising_clauses (o ∷ outputs) limit j) ≤ suc (length outputs)) [
@@ -46,14 +42,16 @@ rising_le (o ∷ outputs) limit j =
           | Some c ↦ λ f. rw (e, f) (omega (arith, rest))
         ] refl
 
-comparator_le : (outputs : List (Option Literal)) (k : ℕ) → length (comparator_of outputs k) ≤ 1 + length outputs
+comparator_le : (outputs : List (Option Literal)) (k : ℕ)
+    → length (comparator_of outputs k) ≤ 1 + length outputs
 comparator_le outputs zero = omega arith
 comparator_le outputs (suc limit) = omega (arith, kept_le (reverse (rising_clauses outputs limit 0)), length-reverse (rising_clauses outputs limit 0), rising_le outputs limit 0)
 
 pub hard_few : (p : Problem) → IsInstance p → length (hard_cnf p).clauses < 2 ^ 28
 hard_few p h = omega (arith, kept_le p.hard, h.hard_count)
 
-pub clauses_few : (profile : Profile) (p : Problem) (k : ℕ) → IsInstance p → length (bound_as profile p k).clauses < 2 ^ 28
+pub clauses_few : (profile : Profile) (p : Problem) (k : ℕ) → IsInstance p
+    → length (bound_as profile p k).clauses < 2 ^ 28
 clauses_few profile p k h =
     let hard = kept p.hard in
     let relaxed = kept (relaxed_clauses profile p) in
@@ -71,16 +69,19 @@ clauses_few profile p k h =
     room a b c d n m w h i j k l o e = omega arith
 
 -- a limit of ones has no clause
-rising_none : (w : ℕ) (outputs : List (Option Literal)) (j : ℕ) → j + length outputs ≤ w → rising_clauses outputs (2 ^ w - 1) j ≡ []
+rising_none : (w : ℕ) (outputs : List (Option Literal)) (j : ℕ) → j + length outputs ≤ w
+    → rising_clauses outputs (2 ^ w - 1) j ≡ []
 rising_none w [] j h = refl
 rising_none w (o ∷ outputs) j h =
     let e : bit (2 ^ w - 1) j ≡ true = eq-eqb ((2 ^ w - 1) / 2 ^ j % 2) 1 (bit_at_ones w j (omega arith)) in
     rw e (rising_none w outputs (j + 1) (omega arith))
 
-comparator_none : (outputs : List (Option Literal)) (limit k : ℕ) → k ≡ suc limit → rising_clauses outputs limit 0 ≡ [] → comparator_of outputs k ≡ []
+comparator_none : (outputs : List (Option Literal)) (limit k : ℕ) → k ≡ suc limit
+    → rising_clauses outputs limit 0 ≡ [] → comparator_of outputs k ≡ []
 comparator_none outputs limit k e h = subst (λ n. comparator_of outputs n ≡ []) (sym e) (ap (λ cs. kept (reverse cs)) h)
 
-pub without_bound : (profile : Profile) (p : Problem) → IsInstance p → comparator_for profile p (2 ^ 62) ≡ []
+pub without_bound : (profile : Profile) (p : Problem) → IsInstance p
+    → comparator_for profile p (2 ^ 62) ≡ []
 without_bound profile p h =
     let os = (adders_as profile p).outputs in
     comparator_none os (2 ^ 62 - 1) (2 ^ 62) refl (rising_none 62 os 0 (omega (arith, outputs_few profile p h.weight_sum)))

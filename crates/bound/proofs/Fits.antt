@@ -18,7 +18,8 @@ use Rattle.bound.specs.Bound.{no, kept, hard_cnf, cell_clauses, relaxed_clauses,
 use Rattle.bound.proofs.Subsets.{all_append, all_reverse}
 use Rattle.bound.proofs.Covers.{rising_each}
 
-absent-without : (l k : Literal) (c : List Literal) → contains_literal l c ≡ false → contains_literal l (without_literal k c) ≡ false
+absent-without : (l k : Literal) (c : List Literal) → contains_literal l c ≡ false
+    → contains_literal l (without_literal k c) ≡ false
 absent-without l k [] h = refl
 absent-without l k (x ∷ c) h =
     let parts = or_parts (literal_eq l x) (contains_literal l c) h in
@@ -35,7 +36,8 @@ absent_own l (x ∷ c) =
       | false ↦ λ e. or_from (literal_eq l x) (contains_literal l (without_literal l c)) e (absent_own l c)
     ] refl
 
-repeat-without : (k : Literal) (c : List Literal) → has_repeat c ≡ false → has_repeat (without_literal k c) ≡ false
+repeat-without : (k : Literal) (c : List Literal) → has_repeat c ≡ false
+    → has_repeat (without_literal k c) ≡ false
 repeat-without k [] h = refl
 repeat-without k (x ∷ c) h =
     let parts = or_parts (contains_literal x c) (has_repeat c) h in
@@ -55,7 +57,8 @@ IsVariable v n = (0 < n) × (n ≤ v)
 abbrev pub IsPlain : ℕ → List Literal → Type 0
 IsPlain v c = AreOf (IsVariable v) c
 
-plain-without : (v : ℕ) (k : Literal) (c : List Literal) → IsPlain v c → IsPlain v (without_literal k c)
+plain-without : (v : ℕ) (k : Literal) (c : List Literal) → IsPlain v c
+    → IsPlain v (without_literal k c)
 plain-without v k [] h = tt
 plain-without v k (x ∷ c) h =
     elim (literal_eq k x) as (λ b. IsPlain v (if not b then x ∷ without_literal k c else without_literal k c)) [
@@ -75,12 +78,14 @@ plain_positive : (v : ℕ) (c : List Literal) → IsPlain v c → AllByRecursion
 plain_positive v [] h = tt
 plain_positive v (l ∷ c) h = (h.0.0, plain_positive v c h.1)
 
-pub within_plain : (n v : ℕ) (c : List Literal) → n ≤ v → AllByRecursion (λ l. 0 < l.variable) c → greatest_variable c ≤ n → IsPlain v c
+pub within_plain : (n v : ℕ) (c : List Literal) → n ≤ v → AllByRecursion (λ l. 0 < l.variable) c
+    → greatest_variable c ≤ n → IsPlain v c
 within_plain n v [] le h g = tt
 within_plain n v (l ∷ c) le h g = ((h.0, omega arith), within_plain n v c le h.1 (omega arith))
 
 -- clauses of such variables are clauses of a formula, as they are kept
-pub kept_formula : (v : ℕ) (cs : List (List Literal)) → AllByRecursion (IsPlain v) cs → AllByRecursion (IsFormulaClause v) (kept cs)
+pub kept_formula : (v : ℕ) (cs : List (List Literal)) → AllByRecursion (IsPlain v) cs
+    → AllByRecursion (IsFormulaClause v) (kept cs)
 kept_formula v [] h = tt
 kept_formula v (c ∷ cs) h =
     elim (has_opposites (distinct c)) as (λ b. has_opposites (distinct c) ≡ b → AllByRecursion (IsFormulaClause v) (if not b then distinct c ∷ kept cs else kept cs)) [
@@ -98,7 +103,8 @@ kept_formula v (c ∷ cs) h =
     ] refl
 
 -- the clauses of a cell
-cell_plain : (v : ℕ) (cell : Cell) → IsCellWith (IsVariable v) cell → AllByRecursion (IsPlain v) (cell_clauses cell)
+cell_plain : (v : ℕ) (cell : Cell) → IsCellWith (IsVariable v) cell
+    → AllByRecursion (IsPlain v) (cell_clauses cell)
 cell_plain v cell h = by cell.third h.third
   where
     by : (o : Option Literal) → IsOutputOf (IsVariable v) o → AllByRecursion (IsPlain v) (cell_clauses (record cell { third = o }))
@@ -115,11 +121,13 @@ cell_plain v cell h = by cell.third h.third
         let c = h.carry in
         ((a, (b, (d, (s, tt)))), ((a, (b, (d, (s, tt)))), ((a, (b, (d, (s, tt)))), ((a, (b, (d, (s, tt)))), ((a, (b, (d, (s, tt)))), ((a, (b, (d, (s, tt)))), ((a, (b, (d, (s, tt)))), ((a, (b, (d, (s, tt)))), ((a, (b, (c, tt))), ((a, (d, (c, tt))), ((b, (d, (c, tt))), ((a, (b, (c, tt))), ((a, (d, (c, tt))), ((b, (d, (c, tt))), tt))))))))))))))
 
-cells_plain : (v : ℕ) (cells : List Cell) → AllByRecursion (IsCellWith (IsVariable v)) cells → AllByRecursion (IsPlain v) (flat_map cell_clauses cells)
+cells_plain : (v : ℕ) (cells : List Cell) → AllByRecursion (IsCellWith (IsVariable v)) cells
+    → AllByRecursion (IsPlain v) (flat_map cell_clauses cells)
 cells_plain v [] h = tt
 cells_plain v (cell ∷ cells) h = all_append (IsPlain v) (cell_clauses cell) (flat_map cell_clauses cells) (cell_plain v cell h.0) (cells_plain v cells h.1)
 
-relaxed_plain : (v : ℕ) (es : List Relaxed) → AllByRecursion (λ e. IsPlain v (e.soft).clause × IsVariable v (e.literal).variable) es
+relaxed_plain : (v : ℕ) (es : List Relaxed)
+    → AllByRecursion (λ e. IsPlain v (e.soft).clause × IsVariable v (e.literal).variable) es
     → AllByRecursion (IsPlain v) (map (λ e. (e.soft).clause ++ e.literal ∷ []) (filter (λ e. e.is_fresh) es))
 relaxed_plain v [] h = tt
 relaxed_plain v (e ∷ es) h =
@@ -134,7 +142,9 @@ no_clause c h = cc
 same_clause : (c d : List Literal) → Some c ≡ Some d → c ≡ d
 same_clause c d h = cc
 
-above_plain : (v : ℕ) (outputs : List (Option Literal)) (limit j : ℕ) (c : List Literal) → AllByRecursion (IsOutputOf (IsVariable v)) outputs → above outputs limit j ≡ Some c → IsPlain v c
+above_plain : (v : ℕ) (outputs : List (Option Literal)) (limit j : ℕ) (c : List Literal)
+    → AllByRecursion (IsOutputOf (IsVariable v)) outputs → above outputs limit j ≡ Some c
+    → IsPlain v c
 above_plain v [] limit j c h e =
     elim (limit / 2 ^ j == 0) as (λ b. (limit / 2 ^ j == 0) ≡ b → IsPlain v c) [
       | true ↦ λ f. subst (IsPlain v) (same_clause [] c (rw f at e)) tt
@@ -154,13 +164,17 @@ above_plain v (o ∷ outputs) limit j c h e =
           | Some d ↦ λ g. subst (IsPlain v) (same_clause (no l ∷ d) c (rw (f, g) at e)) (q, rest d g)
         ] refl
 
-rising_plain : (v : ℕ) (outputs : List (Option Literal)) (limit j : ℕ) → AllByRecursion (IsOutputOf (IsVariable v)) outputs → AllByRecursion (IsPlain v) (rising_clauses outputs limit j)
+rising_plain : (v : ℕ) (outputs : List (Option Literal)) (limit j : ℕ)
+    → AllByRecursion (IsOutputOf (IsVariable v)) outputs
+    → AllByRecursion (IsPlain v) (rising_clauses outputs limit j)
 rising_plain v [] limit j h = tt
 rising_plain v (o ∷ outputs) limit j h =
     rising_each (IsPlain v) o outputs limit j (λ e l c same f. (subst (IsOutputOf (IsVariable v)) same h.0, above_plain v outputs limit (j + 1) c h.1 f)) (rising_plain v outputs limit (j + 1) h.1)
 
 -- the comparator's clauses, where the outputs are such variables
-pub comparator_formula : (v : ℕ) (outputs : List (Option Literal)) (k : ℕ) → AllByRecursion (IsOutputOf (IsVariable v)) outputs → AllByRecursion (IsFormulaClause v) (comparator_of outputs k)
+pub comparator_formula : (v : ℕ) (outputs : List (Option Literal)) (k : ℕ)
+    → AllByRecursion (IsOutputOf (IsVariable v)) outputs
+    → AllByRecursion (IsFormulaClause v) (comparator_of outputs k)
 comparator_formula v outputs zero h = (record { no_repeat = refl; no_opposites = refl; from_one = λ i d l. absurd (omega arith); small = omega arith }, tt)
 comparator_formula v outputs (suc limit) h = kept_formula v (reverse (rising_clauses outputs limit 0)) (all_reverse (IsPlain v) (rising_clauses outputs limit 0) (rising_plain v outputs limit 0 h))
 
@@ -175,23 +189,32 @@ once_kept (c ∷ cs) =
       | false ↦ (repeat-distinct c, once_kept cs)
     ]
 
+pub kept_once : (cs : List (List Literal)) → All (λ c. has_repeat c ≡ false) (kept cs)
+kept_once cs = All-from_recursion IsOnce (kept cs) (once_kept cs)
+
 -- the comparator's clauses, whatever the outputs are
-pub comparator_once : (outputs : List (Option Literal)) (k : ℕ) → All (λ c. has_repeat c ≡ false) (comparator_of outputs k)
+pub comparator_once : (outputs : List (Option Literal)) (k : ℕ)
+    → All (λ c. has_repeat c ≡ false) (comparator_of outputs k)
 comparator_once outputs zero = All-from_recursion IsOnce ([] ∷ []) (refl, tt)
-comparator_once outputs (suc limit) = All-from_recursion IsOnce (kept (reverse (rising_clauses outputs limit 0))) (once_kept (reverse (rising_clauses outputs limit 0)))
+comparator_once outputs (suc limit) = kept_once (reverse (rising_clauses outputs limit 0))
 
 plain_of : (n v : ℕ) (c : List Literal) → n ≤ v → IsClauseWithin n c → IsPlain v c
 plain_of n v c le h = within_plain n v c le (recursion_from_All (λ l. 0 < l.variable) c h.1) h.2
 
-plain_each : (n v : ℕ) (cs : List (List Literal)) → n ≤ v → AllByRecursion (IsClauseWithin n) cs → AllByRecursion (IsPlain v) cs
+plain_each : (n v : ℕ) (cs : List (List Literal)) → n ≤ v → AllByRecursion (IsClauseWithin n) cs
+    → AllByRecursion (IsPlain v) cs
 plain_each n v [] le h = tt
 plain_each n v (c ∷ cs) le h = (plain_of n v c le h.0, plain_each n v cs le h.1)
 
-plain_soft : (n v : ℕ) (ss : List SoftClause) → n ≤ v → AllByRecursion (λ s. IsClauseWithin n s.clause) ss → AllByRecursion (λ s. IsPlain v s.clause) ss
+plain_soft : (n v : ℕ) (ss : List SoftClause) → n ≤ v
+    → AllByRecursion (λ s. IsClauseWithin n s.clause) ss
+    → AllByRecursion (λ s. IsPlain v s.clause) ss
 plain_soft n v [] le h = tt
 plain_soft n v (s ∷ ss) le h = (plain_of n v s.clause le h.0, plain_soft n v ss le h.1)
 
-literals_of : (v : ℕ) (es : List Relaxed) → AllByRecursion (λ e. IsPlain v (e.soft).clause × IsVariable v (e.literal).variable) es → AllByRecursion (λ e. IsVariable v (e.literal).variable) es
+literals_of : (v : ℕ) (es : List Relaxed)
+    → AllByRecursion (λ e. IsPlain v (e.soft).clause × IsVariable v (e.literal).variable) es
+    → AllByRecursion (λ e. IsVariable v (e.literal).variable) es
 literals_of v [] h = tt
 literals_of v (e ∷ es) h = (h.0.1, literals_of v es h.1)
 
@@ -203,7 +226,8 @@ hard_is_formula p h = record {
 }
 
 -- what `Formula::new` asks of the formula
-pub bound_is_formula : (profile : Profile) (p : Problem) (k : ℕ) → IsInstance p → IsFormula (bound_as profile p k)
+pub bound_is_formula : (profile : Profile) (p : Problem) (k : ℕ) → IsInstance p
+    → IsFormula (bound_as profile p k)
 bound_is_formula profile p k h =
     let n = p.variables in
     let m = relaxed_variables profile p in
@@ -223,7 +247,8 @@ bound_is_formula profile p k h =
     }
 
 -- the sums and the carries of the cells are variables
-pub cells_variables : (profile : Profile) (p : Problem) → IsInstance p → All HasVariables (adders_as profile p).cells
+pub cells_variables : (profile : Profile) (p : Problem) → IsInstance p
+    → All HasVariables (adders_as profile p).cells
 cells_variables profile p h =
     let n = p.variables in
     let m = relaxed_variables profile p in

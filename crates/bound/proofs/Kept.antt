@@ -9,12 +9,13 @@ use Rattle.wcnf.specs.Clause.{contains_literal, without_literal, distinct, has_r
 use Rattle.wcnf.specs.Instance.{IsClauseWithin}
 use Rattle.bound.specs.Bound.{kept}
 use Rattle.bound.specs.Adding.{Adds}
-use Rattle.bound.specs.Marks.{HasPlace}
-use Rattle.bound.proofs.Marking.{same_number}
+use Rattle.marks.specs.Marks.{HasPlace}
+use Rattle.bound.proofs.Opposites.{same_number}
 use Rattle.bound.proofs.Subsets.{contains-distinct}
 use Rattle.bound.proofs.Fits.{repeat-distinct}
 
-without_absent : (l : Literal) (c : List Literal) → contains_literal l c ≡ false → without_literal l c ≡ c
+without_absent : (l : Literal) (c : List Literal) → contains_literal l c ≡ false
+    → without_literal l c ≡ c
 without_absent l [] h = refl
 without_absent l (k ∷ c) h =
     let parts = or_parts (literal_eq l k) (contains_literal l c) h in
@@ -31,7 +32,8 @@ distinct_same (l ∷ c) h =
 abbrev kept_of : Bool → List Literal → List (List Literal)
 kept_of b c = if not b then c ∷ [] else []
 
-pub kept_one : (c : List Literal) (b : Bool) → has_repeat c ≡ false → b ≡ has_opposites c → kept (c ∷ []) ≡ (if b then [] else c ∷ [])
+pub kept_one : (c : List Literal) (b : Bool) → has_repeat c ≡ false → b ≡ has_opposites c
+    → kept (c ∷ []) ≡ (if b then [] else c ∷ [])
 kept_one c b h e =
     ap (λ x. if not (has_opposites x) then x ∷ [] else []) (distinct_same c h) ∙ ap (λ x. if not x then c ∷ [] else []) (sym e) ∙ by b
   where
@@ -48,19 +50,24 @@ kept-append (c ∷ cs) ds =
     ]
 
 -- one more clause is kept
-pub kept_more : (old cs : List (List Literal)) (i : ℕ) (c : List Literal) (now new : List (List Literal)) → i < length cs → c ≡ get_or cs i c → now ≡ old ++ kept (take i cs)
-    → new ≡ now ++ kept (c ∷ []) → new ≡ old ++ kept (take (i + 1) cs)
+pub kept_more : (old cs : List (List Literal)) (i : ℕ) (c : List Literal)
+    (now new : List (List Literal)) → i < length cs → c ≡ get_or cs i c
+    → now ≡ old ++ kept (take i cs) → new ≡ now ++ kept (c ∷ [])
+    → new ≡ old ++ kept (take (i + 1) cs)
 kept_more old cs i c now new h is inv e =
     let more : take (i + 1) cs ≡ take i cs ++ c ∷ [] = take_more cs i c h ∙ ap (λ x. take i cs ++ x ∷ []) (sym is) in
     e ∙ ap (λ x. x ++ kept (c ∷ [])) inv ∙ append_assoc old (kept (take i cs)) (kept (c ∷ []))
     ∙ ap (λ x. old ++ x) (sym (kept-append (take i cs) (c ∷ [])) ∙ ap kept (sym more))
 
-pub places_each : (vars rows : ℕ) (c : List Literal) → 2 * vars ≤ rows → AllByRecursion (λ l. 0 < l.variable) c → greatest_variable c ≤ vars → AllByRecursion (HasPlace rows) c
+pub places_each : (vars rows : ℕ) (c : List Literal) → 2 * vars ≤ rows
+    → AllByRecursion (λ l. 0 < l.variable) c → greatest_variable c ≤ vars
+    → AllByRecursion (HasPlace rows) c
 places_each vars rows [] h p g = tt
 places_each vars rows (l ∷ c) h p g = ((p.0, omega arith), places_each vars rows c h p.1 (omega arith))
 
 -- the literals of an instance's clause have places
-pub places_within : (vars rows : ℕ) (c : List Literal) → 2 * vars ≤ rows → IsClauseWithin vars c → All (HasPlace rows) c
+pub places_within : (vars rows : ℕ) (c : List Literal) → 2 * vars ≤ rows → IsClauseWithin vars c
+    → All (HasPlace rows) c
 places_within vars rows c h w = All-from_recursion (HasPlace rows) c (places_each vars rows c h (recursion_from_All (λ l. 0 < l.variable) c w.1) w.2)
 
 -- repeats may be dropped before
@@ -68,13 +75,16 @@ pub kept-distinct : (c once : List Literal) → once ≡ distinct c → kept (on
 kept-distinct c once e = ap (λ x. if not (has_opposites x) then x ∷ [] else []) (distinct_same once (rw e (repeat-distinct c)) ∙ e)
 
 -- a clause that has an opposite pair adds nothing, and another one itself
-pub kept_none : (old : List (List Literal)) (c : List Literal) → has_repeat c ≡ false → has_opposites c ≡ true → old ≡ old ++ kept (c ∷ [])
+pub kept_none : (old : List (List Literal)) (c : List Literal) → has_repeat c ≡ false
+    → has_opposites c ≡ true → old ≡ old ++ kept (c ∷ [])
 kept_none old c h e = sym (append-nil old) ∙ ap (λ x. old ++ x) (sym (kept_one c true h (sym e)))
 
-pub kept_itself : (old : List (List Literal)) (c : List Literal) → has_repeat c ≡ false → has_opposites c ≡ false → old ++ c ∷ [] ≡ old ++ kept (c ∷ [])
+pub kept_itself : (old : List (List Literal)) (c : List Literal) → has_repeat c ≡ false
+    → has_opposites c ≡ false → old ++ c ∷ [] ≡ old ++ kept (c ∷ [])
 kept_itself old c h e = ap (λ x. old ++ x) (sym (kept_one c false h (sym e)))
 
-without-more : (k : Literal) (c : List Literal) (l : Literal) (b : Bool) → literal_eq k l ≡ b → without_literal k (c ++ l ∷ []) ≡ without_literal k c ++ (if b then [] else l ∷ [])
+without-more : (k : Literal) (c : List Literal) (l : Literal) (b : Bool) → literal_eq k l ≡ b
+    → without_literal k (c ++ l ∷ []) ≡ without_literal k c ++ (if b then [] else l ∷ [])
 without-more k [] l b e = ap (λ x. if not x then l ∷ [] else []) e ∙ by b
   where
     by : (x : Bool) → (if not x then l ∷ [] else []) ≡ (if x then [] else l ∷ [])
@@ -96,7 +106,8 @@ same_literals k l = λ i. same_number k.variable l.variable i && by k.negated l.
     by false false = refl
 
 -- one more literal, at the end
-pub distinct-more : (c : List Literal) (l : Literal) → distinct (c ++ l ∷ []) ≡ (if contains_literal l c then distinct c else distinct c ++ l ∷ [])
+pub distinct-more : (c : List Literal) (l : Literal)
+    → distinct (c ++ l ∷ []) ≡ (if contains_literal l c then distinct c else distinct c ++ l ∷ [])
 distinct-more [] l = refl
 distinct-more (k ∷ c) l =
     ap (λ x. k ∷ without_literal k x) (distinct-more c l)
@@ -114,7 +125,9 @@ distinct-more (k ∷ c) l =
     unknown false = refl
 
 -- a step of the walk that drops repeats
-pub distinct_same_step : (once : List Literal) (lits : List Literal) (i : ℕ) (l : Literal) (b : Bool) → i < length lits → l ≡ get_or lits i l → once ≡ distinct (take i lits) → b ≡ contains_literal l once
+pub distinct_same_step : (once : List Literal) (lits : List Literal) (i : ℕ) (l : Literal)
+    (b : Bool) → i < length lits → l ≡ get_or lits i l → once ≡ distinct (take i lits)
+    → b ≡ contains_literal l once
     → distinct (take (i + 1) lits) ≡ (if b then once else once ++ l ∷ [])
 distinct_same_step once lits i l b h is inv e =
     let front = take i lits in
@@ -123,10 +136,12 @@ distinct_same_step once lits i l b h is inv e =
     ap distinct more ∙ distinct-more front l ∙ (λ j. if found j then sym inv j else sym inv j ++ l ∷ [])
 
 -- clauses are added, and then others
-pub adds_more : (a b c xs ys : List (List Literal)) → Adds a b xs → Adds b c ys → Adds a c (xs ++ ys)
+pub adds_more : (a b c xs ys : List (List Literal)) → Adds a b xs → Adds b c ys
+    → Adds a c (xs ++ ys)
 adds_more a b c xs ys p q = record {
   items = q.items ∙ ap (λ z. z ++ kept ys) p.items ∙ append_assoc a (kept xs) (kept ys) ∙ ap (λ z. a ++ z) (sym (kept-append xs ys));
 }
 
-pub adds_one : (a b : List (List Literal)) (c : List Literal) → b ≡ a ++ kept (c ∷ []) → Adds a b (c ∷ [])
+pub adds_one : (a b : List (List Literal)) (c : List Literal) → b ≡ a ++ kept (c ∷ [])
+    → Adds a b (c ∷ [])
 adds_one a b c e = record { items = e }

@@ -6,7 +6,7 @@ mod Subsets
 mod Covers
 mod Few
 mod Fits
-mod Marking
+mod Opposites
 mod Kept
 mod Rows
 mod Columns

@@ -13,7 +13,8 @@ use Rattle.bound.specs.Bound.{dimacs_clause}
 abbrev pub literals_text : List Literal → List ℕ
 literals_text c = flat_map (λ l. literal_text l ++ 32 ∷ []) c
 
-flat_map-map : (c : List Literal) → flat_map (λ t. t ++ 32 ∷ []) (map literal_text c) ≡ literals_text c
+flat_map-map : (c : List Literal)
+    → flat_map (λ t. t ++ 32 ∷ []) (map literal_text c) ≡ literals_text c
 flat_map-map [] = refl
 flat_map-map (l ∷ c) = ap (λ z. (literal_text l ++ 32 ∷ []) ++ z) (flat_map-map c)
 
@@ -40,10 +41,13 @@ module _ (a b c : Option (List ℕ)) (h j k : List ℕ) (lits : List Literal) (i
 abbrev pub header_text : ℕ → ℕ → List ℕ
 header_text v n = codes "p cnf " ++ (decimal v ++ ((32 ∷ []) ++ (decimal n ++ 10 ∷ [])))
 
-pub name_fault : (a b : Option (List ℕ)) (h : List ℕ) (v n : ℕ) → AppendsPart a b (h ++ codes "p cnf ") → AppendsPart a b (h ++ header_text v n)
+pub name_fault : (a b : Option (List ℕ)) (h : List ℕ) (v n : ℕ)
+    → AppendsPart a b (h ++ codes "p cnf ") → AppendsPart a b (h ++ header_text v n)
 name_fault a b h v n q = first_fault a b h (codes "p cnf ") (decimal v ++ ((32 ∷ []) ++ (decimal n ++ 10 ∷ []))) (header_text v n) q refl
 
-pub variables_fault : (a b c : Option (List ℕ)) (h i : List ℕ) (v n : ℕ) → PassesOn a h (codes "p cnf ") b i → AppendsPart b c (i ++ decimal v) → AppendsPart a c (h ++ header_text v n)
+pub variables_fault : (a b c : Option (List ℕ)) (h i : List ℕ) (v n : ℕ)
+    → PassesOn a h (codes "p cnf ") b i → AppendsPart b c (i ++ decimal v)
+    → AppendsPart a c (h ++ header_text v n)
 variables_fault a b c h i v n p q =
     let rest = (32 ∷ []) ++ (decimal n ++ 10 ∷ []) in
     passed_part-more a b c h i (codes "p cnf ") (decimal v ++ rest) p (first_fault b c i (decimal v) rest (decimal v ++ rest) q refl)
@@ -52,23 +56,29 @@ variables_fault a b c h i v n p q =
 abbrev pub PutsVariables : Option (List ℕ) → List ℕ → ℕ → Option (List ℕ) → List ℕ → Type 0
 PutsVariables a h v b i = PassesOn a h (codes "p cnf " ++ decimal v) b i
 
-pub between_fault : (a b c : Option (List ℕ)) (h i : List ℕ) (v n : ℕ) → PutsVariables a h v b i → AppendsPart b c (i ++ 32 ∷ []) → AppendsPart a c (h ++ header_text v n)
+pub between_fault : (a b c : Option (List ℕ)) (h i : List ℕ) (v n : ℕ) → PutsVariables a h v b i
+    → AppendsPart b c (i ++ 32 ∷ []) → AppendsPart a c (h ++ header_text v n)
 between_fault a b c h i v n p q =
     let rest = decimal n ++ 10 ∷ [] in
     passed_part-more a b c h i (codes "p cnf " ++ decimal v) ((32 ∷ []) ++ rest) p (first_fault b c i (32 ∷ []) rest ((32 ∷ []) ++ rest) q refl)
 
-pub count_fault : (a b c d : Option (List ℕ)) (h i j : List ℕ) (v n : ℕ) → PutsVariables a h v b i → PassesOn b i (32 ∷ []) c j → AppendsPart c d (j ++ decimal n) → AppendsPart a d (h ++ header_text v n)
+pub count_fault : (a b c d : Option (List ℕ)) (h i j : List ℕ) (v n : ℕ) → PutsVariables a h v b i
+    → PassesOn b i (32 ∷ []) c j → AppendsPart c d (j ++ decimal n)
+    → AppendsPart a d (h ++ header_text v n)
 count_fault a b c d h i j v n p q r =
     let rest = decimal n ++ 10 ∷ [] in
     passed_part-more a b d h i (codes "p cnf " ++ decimal v) ((32 ∷ []) ++ rest) p (passed_part-more b c d i j (32 ∷ []) rest q (first_fault c d j (decimal n) (10 ∷ []) rest r refl))
 
-pub header_end : (a b c d e : Option (List ℕ)) (h i j k l : List ℕ) (v n : ℕ) → PutsVariables a h v b i → PassesOn b i (32 ∷ []) c j → PassesOn c j (decimal n) d k → PassesOn d k (10 ∷ []) e l → PassesOn a h (header_text v n) e l
+pub header_end : (a b c d e : Option (List ℕ)) (h i j k l : List ℕ) (v n : ℕ)
+    → PutsVariables a h v b i → PassesOn b i (32 ∷ []) c j → PassesOn c j (decimal n) d k
+    → PassesOn d k (10 ∷ []) e l → PassesOn a h (header_text v n) e l
 header_end a b c d e h i j k l v n p q r s =
     passed-more a b e h i l (codes "p cnf " ++ decimal v) ((32 ∷ []) ++ (decimal n ++ 10 ∷ [])) p
     (passed-more b c e i j l (32 ∷ []) (decimal n ++ 10 ∷ []) q (passed-more c d e j k l (decimal n) (10 ∷ []) r s))
 
-pub header_fault : (a b c d e : Option (List ℕ)) (h i j k : List ℕ) (v n : ℕ) → PutsVariables a h v b i → PassesOn b i (32 ∷ []) c j → PassesOn c j (decimal n) d k → AppendsPart d e (k ++ 10 ∷ [])
-    → AppendsPart a e (h ++ header_text v n)
+pub header_fault : (a b c d e : Option (List ℕ)) (h i j k : List ℕ) (v n : ℕ)
+    → PutsVariables a h v b i → PassesOn b i (32 ∷ []) c j → PassesOn c j (decimal n) d k
+    → AppendsPart d e (k ++ 10 ∷ []) → AppendsPart a e (h ++ header_text v n)
 header_fault a b c d e h i j k v n p q r s =
     passed_part-more a b e h i (codes "p cnf " ++ decimal v) ((32 ∷ []) ++ (decimal n ++ 10 ∷ [])) p
     (passed_part-more b c e i j (32 ∷ []) (decimal n ++ 10 ∷ []) q (passed_part-more c d e j k (decimal n) (10 ∷ []) r s))

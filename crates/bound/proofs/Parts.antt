@@ -10,9 +10,12 @@ use Rattle.adder.specs.Network.{relaxed_variables, adders_as}
 use Rattle.bound.specs.Bound.{kept, cell_clauses, relaxed_clauses, comparator_of, bound_as}
 use Rattle.bound.specs.Adding.{Adds}
 
-pub formula_parts : (profile : Profile) (p : Problem) (k last : ℕ) (a b c d : List (List Literal)) (cells : List Cell) (outputs : List (Option Literal))
-    → a ≡ [] → b ≡ a ++ (kept p.hard ++ kept (relaxed_clauses profile p)) → Adds b c (flat_map cell_clauses cells) → d ≡ c ++ comparator_of outputs k
-    → last ≡ relaxed_variables profile p → cells ≡ (adders_as profile p).cells → outputs ≡ (adders_as profile p).outputs
+pub formula_parts : (profile : Profile) (p : Problem) (k last : ℕ) (a b c d : List (List Literal))
+    (cells : List Cell) (outputs : List (Option Literal)) → a ≡ []
+    → b ≡ a ++ (kept p.hard ++ kept (relaxed_clauses profile p))
+    → Adds b c (flat_map cell_clauses cells) → d ≡ c ++ comparator_of outputs k
+    → last ≡ relaxed_variables profile p → cells ≡ (adders_as profile p).cells
+    → outputs ≡ (adders_as profile p).outputs
     → (let f : Cnf = record { variables = last + 2 * length cells; clauses = d } in f ≡ bound_as profile p k)
 formula_parts profile p k last a b c d cells outputs none given added compared counted same ends =
     let items : d ≡ kept p.hard ++ kept (relaxed_clauses profile p) ++ kept (flat_map cell_clauses cells) ++ comparator_of outputs k =

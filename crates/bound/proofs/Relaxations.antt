@@ -4,16 +4,16 @@ use Rattle.std.proofs.lemmas.Bool.{ne_eqb, or_from, or_parts, false≢true}
 use Rattle.std.proofs.lemmas.List.{take_more, length-append}
 use Rattle.std.proofs.lemmas.List.Folds.{list_any-append}
 use Rattle.std.proofs.lemmas.List.Elements.{All-from_recursion, recursion_from_All}
-use Rattle.wcnf.specs.Literal.{Literal, literal_eq, same_bool}
+use Rattle.wcnf.specs.Literal.{Literal, literal_eq, same_bool, positive}
 use Rattle.wcnf.specs.Clause.{contains_literal, has_repeat, greatest_variable}
 use Rattle.wcnf.specs.Problem.{SoftClause}
 use Rattle.wcnf.specs.Instance.{IsClauseWithin}
 use Rattle.adder.specs.declared.cells.Profile.{Profile}
 use Rattle.adder.specs.declared.cells.Profile.TheVariants.{One, Two, Three}
-use Rattle.adder.specs.Network.{Relaxed, relaxed_one, relaxed_from, positive}
+use Rattle.adder.specs.Network.{Relaxed, relaxed_one, relaxed_from}
 use Rattle.adder.proofs.Laws.{relaxed_cases}
 use Rattle.bound.specs.Bound.{kept}
-use Rattle.bound.specs.Marks.{HasPlace}
+use Rattle.marks.specs.Marks.{HasPlace}
 use Rattle.bound.specs.Adding.{gets_variable}
 use Rattle.bound.proofs.Subsets.{all_append}
 use Rattle.bound.proofs.Kept.{kept-append, places_each, same_literals}
@@ -25,7 +25,8 @@ with_variables es = map (λ e. (e.soft).clause ++ e.literal ∷ []) (filter (λ 
 abbrev pub fresh_count : List Relaxed → ℕ
 fresh_count es = length (filter (λ e. e.is_fresh) es)
 
-is_fresh-gets : (profile : Profile) (v : ℕ) (s : SoftClause) → (relaxed_one profile v s).is_fresh ≡ gets_variable profile s.clause
+is_fresh-gets : (profile : Profile) (v : ℕ) (s : SoftClause)
+    → (relaxed_one profile v s).is_fresh ≡ gets_variable profile s.clause
 is_fresh-gets One v s = refl
 is_fresh-gets Three v s = refl
 is_fresh-gets Two v s = by s.weight s.clause
@@ -36,7 +37,8 @@ is_fresh-gets Two v s = by s.weight s.clause
     by w (l ∷ k ∷ c) = ap not (sym (ne_eqb (suc (suc (length c))) 1 (λ e. absurd (omega arith))))
 
 -- one more soft clause, at the end
-relaxed_from-more : (profile : Profile) (v : ℕ) (ss : List SoftClause) (s : SoftClause) → relaxed_from profile v (ss ++ s ∷ []) ≡ relaxed_from profile v ss ++ relaxed_one profile (v + fresh_count (relaxed_from profile v ss)) s ∷ []
+relaxed_from-more : (profile : Profile) (v : ℕ) (ss : List SoftClause) (s : SoftClause)
+    → relaxed_from profile v (ss ++ s ∷ []) ≡ relaxed_from profile v ss ++ relaxed_one profile (v + fresh_count (relaxed_from profile v ss)) s ∷ []
 relaxed_from-more profile v [] s = ap (λ n. relaxed_one profile n s ∷ []) (omega arith)
 relaxed_from-more profile v (r ∷ ss) s =
     let first = relaxed_one profile v r in
@@ -49,7 +51,8 @@ relaxed_from-more profile v (r ∷ ss) s =
       | false ↦ ap (λ x. first ∷ x) (relaxed_from-more profile v ss s)
     ]
 
-filter-more : (es : List Relaxed) (e : Relaxed) → filter (λ e. e.is_fresh) (es ++ e ∷ []) ≡ filter (λ e. e.is_fresh) es ++ (if e.is_fresh then e ∷ [] else [])
+filter-more : (es : List Relaxed) (e : Relaxed)
+    → filter (λ e. e.is_fresh) (es ++ e ∷ []) ≡ filter (λ e. e.is_fresh) es ++ (if e.is_fresh then e ∷ [] else [])
 filter-more [] e = refl
 filter-more (d ∷ es) e =
     elim d.is_fresh as (λ b. (if b then d ∷ filter (λ e. e.is_fresh) (es ++ e ∷ []) else filter (λ e. e.is_fresh) (es ++ e ∷ [])) ≡ (if b then d ∷ filter (λ e. e.is_fresh) es else filter (λ e. e.is_fresh) es) ++ (if e.is_fresh then e ∷ [] else [])) [
@@ -63,21 +66,26 @@ pub record IsRelaxedTo (profile : Profile) (vars : ℕ) (ss : List SoftClause) (
   pub counted : last ≡ vars + fresh_count (relaxed_from profile (vars + 1) ss)
   pub few : last ≤ vars + length ss
 
-fresh_literal : (profile : Profile) (v : ℕ) (s : SoftClause) → (relaxed_one profile v s).is_fresh ≡ true → ((relaxed_one profile v s).literal ≡ positive v) × ((relaxed_one profile v s).soft ≡ s)
+fresh_literal : (profile : Profile) (v : ℕ) (s : SoftClause)
+    → (relaxed_one profile v s).is_fresh ≡ true
+    → ((relaxed_one profile v s).literal ≡ positive v) × ((relaxed_one profile v s).soft ≡ s)
 fresh_literal profile v s = relaxed_cases profile v s (λ e. e.is_fresh ≡ true → (e.literal ≡ positive v) × (e.soft ≡ s)) (λ h. (refl, refl)) (λ l same h. absurd (false≢true h))
 
 abbrev with_literal : Relaxed → List Literal
 with_literal e = (e.soft).clause ++ e.literal ∷ []
 
-map-more : (es : List Relaxed) (b : Bool) (e : Relaxed) → map with_literal (es ++ (if b then e ∷ [] else [])) ≡ map with_literal es ++ (if b then with_literal e ∷ [] else [])
+map-more : (es : List Relaxed) (b : Bool) (e : Relaxed)
+    → map with_literal (es ++ (if b then e ∷ [] else [])) ≡ map with_literal es ++ (if b then with_literal e ∷ [] else [])
 map-more [] true e = refl
 map-more [] false e = refl
 map-more (d ∷ es) b e = ap (λ x. with_literal d ∷ x) (map-more es b e)
 
-variables-more : (es : List Relaxed) (e : Relaxed) (b : Bool) → e.is_fresh ≡ b → with_variables (es ++ e ∷ []) ≡ with_variables es ++ (if b then with_literal e ∷ [] else [])
+variables-more : (es : List Relaxed) (e : Relaxed) (b : Bool) → e.is_fresh ≡ b
+    → with_variables (es ++ e ∷ []) ≡ with_variables es ++ (if b then with_literal e ∷ [] else [])
 variables-more es e b h = ap (map with_literal) (filter-more es e ∙ ap (λ x. filter (λ e. e.is_fresh) es ++ (if x then e ∷ [] else [])) h) ∙ map-more (filter (λ e. e.is_fresh) es) b e
 
-count-more : (es : List Relaxed) (e : Relaxed) (b : Bool) → e.is_fresh ≡ b → fresh_count (es ++ e ∷ []) ≡ fresh_count es + (if b then 1 else 0)
+count-more : (es : List Relaxed) (e : Relaxed) (b : Bool) → e.is_fresh ≡ b
+    → fresh_count (es ++ e ∷ []) ≡ fresh_count es + (if b then 1 else 0)
 count-more es e b h =
     ap length (filter-more es e ∙ ap (λ x. filter (λ e. e.is_fresh) es ++ (if x then e ∷ [] else [])) h)
     ∙ length-append (filter (λ e. e.is_fresh) es) (if b then e ∷ [] else []) ∙ ap (λ n. fresh_count es + n) (by b)
@@ -121,14 +129,16 @@ module _ (profile : Profile) (vars : ℕ) (ss : List SoftClause) (s : SoftClause
       }
 
 -- the clause with its new variable
-absent_above : (l : Literal) (c : List Literal) → greatest_variable c < l.variable → contains_literal l c ≡ false
+absent_above : (l : Literal) (c : List Literal) → greatest_variable c < l.variable
+    → contains_literal l c ≡ false
 absent_above l [] h = refl
 absent_above l (k ∷ c) h =
     or_from (literal_eq l k) (contains_literal l c)
     (ap (λ b. b && same_bool l.negated k.negated) (ne_eqb l.variable k.variable (λ e. absurd (omega arith))))
     (absent_above l c (omega arith))
 
-repeat-more : (c : List Literal) (l : Literal) → has_repeat c ≡ false → contains_literal l c ≡ false → has_repeat (c ++ l ∷ []) ≡ false
+repeat-more : (c : List Literal) (l : Literal) → has_repeat c ≡ false → contains_literal l c ≡ false
+    → has_repeat (c ++ l ∷ []) ≡ false
 repeat-more [] l h a = refl
 repeat-more (k ∷ c) l h a =
     let parts = or_parts (contains_literal k c) (has_repeat c) h in
@@ -137,17 +147,22 @@ repeat-more (k ∷ c) l h a =
     list_any-append (literal_eq k) c (l ∷ []) ∙ or_from (contains_literal k c) (literal_eq k l || false) parts.0 (or_from (literal_eq k l) false (same_literals k l ∙ apart.0) refl) in
     or_from (contains_literal k (c ++ l ∷ [])) (has_repeat (c ++ l ∷ [])) here (repeat-more c l parts.1 apart.1)
 
-pub relaxed_no_repeat : (c : List Literal) (vars v : ℕ) → has_repeat c ≡ false → IsClauseWithin vars c → vars < v → has_repeat (c ++ positive v ∷ []) ≡ false
+pub relaxed_no_repeat : (c : List Literal) (vars v : ℕ) → has_repeat c ≡ false
+    → IsClauseWithin vars c → vars < v → has_repeat (c ++ positive v ∷ []) ≡ false
 relaxed_no_repeat c vars v h w lt = repeat-more c (positive v) h (absent_above (positive v) c (omega (arith, w.2)))
 
-pub relaxed_places : (c : List Literal) (vars v rows : ℕ) → IsClauseWithin vars c → vars < v → 2 * v ≤ rows → All (HasPlace rows) (c ++ positive v ∷ [])
+pub relaxed_places : (c : List Literal) (vars v rows : ℕ) → IsClauseWithin vars c → vars < v
+    → 2 * v ≤ rows → All (HasPlace rows) (c ++ positive v ∷ [])
 relaxed_places c vars v rows w lt room =
     All-from_recursion (HasPlace rows) (c ++ positive v ∷ [])
     (all_append (HasPlace rows) c (positive v ∷ []) (places_each vars rows c (omega arith) (recursion_from_All (λ l. 0 < l.variable) c w.1) w.2) ((omega arith, room), tt))
 
 -- the instance's soft clauses, by their places
-pub soft_within : (vars : ℕ) (ss : List SoftClause) (i : ℕ) (s : SoftClause) → All (λ s. IsClauseWithin vars s.clause) ss → i < length ss → s ≡ get_or ss i s → IsClauseWithin vars s.clause
+pub soft_within : (vars : ℕ) (ss : List SoftClause) (i : ℕ) (s : SoftClause)
+    → All (λ s. IsClauseWithin vars s.clause) ss → i < length ss → s ≡ get_or ss i s
+    → IsClauseWithin vars s.clause
 soft_within vars ss i s all lt is = subst (λ x. IsClauseWithin vars x.clause) (sym is) (all i s lt)
 
-pub soft_more : (ss : List SoftClause) (i : ℕ) (s : SoftClause) → i < length ss → s ≡ get_or ss i s → take (i + 1) ss ≡ take i ss ++ s ∷ []
+pub soft_more : (ss : List SoftClause) (i : ℕ) (s : SoftClause) → i < length ss → s ≡ get_or ss i s
+    → take (i + 1) ss ≡ take i ss ++ s ∷ []
 soft_more ss i s lt is = take_more ss i s lt ∙ ap (λ x. take i ss ++ x ∷ []) (sym is)

@@ -61,17 +61,21 @@ pub lines-append : (cs ds : List (List Literal)) → lines_of (cs ++ ds) ≡ lin
 lines-append cs ds = flat_map-append dimacs_clause cs ds
 
 -- of the hard clauses that are left, the first is kept exactly where it has no opposite pair
-pub kept_first : (c : List Literal) (cs : List (List Literal)) → has_repeat c ≡ false → has_opposites c ≡ false → kept (c ∷ cs) ≡ c ∷ kept cs
+pub kept_first : (c : List Literal) (cs : List (List Literal)) → has_repeat c ≡ false
+    → has_opposites c ≡ false → kept (c ∷ cs) ≡ c ∷ kept cs
 kept_first c cs h e = kept-append (c ∷ []) cs ∙ ap (λ x. x ++ kept cs) (kept_one c false h (sym e))
 
-pub kept_not_first : (c : List Literal) (cs : List (List Literal)) → has_repeat c ≡ false → has_opposites c ≡ true → kept (c ∷ cs) ≡ kept cs
+pub kept_not_first : (c : List Literal) (cs : List (List Literal)) → has_repeat c ≡ false
+    → has_opposites c ≡ true → kept (c ∷ cs) ≡ kept cs
 kept_not_first c cs h e = kept-append (c ∷ []) cs ∙ ap (λ x. x ++ kept cs) (kept_one c true h (sym e))
 
 -- the clauses of the cells from one on
 abbrev pub cells_kept : List Cell → List (List Literal)
 cells_kept cells = kept (flat_map cell_clauses cells)
 
-pub cells_from : (cells : List Cell) (i : ℕ) (cell : Cell) → i < length cells → cell ≡ get_or cells i cell → cells_kept (drop i cells) ≡ kept (cell_clauses cell) ++ cells_kept (drop (i + 1) cells)
+pub cells_from : (cells : List Cell) (i : ℕ) (cell : Cell) → i < length cells
+    → cell ≡ get_or cells i cell
+    → cells_kept (drop i cells) ≡ kept (cell_clauses cell) ++ cells_kept (drop (i + 1) cells)
 cells_from cells i cell lt is =
     ap cells_kept (drop_more cells i cell lt ∙ ap (λ z. z ∷ drop (i + 1) cells) (sym is)) ∙ kept-append (cell_clauses cell) (flat_map cell_clauses (drop (i + 1) cells))
 
@@ -92,28 +96,33 @@ module _ (f : Cnf) (v n : ℕ) (h r x m : List (List Literal)) (ev : v ≡ f.var
   parts_left a held = same_left a a held (dimacs_text f) held (dimacs_text f) parts_text text_parts (none_put a held (dimacs_text f))
 
 -- the text of a formula that is there
-pub dimacs_left : (f : Cnf) (v n : ℕ) (cs : List (List Literal)) → v ≡ f.variables → n ≡ length f.clauses → cs ≡ f.clauses
-    → (a : Option (List ℕ)) (held : List ℕ) → IsPutUpTo a held (dimacs_text f) (header_line v n ++ (lines_of cs ++ [])) a held
+pub dimacs_left : (f : Cnf) (v n : ℕ) (cs : List (List Literal)) → v ≡ f.variables
+    → n ≡ length f.clauses → cs ≡ f.clauses → (a : Option (List ℕ)) (held : List ℕ)
+    → IsPutUpTo a held (dimacs_text f) (header_line v n ++ (lines_of cs ++ [])) a held
 dimacs_left f v n cs ev en ec a held =
     let e : dimacs_text f ≡ header_line v n ++ (lines_of cs ++ []) =
     (λ i. header_line (sym ev i) (sym en i) ++ lines_of (sym ec i)) ∙ ap (λ z. header_line v n ++ z) (sym (append-nil (lines_of cs))) in
     same_left a a held (dimacs_text f) held (dimacs_text f) (header_line v n ++ (lines_of cs ++ [])) e (none_put a held (dimacs_text f))
 
 -- where the block was empty
-pub part_from_empty : (a b : Option (List ℕ)) (held text : List ℕ) → held ≡ [] → AppendsPart a b (held ++ text) → AppendsPart a b text
+pub part_from_empty : (a b : Option (List ℕ)) (held text : List ℕ) → held ≡ []
+    → AppendsPart a b (held ++ text) → AppendsPart a b text
 part_from_empty a b held text e p = subst (λ z. AppendsPart a b (z ++ text)) e p
 
-pub whole_from_empty : (a b c : Option (List ℕ)) (held j text : List ℕ) → held ≡ [] → PassesOn a held text b j → Appends b c j → Appends a c text
+pub whole_from_empty : (a b c : Option (List ℕ)) (held j text : List ℕ) → held ≡ []
+    → PassesOn a held text b j → Appends b c j → Appends a c text
 whole_from_empty a b c held j text e p q = subst (λ z. Appends a c (z ++ text)) e (passed_whole a b c held j text p q)
 
-pub flush_from_empty : (a b c : Option (List ℕ)) (held j text : List ℕ) → held ≡ [] → PassesOn a held text b j → AppendsPart b c j → AppendsPart a c text
+pub flush_from_empty : (a b c : Option (List ℕ)) (held j text : List ℕ) → held ≡ []
+    → PassesOn a held text b j → AppendsPart b c j → AppendsPart a c text
 flush_from_empty a b c held j text e p q = subst (λ z. AppendsPart a c (z ++ text)) e (passed_part a b c held j text p q)
 
 pub nothing_put : (a : Option (List ℕ)) (text : List ℕ) → AppendsPart a a text
 nothing_put a text = ([], (text, refl), Appends-nil a)
 
 -- how many clauses there are of each kind
-pub counted : (h r x m : List (List Literal)) (i j k l : ℕ) → i ≡ length h → j ≡ length r → k ≡ length x → l ≡ length m → i + j + k + l ≡ length (h ++ r ++ x ++ m)
+pub counted : (h r x m : List (List Literal)) (i j k l : ℕ) → i ≡ length h → j ≡ length r
+    → k ≡ length x → l ≡ length m → i + j + k + l ≡ length (h ++ r ++ x ++ m)
 counted h r x m i j k l a b c d = omega (arith, a, b, c, d, length-append (h ++ r ++ x) m, length-append (h ++ r) x, length-append h r)
 
 pub cells_counted : (cells : List Cell) → length (cells_kept cells) ≤ 14 * length cells
@@ -164,8 +173,10 @@ module _ (clause : List Literal) (rest : List (List Literal)) (once : has_repeat
       hard_fault q = put_fault a b h whole j c (dimacs_clause clause) (lines_of (kept rest)) (same_left a b h whole j _ _ hard_next p) q
 
 -- in all there are few
-pub sum_small : (profile : Profile) (p : Problem) (k : ℕ) (r m : List (List Literal)) (x : Adders) → IsInstance p → r ≡ kept (relaxed_clauses profile p) → x ≡ adders_as profile p → m ≡ comparator_for profile p k
-    → (i j n l : ℕ) → i ≡ length (kept p.hard) → j ≡ length r → n ≡ length (cells_kept x.cells) → l ≡ length m → i + j + n + l < 2 ^ 28
+pub sum_small : (profile : Profile) (p : Problem) (k : ℕ) (r m : List (List Literal)) (x : Adders)
+    → IsInstance p → r ≡ kept (relaxed_clauses profile p) → x ≡ adders_as profile p
+    → m ≡ comparator_for profile p k → (i j n l : ℕ) → i ≡ length (kept p.hard) → j ≡ length r
+    → n ≡ length (cells_kept x.cells) → l ≡ length m → i + j + n + l < 2 ^ 28
 sum_small profile p k r m x h er ex em i j n l a b c d =
     let all : i + j + n + l ≡ length (bound_as profile p k).clauses =
     counted (kept p.hard) r (cells_kept x.cells) m i j n l a b c d ∙ (λ t. length (kept p.hard ++ er t ++ cells_kept (ex t).cells ++ em t)) in

@@ -1,27 +1,13 @@
 -- Subsets of clauses, as they are kept.
-use Rattle.std.proofs.Common.{◌≡◌, Bool, true, false, not, ◌&&◌, ◌||◌, List, [], ◌∷◌, ◌++◌, reverse, if◌then◌else◌, inl, inr, refl, sym, ◌∙◌, ap, subst}
+use Rattle.std.proofs.Common.{◌≡◌, Bool, true, false, not, ◌||◌, List, [], ◌∷◌, ◌++◌, reverse, if◌then◌else◌, inl, inr, refl, sym, ◌∙◌, ap, subst}
 use Rattle.std.specs.List.{list_any, AllByRecursion}
-use Rattle.std.proofs.lemmas.Bool.{false≢true, true≢false, or_cases, or_left, or_right, eq-eqb, both_ways}
+use Rattle.std.proofs.lemmas.Bool.{false≢true, true≢false, or_cases, or_left, or_right, both_ways}
 use Rattle.std.proofs.lemmas.Grind.{reverse_onto}
 use Rattle.std.proofs.lemmas.List.Folds.{list_any-append}
-use Rattle.wcnf.specs.Literal.{Literal, negation, literal_eq, same_bool}
+use Rattle.wcnf.specs.Literal.{Literal, negation, literal_eq}
 use Rattle.wcnf.specs.Clause.{contains_literal, without_literal, distinct, has_opposites, is_subset}
-use Rattle.wcnf.proofs.Laws.{literal_eq-true}
+use Rattle.wcnf.proofs.Laws.{literal_eq-refl, literal_eq-true, negation_twice}
 use Rattle.bound.specs.Bound.{kept}
-
-pub literal_eq_self : (l : Literal) → literal_eq l l ≡ true
-literal_eq_self l = λ i. eq-eqb l.variable l.variable refl i && self l.negated i
-  where
-    self : (b : Bool) → same_bool b b ≡ true
-    self true = refl
-    self false = refl
-
-negation-negation : (l : Literal) → negation (negation l) ≡ l
-negation-negation l = λ i. record { variable = l.variable; negated = by l.negated i }
-  where
-    by : (b : Bool) → not (not b) ≡ b
-    by true = refl
-    by false = refl
 
 not_own_negation : (l : Literal) → l ≡ negation l → ⊥
 not_own_negation l e = by l.negated (λ i. (e i).negated)
@@ -30,7 +16,8 @@ not_own_negation l e = by l.negated (λ i. (e i).negated)
     by true h = true≢false h
     by false h = false≢true h
 
-subset_member : (l : Literal) (d c : List Literal) → is_subset d c ≡ true → contains_literal l d ≡ true → contains_literal l c ≡ true
+subset_member : (l : Literal) (d c : List Literal) → is_subset d c ≡ true
+    → contains_literal l d ≡ true → contains_literal l c ≡ true
 subset_member l [] c h m = absurd (false≢true m)
 subset_member l (k ∷ d) c h m =
     elim (contains_literal k c) as (λ b. contains_literal k c ≡ b → (if b then is_subset d c else false) ≡ true → contains_literal l c ≡ true) [
@@ -41,19 +28,23 @@ subset_member l (k ∷ d) c h m =
       ]
     ] refl h
 
-subset_from : (d c : List Literal) → ((l : Literal) → contains_literal l d ≡ true → contains_literal l c ≡ true) → is_subset d c ≡ true
+subset_from : (d c : List Literal)
+    → ((l : Literal) → contains_literal l d ≡ true → contains_literal l c ≡ true)
+    → is_subset d c ≡ true
 subset_from [] c f = refl
 subset_from (k ∷ d) c f =
-    ap (λ b. if b then is_subset d c else false) (f k (or_left (literal_eq k k) (contains_literal k d) (literal_eq_self k)))
+    ap (λ b. if b then is_subset d c else false) (f k (or_left (literal_eq k k) (contains_literal k d) (literal_eq-refl k)))
     ∙ subset_from d c (λ l m. f l (or_right (literal_eq l k) (contains_literal l d) m))
 
 pub subset_self : (c : List Literal) → is_subset c c ≡ true
 subset_self c = subset_from c c (λ l m. m)
 
-pub subset_more : (l : Literal) (d c : List Literal) → is_subset d c ≡ true → is_subset d (l ∷ c) ≡ true
+pub subset_more : (l : Literal) (d c : List Literal) → is_subset d c ≡ true
+    → is_subset d (l ∷ c) ≡ true
 subset_more l d c h = subset_from d (l ∷ c) (λ k m. or_right (literal_eq k l) (contains_literal k c) (subset_member k d c h m))
 
-contains-without : (l k : Literal) (c : List Literal) → literal_eq l k ≡ false → contains_literal l (without_literal k c) ≡ contains_literal l c
+contains-without : (l k : Literal) (c : List Literal) → literal_eq l k ≡ false
+    → contains_literal l (without_literal k c) ≡ contains_literal l c
 contains-without l k [] e = refl
 contains-without l k (x ∷ c) e =
     elim (literal_eq k x) as (λ b. literal_eq k x ≡ b → contains_literal l (if not b then x ∷ without_literal k c else without_literal k c) ≡ contains_literal l (x ∷ c)) [
@@ -61,7 +52,8 @@ contains-without l k (x ∷ c) e =
       | false ↦ λ h. ap (λ b. literal_eq l x || b) (contains-without l k c e)
     ] refl
 
-pub contains-distinct : (l : Literal) (c : List Literal) → contains_literal l (distinct c) ≡ contains_literal l c
+pub contains-distinct : (l : Literal) (c : List Literal)
+    → contains_literal l (distinct c) ≡ contains_literal l c
 contains-distinct l [] = refl
 contains-distinct l (k ∷ c) =
     elim (literal_eq l k) as (λ b. literal_eq l k ≡ b → (b || contains_literal l (without_literal k (distinct c))) ≡ (b || contains_literal l c)) [
@@ -69,20 +61,23 @@ contains-distinct l (k ∷ c) =
       | false ↦ λ e. contains-without l k (distinct c) e ∙ contains-distinct l c
     ] refl
 
-subset-distinct : (d c : List Literal) → is_subset d c ≡ true → is_subset (distinct d) (distinct c) ≡ true
+subset-distinct : (d c : List Literal) → is_subset d c ≡ true
+    → is_subset (distinct d) (distinct c) ≡ true
 subset-distinct d c h = subset_from (distinct d) (distinct c) (λ l m. contains-distinct l c ∙ subset_member l d c h (sym (contains-distinct l d) ∙ m))
 
-opposites_from : (c : List Literal) → has_opposites c ≡ true → (l : Literal) × (contains_literal l c ≡ true) × (contains_literal (negation l) c ≡ true)
+opposites_from : (c : List Literal) → has_opposites c ≡ true
+    → (l : Literal) × (contains_literal l c ≡ true) × (contains_literal (negation l) c ≡ true)
 opposites_from [] h = absurd (false≢true h)
 opposites_from (k ∷ c) h =
     elim (or_cases (contains_literal (negation k) c) (has_opposites c) h) [
-      | inl here ↦ (k, or_left (literal_eq k k) (contains_literal k c) (literal_eq_self k), or_right (literal_eq (negation k) k) (contains_literal (negation k) c) here)
+      | inl here ↦ (k, or_left (literal_eq k k) (contains_literal k c) (literal_eq-refl k), or_right (literal_eq (negation k) k) (contains_literal (negation k) c) here)
       | inr more ↦
           let r = opposites_from c more in
           (r.0, or_right (literal_eq r.0 k) (contains_literal r.0 c) r.1, or_right (literal_eq (negation r.0) k) (contains_literal (negation r.0) c) r.2)
     ]
 
-opposites_to : (l : Literal) (c : List Literal) → contains_literal l c ≡ true → contains_literal (negation l) c ≡ true → has_opposites c ≡ true
+opposites_to : (l : Literal) (c : List Literal) → contains_literal l c ≡ true
+    → contains_literal (negation l) c ≡ true → has_opposites c ≡ true
 opposites_to l [] h g = absurd (false≢true h)
 opposites_to l (k ∷ c) h g =
     elim (or_cases (literal_eq l k) (contains_literal l c) h) [
@@ -92,13 +87,14 @@ opposites_to l (k ∷ c) h g =
       ]
       | inr more ↦ elim (or_cases (literal_eq (negation l) k) (contains_literal (negation l) c) g) [
         | inl too ↦ or_left (contains_literal (negation k) c) (has_opposites c)
-            (subst (λ x. contains_literal (negation x) c ≡ true) (literal_eq-true (negation l) k too) (subst (λ x. contains_literal x c ≡ true) (sym (negation-negation l)) more))
+            (subst (λ x. contains_literal (negation x) c ≡ true) (literal_eq-true (negation l) k too) (subst (λ x. contains_literal x c ≡ true) (sym (negation_twice l)) more))
         | inr rest ↦ or_right (contains_literal (negation k) c) (has_opposites c) (opposites_to l c more rest)
       ]
     ]
 
 -- a subset of a clause with no opposite pair has none
-subset_no_opposites : (d c : List Literal) → is_subset d c ≡ true → has_opposites c ≡ false → has_opposites d ≡ false
+subset_no_opposites : (d c : List Literal) → is_subset d c ≡ true → has_opposites c ≡ false
+    → has_opposites d ≡ false
 subset_no_opposites d c h e =
     elim (has_opposites d) as (λ b. has_opposites d ≡ b → b ≡ false) [
       | false ↦ λ g. refl
@@ -111,7 +107,8 @@ subset_no_opposites d c h e =
 abbrev pub covers : List (List Literal) → List Literal → Bool
 covers cs c = list_any (λ d. is_subset d c) cs
 
-pub covers_more : (l : Literal) (cs : List (List Literal)) (c : List Literal) → covers cs c ≡ true → covers cs (l ∷ c) ≡ true
+pub covers_more : (l : Literal) (cs : List (List Literal)) (c : List Literal) → covers cs c ≡ true
+    → covers cs (l ∷ c) ≡ true
 covers_more l [] c h = absurd (false≢true h)
 covers_more l (d ∷ cs) c h =
     elim (or_cases (is_subset d c) (covers cs c) h) [
@@ -131,7 +128,8 @@ covers-reverse (d ∷ cs) c =
     ap (λ x. covers x c) (reverse_onto cs d []) ∙ list_any-append (λ x. is_subset x c) (reverse cs) (d ∷ [])
     ∙ (λ i. covers-reverse cs c i || or_comm (is_subset d c) false i) ∙ or_comm (covers cs c) (is_subset d c)
 
-covers-kept : (cs : List (List Literal)) (c : List Literal) → covers cs c ≡ true → has_opposites (distinct c) ≡ false → covers (kept cs) (distinct c) ≡ true
+covers-kept : (cs : List (List Literal)) (c : List Literal) → covers cs c ≡ true
+    → has_opposites (distinct c) ≡ false → covers (kept cs) (distinct c) ≡ true
 covers-kept [] c h e = absurd (false≢true h)
 covers-kept (d ∷ cs) c h e =
     elim (or_cases (is_subset d c) (covers cs c) h) [
@@ -157,11 +155,13 @@ kept_each cs (d ∷ ds) h =
       | false ↦ λ e. (covers-kept cs d h.0 e, kept_each cs ds h.1)
     ] refl
 
-pub all_append : {X : Type 0} (P : X → Type 0) (xs ys : List X) → AllByRecursion P xs → AllByRecursion P ys → AllByRecursion P (xs ++ ys)
+pub all_append : {X : Type 0} (P : X → Type 0) (xs ys : List X) → AllByRecursion P xs
+    → AllByRecursion P ys → AllByRecursion P (xs ++ ys)
 all_append P [] ys h g = g
 all_append P (x ∷ xs) ys h g = (h.0, all_append P xs ys h.1 g)
 
-pub all_reverse : {X : Type 0} (P : X → Type 0) (xs : List X) → AllByRecursion P xs → AllByRecursion P (reverse xs)
+pub all_reverse : {X : Type 0} (P : X → Type 0) (xs : List X) → AllByRecursion P xs
+    → AllByRecursion P (reverse xs)
 all_reverse P [] h = tt
 all_reverse P (x ∷ xs) h = subst (AllByRecursion P) (sym (reverse_onto xs x [])) (all_append P (reverse xs) (x ∷ []) (all_reverse P xs h.1) (h.0, tt))
 
@@ -169,5 +169,6 @@ reversed_each : (cs ds : List (List Literal)) → AreCovered cs ds → AreCovere
 reversed_each cs [] h = tt
 reversed_each cs (d ∷ ds) h = (covers-reverse cs d ∙ h.0, reversed_each cs ds h.1)
 
-pub covered_kept : (cs ds : List (List Literal)) → AreCovered cs ds → AreCovered (kept (reverse cs)) (kept (reverse ds))
+pub covered_kept : (cs ds : List (List Literal)) → AreCovered cs ds
+    → AreCovered (kept (reverse cs)) (kept (reverse ds))
 covered_kept cs ds h = kept_each (reverse cs) (reverse ds) (all_reverse (λ c. covers (reverse cs) c ≡ true) ds (reversed_each cs ds h))

@@ -5,7 +5,7 @@ use Rattle.std.specs.Prelude.{if◌then◌else◌, All}
 use Rattle.std.specs.List.{flat_map, list_any}
 use Rattle.std.specs.Fmt.{decimal}
 use lib.Chars.{codes}
-use Rattle.wcnf.specs.Literal.{Assignment, Literal, negation}
+use Rattle.wcnf.specs.Literal.{Assignment, Literal, negation, positive}
 use Rattle.wcnf.specs.Clause.{Satisfies, distinct, has_opposites, is_subset}
 use Rattle.wcnf.specs.Formula.{Cnf}
 use Rattle.wcnf.specs.Problem.{Problem, IsFeasible, cost_under}
@@ -14,7 +14,7 @@ use Rattle.wcnf.specs.Writing.{spaced}
 use Rattle.adder.specs.declared.cells.Cell.{Cell}
 use Rattle.adder.specs.declared.cells.Profile.{Profile}
 use Rattle.adder.specs.declared.cells.Profile.TheVariants.{One}
-use Rattle.adder.specs.Network.{adders_as, bit, relaxed_as, relaxed_variables, positive, SameUpTo}
+use Rattle.adder.specs.Network.{adders_as, bit, relaxed_as, relaxed_variables, SameUpTo}
 
 -- repeats dropped, and clauses with an opposite pair left out
 abbrev pub kept : List (List Literal) → List (List Literal)

@@ -1,4 +1,3 @@
 pub mod Bound
-pub mod Marks
 pub mod Adding
 pub mod Vectors

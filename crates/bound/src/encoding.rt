@@ -14,11 +14,11 @@ use crate::cells::keep_cell;
 use crate::comparators::keep_comparator;
 use crate::dimacs::{put_clause, put_clauses, put_header};
 use crate::keeping::are_opposed;
-use crate::marks::Marks;
 use crate::relaxing::keep_relaxed;
 use adder::building::network_as;
 use adder::cells::{Cell, Profile};
 use adder::networks::Network;
+use marks::Marks;
 use std::alloc::AllocError;
 use std::io::Write;
 use wcnf::clause_list::ClauseList;
@@ -109,7 +109,7 @@ impl Outline {
         marks: &mut Marks,
     ) -> Result<Self, AllocError>
         requires bound { k ≤ 2 ^ 62 }
-        requires places { 2 * (instance.now.variables + length instance.now.soft) ≤ marks.old }
+        requires places { 2 * (instance.now.variables + length instance.now.soft) ≤ length marks.old }
         ensures relaxed { IfOk result
             (λ o. o.relaxed ≡ kept (relaxed_clauses profile instance.now)) }
         ensures network { IfOk result (λ o. o.network ≡ adders_as profile instance.now) }
@@ -118,7 +118,7 @@ impl Outline {
         ensures vars { IfOk result (λ o. o.vars ≡ (bound_as profile instance.now k).variables) }
         ensures count { IfOk result
             (λ o. o.count ≡ length (bound_as profile instance.now k).clauses) }
-        ensures marks { marks.new ≡ marks.old }
+        ensures marks { length marks.new ≡ length marks.old }
     {
         // The contract of `vars` has the limits of the instance, from which those of the formula
         // follow.
@@ -147,9 +147,9 @@ impl Outline {
 
 /// How many hard clauses a formula keeps.
 fn count_hard(instance: &Instance, marks: &mut Marks) -> usize
-    requires { 2 * instance.now.variables ≤ marks.old }
+    requires { 2 * instance.now.variables ≤ length marks.old }
     ensures count { result ≡ length (kept instance.now.hard) }
-    ensures marks { marks.new ≡ marks.old }
+    ensures marks { length marks.new ≡ length marks.old }
 {
     let _vars = instance.vars();
     let mut count = 0;
@@ -185,7 +185,7 @@ fn put_hard<W: Write>(
     instance: &Instance,
     marks: &mut Marks,
 ) -> Result<(), WriteFault>
-    requires { 2 * instance.now.variables ≤ marks.old }
+    requires { 2 * instance.now.variables ≤ length marks.old }
     ensures ok { OnOk result (PassesOn (W.contents writer.old) block.old
         (flat_map dimacs_clause (kept instance.now.hard)) (W.contents writer.new) block.new) }
     ensures fault { OnErr result (AppendsPart (W.contents writer.old) (W.contents writer.new)

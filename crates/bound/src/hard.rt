@@ -6,7 +6,7 @@ ghost use Rattle.wcnf.specs.Problem.{IsFeasible};
 ghost use Rattle.bound.specs.Bound.{hard_cnf, kept};
 
 use crate::keeping::keep;
-use crate::marks::Marks;
+use marks::Marks;
 use std::alloc::AllocError;
 use wcnf::clause_list::ClauseList;
 use wcnf::types::{Formula, Instance};
@@ -38,9 +38,9 @@ pub(crate) fn keep_hard(
     marks: &mut Marks,
     instance: &Instance,
 ) -> Result<(), AllocError>
-    requires { 2 * instance.now.variables ≤ marks.old }
+    requires { 2 * instance.now.variables ≤ length marks.old }
     ensures clauses { OnOk result (clauses.new ≡ clauses.old ++ kept instance.now.hard) }
-    ensures marks { marks.new ≡ marks.old }
+    ensures marks { length marks.new ≡ length marks.old }
 {
     // The contract of `vars` has the limits of the instance: its literals have places in the table.
     let _vars = instance.vars();

@@ -1,11 +1,11 @@
 // Clauses as formulas have them: each literal once, and none with an opposite pair, which every
 // assignment satisfies.
-ghost use Rattle.std.specs.Prelude.{◌≡◌, false, [], ◌∷◌, ◌++◌, All, IfOk, OnOk};
+ghost use Rattle.std.specs.Prelude.{◌≡◌, false, [], ◌∷◌, ◌++◌, length, All, IfOk, OnOk};
 ghost use Rattle.wcnf.specs.Clause.{contains_literal, distinct, has_repeat, has_opposites};
 ghost use Rattle.bound.specs.Bound.{kept};
-ghost use Rattle.bound.specs.Marks.{HasPlace};
+ghost use Rattle.marks.specs.Marks.{HasPlace};
 
-use crate::marks::Marks;
+use marks::Marks;
 use std::alloc::{AllocError, Global};
 use wcnf::clause_list::ClauseList;
 use wcnf::types::Lit;
@@ -22,9 +22,9 @@ pub(crate) fn keep(
     lits: &[Lit],
 ) -> Result<(), AllocError>
     requires no_repeat { has_repeat lits.now ≡ false }
-    requires places { All (HasPlace marks.old) lits.now }
+    requires places { All (HasPlace (length marks.old)) lits.now }
     ensures clauses { OnOk result (clauses.new ≡ clauses.old ++ kept (lits.now ∷ [])) }
-    ensures marks { marks.new ≡ marks.old }
+    ensures marks { length marks.new ≡ length marks.old }
 {
     if are_opposed(marks, lits) {
         return Ok(());
@@ -34,15 +34,31 @@ pub(crate) fn keep(
 
 /// Whether some literal stands with its negation, in time linear in their number.
 pub(crate) fn are_opposed(marks: &mut Marks, lits: &[Lit]) -> bool
-    requires { All (HasPlace marks.old) lits.now }
+    requires { All (HasPlace (length marks.old)) lits.now }
     ensures value { result ≡ has_opposites lits.now }
-    ensures marks { marks.new ≡ marks.old }
+    ensures marks { length marks.new ≡ length marks.old }
 {
     if lits.len() <= FEW {
         has_opposites(lits)
     } else {
-        marks.has_opposites(lits)
+        meets_negation(marks, lits)
     }
+}
+
+/// Whether some literal stands with its negation: each is held against the marks of those before
+/// it. A clause may have millions of literals.
+fn meets_negation(marks: &mut Marks, lits: &[Lit]) -> bool
+    requires { All (HasPlace (length marks.old)) lits.now }
+    ensures value { result ≡ has_opposites lits.now }
+    ensures marks { length marks.new ≡ length marks.old }
+{
+    marks.clear();
+    let mut found = false;
+    for lit in lits {
+        found |= marks.is_marked(lit.negation());
+        marks.mark(*lit);
+    }
+    found
 }
 
 /// As `keep`, for a few literals, of which some may stand twice. Its time is quadratic in their

@@ -9,5 +9,4 @@ pub mod encoding;
 pub mod formulas;
 mod hard;
 mod keeping;
-mod marks;
 mod relaxing;

@@ -2,13 +2,14 @@
 // falsified.
 ghost use Rattle.std.specs.Prelude.{◌≡◌, ◌+◌, ◌*◌, ◌<◌, ◌≤◌, ◌^◌, [], ◌∷◌, ◌++◌, length, IfOk};
 ghost use Rattle.std.specs.Prelude.{OnOk};
-ghost use Rattle.adder.specs.Network.{positive, relaxed_variables};
+ghost use Rattle.wcnf.specs.Literal.{positive};
+ghost use Rattle.adder.specs.Network.{relaxed_variables};
 ghost use Rattle.bound.specs.Bound.{kept, relaxed_clauses};
 ghost use Rattle.bound.specs.Adding.{gets_variable};
 
 use crate::keeping::keep;
-use crate::marks::Marks;
 use adder::cells::Profile;
+use marks::Marks;
 use std::alloc::{AllocError, Global};
 use wcnf::clause_list::ClauseList;
 use wcnf::types::{Instance, Lit};
@@ -21,11 +22,11 @@ pub(crate) fn keep_relaxed(
     instance: &Instance,
     profile: Profile,
 ) -> Result<u32, AllocError>
-    requires { 2 * (instance.now.variables + length instance.now.soft) ≤ marks.old }
+    requires { 2 * (instance.now.variables + length instance.now.soft) ≤ length marks.old }
     ensures clauses { OnOk result
         (clauses.new ≡ clauses.old ++ kept (relaxed_clauses profile instance.now)) }
     ensures last { IfOk result (λ n. n ≡ relaxed_variables profile instance.now) }
-    ensures marks { marks.new ≡ marks.old }
+    ensures marks { length marks.new ≡ length marks.old }
 {
     let mut last = instance.vars();
     for soft in instance.soft() {

@@ -4,9 +4,9 @@ use Rattle.std.specs.List.{AllByRecursion}
 use Rattle.std.proofs.Math.Bool.{or-false}
 use Rattle.std.proofs.lemmas.Bool.{cases_Bool, or_cases, or_left, or_right, both_ways}
 use Rattle.wcnf.specs.Literal.{Literal, negation, literal_eq}
-use Rattle.wcnf.specs.Clause.{contains_literal}
+use Rattle.wcnf.specs.Clause.{contains_literal, HaveSame}
 use Rattle.wcnf.specs.Refute.{Clauses, IsUnit, Leads, Refutes}
-use Rattle.wcnf.proofs.Laws.{SameMembers, refutes_after}
+use Rattle.wcnf.proofs.Laws.{refutes_after}
 use Rattle.propagate.proofs.Laws.{contains-append}
 use Rattle.wcnf.proofs.Laws.{literal_eq-refl}
 use Rattle.propagate.proofs.Laws.{all_weaker}
@@ -103,7 +103,7 @@ or_comm true true = refl
 or_comm true false = refl
 or_comm false b = sym (or-false b)
 
-same_front : (A ls : List Literal) → SameMembers (A ++ ls) (with_all A ls)
+same_front : (A ls : List Literal) → HaveSame (A ++ ls) (with_all A ls)
 same_front A ls k = contains-append k A ls ∙ or_comm (contains_literal k A) (contains_literal k ls) ∙ sym (contains-with_all k A ls)
 
 -- unit clauses first, then hints that refute with their literals

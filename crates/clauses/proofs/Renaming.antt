@@ -10,7 +10,8 @@ use Rattle.wcnf.specs.Literal.{Literal}
 use Rattle.clauses.specs.Heads.{Head, literals_of, slots_of, clauses_in, AllLive, IsLaid}
 use Rattle.clauses.specs.Slots.{Slots, clause_at, places_from, live_clauses, room_of, Renaming, moves_from, moves_of, IsRenaming}
 use Rattle.wcnf.proofs.Laws.{laid_le, pieces_live, pieces_dead}
-use Rattle.wcnf.proofs.Laws.{RisesFrom, rises_weaker, rising_from}
+use Rattle.wcnf.specs.Numbers.{RisesFrom}
+use Rattle.wcnf.proofs.Laws.{rises_weaker, rising_from}
 use Rattle.clauses.proofs.Flat.{heads}
 use Rattle.clauses.proofs.Reading.{no_head}
 use Rattle.clauses.proofs.Stored.{slot_live, slot_dead}

@@ -1,13 +1,7 @@
 -- A worked store.
-use Rattle.std.specs.Prelude.{◌≡◌, ℕ, true, false, [], ◌∷◌, Some, None, refl, slice_set}
-use Rattle.wcnf.specs.Literal.{Literal}
+use Rattle.std.specs.Prelude.{◌≡◌, [], ◌∷◌, Some, None, refl, slice_set}
+use Rattle.wcnf.specs.Literal.{positive as p, negative as n}
 use Rattle.clauses.specs.Slots.{Slots, live_places, live_clauses, room_of, renamed, moves_of}
-
-abbrev p : ℕ → Literal
-p n = record { variable = n; negated = false }
-
-abbrev n : ℕ → Literal
-n v = record { variable = v; negated = true }
 
 abbrev three : Slots
 three = Some (p 1 ∷ p 2 ∷ p 3 ∷ []) ∷ Some (n 1 ∷ p 2 ∷ []) ∷ Some (p 3 ∷ []) ∷ []

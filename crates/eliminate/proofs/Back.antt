@@ -7,6 +7,7 @@ use Rattle.std.proofs.lemmas.List.{length-set, get_or-set_same, get_or-set_other
 use Rattle.std.proofs.lemmas.List.Elements.{All-nil, All-cons, All-contains, All-head, All-tail}
 use Rattle.std.proofs.lemmas.Option.{unwrap_or-slice_get}
 use Rattle.wcnf.specs.Literal.{Literal, Assignment, negation, literal_value}
+pub use Rattle.wcnf.specs.Literal.{negative}
 use Rattle.wcnf.specs.Clause.{Satisfies, clause_value, contains_literal, without_literal, has_opposites, is_subset}
 use Rattle.wcnf.specs.Bits.{assignment_of}
 use Rattle.wcnf.proofs.Laws.{negation-value}
@@ -20,9 +21,6 @@ use Rattle.eliminate_tables.proofs.Laws.{not_not, each_literal, resolvent-parts}
 -- the variable with this value, as a literal
 abbrev pub valued : ℕ → Bool → Literal
 valued v b = record { variable = v; negated = not b }
-
-abbrev pub negative : ℕ → Literal
-negative v = record { variable = v; negated = true }
 
 -- a clause with an opposite pair is true
 pub opposites_true : (t : Assignment) (c : List Literal) → has_opposites c ≡ true → clause_value t c ≡ true

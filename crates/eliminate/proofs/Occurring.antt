@@ -6,11 +6,11 @@ use Rattle.std.proofs.lemmas.List.{get_or-set_same, get_or-set_other, length-set
 use Rattle.std.proofs.lemmas.List.Elements.{Contains-push, Contains-push_cases, Contains-append_left, All-head, All-tail}
 use Rattle.wcnf.specs.Literal.{Literal, literal_eq, index_of}
 use Rattle.wcnf.specs.Clause.{contains_literal}
-use Rattle.wcnf.proofs.Laws.{literal_eq-true}
+use Rattle.wcnf.proofs.Laws.{index_same, literal_eq-true}
 use Rattle.clauses.specs.Slots.{Slots}
 use Rattle.eliminate_tables.specs.Rows.{row_at, with_row, with_entry, with_clause_rows, AreRows}
-use Rattle.subsume.specs.Marks.{HasPlace}
-use Rattle.subsume.proofs.Laws.{place_within, same_place}
+use Rattle.marks.specs.Marks.{HasPlace}
+use Rattle.marks.proofs.Laws.{place_within}
 use Rattle.names.proofs.Laws.{slot_pushed, slot_within, slot_deleted}
 use Rattle.wcnf.proofs.Laws.{literal_eq-refl}
 
@@ -96,7 +96,7 @@ rows_added rows slots c a all = record {
     | inl w ↦ elim (rows_from rows c (length slots) (index_of l) r all stands) [
       | inl old ↦ let h : r < length slots = a.before (index_of l) r old in let e : r ≡ length slots = w.0 in absurd (omega arith)
       | inr new ↦
-          let same : l ≡ new.1.0 = literal_eq-true l new.1.0 (same_place l new.1.0 some new.1.2 new.1.3) in
+          let same : l ≡ new.1.0 = index_same l new.1.0 some new.1.2 new.1.3 in
           rw same (subst (λ x. contains_literal new.1.0 x ≡ true) (sym w.1) new.1.1)
     ]
     | inr w ↦ elim (rows_from rows c (length slots) (index_of l) r all stands) [

@@ -16,7 +16,7 @@ use Rattle.lrat_log.specs.declared.lines.Hint.{Hint}
 use Rattle.lrat_log.specs.declared.lines.Hint.TheVariants.{Plain}
 use Rattle.lrat_log.specs.Log.{LogLine, name_of, number_in, is_delete, is_learned}
 use Rattle.lrat_log.specs.Steps.{given_of, IsOwnGroup, is_empty_clause}
-use Rattle.subsume.specs.Marks.{HasPlace}
+use Rattle.marks.specs.Marks.{HasPlace}
 use Rattle.eliminate.specs.declared.simplifier.Simplifier.{Simplifier}
 use Rattle.eliminate.specs.Elimination.{is_eliminated}
 use Rattle.eliminate_tables.specs.Resolvents.{resolvent}

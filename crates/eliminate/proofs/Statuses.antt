@@ -8,10 +8,11 @@ use Rattle.wcnf.specs.Literal.{Literal, negation, literal_eq}
 use Rattle.wcnf.specs.Clause.{contains_literal, has_repeat}
 use Rattle.wcnf.specs.Refute.{IsUnit, IsFalseUnder}
 use Rattle.wcnf.proofs.Laws.{literal_eq-true}
-use Rattle.subsume.proofs.Laws.{at_contains}
+use Rattle.wcnf.proofs.Laws.{at_contains}
 use Rattle.wcnf.specs.Formula.{IsFormulaClause}
 use Rattle.clauses.specs.Slots.{Slots, clause_at}
-use Rattle.subsume.specs.Marks.{HasPlace, mark_of}
+use Rattle.marks.specs.Marks.{HasPlace}
+use Rattle.wcnf.specs.Marks.{mark_of}
 use Rattle.eliminate.specs.declared.units.Units.{Units}
 use Rattle.eliminate.specs.declared.units.Status.{Status}
 use Rattle.eliminate.specs.declared.units.Status.TheVariants.{Settled, Unit, Falsified}

@@ -18,7 +18,7 @@ use Rattle.lrat_log.specs.declared.lines.Hint.TheVariants.{Plain}
 use Rattle.lrat_log.specs.declared.lines.Kind.TheVariants.{Unit, Empty}
 use Rattle.lrat_log.specs.Log.{LogLine, id_of, number_in, name_of}
 use Rattle.lrat_log.specs.Steps.{given_of, log_live, IsOwnGroup, IsBaseOf}
-use Rattle.subsume.specs.Marks.{mark_of}
+use Rattle.wcnf.specs.Marks.{mark_of}
 use Rattle.eliminate.specs.declared.simplifier.Simplifier.{Simplifier}
 use Rattle.eliminate.specs.declared.units.Units.{Units}
 use Rattle.eliminate.specs.Elimination.{is_eliminated}

@@ -10,7 +10,7 @@ use Rattle.lrat_log.specs.declared.lines.Name.{Name}
 use Rattle.lrat_log.specs.declared.lines.Hint.{Hint}
 use Rattle.lrat_log.specs.declared.lines.Hint.TheVariants.{Plain}
 use Rattle.lrat_log.specs.Log.{LogLine}
-use Rattle.subsume.specs.Marks.{IsMarked, mark_of}
+use Rattle.wcnf.specs.Marks.{IsMarked, mark_of}
 use Rattle.eliminate.specs.declared.simplifier.Simplifier.{Simplifier}
 use Rattle.eliminate.specs.declared.units.Units.{Units}
 use Rattle.eliminate.specs.declared.units.Status.{Status}

@@ -7,13 +7,13 @@ use Rattle.std.proofs.lemmas.List.Elements.{All-head, All-tail}
 use Rattle.wcnf.specs.Literal.{Literal, negation, literal_eq}
 use Rattle.wcnf.specs.Clause.{contains_literal, without_literal, has_opposites}
 use Rattle.wcnf.proofs.Laws.{literal_eq-true}
-use Rattle.subsume.specs.Marks.{IsMarked, mark_of}
+use Rattle.wcnf.specs.Marks.{IsMarked, mark_of}
 use Rattle.eliminate_tables.specs.Resolvents.{resolvent, unmarked_rest, is_opposed}
 use Rattle.wcnf.proofs.Laws.{literal_eq-refl}
 use Rattle.eliminate_tables.proofs.Resolve.{negation_twice, contains-filter, filter-contains, contains-left, contains-right, contains-either, not-opposite}
 use Rattle.pairs.proofs.Laws.{has_opposites-filter, literal_eq-sides}
 use Rattle.pairs.proofs.Laws.{any_member}
-use Rattle.subsume.proofs.Laws.{at_contains}
+use Rattle.wcnf.proofs.Laws.{at_contains}
 
 -- what holds of each literal holds of one
 pub member_has : (P : Literal → Type 0) (c : List Literal) (k : Literal) → All P c → contains_literal k c ≡ true → P k

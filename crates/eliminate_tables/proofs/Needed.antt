@@ -8,7 +8,7 @@ use Rattle.wcnf.specs.Literal.{Literal, Assignment, literal_value, literal_eq}
 use Rattle.wcnf.specs.Clause.{contains_literal, without_literal}
 use Rattle.wcnf.specs.Bits.{assignment_of}
 use Rattle.wcnf.proofs.Laws.{literal_eq-true}
-use Rattle.subsume.proofs.Laws.{at_contains}
+use Rattle.wcnf.proofs.Laws.{at_contains}
 use Rattle.eliminate_tables.specs.Removals.{Removed, extended, is_needed, becomes_true, positive}
 use Rattle.eliminate_tables.specs.declared.stack.Piece.{Piece}
 use Rattle.eliminate_tables.specs.declared.stack.Gone.{Gone}

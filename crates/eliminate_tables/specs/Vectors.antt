@@ -1,15 +1,9 @@
 -- Worked values of extended bits, and of a schedule.
-use Rattle.std.specs.Prelude.{◌≡◌, ℕ, true, false, List, [], ◌∷◌, fold, Some, refl}
-use Rattle.wcnf.specs.Literal.{Literal}
+use Rattle.std.specs.Prelude.{◌≡◌, true, false, List, [], ◌∷◌, fold, Some, refl}
+use Rattle.wcnf.specs.Literal.{positive as p, negative as n}
 use Rattle.eliminate_tables.specs.Removals.{Removed, extended}
 use Rattle.eliminate_tables.specs.Schedule.{ScheduleState, entered, left, first_of, without_first}
 use Rattle.eliminate_tables.specs.Schedule.{is_candidate}
-
-abbrev p : ℕ → Literal
-p n = record { variable = n; negated = false }
-
-abbrev n : ℕ → Literal
-n v = record { variable = v; negated = true }
 
 -- variable 1 was eliminated from the clauses 1 2 and -1 3
 abbrev one : List Removed

@@ -7,13 +7,14 @@
 ghost use Rattle.std.specs.Prelude.{◌≡◌, length, List, Some, IfOk, IfSome};
 ghost use Rattle.wcnf.specs.Literal.{Literal};
 ghost use Rattle.clauses.specs.Slots.{IsLive, clause_at};
-ghost use Rattle.subsume.specs.Marks.{LiesAgainst};
+ghost use Rattle.subsume.specs.Against.{LiesAgainst};
 ghost use Rattle.eliminate_tables.specs.Bins.{ArePlaced};
 
 use clauses::store::{CRef, Store};
+use marks::Marks;
 use std::alloc::{AllocError, Global};
 use std::marker::Model;
-use subsume::marks::{Against, Marks};
+use subsume::against::{Against, hold_against};
 use subsume::signatures::{maybe_subsets, signature};
 use wcnf::types::Lit;
 
@@ -219,7 +220,7 @@ impl Bin {
             if *fit && *by != current && *steps > 0 && store.is_live(*by) {
                 let lits = store.lits(*by);
                 *steps = steps.saturating_sub(lits.len());
-                let against = marks.against(lits);
+                let against = hold_against(marks, lits);
                 if against != Against::Apart {
                     return Some(Found { by: *by, against });
                 }

@@ -8,7 +8,7 @@ ghost use Rattle.eliminate_tables.specs.Schedule.{is_candidate};
 use crate::resolvents::count_rest;
 use crate::schedule::Schedule;
 use clauses::store::{CRef, Store};
-use subsume::marks::Marks;
+use marks::Marks;
 use wcnf::types::Lit;
 
 /// A variable goes only where at most so many clauses have it, and at most so many its negation.

@@ -29,7 +29,7 @@ use Rattle.wcnf.specs.Formula.{Cnf}
 use Rattle.std.proofs.lemmas.List.{length-map}
 use Rattle.lrat_log.proofs.Laws.{new_searched}
 use Rattle.improve.specs.declared.bounds.Bounds.{Bounds}
-use Rattle.improve.proofs.BitLaws.{extends_own}
+use Rattle.wcnf.proofs.Laws.{extends_own}
 use Rattle.improve.proofs.GivenParts.{given_split}
 
 -- all clauses given hold, so those of the formula for the last bound do

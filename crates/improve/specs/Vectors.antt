@@ -1,16 +1,10 @@
 -- Worked bounds: three soft clauses of weight 1, and the costs 3 and 2.
-use Rattle.std.specs.Prelude.{◌≡◌, ℕ, true, false, [], ◌∷◌, refl, length}
-use Rattle.wcnf.specs.Literal.{Literal}
+use Rattle.std.specs.Prelude.{◌≡◌, [], ◌∷◌, refl, length}
+use Rattle.wcnf.specs.Literal.{positive as p, negative as n}
 use Rattle.wcnf.specs.Problem.{Problem}
 use Rattle.adder.specs.declared.cells.Profile.TheVariants.{One}
 use Rattle.bound.specs.Bound.{fixed_clauses}
 use Rattle.improve.specs.Improving.{weaker_for}
-
-abbrev p : ℕ → Literal
-p n = record { variable = n; negated = false }
-
-abbrev n : ℕ → Literal
-n v = record { variable = v; negated = true }
 
 abbrev three : Problem
 three = record {

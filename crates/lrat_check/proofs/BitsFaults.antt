@@ -6,7 +6,7 @@ use Rattle.std.proofs.lemmas.Bool.{ne_eqb, eq-eqb, cases_Bool}
 use Rattle.std.proofs.lemmas.List.Elements.{All-from_recursion, recursion_from_All}
 use Rattle.wcnf.specs.Literal.{Assignment}
 use Rattle.wcnf.specs.Bits.{Extends, assignment_of}
-use Rattle.lrat_check.proofs.TrueResults.{extends_own}
+use Rattle.wcnf.proofs.Laws.{extends_own}
 use Rattle.wcnf.specs.Clause.{clause_value}
 use Rattle.wcnf.specs.Problem.{Problem, IsFeasible, cost_under}
 use Rattle.lrat_check.specs.Result.{Report}

@@ -1,19 +1,19 @@
 -- The verdict on a text with its result and certificate.
-use Rattle.std.proofs.Common.{◌≡◌, ℕ, zero, suc, Bool, true, false, not, List, [], ◌∷◌, ◌++◌, map, reverse, length, Option, Some, None, ◌⊎◌, inl, inr, refl, sym, ◌∙◌}
-use Rattle.std.specs.Prelude.{◌==◌, ◌↔◌, filter, Result, Ok, Err}
-use Rattle.std.proofs.Math.Bool.{cond}
+use Rattle.std.proofs.Common.{◌≡◌, ℕ, Bool, true, false, List, [], ◌∷◌, ◌++◌, length, Some, None, ◌⊎◌, inl, inr, refl, sym, ◌∙◌}
+use Rattle.std.specs.Prelude.{◌==◌, ◌↔◌, Result, Ok, Err}
 use Rattle.std.specs.List.{AllByRecursion, list_all, flat_map}
-use Rattle.std.proofs.lemmas.Bool.{and_from, and_parts, or_from, or_parts, cases_Bool, both_ways, eq-eqb, eqb-true}
-use Rattle.std.proofs.lemmas.List.Elements.{All-from_recursion, recursion_from_All, All-append, All-filter, All-cons, All-nil}
-use Rattle.wcnf.specs.Literal.{Literal, Assignment, literal_eq}
-use Rattle.wcnf.specs.Clause.{contains_literal, without_literal, distinct, has_repeat, has_opposites, clause_value, Satisfies}
+use Rattle.std.proofs.lemmas.Bool.{and_from, and_parts, cases_Bool, both_ways, eq-eqb, eqb-true}
+use Rattle.std.proofs.lemmas.List.Elements.{All-from_recursion, recursion_from_All, All-append}
+use Rattle.wcnf.specs.Literal.{Literal, Assignment}
+use Rattle.wcnf.specs.Clause.{has_repeat, clause_value, Satisfies}
 use Rattle.wcnf.specs.Problem.{Problem, IsFeasible, cost_under}
 use Rattle.wcnf.specs.Bits.{assignment_of}
 use Rattle.wcnf.specs.declared.faults.FaultKind.{FaultKind}
 use Rattle.wcnf.specs.Reading.{reading_of, ReadingIsRight}
 use Rattle.adder.specs.declared.cells.Profile.{Profile}
 use Rattle.adder.specs.Network.{adders_as}
-use Rattle.bound.specs.Bound.{kept, hard_cnf, comparator_of, bound_as, fixed_clauses, relaxed_clauses, cell_clauses, rising_clauses}
+use Rattle.bound.specs.Bound.{kept, hard_cnf, comparator_of, bound_as, fixed_clauses, relaxed_clauses, cell_clauses}
+use Rattle.bound.proofs.Laws.{comparator_once, kept_once}
 use Rattle.lrat_check.specs.Result.{Said, OptimumFound, Unsatisfiable, Satisfiable, Unknown, Report, report_of}
 use Rattle.lrat_check.specs.Checks.{ChecksSaid, ChecksAs}
 use Rattle.lrat_check.specs.declared.verdicts.Cause.{Cause}
@@ -25,52 +25,26 @@ use Rattle.lrat_check.proofs.Proofs.{NoneRepeatsIn, proof_verdict-Yes}
 use Rattle.lrat_check.proofs.Reports.{says_from_report, report_from_says}
 
 -- the formulas that are bounded have no repeats
-kept_member : (p : Literal → Bool) (k : Literal) (c : List Literal) → contains_literal k c ≡ false → contains_literal k (filter p c) ≡ false
-kept_member p k [] e = refl
-kept_member p k (l ∷ c) e =
-    let h = or_parts (literal_eq k l) (contains_literal k c) e in
-    elim (p l) as (λ v. contains_literal k (cond v (l ∷ filter p c) (filter p c)) ≡ false) [
-      | true ↦ or_from _ _ h.0 (kept_member p k c h.1)
-      | false ↦ kept_member p k c h.1
-    ]
+pub bound_singles : (profile : Profile) (p : Problem) (k : ℕ)
+    → NoneRepeatsIn (bound_as profile p k).clauses
+bound_singles profile p k =
+    join (fixed_clauses profile p) (comparator_of (adders_as profile p).outputs k)
+    (join (hard ++ relaxed) cells
+    (join hard relaxed (kept_once p.hard) (kept_once (relaxed_clauses profile p)))
+    (kept_once (flat_map cell_clauses (adders_as profile p).cells)))
+    (comparator_once (adders_as profile p).outputs k)
+  where
+    join : (xs ys : List (List Literal)) → NoneRepeatsIn xs → NoneRepeatsIn ys → NoneRepeatsIn (xs ++ ys)
+    join xs ys h i = All-append (λ c. has_repeat c ≡ false) xs ys h i
 
-kept_single : (p : Literal → Bool) (c : List Literal) → has_repeat c ≡ false → has_repeat (filter p c) ≡ false
-kept_single p [] e = refl
-kept_single p (l ∷ c) e =
-    let h = or_parts (contains_literal l c) (has_repeat c) e in
-    elim (p l) as (λ v. has_repeat (cond v (l ∷ filter p c) (filter p c)) ≡ false) [
-      | true ↦ or_from _ _ (kept_member p l c h.0) (kept_single p c h.1)
-      | false ↦ kept_single p c h.1
-    ]
+    hard : List (List Literal)
+    hard = kept p.hard
 
-gone : (l : Literal) (c : List Literal) → contains_literal l (without_literal l c) ≡ false
-gone l [] = refl
-gone l (k ∷ c) =
-    elim (literal_eq l k) as (λ v. literal_eq l k ≡ v → contains_literal l (cond (not v) (k ∷ without_literal l c) (without_literal l c)) ≡ false) [
-      | true ↦ λ t. gone l c
-      | false ↦ λ t. or_from _ _ t (gone l c)
-    ] refl
+    relaxed : List (List Literal)
+    relaxed = kept (relaxed_clauses profile p)
 
-distinct_single : (c : List Literal) → has_repeat (distinct c) ≡ false
-distinct_single [] = refl
-distinct_single (l ∷ c) = or_from _ _ (gone l (distinct c)) (kept_single (λ k. not (literal_eq l k)) (distinct c) (distinct_single c))
-
-abbrev Single : List Literal → Type 0
-Single c = has_repeat c ≡ false
-
-all_distinct : (cs : List (List Literal)) → NoneRepeatsIn (map distinct cs)
-all_distinct [] = All-nil Single
-all_distinct (c ∷ cs) = All-cons Single (distinct c) (map distinct cs) (distinct_single c) (all_distinct cs)
-
-kept_singles : (cs : List (List Literal)) → NoneRepeatsIn (kept cs)
-kept_singles cs = All-filter (λ c. not (has_opposites c)) Single (map distinct cs) (all_distinct cs)
-
-comparator_singles : (outputs : List (Option Literal)) (k : ℕ) → NoneRepeatsIn (comparator_of outputs k)
-comparator_singles outputs zero = All-cons Single [] [] refl (All-nil Single)
-comparator_singles outputs (suc k) = kept_singles (reverse (rising_clauses outputs k 0))
-
-pub bound_singles : (profile : Profile) (p : Problem) (k : ℕ) → NoneRepeatsIn (bound_as profile p k).clauses
-bound_singles profile p k = All-append Single (fixed_clauses profile p) (comparator_of (adders_as profile p).outputs k) (All-append Single (kept p.hard ++ kept (relaxed_clauses profile p)) (kept (flat_map cell_clauses (adders_as profile p).cells)) (All-append Single (kept p.hard) (kept (relaxed_clauses profile p)) (kept_singles p.hard) (kept_singles (relaxed_clauses profile p))) (kept_singles (flat_map cell_clauses (adders_as profile p).cells))) (comparator_singles (adders_as profile p).outputs k)
+    cells : List (List Literal)
+    cells = kept (flat_map cell_clauses (adders_as profile p).cells)
 
 -- the bits
 pub feasible_from : (t : Assignment) (cs : List (List Literal)) → list_all (clause_value t) cs ≡ true → AllByRecursion (Satisfies t) cs
@@ -130,7 +104,7 @@ module _ (profile : Profile) (p : Problem) (r : Report) (proof : List ℕ) where
         | inl h ↦ let z = satisfiable_goes c bits u h.0 in cc
         | inr h ↦ let z = satisfiable_fault c bits (No h.0 h.1) u h.2 in cc
       ]
-  said_means Unsatisfiable u e = (proof_verdict-Yes (hard_cnf p).clauses (kept_singles p.hard) proof).0 (sym (unsat_goes u) ∙ e)
+  said_means Unsatisfiable u e = (proof_verdict-Yes (hard_cnf p).clauses (kept_once p.hard) proof).0 (sym (unsat_goes u) ∙ e)
   said_means Unknown u e = let z = unknown_goes u in cc
 
   said_from : (said : Said) → r.said ≡ said → ChecksSaid profile p said proof → said_verdict profile p r proof ≡ Yes
@@ -140,7 +114,7 @@ module _ (profile : Profile) (p : Problem) (r : Report) (proof : List ℕ) where
         | inr k ↦ absurd (k.3 (h.0, h.1, h.2))
       ]
   said_from (Satisfiable c bits) u h = absurd h
-  said_from Unsatisfiable u h = unsat_goes u ∙ (proof_verdict-Yes (hard_cnf p).clauses (kept_singles p.hard) proof).1 h
+  said_from Unsatisfiable u h = unsat_goes u ∙ (proof_verdict-Yes (hard_cnf p).clauses (kept_once p.hard) proof).1 h
   said_from Unknown u h = absurd h
 
 module _ (profile : Profile) (text result proof : List ℕ) where

@@ -1,14 +1,13 @@
 -- Which literals a list has: after a push, under negation, and twice.
-use Rattle.std.proofs.Common.{◌≡◌, ℕ, ◌<◌, ◌≤◌, Bool, true, false, not, ◌||◌, List, [], ◌∷◌, ◌++◌, map, refl, sym, ◌∙◌, ap, subst, inl, inr, arith}
+use Rattle.std.proofs.Common.{◌≡◌, ℕ, ◌<◌, ◌≤◌, Bool, true, false, ◌||◌, List, [], ◌∷◌, ◌++◌, map, refl, sym, ◌∙◌, ap, subst, inl, inr, arith}
 use Rattle.std.proofs.lemmas.Bool.{or_cases, or_parts, or_from, or_left, or_right, false≢true, false_from_ne_true}
 use Rattle.std.proofs.lemmas.List.Folds.{list_any-append}
 use Rattle.std.proofs.lemmas.List.Elements.{All-head, All-tail}
 use Rattle.wcnf.specs.Literal.{Literal, negation, literal_eq}
 use Rattle.wcnf.specs.Clause.{contains_literal, has_repeat, has_opposites}
-use Rattle.wcnf.proofs.Laws.{literal_eq-true}
+use Rattle.wcnf.proofs.Laws.{literal_eq-refl, literal_eq-true, negation_twice}
 use Rattle.lrat_check.specs.Assumed.{AreWithin}
 use Rattle.lrat_check.specs.Steps.{HaveSame}
-use Rattle.lrat_check.proofs.Walk.{literal_eq-refl}
 
 -- two tests that imply each other
 pub same_tests : (a b : Bool) → (a ≡ true → b ≡ true) → (b ≡ true → a ≡ true) → a ≡ b
@@ -23,18 +22,11 @@ literal_eq-from k l e = subst (λ m. literal_eq k m ≡ true) e (literal_eq-refl
 pub literal_eq-swap : (k l : Literal) → literal_eq k l ≡ literal_eq l k
 literal_eq-swap k l = same_tests _ _ (λ e. literal_eq-from l k (sym (literal_eq-true k l e))) (λ e. literal_eq-from k l (sym (literal_eq-true l k e)))
 
-not-not : (b : Bool) → not (not b) ≡ b
-not-not true = refl
-not-not false = refl
-
-pub negation-negation : (l : Literal) → negation (negation l) ≡ l
-negation-negation l = ap (λ b. record { variable = l.variable; negated = b }) (not-not l.negated)
-
 pub literal_eq-negation : (k l : Literal) → literal_eq k (negation l) ≡ literal_eq (negation k) l
 literal_eq-negation k l =
     same_tests _ _
-    (λ e. literal_eq-from (negation k) l (ap negation (literal_eq-true k (negation l) e) ∙ negation-negation l))
-    (λ e. literal_eq-from k (negation l) (sym (negation-negation k) ∙ ap negation (literal_eq-true (negation k) l e)))
+    (λ e. literal_eq-from (negation k) l (ap negation (literal_eq-true k (negation l) e) ∙ negation_twice l))
+    (λ e. literal_eq-from k (negation l) (sym (negation_twice k) ∙ ap negation (literal_eq-true (negation k) l e)))
 
 pub contains-negations : (l : Literal) (xs : List Literal) → contains_literal l (map negation xs) ≡ contains_literal (negation l) xs
 contains-negations l [] = refl
@@ -112,7 +104,7 @@ opposite_at l [] ys h = absurd (false≢true h)
 opposite_at l (x ∷ xs) ys h =
     elim (or_cases (literal_eq (negation l) x) (contains_literal (negation l) xs) h) [
       | inl e ↦
-          let same : l ≡ negation x = sym (negation-negation l) ∙ ap negation (literal_eq-true (negation l) x e) in
+          let same : l ≡ negation x = sym (negation_twice l) ∙ ap negation (literal_eq-true (negation l) x e) in
           or_left _ _ (subst (λ k. contains_literal k (xs ++ l ∷ ys) ≡ true) same (in_middle l xs ys))
       | inr e ↦ or_right _ _ (opposite_at l xs ys e)
     ]

@@ -15,7 +15,8 @@ use Rattle.lrat_check.specs.declared.hints.Walked.{Walked}
 use Rattle.lrat_live.specs.Listed.{same_ids}
 use Rattle.lrat_check.specs.Verdict.{Open, Refuted, walk, ids_with, groups_fault, clause_fault}
 use Rattle.lrat_check.specs.Steps.{EndAlike, walked_as}
-use Rattle.lrat_check.proofs.Members.{negation-negation, contains-negations, has_repeat-push, has_opposites-push, repeat_at, opposite_at}
+use Rattle.wcnf.proofs.Laws.{negation_twice}
+use Rattle.lrat_check.proofs.Members.{contains-negations, has_repeat-push, has_opposites-push, repeat_at, opposite_at}
 use Rattle.lrat_check.proofs.Alike.{clause_fault-alike}
 use Rattle.lrat_check.proofs.Effects.{drop_at}
 
@@ -27,7 +28,7 @@ module _ (c : List Literal) (i : ℕ) (l : Literal) (lt : i < length c) (here : 
   more = take_more c i l lt ∙ ap (λ k. take i c ++ k ∷ []) (sym here)
 
   in_negations : contains_literal (negation l) (map negation (take i c)) ≡ contains_literal l (take i c)
-  in_negations = contains-negations (negation l) (take i c) ∙ ap (λ k. contains_literal k (take i c)) (negation-negation l)
+  in_negations = contains-negations (negation l) (take i c) ∙ ap (λ k. contains_literal k (take i c)) (negation_twice l)
 
   pub not_apart : (T : List Literal) → T ≡ map negation (take i c) → contains_literal l T ≡ true → false ≡ not (has_repeat c || has_opposites c)
   not_apart T e h =

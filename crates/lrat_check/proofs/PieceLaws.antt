@@ -3,8 +3,7 @@ use Rattle.std.proofs.Common.{◌≡◌, ℕ, ◌+◌, ◌<◌, Bool, true, fals
 use Rattle.std.specs.Prelude.{◌-◌, ◌==◌, not, is_some}
 use Rattle.std.specs.List.{slice_split}
 use Rattle.std.specs.Str.Lines.{lines_of_parts, strip_carriage_return}
-use Rattle.std.proofs.lemmas.Bool.{eqb-true, eqb-false}
-use Rattle.std.proofs.lemmas.List.{length-take-le, length-drop, take_rest, nil_from_length}
+use Rattle.std.proofs.lemmas.List.{length-take-le, length-drop, take_rest}
 use Rattle.std.proofs.lemmas.List.Splits.{slice_split_at, length-slice_split}
 use Rattle.std.proofs.lemmas.List.Elements.{All-append, All-nil}
 use Rattle.std.specs.Prelude.{IfSome, IfOk, Result, Ok, Err, ◌↔◌}
@@ -12,7 +11,7 @@ use Rattle.std.specs.Io.KnownBytes.{Consumes, IsAtEnd}
 use Rattle.wcnf.specs.Literal.{Literal}
 use Rattle.wcnf.specs.Formula.{Cnf, IsFormula}
 use Rattle.wcnf.specs.Text.{tokens_of, token_lines, IsNoFeed, IsFirstFeed}
-use Rattle.wcnf.proofs.Laws.{lines-last}
+use Rattle.wcnf.proofs.Laws.{lines-last, parts-cons}
 use Rattle.lrat_check.specs.declared.verdicts.Verdict.{Verdict}
 use Rattle.lrat_check.specs.declared.verdicts.Verdict.TheVariants.{Yes}
 use Rattle.lrat_check.specs.Checks.{IsProofOver}
@@ -28,15 +27,11 @@ use Rattle.lrat_check.specs.Pieces.{IsOpen, IsRefused, Holds, Judges, HasTaken, 
 abbrev is_feed : ℕ → Bool
 is_feed b = b == 10
 
-parts-first : (x : List ℕ) (parts : List (List ℕ)) → 0 < length parts → lines_of_parts (x ∷ parts) ≡ strip_carriage_return x ∷ lines_of_parts parts
-parts-first x [] l = absurd (omega arith)
-parts-first x (y ∷ more) l = refl
-
 -- the tokens of the first line, and those of the others
 tokens-first : (x more : List ℕ) → IsNoFeed x → token_lines (x ++ 10 ∷ more) ≡ tokens_of (strip_carriage_return x) ∷ token_lines more
 tokens-first x more h =
     ap (λ parts. map tokens_of (lines_of_parts parts)) (slice_split_at is_feed x 10 more h refl)
-    ∙ ap (map tokens_of) (parts-first x (slice_split is_feed more) (omega (arith, length-slice_split is_feed more)))
+    ∙ ap (map tokens_of) (parts-cons x (slice_split is_feed more) (omega (arith, length-slice_split is_feed more)))
 
 tokens-last : (x : List ℕ) → 0 < length x → IsNoFeed x → token_lines x ≡ tokens_of x ∷ []
 tokens-last x l h = ap (map tokens_of) (lines-last x l (λ k lt. h k 0 lt))
@@ -187,12 +182,6 @@ starts r formula e empty none = record {
   };
   refused = λ v s. absurd (let two : None ≡ Some v = sym none ∙ s in cc);
 }
-
-pub empty_from_test : (x y : List ℕ) (b : Bool) → y ≡ x → b ≡ (length y == 0) → b ≡ true → x ≡ []
-empty_from_test x y b e f t = nil_from_length x (ap length (sym e) ∙ eqb-true (length y) 0 (sym f ∙ t))
-
-pub some_from_length : (x y : List ℕ) (b : Bool) → y ≡ x → b ≡ (length y == 0) → b ≡ false → 0 < length x
-some_from_length x y b e f t = omega (arith, eqb-false (length y) 0 (sym f ∙ t), ap length e)
 
 -- the end
 pub ends_refused : (r : Reading) (v : Verdict) → r.refused ≡ Some v → (formula : List (List Literal)) (bytes : List ℕ) → Holds r formula bytes → v ≡ proof_verdict formula bytes

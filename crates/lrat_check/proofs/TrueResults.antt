@@ -1,8 +1,8 @@
 -- What a result says is so, where its certificate was accepted.
-use Rattle.std.proofs.Common.{◌≡◌, ℕ, ◌<◌, ◌≤◌, Bool, false, List, sym, ◌∙◌, ap, subst, arith}
-use Rattle.std.specs.Prelude.{◌↔◌, All, Ok, unwrap_or}
+use Rattle.std.proofs.Common.{◌≡◌, ℕ, ◌<◌, ◌≤◌, Bool, List, sym, ◌∙◌, ap, subst, arith}
+use Rattle.std.specs.Prelude.{◌↔◌, All, Ok}
 use Rattle.wcnf.specs.Literal.{Assignment}
-use Rattle.wcnf.specs.Bits.{Extends, assignment_of}
+use Rattle.wcnf.specs.Bits.{Extends}
 use Rattle.wcnf.specs.Clause.{Satisfies}
 use Rattle.wcnf.specs.Formula.{IsUnsatisfiable}
 use Rattle.wcnf.specs.Problem.{Problem, IsFeasible, cost_under, IsOptimal, IsInconsistent}
@@ -13,10 +13,6 @@ use Rattle.bound.specs.Bound.{hard_cnf, bound_as, SaysCheaper}
 use Rattle.lrat_check.specs.Result.{Said, Report, Says, report_of}
 use Rattle.lrat_check.specs.Checks.{HasCost, IsTrueOf, IsTrueResult}
 use Rattle.lrat_check.proofs.Reports.{report_from_says}
-
--- the bits agree with their own assignment
-pub extends_own : (bits : List Bool) → Extends bits (assignment_of bits)
-extends_own bits v b e = ap (λ o. unwrap_or o false) e
 
 not_cheaper : (profile : Profile) (p : Problem) (c : ℕ) → SaysCheaper profile p c → IsUnsatisfiable (bound_as profile p c).clauses → (u : Assignment) → IsFeasible p u → cost_under p u < c → ⊥
 not_cheaper profile p c says none u f lower = let k = says.from u f lower in none k.0 k.2

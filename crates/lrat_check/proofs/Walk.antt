@@ -1,21 +1,14 @@
 -- What a walk along hints answers, against what hints lead to.
-use Rattle.std.proofs.Common.{◌≡◌, ℕ, Bool, true, false, not, List, [], ◌∷◌, ◌++◌, Option, Some, None, ◌⊎◌, inl, inr, refl, sym, ◌∙◌, ap, subst, append-nil}
+use Rattle.std.proofs.Common.{◌≡◌, ℕ, true, false, not, List, [], ◌∷◌, ◌++◌, Option, Some, None, ◌⊎◌, inl, inr, refl, sym, ◌∙◌, ap, subst, append-nil}
 use Rattle.std.proofs.Math.Bool.{cond}
 use Rattle.std.specs.Prelude.{◌↔◌}
 use Rattle.std.specs.List.{AllByRecursion}
-use Rattle.std.proofs.lemmas.Bool.{and_from, or_cases, or_parts, or_left, or_right, both_ways, eq-eqb, false≢true}
-use Rattle.wcnf.specs.Literal.{Literal, negation, literal_eq, same_bool}
+use Rattle.std.proofs.lemmas.Bool.{or_cases, or_parts, or_left, or_right, both_ways, false≢true}
+use Rattle.wcnf.specs.Literal.{Literal, negation, literal_eq}
 use Rattle.wcnf.specs.Clause.{contains_literal, has_repeat}
 use Rattle.wcnf.specs.Refute.{IsUnit, IsFalseUnder, Clauses, Leads, Refutes}
-use Rattle.wcnf.proofs.Laws.{literal_eq-true}
+use Rattle.wcnf.proofs.Laws.{literal_eq-refl, literal_eq-true}
 use Rattle.lrat_check.specs.Verdict.{Walk, Open, Refuted, Outcome, Dead, NotUnit, Conflict, Makes, open_literals, outcome_of, goes_on, walk}
-
-same_bool-refl : (a : Bool) → same_bool a a ≡ true
-same_bool-refl true = refl
-same_bool-refl false = refl
-
-pub literal_eq-refl : (l : Literal) → literal_eq l l ≡ true
-literal_eq-refl l = and_from _ _ (eq-eqb l.variable l.variable refl) (same_bool-refl l.negated)
 
 pub literal_ne : (k l : Literal) → literal_eq k l ≡ false → l ≡ k → ⊥
 literal_ne k l e h = both_ways _ e (subst (λ m. literal_eq k m ≡ true) (sym h) (literal_eq-refl k))

@@ -2,7 +2,7 @@
 use Rattle.std.specs.Prelude.{◌≡◌, ℕ, ◌<◌, ◌≤◌, Bool, false, List, [], ◌∷◌, ◌++◌, length, nat_eq, Option}
 use Rattle.std.specs.Prelude.{All}
 use Rattle.wcnf.specs.Literal.{Literal}
-use Rattle.wcnf.specs.Clause.{contains_literal}
+pub use Rattle.wcnf.specs.Clause.{HaveSame}
 use Rattle.wcnf.specs.Lrat.{Live}
 use Rattle.lrat_check.specs.Assumed.{AreWithin}
 use Rattle.lrat_live.specs.Listed.{listed_at, IsRising}
@@ -50,10 +50,6 @@ abbrev pub walked_as : Walked → List Literal → Walk
 walked_as IsOpen A = Open A
 walked_as IsRefuted A = Refuted
 walked_as (IsFault f) A = Fault f
-
--- the same literals, in any order
-abbrev pub HaveSame : List Literal → List Literal → Type 0
-HaveSame A B = (l : Literal) → contains_literal l A ≡ contains_literal l B
 
 -- two walks end alike
 abbrev pub EndAlike : Walk → Walk → Type 0

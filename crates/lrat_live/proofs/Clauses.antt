@@ -5,12 +5,13 @@ use Rattle.std.specs.List.Sorted.{IsStrictlyIncreasing}
 use Rattle.std.proofs.lemmas.Bool.{cases_Bool, eqb-true, ne_eqb}
 use Rattle.std.proofs.lemmas.List.{take-append-drop, drop-drop, append_assoc}
 use lib.Seq.{paste}
+use Rattle.wcnf.specs.Numbers.{RisesFrom}
 use Rattle.wcnf.specs.Literal.{Literal}
 use Rattle.wcnf.proofs.Laws as laws
 use Rattle.wcnf.proofs.Laws.{Layout}
 use Rattle.lrat_live.specs.Listed.{Listed, ids_of, listed_at, without_id}
 use Rattle.lrat_live.specs.Chains.{place_of}
-use Rattle.lrat_live.specs.Table.{Cell, keys_of, literals_of, clauses_in, AllLive, IsLaid, IsAboveLast, RisesFrom}
+use Rattle.lrat_live.specs.Table.{Cell, keys_of, literals_of, clauses_in, AllLive, IsLaid, IsAboveLast}
 use Rattle.lrat_live.proofs.Chains.{newest_some, newest_first, newest_nowhere, newest_passes, newest-le, cases_zero}
 
 -- cells over flat literals, by the laws of pieces that are laid one after another

@@ -7,10 +7,11 @@ use Rattle.std.proofs.lemmas.Bool.{not-false, not-true, and_from, and_parts, or_
 use Rattle.std.proofs.Math.ListN.{get_or-eq_default}
 use Rattle.std.proofs.lemmas.List.{drop_more, take_more, append-nil, map_push, get_or-set_same, get_or-set_other}
 use Rattle.std.proofs.lemmas.List.Elements.{All-head, All-tail}
+use Rattle.wcnf.specs.Numbers.{one_if}
 use Rattle.wcnf.specs.Literal.{Literal, literal_eq, same_bool, index_of}
 use Rattle.wcnf.specs.Clause.{contains_literal}
 use Rattle.wcnf.proofs.Laws.{literal_eq-true}
-use Rattle.lrat_live.specs.Counts.{one_if, times_in, times, times_at, is_next, take_all, AreCounts, AreRaised, AreLowered}
+use Rattle.lrat_live.specs.Counts.{times_in, times, times_at, is_next, take_all, AreCounts, AreRaised, AreLowered}
 use Rattle.lrat_live.specs.Listed.{Listed, ids_of, ids_listed, listed_at, same_ids, without_id}
 use Rattle.lrat_live.proofs.Listed.{Rises}
 use Rattle.wcnf.proofs.Laws.{literal_eq-refl, index_same}

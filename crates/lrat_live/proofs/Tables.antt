@@ -2,10 +2,11 @@
 use Rattle.std.proofs.Common.{◌≡◌, ℕ, ◌+◌, ◌<◌, ◌≤◌, ◌^◌, true, List, [], ◌∷◌, ◌++◌, length, get_or, set, sym, ◌∙◌, ap, subst, arith}
 use Rattle.std.specs.Prelude.{All, slice_index}
 use Rattle.std.proofs.lemmas.List.{get_or-map, length-map, length-set, length-append, length_push, map_push, get_or_append_left, get_or_push}
+use Rattle.wcnf.specs.Numbers.{RisesFrom}
 use Rattle.wcnf.specs.Literal.{Literal}
 use Rattle.lrat_live.specs.Listed.{ids_of}
 use Rattle.lrat_live.specs.Chains.{bucket_of, IsChained}
-use Rattle.lrat_live.specs.Table.{Cell, cell_of, cells_of, keys_of, nexts_of, clauses_in, AllLive, IsLaid, RisesFrom, IsAboveLast, IsTable}
+use Rattle.lrat_live.specs.Table.{Cell, cell_of, cells_of, keys_of, nexts_of, clauses_in, AllLive, IsLaid, IsAboveLast, IsTable}
 use Rattle.lrat_live.specs.declared.entries.Entry.{Entry}
 use Rattle.lrat_live.proofs.Chains.{chained_push}
 use Rattle.lrat_live.proofs.Table.{length-keys}

@@ -1,11 +1,9 @@
 -- How often literals stand in the live clauses, and the candidates of a RAT line by these counts.
 use Rattle.std.specs.Prelude.{◌≡◌, ℕ, ◌+◌, ◌-◌, ◌<◌, Bool, false, List, [], ◌∷◌, Option, Some, None}
 use Rattle.std.specs.Prelude.{nat_lt, nat_le, ◌==◌, ◌&&◌, slice_index, if◌then◌else◌}
+use Rattle.wcnf.specs.Numbers.{one_if}
 use Rattle.wcnf.specs.Literal.{Literal, literal_eq, index_of}
 use Rattle.lrat_live.specs.Listed.{listed_at}
-
-abbrev pub one_if : Bool → ℕ
-one_if b = if b then 1 else 0
 
 -- how often the literal stands in the clause
 abbrev pub times_in : Literal → List Literal → ℕ

@@ -2,6 +2,7 @@
 use Rattle.std.specs.Prelude.{◌≡◌, ℕ, ◌+◌, ◌<◌, ◌≤◌, ◌^◌, Bool, true, List, [], ◌∷◌, map, length}
 use Rattle.std.specs.Prelude.{slice_index, slice_range, take, if◌then◌else◌}
 use Rattle.std.specs.List.{AllByRecursion}
+use Rattle.wcnf.specs.Numbers.{RisesFrom}
 use Rattle.wcnf.specs.Literal.{Literal}
 use Rattle.lrat_live.specs.Chains.{IsChained}
 use Rattle.lrat_live.specs.declared.entries.Entry.{Entry}
@@ -42,11 +43,6 @@ AllLive cs = AllByRecursion (λ c. c.live ≡ true) cs
 abbrev pub IsLaid : ℕ → List Cell → ℕ → Type 0
 IsLaid from [] to = from ≡ to
 IsLaid from (c ∷ cs) to = (c.start ≡ from) × IsLaid (from + c.length) cs to
-
--- each key is above those before it, and the first is not below the least
-abbrev pub RisesFrom : ℕ → List ℕ → Type 0
-RisesFrom least [] = Unit {0}
-RisesFrom least (k ∷ ks) = (least ≤ k) × RisesFrom (k + 1) ks
 
 -- clauses and literals came behind those that were there
 pub record IsGrown (ls : List Literal) (cs : List Cell) (ms : List Literal) (ds : List Cell) : Type

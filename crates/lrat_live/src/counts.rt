@@ -4,7 +4,8 @@
 ghost use Rattle.std.specs.Prelude.{◌≡◌, ℕ, ◌+◌, ◌-◌, ◌<◌, ◌^◌, ◌==◌, ◌++◌, ◌∷◌, [], List, true};
 ghost use Rattle.std.specs.Prelude.{false, slice_index, length, OnOk, OnErr, Some};
 ghost use Rattle.wcnf.specs.Literal.{Literal, index_of};
-ghost use Rattle.lrat_live.specs.Counts.{one_if, times_in, is_next, AreCounts, AreRaised};
+ghost use Rattle.wcnf.specs.Numbers.{one_if};
+ghost use Rattle.lrat_live.specs.Counts.{times_in, is_next, AreCounts, AreRaised};
 ghost use Rattle.lrat_live.specs.Counts.{AreLowered};
 ghost use Rattle.lrat_live.specs.Table.{cells_of, clauses_in, IsLaid};
 

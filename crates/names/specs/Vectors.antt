@@ -1,15 +1,12 @@
 -- Worked values: a store of two clauses with a gap between them, and a log that adds, deletes and
 -- adds.
-use Rattle.std.specs.Prelude.{◌≡◌, ℕ, false, [], ◌∷◌, Some, None, refl}
-use Rattle.wcnf.specs.Literal.{Literal}
+use Rattle.std.specs.Prelude.{◌≡◌, [], ◌∷◌, Some, None, refl}
+use Rattle.wcnf.specs.Literal.{positive as p}
 use Rattle.clauses.specs.Slots.{Slots}
 use Rattle.lrat_log.specs.declared.lines.Name.TheVariants.{Formula, Added}
 use Rattle.lrat_log.specs.declared.lines.Kind.TheVariants.{Resolvent}
 use Rattle.lrat_log.specs.Log.{LogLine}
 use Rattle.names.specs.Work.{additions, added_line, delete_line, formula_names, name_at}
-
-abbrev p : ℕ → Literal
-p n = record { variable = n; negated = false }
 
 abbrev two : Slots
 two = Some (p 1 ∷ []) ∷ None ∷ Some (p 2 ∷ p 3 ∷ []) ∷ []

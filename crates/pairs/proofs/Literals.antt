@@ -8,14 +8,12 @@ use Rattle.wcnf.specs.Clause.{clause_value, contains_literal, without_literal, h
 use Rattle.wcnf.specs.Refute.{IsUnit}
 use Rattle.wcnf.proofs.Laws.{literal_eq-refl}
 use Rattle.wcnf.proofs.Laws.{literal_eq-true}
+pub use Rattle.wcnf.proofs.Laws.{negation_twice}
 pub use Rattle.lrat_log.proofs.Laws.{literal_eq-negation, contains-negations}
 
 pub not_not : (a : Bool) → not (not a) ≡ a
 not_not true = refl
 not_not false = refl
-
-pub negation_twice : (l : Literal) → negation (negation l) ≡ l
-negation_twice l = λ i. record { variable = l.variable; negated = not_not l.negated i }
 
 pub contains-twice : (k : Literal) (c : List Literal) → contains_literal k (map negation c) ≡ contains_literal (negation k) c
 contains-twice k c = ap (λ x. contains_literal x (map negation c)) (sym (negation_twice k)) ∙ contains-negations (negation k) c

@@ -2,6 +2,7 @@
 use Rattle.std.specs.Prelude.{◌≡◌, ◌≢◌, ℕ, ◌<◌, ◌≤◌, Bool, true, false, List, [], ◌∷◌, Some, All}
 use Rattle.std.specs.List.{AllByRecursion}
 use Rattle.wcnf.specs.Literal.{Literal, Assignment, negation, literal_eq}
+pub use Rattle.wcnf.specs.Literal.{positive}
 use Rattle.wcnf.specs.Clause.{Satisfies, contains_literal, without_literal}
 use Rattle.wcnf.specs.Lrat.{IsId}
 use Rattle.clauses.specs.Slots.{Slots, clause_at, live_clauses}
@@ -12,9 +13,6 @@ use Rattle.lrat_log.specs.Log.{LogLine, Given}
 use Rattle.lrat_log.specs.Steps.{StaysLogOver, AddsNoEmptyClause, learned_count}
 use Rattle.names.specs.Work.{IsWork, NamesState}
 use Rattle.pairs.specs.declared.pairs.Fresh.{Fresh}
-
-abbrev pub positive : ℕ → Literal
-positive v = record { variable = v; negated = false }
 
 -- not z, or a or b
 abbrev pub whole_clause : ℕ → Literal → Literal → List Literal

@@ -1,13 +1,7 @@
 -- Worked values: variable 7 stands for the pair 1 2 in 1 2 3.
-use Rattle.std.specs.Prelude.{◌≡◌, ℕ, false, true, [], ◌∷◌, refl}
-use Rattle.wcnf.specs.Literal.{Literal}
+use Rattle.std.specs.Prelude.{◌≡◌, [], ◌∷◌, refl}
+use Rattle.wcnf.specs.Literal.{positive as p, negative as n}
 use Rattle.pairs.specs.Pairs.{whole_clause, side_clause, replaced}
-
-abbrev p : ℕ → Literal
-p n = record { variable = n; negated = false }
-
-abbrev n : ℕ → Literal
-n v = record { variable = v; negated = true }
 
 first_clause : whole_clause 7 (p 1) (p 2) ≡ n 7 ∷ p 1 ∷ p 2 ∷ []
 first_clause = refl

@@ -6,8 +6,9 @@ use Rattle.std.proofs.lemmas.Bool.{true≢false}
 use Rattle.std.proofs.lemmas.List.{append-nil}
 use Rattle.std.proofs.lemmas.List.Elements.{recursion_from_All}
 use Rattle.wcnf.specs.Literal.{Literal}
+use Rattle.wcnf.specs.Clause.{HaveSame}
 use Rattle.wcnf.specs.Refute.{Clauses}
-use Rattle.wcnf.proofs.Laws.{SameMembers, unit_same, more_same}
+use Rattle.wcnf.proofs.Laws.{unit_same, more_same}
 use Rattle.clauses.specs.Slots.{Slots, clause_at}
 use Rattle.watches.specs.declared.table.Attachment.{Attachment}
 use Rattle.watches.specs.declared.table.Attachment.TheVariants.{Detached, Waiting, Satisfied, Watching}
@@ -19,18 +20,18 @@ use Rattle.propagate.specs.Steps.{Continues}
 use Rattle.propagate.proofs.Reasons.{same_swap}
 use Rattle.propagate.proofs.Facts.{all_right}
 
-reasons_back : (at : Clauses) (A : List Literal) (T U : List Assigned) → HasReasons at A (T ++ U) → (B : List Literal) × SameMembers B (literals_of T ++ A) × HasReasons at B U
+reasons_back : (at : Clauses) (A : List Literal) (T U : List Assigned) → HasReasons at A (T ++ U) → (B : List Literal) × HaveSame B (literals_of T ++ A) × HasReasons at B U
 reasons_back at A [] U h = (A, (λ l. refl), h)
 reasons_back at A (a ∷ T) U h =
     let w = reasons_back at (a.literal ∷ A) T U h.1 in
     (w.0, (λ l. w.1 l ∙ sym (same_swap A (literals_of T) a.literal l)), w.2)
 
-follow_one : (slots : Slots) (e : EngineState) (A B : List Literal) (a : Assigned) (o : Option ℕ) → a.reason ≡ o → SameMembers B A → IsJustified (clause_at slots) B a.literal o
+follow_one : (slots : Slots) (e : EngineState) (A B : List Literal) (a : Assigned) (o : Option ℕ) → a.reason ≡ o → HaveSame B A → IsJustified (clause_at slots) B a.literal o
     → IfSome o (λ r. is_attached e r ≡ true) → is_none o ≡ false → FollowByUnits slots e A (a ∷ [])
 follow_one slots e A B a None same m h g n = absurd (true≢false n)
 follow_one slots e A B a (Some r) same m h g n = ((r, h.0, same, g, h.1, unit_same h.0 B A a.literal m h.2), tt)
 
-follow_on : (slots : Slots) (e : EngineState) (A B : List Literal) (more : List Assigned) → SameMembers B A → HasReasons (clause_at slots) B more
+follow_on : (slots : Slots) (e : EngineState) (A B : List Literal) (more : List Assigned) → HaveSame B A → HasReasons (clause_at slots) B more
     → AllByRecursion (λ a. IfSome a.reason (λ r. is_attached e r ≡ true)) more → AllByRecursion (λ a. is_decision a ≡ false) more → FollowByUnits slots e A more
 follow_on slots e A B [] m h g n = tt
 follow_on slots e A B (a ∷ more) m h g n =
@@ -42,7 +43,7 @@ follows slots old new fits g =
     let w = reasons_back (clause_at slots) [] old.trail g.more reasons in
     let attached = recursion_from_All (λ (a : Assigned). IfSome a.reason (λ r. is_attached new r ≡ true)) new.trail fits.reasons_attached in
     let attached' = all_right (λ (a : Assigned). IfSome a.reason (λ r. is_attached new r ≡ true)) old.trail g.more (subst (AllByRecursion (λ (a : Assigned). IfSome a.reason (λ r. is_attached new r ≡ true))) g.grown attached) in
-    (g.more, g.grown, follow_on slots new (literals_of old.trail) w.0 g.more (subst (SameMembers w.0) (append-nil (literals_of old.trail)) w.1) w.2 attached' g.forced)
+    (g.more, g.grown, follow_on slots new (literals_of old.trail) w.0 g.more (subst (HaveSame w.0) (append-nil (literals_of old.trail)) w.1) w.2 attached' g.forced)
 
 -- an engine that failed
 failed_attachment : (e : EngineState) (c : List Literal) (p : Attachment) → FitsAttachment e c p → FitsAttachment (record e { failed = true }) c p

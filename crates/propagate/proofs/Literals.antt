@@ -2,11 +2,10 @@
 use Rattle.std.proofs.Common.{◌≡◌, ◌≢◌, ℕ, ◌*◌, ◌<◌, Bool, true, false, not, ◌||◌, ◌&&◌, eqb, List, [], ◌∷◌, ◌++◌, ◌⊎◌, inl, inr, refl, sym, ap, arith}
 use Rattle.std.specs.Prelude.{◌==◌}
 use Rattle.std.proofs.lemmas.Bool.{or_parts, or_from, and_left, eqb-false, eq-eqb, ne_eqb, cases_Bool}
-use Rattle.std.proofs.Math.Bool.{not-not}
 use Rattle.std.proofs.lemmas.List.Folds.{list_any-append}
 use Rattle.wcnf.specs.Literal.{Literal, negation, literal_eq, same_bool, index_of}
 use Rattle.wcnf.specs.Clause.{contains_literal}
-pub use Rattle.wcnf.proofs.Laws.{contains-push, literal_eq-refl as literal_eq-self}
+pub use Rattle.wcnf.proofs.Laws.{contains-push, literal_eq-refl as literal_eq-self, negation_twice}
 use Rattle.wcnf.proofs.Laws.{index_same, index_below}
 use Rattle.propagate.specs.Tables.{mentions}
 use Rattle.propagate.specs.Watches.{IsVariable}
@@ -14,9 +13,6 @@ use Rattle.propagate.specs.Watches.{IsVariable}
 same_bool-not : (b : Bool) → same_bool (not b) b ≡ false
 same_bool-not true = refl
 same_bool-not false = refl
-
-pub negation_twice : (l : Literal) → negation (negation l) ≡ l
-negation_twice l = ap (λ b. record { variable = l.variable; negated = b }) (not-not l.negated)
 
 pub literal_eq-negation : (l : Literal) → literal_eq (negation l) l ≡ false
 literal_eq-negation l = Prim.grind (arith, eq-eqb l.variable l.variable refl, same_bool-not l.negated)

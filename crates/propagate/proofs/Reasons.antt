@@ -3,14 +3,14 @@ use Rattle.std.proofs.Common.{◌≡◌, ℕ, Bool, true, false, ◌||◌, List,
 use Rattle.std.proofs.lemmas.Bool.{or_cases, both_ways, false≢true}
 use Rattle.std.proofs.lemmas.List.{append-nil}
 use Rattle.wcnf.specs.Literal.{Literal, negation, literal_eq}
-use Rattle.wcnf.specs.Clause.{contains_literal}
+use Rattle.wcnf.specs.Clause.{contains_literal, HaveSame}
 use Rattle.wcnf.specs.Refute.{Clauses}
 use Rattle.wcnf.proofs.Laws.{literal_eq-true}
-use Rattle.wcnf.proofs.Laws.{SameMembers, unit_same}
+use Rattle.wcnf.proofs.Laws.{unit_same}
 use Rattle.propagate.specs.Trail.{Assigned, literals_of, HasReasons, IsJustified}
 use Rattle.propagate.proofs.Literals.{literal_eq-negation, negation_twice, contains-append}
 
-pub justified_same : (at : Clauses) (A B : List Literal) (l : Literal) (r : Option ℕ) → SameMembers A B → IsJustified at A l r → IsJustified at B l r
+pub justified_same : (at : Clauses) (A B : List Literal) (l : Literal) (r : Option ℕ) → HaveSame A B → IsJustified at A l r → IsJustified at B l r
 justified_same at A B l None same h = (sym (same l) ∙ h.0, sym (same (negation l)) ∙ h.1)
 justified_same at A B l (Some r) same h = (h.0, h.1, unit_same h.0 A B l same h.2)
 
@@ -24,7 +24,7 @@ or_swap true false c = refl
 or_swap false b c = refl
 
 -- the order of literals is of no matter
-pub same_swap : (A B : List Literal) (k : Literal) → SameMembers (k ∷ (B ++ A)) (B ++ (k ∷ A))
+pub same_swap : (A B : List Literal) (k : Literal) → HaveSame (k ∷ (B ++ A)) (B ++ (k ∷ A))
 same_swap A B k l =
     ap (λ b. literal_eq l k || b) (contains-append l B A)
     ∙ or_swap (literal_eq l k) (contains_literal l B) (contains_literal l A)

@@ -20,7 +20,7 @@ use Rattle.lrat_check.specs.Checks.{IsProofOver, ChecksAs}
 use Rattle.improve.specs.declared.found.Found.{Found}
 use Rattle.improve.specs.declared.found.Found.TheVariants.{Optimum, Unsat, Best, Nothing}
 use Rattle.improve.specs.Improving.{AreFalling, IsCostOfSome, IsSolution, IsAcceptedOver, IsClauseCount, IsBoundWork}
-use Rattle.improve.proofs.Laws.{extends_own}
+use Rattle.wcnf.proofs.Laws.{extends_own}
 use Rattle.report.specs.declared.status.Status.{Status}
 use Rattle.report.specs.declared.fault.RunFault.{RunFault}
 use Rattle.report.specs.declared.fault.RunFault.TheVariants.{Read, Memory, Output, ProofOutput}

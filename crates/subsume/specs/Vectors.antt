@@ -1,16 +1,10 @@
 -- Worked signatures: those of 'one or not two' and of 33 alone, and five entries against the first;
 -- and clauses against the marks of 'one or not two'.
-use Rattle.std.specs.Prelude.{◌≡◌, ℕ, Bool, true, false, List, [], ◌∷◌, refl}
-use Rattle.wcnf.specs.Literal.{Literal}
+use Rattle.std.specs.Prelude.{◌≡◌, Bool, true, false, List, [], ◌∷◌, refl}
+use Rattle.wcnf.specs.Literal.{positive as p, negative as n}
 use Rattle.subsume.specs.Signatures.{signature_of, all_within}
-use Rattle.subsume.specs.Marks.{against_of}
-use Rattle.subsume.specs.declared.marks.Against.TheVariants.{Apart, Within, ButFor}
-
-abbrev p : ℕ → Literal
-p n = record { variable = n; negated = false }
-
-abbrev n : ℕ → Literal
-n v = record { variable = v; negated = true }
+use Rattle.subsume.specs.Against.{against_of}
+use Rattle.subsume.specs.declared.against.Against.TheVariants.{Apart, Within, ButFor}
 
 two_literals : signature_of (p 1 ∷ n 2 ∷ []) ≡ 9
 two_literals = refl

@@ -1,6 +1,6 @@
 -- Worked rows, a worked table, and references that move.
 use Rattle.std.specs.Prelude.{◌≡◌, ℕ, true, false, List, [], ◌∷◌, refl}
-use Rattle.wcnf.specs.Literal.{Literal}
+use Rattle.wcnf.specs.Literal.{positive as p}
 use Rattle.clauses.specs.Slots.{Renaming, old_at, new_at}
 use Rattle.watches.specs.declared.pool.Entry.{Entry}
 use Rattle.watches.specs.declared.table.Attachment.{Attachment}
@@ -10,9 +10,6 @@ use Rattle.watches.specs.Pool.{row_at, with_row, closed_row}
 use Rattle.watches.specs.Table.{attachment_in, is_kept, rest_in, rest_after, grown_table}
 use Rattle.watches.specs.Doomed.{is_doomed, spared_rows}
 use Rattle.watches.specs.Renames.{named, named_rows}
-
-p : ℕ → Literal
-p n = record { variable = n; negated = false }
 
 entry : ℕ → Entry
 entry r = record { reference = r; blocker = p 1 }

@@ -18,13 +18,15 @@ use Rattle.wcnf.proofs.CappedNumbers.{value_on-push, all_digits}
 use Rattle.wcnf.proofs.FirstPieces.{tokens-first}
 
 -- one more digit
-pub value-more : (ds : List ℕ) (i v d : ℕ) → i < length ds → v ≡ value_on 0 (take i ds) → d ≡ get_or ds i 0 - 48 → 10 * v + d ≡ value_on 0 (take (i + 1) ds)
+pub value-more : (ds : List ℕ) (i v d : ℕ) → i < length ds → v ≡ value_on 0 (take i ds)
+    → d ≡ get_or ds i 0 - 48 → 10 * v + d ≡ value_on 0 (take (i + 1) ds)
 value-more ds i v d l before here =
     ap (λ n. 10 * n + d) before ∙ ap (λ m. 10 * value_on 0 (take i ds) + m) here
     ∙ sym (value_on-push 0 (take i ds) (get_or ds i 0)) ∙ ap (value_on 0) (sym (take_more ds i 0 l))
 
 -- digits that begin with no 0, and are not all 0
-pub begins_variable : (bytes : List ℕ) (v n : ℕ) → BeginsWithDigits bytes v n → 0 < v → (get_or bytes 0 0 ≡ 48 → ⊥) → BeginsWithVariable bytes v n
+pub begins_variable : (bytes : List ℕ) (v n : ℕ) → BeginsWithDigits bytes v n → 0 < v
+    → (get_or bytes 0 0 ≡ 48 → ⊥) → BeginsWithVariable bytes v n
 begins_variable bytes v n d p lead =
     let long : length (take n bytes) ≡ n = length-take-le n bytes d.within in
     let some : 0 < n = elim (cases_eq n 0) [
@@ -46,11 +48,13 @@ begins_variable bytes v n d p lead =
     }
 
 -- what spells a number begins with a digit
-word_positive : (ds : List ℕ) (v : ℕ) → number_of ds ≡ Some v → 0 < v → word_of ds ≡ Literal_word (record { variable = v; negated = false })
+word_positive : (ds : List ℕ) (v : ℕ) → number_of ds ≡ Some v → 0 < v
+    → word_of ds ≡ Literal_word (record { variable = v; negated = false })
 word_positive ds zero e p = absurd (omega arith)
 word_positive ds (suc n) e p = rw (literal_of-number ds n e) refl
 
-word_negated : (ds : List ℕ) (v : ℕ) → number_of ds ≡ Some v → 0 < v → word_of (45 ∷ ds) ≡ Literal_word (record { variable = v; negated = true })
+word_negated : (ds : List ℕ) (v : ℕ) → number_of ds ≡ Some v → 0 < v
+    → word_of (45 ∷ ds) ≡ Literal_word (record { variable = v; negated = true })
 word_negated ds zero e p = absurd (omega arith)
 word_negated ds (suc n) e p = rw e refl
 
@@ -61,7 +65,8 @@ nonempty bytes v n b =
       | inr z ↦ omega arith
     ]
 
-begins_positive : (bytes : List ℕ) (v n : ℕ) → BeginsWithVariable bytes v n → BeginsWithLiteral bytes (record { variable = v; negated = false }) (n + 0)
+begins_positive : (bytes : List ℕ) (v n : ℕ) → BeginsWithVariable bytes v n
+    → BeginsWithLiteral bytes (record { variable = v; negated = false }) (n + 0)
 begins_positive bytes v n b =
     let same : n + 0 ≡ n = omega arith in
     rw same (record {
@@ -72,7 +77,8 @@ begins_positive bytes v n b =
       within = b.within;
     })
 
-begins_negated : (bytes : List ℕ) (v n : ℕ) → BeginsWithVariable bytes v n → BeginsWithLiteral (45 ∷ bytes) (record { variable = v; negated = true }) (n + 1)
+begins_negated : (bytes : List ℕ) (v n : ℕ) → BeginsWithVariable bytes v n
+    → BeginsWithLiteral (45 ∷ bytes) (record { variable = v; negated = true }) (n + 1)
 begins_negated bytes v n b =
     let next : n + 1 ≡ suc n = omega arith in
     let longer : length (45 ∷ bytes) ≡ suc (length bytes) = refl in
@@ -84,7 +90,9 @@ begins_negated bytes v n b =
       within = omega (arith, b.within);
     }
 
-begins_at : (bytes : List ℕ) (s : Bool) (v n : ℕ) → s ≡ (get_or bytes 0 0 == 45) → (s ≡ true → 0 < length bytes) → BeginsWithVariable (take (length bytes - from_bool s) (drop (from_bool s) bytes)) v n
+begins_at : (bytes : List ℕ) (s : Bool) (v n : ℕ) → s ≡ (get_or bytes 0 0 == 45)
+    → (s ≡ true → 0 < length bytes)
+    → BeginsWithVariable (take (length bytes - from_bool s) (drop (from_bool s) bytes)) v n
     → BeginsWithLiteral bytes (record { variable = v; negated = s }) (n + from_bool s)
 begins_at bytes false v n e h b = begins_positive bytes v n (rw (take_rest bytes 0) at b)
 begins_at [] true v n e h b = absurd (omega (arith, h refl))
@@ -93,21 +101,27 @@ begins_at (x ∷ bytes) true v n e h b =
     rw dash (begins_negated bytes v n (rw (take_rest (x ∷ bytes) 1) at b))
 
 -- with a dash or none
-pub begins_signed : (bytes : List ℕ) (s : Bool) (k v n : ℕ) → s ≡ (get_or bytes 0 0 == 45) → (s ≡ true → 0 < length bytes) → k ≡ from_bool s → BeginsWithVariable (take (length bytes - k) (drop k bytes)) v n
+pub begins_signed : (bytes : List ℕ) (s : Bool) (k v n : ℕ) → s ≡ (get_or bytes 0 0 == 45)
+    → (s ≡ true → 0 < length bytes) → k ≡ from_bool s
+    → BeginsWithVariable (take (length bytes - k) (drop k bytes)) v n
     → BeginsWithLiteral bytes (record { variable = v; negated = s }) (n + k)
 begins_signed bytes s k v n e h d b = rw d (begins_at bytes s v n e h (rw d at b))
 
 -- the token after a space, and what is left
-tokens-spaced : (bytes : List ℕ) (l : Literal) (n : ℕ) → BeginsWithLiteral bytes l n → tokens_of (32 ∷ bytes) ≡ take n bytes ∷ tokens_of (drop n bytes)
+tokens-spaced : (bytes : List ℕ) (l : Literal) (n : ℕ) → BeginsWithLiteral bytes l n
+    → tokens_of (32 ∷ bytes) ≡ take n bytes ∷ tokens_of (drop n bytes)
 tokens-spaced bytes l n b =
     let first = tokens-first bytes (omega (arith, b.token, b.some)) in
     subst (λ m. tokens_of (32 ∷ bytes) ≡ take m bytes ∷ tokens_of (drop m bytes)) b.token first
 
-literal_seen : (t : List ℕ) (l : Literal) → word_of t ≡ Literal_word l → l.variable ≤ 4194304 → Word.Literal l ≡ seen (word_of t)
+literal_seen : (t : List ℕ) (l : Literal) → word_of t ≡ Literal_word l → l.variable ≤ 4194304
+    → Word.Literal l ≡ seen (word_of t)
 literal_seen t l e h = rw (e, le-ltb 4194304 l.variable h) refl
 
-pub next_spaced : (w left : List ℕ) (l : Literal) (n : ℕ) → (get_or w 0 0 == 32) ≡ true → 0 < length w → BeginsWithLiteral (take (length w - 1) (drop 1 w)) l n
-    → left ≡ take (length (take (length w - 1) (drop 1 w)) - n) (drop n (take (length w - 1) (drop 1 w))) → IsNextWord (tokens_of w) (Word.Literal l) (tokens_of left)
+pub next_spaced : (w left : List ℕ) (l : Literal) (n : ℕ) → (get_or w 0 0 == 32) ≡ true
+    → 0 < length w → BeginsWithLiteral (take (length w - 1) (drop 1 w)) l n
+    → left ≡ take (length (take (length w - 1) (drop 1 w)) - n) (drop n (take (length w - 1) (drop 1 w)))
+    → IsNextWord (tokens_of w) (Word.Literal l) (tokens_of left)
 next_spaced [] left l n e h b r = absurd (omega arith)
 next_spaced (x ∷ w) left l n e h b r =
     let space : x ≡ 32 = eqb-true x 32 e in

@@ -20,15 +20,18 @@ capped-digit v d =
       | inr low ↦ ap (λ n. capped (10 * n + d)) (capped-low v low)
     ]
 
-pub value_on-push : (n : ℕ) (ds : List ℕ) (b : ℕ) → value_on n (ds ++ b ∷ []) ≡ 10 * value_on n ds + (b - 48)
+pub value_on-push : (n : ℕ) (ds : List ℕ) (b : ℕ)
+    → value_on n (ds ++ b ∷ []) ≡ 10 * value_on n ds + (b - 48)
 value_on-push n [] b = refl
 value_on-push n (c ∷ cs) b = value_on-push (10 * n + (c - 48)) cs b
 
 -- the value so far, with the digit at i
-pub capped-more : (ds : List ℕ) (i v d w : ℕ) → i < length ds → v ≡ capped (value_on 0 (take i ds)) → d ≡ get_or ds i 0 → w ≡ capped (10 * v + (d - 48)) → w ≡ capped (value_on 0 (take (i + 1) ds))
+pub capped-more : (ds : List ℕ) (i v d w : ℕ) → i < length ds → v ≡ capped (value_on 0 (take i ds))
+    → d ≡ get_or ds i 0 → w ≡ capped (10 * v + (d - 48)) → w ≡ capped (value_on 0 (take (i + 1) ds))
 capped-more ds i v d w l before here after =
     after ∙ ap (λ n. capped (10 * n + (d - 48))) before ∙ capped-digit (value_on 0 (take i ds)) (d - 48)
     ∙ ap capped (ap (λ b. 10 * value_on 0 (take i ds) + (b - 48)) here ∙ sym (value_on-push 0 (take i ds) (get_or ds i 0)) ∙ ap (value_on 0) (sym (take_more ds i 0 l)))
 
-pub all_digits : (ds : List ℕ) → ((k : ℕ) → k < length ds → is_digit (get_or ds k 0) ≡ true) → list_all is_digit ds ≡ true
+pub all_digits : (ds : List ℕ) → ((k : ℕ) → k < length ds → is_digit (get_or ds k 0) ≡ true)
+    → list_all is_digit ds ≡ true
 all_digits ds h = list_all-from_AllPass is_digit ds (λ k d l. rw (get_or_default ds k d 0 l) (h k l))

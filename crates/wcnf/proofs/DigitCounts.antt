@@ -39,7 +39,9 @@ abbrev pub Tells : ℕ → ℕ → ℕ → Type 0
 Tells n b r = (b ≤ n → r ≡ 1) × (n < b → r ≡ 0)
 
 -- one for each bound that is reached
-pub counted : (n a b c d e f g h : ℕ) → n < 2 ^ 27 → Tells n 10 a → Tells n 100 b → Tells n 1000 c → Tells n 10000 d → Tells n 100000 e → Tells n 1000000 f → Tells n 10000000 g → Tells n 100000000 h → 1 + a + b + c + d + e + f + g + h ≡ length (decimal n)
+pub counted : (n a b c d e f g h : ℕ) → n < 2 ^ 27 → Tells n 10 a → Tells n 100 b → Tells n 1000 c
+    → Tells n 10000 d → Tells n 100000 e → Tells n 1000000 f → Tells n 10000000 g
+    → Tells n 100000000 h → 1 + a + b + c + d + e + f + g + h ≡ length (decimal n)
 counted n a b c d e f g h small ta tb tc td te tf tg th =
     elim (cases_lt n 10) [
       | inl lt1 ↦ omega (arith, length_1 n (omega arith), ta.1 (omega arith), tb.1 (omega arith), tc.1 (omega arith), td.1 (omega arith), te.1 (omega arith), tf.1 (omega arith), tg.1 (omega arith), th.1 (omega arith))

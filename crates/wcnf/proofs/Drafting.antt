@@ -16,7 +16,7 @@ use Rattle.wcnf.specs.Reading.{Word, Zero, Literal_word, Other, word_of, ended_a
 use Rattle.wcnf.specs.Drafts.{Gathered, emptied, with_literal, gather, gathered_at, Drafted, nothing_drafted, is_nil, is_empty, totals_of, variables_of, problem_drafted, with_clause, with_header, drafted_header, drafted_line, drafted_lines, finished}
 use Rattle.wcnf.proofs.Sound.{literal_eq-true}
 use Rattle.wcnf.proofs.Lines.{bind_ok}
-use Rattle.wcnf.proofs.Marks.{literal_eq-refl, literal_eq_ne, literal_ne, contains-push}
+use Rattle.wcnf.proofs.Literals.{literal_eq-refl, literal_eq_ne, literal_ne, contains-push}
 
 -- the literals of a clause, one after another
 abbrev gather_all : Gathered → List Literal → Gathered
@@ -26,11 +26,14 @@ gather_all g (l ∷ c) = gather_all (gather g l) c
 abbrev gathered_with : Gathered → ℕ → List Literal → Result (Gathered × ℕ) FaultKind
 gathered_with g n c = Ok (gather_all g c, n + length c)
 
-gathered_none : (g : Gathered) (n : ℕ) (r : Result (List Literal) FaultKind) → ((c : List Literal) → r ≡ Ok c → c ≡ []) → (r >>= λ c. gathered_with g n []) ≡ (r >>= gathered_with g n)
+gathered_none : (g : Gathered) (n : ℕ) (r : Result (List Literal) FaultKind)
+    → ((c : List Literal) → r ≡ Ok c → c ≡ [])
+    → (r >>= λ c. gathered_with g n []) ≡ (r >>= gathered_with g n)
 gathered_none g n (Err k) h = refl
 gathered_none g n (Ok c) h = rw (h c refl) refl
 
-ended_nil_at : (t : List ℕ) (ts : List (List ℕ)) (w : Word) (c : List Literal) → word_of t ≡ w → ended_at (t ∷ ts) ≡ Ok c → c ≡ []
+ended_nil_at : (t : List ℕ) (ts : List (List ℕ)) (w : Word) (c : List Literal) → word_of t ≡ w
+    → ended_at (t ∷ ts) ≡ Ok c → c ≡ []
 ended_nil_at t ts Zero c q e = let h = rw q at e in cc
 ended_nil_at t ts (Literal_word l) c q e = let h = rw q at e in cc
 ended_nil_at t ts Other c q e = let h = rw q at e in cc
@@ -45,14 +48,18 @@ gathered_zero g n = ap (λ m. gathered_pair m) (omega arith)
     gathered_pair : ℕ → Result (Gathered × ℕ) FaultKind
     gathered_pair m = Ok (g, m)
 
-gathered_more : (g : Gathered) (n : ℕ) (l : Literal) (r : Result (List Literal) FaultKind) → (r >>= gathered_with (gather g l) (n + 1)) ≡ ((r >>= λ c. Ok (l ∷ c)) >>= gathered_with g n)
+gathered_more : (g : Gathered) (n : ℕ) (l : Literal) (r : Result (List Literal) FaultKind)
+    → (r >>= gathered_with (gather g l) (n + 1)) ≡ ((r >>= λ c. Ok (l ∷ c)) >>= gathered_with g n)
 gathered_more g n l (Err k) = refl
 gathered_more g n l (Ok c) = ap (λ m. gathered_pair m) (omega arith)
   where
     gathered_pair : ℕ → Result (Gathered × ℕ) FaultKind
     gathered_pair m = Ok (gather_all (gather g l) c, m)
 
-gathered_word : (most : ℕ) (g : Gathered) (n : ℕ) (t : List ℕ) (ts : List (List ℕ)) (w : Word) → word_of t ≡ w → ((l : Literal) → gathered_at most (gather g l) (n + 1) ts ≡ (literals_at most (n + 1) ts >>= gathered_with (gather g l) (n + 1))) → gathered_at most g n (t ∷ ts) ≡ (literals_at most n (t ∷ ts) >>= gathered_with g n)
+gathered_word : (most : ℕ) (g : Gathered) (n : ℕ) (t : List ℕ) (ts : List (List ℕ)) (w : Word)
+    → word_of t ≡ w
+    → ((l : Literal) → gathered_at most (gather g l) (n + 1) ts ≡ (literals_at most (n + 1) ts >>= gathered_with (gather g l) (n + 1)))
+    → gathered_at most g n (t ∷ ts) ≡ (literals_at most n (t ∷ ts) >>= gathered_with g n)
 gathered_word most g n t ts Other q more = rw q refl
 gathered_word most g n t ts Zero q more = rw (q, gathered_zero g n) (gathered_none g n (ended_at ts) (ended_nil ts))
 gathered_word most g n t ts (Literal_word l) q more =
@@ -63,7 +70,8 @@ gathered_word most g n t ts (Literal_word l) q more =
     limits false true = refl
     limits false false = gathered_more g n l (literals_at most (n + 1) ts)
 
-gathered_at-is : (most : ℕ) (g : Gathered) (n : ℕ) (ts : List (List ℕ)) → gathered_at most g n ts ≡ (literals_at most n ts >>= gathered_with g n)
+gathered_at-is : (most : ℕ) (g : Gathered) (n : ℕ) (ts : List (List ℕ))
+    → gathered_at most g n ts ≡ (literals_at most n ts >>= gathered_with g n)
 gathered_at-is most g n [] = refl
 gathered_at-is most g n (t ∷ ts) = gathered_word most g n t ts (word_of t) refl (λ l. gathered_at-is most (gather g l) (n + 1) ts)
 
@@ -75,11 +83,13 @@ abbrev with_all : List Literal → List Literal → List Literal
 with_all d [] = d
 with_all d (l ∷ c) = with_all (with_literal d l) c
 
-kept : (b : Bool) (k : Literal) (xs ys : List Literal) → xs ≡ ys → (if not b then k ∷ xs else xs) ≡ (if not b then k ∷ ys else ys)
+kept : (b : Bool) (k : Literal) (xs ys : List Literal) → xs ≡ ys
+    → (if not b then k ∷ xs else xs) ≡ (if not b then k ∷ ys else ys)
 kept true k xs ys e = e
 kept false k xs ys e = ap (λ zs. k ∷ zs) e
 
-without_known : (l : Literal) (d xs : List Literal) → contains_literal l d ≡ true → without_all d (without_literal l xs) ≡ without_all d xs
+without_known : (l : Literal) (d xs : List Literal) → contains_literal l d ≡ true
+    → without_all d (without_literal l xs) ≡ without_all d xs
 without_known l d [] h = refl
 without_known l d (k ∷ xs) h =
     elim (cases_Bool (literal_eq l k)) [
@@ -89,7 +99,8 @@ without_known l d (k ∷ xs) h =
       | inr e ↦ rw e (kept (contains_literal k d) k _ _ (without_known l d xs h))
     ]
 
-without_more : (l : Literal) (d xs : List Literal) → without_all (d ++ l ∷ []) xs ≡ without_all d (without_literal l xs)
+without_more : (l : Literal) (d xs : List Literal)
+    → without_all (d ++ l ∷ []) xs ≡ without_all d (without_literal l xs)
 without_more l d [] = refl
 without_more l d (k ∷ xs) =
     elim (cases_Bool (literal_eq l k)) [
@@ -140,17 +151,25 @@ drafted_with d Ignored = d
 drafted_with d (Hard c) = with_clause d None (clause_kept d.variables c, d.literals + length c)
 drafted_with d (Soft w c) = with_clause d (Some w) (clause_kept d.variables c, d.literals + length c)
 
-line_at : (n : ℕ) (d : Drafted) (t : List ℕ) (ts : List (List ℕ)) → begins_comment t ≡ false → (is_empty d && is_p t) ≡ false → (h : Result (Option ℕ) FaultKind) → head_of d.header (totals_of d) t ≡ h → (r : Result (List Literal) FaultKind) → literals_at (most_variable d.header) d.literals ts ≡ r → gathered_at (most_variable d.header) (emptied d.variables) d.literals ts ≡ (r >>= gathered_with (emptied d.variables) d.literals) → drafted_line n d (t ∷ ts) ≡ (row_of d.header (totals_of d) (t ∷ ts) >>= λ r. Ok (drafted_with d r))
+line_at : (n : ℕ) (d : Drafted) (t : List ℕ) (ts : List (List ℕ)) → begins_comment t ≡ false
+    → (is_empty d && is_p t) ≡ false → (h : Result (Option ℕ) FaultKind)
+    → head_of d.header (totals_of d) t ≡ h → (r : Result (List Literal) FaultKind)
+    → literals_at (most_variable d.header) d.literals ts ≡ r
+    → gathered_at (most_variable d.header) (emptied d.variables) d.literals ts ≡ (r >>= gathered_with (emptied d.variables) d.literals)
+    → drafted_line n d (t ∷ ts) ≡ (row_of d.header (totals_of d) (t ∷ ts) >>= λ r. Ok (drafted_with d r))
 line_at n d t ts e p (Err k) q r l g = rw (e, p, q) refl
 line_at n d t ts e p (Ok w) q (Err k) l g = rw (e, p, q, g, l) refl
 line_at n d t ts e p (Ok None) q (Ok c) l g = rw (e, p, q, g, l, gathered-kept d.variables c) refl
 line_at n d t ts e p (Ok (Some w)) q (Ok c) l g = rw (e, p, q, g, l, gathered-kept d.variables c) refl
 
-clause_line : (n : ℕ) (d : Drafted) (t : List ℕ) (ts : List (List ℕ)) → begins_comment t ≡ false → (is_empty d && is_p t) ≡ false → drafted_line n d (t ∷ ts) ≡ (row_of d.header (totals_of d) (t ∷ ts) >>= λ r. Ok (drafted_with d r))
+clause_line : (n : ℕ) (d : Drafted) (t : List ℕ) (ts : List (List ℕ)) → begins_comment t ≡ false
+    → (is_empty d && is_p t) ≡ false
+    → drafted_line n d (t ∷ ts) ≡ (row_of d.header (totals_of d) (t ∷ ts) >>= λ r. Ok (drafted_with d r))
 clause_line n d t ts e p = line_at n d t ts e p _ refl _ refl (gathered_at-is (most_variable d.header) (emptied d.variables) d.literals ts)
 
 -- a line after the header, or after the first clause
-drafted_line-is : (n : ℕ) (d : Drafted) (ts : List (List ℕ)) → is_empty d ≡ false → drafted_line n d ts ≡ (row_of d.header (totals_of d) ts >>= λ r. Ok (drafted_with d r))
+drafted_line-is : (n : ℕ) (d : Drafted) (ts : List (List ℕ)) → is_empty d ≡ false
+    → drafted_line n d ts ≡ (row_of d.header (totals_of d) ts >>= λ r. Ok (drafted_with d r))
 drafted_line-is n d [] b = refl
 drafted_line-is n d (t ∷ ts) b =
     elim (cases_Bool (begins_comment t)) [
@@ -163,7 +182,8 @@ header-drafted_with d Ignored = refl
 header-drafted_with d (Hard c) = refl
 header-drafted_with d (Soft w c) = refl
 
-totals-drafted_with : (d : Drafted) (r : Row) → totals_of (drafted_with d r) ≡ with_row (totals_of d) r
+totals-drafted_with : (d : Drafted) (r : Row)
+    → totals_of (drafted_with d r) ≡ with_row (totals_of d) r
 totals-drafted_with d Ignored = refl
 totals-drafted_with d (Hard c) = let e = length_push d.hard (distinct c) in λ i. record { hard = e i; soft = length d.soft; literals = d.literals + length c; weight = d.weight }
 totals-drafted_with d (Soft w c) =
@@ -205,11 +225,19 @@ begun_with d (Soft w c) b = begun_soft d w c
 abbrev Drafts : Drafted → ℕ → List (List ℕ) → Type 0
 Drafts d n ls = drafted_lines d (enumerate_from n ls) ≡ (rows_on d.header (totals_of d) n (map tokens_of ls) >>= λ rs. Ok (with_rows d rs))
 
-lines_at : (d : Drafted) (n : ℕ) (l : List ℕ) (ls : List (List ℕ)) (r : Row) → drafted_line n d (tokens_of l) ≡ Ok (drafted_with d r) → row_of d.header (totals_of d) (tokens_of l) ≡ Ok r → (x : Result (List Row) (FaultKind × ℕ)) → rows_on d.header (with_row (totals_of d) r) (n + 1) (map tokens_of ls) ≡ x → drafted_lines (drafted_with d r) (enumerate_from (n + 1) ls) ≡ (x >>= λ rs. Ok (with_rows (drafted_with d r) rs)) → Drafts d n (l ∷ ls)
+lines_at : (d : Drafted) (n : ℕ) (l : List ℕ) (ls : List (List ℕ)) (r : Row)
+    → drafted_line n d (tokens_of l) ≡ Ok (drafted_with d r)
+    → row_of d.header (totals_of d) (tokens_of l) ≡ Ok r → (x : Result (List Row) (FaultKind × ℕ))
+    → rows_on d.header (with_row (totals_of d) r) (n + 1) (map tokens_of ls) ≡ x
+    → drafted_lines (drafted_with d r) (enumerate_from (n + 1) ls) ≡ (x >>= λ rs. Ok (with_rows (drafted_with d r) rs))
+    → Drafts d n (l ∷ ls)
 lines_at d n l ls r a q (Err e) k more = rw (a, q, k, more) refl
 lines_at d n l ls r a q (Ok rs) k more = rw (a, q, k, more) refl
 
-lines_more : (d : Drafted) (n : ℕ) (l : List ℕ) (ls : List (List ℕ)) → drafted_line n d (tokens_of l) ≡ (row_of d.header (totals_of d) (tokens_of l) >>= λ r. Ok (drafted_with d r)) → (x : Result Row FaultKind) → row_of d.header (totals_of d) (tokens_of l) ≡ x → ((r : Row) → x ≡ Ok r → Drafts (drafted_with d r) (n + 1) ls) → Drafts d n (l ∷ ls)
+lines_more : (d : Drafted) (n : ℕ) (l : List ℕ) (ls : List (List ℕ))
+    → drafted_line n d (tokens_of l) ≡ (row_of d.header (totals_of d) (tokens_of l) >>= λ r. Ok (drafted_with d r))
+    → (x : Result Row FaultKind) → row_of d.header (totals_of d) (tokens_of l) ≡ x
+    → ((r : Row) → x ≡ Ok r → Drafts (drafted_with d r) (n + 1) ls) → Drafts d n (l ∷ ls)
 lines_more d n l ls a (Err k) q more = rw (a, q) refl
 lines_more d n l ls a (Ok r) q more = lines_at d n l ls r (a ∙ rw q refl) q _ refl (rw (header-drafted_with d r, totals-drafted_with d r) at (more r refl))
 
@@ -217,7 +245,8 @@ lines-are : (d : Drafted) (n : ℕ) (ls : List (List ℕ)) → is_empty d ≡ fa
 lines-are d n [] b = refl
 lines-are d n (l ∷ ls) b = lines_more d n l ls (drafted_line-is n d (tokens_of l) b) (row_of d.header (totals_of d) (tokens_of l)) refl (λ r e. lines-are (drafted_with d r) (n + 1) ls (begun_with d r b))
 
-pub greatest-append : (c d : List Literal) → greatest_variable (c ++ d) ≡ max (greatest_variable c) (greatest_variable d)
+pub greatest-append : (c d : List Literal)
+    → greatest_variable (c ++ d) ≡ max (greatest_variable c) (greatest_variable d)
 greatest-append [] d = omega arith
 greatest-append (l ∷ c) d = omega (arith, greatest-append c d)
 
@@ -261,12 +290,16 @@ drafted-joined rs =
     let v : max 0 (greatest_variable (flat_map literals_of rs)) ≡ greatest_variable (flat_map literals_of rs) = omega arith in
     with_rows-are nothing_drafted rs ∙ (λ i. record { variables = v i; hard = hard_of rs; soft = soft_of rs })
 
-today_read : (x : Result (List Row) (FaultKind × ℕ)) → ((x >>= λ rs. Ok (with_rows nothing_drafted rs)) >>= finished) ≡ (x >>= λ rs. Ok (problem_of rs))
+today_read : (x : Result (List Row) (FaultKind × ℕ))
+    → ((x >>= λ rs. Ok (with_rows nothing_drafted rs)) >>= finished)
+    ≡ (x >>= λ rs. Ok (problem_of rs))
 today_read (Err e) = refl
 today_read (Ok rs) = finished_today (with_rows nothing_drafted rs) (header-with_rows nothing_drafted rs) ∙ ap (λ p. Ok p) (drafted-joined rs)
 
 -- the end of a text of the older form
-finished_older : (d : Drafted) (h : Header) (m : ℕ) (n : ℕ) → d.header ≡ Some h → d.line ≡ n → length d.hard + length d.soft ≡ m → (p : Problem) → problem_drafted d ≡ p → finished d ≡ (if nat_lt m h.clauses then Err (Count, n) else Ok p)
+finished_older : (d : Drafted) (h : Header) (m : ℕ) (n : ℕ) → d.header ≡ Some h → d.line ≡ n
+    → length d.hard + length d.soft ≡ m → (p : Problem) → problem_drafted d ≡ p
+    → finished d ≡ (if nat_lt m h.clauses then Err (Count, n) else Ok p)
 finished_older d h m n e l c p q = rw (sym c, sym l, sym q) (by_count (nat_lt (length d.hard + length d.soft) h.clauses) refl)
   where
     by_count : (b : Bool) → nat_lt (length d.hard + length d.soft) h.clauses ≡ b → finished d ≡ (if nat_lt (length d.hard + length d.soft) h.clauses then Err (Count, d.line) else Ok (problem_drafted d))
@@ -276,10 +309,12 @@ finished_older d h m n e l c p q = rw (sym c, sym l, sym q) (by_count (nat_lt (l
 abbrev begun : ℕ → Header → Drafted
 begun n h = with_header n nothing_drafted h
 
-older_problem : (n : ℕ) (h : Header) (rs : List Row) → problem_drafted (with_rows (begun n h) rs) ≡ headed_problem h rs
+older_problem : (n : ℕ) (h : Header) (rs : List Row)
+    → problem_drafted (with_rows (begun n h) rs) ≡ headed_problem h rs
 older_problem n h rs = with_rows-are (begun n h) rs
 
-older_read : (n : ℕ) (h : Header) (x : Result (List Row) (FaultKind × ℕ)) → ((x >>= λ rs. Ok (with_rows (begun n h) rs)) >>= finished) ≡ (x >>= headed n h)
+older_read : (n : ℕ) (h : Header) (x : Result (List Row) (FaultKind × ℕ))
+    → ((x >>= λ rs. Ok (with_rows (begun n h) rs)) >>= finished) ≡ (x >>= headed n h)
 older_read n h (Err e) = refl
 older_read n h (Ok rs) =
     let p = older_problem n h rs in
@@ -292,7 +327,9 @@ abbrev OpensAt : ℕ → List (List ℕ) → Type 0
 OpensAt n ls = (drafted_lines nothing_drafted (enumerate_from n ls) >>= finished) ≡ reading_on n (map tokens_of ls) (heading_on n (map tokens_of ls))
 
 -- a line that is passed over
-passed : (n : ℕ) (l : List (List ℕ)) (ls : List (List (List ℕ))) → row_of None no_totals l ≡ Ok Ignored → (o : Option Heading) → reading_on n (l ∷ ls) o ≡ reading_on (n + 1) ls o
+passed : (n : ℕ) (l : List (List ℕ)) (ls : List (List (List ℕ)))
+    → row_of None no_totals l ≡ Ok Ignored → (o : Option Heading)
+    → reading_on n (l ∷ ls) o ≡ reading_on (n + 1) ls o
 passed n l ls e (Some g) = refl
 passed n l ls e None = passed_at (rows_on None no_totals (n + 1) ls) refl
   where
@@ -300,20 +337,28 @@ passed n l ls e None = passed_at (rows_on None no_totals (n + 1) ls) refl
     passed_at (Err f) q = rw (e, q) refl
     passed_at (Ok rs) q = rw (e, q) refl
 
-opens_passed : (n : ℕ) (l : List ℕ) (ls : List (List ℕ)) → drafted_line n nothing_drafted (tokens_of l) ≡ Ok nothing_drafted → row_of None no_totals (tokens_of l) ≡ Ok Ignored → heading_on n (tokens_of l ∷ map tokens_of ls) ≡ heading_on (n + 1) (map tokens_of ls) → OpensAt (n + 1) ls → OpensAt n (l ∷ ls)
+opens_passed : (n : ℕ) (l : List ℕ) (ls : List (List ℕ))
+    → drafted_line n nothing_drafted (tokens_of l) ≡ Ok nothing_drafted
+    → row_of None no_totals (tokens_of l) ≡ Ok Ignored
+    → heading_on n (tokens_of l ∷ map tokens_of ls) ≡ heading_on (n + 1) (map tokens_of ls)
+    → OpensAt (n + 1) ls → OpensAt n (l ∷ ls)
 opens_passed n l ls d r h more =
     let e : drafted_lines nothing_drafted (enumerate_from n (l ∷ ls)) ≡ drafted_lines nothing_drafted (enumerate_from (n + 1) ls) = rw d refl in
     rw (e, h) (more ∙ sym (passed n (tokens_of l) (map tokens_of ls) r (heading_on (n + 1) (map tokens_of ls))))
 
 -- the header
-opens_headed : (n : ℕ) (l : List ℕ) (ls : List (List ℕ)) (ts : List (List ℕ)) → drafted_line n nothing_drafted (tokens_of l) ≡ drafted_header n nothing_drafted ts → heading_on n (tokens_of l ∷ map tokens_of ls) ≡ Some (record { line = n; tokens = ts; after = map tokens_of ls }) → (x : Result Header FaultKind) → header_of ts ≡ x → OpensAt n (l ∷ ls)
+opens_headed : (n : ℕ) (l : List ℕ) (ls : List (List ℕ)) (ts : List (List ℕ))
+    → drafted_line n nothing_drafted (tokens_of l) ≡ drafted_header n nothing_drafted ts
+    → heading_on n (tokens_of l ∷ map tokens_of ls) ≡ Some (record { line = n; tokens = ts; after = map tokens_of ls })
+    → (x : Result Header FaultKind) → header_of ts ≡ x → OpensAt n (l ∷ ls)
 opens_headed n l ls ts d h (Err k) q = rw (d, h, q) refl
 opens_headed n l ls ts d h (Ok k) q =
     let e : drafted_lines nothing_drafted (enumerate_from n (l ∷ ls)) ≡ drafted_lines (begun n k) (enumerate_from (n + 1) ls) = rw (d, q) refl in
     rw (e, lines-are (begun n k) (n + 1) ls refl, h, q) (older_read n k (rows_on (Some k) no_totals (n + 1) (map tokens_of ls)))
 
 -- the first clause
-not_ignored : (t : List ℕ) (ts : List (List ℕ)) (r : Row) → begins_comment t ≡ false → row_of None no_totals (t ∷ ts) ≡ Ok r → is_empty (drafted_with nothing_drafted r) ≡ false
+not_ignored : (t : List ℕ) (ts : List (List ℕ)) (r : Row) → begins_comment t ≡ false
+    → row_of None no_totals (t ∷ ts) ≡ Ok r → is_empty (drafted_with nothing_drafted r) ≡ false
 not_ignored t ts (Hard c) b e = refl
 not_ignored t ts (Soft w c) b e = refl
 not_ignored t ts Ignored b e =
@@ -325,14 +370,16 @@ not_ignored t ts Ignored b e =
     no_clause None c e = cc
     no_clause (Some w) c e = cc
 
-opens_clause : (n : ℕ) (l : List ℕ) (ls : List (List ℕ)) (t : List ℕ) (ts : List (List ℕ)) → tokens_of l ≡ t ∷ ts → begins_comment t ≡ false → is_p t ≡ false → OpensAt n (l ∷ ls)
+opens_clause : (n : ℕ) (l : List ℕ) (ls : List (List ℕ)) (t : List ℕ) (ts : List (List ℕ))
+    → tokens_of l ≡ t ∷ ts → begins_comment t ≡ false → is_p t ≡ false → OpensAt n (l ∷ ls)
 opens_clause n l ls t ts s c p =
     let a : drafted_line n nothing_drafted (tokens_of l) ≡ (row_of None no_totals (tokens_of l) >>= λ r. Ok (drafted_with nothing_drafted r)) = rw s (clause_line n nothing_drafted t ts c p) in
     let none : heading_on n (tokens_of l ∷ map tokens_of ls) ≡ None = rw (s, c, p) refl in
     let drafts : Drafts nothing_drafted n (l ∷ ls) = lines_more nothing_drafted n l ls a (row_of None no_totals (tokens_of l)) refl (λ r e. lines-are (drafted_with nothing_drafted r) (n + 1) ls (not_ignored t ts r c (rw s at e))) in
     rw (drafts, none) (today_read (rows_on None no_totals n (map tokens_of (l ∷ ls))))
 
-opens_line : (n : ℕ) (l : List ℕ) (ls : List (List ℕ)) (ts : List (List ℕ)) → tokens_of l ≡ ts → OpensAt (n + 1) ls → OpensAt n (l ∷ ls)
+opens_line : (n : ℕ) (l : List ℕ) (ls : List (List ℕ)) (ts : List (List ℕ)) → tokens_of l ≡ ts
+    → OpensAt (n + 1) ls → OpensAt n (l ∷ ls)
 opens_line n l ls [] s more = opens_passed n l ls (rw s refl) (rw s refl) (rw s refl) more
 opens_line n l ls (t ∷ ts) s more =
     elim (cases_Bool (begins_comment t)) [
@@ -348,5 +395,6 @@ opens n [] = refl
 opens n (l ∷ ls) = opens_line n l ls (tokens_of l) refl (opens (n + 1) ls)
 
 -- the whole text
-pub reading-drafted : (text : List ℕ) → reading_of text ≡ (drafted_lines nothing_drafted (numbered_text text) >>= finished)
+pub reading-drafted : (text : List ℕ)
+    → reading_of text ≡ (drafted_lines nothing_drafted (numbered_text text) >>= finished)
 reading-drafted text = sym (opens 1 (lines text))

@@ -8,10 +8,12 @@ use Rattle.wcnf.specs.Text.{IsFirstFeed}
 abbrev is_feed : ℕ → Bool
 is_feed b = b == 10
 
-byte_before : (w : List ℕ) (end k : ℕ) → end < length w → k < length (take end w) → (k < end) × (get_or (take end w) k 0 ≡ get_or w k 0)
+byte_before : (w : List ℕ) (end k : ℕ) → end < length w → k < length (take end w)
+    → (k < end) × (get_or (take end w) k 0 ≡ get_or w k 0)
 byte_before w end k h lt = (grind (arith, common_steps), grind (arith, common_steps))
 
-pub first_feed : (w : List ℕ) (end : ℕ) → end < length w → get_or w end 0 ≡ 10 → ((k : ℕ) → k < end → is_feed (get_or w k 0) ≡ false) → IsFirstFeed w end
+pub first_feed : (w : List ℕ) (end : ℕ) → end < length w → get_or w end 0 ≡ 10
+    → ((k : ℕ) → k < end → is_feed (get_or w k 0) ≡ false) → IsFirstFeed w end
 first_feed w end h here before = record {
   within = h;
   split = sym (take-append-drop end w) ∙ ap (λ x. take end w ++ x) (drop_at ∙ ap (λ b. b ∷ drop (end + 1) w) here);

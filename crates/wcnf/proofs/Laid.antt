@@ -10,10 +10,12 @@ use Rattle.std.proofs.lemmas.Slice.{between_is}
 use lib.Seq.{paste}
 
 -- a range of a list that grew
-pub range-append : {X : Type 0} (xs more : List X) (i n : ℕ) → i ≤ n → n ≤ length xs → slice_range (xs ++ more) i n ≡ slice_range xs i n
+pub range-append : {X : Type 0} (xs more : List X) (i n : ℕ) → i ≤ n → n ≤ length xs
+    → slice_range (xs ++ more) i n ≡ slice_range xs i n
 range-append xs more i n h k = Prim.grind (arith, common_steps)
 
-pub range-appended : {X : Type 0} (xs more : List X) (i n : ℕ) → i ≡ length xs → n ≡ length xs + length more → slice_range (xs ++ more) i n ≡ more
+pub range-appended : {X : Type 0} (xs more : List X) (i n : ℕ) → i ≡ length xs
+    → n ≡ length xs + length more → slice_range (xs ++ more) i n ≡ more
 range-appended xs more i n h k = Prim.grind (arith, common_steps)
 
 -- a range by its place and its length, in two lists that agree there
@@ -23,15 +25,18 @@ part xs from n = slice_range xs from (from + n)
 part_drop : {X : Type 0} (xs : List X) (from n : ℕ) → part xs from n ≡ take n (drop from xs)
 part_drop xs from n = let e : from + n - from ≡ n = omega arith in ap (λ k. take k (drop from xs)) e
 
-part_take : {X : Type 0} (xs : List X) (from n : ℕ) → part xs from n ≡ drop from (take (from + n) xs)
+part_take : {X : Type 0} (xs : List X) (from n : ℕ)
+    → part xs from n ≡ drop from (take (from + n) xs)
 part_take xs from n = between_is xs from (from + n)
 
-part_below : {X : Type 0} (xs ys : List X) (to from n : ℕ) → from + n ≤ to → take to xs ≡ take to ys → part xs from n ≡ part ys from n
+part_below : {X : Type 0} (xs ys : List X) (to from n : ℕ) → from + n ≤ to → take to xs ≡ take to ys
+    → part xs from n ≡ part ys from n
 part_below xs ys to from n h e =
     let a : take (from + n) xs ≡ take (from + n) ys = sym (take-take (from + n) to xs h) ∙ ap (take (from + n)) e ∙ take-take (from + n) to ys h in
     part_take xs from n ∙ ap (drop from) a ∙ sym (part_take ys from n)
 
-part_above : {X : Type 0} (xs ys : List X) (at from n : ℕ) → at ≤ from → drop at xs ≡ drop at ys → part xs from n ≡ part ys from n
+part_above : {X : Type 0} (xs ys : List X) (at from n : ℕ) → at ≤ from → drop at xs ≡ drop at ys
+    → part xs from n ≡ part ys from n
 part_above xs ys at from n h e =
     let s : at + (from - at) ≡ from = omega arith in
     let l : drop (from - at) (drop at xs) ≡ drop from xs = drop-drop (from - at) at xs ∙ ap (λ k. drop k xs) s in

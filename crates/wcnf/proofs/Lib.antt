@@ -10,6 +10,7 @@ mod Passing
 mod Laid
 mod Cutting
 mod Rising
+mod Literals
 mod Marks
 mod Zeros
 mod FirstPieces

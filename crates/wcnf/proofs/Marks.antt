@@ -1,56 +1,17 @@
 -- The marks of a clause's literals, as one more is set, as one is taken back, and as room is made for more variables.
-use Rattle.std.proofs.Common.{◌≡◌, ◌≢◌, ℕ, ◌+◌, ◌-◌, ◌*◌, ◌<◌, ◌≤◌, Bool, true, false, ◌||◌, List, [], ◌∷◌, ◌++◌, inl, inr, refl, sym, ◌∙◌, ap, arith, length, get_or, set, length-set, get_or-set_same, get_or-set_other}
-use Rattle.std.specs.Prelude.{if◌then◌else◌}
+use Rattle.std.proofs.Common.{◌≡◌, ℕ, ◌<◌, ◌≤◌, Bool, true, false, ◌||◌, if◌then◌else◌, List, [], ◌∷◌, ◌++◌, inl, inr, refl, sym, ◌∙◌, ap, arith, length, get_or, set, length-set, get_or-set_same, get_or-set_other}
 use Rattle.std.specs.List.{AllByRecursion}
-use Rattle.std.proofs.lemmas.Bool.{and_from, or_from, or_parts, or_left, eq-eqb, false_from_ne_true, cases_Bool, both_ways, cases_lt}
+use Rattle.std.proofs.lemmas.Bool.{or_from, or_parts, or_left, cases_Bool, both_ways, cases_lt}
 use Rattle.std.proofs.lemmas.List.{get_or_past}
-use Rattle.std.proofs.Math.Bool.{or-false}
-use Rattle.wcnf.specs.Literal.{Literal, literal_eq, same_bool, index_of}
+use Rattle.wcnf.specs.Literal.{Literal, literal_eq, index_of}
 use Rattle.wcnf.specs.Clause.{contains_literal, has_repeat}
+use Rattle.wcnf.specs.Marks.{mark_of, IsMarked}
 use Rattle.wcnf.specs.Drafts.{AreMarked}
 use Rattle.wcnf.proofs.Sound.{literal_eq-true}
+use Rattle.wcnf.proofs.Literals.{literal_eq-refl, literal_eq_ne, literal_ne, index_same, index_below, contains-push}
 
-same_bool-refl : (b : Bool) → same_bool b b ≡ true
-same_bool-refl true = refl
-same_bool-refl false = refl
-
-pub literal_eq-refl : (l : Literal) → literal_eq l l ≡ true
-literal_eq-refl l = and_from _ _ (eq-eqb l.variable l.variable refl) (same_bool-refl l.negated)
-
-pub literal_eq_ne : (k l : Literal) → (k ≡ l → ⊥) → literal_eq k l ≡ false
-literal_eq_ne k l n = false_from_ne_true (literal_eq k l) (λ e. n (literal_eq-true k l e))
-
-pub literal_ne : (k l : Literal) → literal_eq k l ≡ false → k ≡ l → ⊥
-literal_ne k l e s = both_ways (literal_eq k l) e (rw s (literal_eq-refl l))
-
-index_same_at : (v w : ℕ) (s t : Bool) → 0 < v → 0 < w → 2 * (v - 1) + (if s then 1 else 0) ≡ 2 * (w - 1) + (if t then 1 else 0) → (v ≡ w) × (s ≡ t)
-index_same_at v w true true p q e = (omega arith, refl)
-index_same_at v w true false p q e = absurd (omega arith)
-index_same_at v w false true p q e = absurd (omega arith)
-index_same_at v w false false p q e = (omega arith, refl)
-
-pub index_same : (k l : Literal) → 0 < k.variable → 0 < l.variable → index_of k ≡ index_of l → k ≡ l
-index_same k l p q e =
-    let h = index_same_at k.variable l.variable k.negated l.negated p q e in
-    λ i. record { variable = h.0 i; negated = h.1 i }
-
-index_below_at : (v : ℕ) (s : Bool) → 0 < v → 2 * (v - 1) + (if s then 1 else 0) < 2 * v
-index_below_at v true p = omega arith
-index_below_at v false p = omega arith
-
-pub index_below : (l : Literal) (n : ℕ) → 0 < l.variable → l.variable ≤ n → index_of l < 2 * n
-index_below l n p h = omega (arith, index_below_at l.variable l.negated p)
-
-index_above_at : (v n : ℕ) (s : Bool) → n < v → 2 * n ≤ 2 * (v - 1) + (if s then 1 else 0)
-index_above_at v n true h = omega arith
-index_above_at v n false h = omega arith
-
--- one more literal at the end
-pub contains-push : (m : Literal) (c : List Literal) (l : Literal) → contains_literal m (c ++ l ∷ []) ≡ (contains_literal m c || literal_eq m l)
-contains-push m [] l = or-false (literal_eq m l)
-contains-push m (k ∷ c) l = elim (literal_eq m k) as (λ b. (b || contains_literal m (c ++ l ∷ [])) ≡ ((b || contains_literal m c) || literal_eq m l)) [ true ↦ refl | false ↦ contains-push m c l ]
-
-pub repeat-push : (c : List Literal) (l : Literal) → contains_literal l c ≡ false → has_repeat c ≡ false → has_repeat (c ++ l ∷ []) ≡ false
+pub repeat-push : (c : List Literal) (l : Literal) → contains_literal l c ≡ false
+    → has_repeat c ≡ false → has_repeat (c ++ l ∷ []) ≡ false
 repeat-push [] l n h = refl
 repeat-push (k ∷ c) l n h =
     let p = or_parts (literal_eq l k) (contains_literal l c) n in
@@ -58,37 +19,55 @@ repeat-push (k ∷ c) l n h =
     let other : literal_eq k l ≡ false = literal_eq_ne k l (λ e. literal_ne l k p.0 (sym e)) in
     or_from (contains_literal k (c ++ l ∷ [])) (has_repeat (c ++ l ∷ [])) (contains-push k c l ∙ or_from (contains_literal k c) (literal_eq k l) q.0 other) (repeat-push c l p.1 q.1)
 
-positive-push : (c : List Literal) (l : Literal) → AllByRecursion (λ k. 0 < k.variable) c → 0 < l.variable → AllByRecursion (λ k. 0 < k.variable) (c ++ l ∷ [])
+positive-push : (c : List Literal) (l : Literal) → AllByRecursion (λ k. 0 < k.variable) c
+    → 0 < l.variable → AllByRecursion (λ k. 0 < k.variable) (c ++ l ∷ [])
 positive-push [] l a p = (p, tt)
 positive-push (k ∷ c) l a p = (a.0, positive-push c l a.1 p)
 
-marked_one : (marks : List Bool) (c : List Literal) (l m : Literal) → 0 < l.variable → 0 < m.variable → index_of l < length marks → get_or marks (index_of m) false ≡ contains_literal m c → get_or (set marks (index_of l) true) (index_of m) false ≡ contains_literal m (c ++ l ∷ [])
-marked_one marks c l m p q within e =
-    elim (cases_Bool (literal_eq m l)) [
-      | inl s ↦
-          let same : m ≡ l = literal_eq-true m l s in
-          let here : contains_literal m (c ++ l ∷ []) ≡ true = contains-push m c l ∙ or_right (contains_literal m c) (literal_eq m l) s in
-          rw (here, same) (get_or-set_same marks (index_of l) true false within)
-      | inr s ↦
-          let other : index_of m ≢ index_of l = λ i. literal_ne m l s (index_same m l q p i) in
-          let none : contains_literal m (c ++ l ∷ []) ≡ contains_literal m c = contains-push m c l ∙ or_false (contains_literal m c) (literal_eq m l) s in
-          get_or-set_other marks (index_of l) (index_of m) true false other ∙ e ∙ sym none
-    ]
+-- after a write at the place of l
+mark-set : (marks : List Bool) (b : Bool) (k l : Literal) → 0 < k.variable → 0 < l.variable
+    → index_of l < length marks
+    → mark_of (set marks (index_of l) b) k ≡ (if literal_eq k l then b else mark_of marks k)
+mark-set marks b k l p q h =
+    elim (literal_eq k l) as (λ x. literal_eq k l ≡ x → mark_of (set marks (index_of l) b) k ≡ (if x then b else mark_of marks k)) [
+      | true ↦ λ e. ap (mark_of (set marks (index_of l) b)) (literal_eq-true k l e) ∙ get_or-set_same marks (index_of l) b false h
+      | false ↦ λ e. get_or-set_other marks (index_of l) (index_of k) b false (λ same. literal_ne k l e (index_same k l p q same))
+    ] refl
+
+-- one literal more is marked
+pub marked_one : (marks : List Bool) (c : List Literal) (l : Literal) → 0 < l.variable
+    → index_of l < length marks → IsMarked marks c
+    → IsMarked (set marks (index_of l) true) (c ++ l ∷ [])
+marked_one marks c l q h m = record {
+  marked = λ k p. mark-set marks true k l p q h ∙ by (literal_eq k l) (mark_of marks k) (contains_literal k c) (m.marked k p) ∙ sym (contains-push k c l);
+}
   where
-    or_right : (x y : Bool) → y ≡ true → (x || y) ≡ true
-    or_right true y e = refl
-    or_right false y e = e
+    by : (b m c : Bool) → m ≡ c → (if b then true else m) ≡ (c || b)
+    by true m true e = refl
+    by true m false e = refl
+    by false m true e = e
+    by false m false e = e
 
-    or_false : (x y : Bool) → y ≡ false → (x || y) ≡ x
-    or_false true y e = refl
-    or_false false y e = e
+-- one literal less, which stands once
+pub unmarked_one : (marks : List Bool) (c : List Literal) (l : Literal) → 0 < l.variable
+    → index_of l < length marks → contains_literal l c ≡ false → IsMarked marks (l ∷ c)
+    → IsMarked (set marks (index_of l) false) c
+unmarked_one marks c l q h once m = record {
+  marked = λ k p.
+      elim (cases_Bool (literal_eq k l)) [
+        | inl s ↦ mark-set marks false k l p q h ∙ rw s (sym (ap (λ x. contains_literal x c) (literal_eq-true k l s) ∙ once))
+        | inr s ↦ mark-set marks false k l p q h ∙ rw s (m.marked k p ∙ ap (λ b. b || contains_literal k c) s)
+      ];
+}
 
-pub marked-push : (v : ℕ) (marks : List Bool) (c : List Literal) (l : Literal) → AreMarked v marks c → 0 < l.variable → l.variable ≤ v → get_or marks (index_of l) false ≡ false → AreMarked v (set marks (index_of l) true) (c ++ l ∷ [])
+pub marked-push : (v : ℕ) (marks : List Bool) (c : List Literal) (l : Literal) → AreMarked v marks c
+    → 0 < l.variable → l.variable ≤ v → get_or marks (index_of l) false ≡ false
+    → AreMarked v (set marks (index_of l) true) (c ++ l ∷ [])
 marked-push v marks c l a p h unset =
     let within : index_of l < length marks = omega (arith, index_below l v p h, a.count) in
     record {
       count = length-set marks (index_of l) true ∙ a.count;
-      marked = λ m q. marked_one marks c l m p q within (a.marked m q);
+      marked = (marked_one marks c l p within (record { marked = a.marked })).marked;
       positive = positive-push c l a.positive p;
       once = repeat-push c l (sym (a.marked l p) ∙ unset) a.once;
     }
@@ -101,27 +80,18 @@ set_within marks i e =
       | inr h ↦ absurd (both_ways (get_or marks i false) (get_or_past marks i false h) e)
     ]
 
-pub first_within : (v : ℕ) (marks : List Bool) (c : List Literal) (l : Literal) → AreMarked v marks (l ∷ c) → index_of l < length marks
+pub first_within : (v : ℕ) (marks : List Bool) (c : List Literal) (l : Literal)
+    → AreMarked v marks (l ∷ c) → index_of l < length marks
 first_within v marks c l a =
     set_within marks (index_of l) (a.marked l a.positive.0 ∙ or_left (literal_eq l l) (contains_literal l c) (literal_eq-refl l))
 
-unmarked_one : (marks : List Bool) (c : List Literal) (l m : Literal) → 0 < l.variable → 0 < m.variable → index_of l < length marks → contains_literal l c ≡ false → get_or marks (index_of m) false ≡ contains_literal m (l ∷ c) → get_or (set marks (index_of l) false) (index_of m) false ≡ contains_literal m c
-unmarked_one marks c l m p q within once e =
-    elim (cases_Bool (literal_eq m l)) [
-      | inl s ↦
-          let same : m ≡ l = literal_eq-true m l s in
-          rw (same, once) (get_or-set_same marks (index_of l) false false within)
-      | inr s ↦
-          let other : index_of m ≢ index_of l = λ i. literal_ne m l s (index_same m l q p i) in
-          get_or-set_other marks (index_of l) (index_of m) false false other ∙ e ∙ ap (λ b. b || contains_literal m c) s
-    ]
-
-pub marked-first : (v : ℕ) (marks : List Bool) (c : List Literal) (l : Literal) → AreMarked v marks (l ∷ c) → AreMarked v (set marks (index_of l) false) c
+pub marked-first : (v : ℕ) (marks : List Bool) (c : List Literal) (l : Literal)
+    → AreMarked v marks (l ∷ c) → AreMarked v (set marks (index_of l) false) c
 marked-first v marks c l a =
     let once = or_parts (contains_literal l c) (has_repeat c) a.once in
     record {
       count = length-set marks (index_of l) false ∙ a.count;
-      marked = λ m q. unmarked_one marks c l m a.positive.0 q (first_within v marks c l a) once.0 (a.marked m q);
+      marked = (unmarked_one marks c l a.positive.0 (first_within v marks c l a) once.0 (record { marked = a.marked })).marked;
       positive = a.positive.1;
       once = once.1;
     }

@@ -1,6 +1,6 @@
 -- A text in pieces: what holds after a line more, after a piece, and at the end.
 use Rattle.std.proofs.Common.{◌≡◌, ℕ, ◌+◌, ◌<◌, List, [], ◌∷◌, ◌++◌, length, take, drop, inl, inr, ◌⊎◌, refl, sym, ◌∙◌, ap, subst, append_assoc, append-nil, None, Some, arith, Bool, true}
-use Rattle.std.specs.Prelude.{◌-◌, ◌==◌, false, Ok, Err, All, Option, Result, IfSome, IfOk, IfErr}
+use Rattle.std.specs.Prelude.{◌-◌, ◌==◌, false, Ok, Err, Option, Result, IfSome, IfOk, IfErr}
 use Rattle.std.specs.List.{enumerate_from}
 use Rattle.std.specs.Str.Lines.{lines, strip_carriage_return}
 use Rattle.std.specs.Io.KnownBytes.{Consumes, IsAtEnd}
@@ -24,7 +24,9 @@ use Rattle.wcnf.proofs.Texts.{reads_one}
 abbrev IsOrdinary : ℕ → Type 0
 IsOrdinary b = (b == 10) ≡ false
 
-read_on : (d e : Drafted) (n : ℕ) (line : List ℕ) (more : List (ℕ × List ℕ)) → drafted_line n d (tokens_of line) ≡ Ok e → drafted_lines e more ≡ drafted_lines d ((n, line) ∷ more)
+read_on : (d e : Drafted) (n : ℕ) (line : List ℕ) (more : List (ℕ × List ℕ))
+    → drafted_line n d (tokens_of line) ≡ Ok e
+    → drafted_lines e more ≡ drafted_lines d ((n, line) ∷ more)
 read_on d e n line more h = rw h refl
 
 -- a line more
@@ -41,9 +43,11 @@ module _ (p : Parser) (end line : List ℕ) (no_feed : IsNoFeed end) (same : lin
       ∙ s.resumes (end ++ 10 ∷ more)
       ∙ ap (λ x. drafted_lines nothing_drafted (numbered_text x)) (regroup bytes end more)
 
-pub line_more : (old new : Parser) (end line : List ℕ) → IsNoFeed end → line ≡ strip_carriage_return ((old.rest).items ++ end) → (new.rest).items ≡ []
-    → drafted_line old.number old.draft (tokens_of line) ≡ Ok new.draft → new.number ≡ old.number + 1
-    → (bytes : List ℕ) → Stands old bytes → Stands new (bytes ++ end ++ 10 ∷ [])
+pub line_more : (old new : Parser) (end line : List ℕ) → IsNoFeed end
+    → line ≡ strip_carriage_return ((old.rest).items ++ end) → (new.rest).items ≡ []
+    → drafted_line old.number old.draft (tokens_of line) ≡ Ok new.draft
+    → new.number ≡ old.number + 1 → (bytes : List ℕ) → Stands old bytes
+    → Stands new (bytes ++ end ++ 10 ∷ [])
 line_more old new end line no_feed same empty read counted bytes s = record {
   unfinished = subst IsNoFeed (sym empty) (All-nil IsOrdinary);
   resumes = λ more.
@@ -53,15 +57,18 @@ line_more old new end line no_feed same empty read counted bytes s = record {
       ∙ at_line old end line no_feed same bytes s more;
 }
 
-line_fault : (p : Parser) (end line : List ℕ) → IsNoFeed end → line ≡ strip_carriage_return ((p.rest).items ++ end) → (f : ReadFault)
-    → drafted_line p.number p.draft (tokens_of line) ≡ Err f.kind → f.line ≡ p.number → (bytes more : List ℕ) → Stands p bytes
+line_fault : (p : Parser) (end line : List ℕ) → IsNoFeed end
+    → line ≡ strip_carriage_return ((p.rest).items ++ end) → (f : ReadFault)
+    → drafted_line p.number p.draft (tokens_of line) ≡ Err f.kind → f.line ≡ p.number
+    → (bytes more : List ℕ) → Stands p bytes
     → IsFirstFault (bytes ++ (end ++ 10 ∷ []) ++ more) f.kind f.line
 line_fault p end line no_feed same f met here bytes more s =
     let text : (bytes ++ end ++ 10 ∷ []) ++ more ≡ bytes ++ (end ++ 10 ∷ []) ++ more = ap (λ x. x ++ more) (append_assoc bytes end (10 ∷ [])) in
     subst (λ t. IsFirstFault t f.kind f.line) text (subst (λ n. IsFirstFault ((bytes ++ end ++ 10 ∷ []) ++ more) f.kind n) (sym here)
     (whole_fault ((bytes ++ end ++ 10 ∷ []) ++ more) p.draft p.number line (enumerate_from (p.number + 1) (lines more)) f.kind (at_line p end line no_feed same bytes s more) met))
 
-pub line_refused : (p : Parser) (end line : List ℕ) → IsNoFeed end → line ≡ strip_carriage_return ((p.rest).items ++ end) → (f : ReadFault)
+pub line_refused : (p : Parser) (end line : List ℕ) → IsNoFeed end
+    → line ≡ strip_carriage_return ((p.rest).items ++ end) → (f : ReadFault)
     → IsLineFault p.draft p.number line f → Refuses p (end ++ 10 ∷ []) f
 line_refused p end line no_feed same f (inl m) = inl m
 line_refused p end line no_feed same f (inr e) = inr (line_fault p end line no_feed same f e.0 e.1)
@@ -70,12 +77,15 @@ line_refused p end line no_feed same f (inr e) = inr (line_fault p end line no_f
 pub none_read : (p : Parser) (piece : List ℕ) → HasRead p p piece piece
 none_read p piece = record { taken = []; split = refl; stands = λ bytes s. subst (Stands p) (sym (append-nil bytes)) s }
 
-first_line : (left : List ℕ) (end : ℕ) (line rest : List ℕ) → IsFirstFeed left end → line ≡ take end left → rest ≡ take (length left - (end + 1)) (drop (end + 1) left) → left ≡ line ++ 10 ∷ rest
+first_line : (left : List ℕ) (end : ℕ) (line rest : List ℕ) → IsFirstFeed left end
+    → line ≡ take end left → rest ≡ take (length left - (end + 1)) (drop (end + 1) left)
+    → left ≡ line ++ 10 ∷ rest
 first_line left end line rest f e g =
     f.split ∙ ap (λ x. x ++ 10 ∷ drop (end + 1) left) (sym e) ∙ ap (λ x. line ++ 10 ∷ x) (sym (g ∙ take_rest left (end + 1)))
 
-pub more_read : (old mid new : Parser) (piece left : List ℕ) (end : ℕ) (line rest : List ℕ) → HasRead old mid piece left → IsFirstFeed left end
-    → line ≡ take end left → rest ≡ take (length left - (end + 1)) (drop (end + 1) left)
+pub more_read : (old mid new : Parser) (piece left : List ℕ) (end : ℕ) (line rest : List ℕ)
+    → HasRead old mid piece left → IsFirstFeed left end → line ≡ take end left
+    → rest ≡ take (length left - (end + 1)) (drop (end + 1) left)
     → ((bytes : List ℕ) → Stands mid bytes → Stands new (bytes ++ line ++ 10 ∷ []))
     → HasRead old new piece rest
 more_read old mid new piece left end line rest t f e g next = record {
@@ -90,9 +100,10 @@ more_read old mid new piece left end line rest t f e g next = record {
     moved : (b t e : List ℕ) → (b ++ t) ++ e ++ 10 ∷ [] ≡ b ++ (t ++ e ++ 10 ∷ [])
     moved b t e = simp append_assoc
 
-pub rest_kept : (old mid new : Parser) (piece left : List ℕ) → HasRead old mid piece left → IsNoFeed left
-    → new.draft ≡ mid.draft → new.number ≡ mid.number → (new.rest).items ≡ (mid.rest).items ++ left
-    → (bytes : List ℕ) → Stands old bytes → Stands new (bytes ++ piece)
+pub rest_kept : (old mid new : Parser) (piece left : List ℕ) → HasRead old mid piece left
+    → IsNoFeed left → new.draft ≡ mid.draft → new.number ≡ mid.number
+    → (new.rest).items ≡ (mid.rest).items ++ left → (bytes : List ℕ) → Stands old bytes
+    → Stands new (bytes ++ piece)
 rest_kept old mid new piece left t no_feed draft number rest bytes s =
     let m = t.stands bytes s in
     record {
@@ -108,8 +119,9 @@ rest_kept old mid new piece left t no_feed draft number rest bytes s =
     grouped : (b t l m : List ℕ) → (b ++ t) ++ (l ++ m) ≡ (b ++ (t ++ l)) ++ m
     grouped b t l m = simp append_assoc
 
-pub refused_later : (old mid : Parser) (piece left : List ℕ) (end : ℕ) (line : List ℕ) (f : ReadFault) → HasRead old mid piece left → IsFirstFeed left end
-    → line ≡ take end left → Refuses mid (line ++ 10 ∷ []) f → Refuses old piece f
+pub refused_later : (old mid : Parser) (piece left : List ℕ) (end : ℕ) (line : List ℕ)
+    (f : ReadFault) → HasRead old mid piece left → IsFirstFeed left end → line ≡ take end left
+    → Refuses mid (line ++ 10 ∷ []) f → Refuses old piece f
 refused_later old mid piece left end line f t at e (inl m) = inl m
 refused_later old mid piece left end line f t at e (inr r) = inr (λ bytes more s.
     let after = drop (end + 1) left in
@@ -120,7 +132,8 @@ refused_later old mid piece left end line f t at e (inr r) = inr (λ bytes more 
     grouped b t l a m = simp append_assoc
 
 -- the end
-pub ends_empty : (p : Parser) (bytes : List ℕ) → (p.rest).items ≡ [] → Stands p bytes → Ends p.draft bytes
+pub ends_empty : (p : Parser) (bytes : List ℕ) → (p.rest).items ≡ [] → Stands p bytes
+    → Ends p.draft bytes
 ends_empty p bytes empty s =
     ap (λ r. drafted_lines p.draft (enumerate_from p.number (lines (r ++ [])))) (sym empty) ∙ s.resumes [] ∙ ap (λ x. drafted_lines nothing_drafted (numbered_text x)) (append-nil bytes)
 
@@ -139,61 +152,80 @@ module _ (p : Parser) (some : 0 < length (p.rest).items) (bytes : List ℕ) (s :
       subst (λ n. IsFirstFault bytes f.kind n) (sym here) (whole_fault bytes p.draft p.number (p.rest).items [] f.kind last_line met)
 
 -- a whole text
-pub text_refused : (p : Parser) (text : List ℕ) (f : ReadFault) → Stands p [] → Refuses p text f → NoMemory f ⊎ IsFirstFault text f.kind f.line
+pub text_refused : (p : Parser) (text : List ℕ) (f : ReadFault) → Stands p [] → Refuses p text f
+    → NoMemory f ⊎ IsFirstFault text f.kind f.line
 text_refused p text f s (inl m) = inl m
 text_refused p text f s (inr r) = inr (subst (λ t. IsFirstFault t f.kind f.line) (append-nil text) (r [] [] s))
 
 abbrev IsRefusedAtEnd : Parser → ReadFault → Type 0
 IsRefusedAtEnd p f = NoMemory f ⊎ ((bytes : List ℕ) → Stands p bytes → IsFirstFault bytes f.kind f.line)
 
-pub end_refused : {X : Type 0} (p : Parser) (bytes : List ℕ) (r : Result X ReadFault) → Stands p bytes → IfErr r (IsRefusedAtEnd p) → IfErr r (λ f. NoMemory f ⊎ IsFirstFault bytes f.kind f.line)
+pub end_refused : {X : Type 0} (p : Parser) (bytes : List ℕ) (r : Result X ReadFault)
+    → Stands p bytes → IfErr r (IsRefusedAtEnd p)
+    → IfErr r (λ f. NoMemory f ⊎ IsFirstFault bytes f.kind f.line)
 end_refused p bytes (Ok x) s h = tt
 end_refused p bytes (Err f) s (inl m) = inl m
 end_refused p bytes (Err f) s (inr g) = inr (g bytes s)
 
 -- the bytes of a reader
-pub all_read : (a b c : Option (List ℕ)) (bytes buf : List ℕ) (k : ℕ) → Consumes a b bytes → Consumes b c (take k buf) → k ≡ 0 → Consumes a c bytes
+pub all_read : (a b c : Option (List ℕ)) (bytes buf : List ℕ) (k : ℕ) → Consumes a b bytes
+    → Consumes b c (take k buf) → k ≡ 0 → Consumes a c bytes
 all_read a b c bytes buf k p q e = subst (Consumes a c) (append-nil bytes) (Consumes-trans a b c bytes [] p (subst (Consumes b c) (ap (λ j. take j buf) e) q))
 
 abbrev IsRefusedReading : Option (List ℕ) → ReadFault → Type 0
 IsRefusedReading known f = NoMemory f ⊎ (f ≡ record { kind = Read; line = 0 }) ⊎ IfSome known (λ text. IsFirstFault text f.kind f.line)
 
-over_known : (a c : Option (List ℕ)) (bytes piece : List ℕ) (f : ReadFault) → Consumes a c (bytes ++ piece) → ((more : List ℕ) → IsFirstFault (bytes ++ piece ++ more) f.kind f.line) → IfSome a (λ text. IsFirstFault text f.kind f.line)
+over_known : (a c : Option (List ℕ)) (bytes piece : List ℕ) (f : ReadFault)
+    → Consumes a c (bytes ++ piece)
+    → ((more : List ℕ) → IsFirstFault (bytes ++ piece ++ more) f.kind f.line)
+    → IfSome a (λ text. IsFirstFault text f.kind f.line)
 over_known None c bytes piece f p h = tt
 over_known (Some x) None bytes piece f p h = absurd p
 over_known (Some x) (Some y) bytes piece f p h = subst (λ t. IsFirstFault t f.kind f.line) (sym p) (h y)
 
-pub piece_refused : (a b c : Option (List ℕ)) (bytes piece : List ℕ) (p : Parser) (f : ReadFault) → Consumes a b bytes → Consumes b c piece → Stands p bytes → Refuses p piece f → IsRefusedReading a f
+pub piece_refused : (a b c : Option (List ℕ)) (bytes piece : List ℕ) (p : Parser) (f : ReadFault)
+    → Consumes a b bytes → Consumes b c piece → Stands p bytes → Refuses p piece f
+    → IsRefusedReading a f
 piece_refused a b c bytes piece p f u v s (inl m) = inl m
 piece_refused a b c bytes piece p f u v s (inr r) = inr (inr (over_known a c bytes piece f (Consumes-trans a b c bytes piece u v) (λ more. r bytes more s)))
 
-pub reader_refused : {X : Type 0} (a c : Option (List ℕ)) (bytes : List ℕ) (p : Parser) (r : Result X ReadFault) → Consumes a c bytes → IsAtEnd c → Stands p bytes → IfErr r (IsRefusedAtEnd p) → IfErr r (IsRefusedReading a)
+pub reader_refused : {X : Type 0} (a c : Option (List ℕ)) (bytes : List ℕ) (p : Parser)
+    (r : Result X ReadFault) → Consumes a c bytes → IsAtEnd c → Stands p bytes
+    → IfErr r (IsRefusedAtEnd p) → IfErr r (IsRefusedReading a)
 reader_refused a c bytes p (Ok x) u e s h = tt
 reader_refused a c bytes p (Err f) u e s (inl m) = inl m
 reader_refused a c bytes p (Err f) u e s (inr g) = inr (inr (Consumes-whole a c bytes (λ t. IsFirstFault t f.kind f.line) u e (g bytes s)))
 
-pub reader_read : (a c : Option (List ℕ)) (bytes : List ℕ) (p : Parser) (r : Result Problem ReadFault) → Consumes a c bytes → IsAtEnd c → Stands p bytes
-    → IfOk r (λ i. (bytes : List ℕ) → Stands p bytes → Reads bytes i) → IfOk r (λ i. IfSome a (λ text. Reads text i))
+pub reader_read : (a c : Option (List ℕ)) (bytes : List ℕ) (p : Parser)
+    (r : Result Problem ReadFault) → Consumes a c bytes → IsAtEnd c → Stands p bytes
+    → IfOk r (λ i. (bytes : List ℕ) → Stands p bytes → Reads bytes i)
+    → IfOk r (λ i. IfSome a (λ text. Reads text i))
 reader_read a c bytes p (Err f) u e s h = tt
 reader_read a c bytes p (Ok i) u e s h = Consumes-whole a c bytes (λ t. Reads t i) u e (h bytes s)
 
-pub reader_read_one : (a c : Option (List ℕ)) (bytes : List ℕ) (p : Parser) (r : Result Problem ReadFault) → Consumes a c bytes → IsAtEnd c → Stands p bytes
-    → IfOk r (λ i. (bytes : List ℕ) → Stands p bytes → Reads bytes i) → IfOk r (λ i. IfSome a (λ text. (q : Problem) → Reads text q → q ≡ i))
+pub reader_read_one : (a c : Option (List ℕ)) (bytes : List ℕ) (p : Parser)
+    (r : Result Problem ReadFault) → Consumes a c bytes → IsAtEnd c → Stands p bytes
+    → IfOk r (λ i. (bytes : List ℕ) → Stands p bytes → Reads bytes i)
+    → IfOk r (λ i. IfSome a (λ text. (q : Problem) → Reads text q → q ≡ i))
 reader_read_one a c bytes p (Err f) u e s h = tt
 reader_read_one a c bytes p (Ok i) u e s h = Consumes-whole a c bytes (λ t. (q : Problem) → Reads t q → q ≡ i) u e (λ q r. reads_one bytes q i r (h bytes s))
 
-pub finished_refused : (p : Parser) (some : 0 < length (p.rest).items) (f : ReadFault) → IsLineFault p.draft p.number (p.rest).items f → IsRefusedAtEnd p f
+pub finished_refused : (p : Parser) (some : 0 < length (p.rest).items) (f : ReadFault)
+    → IsLineFault p.draft p.number (p.rest).items f → IsRefusedAtEnd p f
 finished_refused p some f (inl m) = inl m
 finished_refused p some f (inr e) = inr (λ bytes s. ends_refused p some bytes s f e.0 e.1)
 
 -- where the draft ends what the parser stands for, so do its instance and its faults
-pub same_end : {X : Type 0} (p : Parser) (d : Drafted) (r : Result X ReadFault) → ((bytes : List ℕ) → Stands p bytes → Ends d bytes)
-    → IfErr r (λ f. (bytes : List ℕ) → Ends d bytes → IsFirstFault bytes f.kind f.line) → IfErr r (IsRefusedAtEnd p)
+pub same_end : {X : Type 0} (p : Parser) (d : Drafted) (r : Result X ReadFault)
+    → ((bytes : List ℕ) → Stands p bytes → Ends d bytes)
+    → IfErr r (λ f. (bytes : List ℕ) → Ends d bytes → IsFirstFault bytes f.kind f.line)
+    → IfErr r (IsRefusedAtEnd p)
 same_end p d (Ok x) e h = tt
 same_end p d (Err f) e h = inr (λ bytes s. h bytes (e bytes s))
 
 pub empty_from_test : (x y : List ℕ) (b : Bool) → y ≡ x → b ≡ (length y == 0) → b ≡ true → x ≡ []
 empty_from_test x y b e f t = nil_from_length x (ap length (sym e) ∙ eqb-true (length y) 0 (sym f ∙ t))
 
-pub some_from_test : (x y : List ℕ) (b : Bool) → y ≡ x → b ≡ (length y == 0) → b ≡ false → 0 < length x
+pub some_from_test : (x y : List ℕ) (b : Bool) → y ≡ x → b ≡ (length y == 0) → b ≡ false
+    → 0 < length x
 some_from_test x y b e f t = omega (arith, eqb-false (length y) 0 (sym f ∙ t), ap length e)

@@ -2,17 +2,15 @@
 use Rattle.std.proofs.Common.{◌≡◌, ℕ, zero, suc, ◌+◌, ◌<◌, ◌≤◌, List, [], ◌∷◌, length, sym, subst, arith}
 use Rattle.std.specs.Prelude.{slice_index}
 use Rattle.std.specs.List.Sorted.{IsStrictlyIncreasing}
+use Rattle.wcnf.specs.Numbers.{RisesFrom}
 
--- the first is not below the least
-abbrev pub RisesFrom : ℕ → List ℕ → Type 0
-RisesFrom least [] = Unit {0}
-RisesFrom least (k ∷ ks) = (least ≤ k) × RisesFrom (k + 1) ks
-
-pub rises_weaker : (least more : ℕ) (ks : List ℕ) → least ≤ more → RisesFrom more ks → RisesFrom least ks
+pub rises_weaker : (least more : ℕ) (ks : List ℕ) → least ≤ more → RisesFrom more ks
+    → RisesFrom least ks
 rises_weaker least more [] h r = tt
 rises_weaker least more (k ∷ ks) h r = (omega (arith, r.0), r.1)
 
-pub rises_least : (least : ℕ) (ks : List ℕ) (p : ℕ) → RisesFrom least ks → p < length ks → least ≤ slice_index ks p
+pub rises_least : (least : ℕ) (ks : List ℕ) (p : ℕ) → RisesFrom least ks → p < length ks
+    → least ≤ slice_index ks p
 rises_least least [] p r h = absurd (omega arith)
 rises_least least (k ∷ ks) zero r h = r.0
 rises_least least (k ∷ ks) (suc p) r h = omega (arith, r.0, rises_least (k + 1) ks p r.1 (omega arith))

@@ -22,7 +22,8 @@ literal_eq-true k l e =
 abbrev pub AreTrue : Assignment → List Literal → Type 0
 AreTrue t A = AllByRecursion (λ l. literal_value t l ≡ true) A
 
-pub true_member : (t : Assignment) (A : List Literal) (l : Literal) → AreTrue t A → contains_literal l A ≡ true → literal_value t l ≡ true
+pub true_member : (t : Assignment) (A : List Literal) (l : Literal) → AreTrue t A
+    → contains_literal l A ≡ true → literal_value t l ≡ true
 true_member t [] l a e = absurd (false≢true e)
 true_member t (k ∷ A) l a e =
     elim (or_cases (literal_eq l k) (contains_literal l A) e) [
@@ -30,17 +31,21 @@ true_member t (k ∷ A) l a e =
       | inr h ↦ true_member t A l a.1 h
     ]
 
-value-negation_at : (v : Bool) (n : Bool) → (if not n then not v else v) ≡ true → (if n then not v else v) ≡ false
+value-negation_at : (v : Bool) (n : Bool) → (if not n then not v else v) ≡ true
+    → (if n then not v else v) ≡ false
 value-negation_at true true e = refl
 value-negation_at true false e = absurd (false≢true e)
 value-negation_at false true e = absurd (false≢true e)
 value-negation_at false false e = refl
 
-pub value-negation : (t : Assignment) (l : Literal) → literal_value t (negation l) ≡ true → literal_value t l ≡ false
+pub value-negation : (t : Assignment) (l : Literal) → literal_value t (negation l) ≡ true
+    → literal_value t l ≡ false
 value-negation t l e = value-negation_at (t l.variable) l.negated e
 
 -- a clause that is true, and all but l of it false
-pub unit_true : (t : Assignment) (A : List Literal) (l : Literal) (c : List Literal) → AreTrue t A → AllByRecursion (λ k. (k ≡ l) ⊎ (contains_literal (negation k) A ≡ true)) c → clause_value t c ≡ true → literal_value t l ≡ true
+pub unit_true : (t : Assignment) (A : List Literal) (l : Literal) (c : List Literal) → AreTrue t A
+    → AllByRecursion (λ k. (k ≡ l) ⊎ (contains_literal (negation k) A ≡ true)) c
+    → clause_value t c ≡ true → literal_value t l ≡ true
 unit_true t A l [] a o e = absurd (false≢true e)
 unit_true t A l (k ∷ c) a o e =
     elim (or_cases (literal_value t k) (clause_value t c) e) [
@@ -51,7 +56,8 @@ unit_true t A l (k ∷ c) a o e =
       ]
     ]
 
-pub not_false : (t : Assignment) (A c : List Literal) → AreTrue t A → IsFalseUnder c A → clause_value t c ≡ true → ⊥
+pub not_false : (t : Assignment) (A c : List Literal) → AreTrue t A → IsFalseUnder c A
+    → clause_value t c ≡ true → ⊥
 not_false t A [] a f e = false≢true e
 not_false t A (k ∷ c) a f e =
     elim (or_cases (literal_value t k) (clause_value t c) e) [
@@ -63,32 +69,38 @@ not_false t A (k ∷ c) a f e =
 abbrev pub AllHold : Assignment → Clauses → Type 0
 AllHold t at = (i : ℕ) (c : List Literal) → at i ≡ Some c → Satisfies t c
 
-pub leads_true : (t : Assignment) (at : Clauses) (A : List Literal) (hs : List ℕ) (B : List Literal) → AllHold t at → AreTrue t A → Leads at A hs B → AreTrue t B
+pub leads_true : (t : Assignment) (at : Clauses) (A : List Literal) (hs : List ℕ) (B : List Literal)
+    → AllHold t at → AreTrue t A → Leads at A hs B → AreTrue t B
 leads_true t at A [] B all a e = subst (AreTrue t) (sym e) a
 leads_true t at A (h ∷ hs) B all a w =
     leads_true t at (w.1 ∷ A) hs B all (unit_true t A w.1 w.0 a w.3.others (all h w.0 w.2), a) w.4
 
-pub refuted : (t : Assignment) (at : Clauses) (A : List Literal) (hs : List ℕ) → AllHold t at → AreTrue t A → Refutes at A hs → ⊥
+pub refuted : (t : Assignment) (at : Clauses) (A : List Literal) (hs : List ℕ) → AllHold t at
+    → AreTrue t A → Refutes at A hs → ⊥
 refuted t at A hs all a r =
     not_false t r.reached r.clause (leads_true t at A r.front r.reached all a r.leads) r.conflict (all r.final r.clause r.live)
 
-negation-value_at : (v : Bool) (n : Bool) → (if n then not v else v) ≡ false → (if not n then not v else v) ≡ true
+negation-value_at : (v : Bool) (n : Bool) → (if n then not v else v) ≡ false
+    → (if not n then not v else v) ≡ true
 negation-value_at true true e = refl
 negation-value_at true false e = absurd (true≢false e)
 negation-value_at false true e = absurd (true≢false e)
 negation-value_at false false e = refl
 
-pub negation-value : (t : Assignment) (l : Literal) → literal_value t l ≡ false → literal_value t (negation l) ≡ true
+pub negation-value : (t : Assignment) (l : Literal) → literal_value t l ≡ false
+    → literal_value t (negation l) ≡ true
 negation-value t l e = negation-value_at (t l.variable) l.negated e
 
-pub negations_true : (t : Assignment) (c : List Literal) → clause_value t c ≡ false → AreTrue t (map negation c)
+pub negations_true : (t : Assignment) (c : List Literal) → clause_value t c ≡ false
+    → AreTrue t (map negation c)
 negations_true t [] e = tt
 negations_true t (l ∷ c) e =
     let h = or_parts (literal_value t l) (clause_value t c) e in
     (negation-value t l h.0, negations_true t c h.1)
 
 -- a clause that is added by RUP is true wherever the others are
-pub rup_holds : (t : Assignment) (at : Clauses) (c : List Literal) (hs : List ℕ) → AllHold t at → Refutes at (map negation c) hs → Satisfies t c
+pub rup_holds : (t : Assignment) (at : Clauses) (c : List Literal) (hs : List ℕ) → AllHold t at
+    → Refutes at (map negation c) hs → Satisfies t c
 rup_holds t at c hs all r =
     elim (clause_value t c) as (λ v. clause_value t c ≡ v → v ≡ true) [
       | true ↦ λ e. refl

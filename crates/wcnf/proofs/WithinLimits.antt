@@ -13,7 +13,8 @@ use Rattle.wcnf.specs.Wcnf.{Row, Ignored, Hard, Soft, hard_of, soft_of, literals
 use Rattle.wcnf.proofs.Drafting.{greatest-append}
 
 -- a clause without one of its literals
-contains-without : (l : Literal) (c : List Literal) → contains_literal l (without_literal l c) ≡ false
+contains-without : (l : Literal) (c : List Literal)
+    → contains_literal l (without_literal l c) ≡ false
 contains-without l [] = refl
 contains-without l (k ∷ c) =
     elim (cases_Bool (literal_eq l k)) [
@@ -21,7 +22,8 @@ contains-without l (k ∷ c) =
       | inr e ↦ rw (e, e) (contains-without l c)
     ]
 
-contains_still : (m l : Literal) (c : List Literal) → contains_literal m c ≡ false → contains_literal m (without_literal l c) ≡ false
+contains_still : (m l : Literal) (c : List Literal) → contains_literal m c ≡ false
+    → contains_literal m (without_literal l c) ≡ false
 contains_still m l [] h = refl
 contains_still m l (k ∷ c) h =
     let p = or_parts (literal_eq m k) (contains_literal m c) h in
@@ -30,7 +32,8 @@ contains_still m l (k ∷ c) h =
       | inr e ↦ rw e (or_from (literal_eq m k) _ p.0 (contains_still m l c p.1))
     ]
 
-once_still : (l : Literal) (c : List Literal) → has_repeat c ≡ false → has_repeat (without_literal l c) ≡ false
+once_still : (l : Literal) (c : List Literal) → has_repeat c ≡ false
+    → has_repeat (without_literal l c) ≡ false
 once_still l [] h = refl
 once_still l (k ∷ c) h =
     let p = or_parts (contains_literal k c) (has_repeat c) h in
@@ -39,7 +42,8 @@ once_still l (k ∷ c) h =
       | inr e ↦ rw e (or_from (contains_literal k (without_literal l c)) (has_repeat (without_literal l c)) (contains_still k l c p.0) (once_still l c p.1))
     ]
 
-greatest-without : (l : Literal) (c : List Literal) → greatest_variable (without_literal l c) ≤ greatest_variable c
+greatest-without : (l : Literal) (c : List Literal)
+    → greatest_variable (without_literal l c) ≤ greatest_variable c
 greatest-without l [] = omega arith
 greatest-without l (k ∷ c) =
     elim (cases_Bool (literal_eq l k)) [
@@ -77,19 +81,22 @@ length-distinct (l ∷ c) = omega (arith, length-distinct c, length-without l (d
 abbrev IsVariable : Literal → Type 0
 IsVariable l = (0 < l.variable) × (l.variable ≤ 2 ^ 22)
 
-All-parts : (xs ys : List Literal) → All IsVariable (xs ++ ys) → All IsVariable xs × All IsVariable ys
+All-parts : (xs ys : List Literal) → All IsVariable (xs ++ ys)
+    → All IsVariable xs × All IsVariable ys
 All-parts [] ys a = (All-nil IsVariable, a)
 All-parts (x ∷ xs) ys a =
     let m = All-parts xs ys (All-tail IsVariable x (xs ++ ys) a) in
     (All-cons IsVariable x xs (All-head IsVariable x (xs ++ ys) a) m.0, m.1)
 
-clause_within : (v : ℕ) (c : List Literal) → All IsVariable c → greatest_variable c ≤ v → IsClauseWithin v (distinct c)
+clause_within : (v : ℕ) (c : List Literal) → All IsVariable c → greatest_variable c ≤ v
+    → IsClauseWithin v (distinct c)
 clause_within v c a h = (repeat-distinct c, All-weaker IsVariable (λ l. 0 < l.variable) (λ l p. p.0) (distinct c) (All-distinct IsVariable c a), omega (arith, greatest-distinct c))
 
 abbrev SoftWithin : ℕ → SoftClause → Type 0
 SoftWithin v s = IsClauseWithin v s.clause
 
-hard_within : (v : ℕ) (rs : List Row) → All IsVariable (flat_map literals_of rs) → greatest_variable (flat_map literals_of rs) ≤ v → All (IsClauseWithin v) (hard_of rs)
+hard_within : (v : ℕ) (rs : List Row) → All IsVariable (flat_map literals_of rs)
+    → greatest_variable (flat_map literals_of rs) ≤ v → All (IsClauseWithin v) (hard_of rs)
 hard_within v [] a h = All-nil (IsClauseWithin v)
 hard_within v (Ignored ∷ rs) a h = hard_within v rs a h
 hard_within v (Hard c ∷ rs) a h =
@@ -100,7 +107,8 @@ hard_within v (Soft w c ∷ rs) a h =
     let m = All-parts c (flat_map literals_of rs) a in
     hard_within v rs m.1 (omega (arith, greatest-append c (flat_map literals_of rs)))
 
-soft_within : (v : ℕ) (rs : List Row) → All IsVariable (flat_map literals_of rs) → greatest_variable (flat_map literals_of rs) ≤ v → All (SoftWithin v) (soft_of rs)
+soft_within : (v : ℕ) (rs : List Row) → All IsVariable (flat_map literals_of rs)
+    → greatest_variable (flat_map literals_of rs) ≤ v → All (SoftWithin v) (soft_of rs)
 soft_within v [] a h = All-nil (SoftWithin v)
 soft_within v (Ignored ∷ rs) a h = soft_within v rs a h
 soft_within v (Hard c ∷ rs) a h =
@@ -128,7 +136,8 @@ literals_within (Soft w c ∷ rs) =
     let s : SoftClause = record { weight = w; clause = distinct c } in
     omega (arith, literals_within rs, length-distinct c, length-append c (flat_map literals_of rs), sum_by-cons (λ (x : SoftClause). length x.clause) s (soft_of rs))
 
-weights_within : (rs : List Row) → sum_by (λ (s : SoftClause). s.weight) (soft_of rs) ≡ sum (map weight_of rs)
+weights_within : (rs : List Row)
+    → sum_by (λ (s : SoftClause). s.weight) (soft_of rs) ≡ sum (map weight_of rs)
 weights_within [] = refl
 weights_within (Ignored ∷ rs) = omega (arith, weights_within rs, sum_by-cons (λ (x : ℕ). x) 0 (map weight_of rs))
 weights_within (Hard c ∷ rs) = omega (arith, weights_within rs, sum_by-cons (λ (x : ℕ). x) 0 (map weight_of rs))
@@ -136,11 +145,14 @@ weights_within (Soft w c ∷ rs) =
     let s : SoftClause = record { weight = w; clause = distinct c } in
     omega (arith, weights_within rs, sum_by-cons (λ (x : ℕ). x) w (map weight_of rs), sum_by-cons (λ (x : SoftClause). x.weight) s (soft_of rs))
 
-greatest_at_most : (v : ℕ) (c : List Literal) → All (λ l. l.variable ≤ v) c → greatest_variable c ≤ v
+greatest_at_most : (v : ℕ) (c : List Literal) → All (λ l. l.variable ≤ v) c
+    → greatest_variable c ≤ v
 greatest_at_most v [] a = omega arith
 greatest_at_most v (l ∷ c) a = omega (arith, All-head (λ (x : Literal). x.variable ≤ v) l c a, greatest_at_most v c (All-tail (λ (x : Literal). x.variable ≤ v) l c a))
 
-rows_instance : (v : ℕ) (rs : List Row) → v ≤ 2 ^ 22 → greatest_variable (flat_map literals_of rs) ≤ v → IsWithinLimits rs → IsInstance (record { variables = v; hard = hard_of rs; soft = soft_of rs })
+rows_instance : (v : ℕ) (rs : List Row) → v ≤ 2 ^ 22
+    → greatest_variable (flat_map literals_of rs) ≤ v → IsWithinLimits rs
+    → IsInstance (record { variables = v; hard = hard_of rs; soft = soft_of rs })
 rows_instance v rs m g w = record {
   variables = m;
   hard_count = w.hard;

@@ -19,7 +19,8 @@ capped_zero n e =
       | inr h ↦ no_zero (sym (cond-false (nat_le n 4611686018427387904) n 4611686018427387905 h) ∙ e)
     ]
 
-number_zero : (t : List ℕ) (o : Option ℕ) → number_of t ≡ o → option_map capped o ≡ Some 0 → number_of t ≡ Some 0
+number_zero : (t : List ℕ) (o : Option ℕ) → number_of t ≡ o → option_map capped o ≡ Some 0
+    → number_of t ≡ Some 0
 number_zero t None e h = absurd (none-some 0 h)
 number_zero t (Some n) e h = e ∙ ap Some (capped_zero n (same_Some (capped n) 0 h))
 

@@ -1,6 +1,8 @@
+pub mod Numbers
 pub mod Literal
 pub mod Packed
 pub mod Clause
+pub mod Marks
 pub mod Problem
 pub mod Bits
 pub mod Flat

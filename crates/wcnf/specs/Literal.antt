@@ -1,10 +1,17 @@
 -- Variables, literals and assignments.
-use Rattle.std.specs.Prelude.{ℕ, Bool, not, ◌+◌, ◌-◌, ◌*◌, if◌then◌else◌, ◌==◌, ◌&&◌}
+use Rattle.std.specs.Prelude.{ℕ, Bool, true, false, not, ◌+◌, ◌-◌, ◌*◌, if◌then◌else◌, ◌==◌, ◌&&◌}
 
 -- a variable from 1, or its negation
 pub record Literal : Type 0 where
   pub variable : ℕ
   pub negated : Bool
+
+-- the literals of a variable
+abbrev pub positive : ℕ → Literal
+positive v = record { variable = v; negated = false }
+
+abbrev pub negative : ℕ → Literal
+negative v = record { variable = v; negated = true }
 
 abbrev pub negation : Literal → Literal
 negation l = record { variable = l.variable; negated = not l.negated }

@@ -14,8 +14,8 @@ pub are_opposed-requires : goal.are_opposed-requires
 are_opposed-requires c =
     let n = c.args.instance.now.variables in
     let left : All (IsClauseWithin n) (c.in-Some.clause.now ∷ c.next.new.self) = subst (All (IsClauseWithin n)) c.in-Some.ensures.steps c.loop-clause.invariant.left in
-    let places : 2 * n ≤ c.loop-clause.marks = omega (arith, c.requires, c.loop-clause.invariant.marks) in
-    places_within n c.loop-clause.marks c.in-Some.clause.now places (All-head (IsClauseWithin n) c.in-Some.clause.now c.next.new.self left)
+    let places : 2 * n ≤ length c.loop-clause.marks = omega (arith, c.requires, c.loop-clause.invariant.marks) in
+    places_within n (length c.loop-clause.marks) c.in-Some.clause.now places (All-head (IsClauseWithin n) c.in-Some.clause.now c.next.new.self left)
 
 pub overflow_add-count : goal.overflow_add-count
 overflow_add-count c =

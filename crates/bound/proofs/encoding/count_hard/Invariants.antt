@@ -8,6 +8,6 @@ use Rattle.bound.proofs.encoding.count_hard.Given as goal
 abbrev pub invariant-loop-clause : goal.invariant-loop-clause
 invariant-loop-clause l = record {
   counted : l.count + length (kept l.clause-iterator) ≡ length (kept l.fn.instance.hard);
-  marks : l.marks ≡ l.initial.marks;
+  marks : length l.marks ≡ length l.initial.marks;
   left : All (IsClauseWithin l.fn.instance.variables) l.clause-iterator;
 }

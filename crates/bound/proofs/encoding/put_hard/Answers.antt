@@ -1,5 +1,5 @@
 -- The next clause was put exactly where it has no opposite pair.
-use Rattle.std.proofs.Common.{◌≡◌, ◌*◌, ◌≤◌, ◌∷◌, true, false, arith, ap, sym, ◌∙◌, subst, refl}
+use Rattle.std.proofs.Common.{◌≡◌, ◌*◌, ◌≤◌, ◌∷◌, true, false, arith, ap, sym, ◌∙◌, subst, refl, length}
 use Rattle.std.proofs.lemmas.List.Elements.{All-head, All-tail}
 use Rattle.std.proofs.lemmas.Result.{err_from_is_err_and}
 use Rattle.std.specs.Prelude.{All}
@@ -14,8 +14,8 @@ pub are_opposed-requires : goal.are_opposed-requires
 are_opposed-requires g c =
     let n = c.args.instance.now.variables in
     let left : All (IsClauseWithin n) (c.in-Some.clause.now ∷ c.next.new.self) = subst (All (IsClauseWithin n)) c.in-Some.ensures.steps c.loop-clause.invariant.left in
-    let places : 2 * n ≤ c.loop-clause.marks = omega (arith, c.requires, c.loop-clause.invariant.marks) in
-    places_within n c.loop-clause.marks c.in-Some.clause.now places (All-head (IsClauseWithin n) c.in-Some.clause.now c.next.new.self left)
+    let places : 2 * n ≤ length c.loop-clause.marks = omega (arith, c.requires, c.loop-clause.invariant.marks) in
+    places_within n (length c.loop-clause.marks) c.in-Some.clause.now places (All-head (IsClauseWithin n) c.in-Some.clause.now c.next.new.self left)
 
 pub returns-in_err-put_clause-clause-fault : goal.returns-in_err-put_clause-clause-fault
 returns-in_err-put_clause-clause-fault g c =

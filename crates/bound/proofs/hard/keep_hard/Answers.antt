@@ -1,9 +1,8 @@
 -- One clause more was kept, and its literals have places.
-use Rattle.std.proofs.Common.{◌≡◌, ◌*◌, ◌≤◌, ◌++◌, [], ◌∷◌, List, ◌∙◌, ap, sym, subst, arith}
+use Rattle.std.proofs.Common.{◌*◌, ◌≤◌, ◌++◌, [], ◌∷◌, ◌∙◌, ap, sym, subst, arith, length}
 use Rattle.std.proofs.lemmas.List.{append_assoc}
 use Rattle.std.proofs.lemmas.List.Elements.{All-head, All-tail}
 use Rattle.std.specs.Prelude.{All}
-use Rattle.wcnf.specs.Literal.{Literal}
 use Rattle.wcnf.specs.Instance.{IsClauseWithin}
 use Rattle.bound.specs.Bound.{kept}
 use Rattle.bound.proofs.Kept.{kept-append, places_within}
@@ -14,8 +13,8 @@ pub keep-requires-clause-places : goal.keep-requires-clause-places
 keep-requires-clause-places c =
     let n = c.args.instance.now.variables in
     let left : All (IsClauseWithin n) (c.in-Some.clause.now ∷ c.next.new.self) = subst (All (IsClauseWithin n)) c.in-Some.ensures.steps c.loop-clause.invariant.left in
-    let places : 2 * n ≤ c.loop-clause.marks = omega (arith, c.requires, c.loop-clause.invariant.marks) in
-    places_within n c.loop-clause.marks c.in-Some.clause.now places (All-head (IsClauseWithin n) c.in-Some.clause.now c.next.new.self left)
+    let places : 2 * n ≤ length c.loop-clause.marks = omega (arith, c.requires, c.loop-clause.invariant.marks) in
+    places_within n (length c.loop-clause.marks) c.in-Some.clause.now places (All-head (IsClauseWithin n) c.in-Some.clause.now c.next.new.self left)
 
 pub loop-clause-preserved : goal.loop-clause-preserved
 loop-clause-preserved c =

@@ -1,5 +1,5 @@
 -- What is added so far, with what is kept of the clauses that are left, is all.
-use Rattle.std.proofs.Common.{◌≡◌, ◌++◌}
+use Rattle.std.proofs.Common.{◌≡◌, ◌++◌, length}
 use Rattle.std.specs.Prelude.{All}
 use Rattle.wcnf.specs.Instance.{IsClauseWithin}
 use Rattle.bound.specs.Bound.{kept}
@@ -8,6 +8,6 @@ use Rattle.bound.proofs.hard.keep_hard.Given as goal
 abbrev pub invariant-loop-clause : goal.invariant-loop-clause
 invariant-loop-clause l = record {
   added : l.clauses ++ kept l.clause-iterator ≡ l.initial.clauses ++ kept l.fn.instance.hard;
-  marks : l.marks ≡ l.initial.marks;
+  marks : length l.marks ≡ length l.initial.marks;
   left : All (IsClauseWithin l.fn.instance.variables) l.clause-iterator;
 }

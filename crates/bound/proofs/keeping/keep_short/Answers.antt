@@ -1,5 +1,5 @@
 -- What `distinct` gives has no repeat, and is kept as what it was made from.
-use Rattle.std.proofs.Common.{◌≡◌, ◌∷◌, [], ◌++◌, if◌then◌else◌, not, ap, ◌∙◌}
+use Rattle.std.proofs.Common.{◌≡◌, ◌++◌, ap, ◌∙◌}
 use Rattle.std.proofs.lemmas.Result.{on_ok_weaker}
 use Rattle.wcnf.specs.Clause.{distinct}
 use Rattle.bound.proofs.Fits.{repeat-distinct}

@@ -1,10 +1,9 @@
 -- A clause with the next variable, and what was added with one more.
 use Rattle.std.proofs.Common.{◌≡◌, ◌+◌, ◌*◌, ◌≤◌, List, [], ◌∷◌, ◌++◌, All, length, take, length-take-le, true, false, arith, rules, sym, ◌∙◌, ap, subst}
-use Rattle.wcnf.specs.Literal.{Literal}
+use Rattle.wcnf.specs.Literal.{Literal, positive}
 use Rattle.wcnf.specs.Instance.{IsClauseWithin}
-use Rattle.adder.specs.Network.{positive}
 use Rattle.bound.specs.Adding.{gets_variable}
-use Rattle.bound.specs.Marks.{HasPlace}
+use Rattle.marks.specs.Marks.{HasPlace}
 use Rattle.bound.proofs.Relaxations.{relaxed_no_repeat, relaxed_places, relaxed_fresh, relaxed_own, soft_within, soft_more}
 use Rattle.bound.proofs.relaxing.keep_relaxed.Goals as goal
 use Rattle.bound.proofs.relaxing.keep_relaxed.Goals.{then-is_given_variable+in_ok-relaxed+in_ok-keep, else-is_given_variable}
@@ -32,10 +31,10 @@ keep-requires-clause-places c =
     let i = c.loop-soft.soft-index in
     let before : length (take i ss) ≡ i = length-take-le i ss (search rules) in
     let same : length ss ≡ length c.args.instance.now.soft = ap length c.soft-soft-items.ensures in
-    let room : 2 * (c.loop-soft.last + 1) ≤ c.loop-soft.marks =
+    let room : 2 * (c.loop-soft.last + 1) ≤ length c.loop-soft.marks =
     omega (arith, c.loop-soft.invariant.0.few, before, same, c.requires, c.loop-soft.invariant.1, c.loop-soft-test.true) in
-    let P : List Literal → Type 0 = λ x. All (HasPlace c.loop-soft.marks) x in
-    subst P (sym text) (relaxed_places s.clause vars (c.loop-soft.last + 1) c.loop-soft.marks w (omega (arith, c.loop-soft.invariant.0.counted)) room)
+    let P : List Literal → Type 0 = λ x. All (HasPlace (length c.loop-soft.marks)) x in
+    subst P (sym text) (relaxed_places s.clause vars (c.loop-soft.last + 1) (length c.loop-soft.marks) w (omega (arith, c.loop-soft.invariant.0.counted)) room)
 
 pub loop-soft-preserved : goal.loop-soft-preserved
 loop-soft-preserved c =

@@ -3,8 +3,8 @@ use Rattle.std.proofs.Common.{◌≡◌, ◌∙◌, ap, refl, sym, subst, ◌++�
 use Rattle.std.proofs.lemmas.List.{length-set}
 use Rattle.wcnf.specs.Literal.{Literal, index_of}
 use Rattle.clauses.specs.Slots.{Slots}
-use Rattle.subsume.specs.Marks.{HasPlace}
-use Rattle.subsume.proofs.Laws.{place_within}
+use Rattle.marks.specs.Marks.{HasPlace}
+use Rattle.marks.proofs.Laws.{place_within}
 use Rattle.eliminate.specs.declared.simplifier.Simplifier.{Simplifier}
 use Rattle.eliminate_tables.specs.Rows.{AreRows, row_at, with_row, has_clause}
 use Rattle.eliminate.proofs.Gathering.{rows_cleaned, those_with}

@@ -1,7 +1,8 @@
 -- What holds of all assignments with the bits holds of one, and so of the bits that are kept.
 use Rattle.std.proofs.Common.{sym, ◌∙◌, subst}
 use Rattle.wcnf.specs.Bits.{Extends, assignment_of}
-use Rattle.improve.proofs.BitLaws.{extends_taken, extends_own}
+use Rattle.wcnf.proofs.Laws.{extends_own}
+use Rattle.improve.proofs.BitLaws.{extends_taken}
 use Rattle.improve.proofs.solutions.judge.Goals as goal
 
 pub prove-unreachable-requires : goal.prove-unreachable-requires

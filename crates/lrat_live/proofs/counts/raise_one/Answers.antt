@@ -1,7 +1,7 @@
 use Rattle.std.proofs.Common.{◌+◌, ap, ◌∙◌}
 use Rattle.std.specs.Prelude.{◌==◌}
 use Rattle.std.proofs.lemmas.Grind.{get_or_default_zero}
-use Rattle.lrat_live.specs.Counts.{one_if}
+use Rattle.wcnf.specs.Numbers.{one_if}
 use Rattle.lrat_live.proofs.CountLaws.{set_more}
 use Rattle.lrat_live.proofs.counts.raise_one.Goals as goal
 

@@ -6,7 +6,8 @@ use Rattle.wcnf.specs.Drafts.{AreMarked}
 use Rattle.wcnf.proofs.Marks.{first_within, marked-first}
 use Rattle.wcnf.proofs.gathering.unmark.Goals as goal
 
-split : (v : ℕ) (marks : List Bool) (c : List Literal) (i : ℕ) (l : Literal) → i < length c → l ≡ get_or c i l → AreMarked v marks (drop i c) → AreMarked v marks (l ∷ drop (i + 1) c)
+split : (v : ℕ) (marks : List Bool) (c : List Literal) (i : ℕ) (l : Literal) → i < length c
+    → l ≡ get_or c i l → AreMarked v marks (drop i c) → AreMarked v marks (l ∷ drop (i + 1) c)
 split v marks c i l h e a = rw e (rw (drop_more c i l h) at a)
 
 pub bounds-marks-index : goal.bounds-marks-index

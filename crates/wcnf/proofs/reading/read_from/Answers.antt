@@ -1,5 +1,5 @@
 -- What the pieces so far say of all bytes of the reader.
-use Rattle.std.proofs.Common.{rules, ◌≡◌, [], ◌++◌, arith}
+use Rattle.std.proofs.Common.{rules, ◌≡◌, [], arith}
 use Rattle.std.specs.Io.KnownBytes.{IsAtEnd}
 use Rattle.std.proofs.KnownBytes.{Consumes-nil, Consumes-trans}
 use Rattle.std.proofs.lemmas.Result.{err_from_is_err_and}

@@ -5,7 +5,7 @@ use Rattle.std.proofs.lemmas.List.{take_more, length-replicate, length-take-le, 
 use Rattle.wcnf.specs.Literal.{Literal}
 use Rattle.wcnf.specs.Formula.{IsFormulaClause}
 use Rattle.clauses.specs.Slots.{Slots, clause_at}
-use Rattle.subsume.specs.Marks.{HasPlace}
+use Rattle.marks.specs.Marks.{HasPlace}
 use Rattle.eliminate_tables.specs.Rows.{AreRows, with_clause_rows}
 use Rattle.eliminate.proofs.Occurring.{rows_added, rows-length}
 use Rattle.eliminate.proofs.Starting.{rows_start, rows_none, slot_some, slot_none, simplified_start}
@@ -73,6 +73,6 @@ returns-clause-simplified c frozen long =
       rows = subst (λ (x : List (List ℕ)). AreRows x slots) (sym c.occurrences-2.view_is) (subst (AreRows old) end c.loop-place.invariant.rows);
       places = ap length c.occurrences-2.view_is ∙ c.loop-place.invariant.places;
       removals = c.new-3.ensures;
-      marks = c.in_ok-new.ensures;
+      marks = c.in_ok-new.ensures.none;
       works = refl;
     })

@@ -2,11 +2,12 @@
 use Rattle.std.proofs.Common.{◌+◌, true, false, List, length, take, sym, ◌∙◌, ap, subst, arith}
 use Rattle.std.proofs.lemmas.Option.{same_Some}
 use Rattle.wcnf.specs.Literal.{Literal, negation}
-use Rattle.subsume.specs.Marks.{HasPlace, mark_of}
+use Rattle.marks.specs.Marks.{HasPlace}
+use Rattle.wcnf.specs.Marks.{mark_of}
 use Rattle.eliminate.specs.declared.units.Units.{Units}
 use Rattle.eliminate.specs.Units.{IsSettled}
 use Rattle.eliminate.proofs.Statuses.{HasStatusSoFar, settled_true, status_false, status_open, status_second, literal_place, mark_says}
-use Rattle.subsume.proofs.Laws.{at_contains}
+use Rattle.wcnf.proofs.Laws.{at_contains}
 use Rattle.eliminate.proofs.units.Units.status.Goals as goal
 use Rattle.eliminate.proofs.units.Units.status.Goals.{then-not-is_marked+in-Falsified, else-not-is_marked}
 

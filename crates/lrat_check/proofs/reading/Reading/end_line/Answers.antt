@@ -1,7 +1,8 @@
 -- The line that was ended is the rest and these bytes.
 use Rattle.std.proofs.Common.{◌++◌, sym, ◌∙◌, ap}
 use Rattle.std.specs.Str.Lines.{strip_carriage_return}
-use Rattle.lrat_check.proofs.PieceLaws.{line_more, empty_from_test}
+use Rattle.wcnf.proofs.Laws.{empty_from_test}
+use Rattle.lrat_check.proofs.PieceLaws.{line_more}
 use Rattle.lrat_check.proofs.reading.Reading.end_line.Goals as goal
 
 pub returns-in_ok-self-clause-holds : goal.returns-in_ok-self-clause-holds

@@ -1,5 +1,5 @@
 -- The clause begins where the one before it ends, and both places are within the literals.
-use Rattle.std.proofs.Common.{◌≡◌, ◌<◌, ◌≤◌, ◌∙◌, ap, get_or, sym, length, arith}
+use Rattle.std.proofs.Common.{◌≡◌, ◌<◌, ◌∙◌, ap, get_or, sym, length, arith}
 use Rattle.std.proofs.lemmas.List.{get_or_default}
 use Rattle.wcnf.specs.Flat.{start_at}
 use Rattle.wcnf.proofs.Cutting.{length-cut, bounds_at, cut_at}
@@ -11,7 +11,8 @@ within c =
     let n : length c.args.self.now ≡ length c.self.inside.ends.items = ap length (sym c.self.view_is) ∙ length-cut 0 c.self.inside.lits.items c.self.inside.ends.items in
     omega (arith, n, c.requires)
 
-begins : (c : After-index) → c.start_of-start.result ≡ start_at 0 c.self.inside.ends.items c.args.place
+begins : (c : After-index)
+    → c.start_of-start.result ≡ start_at 0 c.self.inside.ends.items c.args.place
 begins c = c.start_of-start.ensures ∙ ap (λ es. start_at 0 es c.args.place) c.deref.ensures.value
 
 ends : (c : After-index) → c.index.result.now ≡ get_or c.self.inside.ends.items c.args.place 0

@@ -1,4 +1,4 @@
-use Rattle.std.proofs.Common.{◌≡◌, ◌+◌, ◌<◌, ◌^◌, ◌++◌, ◌∷◌, [], ◌∙◌, ap, length, arith}
+use Rattle.std.proofs.Common.{◌≡◌, ◌+◌, ◌<◌, ◌^◌, length, arith}
 use Rattle.wcnf.proofs.Cutting.{clause_added, cut_added}
 use Rattle.wcnf.proofs.clause_list.ClauseList.push.Goals as goal
 

@@ -3,7 +3,8 @@ use Rattle.std.proofs.Common.{◌≡◌, ◌<◌, ◌≤◌, ◌∙◌, ap, fals
 use Rattle.std.proofs.lemmas.List.{get_or_read}
 use Rattle.wcnf.specs.Literal.{index_of}
 use Rattle.wcnf.specs.Drafts.{Gathered}
-use Rattle.wcnf.proofs.Marks.{marked-push, index_below}
+use Rattle.wcnf.proofs.Literals.{index_below}
+use Rattle.wcnf.proofs.Marks.{marked-push}
 use Rattle.wcnf.proofs.gathering.Gathering.add.Goals as goal
 
 pub invariant_of-self-then-not-index : goal.invariant_of-self-then-not-index

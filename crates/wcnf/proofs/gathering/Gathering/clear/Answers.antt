@@ -3,7 +3,8 @@ use Rattle.std.proofs.Common.{◌≡◌, ℕ, Bool, List, ◌++◌, length, take
 use Rattle.std.proofs.lemmas.List.{append-nil, take_all, drop_all}
 use Rattle.wcnf.proofs.gathering.Gathering.clear.Goals as goal
 
-whole : (n : ℕ) (xs ys : List Bool) → length ys ≡ length xs → n ≡ length xs → take n (ys ++ drop (length ys) xs) ≡ ys
+whole : (n : ℕ) (xs ys : List Bool) → length ys ≡ length xs → n ≡ length xs
+    → take n (ys ++ drop (length ys) xs) ≡ ys
 whole n xs ys e h = rw (drop_all (length ys) xs (omega arith), append-nil ys) (take_all n ys (omega arith))
 
 pub invariant_of-self : goal.invariant_of-self

@@ -1,0 +1,3 @@
+mod Marking
+mod Unstamped
+pub mod Laws
