@@ -156,6 +156,39 @@ weaker_len ws n c b e =
     sym (length-map ws (λ x. ((x.0).items, x.1))) ∙ ap length e
     ∙ length-map b (λ x. (x, first_subset n c x))
 
+-- what was found for the clauses between the fixed ones and those of the last bound
+module _ (p : Problem) (b : Bounds) (before : List ℕ) (c : ℕ) (h : IsOver p b)
+    (e : (b.costs).items ≡ before ++ c ∷ []) (given : Given) (same : given ≡ given_to b.solver)
+    (ws : List (Vec Literal Global × ℕ))
+    (parts : (x y z : List (List Literal)) → clauses_in given ≡ x ++ (y ++ z) → length x ≡ b.fixed
+    → length z ≡ b.last → weaker_list ws ≡ weaker_among (b.fixed + 1) z y) where
+  abbrev last : List (List Literal)
+  last = comparator_for b.profile p c
+
+  abbrev earlier : List (List Literal)
+  earlier = flat_map (comparator_for b.profile p) before
+
+  pub entries_are : weaker_list ws
+      ≡ weaker_among (b.fixed + 1) (comparator_for b.profile p c)
+      (flat_map (comparator_for b.profile p) before)
+  entries_are =
+      parts (fixed_clauses b.profile p) earlier last
+      (ap clauses_in same ∙ given_split p b before c h e) (sym h.fixed) (sym (h.last before c e))
+
+  pub entries_count : length given ≡ b.fixed + length ws + b.last
+  entries_count =
+      omega (
+        arith,
+        ap length same,
+        given_length p b before c h e,
+        weaker_len ws (b.fixed + 1) last earlier entries_are,
+      )
+
+  pub entries_fit : length given < 2 ^ 58 → All (λ x. IsId x.1) ws
+  entries_fit few =
+      entry_numbers ws (b.fixed + 1) last earlier entries_are (omega arith)
+      (omega (arith, few, entries_count, h.last before c e))
+
 pub if_ok_both : {X E : Type 0} (r : Result X E) (P Q : X → Type 0) (K : Type 0) → IfOk r P
     → OnOk r K → ((x : X) → P x → K → Q x) → IfOk r Q
 if_ok_both (Ok x) P Q K h k f = f x h k

@@ -10,7 +10,7 @@ use Rattle.std.proofs.lemmas.List.Elements.{recursion_from_All, All-from_recursi
 use Rattle.std.proofs.lemmas.List.{length-map}
 use Rattle.wcnf.specs.Literal.{Literal}
 use Rattle.wcnf.specs.Clause.{is_subset}
-use Rattle.wcnf.specs.Formula.{Cnf, IsFormulaClause, numbered}
+use Rattle.wcnf.specs.Formula.{Cnf, IsFormulaClause}
 use Rattle.wcnf.specs.Problem.{Problem}
 use Rattle.wcnf.specs.Instance.{IsInstance}
 use Rattle.lrat_log.specs.declared.lines.Name.{Name}
@@ -38,7 +38,7 @@ use Rattle.std.specs.declared.vec.Vec.{Vec}
 use Rattle.std.specs.declared.alloc.Global.{Global}
 use Rattle.improve.specs.Bounds.{BoundLog}
 use Rattle.improve.proofs.Comparators.{comparator_some}
-use Rattle.improve.proofs.GivenParts.{clause_ids, given_split}
+use Rattle.improve.proofs.GivenParts.{clause_ids, entries_are, entry_literals}
 
 -- the first subset is one
 first_found : (n : ℕ) (ds : List (List Literal)) (x : List Literal)
@@ -189,6 +189,17 @@ module _ (profile : Profile) (p : Problem) (h : IsInstance p) (before : List ℕ
       → AddsNoEmptyClause (rebased (length fixed) weaker sink)
   last_open sink o = open_rebased (length fixed) weaker sink weaker_some o
 
+-- the literals of the clauses of the bounds before
+pub entries_spelled : (p : Problem) (b : Bounds) (before : List ℕ) (c : ℕ) → IsOver p b
+    → (b.costs).items ≡ before ++ c ∷ [] → AreFalling (b.costs).items
+    → (ws : List (Vec Literal Global × ℕ))
+    → weaker_list ws ≡ weaker_among (b.fixed + 1) (comparator_for b.profile p c) (flat_map (comparator_for b.profile p) before)
+    → All (λ e. All (λ l. IsId l.variable) (e.0).items) ws
+entries_spelled p b before c h e falling ws are =
+    entry_literals ws (b.fixed + 1) (comparator_for b.profile p c)
+    (flat_map (comparator_for b.profile p) before) are
+    (earlier_ids b.profile p h.instance before c (subst AreFalling e falling))
+
 -- the log that `rebase` gives
 pub bound_log : (p : Problem) (b : Bounds) (ws : List (Vec Literal Global × ℕ)) (log : List LogLine)
     → IsOver p b
@@ -246,9 +257,7 @@ bound_log p b ws log h parts e keeps = record {
         → weaker_list ws
         ≡ weaker_among (length (fixed_clauses b.profile p) + 1) (comparator_for b.profile p c) (flat_map (comparator_for b.profile p) before)
     numbers before c x =
-        parts (fixed_clauses b.profile p) (flat_map (comparator_for b.profile p) before)
-        (comparator_for b.profile p c) (given_split p b before c h x) (sym h.fixed)
-        (sym (h.last before c x))
+        entries_are p b before c h x (given_to b.solver) refl ws parts
         ∙ ap (λ n. weaker_among (n + 1) (comparator_for b.profile p c) (flat_map (comparator_for b.profile p) before)) h.fixed
 
     is_rebased : (before : List ℕ) (c : ℕ) → (b.costs).items ≡ before ++ c ∷ []

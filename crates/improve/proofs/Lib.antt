@@ -9,6 +9,7 @@ mod GivenParts
 mod LastBound
 mod RightEnds
 mod CheaperBits
+mod AtZero
 mod SearchEnds
 mod HardEnds
 mod Lowering

@@ -19,7 +19,7 @@ use Rattle.adder.specs.declared.cells.Profile.{Profile}
 use Rattle.cdcl_order.specs.Budgets.{BudgetState, left_of}
 use Rattle.improve.specs.Improving.{IsSolution, IsCostOfSome, OnWork, work_count}
 use Rattle.improve.specs.Improving.{AreFalling, IsRightFound, Telling, Improves}
-use Rattle.improve.proofs.SearchEnds.{found_end}
+use Rattle.improve.proofs.SearchEnds.{memory_end, found_end}
 use Rattle.improve.proofs.CheaperBits.{cost_of_solution}
 
 part : (b : Bool) (w : ℕ) → (if b then 0 else w) ≤ w
@@ -64,6 +64,18 @@ module _ (p : Problem) (costs new : List ℕ) (c : ℕ) (bits : List Bool) (more
       (subst AreFalling (sym more) falling) (honest_new solution honest) failures fault
       (subst (λ q. IfOk result (IsRightFound q p new)) same right)
       (omega (arith, answers, count_new)) learned spent
+
+  -- one that told them, and was then refused memory
+  pub lowered_memory : (profile : Profile) (old now : Telling) (mid : List ℕ)
+      (before left : BudgetState) → left.limit ≡ before.limit
+      → mid ≡ old.told ++ costs → now.told ≡ mid ++ c ∷ [] → now.failures ≡ old.failures
+      → AreFalling (costs ++ c ∷ []) → IsSolution p bits c → All (IsCostOfSome p) costs
+      → Improves profile p (Err Memory) old now before left
+  lowered_memory profile old now mid before left limit
+      told_first told_last failures falling solution honest =
+      memory_end profile p old now before left limit new
+      (told_new old.told mid now.told told_first told_last) (subst AreFalling (sym more) falling)
+      (honest_new solution honest) failures
 
 pub at_ok : {T E P : Type 0} (r : Result T E) → false ≡ is_err r → OnOk r P → P
 at_ok (Ok x) e h = h

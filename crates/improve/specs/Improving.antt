@@ -9,6 +9,9 @@ use Rattle.wcnf.specs.Bits.{Extends}
 use Rattle.wcnf.specs.Problem.{Problem, IsFeasible, cost_under, IsOptimal, IsInconsistent}
 use Rattle.wcnf.specs.Refute.{IsRefutedByHints}
 use Rattle.wcnf.specs.Lrat.{Accepts, start_of}
+use Rattle.lrat_log.specs.declared.lines.Name.TheVariants.{Formula}
+use Rattle.lrat_log.specs.declared.lines.Hint.TheVariants.{Plain}
+use Rattle.lrat_log.specs.declared.lines.Kind.TheVariants.{Empty}
 use Rattle.lrat_log.specs.Log.{LogLine, numbered_lines}
 use Rattle.lrat_log.specs.Steps.{AreSteps, AddsNoEmptyClause, LearnsNew}
 use Rattle.lrat_log.specs.Steps.{nothing_exempt, is_later, given_of, learned_count}
@@ -81,6 +84,11 @@ BeginsWithWeaker profile p costs last ls =
 -- the log is accepted over these clauses
 abbrev pub IsAcceptedOver : List (List Literal) → List LogLine → Type 0
 IsAcceptedOver cs ls = Accepts cs (numbered_lines (length cs) ls)
+
+-- the empty clause has this number in the formula, and the one line of the log adds it again
+abbrev pub repeats_empty : ℕ → List LogLine
+repeats_empty number =
+    record { kind = Empty; clause = []; hints = Plain (Formula number) ∷ [] } ∷ []
 
 -- steps from these clauses that don't reach the empty one
 pub record IsWorkOver (cs : List (List Literal)) (ls : List LogLine) : Type 0 where

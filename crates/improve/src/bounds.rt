@@ -36,7 +36,8 @@ use wcnf::types::{Clause, Instance, Lit};
 /// No cost reaches this, as all weights sum to less; so it has no comparator clause.
 const NO_BOUND: u64 = NUMBER_LIMIT;
 
-/// The bounds so far, each lower than those before, and the solver that was given them.
+/// The bounds so far, each lower than those before, and the solver that was given them. After an
+/// `AllocError` they are not used again: part of a bound may have been given.
 #[derive(Drop)]
 pub struct Bounds {
     /// It was given the formula without a bound, then the comparator clauses of each bound, all
@@ -48,7 +49,7 @@ pub struct Bounds {
     pub profile: Profile,
     /// The bounds in the order in which they were given, each at most 2^62.
     pub costs: Vec<u64>,
-    /// How many clauses come before those of the first bound.
+    /// How many clauses come before those of the first bound, fewer than 2^28.
     pub fixed: usize,
     /// How many clauses the last bound has; 0 before the first.
     pub last: usize,

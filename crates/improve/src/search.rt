@@ -1,6 +1,6 @@
 //! The improving search: each solution bounds the cost of the next (Handbook of Satisfiability,
 //! chapter MaxSAT, linear search from satisfiable to unsatisfiable).
-ghost use Rattle.std.specs.Prelude.{◌≡◌, ℕ, ◌+◌, ◌<◌, ◌^◌, IfOk, IfErr};
+ghost use Rattle.std.specs.Prelude.{◌≡◌, ℕ, ◌+◌, ◌<◌, ◌^◌, [], ◌∷◌, IfOk, IfErr};
 ghost use Rattle.lrat_log.specs.Steps.{IsAcceptedLog, AddsNoEmptyClause, learned_count};
 ghost use Rattle.cdcl_order.specs.Budgets.{BudgetState};
 ghost use Rattle.cdcl.specs.Solving.{given_to};
@@ -13,6 +13,7 @@ use crate::found::{Found, ImproveFault, Work};
 use crate::frozen::freeze_none;
 use crate::progress::Progress;
 use crate::solutions::{Solution, judge};
+use crate::zero::refute_zero;
 use adder::cells::Profile;
 use bound::formulas::hard_formula;
 use cdcl::budget::Budget;
@@ -150,6 +151,9 @@ fn lower<T: Progress>(
         })
         before budget.new }
 {
+    if first.cost == 0 {
+        return end_at_zero(instance, progress, profile, first.bits);
+    }
     let mut best = first;
     let Ok(mut bounds) = Bounds::new(instance, profile) else {
         return Err(ImproveFault::Memory);
@@ -167,6 +171,61 @@ fn lower<T: Progress>(
             Ok(Next::Spent) => return conclude_spent(instance, &bounds, best, hard),
             Err(AllocError) => return Err(ImproveFault::Memory),
         }
+    }
+}
+
+/// The end where the first solution costs nothing: it is told, and no bound is tried.
+fn end_at_zero<T: Progress>(
+    instance: &Instance,
+    progress: &mut T,
+    profile: Profile,
+    bits: Vec<bool>,
+) -> Result<Found, ImproveFault>
+    requires failures { T.failures progress.old < 2 ^ 62 }
+    requires solution { IsSolution instance.now bits.items 0 }
+    ensures follows { (first : T) → T.follows first progress.old → T.follows first progress.new }
+
+    // Whatever was learned, where one solution was counted.
+    ensures improves { (before left : BudgetState) → left.limit ≡ before.limit
+        → left.answers ≡ before.answers + 1
+        → Improves profile instance.now result
+        (record {
+          told = T.told progress.old;
+          failed = T.failed progress.old;
+          failures = T.failures progress.old;
+        })
+        (record {
+          told = T.told progress.new;
+          failed = T.failed progress.new;
+          failures = T.failures progress.new;
+        })
+        before left }
+{
+    if progress.improved(0).is_err() {
+        return Err(ImproveFault::Progress);
+    }
+    conclude_zero(instance, profile, bits)
+}
+
+/// The optimum that costs nothing.
+fn conclude_zero(
+    instance: &Instance,
+    profile: Profile,
+    bits: Vec<bool>,
+) -> Result<Found, ImproveFault>
+    requires solution { IsSolution instance.now bits.items 0 }
+    ensures found { IfOk result (IsRightFound profile instance.now (0 ∷ [])) }
+    ensures work { OnWork result (λ _. ⊥) }
+    ensures fault { IfErr result (λ e. e ≡ ImproveFault.Memory) }
+{
+    match refute_zero(instance, profile) {
+        Ok(refutation) => Ok(Found::Optimum {
+            cost: 0,
+            bits,
+            log: refutation.log,
+            clauses: refutation.clauses,
+        }),
+        Err(AllocError) => Err(ImproveFault::Memory),
     }
 }
 

@@ -1,6 +1,7 @@
 -- Lines of costs, and what a writer has of them.
-use Rattle.std.proofs.Common.{◌≡◌, ℕ, ◌+◌, ◌<◌, ◌≤◌, ◌-◌, List, [], ◌∷◌, ◌++◌, length, drop, set, get_or, Option, Some, Bool, false, Result, Ok, Err, sym, ◌∙◌, ap, subst, arith, append_assoc, append-nil}
+use Rattle.std.proofs.Common.{◌≡◌, ℕ, ◌+◌, ◌<◌, ◌≤◌, ◌-◌, ◌^◌, List, [], ◌∷◌, ◌++◌, length, drop, set, get_or, Option, Some, Bool, false, Result, Ok, Err, sym, ◌∙◌, ap, subst, arith, append_assoc, append-nil}
 use Rattle.std.specs.Fmt.{decimal}
+use Rattle.std.proofs.lemmas.Fmt.{length-decimal-le}
 use Rattle.std.specs.Prelude.{OnErr}
 use Rattle.std.specs.Io.KnownBytes.{Appends, Keeps}
 use Rattle.std.proofs.KnownBytes.{Appends-trans, Appends-kept}
@@ -9,6 +10,10 @@ use Rattle.wcnf.specs.Writing.{spaced, AppendsPart}
 use Rattle.std.proofs.lemmas.Grind.{flat_map-append}
 use Rattle.lrat_check.specs.Result.{cost_tokens}
 use Rattle.report.specs.Telling.{cost_lines, Tells}
+
+-- a number of 64 bits has at most 20 digits
+pub cost_digits : (n : ℕ) → n < 2 ^ 64 → length (decimal n) ≤ 20
+cost_digits n h = length-decimal-le 20 n (omega arith) (omega arith) (omega arith)
 
 -- the digits end before the line feed, and the letter and the space are written before them
 pub cost_spelled : (old new : List ℕ) (start n : ℕ) → length old ≡ 23 → get_or old 22 0 ≡ 10 → length new ≡ 23 → 2 ≤ start → start ≤ 22 → drop start new ≡ decimal n ++ drop 22 old

@@ -12,12 +12,13 @@ use Rattle.cdcl_order.specs.Budgets.{BudgetState}
 use Rattle.improve.specs.declared.found.Found.{Found}
 use Rattle.improve.specs.declared.found.ImproveFault.{ImproveFault}
 use Rattle.improve.specs.declared.found.ImproveFault.TheVariants.{Memory as SearchMemory, Progress}
-use Rattle.improve.specs.Improving.{IsCostOfSome, IsRightFound, Improves, Telling}
+use Rattle.improve.specs.Improving.{AreFalling, IsCostOfSome, IsRightFound, Improves, Telling}
 use Rattle.improve.proofs.Laws.{cost_small}
 use Rattle.improve.proofs.Laws.{told_fall, told_each}
+use Rattle.report.specs.declared.fault.RunFault.{RunFault}
 use Rattle.report.specs.declared.fault.RunFault.TheVariants.{Memory, Output}
 use Rattle.report.specs.Telling.{Tells, cost_lines, fault_of_telling}
-use Rattle.report.specs.Running.{Searches, outcome_of}
+use Rattle.report.specs.Running.{HasLines, Searches, outcome_of}
 
 pub costs_small : (p : Problem) (costs : List ℕ) → IsInstance p → All (IsCostOfSome p) costs → All (λ c. c < 2 ^ 62) costs
 costs_small p costs h all = All-weaker (IsCostOfSome p) (λ c. c < 2 ^ 62) (λ c k. cost_small p c h k) costs all
@@ -44,58 +45,42 @@ module _ (profile : Profile) (p : Problem) (limits : IsInstance p) (old new : Te
         spent = i.spent;
       }
 
+  search_fault : (fault : RunFault) (tried : List ℕ) → left.limit ≡ budget.limit → AreFalling tried → All (IsCostOfSome p) tried → HasLines (Err fault) tried out out'
+      → Searches profile p (Err fault) out out' budget left
+  search_fault fault tried same falling honest lines = record {
+    tried = tried;
+    falling = falling;
+    honest = honest;
+    small = costs_small p tried limits honest;
+    lines = lines;
+    found = tt;
+    same_limit = same;
+    answers = tt;
+    learned = tt;
+    spent = tt;
+  }
+
   search_memory : Improves profile p (Err SearchMemory) old new budget left → Searches profile p (Err Memory) out out' budget left
   search_memory i =
       let same : new.told ≡ i.tried = told_is (Err SearchMemory) i ∙ sym i.tells_of in
       let ended : new.failures ≡ 0 = i.no_failure (λ e. absurd (cc)) ∙ fresh in
-      record {
-        tried = i.tried;
-        falling = i.falling;
-        honest = i.honest;
-        small = costs_small p i.tried limits i.honest;
-        lines = subst (λ z. Appends out out' (cost_lines z)) same (tells.all_told ended);
-        found = tt;
-        same_limit = i.same_limit;
-        answers = tt;
-        learned = tt;
-        spent = tt;
-      }
+      search_fault Memory i.tried i.same_limit i.falling i.honest (subst (λ z. Appends out out' (cost_lines z)) same (tells.all_told ended))
 
   failed_once : (i : Improves profile p (Err Progress) old new budget left) → new.failures ≡ 1
   failed_once i = i.progress refl ∙ ap (λ n. n + 1) fresh
 
   search_refused : Improves profile p (Err Progress) old new budget left → no_memory ≡ true → Searches profile p (Err Memory) out out' budget left
   search_refused i e =
-      let honest = told_each (IsCostOfSome p) (Err Progress) i.tried i.told new.failed i.tells_of i.honest in
-      record {
-        tried = i.told;
-        falling = told_fall (Err Progress) i.tried i.told new.failed i.tells_of i.falling;
-        honest = honest;
-        small = costs_small p i.told limits honest;
-        lines = subst (λ z. Appends out out' (cost_lines z)) (told_is (Err Progress) i) (tells.refused (failed_once i) e);
-        found = tt;
-        same_limit = i.same_limit;
-        answers = tt;
-        learned = tt;
-        spent = tt;
-      }
+      search_fault Memory i.told i.same_limit (told_fall (Err Progress) i.tried i.told new.failed i.tells_of i.falling)
+      (told_each (IsCostOfSome p) (Err Progress) i.tried i.told new.failed i.tells_of i.honest)
+      (subst (λ z. Appends out out' (cost_lines z)) (told_is (Err Progress) i) (tells.refused (failed_once i) e))
 
   search_broke : Improves profile p (Err Progress) old new budget left → no_memory ≡ false → Searches profile p (Err Output) out out' budget left
   search_broke i e =
       let t = i.tells_of in
       let same : new.told ++ t.last ∷ [] ≡ i.tried = ap (λ z. z ++ t.last ∷ []) (told_is (Err Progress) i) ∙ sym t.tried_is in
-      record {
-        tried = i.tried;
-        falling = i.falling;
-        honest = i.honest;
-        small = costs_small p i.tried limits i.honest;
-        lines = (subst (λ z. AppendsPart out out' (cost_lines z)) same (tells.broken t.last (failed_once i) e t.last_failed), (t.last, (i.told, t.tried_is)));
-        found = tt;
-        same_limit = i.same_limit;
-        answers = tt;
-        learned = tt;
-        spent = tt;
-      }
+      search_fault Output i.tried i.same_limit i.falling i.honest
+      (subst (λ z. AppendsPart out out' (cost_lines z)) same (tells.broken t.last (failed_once i) e t.last_failed), (t.last, (i.told, t.tried_is)))
 
   search_failed : Improves profile p (Err Progress) old new budget left → Searches profile p (Err (fault_of_telling no_memory)) out out' budget left
   search_failed i =

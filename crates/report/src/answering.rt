@@ -92,6 +92,7 @@ fn deliver_end<O: Write>(words: &[u8], bits: &[bool], out: &mut O) -> Result<(),
     deliver(written, out)
 }
 
+/// Writes the words, the digits of the bits and a line feed.
 fn write_end<O: Write>(words: &[u8], bits: &[bool], out: &mut O) -> Result<(), WriteFault>
     ensures ok { OnOk result (Appends (O.contents out.old) (O.contents out.new)
         (words_text words.now bits.now)) }
@@ -118,6 +119,7 @@ fn put_bits<O: Write>(block: &mut Block, out: &mut O, bits: &[bool]) -> Result<(
     Ok(())
 }
 
+/// `1` for true, `0` for false.
 fn spell_digit(bit: bool) -> &'static [u8]
     ensures { result.now ≡ digit_of bit ∷ [] }
 {

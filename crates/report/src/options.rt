@@ -72,6 +72,7 @@ Example:
 /// What `--version` prints after the name.
 const VERSION: &str = "1.0.0";
 
+/// A file that has to be named.
 fn make_path<'a>(alloc: Global, id: &'a str, help: &'a str) -> Arg<'a> {
     Arg::new(alloc, id)
         .required(true)
@@ -106,6 +107,7 @@ pub fn pick_profile(number: Option<u64>) -> Profile
     }
 }
 
+/// `wmax solve`. The error, here and below, is want of memory.
 fn make_solve<'a>(alloc: Global) -> Result<Command<'a>, Error> {
     let conflicts = Arg::new(alloc, "conflicts")
         .long("conflicts")
@@ -133,6 +135,7 @@ fn make_solve<'a>(alloc: Global) -> Result<Command<'a>, Error> {
     Ok(command)
 }
 
+/// `wmax check`.
 fn make_check<'a>(alloc: Global) -> Result<Command<'a>, Error> {
     let command = Command::new(alloc, "check")
         .about(
@@ -151,6 +154,7 @@ fn make_check<'a>(alloc: Global) -> Result<Command<'a>, Error> {
     Ok(command)
 }
 
+/// `wmax encode`.
 fn make_encode<'a>(alloc: Global) -> Result<Command<'a>, Error> {
     let cost = Arg::new(alloc, "COST")
         .required(true)
@@ -169,7 +173,7 @@ fn make_encode<'a>(alloc: Global) -> Result<Command<'a>, Error> {
     Ok(command)
 }
 
-/// The whole command line. The error is want of memory.
+/// The whole command line.
 pub fn make_command<'a>(alloc: Global) -> Result<Command<'a>, Error> {
     let command = Command::new(alloc, "wmax")
         .about("Certified weighted partial MaxSAT")

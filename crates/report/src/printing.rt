@@ -69,7 +69,7 @@ fn spell_no(cause: Cause) -> &'static [u8]
 }
 
 /// Writes the fault's line, which its `Display` gives: `error: line 2: WeightSum` for a faulty
-/// text, and else `error: ` with the name of the fault. Its text is shown by tests.
+/// text, and else `error: ` with the name of the fault. That it does so is tested, not proved.
 ///
 /// # Errors
 ///

@@ -11,10 +11,10 @@ pub enum Status {
     OptimumFound,
     /// No assignment satisfies the hard clauses.
     Unsatisfiable,
-    /// The budget is spent. The bits that were written are a solution, and a cheaper one may be
-    /// there.
+    /// The budget is spent, on this work. The bits that were written are a solution, and a cheaper
+    /// one may be there.
     Satisfiable(Work),
-    /// The budget is spent, and no solution was met.
+    /// The budget is spent, on this work, and no solution was met.
     Unknown(Work),
 }
 

@@ -22,6 +22,7 @@ const LINE_ROOM: usize = 23;
 /// that what was told is always known. After a failure nothing more is written.
 #[derive(Drop)]
 pub struct Told<'a, W: Write> {
+    /// Where the lines go.
     pub writer: &'a mut W,
     /// The costs whose lines were written and flushed.
     pub costs: Vec<u64>,
@@ -29,7 +30,7 @@ pub struct Told<'a, W: Write> {
     pub failed: Option<u64>,
     /// Whether the last failure was for want of memory; else the writer failed, now or before.
     pub no_memory: bool,
-    /// How often it failed.
+    /// How often it failed, at most 2^62.
     pub failures: u64,
 }
 
@@ -37,6 +38,7 @@ pub struct Told<'a, W: Write> {
 #[derive(Drop)]
 pub struct Finished<'a, W: Write> {
     pub writer: &'a mut W,
+    /// `Memory` or `Output`; it means something only where the last telling failed.
     pub fault: RunFault,
 }
 

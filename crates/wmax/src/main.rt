@@ -37,6 +37,7 @@ fn read_file<R: AllocGlobal, F: Read>(rt: &R, file: &mut F) -> Result<Vec<u8>, R
     Ok(read_all(rt.alloc(), file)?)
 }
 
+/// The profile that `--profile` names, else the first.
 fn read_profile(matches: &ArgMatches<'_>) -> Profile {
     options::pick_profile(matches.get_one::<u64>("profile"))
 }
@@ -44,6 +45,7 @@ fn read_profile(matches: &ArgMatches<'_>) -> Profile {
 /// `wmax solve`: FILE is opened, then PATH is created or emptied, then the text is read. Without
 /// PATH the certificate is dropped.
 fn solve<R: Files + AllocGlobal + Print>(rt: &R, matches: &ArgMatches<'_>) -> Result<u8, RunFault> {
+    // `clap` lets no command line pass that lacks one of these; nothing is known of that here.
     let (Some(text), Some(limit)) = (matches.get_str("FILE"), matches.get_one::<u64>("conflicts"))
     else {
         return Err(UNREADABLE);

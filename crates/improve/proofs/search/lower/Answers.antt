@@ -4,11 +4,11 @@ use Rattle.std.specs.declared.vec.Vec.{Vec}
 use Rattle.std.specs.declared.alloc.Global.{Global}
 use Rattle.cdcl_order.specs.Budgets.{left_of}
 use Rattle.lrat_log.specs.Steps.{learned_count}
-use Rattle.improve.specs.Improving.{AreFalling, IsHardLog, work_count}
+use Rattle.improve.specs.Improving.{AreFalling, IsHardLog, IsSolution, work_count}
 use Rattle.improve.proofs.CheaperBits.{cost_of_solution, falling_more}
-use Rattle.improve.proofs.SearchEnds.{memory_end, progress_end}
+use Rattle.improve.proofs.SearchEnds.{progress_end}
 use Rattle.improve.proofs.Lowering.{cost_small, honest_new, told_new, count_new, at_ok, at_err}
-use Rattle.improve.proofs.Lowering.{on_work_weaker, work_learned, lowered_end}
+use Rattle.improve.proofs.Lowering.{on_work_weaker, work_learned, lowered_end, lowered_memory}
 use Rattle.improve.proofs.search.lower.Goals as goal
 
 pub add-requires-clause-small : goal.add-requires-clause-small
@@ -32,30 +32,32 @@ returns-then-is_err-clause-improves g c = λ before l a e.
 pub returns-then-is_err-2-clause-improves : goal.returns-then-is_err-2-clause-improves
 returns-then-is_err-2-clause-improves g c = λ before l a e.
     let i = c.loop-bounds.invariant in
-    let costs = c.loop-bounds.bounds.costs.items in
-    let cost = c.loop-bounds.best.cost in
-    let bits = c.loop-bounds.best.bits.items in
+    let best = c.loop-bounds.best in
     let ok = at_ok c.improved.result c.if-is_err.ensures.value c.improved.ensures.ok in
-    memory_end c.args.profile c.args.instance.now _ _ before c.loop-bounds.budget (i.limit ∙ sym l)
-    (costs ++ cost ∷ [])
-    (told_new c.args.instance.now costs (costs ++ cost ∷ []) cost bits refl _ _ _ i.told ok.0)
-    i.falling
-    (honest_new c.args.instance.now costs (costs ++ cost ∷ []) cost bits refl i.solution i.honest)
-    (ok.2 ∙ i.failures)
+    lowered_memory c.args.instance.now c.loop-bounds.bounds.costs.items _ best.cost best.bits.items refl
+    c.args.profile _ _ _ before c.loop-bounds.budget (i.limit ∙ sym l)
+    i.told ok.0 (ok.2 ∙ i.failures) i.falling i.solution i.honest
 
 pub returns-in-Err-clause-improves : goal.returns-in-Err-clause-improves
 returns-in-Err-clause-improves g c = λ before l a e.
     let i = c.loop-bounds.invariant in
-    let costs = c.loop-bounds.bounds.costs.items in
-    let cost = c.loop-bounds.best.cost in
-    let bits = c.loop-bounds.best.bits.items in
+    let best = c.loop-bounds.best in
     let ok = at_ok c.improved.result c.if-is_err.ensures.value c.improved.ensures.ok in
-    memory_end c.args.profile c.args.instance.now _ _ before c.search.new.budget
-    (c.search.ensures.limit ∙ i.limit ∙ sym l) (costs ++ cost ∷ [])
-    (told_new c.args.instance.now costs (costs ++ cost ∷ []) cost bits refl _ _ _ i.told ok.0)
-    i.falling
-    (honest_new c.args.instance.now costs (costs ++ cost ∷ []) cost bits refl i.solution i.honest)
-    (ok.2 ∙ i.failures)
+    lowered_memory c.args.instance.now c.loop-bounds.bounds.costs.items _ best.cost best.bits.items refl
+    c.args.profile _ _ _ before c.search.new.budget (c.search.ensures.limit ∙ i.limit ∙ sym l)
+    i.told ok.0 (ok.2 ∙ i.failures) i.falling i.solution i.honest
+
+pub end_at_zero-requires-clause-solution : goal.end_at_zero-requires-clause-solution
+end_at_zero-requires-clause-solution g c =
+    let zero : c.args.first.cost ≡ 0 = omega arith in
+    subst (IsSolution c.args.instance.now c.args.first.bits.items) zero c.requires.solution
+
+pub search-requires-clause-over : goal.search-requires-clause-over
+search-requires-clause-over g c = at_ok c.add.result c.if-is_err-2.ensures.value c.add.ensures.over
+
+pub search-requires-clause-bounded : goal.search-requires-clause-bounded
+search-requires-clause-bounded g c =
+    (c.loop-bounds.best.cost, (c.loop-bounds.bounds.costs.items, at_ok c.add.result c.if-is_err-2.ensures.value c.add.ensures.costs))
 
 pub loop-bounds-smaller : goal.loop-bounds-smaller
 loop-bounds-smaller g c =
