@@ -8,11 +8,13 @@ use Rattle.wcnf.specs.Literal.{Literal}
 use Rattle.clauses.specs.Slots.{Slots, clause_at, IsLive}
 use Rattle.lrat_log.specs.declared.lines.Name.{Name}
 use Rattle.lrat_log.specs.Log.{LogLine}
-use Rattle.names.specs.Work.{additions, name_at, delete_line}
+use Rattle.lrat_log.specs.Steps.{added_count}
+use Rattle.names.specs.Work.{name_at, delete_line}
 use Rattle.eliminate_tables.specs.Rows.{AreRows}
 use Rattle.eliminate.specs.Variables.{LeavesOut, KeepsWork, KeepsLog}
 use Rattle.names.proofs.Laws.{work_deleted, open_deleted}
-use Rattle.names.proofs.Laws.{slot_deleted, slot_kept, additions-push}
+use Rattle.clauses.proofs.Laws.{clause_left, clause_other}
+use Rattle.lrat_log.proofs.Laws.{additions_push}
 
 pub leaves_all : (slots : Slots) → LeavesOut [] slots slots
 leaves_all slots = record {
@@ -26,9 +28,9 @@ leaves_all slots = record {
 pub leaves_deleted : (refs : List ℕ) (slots left : Slots) (r : ℕ) → LeavesOut refs slots left → LeavesOut (refs ++ r ∷ []) slots (slice_set left r None)
 leaves_deleted refs slots left r h = record {
   long = length-set left r None ∙ h.long;
-  stays = λ s c e. h.stays s c (slot_deleted left r s c e).1;
+  stays = λ s c e. h.stays s c (clause_left left r s c e).1;
   gone = λ s c e there.
-      let w = slot_deleted left r s c e in
+      let w = clause_left left r s c e in
       elim (Contains-push_cases refs r s there) [
         | inl before ↦ h.gone s c w.1 before
         | inr same ↦ w.0 (sym same)
@@ -36,7 +38,7 @@ leaves_deleted refs slots left r h = record {
   each = λ s c e. elim (h.each s c e) [
     | inl there ↦ elim (cases_eq s r) [
       | inl same ↦ inr (subst (Contains (refs ++ r ∷ [])) (sym same) (Contains-push refs r))
-      | inr other ↦ inl (slot_kept left r s c other there)
+      | inr other ↦ inl (clause_other left r s other ∙ there)
     ]
     | inr before ↦ inr (Contains-append_left refs (r ∷ []) s before)
   ];
@@ -108,23 +110,23 @@ pub take_next : (refs : List ℕ) (i r : ℕ) → i < length refs → r ≡ get_
 take_next refs i r lt is = take_more refs i r lt ∙ ap (λ x. take i refs ++ x ∷ []) (sym is)
 
 module _ (names : List Name) (refs : List ℕ) (slots left after : Slots) (ls more most : List LogLine) (r i : ℕ) (lt : i < length refs) (is : r ≡ get_or refs i r)
-    (work : KeepsWork names slots ls left more) (count : additions more ≡ additions ls) (out : LeavesOut (take i refs) slots left) where
+    (work : KeepsWork names slots ls left more) (count : added_count more ≡ added_count ls) (out : LeavesOut (take i refs) slots left) where
   -- the next clause is deleted
   pub next_deleted : IsLive left r → after ≡ slice_set left r None → most ≡ more ++ delete_line (name_at names r) ∷ []
-      → KeepsWork names slots ls after most × LeavesOut (take (i + 1) refs) slots after × (additions most ≡ additions ls)
+      → KeepsWork names slots ls after most × LeavesOut (take (i + 1) refs) slots after × (added_count most ≡ added_count ls)
   next_deleted live left_is lines_are = (
     subst (λ (xs : Slots). KeepsWork names slots ls xs most) (sym left_is)
         (subst (KeepsWork names slots ls (slice_set left r None)) (sym lines_are) (keeps_deleted names slots left ls more r live.0 work live.1)),
     subst (λ (xs : Slots). LeavesOut (take (i + 1) refs) slots xs) (sym left_is)
         (subst (λ (rs : List ℕ). LeavesOut rs slots (slice_set left r None)) (sym (take_next refs i r lt is)) (leaves_deleted (take i refs) slots left r out)),
-    ap additions lines_are ∙ (let more_is = additions-push more (delete_line (name_at names r)) in let same : additions (more ++ delete_line (name_at names r) ∷ []) ≡ additions more = omega arith in same) ∙ count,
+    ap added_count lines_are ∙ (let more_is = additions_push more (delete_line (name_at names r)) in let same : added_count (more ++ delete_line (name_at names r) ∷ []) ≡ added_count more = omega arith in same) ∙ count,
   )
 
   -- it was deleted before
-  pub next_dead : (IsLive left r → ⊥) → after ≡ left → most ≡ more → KeepsWork names slots ls after most × LeavesOut (take (i + 1) refs) slots after × (additions most ≡ additions ls)
+  pub next_dead : (IsLive left r → ⊥) → after ≡ left → most ≡ more → KeepsWork names slots ls after most × LeavesOut (take (i + 1) refs) slots after × (added_count most ≡ added_count ls)
   next_dead dead left_is lines_are = (
     subst (λ (xs : Slots). KeepsWork names slots ls xs most) (sym left_is) (subst (KeepsWork names slots ls left) (sym lines_are) work),
     subst (λ (xs : Slots). LeavesOut (take (i + 1) refs) slots xs) (sym left_is)
         (subst (λ (rs : List ℕ). LeavesOut rs slots left) (sym (take_next refs i r lt is)) (leaves_dead (take i refs) slots left r dead out)),
-    ap additions lines_are ∙ count,
+    ap added_count lines_are ∙ count,
   )

@@ -1,5 +1,5 @@
 -- A variable goes: the clauses with it are deleted once their resolvents are there, and those with the variable itself are kept for the way back.
-use Rattle.std.proofs.Common.{◌≡◌, ℕ, zero, suc, ◌-◌, ◌≤◌, Bool, true, false, ◌||◌, List, [], ◌∷◌, ◌++◌, length, get_or, Some, ◌⊎◌, inl, inr, refl, sym, ◌∙◌, ap, subst, arith, lit<}
+use Rattle.std.proofs.Common.{◌≡◌, ℕ, ◌-◌, ◌≤◌, Bool, true, false, ◌||◌, List, [], ◌∷◌, ◌++◌, length, get_or, Some, ◌⊎◌, inl, inr, refl, sym, ◌∙◌, ap, subst, arith}
 use Rattle.std.specs.Prelude.{All, Contains, slice_set, unwrap_or, ◌==◌}
 use Rattle.std.specs.List.{list_any}
 use Rattle.std.proofs.lemmas.Bool.{both_ways, false_from_ne_true, and_left, or_from, cases_lt}
@@ -13,9 +13,8 @@ use Rattle.wcnf.specs.Bits.{assignment_of}
 use Rattle.clauses.specs.Slots.{Slots, clause_at, live_clauses}
 use Rattle.wcnf.specs.Lrat.{IsId}
 use Rattle.lrat_log.specs.declared.lines.Name.{Name}
-use Rattle.lrat_log.specs.declared.lines.Hint.{Hint}
 use Rattle.lrat_log.specs.declared.lines.Hint.TheVariants.{Plain}
-use Rattle.lrat_log.specs.Log.{LogLine, IsLine, IsPlain, name_of, number_in}
+use Rattle.lrat_log.specs.Log.{HasNumber, LogLine, IsLine, IsPlain, number_in}
 use Rattle.names.specs.Work.{name_at, delete_line}
 use Rattle.eliminate.specs.declared.simplifier.Simplifier.{Simplifier}
 use Rattle.eliminate.specs.Elimination.{Removed, IsFree, IsRemovedWithin, positive, is_needed, becomes_true, extended, is_eliminated, SatisfiesAll}
@@ -24,6 +23,7 @@ use Rattle.eliminate_tables.specs.Rows.{clause_under, clauses_under}
 use Rattle.eliminate.specs.State.{Start, IsState, AreFree, GivesBack}
 use Rattle.eliminate.specs.Simplifier.{IsSimplified}
 use Rattle.eliminate.specs.Variables.{IsWith, AreThoseWith, IsPairResolved, ArePairsResolved, LeavesOut, KeepsWork}
+use Rattle.names.proofs.Laws.{number_at}
 use Rattle.eliminate.proofs.Back.{negative, extended-append}
 use Rattle.eliminate.proofs.Deleting.{leaves_join, rows_left}
 use Rattle.eliminate.proofs.Growing.{resolvent-lacks}
@@ -179,15 +179,10 @@ free_within frozen v free = elim (cases_lt (v - 1) (length frozen)) [
   | inr past ↦ absurd (none-some false (sym (slice_get_past frozen (v - 1) past) ∙ free.1))
 ]
 
-pub number_at : (names : List Name) (r : ℕ) → All (λ n. IsId (number_in n)) names → IsId (number_in (name_at names r))
-number_at [] r all = (omega arith, lit< tt)
-number_at (n ∷ names) zero all = All-head (λ (m : Name). IsId (number_in m)) n names all
-number_at (n ∷ names) (suc r) all = number_at names r (All-tail (λ (m : Name). IsId (number_in m)) n names all)
-
 -- a line that deletes a clause by its name
 pub line_deletes : (names : List Name) (r : ℕ) → All (λ n. IsId (number_in n)) names → IsLine (delete_line (name_at names r))
 line_deletes names r all = record {
   literals = All-nil (λ (k : Literal). IsId k.variable);
-  names = All-cons (λ (h : Hint). IsId (number_in (name_of h))) (Plain (name_at names r)) [] (number_at names r all) (All-nil (λ (h : Hint). IsId (number_in (name_of h))));
+  names = All-cons HasNumber (Plain (name_at names r)) [] (number_at names r all) (All-nil HasNumber);
   deletes = λ e. (refl, All-cons IsPlain (Plain (name_at names r)) [] tt (All-nil IsPlain));
 }

@@ -10,7 +10,7 @@ use Rattle.eliminate_tables.specs.Resolvents.{resolvent}
 use Rattle.eliminate.specs.Simplifier.{Grows}
 use Rattle.eliminate.specs.Variables.{IsWith, AreThoseWith, LacksBoth, GrowsWithout, IsResolvedIn, IsPairResolved, ArePairsResolved}
 use Rattle.eliminate.proofs.Deleting.{take_next}
-use Rattle.names.proofs.Laws.{slot_before, slot_pushed}
+use Rattle.clauses.proofs.Laws.{clause_cases, clause_kept}
 use Rattle.eliminate_tables.proofs.Laws.{resolvent-open, resolvent-open_not, not-opposite, not-opposite_too}
 
 pub resolvent-lacks : (p : Literal) (c d : List Literal) → has_opposites c ≡ false → has_opposites d ≡ false → contains_literal p c ≡ true → contains_literal (negation p) d ≡ true → LacksBoth p (resolvent p c d)
@@ -21,10 +21,10 @@ resolvent-lacks p c d oc od has has_not = record {
 
 pub grows_one : (l : Literal) (slots : Slots) (c : List Literal) → LacksBoth l c → GrowsWithout l slots (slots ++ Some c ∷ [])
 grows_one l slots c lacks = record {
-  kept = λ r d e. slot_before slots c r d e;
-  came = λ r d e. elim (slot_pushed slots c r d e) [
-    | inl w ↦ inr (subst (LacksBoth l) (sym w.1) lacks)
-    | inr w ↦ inl w
+  kept = λ r d e. clause_kept slots c d r e;
+  came = λ r d e. elim (clause_cases slots c r d e) [
+    | inl w ↦ inl w
+    | inr w ↦ inr (subst (LacksBoth l) (sym w.1) lacks)
   ];
 }
 

@@ -14,7 +14,7 @@ use Rattle.lrat_log.specs.declared.lines.Name.{Name}
 use Rattle.lrat_log.specs.Log.{id_of, number_in}
 use Rattle.eliminate.specs.Elimination.{HoldsWhatIsLive, listed_names}
 use Rattle.names.specs.Work.{name_at, AreLiveAs}
-use Rattle.eliminate.proofs.UnitLines.{name_id}
+use Rattle.names.proofs.Laws.{number_at}
 
 -- the next place has a clause
 places_some : (n i : ℕ) (slots : Slots) (c : List Literal) → clause_at slots i ≡ Some c → places_from n (take (suc i) slots) ≡ places_from n (take i slots) ++ (n + i) ∷ []
@@ -107,7 +107,7 @@ holds_live slots names base last at ids a =
     let to_ids : map (λ n. id_of base n.1) (map f places) ≡ map id places = map_twice (λ (n : ℕ × Name). id_of base n.1) f places in
     record {
       from_one = by_index (λ (n : ℕ × Name). 0 < number_in n.1) (map f places)
-          (mapped (λ (n : ℕ × Name). 0 < number_in n.1) f places (all_places (λ r. 0 < number_in (name_at names r)) 0 slots (λ r c e. (name_id names ids (0 + r)).0)));
+          (mapped (λ (n : ℕ × Name). 0 < number_in n.1) f places (all_places (λ r. 0 < number_in (name_at names r)) 0 slots (λ r c e. (number_at names (0 + r) ids).0)));
       listed = map_twice (λ (n : ℕ × Name). n.0) f places ∙ map_same places;
       differ = subst (IsDistinct nat_eq) (sym to_ids) (distinct_places id 0 slots (λ r s c d e g same. a.differ r s c d e g (ap id (sym (zero-add r)) ∙ same ∙ ap id (zero-add s))));
       named = by_index (λ (n : ℕ × Name). at (id_of base n.1) ≡ clause_at slots n.0) (map f places)

@@ -11,7 +11,7 @@ use Rattle.clauses.specs.Slots.{Slots}
 use Rattle.eliminate_tables.specs.Rows.{row_at, with_row, with_entry, with_clause_rows, AreRows}
 use Rattle.marks.specs.Marks.{HasPlace}
 use Rattle.marks.proofs.Laws.{place_within}
-use Rattle.names.proofs.Laws.{slot_pushed, slot_within, slot_deleted}
+use Rattle.clauses.proofs.Laws.{clause_cases, clause_left, live_within}
 use Rattle.wcnf.proofs.Laws.{literal_eq-refl}
 
 row-same : (rows : List (List ℕ)) (i : ℕ) (row : List ℕ) → i < length rows → row_at (with_row rows i row) i ≡ row
@@ -88,20 +88,20 @@ rows_from rows (l ∷ c) r i s all h =
 -- a clause is added to the store and to the rows of its literals
 pub rows_added : (rows : List (List ℕ)) (slots : Slots) (c : List Literal) → AreRows rows slots → HavePlaces (length rows) c → AreRows (with_clause_rows rows c (length slots)) (slots ++ Some c ∷ [])
 rows_added rows slots c a all = record {
-  complete = λ r d l live has. elim (slot_pushed slots c r d live) [
-    | inl w ↦ rw w.0 (rows_new rows c (length slots) l all (subst (λ x. contains_literal l x ≡ true) w.1 has))
-    | inr w ↦ rows_kept rows c (length slots) (index_of l) r all (a.complete r d l w has)
+  complete = λ r d l live has. elim (clause_cases slots c r d live) [
+    | inl w ↦ rows_kept rows c (length slots) (index_of l) r all (a.complete r d l w has)
+    | inr w ↦ rw w.0 (rows_new rows c (length slots) l all (subst (λ x. contains_literal l x ≡ true) w.1 has))
   ];
-  right = λ r d l some live stands. elim (slot_pushed slots c r d live) [
-    | inl w ↦ elim (rows_from rows c (length slots) (index_of l) r all stands) [
+  right = λ r d l some live stands. elim (clause_cases slots c r d live) [
+    | inr w ↦ elim (rows_from rows c (length slots) (index_of l) r all stands) [
       | inl old ↦ let h : r < length slots = a.before (index_of l) r old in let e : r ≡ length slots = w.0 in absurd (omega arith)
       | inr new ↦
           let same : l ≡ new.1.0 = index_same l new.1.0 some new.1.2 new.1.3 in
           rw same (subst (λ x. contains_literal new.1.0 x ≡ true) (sym w.1) new.1.1)
     ]
-    | inr w ↦ elim (rows_from rows c (length slots) (index_of l) r all stands) [
+    | inl w ↦ elim (rows_from rows c (length slots) (index_of l) r all stands) [
       | inl old ↦ a.right r d l some w old
-      | inr new ↦ let h : r < length slots = slot_within slots r d w in let e : r ≡ length slots = new.0 in absurd (omega arith)
+      | inr new ↦ let h : r < length slots = live_within slots r d w in let e : r ≡ length slots = new.0 in absurd (omega arith)
     ]
   ];
   before = λ i r h.
@@ -115,7 +115,7 @@ rows_added rows slots c a all = record {
 -- a clause is deleted
 pub rows_deleted : (rows : List (List ℕ)) (slots : Slots) (s : ℕ) → AreRows rows slots → AreRows rows (slice_set slots s None)
 rows_deleted rows slots s a = record {
-  complete = λ r d l live has. a.complete r d l (slot_deleted slots s r d live).1 has;
-  right = λ r d l some live stands. a.right r d l some (slot_deleted slots s r d live).1 stands;
+  complete = λ r d l live has. a.complete r d l (clause_left slots s r d live).1 has;
+  right = λ r d l some live stands. a.right r d l some (clause_left slots s r d live).1 stands;
   before = λ i r h. let b : r < length slots = a.before i r h in omega (arith, length-set slots s None);
 }

@@ -14,7 +14,7 @@ use Rattle.lrat_log.specs.declared.lines.Kind.{Kind}
 use Rattle.lrat_log.specs.declared.lines.Kind.TheVariants.{Empty, Resolvent}
 use Rattle.lrat_log.specs.declared.lines.Hint.{Hint}
 use Rattle.lrat_log.specs.declared.lines.Hint.TheVariants.{Plain}
-use Rattle.lrat_log.specs.Log.{LogLine, name_of, number_in, is_delete, is_learned}
+use Rattle.lrat_log.specs.Log.{HasNumber, LogLine, is_delete, is_learned}
 use Rattle.lrat_log.specs.Steps.{given_of, IsOwnGroup, is_empty_clause}
 use Rattle.marks.specs.Marks.{HasPlace}
 use Rattle.eliminate.specs.declared.simplifier.Simplifier.{Simplifier}
@@ -24,8 +24,8 @@ use Rattle.eliminate.specs.State.{Start}
 use Rattle.names.specs.Work.{name_at}
 use Rattle.eliminate.specs.Simplifier.{IsSimplified, IsSimplifier, IsAddableLine}
 use Rattle.eliminate.proofs.Adding.{resolvent_line, resolvent-no_repeat, resolvent-small}
-use Rattle.eliminate.proofs.Eliminating.{number_at}
-use Rattle.names.proofs.Laws.{slot_within, slot_last}
+use Rattle.names.proofs.Laws.{number_at}
+use Rattle.clauses.proofs.Laws.{clause_new, live_within}
 use Rattle.eliminate.proofs.States.{places_of}
 
 -- what holds of the literals of both parents holds of the resolvent's
@@ -71,8 +71,8 @@ module _ (start : Start) (s : Simplifier) (slots : Slots) (ls : List LogLine) (p
         unlearned = unlearned;
         line = record {
           literals = clause_ids s.vars (resolvent p c d) few_variables f;
-          names = All-cons (λ (x : Hint). IsId (number_in (name_of x))) (Plain (name_at names first)) (Plain (name_at names second) ∷ []) (number_at names first h.state.work.named.numbers)
-              (All-cons (λ (x : Hint). IsId (number_in (name_of x))) (Plain (name_at names second)) [] (number_at names second h.state.work.named.numbers) (All-nil (λ (x : Hint). IsId (number_in (name_of x)))));
+          names = All-cons HasNumber (Plain (name_at names first)) (Plain (name_at names second) ∷ []) (number_at names first h.state.work.named.numbers)
+              (All-cons HasNumber (Plain (name_at names second)) [] (number_at names second h.state.work.named.numbers) (All-nil HasNumber));
           deletes = λ e. absurd (both_ways (is_delete kind) adds e);
         };
         clause = f;
@@ -91,7 +91,7 @@ module _ (s : Simplifier) (slots : Slots) (ls : List LogLine) (w : IsSimplifier 
 
   -- and it has a name
   pub is_named : r < length s.names.names
-  is_named = let long = w.1.state.work.named.long in let h = slot_within slots r c live in omega arith
+  is_named = let long = w.1.state.work.named.long in let h = live_within slots r c live in omega arith
 
 kind_adds : (b : Bool) (k : Kind) → k ≡ (if b then Empty else Resolvent) → (is_delete k ≡ false) × (is_learned k ≡ false)
 kind_adds true k e = rw e (refl, refl)
@@ -108,5 +108,5 @@ same_at slots r c d e f = same_Some c d (sym e ∙ f)
 pub pair_added : (p : Literal) (slots more : Slots) (first second : ℕ) (c d clause : List Literal) → more ≡ slots ++ Some clause ∷ [] → clause ≡ resolvent p c d → clause_at slots first ≡ Some c → clause_at slots second ≡ Some d
     → (x y : List Literal) → clause_at slots first ≡ Some x → clause_at slots second ≡ Some y → clause_at more (length slots) ≡ Some (resolvent p x y)
 pair_added p slots more first second c d clause more_is clause_is one other x y ex ey =
-    ap (λ (xs : Slots). clause_at xs (length slots)) more_is ∙ slot_last slots clause ∙ ap Some clause_is
+    ap (λ (xs : Slots). clause_at xs (length slots)) more_is ∙ clause_new slots clause ∙ ap Some clause_is
     ∙ ap (λ z. Some (resolvent p z d)) (same_at slots first c x one ex) ∙ ap (λ z. Some (resolvent p x z)) (same_at slots second d y other ey)

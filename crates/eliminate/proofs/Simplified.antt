@@ -10,12 +10,14 @@ use Rattle.lrat_log.specs.Log.{LogLine}
 use Rattle.lrat_log.specs.Steps.{is_empty_clause, AddsNoEmptyClause}
 use Rattle.marks.specs.Marks.{HasPlace}
 use Rattle.eliminate.specs.declared.simplifier.Simplifier.{Simplifier}
-use Rattle.names.specs.Work.{NamesState, additions, name_at, added_line, delete_line}
+use Rattle.lrat_log.specs.Steps.{added_count}
+use Rattle.names.specs.Work.{NamesState, name_at, added_line, delete_line}
 use Rattle.eliminate_tables.specs.Rows.{with_clause_rows}
 use Rattle.eliminate.specs.State.{Start, IsState}
 use Rattle.eliminate.specs.Simplifier.{IsSimplified, IsAddableLine, IsLogOf}
 use Rattle.names.proofs.Laws.{open_added, open_deleted}
-use Rattle.names.proofs.Laws.{additions-push, slot_last}
+use Rattle.clauses.proofs.Laws.{clause_new}
+use Rattle.lrat_log.proofs.Laws.{additions_push}
 use Rattle.eliminate.proofs.States.{state_added, state_subsumed, contains_live, places_of}
 
 no_empty : (b e : Bool) → e ≡ false → (b && e) ≡ false
@@ -40,23 +42,23 @@ pub record HasAdded (s t : Simplifier) (slots : Slots) (c : List Literal) : Type
   pub refuted : t.is_refuted ≡ is_empty_clause c
 
 pub simplified_added : (start : Start) (s t : Simplifier) (slots : Slots) (ls : List LogLine) (l : LogLine) → IsSimplified start s slots ls → s.is_refuted ≡ false
-    → IsAddableLine start s ls l → additions ls + 1 < 2 ^ 62 → HasAdded s t slots l.clause → IsSimplified start t (slots ++ Some l.clause ∷ []) (ls ++ l ∷ [])
+    → IsAddableLine start s ls l → added_count ls + 1 < 2 ^ 62 → HasAdded s t slots l.clause → IsSimplified start t (slots ++ Some l.clause ∷ []) (ls ++ l ∷ [])
 simplified_added start s t slots ls l h works a small n =
     let more : Slots = slots ++ Some l.clause ∷ [] in
     let going : AddsNoEmptyClause ls = h.going works in
-    let state : IsState start s.vars more (s.names.names ++ added_line (additions ls) ∷ []) (ls ++ l ∷ []) (with_clause_rows s.occurrences l.clause (length slots)) s.removals =
+    let state : IsState start s.vars more (s.names.names ++ added_line (added_count ls) ∷ []) (ls ++ l ∷ []) (with_clause_rows s.occurrences l.clause (length slots)) s.removals =
     state_added start s.vars slots s.names.names ls s.occurrences s.removals h.state going l a.follows a.own a.unlearned small a.clause a.free in
-    let names : t.names.names ≡ s.names.names ++ added_line (additions ls) ∷ [] = ap (λ (x : NamesState). x.names) n.names ∙ ap (λ k. s.names.names ++ added_line k ∷ []) h.counted in
+    let names : t.names.names ≡ s.names.names ++ added_line (added_count ls) ∷ [] = ap (λ (x : NamesState). x.names) n.names ∙ ap (λ k. s.names.names ++ added_line k ∷ []) h.counted in
     let count : t.names.additions ≡ s.names.additions + 1 = ap (λ (x : NamesState). x.additions) n.names in
     record {
       state = rw (n.vars, names, n.occurrences, n.removals) state;
-      counted = count ∙ ap (λ k. k + 1) h.counted ∙ sym (rw a.follows.adds at (additions-push ls l));
+      counted = count ∙ ap (λ k. k + 1) h.counted ∙ sym (rw a.follows.adds at (additions_push ls l));
       marks = ap length n.marks ∙ h.marks ∙ ap (λ k. 2 * k) (sym n.vars);
       few = h.few;
       given = (let v = n.vars in let g = h.given in omega arith);
       fresh = (let v = n.vars in let f = h.fresh in omega arith);
       going = λ e. open_added ls l going (no_empty _ (is_empty_clause l.clause) (sym n.refuted ∙ e));
-      refuted = λ e. subst (Contains (live_clauses more)) (sym (is_empty l.clause (sym n.refuted ∙ e))) (contains_live more (length slots) l.clause (slot_last slots l.clause));
+      refuted = λ e. subst (Contains (live_clauses more)) (sym (is_empty l.clause (sym n.refuted ∙ e))) (contains_live more (length slots) l.clause (clause_new slots l.clause));
     }
 
 -- tables that are as before but for the schedule
@@ -77,7 +79,7 @@ simplified_subsumed start s t slots ls r q c d h works other at by subset n =
     let line : LogLine = delete_line (name_at s.names.names r) in
     record {
       state = rw (n.vars, n.names, n.occurrences, n.removals) state;
-      counted = ap (λ (x : NamesState). x.additions) n.names ∙ h.counted ∙ (let e = additions-push ls line in omega arith);
+      counted = ap (λ (x : NamesState). x.additions) n.names ∙ h.counted ∙ (let e = additions_push ls line in omega arith);
       marks = n.marks ∙ h.marks ∙ ap (λ k. 2 * k) (sym n.vars);
       few = h.few;
       given = (let v = n.vars in let g = h.given in omega arith);

@@ -16,12 +16,13 @@ use Rattle.lrat_log.specs.Steps.{given_of, AddsNoEmptyClause, IsOwnGroup}
 use Rattle.marks.specs.Marks.{HasPlace}
 use Rattle.eliminate.specs.Elimination.{Removed, is_eliminated, positive}
 use Rattle.eliminate_tables.specs.Resolvents.{resolvent}
-use Rattle.names.specs.Work.{additions, name_at, added_line, delete_line, IsRupLine}
+use Rattle.lrat_log.specs.Steps.{added_count}
+use Rattle.names.specs.Work.{name_at, added_line, delete_line, IsRupLine}
 use Rattle.eliminate_tables.specs.Rows.{with_clause_rows}
 use Rattle.eliminate.specs.State.{Start, IsState, AreFree, GivesBack}
 use Rattle.eliminate.proofs.Back.{Entails, IsKept, HaveVariable, negative, extends_weaker, extends_eliminated, resolve_to, entails_subsumed, entails_member}
 use Rattle.names.proofs.Laws.{work_added, work_deleted}
-use Rattle.names.proofs.Laws.{slot_pushed, slot_before, slot_deleted, slot_kept}
+use Rattle.clauses.proofs.Laws.{clause_cases, clause_kept, clause_left, clause_other}
 use Rattle.eliminate.proofs.Occurring.{rows_added, rows_deleted, rows-length}
 pub use Rattle.pairs.proofs.Laws.{all_live, live_all, contains_live}
 
@@ -36,20 +37,20 @@ places_of n (l ∷ c) some few =
 module _ (start : Start) (variables : ℕ) (slots : Slots) (names : List Name) (ls : List LogLine) (rows : List (List ℕ)) (removed : List Removed)
     (s : IsState start variables slots names ls rows removed) (going : AddsNoEmptyClause ls) where
   -- a clause is added that follows by its hints, and has no eliminated variable
-  pub state_added : (l : LogLine) → IsRupLine (given_of start.clauses) ls l → All IsOwnGroup l.hints → is_learned l.kind ≡ false → additions ls + 1 < 2 ^ 62 → IsFormulaClause variables l.clause
+  pub state_added : (l : LogLine) → IsRupLine (given_of start.clauses) ls l → All IsOwnGroup l.hints → is_learned l.kind ≡ false → added_count ls + 1 < 2 ^ 62 → IsFormulaClause variables l.clause
       → All (λ (k : Literal). is_eliminated removed k.variable ≡ false) l.clause
-      → IsState start variables (slots ++ Some l.clause ∷ []) (names ++ added_line (additions ls) ∷ []) (ls ++ l ∷ []) (with_clause_rows rows l.clause (length slots)) removed
+      → IsState start variables (slots ++ Some l.clause ∷ []) (names ++ added_line (added_count ls) ∷ []) (ls ++ l ∷ []) (with_clause_rows rows l.clause (length slots)) removed
   state_added l rup own unlearned small clause free =
       let places : All (HasPlace (length rows)) l.clause = subst (λ n. All (HasPlace n) l.clause) (sym s.places) (places_of variables l.clause clause.from_one clause.small) in
       record {
         work = work_added (length start.frozen) variables (given_of start.clauses) slots names ls l s.work going rup own unlearned small clause;
         occurrences = rows_added rows slots l.clause s.occurrences places;
         places = rows-length rows l.clause (length slots) ∙ s.places;
-        back = λ bits few all. s.back bits few (all_live (Satisfies (assignment_of bits)) slots (λ r c e. live_all (Satisfies (assignment_of bits)) (slots ++ Some l.clause ∷ []) all r c (slot_before slots l.clause r c e)));
+        back = λ bits few all. s.back bits few (all_live (Satisfies (assignment_of bits)) slots (λ r c e. live_all (Satisfies (assignment_of bits)) (slots ++ Some l.clause ∷ []) all r c (clause_kept slots l.clause c r e)));
         within = s.within;
-        free = λ r c e. elim (slot_pushed slots l.clause r c e) [
-          | inl w ↦ subst (λ (d : List Literal). All (λ (k : Literal). is_eliminated removed k.variable ≡ false) d) (sym w.1) free
-          | inr w ↦ s.free r c w
+        free = λ r c e. elim (clause_cases slots l.clause r c e) [
+          | inl w ↦ s.free r c w
+          | inr w ↦ subst (λ (d : List Literal). All (λ (k : Literal). is_eliminated removed k.variable ≡ false) d) (sym w.1) free
         ];
         not_frozen = s.not_frozen;
       }
@@ -66,7 +67,7 @@ module _ (start : Start) (variables : ℕ) (slots : Slots) (names : List Name) (
         places = s.places;
         back = extends_weaker variables removed start.clauses (live_clauses slots) (live_clauses after) s.back follows;
         within = s.within;
-        free = λ q x e. s.free q x (slot_deleted slots r q x e).1;
+        free = λ q x e. s.free q x (clause_left slots r q x e).1;
         not_frozen = s.not_frozen;
       }
     where
@@ -74,8 +75,8 @@ module _ (start : Start) (variables : ℕ) (slots : Slots) (names : List Name) (
       by_place q x e =
           let after : Slots = slice_set slots r None in
           elim (cases_eq q r) [
-            | inl h ↦ subst (Entails (live_clauses after)) (sym (same_Some x d (sym e ∙ ap (clause_at slots) h ∙ live))) (entails_subsumed (live_clauses after) c d (contains_live after t c (slot_kept slots r t c other by)) subset)
-            | inr n ↦ entails_member (live_clauses after) x (contains_live after q x (slot_kept slots r q x n e))
+            | inl h ↦ subst (Entails (live_clauses after)) (sym (same_Some x d (sym e ∙ ap (clause_at slots) h ∙ live))) (entails_subsumed (live_clauses after) c d (contains_live after t c (clause_other slots r t other ∙ by)) subset)
+            | inr n ↦ entails_member (live_clauses after) x (contains_live after q x (clause_other slots r q n ∙ e))
           ]
 
 -- a clause lacks the variable

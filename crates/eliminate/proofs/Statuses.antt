@@ -105,8 +105,8 @@ settled_two A c k l hk hl apart nk nl = (
   λ m w. elim (all_member (λ x. (x ≡ m) ⊎ (contains_literal (negation x) A ≡ true)) c k w.others hk) [
     | inr n ↦ both_ways (contains_literal (negation k) A) nk n
     | inl km ↦ elim (all_member (λ x. (x ≡ m) ⊎ (contains_literal (negation x) A ≡ true)) c l w.others hl) [
-      | inr n ↦ both_ways (contains_literal (negation l) A) nl n
       | inl lm ↦ apart (km ∙ sym lm)
+      | inr n ↦ both_ways (contains_literal (negation l) A) nl n
     ]
   ],
 )

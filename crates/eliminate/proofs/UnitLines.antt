@@ -1,9 +1,9 @@
 -- The lines that unit propagation adds: a clause of one literal, and the empty clause.
 use Rattle.std.proofs.Common.{◌≡◌, ℕ, ◌+◌, ◌-◌, ◌<◌, ◌≤◌, ◌^◌, max, Bool, true, false, not, List, [], ◌∷◌, ◌++◌, length, map, filter, take, get_or, Some, None, Option, ◌⊎◌, inl, inr, refl, sym, ◌∙◌, ap, subst, arith}
 use Rattle.std.specs.Prelude.{All, if◌then◌else◌, unwrap_or}
-use Rattle.std.proofs.lemmas.Bool.{or_cases, or_left, or_right, both_ways, false≢true, cases_lt, false_from_ne_true}
-use Rattle.std.proofs.lemmas.List.{append-nil, map-append, get_or_past, get_or_read}
-use Rattle.std.proofs.lemmas.List.Elements.{All-nil, All-cons, All-head, All-tail, filter-append}
+use Rattle.std.proofs.lemmas.Bool.{or_cases, or_left, or_right, both_ways, false≢true, false_from_ne_true}
+use Rattle.std.proofs.lemmas.List.{append-nil, map-append, get_or_read}
+use Rattle.std.proofs.lemmas.List.Elements.{All-nil, All-cons, filter-append}
 use Rattle.wcnf.specs.Literal.{Literal, negation, literal_eq}
 use Rattle.wcnf.specs.Clause.{contains_literal, without_literal, greatest_variable}
 use Rattle.wcnf.specs.Formula.{IsFormulaClause}
@@ -12,11 +12,10 @@ use Rattle.wcnf.specs.Lrat.{IsId}
 use Rattle.wcnf.proofs.Laws.{literal_eq-true}
 use Rattle.clauses.specs.Slots.{Slots, clause_at}
 use Rattle.lrat_log.specs.declared.lines.Name.{Name}
-use Rattle.lrat_log.specs.declared.lines.Name.TheVariants.{Formula}
 use Rattle.lrat_log.specs.declared.lines.Hint.{Hint}
 use Rattle.lrat_log.specs.declared.lines.Hint.TheVariants.{Plain}
 use Rattle.lrat_log.specs.declared.lines.Kind.TheVariants.{Unit, Empty}
-use Rattle.lrat_log.specs.Log.{LogLine, id_of, number_in, name_of}
+use Rattle.lrat_log.specs.Log.{LogLine, id_of, number_in, HasNumber}
 use Rattle.lrat_log.specs.Steps.{given_of, log_live, IsOwnGroup, IsBaseOf}
 use Rattle.wcnf.specs.Marks.{mark_of}
 use Rattle.eliminate.specs.declared.simplifier.Simplifier.{Simplifier}
@@ -29,7 +28,8 @@ use Rattle.eliminate.specs.Units.{AreUnits, unit_of, unit_name, falsified_in, un
 use Rattle.eliminate.proofs.Adding.{unit_line, empty_line}
 use Rattle.eliminate.proofs.Falsified.{AreFalseByUnits}
 use Rattle.wcnf.proofs.Laws.{literal_eq-refl}
-use Rattle.eliminate_tables.proofs.Laws.{each_literal, filter-contains}
+use Rattle.eliminate_tables.proofs.Laws.{each_literal, filter-contains, member_has}
+use Rattle.names.proofs.Laws.{number_at}
 use Rattle.eliminate.proofs.Statuses.{all_member, take_next}
 
 -- the next literal of a clause is false, or not
@@ -64,16 +64,9 @@ all_kept p (k ∷ c) h =
     ap (λ b. if b then k ∷ filter p c else filter p c) (h k (or_left (literal_eq k k) (contains_literal k c) (literal_eq-refl k)))
     ∙ ap (λ xs. k ∷ xs) (all_kept p c (λ l e. h l (or_right (literal_eq l k) (contains_literal l c) e)))
 
-pub all_at : (P : Literal → Type 0) (c : List Literal) (l : Literal) → All P c → contains_literal l c ≡ true → P l
-all_at P [] l all e = absurd (false≢true e)
-all_at P (k ∷ c) l all e = elim (or_cases (literal_eq l k) (contains_literal l c) e) [
-  | inl same ↦ subst P (sym (literal_eq-true l k same)) (All-head P k c all)
-  | inr more ↦ all_at P c l (All-tail P k c all) more
-]
-
 module _ (u : Units) (slots : Slots) (c : List Literal) (a : AreUnits u slots) (some : All (λ k. 0 < k.variable) c) where
   marked_as : (k : Literal) (b : Bool) → contains_literal k c ≡ true → contains_literal (negation k) u.trail.items ≡ b → mark_of u.values (negation k) ≡ b
-  marked_as k b has e = a.marked.marked (negation k) (all_at (λ l. 0 < l.variable) c k some has) ∙ e
+  marked_as k b has e = a.marked.marked (negation k) (member_has (λ l. 0 < l.variable) c k some has) ∙ e
 
   -- of a unit clause all literals are false but one
   pub falsified_unit : (l : Literal) → IsUnit c u.trail.items l → falsified_in u c ≡ without_literal l c
@@ -91,23 +84,14 @@ module _ (u : Units) (slots : Slots) (c : List Literal) (a : AreUnits u slots) (
 pub looked_up : (clauses : List (Option ℕ)) (n : ℕ) (l : Literal) (o : Option ℕ) → n ≡ l.variable → n - 1 < length clauses → o ≡ get_or clauses (n - 1) o → o ≡ get_or clauses (l.variable - 1) None
 looked_up clauses n l o e lt is = get_or_read clauses (n - 1) o lt is None ∙ ap (λ k. get_or clauses (k - 1) None) e
 
-pub name_id : (names : List Name) → All (λ n. IsId (number_in n)) names → (r : ℕ) → IsId (number_in (name_at names r))
-name_id names all r = elim (cases_lt r (length names)) [
-  | inl within ↦ all r (Formula 1) within
-  | inr past ↦ subst (λ (n : Name). IsId (number_in n)) (sym (get_or_past names r (Formula 1) past)) (omega arith, omega arith)
-]
-
 all_own : (f : Literal → Name) (ks : List Literal) (m : Name) → All IsOwnGroup (map (λ k. Plain (f k)) ks ++ Plain m ∷ [])
 all_own f [] m = All-cons IsOwnGroup (Plain m) [] tt (All-nil IsOwnGroup)
 all_own f (k ∷ ks) m = All-cons IsOwnGroup (Plain (f k)) (map (λ x. Plain (f x)) ks ++ Plain m ∷ []) tt (all_own f ks m)
 
-abbrev HasId : Hint → Type 0
-HasId h = IsId (number_in (name_of h))
-
-all_ids : (names : List Name) → All (λ n. IsId (number_in n)) names → (f : Literal → ℕ) (ks : List Literal) (r : ℕ) → All HasId (map (λ k. Plain (name_at names (f k))) ks ++ Plain (name_at names r) ∷ [])
-all_ids names all f [] r = All-cons HasId (Plain (name_at names r)) [] (name_id names all r) (All-nil HasId)
+all_ids : (names : List Name) → All (λ n. IsId (number_in n)) names → (f : Literal → ℕ) (ks : List Literal) (r : ℕ) → All HasNumber (map (λ k. Plain (name_at names (f k))) ks ++ Plain (name_at names r) ∷ [])
+all_ids names all f [] r = All-cons HasNumber (Plain (name_at names r)) [] (number_at names r all) (All-nil HasNumber)
 all_ids names all f (k ∷ ks) r =
-    All-cons HasId (Plain (name_at names (f k))) (map (λ x. Plain (name_at names (f x))) ks ++ Plain (name_at names r) ∷ []) (name_id names all (f k)) (all_ids names all f ks r)
+    All-cons HasNumber (Plain (name_at names (f k))) (map (λ x. Plain (name_at names (f x))) ks ++ Plain (name_at names r) ∷ []) (number_at names (f k) all) (all_ids names all f ks r)
 
 module _ (start : Start) (s : Simplifier) (slots : Slots) (ls : List LogLine) (u : Units) (h : IsSimplified start s slots ls) (a : AreUnits u slots) where
   abbrev names : List Name
@@ -143,7 +127,7 @@ module _ (start : Start) (s : Simplifier) (slots : Slots) (ls : List LogLine) (u
 
     pub unit_addable : (l : Literal) → IsUnit c u.trail.items l → IsAddableLine start s ls (record { kind = Unit; clause = l ∷ []; hints = unit_hints u names c r })
     unit_addable l w =
-        let some : 0 < l.variable = all_at (λ (k : Literal). 0 < k.variable) c l formula.from_one w.member in
+        let some : 0 < l.variable = member_has (λ (k : Literal). 0 < k.variable) c l formula.from_one w.member in
         let few : l.variable ≤ s.vars = member_small l w.member in
         let same : falsified_in u c ≡ without_literal l c = falsified_unit u slots c a formula.from_one l w in
         let rup : IsRupLine (given_of start.clauses) ls (record { kind = Unit; clause = l ∷ []; hints = map (λ k. Plain (by_unit k)) (without_literal l c) ++ Plain (name_at names r) ∷ [] }) =
@@ -172,7 +156,7 @@ module _ (start : Start) (s : Simplifier) (slots : Slots) (ls : List LogLine) (u
             from_one = All-cons (λ (k : Literal). 0 < k.variable) l [] some (All-nil (λ (k : Literal). 0 < k.variable));
             small = omega arith;
           };
-          free = All-cons (λ (k : Literal). is_eliminated s.removals k.variable ≡ false) l [] (all_at (λ (k : Literal). is_eliminated s.removals k.variable ≡ false) c l (h.state.free r c at) w.member)
+          free = All-cons (λ (k : Literal). is_eliminated s.removals k.variable ≡ false) l [] (member_has (λ (k : Literal). is_eliminated s.removals k.variable ≡ false) c l (h.state.free r c at) w.member)
               (All-nil (λ (k : Literal). is_eliminated s.removals k.variable ≡ false));
         }
       where

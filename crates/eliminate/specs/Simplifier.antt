@@ -10,14 +10,15 @@ use Rattle.lrat_log.specs.Steps.{given_of, StaysLogOver, AddsNoEmptyClause, lear
 use Rattle.lrat_log.specs.Steps.{IsOwnGroup}
 use Rattle.eliminate.specs.declared.simplifier.Simplifier.{Simplifier}
 use Rattle.eliminate.specs.Elimination.{is_eliminated}
-use Rattle.names.specs.Work.{additions, IsRupLine}
+use Rattle.lrat_log.specs.Steps.{added_count}
+use Rattle.names.specs.Work.{IsRupLine}
 use Rattle.eliminate.specs.State.{Start, IsState}
 
 -- the store and the tables are a simplified form of the formula at the start
 pub record IsSimplified (start : Start) (s : Simplifier) (slots : Slots) (lines : List LogLine) :
     Type 0 where
   pub state : IsState start s.vars slots s.names.names lines s.occurrences s.removals
-  pub counted : s.names.additions ≡ additions lines
+  pub counted : s.names.additions ≡ added_count lines
   pub marks : length s.marks ≡ 2 * s.vars
   pub few : length start.frozen < 2 ^ 26
   pub given : length start.frozen ≤ s.vars

@@ -8,7 +8,8 @@ ghost use Rattle.lrat_log.specs.Log.{LogLine, IsLine};
 ghost use Rattle.marks.specs.Marks.{HasPlace};
 ghost use Rattle.eliminate.specs.Elimination.{positive, IsFree};
 ghost use Rattle.eliminate_tables.specs.Rows.{AreRows};
-ghost use Rattle.names.specs.Work.{additions, name_at, delete_line};
+ghost use Rattle.lrat_log.specs.Steps.{added_count};
+ghost use Rattle.names.specs.Work.{name_at, delete_line};
 ghost use Rattle.eliminate.specs.Simplifier.{IsSimplifier, StaysSimplified, LeavesLog};
 ghost use Rattle.eliminate_tables.specs.Bins.{ArePlaced};
 ghost use Rattle.eliminate.specs.Variables.{IsSimplifierOver, StaysOver, LeavesLogOver, IsWith};
@@ -311,7 +312,7 @@ fn delete_all<S: Sink>(
         KeepsWork names.now.names store.old.slots (S.lines sink.old) store.new.slots
         (S.lines sink.new)) }
     ensures counted { IfOk result (λ _.
-        additions (S.lines sink.new) ≡ additions (S.lines sink.old)) }
+        added_count (S.lines sink.new) ≡ added_count (S.lines sink.old)) }
     ensures left { IfOk result (λ _. LeavesOut references.now store.old.slots store.new.slots) }
     ensures err { OnErr result (KeepsLog names.now.names store.old.slots (S.lines sink.old)
         (S.lines sink.new)) }

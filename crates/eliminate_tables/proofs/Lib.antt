@@ -1,4 +1,5 @@
 mod Built
+mod Counted
 mod Needed
 mod Resolve
 mod StackPieces

@@ -5,3 +5,4 @@ pub mod Resolvents
 pub mod Rows
 pub mod Schedule
 pub mod Vectors
+pub mod Worthwhile

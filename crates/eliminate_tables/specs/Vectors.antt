@@ -1,9 +1,10 @@
--- Worked values of extended bits, and of a schedule.
-use Rattle.std.specs.Prelude.{◌≡◌, true, false, List, [], ◌∷◌, fold, Some, refl}
-use Rattle.wcnf.specs.Literal.{positive as p, negative as n}
+-- Worked values of extended bits, of a schedule, and of what is worthwhile.
+use Rattle.std.specs.Prelude.{◌≡◌, ℕ, true, false, List, [], ◌∷◌, fold, Some, refl}
+use Rattle.wcnf.specs.Literal.{Literal, positive as p, negative as n}
 use Rattle.eliminate_tables.specs.Removals.{Removed, extended}
 use Rattle.eliminate_tables.specs.Schedule.{ScheduleState, entered, left, first_of, without_first}
 use Rattle.eliminate_tables.specs.Schedule.{is_candidate}
+use Rattle.eliminate_tables.specs.Worthwhile.{are_opposed, is_worthwhile}
 
 -- variable 1 was eliminated from the clauses 1 2 and -1 3
 abbrev one : List Removed
@@ -52,3 +53,21 @@ candidate = refl
 
 no_candidate : is_candidate none (p 1) ≡ false
 no_candidate = refl
+
+-- the clauses 1 2 and 1 3
+abbrev with_one : List (List Literal)
+with_one = (p 1 ∷ p 2 ∷ []) ∷ (p 1 ∷ p 3 ∷ []) ∷ []
+
+-- the resolvents 2 4 and 3 4 are no more than the three clauses
+worth : is_worthwhile (p 1) with_one ((n 1 ∷ p 4 ∷ []) ∷ []) ≡ true
+worth = refl
+
+-- with three clauses of the negation there are six of five
+abbrev with_not_one : List (List Literal)
+with_not_one = (n 1 ∷ p 4 ∷ []) ∷ (n 1 ∷ p 5 ∷ []) ∷ (n 1 ∷ p 6 ∷ []) ∷ []
+
+no_worth : is_worthwhile (p 1) with_one with_not_one ≡ false
+no_worth = refl
+
+opposed : are_opposed (p 1) (p 1 ∷ p 2 ∷ []) (n 1 ∷ n 2 ∷ []) ≡ true
+opposed = refl

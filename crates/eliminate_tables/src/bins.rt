@@ -27,6 +27,9 @@ const STEPS: usize = 64;
 /// Clauses, with their signatures at the same places.
 #[derive(Drop)]
 struct Bin {
+    // The bits that all the signatures have; all bits, where there is none. Where one of them is
+    // missing no signature fits, so that most bins are passed over without a look into them.
+    common: u64,
     references: Vec<CRef>,
     signatures: Vec<u64>,
 }
@@ -73,6 +76,7 @@ impl Bins {
         let mut bins = Vec::with_capacity(alloc, count)?;
         for _literal in 0..count {
             bins.push(Bin {
+                common: u64::MAX,
                 references: Vec::new(alloc),
                 signatures: Vec::new(alloc),
             })?;
@@ -120,8 +124,10 @@ impl Bins {
         }
         let least = self.least_full(lits);
         if let Some(bin) = self.bins.get_mut(least) {
+            let signature = signature(lits);
             bin.references.push(reference)?;
-            bin.signatures.push(signature(lits))?;
+            bin.signatures.push(signature)?;
+            bin.common &= signature;
         }
         Ok(())
     }
@@ -192,6 +198,7 @@ impl Bin {
         }
         self.references.truncate(kept);
         self.signatures.truncate(kept);
+        self.common = common_bits(&self.signatures);
     }
 
     /// Another clause of the bin that is within the marked one, or but for one literal.
@@ -214,8 +221,11 @@ impl Bin {
         if count > fits.len() {
             return None;
         }
-        maybe_subsets(signature, &self.signatures, &mut fits[..count]);
         *steps = steps.saturating_sub(1 + count / 8);
+        if self.common & signature != self.common {
+            return None;
+        }
+        maybe_subsets(signature, &self.signatures, &mut fits[..count]);
         for (by, fit) in self.references.iter().zip(fits.iter()) {
             if *fit && *by != current && *steps > 0 && store.is_live(*by) {
                 let lits = store.lits(*by);
@@ -228,6 +238,15 @@ impl Bin {
         }
         None
     }
+}
+
+/// The bits that all the signatures have.
+fn common_bits(signatures: &[u64]) -> u64 {
+    let mut common = u64::MAX;
+    for signature in signatures {
+        common &= *signature;
+    }
+    common
 }
 
 /// The bits of the literals and of their negations: a clause that strengthens has one literal

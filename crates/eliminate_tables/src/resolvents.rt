@@ -80,6 +80,8 @@ pub fn count_rest(marks: &Marks, left_out: Lit, lits: &[Lit]) -> Option<usize>
     requires { All (HasPlace (length marks.now)) lits.now }
     ensures opposed { result ≡ None
         → list_any (is_opposed marks.now) (unmarked_rest marks.now left_out lits.now) ≡ true }
+    ensures plain { IfSome result (λ _.
+        list_any (is_opposed marks.now) (unmarked_rest marks.now left_out lits.now) ≡ false) }
     ensures count { IfSome result (λ n. n ≡ length (unmarked_rest marks.now left_out lits.now)) }
 {
     let mut count = 0usize;

@@ -1,9 +1,12 @@
 // Whether a variable is worth eliminating: few clauses have it, and their resolvents are no more
 // and none is long. It is found by counting over marks, so that no clause is built in vain.
-ghost use Rattle.std.specs.Prelude.{◌≡◌, length, All};
+ghost use Rattle.std.specs.Prelude.{◌≡◌, true, false, length, All, IfSome, None};
 ghost use Rattle.clauses.specs.Slots.{IsLive};
 ghost use Rattle.eliminate_tables.specs.Bins.{ArePlaced};
+ghost use Rattle.eliminate_tables.specs.Rows.{clause_under, clauses_under};
 ghost use Rattle.eliminate_tables.specs.Schedule.{is_candidate};
+ghost use Rattle.eliminate_tables.specs.Worthwhile.{are_short, resolvent_count};
+ghost use Rattle.eliminate_tables.specs.Worthwhile.{are_few_and_short, is_worthwhile};
 
 use crate::resolvents::count_rest;
 use crate::schedule::Schedule;
@@ -13,11 +16,14 @@ use wcnf::types::Lit;
 
 /// A variable goes only where at most so many clauses have it, and at most so many its negation.
 const MOST_OF_A_SIGN: usize = 10;
+
 /// No resolvent has more literals.
 const MOST_LITERALS: usize = 32;
+
 /// Clauses that are longer are not tried: their resolvents are too long, but where each has an
 /// opposite pair.
 const LONGEST_PARENT: usize = 100;
+
 /// Whether the literal's variable occurs, and each of its signs in few clauses.
 pub fn is_candidate(schedule: &Schedule, pivot: Lit) -> bool
     ensures { result ≡ is_candidate schedule.now pivot }
@@ -39,7 +45,9 @@ pub fn is_worthwhile(
     requires placed { ArePlaced (length marks.old) store.now.slots }
     requires live { All (IsLive store.now.slots) firsts.now }
     requires live_too { All (IsLive store.now.slots) seconds.now }
-    ensures { length marks.new ≡ length marks.old }
+    ensures len { length marks.new ≡ length marks.old }
+    ensures worthwhile { result ≡ is_worthwhile pivot (clauses_under store.now.slots firsts.now)
+        (clauses_under store.now.slots seconds.now) }
 {
     if firsts.is_empty() || seconds.is_empty() {
         return true;
@@ -60,6 +68,7 @@ pub fn is_worthwhile(
 /// Whether these are few clauses, none of them very long.
 fn are_few_and_short(store: &Store, references: &[CRef]) -> bool
     requires { All (IsLive store.now.slots) references.now }
+    ensures { result ≡ are_few_and_short (clauses_under store.now.slots references.now) }
 {
     for reference in references {
         if store.lits(*reference).len() > LONGEST_PARENT {
@@ -81,17 +90,26 @@ fn count_resolvents(
     requires placed { ArePlaced (length marks.old) store.now.slots }
     requires live { IsLive store.now.slots first }
     requires live_too { All (IsLive store.now.slots) seconds.now }
-    ensures { length marks.new ≡ length marks.old }
+    ensures len { length marks.new ≡ length marks.old }
+    ensures long { result ≡ None → are_short pivot (clause_under store.now.slots first)
+        (clauses_under store.now.slots seconds.now) ≡ false }
+    ensures short { IfSome result (λ _. are_short pivot (clause_under store.now.slots first)
+        (clauses_under store.now.slots seconds.now) ≡ true) }
+    ensures count { IfSome result (λ n. n ≡ resolvent_count pivot
+        (clause_under store.now.slots first) (clauses_under store.now.slots seconds.now)) }
 {
     let lits = store.lits(first);
     marks.mark_without(lits, pivot);
     let mut count = 0usize;
     for second in seconds {
-        if let Some(rest) = count_rest(marks, pivot.negation(), store.lits(*second)) {
-            if rest.saturating_add(lits.len()) > MOST_LITERALS + 1 {
-                return None;
+        match count_rest(marks, pivot.negation(), store.lits(*second)) {
+            Some(rest) => {
+                if rest.saturating_add(lits.len()) > MOST_LITERALS + 1 {
+                    return None;
+                }
+                count += 1;
             }
-            count = count.saturating_add(1);
+            None => {}
         }
     }
     Some(count)

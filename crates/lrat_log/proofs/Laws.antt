@@ -1,5 +1,7 @@
 -- The laws of this crate that other crates cite, from one place.
 pub use Rattle.lrat_log.proofs.Accepting.{accepted_log}
+pub use Rattle.lrat_log.proofs.Additions.{additions_cons, additions_few, additions_push, last_numbered}
+pub use Rattle.lrat_log.proofs.Additions.{numbered_on-append}
 pub use Rattle.lrat_log.proofs.GivenNumbers.{base_more, base_of, clauses_given, given_at-given_of}
 pub use Rattle.lrat_log.proofs.GivenNumbers.{given_on, numbered_past, numbered_right}
 pub use Rattle.lrat_log.proofs.Growing.{base_front, chain_join, ids_covered, live_after-append}
@@ -14,4 +16,5 @@ pub use Rattle.lrat_log.proofs.NewLines.{first_new, none_new}
 pub use Rattle.lrat_log.proofs.Numbering.{given_below}
 pub use Rattle.lrat_log.proofs.RebasedLines.{learned_rebased, open_rebased}
 pub use Rattle.lrat_log.proofs.Rebasing.{accepts_of_log, steps_of_log}
+pub use Rattle.lrat_log.proofs.Refusals.{when_err}
 pub use Rattle.lrat_log.proofs.Text.{IsWord, decimal_word, token_lines-spaced}

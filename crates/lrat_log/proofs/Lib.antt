@@ -1,4 +1,5 @@
 mod Accepting
+mod Additions
 mod Flat
 mod GivenNumbers
 mod Growing
@@ -12,5 +13,6 @@ mod Numbering
 mod RebasedLines
 mod RebasedNew
 mod Rebasing
+mod Refusals
 mod Text
 pub mod Laws

@@ -22,6 +22,7 @@ use Rattle.lrat_log.specs.declared.lines.Hint.{Hint}
 use Rattle.lrat_log.specs.declared.lines.Hint.TheVariants.{Plain, Group}
 use Rattle.lrat_log.specs.Log.{LogLine, IsLine, IsPlain, is_delete, name_of, number_in, id_of}
 use Rattle.lrat_log.specs.Log.{numbered_on, numbered_lines, Given, given_at, start_over}
+use Rattle.lrat_log.specs.Log.{HasNumber}
 use Rattle.lrat_log.specs.Steps.{IsKnown, HasKnownNames, live_after, AreSteps, given_of, IsBaseOf}
 use Rattle.lrat_log.specs.Steps.{IsOwnGroup, IsLogOver, IsAcceptedLog, adds_empty_clause}
 use Rattle.lrat_log.specs.Steps.{StopsAtEmptyClause}
@@ -499,9 +500,6 @@ accepts_of_log cs ls log =
     subst (λ x. AcceptsFrom x (numbered_lines (length cs) ls)) (start_over-given_of cs) (log (length cs) (base_of cs (length cs) (omega arith)))
 
 -- the lines of the result are lines
-abbrev pub HasNumber : Hint → Type 0
-HasNumber h = IsId (number_in (name_of h))
-
 abbrev HasSmallId : ℕ → Hint → Type 0
 HasSmallId c h = id_of c (name_of h) < 2 ^ 62
 

@@ -20,6 +20,7 @@ use Rattle.lrat_log.specs.declared.lines.Hint.TheVariants.{Plain, Group}
 use Rattle.lrat_log.specs.declared.lines.Name.{Name}
 use Rattle.lrat_log.specs.declared.lines.Name.TheVariants.{Formula, Added}
 use Rattle.lrat_log.specs.Log.{LogLine, IsLine, HasSmallIds, is_delete, name_of, number_in, id_of, leading_ids, group_ids, numbered_on, numbered_lines, text_of}
+use Rattle.lrat_log.specs.Log.{HasNumber}
 
 -- no byte that ends a token or a line
 abbrev pub IsWord : List ℕ → Type 0
@@ -235,11 +236,11 @@ numbers_on base before (l ∷ ls) a room = (
   numbers_on base (if is_delete l.kind then before else before + 1) ls a.1 (omega (arith, next_small (is_delete l.kind) before)),
 )
 
-small_hints : (base : ℕ) (hs : List Hint) → All (λ h. IsId (number_in (name_of h))) hs → All (λ h. id_of base (name_of h) < 2 ^ 62) hs → AllByRecursion (IsSmall base) hs
+small_hints : (base : ℕ) (hs : List Hint) → All HasNumber hs → All (λ h. id_of base (name_of h) < 2 ^ 62) hs → AllByRecursion (IsSmall base) hs
 small_hints base [] p s = tt
 small_hints base (h ∷ hs) p s = (
-  ((All-head (λ h. IsId (number_in (name_of h))) h hs p).0, All-head (λ h. id_of base (name_of h) < 2 ^ 62) h hs s),
-  small_hints base hs (All-tail (λ h. IsId (number_in (name_of h))) h hs p) (All-tail (λ h. id_of base (name_of h) < 2 ^ 62) h hs s),
+  ((All-head HasNumber h hs p).0, All-head (λ h. id_of base (name_of h) < 2 ^ 62) h hs s),
+  small_hints base hs (All-tail HasNumber h hs p) (All-tail (λ h. id_of base (name_of h) < 2 ^ 62) h hs s),
 )
 
 abbrev SmallIds : ℕ → LogLine → Type 0

@@ -45,11 +45,15 @@ abbrev pub is_group : Hint → Bool
 is_group (Plain n) = false
 is_group (Group n) = true
 
+-- the number in the hint's name is from 1 and below 2^62
+abbrev pub HasNumber : Hint → Type 0
+HasNumber h = IsId (number_in (name_of h))
+
 -- what is known of each line: variables and numbers are from 1 and below 2^62; one that deletes has
 -- no literals, and its hints are plain
 pub record IsLine (l : LogLine) : Type 0 where
   pub literals : All (λ k. IsId k.variable) l.clause
-  pub names : All (λ h. IsId (number_in (name_of h))) l.hints
+  pub names : All HasNumber l.hints
   pub deletes : is_delete l.kind ≡ true → (l.clause ≡ []) × All IsPlain l.hints
 
 -- the line in this place; past the end, one without literals and hints

@@ -2,5 +2,4 @@ mod Logs
 mod Moving
 mod Named
 mod Naming
-mod Refusals
 pub mod Laws

@@ -12,9 +12,11 @@ use Rattle.lrat_log.specs.Log.{LogLine, Given, id_of, is_learned}
 use Rattle.lrat_log.specs.Steps.{IsBaseOf, log_live, StaysLogOver, AddsNoEmptyClause, IsOwnGroup}
 use Rattle.lrat_log.specs.Steps.{learned_count, adds_empty_clause}
 use Rattle.lrat_log.proofs.Laws.{one_apart, open_push, stops_push}
-use Rattle.names.specs.Work.{additions, name_at, added_line, delete_line, IsWork, IsRupLine}
+use Rattle.lrat_log.specs.Steps.{added_count}
+use Rattle.names.specs.Work.{name_at, added_line, delete_line, IsWork, IsRupLine}
 use Rattle.names.proofs.Logs.{rup_line_more, delete_line_more}
-use Rattle.names.proofs.Naming.{named_added, named_deleted, slot_pushed, slot_deleted}
+use Rattle.clauses.proofs.Laws.{clause_cases, clause_left}
+use Rattle.names.proofs.Naming.{named_added, named_deleted}
 
 pub learned-push : (ls : List LogLine) (l : LogLine) → is_learned l.kind ≡ false
     → learned_count (ls ++ l ∷ []) ≡ learned_count ls
@@ -49,15 +51,15 @@ stays_deleted first given ls n c log going live more small = record {
 pub work_added : (first variables : ℕ) (given : Given) (slots : Slots) (names : List Name) (ls : List LogLine) (l : LogLine)
     → IsWork first variables given slots names ls → AddsNoEmptyClause ls
     → IsRupLine given ls l → All IsOwnGroup l.hints → is_learned l.kind ≡ false
-    → additions ls + 1 < 2 ^ 62 → IsFormulaClause variables l.clause
-    → IsWork first variables given (slots ++ Some l.clause ∷ []) (names ++ added_line (additions ls) ∷ []) (ls ++ l ∷ [])
+    → added_count ls + 1 < 2 ^ 62 → IsFormulaClause variables l.clause
+    → IsWork first variables given (slots ++ Some l.clause ∷ []) (names ++ added_line (added_count ls) ∷ []) (ls ++ l ∷ [])
 work_added first variables given slots names ls l w going rup own unlearned small clause = record {
   log = stays_added first given ls l w.log going rup own;
   none_learned = learned-push ls l unlearned ∙ w.none_learned;
   named = named_added given slots names ls l w.named rup.adds small;
-  clauses = λ r c h. elim (slot_pushed slots l.clause r c h) [
-    | inl e ↦ subst (IsFormulaClause variables) (sym e.1) clause
-    | inr e ↦ w.clauses r c e
+  clauses = λ r c h. elim (clause_cases slots l.clause r c h) [
+    | inl e ↦ w.clauses r c e
+    | inr e ↦ subst (IsFormulaClause variables) (sym e.1) clause
   ];
 }
 
@@ -70,7 +72,7 @@ work_deleted first variables given slots names ls r c w going live = record {
   log = stays_deleted first given ls (name_at names r) c w.log going (λ base above. (w.named.live base above).named r c live);
   none_learned = learned-push ls (delete_line (name_at names r)) refl ∙ w.none_learned;
   named = named_deleted given slots names ls r c w.named live;
-  clauses = λ s d h. w.clauses s d (slot_deleted slots r s d h).1;
+  clauses = λ s d h. w.clauses s d (clause_left slots r s d h).1;
 }
 
 -- the log stays open

@@ -6,7 +6,8 @@ use Rattle.clauses.specs.Slots.{Slots}
 use Rattle.lrat_log.specs.declared.lines.Name.TheVariants.{Formula, Added}
 use Rattle.lrat_log.specs.declared.lines.Kind.TheVariants.{Resolvent}
 use Rattle.lrat_log.specs.Log.{LogLine}
-use Rattle.names.specs.Work.{additions, added_line, delete_line, formula_names, name_at}
+use Rattle.lrat_log.specs.Steps.{added_count}
+use Rattle.names.specs.Work.{added_line, delete_line, formula_names, name_at}
 
 abbrev two : Slots
 two = Some (p 1 ∷ []) ∷ None ∷ Some (p 2 ∷ p 3 ∷ []) ∷ []
@@ -19,7 +20,7 @@ abbrev resolvent_line : LogLine
 resolvent_line = record { kind = Resolvent; clause = p 3 ∷ []; hints = [] }
 
 -- a deletion has no number of its own
-two_additions : additions (resolvent_line ∷ delete_line (Added 1) ∷ resolvent_line ∷ []) ≡ 2
+two_additions : added_count (resolvent_line ∷ delete_line (Added 1) ∷ resolvent_line ∷ []) ≡ 2
 two_additions = refl
 
 next_name : added_line 2 ≡ Added 3

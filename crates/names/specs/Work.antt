@@ -1,6 +1,6 @@
 -- The work in hand: clauses in a store, each under a name, and the lines of the log so far.
-use Rattle.std.specs.Prelude.{◌≡◌, ℕ, suc, ◌+◌, ◌<◌, ◌≤◌, ◌^◌, false, List, [], ◌∷◌, length, map}
-use Rattle.std.specs.Prelude.{Some, None, All, slice_index_or, if◌then◌else◌}
+use Rattle.std.specs.Prelude.{◌≡◌, ℕ, ◌+◌, ◌<◌, ◌≤◌, ◌^◌, false, List, [], ◌∷◌, length, map}
+use Rattle.std.specs.Prelude.{Some, None, All, slice_index_or}
 use Rattle.wcnf.specs.Literal.{Literal, negation}
 use Rattle.wcnf.specs.Clause.{has_repeat, has_opposites, greatest_variable}
 use Rattle.wcnf.specs.Formula.{IsFormulaClause}
@@ -13,12 +13,9 @@ use Rattle.lrat_log.specs.declared.lines.Hint.TheVariants.{Plain}
 use Rattle.lrat_log.specs.declared.lines.Kind.TheVariants.{Delete}
 use Rattle.lrat_log.specs.Log.{LogLine, Given, id_of, number_in, is_delete, leading_ids, group_ids}
 use Rattle.lrat_log.specs.Steps.{IsBaseOf, StaysLogOver, log_live, learned_count}
+use Rattle.lrat_log.specs.Steps.{added_count}
 
--- how many additions
-abbrev pub additions : List LogLine → ℕ
-additions [] = 0
-additions (l ∷ ls) = (if is_delete l.kind then additions ls else suc (additions ls))
-
+-- the name of each clause of the store, and how many additions the log has
 pub record NamesState : Type 0 where
   pub names : List Name
   pub additions : ℕ
@@ -56,7 +53,7 @@ pub record IsNamed (given : Given) (slots : Slots) (names : List Name) (lines : 
   pub numbers : All (λ n. IsId (number_in n)) names
   pub live : (base : ℕ) → IsBaseOf given base
       → AreLiveAs (λ r. id_of base (name_at names r)) slots (log_live given base lines)
-      (base + additions lines)
+      (base + added_count lines)
 
 -- each clause of the store is one of a formula with so many variables
 abbrev pub AreClauses : ℕ → Slots → Type 0

@@ -5,7 +5,8 @@ ghost use Rattle.std.specs.Prelude.{OnErr, slice_set, Some, None, All};
 ghost use Rattle.clauses.specs.Slots.{IsLive};
 ghost use Rattle.wcnf.specs.Lrat.{IsId};
 ghost use Rattle.lrat_log.specs.Log.{IsLine, number_in};
-ghost use Rattle.names.specs.Work.{additions, name_at, added_line, delete_line, formula_names};
+ghost use Rattle.lrat_log.specs.Steps.{added_count};
+ghost use Rattle.names.specs.Work.{name_at, added_line, delete_line, formula_names};
 
 use clauses::store::{CRef, Store};
 use lrat_log::lines::{Hint, Kind, Line, Name, Number};
@@ -73,7 +74,7 @@ pub fn add<S: Sink>(
     hints: Vec<Hint>,
 ) -> Result<CRef, AllocError>
     requires line { IsLine (record { kind = kind; clause = lits.items; hints = hints.items }) }
-    requires counted { names.old.additions ≡ additions (S.lines sink.old) }
+    requires counted { names.old.additions ≡ added_count (S.lines sink.old) }
     ensures reference { IfOk result (λ r. r ≡ length store.old.slots) }
     ensures slots { IfOk result (λ _. store.new.slots ≡ store.old.slots ++ Some lits.items ∷ []) }
     ensures names { IfOk result (λ _. names.new ≡ record {

@@ -9,9 +9,12 @@ use Rattle.lrat_log.specs.declared.lines.Hint.TheVariants.{Plain}
 use Rattle.lrat_log.specs.declared.lines.Kind.TheVariants.{Definition, Resolvent}
 use Rattle.lrat_log.specs.Log.{LogLine, is_delete}
 use Rattle.pairs.specs.declared.pairs.Fresh.{Fresh}
-use Rattle.names.specs.Work.{NamesState, additions, name_at, added_line, delete_line}
+use Rattle.lrat_log.specs.Steps.{added_count}
+use Rattle.names.specs.Work.{NamesState, name_at, added_line, delete_line}
 use Rattle.pairs.specs.Pairs.{Ground, stage_of, positive, whole_clause, side_clause, whole_line, side_line, replaced, IsDefined, Stage, IsStage, IsOpenLog, Keeps, KeepsLog}
-use Rattle.names.proofs.Laws.{additions-push, additions_few, name-push, slot_before, slot_last}
+use Rattle.clauses.proofs.Laws.{clause_kept, clause_new}
+use Rattle.lrat_log.proofs.Laws.{additions_few, additions_push}
+use Rattle.names.proofs.Laws.{name-push}
 use Rattle.pairs.proofs.Staging.{added_stage, deleted_stage, with_whole, with_side, with_replaced, replaced_line_of}
 
 -- right work has an open log
@@ -27,9 +30,9 @@ same_stage : (v : ℕ) (slots slots' : Slots) (names names' : List Name) (lines 
 same_stage v slots slots' names names' lines lines' p q r = λ i. record { variables = v; slots = p i; names = q i; lines = r i }
 
 -- a call that adds a clause
-pub is_added : (v w : ℕ) (slots slots' : Slots) (n n' : NamesState) (lines lines' : List LogLine) (l : LogLine) → n.additions ≡ additions lines
+pub is_added : (v w : ℕ) (slots slots' : Slots) (n n' : NamesState) (lines lines' : List LogLine) (l : LogLine) → n.additions ≡ added_count lines
     → slots' ≡ slots ++ Some l.clause ∷ [] → n' ≡ more_names n → lines' ≡ lines ++ l ∷ [] → stage_of w slots' n' lines' ≡ added_stage (stage_of v slots n lines) w l
-is_added v w slots slots' n n' lines lines' l counted p q r = same_stage w slots' (slots ++ Some l.clause ∷ []) n'.names (n.names ++ added_line (additions lines) ∷ []) lines' (lines ++ l ∷ [])
+is_added v w slots slots' n n' lines lines' l counted p q r = same_stage w slots' (slots ++ Some l.clause ∷ []) n'.names (n.names ++ added_line (added_count lines) ∷ []) lines' (lines ++ l ∷ [])
     p (ap (λ (x : NamesState). x.names) q ∙ ap (λ (k : ℕ). n.names ++ added_line k ∷ []) counted) r
 
 -- and one that deletes
@@ -38,18 +41,18 @@ pub is_deleted : (v : ℕ) (slots slots' : Slots) (n : NamesState) (lines lines'
 is_deleted v slots slots' n lines lines' r p q = same_stage v slots' (slice_set slots r None) n.names n.names lines' (lines ++ delete_line (name_at n.names r) ∷ []) p refl q
 
 -- the counts go together
-pub counted_added : (n n' : NamesState) (lines lines' : List LogLine) (l : LogLine) → n.additions ≡ additions lines → n' ≡ more_names n → lines' ≡ lines ++ l ∷ [] → is_delete l.kind ≡ false
-    → n'.additions ≡ additions lines'
+pub counted_added : (n n' : NamesState) (lines lines' : List LogLine) (l : LogLine) → n.additions ≡ added_count lines → n' ≡ more_names n → lines' ≡ lines ++ l ∷ [] → is_delete l.kind ≡ false
+    → n'.additions ≡ added_count lines'
 counted_added n n' lines lines' l counted q r adds =
-    let e : additions (lines ++ l ∷ []) ≡ additions lines + 1 = rw adds at (additions-push lines l) in
+    let e : added_count (lines ++ l ∷ []) ≡ added_count lines + 1 = rw adds at (additions_push lines l) in
     let f : n'.additions ≡ n.additions + 1 = ap (λ (x : NamesState). x.additions) q in
-    let h : additions lines' ≡ additions (lines ++ l ∷ []) = ap additions r in
+    let h : added_count lines' ≡ added_count (lines ++ l ∷ []) = ap added_count r in
     omega arith
 
-pub counted_deleted : (n : NamesState) (lines lines' : List LogLine) (m : Name) → n.additions ≡ additions lines → lines' ≡ lines ++ delete_line m ∷ [] → n.additions ≡ additions lines'
+pub counted_deleted : (n : NamesState) (lines lines' : List LogLine) (m : Name) → n.additions ≡ added_count lines → lines' ≡ lines ++ delete_line m ∷ [] → n.additions ≡ added_count lines'
 counted_deleted n lines lines' m counted r =
-    let e : additions (lines ++ delete_line m ∷ []) ≡ additions lines + 0 = additions-push lines (delete_line m) in
-    let h : additions lines' ≡ additions (lines ++ delete_line m ∷ []) = ap additions r in
+    let e : added_count (lines ++ delete_line m ∷ []) ≡ added_count lines + 0 = additions_push lines (delete_line m) in
+    let h : added_count lines' ≡ added_count (lines ++ delete_line m ∷ []) = ap added_count r in
     omega arith
 
 pub long_added : (slots slots' : Slots) (n n' : NamesState) (c : List Literal) → length n.names ≡ length slots → slots' ≡ slots ++ Some c ∷ [] → n' ≡ more_names n → length n'.names ≡ length slots'
@@ -61,11 +64,11 @@ long_added slots slots' n n' c long p q =
 pub long_deleted : (slots slots' : Slots) (names : List Name) (r : ℕ) → length names ≡ length slots → slots' ≡ slice_set slots r None → length names ≡ length slots'
 long_deleted slots slots' names r long p = long ∙ sym (length-set slots r None) ∙ sym (ap length p)
 
-pub few_additions : (lines : List LogLine) → length lines < 2 ^ 61 → additions lines + 3 < 2 ^ 62
+pub few_additions : (lines : List LogLine) → length lines < 2 ^ 61 → added_count lines + 3 < 2 ^ 62
 few_additions lines short = omega (arith, additions_few lines)
 
 -- the first clause of a definition
-pub whole_is : (v : ℕ) (slots slots' : Slots) (n n' : NamesState) (lines lines' : List LogLine) (lits : List Literal) (hints : List Hint) (x a b : Literal) → n.additions ≡ additions lines
+pub whole_is : (v : ℕ) (slots slots' : Slots) (n n' : NamesState) (lines lines' : List LogLine) (lits : List Literal) (hints : List Hint) (x a b : Literal) → n.additions ≡ added_count lines
     → slots' ≡ slots ++ Some lits ∷ [] → n' ≡ more_names n → lines' ≡ lines ++ record { kind = Definition; clause = lits; hints = hints } ∷ []
     → lits ≡ x ∷ a ∷ b ∷ [] → x ≡ negation (positive (v + 1)) → hints ≡ []
     → stage_of (v + 1) slots' n' lines' ≡ with_whole (stage_of v slots n lines) a b
@@ -77,7 +80,7 @@ whole_is v slots slots' n n' lines lines' lits hints x a b counted p q r e f h =
     ∙ ap (λ (hs : List Hint). lines ++ record { kind = Definition; clause = whole_clause (v + 1) a b; hints = hs } ∷ []) h)
 
 -- and one of its sides
-pub side_is : (v : ℕ) (slots slots' : Slots) (n n' : NamesState) (lines lines' : List LogLine) (s : Stage) (w f : ℕ) (a : Literal) → n.additions ≡ additions lines
+pub side_is : (v : ℕ) (slots slots' : Slots) (n n' : NamesState) (lines lines' : List LogLine) (s : Stage) (w f : ℕ) (a : Literal) → n.additions ≡ added_count lines
     → slots' ≡ slots ++ Some (side_clause v a) ∷ [] → n' ≡ more_names n → lines' ≡ lines ++ side_line v a (name_at n.names w) ∷ []
     → stage_of v slots n lines ≡ s → w ≡ f → stage_of v slots' n' lines' ≡ with_side s f a
 side_is v slots slots' n n' lines lines' s w f a counted p q r e h =
@@ -89,11 +92,11 @@ pub defined_is : (slots one two three : Slots) (z : ℕ) (a b : Literal) (w l r 
     → w ≡ length slots → l ≡ length one → r ≡ length two
     → (clause_at three w ≡ Some (whole_clause z a b)) × (clause_at three l ≡ Some (side_clause z a)) × (clause_at three r ≡ Some (side_clause z b))
 defined_is slots one two three z a b w l r p q s e f h = (
-  ap (λ x. clause_at x w) s ∙ slot_before two (side_clause z b) w (whole_clause z a b)
-      (ap (λ x. clause_at x w) q ∙ slot_before one (side_clause z a) w (whole_clause z a b) (ap (λ x. clause_at x w) p ∙ ap (clause_at (slots ++ Some (whole_clause z a b) ∷ [])) e ∙ slot_last slots (whole_clause z a b))),
-  ap (λ x. clause_at x l) s ∙ slot_before two (side_clause z b) l (side_clause z a)
-      (ap (λ x. clause_at x l) q ∙ ap (clause_at (one ++ Some (side_clause z a) ∷ [])) f ∙ slot_last one (side_clause z a)),
-  ap (λ x. clause_at x r) s ∙ ap (clause_at (two ++ Some (side_clause z b) ∷ [])) h ∙ slot_last two (side_clause z b),
+  ap (λ x. clause_at x w) s ∙ clause_kept two (side_clause z b) (whole_clause z a b) w
+      (ap (λ x. clause_at x w) q ∙ clause_kept one (side_clause z a) (whole_clause z a b) w (ap (λ x. clause_at x w) p ∙ ap (clause_at (slots ++ Some (whole_clause z a b) ∷ [])) e ∙ clause_new slots (whole_clause z a b))),
+  ap (λ x. clause_at x l) s ∙ clause_kept two (side_clause z b) (side_clause z a) l
+      (ap (λ x. clause_at x l) q ∙ ap (clause_at (one ++ Some (side_clause z a) ∷ [])) f ∙ clause_new one (side_clause z a)),
+  ap (λ x. clause_at x r) s ∙ ap (clause_at (two ++ Some (side_clause z b) ∷ [])) h ∙ clause_new two (side_clause z b),
 )
 
 -- after a refusal the log is that of a stage that is right
@@ -103,15 +106,12 @@ kept_log s t lines e keeps ground k = subst (IsOpenLog ground) (sym e) (open_log
 pub keeps_as : (s t u : Stage) → u ≡ t → Keeps s t → Keeps s u
 keeps_as s t u e keeps ground k = subst (IsStage ground) (sym e) (keeps ground k)
 
-pub keeps_on : (s t u : Stage) → Keeps s t → Keeps t u → Keeps s u
-keeps_on s t u f g ground k = g ground (f ground k)
-
 -- the name of a clause stays where another one comes
 pub name_stays : (n n' : NamesState) (r : ℕ) → n' ≡ more_names n → r < length n.names → name_at n'.names r ≡ name_at n.names r
 name_stays n n' r q within = ap (λ (x : NamesState). name_at x.names r) q ∙ name-push n.names (added_line n.additions) r within
 
 -- a clause with the variable of a definition
-pub replaced_is : (slots slots' : Slots) (n n' : NamesState) (lines lines' : List LogLine) (lits c : List Literal) (hints : List Hint) (d : Fresh) (r : ℕ) (x y w : Hint) → n.additions ≡ additions lines
+pub replaced_is : (slots slots' : Slots) (n n' : NamesState) (lines lines' : List LogLine) (lits c : List Literal) (hints : List Hint) (d : Fresh) (r : ℕ) (x y w : Hint) → n.additions ≡ added_count lines
     → slots' ≡ slots ++ Some lits ∷ [] → n' ≡ more_names n → lines' ≡ lines ++ record { kind = Resolvent; clause = lits; hints = hints } ∷ []
     → lits ≡ replaced d.variable d.left d.right c → hints ≡ x ∷ y ∷ w ∷ [] → x ≡ Plain (name_at n.names d.left_side) → y ≡ Plain (name_at n.names d.right_side) → w ≡ Plain (name_at n.names r)
     → stage_of d.variable slots' n' lines' ≡ with_replaced (stage_of d.variable slots n lines) d r c
@@ -127,7 +127,7 @@ replaced_is slots slots' n n' lines lines' lits c hints d r x y w counted p q k 
 pub record Defines (s : Stage) (v : ℕ) (d : Fresh) (slots : Slots) (n : NamesState) (lines : List LogLine) : Type 0 where
   pub variable : d.variable ≡ v + 1
   pub defined : IsDefined slots d
-  pub counted : n.additions ≡ additions lines
+  pub counted : n.additions ≡ added_count lines
   pub long : length n.names ≡ length slots
   pub keeps : Keeps s (stage_of d.variable slots n lines)
 
@@ -139,7 +139,7 @@ defines_same s v d slots slots' n n' lines lines' p q r h =
 pub record Counts (s : Stage) (v bound last : ℕ) (slots : Slots) (n : NamesState) (lines : List LogLine) : Type 0 where
   pub more : v ≤ last
   pub most : last ≤ bound
-  pub counted : n.additions ≡ additions lines
+  pub counted : n.additions ≡ added_count lines
   pub long : length n.names ≡ length slots
   pub keeps : Keeps s (stage_of last slots n lines)
 

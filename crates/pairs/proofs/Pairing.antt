@@ -14,10 +14,12 @@ use Rattle.lrat_log.specs.declared.lines.Name.TheVariants.{Formula, Added}
 use Rattle.lrat_log.specs.declared.lines.Hint.TheVariants.{Group}
 use Rattle.lrat_log.specs.Log.{LogLine, Given, id_of, given_at, start_over, numbered_lines}
 use Rattle.lrat_log.specs.Steps.{live_after, log_live, IsBaseOf, StaysLogOver, AddsNoEmptyClause, IsOwnGroup}
-use Rattle.names.specs.Work.{additions, name_at, IsNamed}
+use Rattle.lrat_log.specs.Steps.{added_count}
+use Rattle.names.specs.Work.{name_at, IsNamed}
 use Rattle.pairs.specs.Pairs.{positive, whole_clause, side_clause, whole_line, side_line}
 use Rattle.lrat_log.proofs.Laws.{live_more, base_front, stops_push}
-use Rattle.names.proofs.Laws.{log_steps_more, last_after}
+use Rattle.lrat_log.proofs.Laws.{last_numbered}
+use Rattle.names.proofs.Laws.{log_steps_more}
 use Rattle.pairs.proofs.Definitions.{IsFreshIn, IsPairFor, first_addable, side_addable, first_rat, side_rat}
 
 -- what is live where more is given is live without, or is something of P
@@ -99,8 +101,8 @@ module _ (first : ℕ) (given : Given) (slots : Slots) (names : List Name) (ls :
   stays_whole v z a b log going few above small p more all = record {
     steps = log_steps_more (given ++ more) ls (whole_line z a b) (log more all).steps (λ base is_base.
         let old : Live = live_after (start_over (given ++ more) base) (numbered_lines base ls) in
-        let id : ℕ = base + additions ls + 1 in
-        let last : old.last ≡ base + (0 + additions ls) = last_after base 0 (start_over (given ++ more) base) ls (let e : base ≡ base + 0 = omega arith in e) in (
+        let id : ℕ = base + added_count ls + 1 in
+        let last : old.last ≡ base + (0 + added_count ls) = last_numbered base 0 ls (start_over (given ++ more) base) (let e : base ≡ base + 0 = omega arith in e) in (
           with_clause old id (whole_clause z a b),
           (first_addable old id z a b (omega (arith, last)) p, inr (first_rat old.clause_at z a b (fresh_more v z more base few above small all is_base)), refl),
         ));
@@ -116,8 +118,8 @@ module _ (first : ℕ) (given : Given) (slots : Slots) (names : List Name) (ls :
   stays_side z f a c j log going few small small_a other named live has has_a only more all = record {
     steps = log_steps_more (given ++ more) ls (side_line z a (name_at names f)) (log more all).steps (λ base is_base.
         let old : Live = live_after (start_over (given ++ more) base) (numbered_lines base ls) in
-        let id : ℕ = base + additions ls + 1 in
-        let last : old.last ≡ base + (0 + additions ls) = last_after base 0 (start_over (given ++ more) base) ls (let e : base ≡ base + 0 = omega arith in e) in (
+        let id : ℕ = base + added_count ls + 1 in
+        let last : old.last ≡ base + (0 + added_count ls) = last_numbered base 0 ls (start_over (given ++ more) base) (let e : base ≡ base + 0 = omega arith in e) in (
           with_clause old id (side_clause z a),
           (
             side_addable old id z a (omega (arith, last)) other small small_a,

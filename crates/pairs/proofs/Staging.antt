@@ -15,14 +15,17 @@ use Rattle.lrat_log.specs.declared.lines.Name.{Name}
 use Rattle.lrat_log.specs.declared.lines.Name.TheVariants.{Added}
 use Rattle.lrat_log.specs.declared.lines.Hint.TheVariants.{Plain}
 use Rattle.lrat_log.specs.declared.lines.Kind.TheVariants.{Resolvent}
-use Rattle.lrat_log.specs.Log.{LogLine, IsLine, IsPlain, name_of, number_in, is_delete, is_learned}
+use Rattle.lrat_log.specs.Log.{HasNumber, LogLine, IsLine, IsPlain, number_in, is_delete, is_learned}
 use Rattle.lrat_log.specs.Steps.{StaysLogOver, IsOwnGroup, adds_empty_clause}
 use Rattle.pairs.specs.declared.pairs.Fresh.{Fresh}
-use Rattle.names.specs.Work.{additions, name_at, added_line, delete_line}
+use Rattle.lrat_log.specs.Steps.{added_count}
+use Rattle.names.specs.Work.{name_at, added_line, delete_line}
 use Rattle.pairs.specs.Pairs.{Ground, positive, whole_clause, side_clause, whole_line, side_line, replaced, ShareClause, IsOnOther, HasPairOf, IsDefined, Stage, IsStage}
 use Rattle.pairs.proofs.Definitions.{IsPairFor, first_addable, side_addable, side_lacks, other_variable}
 use Rattle.names.proofs.Laws.{learned-push, stays_added, work_deleted, open_added, open_deleted}
-use Rattle.names.proofs.Laws.{named_added, additions-push, name-push, name-last, slot_pushed, slot_before, slot_last, slot_within, slot_deleted, slot_kept}
+use Rattle.clauses.proofs.Laws.{clause_cases, clause_kept, clause_left, clause_new, clause_other, live_within}
+use Rattle.lrat_log.proofs.Laws.{additions_push}
+use Rattle.names.proofs.Laws.{named_added, name-push, name-last}
 use Rattle.pairs.proofs.Replacing.{HasPair, replaced_line, replaced_back, replaced-no_repeat, replaced-no_opposites, pair_variables}
 use Rattle.wcnf.proofs.Laws.{literal_eq-refl}
 use Rattle.pairs.proofs.Literals.{greatest-filter, member-small}
@@ -34,7 +37,7 @@ abbrev pub added_stage : Stage → ℕ → LogLine → Stage
 added_stage s v l = record {
   variables = v;
   slots = s.slots ++ Some l.clause ∷ [];
-  names = s.names ++ added_line (additions s.lines) ∷ [];
+  names = s.names ++ added_line (added_count s.lines) ∷ [];
   lines = s.lines ++ l ∷ [];
 }
 
@@ -84,7 +87,7 @@ side-has_fresh z a = or_left (literal_eq (positive z) (positive z)) (contains_li
 module _ (ground : Ground) (s : Stage) (k : IsStage ground s) where
   -- a clause is added by a line that stays a step
   pub stage_added : (v : ℕ) (l : LogLine) → s.variables ≤ v → StaysLogOver ground.first ground.given (s.lines ++ l ∷ []) → is_delete l.kind ≡ false → is_learned l.kind ≡ false
-      → additions s.lines + 1 < 2 ^ 62 → IsFormulaClause v l.clause → All (λ (x : Literal). ground.is_gone x.variable ≡ false) l.clause → adds_empty_clause l ≡ false
+      → added_count s.lines + 1 < 2 ^ 62 → IsFormulaClause v l.clause → All (λ (x : Literal). ground.is_gone x.variable ≡ false) l.clause → adds_empty_clause l ≡ false
       → IsStage ground (added_stage s v l)
   stage_added v l more log adds unlearned small clause free stays = record {
     more = omega (arith, k.more);
@@ -92,17 +95,17 @@ module _ (ground : Ground) (s : Stage) (k : IsStage ground s) where
       log = log;
       none_learned = learned-push s.lines l unlearned ∙ k.work.none_learned;
       named = named_added ground.given s.slots s.names s.lines l k.work.named adds small;
-      clauses = λ r c h. elim (slot_pushed s.slots l.clause r c h) [
-        | inl e ↦ subst (IsFormulaClause v) (sym e.1) clause
-        | inr e ↦ wider s.variables v c more (k.work.clauses r c e)
+      clauses = λ r c h. elim (clause_cases s.slots l.clause r c h) [
+        | inl e ↦ wider s.variables v c more (k.work.clauses r c e)
+        | inr e ↦ subst (IsFormulaClause v) (sym e.1) clause
       ];
     };
     going = open_added s.lines l k.going stays;
-    back = λ t all. k.back t (all_live (Satisfies t) s.slots (λ r c e. live_all (Satisfies t) (s.slots ++ Some l.clause ∷ []) all r c (slot_before s.slots l.clause r c e)));
+    back = λ t all. k.back t (all_live (Satisfies t) s.slots (λ r c e. live_all (Satisfies t) (s.slots ++ Some l.clause ∷ []) all r c (clause_kept s.slots l.clause c r e)));
     above = λ u h. k.above u (omega arith);
-    free = λ r c e. elim (slot_pushed s.slots l.clause r c e) [
-      | inl w ↦ subst (λ (d : List Literal). All (λ (x : Literal). ground.is_gone x.variable ≡ false) d) (sym w.1) free
-      | inr w ↦ k.free r c w
+    free = λ r c e. elim (clause_cases s.slots l.clause r c e) [
+      | inl w ↦ k.free r c w
+      | inr w ↦ subst (λ (d : List Literal). All (λ (x : Literal). ground.is_gone x.variable ≡ false) d) (sym w.1) free
     ];
   }
 
@@ -117,10 +120,10 @@ module _ (ground : Ground) (s : Stage) (k : IsStage ground s) where
         back = λ t all. k.back t (all_live (Satisfies t) s.slots (λ q x e.
             elim (cases_eq q r) [
               | inl h ↦ subst (Satisfies t) (sym (same_Some x c (sym e ∙ ap (clause_at s.slots) h ∙ live))) (follows t all)
-              | inr n ↦ live_all (Satisfies t) after all q x (slot_kept s.slots r q x n e)
+              | inr n ↦ live_all (Satisfies t) after all q x (clause_other s.slots r q n ∙ e)
             ]));
         above = k.above;
-        free = λ q x e. k.free q x (slot_deleted s.slots r q x e).1;
+        free = λ q x e. k.free q x (clause_left s.slots r q x e).1;
       }
 
   -- the literals of a clause in the store
@@ -145,7 +148,7 @@ module _ (ground : Ground) (s : Stage) (k : IsStage ground s) where
       }
 
   -- the first clause of a definition
-  pub stage_whole : (a b : Literal) → ShareClause s.slots a b → s.variables + 1 < 2 ^ 27 → additions s.lines + 1 < 2 ^ 62 → IsStage ground (added_stage s (s.variables + 1) (whole_line (s.variables + 1) a b))
+  pub stage_whole : (a b : Literal) → ShareClause s.slots a b → s.variables + 1 < 2 ^ 27 → added_count s.lines + 1 < 2 ^ 62 → IsStage ground (added_stage s (s.variables + 1) (whole_line (s.variables + 1) a b))
   stage_whole a b w few small =
       let z : ℕ = s.variables + 1 in
       let p : IsPairFor z a b = pair_for a b w few in
@@ -170,7 +173,7 @@ module _ (ground : Ground) (s : Stage) (k : IsStage ground s) where
       refl
 
   -- and the others
-  pub stage_side : (z f j : ℕ) (a : Literal) (c : List Literal) → ground.first < z → s.variables < 2 ^ 27 → z ≢ a.variable → additions s.lines + 1 < 2 ^ 62
+  pub stage_side : (z f j : ℕ) (a : Literal) (c : List Literal) → ground.first < z → s.variables < 2 ^ 27 → z ≢ a.variable → added_count s.lines + 1 < 2 ^ 62
       → name_at s.names f ≡ Added j → clause_at s.slots f ≡ Some c → contains_literal (negation (positive z)) c ≡ true → contains_literal a c ≡ true
       → ((r : ℕ) (d : List Literal) → clause_at s.slots r ≡ Some d → contains_literal (negation (positive z)) d ≡ true → r ≡ f)
       → IsStage ground (added_stage s s.variables (side_line z a (name_at s.names f)))
@@ -201,23 +204,23 @@ with_whole s a b = added_stage s (s.variables + 1) (whole_line (s.variables + 1)
 abbrev pub with_side : Stage → ℕ → Literal → Stage
 with_side s f a = added_stage s s.variables (side_line s.variables a (name_at s.names f))
 
-additions-added : (s : Stage) (v : ℕ) (l : LogLine) → is_delete l.kind ≡ false → additions (added_stage s v l).lines ≡ additions s.lines + 1
-additions-added s v l adds = rw adds at (additions-push s.lines l)
+additions-added : (s : Stage) (v : ℕ) (l : LogLine) → is_delete l.kind ≡ false → added_count (added_stage s v l).lines ≡ added_count s.lines + 1
+additions-added s v l adds = rw adds at (additions_push s.lines l)
 
 -- the only clause with the negation of the fresh variable is the first of its definition
 abbrev IsOnly : ℕ → Slots → ℕ → Type 0
 IsOnly z slots f = (r : ℕ) (d : List Literal) → clause_at slots r ≡ Some d → contains_literal (negation (positive z)) d ≡ true → r ≡ f
 
 only-whole : (slots : Slots) (v : ℕ) (a b : Literal) → ((r : ℕ) (c : List Literal) → clause_at slots r ≡ Some c → IsFormulaClause v c) → IsOnly (v + 1) (slots ++ Some (whole_clause (v + 1) a b) ∷ []) (length slots)
-only-whole slots v a b clauses r d e has = elim (slot_pushed slots (whole_clause (v + 1) a b) r d e) [
-  | inl w ↦ w.0
-  | inr w ↦ absurd (both_ways (contains_literal (negation (positive (v + 1))) d) (lacks_both (v + 1) d (omega (arith, (clauses r d w).small))).1 has)
+only-whole slots v a b clauses r d e has = elim (clause_cases slots (whole_clause (v + 1) a b) r d e) [
+  | inl w ↦ absurd (both_ways (contains_literal (negation (positive (v + 1))) d) (lacks_both (v + 1) d (omega (arith, (clauses r d w).small))).1 has)
+  | inr w ↦ w.0
 ]
 
 only-side : (slots : Slots) (z f : ℕ) (a : Literal) → z ≢ a.variable → IsOnly z slots f → IsOnly z (slots ++ Some (side_clause z a) ∷ []) f
-only-side slots z f a other only r d e has = elim (slot_pushed slots (side_clause z a) r d e) [
-  | inl w ↦ absurd (both_ways (contains_literal (negation (positive z)) d) (subst (λ x. contains_literal (negation (positive z)) x ≡ false) (sym w.1) (side_lacks z a other)) has)
-  | inr w ↦ only r d w has
+only-side slots z f a other only r d e has = elim (clause_cases slots (side_clause z a) r d e) [
+  | inl w ↦ only r d w has
+  | inr w ↦ absurd (both_ways (contains_literal (negation (positive z)) d) (subst (λ x. contains_literal (negation (positive z)) x ≡ false) (sym w.1) (side_lacks z a other)) has)
 ]
 
 -- the definition's first clause stands at a place under a name of the log, and no other has the negation of its variable
@@ -230,46 +233,46 @@ record HasWhole (s : Stage) (f : ℕ) (a b : Literal) : Type 0 where
 
 whole_there : (ground : Ground) (s : Stage) (a b : Literal) → IsStage ground s → HasWhole (with_whole s a b) (length s.slots) a b
 whole_there ground s a b k = record {
-  j = additions s.lines + 1;
-  named = name-last s.names (added_line (additions s.lines)) (length s.slots) k.work.named.long;
-  within = omega (arith, k.work.named.long, length-append s.names (added_line (additions s.lines) ∷ []));
-  there = slot_last s.slots (whole_clause (s.variables + 1) a b);
+  j = added_count s.lines + 1;
+  named = name-last s.names (added_line (added_count s.lines)) (length s.slots) k.work.named.long;
+  within = omega (arith, k.work.named.long, length-append s.names (added_line (added_count s.lines) ∷ []));
+  there = clause_new s.slots (whole_clause (s.variables + 1) a b);
   only = only-whole s.slots s.variables a b k.work.clauses;
 }
 
 side_there : (s : Stage) (f : ℕ) (c a b : Literal) → s.variables ≢ c.variable → HasWhole s f a b → HasWhole (with_side s f c) f a b
 side_there s f c a b other h = record {
   j = h.j;
-  named = name-push s.names (added_line (additions s.lines)) f h.within ∙ h.named;
-  within = omega (arith, h.within, length-append s.names (added_line (additions s.lines) ∷ []));
-  there = slot_before s.slots (side_clause s.variables c) f (whole_clause s.variables a b) h.there;
+  named = name-push s.names (added_line (added_count s.lines)) f h.within ∙ h.named;
+  within = omega (arith, h.within, length-append s.names (added_line (added_count s.lines) ∷ []));
+  there = clause_kept s.slots (side_clause s.variables c) (whole_clause s.variables a b) f h.there;
   only = only-side s.slots s.variables f c other h.only;
 }
 
 -- each stage of a definition is right
-pub whole_right : (ground : Ground) (s : Stage) (a b : Literal) → ShareClause s.slots a b → s.variables + 1 < 2 ^ 27 → additions s.lines + 3 < 2 ^ 62 → IsStage ground s
+pub whole_right : (ground : Ground) (s : Stage) (a b : Literal) → ShareClause s.slots a b → s.variables + 1 < 2 ^ 27 → added_count s.lines + 3 < 2 ^ 62 → IsStage ground s
     → IsStage ground (with_whole s a b)
 whole_right ground s a b w few small k = stage_whole ground s k a b w few (omega arith)
 
-pub left_right : (ground : Ground) (s : Stage) (a b : Literal) → ShareClause s.slots a b → s.variables + 1 < 2 ^ 27 → additions s.lines + 3 < 2 ^ 62 → IsStage ground s
+pub left_right : (ground : Ground) (s : Stage) (a b : Literal) → ShareClause s.slots a b → s.variables + 1 < 2 ^ 27 → added_count s.lines + 3 < 2 ^ 62 → IsStage ground s
     → IsStage ground (with_side (with_whole s a b) (length s.slots) a)
 left_right ground s a b w few small k =
     let one : Stage = with_whole s a b in
     let h : HasWhole one (length s.slots) a b = whole_there ground s a b k in
     let p = pair_for ground s k a b w few in
-    let e : additions one.lines ≡ additions s.lines + 1 = additions-added s (s.variables + 1) (whole_line (s.variables + 1) a b) refl in
+    let e : added_count one.lines ≡ added_count s.lines + 1 = additions-added s (s.variables + 1) (whole_line (s.variables + 1) a b) refl in
     stage_side ground one (whole_right ground s a b w few small k) one.variables (length s.slots) h.j a (whole_clause one.variables a b) (omega (arith, k.more)) few p.not_a (omega arith) h.named h.there
     (whole-has_fresh one.variables a b) (whole-has_left one.variables a b) h.only
 
-pub right_right : (ground : Ground) (s : Stage) (a b : Literal) → ShareClause s.slots a b → s.variables + 1 < 2 ^ 27 → additions s.lines + 3 < 2 ^ 62 → IsStage ground s
+pub right_right : (ground : Ground) (s : Stage) (a b : Literal) → ShareClause s.slots a b → s.variables + 1 < 2 ^ 27 → added_count s.lines + 3 < 2 ^ 62 → IsStage ground s
     → IsStage ground (with_side (with_side (with_whole s a b) (length s.slots) a) (length s.slots) b)
 right_right ground s a b w few small k =
     let one : Stage = with_whole s a b in
     let two : Stage = with_side one (length s.slots) a in
     let p = pair_for ground s k a b w few in
     let h : HasWhole two (length s.slots) a b = side_there one (length s.slots) a a b p.not_a (whole_there ground s a b k) in
-    let e : additions one.lines ≡ additions s.lines + 1 = additions-added s (s.variables + 1) (whole_line (s.variables + 1) a b) refl in
-    let f : additions two.lines ≡ additions one.lines + 1 = additions-added one one.variables (side_line one.variables a (name_at one.names (length s.slots))) refl in
+    let e : added_count one.lines ≡ added_count s.lines + 1 = additions-added s (s.variables + 1) (whole_line (s.variables + 1) a b) refl in
+    let f : added_count two.lines ≡ added_count one.lines + 1 = additions-added one one.variables (side_line one.variables a (name_at one.names (length s.slots))) refl in
     stage_side ground two (left_right ground s a b w few small k) two.variables (length s.slots) h.j b (whole_clause two.variables a b) (omega (arith, k.more)) few p.not_b (omega arith) h.named h.there
     (whole-has_fresh two.variables a b) (whole-has_right two.variables a b) h.only
 
@@ -293,14 +296,14 @@ pub replaced-is_line : (z : ℕ) (a b : Literal) (c : List Literal) (l m n : Nam
 replaced-is_line z a b c l m n some few others il im is = record {
   literals = all-replaced (λ (k : Literal). IsId k.variable) z a b c (some, omega arith)
       (All-weaker (IsOnOther z) (λ (k : Literal). IsId k.variable) (λ k h. h.0) c (All-from_recursion (IsOnOther z) c others));
-  names = All-from_recursion (λ h. IsId (number_in (name_of h))) (Plain l ∷ Plain m ∷ Plain n ∷ []) (il, (im, (is, tt)));
+  names = All-from_recursion HasNumber (Plain l ∷ Plain m ∷ Plain n ∷ []) (il, (im, (is, tt)));
   deletes = λ e. absurd (false≢true e);
 }
 
 pub delete-is_line : (n : Name) → IsId (number_in n) → IsLine (delete_line n)
 delete-is_line n is = record {
   literals = All-nil (λ (k : Literal). IsId k.variable);
-  names = All-from_recursion (λ h. IsId (number_in (name_of h))) (Plain n ∷ []) (is, tt);
+  names = All-from_recursion HasNumber (Plain n ∷ []) (is, tt);
   deletes = λ e. (refl, All-from_recursion IsPlain (Plain n ∷ []) (tt, tt));
 }
 
@@ -308,7 +311,7 @@ three_plain : (l m n : Name) → All IsOwnGroup (Plain l ∷ Plain m ∷ Plain n
 three_plain l m n = All-from_recursion IsOwnGroup (Plain l ∷ Plain m ∷ Plain n ∷ []) (tt, (tt, (tt, tt)))
 
 pub replaced_right : (ground : Ground) (s : Stage) (d : Fresh) (r : ℕ) (c : List Literal) → IsDefined s.slots d → clause_at s.slots r ≡ Some c → HasPairOf d.variable d.left d.right c
-    → s.variables < 2 ^ 27 → additions s.lines + 1 < 2 ^ 62 → IsStage ground s → IsStage ground (with_replaced s d r c)
+    → s.variables < 2 ^ 27 → added_count s.lines + 1 < 2 ^ 62 → IsStage ground s → IsStage ground (with_replaced s d r c)
 replaced_right ground s d r c defined live pair few small k =
     let z : ℕ = d.variable in
     let f : IsFormulaClause s.variables c = k.work.clauses r c live in
@@ -339,25 +342,22 @@ pub defined_after : (slots : Slots) (d : Fresh) (r : ℕ) (c more : List Literal
 defined_after slots d r c more h live pair =
     let z : ℕ = d.variable in
     record {
-      whole = slot_kept (slots ++ Some more ∷ []) r d.whole (whole_clause z d.left d.right)
-          (apart slots d.whole r (negation (positive z)) c (whole_clause z d.left d.right) h.whole live (whole-has_fresh z d.left d.right) (lacks_variable z (negation (positive z)) c refl pair.others)) (slot_before slots more d.whole (whole_clause z d.left d.right) h.whole);
-      left_side = slot_kept (slots ++ Some more ∷ []) r d.left_side (side_clause z d.left)
-          (apart slots d.left_side r (positive z) c (side_clause z d.left) h.left_side live (side-has_fresh z d.left) (lacks_variable z (positive z) c refl pair.others)) (slot_before slots more d.left_side (side_clause z d.left) h.left_side);
-      right_side = slot_kept (slots ++ Some more ∷ []) r d.right_side (side_clause z d.right)
-          (apart slots d.right_side r (positive z) c (side_clause z d.right) h.right_side live (side-has_fresh z d.right) (lacks_variable z (positive z) c refl pair.others)) (slot_before slots more d.right_side (side_clause z d.right) h.right_side);
+      whole = clause_other (slots ++ Some more ∷ []) r d.whole (apart slots d.whole r (negation (positive z)) c (whole_clause z d.left d.right) h.whole live (whole-has_fresh z d.left d.right) (lacks_variable z (negation (positive z)) c refl pair.others)) ∙ (clause_kept slots more (whole_clause z d.left d.right) d.whole h.whole);
+      left_side = clause_other (slots ++ Some more ∷ []) r d.left_side (apart slots d.left_side r (positive z) c (side_clause z d.left) h.left_side live (side-has_fresh z d.left) (lacks_variable z (positive z) c refl pair.others)) ∙ (clause_kept slots more (side_clause z d.left) d.left_side h.left_side);
+      right_side = clause_other (slots ++ Some more ∷ []) r d.right_side (apart slots d.right_side r (positive z) c (side_clause z d.right) h.right_side live (side-has_fresh z d.right) (lacks_variable z (positive z) c refl pair.others)) ∙ (clause_kept slots more (side_clause z d.right) d.right_side h.right_side);
       two = h.two;
     }
 
 pub gone_right : (ground : Ground) (s : Stage) (d : Fresh) (r : ℕ) (c : List Literal) → IsDefined s.slots d → clause_at s.slots r ≡ Some c → HasPairOf d.variable d.left d.right c
-    → s.variables < 2 ^ 27 → additions s.lines + 1 < 2 ^ 62 → IsStage ground s → IsStage ground (deleted_stage (with_replaced s d r c) r)
+    → s.variables < 2 ^ 27 → added_count s.lines + 1 < 2 ^ 62 → IsStage ground s → IsStage ground (deleted_stage (with_replaced s d r c) r)
 gone_right ground s d r c defined live pair few small k =
     let z : ℕ = d.variable in
     let new : List Literal = replaced z d.left d.right c in
     let more : Slots = s.slots ++ Some new ∷ [] in
     let after : Slots = slice_set more r None in
-    let there : clause_at more r ≡ Some c = slot_before s.slots new r c live in
-    let other : length s.slots ≢ r = (λ e. omega (arith, slot_within s.slots r c live)) in
-    let kept : clause_at after (length s.slots) ≡ Some new = slot_kept more r (length s.slots) new other (slot_last s.slots new) in
+    let there : clause_at more r ≡ Some c = clause_kept s.slots new c r live in
+    let other : length s.slots ≢ r = (λ e. omega (arith, live_within s.slots r c live)) in
+    let kept : clause_at after (length s.slots) ≡ Some new = clause_other more r (length s.slots) other ∙ (clause_new s.slots new) in
     let whole = (defined_after s.slots d r c new defined live pair).whole in
     stage_deleted ground (with_replaced s d r c) (replaced_right ground s d r c defined live pair few small k) r c there (λ t all.
     replaced_back t z d.left d.right c pair.has_a pair.has_b

@@ -13,7 +13,8 @@ ghost use Rattle.wcnf.specs.Lrat.{IsId};
 ghost use Rattle.clauses.specs.Slots.{IsLive, clause_at};
 ghost use Rattle.lrat_log.specs.Log.{number_in};
 ghost use Rattle.lrat_log.specs.declared.lines.Hint.TheVariants.{Plain};
-ghost use Rattle.names.specs.Work.{additions, name_at, added_line};
+ghost use Rattle.lrat_log.specs.Steps.{added_count};
+ghost use Rattle.names.specs.Work.{name_at, added_line};
 ghost use Rattle.pairs.specs.Pairs.{side_clause, side_line, replaced, ShareClause, IsOnOther};
 ghost use Rattle.pairs.specs.Pairs.{HasPairOf, IsDefined, Keeps, KeepsLog, stage_of};
 
@@ -54,11 +55,11 @@ pub fn define_pairs<S: Sink>(
 ) -> Result<u32, AllocError>
     requires room { vars ≤ most }
     requires most { most < 2 ^ 27 }
-    requires counted { names.old.additions ≡ additions (S.lines sink.old) }
+    requires counted { names.old.additions ≡ added_count (S.lines sink.old) }
     requires long { length names.old.names ≡ length store.old.slots }
     ensures more { IfOk result (λ v. vars ≤ v) }
     ensures most { IfOk result (λ v. v ≤ most) }
-    ensures counted { OnOk result (names.new.additions ≡ additions (S.lines sink.new)) }
+    ensures counted { OnOk result (names.new.additions ≡ added_count (S.lines sink.new)) }
     ensures long { OnOk result (length names.new.names ≡ length store.new.slots) }
     ensures keeps { IfOk result (λ v. Keeps
         (stage_of vars store.old.slots names.old (S.lines sink.old))
@@ -88,11 +89,11 @@ fn define_counted<S: Sink>(
 ) -> Result<u32, AllocError>
     requires room { vars ≤ most }
     requires most { most < 2 ^ 27 }
-    requires counted { names.old.additions ≡ additions (S.lines sink.old) }
+    requires counted { names.old.additions ≡ added_count (S.lines sink.old) }
     requires long { length names.old.names ≡ length store.old.slots }
     ensures more { IfOk result (λ v. vars ≤ v) }
     ensures most { IfOk result (λ v. v ≤ most) }
-    ensures counted { OnOk result (names.new.additions ≡ additions (S.lines sink.new)) }
+    ensures counted { OnOk result (names.new.additions ≡ added_count (S.lines sink.new)) }
     ensures long { OnOk result (length names.new.names ≡ length store.new.slots) }
     ensures keeps { IfOk result (λ v. Keeps
         (stage_of vars store.old.slots names.old (S.lines sink.old))
@@ -127,11 +128,11 @@ fn define_found<S: Sink>(
     table: &mut PairTable,
 ) -> Result<u32, AllocError>
     requires room { vars + 1 < 2 ^ 27 }
-    requires counted { names.old.additions ≡ additions (S.lines sink.old) }
+    requires counted { names.old.additions ≡ added_count (S.lines sink.old) }
     requires long { length names.old.names ≡ length store.old.slots }
     ensures more { IfOk result (λ v. vars ≤ v) }
     ensures most { IfOk result (λ v. v ≤ vars + 1) }
-    ensures counted { OnOk result (names.new.additions ≡ additions (S.lines sink.new)) }
+    ensures counted { OnOk result (names.new.additions ≡ added_count (S.lines sink.new)) }
     ensures long { OnOk result (length names.new.names ≡ length store.new.slots) }
     ensures keeps { IfOk result (λ v. Keeps
         (stage_of vars store.old.slots names.old (S.lines sink.old))
@@ -215,11 +216,11 @@ fn define<S: Sink>(
 ) -> Result<Fresh, AllocError>
     requires room { vars + 1 < 2 ^ 27 }
     requires shared { ShareClause store.old.slots left right }
-    requires counted { names.old.additions ≡ additions (S.lines sink.old) }
+    requires counted { names.old.additions ≡ added_count (S.lines sink.old) }
     requires long { length names.old.names ≡ length store.old.slots }
     ensures variable { IfOk result (λ d. d.variable ≡ vars + 1) }
     ensures defined { IfOk result (λ d. IsDefined store.new.slots d) }
-    ensures counted { OnOk result (names.new.additions ≡ additions (S.lines sink.new)) }
+    ensures counted { OnOk result (names.new.additions ≡ added_count (S.lines sink.new)) }
     ensures long { OnOk result (length names.new.names ≡ length store.new.slots) }
     ensures keeps { IfOk result (λ d. Keeps
         (stage_of vars store.old.slots names.old (S.lines sink.old))
@@ -259,7 +260,7 @@ fn add_side<S: Sink>(
     requires from_one { 0 < variable }
     requires small { variable < 2 ^ 27 }
     requires named { whole < length names.old.names }
-    requires counted { names.old.additions ≡ additions (S.lines sink.old) }
+    requires counted { names.old.additions ≡ added_count (S.lines sink.old) }
     ensures reference { IfOk result (λ r. r ≡ length store.old.slots) }
     ensures slots { OnOk result (store.new.slots ≡ store.old.slots ++ Some
         (side_clause variable lit) ∷ []) }
@@ -292,10 +293,10 @@ fn replace<S: Sink>(
     requires live { IsLive store.old.slots reference }
     requires pair { (c : List Literal) → clause_at store.old.slots reference ≡ Some c
         → HasPairOf definition.now.variable definition.now.left definition.now.right c }
-    requires counted { names.old.additions ≡ additions (S.lines sink.old) }
+    requires counted { names.old.additions ≡ added_count (S.lines sink.old) }
     requires long { length names.old.names ≡ length store.old.slots }
     ensures defined { OnOk result (IsDefined store.new.slots definition.now) }
-    ensures counted { OnOk result (names.new.additions ≡ additions (S.lines sink.new)) }
+    ensures counted { OnOk result (names.new.additions ≡ added_count (S.lines sink.new)) }
     ensures long { OnOk result (length names.new.names ≡ length store.new.slots) }
     ensures keeps { OnOk result (Keeps
         (stage_of definition.now.variable store.old.slots names.old (S.lines sink.old))

@@ -6,14 +6,14 @@ use Rattle.lrat_log.specs.declared.lines.Name.{Name}
 use Rattle.eliminate.specs.Elimination.{listed_names}
 use Rattle.names.specs.Work.{name_at}
 use Rattle.eliminate.proofs.Listed.{listed_some, listed_none}
-use Rattle.names.proofs.Laws.{slot_within}
+use Rattle.clauses.proofs.Laws.{live_within}
 use Rattle.eliminate.proofs.elimination.listed.Goals as goal
 use Rattle.eliminate.proofs.elimination.listed.Goals.{in-Some+in_ok-push-in-Some, in-None}
 
 pub get-requires : goal.get-requires
 get-requires c =
     let live = c.in-Some.ensures.live.1 in
-    let lt = slot_within c.args.store.now.slots c.in-Some.reference live.0 live.1 in
+    let lt = live_within c.args.store.now.slots c.in-Some.reference live.0 live.1 in
     let e = c.requires in
     omega arith
 

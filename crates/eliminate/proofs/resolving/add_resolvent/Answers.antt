@@ -11,7 +11,7 @@ use Rattle.eliminate.specs.Simplifier.{LeavesLog}
 use Rattle.eliminate.specs.Variables.{GrowsWithout}
 use Rattle.eliminate.proofs.Resolvable.{resolvent_addable, resolvent_kind, literals_placed, literals_plain, is_named, same_at, pair_added}
 use Rattle.eliminate.proofs.Growing.{grows_one, resolvent-lacks}
-use Rattle.names.proofs.Laws.{when_err}
+use Rattle.lrat_log.proofs.Laws.{when_err}
 use Rattle.eliminate.proofs.Tables.{simplified_same}
 use Rattle.eliminate.proofs.resolving.add_resolvent.Goals as goal
 

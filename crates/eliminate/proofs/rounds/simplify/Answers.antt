@@ -1,6 +1,6 @@
 -- What a refused round leaves.
 use Rattle.eliminate.specs.Variables.{LeavesLogOver}
-use Rattle.names.proofs.Laws.{when_err}
+use Rattle.lrat_log.proofs.Laws.{when_err}
 use Rattle.eliminate.proofs.rounds.simplify.Goals as goal
 
 pub subsume-requires-clause-simplified : goal.subsume-requires-clause-simplified

@@ -6,7 +6,7 @@ use Rattle.eliminate.proofs.Propagating.{still_propagating}
 use Rattle.eliminate.proofs.Settled.{settled_not_refuted}
 use Rattle.eliminate.proofs.Simplified.{log_of}
 use Rattle.eliminate.proofs.units.propagate_units.Goals as goal
-use Rattle.names.proofs.Laws.{when_err}
+use Rattle.lrat_log.proofs.Laws.{when_err}
 
 pub sweeps-init : goal.sweeps-init
 sweeps-init g c = record {

@@ -5,7 +5,7 @@ use Rattle.wcnf.specs.Literal.{negation}
 use Rattle.eliminate.specs.Simplifier.{LeavesLog}
 use Rattle.eliminate.specs.Variables.{IsWith, ArePairsResolved}
 use Rattle.eliminate.proofs.Growing.{with_later, all_with_later, grows_join, next_pairs}
-use Rattle.names.proofs.Laws.{when_err}
+use Rattle.lrat_log.proofs.Laws.{when_err}
 use Rattle.eliminate.proofs.variables.add_resolvents.Goals as goal
 
 pub add_resolvents_of-requires-clause-first : goal.add_resolvents_of-requires-clause-first

@@ -6,7 +6,7 @@ use Rattle.wcnf.specs.Literal.{negation}
 use Rattle.eliminate.specs.Simplifier.{LeavesLog}
 use Rattle.eliminate.specs.Variables.{IsWith, IsPairResolved}
 use Rattle.eliminate.proofs.Growing.{with_later, grows_join, next_pair}
-use Rattle.names.proofs.Laws.{when_err}
+use Rattle.lrat_log.proofs.Laws.{when_err}
 use Rattle.eliminate.proofs.variables.add_resolvents_of.Goals as goal
 
 pub add_resolvent-requires-clause-second : goal.add_resolvent-requires-clause-second

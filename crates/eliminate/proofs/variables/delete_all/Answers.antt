@@ -5,7 +5,7 @@ use Rattle.clauses.specs.Slots.{Slots, StoreState}
 use Rattle.lrat_log.specs.Log.{LogLine}
 use Rattle.eliminate.specs.Variables.{KeepsLog}
 use Rattle.eliminate.proofs.Deleting.{leaves_all, keeps_start, keeps_log, next_deleted, next_dead}
-use Rattle.names.proofs.Laws.{when_err}
+use Rattle.lrat_log.proofs.Laws.{when_err}
 use Rattle.eliminate.proofs.variables.delete_all.Goals as goal
 use Rattle.eliminate.proofs.variables.delete_all.Goals.{then-is_live+in_ok-leave+in_ok-delete, else-is_live}
 

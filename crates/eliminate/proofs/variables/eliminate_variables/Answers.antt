@@ -4,7 +4,7 @@ use Rattle.clauses.specs.Slots.{Slots, StoreState}
 use Rattle.lrat_log.specs.Log.{LogLine}
 use Rattle.eliminate.specs.declared.simplifier.Simplifier.{Simplifier}
 use Rattle.eliminate.specs.Variables.{LeavesLogOver, StaysOver}
-use Rattle.names.proofs.Laws.{when_err}
+use Rattle.lrat_log.proofs.Laws.{when_err}
 use Rattle.eliminate.proofs.Tables.{simplified_same, simplified_at}
 use Rattle.eliminate.proofs.variables.eliminate_variables.Goals as goal
 use Rattle.eliminate.proofs.variables.eliminate_variables.Goals.{then-is_free+in_ok-is_gone+else-simplifier, else-is_free}

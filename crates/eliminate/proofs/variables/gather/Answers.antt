@@ -3,13 +3,16 @@ use Rattle.std.proofs.Common.{◌≡◌, ◌∙◌, ap, refl, sym, subst, ◌++�
 use Rattle.std.proofs.lemmas.List.{length-set}
 use Rattle.wcnf.specs.Literal.{Literal, index_of}
 use Rattle.clauses.specs.Slots.{Slots}
+use Rattle.lrat_log.specs.Log.{LogLine}
 use Rattle.marks.specs.Marks.{HasPlace}
 use Rattle.marks.proofs.Laws.{place_within}
 use Rattle.eliminate.specs.declared.simplifier.Simplifier.{Simplifier}
 use Rattle.eliminate_tables.specs.Rows.{AreRows, row_at, with_row, has_clause}
+use Rattle.eliminate.specs.Simplifier.{StaysSimplified}
 use Rattle.eliminate.proofs.Gathering.{rows_cleaned, those_with}
 use Rattle.eliminate.proofs.Tables.{simplified_same}
 use Rattle.eliminate.proofs.variables.gather.Goals as goal
+use Rattle.eliminate.proofs.variables.gather.Goals.{After-clean}
 
 abbrev cleaned : List (List ℕ) → Slots → ℕ → List (List ℕ)
 cleaned rows slots i = with_row rows i (filter (has_clause slots) (row_at rows i))
@@ -21,16 +24,21 @@ are_cleaned old rows slots l i place a at is =
       ap length here ∙ length-set old (index_of l) _,
     )
 
+-- after the row is cleaned, the rows and the form are right
+right : (c : After-clean) → AreRows c.clean.new.self c.args.store.now.slots × (length c.clean.new.self ≡ length c.args.simplifier.now.occurrences)
+right c = are_cleaned c.args.simplifier.now.occurrences c.clean.new.self c.args.store.now.slots c.args.lit c.index-row.result c.requires.place c.requires.rows c.index-row.ensures.index c.clean.ensures
+
+stays : (c : After-clean) (lines : List LogLine) → StaysSimplified c.args.simplifier.now c.args.store.now.slots lines (record c.args.simplifier.now { occurrences = c.clean.new.self }) c.args.store.now.slots lines
+stays c lines start h =
+    let s : Simplifier = c.args.simplifier.now in
+    simplified_same start s (record s { occurrences = c.clean.new.self }) c.args.store.now.slots lines
+    (record { vars = refl; names = refl; places = (right c).1; removals = refl; marks = refl; refuted = refl }) (right c).0 h
+
 pub returns-in_err-extend_from_slice-clause-rows : goal.returns-in_err-extend_from_slice-clause-rows
-returns-in_err-extend_from_slice-clause-rows c =
-    (are_cleaned c.args.simplifier.now.occurrences c.clean.new.self c.args.store.now.slots c.args.lit c.index-row.result c.requires.place c.requires.rows c.index-row.ensures.index c.clean.ensures).0
+returns-in_err-extend_from_slice-clause-rows c = (right (goal.at.returns-in_err-extend_from_slice-clause-rows c).After-clean).0
 
 pub returns-in_err-extend_from_slice-clause-simplified : goal.returns-in_err-extend_from_slice-clause-simplified
-returns-in_err-extend_from_slice-clause-simplified c lines start h =
-    let s : Simplifier = c.args.simplifier.now in
-    let w = are_cleaned s.occurrences c.clean.new.self c.args.store.now.slots c.args.lit c.index-row.result c.requires.place c.requires.rows c.index-row.ensures.index c.clean.ensures in
-    simplified_same start s (record s { occurrences = c.clean.new.self }) c.args.store.now.slots lines
-    (record { vars = refl; names = refl; places = w.1; removals = refl; marks = refl; refuted = refl }) w.0 h
+returns-in_err-extend_from_slice-clause-simplified c lines start h = stays (goal.at.returns-in_err-extend_from_slice-clause-simplified c).After-clean lines start h
 
 pub returns-clause-gathered : goal.returns-clause-gathered
 returns-clause-gathered c =
@@ -41,12 +49,7 @@ returns-clause-gathered c =
     ∙ ap (λ i. row_at (cleaned rows slots i) i) c.index-row.ensures.index)
 
 pub returns-clause-rows : goal.returns-clause-rows
-returns-clause-rows c =
-    (are_cleaned c.args.simplifier.now.occurrences c.clean.new.self c.args.store.now.slots c.args.lit c.index-row.result c.requires.place c.requires.rows c.index-row.ensures.index c.clean.ensures).0
+returns-clause-rows c = (right (goal.at.returns-clause-rows c).After-clean).0
 
 pub returns-clause-simplified : goal.returns-clause-simplified
-returns-clause-simplified c lines start h =
-    let s : Simplifier = c.args.simplifier.now in
-    let w = are_cleaned s.occurrences c.clean.new.self c.args.store.now.slots c.args.lit c.index-row.result c.requires.place c.requires.rows c.index-row.ensures.index c.clean.ensures in
-    simplified_same start s (record s { occurrences = c.clean.new.self }) c.args.store.now.slots lines
-    (record { vars = refl; names = refl; places = w.1; removals = refl; marks = refl; refuted = refl }) w.0 h
+returns-clause-simplified c lines start h = stays (goal.at.returns-clause-simplified c).After-clean lines start h

@@ -9,7 +9,7 @@ use Rattle.eliminate.specs.State.{IsState}
 use Rattle.eliminate.specs.Variables.{KeepsWork, LeavesLogOver}
 use Rattle.eliminate.proofs.Deleting.{keeps_join, log_after}
 use Rattle.eliminate.proofs.Eliminating.{variable_goes, free_within, line_deletes}
-use Rattle.names.proofs.Laws.{when_err}
+use Rattle.lrat_log.proofs.Laws.{when_err}
 use Rattle.eliminate.proofs.variables.remove_variable.Goals as goal
 
 pub push-requires-clause-live : goal.push-requires-clause-live

@@ -6,7 +6,7 @@ use Rattle.clauses.specs.Slots.{Slots}
 use Rattle.eliminate.specs.Elimination.{positive}
 use Rattle.eliminate.specs.Variables.{IsWith, AreThoseWith, ArePairsResolved, LeavesLogOver}
 use Rattle.eliminate.proofs.Growing.{those_later, those_not_later, pairs_now}
-use Rattle.names.proofs.Laws.{when_err}
+use Rattle.lrat_log.proofs.Laws.{when_err}
 use Rattle.eliminate.proofs.Resolvable.{literals_placed}
 use Rattle.eliminate.proofs.variables.try_variable.Goals as goal
 

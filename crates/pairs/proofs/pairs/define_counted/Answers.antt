@@ -5,7 +5,7 @@ use Rattle.pairs.specs.Pairs.{stage_of, Stage}
 use Rattle.pairs.proofs.Defining.{open_log, counts_same}
 use Rattle.pairs.proofs.pairs.define_counted.Goals as goal
 use Rattle.pairs.proofs.pairs.define_counted.Goals.{in-Some+in_ok-find+then-found-fewest+in_ok-last, in-Some+in_ok-find+else-found-fewest, in_default}
-use Rattle.names.proofs.Laws.{when_err}
+use Rattle.lrat_log.proofs.Laws.{when_err}
 
 pub returns-in_err-find-clause-err : goal.returns-in_err-find-clause-err
 returns-in_err-find-clause-err g c = when_err c.from_residual-in_err-find.result (λ ground k.

@@ -6,7 +6,7 @@ use Rattle.pairs.specs.Pairs.{stage_of, Stage, IsStage, Keeps}
 use Rattle.pairs.proofs.Defining.{defines_same}
 use Rattle.pairs.proofs.pairs.define_found.Goals as goal
 use Rattle.pairs.proofs.pairs.define_found.Goals.{in-Some+then-has_pair+in_ok-new, in-Some+else-has_pair, in_default}
-use Rattle.names.proofs.Laws.{when_err}
+use Rattle.lrat_log.proofs.Laws.{when_err}
 
 pub loop-k-init : goal.loop-k-init
 loop-k-init g c =

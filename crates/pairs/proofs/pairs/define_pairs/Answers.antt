@@ -1,7 +1,7 @@
 -- Count after count, each over what the one before left.
 use Rattle.std.proofs.Common.{arith}
 use Rattle.pairs.proofs.pairs.define_pairs.Goals as goal
-use Rattle.names.proofs.Laws.{when_err}
+use Rattle.lrat_log.proofs.Laws.{when_err}
 
 pub loop-round-preserved : goal.loop-round-preserved
 loop-round-preserved g c =

@@ -11,7 +11,7 @@ use Rattle.eliminate.specs.Simplifier.{IsAddableLine, LeavesLog}
 use Rattle.eliminate.proofs.Tables.{simplified_same}
 use Rattle.eliminate.proofs.UnitLines.{empty_addable}
 use Rattle.eliminate.proofs.units.Units.add_empty.Goals as goal
-use Rattle.names.proofs.Laws.{when_err}
+use Rattle.lrat_log.proofs.Laws.{when_err}
 
 pub hints-requires-clause-clauses : goal.hints-requires-clause-clauses
 hints-requires-clause-clauses g c = subst (λ n. AreClauses n c.args.store.now.slots) (sym c.requires.propagating.fits) c.requires.propagating.simplified.1.state.work.clauses

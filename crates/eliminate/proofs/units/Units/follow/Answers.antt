@@ -1,6 +1,6 @@
 -- Literal after literal of the trail is visited.
 use Rattle.std.proofs.Common.{arith}
-use Rattle.names.proofs.Laws.{when_err}
+use Rattle.lrat_log.proofs.Laws.{when_err}
 use Rattle.eliminate.proofs.Propagating.{propagates_nothing, still_propagating, propagates_more, leaves_later}
 use Rattle.eliminate.proofs.units.Units.follow.Goals as goal
 

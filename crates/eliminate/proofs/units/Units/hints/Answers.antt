@@ -11,7 +11,7 @@ use Rattle.lrat_log.specs.declared.lines.Hint.TheVariants.{Plain}
 use Rattle.eliminate.specs.declared.units.Units.{Units}
 use Rattle.names.specs.Work.{name_at}
 use Rattle.eliminate.specs.Units.{unit_of, unit_name}
-use Rattle.names.proofs.Laws.{slot_within}
+use Rattle.clauses.proofs.Laws.{live_within}
 use Rattle.eliminate.proofs.Statuses.{literal_place, mark_says}
 use Rattle.eliminate.proofs.UnitLines.{looked_up, falsified_more, falsified_same}
 use Rattle.eliminate.proofs.units.Units.hints.Goals as goal
@@ -40,12 +40,12 @@ get-requires-in-Some c =
     let lt : c.variable.result - 1 < length u.clauses.items = omega (arith, place.0, place.1, c.requires.units.places, c.variable.ensures.variable) in
     let read : c.index.result.now ≡ get_or u.clauses.items (l.variable - 1) None = looked_up u.clauses.items c.variable.result l c.index.result.now c.variable.ensures.variable lt c.index.ensures in
     let same : c.in-Some.unit ≡ by.place = same_Some c.in-Some.unit by.place (c.in-Some.ensures ∙ read ∙ by.there) in
-    let within : by.place < length c.args.store.now.slots = slot_within c.args.store.now.slots by.place (negation l ∷ []) by.alone in
+    let within : by.place < length c.args.store.now.slots = live_within c.args.store.now.slots by.place (negation l ∷ []) by.alone in
     let e = c.requires.named in
     omega arith
 
 pub get-requires-2 : goal.get-requires-2
-get-requires-2 c = let lt = slot_within c.args.store.now.slots c.args.reference c.requires.live.0 c.requires.live.1 in let e = c.requires.named in omega arith
+get-requires-2 c = let lt = live_within c.args.store.now.slots c.args.reference c.requires.live.0 c.requires.live.1 in let e = c.requires.named in omega arith
 
 pub loop-lit-preserved : goal.loop-lit-preserved
 loop-lit-preserved c =

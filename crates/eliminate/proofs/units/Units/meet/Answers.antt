@@ -8,9 +8,9 @@ use Rattle.eliminate.proofs.Assigned.{units_grown, makes_true_grown}
 use Rattle.eliminate.proofs.Propagating.{propagates_nothing}
 use Rattle.eliminate.proofs.Simplified.{log_of}
 use Rattle.eliminate.proofs.States.{places_of}
-use Rattle.eliminate.proofs.UnitLines.{all_at}
+use Rattle.eliminate_tables.proofs.Laws.{member_has}
 use Rattle.eliminate.proofs.units.Units.meet.Goals as goal
-use Rattle.names.proofs.Laws.{when_err}
+use Rattle.lrat_log.proofs.Laws.{when_err}
 
 pub status-requires-clause-clauses : goal.status-requires-clause-clauses
 status-requires-clause-clauses g c = subst (λ n. AreClauses n c.args.store.now.slots) (sym c.requires.propagating.fits) c.requires.propagating.simplified.1.state.work.clauses
@@ -27,7 +27,7 @@ assign-requires-clause-place g c =
     let f = c.requires.propagating.simplified.1.state.work.clauses c.args.reference d c.requires.live.1 in
     let unit = c.in-Unit.ensures d c.requires.live.1 in
     subst (λ n. HasPlace n c.in-Unit.lit) (sym (c.requires.propagating.units.places ∙ ap (λ n. 2 * n) c.requires.propagating.fits))
-    (all_at (HasPlace (2 * c.args.simplifier.now.vars)) d c.in-Unit.lit (places_of c.args.simplifier.now.vars d f.from_one f.small) unit.member)
+    (member_has (HasPlace (2 * c.args.simplifier.now.vars)) d c.in-Unit.lit (places_of c.args.simplifier.now.vars d f.from_one f.small) unit.member)
 
 pub assign-requires-clause-not_true : goal.assign-requires-clause-not_true
 assign-requires-clause-not_true g c = (c.in-Unit.ensures c.requires.live.0 c.requires.live.1).not_true

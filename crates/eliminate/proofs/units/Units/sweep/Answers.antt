@@ -5,10 +5,10 @@ use Rattle.clauses.specs.Slots.{Slots, clause_at}
 use Rattle.eliminate.specs.declared.units.Units.{Units}
 use Rattle.eliminate.specs.Units.{IsSettled}
 use Rattle.eliminate.proofs.Propagating.{propagates_nothing, still_propagating, propagates_more, leaves_later}
-use Rattle.names.proofs.Laws.{slot_within}
+use Rattle.clauses.proofs.Laws.{live_within}
 use Rattle.eliminate.proofs.units.Units.sweep.Goals as goal
 use Rattle.eliminate.proofs.units.Units.sweep.Goals.{then-asked, else-asked}
-use Rattle.names.proofs.Laws.{when_err}
+use Rattle.lrat_log.proofs.Laws.{when_err}
 
 pub loop-place-init : goal.loop-place-init
 loop-place-init g c = record {
@@ -72,7 +72,7 @@ returns-clause-propagated g c = c.loop-place.invariant.propagated
 pub returns-clause-settled : goal.returns-clause-settled
 returns-clause-settled g c unasked =
     let s = c.loop-place.invariant.settled unasked in
-    (c.loop-place.invariant.going, λ r d at. s.2 r d (let lt = slot_within c.args.store.now.slots r d at in omega arith) at)
+    (c.loop-place.invariant.going, λ r d at. s.2 r d (let lt = live_within c.args.store.now.slots r d at in omega arith) at)
 
 pub returns-clause-progress : goal.returns-clause-progress
 returns-clause-progress g c asked works = c.loop-place.invariant.progress asked

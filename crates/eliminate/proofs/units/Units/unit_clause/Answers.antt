@@ -9,11 +9,11 @@ use Rattle.eliminate.specs.declared.simplifier.Simplifier.{Simplifier}
 use Rattle.names.specs.Work.{AreClauses}
 use Rattle.eliminate.specs.Simplifier.{Grows, IsAddableLine, LeavesLog}
 use Rattle.eliminate.proofs.Assigned.{single}
-use Rattle.names.proofs.Laws.{slot_before, slot_last}
+use Rattle.clauses.proofs.Laws.{clause_kept, clause_new}
 use Rattle.eliminate.proofs.Tables.{simplified_same}
 use Rattle.eliminate.proofs.UnitLines.{unit_addable}
 use Rattle.eliminate.proofs.units.Units.unit_clause.Goals as goal
-use Rattle.names.proofs.Laws.{when_err}
+use Rattle.lrat_log.proofs.Laws.{when_err}
 
 pub returns-then-lits-eq1-clause-alone : goal.returns-then-lits-eq1-clause-alone
 returns-then-lits-eq1-clause-alone g c =
@@ -53,7 +53,7 @@ returns-clause-alone g c =
     let l : Literal = c.args.lit in
     let clause : c.push.new.self.items ≡ l ∷ [] = c.in_ok-push.ensures.items ∙ ap (λ (xs : List Literal). xs ++ l ∷ []) c.clear.ensures.items in
     ap (λ xs. clause_at xs c.in_ok-unit.unit) c.in_ok-unit.ensures.slots ∙ ap (clause_at (slots ++ Some c.push.new.self.items ∷ [])) c.in_ok-unit.ensures.reference
-    ∙ slot_last slots c.push.new.self.items ∙ ap Some clause
+    ∙ clause_new slots c.push.new.self.items ∙ ap Some clause
 
 pub returns-clause-grows : goal.returns-clause-grows
-returns-clause-grows g c = subst (Grows c.args.store.now.slots) (sym c.in_ok-unit.ensures.slots) (λ r d e. slot_before c.args.store.now.slots c.push.new.self.items r d e)
+returns-clause-grows g c = subst (Grows c.args.store.now.slots) (sym c.in_ok-unit.ensures.slots) (λ r d e. clause_kept c.args.store.now.slots c.push.new.self.items d r e)

@@ -1,5 +1,5 @@
 -- Clause after clause is visited.
-use Rattle.names.proofs.Laws.{when_err}
+use Rattle.lrat_log.proofs.Laws.{when_err}
 use Rattle.eliminate.proofs.Propagating.{propagates_nothing, still_propagating, propagates_more, leaves_later}
 use Rattle.eliminate.proofs.units.Units.visit.Goals as goal
 

@@ -1,0 +1,39 @@
+-- Whether a variable is worth eliminating: by how many resolvents its clauses have, and how long.
+use Rattle.std.specs.Prelude.{ℕ, ◌+◌, nat_le, ◌==◌, Bool, not, ◌&&◌, ◌||◌, List, length, filter}
+use Rattle.std.specs.Prelude.{count_by, sum_by}
+use Rattle.std.specs.List.{list_all, list_any}
+use Rattle.wcnf.specs.Literal.{Literal, negation}
+use Rattle.wcnf.specs.Clause.{contains_literal, without_literal}
+
+-- the literals that a resolvent has from its second clause alone
+abbrev pub rest_of : Literal → List Literal → List Literal → List Literal
+rest_of p c d =
+    filter (λ k. not (contains_literal k (without_literal p c))) (without_literal (negation p) d)
+
+-- the first clause has the negation of one of these: the resolvent is always true
+abbrev pub are_opposed : Literal → List Literal → List Literal → Bool
+are_opposed p c d =
+    list_any (λ k. contains_literal (negation k) (without_literal p c)) (rest_of p c d)
+
+-- the resolvent has at most 32 literals; the first clause has the pivot beside those that it gives
+abbrev pub is_short : Literal → List Literal → List Literal → Bool
+is_short p c d = nat_le (length (rest_of p c d) + length c) 33
+
+-- no resolvent of c with these is long
+abbrev pub are_short : Literal → List Literal → List (List Literal) → Bool
+are_short p c ds = list_all (λ d. are_opposed p c d || is_short p c d) ds
+
+-- how many resolvents c has with these, but for those that are always true
+abbrev pub resolvent_count : Literal → List Literal → List (List Literal) → ℕ
+resolvent_count p c ds = count_by (λ d. not (are_opposed p c d)) ds
+
+-- at most ten clauses, each with at most a hundred literals
+abbrev pub are_few_and_short : List (List Literal) → Bool
+are_few_and_short cs = list_all (λ c. nat_le (length c) 100) cs && nat_le (length cs) 10
+
+-- the clauses with a literal and those with its negation have no more resolvents than they are, of
+-- which none is long
+abbrev pub is_worthwhile : Literal → List (List Literal) → List (List Literal) → Bool
+is_worthwhile p cs ds = (length cs == 0) || (length ds == 0)
+    || (are_few_and_short cs && are_few_and_short ds && list_all (λ c. are_short p c ds) cs
+    && nat_le (sum_by (λ c. resolvent_count p c ds) cs) (length cs + length ds))
