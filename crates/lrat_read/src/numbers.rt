@@ -114,32 +114,61 @@ fn is_number(line: &[u8], start: usize, digits: Digits) -> bool
         && is_token_end(line, digits.end)
 }
 
-/// The number from 1 of few digits that stands here with a space after it. `None` says nothing of
-/// the line.
+/// The 0 that stands here alone with a space after it.
 #[inline(always)]
-fn few_digits_at(line: &[u8], start: usize) -> Option<Digits>
-    requires { start + 8 ≤ length line.now }
+fn zero_at(line: &[u8], start: usize) -> Option<Digits>
+    requires { start + 1 < length line.now }
+    ensures { IfSome result (λ d. IsSpaced line.now start d) }
+{
+    let end = start + 1;
+    if line[start] == b'0' && line[end] == b' ' {
+        return Some(Digits { value: 0, end });
+    }
+    None
+}
+
+/// The number that stands with a space after it in the bytes from here on, of which the line has so
+/// many. `None` says nothing of the line.
+#[inline(always)]
+fn few_digits_at(line: &[u8], start: usize, bytes: usize) -> Option<Digits>
+    requires few { (1 < bytes) × (bytes ≤ 8) }
+    requires within { start + bytes ≤ length line.now }
     ensures { IfSome result (λ d. IsSpaced line.now start d) }
 {
     let first = line[start];
     if first < b'1' || first > b'9' {
-        return None;
+        return zero_at(line, start);
     }
-    let stop = start + FEW_BYTES;
     let mut value = u64::from(first - b'0');
-    let mut end = start + 1;
-    while end < stop {
-        let byte = line[end];
+    let mut count = 1;
+    while count < bytes {
+        let byte = line[start + count];
         if byte < b'0' || byte > b'9' {
             if byte == b' ' {
+                let end = start + count;
                 return Some(Digits { value, end });
             }
             return None;
         }
         value = 10 * value + u64::from(byte - b'0');
-        end += 1;
+        count += 1;
     }
     None
+}
+
+/// As `few_digits_at`, of eight bytes or what is left of the line. The loop over eight has no test
+/// for the line's end, and the compiler unrolls it.
+#[inline(always)]
+fn spaced_digits_at(line: &[u8], start: usize) -> Option<Digits>
+    requires { start + 1 < length line.now }
+    ensures { IfSome result (λ d. IsSpaced line.now start d) }
+{
+    let left = line.len() - start;
+    if left < FEW_BYTES {
+        few_digits_at(line, start, left)
+    } else {
+        few_digits_at(line, start, FEW_BYTES)
+    }
 }
 
 /// The number that begins at a place, or after the blanks there.
@@ -148,15 +177,22 @@ pub fn number_at(line: &[u8], at: usize) -> NumberAt
     requires { at ≤ length line.now }
     ensures { IsNumberAt line.now at result }
 {
-    if line.len() - at > FEW_BYTES {
+    let left = line.len() - at;
+    if left > 2 {
         let is_dashed = line[at] == b'-';
-        if let Some(digits) = few_digits_at(line, at + usize::from(is_dashed)) {
+        if let Some(digits) = spaced_digits_at(line, at + usize::from(is_dashed)) {
             return NumberAt::Number {
                 is_dashed,
                 value: digits.value,
                 end: digits.end + 1,
             };
         }
+    } else if left == 1 && line[at] == b'0' {
+        return NumberAt::Number {
+            is_dashed: false,
+            value: 0,
+            end: at + 1,
+        };
     }
     any_number_at(line, at)
 }
