@@ -2,18 +2,21 @@ use Rattle.std.proofs.Common.{arith, ◌≡◌, ◌+◌, ◌-◌, ◌*◌, ◌<�
 use Rattle.std.proofs.Common.{ap, subst, true}
 use Rattle.std.specs.List.{list_all}
 use Rattle.wcnf.specs.Text.{is_digit, value_on}
-use Rattle.lrat_read.proofs.Scan.{digits_room, digits_one, digits_step}
+use Rattle.lrat_read.proofs.Scan.{digits_room, digits_one, digits_step, is_digit_less}
 use Rattle.lrat_read.proofs.Places.{spaced}
 use Rattle.lrat_read.proofs.numbers.few_digits_at.Goals as goal
 
 pub loop-count-init : goal.loop-count-init
 loop-count-init c =
-    let one = digits_one c.args.line.now c.args.start (omega arith) (omega arith) (omega arith) in
+    let first : c.from-value.result ≡ get_or c.args.line.now c.args.start 0 = c.from-value.ensures in
+    let digit = is_digit_less c.from-value.result c.from-value.type_inv c.if-value-gt9.false in
+    let one = digits_one c.args.line.now c.args.start (omega arith) (omega (arith, first, digit.0))
+        (omega (arith, first, digit.1)) in
     record {
       from = omega arith;
       within = omega arith;
       digits = one.0;
-      value = c.from-value.ensures ∙ sym one.1;
+      value = digit.2 ∙ ap (λ n. n - 48) first ∙ sym one.1;
     }
 
 pub overflow_mul-value : goal.overflow_mul-value
@@ -38,17 +41,17 @@ loop-count-preserved c =
     let start = c.args.start in
     let n = c.loop-count.count in
     let inv = c.loop-count.invariant in
-    let step = digits_step line start (start + n) (omega arith) (omega arith) c.if-byte-lt48.false
-        c.if-byte-gt57.false inv.digits in
+    let byte : c.from-digit.result ≡ get_or line (start + n) 0 = c.from-digit.ensures in
+    let digit = is_digit_less c.from-digit.result c.from-digit.type_inv c.if-digit-gt9.false in
+    let step = digits_step line start (start + n) (omega arith) (omega arith)
+        (omega (arith, byte, digit.0)) (omega (arith, byte, digit.1)) inv.digits in
+    let less = digit.2 ∙ ap (λ m. m - 48) byte in
     let on : start + n + 1 ≡ start + (n + 1) = omega arith in
-    let new : 10 * c.loop-count.value + c.from.result
-        ≡ 10 * value_on 0 (slice_range line start (start + n)) + (get_or line (start + n) 0 - 48) =
-      omega (arith, inv.value, c.from.ensures) in
     record {
       from = omega arith;
       within = omega arith;
       digits = subst (λ m. list_all is_digit (slice_range line start m) ≡ true) on step.0;
-      value = new ∙ sym step.1 ∙ ap (λ m. value_on 0 (slice_range line start m)) on;
+      value = omega (arith, inv.value, less, step.1, ap (λ m. value_on 0 (slice_range line start m)) on);
     }
 
 pub returns-then-byte-eq32 : goal.returns-then-byte-eq32
