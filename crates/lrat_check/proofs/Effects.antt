@@ -45,18 +45,15 @@ pub last_push : (o : Option Literal) (xs : List Literal) (l : Literal) → last_
 last_push o [] l = refl
 last_push o (x ∷ xs) l = last_push (Some x) xs l
 
-last_some : (x : Literal) (xs : List Literal) → last_or (Some x) xs ≡ None → ⊥
-last_some x [] e = cc
-last_some x (y ∷ xs) e = last_some y xs e
+none_open : (xs : List Literal) → length xs ≡ 0 → xs ≡ []
+none_open [] e = refl
+none_open (x ∷ xs) e = absurd (omega (arith, e))
 
-none_last : (xs : List Literal) → last_or None xs ≡ None → xs ≡ []
-none_last [] e = refl
-none_last (x ∷ xs) e = absurd (last_some x xs e)
-
-one_last : (xs : List Literal) (l : Literal) → length xs ≤ 1 → last_or None xs ≡ Some l → xs ≡ l ∷ []
-one_last [] l n e = absurd (cc)
-one_last (x ∷ []) l n e = let same : x ≡ l = cc in ap (λ y. y ∷ []) same
-one_last (x ∷ y ∷ xs) l n e = absurd (omega arith)
+one_last : (o : Option Literal) (xs : List Literal) (l : Literal) → length xs ≡ 1
+    → Some l ≡ last_or o xs → xs ≡ l ∷ []
+one_last o [] l n e = absurd (omega (arith, n))
+one_last o (x ∷ []) l n e = let same : x ≡ l = cc in ap (λ y. y ∷ []) same
+one_last o (x ∷ y ∷ xs) l n e = absurd (omega (arith, n))
 
 many : (A xs : List Literal) → 1 < length xs → outcome_on A xs ≡ NotUnit
 unfolding outcome_on
@@ -64,29 +61,37 @@ many A [] n = absurd (omega arith)
 many A (x ∷ []) n = absurd (omega arith)
 many A (x ∷ y ∷ xs) n = refl
 
-pub conflict_last : (A c : List Literal) → last_or None (open_literals A c) ≡ None → outcome_of (Some c) A ≡ Conflict
-conflict_last A c e = outcome_is c A ∙ ap (outcome_on A) (none_last (open_literals A c) e)
+pub conflict_open : (A c : List Literal) → length (open_literals A c) ≡ 0
+    → outcome_of (Some c) A ≡ Conflict
+conflict_open A c n = outcome_is c A ∙ ap (outcome_on A) (none_open (open_literals A c) n)
 
-pub many_open : (A c : List Literal) → 1 < length (open_literals A c) → outcome_of (Some c) A ≡ NotUnit
+pub many_open : (A c : List Literal) → 1 < length (open_literals A c)
+    → outcome_of (Some c) A ≡ NotUnit
 many_open A c n = outcome_is c A ∙ many A (open_literals A c) n
 
-true_one : (A : List Literal) (l : Literal) → contains_literal l A ≡ true → outcome_on A (l ∷ []) ≡ NotUnit
+true_one : (A : List Literal) (l : Literal) → contains_literal l A ≡ true
+    → outcome_on A (l ∷ []) ≡ NotUnit
 unfolding outcome_on
 true_one A l t = rw t refl
 
-makes_one : (A : List Literal) (l : Literal) → contains_literal l A ≡ false → outcome_on A (l ∷ []) ≡ Makes l
+makes_one : (A : List Literal) (l : Literal) → contains_literal l A ≡ false
+    → outcome_on A (l ∷ []) ≡ Makes l
 unfolding outcome_on
 makes_one A l f = rw f refl
 
-pub true_last : (A c : List Literal) (l : Literal) → last_or None (open_literals A c) ≡ Some l → contains_literal l A ≡ true → outcome_of (Some c) A ≡ NotUnit
-true_last A c l e t =
-    elim (cases_lt 1 (length (open_literals A c))) [
-      | inl n ↦ many_open A c n
-      | inr n ↦ outcome_is c A ∙ ap (outcome_on A) (one_last (open_literals A c) l (omega arith) e) ∙ true_one A l t
-    ]
+-- one literal is not false, and it is true
+pub true_open : (A c : List Literal) (o : Option Literal) (l : Literal)
+    → length (open_literals A c) ≡ 1 → Some l ≡ last_or o (open_literals A c)
+    → contains_literal l A ≡ true → outcome_of (Some c) A ≡ NotUnit
+true_open A c o l n e t =
+    outcome_is c A ∙ ap (outcome_on A) (one_last o (open_literals A c) l n e) ∙ true_one A l t
 
-pub makes_last : (A c : List Literal) (l : Literal) → last_or None (open_literals A c) ≡ Some l → length (open_literals A c) ≤ 1 → contains_literal l A ≡ false → outcome_of (Some c) A ≡ Makes l
-makes_last A c l e n f = outcome_is c A ∙ ap (outcome_on A) (one_last (open_literals A c) l n e) ∙ makes_one A l f
+-- one literal is not false, and it is not true
+pub makes_open : (A c : List Literal) (o : Option Literal) (l : Literal)
+    → length (open_literals A c) ≡ 1 → Some l ≡ last_or o (open_literals A c)
+    → contains_literal l A ≡ false → outcome_of (Some c) A ≡ Makes l
+makes_open A c o l n e f =
+    outcome_is c A ∙ ap (outcome_on A) (one_last o (open_literals A c) l n e) ∙ makes_one A l f
 
 -- a literal that a hint makes true
 member_within : (n : ℕ) (l : Literal) (c : List Literal) → AreWithin n c → contains_literal l c ≡ true → l.variable ≤ n

@@ -3,6 +3,7 @@
 ghost use Rattle.std.specs.Prelude.{◌≡◌, ℕ, ◌<◌, ◌≤◌, ◌^◌, ◌∷◌, [], ◌++◌, false, OnOk, OnErr};
 ghost use Rattle.std.specs.Prelude.{length, take};
 ghost use Rattle.wcnf.specs.Clause.{contains_literal};
+ghost use Rattle.lrat_check.specs.Assumed.{AreValues};
 
 use std::alloc::{AllocError, Global};
 use std::marker::Model;
@@ -89,10 +90,23 @@ impl Assumed {
         ensures { self.new
             ≡ record { literals = take len self.old.literals; variables = self.old.variables } }
     {
-        while self.trail.len() > len {
-            if let Some(lit) = self.trail.pop() {
-                self.values[lit.index()] = false;
-            }
+        if len < self.trail.len() {
+            clear(&mut self.values, &self.trail, len);
+            self.trail.truncate(len);
         }
+    }
+}
+
+/// Takes back the values of all but the first `len` literals, that of the last one first.
+fn clear(values: &mut [bool], trail: &[Lit], len: usize)
+    requires within { len ≤ length trail.now }
+    requires table { (n : ℕ) × AreValues values.old n trail.now }
+    ensures { (n : ℕ) → AreValues values.old n trail.now
+        → AreValues values.new n (take len trail.now) }
+{
+    let mut left = trail.len();
+    while left > len {
+        left -= 1;
+        values[trail[left].index()] = false;
     }
 }

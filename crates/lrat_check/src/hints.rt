@@ -62,18 +62,25 @@ pub(crate) fn effect_of(clause: &[Lit], assumed: &Assumed) -> Effect
     requires { AreWithin assumed.now.variables clause.now }
     ensures { outcome_as result ≡ outcome_of (Some clause.now) assumed.now.literals }
 {
-    let mut count = 0usize;
-    let mut last = None;
+    let Some(first) = clause.first() else {
+        return Effect::Conflict;
+    };
+    let mut last = *first;
+    let mut falses = 0usize;
     for lit in clause {
-        if !assumed.is_true(lit.negation()) {
-            count += 1;
-            last = Some(*lit);
+        if assumed.is_true(lit.negation()) {
+            falses += 1;
+        } else {
+            last = *lit;
         }
     }
-    match last {
-        None => Effect::Conflict,
-        Some(lit) if count > 1 || assumed.is_true(lit) => Effect::NotUnit,
-        Some(lit) => Effect::Makes(lit),
+    let open = clause.len() - falses;
+    if open == 0 {
+        Effect::Conflict
+    } else if open > 1 || assumed.is_true(last) {
+        Effect::NotUnit
+    } else {
+        Effect::Makes(last)
     }
 }
 

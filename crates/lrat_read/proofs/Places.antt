@@ -1,5 +1,5 @@
 -- What stands in a line from a place on, in the words of the contracts.
-use Rattle.std.proofs.Common.{◌≡◌, ℕ, ◌+◌, ◌-◌, ◌^◌, ◌<◌, ◌≤◌, Bool, true, false, not, List, [], ◌∷◌, ◌++◌, Some, refl, sym, ◌∙◌, ap, arith, length, drop, get_or, slice_range, inl, inr}
+use Rattle.std.proofs.Common.{◌≡◌, ℕ, ◌+◌, ◌-◌, ◌^◌, ◌<◌, ◌≤◌, Bool, true, false, not, List, [], ◌∷◌, ◌++◌, Some, refl, subst, sym, ◌∙◌, ap, arith, length, drop, get_or, slice_range, inl, inr}
 use Rattle.std.specs.Int.{from_bool}
 use Rattle.std.specs.List.{list_all}
 use Rattle.std.specs.Prelude.{◌==◌}
@@ -10,7 +10,8 @@ use Rattle.wcnf.proofs.Laws.{digit_is_no_blank}
 use Rattle.lrat_read.specs.Numbers.{IsDigitsAt, IsSpaced, IsNumber, IsNumberAt}
 use Rattle.lrat_read.specs.declared.numbers.Digits.{Digits}
 use Rattle.lrat_read.specs.declared.numbers.NumberAt.TheVariants.{Malformed, Number}
-use Rattle.lrat_read.proofs.Scan.{lead, split_at, digits_room, first_is_digit, number_here, none_here, token_front, NoNumber}
+use Rattle.lrat_read.proofs.Scan.{lead, split_at, digits_room, digits_one, first_is_digit, number_here}
+use Rattle.lrat_read.proofs.Scan.{none_here, token_front, NoNumber}
 
 -- the place after a dash, where there is one
 abbrev pub after_dash : List ℕ → ℕ → ℕ
@@ -64,9 +65,10 @@ pub number_past : (line : List ℕ) (at : ℕ) (s : Bool) (n end place : ℕ) �
 number_past line at s n end place h same from within =
     (h.0, h.1 ∙ ap (λ (ts : List (List ℕ)). h.0 ∷ ts) (sym same), h.2, h.3, omega (arith, h.4), within)
 
--- digits from one that is not 0 on, up to a space
+-- digits up to a space, of which the first is not 0, or which are one alone
 pub spaced : (line : List ℕ) (start end value : ℕ) → start < end → end < length line → end < start + 19 → list_all is_digit (slice_range line start end) ≡ true → value ≡ value_on 0 (slice_range line start end) →
-    48 < get_or line start 0 → get_or line end 0 ≡ 32 → IsSpaced line start (record { value = value; end = end })
+    (get_or line start 0 ≡ 48 → end ≡ start + 1) → get_or line end 0 ≡ 32
+    → IsSpaced line start (record { value = value; end = end })
 spaced line start end value some within few digits same first space =
     let room : value < 10 ^ 18 = digits_room line start end value (omega arith) (omega arith) few digits same in
     let small : value < 2 ^ 62 = omega arith in
@@ -84,7 +86,7 @@ spaced line start end value some within few digits same first space =
     } in
     let number : IsNumber line start (record { value = value; end = end }) = record {
       nonempty = some;
-      lead = λ z. let zero_first : get_or line start 0 ≡ 48 = z in absurd (omega (arith, zero_first, first));
+      lead = first;
       small = small;
       ends = ends;
     } in
@@ -104,6 +106,32 @@ spaced_found line at start d inside begins h =
     let same : tokens_of (drop d.end line) ≡ tokens_of (drop (d.end + 1) line) = ap tokens_of (drop_more line d.end 0 h.within ∙ ap (λ b. b ∷ drop (d.end + 1) line) h.space) in
     let here = number_found line at at start d refl (omega arith) inside blank begins h.run h.number in
     number_past line at (get_or line at 0 == 45) d.value d.end (d.end + 1) here (sym same) (omega arith) (omega (arith, h.within))
+
+-- the 0 that ends a line
+pub last_zero : (line : List ℕ) (at : ℕ) → at < length line → length line ≤ at + 1
+    → get_or line at 0 ≡ 48 → IsNumberAt line at (Number false 0 (at + 1))
+last_zero line at h last z =
+    let one = digits_one line at h (omega (arith, z)) (omega (arith, z)) in
+    let plain : (get_or line at 0 == 45) ≡ false = ap (λ n. n == 45) z in
+    let run : IsDigitsAt line at (record { value = 0; end = at + 1 }) = record {
+      from = omega arith;
+      within = omega arith;
+      short = omega arith;
+      digits = one.0;
+      value = omega (arith, z, one.1);
+      stops = λ more _. absurd (omega (arith, more, last));
+    } in
+    let number : IsNumber line at (record { value = 0; end = at + 1 }) = record {
+      nonempty = omega arith;
+      lead = λ _. refl;
+      small = omega arith;
+      ends = ap begins_with_token (drop_all (at + 1) line last);
+    } in
+    let begins : at ≡ after_dash line at =
+      sym (ap (λ (b : Bool). at + from_bool b) plain ∙ omega arith) in
+    subst (λ s. IsNumberAt line at (Number s 0 (at + 1))) plain
+      (number_found line at at at (record { value = 0; end = at + 1 }) refl (omega arith) h
+        (ap is_blank z) begins run number)
 
 no_number : (line : List ℕ) (at first : ℕ) (s : Bool) (u rest : List ℕ) → tokens_of (drop first line) ≡ tokens_of (drop at line) → drop first line ≡ lead s (u ++ rest) → NoNumber s u rest → IsNumberAt line at Malformed
 no_number line at first s u rest same split none = (none.0, none.1, sym same ∙ ap tokens_of split ∙ none.2, none.3)

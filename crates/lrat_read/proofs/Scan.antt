@@ -1,5 +1,5 @@
 -- Tokens and numbers from a place of a line on.
-use Rattle.std.proofs.Common.{◌≡◌, ℕ, ◌+◌, ◌-◌, ◌*◌, ◌^◌, ◌<◌, ◌≤◌, Bool, true, false, not, List, [], ◌∷◌, ◌++◌, Option, Some, None, inl, inr, refl, sym, ◌∙◌, ap, arith, length, take, drop, get_or, slice_range}
+use Rattle.std.proofs.Common.{◌%◌, ◌≡◌, ℕ, ◌+◌, ◌-◌, ◌*◌, ◌^◌, ◌<◌, ◌≤◌, Bool, true, false, not, List, [], ◌∷◌, ◌++◌, Option, Some, None, inl, inr, refl, sym, ◌∙◌, ap, arith, length, take, drop, get_or, slice_range}
 use Rattle.std.proofs.Math.Bool.{cond}
 use Rattle.std.proofs.Math.Dec.{ltb}
 use Rattle.std.specs.List.{AllByRecursion, list_all}
@@ -69,6 +69,13 @@ digits_push [] b e h = and_from (is_digit b) true h refl
 digits_push (d ∷ ds) b e h = let p = and_parts (is_digit d) (list_all is_digit ds) e in and_from (is_digit d) (list_all is_digit (ds ++ b ∷ [])) p.0 (digits_push ds b p.1 h)
 
 -- so few digits leave room for one more
+-- a byte less the byte of the digit 0, where that is at most 9
+pub is_digit_less : (b : ℕ) → b < 18446744073709551616
+    → (b + 18446744073709551568) % 18446744073709551616 ≤ 9
+    → (48 ≤ b) × (b ≤ 57)
+      × ((b + 18446744073709551568) % 18446744073709551616 ≡ b - 48)
+is_digit_less b h l = (omega arith, omega arith, omega arith)
+
 pub digits_room : (s : List ℕ) (i j v : ℕ) → i ≤ j → j ≤ length s → j < i + 19 → list_all is_digit (slice_range s i j) ≡ true → v ≡ value_on 0 (slice_range s i j) → v < 10 ^ 18
 digits_room s i j v h l few e same =
     let short : length (slice_range s i j) ≤ 18 = omega (arith, length-take (j - i) (drop i s)) in

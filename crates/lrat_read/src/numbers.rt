@@ -24,6 +24,9 @@ const MOST_DIGITS: usize = 19;
 /// The numbers of most lines have fewer digits, so that a space stands among so many bytes.
 const FEW_BYTES: usize = 8;
 
+/// The digit 0.
+const ZERO: u64 = 48;
+
 /// What stands in a line from a place on.
 #[derive(Clone, Copy, Drop)]
 pub enum NumberAt {
@@ -114,32 +117,63 @@ fn is_number(line: &[u8], start: usize, digits: Digits) -> bool
         && is_token_end(line, digits.end)
 }
 
-/// The number from 1 of few digits that stands here with a space after it. `None` says nothing of
-/// the line.
+/// The 0 that stands here alone with a space after it.
 #[inline(always)]
-fn few_digits_at(line: &[u8], start: usize) -> Option<Digits>
-    requires { start + 8 ≤ length line.now }
+fn zero_at(line: &[u8], start: usize) -> Option<Digits>
+    requires { start + 1 < length line.now }
     ensures { IfSome result (λ d. IsSpaced line.now start d) }
 {
-    let first = line[start];
-    if first < b'1' || first > b'9' {
-        return None;
+    let end = start + 1;
+    if line[start] == b'0' && line[end] == b' ' {
+        return Some(Digits { value: 0, end });
     }
-    let stop = start + FEW_BYTES;
-    let mut value = u64::from(first - b'0');
-    let mut end = start + 1;
-    while end < stop {
-        let byte = line[end];
-        if byte < b'0' || byte > b'9' {
+    None
+}
+
+/// The number that stands with a space after it in the bytes from here on, of which the line has so
+/// many. `None` says nothing of the line.
+#[inline(always)]
+fn few_digits_at(line: &[u8], start: usize, bytes: usize) -> Option<Digits>
+    requires few { (1 < bytes) × (bytes ≤ 8) }
+    requires within { start + bytes ≤ length line.now }
+    ensures { IfSome result (λ d. IsSpaced line.now start d) }
+{
+    let mut value = u64::from(line[start]).wrapping_sub(ZERO);
+    if value == 0 || value > 9 {
+        return zero_at(line, start);
+    }
+    let mut count = 1;
+    while count < bytes {
+        let byte = line[start + count];
+        let digit = u64::from(byte).wrapping_sub(ZERO);
+        if digit > 9 {
             if byte == b' ' {
+                let end = start + count;
                 return Some(Digits { value, end });
             }
             return None;
         }
-        value = 10 * value + u64::from(byte - b'0');
-        end += 1;
+        value = 10 * value + digit;
+        count += 1;
     }
     None
+}
+
+/// As `number_at`, where the number has few digits and a space after it, within so many bytes
+/// behind a dash. `None` says nothing of the line.
+#[inline(always)]
+fn spaced_number_at(line: &[u8], at: usize, bytes: usize) -> Option<NumberAt>
+    requires few { (1 < bytes) × (bytes ≤ 8) }
+    requires within { at + 1 + bytes ≤ length line.now }
+    ensures { IfSome result (λ n. IsNumberAt line.now at n) }
+{
+    let is_dashed = line[at] == b'-';
+    let digits = few_digits_at(line, at + usize::from(is_dashed), bytes)?;
+    Some(NumberAt::Number {
+        is_dashed,
+        value: digits.value,
+        end: digits.end + 1,
+    })
 }
 
 /// The number that begins at a place, or after the blanks there.
@@ -148,15 +182,21 @@ pub fn number_at(line: &[u8], at: usize) -> NumberAt
     requires { at ≤ length line.now }
     ensures { IsNumberAt line.now at result }
 {
-    if line.len() - at > FEW_BYTES {
-        let is_dashed = line[at] == b'-';
-        if let Some(digits) = few_digits_at(line, at + usize::from(is_dashed)) {
-            return NumberAt::Number {
-                is_dashed,
-                value: digits.value,
-                end: digits.end + 1,
-            };
+    let left = line.len() - at;
+    if left > FEW_BYTES {
+        if let Some(number) = spaced_number_at(line, at, FEW_BYTES) {
+            return number;
         }
+    } else if left > 2 {
+        if let Some(number) = spaced_number_at(line, at, left - 1) {
+            return number;
+        }
+    } else if left == 1 && line[at] == b'0' {
+        return NumberAt::Number {
+            is_dashed: false,
+            value: 0,
+            end: at + 1,
+        };
     }
     any_number_at(line, at)
 }

@@ -3,15 +3,13 @@ use Rattle.std.specs.List.{list_all}
 use Rattle.wcnf.specs.Text.{is_digit, value_on}
 use Rattle.lrat_read.proofs.numbers.few_digits_at.Given as goal
 
-abbrev pub invariant-loop-end : goal.invariant-loop-end
-invariant-loop-end l = record {
-  from : l.start < l.end;
-  within : l.end ≤ l.stop;
-  short : l.stop ≤ l.start + 8;
-  in_line : l.stop ≤ length l.line;
-  digits : list_all is_digit (slice_range l.line l.start l.end) ≡ true;
-  value : l.value ≡ value_on 0 (slice_range l.line l.start l.end);
+abbrev pub invariant-loop-count : goal.invariant-loop-count
+invariant-loop-count l = record {
+  from : 0 < l.count;
+  within : l.count ≤ l.bytes;
+  digits : list_all is_digit (slice_range l.line l.start (l.start + l.count)) ≡ true;
+  value : l.value ≡ value_on 0 (slice_range l.line l.start (l.start + l.count));
 }
 
-abbrev pub decreases-loop-end : goal.decreases-loop-end
-decreases-loop-end l = l.stop - l.end
+abbrev pub decreases-loop-count : goal.decreases-loop-count
+decreases-loop-count l = l.bytes - l.count

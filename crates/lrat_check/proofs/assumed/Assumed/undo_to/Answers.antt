@@ -1,17 +1,22 @@
-use Rattle.std.proofs.Common.{◌≡◌, ◌<◌, ◌≤◌, ◌+◌, ◌++◌, ◌∷◌, [], length, take, ap, sym, ◌∙◌, arith, length-append}
-use Rattle.std.proofs.lemmas.List.{take-append-le}
-use Rattle.lrat_check.proofs.AssumedLaws.{AreValues-undo}
+use Rattle.std.proofs.Common.{◌≡◌, ◌≤◌, ◌++◌, [], ap, subst, sym, ◌∙◌, take, drop, length, append-nil}
+use Rattle.std.proofs.Common.{arith}
+use Rattle.std.proofs.lemmas.List.{take_all, drop_all}
+use Rattle.lrat_check.specs.Assumed.{AreValues}
 use Rattle.lrat_check.proofs.assumed.Assumed.undo_to.Goals as goal
 
-pub loop-self-preserved-in-Some : goal.loop-self-preserved-in-Some
-loop-self-preserved-in-Some c =
-    let s = c.loop-self.self-inside in
-    let first : 0 < c.in-Some.lit.variable = omega (arith, c.index.ensures.within) in
-    let split : s.trail.items ≡ c.pop.new.self.items ++ c.in-Some.lit ∷ [] = c.in-Some.ensures.items in
-    let long : length s.trail.items ≡ length c.pop.new.self.items + 1 = ap length split ∙ length-append c.pop.new.self.items (c.in-Some.lit ∷ []) in
-    let more : c.args.len ≤ length c.pop.new.self.items = omega (arith, s.trail.ok.0) in
-    record {
-      table = rw c.index.ensures.index (AreValues-undo s.values.items s.variables s.trail.items c.pop.new.self.items c.in-Some.lit c.loop-self.invariant.table split first);
-      same = c.loop-self.invariant.same;
-      front = sym (take-append-le c.args.len c.pop.new.self.items (c.in-Some.lit ∷ []) more) ∙ ap (take c.args.len) (sym split) ∙ c.loop-self.invariant.front;
-    }
+pub invariant_of-self : goal.invariant_of-self
+invariant_of-self c =
+    let s = c.self.inside in
+    let n = s.variables in
+    let new = c.clear.new.values in
+    let before : AreValues c.deref_mut.result.now n c.deref.result.now =
+      subst (λ v. AreValues v n c.deref.result.now) (sym c.deref_mut.ensures.value)
+        (subst (AreValues s.values.items n) (sym c.deref.ensures.value) c.self.invariant) in
+    let after = c.clear.ensures n before in
+    let long : length new ≡ length s.values.items = after.long ∙ sym c.self.invariant.long in
+    let whole : take s.values.len (new ++ drop (length new) s.values.items) ≡ new =
+      ap (λ xs. take s.values.len (new ++ xs)) (drop_all (length new) s.values.items (omega (arith, long)))
+      ∙ ap (take s.values.len) (append-nil new)
+      ∙ take_all s.values.len new (omega (arith, long, s.values.ok.0)) in
+    subst (λ v. AreValues v n c.truncate.new.self.items) (sym whole)
+      (subst (AreValues new n) (ap (take c.args.len) c.deref.ensures.value ∙ sym c.truncate.ensures.items) after)

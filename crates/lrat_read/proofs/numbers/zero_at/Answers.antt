@@ -1,0 +1,2 @@
+use Rattle.std.proofs.Common.{arith}
+use Rattle.lrat_read.proofs.numbers.zero_at.Goals as goal
