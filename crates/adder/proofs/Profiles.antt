@@ -1,5 +1,6 @@
 -- The laws of the network in each profile.
-use Rattle.std.proofs.Common.{◌≡◌, ◌⊎◌, inl, inr, ℕ, ◌+◌, ◌*◌, ◌^◌, ◌<◌, ◌≤◌, List, [], length, filter, sum_by, All, refl, sym, subst, arith, mul-le-mul_right}
+use Rattle.std.proofs.Common.{◌≡◌, ◌⊎◌, inl, inr, ℕ, ◌+◌, ◌*◌, ◌^◌, ◌<◌, ◌≤◌, List, [], length}
+use Rattle.std.proofs.Common.{filter, sum_by, All, refl, sym, subst, arith, mul-le-mul_right}
 use Rattle.std.specs.List.{AllByRecursion}
 use Rattle.std.proofs.lemmas.List.Elements.{recursion_from_All, All-weaker}
 use Rattle.wcnf.specs.Literal.{Assignment}
@@ -8,12 +9,17 @@ use Rattle.wcnf.specs.Problem.{Problem, SoftClause}
 use Rattle.wcnf.specs.Instance.{IsInstance, IsClauseWithin}
 use Rattle.adder.specs.declared.cells.Profile.{Profile}
 use Rattle.adder.specs.declared.cells.Profile.TheVariants.{One, Two, Three}
-use Rattle.adder.specs.Network.{Adders, Relaxed, binary_length, total_weight, relaxed_as, relaxed_variables, column_of, along_columns, along_tree, adders_as, value_of, relaxed_weight, IsCellOf, SameUpTo, AddsUp}
+use Rattle.adder.specs.Network.{Adders, Relaxed, binary_length, total_weight, relaxed_as}
+use Rattle.adder.specs.Network.{relaxed_variables, column_of, along_columns, along_tree, adders_as}
+use Rattle.adder.specs.Network.{value_of, relaxed_weight, IsCellOf, SameUpTo, AddsUp}
 use Rattle.adder.proofs.Sums.{binary_length_le, relaxed_weights, along_columns_sum}
-use Rattle.adder.proofs.Choice.{AreWithin, AreRelaxedBelow, IsChain, column_below, columns_chain, chain_extends, relaxed_below}
-use Rattle.adder.proofs.Small.{column_le, columns_cells, columns_outputs, binary_length_few, relaxed_length, fresh_few}
+use Rattle.adder.proofs.Choice.{AreWithin, AreRelaxedBelow, IsChain, column_below, columns_chain}
+use Rattle.adder.proofs.Choice.{chain_extends, relaxed_below}
+use Rattle.adder.proofs.Small.{column_le, columns_cells, columns_outputs, binary_length_few}
+use Rattle.adder.proofs.Small.{relaxed_length, fresh_few}
 use Rattle.adder.proofs.Variables.{IsOutputOf, IsCellWith, columns_with, column_of_with}
-use Rattle.adder.proofs.Numbers.{along_tree_sum, along_tree_cells, along_tree_outputs, along_tree_with, along_tree_chain}
+use Rattle.adder.proofs.Numbers.{along_tree_sum, along_tree_cells, along_tree_outputs}
+use Rattle.adder.proofs.Numbers.{along_tree_with, along_tree_chain}
 
 -- the two forms of the network
 pub adders_cases : (profile : Profile) (p : Problem) (P : Adders → Type 0)
@@ -26,13 +32,20 @@ adders_cases Three p P columns tree = tree
 
 -- which of them it is
 pub is_columns : (profile : Profile) (p : Problem) → (profile ≡ One) ⊎ (profile ≡ Two)
-    → along_columns (relaxed_as profile p) (total_weight p) (relaxed_variables profile p + 1) ≡ adders_as profile p
-is_columns profile p (inl e) = subst (λ (q : Profile). along_columns (relaxed_as q p) (total_weight p) (relaxed_variables q p + 1) ≡ adders_as q p) (sym e) refl
-is_columns profile p (inr e) = subst (λ (q : Profile). along_columns (relaxed_as q p) (total_weight p) (relaxed_variables q p + 1) ≡ adders_as q p) (sym e) refl
+    → along_columns (relaxed_as profile p) (total_weight p) (relaxed_variables profile p + 1)
+        ≡ adders_as profile p
+is_columns profile p (inl e) =
+    subst (λ (q : Profile). along_columns (relaxed_as q p) (total_weight p)
+      (relaxed_variables q p + 1) ≡ adders_as q p) (sym e) refl
+is_columns profile p (inr e) =
+    subst (λ (q : Profile). along_columns (relaxed_as q p) (total_weight p)
+      (relaxed_variables q p + 1) ≡ adders_as q p) (sym e) refl
 
 pub is_tree : (profile : Profile) (p : Problem) → profile ≡ Three
     → along_tree (relaxed_as profile p) (relaxed_variables profile p + 1) ≡ adders_as profile p
-is_tree profile p e = subst (λ (q : Profile). along_tree (relaxed_as q p) (relaxed_variables q p + 1) ≡ adders_as q p) (sym e) refl
+is_tree profile p e =
+    subst (λ (q : Profile). along_tree (relaxed_as q p) (relaxed_variables q p + 1) ≡ adders_as q p)
+      (sym e) refl
 
 module _ (profile : Profile) (p : Problem) where
   abbrev es : List Relaxed
@@ -45,53 +58,78 @@ module _ (profile : Profile) (p : Problem) where
   weights = relaxed_weights profile (p.variables + 1) p.soft
 
   -- the field `sum` of `AddsUp`
-  pub outputs_sum : (t : Assignment) → total_weight p < 2 ^ 63 → All (IsCellOf t) (adders_as profile p).cells → value_of t (adders_as profile p).outputs ≡ relaxed_weight profile p t
+  pub outputs_sum : (t : Assignment) → total_weight p < 2 ^ 63
+    → All (IsCellOf t) (adders_as profile p).cells → value_of t (adders_as profile p).outputs
+      ≡ relaxed_weight profile p t
   outputs_sum t small all =
-      adders_cases profile p (λ a. AllByRecursion (IsCellOf t) a.cells → value_of t a.outputs ≡ relaxed_weight profile p t)
-      (along_columns_sum t es (total_weight p) n weights small) (along_tree_sum t es n (omega (arith, weights)))
+      adders_cases profile p (λ a. AllByRecursion (IsCellOf t) a.cells
+          → value_of t a.outputs ≡ relaxed_weight profile p t)
+      (along_columns_sum t es (total_weight p) n weights small)
+        (along_tree_sum t es n (omega (arith, weights)))
       (recursion_from_All (IsCellOf t) (adders_as profile p).cells all)
 
   -- the field `choice` of `AddsUp`
-  pub cells_extend : (t : Assignment) → AreWithin p.variables p.soft → (u : Assignment) × SameUpTo (relaxed_variables profile p) t u × All (IsCellOf u) (adders_as profile p).cells
+  pub cells_extend : (t : Assignment) → AreWithin p.variables p.soft
+    → (u : Assignment) × SameUpTo (relaxed_variables profile p) t u
+      × All (IsCellOf u) (adders_as profile p).cells
   cells_extend t h =
-      let below : AreRelaxedBelow n es = relaxed_below p.variables profile (p.variables + 1) p.soft n h (omega arith) (omega arith) in
-      chain_extends (relaxed_variables profile p) (adders_as profile p).cells t (adders_cases profile p (λ a. IsChain n a.cells)
-      (columns_chain (column_of es) (binary_length (total_weight p)) 0 n [] (λ j. column_below n es j below) tt) (along_tree_chain es n below))
+      let below : AreRelaxedBelow n es =
+        relaxed_below p.variables profile (p.variables + 1) p.soft n h (omega arith)
+          (omega arith) in
+      chain_extends (relaxed_variables profile p) (adders_as profile p).cells t
+        (adders_cases profile p (λ a. IsChain n a.cells)
+      (columns_chain (column_of es) (binary_length (total_weight p)) 0 n []
+          (λ j. column_below n es j below) tt) (along_tree_chain es n below))
 
   pub outputs_few : total_weight p < 2 ^ 62 → length (adders_as profile p).outputs ≤ 62
   outputs_few h =
       adders_cases profile p (λ a. length a.outputs ≤ 62)
-      (subst (λ k. k ≤ 62) (sym (columns_outputs (column_of es) (binary_length (total_weight p)) 0 n [])) (binary_length_few (total_weight p) h))
+      (subst (λ k. k ≤ 62)
+          (sym (columns_outputs (column_of es) (binary_length (total_weight p)) 0 n []))
+          (binary_length_few (total_weight p) h))
       (along_tree_outputs es n (omega (arith, weights)))
 
   pub cells_few : length (adders_as profile p).cells ≤ 63 * length p.soft
   cells_few =
       let many = relaxed_length profile (p.variables + 1) p.soft in
       adders_cases profile p (λ a. length a.cells ≤ 63 * length p.soft)
-      (of (binary_length (total_weight p)) (length (along_columns es (total_weight p) n).cells) (length es) (binary_length_le (total_weight p))
-      (columns_cells (column_of es) (length es) (length es) (column_le es) (omega arith) (binary_length (total_weight p)) 0 n [] (omega arith)) many)
+      (of (binary_length (total_weight p)) (length (along_columns es (total_weight p) n).cells)
+          (length es) (binary_length_le (total_weight p))
+      (columns_cells (column_of es) (length es) (length es) (column_le es) (omega arith)
+          (binary_length (total_weight p)) 0 n [] (omega arith)) many)
       (omega (arith, along_tree_cells es n, many))
     where
       of : (b c k : ℕ) → b ≤ 63 → c ≤ b * k → k ≡ length p.soft → c ≤ 63 * length p.soft
       of b c k h l e = omega (arith, mul-le-mul_right k h)
 
   -- Q holds of the variables that the cells and the outputs name
-  pub adders_with : (Q : ℕ → Type 0) → AllByRecursion (λ e. Q (e.literal).variable) es → ((v : ℕ) → n ≤ v → v < n + 2 * length (adders_as profile p).cells → Q v)
-      → AllByRecursion (IsCellWith Q) (adders_as profile p).cells × AllByRecursion (IsOutputOf Q) (adders_as profile p).outputs
+  pub adders_with : (Q : ℕ → Type 0) → AllByRecursion (λ e. Q (e.literal).variable) es
+    → ((v : ℕ) → n ≤ v → v < n + 2 * length (adders_as profile p).cells → Q v)
+      → AllByRecursion (IsCellWith Q) (adders_as profile p).cells
+          × AllByRecursion (IsOutputOf Q) (adders_as profile p).outputs
   adders_with Q h =
-      adders_cases profile p (λ a. ((v : ℕ) → n ≤ v → v < n + 2 * length a.cells → Q v) → AllByRecursion (IsCellWith Q) a.cells × AllByRecursion (IsOutputOf Q) a.outputs)
-      (columns_with Q (column_of es) (binary_length (total_weight p)) 0 n [] (λ j. column_of_with Q es j h) tt) (along_tree_with Q es n h)
+      adders_cases profile p (λ a. ((v : ℕ) → n ≤ v → v < n + 2 * length a.cells → Q v)
+          → AllByRecursion (IsCellWith Q) a.cells × AllByRecursion (IsOutputOf Q) a.outputs)
+      (columns_with Q (column_of es) (binary_length (total_weight p)) 0 n []
+          (λ j. column_of_with Q es j h) tt) (along_tree_with Q es n h)
 
 -- the law of `network_as`
 pub adds_up : (profile : Profile) (p : Problem) → IsInstance p
     → AddsUp profile p (adders_as profile p)
 adds_up profile p h =
-    let soft : AreWithin p.variables p.soft = recursion_from_All _ p.soft (All-weaker (λ (s : SoftClause). IsClauseWithin p.variables s.clause) (λ s. greatest_variable s.clause ≤ p.variables) (λ s w. w.2) p.soft h.soft_clauses) in
+    let soft : AreWithin p.variables p.soft =
+      recursion_from_All _ p.soft
+        (All-weaker (λ (s : SoftClause). IsClauseWithin p.variables s.clause)
+        (λ s. greatest_variable s.clause ≤ p.variables) (λ s w. w.2) p.soft h.soft_clauses) in
     record {
       sum = λ t all. outputs_sum profile p t (omega (arith, h.weight_sum)) all;
       choice = λ t. cells_extend profile p t soft;
-      small = room p.variables (length (filter (λ e. e.is_fresh) (relaxed_as profile p))) (length (adders_as profile p).cells) (length p.soft) h.variables h.soft_count (fresh_few profile p) (cells_few profile p);
+      small =
+        room p.variables (length (filter (λ e. e.is_fresh) (relaxed_as profile p)))
+          (length (adders_as profile p).cells) (length p.soft) h.variables h.soft_count
+          (fresh_few profile p) (cells_few profile p);
     }
   where
-    room : (v f c n : ℕ) → v ≤ 2 ^ 22 → n ≤ 2 ^ 18 → f ≤ n → c ≤ 63 * n → (v + f + 2 * c < 2 ^ 26) × (c < 2 ^ 24)
+    room : (v f c n : ℕ) → v ≤ 2 ^ 22 → n ≤ 2 ^ 18 → f ≤ n → c ≤ 63 * n → (v + f + 2 * c < 2 ^ 26)
+        × (c < 2 ^ 24)
     room v f c n a b d e = (omega arith, omega arith)

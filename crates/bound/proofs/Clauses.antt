@@ -1,12 +1,14 @@
 -- Dropped repeats, clauses with an opposite pair and the order change no value.
-use Rattle.std.proofs.Common.{◌≡◌, Bool, true, false, not, ◌&&◌, ◌||◌, List, [], ◌∷◌, reverse, if◌then◌else◌, All, ◌↔◌, inl, inr, refl, sym, ◌∙◌, ap, subst}
+use Rattle.std.proofs.Common.{◌≡◌, Bool, true, false, not, ◌&&◌, ◌||◌, List, [], ◌∷◌, reverse}
+use Rattle.std.proofs.Common.{if◌then◌else◌, All, ◌↔◌, inl, inr, refl, sym, ◌∙◌, ap, subst}
 use Rattle.std.specs.List.{list_all}
 use Rattle.std.proofs.lemmas.Bool.{false≢true, or_cases}
 use Rattle.std.proofs.lemmas.Grind.{reverse_onto}
 use Rattle.std.proofs.lemmas.List.Folds.{list_all-append}
 use Rattle.std.proofs.lemmas.List.Sums.{AllPass-from_list_all, list_all-from_AllPass}
 use Rattle.wcnf.specs.Literal.{Assignment, Literal, negation, literal_value, literal_eq}
-use Rattle.wcnf.specs.Clause.{Satisfies, clause_value, contains_literal, without_literal, distinct, has_opposites}
+use Rattle.wcnf.specs.Clause.{Satisfies, clause_value, contains_literal, without_literal, distinct}
+use Rattle.wcnf.specs.Clause.{has_opposites}
 use Rattle.wcnf.specs.Problem.{Problem, IsFeasible}
 use Rattle.wcnf.proofs.Laws.{literal_eq-true}
 use Rattle.bound.specs.Bound.{kept, hard_cnf}
@@ -38,8 +40,10 @@ pub value_member : (t : Assignment) (l : Literal) (c : List Literal) → contain
 value_member t l [] h e = absurd (false≢true h)
 value_member t l (k ∷ c) h e =
     elim (or_cases (literal_eq l k) (contains_literal l c) h) [
-      | inl same ↦ ap (λ b. b || clause_value t c) (subst (λ m. literal_value t m ≡ true) (literal_eq-true l k same) e)
-      | inr more ↦ ap (λ b. literal_value t k || b) (value_member t l c more e) ∙ or_true (literal_value t k)
+      | inl same ↦ ap (λ b. b || clause_value t c)
+        (subst (λ m. literal_value t m ≡ true) (literal_eq-true l k same) e)
+      | inr more ↦ ap (λ b. literal_value t k || b) (value_member t l c more e)
+        ∙ or_true (literal_value t k)
     ]
   where
     or_true : (b : Bool) → (b || true) ≡ true
@@ -51,8 +55,12 @@ value-without : (t : Assignment) (l : Literal) (c : List Literal) → literal_va
     → clause_value t (without_literal l c) ≡ clause_value t c
 value-without t l [] e = refl
 value-without t l (k ∷ c) e =
-    elim (literal_eq l k) as (λ b. literal_eq l k ≡ b → clause_value t (if not b then k ∷ without_literal l c else without_literal l c) ≡ clause_value t (k ∷ c)) [
-      | true ↦ λ h. value-without t l c e ∙ ap (λ b. b || clause_value t c) (sym (subst (λ m. literal_value t m ≡ false) (literal_eq-true l k h) e))
+    elim (literal_eq l k) as (λ b. literal_eq l k ≡ b
+        → clause_value t (if not b then k ∷ without_literal l c else without_literal l c)
+        ≡ clause_value t (k ∷ c)) [
+      | true ↦ λ h. value-without t l c e
+        ∙ ap (λ b. b || clause_value t c)
+        (sym (subst (λ m. literal_value t m ≡ false) (literal_eq-true l k h) e))
       | false ↦ λ h. ap (λ b. literal_value t k || b) (value-without t l c e)
     ] refl
 
@@ -60,7 +68,8 @@ pub value-distinct : (t : Assignment) (c : List Literal)
     → clause_value t (distinct c) ≡ clause_value t c
 value-distinct t [] = refl
 value-distinct t (l ∷ c) =
-    elim (literal_value t l) as (λ b. literal_value t l ≡ b → (b || clause_value t (without_literal l (distinct c))) ≡ (b || clause_value t c)) [
+    elim (literal_value t l) as (λ b. literal_value t l ≡ b
+        → (b || clause_value t (without_literal l (distinct c))) ≡ (b || clause_value t c)) [
       | true ↦ λ e. refl
       | false ↦ λ e. value-without t l (distinct c) e ∙ value-distinct t c
     ] refl
@@ -82,8 +91,11 @@ pub all_true-kept : (t : Assignment) (cs : List (List Literal))
     → all_true t (kept cs) ≡ all_true t cs
 all_true-kept t [] = refl
 all_true-kept t (c ∷ cs) =
-    elim (has_opposites (distinct c)) as (λ b. has_opposites (distinct c) ≡ b → all_true t (if not b then distinct c ∷ kept cs else kept cs) ≡ all_true t (c ∷ cs)) [
-      | true ↦ λ h. all_true-kept t cs ∙ ap (λ b. b && all_true t cs) (sym (sym (value-distinct t c) ∙ value_opposites t (distinct c) h))
+    elim (has_opposites (distinct c)) as (λ b. has_opposites (distinct c) ≡ b
+        → all_true t (if not b then distinct c ∷ kept cs else kept cs) ≡ all_true t (c ∷ cs)) [
+      | true ↦ λ h. all_true-kept t cs
+        ∙ ap (λ b. b && all_true t cs)
+        (sym (sym (value-distinct t c) ∙ value_opposites t (distinct c) h))
       | false ↦ λ h. λ i. value-distinct t c i && all_true-kept t cs i
     ] refl
 
@@ -98,7 +110,8 @@ pub all_true-reverse : (t : Assignment) (cs : List (List Literal))
 all_true-reverse t [] = refl
 all_true-reverse t (c ∷ cs) =
     ap (all_true t) (reverse_onto cs c []) ∙ list_all-append (clause_value t) (reverse cs) (c ∷ [])
-    ∙ (λ i. all_true-reverse t cs i && and_comm (clause_value t c) true i) ∙ and_comm (all_true t cs) (clause_value t c)
+    ∙ (λ i. all_true-reverse t cs i && and_comm (clause_value t c) true i)
+    ∙ and_comm (all_true t cs) (clause_value t c)
 
 -- the law of `hard_formula`
 pub feasible : (p : Problem) (t : Assignment)

@@ -1,10 +1,13 @@
 -- The formulas have clauses with no repeat, no opposite pair and variables within their number.
-use Rattle.std.proofs.Common.{◌≡◌, ℕ, zero, suc, ◌+◌, ◌*◌, ◌/◌, ◌^◌, ◌<◌, ◌≤◌, true, false, not, List, [], ◌∷◌, ◌++◌, length, map, filter, reverse, Option, Some, None, ◌==◌, if◌then◌else◌, refl, All, subst, arith}
+use Rattle.std.proofs.Common.{◌≡◌, ℕ, zero, suc, ◌+◌, ◌*◌, ◌/◌, ◌^◌, ◌<◌, ◌≤◌, true, false, not}
+use Rattle.std.proofs.Common.{List, [], ◌∷◌, ◌++◌, length, map, filter, reverse, Option, Some, None}
+use Rattle.std.proofs.Common.{◌==◌, if◌then◌else◌, refl, All, subst, arith}
 use Rattle.std.specs.List.{AllByRecursion, flat_map}
 use Rattle.std.proofs.lemmas.Bool.{or_from, or_parts}
 use Rattle.std.proofs.lemmas.List.Elements.{recursion_from_All, All-from_recursion}
 use Rattle.wcnf.specs.Literal.{Literal, literal_eq}
-use Rattle.wcnf.specs.Clause.{contains_literal, without_literal, distinct, has_repeat, has_opposites, greatest_variable}
+use Rattle.wcnf.specs.Clause.{contains_literal, without_literal, distinct, has_repeat}
+use Rattle.wcnf.specs.Clause.{has_opposites, greatest_variable}
 use Rattle.wcnf.specs.Formula.{IsFormula, IsFormulaClause}
 use Rattle.wcnf.specs.Problem.{Problem, SoftClause}
 use Rattle.wcnf.specs.Instance.{IsInstance, IsClauseWithin}
@@ -14,7 +17,9 @@ use Rattle.adder.specs.Network.{Relaxed, bit, relaxed_as, relaxed_variables, add
 use Rattle.adder.proofs.Laws.{adders_with, adds_up}
 use Rattle.adder.proofs.Laws.{AreOf, IsOutputOf, IsCellWith, relaxed_with}
 use Rattle.bound.specs.Adding.{HasVariables}
-use Rattle.bound.specs.Bound.{no, kept, hard_cnf, cell_clauses, relaxed_clauses, above, rising_clauses, comparator_of, comparator_for, fixed_clauses, bound_as}
+use Rattle.bound.specs.Bound.{no, kept, hard_cnf, cell_clauses, relaxed_clauses, above}
+use Rattle.bound.specs.Bound.{rising_clauses, comparator_of, comparator_for, fixed_clauses}
+use Rattle.bound.specs.Bound.{bound_as}
 use Rattle.bound.proofs.Subsets.{all_append, all_reverse}
 use Rattle.bound.proofs.Covers.{rising_each}
 
@@ -23,17 +28,22 @@ absent-without : (l k : Literal) (c : List Literal) → contains_literal l c ≡
 absent-without l k [] h = refl
 absent-without l k (x ∷ c) h =
     let parts = or_parts (literal_eq l x) (contains_literal l c) h in
-    elim (literal_eq k x) as (λ b. contains_literal l (if not b then x ∷ without_literal k c else without_literal k c) ≡ false) [
+    elim (literal_eq k x) as (λ b. contains_literal l (if not b then x ∷ without_literal k c
+          else without_literal k c) ≡ false) [
       | true ↦ absent-without l k c parts.1
-      | false ↦ or_from (literal_eq l x) (contains_literal l (without_literal k c)) parts.0 (absent-without l k c parts.1)
+      | false ↦ or_from (literal_eq l x) (contains_literal l (without_literal k c)) parts.0
+        (absent-without l k c parts.1)
     ]
 
 absent_own : (l : Literal) (c : List Literal) → contains_literal l (without_literal l c) ≡ false
 absent_own l [] = refl
 absent_own l (x ∷ c) =
-    elim (literal_eq l x) as (λ b. literal_eq l x ≡ b → contains_literal l (if not b then x ∷ without_literal l c else without_literal l c) ≡ false) [
+    elim (literal_eq l x) as (λ b. literal_eq l x ≡ b
+        → contains_literal l (if not b then x ∷ without_literal l c else without_literal l c)
+        ≡ false) [
       | true ↦ λ e. absent_own l c
-      | false ↦ λ e. or_from (literal_eq l x) (contains_literal l (without_literal l c)) e (absent_own l c)
+      | false ↦ λ e. or_from (literal_eq l x) (contains_literal l (without_literal l c)) e
+        (absent_own l c)
     ] refl
 
 repeat-without : (k : Literal) (c : List Literal) → has_repeat c ≡ false
@@ -41,14 +51,20 @@ repeat-without : (k : Literal) (c : List Literal) → has_repeat c ≡ false
 repeat-without k [] h = refl
 repeat-without k (x ∷ c) h =
     let parts = or_parts (contains_literal x c) (has_repeat c) h in
-    elim (literal_eq k x) as (λ b. has_repeat (if not b then x ∷ without_literal k c else without_literal k c) ≡ false) [
+    elim (literal_eq k x) as (λ b. has_repeat (if not b then x ∷ without_literal k c
+          else without_literal k c) ≡ false) [
       | true ↦ repeat-without k c parts.1
-      | false ↦ or_from (contains_literal x (without_literal k c)) (has_repeat (without_literal k c)) (absent-without x k c parts.0) (repeat-without k c parts.1)
+      | false ↦ or_from (contains_literal x (without_literal k c))
+        (has_repeat (without_literal k c)) (absent-without x k c parts.0)
+        (repeat-without k c parts.1)
     ]
 
 pub repeat-distinct : (c : List Literal) → has_repeat (distinct c) ≡ false
 repeat-distinct [] = refl
-repeat-distinct (l ∷ c) = or_from (contains_literal l (without_literal l (distinct c))) (has_repeat (without_literal l (distinct c))) (absent_own l (distinct c)) (repeat-without l (distinct c) (repeat-distinct c))
+repeat-distinct (l ∷ c) =
+    or_from (contains_literal l (without_literal l (distinct c)))
+      (has_repeat (without_literal l (distinct c))) (absent_own l (distinct c))
+      (repeat-without l (distinct c) (repeat-distinct c))
 
 -- a variable from 1 to v
 abbrev pub IsVariable : ℕ → ℕ → Type 0
@@ -61,7 +77,8 @@ plain-without : (v : ℕ) (k : Literal) (c : List Literal) → IsPlain v c
     → IsPlain v (without_literal k c)
 plain-without v k [] h = tt
 plain-without v k (x ∷ c) h =
-    elim (literal_eq k x) as (λ b. IsPlain v (if not b then x ∷ without_literal k c else without_literal k c)) [
+    elim (literal_eq k x) as (λ b. IsPlain v (if not b then x ∷ without_literal k c
+          else without_literal k c)) [
       | true ↦ plain-without v k c h.1
       | false ↦ (h.0, plain-without v k c h.1)
     ]
@@ -88,14 +105,17 @@ pub kept_formula : (v : ℕ) (cs : List (List Literal)) → AllByRecursion (IsPl
     → AllByRecursion (IsFormulaClause v) (kept cs)
 kept_formula v [] h = tt
 kept_formula v (c ∷ cs) h =
-    elim (has_opposites (distinct c)) as (λ b. has_opposites (distinct c) ≡ b → AllByRecursion (IsFormulaClause v) (if not b then distinct c ∷ kept cs else kept cs)) [
+    elim (has_opposites (distinct c)) as (λ b. has_opposites (distinct c) ≡ b
+        → AllByRecursion (IsFormulaClause v) (if not b then distinct c ∷ kept cs else kept cs)) [
       | true ↦ λ e. kept_formula v cs h.1
       | false ↦ λ e.
           let plain = plain-distinct v c h.0 in (
             record {
               no_repeat = repeat-distinct c;
               no_opposites = e;
-              from_one = All-from_recursion (λ l. 0 < l.variable) (distinct c) (plain_positive v (distinct c) plain);
+              from_one =
+                All-from_recursion (λ l. 0 < l.variable) (distinct c)
+                  (plain_positive v (distinct c) plain);
               small = plain_greatest v (distinct c) plain;
             },
             kept_formula v cs h.1,
@@ -107,32 +127,53 @@ cell_plain : (v : ℕ) (cell : Cell) → IsCellWith (IsVariable v) cell
     → AllByRecursion (IsPlain v) (cell_clauses cell)
 cell_plain v cell h = by cell.third h.third
   where
-    by : (o : Option Literal) → IsOutputOf (IsVariable v) o → AllByRecursion (IsPlain v) (cell_clauses (record cell { third = o }))
+    by : (o : Option Literal) → IsOutputOf (IsVariable v) o
+      → AllByRecursion (IsPlain v) (cell_clauses (record cell { third = o }))
     by None q =
         let a = h.a in
         let b = h.b in
         let s = h.sum in
         let c = h.carry in
-        ((a, (b, (s, tt))), ((a, (b, (s, tt))), ((a, (b, (s, tt))), ((a, (b, (s, tt))), ((a, (c, tt)), ((b, (c, tt)), ((a, (b, (c, tt))), tt)))))))
+        ((a, (b, (s, tt))),
+            ((a, (b, (s, tt))),
+              ((a, (b, (s, tt))),
+                ((a, (b, (s, tt))), ((a, (c, tt)), ((b, (c, tt)), ((a, (b, (c, tt))), tt)))))))
     by (Some l) d =
         let a = h.a in
         let b = h.b in
         let s = h.sum in
         let c = h.carry in
-        ((a, (b, (d, (s, tt)))), ((a, (b, (d, (s, tt)))), ((a, (b, (d, (s, tt)))), ((a, (b, (d, (s, tt)))), ((a, (b, (d, (s, tt)))), ((a, (b, (d, (s, tt)))), ((a, (b, (d, (s, tt)))), ((a, (b, (d, (s, tt)))), ((a, (b, (c, tt))), ((a, (d, (c, tt))), ((b, (d, (c, tt))), ((a, (b, (c, tt))), ((a, (d, (c, tt))), ((b, (d, (c, tt))), tt))))))))))))))
+        ((a, (b, (d, (s, tt)))),
+            ((a, (b, (d, (s, tt)))),
+              ((a, (b, (d, (s, tt)))),
+                ((a, (b, (d, (s, tt)))),
+                  ((a, (b, (d, (s, tt)))),
+                    ((a, (b, (d, (s, tt)))),
+                    ((a, (b, (d, (s, tt)))),
+                    ((a, (b, (d, (s, tt)))),
+                    ((a, (b, (c, tt))),
+                    ((a, (d, (c, tt))),
+                    ((b, (d, (c, tt))),
+                    ((a, (b, (c, tt))), ((a, (d, (c, tt))), ((b, (d, (c, tt))), tt))))))))))))))
 
 cells_plain : (v : ℕ) (cells : List Cell) → AllByRecursion (IsCellWith (IsVariable v)) cells
     → AllByRecursion (IsPlain v) (flat_map cell_clauses cells)
 cells_plain v [] h = tt
-cells_plain v (cell ∷ cells) h = all_append (IsPlain v) (cell_clauses cell) (flat_map cell_clauses cells) (cell_plain v cell h.0) (cells_plain v cells h.1)
+cells_plain v (cell ∷ cells) h =
+    all_append (IsPlain v) (cell_clauses cell) (flat_map cell_clauses cells) (cell_plain v cell h.0)
+      (cells_plain v cells h.1)
 
 relaxed_plain : (v : ℕ) (es : List Relaxed)
     → AllByRecursion (λ e. IsPlain v (e.soft).clause × IsVariable v (e.literal).variable) es
-    → AllByRecursion (IsPlain v) (map (λ e. (e.soft).clause ++ e.literal ∷ []) (filter (λ e. e.is_fresh) es))
+    → AllByRecursion (IsPlain v)
+      (map (λ e. (e.soft).clause ++ e.literal ∷ []) (filter (λ e. e.is_fresh) es))
 relaxed_plain v [] h = tt
 relaxed_plain v (e ∷ es) h =
-    elim e.is_fresh as (λ b. AllByRecursion (IsPlain v) (map (λ e. (e.soft).clause ++ e.literal ∷ []) (if b then e ∷ filter (λ e. e.is_fresh) es else filter (λ e. e.is_fresh) es))) [
-      | true ↦ (all_append (λ l. IsVariable v l.variable) (e.soft).clause (e.literal ∷ []) h.0.0 (h.0.1, tt), relaxed_plain v es h.1)
+    elim e.is_fresh as (λ b. AllByRecursion (IsPlain v)
+        (map (λ e. (e.soft).clause ++ e.literal ∷ []) (if b then e ∷ filter (λ e. e.is_fresh) es
+            else filter (λ e. e.is_fresh) es))) [
+      | true ↦ (all_append (λ l. IsVariable v l.variable) (e.soft).clause (e.literal ∷ []) h.0.0
+          (h.0.1, tt), relaxed_plain v es h.1)
       | false ↦ relaxed_plain v es h.1
     ]
 
@@ -156,12 +197,15 @@ above_plain v (o ∷ outputs) limit j c h e =
       | true ↦ λ f. led o h.0 f e (λ c. above_plain v outputs limit (j + 1) c h.1)
     ] refl
   where
-    led : (o : Option Literal) → IsOutputOf (IsVariable v) o → bit limit j ≡ true → above (o ∷ outputs) limit j ≡ Some c → ((c : List Literal) → above outputs limit (j + 1) ≡ Some c → IsPlain v c) → IsPlain v c
+    led : (o : Option Literal) → IsOutputOf (IsVariable v) o → bit limit j ≡ true
+      → above (o ∷ outputs) limit j ≡ Some c
+      → ((c : List Literal) → above outputs limit (j + 1) ≡ Some c → IsPlain v c) → IsPlain v c
     led None q f e rest = absurd (no_clause c (rw f at e))
     led (Some l) q f e rest =
         elim (above outputs limit (j + 1)) as (λ x. above outputs limit (j + 1) ≡ x → IsPlain v c) [
           | None ↦ λ g. absurd (no_clause c (rw (f, g) at e))
-          | Some d ↦ λ g. subst (IsPlain v) (same_clause (no l ∷ d) c (rw (f, g) at e)) (q, rest d g)
+          | Some d ↦ λ g. subst (IsPlain v) (same_clause (no l ∷ d) c (rw (f, g) at e))
+            (q, rest d g)
         ] refl
 
 rising_plain : (v : ℕ) (outputs : List (Option Literal)) (limit j : ℕ)
@@ -169,14 +213,20 @@ rising_plain : (v : ℕ) (outputs : List (Option Literal)) (limit j : ℕ)
     → AllByRecursion (IsPlain v) (rising_clauses outputs limit j)
 rising_plain v [] limit j h = tt
 rising_plain v (o ∷ outputs) limit j h =
-    rising_each (IsPlain v) o outputs limit j (λ e l c same f. (subst (IsOutputOf (IsVariable v)) same h.0, above_plain v outputs limit (j + 1) c h.1 f)) (rising_plain v outputs limit (j + 1) h.1)
+    rising_each (IsPlain v) o outputs limit j
+      (λ e l c same f. (subst (IsOutputOf (IsVariable v)) same h.0,
+          above_plain v outputs limit (j + 1) c h.1 f)) (rising_plain v outputs limit (j + 1) h.1)
 
 -- the comparator's clauses, where the outputs are such variables
 pub comparator_formula : (v : ℕ) (outputs : List (Option Literal)) (k : ℕ)
     → AllByRecursion (IsOutputOf (IsVariable v)) outputs
     → AllByRecursion (IsFormulaClause v) (comparator_of outputs k)
-comparator_formula v outputs zero h = (record { no_repeat = refl; no_opposites = refl; from_one = λ i d l. absurd (omega arith); small = omega arith }, tt)
-comparator_formula v outputs (suc limit) h = kept_formula v (reverse (rising_clauses outputs limit 0)) (all_reverse (IsPlain v) (rising_clauses outputs limit 0) (rising_plain v outputs limit 0 h))
+comparator_formula v outputs zero h =
+    (record { no_repeat = refl; no_opposites = refl; from_one = λ i d l. absurd (omega arith);
+        small = omega arith }, tt)
+comparator_formula v outputs (suc limit) h =
+    kept_formula v (reverse (rising_clauses outputs limit 0))
+      (all_reverse (IsPlain v) (rising_clauses outputs limit 0) (rising_plain v outputs limit 0 h))
 
 abbrev IsOnce : List Literal → Type 0
 IsOnce c = has_repeat c ≡ false
@@ -184,7 +234,8 @@ IsOnce c = has_repeat c ≡ false
 once_kept : (cs : List (List Literal)) → AllByRecursion IsOnce (kept cs)
 once_kept [] = tt
 once_kept (c ∷ cs) =
-    elim (has_opposites (distinct c)) as (λ b. AllByRecursion IsOnce (if not b then distinct c ∷ kept cs else kept cs)) [
+    elim (has_opposites (distinct c))
+      as (λ b. AllByRecursion IsOnce (if not b then distinct c ∷ kept cs else kept cs)) [
       | true ↦ once_kept cs
       | false ↦ (repeat-distinct c, once_kept cs)
     ]
@@ -222,7 +273,8 @@ pub hard_is_formula : (p : Problem) → IsInstance p → IsFormula (hard_cnf p)
 hard_is_formula p h = record {
   few = omega (arith, h.variables);
   clauses = All-from_recursion (IsFormulaClause p.variables) (kept p.hard)
-      (kept_formula p.variables p.hard (plain_each p.variables p.variables p.hard (omega arith) (recursion_from_All (IsClauseWithin p.variables) p.hard h.hard_clauses)));
+      (kept_formula p.variables p.hard (plain_each p.variables p.variables p.hard (omega arith)
+            (recursion_from_All (IsClauseWithin p.variables) p.hard h.hard_clauses)));
 }
 
 -- what `Formula::new` asks of the formula
@@ -234,16 +286,34 @@ bound_is_formula profile p k h =
     let adders = adders_as profile p in
     let v = m + 2 * length adders.cells in
     let es = relaxed_as profile p in
-    let soft = plain_soft n v p.soft (omega arith) (recursion_from_All (λ s. IsClauseWithin n s.clause) p.soft h.soft_clauses) in
-    let relaxed = relaxed_with (IsVariable v) profile (n + 1) p.soft soft (λ x l u. (omega arith, omega arith)) in
-    let network = adders_with profile p (IsVariable v) (literals_of v es relaxed) (λ x l u. (omega arith, omega arith)) in
+    let soft =
+      plain_soft n v p.soft (omega arith)
+        (recursion_from_All (λ s. IsClauseWithin n s.clause) p.soft h.soft_clauses) in
+    let relaxed =
+      relaxed_with (IsVariable v) profile (n + 1) p.soft soft (λ x l u. (omega arith, omega arith))
+        in
+    let network =
+      adders_with profile p (IsVariable v) (literals_of v es relaxed)
+        (λ x l u. (omega arith, omega arith)) in
     let P = IsFormulaClause v in
-    let hard = kept_formula v p.hard (plain_each n v p.hard (omega arith) (recursion_from_All (IsClauseWithin n) p.hard h.hard_clauses)) in
-    let first = all_append P (kept p.hard) (kept (relaxed_clauses profile p)) hard (kept_formula v (relaxed_clauses profile p) (relaxed_plain v es relaxed)) in
-    let fixed = all_append P (kept p.hard ++ kept (relaxed_clauses profile p)) (kept (flat_map cell_clauses adders.cells)) first (kept_formula v (flat_map cell_clauses adders.cells) (cells_plain v adders.cells network.0)) in
+    let hard =
+      kept_formula v p.hard
+        (plain_each n v p.hard (omega arith)
+        (recursion_from_All (IsClauseWithin n) p.hard h.hard_clauses)) in
+    let first =
+      all_append P (kept p.hard) (kept (relaxed_clauses profile p)) hard
+        (kept_formula v (relaxed_clauses profile p) (relaxed_plain v es relaxed)) in
+    let fixed =
+      all_append P (kept p.hard ++ kept (relaxed_clauses profile p))
+        (kept (flat_map cell_clauses adders.cells)) first
+        (kept_formula v (flat_map cell_clauses adders.cells) (cells_plain v adders.cells network.0))
+        in
     record {
       few = (adds_up profile p h).small.0;
-      clauses = All-from_recursion P (bound_as profile p k).clauses (all_append P (fixed_clauses profile p) (comparator_for profile p k) fixed (comparator_formula v adders.outputs k network.1));
+      clauses =
+        All-from_recursion P (bound_as profile p k).clauses
+          (all_append P (fixed_clauses profile p) (comparator_for profile p k) fixed
+          (comparator_formula v adders.outputs k network.1));
     }
 
 -- the sums and the carries of the cells are variables
@@ -254,24 +324,42 @@ cells_variables profile p h =
     let m = relaxed_variables profile p in
     let v = m + 2 * length (adders_as profile p).cells in
     let es = relaxed_as profile p in
-    let soft = plain_soft n v p.soft (omega arith) (recursion_from_All (λ s. IsClauseWithin n s.clause) p.soft h.soft_clauses) in
-    let relaxed = relaxed_with (IsVariable v) profile (n + 1) p.soft soft (λ x l u. (omega arith, omega arith)) in
-    let network = adders_with profile p (IsVariable v) (literals_of v es relaxed) (λ x l u. (omega arith, omega arith)) in
-    All-from_recursion HasVariables (adders_as profile p).cells (each v (adders_as profile p).cells (omega (arith, (adds_up profile p h).small.0)) network.0)
+    let soft =
+      plain_soft n v p.soft (omega arith)
+        (recursion_from_All (λ s. IsClauseWithin n s.clause) p.soft h.soft_clauses) in
+    let relaxed =
+      relaxed_with (IsVariable v) profile (n + 1) p.soft soft (λ x l u. (omega arith, omega arith))
+        in
+    let network =
+      adders_with profile p (IsVariable v) (literals_of v es relaxed)
+        (λ x l u. (omega arith, omega arith)) in
+    All-from_recursion HasVariables (adders_as profile p).cells
+      (each v (adders_as profile p).cells (omega (arith, (adds_up profile p h).small.0)) network.0)
   where
-    each : (v : ℕ) (cells : List Cell) → v < 2 ^ 26 → AllByRecursion (IsCellWith (IsVariable v)) cells → AllByRecursion HasVariables cells
+    each : (v : ℕ) (cells : List Cell) → v < 2 ^ 26
+      → AllByRecursion (IsCellWith (IsVariable v)) cells → AllByRecursion HasVariables cells
     each v [] small a = tt
-    each v (cell ∷ cells) small a = ((a.0.sum.0, omega (arith, a.0.sum.1), a.0.carry.0, omega (arith, a.0.carry.1)), each v cells small a.1)
+    each v (cell ∷ cells) small a =
+      ((a.0.sum.0, omega (arith, a.0.sum.1), a.0.carry.0, omega (arith, a.0.carry.1)),
+        each v cells small a.1)
 
 -- the outputs have such variables
 pub outputs_variables : (profile : Profile) (p : Problem) → IsInstance p
-    → AllByRecursion (IsOutputOf (IsVariable (relaxed_variables profile p + 2 * length (adders_as profile p).cells))) (adders_as profile p).outputs
+    → AllByRecursion (IsOutputOf
+        (IsVariable (relaxed_variables profile p + 2 * length (adders_as profile p).cells)))
+      (adders_as profile p).outputs
 outputs_variables profile p h =
     let n = p.variables in
     let m = relaxed_variables profile p in
     let v = m + 2 * length (adders_as profile p).cells in
     let es = relaxed_as profile p in
-    let soft = plain_soft n v p.soft (omega arith) (recursion_from_All (λ s. IsClauseWithin n s.clause) p.soft h.soft_clauses) in
-    let relaxed = relaxed_with (IsVariable v) profile (n + 1) p.soft soft (λ x l u. (omega arith, omega arith)) in
-    let network = adders_with profile p (IsVariable v) (literals_of v es relaxed) (λ x l u. (omega arith, omega arith)) in
+    let soft =
+      plain_soft n v p.soft (omega arith)
+        (recursion_from_All (λ s. IsClauseWithin n s.clause) p.soft h.soft_clauses) in
+    let relaxed =
+      relaxed_with (IsVariable v) profile (n + 1) p.soft soft (λ x l u. (omega arith, omega arith))
+        in
+    let network =
+      adders_with profile p (IsVariable v) (literals_of v es relaxed)
+        (λ x l u. (omega arith, omega arith)) in
     network.1

@@ -1,5 +1,6 @@
 -- Opposite pairs, as the literals are walked and marked.
-use Rattle.std.proofs.Common.{◌≡◌, ℕ, ◌+◌, ◌<◌, Bool, true, false, not, ◌&&◌, ◌==◌, ◌||◌, List, [], ◌∷◌, ◌++◌, length, take, get_or, set, refl, sym, ◌∙◌, ap, subst}
+use Rattle.std.proofs.Common.{◌≡◌, ℕ, ◌+◌, ◌<◌, Bool, true, false, not, ◌&&◌, ◌==◌, ◌||◌, List, []}
+use Rattle.std.proofs.Common.{◌∷◌, ◌++◌, length, take, get_or, set, refl, sym, ◌∙◌, ap, subst}
 use Rattle.std.proofs.lemmas.Bool.{false≢true, eqb-true, eq-eqb, ne_eqb}
 use Rattle.std.proofs.lemmas.List.{take_more}
 use Rattle.std.proofs.lemmas.List.Folds.{list_any-append}
@@ -31,8 +32,10 @@ pub opposites-more : (c : List Literal) (l : Literal)
 opposites-more [] l = refl
 opposites-more (k ∷ c) l =
     (λ i. list_any-append (literal_eq (negation k)) c (l ∷ []) i || opposites-more c l i)
-    ∙ ap (λ b. (contains_literal (negation k) c || (b || false)) || (has_opposites c || contains_literal (negation l) c)) (opposite_eq k l)
-    ∙ by (contains_literal (negation k) c) (literal_eq (negation l) k) (has_opposites c) (contains_literal (negation l) c)
+    ∙ ap (λ b. (contains_literal (negation k) c || (b || false)) ||
+        (has_opposites c || contains_literal (negation l) c)) (opposite_eq k l)
+    ∙ by (contains_literal (negation k) c) (literal_eq (negation l) k) (has_opposites c)
+      (contains_literal (negation l) c)
   where
     by : (a b c d : Bool) → ((a || (b || false)) || (c || d)) ≡ ((a || c) || (b || d))
     by true b c d = refl
@@ -47,7 +50,11 @@ pub mark_step : (marks : List Bool) (found : Bool) (lits : List Literal) (i : �
     → IsMarked (set marks (index_of l) true) (take (i + 1) lits)
     × ((found || mark_of marks (negation l)) ≡ has_opposites (take (i + 1) lits))
 mark_step marks found lits i l h is p inv =
-    let more : take (i + 1) lits ≡ take i lits ++ l ∷ [] = take_more lits i l h ∙ ap (λ x. take i lits ++ x ∷ []) (sym is) in (
-      subst (IsMarked (set marks (index_of l) true)) (sym more) (marked_one marks (take i lits) l p inv.0),
-      (λ j. inv.1 j || mark_of marks (negation l)) ∙ ap (λ b. has_opposites (take i lits) || b) (inv.0.marked (negation l) p.0) ∙ sym (opposites-more (take i lits) l) ∙ ap has_opposites (sym more),
+    let more : take (i + 1) lits ≡ take i lits ++ l ∷ [] =
+      take_more lits i l h ∙ ap (λ x. take i lits ++ x ∷ []) (sym is) in (
+      subst (IsMarked (set marks (index_of l) true)) (sym more)
+        (marked_one marks (take i lits) l p inv.0),
+      (λ j. inv.1 j || mark_of marks (negation l))
+        ∙ ap (λ b. has_opposites (take i lits) || b) (inv.0.marked (negation l) p.0)
+        ∙ sym (opposites-more (take i lits) l) ∙ ap has_opposites (sym more),
     )

@@ -1,5 +1,7 @@
 -- Texts that are put piece by piece, as far as they have come.
-use Rattle.std.proofs.Common.{◌≡◌, ℕ, ◌+◌, ◌*◌, ◌^◌, ◌<◌, ◌≤◌, List, [], ◌∷◌, ◌++◌, length, drop, get_or, Option, true, false, refl, sym, ◌∙◌, ap, subst, append_assoc, append-nil, arith}
+use Rattle.std.proofs.Common.{◌≡◌, ℕ, ◌+◌, ◌*◌, ◌^◌, ◌<◌, ◌≤◌, List, [], ◌∷◌, ◌++◌, length, drop}
+use Rattle.std.proofs.Common.{get_or, Option, true, false, refl, sym, ◌∙◌, ap, subst, append_assoc}
+use Rattle.std.proofs.Common.{append-nil, arith}
 use Rattle.std.specs.List.{flat_map}
 use Rattle.std.specs.Io.KnownBytes.{Appends}
 use Rattle.std.proofs.KnownBytes.{Appends-nil}
@@ -15,13 +17,15 @@ use Rattle.wcnf.specs.Instance.{IsInstance}
 use Rattle.adder.specs.declared.cells.Cell.{Cell}
 use Rattle.adder.specs.declared.cells.Profile.{Profile}
 use Rattle.adder.specs.Network.{Adders, adders_as}
-use Rattle.bound.specs.Bound.{kept, bound_as, cell_clauses, comparator_for, dimacs_clause, dimacs_text, header_line, relaxed_clauses}
+use Rattle.bound.specs.Bound.{kept, bound_as, cell_clauses, comparator_for, dimacs_clause}
+use Rattle.bound.specs.Bound.{dimacs_text, header_line, relaxed_clauses}
 use Rattle.bound.specs.Adding.{Adds}
 use Rattle.bound.proofs.Few.{kept_le, cells_le, clauses_few}
 use Rattle.bound.proofs.Kept.{kept-append, kept_one}
 
 -- of the whole text all but what is left was put
-pub record IsPutUpTo (old : Option (List ℕ)) (held whole left : List ℕ) (new : Option (List ℕ)) (holds : List ℕ) : Type 0 where
+pub record IsPutUpTo (old : Option (List ℕ)) (held whole left : List ℕ) (new : Option (List ℕ))
+    (holds : List ℕ) : Type 0 where
   pub text : List ℕ
   pub passed : PassesOn old held text new holds
   pub split : whole ≡ text ++ left
@@ -33,15 +37,19 @@ module _ (a b : Option (List ℕ)) (h whole j : List ℕ) where
   pub all_put : IsPutUpTo a h whole [] b j → PassesOn a h whole b j
   all_put p = subst (λ z. PassesOn a h z b j) (sym (append-nil p.text) ∙ sym p.split) p.passed
 
-  pub same_left : (left other : List ℕ) → left ≡ other → IsPutUpTo a h whole left b j → IsPutUpTo a h whole other b j
+  pub same_left : (left other : List ℕ) → left ≡ other → IsPutUpTo a h whole left b j
+    → IsPutUpTo a h whole other b j
   same_left left other e p = subst (λ z. IsPutUpTo a h whole z b j) e p
 
   -- what was put is a beginning
   pub part_put : (left : List ℕ) → IsPutUpTo a h whole left b j → AppendsPart a b (h ++ whole)
   part_put left p =
-      (p.passed.written, (j ++ left, ap (λ z. h ++ z) p.split ∙ sym (append_assoc h p.text left) ∙ ap (λ z. z ++ left) p.passed.split ∙ append_assoc p.passed.written j left), p.passed.appended)
+      (p.passed.written, (j ++ left, ap (λ z. h ++ z) p.split ∙ sym (append_assoc h p.text left)
+            ∙ ap (λ z. z ++ left) p.passed.split ∙ append_assoc p.passed.written j left),
+          p.passed.appended)
 
-  module _ (c : Option (List ℕ)) (piece left : List ℕ) (p : IsPutUpTo a h whole (piece ++ left) b j) where
+  module _ (c : Option (List ℕ)) (piece left : List ℕ) (p : IsPutUpTo a h whole (piece ++ left) b j)
+    where
     -- one more piece
     pub put_more : (k : List ℕ) → PassesOn b j piece c k → IsPutUpTo a h whole left c k
     put_more k q = record {
@@ -67,7 +75,8 @@ kept_first c cs h e = kept-append (c ∷ []) cs ∙ ap (λ x. x ++ kept cs) (kep
 
 pub kept_not_first : (c : List Literal) (cs : List (List Literal)) → has_repeat c ≡ false
     → has_opposites c ≡ true → kept (c ∷ cs) ≡ kept cs
-kept_not_first c cs h e = kept-append (c ∷ []) cs ∙ ap (λ x. x ++ kept cs) (kept_one c true h (sym e))
+kept_not_first c cs h e =
+    kept-append (c ∷ []) cs ∙ ap (λ x. x ++ kept cs) (kept_one c true h (sym e))
 
 -- the clauses of the cells from one on
 abbrev pub cells_kept : List Cell → List (List Literal)
@@ -77,10 +86,12 @@ pub cells_from : (cells : List Cell) (i : ℕ) (cell : Cell) → i < length cell
     → cell ≡ get_or cells i cell
     → cells_kept (drop i cells) ≡ kept (cell_clauses cell) ++ cells_kept (drop (i + 1) cells)
 cells_from cells i cell lt is =
-    ap cells_kept (drop_more cells i cell lt ∙ ap (λ z. z ∷ drop (i + 1) cells) (sym is)) ∙ kept-append (cell_clauses cell) (flat_map cell_clauses (drop (i + 1) cells))
+    ap cells_kept (drop_more cells i cell lt ∙ ap (λ z. z ∷ drop (i + 1) cells) (sym is))
+      ∙ kept-append (cell_clauses cell) (flat_map cell_clauses (drop (i + 1) cells))
 
 -- the text of a formula in the order in which its parts are put
-module _ (f : Cnf) (v n : ℕ) (h r x m : List (List Literal)) (ev : v ≡ f.variables) (en : n ≡ length f.clauses) (ec : f.clauses ≡ h ++ r ++ x ++ m) where
+module _ (f : Cnf) (v n : ℕ) (h r x m : List (List Literal)) (ev : v ≡ f.variables)
+    (en : n ≡ length f.clauses) (ec : f.clauses ≡ h ++ r ++ x ++ m) where
   abbrev pub parts_text : List ℕ
   parts_text = header_line v n ++ (lines_of h ++ (lines_of r ++ (lines_of x ++ (lines_of m ++ []))))
 
@@ -88,12 +99,16 @@ module _ (f : Cnf) (v n : ℕ) (h r x m : List (List Literal)) (ev : v ≡ f.var
   text_parts =
       (λ i. header_line (sym ev i) (sym en i) ++ lines_of (ec i))
       ∙ ap (λ z. header_line v n ++ z)
-      (lines-append (h ++ r ++ x) m ∙ ap (λ z. z ++ lines_of m) (lines-append (h ++ r) x ∙ ap (λ z. z ++ lines_of x) (lines-append h r))
-      ∙ append_assoc (lines_of h ++ lines_of r) (lines_of x) (lines_of m) ∙ append_assoc (lines_of h) (lines_of r) (lines_of x ++ lines_of m)
+      (lines-append (h ++ r ++ x) m ∙ ap (λ z. z ++ lines_of m) (lines-append (h ++ r) x
+            ∙ ap (λ z. z ++ lines_of x) (lines-append h r))
+      ∙ append_assoc (lines_of h ++ lines_of r) (lines_of x) (lines_of m)
+      ∙ append_assoc (lines_of h) (lines_of r) (lines_of x ++ lines_of m)
       ∙ ap (λ z. lines_of h ++ (lines_of r ++ (lines_of x ++ z))) (sym (append-nil (lines_of m))))
 
-  pub parts_left : (a : Option (List ℕ)) (held : List ℕ) → IsPutUpTo a held (dimacs_text f) parts_text a held
-  parts_left a held = same_left a a held (dimacs_text f) held (dimacs_text f) parts_text text_parts (none_put a held (dimacs_text f))
+  pub parts_left : (a : Option (List ℕ)) (held : List ℕ)
+    → IsPutUpTo a held (dimacs_text f) parts_text a held
+  parts_left a held = same_left a a held (dimacs_text f) held (dimacs_text f) parts_text text_parts
+    (none_put a held (dimacs_text f))
 
 -- the text of a formula that is there
 pub dimacs_left : (f : Cnf) (v n : ℕ) (cs : List (List Literal)) → v ≡ f.variables
@@ -101,8 +116,10 @@ pub dimacs_left : (f : Cnf) (v n : ℕ) (cs : List (List Literal)) → v ≡ f.v
     → IsPutUpTo a held (dimacs_text f) (header_line v n ++ (lines_of cs ++ [])) a held
 dimacs_left f v n cs ev en ec a held =
     let e : dimacs_text f ≡ header_line v n ++ (lines_of cs ++ []) =
-    (λ i. header_line (sym ev i) (sym en i) ++ lines_of (sym ec i)) ∙ ap (λ z. header_line v n ++ z) (sym (append-nil (lines_of cs))) in
-    same_left a a held (dimacs_text f) held (dimacs_text f) (header_line v n ++ (lines_of cs ++ [])) e (none_put a held (dimacs_text f))
+    (λ i. header_line (sym ev i) (sym en i) ++ lines_of (sym ec i))
+      ∙ ap (λ z. header_line v n ++ z) (sym (append-nil (lines_of cs))) in
+    same_left a a held (dimacs_text f) held (dimacs_text f) (header_line v n ++ (lines_of cs ++ []))
+      e (none_put a held (dimacs_text f))
 
 -- where the block was empty
 pub part_from_empty : (a b : Option (List ℕ)) (held text : List ℕ) → held ≡ []
@@ -111,11 +128,13 @@ part_from_empty a b held text e p = subst (λ z. AppendsPart a b (z ++ text)) e 
 
 pub whole_from_empty : (a b c : Option (List ℕ)) (held j text : List ℕ) → held ≡ []
     → PassesOn a held text b j → Appends b c j → Appends a c text
-whole_from_empty a b c held j text e p q = subst (λ z. Appends a c (z ++ text)) e (passed_whole a b c held j text p q)
+whole_from_empty a b c held j text e p q =
+    subst (λ z. Appends a c (z ++ text)) e (passed_whole a b c held j text p q)
 
 pub flush_from_empty : (a b c : Option (List ℕ)) (held j text : List ℕ) → held ≡ []
     → PassesOn a held text b j → AppendsPart b c j → AppendsPart a c text
-flush_from_empty a b c held j text e p q = subst (λ z. AppendsPart a c (z ++ text)) e (passed_part a b c held j text p q)
+flush_from_empty a b c held j text e p q =
+    subst (λ z. AppendsPart a c (z ++ text)) e (passed_part a b c held j text p q)
 
 pub nothing_put : (a : Option (List ℕ)) (text : List ℕ) → AppendsPart a a text
 nothing_put a text = ([], (text, refl), Appends-nil a)
@@ -123,54 +142,78 @@ nothing_put a text = ([], (text, refl), Appends-nil a)
 -- how many clauses there are of each kind
 pub counted : (h r x m : List (List Literal)) (i j k l : ℕ) → i ≡ length h → j ≡ length r
     → k ≡ length x → l ≡ length m → i + j + k + l ≡ length (h ++ r ++ x ++ m)
-counted h r x m i j k l a b c d = omega (arith, a, b, c, d, length-append (h ++ r ++ x) m, length-append (h ++ r) x, length-append h r)
+counted h r x m i j k l a b c d =
+    omega (arith, a, b, c, d, length-append (h ++ r ++ x) m, length-append (h ++ r) x,
+      length-append h r)
 
 pub cells_counted : (cells : List Cell) → length (cells_kept cells) ≤ 14 * length cells
 cells_counted cells = omega (arith, kept_le (flat_map cell_clauses cells), cells_le cells)
 
 -- one cell more, whose clauses were added to none
-module _ (cells : List Cell) (i : ℕ) (cell : Cell) (lt : i < length cells) (is : cell ≡ get_or cells i cell) (none now : List (List Literal)) (empty : none ≡ []) (adds : Adds none now (cell_clauses cell)) where
+module _ (cells : List Cell) (i : ℕ) (cell : Cell) (lt : i < length cells)
+    (is : cell ≡ get_or cells i cell) (none now : List (List Literal)) (empty : none ≡ [])
+    (adds : Adds none now (cell_clauses cell)) where
   of_cell : now ≡ kept (cell_clauses cell)
   of_cell = adds.items ∙ ap (λ x. x ++ kept (cell_clauses cell)) empty
 
-  cell_next : lines_of (cells_kept (drop i cells)) ≡ lines_of now ++ lines_of (cells_kept (drop (i + 1) cells))
+  cell_next : lines_of (cells_kept (drop i cells)) ≡ lines_of now ++ lines_of
+    (cells_kept (drop (i + 1) cells))
   cell_next =
-      ap lines_of (cells_from cells i cell lt is) ∙ lines-append (kept (cell_clauses cell)) (cells_kept (drop (i + 1) cells))
+      ap lines_of (cells_from cells i cell lt is)
+        ∙ lines-append (kept (cell_clauses cell)) (cells_kept (drop (i + 1) cells))
       ∙ ap (λ z. lines_of z ++ lines_of (cells_kept (drop (i + 1) cells))) (sym of_cell)
 
-  pub cell_counted : length (cells_kept (drop i cells)) ≡ length now + length (cells_kept (drop (i + 1) cells))
+  pub cell_counted : length (cells_kept (drop i cells)) ≡ length now + length
+    (cells_kept (drop (i + 1) cells))
   cell_counted =
-      ap length (cells_from cells i cell lt is) ∙ length-append (kept (cell_clauses cell)) (cells_kept (drop (i + 1) cells))
+      ap length (cells_from cells i cell lt is)
+        ∙ length-append (kept (cell_clauses cell)) (cells_kept (drop (i + 1) cells))
       ∙ ap (λ z. length z + length (cells_kept (drop (i + 1) cells))) (sym of_cell)
 
-  module _ (a b c : Option (List ℕ)) (h whole j : List ℕ) (p : IsPutUpTo a h whole (lines_of (cells_kept (drop i cells))) b j) where
-    pub cell_put : (k : List ℕ) → PassesOn b j (lines_of now) c k → IsPutUpTo a h whole (lines_of (cells_kept (drop (i + 1) cells))) c k
-    cell_put k q = put_more a b h whole j c (lines_of now) (lines_of (cells_kept (drop (i + 1) cells))) (same_left a b h whole j _ _ cell_next p) k q
+  module _ (a b c : Option (List ℕ)) (h whole j : List ℕ)
+    (p : IsPutUpTo a h whole (lines_of (cells_kept (drop i cells))) b j) where
+    pub cell_put : (k : List ℕ) → PassesOn b j (lines_of now) c k
+      → IsPutUpTo a h whole (lines_of (cells_kept (drop (i + 1) cells))) c k
+    cell_put k q =
+      put_more a b h whole j c (lines_of now) (lines_of (cells_kept (drop (i + 1) cells)))
+        (same_left a b h whole j _ _ cell_next p) k q
 
     pub cell_fault : AppendsPart b c (j ++ lines_of now) → AppendsPart a c (h ++ whole)
-    cell_fault q = put_fault a b h whole j c (lines_of now) (lines_of (cells_kept (drop (i + 1) cells))) (same_left a b h whole j _ _ cell_next p) q
+    cell_fault q =
+      put_fault a b h whole j c (lines_of now) (lines_of (cells_kept (drop (i + 1) cells)))
+        (same_left a b h whole j _ _ cell_next p) q
 
 -- one hard clause more
-module _ (clause : List Literal) (rest : List (List Literal)) (once : has_repeat clause ≡ false) where
-  pub hard_counted : has_opposites clause ≡ false → length (kept (clause ∷ rest)) ≡ 1 + length (kept rest)
+module _ (clause : List Literal) (rest : List (List Literal))
+    (once : has_repeat clause ≡ false) where
+  pub hard_counted : has_opposites clause ≡ false
+    → length (kept (clause ∷ rest)) ≡ 1 + length (kept rest)
   hard_counted e = omega (arith, ap length (kept_first clause rest once e))
 
   pub hard_passed : has_opposites clause ≡ true → length (kept (clause ∷ rest)) ≡ length (kept rest)
   hard_passed e = ap length (kept_not_first clause rest once e)
 
-  module _ (a b : Option (List ℕ)) (h whole j : List ℕ) (left : List (List Literal)) (steps : left ≡ clause ∷ rest) (p : IsPutUpTo a h whole (lines_of (kept left)) b j) where
+  module _ (a b : Option (List ℕ)) (h whole j : List ℕ) (left : List (List Literal))
+    (steps : left ≡ clause ∷ rest) (p : IsPutUpTo a h whole (lines_of (kept left)) b j) where
     pub hard_skipped : has_opposites clause ≡ true → IsPutUpTo a h whole (lines_of (kept rest)) b j
-    hard_skipped e = same_left a b h whole j _ _ (ap (λ x. lines_of (kept x)) steps ∙ ap lines_of (kept_not_first clause rest once e)) p
+    hard_skipped e =
+      same_left a b h whole j _ _ (ap (λ x. lines_of (kept x)) steps
+        ∙ ap lines_of (kept_not_first clause rest once e)) p
 
     module _ (e : has_opposites clause ≡ false) (c : Option (List ℕ)) where
       hard_next : lines_of (kept left) ≡ dimacs_clause clause ++ lines_of (kept rest)
       hard_next = ap (λ x. lines_of (kept x)) steps ∙ ap lines_of (kept_first clause rest once e)
 
-      pub hard_put : (k : List ℕ) → PassesOn b j (dimacs_clause clause) c k → IsPutUpTo a h whole (lines_of (kept rest)) c k
-      hard_put k q = put_more a b h whole j c (dimacs_clause clause) (lines_of (kept rest)) (same_left a b h whole j _ _ hard_next p) k q
+      pub hard_put : (k : List ℕ) → PassesOn b j (dimacs_clause clause) c k
+        → IsPutUpTo a h whole (lines_of (kept rest)) c k
+      hard_put k q =
+        put_more a b h whole j c (dimacs_clause clause) (lines_of (kept rest))
+          (same_left a b h whole j _ _ hard_next p) k q
 
       pub hard_fault : AppendsPart b c (j ++ dimacs_clause clause) → AppendsPart a c (h ++ whole)
-      hard_fault q = put_fault a b h whole j c (dimacs_clause clause) (lines_of (kept rest)) (same_left a b h whole j _ _ hard_next p) q
+      hard_fault q =
+        put_fault a b h whole j c (dimacs_clause clause) (lines_of (kept rest))
+          (same_left a b h whole j _ _ hard_next p) q
 
 -- in all there are few
 pub sum_small : (profile : Profile) (p : Problem) (k : ℕ) (r m : List (List Literal)) (x : Adders)
@@ -179,5 +222,6 @@ pub sum_small : (profile : Profile) (p : Problem) (k : ℕ) (r m : List (List Li
     → n ≡ length (cells_kept x.cells) → l ≡ length m → i + j + n + l < 2 ^ 28
 sum_small profile p k r m x h er ex em i j n l a b c d =
     let all : i + j + n + l ≡ length (bound_as profile p k).clauses =
-    counted (kept p.hard) r (cells_kept x.cells) m i j n l a b c d ∙ (λ t. length (kept p.hard ++ er t ++ cells_kept (ex t).cells ++ em t)) in
+    counted (kept p.hard) r (cells_kept x.cells) m i j n l a b c d
+      ∙ (λ t. length (kept p.hard ++ er t ++ cells_kept (ex t).cells ++ em t)) in
     subst (λ z. z < 2 ^ 28) (sym all) (clauses_few profile p k h)

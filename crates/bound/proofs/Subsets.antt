@@ -1,5 +1,6 @@
 -- Subsets of clauses, as they are kept.
-use Rattle.std.proofs.Common.{◌≡◌, Bool, true, false, not, ◌||◌, List, [], ◌∷◌, ◌++◌, reverse, if◌then◌else◌, inl, inr, refl, sym, ◌∙◌, ap, subst}
+use Rattle.std.proofs.Common.{◌≡◌, Bool, true, false, not, ◌||◌, List, [], ◌∷◌, ◌++◌, reverse}
+use Rattle.std.proofs.Common.{if◌then◌else◌, inl, inr, refl, sym, ◌∙◌, ap, subst}
 use Rattle.std.specs.List.{list_any, AllByRecursion}
 use Rattle.std.proofs.lemmas.Bool.{false≢true, true≢false, or_cases, or_left, or_right, both_ways}
 use Rattle.std.proofs.lemmas.Grind.{reverse_onto}
@@ -20,7 +21,8 @@ subset_member : (l : Literal) (d c : List Literal) → is_subset d c ≡ true
     → contains_literal l d ≡ true → contains_literal l c ≡ true
 subset_member l [] c h m = absurd (false≢true m)
 subset_member l (k ∷ d) c h m =
-    elim (contains_literal k c) as (λ b. contains_literal k c ≡ b → (if b then is_subset d c else false) ≡ true → contains_literal l c ≡ true) [
+    elim (contains_literal k c) as (λ b. contains_literal k c ≡ b
+        → (if b then is_subset d c else false) ≡ true → contains_literal l c ≡ true) [
       | false ↦ λ e g. absurd (false≢true g)
       | true ↦ λ e g. elim (or_cases (literal_eq l k) (contains_literal l d) m) [
         | inl same ↦ subst (λ x. contains_literal x c ≡ true) (sym (literal_eq-true l k same)) e
@@ -33,7 +35,8 @@ subset_from : (d c : List Literal)
     → is_subset d c ≡ true
 subset_from [] c f = refl
 subset_from (k ∷ d) c f =
-    ap (λ b. if b then is_subset d c else false) (f k (or_left (literal_eq k k) (contains_literal k d) (literal_eq-refl k)))
+    ap (λ b. if b then is_subset d c else false)
+      (f k (or_left (literal_eq k k) (contains_literal k d) (literal_eq-refl k)))
     ∙ subset_from d c (λ l m. f l (or_right (literal_eq l k) (contains_literal l d) m))
 
 pub subset_self : (c : List Literal) → is_subset c c ≡ true
@@ -41,14 +44,20 @@ subset_self c = subset_from c c (λ l m. m)
 
 pub subset_more : (l : Literal) (d c : List Literal) → is_subset d c ≡ true
     → is_subset d (l ∷ c) ≡ true
-subset_more l d c h = subset_from d (l ∷ c) (λ k m. or_right (literal_eq k l) (contains_literal k c) (subset_member k d c h m))
+subset_more l d c h =
+    subset_from d (l ∷ c) (λ k m. or_right (literal_eq k l) (contains_literal k c)
+      (subset_member k d c h m))
 
 contains-without : (l k : Literal) (c : List Literal) → literal_eq l k ≡ false
     → contains_literal l (without_literal k c) ≡ contains_literal l c
 contains-without l k [] e = refl
 contains-without l k (x ∷ c) e =
-    elim (literal_eq k x) as (λ b. literal_eq k x ≡ b → contains_literal l (if not b then x ∷ without_literal k c else without_literal k c) ≡ contains_literal l (x ∷ c)) [
-      | true ↦ λ h. contains-without l k c e ∙ ap (λ b. b || contains_literal l c) (sym (subst (λ y. literal_eq l y ≡ false) (literal_eq-true k x h) e))
+    elim (literal_eq k x) as (λ b. literal_eq k x ≡ b
+        → contains_literal l (if not b then x ∷ without_literal k c else without_literal k c)
+        ≡ contains_literal l (x ∷ c)) [
+      | true ↦ λ h. contains-without l k c e
+        ∙ ap (λ b. b || contains_literal l c)
+        (sym (subst (λ y. literal_eq l y ≡ false) (literal_eq-true k x h) e))
       | false ↦ λ h. ap (λ b. literal_eq l x || b) (contains-without l k c e)
     ] refl
 
@@ -56,24 +65,30 @@ pub contains-distinct : (l : Literal) (c : List Literal)
     → contains_literal l (distinct c) ≡ contains_literal l c
 contains-distinct l [] = refl
 contains-distinct l (k ∷ c) =
-    elim (literal_eq l k) as (λ b. literal_eq l k ≡ b → (b || contains_literal l (without_literal k (distinct c))) ≡ (b || contains_literal l c)) [
+    elim (literal_eq l k) as (λ b. literal_eq l k ≡ b
+        → (b || contains_literal l (without_literal k (distinct c))) ≡ (b || contains_literal l c))
+      [
       | true ↦ λ e. refl
       | false ↦ λ e. contains-without l k (distinct c) e ∙ contains-distinct l c
     ] refl
 
 subset-distinct : (d c : List Literal) → is_subset d c ≡ true
     → is_subset (distinct d) (distinct c) ≡ true
-subset-distinct d c h = subset_from (distinct d) (distinct c) (λ l m. contains-distinct l c ∙ subset_member l d c h (sym (contains-distinct l d) ∙ m))
+subset-distinct d c h =
+    subset_from (distinct d) (distinct c) (λ l m. contains-distinct l c
+      ∙ subset_member l d c h (sym (contains-distinct l d) ∙ m))
 
 opposites_from : (c : List Literal) → has_opposites c ≡ true
     → (l : Literal) × (contains_literal l c ≡ true) × (contains_literal (negation l) c ≡ true)
 opposites_from [] h = absurd (false≢true h)
 opposites_from (k ∷ c) h =
     elim (or_cases (contains_literal (negation k) c) (has_opposites c) h) [
-      | inl here ↦ (k, or_left (literal_eq k k) (contains_literal k c) (literal_eq-refl k), or_right (literal_eq (negation k) k) (contains_literal (negation k) c) here)
+      | inl here ↦ (k, or_left (literal_eq k k) (contains_literal k c) (literal_eq-refl k),
+          or_right (literal_eq (negation k) k) (contains_literal (negation k) c) here)
       | inr more ↦
           let r = opposites_from c more in
-          (r.0, or_right (literal_eq r.0 k) (contains_literal r.0 c) r.1, or_right (literal_eq (negation r.0) k) (contains_literal (negation r.0) c) r.2)
+          (r.0, or_right (literal_eq r.0 k) (contains_literal r.0 c) r.1,
+              or_right (literal_eq (negation r.0) k) (contains_literal (negation r.0) c) r.2)
     ]
 
 opposites_to : (l : Literal) (c : List Literal) → contains_literal l c ≡ true
@@ -82,13 +97,18 @@ opposites_to l [] h g = absurd (false≢true h)
 opposites_to l (k ∷ c) h g =
     elim (or_cases (literal_eq l k) (contains_literal l c) h) [
       | inl here ↦ elim (or_cases (literal_eq (negation l) k) (contains_literal (negation l) c) g) [
-        | inl too ↦ absurd (not_own_negation l (literal_eq-true l k here ∙ sym (literal_eq-true (negation l) k too)))
-        | inr rest ↦ or_left (contains_literal (negation k) c) (has_opposites c) (subst (λ x. contains_literal (negation x) c ≡ true) (literal_eq-true l k here) rest)
+        | inl too ↦ absurd (not_own_negation l (literal_eq-true l k here
+              ∙ sym (literal_eq-true (negation l) k too)))
+        | inr rest ↦ or_left (contains_literal (negation k) c) (has_opposites c)
+          (subst (λ x. contains_literal (negation x) c ≡ true) (literal_eq-true l k here) rest)
       ]
       | inr more ↦ elim (or_cases (literal_eq (negation l) k) (contains_literal (negation l) c) g) [
         | inl too ↦ or_left (contains_literal (negation k) c) (has_opposites c)
-            (subst (λ x. contains_literal (negation x) c ≡ true) (literal_eq-true (negation l) k too) (subst (λ x. contains_literal x c ≡ true) (sym (negation_twice l)) more))
-        | inr rest ↦ or_right (contains_literal (negation k) c) (has_opposites c) (opposites_to l c more rest)
+            (subst (λ x. contains_literal (negation x) c ≡ true)
+                (literal_eq-true (negation l) k too)
+                (subst (λ x. contains_literal x c ≡ true) (sym (negation_twice l)) more))
+        | inr rest ↦ or_right (contains_literal (negation k) c) (has_opposites c)
+          (opposites_to l c more rest)
       ]
     ]
 
@@ -100,7 +120,8 @@ subset_no_opposites d c h e =
       | false ↦ λ g. refl
       | true ↦ λ g.
           let r = opposites_from d g in
-          absurd (both_ways _ e (opposites_to r.0 c (subset_member r.0 d c h r.1) (subset_member (negation r.0) d c h r.2)))
+          absurd (both_ways _ e (opposites_to r.0 c (subset_member r.0 d c h r.1)
+                (subset_member (negation r.0) d c h r.2)))
     ] refl
 
 -- some clause of cs is a subset of c
@@ -125,8 +146,10 @@ or_comm false false = refl
 covers-reverse : (cs : List (List Literal)) (c : List Literal) → covers (reverse cs) c ≡ covers cs c
 covers-reverse [] c = refl
 covers-reverse (d ∷ cs) c =
-    ap (λ x. covers x c) (reverse_onto cs d []) ∙ list_any-append (λ x. is_subset x c) (reverse cs) (d ∷ [])
-    ∙ (λ i. covers-reverse cs c i || or_comm (is_subset d c) false i) ∙ or_comm (covers cs c) (is_subset d c)
+    ap (λ x. covers x c) (reverse_onto cs d [])
+      ∙ list_any-append (λ x. is_subset x c) (reverse cs) (d ∷ [])
+    ∙ (λ i. covers-reverse cs c i || or_comm (is_subset d c) false i)
+    ∙ or_comm (covers cs c) (is_subset d c)
 
 covers-kept : (cs : List (List Literal)) (c : List Literal) → covers cs c ≡ true
     → has_opposites (distinct c) ≡ false → covers (kept cs) (distinct c) ≡ true
@@ -135,11 +158,14 @@ covers-kept (d ∷ cs) c h e =
     elim (or_cases (is_subset d c) (covers cs c) h) [
       | inl here ↦
           let sub = subset-distinct d c here in
-          ap (λ b. covers (if not b then distinct d ∷ kept cs else kept cs) (distinct c)) (subset_no_opposites (distinct d) (distinct c) sub e)
+          ap (λ b. covers (if not b then distinct d ∷ kept cs else kept cs) (distinct c))
+            (subset_no_opposites (distinct d) (distinct c) sub e)
           ∙ or_left (is_subset (distinct d) (distinct c)) (covers (kept cs) (distinct c)) sub
-      | inr more ↦ elim (has_opposites (distinct d)) as (λ b. covers (if not b then distinct d ∷ kept cs else kept cs) (distinct c) ≡ true) [
+      | inr more ↦ elim (has_opposites (distinct d))
+        as (λ b. covers (if not b then distinct d ∷ kept cs else kept cs) (distinct c) ≡ true) [
         | true ↦ covers-kept cs c more e
-        | false ↦ or_right (is_subset (distinct d) (distinct c)) (covers (kept cs) (distinct c)) (covers-kept cs c more e)
+        | false ↦ or_right (is_subset (distinct d) (distinct c)) (covers (kept cs) (distinct c))
+          (covers-kept cs c more e)
       ]
     ]
 
@@ -150,7 +176,8 @@ AreCovered cs ds = AllByRecursion (λ c. covers cs c ≡ true) ds
 kept_each : (cs ds : List (List Literal)) → AreCovered cs ds → AreCovered (kept cs) (kept ds)
 kept_each cs [] h = tt
 kept_each cs (d ∷ ds) h =
-    elim (has_opposites (distinct d)) as (λ b. has_opposites (distinct d) ≡ b → AreCovered (kept cs) (if not b then distinct d ∷ kept ds else kept ds)) [
+    elim (has_opposites (distinct d)) as (λ b. has_opposites (distinct d) ≡ b
+        → AreCovered (kept cs) (if not b then distinct d ∷ kept ds else kept ds)) [
       | true ↦ λ e. kept_each cs ds h.1
       | false ↦ λ e. (covers-kept cs d h.0 e, kept_each cs ds h.1)
     ] refl
@@ -163,7 +190,9 @@ all_append P (x ∷ xs) ys h g = (h.0, all_append P xs ys h.1 g)
 pub all_reverse : {X : Type 0} (P : X → Type 0) (xs : List X) → AllByRecursion P xs
     → AllByRecursion P (reverse xs)
 all_reverse P [] h = tt
-all_reverse P (x ∷ xs) h = subst (AllByRecursion P) (sym (reverse_onto xs x [])) (all_append P (reverse xs) (x ∷ []) (all_reverse P xs h.1) (h.0, tt))
+all_reverse P (x ∷ xs) h =
+    subst (AllByRecursion P) (sym (reverse_onto xs x []))
+      (all_append P (reverse xs) (x ∷ []) (all_reverse P xs h.1) (h.0, tt))
 
 reversed_each : (cs ds : List (List Literal)) → AreCovered cs ds → AreCovered (reverse cs) ds
 reversed_each cs [] h = tt
@@ -171,4 +200,6 @@ reversed_each cs (d ∷ ds) h = (covers-reverse cs d ∙ h.0, reversed_each cs d
 
 pub covered_kept : (cs ds : List (List Literal)) → AreCovered cs ds
     → AreCovered (kept (reverse cs)) (kept (reverse ds))
-covered_kept cs ds h = kept_each (reverse cs) (reverse ds) (all_reverse (λ c. covers (reverse cs) c ≡ true) ds (reversed_each cs ds h))
+covered_kept cs ds h =
+    kept_each (reverse cs) (reverse ds) (all_reverse (λ c. covers (reverse cs) c ≡ true) ds
+      (reversed_each cs ds h))

@@ -16,7 +16,9 @@ use Rattle.cdcl.specs.Running.{tables_of, HasRoom, IsReady, Runs}
 abbrev pub moved_to : Search → EngineState → OrderState → Search
 moved_to s e o = record s { engine = e; order = o }
 
-pub room_moved : (s : Search) (e : EngineState) (o : OrderState) → HasRoom s → e.variables ≡ (s.engine).variables → o.variables ≡ (s.order).variables → HasRoom (moved_to s e o)
+pub room_moved : (s : Search) (e : EngineState) (o : OrderState) → HasRoom s
+    → e.variables ≡ (s.engine).variables → o.variables ≡ (s.order).variables
+    → HasRoom (moved_to s e o)
 room_moved s e o r same order = record {
   order = order ∙ r.order ∙ sym same;
   analyzer = (let a = r.analyzer in omega arith);
@@ -25,15 +27,25 @@ room_moved s e o r same order = record {
   units = r.units ∙ sym same;
 }
 
-pub ready_moved : (s : Search) (e : EngineState) (o : OrderState) → IsReady s → e.variables ≡ (s.engine).variables → o.variables ≡ (s.order).variables → Searches e (s.store).slots → IsReady (moved_to s e o)
-ready_moved s e o r same order searches = record { searches = searches; room = room_moved s e o r.room same order; named = r.named }
+pub ready_moved : (s : Search) (e : EngineState) (o : OrderState) → IsReady s
+    → e.variables ≡ (s.engine).variables → o.variables ≡ (s.order).variables
+    → Searches e (s.store).slots → IsReady (moved_to s e o)
+ready_moved s e o r same order searches =
+    record { searches = searches; room = room_moved s e o r.room same order; named = r.named }
 
-pub runs_moved : (s : Search) (e : EngineState) (o : OrderState) (p : Problem) (ls : List LogLine) → Runs s p ls → e.variables ≡ (s.engine).variables → o.variables ≡ (s.order).variables
-    → IsRunning e (s.store).slots p.stack (tables_of s) (p.frozen).items p.first (p.given).items ls → Runs (moved_to s e o) p ls
-runs_moved s e o p ls r same order running = record { running = running; room = room_moved s e o r.room same order; past = r.past; few = r.few }
+pub runs_moved : (s : Search) (e : EngineState) (o : OrderState) (p : Problem) (ls : List LogLine)
+    → Runs s p ls → e.variables ≡ (s.engine).variables → o.variables ≡ (s.order).variables
+    → IsRunning e (s.store).slots p.stack (tables_of s) (p.frozen).items p.first (p.given).items ls
+    → Runs (moved_to s e o) p ls
+runs_moved s e o p ls r same order running =
+    record { running = running; room = room_moved s e o r.room same order; past = r.past;
+      few = r.few }
 
-pub literals_within : (T : List Assigned) (n : ℕ) → All (λ a. (0 < a.literal.variable) × (a.literal.variable ≤ n)) T → All (λ l. l.variable ≤ n) (literals_of T)
+pub literals_within : (T : List Assigned) (n : ℕ)
+    → All (λ a. (0 < a.literal.variable) × (a.literal.variable ≤ n)) T
+    → All (λ l. l.variable ≤ n) (literals_of T)
 literals_within T n small =
     let P : Assigned → Type 0 = λ a. (0 < a.literal.variable) × (a.literal.variable ≤ n) in
     let Q : Assigned → Type 0 = λ a. a.literal.variable ≤ n in
-    All-map (λ (l : Literal). l.variable ≤ n) (λ a. a.literal) T (All-weaker P Q (λ a h. h.1) T small)
+    All-map (λ (l : Literal). l.variable ≤ n) (λ a. a.literal) T
+      (All-weaker P Q (λ a h. h.1) T small)

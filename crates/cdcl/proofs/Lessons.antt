@@ -44,7 +44,9 @@ leads_live slots A (h ∷ hs) B w = ((w.0, w.2), leads_live slots (w.1 ∷ A) hs
 pub refutes_live : (slots : Slots) (A : List Literal) (hints : List ℕ)
     → Refutes (clause_at slots) A hints → AllByRecursion (IsLive slots) hints
 refutes_live slots A hints r =
-    subst (AllByRecursion (IsLive slots)) (sym r.split) (all_join (IsLive slots) r.front (r.final ∷ []) (leads_live slots A r.front r.reached r.leads) ((r.clause, r.live), tt))
+    subst (AllByRecursion (IsLive slots)) (sym r.split)
+      (all_join (IsLive slots) r.front (r.final ∷ []) (leads_live slots A r.front r.reached r.leads)
+        ((r.clause, r.live), tt))
 
 pub live_attached : (e : EngineState) (slots : Slots) (rs : List ℕ) → Searches e slots
     → AllByRecursion (IsLive slots) rs → All (λ r. is_attached e r ≡ true) rs
@@ -57,10 +59,13 @@ pub conflict_of : (e : EngineState) (slots : Slots) (r : ℕ) → Searches e slo
     → 0 < depth_of e.trail → IsFalseClause slots e r
     → IfSome (clause_at slots r) (IsConflict e.trail)
 conflict_of e slots r s deep f =
-    subst (λ o. IfSome o (IsConflict e.trail)) (sym f.1) (is_conflict slots e.trail r f.0 s.fits.reasons deep (s.quiet (depth_of e.trail - 1) (omega arith)) f.1 f.2)
+    subst (λ o. IfSome o (IsConflict e.trail)) (sym f.1)
+      (is_conflict slots e.trail r f.0 s.fits.reasons deep
+        (s.quiet (depth_of e.trail - 1) (omega arith)) f.1 f.2)
 
 -- above level 0 all of it is noted
-pub all_noted : (slots : Slots) (T : List Assigned) (units : List (Option ℕ)) (noted : ℕ) (rs : List ℕ)
+pub all_noted : (slots : Slots) (T : List Assigned) (units : List (Option ℕ)) (noted : ℕ)
+    (rs : List ℕ)
     → NotesUnits slots (zero_of T) (depth_of T) units noted → 0 < depth_of T
     → AreNoted slots units T rs
 all_noted slots T units noted rs n deep r m c at k k_in z =
@@ -90,7 +95,10 @@ false_small A n (l ∷ c) small f =
 pub asserting_within : (e : EngineState) (slots : Slots) (c : List Literal) (back : ℕ)
     → Fits e slots → IsAsserting e.trail c back → IsWithin e.variables c
 asserting_within e slots c back fits w =
-    false_small (literals_of e.trail) e.variables c (small_literals e.trail e.variables (recursion_from_All (λ (a : Assigned). (0 < a.literal.variable) × (a.literal.variable ≤ e.variables)) e.trail fits.small)) w.falsified
+    false_small (literals_of e.trail) e.variables c
+      (small_literals e.trail e.variables
+        (recursion_from_All (λ (a : Assigned). (0 < a.literal.variable)
+            × (a.literal.variable ≤ e.variables)) e.trail fits.small)) w.falsified
 
 greatest_low : (T : List Assigned) (c : List Literal) (d : ℕ) → All (λ l. level_of T l < d) c
     → greatest_level T c ≤ d
@@ -106,38 +114,49 @@ back_low T c back w =
     let h = greatest_low T w.others (depth_of T) w.lower in let e = w.back in omega arith
 
 -- the line is a step
-pub adds_lesson : (slots : Slots) (T : List Assigned) (names : List Name) (given : Given) (ls : List LogLine) (c : List Literal) (back variables : ℕ) (rs : List ℕ) (hints : List Hint)
+pub adds_lesson : (slots : Slots) (T : List Assigned) (names : List Name) (given : Given)
+    (ls : List LogLine) (c : List Literal) (back variables : ℕ) (rs : List ℕ) (hints : List Hint)
     → HasReasons (clause_at slots) [] T
     → IsAsserting T c back → 0 < depth_of T → IsRefutedBy slots T c rs
     → NamesStore slots names given ls → AreHintsOf slots names T rs hints → variables < 2 ^ 27
     → IsWithin variables c
     → AddsByHints given ls (record { kind = Learned; clause = c; hints = hints })
-adds_lesson slots T names given ls c back variables rs hints reasons w deep refutes store h few within =
+adds_lesson slots T names given ls c back variables rs hints reasons w deep refutes store h
+    few within =
     let low : greatest_variable c ≤ variables = within.1 in
     adds_learned slots names given ls (record { kind = Learned; clause = c; hints = hints })
     (h.units ++ rs) store refl h.spelled
-    (record { no_repeat = w.no_repeat; no_opposites = no_opposites_false c (literals_of T) (no_opposites (clause_at slots) T reasons) w.falsified; small = omega arith })
-    (refutes_alone slots T c back rs h.units h.zeros reasons w deep refutes h.within h.once h.are_units
-    (serves_zero (clause_at slots) T c h.zeros rs reasons (all_weaker _ _ rs (λ r f d at k m level z. f d at k m z) h.serves)))
+    (record { no_repeat = w.no_repeat;
+          no_opposites = no_opposites_false c (literals_of T)
+          (no_opposites (clause_at slots) T reasons) w.falsified; small = omega arith })
+    (refutes_alone slots T c back rs h.units h.zeros reasons w deep refutes h.within h.once
+        h.are_units
+    (serves_zero (clause_at slots) T c h.zeros rs reasons
+        (all_weaker _ _ rs (λ r f d at k m level z. f d at k m z) h.serves)))
 
 -- what was learned, in the words in which the line is written
-pub record IsLesson (s : Search) (p : Problem) (ls : List LogLine) (c : List Literal) (back : ℕ) (hints : List Hint) : Type 0 where
+pub record IsLesson (s : Search) (p : Problem) (ls : List LogLine) (c : List Literal) (back : ℕ)
+    (hints : List Hint) : Type 0 where
   pub asserting : IsAsserting (s.engine).trail c back
   pub adds : AddsByHints (p.given).items ls (record { kind = Learned; clause = c; hints = hints })
 
-pub is_lesson : (s : Search) (p : Problem) (ls : List LogLine) (learned c : List Literal) (back : ℕ) (found rs : List ℕ) (names : List Name) (hints : List Hint)
+pub is_lesson : (s : Search) (p : Problem) (ls : List LogLine) (learned c : List Literal) (back : ℕ)
+    (found rs : List ℕ) (names : List Name) (hints : List Hint)
     → Runs s p ls → 0 < depth_of (s.engine).trail
     → IsAsserting (s.engine).trail learned back
     → IsRefutedBy (s.store).slots (s.engine).trail learned found
     → AreHintsOf (s.store).slots names (s.engine).trail rs hints → c ≡ learned → rs ≡ found
     → names ≡ (s.names).items
     → IsLesson s p ls c back hints
-is_lesson s p ls learned c back found rs names hints r deep asserting refuted hinted is_c is_rs is_names =
+is_lesson s p ls learned c back found rs names hints r deep asserting refuted hinted is_c
+    is_rs is_names =
     let slots = (s.store).slots in
     let T = (s.engine).trail in
     let run = r.running in
     let w = subst (λ x. IsAsserting T x back) (sym is_c) asserting in
-    let refutes = subst (λ x. IsRefutedBy slots T x rs) (sym is_c) (subst (IsRefutedBy slots T learned) (sym is_rs) refuted) in
+    let refutes =
+      subst (λ x. IsRefutedBy slots T x rs) (sym is_c)
+        (subst (IsRefutedBy slots T learned) (sym is_rs) refuted) in
     let h = subst (λ x. AreHintsOf slots x T rs hints) is_names hinted in
     let within = asserting_within s.engine slots c back run.searches.fits w in
     record {
@@ -147,8 +166,10 @@ is_lesson s p ls learned c back found rs names hints r deep asserting refuted hi
     }
 
 -- What the search is once the line is written.
-pub runs_learned : (m n : Search) (p : Problem) (ls : List LogLine) (l : LogLine) (T : List Assigned) (back : ℕ)
-    → IsRunning m.engine (m.store).slots p.stack (tables_of m) (p.frozen).items p.first (p.given).items ls
+pub runs_learned : (m n : Search) (p : Problem) (ls : List LogLine) (l : LogLine)
+    (T : List Assigned) (back : ℕ)
+    → IsRunning m.engine (m.store).slots p.stack (tables_of m) (p.frozen).items p.first
+      (p.given).items ls
     → HasRoom m
     → All (λ x. x ≤ m.additions + 1) (m.stamps).items → IsAsserting T l.clause back
     → (m.engine).trail ≡ kept_to back T → AddsByHints (p.given).items ls l
@@ -158,12 +179,16 @@ runs_learned m n p ls l T back run room past w trail adds placed more few =
     let slots = (m.store).slots in
     let low : depth_of (m.engine).trail ≤ back =
     subst (λ X. depth_of X ≤ back) (sym trail) (kept_low back T) in
-    let ran = run_learn m.engine n.engine slots p.stack (tables_of m) (p.frozen).items p.first (p.given).items ls l T back run w (back_low T l.clause back w) trail low adds (omega arith)
+    let ran = run_learn m.engine n.engine slots p.stack (tables_of m) (p.frozen).items p.first
+      (p.given).items ls l T back run w (back_low T l.clause back w) trail low adds (omega arith)
     placed.attached (placed.trail, placed.variables) placed.works placed.fits in
     record {
-      running = running_same n.engine n.engine (slots ++ Some l.clause ∷ []) (n.store).slots p.stack (with_addition (tables_of m) (m.units).items m.noted) (tables_of n) (p.frozen).items p.first (p.given).items (ls ++ l ∷ [])
+      running = running_same n.engine n.engine (slots ++ Some l.clause ∷ []) (n.store).slots p.stack
+        (with_addition (tables_of m) (m.units).items m.noted) (tables_of n) (p.frozen).items p.first
+        (p.given).items (ls ++ l ∷ [])
           refl placed.slots
-          (tables_same (with_addition (tables_of m) (m.units).items m.noted) (tables_of n) placed.names (ap (λ x. x.items) placed.units) placed.noted placed.kept more)
+          (tables_same (with_addition (tables_of m) (m.units).items m.noted) (tables_of n)
+              placed.names (ap (λ x. x.items) placed.units) placed.noted placed.kept more)
           ran;
       room = room_placed m n (Added (m.additions + 1)) l.clause room placed;
       past = subst (λ x. All (λ y. y ≤ n.additions) x.items) (sym placed.stamps)
@@ -172,10 +197,12 @@ runs_learned m n p ls l T back run room past w trail adds placed more few =
     }
 
 -- how many clauses are long does not matter
-pub runs_long : (n u : Search) (k : ℕ) (p : Problem) (ls : List LogLine) → u ≡ record n { long = k } → Runs n p ls → Runs u p ls
+pub runs_long : (n u : Search) (k : ℕ) (p : Problem) (ls : List LogLine) → u ≡ record n { long = k }
+    → Runs n p ls → Runs u p ls
 runs_long n u k p ls e r = subst (λ (s : Search). Runs s p ls) (sym e) (record {
   running = r.running;
-  room = record { order = r.room.order; analyzer = r.room.analyzer; few = r.room.few; stamps = r.room.stamps; units = r.room.units };
+  room = record { order = r.room.order; analyzer = r.room.analyzer; few = r.room.few;
+      stamps = r.room.stamps; units = r.room.units };
   past = r.past;
   few = r.few;
 })

@@ -30,7 +30,8 @@ use Rattle.cdcl.proofs.Keeping.{empty_add, empty_delete}
 
 -- the engine alone
 
-pub run_propagate : (e f : EngineState) (slots : Slots) (stack : StackState) (t : Tables) (frozen : List Bool) (first : ℕ) (given : Given) (ls : List LogLine)
+pub run_propagate : (e f : EngineState) (slots : Slots) (stack : StackState) (t : Tables)
+    (frozen : List Bool) (first : ℕ) (given : Given) (ls : List LogLine)
     → IsRunning e slots stack t frozen first given ls
     → GrowsByUnits slots e f → SameAttached e f → f.variables ≡ e.variables → f.failed ≡ false
     → Fits f slots → IsRunning f slots stack t frozen first given ls
@@ -42,13 +43,15 @@ run_propagate e f slots stack t frozen first given ls r grows same vars works fi
       (units_propagate slots f e.trail grows.0 t.units t.noted grows.2 r.units);
 }
 
-pub run_decide : (e f : EngineState) (slots : Slots) (stack : StackState) (t : Tables) (frozen : List Bool) (first : ℕ) (given : Given) (ls : List LogLine) (l : Literal)
+pub run_decide : (e f : EngineState) (slots : Slots) (stack : StackState) (t : Tables)
+    (frozen : List Bool) (first : ℕ) (given : Given) (ls : List LogLine) (l : Literal)
     → IsRunning e slots stack t frozen first given ls
     → IsQuiet slots (literals_of e.trail) → length (zero_of e.trail) ≤ t.noted
     → f.trail ≡ e.trail ++ record { literal = l; reason = None } ∷ [] → SameAttached e f
     → (f.variables ≡ e.variables) × (f.failed ≡ e.failed) → Fits f slots
     → IsRunning f slots stack t frozen first given ls
-run_decide e f slots stack t frozen first given ls l r quiet full trail attached same fits = record {
+run_decide e f slots stack t frozen first given ls l r quiet full trail attached same fits =
+    record {
   recorded = r.recorded;
   searches = searches_decide slots e f l r.searches quiet trail attached same.1 fits;
   variables = same.0 ∙ r.variables;
@@ -56,12 +59,14 @@ run_decide e f slots stack t frozen first given ls l r quiet full trail attached
       (units_decide slots e.trail l t.units t.noted full r.units);
 }
 
-pub run_backtrack : (e f : EngineState) (slots : Slots) (stack : StackState) (t : Tables) (frozen : List Bool) (first : ℕ) (given : Given) (ls : List LogLine) (level : ℕ)
+pub run_backtrack : (e f : EngineState) (slots : Slots) (stack : StackState) (t : Tables)
+    (frozen : List Bool) (first : ℕ) (given : Given) (ls : List LogLine) (level : ℕ)
     → IsRunning e slots stack t frozen first given ls
     → level ≤ depth_of e.trail → f.trail ≡ kept_to level e.trail → SameAttached e f
     → (f.variables ≡ e.variables) × (f.failed ≡ e.failed) → Fits f slots
     → IsRunning f slots stack t frozen first given ls
-run_backtrack e f slots stack t frozen first given ls level r within trail attached same fits = record {
+run_backtrack e f slots stack t frozen first given ls level r within trail attached same fits =
+    record {
   recorded = r.recorded;
   searches = searches_backtrack slots e f level r.searches within trail attached same.1 fits;
   variables = same.0 ∙ r.variables;
@@ -71,12 +76,17 @@ run_backtrack e f slots stack t frozen first given ls level r within trail attac
 
 -- a clause follows, is written down, comes to the store and is attached
 abbrev pub with_addition : Tables → List (Option ℕ) → ℕ → Tables
-with_addition t units noted = record { names = t.names ++ Added (t.additions + 1) ∷ []; units = units; noted = noted; kept = t.kept; additions = t.additions + 1 }
+with_addition t units noted =
+    record { names = t.names ++ Added (t.additions + 1) ∷ []; units = units; noted = noted;
+      kept = t.kept; additions = t.additions + 1 }
 
-pub recorded_add : (slots : Slots) (stack : StackState) (t : Tables) (frozen : List Bool) (first : ℕ) (given : Given) (ls : List LogLine) (l : LogLine) (units : List (Option ℕ)) (noted : ℕ)
+pub recorded_add : (slots : Slots) (stack : StackState) (t : Tables) (frozen : List Bool)
+    (first : ℕ) (given : Given) (ls : List LogLine) (l : LogLine) (units : List (Option ℕ))
+    (noted : ℕ)
     → IsRecorded slots stack t frozen first given ls → AddsByHints given ls l
     → adds_empty_clause l ≡ false → t.additions + 1 < 2 ^ 62 → length units ≡ length t.units
-    → IsRecorded (slots ++ Some l.clause ∷ []) stack (with_addition t units noted) frozen first given (ls ++ l ∷ [])
+    → IsRecorded (slots ++ Some l.clause ∷ []) stack (with_addition t units noted) frozen first
+      given (ls ++ l ∷ [])
 recorded_add slots stack t frozen first given ls l units noted r adds goes_on room long =
     let n : Name = Added (t.additions + 1) in
     record {
@@ -85,7 +95,9 @@ recorded_add slots stack t frozen first given ls l units noted r adds goes_on ro
         unrefuted = open_push ls l r.log.unrefuted goes_on;
         counted = ap (λ k. k + 1) r.log.counted ∙ sym (count_push_addition ls l adds.adds);
       };
-      names = subst (λ k. NamesStore (slots ++ Some l.clause ∷ []) (t.names ++ Added (k + 1) ∷ []) given (ls ++ l ∷ [])) (sym r.log.counted)
+      names =
+        subst (λ k. NamesStore (slots ++ Some l.clause ∷ []) (t.names ++ Added (k + 1) ∷ []) given
+          (ls ++ l ∷ [])) (sym r.log.counted)
           (names_add slots t.names given ls l adds.names adds.adds adds.plain r.names);
       numbers = All-push (λ k. IsId (number_in k)) t.names n r.numbers (omega arith, room);
       many_units = long ∙ r.many_units;
@@ -97,16 +109,22 @@ recorded_add slots stack t frozen first given ls l units noted r adds goes_on ro
           r.plain;
     }
 
-pub run_add : (e f : EngineState) (slots : Slots) (stack : StackState) (t : Tables) (frozen : List Bool) (first : ℕ) (given : Given) (ls : List LogLine) (l : LogLine) (units : List (Option ℕ)) (noted : ℕ)
+pub run_add : (e f : EngineState) (slots : Slots) (stack : StackState) (t : Tables)
+    (frozen : List Bool) (first : ℕ) (given : Given) (ls : List LogLine) (l : LogLine)
+    (units : List (Option ℕ)) (noted : ℕ)
     → IsRunning e slots stack t frozen first given ls → AddsByHints given ls l
     → adds_empty_clause l ≡ false → t.additions + 1 < 2 ^ 62
     → SetsAttached e f (length slots) true → (f.trail ≡ e.trail) × (f.variables ≡ e.variables)
     → f.failed ≡ false → Fits f (slots ++ Some l.clause ∷ [])
-    → ((level : ℕ) → level < depth_of e.trail → (IsFalseUnder l.clause (literals_of (kept_to level e.trail)) → ⊥) × ((k : Literal) → IsUnit l.clause (literals_of (kept_to level e.trail)) k → ⊥))
+    → ((level : ℕ) → level < depth_of e.trail
+        → (IsFalseUnder l.clause (literals_of (kept_to level e.trail)) → ⊥)
+        × ((k : Literal) → IsUnit l.clause (literals_of (kept_to level e.trail)) k → ⊥))
     → length units ≡ length t.units
     → NotesUnits (slots ++ Some l.clause ∷ []) (zero_of e.trail) (depth_of e.trail) units noted
-    → IsRunning f (slots ++ Some l.clause ∷ []) stack (with_addition t units noted) frozen first given (ls ++ l ∷ [])
-run_add e f slots stack t frozen first given ls l units noted r adds goes_on room sets same works fits quiet long notes = record {
+    → IsRunning f (slots ++ Some l.clause ∷ []) stack (with_addition t units noted) frozen first
+      given (ls ++ l ∷ [])
+run_add e f slots stack t frozen first given ls l units noted r adds goes_on room sets same works
+    fits quiet long notes = record {
   recorded = recorded_add slots stack t frozen first given ls l units noted r.recorded adds goes_on
       room long;
   searches = searches_add slots e f l.clause r.searches sets same.0 works fits quiet;
@@ -125,7 +143,8 @@ empty_long slots q (l ∷ c) e long = empty_delete slots q l c e
 
 -- a clause of two literals or more, which is not kept, is detached, deleted, and written down as
 -- deleted
-pub recorded_delete : (slots : Slots) (stack : StackState) (t : Tables) (frozen : List Bool) (first : ℕ) (given : Given) (ls : List LogLine) (l : LogLine) (q : ℕ) (c : List Literal)
+pub recorded_delete : (slots : Slots) (stack : StackState) (t : Tables) (frozen : List Bool)
+    (first : ℕ) (given : Given) (ls : List LogLine) (l : LogLine) (q : ℕ) (c : List Literal)
     → IsRecorded slots stack t frozen first given ls → clause_at slots q ≡ Some c → 1 < length c
     → is_kept_name t.kept (name_at t.names q) ≡ false
     → is_delete l.kind ≡ true → l.hints ≡ plain_hints (name_at t.names q ∷ [])

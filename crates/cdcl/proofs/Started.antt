@@ -21,7 +21,8 @@ use Rattle.cdcl.specs.Starts.{AreRising}
 -- one more clause under its number
 pub given_next : (now : Given) (c : List Literal) (left : List (List Literal)) (all : Given)
     → now ++ given_on (length now + 1) (c ∷ left) ≡ all
-    → (now ++ (Formula (length now + 1), c) ∷ []) ++ given_on (length (now ++ (Formula (length now + 1), c) ∷ []) + 1) left
+    → (now ++ (Formula (length now + 1), c) ∷ []) ++ given_on
+      (length (now ++ (Formula (length now + 1), c) ∷ []) + 1) left
     ≡ all
 given_next now c left all e =
     let g : Name × List Literal = (Formula (length now + 1), c) in
@@ -42,12 +43,16 @@ pub named_more : (names : List Name) (listed : List (ℕ × Name)) (n places : �
     → n < length listed → item ≡ get_or listed n item → AreNamed names listed n places
     → AreNamed (set names item.0 item.1) listed (n + 1) places
 named_more names listed n places item rising within ids lt at a =
-    let low : item.0 < length names = subst (λ (x : ℕ × Name). x.0 < length names) (sym at) (let h = within n item lt in let l = a.long in omega arith) in
+    let low : item.0 < length names =
+      subst (λ (x : ℕ × Name). x.0 < length names) (sym at) (let h = within n item lt in
+        let l = a.long in omega arith) in
     record {
       long = length-set names item.0 item.1 ∙ a.long;
       numbers = All-set (λ x. IsId (number_in x)) names item.0 item.1
           (subst (λ (x : ℕ × Name). IsId (number_in x.1)) (sym at) (ids n item lt)) a.numbers;
-      named = λ i d h inside. elim (cases_eq i n) as (λ _. name_at (set names item.0 item.1) (get_or listed i d).0 ≡ (get_or listed i d).1) [
+      named =
+        λ i d h inside. elim (cases_eq i n) as (λ _. name_at (set names item.0 item.1)
+          (get_or listed i d).0 ≡ (get_or listed i d).1) [
         | inl same ↦
             let is : get_or listed i d ≡ item =
             ap (λ k. get_or listed k d) same ∙ get_or_default listed n d item lt ∙ sym at in
@@ -66,7 +71,8 @@ named_more names listed n places item rising within ids lt at a =
 
 -- Clauses attached in turn.
 
-pub record AreAttached (e : EngineState) (slots : Slots) (variables : ℕ) (listed : List (ℕ × Name)) (n : ℕ) : Type 0 where
+pub record AreAttached (e : EngineState) (slots : Slots) (variables : ℕ) (listed : List (ℕ × Name))
+    (n : ℕ) : Type 0 where
   pub fits : Fits e slots
   pub trail : e.trail ≡ []
   pub variables_are : e.variables ≡ variables
@@ -89,20 +95,25 @@ attached_none e slots variables listed fits same none = record {
   only = λ r on. absurd (both_ways (is_attached e r) (none r) on);
 }
 
-pub not_yet : (e : EngineState) (slots : Slots) (variables : ℕ) (listed : List (ℕ × Name)) (n : ℕ) (item : ℕ × Name)
+pub not_yet : (e : EngineState) (slots : Slots) (variables : ℕ) (listed : List (ℕ × Name)) (n : ℕ)
+    (item : ℕ × Name)
     → AreRising listed → n < length listed → item ≡ get_or listed n item
     → AreAttached e slots variables listed n
     → is_attached e item.0 ≡ false
-not_yet e slots variables listed n item rising lt at a = elim (cases_Bool (is_attached e item.0)) as (λ _. is_attached e item.0 ≡ false) [
+not_yet e slots variables listed n item rising lt at a =
+    elim (cases_Bool (is_attached e item.0)) as (λ _. is_attached e item.0 ≡ false) [
   | inr f ↦ f
   | inl t ↦
       let w = a.only item.0 t in
-      let less : (get_or listed w.0 item).0 < item.0 = subst (λ (x : ℕ × Name). (get_or listed w.0 item).0 < x.0) (sym at) (rising w.0 n item w.1 lt) in
+      let less : (get_or listed w.0 item).0 < item.0 =
+        subst (λ (x : ℕ × Name). (get_or listed w.0 item).0 < x.0) (sym at)
+          (rising w.0 n item w.1 lt) in
       let same : (get_or listed w.0 item).0 ≡ item.0 = w.3 item in
       absurd (omega arith)
 ]
 
-pub attached_more : (e f : EngineState) (slots : Slots) (variables : ℕ) (listed : List (ℕ × Name)) (n : ℕ) (item : ℕ × Name)
+pub attached_more : (e f : EngineState) (slots : Slots) (variables : ℕ) (listed : List (ℕ × Name))
+    (n : ℕ) (item : ℕ × Name)
     → n < length listed → item ≡ get_or listed n item → AreAttached e slots variables listed n
     → SetsAttached e f item.0 true → (f.trail ≡ e.trail) × (f.variables ≡ e.variables)
     → f.failed ≡ false → Fits f slots → AreAttached f slots variables listed (n + 1)
@@ -111,15 +122,22 @@ attached_more e f slots variables listed n item lt at a sets same works fits = r
   trail = same.0 ∙ a.trail;
   variables_are = same.1 ∙ a.variables_are;
   works = works;
-  attached = λ i d h inside. elim (cases_eq (get_or listed i d).0 item.0) as (λ _. is_attached f (get_or listed i d).0 ≡ true) [
+  attached =
+    λ i d h inside. elim (cases_eq (get_or listed i d).0 item.0)
+      as (λ _. is_attached f (get_or listed i d).0 ≡ true) [
     | inl s ↦ ap (is_attached f) s ∙ sets.0
     | inr o ↦ elim (cases_eq i n) as (λ _. is_attached f (get_or listed i d).0 ≡ true) [
-      | inl here ↦ absurd (o (ap (λ (x : ℕ × Name). x.0) (ap (λ k. get_or listed k d) here ∙ get_or_default listed n d item lt ∙ sym at)))
+      | inl here ↦ absurd (o (ap (λ (x : ℕ × Name). x.0) (ap (λ k. get_or listed k d) here
+              ∙ get_or_default listed n d item lt ∙ sym at)))
       | inr other ↦ sets.1 (get_or listed i d).0 o ∙ a.attached i d (omega arith) inside
     ]
   ];
-  only = λ r on. elim (cases_eq r item.0) as (λ _. (i : ℕ) × (i < n + 1) × (i < length listed) × ((d : ℕ × Name) → (get_or listed i d).0 ≡ r)) [
-    | inl s ↦ (n, omega arith, lt, λ d. ap (λ (x : ℕ × Name). x.0) (get_or_default listed n d item lt ∙ sym at) ∙ sym s)
-    | inr o ↦ let w = a.only r (sym (sets.1 r o) ∙ on) in (w.0, (let h = w.1 in omega arith), w.2, w.3)
+  only =
+    λ r on. elim (cases_eq r item.0) as (λ _. (i : ℕ) × (i < n + 1) × (i < length listed)
+      × ((d : ℕ × Name) → (get_or listed i d).0 ≡ r)) [
+    | inl s ↦ (n, omega arith, lt,
+        λ d. ap (λ (x : ℕ × Name). x.0) (get_or_default listed n d item lt ∙ sym at) ∙ sym s)
+    | inr o ↦ let w = a.only r (sym (sets.1 r o) ∙ on) in
+      (w.0, (let h = w.1 in omega arith), w.2, w.3)
   ];
 }

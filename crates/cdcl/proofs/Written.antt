@@ -1,37 +1,51 @@
 -- What moves write, one after another.
-use Rattle.std.proofs.Common.{◌≡◌, ℕ, ◌+◌, true, false, cond, List, [], ◌∷◌, ◌++◌, inl, inr, sym, ◌∙◌, ap, subst, refl, arith, append_assoc, append-nil}
+use Rattle.std.proofs.Common.{◌≡◌, ℕ, ◌+◌, true, false, cond, List, [], ◌∷◌, ◌++◌, inl, inr, sym}
+use Rattle.std.proofs.Common.{◌∙◌, ap, subst, refl, arith, append_assoc, append-nil}
 use Rattle.std.specs.Prelude.{Result, Ok, Err, OnOk, OnErr}
 use Rattle.std.proofs.lemmas.List.Elements.{All-nil, All-cons, All-append}
 use Rattle.std.proofs.lemmas.List.Sums.{sum_by-append, sum_by-cons}
 use Rattle.lrat_log.specs.Log.{LogLine, Given, is_learned}
-use Rattle.lrat_log.specs.Steps.{IsBaseOf, learned_count, IsLearnedOrShort, IsShortLine, LearnsNew, nothing_exempt, IsNewTo, log_live}
+use Rattle.lrat_log.specs.Steps.{IsBaseOf, learned_count, IsLearnedOrShort, IsShortLine, LearnsNew}
+use Rattle.lrat_log.specs.Steps.{nothing_exempt, IsNewTo, log_live}
 use Rattle.cdcl.specs.Running.{Writes}
 use Rattle.cdcl.proofs.LogLines.{AddsByHints}
 use Rattle.cdcl.proofs.LearnedLines.{by_rup}
 
 pub writes_none : (given : Given) (ls : List LogLine) → Writes given ls ls 0
-writes_none given ls = record { more = []; grows = sym (append-nil ls); short = All-nil IsLearnedOrShort; learned_is = refl; new = λ base above. tt }
+writes_none given ls =
+    record { more = []; grows = sym (append-nil ls); short = All-nil IsLearnedOrShort;
+      learned_is = refl; new = λ base above. tt }
 
-learns_join : (given : Given) (base : ℕ) (before ls ms : List LogLine) → LearnsNew nothing_exempt given base before ls → LearnsNew nothing_exempt given base (before ++ ls) ms
+learns_join : (given : Given) (base : ℕ) (before ls ms : List LogLine)
+    → LearnsNew nothing_exempt given base before ls
+    → LearnsNew nothing_exempt given base (before ++ ls) ms
     → LearnsNew nothing_exempt given base before (ls ++ ms)
-learns_join given base before [] ms v w = subst (λ x. LearnsNew nothing_exempt given base x ms) (append-nil before) w
+learns_join given base before [] ms v w =
+    subst (λ x. LearnsNew nothing_exempt given base x ms) (append-nil before) w
 learns_join given base before (l ∷ ls) ms v w =
-    (v.0, learns_join given base (before ++ l ∷ []) ls ms v.1 (subst (λ x. LearnsNew nothing_exempt given base x ms) (sym (append_assoc before (l ∷ []) ls)) w))
+    (v.0, learns_join given base (before ++ l ∷ []) ls ms v.1
+        (subst (λ x. LearnsNew nothing_exempt given base x ms)
+          (sym (append_assoc before (l ∷ []) ls)) w))
 
-pub writes_join : (given : Given) (a b c : List LogLine) (m n : ℕ) → Writes given a b m → Writes given b c n → Writes given a c (m + n)
+pub writes_join : (given : Given) (a b c : List LogLine) (m n : ℕ) → Writes given a b m
+    → Writes given b c n → Writes given a c (m + n)
 writes_join given a b c m n v w = record {
   more = v.more ++ w.more;
   grows = w.grows ∙ ap (λ x. x ++ w.more) v.grows ∙ append_assoc a v.more w.more;
   short = All-append IsLearnedOrShort v.more w.more v.short w.short;
-  learned_is = sum_by-append (λ (l : LogLine). cond (is_learned l.kind) 1 0) v.more w.more ∙ (let x = v.learned_is in let y = w.learned_is in omega arith);
-  new = λ base above. learns_join given base a v.more w.more (v.new base above) (subst (λ x. LearnsNew nothing_exempt given base x w.more) v.grows (w.new base above));
+  learned_is = sum_by-append (λ (l : LogLine). cond (is_learned l.kind) 1 0) v.more w.more
+    ∙ (let x = v.learned_is in let y = w.learned_is in omega arith);
+  new =
+    λ base above. learns_join given base a v.more w.more (v.new base above)
+      (subst (λ x. LearnsNew nothing_exempt given base x w.more) v.grows (w.new base above));
 }
 
 one_count : (l : LogLine) → learned_count (l ∷ []) ≡ cond (is_learned l.kind) 1 0 + 0
 one_count l = sum_by-cons (λ (k : LogLine). cond (is_learned k.kind) 1 0) l []
 
 -- a line of at most one literal, which is not a learned one
-pub writes_short : (given : Given) (ls : List LogLine) (l : LogLine) → is_learned l.kind ≡ false → IsShortLine l → Writes given ls (ls ++ l ∷ []) 0
+pub writes_short : (given : Given) (ls : List LogLine) (l : LogLine) → is_learned l.kind ≡ false
+    → IsShortLine l → Writes given ls (ls ++ l ∷ []) 0
 writes_short given ls l other short = record {
   more = l ∷ [];
   grows = refl;
@@ -41,14 +55,19 @@ writes_short given ls l other short = record {
 }
 
 -- a learned line
-pub writes_learned : (given : Given) (ls : List LogLine) (l : LogLine) → is_learned l.kind ≡ true → AddsByHints given ls l
-    → ((base : ℕ) → IsBaseOf given base → IsNewTo nothing_exempt (log_live given base ls) l.clause) → Writes given ls (ls ++ l ∷ []) 1
+pub writes_learned : (given : Given) (ls : List LogLine) (l : LogLine) → is_learned l.kind ≡ true
+    → AddsByHints given ls l
+    → ((base : ℕ) → IsBaseOf given base → IsNewTo nothing_exempt (log_live given base ls) l.clause)
+    → Writes given ls (ls ++ l ∷ []) 1
 writes_learned given ls l learned adds new = record {
   more = l ∷ [];
   grows = refl;
   short = All-cons IsLearnedOrShort l [] (inl learned) (All-nil IsLearnedOrShort);
   learned_is = one_count l ∙ ap (λ b. cond b 1 0 + 0) learned;
-  new = λ base above. (λ e. (new base above, by_rup base (log_live given base ls) l adds.names adds.plain (adds.refutes base above)), tt);
+  new =
+    λ base above. (λ e. (new base above,
+        by_rup base (log_live given base ls) l adds.names adds.plain (adds.refutes base above)),
+      tt);
 }
 
 -- what follows from either end of a call

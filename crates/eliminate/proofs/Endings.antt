@@ -1,5 +1,6 @@
 -- From the tables of all passes to what the pairs need of them, and to what is left at the end.
-use Rattle.std.proofs.Common.{◌≡◌, ℕ, ◌+◌, ◌<◌, ◌≤◌, ◌^◌, ◌==◌, Bool, false, List, [], ◌∷◌, length, refl, ap, arith}
+use Rattle.std.proofs.Common.{◌≡◌, ℕ, ◌+◌, ◌<◌, ◌≤◌, ◌^◌, ◌==◌, Bool, false, List, [], ◌∷◌, length}
+use Rattle.std.proofs.Common.{refl, ap, arith}
 use Rattle.std.specs.Prelude.{Result, Ok, Err, IfOk, OnErr, All}
 use Rattle.std.proofs.lemmas.Bool.{or_from, ne_eqb}
 use Rattle.std.proofs.lemmas.List.Elements.{All-head, All-tail, All-weaker}
@@ -17,18 +18,25 @@ use Rattle.eliminate.specs.Variables.{LeavesLogOver}
 use Rattle.eliminate.specs.Simplifier.{IsSimplified}
 
 -- a variable above all that were eliminated is none of these
-none_above : (v z : ℕ) (removed : List Removed) → v < z → All (IsRemovedWithin v) removed → is_eliminated removed z ≡ false
+none_above : (v z : ℕ) (removed : List Removed) → v < z → All (IsRemovedWithin v) removed
+    → is_eliminated removed z ≡ false
 none_above v z [] above within = refl
 none_above v z (r ∷ removed) above within =
     let w = All-head (IsRemovedWithin v) r removed within in
-    or_from (r.variable == z) (is_eliminated removed z) (ne_eqb r.variable z (λ e. omega (arith, w.1))) (none_above v z removed above (All-tail (IsRemovedWithin v) r removed within))
+    or_from (r.variable == z) (is_eliminated removed z)
+      (ne_eqb r.variable z (λ e. omega (arith, w.1)))
+      (none_above v z removed above (All-tail (IsRemovedWithin v) r removed within))
 
 -- the pairs keep what the store held before them, and bring no eliminated variable back
 abbrev ground_of : Start → Simplifier → Slots → Ground
-ground_of start s slots = record { first = length start.frozen; given = given_of start.clauses; clauses = live_clauses slots; is_gone = is_eliminated s.removals }
+ground_of start s slots =
+    record { first = length start.frozen; given = given_of start.clauses;
+      clauses = live_clauses slots; is_gone = is_eliminated s.removals }
 
 -- where the log is open, the tables are a stage
-open_stage : (start : Start) (s : Simplifier) (slots : Slots) (lines : List LogLine) → IsSimplified start s slots lines → s.is_refuted ≡ false → IsStage (ground_of start s slots) (stage_of s.vars slots s.names lines)
+open_stage : (start : Start) (s : Simplifier) (slots : Slots) (lines : List LogLine)
+    → IsSimplified start s slots lines → s.is_refuted ≡ false
+    → IsStage (ground_of start s slots) (stage_of s.vars slots s.names lines)
 open_stage start s slots lines h running = record {
   more = h.given;
   work = h.state.work;
@@ -39,29 +47,38 @@ open_stage start s slots lines h running = record {
 }
 
 -- and with the fresh variables
-stage_result : (start : Start) (s : Simplifier) (slots : Slots) (lines : List LogLine) (t : Stage) → IsSimplified start s slots lines → s.vars ≤ t.variables → IsStage (ground_of start s slots) t
+stage_result : (start : Start) (s : Simplifier) (slots : Slots) (lines : List LogLine) (t : Stage)
+    → IsSimplified start s slots lines → s.vars ≤ t.variables → IsStage (ground_of start s slots) t
     → t.variables ≤ length start.frozen + 2 ^ 20 → IsResult start s.removals t
 stage_result start s slots lines t h more k fresh = record {
   more = k.more;
   fresh = fresh;
   work = k.work;
   back = λ bits few all. h.state.back bits (omega arith) (k.back (assignment_of bits) all);
-  within = All-weaker (IsRemovedWithin s.vars) (IsRemovedWithin t.variables) (λ r w. (w.0, omega (arith, w.1))) s.removals h.state.within;
+  within =
+    All-weaker (IsRemovedWithin s.vars) (IsRemovedWithin t.variables)
+      (λ r w. (w.0, omega (arith, w.1))) s.removals h.state.within;
   free = k.free;
   not_frozen = h.state.not_frozen;
 }
 
 -- where the pairs were done
-pub ended : {E : Type 0} (r : Result ℕ E) (frozen : List Bool) (s : Simplifier) (slots slots' : Slots) (n' : NamesState) (lines lines' : List LogLine) → s.is_refuted ≡ false
-    → IfOk r (λ v. s.vars ≤ v) → IfOk r (λ v. v ≤ length frozen + 2 ^ 20) → IfOk r (λ v. Keeps (stage_of s.vars slots s.names lines) (stage_of v slots' n' lines'))
-    → IfOk r (λ v. (start : Start) → start.frozen ≡ frozen → IsSimplified start s slots lines → IsResult start s.removals (stage_of v slots' n' lines'))
+pub ended : {E : Type 0} (r : Result ℕ E) (frozen : List Bool) (s : Simplifier)
+    (slots slots' : Slots) (n' : NamesState) (lines lines' : List LogLine) → s.is_refuted ≡ false
+    → IfOk r (λ v. s.vars ≤ v) → IfOk r (λ v. v ≤ length frozen + 2 ^ 20)
+    → IfOk r (λ v. Keeps (stage_of s.vars slots s.names lines) (stage_of v slots' n' lines'))
+    → IfOk r (λ v. (start : Start) → start.frozen ≡ frozen → IsSimplified start s slots lines
+        → IsResult start s.removals (stage_of v slots' n' lines'))
 ended (Ok v) frozen s slots slots' n' lines lines' running more most keeps = λ start is h.
     let same : length start.frozen ≡ length frozen = ap length is in
-    stage_result start s slots lines (stage_of v slots' n' lines') h more (keeps (ground_of start s slots) (open_stage start s slots lines h running)) (omega arith)
+    stage_result start s slots lines (stage_of v slots' n' lines') h more
+      (keeps (ground_of start s slots) (open_stage start s slots lines h running)) (omega arith)
 ended (Err x) frozen s slots slots' n' lines lines' running more most keeps = tt
 
-pub refused : {T E : Type 0} (r : Result T E) (frozen : List Bool) (s : Simplifier) (slots : Slots) (lines lines' : List LogLine) → s.is_refuted ≡ false
-    → OnErr r (KeepsLog (stage_of s.vars slots s.names lines) lines') → OnErr r (LeavesLogOver frozen s slots lines lines')
+pub refused : {T E : Type 0} (r : Result T E) (frozen : List Bool) (s : Simplifier) (slots : Slots)
+    (lines lines' : List LogLine) → s.is_refuted ≡ false
+    → OnErr r (KeepsLog (stage_of s.vars slots s.names lines) lines')
+    → OnErr r (LeavesLogOver frozen s slots lines lines')
 refused (Ok v) frozen s slots lines lines' running k = tt
 refused (Err e) frozen s slots lines lines' running k = λ start is h.
     let log = k (ground_of start s slots) (open_stage start s slots lines h running) in

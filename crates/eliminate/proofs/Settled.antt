@@ -12,7 +12,8 @@ use Rattle.eliminate.specs.Simplifier.{Grows}
 use Rattle.eliminate.specs.Units.{IsSettled, AreSettled}
 use Rattle.eliminate.proofs.States.{all_live}
 
-numbered_all : (P : List Literal → Type 0) (cs : List (List Literal)) (i : ℕ) (c : List Literal) → All P cs → numbered cs i ≡ Some c → P c
+numbered_all : (P : List Literal → Type 0) (cs : List (List Literal)) (i : ℕ) (c : List Literal)
+    → All P cs → numbered cs i ≡ Some c → P c
 numbered_all P cs zero c all e = absurd (none-some c e)
 numbered_all P cs (suc i) c all e = got cs i all e
   where
@@ -22,7 +23,10 @@ numbered_all P cs (suc i) c all e = got cs i all e
     got (d ∷ cs) (suc i) all e = got cs i (All-tail P d cs all) e
 
 -- so clauses of which all are kept among those that are settled are refuted by no hints
-pub settled_not_refuted : (A : List Literal) (slots left : Slots) → AreSettled A left → Grows slots left → IsRefutedByHints (live_clauses slots) → ⊥
+pub settled_not_refuted : (A : List Literal) (slots left : Slots) → AreSettled A left
+    → Grows slots left → IsRefutedByHints (live_clauses slots) → ⊥
 settled_not_refuted A slots left settled grows w =
-    let all : All (IsSettled A) (live_clauses slots) = all_live (IsSettled A) slots (λ r c e. settled r c (grows r c e)) in
-    not_refuted (numbered (live_clauses slots)) A (λ r c e. numbered_all (IsSettled A) (live_clauses slots) r c all e) w.0 w.1
+    let all : All (IsSettled A) (live_clauses slots) =
+      all_live (IsSettled A) slots (λ r c e. settled r c (grows r c e)) in
+    not_refuted (numbered (live_clauses slots)) A
+      (λ r c e. numbered_all (IsSettled A) (live_clauses slots) r c all e) w.0 w.1

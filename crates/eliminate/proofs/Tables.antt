@@ -1,4 +1,5 @@
--- Tables that say the same: a simplified form stays one where only marks, the clause in hand, rows or bins change.
+-- Tables that say the same: a simplified form stays one where only marks, the clause in hand, rows
+-- or bins change.
 use Rattle.std.proofs.Common.{◌≡◌, ◌*◌, List, length, sym, ◌∙◌, ap, subst, arith}
 use Rattle.clauses.specs.Slots.{Slots}
 use Rattle.lrat_log.specs.Log.{LogLine}
@@ -17,7 +18,9 @@ pub record HasSameBut (s t : Simplifier) : Type 0 where
   pub marks : length t.marks ≡ length s.marks
   pub refuted : t.is_refuted ≡ s.is_refuted
 
-pub simplified_same : (start : Start) (s t : Simplifier) (slots : Slots) (ls : List LogLine) → HasSameBut s t → AreRows t.occurrences slots → IsSimplified start s slots ls → IsSimplified start t slots ls
+pub simplified_same : (start : Start) (s t : Simplifier) (slots : Slots) (ls : List LogLine)
+    → HasSameBut s t → AreRows t.occurrences slots → IsSimplified start s slots ls
+    → IsSimplified start t slots ls
 simplified_same start s t slots ls n rows h =
     let with_rows : IsState start s.vars slots s.names.names ls t.occurrences s.removals = record {
       work = h.state.work;
@@ -40,10 +43,18 @@ simplified_same start s t slots ls n rows h =
     }
 
 -- what stays a simplified form is one under other names of its parts
-pub stays_at : (s t u : Simplifier) (slots left kept : Slots) (ls more most : List LogLine) → u ≡ t → kept ≡ left → most ≡ more → StaysSimplified s slots ls t left more → StaysSimplified s slots ls u kept most
+pub stays_at : (s t u : Simplifier) (slots left kept : Slots) (ls more most : List LogLine) → u ≡ t
+    → kept ≡ left → most ≡ more → StaysSimplified s slots ls t left more
+    → StaysSimplified s slots ls u kept most
 stays_at s t u slots left kept ls more most e f g h start i =
-    subst (λ (x : Simplifier). IsSimplified start x kept most) (sym e) (subst (λ (x : Slots). IsSimplified start t x most) (sym f) (subst (IsSimplified start t left) (sym g) (h start i)))
+    subst (λ (x : Simplifier). IsSimplified start x kept most) (sym e)
+      (subst (λ (x : Slots). IsSimplified start t x most) (sym f)
+        (subst (IsSimplified start t left) (sym g) (h start i)))
 
-pub simplified_at : (start : Start) (t u : Simplifier) (left kept : Slots) (more most : List LogLine) → u ≡ t → kept ≡ left → most ≡ more → IsSimplified start t left more → IsSimplified start u kept most
+pub simplified_at : (start : Start) (t u : Simplifier) (left kept : Slots)
+    (more most : List LogLine) → u ≡ t → kept ≡ left → most ≡ more → IsSimplified start t left more
+    → IsSimplified start u kept most
 simplified_at start t u left kept more most e f g h =
-    subst (λ (x : Simplifier). IsSimplified start x kept most) (sym e) (subst (λ (x : Slots). IsSimplified start t x most) (sym f) (subst (IsSimplified start t left) (sym g) h))
+    subst (λ (x : Simplifier). IsSimplified start x kept most) (sym e)
+      (subst (λ (x : Slots). IsSimplified start t x most) (sym f)
+        (subst (IsSimplified start t left) (sym g) h))

@@ -1,5 +1,6 @@
 -- Resolvents that are counted against marks.
-use Rattle.std.proofs.Common.{◌≡◌, ℕ, ◌<◌, ◌≤◌, Bool, true, ◌||◌, List, [], ◌∷◌, length, not, get_or, Some, refl, sym, ◌∙◌, ap}
+use Rattle.std.proofs.Common.{◌≡◌, ℕ, ◌<◌, ◌≤◌, Bool, true, ◌||◌, List, [], ◌∷◌, length, not}
+use Rattle.std.proofs.Common.{get_or, Some, refl, sym, ◌∙◌, ap}
 use Rattle.std.specs.Prelude.{All, unwrap_or, nat_le}
 use Rattle.std.specs.List.{list_any, list_all}
 use Rattle.std.proofs.lemmas.Bool.{leb-true, and_parts}
@@ -43,7 +44,8 @@ module _ (marks : List Bool) (p : Literal) (c d : List Literal)
       All-filter (λ k. not (literal_eq (negation p) k)) (λ k. is_opposed marks k ≡ q k) d agree in
       ap (list_any (is_opposed marks)) rest_marked
       ∙ any_same (is_opposed marks) q (rest_of p c d)
-      (All-filter (λ k. not (contains_literal k (without_literal p c))) (λ k. is_opposed marks k ≡ q k) (without_literal (negation p) d) left)
+      (All-filter (λ k. not (contains_literal k (without_literal p c)))
+          (λ k. is_opposed marks k ≡ q k) (without_literal (negation p) d) left)
 
 -- the clause under a reference that is looked at
 pub under_live : (slots : Slots) (r : ℕ) (c : List Literal) → clause_at slots r ≡ Some c
@@ -61,4 +63,6 @@ under_at slots rs i r c lt is e = under_item slots rs i r lt is ∙ under_live s
 
 -- there are at most ten
 pub few_length : (cs : List (List Literal)) → are_few_and_short cs ≡ true → length cs ≤ 10
-few_length cs e = leb-true (length cs) 10 (and_parts (list_all (λ c. nat_le (length c) 100) cs) (nat_le (length cs) 10) e).1
+few_length cs e =
+    leb-true (length cs) 10 (and_parts (list_all (λ c. nat_le (length c) 100) cs)
+      (nat_le (length cs) 10) e).1

@@ -1,25 +1,36 @@
 -- Resolvents, strengthened clauses and units are RUP lines by the hints that their makers know.
-use Rattle.std.proofs.Common.{◌≡◌, ℕ, true, false, not, List, [], ◌∷◌, ◌++◌, map, filter, Some, ◌⊎◌, inl, inr, refl, sym, ◌∙◌, ap, subst}
-use Rattle.std.proofs.lemmas.Bool.{or_cases, or_left, or_right, both_ways, false_from_ne_true, false≢true}
+use Rattle.std.proofs.Common.{◌≡◌, ℕ, true, false, not, List, [], ◌∷◌, ◌++◌, map, filter, Some, ◌⊎◌}
+use Rattle.std.proofs.Common.{inl, inr, refl, sym, ◌∙◌, ap, subst}
+use Rattle.std.proofs.lemmas.Bool.{or_cases, or_left, or_right, both_ways, false_from_ne_true}
+use Rattle.std.proofs.lemmas.Bool.{false≢true}
 use Rattle.wcnf.specs.Literal.{Literal, negation, literal_eq}
 use Rattle.wcnf.specs.Clause.{contains_literal, without_literal, has_opposites}
 use Rattle.wcnf.specs.Refute.{IsFalseUnder, Clauses, Refutes}
 use Rattle.eliminate_tables.specs.Resolvents.{resolvent}
 use Rattle.wcnf.proofs.Laws.{literal_eq-refl}
-pub use Rattle.pairs.proofs.Laws.{not_not, negation_twice, literal_eq-negation, contains-negations, Covers, covered_unit, contains_same, contains-filter, filter-contains, each_literal, without-contains, not-without, not-opposite}
+pub use Rattle.pairs.proofs.Laws.{not_not, negation_twice, literal_eq-negation, contains-negations}
+pub use Rattle.pairs.proofs.Laws.{Covers, covered_unit, contains_same, contains-filter}
+pub use Rattle.pairs.proofs.Laws.{filter-contains, each_literal, without-contains, not-without}
+pub use Rattle.pairs.proofs.Laws.{not-opposite}
 
-covered_false : (p : Literal) (r d : List Literal) → Covers (negation p) r d → IsFalseUnder d (p ∷ map negation r)
+covered_false : (p : Literal) (r d : List Literal) → Covers (negation p) r d
+    → IsFalseUnder d (p ∷ map negation r)
 covered_false p r [] h = tt
 covered_false p r (k ∷ d) h = (
   elim h.0 [
-    | inl e ↦ subst (λ x. contains_literal (negation x) (p ∷ map negation r) ≡ true) (sym e) (or_left (literal_eq (negation (negation p)) p) (contains_literal (negation (negation p)) (map negation r)) (subst (λ x. literal_eq x p ≡ true) (sym (negation_twice p)) (literal_eq-refl p)))
-    | inr e ↦ or_right (literal_eq (negation k) p) (contains_literal (negation k) (map negation r)) (contains-negations k r ∙ e)
+    | inl e ↦ subst (λ x. contains_literal (negation x) (p ∷ map negation r) ≡ true) (sym e)
+      (or_left (literal_eq (negation (negation p)) p)
+        (contains_literal (negation (negation p)) (map negation r))
+        (subst (λ x. literal_eq x p ≡ true) (sym (negation_twice p)) (literal_eq-refl p)))
+    | inr e ↦ or_right (literal_eq (negation k) p) (contains_literal (negation k) (map negation r))
+      (contains-negations k r ∙ e)
   ],
   covered_false p r d h.1,
 )
 
 -- two clauses that cover r but for p and its negation refute the negations of r, in this order
-pub two_refute : (at : Clauses) (p : Literal) (r c d : List Literal) (i j : ℕ) → at i ≡ Some c → at j ≡ Some d
+pub two_refute : (at : Clauses) (p : Literal) (r c d : List Literal) (i j : ℕ) → at i ≡ Some c
+    → at j ≡ Some d
     → contains_literal p c ≡ true → Covers p r c → Covers (negation p) r d
     → contains_literal p r ≡ false → contains_literal (negation p) r ≡ false
     → Refutes at (map negation r) (i ∷ j ∷ [])
@@ -34,7 +45,8 @@ two_refute at p r c d i j first second member covers_c covers_d apart apart_not 
   conflict = covered_false p r d covers_d;
 }
 
-pub contains-left : (k : Literal) (c d : List Literal) → contains_literal k c ≡ true → contains_literal k (c ++ d) ≡ true
+pub contains-left : (k : Literal) (c d : List Literal) → contains_literal k c ≡ true
+    → contains_literal k (c ++ d) ≡ true
 contains-left k [] d e = absurd (false≢true e)
 contains-left k (l ∷ c) d e =
     elim (or_cases (literal_eq k l) (contains_literal k c) e) [
@@ -42,11 +54,14 @@ contains-left k (l ∷ c) d e =
       | inr h ↦ or_right (literal_eq k l) (contains_literal k (c ++ d)) (contains-left k c d h)
     ]
 
-pub contains-right : (k : Literal) (c d : List Literal) → contains_literal k d ≡ true → contains_literal k (c ++ d) ≡ true
+pub contains-right : (k : Literal) (c d : List Literal) → contains_literal k d ≡ true
+    → contains_literal k (c ++ d) ≡ true
 contains-right k [] d e = e
-contains-right k (l ∷ c) d e = or_right (literal_eq k l) (contains_literal k (c ++ d)) (contains-right k c d e)
+contains-right k (l ∷ c) d e =
+    or_right (literal_eq k l) (contains_literal k (c ++ d)) (contains-right k c d e)
 
-pub contains-either : (k : Literal) (c d : List Literal) → contains_literal k (c ++ d) ≡ true → (contains_literal k c ≡ true) ⊎ (contains_literal k d ≡ true)
+pub contains-either : (k : Literal) (c d : List Literal) → contains_literal k (c ++ d) ≡ true
+    → (contains_literal k c ≡ true) ⊎ (contains_literal k d ≡ true)
 contains-either k [] d e = inr e
 contains-either k (l ∷ c) d e =
     elim (or_cases (literal_eq k l) (contains_literal k (c ++ d)) e) [
@@ -58,45 +73,64 @@ contains-either k (l ∷ c) d e =
     ]
 
 pub resolvent-covers_left : (p : Literal) (c d : List Literal) → Covers p (resolvent p c d) c
-resolvent-covers_left p c d = each_literal (λ k. (k ≡ p) ⊎ (contains_literal k (resolvent p c d) ≡ true)) c (λ k e.
+resolvent-covers_left p c d =
+    each_literal (λ k. (k ≡ p) ⊎ (contains_literal k (resolvent p c d) ≡ true)) c (λ k e.
     elim (without-contains p k c e) [
       | inl h ↦ inl h
       | inr h ↦ inr (contains-left k (without_literal p c) _ h)
     ])
 
-in_rest : (k : Literal) (a b : List Literal) → contains_literal k b ≡ true → contains_literal k (a ++ filter (λ k. not (contains_literal k a)) b) ≡ true
+in_rest : (k : Literal) (a b : List Literal) → contains_literal k b ≡ true
+    → contains_literal k (a ++ filter (λ k. not (contains_literal k a)) b) ≡ true
 in_rest k a b e =
-    elim (contains_literal k a) as (λ v. contains_literal k a ≡ v → contains_literal k (a ++ filter (λ k. not (contains_literal k a)) b) ≡ true) [
+    elim (contains_literal k a) as (λ v. contains_literal k a ≡ v
+        → contains_literal k (a ++ filter (λ k. not (contains_literal k a)) b) ≡ true) [
       | true ↦ λ h. contains-left k a _ h
-      | false ↦ λ h. contains-right k a _ (contains-filter (λ k. not (contains_literal k a)) k b e (ap not h))
+      | false ↦ λ h. contains-right k a _ (contains-filter (λ k. not (contains_literal k a)) k b e
+          (ap not h))
     ] refl
 
-pub resolvent-covers_right : (p : Literal) (c d : List Literal) → Covers (negation p) (resolvent p c d) d
-resolvent-covers_right p c d = each_literal (λ k. (k ≡ negation p) ⊎ (contains_literal k (resolvent p c d) ≡ true)) d (λ k e.
+pub resolvent-covers_right : (p : Literal) (c d : List Literal)
+    → Covers (negation p) (resolvent p c d) d
+resolvent-covers_right p c d =
+    each_literal (λ k. (k ≡ negation p) ⊎ (contains_literal k (resolvent p c d) ≡ true)) d (λ k e.
     elim (without-contains (negation p) k d e) [
       | inl h ↦ inl h
       | inr h ↦ inr (in_rest k (without_literal p c) (without_literal (negation p) d) h)
     ])
 
 -- a literal of the resolvent is one of the parents', less the pivot
-pub resolvent-parts : (p k : Literal) (c d : List Literal) → contains_literal k (resolvent p c d) ≡ true
-    → (contains_literal k (without_literal p c) ≡ true) ⊎ (contains_literal k (without_literal (negation p) d) ≡ true)
+pub resolvent-parts : (p k : Literal) (c d : List Literal)
+    → contains_literal k (resolvent p c d) ≡ true
+    → (contains_literal k (without_literal p c) ≡ true)
+        ⊎ (contains_literal k (without_literal (negation p) d) ≡ true)
 resolvent-parts p k c d e =
     elim (contains-either k (without_literal p c) _ e) [
       | inl h ↦ inl h
-      | inr h ↦ inr (filter-contains (λ k. not (contains_literal k (without_literal p c))) k (without_literal (negation p) d) h).0
+      | inr h ↦ inr (filter-contains (λ k. not (contains_literal k (without_literal p c))) k
+          (without_literal (negation p) d) h).0
     ]
 
-pub resolvent-open : (p : Literal) (c d : List Literal) → contains_literal p d ≡ false → contains_literal p (resolvent p c d) ≡ false
-resolvent-open p c d n = false_from_ne_true (contains_literal p (resolvent p c d)) (λ e. elim (resolvent-parts p p c d e) [
+pub resolvent-open : (p : Literal) (c d : List Literal) → contains_literal p d ≡ false
+    → contains_literal p (resolvent p c d) ≡ false
+resolvent-open p c d n =
+    false_from_ne_true (contains_literal p (resolvent p c d))
+      (λ e. elim (resolvent-parts p p c d e) [
   | inl h ↦ both_ways (contains_literal p (without_literal p c)) (not-without p c) h
-  | inr h ↦ both_ways (contains_literal p d) n (filter-contains (λ l. not (literal_eq (negation p) l)) p d h).0
+  | inr h ↦ both_ways (contains_literal p d) n
+    (filter-contains (λ l. not (literal_eq (negation p) l)) p d h).0
 ])
 
-pub resolvent-open_not : (p : Literal) (c d : List Literal) → contains_literal (negation p) c ≡ false → contains_literal (negation p) (resolvent p c d) ≡ false
-resolvent-open_not p c d n = false_from_ne_true (contains_literal (negation p) (resolvent p c d)) (λ e. elim (resolvent-parts p (negation p) c d e) [
-  | inl h ↦ both_ways (contains_literal (negation p) c) n (filter-contains (λ l. not (literal_eq p l)) (negation p) c h).0
-  | inr h ↦ both_ways (contains_literal (negation p) (without_literal (negation p) d)) (not-without (negation p) d) h
+pub resolvent-open_not : (p : Literal) (c d : List Literal)
+    → contains_literal (negation p) c ≡ false
+    → contains_literal (negation p) (resolvent p c d) ≡ false
+resolvent-open_not p c d n =
+    false_from_ne_true (contains_literal (negation p) (resolvent p c d))
+      (λ e. elim (resolvent-parts p (negation p) c d e) [
+  | inl h ↦ both_ways (contains_literal (negation p) c) n
+    (filter-contains (λ l. not (literal_eq p l)) (negation p) c h).0
+  | inr h ↦ both_ways (contains_literal (negation p) (without_literal (negation p) d))
+    (not-without (negation p) d) h
 ])
 
 -- what is asked of two parents
@@ -108,11 +142,16 @@ pub record AreParents (at : Clauses) (p : Literal) (c d : List Literal) (i j : �
   pub plain : has_opposites c ≡ false
   pub plain_too : has_opposites d ≡ false
 
-pub not-opposite_too : (p : Literal) (d : List Literal) → has_opposites d ≡ false → contains_literal (negation p) d ≡ true → contains_literal p d ≡ false
-not-opposite_too p d o e = contains_same p (negation (negation p)) d (sym (negation_twice p)) ∙ not-opposite (negation p) d o e
+pub not-opposite_too : (p : Literal) (d : List Literal) → has_opposites d ≡ false
+    → contains_literal (negation p) d ≡ true → contains_literal p d ≡ false
+not-opposite_too p d o e = contains_same p (negation (negation p)) d (sym (negation_twice p))
+    ∙ not-opposite (negation p) d o e
 
--- a resolvent is a RUP line by its parents, the one with the pivot first; has_opposites of the resolvent does not matter for that
-pub resolvent_refutes : (at : Clauses) (p : Literal) (c d : List Literal) (i j : ℕ) → AreParents at p c d i j → Refutes at (map negation (resolvent p c d)) (i ∷ j ∷ [])
+-- a resolvent is a RUP line by its parents, the one with the pivot first; has_opposites of the
+-- resolvent does not matter for that
+pub resolvent_refutes : (at : Clauses) (p : Literal) (c d : List Literal) (i j : ℕ)
+    → AreParents at p c d i j → Refutes at (map negation (resolvent p c d)) (i ∷ j ∷ [])
 resolvent_refutes at p c d i j a = two_refute at p (resolvent p c d) c d i j a.first a.second a.has
     (resolvent-covers_left p c d) (resolvent-covers_right p c d)
-    (resolvent-open p c d (not-opposite_too p d a.plain_too a.has_not)) (resolvent-open_not p c d (not-opposite p c a.plain a.has))
+    (resolvent-open p c d (not-opposite_too p d a.plain_too a.has_not))
+      (resolvent-open_not p c d (not-opposite p c a.plain a.has))

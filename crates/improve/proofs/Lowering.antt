@@ -34,7 +34,8 @@ cost_small p c h k =
     (λ (s : SoftClause). s.weight) p.soft (λ s. part (clause_value k.0 s.clause) s.weight) in
     omega (arith, le, h.weight_sum, k.2)
 
-module _ (p : Problem) (costs new : List ℕ) (c : ℕ) (bits : List Bool) (more : new ≡ costs ++ c ∷ []) where
+module _ (p : Problem) (costs new : List ℕ) (c : ℕ) (bits : List Bool)
+    (more : new ≡ costs ++ c ∷ []) where
   pub honest_new : IsSolution p bits c → All (IsCostOfSome p) costs → All (IsCostOfSome p) new
   honest_new s h =
       subst (All (IsCostOfSome p)) (sym more)
@@ -49,7 +50,8 @@ module _ (p : Problem) (costs new : List ℕ) (c : ℕ) (bits : List Bool) (more
   count_new = ap length more ∙ length-append costs (c ∷ [])
 
   -- a search that told these costs, the last of them too, comes to its end
-  pub lowered_end : (profile used : Profile) (old now : Telling) (mid : List ℕ) (before left : BudgetState)
+  pub lowered_end : (profile used : Profile) (old now : Telling) (mid : List ℕ)
+    (before left : BudgetState)
       (result : Result Found ImproveFault) → left.limit ≡ before.limit
       → mid ≡ old.told ++ costs → now.told ≡ mid ++ c ∷ [] → now.failures ≡ old.failures
       → AreFalling (costs ++ c ∷ []) → IsSolution p bits c → All (IsCostOfSome p) costs

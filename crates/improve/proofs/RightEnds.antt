@@ -1,5 +1,6 @@
 -- An end is right: an accepted log over the formula for the last bound shows an optimum.
-use Rattle.std.proofs.Common.{◌≡◌, ℕ, ◌+◌, ◌<◌, Bool, List, [], ◌∷◌, ◌++◌, length, map, refl, sym, ◌∙◌, ap, subst, arith, inl, inr}
+use Rattle.std.proofs.Common.{◌≡◌, ℕ, ◌+◌, ◌<◌, Bool, List, [], ◌∷◌, ◌++◌, length, map, refl, sym}
+use Rattle.std.proofs.Common.{◌∙◌, ap, subst, arith, inl, inr}
 use Rattle.std.specs.List.{flat_map}
 use Rattle.std.proofs.lemmas.Bool.{cases_lt}
 use Rattle.std.proofs.lemmas.List.{length-map}
@@ -19,7 +20,9 @@ use Rattle.bound.specs.Bound.{bound_as, fixed_clauses, comparator_for}
 use Rattle.bound.proofs.Laws.{says_cheaper}
 use Rattle.bound.proofs.Laws.{clauses_few}
 use Rattle.cdcl.specs.Solving.{given_to}
-use Rattle.improve.specs.Improving.{IsSolution, EndsWith, AreFalling, IsAcceptedOver, IsHardLog, IsRightFound, BeginsWithWeaker, but_last, first_subset, weaker_for, weaker_among}
+use Rattle.improve.specs.Improving.{IsSolution, EndsWith, AreFalling, IsAcceptedOver, IsHardLog}
+use Rattle.improve.specs.Improving.{IsRightFound, BeginsWithWeaker, but_last, first_subset}
+use Rattle.improve.specs.Improving.{weaker_for, weaker_among}
 use Rattle.improve.specs.Bounds.{IsOver, BoundLog}
 use Rattle.improve.specs.declared.bounds.Bounds.{Bounds}
 use Rattle.improve.specs.declared.found.Found.TheVariants.{Optimum, Best}
@@ -29,52 +32,80 @@ but_last-end [] c = refl
 but_last-end (d ∷ []) c = refl
 but_last-end (d ∷ e ∷ ds) c = ap (λ x. d ∷ x) (but_last-end (e ∷ ds) c)
 
-weaker_for-last : (profile : Profile) (p : Problem) (costs before : List ℕ) (c : ℕ) → costs ≡ before ++ c ∷ []
-    → weaker_for profile p costs c ≡ weaker_among (length (fixed_clauses profile p) + 1) (comparator_for profile p c) (flat_map (comparator_for profile p) before)
+weaker_for-last : (profile : Profile) (p : Problem) (costs before : List ℕ) (c : ℕ)
+    → costs ≡ before ++ c ∷ []
+    → weaker_for profile p costs c ≡ weaker_among (length (fixed_clauses profile p) + 1)
+      (comparator_for profile p c) (flat_map (comparator_for profile p) before)
 weaker_for-last profile p costs before c e =
-    ap (λ x. weaker_among (length (fixed_clauses profile p) + 1) (comparator_for profile p c) (flat_map (comparator_for profile p) x)) (ap but_last e ∙ but_last-end before c)
+    ap (λ x. weaker_among (length (fixed_clauses profile p) + 1) (comparator_for profile p c)
+        (flat_map (comparator_for profile p) x)) (ap but_last e ∙ but_last-end before c)
 
-begins : (profile : Profile) (p : Problem) (costs before : List ℕ) (c : ℕ) (sink log : List LogLine) → costs ≡ before ++ c ∷ []
-    → log ≡ rebased (length (fixed_clauses profile p)) (weaker_among (length (fixed_clauses profile p) + 1) (comparator_for profile p c) (flat_map (comparator_for profile p) before)) sink
+begins : (profile : Profile) (p : Problem) (costs before : List ℕ) (c : ℕ) (sink log : List LogLine)
+    → costs ≡ before ++ c ∷ []
+    → log ≡ rebased (length (fixed_clauses profile p))
+      (weaker_among (length (fixed_clauses profile p) + 1) (comparator_for profile p c)
+        (flat_map (comparator_for profile p) before)) sink
     → BeginsWithWeaker profile p costs c log
 begins profile p costs before c sink log e is =
-    let W = weaker_among (length (fixed_clauses profile p) + 1) (comparator_for profile p c) (flat_map (comparator_for profile p) before) in
+    let W = weaker_among (length (fixed_clauses profile p) + 1) (comparator_for profile p c)
+      (flat_map (comparator_for profile p) before) in
     let moved = map (moved_line (length (fixed_clauses profile p)) (length W)) sink in
-    (moved, is ∙ ap (λ w. map weaker_line w ++ moved) (sym (weaker_for-last profile p costs before c e)))
+    (moved, is ∙ ap (λ w. map weaker_line w ++ moved)
+        (sym (weaker_for-last profile p costs before c e)))
 
-weaker_count : (profile : Profile) (p : Problem) (costs before : List ℕ) (c : ℕ) → costs ≡ before ++ c ∷ [] → length (flat_map (comparator_for profile p) before) ≡ length (weaker_for profile p costs c)
+weaker_count : (profile : Profile) (p : Problem) (costs before : List ℕ) (c : ℕ)
+    → costs ≡ before ++ c ∷ [] → length (flat_map (comparator_for profile p) before)
+      ≡ length (weaker_for profile p costs c)
 weaker_count profile p costs before c e =
-    sym (length-map (flat_map (comparator_for profile p) before) (λ x. (x, first_subset (length (fixed_clauses profile p) + 1) (comparator_for profile p c) x)))
+    sym (length-map (flat_map (comparator_for profile p) before)
+        (λ x. (x, first_subset (length (fixed_clauses profile p) + 1)
+            (comparator_for profile p c) x)))
     ∙ sym (ap length (weaker_for-last profile p costs before c e))
 
-optimal : (profile : Profile) (p : Problem) → IsInstance p → (bits : List Bool) (c : ℕ) (log : List LogLine) → IsSolution p bits c → IsAcceptedOver (bound_as profile p c).clauses log
+optimal : (profile : Profile) (p : Problem) → IsInstance p
+    → (bits : List Bool) (c : ℕ) (log : List LogLine) → IsSolution p bits c
+    → IsAcceptedOver (bound_as profile p c).clauses log
     → (t : Assignment) → Extends bits t → IsOptimal p t c
 optimal profile p h bits c log s accepted t x = record {
   feasible = (s.1 t x).0;
   exact = (s.1 t x).1;
   least = λ u f. elim (cases_lt _ c) [
-    | inl lt ↦ (let w = (says_cheaper profile p c h).from u f lt in absurd (certificate_sound (bound_as profile p c).clauses (numbered_lines (length (bound_as profile p c).clauses) log) accepted w.0 w.2))
+    | inl lt ↦ (let w = (says_cheaper profile p c h).from u f lt in
+        absurd (certificate_sound (bound_as profile p c).clauses
+          (numbered_lines (length (bound_as profile p c).clauses) log) accepted w.0 w.2))
     | inr le ↦ le
   ];
 }
 
-pub right_optimum : (p : Problem) (b : Bounds) (cost : ℕ) (bits : Vec Bool Global) (log : List LogLine) (count : ℕ) → IsOver p b → BoundLog p b log → IsAcceptedLog (given_to b.solver) (b.solver).sink
+pub right_optimum : (p : Problem) (b : Bounds) (cost : ℕ) (bits : Vec Bool Global)
+    (log : List LogLine) (count : ℕ) → IsOver p b → BoundLog p b log
+    → IsAcceptedLog (given_to b.solver) (b.solver).sink
     → IsSolution p bits.items cost → EndsWith (b.costs).items cost → AreFalling (b.costs).items
-    → ((before : List ℕ) (c : ℕ) → (b.costs).items ≡ before ++ c ∷ [] → count ≡ length (bound_as b.profile p c).clauses) → IsRightFound b.profile p (b.costs).items (Optimum cost bits log count)
+    → ((before : List ℕ) (c : ℕ) → (b.costs).items ≡ before ++ c ∷ []
+        → count ≡ length (bound_as b.profile p c).clauses)
+    → IsRightFound b.profile p (b.costs).items (Optimum cost bits log count)
 right_optimum p b cost bits log count over is refuted s ends falling counts =
-    let accepted = accepts_of_log (bound_as b.profile p cost).clauses log (is.accepted ends.0 cost ends.1 falling refuted) in
+    let accepted =
+      accepts_of_log (bound_as b.profile p cost).clauses log
+        (is.accepted ends.0 cost ends.1 falling refuted) in
     let same = counts ends.0 cost ends.1 in
     record {
       solution = s;
       told = ends;
       optimal = optimal b.profile p over.instance bits.items cost log s accepted;
       accepted = accepted;
-      begins = begins b.profile p (b.costs).items ends.0 cost (b.solver).sink log ends.1 (is.lines ends.0 cost ends.1);
+      begins =
+        begins b.profile p (b.costs).items ends.0 cost (b.solver).sink log ends.1
+          (is.lines ends.0 cost ends.1);
       counted = (same, omega (arith, same, clauses_few b.profile p cost over.instance));
     }
 
-pub right_best : (p : Problem) (b : Bounds) (cost : ℕ) (bits : Vec Bool Global) (hard log : List LogLine) → IsOver p b → BoundLog p b log → AddsNoEmptyClause (b.solver).sink
-    → IsSolution p bits.items cost → 0 < cost → EndsWith (b.costs).items cost → AreFalling (b.costs).items → IsHardLog p hard → IsRightFound b.profile p (b.costs).items (Best cost bits (record { hard = hard; bound = log }))
+pub right_best : (p : Problem) (b : Bounds) (cost : ℕ) (bits : Vec Bool Global)
+    (hard log : List LogLine) → IsOver p b → BoundLog p b log → AddsNoEmptyClause (b.solver).sink
+    → IsSolution p bits.items cost → 0 < cost → EndsWith (b.costs).items cost
+    → AreFalling (b.costs).items → IsHardLog p hard
+    → IsRightFound b.profile p (b.costs).items
+      (Best cost bits (record { hard = hard; bound = log }))
 right_best p b cost bits hard log over is free s above ends falling work =
     let cs = (bound_as b.profile p cost).clauses in
     record {
@@ -83,9 +114,15 @@ right_best p b cost bits hard log over is free s above ends falling work =
       above_zero = above;
       hard = work;
       bound = record {
-        work = record { steps = steps_of_log cs log (is.is_log ends.0 cost ends.1 falling); open_end = is.open_end ends.0 cost ends.1 falling free };
-        begins = begins b.profile p (b.costs).items ends.0 cost (b.solver).sink log ends.1 (is.lines ends.0 cost ends.1);
-        new = subst (λ n. LearnsNew (is_later (length (fixed_clauses b.profile p)) (length cs + n)) (given_of cs) (length cs) [] log)
-            (weaker_count b.profile p (b.costs).items ends.0 cost ends.1) (is.new ends.0 cost ends.1 falling);
+        work = record { steps = steps_of_log cs log (is.is_log ends.0 cost ends.1 falling);
+            open_end = is.open_end ends.0 cost ends.1 falling free };
+        begins =
+          begins b.profile p (b.costs).items ends.0 cost (b.solver).sink log ends.1
+            (is.lines ends.0 cost ends.1);
+        new =
+          subst (λ n. LearnsNew (is_later (length (fixed_clauses b.profile p)) (length cs + n))
+            (given_of cs) (length cs) [] log)
+            (weaker_count b.profile p (b.costs).items ends.0 cost ends.1)
+              (is.new ends.0 cost ends.1 falling);
       };
     }

@@ -1,5 +1,6 @@
 -- How a search may end: what it told, and what it found.
-use Rattle.std.proofs.Common.{◌≡◌, ℕ, ◌+◌, List, [], ◌∷◌, ◌++◌, length, Some, Result, Ok, Err, refl, sym, subst, All}
+use Rattle.std.proofs.Common.{◌≡◌, ℕ, ◌+◌, List, [], ◌∷◌, ◌++◌, length, Some, Result, Ok, Err, refl}
+use Rattle.std.proofs.Common.{sym, subst, All}
 use Rattle.std.specs.Prelude.{IfOk, IfErr}
 use Rattle.wcnf.specs.Problem.{Problem}
 use Rattle.adder.specs.declared.cells.Profile.{Profile}
@@ -7,10 +8,14 @@ use Rattle.cdcl_order.specs.Budgets.{BudgetState, left_of}
 use Rattle.improve.specs.declared.found.Found.{Found}
 use Rattle.improve.specs.declared.found.ImproveFault.{ImproveFault}
 use Rattle.improve.specs.declared.found.ImproveFault.TheVariants.{Memory, Progress}
-use Rattle.improve.specs.Improving.{AreFalling, IsCostOfSome, IsRightFound, Telling, Improves, OnWork, work_count}
+use Rattle.improve.specs.Improving.{AreFalling, IsCostOfSome, IsRightFound, Telling, Improves}
+use Rattle.improve.specs.Improving.{OnWork, work_count}
 
-module _ (profile : Profile) (p : Problem) (old new : Telling) (before left : BudgetState) (limit : left.limit ≡ before.limit) (costs : List ℕ) (tells : new.told ≡ old.told ++ costs) where
-  pub memory_end : AreFalling costs → All (IsCostOfSome p) costs → new.failures ≡ old.failures → Improves profile p (Err Memory) old new before left
+module _ (profile : Profile) (p : Problem) (old new : Telling) (before left : BudgetState)
+    (limit : left.limit ≡ before.limit) (costs : List ℕ) (tells : new.told ≡ old.told ++ costs)
+    where
+  pub memory_end : AreFalling costs → All (IsCostOfSome p) costs → new.failures ≡ old.failures
+    → Improves profile p (Err Memory) old new before left
   memory_end falling honest same = record {
     tried = costs;
     told = costs;
@@ -27,7 +32,8 @@ module _ (profile : Profile) (p : Problem) (old new : Telling) (before left : Bu
     spent = tt;
   }
 
-  pub progress_end : (c : ℕ) → AreFalling (costs ++ c ∷ []) → All (IsCostOfSome p) (costs ++ c ∷ []) → new.failed ≡ Some c → new.failures ≡ old.failures + 1
+  pub progress_end : (c : ℕ) → AreFalling (costs ++ c ∷ []) → All (IsCostOfSome p) (costs ++ c ∷ [])
+    → new.failed ≡ Some c → new.failures ≡ old.failures + 1
       → Improves profile p (Err Progress) old new before left
   progress_end c falling honest failed more = record {
     tried = costs ++ c ∷ [];
@@ -45,9 +51,11 @@ module _ (profile : Profile) (p : Problem) (old new : Telling) (before left : Bu
     spent = tt;
   }
 
-  pub found_end : (result : Result Found ImproveFault) → AreFalling costs → All (IsCostOfSome p) costs → new.failures ≡ old.failures → IfErr result (λ e. e ≡ Memory)
+  pub found_end : (result : Result Found ImproveFault) → AreFalling costs
+    → All (IsCostOfSome p) costs → new.failures ≡ old.failures → IfErr result (λ e. e ≡ Memory)
       → IfOk result (IsRightFound profile p costs) → left.answers ≡ before.answers + length costs
-      → OnWork result (λ work. left.learned ≡ before.learned + work_count work) → OnWork result (λ work. left_of left ≡ 0) → Improves profile p result old new before left
+      → OnWork result (λ work. left.learned ≡ before.learned + work_count work)
+      → OnWork result (λ work. left_of left ≡ 0) → Improves profile p result old new before left
   found_end (Ok found) falling honest same fault right answers learned spent = record {
     tried = costs;
     told = costs;
@@ -64,4 +72,5 @@ module _ (profile : Profile) (p : Problem) (old new : Telling) (before left : Bu
     spent = spent;
   }
   found_end (Err e) falling honest same fault right answers learned spent =
-      subst (λ x. Improves profile p (Err x) old new before left) (sym fault) (memory_end falling honest same)
+      subst (λ x. Improves profile p (Err x) old new before left) (sym fault)
+        (memory_end falling honest same)

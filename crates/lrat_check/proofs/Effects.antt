@@ -1,8 +1,11 @@
 -- What one hint does, from a pass over its clause, and the steps of a walk along hints.
-use Rattle.std.proofs.Common.{◌≡◌, ℕ, ◌+◌, ◌<◌, ◌≤◌, Bool, true, false, not, List, [], ◌∷◌, ◌++◌, map, length, get_or, take, drop, Option, Some, None, refl, sym, ◌∙◌, ap, subst, inl, inr, arith}
+use Rattle.std.proofs.Common.{◌≡◌, ℕ, ◌+◌, ◌<◌, ◌≤◌, Bool, true, false, not, List, [], ◌∷◌, ◌++◌}
+use Rattle.std.proofs.Common.{map, length, get_or, take, drop, Option, Some, None, refl, sym, ◌∙◌}
+use Rattle.std.proofs.Common.{ap, subst, inl, inr, arith}
 use Rattle.std.proofs.Math.Bool.{cond}
 use Rattle.std.specs.Prelude.{All, ◌==◌}
-use Rattle.std.proofs.lemmas.List.{append-nil, drop_more, drop_all, get_or_default, take_more, take-append-le, length-take}
+use Rattle.std.proofs.lemmas.List.{append-nil, drop_more, drop_all, get_or_default, take_more}
+use Rattle.std.proofs.lemmas.List.{take-append-le, length-take}
 use Rattle.std.specs.List.{last_or}
 use Rattle.std.proofs.lemmas.Bool.{or_cases, cases_lt, false≢true}
 use Rattle.std.proofs.lemmas.List.Elements.{All-head, All-tail}
@@ -12,36 +15,53 @@ use Rattle.wcnf.specs.Refute.{Clauses}
 use Rattle.wcnf.proofs.Laws.{literal_eq-true}
 use Rattle.lrat_check.specs.Assumed.{AreWithin}
 use Rattle.lrat_live.specs.Listed.{listed_at}
-use Rattle.lrat_check.specs.declared.verdicts.Cause.TheVariants.{DeadId, HintAfterConflict, HintNotUnit}
-use Rattle.lrat_check.specs.Verdict.{Refuted, Fault, NotUnit, Conflict, Makes, Outcome, open_literals, outcome_of, goes_on, walk}
+use Rattle.lrat_check.specs.declared.verdicts.Cause.TheVariants.{DeadId, HintAfterConflict}
+use Rattle.lrat_check.specs.declared.verdicts.Cause.TheVariants.{HintNotUnit}
+use Rattle.lrat_check.specs.Verdict.{Refuted, Fault, NotUnit, Conflict, Makes, Outcome}
+use Rattle.lrat_check.specs.Verdict.{open_literals, outcome_of, goes_on, walk}
 use Rattle.lrat_check.specs.Steps.{EndAlike}
 use Rattle.lrat_check.proofs.Walk.{outcome_on, outcome_is, makes_means}
 use Rattle.lrat_check.proofs.Members.{HaveSame-push}
 use Rattle.lrat_check.proofs.Alike.{walk-same}
 
-open-append : (A xs ys : List Literal) → open_literals A (xs ++ ys) ≡ open_literals A xs ++ open_literals A ys
+open-append : (A xs ys : List Literal)
+    → open_literals A (xs ++ ys) ≡ open_literals A xs ++ open_literals A ys
 open-append A [] ys = refl
 open-append A (x ∷ xs) ys =
-    elim (not (contains_literal (negation x) A)) as (λ v. cond v (x ∷ open_literals A (xs ++ ys)) (open_literals A (xs ++ ys)) ≡ cond v (x ∷ open_literals A xs) (open_literals A xs) ++ open_literals A ys) [
+    elim (not (contains_literal (negation x) A)) as (λ v. cond v (x ∷ open_literals A (xs ++ ys))
+        (open_literals A (xs ++ ys)) ≡ cond v (x ∷ open_literals A xs) (open_literals A xs)
+        ++ open_literals A ys) [
       | true ↦ ap (λ zs. x ∷ zs) (open-append A xs ys)
       | false ↦ open-append A xs ys
     ]
 
-pub drop_at : {X : Type 0} (xs : List X) (i : ℕ) (x : X) → i < length xs → x ≡ get_or xs i x → drop i xs ≡ x ∷ drop (i + 1) xs
+pub drop_at : {X : Type 0} (xs : List X) (i : ℕ) (x : X) → i < length xs → x ≡ get_or xs i x
+    → drop i xs ≡ x ∷ drop (i + 1) xs
 drop_at xs i x h e = drop_more xs i x h ∙ ap (λ y. y ∷ drop (i + 1) xs) (sym e)
 
 -- a literal more of the clause
-open_push : (A c : List Literal) (i : ℕ) (l : Literal) → i < length c → l ≡ get_or c i l → open_literals A (take (i + 1) c) ≡ open_literals A (take i c) ++ open_literals A (l ∷ [])
-open_push A c i l h e = ap (open_literals A) (take_more c i l h ∙ ap (λ x. take i c ++ x ∷ []) (sym e)) ∙ open-append A (take i c) (l ∷ [])
+open_push : (A c : List Literal) (i : ℕ) (l : Literal) → i < length c → l ≡ get_or c i l
+    → open_literals A (take (i + 1) c) ≡ open_literals A (take i c) ++ open_literals A (l ∷ [])
+open_push A c i l h e =
+    ap (open_literals A) (take_more c i l h ∙ ap (λ x. take i c ++ x ∷ []) (sym e))
+      ∙ open-append A (take i c) (l ∷ [])
 
-pub open_more : (A c : List Literal) (i : ℕ) (l : Literal) → i < length c → l ≡ get_or c i l → contains_literal (negation l) A ≡ false → open_literals A (take (i + 1) c) ≡ open_literals A (take i c) ++ l ∷ []
-open_more A c i l h e f = let here : open_literals A (l ∷ []) ≡ l ∷ [] = rw f refl in open_push A c i l h e ∙ ap (λ zs. open_literals A (take i c) ++ zs) here
+pub open_more : (A c : List Literal) (i : ℕ) (l : Literal) → i < length c → l ≡ get_or c i l
+    → contains_literal (negation l) A ≡ false → open_literals A (take (i + 1) c) ≡ open_literals A
+    (take i c) ++ l ∷ []
+open_more A c i l h e f = let here : open_literals A (l ∷ []) ≡ l ∷ [] = rw f refl in
+    open_push A c i l h e ∙ ap (λ zs. open_literals A (take i c) ++ zs) here
 
-pub open_same : (A c : List Literal) (i : ℕ) (l : Literal) → i < length c → l ≡ get_or c i l → contains_literal (negation l) A ≡ true → open_literals A (take (i + 1) c) ≡ open_literals A (take i c)
-open_same A c i l h e t = let here : open_literals A (l ∷ []) ≡ [] = rw t refl in open_push A c i l h e ∙ ap (λ zs. open_literals A (take i c) ++ zs) here ∙ append-nil (open_literals A (take i c))
+pub open_same : (A c : List Literal) (i : ℕ) (l : Literal) → i < length c → l ≡ get_or c i l
+    → contains_literal (negation l) A ≡ true
+    → open_literals A (take (i + 1) c) ≡ open_literals A (take i c)
+open_same A c i l h e t = let here : open_literals A (l ∷ []) ≡ [] = rw t refl in
+    open_push A c i l h e ∙ ap (λ zs. open_literals A (take i c) ++ zs) here
+    ∙ append-nil (open_literals A (take i c))
 
 -- the last of those that are not false, and how many there are
-pub last_push : (o : Option Literal) (xs : List Literal) (l : Literal) → last_or o (xs ++ l ∷ []) ≡ Some l
+pub last_push : (o : Option Literal) (xs : List Literal) (l : Literal)
+    → last_or o (xs ++ l ∷ []) ≡ Some l
 last_push o [] l = refl
 last_push o (x ∷ xs) l = last_push (Some x) xs l
 
@@ -94,15 +114,18 @@ makes_open A c o l n e f =
     outcome_is c A ∙ ap (outcome_on A) (one_last o (open_literals A c) l n e) ∙ makes_one A l f
 
 -- a literal that a hint makes true
-member_within : (n : ℕ) (l : Literal) (c : List Literal) → AreWithin n c → contains_literal l c ≡ true → l.variable ≤ n
+member_within : (n : ℕ) (l : Literal) (c : List Literal) → AreWithin n c
+    → contains_literal l c ≡ true → l.variable ≤ n
 member_within n l [] w h = absurd (false≢true h)
 member_within n l (k ∷ c) w h =
     elim (or_cases (literal_eq l k) (contains_literal l c) h) [
-      | inl e ↦ subst (λ x. x.variable ≤ n) (sym (literal_eq-true l k e)) (All-head (λ x. x.variable ≤ n) k c w)
+      | inl e ↦ subst (λ x. x.variable ≤ n) (sym (literal_eq-true l k e))
+        (All-head (λ x. x.variable ≤ n) k c w)
       | inr e ↦ member_within n l c (All-tail (λ x. x.variable ≤ n) k c w) e
     ]
 
-pub makes_within : (n : ℕ) (A c : List Literal) (l : Literal) → AreWithin n c → outcome_of (Some c) A ≡ Makes l → l.variable ≤ n
+pub makes_within : (n : ℕ) (A c : List Literal) (l : Literal) → AreWithin n c
+    → outcome_of (Some c) A ≡ Makes l → l.variable ≤ n
 makes_within n A c l w e =
     let m = makes_means (Some c) A l e in
     let found = m.1 in
@@ -110,11 +133,13 @@ makes_within n A c l w e =
     member_within n l c w (subst (λ d. contains_literal l d ≡ true) same m.2.member)
 
 -- a clause of the list
-pub listed_within : (n : ℕ) (es : List (ℕ × List Literal)) (i : ℕ) (c : List Literal) → All (λ e. AreWithin n e.1) es → listed_at es i ≡ Some c → AreWithin n c
+pub listed_within : (n : ℕ) (es : List (ℕ × List Literal)) (i : ℕ) (c : List Literal)
+    → All (λ e. AreWithin n e.1) es → listed_at es i ≡ Some c → AreWithin n c
 listed_within n [] i c w e = absurd (cc)
 listed_within n (x ∷ es) i c w e =
     elim (x.0 == i) as (λ v. cond v (Some x.1) (listed_at es i) ≡ Some c → AreWithin n c) [
-      | true ↦ λ e. let same : x.1 ≡ c = cc in subst (AreWithin n) same (All-head (λ y. AreWithin n y.1) x es w)
+      | true ↦ λ e. let same : x.1 ≡ c = cc in
+        subst (AreWithin n) same (All-head (λ y. AreWithin n y.1) x es w)
       | false ↦ λ e. listed_within n es i c (All-tail (λ y. AreWithin n y.1) x es w) e
     ] e
 
@@ -182,11 +207,13 @@ pub walk_makes : (at : Clauses) (T : List Literal) (hs : List (Bool × ℕ)) (i 
     → EndAlike (walk at T (ids_from hs i)) (walk at (T ++ l ∷ []) (ids_from hs (i + 1)))
 walk_makes at T hs i c l lt n e =
     let rest = ids_from hs (i + 1) in
-    subst (λ w. EndAlike w (walk at (T ++ l ∷ []) rest)) (sym (walk_does at T hs i c (Makes l) lt n e))
+    subst (λ w. EndAlike w (walk at (T ++ l ∷ []) rest))
+      (sym (walk_does at T hs i c (Makes l) lt n e))
     (walk-same at (l ∷ T) (T ++ l ∷ []) (HaveSame-push l T) rest)
 
 -- what stood before stays
-pub kept_push : (A T : List Literal) (l : Literal) → take (length A) T ≡ A → take (length A) (T ++ l ∷ []) ≡ A
+pub kept_push : (A T : List Literal) (l : Literal) → take (length A) T ≡ A
+    → take (length A) (T ++ l ∷ []) ≡ A
 kept_push A T l e =
     let long : length (take (length A) T) ≡ length A = ap length e in
     let le : length A ≤ length T = omega (arith, length-take (length A) T) in

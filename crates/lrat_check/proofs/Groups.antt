@@ -1,5 +1,7 @@
 -- The groups of hints of a line: what begins each, and the ids that they name.
-use Rattle.std.proofs.Common.{◌≡◌, ℕ, ◌+◌, ◌*◌, ◌<◌, ◌≤◌, Bool, true, false, not, List, [], ◌∷◌, ◌++◌, map, length, get_or, take, drop, Some, refl, sym, ◌∙◌, ap, subst, inl, inr, arith, take-append-drop}
+use Rattle.std.proofs.Common.{◌≡◌, ℕ, ◌+◌, ◌*◌, ◌<◌, ◌≤◌, Bool, true, false, not, List, [], ◌∷◌}
+use Rattle.std.proofs.Common.{◌++◌, map, length, get_or, take, drop, Some, refl, sym, ◌∙◌, ap}
+use Rattle.std.proofs.Common.{subst, inl, inr, arith, take-append-drop}
 use Rattle.std.proofs.Math.Bool.{cond}
 use Rattle.std.specs.Prelude.{◌==◌, filter}
 use Rattle.std.specs.Bool.{then_some}
@@ -28,7 +30,8 @@ groups_from hs i = groups_of (drop i hs)
 abbrev pub named_from : List (Bool × ℕ) → ℕ → List ℕ
 named_from hs i = map (λ g. g.candidate) (groups_from hs i)
 
-pub none_left : (ids : List ℕ) (n : ℕ) → n ≤ length ids → (n == length ids) ≡ same_ids [] (drop n ids)
+pub none_left : (ids : List ℕ) (n : ℕ) → n ≤ length ids
+    → (n == length ids) ≡ same_ids [] (drop n ids)
 none_left ids n le =
     elim (cases_eq n (length ids)) [
       | inl e ↦ eq-eqb n (length ids) e ∙ sym (ap (same_ids []) (drop_all n ids (omega arith)))
@@ -36,34 +39,57 @@ none_left ids n le =
     ]
 
 -- the literals of a candidate but one
-any_kept : (p q : Literal → Bool) (ys zs : List Literal) (x : Literal) → q x ≡ true → p x ≡ true → list_any p (filter q (ys ++ x ∷ zs)) ≡ true
+any_kept : (p q : Literal → Bool) (ys zs : List Literal) (x : Literal) → q x ≡ true → p x ≡ true
+    → list_any p (filter q (ys ++ x ∷ zs)) ≡ true
 any_kept p q [] zs x h k = rw h (or_left _ _ k)
 any_kept p q (y ∷ ys) zs x h k =
-    elim (q y) as (λ v. list_any p (cond v (y ∷ filter q (ys ++ x ∷ zs)) (filter q (ys ++ x ∷ zs))) ≡ true) [
+    elim (q y) as (λ v. list_any p (cond v (y ∷ filter q (ys ++ x ∷ zs)) (filter q (ys ++ x ∷ zs)))
+        ≡ true) [
       | true ↦ or_right _ _ (any_kept p q ys zs x h k)
       | false ↦ any_kept p q ys zs x h k
     ]
 
-pub true_at : (A c : List Literal) (i : ℕ) (k l : Literal) → i < length c → l ≡ get_or c i l → not ((2 * l.variable + cond l.negated 1 0) == (2 * k.variable + cond k.negated 1 0)) ≡ true → contains_literal l A ≡ true → list_any (λ x. contains_literal x A) (without_literal k c) ≡ true
+pub true_at : (A c : List Literal) (i : ℕ) (k l : Literal) → i < length c → l ≡ get_or c i l
+    → not ((2 * l.variable + cond l.negated 1 0) == (2 * k.variable + cond k.negated 1 0)) ≡ true
+    → contains_literal l A ≡ true
+    → list_any (λ x. contains_literal x A) (without_literal k c) ≡ true
 true_at A c i k l lt here ne h =
-    subst (λ d. list_any (λ x. contains_literal x A) (without_literal k d) ≡ true) (ap (λ zs. take i c ++ zs) (sym (drop_at c i l lt here)) ∙ take-append-drop i c)
-    (any_kept (λ x. contains_literal x A) (λ x. not (literal_eq k x)) (take i c) (drop (i + 1) c) l (ap not (ne_codes k l ne)) h)
+    subst (λ d. list_any (λ x. contains_literal x A) (without_literal k d) ≡ true)
+      (ap (λ zs. take i c ++ zs) (sym (drop_at c i l lt here)) ∙ take-append-drop i c)
+    (any_kept (λ x. contains_literal x A) (λ x. not (literal_eq k x)) (take i c) (drop (i + 1) c) l
+        (ap not (ne_codes k l ne)) h)
 
 -- how a group ends
-pub group_end : (at : Clauses) (p q : Literal) (B T : List Literal) (n : ℕ) (hs : List ℕ) (d : List Literal) (w : Walk) → q ≡ negation p → at n ≡ Some d → list_any (λ k. contains_literal k B) (without_literal q d) ≡ false → HaveSame (map negation (without_literal q d) ++ B) T → EndAlike (walk at T hs) w → group_fault at p B (record { candidate = n; hints = hs }) ≡ of_walk w
+pub group_end : (at : Clauses) (p q : Literal) (B T : List Literal) (n : ℕ) (hs : List ℕ)
+    (d : List Literal) (w : Walk) → q ≡ negation p → at n ≡ Some d
+    → list_any (λ k. contains_literal k B) (without_literal q d) ≡ false
+    → HaveSame (map negation (without_literal q d) ++ B) T → EndAlike (walk at T hs) w
+    → group_fault at p B (record { candidate = n; hints = hs }) ≡ of_walk w
 group_end at p q B T n hs d w e u f s h =
     let g : CandidateHints = record { candidate = n; hints = hs } in
-    let none : IsTrueAlready p B d ≡ false = subst (λ k. list_any (λ x. contains_literal x B) (without_literal k d) ≡ false) e f in
-    let start : HaveSame (map negation (without_literal (negation p) d) ++ B) T = subst (λ k. HaveSame (map negation (without_literal k d) ++ B) T) e s in
+    let none : IsTrueAlready p B d ≡ false =
+      subst (λ k. list_any (λ x. contains_literal x B) (without_literal k d) ≡ false) e f in
+    let start : HaveSame (map negation (without_literal (negation p) d) ++ B) T =
+      subst (λ k. HaveSame (map negation (without_literal k d) ++ B) T) e s in
     group_walks at p B g d u none
-    ∙ of_walk-alike _ _ (EndAlike-step _ (walk at T hs) w (walk-same at (map negation (without_literal (negation p) d) ++ B) T start hs) h)
+    ∙ of_walk-alike _ _
+      (EndAlike-step _ (walk at T hs) w
+        (walk-same at (map negation (without_literal (negation p) d) ++ B) T start hs) h)
 
-pub group_end_silent : (at : Clauses) (p q : Literal) (B : List Literal) (n : ℕ) (hs : List (Bool × ℕ)) (d : List Literal) → q ≡ negation p → at n ≡ Some d → list_any (λ k. contains_literal k B) (without_literal q d) ≡ true → group_fault at p B (record { candidate = n; hints = map (λ h. h.1) hs }) ≡ then_some (not (length hs == 0)) HintAfterConflict
+pub group_end_silent : (at : Clauses) (p q : Literal) (B : List Literal) (n : ℕ)
+    (hs : List (Bool × ℕ)) (d : List Literal) → q ≡ negation p → at n ≡ Some d
+    → list_any (λ k. contains_literal k B) (without_literal q d) ≡ true
+    → group_fault at p B (record { candidate = n; hints = map (λ h. h.1) hs })
+      ≡ then_some (not (length hs == 0)) HintAfterConflict
 group_end_silent at p q B n hs d e u t =
     let g : CandidateHints = record { candidate = n; hints = map (λ h. h.1) hs } in
-    let already : IsTrueAlready p B d ≡ true = subst (λ k. list_any (λ x. contains_literal x B) (without_literal k d) ≡ true) e t in
+    let already : IsTrueAlready p B d ≡ true =
+      subst (λ k. list_any (λ x. contains_literal x B) (without_literal k d) ≡ true) e t in
     group_silent at p B g d u already (map (λ h. h.1) hs) refl ∙ silent hs
   where
-    silent : (xs : List (Bool × ℕ)) → silent_on (map (λ h. h.1) xs) ≡ then_some (not (length xs == 0)) HintAfterConflict
+    silent : (xs : List (Bool × ℕ))
+      → silent_on (map (λ h. h.1) xs) ≡ then_some (not (length xs == 0)) HintAfterConflict
     silent [] = refl
-    silent (x ∷ xs) = ap (λ b. then_some (not b) HintAfterConflict) (sym (ne_eqb (length (x ∷ xs)) 0 (λ e. absurd (omega arith))))
+    silent (x ∷ xs) =
+      ap (λ b. then_some (not b) HintAfterConflict)
+        (sym (ne_eqb (length (x ∷ xs)) 0 (λ e. absurd (omega arith))))

@@ -16,23 +16,29 @@ shows_more (Proof g) P Q f h = λ u. f (h u)
 abbrev pub Gives : Left → (List ℕ → Verdict) → Type 0
 Gives left f = (proof : List ℕ) → verdict_left left proof ≡ f proof
 
-pub nothing_gives : (left : Left) (v : Verdict) (f : List ℕ → Verdict) → left ≡ Nothing v → Gives left f → (proof : List ℕ) → v ≡ f proof
+pub nothing_gives : (left : Left) (v : Verdict) (f : List ℕ → Verdict) → left ≡ Nothing v
+    → Gives left f → (proof : List ℕ) → v ≡ f proof
 nothing_gives left v f e h proof = subst (λ l. verdict_left l proof ≡ f proof) e (h proof)
 
-pub nothing_shows : (left : Left) (v : Verdict) (P : Type 0) → left ≡ Nothing v → Shows left P → v ≡ Yes → P
+pub nothing_shows : (left : Left) (v : Verdict) (P : Type 0) → left ≡ Nothing v → Shows left P
+    → v ≡ Yes → P
 nothing_shows left v P e h = subst (λ l. Shows l P) e h
 
-pub proof_gives : (left : Left) (g : Cnf) (f : List ℕ → Verdict) → left ≡ Proof g → Gives left f → (proof : List ℕ) → proof_verdict g.clauses proof ≡ f proof
+pub proof_gives : (left : Left) (g : Cnf) (f : List ℕ → Verdict) → left ≡ Proof g → Gives left f
+    → (proof : List ℕ) → proof_verdict g.clauses proof ≡ f proof
 proof_gives left g f e h proof = subst (λ l. verdict_left l proof ≡ f proof) e (h proof)
 
-pub proof_shows : (left : Left) (g : Cnf) (P : Type 0) → left ≡ Proof g → Shows left P → IsUnsatisfiable g.clauses → P
+pub proof_shows : (left : Left) (g : Cnf) (P : Type 0) → left ≡ Proof g → Shows left P
+    → IsUnsatisfiable g.clauses → P
 proof_shows left g P e h = subst (λ l. Shows l P) e h
 
 -- the bytes of a reader, where they are known
-pub if_some_all : (o : Option (List ℕ)) (P : List ℕ → Type 0) → ((bytes : List ℕ) → P bytes) → IfSome o P
+pub if_some_all : (o : Option (List ℕ)) (P : List ℕ → Type 0) → ((bytes : List ℕ) → P bytes)
+    → IfSome o P
 if_some_all None P f = tt
 if_some_all (Some bytes) P f = f bytes
 
-pub if_some_more : (o : Option (List ℕ)) (P Q : List ℕ → Type 0) → ((bytes : List ℕ) → P bytes → Q bytes) → IfSome o P → IfSome o Q
+pub if_some_more : (o : Option (List ℕ)) (P Q : List ℕ → Type 0)
+    → ((bytes : List ℕ) → P bytes → Q bytes) → IfSome o P → IfSome o Q
 if_some_more None P Q f h = tt
 if_some_more (Some bytes) P Q f h = f bytes h

@@ -1,6 +1,8 @@
 -- Which literals a list has: after a push, under negation, and twice.
-use Rattle.std.proofs.Common.{◌≡◌, ℕ, ◌<◌, ◌≤◌, Bool, true, false, ◌||◌, List, [], ◌∷◌, ◌++◌, map, refl, sym, ◌∙◌, ap, subst, inl, inr, arith}
-use Rattle.std.proofs.lemmas.Bool.{or_cases, or_parts, or_from, or_left, or_right, false≢true, false_from_ne_true}
+use Rattle.std.proofs.Common.{◌≡◌, ℕ, ◌<◌, ◌≤◌, Bool, true, false, ◌||◌, List, [], ◌∷◌, ◌++◌, map}
+use Rattle.std.proofs.Common.{refl, sym, ◌∙◌, ap, subst, inl, inr, arith}
+use Rattle.std.proofs.lemmas.Bool.{or_cases, or_parts, or_from, or_left, or_right, false≢true}
+use Rattle.std.proofs.lemmas.Bool.{false_from_ne_true}
 use Rattle.std.proofs.lemmas.List.Folds.{list_any-append}
 use Rattle.std.proofs.lemmas.List.Elements.{All-head, All-tail}
 use Rattle.wcnf.specs.Literal.{Literal, negation, literal_eq}
@@ -20,62 +22,84 @@ literal_eq-from : (k l : Literal) → k ≡ l → literal_eq k l ≡ true
 literal_eq-from k l e = subst (λ m. literal_eq k m ≡ true) e (literal_eq-refl k)
 
 pub literal_eq-swap : (k l : Literal) → literal_eq k l ≡ literal_eq l k
-literal_eq-swap k l = same_tests _ _ (λ e. literal_eq-from l k (sym (literal_eq-true k l e))) (λ e. literal_eq-from k l (sym (literal_eq-true l k e)))
+literal_eq-swap k l =
+    same_tests _ _ (λ e. literal_eq-from l k (sym (literal_eq-true k l e)))
+      (λ e. literal_eq-from k l (sym (literal_eq-true l k e)))
 
 pub literal_eq-negation : (k l : Literal) → literal_eq k (negation l) ≡ literal_eq (negation k) l
 literal_eq-negation k l =
     same_tests _ _
-    (λ e. literal_eq-from (negation k) l (ap negation (literal_eq-true k (negation l) e) ∙ negation_twice l))
-    (λ e. literal_eq-from k (negation l) (sym (negation_twice k) ∙ ap negation (literal_eq-true (negation k) l e)))
+    (λ e. literal_eq-from (negation k) l (ap negation (literal_eq-true k (negation l) e)
+          ∙ negation_twice l))
+    (λ e. literal_eq-from k (negation l) (sym (negation_twice k)
+          ∙ ap negation (literal_eq-true (negation k) l e)))
 
-pub contains-negations : (l : Literal) (xs : List Literal) → contains_literal l (map negation xs) ≡ contains_literal (negation l) xs
+pub contains-negations : (l : Literal) (xs : List Literal)
+    → contains_literal l (map negation xs) ≡ contains_literal (negation l) xs
 contains-negations l [] = refl
-contains-negations l (x ∷ xs) = let e = literal_eq-negation l x in let f = contains-negations l xs in cc
+contains-negations l (x ∷ xs) = let e = literal_eq-negation l x in
+    let f = contains-negations l xs in cc
 
 or-false : (b : Bool) → (b || false) ≡ b
 or-false true = refl
 or-false false = refl
 
 -- one more at the end
-pub contains-push : (k l : Literal) (xs : List Literal) → contains_literal k (xs ++ l ∷ []) ≡ (contains_literal k xs || contains_literal k (l ∷ []))
+pub contains-push : (k l : Literal) (xs : List Literal)
+    → contains_literal k (xs ++ l ∷ []) ≡ (contains_literal k xs || contains_literal k (l ∷ []))
 contains-push k l xs = list_any-append (literal_eq k) xs (l ∷ [])
 
-pub not_in_push : (k l : Literal) (xs : List Literal) → contains_literal k xs ≡ false → literal_eq k l ≡ false → contains_literal k (xs ++ l ∷ []) ≡ false
+pub not_in_push : (k l : Literal) (xs : List Literal) → contains_literal k xs ≡ false
+    → literal_eq k l ≡ false → contains_literal k (xs ++ l ∷ []) ≡ false
 not_in_push k l xs h e = contains-push k l xs ∙ or_from _ _ h (or_from _ _ e refl)
 
-pub not_in_push-parts : (k l : Literal) (xs : List Literal) → contains_literal k (xs ++ l ∷ []) ≡ false → (contains_literal k xs ≡ false) × (literal_eq k l ≡ false)
+pub not_in_push-parts : (k l : Literal) (xs : List Literal)
+    → contains_literal k (xs ++ l ∷ []) ≡ false → (contains_literal k xs ≡ false)
+      × (literal_eq k l ≡ false)
 not_in_push-parts k l xs h =
-    let p = or_parts (contains_literal k xs) (contains_literal k (l ∷ [])) (sym (contains-push k l xs) ∙ h) in
+    let p =
+      or_parts (contains_literal k xs) (contains_literal k (l ∷ [])) (sym (contains-push k l xs)
+        ∙ h) in
     (p.0, (or_parts (literal_eq k l) false p.1).0)
 
 pub in_push-last : (l : Literal) (xs : List Literal) → contains_literal l (xs ++ l ∷ []) ≡ true
 in_push-last l xs = contains-push l l xs ∙ or_right _ _ (or_left _ _ (literal_eq-refl l))
 
-pub push_other : (k l : Literal) (xs : List Literal) → literal_eq k l ≡ false → contains_literal k (xs ++ l ∷ []) ≡ contains_literal k xs
-push_other k l xs e = contains-push k l xs ∙ ap (λ b. contains_literal k xs || b) (or_from (literal_eq k l) false e refl) ∙ or-false (contains_literal k xs)
+pub push_other : (k l : Literal) (xs : List Literal) → literal_eq k l ≡ false
+    → contains_literal k (xs ++ l ∷ []) ≡ contains_literal k xs
+push_other k l xs e =
+    contains-push k l xs
+      ∙ ap (λ b. contains_literal k xs || b) (or_from (literal_eq k l) false e refl)
+      ∙ or-false (contains_literal k xs)
 
 in_middle : (l : Literal) (xs ys : List Literal) → contains_literal l (xs ++ l ∷ ys) ≡ true
-in_middle l xs ys = list_any-append (literal_eq l) xs (l ∷ ys) ∙ or_right _ _ (or_left _ _ (literal_eq-refl l))
+in_middle l xs ys = list_any-append (literal_eq l) xs (l ∷ ys)
+    ∙ or_right _ _ (or_left _ _ (literal_eq-refl l))
 
 -- at the end or at the front is the same
 pub HaveSame-push : (l : Literal) (A : List Literal) → HaveSame (l ∷ A) (A ++ l ∷ [])
 HaveSame-push l A k =
     same_tests _ _
-    (λ e. contains-push k l A ∙ elim (or_cases (literal_eq k l) (contains_literal k A) e) [ inl h ↦ or_right _ _ (or_left _ _ h) | inr h ↦ or_left _ _ h ])
-    (λ e. elim (or_cases (contains_literal k A) (contains_literal k (l ∷ [])) (sym (contains-push k l A) ∙ e)) [
+    (λ e. contains-push k l A ∙ elim (or_cases (literal_eq k l) (contains_literal k A) e) [ inl h ↦
+          or_right _ _ (or_left _ _ h) | inr h ↦ or_left _ _ h ])
+    (λ e. elim (or_cases (contains_literal k A) (contains_literal k (l ∷ []))
+          (sym (contains-push k l A) ∙ e)) [
       | inl h ↦ or_right _ _ h
-      | inr h ↦ elim (or_cases (literal_eq k l) false h) [ inl g ↦ or_left _ _ g | inr g ↦ absurd (false≢true g) ]
+      | inr h ↦ elim (or_cases (literal_eq k l) false h) [ inl g ↦ or_left _ _ g | inr g ↦
+          absurd (false≢true g) ]
     ])
 
 -- repeats
-pub has_repeat-push : (l : Literal) (xs : List Literal) → has_repeat xs ≡ false → contains_literal l xs ≡ false → has_repeat (xs ++ l ∷ []) ≡ false
+pub has_repeat-push : (l : Literal) (xs : List Literal) → has_repeat xs ≡ false
+    → contains_literal l xs ≡ false → has_repeat (xs ++ l ∷ []) ≡ false
 has_repeat-push l [] r h = refl
 has_repeat-push l (x ∷ xs) r h =
     let p = or_parts (contains_literal x xs) (has_repeat xs) r in
     let q = or_parts (literal_eq l x) (contains_literal l xs) h in
     or_from _ _ (not_in_push x l xs p.0 (literal_eq-swap x l ∙ q.0)) (has_repeat-push l xs p.1 q.1)
 
-pub has_repeat-last : (l : Literal) (xs : List Literal) → has_repeat (xs ++ l ∷ []) ≡ false → (has_repeat xs ≡ false) × (contains_literal l xs ≡ false)
+pub has_repeat-last : (l : Literal) (xs : List Literal) → has_repeat (xs ++ l ∷ []) ≡ false
+    → (has_repeat xs ≡ false) × (contains_literal l xs ≡ false)
 has_repeat-last l [] r = (refl, refl)
 has_repeat-last l (x ∷ xs) r =
     let p = or_parts (contains_literal x (xs ++ l ∷ [])) (has_repeat (xs ++ l ∷ [])) r in
@@ -83,34 +107,42 @@ has_repeat-last l (x ∷ xs) r =
     let h = has_repeat-last l xs p.1 in
     (or_from _ _ q.0 h.0, or_from _ _ (literal_eq-swap l x ∙ q.1) h.1)
 
-pub repeat_at : (l : Literal) (xs ys : List Literal) → contains_literal l xs ≡ true → has_repeat (xs ++ l ∷ ys) ≡ true
+pub repeat_at : (l : Literal) (xs ys : List Literal) → contains_literal l xs ≡ true
+    → has_repeat (xs ++ l ∷ ys) ≡ true
 repeat_at l [] ys h = absurd (false≢true h)
 repeat_at l (x ∷ xs) ys h =
     elim (or_cases (literal_eq l x) (contains_literal l xs) h) [
-      | inl e ↦ or_left _ _ (subst (λ k. contains_literal k (xs ++ l ∷ ys) ≡ true) (literal_eq-true l x e) (in_middle l xs ys))
+      | inl e ↦ or_left _ _ (subst (λ k. contains_literal k (xs ++ l ∷ ys) ≡ true)
+          (literal_eq-true l x e) (in_middle l xs ys))
       | inr e ↦ or_right _ _ (repeat_at l xs ys e)
     ]
 
 -- opposites
-pub has_opposites-push : (l : Literal) (xs : List Literal) → has_opposites xs ≡ false → contains_literal (negation l) xs ≡ false → has_opposites (xs ++ l ∷ []) ≡ false
+pub has_opposites-push : (l : Literal) (xs : List Literal) → has_opposites xs ≡ false
+    → contains_literal (negation l) xs ≡ false → has_opposites (xs ++ l ∷ []) ≡ false
 has_opposites-push l [] r h = refl
 has_opposites-push l (x ∷ xs) r h =
     let p = or_parts (contains_literal (negation x) xs) (has_opposites xs) r in
     let q = or_parts (literal_eq (negation l) x) (contains_literal (negation l) xs) h in
-    or_from _ _ (not_in_push (negation x) l xs p.0 (sym (literal_eq-negation x l) ∙ literal_eq-swap x (negation l) ∙ q.0)) (has_opposites-push l xs p.1 q.1)
+    or_from _ _ (not_in_push (negation x) l xs p.0 (sym (literal_eq-negation x l)
+          ∙ literal_eq-swap x (negation l) ∙ q.0)) (has_opposites-push l xs p.1 q.1)
 
-pub opposite_at : (l : Literal) (xs ys : List Literal) → contains_literal (negation l) xs ≡ true → has_opposites (xs ++ l ∷ ys) ≡ true
+pub opposite_at : (l : Literal) (xs ys : List Literal) → contains_literal (negation l) xs ≡ true
+    → has_opposites (xs ++ l ∷ ys) ≡ true
 opposite_at l [] ys h = absurd (false≢true h)
 opposite_at l (x ∷ xs) ys h =
     elim (or_cases (literal_eq (negation l) x) (contains_literal (negation l) xs) h) [
       | inl e ↦
-          let same : l ≡ negation x = sym (negation_twice l) ∙ ap negation (literal_eq-true (negation l) x e) in
-          or_left _ _ (subst (λ k. contains_literal k (xs ++ l ∷ ys) ≡ true) same (in_middle l xs ys))
+          let same : l ≡ negation x =
+            sym (negation_twice l) ∙ ap negation (literal_eq-true (negation l) x e) in
+          or_left _ _ (subst (λ k. contains_literal k (xs ++ l ∷ ys) ≡ true) same
+              (in_middle l xs ys))
       | inr e ↦ or_right _ _ (opposite_at l xs ys e)
     ]
 
 -- a list within a bound has no literal past it
-pub none_past : (n : ℕ) (l : Literal) (xs : List Literal) → AreWithin n xs → n < l.variable → contains_literal l xs ≡ false
+pub none_past : (n : ℕ) (l : Literal) (xs : List Literal) → AreWithin n xs → n < l.variable
+    → contains_literal l xs ≡ false
 none_past n l [] w h = refl
 none_past n l (x ∷ xs) w h =
     or_from _ _

@@ -1,5 +1,7 @@
 -- A certificate in pieces: what holds after a line more, after a piece, and at the end.
-use Rattle.std.proofs.Common.{◌≡◌, ℕ, ◌+◌, ◌<◌, Bool, true, false, List, [], ◌∷◌, ◌++◌, length, map, take, drop, Option, Some, None, inl, inr, refl, sym, ◌∙◌, ap, subst, arith, append_assoc, append-nil}
+use Rattle.std.proofs.Common.{◌≡◌, ℕ, ◌+◌, ◌<◌, Bool, true, false, List, [], ◌∷◌, ◌++◌, length, map}
+use Rattle.std.proofs.Common.{take, drop, Option, Some, None, inl, inr, refl, sym, ◌∙◌, ap, subst}
+use Rattle.std.proofs.Common.{arith, append_assoc, append-nil}
 use Rattle.std.specs.Prelude.{◌-◌, ◌==◌, not, is_some}
 use Rattle.std.specs.List.{slice_split}
 use Rattle.std.specs.Str.Lines.{lines_of_parts, strip_carriage_return}
@@ -22,32 +24,40 @@ use Rattle.lrat_check.specs.Machine.{MachineState, verdict_after}
 use Rattle.lrat_check.specs.Verdict.{verdict_on, proof_verdict}
 use Rattle.lrat_check.proofs.Base.{live_of-start}
 use Rattle.lrat_check.proofs.Judged.{state_of}
-use Rattle.lrat_check.specs.Pieces.{IsOpen, IsRefused, Holds, Judges, HasTaken, CheckerState, Stands}
+use Rattle.lrat_check.specs.Pieces.{IsOpen, IsRefused, Holds, Judges, HasTaken, CheckerState}
+use Rattle.lrat_check.specs.Pieces.{Stands}
 
 abbrev is_feed : ℕ → Bool
 is_feed b = b == 10
 
 -- the tokens of the first line, and those of the others
-tokens-first : (x more : List ℕ) → IsNoFeed x → token_lines (x ++ 10 ∷ more) ≡ tokens_of (strip_carriage_return x) ∷ token_lines more
+tokens-first : (x more : List ℕ) → IsNoFeed x
+    → token_lines (x ++ 10 ∷ more) ≡ tokens_of (strip_carriage_return x) ∷ token_lines more
 tokens-first x more h =
     ap (λ parts. map tokens_of (lines_of_parts parts)) (slice_split_at is_feed x 10 more h refl)
-    ∙ ap (map tokens_of) (parts-cons x (slice_split is_feed more) (omega (arith, length-slice_split is_feed more)))
+    ∙ ap (map tokens_of)
+      (parts-cons x (slice_split is_feed more) (omega (arith, length-slice_split is_feed more)))
 
 tokens-last : (x : List ℕ) → 0 < length x → IsNoFeed x → token_lines x ≡ tokens_of x ∷ []
 tokens-last x l h = ap (map tokens_of) (lines-last x l (λ k lt. h k 0 lt))
 
-regroup : (d r e more : List ℕ) → d ++ ((r ++ e) ++ 10 ∷ more) ≡ (((d ++ r) ++ e) ++ 10 ∷ []) ++ more
+regroup : (d r e more : List ℕ)
+    → d ++ ((r ++ e) ++ 10 ∷ more) ≡ (((d ++ r) ++ e) ++ 10 ∷ []) ++ more
 regroup d r e more = simp append_assoc
 
 -- a line more
-module _ (old new : Reading) (formula : List (List Literal)) (bytes end line : List ℕ) (o : IsOpen old formula bytes) (no_feed : IsNoFeed end)
-    (same : line ≡ strip_carriage_return ((old.rest).items ++ end)) (empty : (new.rest).items ≡ []) where
+module _ (old new : Reading) (formula : List (List Literal)) (bytes end line : List ℕ)
+    (o : IsOpen old formula bytes) (no_feed : IsNoFeed end)
+    (same : line ≡ strip_carriage_return ((old.rest).items ++ end))
+      (empty : (new.rest).items ≡ []) where
   abbrev whole : List ℕ
   whole = bytes ++ end ++ 10 ∷ []
 
-  from_old : (more : List ℕ) → verdict_after old.machine (tokens_of line ∷ token_lines more) ≡ proof_verdict formula (whole ++ more)
+  from_old : (more : List ℕ) → verdict_after old.machine (tokens_of line ∷ token_lines more)
+      ≡ proof_verdict formula (whole ++ more)
   from_old more =
-      let none : IsNoFeed ((old.rest).items ++ end) = All-append (λ b. (b == 10) ≡ false) (old.rest).items end o.unfinished no_feed in
+      let none : IsNoFeed ((old.rest).items ++ end) =
+        All-append (λ b. (b == 10) ≡ false) (old.rest).items end o.unfinished no_feed in
       ap (λ x. verdict_after old.machine (tokens_of x ∷ token_lines more)) same
       ∙ ap (verdict_after old.machine) (sym (tokens-first ((old.rest).items ++ end) more none))
       ∙ o.resumes (((old.rest).items ++ end) ++ 10 ∷ more)
@@ -63,7 +73,8 @@ module _ (old new : Reading) (formula : List (List Literal)) (bytes end line : L
     resumes = λ more. sym (j (token_lines more)) ∙ from_old more;
   }
 
-  now_refused : (v : Verdict) → Judges old.machine line new.machine (Some v) → IsRefused v formula whole
+  now_refused : (v : Verdict) → Judges old.machine line new.machine (Some v)
+    → IsRefused v formula whole
   now_refused v j = record {
     done = whole;
     after = [];
@@ -75,15 +86,20 @@ module _ (old new : Reading) (formula : List (List Literal)) (bytes end line : L
     stays = λ more. sym (from_old more) ∙ j.1 (token_lines more);
   }
 
-pub line_more : (old new : Reading) (end line : List ℕ) → old.refused ≡ None → IsNoFeed end → line ≡ strip_carriage_return ((old.rest).items ++ end)
+pub line_more : (old new : Reading) (end line : List ℕ) → old.refused ≡ None → IsNoFeed end
+    → line ≡ strip_carriage_return ((old.rest).items ++ end)
     → (new.rest).items ≡ [] → Judges old.machine line new.machine new.refused
-    → (formula : List (List Literal)) (bytes : List ℕ) → Holds old formula bytes → Holds new formula (bytes ++ end ++ 10 ∷ [])
+    → (formula : List (List Literal)) (bytes : List ℕ) → Holds old formula bytes
+    → Holds new formula (bytes ++ end ++ 10 ∷ [])
 line_more old new end line none no_feed same empty j formula bytes h = record {
-  open_end = λ e. still_open old new formula bytes end line (h.open_end none) no_feed same empty (subst (Judges old.machine line new.machine) e j);
-  refused = λ v e. now_refused old new formula bytes end line (h.open_end none) no_feed same empty v (subst (Judges old.machine line new.machine) e j);
+  open_end = λ e. still_open old new formula bytes end line (h.open_end none) no_feed same empty
+    (subst (Judges old.machine line new.machine) e j);
+  refused = λ v e. now_refused old new formula bytes end line (h.open_end none) no_feed same empty v
+    (subst (Judges old.machine line new.machine) e j);
 }
 
-refused_more : (v : Verdict) (formula : List (List Literal)) (bytes more : List ℕ) → IsRefused v formula bytes → IsRefused v formula (bytes ++ more)
+refused_more : (v : Verdict) (formula : List (List Literal)) (bytes more : List ℕ)
+    → IsRefused v formula bytes → IsRefused v formula (bytes ++ more)
 refused_more v formula bytes more r = record {
   done = r.done;
   after = r.after ++ more;
@@ -97,24 +113,32 @@ refused_more v formula bytes more r = record {
 
 -- a piece
 pub none_taken : (old : Reading) (piece : List ℕ) → HasTaken old old piece piece
-none_taken old piece = record { taken = []; split = refl; holds = λ formula bytes h. subst (Holds old formula) (sym (append-nil bytes)) h }
+none_taken old piece =
+    record { taken = []; split = refl; holds = λ formula bytes h. subst (Holds old formula)
+      (sym (append-nil bytes)) h }
 
 -- the line that a line feed of the left part ends, and what is left then
-pub taken_lengths : (left : List ℕ) (end : ℕ) (line rest : List ℕ) → IsFirstFeed left end → line ≡ take end left → rest ≡ take (length left - (end + 1)) (drop (end + 1) left)
+pub taken_lengths : (left : List ℕ) (end : ℕ) (line rest : List ℕ) → IsFirstFeed left end
+    → line ≡ take end left → rest ≡ take (length left - (end + 1)) (drop (end + 1) left)
     → length left ≡ length line + length rest + 1
 taken_lengths left end line rest f e g =
     let a : length line ≡ end = ap length e ∙ length-take-le end left (omega (arith, f.within)) in
-    let b : length rest ≡ length left - (end + 1) = ap length (g ∙ take_rest left (end + 1)) ∙ length-drop (end + 1) left in
+    let b : length rest ≡ length left - (end + 1) = ap length (g ∙ take_rest left (end + 1))
+      ∙ length-drop (end + 1) left in
     omega (arith, f.within)
 
-pub taken_more : (old mid new : Reading) (piece left : List ℕ) (end : ℕ) (line rest : List ℕ) → HasTaken old mid piece left → IsFirstFeed left end
+pub taken_more : (old mid new : Reading) (piece left : List ℕ) (end : ℕ) (line rest : List ℕ)
+    → HasTaken old mid piece left → IsFirstFeed left end
     → line ≡ take end left → rest ≡ take (length left - (end + 1)) (drop (end + 1) left)
-    → ((formula : List (List Literal)) (bytes : List ℕ) → Holds mid formula bytes → Holds new formula (bytes ++ line ++ 10 ∷ []))
+    → ((formula : List (List Literal)) (bytes : List ℕ) → Holds mid formula bytes
+        → Holds new formula (bytes ++ line ++ 10 ∷ []))
     → HasTaken old new piece rest
 taken_more old mid new piece left end line rest t f e g next = record {
   taken = t.taken ++ line ++ 10 ∷ [];
   split = t.split ∙ ap (λ x. t.taken ++ x) whole ∙ regrouped t.taken line rest;
-  holds = λ formula bytes h. subst (Holds new formula) (moved bytes t.taken line) (next formula (bytes ++ t.taken) (t.holds formula bytes h));
+  holds =
+    λ formula bytes h. subst (Holds new formula) (moved bytes t.taken line)
+      (next formula (bytes ++ t.taken) (t.holds formula bytes h));
 }
   where
     regrouped : (t e r : List ℕ) → t ++ (e ++ 10 ∷ r) ≡ ((t ++ e) ++ 10 ∷ []) ++ r
@@ -124,36 +148,51 @@ taken_more old mid new piece left end line rest t f e g next = record {
     moved b t e = simp append_assoc
 
     whole : left ≡ line ++ 10 ∷ rest
-    whole = f.split ∙ ap (λ x. x ++ 10 ∷ drop (end + 1) left) (sym e) ∙ ap (λ x. line ++ 10 ∷ x) (sym (g ∙ take_rest left (end + 1)))
+    whole = f.split ∙ ap (λ x. x ++ 10 ∷ drop (end + 1) left) (sym e)
+      ∙ ap (λ x. line ++ 10 ∷ x) (sym (g ∙ take_rest left (end + 1)))
 
-pub rest_kept : (old mid new : Reading) (piece left : List ℕ) → HasTaken old mid piece left → mid.refused ≡ None → IsNoFeed left
-    → new.machine ≡ mid.machine → new.refused ≡ mid.refused → (new.rest).items ≡ (mid.rest).items ++ left
-    → (formula : List (List Literal)) (bytes : List ℕ) → Holds old formula bytes → Holds new formula (bytes ++ piece)
+pub rest_kept : (old mid new : Reading) (piece left : List ℕ) → HasTaken old mid piece left
+    → mid.refused ≡ None → IsNoFeed left
+    → new.machine ≡ mid.machine → new.refused ≡ mid.refused
+    → (new.rest).items ≡ (mid.rest).items ++ left
+    → (formula : List (List Literal)) (bytes : List ℕ) → Holds old formula bytes
+    → Holds new formula (bytes ++ piece)
 rest_kept old mid new piece left t none no_feed machine refused rest formula bytes h =
     let m = t.holds formula bytes h in
     let o = m.open_end none in
     record {
       open_end = λ e. record {
         done = o.done;
-        split = ap (λ x. bytes ++ x) t.split ∙ sym (append_assoc bytes t.taken left) ∙ ap (λ x. x ++ left) o.split ∙ append_assoc o.done (mid.rest).items left ∙ ap (λ x. o.done ++ x) (sym rest);
+        split = ap (λ x. bytes ++ x) t.split ∙ sym (append_assoc bytes t.taken left)
+          ∙ ap (λ x. x ++ left) o.split ∙ append_assoc o.done (mid.rest).items left
+          ∙ ap (λ x. o.done ++ x) (sym rest);
         ended = o.ended;
-        unfinished = subst IsNoFeed (sym rest) (All-append (λ b. (b == 10) ≡ false) (mid.rest).items left o.unfinished no_feed);
-        resumes = λ more. ap (λ (x : MachineState). verdict_after x (token_lines more)) machine ∙ o.resumes more;
+        unfinished =
+          subst IsNoFeed (sym rest)
+            (All-append (λ b. (b == 10) ≡ false) (mid.rest).items left o.unfinished no_feed);
+        resumes = λ more. ap (λ (x : MachineState). verdict_after x (token_lines more)) machine
+          ∙ o.resumes more;
       };
       refused = λ v e. absurd (let two : None ≡ Some v = sym none ∙ sym refused ∙ e in cc);
     }
 
-pub rest_dropped : (old new : Reading) (piece left : List ℕ) → HasTaken old new piece left → (new.refused ≡ None → ⊥)
-    → (formula : List (List Literal)) (bytes : List ℕ) → Holds old formula bytes → Holds new formula (bytes ++ piece)
+pub rest_dropped : (old new : Reading) (piece left : List ℕ) → HasTaken old new piece left
+    → (new.refused ≡ None → ⊥)
+    → (formula : List (List Literal)) (bytes : List ℕ) → Holds old formula bytes
+    → Holds new formula (bytes ++ piece)
 rest_dropped old new piece left t some formula bytes h =
     let m = t.holds formula bytes h in
     record {
       open_end = λ e. absurd (some e);
-      refused = λ v e. subst (IsRefused v formula) (append_assoc bytes t.taken left ∙ ap (λ x. bytes ++ x) (sym t.split)) (refused_more v formula (bytes ++ t.taken) left (m.refused v e));
+      refused =
+        λ v e. subst (IsRefused v formula) (append_assoc bytes t.taken left
+          ∙ ap (λ x. bytes ++ x) (sym t.split))
+          (refused_more v formula (bytes ++ t.taken) left (m.refused v e));
     }
 
 -- what comes after a fault is dropped
-pub holds_more : (r : Reading) (formula : List (List Literal)) (bytes more : List ℕ) → (r.refused ≡ None → ⊥) → Holds r formula bytes → Holds r formula (bytes ++ more)
+pub holds_more : (r : Reading) (formula : List (List Literal)) (bytes more : List ℕ)
+    → (r.refused ≡ None → ⊥) → Holds r formula bytes → Holds r formula (bytes ++ more)
 holds_more r formula bytes more some h = record {
   open_end = λ e. absurd (some e);
   refused = λ v e. refused_more v formula bytes more (h.refused v e);
@@ -171,82 +210,114 @@ pub some_from_true : (o : Option Verdict) → is_some o ≡ true → o ≡ None 
 some_from_true o e none = let t : false ≡ true = sym (ap is_some none) ∙ e in cc
 
 -- the start
-pub starts : (r : Reading) (formula : List (List Literal)) → r.machine ≡ state_of (listed_from 1 formula) (length formula) false 0 → (r.rest).items ≡ [] → r.refused ≡ None → Holds r formula []
+pub starts : (r : Reading) (formula : List (List Literal))
+    → r.machine ≡ state_of (listed_from 1 formula) (length formula) false 0 → (r.rest).items ≡ []
+    → r.refused ≡ None → Holds r formula []
 starts r formula e empty none = record {
   open_end = λ n. record {
     done = [];
     split = sym empty;
     ended = inl refl;
     unfinished = subst IsNoFeed (sym empty) (All-nil (λ b. (b == 10) ≡ false));
-    resumes = λ more. ap (λ (x : MachineState). verdict_after x (token_lines more)) e ∙ ap (λ l. verdict_on l false 1 (token_lines more)) (live_of-start formula);
+    resumes = λ more. ap (λ (x : MachineState). verdict_after x (token_lines more)) e
+      ∙ ap (λ l. verdict_on l false 1 (token_lines more)) (live_of-start formula);
   };
   refused = λ v s. absurd (let two : None ≡ Some v = sym none ∙ s in cc);
 }
 
 -- the end
-pub ends_refused : (r : Reading) (v : Verdict) → r.refused ≡ Some v → (formula : List (List Literal)) (bytes : List ℕ) → Holds r formula bytes → v ≡ proof_verdict formula bytes
+pub ends_refused : (r : Reading) (v : Verdict) → r.refused ≡ Some v
+    → (formula : List (List Literal)) (bytes : List ℕ) → Holds r formula bytes
+    → v ≡ proof_verdict formula bytes
 ends_refused r v e formula bytes h =
     let w = h.refused v e in
     sym (w.stays w.after) ∙ ap (proof_verdict formula) (sym w.split)
 
-pub ends_empty : (r : Reading) → r.refused ≡ None → (r.rest).items ≡ [] → (formula : List (List Literal)) (bytes : List ℕ) → Holds r formula bytes → verdict_after r.machine [] ≡ proof_verdict formula bytes
+pub ends_empty : (r : Reading) → r.refused ≡ None → (r.rest).items ≡ []
+    → (formula : List (List Literal)) (bytes : List ℕ) → Holds r formula bytes
+    → verdict_after r.machine [] ≡ proof_verdict formula bytes
 ends_empty r none empty formula bytes h =
     let o = h.open_end none in
     o.resumes [] ∙ ap (proof_verdict formula) (ap (λ x. o.done ++ x) (sym empty) ∙ sym o.split)
 
-module _ (r : Reading) (none : r.refused ≡ None) (some : 0 < length (r.rest).items) (formula : List (List Literal)) (bytes : List ℕ) (h : Holds r formula bytes) where
+module _ (r : Reading) (none : r.refused ≡ None) (some : 0 < length (r.rest).items)
+    (formula : List (List Literal)) (bytes : List ℕ) (h : Holds r formula bytes) where
   last_line : verdict_after r.machine (tokens_of (r.rest).items ∷ []) ≡ proof_verdict formula bytes
   last_line =
       let o = h.open_end none in
-      ap (verdict_after r.machine) (sym (tokens-last (r.rest).items some o.unfinished)) ∙ o.resumes (r.rest).items ∙ ap (proof_verdict formula) (sym o.split)
+      ap (verdict_after r.machine) (sym (tokens-last (r.rest).items some o.unfinished))
+        ∙ o.resumes (r.rest).items ∙ ap (proof_verdict formula) (sym o.split)
 
-  pub ends_open : (new : MachineState) → Judges r.machine (r.rest).items new None → verdict_after new [] ≡ proof_verdict formula bytes
+  pub ends_open : (new : MachineState) → Judges r.machine (r.rest).items new None
+    → verdict_after new [] ≡ proof_verdict formula bytes
   ends_open new j = sym (j []) ∙ last_line
 
-  pub ends_fault : (new : MachineState) (v : Verdict) → Judges r.machine (r.rest).items new (Some v) → v ≡ proof_verdict formula bytes
+  pub ends_fault : (new : MachineState) (v : Verdict) → Judges r.machine (r.rest).items new (Some v)
+    → v ≡ proof_verdict formula bytes
   ends_fault new v j = sym (j.1 []) ∙ last_line
 
-pub refused_stays : (r : Reading) (o : Option Verdict) → o ≡ r.refused → (formula : List (List Literal)) (bytes more : List ℕ) → Holds r formula bytes → IfSome o (λ v. v ≡ proof_verdict formula (bytes ++ more))
+pub refused_stays : (r : Reading) (o : Option Verdict) → o ≡ r.refused
+    → (formula : List (List Literal)) (bytes more : List ℕ) → Holds r formula bytes
+    → IfSome o (λ v. v ≡ proof_verdict formula (bytes ++ more))
 refused_stays r None e formula bytes more h = tt
 refused_stays r (Some v) e formula bytes more h =
     let w = h.refused v (sym e) in
-    sym (w.stays (w.after ++ more)) ∙ ap (proof_verdict formula) (sym (append_assoc w.done w.after more) ∙ ap (λ x. x ++ more) (sym w.split))
+    sym (w.stays (w.after ++ more))
+      ∙ ap (proof_verdict formula) (sym (append_assoc w.done w.after more)
+        ∙ ap (λ x. x ++ more) (sym w.split))
 
 abbrev pub StaysVerdict : CheckerState → Verdict → Type 0
-StaysVerdict c v = (formula : List (List Literal)) (bytes more : List ℕ) → Stands c formula bytes → v ≡ proof_verdict formula (bytes ++ more)
+StaysVerdict c v = (formula : List (List Literal)) (bytes more : List ℕ) → Stands c formula bytes
+    → v ≡ proof_verdict formula (bytes ++ more)
 
-pub checker_stays : (c : CheckerState) (o : Option Verdict) → o ≡ (c.reading).refused → IfSome o (StaysVerdict c)
+pub checker_stays : (c : CheckerState) (o : Option Verdict) → o ≡ (c.reading).refused
+    → IfSome o (StaysVerdict c)
 checker_stays c None e = tt
-checker_stays c (Some v) e = λ formula bytes more s. refused_stays c.reading (Some v) e formula bytes more s.holds
+checker_stays c (Some v) e =
+    λ formula bytes more s. refused_stays c.reading (Some v) e formula bytes more s.holds
 
 -- what was read and fed
-pub read_more : (o m n : Option (List ℕ)) (a b : List ℕ) → Consumes o m a → Consumes m n b → Consumes o n (a ++ b)
+pub read_more : (o m n : Option (List ℕ)) (a b : List ℕ) → Consumes o m a → Consumes m n b
+    → Consumes o n (a ++ b)
 read_more None m n a b p q = tt
 read_more (Some x) None n a b p q = absurd p
 read_more (Some x) (Some y) None a b p q = absurd q
 read_more (Some x) (Some y) (Some z) a b p q = p ∙ ap (λ w. a ++ w) q ∙ sym (append_assoc a b z)
 
--- the verdict on all bytes of the reader, where it was found over the bytes so far and whatever comes, or at their end
-pub over_all : (o n : Option (List ℕ)) (fed : List ℕ) (v : Verdict) (formula : List (List Literal)) → Consumes o n fed → ((more : List ℕ) → v ≡ proof_verdict formula (fed ++ more)) → IfSome o (λ bytes. v ≡ proof_verdict formula bytes)
+-- the verdict on all bytes of the reader, where it was found over the bytes so far and whatever
+-- comes, or at their end
+pub over_all : (o n : Option (List ℕ)) (fed : List ℕ) (v : Verdict) (formula : List (List Literal))
+    → Consumes o n fed → ((more : List ℕ) → v ≡ proof_verdict formula (fed ++ more))
+    → IfSome o (λ bytes. v ≡ proof_verdict formula bytes)
 over_all None n fed v formula p h = tt
 over_all (Some x) None fed v formula p h = absurd p
 over_all (Some x) (Some y) fed v formula p h = h y ∙ ap (proof_verdict formula) (sym p)
 
-pub over_ended : (o n : Option (List ℕ)) (fed : List ℕ) (v : Verdict) (formula : List (List Literal)) → Consumes o n fed → IsAtEnd n → v ≡ proof_verdict formula fed → IfSome o (λ bytes. v ≡ proof_verdict formula bytes)
+pub over_ended : (o n : Option (List ℕ)) (fed : List ℕ) (v : Verdict)
+    (formula : List (List Literal)) → Consumes o n fed → IsAtEnd n → v ≡ proof_verdict formula fed
+    → IfSome o (λ bytes. v ≡ proof_verdict formula bytes)
 over_ended None n fed v formula p e h = tt
 over_ended (Some x) None fed v formula p e h = absurd p
-over_ended (Some x) (Some y) fed v formula p e h = h ∙ ap (proof_verdict formula) (sym (append-nil fed) ∙ ap (λ z. fed ++ z) (sym e) ∙ sym p)
+over_ended (Some x) (Some y) fed v formula p e h =
+    h ∙ ap (proof_verdict formula) (sym (append-nil fed) ∙ ap (λ z. fed ++ z) (sym e) ∙ sym p)
 
-pub yes_over : (f : Cnf) (o : Option (List ℕ)) (v : Verdict) → IsFormula f → IfSome o (λ bytes. v ≡ proof_verdict f.clauses bytes) → IfSome o (λ bytes. (v ≡ Yes) ↔ IsProofOver f.clauses bytes)
+pub yes_over : (f : Cnf) (o : Option (List ℕ)) (v : Verdict) → IsFormula f
+    → IfSome o (λ bytes. v ≡ proof_verdict f.clauses bytes)
+    → IfSome o (λ bytes. (v ≡ Yes) ↔ IsProofOver f.clauses bytes)
 yes_over f None v h e = tt
 yes_over f (Some bytes) v h e = yes_is_proof f bytes v h e
 
-pub over_end : (o m n : Option (List ℕ)) (fed buf : List ℕ) (k : ℕ) (v : Verdict) (formula : List (List Literal)) → Consumes o m fed → Consumes m n (take k buf) → k ≡ 0 → IsAtEnd n
+pub over_end : (o m n : Option (List ℕ)) (fed buf : List ℕ) (k : ℕ) (v : Verdict)
+    (formula : List (List Literal)) → Consumes o m fed → Consumes m n (take k buf) → k ≡ 0
+    → IsAtEnd n
     → v ≡ proof_verdict formula fed → IfSome o (λ bytes. v ≡ proof_verdict formula bytes)
 over_end o m n fed buf k v formula p q e end h =
     let none : take k buf ≡ [] = ap (λ j. take j buf) e in
-    over_ended o n fed v formula (subst (Consumes o n) (append-nil fed) (read_more o m n fed [] p (subst (Consumes m n) none q))) end h
+    over_ended o n fed v formula
+      (subst (Consumes o n) (append-nil fed)
+        (read_more o m n fed [] p (subst (Consumes m n) none q))) end h
 
-pub if_ok_weaker : {X E : Type 0} (r : Result X E) (P Q : X → Type 0) → ((x : X) → P x → Q x) → IfOk r P → IfOk r Q
+pub if_ok_weaker : {X E : Type 0} (r : Result X E) (P Q : X → Type 0) → ((x : X) → P x → Q x)
+    → IfOk r P → IfOk r Q
 if_ok_weaker (Ok x) P Q f h = f x h
 if_ok_weaker (Err e) P Q f h = h

@@ -14,13 +14,17 @@ use Rattle.lrat_check.specs.Result.{Said, Report, Says, report_of}
 use Rattle.lrat_check.specs.Checks.{HasCost, IsTrueOf, IsTrueResult}
 use Rattle.lrat_check.proofs.Reports.{report_from_says}
 
-not_cheaper : (profile : Profile) (p : Problem) (c : ℕ) → SaysCheaper profile p c → IsUnsatisfiable (bound_as profile p c).clauses → (u : Assignment) → IsFeasible p u → cost_under p u < c → ⊥
+not_cheaper : (profile : Profile) (p : Problem) (c : ℕ) → SaysCheaper profile p c
+    → IsUnsatisfiable (bound_as profile p c).clauses → (u : Assignment) → IsFeasible p u
+    → cost_under p u < c → ⊥
 not_cheaper profile p c says none u f lower = let k = says.from u f lower in none k.0 k.2
 
 at_least : (m c : ℕ) → (m < c → ⊥) → c ≤ m
 at_least m c n = omega arith
 
-pub optimal_by : (profile : Profile) (p : Problem) (c : ℕ) (bits : List Bool) → SaysCheaper profile p c → IsUnsatisfiable (bound_as profile p c).clauses → HasCost p bits c → (t : Assignment) → Extends bits t → IsOptimal p t c
+pub optimal_by : (profile : Profile) (p : Problem) (c : ℕ) (bits : List Bool)
+    → SaysCheaper profile p c → IsUnsatisfiable (bound_as profile p c).clauses → HasCost p bits c
+    → (t : Assignment) → Extends bits t → IsOptimal p t c
 optimal_by profile p c bits says none has t e =
     let h = has t e in
     record {
@@ -29,16 +33,21 @@ optimal_by profile p c bits says none has t e =
       least = λ u f. at_least (cost_under p u) c (not_cheaper profile p c says none u f);
     }
 
-pub inconsistent_by : (p : Problem) → ((t : Assignment) → All (Satisfies t) (hard_cnf p).clauses ↔ IsFeasible p t) → IsUnsatisfiable (hard_cnf p).clauses → IsInconsistent p
+pub inconsistent_by : (p : Problem)
+    → ((t : Assignment) → All (Satisfies t) (hard_cnf p).clauses ↔ IsFeasible p t)
+    → IsUnsatisfiable (hard_cnf p).clauses → IsInconsistent p
 inconsistent_by p same none t f = none t ((same t).1 f)
 
 -- a text says one thing at most
-says_once : (text : List ℕ) (r : Report) → report_of text ≡ Ok r → (said : Said) → Says text said → r.said ≡ said
+says_once : (text : List ℕ) (r : Report) → report_of text ≡ Ok r → (said : Said) → Says text said
+    → r.said ≡ said
 says_once text r e said says =
     let k = report_from_says text said says in
     let same : Ok r ≡ Ok k.0 = sym e ∙ k.1 in
     ap (λ (x : Report). x.said) (Rattle.wcnf.proofs.Laws.same_Ok r k.0 same) ∙ k.2
 
-pub true_by : (text answer : List ℕ) (p : Problem) (r : Report) → Reads text p → report_of answer ≡ Ok r → IsTrueOf p r.said → IsTrueResult text answer
+pub true_by : (text answer : List ℕ) (p : Problem) (r : Report) → Reads text p
+    → report_of answer ≡ Ok r → IsTrueOf p r.said → IsTrueResult text answer
 true_by text answer p r reads e is q said reads_q says =
-    subst (λ x. IsTrueOf x said) (reads_one text p q reads reads_q) (subst (λ s. IsTrueOf p s) (says_once answer r e said says) is)
+    subst (λ x. IsTrueOf x said) (reads_one text p q reads reads_q)
+      (subst (λ s. IsTrueOf p s) (says_once answer r e said says) is)

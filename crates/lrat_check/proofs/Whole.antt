@@ -9,8 +9,12 @@ use Rattle.lrat_check.specs.declared.verdicts.Verdict.TheVariants.{Yes}
 use Rattle.lrat_check.specs.Verdict.{proof_verdict}
 use Rattle.lrat_check.proofs.Proofs.{proof_verdict-IsFormula}
 
-pub yes_is_proof : (f : Cnf) (text : List ℕ) (v : Verdict) → IsFormula f → v ≡ proof_verdict f.clauses text → (v ≡ Yes) ↔ IsProofOver f.clauses text
-yes_is_proof f text v h e = subst (λ w. (w ≡ Yes) ↔ IsProofOver f.clauses text) (sym e) (proof_verdict-IsFormula f h text)
+pub yes_is_proof : (f : Cnf) (text : List ℕ) (v : Verdict) → IsFormula f
+    → v ≡ proof_verdict f.clauses text → (v ≡ Yes) ↔ IsProofOver f.clauses text
+yes_is_proof f text v h e =
+    subst (λ w. (w ≡ Yes) ↔ IsProofOver f.clauses text) (sym e) (proof_verdict-IsFormula f h text)
 
-pub yes_is_sound : (f : Cnf) (text : List ℕ) (v : Verdict) → IsFormula f → v ≡ proof_verdict f.clauses text → v ≡ Yes → IsUnsatisfiable f.clauses
-yes_is_sound f text v h e y = let p = (yes_is_proof f text v h e).0 y in certificate_sound f.clauses p.0 p.2
+pub yes_is_sound : (f : Cnf) (text : List ℕ) (v : Verdict) → IsFormula f
+    → v ≡ proof_verdict f.clauses text → v ≡ Yes → IsUnsatisfiable f.clauses
+yes_is_sound f text v h e y = let p = (yes_is_proof f text v h e).0 y in
+    certificate_sound f.clauses p.0 p.2

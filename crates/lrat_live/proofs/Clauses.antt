@@ -1,5 +1,8 @@
--- The live clauses of a table: what is found under an id, and what an added, a deleted and a moved entry do.
-use Rattle.std.proofs.Common.{◌≡◌, ℕ, zero, suc, ◌+◌, ◌<◌, ◌≤◌, true, false, List, [], ◌∷◌, ◌++◌, length, get_or, take, drop, set, Some, None, refl, sym, ◌∙◌, ap, subst, arith, inl, inr}
+-- The live clauses of a table: what is found under an id, and what an added, a deleted and a moved
+-- entry do.
+use Rattle.std.proofs.Common.{◌≡◌, ℕ, zero, suc, ◌+◌, ◌<◌, ◌≤◌, true, false, List, [], ◌∷◌, ◌++◌}
+use Rattle.std.proofs.Common.{length, get_or, take, drop, set, Some, None, refl, sym, ◌∙◌, ap}
+use Rattle.std.proofs.Common.{subst, arith, inl, inr}
 use Rattle.std.specs.Prelude.{◌==◌, slice_index}
 use Rattle.std.specs.List.Sorted.{IsStrictlyIncreasing}
 use Rattle.std.proofs.lemmas.Bool.{cases_Bool, eqb-true, ne_eqb}
@@ -11,32 +14,44 @@ use Rattle.wcnf.proofs.Laws as laws
 use Rattle.wcnf.proofs.Laws.{Layout}
 use Rattle.lrat_live.specs.Listed.{Listed, ids_of, listed_at, without_id}
 use Rattle.lrat_live.specs.Chains.{place_of}
-use Rattle.lrat_live.specs.Table.{Cell, keys_of, literals_of, clauses_in, AllLive, IsLaid, IsAboveLast}
-use Rattle.lrat_live.proofs.Chains.{newest_some, newest_first, newest_nowhere, newest_passes, newest-le, cases_zero}
+use Rattle.lrat_live.specs.Table.{Cell, keys_of, literals_of, clauses_in, AllLive, IsLaid}
+use Rattle.lrat_live.specs.Table.{IsAboveLast}
+use Rattle.lrat_live.proofs.Chains.{newest_some, newest_first, newest_nowhere, newest_passes}
+use Rattle.lrat_live.proofs.Chains.{newest-le, cases_zero}
 
 -- cells over flat literals, by the laws of pieces that are laid one after another
 abbrev cells : Layout Cell Literal (ℕ × List Literal)
-cells = record { start = λ c. c.start; length = λ c. c.length; live = λ c. c.live; listed = λ c l. (c.id, l) }
+cells = record { start = λ c. c.start; length = λ c. c.length; live = λ c. c.live;
+      listed = λ c l. (c.id, l) }
 
-pub laid_within : (from to : ℕ) (cs : List Cell) (i : ℕ) (d : Cell) → IsLaid from cs to → i < length cs → (get_or cs i d).start + (get_or cs i d).length ≤ to
+pub laid_within : (from to : ℕ) (cs : List Cell) (i : ℕ) (d : Cell) → IsLaid from cs to
+    → i < length cs → (get_or cs i d).start + (get_or cs i d).length ≤ to
 laid_within = laws.laid_within cells
 
-pub laid_push : (from to : ℕ) (cs : List Cell) (c : Cell) → IsLaid from cs to → c.start ≡ to → IsLaid from (cs ++ c ∷ []) (to + c.length)
+pub laid_push : (from to : ℕ) (cs : List Cell) (c : Cell) → IsLaid from cs to → c.start ≡ to
+    → IsLaid from (cs ++ c ∷ []) (to + c.length)
 laid_push = laws.laid_push cells
 
-pub laid_set : (from to : ℕ) (cs : List Cell) (i : ℕ) (c d : Cell) → IsLaid from cs to → c.start ≡ (get_or cs i d).start → c.length ≡ (get_or cs i d).length → IsLaid from (set cs i c) to
+pub laid_set : (from to : ℕ) (cs : List Cell) (i : ℕ) (c d : Cell) → IsLaid from cs to
+    → c.start ≡ (get_or cs i d).start → c.length ≡ (get_or cs i d).length
+    → IsLaid from (set cs i c) to
 laid_set = laws.laid_set cells
 
-pub clauses_live : (ls : List Literal) (c : Cell) (cs : List Cell) → c.live ≡ true → clauses_in ls (c ∷ cs) ≡ (c.id, literals_of ls c) ∷ clauses_in ls cs
+pub clauses_live : (ls : List Literal) (c : Cell) (cs : List Cell) → c.live ≡ true
+    → clauses_in ls (c ∷ cs) ≡ (c.id, literals_of ls c) ∷ clauses_in ls cs
 clauses_live = laws.pieces_live cells
 
-pub clauses_dead : (ls : List Literal) (c : Cell) (cs : List Cell) → c.live ≡ false → clauses_in ls (c ∷ cs) ≡ clauses_in ls cs
+pub clauses_dead : (ls : List Literal) (c : Cell) (cs : List Cell) → c.live ≡ false
+    → clauses_in ls (c ∷ cs) ≡ clauses_in ls cs
 clauses_dead = laws.pieces_dead cells
 
-pub clauses-append : (ls : List Literal) (xs ys : List Cell) → clauses_in ls (xs ++ ys) ≡ clauses_in ls xs ++ clauses_in ls ys
+pub clauses-append : (ls : List Literal) (xs ys : List Cell)
+    → clauses_in ls (xs ++ ys) ≡ clauses_in ls xs ++ clauses_in ls ys
 clauses-append = laws.pieces-append cells
 
-pub clauses_push : (ls more : List Literal) (cs : List Cell) (c : Cell) → IsLaid 0 cs (length ls) → c.start ≡ length ls → c.length ≡ length more → c.live ≡ true → clauses_in (ls ++ more) (cs ++ c ∷ []) ≡ clauses_in ls cs ++ (c.id, more) ∷ []
+pub clauses_push : (ls more : List Literal) (cs : List Cell) (c : Cell) → IsLaid 0 cs (length ls)
+    → c.start ≡ length ls → c.length ≡ length more → c.live ≡ true
+    → clauses_in (ls ++ more) (cs ++ c ∷ []) ≡ clauses_in ls cs ++ (c.id, more) ∷ []
 clauses_push = laws.pieces_push cells
 
 pub clauses-le : (ls : List Literal) (cs : List Cell) → length (clauses_in ls cs) ≤ length cs
@@ -51,10 +66,14 @@ clauses-le ls (c ∷ cs) =
 abbrev pub IsCompacting : List Literal → List Cell → ℕ → ℕ → ℕ → Listed → Type 0
 IsCompacting = laws.IsCompacting cells
 
-pub compacting_all : (ls : List Literal) (cs : List Cell) (kept end i : ℕ) (value : Listed) → IsCompacting ls cs kept end i value → length cs ≤ i → (end ≤ length ls) × IsLaid 0 (take kept cs) (length (take end ls)) × (clauses_in (take end ls) (take kept cs) ≡ value)
+pub compacting_all : (ls : List Literal) (cs : List Cell) (kept end i : ℕ) (value : Listed)
+    → IsCompacting ls cs kept end i value → length cs ≤ i
+    → (end ≤ length ls) × IsLaid 0 (take kept cs) (length (take end ls))
+      × (clauses_in (take end ls) (take kept cs) ≡ value)
 compacting_all = laws.compacting_all cells
 
-module _ (ls : List Literal) (cs : List Cell) (kept end i : ℕ) (value : Listed) (d : Cell) (s : IsCompacting ls cs kept end i value) (h : i < length cs) where
+module _ (ls : List Literal) (cs : List Cell) (kept end i : ℕ) (value : Listed) (d : Cell)
+    (s : IsCompacting ls cs kept end i value) (h : i < length cs) where
   abbrev c : Cell
   c = get_or cs i d
 
@@ -64,20 +83,28 @@ module _ (ls : List Literal) (cs : List Cell) (kept end i : ℕ) (value : Listed
   pub compacting_dead : c.live ≡ false → IsCompacting ls cs kept end (i + 1) value
   compacting_dead = laws.compacting_dead cells ls cs kept end i value d s h
 
-  pub compacting_live : (z : Cell) → c.live ≡ true → z.id ≡ c.id → z.start ≡ end → z.length ≡ c.length → z.live ≡ true → IsCompacting (paste ls end (drop c.start ls) c.length) (set cs kept z) (kept + 1) (end + c.length) (i + 1) value
-  compacting_live z live id start long lives = laws.compacting_live cells ls cs kept end i value d s h z live start long lives (λ l. ap (λ n. (n, l)) id)
+  pub compacting_live : (z : Cell) → c.live ≡ true → z.id ≡ c.id → z.start ≡ end
+    → z.length ≡ c.length → z.live ≡ true → IsCompacting (paste ls end (drop c.start ls) c.length)
+    (set cs kept z) (kept + 1) (end + c.length) (i + 1) value
+  compacting_live z live id start long lives =
+    laws.compacting_live cells ls cs kept end i value d s h z live start long lives
+      (λ l. ap (λ n. (n, l)) id)
 
 -- what is listed under an id
-listed_other : (i : ℕ) (e : ℕ × List Literal) (es : Listed) → (e.0 == i) ≡ false → listed_at (e ∷ es) i ≡ listed_at es i
+listed_other : (i : ℕ) (e : ℕ × List Literal) (es : Listed) → (e.0 == i) ≡ false
+    → listed_at (e ∷ es) i ≡ listed_at es i
 listed_other i e es h = rw h refl
 
-listed_here : (i : ℕ) (e : ℕ × List Literal) (es : Listed) → (e.0 == i) ≡ true → listed_at (e ∷ es) i ≡ Some e.1
+listed_here : (i : ℕ) (e : ℕ × List Literal) (es : Listed) → (e.0 == i) ≡ true
+    → listed_at (e ∷ es) i ≡ Some e.1
 listed_here i e es h = rw h refl
 
-without_here : (i : ℕ) (e : ℕ × List Literal) (es : Listed) → (e.0 == i) ≡ true → without_id i (e ∷ es) ≡ without_id i es
+without_here : (i : ℕ) (e : ℕ × List Literal) (es : Listed) → (e.0 == i) ≡ true
+    → without_id i (e ∷ es) ≡ without_id i es
 without_here i e es h = rw h refl
 
-without_other : (i : ℕ) (e : ℕ × List Literal) (es : Listed) → (e.0 == i) ≡ false → without_id i (e ∷ es) ≡ e ∷ without_id i es
+without_other : (i : ℕ) (e : ℕ × List Literal) (es : Listed) → (e.0 == i) ≡ false
+    → without_id i (e ∷ es) ≡ e ∷ without_id i es
 without_other i e es h = rw h refl
 
 pub without_none : (i : ℕ) (es : Listed) → listed_at es i ≡ None → without_id i es ≡ es
@@ -85,11 +112,13 @@ without_none i [] h = refl
 without_none i (e ∷ es) h =
     elim (cases_Bool (e.0 == i)) [
       | inl t ↦ let z = listed_here i e es t in absurd (cc)
-      | inr f ↦ without_other i e es f ∙ ap (λ x. e ∷ x) (without_none i es (sym (listed_other i e es f) ∙ h))
+      | inr f ↦ without_other i e es f
+        ∙ ap (λ x. e ∷ x) (without_none i es (sym (listed_other i e es f) ∙ h))
     ]
 
 -- no cell has the id
-pub listed_nowhere : (ls : List Literal) (cs : List Cell) (i : ℕ) → place_of i (keys_of cs) ≡ 0 → listed_at (clauses_in ls cs) i ≡ None
+pub listed_nowhere : (ls : List Literal) (cs : List Cell) (i : ℕ) → place_of i (keys_of cs) ≡ 0
+    → listed_at (clauses_in ls cs) i ≡ None
 listed_nowhere ls [] i h = refl
 listed_nowhere ls (c ∷ cs) i h =
     elim (cases_zero (place_of i (keys_of cs))) [
@@ -97,49 +126,64 @@ listed_nowhere ls (c ∷ cs) i h =
       | inl e ↦ elim (cases_Bool (c.id == i)) [
         | inl t ↦ absurd (omega (arith, newest_first (λ k. k == i) c.id (keys_of cs) e t))
         | inr f ↦ elim (cases_Bool c.live) [
-          | inl l ↦ ap (λ es. listed_at es i) (clauses_live ls c cs l) ∙ listed_other i (c.id, literals_of ls c) (clauses_in ls cs) f ∙ listed_nowhere ls cs i e
+          | inl l ↦ ap (λ es. listed_at es i) (clauses_live ls c cs l)
+            ∙ listed_other i (c.id, literals_of ls c) (clauses_in ls cs) f
+            ∙ listed_nowhere ls cs i e
           | inr l ↦ ap (λ es. listed_at es i) (clauses_dead ls c cs l) ∙ listed_nowhere ls cs i e
         ]
       ]
     ]
 
 -- keys that rise
-rises_least : (least : ℕ) (ks : List ℕ) (p : ℕ) → RisesFrom least ks → p < length ks → least ≤ slice_index ks p
+rises_least : (least : ℕ) (ks : List ℕ) (p : ℕ) → RisesFrom least ks → p < length ks
+    → least ≤ slice_index ks p
 rises_least = laws.rises_least
 
 -- each key is below the next
 pub rising_from : (least : ℕ) (ks : List ℕ) → RisesFrom least ks → IsStrictlyIncreasing ks
 rising_from = laws.rising_from
 
-pub rises_push : (least : ℕ) (ks : List ℕ) (k : ℕ) → RisesFrom least ks → least ≤ k → IsAboveLast k ks → RisesFrom least (ks ++ k ∷ [])
+pub rises_push : (least : ℕ) (ks : List ℕ) (k : ℕ) → RisesFrom least ks → least ≤ k
+    → IsAboveLast k ks → RisesFrom least (ks ++ k ∷ [])
 rises_push least [] k r h l = (h, tt)
 rises_push least (x ∷ []) k r h l = let z : x < k = l 0 (omega arith) in (r.0, (omega arith, tt))
 rises_push least (x ∷ y ∷ ks) k r h l =
     let z : slice_index (y ∷ ks) (length ks) < k = l (suc (length ks)) (omega arith) in
-    let up : x + 1 ≤ k = omega (arith, z, rises_least (x + 1) (y ∷ ks) (length ks) r.1 (omega arith)) in
+    let up : x + 1 ≤ k =
+      omega (arith, z, rises_least (x + 1) (y ∷ ks) (length ks) r.1 (omega arith)) in
     (r.0, rises_push (x + 1) (y ∷ ks) k r.1 up (λ p e. l (suc p) (omega arith)))
 
-pub rises_clauses : (ls : List Literal) (least : ℕ) (cs : List Cell) → RisesFrom least (keys_of cs) → RisesFrom least (ids_of (clauses_in ls cs))
+pub rises_clauses : (ls : List Literal) (least : ℕ) (cs : List Cell) → RisesFrom least (keys_of cs)
+    → RisesFrom least (ids_of (clauses_in ls cs))
 rises_clauses ls least [] r = tt
 rises_clauses ls least (c ∷ cs) r =
     elim (cases_Bool c.live) [
-      | inl h ↦ subst (λ es. RisesFrom least (ids_of es)) (sym (clauses_live ls c cs h)) (r.0, rises_clauses ls (c.id + 1) cs r.1)
-      | inr h ↦ subst (λ es. RisesFrom least (ids_of es)) (sym (clauses_dead ls c cs h)) (laws.rises_weaker least (c.id + 1) (ids_of (clauses_in ls cs)) (omega (arith, r.0)) (rises_clauses ls (c.id + 1) cs r.1))
+      | inl h ↦ subst (λ es. RisesFrom least (ids_of es)) (sym (clauses_live ls c cs h)) (r.0,
+          rises_clauses ls (c.id + 1) cs r.1)
+      | inr h ↦ subst (λ es. RisesFrom least (ids_of es)) (sym (clauses_dead ls c cs h))
+        (laws.rises_weaker least (c.id + 1) (ids_of (clauses_in ls cs)) (omega (arith, r.0))
+          (rises_clauses ls (c.id + 1) cs r.1))
     ]
 
-pub live_ids : (ls : List Literal) (cs : List Cell) → AllLive cs → ids_of (clauses_in ls cs) ≡ keys_of cs
+pub live_ids : (ls : List Literal) (cs : List Cell) → AllLive cs
+    → ids_of (clauses_in ls cs) ≡ keys_of cs
 live_ids ls [] h = refl
-live_ids ls (c ∷ cs) h = ap ids_of (clauses_live ls c cs h.0) ∙ ap (λ ks. c.id ∷ ks) (live_ids ls cs h.1)
+live_ids ls (c ∷ cs) h = ap ids_of (clauses_live ls c cs h.0)
+    ∙ ap (λ ks. c.id ∷ ks) (live_ids ls cs h.1)
 
 -- the entry of an id, found or deleted
-later_key : (c : Cell) (cs : List Cell) (i p least : ℕ) → RisesFrom least (keys_of (c ∷ cs)) → place_of i (keys_of cs) ≡ p + 1 → (c.id == i) ≡ false
+later_key : (c : Cell) (cs : List Cell) (i p least : ℕ) → RisesFrom least (keys_of (c ∷ cs))
+    → place_of i (keys_of cs) ≡ p + 1 → (c.id == i) ≡ false
 later_key c cs i p least r e =
-    let there : slice_index (keys_of cs) p ≡ i = eqb-true _ _ (newest_passes (λ k. k == i) (keys_of cs) p e) in
+    let there : slice_index (keys_of cs) p ≡ i =
+      eqb-true _ _ (newest_passes (λ k. k == i) (keys_of cs) p e) in
     let in' : p < length (keys_of cs) = omega (arith, newest-le (λ k. k == i) (keys_of cs)) in
-    let up : c.id + 1 ≤ slice_index (keys_of cs) p = rises_least (c.id + 1) (keys_of cs) p r.1 in' in
+    let up : c.id + 1 ≤ slice_index (keys_of cs) p =
+      rises_least (c.id + 1) (keys_of cs) p r.1 in' in
     ne_eqb c.id i (λ u. absurd (omega arith))
 
-place_first : (c : Cell) (cs : List Cell) (i : ℕ) → place_of i (keys_of (c ∷ cs)) ≡ 0 + 1 → ((c.id == i) ≡ true) × (place_of i (keys_of cs) ≡ 0)
+place_first : (c : Cell) (cs : List Cell) (i : ℕ) → place_of i (keys_of (c ∷ cs)) ≡ 0 + 1
+    → ((c.id == i) ≡ true) × (place_of i (keys_of cs) ≡ 0)
 place_first c cs i e =
     elim (cases_zero (place_of i (keys_of cs))) [
       | inr (n, u) ↦ absurd (omega (arith, newest_some (λ k. k == i) c.id (keys_of cs) n u))
@@ -149,7 +193,8 @@ place_first c cs i e =
       ]
     ]
 
-place_later : (c : Cell) (cs : List Cell) (i p : ℕ) → place_of i (keys_of (c ∷ cs)) ≡ suc p + 1 → place_of i (keys_of cs) ≡ p + 1
+place_later : (c : Cell) (cs : List Cell) (i p : ℕ) → place_of i (keys_of (c ∷ cs)) ≡ suc p + 1
+    → place_of i (keys_of cs) ≡ p + 1
 place_later c cs i p e =
     elim (cases_zero (place_of i (keys_of cs))) [
       | inr (n, u) ↦ omega (arith, newest_some (λ k. k == i) c.id (keys_of cs) n u)
@@ -159,21 +204,27 @@ place_later c cs i p e =
       ]
     ]
 
-pub listed_live : (ls : List Literal) (least : ℕ) (cs : List Cell) (i p : ℕ) (d : Cell) → RisesFrom least (keys_of cs) → place_of i (keys_of cs) ≡ p + 1 → (get_or cs p d).live ≡ true → listed_at (clauses_in ls cs) i ≡ Some (literals_of ls (get_or cs p d))
+pub listed_live : (ls : List Literal) (least : ℕ) (cs : List Cell) (i p : ℕ) (d : Cell)
+    → RisesFrom least (keys_of cs) → place_of i (keys_of cs) ≡ p + 1 → (get_or cs p d).live ≡ true
+    → listed_at (clauses_in ls cs) i ≡ Some (literals_of ls (get_or cs p d))
 listed_live ls least [] i p d r e l = absurd (omega arith)
 listed_live ls least (c ∷ cs) i zero d r e l =
     let h = place_first c cs i e in
-    ap (λ es. listed_at es i) (clauses_live ls c cs l) ∙ listed_here i (c.id, literals_of ls c) (clauses_in ls cs) h.0
+    ap (λ es. listed_at es i) (clauses_live ls c cs l)
+      ∙ listed_here i (c.id, literals_of ls c) (clauses_in ls cs) h.0
 listed_live ls least (c ∷ cs) i (suc p) d r e l =
     let g = place_later c cs i p e in
     let f = later_key c cs i p least r g in
     let next = listed_live ls (c.id + 1) cs i p d r.1 g l in
     elim (cases_Bool c.live) [
-      | inl h ↦ ap (λ es. listed_at es i) (clauses_live ls c cs h) ∙ listed_other i (c.id, literals_of ls c) (clauses_in ls cs) f ∙ next
+      | inl h ↦ ap (λ es. listed_at es i) (clauses_live ls c cs h)
+        ∙ listed_other i (c.id, literals_of ls c) (clauses_in ls cs) f ∙ next
       | inr h ↦ ap (λ es. listed_at es i) (clauses_dead ls c cs h) ∙ next
     ]
 
-pub listed_dead : (ls : List Literal) (least : ℕ) (cs : List Cell) (i p : ℕ) (d : Cell) → RisesFrom least (keys_of cs) → place_of i (keys_of cs) ≡ p + 1 → (get_or cs p d).live ≡ false → listed_at (clauses_in ls cs) i ≡ None
+pub listed_dead : (ls : List Literal) (least : ℕ) (cs : List Cell) (i p : ℕ) (d : Cell)
+    → RisesFrom least (keys_of cs) → place_of i (keys_of cs) ≡ p + 1 → (get_or cs p d).live ≡ false
+    → listed_at (clauses_in ls cs) i ≡ None
 listed_dead ls least [] i p d r e l = absurd (omega arith)
 listed_dead ls least (c ∷ cs) i zero d r e l =
     let h = place_first c cs i e in
@@ -183,18 +234,22 @@ listed_dead ls least (c ∷ cs) i (suc p) d r e l =
     let f = later_key c cs i p least r g in
     let next = listed_dead ls (c.id + 1) cs i p d r.1 g l in
     elim (cases_Bool c.live) [
-      | inl h ↦ ap (λ es. listed_at es i) (clauses_live ls c cs h) ∙ listed_other i (c.id, literals_of ls c) (clauses_in ls cs) f ∙ next
+      | inl h ↦ ap (λ es. listed_at es i) (clauses_live ls c cs h)
+        ∙ listed_other i (c.id, literals_of ls c) (clauses_in ls cs) f ∙ next
       | inr h ↦ ap (λ es. listed_at es i) (clauses_dead ls c cs h) ∙ next
     ]
 
 -- the entry of an id becomes dead
-pub clauses_deleted : (ls : List Literal) (least : ℕ) (cs : List Cell) (i p : ℕ) (z : Cell) → RisesFrom least (keys_of cs) → place_of i (keys_of cs) ≡ p + 1 → z.live ≡ false → clauses_in ls (set cs p z) ≡ without_id i (clauses_in ls cs)
+pub clauses_deleted : (ls : List Literal) (least : ℕ) (cs : List Cell) (i p : ℕ) (z : Cell)
+    → RisesFrom least (keys_of cs) → place_of i (keys_of cs) ≡ p + 1 → z.live ≡ false
+    → clauses_in ls (set cs p z) ≡ without_id i (clauses_in ls cs)
 clauses_deleted ls least [] i p z r e l = absurd (omega arith)
 clauses_deleted ls least (c ∷ cs) i zero z r e l =
     let h = place_first c cs i e in
     let rest = without_none i (clauses_in ls cs) (listed_nowhere ls cs i h.1) in
     clauses_dead ls z cs l ∙ sym (elim (cases_Bool c.live) [
-      | inl v ↦ ap (without_id i) (clauses_live ls c cs v) ∙ without_here i (c.id, literals_of ls c) (clauses_in ls cs) h.0 ∙ rest
+      | inl v ↦ ap (without_id i) (clauses_live ls c cs v)
+        ∙ without_here i (c.id, literals_of ls c) (clauses_in ls cs) h.0 ∙ rest
       | inr v ↦ ap (without_id i) (clauses_dead ls c cs v) ∙ rest
     ])
 clauses_deleted ls least (c ∷ cs) i (suc p) z r e l =
@@ -202,11 +257,16 @@ clauses_deleted ls least (c ∷ cs) i (suc p) z r e l =
     let f = later_key c cs i p least r g in
     let next = clauses_deleted ls (c.id + 1) cs i p z r.1 g l in
     elim (cases_Bool c.live) [
-      | inl v ↦ clauses_live ls c (set cs p z) v ∙ ap (λ es. (c.id, literals_of ls c) ∷ es) next ∙ sym (ap (without_id i) (clauses_live ls c cs v) ∙ without_other i (c.id, literals_of ls c) (clauses_in ls cs) f)
-      | inr v ↦ clauses_dead ls c (set cs p z) v ∙ next ∙ sym (ap (without_id i) (clauses_dead ls c cs v))
+      | inl v ↦ clauses_live ls c (set cs p z) v ∙ ap (λ es. (c.id, literals_of ls c) ∷ es) next
+        ∙ sym (ap (without_id i) (clauses_live ls c cs v)
+          ∙ without_other i (c.id, literals_of ls c) (clauses_in ls cs) f)
+      | inr v ↦ clauses_dead ls c (set cs p z) v ∙ next
+        ∙ sym (ap (without_id i) (clauses_dead ls c cs v))
     ]
 
 -- literals that stay where they are
 pub paste_stay : (ls : List Literal) (at n : ℕ) → paste ls at (drop at ls) n ≡ ls
 paste_stay ls at n =
-    append_assoc (take at ls) (take n (drop at ls)) (drop (at + n) ls) ∙ ap (λ xs. take at ls ++ (take n (drop at ls) ++ xs)) (sym (drop-drop n at ls)) ∙ ap (λ xs. take at ls ++ xs) (take-append-drop n (drop at ls)) ∙ take-append-drop at ls
+    append_assoc (take at ls) (take n (drop at ls)) (drop (at + n) ls)
+      ∙ ap (λ xs. take at ls ++ (take n (drop at ls) ++ xs)) (sym (drop-drop n at ls))
+      ∙ ap (λ xs. take at ls ++ xs) (take-append-drop n (drop at ls)) ∙ take-append-drop at ls

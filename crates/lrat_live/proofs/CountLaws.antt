@@ -1,17 +1,25 @@
--- Laws of counts. A rising list of ids whose clauses have the literal in as many places as all clauses do names all that have it.
-use Rattle.std.proofs.Common.{◌≡◌, ℕ, ◌+◌, ◌-◌, ◌*◌, ◌<◌, ◌≤◌, Bool, true, false, not, List, [], ◌∷◌, ◌++◌, length, get_or, take, drop, set, Option, Some, None, refl, sym, ◌∙◌, ap, subst, arith, inl, inr}
+-- Laws of counts. A rising list of ids whose clauses have the literal in as many places as all
+-- clauses do names all that have it.
+use Rattle.std.proofs.Common.{◌≡◌, ℕ, ◌+◌, ◌-◌, ◌*◌, ◌<◌, ◌≤◌, Bool, true, false, not, List, []}
+use Rattle.std.proofs.Common.{◌∷◌, ◌++◌, length, get_or, take, drop, set, Option, Some, None, refl}
+use Rattle.std.proofs.Common.{sym, ◌∙◌, ap, subst, arith, inl, inr}
 use Rattle.std.proofs.Math.Bool.{cond}
 use Rattle.std.specs.Prelude.{◌==◌, ◌&&◌, All, nat_lt, nat_le, slice_index, slice_range}
 use Rattle.std.specs.List.{AllByRecursion}
-use Rattle.std.proofs.lemmas.Bool.{not-false, not-true, and_from, and_parts, or_parts, or_from, cases_Bool, both_ways, eq-eqb, eqb-true, ne_eqb, cases_eq, cases_lt, ltb-true, lt-ltb, leb-true, le-leb, false≢true, cond-true, cond-false, false_from_ne_true}
+use Rattle.std.proofs.lemmas.Bool.{not-false, not-true, and_from, and_parts, or_parts, or_from}
+use Rattle.std.proofs.lemmas.Bool.{cases_Bool, both_ways, eq-eqb, eqb-true, ne_eqb, cases_eq}
+use Rattle.std.proofs.lemmas.Bool.{cases_lt, ltb-true, lt-ltb, leb-true, le-leb, false≢true}
+use Rattle.std.proofs.lemmas.Bool.{cond-true, cond-false, false_from_ne_true}
 use Rattle.std.proofs.Math.ListN.{get_or-eq_default}
-use Rattle.std.proofs.lemmas.List.{drop_more, take_more, append-nil, map_push, get_or-set_same, get_or-set_other}
+use Rattle.std.proofs.lemmas.List.{drop_more, take_more, append-nil, map_push, get_or-set_same}
+use Rattle.std.proofs.lemmas.List.{get_or-set_other}
 use Rattle.std.proofs.lemmas.List.Elements.{All-head, All-tail}
 use Rattle.wcnf.specs.Numbers.{one_if}
 use Rattle.wcnf.specs.Literal.{Literal, literal_eq, same_bool, index_of}
 use Rattle.wcnf.specs.Clause.{contains_literal}
 use Rattle.wcnf.proofs.Laws.{literal_eq-true}
-use Rattle.lrat_live.specs.Counts.{times_in, times, times_at, is_next, take_all, AreCounts, AreRaised, AreLowered}
+use Rattle.lrat_live.specs.Counts.{times_in, times, times_at, is_next, take_all, AreCounts}
+use Rattle.lrat_live.specs.Counts.{AreRaised, AreLowered}
 use Rattle.lrat_live.specs.Listed.{Listed, ids_of, ids_listed, listed_at, same_ids, without_id}
 use Rattle.lrat_live.proofs.Listed.{Rises}
 use Rattle.wcnf.proofs.Laws.{literal_eq-refl, index_same}
@@ -69,44 +77,61 @@ le_later : (a b c : ℕ) → c ≤ b → c ≤ a + b
 le_later a b c h = omega arith
 
 -- in a clause
-pub times_in-append : (l : Literal) (b c : List Literal) → times_in l (b ++ c) ≡ times_in l b + times_in l c
+pub times_in-append : (l : Literal) (b c : List Literal)
+    → times_in l (b ++ c) ≡ times_in l b + times_in l c
 times_in-append l [] c = sym (zero_plus (times_in l c))
 times_in-append l (k ∷ b) c =
-    ap (λ n. one_if (literal_eq l k) + n) (times_in-append l b c) ∙ plus_plus (one_if (literal_eq l k)) (times_in l b) (times_in l c)
+    ap (λ n. one_if (literal_eq l k) + n) (times_in-append l b c)
+      ∙ plus_plus (one_if (literal_eq l k)) (times_in l b) (times_in l c)
 
-pub times_in-more : (l k : Literal) (c : List Literal) (i : ℕ) → i < length c → k ≡ get_or c i k → times_in l (take (i + 1) c) ≡ times_in l (take i c) + one_if (literal_eq l k)
+pub times_in-more : (l k : Literal) (c : List Literal) (i : ℕ) → i < length c → k ≡ get_or c i k
+    → times_in l (take (i + 1) c) ≡ times_in l (take i c) + one_if (literal_eq l k)
 times_in-more l k c i h e =
-    let whole : take (i + 1) c ≡ take i c ++ k ∷ [] = take_more c i k h ∙ ap (λ x. take i c ++ x ∷ []) (sym e) in
-    ap (times_in l) whole ∙ times_in-append l (take i c) (k ∷ []) ∙ ap (λ n. times_in l (take i c) + n) (plus_zero (one_if (literal_eq l k)))
+    let whole : take (i + 1) c ≡ take i c ++ k ∷ [] =
+      take_more c i k h ∙ ap (λ x. take i c ++ x ∷ []) (sym e) in
+    ap (times_in l) whole ∙ times_in-append l (take i c) (k ∷ [])
+      ∙ ap (λ n. times_in l (take i c) + n) (plus_zero (one_if (literal_eq l k)))
 
-same_codes : (k l : Literal) → 2 * l.variable + cond l.negated 1 0 ≡ 2 * k.variable + cond k.negated 1 0 → literal_eq k l ≡ true
+same_codes : (k l : Literal) → 2 * l.variable + cond l.negated 1 0 ≡ 2 * k.variable + cond k.negated
+    1 0 → literal_eq k l ≡ true
 same_codes k l e = by k.variable l.variable k.negated l.negated e
   where
-    by : (v w : ℕ) (a b : Bool) → 2 * w + cond b 1 0 ≡ 2 * v + cond a 1 0 → ((v == w) && same_bool a b) ≡ true
+    by : (v w : ℕ) (a b : Bool) → 2 * w + cond b 1 0 ≡ 2 * v + cond a 1 0
+      → ((v == w) && same_bool a b) ≡ true
     by v w true true e = and_from _ _ (eq-eqb v w (omega arith)) refl
     by v w false false e = and_from _ _ (eq-eqb v w (omega arith)) refl
     by v w true false e = absurd (omega arith)
     by v w false true e = absurd (omega arith)
 
-pub ne_codes : (k l : Literal) → not ((2 * l.variable + cond l.negated 1 0) == (2 * k.variable + cond k.negated 1 0)) ≡ true → literal_eq k l ≡ false
+pub ne_codes : (k l : Literal)
+    → not ((2 * l.variable + cond l.negated 1 0) == (2 * k.variable + cond k.negated 1 0)) ≡ true
+    → literal_eq k l ≡ false
 ne_codes k l h =
     false_from_ne_true _ (λ e.
     let same : k ≡ l = literal_eq-true k l e in
-    both_ways _ (not-true _ h) (eq-eqb _ _ (ap (λ m. 2 * m.variable + cond m.negated 1 0) (sym same))))
+    both_ways _ (not-true _ h)
+      (eq-eqb _ _ (ap (λ m. 2 * m.variable + cond m.negated 1 0) (sym same))))
 
-pub times_in-passed : (l k : Literal) (c : List Literal) (i : ℕ) → i < length c → k ≡ get_or c i k → not ((2 * k.variable + cond k.negated 1 0) == (2 * l.variable + cond l.negated 1 0)) ≡ true → times_in l (take (i + 1) c) ≡ times_in l (take i c)
+pub times_in-passed : (l k : Literal) (c : List Literal) (i : ℕ) → i < length c → k ≡ get_or c i k
+    → not ((2 * k.variable + cond k.negated 1 0) == (2 * l.variable + cond l.negated 1 0)) ≡ true
+    → times_in l (take (i + 1) c) ≡ times_in l (take i c)
 times_in-passed l k c i h e ne =
     let none : one_if (literal_eq l k) ≡ 0 = ap one_if (ne_codes l k ne) in
-    times_in-more l k c i h e ∙ ap (λ n. times_in l (take i c) + n) none ∙ plus_zero (times_in l (take i c))
+    times_in-more l k c i h e ∙ ap (λ n. times_in l (take i c) + n) none
+      ∙ plus_zero (times_in l (take i c))
 
-pub times_in-found : (l k : Literal) (c : List Literal) (i : ℕ) → i < length c → k ≡ get_or c i k → not ((2 * k.variable + cond k.negated 1 0) == (2 * l.variable + cond l.negated 1 0)) ≡ false → times_in l (take (i + 1) c) ≡ times_in l (take i c) + 1
+pub times_in-found : (l k : Literal) (c : List Literal) (i : ℕ) → i < length c → k ≡ get_or c i k
+    → not ((2 * k.variable + cond k.negated 1 0) == (2 * l.variable + cond l.negated 1 0)) ≡ false
+    → times_in l (take (i + 1) c) ≡ times_in l (take i c) + 1
 times_in-found l k c i h e same =
-    let one : one_if (literal_eq l k) ≡ 1 = ap one_if (same_codes l k (eqb-true _ _ (not-false _ same))) in
+    let one : one_if (literal_eq l k) ≡ 1 =
+      ap one_if (same_codes l k (eqb-true _ _ (not-false _ same))) in
     times_in-more l k c i h e ∙ ap (λ n. times_in l (take i c) + n) one
 
 times_none : (l : Literal) (c : List Literal) → contains_literal l c ≡ false → times_in l c ≡ 0
 times_none l [] e = refl
-times_none l (k ∷ c) e = let h = or_parts (literal_eq l k) (contains_literal l c) e in ap (λ n. n + times_in l c) (ap one_if h.0) ∙ zero_plus (times_in l c) ∙ times_none l c h.1
+times_none l (k ∷ c) e = let h = or_parts (literal_eq l k) (contains_literal l c) e in
+    ap (λ n. n + times_in l c) (ap one_if h.0) ∙ zero_plus (times_in l c) ∙ times_none l c h.1
 
 times_some : (l : Literal) (c : List Literal) → contains_literal l c ≡ true → 0 < times_in l c
 times_some l [] e = absurd (false≢true e)
@@ -120,55 +145,70 @@ times_some l (k ∷ c) e =
     ]
 
 -- places
-pub one_at : (l k : Literal) → 0 < l.variable → 0 < k.variable → one_if (index_of l == index_of k) ≡ one_if (literal_eq l k)
+pub one_at : (l k : Literal) → 0 < l.variable → 0 < k.variable
+    → one_if (index_of l == index_of k) ≡ one_if (literal_eq l k)
 one_at l k p q =
     elim (cases_eq (index_of l) (index_of k)) [
       | inl e ↦
           let same : l ≡ k = index_same l k p q e in
-          ap one_if (eq-eqb _ _ e) ∙ sym (ap one_if (ap (literal_eq l) (sym same) ∙ literal_eq-refl l))
+          ap one_if (eq-eqb _ _ e)
+            ∙ sym (ap one_if (ap (literal_eq l) (sym same) ∙ literal_eq-refl l))
       | inr n ↦
-          ap one_if (ne_eqb _ _ n) ∙ sym (ap one_if (false_from_ne_true _ (λ t. n (ap index_of (literal_eq-true l k t)))))
+          ap one_if (ne_eqb _ _ n)
+            ∙ sym (ap one_if (false_from_ne_true _ (λ t. n (ap index_of (literal_eq-true l k t)))))
     ]
 
 -- one literal of the clause more
-pub set_more : (xs : List ℕ) (i n : ℕ) → i < length xs → n ≡ slice_index xs i + 1 → (p : ℕ) → slice_index (set xs i n) p ≡ slice_index xs p + one_if (p == i)
+pub set_more : (xs : List ℕ) (i n : ℕ) → i < length xs → n ≡ slice_index xs i + 1 → (p : ℕ)
+    → slice_index (set xs i n) p ≡ slice_index xs p + one_if (p == i)
 set_more xs i n h e p =
     elim (cases_eq p i) [
       | inl same ↦
           let one : one_if (p == i) ≡ 1 = ap one_if (eq-eqb p i same) in
-          let here : slice_index (set xs i n) p ≡ n = subst (λ k. slice_index (set xs i n) k ≡ n) (sym same) (get_or-set_same xs i n 0 h) in
+          let here : slice_index (set xs i n) p ≡ n =
+            subst (λ k. slice_index (set xs i n) k ≡ n) (sym same) (get_or-set_same xs i n 0 h) in
           let there : slice_index xs p ≡ slice_index xs i = ap (slice_index xs) same in
-          more_here (slice_index (set xs i n) p) n (slice_index xs p) (slice_index xs i) (one_if (p == i)) here there e one
+          more_here (slice_index (set xs i n) p) n (slice_index xs p) (slice_index xs i)
+            (one_if (p == i)) here there e one
       | inr other ↦
           let none : one_if (p == i) ≡ 0 = ap one_if (ne_eqb p i other) in
-          let here : slice_index (set xs i n) p ≡ slice_index xs p = get_or-set_other xs i p n 0 other in
+          let here : slice_index (set xs i n) p ≡ slice_index xs p =
+            get_or-set_other xs i p n 0 other in
           more_there (slice_index (set xs i n) p) (slice_index xs p) (one_if (p == i)) here none
     ]
 
-pub set_less : (xs : List ℕ) (i n : ℕ) → i < length xs → n + 1 ≡ slice_index xs i → (p : ℕ) → slice_index (set xs i n) p ≡ slice_index xs p - one_if (p == i)
+pub set_less : (xs : List ℕ) (i n : ℕ) → i < length xs → n + 1 ≡ slice_index xs i → (p : ℕ)
+    → slice_index (set xs i n) p ≡ slice_index xs p - one_if (p == i)
 set_less xs i n h e p =
     elim (cases_eq p i) [
       | inl same ↦
           let one : one_if (p == i) ≡ 1 = ap one_if (eq-eqb p i same) in
-          let here : slice_index (set xs i n) p ≡ n = subst (λ k. slice_index (set xs i n) k ≡ n) (sym same) (get_or-set_same xs i n 0 h) in
+          let here : slice_index (set xs i n) p ≡ n =
+            subst (λ k. slice_index (set xs i n) k ≡ n) (sym same) (get_or-set_same xs i n 0 h) in
           let there : slice_index xs p ≡ slice_index xs i = ap (slice_index xs) same in
-          less_here (slice_index (set xs i n) p) n (slice_index xs p) (slice_index xs i) (one_if (p == i)) here there e one
+          less_here (slice_index (set xs i n) p) n (slice_index xs p) (slice_index xs i)
+            (one_if (p == i)) here there e one
       | inr other ↦
           let none : one_if (p == i) ≡ 0 = ap one_if (ne_eqb p i other) in
-          let here : slice_index (set xs i n) p ≡ slice_index xs p = get_or-set_other xs i p n 0 other in
+          let here : slice_index (set xs i n) p ≡ slice_index xs p =
+            get_or-set_other xs i p n 0 other in
           less_there (slice_index (set xs i n) p) (slice_index xs p) (one_if (p == i)) here none
     ]
 
 -- where there is none, there is none to take
-pub none_less : (xs : List ℕ) (i : ℕ) → slice_index xs i ≡ 0 → (p : ℕ) → slice_index xs p ≡ slice_index xs p - one_if (p == i)
+pub none_less : (xs : List ℕ) (i : ℕ) → slice_index xs i ≡ 0 → (p : ℕ)
+    → slice_index xs p ≡ slice_index xs p - one_if (p == i)
 none_less xs i e p =
     elim (cases_eq p i) [
       | inl same ↦ none_here (slice_index xs p) (one_if (p == i)) (ap (slice_index xs) same ∙ e)
-      | inr other ↦ less_there (slice_index xs p) (slice_index xs p) (one_if (p == i)) refl (ap one_if (ne_eqb p i other))
+      | inr other ↦ less_there (slice_index xs p) (slice_index xs p) (one_if (p == i)) refl
+        (ap one_if (ne_eqb p i other))
     ]
 
 -- a longer table, with none past its end before
-pub reached : (old new : List ℕ) (n : ℕ) → length new ≡ n → length old ≤ n → ((k d : ℕ) → k < n → k < length old → get_or new k d ≡ get_or old k d) → ((k d : ℕ) → length old ≤ k → k < n → get_or new k d ≡ 0)
+pub reached : (old new : List ℕ) (n : ℕ) → length new ≡ n → length old ≤ n
+    → ((k d : ℕ) → k < n → k < length old → get_or new k d ≡ get_or old k d)
+    → ((k d : ℕ) → length old ≤ k → k < n → get_or new k d ≡ 0)
     → (p : ℕ) → slice_index new p ≡ slice_index old p
 reached old new n long fewer kept fresh p =
     elim (cases_lt p (length old)) [
@@ -182,120 +222,159 @@ reached old new n long fewer kept fresh p =
 pub raised_none : (old : List ℕ) (c : List Literal) → AreRaised old (take 0 c) old
 raised_none old c = λ l p. sym (plus_zero (slice_index old (index_of l)))
 
-pub raised_more : (old mid new : List ℕ) (c : List Literal) (i : ℕ) (k : Literal) → AreRaised old (take i c) mid → i < length c → k ≡ get_or c i k → 0 < k.variable
-    → ((p : ℕ) → slice_index new p ≡ slice_index mid p + one_if (p == index_of k)) → AreRaised old (take (i + 1) c) new
+pub raised_more : (old mid new : List ℕ) (c : List Literal) (i : ℕ) (k : Literal)
+    → AreRaised old (take i c) mid → i < length c → k ≡ get_or c i k → 0 < k.variable
+    → ((p : ℕ) → slice_index new p ≡ slice_index mid p + one_if (p == index_of k))
+    → AreRaised old (take (i + 1) c) new
 raised_more old mid new c i k r h e positive step = λ l p.
-    raise_sum (slice_index new (index_of l)) (slice_index mid (index_of l)) (slice_index old (index_of l)) (one_if (index_of l == index_of k)) (one_if (literal_eq l k)) (times_in l (take i c)) (times_in l (take (i + 1) c))
+    raise_sum (slice_index new (index_of l)) (slice_index mid (index_of l))
+      (slice_index old (index_of l)) (one_if (index_of l == index_of k)) (one_if (literal_eq l k))
+      (times_in l (take i c)) (times_in l (take (i + 1) c))
     (step (index_of l)) (one_at l k p positive) (r l p) (times_in-more l k c i h e)
 
 pub lowered_none : (old : List ℕ) (c : List Literal) → AreLowered old (take 0 c) old
-lowered_none old c = λ l p. less_there (slice_index old (index_of l)) (slice_index old (index_of l)) 0 refl refl
+lowered_none old c =
+    λ l p. less_there (slice_index old (index_of l)) (slice_index old (index_of l)) 0 refl refl
 
-pub lowered_more : (old mid new : List ℕ) (c : List Literal) (i : ℕ) (k : Literal) → AreLowered old (take i c) mid → i < length c → k ≡ get_or c i k → 0 < k.variable
-    → ((p : ℕ) → slice_index new p ≡ slice_index mid p - one_if (p == index_of k)) → AreLowered old (take (i + 1) c) new
+pub lowered_more : (old mid new : List ℕ) (c : List Literal) (i : ℕ) (k : Literal)
+    → AreLowered old (take i c) mid → i < length c → k ≡ get_or c i k → 0 < k.variable
+    → ((p : ℕ) → slice_index new p ≡ slice_index mid p - one_if (p == index_of k))
+    → AreLowered old (take (i + 1) c) new
 lowered_more old mid new c i k r h e positive step = λ l p.
-    lower_sum (slice_index new (index_of l)) (slice_index mid (index_of l)) (slice_index old (index_of l)) (one_if (index_of l == index_of k)) (one_if (literal_eq l k)) (times_in l (take i c)) (times_in l (take (i + 1) c))
+    lower_sum (slice_index new (index_of l)) (slice_index mid (index_of l))
+      (slice_index old (index_of l)) (one_if (index_of l == index_of k)) (one_if (literal_eq l k))
+      (times_in l (take i c)) (times_in l (take (i + 1) c))
     (step (index_of l)) (one_at l k p positive) (r l p) (times_in-more l k c i h e)
 
 -- in all clauses
 pub times-append : (l : Literal) (es fs : Listed) → times l (es ++ fs) ≡ times l es + times l fs
 times-append l [] fs = sym (zero_plus (times l fs))
-times-append l (e ∷ es) fs = ap (λ n. times_in l e.1 + n) (times-append l es fs) ∙ plus_plus (times_in l e.1) (times l es) (times l fs)
+times-append l (e ∷ es) fs = ap (λ n. times_in l e.1 + n) (times-append l es fs)
+    ∙ plus_plus (times_in l e.1) (times l es) (times l fs)
 
-pub counts_push : (old new : List ℕ) (es : Listed) (id : ℕ) (c : List Literal) → AreCounts old es → AreRaised old c new → AreCounts new (es ++ (id, c) ∷ [])
+pub counts_push : (old new : List ℕ) (es : Listed) (id : ℕ) (c : List Literal) → AreCounts old es
+    → AreRaised old c new → AreCounts new (es ++ (id, c) ∷ [])
 counts_push old new es id c a r = λ l p.
-    r l p ∙ ap (λ n. n + times_in l c) (a l p) ∙ sym (times-append l es ((id, c) ∷ []) ∙ ap (λ n. times l es + n) (plus_zero (times_in l c)))
+    r l p ∙ ap (λ n. n + times_in l c) (a l p)
+      ∙ sym (times-append l es ((id, c) ∷ []) ∙ ap (λ n. times l es + n) (plus_zero (times_in l c)))
 
-times_kept : (l : Literal) (i : ℕ) (es : Listed) → AllByRecursion (λ y. i < y) (ids_of es) → without_id i es ≡ es
+times_kept : (l : Literal) (i : ℕ) (es : Listed) → AllByRecursion (λ y. i < y) (ids_of es)
+    → without_id i es ≡ es
 times_kept l i [] a = refl
 times_kept l i (e ∷ es) a =
     let other : (e.0 == i) ≡ false = ne_eqb e.0 i (λ z. absurd (omega (arith, a.0))) in
     rw other (ap (λ xs. e ∷ xs) (times_kept l i es a.1))
 
-pub times_without : (l : Literal) (i : ℕ) (es : Listed) (c : List Literal) → Rises (ids_of es) → listed_at es i ≡ Some c → times l (without_id i es) ≡ times l es - times_in l c
+pub times_without : (l : Literal) (i : ℕ) (es : Listed) (c : List Literal) → Rises (ids_of es)
+    → listed_at es i ≡ Some c → times l (without_id i es) ≡ times l es - times_in l c
 times_without l i [] c r e = let z = e in absurd (cc)
 times_without l i (x ∷ es) c r e =
     elim (cases_eq x.0 i) [
       | inl t ↦
           let test : (x.0 == i) ≡ true = eq-eqb x.0 i t in
-          let here : Some x.1 ≡ Some c = sym (cond-true (x.0 == i) (Some x.1) (listed_at es i) test) ∙ e in
+          let here : Some x.1 ≡ Some c = sym (cond-true (x.0 == i) (Some x.1) (listed_at es i) test)
+            ∙ e in
           let same : x.1 ≡ c = ap (λ o. or_empty o) here in
-          let all : without_id i es ≡ es = times_kept l i es (subst (λ n. AllByRecursion (λ y. n < y) (ids_of es)) t r.0) in
+          let all : without_id i es ≡ es =
+            times_kept l i es (subst (λ n. AllByRecursion (λ y. n < y) (ids_of es)) t r.0) in
           let n : times_in l x.1 ≡ times_in l c = ap (times_in l) same in
           rw test (ap (times l) all ∙ minus_first (times_in l x.1) (times l es) (times_in l c) n)
       | inr f ↦
           let test : (x.0 == i) ≡ false = ne_eqb x.0 i f in
-          let there : listed_at es i ≡ Some c = sym (cond-false (x.0 == i) (Some x.1) (listed_at es i) test) ∙ e in
+          let there : listed_at es i ≡ Some c =
+            sym (cond-false (x.0 == i) (Some x.1) (listed_at es i) test) ∙ e in
           let h = times_without l i es c r.1 there in
           let le = times_le l i es c there in
-          rw test (minus_later (times_in l x.1) (times l (without_id i es)) (times l es) (times_in l c) h le)
+          rw test (minus_later (times_in l x.1) (times l (without_id i es)) (times l es)
+              (times_in l c) h le)
     ]
   where
     or_empty : Option (List Literal) → List Literal
     or_empty None = []
     or_empty (Some c) = c
 
-    times_le : (l : Literal) (i : ℕ) (es : Listed) (c : List Literal) → listed_at es i ≡ Some c → times_in l c ≤ times l es
+    times_le : (l : Literal) (i : ℕ) (es : Listed) (c : List Literal) → listed_at es i ≡ Some c
+      → times_in l c ≤ times l es
     times_le l i [] c e = let z = e in absurd (cc)
     times_le l i (x ∷ es) c e =
         elim (cases_eq x.0 i) [
           | inl t ↦
-              let here : Some x.1 ≡ Some c = sym (cond-true (x.0 == i) (Some x.1) (listed_at es i) (eq-eqb x.0 i t)) ∙ e in
+              let here : Some x.1 ≡ Some c =
+                sym (cond-true (x.0 == i) (Some x.1) (listed_at es i) (eq-eqb x.0 i t)) ∙ e in
               let n : times_in l x.1 ≡ times_in l c = ap (λ o. times_in l (or_empty o)) here in
               le_first (times_in l x.1) (times l es) (times_in l c) n
           | inr f ↦
-              let there : listed_at es i ≡ Some c = sym (cond-false (x.0 == i) (Some x.1) (listed_at es i) (ne_eqb x.0 i f)) ∙ e in
+              let there : listed_at es i ≡ Some c =
+                sym (cond-false (x.0 == i) (Some x.1) (listed_at es i) (ne_eqb x.0 i f)) ∙ e in
               le_later (times_in l x.1) (times l es) (times_in l c) (times_le l i es c there)
         ]
 
-pub counts_without : (old new : List ℕ) (es : Listed) (id : ℕ) (c : List Literal) → Rises (ids_of es) → listed_at es id ≡ Some c → AreCounts old es → AreLowered old c new → AreCounts new (without_id id es)
-counts_without old new es id c r e a w = λ l p. w l p ∙ ap (λ n. n - times_in l c) (a l p) ∙ sym (times_without l id es c r e)
+pub counts_without : (old new : List ℕ) (es : Listed) (id : ℕ) (c : List Literal)
+    → Rises (ids_of es) → listed_at es id ≡ Some c → AreCounts old es → AreLowered old c new
+    → AreCounts new (without_id id es)
+counts_without old new es id c r e a w = λ l p. w l p ∙ ap (λ n. n - times_in l c) (a l p)
+    ∙ sym (times_without l id es c r e)
 
 -- the ids in turn
-next_parts : (before id count left : ℕ) → is_next before id count left ≡ true → (before < id) × (0 < count) × (count ≤ left)
+next_parts : (before id count left : ℕ) → is_next before id count left ≡ true
+    → (before < id) × (0 < count) × (count ≤ left)
 next_parts before id count left e =
     let a = and_parts (nat_lt before id && nat_lt 0 count) (nat_le count left) e in
     let b = and_parts (nat_lt before id) (nat_lt 0 count) a.0 in
     (ltb-true before id b.0, ltb-true 0 count b.1, leb-true count left a.1)
 
-next_from : (before id count left : ℕ) → before < id → 0 < count → count ≤ left → is_next before id count left ≡ true
-next_from before id count left a b c = and_from _ _ (and_from _ _ (lt-ltb before id a) (lt-ltb 0 count b)) (le-leb count left c)
+next_from : (before id count left : ℕ) → before < id → 0 < count → count ≤ left
+    → is_next before id count left ≡ true
+next_from before id count left a b c =
+    and_from _ _ (and_from _ _ (lt-ltb before id a) (lt-ltb 0 count b)) (le-leb count left c)
 
-pub take_on : (count : ℕ → ℕ) (left before i : ℕ) (is : List ℕ) → is_next before i (count i) left ≡ true → take_all count left before (i ∷ is) ≡ take_all count (left - count i) i is
+pub take_on : (count : ℕ → ℕ) (left before i : ℕ) (is : List ℕ)
+    → is_next before i (count i) left ≡ true → take_all count left before (i ∷ is) ≡ take_all count
+    (left - count i) i is
 take_on count left before i is e = rw e refl
 
-pub take_stops : (count : ℕ → ℕ) (left before i : ℕ) (is : List ℕ) → is_next before i (count i) left ≡ false → take_all count left before (i ∷ is) ≡ false
+pub take_stops : (count : ℕ → ℕ) (left before i : ℕ) (is : List ℕ)
+    → is_next before i (count i) left ≡ false → take_all count left before (i ∷ is) ≡ false
 take_stops count left before i is e = rw e refl
 
 -- what a list of ids takes is there
 abbrev pub Agrees : Literal → (ℕ → ℕ) → ℕ → Listed → Type 0
 Agrees l count before es = (i : ℕ) → before < i → count i ≡ times_at l es i
 
-above_all : (l : Literal) (i : ℕ) (es : Listed) → AllByRecursion (λ y. i < y) (ids_of es) → times_at l es i ≡ 0
+above_all : (l : Literal) (i : ℕ) (es : Listed) → AllByRecursion (λ y. i < y) (ids_of es)
+    → times_at l es i ≡ 0
 above_all l i [] a = refl
 above_all l i (e ∷ es) a =
     let other : (e.0 == i) ≡ false = ne_eqb e.0 i (λ z. absurd (omega (arith, a.0))) in
     rw other (above_all l i es a.1)
 
-higher : (i j : ℕ) (ks : List ℕ) → i < j → AllByRecursion (λ y. j < y) ks → AllByRecursion (λ y. i < y) ks
+higher : (i j : ℕ) (ks : List ℕ) → i < j → AllByRecursion (λ y. j < y) ks
+    → AllByRecursion (λ y. i < y) ks
 higher i j [] h a = tt
 higher i j (k ∷ ks) h a = (omega (arith, a.0), higher i j ks h a.1)
 
-times_here : (l : Literal) (j : ℕ) (c : List Literal) (es : Listed) (i : ℕ) → i ≡ j → times_at l ((j, c) ∷ es) i ≡ times_in l c
+times_here : (l : Literal) (j : ℕ) (c : List Literal) (es : Listed) (i : ℕ) → i ≡ j
+    → times_at l ((j, c) ∷ es) i ≡ times_in l c
 times_here l j c es i e = let t : (j == i) ≡ true = eq-eqb j i (sym e) in rw t refl
 
-times_there : (l : Literal) (j : ℕ) (c : List Literal) (es : Listed) (i : ℕ) → (i ≡ j → ⊥) → times_at l ((j, c) ∷ es) i ≡ times_at l es i
+times_there : (l : Literal) (j : ℕ) (c : List Literal) (es : Listed) (i : ℕ) → (i ≡ j → ⊥)
+    → times_at l ((j, c) ∷ es) i ≡ times_at l es i
 times_there l j c es i n = let t : (j == i) ≡ false = ne_eqb j i (λ e. n (sym e)) in rw t refl
 
 -- where ids come after j, the clause of j takes no part
-agrees_after : (l : Literal) (count : ℕ → ℕ) (before j : ℕ) (c : List Literal) (es : Listed) → before < j → Agrees l count before ((j, c) ∷ es) → Agrees l count j es
-agrees_after l count before j c es h a = λ i lt. a i (omega arith) ∙ times_there l j c es i (λ e. absurd (omega arith))
+agrees_after : (l : Literal) (count : ℕ → ℕ) (before j : ℕ) (c : List Literal) (es : Listed)
+    → before < j → Agrees l count before ((j, c) ∷ es) → Agrees l count j es
+agrees_after l count before j c es h a = λ i lt. a i (omega arith)
+    ∙ times_there l j c es i (λ e. absurd (omega arith))
 
-pub taken_le : (l : Literal) (count : ℕ → ℕ) (before left : ℕ) (es : Listed) (ids : List ℕ) → AllByRecursion (λ y. before < y) (ids_of es) → Rises (ids_of es) → Agrees l count before es → take_all count left before ids ≡ true → left ≤ times l es
+pub taken_le : (l : Literal) (count : ℕ → ℕ) (before left : ℕ) (es : Listed) (ids : List ℕ)
+    → AllByRecursion (λ y. before < y) (ids_of es) → Rises (ids_of es) → Agrees l count before es
+    → take_all count left before ids ≡ true → left ≤ times l es
 taken_le l count before left es [] above r a e = let z : left ≡ 0 = eqb-true left 0 e in omega arith
 taken_le l count before left [] (i ∷ is) above r a e =
     elim (cases_Bool (is_next before i (count i) left)) [
-      | inl t ↦ let p = next_parts before i (count i) left t in let z : count i ≡ 0 = a i p.0 in absurd (omega (arith, p.1, z))
+      | inl t ↦ let p = next_parts before i (count i) left t in let z : count i ≡ 0 = a i p.0 in
+        absurd (omega (arith, p.1, z))
       | inr f ↦ absurd (both_ways _ (take_stops count left before i is f) e)
     ]
 taken_le l count before left ((j, c) ∷ es) (i ∷ is) above r a e =
@@ -303,41 +382,55 @@ taken_le l count before left ((j, c) ∷ es) (i ∷ is) above r a e =
       | inr f ↦ absurd (both_ways _ (take_stops count left before i is f) e)
       | inl t ↦
           let p = next_parts before i (count i) left t in
-          let rest : take_all count (left - count i) i is ≡ true = sym (take_on count left before i is t) ∙ e in
+          let rest : take_all count (left - count i) i is ≡ true =
+            sym (take_on count left before i is t) ∙ e in
           elim (cases_eq i j) [
             | inl same ↦
                 let n : count i ≡ times_in l c = a i p.0 ∙ times_here l j c es i same in
-                let from_j : take_all count (left - count i) j is ≡ true = subst (λ k. take_all count (left - count i) k is ≡ true) same rest in
-                let h = taken_le l count j (left - count i) es is r.0 r.1 (agrees_after l count before j c es above.0 a) from_j in
+                let from_j : take_all count (left - count i) j is ≡ true =
+                  subst (λ k. take_all count (left - count i) k is ≡ true) same rest in
+                let h =
+                  taken_le l count j (left - count i) es is r.0 r.1
+                    (agrees_after l count before j c es above.0 a) from_j in
                 omega (arith, h, n, p.2)
             | inr other ↦ elim (cases_lt i j) [
               | inl lt ↦
-                  let z : count i ≡ 0 = a i p.0 ∙ times_there l j c es i other ∙ above_all l i es (higher i j (ids_of es) lt r.0) in
+                  let z : count i ≡ 0 = a i p.0 ∙ times_there l j c es i other
+                    ∙ above_all l i es (higher i j (ids_of es) lt r.0) in
                   absurd (omega (arith, p.1, z))
               | inr ge ↦
                   let past : j < i = omega arith in
-                  let again : take_all count left j (i ∷ is) ≡ true = take_on count left j i is (next_from j i (count i) left past p.1 p.2) ∙ rest in
-                  let h = taken_le l count j left es (i ∷ is) r.0 r.1 (agrees_after l count before j c es above.0 a) again in
+                  let again : take_all count left j (i ∷ is) ≡ true =
+                    take_on count left j i is (next_from j i (count i) left past p.1 p.2) ∙ rest in
+                  let h =
+                    taken_le l count j left es (i ∷ is) r.0 r.1
+                      (agrees_after l count before j c es above.0 a) again in
                   omega (arith, h)
             ]
           ]
     ]
 
 -- the ids with the literal
-listed_no : (l : Literal) (j : ℕ) (c : List Literal) (es : Listed) → contains_literal l c ≡ false → ids_listed l ((j, c) ∷ es) ≡ ids_listed l es
+listed_no : (l : Literal) (j : ℕ) (c : List Literal) (es : Listed) → contains_literal l c ≡ false
+    → ids_listed l ((j, c) ∷ es) ≡ ids_listed l es
 listed_no l j c es e = rw e refl
 
-listed_yes : (l : Literal) (j : ℕ) (c : List Literal) (es : Listed) → contains_literal l c ≡ true → ids_listed l ((j, c) ∷ es) ≡ j ∷ ids_listed l es
+listed_yes : (l : Literal) (j : ℕ) (c : List Literal) (es : Listed) → contains_literal l c ≡ true
+    → ids_listed l ((j, c) ∷ es) ≡ j ∷ ids_listed l es
 listed_yes l j c es e = rw e refl
 
-agrees_none : (l : Literal) (count : ℕ → ℕ) (before j : ℕ) (c : List Literal) (es : Listed) → contains_literal l c ≡ false → AllByRecursion (λ y. j < y) (ids_of es) → Agrees l count before ((j, c) ∷ es) → Agrees l count before es
+agrees_none : (l : Literal) (count : ℕ → ℕ) (before j : ℕ) (c : List Literal) (es : Listed)
+    → contains_literal l c ≡ false → AllByRecursion (λ y. j < y) (ids_of es)
+    → Agrees l count before ((j, c) ∷ es) → Agrees l count before es
 agrees_none l count before j c es none above a = λ i lt.
     elim (cases_eq i j) [
-      | inl same ↦ a i lt ∙ times_here l j c es i same ∙ times_none l c none ∙ sym (subst (λ k. times_at l es k ≡ 0) (sym same) (above_all l j es above))
+      | inl same ↦ a i lt ∙ times_here l j c es i same ∙ times_none l c none
+        ∙ sym (subst (λ k. times_at l es k ≡ 0) (sym same) (above_all l j es above))
       | inr other ↦ a i lt ∙ times_there l j c es i other
     ]
 
-pub taken_are_all : (l : Literal) (count : ℕ → ℕ) (before : ℕ) (es : Listed) (ids : List ℕ) → AllByRecursion (λ y. before < y) (ids_of es) → Rises (ids_of es) → Agrees l count before es
+pub taken_are_all : (l : Literal) (count : ℕ → ℕ) (before : ℕ) (es : Listed) (ids : List ℕ)
+    → AllByRecursion (λ y. before < y) (ids_of es) → Rises (ids_of es) → Agrees l count before es
     → take_all count (times l es) before ids ≡ same_ids ids (ids_listed l es)
 taken_are_all l count before [] [] above r a = refl
 taken_are_all l count before [] (i ∷ is) above r a =
@@ -351,13 +444,19 @@ taken_are_all l count before ((j, c) ∷ es) ids above r a =
           let zero_in : times_in l c ≡ 0 = times_none l c none in
           let total : times l ((j, c) ∷ es) ≡ times l es = omega (arith, zero_in) in
           ap (λ n. take_all count n before ids) total
-          ∙ taken_are_all l count before es ids above.1 r.1 (agrees_none l count before j c es none r.0 a)
+          ∙ taken_are_all l count before es ids above.1 r.1
+            (agrees_none l count before j c es none r.0 a)
           ∙ ap (same_ids ids) (sym (listed_no l j c es none))
-      | inl has ↦ named l count before j c es ids above r a has (λ is. taken_are_all l count j es is r.0 r.1 (agrees_after l count before j c es above.0 a)) ∙ ap (same_ids ids) (sym (listed_yes l j c es has))
+      | inl has ↦ named l count before j c es ids above r a has
+        (λ is. taken_are_all l count j es is r.0 r.1 (agrees_after l count before j c es above.0 a))
+        ∙ ap (same_ids ids) (sym (listed_yes l j c es has))
     ]
   where
-    named : (l : Literal) (count : ℕ → ℕ) (before j : ℕ) (c : List Literal) (es : Listed) (ids : List ℕ) → AllByRecursion (λ y. before < y) (j ∷ ids_of es) → Rises (j ∷ ids_of es) → Agrees l count before ((j, c) ∷ es) → contains_literal l c ≡ true
-        → ((is : List ℕ) → take_all count (times l es) j is ≡ same_ids is (ids_listed l es)) → take_all count (times_in l c + times l es) before ids ≡ same_ids ids (j ∷ ids_listed l es)
+    named : (l : Literal) (count : ℕ → ℕ) (before j : ℕ) (c : List Literal) (es : Listed)
+      (ids : List ℕ) → AllByRecursion (λ y. before < y) (j ∷ ids_of es) → Rises (j ∷ ids_of es)
+      → Agrees l count before ((j, c) ∷ es) → contains_literal l c ≡ true
+        → ((is : List ℕ) → take_all count (times l es) j is ≡ same_ids is (ids_listed l es))
+        → take_all count (times_in l c + times l es) before ids ≡ same_ids ids (j ∷ ids_listed l es)
     named l count before j c es [] above r a has rest_all =
         let some = times_some l c has in
         ne_eqb (times_in l c + times l es) 0 (λ z. absurd (omega (arith, some)))
@@ -367,7 +466,9 @@ taken_are_all l count before ((j, c) ∷ es) ids above r a =
           | inl same ↦
               let up : before < i = omega (arith, above.0) in
               let n : count i ≡ times_in l c = a i up ∙ times_here l j c es i same in
-              let next : is_next before i (count i) (times_in l c + times l es) ≡ true = next_from before i (count i) (times_in l c + times l es) up (omega (arith, n, some)) (omega (arith, n)) in
+              let next : is_next before i (count i) (times_in l c + times l es) ≡ true =
+                next_from before i (count i) (times_in l c + times l es) up (omega (arith, n, some))
+                  (omega (arith, n)) in
               let left : times_in l c + times l es - count i ≡ times l es = omega (arith, n) in
               take_on count (times_in l c + times l es) before i is next
               ∙ ap (λ k. take_all count k i is) left
@@ -375,21 +476,29 @@ taken_are_all l count before ((j, c) ∷ es) ids above r a =
               ∙ rest_all is
               ∙ sym (ap (λ b. b && same_ids is (ids_listed l es)) (eq-eqb i j same))
           | inr other ↦
-              let no : same_ids (i ∷ is) (j ∷ ids_listed l es) ≡ false = ap (λ b. b && same_ids is (ids_listed l es)) (ne_eqb i j other) in
+              let no : same_ids (i ∷ is) (j ∷ ids_listed l es) ≡ false =
+                ap (λ b. b && same_ids is (ids_listed l es)) (ne_eqb i j other) in
               false_from_ne_true _ (λ t.
               elim (cases_Bool (is_next before i (count i) (times_in l c + times l es))) [
                 | inr f ↦ both_ways _ (take_stops count (times_in l c + times l es) before i is f) t
                 | inl next ↦
                     let p = next_parts before i (count i) (times_in l c + times l es) next in
-                    let rest : take_all count (times_in l c + times l es - count i) i is ≡ true = sym (take_on count (times_in l c + times l es) before i is next) ∙ t in
+                    let rest : take_all count (times_in l c + times l es - count i) i is ≡ true =
+                      sym (take_on count (times_in l c + times l es) before i is next) ∙ t in
                     elim (cases_lt i j) [
                       | inl lt ↦
-                          let z : count i ≡ 0 = a i p.0 ∙ times_there l j c es i other ∙ above_all l i es (higher i j (ids_of es) lt r.0) in
+                          let z : count i ≡ 0 = a i p.0 ∙ times_there l j c es i other
+                            ∙ above_all l i es (higher i j (ids_of es) lt r.0) in
                           absurd (omega (arith, p.1, z))
                       | inr ge ↦
                           let past : j < i = omega arith in
-                          let again : take_all count (times_in l c + times l es) j (i ∷ is) ≡ true = take_on count (times_in l c + times l es) j i is (next_from j i (count i) (times_in l c + times l es) past p.1 p.2) ∙ rest in
-                          let h = taken_le l count j (times_in l c + times l es) es (i ∷ is) r.0 r.1 (agrees_after l count before j c es above.0 a) again in
+                          let again : take_all count (times_in l c + times l es) j (i ∷ is) ≡ true =
+                            take_on count (times_in l c + times l es) j i is
+                              (next_from j i (count i) (times_in l c + times l es) past p.1 p.2)
+                              ∙ rest in
+                          let h =
+                            taken_le l count j (times_in l c + times l es) es (i ∷ is) r.0 r.1
+                              (agrees_after l count before j c es above.0 a) again in
                           absurd (omega (arith, h, some))
                     ]
               ]) ∙ sym no
@@ -399,40 +508,64 @@ taken_are_all l count before ((j, c) ∷ es) ids above r a =
 pub counts_none : AreCounts [] []
 counts_none = λ l p. refl
 
-more_cells : (es : List Entry) (i : ℕ) (d : Entry) → i < length es → cells_of (take (i + 1) es) ≡ cells_of (take i es) ++ cell_of (get_or es i d) ∷ []
-more_cells es i d h = ap cells_of (take_more es i d h) ∙ map_push cell_of (take i es) (get_or es i d)
+more_cells : (es : List Entry) (i : ℕ) (d : Entry) → i < length es
+    → cells_of (take (i + 1) es) ≡ cells_of (take i es) ++ cell_of (get_or es i d) ∷ []
+more_cells es i d h = ap cells_of (take_more es i d h)
+    ∙ map_push cell_of (take i es) (get_or es i d)
 
-pub more_dead : (ls : List Literal) (es : List Entry) (i : ℕ) (d : Entry) → i < length es → (get_or es i d).live ≡ false → clauses_in ls (cells_of (take (i + 1) es)) ≡ clauses_in ls (cells_of (take i es))
+pub more_dead : (ls : List Literal) (es : List Entry) (i : ℕ) (d : Entry) → i < length es
+    → (get_or es i d).live ≡ false → clauses_in ls (cells_of (take (i + 1) es)) ≡ clauses_in ls
+    (cells_of (take i es))
 more_dead ls es i d h dead =
-    ap (clauses_in ls) (more_cells es i d h) ∙ clauses-append ls (cells_of (take i es)) (cell_of (get_or es i d) ∷ []) ∙ ap (λ cs. clauses_in ls (cells_of (take i es)) ++ cs) (clauses_dead ls (cell_of (get_or es i d)) [] dead) ∙ append-nil (clauses_in ls (cells_of (take i es)))
+    ap (clauses_in ls) (more_cells es i d h)
+      ∙ clauses-append ls (cells_of (take i es)) (cell_of (get_or es i d) ∷ [])
+      ∙ ap (λ cs. clauses_in ls (cells_of (take i es)) ++ cs)
+      (clauses_dead ls (cell_of (get_or es i d)) [] dead)
+      ∙ append-nil (clauses_in ls (cells_of (take i es)))
 
-pub more_live : (ls : List Literal) (es : List Entry) (i : ℕ) (d : Entry) → i < length es → (get_or es i d).live ≡ true
-    → clauses_in ls (cells_of (take (i + 1) es)) ≡ clauses_in ls (cells_of (take i es)) ++ ((get_or es i d).id, slice_range ls (get_or es i d).start ((get_or es i d).start + (get_or es i d).length)) ∷ []
+pub more_live : (ls : List Literal) (es : List Entry) (i : ℕ) (d : Entry) → i < length es
+    → (get_or es i d).live ≡ true
+    → clauses_in ls (cells_of (take (i + 1) es)) ≡ clauses_in ls (cells_of (take i es))
+      ++ ((get_or es i d).id,
+        slice_range ls (get_or es i d).start ((get_or es i d).start + (get_or es i d).length)) ∷ []
 more_live ls es i d h live =
-    ap (clauses_in ls) (more_cells es i d h) ∙ clauses-append ls (cells_of (take i es)) (cell_of (get_or es i d) ∷ []) ∙ ap (λ cs. clauses_in ls (cells_of (take i es)) ++ cs) (clauses_live ls (cell_of (get_or es i d)) [] live)
+    ap (clauses_in ls) (more_cells es i d h)
+      ∙ clauses-append ls (cells_of (take i es)) (cell_of (get_or es i d) ∷ [])
+      ∙ ap (λ cs. clauses_in ls (cells_of (take i es)) ++ cs)
+      (clauses_live ls (cell_of (get_or es i d)) [] live)
 
 -- the candidates of a line
-pub agrees_start : (l : Literal) (es : Listed) → All (λ e. 0 < e.0) es → Rises (ids_of es) → (ids : List ℕ) → take_all (times_at l es) (times l es) 0 ids ≡ same_ids ids (ids_listed l es)
-agrees_start l es from_one r ids = taken_are_all l (times_at l es) 0 es ids (positive es from_one) r (λ i lt. refl)
+pub agrees_start : (l : Literal) (es : Listed) → All (λ e. 0 < e.0) es → Rises (ids_of es)
+    → (ids : List ℕ) → take_all (times_at l es) (times l es) 0 ids ≡ same_ids ids (ids_listed l es)
+agrees_start l es from_one r ids =
+    taken_are_all l (times_at l es) 0 es ids (positive es from_one) r (λ i lt. refl)
   where
     positive : (es : Listed) → All (λ e. 0 < e.0) es → AllByRecursion (λ y. 0 < y) (ids_of es)
     positive [] h = tt
-    positive (e ∷ es) h = (All-head (λ x. 0 < x.0) e es h, positive es (All-tail (λ x. 0 < x.0) e es h))
+    positive (e ∷ es) h =
+      (All-head (λ x. 0 < x.0) e es h, positive es (All-tail (λ x. 0 < x.0) e es h))
 
 -- the walk over the ids
-drop_here : (ids : List ℕ) (k i : ℕ) → k < length ids → i ≡ get_or ids k 0 → drop k ids ≡ i ∷ drop (k + 1) ids
+drop_here : (ids : List ℕ) (k i : ℕ) → k < length ids → i ≡ get_or ids k 0
+    → drop k ids ≡ i ∷ drop (k + 1) ids
 drop_here ids k i h e = drop_more ids k 0 h ∙ ap (λ x. x ∷ drop (k + 1) ids) (sym e)
 
-pub taken_step : (count : ℕ → ℕ) (left before : ℕ) (ids : List ℕ) (k i n : ℕ) → k < length ids → i ≡ get_or ids k 0 → n ≡ count i → is_next before i n left ≡ true → take_all count left before (drop k ids) ≡ take_all count (left - n) i (drop (k + 1) ids)
+pub taken_step : (count : ℕ → ℕ) (left before : ℕ) (ids : List ℕ) (k i n : ℕ) → k < length ids
+    → i ≡ get_or ids k 0 → n ≡ count i → is_next before i n left ≡ true
+    → take_all count left before (drop k ids) ≡ take_all count (left - n) i (drop (k + 1) ids)
 taken_step count left before ids k i n h e same next =
     ap (take_all count left before) (drop_here ids k i h e)
-    ∙ take_on count left before i (drop (k + 1) ids) (subst (λ m. is_next before i m left ≡ true) same next)
+    ∙ take_on count left before i (drop (k + 1) ids)
+      (subst (λ m. is_next before i m left ≡ true) same next)
     ∙ ap (λ m. take_all count (left - m) i (drop (k + 1) ids)) (sym same)
 
-pub taken_stop : (count : ℕ → ℕ) (left before : ℕ) (ids : List ℕ) (k i n : ℕ) → k < length ids → i ≡ get_or ids k 0 → n ≡ count i → is_next before i n left ≡ false → take_all count left before (drop k ids) ≡ false
+pub taken_stop : (count : ℕ → ℕ) (left before : ℕ) (ids : List ℕ) (k i n : ℕ) → k < length ids
+    → i ≡ get_or ids k 0 → n ≡ count i → is_next before i n left ≡ false
+    → take_all count left before (drop k ids) ≡ false
 taken_stop count left before ids k i n h e same stop =
     ap (take_all count left before) (drop_here ids k i h e)
-    ∙ take_stops count left before i (drop (k + 1) ids) (subst (λ m. is_next before i m left ≡ false) same stop)
+    ∙ take_stops count left before i (drop (k + 1) ids)
+      (subst (λ m. is_next before i m left ≡ false) same stop)
 
 pub left_enough : (before i n left : ℕ) → is_next before i n left ≡ true → n ≤ left
 left_enough before i n left e = (next_parts before i n left e).2

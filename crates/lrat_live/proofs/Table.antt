@@ -1,27 +1,37 @@
 -- Entries, their cells and their links.
-use Rattle.std.proofs.Common.{◌≡◌, ◌≢◌, ℕ, ◌+◌, ◌-◌, ◌<◌, List, [], ◌∷◌, ◌++◌, length, get_or, take, set, sym, ◌∙◌, ap, subst, arith}
+use Rattle.std.proofs.Common.{◌≡◌, ◌≢◌, ℕ, ◌+◌, ◌-◌, ◌<◌, List, [], ◌∷◌, ◌++◌, length, get_or, take}
+use Rattle.std.proofs.Common.{set, sym, ◌∙◌, ap, subst, arith}
 use Rattle.std.specs.Prelude.{slice_index}
-use Rattle.std.proofs.lemmas.List.{get_or-map, length-map, map-set, set-get_or, get_or-set_other, get_or-set_same, take_more, length-take-le}
+use Rattle.std.proofs.lemmas.List.{get_or-map, length-map, map-set, set-get_or, get_or-set_other}
+use Rattle.std.proofs.lemmas.List.{get_or-set_same, take_more, length-take-le}
 use Rattle.lrat_live.specs.Chains.{bucket_of, place_of, IsChained}
 use Rattle.lrat_live.specs.Table.{Cell, cell_of, cells_of, keys_of, nexts_of}
 use Rattle.lrat_live.specs.declared.entries.Entry.{Entry}
-use Rattle.lrat_live.proofs.Chains.{IsOnWalk, walk_bound, walk_found, chain_falls, walk_step, chained_push}
+use Rattle.lrat_live.proofs.Chains.{IsOnWalk, walk_bound, walk_found, chain_falls, walk_step}
+use Rattle.lrat_live.proofs.Chains.{chained_push}
 
 pub length-keys : (es : List Entry) → length (keys_of (cells_of es)) ≡ length es
 length-keys es = length-map (cells_of es) (λ c. c.id) ∙ length-map es cell_of
 
-pub key_at : (es : List Entry) (p : ℕ) (d : Entry) → p < length es → slice_index (keys_of (cells_of es)) p ≡ (get_or es p d).id
+pub key_at : (es : List Entry) (p : ℕ) (d : Entry) → p < length es
+    → slice_index (keys_of (cells_of es)) p ≡ (get_or es p d).id
 key_at es p d h =
-    get_or-map (λ (c : Cell). c.id) (cells_of es) p (cell_of d) 0 (omega (arith, length-map es cell_of)) ∙ ap (λ (c : Cell). c.id) (get_or-map cell_of es p d (cell_of d) h)
+    get_or-map (λ (c : Cell). c.id) (cells_of es) p (cell_of d) 0
+      (omega (arith, length-map es cell_of))
+      ∙ ap (λ (c : Cell). c.id) (get_or-map cell_of es p d (cell_of d) h)
 
-pub next_at : (es : List Entry) (p : ℕ) (d : Entry) → p < length es → slice_index (nexts_of es) p ≡ (get_or es p d).next
+pub next_at : (es : List Entry) (p : ℕ) (d : Entry) → p < length es
+    → slice_index (nexts_of es) p ≡ (get_or es p d).next
 next_at es p d h = get_or-map (λ (e : Entry). e.next) es p d 0 h
 
-pub place_within : (buckets id : ℕ) (es : List Entry) (p : ℕ) → IsOnWalk buckets id (keys_of (cells_of es)) p → 0 < p → p - 1 < length es
-place_within buckets id es p w positive = omega (arith, walk_bound buckets id (keys_of (cells_of es)) p w, length-keys es)
+pub place_within : (buckets id : ℕ) (es : List Entry) (p : ℕ)
+    → IsOnWalk buckets id (keys_of (cells_of es)) p → 0 < p → p - 1 < length es
+place_within buckets id es p w positive =
+    omega (arith, walk_bound buckets id (keys_of (cells_of es)) p w, length-keys es)
 
 -- a walk down the chain of an id
-module _ (buckets id : ℕ) (heads : List ℕ) (es : List Entry) (p : ℕ) (d : Entry) (w : IsOnWalk buckets id (keys_of (cells_of es)) p) (positive : 0 < p) where
+module _ (buckets id : ℕ) (heads : List ℕ) (es : List Entry) (p : ℕ) (d : Entry)
+    (w : IsOnWalk buckets id (keys_of (cells_of es)) p) (positive : 0 < p) where
   abbrev q : ℕ
   q = p - 1
 
@@ -29,25 +39,40 @@ module _ (buckets id : ℕ) (heads : List ℕ) (es : List Entry) (p : ℕ) (d : 
   within = place_within buckets id es p w positive
 
   at_place : IsOnWalk buckets id (keys_of (cells_of es)) (q + 1)
-  at_place = let e : p ≡ p - 1 + 1 = omega arith in subst (IsOnWalk buckets id (keys_of (cells_of es))) e w
+  at_place = let e : p ≡ p - 1 + 1 = omega arith in
+    subst (IsOnWalk buckets id (keys_of (cells_of es))) e w
 
   pub id_found : (get_or es q d).id ≡ id → place_of id (keys_of (cells_of es)) ≡ q + 1
   id_found e = walk_found buckets id (keys_of (cells_of es)) q at_place (key_at es q d within ∙ e)
 
-  pub next_falls : IsChained buckets heads (keys_of (cells_of es)) (nexts_of es) → (get_or es q d).next < p
-  next_falls c = omega (arith, chain_falls buckets id (keys_of (cells_of es)) heads (nexts_of es) c q at_place.in_chain, next_at es q d within)
+  pub next_falls : IsChained buckets heads (keys_of (cells_of es)) (nexts_of es)
+    → (get_or es q d).next < p
+  next_falls c =
+    omega (arith, chain_falls buckets id (keys_of (cells_of es)) heads (nexts_of es) c q
+      at_place.in_chain, next_at es q d within)
 
-  pub next_on_walk : IsChained buckets heads (keys_of (cells_of es)) (nexts_of es) → ((get_or es q d).id ≡ id → ⊥) → IsOnWalk buckets id (keys_of (cells_of es)) (get_or es q d).next
+  pub next_on_walk : IsChained buckets heads (keys_of (cells_of es)) (nexts_of es)
+    → ((get_or es q d).id ≡ id → ⊥)
+    → IsOnWalk buckets id (keys_of (cells_of es)) (get_or es q d).next
   next_on_walk c ne =
-      subst (IsOnWalk buckets id (keys_of (cells_of es))) (next_at es q d within) (walk_step buckets id (keys_of (cells_of es)) heads (nexts_of es) c q at_place.in_chain at_place (λ u. ne (sym (key_at es q d within) ∙ u)))
+      subst (IsOnWalk buckets id (keys_of (cells_of es))) (next_at es q d within)
+        (walk_step buckets id (keys_of (cells_of es)) heads (nexts_of es) c q at_place.in_chain
+          at_place (λ u. ne (sym (key_at es q d within) ∙ u)))
 
 -- an entry's link is none of its cell
-pub cells-set_same : (es : List Entry) (i : ℕ) (d e : Entry) → cell_of e ≡ cell_of (get_or es i d) → i < length es → cells_of (set es i e) ≡ cells_of es
+pub cells-set_same : (es : List Entry) (i : ℕ) (d e : Entry) → cell_of e ≡ cell_of (get_or es i d)
+    → i < length es → cells_of (set es i e) ≡ cells_of es
 cells-set_same es i d e same h =
-    map-set cell_of es i e ∙ ap (λ c. set (cells_of es) i c) (same ∙ sym (get_or-map cell_of es i d (cell_of d) h)) ∙ set-get_or (cells_of es) i (cell_of d)
+    map-set cell_of es i e
+      ∙ ap (λ c. set (cells_of es) i c) (same ∙ sym (get_or-map cell_of es i d (cell_of d) h))
+      ∙ set-get_or (cells_of es) i (cell_of d)
 
 -- the entry at i is linked to the head of its bucket, and becomes the head
-module _ (buckets : ℕ) (heads : List ℕ) (es : List Entry) (i bucket : ℕ) (d e : Entry) (h : i < length es) (same : cell_of e ≡ cell_of (get_or es i d)) (is : bucket ≡ bucket_of buckets (get_or es i d).id) (small : bucket < buckets) (next : e.next ≡ slice_index heads bucket) (c : IsChained buckets heads (take i (keys_of (cells_of es))) (nexts_of es)) where
+module _ (buckets : ℕ) (heads : List ℕ) (es : List Entry) (i bucket : ℕ) (d e : Entry)
+    (h : i < length es) (same : cell_of e ≡ cell_of (get_or es i d))
+    (is : bucket ≡ bucket_of buckets (get_or es i d).id) (small : bucket < buckets)
+    (next : e.next ≡ slice_index heads bucket)
+    (c : IsChained buckets heads (take i (keys_of (cells_of es))) (nexts_of es)) where
   abbrev keys : List ℕ
   keys = keys_of (cells_of es)
 
@@ -63,13 +88,18 @@ module _ (buckets : ℕ) (heads : List ℕ) (es : List Entry) (i bucket : ℕ) (
   linked : nexts_of (set es i e) ≡ set (nexts_of es) i e.next
   linked = map-set (λ (x : Entry). x.next) es i e
 
-  pub link_more : IsChained buckets (set heads bucket (i + 1)) (take (i + 1) (keys_of (cells_of (set es i e)))) (nexts_of (set es i e))
+  pub link_more : IsChained buckets (set heads bucket (i + 1))
+    (take (i + 1) (keys_of (cells_of (set es i e)))) (nexts_of (set es i e))
   link_more =
       let k : ℕ = slice_index keys i in
       let b : bucket ≡ bucket_of buckets k = is ∙ ap (bucket_of buckets) (sym key) in
       let long : i < length (nexts_of es) = omega (arith, length-map es (λ (x : Entry). x.next)) in
-      let all : IsChained buckets (set heads (bucket_of buckets k) (i + 1)) (take i keys ++ k ∷ []) (nexts_of (set es i e)) =
-      chained_push buckets heads (take i keys) (nexts_of es) k (i + 1) (nexts_of (set es i e)) c (omega (arith, front)) (subst (λ x. x < buckets) b small)
-      (λ j l. let ne : j ≢ i = omega (arith, front) in rw linked (get_or-set_other (nexts_of es) i j e.next 0 ne))
-      (rw (linked, front) (get_or-set_same (nexts_of es) i e.next 0 long ∙ next ∙ ap (slice_index heads) b)) in
+      let all : IsChained buckets (set heads (bucket_of buckets k) (i + 1)) (take i keys ++ k ∷ [])
+        (nexts_of (set es i e)) =
+      chained_push buckets heads (take i keys) (nexts_of es) k (i + 1) (nexts_of (set es i e)) c
+        (omega (arith, front)) (subst (λ x. x < buckets) b small)
+      (λ j l. let ne : j ≢ i = omega (arith, front) in
+          rw linked (get_or-set_other (nexts_of es) i j e.next 0 ne))
+      (rw (linked, front) (get_or-set_same (nexts_of es) i e.next 0 long ∙ next
+            ∙ ap (slice_index heads) b)) in
       rw (cells-set_same es i d e same h, take_more keys i 0 bound, b) all

@@ -1,5 +1,7 @@
 -- The lines of a log that lies flat in memory.
-use Rattle.std.proofs.Common.{◌≡◌, ℕ, zero, suc, ◌+◌, ◌-◌, ◌<◌, ◌≤◌, ◌^◌, List, [], ◌∷◌, ◌++◌, length, get_or, refl, sym, ◌∙◌, ap, subst, arith, add-one, length-append}
+use Rattle.std.proofs.Common.{◌≡◌, ℕ, zero, suc, ◌+◌, ◌-◌, ◌<◌, ◌≤◌, ◌^◌, List, [], ◌∷◌, ◌++◌}
+use Rattle.std.proofs.Common.{length, get_or, refl, sym, ◌∙◌, ap, subst, arith, add-one}
+use Rattle.std.proofs.Common.{length-append}
 use Rattle.std.specs.Prelude.{slice_range}
 use Rattle.std.proofs.lemmas.List.Elements.{All-append, All-cons, All-nil}
 use Rattle.wcnf.specs.Literal.{Literal}
@@ -7,38 +9,52 @@ use Rattle.wcnf.proofs.Laws.{range-append, range-appended}
 use Rattle.lrat_log.specs.declared.lines.Hint.{Hint}
 use Rattle.lrat_log.specs.declared.log.Head.{Head}
 use Rattle.lrat_log.specs.Log.{LogLine, IsLine, IsLog, line_at}
-use Rattle.lrat_log.specs.Flat.{lines_from, lines_in, AreEndsFrom, IsFlat, lits_before, hints_before}
+use Rattle.lrat_log.specs.Flat.{lines_from, lines_in, AreEndsFrom, IsFlat, lits_before}
+use Rattle.lrat_log.specs.Flat.{hints_before}
 
-pub length-lines_from : (i j : ℕ) (hs : List Head) (lits : List Literal) (hints : List Hint) → length (lines_from i j hs lits hints) ≡ length hs
+pub length-lines_from : (i j : ℕ) (hs : List Head) (lits : List Literal) (hints : List Hint)
+    → length (lines_from i j hs lits hints) ≡ length hs
 length-lines_from i j [] lits hints = refl
-length-lines_from i j (h ∷ hs) lits hints = ap suc (length-lines_from h.lits_end h.hints_end hs lits hints)
+length-lines_from i j (h ∷ hs) lits hints =
+    ap suc (length-lines_from h.lits_end h.hints_end hs lits hints)
 
-pub below_heads : (hs : List Head) (lits : List Literal) (hints : List Hint) (ls : List LogLine) (k : ℕ) → lines_from 0 0 hs lits hints ≡ ls → k < length ls → k < length hs
-below_heads hs lits hints ls k e lt = let n = length-lines_from 0 0 hs lits hints in let m : length (lines_from 0 0 hs lits hints) ≡ length ls = ap length e in omega arith
+pub below_heads : (hs : List Head) (lits : List Literal) (hints : List Hint) (ls : List LogLine)
+    (k : ℕ) → lines_from 0 0 hs lits hints ≡ ls → k < length ls → k < length hs
+below_heads hs lits hints ls k e lt = let n = length-lines_from 0 0 hs lits hints in
+    let m : length (lines_from 0 0 hs lits hints) ≡ length ls = ap length e in omega arith
 
-pub kind-line_at : (i j : ℕ) (hs : List Head) (lits : List Literal) (hints : List Hint) (k : ℕ) (h : Head) → k < length hs → h ≡ get_or hs k h → h.kind ≡ (line_at (lines_from i j hs lits hints) k).kind
+pub kind-line_at : (i j : ℕ) (hs : List Head) (lits : List Literal) (hints : List Hint) (k : ℕ)
+    (h : Head) → k < length hs → h ≡ get_or hs k h
+    → h.kind ≡ (line_at (lines_from i j hs lits hints) k).kind
 kind-line_at i j [] lits hints k h lt e = absurd (omega arith)
 kind-line_at i j (g ∷ hs) lits hints zero h lt e = ap (λ x. x.kind) e
-kind-line_at i j (g ∷ hs) lits hints (suc k) h lt e = kind-line_at g.lits_end g.hints_end hs lits hints k h (omega arith) e
+kind-line_at i j (g ∷ hs) lits hints (suc k) h lt e =
+    kind-line_at g.lits_end g.hints_end hs lits hints k h (omega arith) e
 
 -- the ends of the line before
-lits_before-suc : (i : ℕ) (hs : List Head) (k : ℕ) (d : Head) → k < length hs → (get_or hs k d).lits_end ≡ lits_before i hs (suc k)
+lits_before-suc : (i : ℕ) (hs : List Head) (k : ℕ) (d : Head) → k < length hs
+    → (get_or hs k d).lits_end ≡ lits_before i hs (suc k)
 lits_before-suc i [] k d lt = absurd (omega arith)
 lits_before-suc i (g ∷ hs) zero d lt = refl
 lits_before-suc i (g ∷ hs) (suc k) d lt = lits_before-suc g.lits_end hs k d (omega arith)
 
-hints_before-suc : (j : ℕ) (hs : List Head) (k : ℕ) (d : Head) → k < length hs → (get_or hs k d).hints_end ≡ hints_before j hs (suc k)
+hints_before-suc : (j : ℕ) (hs : List Head) (k : ℕ) (d : Head) → k < length hs
+    → (get_or hs k d).hints_end ≡ hints_before j hs (suc k)
 hints_before-suc j [] k d lt = absurd (omega arith)
 hints_before-suc j (g ∷ hs) zero d lt = refl
 hints_before-suc j (g ∷ hs) (suc k) d lt = hints_before-suc g.hints_end hs k d (omega arith)
 
-pub lits_before-last : (hs : List Head) (n : ℕ) (d : Head) → (n ≡ 0 → ⊥) → n ≤ length hs → (get_or hs (n - 1) d).lits_end ≡ lits_before 0 hs n
+pub lits_before-last : (hs : List Head) (n : ℕ) (d : Head) → (n ≡ 0 → ⊥) → n ≤ length hs
+    → (get_or hs (n - 1) d).lits_end ≡ lits_before 0 hs n
 lits_before-last hs zero d some le = absurd (some refl)
-lits_before-last hs (suc k) d some le = let e : suc k - 1 ≡ k = omega arith in rw e (lits_before-suc 0 hs k d (omega arith))
+lits_before-last hs (suc k) d some le = let e : suc k - 1 ≡ k = omega arith in
+    rw e (lits_before-suc 0 hs k d (omega arith))
 
-pub hints_before-last : (hs : List Head) (n : ℕ) (d : Head) → (n ≡ 0 → ⊥) → n ≤ length hs → (get_or hs (n - 1) d).hints_end ≡ hints_before 0 hs n
+pub hints_before-last : (hs : List Head) (n : ℕ) (d : Head) → (n ≡ 0 → ⊥) → n ≤ length hs
+    → (get_or hs (n - 1) d).hints_end ≡ hints_before 0 hs n
 hints_before-last hs zero d some le = absurd (some refl)
-hints_before-last hs (suc k) d some le = let e : suc k - 1 ≡ k = omega arith in rw e (hints_before-suc 0 hs k d (omega arith))
+hints_before-last hs (suc k) d some le = let e : suc k - 1 ≡ k = omega arith in
+    rw e (hints_before-suc 0 hs k d (omega arith))
 
 -- where a line's literals lie
 pub record Placed {X : Type 0} (xs : List X) (start end : ℕ) (part : List X) : Type 0 where
@@ -46,59 +62,88 @@ pub record Placed {X : Type 0} (xs : List X) (start end : ℕ) (part : List X) :
   pub within : end ≤ length xs
   pub part_is : slice_range xs start end ≡ part
 
-lits_placed : (i j : ℕ) (hs : List Head) (lits : List Literal) (hints : List Hint) (k : ℕ) → AreEndsFrom i j hs lits hints → k < length hs
-    → Placed lits (lits_before i hs k) (lits_before i hs (suc k)) (line_at (lines_from i j hs lits hints) k).clause
+lits_placed : (i j : ℕ) (hs : List Head) (lits : List Literal) (hints : List Hint) (k : ℕ)
+    → AreEndsFrom i j hs lits hints → k < length hs
+    → Placed lits (lits_before i hs k) (lits_before i hs (suc k))
+      (line_at (lines_from i j hs lits hints) k).clause
 lits_placed i j [] lits hints k ends lt = absurd (omega arith)
-lits_placed i j (h ∷ hs) lits hints zero ends lt = record { rising = ends.0; within = ends.1; part_is = refl }
-lits_placed i j (h ∷ hs) lits hints (suc k) ends lt = lits_placed h.lits_end h.hints_end hs lits hints k ends.4 (omega arith)
+lits_placed i j (h ∷ hs) lits hints zero ends lt =
+    record { rising = ends.0; within = ends.1; part_is = refl }
+lits_placed i j (h ∷ hs) lits hints (suc k) ends lt =
+    lits_placed h.lits_end h.hints_end hs lits hints k ends.4 (omega arith)
 
-hints_placed : (i j : ℕ) (hs : List Head) (lits : List Literal) (hints : List Hint) (k : ℕ) → AreEndsFrom i j hs lits hints → k < length hs
-    → Placed hints (hints_before j hs k) (hints_before j hs (suc k)) (line_at (lines_from i j hs lits hints) k).hints
+hints_placed : (i j : ℕ) (hs : List Head) (lits : List Literal) (hints : List Hint) (k : ℕ)
+    → AreEndsFrom i j hs lits hints → k < length hs
+    → Placed hints (hints_before j hs k) (hints_before j hs (suc k))
+      (line_at (lines_from i j hs lits hints) k).hints
 hints_placed i j [] lits hints k ends lt = absurd (omega arith)
-hints_placed i j (h ∷ hs) lits hints zero ends lt = record { rising = ends.2; within = ends.3; part_is = refl }
-hints_placed i j (h ∷ hs) lits hints (suc k) ends lt = hints_placed h.lits_end h.hints_end hs lits hints k ends.4 (omega arith)
+hints_placed i j (h ∷ hs) lits hints zero ends lt =
+    record { rising = ends.2; within = ends.3; part_is = refl }
+hints_placed i j (h ∷ hs) lits hints (suc k) ends lt =
+    hints_placed h.lits_end h.hints_end hs lits hints k ends.4 (omega arith)
 
-module _ (hs : List Head) (lits : List Literal) (hints : List Hint) (k s e : ℕ) (ends : AreEndsFrom 0 0 hs lits hints) (lt : k < length hs) where
-  pub clause-line_at : s ≡ lits_before 0 hs k → e ≡ lits_before 0 hs (k + 1) → Placed lits s e (line_at (lines_from 0 0 hs lits hints) k).clause
+module _ (hs : List Head) (lits : List Literal) (hints : List Hint) (k s e : ℕ)
+    (ends : AreEndsFrom 0 0 hs lits hints) (lt : k < length hs) where
+  pub clause-line_at : s ≡ lits_before 0 hs k → e ≡ lits_before 0 hs (k + 1)
+    → Placed lits s e (line_at (lines_from 0 0 hs lits hints) k).clause
   clause-line_at p q = rw (p, q, add-one) (lits_placed 0 0 hs lits hints k ends lt)
 
-  pub hints-line_at : s ≡ hints_before 0 hs k → e ≡ hints_before 0 hs (k + 1) → Placed hints s e (line_at (lines_from 0 0 hs lits hints) k).hints
+  pub hints-line_at : s ≡ hints_before 0 hs k → e ≡ hints_before 0 hs (k + 1)
+    → Placed hints s e (line_at (lines_from 0 0 hs lits hints) k).hints
   hints-line_at p q = rw (p, q, add-one) (hints_placed 0 0 hs lits hints k ends lt)
 
 -- a line more
-pub lines_from-push : (i j : ℕ) (hs : List Head) (lits more_lits : List Literal) (hints more_hints : List Hint) (h : Head) → AreEndsFrom i j hs lits hints
+pub lines_from-push : (i j : ℕ) (hs : List Head) (lits more_lits : List Literal)
+    (hints more_hints : List Hint) (h : Head) → AreEndsFrom i j hs lits hints
     → h.lits_end ≡ length lits + length more_lits → h.hints_end ≡ length hints + length more_hints
-    → lines_from i j (hs ++ h ∷ []) (lits ++ more_lits) (hints ++ more_hints) ≡ lines_from i j hs lits hints ++ record { kind = h.kind; clause = more_lits; hints = more_hints } ∷ []
-lines_from-push i j [] lits ml hints mh h ends p q = rw (range-appended lits ml i h.lits_end ends.0 p, range-appended hints mh j h.hints_end ends.1 q) refl
+    → lines_from i j (hs ++ h ∷ []) (lits ++ more_lits) (hints ++ more_hints)
+        ≡ lines_from i j hs lits hints ++ record { kind = h.kind; clause = more_lits;
+        hints = more_hints } ∷ []
+lines_from-push i j [] lits ml hints mh h ends p q =
+    rw (range-appended lits ml i h.lits_end ends.0 p,
+      range-appended hints mh j h.hints_end ends.1 q) refl
 lines_from-push i j (g ∷ hs) lits ml hints mh h ends p q =
-    rw (range-append lits ml i g.lits_end ends.0 ends.1, range-append hints mh j g.hints_end ends.2 ends.3, lines_from-push g.lits_end g.hints_end hs lits ml hints mh h ends.4 p q) refl
+    rw (range-append lits ml i g.lits_end ends.0 ends.1,
+        range-append hints mh j g.hints_end ends.2 ends.3,
+        lines_from-push g.lits_end g.hints_end hs lits ml hints mh h ends.4 p q) refl
 
-pub AreEndsFrom-push : (i j : ℕ) (hs : List Head) (lits more_lits : List Literal) (hints more_hints : List Hint) (h : Head) → AreEndsFrom i j hs lits hints
+pub AreEndsFrom-push : (i j : ℕ) (hs : List Head) (lits more_lits : List Literal)
+    (hints more_hints : List Hint) (h : Head) → AreEndsFrom i j hs lits hints
     → h.lits_end ≡ length lits + length more_lits → h.hints_end ≡ length hints + length more_hints
     → AreEndsFrom i j (hs ++ h ∷ []) (lits ++ more_lits) (hints ++ more_hints)
 AreEndsFrom-push i j [] lits ml hints mh h ends p q =
     let a = length-append lits ml in
     let b = length-append hints mh in
-    (omega (arith, ends.0), omega arith, omega (arith, ends.1), omega arith, (omega arith, omega arith))
+    (omega (arith, ends.0), omega arith, omega (arith, ends.1), omega arith,
+        (omega arith, omega arith))
 AreEndsFrom-push i j (g ∷ hs) lits ml hints mh h ends p q =
     let a = length-append lits ml in
     let b = length-append hints mh in
-    (ends.0, omega (arith, ends.1), ends.2, omega (arith, ends.3), AreEndsFrom-push g.lits_end g.hints_end hs lits ml hints mh h ends.4 p q)
+    (ends.0, omega (arith, ends.1), ends.2, omega (arith, ends.3),
+        AreEndsFrom-push g.lits_end g.hints_end hs lits ml hints mh h ends.4 p q)
 
-module _ (hs : List Head) (lits : List Literal) (hints : List Hint) (h : Head) (line : LogLine) (flat : IsFlat hs lits hints)
-    (kind : h.kind ≡ line.kind) (p : h.lits_end ≡ length lits + length line.clause) (q : h.hints_end ≡ length hints + length line.hints) where
-  pub lines_in-push : lines_in (hs ++ h ∷ []) (lits ++ line.clause) (hints ++ line.hints) ≡ lines_in hs lits hints ++ line ∷ []
+module _ (hs : List Head) (lits : List Literal) (hints : List Hint) (h : Head) (line : LogLine)
+    (flat : IsFlat hs lits hints)
+    (kind : h.kind ≡ line.kind) (p : h.lits_end ≡ length lits + length line.clause)
+      (q : h.hints_end ≡ length hints + length line.hints) where
+  pub lines_in-push : lines_in (hs ++ h ∷ []) (lits ++ line.clause) (hints ++ line.hints)
+      ≡ lines_in hs lits hints ++ line ∷ []
   lines_in-push =
       lines_from-push 0 0 hs lits line.clause hints line.hints h flat.ends p q
-      ∙ ap (λ k. lines_in hs lits hints ++ record { kind = k; clause = line.clause; hints = line.hints } ∷ []) kind
+      ∙ ap (λ k. lines_in hs lits hints ++ record { kind = k; clause = line.clause;
+            hints = line.hints } ∷ []) kind
 
-  pub IsFlat-push : length hs + 1 < 2 ^ 61 → IsLine line → IsFlat (hs ++ h ∷ []) (lits ++ line.clause) (hints ++ line.hints)
+  pub IsFlat-push : length hs + 1 < 2 ^ 61 → IsLine line
+    → IsFlat (hs ++ h ∷ []) (lits ++ line.clause) (hints ++ line.hints)
   IsFlat-push short is =
       let ls = lines_in hs lits hints in
       let n = length-lines_from 0 0 hs lits hints in
       let m = length-append ls (line ∷ []) in
       let few : length (ls ++ line ∷ []) < 2 ^ 61 = omega arith in
       record {
-        log = subst IsLog (sym lines_in-push) (record { short = few; lines = All-append IsLine ls (line ∷ []) flat.log.lines (All-cons IsLine line [] is (All-nil IsLine)) });
+        log =
+          subst IsLog (sym lines_in-push)
+            (record { short = few; lines = All-append IsLine ls (line ∷ []) flat.log.lines
+              (All-cons IsLine line [] is (All-nil IsLine)) });
         ends = AreEndsFrom-push 0 0 hs lits line.clause hints line.hints h flat.ends p q;
       }

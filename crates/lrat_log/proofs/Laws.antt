@@ -1,6 +1,7 @@
 -- The laws of this crate that other crates cite, from one place.
 pub use Rattle.lrat_log.proofs.Accepting.{accepted_log}
-pub use Rattle.lrat_log.proofs.Additions.{additions_cons, additions_few, additions_push, last_numbered}
+pub use Rattle.lrat_log.proofs.Additions.{additions_cons, additions_few, additions_push}
+pub use Rattle.lrat_log.proofs.Additions.{last_numbered}
 pub use Rattle.lrat_log.proofs.Additions.{numbered_on-append}
 pub use Rattle.lrat_log.proofs.GivenNumbers.{base_more, base_of, clauses_given, given_at-given_of}
 pub use Rattle.lrat_log.proofs.GivenNumbers.{given_on, numbered_past, numbered_right}

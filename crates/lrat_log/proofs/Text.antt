@@ -1,5 +1,7 @@
 -- The text of a log spells its lines.
-use Rattle.std.proofs.Common.{◌≡◌, ℕ, zero, suc, ◌+◌, ◌-◌, ◌<◌, ◌≤◌, ◌^◌, Bool, true, false, not, List, [], ◌∷◌, ◌++◌, length, map, get_or, refl, sym, ◌∙◌, ap, subst, arith, append_assoc}
+use Rattle.std.proofs.Common.{◌≡◌, ℕ, zero, suc, ◌+◌, ◌-◌, ◌<◌, ◌≤◌, ◌^◌, Bool, true, false, not}
+use Rattle.std.proofs.Common.{List, [], ◌∷◌, ◌++◌, length, map, get_or, refl, sym, ◌∙◌, ap, subst}
+use Rattle.std.proofs.Common.{arith, append_assoc}
 use Rattle.std.specs.Prelude.{◌==◌, if◌then◌else◌, All, filter}
 use Rattle.std.specs.List.{flat_map, AllByRecursion, list_all, slice_split}
 use Rattle.std.specs.Str.Lines.{lines, lines_of_parts, strip_carriage_return}
@@ -7,19 +9,23 @@ use Rattle.std.specs.Fmt.{decimal}
 use Rattle.std.proofs.lemmas.Bool.{and_parts, ne_eqb}
 use Rattle.std.proofs.lemmas.List.{append-nil}
 use Rattle.std.proofs.lemmas.List.Splits.{slice_split_at, length-slice_split}
-use Rattle.std.proofs.lemmas.List.Elements.{All-from_recursion, recursion_from_All, All-head, All-tail}
+use Rattle.std.proofs.lemmas.List.Elements.{All-from_recursion, recursion_from_All, All-head}
+use Rattle.std.proofs.lemmas.List.Elements.{All-tail}
 use lib.Chars.{codes}
 use Rattle.wcnf.specs.Literal.{Literal}
-use Rattle.wcnf.specs.Text.{is_blank, begins_with_token, put_byte, tokens_of, token_lines, literal_text, is_digit}
+use Rattle.wcnf.specs.Text.{is_blank, begins_with_token, put_byte, tokens_of, token_lines}
+use Rattle.wcnf.specs.Text.{literal_text, is_digit}
 use Rattle.wcnf.specs.Writing.{spaced}
-use Rattle.wcnf.specs.Lrat.{ProofLine, Addition, Deletion, CandidateHints, group_tokens, line_tokens, has_tokens, IsId, HasNumbers, IsTextOf}
+use Rattle.wcnf.specs.Lrat.{ProofLine, Addition, Deletion, CandidateHints, group_tokens}
+use Rattle.wcnf.specs.Lrat.{line_tokens, has_tokens, IsId, HasNumbers, IsTextOf}
 use Rattle.wcnf.proofs.Laws.{GroupHasIds}
 use Rattle.wcnf.proofs.Laws.{digit_bounds, is_number-decimal}
 use Rattle.lrat_log.specs.declared.lines.Hint.{Hint}
 use Rattle.lrat_log.specs.declared.lines.Hint.TheVariants.{Plain, Group}
 use Rattle.lrat_log.specs.declared.lines.Name.{Name}
 use Rattle.lrat_log.specs.declared.lines.Name.TheVariants.{Formula, Added}
-use Rattle.lrat_log.specs.Log.{LogLine, IsLine, HasSmallIds, is_delete, name_of, number_in, id_of, leading_ids, group_ids, numbered_on, numbered_lines, text_of}
+use Rattle.lrat_log.specs.Log.{LogLine, IsLine, HasSmallIds, is_delete, name_of, number_in, id_of}
+use Rattle.lrat_log.specs.Log.{leading_ids, group_ids, numbered_on, numbered_lines, text_of}
 use Rattle.lrat_log.specs.Log.{HasNumber}
 
 -- no byte that ends a token or a line
@@ -36,7 +42,8 @@ joined (t ∷ u ∷ ts) = t ++ 32 ∷ joined (u ∷ ts)
 pub spaced-joined : (ts : List (List ℕ)) → spaced ts ≡ joined ts ++ 10 ∷ []
 spaced-joined [] = refl
 spaced-joined (t ∷ []) = refl
-spaced-joined (t ∷ u ∷ ts) = ap (λ x. t ++ 32 ∷ x) (spaced-joined (u ∷ ts)) ∙ sym (append_assoc t (32 ∷ joined (u ∷ ts)) (10 ∷ []))
+spaced-joined (t ∷ u ∷ ts) = ap (λ x. t ++ 32 ∷ x) (spaced-joined (u ∷ ts))
+    ∙ sym (append_assoc t (32 ∷ joined (u ∷ ts)) (10 ∷ []))
 
 not_blank : (b : ℕ) → 33 ≤ b → is_blank b ≡ false
 not_blank b h =
@@ -44,41 +51,50 @@ not_blank b h =
     let y : (b == 9) ≡ false = ne_eqb b 9 (λ e. absurd (omega arith)) in
     rw (x, y) refl
 
-first_byte : (b : ℕ) (bs : List ℕ) → 33 ≤ b → tokens_of (b ∷ bs) ≡ put_byte b (begins_with_token bs) (tokens_of bs)
+first_byte : (b : ℕ) (bs : List ℕ) → 33 ≤ b → tokens_of (b ∷ bs) ≡ put_byte b (begins_with_token bs)
+    (tokens_of bs)
 first_byte b bs h = rw (not_blank b h) refl
 
 -- a word before what begins no token
-word_tokens : (b : ℕ) (bs rest : List ℕ) → 33 ≤ b → AllByRecursion (λ c. 33 ≤ c) bs → begins_with_token rest ≡ false → tokens_of (b ∷ bs ++ rest) ≡ (b ∷ bs) ∷ tokens_of rest
+word_tokens : (b : ℕ) (bs rest : List ℕ) → 33 ≤ b → AllByRecursion (λ c. 33 ≤ c) bs
+    → begins_with_token rest ≡ false → tokens_of (b ∷ bs ++ rest) ≡ (b ∷ bs) ∷ tokens_of rest
 word_tokens b [] rest h all e = rw (not_blank b h, e) refl
 word_tokens b (c ∷ cs) rest h all e =
-    first_byte b (c ∷ cs ++ rest) h ∙ ap (λ x. put_byte b (not x) (tokens_of (c ∷ cs ++ rest))) (not_blank c all.0) ∙ ap (put_byte b true) (word_tokens c cs rest all.0 all.1 e)
+    first_byte b (c ∷ cs ++ rest) h ∙ ap (λ x. put_byte b (not x) (tokens_of (c ∷ cs ++ rest)))
+      (not_blank c all.0) ∙ ap (put_byte b true) (word_tokens c cs rest all.0 all.1 e)
 
 pub tokens_of-joined : (ts : List (List ℕ)) → AllByRecursion IsWord ts → tokens_of (joined ts) ≡ ts
 tokens_of-joined [] h = refl
 tokens_of-joined ([] ∷ ts) h = absurd h.0
-tokens_of-joined ((b ∷ bs) ∷ []) h = ap tokens_of (sym (append-nil (b ∷ bs))) ∙ word_tokens b bs [] h.0.0 h.0.1 refl
-tokens_of-joined ((b ∷ bs) ∷ u ∷ ts) h = word_tokens b bs (32 ∷ joined (u ∷ ts)) h.0.0 h.0.1 refl ∙ ap (λ x. (b ∷ bs) ∷ x) (tokens_of-joined (u ∷ ts) h.1)
+tokens_of-joined ((b ∷ bs) ∷ []) h = ap tokens_of (sym (append-nil (b ∷ bs)))
+    ∙ word_tokens b bs [] h.0.0 h.0.1 refl
+tokens_of-joined ((b ∷ bs) ∷ u ∷ ts) h = word_tokens b bs (32 ∷ joined (u ∷ ts)) h.0.0 h.0.1 refl
+    ∙ ap (λ x. (b ∷ bs) ∷ x) (tokens_of-joined (u ∷ ts) h.1)
 
 -- bytes of a line
 abbrev IsLineText : List ℕ → Type 0
 IsLineText x = AllByRecursion (λ b. 32 ≤ b) x
 
-word_text : (bs rest : List ℕ) → AllByRecursion (λ c. 33 ≤ c) bs → IsLineText rest → IsLineText (bs ++ rest)
+word_text : (bs rest : List ℕ) → AllByRecursion (λ c. 33 ≤ c) bs → IsLineText rest
+    → IsLineText (bs ++ rest)
 word_text [] rest h k = k
 word_text (b ∷ bs) rest h k = (omega (arith, h.0), word_text bs rest h.1 k)
 
 joined_text : (ts : List (List ℕ)) → AllByRecursion IsWord ts → IsLineText (joined ts)
 joined_text [] h = tt
 joined_text ([] ∷ ts) h = absurd h.0
-joined_text ((b ∷ bs) ∷ []) h = subst IsLineText (append-nil (b ∷ bs)) (word_text (b ∷ bs) [] h.0 tt)
-joined_text ((b ∷ bs) ∷ u ∷ ts) h = word_text (b ∷ bs) (32 ∷ joined (u ∷ ts)) h.0 (omega arith, joined_text (u ∷ ts) h.1)
+joined_text ((b ∷ bs) ∷ []) h =
+    subst IsLineText (append-nil (b ∷ bs)) (word_text (b ∷ bs) [] h.0 tt)
+joined_text ((b ∷ bs) ∷ u ∷ ts) h =
+    word_text (b ∷ bs) (32 ∷ joined (u ∷ ts)) h.0 (omega arith, joined_text (u ∷ ts) h.1)
 
 no_return : (x : List ℕ) (i : ℕ) → IsLineText x → (get_or x i 0 == 13) ≡ false
 no_return [] i h = refl
 no_return (b ∷ x) zero h = ne_eqb b 13 (λ e. absurd (omega (arith, h.0)))
 no_return (b ∷ x) (suc i) h = no_return x i h.1
 
-parts_cons : (x : List ℕ) (parts : List (List ℕ)) → 0 < length parts → lines_of_parts (x ∷ parts) ≡ strip_carriage_return x ∷ lines_of_parts parts
+parts_cons : (x : List ℕ) (parts : List (List ℕ)) → 0 < length parts
+    → lines_of_parts (x ∷ parts) ≡ strip_carriage_return x ∷ lines_of_parts parts
 parts_cons x [] h = absurd (omega arith)
 parts_cons x (y ∷ more) h = refl
 
@@ -92,7 +108,8 @@ no_feed (b ∷ x) h = (ne_eqb b 10 (λ e. absurd (omega (arith, h.0))), no_feed 
 line_first : (x rest : List ℕ) → IsLineText x → lines (x ++ 10 ∷ rest) ≡ x ∷ lines rest
 line_first x rest h =
     let stripped : strip_carriage_return x ≡ x = rw (no_return x (length x - 1) h) refl in
-    ap lines_of_parts (slice_split_at is_feed x 10 rest (All-from_recursion (λ b. is_feed b ≡ false) x (no_feed x h)) refl)
+    ap lines_of_parts (slice_split_at is_feed x 10 rest
+        (All-from_recursion (λ b. is_feed b ≡ false) x (no_feed x h)) refl)
     ∙ parts_cons x (slice_split is_feed rest) (omega (arith, length-slice_split is_feed rest))
     ∙ ap (λ y. y ∷ lines rest) stripped
 
@@ -100,7 +117,8 @@ abbrev pub HasWords : ProofLine → Type 0
 HasWords l = AllByRecursion IsWord (line_tokens l)
 
 -- lines of words are told from their text
-pub token_lines-spaced : (tss : List (List (List ℕ))) → AllByRecursion (AllByRecursion IsWord) tss → token_lines (flat_map spaced tss) ≡ tss
+pub token_lines-spaced : (tss : List (List (List ℕ))) → AllByRecursion (AllByRecursion IsWord) tss
+    → token_lines (flat_map spaced tss) ≡ tss
 token_lines-spaced [] h = refl
 token_lines-spaced (ts ∷ tss) h =
     let rest : List ℕ = flat_map spaced tss in
@@ -110,33 +128,40 @@ token_lines-spaced (ts ∷ tss) h =
     ∙ ap (λ x. x ∷ token_lines rest) (tokens_of-joined ts h.0)
     ∙ ap (λ x. ts ∷ x) (token_lines-spaced tss h.1)
 
-text-tokens : (ls : List ProofLine) → flat_map (λ l. spaced (line_tokens l)) ls ≡ flat_map spaced (map line_tokens ls)
+text-tokens : (ls : List ProofLine) → flat_map (λ l. spaced (line_tokens l)) ls ≡ flat_map spaced
+    (map line_tokens ls)
 text-tokens [] = refl
 text-tokens (l ∷ ls) = ap (λ x. spaced (line_tokens l) ++ x) (text-tokens ls)
 
-all_words : (ls : List ProofLine) → AllByRecursion HasWords ls → AllByRecursion (AllByRecursion IsWord) (map line_tokens ls)
+all_words : (ls : List ProofLine) → AllByRecursion HasWords ls
+    → AllByRecursion (AllByRecursion IsWord) (map line_tokens ls)
 all_words [] h = tt
 all_words (l ∷ ls) h = (h.0, all_words ls h.1)
 
-pub token_lines-text : (ls : List ProofLine) → AllByRecursion HasWords ls → token_lines (flat_map (λ l. spaced (line_tokens l)) ls) ≡ map line_tokens ls
-token_lines-text ls h = ap token_lines (text-tokens ls) ∙ token_lines-spaced (map line_tokens ls) (all_words ls h)
+pub token_lines-text : (ls : List ProofLine) → AllByRecursion HasWords ls
+    → token_lines (flat_map (λ l. spaced (line_tokens l)) ls) ≡ map line_tokens ls
+token_lines-text ls h = ap token_lines (text-tokens ls)
+    ∙ token_lines-spaced (map line_tokens ls) (all_words ls h)
 
 kept_lines : (ls : List ProofLine) → filter has_tokens (map line_tokens ls) ≡ map line_tokens ls
 kept_lines [] = refl
-kept_lines (Addition id c hints groups ∷ ls) = ap (λ x. line_tokens (Addition id c hints groups) ∷ x) (kept_lines ls)
+kept_lines (Addition id c hints groups ∷ ls) =
+    ap (λ x. line_tokens (Addition id c hints groups) ∷ x) (kept_lines ls)
 kept_lines (Deletion lead ids ∷ ls) = ap (λ x. line_tokens (Deletion lead ids) ∷ x) (kept_lines ls)
 
 -- tokens are words
 digits_text : (ds : List ℕ) → list_all is_digit ds ≡ true → AllByRecursion (λ c. 33 ≤ c) ds
 digits_text [] e = tt
-digits_text (b ∷ ds) e = let p = and_parts (is_digit b) (list_all is_digit ds) e in (omega (arith, digit_bounds b p.0), digits_text ds p.1)
+digits_text (b ∷ ds) e = let p = and_parts (is_digit b) (list_all is_digit ds) e in
+    (omega (arith, digit_bounds b p.0), digits_text ds p.1)
 
 digits_word : (ds : List ℕ) → list_all is_digit ds ≡ true → 0 < length ds → IsWord ds
 digits_word [] e h = absurd (omega arith)
 digits_word (b ∷ ds) e h = digits_text (b ∷ ds) e
 
 pub decimal_word : (n : ℕ) → n < 2 ^ 62 → IsWord (decimal n)
-decimal_word n h = let k = is_number-decimal n (omega arith) in digits_word (decimal n) k.digits k.nonempty
+decimal_word n h = let k = is_number-decimal n (omega arith) in
+    digits_word (decimal n) k.digits k.nonempty
 
 word_from : (ds : List ℕ) → IsWord ds → AllByRecursion (λ c. 33 ≤ c) ds
 word_from [] h = tt
@@ -149,7 +174,8 @@ literal_word : (s : Bool) (v : ℕ) → v < 2 ^ 62 → IsWord (if s then 45 ∷ 
 literal_word true v h = dashed_word v h
 literal_word false v h = decimal_word v h
 
-words_append : (xs ys : List (List ℕ)) → AllByRecursion IsWord xs → AllByRecursion IsWord ys → AllByRecursion IsWord (xs ++ ys)
+words_append : (xs ys : List (List ℕ)) → AllByRecursion IsWord xs → AllByRecursion IsWord ys
+    → AllByRecursion IsWord (xs ++ ys)
 words_append [] ys h k = k
 words_append (x ∷ xs) ys h k = (h.0, words_append xs ys h.1 k)
 
@@ -157,14 +183,17 @@ words_decimal : (ns : List ℕ) → AllByRecursion IsId ns → AllByRecursion Is
 words_decimal [] h = tt
 words_decimal (n ∷ ns) h = (decimal_word n h.0.1, words_decimal ns h.1)
 
-words_clause : (c : List Literal) → AllByRecursion (λ l. IsId l.variable) c → AllByRecursion IsWord (map literal_text c)
+words_clause : (c : List Literal) → AllByRecursion (λ l. IsId l.variable) c
+    → AllByRecursion IsWord (map literal_text c)
 words_clause [] h = tt
 words_clause (l ∷ c) h = (literal_word l.negated l.variable h.0.1, words_clause c h.1)
 
-words_groups : (gs : List CandidateHints) → AllByRecursion GroupHasIds gs → AllByRecursion IsWord (flat_map group_tokens gs)
+words_groups : (gs : List CandidateHints) → AllByRecursion GroupHasIds gs
+    → AllByRecursion IsWord (flat_map group_tokens gs)
 words_groups [] h = tt
 words_groups (g ∷ gs) h =
-    (dashed_word g.candidate h.0.0.1, words_append (map decimal g.hints) (flat_map group_tokens gs) (words_decimal g.hints (recursion_from_All IsId g.hints h.0.1)) (words_groups gs h.1))
+    (dashed_word g.candidate h.0.0.1, words_append (map decimal g.hints) (flat_map group_tokens gs)
+        (words_decimal g.hints (recursion_from_All IsId g.hints h.0.1)) (words_groups gs h.1))
 
 zero_word : AllByRecursion IsWord (codes "0" ∷ [])
 zero_word = ((omega arith, tt), tt)
@@ -173,20 +202,32 @@ pub line_words : (l : ProofLine) → HasNumbers l → HasWords l
 line_words (Addition id c hints groups) h =
     let w = words_decimal hints (recursion_from_All IsId hints h.2) in
     let g = words_groups groups (recursion_from_All GroupHasIds groups h.3) in
-    let front = words_append (map literal_text c) (codes "0" ∷ map decimal hints) (words_clause c (recursion_from_All (λ l. IsId l.variable) c h.1)) (zero_word.0, w) in
-    let all = words_append (map literal_text c ++ codes "0" ∷ map decimal hints) (flat_map group_tokens groups) front g in
-    (decimal_word id h.0, words_append (map literal_text c ++ codes "0" ∷ map decimal hints ++ flat_map group_tokens groups) (codes "0" ∷ []) all zero_word)
+    let front =
+      words_append (map literal_text c) (codes "0" ∷ map decimal hints)
+        (words_clause c (recursion_from_All (λ l. IsId l.variable) c h.1)) (zero_word.0, w) in
+    let all =
+      words_append (map literal_text c ++ codes "0" ∷ map decimal hints)
+        (flat_map group_tokens groups) front g in
+    (decimal_word id h.0,
+        words_append (map literal_text c ++ codes "0" ∷ map decimal hints ++ flat_map group_tokens
+          groups) (codes "0" ∷ []) all zero_word)
 line_words (Deletion lead ids) h =
-    (decimal_word lead h.0, ((omega arith, tt), words_append (map decimal ids) (codes "0" ∷ []) (words_decimal ids (recursion_from_All IsId ids h.1)) zero_word))
+    (decimal_word lead h.0,
+        ((omega arith, tt),
+          words_append (map decimal ids) (codes "0" ∷ [])
+          (words_decimal ids (recursion_from_All IsId ids h.1)) zero_word))
 
 lines_words : (ls : List ProofLine) → AllByRecursion HasNumbers ls → AllByRecursion HasWords ls
 lines_words [] h = tt
 lines_words (l ∷ ls) h = (line_words l h.0, lines_words ls h.1)
 
 -- the spelling of lines whose numbers are small
-pub text-lines : (ls : List ProofLine) → All HasNumbers ls → IsTextOf (flat_map (λ l. spaced (line_tokens l)) ls) ls
+pub text-lines : (ls : List ProofLine) → All HasNumbers ls
+    → IsTextOf (flat_map (λ l. spaced (line_tokens l)) ls) ls
 text-lines ls h = record {
-  spelled = ap (filter has_tokens) (token_lines-text ls (lines_words ls (recursion_from_All HasNumbers ls h))) ∙ kept_lines ls;
+  spelled =
+    ap (filter has_tokens)
+      (token_lines-text ls (lines_words ls (recursion_from_All HasNumbers ls h))) ∙ kept_lines ls;
   numbers = h;
 }
 
@@ -198,26 +239,37 @@ id_of_is : (base : ℕ) (n : Name) → 0 < number_in n → id_of base n < 2 ^ 62
 id_of_is base (Formula i) p s = (p, s)
 id_of_is base (Added j) p s = (omega arith, s)
 
-hint_ids : (base : ℕ) (hs : List Hint) → AllByRecursion (IsSmall base) hs → AllByRecursion IsId (map (λ h. id_of base (name_of h)) hs)
+hint_ids : (base : ℕ) (hs : List Hint) → AllByRecursion (IsSmall base) hs
+    → AllByRecursion IsId (map (λ h. id_of base (name_of h)) hs)
 hint_ids base [] a = tt
 hint_ids base (h ∷ hs) a = (id_of_is base (name_of h) a.0.0 a.0.1, hint_ids base hs a.1)
 
-leading_are : (base : ℕ) (hs : List Hint) → AllByRecursion (IsSmall base) hs → AllByRecursion IsId (leading_ids base hs)
+leading_are : (base : ℕ) (hs : List Hint) → AllByRecursion (IsSmall base) hs
+    → AllByRecursion IsId (leading_ids base hs)
 leading_are base [] a = tt
 leading_are base (Plain n ∷ hs) a = (id_of_is base n a.0.0 a.0.1, leading_are base hs a.1)
 leading_are base (Group n ∷ hs) a = tt
 
-groups_are : (base : ℕ) (hs : List Hint) → AllByRecursion (IsSmall base) hs → AllByRecursion GroupHasIds (group_ids base hs)
+groups_are : (base : ℕ) (hs : List Hint) → AllByRecursion (IsSmall base) hs
+    → AllByRecursion GroupHasIds (group_ids base hs)
 groups_are base [] a = tt
 groups_are base (Plain n ∷ hs) a = groups_are base hs a.1
-groups_are base (Group n ∷ hs) a = ((id_of_is base n a.0.0 a.0.1, All-from_recursion IsId (leading_ids base hs) (leading_are base hs a.1)), groups_are base hs a.1)
+groups_are base (Group n ∷ hs) a =
+    ((id_of_is base n a.0.0 a.0.1,
+        All-from_recursion IsId (leading_ids base hs) (leading_are base hs a.1)),
+      groups_are base hs a.1)
 
 abbrev IsLineOf : ℕ → LogLine → Type 0
-IsLineOf base l = AllByRecursion (λ k. IsId k.variable) l.clause × AllByRecursion (IsSmall base) l.hints
+IsLineOf base l = AllByRecursion (λ k. IsId k.variable) l.clause
+      × AllByRecursion (IsSmall base) l.hints
 
-numbers_at : (d : Bool) (base before : ℕ) (l : LogLine) → IsLineOf base l → base + before + 1 < 2 ^ 62
-    → HasNumbers (if d then Deletion (base + before) (map (λ h. id_of base (name_of h)) l.hints) else Addition (base + before + 1) l.clause (leading_ids base l.hints) (group_ids base l.hints))
-numbers_at true base before l a small = (omega arith, All-from_recursion IsId _ (hint_ids base l.hints a.1))
+numbers_at : (d : Bool) (base before : ℕ) (l : LogLine) → IsLineOf base l
+    → base + before + 1 < 2 ^ 62
+    → HasNumbers (if d then Deletion (base + before) (map (λ h. id_of base (name_of h)) l.hints)
+        else Addition (base + before + 1) l.clause (leading_ids base l.hints)
+        (group_ids base l.hints))
+numbers_at true base before l a small =
+    (omega arith, All-from_recursion IsId _ (hint_ids base l.hints a.1))
 numbers_at false base before l a small = (
   small,
   All-from_recursion (λ k. IsId k.variable) l.clause a.0,
@@ -229,34 +281,44 @@ next_small : (d : Bool) (before : ℕ) → (if d then before else before + 1) �
 next_small true before = omega arith
 next_small false before = omega arith
 
-numbers_on : (base before : ℕ) (ls : List LogLine) → AllByRecursion (IsLineOf base) ls → base + before + length ls < 2 ^ 62 → AllByRecursion HasNumbers (numbered_on base before ls)
+numbers_on : (base before : ℕ) (ls : List LogLine) → AllByRecursion (IsLineOf base) ls
+    → base + before + length ls < 2 ^ 62 → AllByRecursion HasNumbers (numbered_on base before ls)
 numbers_on base before [] a room = tt
 numbers_on base before (l ∷ ls) a room = (
   numbers_at (is_delete l.kind) base before l a.0 (omega arith),
-  numbers_on base (if is_delete l.kind then before else before + 1) ls a.1 (omega (arith, next_small (is_delete l.kind) before)),
+  numbers_on base (if is_delete l.kind then before else before + 1) ls a.1
+    (omega (arith, next_small (is_delete l.kind) before)),
 )
 
-small_hints : (base : ℕ) (hs : List Hint) → All HasNumber hs → All (λ h. id_of base (name_of h) < 2 ^ 62) hs → AllByRecursion (IsSmall base) hs
+small_hints : (base : ℕ) (hs : List Hint) → All HasNumber hs
+    → All (λ h. id_of base (name_of h) < 2 ^ 62) hs → AllByRecursion (IsSmall base) hs
 small_hints base [] p s = tt
 small_hints base (h ∷ hs) p s = (
   ((All-head HasNumber h hs p).0, All-head (λ h. id_of base (name_of h) < 2 ^ 62) h hs s),
-  small_hints base hs (All-tail HasNumber h hs p) (All-tail (λ h. id_of base (name_of h) < 2 ^ 62) h hs s),
+  small_hints base hs (All-tail HasNumber h hs p)
+    (All-tail (λ h. id_of base (name_of h) < 2 ^ 62) h hs s),
 )
 
 abbrev SmallIds : ℕ → LogLine → Type 0
 SmallIds base l = All (λ h. id_of base (name_of h) < 2 ^ 62) l.hints
 
-lines_of_log : (base : ℕ) (ls : List LogLine) → All IsLine ls → All (SmallIds base) ls → AllByRecursion (IsLineOf base) ls
+lines_of_log : (base : ℕ) (ls : List LogLine) → All IsLine ls → All (SmallIds base) ls
+    → AllByRecursion (IsLineOf base) ls
 lines_of_log base [] p s = tt
 lines_of_log base (l ∷ ls) p s =
     let h = All-head IsLine l ls p in (
-      (recursion_from_All (λ k. IsId k.variable) l.clause h.literals, small_hints base l.hints h.names (All-head (SmallIds base) l ls s)),
+      (recursion_from_All (λ k. IsId k.variable) l.clause h.literals,
+          small_hints base l.hints h.names (All-head (SmallIds base) l ls s)),
       lines_of_log base ls (All-tail IsLine l ls p) (All-tail (SmallIds base) l ls s),
     )
 
-pub numbered_lines-numbers : (base : ℕ) (ls : List LogLine) → All IsLine ls → HasSmallIds base ls → base + length ls < 2 ^ 62 → All HasNumbers (numbered_lines base ls)
+pub numbered_lines-numbers : (base : ℕ) (ls : List LogLine) → All IsLine ls → HasSmallIds base ls
+    → base + length ls < 2 ^ 62 → All HasNumbers (numbered_lines base ls)
 numbered_lines-numbers base ls lines small room =
-    All-from_recursion HasNumbers (numbered_lines base ls) (numbers_on base 0 ls (lines_of_log base ls lines small) (omega arith))
+    All-from_recursion HasNumbers (numbered_lines base ls)
+      (numbers_on base 0 ls (lines_of_log base ls lines small) (omega arith))
 
-pub text_of-lines : (base : ℕ) (ls : List LogLine) → All IsLine ls → HasSmallIds base ls → base + length ls < 2 ^ 62 → IsTextOf (text_of base ls) (numbered_lines base ls)
-text_of-lines base ls lines small room = text-lines (numbered_lines base ls) (numbered_lines-numbers base ls lines small room)
+pub text_of-lines : (base : ℕ) (ls : List LogLine) → All IsLine ls → HasSmallIds base ls
+    → base + length ls < 2 ^ 62 → IsTextOf (text_of base ls) (numbered_lines base ls)
+text_of-lines base ls lines small room =
+    text-lines (numbered_lines base ls) (numbered_lines-numbers base ls lines small room)

@@ -1,5 +1,7 @@
 -- What is marked in a table, and clauses whose literals are marked.
-use Rattle.std.proofs.Common.{◌≡◌, ℕ, zero, suc, ◌+◌, ◌-◌, ◌*◌, ◌<◌, ◌≤◌, Bool, true, false, List, [], ◌∷◌, ◌++◌, length, take, get_or, set, replicate, if◌then◌else◌, refl, sym, ◌∙◌, ap, arith, add-one}
+use Rattle.std.proofs.Common.{◌≡◌, ℕ, zero, suc, ◌+◌, ◌-◌, ◌*◌, ◌<◌, ◌≤◌, Bool, true, false, List}
+use Rattle.std.proofs.Common.{[], ◌∷◌, ◌++◌, length, take, get_or, set, replicate, if◌then◌else◌}
+use Rattle.std.proofs.Common.{refl, sym, ◌∙◌, ap, arith, add-one}
 use Rattle.std.specs.Prelude.{All}
 use Rattle.std.proofs.lemmas.List.Elements.{All-head, All-tail}
 use Rattle.wcnf.specs.Literal.{Literal, index_of}
@@ -35,7 +37,8 @@ all_so_far : (marks : List Bool) (c : List Literal) (i : ℕ) (l : Literal) → 
 all_so_far marks [] i l h is m a = absurd (omega arith)
 all_so_far marks (k ∷ c) zero l h is m a = rw (sym (ap (mark_of marks) is) ∙ m) refl
 all_so_far marks (k ∷ c) (suc i) l h is m a =
-    elim (mark_of marks k) as (λ b. (if b then are_marked marks (take i c) else false) ≡ true → (if b then are_marked marks (take (suc i) c) else false) ≡ true) [
+    elim (mark_of marks k) as (λ b. (if b then are_marked marks (take i c) else false) ≡ true
+        → (if b then are_marked marks (take (suc i) c) else false) ≡ true) [
       | true ↦ λ rest. all_so_far marks c i l (omega arith) is m rest
       | false ↦ λ rest. rest
     ] a
@@ -62,4 +65,5 @@ pub marked_subset : (marks : List Bool) (c d : List Literal) → IsMarked marks 
     → All (λ l. 0 < l.variable) c → are_marked marks c ≡ is_subset c d
 marked_subset marks [] d m some = refl
 marked_subset marks (l ∷ c) d m some =
-    (λ i. if m.marked l (All-head (λ l. 0 < l.variable) l c some) i then marked_subset marks c d m (All-tail (λ l. 0 < l.variable) l c some) i else false)
+    (λ i. if m.marked l (All-head (λ l. 0 < l.variable) l c some) i
+        then marked_subset marks c d m (All-tail (λ l. 0 < l.variable) l c some) i else false)

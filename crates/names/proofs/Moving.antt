@@ -23,7 +23,9 @@ pub learned-push : (ls : List LogLine) (l : LogLine) → is_learned l.kind ≡ f
 learned-push ls l e =
     let one : sum_by (λ (k : LogLine). if is_learned k.kind then 1 else 0) (l ∷ []) ≡ 0 =
     rw e refl in
-    let both : learned_count (ls ++ l ∷ []) ≡ learned_count ls + sum_by (λ (k : LogLine). if is_learned k.kind then 1 else 0) (l ∷ []) = sum_by-append (λ (k : LogLine). if is_learned k.kind then 1 else 0) ls (l ∷ []) in
+    let both : learned_count (ls ++ l ∷ []) ≡ learned_count ls + sum_by
+      (λ (k : LogLine). if is_learned k.kind then 1 else 0) (l ∷ []) =
+      sum_by-append (λ (k : LogLine). if is_learned k.kind then 1 else 0) ls (l ∷ []) in
     omega arith
 
 -- the log with one more line that follows by its hints
@@ -42,17 +44,24 @@ pub stays_deleted : (first : ℕ) (given : Given) (ls : List LogLine) (n : Name)
     → ((base : ℕ) → IsBaseOf given base → log_live given base ls (id_of base n) ≡ Some c)
     → StaysLogOver first given (ls ++ delete_line n ∷ [])
 stays_deleted first given ls n c log going live more small = record {
-  steps = delete_line_more given more ls (delete_line n) (record { deletes = refl; distinct = λ base above. one_apart (id_of base n); live = λ base above. ((c, live base above), tt) }) (log more small).steps;
+  steps =
+    delete_line_more given more ls (delete_line n)
+      (record { deletes = refl; distinct = λ base above. one_apart (id_of base n);
+        live = λ base above. ((c, live base above), tt) }) (log more small).steps;
   stops = stops_push ls (delete_line n) going;
-  groups = All-push (λ (k : LogLine). All IsOwnGroup k.hints) ls (delete_line n) (log more small).groups (All-cons IsOwnGroup _ [] tt (All-nil IsOwnGroup));
+  groups =
+    All-push (λ (k : LogLine). All IsOwnGroup k.hints) ls (delete_line n) (log more small).groups
+      (All-cons IsOwnGroup _ [] tt (All-nil IsOwnGroup));
 }
 
 -- a clause is added, with its line
-pub work_added : (first variables : ℕ) (given : Given) (slots : Slots) (names : List Name) (ls : List LogLine) (l : LogLine)
+pub work_added : (first variables : ℕ) (given : Given) (slots : Slots) (names : List Name)
+    (ls : List LogLine) (l : LogLine)
     → IsWork first variables given slots names ls → AddsNoEmptyClause ls
     → IsRupLine given ls l → All IsOwnGroup l.hints → is_learned l.kind ≡ false
     → added_count ls + 1 < 2 ^ 62 → IsFormulaClause variables l.clause
-    → IsWork first variables given (slots ++ Some l.clause ∷ []) (names ++ added_line (added_count ls) ∷ []) (ls ++ l ∷ [])
+    → IsWork first variables given (slots ++ Some l.clause ∷ [])
+      (names ++ added_line (added_count ls) ∷ []) (ls ++ l ∷ [])
 work_added first variables given slots names ls l w going rup own unlearned small clause = record {
   log = stays_added first given ls l w.log going rup own;
   none_learned = learned-push ls l unlearned ∙ w.none_learned;
@@ -64,12 +73,16 @@ work_added first variables given slots names ls l w going rup own unlearned smal
 }
 
 -- a clause is deleted, with its line
-pub work_deleted : (first variables : ℕ) (given : Given) (slots : Slots) (names : List Name) (ls : List LogLine) (r : ℕ) (c : List Literal)
+pub work_deleted : (first variables : ℕ) (given : Given) (slots : Slots) (names : List Name)
+    (ls : List LogLine) (r : ℕ) (c : List Literal)
     → IsWork first variables given slots names ls → AddsNoEmptyClause ls
     → clause_at slots r ≡ Some c
-    → IsWork first variables given (slice_set slots r None) names (ls ++ delete_line (name_at names r) ∷ [])
+    → IsWork first variables given (slice_set slots r None) names
+      (ls ++ delete_line (name_at names r) ∷ [])
 work_deleted first variables given slots names ls r c w going live = record {
-  log = stays_deleted first given ls (name_at names r) c w.log going (λ base above. (w.named.live base above).named r c live);
+  log =
+    stays_deleted first given ls (name_at names r) c w.log going
+      (λ base above. (w.named.live base above).named r c live);
   none_learned = learned-push ls (delete_line (name_at names r)) refl ∙ w.none_learned;
   named = named_deleted given slots names ls r c w.named live;
   clauses = λ s d h. w.clauses s d (clause_left slots r s d h).1;

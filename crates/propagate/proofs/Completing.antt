@@ -1,5 +1,6 @@
 -- A queue that is at its end leaves nothing.
-use Rattle.std.proofs.Common.{◌≡◌, ◌≢◌, ℕ, ◌+◌, ◌<◌, true, false, ◌||◌, List, [], ◌∷◌, ◌++◌, take, length, get_or, Some, ◌⊎◌, inl, inr, refl, sym, ◌∙◌, ap, subst, arith}
+use Rattle.std.proofs.Common.{◌≡◌, ◌≢◌, ℕ, ◌+◌, ◌<◌, true, false, ◌||◌, List, [], ◌∷◌, ◌++◌, take}
+use Rattle.std.proofs.Common.{length, get_or, Some, ◌⊎◌, inl, inr, refl, sym, ◌∙◌, ap, subst, arith}
 use Rattle.std.specs.List.{AllByRecursion}
 use Rattle.std.proofs.lemmas.Bool.{cases_eq, cases_Bool, or_cases, false≢true, both_ways}
 use Rattle.std.proofs.lemmas.List.{take_more, take_all, length-map, get_or_append_left}
@@ -10,7 +11,8 @@ use Rattle.wcnf.proofs.Laws.{literal_eq-true}
 use Rattle.clauses.specs.Slots.{Slots, clause_at}
 use Rattle.watches.specs.declared.pool.Entry.{Entry}
 use Rattle.watches.specs.declared.table.Attachment.{Attachment}
-use Rattle.watches.specs.declared.table.Attachment.TheVariants.{Detached, Waiting, Satisfied, Watching}
+use Rattle.watches.specs.declared.table.Attachment.TheVariants.{Detached, Waiting, Satisfied}
+use Rattle.watches.specs.declared.table.Attachment.TheVariants.{Watching}
 use Rattle.watches.specs.Pool.{row_at}
 use Rattle.watches.specs.Table.{attachment_in}
 use Rattle.propagate.specs.Trail.{Assigned, literals_of, kept_to}
@@ -24,17 +26,23 @@ use Rattle.propagate.proofs.Fitting.{with_progress, true_more}
 use Rattle.propagate.proofs.Attachments.{count-cons, one-same, one-other}
 
 -- a clause of the row is true
-true_from_row : (slots : Slots) (A : List Literal) (row : List Entry) (r : ℕ) (c : List Literal) → 0 < count_in r row → AllByRecursion (IsTrueEntry slots A) row → clause_at slots r ≡ Some c → HasTrue c A
+true_from_row : (slots : Slots) (A : List Literal) (row : List Entry) (r : ℕ) (c : List Literal)
+    → 0 < count_in r row → AllByRecursion (IsTrueEntry slots A) row → clause_at slots r ≡ Some c
+    → HasTrue c A
 true_from_row slots A [] r c n h live = absurd (omega arith)
 true_from_row slots A (x ∷ row) r c n h live = elim (cases_eq x.reference r) [
   | inl same ↦ h.0 c (ap (clause_at slots) same ∙ live)
-  | inr ne ↦ true_from_row slots A row r c (let a = count-cons r x row in let b = one-other x.reference r ne in omega arith) h.1 live
+  | inr ne ↦ true_from_row slots A row r c (let a = count-cons r x row in
+      let b = one-other x.reference r ne in omega arith) h.1 live
 ]
 
-watch_advance : (e : EngineState) (slots : Slots) (w d : Literal) (r : ℕ) (c : List Literal) (x : Literal) → Fits e slots → e.watches.qhead < length e.trail
+watch_advance : (e : EngineState) (slots : Slots) (w d : Literal) (r : ℕ) (c : List Literal)
+    (x : Literal) → Fits e slots → e.watches.qhead < length e.trail
     → w ≡ negation (get_or (literals_of e.trail) e.watches.qhead d)
     → AllByRecursion (IsTrueEntry slots (literals_of e.trail)) (row_at e.watches.rows (index_of w))
-    → clause_at slots r ≡ Some c → 0 < watches_at (attachment_in e.watches.table r) (index_of x) → IsWatch e c x → IsWatch (with_progress e e.trail e.watches.stable_qhead (e.watches.qhead + 1)) c x
+    → clause_at slots r ≡ Some c → 0 < watches_at (attachment_in e.watches.table r) (index_of x)
+    → IsWatch e c x → IsWatch (with_progress e e.trail e.watches.stable_qhead (e.watches.qhead + 1))
+      c x
 watch_advance e slots w d r c x fits lt at row live n h =
     let A = literals_of e.trail in
     let p = e.watches.qhead in
@@ -44,38 +52,56 @@ watch_advance e slots w d r c x fits lt at row live n h =
       member = h.member;
       covered = λ m.
           let m' : (contains_literal (negation x) (take p A) || literal_eq (negation x) l) ≡ true =
-          sym (contains-push (negation x) (take p A) l) ∙ ap (contains_literal (negation x)) (sym (take_more A p d (omega arith))) ∙ m in
-          elim (or_cases (contains_literal (negation x) (take p A)) (literal_eq (negation x) l) m') as (λ _. HasTrue c A) [
+          sym (contains-push (negation x) (take p A) l)
+            ∙ ap (contains_literal (negation x)) (sym (take_more A p d (omega arith))) ∙ m in
+          elim (or_cases (contains_literal (negation x) (take p A)) (literal_eq (negation x) l) m')
+            as (λ _. HasTrue c A) [
             | inl before ↦ h.covered before
             | inr now ↦
-                let same : x ≡ w = sym (negation_twice x) ∙ ap negation (literal_eq-true (negation x) l now) ∙ sym at in
-                let n' : 0 < count_in r (row_at e.watches.rows (index_of w)) = subst (λ k. 0 < k) (sym (fits.rows (index_of w) r)) (subst (λ z. 0 < watches_at (attachment_in e.watches.table r) (index_of z)) same n) in
+                let same : x ≡ w =
+                  sym (negation_twice x) ∙ ap negation (literal_eq-true (negation x) l now)
+                    ∙ sym at in
+                let n' : 0 < count_in r (row_at e.watches.rows (index_of w)) =
+                  subst (λ k. 0 < k) (sym (fits.rows (index_of w) r))
+                    (subst (λ z. 0 < watches_at (attachment_in e.watches.table r) (index_of z)) same
+                    n) in
                 true_from_row slots A (row_at e.watches.rows (index_of w)) r c n' row live
           ];
       stays = h.stays;
     }
 
-attachment_advance : (e : EngineState) (slots : Slots) (w d : Literal) (r : ℕ) (c : List Literal) (p : Attachment) → p ≡ attachment_in e.watches.table r → Fits e slots → e.watches.qhead < length e.trail
+attachment_advance : (e : EngineState) (slots : Slots) (w d : Literal) (r : ℕ) (c : List Literal)
+    (p : Attachment) → p ≡ attachment_in e.watches.table r → Fits e slots
+    → e.watches.qhead < length e.trail
     → w ≡ negation (get_or (literals_of e.trail) e.watches.qhead d)
     → AllByRecursion (IsTrueEntry slots (literals_of e.trail)) (row_at e.watches.rows (index_of w))
-    → clause_at slots r ≡ Some c → FitsAttachment e c p → FitsAttachment (with_progress e e.trail e.watches.stable_qhead (e.watches.qhead + 1)) c p
+    → clause_at slots r ≡ Some c → FitsAttachment e c p
+    → FitsAttachment (with_progress e e.trail e.watches.stable_qhead (e.watches.qhead + 1)) c p
 attachment_advance e slots w d r c Detached same fits lt at row live h = h
 attachment_advance e slots w d r c Waiting same fits lt at row live h = h
 attachment_advance e slots w d r c Satisfied same fits lt at row live h = h
 attachment_advance e slots w d r c (Watching one other rest) same fits lt at row live h = (
   h.0,
-  watch_advance e slots w d r c one fits lt at row live (subst (λ z. 0 < watches_at z (index_of one)) same (let a = one-same (index_of one) (index_of one) refl in omega arith)) h.1,
-  watch_advance e slots w d r c other fits lt at row live (subst (λ z. 0 < watches_at z (index_of other)) same (let a = one-same (index_of other) (index_of other) refl in omega arith)) h.2,
+  watch_advance e slots w d r c one fits lt at row live
+    (subst (λ z. 0 < watches_at z (index_of one)) same
+      (let a = one-same (index_of one) (index_of one) refl in omega arith)) h.1,
+  watch_advance e slots w d r c other fits lt at row live
+    (subst (λ z. 0 < watches_at z (index_of other)) same
+      (let a = one-same (index_of other) (index_of other) refl in omega arith)) h.2,
   h.3,
 )
 
 -- one more literal was looked at
-pub fits_advance : (e : EngineState) (slots : Slots) (w d : Literal) → e.watches.qhead < length e.trail
+pub fits_advance : (e : EngineState) (slots : Slots) (w d : Literal)
+    → e.watches.qhead < length e.trail
     → w ≡ negation (get_or (literals_of e.trail) e.watches.qhead d)
     → AllByRecursion (IsTrueEntry slots (literals_of e.trail)) (row_at e.watches.rows (index_of w))
-    → Fits e slots → Fits (with_progress e e.trail e.watches.stable_qhead (e.watches.qhead + 1)) slots
+    → Fits e slots → Fits (with_progress e e.trail e.watches.stable_qhead (e.watches.qhead + 1))
+      slots
 fits_advance e slots w d lt at row fits = record {
-  attached = λ r h. let f = fits.attached r h in (f.0, f.1, (f.2.0, attachment_advance e slots w d r f.0 (attachment_in e.watches.table r) refl fits lt at row f.1 f.2.1));
+  attached = λ r h. let f = fits.attached r h in
+    (f.0, f.1, (f.2.0, attachment_advance e slots w d r f.0 (attachment_in e.watches.table r) refl
+        fits lt at row f.1 f.2.1));
   reasons = fits.reasons;
   reasons_attached = fits.reasons_attached;
   small = fits.small;
@@ -84,7 +110,8 @@ fits_advance e slots w d lt at row fits = record {
   blockers = fits.blockers;
 }
 
-all_at : (P : Literal → Type 0) (c : List Literal) (k : Literal) → AllByRecursion P c → contains_literal k c ≡ true → P k
+all_at : (P : Literal → Type 0) (c : List Literal) (k : Literal) → AllByRecursion P c
+    → contains_literal k c ≡ true → P k
 all_at P [] k h e = absurd (false≢true e)
 all_at P (x ∷ c) k h e = elim (or_cases (literal_eq k x) (contains_literal k c) e) [
   | inl same ↦ subst P (sym (literal_eq-true k x same)) h.0
@@ -98,39 +125,54 @@ IsDone c A = (IsFalseUnder c A → ⊥) × ((l : Literal) → IsUnit c A l → �
 true_done : (c A : List Literal) → NoOpposites A → HasTrue c A → IsDone c A
 true_done c A apart h = (
   (λ f. apart h.0 h.2 (all_at (λ l. contains_literal (negation l) A ≡ true) c h.0 f h.1)),
-  (λ l u. elim (all_at (λ k. (k ≡ l) ⊎ (contains_literal (negation k) A ≡ true)) c h.0 u.others h.1) [
+  (λ l u. elim (all_at (λ k. (k ≡ l) ⊎ (contains_literal (negation k) A ≡ true)) c h.0 u.others h.1)
+      [
     | inl same ↦ both_ways _ u.not_true (subst (λ z. contains_literal z A ≡ true) same h.2)
     | inr contrary ↦ apart h.0 h.2 contrary
   ]),
 )
 
 -- neither is one with two literals that are not false
-two_done : (c A : List Literal) (one other : Literal) → one ≢ other → contains_literal one c ≡ true → contains_literal other c ≡ true
-    → contains_literal (negation one) A ≡ false → contains_literal (negation other) A ≡ false → IsDone c A
+two_done : (c A : List Literal) (one other : Literal) → one ≢ other → contains_literal one c ≡ true
+    → contains_literal other c ≡ true
+    → contains_literal (negation one) A ≡ false → contains_literal (negation other) A ≡ false
+    → IsDone c A
 two_done c A one other ne m n a b = (
   (λ f. both_ways _ a (all_at (λ l. contains_literal (negation l) A ≡ true) c one f m)),
   (λ l u.
       elim (all_at (λ k. (k ≡ l) ⊎ (contains_literal (negation k) A ≡ true)) c one u.others m) [
         | inr contrary ↦ both_ways _ a contrary
-        | inl first ↦ elim (all_at (λ k. (k ≡ l) ⊎ (contains_literal (negation k) A ≡ true)) c other u.others n) [
+        | inl first ↦ elim (all_at (λ k. (k ≡ l) ⊎ (contains_literal (negation k) A ≡ true)) c other
+            u.others n) [
           | inr contrary ↦ both_ways _ b contrary
           | inl second ↦ ne (first ∙ sym second)
         ]
       ]),
 )
 
-covered_now : (e : EngineState) (c : List Literal) (x : Literal) → e.watches.qhead ≡ length e.trail → IsWatch e c x → contains_literal (negation x) (literals_of e.trail) ≡ true → HasTrue c (literals_of e.trail)
+covered_now : (e : EngineState) (c : List Literal) (x : Literal) → e.watches.qhead ≡ length e.trail
+    → IsWatch e c x → contains_literal (negation x) (literals_of e.trail) ≡ true
+    → HasTrue c (literals_of e.trail)
 covered_now e c x all h m =
-    h.covered (subst (λ X. contains_literal (negation x) X ≡ true) (sym (take_all e.watches.qhead (literals_of e.trail) (let long = length-map e.trail (λ (a : Assigned). a.literal) in omega arith))) m)
+    h.covered (subst (λ X. contains_literal (negation x) X ≡ true)
+        (sym (take_all e.watches.qhead (literals_of e.trail)
+            (let long = length-map e.trail (λ (a : Assigned). a.literal) in omega arith))) m)
 
-attachment_done : (e : EngineState) (slots : Slots) (r : ℕ) (c : List Literal) (p : Attachment) → p ≡ attachment_in e.watches.table r → NoOpposites (literals_of e.trail) → e.watches.qhead ≡ length e.trail
-    → AreTrueWaiting slots e → clause_at slots r ≡ Some c → FitsAttachment e c p → IsDone c (literals_of e.trail)
+attachment_done : (e : EngineState) (slots : Slots) (r : ℕ) (c : List Literal) (p : Attachment)
+    → p ≡ attachment_in e.watches.table r → NoOpposites (literals_of e.trail)
+    → e.watches.qhead ≡ length e.trail
+    → AreTrueWaiting slots e → clause_at slots r ≡ Some c → FitsAttachment e c p
+    → IsDone c (literals_of e.trail)
 attachment_done e slots r c Detached same apart all waiting live h = absurd h
-attachment_done e slots r c Waiting same apart all waiting live h = true_done c (literals_of e.trail) apart (waiting r c (sym same) live)
+attachment_done e slots r c Waiting same apart all waiting live h =
+    true_done c (literals_of e.trail) apart (waiting r c (sym same) live)
 attachment_done e slots r c Satisfied same apart all waiting live h =
     let p = kept_prefix 0 e.trail in
-    true_done c (literals_of e.trail) apart (true_more c (literals_of (kept_to 0 e.trail)) (literals_of e.trail)
-    (λ l m. subst (λ X. contains_literal l X ≡ true) (sym (ap literals_of p.1 ∙ literals-append (kept_to 0 e.trail) p.0)) (contains_front l (literals_of (kept_to 0 e.trail)) (literals_of p.0) m)) h)
+    true_done c (literals_of e.trail) apart
+      (true_more c (literals_of (kept_to 0 e.trail)) (literals_of e.trail)
+    (λ l m. subst (λ X. contains_literal l X ≡ true)
+        (sym (ap literals_of p.1 ∙ literals-append (kept_to 0 e.trail) p.0))
+        (contains_front l (literals_of (kept_to 0 e.trail)) (literals_of p.0) m)) h)
 attachment_done e slots r c (Watching one other rest) same apart all waiting live h =
     let A = literals_of e.trail in
     elim (cases_Bool (contains_literal (negation one) A)) as (λ _. IsDone c A) [
@@ -141,14 +183,20 @@ attachment_done e slots r c (Watching one other rest) same apart all waiting liv
       ]
     ]
 
-pub complete : (e : EngineState) (slots : Slots) → e.watches.qhead ≡ length e.trail → AreTrueWaiting slots e → Fits e slots → IsComplete slots (is_attached e) e.trail
+pub complete : (e : EngineState) (slots : Slots) → e.watches.qhead ≡ length e.trail
+    → AreTrueWaiting slots e → Fits e slots → IsComplete slots (is_attached e) e.trail
 complete e slots all waiting fits = λ r c attached live.
     let f = fits.attached r attached in
     let same : f.0 ≡ c = cc (f.1, live) in
     subst (λ x. IsDone x (literals_of e.trail)) same
-    (attachment_done e slots r f.0 (attachment_in e.watches.table r) refl (no_opposites (clause_at slots) e.trail fits.reasons) all waiting f.1 f.2.1)
+    (attachment_done e slots r f.0 (attachment_in e.watches.table r) refl
+        (no_opposites (clause_at slots) e.trail fits.reasons) all waiting f.1 f.2.1)
 
-pub grown_at : (T U more : List Assigned) (p q : ℕ) (d w : Literal) → U ≡ T ++ more → q ≡ p → p < length T → w ≡ negation (get_or (literals_of T) p d) → w ≡ negation (get_or (literals_of U) q d)
+pub grown_at : (T U more : List Assigned) (p q : ℕ) (d w : Literal) → U ≡ T ++ more → q ≡ p
+    → p < length T → w ≡ negation (get_or (literals_of T) p d)
+    → w ≡ negation (get_or (literals_of U) q d)
 grown_at T U more p q d w e f lt at =
-    at ∙ ap negation (sym (get_or_append_left (literals_of T) (literals_of more) d p (let long = length-map T (λ (a : Assigned). a.literal) in omega arith))
-    ∙ ap (λ X. get_or X p d) (sym (literals-append T more)) ∙ ap (λ X. get_or (literals_of X) p d) (sym e) ∙ ap (λ k. get_or (literals_of U) k d) (sym f))
+    at ∙ ap negation (sym (get_or_append_left (literals_of T) (literals_of more) d p
+          (let long = length-map T (λ (a : Assigned). a.literal) in omega arith))
+    ∙ ap (λ X. get_or X p d) (sym (literals-append T more))
+    ∙ ap (λ X. get_or (literals_of X) p d) (sym e) ∙ ap (λ k. get_or (literals_of U) k d) (sym f))

@@ -1,5 +1,6 @@
 -- Small changes one after another.
-use Rattle.std.proofs.Common.{◌≡◌, ℕ, true, false, List, [], ◌∷◌, ◌++◌, set, Some, inl, inr, refl, sym, ◌∙◌, ap, append_assoc}
+use Rattle.std.proofs.Common.{◌≡◌, ℕ, true, false, List, [], ◌∷◌, ◌++◌, set, Some, inl, inr, refl}
+use Rattle.std.proofs.Common.{sym, ◌∙◌, ap, append_assoc}
 use Rattle.std.proofs.lemmas.Bool.{cases_eq}
 use Rattle.std.proofs.lemmas.List.{append-nil}
 use Rattle.wcnf.specs.Literal.{Literal}
@@ -45,11 +46,13 @@ continues_then e f g a b = record {
 }
 
 -- only rows and the waiting list change
-pub continues_rows : (e : EngineState) (R : List (List Entry)) (w : List ℕ) → Continues e (with_watches e e.watches.table R w)
+pub continues_rows : (e : EngineState) (R : List (List Entry)) (w : List ℕ)
+    → Continues e (with_watches e e.watches.table R w)
 continues_rows e R w = continues_beside e _ refl refl refl refl
 
 -- a literal becomes true, and rows change
-pub continues_unit : (e : EngineState) (l : Literal) (r : ℕ) → Continues e (with_trail e (e.trail ++ made l (Some r) ∷ []))
+pub continues_unit : (e : EngineState) (l : Literal) (r : ℕ)
+    → Continues e (with_trail e (e.trail ++ made l (Some r) ∷ []))
 continues_unit e l r = record {
   more = made l (Some r) ∷ [];
   grown = refl;
@@ -61,7 +64,8 @@ continues_unit e l r = record {
 }
 
 -- an attached clause gets a place
-pub continues_attachment : (e : EngineState) (r : ℕ) (p : Attachment) (R : List (List Entry)) → is_attached e r ≡ true → is_kept p ≡ true → (p ≡ Waiting → ⊥)
+pub continues_attachment : (e : EngineState) (r : ℕ) (p : Attachment) (R : List (List Entry))
+    → is_attached e r ≡ true → is_kept p ≡ true → (p ≡ Waiting → ⊥)
     → Continues e (with_watches e (set e.watches.table r p) R e.watches.waiting)
 continues_attachment e r p R was kept new =
     let here = attachment_set_same e.watches.table r p (kept_within e.watches.table r was) in
@@ -72,11 +76,13 @@ continues_attachment e r p R was kept new =
       variables = refl;
       failed = refl;
       attached = λ q. elim (cases_eq q r) [
-        | inl same ↦ ap (λ z. is_kept (attachment_in (set e.watches.table r p) z)) same ∙ ap is_kept here ∙ kept ∙ sym (ap (is_attached e) same ∙ was)
+        | inl same ↦ ap (λ z. is_kept (attachment_in (set e.watches.table r p) z)) same
+          ∙ ap is_kept here ∙ kept ∙ sym (ap (is_attached e) same ∙ was)
         | inr ne ↦ ap is_kept (attachment_set_other e.watches.table r q p ne)
       ];
       waiting = λ q h. elim (cases_eq q r) [
-        | inl same ↦ absurd (new (sym (ap (attachment_in (set e.watches.table r p)) same ∙ here) ∙ h))
+        | inl same ↦ absurd (new (sym (ap (attachment_in (set e.watches.table r p)) same ∙ here)
+              ∙ h))
         | inr ne ↦ sym (attachment_set_other e.watches.table r q p ne) ∙ h
       ];
     }

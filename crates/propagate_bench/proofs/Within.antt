@@ -7,7 +7,8 @@ use Rattle.wcnf.specs.Clause.{greatest_variable}
 use Rattle.propagate.specs.Watches.{IsVariable}
 use Rattle.propagate.specs.Fits.{IsWithin}
 
-named : (v : ℕ) (c : List Literal) → AllByRecursion (IsVariable v) c → AllByRecursion (λ l. 0 < l.variable) c
+named : (v : ℕ) (c : List Literal) → AllByRecursion (IsVariable v) c
+    → AllByRecursion (λ l. 0 < l.variable) c
 named v [] h = tt
 named v (l ∷ c) h = (h.0.0, named v c h.1)
 

@@ -1,5 +1,6 @@
 -- A line of words, a number and a line feed, as it is put together.
-use Rattle.std.proofs.Common.{ℕ, List, [], ◌++◌, Option, refl, sym, ◌∙◌, ap, subst, append_assoc, append-nil}
+use Rattle.std.proofs.Common.{ℕ, List, [], ◌++◌, Option, refl, sym, ◌∙◌, ap, subst, append_assoc}
+use Rattle.std.proofs.Common.{append-nil}
 use Rattle.std.specs.Io.KnownBytes.{Appends}
 use Rattle.wcnf.specs.Writing.{PassesOn, AppendsPart}
 use Rattle.wcnf.proofs.Laws.{first_fault, passed-more, passed_fault, passed_part, passed_whole}
@@ -17,11 +18,15 @@ module _ (a b : Option (List ℕ)) (x d e : List ℕ) where
       numbered = passed-more a b c [] i j x d p q
 
       pub end_fault : AppendsPart c f (j ++ e) → AppendsPart a f (x ++ (d ++ e))
-      end_fault h = passed_fault a c f [] j (x ++ d) e [] (x ++ (d ++ e)) numbered h (sym (append_assoc x d e) ∙ ap (λ z. (x ++ d) ++ z) (sym (append-nil e)))
+      end_fault h =
+        passed_fault a c f [] j (x ++ d) e [] (x ++ (d ++ e)) numbered h (sym (append_assoc x d e)
+          ∙ ap (λ z. (x ++ d) ++ z) (sym (append-nil e)))
 
       module _ (g : Option (List ℕ)) (k : List ℕ) (r : PassesOn c j e f k) where
         ended : PassesOn a [] (x ++ (d ++ e)) f k
-        ended = subst (λ z. PassesOn a [] z f k) (append_assoc x d e) (passed-more a c f [] j k (x ++ d) e numbered r)
+        ended =
+          subst (λ z. PassesOn a [] z f k) (append_assoc x d e)
+            (passed-more a c f [] j k (x ++ d) e numbered r)
 
         pub line_whole : Appends f g k → Appends a g (x ++ (d ++ e))
         line_whole h = passed_whole a f g [] k (x ++ (d ++ e)) ended h

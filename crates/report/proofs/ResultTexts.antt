@@ -1,5 +1,6 @@
 -- The text of a result: its parts, and what it says.
-use Rattle.std.proofs.Common.{◌≡◌, ℕ, ◌<◌, ◌≤◌, ◌^◌, Bool, true, false, not, List, [], ◌∷◌, ◌++◌, map, refl, sym, ◌∙◌, ap, arith, append_assoc, append-nil}
+use Rattle.std.proofs.Common.{◌≡◌, ℕ, ◌<◌, ◌≤◌, ◌^◌, Bool, true, false, not, List, [], ◌∷◌, ◌++◌}
+use Rattle.std.proofs.Common.{map, refl, sym, ◌∙◌, ap, arith, append_assoc, append-nil}
 use Rattle.std.specs.Prelude.{filter}
 use Rattle.std.specs.List.{flat_map, AllByRecursion}
 use Rattle.std.proofs.lemmas.Grind.{flat_map-append}
@@ -9,7 +10,9 @@ use Rattle.std.proofs.lemmas.List.Folds.{flat_map-map}
 use lib.Chars.{codes}
 use Rattle.wcnf.specs.Writing.{spaced}
 use Rattle.lrat_log.proofs.Laws.{IsWord, token_lines-spaced, decimal_word}
-use Rattle.lrat_check.specs.Result.{Said, OptimumFound, Unsatisfiable, Satisfiable, Unknown, FallsTo, Says, fall_to, cost_tokens, digit_of, bits_tokens, is_ignored, result_lines}
+use Rattle.lrat_check.specs.Result.{Said, OptimumFound, Unsatisfiable, Satisfiable, Unknown}
+use Rattle.lrat_check.specs.Result.{FallsTo, Says, fall_to, cost_tokens, digit_of, bits_tokens}
+use Rattle.lrat_check.specs.Result.{is_ignored, result_lines}
 use Rattle.improve.specs.Improving.{AreFalling}
 use Rattle.report.specs.Telling.{cost_lines}
 use Rattle.report.specs.Running.{result_text}
@@ -18,24 +21,40 @@ use Rattle.report.specs.Answering.{digits_text, bits_word, words_text}
 -- the line of the bits
 bits_line : (bits : List Bool) → spaced (bits_tokens bits) ≡ words_text (bits_word bits) bits
 bits_line [] = refl
-bits_line (b ∷ bits) = ap (λ z. 118 ∷ 32 ∷ digit_of b ∷ (z ++ 10 ∷ [])) (sym (flat_map_single digit_of bits))
+bits_line (b ∷ bits) =
+    ap (λ z. 118 ∷ 32 ∷ digit_of b ∷ (z ++ 10 ∷ [])) (sym (flat_map_single digit_of bits))
 
 -- the result with a cost and bits, where its status is spelled so
-with_bits_text : (before : List ℕ) (c : ℕ) (bits : List Bool) (status : List (List ℕ)) (words : List ℕ) → spaced status ≡ words
-    → flat_map spaced (map cost_tokens before ++ cost_tokens c ∷ status ∷ bits_tokens bits ∷ []) ≡ cost_lines (before ++ c ∷ []) ++ words_text (words ++ bits_word bits) bits
+with_bits_text : (before : List ℕ) (c : ℕ) (bits : List Bool) (status : List (List ℕ))
+    (words : List ℕ) → spaced status ≡ words
+    → flat_map spaced (map cost_tokens before ++ cost_tokens c ∷ status ∷ bits_tokens bits ∷ [])
+        ≡ cost_lines (before ++ c ∷ []) ++ words_text (words ++ bits_word bits) bits
 with_bits_text before c bits status words e =
     let tail : List ℕ = spaced (bits_tokens bits) ++ [] in
     flat_map-append spaced (map cost_tokens before) (cost_tokens c ∷ status ∷ bits_tokens bits ∷ [])
-    ∙ ap (λ z. z ++ (spaced (cost_tokens c) ++ (spaced status ++ tail))) (flat_map-map spaced cost_tokens before)
+    ∙ ap (λ z. z ++ (spaced (cost_tokens c) ++ (spaced status ++ tail)))
+      (flat_map-map spaced cost_tokens before)
     ∙ sym (append_assoc (cost_lines before) (spaced (cost_tokens c)) (spaced status ++ tail))
-    ∙ ap (λ z. z ++ (spaced status ++ tail)) (ap (λ z. cost_lines before ++ z) (sym (append-nil (spaced (cost_tokens c)))) ∙ sym (flat_map-append (λ d. spaced (cost_tokens d)) before (c ∷ [])))
-    ∙ ap (λ z. cost_lines (before ++ c ∷ []) ++ z) (ap (λ z. z ++ tail) e ∙ ap (λ z. words ++ z) (append-nil (spaced (bits_tokens bits)) ∙ bits_line bits) ∙ sym (append_assoc words (bits_word bits) (digits_text bits ++ codes "\n")))
+    ∙ ap (λ z. z ++ (spaced status ++ tail))
+      (ap (λ z. cost_lines before ++ z) (sym (append-nil (spaced (cost_tokens c))))
+        ∙ sym (flat_map-append (λ d. spaced (cost_tokens d)) before (c ∷ [])))
+    ∙ ap (λ z. cost_lines (before ++ c ∷ []) ++ z) (ap (λ z. z ++ tail) e
+        ∙ ap (λ z. words ++ z) (append-nil (spaced (bits_tokens bits)) ∙ bits_line bits)
+        ∙ sym (append_assoc words (bits_word bits) (digits_text bits ++ codes "\n")))
 
-pub optimum_text : (before : List ℕ) (c : ℕ) (bits : List Bool) → result_text before (OptimumFound c bits) ≡ cost_lines (before ++ c ∷ []) ++ words_text (codes "s OPTIMUM FOUND\n" ++ bits_word bits) bits
-optimum_text before c bits = with_bits_text before c bits (codes "s" ∷ codes "OPTIMUM" ∷ codes "FOUND" ∷ []) (codes "s OPTIMUM FOUND\n") refl
+pub optimum_text : (before : List ℕ) (c : ℕ) (bits : List Bool)
+    → result_text before (OptimumFound c bits) ≡ cost_lines (before ++ c ∷ []) ++ words_text
+    (codes "s OPTIMUM FOUND\n" ++ bits_word bits) bits
+optimum_text before c bits =
+    with_bits_text before c bits (codes "s" ∷ codes "OPTIMUM" ∷ codes "FOUND" ∷ [])
+      (codes "s OPTIMUM FOUND\n") refl
 
-pub satisfiable_text : (before : List ℕ) (c : ℕ) (bits : List Bool) → result_text before (Satisfiable c bits) ≡ cost_lines (before ++ c ∷ []) ++ words_text (codes "s SATISFIABLE\n" ++ bits_word bits) bits
-satisfiable_text before c bits = with_bits_text before c bits (codes "s" ∷ codes "SATISFIABLE" ∷ []) (codes "s SATISFIABLE\n") refl
+pub satisfiable_text : (before : List ℕ) (c : ℕ) (bits : List Bool)
+    → result_text before (Satisfiable c bits) ≡ cost_lines (before ++ c ∷ []) ++ words_text
+    (codes "s SATISFIABLE\n" ++ bits_word bits) bits
+satisfiable_text before c bits =
+    with_bits_text before c bits (codes "s" ∷ codes "SATISFIABLE" ∷ [])
+      (codes "s SATISFIABLE\n") refl
 
 -- costs that fall
 pub falls_to : (before : List ℕ) (c : ℕ) → AreFalling (before ++ c ∷ []) → fall_to before c
@@ -60,32 +79,56 @@ bits_words (false ∷ bits) = (((omega arith, tt), ((omega arith, digits_word bi
 cost_words : (c : ℕ) → c < 2 ^ 62 → IsTold (cost_tokens c)
 cost_words c h = (((omega arith, tt), (decimal_word c h, tt)), refl)
 
-all_told : (costs : List ℕ) (more : List (List (List ℕ))) → AllByRecursion (λ c. c < 2 ^ 62) costs → AllByRecursion IsTold more → AllByRecursion IsTold (map cost_tokens costs ++ more)
+all_told : (costs : List ℕ) (more : List (List (List ℕ))) → AllByRecursion (λ c. c < 2 ^ 62) costs
+    → AllByRecursion IsTold more → AllByRecursion IsTold (map cost_tokens costs ++ more)
 all_told [] more h k = k
 all_told (c ∷ costs) more h k = (cost_words c h.0, all_told costs more h.1 k)
 
-words_of : (tss : List (List (List ℕ))) → AllByRecursion IsTold tss → AllByRecursion (AllByRecursion IsWord) tss
+words_of : (tss : List (List (List ℕ))) → AllByRecursion IsTold tss
+    → AllByRecursion (AllByRecursion IsWord) tss
 words_of [] h = tt
 words_of (ts ∷ tss) h = (h.0.0, words_of tss h.1)
 
-kept : (tss : List (List (List ℕ))) → AllByRecursion IsTold tss → filter (λ l. not (is_ignored l)) tss ≡ tss
+kept : (tss : List (List (List ℕ))) → AllByRecursion IsTold tss
+    → filter (λ l. not (is_ignored l)) tss ≡ tss
 kept [] h = refl
 kept (ts ∷ tss) h = rw h.0.1 (ap (λ z. ts ∷ z) (kept tss h.1))
 
-lines_back : (tss : List (List (List ℕ))) → AllByRecursion IsTold tss → result_lines (flat_map spaced tss) ≡ tss
-lines_back tss h = ap (filter (λ l. not (is_ignored l))) (token_lines-spaced tss (words_of tss h)) ∙ kept tss h
+lines_back : (tss : List (List (List ℕ))) → AllByRecursion IsTold tss
+    → result_lines (flat_map spaced tss) ≡ tss
+lines_back tss h = ap (filter (λ l. not (is_ignored l))) (token_lines-spaced tss (words_of tss h))
+    ∙ kept tss h
 
-front_all : (P : ℕ → Type 0) (xs : List ℕ) (c : ℕ) → AllByRecursion P (xs ++ c ∷ []) → AllByRecursion P xs × P c
+front_all : (P : ℕ → Type 0) (xs : List ℕ) (c : ℕ) → AllByRecursion P (xs ++ c ∷ [])
+    → AllByRecursion P xs × P c
 front_all P [] c h = (tt, h.0)
 front_all P (x ∷ xs) c h = let k = front_all P xs c h.1 in ((h.0, k.0), k.1)
 
 -- a result that is spelled so says so
-pub text_says : (before : List ℕ) (said : Said) → FallsTo before said → Says (result_text before said) said
+pub text_says : (before : List ℕ) (said : Said) → FallsTo before said
+    → Says (result_text before said) said
 text_says before (OptimumFound c bits) h =
-    let k = front_all (λ d. d < 2 ^ 62) before c (recursion_from_All (λ d. d < 2 ^ 62) (before ++ c ∷ []) h.1) in
-    (before, h, lines_back _ (all_told before _ k.0 (cost_words c k.1, ((((omega arith, tt), ((omega arith, (omega arith, (omega arith, (omega arith, (omega arith, (omega arith, (omega arith, tt))))))), ((omega arith, (omega arith, (omega arith, (omega arith, (omega arith, tt))))), tt))), refl), (bits_words bits, tt)))))
+    let k =
+      front_all (λ d. d < 2 ^ 62) before c
+        (recursion_from_All (λ d. d < 2 ^ 62) (before ++ c ∷ []) h.1) in
+    (before, h, lines_back _
+        (all_told before _ k.0 (cost_words c k.1,
+            ((((omega arith, tt),
+                ((omega arith, (omega arith,
+                (omega arith, (omega arith, (omega arith, (omega arith, (omega arith, tt))))))),
+                ((omega arith, (omega arith, (omega arith, (omega arith, (omega arith, tt))))),
+                tt))), refl), (bits_words bits, tt)))))
 text_says before (Satisfiable c bits) h =
-    let k = front_all (λ d. d < 2 ^ 62) before c (recursion_from_All (λ d. d < 2 ^ 62) (before ++ c ∷ []) h.1) in
-    (before, h, lines_back _ (all_told before _ k.0 (cost_words c k.1, ((((omega arith, tt), ((omega arith, (omega arith, (omega arith, (omega arith, (omega arith, (omega arith, (omega arith, (omega arith, (omega arith, (omega arith, (omega arith, tt))))))))))), tt)), refl), (bits_words bits, tt)))))
+    let k =
+      front_all (λ d. d < 2 ^ 62) before c
+        (recursion_from_All (λ d. d < 2 ^ 62) (before ++ c ∷ []) h.1) in
+    (before, h, lines_back _
+        (all_told before _ k.0 (cost_words c k.1,
+            ((((omega arith, tt),
+                ((omega arith, (omega arith,
+                (omega arith, (omega arith,
+                (omega arith, (omega arith,
+                (omega arith, (omega arith, (omega arith, (omega arith, (omega arith, tt))))))))))),
+                tt)), refl), (bits_words bits, tt)))))
 text_says before Unsatisfiable h = (before, h, refl)
 text_says before Unknown h = (before, h, refl)

@@ -1,5 +1,6 @@
 -- Numbers that are told exactly up to a bound, read digit by digit.
-use Rattle.std.proofs.Common.{◌≡◌, ℕ, ◌+◌, ◌-◌, ◌*◌, ◌≤◌, ◌<◌, true, List, [], ◌∷◌, ◌++◌, inl, inr, refl, sym, ◌∙◌, ap, arith, length, get_or, take}
+use Rattle.std.proofs.Common.{◌≡◌, ℕ, ◌+◌, ◌-◌, ◌*◌, ◌≤◌, ◌<◌, true, List, [], ◌∷◌, ◌++◌, inl, inr}
+use Rattle.std.proofs.Common.{refl, sym, ◌∙◌, ap, arith, length, get_or, take}
 use Rattle.std.specs.List.{list_all}
 use Rattle.std.proofs.lemmas.Bool.{cases_lt, le-leb, lt-leb, cond-true, cond-false}
 use Rattle.std.proofs.lemmas.List.{take_more, get_or_default}
@@ -16,7 +17,8 @@ capped-high n l = cond-false _ n 4611686018427387905 (lt-leb n 46116860184273879
 pub capped-digit : (v d : ℕ) → capped (10 * capped v + d) ≡ capped (10 * v + d)
 capped-digit v d =
     elim (cases_lt 4611686018427387904 v) [
-      | inl high ↦ rw (capped-high v high) (capped-high (10 * 4611686018427387905 + d) (omega arith) ∙ sym (capped-high (10 * v + d) (omega arith)))
+      | inl high ↦ rw (capped-high v high) (capped-high (10 * 4611686018427387905 + d) (omega arith)
+          ∙ sym (capped-high (10 * v + d) (omega arith)))
       | inr low ↦ ap (λ n. capped (10 * n + d)) (capped-low v low)
     ]
 
@@ -29,9 +31,13 @@ value_on-push n (c ∷ cs) b = value_on-push (10 * n + (c - 48)) cs b
 pub capped-more : (ds : List ℕ) (i v d w : ℕ) → i < length ds → v ≡ capped (value_on 0 (take i ds))
     → d ≡ get_or ds i 0 → w ≡ capped (10 * v + (d - 48)) → w ≡ capped (value_on 0 (take (i + 1) ds))
 capped-more ds i v d w l before here after =
-    after ∙ ap (λ n. capped (10 * n + (d - 48))) before ∙ capped-digit (value_on 0 (take i ds)) (d - 48)
-    ∙ ap capped (ap (λ b. 10 * value_on 0 (take i ds) + (b - 48)) here ∙ sym (value_on-push 0 (take i ds) (get_or ds i 0)) ∙ ap (value_on 0) (sym (take_more ds i 0 l)))
+    after ∙ ap (λ n. capped (10 * n + (d - 48))) before
+      ∙ capped-digit (value_on 0 (take i ds)) (d - 48)
+    ∙ ap capped (ap (λ b. 10 * value_on 0 (take i ds) + (b - 48)) here
+        ∙ sym (value_on-push 0 (take i ds) (get_or ds i 0))
+        ∙ ap (value_on 0) (sym (take_more ds i 0 l)))
 
 pub all_digits : (ds : List ℕ) → ((k : ℕ) → k < length ds → is_digit (get_or ds k 0) ≡ true)
     → list_all is_digit ds ≡ true
-all_digits ds h = list_all-from_AllPass is_digit ds (λ k d l. rw (get_or_default ds k d 0 l) (h k l))
+all_digits ds h =
+    list_all-from_AllPass is_digit ds (λ k d l. rw (get_or_default ds k d 0 l) (h k l))

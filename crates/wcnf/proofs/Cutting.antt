@@ -1,5 +1,7 @@
--- Clauses in one list of literals: how many there are, where one stands, and what one more at the end does.
-use Rattle.std.proofs.Common.{◌≡◌, ℕ, zero, suc, ◌+◌, ◌-◌, ◌<◌, ◌≤◌, ◌^◌, List, [], ◌∷◌, ◌++◌, length, get_or, Some, refl, sym, ap, arith}
+-- Clauses in one list of literals: how many there are, where one stands, and what one more at the
+-- end does.
+use Rattle.std.proofs.Common.{◌≡◌, ℕ, zero, suc, ◌+◌, ◌-◌, ◌<◌, ◌≤◌, ◌^◌, List, [], ◌∷◌, ◌++◌}
+use Rattle.std.proofs.Common.{length, get_or, Some, refl, sym, ap, arith}
 use Rattle.std.specs.Prelude.{slice_range, slice_get}
 use Rattle.std.proofs.lemmas.List.{length-append}
 use Rattle.wcnf.specs.Literal.{Literal}
@@ -29,7 +31,8 @@ start-next start (e ∷ es) (suc i) h = start-next e es i (omega arith)
 pub start-before : (es : List ℕ) (place : ℕ) → (place ≡ 0 → ⊥) → place < length es
     → get_or es (place - 1) 0 ≡ start_at 0 es place
 start-before es zero n h = absurd (n refl)
-start-before es (suc i) n h = let e : suc i - 1 ≡ i = omega arith in rw e (sym (start-next 0 es i (omega arith)))
+start-before es (suc i) n h = let e : suc i - 1 ≡ i = omega arith in
+    rw e (sym (start-next 0 es i (omega arith)))
 
 -- the clause at a place
 pub bounds_at : (start : ℕ) (es : List ℕ) (last i : ℕ) → RiseTo start es last → i < length es
@@ -39,17 +42,21 @@ bounds_at start (e ∷ es) last zero h l = (h.0, rise-le e es last h.1)
 bounds_at start (e ∷ es) last (suc i) h l = bounds_at e es last i h.1 (omega arith)
 
 pub cut_at : (start : ℕ) (ls : List Literal) (es : List ℕ) (i : ℕ) → i < length es
-    → slice_get (cut_from start ls es) i ≡ Some (slice_range ls (start_at start es i) (get_or es i 0))
+    → slice_get (cut_from start ls es) i
+        ≡ Some (slice_range ls (start_at start es i) (get_or es i 0))
 cut_at start ls [] i l = absurd (omega arith)
 cut_at start ls (e ∷ es) zero l = refl
 cut_at start ls (e ∷ es) (suc i) l = cut_at e ls es i (omega arith)
 
 -- one more clause
 cut-more : (start : ℕ) (ls more : List Literal) (es : List ℕ) → RiseTo start es (length ls)
-    → cut_from start (ls ++ more) (es ++ (length ls + length more) ∷ []) ≡ cut_from start ls es ++ more ∷ []
-cut-more start ls more [] h = rw h (ap (λ c. c ∷ []) (range-appended ls more (length ls) (length ls + length more) refl refl))
+    → cut_from start (ls ++ more) (es ++ (length ls + length more) ∷ []) ≡ cut_from start ls es
+      ++ more ∷ []
+cut-more start ls more [] h =
+    rw h (ap (λ c. c ∷ []) (range-appended ls more (length ls) (length ls + length more) refl refl))
 cut-more start ls more (e ∷ es) h =
-    λ i. range-append ls more start e h.0 (rise-le e es (length ls) h.1) i ∷ cut-more e ls more es h.1 i
+    λ i. range-append ls more start e h.0 (rise-le e es (length ls) h.1) i ∷ cut-more e ls
+      more es h.1 i
 
 pub clause_added : (ls more : List Literal) (es : List ℕ) → AreCut ls es
     → cut_from 0 (ls ++ more) (es ++ (length ls + length more) ∷ []) ≡ cut_from 0 ls es ++ more ∷ []

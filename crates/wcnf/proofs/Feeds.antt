@@ -1,5 +1,6 @@
 -- The first line feed of a text.
-use Rattle.std.proofs.Common.{◌≡◌, ℕ, ◌+◌, ◌<◌, Bool, false, List, ◌∷◌, ◌++◌, length, take, drop, get_or, sym, ◌∙◌, ap, arith, add-one, drop-cons, take-append-drop}
+use Rattle.std.proofs.Common.{◌≡◌, ℕ, ◌+◌, ◌<◌, Bool, false, List, ◌∷◌, ◌++◌, length, take, drop}
+use Rattle.std.proofs.Common.{get_or, sym, ◌∙◌, ap, arith, add-one, drop-cons, take-append-drop}
 use Rattle.std.specs.Prelude.{◌==◌}
 use Rattle.std.proofs.lemmas.List.Elements.{All-from_get_or}
 use Rattle.std.proofs.lemmas.Grind.{common_steps}
@@ -16,8 +17,11 @@ pub first_feed : (w : List ℕ) (end : ℕ) → end < length w → get_or w end 
     → ((k : ℕ) → k < end → is_feed (get_or w k 0) ≡ false) → IsFirstFeed w end
 first_feed w end h here before = record {
   within = h;
-  split = sym (take-append-drop end w) ∙ ap (λ x. take end w ++ x) (drop_at ∙ ap (λ b. b ∷ drop (end + 1) w) here);
-  before = All-from_get_or (λ b. (b == 10) ≡ false) (take end w) 0 (λ k lt. let x = byte_before w end k h lt in ap is_feed x.1 ∙ before k x.0);
+  split = sym (take-append-drop end w)
+    ∙ ap (λ x. take end w ++ x) (drop_at ∙ ap (λ b. b ∷ drop (end + 1) w) here);
+  before =
+    All-from_get_or (λ b. (b == 10) ≡ false) (take end w) 0
+      (λ k lt. let x = byte_before w end k h lt in ap is_feed x.1 ∙ before k x.0);
 }
   where
     drop_at : drop end w ≡ get_or w end 0 ∷ drop (end + 1) w

@@ -7,7 +7,8 @@ use Rattle.wcnf.specs.declared.faults.FaultKind.{FaultKind}
 use Rattle.wcnf.specs.declared.faults.FaultKind.TheVariants.{Count}
 use Rattle.wcnf.specs.Wcnf.{Reads}
 use Rattle.wcnf.specs.Reading.{reading_of, IsFirstFault}
-use Rattle.wcnf.specs.Drafts.{Drafted, nothing_drafted, problem_drafted, drafted_line, drafted_lines, short_at, finished}
+use Rattle.wcnf.specs.Drafts.{Drafted, nothing_drafted, problem_drafted, drafted_line}
+use Rattle.wcnf.specs.Drafts.{drafted_lines, short_at, finished}
 use Rattle.wcnf.proofs.Texts.{reading_is_right, first_fault}
 use Rattle.wcnf.proofs.Drafting.{reading-drafted}
 use Rattle.wcnf.proofs.WithinLimits.{reads_instance}
@@ -20,7 +21,8 @@ whole_read text d e = reading-drafted text ∙ rw (sym e) refl
 pub reads_whole : (text : List ℕ) (d : Drafted)
     → drafted_lines d [] ≡ drafted_lines nothing_drafted (numbered_text text) → short_at d ≡ None
     → Reads text (problem_drafted d)
-reads_whole text d e s = (reading_is_right text (problem_drafted d)).1 (whole_read text d e ∙ rw s refl)
+reads_whole text d e s =
+    (reading_is_right text (problem_drafted d)).1 (whole_read text d e ∙ rw s refl)
 
 pub whole_instance : (text : List ℕ) (d : Drafted)
     → drafted_lines d [] ≡ drafted_lines nothing_drafted (numbered_text text) → short_at d ≡ None

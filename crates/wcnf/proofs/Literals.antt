@@ -1,7 +1,9 @@
 -- Literals that are one, that are negated twice, and their places in a table with a row for each.
-use Rattle.std.proofs.Common.{◌≡◌, ℕ, zero, suc, ◌+◌, ◌-◌, ◌*◌, ◌<◌, ◌≤◌, Bool, true, false, ◌||◌, List, [], ◌∷◌, ◌++◌, length, get_or, refl, ap, subst, arith}
+use Rattle.std.proofs.Common.{◌≡◌, ℕ, zero, suc, ◌+◌, ◌-◌, ◌*◌, ◌<◌, ◌≤◌, Bool, true, false, ◌||◌}
+use Rattle.std.proofs.Common.{List, [], ◌∷◌, ◌++◌, length, get_or, refl, ap, subst, arith}
 use Rattle.std.specs.Prelude.{if◌then◌else◌}
-use Rattle.std.proofs.lemmas.Bool.{and_from, or_left, or_right, eq-eqb, false_from_ne_true, both_ways}
+use Rattle.std.proofs.lemmas.Bool.{and_from, or_left, or_right, eq-eqb, false_from_ne_true}
+use Rattle.std.proofs.lemmas.Bool.{both_ways}
 use Rattle.std.proofs.Math.Bool.{or-false, not-not}
 use Rattle.wcnf.specs.Literal.{Literal, negation, literal_eq, same_bool, index_of}
 use Rattle.wcnf.specs.Clause.{contains_literal}
@@ -46,11 +48,17 @@ negation_twice l = ap (λ b. record { variable = l.variable; negated = b }) (not
 pub contains-push : (m : Literal) (c : List Literal) (l : Literal)
     → contains_literal m (c ++ l ∷ []) ≡ (contains_literal m c || literal_eq m l)
 contains-push m [] l = or-false (literal_eq m l)
-contains-push m (k ∷ c) l = elim (literal_eq m k) as (λ b. (b || contains_literal m (c ++ l ∷ [])) ≡ ((b || contains_literal m c) || literal_eq m l)) [ true ↦ refl | false ↦ contains-push m c l ]
+contains-push m (k ∷ c) l =
+    elim (literal_eq m k) as (λ b. (b || contains_literal m (c ++ l ∷ []))
+      ≡ ((b || contains_literal m c) || literal_eq m l)) [ true ↦ refl | false ↦
+      contains-push m c l ]
 
 -- a literal that stands at some place
 pub at_contains : (c : List Literal) (i : ℕ) (l : Literal) → i < length c → l ≡ get_or c i l
     → contains_literal l c ≡ true
 at_contains [] i l h is = absurd (omega arith)
-at_contains (k ∷ c) zero l h is = or_left (literal_eq l k) (contains_literal l c) (subst (λ x. literal_eq l x ≡ true) is (literal_eq-refl l))
-at_contains (k ∷ c) (suc i) l h is = or_right (literal_eq l k) (contains_literal l c) (at_contains c i l (omega arith) is)
+at_contains (k ∷ c) zero l h is =
+    or_left (literal_eq l k) (contains_literal l c)
+      (subst (λ x. literal_eq l x ≡ true) is (literal_eq-refl l))
+at_contains (k ∷ c) (suc i) l h is =
+    or_right (literal_eq l k) (contains_literal l c) (at_contains c i l (omega arith) is)

@@ -1,8 +1,10 @@
 -- What an assignment makes true, hints keep true.
-use Rattle.std.proofs.Common.{◌≡◌, ℕ, Bool, true, false, not, List, [], ◌∷◌, map, Some, ◌⊎◌, inl, inr, refl, sym, subst}
+use Rattle.std.proofs.Common.{◌≡◌, ℕ, Bool, true, false, not, List, [], ◌∷◌, map, Some, ◌⊎◌, inl}
+use Rattle.std.proofs.Common.{inr, refl, sym, subst}
 use Rattle.std.specs.Prelude.{if◌then◌else◌, ◌==◌}
 use Rattle.std.specs.List.{AllByRecursion}
-use Rattle.std.proofs.lemmas.Bool.{and_parts, or_cases, both_ways, eqb-true, false≢true, true≢false, or_parts}
+use Rattle.std.proofs.lemmas.Bool.{and_parts, or_cases, both_ways, eqb-true, false≢true, true≢false}
+use Rattle.std.proofs.lemmas.Bool.{or_parts}
 use Rattle.wcnf.specs.Literal.{Literal, Assignment, negation, literal_value, literal_eq, same_bool}
 use Rattle.wcnf.specs.Clause.{Satisfies, clause_value, contains_literal}
 use Rattle.wcnf.specs.Refute.{IsFalseUnder, Clauses, Leads, Refutes}
@@ -16,7 +18,8 @@ same_bool-true false false e = refl
 pub literal_eq-true : (k l : Literal) → literal_eq k l ≡ true → k ≡ l
 literal_eq-true k l e =
     let h = and_parts (k.variable == l.variable) (same_bool k.negated l.negated) e in
-    λ i. record { variable = eqb-true k.variable l.variable h.0 i; negated = same_bool-true k.negated l.negated h.1 i }
+    λ i. record { variable = eqb-true k.variable l.variable h.0 i;
+        negated = same_bool-true k.negated l.negated h.1 i }
 
 -- each literal of A is true
 abbrev pub AreTrue : Assignment → List Literal → Type 0
@@ -52,7 +55,8 @@ unit_true t A l (k ∷ c) a o e =
       | inr h ↦ unit_true t A l c a o.1 h
       | inl h ↦ elim o.0 [
         | inl same ↦ subst (λ m. literal_value t m ≡ true) same h
-        | inr contrary ↦ absurd (both_ways _ (value-negation t k (true_member t A (negation k) a contrary)) h)
+        | inr contrary ↦ absurd (both_ways _
+            (value-negation t k (true_member t A (negation k) a contrary)) h)
       ]
     ]
 
@@ -78,7 +82,8 @@ leads_true t at A (h ∷ hs) B all a w =
 pub refuted : (t : Assignment) (at : Clauses) (A : List Literal) (hs : List ℕ) → AllHold t at
     → AreTrue t A → Refutes at A hs → ⊥
 refuted t at A hs all a r =
-    not_false t r.reached r.clause (leads_true t at A r.front r.reached all a r.leads) r.conflict (all r.final r.clause r.live)
+    not_false t r.reached r.clause (leads_true t at A r.front r.reached all a r.leads) r.conflict
+      (all r.final r.clause r.live)
 
 negation-value_at : (v : Bool) (n : Bool) → (if n then not v else v) ≡ false
     → (if not n then not v else v) ≡ true

@@ -1,15 +1,20 @@
--- Rows within the limits make an instance: what holds of the literals as written holds of them with repeats dropped.
-use Rattle.std.proofs.Common.{◌≡◌, ℕ, ◌+◌, ◌^◌, ◌<◌, ◌≤◌, false, not, List, [], ◌∷◌, ◌++◌, map, inl, inr, refl, sym, subst, arith, length, length-append}
+-- Rows within the limits make an instance: what holds of the literals as written holds of them with
+-- repeats dropped.
+use Rattle.std.proofs.Common.{◌≡◌, ℕ, ◌+◌, ◌^◌, ◌<◌, ◌≤◌, false, not, List, [], ◌∷◌, ◌++◌, map, inl}
+use Rattle.std.proofs.Common.{inr, refl, sym, subst, arith, length, length-append}
 use Rattle.std.specs.Prelude.{All, sum, sum_by}
 use Rattle.std.specs.List.{flat_map}
 use Rattle.std.proofs.lemmas.Bool.{cases_Bool, or_from, or_parts}
-use Rattle.std.proofs.lemmas.List.Elements.{All-nil, All-cons, All-head, All-tail, All-weaker, All-filter}
+use Rattle.std.proofs.lemmas.List.Elements.{All-nil, All-cons, All-head, All-tail, All-weaker}
+use Rattle.std.proofs.lemmas.List.Elements.{All-filter}
 use Rattle.std.proofs.lemmas.List.Sums.{sum_by-cons}
 use Rattle.wcnf.specs.Literal.{Literal, literal_eq}
-use Rattle.wcnf.specs.Clause.{contains_literal, without_literal, distinct, has_repeat, greatest_variable}
+use Rattle.wcnf.specs.Clause.{contains_literal, without_literal, distinct, has_repeat}
+use Rattle.wcnf.specs.Clause.{greatest_variable}
 use Rattle.wcnf.specs.Problem.{Problem, SoftClause}
 use Rattle.wcnf.specs.Instance.{IsClauseWithin, IsInstance}
-use Rattle.wcnf.specs.Wcnf.{Row, Ignored, Hard, Soft, hard_of, soft_of, literals_of, weight_of, IsWithinLimits, Reads}
+use Rattle.wcnf.specs.Wcnf.{Row, Ignored, Hard, Soft, hard_of, soft_of, literals_of, weight_of}
+use Rattle.wcnf.specs.Wcnf.{IsWithinLimits, Reads}
 use Rattle.wcnf.proofs.Drafting.{greatest-append}
 
 -- a clause without one of its literals
@@ -39,7 +44,8 @@ once_still l (k ∷ c) h =
     let p = or_parts (contains_literal k c) (has_repeat c) h in
     elim (cases_Bool (literal_eq l k)) [
       | inl e ↦ rw e (once_still l c p.1)
-      | inr e ↦ rw e (or_from (contains_literal k (without_literal l c)) (has_repeat (without_literal l c)) (contains_still k l c p.0) (once_still l c p.1))
+      | inr e ↦ rw e (or_from (contains_literal k (without_literal l c))
+          (has_repeat (without_literal l c)) (contains_still k l c p.0) (once_still l c p.1))
     ]
 
 greatest-without : (l : Literal) (c : List Literal)
@@ -63,12 +69,15 @@ length-without l (k ∷ c) =
 pub repeat-distinct : (c : List Literal) → has_repeat (distinct c) ≡ false
 repeat-distinct [] = refl
 repeat-distinct (l ∷ c) =
-    or_from (contains_literal l (without_literal l (distinct c))) (has_repeat (without_literal l (distinct c))) (contains-without l (distinct c)) (once_still l (distinct c) (repeat-distinct c))
+    or_from (contains_literal l (without_literal l (distinct c)))
+      (has_repeat (without_literal l (distinct c))) (contains-without l (distinct c))
+      (once_still l (distinct c) (repeat-distinct c))
 
 All-distinct : (P : Literal → Type 0) (c : List Literal) → All P c → All P (distinct c)
 All-distinct P [] a = All-nil P
 All-distinct P (l ∷ c) a =
-    All-cons P l (without_literal l (distinct c)) (All-head P l c a) (All-filter (λ k. not (literal_eq l k)) P (distinct c) (All-distinct P c (All-tail P l c a)))
+    All-cons P l (without_literal l (distinct c)) (All-head P l c a)
+      (All-filter (λ k. not (literal_eq l k)) P (distinct c) (All-distinct P c (All-tail P l c a)))
 
 greatest-distinct : (c : List Literal) → greatest_variable (distinct c) ≤ greatest_variable c
 greatest-distinct [] = omega arith
@@ -90,7 +99,9 @@ All-parts (x ∷ xs) ys a =
 
 clause_within : (v : ℕ) (c : List Literal) → All IsVariable c → greatest_variable c ≤ v
     → IsClauseWithin v (distinct c)
-clause_within v c a h = (repeat-distinct c, All-weaker IsVariable (λ l. 0 < l.variable) (λ l p. p.0) (distinct c) (All-distinct IsVariable c a), omega (arith, greatest-distinct c))
+clause_within v c a h =
+    (repeat-distinct c, All-weaker IsVariable (λ l. 0 < l.variable) (λ l p. p.0) (distinct c)
+      (All-distinct IsVariable c a), omega (arith, greatest-distinct c))
 
 abbrev SoftWithin : ℕ → SoftClause → Type 0
 SoftWithin v s = IsClauseWithin v s.clause
@@ -102,7 +113,8 @@ hard_within v (Ignored ∷ rs) a h = hard_within v rs a h
 hard_within v (Hard c ∷ rs) a h =
     let m = All-parts c (flat_map literals_of rs) a in
     let g = greatest-append c (flat_map literals_of rs) in
-    All-cons (IsClauseWithin v) (distinct c) (hard_of rs) (clause_within v c m.0 (omega (arith, g))) (hard_within v rs m.1 (omega (arith, g)))
+    All-cons (IsClauseWithin v) (distinct c) (hard_of rs) (clause_within v c m.0 (omega (arith, g)))
+      (hard_within v rs m.1 (omega (arith, g)))
 hard_within v (Soft w c ∷ rs) a h =
     let m = All-parts c (flat_map literals_of rs) a in
     hard_within v rs m.1 (omega (arith, greatest-append c (flat_map literals_of rs)))
@@ -118,37 +130,47 @@ soft_within v (Soft w c ∷ rs) a h =
     let m = All-parts c (flat_map literals_of rs) a in
     let g = greatest-append c (flat_map literals_of rs) in
     let s : SoftClause = record { weight = w; clause = distinct c } in
-    All-cons (SoftWithin v) s (soft_of rs) (clause_within v c m.0 (omega (arith, g))) (soft_within v rs m.1 (omega (arith, g)))
+    All-cons (SoftWithin v) s (soft_of rs) (clause_within v c m.0 (omega (arith, g)))
+      (soft_within v rs m.1 (omega (arith, g)))
 
 greatest_within : (c : List Literal) → All IsVariable c → greatest_variable c ≤ 2 ^ 22
 greatest_within [] a = omega arith
-greatest_within (l ∷ c) a = omega (arith, (All-head IsVariable l c a).1, greatest_within c (All-tail IsVariable l c a))
+greatest_within (l ∷ c) a =
+    omega (arith, (All-head IsVariable l c a).1, greatest_within c (All-tail IsVariable l c a))
 
 abbrev kept_literals : List Row → ℕ
-kept_literals rs = sum_by length (hard_of rs) + sum_by (λ (s : SoftClause). length s.clause) (soft_of rs)
+kept_literals rs =
+    sum_by length (hard_of rs) + sum_by (λ (s : SoftClause). length s.clause) (soft_of rs)
 
 literals_within : (rs : List Row) → kept_literals rs ≤ length (flat_map literals_of rs)
 literals_within [] = omega arith
 literals_within (Ignored ∷ rs) = literals_within rs
 literals_within (Hard c ∷ rs) =
-    omega (arith, literals_within rs, length-distinct c, length-append c (flat_map literals_of rs), sum_by-cons length (distinct c) (hard_of rs))
+    omega (arith, literals_within rs, length-distinct c, length-append c (flat_map literals_of rs),
+        sum_by-cons length (distinct c) (hard_of rs))
 literals_within (Soft w c ∷ rs) =
     let s : SoftClause = record { weight = w; clause = distinct c } in
-    omega (arith, literals_within rs, length-distinct c, length-append c (flat_map literals_of rs), sum_by-cons (λ (x : SoftClause). length x.clause) s (soft_of rs))
+    omega (arith, literals_within rs, length-distinct c, length-append c (flat_map literals_of rs),
+        sum_by-cons (λ (x : SoftClause). length x.clause) s (soft_of rs))
 
 weights_within : (rs : List Row)
     → sum_by (λ (s : SoftClause). s.weight) (soft_of rs) ≡ sum (map weight_of rs)
 weights_within [] = refl
-weights_within (Ignored ∷ rs) = omega (arith, weights_within rs, sum_by-cons (λ (x : ℕ). x) 0 (map weight_of rs))
-weights_within (Hard c ∷ rs) = omega (arith, weights_within rs, sum_by-cons (λ (x : ℕ). x) 0 (map weight_of rs))
+weights_within (Ignored ∷ rs) =
+    omega (arith, weights_within rs, sum_by-cons (λ (x : ℕ). x) 0 (map weight_of rs))
+weights_within (Hard c ∷ rs) =
+    omega (arith, weights_within rs, sum_by-cons (λ (x : ℕ). x) 0 (map weight_of rs))
 weights_within (Soft w c ∷ rs) =
     let s : SoftClause = record { weight = w; clause = distinct c } in
-    omega (arith, weights_within rs, sum_by-cons (λ (x : ℕ). x) w (map weight_of rs), sum_by-cons (λ (x : SoftClause). x.weight) s (soft_of rs))
+    omega (arith, weights_within rs, sum_by-cons (λ (x : ℕ). x) w (map weight_of rs),
+        sum_by-cons (λ (x : SoftClause). x.weight) s (soft_of rs))
 
 greatest_at_most : (v : ℕ) (c : List Literal) → All (λ l. l.variable ≤ v) c
     → greatest_variable c ≤ v
 greatest_at_most v [] a = omega arith
-greatest_at_most v (l ∷ c) a = omega (arith, All-head (λ (x : Literal). x.variable ≤ v) l c a, greatest_at_most v c (All-tail (λ (x : Literal). x.variable ≤ v) l c a))
+greatest_at_most v (l ∷ c) a =
+    omega (arith, All-head (λ (x : Literal). x.variable ≤ v) l c a,
+      greatest_at_most v c (All-tail (λ (x : Literal). x.variable ≤ v) l c a))
 
 rows_instance : (v : ℕ) (rs : List Row) → v ≤ 2 ^ 22
     → greatest_variable (flat_map literals_of rs) ≤ v → IsWithinLimits rs
@@ -167,6 +189,9 @@ rows_instance v rs m g w = record {
 pub reads_instance : (text : List ℕ) (p : Problem) → Reads text p → IsInstance p
 reads_instance text p (inl (rs, a, w, e)) =
     let v = greatest_variable (flat_map literals_of rs) in
-    subst IsInstance (sym e) (rows_instance v rs (greatest_within (flat_map literals_of rs) w.variables) (omega arith) w)
+    subst IsInstance (sym e)
+      (rows_instance v rs (greatest_within (flat_map literals_of rs) w.variables) (omega arith) w)
 reads_instance text p (inr (h, rs, a, w, s, e)) =
-    subst IsInstance (sym e) (rows_instance h.variables rs s.most_variables (greatest_at_most h.variables (flat_map literals_of rs) s.variables) w)
+    subst IsInstance (sym e)
+      (rows_instance h.variables rs s.most_variables
+        (greatest_at_most h.variables (flat_map literals_of rs) s.variables) w)

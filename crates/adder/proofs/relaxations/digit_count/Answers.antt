@@ -7,4 +7,5 @@ pub returns-clause-digits : goal.returns-clause-digits
 returns-clause-digits c = binary_length_is c.args.n c.requires
 
 pub returns-clause-few : goal.returns-clause-few
-returns-clause-few c = omega (arith, binary_length_is c.args.n c.requires, binary_length_le c.args.n)
+returns-clause-few c =
+    omega (arith, binary_length_is c.args.n c.requires, binary_length_le c.args.n)

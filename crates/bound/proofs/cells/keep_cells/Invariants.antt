@@ -5,4 +5,5 @@ use Rattle.bound.specs.Bound.{kept, cell_clauses}
 use Rattle.bound.proofs.cells.keep_cells.Given as goal
 
 abbrev pub invariant-loop-cell : goal.invariant-loop-cell
-invariant-loop-cell l = l.clauses ≡ l.initial.clauses ++ kept (flat_map cell_clauses (take l.cell-index l.cells))
+invariant-loop-cell l =
+    l.clauses ≡ l.initial.clauses ++ kept (flat_map cell_clauses (take l.cell-index l.cells))

@@ -1,5 +1,6 @@
 -- The next clause counts exactly where it has no opposite pair.
-use Rattle.std.proofs.Common.{◌≡◌, ◌+◌, ◌*◌, ◌≤◌, ◌<◌, ◌^◌, ◌∷◌, length, true, false, arith, ap, sym, ◌∙◌, subst, rules}
+use Rattle.std.proofs.Common.{◌≡◌, ◌+◌, ◌*◌, ◌≤◌, ◌<◌, ◌^◌, ◌∷◌, length, true, false, arith, ap}
+use Rattle.std.proofs.Common.{sym, ◌∙◌, subst, rules}
 use Rattle.std.proofs.lemmas.List.Elements.{All-head, All-tail}
 use Rattle.std.specs.Prelude.{All}
 use Rattle.wcnf.specs.Clause.{has_opposites}
@@ -13,24 +14,34 @@ use Rattle.bound.proofs.encoding.count_hard.Goals as goal
 pub are_opposed-requires : goal.are_opposed-requires
 are_opposed-requires c =
     let n = c.args.instance.now.variables in
-    let left : All (IsClauseWithin n) (c.in-Some.clause.now ∷ c.next.new.self) = subst (All (IsClauseWithin n)) c.in-Some.ensures.steps c.loop-clause.invariant.left in
-    let places : 2 * n ≤ length c.loop-clause.marks = omega (arith, c.requires, c.loop-clause.invariant.marks) in
-    places_within n (length c.loop-clause.marks) c.in-Some.clause.now places (All-head (IsClauseWithin n) c.in-Some.clause.now c.next.new.self left)
+    let left : All (IsClauseWithin n) (c.in-Some.clause.now ∷ c.next.new.self) =
+      subst (All (IsClauseWithin n)) c.in-Some.ensures.steps c.loop-clause.invariant.left in
+    let places : 2 * n ≤ length c.loop-clause.marks =
+      omega (arith, c.requires, c.loop-clause.invariant.marks) in
+    places_within n (length c.loop-clause.marks) c.in-Some.clause.now places
+      (All-head (IsClauseWithin n) c.in-Some.clause.now c.next.new.self left)
 
 pub overflow_add-count : goal.overflow_add-count
 overflow_add-count c =
     let p = c.args.instance.now in
-    let few : c.loop-clause.count + 1 < 2 ^ 64 = omega (arith, c.loop-clause.invariant.counted, kept_le p.hard, c.vars-vars.ensures.limits.hard_count) in
+    let few : c.loop-clause.count + 1 < 2 ^ 64 =
+      omega (arith, c.loop-clause.invariant.counted, kept_le p.hard,
+        c.vars-vars.ensures.limits.hard_count) in
     search rules
 
 pub loop-clause-preserved-then-not-are_opposed : goal.loop-clause-preserved-then-not-are_opposed
 loop-clause-preserved-then-not-are_opposed c =
     let n = c.args.instance.now.variables in
-    let left : All (IsClauseWithin n) (c.in-Some.clause.now ∷ c.next.new.self) = subst (All (IsClauseWithin n)) c.in-Some.ensures.steps c.loop-clause.invariant.left in
+    let left : All (IsClauseWithin n) (c.in-Some.clause.now ∷ c.next.new.self) =
+      subst (All (IsClauseWithin n)) c.in-Some.ensures.steps c.loop-clause.invariant.left in
     let once = (All-head (IsClauseWithin n) c.in-Some.clause.now c.next.new.self left).0 in
-    let e : has_opposites c.in-Some.clause.now ≡ false = sym c.are_opposed.ensures.value ∙ c.if-not-are_opposed.true in
+    let e : has_opposites c.in-Some.clause.now ≡ false = sym c.are_opposed.ensures.value
+      ∙ c.if-not-are_opposed.true in
     record {
-      counted = omega (arith, c.loop-clause.invariant.counted, ap (λ x. length (kept x)) c.in-Some.ensures.steps, hard_counted c.in-Some.clause.now c.next.new.self once e);
+      counted =
+        omega (arith, c.loop-clause.invariant.counted,
+          ap (λ x. length (kept x)) c.in-Some.ensures.steps,
+          hard_counted c.in-Some.clause.now c.next.new.self once e);
       marks = c.are_opposed.ensures.marks ∙ c.loop-clause.invariant.marks;
       left = All-tail (IsClauseWithin n) c.in-Some.clause.now c.next.new.self left;
     }
@@ -38,11 +49,16 @@ loop-clause-preserved-then-not-are_opposed c =
 pub loop-clause-preserved : goal.loop-clause-preserved
 loop-clause-preserved c =
     let n = c.args.instance.now.variables in
-    let left : All (IsClauseWithin n) (c.in-Some.clause.now ∷ c.next.new.self) = subst (All (IsClauseWithin n)) c.in-Some.ensures.steps c.loop-clause.invariant.left in
+    let left : All (IsClauseWithin n) (c.in-Some.clause.now ∷ c.next.new.self) =
+      subst (All (IsClauseWithin n)) c.in-Some.ensures.steps c.loop-clause.invariant.left in
     let once = (All-head (IsClauseWithin n) c.in-Some.clause.now c.next.new.self left).0 in
-    let e : has_opposites c.in-Some.clause.now ≡ true = sym c.are_opposed.ensures.value ∙ c.if-not-are_opposed.false in
+    let e : has_opposites c.in-Some.clause.now ≡ true = sym c.are_opposed.ensures.value
+      ∙ c.if-not-are_opposed.false in
     record {
-      counted = omega (arith, c.loop-clause.invariant.counted, ap (λ x. length (kept x)) c.in-Some.ensures.steps, hard_passed c.in-Some.clause.now c.next.new.self once e);
+      counted =
+        omega (arith, c.loop-clause.invariant.counted,
+          ap (λ x. length (kept x)) c.in-Some.ensures.steps,
+          hard_passed c.in-Some.clause.now c.next.new.self once e);
       marks = c.are_opposed.ensures.marks ∙ c.loop-clause.invariant.marks;
       left = All-tail (IsClauseWithin n) c.in-Some.clause.now c.next.new.self left;
     }

@@ -4,4 +4,5 @@ use Rattle.wcnf.specs.Clause.{contains_literal}
 use Rattle.bound.proofs.keeping.contains.Given as goal
 
 abbrev pub invariant-loop-other : goal.invariant-loop-other
-invariant-loop-other l = contains_literal l.lit l.lits ≡ contains_literal l.lit (drop l.other-index l.lits)
+invariant-loop-other l =
+    contains_literal l.lit l.lits ≡ contains_literal l.lit (drop l.other-index l.lits)

@@ -1,4 +1,5 @@
--- The literals before the index are marked, and none of them stands with its negation but where one was found.
+-- The literals before the index are marked, and none of them stands with its negation but where one
+-- was found.
 use Rattle.std.proofs.Common.{◌≡◌, length, take}
 use Rattle.wcnf.specs.Clause.{has_opposites}
 use Rattle.wcnf.specs.Marks.{IsMarked}

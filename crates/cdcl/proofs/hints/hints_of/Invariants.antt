@@ -6,5 +6,6 @@ use Rattle.cdcl.proofs.hints.hints_of.Given as goal
 abbrev pub invariant-loop-reference : goal.invariant-loop-reference
 invariant-loop-reference l = record {
   past : All (λ n. n ≤ l.stamp) l.stamps;
-  gathers : Gathers l.store.slots l.names l.units l.engine.trail l.stamp l.references (take l.reference-index l.references) [] l.stamps l.hints.items;
+  gathers : Gathers l.store.slots l.names l.units l.engine.trail l.stamp l.references
+    (take l.reference-index l.references) [] l.stamps l.hints.items;
 }

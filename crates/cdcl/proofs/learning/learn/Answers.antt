@@ -1,4 +1,5 @@
-use Rattle.std.proofs.Common.{◌≡◌, ◌+◌, ◌≤◌, true, [], ◌∷◌, ◌++◌, length, refl, sym, ◌∙◌, ap, subst, arith}
+use Rattle.std.proofs.Common.{◌≡◌, ◌+◌, ◌≤◌, true, [], ◌∷◌, ◌++◌, length, refl, sym, ◌∙◌, ap, subst}
+use Rattle.std.proofs.Common.{arith}
 use Rattle.std.specs.Prelude.{All}
 use Rattle.std.proofs.lemmas.List.{with_items_is}
 use Rattle.propagate.specs.Trail.{depth_of, kept_to}
@@ -14,43 +15,56 @@ use Rattle.cdcl.specs.Running.{Runs, Writes, tables_of}
 use Rattle.cdcl.proofs.HintNames.{hint_ids}
 use Rattle.cdcl.proofs.Written.{writes_learned}
 use Rattle.cdcl.proofs.MoreMoves.{learn_is_new}
-use Rattle.cdcl.proofs.Lessons.{refutes_live, live_attached, conflict_of, all_noted, asserting_within, back_low, is_lesson, runs_learned, runs_long}
+use Rattle.cdcl.proofs.Lessons.{refutes_live, live_attached, conflict_of, all_noted}
+use Rattle.cdcl.proofs.Lessons.{asserting_within, back_low, is_lesson, runs_learned, runs_long}
 use Rattle.cdcl.proofs.learning.learn.Goals as goal
 use Rattle.cdcl.proofs.learning.learn.Goals.{then-as_slice-gt2, else-as_slice-gt2}
 
 pub analyze-requires-clause-falsified : goal.analyze-requires-clause-falsified
 analyze-requires-clause-falsified g c =
     let s = c.args.search.now in
-    conflict_of s.engine s.store.slots c.args.conflict c.requires.runs.running.searches c.requires.deep c.requires.conflict
+    conflict_of s.engine s.store.slots c.args.conflict c.requires.runs.running.searches
+      c.requires.deep c.requires.conflict
 
 pub hints_of-requires-clause-attached : goal.hints_of-requires-clause-attached
 hints_of-requires-clause-attached g c =
     let s = c.args.search.now in
     let learned = c.in_ok-learned.learned in
     subst (All (λ r. is_attached s.engine r ≡ true)) (sym c.as_slice.ensures.value)
-    (live_attached s.engine s.store.slots learned.hints.items c.requires.runs.running.searches (refutes_live s.store.slots _ learned.hints.items c.in_ok-learned.ensures.hints))
+    (live_attached s.engine s.store.slots learned.hints.items c.requires.runs.running.searches
+        (refutes_live s.store.slots _ learned.hints.items c.in_ok-learned.ensures.hints))
 
 pub hints_of-requires-clause-noted : goal.hints_of-requires-clause-noted
 hints_of-requires-clause-noted g c =
     let s = c.args.search.now in
-    subst (λ us. AreNoted s.store.slots us s.engine.trail c.as_slice.result.now) (sym c.deref-2.ensures.value)
-    (all_noted s.store.slots s.engine.trail s.units.items s.noted c.as_slice.result.now c.requires.runs.running.units c.requires.deep)
+    subst (λ us. AreNoted s.store.slots us s.engine.trail c.as_slice.result.now)
+      (sym c.deref-2.ensures.value)
+    (all_noted s.store.slots s.engine.trail s.units.items s.noted c.as_slice.result.now
+        c.requires.runs.running.units c.requires.deep)
 
 pub backtrack-requires-clause-level : goal.backtrack-requires-clause-level
 backtrack-requires-clause-level g c =
     let s = c.args.search.now in
     let learned = c.in_ok-learned.learned in
-    let same : depth_of c.bump.new.self.engine.trail ≡ depth_of s.engine.trail = ap (λ (x : Search). depth_of (x.engine).trail) c.bump.ensures.same in
-    let low = back_low s.engine.trail learned.lits.items learned.back_level c.in_ok-learned.ensures.asserting in
+    let same : depth_of c.bump.new.self.engine.trail ≡ depth_of s.engine.trail =
+      ap (λ (x : Search). depth_of (x.engine).trail) c.bump.ensures.same in
+    let low =
+      back_low s.engine.trail learned.lits.items learned.back_level
+        c.in_ok-learned.ensures.asserting in
     omega arith
 
 pub add_line-requires-clause-within : goal.add_line-requires-clause-within
 add_line-requires-clause-within g c =
     let s = c.args.search.now in
     let learned = c.in_ok-learned.learned in
-    let within = asserting_within s.engine s.store.slots learned.lits.items learned.back_level c.requires.runs.running.searches.fits c.in_ok-learned.ensures.asserting in
-    let same : c.backtrack.new.self.engine.variables ≡ s.engine.variables = c.backtrack.ensures.variables ∙ ap (λ (x : Search). (x.engine).variables) c.bump.ensures.same in
-    subst (λ n. IsWithin n c.as_slice-2.result.now) (sym same) (subst (IsWithin s.engine.variables) (sym c.as_slice-2.ensures) within)
+    let within =
+      asserting_within s.engine s.store.slots learned.lits.items learned.back_level
+        c.requires.runs.running.searches.fits c.in_ok-learned.ensures.asserting in
+    let same : c.backtrack.new.self.engine.variables ≡ s.engine.variables =
+      c.backtrack.ensures.variables
+        ∙ ap (λ (x : Search). (x.engine).variables) c.bump.ensures.same in
+    subst (λ n. IsWithin n c.as_slice-2.result.now) (sym same)
+      (subst (IsWithin s.engine.variables) (sym c.as_slice-2.ensures) within)
 
 pub add_line-requires-clause-hints : goal.add_line-requires-clause-hints
 add_line-requires-clause-hints g c =
@@ -58,10 +72,15 @@ add_line-requires-clause-hints g c =
     let slots = s.store.slots in
     let learned = c.in_ok-learned.learned in
     let rs = c.as_slice.result.now in
-    let h = subst (λ x. AreHintsOf slots x s.engine.trail rs c.in_ok-hints.hints.items) c.deref.ensures.value c.in_ok-hints.ensures.hints in
-    let refutes = subst (IsRefutedBy slots s.engine.trail learned.lits.items) (sym c.as_slice.ensures.value) c.in_ok-learned.ensures.hints in
+    let h =
+      subst (λ x. AreHintsOf slots x s.engine.trail rs c.in_ok-hints.hints.items)
+        c.deref.ensures.value c.in_ok-hints.ensures.hints in
+    let refutes =
+      subst (IsRefutedBy slots s.engine.trail learned.lits.items) (sym c.as_slice.ensures.value)
+        c.in_ok-learned.ensures.hints in
     let recorded = c.requires.runs.running.recorded in
-    hint_ids slots s.names.items s.engine.trail rs c.in_ok-hints.hints.items h recorded.names.as_many recorded.numbers (refutes_live slots _ rs refutes)
+    hint_ids slots s.names.items s.engine.trail rs c.in_ok-hints.hints.items h
+      recorded.names.as_many recorded.numbers (refutes_live slots _ rs refutes)
 
 pub returns-clause-runs : goal.returns-clause-runs
 returns-clause-runs g c =
@@ -70,25 +89,45 @@ returns-clause-runs g c =
     let ls = g.S.Sink.lines c.args.sink.now in
     let T = s.engine.trail in
     let learned = c.in_ok-learned.learned in
-    let lesson = is_lesson s p ls learned.lits.items c.as_slice-2.result.now learned.back_level learned.hints.items c.as_slice.result.now _ c.in_ok-hints.hints.items c.requires.runs c.requires.deep
-    c.in_ok-learned.ensures.asserting c.in_ok-learned.ensures.hints c.in_ok-hints.ensures.hints c.as_slice-2.ensures c.as_slice.ensures.value c.deref.ensures.value in
+    let lesson =
+      is_lesson s p ls learned.lits.items c.as_slice-2.result.now learned.back_level
+        learned.hints.items c.as_slice.result.now _ c.in_ok-hints.hints.items c.requires.runs
+        c.requires.deep
+    c.in_ok-learned.ensures.asserting c.in_ok-learned.ensures.hints c.in_ok-hints.ensures.hints
+      c.as_slice-2.ensures c.as_slice.ensures.value c.deref.ensures.value in
     let m = c.backtrack.new.self in
     let n = c.add_line.new.self in
-    let l : LogLine = record { kind = Learned; clause = c.as_slice-2.result.now; hints = c.in_ok-hints.hints.items } in
-    let bumped : IsRunning c.bump.new.self.engine c.bump.new.self.store.slots p.stack (tables_of c.bump.new.self) p.frozen.items p.first p.given.items ls =
-    subst (λ (x : Search). IsRunning x.engine (x.store).slots p.stack (tables_of x) p.frozen.items p.first p.given.items ls) (sym c.bump.ensures.same) c.requires.runs.running in
+    let l : LogLine =
+      record { kind = Learned; clause = c.as_slice-2.result.now;
+        hints = c.in_ok-hints.hints.items } in
+    let bumped : IsRunning c.bump.new.self.engine c.bump.new.self.store.slots p.stack
+      (tables_of c.bump.new.self) p.frozen.items p.first p.given.items ls =
+    subst (λ (x : Search). IsRunning x.engine (x.store).slots p.stack (tables_of x) p.frozen.items
+        p.first p.given.items ls) (sym c.bump.ensures.same) c.requires.runs.running in
     let moved = c.backtrack.ensures.state p ls bumped in
-    let trail : m.engine.trail ≡ kept_to learned.back_level T = c.backtrack.ensures.trail ∙ ap (λ (x : Search). kept_to learned.back_level (x.engine).trail) c.bump.ensures.same in
-    let long : length c.hints_of.new.stamps ≡ s.stamps.len = c.hints_of.ensures.long ∙ ap length c.deref_mut.ensures.value ∙ sym s.stamps.ok.0 in
+    let trail : m.engine.trail ≡ kept_to learned.back_level T = c.backtrack.ensures.trail
+      ∙ ap (λ (x : Search). kept_to learned.back_level (x.engine).trail) c.bump.ensures.same in
+    let long : length c.hints_of.new.stamps ≡ s.stamps.len =
+      c.hints_of.ensures.long ∙ ap length c.deref_mut.ensures.value ∙ sym s.stamps.ok.0 in
     let stamps : m.stamps.items ≡ c.hints_of.new.stamps =
-    ap (λ (x : Search). (x.stamps).items) c.backtrack.ensures.engine ∙ ap (λ (x : Search). (x.stamps).items) c.bump.ensures.same ∙ with_items_is s.stamps c.hints_of.new.stamps long in
-    let additions : m.additions ≡ s.additions = ap (λ (x : Search). x.additions) c.backtrack.ensures.engine ∙ ap (λ (x : Search). x.additions) c.bump.ensures.same in
+    ap (λ (x : Search). (x.stamps).items) c.backtrack.ensures.engine
+      ∙ ap (λ (x : Search). (x.stamps).items) c.bump.ensures.same
+      ∙ with_items_is s.stamps c.hints_of.new.stamps long in
+    let additions : m.additions ≡ s.additions =
+      ap (λ (x : Search). x.additions) c.backtrack.ensures.engine
+        ∙ ap (λ (x : Search). x.additions) c.bump.ensures.same in
     let past : All (λ x. x ≤ m.additions + 1) m.stamps.items =
-    subst (λ k. All (λ x. x ≤ k + 1) m.stamps.items) (sym additions) (subst (All (λ x. x ≤ s.additions + 1)) (sym stamps) c.hints_of.ensures.past) in
-    let on : Runs n p (ls ++ l ∷ []) = runs_learned m n p ls l T learned.back_level moved c.backtrack.ensures.ready.room past lesson.asserting trail lesson.adds c.in_ok-reference.ensures.placed c.in_ok-reference.ensures.additions c.in_ok-reference.ensures.few in
-    let written : Runs n p (g.S.Sink.lines c.add_line.new.sink) = subst (Runs n p) (sym c.in_ok-reference.ensures.lines) on in
+    subst (λ k. All (λ x. x ≤ k + 1) m.stamps.items) (sym additions)
+      (subst (All (λ x. x ≤ s.additions + 1)) (sym stamps) c.hints_of.ensures.past) in
+    let on : Runs n p (ls ++ l ∷ []) =
+      runs_learned m n p ls l T learned.back_level moved c.backtrack.ensures.ready.room past
+        lesson.asserting trail lesson.adds c.in_ok-reference.ensures.placed
+        c.in_ok-reference.ensures.additions c.in_ok-reference.ensures.few in
+    let written : Runs n p (g.S.Sink.lines c.add_line.new.sink) =
+      subst (Runs n p) (sym c.in_ok-reference.ensures.lines) on in
     elim c.if-as_slice-gt2.branch [
-      | then-as_slice-gt2 x ↦ runs_long n c.if-as_slice-gt2.search x.saturating_add-search.result p _ x.search-is written
+      | then-as_slice-gt2 x ↦
+        runs_long n c.if-as_slice-gt2.search x.saturating_add-search.result p _ x.search-is written
       | else-as_slice-gt2 x ↦ runs_long n c.if-as_slice-gt2.search n.long p _ x.search-is written
     ]
 
@@ -99,8 +138,17 @@ returns-clause-writes g c =
     let ls = g.S.Sink.lines c.args.sink.now in
     let learned = c.in_ok-learned.learned in
     let run = c.requires.runs.running in
-    let lesson = is_lesson s p ls learned.lits.items c.as_slice-2.result.now learned.back_level learned.hints.items c.as_slice.result.now _ c.in_ok-hints.hints.items c.requires.runs c.requires.deep
-    c.in_ok-learned.ensures.asserting c.in_ok-learned.ensures.hints c.in_ok-hints.ensures.hints c.as_slice-2.ensures c.as_slice.ensures.value c.deref.ensures.value in
-    let l : LogLine = record { kind = Learned; clause = c.as_slice-2.result.now; hints = c.in_ok-hints.hints.items } in
+    let lesson =
+      is_lesson s p ls learned.lits.items c.as_slice-2.result.now learned.back_level
+        learned.hints.items c.as_slice.result.now _ c.in_ok-hints.hints.items c.requires.runs
+        c.requires.deep
+    c.in_ok-learned.ensures.asserting c.in_ok-learned.ensures.hints c.in_ok-hints.ensures.hints
+      c.as_slice-2.ensures c.as_slice.ensures.value c.deref.ensures.value in
+    let l : LogLine =
+      record { kind = Learned; clause = c.as_slice-2.result.now;
+        hints = c.in_ok-hints.hints.items } in
     subst (λ x. Writes p.given.items ls x 1) (sym c.in_ok-reference.ensures.lines)
-    (writes_learned p.given.items ls l refl lesson.adds (λ base above. learn_is_new s.engine s.store.slots s.names.items p.given.items ls l learned.back_level run.searches run.recorded.names lesson.asserting c.requires.deep base above))
+    (writes_learned p.given.items ls l refl lesson.adds
+        (λ base above. learn_is_new s.engine s.store.slots s.names.items p.given.items ls l
+          learned.back_level run.searches run.recorded.names lesson.asserting c.requires.deep
+          base above))

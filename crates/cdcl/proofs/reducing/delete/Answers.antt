@@ -1,4 +1,5 @@
-use Rattle.std.proofs.Common.{◌≡◌, ◌<◌, [], ◌∷◌, ◌++◌, Some, true, length, refl, subst, sym, ◌∙◌, ap, arith}
+use Rattle.std.proofs.Common.{◌≡◌, ◌<◌, [], ◌∷◌, ◌++◌, Some, true, length, refl, subst, sym, ◌∙◌}
+use Rattle.std.proofs.Common.{ap, arith}
 use Rattle.std.proofs.lemmas.Bool.{both_ways}
 use Rattle.clauses.specs.Slots.{StoreState, clause_at}
 use Rattle.propagate.specs.Doomed.{is_doomed}
@@ -16,13 +17,16 @@ use Rattle.cdcl.proofs.Deleting.{named_at, deleting_line, deleting_more}
 use Rattle.cdcl.proofs.reducing.delete.Goals as goal
 
 pub returns-then-not-is_live-clause-gone : goal.returns-then-not-is_live-clause-gone
-returns-then-not-is_live-clause-gone g c on live = both_ways c.is_live.result c.if-not-is_live.true (c.is_live.ensures.1 live)
+returns-then-not-is_live-clause-gone g c on live =
+    both_ways c.is_live.result c.if-not-is_live.true (c.is_live.ensures.1 live)
 
 pub returns-then-not-is_live-clause-writes : goal.returns-then-not-is_live-clause-writes
-returns-then-not-is_live-clause-writes g c = writes_none c.args.problem.now.given.items (g.S.Sink.lines c.args.sink.now)
+returns-then-not-is_live-clause-writes g c =
+    writes_none c.args.problem.now.given.items (g.S.Sink.lines c.args.sink.now)
 
 pub returns-then-not-doomed-index-clause-writes : goal.returns-then-not-doomed-index-clause-writes
-returns-then-not-doomed-index-clause-writes g c = writes_none c.args.problem.now.given.items (g.S.Sink.lines c.args.sink.now)
+returns-then-not-doomed-index-clause-writes g c =
+    writes_none c.args.problem.now.given.items (g.S.Sink.lines c.args.sink.now)
 
 pub new-requires-2 : goal.new-requires-2
 new-requires-2 g c =
@@ -32,9 +36,12 @@ new-requires-2 g c =
     let live = c.is_live.ensures.0 c.if-not-is_live.false in
     let inside = live_within s.store.slots r live.0 live.1 in
     let lt : r < length s.names.items = omega (arith, recorded.names.as_many) in
-    let name : c.index-3.result.now ≡ name_at s.names.items r = named_at s.names.items c.index-2.result r c.index-3.result.now c.index-2.ensures c.index-3.ensures lt in
+    let name : c.index-3.result.now ≡ name_at s.names.items r =
+      named_at s.names.items c.index-2.result r c.index-3.result.now c.index-2.ensures
+        c.index-3.ensures lt in
     deleting_line c.new.result.items c.push.new.self.items c.index-3.result.now c.new.ensures.items
-    (c.in_ok-push.ensures.items ∙ ap (λ x. x ++ Plain c.index-3.result.now ∷ []) c.new-hints.ensures.items)
+    (c.in_ok-push.ensures.items
+        ∙ ap (λ x. x ++ Plain c.index-3.result.now ∷ []) c.new-hints.ensures.items)
     (subst (λ n. IsId (number_in n)) (sym name) (recorded.numbers r (Formula 0) lt))
 
 pub returns-clause-deleting : goal.returns-clause-deleting
@@ -48,21 +55,33 @@ returns-clause-deleting g c =
     let live = c.is_live.ensures.0 c.if-not-is_live.false in
     let inside = live_within s.store.slots r live.0 live.1 in
     let lt : r < length s.names.items = omega (arith, d.recorded.names.as_many) in
-    let name : c.index-3.result.now ≡ name_at s.names.items r = named_at s.names.items c.index-2.result r c.index-3.result.now c.index-2.ensures c.index-3.ensures lt in
-    let hints = c.in_ok-push.ensures.items ∙ ap (λ x. x ++ Plain c.index-3.result.now ∷ []) c.new-hints.ensures.items ∙ ap (λ n. Plain n ∷ []) name in
-    let on : is_doomed doomed r ≡ true = subst (λ k. is_doomed doomed k ≡ true) c.index.ensures c.if-not-doomed-index.false in
-    let l : LogLine = record { kind = Delete; clause = c.new.result.items; hints = c.push.new.self.items } in
+    let name : c.index-3.result.now ≡ name_at s.names.items r =
+      named_at s.names.items c.index-2.result r c.index-3.result.now c.index-2.ensures
+        c.index-3.ensures lt in
+    let hints = c.in_ok-push.ensures.items
+      ∙ ap (λ x. x ++ Plain c.index-3.result.now ∷ []) c.new-hints.ensures.items
+      ∙ ap (λ n. Plain n ∷ []) name in
+    let on : is_doomed doomed r ≡ true =
+      subst (λ k. is_doomed doomed k ≡ true) c.index.ensures c.if-not-doomed-index.false in
+    let l : LogLine =
+      record { kind = Delete; clause = c.new.result.items; hints = c.push.new.self.items } in
     let k = c.saturating_sub-search.result in
     let more = deleting_more s k p ls l doomed r live.0 d live.1 on refl hints in
-    subst (λ x. IsDeleting (record s { store = c.delete.new.self; long = k }) p x doomed) (sym (c.in_ok-append.ensures.ok ∙ ap (λ x. ls ++ x ∷ []) c.new-2.ensures))
-    (subst (λ (x : StoreState). IsDeleting (record s { store = x; long = k }) p (ls ++ l ∷ []) doomed) (sym c.delete.ensures) more)
+    subst (λ x. IsDeleting (record s { store = c.delete.new.self; long = k }) p x doomed)
+      (sym (c.in_ok-append.ensures.ok ∙ ap (λ x. ls ++ x ∷ []) c.new-2.ensures))
+    (subst (λ (x : StoreState). IsDeleting (record s { store = x; long = k }) p (ls ++ l ∷ [])
+          doomed) (sym c.delete.ensures) more)
 
 pub returns-clause-gone : goal.returns-clause-gone
 returns-clause-gone g c on live =
     let slots = c.args.search.now.store.slots in
-    clause_gone slots c.args.reference live.0 (subst (λ (x : StoreState). clause_at x.slots c.args.reference ≡ Some live.0) c.delete.ensures live.1)
+    clause_gone slots c.args.reference live.0
+      (subst (λ (x : StoreState). clause_at x.slots c.args.reference ≡ Some live.0)
+        c.delete.ensures live.1)
 
 pub returns-clause-fewer : goal.returns-clause-fewer
 returns-clause-fewer g c r live =
     let slots = c.args.search.now.store.slots in
-    (live.0, (clause_left slots c.args.reference r live.0 (subst (λ (x : StoreState). clause_at x.slots r ≡ Some live.0) c.delete.ensures live.1)).1)
+    (live.0, (clause_left slots c.args.reference r live.0
+          (subst (λ (x : StoreState). clause_at x.slots r ≡ Some live.0) c.delete.ensures
+            live.1)).1)

@@ -6,20 +6,26 @@ use Rattle.cdcl.proofs.reducing.reduce.Goals as goal
 use Rattle.cdcl.proofs.reducing.reduce.Goals.{then-is_sparse+in_ok-compact, else-is_sparse}
 
 pub returns-then-not-is_due-clause-writes : goal.returns-then-not-is_due-clause-writes
-returns-then-not-is_due-clause-writes g c = writes_none c.args.problem.now.given.items (g.S.Sink.lines c.args.sink.now)
+returns-then-not-is_due-clause-writes g c =
+    writes_none c.args.problem.now.given.items (g.S.Sink.lines c.args.sink.now)
 
 pub returns-in_err-chosen-clause-writes : goal.returns-in_err-chosen-clause-writes
-returns-in_err-chosen-clause-writes g c = writes_none c.args.problem.now.given.items (g.S.Sink.lines c.args.sink.now)
+returns-in_err-chosen-clause-writes g c =
+    writes_none c.args.problem.now.given.items (g.S.Sink.lines c.args.sink.now)
 
 pub returns-in_err-longer_half-clause-writes : goal.returns-in_err-longer_half-clause-writes
-returns-in_err-longer_half-clause-writes g c = writes_none c.args.problem.now.given.items (g.S.Sink.lines c.args.sink.now)
+returns-in_err-longer_half-clause-writes g c =
+    writes_none c.args.problem.now.given.items (g.S.Sink.lines c.args.sink.now)
 
 pub returns-clause-runs : goal.returns-clause-runs
 returns-clause-runs g c =
     let p = c.args.problem.now in
     let ls = g.S.Sink.lines c.delete_all.new.sink in
-    let runs = runs_counted c.delete_all.new.search c.saturating_add-search.result p ls c.in_ok-delete_all.ensures.runs in
+    let runs =
+      runs_counted c.delete_all.new.search c.saturating_add-search.result p ls
+        c.in_ok-delete_all.ensures.runs in
     elim c.if-is_sparse.branch [
-      | then-is_sparse+in_ok-compact w ↦ subst (λ s. Runs s p ls) (sym w.search-is) (w.in_ok-compact.ensures.runs p ls runs)
+      | then-is_sparse+in_ok-compact w ↦
+        subst (λ s. Runs s p ls) (sym w.search-is) (w.in_ok-compact.ensures.runs p ls runs)
       | else-is_sparse w ↦ subst (λ s. Runs s p ls) (sym w.search-is) runs
     ]

@@ -8,7 +8,8 @@ use Rattle.cdcl.proofs.starting.given_clauses.Given as goal
 
 abbrev pub invariant-loop-clause : goal.invariant-loop-clause
 invariant-loop-clause l = record {
-  given : l.given.items ++ given_on (length l.given.items + 1) l.clause-iterator ≡ given_of l.clauses;
+  given : l.given.items ++ given_on (length l.given.items + 1) l.clause-iterator
+      ≡ given_of l.clauses;
   many : length l.given.items + length l.clause-iterator ≡ length l.clauses;
   once : All (λ c. has_repeat c ≡ false) l.clause-iterator;
 }

@@ -10,7 +10,10 @@ loop-old-preserved c =
     let flag = flag_at _ _ _ h c.is_live.ensures in
     elim c.if-is_live.branch [
       | then-is_live+in_ok-push w ↦
-          let new : w.len-new.result ≡ length c.loop-old.pairs.items = omega (arith, w.len-new.ensures, c.loop-old.pairs.ok.0) in
-          rw (w.pairs-is, w.in_ok-push.ensures.items, new) (listing_live _ _ _ c.loop-old.invariant h (flag ∙ w.if-is_live.true))
-      | else-is_live w ↦ rw w.pairs-is (listing_dead _ _ _ c.loop-old.invariant h (flag ∙ w.if-is_live.false))
+          let new : w.len-new.result ≡ length c.loop-old.pairs.items =
+            omega (arith, w.len-new.ensures, c.loop-old.pairs.ok.0) in
+          rw (w.pairs-is, w.in_ok-push.ensures.items, new)
+            (listing_live _ _ _ c.loop-old.invariant h (flag ∙ w.if-is_live.true))
+      | else-is_live w ↦
+        rw w.pairs-is (listing_dead _ _ _ c.loop-old.invariant h (flag ∙ w.if-is_live.false))
     ]

@@ -17,80 +17,120 @@ use Rattle.eliminate.proofs.Starting.{stays_start}
 use Rattle.eliminate.proofs.States.{all_live}
 use Rattle.eliminate.proofs.elimination.eliminate.Given.{Over}
 use Rattle.eliminate.proofs.elimination.eliminate.Goals as goal
-use Rattle.eliminate.proofs.elimination.eliminate.Goals.{In_ok-simplifier, In_ok-propagate_units, In_ok-simplify_open, In_ok-vars}
+use Rattle.eliminate.proofs.elimination.eliminate.Goals.{In_ok-simplifier, In_ok-propagate_units}
+use Rattle.eliminate.proofs.elimination.eliminate.Goals.{In_ok-simplify_open, In_ok-vars}
 
 abbrev start_of : Slots → List Bool → Start
 start_of slots frozen = record { clauses = live_clauses slots; frozen = frozen }
 
 -- what each pass leaves is a simplified form
 tables : (g : Over) (c : In_ok-simplifier g)
-    → IsSimplified (start_of c.args.store.now.slots c.args.frozen.now) c.in_ok-simplifier.simplifier c.args.store.now.slots (g.S.Sink.lines c.args.sink.now)
-tables g c = subst (λ (ls : List LogLine). IsSimplified (start_of c.args.store.now.slots c.args.frozen.now) c.in_ok-simplifier.simplifier c.args.store.now.slots ls) (sym c.requires.empty) (c.in_ok-simplifier.ensures.simplified c.args.frozen.now refl)
+    → IsSimplified (start_of c.args.store.now.slots c.args.frozen.now) c.in_ok-simplifier.simplifier
+      c.args.store.now.slots (g.S.Sink.lines c.args.sink.now)
+tables g c =
+    subst (λ (ls : List LogLine). IsSimplified (start_of c.args.store.now.slots c.args.frozen.now)
+      c.in_ok-simplifier.simplifier c.args.store.now.slots ls) (sym c.requires.empty)
+      (c.in_ok-simplifier.ensures.simplified c.args.frozen.now refl)
 
 propagated : (g : Over) (c : In_ok-propagate_units g)
-    → IsSimplified (start_of c.args.store.now.slots c.args.frozen.now) c.propagate_units.new.simplifier c.propagate_units.new.store.slots (g.S.Sink.lines c.propagate_units.new.sink)
-propagated g c = c.in_ok-propagate_units.ensures.simplified (start_of c.args.store.now.slots c.args.frozen.now) (tables g (goal.at.In_ok-propagate_units g c).In_ok-simplifier)
+    → IsSimplified (start_of c.args.store.now.slots c.args.frozen.now)
+      c.propagate_units.new.simplifier c.propagate_units.new.store.slots
+      (g.S.Sink.lines c.propagate_units.new.sink)
+propagated g c =
+    c.in_ok-propagate_units.ensures.simplified (start_of c.args.store.now.slots c.args.frozen.now)
+      (tables g (goal.at.In_ok-propagate_units g c).In_ok-simplifier)
 
 simplified : (g : Over) (c : In_ok-simplify_open g)
-    → IsSimplified (start_of c.args.store.now.slots c.args.frozen.now) c.simplify_open.new.simplifier c.simplify_open.new.store.slots (g.S.Sink.lines c.simplify_open.new.sink)
-simplified g c = c.in_ok-simplify_open.ensures.simplified (start_of c.args.store.now.slots c.args.frozen.now) refl (propagated g (goal.at.In_ok-simplify_open g c).In_ok-propagate_units)
+    → IsSimplified (start_of c.args.store.now.slots c.args.frozen.now)
+      c.simplify_open.new.simplifier c.simplify_open.new.store.slots
+      (g.S.Sink.lines c.simplify_open.new.sink)
+simplified g c =
+    c.in_ok-simplify_open.ensures.simplified (start_of c.args.store.now.slots c.args.frozen.now)
+      refl (propagated g (goal.at.In_ok-simplify_open g c).In_ok-propagate_units)
 
 -- and what the last one leaves is a result
 ended : (g : Over) (c : In_ok-vars g)
-    → IsResult (start_of c.args.store.now.slots c.args.frozen.now) c.define_where_open.new.simplifier.removals (stage_of c.in_ok-vars.vars c.define_where_open.new.store.slots c.define_where_open.new.simplifier.names (g.S.Sink.lines c.define_where_open.new.sink))
-ended g c = c.in_ok-vars.ensures.result (start_of c.args.store.now.slots c.args.frozen.now) refl (simplified g (goal.at.In_ok-vars g c).In_ok-simplify_open)
+    → IsResult (start_of c.args.store.now.slots c.args.frozen.now)
+      c.define_where_open.new.simplifier.removals
+      (stage_of c.in_ok-vars.vars c.define_where_open.new.store.slots
+        c.define_where_open.new.simplifier.names (g.S.Sink.lines c.define_where_open.new.sink))
+ended g c = c.in_ok-vars.ensures.result (start_of c.args.store.now.slots c.args.frozen.now) refl
+    (simplified g (goal.at.In_ok-vars g c).In_ok-simplify_open)
 
 pub propagate_units-requires-clause-simplified : goal.propagate_units-requires-clause-simplified
-propagate_units-requires-clause-simplified g c = (start_of c.args.store.now.slots c.args.frozen.now, tables g (goal.at.propagate_units-requires-clause-simplified g c).In_ok-simplifier)
+propagate_units-requires-clause-simplified g c =
+    (start_of c.args.store.now.slots c.args.frozen.now,
+      tables g (goal.at.propagate_units-requires-clause-simplified g c).In_ok-simplifier)
 
 pub returns-in_err-simplifier-clause-lines : goal.returns-in_err-simplifier-clause-lines
 returns-in_err-simplifier-clause-lines g c =
-    subst (StaysLogOver (length c.args.frozen.now) (given_of (live_clauses c.args.store.now.slots))) (sym c.requires.empty) (stays_start (length c.args.frozen.now) (given_of (live_clauses c.args.store.now.slots)))
+    subst (StaysLogOver (length c.args.frozen.now) (given_of (live_clauses c.args.store.now.slots)))
+      (sym c.requires.empty)
+      (stays_start (length c.args.frozen.now) (given_of (live_clauses c.args.store.now.slots)))
 
-pub returns-in_err-simplifier-clause-none_learned : goal.returns-in_err-simplifier-clause-none_learned
+pub returns-in_err-simplifier-clause-none_learned
+    : goal.returns-in_err-simplifier-clause-none_learned
 returns-in_err-simplifier-clause-none_learned g c = ap learned_count c.requires.empty
 
 pub returns-in_err-propagate_units-clause-lines : goal.returns-in_err-propagate_units-clause-lines
 returns-in_err-propagate_units-clause-lines g c =
-    (c.in_err-propagate_units.ensures.err (start_of c.args.store.now.slots c.args.frozen.now) (tables g (goal.at.returns-in_err-propagate_units-clause-lines g c).In_ok-simplifier)).0
+    (c.in_err-propagate_units.ensures.err (start_of c.args.store.now.slots c.args.frozen.now)
+        (tables g (goal.at.returns-in_err-propagate_units-clause-lines g c).In_ok-simplifier)).0
 
-pub returns-in_err-propagate_units-clause-none_learned : goal.returns-in_err-propagate_units-clause-none_learned
+pub returns-in_err-propagate_units-clause-none_learned
+    : goal.returns-in_err-propagate_units-clause-none_learned
 returns-in_err-propagate_units-clause-none_learned g c =
-    (c.in_err-propagate_units.ensures.err (start_of c.args.store.now.slots c.args.frozen.now) (tables g (goal.at.returns-in_err-propagate_units-clause-none_learned g c).In_ok-simplifier)).1
+    (c.in_err-propagate_units.ensures.err (start_of c.args.store.now.slots c.args.frozen.now)
+        (tables g (goal.at.returns-in_err-propagate_units-clause-none_learned g
+            c).In_ok-simplifier)).1
 
 pub simplify_open-requires : goal.simplify_open-requires
-simplify_open-requires g c = (start_of c.args.store.now.slots c.args.frozen.now, refl, propagated g (goal.at.simplify_open-requires g c).In_ok-propagate_units)
+simplify_open-requires g c =
+    (start_of c.args.store.now.slots c.args.frozen.now, refl,
+      propagated g (goal.at.simplify_open-requires g c).In_ok-propagate_units)
 
 pub returns-in_err-simplify_open-clause-lines : goal.returns-in_err-simplify_open-clause-lines
 returns-in_err-simplify_open-clause-lines g c =
-    (c.in_err-simplify_open.ensures.err (start_of c.args.store.now.slots c.args.frozen.now) refl (propagated g (goal.at.returns-in_err-simplify_open-clause-lines g c).In_ok-propagate_units)).0
+    (c.in_err-simplify_open.ensures.err (start_of c.args.store.now.slots c.args.frozen.now) refl
+        (propagated g (goal.at.returns-in_err-simplify_open-clause-lines g
+            c).In_ok-propagate_units)).0
 
-pub returns-in_err-simplify_open-clause-none_learned : goal.returns-in_err-simplify_open-clause-none_learned
+pub returns-in_err-simplify_open-clause-none_learned
+    : goal.returns-in_err-simplify_open-clause-none_learned
 returns-in_err-simplify_open-clause-none_learned g c =
-    (c.in_err-simplify_open.ensures.err (start_of c.args.store.now.slots c.args.frozen.now) refl (propagated g (goal.at.returns-in_err-simplify_open-clause-none_learned g c).In_ok-propagate_units)).1
+    (c.in_err-simplify_open.ensures.err (start_of c.args.store.now.slots c.args.frozen.now) refl
+        (propagated g (goal.at.returns-in_err-simplify_open-clause-none_learned g
+            c).In_ok-propagate_units)).1
 
 pub define_where_open-requires : goal.define_where_open-requires
-define_where_open-requires g c = record { simplified = (start_of c.args.store.now.slots c.args.frozen.now, refl, simplified g (goal.at.define_where_open-requires g c).In_ok-simplify_open) }
+define_where_open-requires g c =
+    record { simplified = (start_of c.args.store.now.slots c.args.frozen.now, refl,
+        simplified g (goal.at.define_where_open-requires g c).In_ok-simplify_open) }
 
 pub returns-in_err-vars-clause-lines : goal.returns-in_err-vars-clause-lines
 returns-in_err-vars-clause-lines g c =
-    (c.in_err-vars.ensures.err (start_of c.args.store.now.slots c.args.frozen.now) refl (simplified g (goal.at.returns-in_err-vars-clause-lines g c).In_ok-simplify_open)).0
+    (c.in_err-vars.ensures.err (start_of c.args.store.now.slots c.args.frozen.now) refl
+        (simplified g (goal.at.returns-in_err-vars-clause-lines g c).In_ok-simplify_open)).0
 
 pub returns-in_err-vars-clause-none_learned : goal.returns-in_err-vars-clause-none_learned
 returns-in_err-vars-clause-none_learned g c =
-    (c.in_err-vars.ensures.err (start_of c.args.store.now.slots c.args.frozen.now) refl (simplified g (goal.at.returns-in_err-vars-clause-none_learned g c).In_ok-simplify_open)).1
+    (c.in_err-vars.ensures.err (start_of c.args.store.now.slots c.args.frozen.now) refl
+        (simplified g (goal.at.returns-in_err-vars-clause-none_learned g c).In_ok-simplify_open)).1
 
 pub returns-in_err-names-clause-lines : goal.returns-in_err-names-clause-lines
-returns-in_err-names-clause-lines g c = (ended g (goal.at.returns-in_err-names-clause-lines g c).In_ok-vars).work.log
+returns-in_err-names-clause-lines g c =
+    (ended g (goal.at.returns-in_err-names-clause-lines g c).In_ok-vars).work.log
 
 pub returns-in_err-names-clause-none_learned : goal.returns-in_err-names-clause-none_learned
-returns-in_err-names-clause-none_learned g c = (ended g (goal.at.returns-in_err-names-clause-none_learned g c).In_ok-vars).work.none_learned
+returns-in_err-names-clause-none_learned g c =
+    (ended g (goal.at.returns-in_err-names-clause-none_learned g c).In_ok-vars).work.none_learned
 
 pub returns-clause-lines : goal.returns-clause-lines
 returns-clause-lines g c = (ended g (goal.at.returns-clause-lines g c).In_ok-vars).work.log
 
 pub returns-clause-none_learned : goal.returns-clause-none_learned
-returns-clause-none_learned g c = (ended g (goal.at.returns-clause-none_learned g c).In_ok-vars).work.none_learned
+returns-clause-none_learned g c =
+    (ended g (goal.at.returns-clause-none_learned g c).In_ok-vars).work.none_learned
 
 pub listed-requires : goal.listed-requires
 listed-requires g c = (ended g (goal.at.listed-requires g c).In_ok-vars).work.named.long
@@ -99,32 +139,45 @@ pub returns-clause-live : goal.returns-clause-live
 returns-clause-live g c base above =
     let k = ended g (goal.at.returns-clause-live g c).In_ok-vars in
     let slots = c.define_where_open.new.store.slots in
-    let live = log_live (given_of (live_clauses c.args.store.now.slots)) base (g.S.Sink.lines c.define_where_open.new.sink) in
-    subst (λ ns. HoldsWhatIsLive slots ns base live) (sym c.in_ok-names.ensures) (holds_live slots c.define_where_open.new.simplifier.names.names base _ live k.work.named.numbers (k.work.named.live base above))
+    let live =
+      log_live (given_of (live_clauses c.args.store.now.slots)) base
+        (g.S.Sink.lines c.define_where_open.new.sink) in
+    subst (λ ns. HoldsWhatIsLive slots ns base live) (sym c.in_ok-names.ensures)
+      (holds_live slots c.define_where_open.new.simplifier.names.names base _ live
+        k.work.named.numbers (k.work.named.live base above))
 
 pub returns-clause-left : goal.returns-clause-left
 returns-clause-left g c =
-    all_live (IsFormulaClause c.in_ok-vars.vars) c.define_where_open.new.store.slots (ended g (goal.at.returns-clause-left g c).In_ok-vars).work.clauses
+    all_live (IsFormulaClause c.in_ok-vars.vars) c.define_where_open.new.store.slots
+      (ended g (goal.at.returns-clause-left g c).In_ok-vars).work.clauses
 
 pub returns-clause-variables : goal.returns-clause-variables
-returns-clause-variables g c = let k = ended g (goal.at.returns-clause-variables g c).In_ok-vars in (k.more, k.fresh)
+returns-clause-variables g c = let k = ended g (goal.at.returns-clause-variables g c).In_ok-vars in
+    (k.more, k.fresh)
 
 pub returns-clause-free : goal.returns-clause-free
 returns-clause-free g c =
-    all_live (λ (d : List Literal). All (λ (l : Literal). is_eliminated c.define_where_open.new.simplifier.removals l.variable ≡ false) d) c.define_where_open.new.store.slots (ended g (goal.at.returns-clause-free g c).In_ok-vars).free
+    all_live (λ (d : List Literal). All
+        (λ (l : Literal). is_eliminated c.define_where_open.new.simplifier.removals l.variable
+          ≡ false) d) c.define_where_open.new.store.slots
+      (ended g (goal.at.returns-clause-free g c).In_ok-vars).free
 
 pub returns-clause-not_frozen : goal.returns-clause-not_frozen
-returns-clause-not_frozen g c = (ended g (goal.at.returns-clause-not_frozen g c).In_ok-vars).not_frozen
+returns-clause-not_frozen g c =
+    (ended g (goal.at.returns-clause-not_frozen g c).In_ok-vars).not_frozen
 
 pub returns-clause-back : goal.returns-clause-back
-returns-clause-back g c bits few all = (ended g (goal.at.returns-clause-back g c).In_ok-vars).back bits few all
+returns-clause-back g c bits few all =
+    (ended g (goal.at.returns-clause-back g c).In_ok-vars).back bits few all
 
 pub returns-clause-refuted : goal.returns-clause-refuted
 returns-clause-refuted g c w =
     elim (cases_Bool c.propagate_units.new.simplifier.is_refuted) [
       | inl e ↦
           let h = simplified g (goal.at.returns-clause-refuted g c).In_ok-simplify_open in
-          subst (λ (x : Slots). Contains (live_clauses x) []) (sym (c.in_ok-vars.ensures.same (c.in_ok-simplify_open.ensures.refuted e))) (h.refuted (c.in_ok-simplify_open.ensures.refuted e))
+          subst (λ (x : Slots). Contains (live_clauses x) [])
+            (sym (c.in_ok-vars.ensures.same (c.in_ok-simplify_open.ensures.refuted e)))
+            (h.refuted (c.in_ok-simplify_open.ensures.refuted e))
       | inr e ↦ absurd (c.in_ok-propagate_units.ensures.refuted e w)
     ]
 

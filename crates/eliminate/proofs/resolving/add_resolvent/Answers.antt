@@ -1,5 +1,6 @@
 -- The resolvent is there, or has an opposite pair.
-use Rattle.std.proofs.Common.{◌≡◌, ◌∙◌, ◌++◌, ◌∷◌, [], List, Some, true, ap, sym, subst, refl, inr, length}
+use Rattle.std.proofs.Common.{◌≡◌, ◌∙◌, ◌++◌, ◌∷◌, [], List, Some, true, ap, sym, subst, refl, inr}
+use Rattle.std.proofs.Common.{length}
 use Rattle.std.proofs.lemmas.Bool.{not-true}
 use Rattle.wcnf.specs.Literal.{Literal, negation}
 use Rattle.wcnf.specs.Clause.{contains_literal}
@@ -9,29 +10,42 @@ use Rattle.eliminate.specs.declared.simplifier.Simplifier.{Simplifier}
 use Rattle.eliminate_tables.specs.Resolvents.{resolvent}
 use Rattle.eliminate.specs.Simplifier.{LeavesLog}
 use Rattle.eliminate.specs.Variables.{GrowsWithout}
-use Rattle.eliminate.proofs.Resolvable.{resolvent_addable, resolvent_kind, literals_placed, literals_plain, is_named, same_at, pair_added}
+use Rattle.eliminate.proofs.Resolvable.{resolvent_addable, resolvent_kind, literals_placed}
+use Rattle.eliminate.proofs.Resolvable.{literals_plain, is_named, same_at, pair_added}
 use Rattle.eliminate.proofs.Growing.{grows_one, resolvent-lacks}
 use Rattle.lrat_log.proofs.Laws.{when_err}
 use Rattle.eliminate.proofs.Tables.{simplified_same}
 use Rattle.eliminate.proofs.resolving.add_resolvent.Goals as goal
 
 pub resolve-requires-clause-first : goal.resolve-requires-clause-first
-resolve-requires-clause-first g c = literals_placed c.args.simplifier.now c.args.store.now.slots (g.S.Sink.lines c.args.sink.now) c.requires.simplified c.args.first c.lits.result.now c.lits.ensures
+resolve-requires-clause-first g c =
+    literals_placed c.args.simplifier.now c.args.store.now.slots (g.S.Sink.lines c.args.sink.now)
+      c.requires.simplified c.args.first c.lits.result.now c.lits.ensures
 
 pub resolve-requires-clause-second : goal.resolve-requires-clause-second
-resolve-requires-clause-second g c = literals_placed c.args.simplifier.now c.args.store.now.slots (g.S.Sink.lines c.args.sink.now) c.requires.simplified c.args.second c.lits-2.result.now c.lits-2.ensures
+resolve-requires-clause-second g c =
+    literals_placed c.args.simplifier.now c.args.store.now.slots (g.S.Sink.lines c.args.sink.now)
+      c.requires.simplified c.args.second c.lits-2.result.now c.lits-2.ensures
 
 pub resolve-requires-clause-plain_first : goal.resolve-requires-clause-plain_first
-resolve-requires-clause-plain_first g c = literals_plain c.args.simplifier.now c.args.store.now.slots (g.S.Sink.lines c.args.sink.now) c.requires.simplified c.args.first c.lits.result.now c.lits.ensures
+resolve-requires-clause-plain_first g c =
+    literals_plain c.args.simplifier.now c.args.store.now.slots (g.S.Sink.lines c.args.sink.now)
+      c.requires.simplified c.args.first c.lits.result.now c.lits.ensures
 
 pub resolve-requires-clause-plain_second : goal.resolve-requires-clause-plain_second
-resolve-requires-clause-plain_second g c = literals_plain c.args.simplifier.now c.args.store.now.slots (g.S.Sink.lines c.args.sink.now) c.requires.simplified c.args.second c.lits-2.result.now c.lits-2.ensures
+resolve-requires-clause-plain_second g c =
+    literals_plain c.args.simplifier.now c.args.store.now.slots (g.S.Sink.lines c.args.sink.now)
+      c.requires.simplified c.args.second c.lits-2.result.now c.lits-2.ensures
 
 pub parents-requires-clause-first : goal.parents-requires-clause-first
-parents-requires-clause-first g c = is_named c.args.simplifier.now c.args.store.now.slots (g.S.Sink.lines c.args.sink.now) c.requires.simplified c.args.first c.lits.result.now c.lits.ensures
+parents-requires-clause-first g c =
+    is_named c.args.simplifier.now c.args.store.now.slots (g.S.Sink.lines c.args.sink.now)
+      c.requires.simplified c.args.first c.lits.result.now c.lits.ensures
 
 pub parents-requires-clause-second : goal.parents-requires-clause-second
-parents-requires-clause-second g c = is_named c.args.simplifier.now c.args.store.now.slots (g.S.Sink.lines c.args.sink.now) c.requires.simplified c.args.second c.lits-2.result.now c.lits-2.ensures
+parents-requires-clause-second g c =
+    is_named c.args.simplifier.now c.args.store.now.slots (g.S.Sink.lines c.args.sink.now)
+      c.requires.simplified c.args.second c.lits-2.result.now c.lits-2.ensures
 
 pub add-requires-clause-line : goal.add-requires-clause-line
 add-requires-clause-line g c start h =
@@ -44,18 +58,30 @@ add-requires-clause-line g c start h =
     let plain = c.in_ok-is_plain.ensures.plain in
     let is_plain = c.if-not-is_plain.false in
     let kind = resolvent_kind c.deref.result.now c.kind_of-kind.result c.kind_of-kind.ensures in
-    let has : contains_literal p d ≡ true = subst (λ (x : List Literal). contains_literal p x ≡ true) (same_at slots c.args.first c.requires.first.0 d c.requires.first.1 c.lits.ensures) c.requires.first.2 in
-    let has_not : contains_literal (negation p) e ≡ true = subst (λ (x : List Literal). contains_literal (negation p) x ≡ true) (same_at slots c.args.second c.requires.second.0 e c.requires.second.1 c.lits-2.ensures) c.requires.second.2 in
-    resolvent_addable start t slots (g.S.Sink.lines c.args.sink.now) p d e c.args.first c.args.second h c.lits.ensures c.lits-2.ensures c.kind_of-kind.result c.resolve.new.out.items c.in_ok-hints.hints.items
-    kind.0 kind.1 has has_not (not-true _ (sym plain ∙ is_plain)) (c.in_ok-is_plain.ensures.built is_plain) c.in_ok-hints.ensures
+    let has : contains_literal p d ≡ true =
+      subst (λ (x : List Literal). contains_literal p x ≡ true)
+        (same_at slots c.args.first c.requires.first.0 d c.requires.first.1 c.lits.ensures)
+        c.requires.first.2 in
+    let has_not : contains_literal (negation p) e ≡ true =
+      subst (λ (x : List Literal). contains_literal (negation p) x ≡ true)
+        (same_at slots c.args.second c.requires.second.0 e c.requires.second.1 c.lits-2.ensures)
+        c.requires.second.2 in
+    resolvent_addable start t slots (g.S.Sink.lines c.args.sink.now) p d e c.args.first
+      c.args.second h c.lits.ensures c.lits-2.ensures c.kind_of-kind.result c.resolve.new.out.items
+      c.in_ok-hints.hints.items
+    kind.0 kind.1 has has_not (not-true _ (sym plain ∙ is_plain))
+      (c.in_ok-is_plain.ensures.built is_plain) c.in_ok-hints.ensures
 
 pub returns-in_err-reference-clause-err : goal.returns-in_err-reference-clause-err
 returns-in_err-reference-clause-err g c =
     let s : Simplifier = c.args.simplifier.now in
     let t : Simplifier = record s { marks = c.resolve.new.marks; clause = c.resolve.new.out } in
-    let logs : LeavesLog s c.args.store.now.slots (g.S.Sink.lines c.args.sink.now) (g.S.Sink.lines c.add.new.sink) = (λ start h.
-    c.in_err-reference.ensures.err start (simplified_same start s t c.args.store.now.slots (g.S.Sink.lines c.args.sink.now)
-    (record { vars = refl; names = refl; places = refl; removals = refl; marks = c.resolve.ensures.len; refuted = refl }) h.state.occurrences h)) in
+    let logs : LeavesLog s c.args.store.now.slots (g.S.Sink.lines c.args.sink.now)
+      (g.S.Sink.lines c.add.new.sink) = (λ start h.
+    c.in_err-reference.ensures.err start (simplified_same start s t c.args.store.now.slots
+        (g.S.Sink.lines c.args.sink.now)
+    (record { vars = refl; names = refl; places = refl; removals = refl;
+          marks = c.resolve.ensures.len; refuted = refl }) h.state.occurrences h)) in
     when_err _ logs
 
 pub returns-clause-grows : goal.returns-clause-grows
@@ -66,18 +92,32 @@ returns-clause-grows g c =
     let p = c.args.pivot in
     let d = c.lits.result.now in
     let e = c.lits-2.result.now in
-    let has : contains_literal p d ≡ true = subst (λ (x : List Literal). contains_literal p x ≡ true) (same_at slots c.args.first c.requires.first.0 d c.requires.first.1 c.lits.ensures) c.requires.first.2 in
-    let has_not : contains_literal (negation p) e ≡ true = subst (λ (x : List Literal). contains_literal (negation p) x ≡ true) (same_at slots c.args.second c.requires.second.0 e c.requires.second.1 c.lits-2.ensures) c.requires.second.2 in
-    let lacks = resolvent-lacks p d e (literals_plain s slots ls c.requires.simplified c.args.first d c.lits.ensures) (literals_plain s slots ls c.requires.simplified c.args.second e c.lits-2.ensures) has has_not in
-    subst (GrowsWithout p slots) (sym (c.in_ok-reference.ensures.slots ∙ ap (λ (xs : List Literal). slots ++ Some xs ∷ []) (c.in_ok-is_plain.ensures.built c.if-not-is_plain.false)))
+    let has : contains_literal p d ≡ true =
+      subst (λ (x : List Literal). contains_literal p x ≡ true)
+        (same_at slots c.args.first c.requires.first.0 d c.requires.first.1 c.lits.ensures)
+        c.requires.first.2 in
+    let has_not : contains_literal (negation p) e ≡ true =
+      subst (λ (x : List Literal). contains_literal (negation p) x ≡ true)
+        (same_at slots c.args.second c.requires.second.0 e c.requires.second.1 c.lits-2.ensures)
+        c.requires.second.2 in
+    let lacks =
+      resolvent-lacks p d e (literals_plain s slots ls c.requires.simplified c.args.first d
+        c.lits.ensures) (literals_plain s slots ls c.requires.simplified c.args.second e
+        c.lits-2.ensures) has has_not in
+    subst (GrowsWithout p slots)
+      (sym (c.in_ok-reference.ensures.slots
+          ∙ ap (λ (xs : List Literal). slots ++ Some xs ∷ [])
+          (c.in_ok-is_plain.ensures.built c.if-not-is_plain.false)))
     (grows_one p slots (resolvent p d e) lacks)
 
 pub returns-clause-resolved : goal.returns-clause-resolved
 returns-clause-resolved g c x y ex ey =
     inr (
       length c.args.store.now.slots,
-      pair_added c.args.pivot c.args.store.now.slots c.add.new.store.slots c.args.first c.args.second c.lits.result.now c.lits-2.result.now c.resolve.new.out.items
-          c.in_ok-reference.ensures.slots (c.in_ok-is_plain.ensures.built c.if-not-is_plain.false) c.lits.ensures c.lits-2.ensures x y ex ey,
+      pair_added c.args.pivot c.args.store.now.slots c.add.new.store.slots c.args.first
+        c.args.second c.lits.result.now c.lits-2.result.now c.resolve.new.out.items
+          c.in_ok-reference.ensures.slots (c.in_ok-is_plain.ensures.built c.if-not-is_plain.false)
+            c.lits.ensures c.lits-2.ensures x y ex ey,
     )
 
 pub returns-clause-added : goal.returns-clause-added
@@ -85,6 +125,8 @@ returns-clause-added g c = (
   c.in_ok-reference.ensures.reference,
   λ x y ex ey.
       ap (clause_at c.add.new.store.slots) c.in_ok-reference.ensures.reference
-      ∙ pair_added c.args.pivot c.args.store.now.slots c.add.new.store.slots c.args.first c.args.second c.lits.result.now c.lits-2.result.now c.resolve.new.out.items
-      c.in_ok-reference.ensures.slots (c.in_ok-is_plain.ensures.built c.if-not-is_plain.false) c.lits.ensures c.lits-2.ensures x y ex ey,
+      ∙ pair_added c.args.pivot c.args.store.now.slots c.add.new.store.slots c.args.first
+        c.args.second c.lits.result.now c.lits-2.result.now c.resolve.new.out.items
+      c.in_ok-reference.ensures.slots (c.in_ok-is_plain.ensures.built c.if-not-is_plain.false)
+        c.lits.ensures c.lits-2.ensures x y ex ey,
 )

@@ -7,7 +7,8 @@ use Rattle.eliminate.specs.Variables.{KeepsLog}
 use Rattle.eliminate.proofs.Deleting.{leaves_all, keeps_start, keeps_log, next_deleted, next_dead}
 use Rattle.lrat_log.proofs.Laws.{when_err}
 use Rattle.eliminate.proofs.variables.delete_all.Goals as goal
-use Rattle.eliminate.proofs.variables.delete_all.Goals.{then-is_live+in_ok-leave+in_ok-delete, else-is_live}
+use Rattle.eliminate.proofs.variables.delete_all.Goals.{then-is_live+in_ok-leave+in_ok-delete}
+use Rattle.eliminate.proofs.variables.delete_all.Goals.{else-is_live}
 
 pub loop-reference-init : goal.loop-reference-init
 loop-reference-init g c = record { work = keeps_start _ _ _; counted = refl; left = leaves_all _ }
@@ -24,25 +25,42 @@ loop-reference-preserved g c =
     let i = c.loop-reference.reference-index in
     elim c.if-is_live.branch [
       | then-is_live+in_ok-leave+in_ok-delete w ↦
-          let k = next_deleted names refs slots left c.if-is_live.store.slots ls more (g.S.Sink.lines c.if-is_live.sink) r i c.loop-reference-test.true c.reference-item.is c.loop-reference.invariant.work c.loop-reference.invariant.counted c.loop-reference.invariant.left
-          (c.is_live.ensures.0 w.if-is_live.true) (ap (λ (x : StoreState). x.slots) w.store-is ∙ w.in_ok-delete.ensures.slots) (ap g.S.Sink.lines w.sink-is ∙ w.in_ok-delete.ensures.lines) in
+          let k =
+            next_deleted names refs slots left c.if-is_live.store.slots ls more
+              (g.S.Sink.lines c.if-is_live.sink) r i c.loop-reference-test.true c.reference-item.is
+              c.loop-reference.invariant.work c.loop-reference.invariant.counted
+              c.loop-reference.invariant.left
+          (c.is_live.ensures.0 w.if-is_live.true) (ap (λ (x : StoreState). x.slots) w.store-is
+              ∙ w.in_ok-delete.ensures.slots) (ap g.S.Sink.lines w.sink-is
+              ∙ w.in_ok-delete.ensures.lines) in
           record { work = k.0; counted = k.2; left = k.1 }
       | else-is_live w ↦
-          let k = next_dead names refs slots left c.if-is_live.store.slots ls more (g.S.Sink.lines c.if-is_live.sink) r i c.loop-reference-test.true c.reference-item.is c.loop-reference.invariant.work c.loop-reference.invariant.counted c.loop-reference.invariant.left
-          (λ live. false≢true (sym w.if-is_live.false ∙ c.is_live.ensures.1 live)) (ap (λ (x : StoreState). x.slots) w.store-is) (ap g.S.Sink.lines w.sink-is) in
+          let k =
+            next_dead names refs slots left c.if-is_live.store.slots ls more
+              (g.S.Sink.lines c.if-is_live.sink) r i c.loop-reference-test.true c.reference-item.is
+              c.loop-reference.invariant.work c.loop-reference.invariant.counted
+              c.loop-reference.invariant.left
+          (λ live. false≢true (sym w.if-is_live.false ∙ c.is_live.ensures.1 live))
+            (ap (λ (x : StoreState). x.slots) w.store-is) (ap g.S.Sink.lines w.sink-is) in
           record { work = k.0; counted = k.2; left = k.1 }
     ]
 
 pub returns-in_err-leave-clause-err : goal.returns-in_err-leave-clause-err
 returns-in_err-leave-clause-err g c =
-    let logs : KeepsLog c.args.names.now.names c.args.store.now.slots (g.S.Sink.lines c.args.sink.now) (g.S.Sink.lines c.loop-reference.sink) = keeps_log _ _ _ _ _ c.loop-reference.invariant.work in
+    let logs : KeepsLog c.args.names.now.names c.args.store.now.slots
+      (g.S.Sink.lines c.args.sink.now) (g.S.Sink.lines c.loop-reference.sink) =
+      keeps_log _ _ _ _ _ c.loop-reference.invariant.work in
     when_err _ logs
 
 pub returns-in_err-delete-clause-err : goal.returns-in_err-delete-clause-err
 returns-in_err-delete-clause-err g c =
-    let before : KeepsLog c.args.names.now.names c.args.store.now.slots (g.S.Sink.lines c.args.sink.now) (g.S.Sink.lines c.loop-reference.sink) = keeps_log _ _ _ _ _ c.loop-reference.invariant.work in
-    let logs : KeepsLog c.args.names.now.names c.args.store.now.slots (g.S.Sink.lines c.args.sink.now) (g.S.Sink.lines c.delete.new.sink) =
-    subst (KeepsLog c.args.names.now.names c.args.store.now.slots (g.S.Sink.lines c.args.sink.now)) (sym c.in_err-delete.ensures.err) before in
+    let before : KeepsLog c.args.names.now.names c.args.store.now.slots
+      (g.S.Sink.lines c.args.sink.now) (g.S.Sink.lines c.loop-reference.sink) =
+      keeps_log _ _ _ _ _ c.loop-reference.invariant.work in
+    let logs : KeepsLog c.args.names.now.names c.args.store.now.slots
+      (g.S.Sink.lines c.args.sink.now) (g.S.Sink.lines c.delete.new.sink) =
+    subst (KeepsLog c.args.names.now.names c.args.store.now.slots (g.S.Sink.lines c.args.sink.now))
+      (sym c.in_err-delete.ensures.err) before in
     when_err _ logs
 
 pub delete-requires-clause-line : goal.delete-requires-clause-line

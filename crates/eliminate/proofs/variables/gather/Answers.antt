@@ -17,39 +17,56 @@ use Rattle.eliminate.proofs.variables.gather.Goals.{After-clean}
 abbrev cleaned : List (List ℕ) → Slots → ℕ → List (List ℕ)
 cleaned rows slots i = with_row rows i (filter (has_clause slots) (row_at rows i))
 
-are_cleaned : (old rows : List (List ℕ)) (slots : Slots) (l : Literal) (i : ℕ) → HasPlace (length old) l → AreRows old slots → i ≡ index_of l → rows ≡ cleaned old slots i → AreRows rows slots × (length rows ≡ length old)
+are_cleaned : (old rows : List (List ℕ)) (slots : Slots) (l : Literal) (i : ℕ)
+    → HasPlace (length old) l → AreRows old slots → i ≡ index_of l → rows ≡ cleaned old slots i
+    → AreRows rows slots × (length rows ≡ length old)
 are_cleaned old rows slots l i place a at is =
     let here : rows ≡ cleaned old slots (index_of l) = is ∙ ap (cleaned old slots) at in (
-      subst (λ (rs : List (List ℕ)). AreRows rs slots) (sym here) (rows_cleaned old slots (index_of l) (place_within (length old) l place) a),
+      subst (λ (rs : List (List ℕ)). AreRows rs slots) (sym here)
+        (rows_cleaned old slots (index_of l) (place_within (length old) l place) a),
       ap length here ∙ length-set old (index_of l) _,
     )
 
 -- after the row is cleaned, the rows and the form are right
-right : (c : After-clean) → AreRows c.clean.new.self c.args.store.now.slots × (length c.clean.new.self ≡ length c.args.simplifier.now.occurrences)
-right c = are_cleaned c.args.simplifier.now.occurrences c.clean.new.self c.args.store.now.slots c.args.lit c.index-row.result c.requires.place c.requires.rows c.index-row.ensures.index c.clean.ensures
+right : (c : After-clean) → AreRows c.clean.new.self c.args.store.now.slots
+      × (length c.clean.new.self ≡ length c.args.simplifier.now.occurrences)
+right c =
+    are_cleaned c.args.simplifier.now.occurrences c.clean.new.self c.args.store.now.slots c.args.lit
+      c.index-row.result c.requires.place c.requires.rows c.index-row.ensures.index c.clean.ensures
 
-stays : (c : After-clean) (lines : List LogLine) → StaysSimplified c.args.simplifier.now c.args.store.now.slots lines (record c.args.simplifier.now { occurrences = c.clean.new.self }) c.args.store.now.slots lines
+stays : (c : After-clean) (lines : List LogLine)
+    → StaysSimplified c.args.simplifier.now c.args.store.now.slots lines
+    (record c.args.simplifier.now { occurrences = c.clean.new.self }) c.args.store.now.slots lines
 stays c lines start h =
     let s : Simplifier = c.args.simplifier.now in
-    simplified_same start s (record s { occurrences = c.clean.new.self }) c.args.store.now.slots lines
-    (record { vars = refl; names = refl; places = (right c).1; removals = refl; marks = refl; refuted = refl }) (right c).0 h
+    simplified_same start s (record s { occurrences = c.clean.new.self })
+      c.args.store.now.slots lines
+    (record { vars = refl; names = refl; places = (right c).1; removals = refl; marks = refl;
+          refuted = refl }) (right c).0 h
 
 pub returns-in_err-extend_from_slice-clause-rows : goal.returns-in_err-extend_from_slice-clause-rows
-returns-in_err-extend_from_slice-clause-rows c = (right (goal.at.returns-in_err-extend_from_slice-clause-rows c).After-clean).0
+returns-in_err-extend_from_slice-clause-rows c =
+    (right (goal.at.returns-in_err-extend_from_slice-clause-rows c).After-clean).0
 
-pub returns-in_err-extend_from_slice-clause-simplified : goal.returns-in_err-extend_from_slice-clause-simplified
-returns-in_err-extend_from_slice-clause-simplified c lines start h = stays (goal.at.returns-in_err-extend_from_slice-clause-simplified c).After-clean lines start h
+pub returns-in_err-extend_from_slice-clause-simplified
+    : goal.returns-in_err-extend_from_slice-clause-simplified
+returns-in_err-extend_from_slice-clause-simplified c lines start h =
+    stays (goal.at.returns-in_err-extend_from_slice-clause-simplified c).After-clean lines start h
 
 pub returns-clause-gathered : goal.returns-clause-gathered
 returns-clause-gathered c =
     let rows = c.args.simplifier.now.occurrences in
     let slots : Slots = c.args.store.now.slots in
-    those_with rows slots c.args.lit c.extend_from_slice.new.self.items c.requires.place c.requires.rows
-    (c.in_ok-extend_from_slice.ensures.items ∙ ap (λ xs. xs ++ c.get.result.now) c.clear.ensures.items ∙ c.get.ensures ∙ ap (λ rs. row_at rs c.index-row.result) c.clean.ensures
+    those_with rows slots c.args.lit c.extend_from_slice.new.self.items c.requires.place
+      c.requires.rows
+    (c.in_ok-extend_from_slice.ensures.items
+        ∙ ap (λ xs. xs ++ c.get.result.now) c.clear.ensures.items ∙ c.get.ensures
+        ∙ ap (λ rs. row_at rs c.index-row.result) c.clean.ensures
     ∙ ap (λ i. row_at (cleaned rows slots i) i) c.index-row.ensures.index)
 
 pub returns-clause-rows : goal.returns-clause-rows
 returns-clause-rows c = (right (goal.at.returns-clause-rows c).After-clean).0
 
 pub returns-clause-simplified : goal.returns-clause-simplified
-returns-clause-simplified c lines start h = stays (goal.at.returns-clause-simplified c).After-clean lines start h
+returns-clause-simplified c lines start h =
+    stays (goal.at.returns-clause-simplified c).After-clean lines start h

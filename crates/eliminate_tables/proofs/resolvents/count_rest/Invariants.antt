@@ -8,5 +8,6 @@ abbrev pub invariant-loop-lit : goal.invariant-loop-lit
 invariant-loop-lit l = record {
   count : l.count ≡ length (unmarked_rest l.marks l.left_out (take l.lit-index l.lits));
   few : l.count ≤ l.lit-index;
-  plain : list_any (is_opposed l.marks) (unmarked_rest l.marks l.left_out (take l.lit-index l.lits)) ≡ false;
+  plain : list_any (is_opposed l.marks) (unmarked_rest l.marks l.left_out (take l.lit-index l.lits))
+      ≡ false;
 }

@@ -13,10 +13,14 @@ use Rattle.eliminate_tables.proofs.resolvents.resolve.Goals as goal
 pub returns-clause-plain : goal.returns-clause-plain
 returns-clause-plain c =
     let ms = c.mark_without.new.self in
-    let some : All (λ (l : Literal). 0 < l.variable) c.args.second.now = All-weaker (HasPlace (length c.args.marks.now)) (λ (l : Literal). 0 < l.variable) (λ l h. h.0) c.args.second.now c.requires.second in
+    let some : All (λ (l : Literal). 0 < l.variable) c.args.second.now =
+      All-weaker (HasPlace (length c.args.marks.now)) (λ (l : Literal). 0 < l.variable) (λ l h. h.0)
+        c.args.second.now c.requires.second in
     c.in_ok-plain.ensures.plain
-    ∙ ap (λ q. not (list_any (is_opposed ms) (unmarked_rest ms q c.args.second.now))) c.negation.ensures
-    ∙ ap not (opposed_is ms c.args.pivot c.args.first.now c.args.second.now c.mark_without.ensures.marked some c.requires.plain_first c.requires.plain_second)
+    ∙ ap (λ q. not (list_any (is_opposed ms) (unmarked_rest ms q c.args.second.now)))
+      c.negation.ensures
+    ∙ ap not (opposed_is ms c.args.pivot c.args.first.now c.args.second.now
+        c.mark_without.ensures.marked some c.requires.plain_first c.requires.plain_second)
 
 pub returns-clause-built : goal.returns-clause-built
 returns-clause-built c h =
@@ -24,9 +28,13 @@ returns-clause-built c h =
     let p = c.args.pivot in
     let first = c.args.first.now in
     let second = c.args.second.now in
-    let some : All (λ (l : Literal). 0 < l.variable) second = All-weaker (HasPlace (length c.args.marks.now)) (λ (l : Literal). 0 < l.variable) (λ l h. h.0) second c.requires.second in
-    let others : c.add_others.new.out.items ≡ without_literal p first = c.in_ok-add_others.ensures ∙ ap (λ xs. xs ++ without_literal p first) c.clear.ensures.items in
+    let some : All (λ (l : Literal). 0 < l.variable) second =
+      All-weaker (HasPlace (length c.args.marks.now)) (λ (l : Literal). 0 < l.variable) (λ l h. h.0)
+        second c.requires.second in
+    let others : c.add_others.new.out.items ≡ without_literal p first = c.in_ok-add_others.ensures
+      ∙ ap (λ xs. xs ++ without_literal p first) c.clear.ensures.items in
     c.in_ok-plain.ensures.built h
     ∙ ap (λ xs. xs ++ unmarked_rest ms c.negation.result second) others
     ∙ ap (λ q. without_literal p first ++ unmarked_rest ms q second) c.negation.ensures
-    ∙ ap (λ xs. without_literal p first ++ xs) (rest_is ms (without_literal p first) (negation p) second c.mark_without.ensures.marked some)
+    ∙ ap (λ xs. without_literal p first ++ xs)
+      (rest_is ms (without_literal p first) (negation p) second c.mark_without.ensures.marked some)

@@ -9,5 +9,6 @@ use Rattle.eliminate_tables.proofs.stack.is_needed.Given as goal
 abbrev pub invariant-loop-lit : goal.invariant-loop-lit
 invariant-loop-lit l = record {
   found : l.found ≡ contains_literal l.literal (take l.lit-index l.clause);
-  others : list_any (literal_value (assignment_of l.bits)) (without_literal l.literal (take l.lit-index l.clause)) ≡ false;
+  others : list_any (literal_value (assignment_of l.bits))
+    (without_literal l.literal (take l.lit-index l.clause)) ≡ false;
 }

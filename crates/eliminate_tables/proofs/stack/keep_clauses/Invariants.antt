@@ -5,4 +5,6 @@ use Rattle.eliminate_tables.specs.Rows.{clauses_under}
 use Rattle.eliminate_tables.proofs.stack.keep_clauses.Given as goal
 
 abbrev pub invariant-loop-reference : goal.invariant-loop-reference
-invariant-loop-reference l = AddsClauses l.fn.pieces.items l.pieces.items l.fn.literals.items l.literals.items (clauses_under l.store.slots (take l.reference-index l.references))
+invariant-loop-reference l =
+    AddsClauses l.fn.pieces.items l.pieces.items l.fn.literals.items l.literals.items
+      (clauses_under l.store.slots (take l.reference-index l.references))

@@ -16,7 +16,9 @@ add-requires-clause-small g c =
     let i = c.loop-bounds.invariant in
     let p = c.args.instance.now in
     let best = c.loop-bounds.best in
-    let small = cost_small p best.cost i.over.instance (cost_of_solution p best.bits.items best.cost i.solution) in
+    let small =
+      cost_small p best.cost i.over.instance
+        (cost_of_solution p best.bits.items best.cost i.solution) in
     omega (arith, small)
 
 pub returns-then-is_err-clause-improves : goal.returns-then-is_err-clause-improves
@@ -27,14 +29,16 @@ returns-then-is_err-clause-improves g c = λ before l a e.
     let err = at_err c.improved.result c.if-is_err.ensures.value c.improved.ensures.err in
     progress_end c.args.profile c.args.instance.now _ _ before c.loop-bounds.budget
     (i.limit ∙ sym l) costs (err.0 ∙ i.told) cost i.falling
-    (honest_new c.args.instance.now costs (costs ++ cost ∷ []) cost c.loop-bounds.best.bits.items refl i.solution i.honest) err.1 (err.2 ∙ ap (λ n. n + 1) i.failures)
+    (honest_new c.args.instance.now costs (costs ++ cost ∷ []) cost c.loop-bounds.best.bits.items
+        refl i.solution i.honest) err.1 (err.2 ∙ ap (λ n. n + 1) i.failures)
 
 pub returns-then-is_err-2-clause-improves : goal.returns-then-is_err-2-clause-improves
 returns-then-is_err-2-clause-improves g c = λ before l a e.
     let i = c.loop-bounds.invariant in
     let best = c.loop-bounds.best in
     let ok = at_ok c.improved.result c.if-is_err.ensures.value c.improved.ensures.ok in
-    lowered_memory c.args.instance.now c.loop-bounds.bounds.costs.items _ best.cost best.bits.items refl
+    lowered_memory c.args.instance.now c.loop-bounds.bounds.costs.items _ best.cost
+      best.bits.items refl
     c.args.profile _ _ _ before c.loop-bounds.budget (i.limit ∙ sym l)
     i.told ok.0 (ok.2 ∙ i.failures) i.falling i.solution i.honest
 
@@ -43,7 +47,8 @@ returns-in-Err-clause-improves g c = λ before l a e.
     let i = c.loop-bounds.invariant in
     let best = c.loop-bounds.best in
     let ok = at_ok c.improved.result c.if-is_err.ensures.value c.improved.ensures.ok in
-    lowered_memory c.args.instance.now c.loop-bounds.bounds.costs.items _ best.cost best.bits.items refl
+    lowered_memory c.args.instance.now c.loop-bounds.bounds.costs.items _ best.cost
+      best.bits.items refl
     c.args.profile _ _ _ before c.search.new.budget (c.search.ensures.limit ∙ i.limit ∙ sym l)
     i.told ok.0 (ok.2 ∙ i.failures) i.falling i.solution i.honest
 
@@ -57,7 +62,9 @@ search-requires-clause-over g c = at_ok c.add.result c.if-is_err-2.ensures.value
 
 pub search-requires-clause-bounded : goal.search-requires-clause-bounded
 search-requires-clause-bounded g c =
-    (c.loop-bounds.best.cost, (c.loop-bounds.bounds.costs.items, at_ok c.add.result c.if-is_err-2.ensures.value c.add.ensures.costs))
+    (c.loop-bounds.best.cost,
+        (c.loop-bounds.bounds.costs.items,
+          at_ok c.add.result c.if-is_err-2.ensures.value c.add.ensures.costs))
 
 pub loop-bounds-smaller : goal.loop-bounds-smaller
 loop-bounds-smaller g c =
@@ -84,14 +91,18 @@ loop-bounds-preserved g c =
       over = c.in-Ok-Cheaper.ensures.over;
       profile = c.search.ensures.profile ∙ same ∙ i.profile;
       solution = next.solution;
-      falling = subst (λ x. AreFalling (x ++ c.in-Ok-Cheaper.solution.cost ∷ [])) (sym more) (falling_more costs cost c.in-Ok-Cheaper.solution.cost i.falling (next.below costs cost more));
+      falling = subst (λ x. AreFalling (x ++ c.in-Ok-Cheaper.solution.cost ∷ [])) (sym more)
+        (falling_more costs cost c.in-Ok-Cheaper.solution.cost i.falling
+          (next.below costs cost more));
       honest = honest_new p costs c.search.new.self.costs.items cost bits more i.solution i.honest;
       told = told_new p costs c.search.new.self.costs.items cost bits more _ _ _ i.told ok.0;
       failures = ok.2 ∙ i.failures;
       follows = λ first h. c.improved.ensures.follows first (i.follows first h);
       hard = i.hard;
       limit = c.search.ensures.limit ∙ i.limit;
-      answers = omega (arith, next.answers, i.answers, count_new p costs c.search.new.self.costs.items cost bits more);
+      answers =
+        omega (arith, next.answers, i.answers,
+          count_new p costs c.search.new.self.costs.items cost bits more);
       learned = omega (arith, c.search.ensures.learned, unlearned, i.learned);
     }
 
@@ -103,14 +114,19 @@ returns-in-Ok-Refuted-clause-improves g c = λ before l a e.
     let r = c.conclude_optimum in
     lowered_end c.args.instance.now c.loop-bounds.bounds.costs.items c.search.new.self.costs.items
     c.loop-bounds.best.cost c.loop-bounds.best.bits.items
-    (ap (λ (v : Vec ℕ Global). v.items) c.search.ensures.costs ∙ at_ok c.add.result c.if-is_err-2.ensures.value c.add.ensures.costs)
+    (ap (λ (v : Vec ℕ Global). v.items) c.search.ensures.costs
+        ∙ at_ok c.add.result c.if-is_err-2.ensures.value c.add.ensures.costs)
     c.args.profile _ _ _ _ before c.search.new.budget r.result
     (c.search.ensures.limit ∙ i.limit ∙ sym l)
     i.told ok.0 (ok.2 ∙ i.failures) i.falling i.solution i.honest r.ensures.fault
-    (c.search.ensures.profile ∙ at_ok c.add.result c.if-is_err-2.ensures.value c.add.ensures.profile ∙ i.profile)
+    (c.search.ensures.profile ∙ at_ok c.add.result c.if-is_err-2.ensures.value c.add.ensures.profile
+        ∙ i.profile)
     r.ensures.found (omega (arith, next.answers, i.answers, a))
-    (on_work_weaker r.result (λ w. ⊥) (λ w. c.search.new.budget.learned ≡ before.learned + work_count w) (λ w x. absurd x) r.ensures.work)
-    (on_work_weaker r.result (λ w. ⊥) (λ w. left_of c.search.new.budget ≡ 0) (λ w x. absurd x) r.ensures.work)
+    (on_work_weaker r.result (λ w. ⊥)
+        (λ w. c.search.new.budget.learned ≡ before.learned + work_count w) (λ w x. absurd x)
+        r.ensures.work)
+    (on_work_weaker r.result (λ w. ⊥) (λ w. left_of c.search.new.budget ≡ 0) (λ w x. absurd x)
+        r.ensures.work)
 
 pub conclude_spent-requires-clause-above : goal.conclude_spent-requires-clause-above
 conclude_spent-requires-clause-above g c =
@@ -131,33 +147,44 @@ returns-in-Ok-Spent-clause-improves g c = λ before l a e.
     let r = c.conclude_spent in
     let sink = c.search.new.self.solver.sink in
     let unlearned = at_ok c.add.result c.if-is_err-2.ensures.value c.add.ensures.learned in
-    let learned : c.search.new.budget.learned ≡ c.args.budget.now.learned + learned_count c.search.new.self.solver.sink =
+    let learned : c.search.new.budget.learned ≡ c.args.budget.now.learned + learned_count
+      c.search.new.self.solver.sink =
     omega (arith, c.search.ensures.learned, unlearned, i.learned) in
     lowered_end c.args.instance.now c.loop-bounds.bounds.costs.items c.search.new.self.costs.items
     c.loop-bounds.best.cost c.loop-bounds.best.bits.items
-    (ap (λ (v : Vec ℕ Global). v.items) c.search.ensures.costs ∙ at_ok c.add.result c.if-is_err-2.ensures.value c.add.ensures.costs)
+    (ap (λ (v : Vec ℕ Global). v.items) c.search.ensures.costs
+        ∙ at_ok c.add.result c.if-is_err-2.ensures.value c.add.ensures.costs)
     c.args.profile _ _ _ _ before c.search.new.budget r.result
     (c.search.ensures.limit ∙ i.limit ∙ sym l)
     i.told ok.0 (ok.2 ∙ i.failures) i.falling i.solution i.honest r.ensures.fault
-    (c.search.ensures.profile ∙ at_ok c.add.result c.if-is_err-2.ensures.value c.add.ensures.profile ∙ i.profile)
+    (c.search.ensures.profile ∙ at_ok c.add.result c.if-is_err-2.ensures.value c.add.ensures.profile
+        ∙ i.profile)
     r.ensures.found (omega (arith, next.answers, i.answers, a))
-    (on_work_weaker r.result (λ w. (w.hard ≡ c.loop-bounds.hard) × (learned_count w.bound ≡ learned_count sink))
+    (on_work_weaker r.result (λ w. (w.hard ≡ c.loop-bounds.hard)
+          × (learned_count w.bound ≡ learned_count sink))
     (λ w. c.search.new.budget.learned ≡ before.learned + work_count w)
-    (λ w x. work_learned w c.args.hard sink before.learned c.args.budget.now.learned c.search.new.budget.learned (x.0 ∙ i.hard, x.1) e learned) r.ensures.work)
-    (on_work_weaker r.result (λ w. (w.hard ≡ c.loop-bounds.hard) × (learned_count w.bound ≡ learned_count sink))
+    (λ w x. work_learned w c.args.hard sink before.learned c.args.budget.now.learned
+        c.search.new.budget.learned (x.0 ∙ i.hard, x.1) e learned) r.ensures.work)
+    (on_work_weaker r.result (λ w. (w.hard ≡ c.loop-bounds.hard)
+          × (learned_count w.bound ≡ learned_count sink))
     (λ w. left_of c.search.new.budget ≡ 0) (λ w x. next.none_left) r.ensures.work)
 
 pub returns-then-is_err-clause-follows : goal.returns-then-is_err-clause-follows
-returns-then-is_err-clause-follows g c = λ first h. c.improved.ensures.follows first (c.loop-bounds.invariant.follows first h)
+returns-then-is_err-clause-follows g c =
+    λ first h. c.improved.ensures.follows first (c.loop-bounds.invariant.follows first h)
 
 pub returns-then-is_err-2-clause-follows : goal.returns-then-is_err-2-clause-follows
-returns-then-is_err-2-clause-follows g c = λ first h. c.improved.ensures.follows first (c.loop-bounds.invariant.follows first h)
+returns-then-is_err-2-clause-follows g c =
+    λ first h. c.improved.ensures.follows first (c.loop-bounds.invariant.follows first h)
 
 pub returns-in-Ok-Refuted-clause-follows : goal.returns-in-Ok-Refuted-clause-follows
-returns-in-Ok-Refuted-clause-follows g c = λ first h. c.improved.ensures.follows first (c.loop-bounds.invariant.follows first h)
+returns-in-Ok-Refuted-clause-follows g c =
+    λ first h. c.improved.ensures.follows first (c.loop-bounds.invariant.follows first h)
 
 pub returns-in-Ok-Spent-clause-follows : goal.returns-in-Ok-Spent-clause-follows
-returns-in-Ok-Spent-clause-follows g c = λ first h. c.improved.ensures.follows first (c.loop-bounds.invariant.follows first h)
+returns-in-Ok-Spent-clause-follows g c =
+    λ first h. c.improved.ensures.follows first (c.loop-bounds.invariant.follows first h)
 
 pub returns-in-Err-clause-follows : goal.returns-in-Err-clause-follows
-returns-in-Err-clause-follows g c = λ first h. c.improved.ensures.follows first (c.loop-bounds.invariant.follows first h)
+returns-in-Err-clause-follows g c =
+    λ first h. c.improved.ensures.follows first (c.loop-bounds.invariant.follows first h)

@@ -1,4 +1,5 @@
--- The costs told are the bounds so far; the solution in hand is cheaper than they are, and was not told yet.
+-- The costs told are the bounds so far; the solution in hand is cheaper than they are, and was not
+-- told yet.
 use Rattle.std.proofs.Common.{◌≡◌, ◌+◌, ◌++◌, ◌∷◌, [], length}
 use Rattle.std.specs.Prelude.{All}
 use Rattle.lrat_log.specs.Steps.{learned_count}
@@ -15,7 +16,8 @@ invariant-loop-bounds g l = record {
   honest : All (IsCostOfSome l.instance) ((l.bounds).costs).items;
   told : g.T.Progress.told l.progress ≡ g.T.Progress.told l.fn.progress ++ ((l.bounds).costs).items;
   failures : g.T.Progress.failures l.progress ≡ g.T.Progress.failures l.fn.progress;
-  follows : (first : g.row.T.Denot) → g.T.Progress.follows first l.fn.progress → g.T.Progress.follows first l.progress;
+  follows : (first : g.row.T.Denot) → g.T.Progress.follows first l.fn.progress
+    → g.T.Progress.follows first l.progress;
   hard : l.hard ≡ l.fn.hard;
   limit : (l.budget).limit ≡ (l.fn.budget).limit;
   answers : (l.budget).answers ≡ (l.fn.budget).answers + length ((l.bounds).costs).items;

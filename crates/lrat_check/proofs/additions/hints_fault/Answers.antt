@@ -3,7 +3,8 @@ use Rattle.std.specs.Prelude.{IfOk}
 use Rattle.lrat_read.specs.Form.{leading, groups_of}
 use Rattle.lrat_check.specs.Verdict.{clause_fault}
 use Rattle.lrat_check.specs.Steps.{live_of, walked_as}
-use Rattle.lrat_check.proofs.Negations.{clause_end, length_first, refuted_all, refuted_more, open_pivot}
+use Rattle.lrat_check.proofs.Negations.{clause_end, length_first, refuted_all, refuted_more}
+use Rattle.lrat_check.proofs.Negations.{open_pivot}
 use Rattle.lrat_check.proofs.additions.hints_fault.Goals as goal
 
 pub returns-in-Refuted-clause-fault : goal.returns-in-Refuted-clause-fault
@@ -12,9 +13,13 @@ returns-in-Refuted-clause-fault c =
     let d = c.args.clause.now in
     let hs = c.args.hints.now in
     let T = c.walk.new.assumed.literals in
-    let long : length c.leading-first.result.now ≡ length (leading hs) = length_first c.leading-first.result.now hs c.leading-first.ensures in
-    sym (clause_end live d hs c.args.scratch.now.assumed.literals (map (λ h. h.1) c.leading-first.result.now) c.in_ok-cause.field-0 T c.requires.negated c.leading-first.ensures c.in_ok-cause.ensures.walked
-    ∙ ap (λ r. clause_fault live d (walked_as r T) (groups_of hs)) c.in-Refuted.is ∙ refuted_more live d hs (omega arith))
+    let long : length c.leading-first.result.now ≡ length (leading hs) =
+      length_first c.leading-first.result.now hs c.leading-first.ensures in
+    sym (clause_end live d hs c.args.scratch.now.assumed.literals
+        (map (λ h. h.1) c.leading-first.result.now) c.in_ok-cause.field-0 T c.requires.negated
+        c.leading-first.ensures c.in_ok-cause.ensures.walked
+    ∙ ap (λ r. clause_fault live d (walked_as r T) (groups_of hs)) c.in-Refuted.is
+    ∙ refuted_more live d hs (omega arith))
 
 pub returns-in-Refuted-2-clause-fault : goal.returns-in-Refuted-2-clause-fault
 returns-in-Refuted-2-clause-fault c =
@@ -22,9 +27,13 @@ returns-in-Refuted-2-clause-fault c =
     let d = c.args.clause.now in
     let hs = c.args.hints.now in
     let T = c.walk.new.assumed.literals in
-    let long : length c.leading-first.result.now ≡ length (leading hs) = length_first c.leading-first.result.now hs c.leading-first.ensures in
-    sym (clause_end live d hs c.args.scratch.now.assumed.literals (map (λ h. h.1) c.leading-first.result.now) c.in_ok-cause.field-0 T c.requires.negated c.leading-first.ensures c.in_ok-cause.ensures.walked
-    ∙ ap (λ r. clause_fault live d (walked_as r T) (groups_of hs)) c.in-Refuted-2.is ∙ refuted_all live d hs (omega arith))
+    let long : length c.leading-first.result.now ≡ length (leading hs) =
+      length_first c.leading-first.result.now hs c.leading-first.ensures in
+    sym (clause_end live d hs c.args.scratch.now.assumed.literals
+        (map (λ h. h.1) c.leading-first.result.now) c.in_ok-cause.field-0 T c.requires.negated
+        c.leading-first.ensures c.in_ok-cause.ensures.walked
+    ∙ ap (λ r. clause_fault live d (walked_as r T) (groups_of hs)) c.in-Refuted-2.is
+    ∙ refuted_all live d hs (omega arith))
 
 pub returns-in-Some-clause-fault : goal.returns-in-Some-clause-fault
 returns-in-Some-clause-fault c =
@@ -32,6 +41,10 @@ returns-in-Some-clause-fault c =
     let d = c.args.clause.now in
     let hs = c.args.hints.now in
     let T = c.walk.new.assumed.literals in
-    let opens = clause_end live d hs c.args.scratch.now.assumed.literals (map (λ h. h.1) c.leading-first.result.now) c.in_ok-cause.field-0 T c.requires.negated c.leading-first.ensures c.in_ok-cause.ensures.walked
-    ∙ ap (λ r. clause_fault live d (walked_as r T) (groups_of hs)) c.in-Open.is ∙ open_pivot live d c.in-Some.pivot.now T (groups_of hs) (sym c.in-Some.ensures.value) in
+    let opens =
+      clause_end live d hs c.args.scratch.now.assumed.literals
+        (map (λ h. h.1) c.leading-first.result.now) c.in_ok-cause.field-0 T c.requires.negated
+        c.leading-first.ensures c.in_ok-cause.ensures.walked
+    ∙ ap (λ r. clause_fault live d (walked_as r T) (groups_of hs)) c.in-Open.is
+    ∙ open_pivot live d c.in-Some.pivot.now T (groups_of hs) (sym c.in-Some.ensures.value) in
     subst (λ z. IfOk c.rat_fault.result (λ f. f ≡ z)) (sym opens) c.rat_fault.ensures.fault

@@ -1,4 +1,5 @@
-use Rattle.std.proofs.Common.{◌≡◌, ◌<◌, ◌≤◌, ◌+◌, ◌-◌, ◌∷◌, [], ◌++◌, ap, subst, sym, ◌∙◌, take, length}
+use Rattle.std.proofs.Common.{◌≡◌, ◌<◌, ◌≤◌, ◌+◌, ◌-◌, ◌∷◌, [], ◌++◌, ap, subst, sym, ◌∙◌, take}
+use Rattle.std.proofs.Common.{length}
 use Rattle.std.proofs.Common.{arith, refl}
 use Rattle.std.proofs.lemmas.List.{take_all, take_more}
 use Rattle.lrat_check.specs.Assumed.{AreValues}
@@ -36,4 +37,5 @@ pub returns : goal.returns
 returns c =
     let inv = c.loop-left.invariant in
     let same : c.loop-left.left ≡ c.args.len = omega (arith, inv.from, c.loop-left-test.false) in
-    λ n t. subst (λ i. AreValues c.loop-left.values n (take i c.args.trail.now)) same (inv.table n t)
+    λ n t. subst (λ i. AreValues c.loop-left.values n (take i c.args.trail.now)) same
+      (inv.table n t)

@@ -20,7 +20,8 @@ loop-lit-preserved c =
     let o = Some c.in-Some.first.now in
     elim c.if-is_true.branch [
       | then-is_true w ↦
-          let true_now = ap (λ k. contains_literal k A) (sym c.negation.ensures) ∙ sym c.is_true.ensures ∙ w.if-is_true.true in
+          let true_now = ap (λ k. contains_literal k A) (sym c.negation.ensures)
+            ∙ sym c.is_true.ensures ∙ w.if-is_true.true in
           let same = open_same A d i l c.loop-lit-test.true c.lit-item.is true_now in
           record {
             last_open = ap Some w.last-is ∙ inv.last_open ∙ ap (last_or o) (sym same);
@@ -28,11 +29,15 @@ loop-lit-preserved c =
             within = rw w.last-is inv.within;
           }
       | else-is_true w ↦
-          let false_now = ap (λ k. contains_literal k A) (sym c.negation.ensures) ∙ sym c.is_true.ensures ∙ w.if-is_true.false in
+          let false_now = ap (λ k. contains_literal k A) (sym c.negation.ensures)
+            ∙ sym c.is_true.ensures ∙ w.if-is_true.false in
           let more = open_more A d i l c.loop-lit-test.true c.lit-item.is false_now in
           record {
-            last_open = ap Some w.last-is ∙ sym (last_push o (open_literals A (take i d)) l) ∙ ap (last_or o) (sym more);
-            number = omega (arith, w.falses-is, inv.number, ap length more, length_push (open_literals A (take i d)) l);
+            last_open = ap Some w.last-is ∙ sym (last_push o (open_literals A (take i d)) l)
+              ∙ ap (last_or o) (sym more);
+            number =
+              omega (arith, w.falses-is, inv.number, ap length more,
+                length_push (open_literals A (take i d)) l);
             within = rw w.last-is (search rules);
           }
     ]
@@ -42,7 +47,9 @@ returns-then-open-eq0 c =
     let A = c.args.assumed.now.literals in
     let d = c.args.clause.now in
     let inv = c.loop-lit.invariant in
-    let all = ap (λ x. length (open_literals A x)) (take_all c.loop-lit.lit-index d c.loop-lit-test.false) in
+    let all =
+      ap (λ x. length (open_literals A x)) (take_all c.loop-lit.lit-index d c.loop-lit-test.false)
+        in
     sym (conflict_open A d (omega (arith, all, inv.number)))
 
 pub returns-then-is_true-2 : goal.returns-then-is_true-2

@@ -6,7 +6,8 @@ use Rattle.lrat_check.proofs.rat.assume_others.Given as goal
 
 abbrev pub invariant-loop-lit : goal.invariant-loop-lit
 invariant-loop-lit l = record {
-  same : HaveSame (map negation (without_literal l.left_out (take l.lit-index l.clause)) ++ l.fn.assumed.literals) l.assumed.literals;
+  same : HaveSame (map negation (without_literal l.left_out (take l.lit-index l.clause))
+      ++ l.fn.assumed.literals) l.assumed.literals;
   kept : take (length l.fn.assumed.literals) l.assumed.literals ≡ l.fn.assumed.literals;
   variables : l.assumed.variables ≡ l.fn.assumed.variables;
 }

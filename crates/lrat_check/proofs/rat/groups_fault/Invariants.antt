@@ -7,5 +7,6 @@ use Rattle.lrat_check.proofs.rat.groups_fault.Given as goal
 abbrev pub invariant-loop-i : goal.invariant-loop-i
 invariant-loop-i l = record {
   same : l.assumed ≡ l.fn.assumed;
-  rest : groups_fault (listed_at l.live) l.pivot l.fn.assumed.literals (groups_from l.hints 0) ≡ groups_fault (listed_at l.live) l.pivot l.fn.assumed.literals (groups_from l.hints l.i);
+  rest : groups_fault (listed_at l.live) l.pivot l.fn.assumed.literals (groups_from l.hints 0)
+      ≡ groups_fault (listed_at l.live) l.pivot l.fn.assumed.literals (groups_from l.hints l.i);
 }

@@ -5,4 +5,5 @@ use Rattle.lrat_check.proofs.BitsRead.{with_front}
 use Rattle.lrat_check.proofs.result.bits_at.Given as goal
 
 abbrev pub invariant-loop-digit : goal.invariant-loop-digit
-invariant-loop-digit l = bits_on l.digits ≡ with_front l.bits.items (bits_on (drop l.digit-index l.digits))
+invariant-loop-digit l =
+    bits_on l.digits ≡ with_front l.bits.items (bits_on (drop l.digit-index l.digits))

@@ -5,4 +5,5 @@ use Rattle.lrat_live.specs.Table.{cells_of, clauses_in}
 use Rattle.lrat_live.proofs.counts.count_entries.Given as goal
 
 abbrev pub invariant-loop-entry : goal.invariant-loop-entry
-invariant-loop-entry l = (es : List (ℕ × List Literal)) → AreCounts l.fn.counts.items es → AreCounts l.counts.items (es ++ clauses_in l.lits (cells_of (take l.entry-index l.entries)))
+invariant-loop-entry l = (es : List (ℕ × List Literal)) → AreCounts l.fn.counts.items es
+    → AreCounts l.counts.items (es ++ clauses_in l.lits (cells_of (take l.entry-index l.entries)))

@@ -4,7 +4,8 @@ use Rattle.lrat_live.proofs.CountLaws.{set_less, none_less}
 use Rattle.lrat_live.proofs.counts.lower_one.Goals as goal
 
 pub returns-then-place-counts : goal.returns-then-place-counts
-returns-then-place-counts c = none_less c.args.counts.now c.args.place (get_or-eq_default c.args.counts.now 0 (omega arith))
+returns-then-place-counts c =
+    none_less c.args.counts.now c.args.place (get_or-eq_default c.args.counts.now 0 (omega arith))
 
 pub returns-then-count-eq0 : goal.returns-then-count-eq0
 returns-then-count-eq0 c = none_less c.args.counts.now c.args.place (omega arith)

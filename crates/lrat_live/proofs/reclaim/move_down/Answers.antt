@@ -7,4 +7,5 @@ pub returns-else-to-start-clause-moved : goal.returns-else-to-start-clause-moved
 returns-else-to-start-clause-moved c =
     let ls = c.args.lits.now.items in
     let same : c.args.to ≡ c.args.start = omega arith in
-    sym (paste_stay ls c.args.to c.args.count) ∙ ap (λ n. paste ls c.args.to (drop n ls) c.args.count) same
+    sym (paste_stay ls c.args.to c.args.count)
+      ∙ ap (λ n. paste ls c.args.to (drop n ls) c.args.count) same

@@ -1,7 +1,8 @@
 -- What was put before a fault is a beginning of the text.
 use Rattle.std.proofs.Common.{◌<◌, ◌≤◌, [], length, arith}
 use Rattle.std.proofs.lemmas.Result.{err_from_is_err_and, on_ok_weaker, on_err_weaker}
-use Rattle.lrat_log.proofs.LineTexts.{last_on-le, last_next, lines_more, line_fault, text_whole, text_part}
+use Rattle.lrat_log.proofs.LineTexts.{last_on-le, last_next, lines_more, line_fault, text_whole}
+use Rattle.lrat_log.proofs.LineTexts.{text_part}
 use Rattle.lrat_log.proofs.Text.{text_of-lines}
 use Rattle.lrat_log.proofs.Numbering.{holds_at_each_base}
 use Rattle.lrat_log.proofs.log.write_to.Goals as goal
@@ -16,36 +17,49 @@ pub returns-in_err-last-clause-fault : goal.returns-in_err-last-clause-fault
 returns-in_err-last-clause-fault g c =
     let p = err_from_is_err_and c.from_residual.result c.from_residual.ensures.1 in
     let here : c.loop-line.line < length c.args.log.now = omega arith in
-    let q = line_fault (g.W.Write.contents c.args.writer.now) (g.W.Write.contents c.loop-line.writer) (g.W.Write.contents c.put_line.new.writer) c.loop-line.block [] c.args.base c.loop-line.last c.args.log.now c.loop-line.line
+    let q =
+      line_fault (g.W.Write.contents c.args.writer.now) (g.W.Write.contents c.loop-line.writer)
+        (g.W.Write.contents c.put_line.new.writer) c.loop-line.block [] c.args.base c.loop-line.last
+        c.args.log.now c.loop-line.line
     here c.loop-line.invariant.0 c.loop-line.invariant.1 c.in_err-last.ensures.fault in
     rw (p.1) q
 
 pub returns-in_err-last-clause-lines : goal.returns-in_err-last-clause-lines
-returns-in_err-last-clause-lines g c = text_of-lines c.args.base c.args.log.now c.len-line-end.ensures.log.lines c.requires.ids c.requires.room
+returns-in_err-last-clause-lines g c =
+    text_of-lines c.args.base c.args.log.now c.len-line-end.ensures.log.lines c.requires.ids
+      c.requires.room
 
 pub loop-line-preserved : goal.loop-line-preserved
 loop-line-preserved g c =
     let here : c.loop-line.line < length c.args.log.now = omega arith in (
-      last_next c.args.base c.loop-line.last c.in_ok-last.last c.args.log.now c.loop-line.line here c.loop-line.invariant.0 c.in_ok-last.ensures.last,
-      lines_more _ _ _ _ _ c.args.base c.loop-line.last c.args.log.now c.loop-line.line here c.loop-line.invariant.0 c.loop-line.invariant.1 c.in_ok-last.ensures.ok,
+      last_next c.args.base c.loop-line.last c.in_ok-last.last c.args.log.now c.loop-line.line here
+        c.loop-line.invariant.0 c.in_ok-last.ensures.last,
+      lines_more _ _ _ _ _ c.args.base c.loop-line.last c.args.log.now c.loop-line.line here
+        c.loop-line.invariant.0 c.loop-line.invariant.1 c.in_ok-last.ensures.ok,
     )
 
 pub returns-clause-ok : goal.returns-clause-ok
 returns-clause-ok g c =
     let done : length c.args.log.now ≤ c.loop-line.line = omega arith in
     on_ok_weaker c.flush.result
-    (text_whole (g.W.Write.contents c.args.writer.now) (g.W.Write.contents c.loop-line.writer) (g.W.Write.contents c.flush.new.writer) c.loop-line.block [] c.args.base c.loop-line.last c.args.log.now c.loop-line.line done c.loop-line.invariant.1)
+    (text_whole (g.W.Write.contents c.args.writer.now) (g.W.Write.contents c.loop-line.writer)
+        (g.W.Write.contents c.flush.new.writer) c.loop-line.block [] c.args.base c.loop-line.last
+        c.args.log.now c.loop-line.line done c.loop-line.invariant.1)
     c.flush.ensures.ok
 
 pub returns-clause-fault : goal.returns-clause-fault
 returns-clause-fault g c =
     let done : length c.args.log.now ≤ c.loop-line.line = omega arith in
     on_err_weaker c.flush.result
-    (text_part (g.W.Write.contents c.args.writer.now) (g.W.Write.contents c.loop-line.writer) (g.W.Write.contents c.flush.new.writer) c.loop-line.block [] c.args.base c.loop-line.last c.args.log.now c.loop-line.line done c.loop-line.invariant.1)
+    (text_part (g.W.Write.contents c.args.writer.now) (g.W.Write.contents c.loop-line.writer)
+        (g.W.Write.contents c.flush.new.writer) c.loop-line.block [] c.args.base c.loop-line.last
+        c.args.log.now c.loop-line.line done c.loop-line.invariant.1)
     c.flush.ensures.fault
 
 pub returns-clause-lines : goal.returns-clause-lines
-returns-clause-lines g c = text_of-lines c.args.base c.args.log.now c.len-line-end.ensures.log.lines c.requires.ids c.requires.room
+returns-clause-lines g c =
+    text_of-lines c.args.base c.args.log.now c.len-line-end.ensures.log.lines c.requires.ids
+      c.requires.room
 
 pub returns-in_err-last-clause-bases : goal.returns-in_err-last-clause-bases
 returns-in_err-last-clause-bases g c = holds_at_each_base c.args.log.now

@@ -6,4 +6,5 @@ use Rattle.lrat_log.proofs.log.write_to.Given as goal
 
 abbrev pub invariant-loop-line : goal.invariant-loop-line
 invariant-loop-line g l =
-    (l.last ≡ last_on l.base l.log l.line) × PassesOn (g.W.Write.contents l.fn.writer) [] (put_before l.base l.log l.line) (g.W.Write.contents l.writer) l.block
+    (l.last ≡ last_on l.base l.log l.line) × PassesOn (g.W.Write.contents l.fn.writer) []
+      (put_before l.base l.log l.line) (g.W.Write.contents l.writer) l.block

@@ -5,4 +5,5 @@ use Rattle.lrat_log.specs.Rebase.{moved_hint}
 use Rattle.lrat_log.proofs.rebase.move_hints.Given as goal
 
 abbrev pub invariant-loop-index : goal.invariant-loop-index
-invariant-loop-index l = l.hints.items ≡ take l.index (map (moved_hint l.fixed l.count) (line_at l.log l.line).hints)
+invariant-loop-index l =
+    l.hints.items ≡ take l.index (map (moved_hint l.fixed l.count) (line_at l.log l.line).hints)

@@ -7,4 +7,6 @@ abbrev pub invariant-loop-entry : goal.invariant-loop-entry
 invariant-loop-entry l = l.new ≡ take l.entry-index (map weaker_line (weaker_list l.weaker))
 
 abbrev pub invariant-loop-line : goal.invariant-loop-line
-invariant-loop-line l = l.new ≡ map weaker_line (weaker_list l.weaker) ++ take l.line (map (moved_line l.fixed (length l.weaker)) l.log)
+invariant-loop-line l =
+    l.new ≡ map weaker_line (weaker_list l.weaker) ++ take l.line
+      (map (moved_line l.fixed (length l.weaker)) l.log)

@@ -7,7 +7,8 @@ use Rattle.lrat_read.proofs.blocks.read_hints.Given as goal
 abbrev pub invariant-loop-is_dashed : goal.invariant-loop-is_dashed
 invariant-loop-is_dashed l = record {
   within : l.place ≤ length l.line;
-  block : block_of (tokens_of (drop l.at l.line)) ≡ ahead l.hints.items (block_of (tokens_of (drop l.place l.line)));
+  block : block_of (tokens_of (drop l.at l.line)) ≡ ahead l.hints.items
+    (block_of (tokens_of (drop l.place l.line)));
 }
 
 abbrev pub decreases-loop-is_dashed : goal.decreases-loop-is_dashed

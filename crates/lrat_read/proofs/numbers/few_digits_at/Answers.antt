@@ -8,7 +8,8 @@ use Rattle.lrat_read.proofs.numbers.few_digits_at.Goals as goal
 
 pub loop-count-init : goal.loop-count-init
 loop-count-init c =
-    let first : c.from-value.result ≡ get_or c.args.line.now c.args.start 0 = c.from-value.ensures in
+    let first : c.from-value.result ≡ get_or c.args.line.now c.args.start 0 =
+      c.from-value.ensures in
     let digit = is_digit_less c.from-value.result c.from-value.type_inv c.if-value-gt9.false in
     let one = digits_one c.args.line.now c.args.start (omega arith) (omega (arith, first, digit.0))
         (omega (arith, first, digit.1)) in
@@ -23,7 +24,8 @@ pub overflow_mul-value : goal.overflow_mul-value
 overflow_mul-value c =
     let inv = c.loop-count.invariant in
     let room : c.loop-count.value < 10 ^ 18 =
-      digits_room c.args.line.now c.args.start (c.args.start + c.loop-count.count) c.loop-count.value
+      digits_room c.args.line.now c.args.start (c.args.start + c.loop-count.count)
+        c.loop-count.value
         (omega arith) (omega arith) (omega arith) inv.digits inv.value in
     omega arith
 
@@ -31,7 +33,8 @@ pub overflow_add-value : goal.overflow_add-value
 overflow_add-value c =
     let inv = c.loop-count.invariant in
     let room : c.loop-count.value < 10 ^ 18 =
-      digits_room c.args.line.now c.args.start (c.args.start + c.loop-count.count) c.loop-count.value
+      digits_room c.args.line.now c.args.start (c.args.start + c.loop-count.count)
+        c.loop-count.value
         (omega arith) (omega arith) (omega arith) inv.digits inv.value in
     omega arith
 
@@ -51,7 +54,8 @@ loop-count-preserved c =
       from = omega arith;
       within = omega arith;
       digits = subst (λ m. list_all is_digit (slice_range line start m) ≡ true) on step.0;
-      value = omega (arith, inv.value, less, step.1, ap (λ m. value_on 0 (slice_range line start m)) on);
+      value =
+        omega (arith, inv.value, less, step.1, ap (λ m. value_on 0 (slice_range line start m)) on);
     }
 
 pub returns-then-byte-eq32 : goal.returns-then-byte-eq32

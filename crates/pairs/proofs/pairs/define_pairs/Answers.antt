@@ -15,10 +15,14 @@ loop-round-preserved g c =
     }
 
 pub returns-in_err-last-clause-err : goal.returns-in_err-last-clause-err
-returns-in_err-last-clause-err g c = when_err c.from_residual.result (λ ground k. c.in_err-last.ensures.err ground (c.loop-round.invariant.keeps ground k))
+returns-in_err-last-clause-err g c =
+    when_err c.from_residual.result
+      (λ ground k. c.in_err-last.ensures.err ground (c.loop-round.invariant.keeps ground k))
 
 pub returns-then-last-before-clause-keeps : goal.returns-then-last-before-clause-keeps
-returns-then-last-before-clause-keeps g c ground k = c.in_ok-last.ensures.keeps ground (c.loop-round.invariant.keeps ground k)
+returns-then-last-before-clause-keeps g c ground k =
+    c.in_ok-last.ensures.keeps ground (c.loop-round.invariant.keeps ground k)
 
 pub returns-then-last-before-clause-more : goal.returns-then-last-before-clause-more
-returns-then-last-before-clause-more g c = omega (arith, c.loop-round.invariant.more, c.in_ok-last.ensures.more)
+returns-then-last-before-clause-more g c =
+    omega (arith, c.loop-round.invariant.more, c.in_ok-last.ensures.more)

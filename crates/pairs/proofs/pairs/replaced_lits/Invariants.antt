@@ -4,4 +4,6 @@ use Rattle.pairs.specs.Pairs.{replaced}
 use Rattle.pairs.proofs.pairs.replaced_lits.Given as goal
 
 abbrev pub invariant-loop-lit : goal.invariant-loop-lit
-invariant-loop-lit l = l.left.items ≡ replaced l.definition.variable l.definition.left l.definition.right (take l.lit-index l.lits)
+invariant-loop-lit l =
+    l.left.items ≡ replaced l.definition.variable l.definition.left l.definition.right
+      (take l.lit-index l.lits)

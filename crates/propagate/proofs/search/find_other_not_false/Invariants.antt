@@ -4,4 +4,5 @@ use Rattle.propagate.specs.Trail.{value_in}
 use Rattle.propagate.proofs.search.find_other_not_false.Given as goal
 
 abbrev pub invariant-loop-lit : goal.invariant-loop-lit
-invariant-loop-lit l = All (λ x. (x ≡ l.but) ⊎ (value_in l.trail.assigned x ≡ Some false)) (take l.lit-index l.lits)
+invariant-loop-lit l =
+    All (λ x. (x ≡ l.but) ⊎ (value_in l.trail.assigned x ≡ Some false)) (take l.lit-index l.lits)

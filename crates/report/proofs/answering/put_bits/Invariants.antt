@@ -5,4 +5,6 @@ use Rattle.report.specs.Answering.{digits_text}
 use Rattle.report.proofs.answering.put_bits.Given as goal
 
 abbrev pub invariant-loop-bit : goal.invariant-loop-bit
-invariant-loop-bit g l = PassesOn (g.O.Write.contents l.initial.out) l.initial.block (digits_text (take l.bit-index l.bits)) (g.O.Write.contents l.out) l.block
+invariant-loop-bit g l =
+    PassesOn (g.O.Write.contents l.initial.out) l.initial.block
+      (digits_text (take l.bit-index l.bits)) (g.O.Write.contents l.out) l.block

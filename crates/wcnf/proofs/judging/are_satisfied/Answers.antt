@@ -6,4 +6,6 @@ use borrow.Author.Tests.{tests}
 use Rattle.wcnf.proofs.judging.are_satisfied.Goals as goal
 
 pub returns : goal.returns
-returns c = λ t e. all_from_yields_List (clause_value t) _ _ c.all.result c.all.ensures.ran (YieldsList-from_first (λ x. x.now) (λ s. s) c.args.clauses.now cc) (λ x b q k. search (rules, tests, e))
+returns c = λ t e. all_from_yields_List (clause_value t) _ _ c.all.result c.all.ensures.ran
+    (YieldsList-from_first (λ x. x.now) (λ s. s) c.args.clauses.now cc)
+    (λ x b q k. search (rules, tests, e))

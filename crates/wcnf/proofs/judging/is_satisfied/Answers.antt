@@ -6,4 +6,5 @@ use borrow.Author.Tests.{tests}
 use Rattle.wcnf.proofs.judging.is_satisfied.Goals as goal
 
 pub returns : goal.returns
-returns c = λ t e. any_from_yields_List (literal_value t) _ _ c.any.result c.any.ensures.ran (YieldsList-from_slice c.args.clause.now cc) (λ x b q k. search (rules, tests, e))
+returns c = λ t e. any_from_yields_List (literal_value t) _ _ c.any.result c.any.ensures.ran
+    (YieldsList-from_slice c.args.clause.now cc) (λ x b q k. search (rules, tests, e))

@@ -4,4 +4,5 @@ use Rattle.wcnf.specs.Text.{is_blank}
 use Rattle.wcnf.proofs.pieces.token_at.Given as goal
 
 abbrev pub invariant-loop-i : goal.invariant-loop-i
-invariant-loop-i l = position_or_len is_blank l.bytes ≡ l.i + position_or_len is_blank (drop l.i l.bytes)
+invariant-loop-i l =
+    position_or_len is_blank l.bytes ≡ l.i + position_or_len is_blank (drop l.i l.bytes)

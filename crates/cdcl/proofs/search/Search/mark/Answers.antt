@@ -1,4 +1,5 @@
-use Rattle.std.proofs.Common.{◌≡◌, ℕ, ◌+◌, ◌∙◌, true, false, set, replicate, sym, ap, subst, get_or, rules}
+use Rattle.std.proofs.Common.{◌≡◌, ℕ, ◌+◌, ◌∙◌, true, false, set, replicate, sym, ap, subst, get_or}
+use Rattle.std.proofs.Common.{rules}
 use Rattle.std.proofs.lemmas.List.{get_or_default}
 use Rattle.cdcl.specs.Deletions.{AreMarked}
 use Rattle.cdcl.proofs.Deleting.{marks_none, marks_same, marks_more}
@@ -8,7 +9,8 @@ use Rattle.cdcl.proofs.search.Search.mark.Goals.{then-may_delete, else-may_delet
 pub loop-reference-init : goal.loop-reference-init
 loop-reference-init c =
     marks_none c.args.self.now c.args.chosen.now c.in_ok-doomed.doomed.items
-    (c.in_ok-doomed.ensures.items_if_clones_equal (search rules) ∙ ap (λ n. replicate n false) c.places.ensures)
+    (c.in_ok-doomed.ensures.items_if_clones_equal (search rules)
+        ∙ ap (λ n. replicate n false) c.places.ensures)
 
 pub loop-reference-preserved : goal.loop-reference-preserved
 loop-reference-preserved c =
@@ -18,10 +20,17 @@ loop-reference-preserved c =
     let i = l.reference-index in
     let q = c.loop-reference-item.result.1 in
     let at : (get_or ms i (0, 0)).1 ≡ q =
-    ap (λ (p : ℕ × ℕ). p.1) (sym (get_or_default ms i c.loop-reference-item.result (0, 0) c.loop-reference-test.true)) ∙ ap (λ (p : ℕ × ℕ). p.1) (sym c.loop-reference-item.is) in
+    ap (λ (p : ℕ × ℕ). p.1)
+      (sym (get_or_default ms i c.loop-reference-item.result (0, 0) c.loop-reference-test.true))
+      ∙ ap (λ (p : ℕ × ℕ). p.1) (sym c.loop-reference-item.is) in
     elim c.if-may_delete.branch [
       | then-may_delete w ↦
-          let marked = marks_more s ms i l.doomed.items q l.invariant (c.may_delete.ensures w.if-may_delete.true) at in
-          subst (AreMarked s ms (i + 1)) (sym (ap (λ v. v.items) w.doomed-is)) (subst (λ k. AreMarked s ms (i + 1) (set l.doomed.items k true)) (sym w.index.ensures) marked)
-      | else-may_delete w ↦ subst (λ v. AreMarked s ms (i + 1) v.items) (sym w.doomed-is) (marks_same s ms i l.doomed.items l.invariant)
+          let marked =
+            marks_more s ms i l.doomed.items q l.invariant
+              (c.may_delete.ensures w.if-may_delete.true) at in
+          subst (AreMarked s ms (i + 1)) (sym (ap (λ v. v.items) w.doomed-is))
+            (subst (λ k. AreMarked s ms (i + 1) (set l.doomed.items k true))
+              (sym w.index.ensures) marked)
+      | else-may_delete w ↦ subst (λ v. AreMarked s ms (i + 1) v.items) (sym w.doomed-is)
+        (marks_same s ms i l.doomed.items l.invariant)
     ]

@@ -9,7 +9,9 @@ use Rattle.cdcl.proofs.solver.Solver.add_clause.Goals as goal
 use Rattle.cdcl.proofs.solver.Solver.add_clause.Goals.{In-Ok, In-Err}
 
 -- the clause was given
-gives : (g : _) (c : In-Ok g) → IsSolver c.give.new.search c.give.new.problem (g.S.Sink.lines c.self.inside.sink) c.self.inside.refuted c.self.inside.failed
+gives : (g : _) (c : In-Ok g)
+    → IsSolver c.give.new.search c.give.new.problem (g.S.Sink.lines c.self.inside.sink)
+    c.self.inside.refuted c.self.inside.failed
 gives g c =
     let p = c.self.inside.problem in
     let seen =
@@ -21,15 +23,22 @@ gives g c =
     let fresh = subst (IsFreshName (p.given).items) name free in
     let fixed =
     subst (λ s. All (IsFrozen s.frozen) c.args.lits.now) (sym c.self.view_is) c.requires.frozen in
-    gives_solver c.self.inside.search c.give.new.search p c.give.new.problem (Formula c.get-number.result) c.args.lits.now (g.S.Sink.lines c.self.inside.sink) c.self.inside.refuted c.self.inside.failed
-    c.self.invariant c.if-self.false c.in-Ok.ensures.given fresh (c.get-number.ensures.from_one, c.get-number.ensures.small) fixed c.requires.no_repeat
+    gives_solver c.self.inside.search c.give.new.search p c.give.new.problem
+      (Formula c.get-number.result) c.args.lits.now (g.S.Sink.lines c.self.inside.sink)
+      c.self.inside.refuted c.self.inside.failed
+    c.self.invariant c.if-self.false c.in-Ok.ensures.given fresh (c.get-number.ensures.from_one,
+        c.get-number.ensures.small) fixed c.requires.no_repeat
     c.requires.no_opposites c.are_named.ensures c.in-Ok.ensures.takes
 
 -- memory was refused
-fails : (g : _) (c : In-Err g) → IsSolver c.give.new.search c.give.new.problem (g.S.Sink.lines c.self.inside.sink) c.self.inside.refuted true
+fails : (g : _) (c : In-Err g)
+    → IsSolver c.give.new.search c.give.new.problem (g.S.Sink.lines c.self.inside.sink)
+    c.self.inside.refuted true
 fails g c =
-    fails_solver c.self.inside.search c.give.new.search c.self.inside.problem c.give.new.problem (g.S.Sink.lines c.self.inside.sink) c.self.inside.refuted c.self.inside.failed
-    c.self.invariant c.in-Err.ensures.err c.give.ensures.stack c.give.ensures.frozen c.give.ensures.first
+    fails_solver c.self.inside.search c.give.new.search c.self.inside.problem c.give.new.problem
+      (g.S.Sink.lines c.self.inside.sink) c.self.inside.refuted c.self.inside.failed
+    c.self.invariant c.in-Err.ensures.err c.give.ensures.stack c.give.ensures.frozen
+      c.give.ensures.first
 
 pub returns-then-self-clause-lines : goal.returns-then-self-clause-lines
 returns-then-self-clause-lines g c =

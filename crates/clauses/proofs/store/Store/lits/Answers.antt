@@ -8,7 +8,8 @@ use Rattle.clauses.proofs.Stored.{live_within, live_clause}
 use Rattle.clauses.proofs.store.Store.lits.Goals as goal
 use Rattle.clauses.proofs.store.Store.lits.Goals.{After-reference}
 
-live : (c : After-reference) → IsLive (slots_of c.self.inside.literals.items c.self.inside.heads) c.reference.inside.place
+live : (c : After-reference) → IsLive (slots_of c.self.inside.literals.items c.self.inside.heads)
+    c.reference.inside.place
 live c = rw (← c.self.view_is, ← c.reference.view_is) at c.requires
 
 within : (c : After-reference) → c.reference.inside.place < length c.self.inside.heads
@@ -20,12 +21,17 @@ span-span-requires c = within (goal.at.span-span-requires c).After-reference
 pub slice_bounds-result-end : goal.slice_bounds-result-end
 slice_bounds-result-end c =
     let h = within (goal.at.slice_bounds-result-end c).After-reference in
-    let here = laid_within heads 0 _ c.self.inside.heads c.reference.inside.place no_head c.self.invariant.laid h in
-    let ends : c.span-span.result.start + c.span-span.result.length ≤ length c.self.inside.literals.items = rw (span_at _ _ _ h c.span-span.ensures) here in
+    let here =
+      laid_within heads 0 _ c.self.inside.heads c.reference.inside.place no_head
+        c.self.invariant.laid h in
+    let ends : c.span-span.result.start + c.span-span.result.length
+      ≤ length c.self.inside.literals.items = rw (span_at _ _ _ h c.span-span.ensures) here in
     let same = c.deref.ensures.value in
     search rules
 
 pub returns : goal.returns
 returns c =
     let at = (goal.at.returns c).After-reference in
-    rw (c.deref.ensures.value, ← c.self.view_is, ← c.reference.view_is) (live_clause c.self.inside.literals.items c.self.inside.heads c.reference.inside.place c.span-span.result (live at) (span_at _ _ _ (within at) c.span-span.ensures))
+    rw (c.deref.ensures.value, ← c.self.view_is, ← c.reference.view_is)
+      (live_clause c.self.inside.literals.items c.self.inside.heads c.reference.inside.place
+        c.span-span.result (live at) (span_at _ _ _ (within at) c.span-span.ensures))

@@ -1,7 +1,8 @@
 -- Literal after literal of the trail is visited.
 use Rattle.std.proofs.Common.{arith}
 use Rattle.lrat_log.proofs.Laws.{when_err}
-use Rattle.eliminate.proofs.Propagating.{propagates_nothing, still_propagating, propagates_more, leaves_later}
+use Rattle.eliminate.proofs.Propagating.{propagates_nothing, still_propagating, propagates_more}
+use Rattle.eliminate.proofs.Propagating.{leaves_later}
 use Rattle.eliminate.proofs.units.Units.follow.Goals as goal
 
 pub loop-visits-init : goal.loop-visits-init
@@ -12,19 +13,24 @@ loop-visits-init g c = record {
 
 pub visit-requires : goal.visit-requires
 visit-requires g c =
-    still_propagating _ _ _ _ _ _ _ _ c.loop-visits.invariant.propagated c.requires c.loop-visits.invariant.going
+    still_propagating _ _ _ _ _ _ _ _ c.loop-visits.invariant.propagated c.requires
+      c.loop-visits.invariant.going
 
 pub returns-in_err-visit-clause-err : goal.returns-in_err-visit-clause-err
 returns-in_err-visit-clause-err g c =
-    when_err _ (leaves_later _ _ _ _ _ _ _ _ c.loop-visits.invariant.propagated _ c.in_err-visit.ensures.err)
+    when_err _ (leaves_later _ _ _ _ _ _ _ _ c.loop-visits.invariant.propagated _
+        c.in_err-visit.ensures.err)
 
 pub returns-then-simplifier-clause-propagated : goal.returns-then-simplifier-clause-propagated
 returns-then-simplifier-clause-propagated g c =
-    propagates_more _ _ _ _ _ _ _ _ c.loop-visits.invariant.propagated c.loop-visits.invariant.going _ _ _ _ c.in_ok-visit.ensures.propagated
+    propagates_more _ _ _ _ _ _ _ _ c.loop-visits.invariant.propagated c.loop-visits.invariant.going
+      _ _ _ _ c.in_ok-visit.ensures.propagated
 
 pub loop-visits-preserved : goal.loop-visits-preserved
 loop-visits-preserved g c = record {
-  propagated = propagates_more _ _ _ _ _ _ _ _ c.loop-visits.invariant.propagated c.loop-visits.invariant.going _ _ _ _ c.in_ok-visit.ensures.propagated;
+  propagated =
+    propagates_more _ _ _ _ _ _ _ _ c.loop-visits.invariant.propagated c.loop-visits.invariant.going
+      _ _ _ _ c.in_ok-visit.ensures.propagated;
   going = c.if-simplifier.false;
 }
 

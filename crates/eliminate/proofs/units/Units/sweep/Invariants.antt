@@ -10,6 +10,7 @@ invariant-loop-place g l = record {
       l.self l.simplifier l.store.slots (g.S.Sink.lines l.sink);
   going : l.simplifier.is_refuted ≡ false;
   settled : l.found ≡ false → (l.self ≡ l.fn.self) × (l.store.slots ≡ l.fn.store.slots)
-      × ((r : ℕ) (c : List Literal) → r < l.place → clause_at l.fn.store.slots r ≡ Some c → IsSettled l.fn.self.trail.items c);
+      × ((r : ℕ) (c : List Literal) → r < l.place → clause_at l.fn.store.slots r ≡ Some c
+          → IsSettled l.fn.self.trail.items c);
   progress : l.found ≡ true → open_count l.self < open_count l.fn.self;
 }

@@ -1,4 +1,5 @@
-use Rattle.std.proofs.Common.{◌≡◌, ◌≤◌, ◌++◌, [], ap, subst, sym, ◌∙◌, take, drop, length, append-nil}
+use Rattle.std.proofs.Common.{◌≡◌, ◌≤◌, ◌++◌, [], ap, subst, sym, ◌∙◌, take, drop, length}
+use Rattle.std.proofs.Common.{append-nil}
 use Rattle.std.proofs.Common.{arith}
 use Rattle.std.proofs.lemmas.List.{take_all, drop_all}
 use Rattle.lrat_check.specs.Assumed.{AreValues}
@@ -15,8 +16,10 @@ invariant_of-self c =
     let after = c.clear.ensures n before in
     let long : length new ≡ length s.values.items = after.long ∙ sym c.self.invariant.long in
     let whole : take s.values.len (new ++ drop (length new) s.values.items) ≡ new =
-      ap (λ xs. take s.values.len (new ++ xs)) (drop_all (length new) s.values.items (omega (arith, long)))
+      ap (λ xs. take s.values.len (new ++ xs))
+        (drop_all (length new) s.values.items (omega (arith, long)))
       ∙ ap (take s.values.len) (append-nil new)
       ∙ take_all s.values.len new (omega (arith, long, s.values.ok.0)) in
     subst (λ v. AreValues v n c.truncate.new.self.items) (sym whole)
-      (subst (AreValues new n) (ap (take c.args.len) c.deref.ensures.value ∙ sym c.truncate.ensures.items) after)
+      (subst (AreValues new n) (ap (take c.args.len) c.deref.ensures.value
+            ∙ sym c.truncate.ensures.items) after)

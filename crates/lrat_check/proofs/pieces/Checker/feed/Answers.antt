@@ -9,5 +9,7 @@ returns-then-is_some-clause-stands c = λ formula bytes s.
     let inside = subst (λ (x : CheckerState). Stands x formula bytes) (sym c.self.view_is) s in
     record {
       fed = omega (arith, inside.fed, length-append bytes c.args.piece.now);
-      holds = holds_more c.self.inside.reading formula bytes c.args.piece.now (some_from_true _ (sym c.is_some.ensures ∙ c.if-is_some.true)) inside.holds;
+      holds =
+        holds_more c.self.inside.reading formula bytes c.args.piece.now
+          (some_from_true _ (sym c.is_some.ensures ∙ c.if-is_some.true)) inside.holds;
     }

@@ -9,5 +9,6 @@ invariant-loop-at l = record {
   continues : Continues l.initial.self l.self;
   fits : Fits l.self l.store.slots;
   list : l.self.watches.waiting ≡ l.initial.self.watches.waiting;
-  seen : (r : ℕ) → Contains (take l.at l.initial.self.watches.waiting) r → IsTrueWaiting l.store.slots l.self r;
+  seen : (r : ℕ) → Contains (take l.at l.initial.self.watches.waiting) r
+    → IsTrueWaiting l.store.slots l.self r;
 }

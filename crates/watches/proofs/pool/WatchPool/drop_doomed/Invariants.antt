@@ -3,4 +3,5 @@ use Rattle.watches.specs.Doomed.{spared_entries}
 use Rattle.watches.proofs.pool.WatchPool.drop_doomed.Given as goal
 
 abbrev pub invariant-loop-row : goal.invariant-loop-row
-invariant-loop-row l = l.self ≡ map (spared_entries l.doomed) (take l.row l.fn.self) ++ drop l.row l.fn.self
+invariant-loop-row l =
+    l.self ≡ map (spared_entries l.doomed) (take l.row l.fn.self) ++ drop l.row l.fn.self

@@ -1,4 +1,5 @@
--- A fault left a beginning of what the block held, and a text longer than the block goes straight to the writer.
+-- A fault left a beginning of what the block held, and a text longer than the block goes straight
+-- to the writer.
 use Rattle.std.proofs.lemmas.Result.{err_from_is_err_and, on_ok_weaker}
 use Rattle.wcnf.proofs.Passing.{part-more, passed_directly}
 use Rattle.wcnf.proofs.output.Block.put.Goals as goal
@@ -10,4 +11,7 @@ returns-in_err-flush-clause-fault g c =
 
 pub returns-then-text-gt-BLOCK_SIZE-clause-ok : goal.returns-then-text-gt-BLOCK_SIZE-clause-ok
 returns-then-text-gt-BLOCK_SIZE-clause-ok g c =
-    rw (c.in_ok-flush.ensures.empty) (on_ok_weaker c.write_piece.result (passed_directly _ _ _ c.args.self.now c.args.text.now c.in_ok-flush.ensures.ok) c.write_piece.ensures.ok)
+    rw (c.in_ok-flush.ensures.empty)
+      (on_ok_weaker c.write_piece.result
+        (passed_directly _ _ _ c.args.self.now c.args.text.now c.in_ok-flush.ensures.ok)
+        c.write_piece.ensures.ok)
