@@ -109,7 +109,8 @@ impl Outline {
         marks: &mut Marks,
     ) -> Result<Self, AllocError>
         requires bound { k ≤ 2 ^ 62 }
-        requires places { 2 * (instance.now.variables + length instance.now.soft) ≤ length marks.old }
+        requires places { 2 * (instance.now.variables + length instance.now.soft)
+            ≤ length marks.old }
         ensures relaxed { IfOk result
             (λ o. o.relaxed ≡ kept (relaxed_clauses profile instance.now)) }
         ensures network { IfOk result (λ o. o.network ≡ adders_as profile instance.now) }
