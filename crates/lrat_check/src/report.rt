@@ -1,5 +1,5 @@
-//! A result as it is read. The result itself is a text, which `checking` calls the answer, since in a
-//! contract `result` is what a function returns.
+//! A result as it is read. The result itself is a text, which `checking` calls the answer, since in
+//! a contract `result` is what a function returns.
 ghost use Rattle.std.specs.Prelude.{◌<◌, ◌^◌};
 
 /// What an `s` line says.
