@@ -1,8 +1,8 @@
 // Hints: what one does to the literals that are assumed true, and what several do in turn.
 //
 // A hint's clause is gone over whole: its false literals are counted and the last other one is
-// kept, with no choice on the way. Counted so, a pair of literals takes 17 instructions; it took 23 while
-// the others were counted and the last one was an `Option`.
+// kept, with no choice on the way. Counted so, a pair of literals takes 17 instructions; it took 23
+// while the others were counted and the last one was an `Option`.
 //
 // Eight hints are looked up together where many clauses take room alone. Tried: at every line. A
 // certificate with a million live clauses took 1.5 s in place of 2.3 s, but small ones, of which
