@@ -38,7 +38,7 @@ pub clause_same : (t u : Assignment) (c : List Literal)
 clause_same t u [] h = refl
 clause_same t u (l ∷ c) h =
     λ i. literal_same t u l (h l.variable (omega arith)) i || clause_same t u c
-      (λ v k. h v (omega arith)) i
+    (λ v k. h v (omega arith)) i
 
 -- each cell takes the next two variables, and what it adds is below those
 abbrev pub IsThirdBelow : ℕ → Option Literal → Type 0
@@ -48,7 +48,7 @@ IsThirdBelow n (Some d) = d.variable < n
 abbrev pub IsChain : ℕ → List Cell → Type 0
 IsChain n [] = Unit {0}
 IsChain n (cell ∷ cells) = ((cell.a).variable < n) × ((cell.b).variable < n)
-      × IsThirdBelow n cell.third × (cell.sum ≡ n) × (cell.carry ≡ n + 1) × IsChain (n + 2) cells
+    × IsThirdBelow n cell.third × (cell.sum ≡ n) × (cell.carry ≡ n + 1) × IsChain (n + 2) cells
 
 pub chain_append : (n : ℕ) (xs ys : List Cell) (m : ℕ) → m ≡ n + 2 * length xs → IsChain n xs
     → IsChain m ys → IsChain n (xs ++ ys)
@@ -81,15 +81,21 @@ column_chain steps n (a ∷ []) h = record { chain = tt; fresh = omega arith; ca
 column_chain zero n (a ∷ b ∷ rest) h = record { chain = tt; fresh = omega arith; carries = tt }
 column_chain (suc steps) n (a ∷ b ∷ []) h =
     let r = column_chain steps (n + 2) (positive n ∷ []) (omega arith, tt) in
-    record { chain = (h.0, h.1.0, tt, refl, refl, r.chain); fresh = omega (arith, r.fresh);
-        carries = (omega (arith, r.fresh), r.carries) }
+    record {
+      chain = (h.0, h.1.0, tt, refl, refl, r.chain);
+      fresh = omega (arith, r.fresh);
+      carries = (omega (arith, r.fresh), r.carries);
+    }
 column_chain (suc steps) n (a ∷ b ∷ d ∷ rest) h =
     let r =
-      column_chain steps (n + 2) (rest ++ positive n ∷ [])
-        (below_append (n + 2) rest (positive n ∷ [])
-        (below_more n (n + 2) rest (omega arith) h.1.1.1) (omega arith, tt)) in
-    record { chain = (h.0, h.1.0, h.1.1.0, refl, refl, r.chain); fresh = omega (arith, r.fresh);
-        carries = (omega (arith, r.fresh), r.carries) }
+    column_chain steps (n + 2) (rest ++ positive n ∷ [])
+    (below_append (n + 2) rest (positive n ∷ [])
+    (below_more n (n + 2) rest (omega arith) h.1.1.1) (omega arith, tt)) in
+    record {
+      chain = (h.0, h.1.0, h.1.1.0, refl, refl, r.chain);
+      fresh = omega (arith, r.fresh);
+      carries = (omega (arith, r.fresh), r.carries);
+    }
 
 abbrev pub AreRelaxedBelow : ℕ → List Relaxed → Type 0
 AreRelaxedBelow n es = AllByRecursion (λ e. (e.literal).variable < n) es
@@ -99,9 +105,9 @@ pub column_below : (n : ℕ) (es : List Relaxed) (j : ℕ) → AreRelaxedBelow n
 column_below n [] j h = tt
 column_below n (e ∷ es) j h =
     elim (bit (e.soft).weight j)
-      as (λ b. AreBelow n
-        (map (λ e. e.literal) (if b then e ∷ filter (λ e. bit (e.soft).weight j) es
-            else filter (λ e. bit (e.soft).weight j) es))) [
+    as (λ b. AreBelow n
+    (map (λ e. e.literal) (if b then e ∷ filter (λ e. bit (e.soft).weight j) es
+    else filter (λ e. bit (e.soft).weight j) es))) [
       | true ↦ (h.0, column_below n es j h.1)
       | false ↦ column_below n es j h.1
     ]
@@ -115,9 +121,9 @@ columns_chain column (suc more) j n carries h k =
     let sum = added_up (length ls) n ls in
     let r = column_chain (length ls) n ls (below_append n (column j) carries (h j) k) in
     chain_append n sum.cells (columns_from column more (j + 1) sum.fresh sum.carries).cells
-      sum.fresh r.fresh r.chain
+    sum.fresh r.fresh r.chain
     (columns_chain column more (j + 1) sum.fresh sum.carries
-        (λ i. below_more n sum.fresh (column i) (omega (arith, r.fresh)) (h i)) r.carries)
+    (λ i. below_more n sum.fresh (column i) (omega (arith, r.fresh)) (h i)) r.carries)
 
 -- what a cell adds
 abbrev inputs : Assignment → Cell → ℕ
@@ -154,20 +160,36 @@ cells_choice n (cell ∷ cells) t h =
     let w = put (put t n s) (n + 1) c in
     let r = cells_choice (n + 2) cells w h.5 in
     let same : SameBelow n t r.0 = λ v k. r.1 v (omega arith)
-      ∙ put_other (put t n s) (n + 1) v c (omega arith) ∙ put_other t n v s (omega arith) in
+    ∙ put_other (put t n s) (n + 1) v c (omega arith) ∙ put_other t n v s (omega arith) in
     let sum : r.0 cell.sum ≡ s = ap r.0 h.3 ∙ r.1 n (omega arith)
-      ∙ put_other (put t n s) (n + 1) n c (omega arith) ∙ put_here t n s in
+    ∙ put_other (put t n s) (n + 1) n c (omega arith) ∙ put_here t n s in
     let carry : r.0 cell.carry ≡ c = ap r.0 h.4 ∙ r.1 (n + 1) (omega arith)
-      ∙ put_here (put t n s) (n + 1) c in
+    ∙ put_here (put t n s) (n + 1) c in
     let a : one_if (literal_value r.0 cell.a) ≡ one_if (literal_value t cell.a) =
-      ap one_if (literal_same t r.0 cell.a (same _ h.0)) in
+    ap one_if (literal_same t r.0 cell.a (same _ h.0)) in
     let b : one_if (literal_value r.0 cell.b) ≡ one_if (literal_value t cell.b) =
-      ap one_if (literal_same t r.0 cell.b (same _ h.1)) in
-    let third = third_same n t r.0 cell.third same h.2 in
-    (r.0, same, (omega (arith,
-            two_bits m (omega (arith, one_if_le (literal_value t cell.a),
-                one_if_le (literal_value t cell.b), third_le t cell.third)), ap one_if sum,
-            ap one_if carry, a, b, third), r.2))
+    ap one_if (literal_same t r.0 cell.b (same _ h.1)) in
+    let third = third_same n t r.0 cell.third same h.2 in (
+      r.0,
+      same,
+      (
+        omega (
+          arith,
+          two_bits m (omega (
+            arith,
+            one_if_le (literal_value t cell.a),
+            one_if_le (literal_value t cell.b),
+            third_le t cell.third,
+          )),
+          ap one_if sum,
+          ap one_if carry,
+          a,
+          b,
+          third,
+        ),
+        r.2,
+      ),
+    )
 
 -- the clauses name variables up to n
 abbrev pub AreWithin : ℕ → List SoftClause → Type 0
@@ -179,12 +201,14 @@ pub relaxed_below : (n : ℕ) (profile : Profile) (v : ℕ) (ss : List SoftClaus
 relaxed_below n profile v [] m h k = λ room. tt
 relaxed_below n profile v (s ∷ ss) m h k =
     relaxed_cases profile v s
-      (λ e. v + length (filter (λ e. e.is_fresh)
-          (e ∷ relaxed_from profile (if e.is_fresh then v + 1 else v) ss)) ≤ m
-        → AreRelaxedBelow m (e ∷ relaxed_from profile (if e.is_fresh then v + 1 else v) ss))
+    (λ e. v + length (filter (λ e. e.is_fresh)
+    (e ∷ relaxed_from profile (if e.is_fresh then v + 1 else v) ss)) ≤ m
+    → AreRelaxedBelow m (e ∷ relaxed_from profile (if e.is_fresh then v + 1 else v) ss))
     (λ room. (omega arith, relaxed_below n profile (v + 1) ss m h.1 (omega arith) (omega arith)))
-    (λ l e room. (omega (arith, h.0, ap greatest_variable e),
-          relaxed_below n profile v ss m h.1 k room))
+    (λ l e room. (
+      omega (arith, h.0, ap greatest_variable e),
+      relaxed_below n profile v ss m h.1 k room,
+    ))
 
 -- each choice of the variables up to n extends to the cells after them
 pub chain_extends : (n : ℕ) (cells : List Cell) (t : Assignment) → IsChain (n + 1) cells
@@ -213,13 +237,19 @@ pub relaxed_choice : (n : ℕ) (profile : Profile) (v : ℕ) (ss : List SoftClau
 relaxed_choice n profile v [] u h k = (u, λ x l. refl, tt)
 relaxed_choice n profile v (s ∷ ss) u h k =
     relaxed_cases profile v s (λ e. (t : Assignment) × SameBelow v u t
-        × AllByRecursion (IsRelaxedTightly t)
-        (e ∷ relaxed_from profile (if e.is_fresh then v + 1 else v) ss))
+    × AllByRecursion (IsRelaxedTightly t)
+    (e ∷ relaxed_from profile (if e.is_fresh then v + 1 else v) ss))
     (let b = not (clause_value u s.clause) in
     let r = relaxed_choice n profile (v + 1) ss (put u v b) h.1 (omega arith) in
-    let same : SameBelow v u r.0 = λ x l. r.1 x (omega arith) ∙ put_other u v x b (omega arith) in
-    (r.0, same, (r.1 v (omega arith) ∙ put_here u v b
-          ∙ ap not (sym (clause_same u r.0 s.clause (λ x l. same x (omega (arith, h.0))))), r.2)))
+    let same : SameBelow v u r.0 = λ x l. r.1 x (omega arith) ∙ put_other u v x b (omega arith) in (
+      r.0,
+      same,
+      (
+        r.1 v (omega arith) ∙ put_here u v b
+            ∙ ap not (sym (clause_same u r.0 s.clause (λ x l. same x (omega (arith, h.0))))),
+        r.2,
+      ),
+    ))
     (λ l e.
     let r = relaxed_choice n profile v ss u h.1 k in
     (r.0, r.1, (negation_value r.0 l ∙ ap (λ c. not (clause_value r.0 c)) (sym e), r.2)))

@@ -15,7 +15,7 @@ length_in_is (suc k) n m h low high =
     elim (n == 0) as (λ b. (n == 0) ≡ b → (if b then 0 else suc (length_in k (n / 2))) ≡ m) [
       | true ↦ λ e. none m low high (eqb-true n 0 e)
       | false ↦ λ e. some m (λ m l g. length_in_is k (n / 2) m (omega (arith, pow-suc 2 k)) l g) low
-        high (eqb-false n 0 e)
+          high (eqb-false n 0 e)
     ] refl
   where
     none : (m : ℕ) → n < 2 ^ m → 2 ^ m ≤ 2 * n + 1 → n ≡ 0 → 0 ≡ m
@@ -23,10 +23,10 @@ length_in_is (suc k) n m h low high =
     none (suc m) low high e = absurd (omega (arith, pow-suc 2 m, pow_pos m))
 
     some : (m : ℕ) → ((m : ℕ) → n / 2 < 2 ^ m → 2 ^ m ≤ 2 * (n / 2) + 1 → length_in k (n / 2) ≡ m)
-      → n < 2 ^ m → 2 ^ m ≤ 2 * n + 1 → (n ≡ 0 → ⊥) → suc (length_in k (n / 2)) ≡ m
+        → n < 2 ^ m → 2 ^ m ≤ 2 * n + 1 → (n ≡ 0 → ⊥) → suc (length_in k (n / 2)) ≡ m
     some zero half low high apart = absurd (apart (omega arith))
     some (suc m) half low high apart =
-      ap suc (half m (omega (arith, pow-suc 2 m)) (omega (arith, pow-suc 2 m)))
+        ap suc (half m (omega (arith, pow-suc 2 m)) (omega (arith, pow-suc 2 m)))
 
 pub binary_length_is : (n : ℕ) → n < 2 ^ 63 → 64 - count_leading_zeros 64 n ≡ binary_length n
 binary_length_is n h =

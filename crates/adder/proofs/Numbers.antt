@@ -23,7 +23,7 @@ use Rattle.adder.proofs.Sorting.{sorted-sum, sorted-length, sorted-all}
 -- one bit of a number, and those above it
 bits_more : (t : Assignment) (bits : List (Option Literal)) (j : ℕ)
     → value_of t (drop j bits) ≡ count_true t (literal_at bits j) + 2 * value_of t
-      (drop (j + 1) bits)
+    (drop (j + 1) bits)
 bits_more t [] zero = refl
 bits_more t [] (suc j) =
     let e : suc j + 1 ≡ suc (j + 1) = omega arith in
@@ -46,11 +46,11 @@ bits_value : (t : Assignment) (l : Literal) (w more j : ℕ) → w / 2 ^ j < 2 ^
 bits_value t l w zero j h = none_left (literal_value t l) (w / 2 ^ j) h
 bits_value t l w (suc more) j h =
     let rest =
-      bits_value t l w more (j + 1) (halved (w / 2 ^ j) (w / 2 ^ (j + 1)) (one_if (bit w j))
-        (2 ^ more) (digit w j) (omega (arith, h, pow-suc 2 more))) in
+    bits_value t l w more (j + 1) (halved (w / 2 ^ j) (w / 2 ^ (j + 1)) (one_if (bit w j))
+    (2 ^ more) (digit w j) (omega (arith, h, pow-suc 2 more))) in
     elim (bit w j) as (λ b. one_if (bit w j) ≡ one_if b
-        → value_of t ((if b then Some l else None) ∷ bits_from l w more (j + 1))
-        ≡ one_if (literal_value t l) * (w / 2 ^ j)) [
+    → value_of t ((if b then Some l else None) ∷ bits_from l w more (j + 1))
+    ≡ one_if (literal_value t l) * (w / 2 ^ j)) [
       | true ↦ λ e. omega (arith, rest, here 1 e)
       | false ↦ λ e. omega (arith, rest, here 0 e)
     ] refl
@@ -86,7 +86,7 @@ bits_next l w j e f =
         let e : i + suc n ≡ (i + 1) + n = omega arith in
         let f : suc n + 1 ≡ suc (n + 1) = omega arith in
         rw (e, f) (ap (λ (bits : List (Option Literal)). (if bit w i then Some l else None) ∷ bits)
-            (from n (i + 1)))
+        (from n (i + 1)))
 
 -- what numbers are worth together
 abbrev pub worth : Assignment → List Number → ℕ
@@ -102,11 +102,15 @@ pub addition_value : (t : Assignment) (fresh : ℕ) (x y : Number) → value_of 
     → value_of t (addition fresh x y).outputs ≡ value_of t x.bits + value_of t y.bits
 addition_value t fresh x y h k small all =
     columns_sum t (λ j. literal_at x.bits j ++ literal_at y.bits j)
-      (λ j. value_of t (drop j x.bits) + value_of t (drop j y.bits))
-    (λ j. omega (arith, bits_more t x.bits j, bits_more t y.bits j,
-          count_true-append t (literal_at x.bits j) (literal_at y.bits j)))
+    (λ j. value_of t (drop j x.bits) + value_of t (drop j y.bits))
+    (λ j. omega (
+      arith,
+      bits_more t x.bits j,
+      bits_more t y.bits j,
+      count_true-append t (literal_at x.bits j) (literal_at y.bits j),
+    ))
     (binary_length (x.most + y.most)) 0 fresh [] all
-      (omega (arith, binary_length_room (x.most + y.most) small))
+    (omega (arith, binary_length_room (x.most + y.most) small))
     ∙ (omega arith)
 
 pub round_most : (fresh : ℕ) (xs : List Number) → most_of (round fresh xs).numbers ≡ most_of xs
@@ -132,11 +136,11 @@ round_value t fresh (x ∷ y ∷ more) h small all =
     let next = fresh + 2 * length sum.cells in
     let rest = round next more in
     let here =
-      addition_value t fresh x y h.0 h.1.0 (omega arith)
-        (left_part (IsCellOf t) sum.cells rest.cells all) in
+    addition_value t fresh x y h.0 h.1.0 (omega arith)
+    (left_part (IsCellOf t) sum.cells rest.cells all) in
     let r =
-      round_value t next more h.1.1 (omega arith) (right_part (IsCellOf t) sum.cells rest.cells all)
-        in
+    round_value t next more h.1.1 (omega arith) (right_part (IsCellOf t) sum.cells rest.cells all)
+    in
     (omega (arith, here, r.0), (omega (arith, here, h.0, h.1.0), r.1))
 
 rounds_value : (t : Assignment) (steps fresh : ℕ) (xs : List Number) → length xs ≤ steps + 1
@@ -151,11 +155,11 @@ rounds_value t (suc steps) fresh (x ∷ y ∷ more) few h small all =
     let next = fresh + 2 * length first.cells in
     let rest = rounds steps next first.numbers in
     let r =
-      round_value t fresh (x ∷ y ∷ more) h small (left_part (IsCellOf t) first.cells rest.cells all)
-        in
+    round_value t fresh (x ∷ y ∷ more) h small (left_part (IsCellOf t) first.cells rest.cells all)
+    in
     rounds_value t steps next first.numbers (omega (arith, round_length fresh (x ∷ y ∷ more))) r.1
-      (omega (arith, round_most fresh (x ∷ y ∷ more)))
-      (right_part (IsCellOf t) first.cells rest.cells all) ∙ r.0
+    (omega (arith, round_most fresh (x ∷ y ∷ more)))
+    (right_part (IsCellOf t) first.cells rest.cells all) ∙ r.0
 
 -- the numbers of the soft clauses
 abbrev number : Relaxed → Number
@@ -172,10 +176,16 @@ numbers_worth t [] small = (refl, tt)
 numbers_worth t (e ∷ es) small =
     let all = sum_by-cons (λ (e : Relaxed). (e.soft).weight) e es in
     let here = number_value t e.literal (e.soft).weight (omega (arith, all)) in
-    let r = numbers_worth t es (omega (arith, all)) in
-    (omega (arith, here, r.0,
-          sum_by-cons (λ (e : Relaxed). if literal_value t e.literal then (e.soft).weight else 0) e
-          es), (omega (arith, here, at_most (literal_value t e.literal) (e.soft).weight), r.1))
+    let r = numbers_worth t es (omega (arith, all)) in (
+      omega (
+        arith,
+        here,
+        r.0,
+        sum_by-cons (λ (e : Relaxed). if literal_value t e.literal then (e.soft).weight else 0) e
+            es,
+      ),
+      (omega (arith, here, at_most (literal_value t e.literal) (e.soft).weight), r.1),
+    )
   where
     at_most : (v : Bool) (w : ℕ) → (if v then w else 0) ≤ w
     at_most true w = omega arith
@@ -206,12 +216,12 @@ pub along_tree_sum : (t : Assignment) (es : List Relaxed) (fresh : ℕ)
     → value_of t (along_tree es fresh).outputs ≡ given_up t es
 along_tree_sum t es fresh small all =
     let r =
-      numbers_worth t (lightest es)
-        (omega (arith, sorted-sum (λ e. (e.soft).weight) (λ e. (e.soft).weight) es)) in
+    numbers_worth t (lightest es)
+    (omega (arith, sorted-sum (λ e. (e.soft).weight) (λ e. (e.soft).weight) es)) in
     rounds_value t (length es) fresh (numbers_of es) (omega (arith, numbers_length es)) r.1
-      (omega (arith, numbers_of-most es)) all
+    (omega (arith, numbers_of-most es)) all
     ∙ r.0 ∙ sorted-sum (λ e. (e.soft).weight) (λ e. if literal_value t e.literal
-        then (e.soft).weight else 0) es
+    then (e.soft).weight else 0) es
 
 -- how many cells there are
 at_length : (bits : List (Option Literal)) (j : ℕ) → length (literal_at bits j) ≤ 1
@@ -225,8 +235,12 @@ addition_cells fresh x y =
     omega (
       arith,
       columns_cells (λ j. literal_at x.bits j ++ literal_at y.bits j) 2 1
-        (λ j. omega (arith, length-append (literal_at x.bits j) (literal_at y.bits j),
-            at_length x.bits j, at_length y.bits j)) (omega arith)
+          (λ j. omega (
+            arith,
+            length-append (literal_at x.bits j) (literal_at y.bits j),
+            at_length x.bits j,
+            at_length y.bits j,
+          )) (omega arith)
           (binary_length (x.most + y.most)) 0 fresh [] (omega arith),
       binary_length_le (x.most + y.most),
     )
@@ -238,8 +252,12 @@ round_cells fresh (x ∷ []) = omega arith
 round_cells fresh (x ∷ y ∷ more) =
     let sum = addition fresh x y in
     let next = fresh + 2 * length sum.cells in
-    omega (arith, addition_cells fresh x y, round_cells next more,
-        length-append sum.cells (round next more).cells)
+    omega (
+      arith,
+      addition_cells fresh x y,
+      round_cells next more,
+      length-append sum.cells (round next more).cells,
+    )
 
 rounds_cells : (steps fresh : ℕ) (xs : List Number)
     → length (rounds steps fresh xs).cells ≤ 63 * length xs
@@ -249,8 +267,12 @@ rounds_cells zero fresh (x ∷ y ∷ more) = omega arith
 rounds_cells (suc steps) fresh (x ∷ y ∷ more) =
     let first = round fresh (x ∷ y ∷ more) in
     let next = fresh + 2 * length first.cells in
-    omega (arith, round_cells fresh (x ∷ y ∷ more), rounds_cells steps next first.numbers,
-        length-append first.cells (rounds steps next first.numbers).cells)
+    omega (
+      arith,
+      round_cells fresh (x ∷ y ∷ more),
+      rounds_cells steps next first.numbers,
+      length-append first.cells (rounds steps next first.numbers).cells,
+    )
 
 pub along_tree_cells : (es : List Relaxed) (fresh : ℕ)
     → length (along_tree es fresh).cells ≤ 63 * length es
@@ -270,9 +292,12 @@ round_short : (fresh : ℕ) (xs : List Number) → AreShort xs → most_of xs < 
 round_short fresh [] h small = tt
 round_short fresh (x ∷ []) h small = h
 round_short fresh (x ∷ y ∷ more) h small = (
-  omega (arith, columns_outputs (λ j. literal_at x.bits j ++ literal_at y.bits j)
-      (binary_length (x.most + y.most)) 0 fresh [],
-      binary_length_few (x.most + y.most) (omega arith)),
+  omega (
+    arith,
+    columns_outputs (λ j. literal_at x.bits j ++ literal_at y.bits j)
+        (binary_length (x.most + y.most)) 0 fresh [],
+    binary_length_few (x.most + y.most) (omega arith),
+  ),
   round_short (fresh + 2 * length (addition fresh x y).cells) more h.1.1 (omega arith),
 )
 
@@ -284,24 +309,28 @@ rounds_outputs zero fresh (x ∷ y ∷ more) h small = omega arith
 rounds_outputs (suc steps) fresh (x ∷ y ∷ more) h small =
     let first = round fresh (x ∷ y ∷ more) in
     rounds_outputs steps (fresh + 2 * length first.cells) first.numbers
-      (round_short fresh (x ∷ y ∷ more) h small) (omega (arith, round_most fresh (x ∷ y ∷ more)))
+    (round_short fresh (x ∷ y ∷ more) h small) (omega (arith, round_most fresh (x ∷ y ∷ more)))
 
 numbers_short : (es : List Relaxed) → sum_by (λ e. (e.soft).weight) es < 2 ^ 62
     → AreShort (map number es)
 numbers_short [] small = tt
 numbers_short (e ∷ es) small =
-    let all = sum_by-cons (λ (e : Relaxed). (e.soft).weight) e es in
-    (omega (arith, bits_length e.literal (e.soft).weight (binary_length (e.soft).weight) 0,
-          binary_length_few (e.soft).weight (omega (arith, all))),
-        numbers_short es (omega (arith, all)))
+    let all = sum_by-cons (λ (e : Relaxed). (e.soft).weight) e es in (
+      omega (
+        arith,
+        bits_length e.literal (e.soft).weight (binary_length (e.soft).weight) 0,
+        binary_length_few (e.soft).weight (omega (arith, all)),
+      ),
+      numbers_short es (omega (arith, all)),
+    )
 
 pub along_tree_outputs : (es : List Relaxed) (fresh : ℕ) → sum_by (λ e. (e.soft).weight) es < 2 ^ 62
     → length (along_tree es fresh).outputs ≤ 62
 along_tree_outputs es fresh small =
     rounds_outputs (length es) fresh (numbers_of es)
-      (numbers_short (lightest es)
-        (omega (arith, sorted-sum (λ e. (e.soft).weight) (λ e. (e.soft).weight) es)))
-      (omega (arith, numbers_of-most es))
+    (numbers_short (lightest es)
+    (omega (arith, sorted-sum (λ e. (e.soft).weight) (λ e. (e.soft).weight) es)))
+    (omega (arith, numbers_of-most es))
 
 -- Q holds of the variables
 module _ (Q : ℕ → Type 0) where
@@ -309,46 +338,48 @@ module _ (Q : ℕ → Type 0) where
   AreNumbersOf xs = AllByRecursion (λ x. AllByRecursion (IsOutputOf Q) x.bits) xs
 
   pub at_of : (bits : List (Option Literal)) (j : ℕ) → AllByRecursion (IsOutputOf Q) bits
-    → AreOf Q (literal_at bits j)
+      → AreOf Q (literal_at bits j)
   at_of [] j h = tt
   at_of (None ∷ bits) zero h = tt
   at_of (Some l ∷ bits) zero h = (h.0, tt)
   at_of (o ∷ bits) (suc j) h = at_of bits j h.1
 
   bits_of : (l : Literal) (w more j : ℕ) → Q l.variable
-    → AllByRecursion (IsOutputOf Q) (bits_from l w more j)
+      → AllByRecursion (IsOutputOf Q) (bits_from l w more j)
   bits_of l w zero j h = tt
   bits_of l w (suc more) j h =
       elim (bit w j) as (λ b. AllByRecursion (IsOutputOf Q)
-          ((if b then Some l else None) ∷ bits_from l w more (j + 1))) [
+      ((if b then Some l else None) ∷ bits_from l w more (j + 1))) [
         | true ↦ (h, bits_of l w more (j + 1) h)
         | false ↦ (tt, bits_of l w more (j + 1) h)
       ]
 
   all_with : (es : List Relaxed) → AllByRecursion (λ e. Q (e.literal).variable) es
-    → AreNumbersOf (map number es)
+      → AreNumbersOf (map number es)
   all_with [] h = tt
-  all_with (e ∷ es) h = (bits_of e.literal (e.soft).weight (binary_length (e.soft).weight) 0 h.0,
-      all_with es h.1)
+  all_with (e ∷ es) h = (
+    bits_of e.literal (e.soft).weight (binary_length (e.soft).weight) 0 h.0,
+    all_with es h.1,
+  )
 
   pub numbers_of-with : (es : List Relaxed) → AllByRecursion (λ e. Q (e.literal).variable) es
-    → AreNumbersOf (numbers_of es)
+      → AreNumbersOf (numbers_of es)
   numbers_of-with es h =
-    all_with (lightest es) (sorted-all (λ e. (e.soft).weight) (λ e. Q (e.literal).variable) es h)
+      all_with (lightest es) (sorted-all (λ e. (e.soft).weight) (λ e. Q (e.literal).variable) es h)
 
   pub addition_with : (n : ℕ) (x y : Number) → AllByRecursion (IsOutputOf Q) x.bits
-    → AllByRecursion (IsOutputOf Q) y.bits
+      → AllByRecursion (IsOutputOf Q) y.bits
       → ((v : ℕ) → n ≤ v → v < n + 2 * length (addition n x y).cells → Q v)
       → AllByRecursion (IsCellWith Q) (addition n x y).cells
-          × AllByRecursion (IsOutputOf Q) (addition n x y).outputs
+      × AllByRecursion (IsOutputOf Q) (addition n x y).outputs
   addition_with n x y h k f =
       columns_with Q (λ j. literal_at x.bits j ++ literal_at y.bits j)
-        (binary_length (x.most + y.most)) 0 n []
+      (binary_length (x.most + y.most)) 0 n []
       (λ j. of_append Q (literal_at x.bits j) (literal_at y.bits j) (at_of x.bits j h)
-          (at_of y.bits j k)) tt f
+      (at_of y.bits j k)) tt f
 
   pub round_with : (n : ℕ) (xs : List Number) → AreNumbersOf xs
-    → ((v : ℕ) → n ≤ v → v < n + 2 * length (round n xs).cells → Q v)
+      → ((v : ℕ) → n ≤ v → v < n + 2 * length (round n xs).cells → Q v)
       → AllByRecursion (IsCellWith Q) (round n xs).cells × AreNumbersOf (round n xs).numbers
   round_with n [] h f = (tt, tt)
   round_with n (x ∷ []) h f = (tt, h)
@@ -362,9 +393,9 @@ module _ (Q : ℕ → Type 0) where
       (all_append Q sum.cells rest.cells a.0 r.0, (a.1, r.1))
 
   rounds_with : (steps n : ℕ) (xs : List Number) → AreNumbersOf xs
-    → ((v : ℕ) → n ≤ v → v < n + 2 * length (rounds steps n xs).cells → Q v)
+      → ((v : ℕ) → n ≤ v → v < n + 2 * length (rounds steps n xs).cells → Q v)
       → AllByRecursion (IsCellWith Q) (rounds steps n xs).cells
-          × AllByRecursion (IsOutputOf Q) (rounds steps n xs).outputs
+      × AllByRecursion (IsOutputOf Q) (rounds steps n xs).outputs
   rounds_with steps n [] h f = (tt, tt)
   rounds_with steps n (x ∷ []) h f = (tt, h.0)
   rounds_with zero n (x ∷ y ∷ more) h f = (tt, tt)
@@ -375,15 +406,15 @@ module _ (Q : ℕ → Type 0) where
       let many = length-append first.cells rest.cells in
       let a = round_with n (x ∷ y ∷ more) h (λ v l u. f v l (omega (arith, many))) in
       let r =
-        rounds_with steps next first.numbers a.1 (λ v l u. f v (omega arith) (omega (arith, many)))
-          in
+      rounds_with steps next first.numbers a.1 (λ v l u. f v (omega arith) (omega (arith, many)))
+      in
       (all_append Q first.cells rest.cells a.0 r.0, r.1)
 
   pub along_tree_with : (es : List Relaxed) (n : ℕ)
-    → AllByRecursion (λ e. Q (e.literal).variable) es
-    → ((v : ℕ) → n ≤ v → v < n + 2 * length (along_tree es n).cells → Q v)
+      → AllByRecursion (λ e. Q (e.literal).variable) es
+      → ((v : ℕ) → n ≤ v → v < n + 2 * length (along_tree es n).cells → Q v)
       → AllByRecursion (IsCellWith Q) (along_tree es n).cells
-          × AllByRecursion (IsOutputOf Q) (along_tree es n).outputs
+      × AllByRecursion (IsOutputOf Q) (along_tree es n).outputs
   along_tree_with es n h f = rounds_with (length es) n (numbers_of es) (numbers_of-with es h) f
 
 -- each cell adds what is below its variables
@@ -404,9 +435,9 @@ addition_chain : (n : ℕ) (x y : Number) → AllByRecursion (IsOutputOf (λ v. 
     → AllByRecursion (IsOutputOf (λ v. v < n)) y.bits → IsChain n (addition n x y).cells
 addition_chain n x y h k =
     columns_chain (λ j. literal_at x.bits j ++ literal_at y.bits j)
-      (binary_length (x.most + y.most)) 0 n []
+    (binary_length (x.most + y.most)) 0 n []
     (λ j. below_append n (literal_at x.bits j) (literal_at y.bits j) (at_of (λ v. v < n) x.bits j h)
-        (at_of (λ v. v < n) y.bits j k)) tt
+    (at_of (λ v. v < n) y.bits j k)) tt
 
 round_chain : (n : ℕ) (xs : List Number) → AreNumbersBelow n xs → IsChain n (round n xs).cells
 round_chain n [] h = tt
@@ -415,7 +446,7 @@ round_chain n (x ∷ y ∷ more) h =
     let sum = addition n x y in
     let next = n + 2 * length sum.cells in
     chain_append n sum.cells (round next more).cells next refl (addition_chain n x y h.0 h.1.0)
-      (round_chain next more (numbers_more n next more (omega arith) h.1.1))
+    (round_chain next more (numbers_more n next more (omega arith) h.1.1))
 
 rounds_chain : (steps n : ℕ) (xs : List Number) → AreNumbersBelow n xs
     → IsChain n (rounds steps n xs).cells
@@ -427,9 +458,9 @@ rounds_chain (suc steps) n (x ∷ y ∷ more) h =
     let first = round n xs in
     let next = n + 2 * length first.cells in
     let below =
-      round_with (λ v. v < next) n xs (numbers_more n next xs (omega arith) h) (λ v l u. u) in
+    round_with (λ v. v < next) n xs (numbers_more n next xs (omega arith) h) (λ v l u. u) in
     chain_append n first.cells (rounds steps next first.numbers).cells next refl
-      (round_chain n xs h) (rounds_chain steps next first.numbers below.1)
+    (round_chain n xs h) (rounds_chain steps next first.numbers below.1)
 
 pub along_tree_chain : (es : List Relaxed) (n : ℕ) → AreRelaxedBelow n es
     → IsChain n (along_tree es n).cells

@@ -18,27 +18,29 @@ enough (suc s) zero n (x ∷ y ∷ more) h k = absurd (omega arith)
 enough (suc s) (suc t) n (x ∷ y ∷ more) h k =
     let first = round n (x ∷ y ∷ more) in
     let onto : Adders → Adders =
-      λ rest. record { cells = first.cells ++ rest.cells; outputs = rest.outputs } in
+    λ rest. record { cells = first.cells ++ rest.cells; outputs = rest.outputs } in
     let fewer = round_length n (x ∷ y ∷ more) in
     ap onto (enough s t (n + 2 * length first.cells) first.numbers (omega (arith, fewer))
-        (omega (arith, fewer)))
+    (omega (arith, fewer)))
 
 -- what the round of two numbers or more leaves
 abbrev pub after_round : ℕ → List Number → Adders
 after_round n xs = tree_from (n + 2 * length (round n xs).cells) (round n xs).numbers
 
 tree_more : (n : ℕ) (xs : List Number) → 2 ≤ length xs
-    → tree_from n xs ≡ record { cells = (round n xs).cells ++ (after_round n xs).cells;
-      outputs = (after_round n xs).outputs }
+    → tree_from n xs ≡ record {
+      cells = (round n xs).cells ++ (after_round n xs).cells;
+      outputs = (after_round n xs).outputs;
+    }
 tree_more n [] h = absurd (omega arith)
 tree_more n (x ∷ []) h = absurd (omega arith)
 tree_more n (x ∷ y ∷ more) h =
     let first = round n (x ∷ y ∷ more) in
     let onto : Adders → Adders =
-      λ rest. record { cells = first.cells ++ rest.cells; outputs = rest.outputs } in
+    λ rest. record { cells = first.cells ++ rest.cells; outputs = rest.outputs } in
     let fewer = round_length n (x ∷ y ∷ more) in
     ap onto (enough (suc (length more)) (length first.numbers) (n + 2 * length first.cells)
-        first.numbers (omega (arith, fewer)) (omega arith))
+    first.numbers (omega (arith, fewer)) (omega arith))
 
 -- what was built, with what the numbers that are left give, is the whole, and variables are enough
 pub record IsRounding (whole : Adders) (cells : List Cell) (n : ℕ) (xs : List Number) : Type 0 where
@@ -51,21 +53,25 @@ pub record IsRounding (whole : Adders) (cells : List Cell) (n : ℕ) (xs : List 
 module _ {whole : Adders} {cells : List Cell} {n : ℕ} {xs : List Number} (many : 2 ≤ length xs)
     (h : IsRounding whole cells n xs) where
   next_room : (n + 2 * length (round n xs).cells) + 2 * length (after_round n xs).cells ≤ 2 ^ 26
-  next_room = omega (arith, h.room, ap (λ (a : Adders). length a.cells) (tree_more n xs many),
-      length-append (round n xs).cells (after_round n xs).cells)
+  next_room = omega (
+    arith,
+    h.room,
+    ap (λ (a : Adders). length a.cells) (tree_more n xs many),
+    length-append (round n xs).cells (after_round n xs).cells,
+  )
 
   pub round_room : n + 2 * length (round n xs).cells ≤ 2 ^ 26
   round_room = omega (arith, next_room)
 
   pub adds_round : {cells_then : List Cell} {n_then : ℕ} {xs_then : List Number}
-    → cells_then ≡ cells ++ (round n xs).cells → n_then ≡ n + 2 * length (round n xs).cells
-    → xs_then ≡ (round n xs).numbers
+      → cells_then ≡ cells ++ (round n xs).cells → n_then ≡ n + 2 * length (round n xs).cells
+      → xs_then ≡ (round n xs).numbers
       → IsRounding whole cells_then n_then xs_then
   adds_round cells_are n_is xs_are =
       let more = tree_more n xs many in
       rw (cells_are, n_is, xs_are) (record {
         cells_are = append_assoc cells (round n xs).cells (after_round n xs).cells
-          ∙ ap (λ (a : Adders). cells ++ a.cells) (sym more) ∙ h.cells_are;
+            ∙ ap (λ (a : Adders). cells ++ a.cells) (sym more) ∙ h.cells_are;
         outputs_are = ap (λ (a : Adders). a.outputs) (sym more) ∙ h.outputs_are;
         from_one = omega (arith, h.from_one);
         most = omega (arith, h.most, round_most n xs);
@@ -105,11 +111,14 @@ module _ {whole : Round} {before : List Cell} {end : ℕ} {sums : List Number} {
     {n : ℕ} {xs : List Number} (x y : Number) (more : List Number) (is : xs ≡ x ∷ y ∷ more)
     (h : IsPairing whole before end sums cells n xs) where
   next_end : (n + 2 * length (addition n x y).cells) + 2 * length
-    (round (n + 2 * length (addition n x y).cells) more).cells ≡ end
+      (round (n + 2 * length (addition n x y).cells) more).cells ≡ end
   next_end =
-    omega (arith, rw is at h.end_is,
-      length-append (addition n x y).cells
-      (round (n + 2 * length (addition n x y).cells) more).cells)
+      omega (
+        arith,
+        rw is at h.end_is,
+        length-append (addition n x y).cells
+            (round (n + 2 * length (addition n x y).cells) more).cells,
+      )
 
   pub pair_room : end ≤ 2 ^ 26 → n + 2 * length (addition n x y).cells ≤ 2 ^ 26
   pair_room room = omega (arith, next_end)
@@ -118,8 +127,8 @@ module _ {whole : Round} {before : List Cell} {end : ℕ} {sums : List Number} {
   pair_most = omega (arith, rw is at h.most)
 
   pub adds_pair : {sums_then : List Number} {cells_then : List Cell} {n_then : ℕ}
-    {xs_then : List Number} (sum : Number) → sum.bits ≡ (addition n x y).outputs
-    → sum.most ≡ x.most + y.most
+      {xs_then : List Number} (sum : Number) → sum.bits ≡ (addition n x y).outputs
+      → sum.most ≡ x.most + y.most
       → sums_then ≡ sums ++ sum ∷ [] → cells_then ≡ cells ++ (addition n x y).cells
       → n_then ≡ n + 2 * length (addition n x y).cells → xs_then ≡ more
       → IsPairing whole before end sums_then cells_then n_then xs_then
@@ -130,7 +139,7 @@ module _ {whole : Round} {before : List Cell} {end : ℕ} {sums : List Number} {
       let same : sum ≡ one = λ i. record { bits = bits_are i; most = most_is i } in
       rw (sums_are, cells_are, n_is, xs_are) (record {
         numbers_are = ap (λ (s : Number). (sums ++ s ∷ []) ++ (round next more).numbers) same
-          ∙ append_assoc sums (one ∷ []) (round next more).numbers ∙ rw is at h.numbers_are;
+            ∙ append_assoc sums (one ∷ []) (round next more).numbers ∙ rw is at h.numbers_are;
         cells_are = append_assoc cells added.cells (round next more).cells ∙ rw is at h.cells_are;
         from_one = omega (arith, h.from_one);
         most = omega (arith, rw is at h.most);

@@ -33,19 +33,19 @@ adders_cases Three p P columns tree = tree
 -- which of them it is
 pub is_columns : (profile : Profile) (p : Problem) → (profile ≡ One) ⊎ (profile ≡ Two)
     → along_columns (relaxed_as profile p) (total_weight p) (relaxed_variables profile p + 1)
-        ≡ adders_as profile p
+    ≡ adders_as profile p
 is_columns profile p (inl e) =
     subst (λ (q : Profile). along_columns (relaxed_as q p) (total_weight p)
-      (relaxed_variables q p + 1) ≡ adders_as q p) (sym e) refl
+    (relaxed_variables q p + 1) ≡ adders_as q p) (sym e) refl
 is_columns profile p (inr e) =
     subst (λ (q : Profile). along_columns (relaxed_as q p) (total_weight p)
-      (relaxed_variables q p + 1) ≡ adders_as q p) (sym e) refl
+    (relaxed_variables q p + 1) ≡ adders_as q p) (sym e) refl
 
 pub is_tree : (profile : Profile) (p : Problem) → profile ≡ Three
     → along_tree (relaxed_as profile p) (relaxed_variables profile p + 1) ≡ adders_as profile p
 is_tree profile p e =
     subst (λ (q : Profile). along_tree (relaxed_as q p) (relaxed_variables q p + 1) ≡ adders_as q p)
-      (sym e) refl
+    (sym e) refl
 
 module _ (profile : Profile) (p : Problem) where
   abbrev es : List Relaxed
@@ -59,34 +59,34 @@ module _ (profile : Profile) (p : Problem) where
 
   -- the field `sum` of `AddsUp`
   pub outputs_sum : (t : Assignment) → total_weight p < 2 ^ 63
-    → All (IsCellOf t) (adders_as profile p).cells → value_of t (adders_as profile p).outputs
+      → All (IsCellOf t) (adders_as profile p).cells → value_of t (adders_as profile p).outputs
       ≡ relaxed_weight profile p t
   outputs_sum t small all =
       adders_cases profile p (λ a. AllByRecursion (IsCellOf t) a.cells
-          → value_of t a.outputs ≡ relaxed_weight profile p t)
+      → value_of t a.outputs ≡ relaxed_weight profile p t)
       (along_columns_sum t es (total_weight p) n weights small)
-        (along_tree_sum t es n (omega (arith, weights)))
+      (along_tree_sum t es n (omega (arith, weights)))
       (recursion_from_All (IsCellOf t) (adders_as profile p).cells all)
 
   -- the field `choice` of `AddsUp`
   pub cells_extend : (t : Assignment) → AreWithin p.variables p.soft
-    → (u : Assignment) × SameUpTo (relaxed_variables profile p) t u
+      → (u : Assignment) × SameUpTo (relaxed_variables profile p) t u
       × All (IsCellOf u) (adders_as profile p).cells
   cells_extend t h =
       let below : AreRelaxedBelow n es =
-        relaxed_below p.variables profile (p.variables + 1) p.soft n h (omega arith)
-          (omega arith) in
+      relaxed_below p.variables profile (p.variables + 1) p.soft n h (omega arith)
+      (omega arith) in
       chain_extends (relaxed_variables profile p) (adders_as profile p).cells t
-        (adders_cases profile p (λ a. IsChain n a.cells)
+      (adders_cases profile p (λ a. IsChain n a.cells)
       (columns_chain (column_of es) (binary_length (total_weight p)) 0 n []
-          (λ j. column_below n es j below) tt) (along_tree_chain es n below))
+      (λ j. column_below n es j below) tt) (along_tree_chain es n below))
 
   pub outputs_few : total_weight p < 2 ^ 62 → length (adders_as profile p).outputs ≤ 62
   outputs_few h =
       adders_cases profile p (λ a. length a.outputs ≤ 62)
       (subst (λ k. k ≤ 62)
-          (sym (columns_outputs (column_of es) (binary_length (total_weight p)) 0 n []))
-          (binary_length_few (total_weight p) h))
+      (sym (columns_outputs (column_of es) (binary_length (total_weight p)) 0 n []))
+      (binary_length_few (total_weight p) h))
       (along_tree_outputs es n (omega (arith, weights)))
 
   pub cells_few : length (adders_as profile p).cells ≤ 63 * length p.soft
@@ -94,9 +94,9 @@ module _ (profile : Profile) (p : Problem) where
       let many = relaxed_length profile (p.variables + 1) p.soft in
       adders_cases profile p (λ a. length a.cells ≤ 63 * length p.soft)
       (of (binary_length (total_weight p)) (length (along_columns es (total_weight p) n).cells)
-          (length es) (binary_length_le (total_weight p))
+      (length es) (binary_length_le (total_weight p))
       (columns_cells (column_of es) (length es) (length es) (column_le es) (omega arith)
-          (binary_length (total_weight p)) 0 n [] (omega arith)) many)
+      (binary_length (total_weight p)) 0 n [] (omega arith)) many)
       (omega (arith, along_tree_cells es n, many))
     where
       of : (b c k : ℕ) → b ≤ 63 → c ≤ b * k → k ≡ length p.soft → c ≤ 63 * length p.soft
@@ -104,28 +104,28 @@ module _ (profile : Profile) (p : Problem) where
 
   -- Q holds of the variables that the cells and the outputs name
   pub adders_with : (Q : ℕ → Type 0) → AllByRecursion (λ e. Q (e.literal).variable) es
-    → ((v : ℕ) → n ≤ v → v < n + 2 * length (adders_as profile p).cells → Q v)
+      → ((v : ℕ) → n ≤ v → v < n + 2 * length (adders_as profile p).cells → Q v)
       → AllByRecursion (IsCellWith Q) (adders_as profile p).cells
-          × AllByRecursion (IsOutputOf Q) (adders_as profile p).outputs
+      × AllByRecursion (IsOutputOf Q) (adders_as profile p).outputs
   adders_with Q h =
       adders_cases profile p (λ a. ((v : ℕ) → n ≤ v → v < n + 2 * length a.cells → Q v)
-          → AllByRecursion (IsCellWith Q) a.cells × AllByRecursion (IsOutputOf Q) a.outputs)
+      → AllByRecursion (IsCellWith Q) a.cells × AllByRecursion (IsOutputOf Q) a.outputs)
       (columns_with Q (column_of es) (binary_length (total_weight p)) 0 n []
-          (λ j. column_of_with Q es j h) tt) (along_tree_with Q es n h)
+      (λ j. column_of_with Q es j h) tt) (along_tree_with Q es n h)
 
 -- the law of `network_as`
 pub adds_up : (profile : Profile) (p : Problem) → IsInstance p
     → AddsUp profile p (adders_as profile p)
 adds_up profile p h =
     let soft : AreWithin p.variables p.soft =
-      recursion_from_All _ p.soft
-        (All-weaker (λ (s : SoftClause). IsClauseWithin p.variables s.clause)
-        (λ s. greatest_variable s.clause ≤ p.variables) (λ s w. w.2) p.soft h.soft_clauses) in
+    recursion_from_All _ p.soft
+    (All-weaker (λ (s : SoftClause). IsClauseWithin p.variables s.clause)
+    (λ s. greatest_variable s.clause ≤ p.variables) (λ s w. w.2) p.soft h.soft_clauses) in
     record {
       sum = λ t all. outputs_sum profile p t (omega (arith, h.weight_sum)) all;
       choice = λ t. cells_extend profile p t soft;
       small =
-        room p.variables (length (filter (λ e. e.is_fresh) (relaxed_as profile p)))
+          room p.variables (length (filter (λ e. e.is_fresh) (relaxed_as profile p)))
           (length (adders_as profile p).cells) (length p.soft) h.variables h.soft_count
           (fresh_few profile p) (cells_few profile p);
     }

@@ -21,14 +21,14 @@ enough (suc s) (suc t) n (a ∷ b ∷ []) h k =
     let one : 1 ≤ s + 1 = omega arith in
     let two : 1 ≤ t + 1 = omega arith in
     ap (after_cell (record { a = a; b = b; third = None; sum = n; carry = n + 1 }))
-      (enough s t (n + 2) (positive n ∷ []) one two)
+    (enough s t (n + 2) (positive n ∷ []) one two)
 enough (suc s) (suc t) n (a ∷ b ∷ d ∷ rest) h k =
     let one : length (rest ++ positive n ∷ []) ≤ s + 1 =
-      omega (arith, length-append rest (positive n ∷ [])) in
+    omega (arith, length-append rest (positive n ∷ [])) in
     let two : length (rest ++ positive n ∷ []) ≤ t + 1 =
-      omega (arith, length-append rest (positive n ∷ [])) in
+    omega (arith, length-append rest (positive n ∷ [])) in
     ap (after_cell (record { a = a; b = b; third = Some d; sum = n; carry = n + 1 }))
-      (enough s t (n + 2) (rest ++ positive n ∷ []) one two)
+    (enough s t (n + 2) (rest ++ positive n ∷ []) one two)
 
 -- two of a queue, or three, go into a cell, and the rest stays
 pub data Front (a b : Literal) (ls : List Literal) : Option Literal → List Literal → Type 0 where
@@ -60,11 +60,11 @@ behind_is xs ys i e = take_rest ys i ∙ ap (drop i) e
 pub two_at : (xs ys : List Literal) (i : ℕ) (a b s : Literal) → ys ≡ xs → 2 ≤ length (behind i ys)
     → length (behind i ys) < 3 → a ≡ get_or (behind i ys) 0 a → b ≡ get_or (behind i ys) 1 b
     → Front a b (drop i xs) None [] × (i + 2 ≤ length (xs ++ s ∷ []))
-        × (drop (i + 2) (xs ++ s ∷ []) ≡ s ∷ [])
+    × (drop (i + 2) (xs ++ s ∷ []) ≡ s ∷ [])
 two_at xs ys i a b s e h l p q =
     let here : length (drop i xs) ≡ 2 = omega (arith, ap length (behind_is xs ys i e)) in (
       subst (λ ls. Front a b ls None []) (behind_is xs ys i e)
-        (front_two a b (behind i ys) h l p q),
+          (front_two a b (behind i ys) h l p q),
       omega (arith, length-append xs (s ∷ []), length-drop i xs),
       drop_at xs (s ∷ []) (i + 2) (omega (arith, length-drop i xs)),
     )
@@ -73,28 +73,28 @@ pub three_at : (xs ys : List Literal) (i : ℕ) (a b d s : Literal) → ys ≡ x
     → 3 ≤ length (behind i ys) → a ≡ get_or (behind i ys) 0 a → b ≡ get_or (behind i ys) 1 b
     → d ≡ get_or (behind i ys) 2 d
     → Front a b (drop i xs) (Some d) (drop 3 (drop i xs)) × (i + 3 ≤ length (xs ++ s ∷ []))
-        × (drop (i + 3) (xs ++ s ∷ []) ≡ drop 3 (drop i xs) ++ s ∷ [])
+    × (drop (i + 3) (xs ++ s ∷ []) ≡ drop 3 (drop i xs) ++ s ∷ [])
 three_at xs ys i a b d s e h p q r =
     let here : 3 ≤ length (drop i xs) = omega (arith, ap length (behind_is xs ys i e)) in
     let inside : i + 3 ≤ length xs = omega (arith, length-drop i xs) in (
       subst (λ ls. Front a b ls (Some d) (drop 3 ls)) (behind_is xs ys i e)
-        (front_three a b d (behind i ys) h p q r),
+          (front_three a b d (behind i ys) h p q r),
       omega (arith, length-append xs (s ∷ [])),
       drop-append-le (i + 3) xs (s ∷ []) inside
-        ∙ ap (λ (ls : List Literal). ls ++ s ∷ []) (sym (drop-drop 3 i xs)),
+          ∙ ap (λ (ls : List Literal). ls ++ s ∷ []) (sym (drop-drop 3 i xs)),
     )
 
 pub column_more : (n : ℕ) (a b : Literal) (ls : List Literal) (third : Option Literal)
     (rest : List Literal) → Front a b ls third rest
     → column_from n ls ≡ after_cell (record { a = a; b = b; third = third; sum = n; carry = n + 1 })
-      (column_from (n + 2) (rest ++ positive n ∷ []))
+    (column_from (n + 2) (rest ++ positive n ∷ []))
 column_more n a b ls _ _ (Two e) = ap (column_from n) e
 column_more n a b ls _ _ (Three d rest e) =
     ap (column_from n) e
-      ∙ ap (after_cell (record { a = a; b = b; third = Some d; sum = n; carry = n + 1 }))
+    ∙ ap (after_cell (record { a = a; b = b; third = Some d; sum = n; carry = n + 1 }))
     (enough (suc (suc (length rest))) (length (rest ++ positive n ∷ [])) (n + 2)
-        (rest ++ positive n ∷ []) (omega (arith, length-append rest (positive n ∷ [])))
-        (omega arith))
+    (rest ++ positive n ∷ []) (omega (arith, length-append rest (positive n ∷ [])))
+    (omega arith))
 
 -- what was built, with what the queue still gives, is a whole column after what was there before
 pub record IsAddingUp (before : List Cell) (carried : List Literal) (column : Column)
@@ -120,9 +120,9 @@ adds_cell {before} {carried} {column} {cells} {carries} {n} {a} {b} {ls} {third}
     let left = column_from (n + 2) (rest ++ positive n ∷ []) in
     rw (cells_are, carries_are, n_is, ls_is) (record {
       cells_are = append_assoc cells (cell ∷ []) left.cells
-        ∙ ap (λ (k : Column). cells ++ k.cells) (sym more) ∙ h.cells_are;
+          ∙ ap (λ (k : Column). cells ++ k.cells) (sym more) ∙ h.cells_are;
       carries_are = append_assoc carries (positive (n + 1) ∷ []) left.carries
-        ∙ ap (λ (k : Column). carries ++ k.carries) (sym more) ∙ h.carries_are;
+          ∙ ap (λ (k : Column). carries ++ k.carries) (sym more) ∙ h.carries_are;
       output_is = ap (λ (k : Column). k.output) (sym more) ∙ h.output_is;
       fresh_is = ap (λ (k : Column). k.fresh) (sym more) ∙ h.fresh_is;
     })
@@ -131,5 +131,8 @@ adds_cell {before} {carried} {column} {cells} {carries} {n} {a} {b} {ls} {third}
 pub has_room : (n : ℕ) (a b : Literal) (ls : List Literal) (third : Option Literal)
     (rest : List Literal) → Front a b ls third rest → n + 2 ≤ (column_from n ls).fresh
 has_room n a b ls third rest front =
-    omega (arith, ap (λ (k : Column). k.fresh) (column_more n a b ls third rest front),
-        column_fresh (length (rest ++ positive n ∷ [])) (n + 2) (rest ++ positive n ∷ []))
+    omega (
+      arith,
+      ap (λ (k : Column). k.fresh) (column_more n a b ls third rest front),
+      column_fresh (length (rest ++ positive n ∷ [])) (n + 2) (rest ++ positive n ∷ []),
+    )

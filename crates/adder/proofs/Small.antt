@@ -32,8 +32,8 @@ filter_le p xs = subst (λ n. n ≤ length xs) (sym (length-filter p xs)) (count
 pub column_le : (es : List Relaxed) (j : ℕ) → length (column_of es j) ≤ length es
 column_le es j =
     subst (λ n. n ≤ length es)
-      (sym (length-map (filter (λ (e : Relaxed). bit (e.soft).weight j) es) (λ e. e.literal)))
-      (filter_le (λ e. bit (e.soft).weight j) es)
+    (sym (length-map (filter (λ (e : Relaxed). bit (e.soft).weight j) es) (λ e. e.literal)))
+    (filter_le (λ e. bit (e.soft).weight j) es)
 
 -- columns of at most m literals, where k carries are enough
 pub columns_cells : (column : ℕ → List Literal) (m k : ℕ) → ((j : ℕ) → length (column j) ≤ m)
@@ -46,9 +46,14 @@ columns_cells column m k short enough (suc more) j n carries h =
     let r = column_cells (length ls) n ls in
     let rest = columns_from column more (j + 1) sum.fresh sum.carries in
     let few : length sum.carries ≤ k =
-      omega (arith, r.0, r.1, short j, length-append (column j) carries) in
-    omega (arith, length-append sum.cells rest.cells,
-        columns_cells column m k short enough more (j + 1) sum.fresh sum.carries few, r.1, few)
+    omega (arith, r.0, r.1, short j, length-append (column j) carries) in
+    omega (
+      arith,
+      length-append sum.cells rest.cells,
+      columns_cells column m k short enough more (j + 1) sum.fresh sum.carries few,
+      r.1,
+      few,
+    )
 
 pub columns_outputs : (column : ℕ → List Literal) (more j n : ℕ) (carries : List Literal)
     → length (columns_from column more j n carries).outputs ≡ more
@@ -68,7 +73,7 @@ length_in_below (suc f) k n h =
     ] refl
   where
     below : (k : ℕ) → ((k : ℕ) → n / 2 < 2 ^ k → length_in f (n / 2) ≤ k) → n < 2 ^ k → (n ≡ 0 → ⊥)
-      → suc (length_in f (n / 2)) ≤ k
+        → suc (length_in f (n / 2)) ≤ k
     below zero rest l apart = absurd (apart (omega arith))
     below (suc k) rest l apart = omega (arith, rest k (omega (arith, pow-suc 2 k)))
 
@@ -85,5 +90,5 @@ pub fresh_few : (profile : Profile) (p : Problem)
     → length (filter (λ e. e.is_fresh) (relaxed_as profile p)) ≤ length p.soft
 fresh_few profile p =
     subst (λ n. length (filter (λ e. e.is_fresh) (relaxed_as profile p)) ≤ n)
-      (relaxed_length profile (p.variables + 1) p.soft)
-      (filter_le (λ e. e.is_fresh) (relaxed_as profile p))
+    (relaxed_length profile (p.variables + 1) p.soft)
+    (filter_le (λ e. e.is_fresh) (relaxed_as profile p))

@@ -12,33 +12,37 @@ use Rattle.adder.specs.Network.{put_in, lightest_first}
 
 module _ {X : Type 0} (weight : X → ℕ) where
   put_in-past : (x y : X) (ys : List X) → nat_lt (weight y) (weight x) ≡ true
-    → put_in weight x (y ∷ ys) ≡ y ∷ put_in weight x ys
+      → put_in weight x (y ∷ ys) ≡ y ∷ put_in weight x ys
   put_in-past x y ys h = ap (λ b. if b then y ∷ put_in weight x ys else x ∷ y ∷ ys) h
 
   put_in-stays : (x y : X) (ys : List X) → nat_lt (weight y) (weight x) ≡ false
-    → put_in weight x (y ∷ ys) ≡ x ∷ y ∷ ys
+      → put_in weight x (y ∷ ys) ≡ x ∷ y ∷ ys
   put_in-stays x y ys h = ap (λ b. if b then y ∷ put_in weight x ys else x ∷ y ∷ ys) h
 
   put_in-sum : (f : X → ℕ) (x : X) (ys : List X) → sum_by f (put_in weight x ys) ≡ f x + sum_by f ys
   put_in-sum f x [] = sum_by-cons f x []
   put_in-sum f x (y ∷ ys) =
       elim (nat_lt (weight y) (weight x)) as (λ b. sum_by f (if b then y ∷ put_in weight x ys
-            else x ∷ y ∷ ys) ≡ f x + sum_by f (y ∷ ys)) [
-        | true ↦ omega (arith, sum_by-cons f y (put_in weight x ys), put_in-sum f x ys,
-            sum_by-cons f y ys)
+      else x ∷ y ∷ ys) ≡ f x + sum_by f (y ∷ ys)) [
+        | true ↦ omega (
+          arith,
+          sum_by-cons f y (put_in weight x ys),
+          put_in-sum f x ys,
+          sum_by-cons f y ys,
+        )
         | false ↦ sum_by-cons f x (y ∷ ys)
       ]
 
   pub sorted-sum : (f : X → ℕ) (xs : List X) → sum_by f (lightest_first weight xs) ≡ sum_by f xs
   sorted-sum f [] = refl
   sorted-sum f (x ∷ xs) = put_in-sum f x (lightest_first weight xs)
-    ∙ omega (arith, sorted-sum f xs, sum_by-cons f x xs)
+      ∙ omega (arith, sorted-sum f xs, sum_by-cons f x xs)
 
   put_in-length : (x : X) (ys : List X) → length (put_in weight x ys) ≡ suc (length ys)
   put_in-length x [] = refl
   put_in-length x (y ∷ ys) =
       elim (nat_lt (weight y) (weight x)) as (λ b. length (if b then y ∷ put_in weight x ys
-            else x ∷ y ∷ ys) ≡ suc (length (y ∷ ys))) [
+      else x ∷ y ∷ ys) ≡ suc (length (y ∷ ys))) [
         | true ↦ ap suc (put_in-length x ys)
         | false ↦ refl
       ]
@@ -48,17 +52,17 @@ module _ {X : Type 0} (weight : X → ℕ) where
   sorted-length (x ∷ xs) = put_in-length x (lightest_first weight xs) ∙ ap suc (sorted-length xs)
 
   put_in-all : (P : X → Type 0) (x : X) (ys : List X) → P x → AllByRecursion P ys
-    → AllByRecursion P (put_in weight x ys)
+      → AllByRecursion P (put_in weight x ys)
   put_in-all P x [] h k = (h, tt)
   put_in-all P x (y ∷ ys) h k =
       elim (nat_lt (weight y) (weight x))
-        as (λ b. AllByRecursion P (if b then y ∷ put_in weight x ys else x ∷ y ∷ ys)) [
+      as (λ b. AllByRecursion P (if b then y ∷ put_in weight x ys else x ∷ y ∷ ys)) [
         | true ↦ (k.0, put_in-all P x ys h k.1)
         | false ↦ (h, k)
       ]
 
   pub sorted-all : (P : X → Type 0) (xs : List X) → AllByRecursion P xs
-    → AllByRecursion P (lightest_first weight xs)
+      → AllByRecursion P (lightest_first weight xs)
   sorted-all P [] h = tt
   sorted-all P (x ∷ xs) h = put_in-all P x (lightest_first weight xs) h.0 (sorted-all P xs h.1)
 
@@ -80,15 +84,15 @@ module _ {X : Type 0} (weight : X → ℕ) where
   lt_at m n = (λ h. grind (arith, nat_tests), λ h. grind (arith, nat_tests))
 
   filter-kept : (p : X → Bool) (y : X) (ys : List X) → p y ≡ true
-    → filter p (y ∷ ys) ≡ y ∷ filter p ys
+      → filter p (y ∷ ys) ≡ y ∷ filter p ys
   filter-kept p y ys h = cond-true _ _ _ h
 
   filter-dropped : (p : X → Bool) (y : X) (ys : List X) → p y ≡ false
-    → filter p (y ∷ ys) ≡ filter p ys
+      → filter p (y ∷ ys) ≡ filter p ys
   filter-dropped p y ys h = cond-false _ _ _ h
 
   filter-put_in : (z x : X) (ys : List X)
-    → filter (same z) (put_in weight x ys) ≡ filter (same z) (x ∷ ys)
+      → filter (same z) (put_in weight x ys) ≡ filter (same z) (x ∷ ys)
   filter-put_in z x [] = refl
   filter-put_in z x (y ∷ ys) =
       let p = same z in
@@ -102,11 +106,15 @@ module _ {X : Type 0} (weight : X → ℕ) where
                   ∙ ap (λ l. cond (p x) (x ∷ l) l) (sym (filter-dropped p y ys without))
               | inl with ↦
                   elim (cases_Bool (p x)) [
-                    | inl both ↦ absurd (omega (arith, same-true z x both, same-true z y with,
-                          (lt_at (weight y) (weight x)).0 past))
+                    | inl both ↦ absurd (omega (
+                      arith,
+                      same-true z x both,
+                      same-true z y with,
+                      (lt_at (weight y) (weight x)).0 past,
+                    ))
                     | inr only ↦
                         filter-kept p y (put_in weight x ys) with
-                          ∙ ap (λ l. y ∷ l) (filter-put_in z x ys ∙ filter-dropped p x ys only)
+                        ∙ ap (λ l. y ∷ l) (filter-put_in z x ys ∙ filter-dropped p x ys only)
                         ∙ sym (filter-dropped p x (y ∷ ys) only ∙ filter-kept p y ys with)
                   ]
             ]
@@ -116,7 +124,7 @@ module _ {X : Type 0} (weight : X → ℕ) where
       ≡ filter (same z) xs
   filter-sorted z [] = refl
   filter-sorted z (x ∷ xs) = filter-put_in z x (lightest_first weight xs)
-    ∙ ap (λ l. cond (same z x) (x ∷ l) l) (filter-sorted z xs)
+      ∙ ap (λ l. cond (same z x) (x ∷ l) l) (filter-sorted z xs)
 
   abbrev AreAtLeast : ℕ → List X → Type 0
   AreAtLeast n ys = AllByRecursion (λ y. n ≤ weight y) ys
@@ -130,10 +138,10 @@ module _ {X : Type 0} (weight : X → ℕ) where
   at_least-le n m (y ∷ ys) le h = let first = h.0 in (omega arith, at_least-le n m ys le h.1)
 
   at_least-at : (n : ℕ) (ys : List X)
-    → ((j : ℕ) (d : X) → j < length ys → n ≤ weight (get_or ys j d)) → AreAtLeast n ys
+      → ((j : ℕ) (d : X) → j < length ys → n ≤ weight (get_or ys j d)) → AreAtLeast n ys
   at_least-at n [] h = tt
   at_least-at n (y ∷ ys) h =
-    (h zero y (suc-le-suc zero-le), at_least-at n ys (λ j d lt. h (suc j) d (suc-le-suc lt)))
+      (h zero y (suc-le-suc zero-le), at_least-at n ys (λ j d lt. h (suc j) d (suc-le-suc lt)))
 
   rises_from_sort : (ys : List X) → IsNonDecreasingBy weight ys → Rises ys
   rises_from_sort [] h = tt
@@ -146,7 +154,7 @@ module _ {X : Type 0} (weight : X → ℕ) where
   put_in-rises x [] h = (tt, tt)
   put_in-rises x (y ∷ ys) h =
       elim (nat_lt (weight y) (weight x)) as (λ b. nat_lt (weight y) (weight x) ≡ b
-          → Rises (if b then y ∷ put_in weight x ys else x ∷ y ∷ ys)) [
+      → Rises (if b then y ∷ put_in weight x ys else x ∷ y ∷ ys)) [
         | true ↦ λ e.
             let lt = (lt_at (weight y) (weight x)).0 e in
             (put_in-all (λ z. weight y ≤ weight z) x ys (omega arith) h.0, put_in-rises x ys h.1)
@@ -161,7 +169,7 @@ module _ {X : Type 0} (weight : X → ℕ) where
 
   -- the weight of x occurs among them
   at_least-found : (n : ℕ) (x : X) (ys : List X) (w : X) (ws : List X) → AreAtLeast n ys
-    → filter (same x) ys ≡ w ∷ ws → n ≤ weight x
+      → filter (same x) ys ≡ w ∷ ws → n ≤ weight x
   at_least-found n x [] w ws h e = cc
   at_least-found n x (y ∷ ys) w ws h e =
       elim (cases_Bool (same x y)) [
@@ -171,7 +179,7 @@ module _ {X : Type 0} (weight : X → ℕ) where
       ]
 
   same_from_weights : (ys zs : List X) → Rises ys → Rises zs
-    → ((x : X) → filter (same x) ys ≡ filter (same x) zs) → ys ≡ zs
+      → ((x : X) → filter (same x) ys ≡ filter (same x) zs) → ys ≡ zs
   same_from_weights [] [] left right same_as = refl
   same_from_weights [] (z ∷ zs) left right same_as =
       let clash = same_as z ∙ filter-kept (same z) z zs (same_from z z refl) in cc
@@ -181,38 +189,38 @@ module _ {X : Type 0} (weight : X → ℕ) where
       let at_y = filter-kept (same y) y ys (same_from y y refl) in
       let at_z = filter-kept (same z) z zs (same_from z z refl) in
       let up =
-        at_least-found (weight z) y (z ∷ zs) y _ (omega arith, right.0) (sym (same_as y) ∙ at_y) in
+      at_least-found (weight z) y (z ∷ zs) y _ (omega arith, right.0) (sym (same_as y) ∙ at_y) in
       let down =
-        at_least-found (weight y) z (y ∷ ys) z _ (omega arith, left.0) (same_as z ∙ at_z) in
+      at_least-found (weight y) z (y ∷ ys) z _ (omega arith, left.0) (same_as z ∙ at_z) in
       let heads = sym at_y ∙ same_as y ∙ filter-kept (same y) z zs (same_from y z (omega arith)) in
       let head : y ≡ z = cc in
       let tails : (x : X) → filter (same x) ys ≡ filter (same x) zs =
       λ x. elim (cases_Bool (same x y)) [
         | inl with ↦
             let both = sym (filter-kept (same x) y ys with) ∙ same_as x
-              ∙ filter-kept (same x) z zs (ap (same x) (sym head) ∙ with) in cc
+            ∙ filter-kept (same x) z zs (ap (same x) (sym head) ∙ with) in cc
         | inr without ↦
             sym (filter-dropped (same x) y ys without) ∙ same_as x
-              ∙ filter-dropped (same x) z zs (ap (same x) (sym head) ∙ without)
+            ∙ filter-dropped (same x) z zs (ap (same x) (sym head) ∙ without)
       ] in
       ap (λ w. w ∷ ys) head ∙ ap (λ l. z ∷ l) (same_from_weights ys zs left.1 right.1 tails)
 
   -- what a stable sort gives
   pub is_sorted : (xs ys : List X) → IsNonDecreasingBy weight ys
-    → IsStableByKey weight nat_cmp xs ys → ys ≡ lightest_first weight xs
+      → IsStableByKey weight nat_cmp xs ys → ys ≡ lightest_first weight xs
   is_sorted xs ys sorted stable =
       same_from_weights ys (lightest_first weight xs) (rises_from_sort ys sorted) (sorted-rises xs)
-        (λ x. stable x ∙ sym (filter-sorted x xs))
+      (λ x. stable x ∙ sym (filter-sorted x xs))
 
 -- a map that keeps weights
 module _ {X Y : Type 0} (f : X → Y) (weight : Y → ℕ) where
   put_in-map : (x : X) (ys : List X) → map f (put_in (λ z. weight (f z)) x ys) ≡ put_in weight
-    (f x) (map f ys)
+      (f x) (map f ys)
   put_in-map x [] = refl
   put_in-map x (y ∷ ys) =
       elim (nat_lt (weight (f y)) (weight (f x)))
-        as (λ b. map f (if b then y ∷ put_in (λ z. weight (f z)) x ys else x ∷ y ∷ ys)
-          ≡ (if b then f y ∷ put_in weight (f x) (map f ys) else f x ∷ f y ∷ map f ys)) [
+      as (λ b. map f (if b then y ∷ put_in (λ z. weight (f z)) x ys else x ∷ y ∷ ys)
+      ≡ (if b then f y ∷ put_in weight (f x) (map f ys) else f x ∷ f y ∷ map f ys)) [
         | true ↦ ap (λ l. f y ∷ l) (put_in-map x ys)
         | false ↦ refl
       ]
@@ -221,4 +229,4 @@ module _ {X Y : Type 0} (f : X → Y) (weight : Y → ℕ) where
       ≡ lightest_first weight (map f xs)
   sorted-map [] = refl
   sorted-map (x ∷ xs) = put_in-map x (lightest_first (λ z. weight (f z)) xs)
-    ∙ ap (put_in weight (f x)) (sorted-map xs)
+      ∙ ap (put_in weight (f x)) (sorted-map xs)

@@ -39,7 +39,7 @@ count_true-append t (x ∷ xs) ys = omega (arith, count_true-append t xs ys)
 pub column_sum : (t : Assignment) (steps fresh : ℕ) (ls : List Literal) → length ls ≤ steps + 1
     → AllByRecursion (IsCellOf t) (added_up steps fresh ls).cells
     → count_true t ls ≡ third_of t (added_up steps fresh ls).output + 2 * count_true t
-      (added_up steps fresh ls).carries
+    (added_up steps fresh ls).carries
 column_sum t steps fresh [] h all = refl
 column_sum t steps fresh (a ∷ []) h all = omega arith
 column_sum t zero fresh (a ∷ b ∷ rest) h all = absurd (omega arith)
@@ -48,9 +48,13 @@ column_sum t (suc steps) fresh (a ∷ b ∷ []) h all =
     omega (arith, column_sum t steps (fresh + 2) (positive fresh ∷ []) short all.1, all.0)
 column_sum t (suc steps) fresh (a ∷ b ∷ d ∷ rest) h all =
     let short : length (rest ++ positive fresh ∷ []) ≤ steps + 1 =
-      omega (arith, length-append rest (positive fresh ∷ [])) in
-    omega (arith, column_sum t steps (fresh + 2) (rest ++ positive fresh ∷ []) short all.1, all.0,
-        count_true-append t rest (positive fresh ∷ []))
+    omega (arith, length-append rest (positive fresh ∷ [])) in
+    omega (
+      arith,
+      column_sum t steps (fresh + 2) (rest ++ positive fresh ∷ []) short all.1,
+      all.0,
+      count_true-append t rest (positive fresh ∷ []),
+    )
 
 -- the digit j and those above it
 pub digit : (n j : ℕ) → n / 2 ^ j ≡ one_if (bit n j) + 2 * (n / 2 ^ (j + 1))
@@ -58,7 +62,7 @@ digit n j =
     elim (bit n j) as (λ b. bit n j ≡ b → n / 2 ^ j ≡ one_if b + 2 * (n / 2 ^ (j + 1))) [
       | true ↦ λ e. omega (arith, shr-shr n j 1, eqb-true (n / 2 ^ j % 2) 1 e)
       | false ↦ λ e. let odd : n / 2 ^ j % 2 ≡ 1 → ⊥ = eqb-false (n / 2 ^ j % 2) 1 e in
-        omega (arith, shr-shr n j 1)
+          omega (arith, shr-shr n j 1)
     ] refl
 
 -- the digits from j on of the weights that are given up
@@ -78,16 +82,16 @@ weighed_more t [] j = refl
 weighed_more t (e ∷ es) j =
     elim (bit (e.soft).weight j) as (λ b. one_if (bit (e.soft).weight j) ≡ one_if b
     → weighed t (e ∷ es) j ≡ count_true t
-      (map (λ e. e.literal) (if b then e ∷ filter (λ e. bit (e.soft).weight j) es
-          else filter (λ e. bit (e.soft).weight j) es)) + 2 * weighed t (e ∷ es) (j + 1)) [
+    (map (λ e. e.literal) (if b then e ∷ filter (λ e. bit (e.soft).weight j) es
+    else filter (λ e. bit (e.soft).weight j) es)) + 2 * weighed t (e ∷ es) (j + 1)) [
       | true ↦ λ h. omega (arith, here 1 h, weighed_more t es j)
       | false ↦ λ h. omega (arith, here 0 h, weighed_more t es j)
     ] refl
   where
     here : (n : ℕ) → one_if (bit (e.soft).weight j) ≡ n
         → one_if (literal_value t e.literal) * ((e.soft).weight / 2 ^ j)
-            ≡ one_if (literal_value t e.literal) * n
-          + 2 * (one_if (literal_value t e.literal) * ((e.soft).weight / 2 ^ (j + 1)))
+        ≡ one_if (literal_value t e.literal) * n
+        + 2 * (one_if (literal_value t e.literal) * ((e.soft).weight / 2 ^ (j + 1)))
     here n h = scaled (literal_value t e.literal) _ _ n (omega (arith, digit (e.soft).weight j))
 
 -- the columns that are left add up the carries and what the columns from j on are worth, where they
@@ -105,17 +109,17 @@ columns_sum t column worth law (suc more) j fresh carries all room =
     let rest = columns_from column more (j + 1) sum.fresh sum.carries in
     let short : length ls ≤ length ls + 1 = omega arith in
     let here =
-      column_sum t (length ls) fresh ls short (left_part (IsCellOf t) sum.cells rest.cells all) in
+    column_sum t (length ls) fresh ls short (left_part (IsCellOf t) sum.cells rest.cells all) in
     let below : count_true t sum.carries + worth (j + 1) < 2 ^ more =
-      omega (arith, here, count_true-append t (column j) carries, law j, pow-suc 2 more) in
+    omega (arith, here, count_true-append t (column j) carries, law j, pow-suc 2 more) in
     let above =
-      columns_sum t column worth law more (j + 1) sum.fresh sum.carries
-        (right_part (IsCellOf t) sum.cells rest.cells all) below in
+    columns_sum t column worth law more (j + 1) sum.fresh sum.carries
+    (right_part (IsCellOf t) sum.cells rest.cells all) below in
     joined sum.output rest.outputs (count_true t sum.carries + worth (j + 1)) above
-      (omega (arith, here, count_true-append t (column j) carries, law j))
+    (omega (arith, here, count_true-append t (column j) carries, law j))
   where
     joined : (o : Option Literal) (os : List (Option Literal)) (n : ℕ) {m : ℕ} → value_of t os ≡ n
-      → m ≡ third_of t o + 2 * n → value_of t (o ∷ os) ≡ m
+        → m ≡ third_of t o + 2 * n → value_of t (o ∷ os) ≡ m
     joined None os n e f = omega arith
     joined (Some l) os n e f = omega arith
 
@@ -130,7 +134,7 @@ length_in_room (suc k) n h =
     elim (n == 0) as (λ b. (n == 0) ≡ b → n < 2 ^ (if b then 0 else suc (length_in k (n / 2)))) [
       | true ↦ λ e. omega (arith, eqb-true n 0 e)
       | false ↦ λ e. let half : n / 2 < 2 ^ k = omega (arith, pow-suc 2 k) in
-        omega (arith, length_in_room k (n / 2) half, pow-suc 2 (length_in k (n / 2)))
+          omega (arith, length_in_room k (n / 2) half, pow-suc 2 (length_in k (n / 2)))
     ] refl
 
 pub length_in_le : (k n : ℕ) → length_in k n ≤ k
@@ -152,8 +156,11 @@ weighed_all : (t : Assignment) (es : List Relaxed)
     → weighed t es 0 ≡ sum_by (λ e. if literal_value t e.literal then (e.soft).weight else 0) es
 weighed_all t [] = refl
 weighed_all t (e ∷ es) =
-    rw (sum_by-cons (λ (e : Relaxed). if literal_value t e.literal then (e.soft).weight else 0) e
-      es, ← weighed_all t es) (omega (arith, here (literal_value t e.literal) (e.soft).weight))
+    rw (
+      sum_by-cons (λ (e : Relaxed). if literal_value t e.literal then (e.soft).weight else 0) e
+          es,
+      ← weighed_all t es,
+    ) (omega (arith, here (literal_value t e.literal) (e.soft).weight))
   where
     here : (v : Bool) (n : ℕ) → one_if v * (n / 1) ≡ (if v then n else 0)
     here true n = omega arith
@@ -164,8 +171,12 @@ weighed_bound : (t : Assignment) (es : List Relaxed)
     → weighed t es 0 ≤ sum_by (λ e. (e.soft).weight) es
 weighed_bound t [] = omega arith
 weighed_bound t (e ∷ es) =
-    omega (arith, weighed_bound t es, sum_by-cons (λ (e : Relaxed). (e.soft).weight) e es,
-      here (literal_value t e.literal) (e.soft).weight)
+    omega (
+      arith,
+      weighed_bound t es,
+      sum_by-cons (λ (e : Relaxed). (e.soft).weight) e es,
+      here (literal_value t e.literal) (e.soft).weight,
+    )
   where
     here : (v : Bool) (n : ℕ) → one_if v * (n / 1) ≤ n
     here true n = omega arith
@@ -175,18 +186,24 @@ weighed_bound t (e ∷ es) =
 pub relaxed_cases : (profile : Profile) (v : ℕ) (s : SoftClause) (P : Relaxed → Type 0)
     → P (record { literal = positive v; soft = s; is_fresh = true })
     → ((l : Literal) → s.clause ≡ l ∷ []
-        → P (record { literal = negation l; soft = s; is_fresh = false }))
+    → P (record { literal = negation l; soft = s; is_fresh = false }))
     → P (relaxed_one profile v s)
 relaxed_cases One v s P fresh own = fresh
 relaxed_cases Three v s P fresh own = fresh
 relaxed_cases Two v s P fresh own = at s.weight s.clause P fresh own
   where
     at : (w : ℕ) (c : List Literal) (P : Relaxed → Type 0)
-      → P (record { literal = positive v; soft = record { weight = w; clause = c };
-          is_fresh = true })
+        → P (record {
+          literal = positive v;
+          soft = record { weight = w; clause = c };
+          is_fresh = true;
+        })
         → ((l : Literal) → c ≡ l ∷ []
-            → P (record { literal = negation l; soft = record { weight = w; clause = c };
-                is_fresh = false })) → P (relaxed_one Two v (record { weight = w; clause = c }))
+        → P (record {
+          literal = negation l;
+          soft = record { weight = w; clause = c };
+          is_fresh = false;
+        })) → P (relaxed_one Two v (record { weight = w; clause = c }))
     at w [] P fresh own = fresh
     at w (l ∷ []) P fresh own = own l refl
     at w (l ∷ k ∷ c) P fresh own = fresh
@@ -201,9 +218,12 @@ relaxed_weights profile v (s ∷ ss) =
     let first = relaxed_one profile v s in
     let rest = relaxed_from profile (if first.is_fresh then v + 1 else v) ss in
     sum_by-cons (λ (e : Relaxed). (e.soft).weight) first rest
-      ∙ omega (arith, relaxed_weights profile (if first.is_fresh then v + 1 else v) ss,
-        sum_by-cons (λ (s : SoftClause). s.weight) s ss,
-        ap (λ (s : SoftClause). s.weight) (relaxed_soft profile v s))
+    ∙ omega (
+      arith,
+      relaxed_weights profile (if first.is_fresh then v + 1 else v) ss,
+      sum_by-cons (λ (s : SoftClause). s.weight) s ss,
+      ap (λ (s : SoftClause). s.weight) (relaxed_soft profile v s),
+    )
 
 -- the weights of those that are given up
 abbrev pub given_up : Assignment → List Relaxed → ℕ
@@ -215,11 +235,11 @@ pub along_columns_sum : (t : Assignment) (es : List Relaxed) (total fresh : ℕ)
     → value_of t (along_columns es total fresh).outputs ≡ given_up t es
 along_columns_sum t es total fresh same small =
     outputs_of (binary_length total)
-      (omega (arith, weighed_bound t es, binary_length_room total small))
+    (omega (arith, weighed_bound t es, binary_length_room total small))
   where
     outputs_of : (more : ℕ) → weighed t es 0 < 2 ^ more
-      → AllByRecursion (IsCellOf t) (columns_from (column_of es) more 0 fresh []).cells
-      → value_of t (columns_from (column_of es) more 0 fresh []).outputs ≡ given_up t es
+        → AllByRecursion (IsCellOf t) (columns_from (column_of es) more 0 fresh []).cells
+        → value_of t (columns_from (column_of es) more 0 fresh []).outputs ≡ given_up t es
     outputs_of more room all =
-      columns_sum t (column_of es) (weighed t es) (weighed_more t es) more 0 fresh [] all
+        columns_sum t (column_of es) (weighed t es) (weighed_more t es) more 0 fresh [] all
         (omega arith) ∙ omega (arith, weighed_all t es)

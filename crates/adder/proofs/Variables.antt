@@ -43,14 +43,14 @@ module _ (Q : ℕ → Type 0) where
   of_append (x ∷ xs) ys h k = (h.0, of_append xs ys h.1 k)
 
   pub all_append : (xs ys : List Cell) → AllByRecursion IsCellWith xs → AllByRecursion IsCellWith ys
-    → AllByRecursion IsCellWith (xs ++ ys)
+      → AllByRecursion IsCellWith (xs ++ ys)
   all_append [] ys h k = k
   all_append (x ∷ xs) ys h k = (h.0, all_append xs ys h.1 k)
 
   column_with : (steps n : ℕ) (ls : List Literal) → AreOf ls
-    → ((v : ℕ) → n ≤ v → v < n + 2 * length (added_up steps n ls).cells → Q v)
+      → ((v : ℕ) → n ≤ v → v < n + 2 * length (added_up steps n ls).cells → Q v)
       → AllByRecursion IsCellWith (added_up steps n ls).cells
-          × IsOutputOf (added_up steps n ls).output × AreOf (added_up steps n ls).carries
+      × IsOutputOf (added_up steps n ls).output × AreOf (added_up steps n ls).carries
   column_with steps n [] h f = (tt, tt, tt)
   column_with steps n (a ∷ []) h f = (tt, h.0, tt)
   column_with zero n (a ∷ b ∷ rest) h f = (tt, tt, tt)
@@ -58,34 +58,36 @@ module _ (Q : ℕ → Type 0) where
       let s : Q n = f n (omega arith) (omega arith) in
       let c : Q (n + 1) = f (n + 1) (omega arith) (omega arith) in
       let r =
-        column_with steps (n + 2) (positive n ∷ []) (s,
-          tt) (λ v l k. f v (omega arith) (omega arith)) in
+      column_with steps (n + 2) (positive n ∷ []) (
+        s,
+        tt,
+      ) (λ v l k. f v (omega arith) (omega arith)) in
       ((record { a = h.0; b = h.1.0; third = tt; sum = s; carry = c }, r.0), r.1, (c, r.2))
   column_with (suc steps) n (a ∷ b ∷ d ∷ rest) h f =
       let s : Q n = f n (omega arith) (omega arith) in
       let c : Q (n + 1) = f (n + 1) (omega arith) (omega arith) in
       let r =
-        column_with steps (n + 2) (rest ++ positive n ∷ [])
-          (of_append rest (positive n ∷ []) h.1.1.1 (s, tt))
-          (λ v l k. f v (omega arith) (omega arith)) in
+      column_with steps (n + 2) (rest ++ positive n ∷ [])
+      (of_append rest (positive n ∷ []) h.1.1.1 (s, tt))
+      (λ v l k. f v (omega arith) (omega arith)) in
       ((record { a = h.0; b = h.1.0; third = h.1.1.0; sum = s; carry = c }, r.0), r.1, (c, r.2))
 
   pub column_of_with : (es : List Relaxed) (j : ℕ) → AllByRecursion (λ e. Q (e.literal).variable) es
-    → AreOf (column_of es j)
+      → AreOf (column_of es j)
   column_of_with [] j h = tt
   column_of_with (e ∷ es) j h =
       elim (bit (e.soft).weight j)
-        as (λ b. AreOf (map (λ e. e.literal) (if b then e ∷ filter (λ e. bit (e.soft).weight j) es
-              else filter (λ e. bit (e.soft).weight j) es))) [
+      as (λ b. AreOf (map (λ e. e.literal) (if b then e ∷ filter (λ e. bit (e.soft).weight j) es
+      else filter (λ e. bit (e.soft).weight j) es))) [
         | true ↦ (h.0, column_of_with es j h.1)
         | false ↦ column_of_with es j h.1
       ]
 
   pub columns_with : (column : ℕ → List Literal) (more j n : ℕ) (carries : List Literal)
-    → ((j : ℕ) → AreOf (column j)) → AreOf carries
+      → ((j : ℕ) → AreOf (column j)) → AreOf carries
       → ((v : ℕ) → n ≤ v → v < n + 2 * length (columns_from column more j n carries).cells → Q v)
       → AllByRecursion IsCellWith (columns_from column more j n carries).cells
-          × AllByRecursion IsOutputOf (columns_from column more j n carries).outputs
+      × AllByRecursion IsOutputOf (columns_from column more j n carries).outputs
   columns_with column zero j n carries h k f = (tt, tt)
   columns_with column (suc more) j n carries h k f =
       let ls = column j ++ carries in
@@ -94,28 +96,30 @@ module _ (Q : ℕ → Type 0) where
       let many = length-append sum.cells rest.cells in
       let next = column_fresh (length ls) n ls in
       let c =
-        column_with (length ls) n ls (of_append (column j) carries (h j) k)
-          (λ v l u. f v l (omega (arith, many))) in
+      column_with (length ls) n ls (of_append (column j) carries (h j) k)
+      (λ v l u. f v l (omega (arith, many))) in
       let r =
-        columns_with column more (j + 1) sum.fresh sum.carries h c.2
-          (λ v l u. f v (omega (arith, next)) (omega (arith, many, next))) in
+      columns_with column more (j + 1) sum.fresh sum.carries h c.2
+      (λ v l u. f v (omega (arith, next)) (omega (arith, many, next))) in
       (all_append sum.cells rest.cells c.0 r.0, (c.1, r.1))
 
   -- the relaxation literals are those of the clauses, or new
   pub relaxed_with : (profile : Profile) (v : ℕ) (ss : List SoftClause)
-    → AllByRecursion (λ s. AreOf s.clause) ss
+      → AllByRecursion (λ s. AreOf s.clause) ss
       → ((x : ℕ) → v ≤ x → x < v + length (filter (λ e. e.is_fresh) (relaxed_from profile v ss))
-          → Q x)
+      → Q x)
       → AllByRecursion (λ e. AreOf (e.soft).clause × Q (e.literal).variable)
-        (relaxed_from profile v ss)
+      (relaxed_from profile v ss)
   relaxed_with profile v [] h = λ f. tt
   relaxed_with profile v (s ∷ ss) h =
       relaxed_cases profile v s
-        (λ e. ((x : ℕ) → v ≤ x
-            → x < v + length (filter (λ e. e.is_fresh)
-              (e ∷ relaxed_from profile (if e.is_fresh then v + 1 else v) ss)) → Q x)
+      (λ e. ((x : ℕ) → v ≤ x
+      → x < v + length (filter (λ e. e.is_fresh)
+      (e ∷ relaxed_from profile (if e.is_fresh then v + 1 else v) ss)) → Q x)
       → AllByRecursion (λ e. AreOf (e.soft).clause × Q (e.literal).variable)
-        (e ∷ relaxed_from profile (if e.is_fresh then v + 1 else v) ss))
-      (λ f. ((h.0, f v (omega arith) (omega arith)),
-            relaxed_with profile (v + 1) ss h.1 (λ x l u. f x (omega arith) (omega arith))))
+      (e ∷ relaxed_from profile (if e.is_fresh then v + 1 else v) ss))
+      (λ f. (
+        (h.0, f v (omega arith) (omega arith)),
+        relaxed_with profile (v + 1) ss h.1 (λ x l u. f x (omega arith) (omega arith)),
+      ))
       (λ l same f. ((h.0, (subst AreOf same h.0).0), relaxed_with profile v ss h.1 f))

@@ -22,10 +22,10 @@ column_kept [] j = refl
 column_kept (e ∷ es) j =
     let fs = map relaxation_of es in
     elim (bit (e.soft).weight j)
-      as (λ b. map (λ r. r.lit) (if b then relaxation_of e ∷ filter (λ r. bit r.weight j) fs
-          else filter (λ r. bit r.weight j) fs)
+    as (λ b. map (λ r. r.lit) (if b then relaxation_of e ∷ filter (λ r. bit r.weight j) fs
+    else filter (λ r. bit r.weight j) fs)
     ≡ map (λ e. e.literal) (if b then e ∷ filter (λ e. bit (e.soft).weight j) es
-        else filter (λ e. bit (e.soft).weight j) es)) [
+    else filter (λ e. bit (e.soft).weight j) es)) [
       | true ↦ ap (λ (ls : List Literal). e.literal ∷ ls) (column_kept es j)
       | false ↦ column_kept es j
     ]
@@ -37,10 +37,10 @@ columns_are es total each_is digits_is fresh_is =
     at (binary_length total) each_is digits_is fresh_is
   where
     at : (m : ℕ) {rs : List Relaxation} {digits fresh n : ℕ} → rs ≡ map relaxation_of es
-      → digits ≡ m → fresh ≡ n → columns_from (λ j. literals_with j rs) digits 0 fresh []
+        → digits ≡ m → fresh ≡ n → columns_from (λ j. literals_with j rs) digits 0 fresh []
         ≡ columns_from (column_of es) m 0 n []
     at m {n = n} e f g =
-      rw (e, f, g) (ap (λ (column : ℕ → List Literal). columns_from column m 0 n [])
+        rw (e, f, g) (ap (λ (column : ℕ → List Literal). columns_from column m 0 n [])
         (λ i j. column_kept es j i))
 
 pub filled_is : (rs : List Relaxation) (j : ℕ) {rs_read : List Relaxation}
@@ -51,7 +51,7 @@ filled_is rs j none read filled = filled ∙ rw (none, read) refl
 -- and its numbers
 number_map : (es : List Relaxed)
     → map (λ r. number_of r.lit r.weight) (map relaxation_of es)
-        ≡ map (λ e. number_of e.literal (e.soft).weight) es
+    ≡ map (λ e. number_of e.literal (e.soft).weight) es
 number_map [] = refl
 number_map (e ∷ es) =
     ap (λ (xs : List Number). number_of e.literal (e.soft).weight ∷ xs) (number_map es)
@@ -60,8 +60,8 @@ pub numbers_are : (es : List Relaxed) {rs : List Relaxation} → rs ≡ map rela
     → lightest_numbers rs ≡ numbers_of es
 numbers_are es e =
     ap lightest_numbers e ∙ ap (map (λ (r : Relaxation). number_of r.lit r.weight))
-      (sym (sorted-map relaxation_of (λ r. r.weight) es))
-      ∙ number_map (lightest_first (λ e. (e.soft).weight) es)
+    (sym (sorted-map relaxation_of (λ r. r.weight) es))
+    ∙ number_map (lightest_first (λ e. (e.soft).weight) es)
 
 pub tree_is : (es : List Relaxed) {rs : List Relaxation} {fresh n : ℕ} → rs ≡ map relaxation_of es
     → fresh ≡ n → tree_from fresh (lightest_numbers rs) ≡ along_tree es n
@@ -80,20 +80,26 @@ pub record IsBuilding (whole : Adders) (end : ℕ) (column : ℕ → List Litera
 pub building_starts : (column : ℕ → List Literal) (digits : ℕ) {cells : List Cell}
     {outputs : List (Option Literal)} {more n : ℕ} {carries : List Literal} → more ≡ digits
     → outputs ≡ [] → carries ≡ [] → 0 < n
-    → IsBuilding (record { cells = cells ++ (columns_from column digits 0 n []).cells;
-          outputs = (columns_from column digits 0 n []).outputs })
-      (n + 2 * length (columns_from column digits 0 n []).cells) column cells outputs more
-      0 n carries
+    → IsBuilding (record {
+      cells = cells ++ (columns_from column digits 0 n []).cells;
+      outputs = (columns_from column digits 0 n []).outputs;
+    })
+    (n + 2 * length (columns_from column digits 0 n []).cells) column cells outputs more
+    0 n carries
 building_starts column digits more_is outputs_are carries_are h =
-    rw (more_is, outputs_are, carries_are) (record { cells_are = refl; outputs_are = refl;
-        from_one = h; end_is = refl })
+    rw (more_is, outputs_are, carries_are) (record {
+      cells_are = refl;
+      outputs_are = refl;
+      from_one = h;
+      end_is = refl;
+    })
 
 -- the next column
 module _ {whole : Adders} {end : ℕ} {column : ℕ → List Literal} {cells : List Cell}
     {outputs : List (Option Literal)} {more j n : ℕ} {carries : List Literal} where
   next_end : (k : ℕ) → more ≡ suc k → IsBuilding whole end column cells outputs more j n carries
-    → (column_from n (column j ++ carries)).fresh + 2 * length
-    (columns_from column k (j + 1) (column_from n (column j ++ carries)).fresh
+      → (column_from n (column j ++ carries)).fresh + 2 * length
+      (columns_from column k (j + 1) (column_from n (column j ++ carries)).fresh
       (column_from n (column j ++ carries)).carries).cells ≡ end
   next_end k e h =
       let ls = column j ++ carries in
@@ -103,14 +109,14 @@ module _ {whole : Adders} {end : ℕ} {column : ℕ → List Literal} {cells : L
       omega (arith, here, column_fresh (length ls) n ls, length-append sum.cells rest.cells)
 
   pub column_room : (k : ℕ) → more ≡ suc k
-    → IsBuilding whole end column cells outputs more j n carries → end ≤ 2 ^ 26
-    → (column_from n (column j ++ carries)).fresh ≤ 2 ^ 26
+      → IsBuilding whole end column cells outputs more j n carries → end ≤ 2 ^ 26
+      → (column_from n (column j ++ carries)).fresh ≤ 2 ^ 26
   column_room k e h room = omega (arith, next_end k e h)
 
   pub builds_column : (k : ℕ) → more ≡ suc k
-    → IsBuilding whole end column cells outputs more j n carries
+      → IsBuilding whole end column cells outputs more j n carries
       → {cells_then : List Cell} {outputs_then : List (Option Literal)} {n_then : ℕ}
-        {carries_then : List Literal} {more_then : ℕ} (ls : List Literal) → ls ≡ column j ++ carries
+      {carries_then : List Literal} {more_then : ℕ} (ls : List Literal) → ls ≡ column j ++ carries
       → cells_then ≡ cells ++ (column_from n ls).cells
       → outputs_then ≡ outputs ++ (column_from n ls).output ∷ [] → n_then ≡ (column_from n ls).fresh
       → carries_then ≡ (column_from n ls).carries → more_then ≡ k
@@ -122,17 +128,22 @@ module _ {whole : Adders} {end : ℕ} {column : ℕ → List Literal} {cells : L
         cells_are = append_assoc cells sum.cells rest.cells ∙ rw e at h.cells_are;
         outputs_are = append_assoc outputs (sum.output ∷ []) rest.outputs ∙ rw e at h.outputs_are;
         from_one =
-          omega (arith, h.from_one,
-            column_fresh (length (column j ++ carries)) n (column j ++ carries));
+            omega (
+              arith,
+              h.from_one,
+              column_fresh (length (column j ++ carries)) n (column j ++ carries),
+            );
         end_is = next_end k e h;
       })
 
   -- after the last one
   pub builds_end : more ≡ 0 → IsBuilding whole end column cells outputs more j n carries
-    → (cells ≡ whole.cells) × (outputs ≡ whole.outputs) × (n ≡ end)
-  builds_end e h =
-    (sym (append-nil cells) ∙ rw e at h.cells_are, sym (append-nil outputs) ∙ rw e at h.outputs_are,
-      omega (arith, rw e at h.end_is))
+      → (cells ≡ whole.cells) × (outputs ≡ whole.outputs) × (n ≡ end)
+  builds_end e h = (
+    sym (append-nil cells) ∙ rw e at h.cells_are,
+    sym (append-nil outputs) ∙ rw e at h.outputs_are,
+    omega (arith, rw e at h.end_is),
+  )
 
 -- what holds of the one answer that is Ok
 pub if_ok_from : {X E : Type 0} (P : X → Type 0) {x : X} (r : Result X E) → IfOk r (λ y. y ≡ x)

@@ -41,9 +41,9 @@ value_member t l [] h e = absurd (false≢true h)
 value_member t l (k ∷ c) h e =
     elim (or_cases (literal_eq l k) (contains_literal l c) h) [
       | inl same ↦ ap (λ b. b || clause_value t c)
-        (subst (λ m. literal_value t m ≡ true) (literal_eq-true l k same) e)
+          (subst (λ m. literal_value t m ≡ true) (literal_eq-true l k same) e)
       | inr more ↦ ap (λ b. literal_value t k || b) (value_member t l c more e)
-        ∙ or_true (literal_value t k)
+          ∙ or_true (literal_value t k)
     ]
   where
     or_true : (b : Bool) → (b || true) ≡ true
@@ -56,11 +56,11 @@ value-without : (t : Assignment) (l : Literal) (c : List Literal) → literal_va
 value-without t l [] e = refl
 value-without t l (k ∷ c) e =
     elim (literal_eq l k) as (λ b. literal_eq l k ≡ b
-        → clause_value t (if not b then k ∷ without_literal l c else without_literal l c)
-        ≡ clause_value t (k ∷ c)) [
+    → clause_value t (if not b then k ∷ without_literal l c else without_literal l c)
+    ≡ clause_value t (k ∷ c)) [
       | true ↦ λ h. value-without t l c e
-        ∙ ap (λ b. b || clause_value t c)
-        (sym (subst (λ m. literal_value t m ≡ false) (literal_eq-true l k h) e))
+          ∙ ap (λ b. b || clause_value t c)
+          (sym (subst (λ m. literal_value t m ≡ false) (literal_eq-true l k h) e))
       | false ↦ λ h. ap (λ b. literal_value t k || b) (value-without t l c e)
     ] refl
 
@@ -69,7 +69,7 @@ pub value-distinct : (t : Assignment) (c : List Literal)
 value-distinct t [] = refl
 value-distinct t (l ∷ c) =
     elim (literal_value t l) as (λ b. literal_value t l ≡ b
-        → (b || clause_value t (without_literal l (distinct c))) ≡ (b || clause_value t c)) [
+    → (b || clause_value t (without_literal l (distinct c))) ≡ (b || clause_value t c)) [
       | true ↦ λ e. refl
       | false ↦ λ e. value-without t l (distinct c) e ∙ value-distinct t c
     ] refl
@@ -92,10 +92,10 @@ pub all_true-kept : (t : Assignment) (cs : List (List Literal))
 all_true-kept t [] = refl
 all_true-kept t (c ∷ cs) =
     elim (has_opposites (distinct c)) as (λ b. has_opposites (distinct c) ≡ b
-        → all_true t (if not b then distinct c ∷ kept cs else kept cs) ≡ all_true t (c ∷ cs)) [
+    → all_true t (if not b then distinct c ∷ kept cs else kept cs) ≡ all_true t (c ∷ cs)) [
       | true ↦ λ h. all_true-kept t cs
-        ∙ ap (λ b. b && all_true t cs)
-        (sym (sym (value-distinct t c) ∙ value_opposites t (distinct c) h))
+          ∙ ap (λ b. b && all_true t cs)
+          (sym (sym (value-distinct t c) ∙ value_opposites t (distinct c) h))
       | false ↦ λ h. λ i. value-distinct t c i && all_true-kept t cs i
     ] refl
 

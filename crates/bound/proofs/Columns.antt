@@ -23,7 +23,7 @@ set_apart : (o : Option Literal) (outputs : List (Option Literal)) (limit j : �
     × (rising_clauses (o ∷ outputs) limit j ≡ rising_clauses outputs limit (j + 1))
 set_apart o outputs limit j f =
     elim (bit limit j) as (λ b. bit limit j ≡ b → (above (o ∷ outputs) limit j ≡ None)
-        × (rising_clauses (o ∷ outputs) limit j ≡ rising_clauses outputs limit (j + 1))) [
+    × (rising_clauses (o ∷ outputs) limit j ≡ rising_clauses outputs limit (j + 1))) [
       | true ↦ λ e. (set o e, rw e refl)
       | false ↦ λ e. (rw e f, clear o e)
     ] refl
@@ -33,7 +33,7 @@ set_apart o outputs limit j f =
     set (Some v) e = rw (e, f) refl
 
     clear : (o : Option Literal) → bit limit j ≡ false
-      → rising_clauses (o ∷ outputs) limit j ≡ rising_clauses outputs limit (j + 1)
+        → rising_clauses (o ∷ outputs) limit j ≡ rising_clauses outputs limit (j + 1)
     clear None e = rw e refl
     clear (Some v) e = rw (e, f) refl
 
@@ -54,7 +54,7 @@ no_more : (outputs : List (Option Literal)) (limit j : ℕ) → j ≤ length out
 no_more outputs limit j le f =
     ap (λ os. rising_clauses os limit 0) (sym (take-append-drop j outputs))
     ∙ (none_below (take j outputs) (drop j outputs) limit 0 j
-        (omega (arith, length-take-le j outputs le)) f).1
+    (omega (arith, length-take-le j outputs le)) f).1
 
 -- the limit has a bit past the columns
 pub none_added : (outputs : List (Option Literal)) (limit : ℕ) (old : List (List Literal))
@@ -64,10 +64,10 @@ none_added outputs limit old h =
     let n = length outputs in
     let past : drop n outputs ≡ [] = drop_all n outputs (omega arith) in
     let missing : above [] limit n ≡ None =
-      ap (λ b. if b then Some [] else None) (ne_eqb (limit / 2 ^ n) 0 h) in
+    ap (λ b. if b then Some [] else None) (ne_eqb (limit / 2 ^ n) 0 h) in
     let none : rising_clauses outputs limit 0 ≡ [] =
-      no_more outputs limit n (omega arith) (rw past missing)
-        ∙ ap (λ os. rising_clauses os limit n) past in
+    no_more outputs limit n (omega arith) (rw past missing)
+    ∙ ap (λ os. rising_clauses os limit n) past in
     sym (append-nil old) ∙ ap (λ cs. old ++ kept (reverse cs)) (sym none)
 
 pub starts : (outputs : List (Option Literal)) (limit n : ℕ) (old : List (List Literal))
@@ -76,10 +76,10 @@ pub starts : (outputs : List (Option Literal)) (limit n : ℕ) (old : List (List
 starts outputs limit n old clause e h none =
     let past : drop n outputs ≡ [] = drop_all n outputs (omega arith) in
     let all : above [] limit n ≡ Some [] =
-      ap (λ b. if b then Some [] else None) (eq-eqb (limit / 2 ^ n) 0 h) in
+    ap (λ b. if b then Some [] else None) (eq-eqb (limit / 2 ^ n) 0 h) in
     record {
       added = sym (append-nil old) ∙ ap (λ os. old ++ kept (reverse (rising_clauses os limit n)))
-        (sym past);
+          (sym past);
       leads = ap (λ os. above os limit n) past ∙ all ∙ ap Some (sym none);
     }
 
@@ -95,7 +95,7 @@ module _ (outputs : List (Option Literal)) (limit i j : ℕ) (old now : List (Li
     (clause : List Literal) (next : j ≡ i + 1) (within : i < length outputs)
     (h : IsDownTo outputs limit j old now clause) where
   at_column : (d o : Option Literal) → get_or outputs i d ≡ o
-    → drop i outputs ≡ o ∷ drop (i + 1) outputs
+      → drop i outputs ≡ o ∷ drop (i + 1) outputs
   at_column d o e = drop_more outputs i d within ∙ ap (λ x. x ∷ drop (i + 1) outputs) e
 
   leads : above (drop (i + 1) outputs) limit (i + 1) ≡ Some clause
@@ -103,70 +103,71 @@ module _ (outputs : List (Option Literal)) (limit i j : ℕ) (old now : List (Li
 
   added : now ≡ old ++ kept (reverse (rising_clauses (drop (i + 1) outputs) limit (i + 1)))
   added =
-    subst (λ n. now ≡ old ++ kept (reverse (rising_clauses (drop n outputs) limit n))) next h.added
+      subst (λ n. now ≡ old ++ kept (reverse (rising_clauses (drop n outputs) limit n)))
+      next h.added
 
   pub passes_none : (d : Option Literal) → get_or outputs i d ≡ None → bit limit i ≡ false
-    → IsDownTo outputs limit i old now clause
+      → IsDownTo outputs limit i old now clause
   passes_none d e b =
       let here = at_column d None e in
       let same : rising_clauses (None ∷ drop (i + 1) outputs) limit i ≡ rising_clauses
-        (drop (i + 1) outputs) limit (i + 1) = rw b refl in
+      (drop (i + 1) outputs) limit (i + 1) = rw b refl in
       let lead : above (None ∷ drop (i + 1) outputs) limit i ≡ Some clause = rw b leads in
       record {
         added =
-          added ∙ ap (λ cs. old ++ kept (reverse cs)) (sym same
+            added ∙ ap (λ cs. old ++ kept (reverse cs)) (sym same
             ∙ ap (λ os. rising_clauses os limit i) (sym here));
         leads = ap (λ os. above os limit i) here ∙ lead;
       }
 
   pub passes_set : (d : Option Literal) (v : Literal) → get_or outputs i d ≡ Some v
-    → bit limit i ≡ true → IsDownTo outputs limit i old now (no v ∷ clause)
+      → bit limit i ≡ true → IsDownTo outputs limit i old now (no v ∷ clause)
   passes_set d v e b =
       let here = at_column d (Some v) e in
       let same : rising_clauses (Some v ∷ drop (i + 1) outputs) limit i ≡ rising_clauses
-        (drop (i + 1) outputs) limit (i + 1) = rw b refl in
+      (drop (i + 1) outputs) limit (i + 1) = rw b refl in
       let lead : above (Some v ∷ drop (i + 1) outputs) limit i ≡ Some (no v ∷ clause) =
-        rw (b, leads) refl in
+      rw (b, leads) refl in
       record {
         added =
-          added ∙ ap (λ cs. old ++ kept (reverse cs)) (sym same
+            added ∙ ap (λ cs. old ++ kept (reverse cs)) (sym same
             ∙ ap (λ os. rising_clauses os limit i) (sym here));
         leads = ap (λ os. above os limit i) here ∙ lead;
       }
 
   pub passes_clear : (d : Option Literal) (v : Literal) (new : List (List Literal))
-    → get_or outputs i d ≡ Some v → bit limit i ≡ false → new ≡ now ++ kept ((no v ∷ clause) ∷ [])
-    → IsDownTo outputs limit i old new clause
+      → get_or outputs i d ≡ Some v → bit limit i ≡ false → new ≡ now ++ kept ((no v ∷ clause) ∷ [])
+      → IsDownTo outputs limit i old new clause
   passes_clear d v new e b more =
       let here = at_column d (Some v) e in
       let rest = rising_clauses (drop (i + 1) outputs) limit (i + 1) in
       let one : rising_clauses (Some v ∷ drop (i + 1) outputs) limit i ≡ (no v ∷ clause) ∷ rest =
-        rw (b, leads) refl in
+      rw (b, leads) refl in
       let lead : above (Some v ∷ drop (i + 1) outputs) limit i ≡ Some clause = rw b leads in
       let whole : kept (reverse ((no v ∷ clause) ∷ rest)) ≡ kept (reverse rest) ++ kept
-        ((no v ∷ clause) ∷ []) = ap kept (reverse_onto rest (no v ∷ clause) [])
-        ∙ kept-append (reverse rest) ((no v ∷ clause) ∷ []) in
+      ((no v ∷ clause) ∷ []) = ap kept (reverse_onto rest (no v ∷ clause) [])
+      ∙ kept-append (reverse rest) ((no v ∷ clause) ∷ []) in
       record {
         added = more ∙ ap (λ cs. cs ++ kept ((no v ∷ clause) ∷ [])) added
-          ∙ append_assoc old (kept (reverse rest)) (kept ((no v ∷ clause) ∷ []))
+            ∙ append_assoc old (kept (reverse rest)) (kept ((no v ∷ clause) ∷ []))
             ∙ ap (λ cs. old ++ cs) (sym whole)
             ∙ ap (λ cs. old ++ kept (reverse cs)) (sym one
-                ∙ ap (λ os. rising_clauses os limit i) (sym here));
+            ∙ ap (λ os. rising_clauses os limit i) (sym here));
         leads = ap (λ os. above os limit i) here ∙ lead;
       }
 
   -- the output is missing where the limit has a bit: so none is added below
   pub ends_none : (d : Option Literal) → get_or outputs i d ≡ None → bit limit i ≡ true
-    → now ≡ old ++ kept (reverse (rising_clauses outputs limit 0))
+      → now ≡ old ++ kept (reverse (rising_clauses outputs limit 0))
   ends_none d e b =
       let here = at_column d None e in
       let same : rising_clauses (None ∷ drop (i + 1) outputs) limit i ≡ rising_clauses
-        (drop (i + 1) outputs) limit (i + 1) = rw b refl in
+      (drop (i + 1) outputs) limit (i + 1) = rw b refl in
       let missing : above (None ∷ drop (i + 1) outputs) limit i ≡ None = rw b refl in
       let all : rising_clauses outputs limit 0 ≡ rising_clauses (drop i outputs) limit i =
-        no_more outputs limit i (omega arith) (ap (λ os. above os limit i) here ∙ missing) in
+      no_more outputs limit i (omega arith) (ap (λ os. above os limit i) here ∙ missing) in
       added ∙ ap (λ cs. old ++ kept (reverse cs))
-        (sym (all ∙ ap (λ os. rising_clauses os limit i) here ∙ same))
+      (sym (all ∙ ap (λ os. rising_clauses os limit i) here ∙ same))
 
 pub ends : (outputs : List (Option Literal)) (limit j : ℕ) (old now : List (List Literal))
     (clause : List Literal) → j ≡ 0 → IsDownTo outputs limit j old now clause

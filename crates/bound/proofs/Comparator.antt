@@ -37,12 +37,12 @@ and_false false = refl
 falsified_set : (t : Assignment) (o : Option Literal) (outputs : List (Option Literal))
     (limit j : ℕ) → bit limit j ≡ true
     → falsified t (above (o ∷ outputs) limit j)
-        ≡ (output_true t o && falsified t (above outputs limit (j + 1)))
+    ≡ (output_true t o && falsified t (above outputs limit (j + 1)))
 falsified_set t None outputs limit j e = rw e refl
 falsified_set t (Some v) outputs limit j e =
     elim (above outputs limit (j + 1)) as (λ x. above outputs limit (j + 1) ≡ x
-        → falsified t (above (Some v ∷ outputs) limit j)
-        ≡ (literal_value t v && falsified t (above outputs limit (j + 1)))) [
+    → falsified t (above (Some v ∷ outputs) limit j)
+    ≡ (literal_value t v && falsified t (above outputs limit (j + 1)))) [
       | None ↦ λ f. rw (e, f) (and_false (literal_value t v))
       | Some c ↦ λ f. rw (e, f) (not_or t v (clause_value t c))
     ] refl
@@ -55,25 +55,25 @@ falsified_clear t o outputs limit j e = rw e refl
 rising_set : (t : Assignment) (o : Option Literal) (outputs : List (Option Literal)) (limit j : ℕ)
     → bit limit j ≡ true
     → all_true t (rising_clauses (o ∷ outputs) limit j) ≡ all_true t
-      (rising_clauses outputs limit (j + 1))
+    (rising_clauses outputs limit (j + 1))
 rising_set t o outputs limit j e = rw e refl
 
 rising_clear : (t : Assignment) (o : Option Literal) (outputs : List (Option Literal)) (limit j : ℕ)
     → bit limit j ≡ false
     → all_true t (rising_clauses (o ∷ outputs) limit j)
-        ≡ (not (output_true t o && falsified t (above outputs limit (j + 1))) && all_true t
-        (rising_clauses outputs limit (j + 1)))
+    ≡ (not (output_true t o && falsified t (above outputs limit (j + 1))) && all_true t
+    (rising_clauses outputs limit (j + 1)))
 rising_clear t None outputs limit j e = rw e refl
 rising_clear t (Some v) outputs limit j e =
     elim (above outputs limit (j + 1)) as (λ x. above outputs limit (j + 1) ≡ x
-        → all_true t (rising_clauses (Some v ∷ outputs) limit j)
-        ≡ (not (literal_value t v && falsified t (above outputs limit (j + 1))) && all_true t
-          (rising_clauses outputs limit (j + 1)))) [
+    → all_true t (rising_clauses (Some v ∷ outputs) limit j)
+    ≡ (not (literal_value t v && falsified t (above outputs limit (j + 1))) && all_true t
+    (rising_clauses outputs limit (j + 1)))) [
       | None ↦ λ f. rw (e, f) (ap (λ b. not b && all_true t (rising_clauses outputs limit (j + 1)))
           (and_false (literal_value t v)))
       | Some c ↦ λ f. rw (e, f) (ap (λ b. b && all_true t (rising_clauses outputs limit (j + 1)))
           (ap (λ n. n || clause_value t c) (value-no t v)
-            ∙ led (literal_value t v) (clause_value t c)))
+          ∙ led (literal_value t v) (clause_value t c)))
     ] refl
   where
     led : (a b : Bool) → (not a || b) ≡ not (a && not b)
@@ -96,10 +96,14 @@ pub above_says : (t : Assignment) (outputs : List (Option Literal)) (limit j : �
     → AboveSays t outputs limit j
 above_says t [] limit j =
     elim (limit / 2 ^ j == 0) as (λ b. (limit / 2 ^ j == 0) ≡ b → AboveSays t [] limit j) [
-      | true ↦ λ e. record { to = λ h. omega (arith, eqb-true (limit / 2 ^ j) 0 e);
-          from = λ h. rw e refl }
-      | false ↦ λ e. record { to = λ h. absurd (false≢true (rw e at h));
-          from = λ h. absurd (false≢true (sym e ∙ eq-eqb (limit / 2 ^ j) 0 (sym h))) }
+      | true ↦ λ e. record {
+        to = λ h. omega (arith, eqb-true (limit / 2 ^ j) 0 e);
+        from = λ h. rw e refl;
+      }
+      | false ↦ λ e. record {
+        to = λ h. absurd (false≢true (rw e at h));
+        from = λ h. absurd (false≢true (sym e ∙ eq-eqb (limit / 2 ^ j) 0 (sym h)));
+      }
     ] refl
 above_says t (o ∷ outputs) limit j =
     let r = above_says t outputs limit (j + 1) in
@@ -107,24 +111,35 @@ above_says t (o ∷ outputs) limit j =
       | true ↦ λ e. record {
         to = λ h.
             let parts =
-              and_parts (output_true t o) (falsified t (above outputs limit (j + 1)))
-                (sym (falsified_set t o outputs limit j e) ∙ h) in
-            omega (arith, digit limit j, ap one_if e, value-cons t o outputs, ap one_if parts.0,
-                r.to parts.1);
+            and_parts (output_true t o) (falsified t (above outputs limit (j + 1)))
+            (sym (falsified_set t o outputs limit j e) ∙ h) in
+            omega (
+              arith,
+              digit limit j,
+              ap one_if e,
+              value-cons t o outputs,
+              ap one_if parts.0,
+              r.to parts.1,
+            );
         from = λ h.
             let both =
-              set_same (output_true t o) (value_of t outputs) (limit / 2 ^ (j + 1))
-                (omega (arith, digit limit j, ap one_if e, value-cons t o outputs)) in
+            set_same (output_true t o) (value_of t outputs) (limit / 2 ^ (j + 1))
+            (omega (arith, digit limit j, ap one_if e, value-cons t o outputs)) in
             falsified_set t o outputs limit j e
-              ∙ and_from (output_true t o) (falsified t (above outputs limit (j + 1))) both.0
-              (r.from both.1);
+            ∙ and_from (output_true t o) (falsified t (above outputs limit (j + 1))) both.0
+            (r.from both.1);
       }
       | false ↦ λ e. record {
         to =
-          λ h. omega (arith, digit limit j, ap one_if e, value-cons t o outputs,
-            r.to (sym (falsified_clear t o outputs limit j e) ∙ h));
+            λ h. omega (
+              arith,
+              digit limit j,
+              ap one_if e,
+              value-cons t o outputs,
+              r.to (sym (falsified_clear t o outputs limit j e) ∙ h),
+            );
         from = λ h. falsified_clear t o outputs limit j e
-          ∙ r.from (clear_same (output_true t o) (value_of t outputs) (limit / 2 ^ (j + 1))
+            ∙ r.from (clear_same (output_true t o) (value_of t outputs) (limit / 2 ^ (j + 1))
             (omega (arith, digit limit j, ap one_if e, value-cons t o outputs)));
       }
     ] refl
@@ -141,8 +156,11 @@ le_same : (a b c d : ℕ) → (a ≤ b → c ≤ d) → (c ≤ d → a ≤ b) �
 le_same a b c d f g =
     elim (nat_le a b) as (λ x. nat_le a b ≡ x → x ≡ nat_le c d) [
       | true ↦ λ e. sym (le-leb c d (f (leb-true a b e)))
-      | false ↦ λ e. elim (cases_lt d c) [ inl h ↦ sym (lt-leb c d h) | inr h ↦
-          absurd (omega (arith, g h, leb-false a b e)) ]
+      | false ↦ λ e. elim (cases_lt d c) [
+        | inl h ↦ sym (lt-leb c d h)
+        | inr h ↦
+            absurd (omega (arith, g h, leb-false a b e))
+      ]
     ] refl
 
 clear_step : (o f : Bool) (v m x y : ℕ) → (f ≡ true → m ≤ v) → (v ≡ m → f ≡ true)
@@ -162,17 +180,17 @@ pub rising_true : (t : Assignment) (outputs : List (Option Literal)) (limit j : 
 rising_true t [] limit j = sym (le-leb 0 (limit / 2 ^ j) (omega arith))
 rising_true t (o ∷ outputs) limit j =
     elim (bit limit j) as (λ b. bit limit j ≡ b → all_true t (rising_clauses (o ∷ outputs) limit j)
-        ≡ nat_le (value_of t (o ∷ outputs)) (limit / 2 ^ j)) [
+    ≡ nat_le (value_of t (o ∷ outputs)) (limit / 2 ^ j)) [
       | true ↦ λ e. rising_set t o outputs limit j e ∙ rising_true t outputs limit (j + 1)
           ∙ set_step (output_true t o) (value_of t outputs) (limit / 2 ^ (j + 1)) _ _
-            (value-cons t o outputs) (omega (arith, digit limit j, ap one_if e))
+          (value-cons t o outputs) (omega (arith, digit limit j, ap one_if e))
       | false ↦ λ e. rising_clear t o outputs limit j e
-        ∙ ap (λ b. not (output_true t o && falsified t (above outputs limit (j + 1))) && b)
-        (rising_true t outputs limit (j + 1))
+          ∙ ap (λ b. not (output_true t o && falsified t (above outputs limit (j + 1))) && b)
+          (rising_true t outputs limit (j + 1))
           ∙ clear_step (output_true t o) (falsified t (above outputs limit (j + 1)))
-            (value_of t outputs) (limit / 2 ^ (j + 1)) _ _
+          (value_of t outputs) (limit / 2 ^ (j + 1)) _ _
           (above_says t outputs limit (j + 1)).to (above_says t outputs limit (j + 1)).from
-            (value-cons t o outputs) (omega (arith, digit limit j, ap one_if e))
+          (value-cons t o outputs) (omega (arith, digit limit j, ap one_if e))
     ] refl
 
 up_to : (v m limit : ℕ) → m ≡ limit → nat_le v m ≡ nat_lt v (suc limit)
@@ -184,5 +202,5 @@ pub comparator_true : (t : Assignment) (outputs : List (Option Literal)) (k : �
 comparator_true t outputs zero = sym (le-ltb (value_of t outputs) 0 (omega arith))
 comparator_true t outputs (suc limit) =
     all_true-kept t (reverse (rising_clauses outputs limit 0))
-      ∙ all_true-reverse t (rising_clauses outputs limit 0) ∙ rising_true t outputs limit 0
-      ∙ up_to (value_of t outputs) (limit / 1) limit (omega arith)
+    ∙ all_true-reverse t (rising_clauses outputs limit 0) ∙ rising_true t outputs limit 0
+    ∙ up_to (value_of t outputs) (limit / 1) limit (omega arith)

@@ -20,13 +20,17 @@ use Rattle.bound.specs.Bound.{comparator_of, comparator_for, bound_as}
 pub kept_le : (cs : List (List Literal)) → length (kept cs) ≤ length cs
 kept_le cs =
     subst (λ n. length (kept cs) ≤ n) (length-map cs distinct)
-      (filter_le (λ c. not (has_opposites c)) (map distinct cs))
+    (filter_le (λ c. not (has_opposites c)) (map distinct cs))
 
 pub cells_le : (cells : List Cell) → length (flat_map cell_clauses cells) ≤ 14 * length cells
 cells_le [] = omega arith
 cells_le (cell ∷ cells) =
-    omega (arith, length-append (cell_clauses cell) (flat_map cell_clauses cells), cells_le cells,
-      by cell.third)
+    omega (
+      arith,
+      length-append (cell_clauses cell) (flat_map cell_clauses cells),
+      cells_le cells,
+      by cell.third,
+    )
   where
     by : (o : Option Literal) → length (cell_clauses (record cell { third = o })) ≤ 14
     by None = omega arith
@@ -37,18 +41,18 @@ rising_le : (outputs : List (Option Literal)) (limit j : ℕ)
 rising_le [] limit j = omega arith
 rising_le (o ∷ outputs) limit j =
     elim (bit limit j) as (λ b. bit limit j ≡ b → length (rising_clauses (o ∷ outputs) limit j)
-        ≤ suc (length outputs)) [
+    ≤ suc (length outputs)) [
       | true ↦ λ e. rw e (omega (arith, rising_le outputs limit (j + 1)))
       | false ↦ λ e. clear o e (rising_le outputs limit (j + 1))
     ] refl
   where
     clear : (o : Option Literal) → bit limit j ≡ false
-      → length (rising_clauses outputs limit (j + 1)) ≤ length outputs
-      → length (rising_clauses (o ∷ outputs) limit j) ≤ suc (length outputs)
+        → length (rising_clauses outputs limit (j + 1)) ≤ length outputs
+        → length (rising_clauses (o ∷ outputs) limit j) ≤ suc (length outputs)
     clear None e rest = rw e (omega (arith, rest))
     clear (Some v) e rest =
         elim (above outputs limit (j + 1)) as (λ x. above outputs limit (j + 1) ≡ x
-            → length (rising_clauses (Some v ∷ outputs) limit j) ≤ suc (length outputs)) [
+        → length (rising_clauses (Some v ∷ outputs) limit j) ≤ suc (length outputs)) [
           | None ↦ λ f. rw (e, f) (omega (arith, rest))
           | Some c ↦ λ f. rw (e, f) (omega (arith, rest))
         ] refl
@@ -57,8 +61,12 @@ comparator_le : (outputs : List (Option Literal)) (k : ℕ)
     → length (comparator_of outputs k) ≤ 1 + length outputs
 comparator_le outputs zero = omega arith
 comparator_le outputs (suc limit) =
-    omega (arith, kept_le (reverse (rising_clauses outputs limit 0)),
-      length-reverse (rising_clauses outputs limit 0), rising_le outputs limit 0)
+    omega (
+      arith,
+      kept_le (reverse (rising_clauses outputs limit 0)),
+      length-reverse (rising_clauses outputs limit 0),
+      rising_le outputs limit 0,
+    )
 
 pub hard_few : (p : Problem) → IsInstance p → length (hard_cnf p).clauses < 2 ^ 28
 hard_few p h = omega (arith, kept_le p.hard, h.hard_count)
@@ -71,21 +79,35 @@ clauses_few profile p k h =
     let cells = kept (flat_map cell_clauses (adders_as profile p).cells) in
     let last = comparator_for profile p k in
     room (length hard) (length relaxed) (length cells) (length last) (length p.soft)
-      (length (adders_as profile p).cells) (length (bound_as profile p k).clauses)
+    (length (adders_as profile p).cells) (length (bound_as profile p k).clauses)
     (omega (arith, kept_le p.hard, h.hard_count))
-    (omega (arith, kept_le (relaxed_clauses profile p),
-          length-map (filter (λ (e : Relaxed). e.is_fresh) (relaxed_as profile p))
-          (λ e. (e.soft).clause ++ e.literal ∷ []), fresh_few profile p))
-    (omega (arith, kept_le (flat_map cell_clauses (adders_as profile p).cells),
-          cells_le (adders_as profile p).cells))
-    (omega (arith, comparator_le (adders_as profile p).outputs k,
-          outputs_few profile p h.weight_sum))
+    (omega (
+      arith,
+      kept_le (relaxed_clauses profile p),
+      length-map (filter (λ (e : Relaxed). e.is_fresh) (relaxed_as profile p))
+          (λ e. (e.soft).clause ++ e.literal ∷ []),
+      fresh_few profile p,
+    ))
+    (omega (
+      arith,
+      kept_le (flat_map cell_clauses (adders_as profile p).cells),
+      cells_le (adders_as profile p).cells,
+    ))
+    (omega (
+      arith,
+      comparator_le (adders_as profile p).outputs k,
+      outputs_few profile p h.weight_sum,
+    ))
     h.soft_count (cells_few profile p)
-    (omega (arith, length-append (hard ++ relaxed ++ cells) last,
-          length-append (hard ++ relaxed) cells, length-append hard relaxed))
+    (omega (
+      arith,
+      length-append (hard ++ relaxed ++ cells) last,
+      length-append (hard ++ relaxed) cells,
+      length-append hard relaxed,
+    ))
   where
     room : (a b c d n m w : ℕ) → a ≤ 2 ^ 22 → b ≤ n → c ≤ 14 * m → d ≤ 63 → n ≤ 2 ^ 18 → m ≤ 63 * n
-      → w ≡ a + b + c + d → w < 2 ^ 28
+        → w ≡ a + b + c + d → w < 2 ^ 28
     room a b c d n m w h i j k l o e = omega arith
 
 -- a limit of ones has no clause
@@ -94,7 +116,7 @@ rising_none : (w : ℕ) (outputs : List (Option Literal)) (j : ℕ) → j + leng
 rising_none w [] j h = refl
 rising_none w (o ∷ outputs) j h =
     let e : bit (2 ^ w - 1) j ≡ true =
-      eq-eqb ((2 ^ w - 1) / 2 ^ j % 2) 1 (bit_at_ones w j (omega arith)) in
+    eq-eqb ((2 ^ w - 1) / 2 ^ j % 2) 1 (bit_at_ones w j (omega arith)) in
     rw e (rising_none w outputs (j + 1) (omega arith))
 
 comparator_none : (outputs : List (Option Literal)) (limit k : ℕ) → k ≡ suc limit
@@ -107,4 +129,4 @@ pub without_bound : (profile : Profile) (p : Problem) → IsInstance p
 without_bound profile p h =
     let os = (adders_as profile p).outputs in
     comparator_none os (2 ^ 62 - 1) (2 ^ 62) refl
-      (rising_none 62 os 0 (omega (arith, outputs_few profile p h.weight_sum)))
+    (rising_none 62 os 0 (omega (arith, outputs_few profile p h.weight_sum)))

@@ -23,7 +23,7 @@ without_absent l [] h = refl
 without_absent l (k ∷ c) h =
     let parts = or_parts (literal_eq l k) (contains_literal l c) h in
     ap (λ b. if not b then k ∷ without_literal l c else without_literal l c) parts.0
-      ∙ ap (λ x. k ∷ x) (without_absent l c parts.1)
+    ∙ ap (λ x. k ∷ x) (without_absent l c parts.1)
 
 -- a clause with no repeat stays as it is
 pub distinct_same : (c : List Literal) → has_repeat c ≡ false → distinct c ≡ c
@@ -40,7 +40,7 @@ pub kept_one : (c : List Literal) (b : Bool) → has_repeat c ≡ false → b �
     → kept (c ∷ []) ≡ (if b then [] else c ∷ [])
 kept_one c b h e =
     ap (λ x. if not (has_opposites x) then x ∷ [] else []) (distinct_same c h)
-      ∙ ap (λ x. if not x then c ∷ [] else []) (sym e) ∙ by b
+    ∙ ap (λ x. if not x then c ∷ [] else []) (sym e) ∙ by b
   where
     by : (x : Bool) → (if not x then c ∷ [] else []) ≡ (if x then [] else c ∷ [])
     by true = refl
@@ -50,7 +50,7 @@ pub kept-append : (cs ds : List (List Literal)) → kept (cs ++ ds) ≡ kept cs 
 kept-append [] ds = refl
 kept-append (c ∷ cs) ds =
     elim (has_opposites (distinct c)) as (λ b. (if not b then distinct c ∷ kept (cs ++ ds)
-          else kept (cs ++ ds)) ≡ (if not b then distinct c ∷ kept cs else kept cs) ++ kept ds) [
+    else kept (cs ++ ds)) ≡ (if not b then distinct c ∷ kept cs else kept cs) ++ kept ds) [
       | true ↦ kept-append cs ds
       | false ↦ ap (λ x. distinct c ∷ x) (kept-append cs ds)
     ]
@@ -62,7 +62,7 @@ pub kept_more : (old cs : List (List Literal)) (i : ℕ) (c : List Literal)
     → new ≡ old ++ kept (take (i + 1) cs)
 kept_more old cs i c now new h is inv e =
     let more : take (i + 1) cs ≡ take i cs ++ c ∷ [] =
-      take_more cs i c h ∙ ap (λ x. take i cs ++ x ∷ []) (sym is) in
+    take_more cs i c h ∙ ap (λ x. take i cs ++ x ∷ []) (sym is) in
     e ∙ ap (λ x. x ++ kept (c ∷ [])) inv ∙ append_assoc old (kept (take i cs)) (kept (c ∷ []))
     ∙ ap (λ x. old ++ x) (sym (kept-append (take i cs) (c ∷ [])) ∙ ap kept (sym more))
 
@@ -78,13 +78,13 @@ pub places_within : (vars rows : ℕ) (c : List Literal) → 2 * vars ≤ rows �
     → All (HasPlace rows) c
 places_within vars rows c h w =
     All-from_recursion (HasPlace rows) c
-      (places_each vars rows c h (recursion_from_All (λ l. 0 < l.variable) c w.1) w.2)
+    (places_each vars rows c h (recursion_from_All (λ l. 0 < l.variable) c w.1) w.2)
 
 -- repeats may be dropped before
 pub kept-distinct : (c once : List Literal) → once ≡ distinct c → kept (once ∷ []) ≡ kept (c ∷ [])
 kept-distinct c once e =
     ap (λ x. if not (has_opposites x) then x ∷ [] else [])
-      (distinct_same once (rw e (repeat-distinct c)) ∙ e)
+    (distinct_same once (rw e (repeat-distinct c)) ∙ e)
 
 -- a clause that has an opposite pair adds nothing, and another one itself
 pub kept_none : (old : List (List Literal)) (c : List Literal) → has_repeat c ≡ false
@@ -104,8 +104,8 @@ without-more k [] l b e = ap (λ x. if not x then l ∷ [] else []) e ∙ by b
     by false = refl
 without-more k (x ∷ c) l b e =
     elim (literal_eq k x) as (λ y. (if not y then x ∷ without_literal k (c ++ l ∷ [])
-          else without_literal k (c ++ l ∷ [])) ≡ (if not y then x ∷ without_literal k c
-          else without_literal k c) ++ (if b then [] else l ∷ [])) [
+    else without_literal k (c ++ l ∷ [])) ≡ (if not y then x ∷ without_literal k c
+    else without_literal k c) ++ (if b then [] else l ∷ [])) [
       | true ↦ without-more k c l b e
       | false ↦ ap (λ z. x ∷ z) (without-more k c l b e)
     ]
@@ -126,16 +126,16 @@ distinct-more [] l = refl
 distinct-more (k ∷ c) l =
     ap (λ x. k ∷ without_literal k x) (distinct-more c l)
     ∙ elim (contains_literal l c) as (λ m. k ∷ without_literal k (if m then distinct c
-          else distinct c ++ l ∷ []) ≡ (if literal_eq l k || m
-          then k ∷ without_literal k (distinct c) else (k ∷ without_literal k (distinct c))
-          ++ l ∷ [])) [
+    else distinct c ++ l ∷ []) ≡ (if literal_eq l k || m
+    then k ∷ without_literal k (distinct c) else (k ∷ without_literal k (distinct c))
+    ++ l ∷ [])) [
       | true ↦ known (literal_eq l k)
       | false ↦ ap (λ x. k ∷ x) (without-more k (distinct c) l (literal_eq l k) (same_literals k l))
-        ∙ unknown (literal_eq l k)
+          ∙ unknown (literal_eq l k)
     ]
   where
     known : (b : Bool)
-      → k ∷ without_literal k (distinct c) ≡ (if b || true then k ∷ without_literal k (distinct c)
+        → k ∷ without_literal k (distinct c) ≡ (if b || true then k ∷ without_literal k (distinct c)
         else (k ∷ without_literal k (distinct c)) ++ l ∷ [])
     known true = refl
     known false = refl
@@ -154,18 +154,18 @@ pub distinct_same_step : (once : List Literal) (lits : List Literal) (i : ℕ) (
 distinct_same_step once lits i l b h is inv e =
     let front = take i lits in
     let more : take (i + 1) lits ≡ front ++ l ∷ [] =
-      take_more lits i l h ∙ ap (λ x. front ++ x ∷ []) (sym is) in
+    take_more lits i l h ∙ ap (λ x. front ++ x ∷ []) (sym is) in
     let found : contains_literal l front ≡ b = sym (contains-distinct l front)
-      ∙ ap (contains_literal l) (sym inv) ∙ sym e in
+    ∙ ap (contains_literal l) (sym inv) ∙ sym e in
     ap distinct more ∙ distinct-more front l
-      ∙ (λ j. if found j then sym inv j else sym inv j ++ l ∷ [])
+    ∙ (λ j. if found j then sym inv j else sym inv j ++ l ∷ [])
 
 -- clauses are added, and then others
 pub adds_more : (a b c xs ys : List (List Literal)) → Adds a b xs → Adds b c ys
     → Adds a c (xs ++ ys)
 adds_more a b c xs ys p q = record {
   items = q.items ∙ ap (λ z. z ++ kept ys) p.items ∙ append_assoc a (kept xs) (kept ys)
-    ∙ ap (λ z. a ++ z) (sym (kept-append xs ys));
+      ∙ ap (λ z. a ++ z) (sym (kept-append xs ys));
 }
 
 pub adds_one : (a b : List (List Literal)) (c : List Literal) → b ≡ a ++ kept (c ∷ [])

@@ -26,28 +26,30 @@ clause_line c = spaced-last (map literal_text c) (codes "0")
 -- the line of a clause
 module _ (a b c : Option (List ℕ)) (h j k : List ℕ) (lits : List Literal) (i : ℕ) where
   pub literal_fault : (l : Literal) → i < length lits → l ≡ get_or lits i l
-    → PassesOn a h (literals_text (take i lits)) b j
-    → AppendsPart b c (j ++ (literal_text l ++ 32 ∷ [])) → AppendsPart a c (h ++ dimacs_clause lits)
+      → PassesOn a h (literals_text (take i lits)) b j
+      → AppendsPart b c (j ++ (literal_text l ++ 32 ∷ []))
+      → AppendsPart a c (h ++ dimacs_clause lits)
   literal_fault l lt is p q =
       let whole = literal_text l ++ 32 ∷ [] in
       rw (clause_line lits) (items_fault (λ x. literal_text x ++ 32 ∷ []) a b c h j [] whole []
-          (codes "0\n") lits i l lt is (sym (append-nil whole)) p q)
+      (codes "0\n") lits i l lt is (sym (append-nil whole)) p q)
 
   pub literal_more : (l : Literal) → i < length lits → l ≡ get_or lits i l
-    → PassesOn a h (literals_text (take i lits)) b j → PassesOn b j (literal_text l ++ 32 ∷ []) c k
-    → PassesOn a h (literals_text (take (i + 1) lits)) c k
+      → PassesOn a h (literals_text (take i lits)) b j
+      → PassesOn b j (literal_text l ++ 32 ∷ []) c k
+      → PassesOn a h (literals_text (take (i + 1) lits)) c k
   literal_more l lt is p q =
-    items_more (λ x. literal_text x ++ 32 ∷ []) a b c h j k [] lits i l lt is p q
+      items_more (λ x. literal_text x ++ 32 ∷ []) a b c h j k [] lits i l lt is p q
 
   pub clause_end : length lits ≤ i → PassesOn a h (literals_text (take i lits)) b j
-    → PassesOn b j (48 ∷ 10 ∷ []) c k → PassesOn a h (dimacs_clause lits) c k
+      → PassesOn b j (48 ∷ 10 ∷ []) c k → PassesOn a h (dimacs_clause lits) c k
   clause_end le p q = rw (clause_line lits, ← all_taken (λ x. literal_text x ++ 32 ∷ []) lits i le)
-    (passed-more a b c h j k (literals_text (take i lits)) (codes "0\n") p q)
+      (passed-more a b c h j k (literals_text (take i lits)) (codes "0\n") p q)
 
   pub end_fault : length lits ≤ i → PassesOn a h (literals_text (take i lits)) b j
-    → AppendsPart b c (j ++ 48 ∷ 10 ∷ []) → AppendsPart a c (h ++ dimacs_clause lits)
+      → AppendsPart b c (j ++ 48 ∷ 10 ∷ []) → AppendsPart a c (h ++ dimacs_clause lits)
   end_fault le p q = rw (clause_line lits, ← all_taken (λ x. literal_text x ++ 32 ∷ []) lits i le)
-    (passed_part-more a b c h j (literals_text (take i lits)) (codes "0\n") p q)
+      (passed_part-more a b c h j (literals_text (take i lits)) (codes "0\n") p q)
 
 -- the first line
 abbrev pub header_text : ℕ → ℕ → List ℕ
@@ -57,7 +59,7 @@ pub name_fault : (a b : Option (List ℕ)) (h : List ℕ) (v n : ℕ)
     → AppendsPart a b (h ++ codes "p cnf ") → AppendsPart a b (h ++ header_text v n)
 name_fault a b h v n q =
     first_fault a b h (codes "p cnf ") (decimal v ++ ((32 ∷ []) ++ (decimal n ++ 10 ∷ [])))
-      (header_text v n) q refl
+    (header_text v n) q refl
 
 pub variables_fault : (a b c : Option (List ℕ)) (h i : List ℕ) (v n : ℕ)
     → PassesOn a h (codes "p cnf ") b i → AppendsPart b c (i ++ decimal v)
@@ -65,7 +67,7 @@ pub variables_fault : (a b c : Option (List ℕ)) (h i : List ℕ) (v n : ℕ)
 variables_fault a b c h i v n p q =
     let rest = (32 ∷ []) ++ (decimal n ++ 10 ∷ []) in
     passed_part-more a b c h i (codes "p cnf ") (decimal v ++ rest) p
-      (first_fault b c i (decimal v) rest (decimal v ++ rest) q refl)
+    (first_fault b c i (decimal v) rest (decimal v ++ rest) q refl)
 
 -- the line up to the number of variables was put
 abbrev pub PutsVariables : Option (List ℕ) → List ℕ → ℕ → Option (List ℕ) → List ℕ → Type 0
@@ -76,7 +78,7 @@ pub between_fault : (a b c : Option (List ℕ)) (h i : List ℕ) (v n : ℕ) →
 between_fault a b c h i v n p q =
     let rest = decimal n ++ 10 ∷ [] in
     passed_part-more a b c h i (codes "p cnf " ++ decimal v) ((32 ∷ []) ++ rest) p
-      (first_fault b c i (32 ∷ []) rest ((32 ∷ []) ++ rest) q refl)
+    (first_fault b c i (32 ∷ []) rest ((32 ∷ []) ++ rest) q refl)
 
 pub count_fault : (a b c d : Option (List ℕ)) (h i j : List ℕ) (v n : ℕ) → PutsVariables a h v b i
     → PassesOn b i (32 ∷ []) c j → AppendsPart c d (j ++ decimal n)
@@ -84,8 +86,8 @@ pub count_fault : (a b c d : Option (List ℕ)) (h i j : List ℕ) (v n : ℕ) �
 count_fault a b c d h i j v n p q r =
     let rest = decimal n ++ 10 ∷ [] in
     passed_part-more a b d h i (codes "p cnf " ++ decimal v) ((32 ∷ []) ++ rest) p
-      (passed_part-more b c d i j (32 ∷ []) rest q
-        (first_fault c d j (decimal n) (10 ∷ []) rest r refl))
+    (passed_part-more b c d i j (32 ∷ []) rest q
+    (first_fault c d j (decimal n) (10 ∷ []) rest r refl))
 
 pub header_end : (a b c d e : Option (List ℕ)) (h i j k l : List ℕ) (v n : ℕ)
     → PutsVariables a h v b i → PassesOn b i (32 ∷ []) c j → PassesOn c j (decimal n) d k
@@ -93,7 +95,7 @@ pub header_end : (a b c d e : Option (List ℕ)) (h i j k l : List ℕ) (v n : �
 header_end a b c d e h i j k l v n p q r s =
     passed-more a b e h i l (codes "p cnf " ++ decimal v) ((32 ∷ []) ++ (decimal n ++ 10 ∷ [])) p
     (passed-more b c e i j l (32 ∷ []) (decimal n ++ 10 ∷ []) q
-        (passed-more c d e j k l (decimal n) (10 ∷ []) r s))
+    (passed-more c d e j k l (decimal n) (10 ∷ []) r s))
 
 pub header_fault : (a b c d e : Option (List ℕ)) (h i j k : List ℕ) (v n : ℕ)
     → PutsVariables a h v b i → PassesOn b i (32 ∷ []) c j → PassesOn c j (decimal n) d k
@@ -101,4 +103,4 @@ pub header_fault : (a b c d e : Option (List ℕ)) (h i j k : List ℕ) (v n : �
 header_fault a b c d e h i j k v n p q r s =
     passed_part-more a b e h i (codes "p cnf " ++ decimal v) ((32 ∷ []) ++ (decimal n ++ 10 ∷ [])) p
     (passed_part-more b c e i j (32 ∷ []) (decimal n ++ 10 ∷ []) q
-        (passed_part-more c d e j k (decimal n) (10 ∷ []) r s))
+    (passed_part-more c d e j k (decimal n) (10 ∷ []) r s))

@@ -33,9 +33,9 @@ opposites-more [] l = refl
 opposites-more (k ∷ c) l =
     (λ i. list_any-append (literal_eq (negation k)) c (l ∷ []) i || opposites-more c l i)
     ∙ ap (λ b. (contains_literal (negation k) c || (b || false)) ||
-        (has_opposites c || contains_literal (negation l) c)) (opposite_eq k l)
+    (has_opposites c || contains_literal (negation l) c)) (opposite_eq k l)
     ∙ by (contains_literal (negation k) c) (literal_eq (negation l) k) (has_opposites c)
-      (contains_literal (negation l) c)
+    (contains_literal (negation l) c)
   where
     by : (a b c d : Bool) → ((a || (b || false)) || (c || d)) ≡ ((a || c) || (b || d))
     by true b c d = refl
@@ -51,10 +51,10 @@ pub mark_step : (marks : List Bool) (found : Bool) (lits : List Literal) (i : �
     × ((found || mark_of marks (negation l)) ≡ has_opposites (take (i + 1) lits))
 mark_step marks found lits i l h is p inv =
     let more : take (i + 1) lits ≡ take i lits ++ l ∷ [] =
-      take_more lits i l h ∙ ap (λ x. take i lits ++ x ∷ []) (sym is) in (
+    take_more lits i l h ∙ ap (λ x. take i lits ++ x ∷ []) (sym is) in (
       subst (IsMarked (set marks (index_of l) true)) (sym more)
-        (marked_one marks (take i lits) l p inv.0),
+          (marked_one marks (take i lits) l p inv.0),
       (λ j. inv.1 j || mark_of marks (negation l))
-        ∙ ap (λ b. has_opposites (take i lits) || b) (inv.0.marked (negation l) p.0)
-        ∙ sym (opposites-more (take i lits) l) ∙ ap has_opposites (sym more),
+          ∙ ap (λ b. has_opposites (take i lits) || b) (inv.0.marked (negation l) p.0)
+          ∙ sym (opposites-more (take i lits) l) ∙ ap has_opposites (sym more),
     )

@@ -17,14 +17,14 @@ pub formula_parts : (profile : Profile) (p : Problem) (k last : ℕ) (a b c d : 
     → last ≡ relaxed_variables profile p → cells ≡ (adders_as profile p).cells
     → outputs ≡ (adders_as profile p).outputs
     → (let f : Cnf = record { variables = last + 2 * length cells; clauses = d } in
-        f ≡ bound_as profile p k)
+    f ≡ bound_as profile p k)
 formula_parts profile p k last a b c d cells outputs none given added compared counted same ends =
     let items : d ≡ kept p.hard ++ kept (relaxed_clauses profile p) ++ kept
-      (flat_map cell_clauses cells) ++ comparator_of outputs k =
+    (flat_map cell_clauses cells) ++ comparator_of outputs k =
     compared ∙ ap (λ x. x ++ comparator_of outputs k) (added.items
-        ∙ ap (λ x. x ++ kept (flat_map cell_clauses cells)) (given
-          ∙ ap (λ x. x ++ (kept p.hard ++ kept (relaxed_clauses profile p))) none)) in
+    ∙ ap (λ x. x ++ kept (flat_map cell_clauses cells)) (given
+    ∙ ap (λ x. x ++ (kept p.hard ++ kept (relaxed_clauses profile p))) none)) in
     let whole : d ≡ (bound_as profile p k).clauses =
-      items ∙ (λ i. kept p.hard ++ kept (relaxed_clauses profile p) ++ kept
-        (flat_map cell_clauses (same i)) ++ comparator_of (ends i) k) in
+    items ∙ (λ i. kept p.hard ++ kept (relaxed_clauses profile p) ++ kept
+    (flat_map cell_clauses (same i)) ++ comparator_of (ends i) k) in
     λ i. record { variables = counted i + 2 * length (same i); clauses = whole i }

@@ -35,7 +35,7 @@ is_fresh-gets Three v s = refl
 is_fresh-gets Two v s = by s.weight s.clause
   where
     by : (w : ℕ) (c : List Literal)
-      → (relaxed_one Two v (record { weight = w; clause = c })).is_fresh ≡ gets_variable Two c
+        → (relaxed_one Two v (record { weight = w; clause = c })).is_fresh ≡ gets_variable Two c
     by w [] = refl
     by w (l ∷ []) = refl
     by w (l ∷ k ∷ c) = ap not (sym (ne_eqb (suc (suc (length c))) 1 (λ e. absurd (omega arith))))
@@ -43,33 +43,33 @@ is_fresh-gets Two v s = by s.weight s.clause
 -- one more soft clause, at the end
 relaxed_from-more : (profile : Profile) (v : ℕ) (ss : List SoftClause) (s : SoftClause)
     → relaxed_from profile v (ss ++ s ∷ []) ≡ relaxed_from profile v ss ++ relaxed_one profile
-      (v + fresh_count (relaxed_from profile v ss)) s ∷ []
+    (v + fresh_count (relaxed_from profile v ss)) s ∷ []
 relaxed_from-more profile v [] s = ap (λ n. relaxed_one profile n s ∷ []) (omega arith)
 relaxed_from-more profile v (r ∷ ss) s =
     let first = relaxed_one profile v r in
     elim first.is_fresh as (λ b. first ∷ relaxed_from profile (if b then v + 1 else v)
-        (ss ++ s ∷ [])
+    (ss ++ s ∷ [])
     ≡ first ∷ (relaxed_from profile (if b then v + 1 else v) ss ++ relaxed_one profile
-        (v + length (if b then first ∷ filter (λ e. e.is_fresh)
-            (relaxed_from profile (if b then v + 1 else v) ss)
-            else filter (λ e. e.is_fresh) (relaxed_from profile (if b then v + 1 else v) ss))) s
-        ∷ [])) [
+    (v + length (if b then first ∷ filter (λ e. e.is_fresh)
+    (relaxed_from profile (if b then v + 1 else v) ss)
+    else filter (λ e. e.is_fresh) (relaxed_from profile (if b then v + 1 else v) ss))) s
+    ∷ [])) [
       | true ↦
           let es = relaxed_from profile (v + 1) ss in
           let n : (v + 1) + fresh_count es ≡ v + suc (fresh_count es) = omega arith in
           ap (λ x. first ∷ x) (relaxed_from-more profile (v + 1) ss s
-              ∙ ap (λ m. es ++ relaxed_one profile m s ∷ []) n)
+          ∙ ap (λ m. es ++ relaxed_one profile m s ∷ []) n)
       | false ↦ ap (λ x. first ∷ x) (relaxed_from-more profile v ss s)
     ]
 
 filter-more : (es : List Relaxed) (e : Relaxed)
     → filter (λ e. e.is_fresh) (es ++ e ∷ []) ≡ filter (λ e. e.is_fresh) es ++ (if e.is_fresh
-        then e ∷ [] else [])
+    then e ∷ [] else [])
 filter-more [] e = refl
 filter-more (d ∷ es) e =
     elim d.is_fresh as (λ b. (if b then d ∷ filter (λ e. e.is_fresh) (es ++ e ∷ [])
-          else filter (λ e. e.is_fresh) (es ++ e ∷ [])) ≡ (if b then d ∷ filter (λ e. e.is_fresh) es
-          else filter (λ e. e.is_fresh) es) ++ (if e.is_fresh then e ∷ [] else [])) [
+    else filter (λ e. e.is_fresh) (es ++ e ∷ [])) ≡ (if b then d ∷ filter (λ e. e.is_fresh) es
+    else filter (λ e. e.is_fresh) es) ++ (if e.is_fresh then e ∷ [] else [])) [
       | true ↦ ap (λ x. d ∷ x) (filter-more es e)
       | false ↦ filter-more es e
     ]
@@ -86,14 +86,14 @@ fresh_literal : (profile : Profile) (v : ℕ) (s : SoftClause)
     → ((relaxed_one profile v s).literal ≡ positive v) × ((relaxed_one profile v s).soft ≡ s)
 fresh_literal profile v s =
     relaxed_cases profile v s (λ e. e.is_fresh ≡ true → (e.literal ≡ positive v) × (e.soft ≡ s))
-      (λ h. (refl, refl)) (λ l same h. absurd (false≢true h))
+    (λ h. (refl, refl)) (λ l same h. absurd (false≢true h))
 
 abbrev with_literal : Relaxed → List Literal
 with_literal e = (e.soft).clause ++ e.literal ∷ []
 
 map-more : (es : List Relaxed) (b : Bool) (e : Relaxed)
     → map with_literal (es ++ (if b then e ∷ [] else [])) ≡ map with_literal es
-      ++ (if b then with_literal e ∷ [] else [])
+    ++ (if b then with_literal e ∷ [] else [])
 map-more [] true e = refl
 map-more [] false e = refl
 map-more (d ∷ es) b e = ap (λ x. with_literal d ∷ x) (map-more es b e)
@@ -102,14 +102,14 @@ variables-more : (es : List Relaxed) (e : Relaxed) (b : Bool) → e.is_fresh ≡
     → with_variables (es ++ e ∷ []) ≡ with_variables es ++ (if b then with_literal e ∷ [] else [])
 variables-more es e b h =
     ap (map with_literal) (filter-more es e
-      ∙ ap (λ x. filter (λ e. e.is_fresh) es ++ (if x then e ∷ [] else [])) h)
-      ∙ map-more (filter (λ e. e.is_fresh) es) b e
+    ∙ ap (λ x. filter (λ e. e.is_fresh) es ++ (if x then e ∷ [] else [])) h)
+    ∙ map-more (filter (λ e. e.is_fresh) es) b e
 
 count-more : (es : List Relaxed) (e : Relaxed) (b : Bool) → e.is_fresh ≡ b
     → fresh_count (es ++ e ∷ []) ≡ fresh_count es + (if b then 1 else 0)
 count-more es e b h =
     ap length (filter-more es e
-        ∙ ap (λ x. filter (λ e. e.is_fresh) es ++ (if x then e ∷ [] else [])) h)
+    ∙ ap (λ x. filter (λ e. e.is_fresh) es ++ (if x then e ∷ [] else [])) h)
     ∙ length-append (filter (λ e. e.is_fresh) es) (if b then e ∷ [] else [])
     ∙ ap (λ n. fresh_count es + n) (by b)
   where
@@ -129,33 +129,34 @@ module _ (profile : Profile) (vars : ℕ) (ss : List SoftClause) (s : SoftClause
   one_more = relaxed_from-more profile (vars + 1) ss s
 
   pub relaxed_fresh : (new : List (List Literal)) (c : List Literal)
-    → gets_variable profile s.clause ≡ true → c ≡ s.clause ++ positive (last + 1) ∷ []
-    → new ≡ now ++ kept (c ∷ [])
+      → gets_variable profile s.clause ≡ true → c ≡ s.clause ++ positive (last + 1) ∷ []
+      → new ≡ now ++ kept (c ∷ [])
       → IsRelaxedTo profile vars (ss ++ s ∷ []) old new (last + 1)
   relaxed_fresh new c g same more =
       let fresh : e.is_fresh ≡ true = is_fresh-gets profile ((vars + 1) + fresh_count es) s ∙ g in
       let is = fresh_literal profile ((vars + 1) + fresh_count es) s fresh in
       let number : (vars + 1) + fresh_count es ≡ last + 1 = omega (arith, h.counted) in
       let clause : with_literal e ≡ c = (λ i. (is.1 i).clause ++ is.0 i ∷ [])
-        ∙ ap (λ n. s.clause ++ positive n ∷ []) number ∙ sym same in
+      ∙ ap (λ n. s.clause ++ positive n ∷ []) number ∙ sym same in
       let all : with_variables (relaxed_from profile (vars + 1) (ss ++ s ∷ [])) ≡ with_variables es
-        ++ c ∷ [] = ap with_variables one_more ∙ variables-more es e true fresh
-        ∙ ap (λ x. with_variables es ++ x ∷ []) clause in
+      ++ c ∷ [] = ap with_variables one_more ∙ variables-more es e true fresh
+      ∙ ap (λ x. with_variables es ++ x ∷ []) clause in
       record {
         added = more ∙ ap (λ x. x ++ kept (c ∷ [])) h.added
-          ∙ append_assoc old (kept (with_variables es)) (kept (c ∷ []))
-          ∙ ap (λ x. old ++ x) (sym (kept-append (with_variables es) (c ∷ [])) ∙ ap kept (sym all));
+            ∙ append_assoc old (kept (with_variables es)) (kept (c ∷ []))
+            ∙ ap (λ x. old ++ x) (sym (kept-append (with_variables es) (c ∷ []))
+            ∙ ap kept (sym all));
         counted = omega (arith, h.counted, ap fresh_count one_more, count-more es e true fresh);
         few = omega (arith, h.few, length-append ss (s ∷ []));
       }
 
   pub relaxed_own : gets_variable profile s.clause ≡ false
-    → IsRelaxedTo profile vars (ss ++ s ∷ []) old now last
+      → IsRelaxedTo profile vars (ss ++ s ∷ []) old now last
   relaxed_own g =
       let own : e.is_fresh ≡ false = is_fresh-gets profile ((vars + 1) + fresh_count es) s ∙ g in
       let all : with_variables (relaxed_from profile (vars + 1) (ss ++ s ∷ []))
-          ≡ with_variables es = ap with_variables one_more ∙ variables-more es e false own
-        ∙ append-nil (with_variables es) in
+      ≡ with_variables es = ap with_variables one_more ∙ variables-more es e false own
+      ∙ append-nil (with_variables es) in
       record {
         added = h.added ∙ ap (λ x. old ++ kept x) (sym all);
         counted = omega (arith, h.counted, ap fresh_count one_more, count-more es e false own);
@@ -169,7 +170,7 @@ absent_above l [] h = refl
 absent_above l (k ∷ c) h =
     or_from (literal_eq l k) (contains_literal l c)
     (ap (λ b. b && same_bool l.negated k.negated)
-        (ne_eqb l.variable k.variable (λ e. absurd (omega arith))))
+    (ne_eqb l.variable k.variable (λ e. absurd (omega arith))))
     (absent_above l c (omega arith))
 
 repeat-more : (c : List Literal) (l : Literal) → has_repeat c ≡ false → contains_literal l c ≡ false
@@ -180,10 +181,10 @@ repeat-more (k ∷ c) l h a =
     let apart = or_parts (literal_eq l k) (contains_literal l c) a in
     let here : contains_literal k (c ++ l ∷ []) ≡ false =
     list_any-append (literal_eq k) c (l ∷ [])
-      ∙ or_from (contains_literal k c) (literal_eq k l || false) parts.0
-      (or_from (literal_eq k l) false (same_literals k l ∙ apart.0) refl) in
+    ∙ or_from (contains_literal k c) (literal_eq k l || false) parts.0
+    (or_from (literal_eq k l) false (same_literals k l ∙ apart.0) refl) in
     or_from (contains_literal k (c ++ l ∷ [])) (has_repeat (c ++ l ∷ [])) here
-      (repeat-more c l parts.1 apart.1)
+    (repeat-more c l parts.1 apart.1)
 
 pub relaxed_no_repeat : (c : List Literal) (vars v : ℕ) → has_repeat c ≡ false
     → IsClauseWithin vars c → vars < v → has_repeat (c ++ positive v ∷ []) ≡ false
@@ -195,8 +196,8 @@ pub relaxed_places : (c : List Literal) (vars v rows : ℕ) → IsClauseWithin v
 relaxed_places c vars v rows w lt room =
     All-from_recursion (HasPlace rows) (c ++ positive v ∷ [])
     (all_append (HasPlace rows) c (positive v ∷ [])
-        (places_each vars rows c (omega arith) (recursion_from_All (λ l. 0 < l.variable) c w.1) w.2)
-        ((omega arith, room), tt))
+    (places_each vars rows c (omega arith) (recursion_from_All (λ l. 0 < l.variable) c w.1) w.2)
+    ((omega arith, room), tt))
 
 -- the instance's soft clauses, by their places
 pub soft_within : (vars : ℕ) (ss : List SoftClause) (i : ℕ) (s : SoftClause)

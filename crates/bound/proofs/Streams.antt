@@ -38,28 +38,33 @@ module _ (a b : Option (List ℕ)) (h whole j : List ℕ) where
   all_put p = subst (λ z. PassesOn a h z b j) (sym (append-nil p.text) ∙ sym p.split) p.passed
 
   pub same_left : (left other : List ℕ) → left ≡ other → IsPutUpTo a h whole left b j
-    → IsPutUpTo a h whole other b j
+      → IsPutUpTo a h whole other b j
   same_left left other e p = subst (λ z. IsPutUpTo a h whole z b j) e p
 
   -- what was put is a beginning
   pub part_put : (left : List ℕ) → IsPutUpTo a h whole left b j → AppendsPart a b (h ++ whole)
-  part_put left p =
-      (p.passed.written, (j ++ left, ap (λ z. h ++ z) p.split ∙ sym (append_assoc h p.text left)
-            ∙ ap (λ z. z ++ left) p.passed.split ∙ append_assoc p.passed.written j left),
-          p.passed.appended)
+  part_put left p = (
+    p.passed.written,
+    (
+      j ++ left,
+      ap (λ z. h ++ z) p.split ∙ sym (append_assoc h p.text left)
+          ∙ ap (λ z. z ++ left) p.passed.split ∙ append_assoc p.passed.written j left,
+    ),
+    p.passed.appended,
+  )
 
   module _ (c : Option (List ℕ)) (piece left : List ℕ) (p : IsPutUpTo a h whole (piece ++ left) b j)
     where
-    -- one more piece
-    pub put_more : (k : List ℕ) → PassesOn b j piece c k → IsPutUpTo a h whole left c k
-    put_more k q = record {
-      text = p.text ++ piece;
-      passed = passed-more a b c h j k p.text piece p.passed q;
-      split = p.split ∙ sym (append_assoc p.text piece left);
-    }
+      -- one more piece
+      pub put_more : (k : List ℕ) → PassesOn b j piece c k → IsPutUpTo a h whole left c k
+      put_more k q = record {
+        text = p.text ++ piece;
+        passed = passed-more a b c h j k p.text piece p.passed q;
+        split = p.split ∙ sym (append_assoc p.text piece left);
+      }
 
-    pub put_fault : AppendsPart b c (j ++ piece) → AppendsPart a c (h ++ whole)
-    put_fault q = passed_fault a b c h j p.text piece left whole p.passed q p.split
+      pub put_fault : AppendsPart b c (j ++ piece) → AppendsPart a c (h ++ whole)
+      put_fault q = passed_fault a b c h j p.text piece left whole p.passed q p.split
 
 -- the lines of the clauses
 abbrev pub lines_of : List (List Literal) → List ℕ
@@ -87,7 +92,7 @@ pub cells_from : (cells : List Cell) (i : ℕ) (cell : Cell) → i < length cell
     → cells_kept (drop i cells) ≡ kept (cell_clauses cell) ++ cells_kept (drop (i + 1) cells)
 cells_from cells i cell lt is =
     ap cells_kept (drop_more cells i cell lt ∙ ap (λ z. z ∷ drop (i + 1) cells) (sym is))
-      ∙ kept-append (cell_clauses cell) (flat_map cell_clauses (drop (i + 1) cells))
+    ∙ kept-append (cell_clauses cell) (flat_map cell_clauses (drop (i + 1) cells))
 
 -- the text of a formula in the order in which its parts are put
 module _ (f : Cnf) (v n : ℕ) (h r x m : List (List Literal)) (ev : v ≡ f.variables)
@@ -100,15 +105,15 @@ module _ (f : Cnf) (v n : ℕ) (h r x m : List (List Literal)) (ev : v ≡ f.var
       (λ i. header_line (sym ev i) (sym en i) ++ lines_of (ec i))
       ∙ ap (λ z. header_line v n ++ z)
       (lines-append (h ++ r ++ x) m ∙ ap (λ z. z ++ lines_of m) (lines-append (h ++ r) x
-            ∙ ap (λ z. z ++ lines_of x) (lines-append h r))
+      ∙ ap (λ z. z ++ lines_of x) (lines-append h r))
       ∙ append_assoc (lines_of h ++ lines_of r) (lines_of x) (lines_of m)
       ∙ append_assoc (lines_of h) (lines_of r) (lines_of x ++ lines_of m)
       ∙ ap (λ z. lines_of h ++ (lines_of r ++ (lines_of x ++ z))) (sym (append-nil (lines_of m))))
 
   pub parts_left : (a : Option (List ℕ)) (held : List ℕ)
-    → IsPutUpTo a held (dimacs_text f) parts_text a held
+      → IsPutUpTo a held (dimacs_text f) parts_text a held
   parts_left a held = same_left a a held (dimacs_text f) held (dimacs_text f) parts_text text_parts
-    (none_put a held (dimacs_text f))
+      (none_put a held (dimacs_text f))
 
 -- the text of a formula that is there
 pub dimacs_left : (f : Cnf) (v n : ℕ) (cs : List (List Literal)) → v ≡ f.variables
@@ -117,9 +122,9 @@ pub dimacs_left : (f : Cnf) (v n : ℕ) (cs : List (List Literal)) → v ≡ f.v
 dimacs_left f v n cs ev en ec a held =
     let e : dimacs_text f ≡ header_line v n ++ (lines_of cs ++ []) =
     (λ i. header_line (sym ev i) (sym en i) ++ lines_of (sym ec i))
-      ∙ ap (λ z. header_line v n ++ z) (sym (append-nil (lines_of cs))) in
+    ∙ ap (λ z. header_line v n ++ z) (sym (append-nil (lines_of cs))) in
     same_left a a held (dimacs_text f) held (dimacs_text f) (header_line v n ++ (lines_of cs ++ []))
-      e (none_put a held (dimacs_text f))
+    e (none_put a held (dimacs_text f))
 
 -- where the block was empty
 pub part_from_empty : (a b : Option (List ℕ)) (held text : List ℕ) → held ≡ []
@@ -143,8 +148,16 @@ nothing_put a text = ([], (text, refl), Appends-nil a)
 pub counted : (h r x m : List (List Literal)) (i j k l : ℕ) → i ≡ length h → j ≡ length r
     → k ≡ length x → l ≡ length m → i + j + k + l ≡ length (h ++ r ++ x ++ m)
 counted h r x m i j k l a b c d =
-    omega (arith, a, b, c, d, length-append (h ++ r ++ x) m, length-append (h ++ r) x,
-      length-append h r)
+    omega (
+      arith,
+      a,
+      b,
+      c,
+      d,
+      length-append (h ++ r ++ x) m,
+      length-append (h ++ r) x,
+      length-append h r,
+    )
 
 pub cells_counted : (cells : List Cell) → length (cells_kept cells) ≤ 14 * length cells
 cells_counted cells = omega (arith, kept_le (flat_map cell_clauses cells), cells_le cells)
@@ -157,47 +170,47 @@ module _ (cells : List Cell) (i : ℕ) (cell : Cell) (lt : i < length cells)
   of_cell = adds.items ∙ ap (λ x. x ++ kept (cell_clauses cell)) empty
 
   cell_next : lines_of (cells_kept (drop i cells)) ≡ lines_of now ++ lines_of
-    (cells_kept (drop (i + 1) cells))
+      (cells_kept (drop (i + 1) cells))
   cell_next =
       ap lines_of (cells_from cells i cell lt is)
-        ∙ lines-append (kept (cell_clauses cell)) (cells_kept (drop (i + 1) cells))
+      ∙ lines-append (kept (cell_clauses cell)) (cells_kept (drop (i + 1) cells))
       ∙ ap (λ z. lines_of z ++ lines_of (cells_kept (drop (i + 1) cells))) (sym of_cell)
 
   pub cell_counted : length (cells_kept (drop i cells)) ≡ length now + length
-    (cells_kept (drop (i + 1) cells))
+      (cells_kept (drop (i + 1) cells))
   cell_counted =
       ap length (cells_from cells i cell lt is)
-        ∙ length-append (kept (cell_clauses cell)) (cells_kept (drop (i + 1) cells))
+      ∙ length-append (kept (cell_clauses cell)) (cells_kept (drop (i + 1) cells))
       ∙ ap (λ z. length z + length (cells_kept (drop (i + 1) cells))) (sym of_cell)
 
   module _ (a b c : Option (List ℕ)) (h whole j : List ℕ)
-    (p : IsPutUpTo a h whole (lines_of (cells_kept (drop i cells))) b j) where
+      (p : IsPutUpTo a h whole (lines_of (cells_kept (drop i cells))) b j) where
     pub cell_put : (k : List ℕ) → PassesOn b j (lines_of now) c k
-      → IsPutUpTo a h whole (lines_of (cells_kept (drop (i + 1) cells))) c k
+        → IsPutUpTo a h whole (lines_of (cells_kept (drop (i + 1) cells))) c k
     cell_put k q =
-      put_more a b h whole j c (lines_of now) (lines_of (cells_kept (drop (i + 1) cells)))
+        put_more a b h whole j c (lines_of now) (lines_of (cells_kept (drop (i + 1) cells)))
         (same_left a b h whole j _ _ cell_next p) k q
 
     pub cell_fault : AppendsPart b c (j ++ lines_of now) → AppendsPart a c (h ++ whole)
     cell_fault q =
-      put_fault a b h whole j c (lines_of now) (lines_of (cells_kept (drop (i + 1) cells)))
+        put_fault a b h whole j c (lines_of now) (lines_of (cells_kept (drop (i + 1) cells)))
         (same_left a b h whole j _ _ cell_next p) q
 
 -- one hard clause more
 module _ (clause : List Literal) (rest : List (List Literal))
     (once : has_repeat clause ≡ false) where
   pub hard_counted : has_opposites clause ≡ false
-    → length (kept (clause ∷ rest)) ≡ 1 + length (kept rest)
+      → length (kept (clause ∷ rest)) ≡ 1 + length (kept rest)
   hard_counted e = omega (arith, ap length (kept_first clause rest once e))
 
   pub hard_passed : has_opposites clause ≡ true → length (kept (clause ∷ rest)) ≡ length (kept rest)
   hard_passed e = ap length (kept_not_first clause rest once e)
 
   module _ (a b : Option (List ℕ)) (h whole j : List ℕ) (left : List (List Literal))
-    (steps : left ≡ clause ∷ rest) (p : IsPutUpTo a h whole (lines_of (kept left)) b j) where
+      (steps : left ≡ clause ∷ rest) (p : IsPutUpTo a h whole (lines_of (kept left)) b j) where
     pub hard_skipped : has_opposites clause ≡ true → IsPutUpTo a h whole (lines_of (kept rest)) b j
     hard_skipped e =
-      same_left a b h whole j _ _ (ap (λ x. lines_of (kept x)) steps
+        same_left a b h whole j _ _ (ap (λ x. lines_of (kept x)) steps
         ∙ ap lines_of (kept_not_first clause rest once e)) p
 
     module _ (e : has_opposites clause ≡ false) (c : Option (List ℕ)) where
@@ -205,14 +218,14 @@ module _ (clause : List Literal) (rest : List (List Literal))
       hard_next = ap (λ x. lines_of (kept x)) steps ∙ ap lines_of (kept_first clause rest once e)
 
       pub hard_put : (k : List ℕ) → PassesOn b j (dimacs_clause clause) c k
-        → IsPutUpTo a h whole (lines_of (kept rest)) c k
+          → IsPutUpTo a h whole (lines_of (kept rest)) c k
       hard_put k q =
-        put_more a b h whole j c (dimacs_clause clause) (lines_of (kept rest))
+          put_more a b h whole j c (dimacs_clause clause) (lines_of (kept rest))
           (same_left a b h whole j _ _ hard_next p) k q
 
       pub hard_fault : AppendsPart b c (j ++ dimacs_clause clause) → AppendsPart a c (h ++ whole)
       hard_fault q =
-        put_fault a b h whole j c (dimacs_clause clause) (lines_of (kept rest))
+          put_fault a b h whole j c (dimacs_clause clause) (lines_of (kept rest))
           (same_left a b h whole j _ _ hard_next p) q
 
 -- in all there are few
@@ -223,5 +236,5 @@ pub sum_small : (profile : Profile) (p : Problem) (k : ℕ) (r m : List (List Li
 sum_small profile p k r m x h er ex em i j n l a b c d =
     let all : i + j + n + l ≡ length (bound_as profile p k).clauses =
     counted (kept p.hard) r (cells_kept x.cells) m i j n l a b c d
-      ∙ (λ t. length (kept p.hard ++ er t ++ cells_kept (ex t).cells ++ em t)) in
+    ∙ (λ t. length (kept p.hard ++ er t ++ cells_kept (ex t).cells ++ em t)) in
     subst (λ z. z < 2 ^ 28) (sym all) (clauses_few profile p k h)

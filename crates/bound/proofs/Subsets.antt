@@ -22,7 +22,7 @@ subset_member : (l : Literal) (d c : List Literal) → is_subset d c ≡ true
 subset_member l [] c h m = absurd (false≢true m)
 subset_member l (k ∷ d) c h m =
     elim (contains_literal k c) as (λ b. contains_literal k c ≡ b
-        → (if b then is_subset d c else false) ≡ true → contains_literal l c ≡ true) [
+    → (if b then is_subset d c else false) ≡ true → contains_literal l c ≡ true) [
       | false ↦ λ e g. absurd (false≢true g)
       | true ↦ λ e g. elim (or_cases (literal_eq l k) (contains_literal l d) m) [
         | inl same ↦ subst (λ x. contains_literal x c ≡ true) (sym (literal_eq-true l k same)) e
@@ -36,7 +36,7 @@ subset_from : (d c : List Literal)
 subset_from [] c f = refl
 subset_from (k ∷ d) c f =
     ap (λ b. if b then is_subset d c else false)
-      (f k (or_left (literal_eq k k) (contains_literal k d) (literal_eq-refl k)))
+    (f k (or_left (literal_eq k k) (contains_literal k d) (literal_eq-refl k)))
     ∙ subset_from d c (λ l m. f l (or_right (literal_eq l k) (contains_literal l d) m))
 
 pub subset_self : (c : List Literal) → is_subset c c ≡ true
@@ -46,18 +46,18 @@ pub subset_more : (l : Literal) (d c : List Literal) → is_subset d c ≡ true
     → is_subset d (l ∷ c) ≡ true
 subset_more l d c h =
     subset_from d (l ∷ c) (λ k m. or_right (literal_eq k l) (contains_literal k c)
-      (subset_member k d c h m))
+    (subset_member k d c h m))
 
 contains-without : (l k : Literal) (c : List Literal) → literal_eq l k ≡ false
     → contains_literal l (without_literal k c) ≡ contains_literal l c
 contains-without l k [] e = refl
 contains-without l k (x ∷ c) e =
     elim (literal_eq k x) as (λ b. literal_eq k x ≡ b
-        → contains_literal l (if not b then x ∷ without_literal k c else without_literal k c)
-        ≡ contains_literal l (x ∷ c)) [
+    → contains_literal l (if not b then x ∷ without_literal k c else without_literal k c)
+    ≡ contains_literal l (x ∷ c)) [
       | true ↦ λ h. contains-without l k c e
-        ∙ ap (λ b. b || contains_literal l c)
-        (sym (subst (λ y. literal_eq l y ≡ false) (literal_eq-true k x h) e))
+          ∙ ap (λ b. b || contains_literal l c)
+          (sym (subst (λ y. literal_eq l y ≡ false) (literal_eq-true k x h) e))
       | false ↦ λ h. ap (λ b. literal_eq l x || b) (contains-without l k c e)
     ] refl
 
@@ -66,8 +66,7 @@ pub contains-distinct : (l : Literal) (c : List Literal)
 contains-distinct l [] = refl
 contains-distinct l (k ∷ c) =
     elim (literal_eq l k) as (λ b. literal_eq l k ≡ b
-        → (b || contains_literal l (without_literal k (distinct c))) ≡ (b || contains_literal l c))
-      [
+    → (b || contains_literal l (without_literal k (distinct c))) ≡ (b || contains_literal l c)) [
       | true ↦ λ e. refl
       | false ↦ λ e. contains-without l k (distinct c) e ∙ contains-distinct l c
     ] refl
@@ -76,19 +75,24 @@ subset-distinct : (d c : List Literal) → is_subset d c ≡ true
     → is_subset (distinct d) (distinct c) ≡ true
 subset-distinct d c h =
     subset_from (distinct d) (distinct c) (λ l m. contains-distinct l c
-      ∙ subset_member l d c h (sym (contains-distinct l d) ∙ m))
+    ∙ subset_member l d c h (sym (contains-distinct l d) ∙ m))
 
 opposites_from : (c : List Literal) → has_opposites c ≡ true
     → (l : Literal) × (contains_literal l c ≡ true) × (contains_literal (negation l) c ≡ true)
 opposites_from [] h = absurd (false≢true h)
 opposites_from (k ∷ c) h =
     elim (or_cases (contains_literal (negation k) c) (has_opposites c) h) [
-      | inl here ↦ (k, or_left (literal_eq k k) (contains_literal k c) (literal_eq-refl k),
-          or_right (literal_eq (negation k) k) (contains_literal (negation k) c) here)
+      | inl here ↦ (
+        k,
+        or_left (literal_eq k k) (contains_literal k c) (literal_eq-refl k),
+        or_right (literal_eq (negation k) k) (contains_literal (negation k) c) here,
+      )
       | inr more ↦
-          let r = opposites_from c more in
-          (r.0, or_right (literal_eq r.0 k) (contains_literal r.0 c) r.1,
-              or_right (literal_eq (negation r.0) k) (contains_literal (negation r.0) c) r.2)
+          let r = opposites_from c more in (
+            r.0,
+            or_right (literal_eq r.0 k) (contains_literal r.0 c) r.1,
+            or_right (literal_eq (negation r.0) k) (contains_literal (negation r.0) c) r.2,
+          )
     ]
 
 opposites_to : (l : Literal) (c : List Literal) → contains_literal l c ≡ true
@@ -98,17 +102,17 @@ opposites_to l (k ∷ c) h g =
     elim (or_cases (literal_eq l k) (contains_literal l c) h) [
       | inl here ↦ elim (or_cases (literal_eq (negation l) k) (contains_literal (negation l) c) g) [
         | inl too ↦ absurd (not_own_negation l (literal_eq-true l k here
-              ∙ sym (literal_eq-true (negation l) k too)))
+            ∙ sym (literal_eq-true (negation l) k too)))
         | inr rest ↦ or_left (contains_literal (negation k) c) (has_opposites c)
-          (subst (λ x. contains_literal (negation x) c ≡ true) (literal_eq-true l k here) rest)
+            (subst (λ x. contains_literal (negation x) c ≡ true) (literal_eq-true l k here) rest)
       ]
       | inr more ↦ elim (or_cases (literal_eq (negation l) k) (contains_literal (negation l) c) g) [
         | inl too ↦ or_left (contains_literal (negation k) c) (has_opposites c)
             (subst (λ x. contains_literal (negation x) c ≡ true)
-                (literal_eq-true (negation l) k too)
-                (subst (λ x. contains_literal x c ≡ true) (sym (negation_twice l)) more))
+            (literal_eq-true (negation l) k too)
+            (subst (λ x. contains_literal x c ≡ true) (sym (negation_twice l)) more))
         | inr rest ↦ or_right (contains_literal (negation k) c) (has_opposites c)
-          (opposites_to l c more rest)
+            (opposites_to l c more rest)
       ]
     ]
 
@@ -121,7 +125,7 @@ subset_no_opposites d c h e =
       | true ↦ λ g.
           let r = opposites_from d g in
           absurd (both_ways _ e (opposites_to r.0 c (subset_member r.0 d c h r.1)
-                (subset_member (negation r.0) d c h r.2)))
+          (subset_member (negation r.0) d c h r.2)))
     ] refl
 
 -- some clause of cs is a subset of c
@@ -147,7 +151,7 @@ covers-reverse : (cs : List (List Literal)) (c : List Literal) → covers (rever
 covers-reverse [] c = refl
 covers-reverse (d ∷ cs) c =
     ap (λ x. covers x c) (reverse_onto cs d [])
-      ∙ list_any-append (λ x. is_subset x c) (reverse cs) (d ∷ [])
+    ∙ list_any-append (λ x. is_subset x c) (reverse cs) (d ∷ [])
     ∙ (λ i. covers-reverse cs c i || or_comm (is_subset d c) false i)
     ∙ or_comm (covers cs c) (is_subset d c)
 
@@ -159,14 +163,14 @@ covers-kept (d ∷ cs) c h e =
       | inl here ↦
           let sub = subset-distinct d c here in
           ap (λ b. covers (if not b then distinct d ∷ kept cs else kept cs) (distinct c))
-            (subset_no_opposites (distinct d) (distinct c) sub e)
+          (subset_no_opposites (distinct d) (distinct c) sub e)
           ∙ or_left (is_subset (distinct d) (distinct c)) (covers (kept cs) (distinct c)) sub
       | inr more ↦ elim (has_opposites (distinct d))
-        as (λ b. covers (if not b then distinct d ∷ kept cs else kept cs) (distinct c) ≡ true) [
-        | true ↦ covers-kept cs c more e
-        | false ↦ or_right (is_subset (distinct d) (distinct c)) (covers (kept cs) (distinct c))
-          (covers-kept cs c more e)
-      ]
+          as (λ b. covers (if not b then distinct d ∷ kept cs else kept cs) (distinct c) ≡ true) [
+            | true ↦ covers-kept cs c more e
+            | false ↦ or_right (is_subset (distinct d) (distinct c)) (covers (kept cs) (distinct c))
+                (covers-kept cs c more e)
+          ]
     ]
 
 -- each clause of the second list is covered by the first
@@ -177,7 +181,7 @@ kept_each : (cs ds : List (List Literal)) → AreCovered cs ds → AreCovered (k
 kept_each cs [] h = tt
 kept_each cs (d ∷ ds) h =
     elim (has_opposites (distinct d)) as (λ b. has_opposites (distinct d) ≡ b
-        → AreCovered (kept cs) (if not b then distinct d ∷ kept ds else kept ds)) [
+    → AreCovered (kept cs) (if not b then distinct d ∷ kept ds else kept ds)) [
       | true ↦ λ e. kept_each cs ds h.1
       | false ↦ λ e. (covers-kept cs d h.0 e, kept_each cs ds h.1)
     ] refl
@@ -192,7 +196,7 @@ pub all_reverse : {X : Type 0} (P : X → Type 0) (xs : List X) → AllByRecursi
 all_reverse P [] h = tt
 all_reverse P (x ∷ xs) h =
     subst (AllByRecursion P) (sym (reverse_onto xs x []))
-      (all_append P (reverse xs) (x ∷ []) (all_reverse P xs h.1) (h.0, tt))
+    (all_append P (reverse xs) (x ∷ []) (all_reverse P xs h.1) (h.0, tt))
 
 reversed_each : (cs ds : List (List Literal)) → AreCovered cs ds → AreCovered (reverse cs) ds
 reversed_each cs [] h = tt
@@ -202,4 +206,4 @@ pub covered_kept : (cs ds : List (List Literal)) → AreCovered cs ds
     → AreCovered (kept (reverse cs)) (kept (reverse ds))
 covered_kept cs ds h =
     kept_each (reverse cs) (reverse ds) (all_reverse (λ c. covers (reverse cs) c ≡ true) ds
-      (reversed_each cs ds h))
+    (reversed_each cs ds h))

@@ -66,12 +66,12 @@ ended_log p ls i e = accepted_log (seen_given p) ls (log_now p ls i e.stays) e.r
 pub not_plain : (s : Search) (p : Problem) (ls : List LogLine) (A : List Literal) → IsProblem p
     → Runs s p ls → IsQuiet (s.store).slots A
     → IsRefutedByHints (map (λ g. g.1) (take p.first (p.given).items))
-        ⊎ Contains (map (λ g. g.1) (seen_given p)) []
+    ⊎ Contains (map (λ g. g.1) (seen_given p)) []
     → ⊥
 not_plain s p ls A i r quiet h =
     plain_open (s.store).slots A p.first (p.given).items r.running.recorded.plain quiet
     (subst (λ g. IsRefutedByHints (map (λ x. x.1) (take p.first (p.given).items))
-          ⊎ Contains (map (λ x. x.1) g) []) (given_seen p i) h)
+    ⊎ Contains (map (λ x. x.1) g) []) (given_seen p i) h)
 
 -- no line added the empty clause
 pub not_refuted : (ls : List LogLine) → AddsNoEmptyClause ls → is_refuted ls ≡ false
@@ -83,14 +83,22 @@ pub solver_runs : (s : Search) (p : Problem) (ls : List LogLine) (refuted failed
     → IsProblem p → Runs s p ls → refuted ≡ false → IsSolver s p ls refuted failed
 solver_runs s p ls refuted failed i r e =
     let log = r.running.recorded.log in
-    record { problem = i; lines = log.stays; refuted_is = e ∙ sym (not_refuted ls log.unrefuted);
-        running = λ f u. r }
+    record {
+      problem = i;
+      lines = log.stays;
+      refuted_is = e ∙ sym (not_refuted ls log.unrefuted);
+      running = λ f u. r;
+    }
 
 pub solver_fails : (s : Search) (p : Problem) (ls : List LogLine) (refuted : Bool) → IsProblem p
     → StaysOpen p ls → refuted ≡ false → IsSolver s p ls refuted true
 solver_fails s p ls refuted i o e =
-    record { problem = i; lines = o.stays; refuted_is = e ∙ sym (not_refuted ls o.unrefuted);
-      running = λ f u. absurd (true≢false f) }
+    record {
+      problem = i;
+      lines = o.stays;
+      refuted_is = e ∙ sym (not_refuted ls o.unrefuted);
+      running = λ f u. absurd (true≢false f);
+    }
 
 -- what an end or an answer says
 pub answered_log : (s : Search) (p : Problem) (ls : List LogLine) (b : BudgetState) (o : Outcome)
@@ -102,7 +110,7 @@ answered_log s p ls b Limit i a = log_now p ls i a.runs.running.recorded.log.sta
 pub plain_unsat : (s : Search) (p : Problem) (ls : List LogLine) (b : BudgetState) (o : Outcome)
     → IsProblem p → IsAnswer s p ls b o
     → IsRefutedByHints (map (λ g. g.1) (take p.first (p.given).items))
-        ⊎ Contains (map (λ g. g.1) (seen_given p)) []
+    ⊎ Contains (map (λ g. g.1) (seen_given p)) []
     → o ≡ Unsat
 plain_unsat s p ls b (Sat bits) i a h = absurd (not_plain s p ls a.quiet.0 i a.runs a.quiet.1 h)
 plain_unsat s p ls b Unsat i a h = refl

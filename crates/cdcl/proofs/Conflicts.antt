@@ -30,20 +30,20 @@ level_from-le n (a ∷ T) v m e =
     let step = depth_step n a T in
     elim (cases_Bool (a.literal.variable == v)) [
       | inl s ↦ let same : level_after n a ≡ m = same_Some (level_after n a) m (rw s at e) in
-        omega arith
+          omega arith
       | inr s ↦ let rest : m ≤ level_after n a + depth_of T =
-        level_from-le (level_after n a) T v m (rw s at e) in omega arith
+          level_from-le (level_after n a) T v m (rw s at e) in omega arith
     ]
 
 -- a literal of the current level, or all were false at the end of the level below
 current_or_below : (at : Clauses) (T : List Assigned) (c : List Literal) → HasReasons at [] T
     → 0 < depth_of T → IsFalseUnder c (literals_of T)
     → ((l : Literal) × (contains_literal l c ≡ true) × (level_of T l ≡ depth_of T))
-        ⊎ IsFalseUnder c (literals_of (kept_to (depth_of T - 1) T))
+    ⊎ IsFalseUnder c (literals_of (kept_to (depth_of T - 1) T))
 current_or_below at T [] reasons deep f = inr tt
 current_or_below at T (l ∷ c) reasons deep f =
     let low : level_of T l ≤ 0 + depth_of T =
-      level_from-le 0 T l.variable (level_of T l) (level_is T l f.0) in
+    level_from-le 0 T l.variable (level_of T l) (level_is T l f.0) in
     elim (cases_eq (level_of T l) (depth_of T)) [
       | inl s ↦ inl (l, or_left (literal_eq l l) (contains_literal l c) (literal_eq-refl l), s)
       | inr ne ↦ elim (current_or_below at T c reasons deep f.1) [
@@ -59,21 +59,21 @@ pub is_conflict : (slots : Slots) (T : List Assigned) (r : ℕ) (c : List Litera
     → clause_at slots r ≡ Some c → IsFalseUnder c (literals_of T) → IsConflict T c
 is_conflict slots T r c reasons deep quiet here wrong =
     elim (current_or_below (clause_at slots) T c reasons deep wrong) [
-  | inl w ↦ record { falsified = wrong; literal = w.0; stands = w.1; current = w.2 }
-  | inr f ↦ absurd ((quiet r c here).0 f)
-]
+      | inl w ↦ record { falsified = wrong; literal = w.0; stands = w.1; current = w.2 }
+      | inr f ↦ absurd ((quiet r c here).0 f)
+    ]
 
 pub at_zero : (T : List Assigned) (k : Literal) → contains_literal k (zero_of T) ≡ true
     → level_in T k.variable ≡ Some 0
 at_zero T k m =
     let w = kept_prefix 0 T in
     let k_in : contains_literal k (literals_of T) ≡ true =
-      ap (contains_literal k) (ap literals_of w.1 ∙ literals-append (kept_to 0 T) w.0)
-        ∙ contains_front k (zero_of T) (literals_of w.0) m in
+    ap (contains_literal k) (ap literals_of w.1 ∙ literals-append (kept_to 0 T) w.0)
+    ∙ contains_front k (zero_of T) (literals_of w.0) m in
     let back : contains_literal (negation (negation k)) (literals_of T) ≡ true =
-      ap (λ x. contains_literal x (literals_of T)) (negation_twice k) ∙ k_in in
+    ap (λ x. contains_literal x (literals_of T)) (negation_twice k) ∙ k_in in
     let level : level_in T k.variable ≡ Some (level_of T (negation k)) =
-      level_is T (negation k) back in
+    level_is T (negation k) back in
     let low = in_kept 0 T k (level_of T (negation k)) m level in
     let none : level_of T (negation k) ≡ 0 = omega arith in
     level ∙ ap Some none
@@ -82,15 +82,15 @@ at_zero T k m =
 pub serves_zero : (at : Clauses) (T : List Assigned) (c zs : List Literal) (hints : List ℕ)
     → HasReasons at [] T
     → AllByRecursion (λ h. (d : List Literal) → at h ≡ Some d → (k : Literal)
-        → contains_literal k d ≡ true → level_in T k.variable ≡ Some 0
-        → contains_literal (negation k) (zero_of T) ≡ true
-        → contains_literal (negation k) zs ≡ true) hints
+    → contains_literal k d ≡ true → level_in T k.variable ≡ Some 0
+    → contains_literal (negation k) (zero_of T) ≡ true
+    → contains_literal (negation k) zs ≡ true) hints
     → Serves at (map negation c ++ zero_of T) (map negation c ++ zs) hints
 serves_zero at T c zs hints reasons f = all_weaker _ _ hints (λ h g d e k m t.
     elim (or_cases (contains_literal (negation k) (map negation c))
-        (contains_literal (negation k) (zero_of T))
-        (sym (contains-append (negation k) (map negation c) (zero_of T)) ∙ t)) [
+    (contains_literal (negation k) (zero_of T))
+    (sym (contains-append (negation k) (map negation c) (zero_of T)) ∙ t)) [
       | inl a ↦ contains_front (negation k) (map negation c) zs a
       | inr z ↦ contains_back (negation k) (map negation c) zs
-        (g d e k m (at_zero T (negation k) z) z)
+          (g d e k m (at_zero T (negation k) z) z)
     ]) f

@@ -45,7 +45,7 @@ pub marks_none : (s : Search) (chosen : List (ℕ × ℕ)) (doomed : List Bool)
     → doomed ≡ replicate (length (s.store).slots) false → AreMarked s chosen 0 doomed
 marks_none s chosen doomed fresh =
     let off : (r : ℕ) → is_doomed doomed r ≡ false = λ r. ap (λ x. is_doomed x r) fresh
-      ∙ none_marked (length (s.store).slots) r in
+    ∙ none_marked (length (s.store).slots) r in
     record {
       long = ap length fresh ∙ length-replicate (length (s.store).slots) false;
       may = λ r on. absurd (both_ways (is_doomed doomed r) (off r) on);
@@ -74,7 +74,7 @@ marks_more s chosen first doomed q m may here = record {
   among = λ r on. elim (cases_eq r q) [
     | inl same ↦ (first, omega arith, here ∙ sym same)
     | inr other ↦ let w = m.among r (sym (get_or-set_other doomed q r true false other) ∙ on) in
-      (w.0, (let lt = w.1 in omega arith), w.2)
+        (w.0, (let lt = w.1 in omega arith), w.2)
   ];
 }
 
@@ -90,10 +90,10 @@ pub reasons_stay : (s : Search) (chosen : List (ℕ × ℕ)) (first : ℕ) (doom
     (s.engine).trail
 reasons_stay s chosen first doomed m i d lt =
     unmarked doomed (get_or (s.engine).trail i d).reason
-      (λ r e. elim (cases_Bool (is_doomed doomed r)) as (λ _. is_doomed doomed r ≡ false) [
-  | inl on ↦ absurd ((m.may r on).no_reason i d lt e)
-  | inr off ↦ off
-])
+    (λ r e. elim (cases_Bool (is_doomed doomed r)) as (λ _. is_doomed doomed r ≡ false) [
+      | inl on ↦ absurd ((m.may r on).no_reason i d lt e)
+      | inr off ↦ off
+    ])
 
 -- Deletions.
 
@@ -103,7 +103,7 @@ pub deleting_starts : (s : Search) (f : EngineState) (p : Problem) (ls : List Lo
     → AreMarked s chosen first doomed
     → ((r : ℕ) → is_attached f r ≡ (is_attached s.engine r && not (is_doomed doomed r)))
     → (f.trail ≡ (s.engine).trail) × (f.variables ≡ (s.engine).variables)
-        × (f.failed ≡ (s.engine).failed)
+    × (f.failed ≡ (s.engine).failed)
     → Fits f (s.store).slots → IsDeleting (record s { engine = f }) p ls doomed
 deleting_starts s f p ls chosen first doomed run m detached same fits =
     let searches = run.running.searches in
@@ -112,23 +112,24 @@ deleting_starts s f p ls chosen first doomed run m detached same fits =
       works = same.2 ∙ searches.works;
       fits = fits;
       attached =
-        λ r live. detached r
+          λ r live. detached r
           ∙ ap (λ b. b && not (is_doomed doomed r)) (searches.all_attached r live);
       quiet = λ level below.
           subst (λ T. IsQuiet (s.store).slots (literals_of (kept_to level T))) (sym same.0)
           (searches.quiet level (subst (λ T. level < depth_of T) same.0 below));
       variables = same.1 ∙ run.running.variables;
       units =
-        subst (λ T. NotesUnits (s.store).slots (zero_of T) (depth_of T) (s.units).items s.noted)
+          subst (λ T. NotesUnits (s.store).slots (zero_of T) (depth_of T) (s.units).items s.noted)
           (sym same.0) run.running.units;
       room = room_moved s f s.order run.room same.1 refl;
       past = run.past;
       few = run.few;
       long = m.long;
       droppable = λ r c at on.
-          let may = m.may r on in
-          (subst (λ x. 2 < length x) (same_Some may.clause c (sym may.live ∙ at)) may.long,
-              may.learned);
+          let may = m.may r on in (
+            subst (λ x. 2 < length x) (same_Some may.clause c (sym may.live ∙ at)) may.long,
+            may.learned,
+          );
     }
 
 -- one of them leaves
@@ -136,8 +137,10 @@ pub deleting_more : (s : Search) (k : ℕ) (p : Problem) (ls : List LogLine) (l 
     (doomed : List Bool) (q : ℕ) (c : List Literal) → IsDeleting s p ls doomed
     → clause_at (s.store).slots q ≡ Some c → is_doomed doomed q ≡ true → is_delete l.kind ≡ true
     → l.hints ≡ plain_hints (name_at (s.names).items q ∷ [])
-    → IsDeleting (record s { store = record (s.store) { slots = set (s.store).slots q None };
-          long = k }) p (ls ++ l ∷ []) doomed
+    → IsDeleting (record s {
+      store = record (s.store) { slots = set (s.store).slots q None };
+      long = k;
+    }) p (ls ++ l ∷ []) doomed
 deleting_more s k p ls l doomed q c d live on deletes plain =
     let slots : Slots = (s.store).slots in
     let e : EngineState = s.engine in
@@ -145,21 +148,27 @@ deleting_more s k p ls l doomed q c d live on deletes plain =
     let long : 1 < length c = (let lt = drop.0 in omega arith) in
     record {
       recorded =
-        recorded_delete slots p.stack (tables_of s) (p.frozen).items p.first (p.given).items ls l q
+          recorded_delete slots p.stack (tables_of s) (p.frozen).items p.first
+          (p.given).items ls l q
           c d.recorded live long drop.1 deletes plain;
       works = d.works;
       fits = fits_local e slots (set slots q None) d.fits
           (λ r attached. clause_other slots q r
-              (λ same. both_ways (is_attached e r) (ap (is_attached e) same ∙ d.attached q (c, live)
-                  ∙ ap not on) attached));
+          (λ same. both_ways (is_attached e r) (ap (is_attached e) same ∙ d.attached q (c, live)
+          ∙ ap not on) attached));
       attached = λ r there. d.attached r (there.0, (clause_left slots q r there.0 there.1).1);
       quiet = λ level below r k at. d.quiet level below r k (clause_left slots q r k at).1;
       variables = d.variables;
       units =
-        units_delete slots q c (zero_of e.trail) (depth_of e.trail) (s.units).items s.noted live
+          units_delete slots q c (zero_of e.trail) (depth_of e.trail) (s.units).items s.noted live
           long d.units;
-      room = record { order = d.room.order; analyzer = d.room.analyzer; few = d.room.few;
-          stamps = d.room.stamps; units = d.room.units };
+      room = record {
+        order = d.room.order;
+        analyzer = d.room.analyzer;
+        few = d.room.few;
+        stamps = d.room.stamps;
+        units = d.room.units;
+      };
       past = d.past;
       few = d.few;
       long = d.long ∙ sym (length-set slots q None);
@@ -169,10 +178,10 @@ deleting_more s k p ls l doomed q c d live on deletes plain =
 -- what is marked has left
 pub deleting_ends : (s : Search) (p : Problem) (ls : List LogLine) (doomed : List Bool)
     → IsDeleting s p ls doomed → ((r : ℕ) → is_doomed doomed r ≡ true → IsLive (s.store).slots r
-      → ⊥) → Runs s p ls
+    → ⊥) → Runs s p ls
 deleting_ends s p ls doomed d gone =
     let off : (r : ℕ) → IsLive (s.store).slots r → is_doomed doomed r ≡ false =
-      λ r live. elim (cases_Bool (is_doomed doomed r)) as (λ _. is_doomed doomed r ≡ false) [
+    λ r live. elim (cases_Bool (is_doomed doomed r)) as (λ _. is_doomed doomed r ≡ false) [
       | inl on ↦ absurd (gone r on live)
       | inr not_on ↦ not_on
     ] in
@@ -180,8 +189,13 @@ deleting_ends s p ls doomed d gone =
       running = record {
         recorded = d.recorded;
         searches =
-          record { works = d.works; fits = d.fits; all_attached = λ r live. d.attached r live
-            ∙ ap not (off r live); quiet = d.quiet };
+            record {
+              works = d.works;
+              fits = d.fits;
+              all_attached = λ r live. d.attached r live
+                  ∙ ap not (off r live);
+              quiet = d.quiet;
+            };
         variables = d.variables;
         units = d.units;
       };
@@ -194,7 +208,7 @@ deleting_ends s p ls doomed d gone =
 abbrev pub AreGone : Slots → List (ℕ × ℕ) → ℕ → List Bool → Type 0
 AreGone slots chosen first doomed =
     (i : ℕ) → i < first → is_doomed doomed (get_or chosen i (0, 0)).1 ≡ true
-      → IsLive slots (get_or chosen i (0, 0)).1 → ⊥
+    → IsLive slots (get_or chosen i (0, 0)).1 → ⊥
 
 pub gone_more : (old new : Slots) (chosen : List (ℕ × ℕ)) (first : ℕ) (doomed : List Bool) (q : ℕ)
     → AreGone old chosen first doomed → ((r : ℕ) → IsLive new r → IsLive old r)
@@ -202,12 +216,12 @@ pub gone_more : (old new : Slots) (chosen : List (ℕ × ℕ)) (first : ℕ) (do
     → AreGone new chosen (first + 1) doomed
 gone_more old new chosen first doomed q gone fewer here at i below on live =
     elim (cases_lt i first) [
-  | inl less ↦ gone i less on (fewer _ live)
-  | inr more ↦
-      let same : (get_or chosen i (0, 0)).1 ≡ q =
-        ap (λ j. (get_or chosen j (0, 0)).1) (let e : i ≡ first = omega arith in e) ∙ at in
-      here (subst (λ r. is_doomed doomed r ≡ true) same on) (subst (IsLive new) same live)
-]
+      | inl less ↦ gone i less on (fewer _ live)
+      | inr more ↦
+          let same : (get_or chosen i (0, 0)).1 ≡ q =
+          ap (λ j. (get_or chosen j (0, 0)).1) (let e : i ≡ first = omega arith in e) ∙ at in
+          here (subst (λ r. is_doomed doomed r ≡ true) same on) (subst (IsLive new) same live)
+    ]
 
 pub all_gone : (s : Search) (slots : Slots) (chosen : List (ℕ × ℕ)) (first : ℕ) (doomed : List Bool)
     → AreMarked s chosen (length chosen) doomed → length chosen ≤ first
@@ -216,15 +230,20 @@ pub all_gone : (s : Search) (slots : Slots) (chosen : List (ℕ × ℕ)) (first 
 all_gone s slots chosen first doomed m all gone r on live =
     let w = m.among r on in
     gone w.0 (let lt = w.1 in omega arith) (subst (λ x. is_doomed doomed x ≡ true) (sym w.2) on)
-      (subst (IsLive slots) (sym w.2) live)
+    (subst (IsLive slots) (sym w.2) live)
 
 -- how often clauses were deleted is a count alone
 pub runs_counted : (s : Search) (k : ℕ) (p : Problem) (ls : List LogLine) → Runs s p ls
     → Runs (record s { reductions = k }) p ls
 runs_counted s k p ls r = record {
   running = r.running;
-  room = record { order = r.room.order; analyzer = r.room.analyzer; few = r.room.few;
-      stamps = r.room.stamps; units = r.room.units };
+  room = record {
+    order = r.room.order;
+    analyzer = r.room.analyzer;
+    few = r.room.few;
+    stamps = r.room.stamps;
+    units = r.room.units;
+  };
   past = r.past;
   few = r.few;
 }
@@ -243,9 +262,9 @@ deleting_line c hints n none one id =
     let plain : IsLine (record { kind = Delete; clause = []; hints = Plain n ∷ [] }) = record {
       literals = All-nil (λ (k : Literal). IsId k.variable);
       names =
-        All-cons (λ (h : Hint). IsId (number_in (name_of h))) (Plain n) [] id
+          All-cons (λ (h : Hint). IsId (number_in (name_of h))) (Plain n) [] id
           (All-nil (λ (h : Hint). IsId (number_in (name_of h))));
       deletes = λ d. (refl, All-cons IsPlain (Plain n) [] tt (All-nil IsPlain));
     } in
     subst (λ x. IsLine (record { kind = Delete; clause = x; hints = hints })) (sym none)
-      (subst (λ x. IsLine (record { kind = Delete; clause = []; hints = x })) (sym one) plain)
+    (subst (λ x. IsLine (record { kind = Delete; clause = []; hints = x })) (sym one) plain)

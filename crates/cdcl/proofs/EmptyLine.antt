@@ -31,8 +31,8 @@ pub all_noted : (s : Search) (p : Problem) (ls : List LogLine) (rs : List ℕ) �
 all_noted s p ls rs r full q m c at x x_in f =
     let Z : List Literal = zero_of (s.engine).trail in
     all_at (HasUnit (s.store).slots (s.units).items) Z (negation x)
-      (subst (AllByRecursion (HasUnit (s.store).slots (s.units).items)) (take_all s.noted Z full)
-        r.running.units.have) f
+    (subst (AllByRecursion (HasUnit (s.store).slots (s.units).items)) (take_all s.noted Z full)
+    r.running.units.have) f
 
 pub adds_empty : (s : Search) (p : Problem) (ls : List LogLine) (hints : List Hint) (r : ℕ)
     → Runs s p ls → depth_of (s.engine).trail ≡ 0 → IsFalseClause (s.store).slots s.engine r
@@ -44,24 +44,24 @@ adds_empty s p ls hints r run flat wrong h =
     let z = flat_zero T flat in
     let apart = no_opposites (clause_at slots) T run.running.searches.fits.reasons in
     let in_trail : (y : Literal) → contains_literal y h.zeros ≡ true
-      → contains_literal y (literals_of T) ≡ true = λ y m. ap (contains_literal y) (sym z)
-      ∙ h.within y m in
+    → contains_literal y (literals_of T) ≡ true = λ y m. ap (contains_literal y) (sym z)
+    ∙ h.within y m in
     adds_learned slots (s.names).items (p.given).items ls
-      (record { kind = Empty; clause = []; hints = hints }) (h.units ++ r ∷ [])
-      run.running.recorded.names refl h.spelled
+    (record { kind = Empty; clause = []; hints = hints }) (h.units ++ r ∷ [])
+    run.running.recorded.names refl h.spelled
     (record { no_repeat = refl; no_opposites = refl; small = omega arith })
     (refutes_empty (clause_at slots) h.units h.zeros r wrong.0 h.are_units h.once
-        (λ y m o. apart y (in_trail y m) (in_trail (negation y) o)) wrong.1
+    (λ y m o. apart y (in_trail y m) (in_trail (negation y) o)) wrong.1
     (λ k m. h.serves.0 wrong.0 wrong.1 k m (ap (contains_literal (negation k)) z
-          ∙ all_at (λ y. contains_literal (negation y) (literals_of T) ≡ true) wrong.0 k
-          wrong.2 m)))
+    ∙ all_at (λ y. contains_literal (negation y) (literals_of T) ≡ true) wrong.0 k
+    wrong.2 m)))
 
 pub is_ended : (s : Search) (p : Problem) (ls : List LogLine) (hints : List Hint) → Runs s p ls
     → AddsByHints (p.given).items ls (record { kind = Empty; clause = []; hints = hints })
     → IsEnded p (ls ++ record { kind = Empty; clause = []; hints = hints } ∷ [])
 is_ended s p ls hints run adds =
     let w =
-      answer_unsat (length (p.frozen).items) (p.given).items ls
-        (record { kind = Empty; clause = []; hints = hints }) run.running.recorded.log.stays
-        run.running.recorded.log.unrefuted adds refl in
+    answer_unsat (length (p.frozen).items) (p.given).items ls
+    (record { kind = Empty; clause = []; hints = hints }) run.running.recorded.log.stays
+    run.running.recorded.log.unrefuted adds refl in
     record { stays = w.0; refuted = w.1 }

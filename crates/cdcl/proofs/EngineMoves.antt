@@ -38,8 +38,12 @@ pub runs_moved : (s : Search) (e : EngineState) (o : OrderState) (p : Problem) (
     → IsRunning e (s.store).slots p.stack (tables_of s) (p.frozen).items p.first (p.given).items ls
     → Runs (moved_to s e o) p ls
 runs_moved s e o p ls r same order running =
-    record { running = running; room = room_moved s e o r.room same order; past = r.past;
-      few = r.few }
+    record {
+      running = running;
+      room = room_moved s e o r.room same order;
+      past = r.past;
+      few = r.few;
+    }
 
 pub literals_within : (T : List Assigned) (n : ℕ)
     → All (λ a. (0 < a.literal.variable) × (a.literal.variable ≤ n)) T
@@ -48,4 +52,4 @@ literals_within T n small =
     let P : Assigned → Type 0 = λ a. (0 < a.literal.variable) × (a.literal.variable ≤ n) in
     let Q : Assigned → Type 0 = λ a. a.literal.variable ≤ n in
     All-map (λ (l : Literal). l.variable ≤ n) (λ a. a.literal) T
-      (All-weaker P Q (λ a h. h.1) T small)
+    (All-weaker P Q (λ a h. h.1) T small)

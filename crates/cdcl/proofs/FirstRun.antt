@@ -45,11 +45,11 @@ places_low : (n : ℕ) (slots : Slots) (i : ℕ) → i < length (places_from n s
 places_low n [] i lt = absurd (omega arith)
 places_low n (None ∷ slots) i lt =
     (let h : n + 1 ≤ get_or (places_from (n + 1) slots) i 0 = places_low (n + 1) slots i lt in
-        omega arith)
+    omega arith)
 places_low n (Some c ∷ slots) zero lt = omega arith
 places_low n (Some c ∷ slots) (suc i) lt =
     (let h : n + 1 ≤ get_or (places_from (n + 1) slots) i 0 = places_low (n + 1) slots i
-        (omega arith) in omega arith)
+    (omega arith) in omega arith)
 
 places_rise : (n : ℕ) (slots : Slots) (i j : ℕ) → i < j → j < length (places_from n slots)
     → get_or (places_from n slots) i 0 < get_or (places_from n slots) j 0
@@ -58,14 +58,14 @@ places_rise n (None ∷ slots) i j lt within = places_rise (n + 1) slots i j lt 
 places_rise n (Some c ∷ slots) zero zero lt within = absurd (omega arith)
 places_rise n (Some c ∷ slots) zero (suc j) lt within =
     (let h : n + 1 ≤ get_or (places_from (n + 1) slots) j 0 = places_low (n + 1) slots j
-        (omega arith) in omega arith)
+    (omega arith) in omega arith)
 places_rise n (Some c ∷ slots) (suc i) zero lt within = absurd (omega arith)
 places_rise n (Some c ∷ slots) (suc i) (suc j) lt within =
     places_rise (n + 1) slots i j (omega arith) (omega arith)
 
 place_live : (n : ℕ) (slots : Slots) (i : ℕ) → i < length (places_from n slots)
     → (r : ℕ) × (c : List Literal) × (get_or (places_from n slots) i 0 ≡ n + r)
-        × (clause_at slots r ≡ Some c)
+    × (clause_at slots r ≡ Some c)
 place_live n [] i lt = absurd (omega arith)
 place_live n (None ∷ slots) i lt =
     let w = place_live (n + 1) slots i lt in (suc w.0, w.1, w.2 ∙ omega arith, w.3)
@@ -114,7 +114,7 @@ distinct_apart [] j k d lt within e = absurd (omega arith)
 distinct_apart (i ∷ is) zero zero d lt within e = absurd (omega arith)
 distinct_apart (i ∷ is) zero (suc k) d lt within e =
     both_ways (nat_eq i (get_or is k 0)) (All-from_recursion (λ y. nat_eq i y ≡ false) is
-        (IsDistinct-head nat_eq i is d) k 0 (omega arith)) (eq-eqb i (get_or is k 0) e)
+    (IsDistinct-head nat_eq i is d) k 0 (omega arith)) (eq-eqb i (get_or is k 0) e)
 distinct_apart (i ∷ is) (suc j) zero d lt within e = absurd (omega arith)
 distinct_apart (i ∷ is) (suc j) (suc k) d lt within e =
     distinct_apart is j k (IsDistinct-tail nat_eq i is d) (omega arith) (omega arith) e
@@ -201,10 +201,11 @@ module _ (cs : List (List Literal)) (slots : Slots) (stack : StackState) (ls : L
 
   pub left_numbers : length cs + added_count ls < 2 ^ 62
       → All (λ n. IsId (number_in n.1)) stack.names
-  left_numbers few i d lt =
-      (first.from_one i d lt,
-          (let b = number_below (get_or stack.names i d).1 (length cs) (length cs + added_count ls)
-            (id_below i d lt) in omega arith))
+  left_numbers few i d lt = (
+    first.from_one i d lt,
+    (let b = number_below (get_or stack.names i d).1 (length cs) (length cs + added_count ls)
+        (id_below i d lt) in omega arith),
+  )
 
   -- a live clause stands in the list
   listed_at : (r : ℕ) (c : List Literal) → clause_at slots r ≡ Some c
@@ -224,12 +225,12 @@ module _ (cs : List (List Literal)) (slots : Slots) (stack : StackState) (ls : L
         w.only
         (λ j k d e a b s.
         let wide : length (map (λ (n : ℕ × Name). id_of base n.1) stack.names)
-            ≡ length stack.names = length-map stack.names (λ (n : ℕ × Name). id_of base n.1) in
+        ≡ length stack.names = length-map stack.names (λ (n : ℕ × Name). id_of base n.1) in
         let same : j ≡ k =
-          distinct_same (map (λ (n : ℕ × Name). id_of base n.1) stack.names) j k w.differ
-            (omega arith) (omega arith)
+        distinct_same (map (λ (n : ℕ × Name). id_of base n.1) stack.names) j k w.differ
+        (omega arith) (omega arith)
         (get_or-map (λ (n : ℕ × Name). id_of base n.1) stack.names j d 0 a ∙ s
-            ∙ sym (get_or-map (λ (n : ℕ × Name). id_of base n.1) stack.names k e 0 b)) in
+        ∙ sym (get_or-map (λ (n : ℕ × Name). id_of base n.1) stack.names k e 0 b)) in
         ap (λ i. (get_or stack.names i d).0) same
         ∙ ap (λ (x : ℕ × Name). x.0) (get_or_default stack.names k d e b))
         tabled;
@@ -295,22 +296,26 @@ first_runs s p ls cs slots additions t h given firsts stays open_log counted few
     record {
       recorded = record {
         log =
-          record { stays = subst (λ x. StaysLogOver (length (p.frozen).items) x ls)
-            (sym given) stays; unrefuted = unrefuted ls open_log; counted = t.counted ∙ counted };
+            record {
+              stays = subst (λ x. StaysLogOver (length (p.frozen).items) x ls)
+                  (sym given) stays;
+              unrefuted = unrefuted ls open_log;
+              counted = t.counted ∙ counted;
+            };
         names = subst (λ x. NamesStore slots (s.names).items x ls) (sym given) named;
         numbers = t.numbers;
         many_units = ap length t.units ∙ length-replicate n.variables None;
         kept = (let a = t.kept in let b = t.counted in omega arith);
         not_frozen = not_frozen;
         back =
-          λ bits long sat. subst
+            λ bits long sat. subst
             (All (λ g. Satisfies (assignment_of (extended n.removed bits)) g.1)) (sym given)
             (all_given (Satisfies (assignment_of (extended n.removed bits))) cs
-                (back bits (omega (arith, long))
+            (back bits (omega (arith, long))
             (all_live (Satisfies (assignment_of bits)) slots
-                (λ r c e. sat r c e (subst (λ k. is_kept_name k (name_at (s.names).items r) ≡ true)
-                    (sym (t.kept ∙ counted))
-                    (all_kept cs slots n ls h (s.names).items t.named r c e)))))
+            (λ r c e. sat r c e (subst (λ k. is_kept_name k (name_at (s.names).items r) ≡ true)
+            (sym (t.kept ∙ counted))
+            (all_kept cs slots n ls h (s.names).items t.named r c e)))))
             );
         plain = λ w. (let found = plain (elim w [
           | inl a ↦ subst IsRefutedByHints all a
@@ -326,9 +331,9 @@ first_runs s p ls cs slots additions t h given firsts stays open_log counted few
       };
       variables = t.variables;
       units = subst (λ T. NotesUnits slots (zero_of T) (depth_of T) (s.units).items s.noted)
-        (sym t.trail)
+          (sym t.trail)
           (subst (λ k. NotesUnits slots [] 0 (s.units).items k) (sym t.noted)
-              (record { have = tt; within = omega arith; all = λ deep. omega arith }));
+          (record { have = tt; within = omega arith; all = λ deep. omega arith }));
     } in
     record {
       running = subst
@@ -353,11 +358,11 @@ pub left_from : (cs ds : List (List Literal)) (slots : Slots) (stack : StackStat
     (ls : List LogLine)
     → ds ≡ cs
     → ((base : ℕ) → IsBaseOf (given_of ds) base
-        → HoldsWhatIsLive slots stack.names base (log_live (given_of ds) base ls))
+    → HoldsWhatIsLive slots stack.names base (log_live (given_of ds) base ls))
     → All (IsFormulaClause stack.variables) (live_clauses slots) → IsLeft cs slots stack ls
 left_from cs ds slots stack ls e live left = record {
   live =
-    subst (λ x. (base : ℕ) → IsBaseOf (given_of x) base
+      subst (λ x. (base : ℕ) → IsBaseOf (given_of x) base
       → HoldsWhatIsLive slots stack.names base (log_live (given_of x) base ls)) e live;
   left = left;
 }
@@ -386,6 +391,6 @@ new_problem f p cs h same wide given firsts low high =
       no_fewer = low;
       given_small = subst (All (λ g. IsFormulaClause (length (p.frozen).items) g.1)) (sym given)
           (all_given (IsFormulaClause (length (p.frozen).items)) cs
-              (subst (λ n. All (IsFormulaClause n) cs) (sym wide)
-                (subst (All (IsFormulaClause f.variables)) (sym same) h.clauses)));
+          (subst (λ n. All (IsFormulaClause n) cs) (sym wide)
+          (subst (All (IsFormulaClause f.variables)) (sym same) h.clauses)));
     }

@@ -26,11 +26,11 @@ pub frozen_small : (frozen : List Bool) (c : List Literal) → All (IsFrozen fro
 frozen_small frozen [] fixed ones = omega arith
 frozen_small frozen (l ∷ c) fixed ones =
     let here : l.variable - 1 < length frozen =
-      slice_get_within frozen (l.variable - 1) true (All-head (IsFrozen frozen) l c fixed) in
+    slice_get_within frozen (l.variable - 1) true (All-head (IsFrozen frozen) l c fixed) in
     let one : 0 < l.variable = All-head (λ (k : Literal). 0 < k.variable) l c ones in
     let rest =
-      frozen_small frozen c (All-tail (IsFrozen frozen) l c fixed)
-        (All-tail (λ (k : Literal). 0 < k.variable) l c ones) in
+    frozen_small frozen c (All-tail (IsFrozen frozen) l c fixed)
+    (All-tail (λ (k : Literal). 0 < k.variable) l c ones) in
     omega arith
 
 pub named_more : (c : List Literal) (i : ℕ) (k : Literal) → i < length c → k ≡ get_or c i k
@@ -38,26 +38,26 @@ pub named_more : (c : List Literal) (i : ℕ) (k : Literal) → i < length c →
     → All (λ l. 0 < l.variable) (take (i + 1) c)
 named_more c i k lt at one all =
     subst (All (λ (l : Literal). 0 < l.variable)) (sym (take_more c i k lt))
-      (All-push (λ (l : Literal). 0 < l.variable) (take i c) (get_or c i k) all
-        (subst (λ (l : Literal). 0 < l.variable) at one))
+    (All-push (λ (l : Literal). 0 < l.variable) (take i c) (get_or c i k) all
+    (subst (λ (l : Literal). 0 < l.variable) at one))
 
 pub same_problem : (p q : Problem) → IsProblem p → (q.given).items ≡ (p.given).items
     → q.stack ≡ p.stack → q.frozen ≡ p.frozen → q.first ≡ p.first → IsProblem q
 same_problem p q i given stack frozen first = record {
   numbered = subst (λ g. given_of (map (λ x. x.1) (take q.first g)) ≡ take q.first g) (sym given)
-    (subst (λ k. given_of (map (λ x. x.1) (take k (p.given).items)) ≡ take k (p.given).items)
+      (subst (λ k. given_of (map (λ x. x.1) (take k (p.given).items)) ≡ take k (p.given).items)
       (sym first) i.numbered);
   first_within =
-    subst (λ g. q.first ≤ length g) (sym given)
+      subst (λ g. q.first ≤ length g) (sym given)
       (subst (λ k. k ≤ length (p.given).items) (sym first) i.first_within);
   based = subst (λ g. (base : ℕ) × IsBaseOf g base) (sym given) i.based;
   few_given = subst (λ f. length f.items < 2 ^ 26) (sym frozen) i.few_given;
   few = subst (λ s. s.variables < 2 ^ 27) (sym stack) i.few;
   no_fewer =
-    subst (λ f. length f.items ≤ (q.stack).variables) (sym frozen)
+      subst (λ f. length f.items ≤ (q.stack).variables) (sym frozen)
       (subst (λ s. length (p.frozen).items ≤ s.variables) (sym stack) i.no_fewer);
   given_small = subst (λ f. All (λ g. IsFormulaClause (length f.items) g.1) (q.given).items)
-    (sym frozen) (subst (All (λ g. IsFormulaClause (length (p.frozen).items) g.1))
+      (sym frozen) (subst (All (λ g. IsFormulaClause (length (p.frozen).items) g.1))
       (sym given) i.given_small);
 }
 
@@ -67,33 +67,37 @@ pub problem_gives : (p q : Problem) (n : Name) (c : List Literal) → IsProblem 
     → greatest_variable c ≤ length (p.frozen).items → IsProblem q
 problem_gives p q n c i gives fresh once apart ones small =
     let front : take p.first ((p.given).items ++ (n, c) ∷ []) ≡ take p.first (p.given).items =
-      take-append-le p.first (p.given).items ((n, c) ∷ []) i.first_within in
+    take-append-le p.first (p.given).items ((n, c) ∷ []) i.first_within in
     let named : (p.given).items ++ (Formula fresh.0, c) ∷ [] ≡ (p.given).items ++ (n, c) ∷ [] =
-      ap (λ x. (p.given).items ++ (x, c) ∷ []) (sym fresh.1) in
+    ap (λ x. (p.given).items ++ (x, c) ∷ []) (sym fresh.1) in
     record {
       numbered =
-        subst (λ g. given_of (map (λ x. x.1) (take q.first g)) ≡ take q.first g) (sym gives.given)
+          subst (λ g. given_of (map (λ x. x.1) (take q.first g)) ≡ take q.first g) (sym gives.given)
           (subst (λ k. given_of (map (λ x. x.1) (take k ((p.given).items ++ (n, c) ∷ [])))
-                ≡ take k ((p.given).items ++ (n, c) ∷ [])) (sym gives.first)
+          ≡ take k ((p.given).items ++ (n, c) ∷ [])) (sym gives.first)
           (subst (λ g. given_of (map (λ x. x.1) g) ≡ g) (sym front) i.numbered));
       first_within =
-        subst (λ g. q.first ≤ length g) (sym gives.given)
+          subst (λ g. q.first ≤ length g) (sym gives.given)
           (subst (λ k. k ≤ length ((p.given).items ++ (n, c) ∷ [])) (sym gives.first)
           (let w = i.first_within in omega (arith, length-append (p.given).items ((n, c) ∷ []))));
       based =
-        subst (λ g. (base : ℕ) × IsBaseOf g base) (named ∙ sym gives.given)
+          subst (λ g. (base : ℕ) × IsBaseOf g base) (named ∙ sym gives.given)
           (based_given (p.given).items fresh.0 c i.based);
       few_given = subst (λ f. length f.items < 2 ^ 26) (sym gives.frozen) i.few_given;
       few = subst (λ s. s.variables < 2 ^ 27) (sym gives.stack) i.few;
       no_fewer =
-        subst (λ f. length f.items ≤ (q.stack).variables) (sym gives.frozen)
+          subst (λ f. length f.items ≤ (q.stack).variables) (sym gives.frozen)
           (subst (λ s. length (p.frozen).items ≤ s.variables) (sym gives.stack) i.no_fewer);
       given_small = subst (λ f. All (λ g. IsFormulaClause (length f.items) g.1) (q.given).items)
-        (sym gives.frozen)
+          (sym gives.frozen)
           (subst (All (λ g. IsFormulaClause (length (p.frozen).items) g.1)) (sym gives.given)
           (All-push (λ (g : Name × List Literal). IsFormulaClause (length (p.frozen).items) g.1)
-              (p.given).items (n, c) i.given_small (record { no_repeat = once; no_opposites = apart;
-                  from_one = ones; small = small })));
+          (p.given).items (n, c) i.given_small (record {
+            no_repeat = once;
+            no_opposites = apart;
+            from_one = ones;
+            small = small;
+          })));
     }
 
 pub lines_given : (p q : Problem) (n : Name) (c : List Literal) (ls : List LogLine)
@@ -103,27 +107,29 @@ pub lines_given : (p q : Problem) (n : Name) (c : List Literal) (ls : List LogLi
 lines_given p q n c ls gives small stays =
     subst (λ f. StaysLogOver (length f.items) (q.given).items ls) (sym gives.frozen)
     (subst (λ g. StaysLogOver (length (p.frozen).items) g ls) (sym gives.given)
-        (log_given (length (p.frozen).items) (p.given).items n c ls small stays))
+    (log_given (length (p.frozen).items) (p.given).items n c ls small stays))
 
 pub lines_same : (p q : Problem) (ls : List LogLine) → (q.given).items ≡ (p.given).items
     → q.frozen ≡ p.frozen → StaysLogOver (length (p.frozen).items) (p.given).items ls
     → StaysLogOver (length (q.frozen).items) (q.given).items ls
 lines_same p q ls given frozen stays =
     subst (λ f. StaysLogOver (length f.items) (q.given).items ls) (sym frozen)
-      (subst (λ g. StaysLogOver (length (p.frozen).items) g ls) (sym given) stays)
+    (subst (λ g. StaysLogOver (length (p.frozen).items) g ls) (sym given) stays)
 
 -- What the solver is then.
 
 abbrev pub formula_of : Problem → Cnf
 formula_of p =
-    record { variables = length (p.frozen).items;
-      clauses = map (λ g. g.1) (take p.first (p.given).items) }
+    record {
+      variables = length (p.frozen).items;
+      clauses = map (λ g. g.1) (take p.first (p.given).items);
+    }
 
 pub formula_same : (p q : Problem) → (q.given).items ≡ (p.given).items → q.frozen ≡ p.frozen
     → q.first ≡ p.first → formula_of q ≡ formula_of p
 formula_same p q given frozen first =
     let wide : length (q.frozen).items ≡ length (p.frozen).items =
-      ap (λ f. length f.items) frozen in
+    ap (λ f. length f.items) frozen in
     λ i. record { variables = wide i; clauses = map (λ g. g.1) (take (first i) (given i)) }
 
 pub gives_solver : (s t : Search) (p q : Problem) (n : Name) (c : List Literal) (ls : List LogLine)
@@ -139,8 +145,13 @@ gives_solver s t p q n c ls refuted failed i works gives fresh id fixed once apa
       lines = lines_given p q n c ls gives small i.lines;
       refuted_is = i.refuted_is;
       running =
-        λ f u. takes u ls (record { fresh = fresh; frozen = fixed; id = id; from_one = ones;
-            small = small }) i.problem.first_within (i.running f u);
+          λ f u. takes u ls (record {
+            fresh = fresh;
+            frozen = fixed;
+            id = id;
+            from_one = ones;
+            small = small;
+          }) i.problem.first_within (i.running f u);
     }
 
 pub fails_solver : (s t : Search) (p q : Problem) (ls : List LogLine) (refuted failed : Bool)

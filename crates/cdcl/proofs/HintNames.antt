@@ -37,6 +37,6 @@ pub hint_ids : (slots : Slots) (names : List Name) (T : List Assigned) (rs : Lis
 hint_ids slots names T rs hints h long ids live =
     subst (All (λ x. IsId (number_in (name_of x)))) (sym h.spelled)
     (All-from_recursion (λ x. IsId (number_in (name_of x)))
-        (plain_hints (map (name_at names) (h.units ++ rs)))
+    (plain_hints (map (name_at names) (h.units ++ rs)))
     (plain_ids slots names (h.units ++ rs) long ids
-        (all_join (IsLive slots) h.units rs (units_live slots h.units h.zeros h.are_units) live)))
+    (all_join (IsLive slots) h.units rs (units_live slots h.units h.zeros h.are_units) live)))

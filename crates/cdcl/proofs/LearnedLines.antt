@@ -35,10 +35,11 @@ new_to_log slots names base at c n new i d none e = let w = n.only i d e in new 
 
 pub by_rup : (base : ℕ) (at : Clauses) (l : LogLine) (ns : List Name) → l.hints ≡ plain_hints ns
     → Refutes at (map negation l.clause) (map (id_of base) ns) → IsByRup base at l
-by_rup base at l ns e r =
-    (ap (group_ids base) e ∙ groups-plain base ns,
-        subst (Refutes at (map negation l.clause))
-        (sym (ap (leading_ids base) e ∙ leading-plain base ns)) r)
+by_rup base at l ns e r = (
+  ap (group_ids base) e ∙ groups-plain base ns,
+  subst (Refutes at (map negation l.clause))
+      (sym (ap (leading_ids base) e ∙ leading-plain base ns)) r,
+)
 
 -- the clause has no opposites, since all of it is false
 pub no_opposites_false : (c A : List Literal) → NoOpposites A → IsFalseUnder c A
@@ -47,9 +48,9 @@ no_opposites_false [] A n f = refl
 no_opposites_false (l ∷ c) A n f =
     or_from (contains_literal (negation l) c) (has_opposites c)
     (elim (cases_Bool (contains_literal (negation l) c))
-        as (λ _. contains_literal (negation l) c ≡ false) [
+    as (λ _. contains_literal (negation l) c ≡ false) [
       | inl t ↦ absurd (n (negation l) f.0 (all_at (λ k. contains_literal (negation k) A ≡ true) c
-            (negation l) f.1 t))
+          (negation l) f.1 t))
       | inr e ↦ e
     ])
     (no_opposites_false c A n f.1)
@@ -59,13 +60,13 @@ above_zero : (T : List Assigned) (c : List Literal) (back : ℕ) (k : Literal) �
     → 0 < depth_of T → contains_literal k c ≡ true → 0 < level_of T k
 above_zero T c back k w deep m =
     elim (or_cases (literal_eq k w.first) (contains_literal k w.others)
-      (sym (ap (contains_literal k) w.split) ∙ m)) [
-  | inl s ↦
-      subst (λ x. 0 < x) (sym (ap (level_of T) (literal_eq-true k w.first s) ∙ w.current)) deep
-  | inr o ↦
-      all_at (λ l. 0 < level_of T l) w.others k
-      (recursion_from_All (λ l. 0 < level_of T l) w.others w.above_zero) o
-]
+    (sym (ap (contains_literal k) w.split) ∙ m)) [
+      | inl s ↦
+          subst (λ x. 0 < x) (sym (ap (level_of T) (literal_eq-true k w.first s) ∙ w.current)) deep
+      | inr o ↦
+          all_at (λ l. 0 < level_of T l) w.others k
+          (recursion_from_All (λ l. 0 < level_of T l) w.others w.above_zero) o
+    ]
 
 pub kept_in : (T : List Assigned) (z : Literal) → contains_literal z (zero_of T) ≡ true
     → contains_literal z (literals_of T) ≡ true
@@ -79,38 +80,37 @@ pub zero_open : (T : List Assigned) (c : List Literal) (back : ℕ) (z : Literal
     → NoOpposites (literals_of T) → IsAsserting T c back → 0 < depth_of T
     → contains_literal z (zero_of T) ≡ true
     → (contains_literal z (map negation c) ≡ false)
-        × (contains_literal (negation z) (map negation c) ≡ false)
+    × (contains_literal (negation z) (map negation c) ≡ false)
 zero_open T c back z apart w deep at_zero =
     let wrong : (k : Literal) → contains_literal k c ≡ true
-      → contains_literal (negation k) (literals_of T) ≡ true =
-      λ k m. all_at (λ l. contains_literal (negation l) (literals_of T) ≡ true) c k w.falsified m in
-        (
+    → contains_literal (negation k) (literals_of T) ≡ true =
+    λ k m. all_at (λ l. contains_literal (negation l) (literals_of T) ≡ true) c k w.falsified m in (
       contains_negation z c
-        ∙ elim (cases_Bool (contains_literal (negation z) c))
-        as (λ _. contains_literal (negation z) c ≡ false) [
-        | inr e ↦ e
-        | inl t ↦
-            let o =
-              open_below T (negation z) 0 (wrong (negation z) t)
+          ∙ elim (cases_Bool (contains_literal (negation z) c))
+          as (λ _. contains_literal (negation z) c ≡ false) [
+            | inr e ↦ e
+            | inl t ↦
+                let o =
+                open_below T (negation z) 0 (wrong (negation z) t)
                 (above_zero T c back (negation z) w deep t) in
-            absurd (both_ways _ o.1 (ap (λ x. contains_literal x (zero_of T)) (negation_twice z)
-                  ∙ at_zero))
-      ],
+                absurd (both_ways _ o.1 (ap (λ x. contains_literal x (zero_of T)) (negation_twice z)
+                ∙ at_zero))
+          ],
       contains_negation (negation z) c
-        ∙ elim (cases_Bool (contains_literal (negation (negation z)) c))
-        as (λ _. contains_literal (negation (negation z)) c ≡ false) [
-        | inr e ↦ e
-        | inl t ↦
-            let z_in : contains_literal z c ≡ true =
-            ap (λ x. contains_literal x c) (sym (negation_twice z)) ∙ t in
-            absurd (apart z (kept_in T z at_zero) (wrong z z_in))
-      ],
+          ∙ elim (cases_Bool (contains_literal (negation (negation z)) c))
+          as (λ _. contains_literal (negation (negation z)) c ≡ false) [
+            | inr e ↦ e
+            | inl t ↦
+                let z_in : contains_literal z c ≡ true =
+                ap (λ x. contains_literal x c) (sym (negation_twice z)) ∙ t in
+                absurd (apart z (kept_in T z at_zero) (wrong z z_in))
+          ],
     )
 
 -- literals that are open one by one, apart and without opposites, are open one after another
 pub open_all : (A zs : List Literal)
     → ((z : Literal) → contains_literal z zs ≡ true → (contains_literal z A ≡ false)
-        × (contains_literal (negation z) A ≡ false))
+    × (contains_literal (negation z) A ≡ false))
     → has_repeat zs ≡ false → NoOpposites zs → AreOpen A zs
 open_all A [] each once apart = tt
 open_all A (z ∷ zs) each once apart =
@@ -122,31 +122,30 @@ open_all A (z ∷ zs) each once apart =
           (λ y m.
           let o = each y (or_right (literal_eq y z) (contains_literal y zs) m) in (
             or_from (literal_eq y z) (contains_literal y A)
-              (elim (cases_Bool (literal_eq y z)) as (λ _. literal_eq y z ≡ false) [
-              | inr e ↦ e
-              | inl t ↦ absurd (both_ways _ parts.0
-                  (ap (λ x. contains_literal x zs) (sym (literal_eq-true y z t)) ∙ m))
-            ]) o.0,
+                (elim (cases_Bool (literal_eq y z)) as (λ _. literal_eq y z ≡ false) [
+                  | inr e ↦ e
+                  | inl t ↦ absurd (both_ways _ parts.0
+                      (ap (λ x. contains_literal x zs) (sym (literal_eq-true y z t)) ∙ m))
+                ]) o.0,
             or_from (literal_eq (negation y) z) (contains_literal (negation y) A)
-              (elim (cases_Bool (literal_eq (negation y) z))
+                (elim (cases_Bool (literal_eq (negation y) z))
                 as (λ _. literal_eq (negation y) z ≡ false) [
-              | inr e ↦ e
-              | inl t ↦ absurd (apart y (or_right (literal_eq y z) (contains_literal y zs) m)
-                  (or_left (literal_eq (negation y) z) (contains_literal (negation y) zs) t))
-            ]) o.1,
+                  | inr e ↦ e
+                  | inl t ↦ absurd (apart y (or_right (literal_eq y z) (contains_literal y zs) m)
+                      (or_left (literal_eq (negation y) z) (contains_literal (negation y) zs) t))
+                ]) o.1,
           ))
           parts.1
           (λ y m n. apart y (or_right (literal_eq y z) (contains_literal y zs) m)
-              (or_right (literal_eq (negation y) z) (contains_literal (negation y) zs) n)),
+          (or_right (literal_eq (negation y) z) (contains_literal (negation y) zs) n)),
     )
 
 within_front : (A B C : List Literal) → Within B C → Within (A ++ B) (A ++ C)
 within_front A B C w l m =
-    elim (or_cases (contains_literal l A) (contains_literal l B) (sym (contains-append l A B) ∙ m))
-      [
-  | inl a ↦ contains_front l A C a
-  | inr b ↦ contains_back l A C (w l b)
-]
+    elim (or_cases (contains_literal l A) (contains_literal l B) (sym (contains-append l A B) ∙ m)) [
+      | inl a ↦ contains_front l A C a
+      | inr b ↦ contains_back l A C (w l b)
+    ]
 
 -- the hints of an analysis, after the unit clauses of the literals of level 0 that they need
 pub refutes_alone : (slots : Slots) (T : List Assigned) (c : List Literal) (back : ℕ)
@@ -161,10 +160,10 @@ refutes_alone slots T c back hints us zs reasons w deep refutes within once unit
     let A : List Literal = map negation c in
     refutes_after_units (clause_at slots) A us zs hints units
     (open_all A zs (λ z m. zero_open T c back z apart w deep (within z m)) once
-        (λ z m n. apart z (kept_in T z (within z m))
-          (kept_in T (negation z) (within (negation z) n))))
+    (λ z m n. apart z (kept_in T z (within z m))
+    (kept_in T (negation z) (within (negation z) n))))
     (refutes_served (clause_at slots) (A ++ zero_of T) (A ++ zs) hints
-        (within_front A zs (zero_of T) within) serves refutes)
+    (within_front A zs (zero_of T) within) serves refutes)
 
 -- so the line is a step
 pub adds_learned : (slots : Slots) (names : List Name) (given : Given) (ls : List LogLine)
@@ -179,6 +178,6 @@ adds_learned slots names given ls l hints n adds plain new r = record {
   plain = plain;
   clause = new;
   refutes =
-    λ base above. refutes_named slots names base (log_live given base ls) (n.live base above)
+      λ base above. refutes_named slots names base (log_live given base ls) (n.live base above)
       (map negation l.clause) hints r;
 }

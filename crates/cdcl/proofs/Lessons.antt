@@ -45,8 +45,8 @@ pub refutes_live : (slots : Slots) (A : List Literal) (hints : List ℕ)
     → Refutes (clause_at slots) A hints → AllByRecursion (IsLive slots) hints
 refutes_live slots A hints r =
     subst (AllByRecursion (IsLive slots)) (sym r.split)
-      (all_join (IsLive slots) r.front (r.final ∷ []) (leads_live slots A r.front r.reached r.leads)
-        ((r.clause, r.live), tt))
+    (all_join (IsLive slots) r.front (r.final ∷ []) (leads_live slots A r.front r.reached r.leads)
+    ((r.clause, r.live), tt))
 
 pub live_attached : (e : EngineState) (slots : Slots) (rs : List ℕ) → Searches e slots
     → AllByRecursion (IsLive slots) rs → All (λ r. is_attached e r ≡ true) rs
@@ -60,8 +60,8 @@ pub conflict_of : (e : EngineState) (slots : Slots) (r : ℕ) → Searches e slo
     → IfSome (clause_at slots r) (IsConflict e.trail)
 conflict_of e slots r s deep f =
     subst (λ o. IfSome o (IsConflict e.trail)) (sym f.1)
-      (is_conflict slots e.trail r f.0 s.fits.reasons deep
-        (s.quiet (depth_of e.trail - 1) (omega arith)) f.1 f.2)
+    (is_conflict slots e.trail r f.0 s.fits.reasons deep
+    (s.quiet (depth_of e.trail - 1) (omega arith)) f.1 f.2)
 
 -- above level 0 all of it is noted
 pub all_noted : (slots : Slots) (T : List Assigned) (units : List (Option ℕ)) (noted : ℕ)
@@ -96,9 +96,9 @@ pub asserting_within : (e : EngineState) (slots : Slots) (c : List Literal) (bac
     → Fits e slots → IsAsserting e.trail c back → IsWithin e.variables c
 asserting_within e slots c back fits w =
     false_small (literals_of e.trail) e.variables c
-      (small_literals e.trail e.variables
-        (recursion_from_All (λ (a : Assigned). (0 < a.literal.variable)
-            × (a.literal.variable ≤ e.variables)) e.trail fits.small)) w.falsified
+    (small_literals e.trail e.variables
+    (recursion_from_All (λ (a : Assigned). (0 < a.literal.variable)
+    × (a.literal.variable ≤ e.variables)) e.trail fits.small)) w.falsified
 
 greatest_low : (T : List Assigned) (c : List Literal) (d : ℕ) → All (λ l. level_of T l < d) c
     → greatest_level T c ≤ d
@@ -126,13 +126,16 @@ adds_lesson slots T names given ls c back variables rs hints reasons w deep refu
     let low : greatest_variable c ≤ variables = within.1 in
     adds_learned slots names given ls (record { kind = Learned; clause = c; hints = hints })
     (h.units ++ rs) store refl h.spelled
-    (record { no_repeat = w.no_repeat;
-          no_opposites = no_opposites_false c (literals_of T)
-          (no_opposites (clause_at slots) T reasons) w.falsified; small = omega arith })
+    (record {
+      no_repeat = w.no_repeat;
+      no_opposites = no_opposites_false c (literals_of T)
+          (no_opposites (clause_at slots) T reasons) w.falsified;
+      small = omega arith;
+    })
     (refutes_alone slots T c back rs h.units h.zeros reasons w deep refutes h.within h.once
-        h.are_units
+    h.are_units
     (serves_zero (clause_at slots) T c h.zeros rs reasons
-        (all_weaker _ _ rs (λ r f d at k m level z. f d at k m z) h.serves)))
+    (all_weaker _ _ rs (λ r f d at k m level z. f d at k m z) h.serves)))
 
 -- what was learned, in the words in which the line is written
 pub record IsLesson (s : Search) (p : Problem) (ls : List LogLine) (c : List Literal) (back : ℕ)
@@ -155,8 +158,8 @@ is_lesson s p ls learned c back found rs names hints r deep asserting refuted hi
     let run = r.running in
     let w = subst (λ x. IsAsserting T x back) (sym is_c) asserting in
     let refutes =
-      subst (λ x. IsRefutedBy slots T x rs) (sym is_c)
-        (subst (IsRefutedBy slots T learned) (sym is_rs) refuted) in
+    subst (λ x. IsRefutedBy slots T x rs) (sym is_c)
+    (subst (IsRefutedBy slots T learned) (sym is_rs) refuted) in
     let h = subst (λ x. AreHintsOf slots x T rs hints) is_names hinted in
     let within = asserting_within s.engine slots c back run.searches.fits w in
     record {
@@ -169,7 +172,7 @@ is_lesson s p ls learned c back found rs names hints r deep asserting refuted hi
 pub runs_learned : (m n : Search) (p : Problem) (ls : List LogLine) (l : LogLine)
     (T : List Assigned) (back : ℕ)
     → IsRunning m.engine (m.store).slots p.stack (tables_of m) (p.frozen).items p.first
-      (p.given).items ls
+    (p.given).items ls
     → HasRoom m
     → All (λ x. x ≤ m.additions + 1) (m.stamps).items → IsAsserting T l.clause back
     → (m.engine).trail ≡ kept_to back T → AddsByHints (p.given).items ls l
@@ -180,15 +183,16 @@ runs_learned m n p ls l T back run room past w trail adds placed more few =
     let low : depth_of (m.engine).trail ≤ back =
     subst (λ X. depth_of X ≤ back) (sym trail) (kept_low back T) in
     let ran = run_learn m.engine n.engine slots p.stack (tables_of m) (p.frozen).items p.first
-      (p.given).items ls l T back run w (back_low T l.clause back w) trail low adds (omega arith)
+    (p.given).items ls l T back run w (back_low T l.clause back w) trail low adds (omega arith)
     placed.attached (placed.trail, placed.variables) placed.works placed.fits in
     record {
       running = running_same n.engine n.engine (slots ++ Some l.clause ∷ []) (n.store).slots p.stack
-        (with_addition (tables_of m) (m.units).items m.noted) (tables_of n) (p.frozen).items p.first
-        (p.given).items (ls ++ l ∷ [])
+          (with_addition (tables_of m) (m.units).items m.noted) (tables_of n)
+          (p.frozen).items p.first
+          (p.given).items (ls ++ l ∷ [])
           refl placed.slots
           (tables_same (with_addition (tables_of m) (m.units).items m.noted) (tables_of n)
-              placed.names (ap (λ x. x.items) placed.units) placed.noted placed.kept more)
+          placed.names (ap (λ x. x.items) placed.units) placed.noted placed.kept more)
           ran;
       room = room_placed m n (Added (m.additions + 1)) l.clause room placed;
       past = subst (λ x. All (λ y. y ≤ n.additions) x.items) (sym placed.stamps)
@@ -201,8 +205,13 @@ pub runs_long : (n u : Search) (k : ℕ) (p : Problem) (ls : List LogLine) → u
     → Runs n p ls → Runs u p ls
 runs_long n u k p ls e r = subst (λ (s : Search). Runs s p ls) (sym e) (record {
   running = r.running;
-  room = record { order = r.room.order; analyzer = r.room.analyzer; few = r.room.few;
-      stamps = r.room.stamps; units = r.room.units };
+  room = record {
+    order = r.room.order;
+    analyzer = r.room.analyzer;
+    few = r.room.few;
+    stamps = r.room.stamps;
+    units = r.room.units;
+  };
   past = r.past;
   few = r.few;
 })

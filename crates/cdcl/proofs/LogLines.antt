@@ -53,21 +53,21 @@ step_at_end : (given : Given) (base : ℕ) (ls : List LogLine) (l : LogLine) (af
     → AreSteps (start_over given base) (numbered_lines base (ls ++ l ∷ []))
 step_at_end given base ls l after w s =
     let e : numbered_lines base (ls ++ l ∷ []) ≡ numbered_lines base ls ++ numbered_on base
-      (0 + added_count ls) (l ∷ []) = numbered_on-append base 0 ls (l ∷ []) in
+    (0 + added_count ls) (l ∷ []) = numbered_on-append base 0 ls (l ∷ []) in
     let z : 0 + added_count ls ≡ added_count ls = omega arith in
     let last : Chain (live_of given base ls) (numbered_on base (added_count ls) (l ∷ [])) after =
     (after, s, refl) in
     steps_from_chain (start_over given base) (numbered_lines base (ls ++ l ∷ [])) after
     (subst (λ x. Chain (start_over given base) x after)
-        (sym (e ∙ ap (λ k. numbered_lines base ls ++ numbered_on base k (l ∷ [])) z))
+    (sym (e ∙ ap (λ k. numbered_lines base ls ++ numbered_on base k (l ∷ [])) z))
     (chain_join (start_over given base) (live_of given base ls) after (numbered_lines base ls)
-        (numbered_on base (added_count ls) (l ∷ [])) w last))
+    (numbered_on base (added_count ls) (l ∷ [])) w last))
 
 -- the line over names, which is a step wherever the clauses that are live here are live
 abbrev StepsWhere : Given → List LogLine → LogLine → Type 0
 StepsWhere given ls l = (more : Given) (base : ℕ) → IsBaseOf (given ++ more) base
     → (after : Live) × Step (live_of (given ++ more) base ls)
-      (numbered_line base (added_count ls) l) after
+    (numbered_line base (added_count ls) l) after
 
 log_push : (variables : ℕ) (given : Given) (ls : List LogLine) (l : LogLine)
     → StaysLogOver variables given ls → AddsNoEmptyClause ls
@@ -76,7 +76,7 @@ log_push variables given ls l stays unrefuted own steps more small =
     let old = stays more small in
     record {
       steps = λ base above. let s = steps more base above in
-        step_at_end (given ++ more) base ls l s.0 (old.steps base above) s.1;
+          step_at_end (given ++ more) base ls l s.0 (old.steps base above) s.1;
       stops = stops_push ls l unrefuted;
       groups = All-push (λ k. All IsOwnGroup k.hints) ls l old.groups own;
     }
@@ -84,8 +84,8 @@ log_push variables given ls l stays unrefuted own steps more small =
 -- an addition by hints that refute its negation
 addition_line : (d : Bool) (base before : ℕ) (c : List Literal) (ns : List Name) → d ≡ false
     → (if d then Deletion (base + before) (map (λ h. id_of base (name_of h)) (plain_hints ns))
-        else Addition (base + before + 1) c (leading_ids base (plain_hints ns))
-        (group_ids base (plain_hints ns)))
+    else Addition (base + before + 1) c (leading_ids base (plain_hints ns))
+    (group_ids base (plain_hints ns)))
     ≡ Addition (base + before + 1) c (map (id_of base) ns) []
 addition_line true base before c ns e = absurd (cc)
 addition_line false base before c ns e =
@@ -95,8 +95,8 @@ addition_line false base before c ns e =
 
 deletion_line : (d : Bool) (base before : ℕ) (c : List Literal) (ns : List Name) → d ≡ true
     → (if d then Deletion (base + before) (map (λ h. id_of base (name_of h)) (plain_hints ns))
-        else Addition (base + before + 1) c (leading_ids base (plain_hints ns))
-        (group_ids base (plain_hints ns)))
+    else Addition (base + before + 1) c (leading_ids base (plain_hints ns))
+    (group_ids base (plain_hints ns)))
     ≡ Deletion (base + before) (map (id_of base) ns)
 deletion_line true base before c ns e = ap (λ x. Deletion (base + before) x) (names-plain base ns)
 deletion_line false base before c ns e = absurd (cc)
@@ -129,23 +129,29 @@ pub log_add : (variables : ℕ) (given : Given) (ls : List LogLine) (l : LogLine
     → StaysLogOver variables given (ls ++ l ∷ [])
 log_add variables given ls l stays unrefuted a =
     log_push variables given ls l stays unrefuted
-      (subst (All IsOwnGroup) (sym a.plain) (All-from_recursion IsOwnGroup (plain_hints a.names)
-          (own-plain a.names)))
+    (subst (All IsOwnGroup) (sym a.plain) (All-from_recursion IsOwnGroup (plain_hints a.names)
+    (own-plain a.names)))
     (λ more base above.
     let id : ℕ = base + added_count ls + 1 in
     let live = live_of (given ++ more) base ls in
     let addable : IsAddable live id l.clause =
-      record { rising = omega (arith, last-live_of (given ++ more) base ls);
-        no_repeat = a.clause.no_repeat; no_opposites = a.clause.no_opposites;
-        small = a.clause.small } in
+    record {
+      rising = omega (arith, last-live_of (given ++ more) base ls);
+      no_repeat = a.clause.no_repeat;
+      no_opposites = a.clause.no_opposites;
+      small = a.clause.small;
+    } in
     let r =
-      refutes_covered (log_live given base ls) (log_live (given ++ more) base ls)
-        (live_more given more base ls) (map negation l.clause) (map (id_of base) a.names)
-        (a.refutes base (base_front given more base above)) in (
+    refutes_covered (log_live given base ls) (log_live (given ++ more) base ls)
+    (live_more given more base ls) (map negation l.clause) (map (id_of base) a.names)
+    (a.refutes base (base_front given more base above)) in (
       with_clause live id l.clause,
       subst (λ x. Step live x (with_clause live id l.clause))
-        (sym (line_of_addition base (added_count ls) l a.names a.adds a.plain)) (addable,
-          inl (refl, r), refl),
+          (sym (line_of_addition base (added_count ls) l a.names a.adds a.plain)) (
+            addable,
+            inl (refl, r),
+            refl,
+          ),
     ))
 
 -- a deletion of live names
@@ -156,24 +162,27 @@ pub record DeletesNames (given : Given) (ls : List LogLine) (l : LogLine) : Type
   pub apart : (base : ℕ) → IsBaseOf given base → IsDistinct nat_eq (map (id_of base) names)
   pub live : (base : ℕ) → IsBaseOf given base
       → AllByRecursion (λ i. (c : List Literal) × (log_live given base ls i ≡ Some c))
-        (map (id_of base) names)
+      (map (id_of base) names)
 
 pub log_delete : (variables : ℕ) (given : Given) (ls : List LogLine) (l : LogLine)
     → StaysLogOver variables given ls → AddsNoEmptyClause ls → DeletesNames given ls l
     → StaysLogOver variables given (ls ++ l ∷ [])
 log_delete variables given ls l stays unrefuted a =
     log_push variables given ls l stays unrefuted
-      (subst (All IsOwnGroup) (sym a.plain) (All-from_recursion IsOwnGroup (plain_hints a.names)
-          (own-plain a.names)))
+    (subst (All IsOwnGroup) (sym a.plain) (All-from_recursion IsOwnGroup (plain_hints a.names)
+    (own-plain a.names)))
     (λ more base above.
     let live = live_of (given ++ more) base ls in
     let ids : List ℕ = map (id_of base) a.names in
     let b = base_front given more base above in (
       without_ids live ids,
       subst (λ x. Step live x (without_ids live ids))
-          (sym (line_of_deletion base (added_count ls) l a.names a.deletes a.plain))
-          (a.apart base b, ids_covered (log_live given base ls) (log_live (given ++ more) base ls)
-              (live_more given more base ls) ids (a.live base b), refl),
+          (sym (line_of_deletion base (added_count ls) l a.names a.deletes a.plain)) (
+            a.apart base b,
+            ids_covered (log_live given base ls) (log_live (given ++ more) base ls)
+                (live_more given more base ls) ids (a.live base b),
+            refl,
+          ),
     ))
 
 -- what is live after the line
@@ -183,8 +192,8 @@ pub live-add : (given : Given) (base : ℕ) (ls : List LogLine) (l : LogLine) (n
     ≡ (with_clause (live_of given base ls) (base + added_count ls + 1) l.clause).clause_at
 live-add given base ls l ns d e =
     ap (λ x. x.clause_at) (live_of-append given base ls (l ∷ [])
-        ∙ ap (λ x. live_after (live_of given base ls) (x ∷ []))
-        (line_of_addition base (added_count ls) l ns d e))
+    ∙ ap (λ x. live_after (live_of given base ls) (x ∷ []))
+    (line_of_addition base (added_count ls) l ns d e))
 
 pub live-delete : (given : Given) (base : ℕ) (ls : List LogLine) (l : LogLine) (ns : List Name)
     → is_delete l.kind ≡ true → l.hints ≡ plain_hints ns
@@ -192,5 +201,5 @@ pub live-delete : (given : Given) (base : ℕ) (ls : List LogLine) (l : LogLine)
     ≡ (without_ids (live_of given base ls) (map (id_of base) ns)).clause_at
 live-delete given base ls l ns d e =
     ap (λ x. x.clause_at) (live_of-append given base ls (l ∷ [])
-        ∙ ap (λ x. live_after (live_of given base ls) (x ∷ []))
-        (line_of_deletion base (added_count ls) l ns d e))
+    ∙ ap (λ x. live_after (live_of given base ls) (x ∷ []))
+    (line_of_deletion base (added_count ls) l ns d e))

@@ -63,7 +63,7 @@ pub run_move : (e f : EngineState) (before after : Slots) (stack : StackState) (
     → IsRunning e before stack t frozen first given ls → IsRenaming before after ms
     → IsStrictlyIncreasing (map (λ m. m.0) ms)
     → MovesAttached e f ms → f.trail ≡ renamed_trail ms e.trail → (f.variables ≡ e.variables)
-        × (f.failed ≡ e.failed) → Fits f after
+    × (f.failed ≡ e.failed) → Fits f after
     → length names ≡ length after → All (λ m. name_at names m.1 ≡ name_at t.names m.0) ms
     → All (λ n. IsId (number_in n)) names
     → length units ≡ length t.units
@@ -74,8 +74,8 @@ run_move e f before after stack t frozen first given ls ms names units r renames
     let s = searches_move before after ms e f renames rises r.searches moves trail same.1 fits in
     let d = r.recorded in
     let notes =
-      units_move before after ms (zero_of e.trail) (depth_of e.trail) t.units units t.noted renames
-        moved r.units in
+    units_move before after ms (zero_of e.trail) (depth_of e.trail) t.units units t.noted renames
+    moved r.units in
     record {
       recorded = record {
         log = d.log;
@@ -85,14 +85,14 @@ run_move e f before after stack t frozen first given ls ms names units r renames
         kept = d.kept;
         not_frozen = d.not_frozen;
         back =
-          leads_back before after t.names names t.kept stack given
+            leads_back before after t.names names t.kept stack given
             (kept_move before after t.names names ms t.kept renames along) d.back;
         plain = keeps_plain before after first given (empty_move before after ms renames) d.plain;
       };
       searches = s.0;
       variables = same.0 ∙ r.variables;
       units =
-        subst (λ Z. NotesUnits after Z (depth_of f.trail) units t.noted) (sym s.1)
+          subst (λ Z. NotesUnits after Z (depth_of f.trail) units t.noted) (sym s.1)
           (subst (λ k. NotesUnits after (zero_of e.trail) k units t.noted) (sym s.2) notes);
     }
 
@@ -105,23 +105,24 @@ extended_frozen frozen [] bits v free e = refl
 extended_frozen frozen (r ∷ rs) bits v free e =
     let here = All-head (λ (x : Removed). IsFree frozen x.variable) r rs free in
     let other : v ≢ r.variable - 1 =
-      λ s. (let clash : true ≡ false = same_Some true false (sym e ∙ ap (slice_get frozen) s
-          ∙ here.1) in absurd (cc)) in
+    λ s. (let clash : true ≡ false = same_Some true false (sym e ∙ ap (slice_get frozen) s
+    ∙ here.1) in absurd (cc)) in
     get_or-set_other (extended rs bits) (r.variable - 1) v
-      (becomes_true (assignment_of (extended rs bits)) r) false other
+    (becomes_true (assignment_of (extended rs bits)) r) false other
     ∙ extended_frozen frozen rs bits v
-      (All-tail (λ (x : Removed). IsFree frozen x.variable) r rs free) e
+    (All-tail (λ (x : Removed). IsFree frozen x.variable) r rs free) e
 
 satisfied_there : (t u : Assignment) (c : List Literal) → All (λ l. t l.variable ≡ u l.variable) c
     → Satisfies t c → Satisfies u c
 satisfied_there t u [] same s = s
 satisfied_there t u (l ∷ c) same s =
     let here : literal_value t l ≡ literal_value u l =
-      value_agrees t u l (All-head (λ (k : Literal). t k.variable ≡ u k.variable) l c same) in
+    value_agrees t u l (All-head (λ (k : Literal). t k.variable ≡ u k.variable) l c same) in
     elim (or_cases (literal_value t l) (clause_value t c) s) [
       | inl h ↦ or_left (literal_value u l) (clause_value u c) (sym here ∙ h)
       | inr h ↦ or_right (literal_value u l) (clause_value u c)
-        (satisfied_there t u c (All-tail (λ (k : Literal). t k.variable ≡ u k.variable) l c same) h)
+          (satisfied_there t u c (All-tail (λ (k : Literal). t k.variable ≡ u k.variable) l c same)
+          h)
     ]
 
 bit_same : (bits more : List Bool) (v : ℕ) → 0 < v
@@ -131,7 +132,7 @@ bit_same bits more zero one e = absurd (omega arith)
 bit_same bits more (suc v) one e =
     let back : suc v - 1 ≡ v = omega arith in
     unwrap_or-slice_get bits v false ∙ subst (λ k. get_or bits k false ≡ get_or more k false) back e
-      ∙ sym (unwrap_or-slice_get more v false)
+    ∙ sym (unwrap_or-slice_get more v false)
 
 frozen_same : (frozen : List Bool) (removed : List Removed) (bits : List Bool) (c : List Literal)
     → All (λ r. IsFree frozen r.variable) removed → All (IsFrozen frozen) c
@@ -140,26 +141,31 @@ frozen_same : (frozen : List Bool) (removed : List Removed) (bits : List Bool) (
 frozen_same frozen removed bits c free fixed ones s =
     satisfied_there (assignment_of bits) (assignment_of (extended removed bits)) c
     (λ k d lt. bit_same bits (extended removed bits) (get_or c k d).variable (ones k d lt)
-        (sym (extended_frozen frozen removed bits ((get_or c k d).variable - 1) free
-            (fixed k d lt)))) s
+    (sym (extended_frozen frozen removed bits ((get_or c k d).variable - 1) free
+    (fixed k d lt)))) s
 
 plain_given : (slots : Slots) (first : ℕ) (given : Given) (n : Name) (c : List Literal)
     → first ≤ length given → KeepsPlain slots first given
     → KeepsPlain (slots ++ Some c ∷ []) first (given ++ (n, c) ∷ [])
 plain_given slots first given n c within plain (inl h) =
     let w =
-      plain (inl (subst (λ g. IsRefutedByHints (map (λ x. x.1) g))
-          (take-append-le first given ((n, c) ∷ []) within) h)) in empty_add slots c w.0 w.1
+    plain (inl (subst (λ g. IsRefutedByHints (map (λ x. x.1) g))
+    (take-append-le first given ((n, c) ∷ []) within) h)) in empty_add slots c w.0 w.1
 plain_given slots first given n c within plain (inr h) =
     elim (Contains-push_cases (map (λ (g : Name × List Literal). g.1) given) c []
-        (subst (λ x. Contains x []) (map_push (λ (g : Name × List Literal). g.1) given (n, c)) h)) [
+    (subst (λ x. Contains x []) (map_push (λ (g : Name × List Literal). g.1) given (n, c)) h)) [
       | inl old ↦ let w = plain (inr old) in empty_add slots c w.0 w.1
       | inr new ↦ (length slots, clause_new slots c ∙ ap Some new)
     ]
 
 abbrev pub with_given : Tables → ℕ → Tables
-with_given t i = record { names = t.names ++ Formula i ∷ []; units = t.units; noted = t.noted;
-      kept = t.kept; additions = t.additions }
+with_given t i = record {
+  names = t.names ++ Formula i ∷ [];
+  units = t.units;
+  noted = t.noted;
+  kept = t.kept;
+  additions = t.additions;
+}
 
 pub run_given : (e f : EngineState) (slots : Slots) (stack : StackState) (t : Tables)
     (frozen : List Bool) (first : ℕ) (given : Given) (ls : List LogLine) (i : ℕ) (c : List Literal)
@@ -169,29 +175,33 @@ pub run_given : (e f : EngineState) (slots : Slots) (stack : StackState) (t : Ta
     → SetsAttached e f (length slots) true → (f.trail ≡ e.trail) × (f.variables ≡ e.variables)
     → f.failed ≡ false → Fits f (slots ++ Some c ∷ [])
     → IsRunning f (slots ++ Some c ∷ []) stack (with_given t i) frozen first
-      (given ++ (Formula i, c) ∷ []) ls
+    (given ++ (Formula i, c) ∷ []) ls
 run_given e f slots stack t frozen first given ls i c r flat within fresh id fixed ones small sets
     same works fits =
     let d = r.recorded in
     record {
       recorded = record {
-        log = record { stays = log_given (length frozen) given (Formula i) c ls small d.log.stays;
-            unrefuted = d.log.unrefuted; counted = d.log.counted };
+        log = record {
+          stays = log_given (length frozen) given (Formula i) c ls small d.log.stays;
+          unrefuted = d.log.unrefuted;
+          counted = d.log.counted;
+        };
         names = names_given slots t.names given ls i c (length frozen) fresh d.log.stays d.names;
         numbers = All-push (λ k. IsId (number_in k)) t.names (Formula i) d.numbers id;
         many_units = d.many_units;
         kept = d.kept;
         not_frozen = d.not_frozen;
         back = back_given slots t.names (Formula i) c t.kept stack given d.names.as_many refl
-          (λ bits long s. frozen_same frozen stack.removed bits c d.not_frozen fixed ones s) d.back;
+            (λ bits long s. frozen_same frozen stack.removed bits c d.not_frozen fixed ones s)
+            d.back;
         plain = plain_given slots first given (Formula i) c within d.plain;
       };
       searches =
-        searches_add slots e f c r.searches sets same.0 works fits
+          searches_add slots e f c r.searches sets same.0 works fits
           (λ level below. absurd (omega arith));
       variables = same.1 ∙ r.variables;
       units =
-        subst (λ T. NotesUnits (slots ++ Some c ∷ []) (zero_of T) (depth_of T) t.units t.noted)
+          subst (λ T. NotesUnits (slots ++ Some c ∷ []) (zero_of T) (depth_of T) t.units t.noted)
           (sym same.0) (units_add slots c (zero_of e.trail) (depth_of e.trail) t.units
           t.noted r.units);
     }
@@ -207,18 +217,18 @@ pub run_learn : (e f : EngineState) (slots : Slots) (stack : StackState) (t : Ta
     → SetsAttached e f (length slots) true → (f.trail ≡ e.trail) × (f.variables ≡ e.variables)
     → f.failed ≡ false → Fits f (slots ++ Some l.clause ∷ [])
     → IsRunning f (slots ++ Some l.clause ∷ []) stack (with_addition t t.units t.noted) frozen first
-      given (ls ++ l ∷ [])
+    given (ls ++ l ∷ [])
 run_learn e f slots stack t frozen first given ls l T back r w within trail low adds room sets same
     works fits =
     run_add e f slots stack t frozen first given ls l t.units t.noted r adds
     (ap (λ b. not b && is_empty_clause l.clause) adds.adds ∙ ap is_empty_clause w.split) room sets
-      same works fits
+    same works fits
     (λ level below.
     let kept : kept_to level e.trail ≡ kept_to level T = ap (kept_to level) trail
-      ∙ kept_kept level back T (omega arith) in
+    ∙ kept_kept level back T (omega arith) in
     subst (λ X. (IsFalseUnder l.clause (literals_of X) → ⊥)
-        × ((k : Literal) → IsUnit l.clause (literals_of X) k → ⊥)) (sym kept)
-      (learned_quiet T l.clause back w level (omega arith) within))
+    × ((k : Literal) → IsUnit l.clause (literals_of X) k → ⊥)) (sym kept)
+    (learned_quiet T l.clause back w level (omega arith) within))
     refl (units_add slots l.clause (zero_of e.trail) (depth_of e.trail) t.units t.noted r.units)
 
 -- and nothing live was a subset of it
@@ -230,7 +240,7 @@ pub learn_is_new : (e : EngineState) (slots : Slots) (names : List Name) (given 
 learn_is_new e slots names given ls l back s n w deep base above =
     new_to_log slots names base (log_live given base ls) l.clause (n.live base above)
     (is_new slots (clause_at slots) e.trail l.clause back s.fits.reasons w deep
-        (s.quiet (depth_of e.trail - 1) (omega arith)))
+    (s.quiet (depth_of e.trail - 1) (omega arith)))
 
 -- The next literal of level 0 gets its clause.
 
@@ -245,22 +255,22 @@ pub run_note : (e f : EngineState) (slots : Slots) (stack : StackState) (t : Tab
     → SetsAttached e f (length slots) true → (f.trail ≡ e.trail) × (f.variables ≡ e.variables)
     → f.failed ≡ false → Fits f (slots ++ Some l.clause ∷ [])
     → IsRunning f (slots ++ Some l.clause ∷ []) stack
-      (with_addition t (set t.units (k.variable - 1) (Some (length slots))) (t.noted + 1)) frozen
-      first given (ls ++ l ∷ [])
+    (with_addition t (set t.units (k.variable - 1) (Some (length slots))) (t.noted + 1)) frozen
+    first given (ls ++ l ∷ [])
 run_note e f slots stack t frozen first given ls l k r flat left at one apart ones room_k adds room
     sets same works fits =
     run_add e f slots stack t frozen first given ls l
-      (set t.units (k.variable - 1) (Some (length slots))) (t.noted + 1) r adds
+    (set t.units (k.variable - 1) (Some (length slots))) (t.noted + 1) r adds
     (ap (λ b. not b && is_empty_clause l.clause) adds.adds ∙ ap is_empty_clause one) room sets
-      same works fits
+    same works fits
     (λ level below. absurd (omega arith))
     (length-set t.units (k.variable - 1) (Some (length slots)))
     (subst (λ d. NotesUnits (slots ++ Some l.clause ∷ []) (zero_of e.trail) d
-          (set t.units (k.variable - 1) (Some (length slots))) (t.noted + 1)) (sym flat)
+    (set t.units (k.variable - 1) (Some (length slots))) (t.noted + 1)) (sym flat)
     (subst (λ c. NotesUnits (slots ++ Some c ∷ []) (zero_of e.trail) 0
-          (set t.units (k.variable - 1) (Some (length slots))) (t.noted + 1)) (sym one)
+    (set t.units (k.variable - 1) (Some (length slots))) (t.noted + 1)) (sym one)
     (units_note slots (zero_of e.trail) k t.units t.noted apart ones left at room_k
-        (subst (λ d. NotesUnits slots (zero_of e.trail) d t.units t.noted) flat r.units))))
+    (subst (λ d. NotesUnits slots (zero_of e.trail) d t.units t.noted) flat r.units))))
 
 -- The answers.
 
@@ -281,9 +291,9 @@ answer_sat e slots stack t frozen first given ls bits r quiet long values small 
     let all = r.recorded.back bits long (λ q c at keeps. live q c at) in
     λ k d lt.
     satisfied_agrees (length frozen) (assignment_of (extended stack.removed bits)) u
-      (get_or given k d).1
+    (get_or given k d).1
     (extends_agrees (length frozen) (extended stack.removed bits) u wide ext)
-      (small k d lt).from_one (small k d lt).small (all k d lt)
+    (small k d lt).from_one (small k d lt).small (all k d lt)
 
 -- hints refute nothing where no clause is false or unit
 pub answer_open : (e : EngineState) (slots : Slots) (names : List Name) (given : Given)
@@ -310,13 +320,13 @@ pub answer_unsat : (variables : ℕ) (given : Given) (ls : List LogLine) (l : Lo
     → StaysLogOver variables given ls → AddsNoEmptyClause ls → AddsByHints given ls l
     → l.clause ≡ []
     → StaysLogOver variables given (ls ++ l ∷ []) × (is_refuted (ls ++ l ∷ []) ≡ true)
-        × IsAcceptedLog given (ls ++ l ∷ [])
+    × IsAcceptedLog given (ls ++ l ∷ [])
 answer_unsat variables given ls l stays unrefuted adds none =
     let after = log_add variables given ls l stays unrefuted adds in
     let empty : adds_empty_clause l ≡ true = ap (λ b. not b && is_empty_clause l.clause) adds.adds
-      ∙ ap is_empty_clause none in
+    ∙ ap is_empty_clause none in
     let now : IsLogOver given (ls ++ l ∷ []) =
-      subst (λ g. IsLogOver g (ls ++ l ∷ [])) (append-nil given)
-        (after [] (All-nil (λ g. greatest_variable g.1 ≤ variables))) in
+    subst (λ g. IsLogOver g (ls ++ l ∷ [])) (append-nil given)
+    (after [] (All-nil (λ g. greatest_variable g.1 ≤ variables))) in
     let some = any_push ls l empty in
     (after, some, accepted_log given (ls ++ l ∷ []) now some)

@@ -52,12 +52,12 @@ pub run_decide : (e f : EngineState) (slots : Slots) (stack : StackState) (t : T
     → IsRunning f slots stack t frozen first given ls
 run_decide e f slots stack t frozen first given ls l r quiet full trail attached same fits =
     record {
-  recorded = r.recorded;
-  searches = searches_decide slots e f l r.searches quiet trail attached same.1 fits;
-  variables = same.0 ∙ r.variables;
-  units = subst (λ T. NotesUnits slots (zero_of T) (depth_of T) t.units t.noted) (sym trail)
-      (units_decide slots e.trail l t.units t.noted full r.units);
-}
+      recorded = r.recorded;
+      searches = searches_decide slots e f l r.searches quiet trail attached same.1 fits;
+      variables = same.0 ∙ r.variables;
+      units = subst (λ T. NotesUnits slots (zero_of T) (depth_of T) t.units t.noted) (sym trail)
+          (units_decide slots e.trail l t.units t.noted full r.units);
+    }
 
 pub run_backtrack : (e f : EngineState) (slots : Slots) (stack : StackState) (t : Tables)
     (frozen : List Bool) (first : ℕ) (given : Given) (ls : List LogLine) (level : ℕ)
@@ -67,18 +67,23 @@ pub run_backtrack : (e f : EngineState) (slots : Slots) (stack : StackState) (t 
     → IsRunning f slots stack t frozen first given ls
 run_backtrack e f slots stack t frozen first given ls level r within trail attached same fits =
     record {
-  recorded = r.recorded;
-  searches = searches_backtrack slots e f level r.searches within trail attached same.1 fits;
-  variables = same.0 ∙ r.variables;
-  units = subst (λ T. NotesUnits slots (zero_of T) (depth_of T) t.units t.noted) (sym trail)
-      (units_backtrack slots e.trail level t.units t.noted r.units);
-}
+      recorded = r.recorded;
+      searches = searches_backtrack slots e f level r.searches within trail attached same.1 fits;
+      variables = same.0 ∙ r.variables;
+      units = subst (λ T. NotesUnits slots (zero_of T) (depth_of T) t.units t.noted) (sym trail)
+          (units_backtrack slots e.trail level t.units t.noted r.units);
+    }
 
 -- a clause follows, is written down, comes to the store and is attached
 abbrev pub with_addition : Tables → List (Option ℕ) → ℕ → Tables
 with_addition t units noted =
-    record { names = t.names ++ Added (t.additions + 1) ∷ []; units = units; noted = noted;
-      kept = t.kept; additions = t.additions + 1 }
+    record {
+      names = t.names ++ Added (t.additions + 1) ∷ [];
+      units = units;
+      noted = noted;
+      kept = t.kept;
+      additions = t.additions + 1;
+    }
 
 pub recorded_add : (slots : Slots) (stack : StackState) (t : Tables) (frozen : List Bool)
     (first : ℕ) (given : Given) (ls : List LogLine) (l : LogLine) (units : List (Option ℕ))
@@ -86,7 +91,7 @@ pub recorded_add : (slots : Slots) (stack : StackState) (t : Tables) (frozen : L
     → IsRecorded slots stack t frozen first given ls → AddsByHints given ls l
     → adds_empty_clause l ≡ false → t.additions + 1 < 2 ^ 62 → length units ≡ length t.units
     → IsRecorded (slots ++ Some l.clause ∷ []) stack (with_addition t units noted) frozen first
-      given (ls ++ l ∷ [])
+    given (ls ++ l ∷ [])
 recorded_add slots stack t frozen first given ls l units noted r adds goes_on room long =
     let n : Name = Added (t.additions + 1) in
     record {
@@ -96,7 +101,7 @@ recorded_add slots stack t frozen first given ls l units noted r adds goes_on ro
         counted = ap (λ k. k + 1) r.log.counted ∙ sym (count_push_addition ls l adds.adds);
       };
       names =
-        subst (λ k. NamesStore (slots ++ Some l.clause ∷ []) (t.names ++ Added (k + 1) ∷ []) given
+          subst (λ k. NamesStore (slots ++ Some l.clause ∷ []) (t.names ++ Added (k + 1) ∷ []) given
           (ls ++ l ∷ [])) (sym r.log.counted)
           (names_add slots t.names given ls l adds.names adds.adds adds.plain r.names);
       numbers = All-push (λ k. IsId (number_in k)) t.names n r.numbers (omega arith, room);
@@ -117,21 +122,23 @@ pub run_add : (e f : EngineState) (slots : Slots) (stack : StackState) (t : Tabl
     → SetsAttached e f (length slots) true → (f.trail ≡ e.trail) × (f.variables ≡ e.variables)
     → f.failed ≡ false → Fits f (slots ++ Some l.clause ∷ [])
     → ((level : ℕ) → level < depth_of e.trail
-        → (IsFalseUnder l.clause (literals_of (kept_to level e.trail)) → ⊥)
-        × ((k : Literal) → IsUnit l.clause (literals_of (kept_to level e.trail)) k → ⊥))
+    → (IsFalseUnder l.clause (literals_of (kept_to level e.trail)) → ⊥)
+    × ((k : Literal) → IsUnit l.clause (literals_of (kept_to level e.trail)) k → ⊥))
     → length units ≡ length t.units
     → NotesUnits (slots ++ Some l.clause ∷ []) (zero_of e.trail) (depth_of e.trail) units noted
     → IsRunning f (slots ++ Some l.clause ∷ []) stack (with_addition t units noted) frozen first
-      given (ls ++ l ∷ [])
+    given (ls ++ l ∷ [])
 run_add e f slots stack t frozen first given ls l units noted r adds goes_on room sets same works
     fits quiet long notes = record {
-  recorded = recorded_add slots stack t frozen first given ls l units noted r.recorded adds goes_on
-      room long;
-  searches = searches_add slots e f l.clause r.searches sets same.0 works fits quiet;
-  variables = same.1 ∙ r.variables;
-  units = subst (λ T. NotesUnits (slots ++ Some l.clause ∷ []) (zero_of T) (depth_of T) units noted)
-      (sym same.0) notes;
-}
+      recorded =
+          recorded_add slots stack t frozen first given ls l units noted r.recorded adds goes_on
+          room long;
+      searches = searches_add slots e f l.clause r.searches sets same.0 works fits quiet;
+      variables = same.1 ∙ r.variables;
+      units =
+          subst (λ T. NotesUnits (slots ++ Some l.clause ∷ []) (zero_of T) (depth_of T) units noted)
+          (sym same.0) notes;
+    }
 
 deletes_not_empty : (l : LogLine) → is_delete l.kind ≡ true → adds_empty_clause l ≡ false
 deletes_not_empty l e = ap (λ b. not b && is_empty_clause l.clause) e

@@ -33,36 +33,36 @@ module _ (old : List Name) (ms : Renaming) (rising : IsStrictlyIncreasing (map (
         done = λ i h. elim (cases_lt i next) [
           | inl less ↦
               let ne : new_at ms i ≢ new_at ms next =
-                omega (arith, new_rise ms rising i next less lt) in
+              omega (arith, new_rise ms rising i next less lt) in
               get_or-set_other new (new_at ms next) (new_at ms i) (name_at new (old_at ms next))
-                (Formula 0) ne ∙ m.done i less
+              (Formula 0) ne ∙ m.done i less
           | inr more ↦
               let same : i ≡ next = omega arith in
               ap (λ k. name_at (set new (new_at ms next) (name_at new (old_at ms next)))
-                  (new_at ms k)) same
+              (new_at ms k)) same
               ∙ get_or-set_same new (new_at ms next) (name_at new (old_at ms next)) (Formula 0)
-                (omega (arith, m.long))
+              (omega (arith, m.long))
               ∙ m.later (old_at ms next)
-                (λ k less. omega (arith, new_rise ms rising k next less lt))
+              (λ k less. omega (arith, new_rise ms rising k next less lt))
               ∙ ap (λ k. name_at old (old_at ms k)) (sym same)
         ];
         later = λ j h.
             let ne : j ≢ new_at ms next = omega (arith, h next (omega arith)) in
             get_or-set_other new (new_at ms next) j (name_at new (old_at ms next)) (Formula 0) ne
-              ∙ m.later j (λ i less. h i (omega arith));
+            ∙ m.later j (λ i less. h i (omega arith));
         long = length-set new (new_at ms next) (name_at new (old_at ms next)) ∙ m.long;
       }
 
   pub names_step_at : (new : List Name) (next at : ℕ) (n : Name) → IsMovingNames old new ms next
-    → next < length ms → at ≡ new_at ms next → n ≡ name_at new (old_at ms next)
+      → next < length ms → at ≡ new_at ms next → n ≡ name_at new (old_at ms next)
       → IsMovingNames old (set new at n) ms (next + 1)
   names_step_at new next at n m lt e f =
       subst (λ a. IsMovingNames old (set new a n) ms (next + 1)) (sym e)
-        (subst (λ x. IsMovingNames old (set new (new_at ms next) x) ms (next + 1)) (sym f)
-          (names_step new next m lt))
+      (subst (λ x. IsMovingNames old (set new (new_at ms next) x) ms (next + 1)) (sym f)
+      (names_step new next m lt))
 
   pub names_end : (new : List Name) (next places : ℕ) → IsMovingNames old new ms next
-    → length ms ≤ next → All (λ m. m.1 < places) ms → NamesMoved old (take places new) ms
+      → length ms ≤ next → All (λ m. m.1 < places) ms → NamesMoved old (take places new) ms
   names_end new next places m all below i d lt =
       let near : (get_or ms i d).1 < places = below i d lt in
       let at : get_or ms i (0, 0) ≡ get_or ms i d = get_or_default ms i (0, 0) d lt in

@@ -61,22 +61,25 @@ refutes_named slots names base at n A rs w = record {
 below_on : (base before : ℕ) (ls : List LogLine) (live : Live)
     → ((i : ℕ) (c : List Literal) → live.clause_at i ≡ Some c → i ≤ base + before)
     → (i : ℕ) (c : List Literal) → (live_after live (numbered_on base before ls)).clause_at i
-        ≡ Some c → i ≤ base + (before + added_count ls)
+    ≡ Some c → i ≤ base + (before + added_count ls)
 below_on base before [] live h i c e = let k = h i c e in omega arith
 below_on base before (l ∷ ls) live h i c e = elim (cases_Bool (is_delete l.kind)) [
   | inl d ↦
       let ids : List ℕ = map (λ h. id_of base (name_of h)) l.hints in
       let step = count_deletion l ls d in
       let rest : i ≤ base + (before + added_count ls) =
-        below_on base before ls (without_ids live ids)
-      (λ j x f. elim (cases_Bool (list_any (nat_eq j) ids)) [ inl t ↦
-            absurd (none-some x (rw t at f)) | inr t ↦ h j x (rw t at f) ])
+      below_on base before ls (without_ids live ids)
+      (λ j x f. elim (cases_Bool (list_any (nat_eq j) ids)) [
+        | inl t ↦
+            absurd (none-some x (rw t at f))
+        | inr t ↦ h j x (rw t at f)
+      ])
       i c (rw d at e) in
       omega arith
   | inr d ↦
       let step = count_addition l ls d in
       let rest : i ≤ base + (before + 1 + added_count ls) =
-        below_on base (before + 1) ls (with_clause live (base + before + 1) l.clause)
+      below_on base (before + 1) ls (with_clause live (base + before + 1) l.clause)
       (λ j x f. elim (cases_Bool (j == (base + before + 1))) [
         | inl t ↦ let s = eqb-true j (base + before + 1) t in omega arith
         | inr t ↦ let k = h j x (rw t at f) in omega arith
@@ -90,14 +93,14 @@ pub live_below : (given : Given) (base : ℕ) → IsBaseOf given base
     → i ≤ base + added_count ls
 live_below given base above ls i c e =
     let k =
-      below_on base 0 ls (start_over given base)
-        (λ j x f. let low = given_below given base above j x f in omega arith) i c e in omega arith
+    below_on base 0 ls (start_over given base)
+    (λ j x f. let low = given_below given base above j x f in omega arith) i c e in omega arith
 
 -- a clause that was added and comes to the store
 module _ (slots : Slots) (names : List Name) (given : Given) (ls : List LogLine) (l : LogLine)
     (ns : List Name)
     (adds : is_delete l.kind ≡ false) (plain : l.hints ≡ plain_hints ns)
-      (old : NamesStore slots names given ls) where
+    (old : NamesStore slots names given ls) where
   abbrev new_name : Name
   new_name = Added (added_count ls + 1)
 
@@ -105,9 +108,9 @@ module _ (slots : Slots) (names : List Name) (given : Given) (ls : List LogLine)
   new_names = names ++ new_name ∷ []
 
   old_name : (r : ℕ) (c : List Literal) → clause_at slots r ≡ Some c
-    → name_at new_names r ≡ name_at names r
+      → name_at new_names r ≡ name_at names r
   old_name r c e = let k = live_within slots r c e in
-    get_or_append_left names (new_name ∷ []) (Formula 0) r (omega (arith, old.as_many))
+      get_or_append_left names (new_name ∷ []) (Formula 0) r (omega (arith, old.as_many))
 
   last_name : (r : ℕ) → r ≡ length slots → name_at new_names r ≡ new_name
   last_name r e = get_or_at names new_name [] (Formula 0) r (omega (arith, old.as_many))
@@ -121,60 +124,64 @@ module _ (slots : Slots) (names : List Name) (given : Given) (ls : List LogLine)
 
     old_live : (i : ℕ) (c : List Literal) → log_live given base ls i ≡ Some c → (i == id) ≡ false
     old_live i c e = let k = live_below given base above ls i c e in
-      ne_eqb i id (λ s. absurd (omega arith))
+        ne_eqb i id (λ s. absurd (omega arith))
 
     id_old : (r : ℕ) (c : List Literal) → clause_at slots r ≡ Some c
-      → id_of base (name_at new_names r) ≡ id → ⊥
+        → id_of base (name_at new_names r) ≡ id → ⊥
     id_old r c e s =
         let k =
-          live_below given base above ls (id_of base (name_at names r)) c
-            ((old.live base above).named r c e) in
+        live_below given base above ls (id_of base (name_at names r)) c
+        ((old.live base above).named r c e) in
         let n : id_of base (name_at new_names r) ≡ id_of base (name_at names r) =
-          ap (id_of base) (old_name r c e) in
+        ap (id_of base) (old_name r c e) in
         omega arith
 
     new_at : Clauses
     new_at = (with_clause (live_of given base ls) id l.clause).clause_at
 
     named_new : (r : ℕ) (c : List Literal) → clause_at (slots ++ Some l.clause ∷ []) r ≡ Some c
-      → new_at (id_of base (name_at new_names r)) ≡ Some c
+        → new_at (id_of base (name_at new_names r)) ≡ Some c
     unfolding new_at
     named_new r c e = elim (clause_cases slots l.clause r c e) [
       | inl h ↦
           let at = (old.live base above).named r c h in
           let n : id_of base (name_at new_names r) ≡ id_of base (name_at names r) =
-            ap (id_of base) (old_name r c h) in
+          ap (id_of base) (old_name r c h) in
           ap new_at n ∙ cond-false ((id_of base (name_at names r)) == id) (Some l.clause)
-            (log_live given base ls (id_of base (name_at names r)))
-            (old_live (id_of base (name_at names r)) c at) ∙ at
+          (log_live given base ls (id_of base (name_at names r)))
+          (old_live (id_of base (name_at names r)) c at) ∙ at
       | inr h ↦
           let n : id_of base (name_at new_names r) ≡ id = ap (id_of base) (last_name r h.0)
-            ∙ same_id in
+          ∙ same_id in
           ap new_at n ∙ cond-true (id == id) (Some l.clause) (log_live given base ls id)
-            (eq-eqb id id refl) ∙ ap Some (sym h.1)
+          (eq-eqb id id refl) ∙ ap Some (sym h.1)
     ]
 
     only_new : (i : ℕ) (c : List Literal) → new_at i ≡ Some c
-      → (r : ℕ) × (clause_at (slots ++ Some l.clause ∷ []) r ≡ Some c)
+        → (r : ℕ) × (clause_at (slots ++ Some l.clause ∷ []) r ≡ Some c)
         × (id_of base (name_at new_names r) ≡ i)
     unfolding new_at
     only_new i c e = elim (cases_Bool (i == id)) [
       | inl t ↦
-          let same : l.clause ≡ c = same_Some l.clause c (rw t at e) in
-          (length slots, clause_new slots l.clause ∙ ap Some same,
-              ap (id_of base) (last_name (length slots) refl) ∙ same_id ∙ sym (eqb-true i id t))
+          let same : l.clause ≡ c = same_Some l.clause c (rw t at e) in (
+            length slots,
+            clause_new slots l.clause ∙ ap Some same,
+            ap (id_of base) (last_name (length slots) refl) ∙ same_id ∙ sym (eqb-true i id t),
+          )
       | inr t ↦
           let w = (old.live base above).only i c (rw t at e) in
           (w.0, clause_kept slots l.clause c w.0 w.1, ap (id_of base) (old_name w.0 c w.1) ∙ w.2)
     ]
 
     apart_new : (q r : ℕ) → IsLive (slots ++ Some l.clause ∷ []) q
-      → IsLive (slots ++ Some l.clause ∷ []) r
-      → id_of base (name_at new_names q) ≡ id_of base (name_at new_names r) → q ≡ r
+        → IsLive (slots ++ Some l.clause ∷ []) r
+        → id_of base (name_at new_names q) ≡ id_of base (name_at new_names r) → q ≡ r
     apart_new q r h k e = elim (clause_cases slots l.clause q h.0 h.1) [
       | inl a ↦ elim (clause_cases slots l.clause r k.0 k.1) [
-        | inl b ↦ (old.live base above).apart q r (h.0, a) (k.0,
-            b) (sym (ap (id_of base) (old_name q h.0 a)) ∙ e ∙ ap (id_of base) (old_name r k.0 b))
+        | inl b ↦ (old.live base above).apart q r (h.0, a) (
+          k.0,
+          b,
+        ) (sym (ap (id_of base) (old_name q h.0 a)) ∙ e ∙ ap (id_of base) (old_name r k.0 b))
         | inr b ↦ absurd (id_old q h.0 a (e ∙ ap (id_of base) (last_name r b.0) ∙ same_id))
       ]
       | inr a ↦ elim (clause_cases slots l.clause r k.0 k.1) [
@@ -184,19 +191,19 @@ module _ (slots : Slots) (names : List Name) (given : Given) (ls : List LogLine)
     ]
 
     live_new : NamesWhatIsLive (slots ++ Some l.clause ∷ []) new_names base
-      (log_live given base (ls ++ l ∷ []))
+        (log_live given base (ls ++ l ∷ []))
     unfolding new_at
     live_new =
         let moved : log_live given base (ls ++ l ∷ []) ≡ new_at =
-          live-add given base ls l ns adds plain in
+        live-add given base ls l ns adds plain in
         subst (NamesWhatIsLive (slots ++ Some l.clause ∷ []) new_names base) (sym moved)
-          (record { named = named_new; only = only_new; apart = apart_new })
+        (record { named = named_new; only = only_new; apart = apart_new })
 
   pub names_add : NamesStore (slots ++ Some l.clause ∷ [])
-    (names ++ Added (added_count ls + 1) ∷ []) given (ls ++ l ∷ [])
+      (names ++ Added (added_count ls + 1) ∷ []) given (ls ++ l ∷ [])
   names_add = record {
     as_many = length_push names new_name ∙ ap (λ n. n + 1) old.as_many
-      ∙ sym (length_push slots (Some l.clause));
+        ∙ sym (length_push slots (Some l.clause));
     live = live_new;
   }
 
@@ -204,7 +211,7 @@ module _ (slots : Slots) (names : List Name) (given : Given) (ls : List LogLine)
 module _ (slots : Slots) (names : List Name) (given : Given) (ls : List LogLine)
     (l : LogLine) (q : ℕ)
     (deletes : is_delete l.kind ≡ true) (plain : l.hints ≡ plain_hints (name_at names q ∷ []))
-      (here : IsLive slots q) (old : NamesStore slots names given ls) where
+    (here : IsLive slots q) (old : NamesStore slots names given ls) where
   module _ (base : ℕ) (above : IsBaseOf given base) where
     abbrev gone : ℕ
     gone = id_of base (name_at names q)
@@ -216,17 +223,17 @@ module _ (slots : Slots) (names : List Name) (given : Given) (ls : List LogLine)
     or_false i h = or_from (nat_eq i gone) false (ne_eqb i gone h) refl
 
     named_left : (r : ℕ) (c : List Literal) → clause_at (set slots q None) r ≡ Some c
-      → left_at (id_of base (name_at names r)) ≡ Some c
+        → left_at (id_of base (name_at names r)) ≡ Some c
     unfolding left_at
     named_left r c e =
         let h = clause_left slots q r c e in
         let i = id_of base (name_at names r) in
         let other : i ≢ gone = λ s. h.0 ((old.live base above).apart r q (c, h.1) here s) in
         cond-false (list_any (nat_eq i) (gone ∷ [])) None (log_live given base ls i)
-          (or_false i other) ∙ (old.live base above).named r c h.1
+        (or_false i other) ∙ (old.live base above).named r c h.1
 
     only_left : (i : ℕ) (c : List Literal) → left_at i ≡ Some c
-      → (r : ℕ) × (clause_at (set slots q None) r ≡ Some c) × (id_of base (name_at names r) ≡ i)
+        → (r : ℕ) × (clause_at (set slots q None) r ≡ Some c) × (id_of base (name_at names r) ≡ i)
     unfolding left_at
     only_left i c e = elim (cases_Bool (list_any (nat_eq i) (gone ∷ []))) [
       | inl t ↦ absurd (none-some c (rw t at e))
@@ -234,8 +241,8 @@ module _ (slots : Slots) (names : List Name) (given : Given) (ls : List LogLine)
           let w = (old.live base above).only i c (rw t at e) in
           let other : w.0 ≢ q = λ s.
           (let hit : (list_any (nat_eq i) (gone ∷ [])) ≡ true = or_left (nat_eq i gone) false
-              (eq-eqb i gone (sym w.2 ∙ ap (λ k. id_of base (name_at names k)) s)) in
-              absurd (cc)) in
+          (eq-eqb i gone (sym w.2 ∙ ap (λ k. id_of base (name_at names k)) s)) in
+          absurd (cc)) in
           (w.0, clause_other slots q w.0 other ∙ w.1, w.2)
     ]
 
@@ -243,12 +250,12 @@ module _ (slots : Slots) (names : List Name) (given : Given) (ls : List LogLine)
     unfolding left_at
     live_left =
         let moved : log_live given base (ls ++ l ∷ []) ≡ left_at =
-          live-delete given base ls l (name_at names q ∷ []) deletes plain in
+        live-delete given base ls l (name_at names q ∷ []) deletes plain in
         subst (NamesWhatIsLive (set slots q None) names base) (sym moved) (record {
           named = named_left;
           only = only_left;
           apart =
-            λ r s h k e. (old.live base above).apart r s (h.0, (clause_left slots q r h.0 h.1).1)
+              λ r s h k e. (old.live base above).apart r s (h.0, (clause_left slots q r h.0 h.1).1)
               (k.0, (clause_left slots q s k.0 k.1).1) e;
         })
 
@@ -266,25 +273,27 @@ names_move before after names moved given ls ms renames rises long along old = r
   live = λ base above.
       let n = old.live base above in
       let name : (r q : ℕ) → renamed ms r ≡ Some q → name_at moved q ≡ name_at names r =
-        λ r q e. moved_all (λ m. name_at moved m.1 ≡ name_at names m.0) ms r q along e in
+      λ r q e. moved_all (λ m. name_at moved m.1 ≡ name_at names m.0) ms r q along e in
       let from : (q : ℕ) (c : List Literal) → clause_at after q ≡ Some c
-        → (r : ℕ) × (renamed ms r ≡ Some q) × (clause_at before r ≡ Some c) = λ q c e.
+      → (r : ℕ) × (renamed ms r ≡ Some q) × (clause_at before r ≡ Some c) = λ q c e.
       (let w = came before after ms renames rises q c e in
-          (w.0, w.1, sym (same_clause before after ms renames w.0 q w.1) ∙ e)) in
+      (w.0, w.1, sym (same_clause before after ms renames w.0 q w.1) ∙ e)) in
       record {
         named = λ q c e. let w = from q c e in
-          ap (λ k. log_live given base ls (id_of base k)) (name w.0 q w.1) ∙ n.named w.0 c w.2;
+            ap (λ k. log_live given base ls (id_of base k)) (name w.0 q w.1) ∙ n.named w.0 c w.2;
         only = λ i c e.
             let w = n.only i c e in
-            let z = went before after ms renames w.0 c w.1 in
-            (z.0, same_clause before after ms renames w.0 z.0 z.1 ∙ w.1,
-                ap (id_of base) (name w.0 z.0 z.1) ∙ w.2);
+            let z = went before after ms renames w.0 c w.1 in (
+              z.0,
+              same_clause before after ms renames w.0 z.0 z.1 ∙ w.1,
+              ap (id_of base) (name w.0 z.0 z.1) ∙ w.2,
+            );
         apart = λ p q h k e.
             let v = from p h.0 h.1 in
             let w = from q k.0 k.1 in
             let same : v.0 ≡ w.0 =
-              n.apart v.0 w.0 (h.0, v.2) (k.0, w.2) (sym (ap (id_of base) (name v.0 p v.1)) ∙ e
-                ∙ ap (id_of base) (name w.0 q w.1)) in
+            n.apart v.0 w.0 (h.0, v.2) (k.0, w.2) (sym (ap (id_of base) (name v.0 p v.1)) ∙ e
+            ∙ ap (id_of base) (name w.0 q w.1)) in
             same_Some p q (sym v.1 ∙ ap (renamed ms) same ∙ w.1);
       };
 }

@@ -28,48 +28,57 @@ pub record IsNoting (old now : Search) (p : Problem) (before ls : List LogLine) 
   pub trail : (now.engine).trail ≡ (old.engine).trail
   pub variables : (now.engine).variables ≡ (old.engine).variables
   pub quiet : IsQuiet (old.store).slots (literals_of (old.engine).trail)
-    → IsQuiet (now.store).slots (literals_of (now.engine).trail)
+      → IsQuiet (now.store).slots (literals_of (now.engine).trail)
   pub clauses : (r : ℕ) → IsFalseClause (old.store).slots old.engine r
-    → IsFalseClause (now.store).slots now.engine r
+      → IsFalseClause (now.store).slots now.engine r
   pub writes : Writes (p.given).items before ls 0
 
 pub noting_start : (s : Search) (p : Problem) (ls : List LogLine) → Runs s p ls
     → depth_of (s.engine).trail ≡ 0 → IsNoting s s p ls ls
 noting_start s p ls r flat =
-    record { runs = r; flat = flat; trail = refl; variables = refl; quiet = λ q. q;
-      clauses = λ r f. f; writes = writes_none (p.given).items ls }
+    record {
+      runs = r;
+      flat = flat;
+      trail = refl;
+      variables = refl;
+      quiet = λ q. q;
+      clauses = λ r f. f;
+      writes = writes_none (p.given).items ls;
+    }
 
 -- a clause of one true literal is neither false nor unit
 quiet_true : (slots : Slots) (A : List Literal) (k : Literal) → NoOpposites A
     → contains_literal k A ≡ true → IsQuiet slots A → IsQuiet (slots ++ Some (k ∷ []) ∷ []) A
 quiet_true slots A k apart m quiet r c at =
     elim (clause_cases slots (k ∷ []) r c at) as (λ _. (IsFalseUnder c A → ⊥)
-      × ((l : Literal) → IsUnit c A l → ⊥)) [
-  | inl old ↦ quiet r c old
-  | inr new ↦ subst (λ x. (IsFalseUnder x A → ⊥) × ((l : Literal) → IsUnit x A l → ⊥)) (sym new.1) (
-    λ f. apart k m f.0,
-    λ l u. both_ways _ u.not_true (elim (or_cases (literal_eq l k) (contains_literal l []) u.member)
-        as (λ _. contains_literal l A ≡ true) [
-      | inl s ↦ ap (λ x. contains_literal x A) (literal_eq-true l k s) ∙ m
-      | inr n ↦ absurd (false≢true n)
-    ]),
-  )
-]
+    × ((l : Literal) → IsUnit c A l → ⊥)) [
+      | inl old ↦ quiet r c old
+      | inr new ↦ subst (λ x. (IsFalseUnder x A → ⊥) × ((l : Literal) → IsUnit x A l → ⊥))
+          (sym new.1) (
+            λ f. apart k m f.0,
+            λ l u. both_ways _ u.not_true
+                (elim (or_cases (literal_eq l k) (contains_literal l []) u.member)
+                as (λ _. contains_literal l A ≡ true) [
+                  | inl s ↦ ap (λ x. contains_literal x A) (literal_eq-true l k s) ∙ m
+                  | inr n ↦ absurd (false≢true n)
+                ]),
+          )
+    ]
 
 pub noting_more : (old now new : Search) (p : Problem) (before ls more : List LogLine)
     → IsNoting old now p before ls → now.noted < length (now.engine).trail → Runs new p more
     → (new.engine).trail ≡ (now.engine).trail → (new.engine).variables ≡ (now.engine).variables
     → (new.store).slots ≡ (now.store).slots
-      ++ Some (slice_index_or (literals_of (now.engine).trail) now.noted (positive 0) ∷ []) ∷ []
+    ++ Some (slice_index_or (literals_of (now.engine).trail) now.noted (positive 0) ∷ []) ∷ []
     → Writes (p.given).items ls more 0 → IsNoting old new p before more
 noting_more old now new p before ls more d lt r trail vars slots w =
     let A : List Literal = literals_of (now.engine).trail in
     let k : Literal = slice_index_or A now.noted (positive 0) in
     let reasons = d.runs.running.searches.fits.reasons in
     let apart : NoOpposites A =
-      no_opposites (clause_at (now.store).slots) (now.engine).trail reasons in
+    no_opposites (clause_at (now.store).slots) (now.engine).trail reasons in
     let long : length A ≡ length (now.engine).trail =
-      length-map (now.engine).trail (λ (x : Assigned). x.literal) in
+    length-map (now.engine).trail (λ (x : Assigned). x.literal) in
     let m : contains_literal k A ≡ true = contains_at A now.noted (positive 0) (omega arith) in
     record {
       runs = r;
@@ -77,13 +86,15 @@ noting_more old now new p before ls more d lt r trail vars slots w =
       trail = trail ∙ d.trail;
       variables = vars ∙ d.variables;
       quiet =
-        λ q. subst (λ x. IsQuiet x (literals_of (new.engine).trail)) (sym slots)
+          λ q. subst (λ x. IsQuiet x (literals_of (new.engine).trail)) (sym slots)
           (subst (λ T. IsQuiet ((now.store).slots ++ Some (k ∷ []) ∷ []) (literals_of T))
           (sym trail) (quiet_true (now.store).slots A k apart m (d.quiet q)));
       clauses =
-        λ q f. (let x = d.clauses q f in
-          (x.0, subst (λ s. clause_at s q ≡ Some x.0) (sym slots)
-            (clause_kept (now.store).slots (k ∷ []) x.0 q x.1),
-            subst (λ T. IsFalseUnder x.0 (literals_of T)) (sym trail) x.2));
+          λ q f. (let x = d.clauses q f in (
+            x.0,
+            subst (λ s. clause_at s q ≡ Some x.0) (sym slots)
+                (clause_kept (now.store).slots (k ∷ []) x.0 q x.1),
+            subst (λ T. IsFalseUnder x.0 (literals_of T)) (sym trail) x.2,
+          ));
       writes = writes_join (p.given).items before ls more 0 0 d.writes w;
     }

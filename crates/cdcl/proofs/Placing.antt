@@ -31,24 +31,23 @@ pub fits_more : (e : EngineState) (slots : Slots) (c : List Literal) → Fits e 
     → Fits e (slots ++ Some c ∷ [])
 fits_more e slots c fits =
     fits_local e slots (slots ++ Some c ∷ []) fits (λ r on. let w = fits.attached r on in
-      clause_old slots c r (live_within slots r w.0 w.1))
+    clause_old slots c r (live_within slots r w.0 w.1))
 
 -- in which that clause is not attached yet
 pub not_attached : (e : EngineState) (slots : Slots) → Fits e slots
     → is_attached e (length slots) ≡ false
 not_attached e slots fits =
-    elim (cases_Bool (is_attached e (length slots))) as (λ _. is_attached e (length slots) ≡ false)
-      [
-  | inl t ↦ let w = fits.attached (length slots) t in
-    let h = live_within slots (length slots) w.0 w.1 in absurd (omega arith)
-  | inr f ↦ f
-]
+    elim (cases_Bool (is_attached e (length slots))) as (λ _. is_attached e (length slots) ≡ false) [
+      | inl t ↦ let w = fits.attached (length slots) t in
+          let h = live_within slots (length slots) w.0 w.1 in absurd (omega arith)
+      | inr f ↦ f
+    ]
 
 pub new_at : (slots now : Slots) (c : List Literal) (r : ℕ) → now ≡ slots ++ Some c ∷ []
     → r ≡ length slots → clause_at now r ≡ Some c
 new_at slots now c r e is =
     subst (λ s. clause_at s r ≡ Some c) (sym e)
-      (subst (λ k. clause_at (slots ++ Some c ∷ []) k ≡ Some c) (sym is) (clause_new slots c))
+    (subst (λ k. clause_at (slots ++ Some c ∷ []) k ≡ Some c) (sym is) (clause_new slots c))
 
 pub new_live : (slots now : Slots) (c : List Literal) (r : ℕ) → now ≡ slots ++ Some c ∷ []
     → r ≡ length slots → IsLive now r
@@ -67,7 +66,7 @@ ids_of variables (l ∷ c) few ones small =
     let here : 0 < l.variable = All-head (λ (k : Literal). 0 < k.variable) l c ones in
     let low : l.variable < 2 ^ 62 = omega arith in
     All-cons (λ k. IsId k.variable) l c (here, low)
-      (ids_of variables c few (All-tail (λ (k : Literal). 0 < k.variable) l c ones) (omega arith))
+    (ids_of variables c few (All-tail (λ (k : Literal). 0 < k.variable) l c ones) (omega arith))
 
 -- a line that adds
 pub adding_line : (kind : Kind) (c : List Literal) (hints : List Hint) (variables : ℕ)
@@ -86,7 +85,7 @@ pub room_placed : (s n : Search) (name : Name) (c : List Literal) → HasRoom s 
 room_placed s n name c r w = record {
   order = ap (λ o. o.variables) w.order ∙ r.order ∙ sym w.variables;
   analyzer =
-    subst (λ k. k < n.analyzer) (sym w.variables)
+      subst (λ k. k < n.analyzer) (sym w.variables)
       (subst (λ k. (s.engine).variables < k) (sym w.analyzer) r.analyzer);
   few = subst (λ k. k < 2 ^ 27) (sym w.variables) r.few;
   stamps = ap (λ v. length v.items) w.stamps ∙ r.stamps ∙ sym w.variables;
@@ -106,8 +105,8 @@ pub running_same : (e f : EngineState) (slots now : Slots) (stack : StackState) 
     → IsRunning f now stack u frozen first given ls
 running_same e f slots now stack t u frozen first given ls a b c r =
     subst (λ x. IsRunning x now stack u frozen first given ls) (sym a)
-      (subst (λ x. IsRunning e x stack u frozen first given ls) (sym b)
-        (subst (λ x. IsRunning e slots stack x frozen first given ls) (sym c) r))
+    (subst (λ x. IsRunning e x stack u frozen first given ls) (sym b)
+    (subst (λ x. IsRunning e slots stack x frozen first given ls) (sym c) r))
 
 pub tables_same : (t u : Tables) → u.names ≡ t.names → u.units ≡ t.units → u.noted ≡ t.noted
     → u.kept ≡ t.kept → u.additions ≡ t.additions → u ≡ t
@@ -121,6 +120,6 @@ pub literal_small : (e : EngineState) (slots : Slots) (i : ℕ) (k : Literal) �
 literal_small e slots i k fits lt at =
     let d : Assigned = record { literal = k; reason = None } in
     let is : k ≡ (get_or e.trail i d).literal =
-      at ∙ get_or-map (λ (x : Assigned). x.literal) e.trail i d k lt in
+    at ∙ get_or-map (λ (x : Assigned). x.literal) e.trail i d k lt in
     subst (λ (x : Literal). (0 < x.variable) × (x.variable ≤ e.variables)) (sym is)
-      (fits.small i d lt)
+    (fits.small i d lt)

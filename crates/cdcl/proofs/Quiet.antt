@@ -82,8 +82,8 @@ pub searches_add : (slots : Slots) (e f : EngineState) (c : List Literal) → Se
     → SetsAttached e f (length slots) true → f.trail ≡ e.trail → f.failed ≡ false
     → Fits f (slots ++ Some c ∷ [])
     → ((level : ℕ) → level < depth_of e.trail
-        → (IsFalseUnder c (literals_of (kept_to level e.trail)) → ⊥)
-        × ((l : Literal) → IsUnit c (literals_of (kept_to level e.trail)) l → ⊥))
+    → (IsFalseUnder c (literals_of (kept_to level e.trail)) → ⊥)
+    × ((l : Literal) → IsUnit c (literals_of (kept_to level e.trail)) l → ⊥))
     → Searches f (slots ++ Some c ∷ [])
 searches_add slots e f c s sets trail works fits new = record {
   works = works;
@@ -98,14 +98,14 @@ searches_add slots e f c s sets trail works fits new = record {
   quiet = λ level below r d at.
       let low : level < depth_of e.trail = subst (λ T. level < depth_of T) trail below in
       subst (λ T. (IsFalseUnder d (literals_of (kept_to level T)) → ⊥)
-          × ((l : Literal) → IsUnit d (literals_of (kept_to level T)) l → ⊥)) (sym trail)
+      × ((l : Literal) → IsUnit d (literals_of (kept_to level T)) l → ⊥)) (sym trail)
       (elim (clause_cases slots c r d at)
-          as (λ _. (IsFalseUnder d (literals_of (kept_to level e.trail)) → ⊥)
-            × ((l : Literal) → IsUnit d (literals_of (kept_to level e.trail)) l → ⊥)) [
+      as (λ _. (IsFalseUnder d (literals_of (kept_to level e.trail)) → ⊥)
+      × ((l : Literal) → IsUnit d (literals_of (kept_to level e.trail)) l → ⊥)) [
         | inl old ↦ s.quiet level low r d old
         | inr last ↦ subst (λ x. (IsFalseUnder x (literals_of (kept_to level e.trail)) → ⊥)
             × ((l : Literal) → IsUnit x (literals_of (kept_to level e.trail)) l → ⊥)) (sym last.1)
-          (new level low)
+            (new level low)
       ]);
 }
 
@@ -130,7 +130,7 @@ pub searches_move : (before after : Slots) (ms : Renaming) (e f : EngineState)
     → Searches f after × (zero_of f.trail ≡ zero_of e.trail) × (depth_of f.trail ≡ depth_of e.trail)
 searches_move before after ms e f renames rises s moves trail failed fits =
     let listed : AllByRecursion (λ a. IfSome a.reason (λ r. (q : ℕ) × (renamed ms r ≡ Some q)))
-      e.trail =
+    e.trail =
     recursion_from_All (λ a. IfSome a.reason (λ r. (q : ℕ) × (renamed ms r ≡ Some q))) e.trail
     (reasons_listed e before after ms s.fits renames) in
     let as_named : f.trail ≡ named_trail ms e.trail =
@@ -138,22 +138,25 @@ searches_move before after ms e f renames rises s moves trail failed fits =
     let depth : depth_of f.trail ≡ depth_of e.trail =
     ap depth_of as_named ∙ depth_moved ms e.trail in
     let kept : (level : ℕ)
-      → literals_of (kept_to level f.trail) ≡ literals_of (kept_to level e.trail) =
-      λ level. ap (λ T. literals_of (kept_to level T)) as_named ∙ kept_named ms level e.trail in (
+    → literals_of (kept_to level f.trail) ≡ literals_of (kept_to level e.trail) =
+    λ level. ap (λ T. literals_of (kept_to level T)) as_named ∙ kept_named ms level e.trail in (
       record {
         works = failed ∙ s.works;
         fits = fits;
         all_attached = λ q live.
             let w = came before after ms renames rises q live.0 live.1 in
             moves.to w.0 q w.1
-              ∙ s.all_attached w.0 (live.0, sym (same_clause before after ms renames w.0 q w.1)
-                ∙ live.1);
+            ∙ s.all_attached w.0 (
+              live.0,
+              sym (same_clause before after ms renames w.0 q w.1)
+                  ∙ live.1,
+            );
         quiet = λ level below q c at.
             let w = came before after ms renames rises q c at in
             subst (λ A. (IsFalseUnder c A → ⊥) × ((l : Literal) → IsUnit c A l → ⊥))
             (sym (kept level))
             (s.quiet level (subst (λ k. level < k) depth below) w.0 c
-                (sym (same_clause before after ms renames w.0 q w.1) ∙ at));
+            (sym (same_clause before after ms renames w.0 q w.1) ∙ at));
       },
       kept 0,
       depth,

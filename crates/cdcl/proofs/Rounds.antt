@@ -29,9 +29,12 @@ pays_join given a b c s t u v w =
     let e : s.learned + v.0 + w.0 ≡ s.learned + (v.0 + w.0) = omega arith in (
       v.0 + w.0,
       writes_join given a b c v.0 w.0 v.1 w.1,
-      w.2 ∙ ap (λ (x : BudgetState). record { limit = x.limit; learned = x.learned + w.0;
-            answers = x.answers }) v.2
-        ∙ (λ i. record { limit = s.limit; learned = e i; answers = s.answers }),
+      w.2 ∙ ap (λ (x : BudgetState). record {
+        limit = x.limit;
+        learned = x.learned + w.0;
+        answers = x.answers;
+      }) v.2
+          ∙ (λ i. record { limit = s.limit; learned = e i; answers = s.answers }),
     )
 
 -- What is left.
@@ -52,7 +55,7 @@ flag_one n h = ap (λ b. if b then 1 else 0) (lt-ltb 0 n h)
 rounds_fall : (a b v s t : ℕ) → a < b → s ≤ v + 1 → a * (v + 2) + s < b * (v + 2) + t
 rounds_fall a b v s t less low =
     let h : (v + 2) * (a + 1) ≤ (v + 2) * b = mul-le-mul_left (v + 2) (omega arith) in
-      omega (arith, h)
+    omega (arith, h)
 
 -- the first factor falls
 falls_first : (old new : Search) (before after : BudgetState) (conflicts again : ℕ)
@@ -62,9 +65,9 @@ falls_first : (old new : Search) (before after : BudgetState) (conflicts again :
 falls_first old new before after conflicts again same less =
     let v = (old.engine).variables in
     subst (λ n. (2 * left_of after + flag again) * (n + 2) + (n + 1 - length (new.engine).trail)
-        < rounds_left old before conflicts) (sym same)
+    < rounds_left old before conflicts) (sym same)
     (rounds_fall (2 * left_of after + flag again) (2 * left_of before + flag conflicts) v
-        (v + 1 - length (new.engine).trail) (v + 1 - length (old.engine).trail) less (omega arith))
+    (v + 1 - length (new.engine).trail) (v + 1 - length (old.engine).trail) less (omega arith))
 
 -- a unit was paid
 pub goes_learned : (old new : Search) (p : Problem) (ls : List LogLine) (before after : BudgetState)
@@ -76,7 +79,7 @@ goes_learned old new p ls before after conflicts again r same paid some = record
   runs = r;
   fewer = falls_first old new before after conflicts again same
       (let e : left_of after ≡ before.limit - (before.learned + 1 + before.answers)
-          = ap left_of paid in
+      = ap left_of paid in
       let low = flag_low again in omega arith);
 }
 
@@ -101,7 +104,7 @@ pub goes_decided : (old new : Search) (p : Problem) (ls : List LogLine) (budget 
 goes_decided old new p ls budget conflicts r same longer within = record {
   runs = r;
   fewer =
-    subst (λ n. (2 * left_of budget + flag conflicts) * (n + 2)
+      subst (λ n. (2 * left_of budget + flag conflicts) * (n + 2)
       + (n + 1 - length (new.engine).trail) < rounds_left old budget conflicts) (sym same)
       (omega arith);
 }

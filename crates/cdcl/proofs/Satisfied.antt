@@ -32,25 +32,25 @@ bit_at bits v = unwrap_or-slice_get bits v false
 -- what the trail says of a variable
 parts_at : (T : List Assigned) (bits : List Bool) (v : ℕ) → AreValues T bits → v < length bits
     → ((assignment_of bits (suc v) ≡ true)
-        × (contains_literal (positive (suc v)) (literals_of T) ≡ true))
-        ⊎ ((assignment_of bits (suc v) ≡ false)
-        × (contains_literal (negation (positive (suc v))) (literals_of T) ≡ true))
+    × (contains_literal (positive (suc v)) (literals_of T) ≡ true))
+    ⊎ ((assignment_of bits (suc v) ≡ false)
+    × (contains_literal (negation (positive (suc v))) (literals_of T) ≡ true))
 parts_at T bits v values within =
     let up : v + 1 ≡ suc v = omega arith in
     let e : value_in T (positive (suc v)) ≡ Some (get_or bits v false) =
-      subst (λ k. value_in T (positive k) ≡ Some (get_or bits v false)) up (values v within) in
+    subst (λ k. value_in T (positive k) ≡ Some (get_or bits v false)) up (values v within) in
     elim (value_by (contains_literal (positive (suc v)) (literals_of T))
-        (contains_literal (negation (positive (suc v))) (literals_of T)) (get_or bits v false) e) [
+    (contains_literal (negation (positive (suc v))) (literals_of T)) (get_or bits v false) e) [
       | inl h ↦ inl (bit_at bits v ∙ h.0, h.1)
       | inr h ↦ inr (bit_at bits v ∙ h.0, h.1)
     ]
 
 by_sign : (t : Assignment) (T : List Assigned) (v : ℕ) (s : Bool)
     → ((t v ≡ true) × (contains_literal (positive v) (literals_of T) ≡ true))
-      ⊎ ((t v ≡ false) × (contains_literal (negation (positive v)) (literals_of T) ≡ true))
+    ⊎ ((t v ≡ false) × (contains_literal (negation (positive v)) (literals_of T) ≡ true))
     → (literal_value t (record { variable = v; negated = s }) ≡ true)
-        ⊎ (contains_literal (negation (record { variable = v; negated = s })) (literals_of T)
-        ≡ true)
+    ⊎ (contains_literal (negation (record { variable = v; negated = s })) (literals_of T)
+    ≡ true)
 by_sign t T v true (inl h) = inr h.1
 by_sign t T v true (inr h) = inl (ap not h.0)
 by_sign t T v false (inl h) = inl h.0
@@ -60,15 +60,15 @@ by_sign t T v false (inr h) = inr h.1
 true_or_false : (T : List Assigned) (bits : List Bool) (l : Literal) → AreValues T bits
     → 0 < l.variable → l.variable ≤ length bits
     → (literal_value (assignment_of bits) l ≡ true)
-        ⊎ (contains_literal (negation l) (literals_of T) ≡ true)
+    ⊎ (contains_literal (negation l) (literals_of T) ≡ true)
 true_or_false T bits l values one within =
     let up : suc (l.variable - 1) ≡ l.variable = omega arith in
     let h = parts_at T bits (l.variable - 1) values (omega arith) in
     by_sign (assignment_of bits) T l.variable l.negated
     (subst (λ v. ((assignment_of bits v ≡ true)
-            × (contains_literal (positive v) (literals_of T) ≡ true))
-          ⊎ ((assignment_of bits v ≡ false)
-            × (contains_literal (negation (positive v)) (literals_of T) ≡ true))) up h)
+    × (contains_literal (positive v) (literals_of T) ≡ true))
+    ⊎ ((assignment_of bits v ≡ false)
+    × (contains_literal (negation (positive v)) (literals_of T) ≡ true))) up h)
 
 satisfied_or_false : (T : List Assigned) (bits : List Bool) (c : List Literal) → AreValues T bits
     → All (λ l. 0 < l.variable) c → greatest_variable c ≤ length bits
@@ -76,15 +76,15 @@ satisfied_or_false : (T : List Assigned) (bits : List Bool) (c : List Literal) �
 satisfied_or_false T bits [] values ones small = inr tt
 satisfied_or_false T bits (l ∷ c) values ones small =
     elim (true_or_false T bits l values (All-head (λ (k : Literal). 0 < k.variable) l c ones)
-        (omega arith)) [
+    (omega arith)) [
       | inl t ↦ inl (or_left (literal_value (assignment_of bits) l)
           (clause_value (assignment_of bits) c) t)
       | inr f ↦ elim (satisfied_or_false T bits c values
           (All-tail (λ (k : Literal). 0 < k.variable) l c ones) (omega arith)) [
-        | inl s ↦ inl (or_right (literal_value (assignment_of bits) l)
-            (clause_value (assignment_of bits) c) s)
-        | inr g ↦ inr (f, g)
-      ]
+            | inl s ↦ inl (or_right (literal_value (assignment_of bits) l)
+                (clause_value (assignment_of bits) c) s)
+            | inr g ↦ inr (f, g)
+          ]
     ]
 
 pub live_satisfied : (slots : Slots) (T : List Assigned) (bits : List Bool) → AreValues T bits
@@ -93,8 +93,11 @@ pub live_satisfied : (slots : Slots) (T : List Assigned) (bits : List Bool) → 
     → (r : ℕ) (c : List Literal) → clause_at slots r ≡ Some c → Satisfies (assignment_of bits) c
 live_satisfied slots T bits values quiet small r c e =
     let w = small r c e in
-    elim (satisfied_or_false T bits c values w.0 w.1) [ inl s ↦ s | inr f ↦
-        absurd ((quiet r c e).0 f) ]
+    elim (satisfied_or_false T bits c values w.0 w.1) [
+      | inl s ↦ s
+      | inr f ↦
+          absurd ((quiet r c e).0 f)
+    ]
 
 -- only the bits of a clause's variables matter
 abbrev AgreeUpTo : ℕ → Assignment → Assignment → Type 0
@@ -110,11 +113,11 @@ satisfied_agrees n t u [] agree ones small s = s
 satisfied_agrees n t u (l ∷ c) agree ones small s =
     elim (or_cases (literal_value t l) (clause_value t c) s) [
       | inl h ↦ or_left (literal_value u l) (clause_value u c)
-        (sym (value_agrees t u l
-            (agree l.variable (All-head (λ (k : Literal). 0 < k.variable) l c ones) (omega arith)))
+          (sym (value_agrees t u l
+          (agree l.variable (All-head (λ (k : Literal). 0 < k.variable) l c ones) (omega arith)))
           ∙ h)
       | inr h ↦ or_right (literal_value u l) (clause_value u c)
-        (satisfied_agrees n t u c agree (All-tail (λ (k : Literal). 0 < k.variable) l c ones)
+          (satisfied_agrees n t u c agree (All-tail (λ (k : Literal). 0 < k.variable) l c ones)
           (omega arith) h)
     ]
 
@@ -125,5 +128,5 @@ extends_agrees n bits t within ext zero one low = absurd (omega arith)
 extends_agrees n bits t within ext (suc v) one low =
     let long : length (take n bits) ≡ n = length-take-le n bits within in
     bit_at bits v ∙ sym (get_or-take n bits v false low)
-      ∙ sym (ext v (get_or (take n bits) v false)
-        (slice_get-get_or (take n bits) v false (omega arith)))
+    ∙ sym (ext v (get_or (take n bits) v false)
+    (slice_get-get_or (take n bits) v false (omega arith)))

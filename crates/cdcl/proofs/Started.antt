@@ -22,7 +22,7 @@ use Rattle.cdcl.specs.Starts.{AreRising}
 pub given_next : (now : Given) (c : List Literal) (left : List (List Literal)) (all : Given)
     → now ++ given_on (length now + 1) (c ∷ left) ≡ all
     → (now ++ (Formula (length now + 1), c) ∷ []) ++ given_on
-      (length (now ++ (Formula (length now + 1), c) ∷ []) + 1) left
+    (length (now ++ (Formula (length now + 1), c) ∷ []) + 1) left
     ≡ all
 given_next now c left all e =
     let g : Name × List Literal = (Formula (length now + 1), c) in
@@ -44,29 +44,29 @@ pub named_more : (names : List Name) (listed : List (ℕ × Name)) (n places : �
     → AreNamed (set names item.0 item.1) listed (n + 1) places
 named_more names listed n places item rising within ids lt at a =
     let low : item.0 < length names =
-      subst (λ (x : ℕ × Name). x.0 < length names) (sym at) (let h = within n item lt in
-        let l = a.long in omega arith) in
+    subst (λ (x : ℕ × Name). x.0 < length names) (sym at) (let h = within n item lt in
+    let l = a.long in omega arith) in
     record {
       long = length-set names item.0 item.1 ∙ a.long;
       numbers = All-set (λ x. IsId (number_in x)) names item.0 item.1
           (subst (λ (x : ℕ × Name). IsId (number_in x.1)) (sym at) (ids n item lt)) a.numbers;
       named =
-        λ i d h inside. elim (cases_eq i n) as (λ _. name_at (set names item.0 item.1)
+          λ i d h inside. elim (cases_eq i n) as (λ _. name_at (set names item.0 item.1)
           (get_or listed i d).0 ≡ (get_or listed i d).1) [
-        | inl same ↦
-            let is : get_or listed i d ≡ item =
-            ap (λ k. get_or listed k d) same ∙ get_or_default listed n d item lt ∙ sym at in
-            subst (λ (x : ℕ × Name). name_at (set names item.0 item.1) x.0 ≡ x.1) (sym is)
-            (get_or-set_same names item.0 item.1 (Formula 0) low)
-        | inr other ↦
-            let below : i < n = omega arith in
-            let is : get_or listed n d ≡ item = get_or_default listed n d item lt ∙ sym at in
-            let less : (get_or listed i d).0 < item.0 =
-            subst (λ (x : ℕ × Name). (get_or listed i d).0 < x.0) is (rising i n d below lt) in
-            let ne : (get_or listed i d).0 ≢ item.0 = omega arith in
-            get_or-set_other names item.0 (get_or listed i d).0 item.1 (Formula 0) ne
-            ∙ a.named i d below inside
-      ];
+            | inl same ↦
+                let is : get_or listed i d ≡ item =
+                ap (λ k. get_or listed k d) same ∙ get_or_default listed n d item lt ∙ sym at in
+                subst (λ (x : ℕ × Name). name_at (set names item.0 item.1) x.0 ≡ x.1) (sym is)
+                (get_or-set_same names item.0 item.1 (Formula 0) low)
+            | inr other ↦
+                let below : i < n = omega arith in
+                let is : get_or listed n d ≡ item = get_or_default listed n d item lt ∙ sym at in
+                let less : (get_or listed i d).0 < item.0 =
+                subst (λ (x : ℕ × Name). (get_or listed i d).0 < x.0) is (rising i n d below lt) in
+                let ne : (get_or listed i d).0 ≢ item.0 = omega arith in
+                get_or-set_other names item.0 (get_or listed i d).0 item.1 (Formula 0) ne
+                ∙ a.named i d below inside
+          ];
     }
 
 -- Clauses attached in turn.
@@ -102,15 +102,15 @@ pub not_yet : (e : EngineState) (slots : Slots) (variables : ℕ) (listed : List
     → is_attached e item.0 ≡ false
 not_yet e slots variables listed n item rising lt at a =
     elim (cases_Bool (is_attached e item.0)) as (λ _. is_attached e item.0 ≡ false) [
-  | inr f ↦ f
-  | inl t ↦
-      let w = a.only item.0 t in
-      let less : (get_or listed w.0 item).0 < item.0 =
-        subst (λ (x : ℕ × Name). (get_or listed w.0 item).0 < x.0) (sym at)
+      | inr f ↦ f
+      | inl t ↦
+          let w = a.only item.0 t in
+          let less : (get_or listed w.0 item).0 < item.0 =
+          subst (λ (x : ℕ × Name). (get_or listed w.0 item).0 < x.0) (sym at)
           (rising w.0 n item w.1 lt) in
-      let same : (get_or listed w.0 item).0 ≡ item.0 = w.3 item in
-      absurd (omega arith)
-]
+          let same : (get_or listed w.0 item).0 ≡ item.0 = w.3 item in
+          absurd (omega arith)
+    ]
 
 pub attached_more : (e f : EngineState) (slots : Slots) (variables : ℕ) (listed : List (ℕ × Name))
     (n : ℕ) (item : ℕ × Name)
@@ -123,21 +123,25 @@ attached_more e f slots variables listed n item lt at a sets same works fits = r
   variables_are = same.1 ∙ a.variables_are;
   works = works;
   attached =
-    λ i d h inside. elim (cases_eq (get_or listed i d).0 item.0)
+      λ i d h inside. elim (cases_eq (get_or listed i d).0 item.0)
       as (λ _. is_attached f (get_or listed i d).0 ≡ true) [
-    | inl s ↦ ap (is_attached f) s ∙ sets.0
-    | inr o ↦ elim (cases_eq i n) as (λ _. is_attached f (get_or listed i d).0 ≡ true) [
-      | inl here ↦ absurd (o (ap (λ (x : ℕ × Name). x.0) (ap (λ k. get_or listed k d) here
+        | inl s ↦ ap (is_attached f) s ∙ sets.0
+        | inr o ↦ elim (cases_eq i n) as (λ _. is_attached f (get_or listed i d).0 ≡ true) [
+          | inl here ↦ absurd (o (ap (λ (x : ℕ × Name). x.0) (ap (λ k. get_or listed k d) here
               ∙ get_or_default listed n d item lt ∙ sym at)))
-      | inr other ↦ sets.1 (get_or listed i d).0 o ∙ a.attached i d (omega arith) inside
-    ]
-  ];
+          | inr other ↦ sets.1 (get_or listed i d).0 o ∙ a.attached i d (omega arith) inside
+        ]
+      ];
   only =
-    λ r on. elim (cases_eq r item.0) as (λ _. (i : ℕ) × (i < n + 1) × (i < length listed)
+      λ r on. elim (cases_eq r item.0) as (λ _. (i : ℕ) × (i < n + 1) × (i < length listed)
       × ((d : ℕ × Name) → (get_or listed i d).0 ≡ r)) [
-    | inl s ↦ (n, omega arith, lt,
-        λ d. ap (λ (x : ℕ × Name). x.0) (get_or_default listed n d item lt ∙ sym at) ∙ sym s)
-    | inr o ↦ let w = a.only r (sym (sets.1 r o) ∙ on) in
-      (w.0, (let h = w.1 in omega arith), w.2, w.3)
-  ];
+        | inl s ↦ (
+          n,
+          omega arith,
+          lt,
+          λ d. ap (λ (x : ℕ × Name). x.0) (get_or_default listed n d item lt ∙ sym at) ∙ sym s,
+        )
+        | inr o ↦ let w = a.only r (sym (sets.1 r o) ∙ on) in
+            (w.0, (let h = w.1 in omega arith), w.2, w.3)
+      ];
 }

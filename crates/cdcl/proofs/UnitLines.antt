@@ -47,7 +47,7 @@ with_reason None e = absurd (true≢false e)
 with_reason (Some r) e = (r, refl)
 
 flat_tail : (a : Assigned) (T : List Assigned) → depth_of (a ∷ T) ≡ 0 → (is_decision a ≡ false)
-      × (depth_of T ≡ 0)
+    × (depth_of T ≡ 0)
 flat_tail a T flat =
     let e : cond (is_decision a) 1 0 + depth_of T ≡ 0 = sym (depth-cons a T) ∙ flat in
     elim (cases_Bool (is_decision a)) as (λ _. (is_decision a ≡ false) × (depth_of T ≡ 0)) [
@@ -80,21 +80,21 @@ is_next slots T i k r reasons lt at reason =
     let a : Assigned = get_or T i d in
     let k_is : k ≡ a.literal = at ∙ get_or-map (λ (x : Assigned). x.literal) T i d k lt in
     let a_reason : a.reason ≡ Some r = sym (reason_at (clause_at slots) T i d reasons lt)
-      ∙ ap (λ (x : Literal). reason_in T x.variable) (sym k_is) ∙ reason in
+    ∙ ap (λ (x : Literal). reason_in T x.variable) (sym k_is) ∙ reason in
     let split : T ≡ take i T ++ a ∷ drop (suc i) T = split_at T i d lt in
     let j : IsJustified (clause_at slots) (literals_of (take i T)) a.literal a.reason =
-      justified_at (clause_at slots) (take i T) a (drop (suc i) T)
-        (subst (HasReasons (clause_at slots) []) split reasons) in
+    justified_at (clause_at slots) (take i T) a (drop (suc i) T)
+    (subst (HasReasons (clause_at slots) []) split reasons) in
     let w : IsJustified (clause_at slots) (literals_of (take i T)) a.literal (Some r) =
-      subst (IsJustified (clause_at slots) (literals_of (take i T)) a.literal) a_reason j in
+    subst (IsJustified (clause_at slots) (literals_of (take i T)) a.literal) a_reason j in
     record {
       clause = w.0;
       here = w.1;
       unit = subst (λ A. IsUnit w.0 A k) (sym (take-map (λ (x : Assigned). x.literal) i T))
-        (subst (IsUnit w.0 (literals_of (take i T))) (sym k_is) w.2);
+          (subst (IsUnit w.0 (literals_of (take i T))) (sym k_is) w.2);
       member = ap (λ x. contains_literal x (literals_of T)) at
-        ∙ contains_at (literals_of T) i k
-        (omega (arith, length-map T (λ (x : Assigned). x.literal)));
+          ∙ contains_at (literals_of T) i k
+          (omega (arith, length-map T (λ (x : Assigned). x.literal)));
     }
 
 -- a literal of the reason that is false is so by a literal before
@@ -104,12 +104,12 @@ false_before : (slots : Slots) (T : List Assigned) (i : ℕ) (k : Literal) (r : 
     → contains_literal (negation x) (take i (literals_of T)) ≡ true
 false_before slots T i k r n x apart m f =
     elim (all_at (λ y. (y ≡ k) ⊎ (contains_literal (negation y) (take i (literals_of T)) ≡ true))
-      n.clause x n.unit.others m) as (λ _. contains_literal (negation x) (take i (literals_of T))
-      ≡ true) [
-  | inl s ↦ absurd (apart k n.member (ap (λ y. contains_literal (negation y) (literals_of T))
-        (sym s) ∙ f))
-  | inr b ↦ b
-]
+    n.clause x n.unit.others m) as (λ _. contains_literal (negation x) (take i (literals_of T))
+    ≡ true) [
+      | inl s ↦ absurd (apart k n.member (ap (λ y. contains_literal (negation y) (literals_of T))
+          (sym s) ∙ f))
+      | inr b ↦ b
+    ]
 
 same_reference : (slots : Slots) (r q : ℕ) (c d : List Literal) → q ≡ r → clause_at slots r ≡ Some c
     → clause_at slots q ≡ Some d → d ≡ c
@@ -127,10 +127,10 @@ next_noted slots T k r units noted reasons flat n notes q m c at x x_in f =
     let same : c ≡ n.clause = same_reference slots r q n.clause c (only_one r q m) n.here at in
     let z = flat_zero T flat in
     let before = false_before slots T noted k r n x (no_opposites (clause_at slots) T reasons)
-      (ap (contains_literal x) (sym same) ∙ x_in) (ap (contains_literal (negation x)) (sym z)
-        ∙ f) in
+    (ap (contains_literal x) (sym same) ∙ x_in) (ap (contains_literal (negation x)) (sym z)
+    ∙ f) in
     all_at (HasUnit slots units) (take noted (zero_of T)) (negation x) notes.have
-      (ap (λ Z. contains_literal (negation x) (take noted Z)) z ∙ before)
+    (ap (λ Z. contains_literal (negation x) (take noted Z)) z ∙ before)
 
 -- so the line is a step
 pub adds_unit : (slots : Slots) (T : List Assigned) (names : List Name) (given : Given)
@@ -144,26 +144,26 @@ adds_unit slots T names given ls hints k i r reasons flat n store h few =
     let z = flat_zero T flat in
     let A : List Literal = take i (literals_of T) in
     let in_trail : (y : Literal) → contains_literal y h.zeros ≡ true
-      → contains_literal y (literals_of T) ≡ true = λ y m. ap (contains_literal y) (sym z)
-      ∙ h.within y m in
+    → contains_literal y (literals_of T) ≡ true = λ y m. ap (contains_literal y) (sym z)
+    ∙ h.within y m in
     let within : (y : Literal) → contains_literal y h.zeros ≡ true → contains_literal y A ≡ true =
-      λ y m.
+    λ y m.
     (let w = h.needed y m in
     let same : w.clause ≡ n.clause =
-      same_reference slots r w.reference n.clause w.clause (only_one r w.reference w.listed)
-        n.here w.live in
+    same_reference slots r w.reference n.clause w.clause (only_one r w.reference w.listed)
+    n.here w.live in
     let b =
-      false_before slots T i k r n (negation y) apart (ap (contains_literal (negation y)) (sym same)
-        ∙ w.stands) (ap (λ x. contains_literal x (literals_of T)) (negation_twice y)
-        ∙ in_trail y m) in
+    false_before slots T i k r n (negation y) apart (ap (contains_literal (negation y)) (sym same)
+    ∙ w.stands) (ap (λ x. contains_literal x (literals_of T)) (negation_twice y)
+    ∙ in_trail y m) in
     ap (λ x. contains_literal x A) (sym (negation_twice y)) ∙ b) in
     adds_learned slots names given ls (record { kind = UnitKind; clause = k ∷ []; hints = hints })
-      (h.units ++ r ∷ []) store refl h.spelled
+    (h.units ++ r ∷ []) store refl h.spelled
     (record { no_repeat = refl; no_opposites = refl; small = omega arith })
     (refutes_unit (clause_at slots) A k h.units h.zeros r n.clause h.are_units h.once
-        (λ y m o. apart y (in_trail y m) (in_trail (negation y) o)) within n.here n.unit
+    (λ y m o. apart y (in_trail y m) (in_trail (negation y) o)) within n.here n.unit
     (λ x m other. elim (all_at (λ y. (y ≡ k) ⊎ (contains_literal (negation y) A ≡ true)) n.clause x
-          n.unit.others m) as (λ _. contains_literal (negation x) h.zeros ≡ true) [
+    n.unit.others m) as (λ _. contains_literal (negation x) h.zeros ≡ true) [
       | inl s ↦ absurd (other s)
       | inr b ↦ h.serves.0 n.clause n.here x m (ap (contains_literal (negation x)) z
           ∙ contains_take (negation x) i (literals_of T) b)
@@ -209,51 +209,53 @@ runs_noted m n u p ls hints k v r run room past flat left at adds w more few vis
     let z = flat_zero T flat in
     let reasons = run.searches.fits.reasons in
     let apart : NoOpposites (zero_of T) =
-      subst NoOpposites (sym z) (no_opposites (clause_at slots) T reasons) in
+    subst NoOpposites (sym z) (no_opposites (clause_at slots) T reasons) in
     let small = literal_small e slots m.noted k run.searches.fits left at in
     let long : length (literals_of T) ≡ length T = length-map T (λ (x : Assigned). x.literal) in
     let all_ones : AllByRecursion (λ (j : Literal). 0 < j.variable) (literals_of T) =
-      ones_from T (m.engine).variables
-        (recursion_from_All (λ (a : Assigned). (0 < a.literal.variable)
-          × (a.literal.variable ≤ (m.engine).variables)) T run.searches.fits.small) in
+    ones_from T (m.engine).variables
+    (recursion_from_All (λ (a : Assigned). (0 < a.literal.variable)
+    × (a.literal.variable ≤ (m.engine).variables)) T run.searches.fits.small) in
     let ones : AllByRecursion (λ (j : Literal). 0 < j.variable) (zero_of T) =
-      subst (AllByRecursion (λ (j : Literal). 0 < j.variable)) (sym z) all_ones in
+    subst (AllByRecursion (λ (j : Literal). 0 < j.variable)) (sym z) all_ones in
     let left_zero : m.noted < length (zero_of T) =
-      subst (λ X. m.noted < length X) (sym z) (omega arith) in
+    subst (λ X. m.noted < length X) (sym z) (omega arith) in
     let at_zero : k ≡ get_or (zero_of T) m.noted k =
-      subst (λ X. k ≡ get_or X m.noted k) (sym z) at in
+    subst (λ X. k ≡ get_or X m.noted k) (sym z) at in
     let room_k : k.variable ≤ length (m.units).items = (let ru = room.units in let sk = small.1 in
-        omega arith) in
+    omega arith) in
     let ran =
-      run_note e n.engine slots p.stack (tables_of m) (p.frozen).items p.first (p.given).items ls l
-        k run flat left_zero at_zero refl apart ones room_k adds (omega arith) w.attached (w.trail,
-        w.variables) w.works w.fits in
+    run_note e n.engine slots p.stack (tables_of m) (p.frozen).items p.first (p.given).items ls l
+    k run flat left_zero at_zero refl apart ones room_k adds (omega arith) w.attached (
+      w.trail,
+      w.variables,
+    ) w.works w.fits in
     let placed = room_placed m n (Added (m.additions + 1)) (k ∷ []) room w in
     record {
       running = running_same n.engine u.engine (slots ++ Some (k ∷ []) ∷ []) (u.store).slots p.stack
-        (with_addition (tables_of m) (set (m.units).items (k.variable - 1) (Some (length slots)))
+          (with_addition (tables_of m) (set (m.units).items (k.variable - 1) (Some (length slots)))
           (m.noted + 1)) (tables_of u) (p.frozen).items p.first (p.given).items (ls ++ l ∷ [])
           d.engine (d.slots ∙ w.slots)
           (tables_same (with_addition (tables_of m)
-                (set (m.units).items (k.variable - 1) (Some (length slots))) (m.noted + 1))
-              (tables_of u) (d.names ∙ w.names)
+          (set (m.units).items (k.variable - 1) (Some (length slots))) (m.noted + 1))
+          (tables_of u) (d.names ∙ w.names)
           (d.units ∙ ap (λ x. set x v (Some r)) (ap (λ x. x.items) w.units)
-              ∙ (λ i. set (m.units).items (vis i) (Some (ris i)))) (d.noted
-              ∙ ap (λ x. x + 1) w.noted) (d.kept ∙ w.kept) (d.additions ∙ more))
+          ∙ (λ i. set (m.units).items (vis i) (Some (ris i)))) (d.noted
+          ∙ ap (λ x. x + 1) w.noted) (d.kept ∙ w.kept) (d.additions ∙ more))
           ran;
       room = record {
         order = ap (λ x. x.variables) d.order ∙ placed.order ∙ sym (ap (λ x. x.variables) d.engine);
         analyzer =
-          subst (λ x. x.variables < u.analyzer) (sym d.engine)
+            subst (λ x. x.variables < u.analyzer) (sym d.engine)
             (subst (λ x. (n.engine).variables < x) (sym d.analyzer) placed.analyzer);
         few = subst (λ x. x.variables < 2 ^ 27) (sym d.engine) placed.few;
         stamps = ap (λ x. length x.items) d.stamps ∙ placed.stamps
-          ∙ sym (ap (λ x. x.variables) d.engine);
+            ∙ sym (ap (λ x. x.variables) d.engine);
         units = ap length d.units ∙ length-set (n.units).items v (Some r) ∙ placed.units
-          ∙ sym (ap (λ x. x.variables) d.engine);
+            ∙ sym (ap (λ x. x.variables) d.engine);
       };
       past =
-        subst (λ x. All (λ y. y ≤ u.additions) x.items) (sym (d.stamps ∙ w.stamps))
+          subst (λ x. All (λ y. y ≤ u.additions) x.items) (sym (d.stamps ∙ w.stamps))
           (subst (λ x. All (λ y. y ≤ x) (m.stamps).items) (sym (d.additions ∙ more)) past);
       few = subst (λ x. x < 2 ^ 61) (sym d.additions) few;
     }

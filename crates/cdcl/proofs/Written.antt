@@ -13,8 +13,13 @@ use Rattle.cdcl.proofs.LearnedLines.{by_rup}
 
 pub writes_none : (given : Given) (ls : List LogLine) → Writes given ls ls 0
 writes_none given ls =
-    record { more = []; grows = sym (append-nil ls); short = All-nil IsLearnedOrShort;
-      learned_is = refl; new = λ base above. tt }
+    record {
+      more = [];
+      grows = sym (append-nil ls);
+      short = All-nil IsLearnedOrShort;
+      learned_is = refl;
+      new = λ base above. tt;
+    }
 
 learns_join : (given : Given) (base : ℕ) (before ls ms : List LogLine)
     → LearnsNew nothing_exempt given base before ls
@@ -22,10 +27,12 @@ learns_join : (given : Given) (base : ℕ) (before ls ms : List LogLine)
     → LearnsNew nothing_exempt given base before (ls ++ ms)
 learns_join given base before [] ms v w =
     subst (λ x. LearnsNew nothing_exempt given base x ms) (append-nil before) w
-learns_join given base before (l ∷ ls) ms v w =
-    (v.0, learns_join given base (before ++ l ∷ []) ls ms v.1
-        (subst (λ x. LearnsNew nothing_exempt given base x ms)
-          (sym (append_assoc before (l ∷ []) ls)) w))
+learns_join given base before (l ∷ ls) ms v w = (
+  v.0,
+  learns_join given base (before ++ l ∷ []) ls ms v.1
+      (subst (λ x. LearnsNew nothing_exempt given base x ms)
+      (sym (append_assoc before (l ∷ []) ls)) w),
+)
 
 pub writes_join : (given : Given) (a b c : List LogLine) (m n : ℕ) → Writes given a b m
     → Writes given b c n → Writes given a c (m + n)
@@ -34,9 +41,9 @@ writes_join given a b c m n v w = record {
   grows = w.grows ∙ ap (λ x. x ++ w.more) v.grows ∙ append_assoc a v.more w.more;
   short = All-append IsLearnedOrShort v.more w.more v.short w.short;
   learned_is = sum_by-append (λ (l : LogLine). cond (is_learned l.kind) 1 0) v.more w.more
-    ∙ (let x = v.learned_is in let y = w.learned_is in omega arith);
+      ∙ (let x = v.learned_is in let y = w.learned_is in omega arith);
   new =
-    λ base above. learns_join given base a v.more w.more (v.new base above)
+      λ base above. learns_join given base a v.more w.more (v.new base above)
       (subst (λ x. LearnsNew nothing_exempt given base x w.more) v.grows (w.new base above));
 }
 
@@ -65,9 +72,13 @@ writes_learned given ls l learned adds new = record {
   short = All-cons IsLearnedOrShort l [] (inl learned) (All-nil IsLearnedOrShort);
   learned_is = one_count l ∙ ap (λ b. cond b 1 0 + 0) learned;
   new =
-    λ base above. (λ e. (new base above,
-        by_rup base (log_live given base ls) l adds.names adds.plain (adds.refutes base above)),
-      tt);
+      λ base above. (
+        λ e. (
+          new base above,
+          by_rup base (log_live given base ls) l adds.names adds.plain (adds.refutes base above),
+        ),
+        tt,
+      );
 }
 
 -- what follows from either end of a call

@@ -32,14 +32,14 @@ false_less A B l w e =
 
 unit_served : (c A B : List Literal) (l : Literal) → Within B A
     → ((k : Literal) → contains_literal k c ≡ true → contains_literal (negation k) A ≡ true
-      → contains_literal (negation k) B ≡ true)
+    → contains_literal (negation k) B ≡ true)
     → IsUnit c A l → IsUnit c B l
 unit_served c A B l w s u = record {
   member = u.member;
   not_true = false_less A B l w u.not_true;
   not_false = false_less A B (negation l) w u.not_false;
   others =
-    all_in (λ k. (k ≡ l) ⊎ (contains_literal (negation k) A ≡ true))
+      all_in (λ k. (k ≡ l) ⊎ (contains_literal (negation k) A ≡ true))
       (λ k. (k ≡ l) ⊎ (contains_literal (negation k) B ≡ true)) c
       (λ k m h. elim h [ inl e ↦ inl e | inr e ↦ inr (s k m e) ]) u.others;
 }
@@ -54,10 +54,10 @@ serves_more : (at : Clauses) (A B : List Literal) (l : Literal) (hs : List ℕ) 
     → Serves at (l ∷ A) (l ∷ B) hs
 serves_more at A B l hs s =
     all_weaker _ _ hs (λ h f c e k m t. elim (or_cases (literal_eq (negation k) l)
-        (contains_literal (negation k) A) t) [
-  | inl x ↦ or_left (literal_eq (negation k) l) (contains_literal (negation k) B) x
-  | inr x ↦ or_right (literal_eq (negation k) l) (contains_literal (negation k) B) (f c e k m x)
-]) s
+    (contains_literal (negation k) A) t) [
+      | inl x ↦ or_left (literal_eq (negation k) l) (contains_literal (negation k) B) x
+      | inr x ↦ or_right (literal_eq (negation k) l) (contains_literal (negation k) B) (f c e k m x)
+    ]) s
 
 leads_served : (at : Clauses) (A B : List Literal) (hs : List ℕ) (final : ℕ) (C : List Literal)
     → Within B A → Serves at A B (hs ++ final ∷ []) → Leads at A hs C
@@ -66,8 +66,8 @@ leads_served at A B [] final C w s e =
     (B, refl, subst (Within B) (sym e) w, subst (λ X. Serves at X B (final ∷ [])) (sym e) s)
 leads_served at A B (h ∷ hs) final C w s v =
     let rest =
-      leads_served at (v.1 ∷ A) (v.1 ∷ B) hs final C (within_more A B v.1 w)
-        (serves_more at A B v.1 (hs ++ final ∷ []) s.1) v.4 in
+    leads_served at (v.1 ∷ A) (v.1 ∷ B) hs final C (within_more A B v.1 w)
+    (serves_more at A B v.1 (hs ++ final ∷ []) s.1) v.4 in
     (rest.0, (v.0, v.1, v.2, unit_served v.0 A B v.1 w (s.0 v.0 v.2) v.3, rest.1), rest.2, rest.3)
 
 -- fewer literals, by which the hinted clauses are still unit and false
@@ -75,7 +75,7 @@ pub refutes_served : (at : Clauses) (A B : List Literal) (hs : List ℕ) → Wit
     → Serves at A B hs → Refutes at A hs → Refutes at B hs
 refutes_served at A B hs w s r =
     let z =
-      leads_served at A B r.front r.final r.reached w (subst (Serves at A B) r.split s) r.leads in
+    leads_served at A B r.front r.final r.reached w (subst (Serves at A B) r.split s) r.leads in
     record {
       front = r.front;
       final = r.final;
@@ -85,7 +85,7 @@ refutes_served at A B hs w s r =
       clause = r.clause;
       live = r.live;
       conflict =
-        all_in (λ k. contains_literal (negation k) r.reached ≡ true)
+          all_in (λ k. contains_literal (negation k) r.reached ≡ true)
           (λ k. contains_literal (negation k) z.0 ≡ true) r.clause
           (λ k m e. z.3.0 r.clause r.live k m e) r.conflict;
     }
@@ -96,7 +96,7 @@ refutes_served at A B hs w s r =
 abbrev pub AreOpen : List Literal → List Literal → Type 0
 AreOpen A [] = Unit {0}
 AreOpen A (l ∷ ls) = (contains_literal l A ≡ false) × (contains_literal (negation l) A ≡ false)
-      × AreOpen (l ∷ A) ls
+    × AreOpen (l ∷ A) ls
 
 abbrev pub with_all : List Literal → List Literal → List Literal
 with_all A [] = A
@@ -105,8 +105,12 @@ with_all A (l ∷ ls) = with_all (l ∷ A) ls
 one_unit : (l : Literal) (A : List Literal) → contains_literal l A ≡ false
     → contains_literal (negation l) A ≡ false → IsUnit (l ∷ []) A l
 one_unit l A e f =
-    record { member = or_left (literal_eq l l) false (literal_eq-refl l); not_true = e;
-      not_false = f; others = (inl refl, tt) }
+    record {
+      member = or_left (literal_eq l l) false (literal_eq-refl l);
+      not_true = e;
+      not_false = f;
+      others = (inl refl, tt);
+    }
 
 pub leads_units : (at : Clauses) (A : List Literal) (rs : List ℕ) (ls : List Literal)
     → AreUnits at rs ls → AreOpen A ls → Leads at A rs (with_all A ls)
@@ -142,4 +146,4 @@ pub refutes_after_units : (at : Clauses) (A : List Literal) (rs : List ℕ) (ls 
     → Refutes at (A ++ ls) hints → Refutes at A (rs ++ hints)
 refutes_after_units at A rs ls hints u o r =
     refutes_after at A rs (with_all A ls) (A ++ ls) hints (leads_units at A rs ls u o)
-      (same_front A ls) r
+    (same_front A ls) r

@@ -9,8 +9,12 @@ use Rattle.wcnf.proofs.Laws.{Layout, IsCompacting, moved_within, compacting_dead
 use Rattle.clauses.proofs.Reading.{no_head}
 
 abbrev pub heads : Layout Head Literal (List Literal)
-heads = record { start = λ h. h.start; length = λ h. h.length; live = λ h. h.live;
-      listed = λ h c. c }
+heads = record {
+  start = λ h. h.start;
+  length = λ h. h.length;
+  live = λ h. h.live;
+  listed = λ h c. c;
+}
 
 -- one head, as its flag and its span were read
 module _ (ls : List Literal) (hs : List Head) (kept end i : ℕ) (value : List (List Literal))
@@ -24,19 +28,19 @@ module _ (ls : List Literal) (hs : List Head) (kept end i : ℕ) (value : List (
   module _ (x : Span) (is : x ≡ span_of looked) where
     pub moves_down : (end ≤ x.start) × (x.start + x.length ≤ length ls)
     moves_down = subst (λ (y : Span). (end ≤ y.start) × (y.start + y.length ≤ length ls)) (sym is)
-      (moved_within heads ls hs kept end i value no_head s h)
+        (moved_within heads ls hs kept end i value no_head s h)
 
     abbrev moved_head : Head
     moved_head = record { start = end; length = x.length; live = true }
 
     pub live_head : looked.live ≡ true → (n : ℕ) → n ≡ x.length
-      → IsCompacting heads (paste ls end (drop x.start ls) n) (set hs kept moved_head) (kept + 1)
-      (end + x.length) (i + 1) value
+        → IsCompacting heads (paste ls end (drop x.start ls) n) (set hs kept moved_head) (kept + 1)
+        (end + x.length) (i + 1) value
     live_head e n long =
         let all =
-          compacting_live heads ls hs kept end i value no_head s h moved_head e refl
-            (ap (λ (y : Span). y.length) is) refl (λ c. refl) in
+        compacting_live heads ls hs kept end i value no_head s h moved_head e refl
+        (ap (λ (y : Span). y.length) is) refl (λ c. refl) in
         let by_span =
-          subst (λ (y : Span). IsCompacting heads (paste ls end (drop y.start ls) y.length)
-            (set hs kept moved_head) (kept + 1) (end + y.length) (i + 1) value) (sym is) all in
+        subst (λ (y : Span). IsCompacting heads (paste ls end (drop y.start ls) y.length)
+        (set hs kept moved_head) (kept + 1) (end + y.length) (i + 1) value) (sym is) all in
         rw long by_span

@@ -30,7 +30,7 @@ clause_kept slots c d r e = clause_old slots c r (live_within slots r d e) ∙ e
 
 pub clause_cases : (slots : Slots) (c : List Literal) (r : ℕ) (d : List Literal)
     → clause_at (slots ++ Some c ∷ []) r ≡ Some d → (clause_at slots r ≡ Some d)
-      ⊎ ((r ≡ length slots) × (d ≡ c))
+    ⊎ ((r ≡ length slots) × (d ≡ c))
 clause_cases [] c zero d e = inr (refl, sym (same_Some c d e))
 clause_cases [] c (suc r) d e = absurd (none-some d e)
 clause_cases (s ∷ slots) c zero d e = inl e

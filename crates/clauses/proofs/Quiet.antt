@@ -10,7 +10,7 @@ use Rattle.clauses.specs.Within.{Within}
 
 abbrev pub OpensNothing : Clauses → List Literal → Type 0
 OpensNothing at A = (r : ℕ) (c : List Literal) → at r ≡ Some c → (IsFalseUnder c A → ⊥)
-      × ((l : Literal) → IsUnit c A l → ⊥)
+    × ((l : Literal) → IsUnit c A l → ⊥)
 
 parts_more : (A B : List Literal) (l : Literal) → Within B A → (c : List Literal)
     → AllByRecursion (λ k. (k ≡ l) ⊎ (contains_literal (negation k) B ≡ true)) c
@@ -23,9 +23,10 @@ all_false : (A : List Literal) (l : Literal) (c : List Literal)
     → contains_literal (negation l) A ≡ true
     → AllByRecursion (λ k. (k ≡ l) ⊎ (contains_literal (negation k) A ≡ true)) c → IsFalseUnder c A
 all_false A l [] f p = tt
-all_false A l (k ∷ c) f p =
-    (elim (p.0) [ inl s ↦ ap (λ x. contains_literal (negation x) A) s ∙ f | inr g ↦ g ],
-      all_false A l c f p.1)
+all_false A l (k ∷ c) f p = (
+  elim (p.0) [ inl s ↦ ap (λ x. contains_literal (negation x) A) s ∙ f | inr g ↦ g ],
+  all_false A l c f p.1,
+)
 
 -- a unit clause has its literal true already
 unit_is_true : (at : Clauses) (A B : List Literal) (h : ℕ) (c : List Literal) (l : Literal)
@@ -35,11 +36,11 @@ unit_is_true at A B h c l quiet within e u =
     elim (cases_Bool (contains_literal l A)) as (λ _. contains_literal l A ≡ true) [
       | inl t ↦ t
       | inr n ↦ elim (cases_Bool (contains_literal (negation l) A))
-        as (λ _. contains_literal l A ≡ true) [
-        | inl f ↦ absurd ((quiet h c e).0 (all_false A l c f others))
-        | inr o ↦ absurd ((quiet h c e).1 l
-            (record { member = u.member; not_true = n; not_false = o; others = others }))
-      ]
+          as (λ _. contains_literal l A ≡ true) [
+            | inl f ↦ absurd ((quiet h c e).0 (all_false A l c f others))
+            | inr o ↦ absurd ((quiet h c e).1 l
+                (record { member = u.member; not_true = n; not_false = o; others = others }))
+          ]
     ]
 
 quiet_leads : (at : Clauses) (A : List Literal) → OpensNothing at A → (B : List Literal)
@@ -48,7 +49,7 @@ quiet_leads at A quiet B within [] C w = λ l m. within l (sym (ap (contains_lit
 quiet_leads at A quiet B within (h ∷ hs) C w =
     let true_one = unit_is_true at A B h w.0 w.1 quiet within w.2 w.3 in
     quiet_leads at A quiet (w.1 ∷ B)
-      (λ l m. elim (or_cases (literal_eq l w.1) (contains_literal l B) m) [
+    (λ l m. elim (or_cases (literal_eq l w.1) (contains_literal l B) m) [
       | inl s ↦ ap (λ x. contains_literal x A) (literal_eq-true l w.1 s) ∙ true_one
       | inr b ↦ within l b
     ]) hs C w.4
@@ -62,5 +63,5 @@ pub not_refuted : (at : Clauses) (A : List Literal) → OpensNothing at A → (h
 not_refuted at A quiet hs w =
     (quiet w.final w.clause w.live).0
     (false_more w.clause A w.reached
-        (quiet_leads at A quiet [] (λ l m. absurd (false≢true m)) w.front w.reached w.leads)
-        w.conflict)
+    (quiet_leads at A quiet [] (λ l m. absurd (false≢true m)) w.front w.reached w.leads)
+    w.conflict)

@@ -16,15 +16,15 @@ pub span_at : (hs : List Head) (i : ℕ) (s : Span) → i < length hs
     → slice_get (map span_of hs) i ≡ Some s → s ≡ span_of (get_or hs i no_head)
 span_at hs i s h e =
     let here : slice_get (map span_of hs) i ≡ Some (span_of (get_or hs i no_head)) =
-      slice_get-map span_of hs i ∙ ap (option_map span_of) (slice_get-get_or hs i no_head h) in
+    slice_get-map span_of hs i ∙ ap (option_map span_of) (slice_get-get_or hs i no_head h) in
     cc
 
 pub flag_at : (hs : List Head) (i : ℕ) (b : Bool) → i < length hs
     → IsTrue b ↔ (slice_get (map (λ h. h.live) hs) i ≡ Some true) → (get_or hs i no_head).live ≡ b
 flag_at hs i b h e =
     let here : slice_get (map (λ h. h.live) hs) i ≡ Some (get_or hs i no_head).live =
-      slice_get-map (λ h. h.live) hs i
-        ∙ ap (option_map (λ h. h.live)) (slice_get-get_or hs i no_head h) in
+    slice_get-map (λ h. h.live) hs i
+    ∙ ap (option_map (λ h. h.live)) (slice_get-get_or hs i no_head h) in
     elim (cases_Bool b) [
       | inl t ↦ let set : slice_get (map (λ h. h.live) hs) i ≡ Some true = e.0 t in cc
       | inr f ↦ elim (cases_Bool (get_or hs i no_head).live) [

@@ -41,17 +41,17 @@ pub listing_live : (hs : List Head) (old : ℕ) (moves : Renaming) → IsListing
     → IsListing hs (old + 1) (moves ++ (old, length moves) ∷ [])
 listing_live hs old moves l h live =
     let long : length (moves ++ (old, length moves) ∷ []) ≡ length moves + 1 =
-      length-append moves ((old, length moves) ∷ []) in
+    length-append moves ((old, length moves) ∷ []) in
     record {
       few = omega (arith, l.few);
       all = λ ls.
           let next : moves_from old (length moves) (slots_of ls (drop old hs)) ≡ (old, length moves)
-            ∷ moves_from (old + 1) (length moves + 1) (slots_of ls (drop (old + 1) hs)) =
-            rw (drop_more hs old no_head h)
-              (moves_live old (length moves) ls (get_or hs old no_head) (drop (old + 1) hs) live) in
+          ∷ moves_from (old + 1) (length moves + 1) (slots_of ls (drop (old + 1) hs)) =
+          rw (drop_more hs old no_head h)
+          (moves_live old (length moves) ls (get_or hs old no_head) (drop (old + 1) hs) live) in
           rw long (append_assoc moves ((old, length moves) ∷ [])
-              (moves_from (old + 1) (length moves + 1) (slots_of ls (drop (old + 1) hs)))
-              ∙ ap (λ ms. moves ++ ms) (sym next) ∙ l.all ls);
+          (moves_from (old + 1) (length moves + 1) (slots_of ls (drop (old + 1) hs)))
+          ∙ ap (λ ms. moves ++ ms) (sym next) ∙ l.all ls);
     }
 
 pub listing_dead : (hs : List Head) (old : ℕ) (moves : Renaming) → IsListing hs old moves
@@ -60,9 +60,9 @@ listing_dead hs old moves l h dead = record {
   few = omega (arith, l.few);
   all = λ ls.
       let next : moves_from old (length moves) (slots_of ls (drop old hs)) ≡ moves_from (old + 1)
-        (length moves) (slots_of ls (drop (old + 1) hs)) =
-        rw (drop_more hs old no_head h) (moves_dead old (length moves) ls (get_or hs old no_head)
-          (drop (old + 1) hs) dead) in
+      (length moves) (slots_of ls (drop (old + 1) hs)) =
+      rw (drop_more hs old no_head h) (moves_dead old (length moves) ls (get_or hs old no_head)
+      (drop (old + 1) hs) dead) in
       ap (λ ms. moves ++ ms) (sym next) ∙ l.all ls;
 }
 
@@ -72,7 +72,7 @@ old_rises : (old new : ℕ) (slots : Slots)
 old_rises old new [] = tt
 old_rises old new (None ∷ slots) =
     rises_weaker old (old + 1) (map (λ m. m.0) (moves_from (old + 1) new slots)) (omega arith)
-      (old_rises (old + 1) new slots)
+    (old_rises (old + 1) new slots)
 old_rises old new (Some c ∷ slots) = (omega arith, old_rises (old + 1) (new + 1) slots)
 
 new_rises : (old new : ℕ) (slots : Slots)
@@ -87,17 +87,19 @@ moves_lower old new [] h = All-nil (λ m. m.1 ≤ m.0)
 moves_lower old new (None ∷ slots) h = moves_lower (old + 1) new slots (omega arith)
 moves_lower old new (Some c ∷ slots) h =
     All-cons (λ m. m.1 ≤ m.0) (old, new) (moves_from (old + 1) (new + 1) slots) h
-      (moves_lower (old + 1) (new + 1) slots (omega arith))
+    (moves_lower (old + 1) (new + 1) slots (omega arith))
 
 pub moves_rise : (slots : Slots) (moves : Renaming) → moves ≡ moves_of slots
     → IsStrictlyIncreasing (map (λ m. m.0) moves) × IsStrictlyIncreasing (map (λ m. m.1) moves)
-      × All (λ m. m.1 ≤ m.0) moves
+    × All (λ m. m.1 ≤ m.0) moves
 moves_rise slots moves is =
     let all : IsStrictlyIncreasing (map (λ m. m.0) (moves_of slots))
-        × IsStrictlyIncreasing (map (λ m. m.1) (moves_of slots))
-        × All (λ m. m.1 ≤ m.0) (moves_of slots) =
-      (rising_from 0 _ (old_rises 0 0 slots), rising_from 0 _ (new_rises 0 0 slots),
-        moves_lower 0 0 slots (omega arith)) in
+    × IsStrictlyIncreasing (map (λ m. m.1) (moves_of slots))
+    × All (λ m. m.1 ≤ m.0) (moves_of slots) = (
+      rising_from 0 _ (old_rises 0 0 slots),
+      rising_from 0 _ (new_rises 0 0 slots),
+      moves_lower 0 0 slots (omega arith),
+    ) in
     rw is all
 
 -- they lead from each live reference to the one of the same clause
@@ -105,13 +107,13 @@ abbrev together : Slots → Slots
 together slots = map Some (live_clauses slots)
 
 moves_old : (old new : ℕ) (slots : Slots) → map (λ m. m.0) (moves_from old new slots)
-      ≡ places_from old slots
+    ≡ places_from old slots
 moves_old old new [] = refl
 moves_old old new (None ∷ slots) = moves_old (old + 1) new slots
 moves_old old new (Some c ∷ slots) = ap (λ ks. old ∷ ks) (moves_old (old + 1) (new + 1) slots)
 
 moves_new : (old new : ℕ) (slots : Slots) → map (λ m. m.1) (moves_from old new slots)
-      ≡ places_from new (together slots)
+    ≡ places_from new (together slots)
 moves_new old new [] = refl
 moves_new old new (None ∷ slots) = moves_new (old + 1) new slots
 moves_new old new (Some c ∷ slots) = ap (λ ks. new ∷ ks) (moves_new (old + 1) (new + 1) slots)
@@ -138,11 +140,11 @@ moves_same before after old new (None ∷ slots) f g =
     moves_same before after (old + 1) new slots (goes_on_tail before old None slots f) g
 moves_same before after old new (Some c ∷ slots) f g =
     All-cons (λ m. clause_at after m.1 ≡ clause_at before m.0) (old, new)
-      (moves_from (old + 1) (new + 1) slots)
+    (moves_from (old + 1) (new + 1) slots)
     (goes_on_head after new (Some c) (together slots) g
-        ∙ sym (goes_on_head before old (Some c) slots f))
+    ∙ sym (goes_on_head before old (Some c) slots f))
     (moves_same before after (old + 1) (new + 1) slots (goes_on_tail before old (Some c) slots f)
-        (goes_on_tail after new (Some c) (together slots) g))
+    (goes_on_tail after new (Some c) (together slots) g))
 
 goes_on_all : (slots : Slots) → GoesOn slots 0 slots
 goes_on_all slots k = ap (clause_at slots) (zero-add k)
@@ -154,7 +156,7 @@ renaming_together slots =
       to = moves_new 0 0 slots;
       lower = moves_lower 0 0 slots (omega arith);
       same =
-        moves_same slots (together slots) 0 0 slots (goes_on_all slots)
+          moves_same slots (together slots) 0 0 slots (goes_on_all slots)
           (goes_on_all (together slots));
     }
 
@@ -165,7 +167,7 @@ clauses_of_slots ls [] = refl
 clauses_of_slots ls (h ∷ hs) =
     elim (cases_Bool h.live) [
       | inl e ↦ rw (slot_live ls h e, pieces_live heads ls h hs e)
-        (ap (λ cs. literals_of ls h ∷ cs) (clauses_of_slots ls hs))
+          (ap (λ cs. literals_of ls h ∷ cs) (clauses_of_slots ls hs))
       | inr e ↦ rw (slot_dead ls h e, pieces_dead heads ls h hs e) (clauses_of_slots ls hs)
     ]
 
@@ -174,7 +176,7 @@ slots_of_live : (ls : List Literal) (hs : List Head) → AllLive hs
 slots_of_live ls [] l = refl
 slots_of_live ls (h ∷ hs) l =
     rw (slot_live ls h l.0, pieces_live heads ls h hs l.0)
-      (ap (λ xs. Some (literals_of ls h) ∷ xs) (slots_of_live ls hs l.1))
+    (ap (λ xs. Some (literals_of ls h) ∷ xs) (slots_of_live ls hs l.1))
 
 pub brought_together : (ls ms : List Literal) (hs ks : List Head) → AllLive ks
     → clauses_in ms ks ≡ clauses_in ls hs
@@ -194,15 +196,18 @@ room_laid : (ls : List Literal) (from to : ℕ) (hs : List Head) → IsLaid from
 room_laid ls from to [] p w l = omega arith
 room_laid ls from to (h ∷ hs) p w l =
     let rest : to + length hs ≡ from + h.length + room_of (clauses_in ls hs) =
-      room_laid ls (from + h.length) to hs p.1 w l.1 in
+    room_laid ls (from + h.length) to hs p.1 w l.1 in
     let within : h.start + h.length ≤ to =
-      omega (arith, p.0, laid_le heads (from + h.length) to hs p.1) in
+    omega (arith, p.0, laid_le heads (from + h.length) to hs p.1) in
     let long : length (literals_of ls h) ≡ h.length =
-      omega (arith, length-take-le (h.start + h.length - h.start) (drop h.start ls)
-        (omega (arith, length-drop h.start ls))) in
+    omega (
+      arith,
+      length-take-le (h.start + h.length - h.start) (drop h.start ls)
+          (omega (arith, length-drop h.start ls)),
+    ) in
     let step : room_of (literals_of ls h ∷ clauses_in ls hs) ≡ length (literals_of ls h) + 1
-      + room_of (clauses_in ls hs) =
-      sum_by-cons (λ c. length c + 1) (literals_of ls h) (clauses_in ls hs) in
+    + room_of (clauses_in ls hs) =
+    sum_by-cons (λ c. length c + 1) (literals_of ls h) (clauses_in ls hs) in
     rw (pieces_live heads ls h hs l.0) (omega (arith, rest, long, step))
 
 pub room_of_store : (ls : List Literal) (hs : List Head) → IsLaid 0 hs (length ls) → AllLive hs

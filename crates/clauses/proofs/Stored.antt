@@ -39,38 +39,45 @@ live_by_head : (ls : List Literal) (hs : List Head) (r : ℕ) (h : Head) → sli
     → IsTrue h.live ↔ IsLive (slots_of ls hs) r
 live_by_head ls hs r h e =
     let to : h.live ≡ true → IsLive (slots_of ls hs) r =
-      λ t. (literals_of ls h, clause_of_head ls hs r h e ∙ slot_live ls h t) in
+    λ t. (literals_of ls h, clause_of_head ls hs r h e ∙ slot_live ls h t) in
     let from : IsLive (slots_of ls hs) r → h.live ≡ true = λ (c, at). elim (cases_Bool h.live) [
       | inl t ↦ t
       | inr f ↦ let z : None ≡ Some c = sym (clause_of_head ls hs r h e ∙ slot_dead ls h f) ∙ at in
-        cc
+          cc
     ] in
     (to, from)
 
 not_live : (ls : List Literal) (hs : List Head) (r : ℕ) → slice_get hs r ≡ None
     → IsTrue false ↔ IsLive (slots_of ls hs) r
-not_live ls hs r e = (λ f. cc, λ (c, at). let z : None ≡ Some c = sym (clause_of_none ls hs r e)
-      ∙ at in cc)
+not_live ls hs r e = (
+  λ f. cc,
+  λ (c, at). let z : None ≡ Some c = sym (clause_of_none ls hs r e)
+      ∙ at in cc,
+)
 
 -- the flags say which references are live
 pub live_by_flag : (ls : List Literal) (hs : List Head) (r : ℕ)
     → (slice_get (map (λ h. h.live) hs) r ≡ Some true) ↔ IsLive (slots_of ls hs) r
 live_by_flag ls hs r =
     let flag : slice_get (map (λ h. h.live) hs) r ≡ option_map (λ h. h.live) (slice_get hs r) =
-      slice_get-map (λ h. h.live) hs r in
+    slice_get-map (λ h. h.live) hs r in
     elim (slice_get_cases hs r).1 [
       | inl (h, w, at, is) ↦
           let here : slice_get (map (λ h. h.live) hs) r ≡ Some h.live =
-            flag ∙ ap (option_map (λ h. h.live)) at in
-          let by_head = live_by_head ls hs r h at in
-          (λ e. by_head.0 (let same : Some h.live ≡ Some true = sym here ∙ e in cc), λ live. here
-              ∙ ap Some (by_head.1 live))
+          flag ∙ ap (option_map (λ h. h.live)) at in
+          let by_head = live_by_head ls hs r h at in (
+            λ e. by_head.0 (let same : Some h.live ≡ Some true = sym here ∙ e in cc),
+            λ live. here
+                ∙ ap Some (by_head.1 live),
+          )
       | inr (w, none) ↦
           let here : slice_get (map (λ h. h.live) hs) r ≡ None =
-            flag ∙ ap (option_map (λ h. h.live)) none in
-          let dead = not_live ls hs r none in
-          (λ e. let z : None ≡ Some true = sym here ∙ e in
-              cc, λ live. let z : false ≡ true = dead.1 live in cc)
+          flag ∙ ap (option_map (λ h. h.live)) none in
+          let dead = not_live ls hs r none in (
+            λ e. let z : None ≡ Some true = sym here ∙ e in
+                cc,
+            λ live. let z : false ≡ true = dead.1 live in cc,
+          )
     ]
 
 -- the head of a live reference
@@ -80,7 +87,7 @@ live_within ls hs r live =
     elim (cases_lt r (length hs)) [
       | inl l ↦ l
       | inr l ↦ let z : false ≡ true = (not_live ls hs r (slice_get_past hs r l)).1 live in
-        absurd (cc)
+          absurd (cc)
     ]
 
 pub live_clause : (ls : List Literal) (hs : List Head) (r : ℕ) (s : Span)
@@ -97,23 +104,25 @@ slots_longer : (ls more : List Literal) (from : ℕ) (hs : List Head) → IsLaid
 slots_longer ls more from [] p = refl
 slots_longer ls more from (h ∷ hs) p =
     let here : h.start + h.length ≤ length ls =
-      omega (arith, p.0, laid_le heads (from + h.length) (length ls) hs p.1) in
+    omega (arith, p.0, laid_le heads (from + h.length) (length ls) hs p.1) in
     let e : slot_of (ls ++ more) h ≡ slot_of ls h =
-      rw (range-append ls more h.start (h.start + h.length) (omega arith) here) refl in
+    rw (range-append ls more h.start (h.start + h.length) (omega arith) here) refl in
     cc (e, slots_longer ls more (from + h.length) hs p.1)
 
 pub state_added : (ls more : List Literal) (hs : List Head) (h : Head) → IsLaid 0 hs (length ls)
     → h.start ≡ length ls → h.length ≡ length more → h.live ≡ true
-    → state_of (ls ++ more) (hs ++ h ∷ []) ≡ record { slots = slots_of ls hs ++ Some more ∷ [];
-      used = length ls + length hs + (length more + 1) }
+    → state_of (ls ++ more) (hs ++ h ∷ []) ≡ record {
+      slots = slots_of ls hs ++ Some more ∷ [];
+      used = length ls + length hs + (length more + 1);
+    }
 state_added ls more hs h laid at long live =
     let e : slot_of (ls ++ more) h ≡ Some more =
-      rw live (ap Some (range-appended ls more h.start (h.start + h.length) at
-          (omega (arith, at, long)))) in
+    rw live (ap Some (range-appended ls more h.start (h.start + h.length) at
+    (omega (arith, at, long)))) in
     let slots : slots_of (ls ++ more) (hs ++ h ∷ []) ≡ slots_of ls hs ++ Some more ∷ [] =
-      map-append (slot_of (ls ++ more)) hs (h ∷ []) ∙ rw (slots_longer ls more 0 hs laid, e) refl in
+    map-append (slot_of (ls ++ more)) hs (h ∷ []) ∙ rw (slots_longer ls more 0 hs laid, e) refl in
     let used : length (ls ++ more) + length (hs ++ h ∷ []) ≡ length ls + length hs
-      + (length more + 1) = omega (arith, length-append ls more, length-append hs (h ∷ [])) in
+    + (length more + 1) = omega (arith, length-append ls more, length-append hs (h ∷ [])) in
     rw (slots, used) refl
 
 pub store_added : (ls more : List Literal) (hs : List Head) (h : Head) → IsStore ls hs
@@ -129,11 +138,13 @@ store_added ls more hs h s at long literals few =
 
 -- a clause that is taken out
 pub state_deleted : (ls : List Literal) (hs : List Head) (i : ℕ) (h : Head) → h.live ≡ false
-    → state_of ls (slice_set hs i h) ≡ record { slots = slice_set (slots_of ls hs) i None;
-      used = length ls + length hs }
+    → state_of ls (slice_set hs i h) ≡ record {
+      slots = slice_set (slots_of ls hs) i None;
+      used = length ls + length hs;
+    }
 state_deleted ls hs i h dead =
     let slots : slots_of ls (set hs i h) ≡ set (slots_of ls hs) i None = map-set (slot_of ls) hs i h
-      ∙ rw (slot_dead ls h dead) refl in
+    ∙ rw (slot_dead ls h dead) refl in
     rw (slots, length-set hs i h) refl
 
 pub store_deleted : (ls : List Literal) (hs : List Head) (i : ℕ) (h d : Head) → IsStore ls hs

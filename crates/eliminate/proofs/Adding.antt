@@ -31,10 +31,10 @@ has_repeat-append (l ∷ c) d rc rd apart =
     (false_from_ne_true (contains_literal l (c ++ d)) (λ e. elim (contains-either l c d e) [
       | inl m ↦ both_ways (contains_literal l c) h.0 m
       | inr m ↦ both_ways (contains_literal l (l ∷ c)) (apart l m)
-        (or_left (literal_eq l l) (contains_literal l c) (literal_eq-refl l))
+          (or_left (literal_eq l l) (contains_literal l c) (literal_eq-refl l))
     ]))
     (has_repeat-append c d h.1 rd
-        (λ k e. (or_parts (literal_eq k l) (contains_literal k c) (apart k e)).1))
+    (λ k e. (or_parts (literal_eq k l) (contains_literal k c) (apart k e)).1))
 
 pub resolvent-no_repeat : (p : Literal) (c d : List Literal) → has_repeat c ≡ false
     → has_repeat d ≡ false → has_repeat (resolvent p c d) ≡ false
@@ -43,9 +43,9 @@ resolvent-no_repeat p c d rc rd =
     has_repeat-append a (filter (λ k. not (contains_literal k a)) (without_literal (negation p) d))
     (has_repeat-filter (λ k. not (literal_eq p k)) c rc)
     (has_repeat-filter (λ k. not (contains_literal k a)) (without_literal (negation p) d)
-        (has_repeat-filter (λ k. not (literal_eq (negation p) k)) d rd))
+    (has_repeat-filter (λ k. not (literal_eq (negation p) k)) d rd))
     (λ k e. not-true (contains_literal k a) (filter-contains (λ k. not (contains_literal k a)) k
-          (without_literal (negation p) d) e).1)
+    (without_literal (negation p) d) e).1)
 
 greatest-append : (c d : List Literal) (n : ℕ) → greatest_variable c ≤ n → greatest_variable d ≤ n
     → greatest_variable (c ++ d) ≤ n
@@ -60,8 +60,11 @@ resolvent-small p c d n a b =
     let v : List Literal = without_literal (negation p) d in
     greatest-append w (filter (λ k. not (contains_literal k w)) v) n
     (omega (arith, greatest-filter (λ k. not (literal_eq p k)) c))
-    (omega (arith, greatest-filter (λ k. not (contains_literal k w)) v,
-          greatest-filter (λ k. not (literal_eq (negation p) k)) d))
+    (omega (
+      arith,
+      greatest-filter (λ k. not (contains_literal k w)) v,
+      greatest-filter (λ k. not (literal_eq (negation p) k)) d,
+    ))
 
 -- and its line one of a log, where the parents are live under their names
 pub resolvent_line : (given : Given) (ls : List LogLine) (kind : Kind) (n : ℕ) (p : Literal)
@@ -70,9 +73,12 @@ pub resolvent_line : (given : Given) (ls : List LogLine) (kind : Kind) (n : ℕ)
     → contains_literal p c ≡ true → contains_literal (negation p) d ≡ true
     → has_opposites (resolvent p c d) ≡ false
     → ((base : ℕ) → IsBaseOf given base → (log_live given base ls (id_of base first) ≡ Some c)
-        × (log_live given base ls (id_of base second) ≡ Some d))
-    → IsRupLine given ls (record { kind = kind; clause = resolvent p c d;
-          hints = Plain first ∷ Plain second ∷ [] })
+    × (log_live given base ls (id_of base second) ≡ Some d))
+    → IsRupLine given ls (record {
+      kind = kind;
+      clause = resolvent p c d;
+      hints = Plain first ∷ Plain second ∷ [];
+    })
 resolvent_line given ls kind n p c d first second adds few fc fd has has_not plain live = record {
   adds = adds;
   no_repeat = resolvent-no_repeat p c d fc.no_repeat fd.no_repeat;
@@ -80,14 +86,20 @@ resolvent_line given ls kind n p c d first second adds few fc fd has has_not pla
   small = omega (arith, resolvent-small p c d n fc.small fd.small);
   plain = λ base. refl;
   refutes = λ base above. let l = live base above in
-    resolvent_refutes (log_live given base ls) p c d (id_of base first) (id_of base second)
-      (record { first = l.0; second = l.1; has = has; has_not = has_not; plain = fc.no_opposites;
-            plain_too = fd.no_opposites });
+      resolvent_refutes (log_live given base ls) p c d (id_of base first) (id_of base second)
+      (record {
+        first = l.0;
+        second = l.1;
+        has = has;
+        has_not = has_not;
+        plain = fc.no_opposites;
+        plain_too = fd.no_opposites;
+      });
 }
 
 plain_ids : (base : ℕ) (f : Literal → Name) (ks : List Literal) (m : Name)
     → leading_ids base (map (λ k. Plain (f k)) ks ++ Plain m ∷ []) ≡ map (λ k. id_of base (f k)) ks
-      ++ id_of base m ∷ []
+    ++ id_of base m ∷ []
 plain_ids base f [] m = refl
 plain_ids base f (k ∷ ks) m = ap (λ x. id_of base (f k) ∷ x) (plain_ids base f ks m)
 
@@ -103,11 +115,14 @@ pub unit_line : (given : Given) (ls : List LogLine) (kind : Kind) (n : ℕ) (l :
     → n < 2 ^ 27 → IsFormulaClause n c
     → contains_literal l c ≡ true
     → ((base : ℕ) → IsBaseOf given base → (log_live given base ls (id_of base name) ≡ Some c)
-        × AreFalseByUnits (log_live given base ls) (λ k. id_of base (unit_name k))
-        (without_literal l c))
+    × AreFalseByUnits (log_live given base ls) (λ k. id_of base (unit_name k))
+    (without_literal l c))
     → IsRupLine given ls
-      (record { kind = kind; clause = l ∷ [];
-          hints = map (λ k. Plain (unit_name k)) (without_literal l c) ++ Plain name ∷ [] })
+    (record {
+      kind = kind;
+      clause = l ∷ [];
+      hints = map (λ k. Plain (unit_name k)) (without_literal l c) ++ Plain name ∷ [];
+    })
 unit_line given ls kind n l c unit_name name adds few f has live = record {
   adds = adds;
   no_repeat = refl;
@@ -115,20 +130,23 @@ unit_line given ls kind n l c unit_name name adds few f has live = record {
   small = omega (arith, f.small, member-small l c has);
   plain = λ base. no_groups base unit_name (without_literal l c) name;
   refutes = λ base above. let w = live base above in
-    subst (λ x. Refutes (log_live given base ls) (map negation (l ∷ [])) x)
-    (sym (plain_ids base unit_name (without_literal l c) name))
+      subst (λ x. Refutes (log_live given base ls) (map negation (l ∷ [])) x)
+      (sym (plain_ids base unit_name (without_literal l c) name))
       (unit_refutes (log_live given base ls) (λ k. id_of base (unit_name k)) l c (id_of base name)
-          w.0 has f.no_repeat f.no_opposites w.1);
+      w.0 has f.no_repeat f.no_opposites w.1);
 }
 
 -- the line of the empty clause, where unit clauses make all literals false
 pub empty_line : (given : Given) (ls : List LogLine) (kind : Kind) (n : ℕ) (c : List Literal)
     (unit_name : Literal → Name) (name : Name) → is_delete kind ≡ false → IsFormulaClause n c
     → ((base : ℕ) → IsBaseOf given base → (log_live given base ls (id_of base name) ≡ Some c)
-        × AreFalseByUnits (log_live given base ls) (λ k. id_of base (unit_name k)) c)
+    × AreFalseByUnits (log_live given base ls) (λ k. id_of base (unit_name k)) c)
     → IsRupLine given ls
-      (record { kind = kind; clause = [];
-          hints = map (λ k. Plain (unit_name k)) c ++ Plain name ∷ [] })
+    (record {
+      kind = kind;
+      clause = [];
+      hints = map (λ k. Plain (unit_name k)) c ++ Plain name ∷ [];
+    })
 empty_line given ls kind n c unit_name name adds f live = record {
   adds = adds;
   no_repeat = refl;
@@ -136,8 +154,8 @@ empty_line given ls kind n c unit_name name adds f live = record {
   small = omega arith;
   plain = λ base. no_groups base unit_name c name;
   refutes = λ base above. let w = live base above in
-    subst (λ x. Refutes (log_live given base ls) (map negation []) x)
-    (sym (plain_ids base unit_name c name))
+      subst (λ x. Refutes (log_live given base ls) (map negation []) x)
+      (sym (plain_ids base unit_name c name))
       (empty_refutes (log_live given base ls) (λ k. id_of base (unit_name k)) c (id_of base name)
-          w.0 f.no_repeat f.no_opposites w.1);
+      w.0 f.no_repeat f.no_opposites w.1);
 }

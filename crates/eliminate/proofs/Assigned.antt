@@ -23,12 +23,12 @@ contains-pushed [] k l e =
     elim (or_cases (literal_eq k l) false e) [ inl h ↦ inr (literal_eq-true k l h) | inr h ↦ inl h ]
 contains-pushed (x ∷ c) k l e =
     elim (or_cases (literal_eq k x) (contains_literal k (c ++ l ∷ [])) e) [
-  | inl h ↦ inl (or_left (literal_eq k x) (contains_literal k c) h)
-  | inr more ↦ elim (contains-pushed c k l more) [
-    | inl m ↦ inl (or_right (literal_eq k x) (contains_literal k c) m)
-    | inr s ↦ inr s
-  ]
-]
+      | inl h ↦ inl (or_left (literal_eq k x) (contains_literal k c) h)
+      | inr more ↦ elim (contains-pushed c k l more) [
+        | inl m ↦ inl (or_right (literal_eq k x) (contains_literal k c) m)
+        | inr s ↦ inr s
+      ]
+    ]
 
 abbrev literal_of : ℕ → Bool → Literal
 literal_of v b = record { variable = v; negated = b }
@@ -53,16 +53,16 @@ pub record Assigns (u v : Units) (l : Literal) (r : ℕ) : Type 0 where
 module _ (u v : Units) (slots : Slots) (l : Literal) (r : ℕ) (a : AreUnits u slots)
     (place : HasPlace (length u.values) l)
     (not_true : contains_literal l u.trail.items ≡ false)
-      (not_false : contains_literal (negation l) u.trail.items ≡ false)
+    (not_false : contains_literal (negation l) u.trail.items ≡ false)
     (alone : clause_at slots r ≡ Some (l ∷ [])) (s : Assigns u v l r) where
   one_less : open_count v + 1 ≡ open_count u
   one_less =
       let f : Bool → ℕ = λ marked. if marked then 0 else 1 in
       let unmarked : get_or u.values (index_of l) false ≡ false = a.marked.marked l place.0
-        ∙ not_true in
+      ∙ not_true in
       let sums : sum_by f (set u.values (index_of l) true) + f (get_or u.values (index_of l) false)
-          ≡ sum_by f u.values + f true =
-        sum_by-set f u.values (index_of l) true false (place_within (length u.values) l place) in
+      ≡ sum_by f u.values + f true =
+      sum_by-set f u.values (index_of l) true false (place_within (length u.values) l place) in
       let one : f (get_or u.values (index_of l) false) ≡ 1 = ap f unmarked in
       let new : open_count v ≡ sum_by f (set u.values (index_of l) true) = ap (sum_by f) s.values in
       omega arith
@@ -71,14 +71,14 @@ module _ (u v : Units) (slots : Slots) (l : Literal) (r : ℕ) (a : AreUnits u s
   less_open = let less = one_less in omega arith
 
   others_stay : (k : Literal) → contains_literal k u.trail.items ≡ true
-    → IsByUnit v.clauses.items slots k
+      → IsByUnit v.clauses.items slots k
   others_stay k on =
       let w = a.by_units k on in
       let other : k.variable ≢ l.variable = (λ e. elim (same_variable k l e) [
         | inl same ↦ both_ways (contains_literal l u.trail.items) not_true
-          (subst (λ x. contains_literal x u.trail.items ≡ true) same on)
+            (subst (λ x. contains_literal x u.trail.items ≡ true) same on)
         | inr opposite ↦ both_ways (contains_literal (negation l) u.trail.items) not_false
-          (subst (λ x. contains_literal x u.trail.items ≡ true) opposite on)
+            (subst (λ x. contains_literal x u.trail.items ≡ true) opposite on)
       ]) in
       let from : 0 < k.variable = w.from_one in
       let some : 0 < l.variable = place.0 in
@@ -87,8 +87,8 @@ module _ (u v : Units) (slots : Slots) (l : Literal) (r : ℕ) (a : AreUnits u s
         from_one = w.from_one;
         place = w.place;
         there = ap (λ xs. get_or xs (k.variable - 1) None) s.clauses
-          ∙ get_or-set_other u.clauses.items (l.variable - 1) (k.variable - 1) (Some r) None apart
-          ∙ w.there;
+            ∙ get_or-set_other u.clauses.items (l.variable - 1) (k.variable - 1) (Some r) None apart
+            ∙ w.there;
         alone = w.alone;
       }
 
@@ -102,31 +102,31 @@ module _ (u v : Units) (slots : Slots) (l : Literal) (r : ℕ) (a : AreUnits u s
         from_one = place.0;
         place = r;
         there = ap (λ xs. get_or xs (l.variable - 1) None) s.clauses
-          ∙ get_or-set_same u.clauses.items (l.variable - 1) (Some r) None within;
+            ∙ get_or-set_same u.clauses.items (l.variable - 1) (Some r) None within;
         alone = alone;
       }
 
   pub makes_true : MakesTrue u slots v slots
   makes_true =
       let rows : length v.clauses.items ≡ length u.clauses.items =
-        ap length s.clauses ∙ length-set u.clauses.items (l.variable - 1) (Some r) in
+      ap length s.clauses ∙ length-set u.clauses.items (l.variable - 1) (Some r) in
       let values : length v.values ≡ length u.values =
-        ap length s.values ∙ length-set u.values (index_of l) true in
+      ap length s.values ∙ length-set u.values (index_of l) true in
       let long : length v.trail.items ≡ length u.trail.items + 1 =
-        ap length s.trail ∙ length-append u.trail.items (l ∷ []) in
+      ap length s.trail ∙ length-append u.trail.items (l ∷ []) in
       record {
         units = record {
           marked =
-            subst (λ m. IsMarked m v.trail.items) (sym s.values)
+              subst (λ m. IsMarked m v.trail.items) (sym s.values)
               (subst (IsMarked (set u.values (index_of l) true)) (sym s.trail)
               (marked_one u.values u.trail.items l place a.marked));
           places = values ∙ a.places ∙ ap (λ n. 2 * n) (sym rows);
           by_units =
-            λ k on. elim (contains-pushed u.trail.items k l
+              λ k on. elim (contains-pushed u.trail.items k l
               (subst (λ xs. contains_literal k xs ≡ true) s.trail on)) [
-            | inl old ↦ others_stay k old
-            | inr new ↦ subst (IsByUnit v.clauses.items slots) (sym new) new_one
-          ];
+                | inl old ↦ others_stay k old
+                | inr new ↦ subst (IsByUnit v.clauses.items slots) (sym new) new_one
+              ];
         };
         rows = rows;
         grows = λ q c e. e;
@@ -164,8 +164,12 @@ units_grown u slots left a grows = record {
   marked = a.marked;
   places = a.places;
   by_units = λ l on. let w = a.by_units l on in
-    record { from_one = w.from_one; place = w.place; there = w.there;
-      alone = grows w.place (l ∷ []) w.alone };
+      record {
+        from_one = w.from_one;
+        place = w.place;
+        there = w.there;
+        alone = grows w.place (l ∷ []) w.alone;
+      };
 }
 
 pub makes_true_grown : (u v : Units) (slots left : Slots) → Grows slots left
@@ -194,9 +198,9 @@ pub units_start : (u : Units) (vars : ℕ) (slots : Slots) → u.values ≡ repl
     → u.clauses.items ≡ replicate vars None → u.trail.items ≡ [] → AreUnits u slots
 units_start u vars slots values clauses trail = record {
   marked =
-    subst (λ m. IsMarked m u.trail.items) (sym values)
+      subst (λ m. IsMarked m u.trail.items) (sym values)
       (subst (IsMarked (replicate (2 * vars) false)) (sym trail) (none_marked (2 * vars)));
   places = ap length values ∙ length-replicate (2 * vars) false
-    ∙ ap (λ n. 2 * n) (sym (ap length clauses ∙ length-replicate vars None));
+      ∙ ap (λ n. 2 * n) (sym (ap length clauses ∙ length-replicate vars None));
   by_units = λ l on. absurd (false≢true (subst (λ xs. contains_literal l xs ≡ true) trail on));
 }

@@ -36,9 +36,9 @@ opposites_true t (k ∷ c) e =
     elim (or_cases (contains_literal (negation k) c) (has_opposites c) e) [
       | inl pair ↦ elim (literal_value t k) as (λ b. literal_value t k ≡ b
           → (b || clause_value t c) ≡ true) [
-        | true ↦ λ h. refl
-        | false ↦ λ h. has_true t (negation k) c pair (negation-value t k h)
-      ] refl
+            | true ↦ λ h. refl
+            | false ↦ λ h. has_true t (negation k) c pair (negation-value t k h)
+          ] refl
       | inr more ↦ or_right (literal_value t k) (clause_value t c) (opposites_true t c more)
     ]
 
@@ -63,8 +63,8 @@ pub resolvent-made_of : (p : Literal) (c d : List Literal)
     → IsMadeOf (resolvent p c d) (without_literal p c) (without_literal (negation p) d)
 resolvent-made_of p c d =
     each_literal (λ k. (contains_literal k (without_literal p c) ≡ true)
-      ⊎ (contains_literal k (without_literal (negation p) d) ≡ true)) (resolvent p c d)
-      (λ k e. resolvent-parts p k c d e)
+    ⊎ (contains_literal k (without_literal (negation p) d) ≡ true)) (resolvent p c d)
+    (λ k e. resolvent-parts p k c d e)
 
 pub some_at : {X : Type 0} (q : X → Bool) (xs : List X) → list_any q xs ≡ true
     → (x : X) × Contains xs x × (q x ≡ true)
@@ -85,15 +85,15 @@ none_at q (x ∷ xs) e = let h = or_parts (q x) (list_any q xs) e in
 abbrev pub HaveVariable : ℕ → List (List Literal) → Type 0
 HaveVariable v cs =
     All (λ c. (contains_literal (positive v) c ≡ true) ⊎ (contains_literal (negative v) c ≡ true))
-      cs
+    cs
 
 -- of a clause with the variable and one with its negation, one is true without these
 abbrev pub AreResolved : Assignment → ℕ → List (List Literal) → Type 0
 AreResolved t v cs =
     All (λ c. All (λ d. contains_literal (positive v) c ≡ true
-        → contains_literal (negative v) d ≡ true
+    → contains_literal (negative v) d ≡ true
     → (clause_value t (without_literal (positive v) c) ≡ true)
-        ⊎ (clause_value t (without_literal (negative v) d) ≡ true)) cs) cs
+    ⊎ (clause_value t (without_literal (negative v) d) ≡ true)) cs) cs
 
 needed_back : (t : Assignment) (r : Removed) → HaveVariable r.variable r.clauses
     → AreResolved t r.variable r.clauses → becomes_true t r ≡ true
@@ -101,20 +101,20 @@ needed_back : (t : Assignment) (r : Removed) → HaveVariable r.variable r.claus
 needed_back t r have resolved e k z lt =
     let d : List Literal = get_or r.clauses k z in
     let w =
-      some_at (λ c. contains_literal (positive r.variable) c &&
-        not (clause_value t (without_literal (positive r.variable) c))) r.clauses e in
+    some_at (λ c. contains_literal (positive r.variable) c &&
+    not (clause_value t (without_literal (positive r.variable) c))) r.clauses e in
     let q =
-      and_parts (contains_literal (positive r.variable) w.0)
-        (not (clause_value t (without_literal (positive r.variable) w.0))) w.2 in
+    and_parts (contains_literal (positive r.variable) w.0)
+    (not (clause_value t (without_literal (positive r.variable) w.0))) w.2 in
     let pair =
-      All-contains (λ c. All (λ d. contains_literal (positive r.variable) c ≡ true
-          → contains_literal (negative r.variable) d ≡ true
+    All-contains (λ c. All (λ d. contains_literal (positive r.variable) c ≡ true
+    → contains_literal (negative r.variable) d ≡ true
     → (clause_value t (without_literal (positive r.variable) c) ≡ true)
-        ⊎ (clause_value t (without_literal (negative r.variable) d) ≡ true)) r.clauses) r.clauses
-      w.0 resolved w.1 in
+    ⊎ (clause_value t (without_literal (negative r.variable) d) ≡ true)) r.clauses) r.clauses
+    w.0 resolved w.1 in
     elim (have k z lt) [
       | inl h ↦ has_true (made_true t (positive r.variable)) (positive r.variable) d h
-        (made t (positive r.variable))
+          (made t (positive r.variable))
       | inr h ↦ elim (pair k z lt q.0 h) [
         | inl a ↦ absurd (both_ways (clause_value t (without_literal (positive r.variable) w.0))
             (not-true _ q.1) a)
@@ -127,17 +127,17 @@ not_needed_back : (t : Assignment) (r : Removed) → HaveVariable r.variable r.c
 not_needed_back t r have e k z lt =
     let d : List Literal = get_or r.clauses k z in
     let q =
-      none_at (λ c. contains_literal (positive r.variable) c &&
-        not (clause_value t (without_literal (positive r.variable) c))) r.clauses e k z lt in
+    none_at (λ c. contains_literal (positive r.variable) c &&
+    not (clause_value t (without_literal (positive r.variable) c))) r.clauses e k z lt in
     elim (have k z lt) [
       | inr h ↦ has_true (made_true t (negative r.variable)) (negative r.variable) d h
-        (made t (negative r.variable))
+          (made t (negative r.variable))
       | inl h ↦ elim (and_cases (contains_literal (positive r.variable) d)
           (not (clause_value t (without_literal (positive r.variable) d))) q) [
-        | inl a ↦ absurd (both_ways (contains_literal (positive r.variable) d) a h)
-        | inr a ↦ rest_kept t (negative r.variable) d
-          (not-false (clause_value t (without_literal (positive r.variable) d)) a)
-      ]
+            | inl a ↦ absurd (both_ways (contains_literal (positive r.variable) d) a h)
+            | inr a ↦ rest_kept t (negative r.variable) d
+                (not-false (clause_value t (without_literal (positive r.variable) d)) a)
+          ]
     ]
 
 -- one elimination: the removed clauses are satisfied once the variable has its value
@@ -146,7 +146,7 @@ pub removed_back : (t : Assignment) (r : Removed) → HaveVariable r.variable r.
     → SatisfiesAll (made_true t (valued r.variable (becomes_true t r))) r.clauses
 removed_back t r have resolved =
     elim (becomes_true t r) as (λ b. becomes_true t r ≡ b
-        → SatisfiesAll (made_true t (valued r.variable b)) r.clauses) [
+    → SatisfiesAll (made_true t (valued r.variable b)) r.clauses) [
       | true ↦ λ e. needed_back t r have resolved e
       | false ↦ λ e. not_needed_back t r have e
     ] refl
@@ -159,8 +159,8 @@ without_variable t v b [] e = refl
 without_variable t v b (k ∷ c) e =
     let h = or_parts (v == k.variable) (list_any (λ l. v == l.variable) c) e in
     let same : literal_value (made_true t (valued v b)) k ≡ literal_value t k =
-      ap (λ x. if k.negated then not (if x then not (not b) else t k.variable)
-        else (if x then not (not b) else t k.variable)) h.0 in
+    ap (λ x. if k.negated then not (if x then not (not b) else t k.variable)
+    else (if x then not (not b) else t k.variable)) h.0 in
     rw (same, without_variable t v b c h.1) refl
 
 -- setting a bit makes the literal true
@@ -170,7 +170,7 @@ set_bit bits v b some few zero = rw (ne_eqb v 0 (λ e. omega arith)) refl
 set_bit bits v b some few (suc u) =
     elim (cases_eq v (suc u)) [
       | inl e ↦ rw (eq-eqb v (suc u) e) (read ∙ (let on : v - 1 ≡ u = omega arith in
-            ap (λ x. get_or (set bits x b) u false) on)
+          ap (λ x. get_or (set bits x b) u false) on)
           ∙ get_or-set_same bits u b false (omega arith) ∙ sym (not_not b))
       | inr n ↦ rw (ne_eqb v (suc u) n) (read
           ∙ get_or-set_other bits (v - 1) u b false (λ e. n (omega arith))
@@ -193,7 +193,7 @@ Entails cs c = (t : Assignment) → SatisfiesAll t cs → Satisfies t c
 abbrev pub IsKept : Removed → List (List Literal) → List Literal → Type 0
 IsKept r after c = Contains r.clauses c
     ⊎ (Entails after c × (contains_literal (positive r.variable) c ≡ false)
-        × (contains_literal (negative r.variable) c ≡ false))
+    × (contains_literal (negative r.variable) c ≡ false))
 
 -- a clause has an opposite pair, or follows from the clauses after
 abbrev pub IsLeft : List (List Literal) → List Literal → Type 0
@@ -203,7 +203,7 @@ IsLeft after c = (has_opposites c ≡ true) ⊎ Entails after c
 abbrev pub ResolveTo : List (List Literal) → ℕ → List Literal → List Literal → Type 0
 ResolveTo after v c d =
     (r : List Literal) × IsMadeOf r (without_literal (positive v) c)
-      (without_literal (negative v) d) × IsLeft after r
+    (without_literal (negative v) d) × IsLeft after r
 
 pub resolve_to : (after : List (List Literal)) (v : ℕ) (c d : List Literal)
     → IsLeft after (resolvent (positive v) c d) → ResolveTo after v c d
@@ -214,7 +214,7 @@ pub record IsElimination (r : Removed) (before after : List (List Literal)) : Ty
   pub from_one : 0 < r.variable
   pub have : HaveVariable r.variable r.clauses
   pub resolved : All (λ c. All (λ d. contains_literal (positive r.variable) c ≡ true
-        → contains_literal (negative r.variable) d ≡ true
+      → contains_literal (negative r.variable) d ≡ true
       → ResolveTo after r.variable c d) r.clauses) r.clauses
   pub kept : All (IsKept r after) before
 
@@ -227,8 +227,8 @@ elimination_resolved : (t : Assignment) (r : Removed) (before after : List (List
 elimination_resolved t r before after e all k z lt m y lm p n =
     let w = e.resolved k z lt m y lm p n in
     made_of_true t w.0 (without_literal (positive r.variable) (get_or r.clauses k z))
-      (without_literal (negative r.variable) (get_or r.clauses m y)) w.1
-      (left_true t after w.0 all w.2)
+    (without_literal (negative r.variable) (get_or r.clauses m y)) w.1
+    (left_true t after w.0 all w.2)
 
 kept_value : (t : Assignment) (v : ℕ) (b : Bool) (c : List Literal)
     → contains_literal (positive v) c ≡ false → contains_literal (negative v) c ≡ false
@@ -243,8 +243,8 @@ pub elimination_back : (t : Assignment) (r : Removed) (before after : List (List
 elimination_back t r before after e all k z lt =
     elim (e.kept k z lt) [
       | inl h ↦ All-contains (Satisfies (made_true t (valued r.variable (becomes_true t r))))
-        r.clauses (get_or before k z)
-        (removed_back t r e.have (elimination_resolved t r before after e all)) h
+          r.clauses (get_or before k z)
+          (removed_back t r e.have (elimination_resolved t r before after e all)) h
       | inr h ↦ kept_value t r.variable (becomes_true t r) (get_or before k z) h.1 h.2 (h.0 t all)
     ]
 
@@ -258,16 +258,16 @@ length-extended (r ∷ rs) bits = length-set (extended rs bits) (r.variable - 1)
 pub extended-value : (r : Removed) (rs : List Removed) (bits : List Bool) → 0 < r.variable
     → r.variable ≤ length bits
     → assignment_of (extended (r ∷ rs) bits) ≡ made_true (assignment_of (extended rs bits))
-      (valued r.variable (becomes_true (assignment_of (extended rs bits)) r))
+    (valued r.variable (becomes_true (assignment_of (extended rs bits)) r))
 extended-value r rs bits some few =
     set_bits (extended rs bits) r.variable (becomes_true (assignment_of (extended rs bits)) r) some
-      (omega (arith, length-extended rs bits))
+    (omega (arith, length-extended rs bits))
 
 -- one elimination after another leads from the clauses before to those after
 abbrev pub AreEliminations : ℕ → List Removed → List (List Literal) → List (List Literal) → Type 0
 AreEliminations n [] before after = All (Entails after) before
 AreEliminations n (r ∷ rs) before after = (mid : List (List Literal)) × (r.variable ≤ n)
-      × IsElimination r before mid × AreEliminations n rs mid after
+    × IsElimination r before mid × AreEliminations n rs mid after
 
 -- the whole stack
 pub eliminations_back : (n : ℕ) (rs : List Removed) (before after : List (List Literal))
@@ -275,9 +275,9 @@ pub eliminations_back : (n : ℕ) (rs : List Removed) (before after : List (List
 eliminations_back n [] before after e bits few all = λ k z lt. e k z lt (assignment_of bits) all
 eliminations_back n (r ∷ rs) before after e bits few all =
     subst (λ (t : Assignment). SatisfiesAll t before)
-      (sym (extended-value r rs bits e.2.from_one (omega (arith, e.1))))
+    (sym (extended-value r rs bits e.2.from_one (omega (arith, e.1))))
     (elimination_back (assignment_of (extended rs bits)) r before e.0 e.2
-        (eliminations_back n rs e.0 after e.3 bits few all))
+    (eliminations_back n rs e.0 after e.3 bits few all))
 
 pub extends_weaker : (n : ℕ) (rs : List Removed) (before mid after : List (List Literal))
     → GivesBack n rs before mid → All (Entails after) mid → GivesBack n rs before after
@@ -289,7 +289,7 @@ pub extended-append : (rs qs : List Removed) (bits : List Bool)
 extended-append [] qs bits = refl
 extended-append (r ∷ rs) qs bits =
     ap (λ x. slice_set x (r.variable - 1) (becomes_true (assignment_of x) r))
-      (extended-append rs qs bits)
+    (extended-append rs qs bits)
 
 pub extends_eliminated : (n : ℕ) (rs : List Removed) (r : Removed)
     (before mid after : List (List Literal)) → GivesBack n rs before mid → r.variable ≤ n
@@ -297,11 +297,11 @@ pub extends_eliminated : (n : ℕ) (rs : List Removed) (r : Removed)
     → GivesBack n (rs ++ r ∷ []) before after
 extends_eliminated n rs r before mid after e within one bits few all =
     subst (λ (x : List Bool). SatisfiesAll (assignment_of x) before)
-      (sym (extended-append rs (r ∷ []) bits))
+    (sym (extended-append rs (r ∷ []) bits))
     (e (extended (r ∷ []) bits) (omega (arith, length-extended (r ∷ []) bits))
     (subst (λ (t : Assignment). SatisfiesAll t mid)
-        (sym (extended-value r [] bits one.from_one (omega arith)))
-        (elimination_back (assignment_of bits) r mid after one all)))
+    (sym (extended-value r [] bits one.from_one (omega arith)))
+    (elimination_back (assignment_of bits) r mid after one all)))
 
 pub entails_member : (after : List (List Literal)) (c : List Literal) → Contains after c
     → Entails after c
@@ -313,7 +313,7 @@ pub subsumed_true : (t : Assignment) (c d : List Literal) → is_subset c d ≡ 
 subsumed_true t [] d s e = absurd (false≢true e)
 subsumed_true t (l ∷ c) d s e =
     elim (contains_literal l d) as (λ b. contains_literal l d ≡ b
-        → (if b then is_subset c d else false) ≡ true → clause_value t d ≡ true) [
+    → (if b then is_subset c d else false) ≡ true → clause_value t d ≡ true) [
       | true ↦ λ h sub. elim (or_cases (literal_value t l) (clause_value t c) e) [
         | inl m ↦ has_true t l d h m
         | inr m ↦ subsumed_true t c d sub m
@@ -344,16 +344,17 @@ extended-others [] bits v some e = refl
 extended-others (r ∷ rs) bits v some e =
     let h = or_parts (r.variable == v + 1) (is_eliminated rs (v + 1)) e in
     slice_get-set_other (extended rs bits) (r.variable - 1) v _
-      (λ same. let on : r.variable ≡ v + 1 = omega (arith, some.0) in
-        both_ways (r.variable == v + 1) h.0 (eq-eqb r.variable (v + 1) on))
+    (λ same. let on : r.variable ≡ v + 1 = omega (arith, some.0) in
+    both_ways (r.variable == v + 1) h.0 (eq-eqb r.variable (v + 1) on))
     ∙ extended-others rs bits v some.1 h.1
 
 from_one-each : (rs : List Removed) → All (λ r. 0 < r.variable) rs
     → AllByRecursion (λ r. 0 < r.variable) rs
 from_one-each [] all = tt
-from_one-each (r ∷ rs) all =
-    (All-head (λ (x : Removed). 0 < x.variable) r rs all,
-      from_one-each rs (All-tail (λ (x : Removed). 0 < x.variable) r rs all))
+from_one-each (r ∷ rs) all = (
+  All-head (λ (x : Removed). 0 < x.variable) r rs all,
+  from_one-each rs (All-tail (λ (x : Removed). 0 < x.variable) r rs all),
+)
 
 pub others_keep : (rs : List Removed) (bits : List Bool) (v : ℕ) → All (λ r. 0 < r.variable) rs
     → is_eliminated rs (v + 1) ≡ false → slice_get (extended rs bits) v ≡ slice_get bits v

@@ -99,9 +99,10 @@ pub keeps_deleted : (names : List Name) (slots left : Slots) (ls more : List Log
     (c : List Literal) → KeepsWork names slots ls left more → clause_at left r ≡ Some c
     → KeepsWork names slots ls (slice_set left r None) (more ++ delete_line (name_at names r) ∷ [])
 keeps_deleted names slots left ls more r c h live first variables given w going =
-    let k = h first variables given w going in
-    (work_deleted first variables given left names more r c k.0 k.1 live,
-        open_deleted more (name_at names r) k.1)
+    let k = h first variables given w going in (
+      work_deleted first variables given left names more r c k.0 k.1 live,
+      open_deleted more (name_at names r) k.1,
+    )
 
 pub keeps_join : (names : List Name) (slots mid left : Slots) (ls more most : List LogLine)
     → KeepsWork names slots ls mid more → KeepsWork names mid more left most
@@ -128,19 +129,19 @@ take_next refs i r lt is = take_more refs i r lt ∙ ap (λ x. take i refs ++ x 
 module _ (names : List Name) (refs : List ℕ) (slots left after : Slots)
     (ls more most : List LogLine) (r i : ℕ) (lt : i < length refs) (is : r ≡ get_or refs i r)
     (work : KeepsWork names slots ls left more) (count : added_count more ≡ added_count ls)
-      (out : LeavesOut (take i refs) slots left) where
+    (out : LeavesOut (take i refs) slots left) where
   -- the next clause is deleted
   pub next_deleted : IsLive left r → after ≡ slice_set left r None
-    → most ≡ more ++ delete_line (name_at names r) ∷ []
+      → most ≡ more ++ delete_line (name_at names r) ∷ []
       → KeepsWork names slots ls after most × LeavesOut (take (i + 1) refs) slots after
-          × (added_count most ≡ added_count ls)
+      × (added_count most ≡ added_count ls)
   next_deleted live left_is lines_are = (
     subst (λ (xs : Slots). KeepsWork names slots ls xs most) (sym left_is)
         (subst (KeepsWork names slots ls (slice_set left r None)) (sym lines_are)
-            (keeps_deleted names slots left ls more r live.0 work live.1)),
+        (keeps_deleted names slots left ls more r live.0 work live.1)),
     subst (λ (xs : Slots). LeavesOut (take (i + 1) refs) slots xs) (sym left_is)
         (subst (λ (rs : List ℕ). LeavesOut rs slots (slice_set left r None))
-            (sym (take_next refs i r lt is)) (leaves_deleted (take i refs) slots left r out)),
+        (sym (take_next refs i r lt is)) (leaves_deleted (take i refs) slots left r out)),
     ap added_count lines_are ∙ (let more_is = additions_push more (delete_line (name_at names r)) in
         let same : added_count (more ++ delete_line (name_at names r) ∷ [])
         ≡ added_count more = omega arith in same) ∙ count,
@@ -148,13 +149,13 @@ module _ (names : List Name) (refs : List ℕ) (slots left after : Slots)
 
   -- it was deleted before
   pub next_dead : (IsLive left r → ⊥) → after ≡ left → most ≡ more
-    → KeepsWork names slots ls after most × LeavesOut (take (i + 1) refs) slots after
+      → KeepsWork names slots ls after most × LeavesOut (take (i + 1) refs) slots after
       × (added_count most ≡ added_count ls)
   next_dead dead left_is lines_are = (
     subst (λ (xs : Slots). KeepsWork names slots ls xs most) (sym left_is)
-      (subst (KeepsWork names slots ls left) (sym lines_are) work),
+        (subst (KeepsWork names slots ls left) (sym lines_are) work),
     subst (λ (xs : Slots). LeavesOut (take (i + 1) refs) slots xs) (sym left_is)
         (subst (λ (rs : List ℕ). LeavesOut rs slots left) (sym (take_next refs i r lt is))
-            (leaves_dead (take i refs) slots left r dead out)),
+        (leaves_dead (take i refs) slots left r dead out)),
     ap added_count lines_are ∙ count,
   )

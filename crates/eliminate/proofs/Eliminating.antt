@@ -45,22 +45,22 @@ under_is slots r c e = ap (λ o. unwrap_or o []) e
 -- what holds of each clause with the literal holds of those under the references
 under_all : (P : List Literal → Type 0) (l : Literal) (slots : Slots) (refs : List ℕ)
     → All (IsWith l slots) refs → ((r : ℕ) (c : List Literal) → clause_at slots r ≡ Some c
-      → contains_literal l c ≡ true → P c)
+    → contains_literal l c ≡ true → P c)
     → All P (clauses_under slots refs)
 under_all P l slots refs all f = All-map P (clause_under slots) refs
     (All-weaker (IsWith l slots) (λ r. P (clause_under slots r))
-        (λ r w. subst P (sym (under_is slots r w.0 w.1)) (f r w.0 w.1 w.2)) refs all)
+    (λ r w. subst P (sym (under_is slots r w.0 w.1)) (f r w.0 w.1 w.2)) refs all)
 
 under_contains : (slots : Slots) (refs : List ℕ) (r : ℕ) (c : List Literal) → Contains refs r
     → clause_at slots r ≡ Some c → Contains (clauses_under slots refs) c
 under_contains slots refs r c h e =
     subst (Contains (clauses_under slots refs)) (under_is slots r c e)
     (All-contains (λ q. Contains (clauses_under slots refs) (clause_under slots q)) refs
-        r (λ k d lt.
+    r (λ k d lt.
     subst (Contains (clauses_under slots refs))
-      (get_or-map (clause_under slots) refs k d (clause_under slots d) lt)
+    (get_or-map (clause_under slots) refs k d (clause_under slots d) lt)
     (Contains-get_or (clauses_under slots refs) k (clause_under slots d)
-        (omega (arith, length-map refs (clause_under slots))))) h)
+    (omega (arith, length-map refs (clause_under slots))))) h)
 
 -- a clause that lacks the variable does not need it
 none_needed : (t : Assignment) (l : Literal) (cs : List (List Literal))
@@ -69,7 +69,7 @@ none_needed t l [] all = refl
 none_needed t l (c ∷ cs) all =
     or_from (is_needed t l c) (list_any (is_needed t l) cs)
     (and_left (contains_literal l c) _
-        (All-head (λ (d : List Literal). contains_literal l d ≡ false) c cs all))
+    (All-head (λ (d : List Literal). contains_literal l d ≡ false) c cs all))
     (none_needed t l cs (All-tail (λ (d : List Literal). contains_literal l d ≡ false) c cs all))
 
 abbrev removed_of : ℕ → List (List Literal) → Removed
@@ -85,17 +85,17 @@ becomes-same : (t : Assignment) (v : ℕ) (cs ds : List (List Literal))
     → becomes_true t (removed_of v (cs ++ ds)) ≡ becomes_true t (removed_of v cs)
 becomes-same t v cs ds all =
     list_any-append (is_needed t (positive v)) cs ds
-      ∙ or-none (list_any (is_needed t (positive v)) cs) (list_any (is_needed t (positive v)) ds)
-      (none_needed t (positive v) ds all)
+    ∙ or-none (list_any (is_needed t (positive v)) cs) (list_any (is_needed t (positive v)) ds)
+    (none_needed t (positive v) ds all)
 
 extended-same : (removed : List Removed) (v : ℕ) (cs ds : List (List Literal)) (bits : List Bool)
     → All (λ c. contains_literal (positive v) c ≡ false) ds
     → extended (removed ++ removed_of v (cs ++ ds) ∷ []) bits
-        ≡ extended (removed ++ removed_of v cs ∷ []) bits
+    ≡ extended (removed ++ removed_of v cs ∷ []) bits
 extended-same removed v cs ds bits all =
     extended-append removed (removed_of v (cs ++ ds) ∷ []) bits
     ∙ ap (λ b. extended removed (slice_set bits (v - 1) b))
-      (becomes-same (assignment_of bits) v cs ds all)
+    (becomes-same (assignment_of bits) v cs ds all)
     ∙ sym (extended-append removed (removed_of v cs ∷ []) bits)
 
 back_same : (n : ℕ) (removed : List Removed) (v : ℕ) (cs ds before after : List (List Literal))
@@ -104,29 +104,29 @@ back_same : (n : ℕ) (removed : List Removed) (v : ℕ) (cs ds before after : L
     → GivesBack n (removed ++ removed_of v cs ∷ []) before after
 back_same n removed v cs ds before after all back bits few sat =
     subst (λ (xs : List Bool). SatisfiesAll (assignment_of xs) before)
-      (extended-same removed v cs ds bits all) (back bits few sat)
+    (extended-same removed v cs ds bits all) (back bits few sat)
 
 eliminated-same : (removed : List Removed) (v u : ℕ) (cs ds : List (List Literal))
     → is_eliminated (removed ++ removed_of v cs ∷ []) u ≡ is_eliminated
     (removed ++ removed_of v ds ∷ []) u
 eliminated-same removed v u cs ds =
     list_any-append (λ (r : Removed). r.variable == u) removed (removed_of v cs ∷ [])
-      ∙ sym (list_any-append (λ (r : Removed). r.variable == u) removed (removed_of v ds ∷ []))
+    ∙ sym (list_any-append (λ (r : Removed). r.variable == u) removed (removed_of v ds ∷ []))
 
 free_same : (removed : List Removed) (v : ℕ) (cs ds : List (List Literal)) (slots : Slots)
     → AreFree (removed ++ removed_of v cs ∷ []) slots
     → AreFree (removed ++ removed_of v ds ∷ []) slots
 free_same removed v cs ds slots free r c e =
     All-weaker (λ (l : Literal). is_eliminated (removed ++ removed_of v cs ∷ []) l.variable ≡ false)
-      (λ (l : Literal). is_eliminated (removed ++ removed_of v ds ∷ []) l.variable ≡ false)
+    (λ (l : Literal). is_eliminated (removed ++ removed_of v ds ∷ []) l.variable ≡ false)
     (λ l h. eliminated-same removed v l.variable ds cs ∙ h) c (free r c e)
 
 module _ (start : Start) (s : Simplifier) (slots mid left : Slots) (ls most : List LogLine) (v : ℕ)
     (pos neg : List ℕ)
     (h : IsSimplified start s slots ls) (p : AreThoseWith (positive v) slots pos)
-      (n : AreThoseWith (negation (positive v)) slots neg)
+    (n : AreThoseWith (negation (positive v)) slots neg)
     (resolved : ArePairsResolved (positive v) slots slots pos neg) (first : LeavesOut pos slots mid)
-      (second : LeavesOut neg mid left) where
+    (second : LeavesOut neg mid left) where
   out : LeavesOut (pos ++ neg) slots left
   out = leaves_join pos neg slots mid left first second
 
@@ -139,28 +139,28 @@ module _ (start : Start) (s : Simplifier) (slots mid left : Slots) (ls most : Li
   lacks : (r : ℕ) (c : List Literal) → clause_at left r ≡ Some c → Lacks v c
   lacks r c e = record {
     not_positive =
-      false_from_ne_true (contains_literal (positive v) c)
+        false_from_ne_true (contains_literal (positive v) c)
         (λ has. out.gone r c e
         (Contains-append_left pos neg r (p.all r (c, out.stays r c e, has))));
     not_negative =
-      false_from_ne_true (contains_literal (negative v) c)
+        false_from_ne_true (contains_literal (negative v) c)
         (λ has. out.gone r c e
         (Contains-append_right pos neg r (n.all r (c, out.stays r c e, has))));
   }
 
   -- the resolvents stay
   resolvent_stays : (q r : ℕ) (c d : List Literal) → clause_at slots q ≡ Some c
-    → clause_at slots r ≡ Some d → contains_literal (positive v) c ≡ true
-    → contains_literal (negative v) d ≡ true
+      → clause_at slots r ≡ Some d → contains_literal (positive v) c ≡ true
+      → contains_literal (negative v) d ≡ true
       → (has_opposites (resolvent (positive v) c d) ≡ true)
-          ⊎ Contains (live_clauses left) (resolvent (positive v) c d)
+      ⊎ Contains (live_clauses left) (resolvent (positive v) c d)
   resolvent_stays q r c d e f has has_not =
       let pairs =
-        All-contains (λ (x : ℕ). All (IsPairResolved (positive v) slots slots x) neg) pos q resolved
-          (p.all q (c, e, has)) in
+      All-contains (λ (x : ℕ). All (IsPairResolved (positive v) slots slots x) neg) pos q resolved
+      (p.all q (c, e, has)) in
       let pair : IsPairResolved (positive v) slots slots q r =
-        All-contains (IsPairResolved (positive v) slots slots q) neg r pairs
-          (n.all r (d, f, has_not)) in
+      All-contains (IsPairResolved (positive v) slots slots q) neg r pairs
+      (n.all r (d, f, has_not)) in
       let w = resolvent-lacks (positive v) c d (plain q c e) (plain r d f) has has_not in
       elim (pair c d e f) [
         | inl opposite ↦ inl opposite
@@ -170,14 +170,14 @@ module _ (start : Start) (s : Simplifier) (slots mid left : Slots) (ls most : Li
             | inl one ↦
                 let x = All-contains (IsWith (positive v) slots) pos there.0 p.with_it one in
                 absurd (both_ways (contains_literal (positive v) (resolvent (positive v) c d))
-                    w.not_it (subst (λ y. contains_literal (positive v) y ≡ true)
-                      (same_Some x.0 (resolvent (positive v) c d) (sym x.1 ∙ there.1)) x.2))
+                w.not_it (subst (λ y. contains_literal (positive v) y ≡ true)
+                (same_Some x.0 (resolvent (positive v) c d) (sym x.1 ∙ there.1)) x.2))
             | inr other ↦
                 let x =
-                  All-contains (IsWith (negation (positive v)) slots) neg there.0 n.with_it other in
+                All-contains (IsWith (negation (positive v)) slots) neg there.0 n.with_it other in
                 absurd (both_ways (contains_literal (negative v) (resolvent (positive v) c d))
-                    w.not_negation (subst (λ y. contains_literal (negative v) y ≡ true)
-                      (same_Some x.0 (resolvent (positive v) c d) (sym x.1 ∙ there.1)) x.2))
+                w.not_negation (subst (λ y. contains_literal (negative v) y ≡ true)
+                (same_Some x.0 (resolvent (positive v) c d) (sym x.1 ∙ there.1)) x.2))
           ]
         ]
       ]
@@ -186,14 +186,14 @@ module _ (start : Start) (s : Simplifier) (slots mid left : Slots) (ls most : Li
   HasPlaceIn c = (r : ℕ) × (clause_at slots r ≡ Some c)
 
   both : (P : List Literal → Type 0) → All P (clauses_under slots pos)
-    → All P (clauses_under slots neg) → All P (clauses_under slots (pos ++ neg))
+      → All P (clauses_under slots neg) → All P (clauses_under slots (pos ++ neg))
   both P a b =
-    subst (All P) (sym (map-append (clause_under slots) pos neg))
+      subst (All P) (sym (map-append (clause_under slots) pos neg))
       (All-append P (clauses_under slots pos) (clauses_under slots neg) a b)
 
   places : All HasPlaceIn (clauses_under slots (pos ++ neg))
   places =
-    both HasPlaceIn (under_all HasPlaceIn (positive v) slots pos p.with_it (λ r c e has. (r, e)))
+      both HasPlaceIn (under_all HasPlaceIn (positive v) slots pos p.with_it (λ r c e has. (r, e)))
       (under_all HasPlaceIn (negation (positive v)) slots neg n.with_it (λ r c e has. (r, e)))
 
   abbrev HasIt : List Literal → Type 0
@@ -207,49 +207,49 @@ module _ (start : Start) (s : Simplifier) (slots mid left : Slots) (ls most : Li
       | inr gone ↦ inr (under_contains slots (pos ++ neg) r c gone e)
     ];
     have = both HasIt (under_all HasIt (positive v) slots pos p.with_it (λ r c e has. inl has))
-      (under_all HasIt (negation (positive v)) slots neg n.with_it (λ r c e has. inr has));
+        (under_all HasIt (negation (positive v)) slots neg n.with_it (λ r c e has. inr has));
     resolved = λ k z lt m y lm has has_not.
         let a = places k z lt in
         let b = places m y lm in
         resolvent_stays a.0 b.0 (get_or (clauses_under slots (pos ++ neg)) k z)
-          (get_or (clauses_under slots (pos ++ neg)) m y) a.1 b.1 has has_not;
+        (get_or (clauses_under slots (pos ++ neg)) m y) a.1 b.1 has has_not;
   }
 
   -- the state without the variable
   pub variable_goes : s.is_refuted ≡ false → IsFree start.frozen v
-    → IsRemovedWithin s.vars (removed_of v []) → KeepsWork s.names.names slots ls left most
+      → IsRemovedWithin s.vars (removed_of v []) → KeepsWork s.names.names slots ls left most
       → IsState start s.vars left s.names.names most s.occurrences
-        (s.removals ++ record { variable = v; clauses = clauses_under slots pos } ∷ [])
+      (s.removals ++ record { variable = v; clauses = clauses_under slots pos } ∷ [])
   variable_goes works free within work =
       let all : clauses_under slots (pos ++ neg) ≡ clauses_under slots pos ++ clauses_under slots
-        neg = map-append (clause_under slots) pos neg in
+      neg = map-append (clause_under slots) pos neg in
       let g : GoesWith (removed_of v (clauses_under slots pos ++ clauses_under slots neg)) slots
-        left =
-        subst (λ (xs : List (List Literal)). GoesWith (removed_of v xs) slots left) all goes_with in
+      left =
+      subst (λ (xs : List (List Literal)). GoesWith (removed_of v xs) slots left) all goes_with in
       let others : All (λ c. contains_literal (positive v) c ≡ false) (clauses_under slots neg) =
-        under_all (λ c. contains_literal (positive v) c ≡ false) (negation (positive v)) slots neg
-          n.with_it (λ r c e has. not-opposite_too (positive v) c (plain r c e) has) in
+      under_all (λ c. contains_literal (positive v) c ≡ false) (negation (positive v)) slots neg
+      n.with_it (λ r c e has. not-opposite_too (positive v) c (plain r c e) has) in
       record {
         work = (work _ _ _ h.state.work (h.going works)).0;
         occurrences = rows_left (pos ++ neg) s.occurrences slots left out h.state.occurrences;
         places = h.state.places;
         back =
-          back_same s.vars s.removals v (clauses_under slots pos) (clauses_under slots neg)
+            back_same s.vars s.removals v (clauses_under slots pos) (clauses_under slots neg)
             start.clauses (live_clauses left) others
             (goes_back s.vars s.removals
-                (removed_of v (clauses_under slots pos ++ clauses_under slots neg)) start.clauses
-                slots left h.state.back within.0 within.1 g);
+            (removed_of v (clauses_under slots pos ++ clauses_under slots neg)) start.clauses
+            slots left h.state.back within.0 within.1 g);
         within =
-          All-push (IsRemovedWithin s.vars) s.removals (removed_of v (clauses_under slots pos))
+            All-push (IsRemovedWithin s.vars) s.removals (removed_of v (clauses_under slots pos))
             h.state.within within;
         free =
-          free_same s.removals v (clauses_under slots pos ++ clauses_under slots neg)
+            free_same s.removals v (clauses_under slots pos ++ clauses_under slots neg)
             (clauses_under slots pos) left
             (goes_free s.removals
-                (removed_of v (clauses_under slots pos ++ clauses_under slots neg)) slots left
-                h.state.free g);
+            (removed_of v (clauses_under slots pos ++ clauses_under slots neg)) slots left
+            h.state.free g);
         not_frozen =
-          All-push (λ (x : Removed). IsFree start.frozen x.variable) s.removals
+            All-push (λ (x : Removed). IsFree start.frozen x.variable) s.removals
             (removed_of v (clauses_under slots pos)) h.state.not_frozen free;
       }
 
@@ -266,6 +266,6 @@ pub line_deletes : (names : List Name) (r : ℕ) → All (λ n. IsId (number_in 
 line_deletes names r all = record {
   literals = All-nil (λ (k : Literal). IsId k.variable);
   names =
-    All-cons HasNumber (Plain (name_at names r)) [] (number_at names r all) (All-nil HasNumber);
+      All-cons HasNumber (Plain (name_at names r)) [] (number_at names r all) (All-nil HasNumber);
   deletes = λ e. (refl, All-cons IsPlain (Plain (name_at names r)) [] tt (All-nil IsPlain));
 }

@@ -24,14 +24,18 @@ none_above v z [] above within = refl
 none_above v z (r ∷ removed) above within =
     let w = All-head (IsRemovedWithin v) r removed within in
     or_from (r.variable == z) (is_eliminated removed z)
-      (ne_eqb r.variable z (λ e. omega (arith, w.1)))
-      (none_above v z removed above (All-tail (IsRemovedWithin v) r removed within))
+    (ne_eqb r.variable z (λ e. omega (arith, w.1)))
+    (none_above v z removed above (All-tail (IsRemovedWithin v) r removed within))
 
 -- the pairs keep what the store held before them, and bring no eliminated variable back
 abbrev ground_of : Start → Simplifier → Slots → Ground
 ground_of start s slots =
-    record { first = length start.frozen; given = given_of start.clauses;
-      clauses = live_clauses slots; is_gone = is_eliminated s.removals }
+    record {
+      first = length start.frozen;
+      given = given_of start.clauses;
+      clauses = live_clauses slots;
+      is_gone = is_eliminated s.removals;
+    }
 
 -- where the log is open, the tables are a stage
 open_stage : (start : Start) (s : Simplifier) (slots : Slots) (lines : List LogLine)
@@ -56,7 +60,7 @@ stage_result start s slots lines t h more k fresh = record {
   work = k.work;
   back = λ bits few all. h.state.back bits (omega arith) (k.back (assignment_of bits) all);
   within =
-    All-weaker (IsRemovedWithin s.vars) (IsRemovedWithin t.variables)
+      All-weaker (IsRemovedWithin s.vars) (IsRemovedWithin t.variables)
       (λ r w. (w.0, omega (arith, w.1))) s.removals h.state.within;
   free = k.free;
   not_frozen = h.state.not_frozen;
@@ -68,11 +72,11 @@ pub ended : {E : Type 0} (r : Result ℕ E) (frozen : List Bool) (s : Simplifier
     → IfOk r (λ v. s.vars ≤ v) → IfOk r (λ v. v ≤ length frozen + 2 ^ 20)
     → IfOk r (λ v. Keeps (stage_of s.vars slots s.names lines) (stage_of v slots' n' lines'))
     → IfOk r (λ v. (start : Start) → start.frozen ≡ frozen → IsSimplified start s slots lines
-        → IsResult start s.removals (stage_of v slots' n' lines'))
+    → IsResult start s.removals (stage_of v slots' n' lines'))
 ended (Ok v) frozen s slots slots' n' lines lines' running more most keeps = λ start is h.
     let same : length start.frozen ≡ length frozen = ap length is in
     stage_result start s slots lines (stage_of v slots' n' lines') h more
-      (keeps (ground_of start s slots) (open_stage start s slots lines h running)) (omega arith)
+    (keeps (ground_of start s slots) (open_stage start s slots lines h running)) (omega arith)
 ended (Err x) frozen s slots slots' n' lines lines' running more most keeps = tt
 
 pub refused : {T E : Type 0} (r : Result T E) (frozen : List Bool) (s : Simplifier) (slots : Slots)

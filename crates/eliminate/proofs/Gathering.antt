@@ -34,7 +34,7 @@ pub filter-contains : {X : Type 0} (p : X → Bool) (xs : List X) (x : X) → Co
     → Contains xs x
 filter-contains p xs x h =
     All-contains (Contains xs) (filter p xs) x
-      (All-filter p (Contains xs) xs (All-contains_itself xs)) h
+    (All-filter p (Contains xs) xs (All-contains_itself xs)) h
 
 abbrev cleaned : List (List ℕ) → Slots → ℕ → List (List ℕ)
 cleaned rows slots i = with_row rows i (filter (has_clause slots) (row_at rows i))
@@ -44,9 +44,9 @@ cleaned-from : (rows : List (List ℕ)) (slots : Slots) (i j r : ℕ) → i < le
 cleaned-from rows slots i j r lt h = elim (cases_eq j i) [
   | inl e ↦
       let same : row_at (cleaned rows slots i) j ≡ filter (has_clause slots) (row_at rows i) =
-        ap (row_at (cleaned rows slots i)) e ∙ get_or-set_same rows i _ [] lt in
+      ap (row_at (cleaned rows slots i)) e ∙ get_or-set_same rows i _ [] lt in
       subst (λ k. Contains (row_at rows k) r) (sym e)
-        (filter-contains (has_clause slots) (row_at rows i) r (subst (λ xs. Contains xs r) same h))
+      (filter-contains (has_clause slots) (row_at rows i) r (subst (λ xs. Contains xs r) same h))
   | inr n ↦ subst (λ xs. Contains xs r) (get_or-set_other rows i j _ [] n) h
 ]
 
@@ -56,9 +56,9 @@ cleaned-keeps : (rows : List (List ℕ)) (slots : Slots) (i j r : ℕ) → i < l
 cleaned-keeps rows slots i j r lt live h = elim (cases_eq j i) [
   | inl e ↦
       let same : row_at (cleaned rows slots i) j ≡ filter (has_clause slots) (row_at rows i) =
-        ap (row_at (cleaned rows slots i)) e ∙ get_or-set_same rows i _ [] lt in
+      ap (row_at (cleaned rows slots i)) e ∙ get_or-set_same rows i _ [] lt in
       subst (λ xs. Contains xs r) (sym same) (contains-filter (has_clause slots) (row_at rows i) r
-          (subst (λ k. Contains (row_at rows k) r) e h) live)
+      (subst (λ k. Contains (row_at rows k) r) e h) live)
   | inr n ↦ subst (λ xs. Contains xs r) (sym (get_or-set_other rows i j _ [] n)) h
 ]
 
@@ -68,9 +68,9 @@ pub rows_cleaned : (rows : List (List ℕ)) (slots : Slots) (i : ℕ) → i < le
     → AreRows (with_row rows i (filter (has_clause slots) (row_at rows i))) slots
 rows_cleaned rows slots i lt a = record {
   complete = λ r c l live has. cleaned-keeps rows slots i (index_of l) r lt (ap is_some live)
-    (a.complete r c l live has);
+      (a.complete r c l live has);
   right =
-    λ r c l some live stands. a.right r c l some live
+      λ r c l some live stands. a.right r c l some live
       (cleaned-from rows slots i (index_of l) r lt stands);
   before = λ j r h. a.before j r (cleaned-from rows slots i j r lt h);
 }
@@ -79,19 +79,22 @@ rows_cleaned rows slots i lt a = record {
 pub those_with : (rows : List (List ℕ)) (slots : Slots) (l : Literal) (references : List ℕ)
     → HasPlace (length rows) l → AreRows rows slots
     → references ≡ row_at
-      (with_row rows (index_of l) (filter (has_clause slots) (row_at rows (index_of l))))
-      (index_of l) → AreThoseWith l slots references
+    (with_row rows (index_of l) (filter (has_clause slots) (row_at rows (index_of l))))
+    (index_of l) → AreThoseWith l slots references
 those_with rows slots l references place a is =
     let row : List ℕ = row_at rows (index_of l) in
     let are : references ≡ filter (has_clause slots) row =
-      is ∙ get_or-set_same rows (index_of l) _ [] (place_within (length rows) l place) in
+    is ∙ get_or-set_same rows (index_of l) _ [] (place_within (length rows) l place) in
     subst (AreThoseWith l slots) (sym are) (record {
       with_it = λ k d lt.
           let r : ℕ = get_or (filter (has_clause slots) row) k d in
-          let w = some_clause (clause_at slots r) (filter_passes (has_clause slots) row k d lt) in
-          (w.0, w.1, a.right r w.0 l place.0 w.1
-              (filter-contains (has_clause slots) row r
-                (Contains-get_or (filter (has_clause slots) row) k d lt)));
+          let w = some_clause (clause_at slots r) (filter_passes (has_clause slots) row k d lt) in (
+            w.0,
+            w.1,
+            a.right r w.0 l place.0 w.1
+                (filter-contains (has_clause slots) row r
+                (Contains-get_or (filter (has_clause slots) row) k d lt)),
+          );
       all = λ r w. contains-filter (has_clause slots) row r (a.complete r w.0 l w.1 w.2)
-        (ap is_some w.1);
+          (ap is_some w.1);
     })

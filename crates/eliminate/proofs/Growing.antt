@@ -95,20 +95,20 @@ pub all_later : (p : Literal) (slots more most : Slots) (f : ℕ) (ss : List ℕ
     → All (IsPairResolved p slots more f) ss → All (IsPairResolved p slots most f) ss
 all_later p slots more most f ss kept all =
     All-weaker (IsPairResolved p slots more f) (IsPairResolved p slots most f)
-      (λ s h. pair_later p slots more most f s kept h) ss all
+    (λ s h. pair_later p slots more most f s kept h) ss all
 
 pub all_before : (p : Literal) (slots more most : Slots) (f : ℕ) (ss : List ℕ) → Grows slots more
     → All (IsPairResolved p more most f) ss → All (IsPairResolved p slots most f) ss
 all_before p slots more most f ss kept all =
     All-weaker (IsPairResolved p more most f) (IsPairResolved p slots most f)
-      (λ s h. pair_before p slots more most f s kept h) ss all
+    (λ s h. pair_before p slots more most f s kept h) ss all
 
 pub pairs_later : (p : Literal) (slots more most : Slots) (fs ss : List ℕ) → Grows more most
     → ArePairsResolved p slots more fs ss → ArePairsResolved p slots most fs ss
 pairs_later p slots more most fs ss kept all =
     All-weaker (λ f. All (IsPairResolved p slots more f) ss)
-      (λ f. All (IsPairResolved p slots most f) ss) (λ f h. all_later p slots more most f ss kept h)
-      fs all
+    (λ f. All (IsPairResolved p slots most f) ss) (λ f h. all_later p slots more most f ss kept h)
+    fs all
 
 -- what was live keeps its clause
 same_clause : (l : Literal) (slots more : Slots) (r : ℕ) (c : List Literal) → Grows slots more
@@ -121,7 +121,7 @@ pub pairs_now : (p q : Literal) (slots more : Slots) (fs ss : List ℕ) → Grow
     → ArePairsResolved p more more fs ss
 pairs_now p q slots more fs ss kept with_p with_q all i f lt j s lt_s c d e g =
     all i f lt j s lt_s c d (same_clause p slots more _ c kept (with_p i f lt) e)
-      (same_clause q slots more _ d kept (with_q j s lt_s) g)
+    (same_clause q slots more _ d kept (with_q j s lt_s) g)
 
 -- one pair more is resolved
 pub next_pair : (p : Literal) (slots mid more : Slots) (f : ℕ) (ss : List ℕ) (j s : ℕ)
@@ -131,8 +131,8 @@ pub next_pair : (p : Literal) (slots mid more : Slots) (f : ℕ) (ss : List ℕ)
 next_pair p slots mid more f ss j s lt is a b all pair =
     subst (All (IsPairResolved p slots more f)) (sym (take_next ss j s lt is))
     (All-push (IsPairResolved p slots more f) (take j ss) s
-        (all_later p slots mid more f (take j ss) b.kept all)
-        (pair_before p slots mid more f s a.kept pair))
+    (all_later p slots mid more f (take j ss) b.kept all)
+    (pair_before p slots mid more f s a.kept pair))
 
 -- and all pairs of one clause more
 pub next_pairs : (p : Literal) (slots mid more : Slots) (fs ss : List ℕ) (i f : ℕ) → i < length fs
@@ -142,8 +142,8 @@ pub next_pairs : (p : Literal) (slots mid more : Slots) (fs ss : List ℕ) (i f 
 next_pairs p slots mid more fs ss i f lt is a b all pairs =
     subst (λ xs. ArePairsResolved p slots more xs ss) (sym (take_next fs i f lt is))
     (All-push (λ x. All (IsPairResolved p slots more x) ss) (take i fs) f
-        (pairs_later p slots mid more (take i fs) ss b.kept all)
-        (all_before p slots mid more f ss a.kept pairs))
+    (pairs_later p slots mid more (take i fs) ss b.kept all)
+    (all_before p slots mid more f ss a.kept pairs))
 
 -- the clauses with a literal are live
 pub those_live : (l : Literal) (slots : Slots) (rs : List ℕ) → AreThoseWith l slots rs

@@ -35,9 +35,9 @@ resolvent_all : (P : Literal → Type 0) (p : Literal) (c d : List Literal) → 
 resolvent_all P p c d a b =
     let rest : List Literal = without_literal p c in
     All-append P rest (filter (λ k. not (contains_literal k rest)) (without_literal (negation p) d))
-      (All-filter (λ k. not (literal_eq p k)) P c a)
+    (All-filter (λ k. not (literal_eq p k)) P c a)
     (All-filter (λ k. not (contains_literal k rest)) P (without_literal (negation p) d)
-        (All-filter (λ k. not (literal_eq (negation p) k)) P d b))
+    (All-filter (λ k. not (literal_eq (negation p) k)) P d b))
 
 pub resolvent_clause : (n : ℕ) (p : Literal) (c d : List Literal) → IsFormulaClause n c
     → IsFormulaClause n d → has_opposites (resolvent p c d) ≡ false
@@ -54,18 +54,18 @@ clause_ids : (n : ℕ) (c : List Literal) → n < 2 ^ 27 → IsFormulaClause n c
     → All (λ (k : Literal). IsId k.variable) c
 clause_ids n c few f =
     All-weaker (HasPlace (2 * n)) (λ (k : Literal). IsId k.variable)
-      (λ k h. (h.0, (let small = h.1 in omega arith))) c (places_of n c f.from_one f.small)
+    (λ k h. (h.0, (let small = h.1 in omega arith))) c (places_of n c f.from_one f.small)
 
 module _ (start : Start) (s : Simplifier) (slots : Slots) (ls : List LogLine) (p : Literal)
     (c d : List Literal) (first second : ℕ)
     (h : IsSimplified start s slots ls) (one : clause_at slots first ≡ Some c)
-      (other : clause_at slots second ≡ Some d) where
+    (other : clause_at slots second ≡ Some d) where
   pub few_variables : s.vars < 2 ^ 27
   few_variables = let f = h.few in let g = h.fresh in omega arith
 
   -- the line of a resolvent
   pub resolvent_addable : (kind : Kind) (clause : List Literal) (hints : List Hint)
-    → is_delete kind ≡ false → is_learned kind ≡ false
+      → is_delete kind ≡ false → is_learned kind ≡ false
       → contains_literal p c ≡ true → contains_literal (negation p) d ≡ true
       → has_opposites (resolvent p c d) ≡ false → clause ≡ resolvent p c d
       → hints ≡ Plain (name_at s.names.names first) ∷ Plain (name_at s.names.names second) ∷ []
@@ -75,33 +75,35 @@ module _ (start : Start) (s : Simplifier) (slots : Slots) (ls : List LogLine) (p
       let fc = h.state.work.clauses first c one in
       let fd = h.state.work.clauses second d other in
       let f : IsFormulaClause s.vars (resolvent p c d) =
-        resolvent_clause s.vars p c d fc fd plain in
+      resolvent_clause s.vars p c d fc fd plain in
       let hs : List Hint = Plain (name_at names first) ∷ Plain (name_at names second) ∷ [] in
       subst (λ (xs : List Literal). IsAddableLine start s ls
-          (record { kind = kind; clause = xs; hints = hints })) (sym clause_is)
+      (record { kind = kind; clause = xs; hints = hints })) (sym clause_is)
       (subst (λ (xs : List Hint). IsAddableLine start s ls
-            (record { kind = kind; clause = resolvent p c d; hints = xs }))
-          (sym hints_are) (record {
+      (record { kind = kind; clause = resolvent p c d; hints = xs }))
+      (sym hints_are) (record {
         follows = resolvent_line (given_of start.clauses) ls kind s.vars p c d (name_at names first)
-          (name_at names second) adds few_variables fc fd has has_not plain
-            (λ base above. ((h.state.work.named.live base above).named first c one,
-                  (h.state.work.named.live base above).named second d other));
+            (name_at names second) adds few_variables fc fd has has_not plain
+            (λ base above. (
+              (h.state.work.named.live base above).named first c one,
+              (h.state.work.named.live base above).named second d other,
+            ));
         own =
-          All-cons IsOwnGroup (Plain (name_at names first)) (Plain (name_at names second) ∷ []) tt
+            All-cons IsOwnGroup (Plain (name_at names first)) (Plain (name_at names second) ∷ []) tt
             (All-cons IsOwnGroup (Plain (name_at names second)) [] tt (All-nil IsOwnGroup));
         unlearned = unlearned;
         line = record {
           literals = clause_ids s.vars (resolvent p c d) few_variables f;
           names =
-            All-cons HasNumber (Plain (name_at names first)) (Plain (name_at names second) ∷ [])
+              All-cons HasNumber (Plain (name_at names first)) (Plain (name_at names second) ∷ [])
               (number_at names first h.state.work.named.numbers)
               (All-cons HasNumber (Plain (name_at names second)) []
-                  (number_at names second h.state.work.named.numbers) (All-nil HasNumber));
+              (number_at names second h.state.work.named.numbers) (All-nil HasNumber));
           deletes = λ e. absurd (both_ways (is_delete kind) adds e);
         };
         clause = f;
         free =
-          resolvent_all (λ k. is_eliminated s.removals k.variable ≡ false) p c d
+            resolvent_all (λ k. is_eliminated s.removals k.variable ≡ false) p c d
             (h.state.free first c one) (h.state.free second d other);
       }))
 
@@ -119,16 +121,16 @@ module _ (s : Simplifier) (slots : Slots) (ls : List LogLine) (w : IsSimplifier 
   -- and it has a name
   pub is_named : r < length s.names.names
   is_named = let long = w.1.state.work.named.long in let h = live_within slots r c live in
-    omega arith
+      omega arith
 
 kind_adds : (b : Bool) (k : Kind) → k ≡ (if b then Empty else Resolvent) → (is_delete k ≡ false)
-      × (is_learned k ≡ false)
+    × (is_learned k ≡ false)
 kind_adds true k e = rw e (refl, refl)
 kind_adds false k e = rw e (refl, refl)
 
 pub resolvent_kind : (c : List Literal) (k : Kind)
     → k ≡ (if is_empty_clause c then Empty else Resolvent) → (is_delete k ≡ false)
-      × (is_learned k ≡ false)
+    × (is_learned k ≡ false)
 resolvent_kind c k e = kind_adds (is_empty_clause c) k e
 
 -- two clauses under one reference are one
@@ -144,6 +146,6 @@ pub pair_added : (p : Literal) (slots more : Slots) (first second : ℕ) (c d cl
     → clause_at more (length slots) ≡ Some (resolvent p x y)
 pair_added p slots more first second c d clause more_is clause_is one other x y ex ey =
     ap (λ (xs : Slots). clause_at xs (length slots)) more_is ∙ clause_new slots clause
-      ∙ ap Some clause_is
+    ∙ ap Some clause_is
     ∙ ap (λ z. Some (resolvent p z d)) (same_at slots first c x one ex)
     ∙ ap (λ z. Some (resolvent p x z)) (same_at slots second d y other ey)

@@ -27,6 +27,6 @@ pub settled_not_refuted : (A : List Literal) (slots left : Slots) → AreSettled
     → Grows slots left → IsRefutedByHints (live_clauses slots) → ⊥
 settled_not_refuted A slots left settled grows w =
     let all : All (IsSettled A) (live_clauses slots) =
-      all_live (IsSettled A) slots (λ r c e. settled r c (grows r c e)) in
+    all_live (IsSettled A) slots (λ r c e. settled r c (grows r c e)) in
     not_refuted (numbered (live_clauses slots)) A
-      (λ r c e. numbered_all (IsSettled A) (live_clauses slots) r c all e) w.0 w.1
+    (λ r c e. numbered_all (IsSettled A) (live_clauses slots) r c all e) w.0 w.1

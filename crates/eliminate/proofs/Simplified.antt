@@ -39,8 +39,10 @@ clause_places start s slots ls c h f = places_of s.vars c f.from_one f.small
 -- tables that are as before but for a clause that was added
 pub record HasAdded (s t : Simplifier) (slots : Slots) (c : List Literal) : Type 0 where
   pub vars : t.vars ≡ s.vars
-  pub names : t.names ≡ record { names = s.names.names ++ added_line s.names.additions ∷ [];
-      additions = s.names.additions + 1 }
+  pub names : t.names ≡ record {
+    names = s.names.names ++ added_line s.names.additions ∷ [];
+    additions = s.names.additions + 1;
+  }
   pub occurrences : t.occurrences ≡ with_clause_rows s.occurrences c (length slots)
   pub removals : t.removals ≡ s.removals
   pub marks : t.marks ≡ s.marks
@@ -54,26 +56,26 @@ simplified_added start s t slots ls l h works a small n =
     let more : Slots = slots ++ Some l.clause ∷ [] in
     let going : AddsNoEmptyClause ls = h.going works in
     let state : IsState start s.vars more (s.names.names ++ added_line (added_count ls) ∷ [])
-      (ls ++ l ∷ []) (with_clause_rows s.occurrences l.clause (length slots)) s.removals =
+    (ls ++ l ∷ []) (with_clause_rows s.occurrences l.clause (length slots)) s.removals =
     state_added start s.vars slots s.names.names ls s.occurrences s.removals h.state going l
-      a.follows a.own a.unlearned small a.clause a.free in
+    a.follows a.own a.unlearned small a.clause a.free in
     let names : t.names.names ≡ s.names.names ++ added_line (added_count ls) ∷ [] =
-      ap (λ (x : NamesState). x.names) n.names
-        ∙ ap (λ k. s.names.names ++ added_line k ∷ []) h.counted in
+    ap (λ (x : NamesState). x.names) n.names
+    ∙ ap (λ k. s.names.names ++ added_line k ∷ []) h.counted in
     let count : t.names.additions ≡ s.names.additions + 1 =
-      ap (λ (x : NamesState). x.additions) n.names in
+    ap (λ (x : NamesState). x.additions) n.names in
     record {
       state = rw (n.vars, names, n.occurrences, n.removals) state;
       counted = count ∙ ap (λ k. k + 1) h.counted
-        ∙ sym (rw a.follows.adds at (additions_push ls l));
+          ∙ sym (rw a.follows.adds at (additions_push ls l));
       marks = ap length n.marks ∙ h.marks ∙ ap (λ k. 2 * k) (sym n.vars);
       few = h.few;
       given = (let v = n.vars in let g = h.given in omega arith);
       fresh = (let v = n.vars in let f = h.fresh in omega arith);
       going =
-        λ e. open_added ls l going (no_empty _ (is_empty_clause l.clause) (sym n.refuted ∙ e));
+          λ e. open_added ls l going (no_empty _ (is_empty_clause l.clause) (sym n.refuted ∙ e));
       refuted =
-        λ e. subst (Contains (live_clauses more)) (sym (is_empty l.clause (sym n.refuted ∙ e)))
+          λ e. subst (Contains (live_clauses more)) (sym (is_empty l.clause (sym n.refuted ∙ e)))
           (contains_live more (length slots) l.clause (clause_new slots l.clause));
     }
 
@@ -94,13 +96,13 @@ pub simplified_subsumed : (start : Start) (s t : Simplifier) (slots : Slots) (ls
 simplified_subsumed start s t slots ls r q c d h works other at by subset n =
     let going : AddsNoEmptyClause ls = h.going works in
     let state =
-      state_subsumed start s.vars slots s.names.names ls s.occurrences s.removals h.state going r q
-        c d other at by subset in
+    state_subsumed start s.vars slots s.names.names ls s.occurrences s.removals h.state going r q
+    c d other at by subset in
     let line : LogLine = delete_line (name_at s.names.names r) in
     record {
       state = rw (n.vars, n.names, n.occurrences, n.removals) state;
       counted = ap (λ (x : NamesState). x.additions) n.names ∙ h.counted
-        ∙ (let e = additions_push ls line in omega arith);
+          ∙ (let e = additions_push ls line in omega arith);
       marks = n.marks ∙ h.marks ∙ ap (λ k. 2 * k) (sym n.vars);
       few = h.few;
       given = (let v = n.vars in let g = h.given in omega arith);

@@ -52,16 +52,16 @@ id_named base n (Some d ∷ slots) zero c e = rw (eq-eqb n n refl) e
 id_named base n (Some d ∷ slots) (suc r) c e =
     let low : n + 1 ≤ id_from base (n + 1) slots r = id_low base (n + 1) slots r c e in
     rw (ne_eqb n (id_from base (n + 1) slots r)
-        (λ (h : n ≡ id_from base (n + 1) slots r). omega arith)) (id_named base (n + 1) slots r c e)
+    (λ (h : n ≡ id_from base (n + 1) slots r). omega arith)) (id_named base (n + 1) slots r c e)
 
 id_only : (base n : ℕ) (slots : Slots) (i : ℕ) (c : List Literal)
     → given_at (given_from n slots) i ≡ Some c → (r : ℕ) × (clause_at slots r ≡ Some c)
-      × (id_from base n slots r ≡ i)
+    × (id_from base n slots r ≡ i)
 id_only base n [] i c e = absurd (none-some c e)
 id_only base n (None ∷ slots) i c e = let w = id_only base n slots i c e in (suc w.0, w.1, w.2)
 id_only base n (Some d ∷ slots) i c e =
     elim (n == i) as (λ b. (n == i) ≡ b
-        → (if b then Some d else given_at (given_from (n + 1) slots) i) ≡ Some c
+    → (if b then Some d else given_at (given_from (n + 1) slots) i) ≡ Some c
     → (r : ℕ) × (clause_at (Some d ∷ slots) r ≡ Some c) × (id_from base n (Some d ∷ slots) r ≡ i)) [
       | true ↦ λ q h. (zero, h, eqb-true n i q)
       | false ↦ λ q h. let w = id_only base (n + 1) slots i c h in (suc w.0, w.1, w.2)
@@ -77,10 +77,10 @@ id_differ base n (None ∷ slots) (suc r) (suc s) c d e f h =
 id_differ base n (Some x ∷ slots) zero zero c d e f h = refl
 id_differ base n (Some x ∷ slots) zero (suc s) c d e f h =
     let low : n + 1 ≤ id_from base (n + 1) slots s = id_low base (n + 1) slots s d f in
-      let same : n ≡ id_from base (n + 1) slots s = h in absurd (omega arith)
+    let same : n ≡ id_from base (n + 1) slots s = h in absurd (omega arith)
 id_differ base n (Some x ∷ slots) (suc r) zero c d e f h =
     let low : n + 1 ≤ id_from base (n + 1) slots r = id_low base (n + 1) slots r c e in
-      let same : id_from base (n + 1) slots r ≡ n = h in absurd (omega arith)
+    let same : id_from base (n + 1) slots r ≡ n = h in absurd (omega arith)
 id_differ base n (Some x ∷ slots) (suc r) (suc s) c d e f h =
     ap suc (id_differ base (n + 1) slots r s c d e f h)
 
@@ -94,7 +94,7 @@ id_below base n (Some d ∷ slots) zero c all e =
     All-head (IsAtMost base) (Formula n, d) (given_from (n + 1) slots) all
 id_below base n (Some d ∷ slots) (suc r) c all e =
     id_below base (n + 1) slots r c
-      (All-tail (IsAtMost base) (Formula n, d) (given_from (n + 1) slots) all) e
+    (All-tail (IsAtMost base) (Formula n, d) (given_from (n + 1) slots) all) e
 
 names_long : (n : ℕ) (slots : Slots) → length (formula_names n slots) ≡ length slots
 names_long n [] = refl
@@ -111,7 +111,7 @@ named_start slots ids = record {
     only = id_only base 1 slots;
     differ = id_differ base 1 slots;
     below = λ r c e. let b : id_from base 1 slots r ≤ base = id_below base 1 slots r c above e in
-      omega arith;
+        omega arith;
   };
 }
 
@@ -145,7 +145,7 @@ rows_none rows slots a = record {
   complete = λ r c l e has. a.complete r c l (none_pushed slots r c e) has;
   right = λ r c l some e stands. a.right r c l some (none_pushed slots r c e) stands;
   before = λ i r h. let b : r < length slots = a.before i r h in
-    omega (arith, length-append slots (None ∷ []));
+      omega (arith, length-append slots (None ∷ []));
 }
 
 pub slot_some : (slots : Slots) (i : ℕ) (c : List Literal) → clause_at slots i ≡ Some c
@@ -180,7 +180,7 @@ simplified_start t vars slots frozen f long a =
     let start : Start = record { clauses = live_clauses slots; frozen = frozen } in
     let names : t.names.names ≡ formula_names 1 slots = ap (λ (x : NamesState). x.names) a.names in
     let ids : All (λ k. IsId (number_in k)) (formula_names 1 slots) =
-      subst (All (λ k. IsId (number_in k))) names a.ids in
+    subst (All (λ k. IsId (number_in k))) names a.ids in
     let state : IsState start vars slots (formula_names 1 slots) [] t.occurrences [] = record {
       work = record {
         log = stays_start (length frozen) (given_of (live_clauses slots));
@@ -199,7 +199,7 @@ simplified_start t vars slots frozen f long a =
       state = rw (a.vars_are, names, a.removals) state;
       counted = ap (λ (x : NamesState). x.additions) a.names;
       marks = ap length a.marks ∙ length-replicate (2 * vars) false
-        ∙ ap (λ k. 2 * k) (sym a.vars_are);
+          ∙ ap (λ k. 2 * k) (sym a.vars_are);
       few = (let v = f.few in omega arith);
       given = (let v = a.vars_are in omega arith);
       fresh = (let v = a.vars_are in omega arith);

@@ -39,33 +39,33 @@ pub places_of : (n : ℕ) (c : List Literal) → All (λ l. 0 < l.variable) c �
 places_of n [] some few = All-nil (HasPlace (2 * n))
 places_of n (l ∷ c) some few =
     All-cons (HasPlace (2 * n)) l c
-      (place_of n l (All-head (λ (k : Literal). 0 < k.variable) l c some) (omega arith))
-      (places_of n c (All-tail (λ (k : Literal). 0 < k.variable) l c some) (omega arith))
+    (place_of n l (All-head (λ (k : Literal). 0 < k.variable) l c some) (omega arith))
+    (places_of n c (All-tail (λ (k : Literal). 0 < k.variable) l c some) (omega arith))
 
 module _ (start : Start) (variables : ℕ) (slots : Slots) (names : List Name) (ls : List LogLine)
     (rows : List (List ℕ)) (removed : List Removed)
     (s : IsState start variables slots names ls rows removed) (going : AddsNoEmptyClause ls) where
   -- a clause is added that follows by its hints, and has no eliminated variable
   pub state_added : (l : LogLine) → IsRupLine (given_of start.clauses) ls l → All IsOwnGroup l.hints
-    → is_learned l.kind ≡ false → added_count ls + 1 < 2 ^ 62 → IsFormulaClause variables l.clause
+      → is_learned l.kind ≡ false → added_count ls + 1 < 2 ^ 62 → IsFormulaClause variables l.clause
       → All (λ (k : Literal). is_eliminated removed k.variable ≡ false) l.clause
       → IsState start variables (slots ++ Some l.clause ∷ [])
-        (names ++ added_line (added_count ls) ∷ []) (ls ++ l ∷ [])
-        (with_clause_rows rows l.clause (length slots)) removed
+      (names ++ added_line (added_count ls) ∷ []) (ls ++ l ∷ [])
+      (with_clause_rows rows l.clause (length slots)) removed
   state_added l rup own unlearned small clause free =
       let places : All (HasPlace (length rows)) l.clause =
-        subst (λ n. All (HasPlace n) l.clause) (sym s.places)
-          (places_of variables l.clause clause.from_one clause.small) in
+      subst (λ n. All (HasPlace n) l.clause) (sym s.places)
+      (places_of variables l.clause clause.from_one clause.small) in
       record {
         work =
-          work_added (length start.frozen) variables (given_of start.clauses) slots names ls l
+            work_added (length start.frozen) variables (given_of start.clauses) slots names ls l
             s.work going rup own unlearned small clause;
         occurrences = rows_added rows slots l.clause s.occurrences places;
         places = rows-length rows l.clause (length slots) ∙ s.places;
         back =
-          λ bits few all. s.back bits few (all_live (Satisfies (assignment_of bits)) slots
+            λ bits few all. s.back bits few (all_live (Satisfies (assignment_of bits)) slots
             (λ r c e. live_all (Satisfies (assignment_of bits)) (slots ++ Some l.clause ∷ []) all r
-              c (clause_kept slots l.clause c r e)));
+            c (clause_kept slots l.clause c r e)));
         within = s.within;
         free = λ r c e. elim (clause_cases slots l.clause r c e) [
           | inl w ↦ s.free r c w
@@ -77,21 +77,21 @@ module _ (start : Start) (variables : ℕ) (slots : Slots) (names : List Name) (
 
   -- a clause is deleted that another one has as a superset
   pub state_subsumed : (r t : ℕ) (c d : List Literal) → t ≢ r → clause_at slots r ≡ Some d
-    → clause_at slots t ≡ Some c → is_subset c d ≡ true
+      → clause_at slots t ≡ Some c → is_subset c d ≡ true
       → IsState start variables (slice_set slots r None) names
-        (ls ++ delete_line (name_at names r) ∷ []) rows removed
+      (ls ++ delete_line (name_at names r) ∷ []) rows removed
   state_subsumed r t c d other live by subset =
       let after : Slots = slice_set slots r None in
       let follows : All (Entails (live_clauses after)) (live_clauses slots) =
-        all_live (Entails (live_clauses after)) slots (λ q x e. by_place q x e) in
+      all_live (Entails (live_clauses after)) slots (λ q x e. by_place q x e) in
       record {
         work =
-          work_deleted (length start.frozen) variables (given_of start.clauses) slots names ls r d
+            work_deleted (length start.frozen) variables (given_of start.clauses) slots names ls r d
             s.work going live;
         occurrences = rows_deleted rows slots r s.occurrences;
         places = s.places;
         back =
-          extends_weaker variables removed start.clauses (live_clauses slots) (live_clauses after)
+            extends_weaker variables removed start.clauses (live_clauses slots) (live_clauses after)
             s.back follows;
         within = s.within;
         free = λ q x e. s.free q x (clause_left slots r q x e).1;
@@ -99,16 +99,16 @@ module _ (start : Start) (variables : ℕ) (slots : Slots) (names : List Name) (
       }
     where
       by_place : (q : ℕ) (x : List Literal) → clause_at slots q ≡ Some x
-        → Entails (live_clauses (slice_set slots r None)) x
+          → Entails (live_clauses (slice_set slots r None)) x
       by_place q x e =
           let after : Slots = slice_set slots r None in
           elim (cases_eq q r) [
             | inl h ↦ subst (Entails (live_clauses after))
-              (sym (same_Some x d (sym e ∙ ap (clause_at slots) h ∙ live)))
-              (entails_subsumed (live_clauses after) c d
+                (sym (same_Some x d (sym e ∙ ap (clause_at slots) h ∙ live)))
+                (entails_subsumed (live_clauses after) c d
                 (contains_live after t c (clause_other slots r t other ∙ by)) subset)
             | inr n ↦ entails_member (live_clauses after) x
-              (contains_live after q x (clause_other slots r q n ∙ e))
+                (contains_live after q x (clause_other slots r q n ∙ e))
           ]
 
 -- a clause lacks the variable
@@ -125,9 +125,9 @@ pub record GoesWith (r : Removed) (slots left : Slots) : Type 0 where
       ⊎ Contains r.clauses c
   pub have : HaveVariable r.variable r.clauses
   pub resolved : All (λ c. All (λ d. contains_literal (positive r.variable) c ≡ true
-        → contains_literal (negative r.variable) d ≡ true
+      → contains_literal (negative r.variable) d ≡ true
       → (has_opposites (resolvent (positive r.variable) c d) ≡ true)
-          ⊎ Contains (live_clauses left) (resolvent (positive r.variable) c d)) r.clauses) r.clauses
+      ⊎ Contains (live_clauses left) (resolvent (positive r.variable) c d)) r.clauses) r.clauses
 
 pub goes_back : (n : ℕ) (removed : List Removed) (r : Removed) (before : List (List Literal))
     (slots left : Slots) → GivesBack n removed before (live_clauses slots) → 0 < r.variable
@@ -135,21 +135,25 @@ pub goes_back : (n : ℕ) (removed : List Removed) (r : Removed) (before : List 
     → GivesBack n (removed ++ r ∷ []) before (live_clauses left)
 goes_back n removed r before slots left back some few g =
     extends_eliminated n removed r before (live_clauses slots) (live_clauses left) back
-      few (record {
-  from_one = some;
-  have = g.have;
-  resolved = λ k c lt m d mt p q. resolve_to (live_clauses left) r.variable (get_or r.clauses k c)
-    (get_or r.clauses m d) (elim (g.resolved k c lt m d mt p q) [
-    | inl pair ↦ inl pair
-    | inr there ↦ inr (entails_member (live_clauses left) _ there)
-  ]);
-  kept = all_live (IsKept r (live_clauses left)) slots (λ q c e. elim (g.each q c e) [
-    | inl there ↦ let w = (g.stays q c there).1 in
-      inr (entails_member (live_clauses left) c (contains_live left q c there), w.not_positive,
-        w.not_negative)
-    | inr gone ↦ inl gone
-  ]);
-})
+    few (record {
+      from_one = some;
+      have = g.have;
+      resolved =
+          λ k c lt m d mt p q. resolve_to (live_clauses left) r.variable (get_or r.clauses k c)
+          (get_or r.clauses m d) (elim (g.resolved k c lt m d mt p q) [
+            | inl pair ↦ inl pair
+            | inr there ↦ inr (entails_member (live_clauses left) _ there)
+          ]);
+      kept = all_live (IsKept r (live_clauses left)) slots (λ q c e. elim (g.each q c e) [
+        | inl there ↦ let w = (g.stays q c there).1 in
+            inr (
+              entails_member (live_clauses left) c (contains_live left q c there),
+              w.not_positive,
+              w.not_negative,
+            )
+        | inr gone ↦ inl gone
+      ]);
+    })
 
 -- a literal of a clause that lacks the variable is on another one
 other_variable : (v : ℕ) (c : List Literal) → Lacks v c
@@ -159,11 +163,11 @@ other_variable v (k ∷ c) h =
     let p = or_parts (literal_eq (positive v) k) (contains_literal (positive v) c) h.not_positive in
     let n = or_parts (literal_eq (negative v) k) (contains_literal (negative v) c) h.not_negative in
     All-cons (λ (l : Literal). (v == l.variable) ≡ false) k c
-      (by (v == k.variable) k.negated p.0 n.0)
-      (other_variable v c (record { not_positive = p.1; not_negative = n.1 }))
+    (by (v == k.variable) k.negated p.0 n.0)
+    (other_variable v c (record { not_positive = p.1; not_negative = n.1 }))
   where
     by : (b m : Bool) → (b && same_bool false m) ≡ false → (b && same_bool true m) ≡ false
-      → b ≡ false
+        → b ≡ false
     by true true p n = n
     by true false p n = p
     by false m p n = refl
@@ -173,13 +177,13 @@ pub goes_free : (removed : List Removed) (r : Removed) (slots left : Slots) → 
 goes_free removed r slots left free g q c e =
     let w = g.stays q c e in
     all_both (λ (l : Literal). is_eliminated removed l.variable ≡ false)
-      (λ (l : Literal). (r.variable == l.variable) ≡ false)
-      (λ (l : Literal). is_eliminated (removed ++ r ∷ []) l.variable ≡ false)
+    (λ (l : Literal). (r.variable == l.variable) ≡ false)
+    (λ (l : Literal). is_eliminated (removed ++ r ∷ []) l.variable ≡ false)
     (λ l a b. list_any-append (λ (x : Removed). x.variable == l.variable) removed (r ∷ [])
-        ∙ or_from (is_eliminated removed l.variable) ((r.variable == l.variable) || false) a
-        (or_from (r.variable == l.variable) false b refl))
+    ∙ or_from (is_eliminated removed l.variable) ((r.variable == l.variable) || false) a
+    (or_from (r.variable == l.variable) false b refl))
     c (free q c w.0) (other_variable r.variable c w.1)
   where
     all_both : (P Q R : Literal → Type 0) → ((l : Literal) → P l → Q l → R l) → (c : List Literal)
-      → All P c → All Q c → All R c
+        → All P c → All Q c → All R c
     all_both P Q R f c p q k d lt = f (get_or c k d) (p k d lt) (q k d lt)

@@ -52,7 +52,7 @@ contains-before [] l k e = absurd (false≢true e)
 contains-before (x ∷ c) l k e = elim (or_cases (literal_eq l x) (contains_literal l c) e) [
   | inl same ↦ or_left (literal_eq l x) (contains_literal l (c ++ k ∷ [])) same
   | inr more ↦ or_right (literal_eq l x) (contains_literal l (c ++ k ∷ []))
-    (contains-before c l k more)
+      (contains-before c l k more)
 ]
 
 contains-take : (c : List Literal) (i : ℕ) (l : Literal) → contains_literal l (take i c) ≡ true
@@ -62,9 +62,9 @@ contains-take [] (suc i) l e = e
 contains-take (k ∷ c) zero l e = absurd (false≢true e)
 contains-take (k ∷ c) (suc i) l e =
     elim (or_cases (literal_eq l k) (contains_literal l (take i c)) e) [
-  | inl same ↦ or_left (literal_eq l k) (contains_literal l c) same
-  | inr more ↦ or_right (literal_eq l k) (contains_literal l c) (contains-take c i l more)
-]
+      | inl same ↦ or_left (literal_eq l k) (contains_literal l c) same
+      | inr more ↦ or_right (literal_eq l k) (contains_literal l c) (contains-take c i l more)
+    ]
 
 -- what stands at a place of a clause without repeats does not stand before it
 once_at : (c : List Literal) (i : ℕ) (l : Literal) → has_repeat c ≡ false → i < length c
@@ -75,7 +75,7 @@ once_at (k ∷ c) (suc i) l r h is e =
     let w = or_parts (contains_literal k c) (has_repeat c) r in
     elim (or_cases (literal_eq l k) (contains_literal l (take i c)) e) [
       | inl same ↦ both_ways (contains_literal k c) w.0
-        (subst (λ x. contains_literal x c ≡ true) (literal_eq-true l k same)
+          (subst (λ x. contains_literal x c ≡ true) (literal_eq-true l k same)
           (at_contains c i l (omega arith) is))
       | inr more ↦ once_at c i l w.1 (omega arith) is more
     ]
@@ -94,7 +94,7 @@ consistent u slots l a p n =
     let y = a.by_units (negation l) n in
     let place : x.place ≡ y.place = same_Some x.place y.place (sym x.there ∙ y.there) in
     let same : (l ∷ []) ≡ (negation l ∷ []) =
-      same_Some (l ∷ []) (negation l ∷ []) (sym x.alone ∙ ap (clause_at slots) place ∙ y.alone) in
+    same_Some (l ∷ []) (negation l ∷ []) (sym x.alone ∙ ap (clause_at slots) place ∙ y.alone) in
     apart l.negated (ap first_negated same)
   where
     first_negated : List Literal → Bool
@@ -111,13 +111,13 @@ pub settled_true : (u : Units) (slots : Slots) (c : List Literal) (k : Literal) 
     → IsSettled u.trail.items c
 settled_true u slots c k a has t = (
   λ f. consistent u slots k a t
-    (all_member (λ l. contains_literal (negation l) u.trail.items ≡ true) c k f has),
+      (all_member (λ l. contains_literal (negation l) u.trail.items ≡ true) c k f has),
   λ m w. elim (all_member (λ l. (l ≡ m) ⊎ (contains_literal (negation l) u.trail.items ≡ true)) c k
       w.others has) [
-    | inl same ↦ both_ways (contains_literal m u.trail.items) w.not_true
-      (subst (λ x. contains_literal x u.trail.items ≡ true) same t)
-    | inr n ↦ consistent u slots k a t n
-  ],
+        | inl same ↦ both_ways (contains_literal m u.trail.items) w.not_true
+            (subst (λ x. contains_literal x u.trail.items ≡ true) same t)
+        | inr n ↦ consistent u slots k a t n
+      ],
 )
 
 -- and so is one with two literals that are not false
@@ -127,15 +127,14 @@ pub settled_two : (A c : List Literal) (k l : Literal) → contains_literal k c 
     → IsSettled A c
 settled_two A c k l hk hl apart nk nl = (
   λ f. both_ways (contains_literal (negation k) A) nk
-    (all_member (λ x. contains_literal (negation x) A ≡ true) c k f hk),
-  λ m w. elim (all_member (λ x. (x ≡ m) ⊎ (contains_literal (negation x) A ≡ true)) c k w.others hk)
-    [
+      (all_member (λ x. contains_literal (negation x) A ≡ true) c k f hk),
+  λ m w. elim (all_member (λ x. (x ≡ m) ⊎ (contains_literal (negation x) A ≡ true)) c k w.others hk) [
     | inr n ↦ both_ways (contains_literal (negation k) A) nk n
     | inl km ↦ elim (all_member (λ x. (x ≡ m) ⊎ (contains_literal (negation x) A ≡ true)) c l
         w.others hl) [
-      | inl lm ↦ apart (km ∙ sym lm)
-      | inr n ↦ both_ways (contains_literal (negation l) A) nl n
-    ]
+          | inl lm ↦ apart (km ∙ sym lm)
+          | inr n ↦ both_ways (contains_literal (negation l) A) nl n
+        ]
   ],
 )
 
@@ -155,12 +154,12 @@ status_false A c i k (Unit l) h is f so = rw (take_next c i k h is) (record {
   not_true = so.not_true;
   not_false = so.not_false;
   others =
-    all_pushed (λ x. (x ≡ l) ⊎ (contains_literal (negation x) A ≡ true)) (take i c) k
+      all_pushed (λ x. (x ≡ l) ⊎ (contains_literal (negation x) A ≡ true)) (take i c) k
       so.others (inr f);
 })
 status_false A c i k Falsified h is f so =
     rw (take_next c i k h is) (all_pushed (λ x. contains_literal (negation x) A ≡ true)
-      (take i c) k so f)
+    (take i c) k so f)
 
 -- a first open one
 pub status_open : (A c : List Literal) (i : ℕ) (k : Literal) → i < length c → k ≡ get_or c i k
@@ -172,8 +171,8 @@ status_open A c i k h is t f so = rw (take_next c i k h is) (record {
   not_false = f;
   others = all_pushed (λ x. (x ≡ k) ⊎ (contains_literal (negation x) A ≡ true)) (take i c) k
       (all_weaker (λ x. contains_literal (negation x) A ≡ true)
-          (λ x. (x ≡ k) ⊎ (contains_literal (negation x) A ≡ true)) (take i c) (λ x n. inr n) so)
-        (inl refl);
+      (λ x. (x ≡ k) ⊎ (contains_literal (negation x) A ≡ true)) (take i c) (λ x n. inr n) so)
+      (inl refl);
 })
 
 -- a second one
@@ -183,7 +182,7 @@ pub status_second : (A c : List Literal) (i : ℕ) (k l : Literal) → has_repea
 status_second A c i k l r h is f so =
     settled_two A c k l (at_contains c i k h is) (contains-take c i l so.member)
     (λ same. once_at c i k r h is (subst (λ x. contains_literal x (take i c) ≡ true)
-          (sym same) so.member)) f so.not_false
+    (sym same) so.member)) f so.not_false
 
 -- the place of a literal of a clause
 pub literal_place : (u : Units) (slots : Slots) (c : List Literal) (i : ℕ) (l : Literal)
@@ -192,7 +191,7 @@ pub literal_place : (u : Units) (slots : Slots) (c : List Literal) (i : ℕ) (l 
     → HasPlace (length u.values) l
 literal_place u slots c i l a f h is =
     subst (λ n. HasPlace n l) (sym a.places) (subst (HasPlace (2 * length u.clauses.items)) (sym is)
-        (places_of (length u.clauses.items) c f.from_one f.small i l h))
+    (places_of (length u.clauses.items) c f.from_one f.small i l h))
 
 -- a mark says whether the literal is true
 pub mark_says : (u : Units) (slots : Slots) (l : Literal) (b : Bool) → AreUnits u slots

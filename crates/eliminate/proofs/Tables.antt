@@ -48,13 +48,13 @@ pub stays_at : (s t u : Simplifier) (slots left kept : Slots) (ls more most : Li
     → StaysSimplified s slots ls u kept most
 stays_at s t u slots left kept ls more most e f g h start i =
     subst (λ (x : Simplifier). IsSimplified start x kept most) (sym e)
-      (subst (λ (x : Slots). IsSimplified start t x most) (sym f)
-        (subst (IsSimplified start t left) (sym g) (h start i)))
+    (subst (λ (x : Slots). IsSimplified start t x most) (sym f)
+    (subst (IsSimplified start t left) (sym g) (h start i)))
 
 pub simplified_at : (start : Start) (t u : Simplifier) (left kept : Slots)
     (more most : List LogLine) → u ≡ t → kept ≡ left → most ≡ more → IsSimplified start t left more
     → IsSimplified start u kept most
 simplified_at start t u left kept more most e f g h =
     subst (λ (x : Simplifier). IsSimplified start x kept most) (sym e)
-      (subst (λ (x : Slots). IsSimplified start t x most) (sym f)
-        (subst (IsSimplified start t left) (sym g) h))
+    (subst (λ (x : Slots). IsSimplified start t x most) (sym f)
+    (subst (IsSimplified start t left) (sym g) h))

@@ -51,11 +51,11 @@ falsified_more u names c i l hints more n h is m e old new =
     let f : Literal → Hint = λ k. Plain (unit_name u.clauses.items names k) in
     let one : falsified_in u (l ∷ []) ≡ l ∷ [] = rw m refl in
     let both : falsified_in u (take (i + 1) c) ≡ falsified_in u (take i c) ++ l ∷ [] =
-      ap (falsified_in u) (take_next c i l h is) ∙ falsified-pushed u (take i c) l
-        ∙ ap (λ xs. falsified_in u (take i c) ++ xs) one in
+    ap (falsified_in u) (take_next c i l h is) ∙ falsified-pushed u (take i c) l
+    ∙ ap (λ xs. falsified_in u (take i c) ++ xs) one in
     new ∙ ap (λ xs. xs ++ Plain n ∷ []) old
-      ∙ ap (λ x. map f (falsified_in u (take i c)) ++ Plain x ∷ []) e
-      ∙ sym (ap (map f) both ∙ map-append f (falsified_in u (take i c)) (l ∷ []))
+    ∙ ap (λ x. map f (falsified_in u (take i c)) ++ Plain x ∷ []) e
+    ∙ sym (ap (map f) both ∙ map-append f (falsified_in u (take i c)) (l ∷ []))
 
 pub falsified_same : (u : Units) (c : List Literal) (i : ℕ) (l : Literal) → i < length c
     → l ≡ get_or c i l → mark_of u.values (negation l) ≡ false
@@ -63,7 +63,7 @@ pub falsified_same : (u : Units) (c : List Literal) (i : ℕ) (l : Literal) → 
 falsified_same u c i l h is m =
     let none : falsified_in u (l ∷ []) ≡ [] = rw m refl in
     sym (ap (falsified_in u) (take_next c i l h is) ∙ falsified-pushed u (take i c) l
-        ∙ ap (λ xs. falsified_in u (take i c) ++ xs) none ∙ append-nil (falsified_in u (take i c)))
+    ∙ ap (λ xs. falsified_in u (take i c) ++ xs) none ∙ append-nil (falsified_in u (take i c)))
 
 -- two tests that agree on the literals of a clause keep the same ones
 same_filter : (p q : Literal → Bool) (c : List Literal)
@@ -71,48 +71,48 @@ same_filter : (p q : Literal → Bool) (c : List Literal)
 same_filter p q [] h = refl
 same_filter p q (k ∷ c) h =
     let here : p k ≡ q k =
-      h k (or_left (literal_eq k k) (contains_literal k c) (literal_eq-refl k)) in
+    h k (or_left (literal_eq k k) (contains_literal k c) (literal_eq-refl k)) in
     let rest : filter p c ≡ filter q c =
-      same_filter p q c (λ l e. h l (or_right (literal_eq l k) (contains_literal l c) e)) in
+    same_filter p q c (λ l e. h l (or_right (literal_eq l k) (contains_literal l c) e)) in
     ap (λ b. if b then k ∷ filter p c else filter p c) here
-      ∙ ap (λ xs. if q k then k ∷ xs else xs) rest
+    ∙ ap (λ xs. if q k then k ∷ xs else xs) rest
 
 all_kept : (p : Literal → Bool) (c : List Literal)
     → ((k : Literal) → contains_literal k c ≡ true → p k ≡ true) → filter p c ≡ c
 all_kept p [] h = refl
 all_kept p (k ∷ c) h =
     ap (λ b. if b then k ∷ filter p c else filter p c)
-      (h k (or_left (literal_eq k k) (contains_literal k c) (literal_eq-refl k)))
+    (h k (or_left (literal_eq k k) (contains_literal k c) (literal_eq-refl k)))
     ∙ ap (λ xs. k ∷ xs)
-      (all_kept p c (λ l e. h l (or_right (literal_eq l k) (contains_literal l c) e)))
+    (all_kept p c (λ l e. h l (or_right (literal_eq l k) (contains_literal l c) e)))
 
 module _ (u : Units) (slots : Slots) (c : List Literal) (a : AreUnits u slots)
     (some : All (λ k. 0 < k.variable) c) where
   marked_as : (k : Literal) (b : Bool) → contains_literal k c ≡ true
-    → contains_literal (negation k) u.trail.items ≡ b → mark_of u.values (negation k) ≡ b
+      → contains_literal (negation k) u.trail.items ≡ b → mark_of u.values (negation k) ≡ b
   marked_as k b has e = a.marked.marked (negation k) (member_has (λ l. 0 < l.variable) c k some has)
-    ∙ e
+      ∙ e
 
   -- of a unit clause all literals are false but one
   pub falsified_unit : (l : Literal) → IsUnit c u.trail.items l
-    → falsified_in u c ≡ without_literal l c
+      → falsified_in u c ≡ without_literal l c
   falsified_unit l w =
-    same_filter (λ k. mark_of u.values (negation k)) (λ k. not (literal_eq l k)) c (λ k has.
+      same_filter (λ k. mark_of u.values (negation k)) (λ k. not (literal_eq l k)) c (λ k has.
       elim (all_member (λ x. (x ≡ l) ⊎ (contains_literal (negation x) u.trail.items ≡ true)) c k
-          w.others has) [
+      w.others has) [
         | inl same ↦ marked_as k false has
-          (ap (λ x. contains_literal (negation x) u.trail.items) same ∙ w.not_false)
-          ∙ sym (ap not (ap (literal_eq l) same ∙ literal_eq-refl l))
+            (ap (λ x. contains_literal (negation x) u.trail.items) same ∙ w.not_false)
+            ∙ sym (ap not (ap (literal_eq l) same ∙ literal_eq-refl l))
         | inr false_one ↦ marked_as k true has false_one
-          ∙ sym (ap not (false_from_ne_true (literal_eq l k) (λ e.
+            ∙ sym (ap not (false_from_ne_true (literal_eq l k) (λ e.
             both_ways (contains_literal (negation l) u.trail.items) w.not_false
-              (subst (λ x. contains_literal (negation x) u.trail.items ≡ true)
-                (sym (literal_eq-true l k e)) false_one))))
+            (subst (λ x. contains_literal (negation x) u.trail.items ≡ true)
+            (sym (literal_eq-true l k e)) false_one))))
       ])
 
   pub falsified_all : IsFalseUnder c u.trail.items → falsified_in u c ≡ c
   falsified_all w =
-    all_kept (λ k. mark_of u.values (negation k)) c
+      all_kept (λ k. mark_of u.values (negation k)) c
       (λ k has. marked_as k true has
       (all_member (λ x. contains_literal (negation x) u.trail.items ≡ true) c k w has))
 
@@ -128,7 +128,7 @@ all_own : (f : Literal → Name) (ks : List Literal) (m : Name)
 all_own f [] m = All-cons IsOwnGroup (Plain m) [] tt (All-nil IsOwnGroup)
 all_own f (k ∷ ks) m =
     All-cons IsOwnGroup (Plain (f k)) (map (λ x. Plain (f x)) ks ++ Plain m ∷ []) tt
-      (all_own f ks m)
+    (all_own f ks m)
 
 all_ids : (names : List Name) → All (λ n. IsId (number_in n)) names
     → (f : Literal → ℕ) (ks : List Literal) (r : ℕ)
@@ -137,8 +137,8 @@ all_ids names all f [] r =
     All-cons HasNumber (Plain (name_at names r)) [] (number_at names r all) (All-nil HasNumber)
 all_ids names all f (k ∷ ks) r =
     All-cons HasNumber (Plain (name_at names (f k)))
-      (map (λ x. Plain (name_at names (f x))) ks ++ Plain (name_at names r) ∷ [])
-      (number_at names (f k) all) (all_ids names all f ks r)
+    (map (λ x. Plain (name_at names (f x))) ks ++ Plain (name_at names r) ∷ [])
+    (number_at names (f k) all) (all_ids names all f ks r)
 
 module _ (start : Start) (s : Simplifier) (slots : Slots) (ls : List LogLine) (u : Units)
     (h : IsSimplified start s slots ls) (a : AreUnits u slots) where
@@ -150,16 +150,16 @@ module _ (start : Start) (s : Simplifier) (slots : Slots) (ls : List LogLine) (u
 
   -- literals that are false are so by clauses of one literal, under their names
   false_by_units : (base : ℕ) → IsBaseOf (given_of start.clauses) base → (ks : List Literal)
-    → ((k : Literal) → contains_literal k ks ≡ true
+      → ((k : Literal) → contains_literal k ks ≡ true
       → contains_literal (negation k) u.trail.items ≡ true)
       → AreFalseByUnits (log_live (given_of start.clauses) base ls) (λ k. id_of base (by_unit k)) ks
   false_by_units base above ks f =
-    each_literal (λ k. log_live (given_of start.clauses) base ls (id_of base (by_unit k))
+      each_literal (λ k. log_live (given_of start.clauses) base ls (id_of base (by_unit k))
       ≡ Some (negation k ∷ [])) ks (λ k has.
       let w = a.by_units (negation k) (f k has) in
       let place : unit_of u.clauses.items k ≡ w.place = ap (λ o. unwrap_or o 0) w.there in
       ap (λ r. log_live (given_of start.clauses) base ls (id_of base (name_at names r))) place
-        ∙ (h.state.work.named.live base above).named w.place (negation k ∷ []) w.alone)
+      ∙ (h.state.work.named.live base above).named w.place (negation k ∷ []) w.alone)
 
   module _ (c : List Literal) (r : ℕ) (at : clause_at slots r ≡ Some c) where
     few_vars : s.vars < 2 ^ 27
@@ -172,54 +172,64 @@ module _ (start : Start) (s : Simplifier) (slots : Slots) (ls : List LogLine) (u
     member_small k has = by c k formula.small has
       where
         by : (d : List Literal) (k : Literal) → greatest_variable d ≤ s.vars
-          → contains_literal k d ≡ true → k.variable ≤ s.vars
+            → contains_literal k d ≡ true → k.variable ≤ s.vars
         by [] k f e = absurd (false≢true e)
         by (x ∷ d) k f e = elim (or_cases (literal_eq k x) (contains_literal k d) e) [
           | inl same ↦ subst (λ (y : Literal). y.variable ≤ s.vars) (sym (literal_eq-true k x same))
-            (let m : x.variable ≤ max x.variable (greatest_variable d) = omega arith in omega arith)
+              (let m : x.variable ≤ max x.variable (greatest_variable d) = omega arith in
+              omega arith)
           | inr more ↦ by d k (omega arith) more
         ]
 
     pub unit_addable : (l : Literal) → IsUnit c u.trail.items l
-      → IsAddableLine start s ls
-      (record { kind = Unit; clause = l ∷ []; hints = unit_hints u names c r })
+        → IsAddableLine start s ls
+        (record { kind = Unit; clause = l ∷ []; hints = unit_hints u names c r })
     unit_addable l w =
         let some : 0 < l.variable =
-          member_has (λ (k : Literal). 0 < k.variable) c l formula.from_one w.member in
+        member_has (λ (k : Literal). 0 < k.variable) c l formula.from_one w.member in
         let few : l.variable ≤ s.vars = member_small l w.member in
         let same : falsified_in u c ≡ without_literal l c =
-          falsified_unit u slots c a formula.from_one l w in
+        falsified_unit u slots c a formula.from_one l w in
         let rup : IsRupLine (given_of start.clauses) ls
-          (record { kind = Unit; clause = l ∷ [];
-              hints = map (λ k. Plain (by_unit k)) (without_literal l c) ++ Plain
-              (name_at names r) ∷ [] }) =
+        (record {
+          kind = Unit;
+          clause = l ∷ [];
+          hints = map (λ k. Plain (by_unit k)) (without_literal l c) ++ Plain
+              (name_at names r) ∷ [];
+        }) =
         unit_line (given_of start.clauses) ls Unit s.vars l c by_unit (name_at names r) refl
-          few_vars formula w.member
+        few_vars formula w.member
         (λ base above. (
           (h.state.work.named.live base above).named r c at,
           false_by_units base above (without_literal l c) (λ k has.
               let in_c = filter-contains (λ x. not (literal_eq l x)) k c has in
               elim (all_member (λ x. (x ≡ l) ⊎ (contains_literal (negation x) u.trail.items ≡ true))
-                  c k w.others in_c.0) [
+              c k w.others in_c.0) [
                 | inl is ↦ absurd (not_itself (literal_eq l k) in_c.1 (ap (literal_eq l) is
-                      ∙ literal_eq-refl l))
+                    ∙ literal_eq-refl l))
                 | inr false_one ↦ false_one
               ]),
         )) in
         record {
           follows =
-            subst (λ (ks : List Literal). IsRupLine (given_of start.clauses) ls
-              (record { kind = Unit; clause = l ∷ [];
-                  hints = map (λ k. Plain (by_unit k)) ks ++ Plain (name_at names r) ∷ [] }))
+              subst (λ (ks : List Literal). IsRupLine (given_of start.clauses) ls
+              (record {
+                kind = Unit;
+                clause = l ∷ [];
+                hints = map (λ k. Plain (by_unit k)) ks ++ Plain (name_at names r) ∷ [];
+              }))
               (sym same) rup;
           own = all_own by_unit (falsified_in u c) (name_at names r);
           unlearned = refl;
           line = record {
             literals =
-              All-cons (λ (k : Literal). IsId k.variable) l [] (some, (let v = few_vars in
-                  omega arith)) (All-nil (λ (k : Literal). IsId k.variable));
+                All-cons (λ (k : Literal). IsId k.variable) l [] (
+                  some,
+                  (let v = few_vars in
+                      omega arith),
+                ) (All-nil (λ (k : Literal). IsId k.variable));
             names =
-              all_ids names h.state.work.named.numbers (unit_of u.clauses.items)
+                all_ids names h.state.work.named.numbers (unit_of u.clauses.items)
                 (falsified_in u c) r;
             deletes = λ e. absurd (false≢true e);
           };
@@ -227,12 +237,12 @@ module _ (start : Start) (s : Simplifier) (slots : Slots) (ls : List LogLine) (u
             no_repeat = refl;
             no_opposites = refl;
             from_one =
-              All-cons (λ (k : Literal). 0 < k.variable) l [] some
+                All-cons (λ (k : Literal). 0 < k.variable) l [] some
                 (All-nil (λ (k : Literal). 0 < k.variable));
             small = omega arith;
           };
           free = All-cons (λ (k : Literal). is_eliminated s.removals k.variable ≡ false) l []
-            (member_has (λ (k : Literal). is_eliminated s.removals k.variable ≡ false) c l
+              (member_has (λ (k : Literal). is_eliminated s.removals k.variable ≡ false) c l
               (h.state.free r c at) w.member)
               (All-nil (λ (k : Literal). is_eliminated s.removals k.variable ≡ false));
         }
@@ -242,30 +252,38 @@ module _ (start : Start) (s : Simplifier) (slots : Slots) (ls : List LogLine) (u
         not_itself false n t = false≢true t
 
     pub empty_addable : IsFalseUnder c u.trail.items
-      → IsAddableLine start s ls
-      (record { kind = Empty; clause = []; hints = unit_hints u names c r })
+        → IsAddableLine start s ls
+        (record { kind = Empty; clause = []; hints = unit_hints u names c r })
     empty_addable w =
         let same : falsified_in u c ≡ c = falsified_all u slots c a formula.from_one w in
         let rup : IsRupLine (given_of start.clauses) ls
-          (record { kind = Empty; clause = [];
-              hints = map (λ k. Plain (by_unit k)) c ++ Plain (name_at names r) ∷ [] }) =
+        (record {
+          kind = Empty;
+          clause = [];
+          hints = map (λ k. Plain (by_unit k)) c ++ Plain (name_at names r) ∷ [];
+        }) =
         empty_line (given_of start.clauses) ls Empty s.vars c by_unit (name_at names r) refl formula
-        (λ base above. ((h.state.work.named.live base above).named r c at,
-              false_by_units base above c
+        (λ base above. (
+          (h.state.work.named.live base above).named r c at,
+          false_by_units base above c
               (λ k has. all_member (λ x. contains_literal (negation x) u.trail.items ≡ true) c k
-                w has))) in
+              w has),
+        )) in
         record {
           follows =
-            subst (λ (ks : List Literal). IsRupLine (given_of start.clauses) ls
-              (record { kind = Empty; clause = [];
-                  hints = map (λ k. Plain (by_unit k)) ks ++ Plain (name_at names r) ∷ [] }))
+              subst (λ (ks : List Literal). IsRupLine (given_of start.clauses) ls
+              (record {
+                kind = Empty;
+                clause = [];
+                hints = map (λ k. Plain (by_unit k)) ks ++ Plain (name_at names r) ∷ [];
+              }))
               (sym same) rup;
           own = all_own by_unit (falsified_in u c) (name_at names r);
           unlearned = refl;
           line = record {
             literals = All-nil (λ (k : Literal). IsId k.variable);
             names =
-              all_ids names h.state.work.named.numbers (unit_of u.clauses.items)
+                all_ids names h.state.work.named.numbers (unit_of u.clauses.items)
                 (falsified_in u c) r;
             deletes = λ e. absurd (false≢true e);
           };

@@ -37,10 +37,10 @@ pub opposed_at : (marks : List Bool) (q : Literal) (c : List Literal) (i : ℕ) 
 opposed_at marks q c i l h is other unmarked opposed =
     let apart : literal_eq q l ≡ false = literal_eq-sides l q other in
     let in_rest : contains_literal l (without_literal q c) ≡ true =
-      contains-filter (λ k. not (literal_eq q k)) l c (at_contains c i l h is) (ap not apart) in
+    contains-filter (λ k. not (literal_eq q k)) l c (at_contains c i l h is) (ap not apart) in
     any_member (is_opposed marks) l (unmarked_rest marks q c)
-      (contains-filter (λ k. not (mark_of marks k)) l (without_literal q c) in_rest
-        (ap not unmarked)) opposed
+    (contains-filter (λ k. not (mark_of marks k)) l (without_literal q c) in_rest
+    (ap not unmarked)) opposed
 
 -- where the literals of a are marked, what is not marked is not in a
 pub rest_is : (marks : List Bool) (a : List Literal) (q : Literal) (c : List Literal)
@@ -50,11 +50,11 @@ rest_is marks a q [] m some = refl
 rest_is marks a q (k ∷ c) m some =
     let rest = rest_is marks a q c m (All-tail (λ (l : Literal). 0 < l.variable) k c some) in
     let same : mark_of marks k ≡ contains_literal k a =
-      m.marked k (All-head (λ (l : Literal). 0 < l.variable) k c some) in
+    m.marked k (All-head (λ (l : Literal). 0 < l.variable) k c some) in
     elim (literal_eq q k) as (λ b. filter (λ l. not (mark_of marks l))
-        (if not b then k ∷ without_literal q c else without_literal q c)
-        ≡ filter (λ l. not (contains_literal l a)) (if not b then k ∷ without_literal q c
-          else without_literal q c)) [
+    (if not b then k ∷ without_literal q c else without_literal q c)
+    ≡ filter (λ l. not (contains_literal l a)) (if not b then k ∷ without_literal q c
+    else without_literal q c)) [
       | true ↦ rest
       | false ↦ λ i. if not (same i) then k ∷ rest i else rest i
     ]
@@ -67,15 +67,15 @@ no_opposites-append (l ∷ c) d oc od apart =
     let h = or_parts (contains_literal (negation l) c) (has_opposites c) oc in
     or_from (contains_literal (negation l) (c ++ d)) (has_opposites (c ++ d))
     (false_from_ne_true (contains_literal (negation l) (c ++ d))
-        (λ e. elim (contains-either (negation l) c d e) [
+    (λ e. elim (contains-either (negation l) c d e) [
       | inl m ↦ both_ways (contains_literal (negation l) c) h.0 m
       | inr m ↦ both_ways (contains_literal (negation (negation l)) (l ∷ c)) (apart (negation l) m)
           (subst (λ x. contains_literal x (l ∷ c) ≡ true) (sym (negation_twice l))
-              (or_left (literal_eq l l) (contains_literal l c) (literal_eq-refl l)))
+          (or_left (literal_eq l l) (contains_literal l c) (literal_eq-refl l)))
     ]))
     (no_opposites-append c d h.1 od
-        (λ k e. (or_parts (literal_eq (negation k) l) (contains_literal (negation k) c)
-            (apart k e)).1))
+    (λ k e. (or_parts (literal_eq (negation k) l) (contains_literal (negation k) c)
+    (apart k e)).1))
 
 -- a literal and its negation
 opposites_both : (c : List Literal) (k : Literal) → contains_literal k c ≡ true
@@ -92,7 +92,7 @@ some_member q (l ∷ c) e =
     elim (or_cases (q l) (list_any q c) e) [
       | inl h ↦ (l, or_left (literal_eq l l) (contains_literal l c) (literal_eq-refl l), h)
       | inr h ↦ let w = some_member q c h in
-        (w.0, or_right (literal_eq w.0 l) (contains_literal w.0 c) w.1, w.2)
+          (w.0, or_right (literal_eq w.0 l) (contains_literal w.0 c) w.1, w.2)
     ]
 
 -- the resolvent has an opposite pair just where the negation of some literal of the rest is marked
@@ -100,35 +100,35 @@ pub opposed_is : (marks : List Bool) (p : Literal) (c d : List Literal)
     → IsMarked marks (without_literal p c) → All (λ l. 0 < l.variable) d → has_opposites c ≡ false
     → has_opposites d ≡ false
     → list_any (is_opposed marks) (unmarked_rest marks (negation p) d) ≡ has_opposites
-      (resolvent p c d)
+    (resolvent p c d)
 opposed_is marks p c d m some oc od =
     let a : List Literal = without_literal p c in
     let rest : List Literal = unmarked_rest marks (negation p) d in
     let is : rest ≡ filter (λ k. not (contains_literal k a)) (without_literal (negation p) d) =
-      rest_is marks a (negation p) d m some in
+    rest_is marks a (negation p) d m some in
     let from_one : (k : Literal) → contains_literal k rest ≡ true → 0 < k.variable =
-      λ k e. member_has (λ l. 0 < l.variable) d k some
+    λ k e. member_has (λ l. 0 < l.variable) d k some
     (filter-contains (λ l. not (literal_eq (negation p) l)) k d
-        (filter-contains (λ l. not (mark_of marks l)) k (without_literal (negation p) d) e).0).0 in
+    (filter-contains (λ l. not (mark_of marks l)) k (without_literal (negation p) d) e).0).0 in
     let o_rest : has_opposites rest ≡ false =
-      has_opposites-filter (λ k. not (mark_of marks k)) (without_literal (negation p) d)
-        (has_opposites-filter (λ k. not (literal_eq (negation p) k)) d od) in
+    has_opposites-filter (λ k. not (mark_of marks k)) (without_literal (negation p) d)
+    (has_opposites-filter (λ k. not (literal_eq (negation p) k)) d od) in
     let o_a : has_opposites a ≡ false = has_opposites-filter (λ k. not (literal_eq p k)) c oc in
     elim (list_any (is_opposed marks) rest) as (λ b. list_any (is_opposed marks) rest ≡ b
-        → b ≡ has_opposites (resolvent p c d)) [
+    → b ≡ has_opposites (resolvent p c d)) [
       | true ↦ λ e.
           let w = some_member (is_opposed marks) rest e in
           let k : Literal = w.0 in
           let in_a : contains_literal (negation k) a ≡ true =
-            sym (m.marked (negation k) (from_one k w.1)) ∙ w.2 in
+          sym (m.marked (negation k) (from_one k w.1)) ∙ w.2 in
           sym (ap (λ x. has_opposites (a ++ x)) (sym is)
-              ∙ opposites_both (a ++ rest) k (contains-right k a rest w.1)
-              (contains-left (negation k) a rest in_a))
+          ∙ opposites_both (a ++ rest) k (contains-right k a rest w.1)
+          (contains-left (negation k) a rest in_a))
       | false ↦ λ e.
           sym (ap (λ x. has_opposites (a ++ x)) (sym is)
-              ∙ no_opposites-append a rest o_a o_rest (λ k h.
+          ∙ no_opposites-append a rest o_a o_rest (λ k h.
           sym (m.marked (negation k) (from_one k h))
-            ∙ false_from_ne_true (mark_of marks (negation k))
-            (λ f. both_ways (list_any (is_opposed marks) rest) e
-              (any_member (is_opposed marks) k rest h f))))
+          ∙ false_from_ne_true (mark_of marks (negation k))
+          (λ f. both_ways (list_any (is_opposed marks) rest) e
+          (any_member (is_opposed marks) k rest h f))))
     ] refl

@@ -45,7 +45,7 @@ module _ (marks : List Bool) (p : Literal) (c d : List Literal)
       ap (list_any (is_opposed marks)) rest_marked
       ∙ any_same (is_opposed marks) q (rest_of p c d)
       (All-filter (λ k. not (contains_literal k (without_literal p c)))
-          (λ k. is_opposed marks k ≡ q k) (without_literal (negation p) d) left)
+      (λ k. is_opposed marks k ≡ q k) (without_literal (negation p) d) left)
 
 -- the clause under a reference that is looked at
 pub under_live : (slots : Slots) (r : ℕ) (c : List Literal) → clause_at slots r ≡ Some c
@@ -65,4 +65,4 @@ under_at slots rs i r c lt is e = under_item slots rs i r lt is ∙ under_live s
 pub few_length : (cs : List (List Literal)) → are_few_and_short cs ≡ true → length cs ≤ 10
 few_length cs e =
     leb-true (length cs) 10 (and_parts (list_all (λ c. nat_le (length c) 100) cs)
-      (nat_le (length cs) 10) e).1
+    (nat_le (length cs) 10) e).1

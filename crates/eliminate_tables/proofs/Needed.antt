@@ -25,11 +25,11 @@ pub not_needed : (t : Assignment) (p : Literal) (c : List Literal) (i : ℕ) (l 
     → is_needed t p c ≡ false
 not_needed t p c i l h is other value =
     let apart : literal_eq p l ≡ false =
-      false_from_ne_true (literal_eq p l)
-        (λ e. both (literal_eq l p) other
-        (subst (λ x. literal_eq l x ≡ true) (sym (literal_eq-true p l e)) (literal_eq-refl l))) in
+    false_from_ne_true (literal_eq p l)
+    (λ e. both (literal_eq l p) other
+    (subst (λ x. literal_eq l x ≡ true) (sym (literal_eq-true p l e)) (literal_eq-refl l))) in
     let in_rest : contains_literal l (without_literal p c) ≡ true =
-      contains-filter (λ k. not (literal_eq p k)) l c (at_contains c i l h is) (ap not apart) in
+    contains-filter (λ k. not (literal_eq p k)) l c (at_contains c i l h is) (ap not apart) in
     rw (has_true t l (without_literal p c) in_rest value) (none (contains_literal p c))
   where
     both : (b : Bool) → b ≡ false → b ≡ true → ⊥
@@ -43,11 +43,11 @@ not_needed t p c i l h is other value =
 -- literals whose codes differ
 pub codes_differ : (l p : Literal)
     → ((2 * l.variable + (if l.negated then 1 else 0)) ==
-      (2 * p.variable + (if p.negated then 1 else 0))) ≡ false → literal_eq l p ≡ false
+    (2 * p.variable + (if p.negated then 1 else 0))) ≡ false → literal_eq l p ≡ false
 codes_differ l p h = false_from_ne_true (literal_eq l p) (λ e.
     false≢true (sym h ∙ eq-eqb _ _
-        (ap (λ (x : Literal). 2 * x.variable + (if x.negated then 1 else 0))
-          (literal_eq-true l p e))))
+    (ap (λ (x : Literal). 2 * x.variable + (if x.negated then 1 else 0))
+    (literal_eq-true l p e))))
 
 -- a clause at some place needs it
 pub needed_at : (t : Assignment) (v : ℕ) (literals : List Literal) (pieces : List Piece) (i : ℕ)
@@ -57,17 +57,17 @@ pub needed_at : (t : Assignment) (v : ℕ) (literals : List Literal) (pieces : L
 needed_at t v literals pieces i d h need =
     let c : List Literal = clause_in literals (get_or pieces i d) in
     let at : get_or (clauses_at literals pieces) i c ≡ c =
-      get_or-map (clause_in literals) pieces i d c h in
+    get_or-map (clause_in literals) pieces i d c h in
     list_any_at (is_needed t (positive v)) (clauses_at literals pieces) i c
-      (omega (arith, length-map pieces (clause_in literals))) (ap (is_needed t (positive v)) at
-        ∙ need)
+    (omega (arith, length-map pieces (clause_in literals))) (ap (is_needed t (positive v)) at
+    ∙ need)
 
 -- one variable more has its value
 extended_more : (removed : List Removed) (i : ℕ) (d : Removed) (bits : List Bool)
     → i < length removed
     → extended (drop i removed) bits ≡ slice_set (extended (drop (i + 1) removed) bits)
-      ((get_or removed i d).variable - 1)
-      (becomes_true (assignment_of (extended (drop (i + 1) removed) bits)) (get_or removed i d))
+    ((get_or removed i d).variable - 1)
+    (becomes_true (assignment_of (extended (drop (i + 1) removed) bits)) (get_or removed i d))
 extended_more removed i d bits h = ap (λ rs. extended rs bits) (drop_more removed i d h)
 
 pub extend_step : (gone : List Gone) (pieces : List Piece) (literals : List Literal)
@@ -79,19 +79,19 @@ pub extend_step : (gone : List Gone) (pieces : List Piece) (literals : List Lite
 extend_step gone pieces literals self bits now value back i g view at here_is before is =
     let r : Removed = one_removed pieces literals g in
     let long : length self ≡ length gone =
-      ap length (sym view) ∙ length-map gone (one_removed pieces literals) in
+    ap length (sym view) ∙ length-map gone (one_removed pieces literals) in
     let here : get_or self i r ≡ r = ap (λ rs. get_or rs i r) (sym view)
-      ∙ get_or-map (one_removed pieces literals) gone i g r (omega arith)
-      ∙ ap (one_removed pieces literals) (sym here_is) in
+    ∙ get_or-map (one_removed pieces literals) gone i g r (omega arith)
+    ∙ ap (one_removed pieces literals) (sym here_is) in
     let this : length self - (back + 1) ≡ i = omega arith in
     let next : length self - back ≡ i + 1 = omega arith in
     let old : now ≡ extended (drop (i + 1) self) bits =
-      before ∙ ap (λ k. extended (drop k self) bits) next in
+    before ∙ ap (λ k. extended (drop k self) bits) next in
     ap (λ v. slice_set now (g.variable - 1) v) is
     ∙ ap (λ xs. slice_set xs (g.variable - 1) (becomes_true (assignment_of xs) r)) old
     ∙ sym (ap (λ k. extended (drop k self) bits) this ∙ extended_more self i r bits (omega arith)
     ∙ ap (λ (x : Removed). slice_set (extended (drop (i + 1) self) bits) (x.variable - 1)
-        (becomes_true (assignment_of (extended (drop (i + 1) self) bits)) x)) here)
+    (becomes_true (assignment_of (extended (drop (i + 1) self) bits)) x)) here)
 
 -- the variable has a bit
 pub gone_small : (gone : List Gone) (pieces : List Piece) (literals : List Literal)
@@ -101,10 +101,10 @@ pub gone_small : (gone : List Gone) (pieces : List Piece) (literals : List Liter
 gone_small gone pieces literals self n i g view all h here_is =
     let r : Removed = one_removed pieces literals g in
     let long : length self ≡ length gone =
-      ap length (sym view) ∙ length-map gone (one_removed pieces literals) in
+    ap length (sym view) ∙ length-map gone (one_removed pieces literals) in
     let here : get_or self i r ≡ r = ap (λ rs. get_or rs i r) (sym view)
-      ∙ get_or-map (one_removed pieces literals) gone i g r h
-      ∙ ap (one_removed pieces literals) (sym here_is) in
+    ∙ get_or-map (one_removed pieces literals) gone i g r h
+    ∙ ap (one_removed pieces literals) (sym here_is) in
     subst (λ (x : Removed). x.variable ≤ n) here (all i r (omega arith))
 
 pub gone_from_one : (gone : List Gone) (count i : ℕ) (g : Gone) → All (IsGone count) gone

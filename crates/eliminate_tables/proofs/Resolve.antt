@@ -19,11 +19,11 @@ covered_false p r [] h = tt
 covered_false p r (k ∷ d) h = (
   elim h.0 [
     | inl e ↦ subst (λ x. contains_literal (negation x) (p ∷ map negation r) ≡ true) (sym e)
-      (or_left (literal_eq (negation (negation p)) p)
+        (or_left (literal_eq (negation (negation p)) p)
         (contains_literal (negation (negation p)) (map negation r))
         (subst (λ x. literal_eq x p ≡ true) (sym (negation_twice p)) (literal_eq-refl p)))
     | inr e ↦ or_right (literal_eq (negation k) p) (contains_literal (negation k) (map negation r))
-      (contains-negations k r ∙ e)
+        (contains-negations k r ∙ e)
   ],
   covered_false p r d h.1,
 )
@@ -84,7 +84,7 @@ in_rest : (k : Literal) (a b : List Literal) → contains_literal k b ≡ true
     → contains_literal k (a ++ filter (λ k. not (contains_literal k a)) b) ≡ true
 in_rest k a b e =
     elim (contains_literal k a) as (λ v. contains_literal k a ≡ v
-        → contains_literal k (a ++ filter (λ k. not (contains_literal k a)) b) ≡ true) [
+    → contains_literal k (a ++ filter (λ k. not (contains_literal k a)) b) ≡ true) [
       | true ↦ λ h. contains-left k a _ h
       | false ↦ λ h. contains-right k a _ (contains-filter (λ k. not (contains_literal k a)) k b e
           (ap not h))
@@ -103,7 +103,7 @@ resolvent-covers_right p c d =
 pub resolvent-parts : (p k : Literal) (c d : List Literal)
     → contains_literal k (resolvent p c d) ≡ true
     → (contains_literal k (without_literal p c) ≡ true)
-        ⊎ (contains_literal k (without_literal (negation p) d) ≡ true)
+    ⊎ (contains_literal k (without_literal (negation p) d) ≡ true)
 resolvent-parts p k c d e =
     elim (contains-either k (without_literal p c) _ e) [
       | inl h ↦ inl h
@@ -115,23 +115,23 @@ pub resolvent-open : (p : Literal) (c d : List Literal) → contains_literal p d
     → contains_literal p (resolvent p c d) ≡ false
 resolvent-open p c d n =
     false_from_ne_true (contains_literal p (resolvent p c d))
-      (λ e. elim (resolvent-parts p p c d e) [
-  | inl h ↦ both_ways (contains_literal p (without_literal p c)) (not-without p c) h
-  | inr h ↦ both_ways (contains_literal p d) n
-    (filter-contains (λ l. not (literal_eq (negation p) l)) p d h).0
-])
+    (λ e. elim (resolvent-parts p p c d e) [
+      | inl h ↦ both_ways (contains_literal p (without_literal p c)) (not-without p c) h
+      | inr h ↦ both_ways (contains_literal p d) n
+          (filter-contains (λ l. not (literal_eq (negation p) l)) p d h).0
+    ])
 
 pub resolvent-open_not : (p : Literal) (c d : List Literal)
     → contains_literal (negation p) c ≡ false
     → contains_literal (negation p) (resolvent p c d) ≡ false
 resolvent-open_not p c d n =
     false_from_ne_true (contains_literal (negation p) (resolvent p c d))
-      (λ e. elim (resolvent-parts p (negation p) c d e) [
-  | inl h ↦ both_ways (contains_literal (negation p) c) n
-    (filter-contains (λ l. not (literal_eq p l)) (negation p) c h).0
-  | inr h ↦ both_ways (contains_literal (negation p) (without_literal (negation p) d))
-    (not-without (negation p) d) h
-])
+    (λ e. elim (resolvent-parts p (negation p) c d e) [
+      | inl h ↦ both_ways (contains_literal (negation p) c) n
+          (filter-contains (λ l. not (literal_eq p l)) (negation p) c h).0
+      | inr h ↦ both_ways (contains_literal (negation p) (without_literal (negation p) d))
+          (not-without (negation p) d) h
+    ])
 
 -- what is asked of two parents
 pub record AreParents (at : Clauses) (p : Literal) (c d : List Literal) (i j : ℕ) : Type 0 where
@@ -154,4 +154,4 @@ pub resolvent_refutes : (at : Clauses) (p : Literal) (c d : List Literal) (i j :
 resolvent_refutes at p c d i j a = two_refute at p (resolvent p c d) c d i j a.first a.second a.has
     (resolvent-covers_left p c d) (resolvent-covers_right p c d)
     (resolvent-open p c d (not-opposite_too p d a.plain_too a.has_not))
-      (resolvent-open_not p c d (not-opposite p c a.plain a.has))
+    (resolvent-open_not p c d (not-opposite p c a.plain a.has))

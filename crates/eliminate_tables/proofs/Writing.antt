@@ -14,7 +14,7 @@ pub row_written : {X E : Type 0} (f : X → List E) (rows : List X) (i : ℕ) (o
     → map f (set rows i new) ≡ set (map f rows) i (after (get_or (map f rows) i []))
 row_written f rows i old new after lt e h =
     map-set f rows i new
-      ∙ ap (set (map f rows) i) (h ∙ ap after (ap f e ∙ sym (get_or-map f rows i old [] lt)))
+    ∙ ap (set (map f rows) i) (h ∙ ap after (ap f e ∙ sym (get_or-map f rows i old [] lt)))
 
 pub row_within : {X E : Type 0} (f : X → E) (rows : List X) (now : List E) (i : ℕ)
     → map f rows ≡ now → i < length now → i < length rows
@@ -30,4 +30,4 @@ pub live_test : (slots : Slots) (r : ℕ) (b : Bool) → (IsTrue b ↔ IsLive sl
 live_test slots r true h = let w = h.0 refl in sym (ap is_some w.1)
 live_test slots r false h =
     sym (false_from_ne_true (has_clause slots r)
-      (λ e. false≢true (h.1 (some_clause (clause_at slots r) e))))
+    (λ e. false≢true (h.1 (some_clause (clause_at slots r) e))))

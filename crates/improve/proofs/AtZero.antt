@@ -35,7 +35,7 @@ empty_accepted cs n e =
   where
     addable : IsAddable (start_of (cs ++ [] ∷ [])) (length (cs ++ [] ∷ []) + 0 + 1) []
     addable =
-      record { rising = omega arith; no_repeat = refl; no_opposites = refl; small = omega arith }
+        record { rising = omega arith; no_repeat = refl; no_opposites = refl; small = omega arith }
 
     refuted : Refutes (numbered (cs ++ [] ∷ [])) [] (n ∷ [])
     refuted = record {
@@ -64,7 +64,7 @@ right_zero profile p bits log count s accepted counted = record {
   solution = s;
   told = ([], refl);
   optimal =
-    λ t x. record { feasible = (s.1 t x).0; exact = (s.1 t x).1; least = λ u f. omega arith };
+      λ t x. record { feasible = (s.1 t x).0; exact = (s.1 t x).1; least = λ u f. omega arith };
   accepted = accepted;
   begins = (log, refl);
   counted = counted;

@@ -42,12 +42,12 @@ last_satisfied p b before c t h e s =
     let B = flat_map (comparator_for b.profile p) before in
     let C = comparator_for b.profile p c in
     let all =
-      subst (AllByRecursion (Satisfies t)) (given_split p b before c h e)
-        (recursion_from_All (Satisfies t) (clauses_in (given_to b.solver))
-        (All-map (Satisfies t) (λ (g : Name × List Literal). g.1) (given_to b.solver) s)) in
+    subst (AllByRecursion (Satisfies t)) (given_split p b before c h e)
+    (recursion_from_All (Satisfies t) (clauses_in (given_to b.solver))
+    (All-map (Satisfies t) (λ (g : Name × List Literal). g.1) (given_to b.solver) s)) in
     All-from_recursion (Satisfies t) (A ++ C)
-      (all_append (Satisfies t) A C (left_part (Satisfies t) A (B ++ C) all)
-        (right_part (Satisfies t) B C (right_part (Satisfies t) A (B ++ C) all)))
+    (all_append (Satisfies t) A C (left_part (Satisfies t) A (B ++ C) all)
+    (right_part (Satisfies t) B C (right_part (Satisfies t) A (B ++ C) all)))
 
 pub bits_cheaper : (p : Problem) (b : Bounds) (before : List ℕ) (c : ℕ) (bits : List Bool)
     → IsOver p b → (b.costs).items ≡ before ++ c ∷ []
@@ -87,10 +87,16 @@ pub solved_over : (p : Problem) (b : Bounds) (s : LogSolver) → IsOver p b → 
     → (s.failed ≡ true → ⊥) → IsLogOver (given_to s) s.sink
     → s.sink ≡ (b.solver).sink ++ lines_since (b.solver).sink s.sink
     → ((base : ℕ) → IsBaseOf (given_to b.solver) base
-        → LearnsNew nothing_exempt (given_to b.solver) base (b.solver).sink
-        (lines_since (b.solver).sink s.sink))
-    → IsOver p (record { solver = s; network = b.network; profile = b.profile; costs = b.costs;
-          fixed = b.fixed; last = b.last })
+    → LearnsNew nothing_exempt (given_to b.solver) base (b.solver).sink
+    (lines_since (b.solver).sink s.sink))
+    → IsOver p (record {
+      solver = s;
+      network = b.network;
+      profile = b.profile;
+      costs = b.costs;
+      fixed = b.fixed;
+      last = b.last;
+    })
 solved_over p b s h same works log grows fresh =
     let given : given_to s ≡ given_to b.solver =
     ap (λ x. given_of x.clauses ++ s.added) same.0
@@ -98,8 +104,13 @@ solved_over p b s h same works log grows fresh =
     record {
       instance = h.instance;
       usable =
-        record { works = false_from_ne_true s.failed works; numbered = given ∙ (h.usable).numbered
-          ∙ ap (λ g. given_of (clauses_in g)) (sym given); log = log; new = new given };
+          record {
+            works = false_from_ne_true s.failed works;
+            numbered = given ∙ (h.usable).numbered
+                ∙ ap (λ g. given_of (clauses_in g)) (sym given);
+            log = log;
+            new = new given;
+          };
       formula = same.0 ∙ h.formula;
       clauses = ap clauses_in given ∙ h.clauses;
       network = h.network;
@@ -111,8 +122,8 @@ solved_over p b s h same works log grows fresh =
     numbers : (base : ℕ) → length (given_to b.solver) ≤ base → IsBaseOf (given_to b.solver) base
     numbers base l =
         subst (λ g. IsBaseOf g base) (sym (h.usable).numbered)
-          (base_of (clauses_in (given_to b.solver)) base
-            (omega (arith, l, length-map (given_to b.solver) (λ (g : Name × List Literal). g.1))))
+        (base_of (clauses_in (given_to b.solver)) base
+        (omega (arith, l, length-map (given_to b.solver) (λ (g : Name × List Literal). g.1))))
 
     new : given_to s ≡ given_to b.solver → (base : ℕ) → length (given_to s) ≤ base
         → LearnsNew (is_later (length s.formula.clauses) base) (given_to s) base [] s.sink
@@ -122,25 +133,29 @@ solved_over p b s h same works log grows fresh =
         (λ (f : Cnf). LearnsNew (is_later (length f.clauses) base) (given_to s) base [] s.sink)
         (sym same.0)
         (subst (λ g. LearnsNew (is_later (length (b.solver).formula.clauses) base) g base [] s.sink)
-            (sym given)
+        (sym given)
         (subst (LearnsNew (is_later (length (b.solver).formula.clauses) base) (given_to b.solver)
-              base []) (sym grows)
+        base []) (sym grows)
         (new_searched (is_later (length (b.solver).formula.clauses) base) (given_to b.solver) base
-            (b.solver).sink (lines_since (b.solver).sink s.sink) ((h.usable).new base m)
-            (fresh base (numbers base m)))))
+        (b.solver).sink (lines_since (b.solver).sink s.sink) ((h.usable).new base m)
+        (fresh base (numbers base m)))))
 
 pub same_given : (old new : LogSolver) → SameGiven old new → given_to old ≡ given_to new
 same_given old new same =
     sym (ap (λ x. given_of x.clauses ++ new.added) same.0
-        ∙ ap (λ x. given_of old.formula.clauses ++ x) same.1)
+    ∙ ap (λ x. given_of old.formula.clauses ++ x) same.1)
 
 pub learned_more : (old new : List LogLine) (before after : ℕ) → new ≡ old ++ lines_since old new
     → after ≡ before + learned_count (lines_since old new)
     → after + learned_count old ≡ before + learned_count new
 learned_more old new before after e h =
-    omega (arith, h, ap learned_count e,
-        sum_by-append (λ (l : LogLine). if is_learned l.kind then 1 else 0) old
-        (lines_since old new))
+    omega (
+      arith,
+      h,
+      ap learned_count e,
+      sum_by-append (λ (l : LogLine). if is_learned l.kind then 1 else 0) old
+          (lines_since old new),
+    )
 
 -- the bound 0 is refuted at once
 pub zero_refuted : (p : Problem) (b : Bounds) (before : List ℕ) (c : ℕ) → IsOver p b
@@ -149,7 +164,7 @@ zero_refuted p b before c h e none =
     let A = fixed_clauses b.profile p in
     let B = flat_map (comparator_for b.profile p) before in
     let parts : clauses_in (given_to b.solver)
-        ≡ (fixed_clauses b.profile p ++ flat_map (comparator_for b.profile p) before) ++ [] ∷ [] =
+    ≡ (fixed_clauses b.profile p ++ flat_map (comparator_for b.profile p) before) ++ [] ∷ [] =
     given_split p b before c h e
     ∙ ap (λ k. A ++ (B ++ comparator_for b.profile p k)) none
     ∙ sym (append_assoc A B ([] ∷ [])) in

@@ -23,9 +23,13 @@ pub fresh_name : (given : Given) (n : ℕ) → given ≡ given_of (clauses_in gi
     → n ≡ length given + 1
     → (i : ℕ) × (Formula n ≡ Formula i) × (0 < i) × (given_at given i ≡ None)
 fresh_name given n e l =
-    let few : length (clauses_in given) < n = omega (arith, length-map given (λ g. g.1)) in
-    (n, refl, omega arith, ap (λ g. given_at g n) e ∙ given_at-given_of (clauses_in given) n
-        ∙ numbered_past (clauses_in given) n few)
+    let few : length (clauses_in given) < n = omega (arith, length-map given (λ g. g.1)) in (
+      n,
+      refl,
+      omega arith,
+      ap (λ g. given_at g n) e ∙ given_at-given_of (clauses_in given) n
+          ∙ numbered_past (clauses_in given) n few,
+    )
 
 given_push : (n : ℕ) (cs : List (List Literal)) (c : List Literal) (m : ℕ) → m ≡ n + length cs
     → given_on n (cs ++ c ∷ []) ≡ given_on n cs ++ (Formula m, c) ∷ []
@@ -50,7 +54,7 @@ module _ (old new : LogSolver) (n : ℕ) (c : List Literal) (usable : IsUsable o
 
   clauses_are : clauses_in (given_to new) ≡ clauses_in (given_to old) ++ c ∷ []
   clauses_are =
-    ap clauses_in given_is ∙ map-append (λ (g : Name × List Literal). g.1) (given_to old)
+      ap clauses_in given_is ∙ map-append (λ (g : Name × List Literal). g.1) (given_to old)
       ((Formula n, c) ∷ [])
 
   numbered_are : given_to new ≡ given_of (clauses_in (given_to new))
@@ -73,8 +77,12 @@ module _ (old new : LogSolver) (n : ℕ) (c : List Literal) (usable : IsUsable o
       → new.sink ≡ old.sink ++ lines_since old.sink new.sink
       → learned_count (lines_since old.sink new.sink) ≡ 0 → GivesAll old (c ∷ []) new
   gives_one works log grows none = record {
-    usable = record { works = false_from_ne_true new.failed works; numbered = numbered_are;
-        log = log; new = fresh };
+    usable = record {
+      works = false_from_ne_true new.failed works;
+      numbered = numbered_are;
+      log = log;
+      new = fresh;
+    };
     formula = more.0;
     frozen = more.2;
     clauses = clauses_are;
@@ -87,19 +95,24 @@ module _ (old new : LogSolver) (n : ℕ) (c : List Literal) (usable : IsUsable o
           let len : length (given_to new) ≡ length (given_to old) + 1 =
           ap length given_is ∙ length-append (given_to old) ((Formula n, c) ∷ []) in
           subst (λ (f : Cnf). LearnsNew (is_later (length f.clauses) base) (given_to new) base []
-              new.sink) (sym more.0)
+          new.sink) (sym more.0)
           (subst (λ g. LearnsNew (is_later (length old.formula.clauses) base) g base [] new.sink)
-              (sym given_is)
+          (sym given_is)
           (subst (LearnsNew (is_later (length old.formula.clauses) base)
-                (given_to old ++ (Formula n, c) ∷ []) base []) (sym grows)
+          (given_to old ++ (Formula n, c) ∷ []) base []) (sym grows)
           (new_more (length old.formula.clauses) base (given_to old) n c old.sink
-              (lines_since old.sink new.sink) formula_few (omega (arith, h, len, next))
-              (usable.new base (omega (arith, h, len))) none)))
+          (lines_since old.sink new.sink) formula_few (omega (arith, h, len, next))
+          (usable.new base (omega (arith, h, len))) none)))
 
 pub gives_none : (s : LogSolver) → IsUsable s → GivesAll s [] s
 gives_none s u =
-    record { usable = u; formula = refl; frozen = refl;
-      clauses = sym (append-nil (clauses_in (given_to s))); learned = refl }
+    record {
+      usable = u;
+      formula = refl;
+      frozen = refl;
+      clauses = sym (append-nil (clauses_in (given_to s)));
+      learned = refl;
+    }
 
 pub gives_on : (old mid new : LogSolver) (all : List (List Literal)) (i : ℕ) (c : List Literal)
     → GivesAll old (take i all) mid → GivesAll mid (c ∷ []) new
@@ -128,7 +141,13 @@ pub starts_usable : (s : LogSolver) (f : Cnf) → s.formula ≡ f → s.added �
     → IsUsable s × (clauses_in (given_to s) ≡ f.clauses)
 starts_usable s f e none works log plain =
     let g = given_whole s f e none in
-    let cs : clauses_in (given_to s) ≡ f.clauses = ap clauses_in g ∙ clauses_given f.clauses in
-    (record { works = works; numbered = g ∙ ap given_of (sym cs); log = log;
-          new = λ base h. none_new (is_later (length s.formula.clauses) base) (given_to s) base []
-          s.sink plain }, cs)
+    let cs : clauses_in (given_to s) ≡ f.clauses = ap clauses_in g ∙ clauses_given f.clauses in (
+      record {
+        works = works;
+        numbered = g ∙ ap given_of (sym cs);
+        log = log;
+        new = λ base h. none_new (is_later (length s.formula.clauses) base) (given_to s) base []
+            s.sink plain;
+      },
+      cs,
+    )

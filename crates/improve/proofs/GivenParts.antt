@@ -52,8 +52,13 @@ pub parts_weaker : (given : Given) (fixed last : ℕ) (a b c : List (List Litera
     → weaker_among (fixed + 1) (clauses_in end) (clauses_in before) ≡ weaker_among (fixed + 1) c b
 parts_weaker given fixed last a b c before end e f g is_before is_end =
     let len : length given ≡ length a + length b + length c =
-      omega (arith, length-map given (λ x. x.1), ap length e, length-append a (b ++ c),
-        length-append b c) in
+    omega (
+      arith,
+      length-map given (λ x. x.1),
+      ap length e,
+      length-append a (b ++ c),
+      length-append b c,
+    ) in
     let tail : clauses_in end ≡ c =
     ap clauses_in (is_end ∙ take_rest given (length given - last))
     ∙ sym (drop-map (λ (x : Name × List Literal). x.1) (length given - last) given)
@@ -64,8 +69,8 @@ parts_weaker given fixed last a b c before end e f g is_before is_end =
     ∙ sym
     (take-map (λ (x : Name × List Literal). x.1) (length given - last - fixed) (drop fixed given))
     ∙ ap (take (length given - last - fixed))
-      (sym (drop-map (λ (x : Name × List Literal). x.1) fixed given) ∙ ap (drop fixed) e
-        ∙ ap (λ n. drop n (a ++ (b ++ c))) (sym f))
+    (sym (drop-map (λ (x : Name × List Literal). x.1) fixed given) ∙ ap (drop fixed) e
+    ∙ ap (λ n. drop n (a ++ (b ++ c))) (sym f))
     ∙ middle_part a b c (length given - last - fixed) (omega arith) in
     ap (λ x. weaker_among (fixed + 1) x (clauses_in before)) tail
     ∙ ap (λ x. weaker_among (fixed + 1) c x) middle
@@ -80,7 +85,7 @@ small_lower a b ls h s =
     All-weaker (λ (l : LogLine). All (λ x. id_of b (name_of x) < 2 ^ 62) l.hints)
     (λ l. All (λ x. id_of a (name_of x) < 2 ^ 62) l.hints)
     (λ l g. All-weaker (λ (x : Hint). id_of b (name_of x) < 2 ^ 62)
-        (λ x. id_of a (name_of x) < 2 ^ 62) (λ x lt. small_at a b (name_of x) h lt) l.hints g) ls s
+    (λ x. id_of a (name_of x) < 2 ^ 62) (λ x lt. small_at a b (name_of x) h lt) l.hints g) ls s
 
 pub solver_ids : (s : LogSolver) (count : ℕ) → IsUsable s → length (given_to s) < 2 ^ 58
     → length s.sink < 2 ^ 61 → count ≤ length (given_to s) → HasSmallIds count s.sink
@@ -117,8 +122,8 @@ entry_numbers ws n c b e low high =
     let P : List Literal × ℕ → Type 0 = λ x. IsId x.1 in
     All-from_recursion (λ e. IsId e.1) ws (each_entry P ws (subst (AllByRecursion P) (sym e)
     (each_among P n c b
-        (any_each (λ x. IsId (first_subset n c x)) (λ x. let r = first_bounds c x n in
-            (omega (arith, r.0), omega (arith, r.1))) b))))
+    (any_each (λ x. IsId (first_subset n c x)) (λ x. let r = first_bounds c x n in
+    (omega (arith, r.0), omega (arith, r.1))) b))))
 
 pub entry_literals : (ws : List (Vec Literal Global × ℕ)) (n : ℕ) (c b : List (List Literal))
     → weaker_list ws ≡ weaker_among n c b → AllByRecursion (λ x. All (λ l. IsId l.variable) x) b
@@ -144,12 +149,12 @@ pub given_split : (p : Problem) (b : Bounds) (before : List ℕ) (c : ℕ) → I
     → (b.costs).items ≡ before ++ c ∷ []
     → clauses_in (given_to b.solver)
     ≡ fixed_clauses b.profile p ++ (flat_map (comparator_for b.profile p) before ++ comparator_for
-        b.profile p c)
+    b.profile p c)
 given_split p b before c h e =
     h.clauses ∙ ap (λ x. fixed_clauses b.profile p ++ flat_map (comparator_for b.profile p) x) e
     ∙ ap (λ x. fixed_clauses b.profile p ++ x) (flat_map-append (comparator_for b.profile p) before
-        (c ∷ []) ∙ ap (λ x. flat_map (comparator_for b.profile p) before ++ x)
-        (append-nil (comparator_for b.profile p c)))
+    (c ∷ []) ∙ ap (λ x. flat_map (comparator_for b.profile p) before ++ x)
+    (append-nil (comparator_for b.profile p c)))
 
 pub given_length : (p : Problem) (b : Bounds) (before : List ℕ) (c : ℕ) → IsOver p b
     → (b.costs).items ≡ before ++ c ∷ []
@@ -159,9 +164,15 @@ given_length p b before c h e =
     let A = fixed_clauses b.profile p in
     let B = flat_map (comparator_for b.profile p) before in
     let C = comparator_for b.profile p c in
-    omega (arith, length-map (given_to b.solver) (λ x. x.1),
-        ap length (given_split p b before c h e), length-append A (B ++ C), length-append B C,
-        h.fixed, h.last before c e)
+    omega (
+      arith,
+      length-map (given_to b.solver) (λ x. x.1),
+      ap length (given_split p b before c h e),
+      length-append A (B ++ C),
+      length-append B C,
+      h.fixed,
+      h.last before c e,
+    )
 
 pub weaker_len : (ws : List (Vec Literal Global × ℕ)) (n : ℕ) (c b : List (List Literal))
     → weaker_list ws ≡ weaker_among n c b → length ws ≡ length b

@@ -32,25 +32,27 @@ module _ (p : Problem) (old : LogSolver) (h : IsOverHard p old) where
       → Extends bits t → IsFeasible p t
   hard_feasible bits sat t x =
       (feasible p t).0 (subst (All (Satisfies t)) (ap clauses_in h.given
-            ∙ clauses_given (hard_cnf p).clauses)
-          (All-map (Satisfies t) (λ (g : Name × List Literal). g.1) (given_to old) (sat t x)))
+      ∙ clauses_given (hard_cnf p).clauses)
+      (All-map (Satisfies t) (λ (g : Name × List Literal). g.1) (given_to old) (sat t x)))
 
   pub hard_log : (new : LogSolver) → SameGiven old new → IsLogOver (given_to new) new.sink
       → AddsNoEmptyClause new.sink → new.sink ≡ old.sink ++ lines_since old.sink new.sink
       → ((base : ℕ) → IsBaseOf (given_to old) base
-          → LearnsNew nothing_exempt (given_to old) base old.sink (lines_since old.sink new.sink))
+      → LearnsNew nothing_exempt (given_to old) base old.sink (lines_since old.sink new.sink))
       → IsHardLog p new.sink
   hard_log new same log free grows fresh =
       let cs : List (List Literal) = (hard_cnf p).clauses in
       let base : IsBaseOf (given_to old) (length (hard_cnf p).clauses) =
-        subst (λ g. IsBaseOf g (length (hard_cnf p).clauses)) (sym h.given)
-          (base_of cs (length cs) (omega arith)) in (
-        record { steps = steps_of_log cs new.sink
-            (subst (λ g. IsLogOver g new.sink) (sym (same_given old new same) ∙ h.given) log);
-            open_end = free },
+      subst (λ g. IsBaseOf g (length (hard_cnf p).clauses)) (sym h.given)
+      (base_of cs (length cs) (omega arith)) in (
+        record {
+          steps = steps_of_log cs new.sink
+              (subst (λ g. IsLogOver g new.sink) (sym (same_given old new same) ∙ h.given) log);
+          open_end = free;
+        },
         subst (λ g. LearnsNew nothing_exempt g (length (hard_cnf p).clauses) [] new.sink) h.given
             (first_new nothing_exempt (given_to old) (length cs) old.sink
-                (lines_since old.sink new.sink) new.sink h.learned grows (fresh (length cs) base)),
+            (lines_since old.sink new.sink) new.sink h.learned grows (fresh (length cs) base)),
       )
 
   pub right_unsat : (profile : Profile) (log : List LogLine) (count : ℕ)
@@ -62,7 +64,7 @@ module _ (p : Problem) (old : LogSolver) (h : IsOverHard p old) where
       record {
         none_told = refl;
         inconsistent =
-          λ t f. certificate_sound (hard_cnf p).clauses
+            λ t f. certificate_sound (hard_cnf p).clauses
             (numbered_lines (length (hard_cnf p).clauses) log) accepted t ((feasible p t).1 f);
         accepted = accepted;
         counted = (same, omega (arith, same, hard_few p h.instance));
@@ -80,7 +82,7 @@ module _ (p : Problem) (old : LogSolver) (h : IsOverHard p old) where
       record {
         none_told = refl;
         not_refuted =
-          λ r. free (inl (subst IsRefutedByHints (sym (ap (λ f. f.clauses) h.formula)) r));
+            λ r. free (inl (subst IsRefutedByHints (sym (ap (λ f. f.clauses) h.formula)) r));
         hard = work;
         no_bound = none;
       }

@@ -44,12 +44,12 @@ use Rattle.improve.proofs.GivenParts.{clause_ids, entries_are, entry_literals}
 first_found : (n : ℕ) (ds : List (List Literal)) (x : List Literal)
     → list_any (λ d. is_subset d x) ds ≡ true
     → (k : ℕ) × (d : List Literal) × (first_subset n ds x ≡ n + k) × (slice_get ds k ≡ Some d)
-        × (is_subset d x ≡ true)
+    × (is_subset d x ≡ true)
 first_found n [] x h = absurd (false≢true h)
 first_found n (d ∷ ds) x h =
     elim (is_subset d x) as (λ b. is_subset d x ≡ b → (b || list_any (λ d. is_subset d x) ds) ≡ true
     → (k : ℕ) × (y : List Literal) × ((if b then n else first_subset (n + 1) ds x) ≡ n + k)
-        × (slice_get (d ∷ ds) k ≡ Some y) × (is_subset y x ≡ true)) [
+    × (slice_get (d ∷ ds) k ≡ Some y) × (is_subset y x ≡ true)) [
       | true ↦ λ e g. (0, d, omega arith, refl, e)
       | false ↦ λ e g. (let r = first_found (n + 1) ds x g in
           (suc r.0, r.1, omega (arith, r.2), r.3, r.4))
@@ -107,23 +107,23 @@ module _ (profile : Profile) (p : Problem) (h : IsInstance p) (before : List ℕ
   fits_at : (d : ℕ) → c < d → AllByRecursion Fits (comparator_for profile p d)
   fits_at d lt =
       let formula =
-        recursion_from_All (IsFormulaClause (bound_as profile p d).variables)
-          (bound_as profile p d).clauses (bound_is_formula profile p d h).clauses in
+      recursion_from_All (IsFormulaClause (bound_as profile p d).variables)
+      (bound_as profile p d).clauses (bound_is_formula profile p d h).clauses in
       let cs = comparator_for profile p d in
       let a = right_part (IsFormulaClause (bound_as profile p d).variables) fixed cs formula in
       let b =
-        recursion_from_All (IsCovered last) cs (covers_larger (adders_as profile p).outputs c d
-          (omega arith)) in
+      recursion_from_All (IsCovered last) cs (covers_larger (adders_as profile p).outputs c d
+      (omega arith)) in
       let e = comparator_some (adders_as profile p).outputs d (omega arith) in
       each (λ x. IsFormulaClause (bound_as profile p d).variables x
-          × (IsCovered last x × (is_empty_clause x ≡ false))) Fits (λ x y. (y.0, y.1.0, y.1.1)) cs
+      × (IsCovered last x × (is_empty_clause x ≡ false))) Fits (λ x y. (y.0, y.1.0, y.1.1)) cs
       (both (IsFormulaClause (bound_as profile p d).variables) (λ x. IsCovered last x
-            × (is_empty_clause x ≡ false)) cs a
-          (both (IsCovered last) (λ x. is_empty_clause x ≡ false) cs b e))
+      × (is_empty_clause x ≡ false)) cs a
+      (both (IsCovered last) (λ x. is_empty_clause x ≡ false) cs b e))
 
   fits : AllByRecursion Fits earlier
   fits =
-    all_flat Fits (comparator_for profile p) before
+      all_flat Fits (comparator_for profile p) before
       (each (λ d. c < d) (λ d. AllByRecursion Fits (comparator_for profile p d)) fits_at before
       (falling_above before c falling))
 
@@ -137,16 +137,16 @@ module _ (profile : Profile) (p : Problem) (h : IsInstance p) (before : List ℕ
         omega (arith, f.0.small, few),
         r.1,
         numbered_right fixed last (first_subset (length fixed + 1) last x) r.0 (omega (arith, r.2))
-          ∙ r.3,
+            ∙ r.3,
         r.4,
       )
 
   pub weaker_fits : All (IsWeakerOf (fixed ++ last)) weaker
   weaker_fits = All-from_recursion (IsWeakerOf (fixed ++ last)) weaker
       (all_mapped (IsWeakerOf (fixed ++ last)) (λ x. (x, first_subset (length fixed + 1) last x))
-          earlier (each Fits
-            (λ x. IsWeakerOf (fixed ++ last) (x, first_subset (length fixed + 1) last x)) weaker_one
-            earlier fits))
+      earlier (each Fits
+      (λ x. IsWeakerOf (fixed ++ last) (x, first_subset (length fixed + 1) last x)) weaker_one
+      earlier fits))
 
   pub earlier_ids : AllByRecursion (λ x. All (λ l. IsId l.variable) x) earlier
   earlier_ids =
@@ -156,7 +156,7 @@ module _ (profile : Profile) (p : Problem) (h : IsInstance p) (before : List ℕ
 
   some_each : AllByRecursion IsSomeClause weaker
   some_each = all_mapped IsSomeClause (λ x. (x, first_subset (length fixed + 1) last x)) earlier
-    (each Fits (λ x. is_empty_clause x ≡ false) (λ x f. f.2) earlier fits)
+      (each Fits (λ x. is_empty_clause x ≡ false) (λ x f. f.2) earlier fits)
 
   pub weaker_some : All IsSomeClause weaker
   weaker_some = All-from_recursion IsSomeClause weaker some_each
@@ -170,7 +170,7 @@ module _ (profile : Profile) (p : Problem) (h : IsInstance p) (before : List ℕ
       ∙ ap (λ x. fixed ++ x) (sym (flat_map-append (comparator_for profile p) before (c ∷ [])))
 
   module _ (sink : List LogLine) (keeps : KeepsLog (length fixed) weaker sink)
-    (cs : List (List Literal)) (is : cs ≡ fixed ++ flat_map (comparator_for profile p)
+      (cs : List (List Literal)) (is : cs ≡ fixed ++ flat_map (comparator_for profile p)
       (before ++ c ∷ [])) where
     pub last_log : IsLogOver (given_of cs) sink
         → IsLogOver (given_of (bound_as profile p c).clauses) (rebased (length fixed) weaker sink)
@@ -180,7 +180,7 @@ module _ (profile : Profile) (p : Problem) (h : IsInstance p) (before : List ℕ
 
     pub last_accepted : IsLogOver (given_of cs) sink → IsAcceptedLog (given_of cs) sink
         → IsAcceptedLog (given_of (bound_as profile p c).clauses)
-          (rebased (length fixed) weaker sink)
+        (rebased (length fixed) weaker sink)
     last_accepted log accepted =
         keeps.accepted fixed last refl weaker_fits weaker_some
         (subst (λ x. IsLogOver (given_of x) sink) (is ∙ sym given_parts) log)
@@ -188,15 +188,20 @@ module _ (profile : Profile) (p : Problem) (h : IsInstance p) (before : List ℕ
 
   weaker_count : length weaker ≡ length earlier
   weaker_count = sym (length-map weaker (λ e. e.0))
-    ∙ ap length (same_clauses (length fixed + 1) last earlier)
+      ∙ ap length (same_clauses (length fixed + 1) last earlier)
 
   -- how many clauses were given over the bounds
   count_given : length (fixed ++ map (λ e. e.0) weaker ++ last)
       ≡ length (fixed ++ last) + length earlier
   count_given =
-      omega (arith, length-append (fixed ++ map (λ e. e.0) weaker) last,
-          length-append fixed (map (λ e. e.0) weaker), length-append fixed last,
-          length-map weaker (λ e. e.0), weaker_count)
+      omega (
+        arith,
+        length-append (fixed ++ map (λ e. e.0) weaker) last,
+        length-append fixed (map (λ e. e.0) weaker),
+        length-append fixed last,
+        length-map weaker (λ e. e.0),
+        weaker_count,
+      )
 
   pub last_new : (sink : List LogLine) → KeepsLog (length fixed) weaker sink
       → (cs : List (List Literal))
@@ -204,16 +209,16 @@ module _ (profile : Profile) (p : Problem) (h : IsInstance p) (before : List ℕ
       → IsLogOver (given_of cs) sink
       → LearnsNew (is_later (length fixed) (length cs)) (given_of cs) (length cs) [] sink
       → LearnsNew (is_later (length fixed) (length (fixed ++ last) + length earlier))
-        (given_of (fixed ++ last)) (length (fixed ++ last)) [] (rebased (length fixed) weaker sink)
+      (given_of (fixed ++ last)) (length (fixed ++ last)) [] (rebased (length fixed) weaker sink)
   last_new sink keeps cs is log h =
       let all : List (List Literal) = fixed ++ map (λ e. e.0) weaker ++ last in
       let parts : cs ≡ fixed ++ map (λ e. e.0) weaker ++ last = is ∙ sym given_parts in
       subst (λ n. LearnsNew (is_later (length fixed) n) (given_of (fixed ++ last))
-          (length (fixed ++ last)) [] (rebased (length fixed) weaker sink)) count_given
+      (length (fixed ++ last)) [] (rebased (length fixed) weaker sink)) count_given
       (keeps.new fixed last refl weaker_fits (subst (λ x. IsLogOver (given_of x) sink) parts log)
-          (length all) refl
+      (length all) refl
       (subst (λ x. LearnsNew (is_later (length fixed) (length x)) (given_of x) (length x) [] sink)
-          parts h))
+      parts h))
 
   pub last_open : (sink : List LogLine) → AddsNoEmptyClause sink
       → AddsNoEmptyClause (rebased (length fixed) weaker sink)
@@ -224,7 +229,7 @@ pub entries_spelled : (p : Problem) (b : Bounds) (before : List ℕ) (c : ℕ) �
     → (b.costs).items ≡ before ++ c ∷ [] → AreFalling (b.costs).items
     → (ws : List (Vec Literal Global × ℕ))
     → weaker_list ws ≡ weaker_among (b.fixed + 1) (comparator_for b.profile p c)
-      (flat_map (comparator_for b.profile p) before)
+    (flat_map (comparator_for b.profile p) before)
     → All (λ e. All (λ l. IsId l.variable) (e.0).items) ws
 entries_spelled p b before c h e falling ws are =
     entry_literals ws (b.fixed + 1) (comparator_for b.profile p c)
@@ -235,30 +240,30 @@ entries_spelled p b before c h e falling ws are =
 pub bound_log : (p : Problem) (b : Bounds) (ws : List (Vec Literal Global × ℕ)) (log : List LogLine)
     → IsOver p b
     → ((x y z : List (List Literal)) → clauses_in (given_to b.solver) ≡ x ++ (y ++ z)
-        → length x ≡ b.fixed → length z ≡ b.last → weaker_list ws ≡ weaker_among (b.fixed + 1) z y)
+    → length x ≡ b.fixed → length z ≡ b.last → weaker_list ws ≡ weaker_among (b.fixed + 1) z y)
     → log ≡ rebased b.fixed (weaker_list ws) (b.solver).sink
     → KeepsLog b.fixed (weaker_list ws) (b.solver).sink → BoundLog p b log
 bound_log p b ws log h parts e keeps = record {
   lines = is_rebased;
   is_log = λ before c x f. subst (IsLogOver (given_of (bound_as b.profile p c).clauses))
-    (sym (is_rebased before c x))
+      (sym (is_rebased before c x))
       (last_log b.profile p h.instance before c (falls before c x f) sink (kept before c x) cs
-          (given before c x) log_over);
+      (given before c x) log_over);
   accepted = λ before c x f a. subst (IsAcceptedLog (given_of (bound_as b.profile p c).clauses))
-    (sym (is_rebased before c x))
+      (sym (is_rebased before c x))
       (last_accepted b.profile p h.instance before c (falls before c x f) sink (kept before c x) cs
-          (given before c x) log_over (subst (λ g. IsAcceptedLog g sink) (h.usable).numbered a));
+      (given before c x) log_over (subst (λ g. IsAcceptedLog g sink) (h.usable).numbered a));
   open_end =
-    λ before c x f o. subst AddsNoEmptyClause (sym (is_rebased before c x))
+      λ before c x f o. subst AddsNoEmptyClause (sym (is_rebased before c x))
       (last_open b.profile p h.instance before c (falls before c x f) sink o);
   new = λ before c x f.
       subst (LearnsNew (is_later (length (fixed_clauses b.profile p))
-            (length (bound_as b.profile p c).clauses + length
-              (flat_map (comparator_for b.profile p) before)))
+      (length (bound_as b.profile p c).clauses + length
+      (flat_map (comparator_for b.profile p) before)))
       (given_of (bound_as b.profile p c).clauses) (length (bound_as b.profile p c).clauses) [])
-        (sym (is_rebased before c x))
+      (sym (is_rebased before c x))
       (last_new b.profile p h.instance before c (falls before c x f) sink (kept before c x) cs
-          (given before c x) log_over new_over_all);
+      (given before c x) log_over new_over_all);
   learned = ap learned_count e ∙ learned_rebased b.fixed (weaker_list ws) sink;
 }
   where
@@ -279,14 +284,14 @@ bound_log p b ws log h parts e keeps = record {
         ∙ ap length (append-nil (fixed_clauses b.profile p))
 
     new_over_all : LearnsNew (is_later (length (fixed_clauses b.profile p)) (length cs))
-      (given_of cs) (length cs) [] sink
+        (given_of cs) (length cs) [] sink
     new_over_all =
         subst (λ n. LearnsNew (is_later n (length cs)) (given_of cs) (length cs) [] sink)
         formula_count
         (subst (λ g. LearnsNew (is_later (length (b.solver).formula.clauses) (length cs)) g
-              (length cs) [] sink) (h.usable).numbered
+        (length cs) [] sink) (h.usable).numbered
         ((h.usable).new (length cs)
-            (omega (arith, length-map (given_to b.solver) (λ (g : Name × List Literal). g.1)))))
+        (omega (arith, length-map (given_to b.solver) (λ (g : Name × List Literal). g.1)))))
 
     given : (before : List ℕ) (c : ℕ) → (b.costs).items ≡ before ++ c ∷ []
         → clauses_in (given_to b.solver)
@@ -301,17 +306,17 @@ bound_log p b ws log h parts e keeps = record {
     numbers : (before : List ℕ) (c : ℕ) → (b.costs).items ≡ before ++ c ∷ []
         → weaker_list ws
         ≡ weaker_among (length (fixed_clauses b.profile p) + 1) (comparator_for b.profile p c)
-          (flat_map (comparator_for b.profile p) before)
+        (flat_map (comparator_for b.profile p) before)
     numbers before c x =
         entries_are p b before c h x (given_to b.solver) refl ws parts
         ∙ ap (λ n. weaker_among (n + 1) (comparator_for b.profile p c)
-            (flat_map (comparator_for b.profile p) before)) h.fixed
+        (flat_map (comparator_for b.profile p) before)) h.fixed
 
     is_rebased : (before : List ℕ) (c : ℕ) → (b.costs).items ≡ before ++ c ∷ []
         → log
         ≡ rebased (length (fixed_clauses b.profile p))
-          (weaker_among (length (fixed_clauses b.profile p) + 1) (comparator_for b.profile p c)
-            (flat_map (comparator_for b.profile p) before)) (b.solver).sink
+        (weaker_among (length (fixed_clauses b.profile p) + 1) (comparator_for b.profile p c)
+        (flat_map (comparator_for b.profile p) before)) (b.solver).sink
     is_rebased before c x =
         e ∙ ap (λ n. rebased n (weaker_list ws) (b.solver).sink) h.fixed
         ∙ ap (λ w. rebased (length (fixed_clauses b.profile p)) w (b.solver).sink)
@@ -319,8 +324,8 @@ bound_log p b ws log h parts e keeps = record {
 
     kept : (before : List ℕ) (c : ℕ) → (b.costs).items ≡ before ++ c ∷ []
         → KeepsLog (length (fixed_clauses b.profile p))
-          (weaker_among (length (fixed_clauses b.profile p) + 1) (comparator_for b.profile p c)
-            (flat_map (comparator_for b.profile p) before)) (b.solver).sink
+        (weaker_among (length (fixed_clauses b.profile p) + 1) (comparator_for b.profile p c)
+        (flat_map (comparator_for b.profile p) before)) (b.solver).sink
     kept before c x =
         subst (λ w. KeepsLog (length (fixed_clauses b.profile p)) w (b.solver).sink)
         (numbers before c x)

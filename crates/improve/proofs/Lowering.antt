@@ -51,7 +51,7 @@ module _ (p : Problem) (costs new : List ℕ) (c : ℕ) (bits : List Bool)
 
   -- a search that told these costs, the last of them too, comes to its end
   pub lowered_end : (profile used : Profile) (old now : Telling) (mid : List ℕ)
-    (before left : BudgetState)
+      (before left : BudgetState)
       (result : Result Found ImproveFault) → left.limit ≡ before.limit
       → mid ≡ old.told ++ costs → now.told ≡ mid ++ c ∷ [] → now.failures ≡ old.failures
       → AreFalling (costs ++ c ∷ []) → IsSolution p bits c → All (IsCostOfSome p) costs

@@ -35,31 +35,36 @@ but_last-end (d ∷ e ∷ ds) c = ap (λ x. d ∷ x) (but_last-end (e ∷ ds) c)
 weaker_for-last : (profile : Profile) (p : Problem) (costs before : List ℕ) (c : ℕ)
     → costs ≡ before ++ c ∷ []
     → weaker_for profile p costs c ≡ weaker_among (length (fixed_clauses profile p) + 1)
-      (comparator_for profile p c) (flat_map (comparator_for profile p) before)
+    (comparator_for profile p c) (flat_map (comparator_for profile p) before)
 weaker_for-last profile p costs before c e =
     ap (λ x. weaker_among (length (fixed_clauses profile p) + 1) (comparator_for profile p c)
-        (flat_map (comparator_for profile p) x)) (ap but_last e ∙ but_last-end before c)
+    (flat_map (comparator_for profile p) x)) (ap but_last e ∙ but_last-end before c)
 
 begins : (profile : Profile) (p : Problem) (costs before : List ℕ) (c : ℕ) (sink log : List LogLine)
     → costs ≡ before ++ c ∷ []
     → log ≡ rebased (length (fixed_clauses profile p))
-      (weaker_among (length (fixed_clauses profile p) + 1) (comparator_for profile p c)
-        (flat_map (comparator_for profile p) before)) sink
+    (weaker_among (length (fixed_clauses profile p) + 1) (comparator_for profile p c)
+    (flat_map (comparator_for profile p) before)) sink
     → BeginsWithWeaker profile p costs c log
 begins profile p costs before c sink log e is =
     let W = weaker_among (length (fixed_clauses profile p) + 1) (comparator_for profile p c)
-      (flat_map (comparator_for profile p) before) in
-    let moved = map (moved_line (length (fixed_clauses profile p)) (length W)) sink in
-    (moved, is ∙ ap (λ w. map weaker_line w ++ moved)
-        (sym (weaker_for-last profile p costs before c e)))
+    (flat_map (comparator_for profile p) before) in
+    let moved = map (moved_line (length (fixed_clauses profile p)) (length W)) sink in (
+      moved,
+      is ∙ ap (λ w. map weaker_line w ++ moved)
+          (sym (weaker_for-last profile p costs before c e)),
+    )
 
 weaker_count : (profile : Profile) (p : Problem) (costs before : List ℕ) (c : ℕ)
     → costs ≡ before ++ c ∷ [] → length (flat_map (comparator_for profile p) before)
-      ≡ length (weaker_for profile p costs c)
+    ≡ length (weaker_for profile p costs c)
 weaker_count profile p costs before c e =
     sym (length-map (flat_map (comparator_for profile p) before)
-        (λ x. (x, first_subset (length (fixed_clauses profile p) + 1)
-            (comparator_for profile p c) x)))
+    (λ x. (
+      x,
+      first_subset (length (fixed_clauses profile p) + 1)
+          (comparator_for profile p c) x,
+    )))
     ∙ sym (ap length (weaker_for-last profile p costs before c e))
 
 optimal : (profile : Profile) (p : Problem) → IsInstance p
@@ -72,7 +77,7 @@ optimal profile p h bits c log s accepted t x = record {
   least = λ u f. elim (cases_lt _ c) [
     | inl lt ↦ (let w = (says_cheaper profile p c h).from u f lt in
         absurd (certificate_sound (bound_as profile p c).clauses
-          (numbered_lines (length (bound_as profile p c).clauses) log) accepted w.0 w.2))
+        (numbered_lines (length (bound_as profile p c).clauses) log) accepted w.0 w.2))
     | inr le ↦ le
   ];
 }
@@ -82,12 +87,12 @@ pub right_optimum : (p : Problem) (b : Bounds) (cost : ℕ) (bits : Vec Bool Glo
     → IsAcceptedLog (given_to b.solver) (b.solver).sink
     → IsSolution p bits.items cost → EndsWith (b.costs).items cost → AreFalling (b.costs).items
     → ((before : List ℕ) (c : ℕ) → (b.costs).items ≡ before ++ c ∷ []
-        → count ≡ length (bound_as b.profile p c).clauses)
+    → count ≡ length (bound_as b.profile p c).clauses)
     → IsRightFound b.profile p (b.costs).items (Optimum cost bits log count)
 right_optimum p b cost bits log count over is refuted s ends falling counts =
     let accepted =
-      accepts_of_log (bound_as b.profile p cost).clauses log
-        (is.accepted ends.0 cost ends.1 falling refuted) in
+    accepts_of_log (bound_as b.profile p cost).clauses log
+    (is.accepted ends.0 cost ends.1 falling refuted) in
     let same = counts ends.0 cost ends.1 in
     record {
       solution = s;
@@ -95,7 +100,7 @@ right_optimum p b cost bits log count over is refuted s ends falling counts =
       optimal = optimal b.profile p over.instance bits.items cost log s accepted;
       accepted = accepted;
       begins =
-        begins b.profile p (b.costs).items ends.0 cost (b.solver).sink log ends.1
+          begins b.profile p (b.costs).items ends.0 cost (b.solver).sink log ends.1
           (is.lines ends.0 cost ends.1);
       counted = (same, omega (arith, same, clauses_few b.profile p cost over.instance));
     }
@@ -105,7 +110,7 @@ pub right_best : (p : Problem) (b : Bounds) (cost : ℕ) (bits : Vec Bool Global
     → IsSolution p bits.items cost → 0 < cost → EndsWith (b.costs).items cost
     → AreFalling (b.costs).items → IsHardLog p hard
     → IsRightFound b.profile p (b.costs).items
-      (Best cost bits (record { hard = hard; bound = log }))
+    (Best cost bits (record { hard = hard; bound = log }))
 right_best p b cost bits hard log over is free s above ends falling work =
     let cs = (bound_as b.profile p cost).clauses in
     record {
@@ -114,15 +119,17 @@ right_best p b cost bits hard log over is free s above ends falling work =
       above_zero = above;
       hard = work;
       bound = record {
-        work = record { steps = steps_of_log cs log (is.is_log ends.0 cost ends.1 falling);
-            open_end = is.open_end ends.0 cost ends.1 falling free };
+        work = record {
+          steps = steps_of_log cs log (is.is_log ends.0 cost ends.1 falling);
+          open_end = is.open_end ends.0 cost ends.1 falling free;
+        };
         begins =
-          begins b.profile p (b.costs).items ends.0 cost (b.solver).sink log ends.1
+            begins b.profile p (b.costs).items ends.0 cost (b.solver).sink log ends.1
             (is.lines ends.0 cost ends.1);
         new =
-          subst (λ n. LearnsNew (is_later (length (fixed_clauses b.profile p)) (length cs + n))
+            subst (λ n. LearnsNew (is_later (length (fixed_clauses b.profile p)) (length cs + n))
             (given_of cs) (length cs) [] log)
             (weaker_count b.profile p (b.costs).items ends.0 cost ends.1)
-              (is.new ends.0 cost ends.1 falling);
+            (is.new ends.0 cost ends.1 falling);
       };
     }

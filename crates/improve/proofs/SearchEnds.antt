@@ -13,64 +13,65 @@ use Rattle.improve.specs.Improving.{OnWork, work_count}
 
 module _ (profile : Profile) (p : Problem) (old new : Telling) (before left : BudgetState)
     (limit : left.limit ≡ before.limit) (costs : List ℕ) (tells : new.told ≡ old.told ++ costs)
-    where
-  pub memory_end : AreFalling costs → All (IsCostOfSome p) costs → new.failures ≡ old.failures
-    → Improves profile p (Err Memory) old new before left
-  memory_end falling honest same = record {
-    tried = costs;
-    told = costs;
-    tells = tells;
-    falling = falling;
-    honest = honest;
-    tells_of = refl;
-    progress = λ e. absurd (let x : Memory ≡ Progress = cc in cc);
-    no_failure = λ e. same;
-    found = tt;
-    same_limit = limit;
-    answers = tt;
-    learned = tt;
-    spent = tt;
-  }
+  where
+    pub memory_end : AreFalling costs → All (IsCostOfSome p) costs → new.failures ≡ old.failures
+        → Improves profile p (Err Memory) old new before left
+    memory_end falling honest same = record {
+      tried = costs;
+      told = costs;
+      tells = tells;
+      falling = falling;
+      honest = honest;
+      tells_of = refl;
+      progress = λ e. absurd (let x : Memory ≡ Progress = cc in cc);
+      no_failure = λ e. same;
+      found = tt;
+      same_limit = limit;
+      answers = tt;
+      learned = tt;
+      spent = tt;
+    }
 
-  pub progress_end : (c : ℕ) → AreFalling (costs ++ c ∷ []) → All (IsCostOfSome p) (costs ++ c ∷ [])
-    → new.failed ≡ Some c → new.failures ≡ old.failures + 1
-      → Improves profile p (Err Progress) old new before left
-  progress_end c falling honest failed more = record {
-    tried = costs ++ c ∷ [];
-    told = costs;
-    tells = tells;
-    falling = falling;
-    honest = honest;
-    tells_of = record { last = c; last_failed = failed; tried_is = refl };
-    progress = λ e. more;
-    no_failure = λ e. absurd (e refl);
-    found = tt;
-    same_limit = limit;
-    answers = tt;
-    learned = tt;
-    spent = tt;
-  }
+    pub progress_end : (c : ℕ) → AreFalling (costs ++ c ∷ [])
+        → All (IsCostOfSome p) (costs ++ c ∷ [])
+        → new.failed ≡ Some c → new.failures ≡ old.failures + 1
+        → Improves profile p (Err Progress) old new before left
+    progress_end c falling honest failed more = record {
+      tried = costs ++ c ∷ [];
+      told = costs;
+      tells = tells;
+      falling = falling;
+      honest = honest;
+      tells_of = record { last = c; last_failed = failed; tried_is = refl };
+      progress = λ e. more;
+      no_failure = λ e. absurd (e refl);
+      found = tt;
+      same_limit = limit;
+      answers = tt;
+      learned = tt;
+      spent = tt;
+    }
 
-  pub found_end : (result : Result Found ImproveFault) → AreFalling costs
-    → All (IsCostOfSome p) costs → new.failures ≡ old.failures → IfErr result (λ e. e ≡ Memory)
-      → IfOk result (IsRightFound profile p costs) → left.answers ≡ before.answers + length costs
-      → OnWork result (λ work. left.learned ≡ before.learned + work_count work)
-      → OnWork result (λ work. left_of left ≡ 0) → Improves profile p result old new before left
-  found_end (Ok found) falling honest same fault right answers learned spent = record {
-    tried = costs;
-    told = costs;
-    tells = tells;
-    falling = falling;
-    honest = honest;
-    tells_of = refl;
-    progress = λ e. absurd (cc);
-    no_failure = λ e. same;
-    found = right;
-    same_limit = limit;
-    answers = answers;
-    learned = learned;
-    spent = spent;
-  }
-  found_end (Err e) falling honest same fault right answers learned spent =
-      subst (λ x. Improves profile p (Err x) old new before left) (sym fault)
+    pub found_end : (result : Result Found ImproveFault) → AreFalling costs
+        → All (IsCostOfSome p) costs → new.failures ≡ old.failures → IfErr result (λ e. e ≡ Memory)
+        → IfOk result (IsRightFound profile p costs) → left.answers ≡ before.answers + length costs
+        → OnWork result (λ work. left.learned ≡ before.learned + work_count work)
+        → OnWork result (λ work. left_of left ≡ 0) → Improves profile p result old new before left
+    found_end (Ok found) falling honest same fault right answers learned spent = record {
+      tried = costs;
+      told = costs;
+      tells = tells;
+      falling = falling;
+      honest = honest;
+      tells_of = refl;
+      progress = λ e. absurd (cc);
+      no_failure = λ e. same;
+      found = right;
+      same_limit = limit;
+      answers = answers;
+      learned = learned;
+      spent = spent;
+    }
+    found_end (Err e) falling honest same fault right answers learned spent =
+        subst (λ x. Improves profile p (Err x) old new before left) (sym fault)
         (memory_end falling honest same)

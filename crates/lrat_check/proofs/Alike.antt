@@ -38,7 +38,7 @@ outcome-same : (A B : List Literal) (o : Option (List Literal)) → HaveSame A B
 outcome-same A B None s = refl
 outcome-same A B (Some c) s =
     outcome_is c A ∙ outcome_on-same A B (open_literals A c) s
-      ∙ ap (outcome_on B) (open-same A B c s) ∙ sym (outcome_is c B)
+    ∙ ap (outcome_on B) (open-same A B c s) ∙ sym (outcome_is c B)
 
 -- ends
 pub EndAlike-refl : (w : Walk) → EndAlike w w
@@ -74,9 +74,9 @@ pub walk-same : (at : Clauses) (A B : List Literal) → HaveSame A B → (hs : L
 walk-same at A B s [] = s
 walk-same at A B s (h ∷ hs) =
     subst (λ o. EndAlike (goes_on o hs (λ l. walk at (l ∷ A) hs)) (walk at B (h ∷ hs)))
-      (sym (outcome-same A B (at h) s))
+    (sym (outcome-same A B (at h) s))
     (goes_on-alike (outcome_of (at h) B) hs (λ l. walk at (l ∷ A) hs) (λ l. walk at (l ∷ B) hs)
-        (λ l. walk-same at (l ∷ A) (l ∷ B) (HaveSame-cons l A B s) hs))
+    (λ l. walk-same at (l ∷ A) (l ∷ B) (HaveSame-cons l A B s) hs))
 
 pub of_walk-alike : (v w : Walk) → EndAlike v w → of_walk v ≡ of_walk w
 of_walk-alike (Open A) (Open B) p = refl
@@ -91,7 +91,7 @@ of_walk-alike (Fault f) (Fault g) p = ap Some p
 
 -- groups
 any-same : (A B xs : List Literal) → HaveSame A B → list_any (λ k. contains_literal k A) xs
-      ≡ list_any (λ k. contains_literal k B) xs
+    ≡ list_any (λ k. contains_literal k B) xs
 any-same A B [] s = refl
 any-same A B (x ∷ xs) s = let e = s x in let f = any-same A B xs s in cc
 
@@ -100,19 +100,19 @@ pub group_fault-same : (at : Clauses) (p : Literal) (A B : List Literal) → Hav
 group_fault-same at p A B s g = by (at g.candidate) refl
   where
     by : (o : Option (List Literal)) → at g.candidate ≡ o
-      → group_fault at p A g ≡ group_fault at p B g
+        → group_fault at p A g ≡ group_fault at p B g
     by None u = group_dead at p A g u ∙ sym (group_dead at p B g u)
     by (Some d) u =
         let e : IsTrueAlready p A d ≡ IsTrueAlready p B d =
-          any-same A B (without_literal (negation p) d) s in
+        any-same A B (without_literal (negation p) d) s in
         elim (cases_Bool (IsTrueAlready p B d)) [
           | inl t ↦ group_silent at p A g d u (e ∙ t) g.hints refl
-            ∙ sym (group_silent at p B g d u t g.hints refl)
+              ∙ sym (group_silent at p B g d u t g.hints refl)
           | inr f ↦
               let xs = map negation (without_literal (negation p) d) in
               group_walks at p A g d u (e ∙ f)
               ∙ of_walk-alike _ _
-                (walk-same at (xs ++ A) (xs ++ B) (HaveSame-append xs A B s) g.hints)
+              (walk-same at (xs ++ A) (xs ++ B) (HaveSame-append xs A B s) g.hints)
               ∙ sym (group_walks at p B g d u f)
         ]
 
@@ -136,4 +136,4 @@ clause_fault-alike live [] (Open A) (Open B) gs p = refl
 clause_fault-alike live (q ∷ c) (Open A) (Open B) gs p =
     let e = groups_fault-same live.clause_at q A B p gs in
     ap (λ x. cond (same_ids (map (λ g. g.candidate) gs)
-          (ids_with live.clause_at (negation q) live.last)) x (Some Candidates)) e
+    (ids_with live.clause_at (negation q) live.last)) x (Some Candidates)) e

@@ -20,20 +20,20 @@ use Rattle.lrat_check.proofs.Members.{none_past}
 value_assume : (values : List Bool) (n : ℕ) (xs : List Literal) (l : Literal)
     → AreValues values n xs → 0 < l.variable → l.variable ≤ n → (k : Literal) → 0 < k.variable
     → k.variable ≤ n → get_or (slice_set values (index_of l) true) (index_of k) false
-      ≡ contains_literal k (xs ++ l ∷ [])
+    ≡ contains_literal k (xs ++ l ∷ [])
 value_assume values n xs l t p q k pk qk =
     let i : index_of l < length values = omega (arith, t.long, index_below l n p q) in
     elim (cases_eq (index_of k) (index_of l)) [
       | inl e ↦
           let same : l ≡ k = sym (index_same k l pk p e) in
           subst (λ m. get_or (slice_set values (index_of l) true) (index_of m) false
-              ≡ contains_literal m (xs ++ l ∷ [])) same
+          ≡ contains_literal m (xs ++ l ∷ [])) same
           (get_or-set_same values (index_of l) true false i ∙ sym (in_push-last l xs))
       | inr ne ↦
           let other : literal_eq k l ≡ false =
-            false_from_ne_true _ (λ e. ne (ap index_of (literal_eq-true k l e))) in
+          false_from_ne_true _ (λ e. ne (ap index_of (literal_eq-true k l e))) in
           get_or-set_other values (index_of l) (index_of k) true false ne ∙ t.value k pk qk
-            ∙ sym (push_other k l xs other)
+          ∙ sym (push_other k l xs other)
     ]
 
 pub AreValues-assume : (values : List Bool) (n : ℕ) (xs : List Literal) (l : Literal)
@@ -58,13 +58,13 @@ value_undo values n xs l t p q k pk qk =
       | inl e ↦
           let same : l ≡ k = sym (index_same k l pk p e) in
           subst (λ m. get_or (slice_set values (index_of l) false) (index_of m) false
-              ≡ contains_literal m xs) same
+          ≡ contains_literal m xs) same
           (get_or-set_same values (index_of l) false false i ∙ sym (has_repeat-last l xs t.once).1)
       | inr ne ↦
           let other : literal_eq k l ≡ false =
-            false_from_ne_true _ (λ e. ne (ap index_of (literal_eq-true k l e))) in
+          false_from_ne_true _ (λ e. ne (ap index_of (literal_eq-true k l e))) in
           get_or-set_other values (index_of l) (index_of k) false false ne ∙ t.value k pk qk
-            ∙ push_other k l xs other
+          ∙ push_other k l xs other
     ]
 
 undo_last : (values : List Bool) (n : ℕ) (xs : List Literal) (l : Literal)
@@ -93,8 +93,8 @@ place_above v n false h = omega arith
 
 pub AreValues-grow : (values new : List Bool) (n m : ℕ) (xs : List Literal) → AreValues values n xs
     → n < m → m < 2 ^ 27 → length new ≡ 2 * m → ((k : ℕ) (d : Bool) → k < 2 * m → k < length values
-      → get_or new k d ≡ get_or values k d) → ((k : ℕ) (d : Bool) → length values ≤ k → k < 2 * m
-      → get_or new k d ≡ false) → AreValues new m xs
+    → get_or new k d ≡ get_or values k d) → ((k : ℕ) (d : Bool) → length values ≤ k → k < 2 * m
+    → get_or new k d ≡ false) → AreValues new m xs
 AreValues-grow values new n m xs t up few long old fresh = record {
   long = long;
   few = few;
@@ -104,9 +104,9 @@ AreValues-grow values new n m xs t up few long old fresh = record {
       let below : index_of k < 2 * m = index_below k m pk qk in
       elim (cases_lt n k.variable) [
         | inl h ↦ fresh (index_of k) false
-          (omega (arith, t.long, place_above k.variable n k.negated h)) below
-          ∙ sym (none_past n k xs t.within h)
+            (omega (arith, t.long, place_above k.variable n k.negated h)) below
+            ∙ sym (none_past n k xs t.within h)
         | inr h ↦ old (index_of k) false below
-          (omega (arith, t.long, index_below k n pk (omega arith))) ∙ t.value k pk h
+            (omega (arith, t.long, index_below k n pk (omega arith))) ∙ t.value k pk h
       ];
 }

@@ -32,14 +32,14 @@ none_at_zero [] h = refl
 none_at_zero (e ∷ es) h =
     let first : 0 < e.0 = All-head (λ x. 0 < x.0) e es h in
     listed_there e es 0 (λ z. absurd (omega arith))
-      ∙ none_at_zero es (All-tail (λ x. 0 < x.0) e es h)
+    ∙ none_at_zero es (All-tail (λ x. 0 < x.0) e es h)
 
 none_past : (last : ℕ) (es : Listed) → IsUpTo last es → (i : ℕ) → last < i → listed_at es i ≡ None
 none_past last [] h i lt = refl
 none_past last (e ∷ es) h i lt =
     let first : e.0 ≤ last = All-head (λ x. x.0 ≤ last) e es h in
     listed_there e es i (λ z. absurd (omega arith))
-      ∙ none_past last es (All-tail (λ x. x.0 ≤ last) e es h) i lt
+    ∙ none_past last es (All-tail (λ x. x.0 ≤ last) e es h) i lt
 
 pub in_range : (n last : ℕ) (es : Listed) → IsBase n last es → InRange (listed_at es) last
 in_range n last es b =
@@ -52,13 +52,13 @@ listed_has l [] r i h = absurd (false≢true h)
 listed_has l (e ∷ es) r i h =
     let later : Has (ids_listed l es) i → HasLiteral (listed_at (e ∷ es)) l i = λ k.
     let up : e.0 < i =
-      above e.0 i (ids_listed l es) (above_kept (λ x. contains_literal l x.1) e.0 es r.0) k in
+    above e.0 i (ids_listed l es) (above_kept (λ x. contains_literal l x.1) e.0 es r.0) k in
     let found = listed_has l es r.1 i k in
     (found.0, listed_there e es i (λ z. absurd (omega arith)) ∙ found.1, found.2)
     in
     elim (contains_literal l e.1) as (λ v. contains_literal l e.1 ≡ v
-        → Has (ids_of (cond v (e ∷ filter (λ x. contains_literal l x.1) es)
-            (filter (λ x. contains_literal l x.1) es))) i → HasLiteral (listed_at (e ∷ es)) l i) [
+    → Has (ids_of (cond v (e ∷ filter (λ x. contains_literal l x.1) es)
+    (filter (λ x. contains_literal l x.1) es))) i → HasLiteral (listed_at (e ∷ es)) l i) [
       | true ↦ λ t h. elim (or_cases (nat_eq i e.0) (list_any (nat_eq i) (ids_listed l es)) h) [
         | inl s ↦ (e.1, listed_here e es i (sym (eqb-true i e.0 s)), t)
         | inr k ↦ later k
@@ -76,17 +76,21 @@ has_listed l (e ∷ es) i h =
           let found = h.1 in
           let same : e.1 ≡ h.0 = cc in
           let has : contains_literal l e.1 ≡ true =
-            subst (λ d. contains_literal l d ≡ true) (sym same) h.2 in
+          subst (λ d. contains_literal l d ≡ true) (sym same) h.2 in
           subst (λ v. Has (ids_of (cond v (e ∷ filter (λ x. contains_literal l x.1) es)
-                  (filter (λ x. contains_literal l x.1) es))) i) (sym has)
+          (filter (λ x. contains_literal l x.1) es))) i) (sym has)
           (or_left _ _ (eq-eqb i e.0 (sym (eqb-true e.0 i t))))
       | inr f ↦
           let k =
-            has_listed l es i (h.0, sym (listed_there e es i (λ z. both_ways _ f (eq-eqb e.0 i z)))
-              ∙ h.1, h.2) in
+          has_listed l es i (
+            h.0,
+            sym (listed_there e es i (λ z. both_ways _ f (eq-eqb e.0 i z)))
+                ∙ h.1,
+            h.2,
+          ) in
           elim (contains_literal l e.1)
-            as (λ v. Has (ids_of (cond v (e ∷ filter (λ x. contains_literal l x.1) es)
-                  (filter (λ x. contains_literal l x.1) es))) i) [
+          as (λ v. Has (ids_of (cond v (e ∷ filter (λ x. contains_literal l x.1) es)
+          (filter (λ x. contains_literal l x.1) es))) i) [
             | true ↦ or_right _ _ k
             | false ↦ k
           ]
@@ -97,8 +101,8 @@ pub ids_with-listed : (n last : ℕ) (es : Listed) (l : Literal) → IsBase n la
 ids_with-listed n last es l b =
     let r = rises_from es b.rising in
     same_rising (ids_with (listed_at es) l last) (ids_listed l es)
-      (rises_from_pairs _ (ids_pairs (listed_at es) l last))
-      (rises_kept (λ e. contains_literal l e.1) es r)
+    (rises_from_pairs _ (ids_pairs (listed_at es) l last))
+    (rises_kept (λ e. contains_literal l e.1) es r)
     (λ i h. has_listed l es i (ids_bound (listed_at es) l last i h).1)
     (λ i h. let found = listed_has l es r i h in
     let bounds = has_bounds (listed_at es) last (in_range n last es b) l i found in
@@ -111,7 +115,7 @@ IsBase-more n m last es le b = record {
   from_one = b.from_one;
   up_to = b.up_to;
   within =
-    All-weaker (λ e. AreWithin n e.1) (λ e. AreWithin m e.1)
+      All-weaker (λ e. AreWithin n e.1) (λ e. AreWithin m e.1)
       (λ e w. All-weaker (λ l. l.variable ≤ n) (λ l. l.variable ≤ m) (λ l h. omega arith) e.1 w)
       es b.within;
 }
@@ -122,7 +126,7 @@ IsBase-without n last i es b =
     let p : ℕ × List Literal → Bool = λ e. not (e.0 == i) in
     record {
       rising =
-        increasing_from_rises (ids_of (filter p es)) (rises_kept p es (rises_from es b.rising));
+          increasing_from_rises (ids_of (filter p es)) (rises_kept p es (rises_from es b.rising));
       from_one = All-filter p (λ e. 0 < e.0) es b.from_one;
       up_to = All-filter p (λ e. e.0 ≤ last) es b.up_to;
       within = All-filter p (λ e. AreWithin n e.1) es b.within;
@@ -135,12 +139,14 @@ pub IsBase-push : (n last id : ℕ) (es : Listed) (c : List Literal) → IsBase 
     → AreWithin n c → IsBase n id (es ++ (id, c) ∷ [])
 IsBase-push n last id es c b lt w = record {
   rising =
-    increasing_from_rises (ids_of (es ++ (id, c) ∷ []))
+      increasing_from_rises (ids_of (es ++ (id, c) ∷ []))
       (rises_push es (id, c) (rises_from es b.rising) (below_id last id es b.up_to lt));
   from_one = All-push (λ e. 0 < e.0) es (id, c) b.from_one (omega arith);
   up_to =
-    All-push (λ e. e.0 ≤ id) es (id,
-      c) (All-weaker (λ e. e.0 ≤ last) (λ e. e.0 ≤ id) (λ e h. omega arith) es b.up_to)
+      All-push (λ e. e.0 ≤ id) es (
+        id,
+        c,
+      ) (All-weaker (λ e. e.0 ≤ last) (λ e. e.0 ≤ id) (λ e h. omega arith) es b.up_to)
       (omega arith);
   within = All-push (λ e. AreWithin n e.1) es (id, c) b.within w;
 }
@@ -156,7 +162,7 @@ live_of-without last i es =
     ap (λ f. record { clause_at = f; last = last }) (fun_ext (listed_at-without i es))
 
 pub live_of-start : (cs : List (List Literal)) → live_of (length cs) (listed_from 1 cs)
-      ≡ start_of cs
+    ≡ start_of cs
 live_of-start cs =
     ap (λ f. record { clause_at = f; last = length cs }) (fun_ext (listed_numbered cs))
 
@@ -167,7 +173,8 @@ IsBase-start n last cs e w = record {
   from_one = listed_from-all (λ e. 0 < e.0) 1 cs (λ k c h i m. omega arith);
   up_to = listed_from-all (λ e. e.0 ≤ last) 1 cs (λ k c h i m. omega arith);
   within =
-    listed_from-all (λ e. AreWithin n e.1) 1 cs (λ k c h i m. All-contains (AreWithin n) cs c w m);
+      listed_from-all (λ e. AreWithin n e.1) 1 cs
+      (λ k c h i m. All-contains (AreWithin n) cs c w m);
 }
 
 within_greatest : (n : ℕ) (c : List Literal) → greatest_variable c ≤ n → AreWithin n c
@@ -178,7 +185,7 @@ within_greatest n (l ∷ c) h =
 pub within_formula : (f : Cnf) (n : ℕ) → IsFormula f → f.variables ≤ n → All (AreWithin n) f.clauses
 within_formula f n h le =
     All-weaker (IsFormulaClause f.variables) (AreWithin n) (λ c k. let small = k.small in
-      within_greatest n c (omega arith)) f.clauses h.clauses
+    within_greatest n c (omega arith)) f.clauses h.clauses
 
 pub deleted_more : (last : ℕ) (es : Listed) (hs : List (Bool × ℕ)) (i : ℕ) (h : Bool × ℕ)
     → i < length hs → h ≡ get_or hs i h → IsSome (listed_at es h.1)

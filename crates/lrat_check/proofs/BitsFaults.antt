@@ -18,58 +18,64 @@ use Rattle.lrat_check.proofs.Checked.{feasible_from, feasible_to}
 
 module _ (p : Problem) (r : Report) (c : ℕ) (bits : List Bool) where
   pub fault_length : (length bits ≡ p.variables → ⊥)
-    → bits_fault p r c bits ≡ Some (No BitsLength r.bits_line)
+      → bits_fault p r c bits ≡ Some (No BitsLength r.bits_line)
   fault_length n = rw (ne_eqb (length bits) p.variables n) refl
 
   all_true : IsFeasible p (assignment_of bits)
-    → list_all (clause_value (assignment_of bits)) p.hard ≡ true
+      → list_all (clause_value (assignment_of bits)) p.hard ≡ true
   all_true f = feasible_to (assignment_of bits) p.hard (recursion_from_All _ p.hard f)
 
   not_all : (IsFeasible p (assignment_of bits) → ⊥)
-    → list_all (clause_value (assignment_of bits)) p.hard ≡ false
+      → list_all (clause_value (assignment_of bits)) p.hard ≡ false
   not_all n = elim (cases_Bool (list_all (clause_value (assignment_of bits)) p.hard)) [
     | inl y ↦ absurd (n (All-from_recursion _ p.hard (feasible_from (assignment_of bits) p.hard y)))
     | inr f ↦ f
   ]
 
   pub fault_feasible : length bits ≡ p.variables → (IsFeasible p (assignment_of bits) → ⊥)
-    → bits_fault p r c bits ≡ Some (No NotFeasible r.bits_line)
+      → bits_fault p r c bits ≡ Some (No NotFeasible r.bits_line)
   fault_feasible e n = rw (eq-eqb (length bits) p.variables e, not_all n) refl
 
   pub fault_cost : length bits ≡ p.variables → IsFeasible p (assignment_of bits)
-    → (cost_under p (assignment_of bits) ≡ c → ⊥)
-    → bits_fault p r c bits ≡ Some (No CostWrong r.cost_line)
+      → (cost_under p (assignment_of bits) ≡ c → ⊥)
+      → bits_fault p r c bits ≡ Some (No CostWrong r.cost_line)
   fault_cost e f n =
-    rw (eq-eqb (length bits) p.variables e, all_true f,
-      ne_eqb (cost_under p (assignment_of bits)) c n) refl
+      rw (
+        eq-eqb (length bits) p.variables e,
+        all_true f,
+        ne_eqb (cost_under p (assignment_of bits)) c n,
+      ) refl
 
   pub fault_none : length bits ≡ p.variables → IsFeasible p (assignment_of bits)
-    → cost_under p (assignment_of bits) ≡ c → bits_fault p r c bits ≡ None
+      → cost_under p (assignment_of bits) ≡ c → bits_fault p r c bits ≡ None
   fault_none e f h =
-    rw (eq-eqb (length bits) p.variables e, all_true f,
-      eq-eqb (cost_under p (assignment_of bits)) c h) refl
+      rw (
+        eq-eqb (length bits) p.variables e,
+        all_true f,
+        eq-eqb (cost_under p (assignment_of bits)) c h,
+      ) refl
 
   -- the same from what was found of the bits
   module _ (n : ℕ) (e : length bits ≡ n) (same : n ≡ p.variables) (feasible : Bool)
-    (judged : (t : Assignment) → Extends bits t → IsTrue feasible ↔ IsFeasible p t) where
+      (judged : (t : Assignment) → Extends bits t → IsTrue feasible ↔ IsFeasible p t) where
     own : IsTrue feasible ↔ IsFeasible p (assignment_of bits)
     own = judged (assignment_of bits) (extends_own bits)
 
     pub found_infeasible : feasible ≡ false → (line : ℕ) → r.bits_line ≡ line
-      → Some (No NotFeasible line) ≡ bits_fault p r c bits
+        → Some (No NotFeasible line) ≡ bits_fault p r c bits
     found_infeasible f line at =
-      sym (fault_feasible (e ∙ same) (λ h. let y = own.1 h in cc)
+        sym (fault_feasible (e ∙ same) (λ h. let y = own.1 h in cc)
         ∙ ap (λ l. Some (No NotFeasible l)) at)
 
     module _ (cost : ℕ) (costs : (t : Assignment) → Extends bits t → cost ≡ cost_under p t)
-      (f : feasible ≡ true) where
+        (f : feasible ≡ true) where
       its_cost : cost ≡ cost_under p (assignment_of bits)
       its_cost = costs (assignment_of bits) (extends_own bits)
 
       pub found_cost : (cost ≡ c → ⊥) → (line : ℕ) → r.cost_line ≡ line
-        → Some (No CostWrong line) ≡ bits_fault p r c bits
+          → Some (No CostWrong line) ≡ bits_fault p r c bits
       found_cost n line at =
-        sym (fault_cost (e ∙ same) (own.0 f) (λ h. n (its_cost ∙ h))
+          sym (fault_cost (e ∙ same) (own.0 f) (λ h. n (its_cost ∙ h))
           ∙ ap (λ l. Some (No CostWrong l)) at)
 
       pub found_right : cost ≡ c → None ≡ bits_fault p r c bits

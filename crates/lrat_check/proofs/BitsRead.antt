@@ -26,13 +26,13 @@ pub front_zero_at : (xs : List Bool) (ds : List ℕ) (i : ℕ) → i < length ds
     (bits_on (drop (i + 1) ds))
 front_zero_at xs ds i h e =
     ap (λ zs. with_front xs (bits_on zs)) (drop_more ds i 0 h ∙ ap (λ b. b ∷ drop (i + 1) ds) e)
-      ∙ front_zero xs (drop (i + 1) ds) (bits_on (drop (i + 1) ds)) refl
+    ∙ front_zero xs (drop (i + 1) ds) (bits_on (drop (i + 1) ds)) refl
 
 pub front_one_at : (xs : List Bool) (ds : List ℕ) (i : ℕ) → i < length ds → get_or ds i 0 ≡ 49
     → with_front xs (bits_on (drop i ds)) ≡ with_front (xs ++ true ∷ []) (bits_on (drop (i + 1) ds))
 front_one_at xs ds i h e =
     ap (λ zs. with_front xs (bits_on zs)) (drop_more ds i 0 h ∙ ap (λ b. b ∷ drop (i + 1) ds) e)
-      ∙ front_one xs (drop (i + 1) ds) (bits_on (drop (i + 1) ds)) refl
+    ∙ front_one xs (drop (i + 1) ds) (bits_on (drop (i + 1) ds)) refl
 
 other_digit : (b : ℕ) (ds : List ℕ) → (b == 48) ≡ false → (b == 49) ≡ false
     → bits_on (b ∷ ds) ≡ None

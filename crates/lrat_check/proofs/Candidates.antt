@@ -50,7 +50,7 @@ tails_in : (x y : ℕ) (xs ys : List ℕ) → x ≡ y → AllByRecursion (λ z. 
 tails_in x y xs ys same a f i h =
     elim (or_cases (nat_eq i y) (list_any (nat_eq i) ys) (f i (or_right _ _ h))) [
       | inl e ↦ let z : i ≡ y = eqb-true i y e in let b : x < i = above x i xs a h in
-        absurd (omega arith)
+          absurd (omega arith)
       | inr e ↦ e
     ]
 
@@ -71,8 +71,8 @@ same_rising (x ∷ xs) (y ∷ ys) a b f g =
     let down : x ≤ y = first_le y x xs a.0 (g y (or_left _ _ (eq-eqb y y refl))) in
     let same : x ≡ y = omega arith in
     ap (λ z. z ∷ xs) same
-      ∙ ap (λ zs. y ∷ zs) (same_rising xs ys a.1 b.1 (tails_in x y xs ys same a.0 f)
-        (tails_in y x ys xs (sym same) b.0 g))
+    ∙ ap (λ zs. y ∷ zs) (same_rising xs ys a.1 b.1 (tails_in x y xs ys same a.0 f)
+    (tails_in y x ys xs (sym same) b.0 g))
 
 same_ids-true : (xs ys : List ℕ) → same_ids xs ys ≡ true → xs ≡ ys
 same_ids-true [] [] e = refl
@@ -125,16 +125,16 @@ ids_bound at l (suc n) i h =
       | inl y ↦ elim (or_cases (list_any (nat_eq i) (ids_with at l n))
           (list_any (nat_eq i) (suc n ∷ []))
           (sym (list_any-append (nat_eq i) (ids_with at l n) (suc n ∷ []))
-            ∙ subst (λ xs. Has xs i) (ids_yes at l n y) h)) [
-        | inl b ↦ let r = ids_bound at l n i b in (omega arith, r.1)
-        | inr b ↦ elim (or_cases (nat_eq i (suc n)) false b) [
-          | inl s ↦ let same : i ≡ suc n = eqb-true i (suc n) s in
-            (omega arith, subst (HasLiteral at l) (sym same) y)
-          | inr s ↦ absurd (false≢true s)
-        ]
-      ]
+          ∙ subst (λ xs. Has xs i) (ids_yes at l n y) h)) [
+            | inl b ↦ let r = ids_bound at l n i b in (omega arith, r.1)
+            | inr b ↦ elim (or_cases (nat_eq i (suc n)) false b) [
+              | inl s ↦ let same : i ≡ suc n = eqb-true i (suc n) s in
+                  (omega arith, subst (HasLiteral at l) (sym same) y)
+              | inr s ↦ absurd (false≢true s)
+            ]
+          ]
       | inr non ↦ let r = ids_bound at l n i (subst (λ xs. Has xs i) (ids_no at l n non) h) in
-        (omega arith, r.1)
+          (omega arith, r.1)
     ]
 
 pub ids_all : (at : Clauses) (l : Literal) (n i : ℕ) → 0 < i → i ≤ n → HasLiteral at l i
@@ -151,7 +151,7 @@ ids_all at l (suc n) i p q h =
           let old = ids_all at l n i p (omega arith) h in
           elim (has_literal_cases at l (suc n)) [
             | inl y ↦ subst (λ xs. Has xs i) (sym (ids_yes at l n y))
-              (list_any-append (nat_eq i) (ids_with at l n) (suc n ∷ []) ∙ or_left _ _ old)
+                (list_any-append (nat_eq i) (ids_with at l n) (suc n ∷ []) ∙ or_left _ _ old)
             | inr non ↦ subst (λ xs. Has xs i) (sym (ids_no at l n non)) old
           ]
     ]
@@ -161,10 +161,10 @@ ids_pairs at l zero = λ i j d h k. absurd (omega arith)
 ids_pairs at l (suc n) =
     elim (has_literal_cases at l (suc n)) [
       | inl y ↦ subst (AllPairs (λ x y. x < y)) (sym (ids_yes at l n y))
-        (all_pairs_push (λ x y. x < y) (ids_with at l n) (suc n) (ids_pairs at l n)
+          (all_pairs_push (λ x y. x < y) (ids_with at l n) (suc n) (ids_pairs at l n)
           (λ k d h. let b = (ids_bound at l n (get_or (ids_with at l n) k d)
-                (Has-from_Contains _ _ (Contains-get_or (ids_with at l n) k d h))).0 in
-              omega arith))
+          (Has-from_Contains _ _ (Contains-get_or (ids_with at l n) k d h))).0 in
+          omega arith))
       | inr non ↦ subst (AllPairs (λ x y. x < y)) (sym (ids_no at l n non)) (ids_pairs at l n)
     ]
 
@@ -179,27 +179,33 @@ pub record InRange (at : Clauses) (last : ℕ) : Type 0 where
 pub has_bounds : (at : Clauses) (last : ℕ) → InRange at last → (l : Literal) (i : ℕ)
     → HasLiteral at l i → (0 < i) × (i ≤ last)
 has_bounds at last r l zero h = let a = r.none_at_zero in let b = h.1 in absurd (cc)
-has_bounds at last r l (suc i) h =
-    (omega arith, elim (cases_lt last (suc i)) [ inl past ↦ let a = r.none_past (suc i) past in
-          let b = h.1 in absurd (cc) | inr le ↦ le ])
+has_bounds at last r l (suc i) h = (
+  omega arith,
+  elim (cases_lt last (suc i)) [
+    | inl past ↦ let a = r.none_past (suc i) past in
+        let b = h.1 in absurd (cc)
+    | inr le ↦ le
+  ],
+)
 
 pub same_ids_rising : (at : Clauses) (last : ℕ) → InRange at last → (l : Literal) (xs : List ℕ)
     → (same_ids xs (ids_with at l last) ≡ true) ↔ (IsStrictlyIncreasing xs
-      × ((i : ℕ) → Contains xs i ↔ HasLiteral at l i))
+    × ((i : ℕ) → Contains xs i ↔ HasLiteral at l i))
 same_ids_rising at last r l xs = (
   λ e. let same = same_ids-true xs (ids_with at l last) e in (
     subst IsStrictlyIncreasing (sym same) (increasing_from_pairs _ (ids_pairs at l last)),
     λ i. (
       λ h. (ids_bound at l last i (subst (λ ys. Has ys i) same (Has-from_Contains xs i h))).1,
       λ h. let b = has_bounds at last r l i h in
-        Contains-from_Has xs i (subst (λ ys. Has ys i) (sym same) (ids_all at l last i b.0 b.1 h)),
+          Contains-from_Has xs i
+          (subst (λ ys. Has ys i) (sym same) (ids_all at l last i b.0 b.1 h)),
     ),
   ),
   λ h. let same =
-    same_rising xs (ids_with at l last) (rises_from_pairs xs (AllPairs-from_increasing xs h.0))
+      same_rising xs (ids_with at l last) (rises_from_pairs xs (AllPairs-from_increasing xs h.0))
       (rises_from_pairs _ (ids_pairs at l last))
       (λ i m. let y = (h.1 i).0 (Contains-from_Has xs i m) in let b = has_bounds at last r l i y in
-          ids_all at l last i b.0 b.1 y)
+      ids_all at l last i b.0 b.1 y)
       (λ i m. Has-from_Contains xs i ((h.1 i).1 (ids_bound at l last i m).1)) in
       subst (λ ys. same_ids xs ys ≡ true) same (same_ids-refl xs),
 )

@@ -29,8 +29,8 @@ open-append : (A xs ys : List Literal)
 open-append A [] ys = refl
 open-append A (x ∷ xs) ys =
     elim (not (contains_literal (negation x) A)) as (λ v. cond v (x ∷ open_literals A (xs ++ ys))
-        (open_literals A (xs ++ ys)) ≡ cond v (x ∷ open_literals A xs) (open_literals A xs)
-        ++ open_literals A ys) [
+    (open_literals A (xs ++ ys)) ≡ cond v (x ∷ open_literals A xs) (open_literals A xs)
+    ++ open_literals A ys) [
       | true ↦ ap (λ zs. x ∷ zs) (open-append A xs ys)
       | false ↦ open-append A xs ys
     ]
@@ -44,7 +44,7 @@ open_push : (A c : List Literal) (i : ℕ) (l : Literal) → i < length c → l 
     → open_literals A (take (i + 1) c) ≡ open_literals A (take i c) ++ open_literals A (l ∷ [])
 open_push A c i l h e =
     ap (open_literals A) (take_more c i l h ∙ ap (λ x. take i c ++ x ∷ []) (sym e))
-      ∙ open-append A (take i c) (l ∷ [])
+    ∙ open-append A (take i c) (l ∷ [])
 
 pub open_more : (A c : List Literal) (i : ℕ) (l : Literal) → i < length c → l ≡ get_or c i l
     → contains_literal (negation l) A ≡ false → open_literals A (take (i + 1) c) ≡ open_literals A
@@ -120,7 +120,7 @@ member_within n l [] w h = absurd (false≢true h)
 member_within n l (k ∷ c) w h =
     elim (or_cases (literal_eq l k) (contains_literal l c) h) [
       | inl e ↦ subst (λ x. x.variable ≤ n) (sym (literal_eq-true l k e))
-        (All-head (λ x. x.variable ≤ n) k c w)
+          (All-head (λ x. x.variable ≤ n) k c w)
       | inr e ↦ member_within n l c (All-tail (λ x. x.variable ≤ n) k c w) e
     ]
 
@@ -139,7 +139,7 @@ listed_within n [] i c w e = absurd (cc)
 listed_within n (x ∷ es) i c w e =
     elim (x.0 == i) as (λ v. cond v (Some x.1) (listed_at es i) ≡ Some c → AreWithin n c) [
       | true ↦ λ e. let same : x.1 ≡ c = cc in
-        subst (AreWithin n) same (All-head (λ y. AreWithin n y.1) x es w)
+          subst (AreWithin n) same (All-head (λ y. AreWithin n y.1) x es w)
       | false ↦ λ e. listed_within n es i c (All-tail (λ y. AreWithin n y.1) x es w) e
     ] e
 
@@ -208,7 +208,7 @@ pub walk_makes : (at : Clauses) (T : List Literal) (hs : List (Bool × ℕ)) (i 
 walk_makes at T hs i c l lt n e =
     let rest = ids_from hs (i + 1) in
     subst (λ w. EndAlike w (walk at (T ++ l ∷ []) rest))
-      (sym (walk_does at T hs i c (Makes l) lt n e))
+    (sym (walk_does at T hs i c (Makes l) lt n e))
     (walk-same at (l ∷ T) (T ++ l ∷ []) (HaveSame-push l T) rest)
 
 -- what stood before stays

@@ -44,7 +44,7 @@ any_kept : (p q : Literal → Bool) (ys zs : List Literal) (x : Literal) → q x
 any_kept p q [] zs x h k = rw h (or_left _ _ k)
 any_kept p q (y ∷ ys) zs x h k =
     elim (q y) as (λ v. list_any p (cond v (y ∷ filter q (ys ++ x ∷ zs)) (filter q (ys ++ x ∷ zs)))
-        ≡ true) [
+    ≡ true) [
       | true ↦ or_right _ _ (any_kept p q ys zs x h k)
       | false ↦ any_kept p q ys zs x h k
     ]
@@ -55,9 +55,9 @@ pub true_at : (A c : List Literal) (i : ℕ) (k l : Literal) → i < length c �
     → list_any (λ x. contains_literal x A) (without_literal k c) ≡ true
 true_at A c i k l lt here ne h =
     subst (λ d. list_any (λ x. contains_literal x A) (without_literal k d) ≡ true)
-      (ap (λ zs. take i c ++ zs) (sym (drop_at c i l lt here)) ∙ take-append-drop i c)
+    (ap (λ zs. take i c ++ zs) (sym (drop_at c i l lt here)) ∙ take-append-drop i c)
     (any_kept (λ x. contains_literal x A) (λ x. not (literal_eq k x)) (take i c) (drop (i + 1) c) l
-        (ap not (ne_codes k l ne)) h)
+    (ap not (ne_codes k l ne)) h)
 
 -- how a group ends
 pub group_end : (at : Clauses) (p q : Literal) (B T : List Literal) (n : ℕ) (hs : List ℕ)
@@ -68,28 +68,28 @@ pub group_end : (at : Clauses) (p q : Literal) (B T : List Literal) (n : ℕ) (h
 group_end at p q B T n hs d w e u f s h =
     let g : CandidateHints = record { candidate = n; hints = hs } in
     let none : IsTrueAlready p B d ≡ false =
-      subst (λ k. list_any (λ x. contains_literal x B) (without_literal k d) ≡ false) e f in
+    subst (λ k. list_any (λ x. contains_literal x B) (without_literal k d) ≡ false) e f in
     let start : HaveSame (map negation (without_literal (negation p) d) ++ B) T =
-      subst (λ k. HaveSame (map negation (without_literal k d) ++ B) T) e s in
+    subst (λ k. HaveSame (map negation (without_literal k d) ++ B) T) e s in
     group_walks at p B g d u none
     ∙ of_walk-alike _ _
-      (EndAlike-step _ (walk at T hs) w
-        (walk-same at (map negation (without_literal (negation p) d) ++ B) T start hs) h)
+    (EndAlike-step _ (walk at T hs) w
+    (walk-same at (map negation (without_literal (negation p) d) ++ B) T start hs) h)
 
 pub group_end_silent : (at : Clauses) (p q : Literal) (B : List Literal) (n : ℕ)
     (hs : List (Bool × ℕ)) (d : List Literal) → q ≡ negation p → at n ≡ Some d
     → list_any (λ k. contains_literal k B) (without_literal q d) ≡ true
     → group_fault at p B (record { candidate = n; hints = map (λ h. h.1) hs })
-      ≡ then_some (not (length hs == 0)) HintAfterConflict
+    ≡ then_some (not (length hs == 0)) HintAfterConflict
 group_end_silent at p q B n hs d e u t =
     let g : CandidateHints = record { candidate = n; hints = map (λ h. h.1) hs } in
     let already : IsTrueAlready p B d ≡ true =
-      subst (λ k. list_any (λ x. contains_literal x B) (without_literal k d) ≡ true) e t in
+    subst (λ k. list_any (λ x. contains_literal x B) (without_literal k d) ≡ true) e t in
     group_silent at p B g d u already (map (λ h. h.1) hs) refl ∙ silent hs
   where
     silent : (xs : List (Bool × ℕ))
-      → silent_on (map (λ h. h.1) xs) ≡ then_some (not (length xs == 0)) HintAfterConflict
+        → silent_on (map (λ h. h.1) xs) ≡ then_some (not (length xs == 0)) HintAfterConflict
     silent [] = refl
     silent (x ∷ xs) =
-      ap (λ b. then_some (not b) HintAfterConflict)
+        ap (λ b. then_some (not b) HintAfterConflict)
         (sym (ne_eqb (length (x ∷ xs)) 0 (λ e. absurd (omega arith))))

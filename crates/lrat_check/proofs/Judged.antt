@@ -30,14 +30,14 @@ added : (old : Listed) (last n id : ℕ) (ts : List (List ℕ)) (c : List Litera
 added old last n id [] c hs u lt e f more = absurd (cc)
 added old last n id (t ∷ ts) [] hs u lt e f more =
     here_ends (live_of last old) (n + 1) t ts more id hs e f
-      ∙ ap (λ l. verdict_on l true (n + 1 + 1) more)
-      (sym (live_of-push last id old [] (below_id last id old u lt)))
+    ∙ ap (λ l. verdict_on l true (n + 1 + 1) more)
+    (sym (live_of-push last id old [] (below_id last id old u lt)))
 added old last n id (t ∷ ts) (l ∷ c) hs u lt e f more =
     here_adds (live_of last old) (n + 1) t ts more id l c hs e f
     ∙ ap (λ x. verdict_on x false (n + 1 + 1) more)
-      (sym (live_of-push last id old (l ∷ c) (below_id last id old u lt)))
+    (sym (live_of-push last id old (l ∷ c) (below_id last id old u lt)))
     ∙ ap (λ b. verdict_on (live_of id (old ++ (id, l ∷ c) ∷ [])) b (n + 1 + 1) more)
-      (sym (ne_eqb (length (l ∷ c)) 0 (λ z. absurd (omega arith))))
+    (sym (ne_eqb (length (l ∷ c)) 0 (λ z. absurd (omega arith))))
 
 fault_at : (old : Listed) (last n id : ℕ) (ts : List (List ℕ)) (c : List Literal)
     (hs : List (Bool × ℕ)) (f : Cause) → line_of ts ≡ Addition id c hs
@@ -56,11 +56,11 @@ steps_addition old new last next n ended ts s None u h a (c, line, large, same) 
     let is : c ≡ s.clause = same d.small in
     added old last n s.id ts c s.hints u d.rising line (sym (h c large same)) more
     ∙ ap (λ x. verdict_after (state_of (old ++ (s.id, x) ∷ []) s.id (nat_eq (length x) 0) (n + 1))
-        more) is
+    more) is
     ∙ ap (λ x. verdict_after (state_of x s.id (nat_eq (length s.clause) 0) (n + 1)) more)
-      (sym d.clauses)
+    (sym d.clauses)
     ∙ ap (λ x. verdict_after (state_of new x (nat_eq (length s.clause) 0) (n + 1)) more)
-      (sym d.next_is)
+    (sym d.next_is)
     ∙ ap (λ x. verdict_after (state_of new next x (n + 1)) more) (sym d.ended_is)
 steps_addition old new last next n ended ts s (Some cause) u h a (c, line, large, same) more =
     fault_at old last n s.id ts c s.hints cause line (sym (h c large same)) more
@@ -70,9 +70,9 @@ pub steps_added : (old new : Listed) (last next : ℕ) (before ended : Bool) (fo
     → IsUpTo last old → IfOk r (λ f. IsFaultOf (live_of last old) s f)
     → IfOk r (λ f. f ≡ None → Adds old last s new next ended)
     → IfOk r (λ f. (ts : List (List ℕ)) (n : ℕ) → IsReadAs ts form s
-      → StepsTo (state_of old last before n) ts f (state_of new next ended (n + 1)))
+    → StepsTo (state_of old last before n) ts f (state_of new next ended (n + 1)))
 steps_added old new last next before ended form s (Ok f) e not_ended u h a = λ ts n read.
     subst (λ b. StepsTo (state_of old last b n) ts f (state_of new next ended (n + 1)))
-      (sym not_ended)
+    (sym not_ended)
     (steps_addition old new last next n ended ts s f u h a (subst (λ x. IsReadAs ts x s) e read))
 steps_added old new last next before ended form s (Err x) e not_ended u h a = tt

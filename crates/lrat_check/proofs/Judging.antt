@@ -26,73 +26,73 @@ use Rattle.lrat_check.proofs.TrueResults.{optimal_by, inconsistent_by, true_by}
 module _ (profile : Profile) (p : Problem) (a : ReadReport) (proof : List ℕ) where
   said_optimum : (s : Solution) → a.said ≡ Optimum s
       → ((r : Report) → r.bits_line ≡ s.bits_line → r.cost_line ≡ s.cost.line
-          → None ≡ bits_fault p r s.cost.cost s.bits.items)
+      → None ≡ bits_fault p r s.cost.cost s.bits.items)
       → said_verdict profile p (reported a) proof ≡ proof_verdict
-        (bound_as profile p s.cost.cost).clauses proof
+      (bound_as profile p s.cost.cost).clauses proof
   said_optimum s e f =
       let line : (reported a).bits_line ≡ s.bits_line = rw e refl in
       let cost : (reported a).cost_line ≡ s.cost.line = rw e refl in
       let said : (reported a).said ≡ OptimumFound s.cost.cost s.bits.items = rw e refl in
       optimum_goes profile p (reported a) proof s.cost.cost s.bits.items said
-        (sym (f (reported a) line cost))
+      (sym (f (reported a) line cost))
 
   pub optimum_verdict : (s : Solution) → a.said ≡ Optimum s
       → ((r : Report) → r.bits_line ≡ s.bits_line → r.cost_line ≡ s.cost.line
-          → None ≡ bits_fault p r s.cost.cost s.bits.items)
+      → None ≡ bits_fault p r s.cost.cost s.bits.items)
       → (f : Cnf) → f ≡ bound_as profile p s.cost.cost → {E : Type 0} (result : Result Verdict E)
       → IfOk result (λ v. v ≡ proof_verdict f.clauses proof)
       → IfOk result (λ v. v ≡ said_verdict profile p (reported a) proof)
   optimum_verdict s e none f is {E} result h =
       IfOk-weaker result _ _ (λ v w. w ∙ ap (λ g. proof_verdict g.clauses proof) is
-          ∙ sym (said_optimum s e none)) h
+      ∙ sym (said_optimum s e none)) h
 
   pub optimum_sound : (s : Solution) → a.said ≡ Optimum s → HasCost p s.bits.items s.cost.cost
-    → SaysCheaper profile p s.cost.cost
+      → SaysCheaper profile p s.cost.cost
       → (f : Cnf) → f ≡ bound_as profile p s.cost.cost → {E : Type 0} (result : Result Verdict E)
       → IfOk result (λ v. v ≡ Yes → IsUnsatisfiable f.clauses)
       → IfOk result (λ v. v ≡ Yes → IsTrueOf p (reported a).said)
   optimum_sound s e has says f is {E} result h =
       IfOk-weaker result _ _
-        (λ v w yes. rw e (optimal_by profile p s.cost.cost s.bits.items says
-            (subst (λ g. IsUnsatisfiable g.clauses) is (w yes)) has)) h
+      (λ v w yes. rw e (optimal_by profile p s.cost.cost s.bits.items says
+      (subst (λ g. IsUnsatisfiable g.clauses) is (w yes)) has)) h
 
   pub unsat_verdict : a.said ≡ Unsat → (f : Cnf) → f ≡ hard_cnf p
-    → {E : Type 0} (result : Result Verdict E)
-    → IfOk result (λ v. v ≡ proof_verdict f.clauses proof)
+      → {E : Type 0} (result : Result Verdict E)
+      → IfOk result (λ v. v ≡ proof_verdict f.clauses proof)
       → IfOk result (λ v. v ≡ said_verdict profile p (reported a) proof)
   unsat_verdict e f is {E} result h =
       let said : said_verdict profile p (reported a) proof ≡ proof_verdict (hard_cnf p).clauses
-        proof = rw e refl in
+      proof = rw e refl in
       IfOk-weaker result _ _ (λ v w. w ∙ ap (λ g. proof_verdict g.clauses proof) is ∙ sym said) h
 
   pub unsat_sound : a.said ≡ Unsat
-    → ((t : Assignment) → All (Satisfies t) (hard_cnf p).clauses ↔ IsFeasible p t)
+      → ((t : Assignment) → All (Satisfies t) (hard_cnf p).clauses ↔ IsFeasible p t)
       → (f : Cnf) → f ≡ hard_cnf p → {E : Type 0} (result : Result Verdict E)
       → IfOk result (λ v. v ≡ Yes → IsUnsatisfiable f.clauses)
       → IfOk result (λ v. v ≡ Yes → IsTrueOf p (reported a).said)
   unsat_sound e same f is {E} result h =
       IfOk-weaker result _ _
-        (λ v w yes. rw e (inconsistent_by p same
-            (subst (λ g. IsUnsatisfiable g.clauses) is (w yes)))) h
+      (λ v w yes. rw e (inconsistent_by p same
+      (subst (λ g. IsUnsatisfiable g.clauses) is (w yes)))) h
 
 module _ (profile : Profile) (text answer proof : List ℕ) (p : Problem) (reads : Reads text p) where
   pub form_verdict : (line : ℕ) → report_of answer ≡ Err line
-    → No ResultForm line ≡ verdict_as profile text answer proof
+      → No ResultForm line ≡ verdict_as profile text answer proof
   form_verdict line e =
-    sym (no_report profile text answer proof p line ((reading_is_right text p).0 reads) e)
+      sym (no_report profile text answer proof p line ((reading_is_right text p).0 reads) e)
 
   pub reported_verdict : (a : ReadReport) → report_of answer ≡ Ok (reported a)
-    → {E : Type 0} (result : Result Verdict E)
+      → {E : Type 0} (result : Result Verdict E)
       → IfOk result (λ v. v ≡ said_verdict profile p (reported a) proof)
       → IfOk result (λ v. v ≡ verdict_as profile text answer proof)
   reported_verdict a e {E} result h =
       IfOk-weaker result _ _ (λ v w. w
-          ∙ sym (on_report profile text answer proof p (reported a)
-            ((reading_is_right text p).0 reads) e)) h
+      ∙ sym (on_report profile text answer proof p (reported a)
+      ((reading_is_right text p).0 reads) e)) h
 
   pub reported_sound : (a : ReadReport) → report_of answer ≡ Ok (reported a)
-    → {E : Type 0} (result : Result Verdict E)
+      → {E : Type 0} (result : Result Verdict E)
       → IfOk result (λ v. v ≡ Yes → IsTrueOf p (reported a).said)
       → IfOk result (λ v. v ≡ Yes → IsTrueResult text answer)
   reported_sound a e {E} result h =
-    IfOk-weaker result _ _ (λ v w yes. true_by text answer p (reported a) reads e (w yes)) h
+      IfOk-weaker result _ _ (λ v w yes. true_by text answer p (reported a) reads e (w yes)) h

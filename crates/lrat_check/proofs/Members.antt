@@ -24,15 +24,15 @@ literal_eq-from k l e = subst (λ m. literal_eq k m ≡ true) e (literal_eq-refl
 pub literal_eq-swap : (k l : Literal) → literal_eq k l ≡ literal_eq l k
 literal_eq-swap k l =
     same_tests _ _ (λ e. literal_eq-from l k (sym (literal_eq-true k l e)))
-      (λ e. literal_eq-from k l (sym (literal_eq-true l k e)))
+    (λ e. literal_eq-from k l (sym (literal_eq-true l k e)))
 
 pub literal_eq-negation : (k l : Literal) → literal_eq k (negation l) ≡ literal_eq (negation k) l
 literal_eq-negation k l =
     same_tests _ _
     (λ e. literal_eq-from (negation k) l (ap negation (literal_eq-true k (negation l) e)
-          ∙ negation_twice l))
+    ∙ negation_twice l))
     (λ e. literal_eq-from k (negation l) (sym (negation_twice k)
-          ∙ ap negation (literal_eq-true (negation k) l e)))
+    ∙ ap negation (literal_eq-true (negation k) l e)))
 
 pub contains-negations : (l : Literal) (xs : List Literal)
     → contains_literal l (map negation xs) ≡ contains_literal (negation l) xs
@@ -55,11 +55,11 @@ not_in_push k l xs h e = contains-push k l xs ∙ or_from _ _ h (or_from _ _ e r
 
 pub not_in_push-parts : (k l : Literal) (xs : List Literal)
     → contains_literal k (xs ++ l ∷ []) ≡ false → (contains_literal k xs ≡ false)
-      × (literal_eq k l ≡ false)
+    × (literal_eq k l ≡ false)
 not_in_push-parts k l xs h =
     let p =
-      or_parts (contains_literal k xs) (contains_literal k (l ∷ [])) (sym (contains-push k l xs)
-        ∙ h) in
+    or_parts (contains_literal k xs) (contains_literal k (l ∷ [])) (sym (contains-push k l xs)
+    ∙ h) in
     (p.0, (or_parts (literal_eq k l) false p.1).0)
 
 pub in_push-last : (l : Literal) (xs : List Literal) → contains_literal l (xs ++ l ∷ []) ≡ true
@@ -69,8 +69,8 @@ pub push_other : (k l : Literal) (xs : List Literal) → literal_eq k l ≡ fals
     → contains_literal k (xs ++ l ∷ []) ≡ contains_literal k xs
 push_other k l xs e =
     contains-push k l xs
-      ∙ ap (λ b. contains_literal k xs || b) (or_from (literal_eq k l) false e refl)
-      ∙ or-false (contains_literal k xs)
+    ∙ ap (λ b. contains_literal k xs || b) (or_from (literal_eq k l) false e refl)
+    ∙ or-false (contains_literal k xs)
 
 in_middle : (l : Literal) (xs ys : List Literal) → contains_literal l (xs ++ l ∷ ys) ≡ true
 in_middle l xs ys = list_any-append (literal_eq l) xs (l ∷ ys)
@@ -80,13 +80,19 @@ in_middle l xs ys = list_any-append (literal_eq l) xs (l ∷ ys)
 pub HaveSame-push : (l : Literal) (A : List Literal) → HaveSame (l ∷ A) (A ++ l ∷ [])
 HaveSame-push l A k =
     same_tests _ _
-    (λ e. contains-push k l A ∙ elim (or_cases (literal_eq k l) (contains_literal k A) e) [ inl h ↦
-          or_right _ _ (or_left _ _ h) | inr h ↦ or_left _ _ h ])
+    (λ e. contains-push k l A ∙ elim (or_cases (literal_eq k l) (contains_literal k A) e) [
+      | inl h ↦
+          or_right _ _ (or_left _ _ h)
+      | inr h ↦ or_left _ _ h
+    ])
     (λ e. elim (or_cases (contains_literal k A) (contains_literal k (l ∷ []))
-          (sym (contains-push k l A) ∙ e)) [
+    (sym (contains-push k l A) ∙ e)) [
       | inl h ↦ or_right _ _ h
-      | inr h ↦ elim (or_cases (literal_eq k l) false h) [ inl g ↦ or_left _ _ g | inr g ↦
-          absurd (false≢true g) ]
+      | inr h ↦ elim (or_cases (literal_eq k l) false h) [
+        | inl g ↦ or_left _ _ g
+        | inr g ↦
+            absurd (false≢true g)
+      ]
     ])
 
 -- repeats
@@ -125,7 +131,7 @@ has_opposites-push l (x ∷ xs) r h =
     let p = or_parts (contains_literal (negation x) xs) (has_opposites xs) r in
     let q = or_parts (literal_eq (negation l) x) (contains_literal (negation l) xs) h in
     or_from _ _ (not_in_push (negation x) l xs p.0 (sym (literal_eq-negation x l)
-          ∙ literal_eq-swap x (negation l) ∙ q.0)) (has_opposites-push l xs p.1 q.1)
+    ∙ literal_eq-swap x (negation l) ∙ q.0)) (has_opposites-push l xs p.1 q.1)
 
 pub opposite_at : (l : Literal) (xs ys : List Literal) → contains_literal (negation l) xs ≡ true
     → has_opposites (xs ++ l ∷ ys) ≡ true
@@ -134,9 +140,9 @@ opposite_at l (x ∷ xs) ys h =
     elim (or_cases (literal_eq (negation l) x) (contains_literal (negation l) xs) h) [
       | inl e ↦
           let same : l ≡ negation x =
-            sym (negation_twice l) ∙ ap negation (literal_eq-true (negation l) x e) in
+          sym (negation_twice l) ∙ ap negation (literal_eq-true (negation l) x e) in
           or_left _ _ (subst (λ k. contains_literal k (xs ++ l ∷ ys) ≡ true) same
-              (in_middle l xs ys))
+          (in_middle l xs ys))
       | inr e ↦ or_right _ _ (opposite_at l xs ys e)
     ]
 

@@ -34,63 +34,64 @@ module _ (c : List Literal) (i : ℕ) (l : Literal) (lt : i < length c)
   in_negations : contains_literal (negation l) (map negation (take i c))
       ≡ contains_literal l (take i c)
   in_negations = contains-negations (negation l) (take i c)
-    ∙ ap (λ k. contains_literal k (take i c)) (negation_twice l)
+      ∙ ap (λ k. contains_literal k (take i c)) (negation_twice l)
 
   pub not_apart : (T : List Literal) → T ≡ map negation (take i c) → contains_literal l T ≡ true
-    → false ≡ not (has_repeat c || has_opposites c)
+      → false ≡ not (has_repeat c || has_opposites c)
   not_apart T e h =
       let among : contains_literal (negation l) (take i c) ≡ true =
-        sym (contains-negations l (take i c)) ∙ ap (contains_literal l) (sym e) ∙ h in
+      sym (contains-negations l (take i c)) ∙ ap (contains_literal l) (sym e) ∙ h in
       let opposite : has_opposites c ≡ true =
-        subst (λ d. has_opposites d ≡ true) split (opposite_at l (take i c) (drop (i + 1) c) among)
-          in
+      subst (λ d. has_opposites d ≡ true) split (opposite_at l (take i c) (drop (i + 1) c) among)
+      in
       sym (ap not (or_right (has_repeat c) (has_opposites c) opposite))
 
   pub not_single : (T : List Literal) → T ≡ map negation (take i c)
-    → contains_literal (negation l) T ≡ true → false ≡ not (has_repeat c || has_opposites c)
+      → contains_literal (negation l) T ≡ true → false ≡ not (has_repeat c || has_opposites c)
   not_single T e h =
       let among : contains_literal l (take i c) ≡ true =
-        sym in_negations ∙ ap (contains_literal (negation l)) (sym e) ∙ h in
+      sym in_negations ∙ ap (contains_literal (negation l)) (sym e) ∙ h in
       let repeat : has_repeat c ≡ true =
-        subst (λ d. has_repeat d ≡ true) split (repeat_at l (take i c) (drop (i + 1) c) among) in
+      subst (λ d. has_repeat d ≡ true) split (repeat_at l (take i c) (drop (i + 1) c) among) in
       sym (ap not (or_left (has_repeat c) (has_opposites c) repeat))
 
   pub negations_more : (T : List Literal) → T ≡ map negation (take i c)
-    → T ++ negation l ∷ [] ≡ map negation (take (i + 1) c)
+      → T ++ negation l ∷ [] ≡ map negation (take (i + 1) c)
   negations_more T e = ap (λ zs. zs ++ negation l ∷ []) e
-    ∙ sym (map-append negation (take i c) (l ∷ [])) ∙ ap (map negation) (sym more)
+      ∙ sym (map-append negation (take i c) (l ∷ [])) ∙ ap (map negation) (sym more)
 
   pub single_more : (T : List Literal) → T ≡ map negation (take i c) → has_repeat (take i c) ≡ false
-    → contains_literal (negation l) T ≡ false → has_repeat (take (i + 1) c) ≡ false
+      → contains_literal (negation l) T ≡ false → has_repeat (take (i + 1) c) ≡ false
   single_more T e r h =
-    ap has_repeat more ∙ has_repeat-push l (take i c) r (sym in_negations
+      ap has_repeat more ∙ has_repeat-push l (take i c) r (sym in_negations
       ∙ ap (contains_literal (negation l)) (sym e) ∙ h)
 
   pub apart_more : (T : List Literal) → T ≡ map negation (take i c)
-    → has_opposites (take i c) ≡ false → contains_literal l T ≡ false
-    → has_opposites (take (i + 1) c) ≡ false
+      → has_opposites (take i c) ≡ false → contains_literal l T ≡ false
+      → has_opposites (take (i + 1) c) ≡ false
   apart_more T e r h =
-    ap has_opposites more ∙ has_opposites-push l (take i c) r (sym (contains-negations l (take i c))
+      ap has_opposites more
+      ∙ has_opposites-push l (take i c) r (sym (contains-negations l (take i c))
       ∙ ap (contains_literal l) (sym e) ∙ h)
 
   pub within_more : (n m : ℕ) → n ≤ m → AreWithin n (take i c) → l.variable ≤ m
-    → AreWithin m (take (i + 1) c)
+      → AreWithin m (take (i + 1) c)
   within_more n m le w h =
       subst (AreWithin m) (sym more)
-        (All-push (λ k. k.variable ≤ m) (take i c) l
-          (All-weaker (λ k. k.variable ≤ n) (λ k. k.variable ≤ m) (λ k p. omega arith) (take i c) w)
-          h)
+      (All-push (λ k. k.variable ≤ m) (take i c) l
+      (All-weaker (λ k. k.variable ≤ n) (λ k. k.variable ≤ m) (λ k p. omega arith) (take i c) w)
+      h)
 
 -- how hints end
 pub clause_end : (live : Live) (c : List Literal) (hs : List (Bool × ℕ)) (A : List Literal)
     (first : List ℕ) (r : Walked) (T : List Literal) → A ≡ map negation c → first ≡ leading hs
     → EndAlike (walk live.clause_at A first) (walked_as r T)
     → clause_fault live c (walk live.clause_at (map negation c) (leading hs)) (groups_of hs)
-      ≡ clause_fault live c (walked_as r T) (groups_of hs)
+    ≡ clause_fault live c (walked_as r T) (groups_of hs)
 clause_end live c hs A first r T e f h =
     clause_fault-alike live c _ (walked_as r T) (groups_of hs)
     (subst (λ xs. EndAlike (walk live.clause_at (map negation c) xs) (walked_as r T)) f
-        (subst (λ xs. EndAlike (walk live.clause_at xs first) (walked_as r T)) e h))
+    (subst (λ xs. EndAlike (walk live.clause_at xs first) (walked_as r T)) e h))
 
 pub length_first : (first hs : List (Bool × ℕ)) → map (λ h. h.1) first ≡ leading hs
     → length first ≡ length (leading hs)
@@ -104,7 +105,7 @@ refuted_all live c ((true, n) ∷ hs) h = absurd (omega arith)
 
 pub refuted_more : (live : Live) (c : List Literal) (hs : List (Bool × ℕ))
     → length (leading hs) < length hs → clause_fault live c Refuted (groups_of hs)
-      ≡ Some HintAfterConflict
+    ≡ Some HintAfterConflict
 refuted_more live c [] h = absurd (omega arith)
 refuted_more live c ((false, n) ∷ hs) h = refuted_more live c hs (omega arith)
 refuted_more live c ((true, n) ∷ hs) h = refl
@@ -112,11 +113,11 @@ refuted_more live c ((true, n) ∷ hs) h = refl
 pub open_pivot : (live : Live) (c : List Literal) (p : Literal) (B : List Literal)
     (gs : List CandidateHints) → slice_get c 0 ≡ Some p
     → clause_fault live c (Open B) gs
-      ≡ cond (same_ids (map (λ g. g.candidate) gs) (ids_with live.clause_at (negation p) live.last))
+    ≡ cond (same_ids (map (λ g. g.candidate) gs) (ids_with live.clause_at (negation p) live.last))
     (groups_fault live.clause_at p B gs) (Some Candidates)
 open_pivot live [] p B gs e = absurd (cc)
 open_pivot live (q ∷ c) p B gs e =
     let same : q ≡ p = cc in
     ap (λ k. cond (same_ids (map (λ g. g.candidate) gs)
-          (ids_with live.clause_at (negation k) live.last)) (groups_fault live.clause_at k B gs)
-        (Some Candidates)) same
+    (ids_with live.clause_at (negation k) live.last)) (groups_fault live.clause_at k B gs)
+    (Some Candidates)) same

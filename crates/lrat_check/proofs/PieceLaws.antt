@@ -36,7 +36,7 @@ tokens-first : (x more : List ℕ) → IsNoFeed x
 tokens-first x more h =
     ap (λ parts. map tokens_of (lines_of_parts parts)) (slice_split_at is_feed x 10 more h refl)
     ∙ ap (map tokens_of)
-      (parts-cons x (slice_split is_feed more) (omega (arith, length-slice_split is_feed more)))
+    (parts-cons x (slice_split is_feed more) (omega (arith, length-slice_split is_feed more)))
 
 tokens-last : (x : List ℕ) → 0 < length x → IsNoFeed x → token_lines x ≡ tokens_of x ∷ []
 tokens-last x l h = ap (map tokens_of) (lines-last x l (λ k lt. h k 0 lt))
@@ -49,7 +49,7 @@ regroup d r e more = simp append_assoc
 module _ (old new : Reading) (formula : List (List Literal)) (bytes end line : List ℕ)
     (o : IsOpen old formula bytes) (no_feed : IsNoFeed end)
     (same : line ≡ strip_carriage_return ((old.rest).items ++ end))
-      (empty : (new.rest).items ≡ []) where
+    (empty : (new.rest).items ≡ []) where
   abbrev whole : List ℕ
   whole = bytes ++ end ++ 10 ∷ []
 
@@ -57,7 +57,7 @@ module _ (old new : Reading) (formula : List (List Literal)) (bytes end line : L
       ≡ proof_verdict formula (whole ++ more)
   from_old more =
       let none : IsNoFeed ((old.rest).items ++ end) =
-        All-append (λ b. (b == 10) ≡ false) (old.rest).items end o.unfinished no_feed in
+      All-append (λ b. (b == 10) ≡ false) (old.rest).items end o.unfinished no_feed in
       ap (λ x. verdict_after old.machine (tokens_of x ∷ token_lines more)) same
       ∙ ap (verdict_after old.machine) (sym (tokens-first ((old.rest).items ++ end) more none))
       ∙ o.resumes (((old.rest).items ++ end) ++ 10 ∷ more)
@@ -74,7 +74,7 @@ module _ (old new : Reading) (formula : List (List Literal)) (bytes end line : L
   }
 
   now_refused : (v : Verdict) → Judges old.machine line new.machine (Some v)
-    → IsRefused v formula whole
+      → IsRefused v formula whole
   now_refused v j = record {
     done = whole;
     after = [];
@@ -93,9 +93,9 @@ pub line_more : (old new : Reading) (end line : List ℕ) → old.refused ≡ No
     → Holds new formula (bytes ++ end ++ 10 ∷ [])
 line_more old new end line none no_feed same empty j formula bytes h = record {
   open_end = λ e. still_open old new formula bytes end line (h.open_end none) no_feed same empty
-    (subst (Judges old.machine line new.machine) e j);
+      (subst (Judges old.machine line new.machine) e j);
   refused = λ v e. now_refused old new formula bytes end line (h.open_end none) no_feed same empty v
-    (subst (Judges old.machine line new.machine) e j);
+      (subst (Judges old.machine line new.machine) e j);
 }
 
 refused_more : (v : Verdict) (formula : List (List Literal)) (bytes more : List ℕ)
@@ -114,8 +114,12 @@ refused_more v formula bytes more r = record {
 -- a piece
 pub none_taken : (old : Reading) (piece : List ℕ) → HasTaken old old piece piece
 none_taken old piece =
-    record { taken = []; split = refl; holds = λ formula bytes h. subst (Holds old formula)
-      (sym (append-nil bytes)) h }
+    record {
+      taken = [];
+      split = refl;
+      holds = λ formula bytes h. subst (Holds old formula)
+          (sym (append-nil bytes)) h;
+    }
 
 -- the line that a line feed of the left part ends, and what is left then
 pub taken_lengths : (left : List ℕ) (end : ℕ) (line rest : List ℕ) → IsFirstFeed left end
@@ -124,20 +128,20 @@ pub taken_lengths : (left : List ℕ) (end : ℕ) (line rest : List ℕ) → IsF
 taken_lengths left end line rest f e g =
     let a : length line ≡ end = ap length e ∙ length-take-le end left (omega (arith, f.within)) in
     let b : length rest ≡ length left - (end + 1) = ap length (g ∙ take_rest left (end + 1))
-      ∙ length-drop (end + 1) left in
+    ∙ length-drop (end + 1) left in
     omega (arith, f.within)
 
 pub taken_more : (old mid new : Reading) (piece left : List ℕ) (end : ℕ) (line rest : List ℕ)
     → HasTaken old mid piece left → IsFirstFeed left end
     → line ≡ take end left → rest ≡ take (length left - (end + 1)) (drop (end + 1) left)
     → ((formula : List (List Literal)) (bytes : List ℕ) → Holds mid formula bytes
-        → Holds new formula (bytes ++ line ++ 10 ∷ []))
+    → Holds new formula (bytes ++ line ++ 10 ∷ []))
     → HasTaken old new piece rest
 taken_more old mid new piece left end line rest t f e g next = record {
   taken = t.taken ++ line ++ 10 ∷ [];
   split = t.split ∙ ap (λ x. t.taken ++ x) whole ∙ regrouped t.taken line rest;
   holds =
-    λ formula bytes h. subst (Holds new formula) (moved bytes t.taken line)
+      λ formula bytes h. subst (Holds new formula) (moved bytes t.taken line)
       (next formula (bytes ++ t.taken) (t.holds formula bytes h));
 }
   where
@@ -149,7 +153,7 @@ taken_more old mid new piece left end line rest t f e g next = record {
 
     whole : left ≡ line ++ 10 ∷ rest
     whole = f.split ∙ ap (λ x. x ++ 10 ∷ drop (end + 1) left) (sym e)
-      ∙ ap (λ x. line ++ 10 ∷ x) (sym (g ∙ take_rest left (end + 1)))
+        ∙ ap (λ x. line ++ 10 ∷ x) (sym (g ∙ take_rest left (end + 1)))
 
 pub rest_kept : (old mid new : Reading) (piece left : List ℕ) → HasTaken old mid piece left
     → mid.refused ≡ None → IsNoFeed left
@@ -164,14 +168,14 @@ rest_kept old mid new piece left t none no_feed machine refused rest formula byt
       open_end = λ e. record {
         done = o.done;
         split = ap (λ x. bytes ++ x) t.split ∙ sym (append_assoc bytes t.taken left)
-          ∙ ap (λ x. x ++ left) o.split ∙ append_assoc o.done (mid.rest).items left
-          ∙ ap (λ x. o.done ++ x) (sym rest);
+            ∙ ap (λ x. x ++ left) o.split ∙ append_assoc o.done (mid.rest).items left
+            ∙ ap (λ x. o.done ++ x) (sym rest);
         ended = o.ended;
         unfinished =
-          subst IsNoFeed (sym rest)
+            subst IsNoFeed (sym rest)
             (All-append (λ b. (b == 10) ≡ false) (mid.rest).items left o.unfinished no_feed);
         resumes = λ more. ap (λ (x : MachineState). verdict_after x (token_lines more)) machine
-          ∙ o.resumes more;
+            ∙ o.resumes more;
       };
       refused = λ v e. absurd (let two : None ≡ Some v = sym none ∙ sym refused ∙ e in cc);
     }
@@ -185,7 +189,7 @@ rest_dropped old new piece left t some formula bytes h =
     record {
       open_end = λ e. absurd (some e);
       refused =
-        λ v e. subst (IsRefused v formula) (append_assoc bytes t.taken left
+          λ v e. subst (IsRefused v formula) (append_assoc bytes t.taken left
           ∙ ap (λ x. bytes ++ x) (sym t.split))
           (refused_more v formula (bytes ++ t.taken) left (m.refused v e));
     }
@@ -220,7 +224,7 @@ starts r formula e empty none = record {
     ended = inl refl;
     unfinished = subst IsNoFeed (sym empty) (All-nil (λ b. (b == 10) ≡ false));
     resumes = λ more. ap (λ (x : MachineState). verdict_after x (token_lines more)) e
-      ∙ ap (λ l. verdict_on l false 1 (token_lines more)) (live_of-start formula);
+        ∙ ap (λ l. verdict_on l false 1 (token_lines more)) (live_of-start formula);
   };
   refused = λ v s. absurd (let two : None ≡ Some v = sym none ∙ s in cc);
 }
@@ -246,14 +250,14 @@ module _ (r : Reading) (none : r.refused ≡ None) (some : 0 < length (r.rest).i
   last_line =
       let o = h.open_end none in
       ap (verdict_after r.machine) (sym (tokens-last (r.rest).items some o.unfinished))
-        ∙ o.resumes (r.rest).items ∙ ap (proof_verdict formula) (sym o.split)
+      ∙ o.resumes (r.rest).items ∙ ap (proof_verdict formula) (sym o.split)
 
   pub ends_open : (new : MachineState) → Judges r.machine (r.rest).items new None
-    → verdict_after new [] ≡ proof_verdict formula bytes
+      → verdict_after new [] ≡ proof_verdict formula bytes
   ends_open new j = sym (j []) ∙ last_line
 
   pub ends_fault : (new : MachineState) (v : Verdict) → Judges r.machine (r.rest).items new (Some v)
-    → v ≡ proof_verdict formula bytes
+      → v ≡ proof_verdict formula bytes
   ends_fault new v j = sym (j.1 []) ∙ last_line
 
 pub refused_stays : (r : Reading) (o : Option Verdict) → o ≡ r.refused
@@ -263,8 +267,8 @@ refused_stays r None e formula bytes more h = tt
 refused_stays r (Some v) e formula bytes more h =
     let w = h.refused v (sym e) in
     sym (w.stays (w.after ++ more))
-      ∙ ap (proof_verdict formula) (sym (append_assoc w.done w.after more)
-        ∙ ap (λ x. x ++ more) (sym w.split))
+    ∙ ap (proof_verdict formula) (sym (append_assoc w.done w.after more)
+    ∙ ap (λ x. x ++ more) (sym w.split))
 
 abbrev pub StaysVerdict : CheckerState → Verdict → Type 0
 StaysVerdict c v = (formula : List (List Literal)) (bytes more : List ℕ) → Stands c formula bytes
@@ -314,8 +318,8 @@ pub over_end : (o m n : Option (List ℕ)) (fed buf : List ℕ) (k : ℕ) (v : V
 over_end o m n fed buf k v formula p q e end h =
     let none : take k buf ≡ [] = ap (λ j. take j buf) e in
     over_ended o n fed v formula
-      (subst (Consumes o n) (append-nil fed)
-        (read_more o m n fed [] p (subst (Consumes m n) none q))) end h
+    (subst (Consumes o n) (append-nil fed)
+    (read_more o m n fed [] p (subst (Consumes m n) none q))) end h
 
 pub if_ok_weaker : {X E : Type 0} (r : Result X E) (P Q : X → Type 0) → ((x : X) → P x → Q x)
     → IfOk r P → IfOk r Q

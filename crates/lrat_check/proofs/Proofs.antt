@@ -29,7 +29,7 @@ abbrev Accepted : Live → List ProofLine → Type 0
 Accepted live [] = ⊥
 Accepted live (l ∷ ls) =
     (mid : Live) × Step live l mid
-      × (((adds_empty l ≡ true) × (ls ≡ [])) ⊎ ((adds_empty l ≡ false) × Accepted mid ls))
+    × (((adds_empty l ≡ true) × (ls ≡ [])) ⊎ ((adds_empty l ≡ false) × Accepted mid ls))
 
 accepted_at : (front : List ProofLine) (final : ProofLine) (live left : Live)
     → adds_empty final ≡ true → AllByRecursion (λ l. adds_empty l ≡ false) front
@@ -41,17 +41,31 @@ accepted_at (l ∷ front) final live left e nb ch =
 accepted_from : (live : Live) (ls : List ProofLine) → AcceptsFrom live ls → Accepted live ls
 accepted_from live ls r =
     subst (Accepted live) (sym r.split) (accepted_at r.front r.final live r.left r.ends r.not_before
-        (subst (λ x. Chain live x r.left) r.split r.chain))
+    (subst (λ x. Chain live x r.left) r.split r.chain))
 
 accepts_from : (ls : List ProofLine) (live : Live) → Accepted live ls → AcceptsFrom live ls
 accepts_from [] live a = absurd a
 accepts_from (l ∷ ls) live (mid, s, inl (e, z)) =
-    record { front = []; final = l; split = ap (λ x. l ∷ x) z; ends = e; not_before = tt;
-        left = mid; chain = (mid, s, subst (λ x. Chain mid x mid) (sym z) refl) }
+    record {
+      front = [];
+      final = l;
+      split = ap (λ x. l ∷ x) z;
+      ends = e;
+      not_before = tt;
+      left = mid;
+      chain = (mid, s, subst (λ x. Chain mid x mid) (sym z) refl);
+    }
 accepts_from (l ∷ ls) live (mid, s, inr (e, a)) =
     let r = accepts_from ls mid a in
-    record { front = l ∷ r.front; final = r.final; split = ap (λ x. l ∷ x) r.split; ends = r.ends;
-        not_before = (e, r.not_before); left = r.left; chain = (mid, s, r.chain) }
+    record {
+      front = l ∷ r.front;
+      final = r.final;
+      split = ap (λ x. l ∷ x) r.split;
+      ends = r.ends;
+      not_before = (e, r.not_before);
+      left = r.left;
+      chain = (mid, s, r.chain);
+    }
 
 -- one line's verdict
 module _ (live : Live) (n : ℕ) (t : List ℕ) (ts : List (List ℕ)) (more : List (List (List ℕ))) where
@@ -62,25 +76,25 @@ module _ (live : Live) (n : ℕ) (t : List ℕ) (ts : List (List ℕ)) (more : L
   here_malformed e = rw e refl
 
   pub here_dead : (ids : List ℕ) → line_of (t ∷ ts) ≡ Deletion ids → deleted live ids ≡ None
-    → here ≡ No DeadId n
+      → here ≡ No DeadId n
   here_dead ids e u = rw (e, u) refl
 
   pub here_deletes : (ids : List ℕ) (l : Live) → line_of (t ∷ ts) ≡ Deletion ids
-    → deleted live ids ≡ Some l → here ≡ verdict_on l false (n + 1) more
+      → deleted live ids ≡ Some l → here ≡ verdict_on l false (n + 1) more
   here_deletes ids l e u = rw (e, u) refl
 
   pub here_fault : (id : ℕ) (c : List Literal) (hs : List (Bool × ℕ)) (f : Cause)
-    → line_of (t ∷ ts) ≡ Addition id c hs → addition_fault live id c hs ≡ Some f → here ≡ No f n
+      → line_of (t ∷ ts) ≡ Addition id c hs → addition_fault live id c hs ≡ Some f → here ≡ No f n
   here_fault id c hs f e u = rw (e, u) refl
 
   pub here_ends : (id : ℕ) (hs : List (Bool × ℕ)) → line_of (t ∷ ts) ≡ Addition id [] hs
-    → addition_fault live id [] hs ≡ None
-    → here ≡ verdict_on (with_clause live id []) true (n + 1) more
+      → addition_fault live id [] hs ≡ None
+      → here ≡ verdict_on (with_clause live id []) true (n + 1) more
   here_ends id hs e u = rw (e, u) refl
 
   pub here_adds : (id : ℕ) (l : Literal) (c : List Literal) (hs : List (Bool × ℕ))
-    → line_of (t ∷ ts) ≡ Addition id (l ∷ c) hs → addition_fault live id (l ∷ c) hs ≡ None
-    → here ≡ verdict_on (with_clause live id (l ∷ c)) false (n + 1) more
+      → line_of (t ∷ ts) ≡ Addition id (l ∷ c) hs → addition_fault live id (l ∷ c) hs ≡ None
+      → here ≡ verdict_on (with_clause live id (l ∷ c)) false (n + 1) more
   here_adds id l c hs e u = rw (e, u) refl
 
 -- after the empty clause
@@ -98,22 +112,28 @@ ended_from ((t ∷ ts) ∷ more) live n e = absurd (cc)
 
 abbrev Certified : Live → List (List (List ℕ)) → Type 0
 Certified live lines = (ls : List ProofLine) × (filter has_tokens lines ≡ map line_tokens ls)
-      × AllByRecursion HasNumbers ls × Accepted live ls
+    × AllByRecursion HasNumbers ls × Accepted live ls
 
 -- one line before a certificate
 certified_more : (live mid : Live) (t : List ℕ) (ts : List (List ℕ)) (more : List (List (List ℕ)))
     (l : ProofLine) → (t ∷ ts) ≡ line_tokens l → HasNumbers l → Step live l mid
     → adds_empty l ≡ false → Certified mid more → Certified live ((t ∷ ts) ∷ more)
-certified_more live mid t ts more l e h s f (ls, spelled, numbers, a) =
-    (l ∷ ls, ap (λ x. x ∷ filter has_tokens more) e ∙ ap (λ x. line_tokens l ∷ x) spelled,
-        (h, numbers), (mid, s, inr (f, a)))
+certified_more live mid t ts more l e h s f (ls, spelled, numbers, a) = (
+  l ∷ ls,
+  ap (λ x. x ∷ filter has_tokens more) e ∙ ap (λ x. line_tokens l ∷ x) spelled,
+  (h, numbers),
+  (mid, s, inr (f, a)),
+)
 
 certified_end : (live mid : Live) (t : List ℕ) (ts : List (List ℕ)) (more : List (List (List ℕ)))
     (l : ProofLine) → (t ∷ ts) ≡ line_tokens l → HasNumbers l → Step live l mid
     → adds_empty l ≡ true → filter has_tokens more ≡ [] → Certified live ((t ∷ ts) ∷ more)
-certified_end live mid t ts more l e h s f z =
-    (l ∷ [], ap (λ x. x ∷ filter has_tokens more) e ∙ ap (λ x. line_tokens l ∷ x) z, (h, tt),
-        (mid, s, inl (f, refl)))
+certified_end live mid t ts more l e h s f z = (
+  l ∷ [],
+  ap (λ x. x ∷ filter has_tokens more) e ∙ ap (λ x. line_tokens l ∷ x) z,
+  (h, tt),
+  (mid, s, inl (f, refl)),
+)
 
 abbrev Goes : List (List (List ℕ)) → Type 0
 Goes more = (live : Live) (n : ℕ) → IsSane live → verdict_on live false n more ≡ Yes
@@ -127,17 +147,17 @@ added_means live n t ts more s ih id [] hs v u e =
     let k = addition_line (t ∷ ts) id [] hs v in
     let st = (addition_fault-None live s id [] hs).0 u in
     certified_end live (with_clause live id []) t ts more
-      (AddsLine id [] (leading hs) (groups_of hs)) k.0 k.1 (st.0, st.1, refl) refl
+    (AddsLine id [] (leading hs) (groups_of hs)) k.0 k.1 (st.0, st.1, refl) refl
     (ended_means more (with_clause live id []) (n + 1) (sym (here_ends live n t ts more id hs v u)
-          ∙ e))
+    ∙ e))
 added_means live n t ts more s ih id (l ∷ c) hs v u e =
     let k = addition_line (t ∷ ts) id (l ∷ c) hs v in
     let st = (addition_fault-None live s id (l ∷ c) hs).0 u in
     certified_more live (with_clause live id (l ∷ c)) t ts more
-      (AddsLine id (l ∷ c) (leading hs) (groups_of hs)) k.0 k.1 (st.0, st.1, refl) refl
+    (AddsLine id (l ∷ c) (leading hs) (groups_of hs)) k.0 k.1 (st.0, st.1, refl) refl
     (ih (with_clause live id (l ∷ c)) (n + 1)
-        (with_clause_sane live s id (l ∷ c) st.0.rising st.0.no_repeat)
-        (sym (here_adds live n t ts more id l c hs v u) ∙ e))
+    (with_clause_sane live s id (l ∷ c) st.0.rising st.0.no_repeat)
+    (sym (here_adds live n t ts more id l c hs v u) ∙ e))
 
 addition_means : (live : Live) (n : ℕ) (t : List ℕ) (ts : List (List ℕ))
     (more : List (List (List ℕ))) → IsSane live → Goes more
@@ -160,7 +180,7 @@ deletion_means live n t ts more s ih ids v (Some l) u e =
     let st = (deleted-Some live ids k.0 l).0 u in
     certified_more live l t ts more (DeletesLine k.0 ids) k.1.0 k.1.1 st refl
     (ih l (n + 1) (subst IsSane (sym st.2) (without_ids_sane live s ids))
-        (sym (here_deletes live n t ts more ids l v u) ∙ e))
+    (sym (here_deletes live n t ts more ids l v u) ∙ e))
 
 line_means : (live : Live) (n : ℕ) (t : List ℕ) (ts : List (List ℕ)) (more : List (List (List ℕ)))
     → IsSane live → Goes more → (p : Parsed) → line_of (t ∷ ts) ≡ p
@@ -194,24 +214,40 @@ line_from live n t ts more s ih (DeletesLine lead ids) ls v spelled numbers (mid
 line_from live n t ts more s ih (DeletesLine lead ids) ls v spelled numbers (mid, st, inr (f, a)) =
     here_deletes live n t ts more ids mid v ((deleted-Some live ids lead mid).1 st)
     ∙ ih mid (n + 1) (subst IsSane (sym st.2) (without_ids_sane live s ids)) ls spelled numbers a
-line_from live n t ts more s ih (AddsLine id [] hints groups) ls v spelled numbers (mid, st,
-      inr (f, a)) = absurd (true≢false f)
-line_from live n t ts more s ih (AddsLine id [] hints groups) ls v spelled numbers (mid, st,
-      inl (f, z)) =
+line_from live n t ts more s ih (AddsLine id [] hints groups) ls v spelled numbers (
+  mid,
+  st,
+  inr (f, a),
+) = absurd (true≢false f)
+line_from live n t ts more s ih (AddsLine id [] hints groups) ls v spelled numbers (
+  mid,
+  st,
+  inl (f, z),
+) =
     here_ends live n t ts more id (signed_hints hints groups) v
-      ((addition_fault-None live s id [] (signed_hints hints groups)).1 (st.0,
-          rw (leading-signed_hints hints groups, groups_of-signed_hints hints groups) st.1))
+    ((addition_fault-None live s id [] (signed_hints hints groups)).1 (
+      st.0,
+      rw (leading-signed_hints hints groups, groups_of-signed_hints hints groups) st.1,
+    ))
     ∙ ended_from more (with_clause live id []) (n + 1) (spelled ∙ ap (map line_tokens) z)
-line_from live n t ts more s ih (AddsLine id (l ∷ c) hints groups) ls v spelled numbers (mid, st,
-      inl (f, z)) = absurd (false≢true f)
-line_from live n t ts more s ih (AddsLine id (l ∷ c) hints groups) ls v spelled numbers (mid, st,
-      inr (f, a)) =
+line_from live n t ts more s ih (AddsLine id (l ∷ c) hints groups) ls v spelled numbers (
+  mid,
+  st,
+  inl (f, z),
+) = absurd (false≢true f)
+line_from live n t ts more s ih (AddsLine id (l ∷ c) hints groups) ls v spelled numbers (
+  mid,
+  st,
+  inr (f, a),
+) =
     here_adds live n t ts more id l c (signed_hints hints groups) v
-      ((addition_fault-None live s id (l ∷ c) (signed_hints hints groups)).1 (st.0,
-          rw (leading-signed_hints hints groups, groups_of-signed_hints hints groups) st.1))
+    ((addition_fault-None live s id (l ∷ c) (signed_hints hints groups)).1 (
+      st.0,
+      rw (leading-signed_hints hints groups, groups_of-signed_hints hints groups) st.1,
+    ))
     ∙ ih (with_clause live id (l ∷ c)) (n + 1)
-      (with_clause_sane live s id (l ∷ c) st.0.rising st.0.no_repeat) ls spelled numbers
-      (subst (λ x. Accepted x ls) st.2 a)
+    (with_clause_sane live s id (l ∷ c) st.0.rising st.0.no_repeat) ls spelled numbers
+    (subst (λ x. Accepted x ls) st.2 a)
 
 verdict_from : (lines : List (List (List ℕ))) → Comes lines
 verdict_from [] live n s [] spelled numbers a = absurd a
@@ -223,7 +259,7 @@ verdict_from ((t ∷ ts) ∷ more) live n s (l ∷ ls) spelled numbers a =
     let first : (t ∷ ts) ≡ line_tokens l = cc in
     let rest : filter has_tokens more ≡ map line_tokens ls = cc in
     line_from live n t ts more s (verdict_from more) l ls (ap line_of first ∙ line_read l numbers.0)
-      rest numbers.1 a
+    rest numbers.1 a
 
 abbrev pub NoneRepeatsIn : List (List Literal) → Type 0
 NoneRepeatsIn formula = All (λ c. has_repeat c ≡ false) formula
@@ -232,17 +268,19 @@ NoneRepeatsIn formula = All (λ c. has_repeat c ≡ false) formula
 pub proof_verdict-Yes : (formula : List (List Literal)) → NoneRepeatsIn formula → (bytes : List ℕ)
     → (proof_verdict formula bytes ≡ Yes) ↔ IsProofOver formula bytes
 proof_verdict-Yes formula h bytes = (
-  λ e. let r = verdict_means (token_lines bytes) (start_of formula) 1 (start_sane formula h) e in
-      (r.0, record { spelled = r.1; numbers = All-from_recursion HasNumbers r.0 r.2 },
-          accepts_from r.0 (start_of formula) r.3),
+  λ e. let r = verdict_means (token_lines bytes) (start_of formula) 1 (start_sane formula h) e in (
+    r.0,
+    record { spelled = r.1; numbers = All-from_recursion HasNumbers r.0 r.2 },
+    accepts_from r.0 (start_of formula) r.3,
+  ),
   λ r. verdict_from (token_lines bytes) (start_of formula) 1 (start_sane formula h) r.0 r.1.spelled
-    (recursion_from_All HasNumbers r.0 r.1.numbers) (accepted_from (start_of formula) r.0 r.2),
+      (recursion_from_All HasNumbers r.0 r.1.numbers) (accepted_from (start_of formula) r.0 r.2),
 )
 
 NoneRepeatsIn-IsFormula : (f : Cnf) → IsFormula f → NoneRepeatsIn f.clauses
 NoneRepeatsIn-IsFormula f h =
     All-weaker (IsFormulaClause f.variables) (λ c. has_repeat c ≡ false) (λ c k. k.no_repeat)
-      f.clauses h.clauses
+    f.clauses h.clauses
 
 pub proof_verdict-IsFormula : (f : Cnf) → IsFormula f → (bytes : List ℕ)
     → (proof_verdict f.clauses bytes ≡ Yes) ↔ IsProofOver f.clauses bytes

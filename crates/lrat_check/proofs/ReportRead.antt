@@ -29,7 +29,7 @@ next_at text stage n (l ∷ ls) number line rest e r =
       others = ls;
       numbered = sym same_rest ∙ ap (λ m. enumerate_from (m + 1) ls) same_number;
       report = r ∙ ap (λ m. resumed stage m (tokens_of l ∷ map tokens_of ls)) same_number
-        ∙ ap (λ k. resumed stage number (tokens_of k ∷ map tokens_of ls)) same_line;
+          ∙ ap (λ k. resumed stage number (tokens_of k ∷ map tokens_of ls)) same_line;
     }
 
 next_of : (text : List ℕ) (stage : Stage) (left : List (ℕ × List ℕ)) → GoesOn text stage left
@@ -43,8 +43,13 @@ pub goes_on : (text : List ℕ) (stage : Stage) (left : List (ℕ × List ℕ)) 
     → (next : Stage) → IsNextStage stage number (tokens_of line) (Ok next) → GoesOn text next rest
 goes_on text stage left g number line rest e next s =
     let n = next_of text stage left g number line rest e in
-    record { number = number + 1; lines = n.others; numbered = n.numbered; report = n.report
-        ∙ s (map tokens_of n.others) }
+    record {
+      number = number + 1;
+      lines = n.others;
+      numbered = n.numbered;
+      report = n.report
+          ∙ s (map tokens_of n.others);
+    }
 
 pub stops : (text : List ℕ) (stage : Stage) (left : List (ℕ × List ℕ)) → GoesOn text stage left
     → (number : ℕ) (line : List ℕ) (rest : List (ℕ × List ℕ)) → left ≡ (number, line) ∷ rest
@@ -64,7 +69,7 @@ pub ended_at : (text : List ℕ) (stage : Stage) (left : List (ℕ × List ℕ))
     → left ≡ [] → (report : ReadReport) → stage ≡ End report → report_of text ≡ Ok (reported report)
 ended_at text stage left g e report is =
     ends_at text stage g.number g.lines (sym g.numbered ∙ e) g.report
-      ∙ ap (λ s. resumed s g.number []) is
+    ∙ ap (λ s. resumed s g.number []) is
 
 pub unended_at : (text : List ℕ) (stage : Stage) (left : List (ℕ × List ℕ)) → GoesOn text stage left
     → left ≡ [] → ((report : ReadReport) → stage ≡ End report → ⊥) → report_of text ≡ Err 0

@@ -52,7 +52,7 @@ are_tokens : (bs : List ℕ) → AreTokens (tokens_of bs)
 are_tokens [] = tt
 are_tokens (b ∷ bs) =
     elim (is_blank b) as (λ v. AreTokens
-        (cond v (tokens_of bs) (put_byte b (begins_with_token bs) (tokens_of bs)))) [
+    (cond v (tokens_of bs) (put_byte b (begins_with_token bs) (tokens_of bs)))) [
       | true ↦ are_tokens bs
       | false ↦ put_tokens b (begins_with_token bs) (tokens_of bs) (are_tokens bs)
     ]
@@ -101,9 +101,11 @@ cost_means (o ∷ t ∷ u ∷ us) c e = absurd (cc)
 cost_means (o ∷ t ∷ []) c e =
     elim (cases_Bool (same_bytes o (codes "o"))) [
       | inl y ↦
-          let h = small_means (number_of t) c (sym (cost_is o t y) ∙ e) in
-          (ap (λ x. x ∷ t ∷ []) (same_bytes-true o (codes "o") y)
-              ∙ ap (λ x. codes "o" ∷ x ∷ []) (number_means t c h.0 h.1), h.1)
+          let h = small_means (number_of t) c (sym (cost_is o t y) ∙ e) in (
+            ap (λ x. x ∷ t ∷ []) (same_bytes-true o (codes "o") y)
+                ∙ ap (λ x. codes "o" ∷ x ∷ []) (number_means t c h.0 h.1),
+            h.1,
+          )
       | inr f ↦ let z : cost_of (o ∷ t ∷ []) ≡ None = rw f refl in absurd (cc)
     ]
 
@@ -125,41 +127,42 @@ two_status s t x e =
     elim (cases_Bool (same_bytes s (codes "s"))) [
       | inr f ↦ let z : status_of (s ∷ t ∷ []) ≡ None = rw f refl in absurd (cc)
       | inl y ↦ let es = same_bytes-true s (codes "s") y in
-        elim (cases_Bool (same_bytes t (codes "UNSATISFIABLE"))) [
-        | inl a ↦ let z : status_of (s ∷ t ∷ []) ≡ Some Unsat = rw (y, a) refl in
-          let k : x ≡ Unsat = cc in
-            ap (λ u. s ∷ u ∷ []) (same_bytes-true t (codes "UNSATISFIABLE") a)
-              ∙ ap (λ u. u ∷ codes "UNSATISFIABLE" ∷ []) es ∙ ap status_tokens (sym k)
-        | inr a ↦ elim (cases_Bool (same_bytes t (codes "SATISFIABLE"))) [
-          | inl b ↦ let z : status_of (s ∷ t ∷ []) ≡ Some Sat = rw (y, a, b) refl in
-            let k : x ≡ Sat = cc in
-              ap (λ u. s ∷ u ∷ []) (same_bytes-true t (codes "SATISFIABLE") b)
-                ∙ ap (λ u. u ∷ codes "SATISFIABLE" ∷ []) es ∙ ap status_tokens (sym k)
-          | inr b ↦ elim (cases_Bool (same_bytes t (codes "UNKNOWN"))) [
-            | inl d ↦ let z : status_of (s ∷ t ∷ []) ≡ Some Limit = rw (y, a, b, d) refl in
-              let k : x ≡ Limit = cc in
-                ap (λ u. s ∷ u ∷ []) (same_bytes-true t (codes "UNKNOWN") d)
-                  ∙ ap (λ u. u ∷ codes "UNKNOWN" ∷ []) es ∙ ap status_tokens (sym k)
-            | inr d ↦ let z : status_of (s ∷ t ∷ []) ≡ None = rw (y, a, b, d) refl in absurd (cc)
+          elim (cases_Bool (same_bytes t (codes "UNSATISFIABLE"))) [
+            | inl a ↦ let z : status_of (s ∷ t ∷ []) ≡ Some Unsat = rw (y, a) refl in
+                let k : x ≡ Unsat = cc in
+                ap (λ u. s ∷ u ∷ []) (same_bytes-true t (codes "UNSATISFIABLE") a)
+                ∙ ap (λ u. u ∷ codes "UNSATISFIABLE" ∷ []) es ∙ ap status_tokens (sym k)
+            | inr a ↦ elim (cases_Bool (same_bytes t (codes "SATISFIABLE"))) [
+              | inl b ↦ let z : status_of (s ∷ t ∷ []) ≡ Some Sat = rw (y, a, b) refl in
+                  let k : x ≡ Sat = cc in
+                  ap (λ u. s ∷ u ∷ []) (same_bytes-true t (codes "SATISFIABLE") b)
+                  ∙ ap (λ u. u ∷ codes "SATISFIABLE" ∷ []) es ∙ ap status_tokens (sym k)
+              | inr b ↦ elim (cases_Bool (same_bytes t (codes "UNKNOWN"))) [
+                | inl d ↦ let z : status_of (s ∷ t ∷ []) ≡ Some Limit = rw (y, a, b, d) refl in
+                    let k : x ≡ Limit = cc in
+                    ap (λ u. s ∷ u ∷ []) (same_bytes-true t (codes "UNKNOWN") d)
+                    ∙ ap (λ u. u ∷ codes "UNKNOWN" ∷ []) es ∙ ap status_tokens (sym k)
+                | inr d ↦ let z : status_of (s ∷ t ∷ []) ≡ None = rw (y, a, b, d) refl in
+                    absurd (cc)
+              ]
+            ]
           ]
-        ]
-      ]
     ]
 
 three_status : (s t u : List ℕ) (x : Status) → status_of (s ∷ t ∷ u ∷ []) ≡ Some x
     → (s ∷ t ∷ u ∷ []) ≡ status_tokens x
 three_status s t u x e =
     let h =
-      cond_some (same_bytes s (codes "s") && same_bytes t (codes "OPTIMUM") && same_bytes u
-        (codes "FOUND")) Optimum x e in
+    cond_some (same_bytes s (codes "s") && same_bytes t (codes "OPTIMUM") && same_bytes u
+    (codes "FOUND")) Optimum x e in
     let p =
-      and_parts (same_bytes s (codes "s") && same_bytes t (codes "OPTIMUM"))
-        (same_bytes u (codes "FOUND")) h.0 in
+    and_parts (same_bytes s (codes "s") && same_bytes t (codes "OPTIMUM"))
+    (same_bytes u (codes "FOUND")) h.0 in
     let q = and_parts (same_bytes s (codes "s")) (same_bytes t (codes "OPTIMUM")) p.0 in
     ap (λ y. y ∷ t ∷ u ∷ []) (same_bytes-true s (codes "s") q.0)
-      ∙ ap (λ y. codes "s" ∷ y ∷ u ∷ []) (same_bytes-true t (codes "OPTIMUM") q.1)
-      ∙ ap (λ y. codes "s" ∷ codes "OPTIMUM" ∷ y ∷ []) (same_bytes-true u (codes "FOUND") p.1)
-      ∙ ap status_tokens h.1
+    ∙ ap (λ y. codes "s" ∷ y ∷ u ∷ []) (same_bytes-true t (codes "OPTIMUM") q.1)
+    ∙ ap (λ y. codes "s" ∷ codes "OPTIMUM" ∷ y ∷ []) (same_bytes-true u (codes "FOUND") p.1)
+    ∙ ap status_tokens h.1
 
 status_means : (l : Line) (x : Status) → status_of l ≡ Some x → l ≡ status_tokens x
 status_means [] x e = absurd (cc)
@@ -203,13 +206,13 @@ bits_on_step b bs m u ih xs e =
       | inl y ↦ elim m as (λ m. bits_on bs ≡ m → (b ∷ bs) ≡ map digit_of xs) [
         | None ↦ λ u. let z : bits_on (b ∷ bs) ≡ None = rw (y, u) refl in absurd (cc)
         | Some ys ↦ λ u. let z = bit_zero b bs ys y u in let k : (false ∷ ys) ≡ xs = cc in
-          ap (λ x. x ∷ bs) (eqb-true b 48 y) ∙ ap (λ x. 48 ∷ x) (ih ys u) ∙ ap (map digit_of) k
+            ap (λ x. x ∷ bs) (eqb-true b 48 y) ∙ ap (λ x. 48 ∷ x) (ih ys u) ∙ ap (map digit_of) k
       ] u
       | inr f ↦ elim (cases_Bool (b == 49)) [
         | inl y ↦ elim m as (λ m. bits_on bs ≡ m → (b ∷ bs) ≡ map digit_of xs) [
           | None ↦ λ u. let z : bits_on (b ∷ bs) ≡ None = rw (f, y, u) refl in absurd (cc)
           | Some ys ↦ λ u. let z = bit_one b bs ys f y u in let k : (true ∷ ys) ≡ xs = cc in
-            ap (λ x. x ∷ bs) (eqb-true b 49 y) ∙ ap (λ x. 49 ∷ x) (ih ys u) ∙ ap (map digit_of) k
+              ap (λ x. x ∷ bs) (eqb-true b 49 y) ∙ ap (λ x. 49 ∷ x) (ih ys u) ∙ ap (map digit_of) k
         ] u
         | inr g ↦ let z : bits_on (b ∷ bs) ≡ None = rw (f, g) refl in absurd (cc)
       ]
@@ -239,11 +242,11 @@ bits_means (v ∷ (b ∷ bs) ∷ []) h xs e =
     elim (cases_Bool (same_bytes v (codes "v"))) [
       | inl y ↦
           let z : bits_of (v ∷ (b ∷ bs) ∷ []) ≡ bits_on (b ∷ bs) =
-            cond-true (same_bytes v (codes "v")) (bits_on (b ∷ bs)) None y in
+          cond-true (same_bytes v (codes "v")) (bits_on (b ∷ bs)) None y in
           ap (λ x. x ∷ (b ∷ bs) ∷ []) (same_bytes-true v (codes "v") y)
-            ∙ bits_line b bs xs (bits_on_means (b ∷ bs) xs (sym z ∙ e))
+          ∙ bits_line b bs xs (bits_on_means (b ∷ bs) xs (sym z ∙ e))
       | inr f ↦ let z : bits_of (v ∷ (b ∷ bs) ∷ []) ≡ None =
-        cond-false (same_bytes v (codes "v")) (bits_on (b ∷ bs)) None f in absurd (cc)
+          cond-false (same_bytes v (codes "v")) (bits_on (b ∷ bs)) None f in absurd (cc)
     ]
 bits_means (v ∷ t ∷ u ∷ us) h xs e = absurd (cc)
 
@@ -294,13 +297,18 @@ with_bits_means (l ∷ ls) h n report r e =
           (k.0, k.1, told_skip l ls y ∙ k.2, k.3)
       | inr f ↦ elim (bits_of l) as (λ o. bits_of l ≡ o → (xs : List Bool) × (m : ℕ)
           × (told (l ∷ ls) ≡ bits_tokens xs ∷ []) × (report xs m ≡ r)) [
-        | None ↦ λ u. let z : with_bits n report (l ∷ ls) ≡ Err n = rw (f, u) refl in absurd (cc)
-        | Some xs ↦ λ u.
-            let k =
-              ended_means ls (n + 1) (report xs n) r (sym (bits_here l ls n report xs f u) ∙ e) in
-            (xs, n, told_take l ls f ∙ ap (λ x. x ∷ told ls) (bits_means l h.0 xs u)
-                ∙ ap (λ x. bits_tokens xs ∷ x) k.0, k.1)
-      ] refl
+            | None ↦ λ u. let z : with_bits n report (l ∷ ls) ≡ Err n = rw (f, u) refl in
+                absurd (cc)
+            | Some xs ↦ λ u.
+                let k =
+                ended_means ls (n + 1) (report xs n) r (sym (bits_here l ls n report xs f u) ∙ e) in (
+                  xs,
+                  n,
+                  told_take l ls f ∙ ap (λ x. x ∷ told ls) (bits_means l h.0 xs u)
+                      ∙ ap (λ x. bits_tokens xs ∷ x) k.0,
+                  k.1,
+                )
+          ] refl
     ]
 
 with_bits_from : (ls : List Line) (n : ℕ) (report : List Bool → ℕ → Report) (xs : List Bool)
@@ -315,9 +323,11 @@ with_bits_from (l ∷ ls) n report xs e =
       | inr f ↦
           let z = sym (told_take l ls f) ∙ e in
           let first : l ≡ bits_tokens xs = cc in
-          let rest : told ls ≡ [] = cc in
-          (n, bits_here l ls n report xs f (ap bits_of first ∙ bits_from xs)
-              ∙ ended_from ls (n + 1) (report xs n) rest)
+          let rest : told ls ≡ [] = cc in (
+            n,
+            bits_here l ls n report xs f (ap bits_of first ∙ bits_from xs)
+                ∙ ended_from ls (n + 1) (report xs n) rest,
+          )
     ]
 
 -- what is left of a result, after a cost or none
@@ -339,7 +349,7 @@ Falls (Some d) c = c < d
 abbrev Tail : Option ℕ → List ℕ → List Line → Said → Type 0
 Tail last [] fl said = Ending last fl said
 Tail last (d ∷ ds) fl said = (more : List Line) × Falls last d × (d < 2 ^ 62)
-      × (fl ≡ cost_tokens d ∷ more) × Tail (Some d) ds more said
+    × (fl ≡ cost_tokens d ∷ more) × Tail (Some d) ds more said
 
 abbrev cost_in : Option (ℕ × ℕ) → Option ℕ
 cost_in None = None
@@ -347,41 +357,54 @@ cost_in (Some x) = Some x.0
 
 module _ (l : Line) (ls : List Line) (n : ℕ) (plain : is_ignored l ≡ false) where
   cost_first : (c : ℕ) → cost_of l ≡ Some c
-    → result_on None n (l ∷ ls) ≡ result_on (Some (c, n)) (n + 1) ls
+      → result_on None n (l ∷ ls) ≡ result_on (Some (c, n)) (n + 1) ls
   cost_first c u = rw (plain, u) refl
 
   cost_next : (c d at : ℕ) → cost_of l ≡ Some c → ltb c d ≡ true
-    → result_on (Some (d, at)) n (l ∷ ls) ≡ result_on (Some (c, n)) (n + 1) ls
+      → result_on (Some (d, at)) n (l ∷ ls) ≡ result_on (Some (c, n)) (n + 1) ls
   cost_next c d at u t = rw (plain, u, t) refl
 
   cost_rises : (c d at : ℕ) → cost_of l ≡ Some c → ltb c d ≡ false
-    → result_on (Some (d, at)) n (l ∷ ls) ≡ Err n
+      → result_on (Some (d, at)) n (l ∷ ls) ≡ Err n
   cost_rises c d at u t = rw (plain, u, t) refl
 
   no_status : (last : Option (ℕ × ℕ)) → cost_of l ≡ None → status_of l ≡ None
-    → result_on last n (l ∷ ls) ≡ Err n
+      → result_on last n (l ∷ ls) ≡ Err n
   no_status last u v = rw (plain, u, v) refl
 
   is_unsat : cost_of l ≡ None → status_of l ≡ Some Unsat
-    → result_on None n (l ∷ ls) ≡ ended (n + 1) (record { said = Unsatisfiable; cost_line = 0;
-        status_line = n; bits_line = 0 }) ls
+      → result_on None n (l ∷ ls) ≡ ended (n + 1) (record {
+        said = Unsatisfiable;
+        cost_line = 0;
+        status_line = n;
+        bits_line = 0;
+      }) ls
   is_unsat u v = rw (plain, u, v) refl
 
   is_limit : cost_of l ≡ None → status_of l ≡ Some Limit
-    → result_on None n (l ∷ ls) ≡ ended (n + 1)
-    (record { said = Unknown; cost_line = 0; status_line = n; bits_line = 0 }) ls
+      → result_on None n (l ∷ ls) ≡ ended (n + 1)
+      (record { said = Unknown; cost_line = 0; status_line = n; bits_line = 0 }) ls
   is_limit u v = rw (plain, u, v) refl
 
   is_optimum : (c at : ℕ) → cost_of l ≡ None → status_of l ≡ Some Optimum
-    → result_on (Some (c, at)) n (l ∷ ls) ≡ with_bits (n + 1)
-    (λ bits m. record { said = OptimumFound c bits; cost_line = at; status_line = n;
-        bits_line = m }) ls
+      → result_on (Some (c, at)) n (l ∷ ls) ≡ with_bits (n + 1)
+      (λ bits m. record {
+        said = OptimumFound c bits;
+        cost_line = at;
+        status_line = n;
+        bits_line = m;
+      }) ls
   is_optimum c at u v = rw (plain, u, v) refl
 
   is_sat : (c at : ℕ) → cost_of l ≡ None → status_of l ≡ Some Sat
-    → result_on (Some (c, at)) n (l ∷ ls) ≡ with_bits (n + 1)
-    (λ bits m. record { said = Satisfiable c bits; cost_line = at; status_line = n; bits_line = m })
-    ls
+      → result_on (Some (c, at)) n (l ∷ ls) ≡ with_bits (n + 1)
+      (λ bits m. record {
+        said = Satisfiable c bits;
+        cost_line = at;
+        status_line = n;
+        bits_line = m;
+      })
+      ls
   is_sat c at u v = rw (plain, u, v) refl
 
   bare_optimum : cost_of l ≡ None → status_of l ≡ Some Optimum → result_on None n (l ∷ ls) ≡ Err n
@@ -391,11 +414,11 @@ module _ (l : Line) (ls : List Line) (n : ℕ) (plain : is_ignored l ≡ false) 
   bare_sat u v = rw (plain, u, v) refl
 
   costly_unsat : (x : ℕ × ℕ) → cost_of l ≡ None → status_of l ≡ Some Unsat
-    → result_on (Some x) n (l ∷ ls) ≡ Err n
+      → result_on (Some x) n (l ∷ ls) ≡ Err n
   costly_unsat x u v = rw (plain, u, v) refl
 
   costly_limit : (x : ℕ × ℕ) → cost_of l ≡ None → status_of l ≡ Some Limit
-    → result_on (Some x) n (l ∷ ls) ≡ Err n
+      → result_on (Some x) n (l ∷ ls) ≡ Err n
   costly_limit x u v = rw (plain, u, v) refl
 
 abbrev Told : Option (ℕ × ℕ) → List Line → Report → Type 0
@@ -403,7 +426,7 @@ Told last fl r = (costs : List ℕ) × Tail (cost_in last) costs fl r.said
 
 step_means : (l : Line) (ls : List Line) → AllByRecursion AreTokens ls
     → ((last : Option (ℕ × ℕ)) (n : ℕ) (r : Report) → result_on last n ls ≡ Ok r
-      → Told last (told ls) r) → (last : Option (ℕ × ℕ)) (n : ℕ) (r : Report) → is_ignored l ≡ false
+    → Told last (told ls) r) → (last : Option (ℕ × ℕ)) (n : ℕ) (r : Report) → is_ignored l ≡ false
     → (m : Option ℕ) → cost_of l ≡ m → (x : Option Status) → status_of l ≡ x
     → result_on last n (l ∷ ls) ≡ Ok r → Told last (l ∷ told ls) r
 step_means l ls h ih None n r f (Some c) u x v e =
@@ -420,25 +443,37 @@ step_means l ls h ih (Some (d, at)) n r f (Some c) u x v e =
     ]
 step_means l ls h ih last n r f None u None v e = let z = no_status l ls n f last u v in absurd (cc)
 step_means l ls h ih None n r f None u (Some Unsat) v e =
-    let k = ended_means ls (n + 1) _ r (sym (is_unsat l ls n f u v) ∙ e) in
-    ([], subst (λ q. Ending None (l ∷ told ls) q.said) k.1
-        (ap (λ y. y ∷ told ls) (status_means l Unsat v) ∙ ap (λ y. status_tokens Unsat ∷ y) k.0))
+    let k = ended_means ls (n + 1) _ r (sym (is_unsat l ls n f u v) ∙ e) in (
+      [],
+      subst (λ q. Ending None (l ∷ told ls) q.said) k.1
+          (ap (λ y. y ∷ told ls) (status_means l Unsat v) ∙ ap (λ y. status_tokens Unsat ∷ y) k.0),
+    )
 step_means l ls h ih None n r f None u (Some Limit) v e =
-    let k = ended_means ls (n + 1) _ r (sym (is_limit l ls n f u v) ∙ e) in
-    ([], subst (λ q. Ending None (l ∷ told ls) q.said) k.1
-        (ap (λ y. y ∷ told ls) (status_means l Limit v) ∙ ap (λ y. status_tokens Limit ∷ y) k.0))
+    let k = ended_means ls (n + 1) _ r (sym (is_limit l ls n f u v) ∙ e) in (
+      [],
+      subst (λ q. Ending None (l ∷ told ls) q.said) k.1
+          (ap (λ y. y ∷ told ls) (status_means l Limit v) ∙ ap (λ y. status_tokens Limit ∷ y) k.0),
+    )
 step_means l ls h ih None n r f None u (Some Optimum) v e = let z = bare_optimum l ls n f u v in
     absurd (cc)
 step_means l ls h ih None n r f None u (Some Sat) v e = let z = bare_sat l ls n f u v in absurd (cc)
 step_means l ls h ih (Some (c, at)) n r f None u (Some Optimum) v e =
-    let k = with_bits_means ls h (n + 1) _ r (sym (is_optimum l ls n f c at u v) ∙ e) in
-    ([], subst (λ q. Ending (Some c) (l ∷ told ls) q.said) k.3 (refl,
-          ap (λ y. y ∷ told ls) (status_means l Optimum v)
-          ∙ ap (λ y. status_tokens Optimum ∷ y) k.2))
+    let k = with_bits_means ls h (n + 1) _ r (sym (is_optimum l ls n f c at u v) ∙ e) in (
+      [],
+      subst (λ q. Ending (Some c) (l ∷ told ls) q.said) k.3 (
+        refl,
+        ap (λ y. y ∷ told ls) (status_means l Optimum v)
+            ∙ ap (λ y. status_tokens Optimum ∷ y) k.2,
+      ),
+    )
 step_means l ls h ih (Some (c, at)) n r f None u (Some Sat) v e =
-    let k = with_bits_means ls h (n + 1) _ r (sym (is_sat l ls n f c at u v) ∙ e) in
-    ([], subst (λ q. Ending (Some c) (l ∷ told ls) q.said) k.3 (refl,
-          ap (λ y. y ∷ told ls) (status_means l Sat v) ∙ ap (λ y. status_tokens Sat ∷ y) k.2))
+    let k = with_bits_means ls h (n + 1) _ r (sym (is_sat l ls n f c at u v) ∙ e) in (
+      [],
+      subst (λ q. Ending (Some c) (l ∷ told ls) q.said) k.3 (
+        refl,
+        ap (λ y. y ∷ told ls) (status_means l Sat v) ∙ ap (λ y. status_tokens Sat ∷ y) k.2,
+      ),
+    )
 step_means l ls h ih (Some x) n r f None u (Some Unsat) v e = let z = costly_unsat l ls n f x u v in
     absurd (cc)
 step_means l ls h ih (Some x) n r f None u (Some Limit) v e = let z = costly_limit l ls n f x u v in
@@ -453,9 +488,10 @@ result_means (l ∷ ls) h last n r e =
       | inl y ↦
           let z : result_on last n (l ∷ ls) ≡ result_on last (n + 1) ls = rw y refl in
           subst (λ fl. Told last fl r) (sym (told_skip l ls y))
-            (result_means ls h.1 last (n + 1) r (sym z ∙ e))
+          (result_means ls h.1 last (n + 1) r (sym z ∙ e))
       | inr f ↦ subst (λ fl. Told last fl r) (sym (told_take l ls f))
-        (step_means l ls h.1 (result_means ls h.1) last n r f (cost_of l) refl (status_of l) refl e)
+          (step_means l ls h.1 (result_means ls h.1) last n r f (cost_of l) refl
+          (status_of l) refl e)
     ]
 
 -- and back
@@ -487,14 +523,20 @@ ending_from : (l : Line) (ls : List Line) (n : ℕ) → is_ignored l ≡ false
     → ReadsAs last n (l ∷ ls) said
 ending_from l ls n f None Unsatisfiable e =
     let first : l ≡ status_tokens Unsat = cc in
-    let rest : told ls ≡ [] = cc in
-    (_, is_unsat l ls n f (ap cost_of first ∙ status_no_cost Unsat) (ap status_of first
-          ∙ status_from Unsat) ∙ ended_from ls (n + 1) _ rest, refl)
+    let rest : told ls ≡ [] = cc in (
+      _,
+      is_unsat l ls n f (ap cost_of first ∙ status_no_cost Unsat) (ap status_of first
+          ∙ status_from Unsat) ∙ ended_from ls (n + 1) _ rest,
+      refl,
+    )
 ending_from l ls n f None Unknown e =
     let first : l ≡ status_tokens Limit = cc in
-    let rest : told ls ≡ [] = cc in
-    (_, is_limit l ls n f (ap cost_of first ∙ status_no_cost Limit) (ap status_of first
-          ∙ status_from Limit) ∙ ended_from ls (n + 1) _ rest, refl)
+    let rest : told ls ≡ [] = cc in (
+      _,
+      is_limit l ls n f (ap cost_of first ∙ status_no_cost Limit) (ap status_of first
+          ∙ status_from Limit) ∙ ended_from ls (n + 1) _ rest,
+      refl,
+    )
 ending_from l ls n f None (OptimumFound c bits) e = absurd e
 ending_from l ls n f None (Satisfiable c bits) e = absurd e
 ending_from l ls n f (Some (d, at)) (OptimumFound c bits) e =
@@ -502,25 +544,39 @@ ending_from l ls n f (Some (d, at)) (OptimumFound c bits) e =
     let first : l ≡ status_tokens Optimum = cc in
     let rest : told ls ≡ bits_tokens bits ∷ [] = cc in
     let k =
-      with_bits_from ls (n + 1) (λ bits m. record { said = OptimumFound d bits; cost_line = at;
-          status_line = n; bits_line = m }) bits rest in
-    (_, is_optimum l ls n f d at (ap cost_of first ∙ status_no_cost Optimum) (ap status_of first
-          ∙ status_from Optimum) ∙ k.1, ap (λ x. OptimumFound x bits) e.0)
+    with_bits_from ls (n + 1) (λ bits m. record {
+      said = OptimumFound d bits;
+      cost_line = at;
+      status_line = n;
+      bits_line = m;
+    }) bits rest in (
+      _,
+      is_optimum l ls n f d at (ap cost_of first ∙ status_no_cost Optimum) (ap status_of first
+          ∙ status_from Optimum) ∙ k.1,
+      ap (λ x. OptimumFound x bits) e.0,
+    )
 ending_from l ls n f (Some (d, at)) (Satisfiable c bits) e =
     let z = e.1 in
     let first : l ≡ status_tokens Sat = cc in
     let rest : told ls ≡ bits_tokens bits ∷ [] = cc in
     let k =
-      with_bits_from ls (n + 1) (λ bits m. record { said = Satisfiable d bits; cost_line = at;
-          status_line = n; bits_line = m }) bits rest in
-    (_, is_sat l ls n f d at (ap cost_of first ∙ status_no_cost Sat) (ap status_of first
-          ∙ status_from Sat) ∙ k.1, ap (λ x. Satisfiable x bits) e.0)
+    with_bits_from ls (n + 1) (λ bits m. record {
+      said = Satisfiable d bits;
+      cost_line = at;
+      status_line = n;
+      bits_line = m;
+    }) bits rest in (
+      _,
+      is_sat l ls n f d at (ap cost_of first ∙ status_no_cost Sat) (ap status_of first
+          ∙ status_from Sat) ∙ k.1,
+      ap (λ x. Satisfiable x bits) e.0,
+    )
 ending_from l ls n f (Some x) Unsatisfiable e = absurd e
 ending_from l ls n f (Some x) Unknown e = absurd e
 
 take_from : (l : Line) (ls : List Line)
     → ((last : Option (ℕ × ℕ)) (n : ℕ) (costs : List ℕ) (said : Said)
-      → Tail (cost_in last) costs (told ls) said → ReadsAs last n ls said) → (n : ℕ)
+    → Tail (cost_in last) costs (told ls) said → ReadsAs last n ls said) → (n : ℕ)
     → is_ignored l ≡ false → (last : Option (ℕ × ℕ)) (costs : List ℕ) (said : Said)
     → Tail (cost_in last) costs (l ∷ told ls) said → ReadsAs last n (l ∷ ls) said
 take_from l ls ih n f last [] said t = ending_from l ls n f last said t
@@ -529,7 +585,7 @@ take_from l ls ih n f last (d ∷ ds) said t =
     let first : l ≡ cost_tokens d = cc in
     let rest : told ls ≡ t.0 = cc in
     let k =
-      ih (Some (d, n)) (n + 1) ds said (subst (λ fl. Tail (Some d) ds fl said) (sym rest) t.4) in
+    ih (Some (d, n)) (n + 1) ds said (subst (λ fl. Tail (Some d) ds fl said) (sym rest) t.4) in
     (k.0, cost_from_line l ls n f last d t.1 (ap cost_of first ∙ cost_from d t.2) ∙ k.1, k.2)
 
 result_from : (ls : List Line) (last : Option (ℕ × ℕ)) (n : ℕ) (costs : List ℕ) (said : Said)
@@ -540,11 +596,11 @@ result_from (l ∷ ls) last n costs said t =
       | inl y ↦
           let z : result_on last n (l ∷ ls) ≡ result_on last (n + 1) ls = rw y refl in
           let k =
-            result_from ls last (n + 1) costs said (subst (λ fl. Tail (cost_in last) costs fl said)
-              (told_skip l ls y) t) in
+          result_from ls last (n + 1) costs said (subst (λ fl. Tail (cost_in last) costs fl said)
+          (told_skip l ls y) t) in
           (k.0, z ∙ k.1, k.2)
       | inr f ↦ take_from l ls (result_from ls) n f last costs said
-        (subst (λ fl. Tail (cost_in last) costs fl said) (told_take l ls f) t)
+          (subst (λ fl. Tail (cost_in last) costs fl said) (told_take l ls f) t)
     ]
 
 -- costs before the last one, against costs in turn
@@ -568,9 +624,13 @@ tail_of_before : (before : List ℕ) (c : ℕ) (last : Option ℕ) (said : Said)
     → Tail last (before ++ c ∷ []) (map cost_tokens before ++ (cost_tokens c ∷ fl)) said
 tail_of_before [] c last said fl h f s e = (fl, h, s.0, refl, e)
 tail_of_before (d ∷ ds) c last said fl h f s e =
-    let k = heads_from d ds c f in
-    (map cost_tokens ds ++ (cost_tokens c ∷ fl), h, s.0, refl,
-        tail_of_before ds c (Some d) said fl k.0 k.1 s.1 e)
+    let k = heads_from d ds c f in (
+      map cost_tokens ds ++ (cost_tokens c ∷ fl),
+      h,
+      s.0,
+      refl,
+      tail_of_before ds c (Some d) said fl k.0 k.1 s.1 e,
+    )
 
 heads_none : (before : List ℕ) (c : ℕ) → Heads None before c
 heads_none [] c = tt
@@ -582,15 +642,15 @@ tail_from_says (OptimumFound c bits) before fl h e = (
   before ++ c ∷ [],
   subst (λ x. Tail None (before ++ c ∷ []) x (OptimumFound c bits)) (sym e)
       (tail_of_before before c None (OptimumFound c bits)
-          (status_tokens Optimum ∷ bits_tokens bits ∷ []) (heads_none before c) h.0
-          (recursion_from_All (λ d. d < 2 ^ 62) (before ++ c ∷ []) h.1) (refl, refl)),
+      (status_tokens Optimum ∷ bits_tokens bits ∷ []) (heads_none before c) h.0
+      (recursion_from_All (λ d. d < 2 ^ 62) (before ++ c ∷ []) h.1) (refl, refl)),
 )
 tail_from_says (Satisfiable c bits) before fl h e = (
   before ++ c ∷ [],
   subst (λ x. Tail None (before ++ c ∷ []) x (Satisfiable c bits)) (sym e)
       (tail_of_before before c None (Satisfiable c bits) (status_tokens Sat ∷ bits_tokens bits ∷ [])
-          (heads_none before c) h.0 (recursion_from_All (λ d. d < 2 ^ 62) (before ++ c ∷ []) h.1)
-          (refl, refl)),
+      (heads_none before c) h.0 (recursion_from_All (λ d. d < 2 ^ 62) (before ++ c ∷ []) h.1)
+      (refl, refl)),
 )
 tail_from_says Unsatisfiable before fl h e = ([], e)
 tail_from_says Unknown before fl h e = ([], e)
@@ -602,12 +662,16 @@ Costly said c end = (d : ℕ) (fl : List Line) → Ending (Some d) fl said → (
 before_of_tail : (said : Said) (c : ℕ) (end : List Line) → Costly said c end
     → (ds : List ℕ) (d : ℕ) (last : Option ℕ) (fl : List Line) → Falls last d → d < 2 ^ 62
     → Tail (Some d) ds fl said → (before : List ℕ) × Heads last before c × fall_to before c
-      × AreSmall (before ++ c ∷ [])
-      × ((cost_tokens d ∷ fl) ≡ map cost_tokens before ++ (cost_tokens c ∷ end))
+    × AreSmall (before ++ c ∷ [])
+    × ((cost_tokens d ∷ fl) ≡ map cost_tokens before ++ (cost_tokens c ∷ end))
 before_of_tail said c end q [] d last fl h s t =
-    let k = q d fl t in
-    ([], subst (Falls last) k.0 h, tt, (subst (λ x. x < 2 ^ 62) k.0 s, tt),
-        ap (λ x. cost_tokens x ∷ fl) k.0 ∙ ap (λ x. cost_tokens c ∷ x) k.1)
+    let k = q d fl t in (
+      [],
+      subst (Falls last) k.0 h,
+      tt,
+      (subst (λ x. x < 2 ^ 62) k.0 s, tt),
+      ap (λ x. cost_tokens x ∷ fl) k.0 ∙ ap (λ x. cost_tokens c ∷ x) k.1,
+    )
 before_of_tail said c end q (e ∷ ds) d last fl h s t =
     let k = before_of_tail said c end q ds e (Some d) t.0 t.1 t.2 t.4 in
     (d ∷ k.0, h, heads_to d k.0 c k.1 k.2, (s, k.3), ap (λ x. cost_tokens d ∷ x) (t.3 ∙ k.4))
@@ -622,12 +686,12 @@ says_from_tail : (said : Said) (costs : List ℕ) (fl : List Line) → Tail None
 says_from_tail (OptimumFound c bits) [] fl t = absurd t
 says_from_tail (OptimumFound c bits) (d ∷ ds) fl t =
     let k = before_of_tail (OptimumFound c bits) c (status_tokens Optimum ∷ bits_tokens bits ∷ [])
-      (λ d fl h. h) ds d None t.0 tt t.2 t.4 in
+    (λ d fl h. h) ds d None t.0 tt t.2 t.4 in
     (k.0, (k.2, All-from_recursion (λ d. d < 2 ^ 62) (k.0 ++ c ∷ []) k.3), t.3 ∙ k.4)
 says_from_tail (Satisfiable c bits) [] fl t = absurd t
 says_from_tail (Satisfiable c bits) (d ∷ ds) fl t =
     let k = before_of_tail (Satisfiable c bits) c (status_tokens Sat ∷ bits_tokens bits ∷ [])
-      (λ d fl h. h) ds d None t.0 tt t.2 t.4 in
+    (λ d fl h. h) ds d None t.0 tt t.2 t.4 in
     (k.0, (k.2, All-from_recursion (λ d. d < 2 ^ 62) (k.0 ++ c ∷ []) k.3), t.3 ∙ k.4)
 says_from_tail Unsatisfiable [] fl t = ([], refl, t)
 says_from_tail Unsatisfiable (d ∷ ds) fl t =

@@ -63,7 +63,7 @@ group_silent at pivot B g d e t (h ∷ hs) u = rw (e, t, u) refl
 pub group_walks : (at : Clauses) (pivot : Literal) (B : List Literal) (g : CandidateHints)
     (d : List Literal) → at g.candidate ≡ Some d → IsTrueAlready pivot B d ≡ false
     → group_fault at pivot B g
-      ≡ of_walk (walk at (map negation (without_literal (negation pivot) d) ++ B) g.hints)
+    ≡ of_walk (walk at (map negation (without_literal (negation pivot) d) ++ B) g.hints)
 group_walks at pivot B g d e t = rw (e, t) refl
 
 silent_none : (hs : List ℕ) → silent_on hs ≡ None → hs ≡ []
@@ -78,11 +78,23 @@ group_means at pivot B g e = by (at g.candidate) refl
     by : (o : Option (List Literal)) → at g.candidate ≡ o → HoldsForCandidate at pivot B g
     by None u = let z = group_dead at pivot B g u in absurd (cc)
     by (Some d) u = elim (cases_Bool (IsTrueAlready pivot B d)) [
-      | inl t ↦ (d, u, inl (t,
-            silent_none g.hints (sym (group_silent at pivot B g d u t g.hints refl) ∙ e)))
-      | inr f ↦ (d, u, inr (f,
-            refutes_from_walk at _ g.hints
-            (of_walk_none _ (sym (group_walks at pivot B g d u f) ∙ e))))
+      | inl t ↦ (
+        d,
+        u,
+        inl (
+          t,
+          silent_none g.hints (sym (group_silent at pivot B g d u t g.hints refl) ∙ e),
+        ),
+      )
+      | inr f ↦ (
+        d,
+        u,
+        inr (
+          f,
+          refutes_from_walk at _ g.hints
+              (of_walk_none _ (sym (group_walks at pivot B g d u f) ∙ e)),
+        ),
+      )
     ]
 
 group_from : (at : Clauses) → NoneRepeats at
@@ -98,8 +110,8 @@ groups_means : (at : Clauses) (pivot : Literal) (B : List Literal) (gs : List Ca
 groups_means at pivot B [] e = tt
 groups_means at pivot B (g ∷ gs) e =
     elim (group_fault at pivot B g) as (λ o. group_fault at pivot B g ≡ o
-        → or_else o (groups_fault at pivot B gs) ≡ None
-        → AllByRecursion (HoldsForCandidate at pivot B) (g ∷ gs)) [
+    → or_else o (groups_fault at pivot B gs) ≡ None
+    → AllByRecursion (HoldsForCandidate at pivot B) (g ∷ gs)) [
       | None ↦ λ u e. (group_means at pivot B g u, groups_means at pivot B gs e)
       | Some f ↦ λ u e. absurd (cc)
     ] refl e
@@ -110,7 +122,7 @@ groups_from : (at : Clauses) → NoneRepeats at
 groups_from at n pivot B [] h = refl
 groups_from at n pivot B (g ∷ gs) h =
     ap (λ o. or_else o (groups_fault at pivot B gs)) (group_from at n pivot B g h.0)
-      ∙ groups_from at n pivot B gs h.1
+    ∙ groups_from at n pivot B gs h.1
 
 -- the clause
 abbrev pub Holds : Clauses → List Literal → List ℕ → List CandidateHints → Type 0
@@ -127,16 +139,23 @@ clause_means live s hints c Refuted (g ∷ gs) e h = absurd (cc)
 clause_means live s hints [] (Open B) gs e h = absurd (cc)
 clause_means live s hints (p ∷ c) (Open B) gs e h =
     elim (same_ids (candidates_of gs) (ids_with live.clause_at (negation p) live.last))
-      as (λ v. same_ids (candidates_of gs) (ids_with live.clause_at (negation p) live.last) ≡ v
-        → cond v (groups_fault live.clause_at p B gs) (Some Candidates) ≡ None
-        → Holds live.clause_at (p ∷ c) hints gs) [
+    as (λ v. same_ids (candidates_of gs) (ids_with live.clause_at (negation p) live.last) ≡ v
+    → cond v (groups_fault live.clause_at p B gs) (Some Candidates) ≡ None
+    → Holds live.clause_at (p ∷ c) hints gs) [
       | true ↦ λ t h.
           let r =
-            (same_ids_rising live.clause_at live.last s.in_range (negation p) (candidates_of gs)).0
-              t in
-          inr (record { pivot = p; others = c; first = refl; reached = B;
-                leads = leads_from_walk live.clause_at (map negation (p ∷ c)) hints B e;
-                rising = r.0; complete = r.1; each = groups_means live.clause_at p B gs h })
+          (same_ids_rising live.clause_at live.last s.in_range (negation p) (candidates_of gs)).0
+          t in
+          inr (record {
+            pivot = p;
+            others = c;
+            first = refl;
+            reached = B;
+            leads = leads_from_walk live.clause_at (map negation (p ∷ c)) hints B e;
+            rising = r.0;
+            complete = r.1;
+            each = groups_means live.clause_at p B gs h;
+          })
       | false ↦ λ t h. absurd (cc)
     ] refl h
 
@@ -146,17 +165,17 @@ clause_from : (live : Live) → IsSane live
     → clause_fault live c (walk live.clause_at (map negation c) hints) gs ≡ None
 clause_from live s hints c gs (inl r) =
     ap (λ w. clause_fault live c w gs) (walk_from_refutes live.clause_at s.none_repeats
-        (map negation c) hints r.1) ∙ ap (clause_fault live c Refuted) r.0
+    (map negation c) hints r.1) ∙ ap (clause_fault live c Refuted) r.0
 clause_from live s hints c gs (inr r) =
     let at = live.clause_at in
     let named =
-      (same_ids_rising live.clause_at live.last s.in_range (negation r.pivot) (candidates_of gs)).1
-        (r.rising, r.complete) in
+    (same_ids_rising live.clause_at live.last s.in_range (negation r.pivot) (candidates_of gs)).1
+    (r.rising, r.complete) in
     ap (λ x. clause_fault live x (walk live.clause_at (map negation c) hints) gs) r.first
     ∙ ap (λ w. clause_fault live (r.pivot ∷ r.others) w gs)
-      (walk_from_leads live.clause_at s.none_repeats (map negation c) hints r.reached r.leads)
+    (walk_from_leads live.clause_at s.none_repeats (map negation c) hints r.reached r.leads)
     ∙ cond-true (same_ids (candidates_of gs) (ids_with live.clause_at (negation r.pivot) live.last))
-      (groups_fault live.clause_at r.pivot r.reached gs) (Some Candidates) named
+    (groups_fault live.clause_at r.pivot r.reached gs) (Some Candidates) named
     ∙ groups_from live.clause_at s.none_repeats r.pivot r.reached gs r.each
 
 -- an addition
@@ -177,31 +196,35 @@ small_none (l ∷ c) h =
 pub addition_fault-None : (live : Live) → IsSane live
     → (id : ℕ) (c : List Literal) (hs : List (Bool × ℕ))
     → (addition_fault live id c hs ≡ None) ↔ (IsAddable live id c
-      × Holds live.clause_at c (leading hs) (groups_of hs))
+    × Holds live.clause_at c (leading hs) (groups_of hs))
 addition_fault-None live s id c hs = (
   λ e. elim (cases_Bool (nat_le id live.last)) [
     | inl t ↦ let z : addition_fault live id c hs ≡ Some IdOrder = rw t refl in absurd (cc)
     | inr f ↦ elim (cases_Bool (has_repeat c || has_opposites c || list_any IsLarge c)) [
       | inl t ↦ let z : addition_fault live id c hs ≡ Some ClauseForm =
-        rw f (cond-true (has_repeat c || has_opposites c || list_any IsLarge c) _ _ t) in
+          rw f (cond-true (has_repeat c || has_opposites c || list_any IsLarge c) _ _ t) in
           absurd (cc)
       | inr g ↦
           let z : addition_fault live id c hs ≡ clause_fault live c
-            (walk live.clause_at (map negation c) (leading hs)) (groups_of hs) =
-            rw f (cond-false (has_repeat c || has_opposites c || list_any IsLarge c) _ _ g) in
+          (walk live.clause_at (map negation c) (leading hs)) (groups_of hs) =
+          rw f (cond-false (has_repeat c || has_opposites c || list_any IsLarge c) _ _ g) in
           let p = or_parts (has_repeat c || has_opposites c) (list_any IsLarge c) g in
           let q = or_parts (has_repeat c) (has_opposites c) p.0 in (
-            record { rising = leb-false id live.last f; no_repeat = q.0; no_opposites = q.1;
-                small = none_large c p.1 },
+            record {
+              rising = leb-false id live.last f;
+              no_repeat = q.0;
+              no_opposites = q.1;
+              small = none_large c p.1;
+            },
             clause_means live s (leading hs) c (walk live.clause_at (map negation c) (leading hs))
-              (groups_of hs) refl (sym z ∙ e),
+                (groups_of hs) refl (sym z ∙ e),
           )
     ]
   ],
   λ h. let a = h.0 in
       let f : nat_le id live.last ≡ false = lt-leb id live.last a.rising in
       rw f (cond-false (has_repeat c || has_opposites c || list_any IsLarge c) _ _
-          (or_from _ _ (or_from _ _ a.no_repeat a.no_opposites) (small_none c a.small))
+      (or_from _ _ (or_from _ _ a.no_repeat a.no_opposites) (small_none c a.small))
       ∙ clause_from live s (leading hs) c (groups_of hs) h.1),
 )
 
@@ -209,7 +232,7 @@ addition_fault-None live s id c hs = (
 abbrev DeletesAll : Live → List ℕ → Live → Type 0
 DeletesAll old ids new =
     IsDistinct nat_eq ids × AllByRecursion (λ i. (c : List Literal) × (old.clause_at i ≡ Some c))
-      ids × (new ≡ without_ids old ids)
+    ids × (new ≡ without_ids old ids)
 
 abbrev pub less : Live → ℕ → Live
 less live i = record { clause_at = λ j. cond (j == i) None (live.clause_at j); last = live.last }
@@ -224,10 +247,10 @@ deleted_live live i is c e = rw e refl
 
 -- what is left after one id and the rest
 left_at : (live : Live) (i : ℕ) (is : List ℕ) (j : ℕ) → (without_ids (less live i) is).clause_at j
-      ≡ (without_ids live (i ∷ is)).clause_at j
+    ≡ (without_ids live (i ∷ is)).clause_at j
 left_at live i is j =
     elim (j == i) as (λ a. cond (list_any (nat_eq j) is) None (cond a None (live.clause_at j))
-        ≡ cond (a || list_any (nat_eq j) is) None (live.clause_at j)) [
+    ≡ cond (a || list_any (nat_eq j) is) None (live.clause_at j)) [
       | true ↦ elim (list_any (nat_eq j) is) as (λ b. cond {A = Option (List Literal)} b None None
           ≡ None) [ true ↦ refl | false ↦ refl ]
       | false ↦ refl
@@ -245,10 +268,10 @@ abbrev IsLiveAt : Live → ℕ → Type 0
 IsLiveAt live i = (c : List Literal) × (live.clause_at i ≡ Some c)
 
 less_live : (live : Live) (i j : ℕ) → IsLiveAt (less live i) j → (nat_eq i j ≡ false)
-      × IsLiveAt live j
+    × IsLiveAt live j
 less_live live i j h =
     elim (j == i) as (λ v. (j == i) ≡ v → cond v None (live.clause_at j) ≡ Some h.0
-        → (nat_eq i j ≡ false) × IsLiveAt live j) [
+    → (nat_eq i j ≡ false) × IsLiveAt live j) [
       | true ↦ λ t e. absurd (cc)
       | false ↦ λ f e. (nat_eq_flip j i f, (h.0, e))
     ] refl h.1
@@ -286,7 +309,7 @@ deleted_means (i ∷ is) live new e =
     elim (live.clause_at i) as (λ o. live.clause_at i ≡ o → DeletesAll live (i ∷ is) new) [
       | None ↦ λ u. let z = deleted_dead live i is u in absurd (cc)
       | Some c ↦ λ u. deletes_one live new i is c u
-        (deleted_means is (less live i) new (sym (deleted_live live i is c u) ∙ e))
+          (deleted_means is (less live i) new (sym (deleted_live live i is c u) ∙ e))
     ] refl
 
 deleted_from : (ids : List ℕ) (live new : Live) → DeletesAll live ids new
@@ -294,9 +317,12 @@ deleted_from : (ids : List ℕ) (live new : Live) → DeletesAll live ids new
 deleted_from [] live new h = ap Some (sym h.2)
 deleted_from (i ∷ is) live new h =
     deleted_live live i is h.1.0.0 h.1.0.1
-    ∙ deleted_from is (less live i) new (IsDistinct-tail nat_eq i is h.0,
-        all_live_less live i is (IsDistinct-head nat_eq i is h.0) h.1.1, h.2
-        ∙ sym (left_same live i is))
+    ∙ deleted_from is (less live i) new (
+      IsDistinct-tail nat_eq i is h.0,
+      all_live_less live i is (IsDistinct-head nat_eq i is h.0) h.1.1,
+      h.2
+          ∙ sym (left_same live i is),
+    )
 
 pub deleted-Some : (live : Live) (ids : List ℕ) (lead : ℕ) (new : Live)
     → (deleted live ids ≡ Some new) ↔ Step live (DeletesLine lead ids) new
@@ -308,15 +334,16 @@ pub with_clause_sane : (live : Live) → IsSane live → (id : ℕ) (c : List Li
 with_clause_sane live s id c up single = record {
   in_range = record {
     none_at_zero =
-      cond-false (nat_eq 0 id) (Some c) (live.clause_at 0) (ne_eqb 0 id (λ z. absurd (omega arith)))
+        cond-false (nat_eq 0 id) (Some c) (live.clause_at 0)
+        (ne_eqb 0 id (λ z. absurd (omega arith)))
         ∙ s.in_range.none_at_zero;
     none_past =
-      λ i h. cond-false (nat_eq i id) (Some c) (live.clause_at i)
+        λ i h. cond-false (nat_eq i id) (Some c) (live.clause_at i)
         (ne_eqb i id (λ z. absurd (omega arith))) ∙ s.in_range.none_past i (omega arith);
   };
   none_repeats = λ i d e.
       elim (nat_eq i id) as (λ v. cond v (Some c) (live.clause_at i) ≡ Some d
-          → has_repeat d ≡ false) [
+      → has_repeat d ≡ false) [
         | true ↦ λ e. let same : c ≡ d = cc in subst (λ x. has_repeat x ≡ false) same single
         | false ↦ λ e. s.none_repeats i d e
       ] e;
@@ -326,15 +353,20 @@ pub without_ids_sane : (live : Live) → IsSane live → (ids : List ℕ) → Is
 without_ids_sane live s ids = record {
   in_range = record {
     none_at_zero =
-      elim (list_any (nat_eq 0) ids) as (λ v. cond v None (live.clause_at 0) ≡ None) [ true ↦ refl
-        | false ↦ s.in_range.none_at_zero ];
+        elim (list_any (nat_eq 0) ids) as (λ v. cond v None (live.clause_at 0) ≡ None) [
+          | true ↦ refl
+          | false ↦ s.in_range.none_at_zero
+        ];
     none_past =
-      λ i h. elim (list_any (nat_eq i) ids) as (λ v. cond v None (live.clause_at i) ≡ None) [ true ↦
-        refl | false ↦ s.in_range.none_past i h ];
+        λ i h. elim (list_any (nat_eq i) ids) as (λ v. cond v None (live.clause_at i) ≡ None) [
+          | true ↦
+              refl
+          | false ↦ s.in_range.none_past i h
+        ];
   };
   none_repeats = λ i d e.
       elim (list_any (nat_eq i) ids) as (λ v. cond v None (live.clause_at i) ≡ Some d
-          → has_repeat d ≡ false) [
+      → has_repeat d ≡ false) [
         | true ↦ λ e. absurd (cc)
         | false ↦ λ e. s.none_repeats i d e
       ] e;
@@ -359,12 +391,16 @@ numbered_single cs h (suc i) c e = no_clause_repeats cs h i c e
 
 pub start_sane : (cs : List (List Literal)) → All (λ c. has_repeat c ≡ false) cs
     → IsSane (start_of cs)
-start_sane cs h = record { in_range = record { none_at_zero = refl; none_past = numbered_past cs };
-      none_repeats = numbered_single cs h }
+start_sane cs h = record {
+  in_range = record { none_at_zero = refl; none_past = numbered_past cs };
+  none_repeats = numbered_single cs h;
+}
 
 pub addition-Step : (live : Live) → IsSane live → (id : ℕ) (c : List Literal) (hs : List (Bool × ℕ))
     (new : Live) → ((addition_fault live id c hs ≡ None) × (new ≡ with_clause live id c)) ↔ Step
     live (AddsLine id c (leading hs) (groups_of hs)) new
-addition-Step live s id c hs new =
-    (λ h. let k = (addition_fault-None live s id c hs).0 h.0 in
-        (k.0, k.1, h.1), λ h. ((addition_fault-None live s id c hs).1 (h.0, h.1), h.2))
+addition-Step live s id c hs new = (
+  λ h. let k = (addition_fault-None live s id c hs).0 h.0 in
+      (k.0, k.1, h.1),
+  λ h. ((addition_fault-None live s id c hs).1 (h.0, h.1), h.2),
+)

@@ -50,4 +50,4 @@ pub true_by : (text answer : List ℕ) (p : Problem) (r : Report) → Reads text
     → report_of answer ≡ Ok r → IsTrueOf p r.said → IsTrueResult text answer
 true_by text answer p r reads e is q said reads_q says =
     subst (λ x. IsTrueOf x said) (reads_one text p q reads reads_q)
-      (subst (λ s. IsTrueOf p s) (says_once answer r e said says) is)
+    (subst (λ s. IsTrueOf p s) (says_once answer r e said says) is)

@@ -19,8 +19,8 @@ open_none : (c A : List Literal) → open_literals A c ≡ [] → IsFalseUnder c
 open_none [] A e = tt
 open_none (l ∷ c) A e =
     elim (contains_literal (negation l) A) as (λ v. contains_literal (negation l) A ≡ v
-        → cond (not v) (l ∷ open_literals A c) (open_literals A c) ≡ []
-        → (contains_literal (negation l) A ≡ true) × IsFalseUnder c A) [
+    → cond (not v) (l ∷ open_literals A c) (open_literals A c) ≡ []
+    → (contains_literal (negation l) A ≡ true) × IsFalseUnder c A) [
       | true ↦ λ t e. (t, open_none c A e)
       | false ↦ λ t e. absurd (cc)
     ] refl e
@@ -41,26 +41,28 @@ one_open : (c A : List Literal) (l : Literal) → open_literals A c ≡ l ∷ []
 one_open [] A l e = absurd (cc)
 one_open (k ∷ c) A l e =
     elim (contains_literal (negation k) A) as (λ v. contains_literal (negation k) A ≡ v
-        → cond (not v) (k ∷ open_literals A c) (open_literals A c) ≡ l ∷ []
-        → (contains_literal l (k ∷ c) ≡ true) × (contains_literal (negation l) A ≡ false)
-        × OthersFalse (k ∷ c) A l) [
+    → cond (not v) (k ∷ open_literals A c) (open_literals A c) ≡ l ∷ []
+    → (contains_literal l (k ∷ c) ≡ true) × (contains_literal (negation l) A ≡ false)
+    × OthersFalse (k ∷ c) A l) [
       | true ↦ λ t e. let r = one_open c A l e in
-        (or_right (literal_eq l k) (contains_literal l c) r.0, r.1, (inr t, r.2))
+          (or_right (literal_eq l k) (contains_literal l c) r.0, r.1, (inr t, r.2))
       | false ↦ λ t e.
           let same : k ≡ l = cc in
-          let rest : open_literals A c ≡ [] = cc in
-          (or_left _ _ (subst (λ m. literal_eq l m ≡ true) (sym same) (literal_eq-refl l)),
-              subst (λ m. contains_literal (negation m) A ≡ false) same t,
-              (inl same, others_from_false c A l (open_none c A rest)))
+          let rest : open_literals A c ≡ [] = cc in (
+            or_left _ _ (subst (λ m. literal_eq l m ≡ true) (sym same) (literal_eq-refl l)),
+            subst (λ m. contains_literal (negation m) A ≡ false) same t,
+            (inl same, others_from_false c A l (open_none c A rest)),
+          )
     ] refl e
 
 others_false : (c A : List Literal) (l : Literal) → contains_literal l c ≡ false → OthersFalse c A l
     → IsFalseUnder c A
 others_false [] A l e o = tt
 others_false (k ∷ c) A l e o =
-    let h = or_parts (literal_eq l k) (contains_literal l c) e in
-    (elim o.0 [ inl same ↦ absurd (literal_ne l k h.0 same) | inr t ↦ t ],
-        others_false c A l h.1 o.1)
+    let h = or_parts (literal_eq l k) (contains_literal l c) e in (
+      elim o.0 [ inl same ↦ absurd (literal_ne l k h.0 same) | inr t ↦ t ],
+      others_false c A l h.1 o.1,
+    )
 
 open_one : (c A : List Literal) (l : Literal) → has_repeat c ≡ false → contains_literal l c ≡ true
     → contains_literal (negation l) A ≡ false → OthersFalse c A l → open_literals A c ≡ l ∷ []
@@ -71,17 +73,20 @@ open_one (k ∷ c) A l n m f o =
       | true ↦ λ t.
           let same : l ≡ k = literal_eq-true l k t in
           let here : contains_literal (negation k) A ≡ false =
-            subst (λ x. contains_literal (negation x) A ≡ false) same f in
+          subst (λ x. contains_literal (negation x) A ≡ false) same f in
           let gone : contains_literal l c ≡ false =
-            subst (λ x. contains_literal x c ≡ false) (sym same) h.0 in
+          subst (λ x. contains_literal x c ≡ false) (sym same) h.0 in
           rw here (ap (λ cs. k ∷ cs) (none_open c A (others_false c A l gone o.1))
-              ∙ ap (λ x. x ∷ []) (sym same))
+          ∙ ap (λ x. x ∷ []) (sym same))
       | false ↦ λ t.
           let there : contains_literal (negation k) A ≡ true =
-            elim o.0 [ inl same ↦ absurd (literal_ne l k t same) | inr y ↦ y ] in
+          elim o.0 [ inl same ↦ absurd (literal_ne l k t same) | inr y ↦ y ] in
           let later : contains_literal l c ≡ true =
-            elim (or_cases (literal_eq l k) (contains_literal l c) m) [ inl y ↦
-              absurd (both_ways _ t y) | inr y ↦ y ] in
+          elim (or_cases (literal_eq l k) (contains_literal l c) m) [
+            | inl y ↦
+                absurd (both_ways _ t y)
+            | inr y ↦ y
+          ] in
           rw there (open_one c A l h.1 later f o.1)
     ] refl
 
@@ -95,7 +100,7 @@ pub outcome_is : (c A : List Literal) → outcome_of (Some c) A ≡ outcome_on A
 unfolding outcome_on
 outcome_is c A =
     elim (open_literals A c) as (λ ys. open_literals A c ≡ ys
-        → outcome_of (Some c) A ≡ outcome_on A (open_literals A c)) [
+    → outcome_of (Some c) A ≡ outcome_on A (open_literals A c)) [
       | [] ↦ λ t. rw t refl
       | l ∷ [] ↦ λ t. rw t refl
       | l ∷ k ∷ more ↦ λ t. rw t refl
@@ -112,7 +117,7 @@ unfolding outcome_on
 conflict_on A [] e = refl
 conflict_on A (l ∷ []) e =
     elim (contains_literal l A) as (λ v. cond v NotUnit (Makes l) ≡ Conflict → (l ∷ []) ≡ [])
-      [ true ↦ λ e. absurd (cc) | false ↦ λ e. absurd (cc) ] e
+    [ true ↦ λ e. absurd (cc) | false ↦ λ e. absurd (cc) ] e
 conflict_on A (l ∷ k ∷ more) e = absurd (cc)
 
 pub makes_on : (A ys : List Literal) (l : Literal) → outcome_on A ys ≡ Makes l
@@ -121,11 +126,10 @@ unfolding outcome_on
 makes_on A [] l e = absurd (cc)
 makes_on A (k ∷ []) l e =
     elim (contains_literal k A) as (λ v. contains_literal k A ≡ v
-        → cond v NotUnit (Makes k) ≡ Makes l → ((k ∷ []) ≡ l ∷ []) × (contains_literal l A ≡ false))
-      [
+    → cond v NotUnit (Makes k) ≡ Makes l → ((k ∷ []) ≡ l ∷ []) × (contains_literal l A ≡ false)) [
       | true ↦ λ t e. absurd (cc)
       | false ↦ λ t e. let same : k ≡ l = cc in
-        (ap (λ x. x ∷ []) same, subst (λ x. contains_literal x A ≡ false) same t)
+          (ap (λ x. x ∷ []) same, subst (λ x. contains_literal x A ≡ false) same t)
     ] refl e
 makes_on A (k ∷ j ∷ more) l e = absurd (cc)
 
@@ -168,19 +172,34 @@ pub refutes_from_walk : (at : Clauses) (A : List Literal) (hs : List ℕ) → wa
 refutes_from_walk at A [] e = absurd (cc)
 refutes_from_walk at A (h ∷ hs) e =
     elim (outcome_of (at h) A) as (λ o. outcome_of (at h) A ≡ o
-        → goes_on o hs (λ l. walk at (l ∷ A) hs) ≡ Refuted → Refutes at A (h ∷ hs)) [
+    → goes_on o hs (λ l. walk at (l ∷ A) hs) ≡ Refuted → Refutes at A (h ∷ hs)) [
       | Dead ↦ λ t e. absurd (cc)
       | NotUnit ↦ λ t e. absurd (cc)
       | Conflict ↦ λ t e.
           let m = conflict_means (at h) A t in
-          record { front = []; final = h; split = ap (λ x. h ∷ x) (last_one hs _ e); reached = A;
-              leads = refl; clause = m.0; live = m.1; conflict = m.2 }
+          record {
+            front = [];
+            final = h;
+            split = ap (λ x. h ∷ x) (last_one hs _ e);
+            reached = A;
+            leads = refl;
+            clause = m.0;
+            live = m.1;
+            conflict = m.2;
+          }
       | Makes l ↦ λ t e.
           let m = makes_means (at h) A l t in
           let r = refutes_from_walk at (l ∷ A) hs e in
-          record { front = h ∷ r.front; final = r.final; split = ap (λ x. h ∷ x) r.split;
-              reached = r.reached; leads = (m.0, l, m.1, m.2, r.leads); clause = r.clause;
-              live = r.live; conflict = r.conflict }
+          record {
+            front = h ∷ r.front;
+            final = r.final;
+            split = ap (λ x. h ∷ x) r.split;
+            reached = r.reached;
+            leads = (m.0, l, m.1, m.2, r.leads);
+            clause = r.clause;
+            live = r.live;
+            conflict = r.conflict;
+          }
     ] refl e
 
 pub leads_from_walk : (at : Clauses) (A : List Literal) (hs : List ℕ) (B : List Literal)
@@ -188,12 +207,12 @@ pub leads_from_walk : (at : Clauses) (A : List Literal) (hs : List ℕ) (B : Lis
 leads_from_walk at A [] B e = cc
 leads_from_walk at A (h ∷ hs) B e =
     elim (outcome_of (at h) A) as (λ o. outcome_of (at h) A ≡ o
-        → goes_on o hs (λ l. walk at (l ∷ A) hs) ≡ Open B → Leads at A (h ∷ hs) B) [
+    → goes_on o hs (λ l. walk at (l ∷ A) hs) ≡ Open B → Leads at A (h ∷ hs) B) [
       | Dead ↦ λ t e. absurd (cc)
       | NotUnit ↦ λ t e. absurd (cc)
       | Conflict ↦ λ t e. absurd (not_open hs _ B e)
       | Makes l ↦ λ t e. let m = makes_means (at h) A l t in
-        (m.0, l, m.1, m.2, leads_from_walk at (l ∷ A) hs B e)
+          (m.0, l, m.1, m.2, leads_from_walk at (l ∷ A) hs B e)
     ] refl e
 
 -- hints that lead on are walked on
@@ -208,7 +227,7 @@ pub walk_from_refutes : (at : Clauses) (n : NoneRepeats at) (A : List Literal) (
 walk_from_refutes at n A hs r =
     ap (walk at A) r.split ∙ walk_on at n A r.front (r.final ∷ []) r.reached r.leads
     ∙ ap (λ o. goes_on o [] (λ l. Open (l ∷ r.reached))) (ap (λ x. outcome_of x r.reached) r.live
-        ∙ conflict_from r.clause r.reached r.conflict)
+    ∙ conflict_from r.clause r.reached r.conflict)
 
 pub walk_from_leads : (at : Clauses) (n : NoneRepeats at) (A : List Literal) (hs : List ℕ)
     (B : List Literal) → Leads at A hs B → walk at A hs ≡ Open B

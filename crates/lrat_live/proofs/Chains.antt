@@ -49,8 +49,11 @@ pub newest-le : (t : Test) (ks : List ℕ) → newest t ks ≤ length ks
 newest-le t [] = omega arith
 newest-le t (x ∷ ks) =
     elim (cases_zero (newest t ks)) [
-      | inl e ↦ elim (cases_Bool (t x)) [ inl h ↦ omega (arith, newest_first t x ks e h) | inr h ↦
-          omega (arith, newest_nowhere t x ks e h) ]
+      | inl e ↦ elim (cases_Bool (t x)) [
+        | inl h ↦ omega (arith, newest_first t x ks e h)
+        | inr h ↦
+            omega (arith, newest_nowhere t x ks e h)
+      ]
       | inr (n, e) ↦ omega (arith, newest-le t ks, newest_some t x ks n e)
     ]
 
@@ -60,14 +63,19 @@ pub newest_passes : (t : Test) (ks : List ℕ) (p : ℕ) → newest t ks ≡ p +
 newest_passes t [] p e = absurd (omega arith)
 newest_passes t (x ∷ ks) zero e =
     elim (cases_zero (newest t ks)) [
-      | inl u ↦ elim (cases_Bool (t x)) [ inl h ↦ h | inr h ↦
-          absurd (omega (arith, newest_nowhere t x ks u h)) ]
+      | inl u ↦ elim (cases_Bool (t x)) [
+        | inl h ↦ h
+        | inr h ↦
+            absurd (omega (arith, newest_nowhere t x ks u h))
+      ]
       | inr (n, u) ↦ absurd (omega (arith, newest_some t x ks n u))
     ]
 newest_passes t (x ∷ ks) (suc p) e =
     elim (cases_zero (newest t ks)) [
-      | inl u ↦ elim (cases_Bool (t x)) [ inl h ↦ absurd (omega (arith, newest_first t x ks u h))
-          | inr h ↦ absurd (omega (arith, newest_nowhere t x ks u h)) ]
+      | inl u ↦ elim (cases_Bool (t x)) [
+        | inl h ↦ absurd (omega (arith, newest_first t x ks u h))
+        | inr h ↦ absurd (omega (arith, newest_nowhere t x ks u h))
+      ]
       | inr (n, u) ↦ newest_passes t ks p (omega (arith, newest_some t x ks n u))
     ]
 
@@ -80,7 +88,7 @@ newest_narrow s t i (x ∷ ks) =
     elim (cases_zero (newest t ks)) [
       | inr (n, u) ↦
           let g : newest s (take (suc n) ks) ≡ newest s ks =
-            subst (λ m. newest s (take m ks) ≡ newest s ks) u h in
+          subst (λ m. newest s (take m ks) ≡ newest s ks) u h in
           rw (newest_some t x ks n u, g) refl
       | inl u ↦
           let g : 0 ≡ newest s ks = subst (λ m. newest s (take m ks) ≡ newest s ks) u h in
@@ -112,8 +120,8 @@ module _ (buckets key : ℕ) (keys : List ℕ) where
   walk_bound p w = omega (arith, w.in_chain, newest-le of_bucket (take p keys), length-take p keys)
 
   pub walk_start : (heads nexts : List ℕ) → IsChained buckets heads keys nexts
-    → bucket_of buckets key < buckets
-    → IsOnWalk buckets key keys (slice_index heads (bucket_of buckets key))
+      → bucket_of buckets key < buckets
+      → IsOnWalk buckets key keys (slice_index heads (bucket_of buckets key))
   walk_start heads nexts c h =
       let e = c.heads_at (bucket_of buckets key) h in
       record {
@@ -122,12 +130,12 @@ module _ (buckets key : ℕ) (keys : List ℕ) where
       }
 
   pub walk_found : (q : ℕ) → IsOnWalk buckets key keys (q + 1) → slice_index keys q ≡ key
-    → place_of key keys ≡ q + 1
+      → place_of key keys ≡ q + 1
   walk_found q w e =
       let l : q < length keys = omega (arith, walk_bound (q + 1) w) in
       let z : newest is_key (take (q + 1) keys) ≡ length (take q keys) + 1 =
-        rw (take_more keys q 0 l) (push_passes is_key (take q keys) (slice_index keys q)
-          (eq-eqb _ _ e)) in
+      rw (take_more keys q 0 l) (push_passes is_key (take q keys) (slice_index keys q)
+      (eq-eqb _ _ e)) in
       omega (arith, z, w.below, length-take q keys)
 
   pub walk_end : IsOnWalk buckets key keys 0 → place_of key keys ≡ 0
@@ -135,18 +143,18 @@ module _ (buckets key : ℕ) (keys : List ℕ) where
 
   -- the chain of a bucket, from one of its keys to the next older
   module _ (heads nexts : List ℕ) (c : IsChained buckets heads keys nexts) (q : ℕ)
-    (w : newest of_bucket (take (q + 1) keys) ≡ q + 1) where
+      (w : newest of_bucket (take (q + 1) keys) ≡ q + 1) where
     pub chain_bound : q < length keys
     chain_bound = omega (arith, newest-le of_bucket (take (q + 1) keys), length-take (q + 1) keys)
 
     pub chain_next : slice_index nexts q ≡ newest of_bucket (take q keys)
     chain_next =
         let same : slice_index (take (q + 1) keys) q ≡ slice_index keys q =
-          get_or-take (q + 1) keys q 0 (omega arith) in
+        get_or-take (q + 1) keys q 0 (omega arith) in
         let passes : of_bucket (slice_index keys q) ≡ true =
-          subst (λ k. of_bucket k ≡ true) same (newest_passes of_bucket (take (q + 1) keys) q w) in
+        subst (λ k. of_bucket k ≡ true) same (newest_passes of_bucket (take (q + 1) keys) q w) in
         let bucket : bucket_of buckets (slice_index keys q) ≡ bucket_of buckets key =
-          eqb-true _ _ passes in
+        eqb-true _ _ passes in
         c.nexts_at q chain_bound ∙ ap (λ b. newest (is_in_bucket buckets b) (take q keys)) bucket
 
     pub chain_falls : slice_index nexts q ≤ q
@@ -160,11 +168,11 @@ module _ (buckets key : ℕ) (keys : List ℕ) where
         ∙ newest_narrow of_bucket of_bucket (λ k z. z) (take q keys) ∙ sym chain_next)
 
     pub walk_step : IsOnWalk buckets key keys (q + 1) → slice_index keys q ≢ key
-      → IsOnWalk buckets key keys (slice_index nexts q)
+        → IsOnWalk buckets key keys (slice_index nexts q)
     walk_step on ne =
         let front : place_of key (take (q + 1) keys) ≡ place_of key (take q keys) =
-          rw (take_more keys q 0 chain_bound) (push_fails is_key (take q keys) (slice_index keys q)
-            (ne_eqb _ _ ne)) in
+        rw (take_more keys q 0 chain_bound) (push_fails is_key (take q keys) (slice_index keys q)
+        (ne_eqb _ _ ne)) in
         record {
           in_chain = chain_step;
           below = rw (← chain_cut) (ap (λ n. place_of key (take n (take q keys))) chain_next
@@ -176,49 +184,49 @@ module _ (buckets key : ℕ) (keys : List ℕ) where
 module _ (buckets : ℕ) (heads keys nexts : List ℕ) (key place : ℕ) (linked : List ℕ)
     (c : IsChained buckets heads keys nexts) (at : place ≡ length keys + 1)
     (within : bucket_of buckets key < buckets) (kept : (i : ℕ) → i < length keys
-      → slice_index linked i ≡ slice_index nexts i) (link : slice_index linked (length keys)
-      ≡ slice_index heads (bucket_of buckets key)) where
+    → slice_index linked i ≡ slice_index nexts i) (link : slice_index linked (length keys)
+    ≡ slice_index heads (bucket_of buckets key)) where
   abbrev b₀ : ℕ
   b₀ = bucket_of buckets key
 
   push_head : (b : ℕ) → b < buckets
-    → slice_index (set heads b₀ place) b ≡ newest (is_in_bucket buckets b) (keys ++ key ∷ [])
+      → slice_index (set heads b₀ place) b ≡ newest (is_in_bucket buckets b) (keys ++ key ∷ [])
   push_head b h =
       elim (cases_Bool (is_in_bucket buckets b key)) [
         | inl e ↦
             let same : b₀ ≡ b = eqb-true _ _ e in
             let there : b₀ < length heads = omega (arith, c.all) in
             let z : slice_index (set heads b₀ place) b₀ ≡ place =
-              get_or-set_same heads b₀ place 0 there in
+            get_or-set_same heads b₀ place 0 there in
             subst (λ x. slice_index (set heads b₀ place) x ≡ newest (is_in_bucket buckets b)
-                (keys ++ key ∷ [])) same (z ∙ at
-                ∙ sym (push_passes (is_in_bucket buckets b) keys key e))
+            (keys ++ key ∷ [])) same (z ∙ at
+            ∙ sym (push_passes (is_in_bucket buckets b) keys key e))
         | inr e ↦
             let other : b ≢ b₀ = λ u. eqb-false _ _ e (sym u) in
             get_or-set_other heads b₀ b place 0 other ∙ c.heads_at b h
-              ∙ sym (push_fails (is_in_bucket buckets b) keys key e)
+            ∙ sym (push_fails (is_in_bucket buckets b) keys key e)
       ]
 
   push_next : (i : ℕ) → i < length (keys ++ key ∷ [])
-    → slice_index linked i
+      → slice_index linked i
       ≡ newest (is_in_bucket buckets (bucket_of buckets (slice_index (keys ++ key ∷ []) i)))
-    (take i (keys ++ key ∷ []))
+      (take i (keys ++ key ∷ []))
   push_next i h =
       elim (cases_lt i (length keys)) [
         | inl l ↦
             let k : slice_index (keys ++ key ∷ []) i ≡ slice_index keys i =
-              get_or_append_left keys (key ∷ []) 0 i l in
+            get_or_append_left keys (key ∷ []) 0 i l in
             let t : take i (keys ++ key ∷ []) ≡ take i keys =
-              take-append-le i keys (key ∷ []) (omega arith) in
+            take-append-le i keys (key ∷ []) (omega arith) in
             rw (k, t) (kept i l ∙ c.nexts_at i l)
         | inr g ↦
             let e : length keys ≡ i = omega (arith, length_push keys key) in
             let k : slice_index (keys ++ key ∷ []) i ≡ key = get_or_push keys key 0 i e in
             let t : take i (keys ++ key ∷ []) ≡ keys = take_at keys (key ∷ []) i e in
             rw (k, t) (subst (λ n. slice_index linked n ≡ newest (is_in_bucket buckets b₀) keys) e
-                (link ∙ c.heads_at b₀ within))
+            (link ∙ c.heads_at b₀ within))
       ]
 
   pub chained_push : IsChained buckets (set heads b₀ place) (keys ++ key ∷ []) linked
   chained_push =
-    record { all = length-set heads b₀ place ∙ c.all; heads_at = push_head; nexts_at = push_next }
+      record { all = length-set heads b₀ place ∙ c.all; heads_at = push_head; nexts_at = push_next }

@@ -21,8 +21,12 @@ use Rattle.lrat_live.proofs.Chains.{newest-le, cases_zero}
 
 -- cells over flat literals, by the laws of pieces that are laid one after another
 abbrev cells : Layout Cell Literal (ℕ × List Literal)
-cells = record { start = λ c. c.start; length = λ c. c.length; live = λ c. c.live;
-      listed = λ c l. (c.id, l) }
+cells = record {
+  start = λ c. c.start;
+  length = λ c. c.length;
+  live = λ c. c.live;
+  listed = λ c l. (c.id, l);
+}
 
 pub laid_within : (from to : ℕ) (cs : List Cell) (i : ℕ) (d : Cell) → IsLaid from cs to
     → i < length cs → (get_or cs i d).start + (get_or cs i d).length ≤ to
@@ -69,7 +73,7 @@ IsCompacting = laws.IsCompacting cells
 pub compacting_all : (ls : List Literal) (cs : List Cell) (kept end i : ℕ) (value : Listed)
     → IsCompacting ls cs kept end i value → length cs ≤ i
     → (end ≤ length ls) × IsLaid 0 (take kept cs) (length (take end ls))
-      × (clauses_in (take end ls) (take kept cs) ≡ value)
+    × (clauses_in (take end ls) (take kept cs) ≡ value)
 compacting_all = laws.compacting_all cells
 
 module _ (ls : List Literal) (cs : List Cell) (kept end i : ℕ) (value : Listed) (d : Cell)
@@ -84,10 +88,10 @@ module _ (ls : List Literal) (cs : List Cell) (kept end i : ℕ) (value : Listed
   compacting_dead = laws.compacting_dead cells ls cs kept end i value d s h
 
   pub compacting_live : (z : Cell) → c.live ≡ true → z.id ≡ c.id → z.start ≡ end
-    → z.length ≡ c.length → z.live ≡ true → IsCompacting (paste ls end (drop c.start ls) c.length)
-    (set cs kept z) (kept + 1) (end + c.length) (i + 1) value
+      → z.length ≡ c.length → z.live ≡ true → IsCompacting (paste ls end (drop c.start ls) c.length)
+      (set cs kept z) (kept + 1) (end + c.length) (i + 1) value
   compacting_live z live id start long lives =
-    laws.compacting_live cells ls cs kept end i value d s h z live start long lives
+      laws.compacting_live cells ls cs kept end i value d s h z live start long lives
       (λ l. ap (λ n. (n, l)) id)
 
 -- what is listed under an id
@@ -113,7 +117,7 @@ without_none i (e ∷ es) h =
     elim (cases_Bool (e.0 == i)) [
       | inl t ↦ let z = listed_here i e es t in absurd (cc)
       | inr f ↦ without_other i e es f
-        ∙ ap (λ x. e ∷ x) (without_none i es (sym (listed_other i e es f) ∙ h))
+          ∙ ap (λ x. e ∷ x) (without_none i es (sym (listed_other i e es f) ∙ h))
     ]
 
 -- no cell has the id
@@ -127,8 +131,8 @@ listed_nowhere ls (c ∷ cs) i h =
         | inl t ↦ absurd (omega (arith, newest_first (λ k. k == i) c.id (keys_of cs) e t))
         | inr f ↦ elim (cases_Bool c.live) [
           | inl l ↦ ap (λ es. listed_at es i) (clauses_live ls c cs l)
-            ∙ listed_other i (c.id, literals_of ls c) (clauses_in ls cs) f
-            ∙ listed_nowhere ls cs i e
+              ∙ listed_other i (c.id, literals_of ls c) (clauses_in ls cs) f
+              ∙ listed_nowhere ls cs i e
           | inr l ↦ ap (λ es. listed_at es i) (clauses_dead ls c cs l) ∙ listed_nowhere ls cs i e
         ]
       ]
@@ -150,7 +154,7 @@ rises_push least (x ∷ []) k r h l = let z : x < k = l 0 (omega arith) in (r.0,
 rises_push least (x ∷ y ∷ ks) k r h l =
     let z : slice_index (y ∷ ks) (length ks) < k = l (suc (length ks)) (omega arith) in
     let up : x + 1 ≤ k =
-      omega (arith, z, rises_least (x + 1) (y ∷ ks) (length ks) r.1 (omega arith)) in
+    omega (arith, z, rises_least (x + 1) (y ∷ ks) (length ks) r.1 (omega arith)) in
     (r.0, rises_push (x + 1) (y ∷ ks) k r.1 up (λ p e. l (suc p) (omega arith)))
 
 pub rises_clauses : (ls : List Literal) (least : ℕ) (cs : List Cell) → RisesFrom least (keys_of cs)
@@ -158,10 +162,12 @@ pub rises_clauses : (ls : List Literal) (least : ℕ) (cs : List Cell) → Rises
 rises_clauses ls least [] r = tt
 rises_clauses ls least (c ∷ cs) r =
     elim (cases_Bool c.live) [
-      | inl h ↦ subst (λ es. RisesFrom least (ids_of es)) (sym (clauses_live ls c cs h)) (r.0,
-          rises_clauses ls (c.id + 1) cs r.1)
+      | inl h ↦ subst (λ es. RisesFrom least (ids_of es)) (sym (clauses_live ls c cs h)) (
+        r.0,
+        rises_clauses ls (c.id + 1) cs r.1,
+      )
       | inr h ↦ subst (λ es. RisesFrom least (ids_of es)) (sym (clauses_dead ls c cs h))
-        (laws.rises_weaker least (c.id + 1) (ids_of (clauses_in ls cs)) (omega (arith, r.0))
+          (laws.rises_weaker least (c.id + 1) (ids_of (clauses_in ls cs)) (omega (arith, r.0))
           (rises_clauses ls (c.id + 1) cs r.1))
     ]
 
@@ -176,10 +182,10 @@ later_key : (c : Cell) (cs : List Cell) (i p least : ℕ) → RisesFrom least (k
     → place_of i (keys_of cs) ≡ p + 1 → (c.id == i) ≡ false
 later_key c cs i p least r e =
     let there : slice_index (keys_of cs) p ≡ i =
-      eqb-true _ _ (newest_passes (λ k. k == i) (keys_of cs) p e) in
+    eqb-true _ _ (newest_passes (λ k. k == i) (keys_of cs) p e) in
     let in' : p < length (keys_of cs) = omega (arith, newest-le (λ k. k == i) (keys_of cs)) in
     let up : c.id + 1 ≤ slice_index (keys_of cs) p =
-      rises_least (c.id + 1) (keys_of cs) p r.1 in' in
+    rises_least (c.id + 1) (keys_of cs) p r.1 in' in
     ne_eqb c.id i (λ u. absurd (omega arith))
 
 place_first : (c : Cell) (cs : List Cell) (i : ℕ) → place_of i (keys_of (c ∷ cs)) ≡ 0 + 1
@@ -211,14 +217,14 @@ listed_live ls least [] i p d r e l = absurd (omega arith)
 listed_live ls least (c ∷ cs) i zero d r e l =
     let h = place_first c cs i e in
     ap (λ es. listed_at es i) (clauses_live ls c cs l)
-      ∙ listed_here i (c.id, literals_of ls c) (clauses_in ls cs) h.0
+    ∙ listed_here i (c.id, literals_of ls c) (clauses_in ls cs) h.0
 listed_live ls least (c ∷ cs) i (suc p) d r e l =
     let g = place_later c cs i p e in
     let f = later_key c cs i p least r g in
     let next = listed_live ls (c.id + 1) cs i p d r.1 g l in
     elim (cases_Bool c.live) [
       | inl h ↦ ap (λ es. listed_at es i) (clauses_live ls c cs h)
-        ∙ listed_other i (c.id, literals_of ls c) (clauses_in ls cs) f ∙ next
+          ∙ listed_other i (c.id, literals_of ls c) (clauses_in ls cs) f ∙ next
       | inr h ↦ ap (λ es. listed_at es i) (clauses_dead ls c cs h) ∙ next
     ]
 
@@ -235,7 +241,7 @@ listed_dead ls least (c ∷ cs) i (suc p) d r e l =
     let next = listed_dead ls (c.id + 1) cs i p d r.1 g l in
     elim (cases_Bool c.live) [
       | inl h ↦ ap (λ es. listed_at es i) (clauses_live ls c cs h)
-        ∙ listed_other i (c.id, literals_of ls c) (clauses_in ls cs) f ∙ next
+          ∙ listed_other i (c.id, literals_of ls c) (clauses_in ls cs) f ∙ next
       | inr h ↦ ap (λ es. listed_at es i) (clauses_dead ls c cs h) ∙ next
     ]
 
@@ -249,7 +255,7 @@ clauses_deleted ls least (c ∷ cs) i zero z r e l =
     let rest = without_none i (clauses_in ls cs) (listed_nowhere ls cs i h.1) in
     clauses_dead ls z cs l ∙ sym (elim (cases_Bool c.live) [
       | inl v ↦ ap (without_id i) (clauses_live ls c cs v)
-        ∙ without_here i (c.id, literals_of ls c) (clauses_in ls cs) h.0 ∙ rest
+          ∙ without_here i (c.id, literals_of ls c) (clauses_in ls cs) h.0 ∙ rest
       | inr v ↦ ap (without_id i) (clauses_dead ls c cs v) ∙ rest
     ])
 clauses_deleted ls least (c ∷ cs) i (suc p) z r e l =
@@ -258,15 +264,15 @@ clauses_deleted ls least (c ∷ cs) i (suc p) z r e l =
     let next = clauses_deleted ls (c.id + 1) cs i p z r.1 g l in
     elim (cases_Bool c.live) [
       | inl v ↦ clauses_live ls c (set cs p z) v ∙ ap (λ es. (c.id, literals_of ls c) ∷ es) next
-        ∙ sym (ap (without_id i) (clauses_live ls c cs v)
+          ∙ sym (ap (without_id i) (clauses_live ls c cs v)
           ∙ without_other i (c.id, literals_of ls c) (clauses_in ls cs) f)
       | inr v ↦ clauses_dead ls c (set cs p z) v ∙ next
-        ∙ sym (ap (without_id i) (clauses_dead ls c cs v))
+          ∙ sym (ap (without_id i) (clauses_dead ls c cs v))
     ]
 
 -- literals that stay where they are
 pub paste_stay : (ls : List Literal) (at n : ℕ) → paste ls at (drop at ls) n ≡ ls
 paste_stay ls at n =
     append_assoc (take at ls) (take n (drop at ls)) (drop (at + n) ls)
-      ∙ ap (λ xs. take at ls ++ (take n (drop at ls) ++ xs)) (sym (drop-drop n at ls))
-      ∙ ap (λ xs. take at ls ++ xs) (take-append-drop n (drop at ls)) ∙ take-append-drop at ls
+    ∙ ap (λ xs. take at ls ++ (take n (drop at ls) ++ xs)) (sym (drop-drop n at ls))
+    ∙ ap (λ xs. take at ls ++ xs) (take-append-drop n (drop at ls)) ∙ take-append-drop at ls

@@ -82,22 +82,22 @@ pub times_in-append : (l : Literal) (b c : List Literal)
 times_in-append l [] c = sym (zero_plus (times_in l c))
 times_in-append l (k ∷ b) c =
     ap (λ n. one_if (literal_eq l k) + n) (times_in-append l b c)
-      ∙ plus_plus (one_if (literal_eq l k)) (times_in l b) (times_in l c)
+    ∙ plus_plus (one_if (literal_eq l k)) (times_in l b) (times_in l c)
 
 pub times_in-more : (l k : Literal) (c : List Literal) (i : ℕ) → i < length c → k ≡ get_or c i k
     → times_in l (take (i + 1) c) ≡ times_in l (take i c) + one_if (literal_eq l k)
 times_in-more l k c i h e =
     let whole : take (i + 1) c ≡ take i c ++ k ∷ [] =
-      take_more c i k h ∙ ap (λ x. take i c ++ x ∷ []) (sym e) in
+    take_more c i k h ∙ ap (λ x. take i c ++ x ∷ []) (sym e) in
     ap (times_in l) whole ∙ times_in-append l (take i c) (k ∷ [])
-      ∙ ap (λ n. times_in l (take i c) + n) (plus_zero (one_if (literal_eq l k)))
+    ∙ ap (λ n. times_in l (take i c) + n) (plus_zero (one_if (literal_eq l k)))
 
 same_codes : (k l : Literal) → 2 * l.variable + cond l.negated 1 0 ≡ 2 * k.variable + cond k.negated
     1 0 → literal_eq k l ≡ true
 same_codes k l e = by k.variable l.variable k.negated l.negated e
   where
     by : (v w : ℕ) (a b : Bool) → 2 * w + cond b 1 0 ≡ 2 * v + cond a 1 0
-      → ((v == w) && same_bool a b) ≡ true
+        → ((v == w) && same_bool a b) ≡ true
     by v w true true e = and_from _ _ (eq-eqb v w (omega arith)) refl
     by v w false false e = and_from _ _ (eq-eqb v w (omega arith)) refl
     by v w true false e = absurd (omega arith)
@@ -110,7 +110,7 @@ ne_codes k l h =
     false_from_ne_true _ (λ e.
     let same : k ≡ l = literal_eq-true k l e in
     both_ways _ (not-true _ h)
-      (eq-eqb _ _ (ap (λ m. 2 * m.variable + cond m.negated 1 0) (sym same))))
+    (eq-eqb _ _ (ap (λ m. 2 * m.variable + cond m.negated 1 0) (sym same))))
 
 pub times_in-passed : (l k : Literal) (c : List Literal) (i : ℕ) → i < length c → k ≡ get_or c i k
     → not ((2 * k.variable + cond k.negated 1 0) == (2 * l.variable + cond l.negated 1 0)) ≡ true
@@ -118,14 +118,14 @@ pub times_in-passed : (l k : Literal) (c : List Literal) (i : ℕ) → i < lengt
 times_in-passed l k c i h e ne =
     let none : one_if (literal_eq l k) ≡ 0 = ap one_if (ne_codes l k ne) in
     times_in-more l k c i h e ∙ ap (λ n. times_in l (take i c) + n) none
-      ∙ plus_zero (times_in l (take i c))
+    ∙ plus_zero (times_in l (take i c))
 
 pub times_in-found : (l k : Literal) (c : List Literal) (i : ℕ) → i < length c → k ≡ get_or c i k
     → not ((2 * k.variable + cond k.negated 1 0) == (2 * l.variable + cond l.negated 1 0)) ≡ false
     → times_in l (take (i + 1) c) ≡ times_in l (take i c) + 1
 times_in-found l k c i h e same =
     let one : one_if (literal_eq l k) ≡ 1 =
-      ap one_if (same_codes l k (eqb-true _ _ (not-false _ same))) in
+    ap one_if (same_codes l k (eqb-true _ _ (not-false _ same))) in
     times_in-more l k c i h e ∙ ap (λ n. times_in l (take i c) + n) one
 
 times_none : (l : Literal) (c : List Literal) → contains_literal l c ≡ false → times_in l c ≡ 0
@@ -152,10 +152,10 @@ one_at l k p q =
       | inl e ↦
           let same : l ≡ k = index_same l k p q e in
           ap one_if (eq-eqb _ _ e)
-            ∙ sym (ap one_if (ap (literal_eq l) (sym same) ∙ literal_eq-refl l))
+          ∙ sym (ap one_if (ap (literal_eq l) (sym same) ∙ literal_eq-refl l))
       | inr n ↦
           ap one_if (ne_eqb _ _ n)
-            ∙ sym (ap one_if (false_from_ne_true _ (λ t. n (ap index_of (literal_eq-true l k t)))))
+          ∙ sym (ap one_if (false_from_ne_true _ (λ t. n (ap index_of (literal_eq-true l k t)))))
     ]
 
 -- one literal of the clause more
@@ -166,14 +166,14 @@ set_more xs i n h e p =
       | inl same ↦
           let one : one_if (p == i) ≡ 1 = ap one_if (eq-eqb p i same) in
           let here : slice_index (set xs i n) p ≡ n =
-            subst (λ k. slice_index (set xs i n) k ≡ n) (sym same) (get_or-set_same xs i n 0 h) in
+          subst (λ k. slice_index (set xs i n) k ≡ n) (sym same) (get_or-set_same xs i n 0 h) in
           let there : slice_index xs p ≡ slice_index xs i = ap (slice_index xs) same in
           more_here (slice_index (set xs i n) p) n (slice_index xs p) (slice_index xs i)
-            (one_if (p == i)) here there e one
+          (one_if (p == i)) here there e one
       | inr other ↦
           let none : one_if (p == i) ≡ 0 = ap one_if (ne_eqb p i other) in
           let here : slice_index (set xs i n) p ≡ slice_index xs p =
-            get_or-set_other xs i p n 0 other in
+          get_or-set_other xs i p n 0 other in
           more_there (slice_index (set xs i n) p) (slice_index xs p) (one_if (p == i)) here none
     ]
 
@@ -184,14 +184,14 @@ set_less xs i n h e p =
       | inl same ↦
           let one : one_if (p == i) ≡ 1 = ap one_if (eq-eqb p i same) in
           let here : slice_index (set xs i n) p ≡ n =
-            subst (λ k. slice_index (set xs i n) k ≡ n) (sym same) (get_or-set_same xs i n 0 h) in
+          subst (λ k. slice_index (set xs i n) k ≡ n) (sym same) (get_or-set_same xs i n 0 h) in
           let there : slice_index xs p ≡ slice_index xs i = ap (slice_index xs) same in
           less_here (slice_index (set xs i n) p) n (slice_index xs p) (slice_index xs i)
-            (one_if (p == i)) here there e one
+          (one_if (p == i)) here there e one
       | inr other ↦
           let none : one_if (p == i) ≡ 0 = ap one_if (ne_eqb p i other) in
           let here : slice_index (set xs i n) p ≡ slice_index xs p =
-            get_or-set_other xs i p n 0 other in
+          get_or-set_other xs i p n 0 other in
           less_there (slice_index (set xs i n) p) (slice_index xs p) (one_if (p == i)) here none
     ]
 
@@ -202,7 +202,7 @@ none_less xs i e p =
     elim (cases_eq p i) [
       | inl same ↦ none_here (slice_index xs p) (one_if (p == i)) (ap (slice_index xs) same ∙ e)
       | inr other ↦ less_there (slice_index xs p) (slice_index xs p) (one_if (p == i)) refl
-        (ap one_if (ne_eqb p i other))
+          (ap one_if (ne_eqb p i other))
     ]
 
 -- a longer table, with none past its end before
@@ -228,8 +228,8 @@ pub raised_more : (old mid new : List ℕ) (c : List Literal) (i : ℕ) (k : Lit
     → AreRaised old (take (i + 1) c) new
 raised_more old mid new c i k r h e positive step = λ l p.
     raise_sum (slice_index new (index_of l)) (slice_index mid (index_of l))
-      (slice_index old (index_of l)) (one_if (index_of l == index_of k)) (one_if (literal_eq l k))
-      (times_in l (take i c)) (times_in l (take (i + 1) c))
+    (slice_index old (index_of l)) (one_if (index_of l == index_of k)) (one_if (literal_eq l k))
+    (times_in l (take i c)) (times_in l (take (i + 1) c))
     (step (index_of l)) (one_at l k p positive) (r l p) (times_in-more l k c i h e)
 
 pub lowered_none : (old : List ℕ) (c : List Literal) → AreLowered old (take 0 c) old
@@ -242,8 +242,8 @@ pub lowered_more : (old mid new : List ℕ) (c : List Literal) (i : ℕ) (k : Li
     → AreLowered old (take (i + 1) c) new
 lowered_more old mid new c i k r h e positive step = λ l p.
     lower_sum (slice_index new (index_of l)) (slice_index mid (index_of l))
-      (slice_index old (index_of l)) (one_if (index_of l == index_of k)) (one_if (literal_eq l k))
-      (times_in l (take i c)) (times_in l (take (i + 1) c))
+    (slice_index old (index_of l)) (one_if (index_of l == index_of k)) (one_if (literal_eq l k))
+    (times_in l (take i c)) (times_in l (take (i + 1) c))
     (step (index_of l)) (one_at l k p positive) (r l p) (times_in-more l k c i h e)
 
 -- in all clauses
@@ -256,7 +256,7 @@ pub counts_push : (old new : List ℕ) (es : Listed) (id : ℕ) (c : List Litera
     → AreRaised old c new → AreCounts new (es ++ (id, c) ∷ [])
 counts_push old new es id c a r = λ l p.
     r l p ∙ ap (λ n. n + times_in l c) (a l p)
-      ∙ sym (times-append l es ((id, c) ∷ []) ∙ ap (λ n. times l es + n) (plus_zero (times_in l c)))
+    ∙ sym (times-append l es ((id, c) ∷ []) ∙ ap (λ n. times l es + n) (plus_zero (times_in l c)))
 
 times_kept : (l : Literal) (i : ℕ) (es : Listed) → AllByRecursion (λ y. i < y) (ids_of es)
     → without_id i es ≡ es
@@ -273,20 +273,20 @@ times_without l i (x ∷ es) c r e =
       | inl t ↦
           let test : (x.0 == i) ≡ true = eq-eqb x.0 i t in
           let here : Some x.1 ≡ Some c = sym (cond-true (x.0 == i) (Some x.1) (listed_at es i) test)
-            ∙ e in
+          ∙ e in
           let same : x.1 ≡ c = ap (λ o. or_empty o) here in
           let all : without_id i es ≡ es =
-            times_kept l i es (subst (λ n. AllByRecursion (λ y. n < y) (ids_of es)) t r.0) in
+          times_kept l i es (subst (λ n. AllByRecursion (λ y. n < y) (ids_of es)) t r.0) in
           let n : times_in l x.1 ≡ times_in l c = ap (times_in l) same in
           rw test (ap (times l) all ∙ minus_first (times_in l x.1) (times l es) (times_in l c) n)
       | inr f ↦
           let test : (x.0 == i) ≡ false = ne_eqb x.0 i f in
           let there : listed_at es i ≡ Some c =
-            sym (cond-false (x.0 == i) (Some x.1) (listed_at es i) test) ∙ e in
+          sym (cond-false (x.0 == i) (Some x.1) (listed_at es i) test) ∙ e in
           let h = times_without l i es c r.1 there in
           let le = times_le l i es c there in
           rw test (minus_later (times_in l x.1) (times l (without_id i es)) (times l es)
-              (times_in l c) h le)
+          (times_in l c) h le)
     ]
   where
     or_empty : Option (List Literal) → List Literal
@@ -294,18 +294,18 @@ times_without l i (x ∷ es) c r e =
     or_empty (Some c) = c
 
     times_le : (l : Literal) (i : ℕ) (es : Listed) (c : List Literal) → listed_at es i ≡ Some c
-      → times_in l c ≤ times l es
+        → times_in l c ≤ times l es
     times_le l i [] c e = let z = e in absurd (cc)
     times_le l i (x ∷ es) c e =
         elim (cases_eq x.0 i) [
           | inl t ↦
               let here : Some x.1 ≡ Some c =
-                sym (cond-true (x.0 == i) (Some x.1) (listed_at es i) (eq-eqb x.0 i t)) ∙ e in
+              sym (cond-true (x.0 == i) (Some x.1) (listed_at es i) (eq-eqb x.0 i t)) ∙ e in
               let n : times_in l x.1 ≡ times_in l c = ap (λ o. times_in l (or_empty o)) here in
               le_first (times_in l x.1) (times l es) (times_in l c) n
           | inr f ↦
               let there : listed_at es i ≡ Some c =
-                sym (cond-false (x.0 == i) (Some x.1) (listed_at es i) (ne_eqb x.0 i f)) ∙ e in
+              sym (cond-false (x.0 == i) (Some x.1) (listed_at es i) (ne_eqb x.0 i f)) ∙ e in
               le_later (times_in l x.1) (times l es) (times_in l c) (times_le l i es c there)
         ]
 
@@ -374,7 +374,7 @@ taken_le l count before left es [] above r a e = let z : left ≡ 0 = eqb-true l
 taken_le l count before left [] (i ∷ is) above r a e =
     elim (cases_Bool (is_next before i (count i) left)) [
       | inl t ↦ let p = next_parts before i (count i) left t in let z : count i ≡ 0 = a i p.0 in
-        absurd (omega (arith, p.1, z))
+          absurd (omega (arith, p.1, z))
       | inr f ↦ absurd (both_ways _ (take_stops count left before i is f) e)
     ]
 taken_le l count before left ((j, c) ∷ es) (i ∷ is) above r a e =
@@ -383,28 +383,28 @@ taken_le l count before left ((j, c) ∷ es) (i ∷ is) above r a e =
       | inl t ↦
           let p = next_parts before i (count i) left t in
           let rest : take_all count (left - count i) i is ≡ true =
-            sym (take_on count left before i is t) ∙ e in
+          sym (take_on count left before i is t) ∙ e in
           elim (cases_eq i j) [
             | inl same ↦
                 let n : count i ≡ times_in l c = a i p.0 ∙ times_here l j c es i same in
                 let from_j : take_all count (left - count i) j is ≡ true =
-                  subst (λ k. take_all count (left - count i) k is ≡ true) same rest in
+                subst (λ k. take_all count (left - count i) k is ≡ true) same rest in
                 let h =
-                  taken_le l count j (left - count i) es is r.0 r.1
-                    (agrees_after l count before j c es above.0 a) from_j in
+                taken_le l count j (left - count i) es is r.0 r.1
+                (agrees_after l count before j c es above.0 a) from_j in
                 omega (arith, h, n, p.2)
             | inr other ↦ elim (cases_lt i j) [
               | inl lt ↦
                   let z : count i ≡ 0 = a i p.0 ∙ times_there l j c es i other
-                    ∙ above_all l i es (higher i j (ids_of es) lt r.0) in
+                  ∙ above_all l i es (higher i j (ids_of es) lt r.0) in
                   absurd (omega (arith, p.1, z))
               | inr ge ↦
                   let past : j < i = omega arith in
                   let again : take_all count left j (i ∷ is) ≡ true =
-                    take_on count left j i is (next_from j i (count i) left past p.1 p.2) ∙ rest in
+                  take_on count left j i is (next_from j i (count i) left past p.1 p.2) ∙ rest in
                   let h =
-                    taken_le l count j left es (i ∷ is) r.0 r.1
-                      (agrees_after l count before j c es above.0 a) again in
+                  taken_le l count j left es (i ∷ is) r.0 r.1
+                  (agrees_after l count before j c es above.0 a) again in
                   omega (arith, h)
             ]
           ]
@@ -425,7 +425,7 @@ agrees_none : (l : Literal) (count : ℕ → ℕ) (before j : ℕ) (c : List Lit
 agrees_none l count before j c es none above a = λ i lt.
     elim (cases_eq i j) [
       | inl same ↦ a i lt ∙ times_here l j c es i same ∙ times_none l c none
-        ∙ sym (subst (λ k. times_at l es k ≡ 0) (sym same) (above_all l j es above))
+          ∙ sym (subst (λ k. times_at l es k ≡ 0) (sym same) (above_all l j es above))
       | inr other ↦ a i lt ∙ times_there l j c es i other
     ]
 
@@ -445,16 +445,17 @@ taken_are_all l count before ((j, c) ∷ es) ids above r a =
           let total : times l ((j, c) ∷ es) ≡ times l es = omega (arith, zero_in) in
           ap (λ n. take_all count n before ids) total
           ∙ taken_are_all l count before es ids above.1 r.1
-            (agrees_none l count before j c es none r.0 a)
+          (agrees_none l count before j c es none r.0 a)
           ∙ ap (same_ids ids) (sym (listed_no l j c es none))
       | inl has ↦ named l count before j c es ids above r a has
-        (λ is. taken_are_all l count j es is r.0 r.1 (agrees_after l count before j c es above.0 a))
-        ∙ ap (same_ids ids) (sym (listed_yes l j c es has))
+          (λ is. taken_are_all l count j es is r.0 r.1
+          (agrees_after l count before j c es above.0 a))
+          ∙ ap (same_ids ids) (sym (listed_yes l j c es has))
     ]
   where
     named : (l : Literal) (count : ℕ → ℕ) (before j : ℕ) (c : List Literal) (es : Listed)
-      (ids : List ℕ) → AllByRecursion (λ y. before < y) (j ∷ ids_of es) → Rises (j ∷ ids_of es)
-      → Agrees l count before ((j, c) ∷ es) → contains_literal l c ≡ true
+        (ids : List ℕ) → AllByRecursion (λ y. before < y) (j ∷ ids_of es) → Rises (j ∷ ids_of es)
+        → Agrees l count before ((j, c) ∷ es) → contains_literal l c ≡ true
         → ((is : List ℕ) → take_all count (times l es) j is ≡ same_ids is (ids_listed l es))
         → take_all count (times_in l c + times l es) before ids ≡ same_ids ids (j ∷ ids_listed l es)
     named l count before j c es [] above r a has rest_all =
@@ -467,8 +468,8 @@ taken_are_all l count before ((j, c) ∷ es) ids above r a =
               let up : before < i = omega (arith, above.0) in
               let n : count i ≡ times_in l c = a i up ∙ times_here l j c es i same in
               let next : is_next before i (count i) (times_in l c + times l es) ≡ true =
-                next_from before i (count i) (times_in l c + times l es) up (omega (arith, n, some))
-                  (omega (arith, n)) in
+              next_from before i (count i) (times_in l c + times l es) up (omega (arith, n, some))
+              (omega (arith, n)) in
               let left : times_in l c + times l es - count i ≡ times l es = omega (arith, n) in
               take_on count (times_in l c + times l es) before i is next
               ∙ ap (λ k. take_all count k i is) left
@@ -477,28 +478,28 @@ taken_are_all l count before ((j, c) ∷ es) ids above r a =
               ∙ sym (ap (λ b. b && same_ids is (ids_listed l es)) (eq-eqb i j same))
           | inr other ↦
               let no : same_ids (i ∷ is) (j ∷ ids_listed l es) ≡ false =
-                ap (λ b. b && same_ids is (ids_listed l es)) (ne_eqb i j other) in
+              ap (λ b. b && same_ids is (ids_listed l es)) (ne_eqb i j other) in
               false_from_ne_true _ (λ t.
               elim (cases_Bool (is_next before i (count i) (times_in l c + times l es))) [
                 | inr f ↦ both_ways _ (take_stops count (times_in l c + times l es) before i is f) t
                 | inl next ↦
                     let p = next_parts before i (count i) (times_in l c + times l es) next in
                     let rest : take_all count (times_in l c + times l es - count i) i is ≡ true =
-                      sym (take_on count (times_in l c + times l es) before i is next) ∙ t in
+                    sym (take_on count (times_in l c + times l es) before i is next) ∙ t in
                     elim (cases_lt i j) [
                       | inl lt ↦
                           let z : count i ≡ 0 = a i p.0 ∙ times_there l j c es i other
-                            ∙ above_all l i es (higher i j (ids_of es) lt r.0) in
+                          ∙ above_all l i es (higher i j (ids_of es) lt r.0) in
                           absurd (omega (arith, p.1, z))
                       | inr ge ↦
                           let past : j < i = omega arith in
                           let again : take_all count (times_in l c + times l es) j (i ∷ is) ≡ true =
-                            take_on count (times_in l c + times l es) j i is
-                              (next_from j i (count i) (times_in l c + times l es) past p.1 p.2)
-                              ∙ rest in
+                          take_on count (times_in l c + times l es) j i is
+                          (next_from j i (count i) (times_in l c + times l es) past p.1 p.2)
+                          ∙ rest in
                           let h =
-                            taken_le l count j (times_in l c + times l es) es (i ∷ is) r.0 r.1
-                              (agrees_after l count before j c es above.0 a) again in
+                          taken_le l count j (times_in l c + times l es) es (i ∷ is) r.0 r.1
+                          (agrees_after l count before j c es above.0 a) again in
                           absurd (omega (arith, h, some))
                     ]
               ]) ∙ sym no
@@ -518,21 +519,23 @@ pub more_dead : (ls : List Literal) (es : List Entry) (i : ℕ) (d : Entry) → 
     (cells_of (take i es))
 more_dead ls es i d h dead =
     ap (clauses_in ls) (more_cells es i d h)
-      ∙ clauses-append ls (cells_of (take i es)) (cell_of (get_or es i d) ∷ [])
-      ∙ ap (λ cs. clauses_in ls (cells_of (take i es)) ++ cs)
-      (clauses_dead ls (cell_of (get_or es i d)) [] dead)
-      ∙ append-nil (clauses_in ls (cells_of (take i es)))
+    ∙ clauses-append ls (cells_of (take i es)) (cell_of (get_or es i d) ∷ [])
+    ∙ ap (λ cs. clauses_in ls (cells_of (take i es)) ++ cs)
+    (clauses_dead ls (cell_of (get_or es i d)) [] dead)
+    ∙ append-nil (clauses_in ls (cells_of (take i es)))
 
 pub more_live : (ls : List Literal) (es : List Entry) (i : ℕ) (d : Entry) → i < length es
     → (get_or es i d).live ≡ true
     → clauses_in ls (cells_of (take (i + 1) es)) ≡ clauses_in ls (cells_of (take i es))
-      ++ ((get_or es i d).id,
-        slice_range ls (get_or es i d).start ((get_or es i d).start + (get_or es i d).length)) ∷ []
+    ++ (
+      (get_or es i d).id,
+      slice_range ls (get_or es i d).start ((get_or es i d).start + (get_or es i d).length),
+    ) ∷ []
 more_live ls es i d h live =
     ap (clauses_in ls) (more_cells es i d h)
-      ∙ clauses-append ls (cells_of (take i es)) (cell_of (get_or es i d) ∷ [])
-      ∙ ap (λ cs. clauses_in ls (cells_of (take i es)) ++ cs)
-      (clauses_live ls (cell_of (get_or es i d)) [] live)
+    ∙ clauses-append ls (cells_of (take i es)) (cell_of (get_or es i d) ∷ [])
+    ∙ ap (λ cs. clauses_in ls (cells_of (take i es)) ++ cs)
+    (clauses_live ls (cell_of (get_or es i d)) [] live)
 
 -- the candidates of a line
 pub agrees_start : (l : Literal) (es : Listed) → All (λ e. 0 < e.0) es → Rises (ids_of es)
@@ -543,7 +546,7 @@ agrees_start l es from_one r ids =
     positive : (es : Listed) → All (λ e. 0 < e.0) es → AllByRecursion (λ y. 0 < y) (ids_of es)
     positive [] h = tt
     positive (e ∷ es) h =
-      (All-head (λ x. 0 < x.0) e es h, positive es (All-tail (λ x. 0 < x.0) e es h))
+        (All-head (λ x. 0 < x.0) e es h, positive es (All-tail (λ x. 0 < x.0) e es h))
 
 -- the walk over the ids
 drop_here : (ids : List ℕ) (k i : ℕ) → k < length ids → i ≡ get_or ids k 0
@@ -556,7 +559,7 @@ pub taken_step : (count : ℕ → ℕ) (left before : ℕ) (ids : List ℕ) (k i
 taken_step count left before ids k i n h e same next =
     ap (take_all count left before) (drop_here ids k i h e)
     ∙ take_on count left before i (drop (k + 1) ids)
-      (subst (λ m. is_next before i m left ≡ true) same next)
+    (subst (λ m. is_next before i m left ≡ true) same next)
     ∙ ap (λ m. take_all count (left - m) i (drop (k + 1) ids)) (sym same)
 
 pub taken_stop : (count : ℕ → ℕ) (left before : ℕ) (ids : List ℕ) (k i n : ℕ) → k < length ids
@@ -565,7 +568,7 @@ pub taken_stop : (count : ℕ → ℕ) (left before : ℕ) (ids : List ℕ) (k i
 taken_stop count left before ids k i n h e same stop =
     ap (take_all count left before) (drop_here ids k i h e)
     ∙ take_stops count left before i (drop (k + 1) ids)
-      (subst (λ m. is_next before i m left ≡ false) same stop)
+    (subst (λ m. is_next before i m left ≡ false) same stop)
 
 pub left_enough : (before i n left : ℕ) → is_next before i n left ≡ true → n ≤ left
 left_enough before i n left e = (next_parts before i n left e).2

@@ -21,7 +21,7 @@ given_before n [] fs i h = refl
 given_before n (c ∷ cs) [] i h = refl
 given_before n (c ∷ cs) (true ∷ fs) i h =
     listed_there (n, c) (given_from (n + 1) cs fs) i (λ z. absurd (omega arith))
-      ∙ given_before (n + 1) cs fs i (omega arith)
+    ∙ given_before (n + 1) cs fs i (omega arith)
 given_before n (c ∷ cs) (false ∷ fs) i h = given_before (n + 1) cs fs i (omega arith)
 
 given_at : (n : ℕ) (cs : List (List Literal)) (fs : List Bool) (k i : ℕ) (c : List Literal)
@@ -34,7 +34,7 @@ given_at n (d ∷ cs) (true ∷ fs) zero i c e t h =
 given_at n (d ∷ cs) (false ∷ fs) zero i c e t h = absurd (false≢true t)
 given_at n (d ∷ cs) (true ∷ fs) (suc k) i c e t h =
     listed_there (n, d) (given_from (n + 1) cs fs) i (λ z. absurd (omega arith))
-      ∙ given_at (n + 1) cs fs k i c (omega arith) t h
+    ∙ given_at (n + 1) cs fs k i c (omega arith) t h
 given_at n (d ∷ cs) (false ∷ fs) (suc k) i c e t h = given_at (n + 1) cs fs k i c (omega arith) t h
 
 given_gone : (n : ℕ) (cs : List (List Literal)) (fs : List Bool) (k i : ℕ) → i ≡ n + k
@@ -45,7 +45,7 @@ given_gone n (d ∷ cs) (true ∷ fs) zero i e t = absurd (false≢true (sym t))
 given_gone n (d ∷ cs) (false ∷ fs) zero i e t = given_before (n + 1) cs fs i (omega arith)
 given_gone n (d ∷ cs) (true ∷ fs) (suc k) i e t =
     listed_there (n, d) (given_from (n + 1) cs fs) i (λ z. absurd (omega arith))
-      ∙ given_gone (n + 1) cs fs k i (omega arith) t
+    ∙ given_gone (n + 1) cs fs k i (omega arith) t
 given_gone n (d ∷ cs) (false ∷ fs) (suc k) i e t = given_gone (n + 1) cs fs k i (omega arith) t
 
 pub given-le : (n : ℕ) (cs : List (List Literal)) (fs : List Bool)
@@ -81,12 +81,12 @@ given_set n [] fs k i e = refl
 given_set n (d ∷ cs) [] k i e = refl
 given_set n (d ∷ cs) (true ∷ fs) zero i e =
     sym (without_here i d (given_from (n + 1) cs fs) n (omega arith)
-      (given_before (n + 1) cs fs i (omega arith)))
+    (given_before (n + 1) cs fs i (omega arith)))
 given_set n (d ∷ cs) (false ∷ fs) zero i e =
     sym (without_none i (given_from (n + 1) cs fs) (given_before (n + 1) cs fs i (omega arith)))
 given_set n (d ∷ cs) (true ∷ fs) (suc k) i e =
     ap (λ es. (n, d) ∷ es) (given_set (n + 1) cs fs k i (omega arith))
-      ∙ sym (without_there i d (given_from (n + 1) cs fs) n (λ z. absurd (omega arith)))
+    ∙ sym (without_there i d (given_from (n + 1) cs fs) n (λ z. absurd (omega arith)))
 given_set n (d ∷ cs) (false ∷ fs) (suc k) i e = given_set (n + 1) cs fs k i (omega arith)
 
 pub given_without : (cs : List (List Literal)) (fs : List Bool) (k i : ℕ) → i ≡ k + 1
@@ -95,7 +95,7 @@ given_without cs fs k i e = given_set 1 cs fs k i (omega arith)
 
 -- at first all are live
 pub given_all : (n : ℕ) (cs : List (List Literal)) → given_from n cs (replicate (length cs) true)
-      ≡ listed_from n cs
+    ≡ listed_from n cs
 given_all n [] = refl
 given_all n (c ∷ cs) = ap (λ es. (n, c) ∷ es) (given_all (n + 1) cs)
 
@@ -109,11 +109,11 @@ given_next n (d ∷ cs) [] c b e = absurd (omega arith)
 given_next n (d ∷ cs) (true ∷ fs) c b e =
     let same : (n + 1) + length cs ≡ n + length (d ∷ cs) = omega arith in
     ap (λ es. (n, d) ∷ es) (given_next (n + 1) cs fs c b (omega arith)
-        ∙ ap (λ m. given_from (n + 1) cs fs ++ given_from m (c ∷ []) (b ∷ [])) same)
+    ∙ ap (λ m. given_from (n + 1) cs fs ++ given_from m (c ∷ []) (b ∷ [])) same)
 given_next n (d ∷ cs) (false ∷ fs) c b e =
     let same : (n + 1) + length cs ≡ n + length (d ∷ cs) = omega arith in
     given_next (n + 1) cs fs c b (omega arith)
-      ∙ ap (λ m. given_from (n + 1) cs fs ++ given_from m (c ∷ []) (b ∷ [])) same
+    ∙ ap (λ m. given_from (n + 1) cs fs ++ given_from m (c ∷ []) (b ∷ [])) same
 
 -- the clauses of the first places
 abbrev pub given_to : List (List Literal) → List Bool → ℕ → Listed
@@ -124,24 +124,24 @@ first_more : (cs : List (List Literal)) (fs : List Bool) (i : ℕ) → length fs
     (1 + length (take i cs)) (get_or cs i [] ∷ []) (get_or fs i false ∷ [])
 first_more cs fs i long h =
     ap (λ xs. given_from 1 xs (take (i + 1) fs)) (take_more cs i [] h)
-      ∙ ap (given_from 1 (take i cs ++ get_or cs i [] ∷ [])) (take_more fs i false (omega arith))
+    ∙ ap (given_from 1 (take i cs ++ get_or cs i [] ∷ [])) (take_more fs i false (omega arith))
     ∙ given_next 1 (take i cs) (take i fs) (get_or cs i []) (get_or fs i false)
-      (omega (arith, length-take i cs, length-take i fs))
+    (omega (arith, length-take i cs, length-take i fs))
 
 pub first_gone : (cs : List (List Literal)) (fs : List Bool) (i : ℕ) → length fs ≡ length cs
     → i < length cs → get_or fs i false ≡ false → given_to cs fs (i + 1) ≡ given_to cs fs i
 first_gone cs fs i long h gone =
     first_more cs fs i long h
-      ∙ ap (λ x. given_to cs fs i ++ given_from (1 + length (take i cs)) (get_or cs i [] ∷ [])
-        (x ∷ [])) gone ∙ append-nil (given_to cs fs i)
+    ∙ ap (λ x. given_to cs fs i ++ given_from (1 + length (take i cs)) (get_or cs i [] ∷ [])
+    (x ∷ [])) gone ∙ append-nil (given_to cs fs i)
 
 pub first_live : (cs : List (List Literal)) (fs : List Bool) (i : ℕ) → length fs ≡ length cs
     → i < length cs → get_or fs i false ≡ true
     → given_to cs fs (i + 1) ≡ given_to cs fs i ++ (1 + length (take i cs), get_or cs i []) ∷ []
 first_live cs fs i long h live =
     first_more cs fs i long h
-      ∙ ap (λ x. given_to cs fs i ++ given_from (1 + length (take i cs)) (get_or cs i [] ∷ [])
-        (x ∷ [])) live
+    ∙ ap (λ x. given_to cs fs i ++ given_from (1 + length (take i cs)) (get_or cs i [] ∷ [])
+    (x ∷ [])) live
 
 pub first_all : (cs : List (List Literal)) (fs : List Bool) (i : ℕ) → length fs ≡ length cs
     → length fs ≤ i → given_to cs fs i ≡ given_from 1 cs fs
@@ -156,7 +156,7 @@ listed_first (x ∷ xs) ys i c e =
     elim (cases_eq x.0 i) [
       | inl t ↦ listed_here x (xs ++ ys) i t ∙ sym (listed_here x xs i t) ∙ e
       | inr f ↦ listed_there x (xs ++ ys) i f
-        ∙ listed_first xs ys i c (sym (listed_there x xs i f) ∙ e)
+          ∙ listed_first xs ys i c (sym (listed_there x xs i f) ∙ e)
     ]
 
 pub listed_second : (xs ys : Listed) (i : ℕ) → listed_at xs i ≡ None
@@ -166,7 +166,7 @@ listed_second (x ∷ xs) ys i e =
     elim (cases_eq x.0 i) [
       | inl t ↦ (let found : Some x.1 ≡ None = sym (listed_here x xs i t) ∙ e in absurd (cc))
       | inr f ↦ listed_there x (xs ++ ys) i f
-        ∙ listed_second xs ys i (sym (listed_there x xs i f) ∙ e)
+          ∙ listed_second xs ys i (sym (listed_there x xs i f) ∙ e)
     ]
 
 pub without-append : (i : ℕ) (xs ys : Listed)
@@ -174,7 +174,7 @@ pub without-append : (i : ℕ) (xs ys : Listed)
 without-append i [] ys = refl
 without-append i (x ∷ xs) ys =
     elim (not (x.0 == i)) as (λ v. cond v (x ∷ without_id i (xs ++ ys)) (without_id i (xs ++ ys))
-        ≡ cond v (x ∷ without_id i xs) (without_id i xs) ++ without_id i ys) [
+    ≡ cond v (x ∷ without_id i xs) (without_id i xs) ++ without_id i ys) [
       | true ↦ ap (λ es. x ∷ es) (without-append i xs ys)
       | false ↦ without-append i xs ys
     ]
@@ -205,8 +205,8 @@ pub left_first : (i : ℕ) (xs ys : Listed) → IsRising (xs ++ ys) → IsSome (
 left_first i xs ys r h =
     let d = some_of (listed_at xs i) h in
     ap (λ es. without_id i xs ++ es)
-      (sym (without_none i ys (once xs ys i d.0 (rises_from (xs ++ ys) r) d.1)))
-      ∙ sym (without-append i xs ys)
+    (sym (without_none i ys (once xs ys i d.0 (rises_from (xs ++ ys) r) d.1)))
+    ∙ sym (without-append i xs ys)
 
 pub left_second : (i : ℕ) (xs ys : Listed)
     → without_id i xs ++ without_id i ys ≡ without_id i (xs ++ ys)
@@ -224,14 +224,14 @@ flag_within (f ∷ fs) (suc k) t = omega (arith, flag_within fs k t)
 
 -- a flag that is set has its clause
 clause_at : (cs : List (List Literal)) (k : ℕ) → k < length cs → (c : List Literal)
-      × (slice_get cs k ≡ Some c)
+    × (slice_get cs k ≡ Some c)
 clause_at [] k h = absurd (omega arith)
 clause_at (c ∷ cs) zero h = (c, refl)
 clause_at (c ∷ cs) (suc k) h = clause_at cs k (omega arith)
 
 pub given_is_some : (cs : List (List Literal)) (fs : List Bool) (k i : ℕ) → length fs ≡ length cs
     → i ≡ k + 1 → slice_index_or fs k false ≡ true → (c : List Literal)
-      × (listed_at (given_from 1 cs fs) i ≡ Some c)
+    × (listed_at (given_from 1 cs fs) i ≡ Some c)
 given_is_some cs fs k i long e t =
     let d = clause_at cs k (omega (arith, flag_within fs k t, long)) in
     (d.0, given_some cs fs k i d.0 e t d.1)

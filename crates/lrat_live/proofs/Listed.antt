@@ -22,9 +22,10 @@ Rises (x ∷ xs) = AllByRecursion (λ y. x < y) xs × Rises xs
 
 pub rises_from_pairs : (xs : List ℕ) → AllPairs (λ x y. x < y) xs → Rises xs
 rises_from_pairs [] p = tt
-rises_from_pairs (x ∷ xs) p =
-    (recursion_from_All (λ y. x < y) xs (λ k d h. p 0 (suc k) d (omega arith) (omega arith)),
-      rises_from_pairs xs (λ i j d h k. p (suc i) (suc j) d (omega arith) (omega arith)))
+rises_from_pairs (x ∷ xs) p = (
+  recursion_from_All (λ y. x < y) xs (λ k d h. p 0 (suc k) d (omega arith) (omega arith)),
+  rises_from_pairs xs (λ i j d h k. p (suc i) (suc j) d (omega arith) (omega arith)),
+)
 
 pub listed_here : (e : ℕ × List Literal) (es : Listed) (i : ℕ) → e.0 ≡ i
     → listed_at (e ∷ es) i ≡ Some e.1
@@ -40,7 +41,7 @@ pub above_kept : (p : ℕ × List Literal → Bool) (x : ℕ) (es : Listed)
 above_kept p x [] a = tt
 above_kept p x (e ∷ es) a =
     elim (p e) as (λ v. AllByRecursion (λ y. x < y)
-        (ids_of (cond v (e ∷ filter p es) (filter p es)))) [
+    (ids_of (cond v (e ∷ filter p es) (filter p es)))) [
       | true ↦ (a.0, above_kept p x es a.1)
       | false ↦ above_kept p x es a.1
     ]
@@ -66,18 +67,19 @@ increasing_from_rises (x ∷ y ∷ xs) r zero h = r.0.0
 increasing_from_rises (x ∷ y ∷ xs) r (suc k) h =
     let next : suc (k + 1) ≡ suc k + 1 = omega arith in
     subst (λ m. get_or (y ∷ xs) k 0 < get_or (x ∷ y ∷ xs) m 0) next
-      (increasing_from_rises (y ∷ xs) r.1 k (omega arith))
+    (increasing_from_rises (y ∷ xs) r.1 k (omega arith))
 
 pub rises_push : (es : Listed) (e : ℕ × List Literal) → Rises (ids_of es) → All (λ x. x.0 < e.0) es
     → Rises (ids_of (es ++ e ∷ []))
 rises_push [] e r h = (tt, tt)
-rises_push (x ∷ es) e r h =
-    (above_push x.0 es e r.0 (All-head (λ y. y.0 < e.0) x es h),
-      rises_push es e r.1 (All-tail (λ y. y.0 < e.0) x es h))
+rises_push (x ∷ es) e r h = (
+  above_push x.0 es e r.0 (All-head (λ y. y.0 < e.0) x es h),
+  rises_push es e r.1 (All-tail (λ y. y.0 < e.0) x es h),
+)
   where
     above_push : (x : ℕ) (es : Listed) (e : ℕ × List Literal)
-      → AllByRecursion (λ y. x < y) (ids_of es) → x < e.0
-      → AllByRecursion (λ y. x < y) (ids_of (es ++ e ∷ []))
+        → AllByRecursion (λ y. x < y) (ids_of es) → x < e.0
+        → AllByRecursion (λ y. x < y) (ids_of (es ++ e ∷ []))
     above_push x [] e a h = (h, tt)
     above_push x (y ∷ es) e a h = (a.0, above_push x es e a.1 h)
 
@@ -96,33 +98,35 @@ listed_at-push (e ∷ es) id c h j =
     let below : e.0 < id = All-head (λ x. x.0 < id) e es h in
     elim (cases_eq e.0 j) [
       | inl t ↦ listed_here e (es ++ (id, c) ∷ []) j t
-        ∙ sym (cond-false (j == id) (Some c) (listed_at (e ∷ es) j)
+          ∙ sym (cond-false (j == id) (Some c) (listed_at (e ∷ es) j)
           (ne_eqb j id (λ z. absurd (omega arith))) ∙ listed_here e es j t)
       | inr f ↦ listed_there e (es ++ (id, c) ∷ []) j f
-        ∙ listed_at-push es id c (All-tail (λ x. x.0 < id) e es h) j
-        ∙ ap (cond (j == id) (Some c)) (sym (listed_there e es j f))
+          ∙ listed_at-push es id c (All-tail (λ x. x.0 < id) e es h) j
+          ∙ ap (cond (j == id) (Some c)) (sym (listed_there e es j f))
     ]
 
 pub listed_at-without : (i : ℕ) (es : Listed) (j : ℕ)
     → listed_at (without_id i es) j ≡ cond (j == i) None (listed_at es j)
 listed_at-without i [] j =
-    elim (j == i) as (λ v. ◌≡◌ {A = Option (List Literal)} None (cond v None None)) [ true ↦ refl
-      | false ↦ refl ]
+    elim (j == i) as (λ v. ◌≡◌ {A = Option (List Literal)} None (cond v None None)) [
+      | true ↦ refl
+      | false ↦ refl
+    ]
 listed_at-without i (e ∷ es) j =
     elim (cases_eq e.0 i) [
       | inl t ↦
           rw (eq-eqb e.0 i t) (listed_at-without i es j ∙ elim (cases_eq j i) [
             | inl s ↦ cond-true (j == i) None (listed_at es j) (eq-eqb j i s)
-              ∙ sym (cond-true (j == i) None (listed_at (e ∷ es) j) (eq-eqb j i s))
+                ∙ sym (cond-true (j == i) None (listed_at (e ∷ es) j) (eq-eqb j i s))
             | inr n ↦ ap (cond (j == i) None) (sym (listed_there e es j (λ z. n (sym z ∙ t))))
           ])
       | inr f ↦
           rw (ne_eqb e.0 i f) (elim (cases_eq e.0 j) [
             | inl s ↦ listed_here e (without_id i es) j s
-              ∙ sym (cond-false (j == i) None (listed_at (e ∷ es) j) (ne_eqb j i (λ z. f (s ∙ z)))
+                ∙ sym (cond-false (j == i) None (listed_at (e ∷ es) j) (ne_eqb j i (λ z. f (s ∙ z)))
                 ∙ listed_here e es j s)
             | inr n ↦ listed_there e (without_id i es) j n ∙ listed_at-without i es j
-              ∙ ap (cond (j == i) None) (sym (listed_there e es j n))
+                ∙ ap (cond (j == i) None) (sym (listed_there e es j n))
           ])
     ]
 
@@ -132,7 +136,7 @@ listed_before : (n : ℕ) (cs : List (List Literal)) (i : ℕ) → i < n
 listed_before n [] i h = refl
 listed_before n (c ∷ cs) i h =
     listed_there (n, c) (listed_from (n + 1) cs) i (λ z. absurd (omega arith))
-      ∙ listed_before (n + 1) cs i (omega arith)
+    ∙ listed_before (n + 1) cs i (omega arith)
 
 listed_after : (cs : List (List Literal)) (n k i : ℕ) → i ≡ n + k
     → listed_at (listed_from n cs) i ≡ slice_get cs k
@@ -140,7 +144,7 @@ listed_after [] n k i e = refl
 listed_after (c ∷ cs) n zero i e = listed_here (n, c) (listed_from (n + 1) cs) i (omega arith)
 listed_after (c ∷ cs) n (suc k) i e =
     listed_there (n, c) (listed_from (n + 1) cs) i (λ z. absurd (omega arith))
-      ∙ listed_after cs (n + 1) k i (omega arith)
+    ∙ listed_after cs (n + 1) k i (omega arith)
 
 pub listed_numbered : (cs : List (List Literal)) (i : ℕ)
     → listed_at (listed_from 1 cs) i ≡ numbered cs i
@@ -153,14 +157,14 @@ listed_from-push n [] c = ap (λ k. (k, c) ∷ []) (omega arith)
 listed_from-push n (d ∷ cs) c =
     let same : (n + 1) + length cs ≡ n + length (d ∷ cs) = omega arith in
     ap (λ es. (n, d) ∷ es) (listed_from-push (n + 1) cs c
-        ∙ ap (λ k. listed_from (n + 1) cs ++ (k, c) ∷ []) same)
+    ∙ ap (λ k. listed_from (n + 1) cs ++ (k, c) ∷ []) same)
 
 pub rises_listed : (n : ℕ) (cs : List (List Literal)) → Rises (ids_of (listed_from n cs))
 rises_listed n [] = tt
 rises_listed n (c ∷ cs) = (above_listed n (n + 1) cs (omega arith), rises_listed (n + 1) cs)
   where
     above_listed : (x n : ℕ) (cs : List (List Literal)) → x < n
-      → AllByRecursion (λ y. x < y) (ids_of (listed_from n cs))
+        → AllByRecursion (λ y. x < y) (ids_of (listed_from n cs))
     above_listed x n [] h = tt
     above_listed x n (c ∷ cs) h = (h, above_listed x (n + 1) cs (omega arith))
 
@@ -176,7 +180,7 @@ rising_push es id c r h =
 pub rising_without : (i : ℕ) (es : Listed) → IsRising es → IsRising (without_id i es)
 rising_without i es r =
     increasing_from_rises (ids_of (without_id i es))
-      (rises_kept (λ e. not (e.0 == i)) es (rises_from es r))
+    (rises_kept (λ e. not (e.0 == i)) es (rises_from es r))
 
 pub listed_from-all : (P : ℕ × List Literal → Type 0) (n : ℕ) (cs : List (List Literal))
     → ((k : ℕ) (c : List Literal) → n ≤ k → k < n + length cs → Contains cs c → P (k, c))
@@ -184,9 +188,12 @@ pub listed_from-all : (P : ℕ × List Literal → Type 0) (n : ℕ) (cs : List 
 listed_from-all P n [] f = All-nil P
 listed_from-all P n (c ∷ cs) f =
     All-cons P (n, c) (listed_from (n + 1) cs)
-      (f n c (omega arith) (omega arith) (0, omega arith, refl))
-    (listed_from-all P (n + 1) cs (λ k d h i m. f k d (omega arith) (omega arith) (suc m.0,
-            omega arith, m.2)))
+    (f n c (omega arith) (omega arith) (0, omega arith, refl))
+    (listed_from-all P (n + 1) cs (λ k d h i m. f k d (omega arith) (omega arith) (
+      suc m.0,
+      omega arith,
+      m.2,
+    )))
 
 -- one deletion of several
 pub some_of : (o : Option (List Literal)) → IsSome o → (c : List Literal) × (o ≡ Some c)

@@ -15,11 +15,11 @@ use Rattle.lrat_live.proofs.Clauses.{listed_live, listed_dead, clauses_deleted}
 
 module _ (ls : List Literal) (es : List Entry) (hs : List ℕ) (t : IsTable ls es hs) (id : ℕ) where
   pub nothing_listed : place_of id (keys_of (cells_of es)) ≡ 0
-    → listed_at (clauses_in ls (cells_of es)) id ≡ None
+      → listed_at (clauses_in ls (cells_of es)) id ≡ None
   nothing_listed e = listed_nowhere ls (cells_of es) id e
 
   pub nothing_left_out : place_of id (keys_of (cells_of es)) ≡ 0
-    → clauses_in ls (cells_of es) ≡ without_id id (clauses_in ls (cells_of es))
+      → clauses_in ls (cells_of es) ≡ without_id id (clauses_in ls (cells_of es))
   nothing_left_out e = sym (without_none id (clauses_in ls (cells_of es)) (nothing_listed e))
 
   module _ (p : ℕ) (e : place_of id (keys_of (cells_of es)) ≡ p + 1) where
@@ -34,21 +34,21 @@ module _ (ls : List Literal) (es : List Entry) (hs : List ℕ) (t : IsTable ls e
       entry_ends =
           let in' : p < length (cells_of es) = omega (arith, entry_within, length-map es cell_of) in
           subst (λ (c : Cell). c.start + c.length ≤ length ls) cell
-            (laid_within 0 (length ls) (cells_of es) p (cell_of x) t.laid in')
+          (laid_within 0 (length ls) (cells_of es) p (cell_of x) t.laid in')
 
       pub dead_listed : x.live ≡ false → listed_at (clauses_in ls (cells_of es)) id ≡ None
       dead_listed h =
-        listed_dead ls 0 (cells_of es) id p (cell_of x) t.rising e (ap (λ (c : Cell). c.live) cell
+          listed_dead ls 0 (cells_of es) id p (cell_of x) t.rising e (ap (λ (c : Cell). c.live) cell
           ∙ h)
 
       pub live_listed : x.live ≡ true → listed_at (clauses_in ls (cells_of es)) id
           ≡ Some (slice_range ls x.start (x.start + x.length))
       live_listed h =
           listed_live ls 0 (cells_of es) id p (cell_of x) t.rising e (ap (λ (c : Cell). c.live) cell
-              ∙ h) ∙ ap (λ (c : Cell). Some (slice_range ls c.start (c.start + c.length))) cell
+          ∙ h) ∙ ap (λ (c : Cell). Some (slice_range ls c.start (c.start + c.length))) cell
 
       pub dead_left : x.live ≡ false → clauses_in ls (cells_of (set es p x)) ≡ without_id id
-        (clauses_in ls (cells_of es))
+          (clauses_in ls (cells_of es))
       dead_left h =
           let same : set es p x ≡ es = ap (λ (y : Entry). set es p y) is ∙ set-get_or es p x in
           rw same (sym (without_none id (clauses_in ls (cells_of es)) (dead_listed h)))
@@ -59,28 +59,28 @@ module _ (ls : List Literal) (es : List Entry) (hs : List ℕ) (t : IsTable ls e
       keys_stay : keys_of (cells_of (set es p gone)) ≡ keys_of (cells_of es)
       keys_stay =
           ap keys_of (map-set cell_of es p gone)
-            ∙ map-set (λ (c : Cell). c.id) (cells_of es) p (cell_of gone)
-            ∙ ap (set (keys_of (cells_of es)) p)
-            (sym (get_or-map (λ (c : Cell). c.id) (cells_of es) p (cell_of x) x.id
-                (omega (arith, entry_within, length-map es cell_of))
-                ∙ ap (λ (c : Cell). c.id) cell)) ∙ set-get_or (keys_of (cells_of es)) p x.id
+          ∙ map-set (λ (c : Cell). c.id) (cells_of es) p (cell_of gone)
+          ∙ ap (set (keys_of (cells_of es)) p)
+          (sym (get_or-map (λ (c : Cell). c.id) (cells_of es) p (cell_of x) x.id
+          (omega (arith, entry_within, length-map es cell_of))
+          ∙ ap (λ (c : Cell). c.id) cell)) ∙ set-get_or (keys_of (cells_of es)) p x.id
 
       nexts_stay : nexts_of (set es p gone) ≡ nexts_of es
       nexts_stay =
           map-set (λ (y : Entry). y.next) es p gone
-            ∙ ap (set (nexts_of es) p)
-            (sym (get_or-map (λ (y : Entry). y.next) es p x x.next entry_within
-                ∙ ap (λ (y : Entry). y.next) (sym is))) ∙ set-get_or (nexts_of es) p x.next
+          ∙ ap (set (nexts_of es) p)
+          (sym (get_or-map (λ (y : Entry). y.next) es p x x.next entry_within
+          ∙ ap (λ (y : Entry). y.next) (sym is))) ∙ set-get_or (nexts_of es) p x.next
 
       pub deleted_clauses : clauses_in ls (cells_of (set es p gone)) ≡ without_id id
-        (clauses_in ls (cells_of es))
+          (clauses_in ls (cells_of es))
       deleted_clauses = ap (clauses_in ls) (map-set cell_of es p gone)
-        ∙ clauses_deleted ls 0 (cells_of es) id p (cell_of gone) t.rising e refl
+          ∙ clauses_deleted ls 0 (cells_of es) id p (cell_of gone) t.rising e refl
 
       pub deleted_table : IsTable ls (set es p gone) hs
       deleted_table = record {
         laid =
-          rw (map-set cell_of es p gone) (laid_set 0 (length ls) (cells_of es) p (cell_of gone)
+            rw (map-set cell_of es p gone) (laid_set 0 (length ls) (cells_of es) p (cell_of gone)
             (cell_of x) t.laid (sym (ap (λ (c : Cell). c.start) cell))
             (sym (ap (λ (c : Cell). c.length) cell)));
         rising = rw keys_stay t.rising;

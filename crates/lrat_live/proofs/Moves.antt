@@ -19,26 +19,26 @@ module _ (ls : List Literal) (es : List Entry) (kept end i : ℕ) (value : List 
 
   pub entry_moves_down : (end ≤ x.start) × (x.start + x.length ≤ length ls)
   entry_moves_down = subst (λ (c : Cell). (end ≤ c.start) × (c.start + c.length ≤ length ls)) cell
-    (moved_within ls (cells_of es) kept end i value (cell_of x) s within)
+      (moved_within ls (cells_of es) kept end i value (cell_of x) s within)
 
   pub dead_entry : x.live ≡ false → IsCompacting ls (cells_of es) kept end (i + 1) value
   dead_entry e =
-    compacting_dead ls (cells_of es) kept end i value (cell_of x) s within
+      compacting_dead ls (cells_of es) kept end i value (cell_of x) s within
       (ap (λ (c : Cell). c.live) cell ∙ e)
 
   abbrev moved : Entry
   moved = record { id = x.id; start = end; length = x.length; next = 0; live = true }
 
   pub live_entry : x.live ≡ true → (n : ℕ) → n ≡ x.length
-    → IsCompacting (paste ls end (drop x.start ls) n) (cells_of (set es kept moved)) (kept + 1)
-    (end + x.length) (i + 1) value
+      → IsCompacting (paste ls end (drop x.start ls) n) (cells_of (set es kept moved)) (kept + 1)
+      (end + x.length) (i + 1) value
   live_entry e n long =
       let all =
-        compacting_live ls (cells_of es) kept end i value (cell_of x) s within (cell_of moved)
-          (ap (λ (c : Cell). c.live) cell ∙ e) (sym (ap (λ (c : Cell). c.id) cell)) refl
-          (sym (ap (λ (c : Cell). c.length) cell)) refl in
+      compacting_live ls (cells_of es) kept end i value (cell_of x) s within (cell_of moved)
+      (ap (λ (c : Cell). c.live) cell ∙ e) (sym (ap (λ (c : Cell). c.id) cell)) refl
+      (sym (ap (λ (c : Cell). c.length) cell)) refl in
       let by_cell =
-        subst (λ (c : Cell). IsCompacting (paste ls end (drop c.start ls) c.length)
-          (set (cells_of es) kept (cell_of moved)) (kept + 1) (end + c.length) (i + 1) value)
-          cell all in
+      subst (λ (c : Cell). IsCompacting (paste ls end (drop c.start ls) c.length)
+      (set (cells_of es) kept (cell_of moved)) (kept + 1) (end + c.length) (i + 1) value)
+      cell all in
       rw (map-set cell_of es kept moved, long) by_cell

@@ -17,8 +17,8 @@ pub key_at : (es : List Entry) (p : ℕ) (d : Entry) → p < length es
     → slice_index (keys_of (cells_of es)) p ≡ (get_or es p d).id
 key_at es p d h =
     get_or-map (λ (c : Cell). c.id) (cells_of es) p (cell_of d) 0
-      (omega (arith, length-map es cell_of))
-      ∙ ap (λ (c : Cell). c.id) (get_or-map cell_of es p d (cell_of d) h)
+    (omega (arith, length-map es cell_of))
+    ∙ ap (λ (c : Cell). c.id) (get_or-map cell_of es p d (cell_of d) h)
 
 pub next_at : (es : List Entry) (p : ℕ) (d : Entry) → p < length es
     → slice_index (nexts_of es) p ≡ (get_or es p d).next
@@ -40,32 +40,36 @@ module _ (buckets id : ℕ) (heads : List ℕ) (es : List Entry) (p : ℕ) (d : 
 
   at_place : IsOnWalk buckets id (keys_of (cells_of es)) (q + 1)
   at_place = let e : p ≡ p - 1 + 1 = omega arith in
-    subst (IsOnWalk buckets id (keys_of (cells_of es))) e w
+      subst (IsOnWalk buckets id (keys_of (cells_of es))) e w
 
   pub id_found : (get_or es q d).id ≡ id → place_of id (keys_of (cells_of es)) ≡ q + 1
   id_found e = walk_found buckets id (keys_of (cells_of es)) q at_place (key_at es q d within ∙ e)
 
   pub next_falls : IsChained buckets heads (keys_of (cells_of es)) (nexts_of es)
-    → (get_or es q d).next < p
+      → (get_or es q d).next < p
   next_falls c =
-    omega (arith, chain_falls buckets id (keys_of (cells_of es)) heads (nexts_of es) c q
-      at_place.in_chain, next_at es q d within)
+      omega (
+        arith,
+        chain_falls buckets id (keys_of (cells_of es)) heads (nexts_of es) c q
+            at_place.in_chain,
+        next_at es q d within,
+      )
 
   pub next_on_walk : IsChained buckets heads (keys_of (cells_of es)) (nexts_of es)
-    → ((get_or es q d).id ≡ id → ⊥)
-    → IsOnWalk buckets id (keys_of (cells_of es)) (get_or es q d).next
+      → ((get_or es q d).id ≡ id → ⊥)
+      → IsOnWalk buckets id (keys_of (cells_of es)) (get_or es q d).next
   next_on_walk c ne =
       subst (IsOnWalk buckets id (keys_of (cells_of es))) (next_at es q d within)
-        (walk_step buckets id (keys_of (cells_of es)) heads (nexts_of es) c q at_place.in_chain
-          at_place (λ u. ne (sym (key_at es q d within) ∙ u)))
+      (walk_step buckets id (keys_of (cells_of es)) heads (nexts_of es) c q at_place.in_chain
+      at_place (λ u. ne (sym (key_at es q d within) ∙ u)))
 
 -- an entry's link is none of its cell
 pub cells-set_same : (es : List Entry) (i : ℕ) (d e : Entry) → cell_of e ≡ cell_of (get_or es i d)
     → i < length es → cells_of (set es i e) ≡ cells_of es
 cells-set_same es i d e same h =
     map-set cell_of es i e
-      ∙ ap (λ c. set (cells_of es) i c) (same ∙ sym (get_or-map cell_of es i d (cell_of d) h))
-      ∙ set-get_or (cells_of es) i (cell_of d)
+    ∙ ap (λ c. set (cells_of es) i c) (same ∙ sym (get_or-map cell_of es i d (cell_of d) h))
+    ∙ set-get_or (cells_of es) i (cell_of d)
 
 -- the entry at i is linked to the head of its bucket, and becomes the head
 module _ (buckets : ℕ) (heads : List ℕ) (es : List Entry) (i bucket : ℕ) (d e : Entry)
@@ -89,17 +93,17 @@ module _ (buckets : ℕ) (heads : List ℕ) (es : List Entry) (i bucket : ℕ) (
   linked = map-set (λ (x : Entry). x.next) es i e
 
   pub link_more : IsChained buckets (set heads bucket (i + 1))
-    (take (i + 1) (keys_of (cells_of (set es i e)))) (nexts_of (set es i e))
+      (take (i + 1) (keys_of (cells_of (set es i e)))) (nexts_of (set es i e))
   link_more =
       let k : ℕ = slice_index keys i in
       let b : bucket ≡ bucket_of buckets k = is ∙ ap (bucket_of buckets) (sym key) in
       let long : i < length (nexts_of es) = omega (arith, length-map es (λ (x : Entry). x.next)) in
       let all : IsChained buckets (set heads (bucket_of buckets k) (i + 1)) (take i keys ++ k ∷ [])
-        (nexts_of (set es i e)) =
+      (nexts_of (set es i e)) =
       chained_push buckets heads (take i keys) (nexts_of es) k (i + 1) (nexts_of (set es i e)) c
-        (omega (arith, front)) (subst (λ x. x < buckets) b small)
+      (omega (arith, front)) (subst (λ x. x < buckets) b small)
       (λ j l. let ne : j ≢ i = omega (arith, front) in
-          rw linked (get_or-set_other (nexts_of es) i j e.next 0 ne))
+      rw linked (get_or-set_other (nexts_of es) i j e.next 0 ne))
       (rw (linked, front) (get_or-set_same (nexts_of es) i e.next 0 long ∙ next
-            ∙ ap (slice_index heads) b)) in
+      ∙ ap (slice_index heads) b)) in
       rw (cells-set_same es i d e same h, take_more keys i 0 bound, b) all

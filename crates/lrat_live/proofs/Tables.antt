@@ -35,34 +35,35 @@ module _ (ls more : List Literal) (es grown : List Entry) (before hs : List ℕ)
   laid = rw same t.laid
 
   pub table_clauses : clauses_in (ls ++ more) (cells_of (grown ++ e ∷ [])) ≡ clauses_in ls
-    (cells_of es) ++ (e.id, more) ∷ []
+      (cells_of es) ++ (e.id, more) ∷ []
   table_clauses =
-    rw (cells_push grown e) (clauses_push ls more (cells_of grown) (cell_of e) laid start long live
+      rw (cells_push grown e)
+      (clauses_push ls more (cells_of grown) (cell_of e) laid start long live
       ∙ ap (λ cs. clauses_in ls cs ++ (e.id, more) ∷ []) same)
 
   module _ (bucket place : ℕ) (above : IsAboveLast e.id (keys_of (cells_of es)))
-    (chained : IsChained (length hs) hs (keys_of (cells_of grown)) (nexts_of grown))
-    (room : length grown < length hs) (is : bucket ≡ bucket_of (length hs) e.id)
-    (small : bucket < length hs) (next : e.next ≡ slice_index hs bucket)
-    (at : place ≡ length grown + 1) (few_literals : length ls + length more + 1 < 2 ^ 32)
-    (few_entries : length grown + 2 < 2 ^ 32) where
+      (chained : IsChained (length hs) hs (keys_of (cells_of grown)) (nexts_of grown))
+      (room : length grown < length hs) (is : bucket ≡ bucket_of (length hs) e.id)
+      (small : bucket < length hs) (next : e.next ≡ slice_index hs bucket)
+      (at : place ≡ length grown + 1) (few_literals : length ls + length more + 1 < 2 ^ 32)
+      (few_entries : length grown + 2 < 2 ^ 32) where
     links : List ℕ
     links = nexts_of (grown ++ e ∷ [])
 
     pushed : IsChained (length hs) (set hs bucket place) (keys_of (cells_of grown) ++ e.id ∷ [])
-      (nexts_of (grown ++ e ∷ []))
+        (nexts_of (grown ++ e ∷ []))
     pushed =
         let n : length (nexts_of grown) ≡ length grown = length-map grown (λ (x : Entry). x.next) in
         let k : length (keys_of (cells_of grown)) ≡ length grown = length-keys grown in
         let all = chained_push (length hs) hs (keys_of (cells_of grown)) (nexts_of grown) e.id place
-          (nexts_of (grown ++ e ∷ [])) chained (omega arith) (subst (λ b. b < length hs) is small)
+        (nexts_of (grown ++ e ∷ [])) chained (omega arith) (subst (λ b. b < length hs) is small)
         (λ i h. rw (nexts_push grown e) (get_or_append_left (nexts_of grown) (e.next ∷ []) 0 i
-              (omega arith)))
+        (omega arith)))
         (rw (nexts_push grown e)
-            (get_or_push (nexts_of grown) e.next 0 (length (keys_of (cells_of grown))) (omega arith)
-              ∙ next ∙ ap (slice_index hs) is)) in
+        (get_or_push (nexts_of grown) e.next 0 (length (keys_of (cells_of grown))) (omega arith)
+        ∙ next ∙ ap (slice_index hs) is)) in
         subst (λ b. IsChained (length hs) (set hs b place) (keys_of (cells_of grown) ++ e.id ∷ [])
-            (nexts_of (grown ++ e ∷ []))) (sym is) all
+        (nexts_of (grown ++ e ∷ []))) (sym is) all
 
     pub table_push : IsTable (ls ++ more) (grown ++ e ∷ []) (set hs bucket place)
     table_push =
@@ -70,13 +71,14 @@ module _ (ls more : List Literal) (es grown : List Entry) (before hs : List ℕ)
         let entries : length (grown ++ e ∷ []) ≡ length grown + 1 = length_push grown e in
         let above' : IsAboveLast e.id (keys_of (cells_of grown)) = rw same above in
         let ends : length (ls ++ more) ≡ length ls + e.length =
-          omega (arith, length-append ls more) in
+        omega (arith, length-append ls more) in
         record {
           laid =
-            rw (cells_push grown e, ends)
+              rw (cells_push grown e, ends)
               (laid_push 0 (length ls) (cells_of grown) (cell_of e) laid start);
           rising =
-            rw (keys_push grown e) (rises_push 0 (keys_of (cells_of grown)) e.id (rw same t.rising)
+              rw (keys_push grown e)
+              (rises_push 0 (keys_of (cells_of grown)) e.id (rw same t.rising)
               (omega arith) above');
           few_literals = omega (arith, length-append ls more);
           few_entries = omega arith;
@@ -91,10 +93,10 @@ live_above ls cs id live h p e =
     let same : ids_of (clauses_in ls cs) ≡ keys_of cs = live_ids ls cs live in
     let d : ℕ × List Literal = (0, []) in
     let n : length (clauses_in ls cs) ≡ length (keys_of cs) =
-      sym (length-map (clauses_in ls cs) (λ (x : ℕ × List Literal). x.0)) ∙ ap length same in
+    sym (length-map (clauses_in ls cs) (λ (x : ℕ × List Literal). x.0)) ∙ ap length same in
     let in' : p < length (clauses_in ls cs) = omega arith in
     let r : slice_index (ids_of (clauses_in ls cs)) p ≡ (get_or (clauses_in ls cs) p d).0 =
-      get_or-map (λ (x : ℕ × List Literal). x.0) (clauses_in ls cs) p d 0 in' in
+    get_or-map (λ (x : ℕ × List Literal). x.0) (clauses_in ls cs) p d 0 in' in
     let below : (get_or (clauses_in ls cs) p d).0 < id = h p d in' in
     subst (λ ks. slice_index ks p < id) same (rw r below)
 
@@ -109,8 +111,8 @@ pub table_reclaimed : (ls kept : List Literal) (es compacted linked : List Entry
 table_reclaimed ls kept es compacted linked before hs t laid live clauses fewer shorter same count
     room chained =
     let rises : RisesFrom 0 (keys_of (cells_of compacted)) =
-      subst (RisesFrom 0) (ap ids_of (sym clauses) ∙ live_ids kept (cells_of compacted) live)
-        (rises_clauses ls 0 (cells_of es) t.rising) in
+    subst (RisesFrom 0) (ap ids_of (sym clauses) ∙ live_ids kept (cells_of compacted) live)
+    (rises_clauses ls 0 (cells_of es) t.rising) in
     record {
       laid = rw same laid;
       rising = rw same rises;
@@ -126,7 +128,7 @@ pub literals_end : (ls : List Literal) (es : List Entry) (i : ℕ) (d : Entry)
     → (get_or es i d).start + (get_or es i d).length ≤ length ls
 literals_end ls es i d h l =
     let cell : get_or (cells_of es) i (cell_of d) ≡ cell_of (get_or es i d) =
-      get_or-map cell_of es i d (cell_of d) l in
+    get_or-map cell_of es i d (cell_of d) l in
     subst (λ (c : Cell). c.start + c.length ≤ length ls) cell
-      (laid_within 0 (length ls) (cells_of es) i (cell_of d) h
-        (omega (arith, length-map es cell_of)))
+    (laid_within 0 (length ls) (cells_of es) i (cell_of d) h
+    (omega (arith, length-map es cell_of)))

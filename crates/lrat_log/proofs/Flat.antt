@@ -65,7 +65,7 @@ pub record Placed {X : Type 0} (xs : List X) (start end : ℕ) (part : List X) :
 lits_placed : (i j : ℕ) (hs : List Head) (lits : List Literal) (hints : List Hint) (k : ℕ)
     → AreEndsFrom i j hs lits hints → k < length hs
     → Placed lits (lits_before i hs k) (lits_before i hs (suc k))
-      (line_at (lines_from i j hs lits hints) k).clause
+    (line_at (lines_from i j hs lits hints) k).clause
 lits_placed i j [] lits hints k ends lt = absurd (omega arith)
 lits_placed i j (h ∷ hs) lits hints zero ends lt =
     record { rising = ends.0; within = ends.1; part_is = refl }
@@ -75,7 +75,7 @@ lits_placed i j (h ∷ hs) lits hints (suc k) ends lt =
 hints_placed : (i j : ℕ) (hs : List Head) (lits : List Literal) (hints : List Hint) (k : ℕ)
     → AreEndsFrom i j hs lits hints → k < length hs
     → Placed hints (hints_before j hs k) (hints_before j hs (suc k))
-      (line_at (lines_from i j hs lits hints) k).hints
+    (line_at (lines_from i j hs lits hints) k).hints
 hints_placed i j [] lits hints k ends lt = absurd (omega arith)
 hints_placed i j (h ∷ hs) lits hints zero ends lt =
     record { rising = ends.2; within = ends.3; part_is = refl }
@@ -85,11 +85,11 @@ hints_placed i j (h ∷ hs) lits hints (suc k) ends lt =
 module _ (hs : List Head) (lits : List Literal) (hints : List Hint) (k s e : ℕ)
     (ends : AreEndsFrom 0 0 hs lits hints) (lt : k < length hs) where
   pub clause-line_at : s ≡ lits_before 0 hs k → e ≡ lits_before 0 hs (k + 1)
-    → Placed lits s e (line_at (lines_from 0 0 hs lits hints) k).clause
+      → Placed lits s e (line_at (lines_from 0 0 hs lits hints) k).clause
   clause-line_at p q = rw (p, q, add-one) (lits_placed 0 0 hs lits hints k ends lt)
 
   pub hints-line_at : s ≡ hints_before 0 hs k → e ≡ hints_before 0 hs (k + 1)
-    → Placed hints s e (line_at (lines_from 0 0 hs lits hints) k).hints
+      → Placed hints s e (line_at (lines_from 0 0 hs lits hints) k).hints
   hints-line_at p q = rw (p, q, add-one) (hints_placed 0 0 hs lits hints k ends lt)
 
 -- a line more
@@ -97,15 +97,22 @@ pub lines_from-push : (i j : ℕ) (hs : List Head) (lits more_lits : List Litera
     (hints more_hints : List Hint) (h : Head) → AreEndsFrom i j hs lits hints
     → h.lits_end ≡ length lits + length more_lits → h.hints_end ≡ length hints + length more_hints
     → lines_from i j (hs ++ h ∷ []) (lits ++ more_lits) (hints ++ more_hints)
-        ≡ lines_from i j hs lits hints ++ record { kind = h.kind; clause = more_lits;
-        hints = more_hints } ∷ []
+    ≡ lines_from i j hs lits hints ++ record {
+      kind = h.kind;
+      clause = more_lits;
+      hints = more_hints;
+    } ∷ []
 lines_from-push i j [] lits ml hints mh h ends p q =
-    rw (range-appended lits ml i h.lits_end ends.0 p,
-      range-appended hints mh j h.hints_end ends.1 q) refl
+    rw (
+      range-appended lits ml i h.lits_end ends.0 p,
+      range-appended hints mh j h.hints_end ends.1 q,
+    ) refl
 lines_from-push i j (g ∷ hs) lits ml hints mh h ends p q =
-    rw (range-append lits ml i g.lits_end ends.0 ends.1,
-        range-append hints mh j g.hints_end ends.2 ends.3,
-        lines_from-push g.lits_end g.hints_end hs lits ml hints mh h ends.4 p q) refl
+    rw (
+      range-append lits ml i g.lits_end ends.0 ends.1,
+      range-append hints mh j g.hints_end ends.2 ends.3,
+      lines_from-push g.lits_end g.hints_end hs lits ml hints mh h ends.4 p q,
+    ) refl
 
 pub AreEndsFrom-push : (i j : ℕ) (hs : List Head) (lits more_lits : List Literal)
     (hints more_hints : List Hint) (h : Head) → AreEndsFrom i j hs lits hints
@@ -113,28 +120,39 @@ pub AreEndsFrom-push : (i j : ℕ) (hs : List Head) (lits more_lits : List Liter
     → AreEndsFrom i j (hs ++ h ∷ []) (lits ++ more_lits) (hints ++ more_hints)
 AreEndsFrom-push i j [] lits ml hints mh h ends p q =
     let a = length-append lits ml in
-    let b = length-append hints mh in
-    (omega (arith, ends.0), omega arith, omega (arith, ends.1), omega arith,
-        (omega arith, omega arith))
+    let b = length-append hints mh in (
+      omega (arith, ends.0),
+      omega arith,
+      omega (arith, ends.1),
+      omega arith,
+      (omega arith, omega arith),
+    )
 AreEndsFrom-push i j (g ∷ hs) lits ml hints mh h ends p q =
     let a = length-append lits ml in
-    let b = length-append hints mh in
-    (ends.0, omega (arith, ends.1), ends.2, omega (arith, ends.3),
-        AreEndsFrom-push g.lits_end g.hints_end hs lits ml hints mh h ends.4 p q)
+    let b = length-append hints mh in (
+      ends.0,
+      omega (arith, ends.1),
+      ends.2,
+      omega (arith, ends.3),
+      AreEndsFrom-push g.lits_end g.hints_end hs lits ml hints mh h ends.4 p q,
+    )
 
 module _ (hs : List Head) (lits : List Literal) (hints : List Hint) (h : Head) (line : LogLine)
     (flat : IsFlat hs lits hints)
     (kind : h.kind ≡ line.kind) (p : h.lits_end ≡ length lits + length line.clause)
-      (q : h.hints_end ≡ length hints + length line.hints) where
+    (q : h.hints_end ≡ length hints + length line.hints) where
   pub lines_in-push : lines_in (hs ++ h ∷ []) (lits ++ line.clause) (hints ++ line.hints)
       ≡ lines_in hs lits hints ++ line ∷ []
   lines_in-push =
       lines_from-push 0 0 hs lits line.clause hints line.hints h flat.ends p q
-      ∙ ap (λ k. lines_in hs lits hints ++ record { kind = k; clause = line.clause;
-            hints = line.hints } ∷ []) kind
+      ∙ ap (λ k. lines_in hs lits hints ++ record {
+        kind = k;
+        clause = line.clause;
+        hints = line.hints;
+      } ∷ []) kind
 
   pub IsFlat-push : length hs + 1 < 2 ^ 61 → IsLine line
-    → IsFlat (hs ++ h ∷ []) (lits ++ line.clause) (hints ++ line.hints)
+      → IsFlat (hs ++ h ∷ []) (lits ++ line.clause) (hints ++ line.hints)
   IsFlat-push short is =
       let ls = lines_in hs lits hints in
       let n = length-lines_from 0 0 hs lits hints in
@@ -142,8 +160,11 @@ module _ (hs : List Head) (lits : List Literal) (hints : List Hint) (h : Head) (
       let few : length (ls ++ line ∷ []) < 2 ^ 61 = omega arith in
       record {
         log =
-          subst IsLog (sym lines_in-push)
-            (record { short = few; lines = All-append IsLine ls (line ∷ []) flat.log.lines
-              (All-cons IsLine line [] is (All-nil IsLine)) });
+            subst IsLog (sym lines_in-push)
+            (record {
+              short = few;
+              lines = All-append IsLine ls (line ∷ []) flat.log.lines
+                  (All-cons IsLine line [] is (All-nil IsLine));
+            });
         ends = AreEndsFrom-push 0 0 hs lits line.clause hints line.hints h flat.ends p q;
       }

@@ -32,7 +32,7 @@ literals_spaced (l ∷ c) = ap (λ z. (literal_text l ++ 32 ∷ []) ++ z) (liter
 
 hints_spaced : (base : ℕ) (hs : List Hint)
     → with_spaces (map decimal (leading_ids base hs) ++ flat_map group_tokens (group_ids base hs))
-      ≡ hints_text base hs
+    ≡ hints_text base hs
 hints_spaced base [] = refl
 hints_spaced base (Plain n ∷ hs) =
     ap (λ z. (decimal (id_of base n) ++ 32 ∷ []) ++ z) (hints_spaced base hs)
@@ -48,33 +48,33 @@ plain_spaced base (Group n ∷ hs) p = absurd p.0
 
 pub addition_text : (base id : ℕ) (c : List Literal) (hs : List Hint)
     → line_text (Addition id c (leading_ids base hs) (group_ids base hs))
-        ≡ (number_text false id ++ literals_text c) ++ end_text (codes "0 ") base hs
+    ≡ (number_text false id ++ literals_text c) ++ end_text (codes "0 ") base hs
 addition_text base id c hs =
     let lits = map literal_text c in
     let plain = map decimal (leading_ids base hs) in
     let groups = flat_map group_tokens (group_ids base hs) in
     let front : List (List ℕ) = (decimal id ∷ lits ++ codes "0" ∷ plain) ++ groups in
     let same : front ≡ decimal id ∷ lits ++ (codes "0" ∷ (plain ++ groups)) =
-      append_assoc (decimal id ∷ lits) (codes "0" ∷ plain) groups in
+    append_assoc (decimal id ∷ lits) (codes "0" ∷ plain) groups in
     spaced-last front (codes "0")
     ∙ ap (λ z. with_spaces z ++ codes "0\n") (same)
     ∙ ap (λ z. z ++ codes "0\n") (flat_map-append (λ t. t ++ 32 ∷ []) (decimal id ∷ lits)
-        (codes "0" ∷ (plain ++ groups)))
+    (codes "0" ∷ (plain ++ groups)))
     ∙ ap (λ z. ((number_text false id ++ z) ++ with_spaces (codes "0" ∷ (plain ++ groups)))
-        ++ codes "0\n") (literals_spaced c)
+    ++ codes "0\n") (literals_spaced c)
     ∙ ap (λ z. ((number_text false id ++ literals_text c) ++ (codes "0 " ++ z)) ++ codes "0\n")
-      (hints_spaced base hs)
+    (hints_spaced base hs)
     ∙ append_assoc (number_text false id ++ literals_text c) (codes "0 " ++ hints_text base hs)
-      (codes "0\n")
+    (codes "0\n")
 
 pub deletion_text : (base lead : ℕ) (hs : List Hint) → All IsPlain hs
     → line_text (Deletion lead (map (λ h. id_of base (name_of h)) hs)) ≡ number_text false lead
-      ++ end_text (codes "d ") base hs
+    ++ end_text (codes "d ") base hs
 deletion_text base lead hs p =
     let ids : List (List ℕ) = map decimal (map (λ h. id_of base (name_of h)) hs) in
     spaced-last (decimal lead ∷ codes "d" ∷ ids) (codes "0")
     ∙ ap (λ z. (number_text false lead ++ (codes "d " ++ z)) ++ codes "0\n")
-      (plain_spaced base hs (recursion_from_All IsPlain hs p))
+    (plain_spaced base hs (recursion_from_All IsPlain hs p))
     ∙ append_assoc (number_text false lead) (codes "d " ++ hints_text base hs) (codes "0\n")
 
 -- digits at the end of a buffer
@@ -101,7 +101,7 @@ dash_spelled old new zero n e h w some le = absurd (omega arith)
 dash_spelled old new (suc k) n e h w some le =
     let same : suc k - 1 ≡ k = omega arith in
     rw same (drop_set new k 45 (omega arith)
-        ∙ ap (λ z. 45 ∷ z) (digits_spelled old new (suc k) n e h w))
+    ∙ ap (λ z. 45 ∷ z) (digits_spelled old new (suc k) n e h w))
 
 -- a fault in an item of a list
 pub item_fault : {X : Type 0} (f : X → List ℕ) (a b c : Option (List ℕ)) (h j : List ℕ)
@@ -110,31 +110,31 @@ pub item_fault : {X : Type 0} (f : X → List ℕ) (a b c : Option (List ℕ)) (
     → AppendsPart a c (h ++ flat_map f xs)
 item_fault f a b c h j xs i x lt is p q =
     subst (λ z. AppendsPart a c (h ++ z)) (append-nil (flat_map f xs))
-      (items_fault f a b c h j [] (f x) [] [] xs i x lt is (sym (append-nil (f x))) p q)
+    (items_fault f a b c h j [] (f x) [] [] xs i x lt is (sym (append-nil (f x))) p q)
 
 -- the end of a line
 module _ (a b c d : Option (List ℕ)) (h i j k word : List ℕ) (base : ℕ) (hs : List Hint) where
   pub word_fault : AppendsPart a b (h ++ word) → AppendsPart a b (h ++ end_text word base hs)
   word_fault q =
-    first_fault a b h word (hints_text base hs ++ codes "0\n") (end_text word base hs) q
+      first_fault a b h word (hints_text base hs ++ codes "0\n") (end_text word base hs) q
       (append_assoc word (hints_text base hs) (codes "0\n"))
 
   pub hints_fault : PassesOn a h word b i → AppendsPart b c (i ++ hints_text base hs)
-    → AppendsPart a c (h ++ end_text word base hs)
+      → AppendsPart a c (h ++ end_text word base hs)
   hints_fault p q =
-    passed_fault a b c h i word (hints_text base hs) (codes "0\n") (end_text word base hs) p q
+      passed_fault a b c h i word (hints_text base hs) (codes "0\n") (end_text word base hs) p q
       (append_assoc word (hints_text base hs) (codes "0\n"))
 
   pub end_put : PassesOn a h word b i → PassesOn b i (hints_text base hs) c j
-    → PassesOn c j (48 ∷ 10 ∷ []) d k → PassesOn a h (end_text word base hs) d k
+      → PassesOn c j (48 ∷ 10 ∷ []) d k → PassesOn a h (end_text word base hs) d k
   end_put p q r =
-    passed-more a c d h j k (word ++ hints_text base hs) (codes "0\n")
+      passed-more a c d h j k (word ++ hints_text base hs) (codes "0\n")
       (passed-more a b c h i j word (hints_text base hs) p q) r
 
   pub end_fault : PassesOn a h word b i → PassesOn b i (hints_text base hs) c j
-    → AppendsPart c d (j ++ 48 ∷ 10 ∷ []) → AppendsPart a d (h ++ end_text word base hs)
+      → AppendsPart c d (j ++ 48 ∷ 10 ∷ []) → AppendsPart a d (h ++ end_text word base hs)
   end_fault p q r =
-    passed_part-more a c d h j (word ++ hints_text base hs) (codes "0\n")
+      passed_part-more a c d h j (word ++ hints_text base hs) (codes "0\n")
       (passed-more a b c h i j word (hints_text base hs) p q) r
 
 -- a deletion
@@ -147,20 +147,20 @@ module _ (a b c : Option (List ℕ)) (h i j : List ℕ) (base lead : ℕ) (hs : 
   rest = end_text (codes "d ") base hs
 
   pub lead_fault : AppendsPart a b (h ++ number_text false lead)
-    → AppendsPart a b (h ++ line_text (Deletion lead (map (λ x. id_of base (name_of x)) hs)))
+      → AppendsPart a b (h ++ line_text (Deletion lead (map (λ x. id_of base (name_of x)) hs)))
   lead_fault q =
-    first_fault a b h (number_text false lead) rest line q (deletion_text base lead hs plain)
+      first_fault a b h (number_text false lead) rest line q (deletion_text base lead hs plain)
 
   pub deletion_put : PassesOn a h (number_text false lead) b i → PassesOn b i rest c j
-    → PassesOn a h (line_text (Deletion lead (map (λ x. id_of base (name_of x)) hs))) c j
+      → PassesOn a h (line_text (Deletion lead (map (λ x. id_of base (name_of x)) hs))) c j
   deletion_put p q =
-    subst (λ z. PassesOn a h z c j) (sym (deletion_text base lead hs plain))
+      subst (λ z. PassesOn a h z c j) (sym (deletion_text base lead hs plain))
       (passed-more a b c h i j (number_text false lead) rest p q)
 
   pub deletion_fault : PassesOn a h (number_text false lead) b i → AppendsPart b c (i ++ rest)
-    → AppendsPart a c (h ++ line_text (Deletion lead (map (λ x. id_of base (name_of x)) hs)))
+      → AppendsPart a c (h ++ line_text (Deletion lead (map (λ x. id_of base (name_of x)) hs)))
   deletion_fault p q =
-    subst (λ z. AppendsPart a c (h ++ z)) (sym (deletion_text base lead hs plain))
+      subst (λ z. AppendsPart a c (h ++ z)) (sym (deletion_text base lead hs plain))
       (passed_part-more a b c h i (number_text false lead) rest p q)
 
 -- an addition
@@ -174,54 +174,56 @@ module _ (a b c d : Option (List ℕ)) (h i j k : List ℕ) (base id : ℕ) (lit
 
   pieces : added ≡ number_text false id ++ (literals_text lits ++ after)
   pieces = addition_text base id lits hs
-    ∙ append_assoc (number_text false id) (literals_text lits) after
+      ∙ append_assoc (number_text false id) (literals_text lits) after
 
   pub id_fault : AppendsPart a b (h ++ number_text false id)
-    → AppendsPart a b (h ++ line_text (Addition id lits (leading_ids base hs) (group_ids base hs)))
+      → AppendsPart a b (h ++ line_text
+      (Addition id lits (leading_ids base hs) (group_ids base hs)))
   id_fault q = first_fault a b h (number_text false id) (literals_text lits ++ after) added q pieces
 
   pub literals_fault : PassesOn a h (number_text false id) b i
-    → AppendsPart b c (i ++ literals_text lits)
-    → AppendsPart a c (h ++ line_text (Addition id lits (leading_ids base hs) (group_ids base hs)))
+      → AppendsPart b c (i ++ literals_text lits)
+      → AppendsPart a c (h ++ line_text
+      (Addition id lits (leading_ids base hs) (group_ids base hs)))
   literals_fault p q =
-    passed_fault a b c h i (number_text false id) (literals_text lits) after added p q pieces
+      passed_fault a b c h i (number_text false id) (literals_text lits) after added p q pieces
 
   pub addition_put : PassesOn a h (number_text false id) b i → PassesOn b i (literals_text lits) c j
-    → PassesOn c j after d k
+      → PassesOn c j after d k
       → PassesOn a h (line_text (Addition id lits (leading_ids base hs) (group_ids base hs))) d k
   addition_put p q r =
       subst (λ z. PassesOn a h z d k) (sym (addition_text base id lits hs))
       (passed-more a c d h j k (number_text false id ++ literals_text lits) after
-          (passed-more a b c h i j (number_text false id) (literals_text lits) p q) r)
+      (passed-more a b c h i j (number_text false id) (literals_text lits) p q) r)
 
   pub addition_fault : PassesOn a h (number_text false id) b i
-    → PassesOn b i (literals_text lits) c j → AppendsPart c d (j ++ after)
+      → PassesOn b i (literals_text lits) c j → AppendsPart c d (j ++ after)
       → AppendsPart a d (h ++ line_text
-          (Addition id lits (leading_ids base hs) (group_ids base hs)))
+      (Addition id lits (leading_ids base hs) (group_ids base hs)))
   addition_fault p q r =
       subst (λ z. AppendsPart a d (h ++ z)) (sym (addition_text base id lits hs))
       (passed_part-more a c d h j (number_text false id ++ literals_text lits) after
-          (passed-more a b c h i j (number_text false id) (literals_text lits) p q) r)
+      (passed-more a b c h i j (number_text false id) (literals_text lits) p q) r)
 
 -- a line after those that gave the last id
 pub line_deletes : (base last : ℕ) (l : LogLine) (hs : List Hint) → is_delete l.kind ≡ true
     → hs ≡ l.hints
     → line_text (numbered_after base last l)
-        ≡ line_text (Deletion last (map (λ h. id_of base (name_of h)) hs))
+    ≡ line_text (Deletion last (map (λ h. id_of base (name_of h)) hs))
 line_deletes base last l hs d e =
     ap (λ b. line_text (if b then Deletion last (map (λ h. id_of base (name_of h)) l.hints)
-          else Addition (last + 1) l.clause (leading_ids base l.hints) (group_ids base l.hints))) d
+    else Addition (last + 1) l.clause (leading_ids base l.hints) (group_ids base l.hints))) d
     ∙ ap (λ x. line_text (Deletion last (map (λ h. id_of base (name_of h)) x))) (sym e)
 
 pub line_adds : (base last : ℕ) (l : LogLine) (lits : List Literal) (hs : List Hint)
     → is_delete l.kind ≡ false → lits ≡ l.clause → hs ≡ l.hints
     → line_text (numbered_after base last l)
-        ≡ line_text (Addition (last + 1) lits (leading_ids base hs) (group_ids base hs))
+    ≡ line_text (Addition (last + 1) lits (leading_ids base hs) (group_ids base hs))
 line_adds base last l lits hs d p e =
     ap (λ b. line_text (if b then Deletion last (map (λ h. id_of base (name_of h)) l.hints)
-          else Addition (last + 1) l.clause (leading_ids base l.hints) (group_ids base l.hints))) d
+    else Addition (last + 1) l.clause (leading_ids base l.hints) (group_ids base l.hints))) d
     ∙ ap (λ x. line_text (Addition (last + 1) x (leading_ids base l.hints)
-          (group_ids base l.hints))) (sym p)
+    (group_ids base l.hints))) (sym p)
     ∙ ap (λ x. line_text (Addition (last + 1) lits (leading_ids base x) (group_ids base x))) (sym e)
 
 -- the last id that the first k lines give
@@ -231,7 +233,7 @@ last_on last [] (suc k) = last
 last_on last (l ∷ ls) (suc k) = last_on (last_after last l) ls k
 
 step_last : (d : Bool) (base before : ℕ) → base + (if d then before else before + 1)
-      ≡ (if d then base + before else base + before + 1)
+    ≡ (if d then base + before else base + before + 1)
 step_last true base before = refl
 step_last false base before = omega arith
 
@@ -241,13 +243,13 @@ step_le false last = omega arith
 
 numbered_on-at : (base before : ℕ) (ls : List LogLine) (k : ℕ) (x : ProofLine) → k < length ls
     → numbered_after base (last_on (base + before) ls k) (line_at ls k)
-      ≡ get_or (numbered_on base before ls) k x
+    ≡ get_or (numbered_on base before ls) k x
 numbered_on-at base before [] k x h = absurd (omega arith)
 numbered_on-at base before (l ∷ ls) zero x h = refl
 numbered_on-at base before (l ∷ ls) (suc k) x h =
     ap (λ n. numbered_after base (last_on n ls k) (line_at ls k))
-      (sym (step_last (is_delete l.kind) base before))
-      ∙ numbered_on-at base (if is_delete l.kind then before else before + 1) ls k x (omega arith)
+    (sym (step_last (is_delete l.kind) base before))
+    ∙ numbered_on-at base (if is_delete l.kind then before else before + 1) ls k x (omega arith)
 
 length-numbered_on : (base before : ℕ) (ls : List LogLine)
     → length (numbered_on base before ls) ≡ length ls
@@ -263,7 +265,7 @@ pub numbered_lines-at : (base : ℕ) (ls : List LogLine) (k : ℕ) (x : ProofLin
     → numbered_after base (last_on base ls k) (line_at ls k) ≡ get_or (numbered_lines base ls) k x
 numbered_lines-at base ls k x h =
     ap (λ n. numbered_after base (last_on n ls k) (line_at ls k)) (sym (add-zero base))
-      ∙ numbered_on-at base 0 ls k x h
+    ∙ numbered_on-at base 0 ls k x h
 
 last_on-suc : (last : ℕ) (ls : List LogLine) (k : ℕ) → k < length ls
     → last_on last ls (suc k) ≡ last_after (last_on last ls k) (line_at ls k)
@@ -300,36 +302,37 @@ module _ (a b c : Option (List ℕ)) (i j : List ℕ) (base last : ℕ) (ls : Li
 
   this_is : k < length ls → last ≡ last_on base ls k → this ≡ get_or (numbered_lines base ls) k this
   this_is h e = ap (λ n. numbered_after base n (line_at ls k)) e
-    ∙ numbered_lines-at base ls k this h
+      ∙ numbered_lines-at base ls k this h
 
   pub lines_more : k < length ls → last ≡ last_on base ls k
-    → PassesOn a [] (put_before base ls k) b i
-    → PassesOn b i (line_text (numbered_after base last (line_at ls k))) c j
-    → PassesOn a [] (put_before base ls (k + 1)) c j
+      → PassesOn a [] (put_before base ls k) b i
+      → PassesOn b i (line_text (numbered_after base last (line_at ls k))) c j
+      → PassesOn a [] (put_before base ls (k + 1)) c j
   lines_more h e p q = let n = length-numbered_lines base ls in
-    items_more line_text a b c [] i j [] (numbered_lines base ls) k this (omega arith)
-    (this_is h e) p q
+      items_more line_text a b c [] i j [] (numbered_lines base ls) k this (omega arith)
+      (this_is h e) p q
 
   pub line_fault : k < length ls → last ≡ last_on base ls k
-    → PassesOn a [] (put_before base ls k) b i
-    → AppendsPart b c (i ++ line_text (numbered_after base last (line_at ls k)))
-    → AppendsPart a c (text_of base ls)
+      → PassesOn a [] (put_before base ls k) b i
+      → AppendsPart b c (i ++ line_text (numbered_after base last (line_at ls k)))
+      → AppendsPart a c (text_of base ls)
   line_fault h e p q = let n = length-numbered_lines base ls in
-    item_fault line_text a b c [] i (numbered_lines base ls) k this (omega arith) (this_is h e) p q
+      item_fault line_text a b c [] i (numbered_lines base ls) k this (omega arith)
+      (this_is h e) p q
 
   pub text_whole : length ls ≤ k → PassesOn a [] (put_before base ls k) b i → Appends b c i
-    → Appends a c (text_of base ls)
+      → Appends a c (text_of base ls)
   text_whole h p q =
       let n = length-numbered_lines base ls in
       subst (Appends a c) (all_taken line_text (numbered_lines base ls) k (omega arith))
-        (passed_whole a b c [] i (put_before base ls k) p q)
+      (passed_whole a b c [] i (put_before base ls k) p q)
 
   pub text_part : length ls ≤ k → PassesOn a [] (put_before base ls k) b i → AppendsPart b c i
-    → AppendsPart a c (text_of base ls)
+      → AppendsPart a c (text_of base ls)
   text_part h p q =
       let n = length-numbered_lines base ls in
       subst (AppendsPart a c) (all_taken line_text (numbered_lines base ls) k (omega arith))
-        (passed_part a b c [] i (put_before base ls k) p q)
+      (passed_part a b c [] i (put_before base ls k) p q)
 
 pub last_next : (base last next : ℕ) (ls : List LogLine) (k : ℕ) → k < length ls
     → last ≡ last_on base ls k → next ≡ last_after last (line_at ls k)

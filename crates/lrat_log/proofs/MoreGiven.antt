@@ -37,7 +37,7 @@ grown_after E a b (Deletion lead ids ∷ ls) g =
     grown_after E (without_ids a ids) (without_ids b ids) ls (record {
       same = λ i h. ap (λ y. if list_any (nat_eq i) ids then None else y) (g.same i h);
       kept = λ i d h. pick_kept (list_any (nat_eq i) ids) None (a.clause_at i) (b.clause_at i) d
-        (g.kept i d) h;
+          (g.kept i d) h;
     })
 
 leads_grown : (E : ℕ → Bool) (at bt : Clauses) → Grown E at bt
@@ -50,24 +50,34 @@ rup_grown : (E : ℕ → Bool) (at bt : Clauses) → Grown E at bt
     → (c : List Literal) (hints : List ℕ) (groups : List CandidateHints) → IsRup at c hints groups
     → IsRup bt c hints groups
 rup_grown E at bt g c hints groups r =
-    let f = r.1 in
-    (r.0, record { front = f.front; final = f.final; split = f.split; reached = f.reached;
-          leads = leads_grown E at bt g _ f.front f.reached f.leads; clause = f.clause;
-          live = g.kept f.final f.clause f.live; conflict = f.conflict })
+    let f = r.1 in (
+      r.0,
+      record {
+        front = f.front;
+        final = f.final;
+        split = f.split;
+        reached = f.reached;
+        leads = leads_grown E at bt g _ f.front f.reached f.leads;
+        clause = f.clause;
+        live = g.kept f.final f.clause f.live;
+        conflict = f.conflict;
+      },
+    )
 
 module _ (E exempt wider : ℕ → Bool) (given more : Given) (base : ℕ)
     (grown : Grown E (given_at given) (given_at more)) (outside : (i : ℕ) → wider i ≡ false
-      → (exempt i ≡ false) × (E i ≡ false)) where
+    → (exempt i ≡ false) × (E i ≡ false)) where
   pub still_new : (before ls : List LogLine) → LearnsNew exempt given base before ls
-    → LearnsNew wider more base before ls
+      → LearnsNew wider more base before ls
   still_new before [] h = tt
   still_new before (l ∷ ls) h =
       let g =
-        grown_after E (start_over given base) (start_over more base)
-          (numbered_lines base before) grown in (
-        λ e. (let x = h.0 e in
-            (λ i d w s. x.0 i d (outside i w).0 (sym (g.same i (outside i w).1) ∙ s),
-              rup_grown E _ _ g l.clause _ _ x.1)),
+      grown_after E (start_over given base) (start_over more base)
+      (numbered_lines base before) grown in (
+        λ e. (let x = h.0 e in (
+          λ i d w s. x.0 i d (outside i w).0 (sym (g.same i (outside i w).1) ∙ s),
+          rup_grown E _ _ g l.clause _ _ x.1,
+        )),
         still_new (before ++ l ∷ []) ls h.1,
       )
 
@@ -84,7 +94,7 @@ kept_more : (g : Given) (n : ℕ) (c : List Literal) (i : ℕ) (x : List Literal
 kept_more [] n c i x h = absurd (none-some x h)
 kept_more ((Formula m, d) ∷ g) n c i x h =
     pick_kept (m == i) (Some d) (given_at g i) (given_at (g ++ (Formula n, c) ∷ []) i) x
-      (kept_more g n c i x) h
+    (kept_more g n c i x) h
 kept_more ((Added m, d) ∷ g) n c i x h = kept_more g n c i x h
 
 pub new_more : (k base : ℕ) (g : Given) (n : ℕ) (c : List Literal) (old since : List LogLine)
@@ -94,10 +104,13 @@ new_more k base g n c old since h l new none =
     let more : Given = g ++ (Formula n, c) ∷ [] in
     append_new (is_later k base) more base [] old since
     (still_new (λ i. n == i) (is_later k base) (is_later k base) g more base
-        (record { same = same_more g n c; kept = kept_more g n c })
-    (λ i w. (w, false_from_ne_true (n == i) (λ t. let e : n ≡ i = eqb-true n i t in
-            false≢true (sym w ∙ later_true k base i (omega (arith, e, h)) (omega (arith, e, l))))))
-      [] old new)
+    (record { same = same_more g n c; kept = kept_more g n c })
+    (λ i w. (
+      w,
+      false_from_ne_true (n == i) (λ t. let e : n ≡ i = eqb-true n i t in
+          false≢true (sym w ∙ later_true k base i (omega (arith, e, h)) (omega (arith, e, l)))),
+    ))
+    [] old new)
     (none_new (is_later k base) more base old since none)
 
 -- a search that learns what is new to all
@@ -107,4 +120,4 @@ pub new_searched : (exempt : ℕ → Bool) (g : Given) (base : ℕ) (old since :
 new_searched exempt g base old since h k =
     append_new exempt g base [] old since h
     (still_new nothing_exempt nothing_exempt exempt g g base
-        (record { same = λ i e. refl; kept = λ i c e. e }) (λ i w. (refl, refl)) old since k)
+    (record { same = λ i e. refl; kept = λ i c e. e }) (λ i w. (refl, refl)) old since k)

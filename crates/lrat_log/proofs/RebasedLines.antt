@@ -22,7 +22,7 @@ take_mapped f (y ∷ ys) zero d lt = refl
 take_mapped f (y ∷ ys) (suc k) d lt =
     let one : suc k + 1 ≡ suc (k + 1) = omega arith in
     ap (λ z. f y ∷ z) (take_mapped f ys k d (omega arith))
-      ∙ sym (ap (λ n. take n (map f (y ∷ ys))) one)
+    ∙ sym (ap (λ n. take n (map f (y ∷ ys))) one)
 
 pub take_mapped_at : {X Y : Type 0} (f : X → Y) (xs : List X) (k : ℕ) (x : X)
     → slice_get xs k ≡ Some x → take k (map f xs) ++ f x ∷ [] ≡ take (k + 1) (map f xs)
@@ -35,28 +35,28 @@ take_mapped_at f (y ∷ ys) (suc k) x e =
 pub weaker_more : (ws : List (Vec Literal Global × ℕ)) (k : ℕ) (e : Vec Literal Global × ℕ)
     → k < length ws → e ≡ get_or ws k e
     → take k (map weaker_line (weaker_list ws)) ++ weaker_line ((e.0).items, e.1) ∷ []
-        ≡ take (k + 1) (map weaker_line (weaker_list ws))
+    ≡ take (k + 1) (map weaker_line (weaker_list ws))
 weaker_more [] k e lt same = absurd (omega arith)
 weaker_more (w ∷ ws) zero e lt same =
     ap (λ (x : Vec Literal Global × ℕ). weaker_line ((x.0).items, x.1) ∷ []) same
 weaker_more (w ∷ ws) (suc k) e lt same =
     let one : suc k + 1 ≡ suc (k + 1) = omega arith in
     ap (λ z. weaker_line ((w.0).items, w.1) ∷ z) (weaker_more ws k e (omega arith) same)
-      ∙ sym (ap (λ n. take n (map weaker_line (weaker_list (w ∷ ws)))) one)
+    ∙ sym (ap (λ n. take n (map weaker_line (weaker_list (w ∷ ws)))) one)
 
 -- as many learned lines
 pub learned_weaker : (ws : WeakerList) → learned_count (map weaker_line ws) ≡ 0
 learned_weaker [] = refl
 learned_weaker (w ∷ ws) =
     sum_by-append (λ (l : LogLine). if is_learned l.kind then 1 else 0) (weaker_line w ∷ [])
-      (map weaker_line ws) ∙ omega (arith, learned_weaker ws)
+    (map weaker_line ws) ∙ omega (arith, learned_weaker ws)
 
 learned_moved : (f n : ℕ) (ls : List LogLine) → learned_count (map (moved_line f n) ls)
-      ≡ learned_count ls
+    ≡ learned_count ls
 learned_moved f n [] = refl
 learned_moved f n (l ∷ ls) =
     sum_by-append (λ (l : LogLine). if is_learned l.kind then 1 else 0) (moved_line f n l ∷ [])
-      (map (moved_line f n) ls)
+    (map (moved_line f n) ls)
     ∙ ap (λ m. learned_count (l ∷ []) + m) (learned_moved f n ls)
     ∙ sym (sum_by-append (λ (l : LogLine). if is_learned l.kind then 1 else 0) (l ∷ []) ls)
 
@@ -64,7 +64,7 @@ pub learned_rebased : (fixed : ℕ) (ws : WeakerList) (ls : List LogLine)
     → learned_count (rebased fixed ws ls) ≡ learned_count ls
 learned_rebased fixed ws ls =
     sum_by-append (λ (l : LogLine). if is_learned l.kind then 1 else 0) (map weaker_line ws)
-      (map (moved_line fixed (length ws)) ls)
+    (map (moved_line fixed (length ws)) ls)
     ∙ omega (arith, learned_weaker ws, learned_moved fixed (length ws) ls)
 
 -- and none that adds the empty clause, where there was none
@@ -82,4 +82,4 @@ pub open_rebased : (fixed : ℕ) (ws : WeakerList) (ls : List LogLine) → All I
     → AddsNoEmptyClause ls → AddsNoEmptyClause (rebased fixed ws ls)
 open_rebased fixed ws ls some o =
     open_weaker ws (map (moved_line fixed (length ws)) ls) (recursion_from_All IsSomeClause ws some)
-      (open_moved fixed (length ws) ls o)
+    (open_moved fixed (length ws) ls o)

@@ -66,78 +66,78 @@ module _ (first others : List (List Literal)) (ws : WeakerList)
 
   -- what is not exempt after the move was not before it
   exempt_before : (n : Name) → IsKnown (b + length ws) n → exempt (to n) ≡ false
-    → exempt (id_of a n) ≡ false
+      → exempt (id_of a n) ≡ false
   exempt_before (Added j) p e =
-    past_false (nat_le (length first + 1) (a + j)) (a + j) a (omega arith)
+      past_false (nat_le (length first + 1) (a + j)) (a + j) a (omega arith)
   exempt_before (Formula i) p e =
       let len = lengths first others ws in
       elim (cases_lt (length first) i) [
         | inr h ↦ later_false (length first) a i h
         | inl h ↦ elim (cases_lt (length first + length ws) i) [
           | inr k ↦ absurd (false≢true (sym e
-                ∙ ap exempt (rw (lt-leb i (length first) h, le-leb i (length first + length ws) k)
-                  refl) ∙ later_true (length first) a (b + (i - length first)) (omega arith)
-                (omega arith)))
+              ∙ ap exempt (rw (lt-leb i (length first) h, le-leb i (length first + length ws) k)
+              refl) ∙ later_true (length first) a (b + (i - length first)) (omega arith)
+              (omega arith)))
           | inl k ↦ absurd (false≢true (sym e
-                ∙ ap exempt (rw (lt-leb i (length first) h, lt-leb i (length first + length ws) k)
-                  refl) ∙ later_true (length first) a (i - length ws) (omega arith) (omega arith)))
+              ∙ ap exempt (rw (lt-leb i (length first) h, lt-leb i (length first + length ws) k)
+              refl) ∙ later_true (length first) a (i - length ws) (omega arith) (omega arith)))
         ]
       ]
 
   live_rebased : (before rest : List LogLine) (left : Live)
-    → AllByRecursion (LineKnown a is_added) (before ++ rest)
-    → Chain (start_over before_move a) (numbered_lines a (before ++ rest)) left
+      → AllByRecursion (LineKnown a is_added) (before ++ rest)
+      → Chain (start_over before_move a) (numbered_lines a (before ++ rest)) left
       → SameLive (b + length ws) a to (log_live before_move a before)
-        (log_live (given_of kept) b (rebased (length first) ws before))
+      (log_live (given_of kept) b (rebased (length first) ws before))
   live_rebased before rest left known chain =
       let front = chain_front a 0 (start_over before_move a) before rest left chain in
       let x =
-        rebased_live ws first others weaker a (omega arith) before
-          (all_append (LineKnown a is_added) before rest known).0 front.0 front.1 in
+      rebased_live ws first others weaker a (omega arith) before
+      (all_append (LineKnown a is_added) before rest known).0 front.0 front.1 in
       let new =
-        chain_end (start_of kept) (numbered_lines b (rebased (length first) ws before)) x.0 x.1 in
+      chain_end (start_of kept) (numbered_lines b (rebased (length first) ws before)) x.0 x.1 in
       let start = ap (λ s. live_after s (numbered_lines b (rebased (length first) ws before)))
-        (sym (start_over-given_of kept)) in
+      (sym (start_over-given_of kept)) in
       subst (λ (y : Live). SameLive (b + length ws) a to (log_live before_move a before)
-          y.clause_at) (new ∙ start)
+      y.clause_at) (new ∙ start)
       (subst (λ (y : Live). SameLive (b + length ws) a to y.clause_at (x.0).clause_at)
-          (chain_end (start_over before_move a) (numbered_lines a before) front.0 front.1) x.2)
+      (chain_end (start_over before_move a) (numbered_lines a before) front.0 front.1) x.2)
 
   module _ (at bt : Clauses) (same : SameLive (b + length ws) a to at bt) where
     new_moved : (c : List Literal) → IsNewTo exempt at c → IsNewTo exempt bt c
     new_moved c h i d e l =
         let x = same.named_after i d l in
         h (id_of a x.0) d (exempt_before x.0 x.1 (ap exempt x.2 ∙ e)) (same.same x.0 x.1
-            ∙ ap bt x.2 ∙ l)
+        ∙ ap bt x.2 ∙ l)
 
     rup_moved : (l : LogLine) → LineKnown a is_added l → IsByRup a at l
-      → IsByRup b bt (moved_line (length first) (length ws) l)
+        → IsByRup b bt (moved_line (length first) (length ws) l)
     rup_moved l known r =
         let hs : List Hint = l.hints in
         let ns : List Name = leading_names l.hints in
         let renames =
-          renames_moved (length first) (length ws) b a (lengths first others ws).1 (omega arith) in
+        renames_moved (length first) (length ws) b a (lengths first others ws).1 (omega arith) in
         let named =
-          subst (λ x. IsRup at l.clause (map (id_of a) ns) x) (group_ids-names a hs)
-            (subst (λ x. IsRup at l.clause x (group_ids a hs)) (leading_ids-names a hs) r) in
+        subst (λ x. IsRup at l.clause (map (id_of a) ns) x) (group_ids-names a hs)
+        (subst (λ x. IsRup at l.clause x (group_ids a hs)) (leading_ids-names a hs) r) in
         let after =
-          rup_after (b + length ws) a is_added to (b + length ws) renames at bt same l.clause ns
-            (group_names hs)
+        rup_after (b + length ws) a is_added to (b + length ws) renames at bt same l.clause ns
+        (group_names hs)
         (leading_known (b + length ws) a is_added to (b + length ws) renames hs known) named in
         let moved : List Hint = map (moved_hint (length first) (length ws)) hs in
         subst (λ x. IsRup bt l.clause (leading_ids b moved) x)
-          (sym (group_ids-names b moved ∙ group_ids_moved (length first) (length ws) b hs))
+        (sym (group_ids-names b moved ∙ group_ids_moved (length first) (length ws) b hs))
         (subst (λ x. IsRup bt l.clause x (map (group_by to) (group_names hs)))
-            (sym (leading_ids-names b moved ∙ leading_ids_moved (length first) (length ws) b hs))
-            after)
+        (sym (leading_ids-names b moved ∙ leading_ids_moved (length first) (length ws) b hs))
+        after)
 
   -- line by line, after so many of the old log
   lines_new : (before ls : List LogLine) (left : Live)
-    → AllByRecursion (LineKnown a is_added) (before ++ ls)
-    → Chain (start_over before_move a) (numbered_lines a (before ++ ls)) left
+      → AllByRecursion (LineKnown a is_added) (before ++ ls)
+      → Chain (start_over before_move a) (numbered_lines a (before ++ ls)) left
       → LearnsNew exempt before_move a before ls
       → LearnsNew exempt (given_of kept) b (rebased (length first) ws before)
-        (map (moved_line (length first) (length ws)) ls)
+      (map (moved_line (length first) (length ws)) ls)
   lines_new before [] left known chain h = tt
   lines_new before (l ∷ ls) left known chain h =
       let same = live_rebased before (l ∷ ls) left known chain in
@@ -147,43 +147,45 @@ module _ (first others : List (List Literal)) (ws : WeakerList)
       let known_line = (all_append (LineKnown a is_added) before (l ∷ ls) known).1.0 in
       let parts = sym (append_assoc before (l ∷ []) ls) in
       let more = ap (λ x. map weaker_line ws ++ x) (map-append move before (l ∷ []))
-        ∙ sym (append_assoc (map weaker_line ws) (map move before) (move l ∷ [])) in (
+      ∙ sym (append_assoc (map weaker_line ws) (map move before) (move l ∷ [])) in (
         λ e. (new_moved at bt same l.clause (h.0 e).0, rup_moved at bt same l known_line (h.0 e).1),
         subst (λ x. LearnsNew exempt (given_of kept) b x (map move ls)) more
             (lines_new (before ++ l ∷ []) ls left
-                (subst (AllByRecursion (LineKnown a is_added)) parts known)
-                (subst (λ x. Chain (start_over before_move a) (numbered_lines a x) left) parts
-                  chain) h.1),
+            (subst (AllByRecursion (LineKnown a is_added)) parts known)
+            (subst (λ x. Chain (start_over before_move a) (numbered_lines a x) left) parts
+            chain) h.1),
       )
 
   pub all_new : (old : List LogLine) → IsLogOver before_move old
-    → LearnsNew exempt before_move a [] old
-    → LearnsNew exempt (given_of kept) b [] (rebased (length first) ws old)
+      → LearnsNew exempt before_move a [] old
+      → LearnsNew exempt (given_of kept) b [] (rebased (length first) ws old)
   all_new old log h =
       let above : b + length ws ≤ a = omega arith in
       let lines = lines_new [] old (live_after (start_over before_move a) (numbered_lines a old))
-        (given_known ws first others a above old log)
-        (log.steps a (given_base ws first others a above)) h in
+      (given_known ws first others a above old log)
+      (log.steps a (given_base ws first others a above)) h in
       append_new exempt (given_of kept) b [] (map weaker_line ws)
-        (map (moved_line (length first) (length ws)) old)
+      (map (moved_line (length first) (length ws)) old)
       (none_new exempt (given_of kept) b [] (map weaker_line ws) (learned_weaker ws))
       (subst (λ x. LearnsNew exempt (given_of kept) b x
-            (map (moved_line (length first) (length ws)) old))
-          (append-nil (map weaker_line ws)) lines)
+      (map (moved_line (length first) (length ws)) old))
+      (append-nil (map weaker_line ws)) lines)
 
 -- all that `rebase` keeps
 pub keeps_log_law : (fixed : ℕ) (ws : WeakerList) (old : List LogLine) → KeepsLog fixed ws old
 keeps_log_law fixed ws old = record {
   steps = keeps_steps fixed ws old;
   log =
-    λ first others e weaker nonempty log. keeps_log fixed ws old first others e weaker log nonempty;
+      λ first others e weaker nonempty log. keeps_log fixed ws old first others e weaker
+      log nonempty;
   accepted =
-    λ first others e weaker nonempty log accepted. keeps_accepted fixed ws old first others e weaker
+      λ first others e weaker nonempty log accepted. keeps_accepted fixed ws old first
+      others e weaker
       nonempty log accepted;
   new = λ first others e weaker log count same h.
       subst (λ n. LearnsNew (is_later n count) (given_of (first ++ others))
-          (length (first ++ others)) [] (rebased n ws old)) e
+      (length (first ++ others)) [] (rebased n ws old)) e
       (all_new first others ws weaker count (same ∙ (lengths first others ws).0) old log
       (subst (λ n. LearnsNew (is_later n count) (given_of (first ++ clauses_of ws ++ others)) count
-            [] old) (sym e) h));
+      [] old) (sym e) h));
 }

@@ -78,10 +78,10 @@ unfolding weak_after
 weak_outside live n [] i h = refl
 weak_outside live n (e ∷ ws) i (inl h) =
     weak_outside (with_clause live (n + 1) e.0) (n + 1) ws i (inl (omega arith))
-      ∙ with_other live (n + 1) e.0 i (λ z. absurd (omega arith))
+    ∙ with_other live (n + 1) e.0 i (λ z. absurd (omega arith))
 weak_outside live n (e ∷ ws) i (inr h) =
     weak_outside (with_clause live (n + 1) e.0) (n + 1) ws i (inr (omega arith))
-      ∙ with_other live (n + 1) e.0 i (λ z. absurd (omega arith))
+    ∙ with_other live (n + 1) e.0 i (λ z. absurd (omega arith))
 
 weak_inside : (live : Live) (n : ℕ) (ws : WeakerList) (i k : ℕ) → i ≡ n + suc k → k < length ws
     → (weak_after live n ws).clause_at i ≡ slice_get (clauses_of ws) k
@@ -89,7 +89,7 @@ unfolding weak_after
 weak_inside live n [] i k e h = absurd (omega arith)
 weak_inside live n (w ∷ ws) i zero e h =
     weak_outside (with_clause live (n + 1) w.0) (n + 1) ws i (inl (omega arith))
-      ∙ with_same live (n + 1) w.0 i (omega arith)
+    ∙ with_same live (n + 1) w.0 i (omega arith)
 weak_inside live n (w ∷ ws) i (suc k) e h =
     weak_inside (with_clause live (n + 1) w.0) (n + 1) ws i k (omega arith) (omega arith)
 
@@ -120,7 +120,7 @@ weak_chain : (cs : List (List Literal)) (before : ℕ) (ws : WeakerList)
     → ((i : ℕ) → i ≤ length cs → live.clause_at i ≡ numbered cs i)
     → (rest : List LogLine) (left : Live)
     → Chain (weak_after live (length cs + before) ws)
-      (numbered_on (length cs) (before + length ws) rest) left
+    (numbered_on (length cs) (before + length ws) rest) left
     → Chain live (numbered_on (length cs) before (map weaker_line ws ++ rest)) left
 unfolding weak_after
 weak_chain cs before [] w live h same rest left ch =
@@ -133,11 +133,11 @@ weak_chain cs before (e ∷ ws) w live h same rest left ch =
       with_clause live id e.0,
       weak_step cs e w.0 live id (omega arith) same,
       weak_chain cs (before + 1) ws w.1 (with_clause live id e.0) (omega arith)
-        (λ i k. with_other live id e.0 i (λ z. absurd (omega arith)) ∙ same i k) rest left
+          (λ i k. with_other live id e.0 i (λ z. absurd (omega arith)) ∙ same i k) rest left
           (subst (λ x. Chain (weak_after (with_clause live id e.0) x ws)
-                (numbered_on (length cs) (before + 1 + length ws) rest) left) up
+          (numbered_on (length cs) (before + 1 + length ws) rest) left) up
           (subst (λ x. Chain (weak_after (with_clause live id e.0) id ws)
-                (numbered_on (length cs) x rest) left) shift ch)),
+          (numbered_on (length cs) x rest) left) shift ch)),
     )
 
 -- the ids of names after the move, where b clauses are given, and which name has an id
@@ -159,7 +159,7 @@ module _ (fixed count b : ℕ) (low : fixed ≤ b) where
   back : ℕ → Name
   back i =
       if nat_le i fixed then Formula i else if nat_le i b then Formula (i + count)
-        else if nat_le i (b + count) then Formula ((i - b) + fixed) else Added (i - (b + count))
+      else if nat_le i (b + count) then Formula ((i - b) + fixed) else Added (i - (b + count))
 
   back_fixed : (i : ℕ) → i ≤ fixed → back i ≡ Formula i
   unfolding back
@@ -189,10 +189,10 @@ module _ (fixed count b : ℕ) (low : fixed ≤ b) where
         | inl h ↦ elim (cases_lt (fixed + count) i) [
           | inr k ↦ let e : ((b + (i - fixed)) - b) + fixed ≡ i = omega arith in
               ap back (id_weak i h k) ∙ back_weak (b + (i - fixed)) (omega arith) (omega arith)
-                ∙ ap Formula e
+              ∙ ap Formula e
           | inl k ↦ let e : (i - count) + count ≡ i = omega arith in
               ap back (id_other i k) ∙ back_other (i - count) (omega arith) (omega arith)
-                ∙ ap Formula e
+              ∙ ap Formula e
         ]
       ]
   back_of (Added j) p =
@@ -206,9 +206,11 @@ module _ (fixed count b : ℕ) (low : fixed ≤ b) where
         | inl k ↦ elim (cases_lt b i) [
           | inr l ↦ let e : (i + count) - count ≡ i = omega arith in
               (Formula (i + count), omega arith, id_other (i + count) (omega arith) ∙ e)
-          | inl l ↦ let e : b + (((i - b) + fixed) - fixed) ≡ i = omega arith in
-              (Formula ((i - b) + fixed), omega arith,
-                  id_weak ((i - b) + fixed) (omega arith) (omega arith) ∙ e)
+          | inl l ↦ let e : b + (((i - b) + fixed) - fixed) ≡ i = omega arith in (
+            Formula ((i - b) + fixed),
+            omega arith,
+            id_weak ((i - b) + fixed) (omega arith) (omega arith) ∙ e,
+          )
         ]
       ]
 
@@ -227,7 +229,7 @@ pub renames_moved : (fixed count b a : ℕ) → fixed ≤ b → b + count ≤ a
 renames_moved fixed count b a low above = record {
   below = above;
   one = λ n k p q e. sym (back_of fixed count b low n p) ∙ ap (back fixed count b low) e
-    ∙ back_of fixed count b low k q;
+      ∙ back_of fixed count b low k q;
   rising = λ n k p q x y h. added_rise fixed count b a n k p q h;
   added = λ j. omega arith;
 }
@@ -269,31 +271,31 @@ module _ (first others : List (List Literal)) (ws : WeakerList) where
       elim (cases_lt (length first) i) [
         | inr h ↦
             numbered_left (first ++ clauses_of ws) others i (omega arith)
-              ∙ numbered_left first (clauses_of ws) i h
+            ∙ numbered_left first (clauses_of ws) i h
             ∙ sym (numbered_left first others i h) ∙ sym (low_at i (omega arith))
             ∙ ap weakened.clause_at
-              (sym (id_fixed (length first) (length ws) (length kept_clauses) len.1 i h))
+            (sym (id_fixed (length first) (length ws) (length kept_clauses) len.1 i h))
         | inl h ↦ elim (cases_lt (length first + length ws) i) [
           | inr k ↦
               let j : ℕ = i - (length first + 1) in
               let e : i ≡ length first + suc (i - (length first + 1)) = omega arith in
               numbered_left (first ++ clauses_of ws) others i (omega arith)
-                ∙ numbered_right first (clauses_of ws) i j e
+              ∙ numbered_right first (clauses_of ws) i j e
               ∙ sym (weak_inside (start_of kept_clauses) (length kept_clauses) ws
-                  (length kept_clauses + (i - length first)) j (omega arith) (omega arith))
+              (length kept_clauses + (i - length first)) j (omega arith) (omega arith))
               ∙ ap weakened.clause_at
-                (sym (id_weak (length first) (length ws) (length kept_clauses) len.1 i h k))
+              (sym (id_weak (length first) (length ws) (length kept_clauses) len.1 i h k))
           | inl k ↦
               let j : ℕ = i - (length first + length ws + 1) in
               let e : i ≡ length (first ++ clauses_of ws) + suc (i - (length first + length ws + 1))
-                = omega arith in
+              = omega arith in
               let z : i - length ws ≡ length first + suc (i - (length first + length ws + 1)) =
               omega arith in
               numbered_right (first ++ clauses_of ws) others i j e
               ∙ sym (numbered_right first others (i - length ws) j z)
               ∙ sym (low_at (i - length ws) (omega arith))
               ∙ ap weakened.clause_at
-                (sym (id_other (length first) (length ws) (length kept_clauses) len.1 i k))
+              (sym (id_other (length first) (length ws) (length kept_clauses) len.1 i k))
         ]
       ]
 
@@ -312,20 +314,24 @@ module _ (first others : List (List Literal)) (ws : WeakerList) where
     names_same (Formula i) p = given_at-given_of given_clauses i ∙ formula_same i p
     names_same (Added j) p =
         given_past (given_of given_clauses) (length kept_clauses + length ws) base_given (a + j)
-          (omega arith)
+        (omega arith)
         ∙ sym (past_at (length kept_clauses + (length ws + j)) (omega arith))
 
     start_live : SameLive (length kept_clauses + length ws) a to_id
-      (given_at (given_of given_clauses)) weakened.clause_at
+        (given_at (given_of given_clauses)) weakened.clause_at
     start_live = record {
       same = names_same;
       named =
-        λ i c e. (Formula i, given_below (given_of given_clauses) (length kept_clauses + length ws)
-          base_given i c e, refl);
+          λ i c e. (
+            Formula i,
+            given_below (given_of given_clauses) (length kept_clauses + length ws)
+                base_given i c e,
+            refl,
+          );
       named_after = λ i c e. elim (cases_lt (length kept_clauses + length ws) i) [
         | inl h ↦ absurd (none-some c (sym (past_at i h) ∙ e))
         | inr h ↦ let len = lengths in
-          of_back (length first) (length ws) (length kept_clauses) len.1 i h
+            of_back (length first) (length ws) (length kept_clauses) len.1 i h
       ];
     }
 
@@ -354,10 +360,12 @@ group_ids_moved f c b [] = refl
 group_ids_moved f c b (Plain n ∷ hs) = group_ids_moved f c b hs
 group_ids_moved f c b (Group n ∷ hs) =
     ap (λ x. record { candidate = id_of b (moved_name f c n); hints = x } ∷ map (group_by (id_of b))
-        (group_names (map (moved_hint f c) hs))) (leading_ids_moved f c b hs)
-    ∙ ap (λ x. record { candidate = id_of b (moved_name f c n);
-          hints = map (λ n. id_of b (moved_name f c n)) (leading_names hs) } ∷ x)
-      (group_ids_moved f c b hs)
+    (group_names (map (moved_hint f c) hs))) (leading_ids_moved f c b hs)
+    ∙ ap (λ x. record {
+      candidate = id_of b (moved_name f c n);
+      hints = map (λ n. id_of b (moved_name f c n)) (leading_names hs);
+    } ∷ x)
+    (group_ids_moved f c b hs)
 
 name_moved : (f c : ℕ) (h : Hint) → name_of (moved_hint f c h) ≡ moved_name f c (name_of h)
 name_moved f c (Plain n) = refl
@@ -369,7 +377,7 @@ names_moved : (f c b : ℕ) (hs : List Hint)
 names_moved f c b [] = refl
 names_moved f c b (h ∷ hs) =
     ap (λ x. id_of b x ∷ map (λ k. id_of b (name_of k)) (map (moved_hint f c) hs))
-      (name_moved f c h) ∙ ap (λ x. id_of b (moved_name f c (name_of h)) ∷ x) (names_moved f c b hs)
+    (name_moved f c h) ∙ ap (λ x. id_of b (moved_name f c (name_of h)) ∷ x) (names_moved f c b hs)
 
 line_moved : (d : Bool) (f c b before : ℕ) (k : List Literal) (hs : List Hint)
     → line_by (id_of b) d (c + before) k (map (moved_hint f c) hs)
@@ -378,12 +386,12 @@ line_moved true f c b before k hs = ap (Deletion (b + (c + before))) (names_move
 line_moved false f c b before k hs =
     let id : b + (c + before + 1) ≡ b + (c + (before + 1)) = omega arith in
     ap (λ x. Addition x k (map (id_of b) (leading_names (map (moved_hint f c) hs)))
-        (map (group_by (id_of b)) (group_names (map (moved_hint f c) hs)))) id
+    (map (group_by (id_of b)) (group_names (map (moved_hint f c) hs)))) id
     ∙ ap (λ x. Addition (b + (c + (before + 1))) k x
-        (map (group_by (id_of b)) (group_names (map (moved_hint f c) hs))))
-      (leading_ids_moved f c b hs)
+    (map (group_by (id_of b)) (group_names (map (moved_hint f c) hs))))
+    (leading_ids_moved f c b hs)
     ∙ ap (λ x. Addition (b + (c + (before + 1))) k
-        (map (λ n. id_of b (moved_name f c n)) (leading_names hs)) x) (group_ids_moved f c b hs)
+    (map (λ n. id_of b (moved_name f c n)) (leading_names hs)) x) (group_ids_moved f c b hs)
 
 next_moved : (d : Bool) (c before : ℕ)
     → (if d then c + before else c + before + 1) ≡ c + (if d then before else before + 1)
@@ -396,12 +404,12 @@ named_moved : (f c b before : ℕ) (ls : List LogLine)
 named_moved f c b before [] = refl
 named_moved f c b before (l ∷ ls) =
     ap (λ x. x ∷ named_on (id_of b) (if is_delete l.kind then c + before else c + before + 1)
-        (map (moved_line f c) ls)) (line_moved (is_delete l.kind) f c b before l.clause l.hints)
+    (map (moved_line f c) ls)) (line_moved (is_delete l.kind) f c b before l.clause l.hints)
     ∙ ap (λ x. line_by (λ n. id_of b (moved_name f c n)) (is_delete l.kind) before l.clause
-        l.hints ∷ x)
+    l.hints ∷ x)
     (ap (λ x. named_on (id_of b) x (map (moved_line f c) ls))
-        (next_moved (is_delete l.kind) c before)
-        ∙ named_moved f c b (if is_delete l.kind then before else before + 1) ls)
+    (next_moved (is_delete l.kind) c before)
+    ∙ named_moved f c b (if is_delete l.kind then before else before + 1) ls)
 
 -- the names of the log, whose groups are its own
 own_group : (h : Hint) → IsOwnGroup h → GroupIs is_added h
@@ -437,10 +445,10 @@ pub rebased_live : (ws : WeakerList) (first others : List (List Literal))
     → (old : List LogLine) → AllByRecursion (LineKnown a is_added) old → (left : Live)
     → Chain (start_over (given_of (first ++ clauses_of ws ++ others)) a) (numbered_lines a old) left
     → (after : Live) × Chain (start_of (first ++ others))
-      (numbered_lines (length (first ++ others)) (rebased (length first) ws old)) after
+    (numbered_lines (length (first ++ others)) (rebased (length first) ws old)) after
     × SameLive (length (first ++ others) + length ws) a
-      (λ n. id_of (length (first ++ others)) (moved_name (length first) (length ws) n))
-      left.clause_at after.clause_at
+    (λ n. id_of (length (first ++ others)) (moved_name (length first) (length ws) n))
+    left.clause_at after.clause_at
 rebased_live ws first others weaker a above old known left chain =
     let cs : List (List Literal) = first ++ others in
     let b : ℕ = length (first ++ others) in
@@ -452,24 +460,24 @@ rebased_live ws first others weaker a above old known left chain =
     (let z = weak_last (start_of cs) b ws (omega arith) in omega arith) in
     let to = λ (n : Name). id_of b (moved_name (length first) c n) in
     let x =
-      chain_after (b + c) a is_added to (b + c) (renames_moved (length first) c b a len.1 above)
-        0 old known
+    chain_after (b + c) a is_added to (b + c) (renames_moved (length first) c b a len.1 above)
+    0 old known
     (start_over g a) w left (start_live first others ws a above) small
-      (subst (λ y. Chain (start_over g a) y left) (numbered_on-named a 0 old) chain) in
+    (subst (λ y. Chain (start_over g a) y left) (numbered_on-named a 0 old) chain) in
     let same : numbered_on b (0 + c) (map (moved_line (length first) c) old) ≡ named_on to 0 old =
     (let e : 0 + c ≡ c + 0 = omega arith in
     ap (λ n. numbered_on b n (map (moved_line (length first) c) old)) e
-      ∙ numbered_on-named b (c + 0) (map (moved_line (length first) c) old)
-      ∙ named_moved (length first) c b 0 old) in
+    ∙ numbered_on-named b (c + 0) (map (moved_line (length first) c) old)
+    ∙ named_moved (length first) c b 0 old) in
     let zero_more : b ≡ b + 0 = omega arith in
     let after : Chain (weak_after (start_of cs) (b + 0) ws)
-      (numbered_on b (0 + c) (map (moved_line (length first) c) old)) x.0 =
+    (numbered_on b (0 + c) (map (moved_line (length first) c) old)) x.0 =
     subst (λ n. Chain (weak_after (start_of cs) n ws)
-        (numbered_on b (0 + c) (map (moved_line (length first) c) old)) x.0) zero_more
+    (numbered_on b (0 + c) (map (moved_line (length first) c) old)) x.0) zero_more
     (subst (λ y. Chain w y x.0) (sym same) x.1) in (
       x.0,
       weak_chain cs 0 ws (recursion_from_All (IsWeakerOf cs) ws weaker) (start_of cs) (omega arith)
-        (λ i h. refl) (map (moved_line (length first) c) old) x.0 after,
+          (λ i h. refl) (map (moved_line (length first) c) old) x.0 after,
       x.2,
     )
 
@@ -486,30 +494,30 @@ pub given_known : (ws : WeakerList) (first others : List (List Literal)) (a : �
     → AllByRecursion (LineKnown a is_added) old
 given_known ws first others a above old log =
     lines_known a old (known_names (given_of (first ++ clauses_of ws ++ others)) a
-        (given_base ws first others a above) old log.steps) log.groups
+    (given_base ws first others a above) old log.steps) log.groups
 
 rebased_chain : (ws : WeakerList) (old : List LogLine) (first others : List (List Literal))
     → All (IsWeakerOf (first ++ others)) ws
     → IsLogOver (given_of (first ++ clauses_of ws ++ others)) old
     → AreSteps (start_of (first ++ others))
-      (numbered_lines (length (first ++ others)) (rebased (length first) ws old))
+    (numbered_lines (length (first ++ others)) (rebased (length first) ws old))
 rebased_chain ws old first others weaker log =
     let a : ℕ = length (first ++ others) + length ws in
     let g : Given = given_of (first ++ clauses_of ws ++ others) in
     let le : length (first ++ others) + length ws ≤ a = omega arith in
     let x = rebased_live ws first others weaker a le old (given_known ws first others a le old log)
-      (live_after (start_over g a) (numbered_lines a old))
+    (live_after (start_over g a) (numbered_lines a old))
     (log.steps a (given_base ws first others a le)) in
     steps_from_chain (start_of (first ++ others))
-      (numbered_lines (length (first ++ others)) (rebased (length first) ws old)) x.0 x.1
+    (numbered_lines (length (first ++ others)) (rebased (length first) ws old)) x.0 x.1
 
 -- rebasing keeps steps
 pub keeps_steps : (fixed : ℕ) (ws : WeakerList) (old : List LogLine)
     → KeepsSteps fixed ws old (rebased fixed ws old)
 keeps_steps fixed ws old first others e weaker log =
     subst (λ n. AreSteps (start_of (first ++ others))
-        (numbered_lines (length (first ++ others)) (rebased n ws old))) e
-      (rebased_chain ws old first others weaker log)
+    (numbered_lines (length (first ++ others)) (rebased n ws old))) e
+    (rebased_chain ws old first others weaker log)
 
 -- and acceptance, where no weaker clause is empty
 stops_cons : (l : LogLine) (ls : List LogLine) → adds_empty_clause l ≡ false → StopsAtEmptyClause ls
@@ -539,7 +547,7 @@ any_weaker : (ws : WeakerList) (rest : List LogLine) → list_any adds_empty_cla
 any_weaker [] rest h = h
 any_weaker (e ∷ ws) rest h =
     or_right (adds_empty_clause (weaker_line e))
-      (list_any adds_empty_clause (map weaker_line ws ++ rest)) (any_weaker ws rest h)
+    (list_any adds_empty_clause (map weaker_line ws ++ rest)) (any_weaker ws rest h)
 
 -- a log over the clauses of a formula, from the start of a certificate
 pub start_over-given_of : (cs : List (List Literal))
@@ -550,13 +558,13 @@ pub steps_of_log : (cs : List (List Literal)) (ls : List LogLine) → IsLogOver 
     → AreSteps (start_of cs) (numbered_lines (length cs) ls)
 steps_of_log cs ls log =
     subst (λ x. AreSteps x (numbered_lines (length cs) ls)) (start_over-given_of cs)
-      (log.steps (length cs) (base_of cs (length cs) (omega arith)))
+    (log.steps (length cs) (base_of cs (length cs) (omega arith)))
 
 pub accepts_of_log : (cs : List (List Literal)) (ls : List LogLine) → IsAcceptedLog (given_of cs) ls
     → Accepts cs (numbered_lines (length cs) ls)
 accepts_of_log cs ls log =
     subst (λ x. AcceptsFrom x (numbered_lines (length cs) ls)) (start_over-given_of cs)
-      (log (length cs) (base_of cs (length cs) (omega arith)))
+    (log (length cs) (base_of cs (length cs) (omega arith)))
 
 -- the lines of the result are lines
 abbrev HasSmallId : ℕ → Hint → Type 0
@@ -568,7 +576,7 @@ moved_number f c (Added j) h small = (omega (arith, h.0), small)
 moved_number f c (Formula i) h small =
     elim (cases_lt f i) [
       | inr k ↦ subst (λ n. IsId (number_in n))
-        (sym (cond-true (nat_le i f) (Formula i) _ (le-leb i f k))) h
+          (sym (cond-true (nat_le i f) (Formula i) _ (le-leb i f k))) h
       | inl k ↦ elim (cases_lt (f + c) i) [
         | inr l ↦ rw (lt-leb i f k, le-leb i (f + c) l) (omega arith, omega (arith, h.1))
         | inl l ↦ rw (lt-leb i f k, lt-leb i (f + c) l) (omega arith, omega (arith, h.1))
@@ -592,13 +600,15 @@ pub moved_line-is : (f c : ℕ) (l : LogLine) → IsLine l → All (HasSmallId c
 moved_line-is f c l h s = record {
   literals = h.literals;
   names =
-    All-from_recursion HasNumber _
+      All-from_recursion HasNumber _
       (moved_numbers f c l.hints (recursion_from_All HasNumber l.hints h.names)
       (recursion_from_All (HasSmallId c) l.hints s));
   deletes =
-    λ d. ((h.deletes d).0,
-      All-from_recursion IsPlain _
-      (hints_plain f c l.hints (recursion_from_All IsPlain l.hints (h.deletes d).1)));
+      λ d. (
+        (h.deletes d).0,
+        All-from_recursion IsPlain _
+            (hints_plain f c l.hints (recursion_from_All IsPlain l.hints (h.deletes d).1)),
+      );
 }
 
 -- the result is a log over the clauses that are left
@@ -607,7 +617,7 @@ known_moved f c b (Added j) low h = omega arith
 known_moved f c b (Formula i) low h =
     elim (cases_lt f i) [
       | inr k ↦ subst (IsKnown b) (sym (cond-true (nat_le i f) (Formula i) _ (le-leb i f k)))
-        (omega arith)
+          (omega arith)
       | inl k ↦ elim (cases_lt (f + c) i) [
         | inr l ↦ rw (lt-leb i f k, le-leb i (f + c) l) (omega arith)
         | inl l ↦ rw (lt-leb i f k, lt-leb i (f + c) l) (omega arith)
@@ -637,10 +647,10 @@ lines_fit : (f c b : ℕ) (ls : List LogLine) → f ≤ b → HasKnownNames (b +
 lines_fit f c b [] low k o = tt
 lines_fit f c b (l ∷ ls) low k o =
     let known =
-      recursion_from_All (λ h. IsKnown (b + c) (name_of h)) l.hints
-        (All-head (NamesKnown (b + c)) l ls k) in (
+    recursion_from_All (λ h. IsKnown (b + c) (name_of h)) l.hints
+    (All-head (NamesKnown (b + c)) l ls k) in (
       hints_fit f c b l.hints low known
-        (recursion_from_All IsOwnGroup l.hints (All-head IsOwn l ls o)),
+          (recursion_from_All IsOwnGroup l.hints (All-head IsOwn l ls o)),
       lines_fit f c b ls low (All-tail (NamesKnown (b + c)) l ls k) (All-tail IsOwn l ls o),
     )
 
@@ -664,13 +674,13 @@ all_known : (b : ℕ) (ls : List LogLine) → AllByRecursion (LineFits b) ls →
 all_known b [] k = All-nil (NamesKnown b)
 all_known b (l ∷ ls) k =
     All-cons (NamesKnown b) l ls (All-from_recursion (λ h. IsKnown b (name_of h)) l.hints
-        (fits_known b l.hints k.0)) (all_known b ls k.1)
+    (fits_known b l.hints k.0)) (all_known b ls k.1)
 
 all_own : (b : ℕ) (ls : List LogLine) → AllByRecursion (LineFits b) ls → All IsOwn ls
 all_own b [] k = All-nil IsOwn
 all_own b (l ∷ ls) k =
     All-cons IsOwn l ls (All-from_recursion IsOwnGroup l.hints (fits_own b l.hints k.0))
-      (all_own b ls k.1)
+    (all_own b ls k.1)
 
 pub keeps_log : (fixed : ℕ) (ws : WeakerList) (old : List LogLine)
     (first others : List (List Literal))
@@ -688,16 +698,16 @@ keeps_log fixed ws old first others e weaker log nonempty =
     let moved : List LogLine = map (moved_line fixed (length ws)) old in
     let fits : AllByRecursion (LineFits b) (rebased fixed ws old) =
     weaker_fit cs ws moved (recursion_from_All (IsWeakerOf cs) ws weaker)
-      (lines_fit fixed (length ws) b old (omega arith)
-        (known_names g (b + length ws) base old log.steps) log.groups) in
+    (lines_fit fixed (length ws) b old (omega arith)
+    (known_names g (b + length ws) base old log.steps) log.groups) in
     let steps : AreSteps (start_over (given_of cs) b) (numbered_lines b (rebased fixed ws old)) =
     subst (λ (x : Live). AreSteps x (numbered_lines b (rebased fixed ws old)))
-      (sym (start_over-given_of cs)) (keeps_steps fixed ws old first others e weaker log) in
+    (sym (start_over-given_of cs)) (keeps_steps fixed ws old first others e weaker log) in
     record {
       steps = log_steps_from (given_of cs) b (base_of cs b (omega arith)) (rebased fixed ws old)
-        (all_known b (rebased fixed ws old) fits) steps;
+          (all_known b (rebased fixed ws old) fits) steps;
       stops =
-        stops_weaker ws moved (recursion_from_All IsSomeClause ws nonempty)
+          stops_weaker ws moved (recursion_from_All IsSomeClause ws nonempty)
           (stops_moved fixed (length ws) old log.stops);
       groups = all_own b (rebased fixed ws old) fits;
     }
@@ -714,6 +724,6 @@ keeps_accepted fixed ws old first others e weaker nonempty log accepted =
     let some : list_any adds_empty_clause old ≡ true =
     refuted_log (given_of cs) (length cs) (base_of cs (length cs) (omega arith)) old accepted in
     accepted_log (given_of (first ++ others)) (rebased fixed ws old)
-      (keeps_log fixed ws old first others e weaker log nonempty)
+    (keeps_log fixed ws old first others e weaker log nonempty)
     (any_weaker ws (map (moved_line fixed (length ws)) old) (any_moved fixed (length ws) old
-          ∙ some))
+    ∙ some))

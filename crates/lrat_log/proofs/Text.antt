@@ -61,7 +61,7 @@ word_tokens : (b : ℕ) (bs rest : List ℕ) → 33 ≤ b → AllByRecursion (λ
 word_tokens b [] rest h all e = rw (not_blank b h, e) refl
 word_tokens b (c ∷ cs) rest h all e =
     first_byte b (c ∷ cs ++ rest) h ∙ ap (λ x. put_byte b (not x) (tokens_of (c ∷ cs ++ rest)))
-      (not_blank c all.0) ∙ ap (put_byte b true) (word_tokens c cs rest all.0 all.1 e)
+    (not_blank c all.0) ∙ ap (put_byte b true) (word_tokens c cs rest all.0 all.1 e)
 
 pub tokens_of-joined : (ts : List (List ℕ)) → AllByRecursion IsWord ts → tokens_of (joined ts) ≡ ts
 tokens_of-joined [] h = refl
@@ -109,7 +109,7 @@ line_first : (x rest : List ℕ) → IsLineText x → lines (x ++ 10 ∷ rest) �
 line_first x rest h =
     let stripped : strip_carriage_return x ≡ x = rw (no_return x (length x - 1) h) refl in
     ap lines_of_parts (slice_split_at is_feed x 10 rest
-        (All-from_recursion (λ b. is_feed b ≡ false) x (no_feed x h)) refl)
+    (All-from_recursion (λ b. is_feed b ≡ false) x (no_feed x h)) refl)
     ∙ parts_cons x (slice_split is_feed rest) (omega (arith, length-slice_split is_feed rest))
     ∙ ap (λ y. y ∷ lines rest) stripped
 
@@ -191,9 +191,11 @@ words_clause (l ∷ c) h = (literal_word l.negated l.variable h.0.1, words_claus
 words_groups : (gs : List CandidateHints) → AllByRecursion GroupHasIds gs
     → AllByRecursion IsWord (flat_map group_tokens gs)
 words_groups [] h = tt
-words_groups (g ∷ gs) h =
-    (dashed_word g.candidate h.0.0.1, words_append (map decimal g.hints) (flat_map group_tokens gs)
-        (words_decimal g.hints (recursion_from_All IsId g.hints h.0.1)) (words_groups gs h.1))
+words_groups (g ∷ gs) h = (
+  dashed_word g.candidate h.0.0.1,
+  words_append (map decimal g.hints) (flat_map group_tokens gs)
+      (words_decimal g.hints (recursion_from_All IsId g.hints h.0.1)) (words_groups gs h.1),
+)
 
 zero_word : AllByRecursion IsWord (codes "0" ∷ [])
 zero_word = ((omega arith, tt), tt)
@@ -203,19 +205,23 @@ line_words (Addition id c hints groups) h =
     let w = words_decimal hints (recursion_from_All IsId hints h.2) in
     let g = words_groups groups (recursion_from_All GroupHasIds groups h.3) in
     let front =
-      words_append (map literal_text c) (codes "0" ∷ map decimal hints)
-        (words_clause c (recursion_from_All (λ l. IsId l.variable) c h.1)) (zero_word.0, w) in
+    words_append (map literal_text c) (codes "0" ∷ map decimal hints)
+    (words_clause c (recursion_from_All (λ l. IsId l.variable) c h.1)) (zero_word.0, w) in
     let all =
-      words_append (map literal_text c ++ codes "0" ∷ map decimal hints)
-        (flat_map group_tokens groups) front g in
-    (decimal_word id h.0,
-        words_append (map literal_text c ++ codes "0" ∷ map decimal hints ++ flat_map group_tokens
-          groups) (codes "0" ∷ []) all zero_word)
-line_words (Deletion lead ids) h =
-    (decimal_word lead h.0,
-        ((omega arith, tt),
-          words_append (map decimal ids) (codes "0" ∷ [])
-          (words_decimal ids (recursion_from_All IsId ids h.1)) zero_word))
+    words_append (map literal_text c ++ codes "0" ∷ map decimal hints)
+    (flat_map group_tokens groups) front g in (
+      decimal_word id h.0,
+      words_append (map literal_text c ++ codes "0" ∷ map decimal hints ++ flat_map group_tokens
+          groups) (codes "0" ∷ []) all zero_word,
+    )
+line_words (Deletion lead ids) h = (
+  decimal_word lead h.0,
+  (
+    (omega arith, tt),
+    words_append (map decimal ids) (codes "0" ∷ [])
+        (words_decimal ids (recursion_from_All IsId ids h.1)) zero_word,
+  ),
+)
 
 lines_words : (ls : List ProofLine) → AllByRecursion HasNumbers ls → AllByRecursion HasWords ls
 lines_words [] h = tt
@@ -226,7 +232,7 @@ pub text-lines : (ls : List ProofLine) → All HasNumbers ls
     → IsTextOf (flat_map (λ l. spaced (line_tokens l)) ls) ls
 text-lines ls h = record {
   spelled =
-    ap (filter has_tokens)
+      ap (filter has_tokens)
       (token_lines-text ls (lines_words ls (recursion_from_All HasNumbers ls h))) ∙ kept_lines ls;
   numbers = h;
 }
@@ -254,20 +260,23 @@ groups_are : (base : ℕ) (hs : List Hint) → AllByRecursion (IsSmall base) hs
     → AllByRecursion GroupHasIds (group_ids base hs)
 groups_are base [] a = tt
 groups_are base (Plain n ∷ hs) a = groups_are base hs a.1
-groups_are base (Group n ∷ hs) a =
-    ((id_of_is base n a.0.0 a.0.1,
-        All-from_recursion IsId (leading_ids base hs) (leading_are base hs a.1)),
-      groups_are base hs a.1)
+groups_are base (Group n ∷ hs) a = (
+  (
+    id_of_is base n a.0.0 a.0.1,
+    All-from_recursion IsId (leading_ids base hs) (leading_are base hs a.1),
+  ),
+  groups_are base hs a.1,
+)
 
 abbrev IsLineOf : ℕ → LogLine → Type 0
 IsLineOf base l = AllByRecursion (λ k. IsId k.variable) l.clause
-      × AllByRecursion (IsSmall base) l.hints
+    × AllByRecursion (IsSmall base) l.hints
 
 numbers_at : (d : Bool) (base before : ℕ) (l : LogLine) → IsLineOf base l
     → base + before + 1 < 2 ^ 62
     → HasNumbers (if d then Deletion (base + before) (map (λ h. id_of base (name_of h)) l.hints)
-        else Addition (base + before + 1) l.clause (leading_ids base l.hints)
-        (group_ids base l.hints))
+    else Addition (base + before + 1) l.clause (leading_ids base l.hints)
+    (group_ids base l.hints))
 numbers_at true base before l a small =
     (omega arith, All-from_recursion IsId _ (hint_ids base l.hints a.1))
 numbers_at false base before l a small = (
@@ -287,7 +296,7 @@ numbers_on base before [] a room = tt
 numbers_on base before (l ∷ ls) a room = (
   numbers_at (is_delete l.kind) base before l a.0 (omega arith),
   numbers_on base (if is_delete l.kind then before else before + 1) ls a.1
-    (omega (arith, next_small (is_delete l.kind) before)),
+      (omega (arith, next_small (is_delete l.kind) before)),
 )
 
 small_hints : (base : ℕ) (hs : List Hint) → All HasNumber hs
@@ -296,7 +305,7 @@ small_hints base [] p s = tt
 small_hints base (h ∷ hs) p s = (
   ((All-head HasNumber h hs p).0, All-head (λ h. id_of base (name_of h) < 2 ^ 62) h hs s),
   small_hints base hs (All-tail HasNumber h hs p)
-    (All-tail (λ h. id_of base (name_of h) < 2 ^ 62) h hs s),
+      (All-tail (λ h. id_of base (name_of h) < 2 ^ 62) h hs s),
 )
 
 abbrev SmallIds : ℕ → LogLine → Type 0
@@ -307,8 +316,10 @@ lines_of_log : (base : ℕ) (ls : List LogLine) → All IsLine ls → All (Small
 lines_of_log base [] p s = tt
 lines_of_log base (l ∷ ls) p s =
     let h = All-head IsLine l ls p in (
-      (recursion_from_All (λ k. IsId k.variable) l.clause h.literals,
-          small_hints base l.hints h.names (All-head (SmallIds base) l ls s)),
+      (
+        recursion_from_All (λ k. IsId k.variable) l.clause h.literals,
+        small_hints base l.hints h.names (All-head (SmallIds base) l ls s),
+      ),
       lines_of_log base ls (All-tail IsLine l ls p) (All-tail (SmallIds base) l ls s),
     )
 
@@ -316,7 +327,7 @@ pub numbered_lines-numbers : (base : ℕ) (ls : List LogLine) → All IsLine ls 
     → base + length ls < 2 ^ 62 → All HasNumbers (numbered_lines base ls)
 numbered_lines-numbers base ls lines small room =
     All-from_recursion HasNumbers (numbered_lines base ls)
-      (numbers_on base 0 ls (lines_of_log base ls lines small) (omega arith))
+    (numbers_on base 0 ls (lines_of_log base ls lines small) (omega arith))
 
 pub text_of-lines : (base : ℕ) (ls : List LogLine) → All IsLine ls → HasSmallIds base ls
     → base + length ls < 2 ^ 62 → IsTextOf (text_of base ls) (numbered_lines base ls)

@@ -48,7 +48,7 @@ groups_groups : (gs : List CandidateHints) → groups_of (flat_map signed_group 
 groups_groups [] = refl
 groups_groups (g ∷ gs) =
     ap (λ hs. record { candidate = g.candidate; hints = hs } ∷ groups_of (signed_hints g.hints gs))
-      (leading-signed_hints g.hints gs)
+    (leading-signed_hints g.hints gs)
     ∙ ap (λ x. g ∷ x) (groups_after g.hints (flat_map signed_group gs) ∙ groups_groups gs)
 
 pub groups_of-signed_hints : (hints : List ℕ) (gs : List CandidateHints)
@@ -69,9 +69,9 @@ map_spell_groups : (gs : List CandidateHints)
 map_spell_groups [] = refl
 map_spell_groups (g ∷ gs) =
     ap (λ x. (45 ∷ decimal g.candidate) ∷ x)
-      (map-append spell (map positive g.hints) (flat_map signed_group gs)
-      ∙ ap (λ x. x ++ map spell (flat_map signed_group gs)) (map_spell_positive g.hints)
-      ∙ ap (λ x. map decimal g.hints ++ x) (map_spell_groups gs))
+    (map-append spell (map positive g.hints) (flat_map signed_group gs)
+    ∙ ap (λ x. x ++ map spell (flat_map signed_group gs)) (map_spell_positive g.hints)
+    ∙ ap (λ x. map decimal g.hints ++ x) (map_spell_groups gs))
 
 pub map_spell_hints : (hints : List ℕ) (gs : List CandidateHints)
     → map spell (signed_hints hints gs) ≡ map decimal hints ++ flat_map group_tokens gs
@@ -118,7 +118,7 @@ line_deletes : (t : List ℕ) (us : List (List ℕ)) (n : ℕ) → signed_of t �
 unfolding ends_at as_deletion
 line_deletes t us n u =
     elim (block_of us) as (λ o. block_of us ≡ o
-        → line_of (t ∷ (100 ∷ []) ∷ us) ≡ as_deletion (ends_at (block_of us))) [
+    → line_of (t ∷ (100 ∷ []) ∷ us) ≡ as_deletion (ends_at (block_of us))) [
       | None ↦ λ v. rw (u, v) refl
       | Some (xs, []) ↦ λ v. rw (u, v) refl
       | Some (xs, x ∷ more) ↦ λ v. rw (u, v) refl
@@ -173,8 +173,11 @@ line_bad t us v = rw v refl
 is_letter : (u : List ℕ) → (u ≡ 100 ∷ []) ⊎ (u ≡ 100 ∷ [] → ⊥)
 is_letter [] = inr (λ e. cc)
 is_letter (b ∷ []) =
-    elim (cases_Bool (b == 100)) [ inl t ↦ inl (ap (λ x. x ∷ []) (eqb-true b 100 t)) | inr f ↦
-      inr (λ e. let same : b ≡ 100 = cc in both_ways _ f (eq-eqb b 100 same)) ]
+    elim (cases_Bool (b == 100)) [
+      | inl t ↦ inl (ap (λ x. x ∷ []) (eqb-true b 100 t))
+      | inr f ↦
+          inr (λ e. let same : b ≡ 100 = cc in both_ways _ f (eq-eqb b 100 same))
+    ]
 is_letter (b ∷ c ∷ bs) = inr (λ e. cc)
 
 -- numbers of signed numbers
@@ -214,9 +217,11 @@ ids_positive (x ∷ xs) h = (h.0, ids_positive xs h.1)
 ids_signed_groups : (gs : List CandidateHints) → AllByRecursion GroupHasIds gs
     → HasIds (flat_map signed_group gs)
 ids_signed_groups [] h = tt
-ids_signed_groups (g ∷ gs) h =
-    (h.0.0, ids_append (map positive g.hints) (flat_map signed_group gs)
-      (ids_positive g.hints (recursion_from_All IsId g.hints h.0.1)) (ids_signed_groups gs h.1))
+ids_signed_groups (g ∷ gs) h = (
+  h.0.0,
+  ids_append (map positive g.hints) (flat_map signed_group gs)
+      (ids_positive g.hints (recursion_from_All IsId g.hints h.0.1)) (ids_signed_groups gs h.1),
+)
 
 no_dashes : (xs : Signed) → list_any (λ x. x.0) xs ≡ false
     → map spell xs ≡ map decimal (map (λ x. x.1) xs)
@@ -246,9 +251,9 @@ unfolding as_deletion
 deletion_means None ids e = absurd (cc)
 deletion_means (Some xs) ids e =
     elim (list_any (λ x. x.0) xs) as (λ v. list_any (λ x. x.0) xs ≡ v
-        → cond v Malformed (Deletion (map (λ x. x.1) xs)) ≡ Deletion ids
-        → (ys : Signed) × (◌≡◌ {A = Option Signed} (Some xs) (Some ys))
-        × (list_any (λ x. x.0) ys ≡ false) × (map (λ x. x.1) ys ≡ ids)) [
+    → cond v Malformed (Deletion (map (λ x. x.1) xs)) ≡ Deletion ids
+    → (ys : Signed) × (◌≡◌ {A = Option Signed} (Some xs) (Some ys))
+    × (list_any (λ x. x.0) ys ≡ false) × (map (λ x. x.1) ys ≡ ids)) [
       | true ↦ λ t e. absurd (cc)
       | false ↦ λ t e. (xs, refl, t, cc)
     ] refl e
@@ -259,11 +264,11 @@ unfolding as_deletion
 deletion_not_addition None id c hs e = cc
 deletion_not_addition (Some xs) id c hs e =
     elim (list_any (λ x. x.0) xs) as (λ v. cond v Malformed (Deletion (map (λ x. x.1) xs))
-        ≡ Addition id c hs → ⊥) [ true ↦ λ e. cc | false ↦ λ e. cc ] e
+    ≡ Addition id c hs → ⊥) [ true ↦ λ e. cc | false ↦ λ e. cc ] e
 
 addition_means_at : (n : ℕ) (xs : Signed) (o : Option Signed) (id : ℕ) (c : List Literal)
     (hs : Signed) → as_hinted n xs o ≡ Addition id c hs → (o ≡ Some hs) × (n ≡ id)
-      × (map literal_from xs ≡ c)
+    × (map literal_from xs ≡ c)
 unfolding as_hinted
 addition_means_at n xs None id c hs e = absurd (cc)
 addition_means_at n xs (Some ys) id c hs e =
@@ -271,8 +276,8 @@ addition_means_at n xs (Some ys) id c hs e =
 
 addition_means : (n : ℕ) (o : Option (Signed × List (List ℕ))) (id : ℕ) (c : List Literal)
     (hs : Signed) → as_addition n o ≡ Addition id c hs → (xs : Signed) × (rest : List (List ℕ))
-      × (o ≡ Some (xs, rest)) × (block_of rest ≡ Some (hs, [])) × (n ≡ id)
-      × (map literal_from xs ≡ c)
+    × (o ≡ Some (xs, rest)) × (block_of rest ≡ Some (hs, [])) × (n ≡ id)
+    × (map literal_from xs ≡ c)
 unfolding as_addition
 addition_means n None id c hs e = absurd (cc)
 addition_means n (Some (xs, rest)) id c hs e =
@@ -304,23 +309,25 @@ rearranged X H G z = simp append_assoc
 
 spelled_addition : (id : ℕ) (xs hs : Signed)
     → (decimal id ∷ (map spell xs ++ (codes "0" ∷ (map spell hs ++ (codes "0" ∷ [])))))
-      ≡ line_tokens (line_added id (map literal_from xs) hs)
+    ≡ line_tokens (line_added id (map literal_from xs) hs)
 spelled_addition id xs hs =
     let a : map spell xs ≡ map literal_text (map literal_from xs) =
-      ap (map spell) (sym (map_literal xs)) ∙ map_spell_literal (map literal_from xs) in
+    ap (map spell) (sym (map_literal xs)) ∙ map_spell_literal (map literal_from xs) in
     let b : map spell hs ≡ map decimal (leading hs) ++ flat_map group_tokens (groups_of hs) =
-      ap (map spell) (sym (signed_hints-parts hs)) ∙ map_spell_hints (leading hs) (groups_of hs) in
+    ap (map spell) (sym (signed_hints-parts hs)) ∙ map_spell_hints (leading hs) (groups_of hs) in
     ap (λ y. decimal id ∷ y) (ap (λ y. y ++ (codes "0" ∷ (map spell hs ++ (codes "0" ∷ [])))) a
     ∙ ap (λ y. map literal_text (map literal_from xs) ++ (codes "0" ∷ (y ++ (codes "0" ∷ [])))) b
     ∙ rearranged (map literal_text (map literal_from xs)) (map decimal (leading hs))
-      (flat_map group_tokens (groups_of hs)) (codes "0"))
+    (flat_map group_tokens (groups_of hs)) (codes "0"))
 
 numbers_addition : (id : ℕ) (xs hs : Signed) → id < 2 ^ 62 → HasIds xs → HasIds hs
     → HasNumbers (line_added id (map literal_from xs) hs)
-numbers_addition id xs hs small h k =
-    (small, All-from_recursion (λ l. IsId l.variable) (map literal_from xs) (ids_literals xs h),
-        All-from_recursion IsId (leading hs) (ids_leading hs k),
-        All-from_recursion GroupHasIds (groups_of hs) (ids_groups hs k))
+numbers_addition id xs hs small h k = (
+  small,
+  All-from_recursion (λ l. IsId l.variable) (map literal_from xs) (ids_literals xs h),
+  All-from_recursion IsId (leading hs) (ids_leading hs k),
+  All-from_recursion GroupHasIds (groups_of hs) (ids_groups hs k),
+)
 
 added_at : (t u : List ℕ) (us : List (List ℕ)) (n id : ℕ) (c : List Literal) (hs : Signed)
     → signed_of t ≡ Some (false, n) → as_addition n (block_of (u ∷ us)) ≡ Addition id c hs
@@ -332,11 +339,13 @@ added_at t u us n id c hs v e =
     let d = block_means h.1 hs [] h.3 in
     let spelled : (t ∷ u ∷ us) ≡ line_tokens (line_added n (map literal_from h.0) hs) =
     ap (λ y. y ∷ u ∷ us) k.0
-      ∙ ap (λ y. decimal n ∷ y) (b.0 ∙ ap (λ y. map spell h.0 ++ (codes "0" ∷ y)) d.0)
-      ∙ spelled_addition n h.0 hs in
+    ∙ ap (λ y. decimal n ∷ y) (b.0 ∙ ap (λ y. map spell h.0 ++ (codes "0" ∷ y)) d.0)
+    ∙ spelled_addition n h.0 hs in
     subst (λ m. IsLine (t ∷ u ∷ us) (line_added m c hs)) h.4
-    (subst (λ cs. IsLine (t ∷ u ∷ us) (line_added n cs hs)) h.5 (spelled,
-          numbers_addition n h.0 hs k.1 b.1 d.1))
+    (subst (λ cs. IsLine (t ∷ u ∷ us) (line_added n cs hs)) h.5 (
+      spelled,
+      numbers_addition n h.0 hs k.1 b.1 d.1,
+    ))
 
 pub addition_line : (ts : List (List ℕ)) (id : ℕ) (c : List Literal) (hs : Signed)
     → line_of ts ≡ Addition id c hs → IsLine ts (AddsLine id c (leading hs) (groups_of hs))
@@ -349,9 +358,9 @@ addition_line (t ∷ u ∷ us) id c hs e =
       | Some (false, n) ↦ λ v. elim (is_letter u) [
         | inl d ↦ absurd (deletion_not_addition (ends_at (block_of us)) id c hs
             (sym (line_deletes t us n v)
-              ∙ subst (λ w. line_of (t ∷ w ∷ us) ≡ Addition id c hs) d e))
+            ∙ subst (λ w. line_of (t ∷ w ∷ us) ≡ Addition id c hs) d e))
         | inr ne ↦ added_at t u us n id c hs v
-          (sym (line_adds_at t u us n v ne (block_of (u ∷ us)) refl) ∙ e)
+            (sym (line_adds_at t u us n v ne (block_of (u ∷ us)) refl) ∙ e)
       ]
     ] refl
 
@@ -363,7 +372,7 @@ deleted_at t us n ids v e =
     let k = signed_means t (false, n) v in
     let b = block_means us h.0 [] (ends_means (block_of us) h.0 h.1) in (
       ap (λ y. y ∷ (100 ∷ []) ∷ us) k.0
-        ∙ ap (λ y. decimal n ∷ (100 ∷ []) ∷ y) (b.0
+          ∙ ap (λ y. decimal n ∷ (100 ∷ []) ∷ y) (b.0
           ∙ ap (λ y. y ++ (codes "0" ∷ [])) (no_dashes h.0 h.2 ∙ ap (map decimal) h.3)),
       (k.1, All-from_recursion IsId ids (subst (AllByRecursion IsId) h.3 (ids_unsigned h.0 b.1))),
     )
@@ -374,13 +383,16 @@ deletion_line [] ids e = absurd (cc)
 deletion_line (t ∷ []) ids e = let z = line_alone t in absurd (cc)
 deletion_line (t ∷ u ∷ us) ids e =
     elim (signed_of t) as (λ o. signed_of t ≡ o
-        → (lead : ℕ) × IsLine (t ∷ u ∷ us) (DeletesLine lead ids)) [
+    → (lead : ℕ) × IsLine (t ∷ u ∷ us) (DeletesLine lead ids)) [
       | None ↦ λ v. let z = line_bad t (u ∷ us) v in absurd (cc)
       | Some (true, n) ↦ λ v. let z = line_dashed t (u ∷ us) n v in absurd (cc)
       | Some (false, n) ↦ λ v. elim (is_letter u) [
-        | inl d ↦ (n, subst (λ w. IsLine (t ∷ w ∷ us) (DeletesLine n ids)) (sym d)
-            (deleted_at t us n ids v (sym (line_deletes t us n v)
-                ∙ subst (λ w. line_of (t ∷ w ∷ us) ≡ Deletion ids) d e)))
+        | inl d ↦ (
+          n,
+          subst (λ w. IsLine (t ∷ w ∷ us) (DeletesLine n ids)) (sym d)
+              (deleted_at t us n ids v (sym (line_deletes t us n v)
+              ∙ subst (λ w. line_of (t ∷ w ∷ us) ≡ Deletion ids) d e)),
+        )
         | inr ne ↦ absurd (addition_not_deletion n (block_of (u ∷ us)) ids
             (sym (line_adds_at t u us n v ne (block_of (u ∷ us)) refl) ∙ e))
       ]
@@ -396,20 +408,20 @@ not_letter u x v e = let z : signed_of u ≡ None = ap signed_of e in cc
 
 read_addition : (n : ℕ) → n < 2 ^ 62 → (xs hs : Signed) → HasIds xs → HasIds hs
     → line_of (decimal n ∷ (map spell xs ++ (codes "0" ∷ (map spell hs ++ (codes "0" ∷ [])))))
-      ≡ Addition n (map literal_from xs) hs
+    ≡ Addition n (map literal_from xs) hs
 unfolding as_addition as_hinted ends_at
 read_addition n small [] hs h k =
     line_adds_at (decimal n) (codes "0") (map spell hs ++ (codes "0" ∷ [])) n
-      (signed_from false n small) (not_letter (codes "0") (false, 0) refl)
-      (Some ([], map spell hs ++ (codes "0" ∷ [])))
-      (block_from [] (map spell hs ++ (codes "0" ∷ [])) h)
+    (signed_from false n small) (not_letter (codes "0") (false, 0) refl)
+    (Some ([], map spell hs ++ (codes "0" ∷ [])))
+    (block_from [] (map spell hs ++ (codes "0" ∷ [])) h)
     ∙ ap (λ o. as_hinted n [] (ends_at o)) (block_from hs [] k)
 read_addition n small ((s, m) ∷ xs) hs h k =
     line_adds_at (decimal n) (spell (s, m))
-      (map spell xs ++ (codes "0" ∷ (map spell hs ++ (codes "0" ∷ [])))) n
-      (signed_from false n small) (not_letter (spell (s, m)) (s, m) (signed_from s m h.0.1))
-      (Some ((s, m) ∷ xs, map spell hs ++ (codes "0" ∷ [])))
-      (block_from ((s, m) ∷ xs) (map spell hs ++ (codes "0" ∷ [])) h)
+    (map spell xs ++ (codes "0" ∷ (map spell hs ++ (codes "0" ∷ [])))) n
+    (signed_from false n small) (not_letter (spell (s, m)) (s, m) (signed_from s m h.0.1))
+    (Some ((s, m) ∷ xs, map spell hs ++ (codes "0" ∷ [])))
+    (block_from ((s, m) ∷ xs) (map spell hs ++ (codes "0" ∷ [])) h)
     ∙ ap (λ o. as_hinted n ((s, m) ∷ xs) (ends_at o)) (block_from hs [] k)
 
 read_deletion : (n : ℕ) → n < 2 ^ 62 → (ids : List ℕ) → AllByRecursion IsId ids
@@ -418,10 +430,10 @@ unfolding as_deletion ends_at
 read_deletion n small ids h =
     line_deletes (decimal n) (map decimal ids ++ (codes "0" ∷ [])) n (signed_from false n small)
     ∙ ap (λ ts. as_deletion (ends_at (block_of (ts ++ (codes "0" ∷ [])))))
-      (sym (map_spell_positive ids))
+    (sym (map_spell_positive ids))
     ∙ ap (λ o. as_deletion (ends_at o)) (block_from (map positive ids) [] (ids_positive ids h))
     ∙ cond-false (list_any (λ x. x.0) (map positive ids)) Malformed
-      (Deletion (map (λ x. x.1) (map positive ids))) (dashes_none ids)
+    (Deletion (map (λ x. x.1) (map positive ids))) (dashes_none ids)
     ∙ ap Deletion (unsigned_positive ids)
 
 pub line_read : (l : ProofLine) → HasNumbers l → line_of (line_tokens l) ≡ parsed_of l
@@ -431,15 +443,15 @@ line_read (AddsLine id c hints groups) h =
     let spelled = spelled_addition id xs hs in
     let same : line_added id (map literal_from xs) hs ≡ AddsLine id c hints groups =
     ap (λ y. AddsLine id y (leading hs) (groups_of hs)) (map_signed c)
-      ∙ ap (λ y. AddsLine id c y (groups_of hs)) (leading-signed_hints hints groups)
-      ∙ ap (λ y. AddsLine id c hints y) (groups_of-signed_hints hints groups) in
+    ∙ ap (λ y. AddsLine id c y (groups_of hs)) (leading-signed_hints hints groups)
+    ∙ ap (λ y. AddsLine id c hints y) (groups_of-signed_hints hints groups) in
     let k : HasIds hs =
-      ids_append (map positive hints) (flat_map signed_group groups)
-        (ids_positive hints (recursion_from_All IsId hints h.2))
-        (ids_signed_groups groups (recursion_from_All GroupHasIds groups h.3)) in
+    ids_append (map positive hints) (flat_map signed_group groups)
+    (ids_positive hints (recursion_from_All IsId hints h.2))
+    (ids_signed_groups groups (recursion_from_All GroupHasIds groups h.3)) in
     ap line_of (sym (spelled ∙ ap line_tokens same))
     ∙ read_addition id h.0 xs hs
-      (ids_signed_literals c (recursion_from_All (λ l. IsId l.variable) c h.1)) k
+    (ids_signed_literals c (recursion_from_All (λ l. IsId l.variable) c h.1)) k
     ∙ ap (λ y. Addition id y hs) (map_signed c)
 line_read (DeletesLine lead ids) h = read_deletion lead h.0 ids (recursion_from_All IsId ids h.1)
 
@@ -467,7 +479,7 @@ pub breaks_in_hints : (t : List ℕ) (ts : List (List ℕ)) (n : ℕ) (xs : Sign
 unfolding as_addition as_hinted
 breaks_in_hints t ts n xs rest e other first none =
     line_adds t ts n e other ∙ ap (as_addition n) first
-      ∙ ap (as_hinted n xs) (ends_none (block_of rest) none)
+    ∙ ap (as_hinted n xs) (ends_none (block_of rest) none)
 
 pub breaks_in_ids : (t : List ℕ) (us : List (List ℕ)) (n : ℕ) → signed_of t ≡ Some (false, n)
     → ((hs : Signed) → block_of us ≡ Some (hs, []) → ⊥) → line_of (t ∷ (100 ∷ []) ∷ us) ≡ Malformed

@@ -42,19 +42,19 @@ pub record LitsSoFar (line : List ℕ) (at place : ℕ) (is_large : Bool) (lits 
     : Type 0 where
   pub numbers : Signed
   pub block : block_of (tokens_of (drop at line)) ≡ ahead numbers
-    (block_of (tokens_of (drop place line)))
+      (block_of (tokens_of (drop place line)))
   pub large : is_large_clause (map literal_from numbers) ≡ is_large
   pub same : is_large ≡ false → map literal_from numbers ≡ lits
 
 large_push : (xs : Signed) (x : Bool × ℕ) → is_large_clause (map literal_from (xs ++ x ∷ []))
-      ≡ (is_large_clause (map literal_from xs) || nat_le 134217728 x.1)
+    ≡ (is_large_clause (map literal_from xs) || nat_le 134217728 x.1)
 large_push [] x = or-false (nat_le 134217728 x.1)
 large_push (y ∷ ys) x = large_push_at (nat_le 134217728 y.1) ys x (large_push ys x)
   where
     large_push_at : (b : Bool) (ys : Signed) (x : Bool × ℕ)
-      → is_large_clause (map literal_from (ys ++ x ∷ []))
+        → is_large_clause (map literal_from (ys ++ x ∷ []))
         ≡ (is_large_clause (map literal_from ys) || nat_le 134217728 x.1)
-      → (b || is_large_clause (map literal_from (ys ++ x ∷ [])))
+        → (b || is_large_clause (map literal_from (ys ++ x ∷ [])))
         ≡ ((b || is_large_clause (map literal_from ys)) || nat_le 134217728 x.1)
     large_push_at true ys x h = refl
     large_push_at false ys x h = h
@@ -67,12 +67,13 @@ pub lits_small : (line : List ℕ) (at place end : ℕ) (is_large : Bool) (lits 
 lits_small line at place end is_large lits new t s n r e u h small pushed = record {
   numbers = r.numbers ++ (s, n) ∷ [];
   block = block_next (block_of (tokens_of (drop at line))) r.numbers (tokens_of (drop place line)) t
-    (tokens_of (drop end line)) s n r.block e u h;
+      (tokens_of (drop end line)) s n r.block e u h;
   large = large_push r.numbers (s, n) ∙ ap (λ b. is_large_clause (map literal_from r.numbers) || b)
-    (lt-leb 134217728 n small) ∙ or-false (is_large_clause (map literal_from r.numbers)) ∙ r.large;
+      (lt-leb 134217728 n small) ∙ or-false (is_large_clause (map literal_from r.numbers))
+      ∙ r.large;
   same = λ z. map_push literal_from r.numbers (s, n)
-    ∙ ap (λ (c : List Literal). c ++ record { variable = n; negated = s } ∷ []) (r.same z)
-    ∙ sym pushed;
+      ∙ ap (λ (c : List Literal). c ++ record { variable = n; negated = s } ∷ []) (r.same z)
+      ∙ sym pushed;
 }
 
 pub lits_large : (line : List ℕ) (at place end : ℕ) (is_large : Bool) (lits : List Literal)
@@ -82,9 +83,9 @@ pub lits_large : (line : List ℕ) (at place end : ℕ) (is_large : Bool) (lits 
 lits_large line at place end is_large lits t s n r e u h large = record {
   numbers = r.numbers ++ (s, n) ∷ [];
   block = block_next (block_of (tokens_of (drop at line))) r.numbers (tokens_of (drop place line)) t
-    (tokens_of (drop end line)) s n r.block e u h;
+      (tokens_of (drop end line)) s n r.block e u h;
   large = large_push r.numbers (s, n) ∙ ap (λ b. is_large_clause (map literal_from r.numbers) || b)
-    (le-leb 134217728 n large) ∙ or-true (is_large_clause (map literal_from r.numbers));
+      (le-leb 134217728 n large) ∙ or-true (is_large_clause (map literal_from r.numbers));
   same = λ z. absurd (cc);
 }
 
@@ -95,23 +96,25 @@ rest_after xs ys us vs e =
     ap (λ y. y.1) p
 
 last_at : (line : List ℕ) (at place end : ℕ) (hints : Signed) (b : Bool)
-    → (place == length line) ≡ b → block_of (tokens_of (drop at line)) ≡ Some (hints,
-      tokens_of (drop end line)) → tokens_of (drop place line) ≡ tokens_of (drop end line)
+    → (place == length line) ≡ b → block_of (tokens_of (drop at line)) ≡ Some (
+      hints,
+      tokens_of (drop end line),
+    ) → tokens_of (drop place line) ≡ tokens_of (drop end line)
     → place ≤ length line → (place < length line → is_blank (get_or line place 0) ≡ false)
     → IsLastRead line at hints b
 last_at line at place end hints true e block same within solid =
     let past : length line ≤ place = omega (arith, eqb-true place (length line) e) in
     let none : tokens_of (drop end line) ≡ [] =
-      sym same ∙ ap tokens_of (drop_all place line past) in
+    sym same ∙ ap tokens_of (drop_all place line past) in
     block ∙ ap (λ (us : List (List ℕ)). Some (hints, us)) none
 last_at line at place end hints false e block same within solid = λ xs w.
     let ne : place ≡ length line → ⊥ = eqb-false place (length line) e in
     let inside : place < length line = omega arith in
     let front = token_front [] (get_or line place 0) (drop (place + 1) line) tt (solid inside) in
     let some : tokens_of (drop end line) ≡ (get_or line place 0 ∷ front.0) ∷ front.1 =
-      sym same ∙ ap tokens_of (drop_more line place 0 inside) ∙ front.2 in
+    sym same ∙ ap tokens_of (drop_more line place 0 inside) ∙ front.2 in
     let none : tokens_of (drop end line) ≡ [] =
-      rest_after hints xs (tokens_of (drop end line)) [] (sym block ∙ w) in
+    rest_after hints xs (tokens_of (drop end line)) [] (sym block ∙ w) in
     cc
 
 pub last_read : (line : List ℕ) (at place end : ℕ) (hints : Signed) (o : Option ℕ)
@@ -121,4 +124,4 @@ pub last_read : (line : List ℕ) (at place end : ℕ) (hints : Signed) (o : Opt
     → IsLastRead line at hints (place == length line)
 last_read line at place end hints o read e same within solid =
     last_at line at place end hints (place == length line) refl
-      (subst (IsHintsRead line at hints) e read).0 same within solid
+    (subst (IsHintsRead line at hints) e read).0 same within solid

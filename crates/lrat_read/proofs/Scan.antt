@@ -35,10 +35,10 @@ token_whole b (c ∷ cs) rest h s e =
     let ih = token_whole c cs rest s.0 s.1 e in
     let begins : not (is_blank c) ≡ true = ap not s.0 in
     cond-false (is_blank b) _ _ h ∙ ap (λ v. put_byte b v (tokens_of (c ∷ (cs ++ rest)))) begins
-      ∙ ap (put_byte b true) ih
+    ∙ ap (put_byte b true) ih
 
 put_front : (x : ℕ) (v : Bool) (ts : List (List ℕ)) → (q : List ℕ) × (us : List (List ℕ))
-      × (put_byte x v ts ≡ (x ∷ q) ∷ us)
+    × (put_byte x v ts ≡ (x ∷ q) ∷ us)
 put_front x false ts = ([], ts, refl)
 put_front x true [] = ([], [], refl)
 put_front x true (t ∷ ts) = (t, ts, refl)
@@ -51,21 +51,28 @@ token_front [] x r s h =
     (f.0, f.1, cond-false (is_blank x) _ _ h ∙ f.2)
 token_front (b ∷ []) x r s h =
     let ih = token_front [] x r tt h in
-    let begins : not (is_blank x) ≡ true = ap not h in
-    (ih.0, ih.1, cond-false (is_blank b) _ _ s.0 ∙ ap (λ v. put_byte b v (tokens_of (x ∷ r))) begins
-        ∙ ap (put_byte b true) ih.2)
+    let begins : not (is_blank x) ≡ true = ap not h in (
+      ih.0,
+      ih.1,
+      cond-false (is_blank b) _ _ s.0 ∙ ap (λ v. put_byte b v (tokens_of (x ∷ r))) begins
+          ∙ ap (put_byte b true) ih.2,
+    )
 token_front (b ∷ c ∷ cs) x r s h =
     let ih = token_front (c ∷ cs) x r s.1 h in
-    let begins : not (is_blank c) ≡ true = ap not s.1.0 in
-    (ih.0, ih.1, cond-false (is_blank b) _ _ s.0
-        ∙ ap (λ v. put_byte b v (tokens_of (c ∷ (cs ++ x ∷ r)))) begins ∙ ap (put_byte b true) ih.2)
+    let begins : not (is_blank c) ≡ true = ap not s.1.0 in (
+      ih.0,
+      ih.1,
+      cond-false (is_blank b) _ _ s.0
+          ∙ ap (λ v. put_byte b v (tokens_of (c ∷ (cs ++ x ∷ r)))) begins
+          ∙ ap (put_byte b true) ih.2,
+    )
 
 -- a list from a place on
 pub split_at : (s : List ℕ) (i j : ℕ) → i ≤ j → drop i s ≡ slice_range s i j ++ drop j s
 split_at s i j h =
     let same : i + (j - i) ≡ j = omega arith in
     sym (take-append-drop (j - i) (drop i s))
-      ∙ ap (λ r. slice_range s i j ++ r) (drop-drop (j - i) i s ∙ ap (λ k. drop k s) same)
+    ∙ ap (λ r. slice_range s i j ++ r) (drop-drop (j - i) i s ∙ ap (λ k. drop k s) same)
 
 range_push : (s : List ℕ) (i j : ℕ) → i ≤ j → j < length s
     → slice_range s i (j + 1) ≡ slice_range s i j ++ get_or s j 0 ∷ []
@@ -74,8 +81,8 @@ range_push s i j h l =
     let same : i + (j - i) ≡ j = omega arith in
     let within : j - i < length (drop i s) = omega (arith, length-drop i s) in
     ap (λ k. take k (drop i s)) one ∙ take_more (drop i s) (j - i) 0 within
-      ∙ ap (λ x. slice_range s i j ++ x ∷ []) (get_or-drop i s (j - i) 0
-        ∙ ap (λ k. get_or s k 0) same)
+    ∙ ap (λ x. slice_range s i j ++ x ∷ []) (get_or-drop i s (j - i) 0
+    ∙ ap (λ k. get_or s k 0) same)
 
 value_push : (n : ℕ) (ds : List ℕ) (b : ℕ)
     → value_on n (ds ++ b ∷ []) ≡ 10 * value_on n ds + (b - 48)
@@ -93,7 +100,7 @@ digits_push (d ∷ ds) b e h = let p = and_parts (is_digit d) (list_all is_digit
 pub is_digit_less : (b : ℕ) → b < 18446744073709551616
     → (b + 18446744073709551568) % 18446744073709551616 ≤ 9
     → (48 ≤ b) × (b ≤ 57)
-      × ((b + 18446744073709551568) % 18446744073709551616 ≡ b - 48)
+    × ((b + 18446744073709551568) % 18446744073709551616 ≡ b - 48)
 is_digit_less b h l = (omega arith, omega arith, omega arith)
 
 pub digits_room : (s : List ℕ) (i j v : ℕ) → i ≤ j → j ≤ length s → j < i + 19
@@ -107,13 +114,14 @@ digits_room s i j v h l few e same =
 pub digits_step : (s : List ℕ) (i j : ℕ) → i ≤ j → j < length s → 48 ≤ get_or s j 0
     → get_or s j 0 ≤ 57 → list_all is_digit (slice_range s i j) ≡ true →
     (list_all is_digit (slice_range s i (j + 1)) ≡ true)
-        × (value_on 0 (slice_range s i (j + 1)) ≡ 10 * value_on 0 (slice_range s i j)
-        + (get_or s j 0 - 48))
+    × (value_on 0 (slice_range s i (j + 1)) ≡ 10 * value_on 0 (slice_range s i j)
+    + (get_or s j 0 - 48))
 digits_step s i j h l low high e =
-    let more = range_push s i j h l in
-    (ap (list_all is_digit) more
-        ∙ digits_push (slice_range s i j) (get_or s j 0) e (digit_from (get_or s j 0) low high),
-        ap (value_on 0) more ∙ value_push 0 (slice_range s i j) (get_or s j 0))
+    let more = range_push s i j h l in (
+      ap (list_all is_digit) more
+          ∙ digits_push (slice_range s i j) (get_or s j 0) e (digit_from (get_or s j 0) low high),
+      ap (value_on 0) more ∙ value_push 0 (slice_range s i j) (get_or s j 0),
+    )
 
 range_none : (s : List ℕ) (i : ℕ) → slice_range s i i ≡ []
 range_none s i = let none : i - i ≡ 0 = omega arith in ap (λ k. take k (drop i s)) none
@@ -121,7 +129,7 @@ range_none s i = let none : i - i ≡ 0 = omega arith in ap (λ k. take k (drop 
 -- a run of one digit
 pub digits_one : (s : List ℕ) (i : ℕ) → i < length s → 48 ≤ get_or s i 0 → get_or s i 0 ≤ 57 →
     (list_all is_digit (slice_range s i (i + 1)) ≡ true)
-        × (value_on 0 (slice_range s i (i + 1)) ≡ get_or s i 0 - 48)
+    × (value_on 0 (slice_range s i (i + 1)) ≡ get_or s i 0 - 48)
 digits_one s i l low high =
     let none = range_none s i in
     let step = digits_step s i i (omega arith) l low high (ap (list_all is_digit) none) in
@@ -165,7 +173,7 @@ tag_none s (Some n) h = tag_large s n (h n refl)
 number_short : (t : List ℕ) (n : ℕ) → number_of t ≡ Some n → n < 2 ^ 62 → length t ≤ 19
 number_short t n e h =
     rw (decimal-number_of t n e (omega arith)) (length-decimal-le 19 n (omega arith) (omega arith)
-      (omega arith))
+    (omega arith))
 
 lead_append : (s : Bool) (u r : List ℕ) → lead s u ++ r ≡ lead s (u ++ r)
 lead_append true u r = refl
@@ -198,10 +206,12 @@ pub number_here : (s : Bool) (u rest : List ℕ) → list_all is_digit u ≡ tru
     → (get_or u 0 0 ≡ 48 → length u ≡ 1) → value_on 0 u < 2 ^ 62
     → begins_with_token (lead s (u ++ rest)) ≡ true → begins_with_token rest ≡ false
     → (tokens_of (lead s (u ++ rest)) ≡ lead s u ∷ tokens_of rest)
-      × (signed_of (lead s u) ≡ Some (s, value_on 0 u))
-number_here s u rest e n l small b h =
-    (lead_token s u rest e b h, signed_lead s u (λ _. first_digit u e)
-        ∙ tag_some s (number_of u) (value_on 0 u) (digits_number u e n l) small)
+    × (signed_of (lead s u) ≡ Some (s, value_on 0 u))
+number_here s u rest e n l small b h = (
+  lead_token s u rest e b h,
+  signed_lead s u (λ _. first_digit u e)
+      ∙ tag_some s (number_of u) (value_on 0 u) (digits_number u e n l) small,
+)
 
 digits_middle : (u : List ℕ) (x : ℕ) (q : List ℕ) → list_all is_digit (u ++ x ∷ q) ≡ true
     → is_digit x ≡ true
@@ -215,7 +225,7 @@ first_same (d ∷ ds) x q r = refl
 
 abbrev pub NoNumber : Bool → List ℕ → List ℕ → Type 0
 NoNumber s u rest = (t : List ℕ) × (ts : List (List ℕ)) × (tokens_of (lead s (u ++ rest)) ≡ t ∷ ts)
-      × (signed_of t ≡ None)
+    × (signed_of t ≡ None)
 
 -- a run that is a token and no number
 none_whole : (s : Bool) (u rest : List ℕ) → list_all is_digit u ≡ true
@@ -226,9 +236,13 @@ none_whole s u rest e refuted b h =
     let none : tag s (number_of u) ≡ None = tag_none s (number_of u) (λ n v small.
     let r = is_number u n v in
     let same : value_on 0 u ≡ n = r.1 in
-    refuted r.0.nonempty r.0.lead (omega (arith, same))) in
-    (lead s u, tokens_of rest, lead_token s u rest e b h, signed_lead s u (λ _. first_digit u e)
-        ∙ none)
+    refuted r.0.nonempty r.0.lead (omega (arith, same))) in (
+      lead s u,
+      tokens_of rest,
+      lead_token s u rest e b h,
+      signed_lead s u (λ _. first_digit u e)
+          ∙ none,
+    )
 
 -- a run with more of its token after it
 none_more : (s : Bool) (u : List ℕ) (x : ℕ) (r : List ℕ) → list_all is_digit u ≡ true
@@ -238,7 +252,7 @@ none_more s u x r e h first stops =
     let f = token_front (lead s u) x r (lead_solid s u e) h in
     let same : get_or (u ++ x ∷ f.0) 0 0 ≡ get_or (u ++ x ∷ r) 0 0 = first_same u x f.0 r in
     let none : tag s (number_of (u ++ x ∷ f.0)) ≡ None =
-      tag_none s (number_of (u ++ x ∷ f.0)) (λ n v small.
+    tag_none s (number_of (u ++ x ∷ f.0)) (λ n v small.
     let k = is_number (u ++ x ∷ f.0) n v in
     let short = number_short (u ++ x ∷ f.0) n v small in
     let few : length u < 19 = omega (arith, length-append u (x ∷ f.0)) in
@@ -246,7 +260,7 @@ none_more s u x r e h first stops =
       lead s (u ++ x ∷ f.0),
       f.1,
       ap tokens_of (sym (lead_append s u (x ∷ r))) ∙ f.2
-        ∙ ap (λ t. t ∷ f.1) (lead_append s u (x ∷ f.0)),
+          ∙ ap (λ t. t ∷ f.1) (lead_append s u (x ∷ f.0)),
       signed_lead s (u ++ x ∷ f.0) (λ z w. first z (sym same ∙ w)) ∙ none,
     )
 
@@ -256,12 +270,12 @@ pub none_here : (s : Bool) (u rest : List ℕ) → list_all is_digit u ≡ true
     → (0 < length rest → length u < 19 → is_digit (get_or rest 0 0) ≡ false)
     → begins_with_token (lead s (u ++ rest)) ≡ true
     → (0 < length u → (get_or u 0 0 ≡ 48 → length u ≡ 1) → value_on 0 u < 2 ^ 62
-      → begins_with_token rest ≡ false → ⊥) → NoNumber s u rest
+    → begins_with_token rest ≡ false → ⊥) → NoNumber s u rest
 none_here s u [] e first stops b refuted =
     none_whole s u [] e (λ n l small. refuted n l small refl) b refl
 none_here s u (x ∷ r) e first stops b refuted =
     elim (cases_Bool (is_blank x)) [
       | inl t ↦ let h : not (is_blank x) ≡ false = ap not t in
-        none_whole s u (x ∷ r) e (λ n l small. refuted n l small h) b h
+          none_whole s u (x ∷ r) e (λ n l small. refuted n l small h) b h
       | inr f ↦ none_more s u x r e f first (stops (omega arith))
     ]

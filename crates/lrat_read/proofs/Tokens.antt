@@ -35,15 +35,15 @@ number_means (b ∷ []) n e small =
     ap (λ x. x ∷ []) same ∙ sym (decimal_digit n low)
 number_means (b ∷ c ∷ bs) n e small =
     let h =
-      cond_some (is_digit b && not (b == 48) && list_all is_digit (c ∷ bs))
-        (value_on 0 (b ∷ c ∷ bs)) n e in
+    cond_some (is_digit b && not (b == 48) && list_all is_digit (c ∷ bs))
+    (value_on 0 (b ∷ c ∷ bs)) n e in
     let p = and_parts (is_digit b && not (b == 48)) (list_all is_digit (c ∷ bs)) h.0 in
     let q = and_parts (is_digit b) (not (b == 48)) p.0 in
     let under : value_on 0 (b ∷ c ∷ bs) < 2 ^ 64 =
-      subst (λ x. x < 2 ^ 64) (sym h.1) (omega arith) in
+    subst (λ x. x < 2 ^ 64) (sym h.1) (omega arith) in
     sym (decimal-digits_value own (b ∷ c ∷ bs)
-        (and_from (is_digit b) (list_all is_digit (c ∷ bs)) q.0 p.1) (omega arith)
-        (λ z. absurd (both_ways _ (not-true _ q.1) (eq-eqb b 48 z))) under)
+    (and_from (is_digit b) (list_all is_digit (c ∷ bs)) q.0 p.1) (omega arith)
+    (λ z. absurd (both_ways _ (not-true _ q.1) (eq-eqb b 48 z))) under)
     ∙ ap decimal h.1
 
 digits_number : (ds : List ℕ) → list_all is_digit ds ≡ true → 48 < get_or ds 0 0
@@ -56,14 +56,14 @@ digits_number (b ∷ c ∷ bs) e h =
     let p = and_parts (is_digit b) (list_all is_digit (c ∷ bs)) e in
     let ne : (b ≡ 48) → ⊥ = λ z. absurd (omega arith) in
     cond-true (is_digit b && not (b == 48) && list_all is_digit (c ∷ bs)) _ _
-      (and_from _ _ (and_from _ _ p.0 (ap not (ne_eqb b 48 ne))) p.1)
+    (and_from _ _ (and_from _ _ p.0 (ap not (ne_eqb b 48 ne))) p.1)
 
 pub number_from : (n : ℕ) → n < 2 ^ 62 → number_of (decimal n) ≡ Some n
 number_from zero small = rw (decimal_digit 0 (omega arith)) refl
 number_from (suc n) small =
     let under : suc n < 2 ^ 64 = omega arith in
     digits_number (decimal (suc n)) (digits_decimal own (suc n) under)
-      (first_decimal (suc n) (omega arith) under) ∙ ap Some (digits_value-decimal own (suc n) under)
+    (first_decimal (suc n) (omega arith) under) ∙ ap Some (digits_value-decimal own (suc n) under)
 
 -- with its dash, where it has one
 abbrev pub spell : Bool × ℕ → List ℕ
@@ -87,13 +87,13 @@ pub signed_plain : (b : ℕ) (bs : List ℕ) → (b == 45) ≡ false
 unfolding tag
 signed_plain b bs t =
     elim (number_of (b ∷ bs)) as (λ o. number_of (b ∷ bs) ≡ o
-        → signed_of (b ∷ bs) ≡ tag false (number_of (b ∷ bs))) [
+    → signed_of (b ∷ bs) ≡ tag false (number_of (b ∷ bs))) [
       | None ↦ λ u. rw (t, u) refl
       | Some n ↦ λ u. rw (t, u) refl
     ] refl
 
 tag_means : (s : Bool) (o : Option ℕ) (x : Bool × ℕ) → tag s o ≡ Some x → (o ≡ Some x.1) × (s ≡ x.0)
-      × (x.1 < 2 ^ 62)
+    × (x.1 < 2 ^ 62)
 unfolding tag
 tag_means s None x e = absurd (cc)
 tag_means s (Some n) x e =
@@ -106,9 +106,11 @@ signed_means [] x e = absurd (cc)
 signed_means (b ∷ bs) x e =
     elim (cases_Bool (b == 45)) [
       | inl t ↦
-          let h = tag_means true (number_of bs) x (sym (signed_dash b bs t) ∙ e) in
-          (ap (λ c. c ∷ bs) (eqb-true b 45 t) ∙ ap (λ ds. 45 ∷ ds) (number_means bs x.1 h.0 h.2)
-              ∙ ap (λ s. spell (s, x.1)) h.1, h.2)
+          let h = tag_means true (number_of bs) x (sym (signed_dash b bs t) ∙ e) in (
+            ap (λ c. c ∷ bs) (eqb-true b 45 t) ∙ ap (λ ds. 45 ∷ ds) (number_means bs x.1 h.0 h.2)
+                ∙ ap (λ s. spell (s, x.1)) h.1,
+            h.2,
+          )
       | inr f ↦
           let h = tag_means false (number_of (b ∷ bs)) x (sym (signed_plain b bs f) ∙ e) in
           (number_means (b ∷ bs) x.1 h.0 h.2 ∙ ap (λ s. spell (s, x.1)) h.1, h.2)
@@ -126,7 +128,7 @@ plain_at [] n first e small = absurd (cc)
 plain_at (b ∷ bs) n first e small =
     let ne : (b ≡ 45) → ⊥ = λ z. absurd (omega arith) in
     signed_plain b bs (ne_eqb b 45 ne) ∙ ap (tag false) e
-      ∙ cond-true (ltb n 4611686018427387904) _ _ (lt-ltb _ _ small)
+    ∙ cond-true (ltb n 4611686018427387904) _ _ (lt-ltb _ _ small)
 
 pub signed_from : (s : Bool) (n : ℕ) → n < 2 ^ 62 → signed_of (spell (s, n)) ≡ Some (s, n)
 unfolding tag
@@ -183,8 +185,11 @@ block_step t ts (Some (false, zero)) u m v ih xs rest e =
     let w = pair_parts [] ts xs rest (sym z ∙ e) in
     let ex = w.0 in
     let er = w.1 in
-    subst (λ ys. IsBlock (t ∷ ts) ys rest) ex (ap (λ x. x ∷ ts) ((signed_means t (false, zero) u).0
-          ∙ decimal_digit 0 (omega arith)) ∙ ap (λ r. codes "0" ∷ r) er, tt)
+    subst (λ ys. IsBlock (t ∷ ts) ys rest) ex (
+      ap (λ x. x ∷ ts) ((signed_means t (false, zero) u).0
+          ∙ decimal_digit 0 (omega arith)) ∙ ap (λ r. codes "0" ∷ r) er,
+      tt,
+    )
 block_step t ts (Some (s, suc n)) u None v ih xs rest e = let z = block_more_none t ts s n u v in
     absurd (cc)
 block_step t ts (Some (s, suc n)) u (Some (ys, r)) v ih xs rest e =
@@ -194,9 +199,11 @@ block_step t ts (Some (s, suc n)) u (Some (ys, r)) v ih xs rest e =
     let er = w.1 in
     let b = ih ys r v in
     let k = signed_means t (s, suc n) u in
-    subst (λ zs. IsBlock (t ∷ ts) zs rest) ex (ap (λ x. x ∷ ts) k.0
-        ∙ ap (λ x. spell (s, suc n) ∷ x) (b.0 ∙ ap (λ q. map spell ys ++ codes "0" ∷ q) er),
-        ((omega arith, k.1), b.1))
+    subst (λ zs. IsBlock (t ∷ ts) zs rest) ex (
+      ap (λ x. x ∷ ts) k.0
+          ∙ ap (λ x. spell (s, suc n) ∷ x) (b.0 ∙ ap (λ q. map spell ys ++ codes "0" ∷ q) er),
+      ((omega arith, k.1), b.1),
+    )
 
 pub block_means : (ts : List (List ℕ)) (xs : Signed) (rest : List (List ℕ))
     → block_of ts ≡ Some (xs, rest) → IsBlock ts xs rest
@@ -210,4 +217,4 @@ block_from [] rest h = block_zero (codes "0") rest refl
 block_from ((s, zero) ∷ xs) rest h = absurd (omega (arith, h.0.0))
 block_from ((s, suc n) ∷ xs) rest h =
     block_more (spell (s, suc n)) (map spell xs ++ codes "0" ∷ rest) s n xs rest
-      (signed_from s (suc n) h.0.1) (block_from xs rest h.1)
+    (signed_from s (suc n) h.0.1) (block_from xs rest h.1)

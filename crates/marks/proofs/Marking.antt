@@ -38,7 +38,7 @@ all_so_far marks [] i l h is m a = absurd (omega arith)
 all_so_far marks (k ∷ c) zero l h is m a = rw (sym (ap (mark_of marks) is) ∙ m) refl
 all_so_far marks (k ∷ c) (suc i) l h is m a =
     elim (mark_of marks k) as (λ b. (if b then are_marked marks (take i c) else false) ≡ true
-        → (if b then are_marked marks (take (suc i) c) else false) ≡ true) [
+    → (if b then are_marked marks (take (suc i) c) else false) ≡ true) [
       | true ↦ λ rest. all_so_far marks c i l (omega arith) is m rest
       | false ↦ λ rest. rest
     ] a
@@ -66,4 +66,4 @@ pub marked_subset : (marks : List Bool) (c d : List Literal) → IsMarked marks 
 marked_subset marks [] d m some = refl
 marked_subset marks (l ∷ c) d m some =
     (λ i. if m.marked l (All-head (λ l. 0 < l.variable) l c some) i
-        then marked_subset marks c d m (All-tail (λ l. 0 < l.variable) l c some) i else false)
+    then marked_subset marks c d m (All-tail (λ l. 0 < l.variable) l c some) i else false)

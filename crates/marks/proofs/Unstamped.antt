@@ -12,7 +12,7 @@ none_stamped n [] all = refl
 none_stamped n (s ∷ ss) all =
     let below : s < n = All-head (λ s. s < n) s ss all in
     rw (ne_eqb s n (λ e. omega arith))
-      (ap (λ xs. false ∷ xs) (none_stamped n ss (All-tail (λ s. s < n) s ss all)))
+    (ap (λ xs. false ∷ xs) (none_stamped n ss (All-tail (λ s. s < n) s ss all)))
 
 pub unused : (n count : ℕ) → 0 < n → map (λ s. s == n) (replicate count 0) ≡ replicate count false
 unused n zero some = refl

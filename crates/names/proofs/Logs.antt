@@ -19,7 +19,7 @@ pub numbered_lines-more : (base : ℕ) (ls : List LogLine) (l : LogLine)
     ≡ numbered_lines base ls ++ numbered_line base (added_count ls) l ∷ []
 numbered_lines-more base ls l = numbered_on-append base 0 ls (l ∷ [])
     ∙ ap (λ n. numbered_on base 0 ls ++ numbered_on base n (l ∷ []))
-      (let e : 0 + added_count ls ≡ added_count ls = omega arith in e)
+    (let e : 0 + added_count ls ≡ added_count ls = omega arith in e)
 
 live_line : (b : Bool) (live : Live) (lead id : ℕ) (ids hints : List ℕ) (c : List Literal)
     (groups : List CandidateHints) (ls : List ProofLine)
@@ -40,8 +40,8 @@ step_chain old l new s = (new, s, sym (step_live old l new s))
 -- a log is longer by a line that is a step at its end, whatever the base
 pub log_steps_more : (given : Given) (ls : List LogLine) (l : LogLine) → AreLogSteps given ls
     → ((base : ℕ) → IsBaseOf given base
-        → (new : Live) × Step (live_after (start_over given base) (numbered_lines base ls))
-        (numbered_line base (added_count ls) l) new)
+    → (new : Live) × Step (live_after (start_over given base) (numbered_lines base ls))
+    (numbered_line base (added_count ls) l) new)
     → AreLogSteps given (ls ++ l ∷ [])
 log_steps_more given ls l steps one base above =
     let start : Live = start_over given base in
@@ -49,10 +49,10 @@ log_steps_more given ls l steps one base above =
     let s = one base above in
     subst (λ ms. Chain start ms (live_after start ms)) (sym (numbered_lines-more base ls l))
     (subst (λ (x : Live). Chain start (numbered_lines base ls ++ numbered_line base (added_count ls)
-            l ∷ []) x) (sym (live_after-append start (numbered_lines base ls)
-            (numbered_line base (added_count ls) l ∷ [])))
+    l ∷ []) x) (sym (live_after-append start (numbered_lines base ls)
+    (numbered_line base (added_count ls) l ∷ [])))
     (chain_join start mid (live_after mid (numbered_line base (added_count ls) l ∷ []))
-        (numbered_lines base ls) (numbered_line base (added_count ls) l ∷ []) (steps base above)
+    (numbered_lines base ls) (numbered_line base (added_count ls) l ∷ []) (steps base above)
     (step_chain mid (numbered_line base (added_count ls) l) s.0 s.1)))
 
 -- it is a step at the end of the log, where more clauses are given
@@ -64,24 +64,27 @@ rup_line_more given more ls l r steps = log_steps_more (given ++ more) ls l step
       with_clause old id l.clause,
       subst (λ b. Step old
           (if b then Deletion (base + added_count ls) (map (λ h. id_of base (name_of h)) l.hints)
-            else Addition id l.clause (leading_ids base l.hints) (group_ids base l.hints))
+          else Addition id l.clause (leading_ids base l.hints) (group_ids base l.hints))
           (with_clause old id l.clause)) (sym r.adds) (
-        record {
-          rising =
-            omega (arith, last_numbered base 0 ls (start_over (given ++ more) base)
-              (let e : base ≡ base + 0 = omega arith in e));
-          no_repeat = r.no_repeat;
-          no_opposites = r.no_opposites;
-          small = r.small;
-        },
-        inl (
-          r.plain base,
-          refutes_covered (log_live given base ls) old.clause_at (live_more given more base ls)
-              (map negation l.clause) (leading_ids base l.hints)
-              (r.refutes base (base_front given more base above)),
-        ),
-        refl,
-      ),
+            record {
+              rising =
+                  omega (
+                    arith,
+                    last_numbered base 0 ls (start_over (given ++ more) base)
+                        (let e : base ≡ base + 0 = omega arith in e),
+                  );
+              no_repeat = r.no_repeat;
+              no_opposites = r.no_opposites;
+              small = r.small;
+            },
+            inl (
+              r.plain base,
+              refutes_covered (log_live given base ls) old.clause_at (live_more given more base ls)
+                  (map negation l.clause) (leading_ids base l.hints)
+                  (r.refutes base (base_front given more base above)),
+            ),
+            refl,
+          ),
     ))
 
 -- a line that deletes what is live
@@ -91,7 +94,7 @@ pub record IsDeleteLine (given : Given) (ls : List LogLine) (l : LogLine) : Type
       → IsDistinct nat_eq (map (λ h. id_of base (name_of h)) l.hints)
   pub live : (base : ℕ) → IsBaseOf given base
       → AllByRecursion (λ i. (c : List Literal) × (log_live given base ls i ≡ Some c))
-        (map (λ h. id_of base (name_of h)) l.hints)
+      (map (λ h. id_of base (name_of h)) l.hints)
 
 pub delete_line_more : (given more : Given) (ls : List LogLine) (l : LogLine)
     → IsDeleteLine given ls l → AreLogSteps (given ++ more) ls
@@ -101,29 +104,29 @@ delete_line_more given more ls l r steps = log_steps_more (given ++ more) ls l s
     let ids : List ℕ = map (λ h. id_of base (name_of h)) l.hints in (
       without_ids old ids,
       subst (λ b. Step old (if b then Deletion (base + added_count ls) ids
-            else Addition (base + added_count ls + 1) l.clause (leading_ids base l.hints)
-            (group_ids base l.hints)) (without_ids old ids)) (sym r.deletes) (
-        r.distinct base (base_front given more base above),
-        ids_covered (log_live given base ls) old.clause_at (live_more given more base ls) ids
-            (r.live base (base_front given more base above)),
-        refl,
-      ),
+          else Addition (base + added_count ls + 1) l.clause (leading_ids base l.hints)
+          (group_ids base l.hints)) (without_ids old ids)) (sym r.deletes) (
+            r.distinct base (base_front given more base above),
+            ids_covered (log_live given base ls) old.clause_at (live_more given more base ls) ids
+                (r.live base (base_front given more base above)),
+            refl,
+          ),
     ))
 
 -- what is live after one more line
 pub log_live-more : (given : Given) (base : ℕ) (ls : List LogLine) (l : LogLine)
     → log_live given base (ls ++ l ∷ [])
     ≡ (if is_delete l.kind
-        then without_ids (live_after (start_over given base) (numbered_lines base ls))
-        (map (λ h. id_of base (name_of h)) l.hints)
+    then without_ids (live_after (start_over given base) (numbered_lines base ls))
+    (map (λ h. id_of base (name_of h)) l.hints)
     else with_clause (live_after (start_over given base) (numbered_lines base ls))
-      (base + added_count ls + 1) l.clause).clause_at
+    (base + added_count ls + 1) l.clause).clause_at
 log_live-more given base ls l =
     let start : Live = start_over given base in
     let old : Live = live_after start (numbered_lines base ls) in
     ap (λ ms. (live_after start ms).clause_at) (numbered_lines-more base ls l)
     ∙ ap (λ (x : Live). x.clause_at) (live_after-append start (numbered_lines base ls)
-        (numbered_line base (added_count ls) l ∷ []))
+    (numbered_line base (added_count ls) l ∷ []))
     ∙ ap (λ (x : Live). x.clause_at) (live_line (is_delete l.kind) old (base + added_count ls)
-        (base + added_count ls + 1) (map (λ h. id_of base (name_of h)) l.hints)
-        (leading_ids base l.hints) l.clause (group_ids base l.hints) [])
+    (base + added_count ls + 1) (map (λ h. id_of base (name_of h)) l.hints)
+    (leading_ids base l.hints) l.clause (group_ids base l.hints) [])

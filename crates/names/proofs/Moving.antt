@@ -24,8 +24,8 @@ learned-push ls l e =
     let one : sum_by (λ (k : LogLine). if is_learned k.kind then 1 else 0) (l ∷ []) ≡ 0 =
     rw e refl in
     let both : learned_count (ls ++ l ∷ []) ≡ learned_count ls + sum_by
-      (λ (k : LogLine). if is_learned k.kind then 1 else 0) (l ∷ []) =
-      sum_by-append (λ (k : LogLine). if is_learned k.kind then 1 else 0) ls (l ∷ []) in
+    (λ (k : LogLine). if is_learned k.kind then 1 else 0) (l ∷ []) =
+    sum_by-append (λ (k : LogLine). if is_learned k.kind then 1 else 0) ls (l ∷ []) in
     omega arith
 
 -- the log with one more line that follows by its hints
@@ -45,12 +45,15 @@ pub stays_deleted : (first : ℕ) (given : Given) (ls : List LogLine) (n : Name)
     → StaysLogOver first given (ls ++ delete_line n ∷ [])
 stays_deleted first given ls n c log going live more small = record {
   steps =
-    delete_line_more given more ls (delete_line n)
-      (record { deletes = refl; distinct = λ base above. one_apart (id_of base n);
-        live = λ base above. ((c, live base above), tt) }) (log more small).steps;
+      delete_line_more given more ls (delete_line n)
+      (record {
+        deletes = refl;
+        distinct = λ base above. one_apart (id_of base n);
+        live = λ base above. ((c, live base above), tt);
+      }) (log more small).steps;
   stops = stops_push ls (delete_line n) going;
   groups =
-    All-push (λ (k : LogLine). All IsOwnGroup k.hints) ls (delete_line n) (log more small).groups
+      All-push (λ (k : LogLine). All IsOwnGroup k.hints) ls (delete_line n) (log more small).groups
       (All-cons IsOwnGroup _ [] tt (All-nil IsOwnGroup));
 }
 
@@ -61,7 +64,7 @@ pub work_added : (first variables : ℕ) (given : Given) (slots : Slots) (names 
     → IsRupLine given ls l → All IsOwnGroup l.hints → is_learned l.kind ≡ false
     → added_count ls + 1 < 2 ^ 62 → IsFormulaClause variables l.clause
     → IsWork first variables given (slots ++ Some l.clause ∷ [])
-      (names ++ added_line (added_count ls) ∷ []) (ls ++ l ∷ [])
+    (names ++ added_line (added_count ls) ∷ []) (ls ++ l ∷ [])
 work_added first variables given slots names ls l w going rup own unlearned small clause = record {
   log = stays_added first given ls l w.log going rup own;
   none_learned = learned-push ls l unlearned ∙ w.none_learned;
@@ -78,10 +81,10 @@ pub work_deleted : (first variables : ℕ) (given : Given) (slots : Slots) (name
     → IsWork first variables given slots names ls → AddsNoEmptyClause ls
     → clause_at slots r ≡ Some c
     → IsWork first variables given (slice_set slots r None) names
-      (ls ++ delete_line (name_at names r) ∷ [])
+    (ls ++ delete_line (name_at names r) ∷ [])
 work_deleted first variables given slots names ls r c w going live = record {
   log =
-    stays_deleted first given ls (name_at names r) c w.log going
+      stays_deleted first given ls (name_at names r) c w.log going
       (λ base above. (w.named.live base above).named r c live);
   none_learned = learned-push ls (delete_line (name_at names r)) refl ∙ w.none_learned;
   named = named_deleted given slots names ls r c w.named live;

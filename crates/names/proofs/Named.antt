@@ -32,4 +32,4 @@ pub names_pushed : (items pushed all : List Name) (n m i : ℕ) (slots : Slots)
 names_pushed items pushed all n m i slots p s h =
     let rest : List Name = formula_names m (drop (suc i) slots) in
     rw add-one (ap (λ xs. xs ++ rest) p ∙ append_assoc items (Formula n ∷ []) rest
-        ∙ sym (ap (λ ys. items ++ ys) s) ∙ h)
+    ∙ sym (ap (λ ys. items ++ ys) s) ∙ h)

@@ -28,7 +28,7 @@ added_from : (at : Clauses) (new i : ℕ) (c d : List Literal)
     → (if i == new then Some c else at i) ≡ Some d → ((i ≡ new) × (d ≡ c)) ⊎ (at i ≡ Some d)
 added_from at new i c d e =
     elim (i == new) as (λ b. (i == new) ≡ b → (if b then Some c else at i) ≡ Some d
-        → ((i ≡ new) × (d ≡ c)) ⊎ (at i ≡ Some d)) [
+    → ((i ≡ new) × (d ≡ c)) ⊎ (at i ≡ Some d)) [
       | true ↦ λ q h. inl (eqb-true i new q, sym (same_Some c d h))
       | false ↦ λ q h. inr h
     ] refl e
@@ -50,7 +50,7 @@ live_added id more slots at last new c a e before here = record {
   only = λ i d h. elim (added_from at new i c d h) [
     | inl w ↦ (length slots, clause_new slots c ∙ ap Some (sym w.1), here ∙ sym w.0)
     | inr w ↦ let o = a.only i d w in
-      (o.0, clause_kept slots c d o.0 o.1, before o.0 (live_within slots o.0 d o.1) ∙ o.2)
+        (o.0, clause_kept slots c d o.0 o.1, before o.0 (live_within slots o.0 d o.1) ∙ o.2)
   ];
   differ = λ r s x y h k same. elim (clause_cases slots c r x h) [
     | inr w ↦ elim (clause_cases slots c s y k) [
@@ -92,14 +92,14 @@ deleted_from at gone i d e =
     ]
   where
     gone_there : i ≡ gone → (if list_any (nat_eq i) (gone ∷ []) then None else at i) ≡ Some d
-      → None ≡ Some d
+        → None ≡ Some d
     gone_there q h = rw (eq-eqb i gone q) at h
 
 -- and the clause that is deleted leaves with its id
 pub live_deleted : (id : ℕ → ℕ) (slots : Slots) (at : Clauses) (last r : ℕ) (c : List Literal)
     → AreLiveAs id slots at last → clause_at slots r ≡ Some c
     → AreLiveAs id (slice_set slots r None) (λ i. if list_any (nat_eq i) (id r ∷ []) then None
-        else at i) last
+    else at i) last
 live_deleted id slots at last r c a live = record {
   named = λ s d h.
       let w = clause_left slots r s d h in
@@ -109,7 +109,7 @@ live_deleted id slots at last r c a live = record {
       let o = a.only i d w.1 in
       (o.0, (clause_other slots r o.0 (λ q. w.0 (sym o.2 ∙ ap id q)) ∙ o.1), o.2);
   differ =
-    λ s t x y h k same. a.differ s t x y (clause_left slots r s x h).1
+      λ s t x y h k same. a.differ s t x y (clause_left slots r s x h).1
       (clause_left slots r t y k).1 same;
   below = λ s d h. a.below s d (clause_left slots r s d h).1;
 }
@@ -124,12 +124,12 @@ name-last names n r h = get_or_push names n (Formula 1) r h
 
 adds_live : (given : Given) (base : ℕ) (ls : List LogLine) (l : LogLine) → is_delete l.kind ≡ false
     → log_live given base (ls ++ l ∷ []) ≡ (λ i. if i == base + added_count ls + 1
-        then Some l.clause else log_live given base ls i)
+    then Some l.clause else log_live given base ls i)
 adds_live given base ls l e = log_live-more given base ls l ∙ rw e refl
 
 deletes_live : (given : Given) (base : ℕ) (ls : List LogLine) (n : Name)
     → log_live given base (ls ++ delete_line n ∷ [])
-        ≡ (λ i. if list_any (nat_eq i) (id_of base n ∷ []) then None else log_live given base ls i)
+    ≡ (λ i. if list_any (nat_eq i) (id_of base n ∷ []) then None else log_live given base ls i)
 deletes_live given base ls n = log_live-more given base ls (delete_line n)
 
 -- a line that adds a clause, which the store gets with the name that the line gives it
@@ -137,32 +137,36 @@ pub named_added : (given : Given) (slots : Slots) (names : List Name) (ls : List
     (l : LogLine) → IsNamed given slots names ls → is_delete l.kind ≡ false
     → added_count ls + 1 < 2 ^ 62
     → IsNamed given (slots ++ Some l.clause ∷ []) (names ++ added_line (added_count ls) ∷ [])
-      (ls ++ l ∷ [])
+    (ls ++ l ∷ [])
 named_added given slots names ls l n adds small = record {
-  long = omega (arith, n.long, length-append names (added_line (added_count ls) ∷ []),
-      length-append slots (Some l.clause ∷ []));
+  long = omega (
+    arith,
+    n.long,
+    length-append names (added_line (added_count ls) ∷ []),
+    length-append slots (Some l.clause ∷ []),
+  );
   numbers = All-push (λ m. IsId (number_in m)) names (added_line (added_count ls)) n.numbers
-    (omega arith, small);
+      (omega arith, small);
   live = λ base above.
       let new : ℕ = base + added_count ls + 1 in
       let one : added_count (ls ++ l ∷ []) ≡ added_count ls + 1 =
-        rw adds at (additions_push ls l) in
+      rw adds at (additions_push ls l) in
       let next : base + added_count (ls ++ l ∷ []) ≡ new = omega arith in
       subst (λ (at : Clauses). AreLiveAs
-          (λ r. id_of base (name_at (names ++ added_line (added_count ls) ∷ []) r))
-          (slots ++ Some l.clause ∷ []) at (base + added_count (ls ++ l ∷ [])))
-        (sym (adds_live given base ls l adds))
+      (λ r. id_of base (name_at (names ++ added_line (added_count ls) ∷ []) r))
+      (slots ++ Some l.clause ∷ []) at (base + added_count (ls ++ l ∷ [])))
+      (sym (adds_live given base ls l adds))
       (subst (λ (last : ℕ). AreLiveAs
-            (λ r. id_of base (name_at (names ++ added_line (added_count ls) ∷ []) r))
-            (slots ++ Some l.clause ∷ []) (λ i. if i == new then Some l.clause
-              else log_live given base ls i) last) (sym next)
+      (λ r. id_of base (name_at (names ++ added_line (added_count ls) ∷ []) r))
+      (slots ++ Some l.clause ∷ []) (λ i. if i == new then Some l.clause
+      else log_live given base ls i) last) (sym next)
       (live_added (λ r. id_of base (name_at names r))
-          (λ r. id_of base (name_at (names ++ added_line (added_count ls) ∷ []) r)) slots
-          (log_live given base ls) (base + added_count ls) new l.clause (n.live base above) refl
+      (λ r. id_of base (name_at (names ++ added_line (added_count ls) ∷ []) r)) slots
+      (log_live given base ls) (base + added_count ls) new l.clause (n.live base above) refl
       (λ r h. ap (id_of base) (name-push names (added_line (added_count ls)) r
-            (omega (arith, n.long))))
+      (omega (arith, n.long))))
       (ap (id_of base) (name-last names (added_line (added_count ls)) (length slots) n.long)
-          ∙ (let e : base + (added_count ls + 1) ≡ new = omega arith in e))));
+      ∙ (let e : base + (added_count ls + 1) ≡ new = omega arith in e))));
 }
 
 -- a line that deletes a clause of the store by its name
@@ -174,17 +178,17 @@ named_deleted given slots names ls r c n live = record {
   numbers = n.numbers;
   live = λ base above.
       let same : base + added_count (ls ++ delete_line (name_at names r) ∷ [])
-          ≡ base + added_count ls =
-        omega (arith, additions_push ls (delete_line (name_at names r))) in
+      ≡ base + added_count ls =
+      omega (arith, additions_push ls (delete_line (name_at names r))) in
       subst (λ (at : Clauses). AreLiveAs (λ s. id_of base (name_at names s))
-          (slice_set slots r None) at
-          (base + added_count (ls ++ delete_line (name_at names r) ∷ [])))
-        (sym (deletes_live given base ls (name_at names r)))
+      (slice_set slots r None) at
+      (base + added_count (ls ++ delete_line (name_at names r) ∷ [])))
+      (sym (deletes_live given base ls (name_at names r)))
       (subst (λ (last : ℕ). AreLiveAs (λ s. id_of base (name_at names s)) (slice_set slots r None)
-            (λ i. if list_any (nat_eq i) (id_of base (name_at names r) ∷ []) then None
-              else log_live given base ls i) last) (sym same)
+      (λ i. if list_any (nat_eq i) (id_of base (name_at names r) ∷ []) then None
+      else log_live given base ls i) last) (sym same)
       (live_deleted (λ s. id_of base (name_at names s)) slots (log_live given base ls)
-          (base + added_count ls) r c (n.live base above) live));
+      (base + added_count ls) r c (n.live base above) live));
 }
 
 -- the number in each clause's name is an id; so is that in the name of any other place

@@ -33,7 +33,7 @@ more_names n =
 same_stage : (v : ℕ) (slots slots' : Slots) (names names' : List Name) (lines lines' : List LogLine)
     → slots ≡ slots' → names ≡ names' → lines ≡ lines'
     → (let s : Stage = record { variables = v; slots = slots; names = names; lines = lines } in
-        s) ≡ record { variables = v; slots = slots'; names = names'; lines = lines' }
+    s) ≡ record { variables = v; slots = slots'; names = names'; lines = lines' }
 same_stage v slots slots' names names' lines lines' p q r =
     λ i. record { variables = v; slots = p i; names = q i; lines = r i }
 
@@ -44,7 +44,7 @@ pub is_added : (v w : ℕ) (slots slots' : Slots) (n n' : NamesState) (lines lin
     → stage_of w slots' n' lines' ≡ added_stage (stage_of v slots n lines) w l
 is_added v w slots slots' n n' lines lines' l counted p q r =
     same_stage w slots' (slots ++ Some l.clause ∷ []) n'.names
-      (n.names ++ added_line (added_count lines) ∷ []) lines' (lines ++ l ∷ [])
+    (n.names ++ added_line (added_count lines) ∷ []) lines' (lines ++ l ∷ [])
     p (ap (λ (x : NamesState). x.names) q ∙ ap (λ (k : ℕ). n.names ++ added_line k ∷ []) counted) r
 
 -- and one that deletes
@@ -54,7 +54,7 @@ pub is_deleted : (v : ℕ) (slots slots' : Slots) (n : NamesState) (lines lines'
     → stage_of v slots' n lines' ≡ deleted_stage (stage_of v slots n lines) r
 is_deleted v slots slots' n lines lines' r p q =
     same_stage v slots' (slice_set slots r None) n.names n.names lines'
-      (lines ++ delete_line (name_at n.names r) ∷ []) p refl q
+    (lines ++ delete_line (name_at n.names r) ∷ []) p refl q
 
 -- the counts go together
 pub counted_added : (n n' : NamesState) (lines lines' : List LogLine) (l : LogLine)
@@ -63,7 +63,7 @@ pub counted_added : (n n' : NamesState) (lines lines' : List LogLine) (l : LogLi
     → n'.additions ≡ added_count lines'
 counted_added n n' lines lines' l counted q r adds =
     let e : added_count (lines ++ l ∷ []) ≡ added_count lines + 1 =
-      rw adds at (additions_push lines l) in
+    rw adds at (additions_push lines l) in
     let f : n'.additions ≡ n.additions + 1 = ap (λ (x : NamesState). x.additions) q in
     let h : added_count lines' ≡ added_count (lines ++ l ∷ []) = ap added_count r in
     omega arith
@@ -73,7 +73,7 @@ pub counted_deleted : (n : NamesState) (lines lines' : List LogLine) (m : Name)
     → n.additions ≡ added_count lines'
 counted_deleted n lines lines' m counted r =
     let e : added_count (lines ++ delete_line m ∷ []) ≡ added_count lines + 0 =
-      additions_push lines (delete_line m) in
+    additions_push lines (delete_line m) in
     let h : added_count lines' ≡ added_count (lines ++ delete_line m ∷ []) = ap added_count r in
     omega arith
 
@@ -82,10 +82,13 @@ pub long_added : (slots slots' : Slots) (n n' : NamesState) (c : List Literal)
     → length n'.names ≡ length slots'
 long_added slots slots' n n' c long p q =
     let e : length n'.names ≡ length (n.names ++ added_line n.additions ∷ []) =
-      ap (λ (x : NamesState). length x.names) q in
+    ap (λ (x : NamesState). length x.names) q in
     let f : length slots' ≡ length (slots ++ Some c ∷ []) = ap length p in
-    omega (arith, length-append n.names (added_line n.additions ∷ []),
-        length-append slots (Some c ∷ []))
+    omega (
+      arith,
+      length-append n.names (added_line n.additions ∷ []),
+      length-append slots (Some c ∷ []),
+    )
 
 pub long_deleted : (slots slots' : Slots) (names : List Name) (r : ℕ) → length names ≡ length slots
     → slots' ≡ slice_set slots r None → length names ≡ length slots'
@@ -105,10 +108,16 @@ whole_is v slots slots' n n' lines lines' lits hints x a b counted p q r e f h =
     let is : lits ≡ whole_clause (v + 1) a b = e ∙ ap (λ y. y ∷ a ∷ b ∷ []) f in
     is_added v (v + 1) slots slots' n n' lines lines' (whole_line (v + 1) a b) counted
     (p ∙ ap (λ c. slots ++ Some c ∷ []) is) q
-    (r ∙ ap (λ (c : List Literal). lines ++ record { kind = Definition; clause = c;
-            hints = hints } ∷ []) is
-    ∙ ap (λ (hs : List Hint). lines ++ record { kind = Definition;
-          clause = whole_clause (v + 1) a b; hints = hs } ∷ []) h)
+    (r ∙ ap (λ (c : List Literal). lines ++ record {
+      kind = Definition;
+      clause = c;
+      hints = hints;
+    } ∷ []) is
+    ∙ ap (λ (hs : List Hint). lines ++ record {
+      kind = Definition;
+      clause = whole_clause (v + 1) a b;
+      hints = hs;
+    } ∷ []) h)
 
 -- and one of its sides
 pub side_is : (v : ℕ) (slots slots' : Slots) (n n' : NamesState) (lines lines' : List LogLine)
@@ -126,17 +135,17 @@ pub defined_is : (slots one two three : Slots) (z : ℕ) (a b : Literal) (w l r 
     → three ≡ two ++ Some (side_clause z b) ∷ []
     → w ≡ length slots → l ≡ length one → r ≡ length two
     → (clause_at three w ≡ Some (whole_clause z a b)) × (clause_at three l ≡ Some (side_clause z a))
-        × (clause_at three r ≡ Some (side_clause z b))
+    × (clause_at three r ≡ Some (side_clause z b))
 defined_is slots one two three z a b w l r p q s e f h = (
   ap (λ x. clause_at x w) s ∙ clause_kept two (side_clause z b) (whole_clause z a b) w
       (ap (λ x. clause_at x w) q ∙ clause_kept one (side_clause z a) (whole_clause z a b) w
-          (ap (λ x. clause_at x w) p ∙ ap (clause_at (slots ++ Some (whole_clause z a b) ∷ [])) e
-            ∙ clause_new slots (whole_clause z a b))),
+      (ap (λ x. clause_at x w) p ∙ ap (clause_at (slots ++ Some (whole_clause z a b) ∷ [])) e
+      ∙ clause_new slots (whole_clause z a b))),
   ap (λ x. clause_at x l) s ∙ clause_kept two (side_clause z b) (side_clause z a) l
       (ap (λ x. clause_at x l) q ∙ ap (clause_at (one ++ Some (side_clause z a) ∷ [])) f
-          ∙ clause_new one (side_clause z a)),
+      ∙ clause_new one (side_clause z a)),
   ap (λ x. clause_at x r) s ∙ ap (clause_at (two ++ Some (side_clause z b) ∷ [])) h
-    ∙ clause_new two (side_clause z b),
+      ∙ clause_new two (side_clause z b),
 )
 
 -- after a refusal the log is that of a stage that is right
@@ -165,18 +174,24 @@ pub replaced_is : (slots slots' : Slots) (n n' : NamesState) (lines lines' : Lis
     → stage_of d.variable slots' n' lines' ≡ with_replaced (stage_of d.variable slots n lines) d r c
 replaced_is slots slots' n n' lines lines' lits c hints d r x y w counted p q k e h hx hy hw =
     let is : hints ≡ Plain (name_at n.names d.left_side) ∷ Plain (name_at n.names d.right_side)
-      ∷ Plain (name_at n.names r) ∷ [] =
+    ∷ Plain (name_at n.names r) ∷ [] =
     h ∙ ap (λ (v : Hint). v ∷ y ∷ w ∷ []) hx
-      ∙ ap (λ (v : Hint). Plain (name_at n.names d.left_side) ∷ v ∷ w ∷ []) hy
-      ∙ ap (λ (v : Hint). Plain (name_at n.names d.left_side) ∷ Plain (name_at n.names d.right_side)
-        ∷ v ∷ []) hw in
+    ∙ ap (λ (v : Hint). Plain (name_at n.names d.left_side) ∷ v ∷ w ∷ []) hy
+    ∙ ap (λ (v : Hint). Plain (name_at n.names d.left_side) ∷ Plain (name_at n.names d.right_side)
+    ∷ v ∷ []) hw in
     is_added d.variable d.variable slots slots' n n' lines lines'
-      (replaced_line_of (stage_of d.variable slots n lines) d r c) counted
+    (replaced_line_of (stage_of d.variable slots n lines) d r c) counted
     (p ∙ ap (λ v. slots ++ Some v ∷ []) e) q
-    (k ∙ ap (λ (v : List Literal). lines ++ record { kind = Resolvent; clause = v;
-            hints = hints } ∷ []) e
-    ∙ ap (λ (hs : List Hint). lines ++ record { kind = Resolvent;
-          clause = replaced d.variable d.left d.right c; hints = hs } ∷ []) is)
+    (k ∙ ap (λ (v : List Literal). lines ++ record {
+      kind = Resolvent;
+      clause = v;
+      hints = hints;
+    } ∷ []) e
+    ∙ ap (λ (hs : List Hint). lines ++ record {
+      kind = Resolvent;
+      clause = replaced d.variable d.left d.right c;
+      hints = hs;
+    } ∷ []) is)
 
 -- what was right at a stage is so with the variable of a definition that stands
 pub record Defines (s : Stage) (v : ℕ) (d : Fresh) (slots : Slots) (n : NamesState)
@@ -192,8 +207,8 @@ pub defines_same : (s : Stage) (v : ℕ) (d : Fresh) (slots slots' : Slots) (n n
     → Defines s v d slots n lines → Defines s v d slots' n' lines'
 defines_same s v d slots slots' n n' lines lines' p q r h =
     subst (λ (x : Slots). Defines s v d x n' lines') (sym p)
-      (subst (λ (x : NamesState). Defines s v d slots x lines') (sym q)
-        (subst (λ (x : List LogLine). Defines s v d slots n x) (sym r) h))
+    (subst (λ (x : NamesState). Defines s v d slots x lines') (sym q)
+    (subst (λ (x : List LogLine). Defines s v d slots n x) (sym r) h))
 
 -- and with so many variables, at most
 pub record Counts (s : Stage) (v bound last : ℕ) (slots : Slots) (n : NamesState)
@@ -209,6 +224,6 @@ pub counts_same : (s : Stage) (v bound last last' : ℕ) (slots slots' : Slots) 
     → Counts s v bound last slots n lines → Counts s v bound last' slots' n' lines'
 counts_same s v bound last last' slots slots' n n' lines lines' e p q r h =
     subst (λ (x : ℕ). Counts s v bound x slots' n' lines') (sym e)
-      (subst (λ (x : Slots). Counts s v bound last x n' lines') (sym p)
+    (subst (λ (x : Slots). Counts s v bound last x n' lines') (sym p)
     (subst (λ (x : NamesState). Counts s v bound last slots x lines') (sym q)
-        (subst (λ (x : List LogLine). Counts s v bound last slots n x) (sym r) h)))
+    (subst (λ (x : List LogLine). Counts s v bound last slots n x) (sym r) h)))

@@ -16,7 +16,7 @@ use Rattle.pairs.proofs.Literals.{any_member, negation_twice, contains-filter}
 abbrev pub IsFreshIn : ℕ → Clauses → Type 0
 IsFreshIn z at = (i : ℕ) (d : List Literal) → at i ≡ Some d
     → (contains_literal (positive z) d ≡ false)
-      × (contains_literal (negation (positive z)) d ≡ false)
+    × (contains_literal (negation (positive z)) d ≡ false)
 
 -- two literals on two variables, neither of which is z
 pub record IsPairFor (z : ℕ) (a b : Literal) : Type 0 where
@@ -31,7 +31,7 @@ group_for i = record { candidate = i; hints = [] }
 pub other_variable : (k l : Literal) → (k.variable ≡ l.variable → ⊥) → literal_eq k l ≡ false
 other_variable k l n =
     and_left (k.variable == l.variable) (same_bool k.negated l.negated)
-      (ne_eqb k.variable l.variable n)
+    (ne_eqb k.variable l.variable n)
 
 only_hint : (j i : ℕ) → Contains (j ∷ []) i → i ≡ j
 only_hint j i (zero, l, e) = sym e
@@ -48,8 +48,10 @@ first_rat at z a b fresh = record {
   leads = refl;
   rising = λ k h. absurd (omega arith);
   complete =
-    λ i. (λ c. absurd (omega (arith, c.1)),
-      λ x. absurd (both_ways (contains_literal (positive z) x.0) (fresh i x.0 x.1).0 x.2));
+      λ i. (
+        λ c. absurd (omega (arith, c.1)),
+        λ x. absurd (both_ways (contains_literal (positive z) x.0) (fresh i x.0 x.1).0 x.2),
+      );
   each = tt;
 }
 
@@ -58,7 +60,7 @@ pub side_rat : (at : Clauses) (z : ℕ) (a : Literal) (i : ℕ) (c : List Litera
     → contains_literal (negation (positive z)) c ≡ true → contains_literal a c ≡ true
     → (z ≡ a.variable → ⊥)
     → ((j : ℕ) (d : List Literal) → at j ≡ Some d → contains_literal (negation (positive z)) d
-        ≡ true → j ≡ i)
+    ≡ true → j ≡ i)
     → IsRat at (side_clause z a) [] (group_for i ∷ [])
 side_rat at z a i c live has has_a other only = record {
   pivot = positive z;
@@ -77,13 +79,13 @@ side_rat at z a i c live has has_a other only = record {
       live,
       inl (
         any_member (λ k. contains_literal k (map negation (side_clause z a))) a
-          (without_literal (negation (positive z)) c)
+            (without_literal (negation (positive z)) c)
             (contains-filter (λ k. not (literal_eq (negation (positive z)) k)) a c has_a
-                (ap not (other_variable (negation (positive z)) a other)))
+            (ap not (other_variable (negation (positive z)) a other)))
             (or_right (literal_eq a (negation (positive z)))
-                (contains_literal a (negation (negation a) ∷ []))
+            (contains_literal a (negation (negation a) ∷ []))
             (or_left (literal_eq a (negation (negation a))) false
-                (subst (λ x. literal_eq a x ≡ true) (sym (negation_twice a)) (literal_eq-refl a)))),
+            (subst (λ x. literal_eq a x ≡ true) (sym (negation_twice a)) (literal_eq-refl a)))),
         refl,
       ),
     ),
@@ -95,30 +97,30 @@ pub side_lacks : (z : ℕ) (a : Literal) → (z ≡ a.variable → ⊥)
     → contains_literal (negation (positive z)) (side_clause z a) ≡ false
 side_lacks z a other =
     or_from (literal_eq (negation (positive z)) (positive z))
-      (contains_literal (negation (positive z)) (negation a ∷ []))
+    (contains_literal (negation (positive z)) (negation a ∷ []))
     (and_right (z == z) false refl) (or_from (literal_eq (negation (positive z)) (negation a)) false
-        (other_variable (negation (positive z)) (negation a) other) refl)
+    (other_variable (negation (positive z)) (negation a) other) refl)
 
 pub first_addable : (live : Live) (id z : ℕ) (a b : Literal) → live.last < id → IsPairFor z a b
     → IsAddable live id (whole_clause z a b)
 first_addable live id z a b rising p = record {
   rising = rising;
   no_repeat =
-    or_from (contains_literal (negation (positive z)) (a ∷ b ∷ [])) (has_repeat (a ∷ b ∷ []))
+      or_from (contains_literal (negation (positive z)) (a ∷ b ∷ [])) (has_repeat (a ∷ b ∷ []))
       (or_from (literal_eq (negation (positive z)) a)
-          (contains_literal (negation (positive z)) (b ∷ []))
-          (other_variable (negation (positive z)) a p.not_a)
-          (or_from (literal_eq (negation (positive z)) b) false
-            (other_variable (negation (positive z)) b p.not_b) refl))
+      (contains_literal (negation (positive z)) (b ∷ []))
+      (other_variable (negation (positive z)) a p.not_a)
+      (or_from (literal_eq (negation (positive z)) b) false
+      (other_variable (negation (positive z)) b p.not_b) refl))
       (or_from (contains_literal a (b ∷ [])) false
-          (or_from (literal_eq a b) false (other_variable a b p.two) refl) refl);
+      (or_from (literal_eq a b) false (other_variable a b p.two) refl) refl);
   no_opposites = or_from (contains_literal (positive z) (a ∷ b ∷ [])) (has_opposites (a ∷ b ∷ []))
       (or_from (literal_eq (positive z) a) (contains_literal (positive z) (b ∷ []))
-          (other_variable (positive z) a p.not_a)
-          (or_from (literal_eq (positive z) b) false (other_variable (positive z) b p.not_b) refl))
+      (other_variable (positive z) a p.not_a)
+      (or_from (literal_eq (positive z) b) false (other_variable (positive z) b p.not_b) refl))
       (or_from (contains_literal (negation a) (b ∷ [])) false
-          (or_from (literal_eq (negation a) b) false (other_variable (negation a) b p.two) refl)
-          refl);
+      (or_from (literal_eq (negation a) b) false (other_variable (negation a) b p.two) refl)
+      refl);
   small = omega (arith, p.small);
 }
 
@@ -127,11 +129,11 @@ pub side_addable : (live : Live) (id z : ℕ) (a : Literal) → live.last < id �
 side_addable live id z a rising other few few_too = record {
   rising = rising;
   no_repeat =
-    or_from (contains_literal (positive z) (negation a ∷ [])) false
+      or_from (contains_literal (positive z) (negation a ∷ [])) false
       (or_from (literal_eq (positive z) (negation a)) false
       (other_variable (positive z) (negation a) other) refl) refl;
   no_opposites =
-    or_from (contains_literal (negation (positive z)) (negation a ∷ [])) false
+      or_from (contains_literal (negation (positive z)) (negation a ∷ [])) false
       (or_from (literal_eq (negation (positive z)) (negation a)) false
       (other_variable (negation (positive z)) (negation a) other) refl) refl;
   small = omega arith;

@@ -27,4 +27,4 @@ pub contains_live : (slots : Slots) (r : ℕ) (c : List Literal) → clause_at s
     → Contains (live_clauses slots) c
 contains_live slots r c e =
     live_all (Contains (live_clauses slots)) slots
-      (λ k d lt. Contains-get_or (live_clauses slots) k d lt) r c e
+    (λ k d lt. Contains-get_or (live_clauses slots) k d lt) r c e

@@ -26,7 +26,7 @@ added_here slots c =
     let all = slots ++ Some c ∷ [] in
     let within : length slots < length all = omega (arith, length-append slots (Some c ∷ [])) in
     ap in_slot (slice_get_read all (length all) (length slots) (Some c) refl within
-        (sym (get_or-append_seam slots (Some c) [] (Some c))))
+    (sym (get_or-append_seam slots (Some c) [] (Some c))))
 
 added_others : (slots : Slots) (c : List Literal) (r : ℕ) → r < length slots
     → clause_at (slots ++ Some c ∷ []) r ≡ clause_at slots r
@@ -34,14 +34,14 @@ added_others slots c r lt =
     let all = slots ++ Some c ∷ [] in
     let within : r < length all = omega (arith, lt, length-append slots (Some c ∷ [])) in
     ap in_slot (slice_get-get_or all r None within
-        ∙ ap Some (get_or_append_left slots (Some c ∷ []) None r lt)
-        ∙ sym (slice_get-get_or slots r None lt))
+    ∙ ap Some (get_or_append_left slots (Some c ∷ []) None r lt)
+    ∙ sym (slice_get-get_or slots r None lt))
 
 pub new_is_detached : (e : EngineState) (slots : Slots) → Fits e slots
     → is_attached e (length slots) ≡ false
 new_is_detached e slots fits = elim (cases_Bool (is_attached e (length slots))) [
   | inl held ↦ let found = fits.attached (length slots) held in
-    absurd (past_end slots (length slots) found.0 (omega arith) found.1)
+      absurd (past_end slots (length slots) found.0 (omega arith) found.1)
   | inr not_held ↦ not_held
 ]
 
@@ -49,9 +49,9 @@ pub fits_added : (e : EngineState) (slots : Slots) (c : List Literal) → Fits e
     → Fits e (slots ++ Some c ∷ [])
 fits_added e slots c fits =
     fits_local e slots (slots ++ Some c ∷ []) fits (λ r held. elim (cases_lt r (length slots)) [
-  | inl lt ↦ added_others slots c r lt
-  | inr le ↦ let found = fits.attached r held in absurd (past_end slots r found.0 le found.1)
-])
+      | inl lt ↦ added_others slots c r lt
+      | inr le ↦ let found = fits.attached r held in absurd (past_end slots r found.0 le found.1)
+    ])
 
 -- what an attached clause owes, where it was just added
 pub added_live : (slots : Slots) (c : List Literal) (r : ℕ) → r ≡ length slots

@@ -38,13 +38,16 @@ pub attachment_grown : (t : List Attachment) (r q : ℕ)
 attachment_grown t r q = elim (cases_lt q (length t)) [
   | inl lt ↦ get_or_append_left t (replicate (r + 1 - length t) Detached) Detached q lt
   | inr le ↦ get_or-append_right t (replicate (r + 1 - length t) Detached) (length t) q Detached
-    refl le ∙ past (r + 1 - length t) (q - length t) ∙ sym (get_or_past t q Detached le)
+      refl le ∙ past (r + 1 - length t) (q - length t) ∙ sym (get_or_past t q Detached le)
 ]
 
 pub length-grown : (t : List Attachment) (r : ℕ) → r < length (grown_table t r)
 length-grown t r =
-    omega (arith, length-append t (replicate (r + 1 - length t) Detached),
-      length-replicate (r + 1 - length t) Detached)
+    omega (
+      arith,
+      length-append t (replicate (r + 1 - length t) Detached),
+      length-replicate (r + 1 - length t) Detached,
+    )
 
 detached_at : (p : Attachment) → is_kept p ≡ false → p ≡ Detached
 detached_at Detached e = refl
@@ -55,32 +58,32 @@ detached_at (Watching one other rest) e = absurd (true≢false e)
 pub fits_attach : (e : EngineState) (slots : Slots) (r : ℕ) (c : List Literal)
     → is_attached e r ≡ false → clause_at slots r ≡ Some c → IsWithin e.variables c
     → Fits e slots → Fits (with_watches e (set (grown_table e.watches.table r) r Waiting)
-        e.watches.rows (e.watches.waiting ++ r ∷ [])) slots
+    e.watches.rows (e.watches.waiting ++ r ∷ [])) slots
 fits_attach e slots r c out live within fits =
     let g = grown_table e.watches.table r in
     let t = set g r Waiting in
     let R = e.watches.rows in
     let w = e.watches.waiting ++ r ∷ [] in
     let here : attachment_in t r ≡ Waiting =
-      attachment_set_same g r Waiting (length-grown e.watches.table r) in
+    attachment_set_same g r Waiting (length-grown e.watches.table r) in
     let kept : is_kept (attachment_in t r) ≡ true = ap is_kept here in
     let other : (q : ℕ) → q ≢ r → attachment_in t q ≡ attachment_in e.watches.table q =
-      λ q ne. attachment_set_other g r q Waiting ne ∙ attachment_grown e.watches.table r q in
+    λ q ne. attachment_set_other g r q Waiting ne ∙ attachment_grown e.watches.table r q in
     let was : attachment_in e.watches.table r ≡ Detached =
-      detached_at (attachment_in e.watches.table r) out in
+    detached_at (attachment_in e.watches.table r) out in
     fits_attachment e slots r t R w fits other
     (λ k. (c, live, (within, subst (λ x. FitsAttachment e c x) (sym here) tt)))
     (inl kept)
     (λ i q. elim (cases_eq q r) [
       | inl same ↦ fits.rows i q ∙ ap (λ x. watches_at (attachment_in e.watches.table x) i) same
-        ∙ ap (λ x. watches_at x i) was ∙ sym (ap (λ x. watches_at (attachment_in t x) i) same
+          ∙ ap (λ x. watches_at x i) was ∙ sym (ap (λ x. watches_at (attachment_in t x) i) same
           ∙ ap (λ x. watches_at x i) here)
       | inr ne ↦ fits.rows i q ∙ sym (ap (λ x. watches_at x i) (other q ne))
     ])
     (λ q h. elim (cases_eq q r) [
       | inl same ↦ subst (λ x. Contains w x) (sym same) (Contains-push e.watches.waiting r)
       | inr ne ↦ Contains-append_left e.watches.waiting (r ∷ []) q
-        (fits.waiting q (sym (other q ne) ∙ h))
+          (fits.waiting q (sym (other q ne) ∙ h))
     ])
     (λ i. blockers_kept e slots r t R w (row_at R i) other kept (fits.blockers i))
 
@@ -125,17 +128,26 @@ count_others : (r q : ℕ) (row : List Entry) → q ≢ r
 count_others r q [] h = refl
 count_others r q (x ∷ row) h = elim (cases_Bool (x.reference == r)) [
   | inl same ↦ rw same (count_others r q row h
-      ∙ omega (arith, count-cons q x row,
-        one-other x.reference q (λ e. h (sym e ∙ eqb-true x.reference r same))))
-  | inr ne ↦ rw ne (omega (arith, count-cons q x (without_clause r row), count-cons q x row,
-        count_others r q row h))
+      ∙ omega (
+        arith,
+        count-cons q x row,
+        one-other x.reference q (λ e. h (sym e ∙ eqb-true x.reference r same)),
+      ))
+  | inr ne ↦ rw ne (omega (
+    arith,
+    count-cons q x (without_clause r row),
+    count-cons q x row,
+    count_others r q row h,
+  ))
 ]
 
 all_filter : {X : Type 0} (P : X → Type 0) (p : X → Bool) (xs : List X) → AllByRecursion P xs
     → AllByRecursion P (filter p xs)
 all_filter P p [] h = tt
-all_filter P p (x ∷ xs) h = elim (cases_Bool (p x)) [ inl e ↦ rw e (h.0, all_filter P p xs h.1)
-      | inr e ↦ rw e (all_filter P p xs h.1) ]
+all_filter P p (x ∷ xs) h = elim (cases_Bool (p x)) [
+  | inl e ↦ rw e (h.0, all_filter P p xs h.1)
+  | inr e ↦ rw e (all_filter P p xs h.1)
+]
 
 abbrev pub cleared : List (List Entry) → ℕ → ℕ → List (List Entry)
 cleared R i r = with_row R i (without_clause r (row_at R i))
@@ -163,10 +175,10 @@ pub cleared_all : (P : Entry → Type 0) (R : List (List Entry)) (i r : ℕ) →
     → AllByRecursion P (row_at (cleared R i r) k)
 cleared_all P R i r lt h k = elim (cases_eq k i) [
   | inl same ↦ subst (λ x. AllByRecursion P (row_at (cleared R i r) x)) (sym same)
-    (subst (AllByRecursion P) (sym (get_or-set_same R i (without_clause r (row_at R i)) [] lt))
+      (subst (AllByRecursion P) (sym (get_or-set_same R i (without_clause r (row_at R i)) [] lt))
       (all_filter P (λ x. not (x.reference == r)) (row_at R i) (h i)))
   | inr ne ↦ subst (AllByRecursion P)
-    (sym (get_or-set_other R i k (without_clause r (row_at R i)) [] ne)) (h k)
+      (sym (get_or-set_other R i k (without_clause r (row_at R i)) [] ne)) (h k)
 ]
 
 pub fits_detach : (e : EngineState) (slots : Slots) (r : ℕ) (R : List (List Entry)) (w : List ℕ)
@@ -180,13 +192,13 @@ fits_detach e slots r R w lt none others gone blockers waiting fits =
     let t = set e.watches.table r Detached in
     let here : attachment_in t r ≡ Detached = attachment_set_same e.watches.table r Detached lt in
     let other : (q : ℕ) → q ≢ r → attachment_in t q ≡ attachment_in e.watches.table q =
-      λ q ne. attachment_set_other e.watches.table r q Detached ne in
+    λ q ne. attachment_set_other e.watches.table r q Detached ne in
     fits_attachment e slots r t R w fits other
     (λ k. absurd (false≢true (sym (ap is_kept here) ∙ k)))
     (inr none)
     (λ i q. elim (cases_eq q r) [
       | inl same ↦ ap (λ x. count_in x (row_at R i)) same ∙ gone i
-        ∙ sym (ap (λ x. watches_at (attachment_in t x) i) same ∙ ap (λ x. watches_at x i) here)
+          ∙ sym (ap (λ x. watches_at (attachment_in t x) i) same ∙ ap (λ x. watches_at x i) here)
       | inr ne ↦ others i q ne ∙ fits.rows i q ∙ sym (ap (λ x. watches_at x i) (other q ne))
     ])
     (λ q h. elim (cases_eq q r) [
@@ -202,8 +214,8 @@ pub fits_detach_watching : (e : EngineState) (slots : Slots) (r : ℕ) (one othe
     → IsWatching (attachment_in e.watches.table r) one other → index_of one < length e.watches.rows
     → index_of other < length e.watches.rows
     → Fits e slots → Fits (with_watches e (set e.watches.table r Detached)
-        (cleared (cleared e.watches.rows (index_of one) r) (index_of other) r) e.watches.waiting)
-      slots
+    (cleared (cleared e.watches.rows (index_of one) r) (index_of other) r) e.watches.waiting)
+    slots
 fits_detach_watching e slots r one other inv lt none at h g fits =
     let R = e.watches.rows in
     let i = index_of one in
@@ -221,7 +233,7 @@ fits_detach_watching e slots r one other inv lt none at h g fits =
       ]
     ])
     (cleared_all (HasBlocker e slots) Rj j r g1
-        (cleared_all (HasBlocker e slots) R i r h fits.blockers))
+    (cleared_all (HasBlocker e slots) R i r h fits.blockers))
     (λ q ne c. c) fits
 
 -- a clause without rows
@@ -232,7 +244,7 @@ pub fits_detach_other : (e : EngineState) (slots : Slots) (r : ℕ) (w : List �
     → Fits e slots → Fits (with_watches e (set e.watches.table r Detached) e.watches.rows w) slots
 fits_detach_other e slots r w lt none rows waiting fits =
     fits_detach e slots r e.watches.rows w lt none (λ i q ne. refl) (λ i. fits.rows i r
-        ∙ rows i) fits.blockers waiting fits
+    ∙ rows i) fits.blockers waiting fits
 
 pub without_kept : (r q : ℕ) (xs : List ℕ) → q ≢ r → Contains xs q → Contains (without r xs) q
 without_kept r q xs ne h =
@@ -246,24 +258,28 @@ watching_is p one other rest e = subst (λ x. IsWatching x one other) (sym e) re
 pub engine_change : (e : EngineState) (t : List Attachment) (R : List (List Entry)) (w : List ℕ)
     → IsEngine e → length R ≡ length e.watches.rows
     → ((r : ℕ) (one other : Literal) → IsWatching (attachment_in t r) one other
-        → IsVariable e.variables one × IsVariable e.variables other)
+    → IsVariable e.variables one × IsVariable e.variables other)
     → IsEngine (with_watches e t R w)
 engine_change e t R w inv long watching =
-    record { rows = long ∙ inv.rows; watching = watching; stable_qhead = inv.stable_qhead;
-      qhead = inv.qhead }
+    record {
+      rows = long ∙ inv.rows;
+      watching = watching;
+      stable_qhead = inv.stable_qhead;
+      qhead = inv.qhead;
+    }
 
 pub engine_set : (e : EngineState) (r : ℕ) (p : Attachment) (R : List (List Entry)) (w : List ℕ)
     → IsEngine e → length R ≡ length e.watches.rows → r < length e.watches.table
     → ((one other : Literal) → IsWatching p one other → IsVariable e.variables one
-        × IsVariable e.variables other)
+    × IsVariable e.variables other)
     → IsEngine (with_watches e (set e.watches.table r p) R w)
 engine_set e r p R w inv long lt h = engine_change e (set e.watches.table r p) R w inv long
     (λ q one other at. elim (cases_eq q r) [
       | inl same ↦ h one other
-        (subst (λ x. IsWatching x one other) (ap (attachment_in (set e.watches.table r p)) same
-            ∙ attachment_set_same e.watches.table r p lt) at)
+          (subst (λ x. IsWatching x one other) (ap (attachment_in (set e.watches.table r p)) same
+          ∙ attachment_set_same e.watches.table r p lt) at)
       | inr ne ↦ inv.watching q one other
-        (subst (λ x. IsWatching x one other) (attachment_set_other e.watches.table r q p ne) at)
+          (subst (λ x. IsWatching x one other) (attachment_set_other e.watches.table r q p ne) at)
     ])
 
 pub kept_within : (t : List Attachment) (r : ℕ) → is_kept (attachment_in t r) ≡ true → r < length t

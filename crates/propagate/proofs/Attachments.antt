@@ -56,7 +56,7 @@ pub fits_attachment : (e : EngineState) (slots : Slots) (r : ℕ) (t : List Atta
     (R : List (List Entry)) (w : List ℕ) → Fits e slots
     → ((q : ℕ) → q ≢ r → attachment_in t q ≡ attachment_in e.watches.table q)
     → (is_kept (attachment_in t r) ≡ true → (c : List Literal) × (clause_at slots r ≡ Some c)
-        × (IsWithin e.variables c × FitsAttachment e c (attachment_in t r)))
+    × (IsWithin e.variables c × FitsAttachment e c (attachment_in t r)))
     → (is_kept (attachment_in t r) ≡ true) ⊎ All (λ (a : Assigned). a.reason ≡ Some r → ⊥) e.trail
     → ((i q : ℕ) → count_in q (row_at R i) ≡ watches_at (attachment_in t q) i)
     → ((q : ℕ) → attachment_in t q ≡ Waiting → Contains w q)
@@ -65,24 +65,34 @@ pub fits_attachment : (e : EngineState) (slots : Slots) (r : ℕ) (t : List Atta
 fits_attachment e slots r t R w fits other here reason rows waiting blockers = record {
   attached = λ q h. elim (cases_eq q r) [
     | inl same ↦
-        let g = here (ap (λ x. is_kept (attachment_in t x)) (sym same) ∙ h) in
-        (g.0, ap (clause_at slots) same ∙ g.1,
-            (g.2.0, attachment_same e t R w g.0 (attachment_in t q)
-              (subst (λ x. FitsAttachment e g.0 (attachment_in t x)) (sym same) g.2.1)))
+        let g = here (ap (λ x. is_kept (attachment_in t x)) (sym same) ∙ h) in (
+          g.0,
+          ap (clause_at slots) same ∙ g.1,
+          (
+            g.2.0,
+            attachment_same e t R w g.0 (attachment_in t q)
+                (subst (λ x. FitsAttachment e g.0 (attachment_in t x)) (sym same) g.2.1),
+          ),
+        )
     | inr ne ↦
-        let g = fits.attached q (sym (ap is_kept (other q ne)) ∙ h) in
-        (g.0, g.1, (g.2.0,
-              attachment_same e t R w g.0 (attachment_in t q)
-              (subst (λ x. FitsAttachment e g.0 x) (sym (other q ne)) g.2.1)))
+        let g = fits.attached q (sym (ap is_kept (other q ne)) ∙ h) in (
+          g.0,
+          g.1,
+          (
+            g.2.0,
+            attachment_same e t R w g.0 (attachment_in t q)
+                (subst (λ x. FitsAttachment e g.0 x) (sym (other q ne)) g.2.1),
+          ),
+        )
   ];
   reasons = fits.reasons;
   reasons_attached = elim reason [
     | inl kept ↦ All-weaker (λ (a : Assigned). IfSome a.reason (λ q. is_attached e q ≡ true))
-      (λ (a : Assigned). IfSome a.reason (λ q. is_attached (with_watches e t R w) q ≡ true))
+        (λ (a : Assigned). IfSome a.reason (λ q. is_attached (with_watches e t R w) q ≡ true))
         (λ a h. some_weaker (λ q. is_attached e q ≡ true) (λ q. is_attached (with_watches e t R w) q
-              ≡ true) a.reason (kept_other e t R w r other kept) h) e.trail fits.reasons_attached
+        ≡ true) a.reason (kept_other e t R w r other kept) h) e.trail fits.reasons_attached
     | inr none ↦ λ k d lt. reason_kept e t R w r other (get_or e.trail k d).reason
-      (fits.reasons_attached k d lt) (none k d lt)
+        (fits.reasons_attached k d lt) (none k d lt)
   ];
   small = fits.small;
   rows = rows;
@@ -98,9 +108,10 @@ pub blockers_kept : (e : EngineState) (slots : Slots) (r : ℕ) (t : List Attach
     → AllByRecursion (HasBlocker e slots) row
     → AllByRecursion (HasBlocker (with_watches e t R w) slots) row
 blockers_kept e slots r t R w [] other kept h = tt
-blockers_kept e slots r t R w (x ∷ row) other kept h =
-    ((h.0.0, kept_other e t R w r other kept x.reference h.0.1, h.0.2, h.0.3),
-        blockers_kept e slots r t R w row other kept h.1)
+blockers_kept e slots r t R w (x ∷ row) other kept h = (
+  (h.0.0, kept_other e t R w r other kept x.reference h.0.1, h.0.2, h.0.3),
+  blockers_kept e slots r t R w row other kept h.1,
+)
 
 pub count-cons : (r : ℕ) (x : Entry) (row : List Entry)
     → count_in r (x ∷ row) ≡ one_at x.reference r + count_in r row
@@ -120,6 +131,7 @@ pub blockers_gone : (e : EngineState) (slots : Slots) (r : ℕ) (t : List Attach
 blockers_gone e slots r t R w [] other none h = tt
 blockers_gone e slots r t R w (x ∷ row) other none h =
     let n = count-cons r x row in
-    let ne : x.reference ≢ r = λ same. let o = one-same x.reference r same in omega arith in
-    ((h.0.0, ap is_kept (other x.reference ne) ∙ h.0.1, h.0.2, h.0.3),
-        blockers_gone e slots r t R w row other (omega arith) h.1)
+    let ne : x.reference ≢ r = λ same. let o = one-same x.reference r same in omega arith in (
+      (h.0.0, ap is_kept (other x.reference ne) ∙ h.0.1, h.0.2, h.0.3),
+      blockers_gone e slots r t R w row other (omega arith) h.1,
+    )

@@ -24,11 +24,14 @@ pushed_member : (l x : Literal) (c : List Literal) → contains_literal l (c ++ 
     → (contains_literal l c ≡ true) ⊎ (l ≡ x)
 pushed_member l x c e =
     elim (or_cases (contains_literal l c) (contains_literal l (x ∷ []))
-      (sym (contains-append l c (x ∷ [])) ∙ e)) [
-  | inl m ↦ inl m
-  | inr m ↦ elim (or_cases (literal_eq l x) false m) [ inl s ↦ inr (literal_eq-true l x s) | inr f ↦
-      absurd (false≢true f) ]
-]
+    (sym (contains-append l c (x ∷ [])) ∙ e)) [
+      | inl m ↦ inl m
+      | inr m ↦ elim (or_cases (literal_eq l x) false m) [
+        | inl s ↦ inr (literal_eq-true l x s)
+        | inr f ↦
+            absurd (false≢true f)
+      ]
+    ]
 
 member_pushed : (x : Literal) (c : List Literal) → contains_literal x (c ++ x ∷ []) ≡ true
 member_pushed x c = contains_back x c (x ∷ []) (or_left (literal_eq x x) false (literal_eq-self x))
@@ -67,9 +70,10 @@ rest_third c one other x a b h = (
 pub all_members : (P : Literal → Type 0) (c : List Literal)
     → ((l : Literal) → contains_literal l c ≡ true → P l) → AllByRecursion P c
 all_members P [] f = tt
-all_members P (x ∷ c) f =
-    (f x (or_left (literal_eq x x) (contains_literal x c) (literal_eq-self x)),
-      all_members P c (λ l m. f l (or_right (literal_eq l x) (contains_literal l c) m)))
+all_members P (x ∷ c) f = (
+  f x (or_left (literal_eq x x) (contains_literal x c) (literal_eq-self x)),
+  all_members P c (λ l m. f l (or_right (literal_eq l x) (contains_literal l c) m)),
+)
 
 abbrev IsLeft : List Literal → Literal → Literal → Type 0
 IsLeft A o l = (l ≡ o) ⊎ (contains_literal (negation l) A ≡ true)
@@ -83,8 +87,10 @@ pub nothing_left : (A c : List Literal) (w o : Literal) → IsRest c w o Nothing
     → contains_literal (negation w) A ≡ true
     → AllByRecursion (λ l. (l ≡ o) ⊎ (contains_literal (negation l) A ≡ true)) c
 nothing_left A c w o h f =
-    all_members (IsLeft A o) c (λ l m. elim (h l m) [ inl e ↦ inr (false_too A w l e f)
-        | inr e ↦ inl e ])
+    all_members (IsLeft A o) c (λ l m. elim (h l m) [
+      | inl e ↦ inr (false_too A w l e f)
+      | inr e ↦ inl e
+    ])
 
 pub one_false : (A c : List Literal) (w o t : Literal) → IsRest c w o (One t)
     → contains_literal (negation w) A ≡ true → contains_literal (negation t) A ≡ true
@@ -100,19 +106,24 @@ pub rest_known : (slots : Slots) (e : EngineState) (w o : Literal) (x : Entry) (
     → rest ≡ rest_in (attachment_in e.watches.table x.reference) → rest ≡ k → IsRest W.clause w o k
 rest_known slots e w o x rest k W by is same =
     let so : o ≡ W.other =
-      same_other (attachment_in e.watches.table x.reference) w W.other o W.apart W.attachment by in
+    same_other (attachment_in e.watches.table x.reference) w W.other o W.apart W.attachment by in
     subst (IsRest W.clause w o) (sym is ∙ same)
-      (subst (λ z. IsRest W.clause w z (rest_in (attachment_in e.watches.table x.reference)))
-        (sym so) W.rest)
+    (subst (λ z. IsRest W.clause w z (rest_in (attachment_in e.watches.table x.reference)))
+    (sym so) W.rest)
 
 -- what a search through the whole clause leaves
 pub search_left : (slots : Slots) (e : EngineState) (r : ℕ) (o : Literal) (c : List Literal)
     (found : Option Literal) → clause_at slots r ≡ Some c
     → MatchOption found (All (λ l. (l ≡ o) ⊎ (value_in e.trail l ≡ Some false)) c)
-      (λ l. (contains_literal l c ≡ true) × (l ≢ o) × (value_in e.trail l ≢ Some false))
+    (λ l. (contains_literal l c ≡ true) × (l ≢ o) × (value_in e.trail l ≢ Some false))
     → MatchOption found (LeavesOne slots e r o) (λ l. (l ≢ o) × MayBeWatched slots e r l)
 search_left slots e r o c None at h = λ d live. let same : c ≡ d = cc (at, live) in
     subst (AllByRecursion (IsLeft (literals_of e.trail) o)) same (one_left e.trail c o h)
-search_left slots e r o c (Some l) at h =
-    (h.1, (h.2, λ d live. let same : c ≡ d = cc (at, live) in
-        subst (λ x. contains_literal l x ≡ true) same h.0))
+search_left slots e r o c (Some l) at h = (
+  h.1,
+  (
+    h.2,
+    λ d live. let same : c ≡ d = cc (at, live) in
+        subst (λ x. contains_literal l x ≡ true) same h.0,
+  ),
+)

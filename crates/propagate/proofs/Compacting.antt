@@ -16,4 +16,4 @@ module _ (e : EngineState) (before after : Slots) (ms : Renaming) (fits : Fits e
 
   pub reasons_listed : All (λ a. IfSome a.reason (λ r. (q : ℕ) × (renamed ms r ≡ Some q))) e.trail
   reasons_listed =
-    All-weaker _ _ (λ a h. IfSome_then a.reason h attached_listed) e.trail fits.reasons_attached
+      All-weaker _ _ (λ a h. IfSome_then a.reason h attached_listed) e.trail fits.reasons_attached

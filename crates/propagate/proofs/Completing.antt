@@ -42,7 +42,7 @@ watch_advance : (e : EngineState) (slots : Slots) (w d : Literal) (r : ℕ) (c :
     → AllByRecursion (IsTrueEntry slots (literals_of e.trail)) (row_at e.watches.rows (index_of w))
     → clause_at slots r ≡ Some c → 0 < watches_at (attachment_in e.watches.table r) (index_of x)
     → IsWatch e c x → IsWatch (with_progress e e.trail e.watches.stable_qhead (e.watches.qhead + 1))
-      c x
+    c x
 watch_advance e slots w d r c x fits lt at row live n h =
     let A = literals_of e.trail in
     let p = e.watches.qhead in
@@ -53,18 +53,18 @@ watch_advance e slots w d r c x fits lt at row live n h =
       covered = λ m.
           let m' : (contains_literal (negation x) (take p A) || literal_eq (negation x) l) ≡ true =
           sym (contains-push (negation x) (take p A) l)
-            ∙ ap (contains_literal (negation x)) (sym (take_more A p d (omega arith))) ∙ m in
+          ∙ ap (contains_literal (negation x)) (sym (take_more A p d (omega arith))) ∙ m in
           elim (or_cases (contains_literal (negation x) (take p A)) (literal_eq (negation x) l) m')
-            as (λ _. HasTrue c A) [
+          as (λ _. HasTrue c A) [
             | inl before ↦ h.covered before
             | inr now ↦
                 let same : x ≡ w =
-                  sym (negation_twice x) ∙ ap negation (literal_eq-true (negation x) l now)
-                    ∙ sym at in
+                sym (negation_twice x) ∙ ap negation (literal_eq-true (negation x) l now)
+                ∙ sym at in
                 let n' : 0 < count_in r (row_at e.watches.rows (index_of w)) =
-                  subst (λ k. 0 < k) (sym (fits.rows (index_of w) r))
-                    (subst (λ z. 0 < watches_at (attachment_in e.watches.table r) (index_of z)) same
-                    n) in
+                subst (λ k. 0 < k) (sym (fits.rows (index_of w) r))
+                (subst (λ z. 0 < watches_at (attachment_in e.watches.table r) (index_of z)) same
+                n) in
                 true_from_row slots A (row_at e.watches.rows (index_of w)) r c n' row live
           ];
       stays = h.stays;
@@ -83,10 +83,10 @@ attachment_advance e slots w d r c Satisfied same fits lt at row live h = h
 attachment_advance e slots w d r c (Watching one other rest) same fits lt at row live h = (
   h.0,
   watch_advance e slots w d r c one fits lt at row live
-    (subst (λ z. 0 < watches_at z (index_of one)) same
+      (subst (λ z. 0 < watches_at z (index_of one)) same
       (let a = one-same (index_of one) (index_of one) refl in omega arith)) h.1,
   watch_advance e slots w d r c other fits lt at row live
-    (subst (λ z. 0 < watches_at z (index_of other)) same
+      (subst (λ z. 0 < watches_at z (index_of other)) same
       (let a = one-same (index_of other) (index_of other) refl in omega arith)) h.2,
   h.3,
 )
@@ -97,11 +97,17 @@ pub fits_advance : (e : EngineState) (slots : Slots) (w d : Literal)
     → w ≡ negation (get_or (literals_of e.trail) e.watches.qhead d)
     → AllByRecursion (IsTrueEntry slots (literals_of e.trail)) (row_at e.watches.rows (index_of w))
     → Fits e slots → Fits (with_progress e e.trail e.watches.stable_qhead (e.watches.qhead + 1))
-      slots
+    slots
 fits_advance e slots w d lt at row fits = record {
-  attached = λ r h. let f = fits.attached r h in
-    (f.0, f.1, (f.2.0, attachment_advance e slots w d r f.0 (attachment_in e.watches.table r) refl
-        fits lt at row f.1 f.2.1));
+  attached = λ r h. let f = fits.attached r h in (
+    f.0,
+    f.1,
+    (
+      f.2.0,
+      attachment_advance e slots w d r f.0 (attachment_in e.watches.table r) refl
+          fits lt at row f.1 f.2.1,
+    ),
+  );
   reasons = fits.reasons;
   reasons_attached = fits.reasons_attached;
   small = fits.small;
@@ -125,8 +131,7 @@ IsDone c A = (IsFalseUnder c A → ⊥) × ((l : Literal) → IsUnit c A l → �
 true_done : (c A : List Literal) → NoOpposites A → HasTrue c A → IsDone c A
 true_done c A apart h = (
   (λ f. apart h.0 h.2 (all_at (λ l. contains_literal (negation l) A ≡ true) c h.0 f h.1)),
-  (λ l u. elim (all_at (λ k. (k ≡ l) ⊎ (contains_literal (negation k) A ≡ true)) c h.0 u.others h.1)
-      [
+  (λ l u. elim (all_at (λ k. (k ≡ l) ⊎ (contains_literal (negation k) A ≡ true)) c h.0 u.others h.1) [
     | inl same ↦ both_ways _ u.not_true (subst (λ z. contains_literal z A ≡ true) same h.2)
     | inr contrary ↦ apart h.0 h.2 contrary
   ]),
@@ -144,9 +149,9 @@ two_done c A one other ne m n a b = (
         | inr contrary ↦ both_ways _ a contrary
         | inl first ↦ elim (all_at (λ k. (k ≡ l) ⊎ (contains_literal (negation k) A ≡ true)) c other
             u.others n) [
-          | inr contrary ↦ both_ways _ b contrary
-          | inl second ↦ ne (first ∙ sym second)
-        ]
+              | inr contrary ↦ both_ways _ b contrary
+              | inl second ↦ ne (first ∙ sym second)
+            ]
       ]),
 )
 
@@ -155,8 +160,8 @@ covered_now : (e : EngineState) (c : List Literal) (x : Literal) → e.watches.q
     → HasTrue c (literals_of e.trail)
 covered_now e c x all h m =
     h.covered (subst (λ X. contains_literal (negation x) X ≡ true)
-        (sym (take_all e.watches.qhead (literals_of e.trail)
-            (let long = length-map e.trail (λ (a : Assigned). a.literal) in omega arith))) m)
+    (sym (take_all e.watches.qhead (literals_of e.trail)
+    (let long = length-map e.trail (λ (a : Assigned). a.literal) in omega arith))) m)
 
 attachment_done : (e : EngineState) (slots : Slots) (r : ℕ) (c : List Literal) (p : Attachment)
     → p ≡ attachment_in e.watches.table r → NoOpposites (literals_of e.trail)
@@ -169,10 +174,10 @@ attachment_done e slots r c Waiting same apart all waiting live h =
 attachment_done e slots r c Satisfied same apart all waiting live h =
     let p = kept_prefix 0 e.trail in
     true_done c (literals_of e.trail) apart
-      (true_more c (literals_of (kept_to 0 e.trail)) (literals_of e.trail)
+    (true_more c (literals_of (kept_to 0 e.trail)) (literals_of e.trail)
     (λ l m. subst (λ X. contains_literal l X ≡ true)
-        (sym (ap literals_of p.1 ∙ literals-append (kept_to 0 e.trail) p.0))
-        (contains_front l (literals_of (kept_to 0 e.trail)) (literals_of p.0) m)) h)
+    (sym (ap literals_of p.1 ∙ literals-append (kept_to 0 e.trail) p.0))
+    (contains_front l (literals_of (kept_to 0 e.trail)) (literals_of p.0) m)) h)
 attachment_done e slots r c (Watching one other rest) same apart all waiting live h =
     let A = literals_of e.trail in
     elim (cases_Bool (contains_literal (negation one) A)) as (λ _. IsDone c A) [
@@ -190,13 +195,13 @@ complete e slots all waiting fits = λ r c attached live.
     let same : f.0 ≡ c = cc (f.1, live) in
     subst (λ x. IsDone x (literals_of e.trail)) same
     (attachment_done e slots r f.0 (attachment_in e.watches.table r) refl
-        (no_opposites (clause_at slots) e.trail fits.reasons) all waiting f.1 f.2.1)
+    (no_opposites (clause_at slots) e.trail fits.reasons) all waiting f.1 f.2.1)
 
 pub grown_at : (T U more : List Assigned) (p q : ℕ) (d w : Literal) → U ≡ T ++ more → q ≡ p
     → p < length T → w ≡ negation (get_or (literals_of T) p d)
     → w ≡ negation (get_or (literals_of U) q d)
 grown_at T U more p q d w e f lt at =
     at ∙ ap negation (sym (get_or_append_left (literals_of T) (literals_of more) d p
-          (let long = length-map T (λ (a : Assigned). a.literal) in omega arith))
+    (let long = length-map T (λ (a : Assigned). a.literal) in omega arith))
     ∙ ap (λ X. get_or X p d) (sym (literals-append T more))
     ∙ ap (λ X. get_or (literals_of X) p d) (sym e) ∙ ap (λ k. get_or (literals_of U) k d) (sym f))

@@ -77,12 +77,12 @@ continues_attachment e r p R was kept new =
       failed = refl;
       attached = λ q. elim (cases_eq q r) [
         | inl same ↦ ap (λ z. is_kept (attachment_in (set e.watches.table r p) z)) same
-          ∙ ap is_kept here ∙ kept ∙ sym (ap (is_attached e) same ∙ was)
+            ∙ ap is_kept here ∙ kept ∙ sym (ap (is_attached e) same ∙ was)
         | inr ne ↦ ap is_kept (attachment_set_other e.watches.table r q p ne)
       ];
       waiting = λ q h. elim (cases_eq q r) [
         | inl same ↦ absurd (new (sym (ap (attachment_in (set e.watches.table r p)) same ∙ here)
-              ∙ h))
+            ∙ h))
         | inr ne ↦ sym (attachment_set_other e.watches.table r q p ne) ∙ h
       ];
     }

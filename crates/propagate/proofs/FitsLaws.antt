@@ -21,20 +21,21 @@ pub reasons_at : (at at' : Clauses) (A : List Literal) (trail : List Assigned)
     → AllByRecursion (λ a. IfSome a.reason (λ r. at' r ≡ at r)) trail
     → HasReasons at A trail → HasReasons at' A trail
 reasons_at at at' A [] same h = h
-reasons_at at at' A (a ∷ trail) same h =
-    (justified_at at at' A a.literal a.reason same.0 h.0,
-        reasons_at at at' (a.literal ∷ A) trail same.1 h.1)
+reasons_at at at' A (a ∷ trail) same h = (
+  justified_at at at' A a.literal a.reason same.0 h.0,
+  reasons_at at at' (a.literal ∷ A) trail same.1 h.1,
+)
 
 pub fits_local : FitsIsLocal
 fits_local e old new fits same = record {
   attached = λ r h. let found = fits.attached r h in (found.0, same r h ∙ found.1, found.2);
   reasons = reasons_at (clause_at old) (clause_at new) [] e.trail
       (all_weaker (λ a. IfSome a.reason (λ r. is_attached e r ≡ true))
-          (λ a. IfSome a.reason (λ r. clause_at new r ≡ clause_at old r)) e.trail
+      (λ a. IfSome a.reason (λ r. clause_at new r ≡ clause_at old r)) e.trail
       (λ a h. some_weaker (λ r. is_attached e r ≡ true) (λ r. clause_at new r ≡ clause_at old r)
-          a.reason same h)
+      a.reason same h)
       (recursion_from_All (λ a. IfSome a.reason (λ r. is_attached e r ≡ true)) e.trail
-          fits.reasons_attached))
+      fits.reasons_attached))
       fits.reasons;
   reasons_attached = fits.reasons_attached;
   small = fits.small;

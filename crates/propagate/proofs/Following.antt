@@ -41,10 +41,11 @@ follow_on : (slots : Slots) (e : EngineState) (A B : List Literal) (more : List 
     → AllByRecursion (λ a. IfSome a.reason (λ r. is_attached e r ≡ true)) more
     → AllByRecursion (λ a. is_decision a ≡ false) more → FollowByUnits slots e A more
 follow_on slots e A B [] m h g n = tt
-follow_on slots e A B (a ∷ more) m h g n =
-    ((follow_one slots e A B a a.reason refl m h.0 g.0 n.0).0,
-        follow_on slots e (a.literal ∷ A) (a.literal ∷ B) more (more_same B A a.literal m)
-        h.1 g.1 n.1)
+follow_on slots e A B (a ∷ more) m h g n = (
+  (follow_one slots e A B a a.reason refl m h.0 g.0 n.0).0,
+  follow_on slots e (a.literal ∷ A) (a.literal ∷ B) more (more_same B A a.literal m)
+      h.1 g.1 n.1,
+)
 
 pub follows : (slots : Slots) (old new : EngineState) → Fits new slots → Continues old new
     → GrowsByUnits slots old new
@@ -52,14 +53,17 @@ follows slots old new fits g =
     let reasons = subst (HasReasons (clause_at slots) []) g.grown fits.reasons in
     let w = reasons_back (clause_at slots) [] old.trail g.more reasons in
     let attached =
-      recursion_from_All (λ (a : Assigned). IfSome a.reason (λ r. is_attached new r ≡ true))
-        new.trail fits.reasons_attached in
+    recursion_from_All (λ (a : Assigned). IfSome a.reason (λ r. is_attached new r ≡ true))
+    new.trail fits.reasons_attached in
     let attached' =
-      all_right (λ (a : Assigned). IfSome a.reason (λ r. is_attached new r ≡ true)) old.trail g.more
-        (subst (AllByRecursion (λ (a : Assigned). IfSome a.reason (λ r. is_attached new r ≡ true)))
-        g.grown attached) in
-    (g.more, g.grown, follow_on slots new (literals_of old.trail) w.0 g.more
-        (subst (HaveSame w.0) (append-nil (literals_of old.trail)) w.1) w.2 attached' g.forced)
+    all_right (λ (a : Assigned). IfSome a.reason (λ r. is_attached new r ≡ true)) old.trail g.more
+    (subst (AllByRecursion (λ (a : Assigned). IfSome a.reason (λ r. is_attached new r ≡ true)))
+    g.grown attached) in (
+      g.more,
+      g.grown,
+      follow_on slots new (literals_of old.trail) w.0 g.more
+          (subst (HaveSame w.0) (append-nil (literals_of old.trail)) w.1) w.2 attached' g.forced,
+    )
 
 -- an engine that failed
 failed_attachment : (e : EngineState) (c : List Literal) (p : Attachment) → FitsAttachment e c p
@@ -67,15 +71,18 @@ failed_attachment : (e : EngineState) (c : List Literal) (p : Attachment) → Fi
 failed_attachment e c Detached h = h
 failed_attachment e c Waiting h = h
 failed_attachment e c Satisfied h = h
-failed_attachment e c (Watching one other rest) h =
-    (h.0, record { member = h.1.member; covered = h.1.covered; stays = h.1.stays },
-        record { member = h.2.member; covered = h.2.covered; stays = h.2.stays }, h.3)
+failed_attachment e c (Watching one other rest) h = (
+  h.0,
+  record { member = h.1.member; covered = h.1.covered; stays = h.1.stays },
+  record { member = h.2.member; covered = h.2.covered; stays = h.2.stays },
+  h.3,
+)
 
 pub failed_fits : (e : EngineState) (slots : Slots) → Fits e slots
     → Fits (record e { failed = true }) slots
 failed_fits e slots fits = record {
   attached = λ r h. let f = fits.attached r h in
-    (f.0, f.1, (f.2.0, failed_attachment e f.0 (attachment_in e.watches.table r) f.2.1));
+      (f.0, f.1, (f.2.0, failed_attachment e f.0 (attachment_in e.watches.table r) f.2.1));
   reasons = fits.reasons;
   reasons_attached = fits.reasons_attached;
   small = fits.small;

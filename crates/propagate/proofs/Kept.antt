@@ -29,13 +29,13 @@ pub contains_take : (l : Literal) (m : ℕ) (A : List Literal) → contains_lite
     → contains_literal l A ≡ true
 contains_take l m A h =
     subst (λ X. contains_literal l X ≡ true) (take-append-drop m A)
-      (contains_front l (take m A) _ h)
+    (contains_front l (take m A) _ h)
 
 pub contains_take_more : (l : Literal) (m n : ℕ) (A : List Literal) → m ≤ n
     → contains_literal l (take m A) ≡ true → contains_literal l (take n A) ≡ true
 contains_take_more l m n A le h =
     contains_take l m (take n A)
-      (subst (λ X. contains_literal l X ≡ true) (sym (take-take m n A le)) h)
+    (subst (λ X. contains_literal l X ≡ true) (sym (take-take m n A le)) h)
 
 pub contains_at : (A : List Literal) (i : ℕ) (d : Literal) → i < length A
     → contains_literal (get_or A i d) A ≡ true
@@ -46,7 +46,7 @@ pub literals-append : (T U : List Assigned) → literals_of (T ++ U) ≡ literal
 literals-append T U = map-append (λ (a : Assigned). a.literal) T U
 
 pub kept_prefix_from : (n to : ℕ) (T : List Assigned) → (rest : List Assigned)
-      × (T ≡ kept_from n to T ++ rest)
+    × (T ≡ kept_from n to T ++ rest)
 kept_prefix_from n to [] = ([], refl)
 kept_prefix_from n to (a ∷ T) = elim (cases_Bool (leb (level_after n a) to)) [
   | inl e ↦ let w = kept_prefix_from (level_after n a) to T in (w.0, rw e (ap (λ x. a ∷ x) w.1))
@@ -59,8 +59,11 @@ kept_prefix to T = kept_prefix_from 0 to T
 kept_low_from : (n to : ℕ) (T : List Assigned) → n ≤ to → n + depth_of (kept_from n to T) ≤ to
 kept_low_from n to [] h = omega arith
 kept_low_from n to (a ∷ T) h = elim (cases_Bool (leb (level_after n a) to)) [
-  | inl e ↦ rw e (omega (arith, depth_step n a (kept_from (level_after n a) to T),
-        kept_low_from (level_after n a) to T (leb-true (level_after n a) to e)))
+  | inl e ↦ rw e (omega (
+    arith,
+    depth_step n a (kept_from (level_after n a) to T),
+    kept_low_from (level_after n a) to T (leb-true (level_after n a) to e),
+  ))
   | inr e ↦ rw e (omega arith)
 ]
 
@@ -75,8 +78,11 @@ kept_kept_from k m n (a ∷ T) h = elim (cases_Bool (leb (level_after k a) n)) [
     | inl f ↦ rw f (ap (λ x. a ∷ x) (kept_kept_from (level_after k a) m n T h))
     | inr f ↦ rw f refl
   ])
-  | inr e ↦ rw (e, lt-leb (level_after k a) m (let g = leb-false (level_after k a) n e in
-        omega arith)) refl
+  | inr e ↦ rw (
+    e,
+    lt-leb (level_after k a) m (let g = leb-false (level_after k a) n e in
+        omega arith),
+  ) refl
 ]
 
 pub kept_kept : (m n : ℕ) (T : List Assigned) → m ≤ n → kept_to m (kept_to n T) ≡ kept_to m T
@@ -94,12 +100,12 @@ in_kept_from n to (a ∷ T) k h = elim (cases_Bool (leb (level_after n a) to)) [
   | inr e ↦ absurd (false≢true (rw e at h))
   | inl e ↦
       let h' : (literal_eq k a.literal || contains_literal k
-          (literals_of (kept_from (level_after n a) to T))) ≡ true = rw e at h in
+      (literals_of (kept_from (level_after n a) to T))) ≡ true = rw e at h in
       elim (cases_Bool (a.literal.variable == k.variable)) [
         | inl same ↦ (level_after n a, rw same refl, leb-true (level_after n a) to e)
         | inr other ↦
             elim (or_cases (literal_eq k a.literal)
-                (contains_literal k (literals_of (kept_from (level_after n a) to T))) h') [
+            (contains_literal k (literals_of (kept_from (level_after n a) to T))) h') [
               | inl g ↦ absurd (eqb-false a.literal.variable k.variable other
                   (sym (ap (λ (x : Literal). x.variable) (literal_eq-true k a.literal g))))
               | inr g ↦ let w = in_kept_from (level_after n a) to T k g in (w.0, rw other w.1, w.2)
@@ -124,11 +130,11 @@ past_kept to T s d lt e below = elim (cases_lt s (length (kept_to to T))) [
       let K = literals_of (kept_to to T) in
       let l = get_or (literals_of T) s d in
       let lk : s < length K =
-        omega (arith, length-map (kept_to to T) (λ (a : Assigned). a.literal)) in
+      omega (arith, length-map (kept_to to T) (λ (a : Assigned). a.literal)) in
       let same : l ≡ get_or K s d = ap (λ X. get_or (literals_of X) s d) w.1
-        ∙ ap (λ X. get_or X s d) (literals-append (kept_to to T) w.0)
-        ∙ get_or_append_left K (literals_of w.0) d s lk in
+      ∙ ap (λ X. get_or X s d) (literals-append (kept_to to T) w.0)
+      ∙ get_or_append_left K (literals_of w.0) d s lk in
       let member : contains_literal l K ≡ true = ap (λ x. contains_literal x K) same
-        ∙ contains_at K s d lk in
+      ∙ contains_at K s d lk in
       absurd (omega (arith, in_kept to T l (depth_of T) member e))
 ]

@@ -10,26 +10,29 @@ use Rattle.propagate.proofs.Trails.{depth-cons, depth_push}
 pub depth_step : (n : ℕ) (a : Assigned) (T : List Assigned)
     → level_after n a + depth_of T ≡ n + depth_of (a ∷ T)
 depth_step n a T =
-    rw (depth-cons a T) (elim (cases_Bool (is_decision a)) [ inl h ↦ rw h (omega arith) | inr h ↦
-        rw h (omega arith) ])
+    rw (depth-cons a T) (elim (cases_Bool (is_decision a)) [
+      | inl h ↦ rw h (omega arith)
+      | inr h ↦
+          rw h (omega arith)
+    ])
 
 pub kept_all_from : (n to : ℕ) (T : List Assigned) → n + depth_of T ≤ to → kept_from n to T ≡ T
 kept_all_from n to [] h = refl
 kept_all_from n to (a ∷ T) h =
     let e = depth_step n a T in
     cond-true (leb (level_after n a) to) (a ∷ kept_from (level_after n a) to T) []
-      (le-leb (level_after n a) to (omega arith))
+    (le-leb (level_after n a) to (omega arith))
     ∙ ap (λ x. a ∷ x) (kept_all_from (level_after n a) to T (omega arith))
 
 pub kept_push_from : (n to : ℕ) (T : List Assigned) (a : Assigned)
     → to < level_after (n + depth_of T) a → kept_from n to (T ++ a ∷ []) ≡ kept_from n to T
 kept_push_from n to [] a h =
     cond-false (leb (level_after n a) to) (a ∷ []) []
-      (lt-leb (level_after n a) to (subst (λ k. to < level_after k a) (omega arith) h))
+    (lt-leb (level_after n a) to (subst (λ k. to < level_after k a) (omega arith) h))
 kept_push_from n to (b ∷ T) a h = elim (cases_Bool (leb (level_after n b) to)) [
   | inl e ↦ rw e (ap (λ x. b ∷ x)
       (kept_push_from (level_after n b) to T a
-        (subst (λ k. to < level_after k a) (sym (depth_step n b T)) h)))
+      (subst (λ k. to < level_after k a) (sym (depth_step n b T)) h)))
   | inr e ↦ rw e refl
 ]
 
@@ -40,7 +43,7 @@ pub kept_push : (to : ℕ) (T : List Assigned) (a : Assigned) → to < depth_of 
     → kept_to to (T ++ a ∷ []) ≡ kept_to to T
 kept_push to T a h =
     kept_push_from 0 to T a (subst (λ k. to < level_after k a) (omega arith)
-      (subst (λ k. to < k) (depth_push T a) h))
+    (subst (λ k. to < k) (depth_push T a) h))
 
 pub depth-le-length : (T : List Assigned) → depth_of T ≤ length T
 depth-le-length T = count_by-le-length is_decision T
@@ -49,18 +52,23 @@ last_apart : (T : List Assigned) → 0 < length T
     → (a : Assigned) × (T ≡ take (length T - 1) T ++ a ∷ [])
 last_apart [] h = absurd (omega arith)
 last_apart (b ∷ T) h =
-    let xs = b ∷ T in
-    (get_or xs (length xs - 1) b, sym (sym (take_more xs (length xs - 1) b (omega arith))
-          ∙ take_all (length xs - 1 + 1) xs (omega arith)))
+    let xs = b ∷ T in (
+      get_or xs (length xs - 1) b,
+      sym (sym (take_more xs (length xs - 1) b (omega arith))
+          ∙ take_all (length xs - 1 + 1) xs (omega arith)),
+    )
 
 pub kept_pop : (to : ℕ) (T : List Assigned) → to < depth_of T
     → kept_to to (take (length T - 1) T) ≡ kept_to to T
 kept_pop to T h =
     let w = last_apart T (omega (arith, depth-le-length T)) in
     sym (ap (kept_to to) w.1
-        ∙ kept_push to (take (length T - 1) T) w.0 (subst (λ X. to < depth_of X) w.1 h))
+    ∙ kept_push to (take (length T - 1) T) w.0 (subst (λ X. to < depth_of X) w.1 h))
 
 pub depth_grows : (T : List Assigned) (a : Assigned) → depth_of T ≤ depth_of (T ++ a ∷ [])
 depth_grows T a =
-    rw (depth_push T a) (elim (cases_Bool (is_decision a)) [ inl h ↦ rw h (omega arith) | inr h ↦
-        rw h (omega arith) ])
+    rw (depth_push T a) (elim (cases_Bool (is_decision a)) [
+      | inl h ↦ rw h (omega arith)
+      | inr h ↦
+          rw h (omega arith)
+    ])

@@ -23,7 +23,7 @@ literal_eq-negation l =
 pub literal_eq-other : (k l : Literal) → k.variable ≢ l.variable → literal_eq k l ≡ false
 literal_eq-other k l h =
     and_left (k.variable == l.variable) (same_bool k.negated l.negated)
-      (ne_eqb k.variable l.variable h)
+    (ne_eqb k.variable l.variable h)
 
 pub contains-append : (l : Literal) (A B : List Literal)
     → contains_literal l (A ++ B) ≡ (contains_literal l A || contains_literal l B)
@@ -49,7 +49,7 @@ mentions-none l (k ∷ A) e f =
     let f' = or_parts (literal_eq (negation l) k) (contains_literal (negation l) A) f in
     or_from (k.variable == l.variable) (mentions l.variable A)
     (eqb-sym l.variable k.variable
-        (same_sign (l.variable == k.variable) l.negated k.negated e'.0 f'.0))
+    (same_sign (l.variable == k.variable) l.negated k.negated e'.0 f'.0))
     (mentions-none l A e'.1 f'.1)
 
 pub contains-none : (l : Literal) (A : List Literal) → mentions l.variable A ≡ false
@@ -67,8 +67,11 @@ index-other variables k l h g ne e =
     ne (ap (λ (x : Literal). x.variable) (index_same k l h.0 g.0 e))
 
 pub index-negation : (l : Literal) → index_of l ≢ index_of (negation l)
-index-negation l = elim (cases_Bool l.negated) [ inl a ↦ rw a (λ e. omega arith) | inr a ↦
-      rw a (λ e. omega arith) ]
+index-negation l = elim (cases_Bool l.negated) [
+  | inl a ↦ rw a (λ e. omega arith)
+  | inr a ↦
+      rw a (λ e. omega arith)
+]
 
 pub index-within : (variables : ℕ) (l : Literal) → IsVariable variables l
     → index_of l < 2 * variables

@@ -30,8 +30,10 @@ within_variable v (k ∷ c) l h e = elim (or_cases (literal_eq l k) (contains_li
       let p : 0 < k.variable = All-head (λ (x : Literal). 0 < x.variable) k c h.0 in
       let b : k.variable ≤ v = omega (arith, h.1) in
       subst (IsVariable v) (sym s) (p, b)
-  | inr later ↦ within_variable v c l (All-tail (λ (x : Literal). 0 < x.variable) k c h.0,
-      omega (arith, h.1)) later
+  | inr later ↦ within_variable v c l (
+    All-tail (λ (x : Literal). 0 < x.variable) k c h.0,
+    omega (arith, h.1),
+  ) later
 ]
 
 pub within_all : (v : ℕ) (c : List Literal) → greatest_variable c ≤ v
@@ -41,13 +43,13 @@ within_all v (k ∷ c) h =
     All-cons (λ (l : Literal). l.variable ≤ v) k c (omega arith) (within_all v c (omega arith))
 
 false_at : (a b : Bool) → ◌≡◌ {A = Option Bool} (if a then Some true else if b then Some false
-      else None) (Some false) → b ≡ true
+    else None) (Some false) → b ≡ true
 false_at true b e = absurd (cc)
 false_at false true e = refl
 false_at false false e = absurd (cc)
 
 true_at : (a b : Bool) → ◌≡◌ {A = Option Bool} (if a then Some true else if b then Some false
-      else None) (Some true) → a ≡ true
+    else None) (Some true) → a ≡ true
 true_at true b e = refl
 true_at false true e = absurd (cc)
 true_at false false e = absurd (cc)
@@ -73,11 +75,11 @@ pub not_false_value : (at : Clauses) (T : List Assigned) (l : Literal) → HasRe
     → value_in T l ≢ Some false → contains_literal (negation l) (literals_of T) ≡ false
 not_false_value at T l h ne =
     false_from_ne_true (contains_literal (negation l) (literals_of T))
-      (λ e. elim (cases_Bool (contains_literal l (literals_of T))) [
-  | inl is ↦ no_opposites at T h l is e
-  | inr is ↦ ne (value_false (contains_literal l (literals_of T))
-      (contains_literal (negation l) (literals_of T)) is e)
-])
+    (λ e. elim (cases_Bool (contains_literal l (literals_of T))) [
+      | inl is ↦ no_opposites at T h l is e
+      | inr is ↦ ne (value_false (contains_literal l (literals_of T))
+          (contains_literal (negation l) (literals_of T)) is e)
+    ])
 
 -- all but one are false
 pub unit_left : (T : List Assigned) (c : List Literal) (o : Literal) → contains_literal o c ≡ true
@@ -86,8 +88,8 @@ pub unit_left : (T : List Assigned) (c : List Literal) (o : Literal) → contain
     → IsUnit c (literals_of T) o
 unit_left T c o member e all =
     let n =
-      open_at (contains_literal o (literals_of T)) (contains_literal (negation o) (literals_of T)) e
-        in
+    open_at (contains_literal o (literals_of T)) (contains_literal (negation o) (literals_of T)) e
+    in
     record { member = member; not_true = n.0; not_false = n.1; others = all }
 
 pub false_left : (T : List Assigned) (c : List Literal) (o : Literal) → value_in T o ≡ Some false
@@ -95,16 +97,19 @@ pub false_left : (T : List Assigned) (c : List Literal) (o : Literal) → value_
     → IsFalseUnder c (literals_of T)
 false_left T c o e all =
     all_weaker (λ l. (l ≡ o) ⊎ (contains_literal (negation l) (literals_of T) ≡ true))
-      (λ l. contains_literal (negation l) (literals_of T) ≡ true) c
-    (λ l h. elim h [ inl s ↦ subst (λ x. contains_literal (negation x) (literals_of T) ≡ true)
-          (sym s) (false_value T o e) | inr f ↦ f ]) all
+    (λ l. contains_literal (negation l) (literals_of T) ≡ true) c
+    (λ l h. elim h [
+      | inl s ↦ subst (λ x. contains_literal (negation x) (literals_of T) ≡ true)
+          (sym s) (false_value T o e)
+      | inr f ↦ f
+    ]) all
 
 pub one_left : (T : List Assigned) (c : List Literal) (o : Literal)
     → All (λ l. (l ≡ o) ⊎ (value_in T l ≡ Some false)) c
     → AllByRecursion (λ l. (l ≡ o) ⊎ (contains_literal (negation l) (literals_of T) ≡ true)) c
 one_left T c o all =
     all_weaker (λ l. (l ≡ o) ⊎ (value_in T l ≡ Some false))
-      (λ l. (l ≡ o) ⊎ (contains_literal (negation l) (literals_of T) ≡ true)) c
+    (λ l. (l ≡ o) ⊎ (contains_literal (negation l) (literals_of T) ≡ true)) c
     (λ l h. elim h [ inl s ↦ inl s | inr f ↦ inr (false_value T l f) ])
     (recursion_from_All (λ l. (l ≡ o) ⊎ (value_in T l ≡ Some false)) c all)
 
@@ -112,7 +117,7 @@ pub all_false_from : (T : List Assigned) (c : List Literal) → All (λ l. value
     → IsFalseUnder c (literals_of T)
 all_false_from T c all =
     all_weaker (λ l. value_in T l ≡ Some false) (λ l. contains_literal (negation l) (literals_of T)
-        ≡ true) c (λ l f. false_value T l f)
+    ≡ true) c (λ l f. false_value T l f)
     (recursion_from_All (λ l. value_in T l ≡ Some false) c all)
 
 -- the other watch is one
@@ -156,4 +161,4 @@ pub waiting_all : (v : ℕ) (e : EngineState) (slots : Slots) (r : ℕ) (c : Lis
     → All (λ (l : Literal). l.variable ≤ v) c
 waiting_all v e slots r c same fits waits live =
     within_all v c (subst (λ n. greatest_variable c ≤ n) (sym same)
-        (waiting_within e slots r c fits waits live).1)
+    (waiting_within e slots r c fits waits live).1)

@@ -28,7 +28,7 @@ none_named ms None = refl
 none_named ms (Some r) = refl
 
 after_named : (ms : Renaming) (level : ℕ) (a : Assigned) → level_after level (named_assigned ms a)
-      ≡ level_after level a
+    ≡ level_after level a
 after_named ms level a = ap (λ b. if b then level + 1 else level) (none_named ms a.reason)
 
 kept_from_named : (ms : Renaming) (level to : ℕ) (T : List Assigned)
@@ -36,13 +36,13 @@ kept_from_named : (ms : Renaming) (level to : ℕ) (T : List Assigned)
 kept_from_named ms level to [] = refl
 kept_from_named ms level to (a ∷ T) =
     ap (λ k. if nat_le k to then named_assigned ms a ∷ kept_from k to (named_trail ms T) else [])
-      (after_named ms level a)
+    (after_named ms level a)
     ∙ ap (λ X. if nat_le (level_after level a) to then named_assigned ms a ∷ X else [])
-      (kept_from_named ms (level_after level a) to T)
+    (kept_from_named ms (level_after level a) to T)
     ∙ kept_if (nat_le (level_after level a) to)
   where
     kept_if : (b : Bool)
-      → (if b then named_assigned ms a ∷ named_trail ms (kept_from (level_after level a) to T)
+        → (if b then named_assigned ms a ∷ named_trail ms (kept_from (level_after level a) to T)
         else []) ≡ named_trail ms (if b then a ∷ kept_from (level_after level a) to T else [])
     kept_if true = refl
     kept_if false = refl
@@ -60,9 +60,9 @@ level_from_named : (ms : Renaming) (level : ℕ) (T : List Assigned) (v : ℕ)
 level_from_named ms level [] v = refl
 level_from_named ms level (a ∷ T) v =
     ap (λ k. if a.literal.variable == v then Some k else level_from k (named_trail ms T) v)
-      (after_named ms level a)
+    (after_named ms level a)
     ∙ ap (λ X. if a.literal.variable == v then Some (level_after level a) else X)
-      (level_from_named ms (level_after level a) T v)
+    (level_from_named ms (level_after level a) T v)
 
 depth_named : (ms : Renaming) (T : List Assigned) → depth_of (named_trail ms T) ≡ depth_of T
 depth_named ms [] = refl
@@ -77,9 +77,9 @@ pub assigned_named : (ms : Renaming) (R : List (Option ℕ)) (A : List Literal)
 assigned_named ms R [] = refl
 assigned_named ms R (l ∷ A) =
     ap (λ (r : Option ℕ). record { literal = l; reason = r } ∷ assigned_by (map (named_reason ms) R)
-        A) (get_or-map (named_reason ms) R l.variable None)
+    A) (get_or-map (named_reason ms) R l.variable None)
     ∙ ap (λ T. record { literal = l; reason = named_reason ms (reason_at R l.variable) } ∷ T)
-      (assigned_named ms R A)
+    (assigned_named ms R A)
 
 pub trail_named : (ms : Renaming) (n : ℕ) (A : List Literal) (vs : List (Option Bool))
     (ls : List (Option ℕ)) (ps : List ℕ) (R : List (Option ℕ)) (d room room' : ℕ) → n ≤ room'
@@ -95,9 +95,9 @@ trail_named ms n A vs ls ps R d room room' wide t =
       positions_length = t.positions_length;
       reasons_length = length-map R (named_reason ms) ∙ t.reasons_length;
       value_of = λ l h. t.value_of l h ∙ sym (value_named ms (assigned_by R A) l)
-        ∙ sym (ap (λ T. value_in T l) shape);
+          ∙ sym (ap (λ T. value_in T l) shape);
       level_of = λ v. t.level_of v ∙ sym (level_from_named ms 0 (assigned_by R A) v)
-        ∙ sym (ap (λ T. level_in T v) shape);
+          ∙ sym (ap (λ T. level_in T v) shape);
       position_of = t.position_of;
       depth_is = t.depth_is ∙ sym (depth_named ms (assigned_by R A)) ∙ sym (ap depth_of shape);
       has_room = wide;
@@ -117,6 +117,6 @@ pub trail_listed : (ms : Renaming) (T : List Assigned)
 trail_listed ms [] h = refl
 trail_listed ms (a ∷ T) h =
     ap (λ (r : Option ℕ). record { literal = a.literal; reason = r } ∷ named_trail ms T)
-      (reason_listed ms a.reason h.0)
+    (reason_listed ms a.reason h.0)
     ∙ ap (λ X. record { literal = a.literal; reason = renamed_reason ms a.reason } ∷ X)
-      (trail_listed ms T h.1)
+    (trail_listed ms T h.1)

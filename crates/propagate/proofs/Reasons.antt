@@ -37,16 +37,18 @@ reasons_push_on : (at : Clauses) (A : List Literal) (T : List Assigned) (a : Ass
     → HasReasons at A T → IsJustified at (literals_of T ++ A) a.literal a.reason
     → HasReasons at A (T ++ a ∷ [])
 reasons_push_on at A [] a h j = (j, tt)
-reasons_push_on at A (b ∷ T) a h j =
-    (h.0, reasons_push_on at (b.literal ∷ A) T a h.1
+reasons_push_on at A (b ∷ T) a h j = (
+  h.0,
+  reasons_push_on at (b.literal ∷ A) T a h.1
       (justified_same at (b.literal ∷ (literals_of T ++ A)) (literals_of T ++ (b.literal ∷ A))
-        a.literal a.reason (same_swap A (literals_of T) b.literal) j))
+      a.literal a.reason (same_swap A (literals_of T) b.literal) j),
+)
 
 pub reasons_push : (at : Clauses) (T : List Assigned) (a : Assigned) → HasReasons at [] T
     → IsJustified at (literals_of T) a.literal a.reason → HasReasons at [] (T ++ a ∷ [])
 reasons_push at T a h j =
     reasons_push_on at [] T a h (subst (λ A. IsJustified at A a.literal a.reason)
-      (sym (append-nil (literals_of T))) j)
+    (sym (append-nil (literals_of T))) j)
 
 -- no literal with its negation
 abbrev pub NoOpposites : List Literal → Type 0
@@ -55,7 +57,7 @@ NoOpposites A = (l : Literal) → contains_literal l A ≡ true → contains_lit
 
 pub open_literal : (at : Clauses) (A : List Literal) (l : Literal) (r : Option ℕ)
     → IsJustified at A l r → (contains_literal l A ≡ false)
-      × (contains_literal (negation l) A ≡ false)
+    × (contains_literal (negation l) A ≡ false)
 open_literal at A l None h = h
 open_literal at A l (Some r) h = (h.2.not_true, h.2.not_false)
 
@@ -73,7 +75,7 @@ no_opposites_cons A k new h l e f = elim (or_cases (literal_eq l k) (contains_li
     | inr g ↦ h l member g
     | inl g ↦
         let s : negation k ≡ l = ap negation (sym (literal_eq-true (negation l) k g))
-          ∙ negation_twice l in
+        ∙ negation_twice l in
         both_ways _ (subst (λ x. contains_literal x A ≡ false) s new) member
   ]
 ]
@@ -91,4 +93,4 @@ pub no_opposites : (at : Clauses) (T : List Assigned) → HasReasons at [] T
     → NoOpposites (literals_of T)
 no_opposites at T h =
     subst NoOpposites (append-nil (literals_of T))
-      (no_opposites_on at [] T h (λ l e f. false≢true e))
+    (no_opposites_on at [] T h (λ l e f. false≢true e))

@@ -36,9 +36,13 @@ engine_named e ms table = record {
   trail = named_trail ms e.trail;
   failed = e.failed;
   watches =
-    record { table = table; rows = named_rows ms e.watches.rows;
-      waiting = map (named ms) e.watches.waiting; stable_qhead = e.watches.stable_qhead;
-      qhead = e.watches.qhead };
+      record {
+        table = table;
+        rows = named_rows ms e.watches.rows;
+        waiting = map (named ms) e.watches.waiting;
+        stable_qhead = e.watches.stable_qhead;
+        qhead = e.watches.qhead;
+      };
 }
 
 watching_kept : (p : Attachment) (one other : Literal) → IsWatching p one other → is_kept p ≡ true
@@ -60,9 +64,10 @@ reasons_named : (before after : Clauses) (ms : Renaming) (A : List Literal) (T :
     → AllByRecursion (λ a. IfSome a.reason (λ r. after (named ms r) ≡ before r)) T
     → HasReasons before A T → HasReasons after A (named_trail ms T)
 reasons_named before after ms A [] same h = h
-reasons_named before after ms A (a ∷ T) same h =
-    (justified_named before after ms A a.literal a.reason same.0 h.0,
-        reasons_named before after ms (a.literal ∷ A) T same.1 h.1)
+reasons_named before after ms A (a ∷ T) same h = (
+  justified_named before after ms A a.literal a.reason same.0 h.0,
+  reasons_named before after ms (a.literal ∷ A) T same.1 h.1,
+)
 
 some_named : (P Q : ℕ → Type 0) (ms : Renaming) (o : Option ℕ) → ((r : ℕ) → P r → Q (named ms r))
     → IfSome o P → IfSome (named_reason ms o) Q
@@ -71,20 +76,23 @@ some_named P Q ms (Some r) f h = f r h
 
 contains_named : (ms : Renaming) (rs : List ℕ) (r : ℕ) → Contains rs r
     → Contains (map (named ms) rs) (named ms r)
-contains_named ms rs r h =
-    (h.0, omega (arith, length-map rs (named ms), h.1), get_or-map (named ms) rs h.0 r
-      ∙ ap (named ms) h.2)
+contains_named ms rs r h = (
+  h.0,
+  omega (arith, length-map rs (named ms), h.1),
+  get_or-map (named ms) rs h.0 r
+      ∙ ap (named ms) h.2,
+)
 
 module _ (e : EngineState) (ms : Renaming) (table : List Attachment)
     (old_rise : IsStrictlyIncreasing (map (λ m. m.0) ms))
-      (new_rise : IsStrictlyIncreasing (map (λ m. m.1) ms))
+    (new_rise : IsStrictlyIncreasing (map (λ m. m.1) ms))
     (moved : IsMoved e.watches.table table ms)
     (listed : (r : ℕ) → is_attached e r ≡ true → (q : ℕ) × (renamed ms r ≡ Some q)) where
   new_reference : (r : ℕ) → is_attached e r ≡ true → renamed ms r ≡ Some (named ms r)
   new_reference r h = let z = listed r h in z.1 ∙ ap Some (sym (named_listed ms r z.0 z.1))
 
   new_attachment : (r : ℕ) → is_attached e r ≡ true
-    → attachment_in table (named ms r) ≡ attachment_in e.watches.table r
+      → attachment_in table (named ms r) ≡ attachment_in e.watches.table r
   new_attachment r h = moved_to e.watches.table table ms r (named ms r) moved (new_reference r h)
 
   pub attached_named : MovesAttached e (engine_named e ms table) ms
@@ -105,13 +113,13 @@ module _ (e : EngineState) (ms : Renaming) (table : List Attachment)
   engine_kept h = record {
     rows = length-map e.watches.rows (map (named_entry ms)) ∙ h.rows;
     watching = λ q one other at. let z = origin q (ap is_kept at) in
-      h.watching z.0 one other (subst (λ x. IsWatching x one other) z.2 at);
+        h.watching z.0 one other (subst (λ x. IsWatching x one other) z.2 at);
     stable_qhead = h.stable_qhead;
     qhead = omega (arith, h.qhead, length-map e.trail (named_assigned ms));
   }
 
   watch_named : (c : List Literal) (w : Literal) → IsWatch e c w
-    → IsWatch (engine_named e ms table) c w
+      → IsWatch (engine_named e ms table) c w
   watch_named c w h = record {
     member = h.member;
     covered = rw literals_named h.covered;
@@ -119,16 +127,16 @@ module _ (e : EngineState) (ms : Renaming) (table : List Attachment)
   }
 
   attachment_named : (c : List Literal) (p : Attachment) → FitsAttachment e c p
-    → FitsAttachment (engine_named e ms table) c p
+      → FitsAttachment (engine_named e ms table) c p
   attachment_named c Detached h = h
   attachment_named c Waiting h = h
   attachment_named c Satisfied h = rw kept_named h
   attachment_named c (Watching one other rest) h =
-    (h.0, watch_named c one h.1, watch_named c other h.2, h.3)
+      (h.0, watch_named c one h.1, watch_named c other h.2, h.3)
 
   count_kept : (slots : Slots) (r q : ℕ) (row : List Entry) → renamed ms r ≡ Some q
-    → AllByRecursion (HasBlocker e slots) row
-    → count_in q (map (named_entry ms) row) ≡ count_in r row
+      → AllByRecursion (HasBlocker e slots) row
+      → count_in q (map (named_entry ms) row) ≡ count_in r row
   count_kept slots r q [] n h = refl
   count_kept slots r q (w ∷ row) n h =
       let rest = count_kept slots r q row n h.1 in
@@ -136,39 +144,43 @@ module _ (e : EngineState) (ms : Renaming) (table : List Attachment)
       count-cons q (named_entry ms w) (map (named_entry ms) row)
       ∙ ap (λ k. one_at (named ms w.reference) q + k) rest
       ∙ ap (λ k. k + count_in r row)
-        (elim (cases_eq w.reference r) as (λ _. one_at (named ms w.reference) q
-            ≡ one_at w.reference r) [
+      (elim (cases_eq w.reference r) as (λ _. one_at (named ms w.reference) q
+      ≡ one_at w.reference r) [
         | inl same ↦ one-same (named ms w.reference) q (ap (named ms) same ∙ named_listed ms r q n)
-          ∙ sym (one-same w.reference r same)
+            ∙ sym (one-same w.reference r same)
         | inr ne ↦ one-other (named ms w.reference) q
-          (λ x. ne (same_origin ms w.reference r q new_rise (a ∙ ap Some x) n))
-          ∙ sym (one-other w.reference r ne)
+            (λ x. ne (same_origin ms w.reference r q new_rise (a ∙ ap Some x) n))
+            ∙ sym (one-other w.reference r ne)
       ])
       ∙ sym (count-cons r w row)
 
   count_gone : (slots : Slots) (q : ℕ) (row : List Entry) → is_kept (attachment_in table q) ≡ false
-    → AllByRecursion (HasBlocker e slots) row → count_in q (map (named_entry ms) row) ≡ 0
+      → AllByRecursion (HasBlocker e slots) row → count_in q (map (named_entry ms) row) ≡ 0
   count_gone slots q [] n h = refl
   count_gone slots q (w ∷ row) n h =
       let rest = count_gone slots q row n h.1 in
       let ne : named ms w.reference ≢ q =
-        λ x. false≢true (sym n ∙ ap (λ k. is_kept (attachment_in table k)) (sym x)
-          ∙ ap is_kept (new_attachment w.reference h.0.1) ∙ h.0.1) in
+      λ x. false≢true (sym n ∙ ap (λ k. is_kept (attachment_in table k)) (sym x)
+      ∙ ap is_kept (new_attachment w.reference h.0.1) ∙ h.0.1) in
       count-cons q (named_entry ms w) (map (named_entry ms) row)
-        ∙ omega (arith, rest, one-other (named ms w.reference) q ne)
+      ∙ omega (arith, rest, one-other (named ms w.reference) q ne)
 
   row_named : (i : ℕ) → row_at (named_rows ms e.watches.rows) i ≡ map (named_entry ms)
-    (row_at e.watches.rows i)
+      (row_at e.watches.rows i)
   row_named i = get_or-map (map (named_entry ms)) e.watches.rows i []
 
   blockers_named : (before after : Slots) (row : List Entry) → IsRenaming before after ms
-    → AllByRecursion (HasBlocker e before) row
+      → AllByRecursion (HasBlocker e before) row
       → AllByRecursion (HasBlocker (engine_named e ms table) after) (map (named_entry ms) row)
   blockers_named before after [] n h = h
   blockers_named before after (w ∷ row) n h = (
-    (h.0.0, ap is_kept (new_attachment w.reference h.0.1) ∙ h.0.1,
-        same_clause before after ms n w.reference (named ms w.reference)
-        (new_reference w.reference h.0.1) ∙ h.0.2, h.0.3),
+    (
+      h.0.0,
+      ap is_kept (new_attachment w.reference h.0.1) ∙ h.0.1,
+      same_clause before after ms n w.reference (named ms w.reference)
+          (new_reference w.reference h.0.1) ∙ h.0.2,
+      h.0.3,
+    ),
     blockers_named before after row n h.1,
   )
 
@@ -182,49 +194,49 @@ module _ (e : EngineState) (ms : Renaming) (table : List Attachment)
           (
             found.2.0,
             subst (FitsAttachment (engine_named e ms table) found.0) (sym z.2)
-              (attachment_named found.0 (attachment_in e.watches.table z.0) found.2.1),
+                (attachment_named found.0 (attachment_in e.watches.table z.0) found.2.1),
           ),
         );
     reasons = reasons_named (clause_at before) (clause_at after) ms [] e.trail
         (all_weaker (λ a. IfSome a.reason (λ r. is_attached e r ≡ true))
-            (λ a. IfSome a.reason (λ r. clause_at after (named ms r) ≡ clause_at before r)) e.trail
+        (λ a. IfSome a.reason (λ r. clause_at after (named ms r) ≡ clause_at before r)) e.trail
         (λ a h. some_weaker (λ r. is_attached e r ≡ true)
-            (λ r. clause_at after (named ms r) ≡ clause_at before r) a.reason
+        (λ r. clause_at after (named ms r) ≡ clause_at before r) a.reason
         (λ r k. same_clause before after ms n r (named ms r) (new_reference r k)) h)
         (recursion_from_All (λ a. IfSome a.reason (λ r. is_attached e r ≡ true)) e.trail
-            fits.reasons_attached))
+        fits.reasons_attached))
         fits.reasons;
     reasons_attached =
-      All-map (λ a. IfSome a.reason (λ r. is_attached (engine_named e ms table) r ≡ true))
+        All-map (λ a. IfSome a.reason (λ r. is_attached (engine_named e ms table) r ≡ true))
         (named_assigned ms) e.trail
         (All-from_recursion
-            (λ a. IfSome (named_reason ms a.reason) (λ r. is_attached (engine_named e ms table) r
-                ≡ true)) e.trail
+        (λ a. IfSome (named_reason ms a.reason) (λ r. is_attached (engine_named e ms table) r
+        ≡ true)) e.trail
         (all_weaker (λ a. IfSome a.reason (λ r. is_attached e r ≡ true))
-            (λ a. IfSome (named_reason ms a.reason) (λ r. is_attached (engine_named e ms table) r
-                ≡ true)) e.trail
+        (λ a. IfSome (named_reason ms a.reason) (λ r. is_attached (engine_named e ms table) r
+        ≡ true)) e.trail
         (λ a h. some_named (λ r. is_attached e r ≡ true)
-            (λ r. is_attached (engine_named e ms table) r ≡ true) ms a.reason
+        (λ r. is_attached (engine_named e ms table) r ≡ true) ms a.reason
         (λ r k. ap is_kept (new_attachment r k) ∙ k) h)
         (recursion_from_All (λ a. IfSome a.reason (λ r. is_attached e r ≡ true)) e.trail
-            fits.reasons_attached)));
+        fits.reasons_attached)));
     small = All-map (λ a. (0 < a.literal.variable) × (a.literal.variable ≤ e.variables))
-      (named_assigned ms) e.trail fits.small;
+        (named_assigned ms) e.trail fits.small;
     rows = λ i q. elim (cases_Bool (is_kept (attachment_in table q))) [
       | inl k ↦
           let z = origin q k in
           ap (count_in q) (row_named i) ∙ count_kept before z.0 q (row_at e.watches.rows i) z.1
-            (fits.blockers i) ∙ fits.rows i z.0 ∙ ap (λ p. watches_at p i) (sym z.2)
+          (fits.blockers i) ∙ fits.rows i z.0 ∙ ap (λ p. watches_at p i) (sym z.2)
       | inr k ↦ ap (count_in q) (row_named i)
-        ∙ count_gone before q (row_at e.watches.rows i) k (fits.blockers i)
-        ∙ sym (gone (attachment_in table q) i k)
+          ∙ count_gone before q (row_at e.watches.rows i) k (fits.blockers i)
+          ∙ sym (gone (attachment_in table q) i k)
     ];
     waiting = λ q at.
         let z = origin q (ap is_kept at) in
         subst (Contains (map (named ms) e.watches.waiting)) (named_listed ms z.0 q z.1)
-          (contains_named ms e.watches.waiting z.0 (fits.waiting z.0 (sym z.2 ∙ at)));
+        (contains_named ms e.watches.waiting z.0 (fits.waiting z.0 (sym z.2 ∙ at)));
     blockers =
-      λ i. subst (AllByRecursion (HasBlocker (engine_named e ms table) after)) (sym (row_named i))
+        λ i. subst (AllByRecursion (HasBlocker (engine_named e ms table) after)) (sym (row_named i))
         (blockers_named before after (row_at e.watches.rows i) n (fits.blockers i));
   }
 
@@ -239,7 +251,7 @@ pub all_renamed : (now : EngineState) (ms : Renaming) (trail trail' : TrailState
     → IsMoved table table' ms
     → ((r : ℕ) → is_attached now r ≡ true → (q : ℕ) × (renamed ms r ≡ Some q))
     → (IsEngine (engine_state trail table rows waiting stable_qhead qhead failed)
-        → IsEngine (engine_state trail' table' rows' waiting' stable_qhead qhead failed))
+    → IsEngine (engine_state trail' table' rows' waiting' stable_qhead qhead failed))
     × MovesAttached now (engine_state trail' table' rows' waiting' stable_qhead qhead failed) ms
     × FitsMoved now (engine_state trail' table' rows' waiting' stable_qhead qhead failed) ms
 all_renamed now ms trail trail' table table' rows rows' waiting waiting' stable_qhead qhead failed
@@ -247,13 +259,13 @@ all_renamed now ms trail trail' table table' rows rows' waiting waiting' stable_
     let e = engine_state trail table rows waiting stable_qhead qhead failed in
     let l : (r : ℕ) → is_attached e r ≡ true → (q : ℕ) × (renamed ms r ≡ Some q) =
     subst (λ (x : EngineState). (r : ℕ) → is_attached x r ≡ true
-        → (q : ℕ) × (renamed ms r ≡ Some q)) (sym view) listed
+    → (q : ℕ) × (renamed ms r ≡ Some q)) (sym view) listed
     in
     let shape : engine_named e ms table' ≡ engine_state trail' table' rows' waiting' stable_qhead
-      qhead failed = rw (te, re, we) refl in (
+    qhead failed = rw (te, re, we) refl in (
       λ h. subst IsEngine shape (engine_kept e ms table' o n m l h),
       subst (λ x. MovesAttached x (engine_state trail' table' rows' waiting' stable_qhead qhead
-            failed) ms) view (subst (λ y. MovesAttached e y ms) shape
+          failed) ms) view (subst (λ y. MovesAttached e y ms) shape
           (attached_named e ms table' o n m l)),
       subst (λ x. FitsMoved x (engine_state trail' table' rows' waiting' stable_qhead qhead failed)
           ms) view (subst (λ y. FitsMoved e y ms) shape (fits_named e ms table' o n m l)),

@@ -28,7 +28,7 @@ counted_gone doomed q (x ∷ row) h = elim (cases_Bool (is_doomed doomed x.refer
   | inr d ↦
       let ne : x.reference ≢ q = λ same. both_ways _ d (ap (is_doomed doomed) same ∙ h) in
       rw d (count-cons q x (spared_entries doomed row)
-          ∙ omega (arith, one-other x.reference q ne, counted_gone doomed q row h))
+      ∙ omega (arith, one-other x.reference q ne, counted_gone doomed q row h))
 ]
 
 counted_same : (doomed : List Bool) (q : ℕ) (row : List Entry) → is_doomed doomed q ≡ false
@@ -38,9 +38,13 @@ counted_same doomed q (x ∷ row) h = elim (cases_Bool (is_doomed doomed x.refer
   | inl d ↦
       let ne : x.reference ≢ q = λ same. both_ways _ h (ap (is_doomed doomed) (sym same) ∙ d) in
       rw d (counted_same doomed q row h
-          ∙ omega (arith, count-cons q x row, one-other x.reference q ne))
-  | inr d ↦ rw d (omega (arith, count-cons q x (spared_entries doomed row), count-cons q x row,
-        counted_same doomed q row h))
+      ∙ omega (arith, count-cons q x row, one-other x.reference q ne))
+  | inr d ↦ rw d (omega (
+    arith,
+    count-cons q x (spared_entries doomed row),
+    count-cons q x row,
+    counted_same doomed q row h,
+  ))
 ]
 
 row_spared : (doomed : List Bool) (R : List (List Entry)) (i : ℕ)
@@ -75,10 +79,12 @@ blockers_spared : (e : EngineState) (slots : Slots) (doomed : List Bool) (t : Li
 blockers_spared e slots doomed t R w [] s h = tt
 blockers_spared e slots doomed t R w (x ∷ row) s h =
     elim (cases_Bool (is_doomed doomed x.reference)) [
-  | inl d ↦ rw d (blockers_spared e slots doomed t R w row s h.1)
-  | inr d ↦ rw d ((h.0.0, attached_spared e doomed t R w x.reference s d h.0.1, h.0.2, h.0.3),
-      blockers_spared e slots doomed t R w row s h.1)
-]
+      | inl d ↦ rw d (blockers_spared e slots doomed t R w row s h.1)
+      | inr d ↦ rw d (
+        (h.0.0, attached_spared e doomed t R w x.reference s d h.0.1, h.0.2, h.0.3),
+        blockers_spared e slots doomed t R w row s h.1,
+      )
+    ]
 
 reason_spared : (e : EngineState) (doomed : List Bool) (t : List Attachment) (R : List (List Entry))
     (w : List ℕ) (o : Option ℕ) → IsSpared doomed e.watches.table t
@@ -91,37 +97,42 @@ pub fits_spared : (e : EngineState) (slots : Slots) (doomed : List Bool) (t : Li
     → IsSpared doomed e.watches.table t
     → All (λ (a : Assigned). IfSome a.reason (λ r. is_doomed doomed r ≡ false)) e.trail
     → Fits e slots → Fits (with_watches e t (spared_rows doomed e.watches.rows)
-        (spared doomed e.watches.waiting)) slots
+    (spared doomed e.watches.waiting)) slots
 fits_spared e slots doomed t s none fits =
     let R = spared_rows doomed e.watches.rows in
     let w = spared doomed e.watches.waiting in
     record {
       attached = λ q h.
           let d = spared_at doomed e.watches.table t q s h in
-          let g = fits.attached q (sym (ap is_kept (s.stays q d)) ∙ h) in
-          (g.0, g.1, (g.2.0,
-                attachment_same e t R w g.0 (attachment_in t q)
-                (subst (λ x. FitsAttachment e g.0 x) (sym (s.stays q d)) g.2.1)));
+          let g = fits.attached q (sym (ap is_kept (s.stays q d)) ∙ h) in (
+            g.0,
+            g.1,
+            (
+              g.2.0,
+              attachment_same e t R w g.0 (attachment_in t q)
+                  (subst (λ x. FitsAttachment e g.0 x) (sym (s.stays q d)) g.2.1),
+            ),
+          );
       reasons = fits.reasons;
       reasons_attached =
-        λ k d lt. reason_spared e doomed t R w (get_or e.trail k d).reason s
+          λ k d lt. reason_spared e doomed t R w (get_or e.trail k d).reason s
           (fits.reasons_attached k d lt) (none k d lt);
       small = fits.small;
       rows = λ i q. ap (count_in q) (row_spared doomed e.watches.rows i)
-        ∙ elim (cases_Bool (is_doomed doomed q))
-        as (λ _. count_in q (spared_entries doomed (row_at e.watches.rows i)) ≡ watches_at
+          ∙ elim (cases_Bool (is_doomed doomed q))
+          as (λ _. count_in q (spared_entries doomed (row_at e.watches.rows i)) ≡ watches_at
           (attachment_in t q) i) [
-        | inl d ↦ counted_gone doomed q (row_at e.watches.rows i) d
-          ∙ sym (ap (λ p. watches_at p i) (s.gone q d))
-        | inr d ↦ counted_same doomed q (row_at e.watches.rows i) d ∙ fits.rows i q
-          ∙ sym (ap (λ p. watches_at p i) (s.stays q d))
-      ];
+            | inl d ↦ counted_gone doomed q (row_at e.watches.rows i) d
+                ∙ sym (ap (λ p. watches_at p i) (s.gone q d))
+            | inr d ↦ counted_same doomed q (row_at e.watches.rows i) d ∙ fits.rows i q
+                ∙ sym (ap (λ p. watches_at p i) (s.stays q d))
+          ];
       waiting = λ q h.
           let d = spared_at doomed e.watches.table t q s (ap is_kept h) in
           Contains-filter (λ r. not (is_doomed doomed r)) e.watches.waiting q (ap not d)
-            (fits.waiting q (sym (s.stays q d) ∙ h));
+          (fits.waiting q (sym (s.stays q d) ∙ h));
       blockers =
-        λ i. subst (AllByRecursion (HasBlocker (with_watches e t R w) slots))
+          λ i. subst (AllByRecursion (HasBlocker (with_watches e t R w) slots))
           (sym (row_spared doomed e.watches.rows i))
           (blockers_spared e slots doomed t R w (row_at e.watches.rows i) s (fits.blockers i));
     }

@@ -21,8 +21,8 @@ pub waiting_more : (slots : Slots) (e f : EngineState) (r : ℕ) → Continues e
 waiting_more slots e f r g h c p live =
     true_more c (literals_of e.trail) (literals_of f.trail)
     (λ l m. subst (λ X. contains_literal l X ≡ true)
-        (sym (ap literals_of g.grown ∙ literals-append e.trail g.more))
-        (contains_front l (literals_of e.trail) (literals_of g.more) m))
+    (sym (ap literals_of g.grown ∙ literals-append e.trail g.more))
+    (contains_front l (literals_of e.trail) (literals_of g.more) m))
     (h c (g.waiting r p) live)
 
 got_number : (w : List ℕ) (k : ℕ) (x : ℕ) → slice_get w k ≡ Some x → get_or w k x ≡ x
@@ -37,9 +37,9 @@ pub seen_more : (slots : Slots) (e f : EngineState) (w v : List ℕ) (at x : ℕ
 seen_more slots e f w v at x same lt got g seen here r h =
     let got' : slice_get w at ≡ Some x = ap (λ z. slice_get z at) (sym same) ∙ got in
     let shape : take (at + 1) w ≡ take at w ++ x ∷ [] =
-      take_more w at x lt ∙ ap (λ y. take at w ++ y ∷ []) (got_number w at x got') in
+    take_more w at x lt ∙ ap (λ y. take at w ++ y ∷ []) (got_number w at x got') in
     elim (Contains-push_cases (take at w) x r (subst (λ z. Contains z r) shape h))
-      as (λ _. IsTrueWaiting slots f r) [
+    as (λ _. IsTrueWaiting slots f r) [
       | inl before ↦ waiting_more slots e f r g (seen r before)
       | inr is ↦ subst (IsTrueWaiting slots f) is here
     ]
@@ -52,19 +52,26 @@ all_seen slots e w n fits same le seen r c p live =
 
 pub fits_waiting : (e : EngineState) (slots : Slots) → Fits e slots
     → Fits (with_watches e e.watches.table e.watches.rows
-      (filter (λ r. is_waiting (attachment_in e.watches.table r)) e.watches.waiting)) slots
+    (filter (λ r. is_waiting (attachment_in e.watches.table r)) e.watches.waiting)) slots
 fits_waiting e slots fits =
     let w = filter (λ r. is_waiting (attachment_in e.watches.table r)) e.watches.waiting in
     record {
-      attached = λ r h. let f = fits.attached r h in
-        (f.0, f.1, (f.2.0, attachment_same e e.watches.table e.watches.rows w f.0
-            (attachment_in e.watches.table r) f.2.1));
+      attached = λ r h. let f = fits.attached r h in (
+        f.0,
+        f.1,
+        (
+          f.2.0,
+          attachment_same e e.watches.table e.watches.rows w f.0
+              (attachment_in e.watches.table r) f.2.1,
+        ),
+      );
       reasons = fits.reasons;
       reasons_attached = fits.reasons_attached;
       small = fits.small;
       rows = fits.rows;
       waiting =
-        λ r h. Contains-filter (λ x. is_waiting (attachment_in e.watches.table x)) e.watches.waiting
+          λ r h. Contains-filter (λ x. is_waiting (attachment_in e.watches.table x))
+          e.watches.waiting
           r (ap is_waiting h) (fits.waiting r h);
       blockers = fits.blockers;
     }

@@ -47,9 +47,9 @@ level_watch e c one other m t n at = record {
   covered = λ _. (one, m, t);
   stays = λ to k.
       let here =
-        in_kept to e.trail (negation other) (depth_of e.trail)
-          (contains_take (negation other) e.watches.stable_qhead
-          (literals_of (kept_to to e.trail)) k) at in
+      in_kept to e.trail (negation other) (depth_of e.trail)
+      (contains_take (negation other) e.watches.stable_qhead
+      (literals_of (kept_to to e.trail)) k) at in
       subst (λ X. HasTrue c (literals_of X)) (sym (kept_all to e.trail here)) (one, m, t);
 }
 
@@ -58,7 +58,7 @@ pub true_watch : (e : EngineState) (slots : Slots) (c : List Literal) (one : Lit
     → IsWatch e c one
 true_watch e slots c one fits m t =
     open_watch e c one m (false_from_ne_true (contains_literal (negation one) (literals_of e.trail))
-        (λ f. no_opposites (clause_at slots) e.trail fits.reasons one t f))
+    (λ f. no_opposites (clause_at slots) e.trail fits.reasons one t f))
 
 count_pushed : (R : List (List Entry)) (l : Literal) (w : Entry) (q k : ℕ) → index_of l < length R
     → w.reference ≡ q → count_in q (row_at (pushed R l w) k) ≡ count_in q (row_at R k) + one_at
@@ -67,9 +67,9 @@ count_pushed R l w q k lt same = elim (cases_eq k (index_of l)) [
   | inl at ↦ subst (λ z. count_in q (row_at (pushed R l w) z) ≡ count_in q (row_at R z) + one_at
       (index_of l) z) (sym at)
       (let a = ap (count_in q) (get_or-set_same R (index_of l) (row_at R (index_of l) ++ w ∷ []) []
-            lt) ∙ count-append q (row_at R (index_of l)) (w ∷ []) in
+      lt) ∙ count-append q (row_at R (index_of l)) (w ∷ []) in
       let b = count-cons q w [] in let d = one-same w.reference q same in
-        let g = one-same (index_of l) (index_of l) refl in omega arith)
+      let g = one-same (index_of l) (index_of l) refl in omega arith)
   | inr ne ↦ ap (count_in q) (get_or-set_other R (index_of l) k (row_at R (index_of l) ++ w ∷ []) []
       ne) ∙ (let g = one-other (index_of l) k (λ h. ne (sym h)) in omega arith)
 ]
@@ -80,10 +80,10 @@ count_pushed_other : (R : List (List Entry)) (l : Literal) (w : Entry) (q k : �
 count_pushed_other R l w q k lt other = elim (cases_eq k (index_of l)) [
   | inl at ↦ subst (λ z. count_in q (row_at (pushed R l w) z) ≡ count_in q (row_at R z)) (sym at)
       (let a = ap (count_in q) (get_or-set_same R (index_of l) (row_at R (index_of l) ++ w ∷ []) []
-            lt) ∙ count-append q (row_at R (index_of l)) (w ∷ []) in
+      lt) ∙ count-append q (row_at R (index_of l)) (w ∷ []) in
       let b = count-cons q w [] in let d = one-other w.reference q other in omega arith)
   | inr ne ↦ ap (count_in q)
-    (get_or-set_other R (index_of l) k (row_at R (index_of l) ++ w ∷ []) [] ne)
+      (get_or-set_other R (index_of l) k (row_at R (index_of l) ++ w ∷ []) [] ne)
 ]
 
 all_pushed : (P : Entry → Type 0) (R : List (List Entry)) (l : Literal) (w : Entry)
@@ -91,11 +91,11 @@ all_pushed : (P : Entry → Type 0) (R : List (List Entry)) (l : Literal) (w : E
     → AllByRecursion P (row_at (pushed R l w) k)
 all_pushed P R l w lt h all k = elim (cases_eq k (index_of l)) [
   | inl at ↦ subst (λ z. AllByRecursion P (row_at (pushed R l w) z)) (sym at)
-    (subst (AllByRecursion P)
+      (subst (AllByRecursion P)
       (sym (get_or-set_same R (index_of l) (row_at R (index_of l) ++ w ∷ []) [] lt))
       (all_join P (row_at R (index_of l)) (w ∷ []) (all (index_of l)) (h, tt)))
   | inr ne ↦ subst (AllByRecursion P)
-    (sym (get_or-set_other R (index_of l) k (row_at R (index_of l) ++ w ∷ []) [] ne)) (all k)
+      (sym (get_or-set_other R (index_of l) k (row_at R (index_of l) ++ w ∷ []) [] ne)) (all k)
 ]
 
 pub fits_watch : (e : EngineState) (slots : Slots) (r : ℕ) (c : List Literal) (one other : Literal)
@@ -114,17 +114,17 @@ fits_watch e slots r c one other rest inv fits at live apart a b d =
     let same : f.0 ≡ c = cc (f.1, live) in
     let within : IsWithin e.variables c = subst (IsWithin e.variables) same f.2.0 in
     let l1 : index_of one < length R = let h = inv.rows in
-      let g = index-within e.variables one (within_variable e.variables c one within a.member) in
-      omega arith in
+    let g = index-within e.variables one (within_variable e.variables c one within a.member) in
+    omega arith in
     let l2 : index_of other < length Ri = let h = inv.rows in
-      let g =
-      index-within e.variables other (within_variable e.variables c other within b.member) in
-        let k = length-set R (index_of one) (row_at R (index_of one) ++ w ∷ []) in omega arith in
+    let g =
+    index-within e.variables other (within_variable e.variables c other within b.member) in
+    let k = length-set R (index_of one) (row_at R (index_of one) ++ w ∷ []) in omega arith in
     let here : attachment_in t r ≡ Watching one other rest =
-      attachment_set_same e.watches.table r (Watching one other rest)
-        (kept_within e.watches.table r was) in
+    attachment_set_same e.watches.table r (Watching one other rest)
+    (kept_within e.watches.table r was) in
     let elsewhere : (q : ℕ) → q ≢ r → attachment_in t q ≡ attachment_in e.watches.table q =
-      λ q h. attachment_set_other e.watches.table r q (Watching one other rest) h in
+    λ q h. attachment_set_other e.watches.table r q (Watching one other rest) h in
     let kept : is_kept (attachment_in t r) ≡ true = ap is_kept here in
     fits_attachment e slots r t Rj e.watches.waiting fits elsewhere
     (λ k. (c, live, (within, subst (λ z. FitsAttachment e c z) (sym here) (apart, a, b, d))))
@@ -132,11 +132,11 @@ fits_watch e slots r c one other rest inv fits at live apart a b d =
     (λ k q. elim (cases_eq r q) [
       | inl is ↦ subst (λ z. count_in z (row_at Rj k) ≡ watches_at (attachment_in t z) k) is
           (let g1 = count_pushed Ri other v r k l2 refl in
-              let g2 = count_pushed R one w r k l1 refl in
+          let g2 = count_pushed R one w r k l1 refl in
           let g3 = fits.rows k r ∙ ap (λ z. watches_at z k) at in let g4 =
-            ap (λ z. watches_at z k) here in omega arith)
+          ap (λ z. watches_at z k) here in omega arith)
       | inr ne ↦ count_pushed_other Ri other v q k l2 ne ∙ count_pushed_other R one w q k l1 ne
-        ∙ fits.rows k q ∙ sym (ap (λ z. watches_at z k) (elsewhere q (λ h. ne (sym h))))
+          ∙ fits.rows k q ∙ sym (ap (λ z. watches_at z k) (elsewhere q (λ h. ne (sym h))))
     ])
     (λ q h. elim (cases_eq q r) [
       | inl is ↦ absurd (let h' = sym (ap (attachment_in t) is ∙ here) ∙ h in cc)
@@ -144,7 +144,7 @@ fits_watch e slots r c one other rest inv fits at live apart a b d =
     ])
     (λ k. blockers_kept e slots r t Rj e.watches.waiting (row_at Rj k) elsewhere kept
     (all_pushed (HasBlocker e slots) Ri other v l2 (c, was, live, a.member)
-        (all_pushed (HasBlocker e slots) R one w l1 (c, was, live, b.member) fits.blockers) k))
+    (all_pushed (HasBlocker e slots) R one w l1 (c, was, live, b.member) fits.blockers) k))
 
 pub fits_satisfied : (e : EngineState) (slots : Slots) (r : ℕ) (c : List Literal) → Fits e slots
     → attachment_in e.watches.table r ≡ Waiting → clause_at slots r ≡ Some c → depth_of e.trail ≡ 0
@@ -155,19 +155,25 @@ fits_satisfied e slots r c fits at live zero is_true =
     let f = fits.attached r was in
     let same : f.0 ≡ c = cc (f.1, live) in
     let here : attachment_in t r ≡ Satisfied =
-      attachment_set_same e.watches.table r Satisfied (kept_within e.watches.table r was) in
+    attachment_set_same e.watches.table r Satisfied (kept_within e.watches.table r was) in
     let elsewhere : (q : ℕ) → q ≢ r → attachment_in t q ≡ attachment_in e.watches.table q =
-      λ q h. attachment_set_other e.watches.table r q Satisfied h in
+    λ q h. attachment_set_other e.watches.table r q Satisfied h in
     let kept : is_kept (attachment_in t r) ≡ true = ap is_kept here in
     fits_attachment e slots r t e.watches.rows e.watches.waiting fits elsewhere
-    (λ k. (c, live, (subst (IsWithin e.variables) same f.2.0,
-            subst (λ z. FitsAttachment e c z) (sym here)
+    (λ k. (
+      c,
+      live,
+      (
+        subst (IsWithin e.variables) same f.2.0,
+        subst (λ z. FitsAttachment e c z) (sym here)
             (subst (λ X. HasTrue c (literals_of X)) (sym (kept_all 0 e.trail (omega arith)))
-              is_true))))
+            is_true),
+      ),
+    ))
     (inl kept)
     (λ k q. elim (cases_eq q r) [
       | inl is ↦ fits.rows k q ∙ ap (λ z. watches_at (attachment_in e.watches.table z) k) is
-        ∙ ap (λ z. watches_at z k) at ∙ sym (ap (λ z. watches_at (attachment_in t z) k) is
+          ∙ ap (λ z. watches_at z k) at ∙ sym (ap (λ z. watches_at (attachment_in t z) k) is
           ∙ ap (λ z. watches_at z k) here)
       | inr ne ↦ fits.rows k q ∙ sym (ap (λ z. watches_at z k) (elsewhere q ne))
     ])
@@ -176,7 +182,7 @@ fits_satisfied e slots r c fits at live zero is_true =
       | inr nq ↦ fits.waiting q (sym (elsewhere q nq) ∙ h)
     ])
     (λ k. blockers_kept e slots r t e.watches.rows e.watches.waiting (row_at e.watches.rows k)
-        elsewhere kept (fits.blockers k))
+    elsewhere kept (fits.blockers k))
 
 -- a pushed entry goes again
 pub unpushed : (R Ri : List (List Entry)) (i n : ℕ) (w : Entry) → i < length R
@@ -184,7 +190,7 @@ pub unpushed : (R Ri : List (List Entry)) (i n : ℕ) (w : Entry) → i < length
     → with_row Ri i (take n (row_at Ri i)) ≡ R
 unpushed R Ri i n w lt len e =
     rw (e, get_or-set_same R i (row_at R i ++ w ∷ []) [] lt, len)
-      (set-set R i (row_at R i ++ w ∷ []) (take (length (row_at R i)) (row_at R i ++ w ∷ []))
+    (set-set R i (row_at R i ++ w ∷ []) (take (length (row_at R i)) (row_at R i ++ w ∷ []))
     ∙ ap (set R i) (take_at (row_at R i) (w ∷ []) (length (row_at R i)) refl) ∙ set-get_or R i [])
 
 value_left : (o : Option Bool) → o ≢ None → o ≢ Some false → o ≡ Some true
@@ -199,24 +205,24 @@ pub made_true : (e e1 : EngineState) (slots : Slots) (r : ℕ) (c : List Literal
     → contains_literal l c ≡ true → value_in e.trail l ≢ Some false
     → All (λ k. (k ≡ l) ⊎ (value_in e.trail k ≡ Some false)) c → IsMadeTrue e e1 l r
     → Fits e1 slots × (contains_literal l (literals_of e1.trail) ≡ true) × Continues e e1
-        × (e1.watches ≡ e.watches)
+    × (e1.watches ≡ e.watches)
 made_true e e1 slots r c l inv fits was live within member ne all h = elim h [
   | inl new ↦
       let T = e.trail ++ made l (Some r) ∷ [] in
       let unit = unit_left e.trail c l member new.0 (one_left e.trail c l all) in
       let f : Fits (with_trail e T) slots =
-        fits_grow e slots (made l (Some r)) inv.stable_qhead inv.qhead (c, live, unit) was
-          (within_variable e.variables c l within member) fits in (
+      fits_grow e slots (made l (Some r)) inv.stable_qhead inv.qhead (c, live, unit) was
+      (within_variable e.variables c l within member) fits in (
         subst (λ x. Fits x slots) (sym new.2) f,
         subst (λ (x : EngineState). contains_literal l (literals_of x.trail) ≡ true) (sym new.2)
-          (last_true e.trail (made l (Some r))),
+            (last_true e.trail (made l (Some r))),
         subst (Continues e) (sym new.2) (continues_unit e l r),
         ap (λ (x : EngineState). x.watches) new.2,
       )
   | inr old ↦ (
     subst (λ x. Fits x slots) (sym old.1) fits,
     subst (λ (x : EngineState). contains_literal l (literals_of x.trail) ≡ true) (sym old.1)
-      (true_value e.trail l (value_left (value_in e.trail l) old.0 ne)),
+        (true_value e.trail l (value_left (value_in e.trail l) old.0 ne)),
     subst (Continues e) (sym old.1) (continues_same e),
     ap (λ (x : EngineState). x.watches) old.1,
   )

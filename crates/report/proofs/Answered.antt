@@ -15,18 +15,18 @@ pub end_is : (status words : List ℕ) (bits first last : List Bool)
     → words_text words last ≡ words_text (status ++ bits_word bits) bits
 end_is status words bits first last e d f =
     ap (λ z. words_text z last) (e ∙ ap (λ z. status ++ bits_word z) d)
-      ∙ ap (words_text (status ++ bits_word bits)) f
+    ∙ ap (words_text (status ++ bits_word bits)) f
 
 module _ (found same : Found) (is : found ≡ same) (a b c d : Option (List ℕ)) where
   pub output_left : (fault : RunFault) → fault ≡ Output → AppendsPart a b (end_text same)
-    → Appends c d (proof_text same) → IsSpelledProof same → LeavesAnswer fault found a b c d
+      → Appends c d (proof_text same) → IsSpelledProof same → LeavesAnswer fault found a b c d
   output_left fault e p q s =
-    subst (λ f. LeavesAnswer f found a b c d) (sym e)
+      subst (λ f. LeavesAnswer f found a b c d) (sym e)
       (subst (λ f. LeavesAnswer Output f a b c d) (sym is)
       (record { out_part = p; proof_grows = q; spelled = s }))
 
   pub answers : (status : Status) → status ≡ status_of same → Appends a b (end_text same)
-    → Appends c d (proof_text same) → IsSpelledProof same → Answers status found a b c d
+      → Appends c d (proof_text same) → IsSpelledProof same → Answers status found a b c d
   answers status e p q s =
-    subst (λ f. Answers status f a b c d) (sym is)
+      subst (λ f. Answers status f a b c d) (sym is)
       (record { status_is = e; out_grows = p; proof_grows = q; spelled = s })

@@ -23,7 +23,7 @@ pub cost_spelled : (old new : List ℕ) (start n : ℕ) → length old ≡ 23 �
     → drop (start - 2) (set (set new (start - 1) 32) (start - 2) 111) ≡ spaced (cost_tokens n)
 cost_spelled old new start n e h f low high w =
     let last : drop 22 old ≡ 10 ∷ [] = drop_more old 22 0 (omega (arith, e))
-      ∙ ap (λ b. b ∷ drop 23 old) h ∙ ap (λ z. 10 ∷ z) (drop_end old e) in
+    ∙ ap (λ b. b ∷ drop 23 old) h ∙ ap (λ z. 10 ∷ z) (drop_end old e) in
     let ys : List ℕ = set new (start - 1) 32 in
     let len : length ys ≡ 23 = length-set new (start - 1) 32 ∙ f in
     let one : start - 2 + 1 ≡ start - 1 = omega arith in
@@ -31,7 +31,7 @@ cost_spelled old new start n e h f low high w =
     drop-set ys (start - 2) 111 (omega arith)
     ∙ ap (λ k. 111 ∷ drop k ys) one
     ∙ ap (λ z. 111 ∷ z) (drop-set new (start - 1) 32 (omega arith) ∙ ap (λ k. 32 ∷ drop k new) two
-        ∙ ap (λ z. 32 ∷ z) (w ∙ ap (λ z. decimal n ++ z) last))
+    ∙ ap (λ z. 32 ∷ z) (w ∙ ap (λ z. decimal n ++ z) last))
   where
     drop_end : (xs : List ℕ) → length xs ≡ 23 → drop 23 xs ≡ []
     drop_end xs l = drop_all 23 xs (omega arith)
@@ -46,11 +46,15 @@ pub line_begun : (first old now : Option (List ℕ)) (costs : List ℕ) (c : ℕ
     → Appends first old (cost_lines costs) → AppendsPart old now (spaced (cost_tokens c))
     → AppendsPart first now (cost_lines (costs ++ c ∷ []))
 line_begun first old now costs c p q =
-    subst (AppendsPart first now) (sym (cost_lines-last costs c))
-    (cost_lines costs ++ q.0,
-        (q.1.0, ap (λ z. cost_lines costs ++ z) q.1.1
-          ∙ sym (append_assoc (cost_lines costs) q.0 q.1.0)),
-        Appends-trans first old now (cost_lines costs) q.0 p q.2)
+    subst (AppendsPart first now) (sym (cost_lines-last costs c)) (
+      cost_lines costs ++ q.0,
+      (
+        q.1.0,
+        ap (λ z. cost_lines costs ++ z) q.1.1
+            ∙ sym (append_assoc (cost_lines costs) q.0 q.1.0),
+      ),
+      Appends-trans first old now (cost_lines costs) q.0 p q.2,
+    )
 
 -- a whole text is a beginning of it, also where the flush after it fails
 pub whole_part : (a b c : Option (List ℕ)) (bs text : List ℕ) → bs ≡ text → Appends a b bs
@@ -73,6 +77,6 @@ broke first old now costs new cost failed no_memory failures p q same is why som
   broken = λ k z m s.
       let cost_is : cost ≡ k = cc in
       subst (λ x. AppendsPart first now (cost_lines (x ++ k ∷ []))) (sym same)
-        (subst (λ x. AppendsPart first now (cost_lines (costs ++ x ∷ []))) cost_is
-          (line_begun first old now costs cost p q));
+      (subst (λ x. AppendsPart first now (cost_lines (costs ++ x ∷ []))) cost_is
+      (line_begun first old now costs cost p q));
 }

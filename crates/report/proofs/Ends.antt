@@ -46,9 +46,11 @@ proof_over cs n log a e s =
 
 room : (cs : List (List Literal)) (n : ℕ) (log : List LogLine) → IsAcceptedOver cs log
     → IsClauseCount n cs → HasRoom n log
-room cs n log a k =
-    (k.1, λ lt. subst (λ m. HasSmallIds m log) (sym k.0)
-      (accepted_ids cs log a (omega (arith, k.0, lt))))
+room cs n log a k = (
+  k.1,
+  λ lt. subst (λ m. HasSmallIds m log) (sym k.0)
+      (accepted_ids cs log a (omega (arith, k.0, lt))),
+)
 
 -- what was found can be written
 pub proof_room : (profile : Profile) (p : Problem) (out out' : Option (List ℕ))
@@ -70,28 +72,28 @@ record Spells (profile : Profile) (text : Option (List ℕ)) (p : Problem) (trie
   pub spelled : result_text before said ≡ cost_lines tried ++ end_text found
   pub falls : FallsTo before said
   pub true_answer : IsTrueAnswer profile p (told_in before said) (status_of found) said
-    (proof_text found) old new
+      (proof_text found) old new
   pub needed : HasProof found → NeedsProof said
   pub no_proof : (NeedsProof said → ⊥) → proof_text found ≡ []
   pub checked : NeedsProof said → IsSpelledProof found
-    → AreChecked profile text (result_text before said) (proof_text found)
+      → AreChecked profile text (result_text before said) (proof_text found)
 
 module _ (profile : Profile) (text : Option (List ℕ)) (p : Problem)
     (reads : IfSome text (λ bytes. Reads bytes p))
     (only : IfSome text (λ bytes. (q : Problem) → Reads bytes q → q ≡ p)) where
   honest_at : (known : Option (List ℕ)) (costs : List ℕ)
-    → IfSome known (λ bytes. (q : Problem) → Reads bytes q → q ≡ p) → All (IsCostOfSome p) costs
-    → IfSome known (λ bytes. (q : Problem) → Reads bytes q → All (IsCostOfSome q) costs)
+      → IfSome known (λ bytes. (q : Problem) → Reads bytes q → q ≡ p) → All (IsCostOfSome p) costs
+      → IfSome known (λ bytes. (q : Problem) → Reads bytes q → All (IsCostOfSome q) costs)
   honest_at None costs o h = tt
   honest_at (Some bytes) costs o h = λ q r. subst (λ x. All (IsCostOfSome x) costs) (sym (o q r)) h
 
   pub honest_costs : (costs : List ℕ) → AreFalling costs → All (IsCostOfSome p) costs
-    → AreHonest text costs
+      → AreHonest text costs
   honest_costs costs f h = (f, honest_at text costs only h)
 
   optimum_checks : (known : Option (List ℕ)) → IfSome known (λ bytes. Reads bytes p)
-    → (c : ℕ) (bits : List Bool) (written proved : List ℕ) → Says written (SaysOptimum c bits)
-    → IsSolution p bits c
+      → (c : ℕ) (bits : List Bool) (written proved : List ℕ) → Says written (SaysOptimum c bits)
+      → IsSolution p bits c
       → IsProofOver (bound_as profile p c).clauses proved
       → IfSome known (λ bytes. ChecksAs profile bytes written proved)
   optimum_checks None r c bits written proved says s over = tt
@@ -100,21 +102,21 @@ module _ (profile : Profile) (text : Option (List ℕ)) (p : Problem)
       (p, SaysOptimum c bits, r, says, (s.0, h.0, h.1, over))
 
   unsatisfiable_checks : (known : Option (List ℕ)) → IfSome known (λ bytes. Reads bytes p)
-    → (written proved : List ℕ) → Says written SaysUnsatisfiable
+      → (written proved : List ℕ) → Says written SaysUnsatisfiable
       → IsProofOver (hard_cnf p).clauses proved
       → IfSome known (λ bytes. ChecksAs profile bytes written proved)
   unsatisfiable_checks None r written proved says over = tt
   unsatisfiable_checks (Some bytes) r written proved says over =
-    (p, SaysUnsatisfiable, r, says, over)
+      (p, SaysUnsatisfiable, r, says, over)
 
   module _ (old new : BudgetState) (out out' : Option (List ℕ)) where
     falls_in : (tried before : List ℕ) (c : ℕ) → tried ≡ before ++ c ∷ [] → AreFalling tried
-      → All (λ d. d < 2 ^ 62) tried → FallsTo before (SaysSatisfiable c [])
+        → All (λ d. d < 2 ^ 62) tried → FallsTo before (SaysSatisfiable c [])
     falls_in tried before c e f s =
-      (falls_to before c (subst AreFalling e f), subst (All (λ d. d < 2 ^ 62)) e s)
+        (falls_to before c (subst AreFalling e f), subst (All (λ d. d < 2 ^ 62)) e s)
 
     spells : (found : Found) (s : Searches profile p (Ok found) out out' old new)
-      → Spells profile text p s.tried found old new
+        → Spells profile text p s.tried found old new
     spells (Optimum c bits log clauses) s =
         let f = s.found in
         let before = f.told.0 in
@@ -124,13 +126,13 @@ module _ (profile : Profile) (text : Option (List ℕ)) (p : Problem)
           said = SaysOptimum c bits.items;
           told = sym f.told.1;
           spelled = optimum_text before c bits.items
-            ∙ ap (λ z. cost_lines z ++ end_text (Optimum c bits log clauses)) (sym f.told.1);
+              ∙ ap (λ z. cost_lines z ++ end_text (Optimum c bits log clauses)) (sym f.told.1);
           falls = falls;
           true_answer = f.optimal;
           needed = λ n. tt;
           no_proof = λ n. absurd (n tt);
           checked =
-            λ n spelled. optimum_checks text reads c bits.items
+              λ n spelled. optimum_checks text reads c bits.items
               (result_text before (SaysOptimum c bits.items)) (text_of clauses log)
               (text_says before (SaysOptimum c bits.items) falls) f.solution
               (proof_over (bound_as profile p c).clauses clauses log f.accepted
@@ -147,8 +149,8 @@ module _ (profile : Profile) (text : Option (List ℕ)) (p : Problem)
           needed = λ n. tt;
           no_proof = λ n. absurd (n tt);
           checked = λ n spelled. unsatisfiable_checks text reads (result_text [] SaysUnsatisfiable)
-            (text_of clauses log) (text_says [] SaysUnsatisfiable refl)
-            (proof_over (hard_cnf p).clauses clauses log f.accepted f.counted.0 spelled);
+              (text_of clauses log) (text_says [] SaysUnsatisfiable refl)
+              (proof_over (hard_cnf p).clauses clauses log f.accepted f.counted.0 spelled);
         }
     spells (Best c bits work) s =
         let f = s.found in
@@ -157,13 +159,13 @@ module _ (profile : Profile) (text : Option (List ℕ)) (p : Problem)
           said = SaysSatisfiable c bits.items;
           told = sym f.told.1;
           spelled = satisfiable_text before c bits.items
-            ∙ ap (λ z. cost_lines z ++ end_text (Best c bits work)) (sym f.told.1);
+              ∙ ap (λ z. cost_lines z ++ end_text (Best c bits work)) (sym f.told.1);
           falls = falls_in s.tried before c f.told.1 s.falling s.small;
           true_answer = record {
             solution = f.solution;
             above_zero = f.above_zero;
             spent =
-              record { no_proof = refl; none_left = s.spent; hard = f.hard; learned = s.learned };
+                record { no_proof = refl; none_left = s.spent; hard = f.hard; learned = s.learned };
             bound = subst (λ z. IsBoundWork profile p z c work) f.told.1 f.bound;
           };
           needed = λ n. absurd n;
@@ -180,7 +182,7 @@ module _ (profile : Profile) (text : Option (List ℕ)) (p : Problem)
           true_answer = record {
             not_refuted = f.not_refuted;
             spent =
-              record { no_proof = refl; none_left = s.spent; hard = f.hard; learned = s.learned };
+                record { no_proof = refl; none_left = s.spent; hard = f.hard; learned = s.learned };
             no_bound = f.no_bound;
           };
           needed = λ n. absurd n;
@@ -189,22 +191,23 @@ module _ (profile : Profile) (text : Option (List ℕ)) (p : Problem)
         }
 
     module _ (last proof proof' : Option (List ℕ)) (found : Found)
-      (s : Searches profile p (Ok found) out out' old new) where
+        (s : Searches profile p (Ok found) out out' old new) where
       honest_in : AreHonest text (told_in (spells found s).before (spells found s).said)
       honest_in =
-        subst (AreHonest text) (sym (spells found s).told) (honest_costs s.tried s.falling s.honest)
+          subst (AreHonest text) (sym (spells found s).told)
+          (honest_costs s.tried s.falling s.honest)
 
       -- no fault
       pub ends : (status : Status) → Answers status found out' last proof proof'
-        → EndsAs profile text out last proof proof' status old new
+          → EndsAs profile text out last proof proof' status old new
       ends status w =
           let r = spells found s in
           let whole =
-            subst (Appends out last) (sym r.spelled)
-              (Appends-trans out out' last (cost_lines s.tried) (end_text found) s.lines
-              w.out_grows) in
+          subst (Appends out last) (sym r.spelled)
+          (Appends-trans out out' last (cost_lines s.tried) (end_text found) s.lines
+          w.out_grows) in
           subst (λ st. EndsAs profile text out last proof proof' st old new)
-            (sym w.status_is) (record {
+          (sym w.status_is) (record {
             written = result_text r.before r.said;
             proved = proof_text found;
             out_grows = whole;
@@ -225,8 +228,8 @@ module _ (profile : Profile) (text : Option (List ℕ)) (p : Problem)
 
       -- a fault of the result's writer
       output_leaves : AppendsPart out' last (end_text found)
-        → Appends proof proof' (proof_text found) → IsSpelledProof found
-        → LeavesResult profile text out last proof proof'
+          → Appends proof proof' (proof_text found) → IsSpelledProof found
+          → LeavesResult profile text out last proof proof'
       output_leaves part grows spelled =
           let r = spells found s in record {
             written = cost_lines s.tried ++ part.0;
@@ -237,16 +240,18 @@ module _ (profile : Profile) (text : Option (List ℕ)) (p : Problem)
             said = r.said;
             falls = r.falls;
             honest = honest_in;
-            begins =
-              (part.1.0, r.spelled ∙ ap (λ z. cost_lines s.tried ++ z) part.1.1
-                ∙ sym (append_assoc (cost_lines s.tried) part.0 part.1.0));
+            begins = (
+              part.1.0,
+              r.spelled ∙ ap (λ z. cost_lines s.tried ++ z) part.1.1
+                  ∙ sym (append_assoc (cost_lines s.tried) part.0 part.1.0),
+            );
             no_proof = r.no_proof;
             proof_is_whole = λ n lt. r.checked n spelled;
           }
 
       -- a fault of the certificate's writer
       proof_leaves : Appends out' last [] → AppendsPart proof proof' (proof_text found)
-        → HasProof found → IsSpelledProof found → LeavesProof profile text out last proof proof'
+          → HasProof found → IsSpelledProof found → LeavesProof profile text out last proof proof'
       proof_leaves kept part has spelled =
           let r = spells found s in record {
             proved = part.0;
@@ -254,7 +259,7 @@ module _ (profile : Profile) (text : Option (List ℕ)) (p : Problem)
             before = r.before;
             said = r.said;
             out_grows =
-              subst (λ z. Appends out last (cost_lines z)) (sym r.told)
+                subst (λ z. Appends out last (cost_lines z)) (sym r.told)
                 (subst (Appends out last) (append-nil (cost_lines s.tried))
                 (Appends-trans out out' last (cost_lines s.tried) [] s.lines kept));
             proof_grows = part.2;
@@ -265,7 +270,7 @@ module _ (profile : Profile) (text : Option (List ℕ)) (p : Problem)
           }
 
       pub answer_leaves : (fault : RunFault) → LeavesAnswer fault found out' last proof proof'
-        → Leaves profile fault text out last proof proof'
+          → Leaves profile fault text out last proof proof'
       answer_leaves Output w = output_leaves w.out_part w.proof_grows w.spelled
       answer_leaves ProofOutput w = proof_leaves w.out_kept w.proof_part w.has_proof w.spelled
       answer_leaves Memory w = absurd w
@@ -273,13 +278,13 @@ module _ (profile : Profile) (text : Option (List ℕ)) (p : Problem)
 
     -- a fault while it searched
     begun : (lines part : List ℕ) (tail whole : List ℕ) → Begins part lines → whole ≡ lines ++ tail
-      → Begins part whole
+        → Begins part whole
     begun lines part tail whole b e =
-      (b.0 ++ tail, e ∙ ap (λ z. z ++ tail) b.1 ∙ append_assoc part b.0 tail)
+        (b.0 ++ tail, e ∙ ap (λ z. z ++ tail) b.1 ∙ append_assoc part b.0 tail)
 
     pub search_leaves : (proof : Option (List ℕ)) (fault : RunFault)
-      → Searches profile p (Err fault) out out' old new
-      → Leaves profile fault text out out' proof proof
+        → Searches profile p (Err fault) out out' old new
+        → Leaves profile fault text out out' proof proof
     search_leaves proof Memory s = record {
       costs = s.tried;
       out_grows = s.lines;

@@ -19,13 +19,13 @@ module _ (a b : Option (List ℕ)) (x d e : List ℕ) where
 
       pub end_fault : AppendsPart c f (j ++ e) → AppendsPart a f (x ++ (d ++ e))
       end_fault h =
-        passed_fault a c f [] j (x ++ d) e [] (x ++ (d ++ e)) numbered h (sym (append_assoc x d e)
+          passed_fault a c f [] j (x ++ d) e [] (x ++ (d ++ e)) numbered h (sym (append_assoc x d e)
           ∙ ap (λ z. (x ++ d) ++ z) (sym (append-nil e)))
 
       module _ (g : Option (List ℕ)) (k : List ℕ) (r : PassesOn c j e f k) where
         ended : PassesOn a [] (x ++ (d ++ e)) f k
         ended =
-          subst (λ z. PassesOn a [] z f k) (append_assoc x d e)
+            subst (λ z. PassesOn a [] z f k) (append_assoc x d e)
             (passed-more a c f [] j k (x ++ d) e numbered r)
 
         pub line_whole : Appends f g k → Appends a g (x ++ (d ++ e))

@@ -28,33 +28,33 @@ bits_line (b ∷ bits) =
 with_bits_text : (before : List ℕ) (c : ℕ) (bits : List Bool) (status : List (List ℕ))
     (words : List ℕ) → spaced status ≡ words
     → flat_map spaced (map cost_tokens before ++ cost_tokens c ∷ status ∷ bits_tokens bits ∷ [])
-        ≡ cost_lines (before ++ c ∷ []) ++ words_text (words ++ bits_word bits) bits
+    ≡ cost_lines (before ++ c ∷ []) ++ words_text (words ++ bits_word bits) bits
 with_bits_text before c bits status words e =
     let tail : List ℕ = spaced (bits_tokens bits) ++ [] in
     flat_map-append spaced (map cost_tokens before) (cost_tokens c ∷ status ∷ bits_tokens bits ∷ [])
     ∙ ap (λ z. z ++ (spaced (cost_tokens c) ++ (spaced status ++ tail)))
-      (flat_map-map spaced cost_tokens before)
+    (flat_map-map spaced cost_tokens before)
     ∙ sym (append_assoc (cost_lines before) (spaced (cost_tokens c)) (spaced status ++ tail))
     ∙ ap (λ z. z ++ (spaced status ++ tail))
-      (ap (λ z. cost_lines before ++ z) (sym (append-nil (spaced (cost_tokens c))))
-        ∙ sym (flat_map-append (λ d. spaced (cost_tokens d)) before (c ∷ [])))
+    (ap (λ z. cost_lines before ++ z) (sym (append-nil (spaced (cost_tokens c))))
+    ∙ sym (flat_map-append (λ d. spaced (cost_tokens d)) before (c ∷ [])))
     ∙ ap (λ z. cost_lines (before ++ c ∷ []) ++ z) (ap (λ z. z ++ tail) e
-        ∙ ap (λ z. words ++ z) (append-nil (spaced (bits_tokens bits)) ∙ bits_line bits)
-        ∙ sym (append_assoc words (bits_word bits) (digits_text bits ++ codes "\n")))
+    ∙ ap (λ z. words ++ z) (append-nil (spaced (bits_tokens bits)) ∙ bits_line bits)
+    ∙ sym (append_assoc words (bits_word bits) (digits_text bits ++ codes "\n")))
 
 pub optimum_text : (before : List ℕ) (c : ℕ) (bits : List Bool)
     → result_text before (OptimumFound c bits) ≡ cost_lines (before ++ c ∷ []) ++ words_text
     (codes "s OPTIMUM FOUND\n" ++ bits_word bits) bits
 optimum_text before c bits =
     with_bits_text before c bits (codes "s" ∷ codes "OPTIMUM" ∷ codes "FOUND" ∷ [])
-      (codes "s OPTIMUM FOUND\n") refl
+    (codes "s OPTIMUM FOUND\n") refl
 
 pub satisfiable_text : (before : List ℕ) (c : ℕ) (bits : List Bool)
     → result_text before (Satisfiable c bits) ≡ cost_lines (before ++ c ∷ []) ++ words_text
     (codes "s SATISFIABLE\n" ++ bits_word bits) bits
 satisfiable_text before c bits =
     with_bits_text before c bits (codes "s" ∷ codes "SATISFIABLE" ∷ [])
-      (codes "s SATISFIABLE\n") refl
+    (codes "s SATISFIABLE\n") refl
 
 -- costs that fall
 pub falls_to : (before : List ℕ) (c : ℕ) → AreFalling (before ++ c ∷ []) → fall_to before c
@@ -109,26 +109,90 @@ pub text_says : (before : List ℕ) (said : Said) → FallsTo before said
     → Says (result_text before said) said
 text_says before (OptimumFound c bits) h =
     let k =
-      front_all (λ d. d < 2 ^ 62) before c
-        (recursion_from_All (λ d. d < 2 ^ 62) (before ++ c ∷ []) h.1) in
-    (before, h, lines_back _
-        (all_told before _ k.0 (cost_words c k.1,
-            ((((omega arith, tt),
-                ((omega arith, (omega arith,
-                (omega arith, (omega arith, (omega arith, (omega arith, (omega arith, tt))))))),
-                ((omega arith, (omega arith, (omega arith, (omega arith, (omega arith, tt))))),
-                tt))), refl), (bits_words bits, tt)))))
+    front_all (λ d. d < 2 ^ 62) before c
+    (recursion_from_All (λ d. d < 2 ^ 62) (before ++ c ∷ []) h.1) in (
+      before,
+      h,
+      lines_back _
+          (all_told before _ k.0 (
+            cost_words c k.1,
+            (
+              (
+                (
+                  (omega arith, tt),
+                  (
+                    (
+                      omega arith,
+                      (
+                        omega arith,
+                        (
+                          omega arith,
+                          (
+                            omega arith,
+                            (omega arith, (omega arith, (omega arith, tt))),
+                          ),
+                        ),
+                      ),
+                    ),
+                    (
+                      (omega arith, (omega arith, (omega arith, (omega arith, (omega arith, tt))))),
+                      tt,
+                    ),
+                  ),
+                ),
+                refl,
+              ),
+              (bits_words bits, tt),
+            ),
+          )),
+    )
 text_says before (Satisfiable c bits) h =
     let k =
-      front_all (λ d. d < 2 ^ 62) before c
-        (recursion_from_All (λ d. d < 2 ^ 62) (before ++ c ∷ []) h.1) in
-    (before, h, lines_back _
-        (all_told before _ k.0 (cost_words c k.1,
-            ((((omega arith, tt),
-                ((omega arith, (omega arith,
-                (omega arith, (omega arith,
-                (omega arith, (omega arith,
-                (omega arith, (omega arith, (omega arith, (omega arith, (omega arith, tt))))))))))),
-                tt)), refl), (bits_words bits, tt)))))
+    front_all (λ d. d < 2 ^ 62) before c
+    (recursion_from_All (λ d. d < 2 ^ 62) (before ++ c ∷ []) h.1) in (
+      before,
+      h,
+      lines_back _
+          (all_told before _ k.0 (
+            cost_words c k.1,
+            (
+              (
+                (
+                  (omega arith, tt),
+                  (
+                    (
+                      omega arith,
+                      (
+                        omega arith,
+                        (
+                          omega arith,
+                          (
+                            omega arith,
+                            (
+                              omega arith,
+                              (
+                                omega arith,
+                                (
+                                  omega arith,
+                                  (
+                                    omega arith,
+                                    (omega arith, (omega arith, (omega arith, tt))),
+                                  ),
+                                ),
+                              ),
+                            ),
+                          ),
+                        ),
+                      ),
+                    ),
+                    tt,
+                  ),
+                ),
+                refl,
+              ),
+              (bits_words bits, tt),
+            ),
+          )),
+    )
 text_says before Unsatisfiable h = (before, h, refl)
 text_says before Unknown h = (before, h, refl)

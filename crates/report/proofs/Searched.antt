@@ -29,13 +29,13 @@ costs_small p costs h all =
 module _ (profile : Profile) (p : Problem) (limits : IsInstance p) (old new : Telling)
     (budget left : BudgetState) (out out' : Option (List ℕ)) (no_memory : Bool)
     (none : old.told ≡ []) (fresh : old.failures ≡ 0)
-      (tells : Tells out out' new.told new.failed no_memory new.failures) where
+    (tells : Tells out out' new.told new.failed no_memory new.failures) where
   told_is : (result : Result Found ImproveFault) (i : Improves profile p result old new budget left)
-    → new.told ≡ i.told
+      → new.told ≡ i.told
   told_is result i = i.tells ∙ ap (λ z. z ++ i.told) none
 
   search_found : (found : Found) → Improves profile p (Ok found) old new budget left
-    → Searches profile p (Ok found) out out' budget left
+      → Searches profile p (Ok found) out out' budget left
   search_found found i =
       let same : new.told ≡ i.tried = told_is (Ok found) i ∙ sym i.tells_of in
       let ended : new.failures ≡ 0 = i.no_failure (λ e. absurd (cc)) ∙ fresh in
@@ -53,7 +53,7 @@ module _ (profile : Profile) (p : Problem) (limits : IsInstance p) (old new : Te
       }
 
   search_fault : (fault : RunFault) (tried : List ℕ) → left.limit ≡ budget.limit → AreFalling tried
-    → All (IsCostOfSome p) tried → HasLines (Err fault) tried out out'
+      → All (IsCostOfSome p) tried → HasLines (Err fault) tried out out'
       → Searches profile p (Err fault) out out' budget left
   search_fault fault tried same falling honest lines = record {
     tried = tried;
@@ -69,47 +69,49 @@ module _ (profile : Profile) (p : Problem) (limits : IsInstance p) (old new : Te
   }
 
   search_memory : Improves profile p (Err SearchMemory) old new budget left
-    → Searches profile p (Err Memory) out out' budget left
+      → Searches profile p (Err Memory) out out' budget left
   search_memory i =
       let same : new.told ≡ i.tried = told_is (Err SearchMemory) i ∙ sym i.tells_of in
       let ended : new.failures ≡ 0 = i.no_failure (λ e. absurd (cc)) ∙ fresh in
       search_fault Memory i.tried i.same_limit i.falling i.honest
-        (subst (λ z. Appends out out' (cost_lines z)) same (tells.all_told ended))
+      (subst (λ z. Appends out out' (cost_lines z)) same (tells.all_told ended))
 
   failed_once : (i : Improves profile p (Err Progress) old new budget left) → new.failures ≡ 1
   failed_once i = i.progress refl ∙ ap (λ n. n + 1) fresh
 
   search_refused : Improves profile p (Err Progress) old new budget left → no_memory ≡ true
-    → Searches profile p (Err Memory) out out' budget left
+      → Searches profile p (Err Memory) out out' budget left
   search_refused i e =
       search_fault Memory i.told i.same_limit
-        (told_fall (Err Progress) i.tried i.told new.failed i.tells_of i.falling)
+      (told_fall (Err Progress) i.tried i.told new.failed i.tells_of i.falling)
       (told_each (IsCostOfSome p) (Err Progress) i.tried i.told new.failed i.tells_of i.honest)
       (subst (λ z. Appends out out' (cost_lines z)) (told_is (Err Progress) i)
-          (tells.refused (failed_once i) e))
+      (tells.refused (failed_once i) e))
 
   search_broke : Improves profile p (Err Progress) old new budget left → no_memory ≡ false
-    → Searches profile p (Err Output) out out' budget left
+      → Searches profile p (Err Output) out out' budget left
   search_broke i e =
       let t = i.tells_of in
       let same : new.told ++ t.last ∷ [] ≡ i.tried =
-        ap (λ z. z ++ t.last ∷ []) (told_is (Err Progress) i) ∙ sym t.tried_is in
-      search_fault Output i.tried i.same_limit i.falling i.honest
-      (subst (λ z. AppendsPart out out' (cost_lines z)) same
-          (tells.broken t.last (failed_once i) e t.last_failed), (t.last, (i.told, t.tried_is)))
+      ap (λ z. z ++ t.last ∷ []) (told_is (Err Progress) i) ∙ sym t.tried_is in
+      search_fault Output i.tried i.same_limit i.falling i.honest (
+        subst (λ z. AppendsPart out out' (cost_lines z)) same
+            (tells.broken t.last (failed_once i) e t.last_failed),
+        (t.last, (i.told, t.tried_is)),
+      )
 
   search_failed : Improves profile p (Err Progress) old new budget left
-    → Searches profile p (Err (fault_of_telling no_memory)) out out' budget left
+      → Searches profile p (Err (fault_of_telling no_memory)) out out' budget left
   search_failed i =
       elim no_memory as (λ b. no_memory ≡ b
-          → Searches profile p (Err (fault_of_telling b)) out out' budget left) [
+      → Searches profile p (Err (fault_of_telling b)) out out' budget left) [
         | true ↦ λ e. search_refused i e
         | false ↦ λ e. search_broke i e
       ] refl
 
   pub search_ended : (result : Result Found ImproveFault)
-    → Improves profile p result old new budget left
-    → Searches profile p (outcome_of result (fault_of_telling no_memory)) out out' budget left
+      → Improves profile p result old new budget left
+      → Searches profile p (outcome_of result (fault_of_telling no_memory)) out out' budget left
   search_ended (Ok found) i = search_found found i
   search_ended (Err SearchMemory) i = search_memory i
   search_ended (Err Progress) i = search_failed i
@@ -119,6 +121,9 @@ pub tells_none : (a : Option (List ℕ)) (costs : List ℕ) (failed : Option ℕ
     (failures : ℕ) → (costs ≡ []) × (failures ≡ 0) → Tells a a costs failed no_memory failures
 tells_none a costs failed no_memory failures n =
     let all : Appends a a (cost_lines costs) =
-      subst (λ z. Appends a a (cost_lines z)) (sym n.0) (Appends-nil a) in
-    record { all_told = λ z. all; refused = λ z m. all;
-        broken = λ k z m s. absurd (omega (arith, n.1)) }
+    subst (λ z. Appends a a (cost_lines z)) (sym n.0) (Appends-nil a) in
+    record {
+      all_told = λ z. all;
+      refused = λ z m. all;
+      broken = λ k z m s. absurd (omega (arith, n.1));
+    }

@@ -18,13 +18,13 @@ are_marked-without : (marks : List Bool) (p : Literal) (a : List Literal)
 are_marked-without marks p [] m = refl
 are_marked-without marks p (k ∷ a) m =
     elim (mark_of marks k) as (λ x. mark_of marks k ≡ x → (if x then are_marked marks a else false)
-        ≡ true → are_marked marks (without_literal p (k ∷ a)) ≡ true) [
+    ≡ true → are_marked marks (without_literal p (k ∷ a)) ≡ true) [
       | true ↦ λ here rest. elim (literal_eq p k)
-        as (λ b. are_marked marks (if not b then k ∷ without_literal p a else without_literal p a)
+          as (λ b. are_marked marks (if not b then k ∷ without_literal p a else without_literal p a)
           ≡ true) [
-        | true ↦ are_marked-without marks p a rest
-        | false ↦ rw here (are_marked-without marks p a rest)
-      ]
+            | true ↦ are_marked-without marks p a rest
+            | false ↦ rw here (are_marked-without marks p a rest)
+          ]
       | false ↦ λ here rest. absurd (false≢true rest)
     ] refl m
 
@@ -62,12 +62,12 @@ apart_so_far : (marks : List Bool) (c : List Literal) (i : ℕ) (l : Literal) �
     → against_of marks c ≡ Apart
 apart_so_far marks c i l h is m e =
     let whole : unmarked marks c ≡ unmarked marks (take (i + 1) c) ++ unmarked marks
-      (drop (i + 1) c) =
+    (drop (i + 1) c) =
     ap (unmarked marks) (sym (take-append-drop (i + 1) c))
-      ∙ filter-append (λ k. not (mark_of marks k)) (take (i + 1) c) (drop (i + 1) c) in
+    ∙ filter-append (λ k. not (mark_of marks k)) (take (i + 1) c) (drop (i + 1) c) in
     ap (against_without marks) whole
     ∙ apart-append marks (unmarked marks (take (i + 1) c)) (unmarked marks (drop (i + 1) c))
-      (ap (against_without marks) (unmarked_next marks c i l h is m) ∙ e)
+    (ap (against_without marks) (unmarked_next marks c i l h is m) ∙ e)
 
 -- a literal of which neither sign is marked
 pub apart_neither : (marks : List Bool) (c : List Literal) (i : ℕ) (l : Literal) (found : Against)
@@ -76,7 +76,7 @@ pub apart_neither : (marks : List Bool) (c : List Literal) (i : ℕ) (l : Litera
 apart_neither marks c i l Apart h is m opposite lies = absurd lies
 apart_neither marks c i l Within h is m opposite lies =
     apart_so_far marks c i l h is m (ap (λ u. against_without marks (u ++ l ∷ [])) lies
-      ∙ rw opposite refl)
+    ∙ rw opposite refl)
 apart_neither marks c i l (ButFor k) h is m opposite lies =
     apart_so_far marks c i l h is m (ap (λ u. against_without marks (u ++ l ∷ [])) lies.0)
 
@@ -94,7 +94,7 @@ none_unmarked : (marks : List Bool) (c : List Literal) → unmarked marks c ≡ 
 none_unmarked marks [] none = refl
 none_unmarked marks (k ∷ c) none =
     elim (mark_of marks k) as (λ b. (if not b then k ∷ unmarked marks c else unmarked marks c) ≡ []
-        → (if b then are_marked marks c else false) ≡ true) [
+    → (if b then are_marked marks c else false) ≡ true) [
       | true ↦ λ rest. none_unmarked marks c rest
       | false ↦ λ rest. absurd (omega (arith, ap length rest))
     ] none
@@ -104,22 +104,22 @@ one_unmarked : (marks : List Bool) (c : List Literal) (l : Literal) → unmarked
 one_unmarked marks [] l one = absurd (omega (arith, ap length one))
 one_unmarked marks (k ∷ c) l one =
     elim (mark_of marks k) as (λ b. mark_of marks k ≡ b
-        → (if not b then k ∷ unmarked marks c else unmarked marks c) ≡ l ∷ []
-        → (contains_literal l (k ∷ c) ≡ true)
-        × (are_marked marks (without_literal l (k ∷ c)) ≡ true)) [
+    → (if not b then k ∷ unmarked marks c else unmarked marks c) ≡ l ∷ []
+    → (contains_literal l (k ∷ c) ≡ true)
+    × (are_marked marks (without_literal l (k ∷ c)) ≡ true)) [
       | true ↦ λ here rest. let more = one_unmarked marks c l rest in (
         or_right (literal_eq l k) (contains_literal l c) more.0,
         elim (literal_eq l k) as (λ b. are_marked marks (if not b then k ∷ without_literal l c
-              else without_literal l c) ≡ true) [
-          | true ↦ more.1
-          | false ↦ rw here more.1
-        ],
+            else without_literal l c) ≡ true) [
+              | true ↦ more.1
+              | false ↦ rw here more.1
+            ],
       )
       | false ↦ λ here rest.
           let same : literal_eq l k ≡ true = ap (λ u. literal_eq l (get_or u 0 l)) rest
-            ∙ literal_eq-refl l in
+          ∙ literal_eq-refl l in
           let more : are_marked marks (without_literal l c) ≡ true =
-            are_marked-without marks l c (none_unmarked marks c (ap (drop 1) rest)) in
+          are_marked-without marks l c (none_unmarked marks c (ap (drop 1) rest)) in
           (or_left (literal_eq l k) (contains_literal l c) same, rw same more)
     ] refl one
 

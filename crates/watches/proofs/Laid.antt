@@ -15,7 +15,7 @@ use Rattle.watches.specs.declared.pool.Entry.{Entry}
 use Rattle.watches.specs.declared.pool.Head.{Head}
 
 pub at_range : (b : List Entry) (s n k : ℕ) → k < n → get_or (slice_range b s (s + n)) k no_entry
-      ≡ get_or b (s + k) no_entry
+    ≡ get_or b (s + k) no_entry
 at_range b s n k lt =
     let l : k < (s + n) - s = omega arith in
     get_or-take ((s + n) - s) (drop s b) k no_entry l ∙ get_or-drop s b k no_entry
@@ -35,7 +35,7 @@ range_set_outside b p e s n h out =
     let l : k < n = omega (arith, long_range (slice_set b p e) s n h') in
     let other : s + k ≢ p = omega arith in
     at_range (slice_set b p e) s n k l ∙ get_or-set_other b p (s + k) e no_entry other
-      ∙ sym (at_range b s n k l))
+    ∙ sym (at_range b s n k l))
 
 pub range_set_inside : (b : List Entry) (i : ℕ) (e : Entry) (s n : ℕ) → s + n ≤ length b → i < n
     → slice_range (slice_set b (s + i) e) s (s + n) ≡ slice_set (slice_range b s (s + n)) i e
@@ -44,7 +44,7 @@ range_set_inside b i e s n h li =
     let within : i < length (slice_range b s (s + n)) = omega (arith, long_range b s n h) in
     let there : s + i < length b = omega arith in
     ext_get_or no_entry _ _ (long_range (slice_set b (s + i) e) s n h' ∙ sym (long_range b s n h)
-        ∙ sym (length-set (slice_range b s (s + n)) i e))
+    ∙ sym (length-set (slice_range b s (s + n)) i e))
     (λ k lt.
     let l : k < n = omega (arith, long_range (slice_set b (s + i) e) s n h') in
     at_range (slice_set b (s + i) e) s n k l ∙ elim (cases_eq k i) [
@@ -53,44 +53,44 @@ range_set_inside b i e s n h li =
       | inr other ↦
           let apart : s + k ≢ s + i = omega arith in
           get_or-set_other b (s + i) (s + k) e no_entry apart ∙ sym (at_range b s n k l)
-            ∙ sym (get_or-set_other (slice_range b s (s + n)) i k e no_entry other)
+          ∙ sym (get_or-set_other (slice_range b s (s + n)) i k e no_entry other)
     ])
 
 -- a write to a place of a row is seen in that row alone
 pub rows_set : (b : List Entry) (rows : List Head) (used : ℕ) → IsLaid b rows used
     → (i k : ℕ) (e : Entry) → i < length rows → k < (get_or rows i no_head).length
     → rows_of (slice_set b ((get_or rows i no_head).start + k) e) rows ≡ slice_set (rows_of b rows)
-      i (slice_set (get_or (rows_of b rows) i []) k e)
+    i (slice_set (get_or (rows_of b rows) i []) k e)
 rows_set b rows used laid i k e li lk =
     let p : ℕ = (get_or rows i no_head).start + k in
     let b' : List Entry = slice_set b p e in
     let fi = laid.filled i li in let ii = laid.inside i li in
     ext_get_or [] _ _ (length-map rows (row_of b')
-        ∙ sym (length-set (rows_of b rows) i _ ∙ length-map rows (row_of b)))
+    ∙ sym (length-set (rows_of b rows) i _ ∙ length-map rows (row_of b)))
     (λ j lt.
     let lj : j < length rows = omega (arith, length-map rows (row_of b')) in
     let fj = laid.filled j lj in let ij = laid.inside j lj in
     let fits : (get_or rows j no_head).start + (get_or rows j no_head).length ≤ length b =
-      omega (arith, laid.used_fits) in
+    omega (arith, laid.used_fits) in
     get_or-map (row_of b') rows j no_head [] lj ∙ elim (cases_eq j i) [
       | inl same ↦
           let fiti : (get_or rows i no_head).start + (get_or rows i no_head).length ≤ length b =
-            omega (arith, laid.used_fits) in
+          omega (arith, laid.used_fits) in
           let here : i < length (rows_of b rows) = omega (arith, length-map rows (row_of b)) in
           rw same (range_set_inside b k e (get_or rows i no_head).start
-              (get_or rows i no_head).length fiti lk
+          (get_or rows i no_head).length fiti lk
           ∙ ap (λ r. slice_set r k e) (sym (get_or-map (row_of b) rows i no_head [] li))
           ∙ sym (get_or-set_same (rows_of b rows) i (slice_set (get_or (rows_of b rows) i []) k e)
-              [] here))
+          [] here))
       | inr other ↦
           let a = laid.apart j i lj li other in
           let out : (p < (get_or rows j no_head).start)
-              ⊎ ((get_or rows j no_head).start + (get_or rows j no_head).length ≤ p) =
+          ⊎ ((get_or rows j no_head).start + (get_or rows j no_head).length ≤ p) =
           elim a [ inl x ↦ inr (omega arith) | inr x ↦ inl (omega arith) ] in
           range_set_outside b p e (get_or rows j no_head).start
-            (get_or rows j no_head).length fits out
+          (get_or rows j no_head).length fits out
           ∙ sym (get_or-set_other (rows_of b rows) i j _ [] other
-              ∙ get_or-map (row_of b) rows j no_head [] lj)
+          ∙ get_or-map (row_of b) rows j no_head [] lj)
     ])
 
 -- the length of a row
@@ -98,9 +98,9 @@ pub long_row : (b : List Entry) (rows : List Head) (used : ℕ) → IsLaid b row
     → i < length rows → length (get_or (rows_of b rows) i []) ≡ (get_or rows i no_head).length
 long_row b rows used laid i li =
     let fiti : (get_or rows i no_head).start + (get_or rows i no_head).length ≤ length b =
-      omega (arith, laid.used_fits, laid.filled i li, laid.inside i li) in
+    omega (arith, laid.used_fits, laid.filled i li, laid.inside i li) in
     ap length (get_or-map (row_of b) rows i no_head [] li)
-      ∙ long_range b (get_or rows i no_head).start (get_or rows i no_head).length fiti
+    ∙ long_range b (get_or rows i no_head).start (get_or rows i no_head).length fiti
 
 pub long_rows : (b : List Entry) (rows : List Head) → length (rows_of b rows) ≡ length rows
 long_rows b rows = length-map rows (row_of b)
@@ -109,15 +109,15 @@ pub rows_truncate : (b : List Entry) (rows : List Head) (used : ℕ) → IsLaid 
     → (i n : ℕ) (r : Head) → i < length rows → r.start ≡ (get_or rows i no_head).start
     → r.length ≡ n → n ≤ (get_or rows i no_head).length
     → rows_of b (slice_set rows i r) ≡ slice_set (rows_of b rows) i
-      (take n (get_or (rows_of b rows) i []))
+    (take n (get_or (rows_of b rows) i []))
 rows_truncate b rows used laid i n r li same_start same_length le =
     let at : row_of b r ≡ take n (get_or (rows_of b rows) i []) =
     rw (same_start, same_length, get_or-map (row_of b) rows i no_head [] li)
-      (shorter b (get_or rows i no_head).start n (get_or rows i no_head).length le) in
+    (shorter b (get_or rows i no_head).start n (get_or rows i no_head).length le) in
     map-set (row_of b) rows i r ∙ ap (λ x. slice_set (rows_of b rows) i x) at
   where
     shorter : (b : List Entry) (s n m : ℕ) → n ≤ m
-      → slice_range b s (s + n) ≡ take n (slice_range b s (s + m))
+        → slice_range b s (s + n) ≡ take n (slice_range b s (s + m))
     shorter b s n m le =
         let e : (s + n) - s ≡ n = omega arith in
         let f : (s + m) - s ≡ m = omega arith in
@@ -136,13 +136,15 @@ rows_free b rows used laid i p e li low high =
     let lj : j < length rows = omega (arith, length-map rows (row_of b')) in
     let fj = laid.filled j lj in let ij = laid.inside j lj in
     let fits : (get_or rows j no_head).start + (get_or rows j no_head).length ≤ length b =
-      omega (arith, laid.used_fits) in
+    omega (arith, laid.used_fits) in
     let out : (p < (get_or rows j no_head).start)
-        ⊎ ((get_or rows j no_head).start + (get_or rows j no_head).length ≤ p) =
+    ⊎ ((get_or rows j no_head).start + (get_or rows j no_head).length ≤ p) =
     elim (cases_eq j i) [
       | inl same ↦ inr (rw same low)
-      | inr other ↦ elim (laid.apart i j li lj (λ q. other (sym q))) [ inl x ↦ inl (omega arith)
-          | inr x ↦ inr (omega arith) ]
+      | inr other ↦ elim (laid.apart i j li lj (λ q. other (sym q))) [
+        | inl x ↦ inl (omega arith)
+        | inr x ↦ inr (omega arith)
+      ]
     ] in
     get_or-map (row_of b') rows j no_head [] lj
     ∙ range_set_outside b p e (get_or rows j no_head).start (get_or rows j no_head).length fits out
@@ -155,18 +157,18 @@ range_more b s n e lt =
     let h' : s + (n + 1) ≤ length b' = rw length-set (omega arith) in
     let lr : length (slice_range b s (s + n)) ≡ n = long_range b s n (omega arith) in
     ext_get_or no_entry _ _ (long_range b' s (n + 1) h'
-        ∙ omega (arith, length-append (slice_range b s (s + n)) (e ∷ [])))
+    ∙ omega (arith, length-append (slice_range b s (s + n)) (e ∷ [])))
     (λ k l.
     let lk : k < n + 1 = omega (arith, long_range b' s (n + 1) h') in
     at_range b' s (n + 1) k lk ∙ elim (cases_eq k n) [
       | inl same ↦ rw same (get_or-set_same b (s + n) e no_entry lt
           ∙ sym (subst (λ (q : ℕ). get_or (slice_range b s (s + n) ++ e ∷ []) q no_entry ≡ e) lr
-            (get_or-append_seam (slice_range b s (s + n)) e [] no_entry)))
+          (get_or-append_seam (slice_range b s (s + n)) e [] no_entry)))
       | inr other ↦
           let less : k < n = omega arith in
           let apart : s + k ≢ s + n = omega arith in
           get_or-set_other b (s + n) (s + k) e no_entry apart ∙ sym (at_range b s n k less)
-            ∙ sym (get_or-append (slice_range b s (s + n)) (e ∷ []) no_entry k (omega arith))
+          ∙ sym (get_or-append (slice_range b s (s + n)) (e ∷ []) no_entry k (omega arith))
     ])
 
 pub rows_put : (b : List Entry) (rows : List Head) (used : ℕ) → IsLaid b rows used
@@ -174,7 +176,7 @@ pub rows_put : (b : List Entry) (rows : List Head) (used : ℕ) → IsLaid b row
     → (get_or rows i no_head).length < (get_or rows i no_head).room
     → r.start ≡ (get_or rows i no_head).start → r.length ≡ (get_or rows i no_head).length + 1
     → rows_of (slice_set b ((get_or rows i no_head).start + (get_or rows i no_head).length) e)
-      (slice_set rows i r) ≡ slice_set (rows_of b rows) i (get_or (rows_of b rows) i [] ++ e ∷ [])
+    (slice_set rows i r) ≡ slice_set (rows_of b rows) i (get_or (rows_of b rows) i [] ++ e ∷ [])
 rows_put b rows used laid i e r li room same_start longer =
     let s : ℕ = (get_or rows i no_head).start in let n : ℕ = (get_or rows i no_head).length in
     let p : ℕ = s + n in
@@ -182,9 +184,9 @@ rows_put b rows used laid i e r li room same_start longer =
     let fits : s + n < length b = omega (arith, laid.used_fits, laid.inside i li) in
     let row : row_of b' r ≡ get_or (rows_of b rows) i [] ++ e ∷ [] =
     rw (same_start, longer) (range_more b s n e fits
-        ∙ ap (λ x. x ++ e ∷ []) (sym (get_or-map (row_of b) rows i no_head [] li))) in
+    ∙ ap (λ x. x ++ e ∷ []) (sym (get_or-map (row_of b) rows i no_head [] li))) in
     map-set (row_of b') rows i r
-      ∙ rw (rows_free b rows used laid i p e li (omega arith) (omega arith), row) refl
+    ∙ rw (rows_free b rows used laid i p e li (omega arith) (omega arith), row) refl
 
 -- a block that agrees on the part in use has the same rows
 pub rows_same : (b b' : List Entry) (rows : List Head) (used : ℕ) → IsLaid b rows used
@@ -208,10 +210,11 @@ rows_same b b' rows used laid room same =
 module _ (b b' : List Entry) (rows : List Head) (used : ℕ) (laid : IsLaid b rows used) (i room : ℕ)
     (r : Head) (li : i < length rows)
     (at : r.start ≡ used) (same_length : r.length ≡ (get_or rows i no_head).length)
-      (same_room : r.room ≡ room) (enough : (get_or rows i no_head).length ≤ room)
+    (same_room : r.room ≡ room) (enough : (get_or rows i no_head).length ≤ room)
     (fits : used + room ≤ length b') (bounded : used + room < 2 ^ 63) where
   moved_filled : (j : ℕ) → j < length (slice_set rows i r)
-    → (get_or (slice_set rows i r) j no_head).length ≤ (get_or (slice_set rows i r) j no_head).room
+      → (get_or (slice_set rows i r) j no_head).length
+      ≤ (get_or (slice_set rows i r) j no_head).room
   moved_filled j lj =
       let l : j < length rows = omega (arith, length-set rows i r) in
       elim (cases_eq j i) [
@@ -220,18 +223,18 @@ module _ (b b' : List Entry) (rows : List Head) (used : ℕ) (laid : IsLaid b ro
       ]
 
   moved_inside : (j : ℕ) → j < length (slice_set rows i r)
-    → (get_or (slice_set rows i r) j no_head).start + (get_or (slice_set rows i r) j no_head).room
-    ≤ used + room
+      → (get_or (slice_set rows i r) j no_head).start + (get_or (slice_set rows i r) j no_head).room
+      ≤ used + room
   moved_inside j lj =
       let l : j < length rows = omega (arith, length-set rows i r) in
       elim (cases_eq j i) [
         | inl same ↦ rw (same, get_or-set_same rows i r no_head li) (omega arith)
         | inr other ↦ rw (get_or-set_other rows i j r no_head other)
-          (omega (arith, laid.inside j l))
+            (omega (arith, laid.inside j l))
       ]
 
   moved_apart : (j k : ℕ) → j < length (slice_set rows i r) → k < length (slice_set rows i r)
-    → j ≢ k → ((get_or (slice_set rows i r) j no_head).start
+      → j ≢ k → ((get_or (slice_set rows i r) j no_head).start
       + (get_or (slice_set rows i r) j no_head).room
       ≤ (get_or (slice_set rows i r) k no_head).start)
       ⊎ ((get_or (slice_set rows i r) k no_head).start
@@ -243,39 +246,52 @@ module _ (b b' : List Entry) (rows : List Head) (used : ℕ) (laid : IsLaid b ro
       elim (cases_eq j i) [
         | inl same ↦
             let other : k ≢ i = λ q. ne (same ∙ sym q) in
-            rw (same, get_or-set_same rows i r no_head li,
-                get_or-set_other rows i k r no_head other) (inr (omega (arith, laid.inside k m)))
+            rw (
+              same,
+              get_or-set_same rows i r no_head li,
+              get_or-set_other rows i k r no_head other,
+            ) (inr (omega (arith, laid.inside k m)))
         | inr away ↦ elim (cases_eq k i) [
-          | inl here ↦ rw (here, get_or-set_same rows i r no_head li,
-              get_or-set_other rows i j r no_head away) (inl (omega (arith, laid.inside j l)))
-          | inr other ↦ rw (get_or-set_other rows i j r no_head away,
-              get_or-set_other rows i k r no_head other) (laid.apart j k l m ne)
+          | inl here ↦ rw (
+            here,
+            get_or-set_same rows i r no_head li,
+            get_or-set_other rows i j r no_head away,
+          ) (inl (omega (arith, laid.inside j l)))
+          | inr other ↦ rw (
+            get_or-set_other rows i j r no_head away,
+            get_or-set_other rows i k r no_head other,
+          ) (laid.apart j k l m ne)
         ]
       ]
 
   pub laid_moved : IsLaid b' (slice_set rows i r) (used + room)
   laid_moved =
-    record { used_fits = fits; small = bounded; filled = moved_filled; inside = moved_inside;
-      apart = moved_apart }
+      record {
+        used_fits = fits;
+        small = bounded;
+        filled = moved_filled;
+        inside = moved_inside;
+        apart = moved_apart;
+      }
 
   pub rows_moved : ((k : ℕ) → k < used → get_or b' k no_entry ≡ get_or b k no_entry)
-    → ((k : ℕ) → k < (get_or rows i no_head).length
+      → ((k : ℕ) → k < (get_or rows i no_head).length
       → get_or b' (used + k) no_entry ≡ get_or b ((get_or rows i no_head).start + k) no_entry)
       → rows_of b' (slice_set rows i r) ≡ rows_of b rows
   rows_moved kept copied =
       let s : ℕ = (get_or rows i no_head).start in let n : ℕ = (get_or rows i no_head).length in
       let there : used + n ≤ length b' = omega arith in
       let here : s + n ≤ length b =
-        omega (arith, laid.used_fits, laid.inside i li, laid.filled i li) in
+      omega (arith, laid.used_fits, laid.inside i li, laid.filled i li) in
       let row : row_of b' r ≡ get_or (rows_of b rows) i [] =
       rw (at, same_length) (ext_get_or no_entry (slice_range b' used (used + n))
-          (slice_range b s (s + n)) (long_range b' used n there ∙ sym (long_range b s n here))
+      (slice_range b s (s + n)) (long_range b' used n there ∙ sym (long_range b s n here))
       (λ k l.
       let lk : k < n = omega (arith, long_range b' used n there) in
       at_range b' used n k lk ∙ copied k lk ∙ sym (at_range b s n k lk))
       ∙ sym (get_or-map (row_of b) rows i no_head [] li)) in
       map-set (row_of b') rows i r ∙ rw (rows_same b b' rows used laid (omega arith) kept, row)
-        (set-get_or (rows_of b rows) i [])
+      (set-get_or (rows_of b rows) i [])
 
 pub rows_none : (b : List Entry) (n : ℕ) → rows_of b (replicate n no_head) ≡ replicate n []
 rows_none b zero = refl

@@ -45,22 +45,22 @@ module _ (old : List Attachment) (ms : Renaming) (rising : IsStrictlyIncreasing 
 
   -- a place that a move leads to
   pub moving_hit : (new : List Attachment) (at next : ℕ) (p : Attachment)
-    → IsMoving old new ms at next → at < length old → next < length ms → new_at ms next ≡ at
-    → p ≡ attachment_in new (old_at ms next)
+      → IsMoving old new ms at next → at < length old → next < length ms → new_at ms next ≡ at
+      → p ≡ attachment_in new (old_at ms next)
       → IsMoving old (set new at p) ms (at + 1) (next + 1)
   moving_hit new at next p m lt some e is = record {
     later = λ j h. let ne : j ≢ at = omega arith in attachment_set_other new at j p ne
-      ∙ m.later j (omega arith);
+        ∙ m.later j (omega arith);
     to = λ i h. elim (cases_lt i next) [
       | inl less ↦ let ne : new_at ms i ≢ at = omega (arith, m.below i less) in
-        attachment_set_other new at (new_at ms i) p ne ∙ m.to i less
+          attachment_set_other new at (new_at ms i) p ne ∙ m.to i less
       | inr more ↦
           let same : i ≡ next = omega arith in
           let here : new_at ms i ≡ at = ap (new_at ms) same ∙ e in
           let low : at ≤ old_at ms next = omega (arith, lower next (0, 0) some) in
           ap (attachment_in (set new at p)) here
-            ∙ attachment_set_same new at p (omega (arith, m.long)) ∙ is
-            ∙ m.later (old_at ms next) low ∙ ap (λ k. attachment_in old (old_at ms k)) (sym same)
+          ∙ attachment_set_same new at p (omega (arith, m.long)) ∙ is
+          ∙ m.later (old_at ms next) low ∙ ap (λ k. attachment_in old (old_at ms k)) (sym same)
     ];
     from = λ j h k. elim (cases_lt j at) [
       | inl less ↦
@@ -80,26 +80,29 @@ module _ (old : List Attachment) (ms : Renaming) (rising : IsStrictlyIncreasing 
 
   -- a place that none does
   pub moving_gap : (new : List Attachment) (at next : ℕ) → IsMoving old new ms at next
-    → at < length old → (next < length ms → new_at ms next ≢ at)
+      → at < length old → (next < length ms → new_at ms next ≢ at)
       → IsMoving old (set new at Detached) ms (at + 1) next
   moving_gap new at next m lt none = record {
     later = λ j h. let ne : j ≢ at = omega arith in attachment_set_other new at j Detached ne
-      ∙ m.later j (omega arith);
+        ∙ m.later j (omega arith);
     to = λ i h. let ne : new_at ms i ≢ at = omega (arith, m.below i h) in
-      attachment_set_other new at (new_at ms i) Detached ne ∙ m.to i h;
+        attachment_set_other new at (new_at ms i) Detached ne ∙ m.to i h;
     from = λ j h k. elim (cases_lt j at) [
       | inl less ↦ let ne : j ≢ at = omega arith in
-        m.from j less (ap is_kept (sym (attachment_set_other new at j Detached ne)) ∙ k)
+          m.from j less (ap is_kept (sym (attachment_set_other new at j Detached ne)) ∙ k)
       | inr more ↦
           let same : j ≡ at = omega arith in
           absurd (false≢true
-              (sym (ap is_kept (ap (attachment_in (set new at Detached)) same
-                    ∙ attachment_set_same new at Detached (omega (arith, m.long)))) ∙ k))
+          (sym (ap is_kept (ap (attachment_in (set new at Detached)) same
+          ∙ attachment_set_same new at Detached (omega (arith, m.long)))) ∙ k))
     ];
     below = λ i h. omega (arith, m.below i h);
     above = λ i h l. elim (cases_lt next i) [
-      | inl less ↦ omega (arith, new_rise ms rising next i less l,
-          m.above next (omega arith) (omega arith))
+      | inl less ↦ omega (
+        arith,
+        new_rise ms rising next i less l,
+        m.above next (omega arith) (omega arith),
+      )
       | inr more ↦
           let same : i ≡ next = omega arith in
           let ne : new_at ms next ≢ at = none (omega arith) in
@@ -112,7 +115,7 @@ module _ (old : List Attachment) (ms : Renaming) (rising : IsStrictlyIncreasing 
   }
 
   pub moving_end : (new : List Attachment) (at next : ℕ) → IsMoving old new ms at next
-    → length old ≤ at → IsMoved old new ms
+      → length old ≤ at → IsMoved old new ms
   moving_end new at next m done = record {
     to = λ i h. elim (cases_lt i next) [
       | inl less ↦ m.to i less
@@ -120,7 +123,7 @@ module _ (old : List Attachment) (ms : Renaming) (rising : IsStrictlyIncreasing 
           let far : at ≤ new_at ms i = m.above i more h in
           let low : new_at ms i ≤ old_at ms i = lower i (0, 0) h in
           get_or_past new (new_at ms i) Detached (omega (arith, m.long))
-            ∙ sym (get_or_past old (old_at ms i) Detached (omega arith))
+          ∙ sym (get_or_past old (old_at ms i) Detached (omega arith))
     ];
     from = λ q k. elim (cases_lt q at) [
       | inl less ↦ let z = m.from q less k in (z.0, omega (arith, z.1, m.within), z.2)

@@ -19,12 +19,15 @@ pub attachments_past : (ks : List Kind) (ps : List Pair) (r : ℕ) → length ps
     → length ks ≤ r → NoAttachment ≡ attachment_in (attachments ks ps) r
 attachments_past ks ps r h le =
     sym (get_or_past (attachments ks ps) r NoAttachment
-      (omega (arith, length-zipped attachment_of ks ps h)))
+    (omega (arith, length-zipped attachment_of ks ps h)))
 
 any_pair : Pair
 any_pair =
-    record { one = record { variable = 0; negated = false };
-      other = record { variable = 0; negated = false }; rest = Many }
+    record {
+      one = record { variable = 0; negated = false };
+      other = record { variable = 0; negated = false };
+      rest = Many;
+    }
 
 -- a place without literals, as it is read
 pub attachments_kind : (ks : List Kind) (ps : List Pair) (r : ℕ) (x k : Kind) (P : Attachment)
@@ -32,8 +35,8 @@ pub attachments_kind : (ks : List Kind) (ps : List Pair) (r : ℕ) (x k : Kind) 
     → ((p : Pair) → attachment_of k p ≡ P) → P ≡ attachment_in (attachments ks ps) r
 attachments_kind ks ps r x k P h l at is of =
     sym (get_or-zipped attachment_of ks ps r NoAttachment x any_pair h l
-        ∙ ap (λ z. attachment_of z (get_or ps r any_pair)) (sym at ∙ is)
-        ∙ of (get_or ps r any_pair))
+    ∙ ap (λ z. attachment_of z (get_or ps r any_pair)) (sym at ∙ is)
+    ∙ of (get_or ps r any_pair))
 
 -- a place with literals, as it is read
 pub attachments_pair : (ks : List Kind) (ps : List Pair) (r : ℕ) (x : Kind) (p : Pair)
@@ -41,8 +44,8 @@ pub attachments_pair : (ks : List Kind) (ps : List Pair) (r : ℕ) (x : Kind) (p
     → WatchingAttachment p.one p.other p.rest ≡ attachment_in (attachments ks ps) r
 attachments_pair ks ps r x p h l at is pair =
     sym (get_or-zipped attachment_of ks ps r NoAttachment x p h l
-        ∙ ap (λ z. attachment_of z (get_or ps r p)) (sym at ∙ is)
-        ∙ ap (attachment_of Watching) (sym pair))
+    ∙ ap (λ z. attachment_of z (get_or ps r p)) (sym at ∙ is)
+    ∙ ap (attachment_of Watching) (sym pair))
 
 pub watching_within : (ks : List Kind) (ps : List Pair) (r : ℕ) (a b : Literal)
     → IsWatching (attachment_in (attachments ks ps) r) a b → (r < length ks) × (r < length ps)
@@ -72,7 +75,7 @@ watching_pair (k ∷ ks) (q ∷ ps) (suc r) p a b at e = watching_pair ks ps r p
 pub attachments_set_pair : (ks : List Kind) (ps : List Pair) (r : ℕ) (p : Pair) (a b : Literal)
     → IsWatching (attachment_in (attachments ks ps) r) a b
     → attachments ks (set ps r p) ≡ set (attachments ks ps) r
-      (WatchingAttachment p.one p.other p.rest)
+    (WatchingAttachment p.one p.other p.rest)
 attachments_set_pair [] ps r p a b e = refl
 attachments_set_pair (x ∷ ks) [] zero p a b e = refl
 attachments_set_pair (x ∷ ks) [] (suc r) p a b e = refl
@@ -84,7 +87,7 @@ attachments_set_pair (x ∷ ks) (y ∷ ps) (suc r) p a b e =
 -- both lists grow by so many
 pub attachments_grow : (ks : List Kind) (ps : List Pair) (n : ℕ) (k : Kind) (p : Pair)
     → length ps ≡ length ks → attachments (ks ++ replicate n k) (ps ++ replicate n p)
-      ≡ attachments ks ps ++ replicate n (attachment_of k p)
+    ≡ attachments ks ps ++ replicate n (attachment_of k p)
 attachments_grow ks ps n k p h = zipped-append attachment_of ks (replicate n k) ps (replicate n p) h
     ∙ ap (λ zs. attachments ks ps ++ zs) (zipped-replicate attachment_of n k p)
 
@@ -118,12 +121,12 @@ pub beside_one : (ks : List Kind) (ps : List Pair) (r : ℕ) (p : Pair) (w o : L
     → IsWatchedBy (attachment_in (attachments ks ps) r) w p.other
 beside_one ks ps r p w o at h e = elim h [
   | inl f ↦ let q = watching_pair ks ps r p w o at f in
-    inl (f ∙ ap (λ x. WatchingAttachment w x (rest_in (attachment_in (attachments ks ps) r)))
+      inl (f ∙ ap (λ x. WatchingAttachment w x (rest_in (attachment_in (attachments ks ps) r)))
       (sym q.1))
   | inr f ↦ let q = watching_pair ks ps r p o w at f in
-    inl (f ∙ ap (λ x. WatchingAttachment x w (rest_in (attachment_in (attachments ks ps) r)))
+      inl (f ∙ ap (λ x. WatchingAttachment x w (rest_in (attachment_in (attachments ks ps) r)))
       (sym q.0 ∙ e) ∙ ap (λ x. WatchingAttachment w x
-        (rest_in (attachment_in (attachments ks ps) r))) (sym q.1))
+      (rest_in (attachment_in (attachments ks ps) r))) (sym q.1))
 ]
 
 pub beside_other : (ks : List Kind) (ps : List Pair) (r : ℕ) (p : Pair) (w o : Literal)
@@ -132,7 +135,7 @@ pub beside_other : (ks : List Kind) (ps : List Pair) (r : ℕ) (p : Pair) (w o :
 beside_other ks ps r p w o at h ne = elim h [
   | inl f ↦ absurd (ne (watching_pair ks ps r p w o at f).0)
   | inr f ↦ let q = watching_pair ks ps r p o w at f in
-    inr (f ∙ ap (λ x. WatchingAttachment x w (rest_in (attachment_in (attachments ks ps) r)))
+      inr (f ∙ ap (λ x. WatchingAttachment x w (rest_in (attachment_in (attachments ks ps) r)))
       (sym q.0))
 ]
 

@@ -36,7 +36,7 @@ begins_variable bytes v n d p lead =
       | inr z ↦ omega arith
     ] in
     let digits = all_digits (take n bytes) (λ k l. let h : k < n = omega arith in
-        rw (get_or-take n bytes k 0 h) (d.digits k h)) in
+    rw (get_or-take n bytes k 0 h) (d.digits k h)) in
     let spelled : IsNumber (take n bytes) = record {
       digits = digits;
       nonempty = omega arith;
@@ -47,7 +47,7 @@ begins_variable bytes v n d p lead =
       positive = p;
       most = d.most;
       token =
-        position_or_len_is is_blank bytes n 0 d.within
+          position_or_len_is is_blank bytes n 0 d.within
           (λ k l. digit_is_no_blank (get_or bytes k 0) (d.digits k l)) d.end;
       within = d.within;
     }
@@ -91,7 +91,7 @@ begins_negated bytes v n b =
       word = rw next (word_negated (take n bytes) v b.number b.positive);
       most = b.most;
       token = let e : position_or_len is_blank (45 ∷ bytes) ≡ 1 + position_or_len is_blank bytes =
-        refl in omega (arith, e, b.token);
+          refl in omega (arith, e, b.token);
       some = omega arith;
       within = omega (arith, b.within);
     }
@@ -127,12 +127,15 @@ literal_seen t l e h = rw (e, le-ltb 4194304 l.variable h) refl
 pub next_spaced : (w left : List ℕ) (l : Literal) (n : ℕ) → (get_or w 0 0 == 32) ≡ true
     → 0 < length w → BeginsWithLiteral (take (length w - 1) (drop 1 w)) l n
     → left ≡ take (length (take (length w - 1) (drop 1 w)) - n)
-      (drop n (take (length w - 1) (drop 1 w)))
+    (drop n (take (length w - 1) (drop 1 w)))
     → IsNextWord (tokens_of w) (Word.Literal l) (tokens_of left)
 next_spaced [] left l n e h b r = absurd (omega arith)
 next_spaced (x ∷ w) left l n e h b r =
     let space : x ≡ 32 = eqb-true x 32 e in
     let begins : BeginsWithLiteral w l n = rw (take_rest (x ∷ w) 1) at b in
     let tail : left ≡ drop n w = (rw (take_rest (x ∷ w) 1) at r) ∙ take_rest w n in
-    rw space (take n w, rw tail (tokens-spaced w l n begins),
-        literal_seen (take n w) l begins.word begins.most)
+    rw space (
+      take n w,
+      rw tail (tokens-spaced w l n begins),
+      literal_seen (take n w) l begins.word begins.most,
+    )

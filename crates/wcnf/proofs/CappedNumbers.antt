@@ -32,10 +32,10 @@ pub capped-more : (ds : List ℕ) (i v d w : ℕ) → i < length ds → v ≡ ca
     → d ≡ get_or ds i 0 → w ≡ capped (10 * v + (d - 48)) → w ≡ capped (value_on 0 (take (i + 1) ds))
 capped-more ds i v d w l before here after =
     after ∙ ap (λ n. capped (10 * n + (d - 48))) before
-      ∙ capped-digit (value_on 0 (take i ds)) (d - 48)
+    ∙ capped-digit (value_on 0 (take i ds)) (d - 48)
     ∙ ap capped (ap (λ b. 10 * value_on 0 (take i ds) + (b - 48)) here
-        ∙ sym (value_on-push 0 (take i ds) (get_or ds i 0))
-        ∙ ap (value_on 0) (sym (take_more ds i 0 l)))
+    ∙ sym (value_on-push 0 (take i ds) (get_or ds i 0))
+    ∙ ap (value_on 0) (sym (take_more ds i 0 l)))
 
 pub all_digits : (ds : List ℕ) → ((k : ℕ) → k < length ds → is_digit (get_or ds k 0) ≡ true)
     → list_all is_digit ds ≡ true

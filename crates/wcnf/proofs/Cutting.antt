@@ -43,7 +43,7 @@ bounds_at start (e ∷ es) last (suc i) h l = bounds_at e es last i h.1 (omega a
 
 pub cut_at : (start : ℕ) (ls : List Literal) (es : List ℕ) (i : ℕ) → i < length es
     → slice_get (cut_from start ls es) i
-        ≡ Some (slice_range ls (start_at start es i) (get_or es i 0))
+    ≡ Some (slice_range ls (start_at start es i) (get_or es i 0))
 cut_at start ls [] i l = absurd (omega arith)
 cut_at start ls (e ∷ es) zero l = refl
 cut_at start ls (e ∷ es) (suc i) l = cut_at e ls es i (omega arith)
@@ -51,12 +51,12 @@ cut_at start ls (e ∷ es) (suc i) l = cut_at e ls es i (omega arith)
 -- one more clause
 cut-more : (start : ℕ) (ls more : List Literal) (es : List ℕ) → RiseTo start es (length ls)
     → cut_from start (ls ++ more) (es ++ (length ls + length more) ∷ []) ≡ cut_from start ls es
-      ++ more ∷ []
+    ++ more ∷ []
 cut-more start ls more [] h =
     rw h (ap (λ c. c ∷ []) (range-appended ls more (length ls) (length ls + length more) refl refl))
 cut-more start ls more (e ∷ es) h =
     λ i. range-append ls more start e h.0 (rise-le e es (length ls) h.1) i ∷ cut-more e ls
-      more es h.1 i
+    more es h.1 i
 
 pub clause_added : (ls more : List Literal) (es : List ℕ) → AreCut ls es
     → cut_from 0 (ls ++ more) (es ++ (length ls + length more) ∷ []) ≡ cut_from 0 ls es ++ more ∷ []

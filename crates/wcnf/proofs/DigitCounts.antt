@@ -53,43 +53,121 @@ pub counted : (n a b c d e f g h : ℕ) → n < 2 ^ 27 → Tells n 10 a → Tell
     → Tells n 100000000 h → 1 + a + b + c + d + e + f + g + h ≡ length (decimal n)
 counted n a b c d e f g h small ta tb tc td te tf tg th =
     elim (cases_lt n 10) [
-      | inl lt1 ↦ omega (arith, length_1 n (omega arith), ta.1 (omega arith), tb.1 (omega arith),
-          tc.1 (omega arith), td.1 (omega arith), te.1 (omega arith), tf.1 (omega arith),
-          tg.1 (omega arith), th.1 (omega arith))
+      | inl lt1 ↦ omega (
+        arith,
+        length_1 n (omega arith),
+        ta.1 (omega arith),
+        tb.1 (omega arith),
+        tc.1 (omega arith),
+        td.1 (omega arith),
+        te.1 (omega arith),
+        tf.1 (omega arith),
+        tg.1 (omega arith),
+        th.1 (omega arith),
+      )
       | inr ge1 ↦ elim (cases_lt n 100) [
-        | inl lt2 ↦ omega (arith, length_2 n (omega arith) (omega arith), ta.0 (omega arith),
-            tb.1 (omega arith), tc.1 (omega arith), td.1 (omega arith), te.1 (omega arith),
-            tf.1 (omega arith), tg.1 (omega arith), th.1 (omega arith))
+        | inl lt2 ↦ omega (
+          arith,
+          length_2 n (omega arith) (omega arith),
+          ta.0 (omega arith),
+          tb.1 (omega arith),
+          tc.1 (omega arith),
+          td.1 (omega arith),
+          te.1 (omega arith),
+          tf.1 (omega arith),
+          tg.1 (omega arith),
+          th.1 (omega arith),
+        )
         | inr ge2 ↦ elim (cases_lt n 1000) [
-          | inl lt3 ↦ omega (arith, length_3 n (omega arith) (omega arith), ta.0 (omega arith),
-              tb.0 (omega arith), tc.1 (omega arith), td.1 (omega arith), te.1 (omega arith),
-              tf.1 (omega arith), tg.1 (omega arith), th.1 (omega arith))
+          | inl lt3 ↦ omega (
+            arith,
+            length_3 n (omega arith) (omega arith),
+            ta.0 (omega arith),
+            tb.0 (omega arith),
+            tc.1 (omega arith),
+            td.1 (omega arith),
+            te.1 (omega arith),
+            tf.1 (omega arith),
+            tg.1 (omega arith),
+            th.1 (omega arith),
+          )
           | inr ge3 ↦ elim (cases_lt n 10000) [
-            | inl lt4 ↦ omega (arith, length_4 n (omega arith) (omega arith), ta.0 (omega arith),
-                tb.0 (omega arith), tc.0 (omega arith), td.1 (omega arith), te.1 (omega arith),
-                tf.1 (omega arith), tg.1 (omega arith), th.1 (omega arith))
+            | inl lt4 ↦ omega (
+              arith,
+              length_4 n (omega arith) (omega arith),
+              ta.0 (omega arith),
+              tb.0 (omega arith),
+              tc.0 (omega arith),
+              td.1 (omega arith),
+              te.1 (omega arith),
+              tf.1 (omega arith),
+              tg.1 (omega arith),
+              th.1 (omega arith),
+            )
             | inr ge4 ↦ elim (cases_lt n 100000) [
-              | inl lt5 ↦ omega (arith, length_5 n (omega arith) (omega arith), ta.0 (omega arith),
-                  tb.0 (omega arith), tc.0 (omega arith), td.0 (omega arith), te.1 (omega arith),
-                  tf.1 (omega arith), tg.1 (omega arith), th.1 (omega arith))
+              | inl lt5 ↦ omega (
+                arith,
+                length_5 n (omega arith) (omega arith),
+                ta.0 (omega arith),
+                tb.0 (omega arith),
+                tc.0 (omega arith),
+                td.0 (omega arith),
+                te.1 (omega arith),
+                tf.1 (omega arith),
+                tg.1 (omega arith),
+                th.1 (omega arith),
+              )
               | inr ge5 ↦ elim (cases_lt n 1000000) [
-                | inl lt6 ↦ omega (arith, length_6 n (omega arith) (omega arith),
-                    ta.0 (omega arith), tb.0 (omega arith), tc.0 (omega arith), td.0 (omega arith),
-                    te.0 (omega arith), tf.1 (omega arith), tg.1 (omega arith), th.1 (omega arith))
+                | inl lt6 ↦ omega (
+                  arith,
+                  length_6 n (omega arith) (omega arith),
+                  ta.0 (omega arith),
+                  tb.0 (omega arith),
+                  tc.0 (omega arith),
+                  td.0 (omega arith),
+                  te.0 (omega arith),
+                  tf.1 (omega arith),
+                  tg.1 (omega arith),
+                  th.1 (omega arith),
+                )
                 | inr ge6 ↦ elim (cases_lt n 10000000) [
-                  | inl lt7 ↦ omega (arith, length_7 n (omega arith) (omega arith),
-                      ta.0 (omega arith), tb.0 (omega arith), tc.0 (omega arith),
-                      td.0 (omega arith), te.0 (omega arith), tf.0 (omega arith),
-                      tg.1 (omega arith), th.1 (omega arith))
+                  | inl lt7 ↦ omega (
+                    arith,
+                    length_7 n (omega arith) (omega arith),
+                    ta.0 (omega arith),
+                    tb.0 (omega arith),
+                    tc.0 (omega arith),
+                    td.0 (omega arith),
+                    te.0 (omega arith),
+                    tf.0 (omega arith),
+                    tg.1 (omega arith),
+                    th.1 (omega arith),
+                  )
                   | inr ge7 ↦ elim (cases_lt n 100000000) [
-                    | inl lt8 ↦ omega (arith, length_8 n (omega arith) (omega arith),
-                        ta.0 (omega arith), tb.0 (omega arith), tc.0 (omega arith),
-                        td.0 (omega arith), te.0 (omega arith), tf.0 (omega arith),
-                        tg.0 (omega arith), th.1 (omega arith))
-                    | inr ge8 ↦ omega (arith, length_9 n (omega arith) (omega arith),
-                        ta.0 (omega arith), tb.0 (omega arith), tc.0 (omega arith),
-                        td.0 (omega arith), te.0 (omega arith), tf.0 (omega arith),
-                        tg.0 (omega arith), th.0 (omega arith))
+                    | inl lt8 ↦ omega (
+                      arith,
+                      length_8 n (omega arith) (omega arith),
+                      ta.0 (omega arith),
+                      tb.0 (omega arith),
+                      tc.0 (omega arith),
+                      td.0 (omega arith),
+                      te.0 (omega arith),
+                      tf.0 (omega arith),
+                      tg.0 (omega arith),
+                      th.1 (omega arith),
+                    )
+                    | inr ge8 ↦ omega (
+                      arith,
+                      length_9 n (omega arith) (omega arith),
+                      ta.0 (omega arith),
+                      tb.0 (omega arith),
+                      tc.0 (omega arith),
+                      td.0 (omega arith),
+                      te.0 (omega arith),
+                      tf.0 (omega arith),
+                      tg.0 (omega arith),
+                      th.0 (omega arith),
+                    )
                   ]
                 ]
               ]

@@ -69,7 +69,7 @@ gathered_more g n l (Ok c) = ap (λ m. gathered_pair m) (omega arith)
 gathered_word : (most : ℕ) (g : Gathered) (n : ℕ) (t : List ℕ) (ts : List (List ℕ)) (w : Word)
     → word_of t ≡ w
     → ((l : Literal) → gathered_at most (gather g l) (n + 1) ts
-        ≡ (literals_at most (n + 1) ts >>= gathered_with (gather g l) (n + 1)))
+    ≡ (literals_at most (n + 1) ts >>= gathered_with (gather g l) (n + 1)))
     → gathered_at most g n (t ∷ ts) ≡ (literals_at most n (t ∷ ts) >>= gathered_with g n)
 gathered_word most g n t ts Other q more = rw q refl
 gathered_word most g n t ts Zero q more =
@@ -78,10 +78,10 @@ gathered_word most g n t ts (Literal_word l) q more =
     rw (q, more l) (limits (nat_lt most l.variable) (nat_le 67108864 n))
   where
     limits : (a b : Bool)
-      → (if a then Err Variable else if b then Err TooMany
+        → (if a then Err Variable else if b then Err TooMany
         else (literals_at most (n + 1) ts >>= gathered_with (gather g l) (n + 1)))
         ≡ ((if a then Err Variable else if b then Err TooMany
-          else (literals_at most (n + 1) ts >>= λ c. Ok (l ∷ c))) >>= gathered_with g n)
+        else (literals_at most (n + 1) ts >>= λ c. Ok (l ∷ c))) >>= gathered_with g n)
     limits true b = refl
     limits false true = refl
     limits false false = gathered_more g n l (literals_at most (n + 1) ts)
@@ -124,12 +124,12 @@ without_more l d (k ∷ xs) =
       | inl e ↦
           let same : literal_eq k l ≡ true = rw (sym (literal_eq-true l k e)) (literal_eq-refl l) in
           let there : contains_literal k (d ++ l ∷ []) ≡ true =
-            contains-push k d l ∙ or_right (contains_literal k d) (literal_eq k l) same in
+          contains-push k d l ∙ or_right (contains_literal k d) (literal_eq k l) same in
           rw (e, there) (without_more l d xs)
       | inr e ↦
           let other : literal_eq k l ≡ false = literal_eq_ne k l (λ s. literal_ne l k e (sym s)) in
           let there : contains_literal k (d ++ l ∷ []) ≡ contains_literal k d =
-            contains-push k d l ∙ or_none (contains_literal k d) (literal_eq k l) other in
+          contains-push k d l ∙ or_none (contains_literal k d) (literal_eq k l) other in
           rw (e, there) (kept (contains_literal k d) k _ _ (without_more l d xs))
     ]
   where
@@ -152,15 +152,17 @@ without_none [] = refl
 without_none (k ∷ xs) = ap (λ zs. k ∷ zs) (without_none xs)
 
 gather_all-is : (g : Gathered) (c : List Literal)
-    → gather_all g c ≡ record { variables = max g.variables (greatest_variable c);
-      literals = with_all g.literals c }
+    → gather_all g c ≡ record {
+      variables = max g.variables (greatest_variable c);
+      literals = with_all g.literals c;
+    }
 gather_all-is g [] = let e : g.variables ≡ max g.variables 0 = omega arith in
     λ i. record { variables = e i; literals = g.literals }
 gather_all-is g (l ∷ c) =
     let e : max (max g.variables l.variable) (greatest_variable c) ≡ max g.variables
-      (max l.variable (greatest_variable c)) = omega arith in
+    (max l.variable (greatest_variable c)) = omega arith in
     gather_all-is (gather g l) c
-      ∙ (λ i. record { variables = e i; literals = with_all (with_literal g.literals l) c })
+    ∙ (λ i. record { variables = e i; literals = with_all (with_literal g.literals l) c })
 
 -- a clause as it is kept
 abbrev clause_kept : ℕ → List Literal → Gathered
@@ -170,7 +172,7 @@ gathered-kept : (v : ℕ) (c : List Literal) → gather_all (emptied v) c ≡ cl
 gathered-kept v c =
     let e = with_all-distinct [] c ∙ without_none (distinct c) in
     gather_all-is (emptied v) c
-      ∙ (λ i. record { variables = max v (greatest_variable c); literals = e i })
+    ∙ (λ i. record { variables = max v (greatest_variable c); literals = e i })
 
 -- one more row
 abbrev drafted_with : Drafted → Row → Drafted
@@ -184,9 +186,9 @@ line_at : (n : ℕ) (d : Drafted) (t : List ℕ) (ts : List (List ℕ)) → begi
     → head_of d.header (totals_of d) t ≡ h → (r : Result (List Literal) FaultKind)
     → literals_at (most_variable d.header) d.literals ts ≡ r
     → gathered_at (most_variable d.header) (emptied d.variables) d.literals ts
-        ≡ (r >>= gathered_with (emptied d.variables) d.literals)
+    ≡ (r >>= gathered_with (emptied d.variables) d.literals)
     → drafted_line n d (t ∷ ts)
-        ≡ (row_of d.header (totals_of d) (t ∷ ts) >>= λ r. Ok (drafted_with d r))
+    ≡ (row_of d.header (totals_of d) (t ∷ ts) >>= λ r. Ok (drafted_with d r))
 line_at n d t ts e p (Err k) q r l g = rw (e, p, q) refl
 line_at n d t ts e p (Ok w) q (Err k) l g = rw (e, p, q, g, l) refl
 line_at n d t ts e p (Ok None) q (Ok c) l g = rw (e, p, q, g, l, gathered-kept d.variables c) refl
@@ -196,10 +198,10 @@ line_at n d t ts e p (Ok (Some w)) q (Ok c) l g =
 clause_line : (n : ℕ) (d : Drafted) (t : List ℕ) (ts : List (List ℕ)) → begins_comment t ≡ false
     → (is_empty d && is_p t) ≡ false
     → drafted_line n d (t ∷ ts)
-        ≡ (row_of d.header (totals_of d) (t ∷ ts) >>= λ r. Ok (drafted_with d r))
+    ≡ (row_of d.header (totals_of d) (t ∷ ts) >>= λ r. Ok (drafted_with d r))
 clause_line n d t ts e p =
     line_at n d t ts e p _ refl _ refl
-      (gathered_at-is (most_variable d.header) (emptied d.variables) d.literals ts)
+    (gathered_at-is (most_variable d.header) (emptied d.variables) d.literals ts)
 
 -- a line after the header, or after the first clause
 drafted_line-is : (n : ℕ) (d : Drafted) (ts : List (List ℕ)) → is_empty d ≡ false
@@ -220,13 +222,21 @@ totals-drafted_with : (d : Drafted) (r : Row)
     → totals_of (drafted_with d r) ≡ with_row (totals_of d) r
 totals-drafted_with d Ignored = refl
 totals-drafted_with d (Hard c) = let e = length_push d.hard (distinct c) in
-    λ i. record { hard = e i; soft = length d.soft; literals = d.literals + length c;
-      weight = d.weight }
+    λ i. record {
+      hard = e i;
+      soft = length d.soft;
+      literals = d.literals + length c;
+      weight = d.weight;
+    }
 totals-drafted_with d (Soft w c) =
     let s : SoftClause = record { weight = w; clause = distinct c } in
     let e = length_push d.soft s in
-    λ i. record { hard = length d.hard; soft = e i; literals = d.literals + length c;
-        weight = d.weight + w }
+    λ i. record {
+      hard = length d.hard;
+      soft = e i;
+      literals = d.literals + length c;
+      weight = d.weight + w;
+    }
 
 abbrev with_rows : Drafted → List Row → Drafted
 with_rows d [] = d
@@ -262,34 +272,34 @@ begun_with d (Soft w c) b = begun_soft d w c
 abbrev Drafts : Drafted → ℕ → List (List ℕ) → Type 0
 Drafts d n ls =
     drafted_lines d (enumerate_from n ls)
-      ≡ (rows_on d.header (totals_of d) n (map tokens_of ls) >>= λ rs. Ok (with_rows d rs))
+    ≡ (rows_on d.header (totals_of d) n (map tokens_of ls) >>= λ rs. Ok (with_rows d rs))
 
 lines_at : (d : Drafted) (n : ℕ) (l : List ℕ) (ls : List (List ℕ)) (r : Row)
     → drafted_line n d (tokens_of l) ≡ Ok (drafted_with d r)
     → row_of d.header (totals_of d) (tokens_of l) ≡ Ok r → (x : Result (List Row) (FaultKind × ℕ))
     → rows_on d.header (with_row (totals_of d) r) (n + 1) (map tokens_of ls) ≡ x
     → drafted_lines (drafted_with d r) (enumerate_from (n + 1) ls)
-        ≡ (x >>= λ rs. Ok (with_rows (drafted_with d r) rs))
+    ≡ (x >>= λ rs. Ok (with_rows (drafted_with d r) rs))
     → Drafts d n (l ∷ ls)
 lines_at d n l ls r a q (Err e) k more = rw (a, q, k, more) refl
 lines_at d n l ls r a q (Ok rs) k more = rw (a, q, k, more) refl
 
 lines_more : (d : Drafted) (n : ℕ) (l : List ℕ) (ls : List (List ℕ))
     → drafted_line n d (tokens_of l)
-        ≡ (row_of d.header (totals_of d) (tokens_of l) >>= λ r. Ok (drafted_with d r))
+    ≡ (row_of d.header (totals_of d) (tokens_of l) >>= λ r. Ok (drafted_with d r))
     → (x : Result Row FaultKind) → row_of d.header (totals_of d) (tokens_of l) ≡ x
     → ((r : Row) → x ≡ Ok r → Drafts (drafted_with d r) (n + 1) ls) → Drafts d n (l ∷ ls)
 lines_more d n l ls a (Err k) q more = rw (a, q) refl
 lines_more d n l ls a (Ok r) q more =
     lines_at d n l ls r (a ∙ rw q refl) q _ refl
-      (rw (header-drafted_with d r, totals-drafted_with d r) at (more r refl))
+    (rw (header-drafted_with d r, totals-drafted_with d r) at (more r refl))
 
 lines-are : (d : Drafted) (n : ℕ) (ls : List (List ℕ)) → is_empty d ≡ false → Drafts d n ls
 lines-are d n [] b = refl
 lines-are d n (l ∷ ls) b =
     lines_more d n l ls (drafted_line-is n d (tokens_of l) b)
-      (row_of d.header (totals_of d) (tokens_of l)) refl
-      (λ r e. lines-are (drafted_with d r) (n + 1) ls (begun_with d r b))
+    (row_of d.header (totals_of d) (tokens_of l)) refl
+    (λ r e. lines-are (drafted_with d r) (n + 1) ls (begun_with d r b))
 
 pub greatest-append : (c d : List Literal)
     → greatest_variable (c ++ d) ≡ max (greatest_variable c) (greatest_variable d)
@@ -299,9 +309,12 @@ greatest-append (l ∷ c) d = omega (arith, greatest-append c d)
 -- the rows put after what was there
 abbrev joined : Drafted → List Row → Problem
 joined d rs =
-    record { variables = variables_of d.header
-      (max d.variables (greatest_variable (flat_map literals_of rs))); hard = d.hard ++ hard_of rs;
-      soft = d.soft ++ soft_of rs }
+    record {
+      variables = variables_of d.header
+          (max d.variables (greatest_variable (flat_map literals_of rs)));
+      hard = d.hard ++ hard_of rs;
+      soft = d.soft ++ soft_of rs;
+    }
 
 with_rows-are : (d : Drafted) (rs : List Row) → problem_drafted (with_rows d rs) ≡ joined d rs
 with_rows-are d [] =
@@ -312,23 +325,29 @@ with_rows-are d [] =
 with_rows-are d (Ignored ∷ rs) = with_rows-are d rs
 with_rows-are d (Hard c ∷ rs) =
     let v : max (max d.variables (greatest_variable c))
-      (greatest_variable (flat_map literals_of rs)) ≡ max d.variables
-      (greatest_variable (c ++ flat_map literals_of rs)) =
-      omega (arith, greatest-append c (flat_map literals_of rs)) in
+    (greatest_variable (flat_map literals_of rs)) ≡ max d.variables
+    (greatest_variable (c ++ flat_map literals_of rs)) =
+    omega (arith, greatest-append c (flat_map literals_of rs)) in
     let h = append_assoc d.hard (distinct c ∷ []) (hard_of rs) in
     with_rows-are (drafted_with d (Hard c)) rs
-      ∙ (λ i. record { variables = variables_of d.header (v i); hard = h i;
-          soft = d.soft ++ soft_of rs })
+    ∙ (λ i. record {
+      variables = variables_of d.header (v i);
+      hard = h i;
+      soft = d.soft ++ soft_of rs;
+    })
 with_rows-are d (Soft w c ∷ rs) =
     let v : max (max d.variables (greatest_variable c))
-      (greatest_variable (flat_map literals_of rs)) ≡ max d.variables
-      (greatest_variable (c ++ flat_map literals_of rs)) =
-      omega (arith, greatest-append c (flat_map literals_of rs)) in
+    (greatest_variable (flat_map literals_of rs)) ≡ max d.variables
+    (greatest_variable (c ++ flat_map literals_of rs)) =
+    omega (arith, greatest-append c (flat_map literals_of rs)) in
     let k : SoftClause = record { weight = w; clause = distinct c } in
     let s = append_assoc d.soft (k ∷ []) (soft_of rs) in
     with_rows-are (drafted_with d (Soft w c)) rs
-      ∙ (λ i. record { variables = variables_of d.header (v i); hard = d.hard ++ hard_of rs;
-          soft = s i })
+    ∙ (λ i. record {
+      variables = variables_of d.header (v i);
+      hard = d.hard ++ hard_of rs;
+      soft = s i;
+    })
 
 header-with_rows : (d : Drafted) (rs : List Row) → (with_rows d rs).header ≡ d.header
 header-with_rows d [] = refl
@@ -347,9 +366,9 @@ finished_today d e = rw e refl
 drafted-joined : (rs : List Row) → problem_drafted (with_rows nothing_drafted rs) ≡ problem_of rs
 drafted-joined rs =
     let v : max 0 (greatest_variable (flat_map literals_of rs)) ≡ greatest_variable
-      (flat_map literals_of rs) = omega arith in
+    (flat_map literals_of rs) = omega arith in
     with_rows-are nothing_drafted rs
-      ∙ (λ i. record { variables = v i; hard = hard_of rs; soft = soft_of rs })
+    ∙ (λ i. record { variables = v i; hard = hard_of rs; soft = soft_of rs })
 
 today_read : (x : Result (List Row) (FaultKind × ℕ))
     → ((x >>= λ rs. Ok (with_rows nothing_drafted rs)) >>= finished)
@@ -357,7 +376,7 @@ today_read : (x : Result (List Row) (FaultKind × ℕ))
 today_read (Err e) = refl
 today_read (Ok rs) =
     finished_today (with_rows nothing_drafted rs) (header-with_rows nothing_drafted rs)
-      ∙ ap (λ p. Ok p) (drafted-joined rs)
+    ∙ ap (λ p. Ok p) (drafted-joined rs)
 
 -- the end of a text of the older form
 finished_older : (d : Drafted) (h : Header) (m : ℕ) (n : ℕ) → d.header ≡ Some h → d.line ≡ n
@@ -367,7 +386,7 @@ finished_older d h m n e l c p q =
     rw (sym c, sym l, sym q) (by_count (nat_lt (length d.hard + length d.soft) h.clauses) refl)
   where
     by_count : (b : Bool) → nat_lt (length d.hard + length d.soft) h.clauses ≡ b
-      → finished d ≡ (if nat_lt (length d.hard + length d.soft) h.clauses then Err (Count, d.line)
+        → finished d ≡ (if nat_lt (length d.hard + length d.soft) h.clauses then Err (Count, d.line)
         else Ok (problem_drafted d))
     by_count true t = rw (e, t) refl
     by_count false t = rw (e, t) refl
@@ -387,8 +406,8 @@ older_read n h (Ok rs) =
     let hard : (with_rows (begun n h) rs).hard ≡ hard_of rs = ap (λ (q : Problem). q.hard) p in
     let soft : (with_rows (begun n h) rs).soft ≡ soft_of rs = ap (λ (q : Problem). q.soft) p in
     finished_older (with_rows (begun n h) rs) h (length (hard_of rs) + length (soft_of rs)) n
-      (header-with_rows (begun n h) rs) (line-with_rows (begun n h) rs) (rw (hard, soft) refl)
-      (headed_problem h rs) p
+    (header-with_rows (begun n h) rs) (line-with_rows (begun n h) rs) (rw (hard, soft) refl)
+    (headed_problem h rs) p
 
 -- reading from line n on, where nothing was read so far
 abbrev OpensAt : ℕ → List (List ℕ) → Type 0
@@ -403,7 +422,7 @@ passed n l ls e (Some g) = refl
 passed n l ls e None = passed_at (rows_on None no_totals (n + 1) ls) refl
   where
     passed_at : (x : Result (List Row) (FaultKind × ℕ)) → rows_on None no_totals (n + 1) ls ≡ x
-      → reading_on n (l ∷ ls) None ≡ reading_on (n + 1) ls None
+        → reading_on n (l ∷ ls) None ≡ reading_on (n + 1) ls None
     passed_at (Err f) q = rw (e, q) refl
     passed_at (Ok rs) q = rw (e, q) refl
 
@@ -414,22 +433,26 @@ opens_passed : (n : ℕ) (l : List ℕ) (ls : List (List ℕ))
     → OpensAt (n + 1) ls → OpensAt n (l ∷ ls)
 opens_passed n l ls d r h more =
     let e : drafted_lines nothing_drafted (enumerate_from n (l ∷ ls))
-        ≡ drafted_lines nothing_drafted (enumerate_from (n + 1) ls) = rw d refl in
+    ≡ drafted_lines nothing_drafted (enumerate_from (n + 1) ls) = rw d refl in
     rw (e, h) (more ∙ sym (passed n (tokens_of l) (map tokens_of ls) r
-          (heading_on (n + 1) (map tokens_of ls))))
+    (heading_on (n + 1) (map tokens_of ls))))
 
 -- the header
 opens_headed : (n : ℕ) (l : List ℕ) (ls : List (List ℕ)) (ts : List (List ℕ))
     → drafted_line n nothing_drafted (tokens_of l) ≡ drafted_header n nothing_drafted ts
     → heading_on n (tokens_of l ∷ map tokens_of ls)
-        ≡ Some (record { line = n; tokens = ts; after = map tokens_of ls })
+    ≡ Some (record { line = n; tokens = ts; after = map tokens_of ls })
     → (x : Result Header FaultKind) → header_of ts ≡ x → OpensAt n (l ∷ ls)
 opens_headed n l ls ts d h (Err k) q = rw (d, h, q) refl
 opens_headed n l ls ts d h (Ok k) q =
     let e : drafted_lines nothing_drafted (enumerate_from n (l ∷ ls)) ≡ drafted_lines (begun n k)
-      (enumerate_from (n + 1) ls) = rw (d, q) refl in
-    rw (e, lines-are (begun n k) (n + 1) ls refl, h,
-        q) (older_read n k (rows_on (Some k) no_totals (n + 1) (map tokens_of ls)))
+    (enumerate_from (n + 1) ls) = rw (d, q) refl in
+    rw (
+      e,
+      lines-are (begun n k) (n + 1) ls refl,
+      h,
+      q,
+    ) (older_read n k (rows_on (Some k) no_totals (n + 1) (map tokens_of ls)))
 
 -- the first clause
 not_ignored : (t : List ℕ) (ts : List (List ℕ)) (r : Row) → begins_comment t ≡ false
@@ -442,7 +465,7 @@ not_ignored t ts Ignored b e =
     absurd (no_clause p.0 q.0 q.2)
   where
     no_clause : (o : Option ℕ) (c : List Literal)
-      → ◌≡◌ {A = Result Row FaultKind} (Ok (clause_row o c)) (Ok Ignored) → ⊥
+        → ◌≡◌ {A = Result Row FaultKind} (Ok (clause_row o c)) (Ok Ignored) → ⊥
     no_clause None c e = cc
     no_clause (Some w) c e = cc
 
@@ -450,13 +473,13 @@ opens_clause : (n : ℕ) (l : List ℕ) (ls : List (List ℕ)) (t : List ℕ) (t
     → tokens_of l ≡ t ∷ ts → begins_comment t ≡ false → is_p t ≡ false → OpensAt n (l ∷ ls)
 opens_clause n l ls t ts s c p =
     let a : drafted_line n nothing_drafted (tokens_of l)
-        ≡ (row_of None no_totals (tokens_of l) >>= λ r. Ok (drafted_with nothing_drafted r)) =
-      rw s (clause_line n nothing_drafted t ts c p) in
+    ≡ (row_of None no_totals (tokens_of l) >>= λ r. Ok (drafted_with nothing_drafted r)) =
+    rw s (clause_line n nothing_drafted t ts c p) in
     let none : heading_on n (tokens_of l ∷ map tokens_of ls) ≡ None = rw (s, c, p) refl in
     let drafts : Drafts nothing_drafted n (l ∷ ls) =
-      lines_more nothing_drafted n l ls a (row_of None no_totals (tokens_of l)) refl
-        (λ r e. lines-are (drafted_with nothing_drafted r) (n + 1) ls
-        (not_ignored t ts r c (rw s at e))) in
+    lines_more nothing_drafted n l ls a (row_of None no_totals (tokens_of l)) refl
+    (λ r e. lines-are (drafted_with nothing_drafted r) (n + 1) ls
+    (not_ignored t ts r c (rw s at e))) in
     rw (drafts, none) (today_read (rows_on None no_totals n (map tokens_of (l ∷ ls))))
 
 opens_line : (n : ℕ) (l : List ℕ) (ls : List (List ℕ)) (ts : List (List ℕ)) → tokens_of l ≡ ts

@@ -18,9 +18,9 @@ pub first_feed : (w : List ℕ) (end : ℕ) → end < length w → get_or w end 
 first_feed w end h here before = record {
   within = h;
   split = sym (take-append-drop end w)
-    ∙ ap (λ x. take end w ++ x) (drop_at ∙ ap (λ b. b ∷ drop (end + 1) w) here);
+      ∙ ap (λ x. take end w ++ x) (drop_at ∙ ap (λ b. b ∷ drop (end + 1) w) here);
   before =
-    All-from_get_or (λ b. (b == 10) ≡ false) (take end w) 0
+      All-from_get_or (λ b. (b == 10) ≡ false) (take end w) 0
       (λ k lt. let x = byte_before w end k h lt in ap is_feed x.1 ∙ before k x.0);
 }
   where

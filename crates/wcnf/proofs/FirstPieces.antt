@@ -34,12 +34,12 @@ pub lines-first : (w : List ℕ) (n : ℕ) → n < length w → get_or w n 0 ≡
     → lines w ≡ strip_carriage_return (take n w) ∷ lines (drop (n + 1) w)
 lines-first w n l here before =
     let at : position_or_len is_feed w ≡ n =
-      position_or_len_is is_feed w n 0 (omega arith) before (λ _. rw here) in
+    position_or_len_is is_feed w n 0 (omega arith) before (λ _. rw here) in
     let split : slice_split is_feed w ≡ before_first is_feed w ∷ slice_split is_feed
-      (after_first is_feed w) = slice_split_first is_feed w 0 (omega arith) in
+    (after_first is_feed w) = slice_split_first is_feed w 0 (omega arith) in
     ap lines_of_parts split
-      ∙ parts-cons (before_first is_feed w) (slice_split is_feed (after_first is_feed w))
-      (omega (arith, length-slice_split is_feed (after_first is_feed w)))
+    ∙ parts-cons (before_first is_feed w) (slice_split is_feed (after_first is_feed w))
+    (omega (arith, length-slice_split is_feed (after_first is_feed w)))
     ∙ ap (λ m. strip_carriage_return (take m w) ∷ lines (drop (m + 1) w)) at
 
 -- where there is no line feed, the bytes are one line
@@ -58,7 +58,7 @@ pub lines-next : (w : List ℕ) (number n : ℕ) → n < length w → get_or w n
 lines-next w number n l here before line rest a b =
     let tail : rest ≡ drop (n + 1) w = b ∙ take_rest w (n + 1) in
     ap (enumerate_from number) (lines-first w n l here before)
-      ∙ (λ i. (number, sym a i) ∷ enumerate_from (number + 1) (lines (sym tail i)))
+    ∙ (λ i. (number, sym a i) ∷ enumerate_from (number + 1) (lines (sym tail i)))
 
 -- `next`, where there is none
 pub lines-end : (w : List ℕ) (number : ℕ) → 0 < length w
@@ -67,8 +67,8 @@ pub lines-end : (w : List ℕ) (number : ℕ) → 0 < length w
     → enumerate_from number (lines w) ≡ (number, w) ∷ enumerate_from (number + 1) (lines rest)
 lines-end w number l none rest e =
     ap (enumerate_from number) (lines-last w l none)
-      ∙ ap (λ r. (number, w) ∷ enumerate_from (number + 1) (lines r))
-      (sym (e ∙ take_rest w (length w) ∙ drop_all (length w) w (omega arith)))
+    ∙ ap (λ r. (number, w) ∷ enumerate_from (number + 1) (lines r))
+    (sym (e ∙ take_rest w (length w) ∙ drop_all (length w) w (omega arith)))
 
 -- tokens
 one_more : (n : ℕ) → 1 + n ≡ suc n
@@ -95,16 +95,17 @@ tokens-first (b ∷ bs) l =
     ]
   where
     after : (b : ℕ) (bs : List ℕ) → is_blank b ≡ false
-      → (0 < token_len bs
+        → (0 < token_len bs
         → tokens_of bs ≡ take (token_len bs) bs ∷ tokens_of (drop (token_len bs) bs))
-      → put_byte b (begins_with_token bs) (tokens_of bs) ≡ (b ∷ take (token_len bs) bs) ∷ tokens_of
-      (drop (token_len bs) bs)
+        → put_byte b (begins_with_token bs) (tokens_of bs) ≡ (b ∷ take (token_len bs) bs)
+        ∷ tokens_of
+        (drop (token_len bs) bs)
     after b [] e h = refl
     after b (c ∷ cs) e h =
         elim (cases_Bool (is_blank c)) [
           | inl d ↦ rw (d, d)
           | inr d ↦ ap (λ s. put_byte b s (tokens_of (c ∷ cs))) (not_from_false (is_blank c) d)
-            ∙ ap (put_byte b true) (h (rw d (omega arith)))
+              ∙ ap (put_byte b true) (h (rw d (omega arith)))
         ]
 
 -- after the blanks a token begins
@@ -114,7 +115,7 @@ token-begins [] l = absurd (omega arith)
 token-begins (b ∷ bs) l =
     elim (cases_Bool (is_blank b)) [
       | inl e ↦ rw (e, one_more (prefix_len is_blank bs))
-        (token-begins bs (rw (e, one_more (prefix_len is_blank bs)) at l))
+          (token-begins bs (rw (e, one_more (prefix_len is_blank bs)) at l))
       | inr e ↦ rw (e, e) (omega arith)
     ]
 
@@ -125,13 +126,13 @@ pub tokens-next : (bs rest : List ℕ) (m : ℕ) → m ≡ prefix_len is_blank b
     → after ≡ drop n rest → tokens_of bs ≡ token ∷ tokens_of after
 tokens-next bs rest m blanks is some token after n len front back =
     let tail : rest ≡ drop (prefix_len is_blank bs) bs =
-      is ∙ take_rest bs m ∙ ap (λ k. drop k bs) blanks in
+    is ∙ take_rest bs m ∙ ap (λ k. drop k bs) blanks in
     let long : 0 < length (drop (prefix_len is_blank bs) bs) =
-      omega (arith, eqb-false (length rest) 0 some, ap length tail) in
+    omega (arith, eqb-false (length rest) 0 some, ap length tail) in
     let begins : 0 < token_len rest = rw tail (token-begins bs long) in
     tokens-drop bs ∙ ap tokens_of (sym tail) ∙ tokens-first rest begins
-      ∙ (λ i. (ap (λ k. take k rest) (sym len) ∙ sym front) i ∷ tokens_of
-        ((ap (λ k. drop k rest) (sym len) ∙ sym back) i))
+    ∙ (λ i. (ap (λ k. take k rest) (sym len) ∙ sym front) i ∷ tokens_of
+    ((ap (λ k. drop k rest) (sym len) ∙ sym back) i))
 
 -- `next`, where only blanks are left
 pub tokens-end : (bs rest : List ℕ) (m : ℕ) → m ≡ prefix_len is_blank bs
@@ -139,6 +140,6 @@ pub tokens-end : (bs rest : List ℕ) (m : ℕ) → m ≡ prefix_len is_blank bs
     → (tokens_of bs ≡ []) × (tokens_of rest ≡ [])
 tokens-end bs rest m blanks is none =
     let tail : rest ≡ drop (prefix_len is_blank bs) bs =
-      is ∙ take_rest bs m ∙ ap (λ k. drop k bs) blanks in
+    is ∙ take_rest bs m ∙ ap (λ k. drop k bs) blanks in
     let nil : rest ≡ [] = nil_from_length rest (eqb-true (length rest) 0 none) in
     (tokens-drop bs ∙ ap tokens_of (sym tail ∙ nil), ap tokens_of nil)

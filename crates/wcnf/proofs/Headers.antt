@@ -35,12 +35,12 @@ number_within-decimal most n ts l m =
 pub header_of-tokens : (h : Header) → IsHeader h → header_of (header_rest h) ≡ Ok h
 header_of-tokens h i =
     let v = number_within-decimal 4194304 h.variables (decimal h.clauses ∷ decimal h.top ∷ [])
-      (omega (arith, i.most_variables)) (omega arith) in
+    (omega (arith, i.most_variables)) (omega arith) in
     let c =
-      number_within-decimal 4456448 h.clauses (decimal h.top ∷ []) (omega (arith, i.most_clauses))
-        (omega arith) in
+    number_within-decimal 4456448 h.clauses (decimal h.top ∷ []) (omega (arith, i.most_clauses))
+    (omega arith) in
     let t = number_within-decimal 4611686018427387904 h.top [] (omega (arith, i.most_top))
-      (omega arith) in
+    (omega arith) in
     let some : (h.top == 0) ≡ false = ne_eqb h.top 0 (omega (arith, i.some_top)) in
     rw (v, c, t, some) refl
 
@@ -52,7 +52,7 @@ within_at most t ts r m (Some n) q e =
     let u = unless_err (nat_lt most n) _ _ r (rw q at e) in
     let small : n ≤ most = ltb-false most n u.0 in
     subst (λ (x : ℕ × List (List ℕ)). (t ∷ ts ≡ decimal x.0 ∷ x.1) × (x.0 ≤ most))
-      (same_Ok (n, ts) r u.1) (ap (λ x. x ∷ ts) (decimal-number_of t n q (omega arith)), small)
+    (same_Ok (n, ts) r u.1) (ap (λ x. x ∷ ts) (decimal-number_of t n q (omega arith)), small)
 
 decimal-number_within : (most : ℕ) (ts : List (List ℕ)) (r : ℕ × List (List ℕ)) → most < 2 ^ 64
     → number_within most ts ≡ Ok r → (ts ≡ decimal r.0 ∷ r.1) × (r.0 ≤ most)
@@ -83,12 +83,19 @@ header_at t ts h q e =
     let k : Header = record { variables = v.0.0; clauses = c.0.0; top = w.0.0 } in
     let top : c.0.1 ≡ decimal w.0.0 ∷ [] = o.0 ∙ ap (λ x. decimal w.0.0 ∷ x) d.0 in
     let clauses : v.0.1 ≡ decimal c.0.0 ∷ decimal w.0.0 ∷ [] =
-      n.0 ∙ ap (λ x. decimal c.0.0 ∷ x) top in
+    n.0 ∙ ap (λ x. decimal c.0.0 ∷ x) top in
     let all : ts ≡ decimal v.0.0 ∷ decimal c.0.0 ∷ decimal w.0.0 ∷ [] =
-      m.0 ∙ ap (λ x. decimal v.0.0 ∷ x) clauses in
-    subst (λ x. (t ∷ ts ≡ header_rest x) × IsHeader x) (sym d.1) (ap (λ x. x ∷ ts) (wcnf-is t q)
-        ∙ ap (λ x. codes "wcnf" ∷ x) all, record { most_variables = m.1; most_clauses = n.1;
-          some_top = d.2; most_top = o.1 })
+    m.0 ∙ ap (λ x. decimal v.0.0 ∷ x) clauses in
+    subst (λ x. (t ∷ ts ≡ header_rest x) × IsHeader x) (sym d.1) (
+      ap (λ x. x ∷ ts) (wcnf-is t q)
+          ∙ ap (λ x. codes "wcnf" ∷ x) all,
+      record {
+        most_variables = m.1;
+        most_clauses = n.1;
+        some_top = d.2;
+        most_top = o.1;
+      },
+    )
 
 pub tokens-header_of : (ts : List (List ℕ)) (h : Header) → header_of ts ≡ Ok h
     → (ts ≡ header_rest h) × IsHeader h

@@ -19,15 +19,15 @@ split_text : {X : Type 0} (f : X → List ℕ) (xs : List X) (i : ℕ) (x : X) �
     → flat_map f xs ≡ flat_map f (take i xs) ++ (f x ++ flat_map f (drop (i + 1) xs))
 split_text f xs i x h is =
     ap (flat_map f) (sym (take-append-drop i xs)
-        ∙ ap (λ z. take i xs ++ z) (drop_more xs i x h ∙ ap (λ z. z ∷ drop (i + 1) xs) (sym is)))
+    ∙ ap (λ z. take i xs ++ z) (drop_more xs i x h ∙ ap (λ z. z ∷ drop (i + 1) xs) (sym is)))
     ∙ flat_map-append f (take i xs) (x ∷ drop (i + 1) xs)
 
 text_more : {X : Type 0} (f : X → List ℕ) (xs : List X) (i : ℕ) (x : X) → i < length xs
     → x ≡ get_or xs i x → flat_map f (take (i + 1) xs) ≡ flat_map f (take i xs) ++ f x
 text_more f xs i x h is =
     ap (flat_map f) (take_more xs i x h ∙ ap (λ z. take i xs ++ z ∷ []) (sym is))
-      ∙ flat_map-append f (take i xs) (x ∷ [])
-      ∙ ap (λ z. flat_map f (take i xs) ++ z) (append-nil (f x))
+    ∙ flat_map-append f (take i xs) (x ∷ [])
+    ∙ ap (λ z. flat_map f (take i xs) ++ z) (append-nil (f x))
 
 -- one more item was put
 pub items_more : {X : Type 0} (f : X → List ℕ) (a b c : Option (List ℕ)) (h j k head : List ℕ)
@@ -36,10 +36,10 @@ pub items_more : {X : Type 0} (f : X → List ℕ) (a b c : Option (List ℕ)) (
     → PassesOn a h (head ++ flat_map f (take (i + 1) xs)) c k
 items_more f a b c h j k head xs i x lt is p q =
     let e : head ++ flat_map f (take (i + 1) xs) ≡ (head ++ flat_map f (take i xs)) ++ f x =
-      ap (λ z. head ++ z) (text_more f xs i x lt is)
-        ∙ sym (append_assoc head (flat_map f (take i xs)) (f x)) in
+    ap (λ z. head ++ z) (text_more f xs i x lt is)
+    ∙ sym (append_assoc head (flat_map f (take i xs)) (f x)) in
     subst (λ z. PassesOn a h z c k) (sym e)
-      (passed-more a b c h j k (head ++ flat_map f (take i xs)) (f x) p q)
+    (passed-more a b c h j k (head ++ flat_map f (take i xs)) (f x) p q)
 
 -- a fault in an item, or before its end
 pub items_fault : {X : Type 0} (f : X → List ℕ) (a b c : Option (List ℕ))
@@ -50,9 +50,9 @@ items_fault f a b c h j head part rest tail xs i x lt is e p q =
     let front = flat_map f (take i xs) in
     let back = flat_map f (drop (i + 1) xs) in
     let whole : (head ++ flat_map f xs) ++ tail ≡ (head ++ front)
-      ++ (part ++ (rest ++ (back ++ tail))) =
+    ++ (part ++ (rest ++ (back ++ tail))) =
     ap (λ z. (head ++ z) ++ tail) (split_text f xs i x lt is ∙ ap (λ z. front ++ (z ++ back)) e)
-      ∙ simp append_assoc in
+    ∙ simp append_assoc in
     passed_fault a b c h j (head ++ front) part (rest ++ (back ++ tail)) _ p q whole
 
 pub all_taken : {X : Type 0} (f : X → List ℕ) (xs : List X) (i : ℕ) → length xs ≤ i

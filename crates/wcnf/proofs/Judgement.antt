@@ -26,9 +26,11 @@ clauses_within n cs h =
 
 pub all_satisfied : (t : Assignment) (cs : List (List Literal)) (r : Bool)
     → r ≡ list_all (clause_value t) cs → IsTrue r ↔ All (Satisfies t) cs
-all_satisfied t cs r e =
-    (λ h. AllPass-from_list_all (clause_value t) cs (sym e ∙ h), λ h. e
-        ∙ list_all-from_AllPass (clause_value t) cs h)
+all_satisfied t cs r e = (
+  λ h. AllPass-from_list_all (clause_value t) cs (sym e ∙ h),
+  λ h. e
+      ∙ list_all-from_AllPass (clause_value t) cs h,
+)
 
 -- the literals of one soft clause
 pub soft_within : (n : ℕ) (ss : List SoftClause) → All (λ s. IsClauseWithin n s.clause) ss → (i : ℕ)
@@ -36,7 +38,7 @@ pub soft_within : (n : ℕ) (ss : List SoftClause) → All (λ s. IsClauseWithin
     → IsWithin n c
 soft_within n ss all i l s at c e =
     let k : IsClauseWithin n s.clause =
-      subst (λ (x : SoftClause). IsClauseWithin n x.clause) (sym at) (all i s l) in
+    subst (λ (x : SoftClause). IsClauseWithin n x.clause) (sym at) (all i s l) in
     rw e (within_greatest n s.clause k.2)
 
 -- bits agree with their own assignment

@@ -50,8 +50,11 @@ pub contains-push : (m : Literal) (c : List Literal) (l : Literal)
 contains-push m [] l = or-false (literal_eq m l)
 contains-push m (k ∷ c) l =
     elim (literal_eq m k) as (λ b. (b || contains_literal m (c ++ l ∷ []))
-      ≡ ((b || contains_literal m c) || literal_eq m l)) [ true ↦ refl | false ↦
-      contains-push m c l ]
+    ≡ ((b || contains_literal m c) || literal_eq m l)) [
+      | true ↦ refl
+      | false ↦
+          contains-push m c l
+    ]
 
 -- a literal that stands at some place
 pub at_contains : (c : List Literal) (i : ℕ) (l : Literal) → i < length c → l ≡ get_or c i l
@@ -59,6 +62,6 @@ pub at_contains : (c : List Literal) (i : ℕ) (l : Literal) → i < length c �
 at_contains [] i l h is = absurd (omega arith)
 at_contains (k ∷ c) zero l h is =
     or_left (literal_eq l k) (contains_literal l c)
-      (subst (λ x. literal_eq l x ≡ true) is (literal_eq-refl l))
+    (subst (λ x. literal_eq l x ≡ true) is (literal_eq-refl l))
 at_contains (k ∷ c) (suc i) l h is =
     or_right (literal_eq l k) (contains_literal l c) (at_contains c i l (omega arith) is)

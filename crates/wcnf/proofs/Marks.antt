@@ -22,7 +22,7 @@ repeat-push (k ∷ c) l n h =
     let q = or_parts (contains_literal k c) (has_repeat c) h in
     let other : literal_eq k l ≡ false = literal_eq_ne k l (λ e. literal_ne l k p.0 (sym e)) in
     or_from (contains_literal k (c ++ l ∷ [])) (has_repeat (c ++ l ∷ [])) (contains-push k c l
-        ∙ or_from (contains_literal k c) (literal_eq k l) q.0 other) (repeat-push c l p.1 q.1)
+    ∙ or_from (contains_literal k c) (literal_eq k l) q.0 other) (repeat-push c l p.1 q.1)
 
 positive-push : (c : List Literal) (l : Literal) → AllByRecursion (λ k. 0 < k.variable) c
     → 0 < l.variable → AllByRecursion (λ k. 0 < k.variable) (c ++ l ∷ [])
@@ -35,11 +35,11 @@ mark-set : (marks : List Bool) (b : Bool) (k l : Literal) → 0 < k.variable →
     → mark_of (set marks (index_of l) b) k ≡ (if literal_eq k l then b else mark_of marks k)
 mark-set marks b k l p q h =
     elim (literal_eq k l) as (λ x. literal_eq k l ≡ x
-        → mark_of (set marks (index_of l) b) k ≡ (if x then b else mark_of marks k)) [
+    → mark_of (set marks (index_of l) b) k ≡ (if x then b else mark_of marks k)) [
       | true ↦ λ e. ap (mark_of (set marks (index_of l) b)) (literal_eq-true k l e)
-        ∙ get_or-set_same marks (index_of l) b false h
+          ∙ get_or-set_same marks (index_of l) b false h
       | false ↦ λ e. get_or-set_other marks (index_of l) (index_of k) b false
-        (λ same. literal_ne k l e (index_same k l p q same))
+          (λ same. literal_ne k l e (index_same k l p q same))
     ] refl
 
 -- one literal more is marked
@@ -48,8 +48,8 @@ pub marked_one : (marks : List Bool) (c : List Literal) (l : Literal) → 0 < l.
     → IsMarked (set marks (index_of l) true) (c ++ l ∷ [])
 marked_one marks c l q h m = record {
   marked = λ k p. mark-set marks true k l p q h
-    ∙ by (literal_eq k l) (mark_of marks k) (contains_literal k c) (m.marked k p)
-    ∙ sym (contains-push k c l);
+      ∙ by (literal_eq k l) (mark_of marks k) (contains_literal k c) (m.marked k p)
+      ∙ sym (contains-push k c l);
 }
   where
     by : (b m c : Bool) → m ≡ c → (if b then true else m) ≡ (c || b)
@@ -66,9 +66,9 @@ unmarked_one marks c l q h once m = record {
   marked = λ k p.
       elim (cases_Bool (literal_eq k l)) [
         | inl s ↦ mark-set marks false k l p q h
-          ∙ rw s (sym (ap (λ x. contains_literal x c) (literal_eq-true k l s) ∙ once))
+            ∙ rw s (sym (ap (λ x. contains_literal x c) (literal_eq-true k l s) ∙ once))
         | inr s ↦ mark-set marks false k l p q h
-          ∙ rw s (m.marked k p ∙ ap (λ b. b || contains_literal k c) s)
+            ∙ rw s (m.marked k p ∙ ap (λ b. b || contains_literal k c) s)
       ];
 }
 
@@ -96,7 +96,7 @@ pub first_within : (v : ℕ) (marks : List Bool) (c : List Literal) (l : Literal
     → AreMarked v marks (l ∷ c) → index_of l < length marks
 first_within v marks c l a =
     set_within marks (index_of l) (a.marked l a.positive.0
-        ∙ or_left (literal_eq l l) (contains_literal l c) (literal_eq-refl l))
+    ∙ or_left (literal_eq l l) (contains_literal l c) (literal_eq-refl l))
 
 pub marked-first : (v : ℕ) (marks : List Bool) (c : List Literal) (l : Literal)
     → AreMarked v marks (l ∷ c) → AreMarked v (set marks (index_of l) false) c
@@ -105,7 +105,7 @@ marked-first v marks c l a =
     record {
       count = length-set marks (index_of l) false ∙ a.count;
       marked =
-        (unmarked_one marks c l a.positive.0 (first_within v marks c l a) once.0
+          (unmarked_one marks c l a.positive.0 (first_within v marks c l a) once.0
           (record { marked = a.marked })).marked;
       positive = a.positive.1;
       once = once.1;

@@ -39,17 +39,17 @@ module _ (p : Parser) (end line : List ℕ) (no_feed : IsNoFeed end)
   regroup b e more = simp append_assoc
 
   at_line : (more : List ℕ)
-    → drafted_lines p.draft ((p.number, line) ∷ enumerate_from (p.number + 1) (lines more))
+      → drafted_lines p.draft ((p.number, line) ∷ enumerate_from (p.number + 1) (lines more))
       ≡ drafted_lines nothing_drafted (numbered_text ((bytes ++ end ++ 10 ∷ []) ++ more))
   at_line more =
       let none : IsNoFeed ((p.rest).items ++ end) =
-        All-append IsOrdinary (p.rest).items end s.unfinished no_feed in
+      All-append IsOrdinary (p.rest).items end s.unfinished no_feed in
       ap (λ x. drafted_lines p.draft ((p.number, x) ∷ enumerate_from (p.number + 1) (lines more)))
-        same
+      same
       ∙ ap (λ ls. drafted_lines p.draft (enumerate_from p.number ls))
-        (sym (lines-split ((p.rest).items ++ end) more none))
+      (sym (lines-split ((p.rest).items ++ end) more none))
       ∙ ap (λ x. drafted_lines p.draft (enumerate_from p.number (lines x)))
-        (append_assoc (p.rest).items end (10 ∷ more))
+      (append_assoc (p.rest).items end (10 ∷ more))
       ∙ s.resumes (end ++ 10 ∷ more)
       ∙ ap (λ x. drafted_lines nothing_drafted (numbered_text x)) (regroup bytes end more)
 
@@ -64,7 +64,7 @@ line_more old new end line no_feed same empty read counted bytes s = record {
       ap (λ r. drafted_lines new.draft (enumerate_from new.number (lines (r ++ more)))) empty
       ∙ ap (λ n. drafted_lines new.draft (enumerate_from n (lines more))) counted
       ∙ read_on old.draft new.draft old.number line (enumerate_from (old.number + 1) (lines more))
-        read
+      read
       ∙ at_line old end line no_feed same bytes s more;
 }
 
@@ -75,12 +75,12 @@ line_fault : (p : Parser) (end line : List ℕ) → IsNoFeed end
     → IsFirstFault (bytes ++ (end ++ 10 ∷ []) ++ more) f.kind f.line
 line_fault p end line no_feed same f met here bytes more s =
     let text : (bytes ++ end ++ 10 ∷ []) ++ more ≡ bytes ++ (end ++ 10 ∷ []) ++ more =
-      ap (λ x. x ++ more) (append_assoc bytes end (10 ∷ [])) in
+    ap (λ x. x ++ more) (append_assoc bytes end (10 ∷ [])) in
     subst (λ t. IsFirstFault t f.kind f.line) text
-      (subst (λ n. IsFirstFault ((bytes ++ end ++ 10 ∷ []) ++ more) f.kind n) (sym here)
+    (subst (λ n. IsFirstFault ((bytes ++ end ++ 10 ∷ []) ++ more) f.kind n) (sym here)
     (whole_fault ((bytes ++ end ++ 10 ∷ []) ++ more) p.draft p.number line
-        (enumerate_from (p.number + 1) (lines more)) f.kind
-        (at_line p end line no_feed same bytes s more) met))
+    (enumerate_from (p.number + 1) (lines more)) f.kind
+    (at_line p end line no_feed same bytes s more) met))
 
 pub line_refused : (p : Parser) (end line : List ℕ) → IsNoFeed end
     → line ≡ strip_carriage_return ((p.rest).items ++ end) → (f : ReadFault)
@@ -91,15 +91,18 @@ line_refused p end line no_feed same f (inr e) = inr (line_fault p end line no_f
 -- a piece
 pub none_read : (p : Parser) (piece : List ℕ) → HasRead p p piece piece
 none_read p piece =
-    record { taken = []; split = refl;
-      stands = λ bytes s. subst (Stands p) (sym (append-nil bytes)) s }
+    record {
+      taken = [];
+      split = refl;
+      stands = λ bytes s. subst (Stands p) (sym (append-nil bytes)) s;
+    }
 
 first_line : (left : List ℕ) (end : ℕ) (line rest : List ℕ) → IsFirstFeed left end
     → line ≡ take end left → rest ≡ take (length left - (end + 1)) (drop (end + 1) left)
     → left ≡ line ++ 10 ∷ rest
 first_line left end line rest f e g =
     f.split ∙ ap (λ x. x ++ 10 ∷ drop (end + 1) left) (sym e)
-      ∙ ap (λ x. line ++ 10 ∷ x) (sym (g ∙ take_rest left (end + 1)))
+    ∙ ap (λ x. line ++ 10 ∷ x) (sym (g ∙ take_rest left (end + 1)))
 
 pub more_read : (old mid new : Parser) (piece left : List ℕ) (end : ℕ) (line rest : List ℕ)
     → HasRead old mid piece left → IsFirstFeed left end → line ≡ take end left
@@ -109,9 +112,9 @@ pub more_read : (old mid new : Parser) (piece left : List ℕ) (end : ℕ) (line
 more_read old mid new piece left end line rest t f e g next = record {
   taken = t.taken ++ line ++ 10 ∷ [];
   split = t.split ∙ ap (λ x. t.taken ++ x) (first_line left end line rest f e g)
-    ∙ regrouped t.taken line rest;
+      ∙ regrouped t.taken line rest;
   stands =
-    λ bytes s. subst (Stands new) (moved bytes t.taken line)
+      λ bytes s. subst (Stands new) (moved bytes t.taken line)
       (next (bytes ++ t.taken) (t.stands bytes s));
 }
   where
@@ -129,18 +132,18 @@ rest_kept old mid new piece left t no_feed draft number rest bytes s =
     let m = t.stands bytes s in
     record {
       unfinished =
-        subst IsNoFeed (sym rest)
+          subst IsNoFeed (sym rest)
           (All-append IsOrdinary (mid.rest).items left m.unfinished no_feed);
       resumes = λ more.
           ap (λ d. drafted_lines d (enumerate_from new.number (lines ((new.rest).items ++ more))))
-            draft
+          draft
           ∙ ap (λ n. drafted_lines mid.draft (enumerate_from n (lines ((new.rest).items ++ more))))
-            number
+          number
           ∙ ap (λ r. drafted_lines mid.draft (enumerate_from mid.number (lines r)))
-            (ap (λ r. r ++ more) rest ∙ append_assoc (mid.rest).items left more)
+          (ap (λ r. r ++ more) rest ∙ append_assoc (mid.rest).items left more)
           ∙ m.resumes (left ++ more)
           ∙ ap (λ x. drafted_lines nothing_drafted (numbered_text x))
-            (grouped bytes t.taken left more ∙ ap (λ x. (bytes ++ x) ++ more) (sym t.split));
+          (grouped bytes t.taken left more ∙ ap (λ x. (bytes ++ x) ++ more) (sym t.split));
     }
   where
     grouped : (b t l m : List ℕ) → (b ++ t) ++ (l ++ m) ≡ (b ++ (t ++ l)) ++ m
@@ -153,10 +156,10 @@ refused_later old mid piece left end line f t at e (inl m) = inl m
 refused_later old mid piece left end line f t at e (inr r) = inr (λ bytes more s.
     let after = drop (end + 1) left in
     let all : piece ≡ t.taken ++ (line ++ 10 ∷ after) =
-      t.split ∙ ap (λ x. t.taken ++ x) (at.split ∙ ap (λ x. x ++ 10 ∷ after) (sym e)) in
+    t.split ∙ ap (λ x. t.taken ++ x) (at.split ∙ ap (λ x. x ++ 10 ∷ after) (sym e)) in
     subst (λ x. IsFirstFault x f.kind f.line) (grouped bytes t.taken line after more
-        ∙ ap (λ x. bytes ++ x ++ more) (sym all))
-      (r (bytes ++ t.taken) (after ++ more) (t.stands bytes s)))
+    ∙ ap (λ x. bytes ++ x ++ more) (sym all))
+    (r (bytes ++ t.taken) (after ++ more) (t.stands bytes s)))
   where
     grouped : (b t l a m : List ℕ) → (b ++ t) ++ (l ++ 10 ∷ []) ++ (a ++ m)
         ≡ b ++ (t ++ (l ++ 10 ∷ a)) ++ m
@@ -167,27 +170,27 @@ pub ends_empty : (p : Parser) (bytes : List ℕ) → (p.rest).items ≡ [] → S
     → Ends p.draft bytes
 ends_empty p bytes empty s =
     ap (λ r. drafted_lines p.draft (enumerate_from p.number (lines (r ++ [])))) (sym empty)
-      ∙ s.resumes [] ∙ ap (λ x. drafted_lines nothing_drafted (numbered_text x)) (append-nil bytes)
+    ∙ s.resumes [] ∙ ap (λ x. drafted_lines nothing_drafted (numbered_text x)) (append-nil bytes)
 
 module _ (p : Parser) (some : 0 < length (p.rest).items) (bytes : List ℕ) (s : Stands p bytes) where
   last_line : drafted_lines p.draft ((p.number, (p.rest).items) ∷ [])
       ≡ drafted_lines nothing_drafted (numbered_text bytes)
   last_line =
       ap (λ ls. drafted_lines p.draft (enumerate_from p.number ls))
-        (sym (lines-last (p.rest).items some (λ k lt. s.unfinished k 0 lt)))
+      (sym (lines-last (p.rest).items some (λ k lt. s.unfinished k 0 lt)))
       ∙ ap (λ r. drafted_lines p.draft (enumerate_from p.number (lines r)))
-        (sym (append-nil (p.rest).items))
+      (sym (append-nil (p.rest).items))
       ∙ s.resumes [] ∙ ap (λ x. drafted_lines nothing_drafted (numbered_text x)) (append-nil bytes)
 
   pub ends_line : (d : Drafted) → drafted_line p.number p.draft (tokens_of (p.rest).items) ≡ Ok d
-    → Ends d bytes
+      → Ends d bytes
   ends_line d h = read_on p.draft d p.number (p.rest).items [] h ∙ last_line
 
   pub ends_refused : (f : ReadFault) → drafted_line p.number p.draft (tokens_of (p.rest).items)
       ≡ Err f.kind → f.line ≡ p.number → IsFirstFault bytes f.kind f.line
   ends_refused f met here =
       subst (λ n. IsFirstFault bytes f.kind n) (sym here)
-        (whole_fault bytes p.draft p.number (p.rest).items [] f.kind last_line met)
+      (whole_fault bytes p.draft p.number (p.rest).items [] f.kind last_line met)
 
 -- a whole text
 pub text_refused : (p : Parser) (text : List ℕ) (f : ReadFault) → Stands p [] → Refuses p text f
@@ -212,11 +215,11 @@ pub all_read : (a b c : Option (List ℕ)) (bytes buf : List ℕ) (k : ℕ) → 
     → Consumes b c (take k buf) → k ≡ 0 → Consumes a c bytes
 all_read a b c bytes buf k p q e =
     subst (Consumes a c) (append-nil bytes)
-      (Consumes-trans a b c bytes [] p (subst (Consumes b c) (ap (λ j. take j buf) e) q))
+    (Consumes-trans a b c bytes [] p (subst (Consumes b c) (ap (λ j. take j buf) e) q))
 
 abbrev IsRefusedReading : Option (List ℕ) → ReadFault → Type 0
 IsRefusedReading known f = NoMemory f ⊎ (f ≡ record { kind = Read; line = 0 })
-      ⊎ IfSome known (λ text. IsFirstFault text f.kind f.line)
+    ⊎ IfSome known (λ text. IsFirstFault text f.kind f.line)
 
 over_known : (a c : Option (List ℕ)) (bytes piece : List ℕ) (f : ReadFault)
     → Consumes a c (bytes ++ piece)
@@ -233,7 +236,7 @@ pub piece_refused : (a b c : Option (List ℕ)) (bytes piece : List ℕ) (p : Pa
 piece_refused a b c bytes piece p f u v s (inl m) = inl m
 piece_refused a b c bytes piece p f u v s (inr r) =
     inr (inr (over_known a c bytes piece f (Consumes-trans a b c bytes piece u v)
-        (λ more. r bytes more s)))
+    (λ more. r bytes more s)))
 
 pub reader_refused : {X : Type 0} (a c : Option (List ℕ)) (bytes : List ℕ) (p : Parser)
     (r : Result X ReadFault) → Consumes a c bytes → IsAtEnd c → Stands p bytes
@@ -257,7 +260,7 @@ pub reader_read_one : (a c : Option (List ℕ)) (bytes : List ℕ) (p : Parser)
 reader_read_one a c bytes p (Err f) u e s h = tt
 reader_read_one a c bytes p (Ok i) u e s h =
     Consumes-whole a c bytes (λ t. (q : Problem) → Reads t q → q ≡ i) u e
-      (λ q r. reads_one bytes q i r (h bytes s))
+    (λ q r. reads_one bytes q i r (h bytes s))
 
 pub finished_refused : (p : Parser) (some : 0 < length (p.rest).items) (f : ReadFault)
     → IsLineFault p.draft p.number (p.rest).items f → IsRefusedAtEnd p f

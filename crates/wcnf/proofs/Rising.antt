@@ -22,6 +22,6 @@ rising_from least [] r k h = absurd (omega arith)
 rising_from least (x ∷ ks) r zero h = omega (arith, rises_least (x + 1) ks 0 r.1 (omega arith))
 rising_from least (x ∷ ks) r (suc k) h =
     let z : slice_index ks k < slice_index ks (k + 1) =
-      rising_from (x + 1) ks r.1 k (omega arith) in
+    rising_from (x + 1) ks r.1 k (omega arith) in
     let e : suc k + 1 ≡ suc (k + 1) = omega arith in
     subst (λ n. slice_index ks k < slice_index (x ∷ ks) n) (sym e) z

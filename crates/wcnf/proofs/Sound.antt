@@ -18,8 +18,10 @@ same_bool-true false false e = refl
 pub literal_eq-true : (k l : Literal) → literal_eq k l ≡ true → k ≡ l
 literal_eq-true k l e =
     let h = and_parts (k.variable == l.variable) (same_bool k.negated l.negated) e in
-    λ i. record { variable = eqb-true k.variable l.variable h.0 i;
-        negated = same_bool-true k.negated l.negated h.1 i }
+    λ i. record {
+      variable = eqb-true k.variable l.variable h.0 i;
+      negated = same_bool-true k.negated l.negated h.1 i;
+    }
 
 -- each literal of A is true
 abbrev pub AreTrue : Assignment → List Literal → Type 0
@@ -83,7 +85,7 @@ pub refuted : (t : Assignment) (at : Clauses) (A : List Literal) (hs : List ℕ)
     → AreTrue t A → Refutes at A hs → ⊥
 refuted t at A hs all a r =
     not_false t r.reached r.clause (leads_true t at A r.front r.reached all a r.leads) r.conflict
-      (all r.final r.clause r.live)
+    (all r.final r.clause r.live)
 
 negation-value_at : (v : Bool) (n : Bool) → (if n then not v else v) ≡ false
     → (if not n then not v else v) ≡ true

@@ -70,14 +70,14 @@ pub repeat-distinct : (c : List Literal) → has_repeat (distinct c) ≡ false
 repeat-distinct [] = refl
 repeat-distinct (l ∷ c) =
     or_from (contains_literal l (without_literal l (distinct c)))
-      (has_repeat (without_literal l (distinct c))) (contains-without l (distinct c))
-      (once_still l (distinct c) (repeat-distinct c))
+    (has_repeat (without_literal l (distinct c))) (contains-without l (distinct c))
+    (once_still l (distinct c) (repeat-distinct c))
 
 All-distinct : (P : Literal → Type 0) (c : List Literal) → All P c → All P (distinct c)
 All-distinct P [] a = All-nil P
 All-distinct P (l ∷ c) a =
     All-cons P l (without_literal l (distinct c)) (All-head P l c a)
-      (All-filter (λ k. not (literal_eq l k)) P (distinct c) (All-distinct P c (All-tail P l c a)))
+    (All-filter (λ k. not (literal_eq l k)) P (distinct c) (All-distinct P c (All-tail P l c a)))
 
 greatest-distinct : (c : List Literal) → greatest_variable (distinct c) ≤ greatest_variable c
 greatest-distinct [] = omega arith
@@ -99,9 +99,12 @@ All-parts (x ∷ xs) ys a =
 
 clause_within : (v : ℕ) (c : List Literal) → All IsVariable c → greatest_variable c ≤ v
     → IsClauseWithin v (distinct c)
-clause_within v c a h =
-    (repeat-distinct c, All-weaker IsVariable (λ l. 0 < l.variable) (λ l p. p.0) (distinct c)
-      (All-distinct IsVariable c a), omega (arith, greatest-distinct c))
+clause_within v c a h = (
+  repeat-distinct c,
+  All-weaker IsVariable (λ l. 0 < l.variable) (λ l p. p.0) (distinct c)
+      (All-distinct IsVariable c a),
+  omega (arith, greatest-distinct c),
+)
 
 abbrev SoftWithin : ℕ → SoftClause → Type 0
 SoftWithin v s = IsClauseWithin v s.clause
@@ -114,7 +117,7 @@ hard_within v (Hard c ∷ rs) a h =
     let m = All-parts c (flat_map literals_of rs) a in
     let g = greatest-append c (flat_map literals_of rs) in
     All-cons (IsClauseWithin v) (distinct c) (hard_of rs) (clause_within v c m.0 (omega (arith, g)))
-      (hard_within v rs m.1 (omega (arith, g)))
+    (hard_within v rs m.1 (omega (arith, g)))
 hard_within v (Soft w c ∷ rs) a h =
     let m = All-parts c (flat_map literals_of rs) a in
     hard_within v rs m.1 (omega (arith, greatest-append c (flat_map literals_of rs)))
@@ -131,7 +134,7 @@ soft_within v (Soft w c ∷ rs) a h =
     let g = greatest-append c (flat_map literals_of rs) in
     let s : SoftClause = record { weight = w; clause = distinct c } in
     All-cons (SoftWithin v) s (soft_of rs) (clause_within v c m.0 (omega (arith, g)))
-      (soft_within v rs m.1 (omega (arith, g)))
+    (soft_within v rs m.1 (omega (arith, g)))
 
 greatest_within : (c : List Literal) → All IsVariable c → greatest_variable c ≤ 2 ^ 22
 greatest_within [] a = omega arith
@@ -146,12 +149,22 @@ literals_within : (rs : List Row) → kept_literals rs ≤ length (flat_map lite
 literals_within [] = omega arith
 literals_within (Ignored ∷ rs) = literals_within rs
 literals_within (Hard c ∷ rs) =
-    omega (arith, literals_within rs, length-distinct c, length-append c (flat_map literals_of rs),
-        sum_by-cons length (distinct c) (hard_of rs))
+    omega (
+      arith,
+      literals_within rs,
+      length-distinct c,
+      length-append c (flat_map literals_of rs),
+      sum_by-cons length (distinct c) (hard_of rs),
+    )
 literals_within (Soft w c ∷ rs) =
     let s : SoftClause = record { weight = w; clause = distinct c } in
-    omega (arith, literals_within rs, length-distinct c, length-append c (flat_map literals_of rs),
-        sum_by-cons (λ (x : SoftClause). length x.clause) s (soft_of rs))
+    omega (
+      arith,
+      literals_within rs,
+      length-distinct c,
+      length-append c (flat_map literals_of rs),
+      sum_by-cons (λ (x : SoftClause). length x.clause) s (soft_of rs),
+    )
 
 weights_within : (rs : List Row)
     → sum_by (λ (s : SoftClause). s.weight) (soft_of rs) ≡ sum (map weight_of rs)
@@ -162,15 +175,22 @@ weights_within (Hard c ∷ rs) =
     omega (arith, weights_within rs, sum_by-cons (λ (x : ℕ). x) 0 (map weight_of rs))
 weights_within (Soft w c ∷ rs) =
     let s : SoftClause = record { weight = w; clause = distinct c } in
-    omega (arith, weights_within rs, sum_by-cons (λ (x : ℕ). x) w (map weight_of rs),
-        sum_by-cons (λ (x : SoftClause). x.weight) s (soft_of rs))
+    omega (
+      arith,
+      weights_within rs,
+      sum_by-cons (λ (x : ℕ). x) w (map weight_of rs),
+      sum_by-cons (λ (x : SoftClause). x.weight) s (soft_of rs),
+    )
 
 greatest_at_most : (v : ℕ) (c : List Literal) → All (λ l. l.variable ≤ v) c
     → greatest_variable c ≤ v
 greatest_at_most v [] a = omega arith
 greatest_at_most v (l ∷ c) a =
-    omega (arith, All-head (λ (x : Literal). x.variable ≤ v) l c a,
-      greatest_at_most v c (All-tail (λ (x : Literal). x.variable ≤ v) l c a))
+    omega (
+      arith,
+      All-head (λ (x : Literal). x.variable ≤ v) l c a,
+      greatest_at_most v c (All-tail (λ (x : Literal). x.variable ≤ v) l c a),
+    )
 
 rows_instance : (v : ℕ) (rs : List Row) → v ≤ 2 ^ 22
     → greatest_variable (flat_map literals_of rs) ≤ v → IsWithinLimits rs
@@ -190,8 +210,8 @@ pub reads_instance : (text : List ℕ) (p : Problem) → Reads text p → IsInst
 reads_instance text p (inl (rs, a, w, e)) =
     let v = greatest_variable (flat_map literals_of rs) in
     subst IsInstance (sym e)
-      (rows_instance v rs (greatest_within (flat_map literals_of rs) w.variables) (omega arith) w)
+    (rows_instance v rs (greatest_within (flat_map literals_of rs) w.variables) (omega arith) w)
 reads_instance text p (inr (h, rs, a, w, s, e)) =
     subst IsInstance (sym e)
-      (rows_instance h.variables rs s.most_variables
-        (greatest_at_most h.variables (flat_map literals_of rs) s.variables) w)
+    (rows_instance h.variables rs s.most_variables
+    (greatest_at_most h.variables (flat_map literals_of rs) s.variables) w)

@@ -30,5 +30,5 @@ pub zero_word : (t : List ℕ) → option_map capped (number_of t) ≡ Some 0 �
 zero_word t e =
     let z = number_zero t (number_of t) refl e in
     let same : t ≡ 48 ∷ [] = decimal-number_of t 0 z (omega arith)
-      ∙ decimal_digit 0 (omega arith) in
+    ∙ decimal_digit 0 (omega arith) in
     rw same refl

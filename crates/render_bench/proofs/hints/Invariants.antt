@@ -8,4 +8,4 @@ use Rattle.render_bench.proofs.hints.Given as goal
 
 abbrev pub invariant-loop-k : goal.invariant-loop-k
 invariant-loop-k l = All (λ h. IsId (number_in (name_of h))) l.hints.items
-      × All (λ h. id_of BASE (name_of h) < 2 ^ 62) l.hints.items
+    × All (λ h. id_of BASE (name_of h) < 2 ^ 62) l.hints.items

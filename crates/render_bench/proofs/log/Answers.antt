@@ -9,5 +9,5 @@ use Rattle.render_bench.proofs.log.Goals as goal
 pub loop-k-preserved : goal.loop-k-preserved
 loop-k-preserved c =
     rw c.in_ok-append.ensures.ok
-      (All-push (λ (l : LogLine). All (λ h. id_of BASE (name_of h) < 2 ^ 62) l.hints) _ _
-        c.loop-k.invariant c.in_ok-next.ensures)
+    (All-push (λ (l : LogLine). All (λ h. id_of BASE (name_of h) < 2 ^ 62) l.hints) _ _
+    c.loop-k.invariant c.in_ok-next.ensures)

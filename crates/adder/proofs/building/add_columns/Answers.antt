@@ -6,22 +6,22 @@ use Rattle.adder.proofs.building.add_columns.Goals as goal
 pub add_column-requires-clause-small : goal.add_column-requires-clause-small
 add_column-requires-clause-small c =
     let more : c.args.relaxations.now.digits - c.loop-j.j
-        ≡ suc (c.args.relaxations.now.digits - (c.loop-j.j + 1)) = omega arith in
+    ≡ suc (c.args.relaxations.now.digits - (c.loop-j.j + 1)) = omega arith in
     let filled =
-      filled_is c.args.relaxations.now.each.items c.loop-j.j c.clear.ensures.items
-        c.deref.ensures.value c.in_ok-push_bit.ensures in
+    filled_is c.args.relaxations.now.each.items c.loop-j.j c.clear.ensures.items
+    c.deref.ensures.value c.in_ok-push_bit.ensures in
     rw filled (column_room _ more c.loop-j.invariant c.requires.small)
 
 pub loop-j-preserved : goal.loop-j-preserved
 loop-j-preserved c =
     let more : c.args.relaxations.now.digits - c.loop-j.j
-        ≡ suc (c.args.relaxations.now.digits - (c.loop-j.j + 1)) = omega arith in
+    ≡ suc (c.args.relaxations.now.digits - (c.loop-j.j + 1)) = omega arith in
     let filled =
-      filled_is c.args.relaxations.now.each.items c.loop-j.j c.clear.ensures.items
-        c.deref.ensures.value c.in_ok-push_bit.ensures in
+    filled_is c.args.relaxations.now.each.items c.loop-j.j c.clear.ensures.items
+    c.deref.ensures.value c.in_ok-push_bit.ensures in
     builds_column _ more c.loop-j.invariant
-      (c.push_bit.new.column.items ++ c.loop-j.adder.carries.items)
-      (ap (λ (ls : List Literal). ls ++ c.loop-j.adder.carries.items) filled)
+    (c.push_bit.new.column.items ++ c.loop-j.adder.carries.items)
+    (ap (λ (ls : List Literal). ls ++ c.loop-j.adder.carries.items) filled)
     c.in_ok-add_column.ensures.cells
-      (rw c.in_ok-add_column.ensures.output at c.in_ok-push.ensures.items)
-      c.in_ok-add_column.ensures.fresh c.in_ok-add_column.ensures.carries refl
+    (rw c.in_ok-add_column.ensures.output at c.in_ok-push.ensures.items)
+    c.in_ok-add_column.ensures.fresh c.in_ok-add_column.ensures.carries refl

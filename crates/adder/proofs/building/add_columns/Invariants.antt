@@ -8,7 +8,7 @@ abbrev pub invariant-loop-j : goal.invariant-loop-j
 invariant-loop-j l =
     let rs = l.relaxations.each.items in
     let whole =
-      columns_from (λ j. literals_with j rs) l.relaxations.digits 0 l.relaxations.fresh [] in
+    columns_from (λ j. literals_with j rs) l.relaxations.digits 0 l.relaxations.fresh [] in
     IsBuilding whole (l.relaxations.fresh + 2 * length whole.cells) (λ j. literals_with j rs)
-      l.adder.cells.items l.outputs.items (l.relaxations.digits - l.j) l.j l.adder.fresh
-      l.adder.carries.items
+    l.adder.cells.items l.outputs.items (l.relaxations.digits - l.j) l.j l.adder.fresh
+    l.adder.carries.items

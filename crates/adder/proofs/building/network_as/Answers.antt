@@ -12,7 +12,7 @@ add_columns-requires c =
     let p = c.args.instance.now in
     let r = c.in_ok-relaxations.ensures in
     let same = columns_are (relaxed_as c.args.profile p) (total_weight p) r.each r.digits r.fresh
-      ∙ is_columns c.args.profile p c.in-One.is in
+    ∙ is_columns c.args.profile p c.in-One.is in
     let law = adds_up c.args.profile p r.limits in
     record {
       digits = omega (arith, binary_length_le (total_weight p), r.digits);
@@ -25,25 +25,31 @@ returns-in-One c =
     let p = c.args.instance.now in
     let r = c.in_ok-relaxations.ensures in
     let same = columns_are (relaxed_as c.args.profile p) (total_weight p) r.each r.digits r.fresh
-      ∙ is_columns c.args.profile p c.in-One.is in
+    ∙ is_columns c.args.profile p c.in-One.is in
     let built = rw same at c.add_columns.ensures in
-    record { cells = built;
-        adds_up = if_ok_from _ c.add_columns.result built (adds_up c.args.profile p r.limits) }
+    record {
+      cells = built;
+      adds_up = if_ok_from _ c.add_columns.result built (adds_up c.args.profile p r.limits);
+    }
 
 pub add_tree-requires-clause-most : goal.add_tree-requires-clause-most
 add_tree-requires-clause-most c =
     let p = c.args.instance.now in
     let r = c.in_ok-relaxations.ensures in
-    omega (arith, ap most_of (numbers_are (relaxed_as c.args.profile p) r.each),
-        numbers_of-most (relaxed_as c.args.profile p), weights c.args.profile p,
-        r.limits.weight_sum)
+    omega (
+      arith,
+      ap most_of (numbers_are (relaxed_as c.args.profile p) r.each),
+      numbers_of-most (relaxed_as c.args.profile p),
+      weights c.args.profile p,
+      r.limits.weight_sum,
+    )
 
 pub add_tree-requires-clause-small : goal.add_tree-requires-clause-small
 add_tree-requires-clause-small c =
     let p = c.args.instance.now in
     let r = c.in_ok-relaxations.ensures in
     let same = tree_is (relaxed_as c.args.profile p) r.each r.fresh
-      ∙ is_tree c.args.profile p c.in-Three.is in
+    ∙ is_tree c.args.profile p c.in-Three.is in
     let law = adds_up c.args.profile p r.limits in
     rw same (omega (arith, law.small.0, r.fresh))
 
@@ -52,7 +58,7 @@ returns-in-Three-clause-cells c =
     let p = c.args.instance.now in
     let r = c.in_ok-relaxations.ensures in
     let same = tree_is (relaxed_as c.args.profile p) r.each r.fresh
-      ∙ is_tree c.args.profile p c.in-Three.is in
+    ∙ is_tree c.args.profile p c.in-Three.is in
     rw same at c.add_tree.ensures
 
 pub returns-in-Three-clause-adds_up : goal.returns-in-Three-clause-adds_up
@@ -60,6 +66,6 @@ returns-in-Three-clause-adds_up c =
     let p = c.args.instance.now in
     let r = c.in_ok-relaxations.ensures in
     let same = tree_is (relaxed_as c.args.profile p) r.each r.fresh
-      ∙ is_tree c.args.profile p c.in-Three.is in
+    ∙ is_tree c.args.profile p c.in-Three.is in
     if_ok_from _ c.add_tree.result (rw same at c.add_tree.ensures)
-      (adds_up c.args.profile p r.limits)
+    (adds_up c.args.profile p r.limits)

@@ -12,15 +12,15 @@ pub loop-adder-smaller : goal.loop-adder-smaller
 loop-adder-smaller c =
     let many : 2 ≤ length c.loop-adder.left.items = search rules in
     let numbers : c.in_ok-left.left.items
-        ≡ (round c.loop-adder.adder.fresh c.loop-adder.left.items).numbers =
-      rw c.deref.ensures.value at c.in_ok-left.ensures.numbers in
+    ≡ (round c.loop-adder.adder.fresh c.loop-adder.left.items).numbers =
+    rw c.deref.ensures.value at c.in_ok-left.ensures.numbers in
     let less : length c.in_ok-left.left.items < length c.loop-adder.left.items =
-      rw numbers (fewer many c.loop-adder.invariant) in
+    rw numbers (fewer many c.loop-adder.invariant) in
     less
 
 pub loop-adder-preserved : goal.loop-adder-preserved
 loop-adder-preserved c =
     let many : 2 ≤ length c.loop-adder.left.items = search rules in
     adds_round many c.loop-adder.invariant (rw c.deref.ensures.value at c.in_ok-left.ensures.cells)
-      (rw c.deref.ensures.value at c.in_ok-left.ensures.fresh)
-      (rw c.deref.ensures.value at c.in_ok-left.ensures.numbers)
+    (rw c.deref.ensures.value at c.in_ok-left.ensures.fresh)
+    (rw c.deref.ensures.value at c.in_ok-left.ensures.numbers)

@@ -7,7 +7,7 @@ use Rattle.adder.proofs.trees.sort.Goals as goal
 pub returns : goal.returns
 returns c =
     is_sorted (λ (r : Relaxation). r.weight) _ _
-      (IsNonDecreasingBy-from_sort_by_key (λ (r : Relaxation). r.weight) _
-        c.in_ok-sort_by_key.ensures.sorted (λ a r q k. search rules))
+    (IsNonDecreasingBy-from_sort_by_key (λ (r : Relaxation). r.weight) _
+    c.in_ok-sort_by_key.ensures.sorted (λ a r q k. search rules))
     (c.in_ok-sort_by_key.ensures.stable (λ r. r.weight)
-        (answers_always _ _ _ (λ f a r g h. search rules)))
+    (answers_always _ _ _ (λ f a r g h. search rules)))

@@ -18,14 +18,14 @@ use Rattle.analyze.proofs.learning.learn.Goals as goal
 pub mark_clause-count-requires-clause-named : goal.mark_clause-count-requires-clause-named
 mark_clause-count-requires-clause-named c =
     let conflict =
-      conflict_is c.args.engine.now.trail c.lits.result.now _ c.lits.ensures c.requires.falsified in
+    conflict_is c.args.engine.now.trail c.lits.result.now _ c.lits.ensures c.requires.falsified in
     false_within c.args.engine.now c.args.store.now.slots c.lits.result.now c.requires.fits
-      conflict.falsified
+    conflict.falsified
 
 pub resolve-asserting-requires-clause-above : goal.resolve-asserting-requires-clause-above
 resolve-asserting-requires-clause-above c =
     start_above c.args.engine.now.trail c.lits.result.now c.args.marks.now
-      c.mark_clause-count.new.marks c.requires.clear c.mark_clause-count.ensures.marked
+    c.mark_clause-count.new.marks c.requires.clear c.mark_clause-count.ensures.marked
 
 pub resolve-asserting-requires-clause-counted : goal.resolve-asserting-requires-clause-counted
 resolve-asserting-requires-clause-counted c =
@@ -39,8 +39,8 @@ resolve-asserting-requires-clause-some c =
     let old = c.args.marks.now in
     let conflict = conflict_is T c.lits.result.now _ c.lits.ensures c.requires.falsified in
     let some =
-      start_some T c.lits.result.now old c.mark_clause-count.new.marks c.requires.clear
-        c.mark_clause-count.ensures.marked c.requires.deep conflict in
+    start_some T c.lits.result.now old c.mark_clause-count.new.marks c.requires.clear
+    c.mark_clause-count.ensures.marked c.requires.deep conflict in
     let zero = current_clear T old c.requires.clear in
     let n = c.mark_clause-count.ensures.counted in
     omega arith
@@ -51,9 +51,9 @@ greatest-back_level-requires c =
     let M = c.minimise.new.marks in
     let u = c.resolve-asserting.result in
     let tail = tail_is (negation u) (others_in M u (literals_of e.trail)) c.as_slice.result.now
-      (c.as_slice.ensures ∙ c.in_ok-lits.ensures) in
+    (c.as_slice.ensures ∙ c.in_ok-lits.ensures) in
     subst (All (λ (l : Literal). l.variable ≤ e.variables)) (sym tail)
-      (learned_within e c.args.store.now.slots M u c.requires.fits c.minimise.ensures.reduced)
+    (learned_within e c.args.store.now.slots M u c.requires.fits c.minimise.ensures.reduced)
 
 pub returns-clause-asserting : goal.returns-clause-asserting
 returns-clause-asserting c =
@@ -62,12 +62,12 @@ returns-clause-asserting c =
     let u = c.resolve-asserting.result in
     let back = c.greatest-back_level.result in
     let tail =
-      tail_is (negation u) (others_in M u (literals_of T)) c.as_slice.result.now (c.as_slice.ensures
-        ∙ c.in_ok-lits.ensures) in
+    tail_is (negation u) (others_in M u (literals_of T)) c.as_slice.result.now (c.as_slice.ensures
+    ∙ c.in_ok-lits.ensures) in
     let greatest = c.greatest-back_level.ensures ∙ ap (greatest_level T) tail in
     subst (λ x. IsAsserting T x back) (sym c.in_ok-lits.ensures)
-      (learned_asserting (clause_at c.args.store.now.slots) T M u back c.requires.fits.reasons
-        c.minimise.ensures.reduced greatest)
+    (learned_asserting (clause_at c.args.store.now.slots) T M u back c.requires.fits.reasons
+    c.minimise.ensures.reduced greatest)
 
 pub returns-clause-hints : goal.returns-clause-hints
 returns-clause-hints c =
@@ -80,38 +80,38 @@ returns-clause-hints c =
     let clause = learned_from T M u in
     let conflict = conflict_is T ls _ c.lits.ensures c.requires.falsified in
     let first =
-      marked_start at T ls c.args.marks.now c.mark_clause-count.new.marks c.requires.clear
-        c.mark_clause-count.ensures.marked in
+    marked_start at T ls c.args.marks.now c.mark_clause-count.new.marks c.requires.clear
+    c.mark_clause-count.ensures.marked in
     let marked = c.minimise.ensures.same ls (c.resolve-asserting.ensures.same ls first) in
     let collected = learned_collected at T M u c.requires.fits.reasons c.minimise.ensures.reduced in
     let r =
-      marked_refutes slots T c.args.conflict ls clause (kept_of M) (resolved_of M)
-        c.requires.fits.reasons c.lits.ensures conflict.falsified marked collected in
+    marked_refutes slots T c.args.conflict ls clause (kept_of M) (resolved_of M)
+    c.requires.fits.reasons c.lits.ensures conflict.falsified marked collected in
     subst (λ x. IsRefutedBy slots T x c.in_ok-hints.hints.items) (sym c.in_ok-lits.ensures)
-      (subst (IsRefutedBy slots T clause) (sym c.in_ok-hints.ensures) r)
+    (subst (IsRefutedBy slots T clause) (sym c.in_ok-hints.ensures) r)
 
 pub mark_clause-count-requires-clause-listed : goal.mark_clause-count-requires-clause-listed
 mark_clause-count-requires-clause-listed c =
     listed_none c.args.engine.now.trail c.args.marks.now c.args.met.now.items c.requires.clear
-      c.requires.none
+    c.requires.none
 
 pub minimise-requires-clause-listed : goal.minimise-requires-clause-listed
 minimise-requires-clause-listed c =
     let T = c.args.engine.now.trail in
     let M = c.resolve-asserting.new.marks in
     let sorted =
-      has_sorted T M c.resolve-asserting.new.met.items c.sort_unstable.new.self.items
-        c.sort_unstable.ensures.permutation c.resolve-asserting.ensures.listed.has in
+    has_sorted T M c.resolve-asserting.new.met.items c.sort_unstable.new.self.items
+    c.sort_unstable.ensures.permutation c.resolve-asserting.ensures.listed.has in
     subst (HasMet T M) (sym c.deref.ensures.value) sorted
 
 pub collect_literals-requires-clause-rising : goal.collect_literals-requires-clause-rising
 collect_literals-requires-clause-rising c =
     rising_sorted c.resolve-asserting.new.met.items c.sort_unstable.new.self.items _
-      c.deref-2.ensures.value c.sort_unstable.ensures.permutation c.sort_unstable.ensures.sorted
-      c.resolve-asserting.ensures.listed.once
+    c.deref-2.ensures.value c.sort_unstable.ensures.permutation c.sort_unstable.ensures.sorted
+    c.resolve-asserting.ensures.listed.once
 
 pub collect_hints-requires-clause-rising : goal.collect_hints-requires-clause-rising
 collect_hints-requires-clause-rising c =
     rising_sorted c.resolve-asserting.new.met.items c.sort_unstable.new.self.items _
-      c.deref-3.ensures.value c.sort_unstable.ensures.permutation c.sort_unstable.ensures.sorted
-      c.resolve-asserting.ensures.listed.once
+    c.deref-3.ensures.value c.sort_unstable.ensures.permutation c.sort_unstable.ensures.sorted
+    c.resolve-asserting.ensures.listed.once

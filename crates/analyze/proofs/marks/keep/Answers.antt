@@ -16,21 +16,21 @@ returns-clause-listed c =
     let v = c.args.variable in
     let met = c.args.met.now.items in
     let room : v < length c.args.marks.now = let a = c.requires.room in let b = c.requires.small in
-      omega arith in
+    omega arith in
     elim c.match-position.branch [
       | in-Some w ↦
           let here : position_in T v ≡ Some w.in-Some.position =
-            sym c.position.ensures ∙ w.in-Some.is in
+          sym c.position.ensures ∙ w.in-Some.is in
           let at = position_at T v w.in-Some.position c.requires.above here in
           let spare = listed_spare T M met v room c.requires.clear c.requires.listed in
           let ok : is_ok w.push.result ≡ true = w.push.ensures.succeeds (let s = c.requires.spare in
-              omega arith) in
+          omega arith) in
           let items : c.match-position.met.items ≡ met ++ w.in-Some.position ∷ [] =
-            ap (λ h. h.items) w.met-is ∙ w.push.ensures.items
-              ∙ cond-true (is_ok w.push.result) _ _ ok in
+          ap (λ h. h.items) w.met-is ∙ w.push.ensures.items
+          ∙ cond-true (is_ok w.push.result) _ _ ok in
           subst (IsListed T (set M v Kept)) (sym items)
-            (listed_kept T M met v w.in-Some.position at.0 at.1 room c.requires.clear
-              c.requires.listed)
+          (listed_kept T M met v w.in-Some.position at.0 at.1 room c.requires.clear
+          c.requires.listed)
       | in_default w ↦ absurd (position_some T v c.requires.above (sym c.position.ensures
-            ∙ w.in_default.is))
+          ∙ w.in_default.is))
     ]

@@ -9,7 +9,7 @@ pub owned-requires : goal.owned-requires
 owned-requires c =
     let same : c.keep_comparator.new.clauses ≡ comparator_of c.args.network.now.outputs c.args.k =
     c.in_ok-keep_comparator.ensures
-      ∙ (λ i. c.new-clauses.ensures i ++ comparator_of (c.outputs.ensures i) c.args.k) in
+    ∙ (λ i. c.new-clauses.ensures i ++ comparator_of (c.outputs.ensures i) c.args.k) in
     rw same (comparator_once c.args.network.now.outputs c.args.k)
 
 pub returns-clause-covers : goal.returns-clause-covers

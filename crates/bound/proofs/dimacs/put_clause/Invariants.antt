@@ -7,4 +7,4 @@ use Rattle.bound.proofs.dimacs.put_clause.Given as goal
 abbrev pub invariant-loop-lit : goal.invariant-loop-lit
 invariant-loop-lit g l =
     PassesOn (g.W.Write.contents l.initial.writer) l.initial.block
-      (literals_text (take l.lit-index l.lits)) (g.W.Write.contents l.writer) l.block
+    (literals_text (take l.lit-index l.lits)) (g.W.Write.contents l.writer) l.block

@@ -14,44 +14,44 @@ returns-in_err-put-clause-fault g c =
 pub returns-in_err-put_number-clause-fault : goal.returns-in_err-put_number-clause-fault
 returns-in_err-put_number-clause-fault g c =
     let p =
-      err_from_is_err_and c.from_residual-in_err-put_number.result
-        c.from_residual-in_err-put_number.ensures.1 in
+    err_from_is_err_and c.from_residual-in_err-put_number.result
+    c.from_residual-in_err-put_number.ensures.1 in
     let v : c.args.vars ≡ c.from.result = cc in
     rw (p.1, v) (variables_fault _ _ _ _ _ c.from.result c.args.count c.in_ok-put.ensures.ok
-        c.in_err-put_number.ensures.fault)
+    c.in_err-put_number.ensures.fault)
 
 pub returns-in_err-put-2-clause-fault : goal.returns-in_err-put-2-clause-fault
 returns-in_err-put-2-clause-fault g c =
     let p =
-      err_from_is_err_and c.from_residual-in_err-put-2.result c.from_residual-in_err-put-2.ensures.1
-        in
+    err_from_is_err_and c.from_residual-in_err-put-2.result c.from_residual-in_err-put-2.ensures.1
+    in
     let v : c.args.vars ≡ c.from.result = cc in
     let first = passed-more _ _ _ _ _ _ _ _ c.in_ok-put.ensures.ok c.in_ok-put_number.ensures.ok in
     rw (p.1, v) (between_fault _ _ _ _ _ c.from.result c.args.count first
-        c.in_err-put-2.ensures.fault)
+    c.in_err-put-2.ensures.fault)
 
 pub returns-in_err-put_number-2-clause-fault : goal.returns-in_err-put_number-2-clause-fault
 returns-in_err-put_number-2-clause-fault g c =
     let p =
-      err_from_is_err_and c.from_residual-in_err-put_number-2.result
-        c.from_residual-in_err-put_number-2.ensures.1 in
+    err_from_is_err_and c.from_residual-in_err-put_number-2.result
+    c.from_residual-in_err-put_number-2.ensures.1 in
     let v : c.args.vars ≡ c.from.result = cc in
     let first = passed-more _ _ _ _ _ _ _ _ c.in_ok-put.ensures.ok c.in_ok-put_number.ensures.ok in
     rw (p.1, v) (count_fault _ _ _ _ _ _ _ c.from.result c.args.count first c.in_ok-put-2.ensures.ok
-        c.in_err-put_number-2.ensures.fault)
+    c.in_err-put_number-2.ensures.fault)
 
 pub returns-clause-ok : goal.returns-clause-ok
 returns-clause-ok g c =
     let v : c.args.vars ≡ c.from.result = cc in
     let first = passed-more _ _ _ _ _ _ _ _ c.in_ok-put.ensures.ok c.in_ok-put_number.ensures.ok in
     rw v (on_ok_weaker c.put-3.result
-        (header_end _ _ _ _ _ _ _ _ _ _ c.from.result c.args.count first c.in_ok-put-2.ensures.ok
-          c.in_ok-put_number-2.ensures.ok) c.put-3.ensures.ok)
+    (header_end _ _ _ _ _ _ _ _ _ _ c.from.result c.args.count first c.in_ok-put-2.ensures.ok
+    c.in_ok-put_number-2.ensures.ok) c.put-3.ensures.ok)
 
 pub returns-clause-fault : goal.returns-clause-fault
 returns-clause-fault g c =
     let v : c.args.vars ≡ c.from.result = cc in
     let first = passed-more _ _ _ _ _ _ _ _ c.in_ok-put.ensures.ok c.in_ok-put_number.ensures.ok in
     rw v (on_err_weaker c.put-3.result
-        (header_fault _ _ _ _ _ _ _ _ _ c.from.result c.args.count first c.in_ok-put-2.ensures.ok
-          c.in_ok-put_number-2.ensures.ok) c.put-3.ensures.fault)
+    (header_fault _ _ _ _ _ _ _ _ _ c.from.result c.args.count first c.in_ok-put-2.ensures.ok
+    c.in_ok-put_number-2.ensures.ok) c.put-3.ensures.fault)

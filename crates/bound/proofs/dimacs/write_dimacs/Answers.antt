@@ -10,48 +10,48 @@ returns-in_err-put_header-clause-fault g c =
     let p = err_from_is_err_and c.from_residual.result c.from_residual.ensures.1 in
     let count = c.len.ensures ∙ ap length c.clauses-clauses.ensures in
     let start =
-      dimacs_left c.args.formula.now c.vars.result c.len.result c.clauses-clauses.result.now
-        c.vars.ensures.vars count c.clauses-clauses.ensures (g.W.Write.contents c.args.writer.now)
-        c.new-block.result in
+    dimacs_left c.args.formula.now c.vars.result c.len.result c.clauses-clauses.result.now
+    c.vars.ensures.vars count c.clauses-clauses.ensures (g.W.Write.contents c.args.writer.now)
+    c.new-block.result in
     rw (p.1) (part_from_empty _ _ _ _ c.new-block.ensures
-        (put_fault _ _ _ _ _ _ _ _ start c.in_err-put_header.ensures.fault))
+    (put_fault _ _ _ _ _ _ _ _ start c.in_err-put_header.ensures.fault))
 
 pub returns-in_err-put_clauses-clause-fault : goal.returns-in_err-put_clauses-clause-fault
 returns-in_err-put_clauses-clause-fault g c =
     let p =
-      err_from_is_err_and c.from_residual-in_err-put_clauses.result
-        c.from_residual-in_err-put_clauses.ensures.1 in
+    err_from_is_err_and c.from_residual-in_err-put_clauses.result
+    c.from_residual-in_err-put_clauses.ensures.1 in
     let count = c.len.ensures ∙ ap length c.clauses-clauses.ensures in
     let start =
-      dimacs_left c.args.formula.now c.vars.result c.len.result c.clauses-clauses.result.now
-        c.vars.ensures.vars count c.clauses-clauses.ensures (g.W.Write.contents c.args.writer.now)
-        c.new-block.result in
+    dimacs_left c.args.formula.now c.vars.result c.len.result c.clauses-clauses.result.now
+    c.vars.ensures.vars count c.clauses-clauses.ensures (g.W.Write.contents c.args.writer.now)
+    c.new-block.result in
     let headed = put_more _ _ _ _ _ _ _ _ start _ c.in_ok-put_header.ensures.ok in
     rw (p.1) (part_from_empty _ _ _ _ c.new-block.ensures
-        (put_fault _ _ _ _ _ _ _ _ headed c.in_err-put_clauses.ensures.fault))
+    (put_fault _ _ _ _ _ _ _ _ headed c.in_err-put_clauses.ensures.fault))
 
 pub returns-clause-ok : goal.returns-clause-ok
 returns-clause-ok g c =
     let count = c.len.ensures ∙ ap length c.clauses-clauses.ensures in
     let start =
-      dimacs_left c.args.formula.now c.vars.result c.len.result c.clauses-clauses.result.now
-        c.vars.ensures.vars count c.clauses-clauses.ensures (g.W.Write.contents c.args.writer.now)
-        c.new-block.result in
+    dimacs_left c.args.formula.now c.vars.result c.len.result c.clauses-clauses.result.now
+    c.vars.ensures.vars count c.clauses-clauses.ensures (g.W.Write.contents c.args.writer.now)
+    c.new-block.result in
     let headed = put_more _ _ _ _ _ _ _ _ start _ c.in_ok-put_header.ensures.ok in
     let all =
-      all_put _ _ _ _ _ (put_more _ _ _ _ _ _ _ _ headed _ c.in_ok-put_clauses.ensures.ok) in
+    all_put _ _ _ _ _ (put_more _ _ _ _ _ _ _ _ headed _ c.in_ok-put_clauses.ensures.ok) in
     on_ok_weaker c.flush.result (λ q. whole_from_empty _ _ _ _ _ _ c.new-block.ensures all q)
-      c.flush.ensures.ok
+    c.flush.ensures.ok
 
 pub returns-clause-fault : goal.returns-clause-fault
 returns-clause-fault g c =
     let count = c.len.ensures ∙ ap length c.clauses-clauses.ensures in
     let start =
-      dimacs_left c.args.formula.now c.vars.result c.len.result c.clauses-clauses.result.now
-        c.vars.ensures.vars count c.clauses-clauses.ensures (g.W.Write.contents c.args.writer.now)
-        c.new-block.result in
+    dimacs_left c.args.formula.now c.vars.result c.len.result c.clauses-clauses.result.now
+    c.vars.ensures.vars count c.clauses-clauses.ensures (g.W.Write.contents c.args.writer.now)
+    c.new-block.result in
     let headed = put_more _ _ _ _ _ _ _ _ start _ c.in_ok-put_header.ensures.ok in
     let all =
-      all_put _ _ _ _ _ (put_more _ _ _ _ _ _ _ _ headed _ c.in_ok-put_clauses.ensures.ok) in
+    all_put _ _ _ _ _ (put_more _ _ _ _ _ _ _ _ headed _ c.in_ok-put_clauses.ensures.ok) in
     on_err_weaker c.flush.result (λ q. flush_from_empty _ _ _ _ _ _ c.new-block.ensures all q)
-      c.flush.ensures.fault
+    c.flush.ensures.fault

@@ -15,33 +15,40 @@ pub are_opposed-requires : goal.are_opposed-requires
 are_opposed-requires c =
     let n = c.args.instance.now.variables in
     let left : All (IsClauseWithin n) (c.in-Some.clause.now ∷ c.next.new.self) =
-      subst (All (IsClauseWithin n)) c.in-Some.ensures.steps c.loop-clause.invariant.left in
+    subst (All (IsClauseWithin n)) c.in-Some.ensures.steps c.loop-clause.invariant.left in
     let places : 2 * n ≤ length c.loop-clause.marks =
-      omega (arith, c.requires, c.loop-clause.invariant.marks) in
+    omega (arith, c.requires, c.loop-clause.invariant.marks) in
     places_within n (length c.loop-clause.marks) c.in-Some.clause.now places
-      (All-head (IsClauseWithin n) c.in-Some.clause.now c.next.new.self left)
+    (All-head (IsClauseWithin n) c.in-Some.clause.now c.next.new.self left)
 
 pub overflow_add-count : goal.overflow_add-count
 overflow_add-count c =
     let p = c.args.instance.now in
     let few : c.loop-clause.count + 1 < 2 ^ 64 =
-      omega (arith, c.loop-clause.invariant.counted, kept_le p.hard,
-        c.vars-vars.ensures.limits.hard_count) in
+    omega (
+      arith,
+      c.loop-clause.invariant.counted,
+      kept_le p.hard,
+      c.vars-vars.ensures.limits.hard_count,
+    ) in
     search rules
 
 pub loop-clause-preserved-then-not-are_opposed : goal.loop-clause-preserved-then-not-are_opposed
 loop-clause-preserved-then-not-are_opposed c =
     let n = c.args.instance.now.variables in
     let left : All (IsClauseWithin n) (c.in-Some.clause.now ∷ c.next.new.self) =
-      subst (All (IsClauseWithin n)) c.in-Some.ensures.steps c.loop-clause.invariant.left in
+    subst (All (IsClauseWithin n)) c.in-Some.ensures.steps c.loop-clause.invariant.left in
     let once = (All-head (IsClauseWithin n) c.in-Some.clause.now c.next.new.self left).0 in
     let e : has_opposites c.in-Some.clause.now ≡ false = sym c.are_opposed.ensures.value
-      ∙ c.if-not-are_opposed.true in
+    ∙ c.if-not-are_opposed.true in
     record {
       counted =
-        omega (arith, c.loop-clause.invariant.counted,
-          ap (λ x. length (kept x)) c.in-Some.ensures.steps,
-          hard_counted c.in-Some.clause.now c.next.new.self once e);
+          omega (
+            arith,
+            c.loop-clause.invariant.counted,
+            ap (λ x. length (kept x)) c.in-Some.ensures.steps,
+            hard_counted c.in-Some.clause.now c.next.new.self once e,
+          );
       marks = c.are_opposed.ensures.marks ∙ c.loop-clause.invariant.marks;
       left = All-tail (IsClauseWithin n) c.in-Some.clause.now c.next.new.self left;
     }
@@ -50,15 +57,18 @@ pub loop-clause-preserved : goal.loop-clause-preserved
 loop-clause-preserved c =
     let n = c.args.instance.now.variables in
     let left : All (IsClauseWithin n) (c.in-Some.clause.now ∷ c.next.new.self) =
-      subst (All (IsClauseWithin n)) c.in-Some.ensures.steps c.loop-clause.invariant.left in
+    subst (All (IsClauseWithin n)) c.in-Some.ensures.steps c.loop-clause.invariant.left in
     let once = (All-head (IsClauseWithin n) c.in-Some.clause.now c.next.new.self left).0 in
     let e : has_opposites c.in-Some.clause.now ≡ true = sym c.are_opposed.ensures.value
-      ∙ c.if-not-are_opposed.false in
+    ∙ c.if-not-are_opposed.false in
     record {
       counted =
-        omega (arith, c.loop-clause.invariant.counted,
-          ap (λ x. length (kept x)) c.in-Some.ensures.steps,
-          hard_passed c.in-Some.clause.now c.next.new.self once e);
+          omega (
+            arith,
+            c.loop-clause.invariant.counted,
+            ap (λ x. length (kept x)) c.in-Some.ensures.steps,
+            hard_passed c.in-Some.clause.now c.next.new.self once e,
+          );
       marks = c.are_opposed.ensures.marks ∙ c.loop-clause.invariant.marks;
       left = All-tail (IsClauseWithin n) c.in-Some.clause.now c.next.new.self left;
     }

@@ -14,12 +14,12 @@ returns-in_err-keep_cell-clause-fault g c =
 pub returns-in_err-put_clauses-clause-fault : goal.returns-in_err-put_clauses-clause-fault
 returns-in_err-put_clauses-clause-fault g c =
     let p =
-      err_from_is_err_and c.from_residual-in_err-put_clauses.result
-        c.from_residual-in_err-put_clauses.ensures.1 in
+    err_from_is_err_and c.from_residual-in_err-put_clauses.result
+    c.from_residual-in_err-put_clauses.ensures.1 in
     rw (p.1, ← c.cells-cells.ensures)
     (cell_fault c.cells-cells.result.now c.loop-cell.cell-index c.cell-item.result (search rules)
-        c.cell-item.is _ _ c.clear.ensures c.in_ok-keep_cell.ensures _ _ _ _ _ _
-        c.loop-cell.invariant c.in_err-put_clauses.ensures.fault)
+    c.cell-item.is _ _ c.clear.ensures c.in_ok-keep_cell.ensures _ _ _ _ _ _
+    c.loop-cell.invariant c.in_err-put_clauses.ensures.fault)
 
 pub loop-cell-init : goal.loop-cell-init
 loop-cell-init g c = none_put _ _ _
@@ -27,13 +27,13 @@ loop-cell-init g c = none_put _ _ _
 pub loop-cell-preserved : goal.loop-cell-preserved
 loop-cell-preserved g c =
     cell_put c.cells-cells.result.now c.loop-cell.cell-index c.cell-item.result (search rules)
-      c.cell-item.is _ _ c.clear.ensures c.in_ok-keep_cell.ensures _ _ _ _ _ _ c.loop-cell.invariant
-      _ c.in_ok-put_clauses.ensures.ok
+    c.cell-item.is _ _ c.clear.ensures c.in_ok-keep_cell.ensures _ _ _ _ _ _ c.loop-cell.invariant
+    _ c.in_ok-put_clauses.ensures.ok
 
 pub returns-clause-ok : goal.returns-clause-ok
 returns-clause-ok g c =
     let none : drop c.loop-cell.cell-index c.cells-cells.result.now ≡ [] =
-      drop_all c.loop-cell.cell-index c.cells-cells.result.now (search rules) in
+    drop_all c.loop-cell.cell-index c.cells-cells.result.now (search rules) in
     rw (← c.cells-cells.ensures)
-      (all_put _ _ _ _ _ (same_left _ _ _ _ _ _ _ (ap (λ x. lines_of (cells_kept x)) none)
-          c.loop-cell.invariant))
+    (all_put _ _ _ _ _ (same_left _ _ _ _ _ _ _ (ap (λ x. lines_of (cells_kept x)) none)
+    c.loop-cell.invariant))

@@ -16,48 +16,48 @@ pub are_opposed-requires : goal.are_opposed-requires
 are_opposed-requires g c =
     let n = c.args.instance.now.variables in
     let left : All (IsClauseWithin n) (c.in-Some.clause.now ∷ c.next.new.self) =
-      subst (All (IsClauseWithin n)) c.in-Some.ensures.steps c.loop-clause.invariant.left in
+    subst (All (IsClauseWithin n)) c.in-Some.ensures.steps c.loop-clause.invariant.left in
     let places : 2 * n ≤ length c.loop-clause.marks =
-      omega (arith, c.requires, c.loop-clause.invariant.marks) in
+    omega (arith, c.requires, c.loop-clause.invariant.marks) in
     places_within n (length c.loop-clause.marks) c.in-Some.clause.now places
-      (All-head (IsClauseWithin n) c.in-Some.clause.now c.next.new.self left)
+    (All-head (IsClauseWithin n) c.in-Some.clause.now c.next.new.self left)
 
 pub returns-in_err-put_clause-clause-fault : goal.returns-in_err-put_clause-clause-fault
 returns-in_err-put_clause-clause-fault g c =
     let p = err_from_is_err_and c.from_residual.result c.from_residual.ensures.1 in
     let n = c.args.instance.now.variables in
     let left : All (IsClauseWithin n) (c.in-Some.clause.now ∷ c.next.new.self) =
-      subst (All (IsClauseWithin n)) c.in-Some.ensures.steps c.loop-clause.invariant.left in
+    subst (All (IsClauseWithin n)) c.in-Some.ensures.steps c.loop-clause.invariant.left in
     let once = (All-head (IsClauseWithin n) c.in-Some.clause.now c.next.new.self left).0 in
     let e : has_opposites c.in-Some.clause.now ≡ false = sym c.are_opposed.ensures.value
-      ∙ c.if-not-are_opposed.true in
+    ∙ c.if-not-are_opposed.true in
     rw (p.1) (hard_fault _ _ once _ _ _ _ _ _ c.in-Some.ensures.steps c.loop-clause.invariant.put e
-        _ c.in_err-put_clause.ensures.fault)
+    _ c.in_err-put_clause.ensures.fault)
 
 pub loop-clause-init : goal.loop-clause-init
 loop-clause-init g c = record {
   put =
-    same_left _ _ _ _ _ _ _
+      same_left _ _ _ _ _ _ _
       (ap (λ x. lines_of (kept x)) (sym (c.into_iter-clause-iterator.ensures.into_iter_gives
-          ∙ c.iter-clause-items.ensures ∙ c.hard.ensures))) (none_put _ _ _);
+      ∙ c.iter-clause-items.ensures ∙ c.hard.ensures))) (none_put _ _ _);
   marks = refl;
   left =
-    subst (All (IsClauseWithin c.args.instance.now.variables))
+      subst (All (IsClauseWithin c.args.instance.now.variables))
       (sym (c.into_iter-clause-iterator.ensures.into_iter_gives ∙ c.iter-clause-items.ensures
-        ∙ c.hard.ensures)) c.vars-vars.ensures.limits.hard_clauses;
+      ∙ c.hard.ensures)) c.vars-vars.ensures.limits.hard_clauses;
 }
 
 pub loop-clause-preserved-in-Continue-1 : goal.loop-clause-preserved-in-Continue-1
 loop-clause-preserved-in-Continue-1 g c =
     let n = c.args.instance.now.variables in
     let left : All (IsClauseWithin n) (c.in-Some.clause.now ∷ c.next.new.self) =
-      subst (All (IsClauseWithin n)) c.in-Some.ensures.steps c.loop-clause.invariant.left in
+    subst (All (IsClauseWithin n)) c.in-Some.ensures.steps c.loop-clause.invariant.left in
     let once = (All-head (IsClauseWithin n) c.in-Some.clause.now c.next.new.self left).0 in
     let e : has_opposites c.in-Some.clause.now ≡ false = sym c.are_opposed.ensures.value
-      ∙ c.if-not-are_opposed.true in
+    ∙ c.if-not-are_opposed.true in
     record {
       put =
-        hard_put _ _ once _ _ _ _ _ _ c.in-Some.ensures.steps c.loop-clause.invariant.put e _ _
+          hard_put _ _ once _ _ _ _ _ _ c.in-Some.ensures.steps c.loop-clause.invariant.put e _ _
           c.in_ok-put_clause.ensures.ok;
       marks = c.are_opposed.ensures.marks ∙ c.loop-clause.invariant.marks;
       left = All-tail (IsClauseWithin n) c.in-Some.clause.now c.next.new.self left;
@@ -67,10 +67,10 @@ pub loop-clause-preserved : goal.loop-clause-preserved
 loop-clause-preserved g c =
     let n = c.args.instance.now.variables in
     let left : All (IsClauseWithin n) (c.in-Some.clause.now ∷ c.next.new.self) =
-      subst (All (IsClauseWithin n)) c.in-Some.ensures.steps c.loop-clause.invariant.left in
+    subst (All (IsClauseWithin n)) c.in-Some.ensures.steps c.loop-clause.invariant.left in
     let once = (All-head (IsClauseWithin n) c.in-Some.clause.now c.next.new.self left).0 in
     let e : has_opposites c.in-Some.clause.now ≡ true = sym c.are_opposed.ensures.value
-      ∙ c.if-not-are_opposed.false in
+    ∙ c.if-not-are_opposed.false in
     record {
       put = hard_skipped _ _ once _ _ _ _ _ _ c.in-Some.ensures.steps c.loop-clause.invariant.put e;
       marks = c.are_opposed.ensures.marks ∙ c.loop-clause.invariant.marks;
@@ -80,4 +80,4 @@ loop-clause-preserved g c =
 pub returns-clause-ok : goal.returns-clause-ok
 returns-clause-ok g c =
     all_put _ _ _ _ _ (same_left _ _ _ _ _ _ _
-      (ap (λ x. lines_of (kept x)) c.in-None.ensures.steps.0) c.loop-clause.invariant.put)
+    (ap (λ x. lines_of (kept x)) c.in-None.ensures.steps.0) c.loop-clause.invariant.put)

@@ -22,18 +22,18 @@ begun : (profile : Profile) (p : Problem) (k v n : ℕ) (r m : List (List Litera
     → (ev : v ≡ (bound_as profile p k).variables) (en : n ≡ length (bound_as profile p k).clauses)
     → (a : Option (List ℕ)) (held : List ℕ)
     → (let f = bound_as profile p k in
-        IsPutUpTo a held (dimacs_text f)
-        (header_line v n ++ (lines_of (kept p.hard)
-            ++ (lines_of r ++ (lines_of (cells_kept x.cells) ++ (lines_of m ++ []))))) a held)
+    IsPutUpTo a held (dimacs_text f)
+    (header_line v n ++ (lines_of (kept p.hard)
+    ++ (lines_of r ++ (lines_of (cells_kept x.cells) ++ (lines_of m ++ []))))) a held)
 begun profile p k v n r m x er ex em ev en a held =
     parts_left (bound_as profile p k) v n (kept p.hard) r (cells_kept x.cells) m ev en
-      (λ i. kept p.hard ++ sym er i ++ cells_kept (sym ex i).cells ++ sym em i) a held
+    (λ i. kept p.hard ++ sym er i ++ cells_kept (sym ex i).cells ++ sym em i) a held
 
 pub put_cells-requires : goal.put_cells-requires
 put_cells-requires g c =
     let P : List Cell → Type 0 = λ x. All HasVariables x in
     subst P (sym (ap (λ (n : Adders). n.cells) c.in_ok-outline.ensures.network))
-      (cells_variables c.args.profile c.args.instance.now c.vars.ensures.limits)
+    (cells_variables c.args.profile c.args.instance.now c.vars.ensures.limits)
 
 pub returns-in_err-marks-clause-fault : goal.returns-in_err-marks-clause-fault
 returns-in_err-marks-clause-fault g c =
@@ -43,128 +43,128 @@ returns-in_err-marks-clause-fault g c =
 pub returns-in_err-outline-clause-fault : goal.returns-in_err-outline-clause-fault
 returns-in_err-outline-clause-fault g c =
     let p =
-      err_from_is_err_and c.from_residual-in_err-outline.result
-        c.from_residual-in_err-outline.ensures.1 in
+    err_from_is_err_and c.from_residual-in_err-outline.result
+    c.from_residual-in_err-outline.ensures.1 in
     rw (p.1) (nothing_put _ _)
 
 pub returns-in_err-put_header-clause-fault : goal.returns-in_err-put_header-clause-fault
 returns-in_err-put_header-clause-fault g c =
     let p =
-      err_from_is_err_and c.from_residual-in_err-put_header.result
-        c.from_residual-in_err-put_header.ensures.1 in
+    err_from_is_err_and c.from_residual-in_err-put_header.result
+    c.from_residual-in_err-put_header.ensures.1 in
     let start =
-      begun c.args.profile c.args.instance.now c.args.k c.in_ok-outline.outline.vars
-        c.in_ok-outline.outline.count c.in_ok-outline.outline.relaxed
-        c.in_ok-outline.outline.comparator c.in_ok-outline.outline.network
-        c.in_ok-outline.ensures.relaxed c.in_ok-outline.ensures.network
-        c.in_ok-outline.ensures.comparator c.in_ok-outline.ensures.vars
-        c.in_ok-outline.ensures.count (g.W.Write.contents c.args.writer.now) c.new-block.result in
+    begun c.args.profile c.args.instance.now c.args.k c.in_ok-outline.outline.vars
+    c.in_ok-outline.outline.count c.in_ok-outline.outline.relaxed
+    c.in_ok-outline.outline.comparator c.in_ok-outline.outline.network
+    c.in_ok-outline.ensures.relaxed c.in_ok-outline.ensures.network
+    c.in_ok-outline.ensures.comparator c.in_ok-outline.ensures.vars
+    c.in_ok-outline.ensures.count (g.W.Write.contents c.args.writer.now) c.new-block.result in
     rw (p.1) (part_from_empty _ _ _ _ c.new-block.ensures
-        (put_fault _ _ _ _ _ _ _ _ start c.in_err-put_header.ensures.fault))
+    (put_fault _ _ _ _ _ _ _ _ start c.in_err-put_header.ensures.fault))
 
 pub returns-in_err-put_hard-clause-fault : goal.returns-in_err-put_hard-clause-fault
 returns-in_err-put_hard-clause-fault g c =
     let p =
-      err_from_is_err_and c.from_residual-in_err-put_hard.result
-        c.from_residual-in_err-put_hard.ensures.1 in
+    err_from_is_err_and c.from_residual-in_err-put_hard.result
+    c.from_residual-in_err-put_hard.ensures.1 in
     let start =
-      begun c.args.profile c.args.instance.now c.args.k c.in_ok-outline.outline.vars
-        c.in_ok-outline.outline.count c.in_ok-outline.outline.relaxed
-        c.in_ok-outline.outline.comparator c.in_ok-outline.outline.network
-        c.in_ok-outline.ensures.relaxed c.in_ok-outline.ensures.network
-        c.in_ok-outline.ensures.comparator c.in_ok-outline.ensures.vars
-        c.in_ok-outline.ensures.count (g.W.Write.contents c.args.writer.now) c.new-block.result in
+    begun c.args.profile c.args.instance.now c.args.k c.in_ok-outline.outline.vars
+    c.in_ok-outline.outline.count c.in_ok-outline.outline.relaxed
+    c.in_ok-outline.outline.comparator c.in_ok-outline.outline.network
+    c.in_ok-outline.ensures.relaxed c.in_ok-outline.ensures.network
+    c.in_ok-outline.ensures.comparator c.in_ok-outline.ensures.vars
+    c.in_ok-outline.ensures.count (g.W.Write.contents c.args.writer.now) c.new-block.result in
     let header = put_more _ _ _ _ _ _ _ _ start _ c.in_ok-put_header.ensures.ok in
     rw (p.1) (part_from_empty _ _ _ _ c.new-block.ensures
-        (put_fault _ _ _ _ _ _ _ _ header c.in_err-put_hard.ensures.fault))
+    (put_fault _ _ _ _ _ _ _ _ header c.in_err-put_hard.ensures.fault))
 
 pub returns-in_err-put_clauses-clause-fault : goal.returns-in_err-put_clauses-clause-fault
 returns-in_err-put_clauses-clause-fault g c =
     let p =
-      err_from_is_err_and c.from_residual-in_err-put_clauses.result
-        c.from_residual-in_err-put_clauses.ensures.1 in
+    err_from_is_err_and c.from_residual-in_err-put_clauses.result
+    c.from_residual-in_err-put_clauses.ensures.1 in
     let start =
-      begun c.args.profile c.args.instance.now c.args.k c.in_ok-outline.outline.vars
-        c.in_ok-outline.outline.count c.in_ok-outline.outline.relaxed
-        c.in_ok-outline.outline.comparator c.in_ok-outline.outline.network
-        c.in_ok-outline.ensures.relaxed c.in_ok-outline.ensures.network
-        c.in_ok-outline.ensures.comparator c.in_ok-outline.ensures.vars
-        c.in_ok-outline.ensures.count (g.W.Write.contents c.args.writer.now) c.new-block.result in
+    begun c.args.profile c.args.instance.now c.args.k c.in_ok-outline.outline.vars
+    c.in_ok-outline.outline.count c.in_ok-outline.outline.relaxed
+    c.in_ok-outline.outline.comparator c.in_ok-outline.outline.network
+    c.in_ok-outline.ensures.relaxed c.in_ok-outline.ensures.network
+    c.in_ok-outline.ensures.comparator c.in_ok-outline.ensures.vars
+    c.in_ok-outline.ensures.count (g.W.Write.contents c.args.writer.now) c.new-block.result in
     let header = put_more _ _ _ _ _ _ _ _ start _ c.in_ok-put_header.ensures.ok in
     let hard = put_more _ _ _ _ _ _ _ _ header _ c.in_ok-put_hard.ensures.ok in
     rw (p.1) (part_from_empty _ _ _ _ c.new-block.ensures
-        (put_fault _ _ _ _ _ _ _ _ hard c.in_err-put_clauses.ensures.fault))
+    (put_fault _ _ _ _ _ _ _ _ hard c.in_err-put_clauses.ensures.fault))
 
 pub returns-in_err-put_cells-clause-fault : goal.returns-in_err-put_cells-clause-fault
 returns-in_err-put_cells-clause-fault g c =
     let p =
-      err_from_is_err_and c.from_residual-in_err-put_cells.result
-        c.from_residual-in_err-put_cells.ensures.1 in
+    err_from_is_err_and c.from_residual-in_err-put_cells.result
+    c.from_residual-in_err-put_cells.ensures.1 in
     let start =
-      begun c.args.profile c.args.instance.now c.args.k c.in_ok-outline.outline.vars
-        c.in_ok-outline.outline.count c.in_ok-outline.outline.relaxed
-        c.in_ok-outline.outline.comparator c.in_ok-outline.outline.network
-        c.in_ok-outline.ensures.relaxed c.in_ok-outline.ensures.network
-        c.in_ok-outline.ensures.comparator c.in_ok-outline.ensures.vars
-        c.in_ok-outline.ensures.count (g.W.Write.contents c.args.writer.now) c.new-block.result in
+    begun c.args.profile c.args.instance.now c.args.k c.in_ok-outline.outline.vars
+    c.in_ok-outline.outline.count c.in_ok-outline.outline.relaxed
+    c.in_ok-outline.outline.comparator c.in_ok-outline.outline.network
+    c.in_ok-outline.ensures.relaxed c.in_ok-outline.ensures.network
+    c.in_ok-outline.ensures.comparator c.in_ok-outline.ensures.vars
+    c.in_ok-outline.ensures.count (g.W.Write.contents c.args.writer.now) c.new-block.result in
     let header = put_more _ _ _ _ _ _ _ _ start _ c.in_ok-put_header.ensures.ok in
     let hard = put_more _ _ _ _ _ _ _ _ header _ c.in_ok-put_hard.ensures.ok in
     let soft = put_more _ _ _ _ _ _ _ _ hard _ c.in_ok-put_clauses.ensures.ok in
     rw (p.1) (part_from_empty _ _ _ _ c.new-block.ensures
-        (put_fault _ _ _ _ _ _ _ _ soft c.in_err-put_cells.ensures.fault))
+    (put_fault _ _ _ _ _ _ _ _ soft c.in_err-put_cells.ensures.fault))
 
 pub returns-in_err-put_clauses-2-clause-fault : goal.returns-in_err-put_clauses-2-clause-fault
 returns-in_err-put_clauses-2-clause-fault g c =
     let p =
-      err_from_is_err_and c.from_residual-in_err-put_clauses-2.result
-        c.from_residual-in_err-put_clauses-2.ensures.1 in
+    err_from_is_err_and c.from_residual-in_err-put_clauses-2.result
+    c.from_residual-in_err-put_clauses-2.ensures.1 in
     let start =
-      begun c.args.profile c.args.instance.now c.args.k c.in_ok-outline.outline.vars
-        c.in_ok-outline.outline.count c.in_ok-outline.outline.relaxed
-        c.in_ok-outline.outline.comparator c.in_ok-outline.outline.network
-        c.in_ok-outline.ensures.relaxed c.in_ok-outline.ensures.network
-        c.in_ok-outline.ensures.comparator c.in_ok-outline.ensures.vars
-        c.in_ok-outline.ensures.count (g.W.Write.contents c.args.writer.now) c.new-block.result in
+    begun c.args.profile c.args.instance.now c.args.k c.in_ok-outline.outline.vars
+    c.in_ok-outline.outline.count c.in_ok-outline.outline.relaxed
+    c.in_ok-outline.outline.comparator c.in_ok-outline.outline.network
+    c.in_ok-outline.ensures.relaxed c.in_ok-outline.ensures.network
+    c.in_ok-outline.ensures.comparator c.in_ok-outline.ensures.vars
+    c.in_ok-outline.ensures.count (g.W.Write.contents c.args.writer.now) c.new-block.result in
     let header = put_more _ _ _ _ _ _ _ _ start _ c.in_ok-put_header.ensures.ok in
     let hard = put_more _ _ _ _ _ _ _ _ header _ c.in_ok-put_hard.ensures.ok in
     let soft = put_more _ _ _ _ _ _ _ _ hard _ c.in_ok-put_clauses.ensures.ok in
     let cells = put_more _ _ _ _ _ _ _ _ soft _ c.in_ok-put_cells.ensures.ok in
     rw (p.1) (part_from_empty _ _ _ _ c.new-block.ensures
-        (put_fault _ _ _ _ _ _ _ _ cells c.in_err-put_clauses-2.ensures.fault))
+    (put_fault _ _ _ _ _ _ _ _ cells c.in_err-put_clauses-2.ensures.fault))
 
 pub returns-in_err-flush-clause-fault : goal.returns-in_err-flush-clause-fault
 returns-in_err-flush-clause-fault g c =
     let p =
-      err_from_is_err_and c.from_residual-in_err-flush.result c.from_residual-in_err-flush.ensures.1
-        in
+    err_from_is_err_and c.from_residual-in_err-flush.result c.from_residual-in_err-flush.ensures.1
+    in
     let start =
-      begun c.args.profile c.args.instance.now c.args.k c.in_ok-outline.outline.vars
-        c.in_ok-outline.outline.count c.in_ok-outline.outline.relaxed
-        c.in_ok-outline.outline.comparator c.in_ok-outline.outline.network
-        c.in_ok-outline.ensures.relaxed c.in_ok-outline.ensures.network
-        c.in_ok-outline.ensures.comparator c.in_ok-outline.ensures.vars
-        c.in_ok-outline.ensures.count (g.W.Write.contents c.args.writer.now) c.new-block.result in
+    begun c.args.profile c.args.instance.now c.args.k c.in_ok-outline.outline.vars
+    c.in_ok-outline.outline.count c.in_ok-outline.outline.relaxed
+    c.in_ok-outline.outline.comparator c.in_ok-outline.outline.network
+    c.in_ok-outline.ensures.relaxed c.in_ok-outline.ensures.network
+    c.in_ok-outline.ensures.comparator c.in_ok-outline.ensures.vars
+    c.in_ok-outline.ensures.count (g.W.Write.contents c.args.writer.now) c.new-block.result in
     let header = put_more _ _ _ _ _ _ _ _ start _ c.in_ok-put_header.ensures.ok in
     let hard = put_more _ _ _ _ _ _ _ _ header _ c.in_ok-put_hard.ensures.ok in
     let soft = put_more _ _ _ _ _ _ _ _ hard _ c.in_ok-put_clauses.ensures.ok in
     let cells = put_more _ _ _ _ _ _ _ _ soft _ c.in_ok-put_cells.ensures.ok in
     let compared = put_more _ _ _ _ _ _ _ _ cells _ c.in_ok-put_clauses-2.ensures.ok in
     rw (p.1) (flush_from_empty _ _ _ _ _ _ c.new-block.ensures (all_put _ _ _ _ _ compared)
-        c.in_err-flush.ensures.fault)
+    c.in_err-flush.ensures.fault)
 
 pub returns-clause-ok : goal.returns-clause-ok
 returns-clause-ok g c =
     let start =
-      begun c.args.profile c.args.instance.now c.args.k c.in_ok-outline.outline.vars
-        c.in_ok-outline.outline.count c.in_ok-outline.outline.relaxed
-        c.in_ok-outline.outline.comparator c.in_ok-outline.outline.network
-        c.in_ok-outline.ensures.relaxed c.in_ok-outline.ensures.network
-        c.in_ok-outline.ensures.comparator c.in_ok-outline.ensures.vars
-        c.in_ok-outline.ensures.count (g.W.Write.contents c.args.writer.now) c.new-block.result in
+    begun c.args.profile c.args.instance.now c.args.k c.in_ok-outline.outline.vars
+    c.in_ok-outline.outline.count c.in_ok-outline.outline.relaxed
+    c.in_ok-outline.outline.comparator c.in_ok-outline.outline.network
+    c.in_ok-outline.ensures.relaxed c.in_ok-outline.ensures.network
+    c.in_ok-outline.ensures.comparator c.in_ok-outline.ensures.vars
+    c.in_ok-outline.ensures.count (g.W.Write.contents c.args.writer.now) c.new-block.result in
     let header = put_more _ _ _ _ _ _ _ _ start _ c.in_ok-put_header.ensures.ok in
     let hard = put_more _ _ _ _ _ _ _ _ header _ c.in_ok-put_hard.ensures.ok in
     let soft = put_more _ _ _ _ _ _ _ _ hard _ c.in_ok-put_clauses.ensures.ok in
     let cells = put_more _ _ _ _ _ _ _ _ soft _ c.in_ok-put_cells.ensures.ok in
     let compared = put_more _ _ _ _ _ _ _ _ cells _ c.in_ok-put_clauses-2.ensures.ok in
     whole_from_empty _ _ _ _ _ _ c.new-block.ensures (all_put _ _ _ _ _ compared)
-      c.in_ok-flush.ensures.ok
+    c.in_ok-flush.ensures.ok

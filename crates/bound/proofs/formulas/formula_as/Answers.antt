@@ -13,24 +13,24 @@ use Rattle.bound.proofs.formulas.formula_as.Goals as goal
 pub keep_cells-requires : goal.keep_cells-requires
 keep_cells-requires c =
     let cells : c.cells.result.now ≡ (adders_as c.args.profile c.args.instance.now).cells =
-      cc (c.cells.ensures, c.in_ok-network.ensures.cells) in
+    cc (c.cells.ensures, c.in_ok-network.ensures.cells) in
     let P : List Cell → Type 0 = λ x. All HasVariables x in
     subst P (sym cells)
-      (cells_variables c.args.profile c.args.instance.now c.vars-vars.ensures.limits)
+    (cells_variables c.args.profile c.args.instance.now c.vars-vars.ensures.limits)
 
 pub new-requires : goal.new-requires
 new-requires c =
     let p = c.args.instance.now in
     let same =
-      formula_parts c.args.profile p c.args.k c.in_ok-last.last c.new-clauses.result
-        c.keep_given.new.clauses c.keep_cells.new.clauses c.keep_comparator.new.clauses
+    formula_parts c.args.profile p c.args.k c.in_ok-last.last c.new-clauses.result
+    c.keep_given.new.clauses c.keep_cells.new.clauses c.keep_comparator.new.clauses
     c.cells-2.result.now c.outputs.result.now c.new-clauses.ensures c.in_ok-last.ensures.clauses
     (rw (c.cells-2.ensures, ← c.cells.ensures) c.in_ok-keep_cells.ensures)
-      c.in_ok-keep_comparator.ensures c.in_ok-last.ensures.last
+    c.in_ok-keep_comparator.ensures c.in_ok-last.ensures.last
     (cc (c.cells-2.ensures, c.in_ok-network.ensures.cells))
-      (cc (c.outputs.ensures, c.in_ok-network.ensures.cells)) in
+    (cc (c.outputs.ensures, c.in_ok-network.ensures.cells)) in
     subst IsFormula (sym same)
-      (bound_is_formula c.args.profile p c.args.k c.vars-vars.ensures.limits)
+    (bound_is_formula c.args.profile p c.args.k c.vars-vars.ensures.limits)
 
 pub returns-clause-cheaper : goal.returns-clause-cheaper
 returns-clause-cheaper c =

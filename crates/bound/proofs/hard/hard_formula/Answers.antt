@@ -10,7 +10,7 @@ pub new-requires-2 : goal.new-requires-2
 new-requires-2 c =
     let p = c.args.instance.now in
     let items : c.keep_hard.new.clauses ≡ kept p.hard = c.in_ok-keep_hard.ensures.clauses
-      ∙ ap (λ x. x ++ kept p.hard) c.new-clauses.ensures in
+    ∙ ap (λ x. x ++ kept p.hard) c.new-clauses.ensures in
     rw (items, c.vars-vars.ensures.vars) (hard_is_formula p c.vars-vars.ensures.limits)
 
 pub returns-clause-feasible : goal.returns-clause-feasible

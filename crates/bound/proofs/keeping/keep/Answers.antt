@@ -8,12 +8,12 @@ use Rattle.bound.proofs.keeping.keep.Goals as goal
 pub returns-then-are_opposed-clause-clauses : goal.returns-then-are_opposed-clause-clauses
 returns-then-are_opposed-clause-clauses c =
     let e : has_opposites c.args.lits.now ≡ true = sym c.are_opposed.ensures.value
-      ∙ c.if-are_opposed.true in
+    ∙ c.if-are_opposed.true in
     kept_none c.args.clauses.now c.args.lits.now c.requires.no_repeat e
 
 pub returns-clause-clauses : goal.returns-clause-clauses
 returns-clause-clauses c =
     let e : has_opposites c.args.lits.now ≡ false = sym c.are_opposed.ensures.value
-      ∙ c.if-are_opposed.false in
+    ∙ c.if-are_opposed.false in
     on_ok_weaker c.push.result (λ pushed. pushed
-        ∙ kept_itself c.args.clauses.now c.args.lits.now c.requires.no_repeat e) c.push.ensures.ok
+    ∙ kept_itself c.args.clauses.now c.args.lits.now c.requires.no_repeat e) c.push.ensures.ok

@@ -8,12 +8,12 @@ use Rattle.bound.proofs.keeping.keep_once.Goals as goal
 pub returns-then-has_opposites : goal.returns-then-has_opposites
 returns-then-has_opposites c =
     let e : has_opposites c.args.lits.now ≡ true = sym c.has_opposites.ensures
-      ∙ c.if-has_opposites.true in
+    ∙ c.if-has_opposites.true in
     kept_none c.args.clauses.now c.args.lits.now c.requires e
 
 pub returns : goal.returns
 returns c =
     let e : has_opposites c.args.lits.now ≡ false = sym c.has_opposites.ensures
-      ∙ c.if-has_opposites.false in
+    ∙ c.if-has_opposites.false in
     on_ok_weaker c.push.result (λ pushed. pushed
-        ∙ kept_itself c.args.clauses.now c.args.lits.now c.requires e) c.push.ensures.ok
+    ∙ kept_itself c.args.clauses.now c.args.lits.now c.requires e) c.push.ensures.ok

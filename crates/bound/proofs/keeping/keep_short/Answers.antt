@@ -13,7 +13,7 @@ keep_once-requires c =
 pub returns-in_ok-once : goal.returns-in_ok-once
 returns-in_ok-once c =
     let once : c.deref.result.now ≡ distinct c.args.lits.now =
-      c.deref.ensures.value ∙ c.in_ok-once.ensures in
+    c.deref.ensures.value ∙ c.in_ok-once.ensures in
     on_ok_weaker c.keep_once.result (λ kept. kept
-        ∙ ap (λ x. c.args.clauses.now ++ x) (kept-distinct c.args.lits.now c.deref.result.now once))
-      c.keep_once.ensures
+    ∙ ap (λ x. c.args.clauses.now ++ x) (kept-distinct c.args.lits.now c.deref.result.now once))
+    c.keep_once.ensures

@@ -7,4 +7,4 @@ use Rattle.bound.proofs.relaxing.keep_relaxed.Given as goal
 abbrev pub invariant-loop-soft : goal.invariant-loop-soft
 invariant-loop-soft l =
     IsRelaxedTo l.profile l.fn.instance.variables (take l.soft-index l.soft-items) l.initial.clauses
-      l.clauses l.last × (length l.marks ≡ length l.initial.marks)
+    l.clauses l.last × (length l.marks ≡ length l.initial.marks)

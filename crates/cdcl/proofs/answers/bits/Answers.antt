@@ -16,21 +16,25 @@ returns-clause-satisfied c =
     let removed = p.stack.removed in
     let n = length p.frozen.items in
     let many : length read ≡ p.stack.variables =
-      omega (arith, c.vars-variable-end.ensures, c.loop-variable.invariant.many,
-        c.loop-variable-test.false) in
+    omega (
+      arith,
+      c.vars-variable-end.ensures,
+      c.loop-variable.invariant.many,
+      c.loop-variable-test.false,
+    ) in
     let set : c.extend.new.bits ≡ extended removed read =
-      c.extend.ensures.set ∙ ap (extended removed) c.deref_mut.ensures.value in
+    c.extend.ensures.set ∙ ap (extended removed) c.deref_mut.ensures.value in
     let wide = length-extended removed read in
     let long : length c.extend.new.bits ≡ c.loop-variable.bits.len =
-      ap length set ∙ wide ∙ sym c.loop-variable.bits.ok.0 in
+    ap length set ∙ wide ∙ sym c.loop-variable.bits.ok.0 in
     let count : c.len.result ≡ n = omega (arith, c.len.ensures, p.frozen.ok.0) in
     let items : c.truncate.new.self.items ≡ take n (extended removed read) =
     c.truncate.ensures.items
-      ∙ ap (take c.len.result) (with_items_is c.loop-variable.bits c.extend.new.bits long ∙ set)
-      ∙ ap (λ k. take k (extended removed read)) count in
+    ∙ ap (take c.len.result) (with_items_is c.loop-variable.bits c.extend.new.bits long ∙ set)
+    ∙ ap (λ k. take k (extended removed read)) count in
     let fits : n ≤ length (extended removed read) =
-      omega (arith, wide, many, c.requires.problem.no_fewer) in
+    omega (arith, wide, many, c.requires.problem.no_fewer) in
     subst (λ bits. SatisfyGiven bits p.given.items) (sym items)
     (answer_sat s.engine s.store.slots p.stack (tables_of s) p.frozen.items p.first p.given.items
-        c.requires.runs.0 read r c.requires.quiet many c.loop-variable.invariant.read
-        c.requires.problem.given_small fits)
+    c.requires.runs.0 read r c.requires.quiet many c.loop-variable.invariant.read
+    c.requires.problem.given_small fits)

@@ -9,10 +9,10 @@ pub loop-lit-preserved : goal.loop-lit-preserved
 loop-lit-preserved c =
     let v = c.variable-variable.ensures in
     named_more c.args.lits.now c.loop-lit.lit-index c.lit-item.result c.loop-lit-test.true
-      c.lit-item.is (subst (λ n. 0 < n) v.variable v.from_one) c.loop-lit.invariant
+    c.lit-item.is (subst (λ n. 0 < n) v.variable v.from_one) c.loop-lit.invariant
 
 pub returns : goal.returns
 returns c =
     subst (All (λ (k : Literal). 0 < k.variable))
-      (take_all c.loop-lit.lit-index c.args.lits.now (omega (arith, c.loop-lit-test.false)))
-      c.loop-lit.invariant
+    (take_all c.loop-lit.lit-index c.args.lits.now (omega (arith, c.loop-lit-test.false)))
+    c.loop-lit.invariant

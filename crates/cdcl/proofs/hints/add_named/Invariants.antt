@@ -6,4 +6,4 @@ use Rattle.cdcl.proofs.hints.add_named.Given as goal
 abbrev pub invariant-loop-reference : goal.invariant-loop-reference
 invariant-loop-reference l =
     l.hints.items ≡ l.initial.hints.items ++ plain_hints
-      (map (name_at l.names) (take l.reference-index l.references))
+    (map (name_at l.names) (take l.reference-index l.references))

@@ -7,5 +7,5 @@ abbrev pub invariant-loop-reference : goal.invariant-loop-reference
 invariant-loop-reference l = record {
   past : All (λ n. n ≤ l.stamp) l.stamps;
   gathers : Gathers l.store.slots l.names l.units l.engine.trail l.stamp l.references
-    (take l.reference-index l.references) [] l.stamps l.hints.items;
+      (take l.reference-index l.references) [] l.stamps l.hints.items;
 }

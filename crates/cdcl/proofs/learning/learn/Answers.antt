@@ -24,7 +24,7 @@ pub analyze-requires-clause-falsified : goal.analyze-requires-clause-falsified
 analyze-requires-clause-falsified g c =
     let s = c.args.search.now in
     conflict_of s.engine s.store.slots c.args.conflict c.requires.runs.running.searches
-      c.requires.deep c.requires.conflict
+    c.requires.deep c.requires.conflict
 
 pub hints_of-requires-clause-attached : goal.hints_of-requires-clause-attached
 hints_of-requires-clause-attached g c =
@@ -32,25 +32,25 @@ hints_of-requires-clause-attached g c =
     let learned = c.in_ok-learned.learned in
     subst (All (λ r. is_attached s.engine r ≡ true)) (sym c.as_slice.ensures.value)
     (live_attached s.engine s.store.slots learned.hints.items c.requires.runs.running.searches
-        (refutes_live s.store.slots _ learned.hints.items c.in_ok-learned.ensures.hints))
+    (refutes_live s.store.slots _ learned.hints.items c.in_ok-learned.ensures.hints))
 
 pub hints_of-requires-clause-noted : goal.hints_of-requires-clause-noted
 hints_of-requires-clause-noted g c =
     let s = c.args.search.now in
     subst (λ us. AreNoted s.store.slots us s.engine.trail c.as_slice.result.now)
-      (sym c.deref-2.ensures.value)
+    (sym c.deref-2.ensures.value)
     (all_noted s.store.slots s.engine.trail s.units.items s.noted c.as_slice.result.now
-        c.requires.runs.running.units c.requires.deep)
+    c.requires.runs.running.units c.requires.deep)
 
 pub backtrack-requires-clause-level : goal.backtrack-requires-clause-level
 backtrack-requires-clause-level g c =
     let s = c.args.search.now in
     let learned = c.in_ok-learned.learned in
     let same : depth_of c.bump.new.self.engine.trail ≡ depth_of s.engine.trail =
-      ap (λ (x : Search). depth_of (x.engine).trail) c.bump.ensures.same in
+    ap (λ (x : Search). depth_of (x.engine).trail) c.bump.ensures.same in
     let low =
-      back_low s.engine.trail learned.lits.items learned.back_level
-        c.in_ok-learned.ensures.asserting in
+    back_low s.engine.trail learned.lits.items learned.back_level
+    c.in_ok-learned.ensures.asserting in
     omega arith
 
 pub add_line-requires-clause-within : goal.add_line-requires-clause-within
@@ -58,13 +58,13 @@ add_line-requires-clause-within g c =
     let s = c.args.search.now in
     let learned = c.in_ok-learned.learned in
     let within =
-      asserting_within s.engine s.store.slots learned.lits.items learned.back_level
-        c.requires.runs.running.searches.fits c.in_ok-learned.ensures.asserting in
+    asserting_within s.engine s.store.slots learned.lits.items learned.back_level
+    c.requires.runs.running.searches.fits c.in_ok-learned.ensures.asserting in
     let same : c.backtrack.new.self.engine.variables ≡ s.engine.variables =
-      c.backtrack.ensures.variables
-        ∙ ap (λ (x : Search). (x.engine).variables) c.bump.ensures.same in
+    c.backtrack.ensures.variables
+    ∙ ap (λ (x : Search). (x.engine).variables) c.bump.ensures.same in
     subst (λ n. IsWithin n c.as_slice-2.result.now) (sym same)
-      (subst (IsWithin s.engine.variables) (sym c.as_slice-2.ensures) within)
+    (subst (IsWithin s.engine.variables) (sym c.as_slice-2.ensures) within)
 
 pub add_line-requires-clause-hints : goal.add_line-requires-clause-hints
 add_line-requires-clause-hints g c =
@@ -73,14 +73,14 @@ add_line-requires-clause-hints g c =
     let learned = c.in_ok-learned.learned in
     let rs = c.as_slice.result.now in
     let h =
-      subst (λ x. AreHintsOf slots x s.engine.trail rs c.in_ok-hints.hints.items)
-        c.deref.ensures.value c.in_ok-hints.ensures.hints in
+    subst (λ x. AreHintsOf slots x s.engine.trail rs c.in_ok-hints.hints.items)
+    c.deref.ensures.value c.in_ok-hints.ensures.hints in
     let refutes =
-      subst (IsRefutedBy slots s.engine.trail learned.lits.items) (sym c.as_slice.ensures.value)
-        c.in_ok-learned.ensures.hints in
+    subst (IsRefutedBy slots s.engine.trail learned.lits.items) (sym c.as_slice.ensures.value)
+    c.in_ok-learned.ensures.hints in
     let recorded = c.requires.runs.running.recorded in
     hint_ids slots s.names.items s.engine.trail rs c.in_ok-hints.hints.items h
-      recorded.names.as_many recorded.numbers (refutes_live slots _ rs refutes)
+    recorded.names.as_many recorded.numbers (refutes_live slots _ rs refutes)
 
 pub returns-clause-runs : goal.returns-clause-runs
 returns-clause-runs g c =
@@ -90,44 +90,48 @@ returns-clause-runs g c =
     let T = s.engine.trail in
     let learned = c.in_ok-learned.learned in
     let lesson =
-      is_lesson s p ls learned.lits.items c.as_slice-2.result.now learned.back_level
-        learned.hints.items c.as_slice.result.now _ c.in_ok-hints.hints.items c.requires.runs
-        c.requires.deep
+    is_lesson s p ls learned.lits.items c.as_slice-2.result.now learned.back_level
+    learned.hints.items c.as_slice.result.now _ c.in_ok-hints.hints.items c.requires.runs
+    c.requires.deep
     c.in_ok-learned.ensures.asserting c.in_ok-learned.ensures.hints c.in_ok-hints.ensures.hints
-      c.as_slice-2.ensures c.as_slice.ensures.value c.deref.ensures.value in
+    c.as_slice-2.ensures c.as_slice.ensures.value c.deref.ensures.value in
     let m = c.backtrack.new.self in
     let n = c.add_line.new.self in
     let l : LogLine =
-      record { kind = Learned; clause = c.as_slice-2.result.now;
-        hints = c.in_ok-hints.hints.items } in
+    record {
+      kind = Learned;
+      clause = c.as_slice-2.result.now;
+      hints = c.in_ok-hints.hints.items;
+    } in
     let bumped : IsRunning c.bump.new.self.engine c.bump.new.self.store.slots p.stack
-      (tables_of c.bump.new.self) p.frozen.items p.first p.given.items ls =
+    (tables_of c.bump.new.self) p.frozen.items p.first p.given.items ls =
     subst (λ (x : Search). IsRunning x.engine (x.store).slots p.stack (tables_of x) p.frozen.items
-        p.first p.given.items ls) (sym c.bump.ensures.same) c.requires.runs.running in
+    p.first p.given.items ls) (sym c.bump.ensures.same) c.requires.runs.running in
     let moved = c.backtrack.ensures.state p ls bumped in
     let trail : m.engine.trail ≡ kept_to learned.back_level T = c.backtrack.ensures.trail
-      ∙ ap (λ (x : Search). kept_to learned.back_level (x.engine).trail) c.bump.ensures.same in
+    ∙ ap (λ (x : Search). kept_to learned.back_level (x.engine).trail) c.bump.ensures.same in
     let long : length c.hints_of.new.stamps ≡ s.stamps.len =
-      c.hints_of.ensures.long ∙ ap length c.deref_mut.ensures.value ∙ sym s.stamps.ok.0 in
+    c.hints_of.ensures.long ∙ ap length c.deref_mut.ensures.value ∙ sym s.stamps.ok.0 in
     let stamps : m.stamps.items ≡ c.hints_of.new.stamps =
     ap (λ (x : Search). (x.stamps).items) c.backtrack.ensures.engine
-      ∙ ap (λ (x : Search). (x.stamps).items) c.bump.ensures.same
-      ∙ with_items_is s.stamps c.hints_of.new.stamps long in
+    ∙ ap (λ (x : Search). (x.stamps).items) c.bump.ensures.same
+    ∙ with_items_is s.stamps c.hints_of.new.stamps long in
     let additions : m.additions ≡ s.additions =
-      ap (λ (x : Search). x.additions) c.backtrack.ensures.engine
-        ∙ ap (λ (x : Search). x.additions) c.bump.ensures.same in
+    ap (λ (x : Search). x.additions) c.backtrack.ensures.engine
+    ∙ ap (λ (x : Search). x.additions) c.bump.ensures.same in
     let past : All (λ x. x ≤ m.additions + 1) m.stamps.items =
     subst (λ k. All (λ x. x ≤ k + 1) m.stamps.items) (sym additions)
-      (subst (All (λ x. x ≤ s.additions + 1)) (sym stamps) c.hints_of.ensures.past) in
+    (subst (All (λ x. x ≤ s.additions + 1)) (sym stamps) c.hints_of.ensures.past) in
     let on : Runs n p (ls ++ l ∷ []) =
-      runs_learned m n p ls l T learned.back_level moved c.backtrack.ensures.ready.room past
-        lesson.asserting trail lesson.adds c.in_ok-reference.ensures.placed
-        c.in_ok-reference.ensures.additions c.in_ok-reference.ensures.few in
+    runs_learned m n p ls l T learned.back_level moved c.backtrack.ensures.ready.room past
+    lesson.asserting trail lesson.adds c.in_ok-reference.ensures.placed
+    c.in_ok-reference.ensures.additions c.in_ok-reference.ensures.few in
     let written : Runs n p (g.S.Sink.lines c.add_line.new.sink) =
-      subst (Runs n p) (sym c.in_ok-reference.ensures.lines) on in
+    subst (Runs n p) (sym c.in_ok-reference.ensures.lines) on in
     elim c.if-as_slice-gt2.branch [
       | then-as_slice-gt2 x ↦
-        runs_long n c.if-as_slice-gt2.search x.saturating_add-search.result p _ x.search-is written
+          runs_long n c.if-as_slice-gt2.search x.saturating_add-search.result p _
+          x.search-is written
       | else-as_slice-gt2 x ↦ runs_long n c.if-as_slice-gt2.search n.long p _ x.search-is written
     ]
 
@@ -139,16 +143,19 @@ returns-clause-writes g c =
     let learned = c.in_ok-learned.learned in
     let run = c.requires.runs.running in
     let lesson =
-      is_lesson s p ls learned.lits.items c.as_slice-2.result.now learned.back_level
-        learned.hints.items c.as_slice.result.now _ c.in_ok-hints.hints.items c.requires.runs
-        c.requires.deep
+    is_lesson s p ls learned.lits.items c.as_slice-2.result.now learned.back_level
+    learned.hints.items c.as_slice.result.now _ c.in_ok-hints.hints.items c.requires.runs
+    c.requires.deep
     c.in_ok-learned.ensures.asserting c.in_ok-learned.ensures.hints c.in_ok-hints.ensures.hints
-      c.as_slice-2.ensures c.as_slice.ensures.value c.deref.ensures.value in
+    c.as_slice-2.ensures c.as_slice.ensures.value c.deref.ensures.value in
     let l : LogLine =
-      record { kind = Learned; clause = c.as_slice-2.result.now;
-        hints = c.in_ok-hints.hints.items } in
+    record {
+      kind = Learned;
+      clause = c.as_slice-2.result.now;
+      hints = c.in_ok-hints.hints.items;
+    } in
     subst (λ x. Writes p.given.items ls x 1) (sym c.in_ok-reference.ensures.lines)
     (writes_learned p.given.items ls l refl lesson.adds
-        (λ base above. learn_is_new s.engine s.store.slots s.names.items p.given.items ls l
-          learned.back_level run.searches run.recorded.names lesson.asserting c.requires.deep
-          base above))
+    (λ base above. learn_is_new s.engine s.store.slots s.names.items p.given.items ls l
+    learned.back_level run.searches run.recorded.names lesson.asserting c.requires.deep
+    base above))

@@ -26,9 +26,9 @@ named : (g : _) (c : After-index-trail-search g)
 named g c =
     let s = c.args.search.now in
     literal_small s.engine (s.store).slots s.noted c.index-trail-search.result
-      c.requires.runs.running.searches.fits c.requires.next
+    c.requires.runs.running.searches.fits c.requires.next
     (c.index-trail-search.is
-        ∙ ap (λ x. get_or x s.noted c.index-trail-search.result) c.trail.ensures)
+    ∙ ap (λ x. get_or x s.noted c.index-trail-search.result) c.trail.ensures)
 
 -- it follows from its reason
 next : (g : _) (c : In-Some g) → IsNext c.args.search.now.store.slots c.args.search.now.engine.trail
@@ -36,11 +36,11 @@ next : (g : _) (c : In-Some g) → IsNext c.args.search.now.store.slots c.args.s
 next g c =
     let s = c.args.search.now in
     is_next (s.store).slots (s.engine).trail s.noted c.index-trail-search.result c.in-Some.reason
-      c.requires.runs.running.searches.fits.reasons c.requires.next
+    c.requires.runs.running.searches.fits.reasons c.requires.next
     (c.index-trail-search.is
-        ∙ ap (λ x. get_or x s.noted c.index-trail-search.result) c.trail.ensures)
+    ∙ ap (λ x. get_or x s.noted c.index-trail-search.result) c.trail.ensures)
     (ap (reason_in (s.engine).trail) (sym c.variable-2.ensures.variable) ∙ sym c.reason.ensures
-        ∙ c.in-Some.is)
+    ∙ c.in-Some.is)
 
 pub reason-requires : goal.reason-requires
 reason-requires g c =
@@ -57,12 +57,12 @@ unreachable-requires g c =
     let d : Assigned = record { literal = k; reason = None } in
     let at = c.index-trail-search.is ∙ ap (λ x. get_or x s.noted k) c.trail.ensures in
     let is : k ≡ (get_or T s.noted d).literal =
-      at ∙ get_or-map (λ (x : Assigned). x.literal) T s.noted d k c.requires.next in
+    at ∙ get_or-map (λ (x : Assigned). x.literal) T s.noted d k c.requires.next in
     let w = flat_reason T s.noted d c.requires.flat c.requires.next in
     let found : reason_in T c.variable-2.result ≡ Some w.0 =
     ap (reason_in T) (c.variable-2.ensures.variable ∙ ap (λ (x : Literal). x.variable) is)
-      ∙ reason_at (clause_at (s.store).slots) T s.noted d
-      c.requires.runs.running.searches.fits.reasons c.requires.next ∙ w.1 in
+    ∙ reason_at (clause_at (s.store).slots) T s.noted d
+    c.requires.runs.running.searches.fits.reasons c.requires.next ∙ w.1 in
     none-some w.0 (sym c.in_default.is ∙ c.reason.ensures ∙ found)
 
 pub hints_of-requires-clause-attached : goal.hints_of-requires-clause-attached
@@ -71,8 +71,8 @@ hints_of-requires-clause-attached g c =
     let r = c.in-Some.reason in
     let n = next g (goal.at.hints_of-requires-clause-attached g c).In-Some in
     All-cons (λ q. is_attached s.engine q ≡ true) r []
-      (c.requires.runs.running.searches.all_attached r (n.clause, n.here))
-      (All-nil (λ q. is_attached s.engine q ≡ true))
+    (c.requires.runs.running.searches.all_attached r (n.clause, n.here))
+    (All-nil (λ q. is_attached s.engine q ≡ true))
 
 pub hints_of-requires-clause-noted : goal.hints_of-requires-clause-noted
 hints_of-requires-clause-noted g c =
@@ -80,17 +80,19 @@ hints_of-requires-clause-noted g c =
     let r = c.in-Some.reason in
     let n = next g (goal.at.hints_of-requires-clause-noted g c).In-Some in
     subst (λ us. AreNoted (s.store).slots us (s.engine).trail (r ∷ []))
-      (sym c.deref-2.ensures.value)
+    (sym c.deref-2.ensures.value)
     (next_noted (s.store).slots (s.engine).trail c.index-trail-search.result r (s.units).items
-        s.noted c.requires.runs.running.searches.fits.reasons c.requires.flat n
-        c.requires.runs.running.units)
+    s.noted c.requires.runs.running.searches.fits.reasons c.requires.flat n
+    c.requires.runs.running.units)
 
 pub add_line-requires-clause-within : goal.add_line-requires-clause-within
 add_line-requires-clause-within g c =
     let s = c.args.search.now in
-    let small = named g (goal.at.add_line-requires-clause-within g c).After-index-trail-search in
-    (All-cons (λ (l : Literal). 0 < l.variable) c.index-trail-search.result [] small.0
-        (All-nil (λ (l : Literal). 0 < l.variable)), (let h = small.1 in omega arith))
+    let small = named g (goal.at.add_line-requires-clause-within g c).After-index-trail-search in (
+      All-cons (λ (l : Literal). 0 < l.variable) c.index-trail-search.result [] small.0
+          (All-nil (λ (l : Literal). 0 < l.variable)),
+      (let h = small.1 in omega arith),
+    )
 
 pub add_line-requires-clause-hints : goal.add_line-requires-clause-hints
 add_line-requires-clause-hints g c =
@@ -98,18 +100,18 @@ add_line-requires-clause-hints g c =
     let r = c.in-Some.reason in
     let n = next g (goal.at.add_line-requires-clause-hints g c).In-Some in
     let h =
-      subst (λ x. AreHintsOf (s.store).slots x (s.engine).trail (r ∷ []) c.in_ok-hints.hints.items)
-        c.deref.ensures.value c.in_ok-hints.ensures.hints in
+    subst (λ x. AreHintsOf (s.store).slots x (s.engine).trail (r ∷ []) c.in_ok-hints.hints.items)
+    c.deref.ensures.value c.in_ok-hints.ensures.hints in
     hint_ids (s.store).slots (s.names).items (s.engine).trail (r ∷ []) c.in_ok-hints.hints.items h
-      c.requires.runs.running.recorded.names.as_many c.requires.runs.running.recorded.numbers
-      ((n.clause, n.here), tt)
+    c.requires.runs.running.recorded.names.as_many c.requires.runs.running.recorded.numbers
+    ((n.clause, n.here), tt)
 
 pub index_mut-requires : goal.index_mut-requires
 index_mut-requires g c =
     let s = c.args.search.now in
     let small = named g (goal.at.index_mut-requires g c).After-index-trail-search in
     let same : length (c.add_line.new.self.units).items ≡ length (s.units).items =
-      ap (λ v. length v.items) c.in_ok-unit.ensures.placed.units in
+    ap (λ v. length v.items) c.in_ok-unit.ensures.placed.units in
     let room = c.requires.runs.room.units in
     let v = c.variable.ensures.variable in
     let low = small.1 in
@@ -128,19 +130,19 @@ returns-clause-runs g c =
     let reasons = run.searches.fits.reasons in
     let n = next g (goal.at.returns-clause-runs g c).In-Some in
     let h =
-      subst (λ x. AreHintsOf slots x T (r ∷ []) c.in_ok-hints.hints.items) c.deref.ensures.value
-        c.in_ok-hints.ensures.hints in
+    subst (λ x. AreHintsOf slots x T (r ∷ []) c.in_ok-hints.hints.items) c.deref.ensures.value
+    c.in_ok-hints.ensures.hints in
     let small = named g (goal.at.returns-clause-runs g c).After-index-trail-search in
     let few_k : k.variable < 2 ^ 27 =
-      (let a = c.variable.ensures.small in let b = c.variable.ensures.variable in omega arith) in
+    (let a = c.variable.ensures.small in let b = c.variable.ensures.variable in omega arith) in
     let adds =
-      adds_unit slots T (s.names).items (c.args.problem.now.given).items
-        (g.S.Sink.lines c.args.sink.now) c.in_ok-hints.hints.items k s.noted r reasons
-        c.requires.flat n run.recorded.names h few_k in
+    adds_unit slots T (s.names).items (c.args.problem.now.given).items
+    (g.S.Sink.lines c.args.sink.now) c.in_ok-hints.hints.items k s.noted r reasons
+    c.requires.flat n run.recorded.names h few_k in
     let long : length c.hints_of.new.stamps ≡ length (s.stamps).items =
-      c.hints_of.ensures.long ∙ ap length c.deref_mut.ensures.value in
+    c.hints_of.ensures.long ∙ ap length c.deref_mut.ensures.value in
     let stamps : (with_items s.stamps c.hints_of.new.stamps).items ≡ c.hints_of.new.stamps =
-      with_items_is s.stamps c.hints_of.new.stamps (long ∙ sym (s.stamps).ok.0) in
+    with_items_is s.stamps c.hints_of.new.stamps (long ∙ sym (s.stamps).ok.0) in
     let room : HasRoom (record s { stamps = with_items s.stamps c.hints_of.new.stamps }) = record {
       order = c.requires.runs.room.order;
       analyzer = c.requires.runs.room.analyzer;
@@ -150,11 +152,11 @@ returns-clause-runs g c =
     } in
     subst (Runs _ c.args.problem.now) (sym c.in_ok-unit.ensures.lines)
     (runs_noted (record s { stamps = with_items s.stamps c.hints_of.new.stamps })
-        c.add_line.new.self _ c.args.problem.now (g.S.Sink.lines c.args.sink.now)
-        c.in_ok-hints.hints.items k (c.variable.result - 1) c.in_ok-unit.unit run room
+    c.add_line.new.self _ c.args.problem.now (g.S.Sink.lines c.args.sink.now)
+    c.in_ok-hints.hints.items k (c.variable.result - 1) c.in_ok-unit.unit run room
     (subst (All (λ x. x ≤ s.additions + 1)) (sym stamps) c.hints_of.ensures.past) c.requires.flat
-      c.requires.next at adds c.in_ok-unit.ensures.placed c.in_ok-unit.ensures.additions
-      c.in_ok-unit.ensures.few
+    c.requires.next at adds c.in_ok-unit.ensures.placed c.in_ok-unit.ensures.additions
+    c.in_ok-unit.ensures.few
     (ap (λ x. x - 1) c.variable.ensures.variable) c.in_ok-unit.ensures.reference
     (record {
       engine = refl;

@@ -20,16 +20,16 @@ hints_of-requires-clause-attached g c =
     let s = c.note_units.new.search in
     let w = c.in_ok-note_units.ensures.clauses c.args.conflict c.requires.conflict in
     All-cons (λ q. is_attached s.engine q ≡ true) c.args.conflict []
-      (c.in_ok-note_units.ensures.runs.running.searches.all_attached c.args.conflict (w.0, w.1))
-      (All-nil (λ q. is_attached s.engine q ≡ true))
+    (c.in_ok-note_units.ensures.runs.running.searches.all_attached c.args.conflict (w.0, w.1))
+    (All-nil (λ q. is_attached s.engine q ≡ true))
 
 pub hints_of-requires-clause-noted : goal.hints_of-requires-clause-noted
 hints_of-requires-clause-noted g c =
     let s = c.note_units.new.search in
     subst (λ us. AreNoted (s.store).slots us (s.engine).trail (c.args.conflict ∷ []))
-      (sym c.deref-2.ensures.value)
+    (sym c.deref-2.ensures.value)
     (all_noted s c.args.problem.now (g.S.Sink.lines c.note_units.new.sink) (c.args.conflict ∷ [])
-        c.in_ok-note_units.ensures.runs c.in_ok-note_units.ensures.all)
+    c.in_ok-note_units.ensures.runs c.in_ok-note_units.ensures.all)
 
 pub new-requires : goal.new-requires
 new-requires g c =
@@ -37,21 +37,21 @@ new-requires g c =
     let e = c.in_ok-note_units.ensures in
     let w = e.clauses c.args.conflict c.requires.conflict in
     let h =
-      subst (λ x. AreHintsOf (s.store).slots x (s.engine).trail (c.args.conflict ∷ [])
-        c.in_ok-hints.hints.items) c.deref.ensures.value c.in_ok-hints.ensures.hints in
+    subst (λ x. AreHintsOf (s.store).slots x (s.engine).trail (c.args.conflict ∷ [])
+    c.in_ok-hints.hints.items) c.deref.ensures.value c.in_ok-hints.ensures.hints in
     subst (λ x. IsLine (record { kind = Empty; clause = x; hints = c.in_ok-hints.hints.items }))
-      (sym c.new-none.ensures.items)
+    (sym c.new-none.ensures.items)
     (adding_line Empty [] c.in_ok-hints.hints.items (s.engine).variables refl e.runs.room.few
-        (All-nil (λ (l : Literal). 0 < l.variable), omega arith)
+    (All-nil (λ (l : Literal). 0 < l.variable), omega arith)
     (hint_ids (s.store).slots (s.names).items (s.engine).trail (c.args.conflict ∷ [])
-        c.in_ok-hints.hints.items h e.runs.running.recorded.names.as_many
-        e.runs.running.recorded.numbers ((w.0, w.1), tt)))
+    c.in_ok-hints.hints.items h e.runs.running.recorded.names.as_many
+    e.runs.running.recorded.numbers ((w.0, w.1), tt)))
 
 pub returns-clause-err : goal.returns-clause-err
 returns-clause-err g c =
     let log = c.in_ok-note_units.ensures.runs.running.recorded.log in
     on_err_weaker c.append.result (λ e. subst (StaysOpen c.args.problem.now) (sym e)
-        (record { stays = log.stays; unrefuted = log.unrefuted })) c.append.ensures.err
+    (record { stays = log.stays; unrefuted = log.unrefuted })) c.append.ensures.err
 
 pub returns-clause-ended : goal.returns-clause-ended
 returns-clause-ended g c =
@@ -60,17 +60,23 @@ returns-clause-ended g c =
     let ls = g.S.Sink.lines c.note_units.new.sink in
     let e = c.in_ok-note_units.ensures in
     let h =
-      subst (λ x. AreHintsOf (s.store).slots x (s.engine).trail (c.args.conflict ∷ [])
-        c.in_ok-hints.hints.items) c.deref.ensures.value c.in_ok-hints.ensures.hints in
+    subst (λ x. AreHintsOf (s.store).slots x (s.engine).trail (c.args.conflict ∷ [])
+    c.in_ok-hints.hints.items) c.deref.ensures.value c.in_ok-hints.ensures.hints in
     let adds =
-      adds_empty s p ls c.in_ok-hints.hints.items c.args.conflict e.runs (ap depth_of e.trail
-        ∙ c.requires.flat) (e.clauses c.args.conflict c.requires.conflict) h in
-    let line : c.new.result ≡ record { kind = Empty; clause = [];
-        hints = c.in_ok-hints.hints.items } =
-      c.new.ensures ∙ ap (λ x. record { kind = Empty; clause = x;
-          hints = c.in_ok-hints.hints.items }) c.new-none.ensures.items in
+    adds_empty s p ls c.in_ok-hints.hints.items c.args.conflict e.runs (ap depth_of e.trail
+    ∙ c.requires.flat) (e.clauses c.args.conflict c.requires.conflict) h in
+    let line : c.new.result ≡ record {
+      kind = Empty;
+      clause = [];
+      hints = c.in_ok-hints.hints.items;
+    } =
+    c.new.ensures ∙ ap (λ x. record {
+      kind = Empty;
+      clause = x;
+      hints = c.in_ok-hints.hints.items;
+    }) c.new-none.ensures.items in
     on_ok_weaker c.append.result (λ a. subst (IsEnded p) (sym (a ∙ ap (λ l. ls ++ l ∷ []) line))
-        (is_ended s p ls c.in_ok-hints.hints.items e.runs adds)) c.append.ensures.ok
+    (is_ended s p ls c.in_ok-hints.hints.items e.runs adds)) c.append.ensures.ok
 
 pub returns-clause-writes : goal.returns-clause-writes
 returns-clause-writes g c =
@@ -80,10 +86,13 @@ returns-clause-writes g c =
     let e = c.in_ok-note_units.ensures in
     let l : LogLine = record { kind = Empty; clause = []; hints = c.in_ok-hints.hints.items } in
     let line : c.new.result ≡ l =
-      c.new.ensures ∙ ap (λ x. record { kind = Empty; clause = x;
-          hints = c.in_ok-hints.hints.items }) c.new-none.ensures.items in
+    c.new.ensures ∙ ap (λ x. record {
+      kind = Empty;
+      clause = x;
+      hints = c.in_ok-hints.hints.items;
+    }) c.new-none.ensures.items in
     either c.append.result c.append.ensures.ok c.append.ensures.err
     (λ a. subst (λ x. Writes given old x 0) (sym (a ∙ ap (λ k. ls ++ k ∷ []) line))
-        (writes_join given old ls (ls ++ l ∷ []) 0 0 e.writes
-          (writes_short given ls l refl (omega arith))))
+    (writes_join given old ls (ls ++ l ∷ []) 0 0 e.writes
+    (writes_short given ls l refl (omega arith))))
     (λ b. subst (λ x. Writes given old x 0) (sym b) e.writes)

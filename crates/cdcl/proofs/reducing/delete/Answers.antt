@@ -37,11 +37,11 @@ new-requires-2 g c =
     let inside = live_within s.store.slots r live.0 live.1 in
     let lt : r < length s.names.items = omega (arith, recorded.names.as_many) in
     let name : c.index-3.result.now ≡ name_at s.names.items r =
-      named_at s.names.items c.index-2.result r c.index-3.result.now c.index-2.ensures
-        c.index-3.ensures lt in
+    named_at s.names.items c.index-2.result r c.index-3.result.now c.index-2.ensures
+    c.index-3.ensures lt in
     deleting_line c.new.result.items c.push.new.self.items c.index-3.result.now c.new.ensures.items
     (c.in_ok-push.ensures.items
-        ∙ ap (λ x. x ++ Plain c.index-3.result.now ∷ []) c.new-hints.ensures.items)
+    ∙ ap (λ x. x ++ Plain c.index-3.result.now ∷ []) c.new-hints.ensures.items)
     (subst (λ n. IsId (number_in n)) (sym name) (recorded.numbers r (Formula 0) lt))
 
 pub returns-clause-deleting : goal.returns-clause-deleting
@@ -56,32 +56,34 @@ returns-clause-deleting g c =
     let inside = live_within s.store.slots r live.0 live.1 in
     let lt : r < length s.names.items = omega (arith, d.recorded.names.as_many) in
     let name : c.index-3.result.now ≡ name_at s.names.items r =
-      named_at s.names.items c.index-2.result r c.index-3.result.now c.index-2.ensures
-        c.index-3.ensures lt in
+    named_at s.names.items c.index-2.result r c.index-3.result.now c.index-2.ensures
+    c.index-3.ensures lt in
     let hints = c.in_ok-push.ensures.items
-      ∙ ap (λ x. x ++ Plain c.index-3.result.now ∷ []) c.new-hints.ensures.items
-      ∙ ap (λ n. Plain n ∷ []) name in
+    ∙ ap (λ x. x ++ Plain c.index-3.result.now ∷ []) c.new-hints.ensures.items
+    ∙ ap (λ n. Plain n ∷ []) name in
     let on : is_doomed doomed r ≡ true =
-      subst (λ k. is_doomed doomed k ≡ true) c.index.ensures c.if-not-doomed-index.false in
+    subst (λ k. is_doomed doomed k ≡ true) c.index.ensures c.if-not-doomed-index.false in
     let l : LogLine =
-      record { kind = Delete; clause = c.new.result.items; hints = c.push.new.self.items } in
+    record { kind = Delete; clause = c.new.result.items; hints = c.push.new.self.items } in
     let k = c.saturating_sub-search.result in
     let more = deleting_more s k p ls l doomed r live.0 d live.1 on refl hints in
     subst (λ x. IsDeleting (record s { store = c.delete.new.self; long = k }) p x doomed)
-      (sym (c.in_ok-append.ensures.ok ∙ ap (λ x. ls ++ x ∷ []) c.new-2.ensures))
+    (sym (c.in_ok-append.ensures.ok ∙ ap (λ x. ls ++ x ∷ []) c.new-2.ensures))
     (subst (λ (x : StoreState). IsDeleting (record s { store = x; long = k }) p (ls ++ l ∷ [])
-          doomed) (sym c.delete.ensures) more)
+    doomed) (sym c.delete.ensures) more)
 
 pub returns-clause-gone : goal.returns-clause-gone
 returns-clause-gone g c on live =
     let slots = c.args.search.now.store.slots in
     clause_gone slots c.args.reference live.0
-      (subst (λ (x : StoreState). clause_at x.slots c.args.reference ≡ Some live.0)
-        c.delete.ensures live.1)
+    (subst (λ (x : StoreState). clause_at x.slots c.args.reference ≡ Some live.0)
+    c.delete.ensures live.1)
 
 pub returns-clause-fewer : goal.returns-clause-fewer
 returns-clause-fewer g c r live =
-    let slots = c.args.search.now.store.slots in
-    (live.0, (clause_left slots c.args.reference r live.0
+    let slots = c.args.search.now.store.slots in (
+      live.0,
+      (clause_left slots c.args.reference r live.0
           (subst (λ (x : StoreState). clause_at x.slots r ≡ Some live.0) c.delete.ensures
-            live.1)).1)
+          live.1)).1,
+    )

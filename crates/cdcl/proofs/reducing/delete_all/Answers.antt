@@ -17,24 +17,26 @@ when_err (Err e) p = p
 pub detach_all-requires : goal.detach_all-requires
 detach_all-requires g c =
     let m = subst (AreMarked c.args.search.now c.args.chosen.now (length c.args.chosen.now))
-      (sym c.deref.ensures.value) c.in_ok-doomed.ensures in
-    record { no_reason = reasons_stay c.args.search.now c.args.chosen.now (length c.args.chosen.now)
-        c.deref.result.now m }
+    (sym c.deref.ensures.value) c.in_ok-doomed.ensures in
+    record {
+      no_reason = reasons_stay c.args.search.now c.args.chosen.now (length c.args.chosen.now)
+          c.deref.result.now m;
+    }
 
 pub loop-reference-init : goal.loop-reference-init
 loop-reference-init g c =
     let s = c.args.search.now in
     let m =
-      subst (AreMarked s c.args.chosen.now (length c.args.chosen.now)) (sym c.deref.ensures.value)
-        c.in_ok-doomed.ensures in
+    subst (AreMarked s c.args.chosen.now (length c.args.chosen.now)) (sym c.deref.ensures.value)
+    c.in_ok-doomed.ensures in
     let d = c.detach_all.ensures in
     let starts =
-      deleting_starts s c.detach_all.new.self c.args.problem.now (g.S.Sink.lines c.args.sink.now)
-        c.args.chosen.now (length c.args.chosen.now) c.deref.result.now c.requires.runs m d.detached
-        d.same (d.fits s.store.slots c.requires.runs.running.searches.fits) in
+    deleting_starts s c.detach_all.new.self c.args.problem.now (g.S.Sink.lines c.args.sink.now)
+    c.args.chosen.now (length c.args.chosen.now) c.deref.result.now c.requires.runs m d.detached
+    d.same (d.fits s.store.slots c.requires.runs.running.searches.fits) in
     record {
       deleting =
-        subst (IsDeleting (record s { engine = c.detach_all.new.self }) c.args.problem.now
+          subst (IsDeleting (record s { engine = c.detach_all.new.self }) c.args.problem.now
           (g.S.Sink.lines c.args.sink.now)) c.deref.ensures.value starts;
       gone = λ i below. absurd (omega arith);
       variables = d.same.1;
@@ -52,29 +54,34 @@ loop-reference-preserved g c =
     let before = g.S.Sink.lines c.args.sink.now in
     let at : (get_or ms l.reference-index (0, 0)).1 ≡ q =
     ap (λ (p : ℕ × ℕ). p.1)
-      (sym (get_or_default ms l.reference-index c.loop-reference-item.result (0,
-            0) c.loop-reference-test.true))
-      ∙ ap (λ (p : ℕ × ℕ). p.1) (sym c.loop-reference-item.is) in
+    (sym (get_or_default ms l.reference-index c.loop-reference-item.result (
+      0,
+      0,
+    ) c.loop-reference-test.true))
+    ∙ ap (λ (p : ℕ × ℕ). p.1) (sym c.loop-reference-item.is) in
     record {
       deleting =
-        subst (IsDeleting c.delete.new.search problem (g.S.Sink.lines c.delete.new.sink))
+          subst (IsDeleting c.delete.new.search problem (g.S.Sink.lines c.delete.new.sink))
           c.deref-in-loop-reference.ensures.value d.deleting;
       gone =
-        gone_more l.search.store.slots c.delete.new.search.store.slots ms l.reference-index doomed q
+          gone_more l.search.store.slots c.delete.new.search.store.slots ms l.reference-index doomed
+          q
           l.invariant.gone d.fewer
           (subst (λ ds. is_doomed ds q ≡ true → IsLive c.delete.new.search.store.slots q
-                → ⊥) c.deref-in-loop-reference.ensures.value d.gone) at;
+          → ⊥) c.deref-in-loop-reference.ensures.value d.gone) at;
       variables = ap (λ (e : EngineState). e.variables) d.engine ∙ l.invariant.variables;
       writes =
-        writes_join problem.given.items before (g.S.Sink.lines l.sink)
+          writes_join problem.given.items before (g.S.Sink.lines l.sink)
           (g.S.Sink.lines c.delete.new.sink) 0 0 l.invariant.writes d.writes;
     }
 
 pub delete-requires : goal.delete-requires
 delete-requires g c =
-    record { deleting = subst (IsDeleting c.loop-reference.search c.args.problem.now
+    record {
+      deleting = subst (IsDeleting c.loop-reference.search c.args.problem.now
           (g.S.Sink.lines c.loop-reference.sink)) (sym c.deref-in-loop-reference.ensures.value)
-        c.loop-reference.invariant.deleting }
+          c.loop-reference.invariant.deleting;
+    }
 
 pub returns-in_err-doomed-clause-writes : goal.returns-in_err-doomed-clause-writes
 returns-in_err-doomed-clause-writes g c =
@@ -85,14 +92,14 @@ returns-in_err-delete-clause-err g c =
     let log = c.loop-reference.invariant.deleting.recorded.log in
     let stays : StaysOpen c.args.problem.now (g.S.Sink.lines c.delete.new.sink) =
     subst (StaysOpen c.args.problem.now) (sym c.in_err-delete.ensures.err)
-      (record { stays = log.stays; unrefuted = log.unrefuted }) in
+    (record { stays = log.stays; unrefuted = log.unrefuted }) in
     when_err _ stays
 
 pub returns-clause-runs : goal.returns-clause-runs
 returns-clause-runs g c =
     let l = c.loop-reference in
     deleting_ends l.search c.args.problem.now (g.S.Sink.lines l.sink) c.in_ok-doomed.doomed.items
-      l.invariant.deleting
+    l.invariant.deleting
     (all_gone c.args.search.now l.search.store.slots c.args.chosen.now l.reference-index
-        c.in_ok-doomed.doomed.items c.in_ok-doomed.ensures c.loop-reference-test.false
-        l.invariant.gone)
+    c.in_ok-doomed.doomed.items c.in_ok-doomed.ensures c.loop-reference-test.false
+    l.invariant.gone)

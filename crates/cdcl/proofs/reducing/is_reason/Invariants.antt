@@ -6,4 +6,4 @@ use Rattle.cdcl.proofs.reducing.is_reason.Given as goal
 abbrev pub invariant-loop-lit : goal.invariant-loop-lit
 invariant-loop-lit l =
     All (λ k. reason_in l.engine.trail k.variable ≡ Some l.fn.reference → ⊥)
-      (take l.lit-index l.lits)
+    (take l.lit-index l.lits)

@@ -22,10 +22,10 @@ returns-clause-runs g c =
     let p = c.args.problem.now in
     let ls = g.S.Sink.lines c.delete_all.new.sink in
     let runs =
-      runs_counted c.delete_all.new.search c.saturating_add-search.result p ls
-        c.in_ok-delete_all.ensures.runs in
+    runs_counted c.delete_all.new.search c.saturating_add-search.result p ls
+    c.in_ok-delete_all.ensures.runs in
     elim c.if-is_sparse.branch [
       | then-is_sparse+in_ok-compact w ↦
-        subst (λ s. Runs s p ls) (sym w.search-is) (w.in_ok-compact.ensures.runs p ls runs)
+          subst (λ s. Runs s p ls) (sym w.search-is) (w.in_ok-compact.ensures.runs p ls runs)
       | else-is_sparse w ↦ subst (λ s. Runs s p ls) (sym w.search-is) runs
     ]

@@ -6,7 +6,7 @@ abbrev pub invariant-rounds : goal.invariant-rounds
 invariant-rounds g l = record {
   runs : Runs l.search l.problem (g.S.Sink.lines l.sink);
   pays : Pays l.problem.given.items (g.S.Sink.lines l.fn.sink) (g.S.Sink.lines l.sink)
-    l.fn.budget l.budget;
+      l.fn.budget l.budget;
 }
 
 abbrev pub decreases-rounds : goal.decreases-rounds

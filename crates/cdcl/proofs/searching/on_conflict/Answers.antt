@@ -10,10 +10,11 @@ returns-then-left-eq0-clause-ends g c =
     let T = c.args.search.now.engine.trail in
     record {
       runs = c.requires.runs;
-      quiet =
-        (literals_of (kept_to (depth_of T - 1) T),
-          c.requires.runs.running.searches.quiet (depth_of T - 1)
-          (omega (arith, c.depth.ensures, c.if-depth-eq0.false)));
+      quiet = (
+        literals_of (kept_to (depth_of T - 1) T),
+        c.requires.runs.running.searches.quiet (depth_of T - 1)
+            (omega (arith, c.depth.ensures, c.if-depth-eq0.false)),
+      );
       spent = sym c.left.ensures.left ∙ c.if-left-eq0.true;
     }
 
@@ -26,14 +27,14 @@ returns-in_err-learn-clause-pays g c =
     let given = c.args.problem.now.given.items in
     let ls = g.S.Sink.lines c.args.sink.now in
     subst (λ x. Pays given ls x c.args.budget.now c.args.budget.now)
-      (sym c.in_err-learn.ensures.err) (pays_nothing given ls c.args.budget.now)
+    (sym c.in_err-learn.ensures.err) (pays_nothing given ls c.args.budget.now)
 
 pub returns-in_err-reduce-clause-pays : goal.returns-in_err-reduce-clause-pays
 returns-in_err-reduce-clause-pays g c = (
   1,
   writes_join c.args.problem.now.given.items (g.S.Sink.lines c.args.sink.now)
-    (g.S.Sink.lines c.learn.new.sink) (g.S.Sink.lines c.reduce.new.sink) 1 0
-    c.in_ok-learn.ensures.writes c.reduce.ensures.writes,
+      (g.S.Sink.lines c.learn.new.sink) (g.S.Sink.lines c.reduce.new.sink) 1 0
+      c.in_ok-learn.ensures.writes c.reduce.ensures.writes,
   c.count_learned.ensures,
 )
 
@@ -41,15 +42,15 @@ pub returns-clause-pays : goal.returns-clause-pays
 returns-clause-pays g c = (
   1,
   writes_join c.args.problem.now.given.items (g.S.Sink.lines c.args.sink.now)
-    (g.S.Sink.lines c.learn.new.sink) (g.S.Sink.lines c.reduce.new.sink) 1 0
-    c.in_ok-learn.ensures.writes c.reduce.ensures.writes,
+      (g.S.Sink.lines c.learn.new.sink) (g.S.Sink.lines c.reduce.new.sink) 1 0
+      c.in_ok-learn.ensures.writes c.reduce.ensures.writes,
   c.count_learned.ensures,
 )
 
 pub returns-clause-goes : goal.returns-clause-goes
 returns-clause-goes g c =
     goes_learned c.args.search.now c.reduce.new.search c.args.problem.now
-      (g.S.Sink.lines c.reduce.new.sink) c.args.budget.now c.count_learned.new.self
-      c.args.pace.now.conflicts _
+    (g.S.Sink.lines c.reduce.new.sink) c.args.budget.now c.count_learned.new.self
+    c.args.pace.now.conflicts _
     c.in_ok-reduce.ensures.runs (c.in_ok-reduce.ensures.variables ∙ c.in_ok-learn.ensures.variables)
-      c.count_learned.ensures (omega (arith, c.left.ensures.left, c.if-left-eq0.false))
+    c.count_learned.ensures (omega (arith, c.left.ensures.left, c.if-left-eq0.false))

@@ -8,9 +8,9 @@ returns-in_err-conflict-clause-pays g c =
 pub on_conflict-requires-clause-runs : goal.on_conflict-requires-clause-runs
 on_conflict-requires-clause-runs g c =
     c.in_ok-conflict.ensures.runs c.args.problem.now (g.S.Sink.lines c.args.sink.now)
-      c.requires.runs
+    c.requires.runs
 
 pub on_quiet-requires-clause-runs : goal.on_quiet-requires-clause-runs
 on_quiet-requires-clause-runs g c =
     c.in_ok-conflict.ensures.runs c.args.problem.now (g.S.Sink.lines c.args.sink.now)
-      c.requires.runs
+    c.requires.runs

@@ -15,9 +15,11 @@ use Rattle.cdcl.proofs.searching.run.Goals as goal
 pub returns-in_err-found-clause-pays : goal.returns-in_err-found-clause-pays
 returns-in_err-found-clause-pays g c =
     let b = c.args.budget.now in
-    let e : b.learned ≡ b.learned + 0 = omega arith in
-    (0, writes_none (c.args.problem.now.given).items (g.S.Sink.lines c.args.sink.now),
-        λ i. record { limit = b.limit; learned = e i; answers = b.answers })
+    let e : b.learned ≡ b.learned + 0 = omega arith in (
+      0,
+      writes_none (c.args.problem.now.given).items (g.S.Sink.lines c.args.sink.now),
+      λ i. record { limit = b.limit; learned = e i; answers = b.answers },
+    )
 
 pub refute-requires-clause-runs : goal.refute-requires-clause-runs
 refute-requires-clause-runs g c =
@@ -35,8 +37,9 @@ pub descend-requires : goal.descend-requires
 descend-requires g c =
     let p = c.args.problem.now in
     let ls = g.S.Sink.lines c.args.sink.now in
-    record { runs = c.in_ok-found.ensures.runs p ls (c.backtrack.ensures.runs p ls c.requires.runs)
-        }
+    record {
+      runs = c.in_ok-found.ensures.runs p ls (c.backtrack.ensures.runs p ls c.requires.runs);
+    }
 
 pub returns-in-None-clause-propagates : goal.returns-in-None-clause-propagates
 returns-in-None-clause-propagates g c =
@@ -45,9 +48,9 @@ returns-in-None-clause-propagates g c =
     let s = c.propagate.new.self in
     let runs = c.in_ok-found.ensures.runs p ls (c.backtrack.ensures.runs p ls c.requires.runs) in
     let quiet =
-      subst (λ o. IfNone o (IsQuiet (s.store).slots (literals_of (s.engine).trail))) c.in-None.is
-        c.in_ok-found.ensures.quiet in
+    subst (λ o. IfNone o (IsQuiet (s.store).slots (literals_of (s.engine).trail))) c.in-None.is
+    c.in_ok-found.ensures.quiet in
     IfOk-weaker c.descend.result (IsEndOf c.descend.new.search p (g.S.Sink.lines c.descend.new.sink)
-        c.descend.new.budget) (λ end. IsLiveRefuted (p.given).items ls → end ≡ Refuted)
+    c.descend.new.budget) (λ end. IsLiveRefuted (p.given).items ls → end ≡ Refuted)
     (λ end w h. absurd (answer_open s.engine (s.store).slots (s.names).items (p.given).items ls
-          runs.running.recorded.names quiet h)) c.descend.ensures.ends
+    runs.running.recorded.names quiet h)) c.descend.ensures.ends

@@ -17,7 +17,7 @@ new-requires c =
     let left : All (λ x. has_repeat x ≡ false) (c.in-Some.clause.now ∷ c.next.new.self) =
     subst (All (λ x. has_repeat x ≡ false)) c.in-Some.ensures.steps c.loop-clause.invariant.once in
     rw (c.in_ok-lits.ensures.items)
-      (All-head (λ x. has_repeat x ≡ false) c.in-Some.clause.now c.next.new.self left)
+    (All-head (λ x. has_repeat x ≡ false) c.in-Some.clause.now c.next.new.self left)
 
 pub loop-clause-preserved : goal.loop-clause-preserved
 loop-clause-preserved c =
@@ -31,7 +31,7 @@ loop-clause-preserved c =
     omega (arith, c.new-number.ensures, c.len-in-loop-clause.ensures, c.loop-clause.given.ok.0) in
     let lits : c.new.result ≡ clause = c.new.ensures ∙ c.in_ok-lits.ensures.items in
     let pair : ◌≡◌ {A = Name × List Literal} (Formula c.new-number.result, c.new.result)
-      (Formula (length now + 1), clause) = λ k. (Formula (number k), lits k) in
+    (Formula (length now + 1), clause) = λ k. (Formula (number k), lits k) in
     let pushed : c.push.new.self.items ≡ now ++ (Formula (length now + 1), clause) ∷ [] =
     c.in_ok-push.ensures.items ∙ ap (λ x. now ++ x ∷ []) pair in
     let before = subst (λ x. now ++ given_on (length now + 1) x ≡ all) steps i.given in

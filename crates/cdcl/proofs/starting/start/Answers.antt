@@ -12,17 +12,17 @@ use Rattle.cdcl.proofs.starting.start.Goals as goal
 pub engine_of-requires-clause-live : goal.engine_of-requires-clause-live
 engine_of-requires-clause-live c =
     subst (λ v. All (λ (n : ℕ × Name). IsLiveWithin c.args.store.slots v n.0) c.names-2.result.now)
-      (sym c.vars-variables.ensures)
+    (sym c.vars-variables.ensures)
     (subst (All (λ (n : ℕ × Name). IsLiveWithin c.args.store.slots c.args.stack.now.variables n.0))
-        (sym c.names-2.ensures) c.requires.live)
+    (sym c.names-2.ensures) c.requires.live)
 
 pub returns : goal.returns
 returns c =
     let many = c.in_ok-engine.ensures.variables in
     let stamps : (c.in_ok-stamps.stamps).items ≡ replicate c.vars-variables.result 0 =
-      search rules in
+    search rules in
     let units : (c.in_ok-units.units).items ≡ replicate c.vars-variables.result c.new.result =
-      search rules in
+    search rules in
     record {
       slots_are = refl;
       trail = c.in_ok-engine.ensures.empty;
@@ -30,11 +30,11 @@ returns c =
       works = c.in_ok-engine.ensures.works;
       fits = c.in_ok-engine.ensures.fits;
       attached =
-        subst (All (λ (n : ℕ × Name). is_attached c.in_ok-engine.engine n.0 ≡ true))
+          subst (All (λ (n : ℕ × Name). is_attached c.in_ok-engine.engine n.0 ≡ true))
           c.names-2.ensures c.in_ok-engine.ensures.attached;
       long = c.in_ok-names.ensures.long ∙ c.places.ensures;
       named =
-        subst (All (λ (n : ℕ × Name). name_at (c.in_ok-names.names).items n.0 ≡ n.1))
+          subst (All (λ (n : ℕ × Name). name_at (c.in_ok-names.names).items n.0 ≡ n.1))
           c.names.ensures c.in_ok-names.ensures.named;
       numbers = c.in_ok-names.ensures.numbers;
       units = units ∙ (λ i. replicate (c.vars-variables.ensures i) (c.new.ensures i));
@@ -49,6 +49,6 @@ returns c =
         units = ap length units ∙ length-replicate c.vars-variables.result c.new.result ∙ sym many;
       };
       past =
-        subst (All (λ n. n ≤ c.args.additions)) (sym stamps)
+          subst (All (λ n. n ≤ c.args.additions)) (sym stamps)
           (All-replicate (λ n. n ≤ c.args.additions) c.vars-variables.result 0 (omega arith));
     }

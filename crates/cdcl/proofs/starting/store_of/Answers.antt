@@ -8,5 +8,5 @@ loop-clause-preserved c =
     let old = c.loop-clause.store.slots in
     let left = map Some c.next.new.self in
     ap (λ (s : StoreState). s.slots ++ left) c.in_ok-add.ensures.ok
-      ∙ append_assoc old (Some c.in-Some.clause.now ∷ []) left
+    ∙ append_assoc old (Some c.in-Some.clause.now ∷ []) left
     ∙ ap (λ x. old ++ map Some x) (sym c.in-Some.ensures.steps) ∙ c.loop-clause.invariant

@@ -11,6 +11,6 @@ loop-unit-preserved c = search (map_over_more (renamed_reason c.args.moves.now),
 pub returns-clause-moved : goal.returns-clause-moved
 returns-clause-moved c v =
     let all : c.loop-unit.units ≡ map (renamed_reason c.args.moves.now) c.args.units.now =
-      search (take_all, drop_all, rules) in
+    search (take_all, drop_all, rules) in
     ap (λ us. get_or us v None) all
-      ∙ get_or-map (renamed_reason c.args.moves.now) c.args.units.now v None
+    ∙ get_or-map (renamed_reason c.args.moves.now) c.args.units.now v None

@@ -11,9 +11,9 @@ loop-old-preserved c =
     elim c.if-is_live.branch [
       | then-is_live+in_ok-push w ↦
           let new : w.len-new.result ≡ length c.loop-old.pairs.items =
-            omega (arith, w.len-new.ensures, c.loop-old.pairs.ok.0) in
+          omega (arith, w.len-new.ensures, c.loop-old.pairs.ok.0) in
           rw (w.pairs-is, w.in_ok-push.ensures.items, new)
-            (listing_live _ _ _ c.loop-old.invariant h (flag ∙ w.if-is_live.true))
+          (listing_live _ _ _ c.loop-old.invariant h (flag ∙ w.if-is_live.true))
       | else-is_live w ↦
-        rw w.pairs-is (listing_dead _ _ _ c.loop-old.invariant h (flag ∙ w.if-is_live.false))
+          rw w.pairs-is (listing_dead _ _ _ c.loop-old.invariant h (flag ∙ w.if-is_live.false))
     ]

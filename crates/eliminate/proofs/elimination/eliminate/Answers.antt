@@ -26,47 +26,48 @@ start_of slots frozen = record { clauses = live_clauses slots; frozen = frozen }
 -- what each pass leaves is a simplified form
 tables : (g : Over) (c : In_ok-simplifier g)
     → IsSimplified (start_of c.args.store.now.slots c.args.frozen.now) c.in_ok-simplifier.simplifier
-      c.args.store.now.slots (g.S.Sink.lines c.args.sink.now)
+    c.args.store.now.slots (g.S.Sink.lines c.args.sink.now)
 tables g c =
     subst (λ (ls : List LogLine). IsSimplified (start_of c.args.store.now.slots c.args.frozen.now)
-      c.in_ok-simplifier.simplifier c.args.store.now.slots ls) (sym c.requires.empty)
-      (c.in_ok-simplifier.ensures.simplified c.args.frozen.now refl)
+    c.in_ok-simplifier.simplifier c.args.store.now.slots ls) (sym c.requires.empty)
+    (c.in_ok-simplifier.ensures.simplified c.args.frozen.now refl)
 
 propagated : (g : Over) (c : In_ok-propagate_units g)
     → IsSimplified (start_of c.args.store.now.slots c.args.frozen.now)
-      c.propagate_units.new.simplifier c.propagate_units.new.store.slots
-      (g.S.Sink.lines c.propagate_units.new.sink)
+    c.propagate_units.new.simplifier c.propagate_units.new.store.slots
+    (g.S.Sink.lines c.propagate_units.new.sink)
 propagated g c =
     c.in_ok-propagate_units.ensures.simplified (start_of c.args.store.now.slots c.args.frozen.now)
-      (tables g (goal.at.In_ok-propagate_units g c).In_ok-simplifier)
+    (tables g (goal.at.In_ok-propagate_units g c).In_ok-simplifier)
 
 simplified : (g : Over) (c : In_ok-simplify_open g)
     → IsSimplified (start_of c.args.store.now.slots c.args.frozen.now)
-      c.simplify_open.new.simplifier c.simplify_open.new.store.slots
-      (g.S.Sink.lines c.simplify_open.new.sink)
+    c.simplify_open.new.simplifier c.simplify_open.new.store.slots
+    (g.S.Sink.lines c.simplify_open.new.sink)
 simplified g c =
     c.in_ok-simplify_open.ensures.simplified (start_of c.args.store.now.slots c.args.frozen.now)
-      refl (propagated g (goal.at.In_ok-simplify_open g c).In_ok-propagate_units)
+    refl (propagated g (goal.at.In_ok-simplify_open g c).In_ok-propagate_units)
 
 -- and what the last one leaves is a result
 ended : (g : Over) (c : In_ok-vars g)
     → IsResult (start_of c.args.store.now.slots c.args.frozen.now)
-      c.define_where_open.new.simplifier.removals
-      (stage_of c.in_ok-vars.vars c.define_where_open.new.store.slots
-        c.define_where_open.new.simplifier.names (g.S.Sink.lines c.define_where_open.new.sink))
+    c.define_where_open.new.simplifier.removals
+    (stage_of c.in_ok-vars.vars c.define_where_open.new.store.slots
+    c.define_where_open.new.simplifier.names (g.S.Sink.lines c.define_where_open.new.sink))
 ended g c = c.in_ok-vars.ensures.result (start_of c.args.store.now.slots c.args.frozen.now) refl
     (simplified g (goal.at.In_ok-vars g c).In_ok-simplify_open)
 
 pub propagate_units-requires-clause-simplified : goal.propagate_units-requires-clause-simplified
-propagate_units-requires-clause-simplified g c =
-    (start_of c.args.store.now.slots c.args.frozen.now,
-      tables g (goal.at.propagate_units-requires-clause-simplified g c).In_ok-simplifier)
+propagate_units-requires-clause-simplified g c = (
+  start_of c.args.store.now.slots c.args.frozen.now,
+  tables g (goal.at.propagate_units-requires-clause-simplified g c).In_ok-simplifier,
+)
 
 pub returns-in_err-simplifier-clause-lines : goal.returns-in_err-simplifier-clause-lines
 returns-in_err-simplifier-clause-lines g c =
     subst (StaysLogOver (length c.args.frozen.now) (given_of (live_clauses c.args.store.now.slots)))
-      (sym c.requires.empty)
-      (stays_start (length c.args.frozen.now) (given_of (live_clauses c.args.store.now.slots)))
+    (sym c.requires.empty)
+    (stays_start (length c.args.frozen.now) (given_of (live_clauses c.args.store.now.slots)))
 
 pub returns-in_err-simplifier-clause-none_learned
     : goal.returns-in_err-simplifier-clause-none_learned
@@ -75,47 +76,54 @@ returns-in_err-simplifier-clause-none_learned g c = ap learned_count c.requires.
 pub returns-in_err-propagate_units-clause-lines : goal.returns-in_err-propagate_units-clause-lines
 returns-in_err-propagate_units-clause-lines g c =
     (c.in_err-propagate_units.ensures.err (start_of c.args.store.now.slots c.args.frozen.now)
-        (tables g (goal.at.returns-in_err-propagate_units-clause-lines g c).In_ok-simplifier)).0
+    (tables g (goal.at.returns-in_err-propagate_units-clause-lines g c).In_ok-simplifier)).0
 
 pub returns-in_err-propagate_units-clause-none_learned
     : goal.returns-in_err-propagate_units-clause-none_learned
 returns-in_err-propagate_units-clause-none_learned g c =
     (c.in_err-propagate_units.ensures.err (start_of c.args.store.now.slots c.args.frozen.now)
-        (tables g (goal.at.returns-in_err-propagate_units-clause-none_learned g
-            c).In_ok-simplifier)).1
+    (tables g (goal.at.returns-in_err-propagate_units-clause-none_learned g
+    c).In_ok-simplifier)).1
 
 pub simplify_open-requires : goal.simplify_open-requires
-simplify_open-requires g c =
-    (start_of c.args.store.now.slots c.args.frozen.now, refl,
-      propagated g (goal.at.simplify_open-requires g c).In_ok-propagate_units)
+simplify_open-requires g c = (
+  start_of c.args.store.now.slots c.args.frozen.now,
+  refl,
+  propagated g (goal.at.simplify_open-requires g c).In_ok-propagate_units,
+)
 
 pub returns-in_err-simplify_open-clause-lines : goal.returns-in_err-simplify_open-clause-lines
 returns-in_err-simplify_open-clause-lines g c =
     (c.in_err-simplify_open.ensures.err (start_of c.args.store.now.slots c.args.frozen.now) refl
-        (propagated g (goal.at.returns-in_err-simplify_open-clause-lines g
-            c).In_ok-propagate_units)).0
+    (propagated g (goal.at.returns-in_err-simplify_open-clause-lines g
+    c).In_ok-propagate_units)).0
 
 pub returns-in_err-simplify_open-clause-none_learned
     : goal.returns-in_err-simplify_open-clause-none_learned
 returns-in_err-simplify_open-clause-none_learned g c =
     (c.in_err-simplify_open.ensures.err (start_of c.args.store.now.slots c.args.frozen.now) refl
-        (propagated g (goal.at.returns-in_err-simplify_open-clause-none_learned g
-            c).In_ok-propagate_units)).1
+    (propagated g (goal.at.returns-in_err-simplify_open-clause-none_learned g
+    c).In_ok-propagate_units)).1
 
 pub define_where_open-requires : goal.define_where_open-requires
 define_where_open-requires g c =
-    record { simplified = (start_of c.args.store.now.slots c.args.frozen.now, refl,
-        simplified g (goal.at.define_where_open-requires g c).In_ok-simplify_open) }
+    record {
+      simplified = (
+        start_of c.args.store.now.slots c.args.frozen.now,
+        refl,
+        simplified g (goal.at.define_where_open-requires g c).In_ok-simplify_open,
+      );
+    }
 
 pub returns-in_err-vars-clause-lines : goal.returns-in_err-vars-clause-lines
 returns-in_err-vars-clause-lines g c =
     (c.in_err-vars.ensures.err (start_of c.args.store.now.slots c.args.frozen.now) refl
-        (simplified g (goal.at.returns-in_err-vars-clause-lines g c).In_ok-simplify_open)).0
+    (simplified g (goal.at.returns-in_err-vars-clause-lines g c).In_ok-simplify_open)).0
 
 pub returns-in_err-vars-clause-none_learned : goal.returns-in_err-vars-clause-none_learned
 returns-in_err-vars-clause-none_learned g c =
     (c.in_err-vars.ensures.err (start_of c.args.store.now.slots c.args.frozen.now) refl
-        (simplified g (goal.at.returns-in_err-vars-clause-none_learned g c).In_ok-simplify_open)).1
+    (simplified g (goal.at.returns-in_err-vars-clause-none_learned g c).In_ok-simplify_open)).1
 
 pub returns-in_err-names-clause-lines : goal.returns-in_err-names-clause-lines
 returns-in_err-names-clause-lines g c =
@@ -140,16 +148,16 @@ returns-clause-live g c base above =
     let k = ended g (goal.at.returns-clause-live g c).In_ok-vars in
     let slots = c.define_where_open.new.store.slots in
     let live =
-      log_live (given_of (live_clauses c.args.store.now.slots)) base
-        (g.S.Sink.lines c.define_where_open.new.sink) in
+    log_live (given_of (live_clauses c.args.store.now.slots)) base
+    (g.S.Sink.lines c.define_where_open.new.sink) in
     subst (λ ns. HoldsWhatIsLive slots ns base live) (sym c.in_ok-names.ensures)
-      (holds_live slots c.define_where_open.new.simplifier.names.names base _ live
-        k.work.named.numbers (k.work.named.live base above))
+    (holds_live slots c.define_where_open.new.simplifier.names.names base _ live
+    k.work.named.numbers (k.work.named.live base above))
 
 pub returns-clause-left : goal.returns-clause-left
 returns-clause-left g c =
     all_live (IsFormulaClause c.in_ok-vars.vars) c.define_where_open.new.store.slots
-      (ended g (goal.at.returns-clause-left g c).In_ok-vars).work.clauses
+    (ended g (goal.at.returns-clause-left g c).In_ok-vars).work.clauses
 
 pub returns-clause-variables : goal.returns-clause-variables
 returns-clause-variables g c = let k = ended g (goal.at.returns-clause-variables g c).In_ok-vars in
@@ -158,9 +166,9 @@ returns-clause-variables g c = let k = ended g (goal.at.returns-clause-variables
 pub returns-clause-free : goal.returns-clause-free
 returns-clause-free g c =
     all_live (λ (d : List Literal). All
-        (λ (l : Literal). is_eliminated c.define_where_open.new.simplifier.removals l.variable
-          ≡ false) d) c.define_where_open.new.store.slots
-      (ended g (goal.at.returns-clause-free g c).In_ok-vars).free
+    (λ (l : Literal). is_eliminated c.define_where_open.new.simplifier.removals l.variable
+    ≡ false) d) c.define_where_open.new.store.slots
+    (ended g (goal.at.returns-clause-free g c).In_ok-vars).free
 
 pub returns-clause-not_frozen : goal.returns-clause-not_frozen
 returns-clause-not_frozen g c =
@@ -176,8 +184,8 @@ returns-clause-refuted g c w =
       | inl e ↦
           let h = simplified g (goal.at.returns-clause-refuted g c).In_ok-simplify_open in
           subst (λ (x : Slots). Contains (live_clauses x) [])
-            (sym (c.in_ok-vars.ensures.same (c.in_ok-simplify_open.ensures.refuted e)))
-            (h.refuted (c.in_ok-simplify_open.ensures.refuted e))
+          (sym (c.in_ok-vars.ensures.same (c.in_ok-simplify_open.ensures.refuted e)))
+          (h.refuted (c.in_ok-simplify_open.ensures.refuted e))
       | inr e ↦ absurd (c.in_ok-propagate_units.ensures.refuted e w)
     ]
 

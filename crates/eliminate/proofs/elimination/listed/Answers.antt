@@ -28,17 +28,17 @@ loop-place-preserved c =
           let here = ap (clause_at slots) (sym live.0) ∙ live.1.1 in
           let before : List (ℕ × Name) = c.loop-place.listed.items in
           ap (λ (v : Vec (ℕ × Name) Global). v.items) w.listed-is
-            ∙ w.in_ok-push-in-Some.ensures.items
+          ∙ w.in_ok-push-in-Some.ensures.items
           ∙ ap (λ (n : Name). before ++ (w.in-Some.reference, n) ∷ []) w.get.ensures
           ∙ ap (λ (r : ℕ). before ++ (r, name_at names r) ∷ []) live.0
           ∙ ap (λ (xs : List (ℕ × Name)). xs ++ (i, name_at names i) ∷ []) c.loop-place.invariant
           ∙ sym (listed_some names i slots live.1.0 here)
       | in-None w ↦ ap (λ (v : Vec (ℕ × Name) Global). v.items) w.listed-is ∙ c.loop-place.invariant
-        ∙ sym (listed_none names i slots (c.live_at.ensures.none w.in-None.is))
+          ∙ sym (listed_none names i slots (c.live_at.ensures.none w.in-None.is))
     ]
 
 pub returns : goal.returns
 returns c =
     c.loop-place.invariant
-      ∙ ap (listed_names c.args.names.now.names) (take_all c.loop-place.place c.args.store.now.slots
-      (omega arith))
+    ∙ ap (listed_names c.args.names.now.names) (take_all c.loop-place.place c.args.store.now.slots
+    (omega arith))

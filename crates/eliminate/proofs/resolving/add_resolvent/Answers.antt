@@ -20,32 +20,32 @@ use Rattle.eliminate.proofs.resolving.add_resolvent.Goals as goal
 pub resolve-requires-clause-first : goal.resolve-requires-clause-first
 resolve-requires-clause-first g c =
     literals_placed c.args.simplifier.now c.args.store.now.slots (g.S.Sink.lines c.args.sink.now)
-      c.requires.simplified c.args.first c.lits.result.now c.lits.ensures
+    c.requires.simplified c.args.first c.lits.result.now c.lits.ensures
 
 pub resolve-requires-clause-second : goal.resolve-requires-clause-second
 resolve-requires-clause-second g c =
     literals_placed c.args.simplifier.now c.args.store.now.slots (g.S.Sink.lines c.args.sink.now)
-      c.requires.simplified c.args.second c.lits-2.result.now c.lits-2.ensures
+    c.requires.simplified c.args.second c.lits-2.result.now c.lits-2.ensures
 
 pub resolve-requires-clause-plain_first : goal.resolve-requires-clause-plain_first
 resolve-requires-clause-plain_first g c =
     literals_plain c.args.simplifier.now c.args.store.now.slots (g.S.Sink.lines c.args.sink.now)
-      c.requires.simplified c.args.first c.lits.result.now c.lits.ensures
+    c.requires.simplified c.args.first c.lits.result.now c.lits.ensures
 
 pub resolve-requires-clause-plain_second : goal.resolve-requires-clause-plain_second
 resolve-requires-clause-plain_second g c =
     literals_plain c.args.simplifier.now c.args.store.now.slots (g.S.Sink.lines c.args.sink.now)
-      c.requires.simplified c.args.second c.lits-2.result.now c.lits-2.ensures
+    c.requires.simplified c.args.second c.lits-2.result.now c.lits-2.ensures
 
 pub parents-requires-clause-first : goal.parents-requires-clause-first
 parents-requires-clause-first g c =
     is_named c.args.simplifier.now c.args.store.now.slots (g.S.Sink.lines c.args.sink.now)
-      c.requires.simplified c.args.first c.lits.result.now c.lits.ensures
+    c.requires.simplified c.args.first c.lits.result.now c.lits.ensures
 
 pub parents-requires-clause-second : goal.parents-requires-clause-second
 parents-requires-clause-second g c =
     is_named c.args.simplifier.now c.args.store.now.slots (g.S.Sink.lines c.args.sink.now)
-      c.requires.simplified c.args.second c.lits-2.result.now c.lits-2.ensures
+    c.requires.simplified c.args.second c.lits-2.result.now c.lits-2.ensures
 
 pub add-requires-clause-line : goal.add-requires-clause-line
 add-requires-clause-line g c start h =
@@ -59,29 +59,35 @@ add-requires-clause-line g c start h =
     let is_plain = c.if-not-is_plain.false in
     let kind = resolvent_kind c.deref.result.now c.kind_of-kind.result c.kind_of-kind.ensures in
     let has : contains_literal p d ≡ true =
-      subst (λ (x : List Literal). contains_literal p x ≡ true)
-        (same_at slots c.args.first c.requires.first.0 d c.requires.first.1 c.lits.ensures)
-        c.requires.first.2 in
+    subst (λ (x : List Literal). contains_literal p x ≡ true)
+    (same_at slots c.args.first c.requires.first.0 d c.requires.first.1 c.lits.ensures)
+    c.requires.first.2 in
     let has_not : contains_literal (negation p) e ≡ true =
-      subst (λ (x : List Literal). contains_literal (negation p) x ≡ true)
-        (same_at slots c.args.second c.requires.second.0 e c.requires.second.1 c.lits-2.ensures)
-        c.requires.second.2 in
+    subst (λ (x : List Literal). contains_literal (negation p) x ≡ true)
+    (same_at slots c.args.second c.requires.second.0 e c.requires.second.1 c.lits-2.ensures)
+    c.requires.second.2 in
     resolvent_addable start t slots (g.S.Sink.lines c.args.sink.now) p d e c.args.first
-      c.args.second h c.lits.ensures c.lits-2.ensures c.kind_of-kind.result c.resolve.new.out.items
-      c.in_ok-hints.hints.items
+    c.args.second h c.lits.ensures c.lits-2.ensures c.kind_of-kind.result c.resolve.new.out.items
+    c.in_ok-hints.hints.items
     kind.0 kind.1 has has_not (not-true _ (sym plain ∙ is_plain))
-      (c.in_ok-is_plain.ensures.built is_plain) c.in_ok-hints.ensures
+    (c.in_ok-is_plain.ensures.built is_plain) c.in_ok-hints.ensures
 
 pub returns-in_err-reference-clause-err : goal.returns-in_err-reference-clause-err
 returns-in_err-reference-clause-err g c =
     let s : Simplifier = c.args.simplifier.now in
     let t : Simplifier = record s { marks = c.resolve.new.marks; clause = c.resolve.new.out } in
     let logs : LeavesLog s c.args.store.now.slots (g.S.Sink.lines c.args.sink.now)
-      (g.S.Sink.lines c.add.new.sink) = (λ start h.
+    (g.S.Sink.lines c.add.new.sink) = (λ start h.
     c.in_err-reference.ensures.err start (simplified_same start s t c.args.store.now.slots
-        (g.S.Sink.lines c.args.sink.now)
-    (record { vars = refl; names = refl; places = refl; removals = refl;
-          marks = c.resolve.ensures.len; refuted = refl }) h.state.occurrences h)) in
+    (g.S.Sink.lines c.args.sink.now)
+    (record {
+      vars = refl;
+      names = refl;
+      places = refl;
+      removals = refl;
+      marks = c.resolve.ensures.len;
+      refuted = refl;
+    }) h.state.occurrences h)) in
     when_err _ logs
 
 pub returns-clause-grows : goal.returns-clause-grows
@@ -93,21 +99,21 @@ returns-clause-grows g c =
     let d = c.lits.result.now in
     let e = c.lits-2.result.now in
     let has : contains_literal p d ≡ true =
-      subst (λ (x : List Literal). contains_literal p x ≡ true)
-        (same_at slots c.args.first c.requires.first.0 d c.requires.first.1 c.lits.ensures)
-        c.requires.first.2 in
+    subst (λ (x : List Literal). contains_literal p x ≡ true)
+    (same_at slots c.args.first c.requires.first.0 d c.requires.first.1 c.lits.ensures)
+    c.requires.first.2 in
     let has_not : contains_literal (negation p) e ≡ true =
-      subst (λ (x : List Literal). contains_literal (negation p) x ≡ true)
-        (same_at slots c.args.second c.requires.second.0 e c.requires.second.1 c.lits-2.ensures)
-        c.requires.second.2 in
+    subst (λ (x : List Literal). contains_literal (negation p) x ≡ true)
+    (same_at slots c.args.second c.requires.second.0 e c.requires.second.1 c.lits-2.ensures)
+    c.requires.second.2 in
     let lacks =
-      resolvent-lacks p d e (literals_plain s slots ls c.requires.simplified c.args.first d
-        c.lits.ensures) (literals_plain s slots ls c.requires.simplified c.args.second e
-        c.lits-2.ensures) has has_not in
+    resolvent-lacks p d e (literals_plain s slots ls c.requires.simplified c.args.first d
+    c.lits.ensures) (literals_plain s slots ls c.requires.simplified c.args.second e
+    c.lits-2.ensures) has has_not in
     subst (GrowsWithout p slots)
-      (sym (c.in_ok-reference.ensures.slots
-          ∙ ap (λ (xs : List Literal). slots ++ Some xs ∷ [])
-          (c.in_ok-is_plain.ensures.built c.if-not-is_plain.false)))
+    (sym (c.in_ok-reference.ensures.slots
+    ∙ ap (λ (xs : List Literal). slots ++ Some xs ∷ [])
+    (c.in_ok-is_plain.ensures.built c.if-not-is_plain.false)))
     (grows_one p slots (resolvent p d e) lacks)
 
 pub returns-clause-resolved : goal.returns-clause-resolved
@@ -115,9 +121,9 @@ returns-clause-resolved g c x y ex ey =
     inr (
       length c.args.store.now.slots,
       pair_added c.args.pivot c.args.store.now.slots c.add.new.store.slots c.args.first
-        c.args.second c.lits.result.now c.lits-2.result.now c.resolve.new.out.items
+          c.args.second c.lits.result.now c.lits-2.result.now c.resolve.new.out.items
           c.in_ok-reference.ensures.slots (c.in_ok-is_plain.ensures.built c.if-not-is_plain.false)
-            c.lits.ensures c.lits-2.ensures x y ex ey,
+          c.lits.ensures c.lits-2.ensures x y ex ey,
     )
 
 pub returns-clause-added : goal.returns-clause-added
@@ -126,7 +132,7 @@ returns-clause-added g c = (
   λ x y ex ey.
       ap (clause_at c.add.new.store.slots) c.in_ok-reference.ensures.reference
       ∙ pair_added c.args.pivot c.args.store.now.slots c.add.new.store.slots c.args.first
-        c.args.second c.lits.result.now c.lits-2.result.now c.resolve.new.out.items
+      c.args.second c.lits.result.now c.lits-2.result.now c.resolve.new.out.items
       c.in_ok-reference.ensures.slots (c.in_ok-is_plain.ensures.built c.if-not-is_plain.false)
-        c.lits.ensures c.lits-2.ensures x y ex ey,
+      c.lits.ensures c.lits-2.ensures x y ex ey,
 )

@@ -5,4 +5,4 @@ use Rattle.eliminate.proofs.rounds.simplify.Given as goal
 abbrev pub invariant-loop-round : goal.invariant-loop-round
 invariant-loop-round g l =
     StaysOver l.frozen l.fn.simplifier l.fn.store.slots (g.S.Sink.lines l.fn.sink) l.simplifier
-      l.store.slots (g.S.Sink.lines l.sink)
+    l.store.slots (g.S.Sink.lines l.sink)

@@ -26,38 +26,38 @@ sweep-requires g c = c.sweeps.invariant.propagating
 pub follow-requires : goal.follow-requires
 follow-requires g c =
     still_propagating _ _ _ _ _ _ _ _ c.in_ok-found.ensures.propagated
-      c.sweeps.invariant.propagating c.if-simplifier.false
+    c.sweeps.invariant.propagating c.if-simplifier.false
 
 pub returns-in_err-units-clause-err : goal.returns-in_err-units-clause-err
 returns-in_err-units-clause-err g c =
     let logs : LeavesLog c.args.simplifier.now c.args.store.now.slots
-      (g.S.Sink.lines c.args.sink.now) _ =
-      (λ start h. log_of start c.args.simplifier.now c.args.store.now.slots
-        (g.S.Sink.lines c.args.sink.now) h) in
+    (g.S.Sink.lines c.args.sink.now) _ =
+    (λ start h. log_of start c.args.simplifier.now c.args.store.now.slots
+    (g.S.Sink.lines c.args.sink.now) h) in
     when_err _ logs
 
 pub returns-in_err-visits-clause-err : goal.returns-in_err-visits-clause-err
 returns-in_err-visits-clause-err g c =
     let logs : LeavesLog c.args.simplifier.now c.args.store.now.slots
-      (g.S.Sink.lines c.args.sink.now) _ =
-      (λ start h. log_of start c.args.simplifier.now c.args.store.now.slots
-        (g.S.Sink.lines c.args.sink.now) h) in
+    (g.S.Sink.lines c.args.sink.now) _ =
+    (λ start h. log_of start c.args.simplifier.now c.args.store.now.slots
+    (g.S.Sink.lines c.args.sink.now) h) in
     when_err _ logs
 
 pub returns-in_err-found-clause-err : goal.returns-in_err-found-clause-err
 returns-in_err-found-clause-err g c =
     let logs : LeavesLog c.args.simplifier.now c.args.store.now.slots
-      (g.S.Sink.lines c.args.sink.now) _ =
-      (λ start h. c.in_err-found.ensures.err start (c.sweeps.invariant.simplified start h)) in
+    (g.S.Sink.lines c.args.sink.now) _ =
+    (λ start h. c.in_err-found.ensures.err start (c.sweeps.invariant.simplified start h)) in
     when_err _ logs
 
 pub returns-in_err-follow-clause-err : goal.returns-in_err-follow-clause-err
 returns-in_err-follow-clause-err g c =
     let logs : LeavesLog c.args.simplifier.now c.args.store.now.slots
-      (g.S.Sink.lines c.args.sink.now) _ =
-      (λ start h. c.in_err-follow.ensures.err start
-        (c.in_ok-found.ensures.propagated.simplified start (c.sweeps.invariant.simplified start h)))
-        in
+    (g.S.Sink.lines c.args.sink.now) _ =
+    (λ start h. c.in_err-follow.ensures.err start
+    (c.in_ok-found.ensures.propagated.simplified start (c.sweeps.invariant.simplified start h)))
+    in
     when_err _ logs
 
 pub returns-then-simplifier-clause-simplified : goal.returns-then-simplifier-clause-simplified
@@ -74,12 +74,12 @@ returns-then-not-found-clause-simplified g c start h =
 pub returns-then-not-found-clause-refuted : goal.returns-then-not-found-clause-refuted
 returns-then-not-found-clause-refuted g c works =
     settled_not_refuted c.sweeps.units.trail.items c.args.store.now.slots c.sweeps.store.slots
-      (c.in_ok-found.ensures.settled c.if-not-found.true).1 c.sweeps.invariant.grows
+    (c.in_ok-found.ensures.settled c.if-not-found.true).1 c.sweeps.invariant.grows
 
 pub returns-then-simplifier-2-clause-simplified : goal.returns-then-simplifier-2-clause-simplified
 returns-then-simplifier-2-clause-simplified g c start h =
     c.in_ok-follow.ensures.propagated.simplified start
-      (c.in_ok-found.ensures.propagated.simplified start (c.sweeps.invariant.simplified start h))
+    (c.in_ok-found.ensures.propagated.simplified start (c.sweeps.invariant.simplified start h))
 
 pub returns-then-simplifier-2-clause-refuted : goal.returns-then-simplifier-2-clause-refuted
 returns-then-simplifier-2-clause-refuted g c works =
@@ -91,12 +91,12 @@ sweeps-preserved g c =
     let followed = c.in_ok-follow.ensures.propagated.units c.if-simplifier-2.false in
     record {
       simplified =
-        λ start h. c.in_ok-follow.ensures.propagated.simplified start
+          λ start h. c.in_ok-follow.ensures.propagated.simplified start
           (c.in_ok-found.ensures.propagated.simplified start
           (c.sweeps.invariant.simplified start h));
       propagating = still_propagating _ _ _ _ _ _ _ _ c.in_ok-follow.ensures.propagated
           (still_propagating _ _ _ _ _ _ _ _ c.in_ok-found.ensures.propagated
-              c.sweeps.invariant.propagating c.if-simplifier.false)
+          c.sweeps.invariant.propagating c.if-simplifier.false)
           c.if-simplifier-2.false;
       grows = λ r d e. followed.grows r d (swept.grows r d (c.sweeps.invariant.grows r d e));
     }

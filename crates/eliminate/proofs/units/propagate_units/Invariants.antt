@@ -5,7 +5,7 @@ use Rattle.eliminate.proofs.units.propagate_units.Given as goal
 abbrev pub invariant-sweeps : goal.invariant-sweeps
 invariant-sweeps g l = record {
   simplified : StaysSimplified l.fn.simplifier l.fn.store.slots (g.S.Sink.lines l.fn.sink)
-    l.simplifier l.store.slots (g.S.Sink.lines l.sink);
+      l.simplifier l.store.slots (g.S.Sink.lines l.sink);
   propagating : IsPropagating l.units l.simplifier l.store.slots (g.S.Sink.lines l.sink);
   grows : Grows l.fn.store.slots l.store.slots;
 }

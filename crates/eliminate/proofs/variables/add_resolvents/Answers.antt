@@ -11,51 +11,51 @@ use Rattle.eliminate.proofs.variables.add_resolvents.Goals as goal
 pub add_resolvents_of-requires-clause-first : goal.add_resolvents_of-requires-clause-first
 add_resolvents_of-requires-clause-first g c =
     with_later c.args.pivot c.args.store.now.slots c.loop-first.store.slots c.first-item.result
-      c.loop-first.invariant.grows.kept
+    c.loop-first.invariant.grows.kept
     (subst (IsWith c.args.pivot c.args.store.now.slots) (sym c.first-item.is)
-        (c.requires.firsts c.loop-first.first-index c.first-item.result c.loop-first-test.true))
+    (c.requires.firsts c.loop-first.first-index c.first-item.result c.loop-first-test.true))
 
 pub add_resolvents_of-requires-clause-seconds : goal.add_resolvents_of-requires-clause-seconds
 add_resolvents_of-requires-clause-seconds g c =
     all_with_later (negation c.args.pivot) c.args.store.now.slots c.loop-first.store.slots
-      c.args.seconds.now c.loop-first.invariant.grows.kept c.requires.seconds
+    c.args.seconds.now c.loop-first.invariant.grows.kept c.requires.seconds
 
 pub returns-in_err-add_resolvents_of-clause-err : goal.returns-in_err-add_resolvents_of-clause-err
 returns-in_err-add_resolvents_of-clause-err g c =
     let logs : LeavesLog c.args.simplifier.now c.args.store.now.slots
-      (g.S.Sink.lines c.args.sink.now) (g.S.Sink.lines c.add_resolvents_of.new.sink) =
+    (g.S.Sink.lines c.args.sink.now) (g.S.Sink.lines c.add_resolvents_of.new.sink) =
     (λ start h. c.in_err-add_resolvents_of.ensures.err start
-        (c.loop-first.invariant.simplified start h)) in
+    (c.loop-first.invariant.simplified start h)) in
     when_err _ logs
 
 pub returns-then-simplifier-clause-grows : goal.returns-then-simplifier-clause-grows
 returns-then-simplifier-clause-grows g c =
     grows_join c.args.pivot c.args.store.now.slots c.loop-first.store.slots
-      c.add_resolvents_of.new.store.slots c.loop-first.invariant.grows
-      c.in_ok-add_resolvents_of.ensures.grows
+    c.add_resolvents_of.new.store.slots c.loop-first.invariant.grows
+    c.in_ok-add_resolvents_of.ensures.grows
 
 pub loop-first-preserved : goal.loop-first-preserved
 loop-first-preserved g c = record {
   simplified =
-    λ start h. c.in_ok-add_resolvents_of.ensures.simplified start
+      λ start h. c.in_ok-add_resolvents_of.ensures.simplified start
       (c.loop-first.invariant.simplified start h);
   works = c.if-simplifier.false;
   grows =
-    grows_join c.args.pivot c.args.store.now.slots c.loop-first.store.slots
+      grows_join c.args.pivot c.args.store.now.slots c.loop-first.store.slots
       c.add_resolvents_of.new.store.slots c.loop-first.invariant.grows
       c.in_ok-add_resolvents_of.ensures.grows;
   resolved =
-    next_pairs c.args.pivot c.args.store.now.slots c.loop-first.store.slots
+      next_pairs c.args.pivot c.args.store.now.slots c.loop-first.store.slots
       c.add_resolvents_of.new.store.slots c.args.firsts.now c.args.seconds.now
       c.loop-first.first-index c.first-item.result
       c.loop-first-test.true c.first-item.is c.loop-first.invariant.grows
-        c.in_ok-add_resolvents_of.ensures.grows c.loop-first.invariant.resolved
-        (c.in_ok-add_resolvents_of.ensures.resolved c.if-simplifier.false);
+      c.in_ok-add_resolvents_of.ensures.grows c.loop-first.invariant.resolved
+      (c.in_ok-add_resolvents_of.ensures.resolved c.if-simplifier.false);
 }
 
 pub returns-clause-resolved : goal.returns-clause-resolved
 returns-clause-resolved g c works =
     subst (λ (fs : List ℕ). ArePairsResolved c.args.pivot c.args.store.now.slots
-        c.loop-first.store.slots fs c.args.seconds.now)
-      (take_all c.loop-first.first-index c.args.firsts.now (let e = c.loop-first-test.false in
-          omega arith)) c.loop-first.invariant.resolved
+    c.loop-first.store.slots fs c.args.seconds.now)
+    (take_all c.loop-first.first-index c.args.firsts.now (let e = c.loop-first-test.false in
+    omega arith)) c.loop-first.invariant.resolved

@@ -7,9 +7,9 @@ use Rattle.eliminate.proofs.variables.add_resolvents.Given as goal
 abbrev pub invariant-loop-first : goal.invariant-loop-first
 invariant-loop-first g l = record {
   simplified : StaysSimplified l.fn.simplifier l.fn.store.slots (g.S.Sink.lines l.fn.sink)
-    l.simplifier l.store.slots (g.S.Sink.lines l.sink);
+      l.simplifier l.store.slots (g.S.Sink.lines l.sink);
   works : l.simplifier.is_refuted ≡ false;
   grows : GrowsWithout l.pivot l.fn.store.slots l.store.slots;
   resolved : ArePairsResolved l.pivot l.fn.store.slots l.store.slots
-    (take l.first-index l.firsts) l.seconds;
+      (take l.first-index l.firsts) l.seconds;
 }

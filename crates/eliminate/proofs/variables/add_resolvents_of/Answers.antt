@@ -12,46 +12,46 @@ use Rattle.eliminate.proofs.variables.add_resolvents_of.Goals as goal
 pub add_resolvent-requires-clause-second : goal.add_resolvent-requires-clause-second
 add_resolvent-requires-clause-second g c =
     with_later (negation c.args.pivot) c.args.store.now.slots c.loop-second.store.slots
-      c.second-item.result c.loop-second.invariant.grows.kept
+    c.second-item.result c.loop-second.invariant.grows.kept
     (subst (IsWith (negation c.args.pivot) c.args.store.now.slots) (sym c.second-item.is)
-        (c.requires.seconds c.loop-second.second-index c.second-item.result
-          c.loop-second-test.true))
+    (c.requires.seconds c.loop-second.second-index c.second-item.result
+    c.loop-second-test.true))
 
 pub returns-in_err-add_resolvent-clause-err : goal.returns-in_err-add_resolvent-clause-err
 returns-in_err-add_resolvent-clause-err g c =
     let logs : LeavesLog c.args.simplifier.now c.args.store.now.slots
-      (g.S.Sink.lines c.args.sink.now) (g.S.Sink.lines c.add_resolvent.new.sink) =
+    (g.S.Sink.lines c.args.sink.now) (g.S.Sink.lines c.add_resolvent.new.sink) =
     (λ start h. c.in_err-add_resolvent.ensures.err start
-        (c.loop-second.invariant.simplified start h)) in
+    (c.loop-second.invariant.simplified start h)) in
     when_err _ logs
 
 pub returns-then-simplifier-clause-grows : goal.returns-then-simplifier-clause-grows
 returns-then-simplifier-clause-grows g c =
     grows_join c.args.pivot c.args.store.now.slots c.loop-second.store.slots
-      c.add_resolvent.new.store.slots c.loop-second.invariant.grows
-      c.in_ok-add_resolvent.ensures.grows
+    c.add_resolvent.new.store.slots c.loop-second.invariant.grows
+    c.in_ok-add_resolvent.ensures.grows
 
 pub loop-second-preserved : goal.loop-second-preserved
 loop-second-preserved g c = record {
   simplified =
-    λ start h. c.in_ok-add_resolvent.ensures.simplified start
+      λ start h. c.in_ok-add_resolvent.ensures.simplified start
       (c.loop-second.invariant.simplified start h);
   works = c.if-simplifier.false;
   grows =
-    grows_join c.args.pivot c.args.store.now.slots c.loop-second.store.slots
+      grows_join c.args.pivot c.args.store.now.slots c.loop-second.store.slots
       c.add_resolvent.new.store.slots c.loop-second.invariant.grows
       c.in_ok-add_resolvent.ensures.grows;
   resolved =
-    next_pair c.args.pivot c.args.store.now.slots c.loop-second.store.slots
+      next_pair c.args.pivot c.args.store.now.slots c.loop-second.store.slots
       c.add_resolvent.new.store.slots c.args.first c.args.seconds.now c.loop-second.second-index
       c.second-item.result
       c.loop-second-test.true c.second-item.is c.loop-second.invariant.grows
-        c.in_ok-add_resolvent.ensures.grows c.loop-second.invariant.resolved
-        c.in_ok-add_resolvent.ensures.resolved;
+      c.in_ok-add_resolvent.ensures.grows c.loop-second.invariant.resolved
+      c.in_ok-add_resolvent.ensures.resolved;
 }
 
 pub returns-clause-resolved : goal.returns-clause-resolved
 returns-clause-resolved g c works =
     subst (All (IsPairResolved c.args.pivot c.args.store.now.slots c.loop-second.store.slots
-          c.args.first)) (take_all c.loop-second.second-index c.args.seconds.now
-        (let e = c.loop-second-test.false in omega arith)) c.loop-second.invariant.resolved
+    c.args.first)) (take_all c.loop-second.second-index c.args.seconds.now
+    (let e = c.loop-second-test.false in omega arith)) c.loop-second.invariant.resolved

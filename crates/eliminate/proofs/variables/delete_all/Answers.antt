@@ -26,41 +26,41 @@ loop-reference-preserved g c =
     elim c.if-is_live.branch [
       | then-is_live+in_ok-leave+in_ok-delete w ↦
           let k =
-            next_deleted names refs slots left c.if-is_live.store.slots ls more
-              (g.S.Sink.lines c.if-is_live.sink) r i c.loop-reference-test.true c.reference-item.is
-              c.loop-reference.invariant.work c.loop-reference.invariant.counted
-              c.loop-reference.invariant.left
+          next_deleted names refs slots left c.if-is_live.store.slots ls more
+          (g.S.Sink.lines c.if-is_live.sink) r i c.loop-reference-test.true c.reference-item.is
+          c.loop-reference.invariant.work c.loop-reference.invariant.counted
+          c.loop-reference.invariant.left
           (c.is_live.ensures.0 w.if-is_live.true) (ap (λ (x : StoreState). x.slots) w.store-is
-              ∙ w.in_ok-delete.ensures.slots) (ap g.S.Sink.lines w.sink-is
-              ∙ w.in_ok-delete.ensures.lines) in
+          ∙ w.in_ok-delete.ensures.slots) (ap g.S.Sink.lines w.sink-is
+          ∙ w.in_ok-delete.ensures.lines) in
           record { work = k.0; counted = k.2; left = k.1 }
       | else-is_live w ↦
           let k =
-            next_dead names refs slots left c.if-is_live.store.slots ls more
-              (g.S.Sink.lines c.if-is_live.sink) r i c.loop-reference-test.true c.reference-item.is
-              c.loop-reference.invariant.work c.loop-reference.invariant.counted
-              c.loop-reference.invariant.left
+          next_dead names refs slots left c.if-is_live.store.slots ls more
+          (g.S.Sink.lines c.if-is_live.sink) r i c.loop-reference-test.true c.reference-item.is
+          c.loop-reference.invariant.work c.loop-reference.invariant.counted
+          c.loop-reference.invariant.left
           (λ live. false≢true (sym w.if-is_live.false ∙ c.is_live.ensures.1 live))
-            (ap (λ (x : StoreState). x.slots) w.store-is) (ap g.S.Sink.lines w.sink-is) in
+          (ap (λ (x : StoreState). x.slots) w.store-is) (ap g.S.Sink.lines w.sink-is) in
           record { work = k.0; counted = k.2; left = k.1 }
     ]
 
 pub returns-in_err-leave-clause-err : goal.returns-in_err-leave-clause-err
 returns-in_err-leave-clause-err g c =
     let logs : KeepsLog c.args.names.now.names c.args.store.now.slots
-      (g.S.Sink.lines c.args.sink.now) (g.S.Sink.lines c.loop-reference.sink) =
-      keeps_log _ _ _ _ _ c.loop-reference.invariant.work in
+    (g.S.Sink.lines c.args.sink.now) (g.S.Sink.lines c.loop-reference.sink) =
+    keeps_log _ _ _ _ _ c.loop-reference.invariant.work in
     when_err _ logs
 
 pub returns-in_err-delete-clause-err : goal.returns-in_err-delete-clause-err
 returns-in_err-delete-clause-err g c =
     let before : KeepsLog c.args.names.now.names c.args.store.now.slots
-      (g.S.Sink.lines c.args.sink.now) (g.S.Sink.lines c.loop-reference.sink) =
-      keeps_log _ _ _ _ _ c.loop-reference.invariant.work in
+    (g.S.Sink.lines c.args.sink.now) (g.S.Sink.lines c.loop-reference.sink) =
+    keeps_log _ _ _ _ _ c.loop-reference.invariant.work in
     let logs : KeepsLog c.args.names.now.names c.args.store.now.slots
-      (g.S.Sink.lines c.args.sink.now) (g.S.Sink.lines c.delete.new.sink) =
+    (g.S.Sink.lines c.args.sink.now) (g.S.Sink.lines c.delete.new.sink) =
     subst (KeepsLog c.args.names.now.names c.args.store.now.slots (g.S.Sink.lines c.args.sink.now))
-      (sym c.in_err-delete.ensures.err) before in
+    (sym c.in_err-delete.ensures.err) before in
     when_err _ logs
 
 pub delete-requires-clause-line : goal.delete-requires-clause-line

@@ -7,7 +7,7 @@ use Rattle.eliminate.proofs.variables.delete_all.Given as goal
 abbrev pub invariant-loop-reference : goal.invariant-loop-reference
 invariant-loop-reference g l = record {
   work : KeepsWork l.names.names l.fn.store.slots (g.S.Sink.lines l.fn.sink) l.store.slots
-    (g.S.Sink.lines l.sink);
+      (g.S.Sink.lines l.sink);
   counted : added_count (g.S.Sink.lines l.sink) ≡ added_count (g.S.Sink.lines l.fn.sink);
   left : LeavesOut (take l.reference-index l.references) l.fn.store.slots l.store.slots;
 }

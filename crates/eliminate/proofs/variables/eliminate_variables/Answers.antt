@@ -15,12 +15,18 @@ returns-in_err-is_gone-clause-err g c =
     let s : Simplifier = c.loop-try.simplifier in
     let ls : List LogLine = g.S.Sink.lines c.loop-try.sink in
     let logs : LeavesLogOver c.args.frozen.now c.args.simplifier.now c.args.store.now.slots
-      (g.S.Sink.lines c.args.sink.now) (g.S.Sink.lines c.try_variable.new.sink) = (λ start same h.
+    (g.S.Sink.lines c.args.sink.now) (g.S.Sink.lines c.try_variable.new.sink) = (λ start same h.
     let k = c.loop-try.invariant.simplified start same h in
     c.in_err-is_gone.ensures.err start same
-      (simplified_same start s (record s { schedule = c.pop.new.self }) c.loop-try.store.slots ls
-    (record { vars = refl; names = refl; places = refl; removals = refl; marks = refl;
-          refuted = refl }) k.state.occurrences k)) in
+    (simplified_same start s (record s { schedule = c.pop.new.self }) c.loop-try.store.slots ls
+    (record {
+      vars = refl;
+      names = refl;
+      places = refl;
+      removals = refl;
+      marks = refl;
+      refuted = refl;
+    }) k.state.occurrences k)) in
     when_err _ logs
 
 pub returns-then-simplifier-clause-simplified : goal.returns-then-simplifier-clause-simplified
@@ -28,10 +34,16 @@ returns-then-simplifier-clause-simplified g c start same h =
     let s : Simplifier = c.loop-try.simplifier in
     let k = c.loop-try.invariant.simplified start same h in
     c.in_ok-is_gone.ensures.simplified start same
-      (simplified_same start s (record s { schedule = c.pop.new.self }) c.loop-try.store.slots
-        (g.S.Sink.lines c.loop-try.sink)
-    (record { vars = refl; names = refl; places = refl; removals = refl; marks = refl;
-          refuted = refl }) k.state.occurrences k)
+    (simplified_same start s (record s { schedule = c.pop.new.self }) c.loop-try.store.slots
+    (g.S.Sink.lines c.loop-try.sink)
+    (record {
+      vars = refl;
+      names = refl;
+      places = refl;
+      removals = refl;
+      marks = refl;
+      refuted = refl;
+    }) k.state.occurrences k)
 
 pub loop-try-preserved : goal.loop-try-preserved
 loop-try-preserved g c =
@@ -43,23 +55,29 @@ loop-try-preserved g c =
     let kept : Slots = c.if-is_free.store.slots in
     let most : List LogLine = g.S.Sink.lines c.if-is_free.sink in
     let popped : StaysOver c.args.frozen.now c.args.simplifier.now c.args.store.now.slots
-      (g.S.Sink.lines c.args.sink.now) t left ls = (λ start same h.
+    (g.S.Sink.lines c.args.sink.now) t left ls = (λ start same h.
     let k = c.loop-try.invariant.simplified start same h in
-    simplified_same start s t left ls (record { vars = refl; names = refl; places = refl;
-          removals = refl; marks = refl; refuted = refl }) k.state.occurrences k) in
+    simplified_same start s t left ls (record {
+      vars = refl;
+      names = refl;
+      places = refl;
+      removals = refl;
+      marks = refl;
+      refuted = refl;
+    }) k.state.occurrences k) in
     elim c.if-is_free.branch [
       | then-is_free+in_ok-is_gone+else-simplifier w ↦ record {
         simplified =
-          λ start same h. simplified_at start w.try_variable.new.simplifier u
+            λ start same h. simplified_at start w.try_variable.new.simplifier u
             w.try_variable.new.store.slots kept (g.S.Sink.lines w.try_variable.new.sink) most
             w.simplifier-is (ap (λ (x : StoreState). x.slots) w.store-is)
-              (ap g.S.Sink.lines w.sink-is)
-              (w.in_ok-is_gone.ensures.simplified start same (popped start same h));
+            (ap g.S.Sink.lines w.sink-is)
+            (w.in_ok-is_gone.ensures.simplified start same (popped start same h));
         works = ap (λ (x : Simplifier). x.is_refuted) w.simplifier-is ∙ w.if-simplifier.false;
       }
       | else-is_free w ↦ record {
         simplified =
-          λ start same h. simplified_at start t u left kept ls most w.simplifier-is
+            λ start same h. simplified_at start t u left kept ls most w.simplifier-is
             (ap (λ (x : StoreState). x.slots) w.store-is) (ap g.S.Sink.lines w.sink-is)
             (popped start same h);
         works = ap (λ (x : Simplifier). x.is_refuted) w.simplifier-is ∙ c.loop-try.invariant.works;

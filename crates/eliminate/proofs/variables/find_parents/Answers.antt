@@ -9,12 +9,12 @@ pub is_worthwhile-is_worthwhile-requires-clause-live
     : goal.is_worthwhile-is_worthwhile-requires-clause-live
 is_worthwhile-is_worthwhile-requires-clause-live c =
     subst (λ (rs : List ℕ). All (IsLive c.args.store.now.slots) rs) (sym c.deref.ensures.value)
-      (those_live c.args.pivot c.args.store.now.slots c.gather.new.references.items
-        c.in_ok-gather.ensures.gathered)
+    (those_live c.args.pivot c.args.store.now.slots c.gather.new.references.items
+    c.in_ok-gather.ensures.gathered)
 
 pub is_worthwhile-is_worthwhile-requires-clause-live_too
     : goal.is_worthwhile-is_worthwhile-requires-clause-live_too
 is_worthwhile-is_worthwhile-requires-clause-live_too c =
     subst (λ (rs : List ℕ). All (IsLive c.args.store.now.slots) rs) (sym c.deref-2.ensures.value)
-      (those_live c.negation.result c.args.store.now.slots c.gather-2.new.references.items
-        c.in_ok-gather-2.ensures.gathered)
+    (those_live c.negation.result c.args.store.now.slots c.gather-2.new.references.items
+    c.in_ok-gather-2.ensures.gathered)

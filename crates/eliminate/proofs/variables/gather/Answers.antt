@@ -23,16 +23,16 @@ are_cleaned : (old rows : List (List ℕ)) (slots : Slots) (l : Literal) (i : �
 are_cleaned old rows slots l i place a at is =
     let here : rows ≡ cleaned old slots (index_of l) = is ∙ ap (cleaned old slots) at in (
       subst (λ (rs : List (List ℕ)). AreRows rs slots) (sym here)
-        (rows_cleaned old slots (index_of l) (place_within (length old) l place) a),
+          (rows_cleaned old slots (index_of l) (place_within (length old) l place) a),
       ap length here ∙ length-set old (index_of l) _,
     )
 
 -- after the row is cleaned, the rows and the form are right
 right : (c : After-clean) → AreRows c.clean.new.self c.args.store.now.slots
-      × (length c.clean.new.self ≡ length c.args.simplifier.now.occurrences)
+    × (length c.clean.new.self ≡ length c.args.simplifier.now.occurrences)
 right c =
     are_cleaned c.args.simplifier.now.occurrences c.clean.new.self c.args.store.now.slots c.args.lit
-      c.index-row.result c.requires.place c.requires.rows c.index-row.ensures.index c.clean.ensures
+    c.index-row.result c.requires.place c.requires.rows c.index-row.ensures.index c.clean.ensures
 
 stays : (c : After-clean) (lines : List LogLine)
     → StaysSimplified c.args.simplifier.now c.args.store.now.slots lines
@@ -40,9 +40,15 @@ stays : (c : After-clean) (lines : List LogLine)
 stays c lines start h =
     let s : Simplifier = c.args.simplifier.now in
     simplified_same start s (record s { occurrences = c.clean.new.self })
-      c.args.store.now.slots lines
-    (record { vars = refl; names = refl; places = (right c).1; removals = refl; marks = refl;
-          refuted = refl }) (right c).0 h
+    c.args.store.now.slots lines
+    (record {
+      vars = refl;
+      names = refl;
+      places = (right c).1;
+      removals = refl;
+      marks = refl;
+      refuted = refl;
+    }) (right c).0 h
 
 pub returns-in_err-extend_from_slice-clause-rows : goal.returns-in_err-extend_from_slice-clause-rows
 returns-in_err-extend_from_slice-clause-rows c =
@@ -58,10 +64,10 @@ returns-clause-gathered c =
     let rows = c.args.simplifier.now.occurrences in
     let slots : Slots = c.args.store.now.slots in
     those_with rows slots c.args.lit c.extend_from_slice.new.self.items c.requires.place
-      c.requires.rows
+    c.requires.rows
     (c.in_ok-extend_from_slice.ensures.items
-        ∙ ap (λ xs. xs ++ c.get.result.now) c.clear.ensures.items ∙ c.get.ensures
-        ∙ ap (λ rs. row_at rs c.index-row.result) c.clean.ensures
+    ∙ ap (λ xs. xs ++ c.get.result.now) c.clear.ensures.items ∙ c.get.ensures
+    ∙ ap (λ rs. row_at rs c.index-row.result) c.clean.ensures
     ∙ ap (λ i. row_at (cleaned rows slots i) i) c.index-row.ensures.index)
 
 pub returns-clause-rows : goal.returns-clause-rows

@@ -18,27 +18,27 @@ push-requires-clause-live g c k d lt = let w = c.requires.firsts.with_it k d lt 
 pub delete_all-requires-clause-lines : goal.delete_all-requires-clause-lines
 delete_all-requires-clause-lines g c r =
     line_deletes c.args.simplifier.now.names.names r
-      c.requires.simplified.2.state.work.named.numbers
+    c.requires.simplified.2.state.work.named.numbers
 
 pub delete_all-requires-2-clause-lines : goal.delete_all-requires-2-clause-lines
 delete_all-requires-2-clause-lines g c r =
     line_deletes c.args.simplifier.now.names.names r
-      c.requires.simplified.2.state.work.named.numbers
+    c.requires.simplified.2.state.work.named.numbers
 
 pub returns-in_err-delete_all-clause-err : goal.returns-in_err-delete_all-clause-err
 returns-in_err-delete_all-clause-err g c =
     let logs : LeavesLogOver c.args.frozen.now c.args.simplifier.now c.args.store.now.slots
-      (g.S.Sink.lines c.args.sink.now) (g.S.Sink.lines c.delete_all.new.sink) =
+    (g.S.Sink.lines c.args.sink.now) (g.S.Sink.lines c.delete_all.new.sink) =
     (λ start same h. c.in_err-delete_all.ensures.err _ _ _ h.state.work (h.going c.requires.going))
-      in
+    in
     when_err _ logs
 
 pub returns-in_err-delete_all-2-clause-err : goal.returns-in_err-delete_all-2-clause-err
 returns-in_err-delete_all-2-clause-err g c =
     let logs : LeavesLogOver c.args.frozen.now c.args.simplifier.now c.args.store.now.slots
-      (g.S.Sink.lines c.args.sink.now) (g.S.Sink.lines c.delete_all-2.new.sink) =
+    (g.S.Sink.lines c.args.sink.now) (g.S.Sink.lines c.delete_all-2.new.sink) =
     (λ start same h. log_after _ _ _ _ _ _ c.in_ok-delete_all.ensures.work
-        c.in_err-delete_all-2.ensures.err _ _ _ h.state.work (h.going c.requires.going)) in
+    c.in_err-delete_all-2.ensures.err _ _ _ h.state.work (h.going c.requires.going)) in
     when_err _ logs
 
 pub returns-clause-simplified : goal.returns-clause-simplified
@@ -54,19 +54,23 @@ returns-clause-simplified g c start same h =
     let few : v ≤ length start.frozen = free_within start.frozen v free in
     let below : v ≤ s.vars = (let given = h.given in omega arith) in
     let work : KeepsWork s.names.names slots ls left most =
-      keeps_join s.names.names slots mid left ls (g.S.Sink.lines c.delete_all.new.sink) most
-        c.in_ok-delete_all.ensures.work c.in_ok-delete_all-2.ensures.work in
+    keeps_join s.names.names slots mid left ls (g.S.Sink.lines c.delete_all.new.sink) most
+    c.in_ok-delete_all.ensures.work c.in_ok-delete_all-2.ensures.work in
     let state =
-      variable_goes start s slots mid left ls most v c.args.firsts.now c.args.seconds.now h
-        c.requires.firsts c.requires.seconds c.requires.resolved
-    c.in_ok-delete_all.ensures.left c.in_ok-delete_all-2.ensures.left c.requires.going free (free.0,
-        below) work in
+    variable_goes start s slots mid left ls most v c.args.firsts.now c.args.seconds.now h
+    c.requires.firsts c.requires.seconds c.requires.resolved
+    c.in_ok-delete_all.ensures.left c.in_ok-delete_all-2.ensures.left c.requires.going free (
+      free.0,
+      below,
+    ) work in
     record {
       state =
-        subst (λ (rs : List Removed). IsState start s.vars left s.names.names most s.occurrences rs)
+          subst (λ (rs : List Removed). IsState start s.vars left s.names.names most
+          s.occurrences rs)
           (sym c.in_ok-push.ensures) state;
       counted =
-        h.counted ∙ sym (c.in_ok-delete_all-2.ensures.counted ∙ c.in_ok-delete_all.ensures.counted);
+          h.counted ∙ sym (c.in_ok-delete_all-2.ensures.counted
+          ∙ c.in_ok-delete_all.ensures.counted);
       marks = h.marks;
       few = h.few;
       given = h.given;

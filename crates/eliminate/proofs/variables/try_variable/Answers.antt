@@ -13,26 +13,26 @@ use Rattle.eliminate.proofs.variables.try_variable.Goals as goal
 pub find_parents-requires-clause-placed : goal.find_parents-requires-clause-placed
 find_parents-requires-clause-placed g c r x e =
     literals_placed c.args.simplifier.now c.args.store.now.slots (g.S.Sink.lines c.args.sink.now)
-      (c.requires.simplified.0, c.requires.simplified.2) r x e
+    (c.requires.simplified.0, c.requires.simplified.2) r x e
 
 pub add_resolvents-requires-clause-firsts : goal.add_resolvents-requires-clause-firsts
 add_resolvents-requires-clause-firsts g c =
     subst (λ (rs : List ℕ). All (IsWith c.new-pivot.result c.args.store.now.slots) rs)
-      (sym c.deref.ensures.value)
-      (c.in_ok-find_parents.ensures.positive c.if-not-branch.false).with_it
+    (sym c.deref.ensures.value)
+    (c.in_ok-find_parents.ensures.positive c.if-not-branch.false).with_it
 
 pub add_resolvents-requires-clause-seconds : goal.add_resolvents-requires-clause-seconds
 add_resolvents-requires-clause-seconds g c =
     subst (λ (rs : List ℕ). All (IsWith (negation c.new-pivot.result) c.args.store.now.slots) rs)
-      (sym c.deref-2.ensures.value)
-      (c.in_ok-find_parents.ensures.negative c.if-not-branch.false).with_it
+    (sym c.deref-2.ensures.value)
+    (c.in_ok-find_parents.ensures.negative c.if-not-branch.false).with_it
 
 pub returns-in_err-add_resolvents-clause-err : goal.returns-in_err-add_resolvents-clause-err
 returns-in_err-add_resolvents-clause-err g c =
     let logs : LeavesLogOver c.args.frozen.now c.args.simplifier.now c.args.store.now.slots
-      (g.S.Sink.lines c.args.sink.now) (g.S.Sink.lines c.add_resolvents.new.sink) =
+    (g.S.Sink.lines c.args.sink.now) (g.S.Sink.lines c.add_resolvents.new.sink) =
     (λ start same h. c.in_err-add_resolvents.ensures.err start
-        (c.find_parents.ensures.simplified (g.S.Sink.lines c.args.sink.now) start h)) in
+    (c.find_parents.ensures.simplified (g.S.Sink.lines c.args.sink.now) start h)) in
     when_err _ logs
 
 pub remove_variable-requires-clause-firsts : goal.remove_variable-requires-clause-firsts
@@ -40,22 +40,22 @@ remove_variable-requires-clause-firsts g c =
     let more : Slots = c.add_resolvents.new.store.slots in
     let rs : List ℕ = c.find_parents.new.parents.positive.items in
     subst (λ (xs : List ℕ). AreThoseWith (positive c.args.variable) more xs)
-      (sym c.deref-3.ensures.value)
+    (sym c.deref-3.ensures.value)
     (subst (λ (l : Literal). AreThoseWith l more rs) c.new-pivot.ensures
     (those_later c.new-pivot.result c.args.store.now.slots more rs
-        c.in_ok-add_resolvents.ensures.grows
-        (c.in_ok-find_parents.ensures.positive c.if-not-branch.false)))
+    c.in_ok-add_resolvents.ensures.grows
+    (c.in_ok-find_parents.ensures.positive c.if-not-branch.false)))
 
 pub remove_variable-requires-clause-seconds : goal.remove_variable-requires-clause-seconds
 remove_variable-requires-clause-seconds g c =
     let more : Slots = c.add_resolvents.new.store.slots in
     let rs : List ℕ = c.find_parents.new.parents.negative.items in
     subst (λ (xs : List ℕ). AreThoseWith (negation (positive c.args.variable)) more xs)
-      (sym c.deref-4.ensures.value)
+    (sym c.deref-4.ensures.value)
     (subst (λ (l : Literal). AreThoseWith (negation l) more rs) c.new-pivot.ensures
     (those_not_later c.new-pivot.result c.args.store.now.slots more rs
-        c.in_ok-add_resolvents.ensures.grows
-        (c.in_ok-find_parents.ensures.negative c.if-not-branch.false)))
+    c.in_ok-add_resolvents.ensures.grows
+    (c.in_ok-find_parents.ensures.negative c.if-not-branch.false)))
 
 pub remove_variable-requires-clause-resolved : goal.remove_variable-requires-clause-resolved
 remove_variable-requires-clause-resolved g c =
@@ -65,26 +65,26 @@ remove_variable-requires-clause-resolved g c =
     let fs : List ℕ = c.find_parents.new.parents.positive.items in
     let ss : List ℕ = c.find_parents.new.parents.negative.items in
     let before : ArePairsResolved p slots more c.deref.result.now c.deref-2.result.now =
-      c.in_ok-add_resolvents.ensures.resolved c.if-simplifier.false in
+    c.in_ok-add_resolvents.ensures.resolved c.if-simplifier.false in
     let here : ArePairsResolved p slots more fs ss =
     subst (λ (xs : List ℕ). ArePairsResolved p slots more xs ss) c.deref.ensures.value
-      (subst (λ (xs : List ℕ). ArePairsResolved p slots more c.deref.result.now xs)
-        c.deref-2.ensures.value before) in
+    (subst (λ (xs : List ℕ). ArePairsResolved p slots more c.deref.result.now xs)
+    c.deref-2.ensures.value before) in
     let now : ArePairsResolved p more more fs ss =
-      pairs_now p (negation p) slots more fs ss c.in_ok-add_resolvents.ensures.grows.kept
+    pairs_now p (negation p) slots more fs ss c.in_ok-add_resolvents.ensures.grows.kept
     (c.in_ok-find_parents.ensures.positive c.if-not-branch.false).with_it
-      (c.in_ok-find_parents.ensures.negative c.if-not-branch.false).with_it here in
+    (c.in_ok-find_parents.ensures.negative c.if-not-branch.false).with_it here in
     subst (λ (xs : List ℕ). ArePairsResolved (positive c.args.variable) more more xs
-        c.deref-4.result.now) (sym c.deref-3.ensures.value)
+    c.deref-4.result.now) (sym c.deref-3.ensures.value)
     (subst (λ (xs : List ℕ). ArePairsResolved (positive c.args.variable) more more fs xs)
-        (sym c.deref-4.ensures.value)
+    (sym c.deref-4.ensures.value)
     (subst (λ (l : Literal). ArePairsResolved l more more fs ss) c.new-pivot.ensures now))
 
 pub returns-in_err-remove_variable-clause-err : goal.returns-in_err-remove_variable-clause-err
 returns-in_err-remove_variable-clause-err g c =
     let logs : LeavesLogOver c.args.frozen.now c.args.simplifier.now c.args.store.now.slots
-      (g.S.Sink.lines c.args.sink.now) (g.S.Sink.lines c.remove_variable.new.sink) =
+    (g.S.Sink.lines c.args.sink.now) (g.S.Sink.lines c.remove_variable.new.sink) =
     (λ start same h. c.in_err-remove_variable.ensures.err start same
-        (c.in_ok-add_resolvents.ensures.simplified start
-          (c.find_parents.ensures.simplified (g.S.Sink.lines c.args.sink.now) start h))) in
+    (c.in_ok-add_resolvents.ensures.simplified start
+    (c.find_parents.ensures.simplified (g.S.Sink.lines c.args.sink.now) start h))) in
     when_err _ logs

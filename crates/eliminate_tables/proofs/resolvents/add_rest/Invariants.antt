@@ -7,7 +7,7 @@ use Rattle.eliminate_tables.proofs.resolvents.add_rest.Given as goal
 abbrev pub invariant-loop-lit : goal.invariant-loop-lit
 invariant-loop-lit l = record {
   built : l.out.items ≡ l.fn.out.items ++ unmarked_rest l.marks l.left_out
-    (take l.lit-index l.lits);
+      (take l.lit-index l.lits);
   plain : list_any (is_opposed l.marks) (unmarked_rest l.marks l.left_out (take l.lit-index l.lits))
       ≡ false;
 }

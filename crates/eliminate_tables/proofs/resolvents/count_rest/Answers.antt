@@ -10,10 +10,10 @@ pub returns-then-is_marked-clause-opposed : goal.returns-then-is_marked-clause-o
 returns-then-is_marked-clause-opposed c none =
     let ms = c.args.marks.now in
     let unmarked : mark_of ms c.lit-item.result ≡ false =
-      sym c.is_marked.ensures ∙ c.if-not-is_marked.true in
+    sym c.is_marked.ensures ∙ c.if-not-is_marked.true in
     let opposed : mark_of ms (negation c.lit-item.result) ≡ true =
-      ap (mark_of ms) (sym c.negation.ensures) ∙ sym c.is_marked-then-not-is_marked.ensures
-        ∙ c.if-is_marked.true in
+    ap (mark_of ms) (sym c.negation.ensures) ∙ sym c.is_marked-then-not-is_marked.ensures
+    ∙ c.if-is_marked.true in
     opposed_at ms c.args.left_out c.args.lits.now c.loop-lit.lit-index c.lit-item.result
-      c.loop-lit-test.true c.lit-item.is
-      (codes_differ c.lit-item.result c.args.left_out (search rules)) unmarked opposed
+    c.loop-lit-test.true c.lit-item.is
+    (codes_differ c.lit-item.result c.args.left_out (search rules)) unmarked opposed

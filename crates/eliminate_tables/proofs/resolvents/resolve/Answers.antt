@@ -14,13 +14,13 @@ pub returns-clause-plain : goal.returns-clause-plain
 returns-clause-plain c =
     let ms = c.mark_without.new.self in
     let some : All (λ (l : Literal). 0 < l.variable) c.args.second.now =
-      All-weaker (HasPlace (length c.args.marks.now)) (λ (l : Literal). 0 < l.variable) (λ l h. h.0)
-        c.args.second.now c.requires.second in
+    All-weaker (HasPlace (length c.args.marks.now)) (λ (l : Literal). 0 < l.variable) (λ l h. h.0)
+    c.args.second.now c.requires.second in
     c.in_ok-plain.ensures.plain
     ∙ ap (λ q. not (list_any (is_opposed ms) (unmarked_rest ms q c.args.second.now)))
-      c.negation.ensures
+    c.negation.ensures
     ∙ ap not (opposed_is ms c.args.pivot c.args.first.now c.args.second.now
-        c.mark_without.ensures.marked some c.requires.plain_first c.requires.plain_second)
+    c.mark_without.ensures.marked some c.requires.plain_first c.requires.plain_second)
 
 pub returns-clause-built : goal.returns-clause-built
 returns-clause-built c h =
@@ -29,12 +29,12 @@ returns-clause-built c h =
     let first = c.args.first.now in
     let second = c.args.second.now in
     let some : All (λ (l : Literal). 0 < l.variable) second =
-      All-weaker (HasPlace (length c.args.marks.now)) (λ (l : Literal). 0 < l.variable) (λ l h. h.0)
-        second c.requires.second in
+    All-weaker (HasPlace (length c.args.marks.now)) (λ (l : Literal). 0 < l.variable) (λ l h. h.0)
+    second c.requires.second in
     let others : c.add_others.new.out.items ≡ without_literal p first = c.in_ok-add_others.ensures
-      ∙ ap (λ xs. xs ++ without_literal p first) c.clear.ensures.items in
+    ∙ ap (λ xs. xs ++ without_literal p first) c.clear.ensures.items in
     c.in_ok-plain.ensures.built h
     ∙ ap (λ xs. xs ++ unmarked_rest ms c.negation.result second) others
     ∙ ap (λ q. without_literal p first ++ unmarked_rest ms q second) c.negation.ensures
     ∙ ap (λ xs. without_literal p first ++ xs)
-      (rest_is ms (without_literal p first) (negation p) second c.mark_without.ensures.marked some)
+    (rest_is ms (without_literal p first) (negation p) second c.mark_without.ensures.marked some)

@@ -7,6 +7,6 @@ use Rattle.eliminate_tables.proofs.stack.is_needed.Goals as goal
 pub returns-then-is_true : goal.returns-then-is_true
 returns-then-is_true c =
     sym (not_needed (assignment_of c.args.bits.now) c.args.literal c.args.clause.now
-      c.loop-lit.lit-index c.lit-item.result c.loop-lit-test.true c.lit-item.is
+    c.loop-lit.lit-index c.lit-item.result c.loop-lit-test.true c.lit-item.is
     (codes_differ c.lit-item.result c.args.literal (sym c.if-eq.ensures))
-      (sym c.if-is_true.ensures))
+    (sym c.if-is_true.ensures))

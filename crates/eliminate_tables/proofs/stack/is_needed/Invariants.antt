@@ -10,5 +10,5 @@ abbrev pub invariant-loop-lit : goal.invariant-loop-lit
 invariant-loop-lit l = record {
   found : l.found ≡ contains_literal l.literal (take l.lit-index l.clause);
   others : list_any (literal_value (assignment_of l.bits))
-    (without_literal l.literal (take l.lit-index l.clause)) ≡ false;
+      (without_literal l.literal (take l.lit-index l.clause)) ≡ false;
 }

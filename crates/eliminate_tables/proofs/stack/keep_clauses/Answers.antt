@@ -15,20 +15,22 @@ loop-reference-init c = adds_none c.args.pieces.now.items c.args.literals.now.it
 pub lits-requires : goal.lits-requires
 lits-requires c =
     subst (IsLive c.args.store.now.slots) (sym c.reference-item.is)
-      (c.requires c.loop-reference.reference-index c.reference-item.result
-      c.loop-reference-test.true)
+    (c.requires c.loop-reference.reference-index c.reference-item.result
+    c.loop-reference-test.true)
 
 pub returns-in_err-keep-clause-err : goal.returns-in_err-keep-clause-err
 returns-in_err-keep-clause-err c =
     let so_far : List (List Literal) =
-      clauses_under c.args.store.now.slots
-        (take c.loop-reference.reference-index c.args.references.now) in
+    clauses_under c.args.store.now.slots
+    (take c.loop-reference.reference-index c.args.references.now) in
     let some : (cs : List (List Literal))
-        × AddsClauses c.args.pieces.now.items c.keep.new.pieces.items c.args.literals.now.items
-      c.keep.new.literals.items cs =
-    (so_far ++ [], adds_join c.args.pieces.now.items c.loop-reference.pieces.items
-        c.keep.new.pieces.items c.args.literals.now.items c.loop-reference.literals.items
-        c.keep.new.literals.items so_far [] c.loop-reference.invariant c.in_err-keep.ensures.err) in
+    × AddsClauses c.args.pieces.now.items c.keep.new.pieces.items c.args.literals.now.items
+    c.keep.new.literals.items cs = (
+      so_far ++ [],
+      adds_join c.args.pieces.now.items c.loop-reference.pieces.items
+          c.keep.new.pieces.items c.args.literals.now.items c.loop-reference.literals.items
+          c.keep.new.literals.items so_far [] c.loop-reference.invariant c.in_err-keep.ensures.err,
+    ) in
     when_err _ some
 
 pub loop-reference-preserved : goal.loop-reference-preserved
@@ -40,13 +42,13 @@ loop-reference-preserved c =
     let here : clause_under slots r ≡ c.lits.result.now = ap (λ o. unwrap_or o []) c.lits.ensures in
     let last : clauses_under slots (r ∷ []) ≡ c.lits.result.now ∷ [] = ap (λ x. x ∷ []) here in
     let more : clauses_under slots (take (i + 1) refs) ≡ clauses_under slots (take i refs)
-      ++ c.lits.result.now ∷ [] =
+    ++ c.lits.result.now ∷ [] =
     ap (clauses_under slots) (take_more refs i r c.loop-reference-test.true
-        ∙ ap (λ x. take i refs ++ x ∷ []) (sym c.reference-item.is))
+    ∙ ap (λ x. take i refs ++ x ∷ []) (sym c.reference-item.is))
     ∙ map-append (clause_under slots) (take i refs) (r ∷ [])
     ∙ ap (λ xs. clauses_under slots (take i refs) ++ xs) last in
     subst (λ (cs : List (List Literal)). AddsClauses c.args.pieces.now.items c.keep.new.pieces.items
-        c.args.literals.now.items c.keep.new.literals.items cs) (sym more)
+    c.args.literals.now.items c.keep.new.literals.items cs) (sym more)
     (adds_join c.args.pieces.now.items c.loop-reference.pieces.items c.keep.new.pieces.items
-        c.args.literals.now.items c.loop-reference.literals.items c.keep.new.literals.items _
-        (c.lits.result.now ∷ []) c.loop-reference.invariant c.in_ok-keep.ensures.ok)
+    c.args.literals.now.items c.loop-reference.literals.items c.keep.new.literals.items _
+    (c.lits.result.now ∷ []) c.loop-reference.invariant c.in_ok-keep.ensures.ok)

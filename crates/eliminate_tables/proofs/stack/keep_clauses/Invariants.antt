@@ -7,4 +7,4 @@ use Rattle.eliminate_tables.proofs.stack.keep_clauses.Given as goal
 abbrev pub invariant-loop-reference : goal.invariant-loop-reference
 invariant-loop-reference l =
     AddsClauses l.fn.pieces.items l.pieces.items l.fn.literals.items l.literals.items
-      (clauses_under l.store.slots (take l.reference-index l.references))
+    (clauses_under l.store.slots (take l.reference-index l.references))

@@ -13,7 +13,7 @@ returns-then-is_needed c =
     let none : Piece = record { start = 0; end = 0 } in
     let i = c.loop-piece.piece-index in
     sym (needed_at (assignment_of c.args.bits.now) c.args.variable c.args.literals.now
-        c.args.pieces.now i none c.loop-piece-test.true
+    c.args.pieces.now i none c.loop-piece-test.true
     (subst (λ (x : Literal). is_needed (assignment_of c.args.bits.now) x
-          (clause_in c.args.literals.now (get_or c.args.pieces.now i none)) ≡ true)
-        c.new-literal.ensures (sym c.if-is_needed.ensures)))
+    (clause_in c.args.literals.now (get_or c.args.pieces.now i none)) ≡ true)
+    c.new-literal.ensures (sym c.if-is_needed.ensures)))

@@ -9,4 +9,4 @@ use Rattle.eliminate_tables.proofs.stack.some_needed.Given as goal
 abbrev pub invariant-loop-piece : goal.invariant-loop-piece
 invariant-loop-piece l =
     list_any (is_needed (assignment_of l.bits) (positive l.variable))
-      (clauses_at l.literals (take l.piece-index l.pieces)) ≡ false
+    (clauses_at l.literals (take l.piece-index l.pieces)) ≡ false

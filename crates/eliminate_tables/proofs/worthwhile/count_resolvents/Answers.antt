@@ -23,40 +23,43 @@ use Rattle.eliminate_tables.proofs.worthwhile.count_resolvents.Goals.{in-None}
 pub lits-requires : goal.lits-requires
 lits-requires c =
     subst (IsLive c.args.store.now.slots) (sym c.second-item.is)
-      (c.requires.live_too c.loop-second.second-index c.second-item.result c.loop-second-test.true)
+    (c.requires.live_too c.loop-second.second-index c.second-item.result c.loop-second-test.true)
 
 -- the second clause and its place among all
 within : (c : After-count_rest)
     → c.loop-second.second-index < length (clauses_under c.args.store.now.slots c.args.seconds.now)
-within c = omega (arith, length-map c.args.seconds.now (clause_under c.args.store.now.slots),
-      c.loop-second-test.true)
+within c = omega (
+  arith,
+  length-map c.args.seconds.now (clause_under c.args.store.now.slots),
+  c.loop-second-test.true,
+)
 
 at : (c : After-count_rest) → get_or (clauses_under c.args.store.now.slots c.args.seconds.now)
     c.loop-second.second-index [] ≡ c.lits.result.now
 at c =
     under_at c.args.store.now.slots c.args.seconds.now c.loop-second.second-index
-      c.second-item.result c.lits.result.now c.loop-second-test.true c.second-item.is c.lits.ensures
+    c.second-item.result c.lits.result.now c.loop-second-test.true c.second-item.is c.lits.ensures
 
 -- the tests of the marks are those of the resolvent
 opposed : (c : After-count_rest)
     → list_any (is_opposed c.mark_without.new.self)
     (unmarked_rest c.mark_without.new.self c.negation.result c.lits.result.now)
-      ≡ are_opposed c.args.pivot c.lits-lits.result.now c.lits.result.now
+    ≡ are_opposed c.args.pivot c.lits-lits.result.now c.lits.result.now
 opposed c =
     rw c.negation.ensures
-      (opposed_marked c.mark_without.new.self c.args.pivot c.lits-lits.result.now c.lits.result.now
-      c.mark_without.ensures.marked
+    (opposed_marked c.mark_without.new.self c.args.pivot c.lits-lits.result.now c.lits.result.now
+    c.mark_without.ensures.marked
     (subst (λ n. All (HasPlace n) c.lits.result.now) (sym c.mark_without.ensures.len)
-        (c.requires.placed c.second-item.result c.lits.result.now c.lits.ensures)))
+    (c.requires.placed c.second-item.result c.lits.result.now c.lits.ensures)))
 
 rest : (c : After-count_rest)
     → unmarked_rest c.mark_without.new.self c.negation.result c.lits.result.now
-      ≡ rest_of c.args.pivot c.lits-lits.result.now c.lits.result.now
+    ≡ rest_of c.args.pivot c.lits-lits.result.now c.lits.result.now
 rest c =
     rw c.negation.ensures (rest_marked c.mark_without.new.self c.args.pivot c.lits-lits.result.now
-      c.lits.result.now c.mark_without.ensures.marked
+    c.lits.result.now c.mark_without.ensures.marked
     (subst (λ n. All (HasPlace n) c.lits.result.now) (sym c.mark_without.ensures.len)
-        (c.requires.placed c.second-item.result c.lits.result.now c.lits.ensures)))
+    (c.requires.placed c.second-item.result c.lits.result.now c.lits.ensures)))
 
 -- a resolvent that is long
 pub returns-then-saturating_add-clause-long : goal.returns-then-saturating_add-clause-long
@@ -67,16 +70,21 @@ returns-then-saturating_add-clause-long c none =
     let second : List Literal = c.lits.result.now in
     let cs : List (List Literal) = clauses_under c.args.store.now.slots c.args.seconds.now in
     let long : nat_le (length (rest_of p first second) + length first) 33 ≡ false =
-    lt-leb _ _ (omega (arith, c.if-saturating_add.true, c.saturating_add.ensures,
-          c.in-Some.ensures.count, ap length (rest r))) in
+    lt-leb _ _ (omega (
+      arith,
+      c.if-saturating_add.true,
+      c.saturating_add.ensures,
+      c.in-Some.ensures.count,
+      ap length (rest r),
+    )) in
     let apart : are_opposed p first second ≡ false = sym (opposed r) ∙ c.in-Some.ensures.plain in
     let test : (are_opposed p first second || is_short p first second) ≡ false =
-      ap (λ b. b || is_short p first second) apart ∙ long in
+    ap (λ b. b || is_short p first second) apart ∙ long in
     let found : are_short p first cs ≡ false =
     list_all_at (λ d. are_opposed p first d || is_short p first d) cs c.loop-second.second-index []
-      (within r) (ap (λ d. are_opposed p first d || is_short p first d) (at r) ∙ test) in
+    (within r) (ap (λ d. are_opposed p first d || is_short p first d) (at r) ∙ test) in
     ap (λ d. are_short p d cs)
-      (under_live c.args.store.now.slots c.args.first first c.lits-lits.ensures) ∙ found
+    (under_live c.args.store.now.slots c.args.first first c.lits-lits.ensures) ∙ found
 
 pub loop-second-preserved : goal.loop-second-preserved
 loop-second-preserved c =
@@ -91,31 +99,36 @@ loop-second-preserved c =
     elim c.match-count_rest.branch [
       | in-Some+else-saturating_add w ↦
           let apart : are_opposed p first second ≡ false =
-            sym (opposed r) ∙ w.in-Some.ensures.plain in
+          sym (opposed r) ∙ w.in-Some.ensures.plain in
           let short : is_short p first second ≡ true =
-            le-leb _ _ (omega (arith, w.if-saturating_add.false, w.saturating_add.ensures,
-                w.in-Some.ensures.count, ap length (rest r))) in
+          le-leb _ _ (omega (
+            arith,
+            w.if-saturating_add.false,
+            w.saturating_add.ensures,
+            w.in-Some.ensures.count,
+            ap length (rest r),
+          )) in
           let fit : fits second ≡ true = ap (λ b. b || is_short p first second) apart ∙ short in
           let one =
-            count_by_more_yes (λ d. not (are_opposed p first d)) cs i [] (within r)
-              (ap (λ d. not (are_opposed p first d)) (at r) ∙ ap not apart) in
+          count_by_more_yes (λ d. not (are_opposed p first d)) cs i [] (within r)
+          (ap (λ d. not (are_opposed p first d)) (at r) ∙ ap not apart) in
           record {
             count = omega (arith, w.count-is, was.count, one);
             short = list_all_more fits cs i [] (within r)
-              ∙ ap (λ b. b && fits (get_or cs i [])) was.short ∙ ap fits (at r) ∙ fit;
+                ∙ ap (λ b. b && fits (get_or cs i [])) was.short ∙ ap fits (at r) ∙ fit;
             few = omega (arith, w.count-is, was.few);
           }
       | in-None w ↦
           let apart : are_opposed p first second ≡ true =
-            sym (opposed r) ∙ c.count_rest.ensures.opposed w.in-None.is in
+          sym (opposed r) ∙ c.count_rest.ensures.opposed w.in-None.is in
           let fit : fits second ≡ true = ap (λ b. b || is_short p first second) apart in
           let none =
-            count_by_more_no (λ d. not (are_opposed p first d)) cs i [] (within r)
-              (ap (λ d. not (are_opposed p first d)) (at r) ∙ ap not apart) in
+          count_by_more_no (λ d. not (are_opposed p first d)) cs i [] (within r)
+          (ap (λ d. not (are_opposed p first d)) (at r) ∙ ap not apart) in
           record {
             count = w.count-is ∙ was.count ∙ sym none;
             short = list_all_more fits cs i [] (within r)
-              ∙ ap (λ b. b && fits (get_or cs i [])) was.short ∙ ap fits (at r) ∙ fit;
+                ∙ ap (λ b. b && fits (get_or cs i [])) was.short ∙ ap fits (at r) ∙ fit;
             few = omega (arith, w.count-is, was.few);
           }
     ]

@@ -7,7 +7,7 @@ use Rattle.eliminate_tables.proofs.worthwhile.count_resolvents.Given as goal
 abbrev pub invariant-loop-second : goal.invariant-loop-second
 invariant-loop-second l = record {
   count : l.count ≡ resolvent_count l.pivot l.lits
-    (take l.second-index (clauses_under l.store.slots l.seconds));
+      (take l.second-index (clauses_under l.store.slots l.seconds));
   short : are_short l.pivot l.lits (take l.second-index (clauses_under l.store.slots l.seconds))
       ≡ true;
   few : l.count ≤ l.second-index;

@@ -19,33 +19,38 @@ use Rattle.eliminate_tables.proofs.worthwhile.is_worthwhile.Goals.{After-count_r
 pub count_resolvents-requires-clause-placed : goal.count_resolvents-requires-clause-placed
 count_resolvents-requires-clause-placed c =
     subst (λ n. ArePlaced n c.args.store.now.slots) (sym c.loop-first.invariant.len)
-      c.requires.placed
+    c.requires.placed
 
 pub count_resolvents-requires-clause-live : goal.count_resolvents-requires-clause-live
 count_resolvents-requires-clause-live c =
     subst (IsLive c.args.store.now.slots) (sym c.first-item.is)
-      (c.requires.live c.loop-first.first-index c.first-item.result c.loop-first-test.true)
+    (c.requires.live c.loop-first.first-index c.first-item.result c.loop-first-test.true)
 
 -- the clauses so far are few
 few : (c : After-count_resolvents)
     → (are_few_and_short (clauses_under c.args.store.now.slots c.args.firsts.now) ≡ true)
-      × (are_few_and_short (clauses_under c.args.store.now.slots c.args.seconds.now) ≡ true)
+    × (are_few_and_short (clauses_under c.args.store.now.slots c.args.seconds.now) ≡ true)
 few c =
     let a : c.are_few_and_short.result ≡ true = search rules in
-    let b : c.are_few_and_short-else-not-are_few_and_short.result ≡ true = search rules in
-    (sym c.are_few_and_short.ensures ∙ a, sym c.are_few_and_short-else-not-are_few_and_short.ensures
-        ∙ b)
+    let b : c.are_few_and_short-else-not-are_few_and_short.result ≡ true = search rules in (
+      sym c.are_few_and_short.ensures ∙ a,
+      sym c.are_few_and_short-else-not-are_few_and_short.ensures
+          ∙ b,
+    )
 
 within : (c : After-count_resolvents)
     → c.loop-first.first-index < length (clauses_under c.args.store.now.slots c.args.firsts.now)
-within c = omega (arith, length-map c.args.firsts.now (clause_under c.args.store.now.slots),
-      c.loop-first-test.true)
+within c = omega (
+  arith,
+  length-map c.args.firsts.now (clause_under c.args.store.now.slots),
+  c.loop-first-test.true,
+)
 
 at : (c : After-count_resolvents) → get_or (clauses_under c.args.store.now.slots c.args.firsts.now)
     c.loop-first.first-index [] ≡ clause_under c.args.store.now.slots c.first-item.result
 at c =
     under_item c.args.store.now.slots c.args.firsts.now c.loop-first.first-index c.first-item.result
-      c.loop-first-test.true c.first-item.is
+    c.loop-first-test.true c.first-item.is
 
 -- a clause with a long resolvent
 pub returns-in-None-clause-worthwhile : goal.returns-in-None-clause-worthwhile
@@ -56,14 +61,14 @@ returns-in-None-clause-worthwhile c =
     let some : (length c.args.firsts.now == 0) ≡ false = search rules in
     let some_too : (length c.args.seconds.now == 0) ≡ false = search rules in
     let cs_some : (length cs == 0) ≡ false =
-      ap (λ n. n == 0) (length-map c.args.firsts.now (clause_under c.args.store.now.slots))
-        ∙ some in
+    ap (λ n. n == 0) (length-map c.args.firsts.now (clause_under c.args.store.now.slots))
+    ∙ some in
     let ds_some : (length ds == 0) ≡ false =
-      ap (λ n. n == 0) (length-map c.args.seconds.now (clause_under c.args.store.now.slots))
-        ∙ some_too in
+    ap (λ n. n == 0) (length-map c.args.seconds.now (clause_under c.args.store.now.slots))
+    ∙ some_too in
     let long : list_all (λ d. are_short c.args.pivot d ds) cs ≡ false =
     list_all_at (λ d. are_short c.args.pivot d ds) cs c.loop-first.first-index [] (within r)
-      (ap (λ d. are_short c.args.pivot d ds) (at r) ∙ c.in-None.ensures.long refl) in
+    (ap (λ d. are_short c.args.pivot d ds) (at r) ∙ c.in-None.ensures.long refl) in
     rw (cs_some, ds_some, (few r).0, (few r).1, long) refl
 
 pub loop-first-preserved : goal.loop-first-preserved
@@ -77,7 +82,7 @@ loop-first-preserved c =
     let first : List Literal = clause_under c.args.store.now.slots c.first-item.result in
     let more : c.in-Some.more ≡ resolvent_count p first ds = c.in-Some.ensures.count in
     let ten : resolvent_count p first ds ≤ length ds =
-      count_by-le-length (λ d. not (are_opposed p first d)) ds in
+    count_by-le-length (λ d. not (are_opposed p first d)) ds in
     let some_ten : length ds ≤ 10 = few_length ds (few r).1 in
     let places : i < length cs = within r in
     let all_ten : length cs ≤ 10 = few_length cs (few r).0 in
@@ -86,11 +91,11 @@ loop-first-preserved c =
     record {
       len = c.in-Some.ensures.len ∙ was.len;
       count = plain ∙ ap (λ n. n + c.in-Some.more) was.count
-        ∙ ap (λ n. sum_by (λ d. resolvent_count p d ds) (take i cs) + n) (more
+          ∙ ap (λ n. sum_by (λ d. resolvent_count p d ds) (take i cs) + n) (more
           ∙ ap (λ d. resolvent_count p d ds) (sym (at r)))
           ∙ sym (sum_by_more (λ d. resolvent_count p d ds) cs i [] places);
       short = list_all_more (λ d. are_short p d ds) cs i [] places
-        ∙ ap (λ b. b && are_short p (get_or cs i []) ds) was.short
-        ∙ ap (λ d. are_short p d ds) (at r) ∙ c.in-Some.ensures.short;
+          ∙ ap (λ b. b && are_short p (get_or cs i []) ds) was.short
+          ∙ ap (λ d. are_short p d ds) (at r) ∙ c.in-Some.ensures.short;
       few = (let old = was.few in omega arith);
     }

@@ -10,8 +10,8 @@ abbrev pub invariant-loop-first : goal.invariant-loop-first
 invariant-loop-first l = record {
   len : length l.marks ≡ length l.fn.marks;
   count : l.count ≡ sum_by (λ c. resolvent_count l.pivot c (clauses_under l.store.slots l.seconds))
-    (take l.first-index (clauses_under l.store.slots l.firsts));
+      (take l.first-index (clauses_under l.store.slots l.firsts));
   short : list_all (λ c. are_short l.pivot c (clauses_under l.store.slots l.seconds))
-    (take l.first-index (clauses_under l.store.slots l.firsts)) ≡ true;
+      (take l.first-index (clauses_under l.store.slots l.firsts)) ≡ true;
   few : l.count ≤ 10 * l.first-index;
 }

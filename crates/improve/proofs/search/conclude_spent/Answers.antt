@@ -6,8 +6,8 @@ use Rattle.improve.proofs.search.conclude_spent.Goals as goal
 pub returns-in-Ok-clause-found : goal.returns-in-Ok-clause-found
 returns-in-Ok-clause-found c =
     right_best c.args.instance.now c.args.bounds.now c.args.best.cost c.args.best.bits c.args.hard
-      c.in-Ok.bound c.requires.over c.in-Ok.ensures c.requires.open c.requires.solution
-      c.requires.above c.requires.last c.requires.falling c.requires.hard
+    c.in-Ok.bound c.requires.over c.in-Ok.ensures c.requires.open c.requires.solution
+    c.requires.above c.requires.last c.requires.falling c.requires.hard
 
 pub returns-in-Ok-clause-work : goal.returns-in-Ok-clause-work
 returns-in-Ok-clause-work c = (refl, c.in-Ok.ensures.learned)

@@ -13,7 +13,7 @@ returns-then-is_err-clause-improves g c = λ before left limit answers.
     let err = at_err c.improved.result c.if-is_err.ensures.value c.improved.ensures.err in
     progress_end c.args.profile p _ _ before left limit [] (err.0 ∙ sym (append-nil _)) 0 tt
     (honest_new p [] (0 ∷ []) 0 c.args.bits.items refl c.requires.solution
-        (All-nil (IsCostOfSome p)))
+    (All-nil (IsCostOfSome p)))
     err.1 err.2
 
 pub returns-clause-improves : goal.returns-clause-improves
@@ -22,9 +22,9 @@ returns-clause-improves g c = λ before left limit answers.
     let ok = at_ok c.improved.result c.if-is_err.ensures.value c.improved.ensures.ok in
     let r = c.conclude_zero in
     lowered_end p [] (0 ∷ []) 0 c.args.bits.items refl c.args.profile c.args.profile _ _ _ before
-      left r.result
+    left r.result
     limit (sym (append-nil _)) ok.0 ok.2 tt c.requires.solution (All-nil (IsCostOfSome p))
     r.ensures.fault refl r.ensures.found answers
     (on_work_weaker r.result (λ w. ⊥) (λ w. left.learned ≡ before.learned + work_count w)
-        (λ w x. absurd x) r.ensures.work)
+    (λ w x. absurd x) r.ensures.work)
     (on_work_weaker r.result (λ w. ⊥) (λ w. left_of left ≡ 0) (λ w x. absurd x) r.ensures.work)

@@ -17,8 +17,8 @@ add-requires-clause-small g c =
     let p = c.args.instance.now in
     let best = c.loop-bounds.best in
     let small =
-      cost_small p best.cost i.over.instance
-        (cost_of_solution p best.bits.items best.cost i.solution) in
+    cost_small p best.cost i.over.instance
+    (cost_of_solution p best.bits.items best.cost i.solution) in
     omega (arith, small)
 
 pub returns-then-is_err-clause-improves : goal.returns-then-is_err-clause-improves
@@ -30,7 +30,7 @@ returns-then-is_err-clause-improves g c = λ before l a e.
     progress_end c.args.profile c.args.instance.now _ _ before c.loop-bounds.budget
     (i.limit ∙ sym l) costs (err.0 ∙ i.told) cost i.falling
     (honest_new c.args.instance.now costs (costs ++ cost ∷ []) cost c.loop-bounds.best.bits.items
-        refl i.solution i.honest) err.1 (err.2 ∙ ap (λ n. n + 1) i.failures)
+    refl i.solution i.honest) err.1 (err.2 ∙ ap (λ n. n + 1) i.failures)
 
 pub returns-then-is_err-2-clause-improves : goal.returns-then-is_err-2-clause-improves
 returns-then-is_err-2-clause-improves g c = λ before l a e.
@@ -38,7 +38,7 @@ returns-then-is_err-2-clause-improves g c = λ before l a e.
     let best = c.loop-bounds.best in
     let ok = at_ok c.improved.result c.if-is_err.ensures.value c.improved.ensures.ok in
     lowered_memory c.args.instance.now c.loop-bounds.bounds.costs.items _ best.cost
-      best.bits.items refl
+    best.bits.items refl
     c.args.profile _ _ _ before c.loop-bounds.budget (i.limit ∙ sym l)
     i.told ok.0 (ok.2 ∙ i.failures) i.falling i.solution i.honest
 
@@ -48,7 +48,7 @@ returns-in-Err-clause-improves g c = λ before l a e.
     let best = c.loop-bounds.best in
     let ok = at_ok c.improved.result c.if-is_err.ensures.value c.improved.ensures.ok in
     lowered_memory c.args.instance.now c.loop-bounds.bounds.costs.items _ best.cost
-      best.bits.items refl
+    best.bits.items refl
     c.args.profile _ _ _ before c.search.new.budget (c.search.ensures.limit ∙ i.limit ∙ sym l)
     i.told ok.0 (ok.2 ∙ i.failures) i.falling i.solution i.honest
 
@@ -61,10 +61,13 @@ pub search-requires-clause-over : goal.search-requires-clause-over
 search-requires-clause-over g c = at_ok c.add.result c.if-is_err-2.ensures.value c.add.ensures.over
 
 pub search-requires-clause-bounded : goal.search-requires-clause-bounded
-search-requires-clause-bounded g c =
-    (c.loop-bounds.best.cost,
-        (c.loop-bounds.bounds.costs.items,
-          at_ok c.add.result c.if-is_err-2.ensures.value c.add.ensures.costs))
+search-requires-clause-bounded g c = (
+  c.loop-bounds.best.cost,
+  (
+    c.loop-bounds.bounds.costs.items,
+    at_ok c.add.result c.if-is_err-2.ensures.value c.add.ensures.costs,
+  ),
+)
 
 pub loop-bounds-smaller : goal.loop-bounds-smaller
 loop-bounds-smaller g c =
@@ -92,7 +95,7 @@ loop-bounds-preserved g c =
       profile = c.search.ensures.profile ∙ same ∙ i.profile;
       solution = next.solution;
       falling = subst (λ x. AreFalling (x ++ c.in-Ok-Cheaper.solution.cost ∷ [])) (sym more)
-        (falling_more costs cost c.in-Ok-Cheaper.solution.cost i.falling
+          (falling_more costs cost c.in-Ok-Cheaper.solution.cost i.falling
           (next.below costs cost more));
       honest = honest_new p costs c.search.new.self.costs.items cost bits more i.solution i.honest;
       told = told_new p costs c.search.new.self.costs.items cost bits more _ _ _ i.told ok.0;
@@ -101,8 +104,12 @@ loop-bounds-preserved g c =
       hard = i.hard;
       limit = c.search.ensures.limit ∙ i.limit;
       answers =
-        omega (arith, next.answers, i.answers,
-          count_new p costs c.search.new.self.costs.items cost bits more);
+          omega (
+            arith,
+            next.answers,
+            i.answers,
+            count_new p costs c.search.new.self.costs.items cost bits more,
+          );
       learned = omega (arith, c.search.ensures.learned, unlearned, i.learned);
     }
 
@@ -115,18 +122,18 @@ returns-in-Ok-Refuted-clause-improves g c = λ before l a e.
     lowered_end c.args.instance.now c.loop-bounds.bounds.costs.items c.search.new.self.costs.items
     c.loop-bounds.best.cost c.loop-bounds.best.bits.items
     (ap (λ (v : Vec ℕ Global). v.items) c.search.ensures.costs
-        ∙ at_ok c.add.result c.if-is_err-2.ensures.value c.add.ensures.costs)
+    ∙ at_ok c.add.result c.if-is_err-2.ensures.value c.add.ensures.costs)
     c.args.profile _ _ _ _ before c.search.new.budget r.result
     (c.search.ensures.limit ∙ i.limit ∙ sym l)
     i.told ok.0 (ok.2 ∙ i.failures) i.falling i.solution i.honest r.ensures.fault
     (c.search.ensures.profile ∙ at_ok c.add.result c.if-is_err-2.ensures.value c.add.ensures.profile
-        ∙ i.profile)
+    ∙ i.profile)
     r.ensures.found (omega (arith, next.answers, i.answers, a))
     (on_work_weaker r.result (λ w. ⊥)
-        (λ w. c.search.new.budget.learned ≡ before.learned + work_count w) (λ w x. absurd x)
-        r.ensures.work)
+    (λ w. c.search.new.budget.learned ≡ before.learned + work_count w) (λ w x. absurd x)
+    r.ensures.work)
     (on_work_weaker r.result (λ w. ⊥) (λ w. left_of c.search.new.budget ≡ 0) (λ w x. absurd x)
-        r.ensures.work)
+    r.ensures.work)
 
 pub conclude_spent-requires-clause-above : goal.conclude_spent-requires-clause-above
 conclude_spent-requires-clause-above g c =
@@ -148,25 +155,25 @@ returns-in-Ok-Spent-clause-improves g c = λ before l a e.
     let sink = c.search.new.self.solver.sink in
     let unlearned = at_ok c.add.result c.if-is_err-2.ensures.value c.add.ensures.learned in
     let learned : c.search.new.budget.learned ≡ c.args.budget.now.learned + learned_count
-      c.search.new.self.solver.sink =
+    c.search.new.self.solver.sink =
     omega (arith, c.search.ensures.learned, unlearned, i.learned) in
     lowered_end c.args.instance.now c.loop-bounds.bounds.costs.items c.search.new.self.costs.items
     c.loop-bounds.best.cost c.loop-bounds.best.bits.items
     (ap (λ (v : Vec ℕ Global). v.items) c.search.ensures.costs
-        ∙ at_ok c.add.result c.if-is_err-2.ensures.value c.add.ensures.costs)
+    ∙ at_ok c.add.result c.if-is_err-2.ensures.value c.add.ensures.costs)
     c.args.profile _ _ _ _ before c.search.new.budget r.result
     (c.search.ensures.limit ∙ i.limit ∙ sym l)
     i.told ok.0 (ok.2 ∙ i.failures) i.falling i.solution i.honest r.ensures.fault
     (c.search.ensures.profile ∙ at_ok c.add.result c.if-is_err-2.ensures.value c.add.ensures.profile
-        ∙ i.profile)
+    ∙ i.profile)
     r.ensures.found (omega (arith, next.answers, i.answers, a))
     (on_work_weaker r.result (λ w. (w.hard ≡ c.loop-bounds.hard)
-          × (learned_count w.bound ≡ learned_count sink))
+    × (learned_count w.bound ≡ learned_count sink))
     (λ w. c.search.new.budget.learned ≡ before.learned + work_count w)
     (λ w x. work_learned w c.args.hard sink before.learned c.args.budget.now.learned
-        c.search.new.budget.learned (x.0 ∙ i.hard, x.1) e learned) r.ensures.work)
+    c.search.new.budget.learned (x.0 ∙ i.hard, x.1) e learned) r.ensures.work)
     (on_work_weaker r.result (λ w. (w.hard ≡ c.loop-bounds.hard)
-          × (learned_count w.bound ≡ learned_count sink))
+    × (learned_count w.bound ≡ learned_count sink))
     (λ w. left_of c.search.new.budget ≡ 0) (λ w x. next.none_left) r.ensures.work)
 
 pub returns-then-is_err-clause-follows : goal.returns-then-is_err-clause-follows

@@ -17,7 +17,7 @@ invariant-loop-bounds g l = record {
   told : g.T.Progress.told l.progress ≡ g.T.Progress.told l.fn.progress ++ ((l.bounds).costs).items;
   failures : g.T.Progress.failures l.progress ≡ g.T.Progress.failures l.fn.progress;
   follows : (first : g.row.T.Denot) → g.T.Progress.follows first l.fn.progress
-    → g.T.Progress.follows first l.progress;
+      → g.T.Progress.follows first l.progress;
   hard : l.hard ≡ l.fn.hard;
   limit : (l.budget).limit ≡ (l.fn.budget).limit;
   answers : (l.budget).answers ≡ (l.fn.budget).answers + length ((l.bounds).costs).items;

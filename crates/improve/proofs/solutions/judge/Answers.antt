@@ -9,13 +9,13 @@ pub prove-unreachable-requires : goal.prove-unreachable-requires
 prove-unreachable-requires c =
     let t = assignment_of c.args.bits.items in
     let x = subst (λ bits. Extends bits t) (sym (c.deref.ensures.value ∙ c.truncate.ensures.items))
-      (extends_taken c.vars.result c.args.bits.items t (extends_own c.args.bits.items)) in
+    (extends_taken c.vars.result c.args.bits.items t (extends_own c.args.bits.items)) in
     let e = (c.if-prove.ensures t x).1 (c.requires.feasible t (extends_own c.args.bits.items)) in
     cc
 
 pub returns-clause-same : goal.returns-clause-same
 returns-clause-same c = λ t h.
     let x =
-      subst (λ bits. Extends bits t) (sym (c.deref-2.ensures.value ∙ c.truncate.ensures.items))
-        (extends_taken c.vars.result c.args.bits.items t h) in
+    subst (λ bits. Extends bits t) (sym (c.deref-2.ensures.value ∙ c.truncate.ensures.items))
+    (extends_taken c.vars.result c.args.bits.items t h) in
     sym (c.cost-cost.ensures t x)

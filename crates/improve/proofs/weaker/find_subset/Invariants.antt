@@ -8,5 +8,5 @@ abbrev pub invariant-loop-entry : goal.invariant-loop-entry
 invariant-loop-entry l = record {
   number : l.number ≡ l.first + l.entry-index;
   same : first_subset l.first (clauses_in l.clauses) l.lits ≡ first_subset l.number
-    (clauses_in (drop l.entry-index l.clauses)) l.lits;
+      (clauses_in (drop l.entry-index l.clauses)) l.lits;
 }

@@ -8,4 +8,4 @@ use Rattle.improve.proofs.weaker.pair_with_subsets.Given as goal
 abbrev pub invariant-loop-entry : goal.invariant-loop-entry
 invariant-loop-entry l =
     weaker_list l.weaker.items ≡ take l.entry-index
-      (weaker_among l.first (clauses_in l.last) (clauses_in l.before))
+    (weaker_among l.first (clauses_in l.last) (clauses_in l.before))

@@ -7,4 +7,4 @@ pub returns-clause-accepted : goal.returns-clause-accepted
 returns-clause-accepted c =
     let clauses = c.clauses.ensures ∙ ap (λ f. f.clauses) c.in_ok-formula.ensures.clauses in
     zero_accepted c.args.profile c.args.instance.now c.len-clauses.result c.in_ok-log.log
-      (c.len-clauses.ensures ∙ ap length clauses) c.in_ok-log.ensures
+    (c.len-clauses.ensures ∙ ap length clauses) c.in_ok-log.ensures

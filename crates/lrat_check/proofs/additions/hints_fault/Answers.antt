@@ -14,10 +14,10 @@ returns-in-Refuted-clause-fault c =
     let hs = c.args.hints.now in
     let T = c.walk.new.assumed.literals in
     let long : length c.leading-first.result.now ≡ length (leading hs) =
-      length_first c.leading-first.result.now hs c.leading-first.ensures in
+    length_first c.leading-first.result.now hs c.leading-first.ensures in
     sym (clause_end live d hs c.args.scratch.now.assumed.literals
-        (map (λ h. h.1) c.leading-first.result.now) c.in_ok-cause.field-0 T c.requires.negated
-        c.leading-first.ensures c.in_ok-cause.ensures.walked
+    (map (λ h. h.1) c.leading-first.result.now) c.in_ok-cause.field-0 T c.requires.negated
+    c.leading-first.ensures c.in_ok-cause.ensures.walked
     ∙ ap (λ r. clause_fault live d (walked_as r T) (groups_of hs)) c.in-Refuted.is
     ∙ refuted_more live d hs (omega arith))
 
@@ -28,10 +28,10 @@ returns-in-Refuted-2-clause-fault c =
     let hs = c.args.hints.now in
     let T = c.walk.new.assumed.literals in
     let long : length c.leading-first.result.now ≡ length (leading hs) =
-      length_first c.leading-first.result.now hs c.leading-first.ensures in
+    length_first c.leading-first.result.now hs c.leading-first.ensures in
     sym (clause_end live d hs c.args.scratch.now.assumed.literals
-        (map (λ h. h.1) c.leading-first.result.now) c.in_ok-cause.field-0 T c.requires.negated
-        c.leading-first.ensures c.in_ok-cause.ensures.walked
+    (map (λ h. h.1) c.leading-first.result.now) c.in_ok-cause.field-0 T c.requires.negated
+    c.leading-first.ensures c.in_ok-cause.ensures.walked
     ∙ ap (λ r. clause_fault live d (walked_as r T) (groups_of hs)) c.in-Refuted-2.is
     ∙ refuted_all live d hs (omega arith))
 
@@ -42,9 +42,9 @@ returns-in-Some-clause-fault c =
     let hs = c.args.hints.now in
     let T = c.walk.new.assumed.literals in
     let opens =
-      clause_end live d hs c.args.scratch.now.assumed.literals
-        (map (λ h. h.1) c.leading-first.result.now) c.in_ok-cause.field-0 T c.requires.negated
-        c.leading-first.ensures c.in_ok-cause.ensures.walked
+    clause_end live d hs c.args.scratch.now.assumed.literals
+    (map (λ h. h.1) c.leading-first.result.now) c.in_ok-cause.field-0 T c.requires.negated
+    c.leading-first.ensures c.in_ok-cause.ensures.walked
     ∙ ap (λ r. clause_fault live d (walked_as r T) (groups_of hs)) c.in-Open.is
     ∙ open_pivot live d c.in-Some.pivot.now T (groups_of hs) (sym c.in-Some.ensures.value) in
     subst (λ z. IfOk c.rat_fault.result (λ f. f ≡ z)) (sym opens) c.rat_fault.ensures.fault

@@ -23,14 +23,14 @@ loop-left-preserved c =
     let within : k < length trail = omega (arith, inv.within, c.loop-left-test.true) in
     let here : k + 1 ≡ c.loop-left.left = omega (arith, c.loop-left-test.true) in
     let split : take c.loop-left.left trail ≡ take k trail ++ l ∷ [] =
-      ap (λ i. take i trail) (sym here) ∙ take_more trail k l within
-      ∙ ap (λ x. take k trail ++ x ∷ []) (sym c.index-trail-left.is) in
+    ap (λ i. take i trail) (sym here) ∙ take_more trail k l within
+    ∙ ap (λ x. take k trail ++ x ∷ []) (sym c.index-trail-left.is) in
     record {
       from = omega (arith, inv.from, c.loop-left-test.true);
       within = omega (arith, within);
       table = λ n t. rw c.index.ensures.index
           (AreValues-undo c.loop-left.values n (take c.loop-left.left trail) (take k trail) l
-            (inv.table n t) split (omega (arith, c.index.ensures.within)));
+          (inv.table n t) split (omega (arith, c.index.ensures.within)));
     }
 
 pub returns : goal.returns
@@ -38,4 +38,4 @@ returns c =
     let inv = c.loop-left.invariant in
     let same : c.loop-left.left ≡ c.args.len = omega (arith, inv.from, c.loop-left-test.false) in
     λ n t. subst (λ i. AreValues c.loop-left.values n (take i c.args.trail.now)) same
-      (inv.table n t)
+    (inv.table n t)

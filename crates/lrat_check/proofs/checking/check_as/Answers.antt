@@ -10,13 +10,13 @@ pub returns-in-Nothing : goal.returns-in-Nothing
 returns-in-Nothing c =
     let left = c.in_ok-left.left in
     let same =
-      nothing_gives left c.in-Nothing.verdict
-        (verdict_as c.args.profile c.args.text.now c.args.answer.now) c.in-Nothing.is
-        c.in_ok-left.ensures.verdict c.args.proof.now in
+    nothing_gives left c.in-Nothing.verdict
+    (verdict_as c.args.profile c.args.text.now c.args.answer.now) c.in-Nothing.is
+    c.in_ok-left.ensures.verdict c.args.proof.now in
     record {
       verdict = same;
       yes =
-        yes_by reading_is_right c.args.profile c.args.text.now c.args.answer.now c.args.proof.now
+          yes_by reading_is_right c.args.profile c.args.text.now c.args.answer.now c.args.proof.now
           c.in-Nothing.verdict same;
       sound = nothing_shows left c.in-Nothing.verdict _ c.in-Nothing.is c.in_ok-left.ensures.sound;
     }
@@ -25,18 +25,18 @@ pub returns-in-Proof : goal.returns-in-Proof
 returns-in-Proof c =
     let left = c.in_ok-left.left in
     let same =
-      proof_gives left c.in-Proof.formula
-        (verdict_as c.args.profile c.args.text.now c.args.answer.now) c.in-Proof.is
-        c.in_ok-left.ensures.verdict c.args.proof.now in
+    proof_gives left c.in-Proof.formula
+    (verdict_as c.args.profile c.args.text.now c.args.answer.now) c.in-Proof.is
+    c.in_ok-left.ensures.verdict c.args.proof.now in
     record {
       verdict =
-        IfOk-weaker c.check_owned.result _ _ (λ v h. h ∙ same) c.check_owned.ensures.verdict;
+          IfOk-weaker c.check_owned.result _ _ (λ v h. h ∙ same) c.check_owned.ensures.verdict;
       yes =
-        IfOk-weaker c.check_owned.result _ _
+          IfOk-weaker c.check_owned.result _ _
           (λ v h. yes_by reading_is_right c.args.profile c.args.text.now c.args.answer.now
           c.args.proof.now v (h ∙ same)) c.check_owned.ensures.verdict;
       sound =
-        IfOk-weaker c.check_owned.result _ _
+          IfOk-weaker c.check_owned.result _ _
           (λ v h y. proof_shows left c.in-Proof.formula _ c.in-Proof.is c.in_ok-left.ensures.sound
           (h y)) c.check_owned.ensures.sound;
     }

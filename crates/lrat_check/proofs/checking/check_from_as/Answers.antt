@@ -11,25 +11,25 @@ pub returns-in-Nothing-clause-verdict : goal.returns-in-Nothing-clause-verdict
 returns-in-Nothing-clause-verdict g c =
     if_some_all (g.R.Read.remaining c.args.proof.now) _
     (nothing_gives c.in-Ok.left c.in-Nothing.verdict
-        (verdict_as c.args.profile c.args.text.now c.args.answer.now) c.in-Nothing.is
-        c.in-Ok.ensures.verdict)
+    (verdict_as c.args.profile c.args.text.now c.args.answer.now) c.in-Nothing.is
+    c.in-Ok.ensures.verdict)
 
 pub returns-in-Nothing-clause-yes : goal.returns-in-Nothing-clause-yes
 returns-in-Nothing-clause-yes g c =
     if_some_all (g.R.Read.remaining c.args.proof.now) _
     (λ bytes. yes_by reading_is_right c.args.profile c.args.text.now c.args.answer.now bytes
-        c.in-Nothing.verdict
+    c.in-Nothing.verdict
     (nothing_gives c.in-Ok.left c.in-Nothing.verdict
-        (verdict_as c.args.profile c.args.text.now c.args.answer.now) c.in-Nothing.is
-        c.in-Ok.ensures.verdict bytes))
+    (verdict_as c.args.profile c.args.text.now c.args.answer.now) c.in-Nothing.is
+    c.in-Ok.ensures.verdict bytes))
 
 pub returns-in-Proof-clause-verdict : goal.returns-in-Proof-clause-verdict
 returns-in-Proof-clause-verdict g c =
     IfOk-weaker c.check_stream.result _ _
     (λ v h. if_some_more (g.R.Read.remaining c.args.proof.now) _ _ (λ bytes e. e
-          ∙ proof_gives c.in-Ok.left c.in-Proof.formula
-          (verdict_as c.args.profile c.args.text.now c.args.answer.now) c.in-Proof.is
-          c.in-Ok.ensures.verdict bytes) h)
+    ∙ proof_gives c.in-Ok.left c.in-Proof.formula
+    (verdict_as c.args.profile c.args.text.now c.args.answer.now) c.in-Proof.is
+    c.in-Ok.ensures.verdict bytes) h)
     c.check_stream.ensures.verdict
 
 pub returns-in-Proof-clause-yes : goal.returns-in-Proof-clause-yes
@@ -37,13 +37,13 @@ returns-in-Proof-clause-yes g c =
     IfOk-weaker c.check_stream.result _ _
     (λ v h. if_some_more (g.R.Read.remaining c.args.proof.now) _ _
     (λ bytes e. yes_by reading_is_right c.args.profile c.args.text.now c.args.answer.now bytes v (e
-          ∙ proof_gives c.in-Ok.left c.in-Proof.formula
-          (verdict_as c.args.profile c.args.text.now c.args.answer.now) c.in-Proof.is
-          c.in-Ok.ensures.verdict bytes)) h)
+    ∙ proof_gives c.in-Ok.left c.in-Proof.formula
+    (verdict_as c.args.profile c.args.text.now c.args.answer.now) c.in-Proof.is
+    c.in-Ok.ensures.verdict bytes)) h)
     c.check_stream.ensures.verdict
 
 pub returns-in-Proof-clause-sound : goal.returns-in-Proof-clause-sound
 returns-in-Proof-clause-sound g c =
     IfOk-weaker c.check_stream.result _ _
-      (λ v h y. proof_shows c.in-Ok.left c.in-Proof.formula _ c.in-Proof.is c.in-Ok.ensures.sound
-        (h y)) c.check_stream.ensures.sound
+    (λ v h y. proof_shows c.in-Ok.left c.in-Proof.formula _ c.in-Proof.is c.in-Ok.ensures.sound
+    (h y)) c.check_stream.ensures.sound

@@ -12,8 +12,8 @@ returns-in-Ok-read_report-clause-verdict c =
     let a = c.in-Ok-read_report in
     IfOk-weaker c.left_of_report.result _ _
     (λ left h proof. reported_verdict c.args.profile c.args.text.now c.args.answer.now proof
-        c.in-Ok.instance c.in-Ok.ensures.instance a.report a.ensures {E = ℕ}
-        (Ok (verdict_left left proof)) (h proof))
+    c.in-Ok.instance c.in-Ok.ensures.instance a.report a.ensures {E = ℕ}
+    (Ok (verdict_left left proof)) (h proof))
     c.left_of_report.ensures.verdict
 
 pub returns-in-Ok-read_report-clause-sound : goal.returns-in-Ok-read_report-clause-sound
@@ -21,12 +21,12 @@ returns-in-Ok-read_report-clause-sound c =
     let a = c.in-Ok-read_report in
     IfOk-weaker c.left_of_report.result _ _
     (λ left h. shows_more left _ _
-        (λ t. reported_sound c.args.profile c.args.text.now c.args.answer.now [] c.in-Ok.instance
-          c.in-Ok.ensures.instance a.report a.ensures {E = ℕ} (Ok Yes) (λ _. t) refl) h)
+    (λ t. reported_sound c.args.profile c.args.text.now c.args.answer.now [] c.in-Ok.instance
+    c.in-Ok.ensures.instance a.report a.ensures {E = ℕ} (Ok Yes) (λ _. t) refl) h)
     c.left_of_report.ensures.sound
 
 pub returns-in-Err-Form-clause-verdict : goal.returns-in-Err-Form-clause-verdict
 returns-in-Err-Form-clause-verdict c =
     let f = c.in-Err-Form in
     λ proof. rw f.line-is (form_verdict c.args.profile c.args.text.now c.args.answer.now proof
-        c.in-Ok.instance c.in-Ok.ensures.instance f.line (rw f.field-0-is at f.ensures))
+    c.in-Ok.instance c.in-Ok.ensures.instance f.line (rw f.field-0-is at f.ensures))

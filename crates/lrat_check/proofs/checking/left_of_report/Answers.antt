@@ -8,11 +8,11 @@ pub returns-in_ok-formula-in-None-clause-sound : goal.returns-in_ok-formula-in-N
 returns-in_ok-formula-in-None-clause-sound c =
     let f = c.in_ok-formula-in-None in
     λ none. optimum_sound c.args.profile c.args.instance.now c.args.report.now []
-      c.in-Optimum.solution c.in-Optimum.is (c.in-None.ensures.right refl) f.ensures.cheaper
-      f.formula f.ensures.clauses {E = ℕ} (Ok Yes) (λ _. none) refl
+    c.in-Optimum.solution c.in-Optimum.is (c.in-None.ensures.right refl) f.ensures.cheaper
+    f.formula f.ensures.clauses {E = ℕ} (Ok Yes) (λ _. none) refl
 
 pub returns-in_ok-formula-in-Unsat-clause-sound : goal.returns-in_ok-formula-in-Unsat-clause-sound
 returns-in_ok-formula-in-Unsat-clause-sound c =
     let f = c.in_ok-formula-in-Unsat in
     λ none. unsat_sound c.args.profile c.args.instance.now c.args.report.now [] c.in-Unsat.is
-      f.ensures.feasible f.formula f.ensures.clauses {E = ℕ} (Ok Yes) (λ _. none) refl
+    f.ensures.feasible f.formula f.ensures.clauses {E = ℕ} (Ok Yes) (λ _. none) refl

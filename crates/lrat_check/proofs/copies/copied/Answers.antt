@@ -3,4 +3,4 @@ use Rattle.lrat_check.proofs.copies.copied.Goals as goal
 pub new-requires : goal.new-requires
 new-requires c =
     rw (c.in_ok-clauses.ensures, c.clauses.ensures, c.vars-vars.ensures.vars)
-      c.vars-vars.ensures.limits
+    c.vars-vars.ensures.limits

@@ -6,5 +6,5 @@ pub loop-clause-preserved : goal.loop-clause-preserved
 loop-clause-preserved c =
     let old = c.loop-clause.copy in
     ap (λ x. x ++ c.next.new.self) c.in_ok-push.ensures.ok
-      ∙ append_assoc old (c.in-Some.clause.now ∷ []) c.next.new.self
+    ∙ append_assoc old (c.in-Some.clause.now ∷ []) c.next.new.self
     ∙ ap (λ x. old ++ x) (sym c.in-Some.ensures.steps) ∙ c.loop-clause.invariant

@@ -21,7 +21,7 @@ loop-lit-preserved c =
     elim c.if-is_true.branch [
       | then-is_true w ↦
           let true_now = ap (λ k. contains_literal k A) (sym c.negation.ensures)
-            ∙ sym c.is_true.ensures ∙ w.if-is_true.true in
+          ∙ sym c.is_true.ensures ∙ w.if-is_true.true in
           let same = open_same A d i l c.loop-lit-test.true c.lit-item.is true_now in
           record {
             last_open = ap Some w.last-is ∙ inv.last_open ∙ ap (last_or o) (sym same);
@@ -30,14 +30,19 @@ loop-lit-preserved c =
           }
       | else-is_true w ↦
           let false_now = ap (λ k. contains_literal k A) (sym c.negation.ensures)
-            ∙ sym c.is_true.ensures ∙ w.if-is_true.false in
+          ∙ sym c.is_true.ensures ∙ w.if-is_true.false in
           let more = open_more A d i l c.loop-lit-test.true c.lit-item.is false_now in
           record {
             last_open = ap Some w.last-is ∙ sym (last_push o (open_literals A (take i d)) l)
-              ∙ ap (last_or o) (sym more);
+                ∙ ap (last_or o) (sym more);
             number =
-              omega (arith, w.falses-is, inv.number, ap length more,
-                length_push (open_literals A (take i d)) l);
+                omega (
+                  arith,
+                  w.falses-is,
+                  inv.number,
+                  ap length more,
+                  length_push (open_literals A (take i d)) l,
+                );
             within = rw w.last-is (search rules);
           }
     ]
@@ -48,8 +53,8 @@ returns-then-open-eq0 c =
     let d = c.args.clause.now in
     let inv = c.loop-lit.invariant in
     let all =
-      ap (λ x. length (open_literals A x)) (take_all c.loop-lit.lit-index d c.loop-lit-test.false)
-        in
+    ap (λ x. length (open_literals A x)) (take_all c.loop-lit.lit-index d c.loop-lit-test.false)
+    in
     sym (conflict_open A d (omega (arith, all, inv.number)))
 
 pub returns-then-is_true-2 : goal.returns-then-is_true-2
@@ -64,9 +69,9 @@ returns-then-is_true-2 c =
       | then-open-gt1 w ↦ sym (many_open A d (omega (arith, all, inv.number, w.if-open-gt1.true)))
       | else-open-gt1 w ↦
           sym (true_open A d o c.loop-lit.last
-              (omega (arith, all, inv.number, w.if-open-gt1.false, c.if-open-eq0.false))
-              (inv.last_open ∙ ap (λ x. last_or o (open_literals A x)) whole)
-              (sym w.is_true-else-open-gt1.ensures ∙ sym w.value-is ∙ c.if-is_true-2.true))
+          (omega (arith, all, inv.number, w.if-open-gt1.false, c.if-open-eq0.false))
+          (inv.last_open ∙ ap (λ x. last_or o (open_literals A x)) whole)
+          (sym w.is_true-else-open-gt1.ensures ∙ sym w.value-is ∙ c.if-is_true-2.true))
     ]
 
 pub returns-else-is_true-2 : goal.returns-else-is_true-2
@@ -81,7 +86,7 @@ returns-else-is_true-2 c =
       | then-open-gt1 w ↦ absurd (omega (arith, w.if-open-gt1.true))
       | else-open-gt1 w ↦
           sym (makes_open A d o c.loop-lit.last
-              (omega (arith, all, inv.number, w.if-open-gt1.false, c.if-open-eq0.false))
-              (inv.last_open ∙ ap (λ x. last_or o (open_literals A x)) whole)
-              (sym w.is_true-else-open-gt1.ensures ∙ sym w.value-is ∙ c.if-is_true-2.false))
+          (omega (arith, all, inv.number, w.if-open-gt1.false, c.if-open-eq0.false))
+          (inv.last_open ∙ ap (λ x. last_or o (open_literals A x)) whole)
+          (sym w.is_true-else-open-gt1.ensures ∙ sym w.value-is ∙ c.if-is_true-2.false))
     ]

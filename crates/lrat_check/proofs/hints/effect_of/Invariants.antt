@@ -6,9 +6,9 @@ use Rattle.lrat_check.proofs.hints.effect_of.Given as goal
 abbrev pub invariant-loop-lit : goal.invariant-loop-lit
 invariant-loop-lit l = record {
   last_open : Some l.last
-    ≡ last_or (Some (l.initial).last)
+      ≡ last_or (Some (l.initial).last)
       (open_literals l.assumed.literals (take l.lit-index l.clause));
   number : l.falses + length (open_literals l.assumed.literals (take l.lit-index l.clause))
-    ≡ l.lit-index;
+      ≡ l.lit-index;
   within : l.last.variable ≤ l.assumed.variables;
 }

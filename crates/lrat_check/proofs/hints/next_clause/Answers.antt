@@ -17,7 +17,7 @@ returns-clause-found c =
           let here : i ≡ 8 * (i / 8) = omega arith in
           subst (λ n. AreFound es hs n (map option_copied c.if-i-eq0.ahead)) here
           (subst (λ f. AreFound es hs i (map option_copied f)) (sym w.ahead-is)
-              w.clauses_ahead.ensures)
+          w.clauses_ahead.ensures)
       | else-i-eq0 w ↦
           let later = w.if-i-eq0.false in
           subst (λ f. AreFound es hs (8 * (i / 8)) (map option_copied f)) (sym w.ahead-is)
@@ -25,4 +25,4 @@ returns-clause-found c =
     ] in
     let eight = c.type_inv.ahead in
     found_here es hs i c.if-i-eq0.ahead c.index-ahead-i.result _ (omega arith)
-      c.requires.within refl all
+    c.requires.within refl all

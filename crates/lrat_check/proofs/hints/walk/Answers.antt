@@ -19,16 +19,16 @@ returns-in_default-clause-walked c =
     let done = c.loop-i.assumed.literals in
     subst (EndAlike _)
     (walk_dead at done c.args.hints.now c.loop-i.i c.loop-i-test.true
-        (sym c.in_default.ensures.found))
+    (sym c.in_default.ensures.found))
     c.loop-i.invariant.walked
 
 pub effect_of-requires : goal.effect_of-requires
 effect_of-requires c =
     let es = c.args.live.now in
     let within =
-      subst (λ n. All (λ e. AreWithin n e.1) es) (sym c.loop-i.invariant.variables) c.requires in
+    subst (λ n. All (λ e. AreWithin n e.1) es) (sym c.loop-i.invariant.variables) c.requires in
     listed_within c.loop-i.assumed.variables es (id_at c.args.hints.now c.loop-i.i)
-      c.in-Some.clause.now within (sym c.in-Some.ensures.found)
+    c.in-Some.clause.now within (sym c.in-Some.ensures.found)
 
 pub returns-in-Conflict-clause-walked : goal.returns-in-Conflict-clause-walked
 returns-in-Conflict-clause-walked c =
@@ -62,11 +62,11 @@ pub assume-requires-clause-within : goal.assume-requires-clause-within
 assume-requires-clause-within c =
     let es = c.args.live.now in
     let within =
-      subst (λ n. All (λ e. AreWithin n e.1) es) (sym c.loop-i.invariant.variables) c.requires in
+    subst (λ n. All (λ e. AreWithin n e.1) es) (sym c.loop-i.invariant.variables) c.requires in
     makes_within c.loop-i.assumed.variables c.loop-i.assumed.literals c.in-Some.clause.now
-      c.in-Makes.lit
+    c.in-Makes.lit
     (listed_within c.loop-i.assumed.variables es (id_at c.args.hints.now c.loop-i.i)
-        c.in-Some.clause.now within (sym c.in-Some.ensures.found))
+    c.in-Some.clause.now within (sym c.in-Some.ensures.found))
     (sym c.in-Makes.ensures)
 
 pub loop-i-preserved : goal.loop-i-preserved
@@ -75,20 +75,20 @@ loop-i-preserved c =
     let hs = c.args.hints.now in
     let now = c.in_ok-assume-in-Makes.ensures.ok in
     let literals : c.assume.new.self.literals ≡ c.loop-i.assumed.literals ++ c.in-Makes.lit ∷ [] =
-      ap (λ a. a.literals) now in
+    ap (λ a. a.literals) now in
     let start = walk at c.args.assumed.now.literals (map (λ (x : Bool × ℕ). x.1) hs) in
     let made =
-      walk_makes at c.loop-i.assumed.literals hs c.loop-i.i c.in-Some.clause.now c.in-Makes.lit
-        c.loop-i-test.true (sym c.in-Some.ensures.found) (sym c.in-Makes.ensures) in
+    walk_makes at c.loop-i.assumed.literals hs c.loop-i.i c.in-Some.clause.now c.in-Makes.lit
+    c.loop-i-test.true (sym c.in-Some.ensures.found) (sym c.in-Makes.ensures) in
     record {
       walked = subst (λ T. EndAlike start (walk at T (ids_from hs (c.loop-i.i + 1)))) (sym literals)
-        (EndAlike-step _ _ _ c.loop-i.invariant.walked made);
+          (EndAlike-step _ _ _ c.loop-i.invariant.walked made);
       kept = ap (take (length c.args.assumed.now.literals)) literals
-        ∙ kept_push c.args.assumed.now.literals c.loop-i.assumed.literals c.in-Makes.lit
-        c.loop-i.invariant.kept;
+          ∙ kept_push c.args.assumed.now.literals c.loop-i.assumed.literals c.in-Makes.lit
+          c.loop-i.invariant.kept;
       variables = ap (λ a. a.variables) now ∙ c.loop-i.invariant.variables;
       found =
-        λ m more. subst (λ n. AreFound c.args.live.now hs n
+          λ m more. subst (λ n. AreFound c.args.live.now hs n
           (map option_copied c.next_clause.new.ahead)) (omega (arith, more))
           (c.in-Some.ensures.ahead m);
     }

@@ -10,9 +10,9 @@ use Rattle.lrat_check.proofs.hints.walk.Given as goal
 abbrev pub invariant-loop-i : goal.invariant-loop-i
 invariant-loop-i l = record {
   walked : EndAlike (walk (listed_at l.live) l.fn.assumed.literals (map (λ h. h.1) l.hints))
-    (walk (listed_at l.live) l.assumed.literals (ids_from l.hints l.i));
+      (walk (listed_at l.live) l.assumed.literals (ids_from l.hints l.i));
   kept : take (length l.fn.assumed.literals) l.assumed.literals ≡ l.fn.assumed.literals;
   variables : l.assumed.variables ≡ l.fn.assumed.variables;
   found : l.many ≡ true → 0 < l.i % 8
-    → AreFound l.live l.hints (8 * (l.i / 8)) (map option_copied l.ahead);
+      → AreFound l.live l.hints (8 * (l.i / 8)) (map option_copied l.ahead);
 }

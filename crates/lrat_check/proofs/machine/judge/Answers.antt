@@ -10,5 +10,5 @@ returns-in-Addition-false-clause-steps c =
     let b = c.args.base.now in
     let now = c.add.new.base in
     steps_added b.live now.live b.last now.last b.ended now.ended c.args.form c.args.line.now
-      c.add.result c.in-Addition-false.is-0 c.in-Addition-false.is-1 c.requires.up_to
-      c.add.ensures.fault c.add.ensures.added
+    c.add.result c.in-Addition-false.is-0 c.in-Addition-false.is-1 c.requires.up_to
+    c.add.ensures.fault c.add.ensures.added

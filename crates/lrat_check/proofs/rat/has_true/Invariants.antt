@@ -6,4 +6,4 @@ use Rattle.lrat_check.proofs.rat.has_true.Given as goal
 abbrev pub invariant-loop-lit : goal.invariant-loop-lit
 invariant-loop-lit l =
     list_any (λ k. contains_literal k l.assumed.literals)
-      (without_literal l.left_out (take l.lit-index l.clause)) ≡ false
+    (without_literal l.left_out (take l.lit-index l.clause)) ≡ false

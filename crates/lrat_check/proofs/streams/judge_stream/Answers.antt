@@ -11,7 +11,7 @@ returns-in-Some g c =
       bytes = i.0 ++ [];
       verdict = c.in-Some.ensures.stays formula i.0 [] (i.1 formula s);
       all =
-        over_all (g.R.Read.remaining c.args.proof.now) (g.R.Read.remaining c.pieces.proof) i.0
+          over_all (g.R.Read.remaining c.args.proof.now) (g.R.Read.remaining c.pieces.proof) i.0
           c.in-Some.refused formula i.2 (λ more. c.in-Some.ensures.stays formula i.0 more
           (i.1 formula s));
     }
@@ -26,14 +26,16 @@ returns-in-Ok-eq0 g c =
       bytes = i.0;
       verdict = h formula i.0 (i.1 formula s);
       all = over_end (g.R.Read.remaining c.args.proof.now) (g.R.Read.remaining c.pieces.proof)
-        (g.R.Read.remaining c.read.new.self) i.0 _ c.in-Ok-eq0.field-0 v formula i.2
-        c.in-Ok-eq0.ensures.bytes.0 zero end (h formula i.0 (i.1 formula s));
+          (g.R.Read.remaining c.read.new.self) i.0 _ c.in-Ok-eq0.field-0 v formula i.2
+          c.in-Ok-eq0.ensures.bytes.0 zero end (h formula i.0 (i.1 formula s));
     })
     c.ended.ensures.verdict
 
 pub pieces-preserved : goal.pieces-preserved
 pieces-preserved g c =
-    let i = c.pieces.invariant in
-    (_, λ formula s. c.in_ok-hand_on.ensures.stands formula i.0 (i.1 formula s),
-        read_more (g.R.Read.remaining c.args.proof.now) (g.R.Read.remaining c.pieces.proof)
-        (g.R.Read.remaining c.read.new.self) i.0 _ i.2 c.in-Ok.ensures.bytes.0)
+    let i = c.pieces.invariant in (
+      _,
+      λ formula s. c.in_ok-hand_on.ensures.stands formula i.0 (i.1 formula s),
+      read_more (g.R.Read.remaining c.args.proof.now) (g.R.Read.remaining c.pieces.proof)
+          (g.R.Read.remaining c.read.new.self) i.0 _ i.2 c.in-Ok.ensures.bytes.0,
+    )

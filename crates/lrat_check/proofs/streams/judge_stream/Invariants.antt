@@ -8,8 +8,8 @@ use Rattle.lrat_check.proofs.streams.judge_stream.Given as goal
 abbrev pub invariant-pieces : goal.invariant-pieces
 invariant-pieces g l =
     (fed : List ℕ) × ((formula : List (List Literal)) → Stands l.fn.checker formula []
-      → Stands l.checker formula fed) × Consumes (g.R.Read.remaining l.fn.proof)
-      (g.R.Read.remaining l.proof) fed
+    → Stands l.checker formula fed) × Consumes (g.R.Read.remaining l.fn.proof)
+    (g.R.Read.remaining l.proof) fed
 
 abbrev pub decreases-pieces : goal.decreases-pieces
 decreases-pieces g l = 2 ^ 64 - (l.checker).fed

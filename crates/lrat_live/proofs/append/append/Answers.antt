@@ -27,27 +27,32 @@ returns-clause-table c =
     let grown = c.reserve.new.self.items in
     let count : length grown ≡ length c.grow.new.entries = ap length (grown_is at) in
     let e : Entry =
-      record { id = c.args.id; start = c.len-start.result; length = length c.args.clause.now;
-        next = c.index.result.now; live = true } in
+    record {
+      id = c.args.id;
+      start = c.len-start.result;
+      length = length c.args.clause.now;
+      next = c.index.result.now;
+      live = true;
+    } in
     let chained : IsChained (length hs) hs (keys_of (cells_of grown)) (nexts_of grown) =
-      rw (grown_is at) c.in_ok-grow.ensures.chained in
+    rw (grown_is at) c.in_ok-grow.ensures.chained in
     let start : c.len-start.result ≡ length ls = omega (arith, c.args.lits.now.ok.0) in
     let buckets : c.len-2.result ≡ length hs = omega (arith, c.grow.new.heads.ok.0) in
     let is : c.bucket-bucket.result ≡ bucket_of (length hs) c.args.id =
-      c.bucket-bucket.ensures.value ∙ ap (λ n. bucket_of n c.args.id) buckets in
+    c.bucket-bucket.ensures.value ∙ ap (λ n. bucket_of n c.args.id) buckets in
     let within : c.bucket-bucket.result < length hs =
-      omega (arith, c.bucket-bucket.ensures.within) in
+    omega (arith, c.bucket-bucket.ensures.within) in
     let next : c.index.result.now ≡ slice_index hs c.bucket-bucket.result =
-      c.index.ensures ∙ get_or_default hs c.bucket-bucket.result c.index.result.now 0 within in
+    c.index.ensures ∙ get_or_default hs c.bucket-bucket.result c.index.result.now 0 within in
     let room : length grown < length hs = omega (arith, c.in_ok-grow.ensures.room, count) in
     let few : length ls + length c.args.clause.now + 1 < 2 ^ 32 = omega arith in
     let fewer : length grown + 2 < 2 ^ 32 = omega arith in
     let place : c.len-3.result ≡ length grown + 1 =
-      omega (arith, c.in_ok-push.ensures.len, c.reserve.new.self.ok.0) in
+    omega (arith, c.in_ok-push.ensures.len, c.reserve.new.self.ok.0) in
     rw (c.in_ok-push.ensures.items, c.in_ok-extend_from_slice.ensures.items)
-      (table_push ls c.args.clause.now es grown c.args.heads.now.items hs e c.requires.table
-        (grown_cells at) start refl refl c.bucket-bucket.result c.len-3.result c.requires.above
-        chained room is within next place few fewer)
+    (table_push ls c.args.clause.now es grown c.args.heads.now.items hs e c.requires.table
+    (grown_cells at) start refl refl c.bucket-bucket.result c.len-3.result c.requires.above
+    chained room is within next place few fewer)
 
 pub returns-clause-ok : goal.returns-clause-ok
 returns-clause-ok c =
@@ -57,9 +62,14 @@ returns-clause-ok c =
     let hs = c.grow.new.heads.items in
     let grown = c.reserve.new.self.items in
     let e : Entry =
-      record { id = c.args.id; start = c.len-start.result; length = length c.args.clause.now;
-        next = c.index.result.now; live = true } in
+    record {
+      id = c.args.id;
+      start = c.len-start.result;
+      length = length c.args.clause.now;
+      next = c.index.result.now;
+      live = true;
+    } in
     let start : c.len-start.result ≡ length ls = omega (arith, c.args.lits.now.ok.0) in
     rw (c.in_ok-push.ensures.items, c.in_ok-extend_from_slice.ensures.items)
-      (table_clauses ls c.args.clause.now es grown c.args.heads.now.items hs e c.requires.table
-        (grown_cells at) start refl refl)
+    (table_clauses ls c.args.clause.now es grown c.args.heads.now.items hs e c.requires.table
+    (grown_cells at) start refl refl)

@@ -20,8 +20,8 @@ pub slice_bounds-raise-end : goal.slice_bounds-raise-end
 slice_bounds-raise-end c =
     let x = get_or c.args.entries.now c.loop-entry.entry-index none in
     let ends : x.start + x.length ≤ length c.args.lits.now =
-      literals_end c.args.lits.now c.args.entries.now c.loop-entry.entry-index none c.requires
-        c.loop-entry-test.true in
+    literals_end c.args.lits.now c.args.entries.now c.loop-entry.entry-index none c.requires
+    c.loop-entry-test.true in
     search rules
 
 pub loop-entry-preserved-then-not-entry : goal.loop-entry-preserved-then-not-entry
@@ -30,8 +30,8 @@ loop-entry-preserved-then-not-entry c =
     let i = c.loop-entry.entry-index in
     let dead : (get_or xs i none).live ≡ false = first_of (cc, search (rules, not-true)) in
     λ es a. subst (λ cs. AreCounts c.loop-entry.counts.items (es ++ cs))
-      (sym (more_dead c.args.lits.now xs i none c.loop-entry-test.true dead))
-      (c.loop-entry.invariant es a)
+    (sym (more_dead c.args.lits.now xs i none c.loop-entry-test.true dead))
+    (c.loop-entry.invariant es a)
 
 pub loop-entry-preserved : goal.loop-entry-preserved
 loop-entry-preserved c =
@@ -43,14 +43,14 @@ loop-entry-preserved c =
     let before = clauses_in c.args.lits.now (cells_of (take i xs)) in
     let part = slice_range c.args.lits.now x.start (x.start + x.length) in
     λ es a. subst (λ cs. AreCounts now (es ++ cs))
-      (sym (more_live c.args.lits.now xs i none c.loop-entry-test.true live))
+    (sym (more_live c.args.lits.now xs i none c.loop-entry-test.true live))
     (subst (AreCounts now) (append_assoc es before ((x.id, part) ∷ []))
     (counts_push c.loop-entry.counts.items now (es ++ before) x.id part
-        (c.loop-entry.invariant es a) c.in_ok-raise.ensures))
+    (c.loop-entry.invariant es a) c.in_ok-raise.ensures))
 
 pub returns : goal.returns
 returns c =
     λ es a. subst (λ xs. AreCounts c.loop-entry.counts.items
-        (es ++ clauses_in c.args.lits.now (cells_of xs)))
-      (take_all c.loop-entry.entry-index c.args.entries.now c.loop-entry-test.false)
-      (c.loop-entry.invariant es a)
+    (es ++ clauses_in c.args.lits.now (cells_of xs)))
+    (take_all c.loop-entry.entry-index c.args.entries.now c.loop-entry-test.false)
+    (c.loop-entry.invariant es a)

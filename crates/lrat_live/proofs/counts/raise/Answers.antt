@@ -14,6 +14,6 @@ loop-lit-preserved c =
     let new = c.raise_one.new.counts.items in
     let positive : 0 < k.variable = omega (arith, c.index.ensures.within) in
     raised_more c.args.counts.now.items mid new c.args.clause.now c.loop-lit.lit-index k
-      c.loop-lit.invariant c.loop-lit-test.true c.lit-item.is positive
+    c.loop-lit.invariant c.loop-lit-test.true c.lit-item.is positive
     (λ p. subst (λ (n : ℕ). slice_index new p ≡ slice_index mid p + one_if (p == n))
-        c.index.ensures.index (c.in_ok-raise_one.ensures p))
+    c.index.ensures.index (c.in_ok-raise_one.ensures p))

@@ -17,19 +17,19 @@ loop-i-preserved c =
     let m = length hs in
     let same : length c.fill.new.self ≡ m = c.loop-i.invariant.buckets in
     let within : c.bucket-bucket.result < m =
-      subst (λ n. c.bucket-bucket.result < n) same c.bucket-bucket.ensures.within in
+    subst (λ n. c.bucket-bucket.result < n) same c.bucket-bucket.ensures.within in
     let is : c.bucket-bucket.result ≡ bucket_of m (get_or es i d).id =
-      subst (λ n. c.bucket-bucket.result ≡ bucket_of n (get_or es i d).id) same
-        c.bucket-bucket.ensures.value in
+    subst (λ n. c.bucket-bucket.result ≡ bucket_of n (get_or es i d).id) same
+    c.bucket-bucket.ensures.value in
     let kept : length (set hs c.bucket-bucket.result (i + 1)) ≡ m =
-      length-set hs c.bucket-bucket.result (i + 1) in
+    length-set hs c.bucket-bucket.result (i + 1) in
     let more =
-      link_more m hs es i c.bucket-bucket.result d e (omega arith) refl is within refl
-        c.loop-i.invariant.chained in
+    link_more m hs es i c.bucket-bucket.result d e (omega arith) refl is within refl
+    c.loop-i.invariant.chained in
     record {
       buckets = same ∙ sym kept;
       cells = cells-set_same es i d e refl (omega arith) ∙ c.loop-i.invariant.cells;
       chained =
-        subst (λ n. IsChained n (set hs c.bucket-bucket.result (i + 1))
+          subst (λ n. IsChained n (set hs c.bucket-bucket.result (i + 1))
           (take (i + 1) (keys_of (cells_of (set es i e)))) (nexts_of (set es i e))) (sym kept) more;
     }

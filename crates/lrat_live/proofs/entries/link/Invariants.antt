@@ -8,5 +8,5 @@ invariant-loop-i l = record {
   buckets : l.buckets ≡ length l.heads;
   cells : cells_of l.entries ≡ cells_of l.fn.entries;
   chained : IsChained (length l.heads) l.heads (take l.i (keys_of (cells_of l.entries)))
-    (nexts_of l.entries);
+      (nexts_of l.entries);
 }

@@ -18,8 +18,8 @@ loop-place-preserved-then-not-live c =
     let i = c.loop-place.place in
     let gone : get_or fs i false ≡ false = first_of (cc, search (rules, not-true)) in
     λ es a. subst (λ xs. AreCounts c.loop-place.counts.items (es ++ xs))
-      (sym (first_gone cs fs i c.requires (omega (arith, c.requires, c.loop-place-test.true)) gone))
-      (c.loop-place.invariant es a)
+    (sym (first_gone cs fs i c.requires (omega (arith, c.requires, c.loop-place-test.true)) gone))
+    (c.loop-place.invariant es a)
 
 pub loop-place-preserved : goal.loop-place-preserved
 loop-place-preserved c =
@@ -30,18 +30,18 @@ loop-place-preserved c =
     let now = c.raise.new.counts.items in
     let live : get_or fs i false ≡ true = first_of (cc, search (rules, not-false)) in
     let is : get_or cs i [] ≡ c.get.result.now =
-      get_or_from_slice_get cs i c.get.result.now [] c.get.ensures in
+    get_or_from_slice_get cs i c.get.result.now [] c.get.ensures in
     let raised : AreRaised old (get_or cs i []) now =
-      subst (λ d. AreRaised old d now) (sym is) c.in_ok-raise.ensures in
+    subst (λ d. AreRaised old d now) (sym is) c.in_ok-raise.ensures in
     let id = 1 + length (take i cs) in
     λ es a. subst (λ xs. AreCounts now (es ++ xs))
-      (sym (first_live cs fs i c.requires (omega (arith, c.requires, c.loop-place-test.true)) live))
+    (sym (first_live cs fs i c.requires (omega (arith, c.requires, c.loop-place-test.true)) live))
     (subst (AreCounts now) (append_assoc es (given_to cs fs i) ((id, get_or cs i []) ∷ []))
     (counts_push old now (es ++ given_to cs fs i) id (get_or cs i [])
-        (c.loop-place.invariant es a) raised))
+    (c.loop-place.invariant es a) raised))
 
 pub returns : goal.returns
 returns c =
     λ es a. subst (λ xs. AreCounts c.loop-place.counts.items (es ++ xs))
-      (first_all c.args.clauses.now c.args.flags.now c.loop-place.place c.requires
-        (omega (arith, c.loop-place-test.false))) (c.loop-place.invariant es a)
+    (first_all c.args.clauses.now c.args.flags.now c.loop-place.place c.requires
+    (omega (arith, c.loop-place-test.false))) (c.loop-place.invariant es a)

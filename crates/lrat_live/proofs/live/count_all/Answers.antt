@@ -5,4 +5,4 @@ use Rattle.lrat_live.proofs.live.count_all.Goals as goal
 pub returns-clause-counts : goal.returns-clause-counts
 returns-clause-counts c =
     c.in_ok-count-2.ensures c.args.given.now
-      (c.in_ok-count.ensures [] (rw c.clear.ensures.items counts_none))
+    (c.in_ok-count.ensures [] (rw c.clear.ensures.items counts_none))

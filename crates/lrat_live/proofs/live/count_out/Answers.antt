@@ -9,10 +9,10 @@ pub returns-in_default : goal.returns-in_default
 returns-in_default c = λ rising old yes.
     let es = c.args.given.now ++ c.args.added.now in
     subst (AreCounts c.args.counts.now) (sym (without_none c.args.id es (sym c.in_default.ensures)))
-      (old yes)
+    (old yes)
 
 pub returns : goal.returns
 returns c = λ rising old yes.
     let es = c.args.given.now ++ c.args.added.now in
     counts_without c.args.counts.now c.lower.new.counts es c.args.id c.in-Some.clause.now
-      (rises_from es rising) (sym c.in-Some.ensures) (old yes) c.lower.ensures
+    (rises_from es rising) (sym c.in-Some.ensures) (old yes) c.lower.ensures

@@ -8,4 +8,4 @@ returns-else-to-start-clause-moved c =
     let ls = c.args.lits.now.items in
     let same : c.args.to ≡ c.args.start = omega arith in
     sym (paste_stay ls c.args.to c.args.count)
-      ∙ ap (λ n. paste ls c.args.to (drop n ls) c.args.count) same
+    ∙ ap (λ n. paste ls c.args.to (drop n ls) c.args.count) same

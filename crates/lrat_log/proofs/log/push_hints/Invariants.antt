@@ -5,4 +5,4 @@ use Rattle.lrat_log.proofs.log.push_hints.Given as goal
 
 abbrev pub invariant-loop-hint : goal.invariant-loop-hint
 invariant-loop-hint l = (l.kept.items ≡ l.initial.kept.items ++ take l.hint-index l.hints)
-      × (vec_len l.kept + length l.hints ≤ vec_capacity l.kept + l.hint-index)
+    × (vec_len l.kept + length l.hints ≤ vec_capacity l.kept + l.hint-index)

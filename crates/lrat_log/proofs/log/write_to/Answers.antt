@@ -18,24 +18,24 @@ returns-in_err-last-clause-fault g c =
     let p = err_from_is_err_and c.from_residual.result c.from_residual.ensures.1 in
     let here : c.loop-line.line < length c.args.log.now = omega arith in
     let q =
-      line_fault (g.W.Write.contents c.args.writer.now) (g.W.Write.contents c.loop-line.writer)
-        (g.W.Write.contents c.put_line.new.writer) c.loop-line.block [] c.args.base c.loop-line.last
-        c.args.log.now c.loop-line.line
+    line_fault (g.W.Write.contents c.args.writer.now) (g.W.Write.contents c.loop-line.writer)
+    (g.W.Write.contents c.put_line.new.writer) c.loop-line.block [] c.args.base c.loop-line.last
+    c.args.log.now c.loop-line.line
     here c.loop-line.invariant.0 c.loop-line.invariant.1 c.in_err-last.ensures.fault in
     rw (p.1) q
 
 pub returns-in_err-last-clause-lines : goal.returns-in_err-last-clause-lines
 returns-in_err-last-clause-lines g c =
     text_of-lines c.args.base c.args.log.now c.len-line-end.ensures.log.lines c.requires.ids
-      c.requires.room
+    c.requires.room
 
 pub loop-line-preserved : goal.loop-line-preserved
 loop-line-preserved g c =
     let here : c.loop-line.line < length c.args.log.now = omega arith in (
       last_next c.args.base c.loop-line.last c.in_ok-last.last c.args.log.now c.loop-line.line here
-        c.loop-line.invariant.0 c.in_ok-last.ensures.last,
+          c.loop-line.invariant.0 c.in_ok-last.ensures.last,
       lines_more _ _ _ _ _ c.args.base c.loop-line.last c.args.log.now c.loop-line.line here
-        c.loop-line.invariant.0 c.loop-line.invariant.1 c.in_ok-last.ensures.ok,
+          c.loop-line.invariant.0 c.loop-line.invariant.1 c.in_ok-last.ensures.ok,
     )
 
 pub returns-clause-ok : goal.returns-clause-ok
@@ -43,8 +43,8 @@ returns-clause-ok g c =
     let done : length c.args.log.now ≤ c.loop-line.line = omega arith in
     on_ok_weaker c.flush.result
     (text_whole (g.W.Write.contents c.args.writer.now) (g.W.Write.contents c.loop-line.writer)
-        (g.W.Write.contents c.flush.new.writer) c.loop-line.block [] c.args.base c.loop-line.last
-        c.args.log.now c.loop-line.line done c.loop-line.invariant.1)
+    (g.W.Write.contents c.flush.new.writer) c.loop-line.block [] c.args.base c.loop-line.last
+    c.args.log.now c.loop-line.line done c.loop-line.invariant.1)
     c.flush.ensures.ok
 
 pub returns-clause-fault : goal.returns-clause-fault
@@ -52,14 +52,14 @@ returns-clause-fault g c =
     let done : length c.args.log.now ≤ c.loop-line.line = omega arith in
     on_err_weaker c.flush.result
     (text_part (g.W.Write.contents c.args.writer.now) (g.W.Write.contents c.loop-line.writer)
-        (g.W.Write.contents c.flush.new.writer) c.loop-line.block [] c.args.base c.loop-line.last
-        c.args.log.now c.loop-line.line done c.loop-line.invariant.1)
+    (g.W.Write.contents c.flush.new.writer) c.loop-line.block [] c.args.base c.loop-line.last
+    c.args.log.now c.loop-line.line done c.loop-line.invariant.1)
     c.flush.ensures.fault
 
 pub returns-clause-lines : goal.returns-clause-lines
 returns-clause-lines g c =
     text_of-lines c.args.base c.args.log.now c.len-line-end.ensures.log.lines c.requires.ids
-      c.requires.room
+    c.requires.room
 
 pub returns-in_err-last-clause-bases : goal.returns-in_err-last-clause-bases
 returns-in_err-last-clause-bases g c = holds_at_each_base c.args.log.now

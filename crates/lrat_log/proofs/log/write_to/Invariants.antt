@@ -7,4 +7,4 @@ use Rattle.lrat_log.proofs.log.write_to.Given as goal
 abbrev pub invariant-loop-line : goal.invariant-loop-line
 invariant-loop-line g l =
     (l.last ≡ last_on l.base l.log l.line) × PassesOn (g.W.Write.contents l.fn.writer) []
-      (put_before l.base l.log l.line) (g.W.Write.contents l.writer) l.block
+    (put_before l.base l.log l.line) (g.W.Write.contents l.writer) l.block

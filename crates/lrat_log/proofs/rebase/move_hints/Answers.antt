@@ -11,14 +11,14 @@ pub loop-index-preserved : goal.loop-index-preserved
 loop-index-preserved c =
     let move = moved_hint c.args.fixed c.args.count in
     let e : c.match-hint.hint ≡ moved_hint c.args.fixed c.args.count c.hint.result =
-      elim c.match-hint.branch [
+    elim c.match-hint.branch [
       | in-Plain w ↦ w.hint-is ∙ ap Plain w.move_name.ensures
-        ∙ sym (ap (moved_hint c.args.fixed c.args.count) w.in-Plain.is)
+          ∙ sym (ap (moved_hint c.args.fixed c.args.count) w.in-Plain.is)
       | in-Group w ↦ w.hint-is ∙ ap Group w.move_name-in-Group.ensures
-        ∙ sym (ap (moved_hint c.args.fixed c.args.count) w.in-Group.is)
+          ∙ sym (ap (moved_hint c.args.fixed c.args.count) w.in-Group.is)
     ] in
     let t =
-      take_mapped_at (moved_hint c.args.fixed c.args.count)
-        (line_at c.args.log.now c.args.line).hints c.loop-index.index c.hint.result
-        c.hint.ensures in
+    take_mapped_at (moved_hint c.args.fixed c.args.count)
+    (line_at c.args.log.now c.args.line).hints c.loop-index.index c.hint.result
+    c.hint.ensures in
     cc (c.in_ok-push.ensures.items, c.loop-index.invariant, e, t)

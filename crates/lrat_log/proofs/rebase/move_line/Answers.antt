@@ -10,5 +10,5 @@ new-requires c =
     let none : LogLine = record { kind = Empty; clause = []; hints = [] } in
     rw (c.kind.ensures, c.in_ok-lits.ensures.items, c.lits.ensures, c.in_ok-hints.ensures)
     (moved_line-is c.args.fixed c.args.count (line_at c.args.log.now c.args.line)
-        (c.len.ensures.log.lines c.args.line none c.requires.line)
-        (c.requires.ids c.args.line none c.requires.line))
+    (c.len.ensures.log.lines c.args.line none c.requires.line)
+    (c.requires.ids c.args.line none c.requires.line))

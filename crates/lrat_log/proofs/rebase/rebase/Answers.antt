@@ -10,7 +10,7 @@ use Rattle.lrat_log.proofs.rebase.rebase.Goals as goal
 pub loop-entry-preserved : goal.loop-entry-preserved
 loop-entry-preserved c =
     let t = weaker_more c.args.weaker.now c.loop-entry.entry-index c.entry-item.result (omega arith)
-      c.entry-item.is in
+    c.entry-item.is in
     cc (c.in_ok-append.ensures.ok, c.in_ok-weaken.ensures, c.loop-entry.invariant, t)
 
 pub loop-line-preserved : goal.loop-line-preserved
@@ -18,14 +18,14 @@ loop-line-preserved c =
     let none : LogLine = record { kind = Empty; clause = []; hints = [] } in
     let lt : c.loop-line.line < length c.args.log.now = omega arith in
     let t =
-      take_mapped (moved_line c.args.fixed (length c.args.weaker.now)) c.args.log.now
-        c.loop-line.line none lt in
+    take_mapped (moved_line c.args.fixed (length c.args.weaker.now)) c.args.log.now
+    c.loop-line.line none lt in
     let a =
-      append_assoc (map weaker_line (weaker_list c.args.weaker.now))
-        (take c.loop-line.line
-        (map (moved_line c.args.fixed (length c.args.weaker.now)) c.args.log.now))
-        (moved_line c.args.fixed (length c.args.weaker.now)
-        (line_at c.args.log.now c.loop-line.line) ∷ []) in
+    append_assoc (map weaker_line (weaker_list c.args.weaker.now))
+    (take c.loop-line.line
+    (map (moved_line c.args.fixed (length c.args.weaker.now)) c.args.log.now))
+    (moved_line c.args.fixed (length c.args.weaker.now)
+    (line_at c.args.log.now c.loop-line.line) ∷ []) in
     cc (c.in_ok-append-2.ensures.ok, c.in_ok-move_line.ensures, c.loop-line.invariant, a, t)
 
 pub returns-clause-keeps : goal.returns-clause-keeps

@@ -9,4 +9,4 @@ invariant-loop-entry l = l.new ≡ take l.entry-index (map weaker_line (weaker_l
 abbrev pub invariant-loop-line : goal.invariant-loop-line
 invariant-loop-line l =
     l.new ≡ map weaker_line (weaker_list l.weaker) ++ take l.line
-      (map (moved_line l.fixed (length l.weaker)) l.log)
+    (map (moved_line l.fixed (length l.weaker)) l.log)

@@ -10,15 +10,15 @@ pub returns-in_err-put_number-clause-fault : goal.returns-in_err-put_number-clau
 returns-in_err-put_number-clause-fault g c =
     let p = err_from_is_err_and c.from_residual.result c.from_residual.ensures.1 in
     let text : number_text c.is_group.result c.id.result
-        ≡ hint_text c.args.base c.hint-item.result = cc in
+    ≡ hint_text c.args.base c.hint-item.result = cc in
     rw (p.1) (item_fault (hint_text c.args.base) _ _ _ _ _ c.args.hints.now c.loop-hint.hint-index
-        c.hint-item.result (search rules) c.hint-item.is c.loop-hint.invariant
-        (rw text at c.in_err-put_number.ensures.fault))
+    c.hint-item.result (search rules) c.hint-item.is c.loop-hint.invariant
+    (rw text at c.in_err-put_number.ensures.fault))
 
 pub loop-hint-preserved : goal.loop-hint-preserved
 loop-hint-preserved g c =
     let text : number_text c.is_group.result c.id.result
-        ≡ hint_text c.args.base c.hint-item.result = cc in
+    ≡ hint_text c.args.base c.hint-item.result = cc in
     items_more (hint_text c.args.base) _ _ _ _ _ _ [] c.args.hints.now c.loop-hint.hint-index
-      c.hint-item.result (search rules) c.hint-item.is c.loop-hint.invariant
-      (rw text at c.in_ok-put_number.ensures.ok)
+    c.hint-item.result (search rules) c.hint-item.is c.loop-hint.invariant
+    (rw text at c.in_ok-put_number.ensures.ok)

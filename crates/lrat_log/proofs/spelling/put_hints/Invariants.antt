@@ -7,4 +7,4 @@ use Rattle.lrat_log.proofs.spelling.put_hints.Given as goal
 abbrev pub invariant-loop-hint : goal.invariant-loop-hint
 invariant-loop-hint g l =
     PassesOn (g.W.Write.contents l.initial.writer) l.initial.block
-      (hints_text l.base (take l.hint-index l.hints)) (g.W.Write.contents l.writer) l.block
+    (hints_text l.base (take l.hint-index l.hints)) (g.W.Write.contents l.writer) l.block

@@ -8,7 +8,7 @@ abbrev pub invariant-loop-is_dashed : goal.invariant-loop-is_dashed
 invariant-loop-is_dashed l = record {
   within : l.place ≤ length l.line;
   block : block_of (tokens_of (drop l.at l.line)) ≡ ahead l.hints.items
-    (block_of (tokens_of (drop l.place l.line)));
+      (block_of (tokens_of (drop l.place l.line)));
 }
 
 abbrev pub decreases-loop-is_dashed : goal.decreases-loop-is_dashed

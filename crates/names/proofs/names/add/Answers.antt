@@ -9,12 +9,12 @@ pub overflow_add-names-inside : goal.overflow_add-names-inside
 overflow_add-names-inside g c =
     let ls = g.S.Sink.lines c.args.sink.now in
     let counted : c.names.inside.additions ≡ added_count ls =
-      ap (λ (n : NamesState). n.additions) c.names.view_is ∙ c.requires.counted in
+    ap (λ (n : NamesState). n.additions) c.names.view_is ∙ c.requires.counted in
     omega (arith, additions_few ls, c.is_short.ensures)
 
 pub new-requires-clause-small : goal.new-requires-clause-small
 new-requires-clause-small g c =
     let ls = g.S.Sink.lines c.args.sink.now in
     let counted : c.names.inside.additions ≡ added_count ls =
-      ap (λ (n : NamesState). n.additions) c.names.view_is ∙ c.requires.counted in
+    ap (λ (n : NamesState). n.additions) c.names.view_is ∙ c.requires.counted in
     omega (arith, additions_few ls, c.is_short.ensures)

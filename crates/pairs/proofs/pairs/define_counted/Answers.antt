@@ -12,24 +12,24 @@ use Rattle.lrat_log.proofs.Laws.{when_err}
 pub returns-in_err-find-clause-err : goal.returns-in_err-find-clause-err
 returns-in_err-find-clause-err g c = when_err c.from_residual-in_err-find.result (λ ground k.
     open_log ground (stage_of c.loop-k.last c.loop-k.store.slots c.loop-k.names
-        (g.S.Sink.lines c.loop-k.sink)) (c.loop-k.invariant.keeps ground k))
+    (g.S.Sink.lines c.loop-k.sink)) (c.loop-k.invariant.keeps ground k))
 
 pub returns-in_err-last-clause-err : goal.returns-in_err-last-clause-err
 returns-in_err-last-clause-err g c =
     when_err c.from_residual-in_err-last.result
-      (λ ground k. c.in_err-last.ensures.err ground (c.loop-k.invariant.keeps ground k))
+    (λ ground k. c.in_err-last.ensures.err ground (c.loop-k.invariant.keeps ground k))
 
 pub loop-k-preserved : goal.loop-k-preserved
 loop-k-preserved g c =
     let L = g.S.Sink.lines in
     let s : Stage =
-      stage_of c.args.vars c.args.store.now.slots c.args.names.now (L c.args.sink.now) in
+    stage_of c.args.vars c.args.store.now.slots c.args.names.now (L c.args.sink.now) in
     let was = c.loop-k.invariant in
     elim c.match-candidate.branch [
       | in-Some+in_ok-find+then-found-fewest+in_ok-last w ↦
           counts_same s c.args.vars c.args.most w.in_ok-last.last c.match-candidate.last
-            w.define_found.new.store.slots c.match-candidate.store.slots w.define_found.new.names
-            c.match-candidate.names (L w.define_found.new.sink) (L c.match-candidate.sink)
+          w.define_found.new.store.slots c.match-candidate.store.slots w.define_found.new.names
+          c.match-candidate.names (L w.define_found.new.sink) (L c.match-candidate.sink)
           w.last-is (ap (λ (x : StoreState). x.slots) w.store-is) w.names-is (ap L w.sink-is)
           (record {
             more = omega (arith, was.more, w.in_ok-last.ensures.more);
@@ -40,12 +40,12 @@ loop-k-preserved g c =
           })
       | in-Some+in_ok-find+else-found-fewest w ↦
           counts_same s c.args.vars c.args.most c.loop-k.last c.match-candidate.last
-            c.loop-k.store.slots c.match-candidate.store.slots c.loop-k.names
-            c.match-candidate.names (L c.loop-k.sink) (L c.match-candidate.sink)
+          c.loop-k.store.slots c.match-candidate.store.slots c.loop-k.names
+          c.match-candidate.names (L c.loop-k.sink) (L c.match-candidate.sink)
           w.last-is (ap (λ (x : StoreState). x.slots) w.store-is) w.names-is (ap L w.sink-is) was
       | in_default w ↦
           counts_same s c.args.vars c.args.most c.loop-k.last c.match-candidate.last
-            c.loop-k.store.slots c.match-candidate.store.slots c.loop-k.names
-            c.match-candidate.names (L c.loop-k.sink) (L c.match-candidate.sink)
+          c.loop-k.store.slots c.match-candidate.store.slots c.loop-k.names
+          c.match-candidate.names (L c.loop-k.sink) (L c.match-candidate.sink)
           w.last-is (ap (λ (x : StoreState). x.slots) w.store-is) w.names-is (ap L w.sink-is) was
     ]

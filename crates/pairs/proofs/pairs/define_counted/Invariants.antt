@@ -6,4 +6,4 @@ use Rattle.pairs.proofs.pairs.define_counted.Given as goal
 abbrev pub invariant-loop-k : goal.invariant-loop-k
 invariant-loop-k g l =
     Counts (stage_of l.vars l.fn.store.slots l.fn.names (g.S.Sink.lines l.fn.sink)) l.vars l.most
-      l.last l.store.slots l.names (g.S.Sink.lines l.sink)
+    l.last l.store.slots l.names (g.S.Sink.lines l.sink)

@@ -6,4 +6,4 @@ use Rattle.pairs.proofs.pairs.define_found.Given as goal
 abbrev pub invariant-loop-k : goal.invariant-loop-k
 invariant-loop-k g l =
     Defines (stage_of l.vars l.fn.store.slots l.fn.names (g.S.Sink.lines l.fn.sink)) l.vars
-      l.definition l.store.slots l.names (g.S.Sink.lines l.sink)
+    l.definition l.store.slots l.names (g.S.Sink.lines l.sink)

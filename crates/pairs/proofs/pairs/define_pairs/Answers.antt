@@ -17,7 +17,7 @@ loop-round-preserved g c =
 pub returns-in_err-last-clause-err : goal.returns-in_err-last-clause-err
 returns-in_err-last-clause-err g c =
     when_err c.from_residual.result
-      (λ ground k. c.in_err-last.ensures.err ground (c.loop-round.invariant.keeps ground k))
+    (λ ground k. c.in_err-last.ensures.err ground (c.loop-round.invariant.keeps ground k))
 
 pub returns-then-last-before-clause-keeps : goal.returns-then-last-before-clause-keeps
 returns-then-last-before-clause-keeps g c ground k =

@@ -6,4 +6,4 @@ use Rattle.pairs.proofs.pairs.define_pairs.Given as goal
 abbrev pub invariant-loop-round : goal.invariant-loop-round
 invariant-loop-round g l =
     Counts (stage_of l.vars l.fn.store.slots l.fn.names (g.S.Sink.lines l.fn.sink)) l.vars l.most
-      l.last l.store.slots l.names (g.S.Sink.lines l.sink)
+    l.last l.store.slots l.names (g.S.Sink.lines l.sink)

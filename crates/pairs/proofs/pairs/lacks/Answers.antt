@@ -8,4 +8,4 @@ use Rattle.pairs.proofs.pairs.lacks.Goals as goal
 pub returns : goal.returns
 returns c _ =
     subst (AllByRecursion (IsOnOther c.args.variable))
-      (take_all c.loop-lit.lit-index c.args.lits.now c.loop-lit-test.false) c.loop-lit.invariant
+    (take_all c.loop-lit.lit-index c.args.lits.now c.loop-lit-test.false) c.loop-lit.invariant

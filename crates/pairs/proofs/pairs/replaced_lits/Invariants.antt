@@ -6,4 +6,4 @@ use Rattle.pairs.proofs.pairs.replaced_lits.Given as goal
 abbrev pub invariant-loop-lit : goal.invariant-loop-lit
 invariant-loop-lit l =
     l.left.items ≡ replaced l.definition.variable l.definition.left l.definition.right
-      (take l.lit-index l.lits)
+    (take l.lit-index l.lits)

@@ -9,7 +9,7 @@ use Rattle.propagate.proofs.search.find_not_false.Goals as goal
 pub loop-lit-preserved : goal.loop-lit-preserved
 loop-lit-preserved c =
     all_read (λ (l : Literal). value_in c.args.trail.now.assigned l ≡ Some false) c.args.lits.now
-      c.loop-lit.lit-index c.lit-item.result c.loop-lit-test.true c.lit-item.is c.loop-lit.invariant
+    c.loop-lit.lit-index c.lit-item.result c.loop-lit-test.true c.lit-item.is c.loop-lit.invariant
     (c.is_false.ensures.0 c.if-not-is_false.false)
 
 pub returns : goal.returns

@@ -16,10 +16,10 @@ loop-lit-preserved-then-eq c =
       | then-eq-via-else-eq+then-eq-2 w ↦ inr (search rules)
     ] in
     subst (λ k. IsRest k c.args.one c.args.other c.loop-lit.rest)
-      (sym (take_more c.args.lits.now c.loop-lit.lit-index x c.loop-lit-test.true
-          ∙ ap (λ y. take c.loop-lit.lit-index c.args.lits.now ++ y ∷ []) (sym c.lit-item.is)))
+    (sym (take_more c.args.lits.now c.loop-lit.lit-index x c.loop-lit-test.true
+    ∙ ap (λ y. take c.loop-lit.lit-index c.args.lits.now ++ y ∷ []) (sym c.lit-item.is)))
     (rest_same (take c.loop-lit.lit-index c.args.lits.now) c.args.one c.args.other x c.loop-lit.rest
-        same c.loop-lit.invariant)
+    same c.loop-lit.invariant)
 
 pub loop-lit-preserved : goal.loop-lit-preserved
 loop-lit-preserved c =
@@ -27,13 +27,13 @@ loop-lit-preserved c =
     let a : x ≢ c.args.one = search rules in
     let b : x ≢ c.args.other = search rules in
     subst (λ k. IsRest k c.args.one c.args.other (One x))
-      (sym (take_more c.args.lits.now c.loop-lit.lit-index x c.loop-lit-test.true
-          ∙ ap (λ y. take c.loop-lit.lit-index c.args.lits.now ++ y ∷ []) (sym c.lit-item.is)))
+    (sym (take_more c.args.lits.now c.loop-lit.lit-index x c.loop-lit-test.true
+    ∙ ap (λ y. take c.loop-lit.lit-index c.args.lits.now ++ y ∷ []) (sym c.lit-item.is)))
     (rest_third (take c.loop-lit.lit-index c.args.lits.now) c.args.one c.args.other x a b
-        (subst (IsRest (take c.loop-lit.lit-index c.args.lits.now) c.args.one c.args.other)
-          c.in-Nothing.is c.loop-lit.invariant))
+    (subst (IsRest (take c.loop-lit.lit-index c.args.lits.now) c.args.one c.args.other)
+    c.in-Nothing.is c.loop-lit.invariant))
 
 pub returns : goal.returns
 returns c =
     subst (λ k. IsRest k c.args.one c.args.other c.loop-lit.rest)
-      (take_all c.loop-lit.lit-index c.args.lits.now c.loop-lit-test.false) c.loop-lit.invariant
+    (take_all c.loop-lit.lit-index c.args.lits.now c.loop-lit-test.false) c.loop-lit.invariant

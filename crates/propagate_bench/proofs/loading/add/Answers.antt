@@ -11,15 +11,15 @@ grown : (c : goal.After-attach-arg-1)
 grown c = ap (λ s. s.slots) c.in_ok-reference.ensures.ok
 
 live : (c : goal.After-attach-arg-1) → clause_at c.add.new.self.slots c.in_ok-reference.reference
-      ≡ Some c.args.lits.now
+    ≡ Some c.args.lits.now
 live c = ap (λ s. clause_at s c.in_ok-reference.reference) (grown c)
     ∙ added_live c.args.store.now.slots c.args.lits.now c.in_ok-reference.reference
-      c.in_ok-reference.ensures.reference
+    c.in_ok-reference.ensures.reference
 
 pub attach-requires-clause-fits : goal.attach-requires-clause-fits
 attach-requires-clause-fits c =
     subst (Fits c.args.engine.now) (sym (grown c))
-      (fits_added c.args.engine.now c.args.store.now.slots c.args.lits.now c.requires.fits)
+    (fits_added c.args.engine.now c.args.store.now.slots c.args.lits.now c.requires.fits)
 
 pub attach-requires-clause-live : goal.attach-requires-clause-live
 attach-requires-clause-live c = (c.args.lits.now, live c)
@@ -27,8 +27,8 @@ attach-requires-clause-live c = (c.args.lits.now, live c)
 pub attach-requires-clause-small : goal.attach-requires-clause-small
 attach-requires-clause-small c =
     let within =
-      subst (λ v. IsWithin v c.args.lits.now) (sym c.requires.vars)
-        (c.if-not-is_within.ensures refl) in
+    subst (λ v. IsWithin v c.args.lits.now) (sym c.requires.vars)
+    (c.if-not-is_within.ensures refl) in
     subst (λ o. IfSome o (IsWithin c.args.engine.now.variables)) (sym (live c)) within
 
 pub attach-requires-clause-once : goal.attach-requires-clause-once

@@ -8,6 +8,6 @@ use Rattle.propagate_bench.proofs.loading.is_within.Goals as goal
 pub returns : goal.returns
 returns c _ =
     let whole : take c.loop-lit.lit-index c.args.lits.now ≡ c.args.lits.now =
-      take_all c.loop-lit.lit-index c.args.lits.now c.loop-lit-test.false in
+    take_all c.loop-lit.lit-index c.args.lits.now c.loop-lit-test.false in
     within_by c.args.vars c.args.lits.now
-      (subst (AllByRecursion (IsVariable c.args.vars)) whole c.loop-lit.invariant)
+    (subst (AllByRecursion (IsVariable c.args.vars)) whole c.loop-lit.invariant)

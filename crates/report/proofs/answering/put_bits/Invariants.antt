@@ -7,4 +7,4 @@ use Rattle.report.proofs.answering.put_bits.Given as goal
 abbrev pub invariant-loop-bit : goal.invariant-loop-bit
 invariant-loop-bit g l =
     PassesOn (g.O.Write.contents l.initial.out) l.initial.block
-      (digits_text (take l.bit-index l.bits)) (g.O.Write.contents l.out) l.block
+    (digits_text (take l.bit-index l.bits)) (g.O.Write.contents l.out) l.block

@@ -9,33 +9,33 @@ pub returns-in_err-put-clause-fault : goal.returns-in_err-put-clause-fault
 returns-in_err-put-clause-fault g c =
     let p = err_from_is_err_and c.from_residual.result c.from_residual.ensures.1 in
     rw p.1 (words_fault _ _ _ (digits_text c.args.bits.now) (codes "\n")
-        (rw c.new-block.ensures at c.in_err-put.ensures.fault))
+    (rw c.new-block.ensures at c.in_err-put.ensures.fault))
 
 pub returns-in_err-put_bits-clause-fault : goal.returns-in_err-put_bits-clause-fault
 returns-in_err-put_bits-clause-fault g c =
     let p =
-      err_from_is_err_and c.from_residual-in_err-put_bits.result
-        c.from_residual-in_err-put_bits.ensures.1 in
+    err_from_is_err_and c.from_residual-in_err-put_bits.result
+    c.from_residual-in_err-put_bits.ensures.1 in
     rw p.1 (number_fault _ _ _ (digits_text c.args.bits.now) (codes "\n") _ _
-        (rw c.new-block.ensures at c.in_ok-put.ensures.ok) c.in_err-put_bits.ensures.fault)
+    (rw c.new-block.ensures at c.in_ok-put.ensures.ok) c.in_err-put_bits.ensures.fault)
 
 pub returns-in_err-put-2-clause-fault : goal.returns-in_err-put-2-clause-fault
 returns-in_err-put-2-clause-fault g c =
     let p =
-      err_from_is_err_and c.from_residual-in_err-put-2.result c.from_residual-in_err-put-2.ensures.1
-        in
+    err_from_is_err_and c.from_residual-in_err-put-2.result c.from_residual-in_err-put-2.ensures.1
+    in
     rw p.1 (end_fault _ _ _ (digits_text c.args.bits.now) (codes "\n") _ _
-        (rw c.new-block.ensures at c.in_ok-put.ensures.ok) _ _ c.in_ok-put_bits.ensures.ok
-        c.in_err-put-2.ensures.fault)
+    (rw c.new-block.ensures at c.in_ok-put.ensures.ok) _ _ c.in_ok-put_bits.ensures.ok
+    c.in_err-put-2.ensures.fault)
 
 pub returns-clause-ok : goal.returns-clause-ok
 returns-clause-ok g c =
     on_ok_weaker c.flush.result (line_whole _ _ _ (digits_text c.args.bits.now) (codes "\n") _ _
-        (rw c.new-block.ensures at c.in_ok-put.ensures.ok) _ _ c.in_ok-put_bits.ensures.ok _ _
-        c.in_ok-put-2.ensures.ok) c.flush.ensures.ok
+    (rw c.new-block.ensures at c.in_ok-put.ensures.ok) _ _ c.in_ok-put_bits.ensures.ok _ _
+    c.in_ok-put-2.ensures.ok) c.flush.ensures.ok
 
 pub returns-clause-fault : goal.returns-clause-fault
 returns-clause-fault g c =
     on_err_weaker c.flush.result (line_part _ _ _ (digits_text c.args.bits.now) (codes "\n") _ _
-        (rw c.new-block.ensures at c.in_ok-put.ensures.ok) _ _ c.in_ok-put_bits.ensures.ok _ _
-        c.in_ok-put-2.ensures.ok) c.flush.ensures.fault
+    (rw c.new-block.ensures at c.in_ok-put.ensures.ok) _ _ c.in_ok-put_bits.ensures.ok _ _
+    c.in_ok-put-2.ensures.ok) c.flush.ensures.fault

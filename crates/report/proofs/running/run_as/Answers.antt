@@ -7,20 +7,20 @@ pub returns-in_err-found-clause-fault : goal.returns-in_err-found-clause-fault
 returns-in_err-found-clause-fault g c =
     let held = g.O.Write.contents in
     let p =
-      err_from_is_err_and c.from_residual-in_err-found.result c.from_residual-in_err-found.ensures.1
-        in
+    err_from_is_err_and c.from_residual-in_err-found.result c.from_residual-in_err-found.ensures.1
+    in
     let i = c.in_ok-instance in
     rw (p.1, p.2) (search_leaves c.args.profile (g.R.Read.remaining c.args.input.now) i.instance
-        i.ensures.instance i.ensures.only_one c.args.budget.now c.search.new.budget
+    i.ensures.instance i.ensures.only_one c.args.budget.now c.search.new.budget
     (held c.args.out.now) (held c.search.new.out) (g.P.Write.contents c.args.proof.now)
-      c.in_err-found.field-0.0 c.in_err-found.ensures)
+    c.in_err-found.field-0.0 c.in_err-found.ensures)
 
 pub write_answer-requires : goal.write_answer-requires
 write_answer-requires g c =
     let held = g.O.Write.contents in
     let f = c.in_ok-found in
     proof_room c.args.profile c.in_ok-instance.instance (held c.args.out.now)
-      (held c.search.new.out) c.args.budget.now c.search.new.budget f.found f.ensures
+    (held c.search.new.out) c.args.budget.now c.search.new.budget f.found f.ensures
 
 pub returns-clause-ok : goal.returns-clause-ok
 returns-clause-ok g c =
@@ -30,9 +30,9 @@ returns-clause-ok g c =
     let f = c.in_ok-found in
     let w = c.write_answer in
     IfOk-weaker w.result _ _ (ends c.args.profile (g.R.Read.remaining c.args.input.now) i.instance
-        i.ensures.instance i.ensures.only_one c.args.budget.now c.search.new.budget
+    i.ensures.instance i.ensures.only_one c.args.budget.now c.search.new.budget
     (held c.args.out.now) (held c.search.new.out) (held w.new.out) (certified c.args.proof.now)
-      (certified w.new.proof) f.found f.ensures) w.ensures.ok
+    (certified w.new.proof) f.found f.ensures) w.ensures.ok
 
 pub returns-clause-fault : goal.returns-clause-fault
 returns-clause-fault g c =
@@ -42,6 +42,6 @@ returns-clause-fault g c =
     let f = c.in_ok-found in
     let w = c.write_answer in
     IfErr-weaker w.result _ _ (answer_leaves c.args.profile (g.R.Read.remaining c.args.input.now)
-        i.instance i.ensures.instance i.ensures.only_one c.args.budget.now c.search.new.budget
+    i.instance i.ensures.instance i.ensures.only_one c.args.budget.now c.search.new.budget
     (held c.args.out.now) (held c.search.new.out) (held w.new.out) (certified c.args.proof.now)
-      (certified w.new.proof) f.found f.ensures) w.ensures.fault
+    (certified w.new.proof) f.found f.ensures) w.ensures.fault

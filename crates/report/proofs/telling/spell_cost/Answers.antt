@@ -20,7 +20,7 @@ pub returns-clause-text : goal.returns-clause-text
 returns-clause-text c =
     let most = cost_digits c.args.cost (omega arith) in
     let same : length c.write_digits-digits.new.buf ≡ length c.args.room.now =
-      c.write_digits-digits.auto.buf in
+    c.write_digits-digits.auto.buf in
     cost_spelled c.args.room.now c.write_digits-digits.new.buf c.write_digits-digits.result
-      c.args.cost (omega arith) c.requires (omega arith) (omega (arith, most)) (omega (arith, most))
-      c.write_digits-digits.ensures.written
+    c.args.cost (omega arith) c.requires (omega arith) (omega (arith, most)) (omega (arith, most))
+    c.write_digits-digits.ensures.written

@@ -7,6 +7,6 @@ use Rattle.report.proofs.telling.write_cost.Goals as goal
 pub returns-clause-fault : goal.returns-clause-fault
 returns-clause-fault g c =
     always_err c.map_err.result
-      (whole_part _ _ _ _ _
-        (take_all _ _ (omega (arith, length-drop {A = ℕ}, c.spell_cost-start.auto.room))
-          ∙ c.spell_cost-start.ensures.text) c.in_ok-write_piece.ensures.ok c.flush.ensures.bytes)
+    (whole_part _ _ _ _ _
+    (take_all _ _ (omega (arith, length-drop {A = ℕ}, c.spell_cost-start.auto.room))
+    ∙ c.spell_cost-start.ensures.text) c.in_ok-write_piece.ensures.ok c.flush.ensures.bytes)

@@ -8,12 +8,12 @@ pub loop-lane-preserved : goal.loop-lane-preserved
 loop-lane-preserved c =
     let lt : c.loop-lane.lane < length c.args.block = omega (arith, c.fits-block.0) in
     let here : nat_eq (c.lanes_within-lanes.result / 2 ^ c.loop-lane.lane % 2) 1
-        ≡ is_within c.args.sig (get_or c.args.block c.loop-lane.lane 0) =
+    ≡ is_within c.args.sig (get_or c.args.block c.loop-lane.lane 0) =
     rw c.lanes_within-lanes.ensures (lane_is c.args.sig c.args.block c.loop-lane.lane lt) in
     record {
       long = search rules;
       done =
-        filled_more c.loop-lane.found c.loop-lane.lane _ _
+          filled_more c.loop-lane.found c.loop-lane.lane _ _
           (λ k. is_within c.args.sig (get_or c.args.block k 0)) (omega arith) (omega arith)
           c.loop-lane.invariant.done here;
     }
@@ -22,4 +22,4 @@ pub returns : goal.returns
 returns c =
     let long : length c.args.block ≡ 8 = c.fits-block.0 in
     filled_all c.args.sig c.loop-lane.found c.args.block (omega arith)
-      (λ k lt. c.loop-lane.invariant.done k (omega arith))
+    (λ k lt. c.loop-lane.invariant.done k (omega arith))

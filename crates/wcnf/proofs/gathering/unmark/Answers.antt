@@ -14,18 +14,18 @@ pub bounds-marks-index : goal.bounds-marks-index
 bounds-marks-index c =
     let (v, a) = c.requires in
     let m =
-      split v c.loop-lit.marks c.args.lits.now c.loop-lit.lit-index c.lit-item.result
-        c.loop-lit-test.true c.lit-item.is (c.loop-lit.invariant v a) in
+    split v c.loop-lit.marks c.args.lits.now c.loop-lit.lit-index c.lit-item.result
+    c.loop-lit-test.true c.lit-item.is (c.loop-lit.invariant v a) in
     rw c.index.ensures.index (first_within v c.loop-lit.marks _ c.lit-item.result m)
 
 pub loop-lit-preserved : goal.loop-lit-preserved
 loop-lit-preserved c = λ v a.
     let m =
-      split v c.loop-lit.marks c.args.lits.now c.loop-lit.lit-index c.lit-item.result
-        c.loop-lit-test.true c.lit-item.is (c.loop-lit.invariant v a) in
+    split v c.loop-lit.marks c.args.lits.now c.loop-lit.lit-index c.lit-item.result
+    c.loop-lit-test.true c.lit-item.is (c.loop-lit.invariant v a) in
     rw c.index.ensures.index (marked-first v c.loop-lit.marks _ c.lit-item.result m)
 
 pub returns : goal.returns
 returns c =
     λ v a. rw (drop_all c.loop-lit.lit-index c.args.lits.now (omega arith)) at
-      (c.loop-lit.invariant v a)
+    (c.loop-lit.invariant v a)

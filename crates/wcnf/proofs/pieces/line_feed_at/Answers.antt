@@ -7,4 +7,4 @@ pub returns-in-Some : goal.returns-in-Some
 returns-in-Some c =
     let found = c.in-Some.ensures in
     first_feed c.args.text.now c.in-Some.end found.0.high (eqb-true _ 10 found.1)
-      (λ k l. false_from_ne_true _ (found.0.before k (omega arith) l))
+    (λ k l. false_from_ne_true _ (found.0.before k (omega arith) l))

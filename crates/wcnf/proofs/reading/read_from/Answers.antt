@@ -19,8 +19,8 @@ returns-in-Ok-eq0-clause-instance g c =
     let zero : c.in-Ok-eq0.field-0 ≡ 0 = first_of (omega arith, search rules, cc) in
     let end : IsAtEnd (g.R.Read.remaining c.read.new.self) = search rules in
     reader_read _ _ i.0 c.pieces.parser c.finish.result
-      (all_read _ _ _ i.0 _ c.in-Ok-eq0.field-0 i.2 c.in-Ok-eq0.ensures.bytes.0 zero) end i.1
-      c.finish.ensures.instance
+    (all_read _ _ _ i.0 _ c.in-Ok-eq0.field-0 i.2 c.in-Ok-eq0.ensures.bytes.0 zero) end i.1
+    c.finish.ensures.instance
 
 pub returns-in-Ok-eq0-clause-only_one : goal.returns-in-Ok-eq0-clause-only_one
 returns-in-Ok-eq0-clause-only_one g c =
@@ -28,8 +28,8 @@ returns-in-Ok-eq0-clause-only_one g c =
     let zero : c.in-Ok-eq0.field-0 ≡ 0 = first_of (omega arith, search rules, cc) in
     let end : IsAtEnd (g.R.Read.remaining c.read.new.self) = search rules in
     reader_read_one _ _ i.0 c.pieces.parser c.finish.result
-      (all_read _ _ _ i.0 _ c.in-Ok-eq0.field-0 i.2 c.in-Ok-eq0.ensures.bytes.0 zero) end i.1
-      c.finish.ensures.instance
+    (all_read _ _ _ i.0 _ c.in-Ok-eq0.field-0 i.2 c.in-Ok-eq0.ensures.bytes.0 zero) end i.1
+    c.finish.ensures.instance
 
 pub returns-in-Ok-eq0-clause-fault : goal.returns-in-Ok-eq0-clause-fault
 returns-in-Ok-eq0-clause-fault g c =
@@ -37,15 +37,15 @@ returns-in-Ok-eq0-clause-fault g c =
     let zero : c.in-Ok-eq0.field-0 ≡ 0 = first_of (omega arith, search rules, cc) in
     let end : IsAtEnd (g.R.Read.remaining c.read.new.self) = search rules in
     reader_refused _ _ i.0 c.pieces.parser c.finish.result
-      (all_read _ _ _ i.0 _ c.in-Ok-eq0.field-0 i.2 c.in-Ok-eq0.ensures.bytes.0 zero) end i.1
-      c.finish.ensures.fault
+    (all_read _ _ _ i.0 _ c.in-Ok-eq0.field-0 i.2 c.in-Ok-eq0.ensures.bytes.0 zero) end i.1
+    c.finish.ensures.fault
 
 pub returns-in_err-feed-clause-fault : goal.returns-in_err-feed-clause-fault
 returns-in_err-feed-clause-fault g c =
     let i = c.pieces.invariant in
     let p = err_from_is_err_and c.from_residual.result c.from_residual.ensures.1 in
     rw (p.1, p.2) (piece_refused _ _ _ i.0 _ c.pieces.parser _ i.2 c.in-Ok.ensures.bytes.0 i.1
-        c.in_err-feed.ensures.fault)
+    c.in_err-feed.ensures.fault)
 
 pub pieces-preserved : goal.pieces-preserved
 pieces-preserved g c =

@@ -7,4 +7,4 @@ use Rattle.wcnf.proofs.reading.read_from.Given as goal
 abbrev pub invariant-pieces : goal.invariant-pieces
 invariant-pieces g l =
     (bytes : List ℕ) × Stands l.parser bytes × Consumes (g.R.Read.remaining l.fn.reader)
-      (g.R.Read.remaining l.reader) bytes
+    (g.R.Read.remaining l.reader) bytes

@@ -8,7 +8,7 @@ pub loop-i-preserved : goal.loop-i-preserved
 loop-i-preserved c = record {
   digits = below_more _ _ c.loop-i.invariant.digits (grind (arith, common_steps));
   value =
-    value-more c.args.bytes.now c.loop-i.i c.loop-i.value c.from.result (omega arith)
+      value-more c.args.bytes.now c.loop-i.i c.loop-i.value c.from.result (omega arith)
       c.loop-i.invariant.value c.from.ensures;
   most = omega arith;
 }

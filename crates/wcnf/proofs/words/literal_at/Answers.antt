@@ -5,6 +5,6 @@ use Rattle.wcnf.proofs.words.literal_at.Goals as goal
 pub returns : goal.returns
 returns c =
     rw (c.new.ensures) (begins_signed c.args.bytes.now c.begins_with-negated.result
-        c.from-dash.result c.in_ok-variable.variable c.in_ok-variable.count
+    c.from-dash.result c.in_ok-variable.variable c.in_ok-variable.count
     c.begins_with-negated.ensures.first c.begins_with-negated.ensures.some c.from-dash.ensures
-      c.in_ok-variable.ensures)
+    c.in_ok-variable.ensures)

@@ -7,4 +7,4 @@ use Rattle.wcnf.proofs.words.variable_at.Goals as goal
 pub returns : goal.returns
 returns c =
     begins_variable c.args.bytes.now c.in_ok-value.value c.in_ok-value.count c.in_ok-value.ensures
-      (omega arith) (eqb-false _ 48 (sym c.begins_with.ensures.first ∙ c.if-begins_with.false))
+    (omega arith) (eqb-false _ 48 (sym c.begins_with.ensures.first ∙ c.if-begins_with.false))

@@ -8,58 +8,64 @@ use Rattle.adder.proofs.columns.Adder.add_up.Goals as goal
 pub add-requires-clause-small : goal.add-requires-clause-small
 add-requires-clause-small c =
     let next =
-      two_at _ _ c.loop-front.front _ _ c.a-item.result c.deref.ensures.value c.in-len2.len_at_least
-        c.in-len2.len_below c.a-item.is c.b-item.is in
-    omega (arith, has_room c.loop-front.self.fresh _ _ _ _ _ next.0,
-        c.loop-front.invariant.adding.fresh_is)
+    two_at _ _ c.loop-front.front _ _ c.a-item.result c.deref.ensures.value c.in-len2.len_at_least
+    c.in-len2.len_below c.a-item.is c.b-item.is in
+    omega (
+      arith,
+      has_room c.loop-front.self.fresh _ _ _ _ _ next.0,
+      c.loop-front.invariant.adding.fresh_is,
+    )
 
 pub add-requires-in-len3-up-clause-small : goal.add-requires-in-len3-up-clause-small
 add-requires-in-len3-up-clause-small c =
     let next =
-      three_at _ _ c.loop-front.front _ _ _ c.a-item-in-loop-front.result c.deref.ensures.value
-        c.in-len3-up.len_at_least c.a-item-in-loop-front.is c.b-item-in-loop-front.is
-        c.third-item.is in
-    omega (arith, has_room c.loop-front.self.fresh _ _ _ _ _ next.0,
-        c.loop-front.invariant.adding.fresh_is)
+    three_at _ _ c.loop-front.front _ _ _ c.a-item-in-loop-front.result c.deref.ensures.value
+    c.in-len3-up.len_at_least c.a-item-in-loop-front.is c.b-item-in-loop-front.is
+    c.third-item.is in
+    omega (
+      arith,
+      has_room c.loop-front.self.fresh _ _ _ _ _ next.0,
+      c.loop-front.invariant.adding.fresh_is,
+    )
 
 pub loop-front-preserved : goal.loop-front-preserved
 loop-front-preserved c = elim c.if-this-lt3.branch [
   | in-len2+in_ok-add-in-len2 w ↦
       let next =
-        two_at _ _ c.loop-front.front _ _ (positive c.loop-front.self.fresh) c.deref.ensures.value
-          w.in-len2.len_at_least w.in-len2.len_below w.a-item.is w.b-item.is in
+      two_at _ _ c.loop-front.front _ _ (positive c.loop-front.self.fresh) c.deref.ensures.value
+      w.in-len2.len_at_least w.in-len2.len_below w.a-item.is w.b-item.is in
       let taken : c.if-this-lt3.sum.1 ≡ 2 = rw w.sum-is refl in
       let sum : c.if-this-lt3.sum.0 ≡ positive c.loop-front.self.fresh =
-        rw w.sum-is w.in_ok-add-in-len2.ensures.sum in
+      rw w.sum-is w.in_ok-add-in-len2.ensures.sum in
       let pushed : c.push.new.self.items ≡ c.loop-front.column.items
-        ++ positive c.loop-front.self.fresh ∷ [] = rw sum at c.in_ok-push.ensures.items in
+      ++ positive c.loop-front.self.fresh ∷ [] = rw sum at c.in_ok-push.ensures.items in
       let fresh : c.if-this-lt3.self.fresh ≡ c.loop-front.self.fresh + 2 =
-        rw w.self-is w.in_ok-add-in-len2.ensures.fresh in
+      rw w.self-is w.in_ok-add-in-len2.ensures.fresh in
       record {
         within = rw (taken, pushed) next.1;
         from_one = omega arith;
         adding =
-          adds_cell c.loop-front.invariant.adding next.0
+            adds_cell c.loop-front.invariant.adding next.0
             (rw w.self-is w.in_ok-add-in-len2.ensures.cells)
             (rw w.self-is w.in_ok-add-in-len2.ensures.carries) fresh (rw (taken, pushed) next.2);
       }
   | in-len3-up+in_ok-add-in-len3-up w ↦
       let next =
-        three_at _ _ c.loop-front.front _ _ _ (positive c.loop-front.self.fresh)
-          c.deref.ensures.value w.in-len3-up.len_at_least w.a-item-in-loop-front.is
-          w.b-item-in-loop-front.is w.third-item.is in
+      three_at _ _ c.loop-front.front _ _ _ (positive c.loop-front.self.fresh)
+      c.deref.ensures.value w.in-len3-up.len_at_least w.a-item-in-loop-front.is
+      w.b-item-in-loop-front.is w.third-item.is in
       let taken : c.if-this-lt3.sum.1 ≡ 3 = rw w.sum-is refl in
       let sum : c.if-this-lt3.sum.0 ≡ positive c.loop-front.self.fresh =
-        rw w.sum-is w.in_ok-add-in-len3-up.ensures.sum in
+      rw w.sum-is w.in_ok-add-in-len3-up.ensures.sum in
       let pushed : c.push.new.self.items ≡ c.loop-front.column.items
-        ++ positive c.loop-front.self.fresh ∷ [] = rw sum at c.in_ok-push.ensures.items in
+      ++ positive c.loop-front.self.fresh ∷ [] = rw sum at c.in_ok-push.ensures.items in
       let fresh : c.if-this-lt3.self.fresh ≡ c.loop-front.self.fresh + 2 =
-        rw w.self-is w.in_ok-add-in-len3-up.ensures.fresh in
+      rw w.self-is w.in_ok-add-in-len3-up.ensures.fresh in
       record {
         within = rw (taken, pushed) next.1;
         from_one = omega arith;
         adding =
-          adds_cell c.loop-front.invariant.adding next.0
+            adds_cell c.loop-front.invariant.adding next.0
             (rw w.self-is w.in_ok-add-in-len3-up.ensures.cells)
             (rw w.self-is w.in_ok-add-in-len3-up.ensures.carries) fresh (rw (taken, pushed) next.2);
       }

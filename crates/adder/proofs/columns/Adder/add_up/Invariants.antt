@@ -8,8 +8,8 @@ invariant-loop-front l = record {
   within : l.front ≤ length l.column.items;
   from_one : 0 < l.self.fresh;
   adding : IsAddingUp l.initial.self.cells.items l.initial.self.carries.items
-    (column_from l.initial.self.fresh l.initial.column.items) l.self.cells.items
-    l.self.carries.items l.self.fresh (drop l.front l.column.items);
+      (column_from l.initial.self.fresh l.initial.column.items) l.self.cells.items
+      l.self.carries.items l.self.fresh (drop l.front l.column.items);
 }
 
 abbrev pub decreases-loop-front : goal.decreases-loop-front

@@ -11,7 +11,7 @@ invariant-loop-soft l =
       from_one : 0 < l.fresh;
       small : l.fresh ≤ 2 ^ 22 + 1 + l.soft-index;
       each : l.each.items ++ map relaxation_of left ≡ map relaxation_of
-        (relaxed_as l.fn.profile l.fn.instance);
+          (relaxed_as l.fn.profile l.fn.instance);
       fresh : l.fresh + length (filter (λ e. e.is_fresh) left) ≡ relaxed_variables l.fn.profile
-        l.fn.instance + 1;
+          l.fn.instance + 1;
     }

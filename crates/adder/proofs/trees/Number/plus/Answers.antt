@@ -9,27 +9,27 @@ loop-j-init c =
     let x = c.args.self.now in
     let y = c.args.other.now in
     let digits : c.digit_count-digits.result ≡ binary_length (x.most + y.most) =
-      rw (← c.self.view_is, ← c.other.view_is) c.digit_count-digits.ensures.digits in
+    rw (← c.self.view_is, ← c.other.view_is) c.digit_count-digits.ensures.digits in
     building_starts (λ j. literal_at x.bits j ++ literal_at y.bits j)
-      (binary_length (x.most + y.most)) (omega (arith, digits)) c.in_ok-bits.ensures.items
-      c.clear.ensures.items c.requires.from_one
+    (binary_length (x.most + y.most)) (omega (arith, digits)) c.in_ok-bits.ensures.items
+    c.clear.ensures.items c.requires.from_one
 
 pub add_column-requires-clause-small : goal.add_column-requires-clause-small
 add_column-requires-clause-small c =
     let more : c.digit_count-digits.result - c.loop-j.j
-        ≡ suc (c.digit_count-digits.result - (c.loop-j.j + 1)) = omega arith in
+    ≡ suc (c.digit_count-digits.result - (c.loop-j.j + 1)) = omega arith in
     rw c.in_ok-fill.ensures (column_room _ more c.loop-j.invariant c.requires.small)
 
 pub loop-j-preserved : goal.loop-j-preserved
 loop-j-preserved c =
     let more : c.digit_count-digits.result - c.loop-j.j
-        ≡ suc (c.digit_count-digits.result - (c.loop-j.j + 1)) = omega arith in
+    ≡ suc (c.digit_count-digits.result - (c.loop-j.j + 1)) = omega arith in
     builds_column _ more c.loop-j.invariant
-      (c.fill.new.column.items ++ c.loop-j.adder.carries.items)
-      (ap (λ (ls : List Literal). ls ++ c.loop-j.adder.carries.items) c.in_ok-fill.ensures)
+    (c.fill.new.column.items ++ c.loop-j.adder.carries.items)
+    (ap (λ (ls : List Literal). ls ++ c.loop-j.adder.carries.items) c.in_ok-fill.ensures)
     c.in_ok-add_column.ensures.cells
-      (rw c.in_ok-add_column.ensures.output at c.in_ok-push.ensures.items)
-      c.in_ok-add_column.ensures.fresh c.in_ok-add_column.ensures.carries refl
+    (rw c.in_ok-add_column.ensures.output at c.in_ok-push.ensures.items)
+    c.in_ok-add_column.ensures.fresh c.in_ok-add_column.ensures.carries refl
 
 pub returns-clause-bits : goal.returns-clause-bits
 returns-clause-bits c = (builds_end (omega arith) c.loop-j.invariant).1

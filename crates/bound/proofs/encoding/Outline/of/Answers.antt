@@ -12,21 +12,21 @@ pub count_cells-requires-clause-variables : goal.count_cells-requires-clause-var
 count_cells-requires-clause-variables c =
     let P : List Cell → Type 0 = λ x. All HasVariables x in
     subst P (sym (ap (λ (n : Adders). n.cells) c.in_ok-network.ensures.cells))
-      (cells_variables c.args.profile c.args.instance.now c.vars-vars.ensures.limits)
+    (cells_variables c.args.profile c.args.instance.now c.vars-vars.ensures.limits)
 
 pub overflow_add-count : goal.overflow_add-count
 overflow_add-count c =
     let p = c.args.instance.now in
     let net = c.in_ok-network.ensures.cells in
     let soft = c.in_ok-last.ensures.clauses
-      ∙ ap (λ z. z ++ kept (relaxed_clauses c.args.profile p)) c.new-relaxed.ensures in
+    ∙ ap (λ z. z ++ kept (relaxed_clauses c.args.profile p)) c.new-relaxed.ensures in
     let compared = c.in_ok-keep_comparator.ensures
-      ∙ (λ i. c.new-comparator.ensures i ++ comparator_of
-        ((c.outputs.ensures ∙ ap (λ (n : Adders). n.outputs) net) i) c.args.k) in
+    ∙ (λ i. c.new-comparator.ensures i ++ comparator_of
+    ((c.outputs.ensures ∙ ap (λ (n : Adders). n.outputs) net) i) c.args.k) in
     let small =
-      sum_small c.args.profile p c.args.k _ _ c.in_ok-network.network c.vars-vars.ensures.limits
-        soft net compared _ _ _ _ c.count_hard-hard.ensures.count c.len-soft.ensures
-        c.in_ok-cells.ensures c.len-last_part.ensures in
+    sum_small c.args.profile p c.args.k _ _ c.in_ok-network.network c.vars-vars.ensures.limits
+    soft net compared _ _ _ _ c.count_hard-hard.ensures.count c.len-soft.ensures
+    c.in_ok-cells.ensures c.len-last_part.ensures in
     omega (arith, small)
 
 pub overflow_add-count-2 : goal.overflow_add-count-2
@@ -34,14 +34,14 @@ overflow_add-count-2 c =
     let p = c.args.instance.now in
     let net = c.in_ok-network.ensures.cells in
     let soft = c.in_ok-last.ensures.clauses
-      ∙ ap (λ z. z ++ kept (relaxed_clauses c.args.profile p)) c.new-relaxed.ensures in
+    ∙ ap (λ z. z ++ kept (relaxed_clauses c.args.profile p)) c.new-relaxed.ensures in
     let compared = c.in_ok-keep_comparator.ensures
-      ∙ (λ i. c.new-comparator.ensures i ++ comparator_of
-        ((c.outputs.ensures ∙ ap (λ (n : Adders). n.outputs) net) i) c.args.k) in
+    ∙ (λ i. c.new-comparator.ensures i ++ comparator_of
+    ((c.outputs.ensures ∙ ap (λ (n : Adders). n.outputs) net) i) c.args.k) in
     let small =
-      sum_small c.args.profile p c.args.k _ _ c.in_ok-network.network c.vars-vars.ensures.limits
-        soft net compared _ _ _ _ c.count_hard-hard.ensures.count c.len-soft.ensures
-        c.in_ok-cells.ensures c.len-last_part.ensures in
+    sum_small c.args.profile p c.args.k _ _ c.in_ok-network.network c.vars-vars.ensures.limits
+    soft net compared _ _ _ _ c.count_hard-hard.ensures.count c.len-soft.ensures
+    c.in_ok-cells.ensures c.len-last_part.ensures in
     omega (arith, small)
 
 pub overflow_add-count-3 : goal.overflow_add-count-3
@@ -49,12 +49,12 @@ overflow_add-count-3 c =
     let p = c.args.instance.now in
     let net = c.in_ok-network.ensures.cells in
     let soft = c.in_ok-last.ensures.clauses
-      ∙ ap (λ z. z ++ kept (relaxed_clauses c.args.profile p)) c.new-relaxed.ensures in
+    ∙ ap (λ z. z ++ kept (relaxed_clauses c.args.profile p)) c.new-relaxed.ensures in
     let compared = c.in_ok-keep_comparator.ensures
-      ∙ (λ i. c.new-comparator.ensures i ++ comparator_of
-        ((c.outputs.ensures ∙ ap (λ (n : Adders). n.outputs) net) i) c.args.k) in
+    ∙ (λ i. c.new-comparator.ensures i ++ comparator_of
+    ((c.outputs.ensures ∙ ap (λ (n : Adders). n.outputs) net) i) c.args.k) in
     let small =
-      sum_small c.args.profile p c.args.k _ _ c.in_ok-network.network c.vars-vars.ensures.limits
-        soft net compared _ _ _ _ c.count_hard-hard.ensures.count c.len-soft.ensures
-        c.in_ok-cells.ensures c.len-last_part.ensures in
+    sum_small c.args.profile p c.args.k _ _ c.in_ok-network.network c.vars-vars.ensures.limits
+    soft net compared _ _ _ _ c.count_hard-hard.ensures.count c.len-soft.ensures
+    c.in_ok-cells.ensures c.len-last_part.ensures in
     omega (arith, small)

@@ -13,26 +13,30 @@ pub move_names-requires-clause-old_within : goal.move_names-requires-clause-old_
 move_names-requires-clause-old_within c =
     let s = c.args.self.now in
     let below =
-      subst (λ (ms : Renaming). All (λ m. m.0 < length s.store.slots) ms)
-        (sym c.pairs.ensures.pairs)
-        (moved_within s.store.slots c.compact.new.store.slots c.in_ok-moves.moves
-        c.in_ok-moves.ensures.moves) in
+    subst (λ (ms : Renaming). All (λ m. m.0 < length s.store.slots) ms)
+    (sym c.pairs.ensures.pairs)
+    (moved_within s.store.slots c.compact.new.store.slots c.in_ok-moves.moves
+    c.in_ok-moves.ensures.moves) in
     λ i d lt. omega (arith, below i d lt, c.requires.named)
 
 pub move_names-requires-clause-new_within : goal.move_names-requires-clause-new_within
 move_names-requires-clause-new_within c =
     let s = c.args.self.now in
     let below = subst (λ (ms : Renaming). All (λ m. m.1 < length c.compact.new.store.slots) ms)
-      (sym c.pairs.ensures.pairs)
-      (new_within s.store.slots c.compact.new.store.slots c.in_ok-moves.moves
-        c.in_ok-moves.ensures.moves) in
+    (sym c.pairs.ensures.pairs)
+    (new_within s.store.slots c.compact.new.store.slots c.in_ok-moves.moves
+    c.in_ok-moves.ensures.moves) in
     λ i d lt. omega (arith, below i d lt, c.places.ensures)
 
 pub move_names-requires-clause-fewer : goal.move_names-requires-clause-fewer
 move_names-requires-clause-fewer c =
-    omega (arith, c.places.ensures, c.requires.named,
-        places_few c.args.self.now.store.slots c.compact.new.store.slots
-        c.in_ok-moves.ensures.together)
+    omega (
+      arith,
+      c.places.ensures,
+      c.requires.named,
+      places_few c.args.self.now.store.slots c.compact.new.store.slots
+          c.in_ok-moves.ensures.together,
+    )
 
 pub returns-clause-runs : goal.returns-clause-runs
 returns-clause-runs c p ls r =
@@ -43,22 +47,32 @@ returns-clause-runs c p ls r =
     let m = c.in_ok-moves.ensures in
     let units = with_items s.units c.move_units.new.units in
     let n : Search =
-      record s { store = c.compact.new.store; engine = c.compact.new.self;
-        names = c.move_names.new.names; units = units } in
+    record s {
+      store = c.compact.new.store;
+      engine = c.compact.new.self;
+      names = c.move_names.new.names;
+      units = units;
+    } in
     let items : units.items ≡ c.move_units.new.units =
-      with_items_is s.units c.move_units.new.units
-        (omega (arith, c.move_units.ensures.long, c.deref_mut.ensures.len)) in
+    with_items_is s.units c.move_units.new.units
+    (omega (arith, c.move_units.ensures.long, c.deref_mut.ensures.len)) in
     let rises =
-      subst (λ (xs : Renaming). IsStrictlyIncreasing (map (λ x. x.0) xs)) c.pairs.ensures.pairs
-        c.pairs.ensures.old_rise in
+    subst (λ (xs : Renaming). IsStrictlyIncreasing (map (λ x. x.0) xs)) c.pairs.ensures.pairs
+    c.pairs.ensures.old_rise in
     let along =
-      subst (λ (xs : Renaming). NamesMoved s.names.items c.move_names.new.names.items xs)
-        c.pairs.ensures.pairs c.move_names.ensures.moved in
+    subst (λ (xs : Renaming). NamesMoved s.names.items c.move_names.new.names.items xs)
+    c.pairs.ensures.pairs c.move_names.ensures.moved in
     let moved =
-      subst (λ us. UnitsMoved s.units.items us ms) (sym items)
-        (subst (λ us. UnitsMoved us c.move_units.new.units ms) c.deref_mut.ensures.value
-        c.move_units.ensures.moved) in
+    subst (λ us. UnitsMoved s.units.items us ms) (sym items)
+    (subst (λ us. UnitsMoved us c.move_units.new.units ms) c.deref_mut.ensures.value
+    c.move_units.ensures.moved) in
     runs_compacted s n ms p ls m.moves m.together rises m.attached m.trail c.compact.ensures.same
-      c.compact.ensures.fits (c.move_names.ensures.long ∙ c.places.ensures) along
-    (ap length items ∙ c.move_units.ensures.long ∙ ap length c.deref_mut.ensures.value) moved (refl,
-        refl, refl, refl, refl, refl) r
+    c.compact.ensures.fits (c.move_names.ensures.long ∙ c.places.ensures) along
+    (ap length items ∙ c.move_units.ensures.long ∙ ap length c.deref_mut.ensures.value) moved (
+      refl,
+      refl,
+      refl,
+      refl,
+      refl,
+      refl,
+    ) r

@@ -11,8 +11,8 @@ returns-clause-runs c p ls r =
     let d = c.decide.ensures in
     runs_moved s c.decide.new.self s.order p ls r d.same.0 refl
     (run_decide s.engine c.decide.new.self s.store.slots p.stack (tables_of s) p.frozen.items
-        p.first p.given.items ls c.new.result r.running c.requires.quiet c.requires.noted d.trail
-        d.attached d.same (d.fits s.store.slots c.requires.ready.searches.fits))
+    p.first p.given.items ls c.new.result r.running c.requires.quiet c.requires.noted d.trail
+    d.attached d.same (d.fits s.store.slots c.requires.ready.searches.fits))
 
 pub returns-clause-ready : goal.returns-clause-ready
 returns-clause-ready c =
@@ -20,5 +20,5 @@ returns-clause-ready c =
     let d = c.decide.ensures in
     ready_moved s c.decide.new.self s.order c.requires.ready d.same.0 refl
     (searches_decide s.store.slots s.engine c.decide.new.self c.new.result c.requires.ready.searches
-        c.requires.quiet d.trail d.attached d.same.1
-        (d.fits s.store.slots c.requires.ready.searches.fits))
+    c.requires.quiet d.trail d.attached d.same.1
+    (d.fits s.store.slots c.requires.ready.searches.fits))

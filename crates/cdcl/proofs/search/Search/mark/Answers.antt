@@ -10,7 +10,7 @@ pub loop-reference-init : goal.loop-reference-init
 loop-reference-init c =
     marks_none c.args.self.now c.args.chosen.now c.in_ok-doomed.doomed.items
     (c.in_ok-doomed.ensures.items_if_clones_equal (search rules)
-        ∙ ap (λ n. replicate n false) c.places.ensures)
+    ∙ ap (λ n. replicate n false) c.places.ensures)
 
 pub loop-reference-preserved : goal.loop-reference-preserved
 loop-reference-preserved c =
@@ -21,16 +21,16 @@ loop-reference-preserved c =
     let q = c.loop-reference-item.result.1 in
     let at : (get_or ms i (0, 0)).1 ≡ q =
     ap (λ (p : ℕ × ℕ). p.1)
-      (sym (get_or_default ms i c.loop-reference-item.result (0, 0) c.loop-reference-test.true))
-      ∙ ap (λ (p : ℕ × ℕ). p.1) (sym c.loop-reference-item.is) in
+    (sym (get_or_default ms i c.loop-reference-item.result (0, 0) c.loop-reference-test.true))
+    ∙ ap (λ (p : ℕ × ℕ). p.1) (sym c.loop-reference-item.is) in
     elim c.if-may_delete.branch [
       | then-may_delete w ↦
           let marked =
-            marks_more s ms i l.doomed.items q l.invariant
-              (c.may_delete.ensures w.if-may_delete.true) at in
+          marks_more s ms i l.doomed.items q l.invariant
+          (c.may_delete.ensures w.if-may_delete.true) at in
           subst (AreMarked s ms (i + 1)) (sym (ap (λ v. v.items) w.doomed-is))
-            (subst (λ k. AreMarked s ms (i + 1) (set l.doomed.items k true))
-              (sym w.index.ensures) marked)
+          (subst (λ k. AreMarked s ms (i + 1) (set l.doomed.items k true))
+          (sym w.index.ensures) marked)
       | else-may_delete w ↦ subst (λ v. AreMarked s ms (i + 1) v.items) (sym w.doomed-is)
-        (marks_same s ms i l.doomed.items l.invariant)
+          (marks_same s ms i l.doomed.items l.invariant)
     ]

@@ -20,8 +20,8 @@ is_reason-requires c =
     let lits = c.lits-lits.result.now in
     let live = c.lits-lits.ensures in
     let within =
-      attached_within s.engine s.store.slots c.args.reference lits c.requires.searches.fits
-        (c.requires.searches.all_attached c.args.reference (lits, live)) live in
+    attached_within s.engine s.store.slots c.args.reference lits c.requires.searches.fits
+    (c.requires.searches.all_attached c.args.reference (lits, live)) live in
     within_all s.engine.variables lits within.1
 
 not_true : (b : Bool) → not b ≡ true → b ≡ false
@@ -36,26 +36,26 @@ returns-then-not-is_kept c e =
     let r = c.args.reference in
     let none = c.is_reason.ensures (not_true c.is_reason.result e) in
     let free =
-      no_reason (clause_at s.store.slots) s.engine.trail r lits c.requires.searches.fits.reasons
-        live (recursion_from_All (λ (l : Literal). reason_in s.engine.trail l.variable ≡ Some r
-          → ⊥) lits none) in
+    no_reason (clause_at s.store.slots) s.engine.trail r lits c.requires.searches.fits.reasons
+    live (recursion_from_All (λ (l : Literal). reason_in s.engine.trail l.variable ≡ Some r
+    → ⊥) lits none) in
     let room = live_within s.store.slots r lits live in
     let name =
-      λ (i : ℕ) (n : Name) (e : i ≡ r) (f : n ≡ get_or s.names.items i n). named_at s.names.items i
-        r n e f (omega (arith, c.requires.named)) in
+    λ (i : ℕ) (n : Name) (e : i ≡ r) (f : n ≡ get_or s.names.items i n). named_at s.names.items i
+    r n e f (omega (arith, c.requires.named)) in
     elim c.if-lits-gt2.branch [
       | then-lits-gt2 w ↦ record {
         clause = lits;
         live = live;
         long = omega (arith, w.if-lits-gt2.true);
         learned =
-          ap (is_kept_name s.kept)
+            ap (is_kept_name s.kept)
             (sym (name w.index.result w.index-then-lits-gt2.result.now w.index.ensures
-              w.index-then-lits-gt2.ensures)) ∙ sym w.is_kept.ensures
+            w.index-then-lits-gt2.ensures)) ∙ sym w.is_kept.ensures
             ∙ not_true w.is_kept.result (sym w.value-is ∙ c.if-not-is_kept.true);
         no_reason = free;
       }
       | else-lits-gt2 w ↦
-        absurd (let over = ltb-true 2 (length lits) (sym (sym c.if-not-is_kept.true ∙ w.value-is))
+          absurd (let over = ltb-true 2 (length lits) (sym (sym c.if-not-is_kept.true ∙ w.value-is))
           in omega (arith, w.if-lits-gt2.false))
     ]

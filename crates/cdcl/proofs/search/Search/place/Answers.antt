@@ -7,24 +7,24 @@ use Rattle.cdcl.proofs.search.Search.place.Goals as goal
 pub attach-requires-clause-fits : goal.attach-requires-clause-fits
 attach-requires-clause-fits c =
     subst (Fits c.args.self.now.engine) (sym (ap (λ s. s.slots) c.in_ok-reference.ensures.ok))
-      (fits_more c.args.self.now.engine (c.args.self.now.store).slots c.args.lits.now
-        c.requires.ready.searches.fits)
+    (fits_more c.args.self.now.engine (c.args.self.now.store).slots c.args.lits.now
+    c.requires.ready.searches.fits)
 
 pub attach-requires-clause-live : goal.attach-requires-clause-live
 attach-requires-clause-live c =
     new_live (c.args.self.now.store).slots c.add.new.self.slots c.args.lits.now
-      c.in_ok-reference.reference (ap (λ s. s.slots) c.in_ok-reference.ensures.ok)
-      c.in_ok-reference.ensures.reference
+    c.in_ok-reference.reference (ap (λ s. s.slots) c.in_ok-reference.ensures.ok)
+    c.in_ok-reference.ensures.reference
 
 pub attach-requires-clause-small : goal.attach-requires-clause-small
 attach-requires-clause-small c =
     new_within (c.args.self.now.store).slots c.add.new.self.slots c.args.lits.now
-      c.in_ok-reference.reference (c.args.self.now.engine).variables
-      (ap (λ s. s.slots) c.in_ok-reference.ensures.ok) c.in_ok-reference.ensures.reference
-      c.requires.within
+    c.in_ok-reference.reference (c.args.self.now.engine).variables
+    (ap (λ s. s.slots) c.in_ok-reference.ensures.ok) c.in_ok-reference.ensures.reference
+    c.requires.within
 
 pub attach-requires-clause-once : goal.attach-requires-clause-once
 attach-requires-clause-once c =
     ap (is_attached c.args.self.now.engine) c.in_ok-reference.ensures.reference
-      ∙ not_attached c.args.self.now.engine (c.args.self.now.store).slots
-      c.requires.ready.searches.fits
+    ∙ not_attached c.args.self.now.engine (c.args.self.now.store).slots
+    c.requires.ready.searches.fits

@@ -13,25 +13,25 @@ returns-in-Ok-clause-runs c p ls r =
     let s = c.args.self.now in
     let f = c.propagate.new.self in
     let works : f.failed ≡ false =
-      false_from_ne_true f.failed (λ e. false≢true (c.in-Ok.ensures.fails.1 e)) in
+    false_from_ne_true f.failed (λ e. false≢true (c.in-Ok.ensures.fails.1 e)) in
     runs_moved s f s.order p ls r c.propagate.ensures.same refl
     (run_propagate s.engine f s.store.slots p.stack (tables_of s) p.frozen.items p.first
-        p.given.items ls r.running c.propagate.ensures.grows c.propagate.ensures.attached
-        c.propagate.ensures.same works c.propagate.ensures.fits)
+    p.given.items ls r.running c.propagate.ensures.grows c.propagate.ensures.attached
+    c.propagate.ensures.same works c.propagate.ensures.fits)
 
 pub returns-in-Ok-clause-ready : goal.returns-in-Ok-clause-ready
 returns-in-Ok-clause-ready c =
     let s = c.args.self.now in
     let f = c.propagate.new.self in
     let works : f.failed ≡ false =
-      false_from_ne_true f.failed (λ e. false≢true (c.in-Ok.ensures.fails.1 e)) in
+    false_from_ne_true f.failed (λ e. false≢true (c.in-Ok.ensures.fails.1 e)) in
     ready_moved s f s.order c.requires c.propagate.ensures.same refl
     (searches_propagate s.store.slots s.engine f c.requires.searches c.propagate.ensures.grows
-        c.propagate.ensures.attached c.propagate.ensures.fits works)
+    c.propagate.ensures.attached c.propagate.ensures.fits works)
 
 pub returns-in-Ok-clause-depth : goal.returns-in-Ok-clause-depth
 returns-in-Ok-clause-depth c =
     let e = c.args.self.now.engine in
     let g = c.propagate.ensures.grows in
     ap depth_of g.1 ∙ depth_follow c.args.self.now.store.slots c.propagate.new.self
-      (literals_of e.trail) e.trail g.0 g.2
+    (literals_of e.trail) e.trail g.0 g.2

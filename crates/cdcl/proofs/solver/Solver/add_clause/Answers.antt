@@ -24,10 +24,12 @@ gives g c =
     let fixed =
     subst (λ s. All (IsFrozen s.frozen) c.args.lits.now) (sym c.self.view_is) c.requires.frozen in
     gives_solver c.self.inside.search c.give.new.search p c.give.new.problem
-      (Formula c.get-number.result) c.args.lits.now (g.S.Sink.lines c.self.inside.sink)
-      c.self.inside.refuted c.self.inside.failed
-    c.self.invariant c.if-self.false c.in-Ok.ensures.given fresh (c.get-number.ensures.from_one,
-        c.get-number.ensures.small) fixed c.requires.no_repeat
+    (Formula c.get-number.result) c.args.lits.now (g.S.Sink.lines c.self.inside.sink)
+    c.self.inside.refuted c.self.inside.failed
+    c.self.invariant c.if-self.false c.in-Ok.ensures.given fresh (
+      c.get-number.ensures.from_one,
+      c.get-number.ensures.small,
+    ) fixed c.requires.no_repeat
     c.requires.no_opposites c.are_named.ensures c.in-Ok.ensures.takes
 
 -- memory was refused
@@ -36,9 +38,9 @@ fails : (g : _) (c : In-Err g)
     c.self.inside.refuted true
 fails g c =
     fails_solver c.self.inside.search c.give.new.search c.self.inside.problem c.give.new.problem
-      (g.S.Sink.lines c.self.inside.sink) c.self.inside.refuted c.self.inside.failed
+    (g.S.Sink.lines c.self.inside.sink) c.self.inside.refuted c.self.inside.failed
     c.self.invariant c.in-Err.ensures.err c.give.ensures.stack c.give.ensures.frozen
-      c.give.ensures.first
+    c.give.ensures.first
 
 pub returns-then-self-clause-lines : goal.returns-then-self-clause-lines
 returns-then-self-clause-lines g c =

@@ -23,22 +23,22 @@ left : (g : _) (c : After-is_short g)
     (g.S.Sink.lines c.eliminate.new.sink.sink)
 left g c =
     left_from c.clauses-clauses.result.now (live_clauses c.in_ok-store.store.slots)
-      c.eliminate.new.store.slots c.in_ok-stack.stack (g.S.Sink.lines c.eliminate.new.sink.sink)
+    c.eliminate.new.store.slots c.in_ok-stack.stack (g.S.Sink.lines c.eliminate.new.sink.sink)
     (ap live_clauses c.in_ok-store.ensures ∙ live_map c.clauses-clauses.result.now)
-      c.in_ok-stack.ensures.live c.in_ok-stack.ensures.left
+    c.in_ok-stack.ensures.live c.in_ok-stack.ensures.left
 
 pub given_clauses-requires : goal.given_clauses-requires
 given_clauses-requires g c = record {
   once = subst (All (λ (x : List Literal). has_repeat x ≡ false)) (sym c.clauses-clauses.ensures)
-    (λ k d lt. (c.vars.ensures.limits.clauses k d lt).no_repeat);
+      (λ k d lt. (c.vars.ensures.limits.clauses k d lt).no_repeat);
 }
 
 pub eliminate-requires-clause-formula : goal.eliminate-requires-clause-formula
 eliminate-requires-clause-formula g c =
     formula_again c.args.formula.now (length c.args.frozen.now)
-      (live_clauses c.in_ok-store.store.slots) c.vars.ensures.limits c.requires.frozen
+    (live_clauses c.in_ok-store.store.slots) c.vars.ensures.limits c.requires.frozen
     (ap live_clauses c.in_ok-store.ensures ∙ live_map c.clauses-clauses.result.now
-        ∙ c.clauses-clauses.ensures)
+    ∙ c.clauses-clauses.ensures)
 
 pub start-requires-clause-few : goal.start-requires-clause-few
 start-requires-clause-few g c =
@@ -49,31 +49,31 @@ start-requires-clause-few g c =
 pub start-requires-clause-within : goal.start-requires-clause-within
 start-requires-clause-within g c =
     left_within c.clauses-clauses.result.now c.eliminate.new.store.slots c.in_ok-stack.stack
-      (g.S.Sink.lines c.eliminate.new.sink.sink)
-      (left g (goal.at.start-requires-clause-within g c).After-is_short)
+    (g.S.Sink.lines c.eliminate.new.sink.sink)
+    (left g (goal.at.start-requires-clause-within g c).After-is_short)
 
 pub start-requires-clause-rising : goal.start-requires-clause-rising
 start-requires-clause-rising g c =
     left_rising c.clauses-clauses.result.now c.eliminate.new.store.slots c.in_ok-stack.stack
-      (g.S.Sink.lines c.eliminate.new.sink.sink)
-      (left g (goal.at.start-requires-clause-rising g c).After-is_short)
+    (g.S.Sink.lines c.eliminate.new.sink.sink)
+    (left g (goal.at.start-requires-clause-rising g c).After-is_short)
 
 pub start-requires-clause-live : goal.start-requires-clause-live
 start-requires-clause-live g c =
     left_live c.clauses-clauses.result.now c.eliminate.new.store.slots c.in_ok-stack.stack
-      (g.S.Sink.lines c.eliminate.new.sink.sink)
-      (left g (goal.at.start-requires-clause-live g c).After-is_short)
+    (g.S.Sink.lines c.eliminate.new.sink.sink)
+    (left g (goal.at.start-requires-clause-live g c).After-is_short)
 
 pub start-requires-clause-numbers : goal.start-requires-clause-numbers
 start-requires-clause-numbers g c =
     let ls = g.S.Sink.lines c.eliminate.new.sink.sink in
     let few =
-      added_few ls c.eliminate.new.sink.additions c.eliminate.new.sink.counted c.is_short.ensures in
+    added_few ls c.eliminate.new.sink.additions c.eliminate.new.sink.counted c.is_short.ensures in
     let same = c.eliminate.new.sink.counted in
     let many = c.in_ok-given.ensures.few in
     left_numbers c.clauses-clauses.result.now c.eliminate.new.store.slots c.in_ok-stack.stack ls
-      (left g (goal.at.start-requires-clause-numbers g c).After-is_short)
-      (omega (arith, few, same, many))
+    (left g (goal.at.start-requires-clause-numbers g c).After-is_short)
+    (omega (arith, few, same, many))
 
 pub invariant_of-result : goal.invariant_of-result
 invariant_of-result g c =
@@ -85,31 +85,35 @@ invariant_of-result g c =
     let rest = left g (goal.at.invariant_of-result g c).After-is_short in
     let frozen : (c.in_ok-frozen.frozen).items ≡ c.args.frozen.now = c.in_ok-frozen.ensures.items in
     let p : Problem =
-      record { stack = c.in_ok-stack.stack; frozen = c.in_ok-frozen.frozen;
-        first = c.len-first.result; given = c.in_ok-given.given } in
+    record {
+      stack = c.in_ok-stack.stack;
+      frozen = c.in_ok-frozen.frozen;
+      first = c.len-first.result;
+      given = c.in_ok-given.given;
+    } in
     let firsts : c.len-first.result ≡ length (c.in_ok-given.given).items = search rules in
     let stays : StaysLogOver (length (c.in_ok-frozen.frozen).items) (given_of cs) ls =
-      subst (λ f. StaysLogOver (length f) (given_of cs) ls) (sym frozen)
-        (subst (λ x. StaysLogOver (length c.args.frozen.now) (given_of x) ls) e stack.lines) in
+    subst (λ f. StaysLogOver (length f) (given_of cs) ls) (sym frozen)
+    (subst (λ x. StaysLogOver (length c.args.frozen.now) (given_of x) ls) e stack.lines) in
     let few =
-      added_few ls c.eliminate.new.sink.additions c.eliminate.new.sink.counted c.is_short.ensures in
+    added_few ls c.eliminate.new.sink.additions c.eliminate.new.sink.counted c.is_short.ensures in
     record {
       problem = new_problem c.args.formula.now p cs c.vars.ensures.limits c.clauses-clauses.ensures
-        (ap length frozen ∙ c.requires.frozen) c.in_ok-given.ensures.given firsts
+          (ap length frozen ∙ c.requires.frozen) c.in_ok-given.ensures.given firsts
           (subst (λ f. length f ≤ c.in_ok-stack.stack.variables) (sym frozen) stack.variables.0)
-            (subst (λ f. c.in_ok-stack.stack.variables ≤ length f + 2 ^ 20) (sym frozen)
-              stack.variables.1);
+          (subst (λ f. c.in_ok-stack.stack.variables ≤ length f + 2 ^ 20) (sym frozen)
+          stack.variables.1);
       lines =
-        subst (λ x. StaysLogOver (length (c.in_ok-frozen.frozen).items) x ls)
+          subst (λ x. StaysLogOver (length (c.in_ok-frozen.frozen).items) x ls)
           (sym c.in_ok-given.ensures.given) stays;
       refuted_is = c.eliminate.new.sink.told;
       running =
-        λ works not_refuted. first_runs c.in_ok-search.search p ls cs slots
+          λ works not_refuted. first_runs c.in_ok-search.search p ls cs slots
           c.eliminate.new.sink.additions c.in_ok-search.ensures rest c.in_ok-given.ensures.given
           firsts stays (sym c.eliminate.new.sink.told ∙ not_refuted) c.eliminate.new.sink.counted
           few
           (subst (λ f. All (λ r. IsFree f r.variable) (c.in_ok-stack.stack).removed) (sym frozen)
-              stack.not_frozen)
+          stack.not_frozen)
           (subst (λ x. ExtendsBack c.in_ok-stack.stack x (live_clauses slots)) e stack.back)
           (λ h. stack.refuted (subst IsRefutedByHints (sym e) h));
     }
@@ -119,16 +123,22 @@ returns-clause-given g c =
     let cs = c.clauses-clauses.result.now in
     let frozen : (c.in_ok-frozen.frozen).items ≡ c.args.frozen.now = c.in_ok-frozen.ensures.items in
     let p : Problem =
-      record { stack = c.in_ok-stack.stack; frozen = c.in_ok-frozen.frozen;
-        first = c.len-first.result; given = c.in_ok-given.given } in
+    record {
+      stack = c.in_ok-stack.stack;
+      frozen = c.in_ok-frozen.frozen;
+      first = c.len-first.result;
+      given = c.in_ok-given.given;
+    } in
     let firsts : c.len-first.result ≡ length (c.in_ok-given.given).items = search rules in
     let wide : length (c.in_ok-frozen.frozen).items ≡ c.args.formula.now.variables =
-      ap length frozen ∙ c.requires.frozen in
+    ap length frozen ∙ c.requires.frozen in
     let same : map (λ x. x.1) (take c.len-first.result (c.in_ok-given.given).items)
-        ≡ c.args.formula.now.clauses = first_clauses p cs c.in_ok-given.ensures.given firsts
-      ∙ c.clauses-clauses.ensures in
-    (λ i. record { variables = wide i; clauses = same i },
-        drop_all c.len-first.result (c.in_ok-given.given).items (omega arith), frozen)
+    ≡ c.args.formula.now.clauses = first_clauses p cs c.in_ok-given.ensures.given firsts
+    ∙ c.clauses-clauses.ensures in (
+      λ i. record { variables = wide i; clauses = same i },
+      drop_all c.len-first.result (c.in_ok-given.given).items (omega arith),
+      frozen,
+    )
 
 pub returns-clause-lines : goal.returns-clause-lines
 returns-clause-lines g c =
@@ -138,17 +148,21 @@ returns-clause-lines g c =
     let stack = c.in_ok-stack.ensures in
     let frozen : (c.in_ok-frozen.frozen).items ≡ c.args.frozen.now = c.in_ok-frozen.ensures.items in
     let p : Problem =
-      record { stack = c.in_ok-stack.stack; frozen = c.in_ok-frozen.frozen;
-        first = c.len-first.result; given = c.in_ok-given.given } in
+    record {
+      stack = c.in_ok-stack.stack;
+      frozen = c.in_ok-frozen.frozen;
+      first = c.len-first.result;
+      given = c.in_ok-given.given;
+    } in
     let firsts : c.len-first.result ≡ length (c.in_ok-given.given).items = search rules in
     let stays : StaysLogOver (length (c.in_ok-frozen.frozen).items) (given_of cs) ls =
-      subst (λ f. StaysLogOver (length f) (given_of cs) ls) (sym frozen)
-        (subst (λ x. StaysLogOver (length c.args.frozen.now) (given_of x) ls) e stack.lines) in
+    subst (λ f. StaysLogOver (length f) (given_of cs) ls) (sym frozen)
+    (subst (λ x. StaysLogOver (length c.args.frozen.now) (given_of x) ls) e stack.lines) in
     let problem =
-      new_problem c.args.formula.now p cs c.vars.ensures.limits c.clauses-clauses.ensures
-        (ap length frozen ∙ c.requires.frozen) c.in_ok-given.ensures.given firsts
+    new_problem c.args.formula.now p cs c.vars.ensures.limits c.clauses-clauses.ensures
+    (ap length frozen ∙ c.requires.frozen) c.in_ok-given.ensures.given firsts
     (subst (λ f. length f ≤ c.in_ok-stack.stack.variables) (sym frozen) stack.variables.0)
-      (subst (λ f. c.in_ok-stack.stack.variables ≤ length f + 2 ^ 20) (sym frozen)
-        stack.variables.1) in
+    (subst (λ f. c.in_ok-stack.stack.variables ≤ length f + 2 ^ 20) (sym frozen)
+    stack.variables.1) in
     log_now p ls problem (subst (λ x. StaysLogOver (length (c.in_ok-frozen.frozen).items) x ls)
-        (sym c.in_ok-given.ensures.given) stays)
+    (sym c.in_ok-given.ensures.given) stays)

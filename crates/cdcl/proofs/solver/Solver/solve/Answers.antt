@@ -74,20 +74,22 @@ returns-in-Ok-Sat-clause-sat g c =
     let p = c.self.inside.problem in
     let ls = g.S.Sink.lines c.answer.new.sink in
     let a =
-      subst (IsAnswer c.answer.new.search p ls c.answer.new.budget) c.in-Ok-Sat.field-0-is
-        c.in-Ok-Sat.ensures.answers in
+    subst (IsAnswer c.answer.new.search p ls c.answer.new.budget) c.in-Ok-Sat.field-0-is
+    c.in-Ok-Sat.ensures.answers in
     subst (λ s. (length (c.in-Ok-Sat.bits).items ≡ s.formula.variables)
-        × SatisfyGiven (c.in-Ok-Sat.bits).items (given_to s)) c.self.view_is
-    (a.long, subst (SatisfyGiven (c.in-Ok-Sat.bits).items)
-        (sym (given_seen p c.self.invariant.problem)) a.satisfied)
+    × SatisfyGiven (c.in-Ok-Sat.bits).items (given_to s)) c.self.view_is (
+      a.long,
+      subst (SatisfyGiven (c.in-Ok-Sat.bits).items)
+          (sym (given_seen p c.self.invariant.problem)) a.satisfied,
+    )
 
 pub returns-in-Ok-Unsat-clause-unsat : goal.returns-in-Ok-Unsat-clause-unsat
 returns-in-Ok-Unsat-clause-unsat g c =
     let p = c.self.inside.problem in
     let ls = g.S.Sink.lines c.answer.new.sink in
     let a =
-      subst (IsAnswer c.answer.new.search p ls c.answer.new.budget) c.in-Ok-Unsat.field-0-is
-        c.in-Ok-Unsat.ensures.answers in
+    subst (IsAnswer c.answer.new.search p ls c.answer.new.budget) c.in-Ok-Unsat.field-0-is
+    c.in-Ok-Unsat.ensures.answers in
     subst (λ s. IsAcceptedLog (given_to s) ls) c.self.view_is
     (ended_log p ls c.self.invariant.problem a)
 
@@ -114,8 +116,8 @@ invariant_of-self g c =
     let p = c.self.inside.problem in
     let ls = g.S.Sink.lines c.answer.new.sink in
     let a =
-      subst (IsAnswer c.answer.new.search p ls c.answer.new.budget) c.in-Ok-Sat.field-0-is
-        c.in-Ok-Sat.ensures.answers in
+    subst (IsAnswer c.answer.new.search p ls c.answer.new.budget) c.in-Ok-Sat.field-0-is
+    c.in-Ok-Sat.ensures.answers in
     solver_runs c.answer.new.search p ls c.self.inside.refuted c.self.inside.failed
     c.self.invariant.problem a.runs c.if-self-2.false
 
@@ -124,8 +126,8 @@ invariant_of-self-in-Ok-Limit g c =
     let p = c.self.inside.problem in
     let ls = g.S.Sink.lines c.answer.new.sink in
     let a =
-      subst (IsAnswer c.answer.new.search p ls c.answer.new.budget) c.in-Ok-Limit.field-0-is
-        c.in-Ok-Limit.ensures.answers in
+    subst (IsAnswer c.answer.new.search p ls c.answer.new.budget) c.in-Ok-Limit.field-0-is
+    c.in-Ok-Limit.ensures.answers in
     solver_runs c.answer.new.search p ls c.self.inside.refuted c.self.inside.failed
     c.self.invariant.problem a.runs c.if-self-2.false
 

@@ -9,12 +9,18 @@ pub returns-in-Some : goal.returns-in-Some
 returns-in-Some c =
     let found = rw c.deref.ensures.value at c.in-Some.ensures.lookup in
     let at : slice_get c.self.inside.live.items c.args.at ≡ Some c.in-Some.live.now =
-      slice_get_read _ _ _ _ refl found.3.0 found.1 in
-    rw (← c.self.view_is, seconds-zipped head_of (λ h. h.live) (λ s b. refl) _ _ c.self.invariant,
-        at) (λ t. ap Some t, λ e. cc)
+    slice_get_read _ _ _ _ refl found.3.0 found.1 in
+    rw (
+      ← c.self.view_is,
+      seconds-zipped head_of (λ h. h.live) (λ s b. refl) _ _ c.self.invariant,
+      at,
+    ) (λ t. ap Some t, λ e. cc)
 
 pub returns-in-None : goal.returns-in-None
 returns-in-None c =
     let found = rw c.deref.ensures.value at c.in-None.ensures.lookup in
-    rw (← c.self.view_is, seconds-zipped head_of (λ h. h.live) (λ s b. refl) _ _ c.self.invariant,
-        slice_get_past _ _ found.3) (λ f. cc, λ e. cc)
+    rw (
+      ← c.self.view_is,
+      seconds-zipped head_of (λ h. h.live) (λ s b. refl) _ _ c.self.invariant,
+      slice_get_past _ _ found.3,
+    ) (λ f. cc, λ e. cc)

@@ -5,5 +5,9 @@ use Rattle.clauses.proofs.heads.Heads.len.Goals as goal
 
 pub returns : goal.returns
 returns c =
-    rw (← c.self.view_is) (omega (arith, c.len.ensures, length-zipped head_of _ _ c.self.invariant,
-        c.self.inside.spans.ok.0))
+    rw (← c.self.view_is) (omega (
+      arith,
+      c.len.ensures,
+      length-zipped head_of _ _ c.self.invariant,
+      c.self.inside.spans.ok.0,
+    ))

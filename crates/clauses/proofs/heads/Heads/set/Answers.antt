@@ -11,8 +11,13 @@ index_mut-requires c =
 pub index_mut-requires-2 : goal.index_mut-requires-2
 index_mut-requires-2 c =
     let within = rw (← c.self.view_is) at c.requires in
-    omega (arith, within, length-zipped head_of _ _ c.self.invariant, c.self.invariant,
-        c.self.inside.live.ok.0)
+    omega (
+      arith,
+      within,
+      length-zipped head_of _ _ c.self.invariant,
+      c.self.invariant,
+      c.self.inside.live.ok.0,
+    )
 
 pub returns : goal.returns
 returns c = rw (← c.self.view_is) (zipped-set head_of _ _ _ _ _)

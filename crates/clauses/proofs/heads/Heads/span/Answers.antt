@@ -14,6 +14,6 @@ pub returns : goal.returns
 returns c =
     let within = rw (← c.self.view_is) at c.requires in
     let at : slice_get c.self.inside.spans.items c.args.at ≡ Some c.index.result.now =
-      slice_get_read _ (length c.self.inside.spans.items) _ _ refl
-        (omega (arith, within, length-zipped head_of _ _ c.self.invariant)) c.index.ensures in
+    slice_get_read _ (length c.self.inside.spans.items) _ _ refl
+    (omega (arith, within, length-zipped head_of _ _ c.self.invariant)) c.index.ensures in
     rw (← c.self.view_is, firsts-zipped head_of span_of (λ s b. refl) _ _ c.self.invariant) at

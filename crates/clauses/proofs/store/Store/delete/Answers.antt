@@ -11,7 +11,7 @@ use Rattle.clauses.proofs.store.Store.delete.Goals.{After-reference, After-kill}
 within : (c : After-reference) → c.reference.inside.place < length c.self.inside.heads
 within c =
     let live : IsLive (slots_of c.self.inside.literals.items c.self.inside.heads)
-      c.reference.inside.place = rw (← c.self.view_is, ← c.reference.view_is) at c.requires in
+    c.reference.inside.place = rw (← c.self.view_is, ← c.reference.view_is) at c.requires in
     live_within c.self.inside.literals.items _ _ live
 
 pub kill-requires : goal.kill-requires
@@ -26,11 +26,14 @@ killed c h =
 pub invariant_of-self : goal.invariant_of-self
 invariant_of-self c =
     rw (killed (goal.at.invariant_of-self c).After-kill
-      (within (goal.at.invariant_of-self c).After-reference))
-      (store_deleted c.self.inside.literals.items c.self.inside.heads c.reference.inside.place _
-      no_head c.self.invariant refl refl)
+    (within (goal.at.invariant_of-self c).After-reference))
+    (store_deleted c.self.inside.literals.items c.self.inside.heads c.reference.inside.place _
+    no_head c.self.invariant refl refl)
 
 pub returns : goal.returns
-returns c = rw (killed (goal.at.returns c).After-kill (within (goal.at.returns c).After-reference),
-      ← c.self.view_is, ← c.reference.view_is)
+returns c = rw (
+  killed (goal.at.returns c).After-kill (within (goal.at.returns c).After-reference),
+  ← c.self.view_is,
+  ← c.reference.view_is,
+)
     (state_deleted c.self.inside.literals.items c.self.inside.heads _ _ refl)

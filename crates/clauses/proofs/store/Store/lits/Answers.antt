@@ -22,10 +22,10 @@ pub slice_bounds-result-end : goal.slice_bounds-result-end
 slice_bounds-result-end c =
     let h = within (goal.at.slice_bounds-result-end c).After-reference in
     let here =
-      laid_within heads 0 _ c.self.inside.heads c.reference.inside.place no_head
-        c.self.invariant.laid h in
+    laid_within heads 0 _ c.self.inside.heads c.reference.inside.place no_head
+    c.self.invariant.laid h in
     let ends : c.span-span.result.start + c.span-span.result.length
-      ≤ length c.self.inside.literals.items = rw (span_at _ _ _ h c.span-span.ensures) here in
+    ≤ length c.self.inside.literals.items = rw (span_at _ _ _ h c.span-span.ensures) here in
     let same = c.deref.ensures.value in
     search rules
 
@@ -33,5 +33,5 @@ pub returns : goal.returns
 returns c =
     let at = (goal.at.returns c).After-reference in
     rw (c.deref.ensures.value, ← c.self.view_is, ← c.reference.view_is)
-      (live_clause c.self.inside.literals.items c.self.inside.heads c.reference.inside.place
-        c.span-span.result (live at) (span_at _ _ _ (within at) c.span-span.ensures))
+    (live_clause c.self.inside.literals.items c.self.inside.heads c.reference.inside.place
+    c.span-span.result (live at) (span_at _ _ _ (within at) c.span-span.ensures))

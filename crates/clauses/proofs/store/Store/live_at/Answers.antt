@@ -16,9 +16,12 @@ returns-else-place-lt-MOST-clause-none c h =
     let by_flag = live_by_flag c.self.inside.literals.items c.self.inside.heads c.args.place in
     rw (← c.self.view_is) (none_live _ c.args.place (λ live. elim c.else-place-lt-MOST.branch [
       | else-place-lt-MOST-via-then-place-lt-MOST+else-is_live w ↦
-        true≢false (sym (w.is_live.ensures.1 (by_flag.1 live)) ∙ w.if-is_live.false)
+          true≢false (sym (w.is_live.ensures.1 (by_flag.1 live)) ∙ w.if-is_live.false)
       | else-place-lt-MOST-via-else-place-lt-MOST w ↦
-        absurd (omega (arith, w.if-place-lt-MOST.false,
+          absurd (omega (
+            arith,
+            w.if-place-lt-MOST.false,
             live_within c.self.inside.literals.items c.self.inside.heads c.args.place live,
-            c.self.invariant.few_heads))
+            c.self.invariant.few_heads,
+          ))
     ]))

@@ -17,11 +17,17 @@ returns-clause-simplified g c start h =
     let live = c.requires.live in
     let by = c.requires.live_too in
     let kept =
-      simplified_subsumed start s t slots ls r c.args.by by.0 live.0 h c.requires.going
-        c.requires.other live.1 by.1 (c.requires.subset by.0 live.0 by.1 live.1)
-    (record { vars = refl; names = refl; occurrences = refl; removals = refl; marks = refl;
-          refuted = refl }) in
+    simplified_subsumed start s t slots ls r c.args.by by.0 live.0 h c.requires.going
+    c.requires.other live.1 by.1 (c.requires.subset by.0 live.0 by.1 live.1)
+    (record {
+      vars = refl;
+      names = refl;
+      occurrences = refl;
+      removals = refl;
+      marks = refl;
+      refuted = refl;
+    }) in
     subst (λ (xs : Slots). IsSimplified start t xs (g.S.Sink.lines c.delete.new.sink))
-      (sym c.in_ok-delete.ensures.slots)
+    (sym c.in_ok-delete.ensures.slots)
     (subst (λ (ks : List LogLine). IsSimplified start t (set slots r None) ks)
-        (sym c.in_ok-delete.ensures.lines) kept)
+    (sym c.in_ok-delete.ensures.lines) kept)

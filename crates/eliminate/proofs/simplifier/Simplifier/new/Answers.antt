@@ -20,15 +20,15 @@ pub add-requires : goal.add-requires
 add-requires c =
     let vars = c.args.vars in
     let f =
-      live_all (IsFormulaClause vars) c.args.store.now.slots c.requires.clauses c.in-Some.reference
-        c.lits-lits.result.now c.lits-lits.ensures in
+    live_all (IsFormulaClause vars) c.args.store.now.slots c.requires.clauses c.in-Some.reference
+    c.lits-lits.result.now c.lits-lits.ensures in
     subst (λ n. All (HasPlace n) c.lits-lits.result.now) (sym c.loop-place.invariant.places)
-      (places_of vars c.lits-lits.result.now f.from_one f.small)
+    (places_of vars c.lits-lits.result.now f.from_one f.small)
 
 pub loop-place-init : goal.loop-place-init
 loop-place-init c =
     let rows : c.in_ok-occurrences.occurrences ≡ replicate (2 * c.args.vars) [] =
-      c.in_ok-occurrences.ensures in
+    c.in_ok-occurrences.ensures in
     record {
       rows = subst (λ (x : List (List ℕ)). AreRows x []) (sym rows) (rows_start (2 * c.args.vars));
       places = ap length rows ∙ length-replicate (2 * c.args.vars) [];
@@ -43,39 +43,39 @@ loop-place-preserved c =
     let within : i < length slots = omega arith in
     let long : length (take i slots) ≡ i = length-take-le i slots (omega arith) in
     let more : take (i + 1) slots ≡ take i slots ++ get_or slots i None ∷ [] =
-      take_more slots i None within in
+    take_more slots i None within in
     elim c.match-live_at.branch [
       | in-Some+in_ok-add-in-Some+in_ok-enter-in-Some w ↦
           let at = w.in-Some.ensures.live in
           let lits : List Literal = w.lits-lits.result.now in
           let f =
-            live_all (IsFormulaClause vars) slots c.requires.clauses w.in-Some.reference lits
-              w.lits-lits.ensures in
+          live_all (IsFormulaClause vars) slots c.requires.clauses w.in-Some.reference lits
+          w.lits-lits.ensures in
           let places : All (HasPlace (length old)) lits =
-            subst (λ n. All (HasPlace n) lits) (sym c.loop-place.invariant.places)
-              (places_of vars lits f.from_one f.small) in
+          subst (λ n. All (HasPlace n) lits) (sym c.loop-place.invariant.places)
+          (places_of vars lits f.from_one f.small) in
           let here : get_or slots i None ≡ Some lits =
-            slot_some slots i lits (ap (clause_at slots) (sym at.0) ∙ w.lits-lits.ensures) in
+          slot_some slots i lits (ap (clause_at slots) (sym at.0) ∙ w.lits-lits.ensures) in
           let added : c.match-live_at.occurrences ≡ with_clause_rows old lits
-            (length (take i slots)) = w.occurrences-is ∙ w.in_ok-add-in-Some.ensures
-            ∙ ap (with_clause_rows old lits) (at.0 ∙ sym long) in
+          (length (take i slots)) = w.occurrences-is ∙ w.in_ok-add-in-Some.ensures
+          ∙ ap (with_clause_rows old lits) (at.0 ∙ sym long) in
           record {
             rows = subst (λ (x : List (List ℕ)). AreRows x (take (i + 1) slots)) (sym added)
                 (subst (AreRows (with_clause_rows old lits (length (take i slots))))
-                    (sym (more ∙ ap (λ (o : Option (List Literal)). take i slots ++ o ∷ []) here))
+                (sym (more ∙ ap (λ (o : Option (List Literal)). take i slots ++ o ∷ []) here))
                 (rows_added old (take i slots) lits c.loop-place.invariant.rows places));
             places = ap length added ∙ rows-length old lits (length (take i slots))
-              ∙ c.loop-place.invariant.places;
+                ∙ c.loop-place.invariant.places;
           }
       | in-None w ↦
           let here : get_or slots i None ≡ None =
-            slot_none slots i (c.live_at.ensures.none w.in-None.is) in
+          slot_none slots i (c.live_at.ensures.none w.in-None.is) in
           let same : c.match-live_at.occurrences ≡ old = w.occurrences-is in
           record {
             rows = subst (λ (x : List (List ℕ)). AreRows x (take (i + 1) slots)) (sym same)
                 (subst (AreRows old)
-                    (sym (more ∙ ap (λ (o : Option (List Literal)). take i slots ++ o ∷ []) here))
-                    (rows_none old (take i slots) c.loop-place.invariant.rows));
+                (sym (more ∙ ap (λ (o : Option (List Literal)). take i slots ++ o ∷ []) here))
+                (rows_none old (take i slots) c.loop-place.invariant.rows));
             places = ap length same ∙ c.loop-place.invariant.places;
           }
     ]
@@ -85,13 +85,13 @@ returns-clause-simplified c frozen long =
     let slots : Slots = c.args.store.now.slots in
     let old : List (List ℕ) = c.loop-place.occurrences in
     let end : take c.loop-place.place slots ≡ slots =
-      take_all c.loop-place.place slots (omega arith) in
+    take_all c.loop-place.place slots (omega arith) in
     simplified_start _ c.args.vars slots frozen c.requires long (record {
       vars_are = refl;
       names = c.in_ok-of.ensures.named;
       ids = c.in_ok-of.ensures.numbers;
       rows = subst (λ (x : List (List ℕ)). AreRows x slots) (sym c.occurrences-2.view_is)
-        (subst (AreRows old) end c.loop-place.invariant.rows);
+          (subst (AreRows old) end c.loop-place.invariant.rows);
       places = ap length c.occurrences-2.view_is ∙ c.loop-place.invariant.places;
       removals = c.new-3.ensures;
       marks = c.in_ok-new.ensures.none;

@@ -14,10 +14,11 @@ index_mut-requires c =
 pub returns-clause-units : goal.returns-clause-units
 returns-clause-units c =
     makes_true c.args.self.now _ c.args.store.now.slots c.args.lit c.args.unit c.requires.units
-      c.requires.place c.requires.not_true c.requires.not_false c.requires.alone (record {
+    c.requires.place c.requires.not_true c.requires.not_false c.requires.alone (record {
       values = c.mark.ensures;
       clauses =
-        ap (λ n. set c.args.self.now.clauses.items (n - 1) c.new.result) c.variable.ensures.variable
+          ap (λ n. set c.args.self.now.clauses.items (n - 1) c.new.result)
+          c.variable.ensures.variable
           ∙ ap (set c.args.self.now.clauses.items (c.args.lit.variable - 1)) c.new.ensures;
       trail = c.in_ok-push.ensures.items;
     })
@@ -25,14 +26,17 @@ returns-clause-units c =
 pub returns-clause-progress : goal.returns-clause-progress
 returns-clause-progress c =
     let v : Units =
-      record c.args.self.now { values = c.mark.new.self;
-        clauses = with_item c.args.self.now.clauses (c.variable.result - 1) c.new.result;
-        trail = c.push.new.self } in
+    record c.args.self.now {
+      values = c.mark.new.self;
+      clauses = with_item c.args.self.now.clauses (c.variable.result - 1) c.new.result;
+      trail = c.push.new.self;
+    } in
     less_open c.args.self.now v c.args.store.now.slots c.args.lit c.args.unit c.requires.units
-      c.requires.place c.requires.not_true c.requires.not_false c.requires.alone (record {
+    c.requires.place c.requires.not_true c.requires.not_false c.requires.alone (record {
       values = c.mark.ensures;
       clauses =
-        ap (λ n. set c.args.self.now.clauses.items (n - 1) c.new.result) c.variable.ensures.variable
+          ap (λ n. set c.args.self.now.clauses.items (n - 1) c.new.result)
+          c.variable.ensures.variable
           ∙ ap (set c.args.self.now.clauses.items (c.args.lit.variable - 1)) c.new.ensures;
       trail = c.in_ok-push.ensures.items;
     })

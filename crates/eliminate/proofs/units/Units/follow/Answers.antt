@@ -14,22 +14,23 @@ loop-visits-init g c = record {
 pub visit-requires : goal.visit-requires
 visit-requires g c =
     still_propagating _ _ _ _ _ _ _ _ c.loop-visits.invariant.propagated c.requires
-      c.loop-visits.invariant.going
+    c.loop-visits.invariant.going
 
 pub returns-in_err-visit-clause-err : goal.returns-in_err-visit-clause-err
 returns-in_err-visit-clause-err g c =
     when_err _ (leaves_later _ _ _ _ _ _ _ _ c.loop-visits.invariant.propagated _
-        c.in_err-visit.ensures.err)
+    c.in_err-visit.ensures.err)
 
 pub returns-then-simplifier-clause-propagated : goal.returns-then-simplifier-clause-propagated
 returns-then-simplifier-clause-propagated g c =
     propagates_more _ _ _ _ _ _ _ _ c.loop-visits.invariant.propagated c.loop-visits.invariant.going
-      _ _ _ _ c.in_ok-visit.ensures.propagated
+    _ _ _ _ c.in_ok-visit.ensures.propagated
 
 pub loop-visits-preserved : goal.loop-visits-preserved
 loop-visits-preserved g c = record {
   propagated =
-    propagates_more _ _ _ _ _ _ _ _ c.loop-visits.invariant.propagated c.loop-visits.invariant.going
+      propagates_more _ _ _ _ _ _ _ _ c.loop-visits.invariant.propagated
+      c.loop-visits.invariant.going
       _ _ _ _ c.in_ok-visit.ensures.propagated;
   going = c.if-simplifier.false;
 }

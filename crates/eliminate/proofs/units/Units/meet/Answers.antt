@@ -15,12 +15,12 @@ use Rattle.lrat_log.proofs.Laws.{when_err}
 pub status-requires-clause-clauses : goal.status-requires-clause-clauses
 status-requires-clause-clauses g c =
     subst (λ n. AreClauses n c.args.store.now.slots) (sym c.requires.propagating.fits)
-      c.requires.propagating.simplified.1.state.work.clauses
+    c.requires.propagating.simplified.1.state.work.clauses
 
 pub assign-requires-clause-units : goal.assign-requires-clause-units
 assign-requires-clause-units g c =
     units_grown c.args.self.now c.args.store.now.slots c.unit_clause.new.store.slots
-      c.requires.propagating.units c.in_ok-unit-in-Unit.ensures.grows
+    c.requires.propagating.units c.in_ok-unit-in-Unit.ensures.grows
 
 pub assign-requires-clause-alone : goal.assign-requires-clause-alone
 assign-requires-clause-alone g c = c.in_ok-unit-in-Unit.ensures.alone
@@ -29,12 +29,12 @@ pub assign-requires-clause-place : goal.assign-requires-clause-place
 assign-requires-clause-place g c =
     let d : List Literal = c.requires.live.0 in
     let f =
-      c.requires.propagating.simplified.1.state.work.clauses c.args.reference d c.requires.live.1 in
+    c.requires.propagating.simplified.1.state.work.clauses c.args.reference d c.requires.live.1 in
     let unit = c.in-Unit.ensures d c.requires.live.1 in
     subst (λ n. HasPlace n c.in-Unit.lit)
-      (sym (c.requires.propagating.units.places ∙ ap (λ n. 2 * n) c.requires.propagating.fits))
+    (sym (c.requires.propagating.units.places ∙ ap (λ n. 2 * n) c.requires.propagating.fits))
     (member_has (HasPlace (2 * c.args.simplifier.now.vars)) d c.in-Unit.lit
-        (places_of c.args.simplifier.now.vars d f.from_one f.small) unit.member)
+    (places_of c.args.simplifier.now.vars d f.from_one f.small) unit.member)
 
 pub assign-requires-clause-not_true : goal.assign-requires-clause-not_true
 assign-requires-clause-not_true g c =
@@ -47,9 +47,9 @@ assign-requires-clause-not_false g c =
 pub returns-in_err-assign-in-Unit-clause-err : goal.returns-in_err-assign-in-Unit-clause-err
 returns-in_err-assign-in-Unit-clause-err g c =
     let logs : LeavesLog c.args.simplifier.now c.args.store.now.slots
-      (g.S.Sink.lines c.args.sink.now) (g.S.Sink.lines c.unit_clause.new.sink) = (λ start h.
+    (g.S.Sink.lines c.args.sink.now) (g.S.Sink.lines c.unit_clause.new.sink) = (λ start h.
     log_of start c.unit_clause.new.simplifier c.unit_clause.new.store.slots
-      (g.S.Sink.lines c.unit_clause.new.sink) (c.in_ok-unit-in-Unit.ensures.simplified start h)) in
+    (g.S.Sink.lines c.unit_clause.new.sink) (c.in_ok-unit-in-Unit.ensures.simplified start h)) in
     when_err _ logs
 
 pub returns-in-Settled-clause-propagated : goal.returns-in-Settled-clause-propagated
@@ -61,7 +61,7 @@ returns-in_ok-assign-in-Unit-clause-propagated g c = record {
   simplified = c.in_ok-unit-in-Unit.ensures.simplified;
   vars = c.in_ok-unit-in-Unit.ensures.going.1;
   units =
-    λ works. makes_true_grown c.args.self.now c.assign.new.self c.args.store.now.slots
+      λ works. makes_true_grown c.args.self.now c.assign.new.self c.args.store.now.slots
       c.unit_clause.new.store.slots c.in_ok-unit-in-Unit.ensures.grows
       c.in_ok-assign-in-Unit.ensures.units;
 }

@@ -22,17 +22,17 @@ loop-place-init g c = record {
 pub meet_at-requires : goal.meet_at-requires
 meet_at-requires g c =
     still_propagating _ _ _ _ _ _ _ _ c.loop-place.invariant.propagated c.requires
-      c.loop-place.invariant.going
+    c.loop-place.invariant.going
 
 pub returns-in_err-asked-clause-err : goal.returns-in_err-asked-clause-err
 returns-in_err-asked-clause-err g c =
     when_err _ (leaves_later _ _ _ _ _ _ _ _ c.loop-place.invariant.propagated _
-        c.in_err-asked.ensures.err)
+    c.in_err-asked.ensures.err)
 
 pub returns-then-simplifier-clause-propagated : goal.returns-then-simplifier-clause-propagated
 returns-then-simplifier-clause-propagated g c =
     propagates_more _ _ _ _ _ _ _ _ c.loop-place.invariant.propagated c.loop-place.invariant.going _
-      _ _ _ c.in_ok-asked.ensures.propagated
+    _ _ _ c.in_ok-asked.ensures.propagated
 
 pub returns-then-simplifier-clause-settled : goal.returns-then-simplifier-clause-settled
 returns-then-simplifier-clause-settled g c unasked = absurd (true≢false unasked)
@@ -49,7 +49,7 @@ loop-place-preserved g c =
     let made = c.in_ok-asked.ensures.propagated.units c.if-simplifier.false in
     record {
       propagated =
-        propagates_more _ _ _ _ _ _ _ _ c.loop-place.invariant.propagated
+          propagates_more _ _ _ _ _ _ _ _ c.loop-place.invariant.propagated
           c.loop-place.invariant.going _ _ _ _ c.in_ok-asked.ensures.propagated;
       going = c.if-simplifier.false;
       settled = λ unasked. elim c.if-asked.branch [
@@ -64,18 +64,18 @@ loop-place-preserved g c =
                 | inr here ↦
                     let same : i ≡ r = omega arith in
                     subst (λ (v : Units). IsSettled v.trail.items d) s.0
-                      (m.3 d (ap (λ (xs : Slots). clause_at xs i) s.1 ∙ ap (clause_at slots) same
-                          ∙ at))
+                    (m.3 d (ap (λ (xs : Slots). clause_at xs i) s.1 ∙ ap (clause_at slots) same
+                    ∙ at))
               ],
             )
       ];
       progress = λ asked. elim c.if-asked.branch [
         | then-asked w ↦ let less =
-          c.in_ok-asked.ensures.progress w.if-asked.true c.if-simplifier.false in let few =
+            c.in_ok-asked.ensures.progress w.if-asked.true c.if-simplifier.false in let few =
             (c.loop-place.invariant.propagated.units c.loop-place.invariant.going).fewer in
             omega arith
         | else-asked w ↦ let less = c.loop-place.invariant.progress (sym w.found-is ∙ asked) in
-          let few = made.fewer in omega arith
+            let few = made.fewer in omega arith
       ];
     }
 
@@ -84,9 +84,10 @@ returns-clause-propagated g c = c.loop-place.invariant.propagated
 
 pub returns-clause-settled : goal.returns-clause-settled
 returns-clause-settled g c unasked =
-    let s = c.loop-place.invariant.settled unasked in
-    (c.loop-place.invariant.going,
-        λ r d at. s.2 r d (let lt = live_within c.args.store.now.slots r d at in omega arith) at)
+    let s = c.loop-place.invariant.settled unasked in (
+      c.loop-place.invariant.going,
+      λ r d at. s.2 r d (let lt = live_within c.args.store.now.slots r d at in omega arith) at,
+    )
 
 pub returns-clause-progress : goal.returns-clause-progress
 returns-clause-progress g c asked works = c.loop-place.invariant.progress asked

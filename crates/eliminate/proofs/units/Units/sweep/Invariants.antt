@@ -11,6 +11,6 @@ invariant-loop-place g l = record {
   going : l.simplifier.is_refuted ≡ false;
   settled : l.found ≡ false → (l.self ≡ l.fn.self) × (l.store.slots ≡ l.fn.store.slots)
       × ((r : ℕ) (c : List Literal) → r < l.place → clause_at l.fn.store.slots r ≡ Some c
-          → IsSettled l.fn.self.trail.items c);
+      → IsSettled l.fn.self.trail.items c);
   progress : l.found ≡ true → open_count l.self < open_count l.fn.self;
 }

@@ -24,7 +24,7 @@ returns-then-lits-eq1-clause-alone g c =
 pub hints-requires-clause-clauses : goal.hints-requires-clause-clauses
 hints-requires-clause-clauses g c =
     subst (λ n. AreClauses n c.args.store.now.slots) (sym c.requires.propagating.fits)
-      c.requires.propagating.simplified.1.state.work.clauses
+    c.requires.propagating.simplified.1.state.work.clauses
 
 pub add-requires-clause-line : goal.add-requires-clause-line
 add-requires-clause-line g c start h =
@@ -36,14 +36,14 @@ add-requires-clause-line g c start h =
     let r = c.args.reference in
     let l : Literal = c.args.lit in
     let line = unit_addable start s slots ls c.args.self.now h c.requires.propagating.units d r at l
-      (c.requires.unit d at) in
+    (c.requires.unit d at) in
     let clause : c.push.new.self.items ≡ l ∷ [] = c.in_ok-push.ensures.items
-      ∙ ap (λ (xs : List Literal). xs ++ l ∷ []) c.clear.ensures.items in
+    ∙ ap (λ (xs : List Literal). xs ++ l ∷ []) c.clear.ensures.items in
     subst (λ (xs : List Literal). IsAddableLine start s ls
-        (record { kind = Unit; clause = xs; hints = c.in_ok-hints.hints.items })) (sym clause)
+    (record { kind = Unit; clause = xs; hints = c.in_ok-hints.hints.items })) (sym clause)
     (subst (λ (hs : List Hint). IsAddableLine start s ls
-          (record { kind = Unit; clause = l ∷ []; hints = hs }))
-        (sym (c.in_ok-hints.ensures d at)) line)
+    (record { kind = Unit; clause = l ∷ []; hints = hs }))
+    (sym (c.in_ok-hints.ensures d at)) line)
 
 pub returns-in_err-unit-clause-err : goal.returns-in_err-unit-clause-err
 returns-in_err-unit-clause-err g c =
@@ -52,9 +52,15 @@ returns-in_err-unit-clause-err g c =
     let slots : Slots = c.args.store.now.slots in
     let ls : List LogLine = g.S.Sink.lines c.args.sink.now in
     let logs : LeavesLog s slots ls (g.S.Sink.lines c.add.new.sink) =
-      (λ start h. c.in_err-unit.ensures.err start
-        (simplified_same start s t slots ls (record { vars = refl; names = refl; places = refl;
-              removals = refl; marks = refl; refuted = refl }) h.state.occurrences h)) in
+    (λ start h. c.in_err-unit.ensures.err start
+    (simplified_same start s t slots ls (record {
+      vars = refl;
+      names = refl;
+      places = refl;
+      removals = refl;
+      marks = refl;
+      refuted = refl;
+    }) h.state.occurrences h)) in
     when_err _ logs
 
 pub returns-clause-alone : goal.returns-clause-alone
@@ -62,12 +68,12 @@ returns-clause-alone g c =
     let slots : Slots = c.args.store.now.slots in
     let l : Literal = c.args.lit in
     let clause : c.push.new.self.items ≡ l ∷ [] = c.in_ok-push.ensures.items
-      ∙ ap (λ (xs : List Literal). xs ++ l ∷ []) c.clear.ensures.items in
+    ∙ ap (λ (xs : List Literal). xs ++ l ∷ []) c.clear.ensures.items in
     ap (λ xs. clause_at xs c.in_ok-unit.unit) c.in_ok-unit.ensures.slots
-      ∙ ap (clause_at (slots ++ Some c.push.new.self.items ∷ [])) c.in_ok-unit.ensures.reference
+    ∙ ap (clause_at (slots ++ Some c.push.new.self.items ∷ [])) c.in_ok-unit.ensures.reference
     ∙ clause_new slots c.push.new.self.items ∙ ap Some clause
 
 pub returns-clause-grows : goal.returns-clause-grows
 returns-clause-grows g c =
     subst (Grows c.args.store.now.slots) (sym c.in_ok-unit.ensures.slots)
-      (λ r d e. clause_kept c.args.store.now.slots c.push.new.self.items d r e)
+    (λ r d e. clause_kept c.args.store.now.slots c.push.new.self.items d r e)

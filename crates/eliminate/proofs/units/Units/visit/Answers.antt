@@ -13,22 +13,23 @@ loop-at-init g c = record {
 pub visit_at-requires : goal.visit_at-requires
 visit_at-requires g c =
     still_propagating _ _ _ _ _ _ _ _ c.loop-at.invariant.propagated c.requires
-      c.loop-at.invariant.going
+    c.loop-at.invariant.going
 
 pub returns-in_err-visit_at-clause-err : goal.returns-in_err-visit_at-clause-err
 returns-in_err-visit_at-clause-err g c =
     when_err _ (leaves_later _ _ _ _ _ _ _ _ c.loop-at.invariant.propagated _
-        c.in_err-visit_at.ensures.err)
+    c.in_err-visit_at.ensures.err)
 
 pub returns-then-simplifier-clause-propagated : goal.returns-then-simplifier-clause-propagated
 returns-then-simplifier-clause-propagated g c =
     propagates_more _ _ _ _ _ _ _ _ c.loop-at.invariant.propagated c.loop-at.invariant.going _ _ _ _
-      c.in_ok-visit_at.ensures.propagated
+    c.in_ok-visit_at.ensures.propagated
 
 pub loop-at-preserved : goal.loop-at-preserved
 loop-at-preserved g c = record {
   propagated =
-    propagates_more _ _ _ _ _ _ _ _ c.loop-at.invariant.propagated c.loop-at.invariant.going _ _ _ _
+      propagates_more _ _ _ _ _ _ _ _ c.loop-at.invariant.propagated c.loop-at.invariant.going _ _ _
+      _
       c.in_ok-visit_at.ensures.propagated;
   going = c.if-simplifier.false;
 }

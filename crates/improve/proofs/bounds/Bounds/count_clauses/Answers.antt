@@ -11,13 +11,22 @@ overflow_add-result c =
     let p = c.args.instance.now in
     let over = c.requires.over in
     let b = c.requires.bounded in
-    omega (arith, over.fixed, over.last b.1.0 b.0 b.1.1, clauses_few s.profile p b.0 over.instance,
-        length-append (fixed_clauses s.profile p) (comparator_for s.profile p b.0))
+    omega (
+      arith,
+      over.fixed,
+      over.last b.1.0 b.0 b.1.1,
+      clauses_few s.profile p b.0 over.instance,
+      length-append (fixed_clauses s.profile p) (comparator_for s.profile p b.0),
+    )
 
 pub returns : goal.returns
 returns c = λ before k e.
     let s = c.args.self.now in
     let p = c.args.instance.now in
     let over = c.requires.over in
-    omega (arith, over.fixed, over.last before k e,
-        length-append (fixed_clauses s.profile p) (comparator_for s.profile p k))
+    omega (
+      arith,
+      over.fixed,
+      over.last before k e,
+      length-append (fixed_clauses s.profile p) (comparator_for s.profile p k),
+    )

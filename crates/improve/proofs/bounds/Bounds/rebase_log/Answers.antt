@@ -18,8 +18,8 @@ rebase-requires-clause-numbers c =
     let b = c.requires.bounded in
     let w = c.in_ok-weaker in
     rw c.deref.ensures.value
-      (entries_fit c.args.instance.now c.args.self.now b.1.0 b.0 c.requires.over b.1.1 _
-        c.given-given.ensures w.weaker.items w.ensures.weaker w.ensures.few)
+    (entries_fit c.args.instance.now c.args.self.now b.1.0 b.0 c.requires.over b.1.1 _
+    c.given-given.ensures w.weaker.items w.ensures.weaker w.ensures.few)
 
 pub rebase-requires-clause-literals : goal.rebase-requires-clause-literals
 rebase-requires-clause-literals c =
@@ -27,18 +27,18 @@ rebase-requires-clause-literals c =
     let b = c.requires.bounded in
     let w = c.in_ok-weaker in
     let are =
-      entries_are c.args.instance.now s b.1.0 b.0 c.requires.over b.1.1 _ c.given-given.ensures
-        w.weaker.items w.ensures.weaker in
+    entries_are c.args.instance.now s b.1.0 b.0 c.requires.over b.1.1 _ c.given-given.ensures
+    w.weaker.items w.ensures.weaker in
     rw c.deref.ensures.value (entries_spelled c.args.instance.now s b.1.0 b.0 c.requires.over b.1.1
-        c.requires.falling w.weaker.items are)
+    c.requires.falling w.weaker.items are)
 
 pub rebase-requires-clause-room : goal.rebase-requires-clause-room
 rebase-requires-clause-room c =
     let b = c.requires.bounded in
     let w = c.in_ok-weaker in
     let count =
-      entries_count c.args.instance.now c.args.self.now b.1.0 b.0 c.requires.over b.1.1 _
-        c.given-given.ensures w.weaker.items w.ensures.weaker in
+    entries_count c.args.instance.now c.args.self.now b.1.0 b.0 c.requires.over b.1.1 _
+    c.given-given.ensures w.weaker.items w.ensures.weaker in
     omega (arith, count, w.ensures.few, ap length c.deref.ensures.value)
 
 pub rebase-requires-clause-ids : goal.rebase-requires-clause-ids
@@ -47,15 +47,15 @@ rebase-requires-clause-ids c =
     let b = c.requires.bounded in
     let w = c.in_ok-weaker in
     let count =
-      entries_count c.args.instance.now s b.1.0 b.0 c.requires.over b.1.1 _ c.given-given.ensures
-        w.weaker.items w.ensures.weaker in
+    entries_count c.args.instance.now s b.1.0 b.0 c.requires.over b.1.1 _ c.given-given.ensures
+    w.weaker.items w.ensures.weaker in
     let same = ap length c.given-given.ensures in
     let few : length (given_to s.solver) < 2 ^ 58 = omega (arith, same, w.ensures.few) in
     let short : length (s.solver).sink < 2 ^ 61 =
-      omega (arith, ap length c.sink-sink.ensures, c.is_short.ensures) in
+    omega (arith, ap length c.sink-sink.ensures, c.is_short.ensures) in
     rw (c.deref.ensures.value, c.sink-sink.ensures)
-      (solver_ids s.solver (length w.weaker.items) c.requires.over.usable few short
-        (omega (arith, count, same)))
+    (solver_ids s.solver (length w.weaker.items) c.requires.over.usable few short
+    (omega (arith, count, same)))
 
 pub returns : goal.returns
 returns c =
@@ -64,4 +64,4 @@ returns c =
     let keeps = rw (c.deref.ensures.value, c.sink-sink.ensures) at c.rebase.ensures.keeps in
     if_ok_both c.rebase.result _ _ _ lines keeps (λ log e k.
     bound_log c.args.instance.now c.args.self.now w.weaker.items log c.requires.over
-      (λ x y z u f g. w.ensures.weaker x y z (ap clauses_in c.given-given.ensures ∙ u) f g) e k)
+    (λ x y z u f g. w.ensures.weaker x y z (ap clauses_in c.given-given.ensures ∙ u) f g) e k)

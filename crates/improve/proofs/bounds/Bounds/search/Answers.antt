@@ -16,7 +16,7 @@ judge-requires-clause-feasible c = λ t x.
     let sat = rw c.in-Sat.is at c.in-Ok.ensures.sat in
     let b = c.requires.bounded in
     (bits_cheaper c.args.instance.now c.args.self.now b.1.0 b.0 c.in-Sat.bits.items c.requires.over
-        b.1.1 sat.1 t x).0
+    b.1.1 sat.1 t x).0
 
 pub returns-in-Sat-clause-next : goal.returns-in-Sat-clause-next
 returns-in-Sat-clause-next c =
@@ -28,7 +28,7 @@ returns-in-Sat-clause-next c =
     record {
       solution = c.judge.ensures.solution;
       below =
-        λ before k e. cost_cheaper p b before k c.judge.result.cost bits c.requires.over e sat.1
+          λ before k e. cost_cheaper p b before k c.judge.result.cost bits c.requires.over e sat.1
           c.judge.ensures.same;
       answers = answers;
     }
@@ -38,8 +38,10 @@ returns-in-Unsat-clause-next c =
     let accepted = rw c.in-Unsat.is at c.in-Ok.ensures.unsat in
     let answers = rw c.in-Unsat.is at c.in-Ok.ensures.answers in
     let same = same_given c.args.self.now.solver c.solve.new.self c.solve.ensures.given in
-    record { accepted = subst (λ g. IsAcceptedLog g c.solve.new.self.sink) same accepted;
-        answers = omega (arith, answers) }
+    record {
+      accepted = subst (λ g. IsAcceptedLog g c.solve.new.self.sink) same accepted;
+      answers = omega (arith, answers);
+    }
 
 pub returns-in-Limit-clause-next : goal.returns-in-Limit-clause-next
 returns-in-Limit-clause-next c =
@@ -52,7 +54,7 @@ returns-in-Limit-clause-next c =
     record {
       open_end = free (λ e. cc);
       above_zero =
-        λ before k e. above_zero k
+          λ before k e. above_zero k
           (λ z. let r = refuted (zero_refuted p b before k c.requires.over e z) in cc);
       none_left = left;
       answers = omega (arith, answers);
@@ -61,17 +63,17 @@ returns-in-Limit-clause-next c =
 pub returns-in-Sat-clause-over : goal.returns-in-Sat-clause-over
 returns-in-Sat-clause-over c =
     solved_over c.args.instance.now c.args.self.now c.solve.new.self c.requires.over
-      c.solve.ensures.given (λ f. false≢true (c.in-Ok.ensures.fails.1 f)) c.solve.ensures.lines
-      c.solve.ensures.grows c.solve.ensures.new
+    c.solve.ensures.given (λ f. false≢true (c.in-Ok.ensures.fails.1 f)) c.solve.ensures.lines
+    c.solve.ensures.grows c.solve.ensures.new
 
 pub returns-in-Unsat-clause-over : goal.returns-in-Unsat-clause-over
 returns-in-Unsat-clause-over c =
     solved_over c.args.instance.now c.args.self.now c.solve.new.self c.requires.over
-      c.solve.ensures.given (λ f. false≢true (c.in-Ok.ensures.fails.1 f)) c.solve.ensures.lines
-      c.solve.ensures.grows c.solve.ensures.new
+    c.solve.ensures.given (λ f. false≢true (c.in-Ok.ensures.fails.1 f)) c.solve.ensures.lines
+    c.solve.ensures.grows c.solve.ensures.new
 
 pub returns-in-Limit-clause-over : goal.returns-in-Limit-clause-over
 returns-in-Limit-clause-over c =
     solved_over c.args.instance.now c.args.self.now c.solve.new.self c.requires.over
-      c.solve.ensures.given (λ f. false≢true (c.in-Ok.ensures.fails.1 f)) c.solve.ensures.lines
-      c.solve.ensures.grows c.solve.ensures.new
+    c.solve.ensures.given (λ f. false≢true (c.in-Ok.ensures.fails.1 f)) c.solve.ensures.lines
+    c.solve.ensures.grows c.solve.ensures.new

@@ -9,5 +9,5 @@ invariant_of-result c =
     let n = c.grow.new.self.variables in
     let le : f.variables ≤ n = omega (arith, c.in_ok-grow.ensures.ok, c.vars.ensures.vars) in
     subst (IsBase n c.len-last.result) (sym c.in_ok-new.ensures)
-      (IsBase-start n c.len-last.result f.clauses (c.len-last.ensures ∙ ap length c.clauses.ensures)
-        (within_formula f n c.vars.ensures.limits le))
+    (IsBase-start n c.len-last.result f.clauses (c.len-last.ensures ∙ ap length c.clauses.ensures)
+    (within_formula f n c.vars.ensures.limits le))

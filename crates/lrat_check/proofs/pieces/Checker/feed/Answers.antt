@@ -10,6 +10,6 @@ returns-then-is_some-clause-stands c = λ formula bytes s.
     record {
       fed = omega (arith, inside.fed, length-append bytes c.args.piece.now);
       holds =
-        holds_more c.self.inside.reading formula bytes c.args.piece.now
+          holds_more c.self.inside.reading formula bytes c.args.piece.now
           (some_from_true _ (sym c.is_some.ensures ∙ c.if-is_some.true)) inside.holds;
     }

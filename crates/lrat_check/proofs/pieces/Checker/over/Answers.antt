@@ -5,5 +5,8 @@ use Rattle.lrat_check.proofs.pieces.Checker.over.Goals as goal
 
 pub returns-clause-stands : goal.returns-clause-stands
 returns-clause-stands c =
-    record { fed = refl; holds = starts _ c.args.formula.clauses c.in_ok-new.ensures.state
-      c.new-2.ensures.items refl }
+    record {
+      fed = refl;
+      holds = starts _ c.args.formula.clauses c.in_ok-new.ensures.state
+          c.new-2.ensures.items refl;
+    }

@@ -12,28 +12,28 @@ returns-in-Some c =
 pub returns-then-is_empty : goal.returns-then-is_empty
 returns-then-is_empty c =
     let empty =
-      empty_from_test (c.args.self.rest).items c.as_slice.result.now c.is_empty.result
-        c.as_slice.ensures.value c.is_empty.ensures c.if-is_empty.true in
+    empty_from_test (c.args.self.rest).items c.as_slice.result.now c.is_empty.result
+    c.as_slice.ensures.value c.is_empty.ensures c.if-is_empty.true in
     λ formula bytes h. c.verdict.ensures ∙ ends_empty c.args.self c.in-None.is empty formula bytes h
 
 pub returns-in-Some-fault : goal.returns-in-Some-fault
 returns-in-Some-fault c =
     let some =
-      some_from_test (c.args.self.rest).items c.as_slice.result.now c.is_empty.result
-        c.as_slice.ensures.value c.is_empty.ensures c.if-is_empty.false in
+    some_from_test (c.args.self.rest).items c.as_slice.result.now c.is_empty.result
+    c.as_slice.ensures.value c.is_empty.ensures c.if-is_empty.false in
     let judges = rw c.deref.ensures.value at c.in_ok-fault-in-None.ensures.judges in
     λ formula bytes h. ends_fault c.args.self c.in-None.is some formula bytes h c.judge.new.machine
-      c.in-Some-fault.refused
+    c.in-Some-fault.refused
     (subst (λ f. Judges c.args.self.machine (c.args.self.rest).items c.judge.new.machine f)
-        c.in-Some-fault.is judges)
+    c.in-Some-fault.is judges)
 
 pub returns : goal.returns
 returns c =
     let some =
-      some_from_test (c.args.self.rest).items c.as_slice.result.now c.is_empty.result
-        c.as_slice.ensures.value c.is_empty.ensures c.if-is_empty.false in
+    some_from_test (c.args.self.rest).items c.as_slice.result.now c.is_empty.result
+    c.as_slice.ensures.value c.is_empty.ensures c.if-is_empty.false in
     let judges = rw c.deref.ensures.value at c.in_ok-fault-in-None.ensures.judges in
     λ formula bytes h. c.verdict-in-None-fault.ensures
-      ∙ ends_open c.args.self c.in-None.is some formula bytes h c.judge.new.machine
+    ∙ ends_open c.args.self c.in-None.is some formula bytes h c.judge.new.machine
     (subst (λ f. Judges c.args.self.machine (c.args.self.rest).items c.judge.new.machine f)
-        c.in-None-fault.is judges)
+    c.in-None-fault.is judges)

@@ -7,7 +7,7 @@ abbrev pub invariant-loop-left : goal.invariant-loop-left
 invariant-loop-left l = record {
   taken : HasTaken l.fn.self l.self l.piece l.left;
   room : ((l.self).machine).lines + length ((l.self).rest).items + length l.left
-    ≤ ((l.fn.self).machine).lines + length ((l.fn.self).rest).items + length l.piece;
+      ≤ ((l.fn.self).machine).lines + length ((l.fn.self).rest).items + length l.piece;
 }
 
 abbrev pub decreases-loop-left : goal.decreases-loop-left

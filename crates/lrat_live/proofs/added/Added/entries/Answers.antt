@@ -7,5 +7,8 @@ use Rattle.lrat_live.proofs.added.Added.entries.Goals as goal
 pub returns-clause-all : goal.returns-clause-all
 returns-clause-all c =
     let s = c.self.inside in
-    rw (← c.self.view_is) (omega (arith, clauses-le s.lits.items (cells_of s.entries.items),
-          length-map s.entries.items cell_of))
+    rw (← c.self.view_is) (omega (
+      arith,
+      clauses-le s.lits.items (cells_of s.entries.items),
+      length-map s.entries.items cell_of,
+    ))

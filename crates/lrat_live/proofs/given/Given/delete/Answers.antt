@@ -8,7 +8,7 @@ use Rattle.lrat_live.proofs.given.Given.delete.Goals.{In_default}
 
 nowhere : (c : In_default)
     → listed_at (given_from 1 (c.self.inside.formula).clauses c.self.inside.flags.items) c.args.id
-      ≡ None
+    ≡ None
 nowhere c = let s = c.self.inside in
     given_none (s.formula).clauses s.flags.items c.args.id
     (rw c.deref.ensures.value at c.in_default.ensures)
@@ -20,19 +20,19 @@ pub returns-in_default-clause-left : goal.returns-in_default-clause-left
 returns-in_default-clause-left c =
     let s = c.self.inside in
     rw (← c.self.view_is)
-      (sym (without_none c.args.id (given_from 1 (s.formula).clauses s.flags.items) (nowhere c)))
+    (sym (without_none c.args.id (given_from 1 (s.formula).clauses s.flags.items) (nowhere c)))
 
 pub returns-clause-found : goal.returns-clause-found
 returns-clause-found c =
     let s = c.self.inside in
     let found = c.in-Some.ensures in
     let here =
-      given_is_some (s.formula).clauses s.flags.items c.in-Some.place c.args.id c.self.invariant
-        found.0 (rw c.deref.ensures.value at found.1) in
+    given_is_some (s.formula).clauses s.flags.items c.in-Some.place c.args.id c.self.invariant
+    found.0 (rw c.deref.ensures.value at found.1) in
     rw (← c.self.view_is, here.1) (search rules)
 
 pub returns-clause-left : goal.returns-clause-left
 returns-clause-left c =
     let s = c.self.inside in
     rw (← c.self.view_is) (given_without (s.formula).clauses s.flags.items c.in-Some.place c.args.id
-        c.in-Some.ensures.0)
+    c.in-Some.ensures.0)

@@ -7,4 +7,4 @@ pub returns : goal.returns
 returns c =
     let cs = c.args.formula.clauses in
     ap (given_from 1 cs) (c.in_ok-flags.ensures
-        ∙ ap (λ n. replicate n true) (c.len.ensures ∙ ap length c.clauses.ensures)) ∙ given_all 1 cs
+    ∙ ap (λ n. replicate n true) (c.len.ensures ∙ ap length c.clauses.ensures)) ∙ given_all 1 cs

@@ -13,9 +13,9 @@ returns-clause-all c =
     let counts : AreCounts c.count_all.new.counts.items es = c.in_ok-count_all.ensures.counts in
     let total : c.count_of-total.result ≡ times c.args.lit es =
     c.count_of-total.ensures.count
-      ∙ ap (λ xs. slice_index xs (index_of c.args.lit)) c.deref.ensures.value
-      ∙ counts c.args.lit c.count_of-total.ensures.from_one in
+    ∙ ap (λ xs. slice_index xs (index_of c.args.lit)) c.deref.ensures.value
+    ∙ counts c.args.lit c.count_of-total.ensures.from_one in
     let from_one : All (λ e. 0 < e.0) es = rw c.self.view_is c.requires in
     rw (← c.self.view_is) (c.take_all.ensures
-        ∙ ap (λ n. take_all (times_at c.args.lit es) n 0 c.args.ids.now) total
-        ∙ agrees_start c.args.lit es from_one (rises_from es c.self.invariant.0) c.args.ids.now)
+    ∙ ap (λ n. take_all (times_at c.args.lit es) n 0 c.args.ids.now) total
+    ∙ agrees_start c.args.lit es from_one (rises_from es c.self.invariant.0) c.args.ids.now)

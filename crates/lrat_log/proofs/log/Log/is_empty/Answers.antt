@@ -5,5 +5,8 @@ use Rattle.lrat_log.proofs.log.Log.is_empty.Goals as goal
 
 pub returns : goal.returns
 returns c =
-    rw (← c.self.view_is, length-lines_from 0 0 c.self.inside.heads.items c.self.inside.lits.items
-      c.self.inside.hints.items) (search rules)
+    rw (
+      ← c.self.view_is,
+      length-lines_from 0 0 c.self.inside.heads.items c.self.inside.lits.items
+          c.self.inside.hints.items,
+    ) (search rules)

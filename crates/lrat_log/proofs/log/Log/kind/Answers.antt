@@ -6,11 +6,11 @@ use Rattle.lrat_log.proofs.log.Log.kind.Goals as goal
 pub index-requires : goal.index-requires
 index-requires c =
     let h : c.args.line < length c.self.inside.heads.items =
-      below_heads _ _ _ _ _ c.self.view_is c.requires in search rules
+    below_heads _ _ _ _ _ c.self.view_is c.requires in search rules
 
 pub returns : goal.returns
 returns c =
     let h : c.args.line < length c.self.inside.heads.items =
-      below_heads _ _ _ _ _ c.self.view_is c.requires in
+    below_heads _ _ _ _ _ c.self.view_is c.requires in
     rw (← c.self.view_is) (kind-line_at 0 0 c.self.inside.heads.items c.self.inside.lits.items
-        c.self.inside.hints.items c.args.line c.index.result.now h c.index.ensures)
+    c.self.inside.hints.items c.args.line c.index.result.now h c.index.ensures)

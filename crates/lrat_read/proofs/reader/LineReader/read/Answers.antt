@@ -14,11 +14,11 @@ whole_deletion : {E : Type 0} (r : Result Form E) (s : LineState) (ts us vs : Li
 whole_deletion r s ts us vs t b n e v plain letter h =
     IfOk-weaker r (λ form. IsDeletionRead vs form s) (λ form. IsReadAs ts form s)
     (λ form k. subst (λ (w : List (List ℕ)). IsReadAs w form s)
-        (sym (e ∙ ap (λ (w : List (List ℕ)). t ∷ w) letter))
-        (k t n (v ∙ ap (λ (d : Bool). Some (d, n)) plain))) h
+    (sym (e ∙ ap (λ (w : List (List ℕ)). t ∷ w) letter))
+    (k t n (v ∙ ap (λ (d : Bool). Some (d, n)) plain))) h
 
 pub returns-in-Some : goal.returns-in-Some
 returns-in-Some c =
     whole_deletion c.read_deletion.result _ _ _ _ c.in-Number-false-default-default.ensures.0 _ _
-      c.in-Number-false-default-default.ensures.1 c.in-Number-false-default-default.ensures.2
-      c.in-Number-false-default-default.is_dashed-test c.in-Some.ensures.0 c.read_deletion.ensures
+    c.in-Number-false-default-default.ensures.1 c.in-Number-false-default-default.ensures.2
+    c.in-Number-false-default-default.is_dashed-test c.in-Some.ensures.0 c.read_deletion.ensures

@@ -6,9 +6,9 @@ use Rattle.marks.proofs.stamps.Marks.has_all.Goals as goal
 pub returns-then-not-is_marked : goal.returns-then-not-is_marked
 returns-then-not-is_marked c =
     sym (not_all c.args.self.now c.args.lits.now c.loop-lit.lit-index c.lit-item.result
-      (search rules) c.lit-item.is (search rules))
+    (search rules) c.lit-item.is (search rules))
 
 pub loop-lit-preserved : goal.loop-lit-preserved
 loop-lit-preserved c =
     all_next c.args.self.now c.args.lits.now c.loop-lit.lit-index c.lit-item.result (search rules)
-      c.lit-item.is (search rules) c.loop-lit.invariant
+    c.lit-item.is (search rules) c.loop-lit.invariant

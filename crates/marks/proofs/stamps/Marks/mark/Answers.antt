@@ -11,5 +11,5 @@ returns c =
     let p = c.self.inside.present in
     let ss = c.self.inside.stamps.items in
     map-set (λ s. s == p) ss c.index.result p
-      ∙ rw (eq-eqb p p refl, c.index.ensures.index)
-      (ap (λ xs. set xs (index_of c.args.lit) true) c.self.view_is)
+    ∙ rw (eq-eqb p p refl, c.index.ensures.index)
+    (ap (λ xs. set xs (index_of c.args.lit) true) c.self.view_is)

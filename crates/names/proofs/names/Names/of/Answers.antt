@@ -19,11 +19,11 @@ loop-place-preserved c =
     let n = c.loop-place.number in
     let i = c.loop-place.place in
     let pushed : c.push.new.self.items ≡ items ++ Formula n ∷ [] = c.in_ok-push.ensures.items
-      ∙ ap (λ k. items ++ Formula k ∷ []) c.new.ensures in
+    ∙ ap (λ k. items ++ Formula k ∷ []) c.new.ensures in
     let all : All (λ k. IsId (number_in k)) c.push.new.self.items =
-      subst (All (λ k. IsId (number_in k))) (sym pushed)
-        (All-push (λ k. IsId (number_in k)) items (Formula n) c.loop-place.invariant.numbers
-        (c.loop-place.invariant.from_one, omega arith)) in
+    subst (All (λ k. IsId (number_in k))) (sym pushed)
+    (All-push (λ k. IsId (number_in k)) items (Formula n) c.loop-place.invariant.numbers
+    (c.loop-place.invariant.from_one, omega arith)) in
     elim c.match-live_at.branch [
       | in-Some w ↦
           let at = w.in-Some.ensures.live in
@@ -34,7 +34,7 @@ loop-place-preserved c =
             few = (let f = c.loop-place.invariant.few in omega arith);
             numbers = all;
             named =
-              rw more (names_pushed items c.push.new.self.items (formula_names 1 slots) n
+                rw more (names_pushed items c.push.new.self.items (formula_names 1 slots) n
                 (n + 1) i slots pushed (names_some n i slots at.1.0 there)
                 c.loop-place.invariant.named);
           }
@@ -45,7 +45,8 @@ loop-place-preserved c =
             few = (let f = c.loop-place.invariant.few in omega arith);
             numbers = all;
             named =
-              rw same (names_pushed items c.push.new.self.items (formula_names 1 slots) n n i slots
+                rw same (names_pushed items c.push.new.self.items (formula_names 1 slots)
+                n n i slots
                 pushed (names_none n i slots (omega arith) (c.live_at.ensures.none w.in-None.is))
                 c.loop-place.invariant.named);
           }

@@ -10,5 +10,5 @@ returns-in-Ok-clause-fits c =
     let e = c.args.self.now in
     subst (λ x. Fits x slots) (sym c.in-Ok.ensures.ok)
     (fits_attach e slots c.args.reference c.requires.live.0 c.requires.once c.requires.live.1
-        (subst (λ o. IfSome o (IsWithin e.variables)) c.requires.live.1 c.requires.small)
-        c.requires.fits)
+    (subst (λ o. IfSome o (IsWithin e.variables)) c.requires.live.1 c.requires.small)
+    c.requires.fits)

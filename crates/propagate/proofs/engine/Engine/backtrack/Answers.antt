@@ -11,7 +11,7 @@ returns-clause-fits c = λ slots fits.
     let m = c.min-self-inside.result in
     let e = engine_state i.trail i.table i.pool i.waiting.items i.stable_qhead i.qhead i.failed in
     let fits' : Fits e slots =
-      subst (λ x. Fits x slots) (sym c.self.view_is) (c.promote.ensures.fits slots fits) in
+    subst (λ x. Fits x slots) (sym c.self.view_is) (c.promote.ensures.fits slots fits) in
     subst (λ (t : TrailState). Fits (engine_state t i.table i.pool i.waiting.items m m i.failed)
-        slots) (sym c.backtrack.ensures)
+    slots) (sym c.backtrack.ensures)
     (fits_backtrack e slots c.args.level m (omega (arith, c.min-self-inside.ensures)) fits')

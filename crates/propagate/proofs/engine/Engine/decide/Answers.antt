@@ -11,14 +11,14 @@ returns-clause-fits c = λ slots fits.
     let i = c.self.inside in
     let e = engine_state i.trail i.table i.pool i.waiting.items i.stable_qhead i.qhead i.failed in
     let fits' : Fits e slots =
-      subst (λ x. Fits x slots) (sym c.self.view_is) (c.promote.ensures.fits slots fits) in
+    subst (λ x. Fits x slots) (sym c.self.view_is) (c.promote.ensures.fits slots fits) in
     let trail : i.trail.assigned ≡ c.args.self.now.trail =
-      ap (λ (x : EngineState). x.trail) (c.self.view_is ∙ c.promote.ensures.shape) in
+    ap (λ (x : EngineState). x.trail) (c.self.view_is ∙ c.promote.ensures.shape) in
     let variables : i.trail.variables ≡ c.args.self.now.variables =
-      ap (λ (x : EngineState). x.variables) (c.self.view_is ∙ c.promote.ensures.shape) in
+    ap (λ (x : EngineState). x.variables) (c.self.view_is ∙ c.promote.ensures.shape) in
     let is_open : value_in i.trail.assigned c.args.lit ≡ None =
-      ap (λ T. value_in T c.args.lit) trail ∙ c.requires.open in
+    ap (λ T. value_in T c.args.lit) trail ∙ c.requires.open in
     subst (λ (t : TrailState). Fits (engine_state t i.table i.pool i.waiting.items i.stable_qhead
-          i.qhead i.failed) slots) (sym c.push.ensures.pushed)
+    i.qhead i.failed) slots) (sym c.push.ensures.pushed)
     (fits_grow e slots (made c.args.lit None) c.self.invariant.stable_qhead c.self.invariant.qhead
-        (open_at _ _ is_open) tt (c.push.ensures.from_one, omega (arith, c.requires.small)) fits')
+    (open_at _ _ is_open) tt (c.push.ensures.from_one, omega (arith, c.requires.small)) fits')

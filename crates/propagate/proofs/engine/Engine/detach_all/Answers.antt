@@ -15,7 +15,7 @@ returns-clause-fits c = λ slots fits.
     let fits' : Fits e slots = subst (λ x. Fits x slots) (sym c.self.view_is) fits in
     let none : All (λ (a : Assigned). IfSome a.reason (λ r. is_doomed doomed r ≡ false)) e.trail =
     subst (λ (x : EngineState). All
-        (λ (a : Assigned). IfSome a.reason (λ r. is_doomed doomed r ≡ false)) x.trail)
-      (sym c.self.view_is) c.requires.no_reason in
+    (λ (a : Assigned). IfSome a.reason (λ r. is_doomed doomed r ≡ false)) x.trail)
+    (sym c.self.view_is) c.requires.no_reason in
     rw (c.drop_doomed-3.ensures, c.drop_doomed-2.ensures)
-      (fits_spared e slots doomed c.drop_doomed.new.self c.drop_doomed.ensures none fits')
+    (fits_spared e slots doomed c.drop_doomed.new.self c.drop_doomed.ensures none fits')

@@ -12,9 +12,9 @@ invariant_of-self-2 c =
     let g = grown_table i.table c.args.reference in
     let e' = engine_state i.trail g i.pool i.waiting.items i.stable_qhead i.qhead i.failed in
     let inv' =
-      engine_change e g i.pool i.waiting.items c.self.invariant refl
-        (λ r one other at. c.self.invariant.watching r one other
-        (subst (λ x. IsWatching x one other) (attachment_grown i.table c.args.reference r) at)) in
+    engine_change e g i.pool i.waiting.items c.self.invariant refl
+    (λ r one other at. c.self.invariant.watching r one other
+    (subst (λ x. IsWatching x one other) (attachment_grown i.table c.args.reference r) at)) in
     rw (c.set.ensures, c.index.ensures, c.in_ok-make_room.ensures.ok)
-      (engine_set e' c.args.reference Waiting i.pool c.push.new.self.items inv' refl
-        (length-grown i.table c.args.reference) (λ one other at. absurd (cc)))
+    (engine_set e' c.args.reference Waiting i.pool c.push.new.self.items inv' refl
+    (length-grown i.table c.args.reference) (λ one other at. absurd (cc)))

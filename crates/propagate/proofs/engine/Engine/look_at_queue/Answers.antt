@@ -21,23 +21,23 @@ loop-falsified-preserved c =
     let g = f.continues in
     let s = c.in-Some.ensures in
     let long : length mid.trail ≡ length old.trail + length g.more =
-      ap length g.grown ∙ length-append old.trail g.more in
+    ap length g.grown ∙ length-append old.trail g.more in
     let lt : mid.watches.qhead < length mid.trail = let e = f.same in let b = s.0 in omega arith in
     let row =
-      subst (λ o. IfNone o (AllByRecursion (IsTrueEntry slots (literals_of mid.trail))
-          (row_at mid.watches.rows (index_of w)))) c.in_default-2.is f.done in
+    subst (λ o. IfNone o (AllByRecursion (IsTrueEntry slots (literals_of mid.trail))
+    (row_at mid.watches.rows (index_of w)))) c.in_default-2.is f.done in
     let at =
-      grown_at old.trail mid.trail g.more old.watches.qhead mid.watches.qhead w w g.grown
-        f.same s.0 s.3 in
+    grown_at old.trail mid.trail g.more old.watches.qhead mid.watches.qhead w w g.grown
+    f.same s.0 s.3 in
     let fits : Fits c.advance.new.self slots =
-      subst (λ e. Fits e slots) (sym c.advance.ensures)
-        (fits_advance mid slots w w lt at row f.fits) in
+    subst (λ e. Fits e slots) (sym c.advance.ensures)
+    (fits_advance mid slots w w lt at row f.fits) in
     record {
       continues =
-        continues_then c.args.self.now mid c.advance.new.self
+          continues_then c.args.self.now mid c.advance.new.self
           (continues_then c.args.self.now old mid c.loop-falsified.invariant.continues g)
           (subst (Continues mid) (sym c.advance.ensures)
-              (continues_progress mid mid.watches.stable_qhead (mid.watches.qhead + 1)));
+          (continues_progress mid mid.watches.stable_qhead (mid.watches.qhead + 1)));
       fits = fits;
       waiting = subst (AreTrueWaiting slots) (sym c.advance.ensures) f.waiting;
     }
@@ -45,4 +45,4 @@ loop-falsified-preserved c =
 pub returns-clause-complete : goal.returns-clause-complete
 returns-clause-complete c =
     complete c.loop-falsified.self c.args.store.now.slots c.in_default.ensures
-      c.loop-falsified.invariant.waiting c.loop-falsified.invariant.fits
+    c.loop-falsified.invariant.waiting c.loop-falsified.invariant.fits

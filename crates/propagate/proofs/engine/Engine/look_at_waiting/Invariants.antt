@@ -10,5 +10,5 @@ invariant-loop-at l = record {
   fits : Fits l.self l.store.slots;
   list : l.self.watches.waiting ≡ l.initial.self.watches.waiting;
   seen : (r : ℕ) → Contains (take l.at l.initial.self.watches.waiting) r
-    → IsTrueWaiting l.store.slots l.self r;
+      → IsTrueWaiting l.store.slots l.self r;
 }

@@ -19,7 +19,7 @@ module _ (c : goal.After-rename-2) where
 
   moved : IsMoved c.self.inside.table c.move_attachments.new.table c.args.moves.now
   moved =
-    subst (λ (ms : Renaming). IsMoved c.self.inside.table c.move_attachments.new.table ms)
+      subst (λ (ms : Renaming). IsMoved c.self.inside.table c.move_attachments.new.table ms)
       c.pairs.ensures.pairs c.move_attachments.ensures
 
   waiting : (with_items c.self.inside.waiting c.rename_references.new.references).items
@@ -31,13 +31,13 @@ module _ (c : goal.After-rename-2) where
 pub returns-clause-attached : goal.returns-clause-attached
 returns-clause-attached c =
     (all_renamed c.args.self.now c.args.moves.now c.self.inside.trail c.rename-2.new.self
-      c.self.inside.table _ c.self.inside.pool c.rename.new.self c.self.inside.waiting.items _
+    c.self.inside.table _ c.self.inside.pool c.rename.new.self c.self.inside.waiting.items _
     c.self.inside.stable_qhead c.self.inside.qhead c.self.inside.failed c.self.view_is
-      c.rename-2.ensures c.rename.ensures (waiting c)
+    c.rename-2.ensures c.rename.ensures (waiting c)
     (subst (λ (ms : Renaming). IsStrictlyIncreasing (map (λ m. m.0) ms)) c.pairs.ensures.pairs
-        c.pairs.ensures.old_rise)
+    c.pairs.ensures.old_rise)
     (subst (λ (ms : Renaming). IsStrictlyIncreasing (map (λ m. m.1) ms)) c.pairs.ensures.pairs
-        c.pairs.ensures.new_rise)
+    c.pairs.ensures.new_rise)
     (moved c) c.requires.listed).1
 
 pub returns-clause-trail : goal.returns-clause-trail
@@ -45,18 +45,18 @@ returns-clause-trail c =
     ap (λ (t : TrailState). t.assigned) c.rename-2.ensures
     ∙ ap (λ (e : EngineState). named_trail c.args.moves.now e.trail) c.self.view_is
     ∙ trail_listed c.args.moves.now c.args.self.now.trail
-      (recursion_from_All
-        (λ (a : Assigned). IfSome a.reason (λ r. (q : ℕ) × (renamed c.args.moves.now r ≡ Some q)))
-        c.args.self.now.trail c.requires.reasons)
+    (recursion_from_All
+    (λ (a : Assigned). IfSome a.reason (λ r. (q : ℕ) × (renamed c.args.moves.now r ≡ Some q)))
+    c.args.self.now.trail c.requires.reasons)
 
 pub returns-clause-fits : goal.returns-clause-fits
 returns-clause-fits c =
     (all_renamed c.args.self.now c.args.moves.now c.self.inside.trail c.rename-2.new.self
-      c.self.inside.table _ c.self.inside.pool c.rename.new.self c.self.inside.waiting.items _
+    c.self.inside.table _ c.self.inside.pool c.rename.new.self c.self.inside.waiting.items _
     c.self.inside.stable_qhead c.self.inside.qhead c.self.inside.failed c.self.view_is
-      c.rename-2.ensures c.rename.ensures (waiting c)
+    c.rename-2.ensures c.rename.ensures (waiting c)
     (subst (λ (ms : Renaming). IsStrictlyIncreasing (map (λ m. m.0) ms)) c.pairs.ensures.pairs
-        c.pairs.ensures.old_rise)
+    c.pairs.ensures.old_rise)
     (subst (λ (ms : Renaming). IsStrictlyIncreasing (map (λ m. m.1) ms)) c.pairs.ensures.pairs
-        c.pairs.ensures.new_rise)
+    c.pairs.ensures.new_rise)
     (moved c) c.requires.listed).2

@@ -13,14 +13,16 @@ invariant_of-self-2 c =
     let e = engine_state i.trail i.table i.pool i.waiting.items i.stable_qhead i.qhead i.failed in
     let variables = ap (λ (x : EngineState). x.variables) c.self.view_is in
     let lt : r < length i.table =
-      kept_within i.table r (ap (λ (x : EngineState). is_attached x r) c.self.view_is
-        ∙ ap is_kept c.requires.watching.2) in
+    kept_within i.table r (ap (λ (x : EngineState). is_attached x r) c.self.view_is
+    ∙ ap is_kept c.requires.watching.2) in
     let long : length c.push.new.self ≡ length i.pool = ap length c.in_ok-push.ensures.ok
-      ∙ length-set _ _ _ in
+    ∙ length-set _ _ _ in
     rw c.rewatch.ensures (engine_set e r (Watching c.args.lit c.args.other _) c.push.new.self
-        i.waiting.items c.self.invariant long lt
+    i.waiting.items c.self.invariant long lt
     (λ one other at.
     let a : one ≡ c.args.lit = cc in
     let b : other ≡ c.args.other = cc in
-    rw (a, b) ((c.requires.lit.0, omega (arith, c.requires.lit.1)),
-        (c.requires.other.0, omega (arith, c.requires.other.1)))))
+    rw (a, b) (
+      (c.requires.lit.0, omega (arith, c.requires.lit.1)),
+      (c.requires.other.0, omega (arith, c.requires.other.1)),
+    )))

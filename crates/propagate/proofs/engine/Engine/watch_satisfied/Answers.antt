@@ -17,33 +17,33 @@ use Rattle.propagate.proofs.engine.Engine.watch_satisfied.Goals.{After-lits-lits
 module _ (c : After-lits-lits) where
   member : contains_literal c.args.one c.lits-lits.result.now ≡ true
   member =
-    subst (λ o. IfSome o (λ x. contains_literal c.args.one x ≡ true)) c.lits-lits.ensures
+      subst (λ o. IfSome o (λ x. contains_literal c.args.one x ≡ true)) c.lits-lits.ensures
       c.requires.member
 
 pub find_other_of_level-requires : goal.find_other_of_level-requires
 find_other_of_level-requires c =
     waiting_all _ c.args.self.now c.args.store.now.slots c.args.reference c.lits-lits.result.now
-      (ap (λ (x : EngineState). x.variables) c.self.view_is) c.requires.fits c.requires.waits
-      c.lits-lits.ensures
+    (ap (λ (x : EngineState). x.variables) c.self.view_is) c.requires.fits c.requires.waits
+    c.lits-lits.ensures
 
 pub watch-requires-clause-one : goal.watch-requires-clause-one
 watch-requires-clause-one c =
     waiting_variable c.args.self.now c.args.store.now.slots c.args.reference c.lits-lits.result.now
-      c.args.one c.requires.fits c.requires.waits c.lits-lits.ensures
-      (member (goal.at.watch-requires-clause-one c).After-lits-lits)
+    c.args.one c.requires.fits c.requires.waits c.lits-lits.ensures
+    (member (goal.at.watch-requires-clause-one c).After-lits-lits)
 
 pub watch-requires-clause-other : goal.watch-requires-clause-other
 watch-requires-clause-other c =
     waiting_variable c.args.self.now c.args.store.now.slots c.args.reference c.lits-lits.result.now
-      c.in-Some.other c.requires.fits c.requires.waits c.lits-lits.ensures c.in-Some.ensures.0
+    c.in-Some.other c.requires.fits c.requires.waits c.lits-lits.ensures c.in-Some.ensures.0
 
 pub returns-in-Some-clause-continues : goal.returns-in-Some-clause-continues
 returns-in-Some-clause-continues c =
     let now = c.args.self.now in
     subst (Continues now) (sym c.in_ok-watch.ensures.ok.2)
-      (continues_attachment now c.args.reference
-        (Watching c.args.one c.in-Some.other c.in_ok-watch.ensures.ok.0) _
-        (ap is_kept c.requires.waits) refl (λ e. (cc)))
+    (continues_attachment now c.args.reference
+    (Watching c.args.one c.in-Some.other c.in_ok-watch.ensures.ok.0) _
+    (ap is_kept c.requires.waits) refl (λ e. (cc)))
 
 pub returns-in-Some-clause-fits : goal.returns-in-Some-clause-fits
 returns-in-Some-clause-fits c =
@@ -55,22 +55,22 @@ returns-in-Some-clause-fits c =
     let trail = ap (λ (x : EngineState). x.trail) c.self.view_is in
     let at : level_in now.trail other.variable ≡ Some (depth_of now.trail) =
     ap (λ T. level_in T other.variable) (sym trail) ∙ c.in-Some.ensures.2
-      ∙ ap Some (c.depth-depth.ensures ∙ ap depth_of trail) in
+    ∙ ap Some (c.depth-depth.ensures ∙ ap depth_of trail) in
     subst (λ e. Fits e slots) (sym c.in_ok-watch.ensures.ok.2)
     (fits_watch now slots c.args.reference lits c.args.one other c.in_ok-watch.ensures.ok.0
-        (subst IsEngine c.self.view_is c.self.invariant) c.requires.fits c.requires.waits
-        c.lits-lits.ensures
+    (subst IsEngine c.self.view_is c.self.invariant) c.requires.fits c.requires.waits
+    c.lits-lits.ensures
     (λ e. c.in-Some.ensures.1 (sym e))
-      (true_watch now slots lits c.args.one c.requires.fits m c.requires.is_true)
+    (true_watch now slots lits c.args.one c.requires.fits m c.requires.is_true)
     (level_watch now lits c.args.one other m c.requires.is_true c.in-Some.ensures.0 at)
-      c.in_ok-watch.ensures.ok.1)
+    c.in_ok-watch.ensures.ok.1)
 
 pub returns-then-depth-eq0-clause-continues : goal.returns-then-depth-eq0-clause-continues
 returns-then-depth-eq0-clause-continues c =
     let now = c.args.self.now in
     subst (Continues now) (sym c.set_satisfied.ensures)
-      (continues_attachment now c.args.reference Satisfied _ (ap is_kept c.requires.waits) refl
-        (λ e. (cc)))
+    (continues_attachment now c.args.reference Satisfied _ (ap is_kept c.requires.waits) refl
+    (λ e. (cc)))
 
 pub returns-then-depth-eq0-clause-fits : goal.returns-then-depth-eq0-clause-fits
 returns-then-depth-eq0-clause-fits c =
@@ -79,7 +79,7 @@ returns-then-depth-eq0-clause-fits c =
     let m = member (goal.at.returns-then-depth-eq0-clause-fits c).After-lits-lits in
     let trail = ap (λ (x : EngineState). x.trail) c.self.view_is in
     let zero : depth_of now.trail ≡ 0 = sym (c.depth-depth.ensures ∙ ap depth_of trail)
-      ∙ c.if-depth-eq0.true in
+    ∙ c.if-depth-eq0.true in
     subst (λ e. Fits e slots) (sym c.set_satisfied.ensures)
-      (fits_satisfied now slots c.args.reference c.lits-lits.result.now c.requires.fits
-        c.requires.waits c.lits-lits.ensures zero (c.args.one, m, c.requires.is_true))
+    (fits_satisfied now slots c.args.reference c.lits-lits.result.now c.requires.fits
+    c.requires.waits c.lits-lits.ensures zero (c.args.one, m, c.requires.is_true))

@@ -7,7 +7,7 @@ pub invariant_of-result : goal.invariant_of-result
 invariant_of-result c =
     rw c.in_ok-literals.ensures.items (trail_none c.args.variables _ _ _ _ _
     (resized _ _ _ _ c.new.result c.new-values.ensures.items c.new-values.ensures.len
-        c.in_ok-resize.ensures.items ∙ ap (replicate (2 * c.args.variables)) c.new.ensures)
+    c.in_ok-resize.ensures.items ∙ ap (replicate (2 * c.args.variables)) c.new.ensures)
     (ap (λ (m : VarTableState). m.levels) c.in_ok-vardata.ensures)
     (ap (λ (m : VarTableState). m.positions) c.in_ok-vardata.ensures)
     (ap (λ (m : VarTableState). m.reasons) c.in_ok-vardata.ensures)

@@ -10,11 +10,11 @@ returns-in-Some c =
     let i = c.self.inside in
     let T = assigned_by i.vardata.reasons i.literals.items in
     let h =
-      mentioned T c.args.variable c.in-Some.field-0 (sym (c.self.invariant.level_of c.args.variable)
-        ∙ sym c.level.ensures ∙ c.in-Some.is) in
+    mentioned T c.args.variable c.in-Some.field-0 (sym (c.self.invariant.level_of c.args.variable)
+    ∙ sym c.level.ensures ∙ c.in-Some.is) in
     c.reason.ensures
     ∙ sym (reason-assigned i.vardata.reasons i.literals.items c.args.variable
-        (rw literals_of-assigned at h))
+    (rw literals_of-assigned at h))
     ∙ ap (λ (t : TrailState). reason_in t.assigned c.args.variable) c.self.view_is
 
 pub returns-in-None : goal.returns-in-None
@@ -22,6 +22,6 @@ returns-in-None c =
     let i = c.self.inside in
     let T = assigned_by i.vardata.reasons i.literals.items in
     let h = unmentioned T c.args.variable (sym (c.self.invariant.level_of c.args.variable)
-        ∙ sym c.level.ensures ∙ c.in-None.is) in
+    ∙ sym c.level.ensures ∙ c.in-None.is) in
     sym (reason_none T c.args.variable h)
-      ∙ ap (λ (t : TrailState). reason_in t.assigned c.args.variable) c.self.view_is
+    ∙ ap (λ (t : TrailState). reason_in t.assigned c.args.variable) c.self.view_is

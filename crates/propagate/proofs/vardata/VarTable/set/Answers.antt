@@ -8,7 +8,7 @@ pub returns-clause-levels : goal.returns-clause-levels
 returns-clause-levels c =
     map-set (λ (m : VarData). m.level) c.self.inside.vardata.items c.args.variable _
     ∙ ap (set (map (λ (m : VarData). m.level) c.self.inside.vardata.items) c.args.variable)
-      c.new.ensures
+    c.new.ensures
     ∙ ap (λ (m : VarTableState). set m.levels c.args.variable (Some c.args.level)) c.self.view_is
 
 pub returns-clause-positions : goal.returns-clause-positions
@@ -20,5 +20,5 @@ pub returns-clause-reasons : goal.returns-clause-reasons
 returns-clause-reasons c =
     map-set (λ (m : VarData). m.reason) c.self.inside.vardata.items c.args.variable _
     ∙ ap (set (map (λ (m : VarData). m.reason) c.self.inside.vardata.items) c.args.variable)
-      c.new-2.ensures
+    c.new-2.ensures
     ∙ ap (λ (m : VarTableState). set m.reasons c.args.variable c.args.reason) c.self.view_is

@@ -7,4 +7,4 @@ use Rattle.watches.proofs.pool.WatchPool.drop_doomed_of.Given as goal
 abbrev pub invariant-loop-read : goal.invariant-loop-read
 invariant-loop-read l =
     IsSieved (λ (w : Entry). not (is_doomed l.doomed w.reference)) l.fn.self l.self l.row
-      l.write l.read
+    l.write l.read

@@ -6,4 +6,4 @@ pub returns : goal.returns
 returns c =
     let i = c.self.inside in let v = c.loop-place.invariant in
     rows_same i.block c.loop-place.next i.heads.items i.used c.self.invariant (omega arith)
-      (λ k lt. v.copied k (omega arith)) ∙ c.self.view_is
+    (λ k lt. v.copied k (omega arith)) ∙ c.self.view_is

@@ -9,20 +9,20 @@ pub returns-clause-added : goal.returns-clause-added
 returns-clause-added c _ =
     let i = c.self.inside in let laid = c.self.invariant in
     let li : c.args.row < length i.heads.items =
-      omega (arith, long_rows i.block i.heads.items, ap length c.self.view_is) in
+    omega (arith, long_rows i.block i.heads.items, ap length c.self.view_is) in
     let is : c.index.result.now ≡ get_or i.heads.items c.args.row no_head =
-      get_or_read i.heads.items c.args.row c.index.result.now li c.index.ensures no_head in
+    get_or_read i.heads.items c.args.row c.index.result.now li c.index.ensures no_head in
     let is' : c.index_mut.result.now ≡ get_or i.heads.items c.args.row no_head =
-      get_or_read i.heads.items c.args.row c.index_mut.result.now li c.index_mut.ensures.value
-        no_head in
+    get_or_read i.heads.items c.args.row c.index_mut.result.now li c.index_mut.ensures.value
+    no_head in
     let room : (get_or i.heads.items c.args.row no_head).length
-      < (get_or i.heads.items c.args.row no_head).room =
+    < (get_or i.heads.items c.args.row no_head).room =
     rw (← is) (let f : c.index.result.now.length ≤ c.index.result.now.room = rw is
-        (laid.filled c.args.row li) in omega arith) in
+    (laid.filled c.args.row li) in omega arith) in
     let start : c.index.result.now.start ≡ (get_or i.heads.items c.args.row no_head).start =
-      ap (λ (r : Head). r.start) is in
+    ap (λ (r : Head). r.start) is in
     let long : c.index.result.now.length ≡ (get_or i.heads.items c.args.row no_head).length =
-      ap (λ (r : Head). r.length) is in
+    ap (λ (r : Head). r.length) is in
     rw (c.set.ensures, start, long, ← c.self.view_is)
     (rows_put i.block i.heads.items i.used laid c.args.row c.args.entry.now _ li room
-        (ap (λ (r : Head). r.start) is') refl)
+    (ap (λ (r : Head). r.start) is') refl)

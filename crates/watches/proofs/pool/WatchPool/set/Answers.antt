@@ -8,11 +8,14 @@ pub returns : goal.returns
 returns c =
     let i = c.self.inside in let laid = c.self.invariant in
     let li : c.args.row < length i.heads.items =
-      omega (arith, long_rows i.block i.heads.items, ap length c.self.view_is) in
+    omega (arith, long_rows i.block i.heads.items, ap length c.self.view_is) in
     let is : get_or i.heads.items c.args.row no_head ≡ c.index.result.now =
-      sym (get_or_read i.heads.items c.args.row c.index.result.now li c.index.ensures no_head) in
+    sym (get_or_read i.heads.items c.args.row c.index.result.now li c.index.ensures no_head) in
     let lk : c.args.i < (get_or i.heads.items c.args.row no_head).length =
-    omega (arith, long_row i.block i.heads.items i.used laid c.args.row li,
-        ap (λ v. length (get_or v c.args.row [])) c.self.view_is) in
+    omega (
+      arith,
+      long_row i.block i.heads.items i.used laid c.args.row li,
+      ap (λ v. length (get_or v c.args.row [])) c.self.view_is,
+    ) in
     rw (c.set.ensures, ← is, ← c.self.view_is)
-      (rows_set i.block i.heads.items i.used laid c.args.row c.args.i c.args.entry li lk)
+    (rows_set i.block i.heads.items i.used laid c.args.row c.args.i c.args.entry li lk)

@@ -9,12 +9,16 @@ pub returns-then-len-index : goal.returns-then-len-index
 returns-then-len-index c =
     let i = c.self.inside in let laid = c.self.invariant in
     let li : c.args.row < length i.heads.items =
-      omega (arith, long_rows i.block i.heads.items, ap length c.self.view_is) in
+    omega (arith, long_rows i.block i.heads.items, ap length c.self.view_is) in
     let is : c.index_mut.result.now ≡ get_or i.heads.items c.args.row no_head =
-      get_or_read i.heads.items c.args.row c.index_mut.result.now li c.index_mut.ensures.value
-        no_head in
+    get_or_read i.heads.items c.args.row c.index_mut.result.now li c.index_mut.ensures.value
+    no_head in
     let lk : c.args.len ≤ (get_or i.heads.items c.args.row no_head).length =
-    omega (arith, long_row i.block i.heads.items i.used laid c.args.row li,
-        ap (λ v. length (get_or v c.args.row [])) c.self.view_is, c.requires.shorter) in
+    omega (
+      arith,
+      long_row i.block i.heads.items i.used laid c.args.row li,
+      ap (λ v. length (get_or v c.args.row [])) c.self.view_is,
+      c.requires.shorter,
+    ) in
     rw (← c.self.view_is) (rows_truncate i.block i.heads.items i.used laid c.args.row c.args.len _
-        li (ap (λ (r : Head). r.start) is) refl lk)
+    li (ap (λ (r : Head). r.start) is) refl lk)

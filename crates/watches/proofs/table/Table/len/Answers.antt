@@ -6,6 +6,10 @@ use Rattle.watches.proofs.table.Table.len.Goals as goal
 pub returns : goal.returns
 returns c =
     let i = c.self.inside in
-    omega (arith, c.len.ensures, i.kinds.ok.0,
-        length-zipped attachment_of i.kinds.items i.pairs.items c.self.invariant,
-        ap length c.self.view_is)
+    omega (
+      arith,
+      c.len.ensures,
+      i.kinds.ok.0,
+      length-zipped attachment_of i.kinds.items i.pairs.items c.self.invariant,
+      ap length c.self.view_is,
+    )

@@ -10,35 +10,60 @@ use Rattle.watches.proofs.table.Table.set.Goals as goal
 
 pub index_mut-requires : goal.index_mut-requires
 index_mut-requires c = let i = c.self.inside in
-    omega (arith, c.requires, ap length c.self.view_is,
-      length-zipped attachment_of i.kinds.items i.pairs.items c.self.invariant, i.kinds.ok.0)
+    omega (
+      arith,
+      c.requires,
+      ap length c.self.view_is,
+      length-zipped attachment_of i.kinds.items i.pairs.items c.self.invariant,
+      i.kinds.ok.0,
+    )
 
 pub index_mut-requires-in-Waiting : goal.index_mut-requires-in-Waiting
 index_mut-requires-in-Waiting c = let i = c.self.inside in
-    omega (arith, c.requires, ap length c.self.view_is,
-      length-zipped attachment_of i.kinds.items i.pairs.items c.self.invariant, i.kinds.ok.0)
+    omega (
+      arith,
+      c.requires,
+      ap length c.self.view_is,
+      length-zipped attachment_of i.kinds.items i.pairs.items c.self.invariant,
+      i.kinds.ok.0,
+    )
 
 pub index_mut-requires-in-Satisfied : goal.index_mut-requires-in-Satisfied
 index_mut-requires-in-Satisfied c = let i = c.self.inside in
-    omega (arith, c.requires, ap length c.self.view_is,
-      length-zipped attachment_of i.kinds.items i.pairs.items c.self.invariant, i.kinds.ok.0)
+    omega (
+      arith,
+      c.requires,
+      ap length c.self.view_is,
+      length-zipped attachment_of i.kinds.items i.pairs.items c.self.invariant,
+      i.kinds.ok.0,
+    )
 
 pub index_mut-requires-in-Watching : goal.index_mut-requires-in-Watching
 index_mut-requires-in-Watching c = let i = c.self.inside in
-    omega (arith, c.requires, ap length c.self.view_is,
-      length-zipped attachment_of i.kinds.items i.pairs.items c.self.invariant, i.kinds.ok.0)
+    omega (
+      arith,
+      c.requires,
+      ap length c.self.view_is,
+      length-zipped attachment_of i.kinds.items i.pairs.items c.self.invariant,
+      i.kinds.ok.0,
+    )
 
 pub index_mut-requires-in-Watching-2 : goal.index_mut-requires-in-Watching-2
 index_mut-requires-in-Watching-2 c = let i = c.self.inside in
-    omega (arith, c.requires, ap length c.self.view_is,
-      length-zipped attachment_of i.kinds.items i.pairs.items c.self.invariant, c.self.invariant,
-      i.pairs.ok.0)
+    omega (
+      arith,
+      c.requires,
+      ap length c.self.view_is,
+      length-zipped attachment_of i.kinds.items i.pairs.items c.self.invariant,
+      c.self.invariant,
+      i.pairs.ok.0,
+    )
 
 pub returns-in-Detached : goal.returns-in-Detached
 returns-in-Detached c =
     let i = c.self.inside in
     zipped-set_first attachment_of i.kinds.items i.pairs.items c.args.reference Detached
-      DetachedAttachment (λ p. refl)
+    DetachedAttachment (λ p. refl)
     ∙ ap (λ t. set t c.args.reference DetachedAttachment) c.self.view_is
     ∙ ap (set c.args.self.now c.args.reference) (sym c.in-Detached.is)
 
@@ -46,7 +71,7 @@ pub returns-in-Waiting : goal.returns-in-Waiting
 returns-in-Waiting c =
     let i = c.self.inside in
     zipped-set_first attachment_of i.kinds.items i.pairs.items c.args.reference Waiting
-      WaitingAttachment (λ p. refl)
+    WaitingAttachment (λ p. refl)
     ∙ ap (λ t. set t c.args.reference WaitingAttachment) c.self.view_is
     ∙ ap (set c.args.self.now c.args.reference) (sym c.in-Waiting.is)
 
@@ -54,7 +79,7 @@ pub returns-in-Satisfied : goal.returns-in-Satisfied
 returns-in-Satisfied c =
     let i = c.self.inside in
     zipped-set_first attachment_of i.kinds.items i.pairs.items c.args.reference Satisfied
-      SatisfiedAttachment (λ p. refl)
+    SatisfiedAttachment (λ p. refl)
     ∙ ap (λ t. set t c.args.reference SatisfiedAttachment) c.self.view_is
     ∙ ap (set c.args.self.now c.args.reference) (sym c.in-Satisfied.is)
 
@@ -64,6 +89,6 @@ returns-in-Watching c =
     let one = c.in-Watching.one in
     let other = c.in-Watching.other in
     zipped-set attachment_of i.kinds.items i.pairs.items c.args.reference Watching
-      (record { one = one; other = other; rest = c.in-Watching.rest })
+    (record { one = one; other = other; rest = c.in-Watching.rest })
     ∙ ap (λ t. set t c.args.reference (WatchingAttachment one other c.in-Watching.rest))
-      c.self.view_is ∙ ap (set c.args.self.now c.args.reference) (sym c.in-Watching.is)
+    c.self.view_is ∙ ap (set c.args.self.now c.args.reference) (sym c.in-Watching.is)

@@ -9,8 +9,8 @@ use Rattle.wcnf.proofs.clause_list.ClauseList.get.Goals.{After-deref, After-inde
 within : (c : After-deref) → c.args.place < length c.self.inside.ends.items
 within c =
     let n : length c.args.self.now ≡ length c.self.inside.ends.items =
-      ap length (sym c.self.view_is)
-        ∙ length-cut 0 c.self.inside.lits.items c.self.inside.ends.items in
+    ap length (sym c.self.view_is)
+    ∙ length-cut 0 c.self.inside.lits.items c.self.inside.ends.items in
     omega (arith, n, c.requires)
 
 begins : (c : After-index)
@@ -32,8 +32,8 @@ pub part-requires : goal.part-requires
 part-requires c =
     let at = (goal.at.part-requires c).After-index in
     let b =
-      bounds_at 0 c.self.inside.ends.items (length c.self.inside.lits.items) c.args.place
-        c.self.invariant.rise (within (goal.at.After-index at).After-deref) in
+    bounds_at 0 c.self.inside.ends.items (length c.self.inside.lits.items) c.args.place
+    c.self.invariant.rise (within (goal.at.After-index at).After-deref) in
     let long = ap length c.deref-2.ensures.value in
     (omega (arith, b.0, begins at, ends at), omega (arith, b.1, ends at, long))
 
@@ -41,5 +41,5 @@ pub returns : goal.returns
 returns c =
     let at = (goal.at.returns c).After-index in
     rw (c.part.ensures, c.deref-2.ensures.value, begins at, ends at, ← c.self.view_is)
-      (cut_at 0 c.self.inside.lits.items c.self.inside.ends.items c.args.place
-        (within (goal.at.After-index at).After-deref))
+    (cut_at 0 c.self.inside.lits.items c.self.inside.ends.items c.args.place
+    (within (goal.at.After-index at).After-deref))

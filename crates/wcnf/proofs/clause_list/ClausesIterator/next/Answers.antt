@@ -7,4 +7,4 @@ pub part-clause-requires : goal.part-clause-requires
 part-clause-requires c =
     let some = c.in-len1-up.len_at_least in
     bounds_at c.self.inside.start c.self.inside.ends.now (length c.self.inside.lits.now) 0
-      c.self.invariant (omega (arith, some))
+    c.self.invariant (omega (arith, some))

@@ -12,8 +12,10 @@ pub invariant_of-self : goal.invariant_of-self
 invariant_of-self c =
     let marks = c.self.inside.marks in
     let unmarked =
-      c.unmark.ensures c.self.inside.vars
-        (rw (c.deref_mut.ensures.value, c.deref.ensures.value) c.self.invariant) in
-    rw (whole marks.len marks.items c.unmark.new.marks (c.unmark.auto.marks
+    c.unmark.ensures c.self.inside.vars
+    (rw (c.deref_mut.ensures.value, c.deref.ensures.value) c.self.invariant) in
+    rw (
+      whole marks.len marks.items c.unmark.new.marks (c.unmark.auto.marks
           ∙ ap length c.deref_mut.ensures.value) (omega (arith, marks.ok.0)),
-        c.clear.ensures.items) unmarked
+      c.clear.ensures.items,
+    ) unmarked

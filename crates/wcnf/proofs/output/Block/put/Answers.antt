@@ -12,6 +12,6 @@ returns-in_err-flush-clause-fault g c =
 pub returns-then-text-gt-BLOCK_SIZE-clause-ok : goal.returns-then-text-gt-BLOCK_SIZE-clause-ok
 returns-then-text-gt-BLOCK_SIZE-clause-ok g c =
     rw (c.in_ok-flush.ensures.empty)
-      (on_ok_weaker c.write_piece.result
-        (passed_directly _ _ _ c.args.self.now c.args.text.now c.in_ok-flush.ensures.ok)
-        c.write_piece.ensures.ok)
+    (on_ok_weaker c.write_piece.result
+    (passed_directly _ _ _ c.args.self.now c.args.text.now c.in_ok-flush.ensures.ok)
+    c.write_piece.ensures.ok)

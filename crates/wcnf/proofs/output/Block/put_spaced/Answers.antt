@@ -9,4 +9,4 @@ pub returns-in_err-flush-clause-fault : goal.returns-in_err-flush-clause-fault
 returns-in_err-flush-clause-fault g c =
     let p = err_from_is_err_and c.from_residual.result c.from_residual.ensures.1 in
     rw (p.1) (part-more _ _ c.args.self.now (literal_text c.args.lit ++ 32 ∷ [])
-        c.in_err-flush.ensures.fault)
+    c.in_err-flush.ensures.fault)

@@ -11,18 +11,18 @@ loop-end-init c = none_read c.args.self.now c.args.piece.now
 pub loop-end-preserved : goal.loop-end-preserved
 loop-end-preserved c =
     more_read c.args.self.now c.loop-end.self c.end_line.new.self c.args.piece.now
-      c.loop-end.left.now c.in-Some.end _ _ c.loop-end.invariant c.in-Some.ensures refl refl
-      c.in_ok-end_line.ensures.stands
+    c.loop-end.left.now c.in-Some.end _ _ c.loop-end.invariant c.in-Some.ensures refl refl
+    c.in_ok-end_line.ensures.stands
 
 pub returns-in_err-end_line-clause-fault : goal.returns-in_err-end_line-clause-fault
 returns-in_err-end_line-clause-fault c =
     let p = err_from_is_err_and c.from_residual.result c.from_residual.ensures.1 in
     rw (p.1, p.2) (refused_later c.args.self.now c.loop-end.self c.args.piece.now
-        c.loop-end.left.now c.in-Some.end _ _ c.loop-end.invariant c.in-Some.ensures refl
-        c.in_err-end_line.ensures.fault)
+    c.loop-end.left.now c.in-Some.end _ _ c.loop-end.invariant c.in-Some.ensures refl
+    c.in_err-end_line.ensures.fault)
 
 pub returns-clause-stands : goal.returns-clause-stands
 returns-clause-stands c =
     let none : IsNoFeed c.loop-end.left.now = c.in_default.ensures in
     rest_kept c.args.self.now c.loop-end.self _ c.args.piece.now c.loop-end.left.now
-      c.loop-end.invariant none refl refl c.in_ok-keep.ensures.kept
+    c.loop-end.invariant none refl refl c.in_ok-keep.ensures.kept

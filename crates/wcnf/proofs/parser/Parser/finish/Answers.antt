@@ -14,7 +14,7 @@ ended-requires c = let (bytes, s) = c.requires in (bytes, c.in_ok-end_text.ensur
 pub returns-clause-instance : goal.returns-clause-instance
 returns-clause-instance c =
     IfOk-weaker c.ended.result _ _ (λ i h bytes s. h bytes (c.in_ok-end_text.ensures.ends bytes s))
-      c.ended.ensures.instance
+    c.ended.ensures.instance
 
 pub returns-clause-fault : goal.returns-clause-fault
 returns-clause-fault c =

@@ -8,7 +8,7 @@ use Rattle.wcnf.proofs.types.Instance.cost.Given as goal
 abbrev pub invariant-loop-soft : goal.invariant-loop-soft
 invariant-loop-soft l = record {
   so_far : (t : Assignment) → Extends l.bits t
-    → l.cost ≡ sum_by (λ s. if clause_value t s.clause then 0 else s.weight)
-    (take l.soft-index l.soft-items);
+      → l.cost ≡ sum_by (λ s. if clause_value t s.clause then 0 else s.weight)
+      (take l.soft-index l.soft-items);
   bound : l.cost ≤ sum_by (λ s. s.weight) (take l.soft-index l.soft-items);
 }

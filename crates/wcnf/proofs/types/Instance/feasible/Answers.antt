@@ -8,4 +8,4 @@ are_satisfied-requires c =
 pub returns : goal.returns
 returns c =
     λ t e. all_satisfied t c.args.self.now.hard c.are_satisfied.result
-      (rw (← c.hard.ensures) (c.are_satisfied.ensures t e))
+    (rw (← c.hard.ensures) (c.are_satisfied.ensures t e))
