@@ -4,10 +4,11 @@
 // kept, with no choice on the way. Counted so, a pair of literals takes 17 instructions; it took 23
 // while the others were counted and the last one was an `Option`.
 //
-// Eight hints are looked up together where many clauses take room alone. Tried: at every line. A
-// certificate with a million live clauses took 1.5 s in place of 2.3 s, but small ones, of which
-// all is in the caches, 11 to 15 % more instructions; as it is they take within 0.4 % of what they
-// took.
+// Where many clauses take room, eight hints are looked up together, and the first literals of their
+// clauses are read then too: so none waits for the memory that another one asks for. A certificate
+// with a million live clauses took 2.3 s with each hint by itself, 1.5 to 2.0 s with the look-ups
+// together, and 1.3 to 1.7 s with the first literals. Tried: at every line. Small certificates, of
+// which all is in the caches, took 11 to 15 % more instructions; as it is they take 1 % more.
 ghost use Rattle.std.specs.Prelude.{◌≡◌, ℕ, ◌*◌, ◌/◌, ◌%◌, ◌<◌, ◌≤◌, true, false, List, Some, IfOk};
 ghost use Rattle.std.specs.Prelude.{length, get_or, map, take, All};
 ghost use Rattle.std.specs.Option.{option_copied};
@@ -62,15 +63,13 @@ impl Walked {
 }
 
 /// What the clause does where these literals are true. The pass goes over all its literals and
-/// decides nothing on the way, so that there is little for the processor to guess.
-pub(crate) fn effect_of(clause: &[Lit], assumed: &Assumed) -> Effect
+/// decides nothing on the way, so that there is little for the processor to guess. No answer rests on
+/// `first`: it may be what was read ahead of the clause, so that this reading is of use.
+pub(crate) fn effect_of(clause: &[Lit], first: Lit, assumed: &Assumed) -> Effect
     requires { AreWithin assumed.now.variables clause.now }
     ensures { outcome_as result ≡ outcome_of (Some clause.now) assumed.now.literals }
 {
-    let Some(first) = clause.first() else {
-        return Effect::Conflict;
-    };
-    let mut last = *first;
+    let mut last = first;
     let mut falses = 0usize;
     for lit in clause {
         if assumed.is_true(lit.negation()) {
@@ -138,6 +137,31 @@ fn clauses_ahead<'a>(
     ]
 }
 
+/// The first literal of each clause that was found, and else some literal. The clauses may lie far
+/// apart, and so all eight are asked of the memory at once.
+#[inline(always)]
+fn first_lits(ahead: &[Option<&[Lit]>; AHEAD]) -> [Lit; AHEAD] {
+    [
+        first_lit(ahead[0]),
+        first_lit(ahead[1]),
+        first_lit(ahead[2]),
+        first_lit(ahead[3]),
+        first_lit(ahead[4]),
+        first_lit(ahead[5]),
+        first_lit(ahead[6]),
+        first_lit(ahead[7]),
+    ]
+}
+
+/// The first literal of a clause, or some literal where there is none.
+#[inline(always)]
+fn first_lit(clause: Option<&[Lit]>) -> Lit {
+    match clause {
+        Some([first, ..]) => *first,
+        _ => Lit::new(1, false),
+    }
+}
+
 /// The clause under the id of hint i, if it is live: looked up now, or with those of its eight when
 /// the first of them comes.
 #[inline(always)]
@@ -147,6 +171,7 @@ fn next_clause<'a>(
     i: usize,
     many: bool,
     ahead: &mut [Option<&'a [Lit]>; AHEAD],
+    firsts: &mut [Lit; AHEAD],
 ) -> Option<&'a [Lit]>
     requires within { i < length hints.now }
     requires ahead { many ≡ true → 0 < i % 8
@@ -160,6 +185,7 @@ fn next_clause<'a>(
     }
     if i % AHEAD == 0 {
         *ahead = clauses_ahead(live, hints, i);
+        *firsts = first_lits(ahead);
     }
     ahead[i % AHEAD]
 }
@@ -179,11 +205,12 @@ pub(crate) fn walk(
 {
     let many = live.entries() > MANY;
     let mut ahead = [None; AHEAD];
+    let mut firsts = [Lit::new(1, false); AHEAD];
     for i in 0..hints.len() {
-        let Some(clause) = next_clause(live, hints, i, many, &mut ahead) else {
+        let Some(clause) = next_clause(live, hints, i, many, &mut ahead, &mut firsts) else {
             return Ok(Walked::Fault(Cause::DeadId));
         };
-        match effect_of(clause, assumed) {
+        match effect_of(clause, firsts[i % AHEAD], assumed) {
             Effect::Conflict if i + 1 < hints.len() => {
                 return Ok(Walked::Fault(Cause::HintAfterConflict));
             }

@@ -17,7 +17,7 @@ loop-lit-preserved c =
     let i = c.loop-lit.lit-index in
     let l = c.lit-item.result in
     let inv = c.loop-lit.invariant in
-    let o = Some c.in-Some.first.now in
+    let o = Some c.args.first in
     elim c.if-is_true.branch [
       | then-is_true w ↦
           let true_now = ap (λ k. contains_literal k A) (sym c.negation.ensures)
@@ -26,7 +26,7 @@ loop-lit-preserved c =
           record {
             last_open = ap Some w.last-is ∙ inv.last_open ∙ ap (last_or o) (sym same);
             number = omega (arith, w.falses-is, inv.number, ap length same);
-            within = rw w.last-is inv.within;
+            within = rw w.last-is (λ some. inv.within (omega (arith, some, ap length same)));
           }
       | else-is_true w ↦
           let false_now = ap (λ k. contains_literal k A) (sym c.negation.ensures)
@@ -43,7 +43,7 @@ loop-lit-preserved c =
                   ap length more,
                   length_push (open_literals A (take i d)) l,
                 );
-            within = rw w.last-is (search rules);
+            within = rw w.last-is (λ _. search rules);
           }
     ]
 
@@ -61,7 +61,7 @@ pub returns-then-is_true-2 : goal.returns-then-is_true-2
 returns-then-is_true-2 c =
     let A = c.args.assumed.now.literals in
     let d = c.args.clause.now in
-    let o = Some c.in-Some.first.now in
+    let o = Some c.args.first in
     let inv = c.loop-lit.invariant in
     let whole = take_all c.loop-lit.lit-index d c.loop-lit-test.false in
     let all = ap (λ x. length (open_literals A x)) whole in
@@ -78,7 +78,7 @@ pub returns-else-is_true-2 : goal.returns-else-is_true-2
 returns-else-is_true-2 c =
     let A = c.args.assumed.now.literals in
     let d = c.args.clause.now in
-    let o = Some c.in-Some.first.now in
+    let o = Some c.args.first in
     let inv = c.loop-lit.invariant in
     let whole = take_all c.loop-lit.lit-index d c.loop-lit-test.false in
     let all = ap (λ x. length (open_literals A x)) whole in
@@ -90,3 +90,12 @@ returns-else-is_true-2 c =
           (inv.last_open ∙ ap (λ x. last_or o (open_literals A x)) whole)
           (sym w.is_true-else-open-gt1.ensures ∙ sym w.value-is ∙ c.if-is_true-2.false))
     ]
+
+pub is_true-requires-else-open-gt1 : goal.is_true-requires-else-open-gt1
+is_true-requires-else-open-gt1 c =
+    let A = c.args.assumed.now.literals in
+    let i = c.loop-lit.lit-index in
+    let here : i ≡ length c.args.clause.now =
+    omega (arith, c.loop-lit.auto.lit-index-end, c.loop-lit-test.false) in
+    c.loop-lit.invariant.within
+    (omega (arith, here, c.loop-lit.invariant.number, c.if-open-eq0.false, c.if-open-gt1.false))

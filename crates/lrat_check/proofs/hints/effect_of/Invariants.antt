@@ -1,4 +1,4 @@
-use Rattle.std.proofs.Common.{◌≡◌, ◌+◌, ◌≤◌, length, take, Some}
+use Rattle.std.proofs.Common.{◌≡◌, ◌+◌, ◌<◌, ◌≤◌, length, take, Some}
 use Rattle.std.specs.List.{last_or}
 use Rattle.lrat_check.specs.Verdict.{open_literals}
 use Rattle.lrat_check.proofs.hints.effect_of.Given as goal
@@ -10,5 +10,6 @@ invariant-loop-lit l = record {
       (open_literals l.assumed.literals (take l.lit-index l.clause));
   number : l.falses + length (open_literals l.assumed.literals (take l.lit-index l.clause))
       ≡ l.lit-index;
-  within : l.last.variable ≤ l.assumed.variables;
+  within : 0 < length (open_literals l.assumed.literals (take l.lit-index l.clause))
+      → l.last.variable ≤ l.assumed.variables;
 }
