@@ -5,6 +5,9 @@
  *   generate definitions CLAUSES LINES SEED TEXT PROOF   fresh variables, three lines each,
  *       over many clauses
  *   generate units CLAUSES LINES SEED TEXT PROOF   the same number of lines without definitions
+ *   generate given|added CLAUSES LINES SEED TEXT PROOF   a chain of implications whose clauses stand
+ *       in no order, given by the text or added by the proof; each further line joins twelve of
+ *       them that follow one another in the chain, and nothing is deleted
  */
 #include <stdio.h>
 #include <stdlib.h>
@@ -89,6 +92,41 @@ static void definitions(long clauses, long lines, int fresh, FILE *text, FILE *p
     ended(id, clauses, text, proof);
 }
 
+/* Variables 1 to n, n implications in the order of a shuffle. The clauses that are added have a
+ * literal more, which a clause of the text has alone, so that each follows from it. */
+static void many(long n, long lines, int added, FILE *text, FILE *proof) {
+    const int joined = 12;
+    int *edges = malloc(sizeof(int) * (size_t)n);
+    long *ids = malloc(sizeof(long) * (size_t)(n + 1));
+    if (!edges || !ids) exit(1);
+    for (long i = 0; i < n; i++) edges[i] = (int)i + 1;
+    for (long i = n - 1; i > 0; i--) {
+        long j = next((unsigned)i + 1);
+        int e = edges[i];
+        edges[i] = edges[j];
+        edges[j] = e;
+    }
+    long id = added ? 3 : n + 2, false_at = added ? 2 : n + 1, any = n + 3;
+    for (long k = 0; k < n; k++) {
+        ids[edges[k]] = added ? ++id : k + 1;
+        if (added) fprintf(proof, "%ld -%d %d %ld 0 1 0\n", id, edges[k], edges[k] + 1, any);
+        else fprintf(text, "h -%d %d 0\n", edges[k], edges[k] + 1);
+    }
+    if (added) fprintf(text, "h %ld 0\n", any);
+    fprintf(text, "h %ld 0\nh -%ld 0\n", n + 2, n + 2);
+    for (long k = 0; k < lines; k++) {
+        int from = 1 + (int)next((unsigned)(n - joined));
+        fprintf(proof, "%ld -%d %d", ++id, from, from + joined);
+        if (added) fprintf(proof, " %ld", any);
+        fprintf(proof, " 0");
+        for (int j = 0; j < joined; j++) fprintf(proof, " %ld", ids[from + j]);
+        fprintf(proof, " 0\n");
+    }
+    fprintf(proof, "%ld 0 %ld %ld 0\n", id + 1, false_at, false_at + 1);
+    free(edges);
+    free(ids);
+}
+
 int main(int argc, char **argv) {
     if (argc == 6 && !strcmp(argv[1], "chains")) {
         state = strtoull(argv[3], NULL, 10);
@@ -102,6 +140,12 @@ int main(int argc, char **argv) {
         definitions(atol(argv[2]), atol(argv[3]), argv[1][0] == 'd', text, proof);
         return fclose(text) || fclose(proof);
     }
-    fprintf(stderr, "usage: generate chains LINES SEED TEXT PROOF | definitions|units CLAUSES LINES SEED TEXT PROOF\n");
+    if (argc == 7 && (!strcmp(argv[1], "given") || !strcmp(argv[1], "added"))) {
+        state = strtoull(argv[4], NULL, 10);
+        FILE *text = create(argv[5]), *proof = create(argv[6]);
+        many(atol(argv[2]), atol(argv[3]), argv[1][0] == 'a', text, proof);
+        return fclose(text) || fclose(proof);
+    }
+    fprintf(stderr, "usage: generate chains LINES SEED TEXT PROOF | definitions|units|given|added CLAUSES LINES SEED TEXT PROOF\n");
     return 2;
 }
