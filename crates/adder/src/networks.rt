@@ -9,7 +9,9 @@ use wcnf::types::Lit;
 /// Cells that add up the weights of the soft clauses whose relaxation literals are true.
 #[derive(Drop)]
 pub struct Network {
+    // In the order in which they were made: each after those whose carry or sum it adds.
     cells: Vec<Cell>,
+    // By power of two, from 2^0: the literal that is worth it; none where no sum reaches it.
     outputs: Vec<Option<Lit>>,
 }
 

@@ -12,6 +12,7 @@ use wcnf::types::{Clause, Instance, Lit, Soft};
 /// A relaxation literal: its soft clause may be falsified where it is true.
 #[derive(Drop)]
 pub struct Relaxation {
+    /// True where the soft clause is given up.
     pub lit: Lit,
     /// What it costs to falsify the soft clause, from 1.
     pub weight: u64,

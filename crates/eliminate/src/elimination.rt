@@ -24,8 +24,11 @@ use std::marker::Model;
 /// The eliminated variables, and the names of the clauses that are left.
 #[derive(Drop)]
 pub struct Stack {
+    // How many variables there are, those that elimination made too; below 2^27.
     vars: u32,
+    // The eliminated variables, each with the clauses that its value has to satisfy.
     removed: Removals,
+    // The clauses that are left, by rising reference, each with its name in the log.
     names: Vec<(CRef, Name)>,
 }
 

@@ -32,7 +32,9 @@ const MOST_TRIES: usize = 10;
 /// The live clauses with a literal, and those with its negation.
 #[derive(Drop)]
 struct Parents {
+    // Those with the literal, each once.
     positive: Vec<CRef>,
+    // Those with its negation, each once.
     negative: Vec<CRef>,
 }
 

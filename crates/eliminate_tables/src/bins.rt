@@ -30,7 +30,9 @@ struct Bin {
     // The bits that all the signatures have; all bits, where there is none. Where one of them is
     // missing no signature fits, so that most bins are passed over without a look into them.
     common: u64,
+    // At most as many as a bin may hold; some of them may be dead.
     references: Vec<CRef>,
+    // At the place of each reference, the signature of its clause.
     signatures: Vec<u64>,
 }
 

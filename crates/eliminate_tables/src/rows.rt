@@ -13,6 +13,7 @@ use wcnf::types::Lit;
 /// A row of references for each literal.
 #[derive(Drop)]
 pub struct Rows {
+    // By a literal's index: the clauses with the literal, also such as were deleted since.
     rows: Vec<Vec<CRef>>,
 }
 

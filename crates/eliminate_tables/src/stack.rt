@@ -18,23 +18,31 @@ use wcnf::types::Lit;
 /// The literals of a clause, from one place up to another.
 #[derive(Clone, Copy, Drop)]
 pub(crate) struct Piece {
+    // The place of its first literal, below 2^32.
     start: u32,
+    // The place behind its last literal.
     end: u32,
 }
 
 /// An eliminated variable, and its clauses, from one place up to another.
 #[derive(Clone, Copy, Drop)]
 pub(crate) struct Gone {
+    // From 1, below 2^27.
     variable: u32,
+    // The place of the piece of its first clause.
     start: u32,
+    // The place behind that of its last clause.
     end: u32,
 }
 
 /// Eliminated variables with their clauses, in three flat vectors.
 #[derive(Drop)]
 pub struct Removals {
+    // The variables, the first one that was eliminated first.
     gone: Vec<Gone>,
+    // Their clauses, those of one variable after those of the one before.
     pieces: Vec<Piece>,
+    // The literals of these clauses, one clause after another; fewer than 2^32.
     literals: Vec<Lit>,
 }
 

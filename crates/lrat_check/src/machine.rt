@@ -25,8 +25,11 @@ use wcnf::types::Formula;
 /// added, and the number of lines.
 #[derive(Drop)]
 pub struct Machine {
+    /// Reads a line, in buffers that are used for each.
     reader: LineReader,
+    /// What is live, the last id, and whether the empty clause was added.
     base: Base,
+    /// What a line assumes, and the candidates that it names.
     scratch: Scratch,
     /// How many lines were read.
     lines: u64,

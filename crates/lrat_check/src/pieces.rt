@@ -18,8 +18,11 @@ use wcnf::types::Formula;
 /// that is kept.
 #[derive(Drop)]
 pub struct Checker {
+    // The lines so far, and the bytes after the last line feed.
     reading: Reading,
+    // How many bytes came in, below 2^64.
     fed: u64,
+    // Whether memory was refused. It stays so.
     failed: bool,
 }
 

@@ -18,7 +18,9 @@ pub(crate) enum Status {
 /// A cost below 2^62 and the line that tells it.
 #[derive(Clone, Copy)]
 pub(crate) struct Cost {
+    /// Below 2^62.
     pub(crate) cost: u64,
+    /// From 1.
     pub(crate) line: u64,
     ghost small: { cost < 2 ^ 62 },
 }
@@ -26,8 +28,11 @@ pub(crate) struct Cost {
 /// A solution: the last cost that was told, and the bits, from variable 1 on, with their line.
 #[derive(Drop)]
 pub(crate) struct Solution {
+    /// The last one that was told, with its line.
     pub(crate) cost: Cost,
+    /// By variable, that of 1 first.
     pub(crate) bits: Vec<bool>,
+    /// From 1.
     pub(crate) bits_line: u64,
 }
 
@@ -43,15 +48,20 @@ pub(crate) enum Said {
 /// A whole result as it was read: what it says, with the lines that a verdict names.
 #[derive(Drop)]
 pub(crate) struct Report {
+    /// The status, with what stands before and after it.
     pub(crate) said: Said,
+    /// From 1.
     pub(crate) status_line: u64,
 }
 
 /// What stands before the bits: the last cost, and the status of an optimum or of another solution.
 #[derive(Clone, Copy)]
 pub(crate) struct Heading {
+    /// Whether the status is that of an optimum.
     pub(crate) is_optimum: bool,
+    /// The last one that was told, with its line.
     pub(crate) cost: Cost,
+    /// From 1.
     pub(crate) status_line: u64,
 }
 

@@ -9,11 +9,15 @@ use std::alloc::AllocError;
 /// A clause that was added: its id, and where its literals lie.
 #[derive(Clone, Copy, Drop)]
 pub(crate) struct Entry {
+    /// From 1, below 2^62.
     pub(crate) id: u64,
+    /// The place of its first literal among those of all entries.
     pub(crate) start: u32,
+    /// How many literals it has.
     pub(crate) length: u32,
     /// The place of the next older entry of the bucket, from 1, or 0.
     pub(crate) next: u32,
+    /// Whether it was not deleted.
     pub(crate) live: bool,
 }
 

@@ -18,6 +18,7 @@ use wcnf::types::{Formula, Lit};
 /// The live ones of a formula's clauses, under the ids from 1.
 #[derive(Drop)]
 pub(crate) struct Given {
+    /// Its clauses, in their order: the one at place i has the id i + 1.
     formula: Formula,
     /// For each clause whether it is live.
     flags: Vec<bool>,

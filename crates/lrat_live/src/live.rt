@@ -17,7 +17,9 @@ use wcnf::types::{Formula, Lit};
 /// The live clauses of a certificate with their ids.
 #[derive(Drop)]
 pub struct LiveClauses {
+    /// Those of the formula.
     given: Given,
+    /// Those that were added; their ids are above those of the formula.
     added: Added,
     /// Whether the literals of the live clauses are counted, as they are from the first RAT line
     /// on.

@@ -10,6 +10,7 @@ use wcnf::types::Lit;
 /// A number from 1, below 2^62.
 #[derive(Clone, Copy, Debug, PartialEq, Eq, Drop)]
 pub struct Number {
+    // From 1 to 2^62 - 1.
     value: u64,
 }
 
@@ -107,8 +108,11 @@ impl Kind {
 /// whose hints name the clauses that it deletes, each a plain one, and which has no literals.
 #[derive(Drop)]
 pub struct Line {
+    // What the line does, and why it may.
     kind: Kind,
+    // Of an addition: its clause.
     lits: Vec<Lit>,
+    // Of an addition: by which it follows; of a deletion: the clauses that go.
     hints: Vec<Hint>,
 }
 

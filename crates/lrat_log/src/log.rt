@@ -30,8 +30,11 @@ const LINE_LIMIT: usize = 1 << 61;
 /// before end.
 #[derive(Clone, Copy, Drop)]
 struct Head {
+    // What the line does, and why it may.
     kind: Kind,
+    // The place behind its last literal.
     lits_end: usize,
+    // The place behind its last hint.
     hints_end: usize,
 }
 
@@ -41,8 +44,11 @@ const _: () = prove!(size_of::<Head>() <= 24);
 /// line.
 #[derive(Drop)]
 pub struct Log {
+    // By line, in their order; fewer than 2^61.
     heads: Vec<Head>,
+    // The literals of all lines, those of one line after those of the line before.
     lits: Vec<Lit>,
+    // The hints of all lines, in the same order.
     hints: Vec<PackedHint>,
 }
 

@@ -10,6 +10,7 @@ use std::marker::Model;
 /// more where it begins a group.
 #[derive(Clone, Copy, Debug, PartialEq, Eq, Drop)]
 pub struct PackedHint {
+    // From 4 to 2^64 - 1.
     code: u64,
 }
 

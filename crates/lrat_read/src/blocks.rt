@@ -12,7 +12,9 @@ use wcnf::types::Lit;
 /// Where a block of literals ends, and whether one of them is too large for `Lit`.
 #[derive(Clone, Copy, Drop)]
 pub struct LitsEnd {
+    /// The place behind the 0 that ends the block, or behind the blanks after it.
     pub end: usize,
+    /// Whether some variable is 2^27 or more.
     pub is_large: bool,
 }
 

@@ -48,7 +48,9 @@ pub enum NumberAt {
 /// A run of digits: its value and where it ends.
 #[derive(Clone, Copy, Drop)]
 pub struct Digits {
+    // What they write in base ten, below 10^19.
     value: u64,
+    // The place behind the last of them.
     end: usize,
 }
 

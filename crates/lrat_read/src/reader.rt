@@ -13,9 +13,13 @@ use wcnf::types::Lit;
 /// One line, in buffers that are used again for each line.
 #[derive(Drop)]
 pub struct LineReader {
+    // The leading number, below 2^62.
     id: u64,
+    // The literals of an addition, but for those with a variable of 2^27 or more.
     lits: Vec<Lit>,
+    // Whether there was such a literal.
     is_large: bool,
+    // The hints of an addition, or the ids of a deletion.
     hints: Vec<SignedId>,
 }
 

@@ -20,6 +20,7 @@ pub enum Form {
 /// stood before it, as for the first id of each group of a RAT line. Eight bytes.
 #[derive(Clone, Copy, Debug, PartialEq, Eq, Drop)]
 pub struct SignedId {
+    // Twice the id, and one more for a dash: from 2 to 2^63 - 1.
     code: u64,
 }
 

@@ -14,7 +14,9 @@ use wcnf::types::Lit;
 /// A mark for each literal of the variables up to some number.
 #[derive(Drop)]
 pub struct Marks {
+    // By a literal's index: the stamp with which it was marked last, at most the present one.
     stamps: Vec<u32>,
+    // The stamp of the literals that are marked.
     present: u32,
 }
 

@@ -18,7 +18,9 @@ use wcnf::types::Lit;
 /// The names of the clauses of a store, by reference.
 #[derive(Drop)]
 pub struct Names {
+    // By reference, also of deleted clauses.
     names: Vec<Name>,
+    // How many lines of the log add a clause; the next one is named by one more.
     additions: u64,
 }
 

@@ -50,7 +50,9 @@ struct Run {
 /// A pair that may be worth a variable.
 #[derive(Drop)]
 pub(crate) struct Candidate {
+    /// The one of lower index.
     pub(crate) left: Lit,
+    /// The one of higher index.
     pub(crate) right: Lit,
     // The meetings, from one place up to another.
     start: usize,
@@ -232,6 +234,7 @@ fn frequent(
 /// Small counters of pairs, by a hash.
 #[derive(Drop)]
 struct Sketch {
+    // A power of two of them; each stays at 255.
     counters: Vec<u8>,
     // A hash of 64 bits less so many is the place of a counter.
     shift: u32,

@@ -34,7 +34,9 @@ const MOST_ROUNDS: u32 = 6;
 pub(crate) struct Fresh {
     // Above the variables of all clauses before it, below 2^27.
     variable: u32,
+    // The literal of the pair with the lower index.
     left: Lit,
+    // The other one.
     right: Lit,
     // 'not the variable, or left or right'
     whole: CRef,

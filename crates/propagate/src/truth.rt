@@ -14,6 +14,7 @@ enum Known {
 /// Whether a literal is true; none where it is open. It takes one byte, and an `Option<bool>` two.
 #[derive(Clone, Copy, Debug, PartialEq, Eq, Drop)]
 pub(crate) struct Truth {
+    // One of three, so that it takes one byte.
     known: Known,
 }
 

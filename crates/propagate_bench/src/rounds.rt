@@ -10,9 +10,13 @@ use wcnf::types::Lit;
 /// What the rounds did. A propagation is a literal that came onto the trail and was no decision.
 #[derive(Clone, Copy, Drop)]
 pub(crate) struct Counts {
+    /// Rounds that were played.
     pub(crate) rounds: u64,
+    /// Literals that were decided.
     pub(crate) decisions: u64,
+    /// Literals that propagation put onto the trail.
     pub(crate) propagations: u64,
+    /// Rounds that ended with a false clause.
     pub(crate) conflicts: u64,
 }
 

@@ -37,6 +37,7 @@ pub struct Told<'a, W: Write> {
 /// The writer, and what a failure to tell comes to.
 #[derive(Drop)]
 pub struct Finished<'a, W: Write> {
+    /// Where the lines go.
     pub writer: &'a mut W,
     /// `Memory` or `Output`; it means something only where the last telling failed.
     pub fault: RunFault,

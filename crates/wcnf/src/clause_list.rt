@@ -16,6 +16,7 @@ const MOST: usize = 4_294_967_295;
 /// after another.
 #[derive(Drop)]
 pub struct ClauseList {
+    // Fewer than 2^32.
     lits: Vec<Lit>,
     // For each clause the place where its literals end, and those of the next begin.
     ends: Vec<u32>,
@@ -109,6 +110,7 @@ impl ClauseList {
 /// Goes over the clauses of a list, each lent as a part of its literals.
 #[derive(Drop)]
 pub struct Clauses<'a> {
+    // The literals of all clauses of the list.
     lits: &'a [Lit],
     // Where the next clause begins.
     start: u32,

@@ -17,9 +17,11 @@ use std::marker::Model;
 /// The clause that is being read, each literal once, and the greatest variable of the text so far.
 #[derive(Drop)]
 pub(crate) struct Gathering {
+    // The greatest variable of the text so far, at most 2^22; 0 where there is none.
     vars: u32,
     // Two for each variable, by the literals' indices: whether the clause has the literal.
     marks: Vec<bool>,
+    // The literals of the clause, in their order.
     lits: Vec<Lit>,
 }
 

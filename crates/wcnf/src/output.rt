@@ -23,7 +23,9 @@ const LITERAL_ROOM: usize = 11;
 /// Bytes that were put out, but not yet written.
 #[derive(Drop)]
 pub struct Block {
+    // What was put out stands in front.
     bytes: [u8; BLOCK_SIZE],
+    // How many bytes were put out, at most all.
     filled: usize,
 }
 

@@ -18,7 +18,9 @@ use std::marker::Model;
 /// at its end.
 #[derive(Drop)]
 pub struct Lines<'a> {
+    // The bytes of the lines that are left.
     rest: &'a [u8],
+    // The number of the next line, from 1.
     number: u64,
 }
 
@@ -92,6 +94,7 @@ pub fn without_return(line: &[u8]) -> &[u8]
 /// The tokens of a line: the longest runs of bytes that are neither spaces nor tabs.
 #[derive(Drop)]
 pub struct Tokens<'a> {
+    // The bytes behind the last token.
     rest: &'a [u8],
 }
 

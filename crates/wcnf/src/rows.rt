@@ -28,12 +28,15 @@ pub(crate) struct Draft {
     header: Option<Header>,
     // The line of the header; 0 where there is none.
     header_line: u64,
+    // The hard clauses so far.
     hard: ClauseList,
+    // The soft clauses so far, with their weights.
     soft: Vec<Soft>,
     // The literals of the text so far, repeats too.
     literals: usize,
     // The sum of the weights so far.
     weight: u64,
+    // The clause of the line that is being read.
     clause: Gathering,
 }
 

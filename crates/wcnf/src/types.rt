@@ -17,6 +17,7 @@ use std::marker::Model;
 /// A positive literal is true when its variable is, and a negated one when its variable is not.
 #[derive(Clone, Copy, Debug, PartialEq, Eq, Drop)]
 pub struct Lit {
+    // Twice the variable, and one more for negation: from 2 to 2^28 - 1.
     code: u32,
 }
 
@@ -103,6 +104,7 @@ const _: () = prove!(size_of::<Lit>() == 4);
 /// A variable may stand beside its negation, and then the clause is always true.
 #[derive(Drop)]
 pub struct Clause {
+    // In the order of the text, or of what built the clause.
     lits: Vec<Lit>,
 }
 
@@ -136,7 +138,9 @@ impl Clause {
 /// 2022).
 #[derive(Drop)]
 pub struct Soft {
+    // From 1, below 2^62.
     weight: u64,
+    // What is falsified at this price.
     clause: Clause,
 }
 
@@ -180,8 +184,11 @@ impl Soft {
 /// `vars`.
 #[derive(Drop)]
 pub struct Instance {
+    // The greatest variable, or that of the header; at most 2^22.
     vars: u32,
+    // In the order of the text.
     hard: ClauseList,
+    // In the order of the text.
     soft: Vec<Soft>,
 }
 
@@ -238,7 +245,9 @@ impl Instance {
 /// literal has a variable above `vars`.
 #[derive(Drop)]
 pub struct Formula {
+    // Below 2^26; no literal has a greater variable.
     vars: u32,
+    // Clause i stands at place i - 1.
     clauses: ClauseList,
 }
 
