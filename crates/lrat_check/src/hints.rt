@@ -63,8 +63,8 @@ impl Walked {
 }
 
 /// What the clause does where these literals are true. The pass goes over all its literals and
-/// decides nothing on the way, so that there is little for the processor to guess. No answer rests on
-/// `first`: it may be what was read ahead of the clause, so that this reading is of use.
+/// decides nothing on the way, so that there is little for the processor to guess. No answer rests
+/// on `first`: it may be what was read ahead of the clause, so that this reading is of use.
 pub(crate) fn effect_of(clause: &[Lit], first: Lit, assumed: &Assumed) -> Effect
     requires { AreWithin assumed.now.variables clause.now }
     ensures { outcome_as result ≡ outcome_of (Some clause.now) assumed.now.literals }

@@ -1,7 +1,7 @@
 //! Builds a log of long lines, and writes it: for timing.
 //!
-//! `render_bench lines N` writes a log of N additions with 20 literals and 50 hints each to standard
-//! output; `render_bench build N` only builds it.
+//! `render_bench lines N` writes a log of N additions with 20 literals and 50 hints each to
+//! standard output; `render_bench build N` only builds it.
 #![tactic(auto)]
 
 ghost use Rattle.std.specs.Prelude.{◌≡◌, ◌<◌, ◌≤◌, ◌^◌, All, IfOk};
