@@ -1,11 +1,11 @@
 -- Tokens that are read in one pass over the bytes of a line.
-use Rattle.std.proofs.Common.{◌≡◌, ℕ, suc, zero, ◌+◌, ◌-◌, ◌*◌, ◌<◌, ◌≤◌, Bool, true, false, List}
+use Rattle.std.proofs.Common.{◌≡◌, ℕ, suc, zero, ◌+◌, ◌-◌, ◌<◌, ◌≤◌, Bool, true, false, List}
 use Rattle.std.proofs.Common.{[], ◌∷◌, Some, inl, inr, refl, sym, ◌∙◌, ap, subst, arith, length}
 use Rattle.std.proofs.Common.{get_or, take, drop}
 use Rattle.std.specs.Prelude.{◌==◌}
 use Rattle.std.specs.List.{position_or_len}
 use Rattle.std.proofs.lemmas.Bool.{eqb-true, le-ltb, cases_eq}
-use Rattle.std.proofs.lemmas.List.{take_more, take_rest, length-take-le, get_or-take}
+use Rattle.std.proofs.lemmas.List.{take_rest, length-take-le, get_or-take}
 use Rattle.std.proofs.lemmas.Option.{none-some}
 use Rattle.std.proofs.lemmas.List.Sums.{position_or_len_is}
 use Rattle.std.specs.Int.{from_bool}
@@ -16,23 +16,19 @@ use Rattle.wcnf.specs.Seen.{seen}
 use Rattle.wcnf.specs.declared.words.Word.TheVariants as Word
 use Rattle.wcnf.specs.Ahead.{BeginsWithDigits, BeginsWithVariable, BeginsWithLiteral, IsNextWord}
 use Rattle.wcnf.proofs.Numbers.{IsNumber, number_of-is, digit_is_no_blank, literal_of-number}
-use Rattle.wcnf.proofs.CappedNumbers.{value_on-push, all_digits}
+use Rattle.wcnf.proofs.CappedNumbers.{capped-exact, all_digits}
 use Rattle.wcnf.proofs.FirstPieces.{tokens-first}
 
--- one more digit
-pub value-more : (ds : List ℕ) (i v d : ℕ) → i < length ds → v ≡ value_on 0 (take i ds)
-    → d ≡ get_or ds i 0 - 48 → 10 * v + d ≡ value_on 0 (take (i + 1) ds)
-value-more ds i v d l before here =
-    ap (λ n. 10 * n + d) before ∙ ap (λ m. 10 * value_on 0 (take i ds) + m) here
-    ∙ sym (value_on-push 0 (take i ds) (get_or ds i 0)) ∙ ap (value_on 0) (sym (take_more ds i 0 l))
-
--- digits that begin with no 0, and are not all 0
-pub begins_variable : (bytes : List ℕ) (v n : ℕ) → BeginsWithDigits bytes v n → 0 < v
-    → (get_or bytes 0 0 ≡ 48 → ⊥) → BeginsWithVariable bytes v n
-begins_variable bytes v n d p lead =
+-- digits that begin with no 0, and are not all 0, up to a blank or the end
+pub begins_variable : (bytes : List ℕ) (v n : ℕ) → BeginsWithDigits bytes v n → 0 < v → v ≤ 4194304
+    → (n < length bytes → is_blank (get_or bytes n 0) ≡ true) → (get_or bytes 0 0 ≡ 48 → ⊥)
+    → BeginsWithVariable bytes v n
+begins_variable bytes v n d p most end lead =
+    let value : v ≡ value_on 0 (take n bytes) =
+    d.value ∙ sym (capped-exact (value_on 0 (take n bytes)) (omega (arith, d.value))) in
     let long : length (take n bytes) ≡ n = length-take-le n bytes d.within in
     let some : 0 < n = elim (cases_eq n 0) [
-      | inl z ↦ absurd (omega (arith, d.value ∙ ap (λ m. value_on 0 (take m bytes)) z))
+      | inl z ↦ absurd (omega (arith, value ∙ ap (λ m. value_on 0 (take m bytes)) z))
       | inr z ↦ omega arith
     ] in
     let digits = all_digits (take n bytes) (λ k l. let h : k < n = omega arith in
@@ -43,12 +39,12 @@ begins_variable bytes v n d p lead =
       lead = λ e. absurd (lead (sym (get_or-take n bytes 0 0 some) ∙ e));
     } in
     record {
-      number = number_of-is (take n bytes) spelled ∙ ap Some (sym d.value);
+      number = number_of-is (take n bytes) spelled ∙ ap Some (sym value);
       positive = p;
-      most = d.most;
+      most = most;
       token =
           position_or_len_is is_blank bytes n 0 d.within
-          (λ k l. digit_is_no_blank (get_or bytes k 0) (d.digits k l)) d.end;
+          (λ k l. digit_is_no_blank (get_or bytes k 0) (d.digits k l)) end;
       within = d.within;
     }
 

@@ -27,15 +27,27 @@ pub value_on-push : (n : ℕ) (ds : List ℕ) (b : ℕ)
 value_on-push n [] b = refl
 value_on-push n (c ∷ cs) b = value_on-push (10 * n + (c - 48)) cs b
 
+-- one more digit after two values that are told alike
+capped-alike : (v w d : ℕ) → capped v ≡ capped w → capped (10 * v + d) ≡ capped (10 * w + d)
+capped-alike v w d e =
+    sym (capped-digit v d) ∙ ap (λ n. capped (10 * n + d)) e ∙ capped-digit w d
+
 -- the value so far, with the digit at i
-pub capped-more : (ds : List ℕ) (i v d w : ℕ) → i < length ds → v ≡ capped (value_on 0 (take i ds))
-    → d ≡ get_or ds i 0 → w ≡ capped (10 * v + (d - 48)) → w ≡ capped (value_on 0 (take (i + 1) ds))
-capped-more ds i v d w l before here after =
-    after ∙ ap (λ n. capped (10 * n + (d - 48))) before
-    ∙ capped-digit (value_on 0 (take i ds)) (d - 48)
-    ∙ ap capped (ap (λ b. 10 * value_on 0 (take i ds) + (b - 48)) here
-    ∙ sym (value_on-push 0 (take i ds) (get_or ds i 0))
+pub capped-more : (ds : List ℕ) (i v w : ℕ) → i < length ds
+    → capped v ≡ capped (value_on 0 (take i ds)) → capped w ≡ capped (10 * v + (get_or ds i 0 - 48))
+    → capped w ≡ capped (value_on 0 (take (i + 1) ds))
+capped-more ds i v w l before after =
+    after ∙ capped-alike v (value_on 0 (take i ds)) (get_or ds i 0 - 48) before
+    ∙ ap capped (sym (value_on-push 0 (take i ds) (get_or ds i 0))
     ∙ ap (value_on 0) (sym (take_more ds i 0 l)))
+
+-- a value within the limit is told as it is
+pub capped-exact : (n : ℕ) → capped n ≤ 4611686018427387904 → n ≡ capped n
+capped-exact n l =
+    elim (cases_lt 4611686018427387904 n) [
+      | inl high ↦ absurd (omega (arith, capped-high n high))
+      | inr low ↦ sym (capped-low n low)
+    ]
 
 pub all_digits : (ds : List ℕ) → ((k : ℕ) → k < length ds → is_digit (get_or ds k 0) ≡ true)
     → list_all is_digit ds ≡ true

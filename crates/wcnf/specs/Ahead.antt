@@ -1,18 +1,18 @@
 -- What stands at the beginning of the bytes of a line.
-use Rattle.std.specs.Prelude.{◌≡◌, ℕ, ◌<◌, ◌≤◌, true, List, ◌∷◌, length, take, Some, slice_index}
+use Rattle.std.specs.Prelude.{◌≡◌, ℕ, ◌<◌, ◌≤◌, true, false, List, ◌∷◌, length, take, Some}
+use Rattle.std.specs.Prelude.{slice_index}
 use Rattle.std.specs.List.{position_or_len}
 use Rattle.wcnf.specs.Literal as literals
-use Rattle.wcnf.specs.Text.{is_blank, is_digit, value_on, number_of}
+use Rattle.wcnf.specs.Text.{is_blank, is_digit, value_on, number_of, capped}
 use Rattle.wcnf.specs.Reading as text
 use Rattle.wcnf.specs.Seen.{seen}
 use Rattle.wcnf.specs.declared.words.Word.{Word}
 
--- the first n bytes are digits with this value, and a blank or nothing comes after them
+-- the first n bytes are digits, with this value up to 2^62, and no digit comes after them
 pub record BeginsWithDigits (bytes : List ℕ) (v n : ℕ) : Type 0 where
   pub digits : (k : ℕ) → k < n → is_digit (slice_index bytes k) ≡ true
-  pub value : v ≡ value_on 0 (take n bytes)
-  pub most : v ≤ 4194304
-  pub end : n < length bytes → is_blank (slice_index bytes n) ≡ true
+  pub value : v ≡ capped (value_on 0 (take n bytes))
+  pub end : n < length bytes → is_digit (slice_index bytes n) ≡ false
   pub within : n ≤ length bytes
 
 -- the first n bytes spell a variable within the limit, and a blank or nothing comes after them

@@ -134,7 +134,7 @@ impl Gathering {
                     self.add(lit).map_err(|_| FaultKind::Memory)?;
                 }
                 Word::End => {
-                    ended(words)?;
+                    refuse_rest(words)?;
                     return Ok(count);
                 }
                 Word::Above => return Err(FaultKind::Variable),
@@ -165,7 +165,7 @@ fn unmark(marks: &mut [bool], lits: &[Lit])
 }
 
 /// Refuses whatever follows the 0.
-fn ended(mut words: Tokens<'_>) -> Result<(), FaultKind>
+fn refuse_rest(mut words: Tokens<'_>) -> Result<(), FaultKind>
     ensures { MatchResult result (λ _. ended_at words.entry ≡ Ok [])
         (λ k. ended_at words.entry ≡ Err k) }
 {

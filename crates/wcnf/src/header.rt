@@ -2,10 +2,10 @@
 ghost use Rattle.std.specs.Prelude.{◌≡◌, ◌≤◌, ◌<◌, ◌^◌, ◌⊎◌, MatchResult};
 ghost use Rattle.wcnf.specs.Reading.{header_of, is_wcnf, number_within};
 
+use crate::digits::number;
 use crate::faults::FaultKind;
 use crate::limits::{MOST_HARD, MOST_SOFT, MOST_VARIABLES, NUMBER_LIMIT};
 use crate::pieces::Tokens;
-use crate::text::number;
 use std::marker::Model;
 
 /// The second token of a header.

@@ -2,6 +2,7 @@
 #![tactic(auto)]
 
 pub mod clause_list;
+mod digits;
 pub mod faults;
 mod gathering;
 mod header;

@@ -7,6 +7,7 @@ ghost use Rattle.std.specs.Str.Lines.{strip_carriage_return};
 ghost use Rattle.wcnf.specs.Ahead.{IsNextWord};
 ghost use Rattle.wcnf.specs.Text.{is_blank, numbered_text, tokens_of, IsNoFeed, IsFirstFeed};
 
+use crate::digits::is_blank;
 use crate::words::{Word, begins_with, literal_at, read_word};
 use memchr::memchr;
 use std::marker::Model;
@@ -150,12 +151,6 @@ impl<'a> Iterator for Tokens<'a> {
         self.rest = after;
         Some(token)
     }
-}
-
-pub(crate) fn is_blank(byte: u8) -> bool
-    ensures { result ≡ is_blank byte }
-{
-    byte == b' ' || byte == b'\t'
 }
 
 // How many blanks the bytes begin with.

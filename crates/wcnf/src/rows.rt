@@ -11,12 +11,13 @@ ghost use Rattle.wcnf.specs.Drafts.{drafted_tokens, drafted_header, drafted_clau
 ghost use Rattle.wcnf.specs.Drafts.{problem_drafted};
 
 use crate::clause_list::ClauseList;
+use crate::digits::number;
 use crate::faults::FaultKind;
 use crate::gathering::Gathering;
 use crate::header::Header;
 use crate::limits::{MOST_HARD, MOST_SOFT, MOST_VARIABLES, NUMBER_LIMIT};
 use crate::pieces::Tokens;
-use crate::text::{number, tokens};
+use crate::text::tokens;
 use crate::types::{Clause, Instance, Lit, Soft};
 use std::alloc::{AllocError, Global};
 use std::marker::Model;

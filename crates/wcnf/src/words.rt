@@ -1,12 +1,12 @@
 // The tokens of a clause line after its first: literals, and the 0 that ends the clause.
-ghost use Rattle.std.specs.Prelude.{◌≡◌, ◌<◌, true, length, slice_index, ◌==◌, IfSome};
-ghost use Rattle.wcnf.specs.Ahead.{BeginsWithDigits, BeginsWithVariable, BeginsWithLiteral};
+ghost use Rattle.std.specs.Prelude.{◌≡◌, ◌<◌, ◌≤◌, true, length, slice_index, ◌==◌, IfSome};
+ghost use Rattle.wcnf.specs.Ahead.{BeginsWithVariable, BeginsWithLiteral};
 ghost use Rattle.wcnf.specs.Reading.{word_of, Literal_word};
 ghost use Rattle.wcnf.specs.Seen.{seen};
+ghost use Rattle.wcnf.specs.Text.{is_blank};
 
+use crate::digits::{is_blank, leading_digits, number};
 use crate::limits::MOST_VARIABLES;
-use crate::pieces::is_blank;
-use crate::text::number;
 use crate::types::Lit;
 
 /// What a token after the first says.
@@ -79,31 +79,18 @@ fn variable_at(bytes: &[u8]) -> Option<(u32, usize)>
     if begins_with(bytes, b'0') {
         return None;
     }
-    let (value, count) = digits_at(bytes)?;
-    if value == 0 {
+    let (value, count) = leading_digits(bytes);
+    if value == 0 || value > u64::from(MOST_VARIABLES) || !ends_at(bytes, count) {
         return None;
     }
-    Some((value, count))
+    Some((value as u32, count))
 }
 
-/// The value of the digits up to the first blank, and how many they are; `None` where some byte
-/// there is no digit, or the value is above the limit.
-fn digits_at(bytes: &[u8]) -> Option<(u32, usize)>
-    ensures { IfSome result (λ r. BeginsWithDigits bytes.now r.0 r.1) }
+/// Whether a token that goes up to this place ends there.
+fn ends_at(bytes: &[u8], place: usize) -> bool
+    requires { place ≤ length bytes.now }
+    ensures { result ≡ true → place < length bytes.now
+        → is_blank (slice_index bytes.now place) ≡ true }
 {
-    let mut value: u32 = 0;
-    for (i, byte) in bytes.iter().enumerate() {
-        if !byte.is_ascii_digit() {
-            return if is_blank(*byte) {
-                Some((value, i))
-            } else {
-                None
-            };
-        }
-        value = 10 * value + u32::from(*byte - b'0');
-        if value > MOST_VARIABLES {
-            return None;
-        }
-    }
-    Some((value, bytes.len()))
+    place == bytes.len() || is_blank(bytes[place])
 }

@@ -6,5 +6,7 @@ use Rattle.wcnf.proofs.words.variable_at.Goals as goal
 
 pub returns : goal.returns
 returns c =
-    begins_variable c.args.bytes.now c.in_ok-value.value c.in_ok-value.count c.in_ok-value.ensures
-    (omega arith) (eqb-false _ 48 (sym c.begins_with.ensures.first ∙ c.if-begins_with.false))
+    begins_variable c.args.bytes.now c.leading_digits-value.result.0 c.leading_digits-value.result.1
+    c.leading_digits-value.ensures (omega arith) (omega arith)
+    (c.ends_at.ensures c.if-not-ends_at.false)
+    (eqb-false _ 48 (sym c.begins_with.ensures.first ∙ c.if-begins_with.false))
