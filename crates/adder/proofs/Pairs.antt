@@ -81,11 +81,7 @@ module _ {whole : Adders} {cells : List Cell} {n : ℕ} {xs : List Number} (many
   pub fewer : length (round n xs).numbers < length xs
   fewer = omega (arith, many, round_length n xs)
 
--- one number is left, or none
-pub ends_one : {whole : Adders} {cells : List Cell} {n : ℕ} (x : Number)
-    → IsRounding whole cells n (x ∷ []) → (cells ≡ whole.cells) × (x.bits ≡ whole.outputs)
-ends_one {cells = cells} x h = (sym (append-nil cells) ∙ h.cells_are, h.outputs_are)
-
+-- no number is left
 pub ends_none : {whole : Adders} {cells : List Cell} {n : ℕ} → IsRounding whole cells n []
     → (cells ≡ whole.cells) × ([] ≡ whole.outputs)
 ends_none {cells = cells} h = (sym (append-nil cells) ∙ h.cells_are, h.outputs_are)

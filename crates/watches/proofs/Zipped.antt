@@ -5,6 +5,7 @@ use Rattle.std.proofs.Common.{inl, inr}
 use Rattle.std.proofs.lemmas.List.{get_or_past, take_all}
 use Rattle.wcnf.specs.Literal.{Literal}
 use Rattle.clauses.proofs.Laws.{length-zipped, get_or-zipped, zipped-append, zipped-replicate}
+use Rattle.clauses.proofs.Laws.{zipped-set_first}
 use Rattle.watches.specs.declared.table.Attachment.{Attachment}
 use Rattle.watches.specs.declared.table.Attachment.TheVariants.{Watching as WatchingAttachment}
 use Rattle.watches.specs.declared.table.Attachment.TheVariants.{Detached as NoAttachment}
@@ -37,6 +38,21 @@ attachments_kind ks ps r x k P h l at is of =
     sym (get_or-zipped attachment_of ks ps r NoAttachment x any_pair h l
     ∙ ap (λ z. attachment_of z (get_or ps r any_pair)) (sym at ∙ is)
     ∙ of (get_or ps r any_pair))
+
+-- a place of the table is one of both lists
+pub place_within : (ks : List Kind) (ps : List Pair) (table : List Attachment) (r : ℕ)
+    → length ps ≡ length ks → attachments ks ps ≡ table → r < length table
+    → (r < length ks) × (r < length ps)
+place_within ks ps table r h is lt =
+    let long = length-zipped attachment_of ks ps h in
+    (omega (arith, lt, ap length is, long), omega (arith, lt, ap length is, long, h))
+
+-- a place without literals, as it is written
+pub attachments_set_kind : (ks : List Kind) (ps : List Pair) (table : List Attachment) (r : ℕ)
+    (k : Kind) (P : Attachment) → ((p : Pair) → attachment_of k p ≡ P) → attachments ks ps ≡ table
+    → attachments (set ks r k) ps ≡ set table r P
+attachments_set_kind ks ps table r k P of is =
+    zipped-set_first attachment_of ks ps r k P of ∙ ap (λ t. set t r P) is
 
 -- a place with literals, as it is read
 pub attachments_pair : (ks : List Kind) (ps : List Pair) (r : ℕ) (x : Kind) (p : Pair)

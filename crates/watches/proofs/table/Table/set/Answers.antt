@@ -1,86 +1,52 @@
 use Rattle.std.proofs.Common.{◌∙◌, ap, set, length, refl, sym, arith}
-use Rattle.clauses.proofs.Laws.{length-zipped, zipped-set, zipped-set_first}
+use Rattle.clauses.proofs.Laws.{zipped-set}
 use Rattle.watches.specs.declared.table.Attachment.TheVariants.{Detached as DetachedAttachment}
 use Rattle.watches.specs.declared.table.Attachment.TheVariants.{Waiting as WaitingAttachment}
 use Rattle.watches.specs.declared.table.Attachment.TheVariants.{Satisfied as SatisfiedAttachment}
 use Rattle.watches.specs.declared.table.Attachment.TheVariants.{Watching as WatchingAttachment}
 use Rattle.watches.specs.declared.table.Kind.TheVariants.{Detached, Waiting, Satisfied, Watching}
 use Rattle.watches.specs.TableLayout.{attachment_of}
+use Rattle.watches.proofs.Zipped.{place_within, attachments_set_kind}
 use Rattle.watches.proofs.table.Table.set.Goals as goal
 
 pub index_mut-requires : goal.index_mut-requires
 index_mut-requires c = let i = c.self.inside in
-    omega (
-      arith,
-      c.requires,
-      ap length c.self.view_is,
-      length-zipped attachment_of i.kinds.items i.pairs.items c.self.invariant,
-      i.kinds.ok.0,
-    )
+    let within = place_within i.kinds.items i.pairs.items _ _ c.self.invariant c.self.view_is in
+    omega (arith, (within c.requires).0, i.kinds.ok.0)
 
 pub index_mut-requires-in-Waiting : goal.index_mut-requires-in-Waiting
 index_mut-requires-in-Waiting c = let i = c.self.inside in
-    omega (
-      arith,
-      c.requires,
-      ap length c.self.view_is,
-      length-zipped attachment_of i.kinds.items i.pairs.items c.self.invariant,
-      i.kinds.ok.0,
-    )
+    let within = place_within i.kinds.items i.pairs.items _ _ c.self.invariant c.self.view_is in
+    omega (arith, (within c.requires).0, i.kinds.ok.0)
 
 pub index_mut-requires-in-Satisfied : goal.index_mut-requires-in-Satisfied
 index_mut-requires-in-Satisfied c = let i = c.self.inside in
-    omega (
-      arith,
-      c.requires,
-      ap length c.self.view_is,
-      length-zipped attachment_of i.kinds.items i.pairs.items c.self.invariant,
-      i.kinds.ok.0,
-    )
+    let within = place_within i.kinds.items i.pairs.items _ _ c.self.invariant c.self.view_is in
+    omega (arith, (within c.requires).0, i.kinds.ok.0)
 
 pub index_mut-requires-in-Watching : goal.index_mut-requires-in-Watching
 index_mut-requires-in-Watching c = let i = c.self.inside in
-    omega (
-      arith,
-      c.requires,
-      ap length c.self.view_is,
-      length-zipped attachment_of i.kinds.items i.pairs.items c.self.invariant,
-      i.kinds.ok.0,
-    )
+    let within = place_within i.kinds.items i.pairs.items _ _ c.self.invariant c.self.view_is in
+    omega (arith, (within c.requires).0, i.kinds.ok.0)
 
 pub index_mut-requires-in-Watching-2 : goal.index_mut-requires-in-Watching-2
 index_mut-requires-in-Watching-2 c = let i = c.self.inside in
-    omega (
-      arith,
-      c.requires,
-      ap length c.self.view_is,
-      length-zipped attachment_of i.kinds.items i.pairs.items c.self.invariant,
-      c.self.invariant,
-      i.pairs.ok.0,
-    )
+    let within = place_within i.kinds.items i.pairs.items _ _ c.self.invariant c.self.view_is in
+    omega (arith, (within c.requires).1, i.pairs.ok.0)
 
 pub returns-in-Detached : goal.returns-in-Detached
 returns-in-Detached c =
-    let i = c.self.inside in
-    zipped-set_first attachment_of i.kinds.items i.pairs.items c.args.reference Detached
-    DetachedAttachment (λ p. refl)
-    ∙ ap (λ t. set t c.args.reference DetachedAttachment) c.self.view_is
+    attachments_set_kind _ _ _ c.args.reference Detached DetachedAttachment (λ p. refl) c.self.view_is
     ∙ ap (set c.args.self.now c.args.reference) (sym c.in-Detached.is)
 
 pub returns-in-Waiting : goal.returns-in-Waiting
 returns-in-Waiting c =
-    let i = c.self.inside in
-    zipped-set_first attachment_of i.kinds.items i.pairs.items c.args.reference Waiting
-    WaitingAttachment (λ p. refl)
-    ∙ ap (λ t. set t c.args.reference WaitingAttachment) c.self.view_is
+    attachments_set_kind _ _ _ c.args.reference Waiting WaitingAttachment (λ p. refl) c.self.view_is
     ∙ ap (set c.args.self.now c.args.reference) (sym c.in-Waiting.is)
 
 pub returns-in-Satisfied : goal.returns-in-Satisfied
 returns-in-Satisfied c =
-    let i = c.self.inside in
-    zipped-set_first attachment_of i.kinds.items i.pairs.items c.args.reference Satisfied
-    SatisfiedAttachment (λ p. refl)
-    ∙ ap (λ t. set t c.args.reference SatisfiedAttachment) c.self.view_is
+    attachments_set_kind _ _ _ c.args.reference Satisfied SatisfiedAttachment (λ p. refl) c.self.view_is
     ∙ ap (set c.args.self.now c.args.reference) (sym c.in-Satisfied.is)
 
 pub returns-in-Watching : goal.returns-in-Watching
