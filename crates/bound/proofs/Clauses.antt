@@ -1,7 +1,7 @@
 -- Dropped repeats, clauses with an opposite pair and the order change no value.
 use Rattle.std.proofs.Common.{◌≡◌, Bool, true, false, not, ◌&&◌, ◌||◌, List, [], ◌∷◌, reverse}
 use Rattle.std.proofs.Common.{if◌then◌else◌, All, ◌↔◌, inl, inr, refl, sym, ◌∙◌, ap, subst}
-use Rattle.std.specs.List.{list_all}
+use Rattle.std.specs.List.{list_all, list_any}
 use Rattle.std.proofs.lemmas.Bool.{false≢true, or_cases}
 use Rattle.std.proofs.lemmas.Grind.{reverse_onto}
 use Rattle.std.proofs.lemmas.List.Folds.{list_all-append}
@@ -50,28 +50,29 @@ value_member t l (k ∷ c) h e =
     or_true true = refl
     or_true false = refl
 
--- less a false literal, the clause has its value
-value-without : (t : Assignment) (l : Literal) (c : List Literal) → literal_value t l ≡ false
-    → clause_value t (without_literal l c) ≡ clause_value t c
-value-without t l [] e = refl
-value-without t l (k ∷ c) e =
+-- a literal that fails the test can be left out
+any-without : (f : Literal → Bool) (l : Literal) (c : List Literal) → f l ≡ false
+    → list_any f (without_literal l c) ≡ list_any f c
+any-without f l [] e = refl
+any-without f l (k ∷ c) e =
     elim (literal_eq l k) as (λ b. literal_eq l k ≡ b
-    → clause_value t (if not b then k ∷ without_literal l c else without_literal l c)
-    ≡ clause_value t (k ∷ c)) [
-      | true ↦ λ h. value-without t l c e
-          ∙ ap (λ b. b || clause_value t c)
-          (sym (subst (λ m. literal_value t m ≡ false) (literal_eq-true l k h) e))
-      | false ↦ λ h. ap (λ b. literal_value t k || b) (value-without t l c e)
+    → list_any f (if not b then k ∷ without_literal l c else without_literal l c)
+    ≡ list_any f (k ∷ c)) [
+      | true ↦ λ h. any-without f l c e
+          ∙ ap (λ b. b || list_any f c)
+          (sym (subst (λ m. f m ≡ false) (literal_eq-true l k h) e))
+      | false ↦ λ h. ap (λ b. f k || b) (any-without f l c e)
     ] refl
 
-pub value-distinct : (t : Assignment) (c : List Literal)
-    → clause_value t (distinct c) ≡ clause_value t c
-value-distinct t [] = refl
-value-distinct t (l ∷ c) =
-    elim (literal_value t l) as (λ b. literal_value t l ≡ b
-    → (b || clause_value t (without_literal l (distinct c))) ≡ (b || clause_value t c)) [
+-- and so can repeats
+pub any-distinct : (f : Literal → Bool) (c : List Literal)
+    → list_any f (distinct c) ≡ list_any f c
+any-distinct f [] = refl
+any-distinct f (l ∷ c) =
+    elim (f l) as (λ b. f l ≡ b
+    → (b || list_any f (without_literal l (distinct c))) ≡ (b || list_any f c)) [
       | true ↦ λ e. refl
-      | false ↦ λ e. value-without t l (distinct c) e ∙ value-distinct t c
+      | false ↦ λ e. any-without f l (distinct c) e ∙ any-distinct f c
     ] refl
 
 -- a clause with an opposite pair is true
@@ -95,8 +96,8 @@ all_true-kept t (c ∷ cs) =
     → all_true t (if not b then distinct c ∷ kept cs else kept cs) ≡ all_true t (c ∷ cs)) [
       | true ↦ λ h. all_true-kept t cs
           ∙ ap (λ b. b && all_true t cs)
-          (sym (sym (value-distinct t c) ∙ value_opposites t (distinct c) h))
-      | false ↦ λ h. λ i. value-distinct t c i && all_true-kept t cs i
+          (sym (sym (any-distinct (literal_value t) c) ∙ value_opposites t (distinct c) h))
+      | false ↦ λ h. λ i. any-distinct (literal_value t) c i && all_true-kept t cs i
     ] refl
 
 and_comm : (a b : Bool) → (a && b) ≡ (b && a)

@@ -14,7 +14,7 @@ use Rattle.bound.specs.Bound.{kept}
 use Rattle.bound.specs.Adding.{Adds}
 use Rattle.marks.specs.Marks.{HasPlace}
 use Rattle.bound.proofs.Opposites.{same_number}
-use Rattle.bound.proofs.Subsets.{contains-distinct}
+use Rattle.bound.proofs.Clauses.{any-distinct}
 use Rattle.bound.proofs.Fits.{repeat-distinct}
 
 without_absent : (l : Literal) (c : List Literal) → contains_literal l c ≡ false
@@ -155,7 +155,7 @@ distinct_same_step once lits i l b h is inv e =
     let front = take i lits in
     let more : take (i + 1) lits ≡ front ++ l ∷ [] =
     take_more lits i l h ∙ ap (λ x. front ++ x ∷ []) (sym is) in
-    let found : contains_literal l front ≡ b = sym (contains-distinct l front)
+    let found : contains_literal l front ≡ b = sym (any-distinct (literal_eq l) front)
     ∙ ap (contains_literal l) (sym inv) ∙ sym e in
     ap distinct more ∙ distinct-more front l
     ∙ (λ j. if found j then sym inv j else sym inv j ++ l ∷ [])

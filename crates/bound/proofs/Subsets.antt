@@ -6,9 +6,10 @@ use Rattle.std.proofs.lemmas.Bool.{false≢true, true≢false, or_cases, or_left
 use Rattle.std.proofs.lemmas.Grind.{reverse_onto}
 use Rattle.std.proofs.lemmas.List.Folds.{list_any-append}
 use Rattle.wcnf.specs.Literal.{Literal, negation, literal_eq}
-use Rattle.wcnf.specs.Clause.{contains_literal, without_literal, distinct, has_opposites, is_subset}
+use Rattle.wcnf.specs.Clause.{contains_literal, distinct, has_opposites, is_subset}
 use Rattle.wcnf.proofs.Laws.{literal_eq-refl, literal_eq-true, negation_twice}
 use Rattle.bound.specs.Bound.{kept}
+use Rattle.bound.proofs.Clauses.{any-distinct}
 
 not_own_negation : (l : Literal) → l ≡ negation l → ⊥
 not_own_negation l e = by l.negated (λ i. (e i).negated)
@@ -48,34 +49,11 @@ subset_more l d c h =
     subset_from d (l ∷ c) (λ k m. or_right (literal_eq k l) (contains_literal k c)
     (subset_member k d c h m))
 
-contains-without : (l k : Literal) (c : List Literal) → literal_eq l k ≡ false
-    → contains_literal l (without_literal k c) ≡ contains_literal l c
-contains-without l k [] e = refl
-contains-without l k (x ∷ c) e =
-    elim (literal_eq k x) as (λ b. literal_eq k x ≡ b
-    → contains_literal l (if not b then x ∷ without_literal k c else without_literal k c)
-    ≡ contains_literal l (x ∷ c)) [
-      | true ↦ λ h. contains-without l k c e
-          ∙ ap (λ b. b || contains_literal l c)
-          (sym (subst (λ y. literal_eq l y ≡ false) (literal_eq-true k x h) e))
-      | false ↦ λ h. ap (λ b. literal_eq l x || b) (contains-without l k c e)
-    ] refl
-
-pub contains-distinct : (l : Literal) (c : List Literal)
-    → contains_literal l (distinct c) ≡ contains_literal l c
-contains-distinct l [] = refl
-contains-distinct l (k ∷ c) =
-    elim (literal_eq l k) as (λ b. literal_eq l k ≡ b
-    → (b || contains_literal l (without_literal k (distinct c))) ≡ (b || contains_literal l c)) [
-      | true ↦ λ e. refl
-      | false ↦ λ e. contains-without l k (distinct c) e ∙ contains-distinct l c
-    ] refl
-
 subset-distinct : (d c : List Literal) → is_subset d c ≡ true
     → is_subset (distinct d) (distinct c) ≡ true
 subset-distinct d c h =
-    subset_from (distinct d) (distinct c) (λ l m. contains-distinct l c
-    ∙ subset_member l d c h (sym (contains-distinct l d) ∙ m))
+    subset_from (distinct d) (distinct c) (λ l m. any-distinct (literal_eq l) c
+    ∙ subset_member l d c h (sym (any-distinct (literal_eq l) d) ∙ m))
 
 opposites_from : (c : List Literal) → has_opposites c ≡ true
     → (l : Literal) × (contains_literal l c ≡ true) × (contains_literal (negation l) c ≡ true)

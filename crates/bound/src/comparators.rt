@@ -25,11 +25,11 @@ pub fn comparator(network: &Network, k: u64) -> Result<Vec<Clause>, AllocError>
 {
     let mut clauses = ClauseList::new(network.allocator());
     keep_comparator(&mut clauses, network.outputs(), k)?;
-    Ok(owned(&clauses)?)
+    Ok(copy_clauses(&clauses)?)
 }
 
-/// Each clause by itself.
-fn owned(clauses: &ClauseList) -> Result<Vec<Clause>, AllocError>
+/// Each clause in memory of its own.
+fn copy_clauses(clauses: &ClauseList) -> Result<Vec<Clause>, AllocError>
     requires { All (λ c. has_repeat c ≡ false) clauses.now }
     ensures { IfOk result (λ cs. cs.items ≡ clauses.now) }
 {
@@ -68,11 +68,11 @@ fn keep_at_most(
         ≡ clauses.old ++ kept (reverse (rising_clauses outputs.now limit 0))) }
 {
     let mut clause = Vec::new(clauses.allocator());
-    if shifted(limit, outputs.len()) != 0 {
+    if shift_down(limit, outputs.len()) != 0 {
         return Ok(());
     }
     for column in (0..outputs.len()).rev() {
-        let is_set = shifted(limit, column) % 2 == 1;
+        let is_set = shift_down(limit, column) % 2 == 1;
         match outputs[column] {
             Some(output) => {
                 clause.insert(0, output.negation())?;
@@ -89,7 +89,7 @@ fn keep_at_most(
 }
 
 /// The number without its lowest bits, of which there may be more than it has.
-fn shifted(number: u64, places: usize) -> u64
+fn shift_down(number: u64, places: usize) -> u64
     ensures { result ≡ number / 2 ^ places }
 {
     if places < 64 { number >> places } else { 0 }

@@ -2,7 +2,7 @@
 use Rattle.std.proofs.Common.{◌≡◌, ◌++◌, false}
 use Rattle.std.specs.Prelude.{All}
 use Rattle.wcnf.specs.Clause.{has_repeat}
-use Rattle.bound.proofs.comparators.owned.Given as goal
+use Rattle.bound.proofs.comparators.copy_clauses.Given as goal
 
 abbrev pub invariant-loop-clause : goal.invariant-loop-clause
 invariant-loop-clause l = record {

@@ -6,21 +6,21 @@ use Rattle.bound.proofs.Columns.{none_added, starts, bit_set, bit_clear, passes_
 use Rattle.bound.proofs.Columns.{passes_clear, ends_none, ends}
 use Rattle.bound.proofs.comparators.keep_at_most.Goals as goal
 
-pub returns-then-shifted-ne0 : goal.returns-then-shifted-ne0
-returns-then-shifted-ne0 c =
+pub returns-then-shift_down-ne0 : goal.returns-then-shift_down-ne0
+returns-then-shift_down-ne0 c =
     none_added c.args.outputs.now c.args.limit c.args.clauses.now
-    (λ e. c.if-shifted-ne0.true (c.shifted.ensures ∙ e))
+    (λ e. c.if-shift_down-ne0.true (c.shift_down.ensures ∙ e))
 
 pub loop-column-init : goal.loop-column-init
-loop-column-init c = starts c.args.outputs.now c.args.limit _ _ _ refl (sym c.shifted.ensures
-    ∙ c.if-shifted-ne0.false) c.new-clause.ensures.items
+loop-column-init c = starts c.args.outputs.now c.args.limit _ _ _ refl (sym c.shift_down.ensures
+    ∙ c.if-shift_down-ne0.false) c.new-clause.ensures.items
 
 pub loop-column-preserved-then-not-is_set : goal.loop-column-preserved-then-not-is_set
 loop-column-preserved-then-not-is_set c =
     let i = c.loop-column.column - 1 in
     let next : c.loop-column.column ≡ i + 1 = omega arith in
     let b : bit c.args.limit i ≡ false =
-    bit_clear c.args.limit i c.shifted-in-loop-column.result c.shifted-in-loop-column.ensures
+    bit_clear c.args.limit i c.shift_down-in-loop-column.result c.shift_down-in-loop-column.ensures
     c.if-not-is_set.true in
     let inserted : c.insert.new.self.items ≡ no c.in-Some.output ∷ c.loop-column.clause.items =
     cc (c.in_ok-insert-in-Some.ensures.items, c.negation.ensures) in
@@ -38,7 +38,7 @@ loop-column-preserved-else-not-is_set c =
     let i = c.loop-column.column - 1 in
     let next : c.loop-column.column ≡ i + 1 = omega arith in
     let b : bit c.args.limit i ≡ true =
-    bit_set c.args.limit i c.shifted-in-loop-column.result c.shifted-in-loop-column.ensures
+    bit_set c.args.limit i c.shift_down-in-loop-column.result c.shift_down-in-loop-column.ensures
     c.if-not-is_set.false in
     let inserted : c.insert.new.self.items ≡ no c.in-Some.output ∷ c.loop-column.clause.items =
     cc (c.in_ok-insert-in-Some.ensures.items, c.negation.ensures) in
@@ -51,7 +51,7 @@ returns-in-None c =
     let i = c.loop-column.column - 1 in
     let next : c.loop-column.column ≡ i + 1 = omega arith in
     let b : bit c.args.limit i ≡ true =
-    bit_set c.args.limit i c.shifted-in-loop-column.result c.shifted-in-loop-column.ensures
+    bit_set c.args.limit i c.shift_down-in-loop-column.result c.shift_down-in-loop-column.ensures
     c.if-is_set.true in
     ends_none c.args.outputs.now c.args.limit i c.loop-column.column _ c.loop-column.clauses
     c.loop-column.clause.items next (search rules) c.loop-column.invariant _ c.in-None.is b
@@ -61,7 +61,7 @@ loop-column-preserved c =
     let i = c.loop-column.column - 1 in
     let next : c.loop-column.column ≡ i + 1 = omega arith in
     let b : bit c.args.limit i ≡ false =
-    bit_clear c.args.limit i c.shifted-in-loop-column.result c.shifted-in-loop-column.ensures
+    bit_clear c.args.limit i c.shift_down-in-loop-column.result c.shift_down-in-loop-column.ensures
     c.if-is_set.false in
     passes_none c.args.outputs.now c.args.limit i c.loop-column.column _ c.loop-column.clauses
     c.loop-column.clause.items next (search rules) c.loop-column.invariant _ c.in-None.is b

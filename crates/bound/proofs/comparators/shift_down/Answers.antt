@@ -2,7 +2,7 @@
 use Rattle.std.proofs.Common.{◌<◌, ◌≤◌, ◌^◌, arith, sym}
 use Rattle.std.proofs.Math.Pow.{pow_mono}
 use Rattle.std.proofs.Math.Nat.{div-eq_of_lt}
-use Rattle.bound.proofs.comparators.shifted.Goals as goal
+use Rattle.bound.proofs.comparators.shift_down.Goals as goal
 
 pub returns-else-places-lt64 : goal.returns-else-places-lt64
 returns-else-places-lt64 c =

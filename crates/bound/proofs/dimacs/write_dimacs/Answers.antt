@@ -1,42 +1,43 @@
 -- What was put before a fault is a beginning of the text.
-use Rattle.std.proofs.Common.{◌∙◌, ap, length}
+use Rattle.std.proofs.Common.{[], ◌++◌, ◌∙◌, ap, length}
 use Rattle.std.proofs.lemmas.Result.{err_from_is_err_and, on_ok_weaker, on_err_weaker}
-use Rattle.bound.proofs.Streams.{dimacs_left, put_more, put_fault, all_put, part_from_empty}
-use Rattle.bound.proofs.Streams.{whole_from_empty, flush_from_empty}
+use Rattle.bound.specs.Bound.{dimacs_text, header_line}
+use Rattle.bound.proofs.Streams.{IsPutUpTo, lines_of, dimacs_left, put_more, put_fault, all_put}
+use Rattle.bound.proofs.Streams.{part_from_empty, whole_from_empty, flush_from_empty}
+use Rattle.bound.proofs.dimacs.write_dimacs.Given.{Over}
 use Rattle.bound.proofs.dimacs.write_dimacs.Goals as goal
+use Rattle.bound.proofs.dimacs.write_dimacs.Goals.{After-len}
+
+-- nothing is put yet, and this is what is left
+begun : (g : Over) (c : After-len g)
+    → IsPutUpTo (g.W.Write.contents c.args.writer.now) c.new-block.result
+    (dimacs_text c.args.formula.now)
+    (header_line c.vars.result c.len.result ++ (lines_of c.clauses-clauses.result.now ++ []))
+    (g.W.Write.contents c.args.writer.now) c.new-block.result
+begun g c =
+    dimacs_left c.args.formula.now c.vars.result c.len.result c.clauses-clauses.result.now
+    c.vars.ensures.vars (c.len.ensures ∙ ap length c.clauses-clauses.ensures)
+    c.clauses-clauses.ensures (g.W.Write.contents c.args.writer.now) c.new-block.result
 
 pub returns-in_err-put_header-clause-fault : goal.returns-in_err-put_header-clause-fault
 returns-in_err-put_header-clause-fault g c =
     let p = err_from_is_err_and c.from_residual.result c.from_residual.ensures.1 in
-    let count = c.len.ensures ∙ ap length c.clauses-clauses.ensures in
-    let start =
-    dimacs_left c.args.formula.now c.vars.result c.len.result c.clauses-clauses.result.now
-    c.vars.ensures.vars count c.clauses-clauses.ensures (g.W.Write.contents c.args.writer.now)
-    c.new-block.result in
+    let start = begun g (goal.at.returns-in_err-put_header-clause-fault g c).After-len in
     rw (p.1) (part_from_empty _ _ _ _ c.new-block.ensures
     (put_fault _ _ _ _ _ _ _ _ start c.in_err-put_header.ensures.fault))
 
 pub returns-in_err-put_clauses-clause-fault : goal.returns-in_err-put_clauses-clause-fault
 returns-in_err-put_clauses-clause-fault g c =
-    let p =
-    err_from_is_err_and c.from_residual-in_err-put_clauses.result
+    let p = err_from_is_err_and c.from_residual-in_err-put_clauses.result
     c.from_residual-in_err-put_clauses.ensures.1 in
-    let count = c.len.ensures ∙ ap length c.clauses-clauses.ensures in
-    let start =
-    dimacs_left c.args.formula.now c.vars.result c.len.result c.clauses-clauses.result.now
-    c.vars.ensures.vars count c.clauses-clauses.ensures (g.W.Write.contents c.args.writer.now)
-    c.new-block.result in
+    let start = begun g (goal.at.returns-in_err-put_clauses-clause-fault g c).After-len in
     let headed = put_more _ _ _ _ _ _ _ _ start _ c.in_ok-put_header.ensures.ok in
     rw (p.1) (part_from_empty _ _ _ _ c.new-block.ensures
     (put_fault _ _ _ _ _ _ _ _ headed c.in_err-put_clauses.ensures.fault))
 
 pub returns-clause-ok : goal.returns-clause-ok
 returns-clause-ok g c =
-    let count = c.len.ensures ∙ ap length c.clauses-clauses.ensures in
-    let start =
-    dimacs_left c.args.formula.now c.vars.result c.len.result c.clauses-clauses.result.now
-    c.vars.ensures.vars count c.clauses-clauses.ensures (g.W.Write.contents c.args.writer.now)
-    c.new-block.result in
+    let start = begun g (goal.at.returns-clause-ok g c).After-len in
     let headed = put_more _ _ _ _ _ _ _ _ start _ c.in_ok-put_header.ensures.ok in
     let all =
     all_put _ _ _ _ _ (put_more _ _ _ _ _ _ _ _ headed _ c.in_ok-put_clauses.ensures.ok) in
@@ -45,11 +46,7 @@ returns-clause-ok g c =
 
 pub returns-clause-fault : goal.returns-clause-fault
 returns-clause-fault g c =
-    let count = c.len.ensures ∙ ap length c.clauses-clauses.ensures in
-    let start =
-    dimacs_left c.args.formula.now c.vars.result c.len.result c.clauses-clauses.result.now
-    c.vars.ensures.vars count c.clauses-clauses.ensures (g.W.Write.contents c.args.writer.now)
-    c.new-block.result in
+    let start = begun g (goal.at.returns-clause-fault g c).After-len in
     let headed = put_more _ _ _ _ _ _ _ _ start _ c.in_ok-put_header.ensures.ok in
     let all =
     all_put _ _ _ _ _ (put_more _ _ _ _ _ _ _ _ headed _ c.in_ok-put_clauses.ensures.ok) in

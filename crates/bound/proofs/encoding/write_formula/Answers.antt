@@ -1,33 +1,34 @@
 -- What was put before a fault is a beginning of the text.
-use Rattle.std.proofs.Common.{◌≡◌, ◌++◌, [], List, All, length, sym, ap, subst, Option, ℕ}
+use Rattle.std.proofs.Common.{◌++◌, [], List, All, sym, ap, subst}
 use Rattle.std.proofs.lemmas.Result.{err_from_is_err_and}
-use Rattle.wcnf.specs.Literal.{Literal}
-use Rattle.wcnf.specs.Problem.{Problem}
 use Rattle.adder.specs.declared.cells.Cell.{Cell}
-use Rattle.adder.specs.declared.cells.Profile.{Profile}
-use Rattle.adder.specs.Network.{Adders, adders_as}
-use Rattle.bound.specs.Bound.{kept, bound_as, comparator_for, dimacs_text, header_line}
-use Rattle.bound.specs.Bound.{relaxed_clauses}
+use Rattle.adder.specs.Network.{Adders}
+use Rattle.bound.specs.Bound.{kept, bound_as, dimacs_text, header_line}
 use Rattle.bound.specs.Adding.{HasVariables}
 use Rattle.bound.proofs.Fits.{cells_variables}
 use Rattle.bound.proofs.Streams.{IsPutUpTo, lines_of, cells_kept, parts_left, nothing_put, put_more}
 use Rattle.bound.proofs.Streams.{put_fault, all_put, part_from_empty, whole_from_empty}
 use Rattle.bound.proofs.Streams.{flush_from_empty}
+use Rattle.bound.proofs.encoding.write_formula.Given.{Over}
 use Rattle.bound.proofs.encoding.write_formula.Goals as goal
+use Rattle.bound.proofs.encoding.write_formula.Goals.{After-new-block}
 
 -- nothing is put yet, and this is what is left
-begun : (profile : Profile) (p : Problem) (k v n : ℕ) (r m : List (List Literal)) (x : Adders)
-    → r ≡ kept (relaxed_clauses profile p) → x ≡ adders_as profile p
-    → m ≡ comparator_for profile p k
-    → (ev : v ≡ (bound_as profile p k).variables) (en : n ≡ length (bound_as profile p k).clauses)
-    → (a : Option (List ℕ)) (held : List ℕ)
-    → (let f = bound_as profile p k in
-    IsPutUpTo a held (dimacs_text f)
-    (header_line v n ++ (lines_of (kept p.hard)
-    ++ (lines_of r ++ (lines_of (cells_kept x.cells) ++ (lines_of m ++ []))))) a held)
-begun profile p k v n r m x er ex em ev en a held =
-    parts_left (bound_as profile p k) v n (kept p.hard) r (cells_kept x.cells) m ev en
-    (λ i. kept p.hard ++ sym er i ++ cells_kept (sym ex i).cells ++ sym em i) a held
+begun : (g : Over) (c : After-new-block g)
+    → (let o = c.in_ok-outline.outline in
+    IsPutUpTo (g.W.Write.contents c.args.writer.now) c.new-block.result
+    (dimacs_text (bound_as c.args.profile c.args.instance.now c.args.k))
+    (header_line o.vars o.count ++ (lines_of (kept c.args.instance.now.hard) ++ (lines_of o.relaxed
+    ++ (lines_of (cells_kept o.network.cells) ++ (lines_of o.comparator ++ [])))))
+    (g.W.Write.contents c.args.writer.now) c.new-block.result)
+begun g c =
+    let o = c.in_ok-outline.outline in
+    let p = c.args.instance.now in
+    let is = c.in_ok-outline.ensures in
+    parts_left (bound_as c.args.profile p c.args.k) o.vars o.count (kept p.hard) o.relaxed
+    (cells_kept o.network.cells) o.comparator is.vars is.count
+    (λ i. kept p.hard ++ sym (is.relaxed) i ++ cells_kept (sym (is.network) i).cells
+    ++ sym (is.comparator) i) (g.W.Write.contents c.args.writer.now) c.new-block.result
 
 pub put_cells-requires : goal.put_cells-requires
 put_cells-requires g c =
@@ -49,47 +50,26 @@ returns-in_err-outline-clause-fault g c =
 
 pub returns-in_err-put_header-clause-fault : goal.returns-in_err-put_header-clause-fault
 returns-in_err-put_header-clause-fault g c =
-    let p =
-    err_from_is_err_and c.from_residual-in_err-put_header.result
+    let p = err_from_is_err_and c.from_residual-in_err-put_header.result
     c.from_residual-in_err-put_header.ensures.1 in
-    let start =
-    begun c.args.profile c.args.instance.now c.args.k c.in_ok-outline.outline.vars
-    c.in_ok-outline.outline.count c.in_ok-outline.outline.relaxed
-    c.in_ok-outline.outline.comparator c.in_ok-outline.outline.network
-    c.in_ok-outline.ensures.relaxed c.in_ok-outline.ensures.network
-    c.in_ok-outline.ensures.comparator c.in_ok-outline.ensures.vars
-    c.in_ok-outline.ensures.count (g.W.Write.contents c.args.writer.now) c.new-block.result in
+    let start = begun g (goal.at.returns-in_err-put_header-clause-fault g c).After-new-block in
     rw (p.1) (part_from_empty _ _ _ _ c.new-block.ensures
     (put_fault _ _ _ _ _ _ _ _ start c.in_err-put_header.ensures.fault))
 
 pub returns-in_err-put_hard-clause-fault : goal.returns-in_err-put_hard-clause-fault
 returns-in_err-put_hard-clause-fault g c =
-    let p =
-    err_from_is_err_and c.from_residual-in_err-put_hard.result
+    let p = err_from_is_err_and c.from_residual-in_err-put_hard.result
     c.from_residual-in_err-put_hard.ensures.1 in
-    let start =
-    begun c.args.profile c.args.instance.now c.args.k c.in_ok-outline.outline.vars
-    c.in_ok-outline.outline.count c.in_ok-outline.outline.relaxed
-    c.in_ok-outline.outline.comparator c.in_ok-outline.outline.network
-    c.in_ok-outline.ensures.relaxed c.in_ok-outline.ensures.network
-    c.in_ok-outline.ensures.comparator c.in_ok-outline.ensures.vars
-    c.in_ok-outline.ensures.count (g.W.Write.contents c.args.writer.now) c.new-block.result in
+    let start = begun g (goal.at.returns-in_err-put_hard-clause-fault g c).After-new-block in
     let header = put_more _ _ _ _ _ _ _ _ start _ c.in_ok-put_header.ensures.ok in
     rw (p.1) (part_from_empty _ _ _ _ c.new-block.ensures
     (put_fault _ _ _ _ _ _ _ _ header c.in_err-put_hard.ensures.fault))
 
 pub returns-in_err-put_clauses-clause-fault : goal.returns-in_err-put_clauses-clause-fault
 returns-in_err-put_clauses-clause-fault g c =
-    let p =
-    err_from_is_err_and c.from_residual-in_err-put_clauses.result
+    let p = err_from_is_err_and c.from_residual-in_err-put_clauses.result
     c.from_residual-in_err-put_clauses.ensures.1 in
-    let start =
-    begun c.args.profile c.args.instance.now c.args.k c.in_ok-outline.outline.vars
-    c.in_ok-outline.outline.count c.in_ok-outline.outline.relaxed
-    c.in_ok-outline.outline.comparator c.in_ok-outline.outline.network
-    c.in_ok-outline.ensures.relaxed c.in_ok-outline.ensures.network
-    c.in_ok-outline.ensures.comparator c.in_ok-outline.ensures.vars
-    c.in_ok-outline.ensures.count (g.W.Write.contents c.args.writer.now) c.new-block.result in
+    let start = begun g (goal.at.returns-in_err-put_clauses-clause-fault g c).After-new-block in
     let header = put_more _ _ _ _ _ _ _ _ start _ c.in_ok-put_header.ensures.ok in
     let hard = put_more _ _ _ _ _ _ _ _ header _ c.in_ok-put_hard.ensures.ok in
     rw (p.1) (part_from_empty _ _ _ _ c.new-block.ensures
@@ -97,16 +77,9 @@ returns-in_err-put_clauses-clause-fault g c =
 
 pub returns-in_err-put_cells-clause-fault : goal.returns-in_err-put_cells-clause-fault
 returns-in_err-put_cells-clause-fault g c =
-    let p =
-    err_from_is_err_and c.from_residual-in_err-put_cells.result
+    let p = err_from_is_err_and c.from_residual-in_err-put_cells.result
     c.from_residual-in_err-put_cells.ensures.1 in
-    let start =
-    begun c.args.profile c.args.instance.now c.args.k c.in_ok-outline.outline.vars
-    c.in_ok-outline.outline.count c.in_ok-outline.outline.relaxed
-    c.in_ok-outline.outline.comparator c.in_ok-outline.outline.network
-    c.in_ok-outline.ensures.relaxed c.in_ok-outline.ensures.network
-    c.in_ok-outline.ensures.comparator c.in_ok-outline.ensures.vars
-    c.in_ok-outline.ensures.count (g.W.Write.contents c.args.writer.now) c.new-block.result in
+    let start = begun g (goal.at.returns-in_err-put_cells-clause-fault g c).After-new-block in
     let header = put_more _ _ _ _ _ _ _ _ start _ c.in_ok-put_header.ensures.ok in
     let hard = put_more _ _ _ _ _ _ _ _ header _ c.in_ok-put_hard.ensures.ok in
     let soft = put_more _ _ _ _ _ _ _ _ hard _ c.in_ok-put_clauses.ensures.ok in
@@ -115,16 +88,9 @@ returns-in_err-put_cells-clause-fault g c =
 
 pub returns-in_err-put_clauses-2-clause-fault : goal.returns-in_err-put_clauses-2-clause-fault
 returns-in_err-put_clauses-2-clause-fault g c =
-    let p =
-    err_from_is_err_and c.from_residual-in_err-put_clauses-2.result
+    let p = err_from_is_err_and c.from_residual-in_err-put_clauses-2.result
     c.from_residual-in_err-put_clauses-2.ensures.1 in
-    let start =
-    begun c.args.profile c.args.instance.now c.args.k c.in_ok-outline.outline.vars
-    c.in_ok-outline.outline.count c.in_ok-outline.outline.relaxed
-    c.in_ok-outline.outline.comparator c.in_ok-outline.outline.network
-    c.in_ok-outline.ensures.relaxed c.in_ok-outline.ensures.network
-    c.in_ok-outline.ensures.comparator c.in_ok-outline.ensures.vars
-    c.in_ok-outline.ensures.count (g.W.Write.contents c.args.writer.now) c.new-block.result in
+    let start = begun g (goal.at.returns-in_err-put_clauses-2-clause-fault g c).After-new-block in
     let header = put_more _ _ _ _ _ _ _ _ start _ c.in_ok-put_header.ensures.ok in
     let hard = put_more _ _ _ _ _ _ _ _ header _ c.in_ok-put_hard.ensures.ok in
     let soft = put_more _ _ _ _ _ _ _ _ hard _ c.in_ok-put_clauses.ensures.ok in
@@ -134,16 +100,9 @@ returns-in_err-put_clauses-2-clause-fault g c =
 
 pub returns-in_err-flush-clause-fault : goal.returns-in_err-flush-clause-fault
 returns-in_err-flush-clause-fault g c =
-    let p =
-    err_from_is_err_and c.from_residual-in_err-flush.result c.from_residual-in_err-flush.ensures.1
-    in
-    let start =
-    begun c.args.profile c.args.instance.now c.args.k c.in_ok-outline.outline.vars
-    c.in_ok-outline.outline.count c.in_ok-outline.outline.relaxed
-    c.in_ok-outline.outline.comparator c.in_ok-outline.outline.network
-    c.in_ok-outline.ensures.relaxed c.in_ok-outline.ensures.network
-    c.in_ok-outline.ensures.comparator c.in_ok-outline.ensures.vars
-    c.in_ok-outline.ensures.count (g.W.Write.contents c.args.writer.now) c.new-block.result in
+    let p = err_from_is_err_and c.from_residual-in_err-flush.result
+    c.from_residual-in_err-flush.ensures.1 in
+    let start = begun g (goal.at.returns-in_err-flush-clause-fault g c).After-new-block in
     let header = put_more _ _ _ _ _ _ _ _ start _ c.in_ok-put_header.ensures.ok in
     let hard = put_more _ _ _ _ _ _ _ _ header _ c.in_ok-put_hard.ensures.ok in
     let soft = put_more _ _ _ _ _ _ _ _ hard _ c.in_ok-put_clauses.ensures.ok in
@@ -154,13 +113,7 @@ returns-in_err-flush-clause-fault g c =
 
 pub returns-clause-ok : goal.returns-clause-ok
 returns-clause-ok g c =
-    let start =
-    begun c.args.profile c.args.instance.now c.args.k c.in_ok-outline.outline.vars
-    c.in_ok-outline.outline.count c.in_ok-outline.outline.relaxed
-    c.in_ok-outline.outline.comparator c.in_ok-outline.outline.network
-    c.in_ok-outline.ensures.relaxed c.in_ok-outline.ensures.network
-    c.in_ok-outline.ensures.comparator c.in_ok-outline.ensures.vars
-    c.in_ok-outline.ensures.count (g.W.Write.contents c.args.writer.now) c.new-block.result in
+    let start = begun g (goal.at.returns-clause-ok g c).After-new-block in
     let header = put_more _ _ _ _ _ _ _ _ start _ c.in_ok-put_header.ensures.ok in
     let hard = put_more _ _ _ _ _ _ _ _ header _ c.in_ok-put_hard.ensures.ok in
     let soft = put_more _ _ _ _ _ _ _ _ hard _ c.in_ok-put_clauses.ensures.ok in
