@@ -1,5 +1,5 @@
 -- The hints of a line lie between the ends of two heads.
-use Rattle.std.proofs.Common.{◌<◌, length, ◌∙◌, arith}
+use Rattle.std.proofs.Common.{◌∙◌, arith}
 use Rattle.lrat_log.specs.Log.{line_at}
 use Rattle.lrat_log.specs.Flat.{lines_from}
 use Rattle.lrat_log.proofs.Flat.{below_heads, hints-line_at, Placed}
@@ -8,23 +8,18 @@ use Rattle.lrat_log.proofs.log.Log.packed_hints.Goals.{After-find_ends-end}
 
 pub find_ends-start-requires : goal.find_ends-start-requires
 find_ends-start-requires c =
-    let h : c.args.line < length c.self.inside.heads.items =
-    below_heads _ _ _ _ _ c.self.view_is c.requires in
-    rw c.deref.ensures.value (omega arith)
+    rw c.deref.ensures.value (omega (arith, below_heads _ _ _ _ _ c.self.view_is c.requires))
 
 pub find_ends-end-requires : goal.find_ends-end-requires
 find_ends-end-requires c =
-    let h : c.args.line < length c.self.inside.heads.items =
-    below_heads _ _ _ _ _ c.self.view_is c.requires in
-    rw c.deref-2.ensures.value (omega arith)
+    rw c.deref-2.ensures.value (omega (arith, below_heads _ _ _ _ _ c.self.view_is c.requires))
 
 placed : (c : After-find_ends-end)
     → Placed c.self.inside.hints.items c.find_ends-start.result.1 c.find_ends-end.result.1
     (line_at (lines_from 0 0 c.self.inside.heads.items c.self.inside.lits.items
     c.self.inside.hints.items) c.args.line).hints
 placed c =
-    let h : c.args.line < length c.self.inside.heads.items =
-    below_heads _ _ _ _ _ c.self.view_is c.requires in
+    let h = below_heads _ _ _ _ _ c.self.view_is c.requires in
     let start = rw c.deref.ensures.value at c.find_ends-start.ensures.hints in
     let end = rw c.deref-2.ensures.value at c.find_ends-end.ensures.hints in
     hints-line_at _ _ _ _ _ _ c.self.invariant.ends h start end
