@@ -131,10 +131,11 @@ IsDone c A = (IsFalseUnder c A → ⊥) × ((l : Literal) → IsUnit c A l → �
 true_done : (c A : List Literal) → NoOpposites A → HasTrue c A → IsDone c A
 true_done c A apart h = (
   (λ f. apart h.0 h.2 (all_at (λ l. contains_literal (negation l) A ≡ true) c h.0 f h.1)),
-  (λ l u. elim (all_at (λ k. (k ≡ l) ⊎ (contains_literal (negation k) A ≡ true)) c h.0 u.others h.1) [
-    | inl same ↦ both_ways _ u.not_true (subst (λ z. contains_literal z A ≡ true) same h.2)
-    | inr contrary ↦ apart h.0 h.2 contrary
-  ]),
+  (λ l u. elim (all_at (λ k. (k ≡ l) ⊎ (contains_literal (negation k) A ≡ true)) c h.0 u.others
+      h.1) [
+        | inl same ↦ both_ways _ u.not_true (subst (λ z. contains_literal z A ≡ true) same h.2)
+        | inr contrary ↦ apart h.0 h.2 contrary
+      ]),
 )
 
 -- neither is one with two literals that are not false

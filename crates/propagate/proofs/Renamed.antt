@@ -45,9 +45,6 @@ engine_named e ms table = record {
       };
 }
 
-watching_kept : (p : Attachment) (one other : Literal) → IsWatching p one other → is_kept p ≡ true
-watching_kept p one other e = ap is_kept e
-
 gone : (p : Attachment) (i : ℕ) → is_kept p ≡ false → watches_at p i ≡ 0
 gone Detached i h = refl
 gone Waiting i h = absurd (cc)
