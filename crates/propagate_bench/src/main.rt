@@ -16,7 +16,7 @@ use std::rt::{Env, Files};
 use std::{env, fs};
 
 /// Reads the formula of a file and plays so many rounds on it.
-fn measured<R: Files + AllocGlobal>(rt: &R, path: &str, rounds: u64) -> Result<Counts, Fault> {
+fn measure<R: Files + AllocGlobal>(rt: &R, path: &str, rounds: u64) -> Result<Counts, Fault> {
     let text = fs::read(rt, path).map_err(|_| Fault::Read)?;
     let vars = greatest_variable(&text)?;
     let mut store = Store::new(rt.alloc());
@@ -25,28 +25,23 @@ fn measured<R: Files + AllocGlobal>(rt: &R, path: &str, rounds: u64) -> Result<C
     play_rounds(&mut engine, &store, vars, rounds)
 }
 
-/// The words `FILE ROUNDS`.
-fn told<R: Files + AllocGlobal + Env>(rt: &R) -> Result<Counts, Fault> {
+/// The same for the program's arguments, the words `FILE ROUNDS`.
+fn measure_args<R: Files + AllocGlobal + Env>(rt: &R) -> Result<Counts, Fault> {
     let mut words = env::args(rt).map_err(|_| Fault::Usage)?;
     let _program = words.next();
     let (Some(path), Some(rounds)) = (words.next(), words.next()) else {
         return Err(Fault::Usage);
     };
     let rounds = rounds.parse::<u64>().map_err(|_| Fault::Usage)?;
-    measured(rt, path.as_str(), rounds)
+    measure(rt, path.as_str(), rounds)
 }
 
 fn main(rt: HostRuntime) -> ExitCode {
-    match told(&rt) {
+    match measure_args(&rt) {
         Ok(counts) => {
-            let Counts {
-                rounds,
-                decisions,
-                propagations,
-                conflicts,
-            } = counts;
             let _ = println!(rt;
-                "rounds {rounds} decisions {decisions} propagations {propagations} conflicts {conflicts}"
+                "rounds {} decisions {} propagations {} conflicts {}",
+                counts.rounds, counts.decisions, counts.propagations, counts.conflicts
             );
             ExitCode::from(0)
         }
