@@ -1,3 +1,4 @@
 pub mod Bound
 pub mod Adding
 pub mod Vectors
+pub mod Encoding

@@ -9,6 +9,7 @@ ghost use Rattle.adder.specs.Network.{adders_as};
 ghost use Rattle.bound.specs.Bound.{kept, bound_as, cell_clauses, comparator_for, dimacs_clause};
 ghost use Rattle.bound.specs.Bound.{dimacs_text, relaxed_clauses};
 ghost use Rattle.bound.specs.Adding.{HasVariables};
+ghost use Rattle.bound.specs.Encoding.{outlined};
 
 use crate::cells::keep_cell;
 use crate::comparators::keep_comparator;
@@ -77,9 +78,27 @@ pub fn write_formula<W: Write>(
     let most = instance.vars() + instance.soft().len() as u32;
     let mut marks = Marks::new(instance.allocator(), most)?;
     let outline = Outline::of(instance, k, profile, &mut marks)?;
+    put_formula(instance, &outline, &mut marks, writer)
+}
+
+/// Puts the formula of an outline, part after part.
+fn put_formula<W: Write>(
+    instance: &Instance,
+    outline: &Outline,
+    marks: &mut Marks,
+    writer: &mut W,
+) -> Result<(), EncodeFault>
+    requires places { 2 * instance.now.variables ≤ length marks.old }
+    requires cells { All HasVariables outline.now.network.cells }
+    requires count { outline.now.count ≡ length (outlined instance.now.hard outline.now).clauses }
+    ensures ok { OnOk result (Appends (W.contents writer.old) (W.contents writer.new)
+        (dimacs_text (outlined instance.now.hard outline.now))) }
+    ensures fault { OnErr result (AppendsPart (W.contents writer.old) (W.contents writer.new)
+        (dimacs_text (outlined instance.now.hard outline.now))) }
+{
     let mut block = Block::new();
     put_header(&mut block, writer, outline.vars, outline.count)?;
-    put_hard(&mut block, writer, instance, &mut marks)?;
+    put_hard(&mut block, writer, instance, marks)?;
     put_clauses(&mut block, writer, &outline.relaxed)?;
     put_cells(&mut block, writer, &outline.network)?;
     put_clauses(&mut block, writer, &outline.comparator)?;

@@ -1,40 +1,44 @@
--- What was put before a fault is a beginning of the text.
-use Rattle.std.proofs.Common.{◌++◌, [], List, All, sym, ap, subst}
-use Rattle.std.proofs.lemmas.Result.{err_from_is_err_and}
+-- What the outline says is the formula of the bound.
+use Rattle.std.proofs.Common.{◌≡◌, ◌++◌, List, All, length, sym, ◌∙◌, ap, subst, ℕ}
+use Rattle.std.proofs.lemmas.Result.{err_from_is_err_and, on_ok_weaker, on_err_weaker}
+use Rattle.std.specs.Io.KnownBytes.{Appends}
+use Rattle.wcnf.specs.Writing.{AppendsPart}
+use Rattle.wcnf.specs.Literal.{Literal}
+use Rattle.wcnf.specs.Formula.{Cnf}
+use Rattle.wcnf.specs.Problem.{Problem}
 use Rattle.adder.specs.declared.cells.Cell.{Cell}
-use Rattle.adder.specs.Network.{Adders}
-use Rattle.bound.specs.Bound.{kept, bound_as, dimacs_text, header_line}
+use Rattle.adder.specs.declared.cells.Profile.{Profile}
+use Rattle.adder.specs.Network.{Adders, adders_as}
+use Rattle.bound.specs.declared.encoding.Outline.{Outline}
+use Rattle.bound.specs.Bound.{kept, bound_as, comparator_for, dimacs_text, relaxed_clauses}
 use Rattle.bound.specs.Adding.{HasVariables}
+use Rattle.bound.specs.Encoding.{outlined}
 use Rattle.bound.proofs.Fits.{cells_variables}
-use Rattle.bound.proofs.Streams.{IsPutUpTo, lines_of, cells_kept, parts_left, nothing_put, put_more}
-use Rattle.bound.proofs.Streams.{put_fault, all_put, part_from_empty, whole_from_empty}
-use Rattle.bound.proofs.Streams.{flush_from_empty}
-use Rattle.bound.proofs.encoding.write_formula.Given.{Over}
+use Rattle.bound.proofs.Streams.{cells_kept, nothing_put}
 use Rattle.bound.proofs.encoding.write_formula.Goals as goal
-use Rattle.bound.proofs.encoding.write_formula.Goals.{After-new-block}
 
--- nothing is put yet, and this is what is left
-begun : (g : Over) (c : After-new-block g)
-    → (let o = c.in_ok-outline.outline in
-    IsPutUpTo (g.W.Write.contents c.args.writer.now) c.new-block.result
-    (dimacs_text (bound_as c.args.profile c.args.instance.now c.args.k))
-    (header_line o.vars o.count ++ (lines_of (kept c.args.instance.now.hard) ++ (lines_of o.relaxed
-    ++ (lines_of (cells_kept o.network.cells) ++ (lines_of o.comparator ++ [])))))
-    (g.W.Write.contents c.args.writer.now) c.new-block.result)
-begun g c =
-    let o = c.in_ok-outline.outline in
-    let p = c.args.instance.now in
-    let is = c.in_ok-outline.ensures in
-    parts_left (bound_as c.args.profile p c.args.k) o.vars o.count (kept p.hard) o.relaxed
-    (cells_kept o.network.cells) o.comparator is.vars is.count
-    (λ i. kept p.hard ++ sym (is.relaxed) i ++ cells_kept (sym (is.network) i).cells
-    ++ sym (is.comparator) i) (g.W.Write.contents c.args.writer.now) c.new-block.result
+outlined_is : (profile : Profile) (p : Problem) (k : ℕ) (o : Outline)
+    → o.relaxed ≡ kept (relaxed_clauses profile p) → o.network ≡ adders_as profile p
+    → o.comparator ≡ comparator_for profile p k → o.vars ≡ (bound_as profile p k).variables
+    → outlined p.hard o ≡ bound_as profile p k
+outlined_is profile p k o er ex em ev = λ i. record {
+  variables = ev i;
+  clauses = kept p.hard ++ er i ++ cells_kept (ex i).cells ++ em i;
+}
 
-pub put_cells-requires : goal.put_cells-requires
-put_cells-requires g c =
+pub put_formula-requires-clause-cells : goal.put_formula-requires-clause-cells
+put_formula-requires-clause-cells g c =
     let P : List Cell → Type 0 = λ x. All HasVariables x in
     subst P (sym (ap (λ (n : Adders). n.cells) c.in_ok-outline.ensures.network))
     (cells_variables c.args.profile c.args.instance.now c.vars.ensures.limits)
+
+pub put_formula-requires-clause-count : goal.put_formula-requires-clause-count
+put_formula-requires-clause-count g c =
+    let is =
+    outlined_is c.args.profile c.args.instance.now c.args.k c.in_ok-outline.outline
+    c.in_ok-outline.ensures.relaxed c.in_ok-outline.ensures.network
+    c.in_ok-outline.ensures.comparator c.in_ok-outline.ensures.vars in
+    c.in_ok-outline.ensures.count ∙ sym (ap (λ (f : Cnf). length f.clauses) is)
 
 pub returns-in_err-marks-clause-fault : goal.returns-in_err-marks-clause-fault
 returns-in_err-marks-clause-fault g c =
@@ -48,76 +52,22 @@ returns-in_err-outline-clause-fault g c =
     c.from_residual-in_err-outline.ensures.1 in
     rw (p.1) (nothing_put _ _)
 
-pub returns-in_err-put_header-clause-fault : goal.returns-in_err-put_header-clause-fault
-returns-in_err-put_header-clause-fault g c =
-    let p = err_from_is_err_and c.from_residual-in_err-put_header.result
-    c.from_residual-in_err-put_header.ensures.1 in
-    let start = begun g (goal.at.returns-in_err-put_header-clause-fault g c).After-new-block in
-    rw (p.1) (part_from_empty _ _ _ _ c.new-block.ensures
-    (put_fault _ _ _ _ _ _ _ _ start c.in_err-put_header.ensures.fault))
-
-pub returns-in_err-put_hard-clause-fault : goal.returns-in_err-put_hard-clause-fault
-returns-in_err-put_hard-clause-fault g c =
-    let p = err_from_is_err_and c.from_residual-in_err-put_hard.result
-    c.from_residual-in_err-put_hard.ensures.1 in
-    let start = begun g (goal.at.returns-in_err-put_hard-clause-fault g c).After-new-block in
-    let header = put_more _ _ _ _ _ _ _ _ start _ c.in_ok-put_header.ensures.ok in
-    rw (p.1) (part_from_empty _ _ _ _ c.new-block.ensures
-    (put_fault _ _ _ _ _ _ _ _ header c.in_err-put_hard.ensures.fault))
-
-pub returns-in_err-put_clauses-clause-fault : goal.returns-in_err-put_clauses-clause-fault
-returns-in_err-put_clauses-clause-fault g c =
-    let p = err_from_is_err_and c.from_residual-in_err-put_clauses.result
-    c.from_residual-in_err-put_clauses.ensures.1 in
-    let start = begun g (goal.at.returns-in_err-put_clauses-clause-fault g c).After-new-block in
-    let header = put_more _ _ _ _ _ _ _ _ start _ c.in_ok-put_header.ensures.ok in
-    let hard = put_more _ _ _ _ _ _ _ _ header _ c.in_ok-put_hard.ensures.ok in
-    rw (p.1) (part_from_empty _ _ _ _ c.new-block.ensures
-    (put_fault _ _ _ _ _ _ _ _ hard c.in_err-put_clauses.ensures.fault))
-
-pub returns-in_err-put_cells-clause-fault : goal.returns-in_err-put_cells-clause-fault
-returns-in_err-put_cells-clause-fault g c =
-    let p = err_from_is_err_and c.from_residual-in_err-put_cells.result
-    c.from_residual-in_err-put_cells.ensures.1 in
-    let start = begun g (goal.at.returns-in_err-put_cells-clause-fault g c).After-new-block in
-    let header = put_more _ _ _ _ _ _ _ _ start _ c.in_ok-put_header.ensures.ok in
-    let hard = put_more _ _ _ _ _ _ _ _ header _ c.in_ok-put_hard.ensures.ok in
-    let soft = put_more _ _ _ _ _ _ _ _ hard _ c.in_ok-put_clauses.ensures.ok in
-    rw (p.1) (part_from_empty _ _ _ _ c.new-block.ensures
-    (put_fault _ _ _ _ _ _ _ _ soft c.in_err-put_cells.ensures.fault))
-
-pub returns-in_err-put_clauses-2-clause-fault : goal.returns-in_err-put_clauses-2-clause-fault
-returns-in_err-put_clauses-2-clause-fault g c =
-    let p = err_from_is_err_and c.from_residual-in_err-put_clauses-2.result
-    c.from_residual-in_err-put_clauses-2.ensures.1 in
-    let start = begun g (goal.at.returns-in_err-put_clauses-2-clause-fault g c).After-new-block in
-    let header = put_more _ _ _ _ _ _ _ _ start _ c.in_ok-put_header.ensures.ok in
-    let hard = put_more _ _ _ _ _ _ _ _ header _ c.in_ok-put_hard.ensures.ok in
-    let soft = put_more _ _ _ _ _ _ _ _ hard _ c.in_ok-put_clauses.ensures.ok in
-    let cells = put_more _ _ _ _ _ _ _ _ soft _ c.in_ok-put_cells.ensures.ok in
-    rw (p.1) (part_from_empty _ _ _ _ c.new-block.ensures
-    (put_fault _ _ _ _ _ _ _ _ cells c.in_err-put_clauses-2.ensures.fault))
-
-pub returns-in_err-flush-clause-fault : goal.returns-in_err-flush-clause-fault
-returns-in_err-flush-clause-fault g c =
-    let p = err_from_is_err_and c.from_residual-in_err-flush.result
-    c.from_residual-in_err-flush.ensures.1 in
-    let start = begun g (goal.at.returns-in_err-flush-clause-fault g c).After-new-block in
-    let header = put_more _ _ _ _ _ _ _ _ start _ c.in_ok-put_header.ensures.ok in
-    let hard = put_more _ _ _ _ _ _ _ _ header _ c.in_ok-put_hard.ensures.ok in
-    let soft = put_more _ _ _ _ _ _ _ _ hard _ c.in_ok-put_clauses.ensures.ok in
-    let cells = put_more _ _ _ _ _ _ _ _ soft _ c.in_ok-put_cells.ensures.ok in
-    let compared = put_more _ _ _ _ _ _ _ _ cells _ c.in_ok-put_clauses-2.ensures.ok in
-    rw (p.1) (flush_from_empty _ _ _ _ _ _ c.new-block.ensures (all_put _ _ _ _ _ compared)
-    c.in_err-flush.ensures.fault)
-
 pub returns-clause-ok : goal.returns-clause-ok
 returns-clause-ok g c =
-    let start = begun g (goal.at.returns-clause-ok g c).After-new-block in
-    let header = put_more _ _ _ _ _ _ _ _ start _ c.in_ok-put_header.ensures.ok in
-    let hard = put_more _ _ _ _ _ _ _ _ header _ c.in_ok-put_hard.ensures.ok in
-    let soft = put_more _ _ _ _ _ _ _ _ hard _ c.in_ok-put_clauses.ensures.ok in
-    let cells = put_more _ _ _ _ _ _ _ _ soft _ c.in_ok-put_cells.ensures.ok in
-    let compared = put_more _ _ _ _ _ _ _ _ cells _ c.in_ok-put_clauses-2.ensures.ok in
-    whole_from_empty _ _ _ _ _ _ c.new-block.ensures (all_put _ _ _ _ _ compared)
-    c.in_ok-flush.ensures.ok
+    let is =
+    outlined_is c.args.profile c.args.instance.now c.args.k c.in_ok-outline.outline
+    c.in_ok-outline.ensures.relaxed c.in_ok-outline.ensures.network
+    c.in_ok-outline.ensures.comparator c.in_ok-outline.ensures.vars in
+    on_ok_weaker c.put_formula.result
+    (λ q. subst (λ f. Appends (g.W.Write.contents c.args.writer.now)
+    (g.W.Write.contents c.put_formula.new.writer) (dimacs_text f)) is q) c.put_formula.ensures.ok
+
+pub returns-clause-fault : goal.returns-clause-fault
+returns-clause-fault g c =
+    let is =
+    outlined_is c.args.profile c.args.instance.now c.args.k c.in_ok-outline.outline
+    c.in_ok-outline.ensures.relaxed c.in_ok-outline.ensures.network
+    c.in_ok-outline.ensures.comparator c.in_ok-outline.ensures.vars in
+    on_err_weaker c.put_formula.result
+    (λ q. subst (λ f. AppendsPart (g.W.Write.contents c.args.writer.now)
+    (g.W.Write.contents c.put_formula.new.writer) (dimacs_text f)) is q) c.put_formula.ensures.fault
