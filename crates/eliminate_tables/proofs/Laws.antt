@@ -1,5 +1,6 @@
 -- The laws of this crate that other crates cite, from one place.
 pub use Rattle.eliminate_tables.proofs.Built.{member_has}
+pub use Rattle.eliminate_tables.proofs.Counted.{under_live}
 pub use Rattle.eliminate_tables.proofs.Resolve.{contains-either, each_literal, filter-contains}
 pub use Rattle.eliminate_tables.proofs.Resolve.{literal_eq-negation, negation_twice, not-opposite}
 pub use Rattle.eliminate_tables.proofs.Resolve.{not-opposite_too, not_not, resolvent-open}
