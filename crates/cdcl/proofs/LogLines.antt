@@ -17,8 +17,8 @@ use Rattle.lrat_log.specs.Steps.{StaysLogOver, AddsNoEmptyClause, IsOwnGroup}
 use Rattle.lrat_log.proofs.Laws.{steps_from_chain}
 use Rattle.cdcl.specs.Hinting.{plain_hints}
 use Rattle.lrat_log.proofs.Laws.{chain_join, stops_push, live_more, base_front}
-use Rattle.lrat_log.proofs.Laws.{refutes_covered, ids_covered}
-use Rattle.cdcl.proofs.Chains.{live_of, last-live_of, live_of-append, numbered_on-append}
+use Rattle.lrat_log.proofs.Laws.{refutes_covered, ids_covered, numbered_on-append}
+use Rattle.cdcl.proofs.Chains.{live_of, last-live_of, live_of-append}
 
 -- hints that are plain
 
