@@ -142,7 +142,8 @@ open_all A (z ∷ zs) each once apart =
 
 within_front : (A B C : List Literal) → Within B C → Within (A ++ B) (A ++ C)
 within_front A B C w l m =
-    elim (or_cases (contains_literal l A) (contains_literal l B) (sym (contains-append l A B) ∙ m)) [
+    elim (or_cases (contains_literal l A) (contains_literal l B)
+    (sym (contains-append l A B) ∙ m)) [
       | inl a ↦ contains_front l A C a
       | inr b ↦ contains_back l A C (w l b)
     ]

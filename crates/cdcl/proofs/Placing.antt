@@ -37,7 +37,8 @@ fits_more e slots c fits =
 pub not_attached : (e : EngineState) (slots : Slots) → Fits e slots
     → is_attached e (length slots) ≡ false
 not_attached e slots fits =
-    elim (cases_Bool (is_attached e (length slots))) as (λ _. is_attached e (length slots) ≡ false) [
+    elim (cases_Bool (is_attached e (length slots)))
+    as (λ _. is_attached e (length slots) ≡ false) [
       | inl t ↦ let w = fits.attached (length slots) t in
           let h = live_within slots (length slots) w.0 w.1 in absurd (omega arith)
       | inr f ↦ f
