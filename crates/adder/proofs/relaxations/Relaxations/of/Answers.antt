@@ -1,0 +1,52 @@
+use Rattle.std.proofs.Common.{◌≡◌, ℕ, ◌+◌, ◌≤◌, ◌++◌, List, [], length, map, filter, drop, sym, ◌∙◌}
+use Rattle.std.proofs.Common.{ap, append-nil, arith, rules}
+use Rattle.std.proofs.lemmas.List.{at_drop_all}
+use Rattle.wcnf.specs.Problem.{SoftClause}
+use Rattle.adder.specs.declared.cells.Profile.{Profile}
+use Rattle.adder.specs.declared.relaxations.Relaxation.{Relaxation}
+use Rattle.adder.specs.Network.{relaxed_from}
+use Rattle.adder.specs.Parts.{relaxation_of}
+use Rattle.adder.proofs.relaxations.Relaxations.of.Goals as goal
+
+-- at the end nothing is left
+all_built : (profile : Profile) (v i : ℕ) (ss : List SoftClause) (each whole : List Relaxation)
+    → length ss ≤ i
+    → each ++ map relaxation_of (relaxed_from profile v (drop i ss)) ≡ whole → each ≡ whole
+all_built profile v i ss each whole le e =
+    sym (append-nil each)
+    ∙ sym (at_drop_all (λ x. each ++ map relaxation_of (relaxed_from profile v x)) ss i le) ∙ e
+
+all_numbered : (profile : Profile) (v i : ℕ) (ss : List SoftClause) (whole : ℕ) → length ss ≤ i
+    → v + length (filter (λ e. e.is_fresh) (relaxed_from profile v (drop i ss))) ≡ whole
+    → v ≡ whole
+all_numbered profile v i ss whole le e =
+    let none =
+    at_drop_all (λ x. length (filter (λ e. e.is_fresh) (relaxed_from profile v x))) ss i le in
+    omega (arith, none, e)
+
+pub overflow_add-fresh-in-None : goal.overflow_add-fresh-in-None
+overflow_add-fresh-in-None c =
+    omega (
+      arith,
+      c.vars-fresh.ensures.limits.soft_count,
+      ap length c.soft-soft_clauses.ensures,
+      c.loop-soft.invariant.small,
+      c.loop-soft-test.true,
+    )
+
+pub returns-clause-each : goal.returns-clause-each
+returns-clause-each c =
+    all_built c.args.profile c.loop-soft.fresh c.loop-soft.soft-index
+    c.soft-soft_clauses.result.now c.loop-soft.each.items _ c.loop-soft-test.false
+    c.loop-soft.invariant.each
+
+pub returns-clause-fresh : goal.returns-clause-fresh
+returns-clause-fresh c =
+    all_numbered c.args.profile c.loop-soft.fresh c.loop-soft.soft-index
+    c.soft-soft_clauses.result.now _ c.loop-soft-test.false c.loop-soft.invariant.fresh
+
+pub digit_count-digits-requires : goal.digit_count-digits-requires
+digit_count-digits-requires c = search rules
+
+pub returns-clause-digits : goal.returns-clause-digits
+returns-clause-digits c = search rules
