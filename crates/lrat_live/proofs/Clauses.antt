@@ -5,7 +5,7 @@ use Rattle.std.proofs.Common.{length, get_or, take, drop, set, Some, None, refl,
 use Rattle.std.proofs.Common.{subst, arith, inl, inr}
 use Rattle.std.specs.Prelude.{◌==◌, slice_index}
 use Rattle.std.specs.List.Sorted.{IsStrictlyIncreasing}
-use Rattle.std.proofs.lemmas.Bool.{cases_Bool, eqb-true, ne_eqb}
+use Rattle.std.proofs.lemmas.Bool.{cases_Bool, eq-eqb, eqb-true, ne_eqb}
 use Rattle.std.proofs.lemmas.List.{take-append-drop, drop-drop, append_assoc}
 use lib.Seq.{paste}
 use Rattle.wcnf.specs.Numbers.{RisesFrom}
@@ -176,6 +176,29 @@ pub live_ids : (ls : List Literal) (cs : List Cell) → AllLive cs
 live_ids ls [] h = refl
 live_ids ls (c ∷ cs) h = ap ids_of (clauses_live ls c cs h.0)
     ∙ ap (λ ks. c.id ∷ ks) (live_ids ls cs h.1)
+
+-- the place of a key that rising keys have there
+nowhere_above : (key : ℕ) (ks : List ℕ) → RisesFrom (key + 1) ks → place_of key ks ≡ 0
+nowhere_above key ks r =
+    elim (cases_zero (place_of key ks)) [
+      | inl e ↦ e
+      | inr (n, e) ↦
+          let there : slice_index ks n ≡ key =
+          eqb-true _ _ (newest_passes (λ k. k == key) ks n (omega (arith, e))) in
+          let in' : n < length ks = omega (arith, e, newest-le (λ k. k == key) ks) in
+          absurd (omega (arith, there, rises_least (key + 1) ks n r in'))
+    ]
+
+pub place_rising : (least key : ℕ) (ks : List ℕ) (p : ℕ) → RisesFrom least ks → p < length ks
+    → slice_index ks p ≡ key → place_of key ks ≡ p + 1
+place_rising least key [] p r h e = absurd (omega arith)
+place_rising least key (x ∷ ks) zero r h e =
+    let none : place_of key ks ≡ 0 =
+    nowhere_above key ks (subst (λ n. RisesFrom (n + 1) ks) e r.1) in
+    newest_first (λ k. k == key) x ks none (eq-eqb _ _ e)
+place_rising least key (x ∷ ks) (suc p) r h e =
+    let next : place_of key ks ≡ p + 1 = place_rising (x + 1) key ks p r.1 (omega arith) e in
+    newest_some (λ k. k == key) x ks p (omega (arith, next)) ∙ omega arith
 
 -- the entry of an id, found or deleted
 later_key : (c : Cell) (cs : List Cell) (i p least : ℕ) → RisesFrom least (keys_of (c ∷ cs))

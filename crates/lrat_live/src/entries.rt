@@ -1,6 +1,7 @@
 // The entries of the live clauses, and the chains by which an id is found among them.
 ghost use Rattle.std.specs.Prelude.{◌≡◌, ℕ, ◌+◌, ◌-◌, ◌<◌, ◌≤◌, ◌^◌, length, MatchOption, OnOk};
-ghost use Rattle.std.specs.Prelude.{IsTrue, ◌↔◌};
+ghost use Rattle.std.specs.Prelude.{IsTrue, ◌↔◌, IfSome};
+ghost use Rattle.wcnf.specs.Numbers.{RisesFrom};
 ghost use Rattle.lrat_live.specs.Chains.{folded, bucket_of, place_of, IsChained};
 ghost use Rattle.lrat_live.specs.Table.{cells_of, keys_of, nexts_of, IsAboveLast};
 
@@ -40,15 +41,38 @@ pub(crate) fn bucket(id: u64, buckets: usize) -> usize
     (folded(id) & (buckets as u64 - 1)) as usize
 }
 
+/// The place of an id, where no id between it and the last one is missing.
+#[inline]
+fn find_near(entries: &[Entry], id: u64) -> Option<usize>
+    requires { RisesFrom 0 (keys_of (cells_of entries.now)) }
+    ensures { IfSome result (λ p. place_of id (keys_of (cells_of entries.now)) ≡ p + 1) }
+{
+    let last = entries.last()?;
+    let back = last.id.wrapping_sub(id);
+    if back >= entries.len() as u64 {
+        return None;
+    }
+    let place = entries.len() - 1 - back as usize;
+    if entries[place].id == id {
+        Some(place)
+    } else {
+        None
+    }
+}
+
 /// The place of an id, from 0.
 #[inline]
 pub(crate) fn find(heads: &[u32], entries: &[Entry], id: u64) -> Option<usize>
+    requires rising { RisesFrom 0 (keys_of (cells_of entries.now)) }
     requires chained { IsChained (length heads.now) heads.now (keys_of (cells_of entries.now))
         (nexts_of entries.now) }
     requires room { length entries.now ≤ length heads.now }
     ensures { MatchOption result (place_of id (keys_of (cells_of entries.now)) ≡ 0)
         (λ p. place_of id (keys_of (cells_of entries.now)) ≡ p + 1) }
 {
+    if let Some(place) = find_near(entries, id) {
+        return Some(place);
+    }
     if heads.is_empty() {
         return None;
     }
