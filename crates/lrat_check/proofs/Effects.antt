@@ -3,11 +3,11 @@ use Rattle.std.proofs.Common.{◌≡◌, ℕ, ◌+◌, ◌<◌, ◌≤◌, Bool,
 use Rattle.std.proofs.Common.{map, length, get_or, take, drop, Option, Some, None, refl, sym, ◌∙◌}
 use Rattle.std.proofs.Common.{ap, subst, inl, inr, arith}
 use Rattle.std.proofs.Math.Bool.{cond}
-use Rattle.std.specs.Prelude.{All, ◌==◌}
+use Rattle.std.specs.Prelude.{All, IfSome, ◌==◌}
 use Rattle.std.proofs.lemmas.List.{append-nil, drop_more, drop_all, get_or_default, take_more}
 use Rattle.std.proofs.lemmas.List.{take-append-le, length-take}
 use Rattle.std.specs.List.{last_or}
-use Rattle.std.proofs.lemmas.Bool.{or_cases, cases_lt, false≢true}
+use Rattle.std.proofs.lemmas.Bool.{or_cases, false≢true}
 use Rattle.std.proofs.lemmas.List.Elements.{All-head, All-tail}
 use Rattle.wcnf.specs.Literal.{Literal, negation, literal_eq}
 use Rattle.wcnf.specs.Clause.{contains_literal}
@@ -143,12 +143,22 @@ listed_within n (x ∷ es) i c w e =
       | false ↦ λ e. listed_within n es i c (All-tail (λ y. AreWithin n y.1) x es w) e
     ] e
 
+pub found_within : (n : ℕ) (es : List (ℕ × List Literal)) (i : ℕ) (found : Option (List Literal))
+    → All (λ e. AreWithin n e.1) es → found ≡ listed_at es i
+    → IfSome found (λ c. AreWithin n c)
+found_within n es i None w e = tt
+found_within n es i (Some c) w e = listed_within n es i c w (sym e)
+
 -- the ids that are left
 abbrev pub ids_from : List (Bool × ℕ) → ℕ → List ℕ
 ids_from hs i = map (λ h. h.1) (drop i hs)
 
 abbrev pub id_at : List (Bool × ℕ) → ℕ → ℕ
 id_at hs i = (get_or hs i (false, 0)).1
+
+pub id_here : (hs : List (Bool × ℕ)) (i : ℕ) (h : Bool × ℕ) → i < length hs → h ≡ get_or hs i h
+    → h.1 ≡ id_at hs i
+id_here hs i h lt e = ap (λ x. x.1) (e ∙ sym (get_or_default hs i (false, 0) h lt))
 
 walk_at : (at : Clauses) (T : List Literal) (hs : List (Bool × ℕ)) (i : ℕ)
     → i < length hs

@@ -1,6 +1,6 @@
 -- One of the clauses that were looked up together.
 use Rattle.std.proofs.Common.{◌≡◌, ℕ, zero, suc, ◌+◌, ◌*◌, ◌/◌, ◌%◌, ◌<◌, Bool, false, List, []}
-use Rattle.std.proofs.Common.{◌∷◌, map, length, get_or, Option, Bor, sym, ◌∙◌, ap, subst, arith}
+use Rattle.std.proofs.Common.{◌∷◌, map, length, get_or, Option, Bor, ◌∙◌, ap, subst, arith}
 use Rattle.std.specs.Option.{option_copied}
 use Rattle.std.proofs.lemmas.List.{get_or_default}
 use Rattle.wcnf.specs.Literal.{Literal}

@@ -1,16 +1,17 @@
 -- What the checker's parts answer, in the terms of the verdict.
 use Rattle.std.specs.Prelude.{◌≡◌, ℕ, ◌<◌, ◌≤◌, Bool, false, List, [], ◌∷◌, ◌++◌, length, nat_eq}
-use Rattle.std.specs.Prelude.{Option}
+use Rattle.std.specs.Prelude.{◌+◌, Option, Some, None, map, drop}
 use Rattle.std.specs.Prelude.{All}
 use Rattle.wcnf.specs.Literal.{Literal}
 pub use Rattle.wcnf.specs.Clause.{HaveSame}
 use Rattle.wcnf.specs.Lrat.{Live}
+use Rattle.wcnf.specs.Refute.{Clauses}
 use Rattle.lrat_check.specs.Assumed.{AreWithin}
 use Rattle.lrat_live.specs.Listed.{listed_at, IsRising}
 use Rattle.lrat_check.specs.declared.verdicts.Cause.{Cause}
 use Rattle.lrat_read.specs.Reader.{LineState, is_large_clause}
 use Rattle.lrat_check.specs.Verdict.{addition_fault, Walk, Open, Refuted, Fault, Outcome, NotUnit}
-use Rattle.lrat_check.specs.Verdict.{Conflict, Makes}
+use Rattle.lrat_check.specs.Verdict.{Conflict, Makes, walk}
 use Rattle.lrat_check.specs.declared.hints.Effect.{Effect}
 use Rattle.lrat_check.specs.declared.hints.Effect.TheVariants.{Conflict as HasConflict}
 use Rattle.lrat_check.specs.declared.hints.Effect.TheVariants.{Makes as HasMade, NotUnit as HasMany}
@@ -58,6 +59,15 @@ EndAlike (Open A) (Open B) = HaveSame A B
 EndAlike Refuted Refuted = Unit {0}
 EndAlike (Fault f) (Fault g) = f ≡ g
 EndAlike v w = ⊥
+
+-- hint i was followed from A to B: the walk goes on with those after it, or has ended
+abbrev pub IsFollowed : Clauses → List (Bool × ℕ) → ℕ → List Literal → List Literal
+    → Option Walked → Type 0
+IsFollowed at hints i A B None =
+    EndAlike (walk at A (map (λ h. h.1) (drop i hints)))
+    (walk at B (map (λ h. h.1) (drop (i + 1) hints)))
+IsFollowed at hints i A B (Some w) =
+    EndAlike (walk at A (map (λ h. h.1) (drop i hints))) (walked_as w B)
 
 -- the first fault of the line's clause, where a literal of a large clause was left out
 abbrev pub IsFaultOf : Live → LineState → Option Cause → Type 0

@@ -10,14 +10,15 @@
 // together, and 1.3 to 1.7 s with the first literals. Tried: at every line. Small certificates, of
 // which all is in the caches, took 11 to 15 % more instructions; as it is they take 1 % more.
 ghost use Rattle.std.specs.Prelude.{◌≡◌, ℕ, ◌*◌, ◌/◌, ◌%◌, ◌<◌, ◌≤◌, true, false, List, Some, IfOk};
-ghost use Rattle.std.specs.Prelude.{length, get_or, map, take, All};
+ghost use Rattle.std.specs.Prelude.{length, get_or, map, take, All, IfSome};
 ghost use Rattle.std.specs.Option.{option_copied};
 ghost use Rattle.wcnf.specs.Literal.{Literal};
 ghost use Rattle.lrat_check.specs.Assumed.{AreWithin};
 ghost use Rattle.lrat_check.specs.Found.{IsFound, AreFound};
 ghost use Rattle.lrat_live.specs.Listed.{listed_at};
 ghost use Rattle.lrat_check.specs.Verdict.{outcome_of, of_walk, walk as walk_of};
-ghost use Rattle.lrat_check.specs.Steps.{outcome_as, walked_as, EndAlike};
+ghost use Rattle.lrat_check.specs.Steps.{outcome_as, walked_as, EndAlike, IsFollowed};
+ghost use Rattle.wcnf.specs.Refute.{Clauses};
 ghost use Rattle.lrat_read.specs.Form.{leading as leading_of};
 
 use crate::assumed::Assumed;
@@ -162,32 +163,109 @@ fn first_lit(clause: Option<&[Lit]>) -> Lit {
     }
 }
 
-/// The clause under the id of hint i, if it is live: looked up now, or with those of its eight when
+/// Follows hint i, whose clause this is if it is live. Answers how the hints end, if they end here.
+#[inline(always)]
+fn follow(
+    clause: Option<&[Lit]>,
+    first: Lit,
+    hints: &[SignedId],
+    i: usize,
+    assumed: &mut Assumed,
+) -> Result<Option<Walked>, AllocError>
+    requires place { i < length hints.now }
+    requires within { IfSome (option_copied clause) (λ c. AreWithin assumed.old.variables c) }
+    ensures followed { IfOk result (λ end. (at : Clauses)
+        → option_copied clause.entry ≡ at (get_or hints.now i (false, 0)).1
+        → IsFollowed at hints.now i assumed.old.literals assumed.new.literals end) }
+    ensures kept { (A : List Literal) → take (length A) assumed.old.literals ≡ A
+        → take (length A) assumed.new.literals ≡ A }
+    ensures variables { assumed.new.variables ≡ assumed.old.variables }
+{
+    let Some(clause) = clause else {
+        return Ok(Some(Walked::Fault(Cause::DeadId)));
+    };
+    match effect_of(clause, first, assumed) {
+        Effect::Conflict if i + 1 < hints.len() => {
+            Ok(Some(Walked::Fault(Cause::HintAfterConflict)))
+        }
+        Effect::Conflict => Ok(Some(Walked::Refuted)),
+        Effect::NotUnit => Ok(Some(Walked::Fault(Cause::HintNotUnit))),
+        Effect::Makes(lit) => {
+            assumed.assume(lit)?;
+            Ok(None)
+        }
+    }
+}
+
+/// As `walk`, with each clause looked up when its hint comes.
+fn walk_each(
+    live: &LiveClauses,
+    assumed: &mut Assumed,
+    hints: &[SignedId],
+) -> Result<Walked, AllocError>
+    requires { All (λ e. AreWithin assumed.old.variables e.1) live.now }
+    ensures walked { IfOk result (λ w.
+        EndAlike (walk_of (listed_at live.now) assumed.old.literals (map (λ h. h.1) hints.now))
+        (walked_as w assumed.new.literals)) }
+    ensures kept { take (length assumed.old.literals) assumed.new.literals ≡ assumed.old.literals }
+    ensures variables { assumed.new.variables ≡ assumed.old.variables }
+{
+    for i in 0..hints.len() {
+        let clause = live.find(hints[i].id());
+        let end = follow(clause, Lit::new(1, false), hints, i, assumed)?;
+        if let Some(walked) = end {
+            return Ok(walked);
+        }
+    }
+    Ok(Walked::Open)
+}
+
+/// The clause under the id of hint i, if it is live: the clauses of eight hints are looked up when
 /// the first of them comes.
 #[inline(always)]
 fn next_clause<'a>(
     live: &'a LiveClauses,
     hints: &[SignedId],
     i: usize,
-    many: bool,
     ahead: &mut [Option<&'a [Lit]>; AHEAD],
     firsts: &mut [Lit; AHEAD],
 ) -> Option<&'a [Lit]>
     requires within { i < length hints.now }
-    requires ahead { many ≡ true → 0 < i % 8
+    requires ahead { 0 < i % 8
         → AreFound live.now hints.now (8 * (i / 8)) (map option_copied ahead.old) }
     ensures found { option_copied result ≡ listed_at live.now (get_or hints.now i (false, 0)).1 }
-    ensures ahead { many ≡ true
-        → AreFound live.now hints.now (8 * (i / 8)) (map option_copied ahead.new) }
+    ensures ahead { AreFound live.now hints.now (8 * (i / 8)) (map option_copied ahead.new) }
 {
-    if !many {
-        return live.find(hints[i].id());
-    }
     if i % AHEAD == 0 {
         *ahead = clauses_ahead(live, hints, i);
         *firsts = first_lits(ahead);
     }
     ahead[i % AHEAD]
+}
+
+/// As `walk`, with the clauses of eight hints looked up when the first of them comes.
+fn walk_ahead(
+    live: &LiveClauses,
+    assumed: &mut Assumed,
+    hints: &[SignedId],
+) -> Result<Walked, AllocError>
+    requires { All (λ e. AreWithin assumed.old.variables e.1) live.now }
+    ensures walked { IfOk result (λ w.
+        EndAlike (walk_of (listed_at live.now) assumed.old.literals (map (λ h. h.1) hints.now))
+        (walked_as w assumed.new.literals)) }
+    ensures kept { take (length assumed.old.literals) assumed.new.literals ≡ assumed.old.literals }
+    ensures variables { assumed.new.variables ≡ assumed.old.variables }
+{
+    let mut ahead = [None; AHEAD];
+    let mut firsts = [Lit::new(1, false); AHEAD];
+    for i in 0..hints.len() {
+        let clause = next_clause(live, hints, i, &mut ahead, &mut firsts);
+        let end = follow(clause, firsts[i % AHEAD], hints, i, assumed)?;
+        if let Some(walked) = end {
+            return Ok(walked);
+        }
+    }
+    Ok(Walked::Open)
 }
 
 /// Follows the hints in turn. What they make true is assumed.
@@ -203,21 +281,9 @@ pub(crate) fn walk(
     ensures kept { take (length assumed.old.literals) assumed.new.literals ≡ assumed.old.literals }
     ensures variables { assumed.new.variables ≡ assumed.old.variables }
 {
-    let many = live.entries() > MANY;
-    let mut ahead = [None; AHEAD];
-    let mut firsts = [Lit::new(1, false); AHEAD];
-    for i in 0..hints.len() {
-        let Some(clause) = next_clause(live, hints, i, many, &mut ahead, &mut firsts) else {
-            return Ok(Walked::Fault(Cause::DeadId));
-        };
-        match effect_of(clause, firsts[i % AHEAD], assumed) {
-            Effect::Conflict if i + 1 < hints.len() => {
-                return Ok(Walked::Fault(Cause::HintAfterConflict));
-            }
-            Effect::Conflict => return Ok(Walked::Refuted),
-            Effect::NotUnit => return Ok(Walked::Fault(Cause::HintNotUnit)),
-            Effect::Makes(lit) => assumed.assume(lit)?,
-        }
+    if live.entries() > MANY {
+        walk_ahead(live, assumed, hints)
+    } else {
+        walk_each(live, assumed, hints)
     }
-    Ok(Walked::Open)
 }

@@ -1,4 +1,4 @@
-use Rattle.std.proofs.Common.{◌≡◌, ◌+◌, ◌∙◌, ap, sym, length, arith, rules, take, Some}
+use Rattle.std.proofs.Common.{◌≡◌, ◌∙◌, ap, sym, length, arith, rules, take, Some}
 use Rattle.std.specs.List.{last_or}
 use Rattle.std.proofs.lemmas.List.{length_push, take_all}
 use Rattle.wcnf.specs.Clause.{contains_literal}
@@ -8,7 +8,6 @@ use Rattle.lrat_check.proofs.Effects.{true_open, makes_open}
 use Rattle.lrat_check.proofs.hints.effect_of.Goals as goal
 use Rattle.lrat_check.proofs.hints.effect_of.Goals.{then-is_true, else-is_true}
 use Rattle.lrat_check.proofs.hints.effect_of.Goals.{then-open-gt1, else-open-gt1}
-use Rattle.std.proofs.lemmas.Bool.{false≢true}
 
 pub loop-lit-preserved : goal.loop-lit-preserved
 loop-lit-preserved c =

@@ -1,4 +1,4 @@
-use Rattle.std.proofs.Common.{◌≡◌, ◌+◌, ◌*◌, ◌/◌, map, refl, sym, subst, arith}
+use Rattle.std.proofs.Common.{◌≡◌, ◌*◌, ◌/◌, map, refl, sym, subst, arith}
 use Rattle.std.specs.Option.{option_copied}
 use Rattle.lrat_check.specs.Found.{AreFound}
 use Rattle.lrat_check.proofs.Found.{found_here}
@@ -21,7 +21,7 @@ returns-clause-found c =
       | else-i-eq0 w ↦
           let later = w.if-i-eq0.false in
           subst (λ f. AreFound es hs (8 * (i / 8)) (map option_copied f)) (sym w.ahead-is)
-          (c.requires.ahead c.if-not-many.false (omega arith))
+          (c.requires.ahead (omega arith))
     ] in
     let eight = c.type_inv.ahead in
     found_here es hs i c.if-i-eq0.ahead c.index-ahead-i.result _ (omega arith)

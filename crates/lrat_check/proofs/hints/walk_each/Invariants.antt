@@ -1,11 +1,9 @@
-use Rattle.std.proofs.Common.{◌≡◌, ◌*◌, ◌/◌, ◌%◌, ◌<◌, true, length, take, map}
-use Rattle.std.specs.Option.{option_copied}
-use Rattle.lrat_check.specs.Found.{AreFound}
+use Rattle.std.proofs.Common.{◌≡◌, length, take, map}
 use Rattle.lrat_live.specs.Listed.{listed_at}
 use Rattle.lrat_check.specs.Verdict.{walk}
 use Rattle.lrat_check.specs.Steps.{EndAlike}
 use Rattle.lrat_check.proofs.Effects.{ids_from}
-use Rattle.lrat_check.proofs.hints.walk.Given as goal
+use Rattle.lrat_check.proofs.hints.walk_each.Given as goal
 
 abbrev pub invariant-loop-i : goal.invariant-loop-i
 invariant-loop-i l = record {
@@ -13,6 +11,4 @@ invariant-loop-i l = record {
       (walk (listed_at l.live) l.assumed.literals (ids_from l.hints l.i));
   kept : take (length l.fn.assumed.literals) l.assumed.literals ≡ l.fn.assumed.literals;
   variables : l.assumed.variables ≡ l.fn.assumed.variables;
-  found : l.many ≡ true → 0 < l.i % 8
-      → AreFound l.live l.hints (8 * (l.i / 8)) (map option_copied l.ahead);
 }

@@ -1,0 +1,17 @@
+use Rattle.std.proofs.Common.{◌≡◌, ◌*◌, ◌/◌, ◌%◌, ◌<◌, length, take, map}
+use Rattle.std.specs.Option.{option_copied}
+use Rattle.lrat_check.specs.Found.{AreFound}
+use Rattle.lrat_live.specs.Listed.{listed_at}
+use Rattle.lrat_check.specs.Verdict.{walk}
+use Rattle.lrat_check.specs.Steps.{EndAlike}
+use Rattle.lrat_check.proofs.Effects.{ids_from}
+use Rattle.lrat_check.proofs.hints.walk_ahead.Given as goal
+
+abbrev pub invariant-loop-i : goal.invariant-loop-i
+invariant-loop-i l = record {
+  walked : EndAlike (walk (listed_at l.live) l.fn.assumed.literals (map (λ h. h.1) l.hints))
+      (walk (listed_at l.live) l.assumed.literals (ids_from l.hints l.i));
+  kept : take (length l.fn.assumed.literals) l.assumed.literals ≡ l.fn.assumed.literals;
+  variables : l.assumed.variables ≡ l.fn.assumed.variables;
+  found : 0 < l.i % 8 → AreFound l.live l.hints (8 * (l.i / 8)) (map option_copied l.ahead);
+}
