@@ -112,15 +112,6 @@ refused_more v formula bytes more r = record {
 }
 
 -- a piece
-pub none_taken : (old : Reading) (piece : List ℕ) → HasTaken old old piece piece
-none_taken old piece =
-    record {
-      taken = [];
-      split = refl;
-      holds = λ formula bytes h. subst (Holds old formula)
-          (sym (append-nil bytes)) h;
-    }
-
 -- the line that a line feed of the left part ends, and what is left then
 pub taken_lengths : (left : List ℕ) (end : ℕ) (line rest : List ℕ) → IsFirstFeed left end
     → line ≡ take end left → rest ≡ take (length left - (end + 1)) (drop (end + 1) left)

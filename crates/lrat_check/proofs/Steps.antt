@@ -395,12 +395,3 @@ start_sane cs h = record {
   in_range = record { none_at_zero = refl; none_past = numbered_past cs };
   none_repeats = numbered_single cs h;
 }
-
-pub addition-Step : (live : Live) → IsSane live → (id : ℕ) (c : List Literal) (hs : List (Bool × ℕ))
-    (new : Live) → ((addition_fault live id c hs ≡ None) × (new ≡ with_clause live id c)) ↔ Step
-    live (AddsLine id c (leading hs) (groups_of hs)) new
-addition-Step live s id c hs new = (
-  λ h. let k = (addition_fault-None live s id c hs).0 h.0 in
-      (k.0, k.1, h.1),
-  λ h. ((addition_fault-None live s id c hs).1 (h.0, h.1), h.2),
-)

@@ -232,13 +232,3 @@ walk_from_refutes at n A hs r =
 pub walk_from_leads : (at : Clauses) (n : NoneRepeats at) (A : List Literal) (hs : List ℕ)
     (B : List Literal) → Leads at A hs B → walk at A hs ≡ Open B
 walk_from_leads at n A hs B w = ap (walk at A) (sym (append-nil hs)) ∙ walk_on at n A hs [] B w
-
--- 1. exactly when
-pub walk-Refuted : (at : Clauses) → NoneRepeats at → (A : List Literal) (hs : List ℕ)
-    → (walk at A hs ≡ Refuted) ↔ Refutes at A hs
-walk-Refuted at n A hs = (refutes_from_walk at A hs, walk_from_refutes at n A hs)
-
-pub walk-Open : (at : Clauses) → NoneRepeats at
-    → (A : List Literal) (hs : List ℕ) (B : List Literal)
-    → (walk at A hs ≡ Open B) ↔ Leads at A hs B
-walk-Open at n A hs B = (leads_from_walk at A hs B, walk_from_leads at n A hs B)
