@@ -6,17 +6,17 @@ use wcnf::clause_list::ClauseList;
 use wcnf::types::Formula;
 
 /// The same formula in memory of its own.
-pub(crate) fn copied(formula: &Formula) -> Result<Formula, AllocError>
+pub(crate) fn copy_formula(formula: &Formula) -> Result<Formula, AllocError>
     ensures { IfOk result (λ copy. copy ≡ formula.now) }
 {
     // the clauses are those of a formula
     let vars = formula.vars();
-    let clauses = copied_clauses(formula.clauses())?;
+    let clauses = copy_clauses(formula.clauses())?;
     Ok(Formula::new(vars, clauses))
 }
 
 /// The same clauses in memory of their own.
-fn copied_clauses(clauses: &ClauseList) -> Result<ClauseList, AllocError>
+fn copy_clauses(clauses: &ClauseList) -> Result<ClauseList, AllocError>
     ensures { IfOk result (λ copy. copy ≡ clauses.now) }
 {
     let mut copy = ClauseList::new(clauses.allocator());

@@ -5,7 +5,7 @@ ghost use Rattle.wcnf.specs.Literal.{Literal};
 ghost use Rattle.lrat_check.specs.Pieces.{Stands};
 ghost use Rattle.lrat_check.specs.Verdict.{proof_verdict};
 
-use crate::copies::copied;
+use crate::copies::copy_formula;
 use crate::machine::Machine;
 use crate::reading::Reading;
 use crate::verdicts::{FeedFault, Verdict};
@@ -48,7 +48,7 @@ impl Checker {
         ensures stands { IfOk result (λ c. Stands c formula.now.clauses []) }
         ensures works { IfOk result (λ c. c.failed ≡ false) }
     {
-        Checker::over(copied(formula)?)
+        Checker::over(copy_formula(formula)?)
     }
 
     /// As `new`, over a formula whose memory the checker takes.

@@ -38,7 +38,7 @@ fn judge_stream<R: Read>(checker: Checker, proof: &mut R) -> Result<Verdict, Che
             return Ok(refused);
         }
         let count = match proof.read(&mut chunk) {
-            Ok(0) => return ended(checker),
+            Ok(0) => return conclude(checker),
             Ok(count) => count,
             Err(_) => return Err(CheckFault::Read),
         };
@@ -63,7 +63,7 @@ fn hand_on(checker: &mut Checker, piece: &[u8]) -> Result<(), CheckFault>
 }
 
 /// The verdict, where nothing follows.
-fn ended(checker: Checker) -> Result<Verdict, CheckFault>
+fn conclude(checker: Checker) -> Result<Verdict, CheckFault>
     ensures verdict { IfOk result (λ v. (formula : List (List Literal)) (bytes : List ℕ)
         → Stands checker formula bytes → v ≡ proof_verdict formula bytes) }
     ensures fault { IfErr result (λ fault. fault ≡ CheckFault.Memory) }

@@ -21,7 +21,7 @@ returns-in-Ok-eq0 g c =
     let i = c.pieces.invariant in
     let zero : c.in-Ok-eq0.field-0 ≡ 0 = first_of (omega arith, search rules, cc) in
     let end : IsAtEnd (g.R.Read.remaining c.read.new.self) = search rules in
-    if_ok_weaker c.ended.result _ _
+    if_ok_weaker c.conclude.result _ _
     (λ v h. λ formula s. record {
       bytes = i.0;
       verdict = h formula i.0 (i.1 formula s);
@@ -29,7 +29,7 @@ returns-in-Ok-eq0 g c =
           (g.R.Read.remaining c.read.new.self) i.0 _ c.in-Ok-eq0.field-0 v formula i.2
           c.in-Ok-eq0.ensures.bytes.0 zero end (h formula i.0 (i.1 formula s));
     })
-    c.ended.ensures.verdict
+    c.conclude.ensures.verdict
 
 pub pieces-preserved : goal.pieces-preserved
 pieces-preserved g c =

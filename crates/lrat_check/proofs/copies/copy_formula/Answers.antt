@@ -1,4 +1,4 @@
-use Rattle.lrat_check.proofs.copies.copied.Goals as goal
+use Rattle.lrat_check.proofs.copies.copy_formula.Goals as goal
 
 pub new-requires : goal.new-requires
 new-requires c =

@@ -1,6 +1,6 @@
 use Rattle.std.proofs.Common.{◌++◌, ◌∷◌, [], ◌∙◌, ap, sym}
 use Rattle.std.proofs.lemmas.List.{append_assoc}
-use Rattle.lrat_check.proofs.copies.copied_clauses.Goals as goal
+use Rattle.lrat_check.proofs.copies.copy_clauses.Goals as goal
 
 pub loop-clause-preserved : goal.loop-clause-preserved
 loop-clause-preserved c =
