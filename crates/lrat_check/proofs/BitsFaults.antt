@@ -10,7 +10,7 @@ use Rattle.wcnf.specs.Bits.{Extends, assignment_of}
 use Rattle.wcnf.proofs.Laws.{extends_own}
 use Rattle.wcnf.specs.Clause.{clause_value}
 use Rattle.wcnf.specs.Problem.{Problem, IsFeasible, cost_under}
-use Rattle.lrat_check.specs.Result.{Report}
+use Rattle.result_read.specs.Result.{Report}
 use Rattle.lrat_check.specs.declared.verdicts.Cause.TheVariants.{BitsLength, NotFeasible, CostWrong}
 use Rattle.lrat_check.specs.declared.verdicts.Verdict.TheVariants.{No}
 use Rattle.lrat_check.specs.Verdict.{bits_fault}

@@ -16,8 +16,8 @@ use Rattle.adder.specs.Network.{adders_as}
 use Rattle.bound.specs.Bound.{kept, hard_cnf, comparator_of, bound_as, fixed_clauses}
 use Rattle.bound.specs.Bound.{relaxed_clauses, cell_clauses}
 use Rattle.bound.proofs.Laws.{comparator_once, kept_once}
-use Rattle.lrat_check.specs.Result.{Said, OptimumFound, Unsatisfiable, Satisfiable, Unknown, Report}
-use Rattle.lrat_check.specs.Result.{report_of}
+use Rattle.result_read.specs.Result.{Said, OptimumFound, Unsatisfiable, Satisfiable, Unknown}
+use Rattle.result_read.specs.Result.{Report, report_of}
 use Rattle.lrat_check.specs.Checks.{ChecksSaid, ChecksAs}
 use Rattle.lrat_check.specs.declared.verdicts.Cause.{Cause}
 use Rattle.lrat_check.specs.declared.verdicts.Cause.TheVariants.{Text, ResultForm, BitsLength}
@@ -28,7 +28,7 @@ use Rattle.lrat_check.specs.declared.verdicts.Verdict.TheVariants.{Yes, No}
 use Rattle.lrat_check.specs.Verdict.{proof_verdict, bits_fault, said_verdict, verdict_as}
 use Rattle.lrat_check.specs.Verdict.{CheckVerdictIsRight}
 use Rattle.lrat_check.proofs.Proofs.{NoneRepeatsIn, proof_verdict-Yes}
-use Rattle.lrat_check.proofs.Reports.{says_from_report, report_from_says}
+use Rattle.result_read.proofs.Laws.{says_from_report, report_from_says}
 
 -- the formulas that are bounded have no repeats
 pub bound_singles : (profile : Profile) (p : Problem) (k : ℕ)

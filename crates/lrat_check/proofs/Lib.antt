@@ -10,12 +10,9 @@ pub mod Groups
 pub mod Negations
 pub mod Base
 pub mod Proofs
-pub mod Reports
 pub mod Judged
 pub mod Whole
 pub mod Checked
-pub mod BitsRead
-pub mod ReportRead
 pub mod TrueResults
 pub mod BitsFaults
 pub mod Judging

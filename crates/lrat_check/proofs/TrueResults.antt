@@ -10,9 +10,9 @@ use Rattle.wcnf.specs.Wcnf.{Reads}
 use Rattle.wcnf.proofs.Laws.{reads_one}
 use Rattle.adder.specs.declared.cells.Profile.{Profile}
 use Rattle.bound.specs.Bound.{hard_cnf, bound_as, SaysCheaper}
-use Rattle.lrat_check.specs.Result.{Said, Report, Says, report_of}
+use Rattle.result_read.specs.Result.{Said, Report, Says, report_of}
 use Rattle.lrat_check.specs.Checks.{HasCost, IsTrueOf, IsTrueResult}
-use Rattle.lrat_check.proofs.Reports.{report_from_says}
+use Rattle.result_read.proofs.Laws.{report_from_says}
 
 not_cheaper : (profile : Profile) (p : Problem) (c : ℕ) → SaysCheaper profile p c
     → IsUnsatisfiable (bound_as profile p c).clauses → (u : Assignment) → IsFeasible p u

@@ -8,7 +8,7 @@ use Rattle.wcnf.specs.Lrat.{ProofLine, IsTextOf, Accepts}
 use Rattle.adder.specs.declared.cells.Profile.{Profile}
 use Rattle.adder.specs.declared.cells.Profile.TheVariants.{One}
 use Rattle.bound.specs.Bound.{hard_cnf, bound_as}
-use Rattle.lrat_check.specs.Result.{Said, OptimumFound, Unsatisfiable, Satisfiable, Unknown, Says}
+use Rattle.result_read.specs.Result.{Said, OptimumFound, Unsatisfiable, Satisfiable, Unknown, Says}
 
 -- the proof is accepted over these clauses
 abbrev pub IsProofOver : List (List Literal) → List ℕ → Type 0

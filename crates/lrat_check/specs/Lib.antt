@@ -1,12 +1,9 @@
-pub mod Result
 pub mod Checks
 pub mod Verdict
 pub mod Machine
 pub mod Assumed
 pub mod Steps
-pub mod Words
 pub mod Vectors
-pub mod Report
 pub mod Pieces
 pub mod Found
 pub mod Left

@@ -1,19 +1,20 @@
 //! A result with its certificate, against the instance's text. Everything that is checked is built
-//! from that text: of the certificate, only the refutation is read.
+//! from that text: of the certificate, only the refutation is read. The result is a text too, which
+//! is called the answer here, since in a contract `result` is what a function returns.
 ghost use Rattle.std.specs.Prelude.{◌≡◌, ℕ, List, IfOk, IfSome, ◌↔◌, None};
-ghost use Rattle.lrat_check.specs.Result.{Report as Reported};
-ghost use Rattle.lrat_check.specs.Report.{reported};
+ghost use Rattle.result_read.specs.Result.{Report as Reported};
+ghost use Rattle.result_read.specs.Report.{reported};
 ghost use Rattle.lrat_check.specs.Checks.{ChecksAs, IsTrueResult, IsTrueOf, HasCost};
 ghost use Rattle.lrat_check.specs.Verdict.{verdict_as, said_verdict, bits_fault};
 ghost use Rattle.lrat_check.specs.Left.{verdict_left, Shows};
 
 use crate::certificate::check_owned;
-use crate::report::{Report, ReportFault, Said, Solution};
-use crate::result::read_report;
 use crate::streams::check_stream;
 use crate::verdicts::{Cause, CheckFault, Verdict};
 use adder::cells::Profile;
 use bound::formulas::{formula_as, hard_formula};
+use result_read::report::{Report, ReportFault, Said, Solution};
+use result_read::result::read_report;
 use std::alloc::{AllocError, Global};
 use std::io::Read;
 use wcnf::faults::FaultKind;
@@ -43,7 +44,7 @@ enum Left {
 /// - `ResultForm`: a line of the answer that cannot stand there; line 0 where the answer ends too
 /// soon.
 /// - `BitsLength`, `NotFeasible`: there is not one bit for each variable, or the bits falsify a
-/// hard   clause; the `v` line.
+/// hard clause; the `v` line.
 /// - `CostWrong`: the bits have another cost than the last `o` line tells; that line.
 /// - `StatusWithoutProof`: `SATISFIABLE` or `UNKNOWN`, which no certificate shows; the `s` line.
 /// - Any other cause: the first fault of the certificate, as `check_lines` tells it.
@@ -169,18 +170,18 @@ fn left_of_report(
         },
         Said::Sat(solution) => match solution_fault(instance, solution) {
             Some(refused) => Ok(Left::Nothing(refused)),
-            None => Ok(unproved(report)),
+            None => Ok(refuse_status(report)),
         },
         Said::Unsat => {
             let formula = hard_formula(instance)?;
             Ok(Left::Proof(formula))
         }
-        Said::Limit => Ok(unproved(report)),
+        Said::Limit => Ok(refuse_status(report)),
     }
 }
 
 // A certificate shows nothing of the status.
-fn unproved(report: &Report) -> Left
+fn refuse_status(report: &Report) -> Left
     ensures { result ≡ Left.Nothing (Verdict.No Cause.StatusWithoutProof report.now.status_line) }
 {
     Left::Nothing(Verdict::No(Cause::StatusWithoutProof, report.status_line))

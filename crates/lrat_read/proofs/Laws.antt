@@ -1,4 +1,3 @@
 -- The laws of this crate that other crates cite, from one place.
 pub use Rattle.lrat_read.proofs.Lines.{addition_line, deletion_line, groups_of-signed_hints}
 pub use Rattle.lrat_read.proofs.Lines.{leading-signed_hints, line_read, parsed_of, signed_hints}
-pub use Rattle.lrat_read.proofs.Tokens.{number_from, number_means}

@@ -17,10 +17,10 @@ use Rattle.bound.specs.Bound.{hard_cnf, bound_as}
 use Rattle.cdcl_order.specs.Budgets.{BudgetState}
 use Rattle.lrat_log.specs.Log.{LogLine, HasSmallIds, numbered_lines, text_of}
 use Rattle.lrat_log.proofs.Laws.{accepted_ids}
-use Rattle.lrat_check.specs.Result.{Said, OptimumFound as SaysOptimum}
-use Rattle.lrat_check.specs.Result.{Unsatisfiable as SaysUnsatisfiable}
-use Rattle.lrat_check.specs.Result.{Satisfiable as SaysSatisfiable, Unknown as SaysUnknown, FallsTo}
-use Rattle.lrat_check.specs.Result.{Says}
+use Rattle.result_read.specs.Result.{Said, OptimumFound as SaysOptimum}
+use Rattle.result_read.specs.Result.{Unsatisfiable as SaysUnsatisfiable}
+use Rattle.result_read.specs.Result.{Satisfiable as SaysSatisfiable, Unknown as SaysUnknown}
+use Rattle.result_read.specs.Result.{FallsTo, Says}
 use Rattle.lrat_check.specs.Checks.{IsProofOver, ChecksAs}
 use Rattle.improve.specs.declared.found.Found.{Found}
 use Rattle.improve.specs.declared.found.Found.TheVariants.{Optimum, Unsat, Best, Nothing}

@@ -6,7 +6,7 @@ use lib.Chars.{codes}
 use Rattle.wcnf.specs.Writing.{AppendsPart}
 use Rattle.wcnf.specs.Lrat.{IsTextOf}
 use Rattle.lrat_log.specs.Log.{LogLine, HasSmallIds, numbered_lines, text_of}
-use Rattle.lrat_check.specs.Result.{digit_of}
+use Rattle.result_read.specs.Result.{digit_of}
 use Rattle.improve.specs.declared.found.Found.{Found}
 use Rattle.improve.specs.declared.found.Found.TheVariants.{Optimum, Unsat, Best, Nothing}
 use Rattle.report.specs.declared.status.Status.{Status}

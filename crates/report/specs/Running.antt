@@ -17,10 +17,10 @@ use Rattle.wcnf.specs.declared.faults.FaultKind.TheVariants.{Memory as MemoryKin
 use Rattle.adder.specs.declared.cells.Profile.{Profile}
 use Rattle.bound.specs.Bound.{hard_cnf}
 use Rattle.cdcl_order.specs.Budgets.{BudgetState, left_of}
-use Rattle.lrat_check.specs.Result.{Said, FallsTo, Says, result_tokens}
-use Rattle.lrat_check.specs.Result.{OptimumFound as SaysOptimum}
-use Rattle.lrat_check.specs.Result.{Unsatisfiable as SaysUnsatisfiable}
-use Rattle.lrat_check.specs.Result.{Satisfiable as SaysSatisfiable, Unknown as SaysUnknown}
+use Rattle.result_read.specs.Result.{Said, FallsTo, Says, result_tokens}
+use Rattle.result_read.specs.Result.{OptimumFound as SaysOptimum}
+use Rattle.result_read.specs.Result.{Unsatisfiable as SaysUnsatisfiable}
+use Rattle.result_read.specs.Result.{Satisfiable as SaysSatisfiable, Unknown as SaysUnknown}
 use Rattle.lrat_check.specs.Checks.{ChecksAs}
 use Rattle.improve.specs.declared.found.Found.{Found}
 use Rattle.improve.specs.declared.found.Work.{Work}

@@ -4,7 +4,7 @@ use Rattle.std.specs.Prelude.{ℕ, Bool, true, false, List, Option, Some}
 use Rattle.std.specs.List.{flat_map}
 use Rattle.std.specs.Io.KnownBytes.{Appends}
 use Rattle.wcnf.specs.Writing.{spaced, AppendsPart}
-use Rattle.lrat_check.specs.Result.{cost_tokens}
+use Rattle.result_read.specs.Result.{cost_tokens}
 use Rattle.report.specs.declared.fault.RunFault.{RunFault}
 use Rattle.report.specs.declared.fault.RunFault.TheVariants.{Memory, Output}
 

@@ -6,7 +6,7 @@ ghost use Rattle.std.specs.Io.KnownBytes.{Appends};
 ghost use Rattle.wcnf.specs.Lrat.{IsTextOf};
 ghost use Rattle.wcnf.specs.Writing.{AppendsPart, PassesOn};
 ghost use Rattle.lrat_log.specs.Log.{HasSmallIds, numbered_lines, text_of};
-ghost use Rattle.lrat_check.specs.Result.{digit_of};
+ghost use Rattle.result_read.specs.Result.{digit_of};
 ghost use Rattle.report.specs.Answering.{Answers, LeavesAnswer, HasProofRoom};
 ghost use Rattle.report.specs.Answering.{bits_word, digits_text, words_text};
 

@@ -4,7 +4,7 @@
 ghost use Rattle.std.specs.Prelude.{◌≡◌, ◌+◌, ◌<◌, ◌^◌, [], Some, drop, slice_index, OnOk, OnErr};
 ghost use Rattle.std.specs.Io.KnownBytes.{Appends};
 ghost use Rattle.wcnf.specs.Writing.{AppendsPart, spaced};
-ghost use Rattle.lrat_check.specs.Result.{cost_tokens};
+ghost use Rattle.result_read.specs.Result.{cost_tokens};
 ghost use Rattle.report.specs.Telling.{Tells, fault_of_telling};
 
 use crate::fault::RunFault;

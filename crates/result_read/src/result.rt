@@ -3,11 +3,11 @@
 ghost use Rattle.std.specs.Prelude.{◌≡◌, ℕ, List, ◌<◌, ◌^◌, IfOk, IfErr, IfSome, false, [], ◌∷◌};
 ghost use Rattle.std.specs.Option.{option_map};
 ghost use Rattle.wcnf.specs.Text.{tokens_of};
-ghost use Rattle.lrat_check.specs.Result.{same_bytes, bits_on, cost_of, status_of, bits_of};
-ghost use Rattle.lrat_check.specs.Result.{is_ignored};
-ghost use Rattle.lrat_check.specs.Words.{HasWords};
-ghost use Rattle.lrat_check.specs.Report.{IsNextStage, IsReadReport, falls_below, reported};
-ghost use Rattle.lrat_check.specs.Report.{report_with};
+ghost use Rattle.result_read.specs.Result.{same_bytes, bits_on, cost_of, status_of, bits_of};
+ghost use Rattle.result_read.specs.Result.{is_ignored};
+ghost use Rattle.result_read.specs.Words.{HasWords};
+ghost use Rattle.result_read.specs.Report.{IsNextStage, IsReadReport, falls_below, reported};
+ghost use Rattle.result_read.specs.Report.{report_with};
 
 use crate::report::{Cost, Heading, Report, ReportFault, Said, Solution, Stage, Status};
 use crate::words::{Words, words_of};
@@ -16,7 +16,7 @@ use wcnf::limits::NUMBER_LIMIT;
 use wcnf::text::{lines, number};
 
 /// What the result text says, or its first line that cannot stand there.
-pub(crate) fn read_report(alloc: Global, text: &[u8]) -> Result<Report, ReportFault>
+pub fn read_report(alloc: Global, text: &[u8]) -> Result<Report, ReportFault>
     ensures { IsReadReport text.now result }
 {
     let mut stage = Stage::Costs(None);

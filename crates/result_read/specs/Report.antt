@@ -3,17 +3,17 @@ use Rattle.std.specs.Prelude.{◌≡◌, ℕ, ◌+◌, Bool, true, List, ◌∷�
 use Rattle.std.specs.Prelude.{Result as Outcome, Ok, Err, nat_lt, if◌then◌else◌, ⊤}
 use Rattle.std.specs.List.{enumerate_from}
 use Rattle.wcnf.specs.Text.{tokens_of}
-use Rattle.lrat_check.specs.declared.report.Cost.{Cost}
-use Rattle.lrat_check.specs.declared.report.Said.{Said}
-use Rattle.lrat_check.specs.declared.report.Said.TheVariants.{Optimum, Unsat, Sat, Limit}
-use Rattle.lrat_check.specs.declared.report.Report.{Report as ReadReport}
-use Rattle.lrat_check.specs.declared.report.Heading.{Heading}
-use Rattle.lrat_check.specs.declared.report.Stage.{Stage}
-use Rattle.lrat_check.specs.declared.report.Stage.TheVariants.{Costs, Bits, End}
-use Rattle.lrat_check.specs.declared.report.ReportFault.{ReportFault}
-use Rattle.lrat_check.specs.declared.report.ReportFault.TheVariants.{Form, Memory}
-use Rattle.lrat_check.specs.Result.{OptimumFound, Unsatisfiable, Satisfiable, Unknown, Report}
-use Rattle.lrat_check.specs.Result.{ended, with_bits, result_on, report_of}
+use Rattle.result_read.specs.declared.report.Cost.{Cost}
+use Rattle.result_read.specs.declared.report.Said.{Said}
+use Rattle.result_read.specs.declared.report.Said.TheVariants.{Optimum, Unsat, Sat, Limit}
+use Rattle.result_read.specs.declared.report.Report.{Report as ReadReport}
+use Rattle.result_read.specs.declared.report.Heading.{Heading}
+use Rattle.result_read.specs.declared.report.Stage.{Stage}
+use Rattle.result_read.specs.declared.report.Stage.TheVariants.{Costs, Bits, End}
+use Rattle.result_read.specs.declared.report.ReportFault.{ReportFault}
+use Rattle.result_read.specs.declared.report.ReportFault.TheVariants.{Form, Memory}
+use Rattle.result_read.specs.Result.{OptimumFound, Unsatisfiable, Satisfiable, Unknown, Report}
+use Rattle.result_read.specs.Result.{ended, with_bits, result_on, report_of}
 
 abbrev pub reported : ReadReport → Report
 reported a = by a.said

@@ -1,6 +1,6 @@
 use Rattle.std.proofs.lemmas.Result.{err_from_is_err_and}
-use Rattle.lrat_check.proofs.ReportRead.{goes_on, stops, ended_at, unended_at}
-use Rattle.lrat_check.proofs.result.read_report.Goals as goal
+use Rattle.result_read.proofs.ReportRead.{goes_on, stops, ended_at, unended_at}
+use Rattle.result_read.proofs.result.read_report.Goals as goal
 
 pub returns-in_err-stage : goal.returns-in_err-stage
 returns-in_err-stage c =

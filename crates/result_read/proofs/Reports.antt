@@ -1,27 +1,30 @@
 -- What a result is read as, against what it says.
 use Rattle.std.proofs.Common.{◌≡◌, ℕ, ◌+◌, ◌<◌, ◌^◌, Bool, true, false, not, ◌&&◌, List, [], ◌∷◌}
 use Rattle.std.proofs.Common.{◌++◌, map, Option, Some, None, inl, inr, refl, sym, ◌∙◌, ap, subst}
+use Rattle.std.proofs.Common.{arith, rules}
 use Rattle.std.proofs.Math.Bool.{cond}
 use Rattle.std.proofs.Math.Dec.{ltb}
-use Rattle.std.specs.Prelude.{◌↔◌, ◌==◌, filter, Ok, Err}
-use Rattle.std.specs.List.{AllByRecursion}
+use Rattle.std.specs.Prelude.{◌==◌, filter, Ok, Err}
+use Rattle.std.specs.List.{AllByRecursion, list_all}
 use Rattle.std.specs.Str.Lines.{lines}
 use Rattle.std.specs.Fmt.{decimal}
 use Rattle.std.proofs.lemmas.Bool.{and_from, and_parts, cases_Bool, eq-eqb, eqb-true, ltb-true}
 use Rattle.std.proofs.lemmas.Bool.{lt-ltb, cond-true, cond-false, false≢true}
 use Rattle.std.proofs.lemmas.Option.{cond_some}
+use Rattle.std.proofs.lemmas.Str.Parse.{IsNumeralModel, numerals_by_fold}
+use Rattle.std.proofs.lemmas.Fmt.{digits_value-decimal}
 use Rattle.std.proofs.lemmas.List.Elements.{All-from_recursion, recursion_from_All}
 use lib.Chars.{codes}
 use Rattle.wcnf.specs.Text.{is_blank, begins_with_token, put_byte, tokens_of, token_lines}
-use Rattle.wcnf.specs.Text.{number_of}
-use Rattle.lrat_check.specs.Result.{Said, OptimumFound, Unsatisfiable, Satisfiable, Unknown}
-use Rattle.lrat_check.specs.Result.{fall_to, cost_tokens, digit_of, bits_tokens, result_tokens}
-use Rattle.lrat_check.specs.Result.{FallsTo, is_ignored, result_lines, Says, Report, same_bytes}
-use Rattle.lrat_check.specs.Result.{status_of, cost_of, bits_on, bits_of, ended, with_bits}
-use Rattle.lrat_check.specs.Result.{result_on, report_of}
-use Rattle.lrat_check.specs.declared.report.Status.{Status}
-use Rattle.lrat_check.specs.declared.report.Status.TheVariants.{Optimum, Unsat, Sat, Limit}
-use Rattle.lrat_read.proofs.Laws.{number_means, number_from}
+use Rattle.wcnf.specs.Text.{is_digit, value_on, number_of}
+use Rattle.wcnf.proofs.Laws.{decimal-number_of, is_number-decimal, number_of-is}
+use Rattle.result_read.specs.Result.{Said, OptimumFound, Unsatisfiable, Satisfiable, Unknown}
+use Rattle.result_read.specs.Result.{fall_to, cost_tokens, digit_of, bits_tokens, result_tokens}
+use Rattle.result_read.specs.Result.{FallsTo, is_ignored, result_lines, Says, Report, same_bytes}
+use Rattle.result_read.specs.Result.{status_of, cost_of, bits_on, bits_of, ended, with_bits}
+use Rattle.result_read.specs.Result.{result_on, report_of}
+use Rattle.result_read.specs.declared.report.Status.{Status}
+use Rattle.result_read.specs.declared.report.Status.TheVariants.{Optimum, Unsat, Sat, Limit}
 
 abbrev Line : Type 0
 Line = List (List ℕ)
@@ -103,15 +106,23 @@ cost_means (o ∷ t ∷ []) c e =
       | inl y ↦
           let h = small_means (number_of t) c (sym (cost_is o t y) ∙ e) in (
             ap (λ x. x ∷ t ∷ []) (same_bytes-true o (codes "o") y)
-                ∙ ap (λ x. codes "o" ∷ x ∷ []) (number_means t c h.0 h.1),
+                ∙ ap (λ x. codes "o" ∷ x ∷ []) (decimal-number_of t c h.0 (omega (arith, h.1))),
             h.1,
           )
       | inr f ↦ let z : cost_of (o ∷ t ∷ []) ≡ None = rw f refl in absurd (cc)
     ]
 
+-- the digits of a number, as one that is read
+own : IsNumeralModel (λ ds. list_all is_digit ds ≡ true) (value_on 0)
+own = numerals_by_fold _ (search rules) value_on (search rules)
+
+number_from : (c : ℕ) → c < 2 ^ 64 → number_of (decimal c) ≡ Some c
+number_from c h = number_of-is (decimal c) (is_number-decimal c h)
+    ∙ ap Some (digits_value-decimal own c h)
+
 cost_from : (c : ℕ) → c < 2 ^ 62 → cost_of (cost_tokens c) ≡ Some c
 unfolding small_cost
-cost_from c h = cost_is (codes "o") (decimal c) refl ∙ ap small_cost (number_from c h)
+cost_from c h = cost_is (codes "o") (decimal c) refl ∙ ap small_cost (number_from c (omega (arith, h)))
     ∙ cond-true (ltb c 4611686018427387904) _ _ (lt-ltb _ _ h)
 
 -- states
@@ -301,7 +312,8 @@ with_bits_means (l ∷ ls) h n report r e =
                 absurd (cc)
             | Some xs ↦ λ u.
                 let k =
-                ended_means ls (n + 1) (report xs n) r (sym (bits_here l ls n report xs f u) ∙ e) in (
+                ended_means ls (n + 1) (report xs n) r
+                (sym (bits_here l ls n report xs f u) ∙ e) in (
                   xs,
                   n,
                   told_take l ls f ∙ ap (λ x. x ∷ told ls) (bits_means l h.0 xs u)
@@ -699,7 +711,7 @@ says_from_tail Unsatisfiable (d ∷ ds) fl t =
 says_from_tail Unknown [] fl t = ([], refl, t)
 says_from_tail Unknown (d ∷ ds) fl t = absurd (never_costly Unknown (λ d fl h. h) ds d t.0 t.4)
 
--- 5. exactly when
+-- exactly when
 pub says_from_report : (text : List ℕ) (r : Report) → report_of text ≡ Ok r → Says text r.said
 says_from_report text r e =
     let k = result_means (token_lines text) (all_tokens (lines text)) None 1 r e in
@@ -710,8 +722,3 @@ pub report_from_says : (text : List ℕ) (said : Said) → Says text said
 report_from_says text said s =
     let k = tail_from_says said s.0 (result_lines text) s.1 s.2 in
     result_from (token_lines text) None 1 k.0 said k.1
-
-pub Says-report_of : (text : List ℕ) (said : Said)
-    → Says text said ↔ ((r : Report) × (report_of text ≡ Ok r) × (r.said ≡ said))
-Says-report_of text said =
-    (report_from_says text said, λ k. subst (Says text) k.2 (says_from_report text k.0 k.1))

@@ -5,8 +5,8 @@ use Rattle.std.specs.Prelude.{nat_lt, ◌==◌, if◌then◌else◌, All}
 use Rattle.std.specs.Fmt.{decimal}
 use lib.Chars.{codes}
 use Rattle.wcnf.specs.Text.{token_lines, number_of}
-use Rattle.lrat_check.specs.declared.report.Status.{Status}
-use Rattle.lrat_check.specs.declared.report.Status.TheVariants.{Optimum, Unsat, Sat, Limit}
+use Rattle.result_read.specs.declared.report.Status.{Status}
+use Rattle.result_read.specs.declared.report.Status.TheVariants.{Optimum, Unsat, Sat, Limit}
 
 -- what a result says
 pub data Said : Type 0 where

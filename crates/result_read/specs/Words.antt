@@ -1,7 +1,7 @@
 -- The tokens of a line, where they are at most three.
 use Rattle.std.specs.Prelude.{◌≡◌, ℕ, List, [], ◌∷◌}
-use Rattle.lrat_check.specs.declared.words.Words.{Words}
-use Rattle.lrat_check.specs.declared.words.Words.TheVariants.{None, One, Two, Three, More}
+use Rattle.result_read.specs.declared.words.Words.{Words}
+use Rattle.result_read.specs.declared.words.Words.TheVariants.{None, One, Two, Three, More}
 
 abbrev pub HasWords : List (List ℕ) → Words → Type 0
 HasWords ts None = ts ≡ []

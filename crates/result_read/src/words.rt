@@ -1,5 +1,5 @@
 //! The tokens of a result's line: such a line has at most three.
-ghost use Rattle.lrat_check.specs.Words.{HasWords};
+ghost use Rattle.result_read.specs.Words.{HasWords};
 ghost use Rattle.wcnf.specs.Text.{tokens_of};
 
 use wcnf::text::tokens;

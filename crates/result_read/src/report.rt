@@ -1,5 +1,4 @@
-//! A result as it is read. The result itself is a text, which `checking` calls the answer, since in
-//! a contract `result` is what a function returns.
+//! A result as it is read.
 ghost use Rattle.std.specs.Prelude.{◌<◌, ◌^◌};
 
 /// What an `s` line says.
@@ -17,28 +16,28 @@ pub(crate) enum Status {
 
 /// A cost below 2^62 and the line that tells it.
 #[derive(Clone, Copy)]
-pub(crate) struct Cost {
+pub struct Cost {
     /// Below 2^62.
-    pub(crate) cost: u64,
+    pub cost: u64,
     /// From 1.
-    pub(crate) line: u64,
+    pub line: u64,
     ghost small: { cost < 2 ^ 62 },
 }
 
 /// A solution: the last cost that was told, and the bits, from variable 1 on, with their line.
 #[derive(Drop)]
-pub(crate) struct Solution {
+pub struct Solution {
     /// The last one that was told, with its line.
-    pub(crate) cost: Cost,
+    pub cost: Cost,
     /// By variable, that of 1 first.
-    pub(crate) bits: Vec<bool>,
+    pub bits: Vec<bool>,
     /// From 1.
-    pub(crate) bits_line: u64,
+    pub bits_line: u64,
 }
 
 /// What a result says, with the lines of its solution where it has one.
 #[derive(Drop)]
-pub(crate) enum Said {
+pub enum Said {
     Optimum(Solution),
     Unsat,
     Sat(Solution),
@@ -47,11 +46,11 @@ pub(crate) enum Said {
 
 /// A whole result as it was read: what it says, with the lines that a verdict names.
 #[derive(Drop)]
-pub(crate) struct Report {
+pub struct Report {
     /// The status, with what stands before and after it.
-    pub(crate) said: Said,
+    pub said: Said,
     /// From 1.
-    pub(crate) status_line: u64,
+    pub status_line: u64,
 }
 
 /// What stands before the bits: the last cost, and the status of an optimum or of another solution.
@@ -78,7 +77,7 @@ pub(crate) enum Stage {
 
 /// Why a text is no result.
 #[derive(Clone, Copy, Debug, PartialEq, Eq, Drop)]
-pub(crate) enum ReportFault {
+pub enum ReportFault {
     /// The first line that cannot stand there, or 0 where the text ends too soon.
     Form(u64),
     Memory,

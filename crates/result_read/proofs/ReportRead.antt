@@ -2,13 +2,13 @@
 use Rattle.std.proofs.Common.{◌≡◌, ℕ, ◌+◌, List, [], ◌∷◌, map, Ok, Err, refl, sym, ◌∙◌, ap}
 use Rattle.std.specs.List.{enumerate_from}
 use Rattle.wcnf.specs.Text.{tokens_of}
-use Rattle.lrat_check.specs.declared.report.Report.{Report as ReadReport}
-use Rattle.lrat_check.specs.declared.report.ReportFault.{ReportFault}
-use Rattle.lrat_check.specs.declared.report.ReportFault.TheVariants.{Form, Memory}
-use Rattle.lrat_check.specs.declared.report.Stage.{Stage}
-use Rattle.lrat_check.specs.declared.report.Stage.TheVariants.{Costs, Bits, End}
-use Rattle.lrat_check.specs.Result.{report_of}
-use Rattle.lrat_check.specs.Report.{reported, resumed, IsNextStage, GoesOn, IsReadReport}
+use Rattle.result_read.specs.declared.report.Report.{Report as ReadReport}
+use Rattle.result_read.specs.declared.report.ReportFault.{ReportFault}
+use Rattle.result_read.specs.declared.report.ReportFault.TheVariants.{Form, Memory}
+use Rattle.result_read.specs.declared.report.Stage.{Stage}
+use Rattle.result_read.specs.declared.report.Stage.TheVariants.{Costs, Bits, End}
+use Rattle.result_read.specs.Result.{report_of}
+use Rattle.result_read.specs.Report.{reported, resumed, IsNextStage, GoesOn, IsReadReport}
 
 record Next (text : List ℕ) (stage : Stage) (number : ℕ) (line : List ℕ) (rest : List (ℕ × List ℕ))
     : Type 0 where

@@ -1,6 +1,6 @@
 -- What is left of the text, read on from the stage, gives its report.
-use Rattle.lrat_check.specs.Report.{GoesOn}
-use Rattle.lrat_check.proofs.result.read_report.Given as goal
+use Rattle.result_read.specs.Report.{GoesOn}
+use Rattle.result_read.proofs.result.read_report.Given as goal
 
 abbrev pub invariant-loop-number : goal.invariant-loop-number
 invariant-loop-number l =

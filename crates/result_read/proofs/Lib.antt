@@ -1,0 +1,3 @@
+mod Reports
+mod ReportRead
+pub mod Laws

@@ -1,0 +1,4 @@
+pub mod Result
+pub mod Report
+pub mod Words
+pub mod Vectors
