@@ -1,10 +1,9 @@
 -- Lines of costs, and what a writer has of them.
 use Rattle.std.proofs.Common.{◌≡◌, ℕ, ◌+◌, ◌<◌, ◌≤◌, ◌-◌, ◌^◌, List, [], ◌∷◌, ◌++◌, length, drop}
-use Rattle.std.proofs.Common.{set, get_or, Option, Some, Bool, false, Result, Ok, Err, sym, ◌∙◌, ap}
+use Rattle.std.proofs.Common.{set, get_or, Option, Some, Bool, false, sym, ◌∙◌, ap}
 use Rattle.std.proofs.Common.{subst, arith, append_assoc, append-nil}
 use Rattle.std.specs.Fmt.{decimal}
 use Rattle.std.proofs.lemmas.Fmt.{length-decimal-le}
-use Rattle.std.specs.Prelude.{OnErr}
 use Rattle.std.specs.Io.KnownBytes.{Appends, Keeps}
 use Rattle.std.proofs.KnownBytes.{Appends-trans, Appends-kept}
 use Rattle.std.proofs.lemmas.List.{drop-set, drop_more, drop_all, length-set}
@@ -60,10 +59,6 @@ line_begun first old now costs c p q =
 pub whole_part : (a b c : Option (List ℕ)) (bs text : List ℕ) → bs ≡ text → Appends a b bs
     → Keeps b c → AppendsPart a c text
 whole_part a b c bs text e p k = (bs, ([], sym e ∙ sym (append-nil bs)), Appends-kept a b c bs p k)
-
-pub always_err : {T E P : Type 0} (r : Result T E) → P → OnErr r P
-always_err (Ok x) p = tt
-always_err (Err e) p = p
 
 -- a first failure of the writer
 pub broke : (first old now : Option (List ℕ)) (costs new : List ℕ) (cost : ℕ) (failed : Option ℕ)

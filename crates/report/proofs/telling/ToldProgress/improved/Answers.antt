@@ -9,7 +9,8 @@ use Rattle.report.proofs.telling.ToldProgress.improved.Goals as goal
 pub returns-then-is_err-2-clause-follows : goal.returns-then-is_err-2-clause-follows
 returns-then-is_err-2-clause-follows g c = λ first h.
     let f = c.fail-then-is_err-2.ensures in
-    let part = at_err c.write_cost.result c.if-is_err-2.ensures.value c.write_cost.ensures.fault in (
+    let part =
+    at_err c.write_cost.result c.if-is_err-2.ensures.value c.write_cost.ensures.fault in (
       ap (λ z. z.ghost_name) f.writer ∙ h.0,
       broke (g.W.Write.contents first.writer.now) _ _ c.args.self.now.costs.items _ c.args.cost _ _
           _ (h.1.all_told (omega arith))
