@@ -12,7 +12,7 @@ use Rattle.wcnf.specs.Clause.{has_opposites, greatest_variable}
 use Rattle.wcnf.specs.Instance.{IsClauseWithin}
 use Rattle.bound.specs.Bound.{kept}
 use Rattle.bound.specs.Adding.{Adds}
-use Rattle.marks.specs.Marks.{HasPlace}
+use Rattle.wcnf.specs.Marks.{HasPlace}
 use Rattle.bound.proofs.Opposites.{same_number}
 use Rattle.bound.proofs.Clauses.{any-distinct}
 use Rattle.bound.proofs.Fits.{repeat-distinct}

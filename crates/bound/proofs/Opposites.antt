@@ -6,9 +6,8 @@ use Rattle.std.proofs.lemmas.List.{take_more}
 use Rattle.std.proofs.lemmas.List.Folds.{list_any-append}
 use Rattle.wcnf.specs.Literal.{Literal, negation, literal_eq, same_bool, index_of}
 use Rattle.wcnf.specs.Clause.{contains_literal, has_opposites}
-use Rattle.wcnf.specs.Marks.{mark_of, IsMarked}
-use Rattle.marks.specs.Marks.{HasPlace}
-use Rattle.marks.proofs.Laws.{marked_one}
+use Rattle.wcnf.specs.Marks.{mark_of, IsMarked, HasPlace}
+use Rattle.wcnf.proofs.Laws.{marked_one}
 
 pub same_number : (m n : ℕ) → (m == n) ≡ (n == m)
 same_number m n =

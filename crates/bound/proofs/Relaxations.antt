@@ -16,7 +16,7 @@ use Rattle.adder.specs.declared.cells.Profile.TheVariants.{One, Two, Three}
 use Rattle.adder.specs.Network.{Relaxed, relaxed_one, relaxed_from}
 use Rattle.adder.proofs.Laws.{relaxed_cases}
 use Rattle.bound.specs.Bound.{kept}
-use Rattle.marks.specs.Marks.{HasPlace}
+use Rattle.wcnf.specs.Marks.{HasPlace}
 use Rattle.bound.specs.Adding.{gets_variable}
 use Rattle.bound.proofs.Subsets.{all_append}
 use Rattle.bound.proofs.Kept.{kept-append, places_each, same_literals}

@@ -19,11 +19,11 @@ use crate::relaxing::keep_relaxed;
 use adder::building::network_as;
 use adder::cells::{Cell, Profile};
 use adder::networks::Network;
-use marks::Marks;
 use std::alloc::AllocError;
 use std::io::Write;
 use wcnf::clause_list::ClauseList;
 use wcnf::faults::WriteFault;
+use wcnf::marks::Marks;
 use wcnf::output::Block;
 use wcnf::types::Instance;
 

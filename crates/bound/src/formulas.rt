@@ -12,9 +12,9 @@ use crate::hard::keep_hard;
 use crate::relaxing::keep_relaxed;
 use adder::building::network_as;
 use adder::cells::Profile;
-use marks::Marks;
 use std::alloc::AllocError;
 use wcnf::clause_list::ClauseList;
+use wcnf::marks::Marks;
 use wcnf::types::{Formula, Instance};
 
 /// The formula for a cost below `k`, a bound from 0 to 2^62: the hard clauses, each soft clause

@@ -6,9 +6,9 @@ ghost use Rattle.wcnf.specs.Problem.{IsFeasible};
 ghost use Rattle.bound.specs.Bound.{hard_cnf, kept};
 
 use crate::keeping::keep;
-use marks::Marks;
 use std::alloc::AllocError;
 use wcnf::clause_list::ClauseList;
+use wcnf::marks::Marks;
 use wcnf::types::{Formula, Instance};
 
 /// The hard clauses as a formula over the instance's variables, in their order, without those that

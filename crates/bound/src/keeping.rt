@@ -3,11 +3,11 @@
 ghost use Rattle.std.specs.Prelude.{◌≡◌, false, [], ◌∷◌, ◌++◌, length, All, IfOk, OnOk};
 ghost use Rattle.wcnf.specs.Clause.{contains_literal, distinct, has_repeat, has_opposites};
 ghost use Rattle.bound.specs.Bound.{kept};
-ghost use Rattle.marks.specs.Marks.{HasPlace};
+ghost use Rattle.wcnf.specs.Marks.{HasPlace};
 
-use marks::Marks;
 use std::alloc::{AllocError, Global};
 use wcnf::clause_list::ClauseList;
+use wcnf::marks::Marks;
 use wcnf::types::Lit;
 
 /// Clauses up to this length are searched for opposites pair by pair, which takes fewer steps than

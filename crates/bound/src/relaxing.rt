@@ -9,9 +9,9 @@ ghost use Rattle.bound.specs.Adding.{gets_variable};
 
 use crate::keeping::keep;
 use adder::cells::Profile;
-use marks::Marks;
 use std::alloc::{AllocError, Global};
 use wcnf::clause_list::ClauseList;
+use wcnf::marks::Marks;
 use wcnf::types::{Instance, Lit};
 
 /// Adds the soft clauses that take a relaxation variable, each with that as its last literal. These

@@ -10,9 +10,8 @@ use Rattle.wcnf.specs.Literal.{Literal, negation, literal_eq, index_of}
 use Rattle.wcnf.specs.Clause.{contains_literal}
 use Rattle.wcnf.proofs.Laws.{literal_eq-true}
 use Rattle.clauses.specs.Slots.{Slots, clause_at}
-use Rattle.marks.specs.Marks.{HasPlace}
-use Rattle.wcnf.specs.Marks.{IsMarked}
-use Rattle.marks.proofs.Laws.{marked_one, place_within, none_marked}
+use Rattle.wcnf.specs.Marks.{IsMarked, HasPlace}
+use Rattle.wcnf.proofs.Laws.{marked_one, place_within, none_marked}
 use Rattle.eliminate.specs.declared.units.Units.{Units}
 use Rattle.eliminate.specs.Simplifier.{Grows}
 use Rattle.eliminate.specs.Units.{IsByUnit, AreUnits, open_count, MakesTrue}

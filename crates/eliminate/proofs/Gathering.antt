@@ -8,8 +8,8 @@ use Rattle.std.proofs.lemmas.List.Elements.{All-contains, All-filter, All-contai
 use Rattle.std.proofs.lemmas.List.Elements.{Contains-get_or, filter_passes}
 use Rattle.wcnf.specs.Literal.{Literal, index_of}
 use Rattle.clauses.specs.Slots.{Slots, clause_at}
-use Rattle.marks.specs.Marks.{HasPlace}
-use Rattle.marks.proofs.Laws.{place_within}
+use Rattle.wcnf.specs.Marks.{HasPlace}
+use Rattle.wcnf.proofs.Laws.{place_within}
 use Rattle.eliminate_tables.specs.Rows.{row_at, with_row, is_some, has_clause, AreRows}
 use Rattle.eliminate.specs.Variables.{AreThoseWith}
 use Rattle.eliminate_tables.proofs.Laws.{some_clause}

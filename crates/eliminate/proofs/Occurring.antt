@@ -11,8 +11,8 @@ use Rattle.wcnf.specs.Clause.{contains_literal}
 use Rattle.wcnf.proofs.Laws.{index_same, literal_eq-true}
 use Rattle.clauses.specs.Slots.{Slots}
 use Rattle.eliminate_tables.specs.Rows.{row_at, with_row, with_entry, with_clause_rows, AreRows}
-use Rattle.marks.specs.Marks.{HasPlace}
-use Rattle.marks.proofs.Laws.{place_within}
+use Rattle.wcnf.specs.Marks.{HasPlace}
+use Rattle.wcnf.proofs.Laws.{place_within}
 use Rattle.clauses.proofs.Laws.{clause_cases, clause_left, live_within}
 use Rattle.wcnf.proofs.Laws.{literal_eq-refl}
 

@@ -17,7 +17,7 @@ use Rattle.lrat_log.specs.declared.lines.Hint.{Hint}
 use Rattle.lrat_log.specs.declared.lines.Hint.TheVariants.{Plain}
 use Rattle.lrat_log.specs.Log.{HasNumber, LogLine, is_delete, is_learned}
 use Rattle.lrat_log.specs.Steps.{given_of, IsOwnGroup, is_empty_clause}
-use Rattle.marks.specs.Marks.{HasPlace}
+use Rattle.wcnf.specs.Marks.{HasPlace}
 use Rattle.eliminate.specs.declared.simplifier.Simplifier.{Simplifier}
 use Rattle.eliminate.specs.Elimination.{is_eliminated}
 use Rattle.eliminate_tables.specs.Resolvents.{resolvent}

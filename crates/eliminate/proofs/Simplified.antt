@@ -10,7 +10,7 @@ use Rattle.wcnf.specs.Formula.{IsFormulaClause}
 use Rattle.clauses.specs.Slots.{Slots, clause_at, live_clauses}
 use Rattle.lrat_log.specs.Log.{LogLine}
 use Rattle.lrat_log.specs.Steps.{is_empty_clause, AddsNoEmptyClause}
-use Rattle.marks.specs.Marks.{HasPlace}
+use Rattle.wcnf.specs.Marks.{HasPlace}
 use Rattle.eliminate.specs.declared.simplifier.Simplifier.{Simplifier}
 use Rattle.lrat_log.specs.Steps.{added_count}
 use Rattle.names.specs.Work.{NamesState, name_at, added_line, delete_line}

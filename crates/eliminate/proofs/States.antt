@@ -17,7 +17,7 @@ use Rattle.clauses.specs.Slots.{Slots, clause_at, live_clauses}
 use Rattle.lrat_log.specs.declared.lines.Name.{Name}
 use Rattle.lrat_log.specs.Log.{LogLine, is_learned}
 use Rattle.lrat_log.specs.Steps.{given_of, AddsNoEmptyClause, IsOwnGroup}
-use Rattle.marks.specs.Marks.{HasPlace}
+use Rattle.wcnf.specs.Marks.{HasPlace}
 use Rattle.eliminate.specs.Elimination.{Removed, is_eliminated, positive}
 use Rattle.eliminate_tables.specs.Resolvents.{resolvent}
 use Rattle.lrat_log.specs.Steps.{added_count}

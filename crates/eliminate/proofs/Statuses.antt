@@ -14,8 +14,7 @@ use Rattle.wcnf.proofs.Laws.{literal_eq-true}
 use Rattle.wcnf.proofs.Laws.{at_contains}
 use Rattle.wcnf.specs.Formula.{IsFormulaClause}
 use Rattle.clauses.specs.Slots.{Slots, clause_at}
-use Rattle.marks.specs.Marks.{HasPlace}
-use Rattle.wcnf.specs.Marks.{mark_of}
+use Rattle.wcnf.specs.Marks.{mark_of, HasPlace}
 use Rattle.eliminate.specs.declared.units.Units.{Units}
 use Rattle.eliminate.specs.declared.units.Status.{Status}
 use Rattle.eliminate.specs.declared.units.Status.TheVariants.{Settled, Unit, Falsified}

@@ -18,9 +18,9 @@ use eliminate_tables::schedule::Schedule;
 use eliminate_tables::stack::Removals;
 use lrat_log::lines::{Hint, Kind};
 use lrat_log::sink::Sink;
-use marks::Marks;
 use names::names::{Names, add, delete};
 use std::alloc::{AllocError, Global};
+use wcnf::marks::Marks;
 use wcnf::types::Lit;
 
 /// The tables of preprocessing, which all passes share.

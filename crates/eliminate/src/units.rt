@@ -9,7 +9,7 @@ ghost use Rattle.wcnf.specs.Literal.{Literal, negation};
 ghost use Rattle.wcnf.specs.Clause.{contains_literal};
 ghost use Rattle.wcnf.specs.Refute.{IsUnit, IsFalseUnder, IsRefutedByHints};
 ghost use Rattle.clauses.specs.Slots.{IsLive, clause_at, live_clauses};
-ghost use Rattle.marks.specs.Marks.{HasPlace};
+ghost use Rattle.wcnf.specs.Marks.{HasPlace};
 ghost use Rattle.names.specs.Work.{AreClauses};
 ghost use Rattle.eliminate.specs.Simplifier.{IsSimplifier, StaysSimplified, LeavesLog, Grows};
 ghost use Rattle.eliminate.specs.Units.{HasStatus, AreUnits, AreSettled, unit_hints, open_count};
@@ -19,9 +19,9 @@ use crate::simplifier::Simplifier;
 use clauses::store::{CRef, MaybeCRef, Store};
 use lrat_log::lines::{Hint, Kind};
 use lrat_log::sink::Sink;
-use marks::Marks;
 use names::names::Names;
 use std::alloc::{AllocError, Global};
+use wcnf::marks::Marks;
 use wcnf::types::Lit;
 
 /// The literals that are true, each by a clause of one literal.

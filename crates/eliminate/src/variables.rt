@@ -5,7 +5,7 @@ ghost use Rattle.std.specs.Prelude.{◌≡◌, ℕ, ◌*◌, ◌<◌, true, fals
 ghost use Rattle.std.specs.Prelude.{OnErr};
 ghost use Rattle.wcnf.specs.Literal.{negation};
 ghost use Rattle.lrat_log.specs.Log.{LogLine, IsLine};
-ghost use Rattle.marks.specs.Marks.{HasPlace};
+ghost use Rattle.wcnf.specs.Marks.{HasPlace};
 ghost use Rattle.eliminate.specs.Elimination.{positive, IsFree};
 ghost use Rattle.eliminate_tables.specs.Rows.{AreRows};
 ghost use Rattle.lrat_log.specs.Steps.{added_count};

@@ -9,8 +9,7 @@ use Rattle.std.proofs.lemmas.List.Elements.{All-head, All-tail, All-filter}
 use Rattle.wcnf.specs.Literal.{Literal, negation, literal_eq}
 use Rattle.wcnf.specs.Clause.{contains_literal, without_literal}
 use Rattle.clauses.specs.Slots.{Slots, clause_at}
-use Rattle.marks.specs.Marks.{HasPlace}
-use Rattle.wcnf.specs.Marks.{IsMarked}
+use Rattle.wcnf.specs.Marks.{IsMarked, HasPlace}
 use Rattle.eliminate_tables.specs.Resolvents.{unmarked_rest, is_opposed}
 use Rattle.eliminate_tables.specs.Rows.{clause_under, clauses_under}
 use Rattle.eliminate_tables.specs.Worthwhile.{rest_of, are_opposed, are_few_and_short}

@@ -11,11 +11,11 @@ ghost use Rattle.subsume.specs.Against.{LiesAgainst};
 ghost use Rattle.eliminate_tables.specs.Bins.{ArePlaced};
 
 use clauses::store::{CRef, Store};
-use marks::Marks;
 use std::alloc::{AllocError, Global};
 use std::marker::Model;
 use subsume::against::{Against, hold_against};
 use subsume::signatures::{maybe_subsets, signature};
+use wcnf::marks::Marks;
 use wcnf::types::Lit;
 
 /// So many clauses have room in a bin.

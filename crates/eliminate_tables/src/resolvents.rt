@@ -3,11 +3,11 @@ ghost use Rattle.std.specs.Prelude.{◌≡◌, true, not, ◌++◌, length, fals
 ghost use Rattle.std.specs.Prelude.{All, IfOk, IfSome, None};
 ghost use Rattle.std.specs.List.{list_any};
 ghost use Rattle.wcnf.specs.Clause.{without_literal, has_opposites};
-ghost use Rattle.marks.specs.Marks.{HasPlace};
+ghost use Rattle.wcnf.specs.Marks.{HasPlace};
 ghost use Rattle.eliminate_tables.specs.Resolvents.{resolvent, unmarked_rest, is_opposed};
 
-use marks::Marks;
 use std::alloc::AllocError;
+use wcnf::marks::Marks;
 use wcnf::types::Lit;
 
 /// Builds the resolvent of two clauses, the first with the pivot and the second with its negation.

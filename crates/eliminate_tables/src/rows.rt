@@ -2,7 +2,7 @@
 // of clauses that were deleted since, until they are cleaned.
 ghost use Rattle.std.specs.Prelude.{◌≡◌, ℕ, ◌+◌, ◌<◌, List, [], ◌∷◌, ◌++◌, length, replicate};
 ghost use Rattle.std.specs.Prelude.{filter, IfOk, All};
-ghost use Rattle.marks.specs.Marks.{HasPlace};
+ghost use Rattle.wcnf.specs.Marks.{HasPlace};
 ghost use Rattle.eliminate_tables.specs.Rows.{row_at, with_row, with_clause_rows, has_clause};
 
 use clauses::store::{CRef, Store};

@@ -11,7 +11,7 @@ ghost use Rattle.eliminate_tables.specs.Worthwhile.{are_few_and_short, is_worthw
 use crate::resolvents::count_rest;
 use crate::schedule::Schedule;
 use clauses::store::{CRef, Store};
-use marks::Marks;
+use wcnf::marks::Marks;
 use wcnf::types::Lit;
 
 /// A variable goes only where at most so many clauses have it, and at most so many its negation.

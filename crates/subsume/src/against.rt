@@ -1,9 +1,9 @@
 // How clauses lie against the marked one, found in time linear in these.
 ghost use Rattle.std.specs.Prelude.{◌≡◌, length, All};
-ghost use Rattle.marks.specs.Marks.{HasPlace};
+ghost use Rattle.wcnf.specs.Marks.{HasPlace};
 ghost use Rattle.subsume.specs.Against.{LiesAgainst, against_of, but_for};
 
-use marks::Marks;
+use wcnf::marks::Marks;
 use wcnf::types::Lit;
 
 /// How a clause lies against the marked one.

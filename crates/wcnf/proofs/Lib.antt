@@ -11,7 +11,9 @@ mod Laid
 mod Cutting
 mod Rising
 mod Literals
-mod Marks
+mod Marking
+mod Gathered
+mod Unstamped
 mod Zeros
 mod FirstPieces
 mod CappedNumbers

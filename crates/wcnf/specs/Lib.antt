@@ -3,6 +3,7 @@ pub mod Literal
 pub mod Packed
 pub mod Clause
 pub mod Marks
+pub mod MarksVectors
 pub mod Problem
 pub mod Bits
 pub mod Flat

@@ -1,13 +1,14 @@
 // The clause that is being read. Repeats are told by a mark for each literal, so a clause of n
-// literals takes n steps, and only its own marks are taken back before the next one.
+// literals takes n steps, and all marks are taken away in one before the next clause.
 ghost use Rattle.std.specs.Prelude.{◌≡◌, false, ℕ, ◌<◌, ◌≤◌, ◌^◌, max, [], Ok, Err, OnOk, IfOk};
 ghost use Rattle.std.specs.Prelude.{MatchResult, ◌⊎◌};
 ghost use Rattle.wcnf.specs.Clause.{has_repeat};
 ghost use Rattle.wcnf.specs.Reading.{ended_at};
-ghost use Rattle.wcnf.specs.Drafts.{with_literal, emptied, gathered_at, AreMarked};
+ghost use Rattle.wcnf.specs.Drafts.{with_literal, emptied, gathered_at};
 
 use crate::faults::FaultKind;
 use crate::limits::MOST_LITERALS;
+use crate::marks::Marks;
 use crate::pieces::Tokens;
 use crate::types::Lit;
 use crate::words::{Word, read_word};
@@ -19,8 +20,8 @@ use std::marker::Model;
 pub(crate) struct Gathering {
     // The greatest variable of the text so far, at most 2^22; 0 where there is none.
     vars: u32,
-    // Two for each variable, by the literals' indices: whether the clause has the literal.
-    marks: Vec<bool>,
+    // Of the literals of these variables: whether the clause has them.
+    marks: Marks,
     // The literals of the clause, in their order.
     lits: Vec<Lit>,
 }
@@ -32,7 +33,7 @@ impl Model for Gathering {
 
     ghost view = { λ g. record { variables = g.vars; literals = g.lits.items } };
 
-    ghost invariant = { λ g. AreMarked g.vars g.marks.items g.lits.items };
+    ghost invariant = { λ g. AreMarked g.vars g.marks g.lits.items };
 }
 
 impl Gathering {
@@ -41,7 +42,7 @@ impl Gathering {
     {
         Gathering {
             vars: 0,
-            marks: Vec::new(alloc),
+            marks: Marks::empty(alloc),
             lits: Vec::new(alloc),
         }
     }
@@ -57,7 +58,7 @@ impl Gathering {
     fn clear(&mut self)
         ensures { self.new ≡ emptied self.old.variables }
     {
-        unmark(&mut self.marks, &self.lits);
+        self.marks.clear();
         self.lits.clear();
     }
 
@@ -78,9 +79,7 @@ impl Gathering {
             if variable > most {
                 return Err(FaultKind::Variable);
             }
-            self.marks
-                .resize(2 * variable as usize, false)
-                .map_err(|_| FaultKind::Memory)?;
+            self.marks.grow(variable).map_err(|_| FaultKind::Memory)?;
             self.vars = variable;
         }
         Ok(())
@@ -93,10 +92,9 @@ impl Gathering {
         ensures vars { self.new.variables ≡ self.old.variables }
         ensures add { OnOk result (self.new.literals ≡ with_literal self.old.literals lit) }
     {
-        let place = lit.index();
-        if !self.marks[place] {
+        if !self.marks.is_marked(lit) {
             self.lits.push(lit)?;
-            self.marks[place] = true;
+            self.marks.mark(lit);
         }
         Ok(())
     }
@@ -151,16 +149,6 @@ impl Gathering {
         ensures no_repeat { has_repeat result.now ≡ false }
     {
         &self.lits
-    }
-}
-
-/// Takes back the marks of a clause.
-fn unmark(marks: &mut [bool], lits: &[Lit])
-    requires { (v : ℕ) × AreMarked v marks.old lits.now }
-    ensures { (v : ℕ) → AreMarked v marks.old lits.now → AreMarked v marks.new [] }
-{
-    for lit in lits {
-        marks[lit.index()] = false;
     }
 }
 

@@ -8,6 +8,7 @@ mod gathering;
 mod header;
 pub mod judging;
 pub mod limits;
+pub mod marks;
 pub mod output;
 mod parser;
 pub mod pieces;

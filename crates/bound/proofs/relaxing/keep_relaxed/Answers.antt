@@ -4,7 +4,7 @@ use Rattle.std.proofs.Common.{length-take-le, true, false, arith, rules, sym, â—
 use Rattle.wcnf.specs.Literal.{Literal, positive}
 use Rattle.wcnf.specs.Instance.{IsClauseWithin}
 use Rattle.bound.specs.Adding.{gets_variable}
-use Rattle.marks.specs.Marks.{HasPlace}
+use Rattle.wcnf.specs.Marks.{HasPlace}
 use Rattle.bound.proofs.Relaxations.{relaxed_no_repeat, relaxed_places, relaxed_fresh, relaxed_own}
 use Rattle.bound.proofs.Relaxations.{soft_within, soft_more}
 use Rattle.bound.proofs.relaxing.keep_relaxed.Goals as goal

@@ -4,8 +4,8 @@ use Rattle.std.proofs.lemmas.List.{length-set}
 use Rattle.wcnf.specs.Literal.{Literal, index_of}
 use Rattle.clauses.specs.Slots.{Slots}
 use Rattle.lrat_log.specs.Log.{LogLine}
-use Rattle.marks.specs.Marks.{HasPlace}
-use Rattle.marks.proofs.Laws.{place_within}
+use Rattle.wcnf.specs.Marks.{HasPlace}
+use Rattle.wcnf.proofs.Laws.{place_within}
 use Rattle.eliminate.specs.declared.simplifier.Simplifier.{Simplifier}
 use Rattle.eliminate_tables.specs.Rows.{AreRows, row_at, with_row, has_clause}
 use Rattle.eliminate.specs.Simplifier.{StaysSimplified}

@@ -6,7 +6,7 @@ use Rattle.wcnf.specs.Literal.{Literal}
 use Rattle.clauses.specs.Slots.{Slots}
 use Rattle.lrat_log.specs.Log.{LogLine}
 use Rattle.lrat_log.specs.Steps.{is_empty_clause}
-use Rattle.marks.specs.Marks.{HasPlace}
+use Rattle.wcnf.specs.Marks.{HasPlace}
 use Rattle.eliminate.specs.declared.simplifier.Simplifier.{Simplifier}
 use Rattle.eliminate_tables.specs.Rows.{with_clause_rows}
 use Rattle.eliminate.specs.State.{Start}

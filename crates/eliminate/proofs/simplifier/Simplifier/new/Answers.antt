@@ -6,7 +6,7 @@ use Rattle.std.proofs.lemmas.List.{take_more, length-replicate, length-take-le, 
 use Rattle.wcnf.specs.Literal.{Literal}
 use Rattle.wcnf.specs.Formula.{IsFormulaClause}
 use Rattle.clauses.specs.Slots.{Slots, clause_at}
-use Rattle.marks.specs.Marks.{HasPlace}
+use Rattle.wcnf.specs.Marks.{HasPlace}
 use Rattle.eliminate_tables.specs.Rows.{AreRows, with_clause_rows}
 use Rattle.eliminate.proofs.Occurring.{rows_added, rows-length}
 use Rattle.eliminate.proofs.Starting.{rows_start, rows_none, slot_some, slot_none, simplified_start}

@@ -4,8 +4,7 @@ use Rattle.std.proofs.Common.{None, sym, ◌∙◌, ap, subst, arith, Vec, Globa
 use Rattle.std.specs.Prelude.{unwrap_or}
 use Rattle.std.proofs.lemmas.Option.{none-some, same_Some}
 use Rattle.wcnf.specs.Literal.{Literal, negation}
-use Rattle.marks.specs.Marks.{HasPlace}
-use Rattle.wcnf.specs.Marks.{mark_of}
+use Rattle.wcnf.specs.Marks.{mark_of, HasPlace}
 use Rattle.lrat_log.specs.declared.lines.Name.{Name}
 use Rattle.lrat_log.specs.declared.lines.Hint.{Hint}
 use Rattle.lrat_log.specs.declared.lines.Hint.TheVariants.{Plain}

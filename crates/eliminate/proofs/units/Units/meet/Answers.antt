@@ -1,7 +1,7 @@
 -- What a clause asks for is done.
 use Rattle.std.proofs.Common.{◌*◌, ap, List, sym, ◌∙◌, subst}
 use Rattle.wcnf.specs.Literal.{Literal}
-use Rattle.marks.specs.Marks.{HasPlace}
+use Rattle.wcnf.specs.Marks.{HasPlace}
 use Rattle.names.specs.Work.{AreClauses}
 use Rattle.eliminate.specs.Simplifier.{LeavesLog}
 use Rattle.eliminate.proofs.Assigned.{units_grown, makes_true_grown}

@@ -2,8 +2,7 @@
 use Rattle.std.proofs.Common.{◌+◌, true, false, List, length, take, sym, ◌∙◌, ap, subst, arith}
 use Rattle.std.proofs.lemmas.Option.{same_Some}
 use Rattle.wcnf.specs.Literal.{Literal, negation}
-use Rattle.marks.specs.Marks.{HasPlace}
-use Rattle.wcnf.specs.Marks.{mark_of}
+use Rattle.wcnf.specs.Marks.{mark_of, HasPlace}
 use Rattle.eliminate.specs.declared.units.Units.{Units}
 use Rattle.eliminate.specs.Units.{IsSettled}
 use Rattle.eliminate.proofs.Statuses.{HasStatusSoFar, settled_true, status_false, status_open}

@@ -1,3 +1,0 @@
-mod Marking
-mod Unstamped
-pub mod Laws
