@@ -16,7 +16,7 @@ use Rattle.wcnf.specs.Literal.{Literal, negation}
 use Rattle.wcnf.specs.Clause.{contains_literal, without_literal, has_repeat, has_opposites}
 use Rattle.wcnf.specs.Clause.{greatest_variable}
 use Rattle.wcnf.specs.Refute.{Clauses}
-use Rattle.wcnf.specs.Lrat.{CandidateHints, Addition as AddsLine, Deletion as DeletesLine, Live}
+use Rattle.wcnf.specs.Lrat.{CandidateHints, Deletion as DeletesLine, Live}
 use Rattle.wcnf.specs.Lrat.{start_of, with_clause, without_ids, IsAddable, HoldsForCandidate}
 use Rattle.wcnf.specs.Lrat.{candidates_of, IsRat, IsRup, Step}
 use Rattle.lrat_check.specs.declared.verdicts.Cause.{Cause}
