@@ -26,3 +26,44 @@ returns-clause-added c _ =
     rw (c.set.ensures, start, long, ← c.self.view_is)
     (rows_put i.block i.heads.items i.used laid c.args.row c.args.entry.now _ li room
     (ap (λ (r : Head). r.start) is') refl)
+
+pub index-requires : goal.index-requires
+index-requires c =
+    let i = c.self.inside in
+    omega (arith, long_rows i.block i.heads.items, ap length c.self.view_is)
+
+pub overflow_add-start : goal.overflow_add-start
+overflow_add-start c =
+    let i = c.self.inside in let laid = c.self.invariant in
+    let li : c.args.row < length i.heads.items =
+    omega (arith, long_rows i.block i.heads.items, ap length c.self.view_is) in
+    let is : c.index.result.now ≡ get_or i.heads.items c.args.row no_head =
+    get_or_read i.heads.items c.args.row c.index.result.now li c.index.ensures no_head in
+    omega (
+      arith,
+      laid.inside c.args.row li,
+      laid.filled c.args.row li,
+      laid.used_fits,
+      laid.small,
+      ap (λ (r : Head). r.start) is,
+      ap (λ (r : Head). r.length) is,
+      ap (λ (r : Head). r.room) is,
+    )
+
+pub set-requires : goal.set-requires
+set-requires c =
+    let i = c.self.inside in let laid = c.self.invariant in
+    let li : c.args.row < length i.heads.items =
+    omega (arith, long_rows i.block i.heads.items, ap length c.self.view_is) in
+    let is : c.index.result.now ≡ get_or i.heads.items c.args.row no_head =
+    get_or_read i.heads.items c.args.row c.index.result.now li c.index.ensures no_head in
+    omega (
+      arith,
+      laid.inside c.args.row li,
+      laid.filled c.args.row li,
+      laid.used_fits,
+      laid.small,
+      ap (λ (r : Head). r.start) is,
+      ap (λ (r : Head). r.length) is,
+      ap (λ (r : Head). r.room) is,
+    )

@@ -1,6 +1,7 @@
 use Rattle.std.proofs.Common.{◌≡◌, ◌<◌, [], length, get_or, ap, sym, arith}
 use Rattle.std.proofs.lemmas.List.{get_or_read}
 use Rattle.watches.specs.PoolLayout.{no_head}
+use Rattle.watches.specs.declared.pool.Head.{Head}
 use Rattle.watches.proofs.Laid.{rows_set, long_row, long_rows}
 use Rattle.watches.proofs.pool.WatchPool.set.Goals as goal
 
@@ -19,3 +20,44 @@ returns c =
     ) in
     rw (c.set.ensures, ← is, ← c.self.view_is)
     (rows_set i.block i.heads.items i.used laid c.args.row c.args.i c.args.entry li lk)
+
+pub index-requires : goal.index-requires
+index-requires c =
+    let i = c.self.inside in
+    omega (arith, long_rows i.block i.heads.items, ap length c.self.view_is)
+
+pub overflow_add-start : goal.overflow_add-start
+overflow_add-start c =
+    let i = c.self.inside in let laid = c.self.invariant in
+    let li : c.args.row < length i.heads.items =
+    omega (arith, long_rows i.block i.heads.items, ap length c.self.view_is) in
+    let is : c.index.result.now ≡ get_or i.heads.items c.args.row no_head =
+    get_or_read i.heads.items c.args.row c.index.result.now li c.index.ensures no_head in
+    omega (
+      arith,
+      laid.inside c.args.row li,
+      laid.filled c.args.row li,
+      laid.used_fits,
+      laid.small,
+      long_row i.block i.heads.items i.used laid c.args.row li,
+      ap (λ v. length (get_or v c.args.row [])) c.self.view_is,
+      ap (λ (r : Head). r.start) is,
+    )
+
+pub set-requires : goal.set-requires
+set-requires c =
+    let i = c.self.inside in let laid = c.self.invariant in
+    let li : c.args.row < length i.heads.items =
+    omega (arith, long_rows i.block i.heads.items, ap length c.self.view_is) in
+    let is : c.index.result.now ≡ get_or i.heads.items c.args.row no_head =
+    get_or_read i.heads.items c.args.row c.index.result.now li c.index.ensures no_head in
+    omega (
+      arith,
+      laid.inside c.args.row li,
+      laid.filled c.args.row li,
+      laid.used_fits,
+      laid.small,
+      long_row i.block i.heads.items i.used laid c.args.row li,
+      ap (λ v. length (get_or v c.args.row [])) c.self.view_is,
+      ap (λ (r : Head). r.start) is,
+    )

@@ -22,3 +22,8 @@ returns-then-len-index c =
     ) in
     rw (← c.self.view_is) (rows_truncate i.block i.heads.items i.used laid c.args.row c.args.len _
     li (ap (λ (r : Head). r.start) is) refl lk)
+
+pub index-requires : goal.index-requires
+index-requires c =
+    let i = c.self.inside in
+    omega (arith, long_rows i.block i.heads.items, ap length c.self.view_is)
