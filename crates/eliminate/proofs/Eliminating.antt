@@ -2,7 +2,7 @@
 -- the variable itself are kept for the way back.
 use Rattle.std.proofs.Common.{◌≡◌, ℕ, ◌-◌, ◌≤◌, Bool, true, false, ◌||◌, List, [], ◌∷◌, ◌++◌}
 use Rattle.std.proofs.Common.{length, get_or, Some, ◌⊎◌, inl, inr, refl, sym, ◌∙◌, ap, subst, arith}
-use Rattle.std.specs.Prelude.{All, Contains, slice_set, unwrap_or, ◌==◌}
+use Rattle.std.specs.Prelude.{All, Contains, slice_set, ◌==◌}
 use Rattle.std.specs.List.{list_any}
 use Rattle.std.proofs.lemmas.Bool.{both_ways, false_from_ne_true, and_left, or_from, cases_lt}
 use Rattle.std.proofs.lemmas.Option.{same_Some, none-some, slice_get_past}
@@ -34,13 +34,8 @@ use Rattle.names.proofs.Laws.{number_at}
 use Rattle.eliminate.proofs.Back.{negative, extended-append}
 use Rattle.eliminate.proofs.Deleting.{leaves_join, rows_left}
 use Rattle.eliminate.proofs.Growing.{resolvent-lacks}
-use Rattle.eliminate_tables.proofs.Laws.{not-opposite_too}
+use Rattle.eliminate_tables.proofs.Laws.{not-opposite_too, under_live}
 use Rattle.eliminate.proofs.States.{GoesWith, Lacks, goes_back, goes_free, contains_live}
-
--- a live clause is what stands under its reference
-under_is : (slots : Slots) (r : ℕ) (c : List Literal) → clause_at slots r ≡ Some c
-    → clause_under slots r ≡ c
-under_is slots r c e = ap (λ o. unwrap_or o []) e
 
 -- what holds of each clause with the literal holds of those under the references
 under_all : (P : List Literal → Type 0) (l : Literal) (slots : Slots) (refs : List ℕ)
@@ -49,12 +44,12 @@ under_all : (P : List Literal → Type 0) (l : Literal) (slots : Slots) (refs : 
     → All P (clauses_under slots refs)
 under_all P l slots refs all f = All-map P (clause_under slots) refs
     (All-weaker (IsWith l slots) (λ r. P (clause_under slots r))
-    (λ r w. subst P (sym (under_is slots r w.0 w.1)) (f r w.0 w.1 w.2)) refs all)
+    (λ r w. subst P (sym (under_live slots r w.0 w.1)) (f r w.0 w.1 w.2)) refs all)
 
 under_contains : (slots : Slots) (refs : List ℕ) (r : ℕ) (c : List Literal) → Contains refs r
     → clause_at slots r ≡ Some c → Contains (clauses_under slots refs) c
 under_contains slots refs r c h e =
-    subst (Contains (clauses_under slots refs)) (under_is slots r c e)
+    subst (Contains (clauses_under slots refs)) (under_live slots r c e)
     (All-contains (λ q. Contains (clauses_under slots refs) (clause_under slots q)) refs
     r (λ k d lt.
     subst (Contains (clauses_under slots refs))

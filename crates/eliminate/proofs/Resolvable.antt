@@ -28,6 +28,7 @@ use Rattle.eliminate.proofs.Adding.{resolvent_line, resolvent-no_repeat, resolve
 use Rattle.names.proofs.Laws.{number_at}
 use Rattle.clauses.proofs.Laws.{clause_new, live_within}
 use Rattle.eliminate.proofs.States.{places_of}
+use Rattle.eliminate.proofs.Tables.{addable_at}
 
 -- what holds of the literals of both parents holds of the resolvent's
 resolvent_all : (P : Literal → Type 0) (p : Literal) (c d : List Literal) → All P c → All P d
@@ -77,11 +78,7 @@ module _ (start : Start) (s : Simplifier) (slots : Slots) (ls : List LogLine) (p
       let f : IsFormulaClause s.vars (resolvent p c d) =
       resolvent_clause s.vars p c d fc fd plain in
       let hs : List Hint = Plain (name_at names first) ∷ Plain (name_at names second) ∷ [] in
-      subst (λ (xs : List Literal). IsAddableLine start s ls
-      (record { kind = kind; clause = xs; hints = hints })) (sym clause_is)
-      (subst (λ (xs : List Hint). IsAddableLine start s ls
-      (record { kind = kind; clause = resolvent p c d; hints = xs }))
-      (sym hints_are) (record {
+      addable_at start s ls kind clause (resolvent p c d) hints hs clause_is hints_are (record {
         follows = resolvent_line (given_of start.clauses) ls kind s.vars p c d (name_at names first)
             (name_at names second) adds few_variables fc fd has has_not plain
             (λ base above. (
@@ -105,7 +102,7 @@ module _ (start : Start) (s : Simplifier) (slots : Slots) (ls : List LogLine) (p
         free =
             resolvent_all (λ k. is_eliminated s.removals k.variable ≡ false) p c d
             (h.state.free first c one) (h.state.free second d other);
-      }))
+      })
 
 module _ (s : Simplifier) (slots : Slots) (ls : List LogLine) (w : IsSimplifier s slots ls) (r : ℕ)
     (c : List Literal) (live : clause_at slots r ≡ Some c) where

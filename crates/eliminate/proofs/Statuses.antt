@@ -127,14 +127,15 @@ pub settled_two : (A c : List Literal) (k l : Literal) → contains_literal k c 
 settled_two A c k l hk hl apart nk nl = (
   λ f. both_ways (contains_literal (negation k) A) nk
       (all_member (λ x. contains_literal (negation x) A ≡ true) c k f hk),
-  λ m w. elim (all_member (λ x. (x ≡ m) ⊎ (contains_literal (negation x) A ≡ true)) c k w.others hk) [
-    | inr n ↦ both_ways (contains_literal (negation k) A) nk n
-    | inl km ↦ elim (all_member (λ x. (x ≡ m) ⊎ (contains_literal (negation x) A ≡ true)) c l
-        w.others hl) [
-          | inl lm ↦ apart (km ∙ sym lm)
-          | inr n ↦ both_ways (contains_literal (negation l) A) nl n
-        ]
-  ],
+  λ m w. elim (all_member (λ x. (x ≡ m) ⊎ (contains_literal (negation x) A ≡ true)) c k
+      w.others hk) [
+        | inr n ↦ both_ways (contains_literal (negation k) A) nk n
+        | inl km ↦ elim (all_member (λ x. (x ≡ m) ⊎ (contains_literal (negation x) A ≡ true)) c l
+            w.others hl) [
+              | inl lm ↦ apart (km ∙ sym lm)
+              | inr n ↦ both_ways (contains_literal (negation l) A) nl n
+            ]
+      ],
 )
 
 -- what is found of the first literals of a clause

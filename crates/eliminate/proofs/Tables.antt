@@ -1,13 +1,18 @@
 -- Tables that say the same: a simplified form stays one where only marks, the clause in hand, rows
 -- or bins change.
-use Rattle.std.proofs.Common.{◌≡◌, ◌*◌, List, length, sym, ◌∙◌, ap, subst, arith}
+use Rattle.std.proofs.Common.{◌≡◌, ◌*◌, Bool, List, Vec, Global, length, refl, sym, ◌∙◌, ap, subst}
+use Rattle.std.proofs.Common.{arith}
+use Rattle.wcnf.specs.Literal.{Literal}
 use Rattle.clauses.specs.Slots.{Slots}
+use Rattle.lrat_log.specs.declared.lines.Hint.{Hint}
+use Rattle.lrat_log.specs.declared.lines.Kind.{Kind}
 use Rattle.lrat_log.specs.Log.{LogLine}
 use Rattle.eliminate.specs.declared.simplifier.Simplifier.{Simplifier}
 use Rattle.eliminate_tables.specs.Rows.{AreRows}
+use Rattle.eliminate_tables.specs.Schedule.{ScheduleState}
 use Rattle.eliminate.specs.State.{Start, IsState}
 use Rattle.names.specs.Work.{NamesState}
-use Rattle.eliminate.specs.Simplifier.{IsSimplified, StaysSimplified}
+use Rattle.eliminate.specs.Simplifier.{IsSimplified, StaysSimplified, LeavesLog, IsAddableLine}
 
 -- the same but for the rows, and for what proofs don't speak of
 pub record HasSameBut (s t : Simplifier) : Type 0 where
@@ -41,6 +46,41 @@ simplified_same start s t slots ls n rows h =
       going = λ e. h.going (sym n.refuted ∙ e);
       refuted = λ e. h.refuted (sym n.refuted ∙ e);
     }
+
+-- marks, the clause in hand and the schedule say nothing
+pub simplified_beside : (start : Start) (s : Simplifier) (marks : List Bool)
+    (clause : Vec Literal Global) (schedule : ScheduleState) (slots : Slots) (ls : List LogLine)
+    → length marks ≡ length s.marks → IsSimplified start s slots ls
+    → IsSimplified start (record s { marks = marks; clause = clause; schedule = schedule }) slots ls
+simplified_beside start s marks clause schedule slots ls m h =
+    simplified_same start s (record s { marks = marks; clause = clause; schedule = schedule }) slots
+    ls (record {
+      vars = refl;
+      names = refl;
+      places = refl;
+      removals = refl;
+      marks = m;
+      refuted = refl;
+    }) h.state.occurrences h
+
+-- so a log that is left with others is left
+pub leaves_beside : (s : Simplifier) (marks : List Bool) (clause : Vec Literal Global)
+    (slots : Slots) (ls more : List LogLine) → length marks ≡ length s.marks
+    → LeavesLog (record s { marks = marks; clause = clause }) slots ls more
+    → LeavesLog s slots ls more
+leaves_beside s marks clause slots ls more m leaves start h =
+    leaves start (simplified_beside start s marks clause s.schedule slots ls m h)
+
+-- a line may be added under other names of its parts
+pub addable_at : (start : Start) (s : Simplifier) (ls : List LogLine) (kind : Kind)
+    (c d : List Literal) (hints others : List Hint) → c ≡ d → hints ≡ others
+    → IsAddableLine start s ls (record { kind = kind; clause = d; hints = others })
+    → IsAddableLine start s ls (record { kind = kind; clause = c; hints = hints })
+addable_at start s ls kind c d hints others e f line =
+    subst (λ (xs : List Literal). IsAddableLine start s ls
+    (record { kind = kind; clause = xs; hints = hints })) (sym e)
+    (subst (λ (xs : List Hint). IsAddableLine start s ls
+    (record { kind = kind; clause = d; hints = xs })) (sym f) line)
 
 -- what stays a simplified form is one under other names of its parts
 pub stays_at : (s t u : Simplifier) (slots left kept : Slots) (ls more most : List LogLine) → u ≡ t

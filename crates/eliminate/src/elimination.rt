@@ -110,7 +110,7 @@ pub fn eliminate<S: Sink>(
     propagate_units(&mut simplifier, store, sink)?;
     simplify_open(&mut simplifier, store, frozen, sink)?;
     let vars = define_where_open(&mut simplifier, store, frozen, sink)?;
-    let names = listed(&simplifier.names, store)?;
+    let names = list_names(&simplifier.names, store)?;
     Ok(Stack {
         vars,
         removed: simplifier.removals,
@@ -142,7 +142,7 @@ fn simplify_open<S: Sink>(
 }
 
 /// Each live reference with the name of its clause, in rising order.
-fn listed(names: &Names, store: &Store) -> Result<Vec<(CRef, Name)>, AllocError>
+fn list_names(names: &Names, store: &Store) -> Result<Vec<(CRef, Name)>, AllocError>
     requires { length names.now.names ≡ length store.now.slots }
     ensures { IfOk result (λ listed. listed.items ≡ listed_names names.now.names store.now.slots) }
 {

@@ -140,8 +140,8 @@ pub returns-clause-none_learned : goal.returns-clause-none_learned
 returns-clause-none_learned g c =
     (ended g (goal.at.returns-clause-none_learned g c).In_ok-vars).work.none_learned
 
-pub listed-requires : goal.listed-requires
-listed-requires g c = (ended g (goal.at.listed-requires g c).In_ok-vars).work.named.long
+pub list_names-requires : goal.list_names-requires
+list_names-requires g c = (ended g (goal.at.list_names-requires g c).In_ok-vars).work.named.long
 
 pub returns-clause-live : goal.returns-clause-live
 returns-clause-live g c base above =

@@ -1,5 +1,5 @@
 -- The resolvent is there, or has an opposite pair.
-use Rattle.std.proofs.Common.{◌≡◌, ◌∙◌, ◌++◌, ◌∷◌, [], List, Some, true, ap, sym, subst, refl, inr}
+use Rattle.std.proofs.Common.{◌≡◌, ◌∙◌, ◌++◌, ◌∷◌, [], List, Some, true, ap, sym, subst, inr}
 use Rattle.std.proofs.Common.{length}
 use Rattle.std.proofs.lemmas.Bool.{not-true}
 use Rattle.wcnf.specs.Literal.{Literal, negation}
@@ -8,13 +8,12 @@ use Rattle.clauses.specs.Slots.{Slots, clause_at}
 use Rattle.lrat_log.specs.Log.{LogLine}
 use Rattle.eliminate.specs.declared.simplifier.Simplifier.{Simplifier}
 use Rattle.eliminate_tables.specs.Resolvents.{resolvent}
-use Rattle.eliminate.specs.Simplifier.{LeavesLog}
 use Rattle.eliminate.specs.Variables.{GrowsWithout}
 use Rattle.eliminate.proofs.Resolvable.{resolvent_addable, resolvent_kind, literals_placed}
 use Rattle.eliminate.proofs.Resolvable.{literals_plain, is_named, same_at, pair_added}
 use Rattle.eliminate.proofs.Growing.{grows_one, resolvent-lacks}
 use Rattle.lrat_log.proofs.Laws.{when_err}
-use Rattle.eliminate.proofs.Tables.{simplified_same}
+use Rattle.eliminate.proofs.Tables.{leaves_beside}
 use Rattle.eliminate.proofs.resolving.add_resolvent.Goals as goal
 
 pub resolve-requires-clause-first : goal.resolve-requires-clause-first
@@ -74,21 +73,9 @@ add-requires-clause-line g c start h =
 
 pub returns-in_err-reference-clause-err : goal.returns-in_err-reference-clause-err
 returns-in_err-reference-clause-err g c =
-    let s : Simplifier = c.args.simplifier.now in
-    let t : Simplifier = record s { marks = c.resolve.new.marks; clause = c.resolve.new.out } in
-    let logs : LeavesLog s c.args.store.now.slots (g.S.Sink.lines c.args.sink.now)
-    (g.S.Sink.lines c.add.new.sink) = (λ start h.
-    c.in_err-reference.ensures.err start (simplified_same start s t c.args.store.now.slots
-    (g.S.Sink.lines c.args.sink.now)
-    (record {
-      vars = refl;
-      names = refl;
-      places = refl;
-      removals = refl;
-      marks = c.resolve.ensures.len;
-      refuted = refl;
-    }) h.state.occurrences h)) in
-    when_err _ logs
+    when_err _ (leaves_beside c.args.simplifier.now c.resolve.new.marks c.resolve.new.out
+    c.args.store.now.slots (g.S.Sink.lines c.args.sink.now) (g.S.Sink.lines c.add.new.sink)
+    c.resolve.ensures.len c.in_err-reference.ensures.err)
 
 pub returns-clause-grows : goal.returns-clause-grows
 returns-clause-grows g c =

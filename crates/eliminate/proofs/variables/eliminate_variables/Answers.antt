@@ -5,66 +5,44 @@ use Rattle.lrat_log.specs.Log.{LogLine}
 use Rattle.eliminate.specs.declared.simplifier.Simplifier.{Simplifier}
 use Rattle.eliminate.specs.Variables.{LeavesLogOver, StaysOver}
 use Rattle.lrat_log.proofs.Laws.{when_err}
-use Rattle.eliminate.proofs.Tables.{simplified_same, simplified_at}
+use Rattle.eliminate.proofs.Tables.{simplified_beside, simplified_at}
+use Rattle.eliminate.proofs.variables.eliminate_variables.Given.{Over}
 use Rattle.eliminate.proofs.variables.eliminate_variables.Goals as goal
 use Rattle.eliminate.proofs.variables.eliminate_variables.Goals.{then-is_free+in_ok-is_gone+else-simplifier}
-use Rattle.eliminate.proofs.variables.eliminate_variables.Goals.{else-is_free}
+use Rattle.eliminate.proofs.variables.eliminate_variables.Goals.{else-is_free, After-pop}
+
+-- the schedule without its first says as much
+popped : (g : Over) (c : After-pop g)
+    → StaysOver c.args.frozen.now c.args.simplifier.now c.args.store.now.slots
+    (g.S.Sink.lines c.args.sink.now) (record c.loop-try.simplifier { schedule = c.pop.new.self })
+    c.loop-try.store.slots (g.S.Sink.lines c.loop-try.sink)
+popped g c start same h =
+    let s : Simplifier = c.loop-try.simplifier in
+    simplified_beside start s s.marks s.clause c.pop.new.self c.loop-try.store.slots
+    (g.S.Sink.lines c.loop-try.sink) refl (c.loop-try.invariant.simplified start same h)
 
 pub returns-in_err-is_gone-clause-err : goal.returns-in_err-is_gone-clause-err
 returns-in_err-is_gone-clause-err g c =
-    let s : Simplifier = c.loop-try.simplifier in
-    let ls : List LogLine = g.S.Sink.lines c.loop-try.sink in
     let logs : LeavesLogOver c.args.frozen.now c.args.simplifier.now c.args.store.now.slots
     (g.S.Sink.lines c.args.sink.now) (g.S.Sink.lines c.try_variable.new.sink) = (λ start same h.
-    let k = c.loop-try.invariant.simplified start same h in
     c.in_err-is_gone.ensures.err start same
-    (simplified_same start s (record s { schedule = c.pop.new.self }) c.loop-try.store.slots ls
-    (record {
-      vars = refl;
-      names = refl;
-      places = refl;
-      removals = refl;
-      marks = refl;
-      refuted = refl;
-    }) k.state.occurrences k)) in
+    (popped g (goal.at.returns-in_err-is_gone-clause-err g c).After-pop start same h)) in
     when_err _ logs
 
 pub returns-then-simplifier-clause-simplified : goal.returns-then-simplifier-clause-simplified
 returns-then-simplifier-clause-simplified g c start same h =
-    let s : Simplifier = c.loop-try.simplifier in
-    let k = c.loop-try.invariant.simplified start same h in
     c.in_ok-is_gone.ensures.simplified start same
-    (simplified_same start s (record s { schedule = c.pop.new.self }) c.loop-try.store.slots
-    (g.S.Sink.lines c.loop-try.sink)
-    (record {
-      vars = refl;
-      names = refl;
-      places = refl;
-      removals = refl;
-      marks = refl;
-      refuted = refl;
-    }) k.state.occurrences k)
+    (popped g (goal.at.returns-then-simplifier-clause-simplified g c).After-pop start same h)
 
 pub loop-try-preserved : goal.loop-try-preserved
 loop-try-preserved g c =
-    let s : Simplifier = c.loop-try.simplifier in
-    let t : Simplifier = record s { schedule = c.pop.new.self } in
+    let t : Simplifier = record c.loop-try.simplifier { schedule = c.pop.new.self } in
     let u : Simplifier = c.if-is_free.simplifier in
     let left : Slots = c.loop-try.store.slots in
     let ls : List LogLine = g.S.Sink.lines c.loop-try.sink in
     let kept : Slots = c.if-is_free.store.slots in
     let most : List LogLine = g.S.Sink.lines c.if-is_free.sink in
-    let popped : StaysOver c.args.frozen.now c.args.simplifier.now c.args.store.now.slots
-    (g.S.Sink.lines c.args.sink.now) t left ls = (λ start same h.
-    let k = c.loop-try.invariant.simplified start same h in
-    simplified_same start s t left ls (record {
-      vars = refl;
-      names = refl;
-      places = refl;
-      removals = refl;
-      marks = refl;
-      refuted = refl;
-    }) k.state.occurrences k) in
+    let before = popped g (goal.at.loop-try-preserved g c).After-pop in
     elim c.if-is_free.branch [
       | then-is_free+in_ok-is_gone+else-simplifier w ↦ record {
         simplified =
@@ -72,14 +50,14 @@ loop-try-preserved g c =
             w.try_variable.new.store.slots kept (g.S.Sink.lines w.try_variable.new.sink) most
             w.simplifier-is (ap (λ (x : StoreState). x.slots) w.store-is)
             (ap g.S.Sink.lines w.sink-is)
-            (w.in_ok-is_gone.ensures.simplified start same (popped start same h));
+            (w.in_ok-is_gone.ensures.simplified start same (before start same h));
         works = ap (λ (x : Simplifier). x.is_refuted) w.simplifier-is ∙ w.if-simplifier.false;
       }
       | else-is_free w ↦ record {
         simplified =
             λ start same h. simplified_at start t u left kept ls most w.simplifier-is
             (ap (λ (x : StoreState). x.slots) w.store-is) (ap g.S.Sink.lines w.sink-is)
-            (popped start same h);
+            (before start same h);
         works = ap (λ (x : Simplifier). x.is_refuted) w.simplifier-is ∙ c.loop-try.invariant.works;
       }
     ]

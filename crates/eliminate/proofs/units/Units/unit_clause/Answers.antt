@@ -2,18 +2,24 @@
 use Rattle.std.proofs.Common.{◌≡◌, ◌++◌, ◌∷◌, [], List, Some, refl, sym, ◌∙◌, ap, subst}
 use Rattle.wcnf.specs.Literal.{Literal}
 use Rattle.clauses.specs.Slots.{Slots, clause_at}
-use Rattle.lrat_log.specs.declared.lines.Hint.{Hint}
 use Rattle.lrat_log.specs.declared.lines.Kind.TheVariants.{Unit}
 use Rattle.lrat_log.specs.Log.{LogLine}
 use Rattle.eliminate.specs.declared.simplifier.Simplifier.{Simplifier}
 use Rattle.names.specs.Work.{AreClauses}
-use Rattle.eliminate.specs.Simplifier.{Grows, IsAddableLine, LeavesLog}
+use Rattle.eliminate.specs.Simplifier.{Grows}
 use Rattle.eliminate.proofs.Assigned.{single}
 use Rattle.clauses.proofs.Laws.{clause_kept, clause_new}
-use Rattle.eliminate.proofs.Tables.{simplified_same}
+use Rattle.eliminate.proofs.Tables.{addable_at, leaves_beside}
 use Rattle.eliminate.proofs.UnitLines.{unit_addable}
+use Rattle.eliminate.proofs.units.Units.unit_clause.Given.{Over}
 use Rattle.eliminate.proofs.units.Units.unit_clause.Goals as goal
+use Rattle.eliminate.proofs.units.Units.unit_clause.Goals.{In_ok-push}
 use Rattle.lrat_log.proofs.Laws.{when_err}
+
+-- the clause in hand has the literal alone
+alone : (g : Over) (c : In_ok-push g) → c.push.new.self.items ≡ c.args.lit ∷ []
+alone g c = c.in_ok-push.ensures.items
+    ∙ ap (λ (xs : List Literal). xs ++ c.args.lit ∷ []) c.clear.ensures.items
 
 pub returns-then-lits-eq1-clause-alone : goal.returns-then-lits-eq1-clause-alone
 returns-then-lits-eq1-clause-alone g c =
@@ -29,49 +35,27 @@ hints-requires-clause-clauses g c =
 pub add-requires-clause-line : goal.add-requires-clause-line
 add-requires-clause-line g c start h =
     let s : Simplifier = record c.args.simplifier.now { clause = c.push.new.self } in
-    let slots : Slots = c.args.store.now.slots in
     let ls : List LogLine = g.S.Sink.lines c.args.sink.now in
     let d = c.requires.live.0 in
     let at = c.requires.live.1 in
-    let r = c.args.reference in
-    let l : Literal = c.args.lit in
-    let line = unit_addable start s slots ls c.args.self.now h c.requires.propagating.units d r at l
-    (c.requires.unit d at) in
-    let clause : c.push.new.self.items ≡ l ∷ [] = c.in_ok-push.ensures.items
-    ∙ ap (λ (xs : List Literal). xs ++ l ∷ []) c.clear.ensures.items in
-    subst (λ (xs : List Literal). IsAddableLine start s ls
-    (record { kind = Unit; clause = xs; hints = c.in_ok-hints.hints.items })) (sym clause)
-    (subst (λ (hs : List Hint). IsAddableLine start s ls
-    (record { kind = Unit; clause = l ∷ []; hints = hs }))
-    (sym (c.in_ok-hints.ensures d at)) line)
+    addable_at start s ls Unit c.push.new.self.items (c.args.lit ∷ []) c.in_ok-hints.hints.items _
+    (alone g (goal.at.add-requires-clause-line g c).In_ok-push) (c.in_ok-hints.ensures d at)
+    (unit_addable start s c.args.store.now.slots ls c.args.self.now h c.requires.propagating.units d
+    c.args.reference at c.args.lit (c.requires.unit d at))
 
 pub returns-in_err-unit-clause-err : goal.returns-in_err-unit-clause-err
 returns-in_err-unit-clause-err g c =
-    let s : Simplifier = c.args.simplifier.now in
-    let t : Simplifier = record s { clause = c.push.new.self } in
-    let slots : Slots = c.args.store.now.slots in
-    let ls : List LogLine = g.S.Sink.lines c.args.sink.now in
-    let logs : LeavesLog s slots ls (g.S.Sink.lines c.add.new.sink) =
-    (λ start h. c.in_err-unit.ensures.err start
-    (simplified_same start s t slots ls (record {
-      vars = refl;
-      names = refl;
-      places = refl;
-      removals = refl;
-      marks = refl;
-      refuted = refl;
-    }) h.state.occurrences h)) in
-    when_err _ logs
+    when_err _ (leaves_beside c.args.simplifier.now c.args.simplifier.now.marks c.push.new.self
+    c.args.store.now.slots (g.S.Sink.lines c.args.sink.now) (g.S.Sink.lines c.add.new.sink) refl
+    c.in_err-unit.ensures.err)
 
 pub returns-clause-alone : goal.returns-clause-alone
 returns-clause-alone g c =
     let slots : Slots = c.args.store.now.slots in
-    let l : Literal = c.args.lit in
-    let clause : c.push.new.self.items ≡ l ∷ [] = c.in_ok-push.ensures.items
-    ∙ ap (λ (xs : List Literal). xs ++ l ∷ []) c.clear.ensures.items in
     ap (λ xs. clause_at xs c.in_ok-unit.unit) c.in_ok-unit.ensures.slots
     ∙ ap (clause_at (slots ++ Some c.push.new.self.items ∷ [])) c.in_ok-unit.ensures.reference
-    ∙ clause_new slots c.push.new.self.items ∙ ap Some clause
+    ∙ clause_new slots c.push.new.self.items
+    ∙ ap Some (alone g (goal.at.returns-clause-alone g c).In_ok-push)
 
 pub returns-clause-grows : goal.returns-clause-grows
 returns-clause-grows g c =

@@ -7,8 +7,8 @@ use Rattle.eliminate.specs.Elimination.{listed_names}
 use Rattle.names.specs.Work.{name_at}
 use Rattle.eliminate.proofs.Listed.{listed_some, listed_none}
 use Rattle.clauses.proofs.Laws.{live_within}
-use Rattle.eliminate.proofs.elimination.listed.Goals as goal
-use Rattle.eliminate.proofs.elimination.listed.Goals.{in-Some+in_ok-push-in-Some, in-None}
+use Rattle.eliminate.proofs.elimination.list_names.Goals as goal
+use Rattle.eliminate.proofs.elimination.list_names.Goals.{in-Some+in_ok-push-in-Some, in-None}
 
 pub get-requires : goal.get-requires
 get-requires c =
