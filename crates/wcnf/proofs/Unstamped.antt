@@ -1,6 +1,7 @@
 -- Stamps that no literal has.
 use Rattle.std.proofs.Common.{◌≡◌, ℕ, zero, suc, ◌-◌, ◌<◌, ◌≤◌, Bool, false, List, [], ◌∷◌, ◌++◌}
-use Rattle.std.proofs.Common.{if◌then◌else◌, length, refl, sym, ◌∙◌, ap, arith, map, replicate, take}
+use Rattle.std.proofs.Common.{if◌then◌else◌, length, refl, sym, ◌∙◌, ap, arith, map, replicate}
+use Rattle.std.proofs.Common.{take}
 use Rattle.std.specs.Prelude.{◌==◌, All, Result, Ok, Err, MatchResult, is_ok}
 use Rattle.std.proofs.lemmas.List.{map-append, length-map, take_all}
 use Rattle.std.proofs.lemmas.Bool.{ne_eqb}

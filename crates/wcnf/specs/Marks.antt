@@ -1,6 +1,6 @@
 -- Tables with one mark for each literal, and clauses whose literals are marked.
-use Rattle.std.specs.Prelude.{◌≡◌, ℕ, ◌*◌, ◌<◌, ◌≤◌, Bool, true, false, if◌then◌else◌, List, [], ◌∷◌}
-use Rattle.std.specs.Prelude.{slice_index_or}
+use Rattle.std.specs.Prelude.{◌≡◌, ℕ, ◌*◌, ◌<◌, ◌≤◌, Bool, true, false, if◌then◌else◌, List}
+use Rattle.std.specs.Prelude.{[], ◌∷◌, slice_index_or}
 use Rattle.wcnf.specs.Literal.{Literal, index_of}
 use Rattle.wcnf.specs.Clause.{contains_literal}
 

@@ -1,7 +1,7 @@
 // A mark for each literal, as stamps: a literal is marked where its stamp is the present one, so
 // that one step takes all marks away.
-ghost use Rattle.std.specs.Prelude.{◌≡◌, ℕ, ◌-◌, ◌*◌, ◌<◌, ◌≤◌, ◌^◌, true, false, IfOk, MatchResult};
-ghost use Rattle.std.specs.Prelude.{List, [], ◌++◌, length, replicate, slice_set, All};
+ghost use Rattle.std.specs.Prelude.{◌≡◌, ℕ, ◌-◌, ◌*◌, ◌<◌, ◌≤◌, ◌^◌, true, false, IfOk};
+ghost use Rattle.std.specs.Prelude.{MatchResult, List, [], ◌++◌, length, replicate, slice_set, All};
 ghost use Rattle.wcnf.specs.Literal.{Literal, index_of};
 ghost use Rattle.wcnf.specs.Clause.{without_literal};
 ghost use Rattle.wcnf.specs.Marks.{mark_of, IsMarked, HasPlace, are_marked};
@@ -53,8 +53,8 @@ impl Marks {
         }
     }
 
-    /// Makes room for the literals of the variables up to `vars`, which are not marked. Where memory
-    /// is refused, nothing changes.
+    /// Makes room for the literals of the variables up to `vars`, which are not marked. Where
+    /// memory is refused, nothing changes.
     pub fn grow(&mut self, vars: u32) -> Result<(), AllocError>
         requires { length self.old ≤ 2 * vars }
         ensures { MatchResult result
