@@ -15,9 +15,9 @@ use std::marker::Model;
 pub struct Marks {
     // By a literal's index: the stamp with which it was marked last, at most the present one; 0 for
     // a literal that never was.
-    stamps: Vec<u32>,
+    stamps: Vec<u16>,
     // The stamp of the literals that are marked, from 1.
-    present: u32,
+    present: u16,
 }
 
 impl Model for Marks {
@@ -31,7 +31,7 @@ impl Model for Marks {
 }
 
 /// The stamps start again when they have run out.
-const LAST: u32 = u32::MAX;
+const LAST: u16 = u16::MAX;
 
 impl Marks {
     /// No marks, for the literals of the variables 1 to `vars`.
@@ -135,14 +135,14 @@ impl Marks {
 }
 
 /// So many stamps that were never given.
-fn unused_stamps(alloc: Global, count: usize) -> Result<Vec<u32>, AllocError>
+fn unused_stamps(alloc: Global, count: usize) -> Result<Vec<u16>, AllocError>
     ensures { IfOk result (λ stamps. stamps.items ≡ replicate count 0) }
 {
     Vec::from_elem(alloc, 0, count)
 }
 
 /// A stamp that no literal has.
-fn next_stamp(stamps: &mut [u32], present: u32) -> u32
+fn next_stamp(stamps: &mut [u16], present: u16) -> u16
     requires { All (λ s. s ≤ present) stamps.old }
     ensures some { 0 < result }
     ensures above { All (λ s. s < result) stamps.new }
