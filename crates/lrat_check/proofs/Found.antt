@@ -10,6 +10,11 @@ use Rattle.lrat_live.specs.Listed.{listed_at}
 abbrev Looked : Type 0
 Looked = Option (Bor (List Literal))
 
+pub found_at : (es : List (ℕ × List Literal)) (hints : List (Bool × ℕ))
+    (found : Option (List Literal)) (n m : ℕ)
+    → IsFound es hints n found → n ≡ m → IsFound es hints m found
+found_at es hints found n m f e = subst (λ k. IsFound es hints k found) e f
+
 found_among : (es : List (ℕ × List Literal)) (hints : List (Bool × ℕ)) (place k : ℕ)
     (all : List Looked) (d one : Looked)
     → k < length all → get_or all k d ≡ one → AreFound es hints place (map option_copied all)
@@ -24,14 +29,14 @@ found_among es hints place (suc k) (x ∷ xs) d one lt e f =
     subst (λ n. IsFound es hints n (option_copied one)) there
     (found_among es hints (place + 1) k xs d one (omega arith) e f.1)
 
--- the clause of hint i, among those of its eight
+-- the clause of hint i, among those of its sixteen
 pub found_here : (es : List (ℕ × List Literal)) (hints : List (Bool × ℕ)) (i : ℕ)
     (all : List Looked) (d one : Looked)
-    → i % 8 < length all → i < length hints → get_or all (i % 8) d ≡ one
-    → AreFound es hints (8 * (i / 8)) (map option_copied all)
+    → i % 16 < length all → i < length hints → get_or all (i % 16) d ≡ one
+    → AreFound es hints (16 * (i / 16)) (map option_copied all)
     → option_copied one ≡ listed_at es (get_or hints i (false, 0)).1
 found_here es hints i all d one lt within e f =
     let h = get_or hints i (false, 0) in
-    let same : i ≡ 8 * (i / 8) + i % 8 = omega arith in
-    found_among es hints (8 * (i / 8)) (i % 8) all d one lt e f h (omega arith)
+    let same : i ≡ 16 * (i / 16) + i % 16 = omega arith in
+    found_among es hints (16 * (i / 16)) (i % 16) all d one lt e f h (omega arith)
     (get_or_default hints i (false, 0) h within ∙ ap (λ n. get_or hints n h) same)

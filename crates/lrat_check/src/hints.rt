@@ -4,11 +4,13 @@
 // kept, with no choice on the way. Counted so, a pair of literals takes 17 instructions; it took 23
 // while the others were counted and the last one was an `Option`.
 //
-// Where many clauses take room, eight hints are looked up together, and the first literals of their
-// clauses are read then too: so none waits for the memory that another one asks for. A certificate
-// with a million live clauses took 2.3 s with each hint by itself, 1.5 to 2.0 s with the look-ups
-// together, and 1.3 to 1.7 s with the first literals. Tried: at every line. Small certificates, of
-// which all is in the caches, took 11 to 15 % more instructions; as it is they take 1 % more.
+// Where many clauses take room, sixteen hints are looked up together, and the first literals of
+// their clauses are read then too: so none waits for the memory that another one asks for. A
+// certificate with a million live clauses took 2.3 s with each hint by itself, 1.5 to 2.0 s with
+// the look-ups of eight together, and 1.3 to 1.7 s with the first literals. Sixteen in place of
+// eight took 2 to 10 % less where a line has twelve hints. A line with one or two is better off
+// without. Tried: at every line. Small certificates, of which all is in the caches, took 11 to 15 %
+// more instructions; they have a loop of their own.
 ghost use Rattle.std.specs.Prelude.{◌≡◌, ℕ, ◌*◌, ◌/◌, ◌%◌, ◌<◌, ◌≤◌, true, false, List, Some, IfOk};
 ghost use Rattle.std.specs.Prelude.{length, get_or, map, take, All, IfSome};
 ghost use Rattle.std.specs.Option.{option_copied};
@@ -102,7 +104,10 @@ pub(crate) fn leading(hints: &[SignedId]) -> &[SignedId]
 }
 
 /// So many hints are looked up together.
-const AHEAD: usize = 8;
+const AHEAD: usize = 16;
+
+/// Where a line has no more hints than these, each is looked up when it comes.
+const FEW: usize = 2;
 
 /// With more clauses than these the caches do not hold what look-ups read.
 const MANY: usize = 32_768;
@@ -135,11 +140,19 @@ fn clauses_ahead<'a>(
         clause_at(live, hints, from + 5),
         clause_at(live, hints, from + 6),
         clause_at(live, hints, from + 7),
+        clause_at(live, hints, from + 8),
+        clause_at(live, hints, from + 9),
+        clause_at(live, hints, from + 10),
+        clause_at(live, hints, from + 11),
+        clause_at(live, hints, from + 12),
+        clause_at(live, hints, from + 13),
+        clause_at(live, hints, from + 14),
+        clause_at(live, hints, from + 15),
     ]
 }
 
 /// The first literal of each clause that was found, and else some literal. The clauses may lie far
-/// apart, and so all eight are asked of the memory at once.
+/// apart, and so all are asked of the memory at once.
 #[inline(always)]
 fn first_lits(ahead: &[Option<&[Lit]>; AHEAD]) -> [Lit; AHEAD] {
     [
@@ -151,6 +164,14 @@ fn first_lits(ahead: &[Option<&[Lit]>; AHEAD]) -> [Lit; AHEAD] {
         first_lit(ahead[5]),
         first_lit(ahead[6]),
         first_lit(ahead[7]),
+        first_lit(ahead[8]),
+        first_lit(ahead[9]),
+        first_lit(ahead[10]),
+        first_lit(ahead[11]),
+        first_lit(ahead[12]),
+        first_lit(ahead[13]),
+        first_lit(ahead[14]),
+        first_lit(ahead[15]),
     ]
 }
 
@@ -220,8 +241,8 @@ fn walk_each(
     Ok(Walked::Open)
 }
 
-/// The clause under the id of hint i, if it is live: the clauses of eight hints are looked up when
-/// the first of them comes.
+/// The clause under the id of hint i, if it is live: the clauses of sixteen hints are looked up
+/// when the first of them comes.
 #[inline(always)]
 fn next_clause<'a>(
     live: &'a LiveClauses,
@@ -231,10 +252,10 @@ fn next_clause<'a>(
     firsts: &mut [Lit; AHEAD],
 ) -> Option<&'a [Lit]>
     requires within { i < length hints.now }
-    requires ahead { 0 < i % 8
-        → AreFound live.now hints.now (8 * (i / 8)) (map option_copied ahead.old) }
+    requires ahead { 0 < i % 16
+        → AreFound live.now hints.now (16 * (i / 16)) (map option_copied ahead.old) }
     ensures found { option_copied result ≡ listed_at live.now (get_or hints.now i (false, 0)).1 }
-    ensures ahead { AreFound live.now hints.now (8 * (i / 8)) (map option_copied ahead.new) }
+    ensures ahead { AreFound live.now hints.now (16 * (i / 16)) (map option_copied ahead.new) }
 {
     if i % AHEAD == 0 {
         *ahead = clauses_ahead(live, hints, i);
@@ -243,7 +264,7 @@ fn next_clause<'a>(
     ahead[i % AHEAD]
 }
 
-/// As `walk`, with the clauses of eight hints looked up when the first of them comes.
+/// As `walk`, with the clauses of sixteen hints looked up when the first of them comes.
 fn walk_ahead(
     live: &LiveClauses,
     assumed: &mut Assumed,
@@ -281,7 +302,7 @@ pub(crate) fn walk(
     ensures kept { take (length assumed.old.literals) assumed.new.literals ≡ assumed.old.literals }
     ensures variables { assumed.new.variables ≡ assumed.old.variables }
 {
-    if live.entries() > MANY {
+    if hints.len() > FEW && live.entries() > MANY {
         walk_ahead(live, assumed, hints)
     } else {
         walk_each(live, assumed, hints)

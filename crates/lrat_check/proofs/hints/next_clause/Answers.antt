@@ -10,19 +10,19 @@ returns-clause-found c =
     let es = c.args.live.now in
     let hs = c.args.hints.now in
     let i = c.args.i in
-    let all : AreFound es hs (8 * (i / 8)) (map option_copied c.if-i-eq0.ahead) =
+    let all : AreFound es hs (16 * (i / 16)) (map option_copied c.if-i-eq0.ahead) =
     elim c.if-i-eq0.branch [
       | then-i-eq0 w ↦
           let first = w.if-i-eq0.true in
-          let here : i ≡ 8 * (i / 8) = omega arith in
+          let here : i ≡ 16 * (i / 16) = omega arith in
           subst (λ n. AreFound es hs n (map option_copied c.if-i-eq0.ahead)) here
           (subst (λ f. AreFound es hs i (map option_copied f)) (sym w.ahead-is)
           w.clauses_ahead.ensures)
       | else-i-eq0 w ↦
           let later = w.if-i-eq0.false in
-          subst (λ f. AreFound es hs (8 * (i / 8)) (map option_copied f)) (sym w.ahead-is)
+          subst (λ f. AreFound es hs (16 * (i / 16)) (map option_copied f)) (sym w.ahead-is)
           (c.requires.ahead (omega arith))
     ] in
-    let eight = c.type_inv.ahead in
+    let long = c.type_inv.ahead in
     found_here es hs i c.if-i-eq0.ahead c.index-ahead-i.result _ (omega arith)
     c.requires.within refl all

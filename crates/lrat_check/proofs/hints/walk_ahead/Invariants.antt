@@ -13,5 +13,5 @@ invariant-loop-i l = record {
       (walk (listed_at l.live) l.assumed.literals (ids_from l.hints l.i));
   kept : take (length l.fn.assumed.literals) l.assumed.literals ≡ l.fn.assumed.literals;
   variables : l.assumed.variables ≡ l.fn.assumed.variables;
-  found : 0 < l.i % 8 → AreFound l.live l.hints (8 * (l.i / 8)) (map option_copied l.ahead);
+  found : 0 < l.i % 16 → AreFound l.live l.hints (16 * (l.i / 16)) (map option_copied l.ahead);
 }
