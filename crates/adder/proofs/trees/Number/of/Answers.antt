@@ -12,6 +12,7 @@ pub returns : goal.returns
 returns c =
     let lit = c.args.relaxation.now.lit in
     let weight = c.args.relaxation.now.weight in
-    let end : c.loop-j.j ≡ binary_length weight = omega (arith, c.digit_count-digits.ensures.digits) in
+    let digits = c.digit_count-digits.ensures.digits in
+    let end : c.loop-j.j ≡ binary_length weight = omega arith in
     let bits = c.loop-j.invariant ∙ ap (λ n. bits_from lit weight n 0) end in
     λ i. record { bits = bits i; most = weight }
