@@ -10,7 +10,7 @@ use cdcl::budget::Budget;
 use clap::error::ErrorKind;
 use clap::{ArgMatches, Error};
 use lrat_check::checking::check_from_as;
-use lrat_check::verdicts::CheckFault;
+use lrat_check::verdicts::{CheckFault, Verdict};
 use placing::open_proof;
 use report::fault::RunFault;
 use report::options::{self, MOST_CONFLICTS, MOST_COST};
@@ -95,22 +95,32 @@ fn check<R: Files + AllocGlobal + Print>(rt: &R, matches: &ArgMatches<'_>) -> Re
     let mut text = File::open(rt, text).map_err(|_| UNREADABLE)?;
     let mut answer = File::open(rt, answer).map_err(|_| UNREADABLE)?;
     let mut proof = File::open(rt, proof).map_err(|_| UNREADABLE)?;
-    let text = read_file(rt, &mut text)?;
-    let answer = read_file(rt, &mut answer)?;
-    let verdict = match check_from_as(
-        rt.alloc(),
-        &text,
-        &answer,
-        &mut proof,
-        read_profile(matches),
-    ) {
-        Ok(verdict) => verdict,
-        Err(CheckFault::Memory) => return Err(RunFault::Memory),
-        Err(CheckFault::Read) => return Err(UNREADABLE),
-    };
+    let profile = read_profile(matches);
+    judge(rt, &mut text, &mut answer, &mut proof, profile)
+}
+
+/// Reads the text and the result, judges the certificate, and prints the verdict.
+fn judge<R: AllocGlobal + Print, T: Read, A: Read, P: Read>(
+    rt: &R,
+    text: &mut T,
+    answer: &mut A,
+    proof: &mut P,
+    profile: Profile,
+) -> Result<u8, RunFault> {
+    let text = read_file(rt, text)?;
+    let answer = read_file(rt, answer)?;
+    match check_from_as(rt.alloc(), &text, &answer, proof, profile) {
+        Ok(verdict) => show(rt, &verdict),
+        Err(CheckFault::Memory) => Err(RunFault::Memory),
+        Err(CheckFault::Read) => Err(UNREADABLE),
+    }
+}
+
+/// Prints the verdict; its exit status.
+fn show<R: Print>(rt: &R, verdict: &Verdict) -> Result<u8, RunFault> {
     let mut out = io::writer(rt);
-    deliver(print_verdict(&verdict, &mut out), &mut out)?;
-    Ok(verdict_code(&verdict))
+    deliver(print_verdict(verdict, &mut out), &mut out)?;
+    Ok(verdict_code(verdict))
 }
 
 /// `wmax encode`: the formula for 'cost below COST'. The process ends after it, so the clauses of
@@ -180,19 +190,35 @@ fn run_command<R: Files + AllocGlobal + Print + Eprint + Env, E: Write>(rt: &R, 
         return tell(err, Err(RunFault::Memory));
     };
     let words: Vec<String> = words;
-    let Ok(command) = options::make_command(rt.alloc()) else {
-        return tell(err, Err(RunFault::Memory));
-    };
-    match command.try_get_matches_from(words.as_slice()) {
-        Ok(matches) => match matches.subcommand() {
-            Some(("solve", found)) => tell(err, solve(rt, found)),
-            Some(("check", found)) => tell(err, check(rt, found)),
-            Some(("encode", found)) => tell(err, encode(rt, found)),
-            _ => 2,
+    match options::make_command(rt.alloc()) {
+        Ok(command) => match command.try_get_matches_from(words.as_slice()) {
+            Ok(matches) => run_matches(rt, err, &matches),
+            Err(error) => refuse(rt, err, &error),
         },
-        Err(error) if error.kind() == ErrorKind::OutOfMemory => tell(err, Err(RunFault::Memory)),
-        Err(error) => print_refusal(rt, err, &error),
+        Err(_) => tell(err, Err(RunFault::Memory)),
     }
+}
+
+/// Does what a command line says that was read.
+fn run_matches<R: Files + AllocGlobal + Print, E: Write>(
+    rt: &R,
+    err: &mut E,
+    matches: &ArgMatches<'_>,
+) -> u8 {
+    match matches.subcommand() {
+        Some(("solve", found)) => tell(err, solve(rt, found)),
+        Some(("check", found)) => tell(err, check(rt, found)),
+        Some(("encode", found)) => tell(err, encode(rt, found)),
+        _ => 2,
+    }
+}
+
+/// The exit status where `clap` gives no matches: refused memory, help, or a mistake.
+fn refuse<R: Print + Eprint, E: Write>(rt: &R, err: &mut E, error: &Error) -> u8 {
+    if error.kind() == ErrorKind::OutOfMemory {
+        return tell(err, Err(RunFault::Memory));
+    }
+    print_refusal(rt, err, error)
 }
 
 /// The file on which nothing is read.
