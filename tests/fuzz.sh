@@ -43,5 +43,4 @@ changed() { # SEED..: 4,000 changes for each seed, side by side
 }
 
 changed 1 2 3
-changed 4 5 6
 totals
