@@ -179,7 +179,7 @@ impl Machine {
     pub fn verdict(&self) -> Verdict
         ensures { result ≡ verdict_after self.now [] }
     {
-        if self.ended() {
+        if self.has_ended() {
             Verdict::Yes
         } else {
             Verdict::No(Cause::NoEmptyClause, 0)
@@ -187,7 +187,7 @@ impl Machine {
     }
 
     /// Whether the empty clause was added.
-    pub fn ended(&self) -> bool
+    pub fn has_ended(&self) -> bool
         ensures { result ≡ self.now.ended }
     {
         self.base.ended

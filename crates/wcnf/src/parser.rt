@@ -88,7 +88,7 @@ impl Parser {
             ⊎ ((bytes : List ℕ) → Stands self bytes → IsFirstFault bytes f.kind f.line)) }
     {
         self.end_text()?;
-        ended(self.draft)
+        finish_draft(self.draft)
     }
 
     /// Reads what follows the last line feed, if it is not empty, as one more line.
@@ -142,7 +142,7 @@ fn fault_at(kind: FaultKind, line: u64) -> ReadFault
 }
 
 /// The instance that all lines make.
-fn ended(draft: Draft) -> Result<Instance, ReadFault>
+fn finish_draft(draft: Draft) -> Result<Instance, ReadFault>
     requires { (bytes : List ℕ) × Ends draft bytes }
     ensures instance { IfOk result (λ i. (bytes : List ℕ) → Ends draft bytes → Reads bytes i) }
     ensures fault { IfErr result

@@ -1,7 +1,7 @@
 -- The lines make an instance, or fewer clauses than the header says.
 use Rattle.std.proofs.Common.{sym}
 use Rattle.wcnf.proofs.FromLines.{reads_whole, whole_instance, whole_short}
-use Rattle.wcnf.proofs.parser.ended.Goals as goal
+use Rattle.wcnf.proofs.parser.finish_draft.Goals as goal
 
 pub returns-in-Some-clause-fault : goal.returns-in-Some-clause-fault
 returns-in-Some-clause-fault c =
