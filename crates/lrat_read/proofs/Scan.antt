@@ -5,8 +5,8 @@ use Rattle.std.proofs.Common.{arith, length, take, drop, get_or, slice_range}
 use Rattle.std.proofs.Math.Bool.{cond}
 use Rattle.std.proofs.Math.Dec.{ltb}
 use Rattle.std.specs.List.{AllByRecursion, list_all}
-use Rattle.std.proofs.lemmas.Bool.{and_from, and_parts, both_ways, eq-eqb, eqb-true, ne_eqb, lt-ltb}
-use Rattle.std.proofs.lemmas.Bool.{cases_Bool, cases_lt, cond-false}
+use Rattle.std.proofs.lemmas.Bool.{and_from, and_parts, both_ways, ne_eqb, lt-ltb}
+use Rattle.std.proofs.lemmas.Bool.{cases_Bool, cond-false}
 use Rattle.std.proofs.lemmas.List.{take_more, get_or-drop, drop-drop, take-append-drop, length-drop}
 use Rattle.std.proofs.lemmas.List.{length-append, length-take}
 use Rattle.std.proofs.lemmas.Str.Parse.{digits_value_short}
@@ -14,9 +14,9 @@ use Rattle.std.proofs.lemmas.Fmt.{length-decimal-le}
 use Rattle.wcnf.specs.Text.{is_blank, begins_with_token, put_byte, tokens_of, is_digit, value_on}
 use Rattle.wcnf.specs.Text.{number_of}
 use Rattle.wcnf.proofs.Laws.{number_of-is, is_number, decimal-number_of, digit_bounds, digit_from}
-use Rattle.wcnf.proofs.Laws.{digit_is_no_blank}
+use Rattle.wcnf.proofs.Laws.{decimal_numerals, digit_is_no_blank}
 use Rattle.lrat_read.specs.Form.{signed_of}
-use Rattle.lrat_read.proofs.Tokens.{own, tag, signed_dash, signed_plain}
+use Rattle.lrat_read.proofs.Tokens.{tag, signed_dash, signed_plain}
 
 -- bytes of which none is a blank
 abbrev pub Solid : List ℕ → Type 0
@@ -108,7 +108,7 @@ pub digits_room : (s : List ℕ) (i j v : ℕ) → i ≤ j → j ≤ length s �
     → v < 10 ^ 18
 digits_room s i j v h l few e same =
     let short : length (slice_range s i j) ≤ 18 = omega (arith, length-take (j - i) (drop i s)) in
-    let below = digits_value_short own (slice_range s i j) 18 e short in
+    let below = digits_value_short decimal_numerals (slice_range s i j) 18 e short in
     omega (arith, same, below)
 
 pub digits_step : (s : List ℕ) (i j : ℕ) → i ≤ j → j < length s → 48 ≤ get_or s j 0

@@ -1,69 +1,22 @@
 -- The tokens of a certificate's line, against how a line is spelled.
 use Rattle.std.proofs.Common.{◌≡◌, ℕ, zero, suc, ◌+◌, ◌-◌, ◌<◌, ◌≤◌, ◌^◌, Bool, true, false, not}
-use Rattle.std.proofs.Common.{◌&&◌, List, [], ◌∷◌, ◌++◌, map, get_or, Option, Some, None, inl, inr}
+use Rattle.std.proofs.Common.{List, [], ◌∷◌, ◌++◌, map, get_or, Option, Some, None, inl, inr}
 use Rattle.std.proofs.Common.{refl, sym, ◌∙◌, ap, subst, arith, rules}
 use Rattle.std.proofs.Math.Bool.{cond}
 use Rattle.std.proofs.Math.Dec.{ltb}
 use Rattle.std.specs.Prelude.{◌==◌}
-use Rattle.std.specs.List.{AllByRecursion, list_all}
+use Rattle.std.specs.List.{AllByRecursion}
 use Rattle.std.specs.Fmt.{decimal}
-use Rattle.std.proofs.lemmas.Bool.{and_from, and_parts, both_ways, eq-eqb, eqb-true, ne_eqb}
-use Rattle.std.proofs.lemmas.Bool.{ltb-true, lt-ltb, leb-true, not-true, cases_Bool, cond-true}
+use Rattle.std.proofs.lemmas.Bool.{eqb-true, ne_eqb}
+use Rattle.std.proofs.lemmas.Bool.{ltb-true, lt-ltb, cases_Bool, cond-true}
 use Rattle.std.proofs.lemmas.Option.{cond_some}
-use Rattle.std.proofs.lemmas.Str.Parse.{IsNumeralModel, numerals_by_fold}
-use Rattle.std.proofs.lemmas.Fmt.{decimal_digit, digits_decimal, digits_value-decimal}
-use Rattle.std.proofs.lemmas.Fmt.{decimal-digits_value, first_decimal}
+use Rattle.std.proofs.lemmas.Fmt.{decimal_digit}
+use Rattle.std.proofs.lemmas.Fmt.{first_decimal}
 use lib.Chars.{codes}
-use Rattle.wcnf.specs.Text.{is_digit, value_on, number_of}
+use Rattle.wcnf.specs.Text.{number_of}
 use Rattle.wcnf.specs.Lrat.{IsId}
+use Rattle.wcnf.proofs.Laws.{decimal-number_of, number_of-decimal}
 use Rattle.lrat_read.specs.Form.{signed_of, block_of}
-
-pub own : IsNumeralModel (λ ds. list_all is_digit ds ≡ true) (value_on 0)
-own = numerals_by_fold _ (search rules) value_on (search rules)
-
-pub one_digit : (b : ℕ) → is_digit b ≡ true → (48 ≤ b) × (b ≤ 57)
-one_digit b e = let h = and_parts _ _ e in (leb-true _ _ h.0, leb-true _ _ h.1)
-
--- a number, below what `decimal` spells
-pub number_means : (t : List ℕ) (n : ℕ) → number_of t ≡ Some n → n < 2 ^ 62 → t ≡ decimal n
-number_means [] n e small = absurd (cc)
-number_means (b ∷ []) n e small =
-    let h = cond_some (is_digit b) (b - 48) n e in
-    let d = one_digit b h.0 in
-    let low : n < 10 = omega arith in
-    let same : b ≡ 48 + n = omega arith in
-    ap (λ x. x ∷ []) same ∙ sym (decimal_digit n low)
-number_means (b ∷ c ∷ bs) n e small =
-    let h =
-    cond_some (is_digit b && not (b == 48) && list_all is_digit (c ∷ bs))
-    (value_on 0 (b ∷ c ∷ bs)) n e in
-    let p = and_parts (is_digit b && not (b == 48)) (list_all is_digit (c ∷ bs)) h.0 in
-    let q = and_parts (is_digit b) (not (b == 48)) p.0 in
-    let under : value_on 0 (b ∷ c ∷ bs) < 2 ^ 64 =
-    subst (λ x. x < 2 ^ 64) (sym h.1) (omega arith) in
-    sym (decimal-digits_value own (b ∷ c ∷ bs)
-    (and_from (is_digit b) (list_all is_digit (c ∷ bs)) q.0 p.1) (omega arith)
-    (λ z. absurd (both_ways _ (not-true _ q.1) (eq-eqb b 48 z))) under)
-    ∙ ap decimal h.1
-
-digits_number : (ds : List ℕ) → list_all is_digit ds ≡ true → 48 < get_or ds 0 0
-    → number_of ds ≡ Some (value_on 0 ds)
-digits_number [] e h = absurd (omega arith)
-digits_number (b ∷ []) e h =
-    let p = and_parts (is_digit b) true e in
-    cond-true (is_digit b) (Some (b - 48)) None p.0 ∙ ap Some (omega arith)
-digits_number (b ∷ c ∷ bs) e h =
-    let p = and_parts (is_digit b) (list_all is_digit (c ∷ bs)) e in
-    let ne : (b ≡ 48) → ⊥ = λ z. absurd (omega arith) in
-    cond-true (is_digit b && not (b == 48) && list_all is_digit (c ∷ bs)) _ _
-    (and_from _ _ (and_from _ _ p.0 (ap not (ne_eqb b 48 ne))) p.1)
-
-pub number_from : (n : ℕ) → n < 2 ^ 62 → number_of (decimal n) ≡ Some n
-number_from zero small = rw (decimal_digit 0 (omega arith)) refl
-number_from (suc n) small =
-    let under : suc n < 2 ^ 64 = omega arith in
-    digits_number (decimal (suc n)) (digits_decimal own (suc n) under)
-    (first_decimal (suc n) (omega arith) under) ∙ ap Some (digits_value-decimal own (suc n) under)
 
 -- with its dash, where it has one
 abbrev pub spell : Bool × ℕ → List ℕ
@@ -107,13 +60,13 @@ signed_means (b ∷ bs) x e =
     elim (cases_Bool (b == 45)) [
       | inl t ↦
           let h = tag_means true (number_of bs) x (sym (signed_dash b bs t) ∙ e) in (
-            ap (λ c. c ∷ bs) (eqb-true b 45 t) ∙ ap (λ ds. 45 ∷ ds) (number_means bs x.1 h.0 h.2)
+            ap (λ c. c ∷ bs) (eqb-true b 45 t) ∙ ap (λ ds. 45 ∷ ds) (decimal-number_of bs x.1 h.0 (omega (arith, h.2)))
                 ∙ ap (λ s. spell (s, x.1)) h.1,
             h.2,
           )
       | inr f ↦
           let h = tag_means false (number_of (b ∷ bs)) x (sym (signed_plain b bs f) ∙ e) in
-          (number_means (b ∷ bs) x.1 h.0 h.2 ∙ ap (λ s. spell (s, x.1)) h.1, h.2)
+          (decimal-number_of (b ∷ bs) x.1 h.0 (omega (arith, h.2)) ∙ ap (λ s. spell (s, x.1)) h.1, h.2)
     ]
 
 first_not_dash : (n : ℕ) → n < 2 ^ 62 → 48 ≤ get_or (decimal n) 0 0
@@ -132,10 +85,10 @@ plain_at (b ∷ bs) n first e small =
 
 pub signed_from : (s : Bool) (n : ℕ) → n < 2 ^ 62 → signed_of (spell (s, n)) ≡ Some (s, n)
 unfolding tag
-signed_from true n small = signed_dash 45 (decimal n) refl ∙ ap (tag true) (number_from n small)
+signed_from true n small = signed_dash 45 (decimal n) refl ∙ ap (tag true) (number_of-decimal n (omega (arith, small)))
     ∙ cond-true (ltb n 4611686018427387904) _ _ (lt-ltb _ _ small)
 signed_from false n small =
-    plain_at (decimal n) n (first_not_dash n small) (number_from n small) small
+    plain_at (decimal n) n (first_not_dash n small) (number_of-decimal n (omega (arith, small))) small
 
 -- numbers that are not 0, up to the first 0
 abbrev pub Signed : Type 0

@@ -5,19 +5,17 @@ use Rattle.std.proofs.Common.{arith, rules}
 use Rattle.std.proofs.Math.Bool.{cond}
 use Rattle.std.proofs.Math.Dec.{ltb}
 use Rattle.std.specs.Prelude.{◌==◌, filter, Ok, Err}
-use Rattle.std.specs.List.{AllByRecursion, list_all}
+use Rattle.std.specs.List.{AllByRecursion}
 use Rattle.std.specs.Str.Lines.{lines}
 use Rattle.std.specs.Fmt.{decimal}
 use Rattle.std.proofs.lemmas.Bool.{and_from, and_parts, cases_Bool, eq-eqb, eqb-true, ltb-true}
 use Rattle.std.proofs.lemmas.Bool.{lt-ltb, cond-true, cond-false, false≢true}
 use Rattle.std.proofs.lemmas.Option.{cond_some}
-use Rattle.std.proofs.lemmas.Str.Parse.{IsNumeralModel, numerals_by_fold}
-use Rattle.std.proofs.lemmas.Fmt.{digits_value-decimal}
 use Rattle.std.proofs.lemmas.List.Elements.{All-from_recursion, recursion_from_All}
 use lib.Chars.{codes}
 use Rattle.wcnf.specs.Text.{is_blank, begins_with_token, put_byte, tokens_of, token_lines}
-use Rattle.wcnf.specs.Text.{is_digit, value_on, number_of}
-use Rattle.wcnf.proofs.Laws.{decimal-number_of, is_number-decimal, number_of-is}
+use Rattle.wcnf.specs.Text.{number_of}
+use Rattle.wcnf.proofs.Laws.{decimal-number_of, number_of-decimal}
 use Rattle.result_read.specs.Result.{Said, OptimumFound, Unsatisfiable, Satisfiable, Unknown}
 use Rattle.result_read.specs.Result.{fall_to, cost_tokens, digit_of, bits_tokens, result_tokens}
 use Rattle.result_read.specs.Result.{FallsTo, is_ignored, result_lines, Says, Report, same_bytes}
@@ -112,17 +110,10 @@ cost_means (o ∷ t ∷ []) c e =
       | inr f ↦ let z : cost_of (o ∷ t ∷ []) ≡ None = rw f refl in absurd (cc)
     ]
 
--- the digits of a number, as one that is read
-own : IsNumeralModel (λ ds. list_all is_digit ds ≡ true) (value_on 0)
-own = numerals_by_fold _ (search rules) value_on (search rules)
-
-number_from : (c : ℕ) → c < 2 ^ 64 → number_of (decimal c) ≡ Some c
-number_from c h = number_of-is (decimal c) (is_number-decimal c h)
-    ∙ ap Some (digits_value-decimal own c h)
-
 cost_from : (c : ℕ) → c < 2 ^ 62 → cost_of (cost_tokens c) ≡ Some c
 unfolding small_cost
-cost_from c h = cost_is (codes "o") (decimal c) refl ∙ ap small_cost (number_from c (omega (arith, h)))
+cost_from c h = cost_is (codes "o") (decimal c) refl
+    ∙ ap small_cost (number_of-decimal c (omega (arith, h)))
     ∙ cond-true (ltb c 4611686018427387904) _ _ (lt-ltb _ _ h)
 
 -- states

@@ -12,8 +12,9 @@ pub use Rattle.wcnf.proofs.Lines.{same_Ok}
 pub use Rattle.wcnf.proofs.Literals.{at_contains, contains-push, index_below, index_same}
 pub use Rattle.wcnf.proofs.Literals.{literal_eq-refl, negation_twice}
 pub use Rattle.wcnf.proofs.Marking.{marked_one, marked_subset, none_marked, place_within}
-pub use Rattle.wcnf.proofs.Numbers.{decimal-number_of, digit_bounds, digit_from, digit_is_no_blank}
-pub use Rattle.wcnf.proofs.Numbers.{is_number, is_number-decimal, number_of-is}
+pub use Rattle.wcnf.proofs.Numbers.{decimal-number_of, decimal_numerals, digit_bounds, digit_from}
+pub use Rattle.wcnf.proofs.Numbers.{digit_is_no_blank, is_number, is_number-decimal}
+pub use Rattle.wcnf.proofs.Numbers.{number_of-decimal, number_of-is}
 pub use Rattle.wcnf.proofs.ParserLaws.{empty_from_test, some_from_test}
 pub use Rattle.wcnf.proofs.Passing.{first_fault, passed-more, passed-nil, passed_fault, passed_part}
 pub use Rattle.wcnf.proofs.Passing.{passed_part-more, passed_whole, spaced-last}
