@@ -3,6 +3,8 @@
 // A hint's clause is gone over whole: its false literals are counted and the last other one is
 // kept, with no choice on the way. Counted so, a pair of literals takes 17 instructions; it took 23
 // while the others were counted and the last one was an `Option`.
+// Tried: a table that marks the false literals, so that no negation is computed. The compiler then
+// unrolls by four in place of two: 1.4 % fewer to 0.9 % more instructions, and no less time.
 //
 // Where many clauses take room, sixteen hints are looked up together, and the first literals of
 // their clauses are read then too: so none waits for the memory that another one asks for. A
