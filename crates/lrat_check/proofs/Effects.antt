@@ -4,7 +4,7 @@ use Rattle.std.proofs.Common.{map, length, get_or, take, drop, Option, Some, Non
 use Rattle.std.proofs.Common.{ap, subst, inl, inr, arith}
 use Rattle.std.proofs.Math.Bool.{cond}
 use Rattle.std.specs.Prelude.{All, IfSome, ◌==◌}
-use Rattle.std.proofs.lemmas.List.{append-nil, drop_more, drop_all, get_or_default, take_more}
+use Rattle.std.proofs.lemmas.List.{append-nil, drop_more, get_or_default, take_more}
 use Rattle.std.proofs.lemmas.List.{take-append-le, length-take}
 use Rattle.std.specs.List.{last_or}
 use Rattle.std.proofs.lemmas.Bool.{or_cases, false≢true}
@@ -15,9 +15,8 @@ use Rattle.wcnf.specs.Refute.{Clauses}
 use Rattle.wcnf.proofs.Laws.{literal_eq-true}
 use Rattle.lrat_check.specs.Assumed.{AreWithin}
 use Rattle.lrat_live.specs.Listed.{listed_at}
-use Rattle.lrat_check.specs.declared.verdicts.Cause.TheVariants.{DeadId, HintAfterConflict}
-use Rattle.lrat_check.specs.declared.verdicts.Cause.TheVariants.{HintNotUnit}
-use Rattle.lrat_check.specs.Verdict.{Refuted, Fault, NotUnit, Conflict, Makes, Outcome}
+use Rattle.lrat_check.specs.declared.verdicts.Cause.TheVariants.{HintAfterConflict}
+use Rattle.lrat_check.specs.Verdict.{Fault, NotUnit, Conflict, Makes, Outcome}
 use Rattle.lrat_check.specs.Verdict.{open_literals, outcome_of, goes_on, walk}
 use Rattle.lrat_check.specs.Steps.{EndAlike}
 use Rattle.lrat_check.proofs.Walk.{outcome_on, outcome_is, makes_means}
@@ -168,12 +167,6 @@ walk_at : (at : Clauses) (T : List Literal) (hs : List (Bool × ℕ)) (i : ℕ)
 walk_at at T hs i lt =
     ap (λ xs. walk at T (map (λ x. x.1) xs)) (drop_more hs i (false, 0) lt)
 
-pub walk_dead : (at : Clauses) (T : List Literal) (hs : List (Bool × ℕ)) (i : ℕ)
-    → i < length hs → at (id_at hs i) ≡ None → walk at T (ids_from hs i) ≡ Fault DeadId
-walk_dead at T hs i lt n =
-    let rest = ids_from hs (i + 1) in
-    walk_at at T hs i lt ∙ ap (λ x. goes_on (outcome_of x T) rest (λ l. walk at (l ∷ T) rest)) n
-
 -- what the hint's clause does decides how the walk goes on
 walk_does : (at : Clauses) (T : List Literal) (hs : List (Bool × ℕ)) (i : ℕ) (c : List Literal)
     (o : Outcome)
@@ -184,22 +177,6 @@ walk_does at T hs i c o lt n e =
     let rest = ids_from hs (i + 1) in
     walk_at at T hs i lt
     ∙ ap (λ x. goes_on x rest (λ l. walk at (l ∷ T) rest)) (ap (λ y. outcome_of y T) n ∙ e)
-
-pub walk_not_unit : (at : Clauses) (T : List Literal) (hs : List (Bool × ℕ)) (i : ℕ)
-    (c : List Literal)
-    → i < length hs → at (id_at hs i) ≡ Some c → outcome_of (Some c) T ≡ NotUnit
-    → walk at T (ids_from hs i) ≡ Fault HintNotUnit
-walk_not_unit at T hs i c lt n e = walk_does at T hs i c NotUnit lt n e
-
-pub walk_refuted : (at : Clauses) (T : List Literal) (hs : List (Bool × ℕ)) (i : ℕ)
-    (c : List Literal)
-    → i < length hs → at (id_at hs i) ≡ Some c → outcome_of (Some c) T ≡ Conflict
-    → length hs ≤ i + 1 → walk at T (ids_from hs i) ≡ Refuted
-walk_refuted at T hs i c lt n e last =
-    let rest = ids_from hs (i + 1) in
-    walk_does at T hs i c Conflict lt n e
-    ∙ ap (λ xs. goes_on Conflict (map (λ x. x.1) xs) (λ l. walk at (l ∷ T) rest))
-    (drop_all (i + 1) hs last)
 
 pub walk_past_conflict : (at : Clauses) (T : List Literal) (hs : List (Bool × ℕ)) (i : ℕ)
     (c : List Literal)

@@ -1,6 +1,6 @@
-use Rattle.std.proofs.Common.{◌≡◌, ◌<◌, ◌≤◌, ◌+◌, ◌-◌, ◌∷◌, [], ◌++◌, ap, subst, sym, ◌∙◌, take}
+use Rattle.std.proofs.Common.{◌≡◌, ◌<◌, ◌+◌, ◌-◌, ◌∷◌, [], ◌++◌, ap, subst, sym, ◌∙◌, take}
 use Rattle.std.proofs.Common.{length}
-use Rattle.std.proofs.Common.{arith, refl}
+use Rattle.std.proofs.Common.{arith}
 use Rattle.std.proofs.lemmas.List.{take_all, take_more}
 use Rattle.lrat_check.specs.Assumed.{AreValues}
 use Rattle.lrat_check.proofs.AssumedLaws.{AreValues-undo}
