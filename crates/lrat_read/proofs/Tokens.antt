@@ -60,13 +60,17 @@ signed_means (b ∷ bs) x e =
     elim (cases_Bool (b == 45)) [
       | inl t ↦
           let h = tag_means true (number_of bs) x (sym (signed_dash b bs t) ∙ e) in (
-            ap (λ c. c ∷ bs) (eqb-true b 45 t) ∙ ap (λ ds. 45 ∷ ds) (decimal-number_of bs x.1 h.0 (omega (arith, h.2)))
+            ap (λ c. c ∷ bs) (eqb-true b 45 t)
+                ∙ ap (λ ds. 45 ∷ ds) (decimal-number_of bs x.1 h.0 (omega (arith, h.2)))
                 ∙ ap (λ s. spell (s, x.1)) h.1,
             h.2,
           )
       | inr f ↦
-          let h = tag_means false (number_of (b ∷ bs)) x (sym (signed_plain b bs f) ∙ e) in
-          (decimal-number_of (b ∷ bs) x.1 h.0 (omega (arith, h.2)) ∙ ap (λ s. spell (s, x.1)) h.1, h.2)
+          let h = tag_means false (number_of (b ∷ bs)) x (sym (signed_plain b bs f) ∙ e) in (
+            decimal-number_of (b ∷ bs) x.1 h.0 (omega (arith, h.2))
+                ∙ ap (λ s. spell (s, x.1)) h.1,
+            h.2,
+          )
     ]
 
 first_not_dash : (n : ℕ) → n < 2 ^ 62 → 48 ≤ get_or (decimal n) 0 0
@@ -85,10 +89,12 @@ plain_at (b ∷ bs) n first e small =
 
 pub signed_from : (s : Bool) (n : ℕ) → n < 2 ^ 62 → signed_of (spell (s, n)) ≡ Some (s, n)
 unfolding tag
-signed_from true n small = signed_dash 45 (decimal n) refl ∙ ap (tag true) (number_of-decimal n (omega (arith, small)))
+signed_from true n small = signed_dash 45 (decimal n) refl
+    ∙ ap (tag true) (number_of-decimal n (omega (arith, small)))
     ∙ cond-true (ltb n 4611686018427387904) _ _ (lt-ltb _ _ small)
 signed_from false n small =
-    plain_at (decimal n) n (first_not_dash n small) (number_of-decimal n (omega (arith, small))) small
+    plain_at (decimal n) n (first_not_dash n small) (number_of-decimal n (omega (arith, small)))
+    small
 
 -- numbers that are not 0, up to the first 0
 abbrev pub Signed : Type 0

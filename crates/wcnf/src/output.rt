@@ -90,29 +90,6 @@ impl Block {
         self.put(writer, Buffer::new().format(number).as_bytes())
     }
 
-    /// Puts the literal: its variable, with a dash before it for negation.
-    ///
-    /// # Errors
-    ///
-    /// As `put`.
-    pub fn put_literal<W: Write>(&mut self, writer: &mut W, lit: Lit) -> Result<(), WriteFault>
-        ensures ok { OnOk result
-            (PassesOn (W.contents writer.old) self.old (literal_text lit) (W.contents writer.new)
-            self.new) }
-        ensures fault { OnErr result
-            (AppendsPart (W.contents writer.old) (W.contents writer.new)
-            (self.old ++ literal_text lit)) }
-        ensures lost { OnErr result (self.new ≡ []) }
-    {
-        let variable = u64::from(lit.variable());
-        if lit.is_negated() {
-            self.put(writer, b"-")?;
-            self.put_number(writer, variable)
-        } else {
-            self.put_number(writer, variable)
-        }
-    }
-
     /// Puts the literal, and a space after it. This takes one test for room, and no copy.
     ///
     /// # Errors
