@@ -1,18 +1,14 @@
 use Rattle.std.proofs.Common.{◌≡◌, ℕ, true, sym, ◌∙◌, ap, subst, get_or, length, arith}
-use Rattle.std.specs.Prelude.{Result, Ok, Err, OnErr}
 use Rattle.std.proofs.lemmas.List.{get_or_default}
 use Rattle.clauses.specs.Slots.{IsLive}
 use Rattle.propagate.specs.Watches.{EngineState}
 use Rattle.propagate.specs.Doomed.{is_doomed}
+use Rattle.lrat_log.proofs.Laws.{when_err}
 use Rattle.cdcl.specs.Deletions.{IsDeleting, AreMarked}
 use Rattle.cdcl.specs.Running.{StaysOpen}
 use Rattle.cdcl.proofs.Written.{writes_none, writes_join}
 use Rattle.cdcl.proofs.Deleting.{reasons_stay, deleting_starts, deleting_ends, gone_more, all_gone}
 use Rattle.cdcl.proofs.reducing.delete_all.Goals as goal
-
-when_err : {T E P : Type 0} (r : Result T E) → P → OnErr r P
-when_err (Ok x) p = tt
-when_err (Err e) p = p
 
 pub detach_all-requires : goal.detach_all-requires
 detach_all-requires g c =
