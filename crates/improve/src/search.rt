@@ -6,7 +6,7 @@ ghost use Rattle.cdcl_order.specs.Budgets.{BudgetState};
 ghost use Rattle.cdcl.specs.Solving.{given_to};
 ghost use Rattle.improve.specs.Improving.{Improves, IsHardLog, IsRightFound, IsSolution, OnWork};
 ghost use Rattle.improve.specs.Improving.{EndsWith, AreFalling};
-ghost use Rattle.improve.specs.Bounds.{IsOver, IsOverHard};
+ghost use Rattle.improve.specs.Bounds.{HasNoBound, IsOver, IsOverHard};
 
 use crate::bounds::{Bounds, Next};
 use crate::found::{Found, ImproveFault, Work};
@@ -154,10 +154,45 @@ fn lower<T: Progress>(
     if first.cost == 0 {
         return end_at_zero(instance, progress, profile, first.bits);
     }
-    let mut best = first;
     let Ok(mut bounds) = Bounds::new(instance, profile) else {
         return Err(ImproveFault::Memory);
     };
+    tighten(instance, budget, progress, &mut bounds, hard, first)
+}
+
+/// Tells one solution after another, each cheaper than the bound that the one before it set. The
+/// solver of the bounds is its caller's, so that no exit here has to give it back.
+fn tighten<T: Progress>(
+    instance: &Instance,
+    budget: &mut Budget,
+    progress: &mut T,
+    bounds: &mut Bounds,
+    hard: Log,
+    first: Solution,
+) -> Result<Found, ImproveFault>
+    requires failures { T.failures progress.old < 2 ^ 62 }
+    requires solution { IsSolution instance.now first.bits.items first.cost }
+    requires hard { IsHardLog instance.now hard }
+    requires over { IsOver instance.now bounds.old }
+    requires none { HasNoBound bounds.old.profile bounds.old }
+    ensures follows { (first : T) → T.follows first progress.old → T.follows first progress.new }
+    ensures improves { (before : BudgetState) → before.limit ≡ budget.old.limit
+        → before.answers + 1 ≡ budget.old.answers
+        → before.learned + learned_count hard ≡ budget.old.learned
+        → Improves bounds.old.profile instance.now result
+        (record {
+          told = T.told progress.old;
+          failed = T.failed progress.old;
+          failures = T.failures progress.old;
+        })
+        (record {
+          told = T.told progress.new;
+          failed = T.failed progress.new;
+          failures = T.failures progress.new;
+        })
+        before budget.new }
+{
+    let mut best = first;
     loop {
         if progress.improved(best.cost).is_err() {
             return Err(ImproveFault::Progress);
@@ -167,8 +202,8 @@ fn lower<T: Progress>(
         }
         match bounds.search(instance, budget) {
             Ok(Next::Cheaper(solution)) => best = solution,
-            Ok(Next::Refuted) => return conclude_optimum(instance, &bounds, best),
-            Ok(Next::Spent) => return conclude_spent(instance, &bounds, best, hard),
+            Ok(Next::Refuted) => return conclude_optimum(instance, bounds, best),
+            Ok(Next::Spent) => return conclude_spent(instance, bounds, best, hard),
             Err(AllocError) => return Err(ImproveFault::Memory),
         }
     }

@@ -5,12 +5,12 @@ use Rattle.std.specs.Prelude.{All}
 use Rattle.lrat_log.specs.Steps.{learned_count}
 use Rattle.improve.specs.Improving.{AreFalling, IsCostOfSome, IsSolution}
 use Rattle.improve.specs.Bounds.{IsOver}
-use Rattle.improve.proofs.search.lower.Given as goal
+use Rattle.improve.proofs.search.tighten.Given as goal
 
-abbrev pub invariant-loop-bounds : goal.invariant-loop-bounds
-invariant-loop-bounds g l = record {
+abbrev pub invariant-loop-best : goal.invariant-loop-best
+invariant-loop-best g l = record {
   over : IsOver l.instance l.bounds;
-  profile : (l.bounds).profile ≡ l.fn.profile;
+  profile : (l.bounds).profile ≡ (l.fn.bounds).profile;
   solution : IsSolution l.instance ((l.best).bits).items (l.best).cost;
   falling : AreFalling (((l.bounds).costs).items ++ (l.best).cost ∷ []);
   honest : All (IsCostOfSome l.instance) ((l.bounds).costs).items;
@@ -24,5 +24,5 @@ invariant-loop-bounds g l = record {
   learned : (l.budget).learned ≡ (l.fn.budget).learned + learned_count ((l.bounds).solver).sink;
 }
 
-abbrev pub decreases-loop-bounds : goal.decreases-loop-bounds
-decreases-loop-bounds g l = (l.best).cost
+abbrev pub decreases-loop-best : goal.decreases-loop-best
+decreases-loop-best g l = (l.best).cost
