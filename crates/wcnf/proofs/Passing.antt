@@ -1,12 +1,9 @@
 -- Texts that go to a writer by way of a block, one after another.
-use Rattle.std.proofs.Common.{◌≡◌, ℕ, List, [], ◌∷◌, ◌++◌, Option, true, if◌then◌else◌, refl, sym}
+use Rattle.std.proofs.Common.{◌≡◌, ℕ, List, [], ◌∷◌, ◌++◌, Option, refl, sym}
 use Rattle.std.proofs.Common.{◌∙◌, ap, subst, append_assoc, append-nil}
 use Rattle.std.specs.Io.KnownBytes.{Appends}
 use Rattle.std.proofs.KnownBytes.{Appends-nil, Appends-trans}
 use Rattle.std.specs.List.{flat_map}
-use Rattle.std.specs.Fmt.{decimal}
-use Rattle.wcnf.specs.Literal.{Literal}
-use Rattle.wcnf.specs.Text.{literal_text}
 use Rattle.wcnf.specs.Writing.{spaced, AppendsPart, PassesOn}
 
 pub passed-nil : (a : Option (List ℕ)) (held : List ℕ) → PassesOn a held [] a held
@@ -89,9 +86,3 @@ spaced-last (t ∷ v ∷ ts) u =
     ap (λ x. t ++ 32 ∷ x) (spaced-last (v ∷ ts) u)
     ∙ sym (append_assoc t (32 ∷ []) (flat_map (λ x. x ++ 32 ∷ []) (v ∷ ts) ++ (u ++ 10 ∷ [])))
     ∙ sym (append_assoc (t ++ 32 ∷ []) (flat_map (λ x. x ++ 32 ∷ []) (v ∷ ts)) (u ++ 10 ∷ []))
-
--- the text of a negated literal, from the dash on
-pub dashed : (l : Literal) (v : ℕ) → l.negated ≡ true → v ≡ l.variable
-    → literal_text l ≡ (45 ∷ []) ++ decimal v
-dashed l v h e = ap (λ b. if b then 45 ∷ decimal l.variable else decimal l.variable) h
-    ∙ ap (λ n. 45 ∷ decimal n) (sym e)
