@@ -105,6 +105,32 @@ long_row b rows used laid i li =
 pub long_rows : (b : List Entry) (rows : List Head) → length (rows_of b rows) ≡ length rows
 long_rows b rows = length-map rows (row_of b)
 
+-- a place in the room of a row stands in the block
+pub room_fits : (b : List Entry) (rows : List Head) (used : ℕ) → IsLaid b rows used → (i : ℕ)
+    → i < length rows → (r : Head) → r ≡ get_or rows i no_head → (k : ℕ) → k < r.room
+    → (r.start + k < length b) × (r.start + k < 2 ^ 63)
+room_fits b rows used laid i li r is k lt =
+    let start = ap (λ (h : Head). h.start) is in
+    let room = ap (λ (h : Head). h.room) is in (
+      omega (arith, laid.inside i li, laid.used_fits, start, room, lt),
+      omega (arith, laid.inside i li, laid.small, start, room, lt),
+    )
+
+-- the place of an entry of a row stands in the block
+pub entry_fits : (b : List Entry) (rows : List Head) (used : ℕ) → IsLaid b rows used → (i : ℕ)
+    → i < length rows → (r : Head) → r ≡ get_or rows i no_head → (k : ℕ)
+    → k < length (get_or (rows_of b rows) i [])
+    → (r.start + k < length b) × (r.start + k < 2 ^ 63)
+entry_fits b rows used laid i li r is k lt =
+    room_fits b rows used laid i li r is k
+    (omega (
+      arith,
+      laid.filled i li,
+      long_row b rows used laid i li,
+      ap (λ (h : Head). h.room) is,
+      lt,
+    ))
+
 pub rows_truncate : (b : List Entry) (rows : List Head) (used : ℕ) → IsLaid b rows used
     → (i n : ℕ) (r : Head) → i < length rows → r.start ≡ (get_or rows i no_head).start
     → r.length ≡ n → n ≤ (get_or rows i no_head).length

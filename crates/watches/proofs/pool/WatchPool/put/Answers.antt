@@ -2,7 +2,7 @@ use Rattle.std.proofs.Common.{◌≡◌, ◌<◌, ◌≤◌, length, get_or, ap,
 use Rattle.std.proofs.lemmas.List.{get_or_read}
 use Rattle.watches.specs.PoolLayout.{no_head}
 use Rattle.watches.specs.declared.pool.Head.{Head}
-use Rattle.watches.proofs.Laid.{rows_put, long_rows}
+use Rattle.watches.proofs.Laid.{long_rows, room_fits, rows_put}
 use Rattle.watches.proofs.pool.WatchPool.put.Goals as goal
 
 pub returns-clause-added : goal.returns-clause-added
@@ -39,15 +39,12 @@ overflow_add-start c =
     omega (arith, long_rows i.block i.heads.items, ap length c.self.view_is) in
     let is : c.index.result.now ≡ get_or i.heads.items c.args.row no_head =
     get_or_read i.heads.items c.args.row c.index.result.now li c.index.ensures no_head in
+    let lt : c.index.result.now.length < c.index.result.now.room =
+    omega (arith, ap (λ (r : Head). r.length) is, ap (λ (r : Head). r.room) is) in
     omega (
       arith,
-      laid.inside c.args.row li,
-      laid.filled c.args.row li,
-      laid.used_fits,
-      laid.small,
-      ap (λ (r : Head). r.start) is,
-      ap (λ (r : Head). r.length) is,
-      ap (λ (r : Head). r.room) is,
+      room_fits i.block i.heads.items i.used laid c.args.row li c.index.result.now is
+          c.index.result.now.length lt,
     )
 
 pub set-requires : goal.set-requires
@@ -57,13 +54,10 @@ set-requires c =
     omega (arith, long_rows i.block i.heads.items, ap length c.self.view_is) in
     let is : c.index.result.now ≡ get_or i.heads.items c.args.row no_head =
     get_or_read i.heads.items c.args.row c.index.result.now li c.index.ensures no_head in
+    let lt : c.index.result.now.length < c.index.result.now.room =
+    omega (arith, ap (λ (r : Head). r.length) is, ap (λ (r : Head). r.room) is) in
     omega (
       arith,
-      laid.inside c.args.row li,
-      laid.filled c.args.row li,
-      laid.used_fits,
-      laid.small,
-      ap (λ (r : Head). r.start) is,
-      ap (λ (r : Head). r.length) is,
-      ap (λ (r : Head). r.room) is,
+      room_fits i.block i.heads.items i.used laid c.args.row li c.index.result.now is
+          c.index.result.now.length lt,
     )
