@@ -1,31 +1,34 @@
 -- What was put before a fault is a beginning of the text.
-use Rattle.std.proofs.Common.{◌≡◌, ◌++◌, [], List, length, refl, Option, ℕ}
+use Rattle.std.proofs.Common.{◌++◌, [], refl}
 use Rattle.std.proofs.lemmas.Result.{err_from_is_err_and}
-use Rattle.wcnf.specs.Literal.{Literal}
-use Rattle.bound.specs.declared.encoding.Outline.{Outline}
 use Rattle.bound.specs.Bound.{kept, dimacs_text, header_line}
 use Rattle.bound.specs.Encoding.{outlined}
 use Rattle.bound.proofs.Streams.{IsPutUpTo, lines_of, cells_kept, parts_left, put_more, put_fault}
 use Rattle.bound.proofs.Streams.{all_put, part_from_empty, whole_from_empty, flush_from_empty}
+use Rattle.bound.proofs.encoding.put_formula.Given.{Over}
 use Rattle.bound.proofs.encoding.put_formula.Goals as goal
+use Rattle.bound.proofs.encoding.put_formula.Goals.{After-new-block}
 
 -- nothing is put yet, and this is what is left
-begun : (hard : List (List Literal)) (o : Outline) → o.count ≡ length (outlined hard o).clauses
-    → (a : Option (List ℕ)) (held : List ℕ)
-    → IsPutUpTo a held (dimacs_text (outlined hard o)) (header_line o.vars o.count
-    ++ (lines_of (kept hard) ++ (lines_of o.relaxed ++ (lines_of (cells_kept o.network.cells)
-    ++ (lines_of o.comparator ++ []))))) a held
-begun hard o en a held =
+begun : (g : Over) (c : After-new-block g)
+    → (let o = c.args.outline.now in
+    IsPutUpTo (g.W.Write.contents c.args.writer.now) c.new-block.result
+    (dimacs_text (outlined c.args.instance.now.hard o))
+    (header_line o.vars o.count ++ (lines_of (kept c.args.instance.now.hard) ++ (lines_of o.relaxed
+    ++ (lines_of (cells_kept o.network.cells) ++ (lines_of o.comparator ++ [])))))
+    (g.W.Write.contents c.args.writer.now) c.new-block.result)
+begun g c =
+    let o = c.args.outline.now in
+    let hard = c.args.instance.now.hard in
     parts_left (outlined hard o) o.vars o.count (kept hard) o.relaxed (cells_kept o.network.cells)
-    o.comparator refl en refl a held
+    o.comparator refl c.requires.count refl (g.W.Write.contents c.args.writer.now)
+    c.new-block.result
 
 pub returns-in_err-put_header-clause-fault : goal.returns-in_err-put_header-clause-fault
 returns-in_err-put_header-clause-fault g c =
     let p =
     err_from_is_err_and c.from_residual.result c.from_residual.ensures.1 in
-    let start =
-    begun c.args.instance.now.hard c.args.outline.now c.requires.count
-    (g.W.Write.contents c.args.writer.now) c.new-block.result in
+    let start = begun g (goal.at.returns-in_err-put_header-clause-fault g c).After-new-block in
     rw (p.1) (part_from_empty _ _ _ _ c.new-block.ensures
     (put_fault _ _ _ _ _ _ _ _ start c.in_err-put_header.ensures.fault))
 
@@ -34,9 +37,7 @@ returns-in_err-put_hard-clause-fault g c =
     let p =
     err_from_is_err_and c.from_residual-in_err-put_hard.result
     c.from_residual-in_err-put_hard.ensures.1 in
-    let start =
-    begun c.args.instance.now.hard c.args.outline.now c.requires.count
-    (g.W.Write.contents c.args.writer.now) c.new-block.result in
+    let start = begun g (goal.at.returns-in_err-put_hard-clause-fault g c).After-new-block in
     let header = put_more _ _ _ _ _ _ _ _ start _ c.in_ok-put_header.ensures.ok in
     rw (p.1) (part_from_empty _ _ _ _ c.new-block.ensures
     (put_fault _ _ _ _ _ _ _ _ header c.in_err-put_hard.ensures.fault))
@@ -46,9 +47,7 @@ returns-in_err-put_clauses-clause-fault g c =
     let p =
     err_from_is_err_and c.from_residual-in_err-put_clauses.result
     c.from_residual-in_err-put_clauses.ensures.1 in
-    let start =
-    begun c.args.instance.now.hard c.args.outline.now c.requires.count
-    (g.W.Write.contents c.args.writer.now) c.new-block.result in
+    let start = begun g (goal.at.returns-in_err-put_clauses-clause-fault g c).After-new-block in
     let header = put_more _ _ _ _ _ _ _ _ start _ c.in_ok-put_header.ensures.ok in
     let hard = put_more _ _ _ _ _ _ _ _ header _ c.in_ok-put_hard.ensures.ok in
     rw (p.1) (part_from_empty _ _ _ _ c.new-block.ensures
@@ -59,9 +58,7 @@ returns-in_err-put_cells-clause-fault g c =
     let p =
     err_from_is_err_and c.from_residual-in_err-put_cells.result
     c.from_residual-in_err-put_cells.ensures.1 in
-    let start =
-    begun c.args.instance.now.hard c.args.outline.now c.requires.count
-    (g.W.Write.contents c.args.writer.now) c.new-block.result in
+    let start = begun g (goal.at.returns-in_err-put_cells-clause-fault g c).After-new-block in
     let header = put_more _ _ _ _ _ _ _ _ start _ c.in_ok-put_header.ensures.ok in
     let hard = put_more _ _ _ _ _ _ _ _ header _ c.in_ok-put_hard.ensures.ok in
     let soft = put_more _ _ _ _ _ _ _ _ hard _ c.in_ok-put_clauses.ensures.ok in
@@ -73,9 +70,7 @@ returns-in_err-put_clauses-2-clause-fault g c =
     let p =
     err_from_is_err_and c.from_residual-in_err-put_clauses-2.result
     c.from_residual-in_err-put_clauses-2.ensures.1 in
-    let start =
-    begun c.args.instance.now.hard c.args.outline.now c.requires.count
-    (g.W.Write.contents c.args.writer.now) c.new-block.result in
+    let start = begun g (goal.at.returns-in_err-put_clauses-2-clause-fault g c).After-new-block in
     let header = put_more _ _ _ _ _ _ _ _ start _ c.in_ok-put_header.ensures.ok in
     let hard = put_more _ _ _ _ _ _ _ _ header _ c.in_ok-put_hard.ensures.ok in
     let soft = put_more _ _ _ _ _ _ _ _ hard _ c.in_ok-put_clauses.ensures.ok in
@@ -88,9 +83,7 @@ returns-in_err-flush-clause-fault g c =
     let p =
     err_from_is_err_and c.from_residual-in_err-flush.result c.from_residual-in_err-flush.ensures.1
     in
-    let start =
-    begun c.args.instance.now.hard c.args.outline.now c.requires.count
-    (g.W.Write.contents c.args.writer.now) c.new-block.result in
+    let start = begun g (goal.at.returns-in_err-flush-clause-fault g c).After-new-block in
     let header = put_more _ _ _ _ _ _ _ _ start _ c.in_ok-put_header.ensures.ok in
     let hard = put_more _ _ _ _ _ _ _ _ header _ c.in_ok-put_hard.ensures.ok in
     let soft = put_more _ _ _ _ _ _ _ _ hard _ c.in_ok-put_clauses.ensures.ok in
@@ -101,9 +94,7 @@ returns-in_err-flush-clause-fault g c =
 
 pub returns-clause-ok : goal.returns-clause-ok
 returns-clause-ok g c =
-    let start =
-    begun c.args.instance.now.hard c.args.outline.now c.requires.count
-    (g.W.Write.contents c.args.writer.now) c.new-block.result in
+    let start = begun g (goal.at.returns-clause-ok g c).After-new-block in
     let header = put_more _ _ _ _ _ _ _ _ start _ c.in_ok-put_header.ensures.ok in
     let hard = put_more _ _ _ _ _ _ _ _ header _ c.in_ok-put_hard.ensures.ok in
     let soft = put_more _ _ _ _ _ _ _ _ hard _ c.in_ok-put_clauses.ensures.ok in

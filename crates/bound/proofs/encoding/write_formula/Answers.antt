@@ -3,7 +3,6 @@ use Rattle.std.proofs.Common.{◌≡◌, ◌++◌, List, All, length, sym, ◌�
 use Rattle.std.proofs.lemmas.Result.{err_from_is_err_and, on_ok_weaker, on_err_weaker}
 use Rattle.std.specs.Io.KnownBytes.{Appends}
 use Rattle.wcnf.specs.Writing.{AppendsPart}
-use Rattle.wcnf.specs.Literal.{Literal}
 use Rattle.wcnf.specs.Formula.{Cnf}
 use Rattle.wcnf.specs.Problem.{Problem}
 use Rattle.adder.specs.declared.cells.Cell.{Cell}
