@@ -13,6 +13,10 @@
 // end at each digit of all numbers (23 % more), one loop for both ways with its tests behind it
 // (16 % more), room for the line's numbers reserved once (2 % less), masks of the spaces in 64
 // bytes at once (a tenth less time of a whole check at best, and none on a certificate of pigeons).
+// What is left to gain is in branches that are guessed wrong: in a check of a certificate of random
+// clauses 55 % of them lie in the reading of lines, and 41 % at the ends of hints' clauses. A C
+// checker that finds the ends of numbers by masks, with clauses padded to blocks of four literals,
+// guesses wrong less than half as often, and takes 11 to 24 % less time with as many instructions.
 ghost use Rattle.std.specs.Prelude.{◌≡◌, ◌+◌, ◌<◌, ◌≤◌, ◌↔◌, length, drop, slice_index, not, false};
 ghost use Rattle.std.specs.Prelude.{IsTrue, IfSome};
 ghost use Rattle.wcnf.specs.Text.{tokens_of, is_blank, begins_with_token};
