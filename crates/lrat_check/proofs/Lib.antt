@@ -17,4 +17,5 @@ pub mod TrueResults
 pub mod BitsFaults
 pub mod Judging
 pub mod PieceLaws
+pub mod ReadingLaws
 pub mod LeftLaws

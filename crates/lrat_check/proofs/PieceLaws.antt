@@ -1,11 +1,11 @@
 -- A certificate in pieces: what holds after a line more, after a piece, and at the end.
-use Rattle.std.proofs.Common.{◌≡◌, ℕ, ◌+◌, ◌<◌, Bool, true, false, List, [], ◌∷◌, ◌++◌, length, map}
+use Rattle.std.proofs.Common.{◌≡◌, ℕ, ◌+◌, ◌<◌, ◌≤◌, Bool, true, false, List, [], ◌∷◌, ◌++◌, map}
 use Rattle.std.proofs.Common.{take, drop, Option, Some, None, inl, inr, refl, sym, ◌∙◌, ap, subst}
-use Rattle.std.proofs.Common.{arith, append_assoc, append-nil}
+use Rattle.std.proofs.Common.{length, arith, append_assoc, append-nil}
 use Rattle.std.specs.Prelude.{◌-◌, ◌==◌, not, is_some}
 use Rattle.std.specs.List.{slice_split}
 use Rattle.std.specs.Str.Lines.{lines_of_parts, strip_carriage_return}
-use Rattle.std.proofs.lemmas.List.{length-take-le, length-drop, take_rest}
+use Rattle.std.proofs.lemmas.List.{length-take-le, length-drop, take_rest, take-append-drop}
 use Rattle.std.proofs.lemmas.List.Splits.{slice_split_at, length-slice_split}
 use Rattle.std.proofs.lemmas.List.Elements.{All-append, All-nil}
 use Rattle.std.specs.Prelude.{IfSome, IfOk, Result, Ok, Err, ◌↔◌}
@@ -25,7 +25,7 @@ use Rattle.lrat_check.specs.Verdict.{verdict_on, proof_verdict}
 use Rattle.lrat_check.proofs.Base.{live_of-start}
 use Rattle.lrat_check.proofs.Judged.{state_of}
 use Rattle.lrat_check.specs.Pieces.{IsOpen, IsRefused, Holds, Judges, HasTaken, CheckerState}
-use Rattle.lrat_check.specs.Pieces.{Stands}
+use Rattle.lrat_check.specs.Pieces.{Stands, IsEnded, EndsInFeed, JudgesLines}
 
 abbrev is_feed : ℕ → Bool
 is_feed b = b == 10
@@ -41,62 +41,107 @@ tokens-first x more h =
 tokens-last : (x : List ℕ) → 0 < length x → IsNoFeed x → token_lines x ≡ tokens_of x ∷ []
 tokens-last x l h = ap (map tokens_of) (lines-last x l (λ k lt. h k 0 lt))
 
-regroup : (d r e more : List ℕ)
-    → d ++ ((r ++ e) ++ 10 ∷ more) ≡ (((d ++ r) ++ e) ++ 10 ∷ []) ++ more
-regroup d r e more = simp append_assoc
+regroup : (d r t more : List ℕ) → d ++ ((r ++ t) ++ more) ≡ ((d ++ r) ++ t) ++ more
+regroup d r t more = simp append_assoc
 
--- a line more
-module _ (old new : Reading) (formula : List (List Literal)) (bytes end line : List ℕ)
-    (o : IsOpen old formula bytes) (no_feed : IsNoFeed end)
-    (same : line ≡ strip_carriage_return ((old.rest).items ++ end))
+-- lines more, the last of which is ended
+module _ (old new : Reading) (formula : List (List Literal)) (bytes text : List ℕ)
+    (o : IsOpen old formula bytes) (ended : EndsInFeed text)
     (empty : (new.rest).items ≡ []) where
   abbrev whole : List ℕ
-  whole = bytes ++ end ++ 10 ∷ []
+  whole = bytes ++ text
 
-  from_old : (more : List ℕ) → verdict_after old.machine (tokens_of line ∷ token_lines more)
+  whole_ended : IsEnded whole
+  whole_ended =
+      inr (
+        bytes ++ ended.0,
+        ap (λ x. bytes ++ x) ended.1
+            ∙ sym (append_assoc bytes ended.0 (10 ∷ [])),
+      )
+
+  from_old : (more : List ℕ)
+      → verdict_after old.machine (token_lines (((old.rest).items ++ text) ++ more))
       ≡ proof_verdict formula (whole ++ more)
   from_old more =
-      let none : IsNoFeed ((old.rest).items ++ end) =
-      All-append (λ b. (b == 10) ≡ false) (old.rest).items end o.unfinished no_feed in
-      ap (λ x. verdict_after old.machine (tokens_of x ∷ token_lines more)) same
-      ∙ ap (verdict_after old.machine) (sym (tokens-first ((old.rest).items ++ end) more none))
-      ∙ o.resumes (((old.rest).items ++ end) ++ 10 ∷ more)
-      ∙ ap (proof_verdict formula) (regroup o.done (old.rest).items end more)
-      ∙ ap (λ x. proof_verdict formula ((x ++ end ++ 10 ∷ []) ++ more)) (sym o.split)
+      o.resumes (((old.rest).items ++ text) ++ more)
+      ∙ ap (proof_verdict formula) (regroup o.done (old.rest).items text more)
+      ∙ ap (λ x. proof_verdict formula ((x ++ text) ++ more)) (sym o.split)
 
-  still_open : Judges old.machine line new.machine None → IsOpen new formula whole
+  still_open : JudgesLines old.machine ((old.rest).items ++ text) new.machine None
+      → IsOpen new formula whole
   still_open j = record {
     done = whole;
     split = sym (append-nil whole) ∙ ap (λ x. whole ++ x) (sym empty);
-    ended = inr (bytes ++ end, refl);
+    ended = whole_ended;
     unfinished = subst IsNoFeed (sym empty) (All-nil (λ b. (b == 10) ≡ false));
-    resumes = λ more. sym (j (token_lines more)) ∙ from_old more;
+    resumes = λ more. sym (j more) ∙ from_old more;
   }
 
-  now_refused : (v : Verdict) → Judges old.machine line new.machine (Some v)
+  now_refused : (v : Verdict)
+      → JudgesLines old.machine ((old.rest).items ++ text) new.machine (Some v)
       → IsRefused v formula whole
   now_refused v j = record {
     done = whole;
     after = [];
     split = sym (append-nil whole);
-    ended = inr (bytes ++ end, refl);
+    ended = whole_ended;
     cause = j.0.0;
     line = j.0.1;
     fault = j.0.2;
-    stays = λ more. sym (from_old more) ∙ j.1 (token_lines more);
+    stays = λ more. sym (from_old more) ∙ j.1 more;
   }
+
+pub lines_more : (old new : Reading) (text : List ℕ) → old.refused ≡ None → EndsInFeed text
+    → (new.rest).items ≡ []
+    → JudgesLines old.machine ((old.rest).items ++ text) new.machine new.refused
+    → (formula : List (List Literal)) (bytes : List ℕ) → Holds old formula bytes
+    → Holds new formula (bytes ++ text)
+lines_more old new text none ended empty j formula bytes h = record {
+  open_end = λ e. still_open old new formula bytes text (h.open_end none) ended empty
+      (subst (JudgesLines old.machine ((old.rest).items ++ text) new.machine) e j);
+  refused = λ v e. now_refused old new formula bytes text (h.open_end none) ended empty v
+      (subst (JudgesLines old.machine ((old.rest).items ++ text) new.machine) e j);
+}
+
+-- the verdict where a line and its line feed come next
+pub verdict_first : (m : MachineState) (x more : List ℕ) → IsNoFeed x
+    → verdict_after m (token_lines (x ++ 10 ∷ more))
+    ≡ verdict_after m (tokens_of (strip_carriage_return x) ∷ token_lines more)
+verdict_first m x more h = ap (verdict_after m) (tokens-first x more h)
+
+first_of : (m : MachineState) (x line more : List ℕ) → IsNoFeed x
+    → line ≡ strip_carriage_return x
+    → verdict_after m (token_lines ((x ++ 10 ∷ []) ++ more))
+    ≡ verdict_after m (tokens_of line ∷ token_lines more)
+first_of m x line more h e =
+    ap (λ y. verdict_after m (token_lines y)) (append_assoc x (10 ∷ []) more)
+    ∙ verdict_first m x more h
+    ∙ ap (λ y. verdict_after m (tokens_of y ∷ token_lines more)) (sym e)
+
+-- a line more
+judges_line : (old new : MachineState) (x line : List ℕ) (f : Option Verdict) → IsNoFeed x
+    → line ≡ strip_carriage_return x → Judges old line new f
+    → JudgesLines old (x ++ 10 ∷ []) new f
+judges_line old new x line None h e j = λ more. first_of old x line more h e ∙ j (token_lines more)
+judges_line old new x line (Some v) h e j =
+    (j.0, λ more. first_of old x line more h e ∙ j.1 (token_lines more))
 
 pub line_more : (old new : Reading) (end line : List ℕ) → old.refused ≡ None → IsNoFeed end
     → line ≡ strip_carriage_return ((old.rest).items ++ end)
     → (new.rest).items ≡ [] → Judges old.machine line new.machine new.refused
     → (formula : List (List Literal)) (bytes : List ℕ) → Holds old formula bytes
     → Holds new formula (bytes ++ end ++ 10 ∷ [])
-line_more old new end line none no_feed same empty j formula bytes h = record {
-  open_end = λ e. still_open old new formula bytes end line (h.open_end none) no_feed same empty
-      (subst (Judges old.machine line new.machine) e j);
-  refused = λ v e. now_refused old new formula bytes end line (h.open_end none) no_feed same empty v
-      (subst (Judges old.machine line new.machine) e j);
-}
+line_more old new end line none no_feed same empty j formula bytes h =
+    let no_feeds : IsNoFeed ((old.rest).items ++ end) =
+    All-append (λ b. (b == 10) ≡ false) (old.rest).items end
+    ((h.open_end none).unfinished) no_feed in
+    let judged : JudgesLines old.machine ((old.rest).items ++ (end ++ 10 ∷ [])) new.machine
+    new.refused = subst (λ x. JudgesLines old.machine x new.machine new.refused)
+    (append_assoc (old.rest).items end (10 ∷ []))
+    (judges_line old.machine new.machine ((old.rest).items ++ end) line new.refused no_feeds same j)
+    in
+    subst (Holds new formula) (sym (append_assoc bytes end (10 ∷ [])))
+    (lines_more old new (end ++ 10 ∷ []) none (end, refl) empty judged formula bytes h)
 
 refused_more : (v : Verdict) (formula : List (List Literal)) (bytes more : List ℕ)
     → IsRefused v formula bytes → IsRefused v formula (bytes ++ more)
@@ -122,29 +167,63 @@ taken_lengths left end line rest f e g =
     ∙ length-drop (end + 1) left in
     omega (arith, f.within)
 
+-- what is taken in turn is taken together
+pub taken_on : (old mid new : Reading) (piece left text rest : List ℕ) → HasTaken old mid piece left
+    → left ≡ text ++ rest
+    → ((formula : List (List Literal)) (bytes : List ℕ) → Holds mid formula bytes
+    → Holds new formula (bytes ++ text))
+    → HasTaken old new piece rest
+taken_on old mid new piece left text rest t split next = record {
+  taken = t.taken ++ text;
+  split = t.split ∙ ap (λ x. t.taken ++ x) split ∙ sym (append_assoc t.taken text rest);
+  holds =
+      λ formula bytes h. subst (Holds new formula) (append_assoc bytes t.taken text)
+      (next formula (bytes ++ t.taken) (t.holds formula bytes h));
+}
+
 pub taken_more : (old mid new : Reading) (piece left : List ℕ) (end : ℕ) (line rest : List ℕ)
     → HasTaken old mid piece left → IsFirstFeed left end
     → line ≡ take end left → rest ≡ take (length left - (end + 1)) (drop (end + 1) left)
     → ((formula : List (List Literal)) (bytes : List ℕ) → Holds mid formula bytes
     → Holds new formula (bytes ++ line ++ 10 ∷ []))
     → HasTaken old new piece rest
-taken_more old mid new piece left end line rest t f e g next = record {
-  taken = t.taken ++ line ++ 10 ∷ [];
-  split = t.split ∙ ap (λ x. t.taken ++ x) whole ∙ regrouped t.taken line rest;
-  holds =
-      λ formula bytes h. subst (Holds new formula) (moved bytes t.taken line)
-      (next formula (bytes ++ t.taken) (t.holds formula bytes h));
-}
+taken_more old mid new piece left end line rest t f e g next =
+    taken_on old mid new piece left (line ++ 10 ∷ []) rest t
+    (whole ∙ sym (append_assoc line (10 ∷ []) rest))
+    (λ formula bytes h. subst (Holds new formula) (append_assoc bytes line (10 ∷ []))
+    (next formula bytes h))
   where
-    regrouped : (t e r : List ℕ) → t ++ (e ++ 10 ∷ r) ≡ ((t ++ e) ++ 10 ∷ []) ++ r
-    regrouped t e r = simp append_assoc
-
-    moved : (b t e : List ℕ) → ((b ++ t) ++ e) ++ 10 ∷ [] ≡ b ++ ((t ++ e) ++ 10 ∷ [])
-    moved b t e = simp append_assoc
-
     whole : left ≡ line ++ 10 ∷ rest
     whole = f.split ∙ ap (λ x. x ++ 10 ∷ drop (end + 1) left) (sym e)
         ∙ ap (λ x. line ++ 10 ∷ x) (sym (g ∙ take_rest left (end + 1)))
+
+pub batch_lengths : (left : List ℕ) (count : ℕ) (rest : List ℕ) → count ≤ length left
+    → rest ≡ take (length left - count) (drop count left) → length left ≡ count + length rest
+batch_lengths left count rest le g =
+    let size : length rest ≡ length left - count = ap length (g ∙ take_rest left count)
+    ∙ length-drop count left in
+    omega (arith, size, le)
+
+-- the lines that were read together
+pub taken_batch : (old mid new : Reading) (piece left : List ℕ) (count : ℕ) (rest : List ℕ)
+    → HasTaken old mid piece left
+    → rest ≡ take (length left - count) (drop count left)
+    → ((formula : List (List Literal)) (bytes : List ℕ) → Holds mid formula bytes
+    → Holds new formula (bytes ++ take count left))
+    → HasTaken old new piece rest
+taken_batch old mid new piece left count rest t g next =
+    taken_on old mid new piece left (take count left) rest t
+    (sym (take-append-drop count left)
+    ∙ ap (λ x. take count left ++ x) (sym (g ∙ take_rest left count))) next
+
+pub taken_none : (old mid new : Reading) (piece left : List ℕ) (count : ℕ)
+    → HasTaken old mid piece left → count ≡ 0
+    → ((formula : List (List Literal)) (bytes : List ℕ) → Holds mid formula bytes
+    → Holds new formula (bytes ++ take count left))
+    → HasTaken old new piece left
+taken_none old mid new piece left count t zero next =
+    taken_on old mid new piece left (take count left) left t
+    (sym (ap (λ k. take k left ++ left) zero)) next
 
 pub rest_kept : (old mid new : Reading) (piece left : List ℕ) → HasTaken old mid piece left
     → mid.refused ≡ None → IsNoFeed left
@@ -194,10 +273,6 @@ holds_more r formula bytes more some h = record {
 }
 
 -- what a test for a fault says
-pub none_from_test : (o : Option Verdict) (b : Bool) → is_some o ≡ not b → b ≡ true → o ≡ None
-none_from_test None b e h = refl
-none_from_test (Some v) b e h = absurd (let t : true ≡ false = e ∙ ap not h in cc)
-
 pub some_from_test : (o : Option Verdict) (b : Bool) → is_some o ≡ not b → b ≡ false → o ≡ None → ⊥
 some_from_test o b e h none = let t : false ≡ true = sym (ap is_some none) ∙ e ∙ ap not h in cc
 

@@ -3,6 +3,8 @@ use Rattle.std.specs.Prelude.{◌≡◌, ℕ, Bool, List, [], ◌∷◌, ◌++�
 use Rattle.std.specs.Prelude.{IfSome}
 use Rattle.wcnf.specs.Literal.{Literal}
 use Rattle.wcnf.specs.Text.{token_lines, tokens_of, IsNoFeed}
+use Rattle.lrat_read.specs.declared.line.ReadLine.{ReadLine}
+use Rattle.lrat_read.specs.Batch.{AreRead}
 use Rattle.lrat_check.specs.declared.verdicts.Cause.{Cause}
 use Rattle.lrat_check.specs.declared.verdicts.Verdict.{Verdict}
 use Rattle.lrat_check.specs.declared.verdicts.Verdict.TheVariants.{No}
@@ -10,9 +12,13 @@ use Rattle.lrat_check.specs.declared.reading.Reading.{Reading}
 use Rattle.lrat_check.specs.Machine.{MachineState, verdict_after}
 use Rattle.lrat_check.specs.Verdict.{proof_verdict}
 
--- nothing, or lines that are each ended by a line feed
+-- lines that are each ended by a line feed
+abbrev pub EndsInFeed : List ℕ → Type 0
+EndsInFeed bytes = (front : List ℕ) × (bytes ≡ front ++ 10 ∷ [])
+
+-- nothing, or such lines
 abbrev pub IsEnded : List ℕ → Type 0
-IsEnded bytes = (bytes ≡ []) ⊎ ((front : List ℕ) × (bytes ≡ front ++ 10 ∷ []))
+IsEnded bytes = (bytes ≡ []) ⊎ EndsInFeed bytes
 
 -- no ended line of the bytes is faulty: the rest is what follows the last of them, and from the
 -- machine the verdict follows, whatever comes
@@ -48,6 +54,23 @@ Judges old line new None =
 Judges old line new (Some v) =
     ((cause : Cause) × (n : ℕ) × (v ≡ No cause n))
     × ((more : List (List (List ℕ))) → verdict_after old (tokens_of line ∷ more) ≡ v)
+
+-- the lines of the bytes, each of which is ended, lead on to a state, or one is the first fault
+abbrev pub JudgesLines : MachineState → List ℕ → MachineState → Option Verdict → Type 0
+JudgesLines old bytes new None =
+    (more : List ℕ)
+    → verdict_after old (token_lines (bytes ++ more)) ≡ verdict_after new (token_lines more)
+JudgesLines old bytes new (Some v) =
+    ((cause : Cause) × (n : ℕ) × (v ≡ No cause n))
+    × ((more : List ℕ) → verdict_after old (token_lines (bytes ++ more)) ≡ v)
+
+-- all but the left ones of the lines of the bytes lead on to a state
+pub record HaveJudged (old : MachineState) (bytes : List ℕ) (new : MachineState)
+    (left : List ReadLine) : Type 0 where
+  pub left_bytes : List ℕ
+  pub read : AreRead left_bytes left
+  pub leads : (more : List ℕ) → verdict_after old (token_lines (bytes ++ more))
+      ≡ verdict_after new (token_lines (left_bytes ++ more))
 
 -- all but the left part of the piece was read
 pub record HasTaken (old new : Reading) (piece left : List ℕ) : Type 0 where

@@ -14,7 +14,7 @@ use crate::hints::{Walked, leading, walk};
 use crate::rat::rat_fault;
 use crate::state::{Base, Scratch};
 use crate::verdicts::Cause;
-use lrat_read::reader::LineReader;
+use lrat_read::line::Line;
 use lrat_read::types::SignedId;
 use std::alloc::AllocError;
 use wcnf::types::Lit;
@@ -69,7 +69,7 @@ fn hints_fault(
 
 /// The first fault of an addition, if any.
 pub(crate) fn addition_fault(
-    line: &LineReader,
+    line: &Line,
     base: &mut Base,
     scratch: &mut Scratch,
 ) -> Result<Option<Cause>, AllocError>

@@ -14,6 +14,7 @@ use crate::assumed::Assumed;
 use crate::state::{Base, Scratch};
 use crate::verdicts::{Cause, Verdict};
 use lrat_live::live::LiveClauses;
+use lrat_read::line::{Line, ReadLine};
 use lrat_read::reader::LineReader;
 use lrat_read::types::{Form, SignedId};
 use std::alloc::AllocError;
@@ -70,11 +71,7 @@ fn delete_all(live: &mut LiveClauses, hints: &[SignedId]) -> Option<Cause>
 }
 
 // Adds the line's clause, if its hints allow it.
-fn add(
-    line: &LineReader,
-    base: &mut Base,
-    scratch: &mut Scratch,
-) -> Result<Option<Cause>, AllocError>
+fn add(line: &Line, base: &mut Base, scratch: &mut Scratch) -> Result<Option<Cause>, AllocError>
     requires { IsBase scratch.old.assumed.variables base.old.last base.old.live }
     ensures fault { IfOk result (λ f. IsFaultOf (live_of base.old.last base.old.live) line.now f) }
     ensures added { IfOk result (λ f. f ≡ None
@@ -95,7 +92,7 @@ fn add(
 // Does what the line says, if it may. A line without tokens is always let be.
 fn judge(
     form: Form,
-    line: &LineReader,
+    line: &Line,
     base: &mut Base,
     scratch: &mut Scratch,
 ) -> Result<Option<Cause>, AllocError>
@@ -119,6 +116,39 @@ fn judge(
         (Form::Deletion, false) => Ok(delete_all(&mut base.live, line.hints())),
         (Form::Addition, false) => add(line, base, scratch),
     }
+}
+
+// As `judge`, and counts the line.
+#[inline(always)]
+fn judge_next(
+    form: Form,
+    line: &Line,
+    base: &mut Base,
+    scratch: &mut Scratch,
+    lines: &mut u64,
+) -> Result<Option<Cause>, AllocError>
+    requires base { IsBase scratch.old.assumed.variables base.old.last base.old.live }
+    requires room { lines.old + 1 < 2 ^ 64 }
+    ensures steps { IfOk result (λ f. (ts : List (List ℕ)) → IsReadAs ts form line.now
+        → StepsTo (record {
+          clauses = base.old.live;
+          last = base.old.last;
+          ended = base.old.ended;
+          lines = lines.old;
+        }) ts f (record {
+          clauses = base.new.live;
+          last = base.new.last;
+          ended = base.new.ended;
+          lines = lines.new;
+        })) }
+    ensures lines { IfOk result (λ f. lines.new ≡ lines.old + 1) }
+    ensures base { IsBase scratch.new.assumed.variables base.new.last base.new.live }
+    ensures err_base { OnErr result (base.new ≡ base.old) }
+    ensures err_lines { OnErr result (lines.new ≡ lines.old) }
+{
+    let fault = judge(form, line, base, scratch)?;
+    *lines += 1;
+    Ok(fault)
 }
 
 impl Machine {
@@ -170,9 +200,32 @@ impl Machine {
         ensures err { OnErr result (self.new ≡ self.old) }
     {
         let form = self.reader.read(line)?;
-        let fault = judge(form, &self.reader, &mut self.base, &mut self.scratch)?;
-        self.lines += 1;
-        Ok(fault)
+        let line = self.reader.line();
+        judge_next(
+            form,
+            &line,
+            &mut self.base,
+            &mut self.scratch,
+            &mut self.lines,
+        )
+    }
+
+    /// As `step`, with a line that was read already.
+    #[inline(always)]
+    pub fn step_read(&mut self, read: &ReadLine) -> Result<Option<Cause>, AllocError>
+        requires room { self.old.lines + 1 < 2 ^ 64 }
+        ensures steps { IfOk result (λ f. (ts : List (List ℕ))
+            → IsReadAs ts read.now.form read.now.line → StepsTo self.old ts f self.new) }
+        ensures lines { IfOk result (λ f. self.new.lines ≡ self.old.lines + 1) }
+        ensures err { OnErr result (self.new ≡ self.old) }
+    {
+        judge_next(
+            read.form,
+            &read.line,
+            &mut self.base,
+            &mut self.scratch,
+            &mut self.lines,
+        )
     }
 
     /// The verdict where no further line follows.

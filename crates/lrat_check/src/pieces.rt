@@ -9,6 +9,7 @@ use crate::copies::copy_formula;
 use crate::machine::Machine;
 use crate::reading::Reading;
 use crate::verdicts::{FeedFault, Verdict};
+use lrat_read::batch::Batch;
 use std::alloc::AllocError;
 use std::marker::Model;
 use wcnf::types::Formula;
@@ -62,6 +63,7 @@ impl Checker {
                 machine: Machine::new(formula)?,
                 rest: Vec::new(alloc),
                 refused: None,
+                batch: Batch::new(alloc)?,
             },
             fed: 0,
             failed: false,

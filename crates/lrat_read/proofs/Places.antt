@@ -30,11 +30,11 @@ lead_at line first true e h = drop_more line first 0 h
     ∙ ap (λ b. b ∷ drop (first + 1) line) (eqb-true (get_or line first 0) 45 e)
 lead_at line first false e h = ap (λ k. drop k line) (omega arith)
 
-range_length : (line : List ℕ) (i j : ℕ) → i ≤ j → j ≤ length line
+pub range_length : (line : List ℕ) (i j : ℕ) → i ≤ j → j ≤ length line
     → length (slice_range line i j) ≡ j - i
 range_length line i j h l = omega (arith, length-take (j - i) (drop i line), length-drop i line)
 
-first_of_range : (line : List ℕ) (i j : ℕ) → i < j
+pub first_of_range : (line : List ℕ) (i j : ℕ) → i < j
     → get_or (slice_range line i j) 0 0 ≡ get_or line i 0
 first_of_range line i j h =
     let some : 0 < j - i = omega arith in

@@ -30,7 +30,7 @@ one_ahead t us s zero m e u h = absurd (omega arith)
 one_ahead t us s (suc n) None e u h = block_more_none t us s n u e
 one_ahead t us s (suc n) (Some (ys, rest)) e u h = block_more t us s n ys rest u e
 
-block_next : (total : Rest) (xs : Signed) (ts : List (List ℕ)) (t : List ℕ) (us : List (List ℕ))
+pub block_next : (total : Rest) (xs : Signed) (ts : List (List ℕ)) (t : List ℕ) (us : List (List ℕ))
     (s : Bool) (n : ℕ) → total ≡ ahead xs (block_of ts) → ts ≡ t ∷ us → signed_of t ≡ Some (s, n)
     → 0 < n → total ≡ ahead (xs ++ (s, n) ∷ []) (block_of us)
 block_next total xs ts t us s n sofar e u h = sofar ∙ ap (λ r. ahead xs (block_of r)) e

@@ -3,3 +3,5 @@ pub mod Packed
 pub mod Reader
 pub mod Numbers
 pub mod Blocks
+pub mod Plain
+pub mod Batch

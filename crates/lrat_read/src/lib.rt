@@ -2,7 +2,10 @@
 //! line says, read in one pass into buffers that are used again.
 #![tactic(auto)]
 
+pub mod batch;
 mod blocks;
+pub mod line;
 mod numbers;
+mod plain;
 pub mod reader;
 pub mod types;

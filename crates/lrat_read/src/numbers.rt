@@ -1,38 +1,15 @@
-// Where a number of a line begins and ends, and what it is. This is the inner loop of a check:
-// each byte of a certificate is looked at here.
-//
-// Most numbers have few digits and stand between two single spaces. `few_digits_at` reads these
-// in one pass: where nine bytes are left, no byte needs a test for the line's end, the compiler
-// unrolls the loop, and the place that is handed on is the next token's own, behind the space.
-// The last numbers of a line have the same loop with a test at each digit, and the 0 that ends the
-// line is told at once. All else is left to `any_number_at`. That took about a half off the
-// instructions of a reading of real certificates.
-// A digit is its byte less 48, wrapped, so that one test tells it from all other bytes.
-// Tried in C and left: eight digits by one chain of multiplications (28 % more instructions than
-// the loop, since most numbers have two to four digits, and no less time), a test for the line's
-// end at each digit of all numbers (23 % more), one loop for both ways with its tests behind it
-// (16 % more), room for the line's numbers reserved once (2 % less), masks of the spaces in 64
-// bytes at once (a tenth less time of a whole check at best, and none on a certificate of pigeons).
-// What is left to gain is in branches that are guessed wrong: in a check of a certificate of random
-// clauses 55 % of them lie in the reading of lines, and 41 % at the ends of hints' clauses. A C
-// checker that finds the ends of numbers by masks, with clauses padded to blocks of four literals,
-// guesses wrong less than half as often, and takes 11 to 24 % less time with as many instructions.
+// Where a number of a line begins and ends, and what it is, however the line is written. Nearly all
+// lines of a certificate are written plainly, and are read by `plain.rt` in place of this.
 ghost use Rattle.std.specs.Prelude.{◌≡◌, ◌+◌, ◌<◌, ◌≤◌, ◌↔◌, length, drop, slice_index, not, false};
-ghost use Rattle.std.specs.Prelude.{IsTrue, IfSome};
+ghost use Rattle.std.specs.Prelude.{IsTrue};
 ghost use Rattle.wcnf.specs.Text.{tokens_of, is_blank, begins_with_token};
-ghost use Rattle.lrat_read.specs.Numbers.{IsDigitsAt, IsSpaced, IsNumber, IsNumberAt};
+ghost use Rattle.lrat_read.specs.Numbers.{IsDigitsAt, IsNumber, IsNumberAt};
 ghost use Rattle.lrat_read.specs.Numbers.{IsAfterLetter};
 
 use wcnf::limits::NUMBER_LIMIT;
 
 /// Any number of so many digits fits 64 bits, and one with more is too large for an id.
 const MOST_DIGITS: usize = 19;
-
-/// The numbers of most lines have fewer digits, so that a space stands among so many bytes.
-const FEW_BYTES: usize = 8;
-
-/// The byte of the digit 0.
-const ZERO: u64 = 48;
 
 /// What stands in a line from a place on.
 #[derive(Clone, Copy, Drop)]
@@ -52,10 +29,10 @@ pub enum NumberAt {
 /// A run of digits: its value and where it ends.
 #[derive(Clone, Copy, Drop)]
 pub struct Digits {
-    // What they write in base ten, below 10^19.
-    value: u64,
-    // The place behind the last of them.
-    end: usize,
+    /// What they write in base ten, below 10^19.
+    pub value: u64,
+    /// The place behind the last of them.
+    pub end: usize,
 }
 
 #[inline(always)]
@@ -126,94 +103,10 @@ fn is_number(line: &[u8], start: usize, digits: Digits) -> bool
         && is_token_end(line, digits.end)
 }
 
-/// The 0 that stands here alone with a space after it.
-#[inline(always)]
-fn zero_at(line: &[u8], start: usize) -> Option<Digits>
-    requires { start + 1 < length line.now }
-    ensures { IfSome result (λ d. IsSpaced line.now start d) }
-{
-    let end = start + 1;
-    if line[start] == b'0' && line[end] == b' ' {
-        return Some(Digits { value: 0, end });
-    }
-    None
-}
-
-/// The number that stands with a space after it in the bytes from here on, of which the line has so
-/// many. `None` says nothing of the line.
-#[inline(always)]
-fn few_digits_at(line: &[u8], start: usize, bytes: usize) -> Option<Digits>
-    requires few { (1 < bytes) × (bytes ≤ 8) }
-    requires within { start + bytes ≤ length line.now }
-    ensures { IfSome result (λ d. IsSpaced line.now start d) }
-{
-    let mut value = u64::from(line[start]).wrapping_sub(ZERO);
-    if value == 0 || value > 9 {
-        return zero_at(line, start);
-    }
-    let mut count = 1;
-    while count < bytes {
-        let byte = line[start + count];
-        let digit = u64::from(byte).wrapping_sub(ZERO);
-        if digit > 9 {
-            if byte == b' ' {
-                let end = start + count;
-                return Some(Digits { value, end });
-            }
-            return None;
-        }
-        value = 10 * value + digit;
-        count += 1;
-    }
-    None
-}
-
-/// As `number_at`, where the number has few digits and a space after it, within so many bytes
-/// behind a dash. `None` says nothing of the line.
-#[inline(always)]
-fn spaced_number_at(line: &[u8], at: usize, bytes: usize) -> Option<NumberAt>
-    requires few { (1 < bytes) × (bytes ≤ 8) }
-    requires within { at + 1 + bytes ≤ length line.now }
-    ensures { IfSome result (λ n. IsNumberAt line.now at n) }
-{
-    let is_dashed = line[at] == b'-';
-    let digits = few_digits_at(line, at + usize::from(is_dashed), bytes)?;
-    Some(NumberAt::Number {
-        is_dashed,
-        value: digits.value,
-        end: digits.end + 1,
-    })
-}
-
-/// The number that begins at a place, or after the blanks there.
+/// The number that begins at a place, or after the blanks there. The blanks after it are passed
+/// over, so that the next one begins at its place.
 #[inline(always)]
 pub fn number_at(line: &[u8], at: usize) -> NumberAt
-    requires { at ≤ length line.now }
-    ensures { IsNumberAt line.now at result }
-{
-    let left = line.len() - at;
-    if left > FEW_BYTES {
-        if let Some(number) = spaced_number_at(line, at, FEW_BYTES) {
-            return number;
-        }
-    } else if left > 2 {
-        if let Some(number) = spaced_number_at(line, at, left - 1) {
-            return number;
-        }
-    } else if left == 1 && line[at] == b'0' {
-        return NumberAt::Number {
-            is_dashed: false,
-            value: 0,
-            end: at + 1,
-        };
-    }
-    any_number_at(line, at)
-}
-
-/// As `number_at`, whatever stands there. The blanks after the number are passed over, so that
-/// the next one begins at its place.
-#[inline(always)]
-fn any_number_at(line: &[u8], at: usize) -> NumberAt
     requires { at ≤ length line.now }
     ensures { IsNumberAt line.now at result }
 {

@@ -4,6 +4,7 @@ ghost use Rattle.wcnf.specs.Text.{tokens_of};
 ghost use Rattle.lrat_read.specs.Reader.{IsReadAs, IsAdditionRead, IsDeletionRead};
 
 use crate::blocks::{has_dash, read_last, read_lits};
+use crate::line::Line;
 use crate::numbers::{NumberAt, after_letter, number_at};
 use crate::types::{Form, SignedId};
 use std::alloc::{AllocError, Global};
@@ -107,32 +108,10 @@ impl LineReader {
         Ok(Form::Deletion)
     }
 
-    /// The leading number of the line, below 2^62.
-    pub fn id(&self) -> u64
-        ensures id { result ≡ self.now.id }
-        ensures small { result < 2 ^ 62 }
+    /// What was read of the last line.
+    pub fn line(&self) -> Line<'_>
+        ensures { result ≡ self.now }
     {
-        self.id
-    }
-
-    /// The literals of an addition, in their order, unless `is_large` says otherwise.
-    pub fn lits(&self) -> &[Lit]
-        ensures { result.now ≡ self.now.clause }
-    {
-        &self.lits
-    }
-
-    /// Whether an addition has a variable of 2^27 or more; then `lits` is not its clause.
-    pub fn is_large(&self) -> bool
-        ensures { result ≡ self.now.is_large }
-    {
-        self.is_large
-    }
-
-    /// The hints of an addition or the ids of a deletion, in their order.
-    pub fn hints(&self) -> &[SignedId]
-        ensures { result.now ≡ self.now.hints }
-    {
-        &self.hints
+        Line::new(self.id, &self.lits, self.is_large, &self.hints)
     }
 }

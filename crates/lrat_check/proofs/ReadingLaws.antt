@@ -1,0 +1,87 @@
+-- Lines that were read together: what holds after one of them more, and after all.
+use Rattle.std.proofs.Common.{◌≡◌, ℕ, ◌+◌, ◌<◌, ◌≤◌, List, [], ◌∷◌, ◌++◌, length}
+use Rattle.std.proofs.Common.{Option, Some, None, sym, ◌∙◌, ap, subst}
+use Rattle.std.proofs.Common.{arith, append_assoc, length-append}
+use Rattle.std.specs.Str.Lines.{strip_carriage_return}
+use Rattle.wcnf.specs.Text.{token_lines, tokens_of}
+use Rattle.lrat_read.specs.Batch.{AreRead, IsFirstRead}
+use Rattle.lrat_read.specs.Reader.{IsReadAs}
+use Rattle.lrat_read.specs.declared.line.ReadLine.{ReadLine}
+use Rattle.lrat_check.specs.declared.verdicts.Verdict.{Verdict}
+use Rattle.lrat_check.specs.Machine.{MachineState, verdict_after}
+use Rattle.lrat_check.specs.Pieces.{Judges, JudgesLines, HaveJudged, EndsInFeed}
+use Rattle.lrat_check.proofs.PieceLaws.{verdict_first}
+
+abbrev pub JudgesRead : MachineState → ReadLine → MachineState → Option Verdict → Type 0
+JudgesRead old r new f =
+    (line : List ℕ) → IsReadAs (tokens_of line) r.form r.line → Judges old line new f
+
+module _ (old mid new : MachineState) (bytes : List ℕ) (r : ReadLine) (rs : List ReadLine)
+    (h : HaveJudged old bytes mid (r ∷ rs)) where
+  abbrev after : List ℕ
+  after = (h.read).0
+
+  abbrev front : IsFirstRead h.left_bytes r after
+  front = (h.read).1
+
+  to_first : (more : List ℕ) → verdict_after old (token_lines (bytes ++ more))
+      ≡ verdict_after mid (tokens_of (strip_carriage_return front.line)
+      ∷ token_lines (after ++ more))
+  to_first more =
+      h.leads more
+      ∙ ap (λ x. verdict_after mid (token_lines (x ++ more))) front.split
+      ∙ ap (λ x. verdict_after mid (token_lines x)) (append_assoc front.line (10 ∷ after) more)
+      ∙ verdict_first mid front.line (after ++ more) front.no_feed
+
+  one_more : JudgesRead mid r new None → HaveJudged old bytes new rs
+  one_more j = record {
+    left_bytes = after;
+    read = (h.read).2;
+    leads = λ more. to_first more
+        ∙ j (strip_carriage_return front.line) front.read (token_lines (after ++ more));
+  }
+
+  one_faulty : (v : Verdict) → JudgesRead mid r new (Some v) → JudgesLines old bytes new (Some v)
+  one_faulty v j =
+      let fault = j (strip_carriage_return front.line) front.read in
+      (fault.0, λ more. to_first more ∙ fault.1 (token_lines (after ++ more)))
+
+pub judged_more : (old mid new : MachineState) (bytes : List ℕ) (r : ReadLine)
+    (all rs : List ReadLine) → all ≡ r ∷ rs → (f : Option Verdict) → f ≡ None
+    → JudgesRead mid r new f → HaveJudged old bytes mid all → HaveJudged old bytes new rs
+judged_more old mid new bytes r all rs e f none j h =
+    one_more old mid new bytes r rs (subst (HaveJudged old bytes mid) e h)
+    (subst (JudgesRead mid r new) none j)
+
+pub judged_fault : (old mid new : MachineState) (bytes : List ℕ) (r : ReadLine)
+    (all rs : List ReadLine) → all ≡ r ∷ rs → (f : Option Verdict) (v : Verdict) → f ≡ Some v
+    → JudgesRead mid r new f → HaveJudged old bytes mid all → JudgesLines old bytes new (Some v)
+judged_fault old mid new bytes r all rs e f v some j h =
+    one_faulty old mid new bytes r rs (subst (HaveJudged old bytes mid) e h) v
+    (subst (JudgesRead mid r new) some j)
+
+-- each line has a line feed
+pub lines_within : (bytes : List ℕ) (rs : List ReadLine) → AreRead bytes rs
+    → length rs ≤ length bytes
+lines_within bytes [] h = omega arith
+lines_within bytes (r ∷ rs) (others, line, read) =
+    let more = lines_within others rs read in
+    let size : length bytes ≡ length line.line + length (10 ∷ others) = ap length line.split
+    ∙ length-append line.line (10 ∷ others) in
+    omega (arith, more, size)
+
+ends_after : (bytes front others : List ℕ) → bytes ≡ front ++ 10 ∷ others
+    → (0 < length others → EndsInFeed others) → EndsInFeed bytes
+ends_after bytes front [] split h = (front, split)
+ends_after bytes front (b ∷ bs) split h =
+    let e = h (omega arith) in (
+      front ++ 10 ∷ e.0,
+      split ∙ ap (λ x. front ++ 10 ∷ x) e.1
+          ∙ sym (append_assoc front (10 ∷ e.0) (10 ∷ [])),
+    )
+
+pub read_ends : (bytes : List ℕ) (rs : List ReadLine) → AreRead bytes rs → 0 < length bytes
+    → EndsInFeed bytes
+read_ends bytes [] h some = absurd (let none : length bytes ≡ 0 = ap length h in omega arith)
+read_ends bytes (r ∷ rs) (others, line, read) some =
+    ends_after bytes line.line others line.split (read_ends others rs read)

@@ -1,0 +1,20 @@
+-- The number that leads the line.
+use Rattle.std.proofs.Common.{false, arith, sym}
+use Rattle.lrat_read.proofs.PlainLaws.{plain_number, plain_undashed}
+use Rattle.lrat_read.proofs.plain.plain_line.Goals as goal
+
+pub plain_deletion-requires-clause-number : goal.plain_deletion-requires-clause-number
+plain_deletion-requires-clause-number c =
+    let line = c.args.line.now in
+    let lead = c.in_ok-lead.lead in
+    (plain_number line 0 false lead c.requires.feed
+    (sym (plain_undashed line 0 lead c.in_ok-lead.ensures)) c.in_ok-lead.ensures
+    (omega (arith, c.if-line-lead-ne32.false))).1
+
+pub plain_addition-requires-clause-number : goal.plain_addition-requires-clause-number
+plain_addition-requires-clause-number c =
+    let line = c.args.line.now in
+    let lead = c.in_ok-lead.lead in
+    (plain_number line 0 false lead c.requires.feed
+    (sym (plain_undashed line 0 lead c.in_ok-lead.ensures)) c.in_ok-lead.ensures
+    (omega (arith, c.if-line-lead-ne32.false))).1
