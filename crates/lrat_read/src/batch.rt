@@ -13,7 +13,7 @@ use std::marker::Model;
 use wcnf::pieces::line_feed_at;
 use wcnf::types::Lit;
 
-/// So many literals, and so many hints, of lines that are read together.
+/// At most so many literals, and so many hints, are held of lines that are read together.
 const ROOM: usize = 16_384;
 
 /// The lines that were read together, in buffers that are used again.
@@ -49,18 +49,20 @@ struct NextLine {
     end: usize,
 }
 
-/// Room for so many literals.
-fn room_for_lits(alloc: Global, count: usize) -> Result<Vec<Lit>, AllocError>
-    ensures { IfOk result (λ room. length room.items ≡ count) }
-{
-    Vec::from_elem(alloc, Lit::new(1, false), count)
-}
-
-/// Room for so many hints.
-fn room_for_hints(alloc: Global, count: usize) -> Result<Vec<SignedId>, AllocError>
-    ensures { IfOk result (λ room. length room.items ≡ count) }
-{
-    Vec::from_elem(alloc, SignedId::new(1, false), count)
+/// Makes room for the numbers of a text of so many bytes, though not for more than `ROOM`.
+fn make_room(
+    lits: &mut Vec<Lit>,
+    hints: &mut Vec<SignedId>,
+    bytes: usize,
+) -> Result<(), AllocError> {
+    let count = if bytes / 2 < ROOM { bytes / 2 } else { ROOM };
+    if lits.len() < count {
+        lits.resize(count, Lit::new(1, false))?;
+    }
+    if hints.len() < count {
+        hints.resize(count, SignedId::new(1, false))?;
+    }
+    Ok(())
 }
 
 /// Whether each number of a line finds room in a buffer of which so much is used: a number takes
@@ -102,7 +104,7 @@ fn next_line(
 }
 
 impl Batch {
-    /// No lines, in buffers of a fixed size.
+    /// No lines. The buffers grow with the first texts, up to a fixed size.
     ///
     /// # Errors
     ///
@@ -112,8 +114,8 @@ impl Batch {
     {
         Ok(Batch {
             spans: Vec::new(alloc),
-            lits: room_for_lits(alloc, ROOM)?,
-            hints: room_for_hints(alloc, ROOM)?,
+            lits: Vec::new(alloc),
+            hints: Vec::new(alloc),
         })
     }
 
@@ -150,6 +152,7 @@ impl Batch {
         ensures read { IfOk result (λ count. AreRead (take count text.now) self.new) }
     {
         self.spans.clear();
+        make_room(&mut self.lits, &mut self.hints, text.len())?;
         let mut used = Used { lits: 0, hints: 0 };
         let mut at = 0;
         while let Some(next) = next_line(&mut self.lits, &mut self.hints, used, text, at) {
