@@ -5,7 +5,7 @@ use Rattle.std.proofs.Common.{get_or-set_other, get_or-set_same, length-drop, le
 use Rattle.std.proofs.Common.{take-take, subst}
 use Rattle.std.specs.Prelude.{replicate, slice_set, slice_range}
 use Rattle.std.proofs.lemmas.List.{length-set, length-map, length-take-le, get_or-take, get_or-drop}
-use Rattle.std.proofs.lemmas.List.{get_or-map, ext_get_or, map-set, set-get_or}
+use Rattle.std.proofs.lemmas.List.{get_or-map, ext_get_or, map-set, set-get_or, get_or_read}
 use Rattle.std.proofs.lemmas.Bool.{cases_eq}
 use Rattle.std.proofs.Math.ListN.{get_or-append}
 use Rattle.std.proofs.Math.Seq.{get_or-append_seam}
@@ -93,20 +93,8 @@ rows_set b rows used laid i k e li lk =
           ∙ get_or-map (row_of b) rows j no_head [] lj)
     ])
 
--- the length of a row
-pub long_row : (b : List Entry) (rows : List Head) (used : ℕ) → IsLaid b rows used → (i : ℕ)
-    → i < length rows → length (get_or (rows_of b rows) i []) ≡ (get_or rows i no_head).length
-long_row b rows used laid i li =
-    let fiti : (get_or rows i no_head).start + (get_or rows i no_head).length ≤ length b =
-    omega (arith, laid.used_fits, laid.filled i li, laid.inside i li) in
-    ap length (get_or-map (row_of b) rows i no_head [] li)
-    ∙ long_range b (get_or rows i no_head).start (get_or rows i no_head).length fiti
-
-pub long_rows : (b : List Entry) (rows : List Head) → length (rows_of b rows) ≡ length rows
-long_rows b rows = length-map rows (row_of b)
-
 -- a place in the room of a row stands in the block
-pub room_fits : (b : List Entry) (rows : List Head) (used : ℕ) → IsLaid b rows used → (i : ℕ)
+room_fits : (b : List Entry) (rows : List Head) (used : ℕ) → IsLaid b rows used → (i : ℕ)
     → i < length rows → (r : Head) → r ≡ get_or rows i no_head → (k : ℕ) → k < r.room
     → (r.start + k < length b) × (r.start + k < 2 ^ 63)
 room_fits b rows used laid i li r is k lt =
@@ -116,20 +104,47 @@ room_fits b rows used laid i li r is k lt =
       omega (arith, laid.inside i li, laid.small, start, room, lt),
     )
 
--- the place of an entry of a row stands in the block
-pub entry_fits : (b : List Entry) (rows : List Head) (used : ℕ) → IsLaid b rows used → (i : ℕ)
-    → i < length rows → (r : Head) → r ≡ get_or rows i no_head → (k : ℕ)
-    → k < length (get_or (rows_of b rows) i [])
-    → (r.start + k < length b) × (r.start + k < 2 ^ 63)
-entry_fits b rows used laid i li r is k lt =
-    room_fits b rows used laid i li r is k
-    (omega (
-      arith,
-      laid.filled i li,
-      long_row b rows used laid i li,
-      ap (λ (h : Head). h.room) is,
-      lt,
-    ))
+-- `seen` is what the rows are to callers
+module _ (b : List Entry) (rows : List Head) (seen : List (List Entry))
+    (same : rows_of b rows ≡ seen) (i : ℕ) (lt : i < length seen) where
+  -- a row has its head
+  pub row_there : i < length rows
+  row_there = omega (arith, length-map rows (row_of b), ap length same)
+
+  -- the head of a row, as an index reads it
+  pub head_read : (r : Head) → r ≡ get_or rows i r → r ≡ get_or rows i no_head
+  head_read r read = get_or_read rows i r row_there read no_head
+
+module _ (b : List Entry) (rows : List Head) (used : ℕ) (laid : IsLaid b rows used)
+    (seen : List (List Entry)) (same : rows_of b rows ≡ seen) (i : ℕ) (lt : i < length seen) where
+  -- the length of a row
+  pub long_row : length (get_or seen i []) ≡ (get_or rows i no_head).length
+  long_row =
+      let li : i < length rows = row_there b rows seen same i lt in
+      let fits : (get_or rows i no_head).start + (get_or rows i no_head).length ≤ length b =
+      omega (arith, laid.used_fits, laid.filled i li, laid.inside i li) in
+      ap (λ s. length (get_or s i [])) (sym same)
+      ∙ ap length (get_or-map (row_of b) rows i no_head [] li)
+      ∙ long_range b (get_or rows i no_head).start (get_or rows i no_head).length fits
+
+  module _ (r : Head) (read : r ≡ get_or rows i r) where
+    -- the place of an entry of a row stands in the block
+    pub entry_fits : (k : ℕ) → k < length (get_or seen i [])
+        → (r.start + k < length b) × (r.start + k < 2 ^ 63)
+    entry_fits k lk =
+        let li : i < length rows = row_there b rows seen same i lt in
+        let is : r ≡ get_or rows i no_head = head_read b rows seen same i lt r read in
+        room_fits b rows used laid i li r is k
+        (omega (arith, laid.filled i li, long_row, ap (λ (h : Head). h.room) is, lk))
+
+    -- so does the place behind its last one, where there is room left
+    pub next_fits : r.length ≢ r.room
+        → (r.start + r.length < length b) × (r.start + r.length < 2 ^ 63)
+    next_fits left =
+        let li : i < length rows = row_there b rows seen same i lt in
+        let is : r ≡ get_or rows i no_head = head_read b rows seen same i lt r read in
+        let filled : r.length ≤ r.room = rw is (laid.filled i li) in
+        room_fits b rows used laid i li r is r.length (omega arith)
 
 pub rows_truncate : (b : List Entry) (rows : List Head) (used : ℕ) → IsLaid b rows used
     → (i n : ℕ) (r : Head) → i < length rows → r.start ≡ (get_or rows i no_head).start

@@ -1,20 +1,20 @@
 use Rattle.std.proofs.Common.{◌≡◌, ◌<◌, ◌≤◌, length, get_or, ap, arith, refl}
-use Rattle.std.proofs.lemmas.List.{get_or_read}
 use Rattle.watches.specs.PoolLayout.{no_head}
 use Rattle.watches.specs.declared.pool.Head.{Head}
-use Rattle.watches.proofs.Laid.{long_rows, room_fits, rows_put}
+use Rattle.watches.proofs.Laid.{head_read, next_fits, row_there, rows_put}
 use Rattle.watches.proofs.pool.WatchPool.put.Goals as goal
 
 pub returns-clause-added : goal.returns-clause-added
 returns-clause-added c _ =
     let i = c.self.inside in let laid = c.self.invariant in
     let li : c.args.row < length i.heads.items =
-    omega (arith, long_rows i.block i.heads.items, ap length c.self.view_is) in
+    row_there i.block i.heads.items _ c.self.view_is c.args.row c.requires in
     let is : c.index.result.now ≡ get_or i.heads.items c.args.row no_head =
-    get_or_read i.heads.items c.args.row c.index.result.now li c.index.ensures no_head in
+    head_read i.block i.heads.items _ c.self.view_is c.args.row c.requires c.index.result.now
+    c.index.ensures in
     let is' : c.index_mut.result.now ≡ get_or i.heads.items c.args.row no_head =
-    get_or_read i.heads.items c.args.row c.index_mut.result.now li c.index_mut.ensures.value
-    no_head in
+    head_read i.block i.heads.items _ c.self.view_is c.args.row c.requires c.index_mut.result.now
+    c.index_mut.ensures.value in
     let room : (get_or i.heads.items c.args.row no_head).length
     < (get_or i.heads.items c.args.row no_head).room =
     rw (← is) (let f : c.index.result.now.length ≤ c.index.result.now.room = rw is
@@ -30,34 +30,22 @@ returns-clause-added c _ =
 pub index-requires : goal.index-requires
 index-requires c =
     let i = c.self.inside in
-    omega (arith, long_rows i.block i.heads.items, ap length c.self.view_is)
+    omega (arith, row_there i.block i.heads.items _ c.self.view_is c.args.row c.requires)
 
 pub overflow_add-start : goal.overflow_add-start
 overflow_add-start c =
-    let i = c.self.inside in let laid = c.self.invariant in
-    let li : c.args.row < length i.heads.items =
-    omega (arith, long_rows i.block i.heads.items, ap length c.self.view_is) in
-    let is : c.index.result.now ≡ get_or i.heads.items c.args.row no_head =
-    get_or_read i.heads.items c.args.row c.index.result.now li c.index.ensures no_head in
-    let lt : c.index.result.now.length < c.index.result.now.room =
-    omega (arith, ap (λ (r : Head). r.length) is, ap (λ (r : Head). r.room) is) in
+    let i = c.self.inside in
     omega (
       arith,
-      room_fits i.block i.heads.items i.used laid c.args.row li c.index.result.now is
-          c.index.result.now.length lt,
+      next_fits i.block i.heads.items i.used c.self.invariant _ c.self.view_is c.args.row
+          c.requires c.index.result.now c.index.ensures (omega arith),
     )
 
 pub set-requires : goal.set-requires
 set-requires c =
-    let i = c.self.inside in let laid = c.self.invariant in
-    let li : c.args.row < length i.heads.items =
-    omega (arith, long_rows i.block i.heads.items, ap length c.self.view_is) in
-    let is : c.index.result.now ≡ get_or i.heads.items c.args.row no_head =
-    get_or_read i.heads.items c.args.row c.index.result.now li c.index.ensures no_head in
-    let lt : c.index.result.now.length < c.index.result.now.room =
-    omega (arith, ap (λ (r : Head). r.length) is, ap (λ (r : Head). r.room) is) in
+    let i = c.self.inside in
     omega (
       arith,
-      room_fits i.block i.heads.items i.used laid c.args.row li c.index.result.now is
-          c.index.result.now.length lt,
+      next_fits i.block i.heads.items i.used c.self.invariant _ c.self.view_is c.args.row
+          c.requires c.index.result.now c.index.ensures (omega arith),
     )

@@ -1,54 +1,43 @@
-use Rattle.std.proofs.Common.{◌≡◌, ◌<◌, [], length, get_or, ap, sym, arith}
-use Rattle.std.proofs.lemmas.List.{get_or_read}
-use Rattle.watches.specs.PoolLayout.{no_head, rows_of}
-use Rattle.watches.proofs.Laid.{entry_fits, rows_set, long_row, long_rows}
+use Rattle.std.proofs.Common.{◌≡◌, ◌<◌, length, get_or, arith}
+use Rattle.watches.specs.PoolLayout.{no_head}
+use Rattle.watches.proofs.Laid.{entry_fits, head_read, long_row, row_there, rows_set}
 use Rattle.watches.proofs.pool.WatchPool.set.Goals as goal
 
 pub returns : goal.returns
 returns c =
     let i = c.self.inside in let laid = c.self.invariant in
     let li : c.args.row < length i.heads.items =
-    omega (arith, long_rows i.block i.heads.items, ap length c.self.view_is) in
-    let is : get_or i.heads.items c.args.row no_head ≡ c.index.result.now =
-    sym (get_or_read i.heads.items c.args.row c.index.result.now li c.index.ensures no_head) in
+    row_there i.block i.heads.items _ c.self.view_is c.args.row c.requires.row in
+    let is : c.index.result.now ≡ get_or i.heads.items c.args.row no_head =
+    head_read i.block i.heads.items _ c.self.view_is c.args.row c.requires.row c.index.result.now
+    c.index.ensures in
     let lk : c.args.i < (get_or i.heads.items c.args.row no_head).length =
     omega (
       arith,
-      long_row i.block i.heads.items i.used laid c.args.row li,
-      ap (λ v. length (get_or v c.args.row [])) c.self.view_is,
+      long_row i.block i.heads.items i.used laid _ c.self.view_is c.args.row c.requires.row,
     ) in
-    rw (c.set.ensures, ← is, ← c.self.view_is)
+    rw (c.set.ensures, is, ← c.self.view_is)
     (rows_set i.block i.heads.items i.used laid c.args.row c.args.i c.args.entry li lk)
 
 pub index-requires : goal.index-requires
 index-requires c =
     let i = c.self.inside in
-    omega (arith, long_rows i.block i.heads.items, ap length c.self.view_is)
+    omega (arith, row_there i.block i.heads.items _ c.self.view_is c.args.row c.requires.row)
 
 pub overflow_add-start : goal.overflow_add-start
 overflow_add-start c =
-    let i = c.self.inside in let laid = c.self.invariant in
-    let li : c.args.row < length i.heads.items =
-    omega (arith, long_rows i.block i.heads.items, ap length c.self.view_is) in
-    let is : c.index.result.now ≡ get_or i.heads.items c.args.row no_head =
-    get_or_read i.heads.items c.args.row c.index.result.now li c.index.ensures no_head in
-    let lt : c.args.i < length (get_or (rows_of i.block i.heads.items) c.args.row []) =
-    omega (arith, ap (λ v. length (get_or v c.args.row [])) c.self.view_is) in
+    let i = c.self.inside in
     omega (
       arith,
-      entry_fits i.block i.heads.items i.used laid c.args.row li c.index.result.now is c.args.i lt,
+      entry_fits i.block i.heads.items i.used c.self.invariant _ c.self.view_is c.args.row
+          c.requires.row c.index.result.now c.index.ensures c.args.i c.requires.place,
     )
 
 pub set-requires : goal.set-requires
 set-requires c =
-    let i = c.self.inside in let laid = c.self.invariant in
-    let li : c.args.row < length i.heads.items =
-    omega (arith, long_rows i.block i.heads.items, ap length c.self.view_is) in
-    let is : c.index.result.now ≡ get_or i.heads.items c.args.row no_head =
-    get_or_read i.heads.items c.args.row c.index.result.now li c.index.ensures no_head in
-    let lt : c.args.i < length (get_or (rows_of i.block i.heads.items) c.args.row []) =
-    omega (arith, ap (λ v. length (get_or v c.args.row [])) c.self.view_is) in
+    let i = c.self.inside in
     omega (
       arith,
-      entry_fits i.block i.heads.items i.used laid c.args.row li c.index.result.now is c.args.i lt,
+      entry_fits i.block i.heads.items i.used c.self.invariant _ c.self.view_is c.args.row
+          c.requires.row c.index.result.now c.index.ensures c.args.i c.requires.place,
     )

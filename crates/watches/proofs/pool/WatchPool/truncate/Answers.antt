@@ -1,23 +1,21 @@
-use Rattle.std.proofs.Common.{◌≡◌, ◌<◌, ◌≤◌, [], length, get_or, ap, arith, refl}
-use Rattle.std.proofs.lemmas.List.{get_or_read}
+use Rattle.std.proofs.Common.{◌≡◌, ◌<◌, ◌≤◌, length, get_or, ap, arith, refl}
 use Rattle.watches.specs.PoolLayout.{no_head}
 use Rattle.watches.specs.declared.pool.Head.{Head}
-use Rattle.watches.proofs.Laid.{rows_truncate, long_row, long_rows}
+use Rattle.watches.proofs.Laid.{head_read, long_row, row_there, rows_truncate}
 use Rattle.watches.proofs.pool.WatchPool.truncate.Goals as goal
 
 pub returns-then-len-index : goal.returns-then-len-index
 returns-then-len-index c =
     let i = c.self.inside in let laid = c.self.invariant in
     let li : c.args.row < length i.heads.items =
-    omega (arith, long_rows i.block i.heads.items, ap length c.self.view_is) in
+    row_there i.block i.heads.items _ c.self.view_is c.args.row c.requires.row in
     let is : c.index_mut.result.now ≡ get_or i.heads.items c.args.row no_head =
-    get_or_read i.heads.items c.args.row c.index_mut.result.now li c.index_mut.ensures.value
-    no_head in
+    head_read i.block i.heads.items _ c.self.view_is c.args.row c.requires.row
+    c.index_mut.result.now c.index_mut.ensures.value in
     let lk : c.args.len ≤ (get_or i.heads.items c.args.row no_head).length =
     omega (
       arith,
-      long_row i.block i.heads.items i.used laid c.args.row li,
-      ap (λ v. length (get_or v c.args.row [])) c.self.view_is,
+      long_row i.block i.heads.items i.used laid _ c.self.view_is c.args.row c.requires.row,
       c.requires.shorter,
     ) in
     rw (← c.self.view_is) (rows_truncate i.block i.heads.items i.used laid c.args.row c.args.len _
@@ -26,4 +24,4 @@ returns-then-len-index c =
 pub index-requires : goal.index-requires
 index-requires c =
     let i = c.self.inside in
-    omega (arith, long_rows i.block i.heads.items, ap length c.self.view_is)
+    omega (arith, row_there i.block i.heads.items _ c.self.view_is c.args.row c.requires.row)
