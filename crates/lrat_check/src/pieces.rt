@@ -63,7 +63,7 @@ impl Checker {
                 machine: Machine::new(formula)?,
                 rest: Vec::new(alloc),
                 refused: None,
-                batch: Batch::new(alloc)?,
+                batch: Batch::new(alloc),
             },
             fed: 0,
             failed: false,

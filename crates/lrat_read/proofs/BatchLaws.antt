@@ -1,8 +1,7 @@
 -- Lines that are read together: a line more, and those before it.
 use Rattle.std.proofs.Common.{◌≡◌, ℕ, ◌+◌, ◌<◌, ◌≤◌, Bool, List, [], ◌∷◌, ◌++◌, length}
 use Rattle.std.proofs.Common.{take, drop, refl, sym, ◌∙◌, ap, subst, arith, append_assoc}
-use Rattle.std.proofs.Common.{slice_range, get_or}
-use Rattle.std.proofs.Common.{false}
+use Rattle.std.proofs.Common.{slice_range, get_or, false}
 use Rattle.std.proofs.lemmas.List.{take-append-drop, length-append, length-drop, length-take-le}
 use Rattle.std.proofs.lemmas.List.{drop_more, get_or-map, length-map, map-append}
 use Rattle.wcnf.proofs.Laws.{range-append}
@@ -112,33 +111,28 @@ lines_kept lits lits' hints hints' ul uh (s ∷ ss) (w, h) rl rh nl nh e f =
         }) (range_kept hints' hints uh s.hints_start s.hints_end w.hints_order w.hints
         (omega (arith, rh, nh)) rh f)
 
-pub spans_more : (a b a' b' : ℕ) (ss : List Span) (s : Span) → a ≤ a' → b ≤ b'
-    → AreSpansWithin a b ss → IsSpanWithin a' b' s → AreSpansWithin a' b' (ss ++ s ∷ [])
-spans_more a b a' b' [] s h k w v = (v, tt)
-spans_more a b a' b' (x ∷ ss) s h k (u, w) v = (
-  record {
-    lits_order = u.lits_order;
-    lits = omega (arith, u.lits, h);
-    hints_order = u.hints_order;
-    hints = omega (arith, u.hints, k);
-    small = u.small;
-  },
-  spans_more a b a' b' ss s h k w v,
-)
+-- a span lies before greater places too
+span_wider : (a b a' b' : ℕ) (s : Span) → a ≤ a' → b ≤ b' → IsSpanWithin a b s
+    → IsSpanWithin a' b' s
+span_wider a b a' b' s h k w = record {
+  lits_order = w.lits_order;
+  lits = omega (arith, w.lits, h);
+  hints_order = w.hints_order;
+  hints = omega (arith, w.hints, k);
+  small = w.small;
+}
 
 pub spans_wider : (a b a' b' : ℕ) (ss : List Span) → a ≤ a' → b ≤ b' → AreSpansWithin a b ss
     → AreSpansWithin a' b' ss
 spans_wider a b a' b' [] h k w = tt
-spans_wider a b a' b' (x ∷ ss) h k (u, w) = (
-  record {
-    lits_order = u.lits_order;
-    lits = omega (arith, u.lits, h);
-    hints_order = u.hints_order;
-    hints = omega (arith, u.hints, k);
-    small = u.small;
-  },
-  spans_wider a b a' b' ss h k w,
-)
+spans_wider a b a' b' (s ∷ ss) h k (v, w) =
+    (span_wider a b a' b' s h k v, spans_wider a b a' b' ss h k w)
+
+pub spans_more : (a b a' b' : ℕ) (ss : List Span) (s : Span) → a ≤ a' → b ≤ b'
+    → AreSpansWithin a b ss → IsSpanWithin a' b' s → AreSpansWithin a' b' (ss ++ s ∷ [])
+spans_more a b a' b' [] s h k w v = (v, tt)
+spans_more a b a' b' (x ∷ ss) s h k (u, w) v =
+    (span_wider a b a' b' x h k u, spans_more a b a' b' ss s h k w v)
 
 -- the line at a place
 pub line_at : (lits : List Literal) (hints : List (Bool × ℕ)) (ss : List Span) (place : ℕ)

@@ -12,7 +12,7 @@ use Rattle.std.proofs.lemmas.Str.Parse.{digits_value_short}
 use Rattle.wcnf.specs.Text.{is_digit, value_on}
 use Rattle.wcnf.proofs.Laws.{decimal_numerals, digit_bounds}
 use Rattle.lrat_read.specs.Numbers.{IsNumberAt}
-use Rattle.lrat_read.specs.Plain.{EndsInFeed, before_feed, IsPlainDigits}
+use Rattle.lrat_read.specs.Plain.{before_feed, IsPlainDigits, IsPastSpace}
 use Rattle.lrat_read.specs.declared.numbers.Digits.{Digits}
 use Rattle.lrat_read.specs.declared.numbers.NumberAt.TheVariants.{Number}
 use Rattle.lrat_read.proofs.Scan.{first_is_digit}
@@ -84,15 +84,13 @@ plain_undashed line at d h =
     ne_eqb (get_or line at 0) 45 (λ z. absurd (omega (arith, z, b)))
 
 -- a number with a space after it
-pub plain_number : (line : List ℕ) (at : ℕ) (s : Bool) (d : Digits) → EndsInFeed line
+pub plain_number : (line : List ℕ) (at : ℕ) (s : Bool) (d : Digits) (next : ℕ)
     → s ≡ (get_or line at 0 == 45) → IsPlainDigits line (at + from_bool s) d
-    → get_or line d.end 0 ≡ 32
-    → (d.end + 1 < length line) × IsNumberAt (before_feed line) at (Number s d.value (d.end + 1))
-plain_number line at s d feed dash h space =
+    → IsPastSpace line d.end next → IsNumberAt (before_feed line) at (Number s d.value next)
+plain_number line at s d next dash h past =
     let start : ℕ = at + from_bool s in
     let bf : List ℕ = before_feed line in
-    let inside : d.end + 1 < length line =
-    inner_place line d.end h.within feed (λ z. absurd (omega (arith, z, space))) in
+    let inside : d.end + 1 < length line = omega (arith, past.behind, past.within) in
     let long = before_length line in
     let some = h.nonempty in
     let short = h.short in
@@ -106,10 +104,10 @@ plain_number line at s d feed dash h space =
     let run = spaced bf start d.end d.value some (omega (arith, long, inside))
     (omega (arith, short)) (ap (list_all is_digit) same ∙ h.digits)
     (h.value ∙ ap (value_on 0) (sym same)) (λ z. h.lead (sym lead ∙ z))
-    (before_at line d.end inside ∙ space) in
+    (before_at line d.end inside ∙ past.space) in
     let begins : start ≡ at + from_bool (get_or bf at 0 == 45) =
-    ap (λ (b : Bool). at + from_bool b) dashed in (
-      inside,
-      subst (λ b. IsNumberAt bf at (Number b d.value (d.end + 1))) (sym dashed)
-          (spaced_found bf at start d (omega (arith, some, long, inside)) begins run),
-    )
+    ap (λ (b : Bool). at + from_bool b) dashed in
+    let found : IsNumberAt bf at (Number s d.value (d.end + 1)) =
+    subst (λ b. IsNumberAt bf at (Number b d.value (d.end + 1))) (sym dashed)
+    (spaced_found bf at start d (omega (arith, some, long, inside)) begins run) in
+    subst (λ n. IsNumberAt bf at (Number s d.value n)) (sym past.behind) found

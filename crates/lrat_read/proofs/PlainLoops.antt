@@ -1,8 +1,7 @@
 -- The blocks of a plain line, as far as they are read into their buffers.
 use Rattle.std.proofs.Common.{◌≡◌, ℕ, ◌+◌, ◌-◌, ◌*◌, ◌<◌, ◌≤◌, List, arith, length, get_or, ap, ◌∙◌}
 use Rattle.std.proofs.Common.{sym, subst, refl, slice_range, slice_set, true, false, Bool, drop}
-use Rattle.std.proofs.Common.{take}
-use Rattle.std.proofs.Common.{[], ◌∷◌, ◌++◌, Some}
+use Rattle.std.proofs.Common.{take, [], ◌∷◌, ◌++◌, Some}
 use Rattle.std.specs.Int.{from_bool}
 use Rattle.std.specs.Prelude.{◌==◌, ◌||◌}
 use Rattle.std.specs.List.{list_any}
@@ -12,8 +11,8 @@ use Rattle.wcnf.specs.Literal.{Literal}
 use Rattle.wcnf.specs.Text.{tokens_of}
 use Rattle.lrat_read.specs.Form.{block_of, signed_of}
 use Rattle.lrat_read.specs.Numbers.{IsNumberAt}
-use Rattle.lrat_read.specs.Plain.{EndsInFeed, before_feed, IsPlainDigits, ArePlainLits, IsKept}
-use Rattle.lrat_read.specs.Plain.{ArePlainHints}
+use Rattle.lrat_read.specs.Plain.{before_feed, IsPlainDigits, IsPastSpace, ArePlainLits}
+use Rattle.lrat_read.specs.Plain.{ArePlainHints, IsKept}
 use Rattle.lrat_read.specs.declared.numbers.Digits.{Digits}
 use Rattle.lrat_read.specs.declared.numbers.NumberAt.TheVariants.{Number}
 use Rattle.lrat_read.proofs.Tokens.{Signed, Rest, block_zero}
@@ -36,43 +35,42 @@ kept_set old now from count x h k =
     (take-set-le from now count x h ∙ k.0, length-set now count x ∙ k.1)
 
 pub lits_next : (line : List ℕ) (at place : ℕ) (lits : List Literal) (from count : ℕ) (s : Bool)
-    (d : Digits) (l : Literal) → EndsInFeed line → s ≡ (get_or line place 0 == 45)
-    → IsPlainDigits line (place + from_bool s) d → get_or line d.end 0 ≡ 32 → 0 < d.value
+    (d : Digits) (next : ℕ) (l : Literal) → s ≡ (get_or line place 0 == 45)
+    → IsPlainDigits line (place + from_bool s) d → IsPastSpace line d.end next → 0 < d.value
     → from ≤ count → count < length lits → l ≡ record { variable = d.value; negated = s }
     → LitsSoFar (before_feed line) at place false (slice_range lits from count)
-    → LitsSoFar (before_feed line) at (d.end + 1) false
+    → LitsSoFar (before_feed line) at next false
     (slice_range (slice_set lits count l) from (count + 1))
-lits_next line at place lits from count s d l feed dash h space some order room same sofar =
-    let bf : List ℕ = before_feed line in
-    let p = plain_number line place s d feed dash h space in
+lits_next line at place lits from count s d next l dash h past some order room same sofar =
+    let n = plain_number line place s d next dash h past in
     let small = h.small in
-    lits_small bf at place (d.end + 1) false (slice_range lits from count)
-    (slice_range (slice_set lits count l) from (count + 1)) p.1.0 s d.value sofar p.1.1 p.1.2 some
+    lits_small (before_feed line) at place next false (slice_range lits from count)
+    (slice_range (slice_set lits count l) from (count + 1)) n.0 s d.value sofar n.1 n.2 some
     (omega (arith, small)) (range_set lits from count l order room
     ∙ ap (λ (x : Literal). slice_range lits from count ++ x ∷ []) same)
 
 pub lits_end : (line : List ℕ) (at place : ℕ) (lits : List Literal) (from count : ℕ) (s : Bool)
-    (d : Digits) → EndsInFeed line → s ≡ (get_or line place 0 == 45)
-    → IsPlainDigits line (place + from_bool s) d → get_or line d.end 0 ≡ 32 → d.value ≡ 0
+    (d : Digits) (next : ℕ) → s ≡ (get_or line place 0 == 45)
+    → IsPlainDigits line (place + from_bool s) d → IsPastSpace line d.end next → d.value ≡ 0
     → s ≡ false → from ≤ count → count ≤ length lits
     → LitsSoFar (before_feed line) at place false (slice_range lits from count)
-    → ArePlainLits line at lits from (record { end = d.end + 1; count = count })
-lits_end line at place lits from count s d feed dash h space none plain order room sofar =
+    → ArePlainLits line at lits from (record { end = next; count = count })
+lits_end line at place lits from count s d next dash h past none plain order room sofar =
     let bf : List ℕ = before_feed line in
-    let p = plain_number line place s d feed dash h space in
+    let n = plain_number line place s d next dash h past in
     let long = before_length line in
-    let z = zero_ends bf place s d.value (d.end + 1) plain none p.1 in
+    let z = zero_ends bf place s d.value next plain none n in
     let xs : Signed = sofar.numbers in
-    let rest : List (List ℕ) = tokens_of (drop (d.end + 1) bf) in
+    let rest : List (List ℕ) = tokens_of (drop next bf) in
     record {
       block = (
         xs,
         sofar.block ∙ ap (ahead xs) z ∙ ap (λ (ys : Signed). Some (ys, rest)) (append-nil xs),
-        omega (arith, long, p.0),
+        omega (arith, long, past.within),
         sofar.large,
         λ _. sofar.same refl,
       );
-      within = p.0;
+      within = past.within;
       order = order;
       room = room;
     }
@@ -99,20 +97,20 @@ AreHintsSoFar line at place hints = block_of (tokens_of (drop at line))
     ≡ ahead hints (block_of (tokens_of (drop place line)))
 
 pub hints_next : (line : List ℕ) (at place : ℕ) (hints : Signed) (from count : ℕ) (s : Bool)
-    (d : Digits) (x : Bool × ℕ) → EndsInFeed line → s ≡ (get_or line place 0 == 45)
-    → IsPlainDigits line (place + from_bool s) d → get_or line d.end 0 ≡ 32 → 0 < d.value
+    (d : Digits) (next : ℕ) (x : Bool × ℕ) → s ≡ (get_or line place 0 == 45)
+    → IsPlainDigits line (place + from_bool s) d → IsPastSpace line d.end next → 0 < d.value
     → from ≤ count → count < length hints → x ≡ (s, d.value)
     → AreHintsSoFar (before_feed line) at place (slice_range hints from count)
-    → AreHintsSoFar (before_feed line) at (d.end + 1)
+    → AreHintsSoFar (before_feed line) at next
     (slice_range (slice_set hints count x) from (count + 1))
-hints_next line at place hints from count s d x feed dash h space some order room same sofar =
+hints_next line at place hints from count s d next x dash h past some order room same sofar =
     let bf : List ℕ = before_feed line in
-    let p = plain_number line place s d feed dash h space in
-    let rest : List (List ℕ) = tokens_of (drop (d.end + 1) bf) in
+    let n = plain_number line place s d next dash h past in
+    let rest : List (List ℕ) = tokens_of (drop next bf) in
     let more = range_set hints from count x order room
     ∙ ap (λ (y : Bool × ℕ). slice_range hints from count ++ y ∷ []) same in
     block_next (block_of (tokens_of (drop at bf))) (slice_range hints from count)
-    (tokens_of (drop place bf)) p.1.0 rest s d.value sofar p.1.1 p.1.2 some
+    (tokens_of (drop place bf)) n.0 rest s d.value sofar n.1 n.2 some
     ∙ ap (λ (xs : Signed). ahead xs (block_of rest)) (sym more)
 
 pub undashed_next : (hints : Signed) (from count : ℕ) (x : Bool × ℕ) → from ≤ count

@@ -38,6 +38,12 @@ pub record IsPlainNumber (bytes : List ℕ) (at : ℕ) (n : PlainNumber) : Type 
   pub dash : n.is_dashed ≡ (slice_index bytes at == 45)
   pub digits : IsPlainDigits bytes (at + from_bool n.is_dashed) n.digits
 
+-- a space, with a byte after it, and the place of this byte
+pub record IsPastSpace (bytes : List ℕ) (at next : ℕ) : Type 0 where
+  pub space : slice_index bytes at ≡ 32
+  pub behind : next ≡ at + 1
+  pub within : next < length bytes
+
 -- the block of literals that begins at a place, and where they stand in the buffer
 pub record ArePlainLits (bytes : List ℕ) (at : ℕ) (lits : List Literal) (from : ℕ) (e : PlainLits)
     : Type 0 where

@@ -1,9 +1,8 @@
 // Lines that are read together: as many as are written plainly and find room in the buffers.
-ghost use Rattle.std.specs.Prelude.{◌≡◌, ◌+◌, ◌∷◌, [], ◌<◌, ◌≤◌, length, take, drop, IfOk};
-ghost use Rattle.std.specs.Prelude.{IfSome};
-ghost use Rattle.std.specs.Prelude.{◌*◌, ◌-◌, IsTrue};
+ghost use Rattle.std.specs.Prelude.{◌≡◌, ◌+◌, ◌-◌, ◌*◌, ◌∷◌, [], ◌<◌, ◌≤◌, length, take, drop};
+ghost use Rattle.std.specs.Prelude.{IfOk, IfSome, IsTrue};
 ghost use Rattle.lrat_read.specs.Batch.{AreRead, IsNextRead};
-ghost use Rattle.lrat_read.specs.Plain.{AreKept};
+ghost use Rattle.lrat_read.specs.Plain.{AreKept, AreSpansWithin, lines_in};
 
 use crate::line::{Line, ReadLine};
 use crate::plain::{Span, Used, plain_line};
@@ -55,7 +54,7 @@ fn make_room(
     hints: &mut Vec<SignedId>,
     bytes: usize,
 ) -> Result<(), AllocError> {
-    let count = if bytes / 2 < ROOM { bytes / 2 } else { ROOM };
+    let count = (bytes / 2).min(ROOM);
     if lits.len() < count {
         lits.resize(count, Lit::new(1, false))?;
     }
@@ -103,20 +102,45 @@ fn next_line(
     })
 }
 
+/// Reads lines from the front of the text, as `Batch::read` does, with spans for none so far.
+#[inline]
+fn read_lines(
+    spans: &mut Vec<Span>,
+    lits: &mut [Lit],
+    hints: &mut [SignedId],
+    text: &[u8],
+) -> Result<usize, AllocError>
+    requires { spans.old.items ≡ [] }
+    ensures within { IfOk result (λ count. count ≤ length text.now) }
+    ensures read { IfOk result (λ count.
+        AreRead (take count text.now) (lines_in lits.new hints.new spans.new.items)) }
+    ensures spans { AreSpansWithin (length lits.old) (length hints.old) spans.new.items }
+    ensures lits { length lits.new ≡ length lits.old }
+    ensures hints { length hints.new ≡ length hints.old }
+{
+    let mut used = Used { lits: 0, hints: 0 };
+    let mut at = 0;
+    while let Some(next) = next_line(lits, hints, used, text, at) {
+        spans.push(next.span)?;
+        used = Used {
+            lits: next.span.lits_end,
+            hints: next.span.hints_end,
+        };
+        at = next.end;
+    }
+    Ok(at)
+}
+
 impl Batch {
     /// No lines. The buffers grow with the first texts, up to a fixed size.
-    ///
-    /// # Errors
-    ///
-    /// `AllocError` where memory was refused.
-    pub fn new(alloc: Global) -> Result<Self, AllocError>
-        ensures { IfOk result (λ b. b ≡ []) }
+    pub fn new(alloc: Global) -> Self
+        ensures { result ≡ [] }
     {
-        Ok(Batch {
+        Batch {
             spans: Vec::new(alloc),
             lits: Vec::new(alloc),
             hints: Vec::new(alloc),
-        })
+        }
     }
 
     /// How many lines there are.
@@ -142,7 +166,8 @@ impl Batch {
 
     /// Reads lines from the front of the text, in place of those before: up to the first that is
     /// not written plainly, that has no line feed, or for which there is no room. Answers how many
-    /// bytes they take with their line feeds.
+    /// bytes they take with their line feeds. How many lines are read is a matter of time alone:
+    /// none would be a right answer too.
     ///
     /// # Errors
     ///
@@ -153,16 +178,6 @@ impl Batch {
     {
         self.spans.clear();
         make_room(&mut self.lits, &mut self.hints, text.len())?;
-        let mut used = Used { lits: 0, hints: 0 };
-        let mut at = 0;
-        while let Some(next) = next_line(&mut self.lits, &mut self.hints, used, text, at) {
-            self.spans.push(next.span)?;
-            used = Used {
-                lits: next.span.lits_end,
-                hints: next.span.hints_end,
-            };
-            at = next.end;
-        }
-        Ok(at)
+        read_lines(&mut self.spans, &mut self.lits, &mut self.hints, text)
     }
 }

@@ -16,8 +16,8 @@ ghost use Rattle.std.specs.Prelude.{◌≡◌, ◌+◌, ◌<◌, ◌≤◌, List
 ghost use Rattle.wcnf.specs.Literal.{Literal};
 ghost use Rattle.lrat_read.specs.Numbers.{IsNumberAt};
 ghost use Rattle.lrat_read.specs.Plain.{EndsInFeed, before_feed, IsPlainDigits, IsPlainNumber};
-ghost use Rattle.lrat_read.specs.Plain.{ArePlainLits, ArePlainHints, HasRoomFrom, HasRoom, IsKept};
-ghost use Rattle.lrat_read.specs.Plain.{AreKept, IsPlainLine};
+ghost use Rattle.lrat_read.specs.Plain.{IsPastSpace, ArePlainLits, ArePlainHints, HasRoomFrom};
+ghost use Rattle.lrat_read.specs.Plain.{HasRoom, IsKept, AreKept, IsPlainLine};
 ghost use Rattle.lrat_read.specs.declared.numbers.NumberAt.TheVariants.{Number};
 
 use crate::numbers::Digits;
@@ -135,6 +135,16 @@ fn plain_hint(line: &[u8], at: usize) -> Option<PlainNumber>
     })
 }
 
+/// The place behind the space that stands here.
+#[inline(always)]
+fn past_space(line: &[u8], at: usize) -> Option<usize>
+    requires within { at < length line.now }
+    requires feed { EndsInFeed line.now }
+    ensures { IfSome result (λ next. IsPastSpace line.now at next) }
+{
+    if line[at] == b' ' { Some(at + 1) } else { None }
+}
+
 /// Reads the literals from a place on, into the buffer from `from` on.
 #[inline(always)]
 fn plain_lits(lits: &mut [Lit], from: usize, line: &[u8], at: usize) -> Option<PlainLits>
@@ -148,19 +158,16 @@ fn plain_lits(lits: &mut [Lit], from: usize, line: &[u8], at: usize) -> Option<P
     let mut count = from;
     loop {
         let number = plain_literal(line, place)?;
-        let digits = number.digits;
-        if line[digits.end] != b' ' {
-            return None;
-        }
-        place = digits.end + 1;
-        if digits.value == 0 {
+        let value = number.digits.value;
+        place = past_space(line, number.digits.end)?;
+        if value == 0 {
             return if number.is_dashed {
                 None
             } else {
                 Some(PlainLits { end: place, count })
             };
         }
-        lits[count] = Lit::new(digits.value as u32, number.is_dashed);
+        lits[count] = Lit::new(value as u32, number.is_dashed);
         count += 1;
     }
 }
@@ -191,10 +198,10 @@ fn plain_hints(
             let is_last = !number.is_dashed && digits.end + 1 == line.len();
             return if is_last { Some(count) } else { None };
         }
-        if line[digits.end] != b' ' || number.is_dashed && is_deletion {
+        if number.is_dashed && is_deletion {
             return None;
         }
-        place = digits.end + 1;
+        place = past_space(line, digits.end)?;
         hints[count] = SignedId::new(digits.value, number.is_dashed);
         count += 1;
     }
@@ -207,21 +214,21 @@ fn plain_addition(
     hints: &mut [SignedId],
     used: Used,
     line: &[u8],
-    lead: Digits,
+    id: u64,
+    at: usize,
 ) -> Option<Span>
-    requires within { lead.end + 1 < length line.now }
+    requires within { at < length line.now }
     requires feed { EndsInFeed line.now }
     requires room { HasRoom line.now lits.old hints.old used }
-    requires number { IsNumberAt (before_feed line.now) 0
-        (Number false lead.value (lead.end + 1)) }
+    requires number { IsNumberAt (before_feed line.now) 0 (Number false id at) }
     ensures kept { AreKept lits.old hints.old lits.new hints.new used }
     ensures read { IfSome result (λ s. IsPlainLine line.now lits.new hints.new used s) }
 {
-    let clause = plain_lits(lits, used.lits, line, lead.end + 1)?;
+    let clause = plain_lits(lits, used.lits, line, at)?;
     let hints_end = plain_hints(hints, used.hints, line, clause.end, false)?;
     Some(Span {
         form: Form::Addition,
-        id: lead.value,
+        id,
         lits_start: used.lits,
         lits_end: clause.count,
         hints_start: used.hints,
@@ -229,27 +236,29 @@ fn plain_addition(
     })
 }
 
-/// Reads what follows the letter of a deletion.
+/// Reads what follows the leading number of a deletion: the letter, and the ids.
 #[inline(always)]
-fn plain_deletion(hints: &mut [SignedId], used: Used, line: &[u8], lead: Digits) -> Option<Span>
-    requires within { lead.end + 2 < length line.now }
+fn plain_deletion(
+    hints: &mut [SignedId],
+    used: Used,
+    line: &[u8],
+    id: u64,
+    at: usize,
+) -> Option<Span>
+    requires within { at + 1 < length line.now }
     requires feed { EndsInFeed line.now }
     requires room { HasRoomFrom line.now hints.old used.hints }
-    requires number { IsNumberAt (before_feed line.now) 0
-        (Number false lead.value (lead.end + 1)) }
-    requires letter { slice_index line.now (lead.end + 1) ≡ 100 }
+    requires number { IsNumberAt (before_feed line.now) 0 (Number false id at) }
+    requires letter { slice_index line.now at ≡ 100 }
     ensures kept { IsKept hints.old hints.new used.hints }
     ensures read { IfSome result (λ s. (lits : List Literal) → used.lits ≤ length lits
         → IsPlainLine line.now lits hints.new used s) }
 {
-    let space = lead.end + 2;
-    if line[space] != b' ' {
-        return None;
-    }
-    let hints_end = plain_hints(hints, used.hints, line, space + 1, true)?;
+    let ids = past_space(line, at + 1)?;
+    let hints_end = plain_hints(hints, used.hints, line, ids, true)?;
     Some(Span {
         form: Form::Deletion,
-        id: lead.value,
+        id,
         lits_start: used.lits,
         lits_end: used.lits,
         hints_start: used.hints,
@@ -268,12 +277,10 @@ pub fn plain_line(lits: &mut [Lit], hints: &mut [SignedId], used: Used, line: &[
     ensures read { IfSome result (λ s. IsPlainLine line.now lits.new hints.new used s) }
 {
     let lead = plain_digits(line, 0)?;
-    if line[lead.end] != b' ' {
-        return None;
-    }
-    if line[lead.end + 1] == b'd' {
-        plain_deletion(hints, used, line, lead)
+    let at = past_space(line, lead.end)?;
+    if line[at] == b'd' {
+        plain_deletion(hints, used, line, lead.value, at)
     } else {
-        plain_addition(lits, hints, used, line, lead)
+        plain_addition(lits, hints, used, line, lead.value, at)
     }
 }

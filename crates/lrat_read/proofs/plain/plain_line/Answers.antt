@@ -1,5 +1,5 @@
 -- The number that leads the line.
-use Rattle.std.proofs.Common.{false, arith, sym}
+use Rattle.std.proofs.Common.{false, sym}
 use Rattle.lrat_read.proofs.PlainLaws.{plain_number, plain_undashed}
 use Rattle.lrat_read.proofs.plain.plain_line.Goals as goal
 
@@ -7,14 +7,12 @@ pub plain_deletion-requires-clause-number : goal.plain_deletion-requires-clause-
 plain_deletion-requires-clause-number c =
     let line = c.args.line.now in
     let lead = c.in_ok-lead.lead in
-    (plain_number line 0 false lead c.requires.feed
-    (sym (plain_undashed line 0 lead c.in_ok-lead.ensures)) c.in_ok-lead.ensures
-    (omega (arith, c.if-line-lead-ne32.false))).1
+    plain_number line 0 false lead c.in_ok-at.at
+    (sym (plain_undashed line 0 lead c.in_ok-lead.ensures)) c.in_ok-lead.ensures c.in_ok-at.ensures
 
 pub plain_addition-requires-clause-number : goal.plain_addition-requires-clause-number
 plain_addition-requires-clause-number c =
     let line = c.args.line.now in
     let lead = c.in_ok-lead.lead in
-    (plain_number line 0 false lead c.requires.feed
-    (sym (plain_undashed line 0 lead c.in_ok-lead.ensures)) c.in_ok-lead.ensures
-    (omega (arith, c.if-line-lead-ne32.false))).1
+    plain_number line 0 false lead c.in_ok-at.at
+    (sym (plain_undashed line 0 lead c.in_ok-lead.ensures)) c.in_ok-lead.ensures c.in_ok-at.ensures

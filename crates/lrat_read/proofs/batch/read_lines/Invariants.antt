@@ -2,17 +2,15 @@
 use Rattle.std.proofs.Common.{◌-◌, ◌≤◌, length, take}
 use Rattle.lrat_read.specs.Batch.{AreRead}
 use Rattle.lrat_read.specs.Plain.{AreSpansWithin, lines_in}
-use Rattle.lrat_read.proofs.batch.Batch.read.Given as goal
+use Rattle.lrat_read.proofs.batch.read_lines.Given as goal
 
 abbrev pub invariant-loop-next : goal.invariant-loop-next
 invariant-loop-next l = record {
   within : l.at ≤ length l.text;
-  lits : (l.used).lits ≤ length ((l.self-inside).lits).items;
-  hints : (l.used).hints ≤ length ((l.self-inside).hints).items;
-  spans : AreSpansWithin (l.used).lits (l.used).hints ((l.self-inside).spans).items;
-  read : AreRead (take l.at l.text)
-      (lines_in ((l.self-inside).lits).items ((l.self-inside).hints).items
-      ((l.self-inside).spans).items);
+  lits : (l.used).lits ≤ length l.lits;
+  hints : (l.used).hints ≤ length l.hints;
+  spans : AreSpansWithin (l.used).lits (l.used).hints l.spans.items;
+  read : AreRead (take l.at l.text) (lines_in l.lits l.hints l.spans.items);
 }
 
 abbrev pub decreases-loop-next : goal.decreases-loop-next
