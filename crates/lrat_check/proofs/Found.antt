@@ -1,6 +1,6 @@
 -- One of the clauses that were looked up together.
-use Rattle.std.proofs.Common.{◌≡◌, ℕ, zero, suc, ◌+◌, ◌*◌, ◌/◌, ◌%◌, ◌<◌, Bool, false, List, []}
-use Rattle.std.proofs.Common.{◌∷◌, map, length, get_or, Option, Bor, ◌∙◌, ap, subst, arith}
+use Rattle.std.proofs.Common.{◌≡◌, ℕ, zero, suc, ◌+◌, ◌-◌, ◌<◌, ◌≤◌, Bool, false, List, []}
+use Rattle.std.proofs.Common.{◌∷◌, map, min, length, get_or, Option, Bor, ◌∙◌, ap, subst, arith, refl}
 use Rattle.std.specs.Option.{option_copied}
 use Rattle.std.proofs.lemmas.List.{get_or_default}
 use Rattle.wcnf.specs.Literal.{Literal}
@@ -29,14 +29,15 @@ found_among es hints place (suc k) (x ∷ xs) d one lt e f =
     subst (λ n. IsFound es hints n (option_copied one)) there
     (found_among es hints (place + 1) k xs d one (omega arith) e f.1)
 
--- the clause of hint i, among those of its sixteen
-pub found_here : (es : List (ℕ × List Literal)) (hints : List (Bool × ℕ)) (i : ℕ)
-    (all : List Looked) (d one : Looked)
-    → i % 16 < length all → i < length hints → get_or all (i % 16) d ≡ one
-    → AreFound es hints (16 * (i / 16)) (map option_copied all)
-    → option_copied one ≡ listed_at es (get_or hints i (false, 0)).1
-found_here es hints i all d one lt within e f =
+-- the clause of hint i, among the sixteen that were looked up from a place on
+pub found_here : (es : List (ℕ × List Literal)) (hints : List (Bool × ℕ)) (from i end : ℕ)
+    (all : List Looked) (none : Looked)
+    → from ≤ i → i < end → end ≡ min (length hints) (from + 16) → length all ≡ 16
+    → AreFound es hints from (map option_copied all)
+    → option_copied (get_or all (i - from) none) ≡ listed_at es (get_or hints i (false, 0)).1
+found_here es hints from i end all none le lt last long f =
     let h = get_or hints i (false, 0) in
-    let same : i ≡ 16 * (i / 16) + i % 16 = omega arith in
-    found_among es hints (16 * (i / 16)) (i % 16) all d one lt e f h (omega arith)
-    (get_or_default hints i (false, 0) h within ∙ ap (λ n. get_or hints n h) same)
+    let same : i ≡ from + (i - from) = omega arith in
+    found_among es hints from (i - from) all none (get_or all (i - from) none)
+    (omega (arith, long, last)) refl f h (omega (arith, last))
+    (get_or_default hints i (false, 0) h (omega (arith, last)) ∙ ap (λ n. get_or hints n h) same)

@@ -13,7 +13,7 @@
 // eight took 2 to 10 % less where a line has twelve hints. A line with one or two is better off
 // without. Tried: at every line. Small certificates, of which all is in the caches, took 11 to 15 %
 // more instructions; they have a loop of their own.
-ghost use Rattle.std.specs.Prelude.{◌≡◌, ℕ, ◌*◌, ◌/◌, ◌%◌, ◌<◌, ◌≤◌, true, false, List, Some, IfOk};
+ghost use Rattle.std.specs.Prelude.{◌≡◌, ℕ, ◌+◌, ◌<◌, ◌≤◌, true, false, List, Some, IfOk};
 ghost use Rattle.std.specs.Prelude.{length, get_or, map, take, All, IfSome};
 ghost use Rattle.std.specs.Option.{option_copied};
 ghost use Rattle.wcnf.specs.Literal.{Literal};
@@ -21,7 +21,7 @@ ghost use Rattle.lrat_check.specs.Assumed.{AreWithin};
 ghost use Rattle.lrat_check.specs.Found.{IsFound, AreFound};
 ghost use Rattle.lrat_live.specs.Listed.{listed_at};
 ghost use Rattle.lrat_check.specs.Verdict.{outcome_of, of_walk, walk as walk_of};
-ghost use Rattle.lrat_check.specs.Steps.{outcome_as, walked_as, EndAlike, IsFollowed};
+ghost use Rattle.lrat_check.specs.Steps.{outcome_as, walked_as, EndAlike, AreFollowed};
 ghost use Rattle.wcnf.specs.Refute.{Clauses};
 ghost use Rattle.lrat_read.specs.Form.{leading as leading_of};
 
@@ -199,7 +199,7 @@ fn follow(
     requires within { IfSome (option_copied clause) (λ c. AreWithin assumed.old.variables c) }
     ensures followed { IfOk result (λ end. (at : Clauses)
         → option_copied clause.entry ≡ at (get_or hints.now i (false, 0)).1
-        → IsFollowed at hints.now i assumed.old.literals assumed.new.literals end) }
+        → AreFollowed at hints.now i (i + 1) assumed.old.literals assumed.new.literals end) }
     ensures kept { (A : List Literal) → take (length A) assumed.old.literals ≡ A
         → take (length A) assumed.new.literals ≡ A }
     ensures variables { assumed.new.variables ≡ assumed.old.variables }
@@ -243,27 +243,32 @@ fn walk_each(
     Ok(Walked::Open)
 }
 
-/// The clause under the id of hint i, if it is live: the clauses of sixteen hints are looked up
-/// when the first of them comes.
+/// Follows sixteen hints from a place on, or those that are left, with their clauses looked up
+/// together. Answers how the hints end, if they end there.
 #[inline(always)]
-fn next_clause<'a>(
-    live: &'a LiveClauses,
+fn walk_block(
+    live: &LiveClauses,
+    assumed: &mut Assumed,
     hints: &[SignedId],
-    i: usize,
-    ahead: &mut [Option<&'a [Lit]>; AHEAD],
-    firsts: &mut [Lit; AHEAD],
-) -> Option<&'a [Lit]>
-    requires within { i < length hints.now }
-    requires ahead { 0 < i % 16
-        → AreFound live.now hints.now (16 * (i / 16)) (map option_copied ahead.old) }
-    ensures found { option_copied result ≡ listed_at live.now (get_or hints.now i (false, 0)).1 }
-    ensures ahead { AreFound live.now hints.now (16 * (i / 16)) (map option_copied ahead.new) }
+    from: usize,
+) -> Result<Option<Walked>, AllocError>
+    requires place { from < length hints.now }
+    requires within { All (λ e. AreWithin assumed.old.variables e.1) live.now }
+    ensures followed { IfOk result (λ end. AreFollowed (listed_at live.now) hints.now from
+        (from + 16) assumed.old.literals assumed.new.literals end) }
+    ensures kept { (A : List Literal) → take (length A) assumed.old.literals ≡ A
+        → take (length A) assumed.new.literals ≡ A }
+    ensures variables { assumed.new.variables ≡ assumed.old.variables }
 {
-    if i % AHEAD == 0 {
-        *ahead = clauses_ahead(live, hints, i);
-        *firsts = first_lits(ahead);
+    let clauses = clauses_ahead(live, hints, from);
+    let firsts = first_lits(&clauses);
+    for i in from..hints.len().min(from + AHEAD) {
+        let end = follow(clauses[i - from], firsts[i - from], hints, i, assumed)?;
+        if let Some(walked) = end {
+            return Ok(Some(walked));
+        }
     }
-    ahead[i % AHEAD]
+    Ok(None)
 }
 
 /// As `walk`, with the clauses of sixteen hints looked up when the first of them comes.
@@ -279,14 +284,12 @@ fn walk_ahead(
     ensures kept { take (length assumed.old.literals) assumed.new.literals ≡ assumed.old.literals }
     ensures variables { assumed.new.variables ≡ assumed.old.variables }
 {
-    let mut ahead = [None; AHEAD];
-    let mut firsts = [Lit::new(1, false); AHEAD];
-    for i in 0..hints.len() {
-        let clause = next_clause(live, hints, i, &mut ahead, &mut firsts);
-        let end = follow(clause, firsts[i % AHEAD], hints, i, assumed)?;
-        if let Some(walked) = end {
+    let mut from = 0;
+    while from < hints.len() {
+        if let Some(walked) = walk_block(live, assumed, hints, from)? {
             return Ok(walked);
         }
+        from += AHEAD;
     }
     Ok(Walked::Open)
 }

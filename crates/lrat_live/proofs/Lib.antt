@@ -1,5 +1,11 @@
 mod Listed
-mod GivenLaws
+mod SpanLaws
+mod StartLaws
+mod PushLaws
+mod WindowLaws
+mod MovedLaws
+mod LiveLaws
+mod NearLaws
 mod Chains
 mod Table
 mod Clauses

@@ -1,5 +1,5 @@
 pub mod Listed
 pub mod Counts
-pub mod Given
 pub mod Chains
 pub mod Table
+pub mod Near

@@ -128,7 +128,7 @@ impl Added {
 }
 
 /// Then reclaiming, which goes over all, costs no more than what died since.
-fn is_mostly_dead(dead: usize, all: usize) -> bool
+pub(crate) fn is_mostly_dead(dead: usize, all: usize) -> bool
     ensures { IsTrue result ↔ (LITTLE < dead) × (all / 2 < dead) }
 {
     dead > LITTLE && dead > all / 2

@@ -6,10 +6,11 @@ ghost use Rattle.std.specs.Option.{option_copied};
 ghost use Rattle.lrat_live.specs.Counts.{times_at, take_all, AreCounts};
 ghost use Rattle.lrat_live.specs.Listed.{listed_at, listed_from, without_id, ids_listed, same_ids};
 ghost use Rattle.lrat_live.specs.Listed.{IsRising};
+ghost use Rattle.lrat_live.specs.Near.{all_of};
 
 use crate::added::Added;
 use crate::counts::{count_last, count_of, is_next, lower, times_in};
-use crate::given::Given;
+use crate::near::Near;
 use std::alloc::AllocError;
 use std::marker::Model;
 use wcnf::types::{Formula, Lit};
@@ -17,10 +18,10 @@ use wcnf::types::{Formula, Lit};
 /// The live clauses of a certificate with their ids.
 #[derive(Drop)]
 pub struct LiveClauses {
-    /// Those of the formula.
-    given: Given,
-    /// Those that were added; their ids are above those of the formula.
-    added: Added,
+    /// Those of the formula, and those that were added of late.
+    near: Near,
+    /// The other ones, which were added before.
+    far: Added,
     /// Whether the literals of the live clauses are counted, as they are from the first RAT line
     /// on.
     is_counted: bool,
@@ -37,54 +38,77 @@ impl Model for LiveClauses {
 
     ghost use Rattle.lrat_live.specs.Counts.{AreCounts};
     ghost use Rattle.lrat_live.specs.Listed.{IsRising};
+    ghost use Rattle.lrat_live.specs.Near.{all_of};
 
-    ghost view = { λ s. s.given ++ s.added };
+    ghost view = { λ s. all_of s.near s.far };
 
-    ghost invariant = { λ s. IsRising (s.given ++ s.added)
-        × (s.is_counted ≡ true → AreCounts s.counts.items (s.given ++ s.added)) };
+    ghost invariant = { λ s. IsRising (all_of s.near s.far)
+        × (s.is_counted ≡ true → AreCounts s.counts.items (all_of s.near s.far)) };
 }
 
-/// The clause under an id, of the formula or added.
+/// The clause under an id, near or far.
 #[inline]
-fn lookup<'a>(given: &'a Given, added: &'a Added, id: u64) -> Option<&'a [Lit]>
-    ensures { option_copied result ≡ listed_at (given.now ++ added.now) id }
+fn lookup<'a>(near: &'a Near, far: &'a Added, id: u64) -> Option<&'a [Lit]>
+    requires { IsRising (all_of near.now far.now) }
+    ensures { option_copied result ≡ listed_at (all_of near.now far.now) id }
 {
-    match given.find(id) {
+    match near.find(id) {
         Some(clause) => Some(clause),
-        None => added.find(id),
+        None => far.find(id),
     }
+}
+
+/// Adds a clause under an id above all others. When memory is refused the clauses stay as they are,
+/// though recent ones may be far then.
+fn put(near: &mut Near, far: &mut Added, id: u64, lits: &[Lit]) -> Result<(), AllocError>
+    requires rising { IsRising (all_of near.old far.old) }
+    requires above { All (λ e. e.0 < id) (all_of near.old far.old) }
+    ensures ok { OnOk result
+        (all_of near.new far.new ≡ all_of near.old far.old ++ (id, lits.now) ∷ []) }
+    ensures err { OnErr result (all_of near.new far.new ≡ all_of near.old far.old) }
+{
+    near.reclaim();
+    if near.push(id, lits)? {
+        return Ok(());
+    }
+    near.flush(far, id)?;
+    if near.push(id, lits)? {
+        return Ok(());
+    }
+    far.add(id, lits)
 }
 
 /// Counts the literals of all clauses, unless they are counted.
 fn count_all(
     is_counted: bool,
     counts: &mut Vec<u32>,
-    given: &Given,
-    added: &Added,
+    near: &Near,
+    far: &Added,
 ) -> Result<(), AllocError>
-    requires { is_counted ≡ true → AreCounts counts.old.items (given.now ++ added.now) }
-    ensures counts { OnOk result (AreCounts counts.new.items (given.now ++ added.now)) }
+    requires { is_counted ≡ true → AreCounts counts.old.items (all_of near.now far.now) }
+    ensures counts { OnOk result (AreCounts counts.new.items (all_of near.now far.now)) }
     ensures err { OnErr result (is_counted ≡ false) }
 {
     if is_counted {
         return Ok(());
     }
     counts.clear();
-    given.count(counts)?;
-    added.count(counts)?;
+    near.count_given(counts)?;
+    far.count(counts)?;
+    near.count_recent(counts)?;
     Ok(())
 }
 
 /// Counts the literals of the clause under an id out, if there is one and they are counted.
-fn count_out(is_counted: bool, counts: &mut [u32], given: &Given, added: &Added, id: u64)
-    ensures { IsRising (given.now ++ added.now)
-        → (is_counted ≡ true → AreCounts counts.old (given.now ++ added.now))
-        → is_counted ≡ true → AreCounts counts.new (without_id id (given.now ++ added.now)) }
+fn count_out(is_counted: bool, counts: &mut [u32], near: &Near, far: &Added, id: u64)
+    requires rising { IsRising (all_of near.now far.now) }
+    ensures { (is_counted ≡ true → AreCounts counts.old (all_of near.now far.now))
+        → is_counted ≡ true → AreCounts counts.new (without_id id (all_of near.now far.now)) }
 {
     if !is_counted {
         return;
     }
-    let Some(clause) = lookup(given, added, id) else {
+    let Some(clause) = lookup(near, far, id) else {
         return;
     };
     lower(counts, clause);
@@ -98,8 +122,8 @@ impl LiveClauses {
     {
         let alloc = formula.allocator();
         Ok(LiveClauses {
-            given: Given::new(formula)?,
-            added: Added::new(alloc),
+            near: Near::new(formula)?,
+            far: Added::new(alloc),
             is_counted: false,
             counts: Vec::new(alloc),
         })
@@ -113,7 +137,7 @@ impl LiveClauses {
         ensures ok { OnOk result (self.new ≡ self.old ++ (id, lits.now) ∷ []) }
         ensures err { OnErr result (self.new ≡ self.old) }
     {
-        self.added.add(id, lits)?;
+        put(&mut self.near, &mut self.far, id, lits)?;
         self.is_counted = count_last(self.is_counted, &mut self.counts, lits);
         Ok(())
     }
@@ -122,7 +146,7 @@ impl LiveClauses {
     pub fn entries(&self) -> usize
         ensures { length self.now ≤ result }
     {
-        self.given.entries() + self.added.entries()
+        self.near.entries() + self.far.entries()
     }
 
     /// The clause under an id, if it is live.
@@ -130,7 +154,7 @@ impl LiveClauses {
     pub fn find(&self, id: u64) -> Option<&[Lit]>
         ensures { option_copied result ≡ listed_at self.now id }
     {
-        lookup(&self.given, &self.added, id)
+        lookup(&self.near, &self.far, id)
     }
 
     /// Takes the clause out; false where there is none under the id.
@@ -138,17 +162,11 @@ impl LiveClauses {
         ensures found { IsTrue result ↔ IsSome (listed_at self.old id) }
         ensures left { self.new ≡ without_id id self.old }
     {
-        count_out(
-            self.is_counted,
-            &mut self.counts,
-            &self.given,
-            &self.added,
-            id,
-        );
-        if self.given.delete(id) {
+        count_out(self.is_counted, &mut self.counts, &self.near, &self.far, id);
+        if self.near.delete(id) {
             return true;
         }
-        self.added.delete(id)
+        self.far.delete(id)
     }
 
     /// Whether these ids are those of the clauses with the literal, in rising order. An AllocError
@@ -158,7 +176,7 @@ impl LiveClauses {
         ensures all { IfOk result (λ all. all ≡ same_ids ids.now (ids_listed lit self.old)) }
         ensures same { self.new ≡ self.old }
     {
-        count_all(self.is_counted, &mut self.counts, &self.given, &self.added)?;
+        count_all(self.is_counted, &mut self.counts, &self.near, &self.far)?;
         self.is_counted = true;
         let total = count_of(&self.counts, lit);
         Ok(self.take_all(lit, total, ids))

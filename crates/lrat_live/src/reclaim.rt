@@ -42,7 +42,7 @@ pub(crate) fn compact(entries: &mut Vec<Entry>, lits: &mut Vec<Lit>)
 }
 
 /// Clauses before the first dead one stay where they are, so they are not copied.
-fn move_down(lits: &mut Vec<Lit>, start: usize, count: usize, to: usize)
+pub(crate) fn move_down(lits: &mut Vec<Lit>, start: usize, count: usize, to: usize)
     requires down { to ≤ start }
     requires within { start + count ≤ length lits.old.items }
     ensures moved { lits.new.items ≡ paste lits.old.items to (drop start lits.old.items) count }

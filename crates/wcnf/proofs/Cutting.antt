@@ -1,9 +1,10 @@
 -- Clauses in one list of literals: how many there are, where one stands, and what one more at the
 -- end does.
 use Rattle.std.proofs.Common.{◌≡◌, ℕ, zero, suc, ◌+◌, ◌-◌, ◌<◌, ◌≤◌, ◌^◌, List, [], ◌∷◌, ◌++◌}
-use Rattle.std.proofs.Common.{length, get_or, Some, refl, sym, ap, arith}
+use Rattle.std.proofs.Common.{length, get_or, drop, Some, refl, sym, ap, ◌∙◌, arith}
 use Rattle.std.specs.Prelude.{slice_range, slice_get}
-use Rattle.std.proofs.lemmas.List.{length-append}
+use Rattle.std.specs.List.{flat_map}
+use Rattle.std.proofs.lemmas.List.{length-append, drop_all, drop-drop, take-append-drop}
 use Rattle.wcnf.specs.Literal.{Literal}
 use Rattle.wcnf.specs.Flat.{cut_from, RiseTo, AreCut, start_at}
 use Rattle.wcnf.proofs.Laid.{range-append, range-appended}
@@ -75,3 +76,19 @@ cut_added ls more es h few =
       rise = rw n (rise-more 0 es (length ls) (length more) h.rise);
       few = omega (arith, n);
     }
+
+-- the literals of all clauses
+pub whole_cut : (start : ℕ) (ls : List Literal) (es : List ℕ) → RiseTo start es (length ls)
+    → drop start ls ≡ flat_map (λ c. c) (cut_from start ls es)
+whole_cut start ls [] h = drop_all start ls (omega (arith, h))
+whole_cut start ls (e ∷ es) h =
+    let parts : slice_range ls start e ++ drop e ls ≡ drop start ls =
+    range_drop start e ls h.0 in
+    sym parts ∙ ap (λ xs. slice_range ls start e ++ xs) (whole_cut e ls es h.1)
+  where
+    range_drop : (i n : ℕ) (xs : List Literal) → i ≤ n
+        → slice_range xs i n ++ drop n xs ≡ drop i xs
+    range_drop i n xs h =
+        let e : i + (n - i) ≡ n = omega arith in
+        ap (λ ys. slice_range xs i n ++ ys) (sym (drop-drop (n - i) i xs ∙ ap (λ k. drop k xs) e))
+        ∙ take-append-drop (n - i) (drop i xs)

@@ -2,6 +2,7 @@
 ghost use Rattle.std.specs.Prelude.{◌≡◌, ◌<◌, [], ◌∷◌, ◌++◌, ◌≤◌, Some, length, slice_get};
 ghost use Rattle.std.specs.Prelude.{slice_range, OnOk, OnErr};
 ghost use Rattle.std.specs.Iterator.{YieldsFirstRef, item_count};
+ghost use Rattle.std.specs.List.{flat_map};
 ghost use Rattle.wcnf.specs.Flat.{start_at};
 
 use crate::types::Lit;
@@ -99,6 +100,13 @@ impl ClauseList {
             start: 0,
             ends: &self.ends,
         }
+    }
+
+    /// The literals of all clauses, one clause after another.
+    pub fn into_lits(self) -> Vec<Lit>
+        ensures { result.items ≡ flat_map (λ c. c) self }
+    {
+        self.lits
     }
 
     /// Where the clauses take their memory from.

@@ -283,6 +283,13 @@ impl Formula {
         &self.clauses
     }
 
+    /// The clauses, taken out of the formula.
+    pub fn into_clauses(self) -> ClauseList
+        ensures { result ≡ self.clauses }
+    {
+        self.clauses
+    }
+
     /// Where the clauses take their memory from.
     pub fn allocator(&self) -> Global {
         self.clauses.allocator()

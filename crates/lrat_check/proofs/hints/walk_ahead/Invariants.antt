@@ -1,17 +1,17 @@
-use Rattle.std.proofs.Common.{◌≡◌, ◌*◌, ◌/◌, ◌%◌, ◌<◌, length, take, map}
-use Rattle.std.specs.Option.{option_copied}
-use Rattle.lrat_check.specs.Found.{AreFound}
+use Rattle.std.proofs.Common.{◌≡◌, ◌-◌, length, take, map}
 use Rattle.lrat_live.specs.Listed.{listed_at}
 use Rattle.lrat_check.specs.Verdict.{walk}
 use Rattle.lrat_check.specs.Steps.{EndAlike}
 use Rattle.lrat_check.proofs.Effects.{ids_from}
 use Rattle.lrat_check.proofs.hints.walk_ahead.Given as goal
 
-abbrev pub invariant-loop-i : goal.invariant-loop-i
-invariant-loop-i l = record {
+abbrev pub invariant-loop-from : goal.invariant-loop-from
+invariant-loop-from l = record {
   walked : EndAlike (walk (listed_at l.live) l.fn.assumed.literals (map (λ h. h.1) l.hints))
-      (walk (listed_at l.live) l.assumed.literals (ids_from l.hints l.i));
+      (walk (listed_at l.live) l.assumed.literals (ids_from l.hints l.from));
   kept : take (length l.fn.assumed.literals) l.assumed.literals ≡ l.fn.assumed.literals;
   variables : l.assumed.variables ≡ l.fn.assumed.variables;
-  found : 0 < l.i % 16 → AreFound l.live l.hints (16 * (l.i / 16)) (map option_copied l.ahead);
 }
+
+abbrev pub decreases-loop-from : goal.decreases-loop-from
+decreases-loop-from l = length l.hints - l.from

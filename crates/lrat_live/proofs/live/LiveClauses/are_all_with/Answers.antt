@@ -1,7 +1,8 @@
-use Rattle.std.proofs.Common.{◌≡◌, ◌<◌, ◌∙◌, ◌++◌, ap}
+use Rattle.std.proofs.Common.{◌≡◌, ◌<◌, ◌∙◌, ap}
 use Rattle.std.specs.Prelude.{All, slice_index}
 use Rattle.wcnf.specs.Literal.{index_of}
 use Rattle.lrat_live.specs.Counts.{AreCounts, take_all, times, times_at}
+use Rattle.lrat_live.specs.Near.{all_of}
 use Rattle.lrat_live.proofs.Listed.{rises_from}
 use Rattle.lrat_live.proofs.CountLaws.{agrees_start}
 use Rattle.lrat_live.proofs.live.LiveClauses.are_all_with.Goals as goal
@@ -9,7 +10,7 @@ use Rattle.lrat_live.proofs.live.LiveClauses.are_all_with.Goals as goal
 pub returns-clause-all : goal.returns-clause-all
 returns-clause-all c =
     let s = c.self.inside in
-    let es = s.given ++ s.added in
+    let es = all_of s.near s.far in
     let counts : AreCounts c.count_all.new.counts.items es = c.in_ok-count_all.ensures.counts in
     let total : c.count_of-total.result ≡ times c.args.lit es =
     c.count_of-total.ensures.count

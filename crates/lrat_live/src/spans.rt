@@ -1,0 +1,98 @@
+// Where the literals of clauses lie that are found by their ids alone: a span for each id.
+ghost use Rattle.std.specs.Prelude.{◌≡◌, ℕ, List, ◌∷◌, ◌+◌, ◌<◌, ◌≤◌, ◌^◌, ◌++◌, length, IfOk, OnOk};
+ghost use Rattle.std.specs.List.{flat_map};
+ghost use Rattle.wcnf.specs.Literal.{Literal};
+ghost use Rattle.lrat_live.specs.Counts.{AreCounts};
+ghost use Rattle.lrat_live.specs.Near.{is_live, nowhere, literals_at, spanned, spans_from};
+ghost use Rattle.lrat_live.specs.Near.{AreWithin};
+
+use crate::counts::raise;
+use std::alloc::AllocError;
+use wcnf::clause_list::ClauseList;
+use wcnf::types::Lit;
+
+/// Where a clause's literals lie.
+#[derive(Clone, Copy, Drop)]
+pub(crate) struct Span {
+    /// The place of its first literal, at most `MOST`, or `DEAD` where no clause is live.
+    pub(crate) start: u32,
+    /// How many literals it has.
+    pub(crate) length: u32,
+}
+
+/// The start of a clause that is not live; no literal has this place.
+pub(crate) const DEAD: u32 = 4_294_967_295;
+
+/// There are at most so many literals, so that each place is below `DEAD`.
+pub(crate) const MOST: usize = 4_294_967_294;
+
+/// The span of no clause.
+pub(crate) fn nowhere() -> Span
+    ensures { result ≡ nowhere }
+{
+    Span {
+        start: DEAD,
+        length: 0,
+    }
+}
+
+/// Whether the clause is live.
+#[inline]
+pub(crate) fn is_live(span: Span) -> bool
+    ensures { result ≡ is_live span }
+{
+    span.start != DEAD
+}
+
+/// The literals of a live clause.
+#[inline]
+pub(crate) fn literals_at(lits: &[Lit], span: Span) -> &[Lit]
+    requires { span.start + span.length ≤ length lits.now }
+    ensures { result.now ≡ literals_at lits.now span }
+{
+    let start = span.start as usize;
+    &lits[start..start + span.length as usize]
+}
+
+/// The spans of a formula's clauses by their ids, from 1; no clause has the id 0. An AllocError
+/// comes where memory was refused, or where there are more than `MOST` literals.
+pub(crate) fn spans_of(clauses: &ClauseList) -> Result<Vec<Span>, AllocError>
+    ensures spans { IfOk result (λ spans. spans.items ≡ nowhere ∷ spans_from 0 clauses.now) }
+    ensures few { OnOk result (length (flat_map (λ c. c) clauses.now) + 1 < 2 ^ 32) }
+{
+    let mut spans = Vec::new(clauses.allocator());
+    spans.reserve(clauses.len().saturating_add(1))?;
+    spans.push(nowhere())?;
+    let mut start = 0;
+    for place in 0..clauses.len() {
+        let length = clauses.get(place).len();
+        if length > MOST - start {
+            return Err(AllocError);
+        }
+        spans.push(Span {
+            start: start as u32,
+            length: length as u32,
+        })?;
+        start += length;
+    }
+    Ok(spans)
+}
+
+/// Counts the literals of the live clauses, beside those that are counted.
+pub(crate) fn count_live(
+    counts: &mut Vec<u32>,
+    lits: &[Lit],
+    spans: &[Span],
+) -> Result<(), AllocError>
+    requires { AreWithin spans.now (length lits.now) }
+    ensures { OnOk result ((es : List (ℕ × List Literal)) (n : ℕ) → AreCounts counts.old.items es
+        → AreCounts counts.new.items (es ++ spanned lits.now n spans.now)) }
+{
+    for span in spans {
+        if !is_live(*span) {
+            continue;
+        }
+        raise(counts, literals_at(lits, *span))?;
+    }
+    Ok(())
+}
