@@ -108,7 +108,8 @@ module _ (ls : List Literal) (ss : List Span) (given gap : ℕ) (covers : given 
               (omega (arith, id_low h))))
           | inl h ↦
               let k : given + 1 + (p - (given + 1)) ≡ p = omega arith in
-              let e : drop (given + 1) (set ss p x) ≡ set (drop (given + 1) ss) (p - (given + 1)) x =
+              let e : drop (given + 1) (set ss p x)
+              ≡ set (drop (given + 1) ss) (p - (given + 1)) x =
               ap (λ m. drop (given + 1) (set ss m x)) (sym k)
               ∙ drop-set-add (given + 1) ss (p - (given + 1)) x in
               ap (spanned ls (given + 1 + gap)) e

@@ -170,7 +170,8 @@ spread_down low from (s ∷ ss) to le h =
       | inr l ↦ (
         λ t. absurd (false≢true (sym l ∙ t)),
         subst (λ m. AreSpread m ss to) (sym (end_dead low s l))
-            (spread_down low from ss to le (subst (λ m. AreSpread m ss to) (end_dead from s l) h.1)),
+            (spread_down low from ss to le
+            (subst (λ m. AreSpread m ss to) (end_dead from s l) h.1)),
       )
     ]
 

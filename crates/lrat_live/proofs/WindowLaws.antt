@@ -6,8 +6,8 @@ use Rattle.std.specs.Prelude.{All}
 use Rattle.std.specs.List.{AllByRecursion}
 use Rattle.std.proofs.lemmas.Bool.{false≢true}
 use Rattle.std.proofs.lemmas.List.{take-append-drop, take-set, drop-set, drop-set-lt, drop_more}
-use Rattle.std.proofs.lemmas.List.{take_more, take_more_set, length-take-le, length-set, append_assoc}
-use Rattle.std.proofs.lemmas.List.{take_at, drop_at, length-drop, drop-drop}
+use Rattle.std.proofs.lemmas.List.{take_more, take_more_set, length-take-le, length-set}
+use Rattle.std.proofs.lemmas.List.{append_assoc, take_at, drop_at, length-drop, drop-drop}
 use Rattle.std.proofs.lemmas.List.{take-take}
 use Rattle.std.proofs.lemmas.List.Edits.{drop-paste, length-paste}
 use Rattle.std.proofs.lemmas.List.Elements.{All-nil, All-cons}

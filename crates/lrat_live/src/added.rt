@@ -1,5 +1,5 @@
-// The clauses that a certificate adds, in flat memory: it grows with what is live, and not with the
-// length of the certificate.
+// The added clauses that are recent no longer, in flat memory: it grows with what is live, and not
+// with the length of the certificate.
 ghost use Rattle.std.specs.Prelude.{◌≡◌, ℕ, List, ◌<◌, ◌≤◌, ◌^◌, ◌↔◌, ◌∷◌, [], ◌++◌, ◌/◌, length};
 ghost use Rattle.std.specs.Prelude.{All, IsTrue};
 ghost use Rattle.std.specs.Prelude.{IsSome, OnOk, OnErr};
@@ -22,7 +22,7 @@ const ENTRY: usize = 6;
 /// So much dead memory, in literals, is left where it is.
 const LITTLE: usize = 4096;
 
-/// The live ones of the added clauses, with their ids.
+/// The live ones of the added clauses that are recent no longer, with their ids.
 #[derive(Drop)]
 pub(crate) struct Added {
     /// The clauses' literals, one after another.

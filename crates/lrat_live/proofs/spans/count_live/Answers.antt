@@ -1,4 +1,5 @@
-use Rattle.std.proofs.Common.{◌≡◌, ◌+◌, ◌≤◌, length, ◌∷◌, [], ◌++◌, false, true, get_or, take, subst, sym, ap, ◌∙◌}
+use Rattle.std.proofs.Common.{◌≡◌, ◌+◌, ◌≤◌, length, ◌∷◌, [], ◌++◌, false, true, get_or, take}
+use Rattle.std.proofs.Common.{subst, sym, ap, ◌∙◌}
 use Rattle.std.proofs.lemmas.List.{append-nil, append_assoc, take_all, get_or_default}
 use Rattle.lrat_live.specs.Counts.{AreCounts, AreRaised}
 use Rattle.lrat_live.specs.Near.{is_live, nowhere, literals_at, spanned}

@@ -1,7 +1,16 @@
--- A literal more, and the 0 that ends the block.
-use Rattle.std.proofs.Common.{arith, ◌<◌, length}
-use Rattle.lrat_read.proofs.PlainLoops.{lits_next, lits_end, kept_set}
+-- No literal at first, a literal more, and the 0 that ends the block.
+use Rattle.std.proofs.Common.{arith, ◌<◌, length, refl}
+use Rattle.lrat_read.proofs.PlainLoops.{lits_none, lits_next, lits_end, kept_set}
 use Rattle.lrat_read.proofs.plain.plain_lits.Goals as goal
+
+pub loop-number-init : goal.loop-number-init
+loop-number-init c = record {
+  within = c.requires.within;
+  order = omega arith;
+  few = omega arith;
+  kept = (refl, refl);
+  lits = lits_none c.args.line.now c.args.at c.args.lits.now c.args.from;
+}
 
 pub returns-else-number-clause-read : goal.returns-else-number-clause-read
 returns-else-number-clause-read c =

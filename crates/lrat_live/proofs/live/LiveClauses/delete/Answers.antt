@@ -19,7 +19,8 @@ near_gone : (c : Then-delete)
 near_gone c =
     let s = c.self.inside in
     let n = s.near in
-    let d = some_of (listed_at (n.given ++ n.recent) c.args.id) (c.if-delete.ensures.found.0 refl) in
+    let d = some_of (listed_at (n.given ++ n.recent) c.args.id)
+    (c.if-delete.ensures.found.0 refl) in
     let none : listed_at s.far c.args.id ≡ None =
     far_none n.given s.far n.recent c.args.id d.0 (rises_from (all_of n s.far) c.self.invariant.0)
     d.1 in
@@ -31,7 +32,8 @@ pub returns-then-delete-clause-found : goal.returns-then-delete-clause-found
 returns-then-delete-clause-found c =
     let s = c.self.inside in
     let n = s.near in
-    let d = some_of (listed_at (n.given ++ n.recent) c.args.id) (c.if-delete.ensures.found.0 refl) in
+    let d = some_of (listed_at (n.given ++ n.recent) c.args.id)
+    (c.if-delete.ensures.found.0 refl) in
     let here : listed_at (all_of n s.far) c.args.id ≡ Some d.0 =
     near_found n.given s.far n.recent c.args.id d.0
     (rises_from (all_of n s.far) c.self.invariant.0) d.1 in
@@ -67,7 +69,9 @@ returns-clause-found c =
     rw (← c.self.view_is, far_found n.given s.far n.recent c.args.id none) c.delete-2.ensures.found
 
 pub returns-clause-left : goal.returns-clause-left
-returns-clause-left c = rw (← c.self.view_is) (all_far_left c.self.inside.near c.delete.new.self c.self.inside.far c.delete-2.new.self
+returns-clause-left c =
+    let s = c.self.inside in
+    rw (← c.self.view_is) (all_far_left s.near c.delete.new.self s.far c.delete-2.new.self
     c.args.id c.if-delete.ensures.given c.delete-2.ensures.left c.if-delete.ensures.recent)
 
 pub invariant_of-self-2 : goal.invariant_of-self-2

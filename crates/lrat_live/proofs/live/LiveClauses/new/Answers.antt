@@ -10,7 +10,8 @@ pub invariant_of-result : goal.invariant_of-result
 invariant_of-result c =
     subst (λ xs. IsRising xs × (false ≡ true → AreCounts c.new-3.result.items xs))
     (sym (all_first c.in_ok-new.field-0 c.new-2.result (listed_from 1 c.args.formula.clauses)
-    c.in_ok-new.ensures.given c.new-2.ensures c.in_ok-new.ensures.recent)) (rising_start c.args.formula.clauses, λ yes. absurd (false≢true yes))
+    c.in_ok-new.ensures.given c.new-2.ensures c.in_ok-new.ensures.recent))
+    (rising_start c.args.formula.clauses, λ yes. absurd (false≢true yes))
 
 pub returns : goal.returns
 returns c =
