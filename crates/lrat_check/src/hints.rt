@@ -10,9 +10,10 @@
 // their clauses are read then too: so none waits for the memory that another one asks for. A
 // certificate with a million live clauses took 2.3 s with each hint by itself, 1.5 to 2.0 s with
 // the look-ups of eight together, and 1.3 to 1.7 s with the first literals. Sixteen in place of
-// eight took 2 to 10 % less where a line has twelve hints. A line with one or two is better off
-// without. Tried: at every line. Small certificates, of which all is in the caches, took 11 to 15 %
-// more instructions; they have a loop of their own.
+// eight took 2 to 10 % less where a line has twelve hints. Each sixteen have arrays of their own:
+// with one for all of a line, filled with `None` at first, the filling took 4 to 6 % of the time. A
+// line with one or two is better off without. Tried: at every line. Small certificates, of which
+// all is in the caches, took 11 to 15 % more instructions; they have a loop of their own.
 ghost use Rattle.std.specs.Prelude.{◌≡◌, ℕ, ◌+◌, ◌<◌, ◌≤◌, true, false, List, Some, IfOk};
 ghost use Rattle.std.specs.Prelude.{length, get_or, map, take, All, IfSome};
 ghost use Rattle.std.specs.Option.{option_copied};
