@@ -5,7 +5,6 @@ pub mod Candidates
 pub mod Steps
 pub mod Alike
 pub mod Effects
-pub mod Found
 pub mod Groups
 pub mod Negations
 pub mod Base

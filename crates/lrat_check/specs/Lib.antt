@@ -5,5 +5,4 @@ pub mod Assumed
 pub mod Steps
 pub mod Vectors
 pub mod Pieces
-pub mod Found
 pub mod Left

@@ -60,12 +60,13 @@ EndAlike Refuted Refuted = Unit {0}
 EndAlike (Fault f) (Fault g) = f ≡ g
 EndAlike v w = ⊥
 
--- the hints from i up to j were followed from A to B: the walk goes on from j, or has ended
-abbrev pub AreFollowed : Clauses → List (Bool × ℕ) → ℕ → ℕ → List Literal → List Literal
+-- hint i was followed from A to B: the walk goes on with those after it, or has ended
+abbrev pub IsFollowed : Clauses → List (Bool × ℕ) → ℕ → List Literal → List Literal
     → Option Walked → Type 0
-AreFollowed at hints i j A B None =
-    EndAlike (walk at A (map (λ h. h.1) (drop i hints))) (walk at B (map (λ h. h.1) (drop j hints)))
-AreFollowed at hints i j A B (Some w) =
+IsFollowed at hints i A B None =
+    EndAlike (walk at A (map (λ h. h.1) (drop i hints)))
+    (walk at B (map (λ h. h.1) (drop (i + 1) hints)))
+IsFollowed at hints i A B (Some w) =
     EndAlike (walk at A (map (λ h. h.1) (drop i hints))) (walked_as w B)
 
 -- the first fault of the line's clause, where a literal of a large clause was left out

@@ -2,6 +2,7 @@
 #![tactic(auto)]
 
 mod additions;
+mod ahead;
 mod assumed;
 pub mod certificate;
 pub mod checking;

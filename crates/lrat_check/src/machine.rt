@@ -10,10 +10,12 @@ ghost use Rattle.lrat_check.specs.Verdict.{deleted};
 ghost use Rattle.lrat_read.specs.Reader.{IsReadAs};
 
 use crate::additions::addition_fault;
+use crate::ahead::read_ahead;
 use crate::assumed::Assumed;
 use crate::state::{Base, Scratch};
 use crate::verdicts::{Cause, Verdict};
 use lrat_live::live::LiveClauses;
+use lrat_read::batch::Batch;
 use lrat_read::line::{Line, ReadLine};
 use lrat_read::reader::LineReader;
 use lrat_read::types::{Form, SignedId};
@@ -34,6 +36,8 @@ pub struct Machine {
     scratch: Scratch,
     /// How many lines were read.
     lines: u64,
+    /// What was read ahead, in one number. Nothing rests on it: so the compiler keeps the reading.
+    seen: usize,
 }
 
 impl Model for Machine {
@@ -180,7 +184,16 @@ impl Machine {
                 candidates: Vec::new(alloc),
             },
             lines: 0,
+            seen: 0,
         })
+    }
+
+    /// Reads what the look-ups of these lines' hints will read, where that pays.
+    #[inline]
+    pub fn read_ahead(&mut self, batch: &Batch, from: usize)
+        ensures { self.new ≡ self.old }
+    {
+        self.seen = read_ahead(&self.base.live, batch, from);
     }
 
     /// How many lines were read, those without tokens among them.

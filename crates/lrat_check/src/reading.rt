@@ -69,6 +69,7 @@ fn judge_batch(machine: &mut Machine, batch: &Batch) -> Result<Option<Verdict>, 
     ensures lines { machine.new.lines ≤ machine.old.lines + length batch.now }
 {
     for place in 0..batch.len() {
+        machine.read_ahead(batch, place);
         if let Some(refused) = judge_read(machine, &batch.get(place))? {
             return Ok(Some(refused));
         }

@@ -16,7 +16,7 @@ loop-lit-preserved c =
     let i = c.loop-lit.lit-index in
     let l = c.lit-item.result in
     let inv = c.loop-lit.invariant in
-    let o = Some c.args.first in
+    let o = Some c.new-last.result in
     elim c.if-is_true.branch [
       | then-is_true w ↦
           let true_now = ap (λ k. contains_literal k A) (sym c.negation.ensures)
@@ -60,7 +60,7 @@ pub returns-then-is_true-2 : goal.returns-then-is_true-2
 returns-then-is_true-2 c =
     let A = c.args.assumed.now.literals in
     let d = c.args.clause.now in
-    let o = Some c.args.first in
+    let o = Some c.new-last.result in
     let inv = c.loop-lit.invariant in
     let whole = take_all c.loop-lit.lit-index d c.loop-lit-test.false in
     let all = ap (λ x. length (open_literals A x)) whole in
@@ -77,7 +77,7 @@ pub returns-else-is_true-2 : goal.returns-else-is_true-2
 returns-else-is_true-2 c =
     let A = c.args.assumed.now.literals in
     let d = c.args.clause.now in
-    let o = Some c.args.first in
+    let o = Some c.new-last.result in
     let inv = c.loop-lit.invariant in
     let whole = take_all c.loop-lit.lit-index d c.loop-lit-test.false in
     let all = ap (λ x. length (open_literals A x)) whole in

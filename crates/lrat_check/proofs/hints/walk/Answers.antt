@@ -1,11 +1,11 @@
-use Rattle.std.proofs.Common.{◌+◌, ◌∙◌, ap, sym, subst}
+use Rattle.std.proofs.Common.{◌∙◌, ap, sym, subst}
 use Rattle.std.specs.Prelude.{All}
 use Rattle.lrat_live.specs.Listed.{listed_at}
 use Rattle.lrat_check.specs.Assumed.{AreWithin}
-use Rattle.lrat_check.specs.Steps.{AreFollowed}
+use Rattle.lrat_check.specs.Steps.{IsFollowed}
 use Rattle.lrat_check.proofs.Alike.{EndAlike-step}
 use Rattle.lrat_check.proofs.Effects.{id_here, found_within}
-use Rattle.lrat_check.proofs.hints.walk_each.Goals as goal
+use Rattle.lrat_check.proofs.hints.walk.Goals as goal
 
 pub follow-requires-clause-within : goal.follow-requires-clause-within
 follow-requires-clause-within c =
@@ -22,8 +22,8 @@ returns-in-Some-clause-walked c =
     let here = id_here hs i c.index-hints-i.result c.loop-i-test.true c.index-hints-i.is in
     let found = c.find-clause.ensures ∙ ap at (c.id.ensures.id ∙ here) in
     EndAlike-step _ _ _ c.loop-i.invariant.walked
-    (subst (AreFollowed at hs i (i + 1) c.loop-i.assumed.literals c.follow.new.assumed.literals)
-    c.in-Some.is (c.in_ok-end.ensures.followed at found))
+    (subst (IsFollowed at hs i c.loop-i.assumed.literals c.follow.new.assumed.literals) c.in-Some.is
+    (c.in_ok-end.ensures.followed at found))
 
 pub loop-i-preserved : goal.loop-i-preserved
 loop-i-preserved c =
@@ -34,8 +34,8 @@ loop-i-preserved c =
     let found = c.find-clause.ensures ∙ ap at (c.id.ensures.id ∙ here) in
     record {
       walked = EndAlike-step _ _ _ c.loop-i.invariant.walked
-          (subst (AreFollowed at hs i (i + 1) c.loop-i.assumed.literals
-          c.follow.new.assumed.literals) c.in_default.is (c.in_ok-end.ensures.followed at found));
+          (subst (IsFollowed at hs i c.loop-i.assumed.literals c.follow.new.assumed.literals)
+          c.in_default.is (c.in_ok-end.ensures.followed at found));
       kept = c.in_ok-end.ensures.kept c.args.assumed.now.literals c.loop-i.invariant.kept;
       variables = c.in_ok-end.ensures.variables ∙ c.loop-i.invariant.variables;
     }
