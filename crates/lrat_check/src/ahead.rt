@@ -3,9 +3,9 @@
 // else: there no reading waits for the one before it, and the look-ups then find all in the caches.
 //
 // Measured in one run against the plain C checker, over a million live clauses and lines of twelve
-// hints: 2.9 to 3.8 times as fast, where sixteen look-ups of a line together, and each line for
-// itself, gave 2.2 to 2.7. Tried: first all places and then all literals in two loops, 20 to 35 %
-// slower. Small certificates, of which all is in the caches, are better off without.
+// hints, on a quiet machine: 3.2 times as fast, where sixteen look-ups of a line together, and each
+// line for itself, gave 2.5 to 2.7. Tried: first all places and then all literals in two loops, 20
+// to 35 % slower. Small certificates, of which all is in the caches, are better off without.
 use lrat_live::live::LiveClauses;
 use lrat_read::batch::Batch;
 

@@ -15,7 +15,8 @@ use wcnf::types::Formula;
 /// Whether the proof, an LRAT certificate over the formula's clauses under the ids from 1, shows
 /// that they have no common solution (Cruz-Filipe et al. 2017). The first fault decides, with the
 /// number of its line from 1; a certificate that ends without the empty clause has its fault at
-/// line 0. An AllocError comes only where memory was refused.
+/// line 0. An AllocError comes only where memory was refused, or where the formula, or what the
+/// certificate adds, has more than 2^32 - 2 literals or clauses.
 pub fn check_lines(formula: &Formula, proof: &[u8]) -> Result<Verdict, AllocError>
     ensures verdict { IfOk result (λ v. v ≡ proof_verdict formula.now.clauses proof.now) }
     ensures yes { IfOk result (λ v. (v ≡ Verdict.Yes) ↔ IsProofOver formula.now.clauses proof.now) }

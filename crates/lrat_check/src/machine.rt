@@ -157,7 +157,8 @@ fn judge_next(
 
 impl Machine {
     /// The checker before the first line: the formula's clauses are live under the ids from 1, in
-    /// the formula's own memory. An AllocError comes where memory was refused.
+    /// the formula's own memory. An AllocError comes where memory was refused, or where the formula
+    /// has more than 2^32 - 2 literals.
     pub fn new(formula: Formula) -> Result<Self, AllocError>
         ensures state { IfOk result (λ m. m
             ≡ record {
@@ -188,7 +189,8 @@ impl Machine {
         })
     }
 
-    /// Reads what the look-ups of these lines' hints will read, where that pays.
+    /// Reads what the look-ups of the hints of sixteen lines, from a place on, will read, where that
+    /// pays. Nothing that is seen of the machine changes.
     #[inline]
     pub fn read_ahead(&mut self, batch: &Batch, from: usize)
         ensures { self.new ≡ self.old }

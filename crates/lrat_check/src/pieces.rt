@@ -44,7 +44,7 @@ impl Checker {
     ///
     /// # Errors
     ///
-    /// `AllocError` where memory was refused.
+    /// `AllocError` where memory was refused, or where the formula has more than 2^32 - 2 literals.
     pub fn new(formula: &Formula) -> Result<Self, AllocError>
         ensures stands { IfOk result (λ c. Stands c formula.now.clauses []) }
         ensures works { IfOk result (λ c. c.failed ≡ false) }

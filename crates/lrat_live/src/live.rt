@@ -116,7 +116,7 @@ fn count_out(is_counted: bool, counts: &mut [u32], near: &Near, far: &Added, id:
 
 impl LiveClauses {
     /// The clauses of the formula under the ids from 1. An AllocError comes where memory was
-    /// refused.
+    /// refused, or where the formula has more than 2^32 - 2 literals.
     pub fn new(formula: Formula) -> Result<Self, AllocError>
         ensures { IfOk result (λ live. live ≡ listed_from 1 formula.clauses) }
     {

@@ -38,7 +38,7 @@ pub(crate) struct Near {
     /// So many ids after the formula's have no span; the id after them is that of the first recent
     /// span.
     gap: u64,
-    /// How many recent clauses are live.
+    /// How many recent clauses are live; more than that only after a refusal of memory.
     live: usize,
     /// How many literals died since the last reclaiming, at least the recent ones.
     dead: usize,
