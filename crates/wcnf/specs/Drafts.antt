@@ -1,10 +1,10 @@
 -- What the lines read so far make, and what one more line makes of it.
 use Rattle.std.specs.Prelude.{◌≡◌, ℕ, ◌+◌, ◌<◌, ◌*◌, max, Bool, true, false, ◌&&◌, List, [], ◌∷◌}
 use Rattle.std.specs.Prelude.{◌++◌, length, Option, Some, None, is_none, Result, Ok, Err, nat_lt}
-use Rattle.std.specs.Prelude.{nat_le, if◌then◌else◌, slice_index_or}
-use Rattle.std.specs.List.{AllByRecursion}
-use Rattle.wcnf.specs.Literal.{Literal, index_of}
+use Rattle.std.specs.Prelude.{nat_le, if◌then◌else◌, All}
+use Rattle.wcnf.specs.Literal.{Literal}
 use Rattle.wcnf.specs.Clause.{contains_literal, has_repeat}
+use Rattle.wcnf.specs.Marks.{HasPlace, IsMarked}
 use Rattle.wcnf.specs.Problem.{Problem, SoftClause}
 use Rattle.wcnf.specs.Text.{tokens_of}
 use Rattle.wcnf.specs.declared.faults.FaultKind.{FaultKind}
@@ -31,12 +31,11 @@ with_literal c l = if contains_literal l c then c else c ++ l ∷ []
 abbrev pub gather : Gathered → Literal → Gathered
 gather g l = record { variables = max g.variables l.variable; literals = with_literal g.literals l }
 
--- two marks for each variable, and those of the clause's literals are set
+-- two marks for each variable, and those of the clause's literals are set if it is a long one
 pub record AreMarked (variables : ℕ) (marks : List Bool) (c : List Literal) : Type 0 where
   pub count : length marks ≡ 2 * variables
-  pub marked : (l : Literal) → 0 < l.variable
-      → slice_index_or marks (index_of l) false ≡ contains_literal l c
-  pub positive : AllByRecursion (λ l. 0 < l.variable) c
+  pub marked : 8 < length c → IsMarked marks c
+  pub places : All (HasPlace (2 * variables)) c
   pub once : has_repeat c ≡ false
 
 -- the clause up to the 0 that ends the line, and how many literals stand in the text then

@@ -1,8 +1,12 @@
-// The clause that is being read. Repeats are told by a mark for each literal, so a clause of n
-// literals takes n steps, and all marks are taken away in one before the next clause.
-ghost use Rattle.std.specs.Prelude.{◌≡◌, false, ℕ, ◌<◌, ◌≤◌, ◌^◌, max, [], Ok, Err, OnOk, IfOk};
-ghost use Rattle.std.specs.Prelude.{MatchResult, ◌⊎◌};
-ghost use Rattle.wcnf.specs.Clause.{has_repeat};
+// The clause that is being read. Repeats in a long clause are told by a mark for each literal, so
+// that n literals take n steps. In a short one each literal is compared with those before it: the
+// marks of a million variables lie far apart, and asking for them took more than half of the time
+// of a large text with short clauses.
+ghost use Rattle.std.specs.Prelude.{◌≡◌, false, ℕ, ◌<◌, ◌≤◌, ◌^◌, max, List, [], ◌∷◌, ◌++◌, length};
+ghost use Rattle.std.specs.Prelude.{All, MatchResult, Ok, Err, OnOk, IfOk, ◌⊎◌};
+ghost use Rattle.wcnf.specs.Clause.{contains_literal, has_repeat};
+ghost use Rattle.wcnf.specs.Literal.{Literal};
+ghost use Rattle.wcnf.specs.Marks.{HasPlace, IsMarked};
 ghost use Rattle.wcnf.specs.Reading.{ended_at};
 ghost use Rattle.wcnf.specs.Drafts.{with_literal, emptied, gathered_at};
 
@@ -15,12 +19,15 @@ use crate::words::{Word, read_word};
 use std::alloc::{AllocError, Global};
 use std::marker::Model;
 
+/// A clause of at most so many literals has no marks.
+const FEW: usize = 8;
+
 /// The clause that is being read, each literal once, and the greatest variable of the text so far.
 #[derive(Drop)]
 pub(crate) struct Gathering {
     // The greatest variable of the text so far, at most 2^22; 0 where there is none.
     vars: u32,
-    // Of the literals of these variables: whether the clause has them.
+    // Of the literals of these variables: whether the clause has them, if it is a long one.
     marks: Marks,
     // The literals of the clause, in their order.
     lits: Vec<Lit>,
@@ -58,7 +65,6 @@ impl Gathering {
     fn clear(&mut self)
         ensures { self.new ≡ emptied self.old.variables }
     {
-        self.marks.clear();
         self.lits.clear();
     }
 
@@ -85,6 +91,19 @@ impl Gathering {
         Ok(())
     }
 
+    /// Whether the clause has the literal.
+    fn has(&self, lit: Lit) -> bool
+        requires from_one { 0 < lit.variable }
+        requires covered { lit.variable ≤ self.now.variables }
+        ensures { result ≡ contains_literal lit self.now.literals }
+    {
+        if self.lits.len() > FEW {
+            self.marks.is_marked(lit)
+        } else {
+            self.lits.contains(&lit)
+        }
+    }
+
     /// One more literal, unless the clause has it.
     fn add(&mut self, lit: Lit) -> Result<(), AllocError>
         requires from_one { 0 < lit.variable }
@@ -92,10 +111,11 @@ impl Gathering {
         ensures vars { self.new.variables ≡ self.old.variables }
         ensures add { OnOk result (self.new.literals ≡ with_literal self.old.literals lit) }
     {
-        if !self.marks.is_marked(lit) {
-            self.lits.push(lit)?;
-            self.marks.mark(lit);
+        if self.has(lit) {
+            return Ok(());
         }
+        self.lits.push(lit)?;
+        mark_last(&mut self.marks, &self.lits, lit);
         Ok(())
     }
 
@@ -149,6 +169,23 @@ impl Gathering {
         ensures no_repeat { has_repeat result.now ≡ false }
     {
         &self.lits
+    }
+}
+
+/// Marks the literals of a clause, the last of which has just come: all of them, where it has
+/// become a long one.
+fn mark_last(marks: &mut Marks, lits: &[Lit], last: Lit)
+    requires places { All (HasPlace (length marks.old)) lits.now }
+    requires place { HasPlace (length marks.old) last }
+    ensures len { length marks.new ≡ length marks.old }
+    ensures marked { (c : List Literal) → lits.now ≡ c ++ last ∷ []
+        → (8 < length c → IsMarked marks.old c)
+        → 8 < length lits.now → IsMarked marks.new lits.now }
+{
+    if lits.len() > FEW + 1 {
+        marks.mark(last);
+    } else if lits.len() > FEW {
+        marks.mark_all(lits);
     }
 }
 

@@ -1,4 +1,3 @@
-use Rattle.std.proofs.Common.{◌∙◌, ap}
 use Rattle.wcnf.proofs.Cutting.{whole_cut}
 use Rattle.wcnf.proofs.clause_list.ClauseList.into_lits.Goals as goal
 

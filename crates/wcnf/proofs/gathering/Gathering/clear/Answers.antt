@@ -1,8 +1,8 @@
--- No literal is marked.
+-- A clause without literals has no marks.
 use Rattle.wcnf.proofs.Gathered.{marked-none}
 use Rattle.wcnf.proofs.gathering.Gathering.clear.Goals as goal
 
 pub invariant_of-self : goal.invariant_of-self
 invariant_of-self c =
-    rw (c.clear.ensures, c.clear-2.ensures.items)
-    (marked-none c.self.inside.vars c.self.inside.marks c.self.inside.lits.items c.self.invariant)
+    let s = c.self.inside in
+    rw c.clear.ensures.items (marked-none s.vars s.marks c.self.invariant.count)
