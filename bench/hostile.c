@@ -102,15 +102,20 @@ static void candidate(long n) {
     ended(5 + n);
 }
 
-/* One line of N bytes that has no end: blanks, digits of one number, or hints. */
-static void line(long n, char what) {
+/* One line of N bytes that has no end: blanks, or digits of one number. */
+static void line(long n, char byte) {
     base();
-    if (what == 'h') {
-        fprintf(proof, "4 1 2 0");
-        for (long k = 0; k < n; k += 2) fprintf(proof, " 1");
-    } else {
-        for (long k = 0; k < n; k++) putc(what == 'b' ? ' ' : '7', proof);
-    }
+    for (long k = 0; k < n; k++) putc(byte, proof);
+}
+
+/* A chain of N clauses, and one line with no line feed that names them all. */
+static void hints(long n) {
+    fprintf(text, "h 1 0\n");
+    for (long k = 1; k < n - 1; k++) fprintf(text, "h -%ld %ld 0\n", k, k + 1);
+    fprintf(text, "h -%ld 0\n", n - 1);
+    fprintf(proof, "%ld 0", n + 1);
+    for (long k = 1; k <= n; k++) fprintf(proof, " %ld", k);
+    fprintf(proof, " 0");
 }
 
 /* N lines without a token. */
@@ -136,9 +141,9 @@ int main(int argc, char **argv) {
     else if (!strcmp(kind, "falling")) churn(n, 'f');
     else if (!strcmp(kind, "mixed")) churn(n, 'm');
     else if (!strcmp(kind, "candidate")) candidate(n);
-    else if (!strcmp(kind, "blanks")) line(n, 'b');
-    else if (!strcmp(kind, "digits")) line(n, 'd');
-    else if (!strcmp(kind, "hints")) line(n, 'h');
+    else if (!strcmp(kind, "blanks")) line(n, ' ');
+    else if (!strcmp(kind, "digits")) line(n, '7');
+    else if (!strcmp(kind, "hints")) hints(n);
     else if (!strcmp(kind, "lines")) blank(n);
     else return 2;
     fclose(text);

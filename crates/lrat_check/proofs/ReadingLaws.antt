@@ -1,15 +1,19 @@
 -- Lines that were read together: what holds after one of them more, and after all.
-use Rattle.std.proofs.Common.{◌≡◌, ℕ, ◌+◌, ◌<◌, ◌≤◌, List, [], ◌∷◌, ◌++◌, length}
-use Rattle.std.proofs.Common.{Option, Some, None, sym, ◌∙◌, ap, subst}
+use Rattle.std.proofs.Common.{◌≡◌, ℕ, zero, suc, ◌+◌, ◌<◌, ◌≤◌, Bool, true, false, List, [], ◌∷◌}
+use Rattle.std.proofs.Common.{◌++◌, length, replicate, Option, Some, None, refl, sym, ◌∙◌, ap}
+use Rattle.std.proofs.Common.{subst}
 use Rattle.std.proofs.Common.{arith, append_assoc, length-append}
 use Rattle.std.specs.Str.Lines.{strip_carriage_return}
+use Rattle.wcnf.specs.Lrat.{Live}
 use Rattle.wcnf.specs.Text.{token_lines, tokens_of}
 use Rattle.lrat_read.specs.Batch.{AreRead, IsFirstRead}
+use Rattle.lrat_read.specs.Blanks.{no_tokens}
 use Rattle.lrat_read.specs.Reader.{IsReadAs}
 use Rattle.lrat_read.specs.declared.line.ReadLine.{ReadLine}
 use Rattle.lrat_check.specs.declared.verdicts.Verdict.{Verdict}
-use Rattle.lrat_check.specs.Machine.{MachineState, verdict_after}
+use Rattle.lrat_check.specs.Machine.{MachineState, after_lines, live_in, verdict_after}
 use Rattle.lrat_check.specs.Pieces.{Judges, JudgesLines, HaveJudged, EndsInFeed}
+use Rattle.lrat_check.specs.Verdict.{verdict_on}
 use Rattle.lrat_check.proofs.PieceLaws.{verdict_first}
 
 abbrev pub JudgesRead : MachineState → ReadLine → MachineState → Option Verdict → Type 0
@@ -69,6 +73,28 @@ lines_within bytes (r ∷ rs) (others, line, read) =
     let size : length bytes ≡ length line.line + length (10 ∷ others) = ap length line.split
     ∙ length-append line.line (10 ∷ others) in
     omega (arith, more, size)
+
+one_passed : (live : Live) (ended : Bool) (n : ℕ) (more : List (List (List ℕ)))
+    → verdict_on live ended n ([] ∷ more) ≡ verdict_on live ended (n + 1) more
+one_passed live true n more = refl
+one_passed live false n more = refl
+
+-- lines without a token are counted
+pub lines_passed : (m : MachineState) (n : ℕ) (bytes : List ℕ)
+    → AreRead bytes (replicate n no_tokens) → JudgesLines m bytes (after_lines m n) None
+lines_passed m zero bytes read = λ more.
+    ap (λ b. verdict_after m (token_lines (b ++ more))) read
+    ∙ ap (λ k. verdict_on (live_in m) m.ended (k + 1) (token_lines more))
+    (let same : m.lines ≡ m.lines + 0 = omega arith in same)
+lines_passed m (suc n) bytes (left, first, read) = λ more.
+    ap (λ b. verdict_after m (token_lines (b ++ more))) first.split
+    ∙ ap (λ b. verdict_after m (token_lines b)) (append_assoc first.line (10 ∷ left) more)
+    ∙ verdict_first m first.line (left ++ more) first.no_feed
+    ∙ ap (λ ts. verdict_after m (ts ∷ token_lines (left ++ more))) first.read
+    ∙ one_passed (live_in m) m.ended (m.lines + 1) (token_lines (left ++ more))
+    ∙ lines_passed (after_lines m 1) n left read more
+    ∙ ap (λ k. verdict_on (live_in m) m.ended (k + 1) (token_lines more))
+    (let same : (m.lines + 1) + n ≡ m.lines + suc n = omega arith in same)
 
 ends_after : (bytes front others : List ℕ) → bytes ≡ front ++ 10 ∷ others
     → (0 < length others → EndsInFeed others) → EndsInFeed bytes

@@ -16,6 +16,15 @@ pub record MachineState : Type 0 where
   -- how many lines there were
   pub lines : ℕ
 
+-- the same with so many lines more, of which none has a token
+abbrev pub after_lines : MachineState → ℕ → MachineState
+after_lines s n = record {
+  clauses = s.clauses;
+  last = s.last;
+  ended = s.ended;
+  lines = s.lines + n;
+}
+
 abbrev pub live_in : MachineState → Live
 live_in s = record { clause_at = listed_at s.clauses; last = s.last }
 

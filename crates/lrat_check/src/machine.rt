@@ -4,7 +4,7 @@ ghost use Rattle.std.specs.Prelude.{nat_eq, IfOk, OnErr, IsSome, MatchOption, So
 ghost use Rattle.wcnf.specs.Formula.{IsFormula};
 ghost use Rattle.wcnf.specs.Text.{tokens_of};
 ghost use Rattle.lrat_live.specs.Listed.{listed_from};
-ghost use Rattle.lrat_check.specs.Machine.{MachineState, StepsTo, verdict_after};
+ghost use Rattle.lrat_check.specs.Machine.{MachineState, StepsTo, after_lines, verdict_after};
 ghost use Rattle.lrat_check.specs.Steps.{Adds, IsBase, IsFaultOf, live_of};
 ghost use Rattle.lrat_check.specs.Verdict.{deleted};
 ghost use Rattle.lrat_read.specs.Reader.{IsReadAs};
@@ -196,6 +196,15 @@ impl Machine {
         ensures { self.new ≡ self.old }
     {
         self.seen = read_ahead(&self.base.live, batch, from);
+    }
+
+    /// Counts lines without a token, of which nothing else comes.
+    #[inline]
+    pub fn pass_over(&mut self, lines: u64)
+        requires { self.old.lines + lines < 2 ^ 64 }
+        ensures { self.new ≡ after_lines self.old lines }
+    {
+        self.lines += lines;
     }
 
     /// How many lines were read, those without tokens among them.

@@ -6,4 +6,5 @@ mod Prefixes
 mod PlainLaws
 mod PlainLoops
 mod BatchLaws
+mod BlankLaws
 pub mod Laws

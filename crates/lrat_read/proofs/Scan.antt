@@ -9,6 +9,7 @@ use Rattle.std.proofs.lemmas.Bool.{and_from, and_parts, both_ways, ne_eqb, lt-lt
 use Rattle.std.proofs.lemmas.Bool.{cases_Bool, cond-false}
 use Rattle.std.proofs.lemmas.List.{take_more, get_or-drop, drop-drop, take-append-drop, length-drop}
 use Rattle.std.proofs.lemmas.List.{length-append, length-take}
+use Rattle.std.proofs.lemmas.List.Folds.{list_all-append}
 use Rattle.std.proofs.lemmas.Str.Parse.{digits_value_short}
 use Rattle.std.proofs.lemmas.Fmt.{length-decimal-le}
 use Rattle.wcnf.specs.Text.{is_blank, begins_with_token, put_byte, tokens_of, is_digit, value_on}
@@ -89,11 +90,14 @@ value_push : (n : ℕ) (ds : List ℕ) (b : ℕ)
 value_push n [] b = refl
 value_push n (d ∷ ds) b = value_push (10 * n + (d - 48)) ds b
 
-digits_push : (ds : List ℕ) (b : ℕ) → list_all is_digit ds ≡ true → is_digit b ≡ true
-    → list_all is_digit (ds ++ b ∷ []) ≡ true
-digits_push [] b e h = and_from (is_digit b) true h refl
-digits_push (d ∷ ds) b e h = let p = and_parts (is_digit d) (list_all is_digit ds) e in
-    and_from (is_digit d) (list_all is_digit (ds ++ b ∷ [])) p.0 (digits_push ds b p.1 h)
+-- a run of bytes that pass a test, and one byte more
+pub run_push : (test : ℕ → Bool) (s : List ℕ) (i j : ℕ) → i ≤ j → j < length s
+    → list_all test (slice_range s i j) ≡ true → test (get_or s j 0) ≡ true
+    → list_all test (slice_range s i (j + 1)) ≡ true
+run_push test s i j h l e b =
+    ap (list_all test) (range_push s i j h l)
+    ∙ list_all-append test (slice_range s i j) (get_or s j 0 ∷ [])
+    ∙ rw (e, b) refl
 
 -- so few digits leave room for one more
 -- a byte less the byte of the digit 0, where that is at most 9
@@ -116,12 +120,10 @@ pub digits_step : (s : List ℕ) (i j : ℕ) → i ≤ j → j < length s → 48
     (list_all is_digit (slice_range s i (j + 1)) ≡ true)
     × (value_on 0 (slice_range s i (j + 1)) ≡ 10 * value_on 0 (slice_range s i j)
     + (get_or s j 0 - 48))
-digits_step s i j h l low high e =
-    let more = range_push s i j h l in (
-      ap (list_all is_digit) more
-          ∙ digits_push (slice_range s i j) (get_or s j 0) e (digit_from (get_or s j 0) low high),
-      ap (value_on 0) more ∙ value_push 0 (slice_range s i j) (get_or s j 0),
-    )
+digits_step s i j h l low high e = (
+  run_push is_digit s i j h l e (digit_from (get_or s j 0) low high),
+  ap (value_on 0) (range_push s i j h l) ∙ value_push 0 (slice_range s i j) (get_or s j 0),
+)
 
 range_none : (s : List ℕ) (i : ℕ) → slice_range s i i ≡ []
 range_none s i = let none : i - i ≡ 0 = omega arith in ap (λ k. take k (drop i s)) none

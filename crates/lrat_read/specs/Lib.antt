@@ -5,3 +5,4 @@ pub mod Numbers
 pub mod Blocks
 pub mod Plain
 pub mod Batch
+pub mod Blanks

@@ -3,6 +3,7 @@
 #![tactic(auto)]
 
 pub mod batch;
+pub mod blanks;
 mod blocks;
 pub mod line;
 mod numbers;

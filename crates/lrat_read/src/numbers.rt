@@ -1,7 +1,8 @@
 // Where a number of a line begins and ends, and what it is, however the line is written. Nearly all
 // lines of a certificate are written plainly, and are read by `plain.rt` in place of this.
 ghost use Rattle.std.specs.Prelude.{◌≡◌, ◌+◌, ◌<◌, ◌≤◌, ◌↔◌, length, drop, slice_index, not, false};
-ghost use Rattle.std.specs.Prelude.{IsTrue};
+ghost use Rattle.std.specs.Prelude.{IsTrue, slice_range, true};
+ghost use Rattle.std.specs.List.{list_all};
 ghost use Rattle.wcnf.specs.Text.{tokens_of, is_blank, begins_with_token};
 ghost use Rattle.lrat_read.specs.Numbers.{IsDigitsAt, IsNumber, IsNumberAt};
 ghost use Rattle.lrat_read.specs.Numbers.{IsAfterLetter};
@@ -49,6 +50,7 @@ pub fn skip_blanks(line: &[u8], at: usize) -> usize
     ensures from { at ≤ result }
     ensures within { result ≤ length line.now }
     ensures same { tokens_of (drop result line.now) ≡ tokens_of (drop at line.now) }
+    ensures blank { list_all is_blank (slice_range line.now at result) ≡ true }
     ensures stops { result < length line.now → is_blank (slice_index line.now result) ≡ false }
 {
     let mut place = at;

@@ -1,11 +1,50 @@
--- The bytes that were taken hold the lines that were judged.
-use Rattle.std.proofs.Common.{◌++◌, take, ap, sym, subst, arith}
+-- The bytes that were taken hold the lines that were judged, or those that were passed over.
+use Rattle.std.proofs.Common.{◌++◌, None, replicate, take, ap, sym, subst, arith}
 use Rattle.std.proofs.lemmas.List.{length-take-le}
 use Rattle.wcnf.proofs.Laws.{empty_from_test}
+use Rattle.lrat_read.specs.Blanks.{no_tokens}
+use Rattle.lrat_check.specs.Machine.{MachineState}
 use Rattle.lrat_check.specs.Pieces.{JudgesLines}
 use Rattle.lrat_check.proofs.PieceLaws.{lines_more}
-use Rattle.lrat_check.proofs.ReadingLaws.{lines_within, read_ends}
+use Rattle.lrat_check.proofs.ReadingLaws.{lines_passed, lines_within, read_ends}
 use Rattle.lrat_check.proofs.reading.Reading.take_batch.Goals as goal
+
+pub pass_over-requires : goal.pass_over-requires
+pass_over-requires c =
+    let blank = c.blank_lines-blank.ensures in
+    omega (arith, blank.few, blank.within, c.requires.room)
+
+pub returns-then-blank-gt0-clause-holds : goal.returns-then-blank-gt0-clause-holds
+returns-then-blank-gt0-clause-holds c =
+    let blank = c.blank_lines-blank in
+    let old = c.args.self.now in
+    let text = take blank.result.bytes c.args.text.now in
+    let size = length-take-le blank.result.bytes c.args.text.now blank.ensures.within in
+    let empty =
+    empty_from_test (old.rest).items c.as_slice.result.now c.is_empty.result
+    c.as_slice.ensures.value c.is_empty.ensures c.if-not-is_empty.false in
+    let passed : JudgesLines old.machine text c.pass_over.new.self None =
+    subst (λ m. JudgesLines old.machine text m None) (sym c.pass_over.ensures)
+    (lines_passed old.machine blank.result.count text blank.ensures.read) in
+    let behind : JudgesLines old.machine ((old.rest).items ++ text) c.pass_over.new.self None =
+    subst (λ x. JudgesLines old.machine x c.pass_over.new.self None)
+    (ap (λ x. x ++ text) (sym empty)) passed in
+    lines_more old _ text c.requires.open
+    (read_ends text (replicate blank.result.count no_tokens) blank.ensures.read
+    (omega (arith, size, c.if-blank-gt0.true))) empty
+    (subst (JudgesLines old.machine ((old.rest).items ++ text) c.pass_over.new.self)
+    (sym c.requires.open) behind)
+
+pub returns-then-blank-gt0-clause-lines : goal.returns-then-blank-gt0-clause-lines
+returns-then-blank-gt0-clause-lines c =
+    let lines = ap (λ (m : MachineState). m.lines) c.pass_over.ensures in
+    omega (arith, lines, c.blank_lines-blank.ensures.few)
+
+pub returns-then-blank-gt0-clause-room : goal.returns-then-blank-gt0-clause-room
+returns-then-blank-gt0-clause-room c =
+    let blank = c.blank_lines-blank.ensures in
+    let lines = ap (λ (m : MachineState). m.lines) c.pass_over.ensures in
+    omega (arith, lines, blank.few, blank.within)
 
 pub judge_batch-requires : goal.judge_batch-requires
 judge_batch-requires c =
