@@ -52,6 +52,9 @@ done <<'ROWS'
 5 134217728 0 0|ClauseForm 1
 5 134217727 0 0|NoEmptyClause 0
 \n \n|NoEmptyClause 0
+\n\r\n \t\n  \r\n5 d 9 0|DeadId 5
+5 2 0 1 2 0\n\n \n6 0 5 3 4 0\n\n\n7 1 0 0|TrailingLine 7
+\n\r 5 d 9 0|LineForm 2
 5 2 0 1 2 0\n5 2 0 1 2 0|IdOrder 2
 5 2 -2 0 1 2 0|ClauseForm 1
 5 2 0 1 2 -3 0|HintAfterConflict 1

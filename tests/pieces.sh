@@ -57,6 +57,13 @@ peak() {
 }
 ok 'a certificate of a hundred megabytes' [ "$(peak)" = YES ]
 ok "it takes little memory: $(cat "$work/peak") kB" [ "$(cat "$work/peak")" -lt 16384 ]
+
+# A definition of the greatest variable: no count of each literal up to it is kept.
+lines proof '5 134217727 1 0 0' '6 2 0 1 2 0' '7 0 6 3 4 0'
+out=$(cd "$work" && /usr/bin/time -o peak -f %M "$wmax" check text result proof)
+ok 'the greatest variable' [ "$out" = YES ]
+ok "it takes little memory: $(cat "$work/peak") kB" [ "$(cat "$work/peak")" -lt 300000 ]
+
 lines proof '5 d 9 0'
 out=$(cd "$work" && { cat proof; yes 2> /dev/null; } | timeout 20 "$wmax" check text result /dev/stdin 2> .err)
 status=$?

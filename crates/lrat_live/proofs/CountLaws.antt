@@ -1,18 +1,16 @@
 -- Laws of counts. A rising list of ids whose clauses have the literal in as many places as all
 -- clauses do names all that have it.
 use Rattle.std.proofs.Common.{◌≡◌, ℕ, ◌+◌, ◌-◌, ◌*◌, ◌<◌, ◌≤◌, Bool, true, false, not, List, []}
-use Rattle.std.proofs.Common.{◌∷◌, ◌++◌, length, get_or, take, drop, set, Option, Some, None, refl}
+use Rattle.std.proofs.Common.{◌∷◌, ◌++◌, length, get_or, take, drop, Option, Some, None, refl}
 use Rattle.std.proofs.Common.{sym, ◌∙◌, ap, subst, arith, inl, inr}
 use Rattle.std.proofs.Math.Bool.{cond}
-use Rattle.std.specs.Prelude.{◌==◌, ◌&&◌, All, nat_lt, nat_le, slice_index, slice_range}
+use Rattle.std.specs.Prelude.{◌==◌, ◌&&◌, All, nat_lt, nat_le, slice_range}
 use Rattle.std.specs.List.{AllByRecursion}
 use Rattle.std.proofs.lemmas.Bool.{not-false, not-true, and_from, and_parts, or_parts, or_from}
 use Rattle.std.proofs.lemmas.Bool.{cases_Bool, both_ways, eq-eqb, eqb-true, ne_eqb, cases_eq}
 use Rattle.std.proofs.lemmas.Bool.{cases_lt, ltb-true, lt-ltb, leb-true, le-leb, false≢true}
 use Rattle.std.proofs.lemmas.Bool.{cond-true, cond-false, false_from_ne_true}
-use Rattle.std.proofs.Math.ListN.{get_or-eq_default}
-use Rattle.std.proofs.lemmas.List.{drop_more, take_more, append-nil, map_push, get_or-set_same}
-use Rattle.std.proofs.lemmas.List.{get_or-set_other}
+use Rattle.std.proofs.lemmas.List.{drop_more, take_more, append-nil, map_push}
 use Rattle.std.proofs.lemmas.List.Elements.{All-head, All-tail}
 use Rattle.wcnf.specs.Numbers.{one_if}
 use Rattle.wcnf.specs.Literal.{Literal, literal_eq, same_bool, index_of}
@@ -31,6 +29,9 @@ use Rattle.lrat_live.specs.declared.entries.Entry.{Entry}
 plus_zero : (a : ℕ) → a + 0 ≡ a
 plus_zero a = omega arith
 
+minus_zero : (a : ℕ) → a ≡ a - 0
+minus_zero a = omega arith
+
 zero_plus : (a : ℕ) → 0 + a ≡ a
 zero_plus a = omega arith
 
@@ -42,21 +43,6 @@ some_first a b e = omega arith
 
 some_later : (a b : ℕ) → 0 < b → 0 < a + b
 some_later a b h = omega arith
-
-more_here : (h n s was one : ℕ) → h ≡ n → s ≡ was → n ≡ was + 1 → one ≡ 1 → h ≡ s + one
-more_here h n s was one a b c d = omega arith
-
-less_here : (h n s was one : ℕ) → h ≡ n → s ≡ was → n + 1 ≡ was → one ≡ 1 → h ≡ s - one
-less_here h n s was one a b c d = omega arith
-
-more_there : (h s none : ℕ) → h ≡ s → none ≡ 0 → h ≡ s + none
-more_there h s none a b = omega arith
-
-less_there : (h s none : ℕ) → h ≡ s → none ≡ 0 → h ≡ s - none
-less_there h s none a b = omega arith
-
-none_here : (s one : ℕ) → s ≡ 0 → s ≡ s - one
-none_here s one e = omega arith
 
 raise_sum : (n m o x y t u : ℕ) → n ≡ m + x → x ≡ y → m ≡ o + t → u ≡ t + y → n ≡ o + u
 raise_sum n m o x y t u a b c d = omega arith
@@ -158,91 +144,30 @@ one_at l k p q =
           ∙ sym (ap one_if (false_from_ne_true _ (λ t. n (ap index_of (literal_eq-true l k t)))))
     ]
 
--- one literal of the clause more
-pub set_more : (xs : List ℕ) (i n : ℕ) → i < length xs → n ≡ slice_index xs i + 1 → (p : ℕ)
-    → slice_index (set xs i n) p ≡ slice_index xs p + one_if (p == i)
-set_more xs i n h e p =
-    elim (cases_eq p i) [
-      | inl same ↦
-          let one : one_if (p == i) ≡ 1 = ap one_if (eq-eqb p i same) in
-          let here : slice_index (set xs i n) p ≡ n =
-          subst (λ k. slice_index (set xs i n) k ≡ n) (sym same) (get_or-set_same xs i n 0 h) in
-          let there : slice_index xs p ≡ slice_index xs i = ap (slice_index xs) same in
-          more_here (slice_index (set xs i n) p) n (slice_index xs p) (slice_index xs i)
-          (one_if (p == i)) here there e one
-      | inr other ↦
-          let none : one_if (p == i) ≡ 0 = ap one_if (ne_eqb p i other) in
-          let here : slice_index (set xs i n) p ≡ slice_index xs p =
-          get_or-set_other xs i p n 0 other in
-          more_there (slice_index (set xs i n) p) (slice_index xs p) (one_if (p == i)) here none
-    ]
+pub raised_none : (old : ℕ → ℕ) (c : List Literal) → AreRaised old (take 0 c) old
+raised_none old c = λ l p. sym (plus_zero (old (index_of l)))
 
-pub set_less : (xs : List ℕ) (i n : ℕ) → i < length xs → n + 1 ≡ slice_index xs i → (p : ℕ)
-    → slice_index (set xs i n) p ≡ slice_index xs p - one_if (p == i)
-set_less xs i n h e p =
-    elim (cases_eq p i) [
-      | inl same ↦
-          let one : one_if (p == i) ≡ 1 = ap one_if (eq-eqb p i same) in
-          let here : slice_index (set xs i n) p ≡ n =
-          subst (λ k. slice_index (set xs i n) k ≡ n) (sym same) (get_or-set_same xs i n 0 h) in
-          let there : slice_index xs p ≡ slice_index xs i = ap (slice_index xs) same in
-          less_here (slice_index (set xs i n) p) n (slice_index xs p) (slice_index xs i)
-          (one_if (p == i)) here there e one
-      | inr other ↦
-          let none : one_if (p == i) ≡ 0 = ap one_if (ne_eqb p i other) in
-          let here : slice_index (set xs i n) p ≡ slice_index xs p =
-          get_or-set_other xs i p n 0 other in
-          less_there (slice_index (set xs i n) p) (slice_index xs p) (one_if (p == i)) here none
-    ]
-
--- where there is none, there is none to take
-pub none_less : (xs : List ℕ) (i : ℕ) → slice_index xs i ≡ 0 → (p : ℕ)
-    → slice_index xs p ≡ slice_index xs p - one_if (p == i)
-none_less xs i e p =
-    elim (cases_eq p i) [
-      | inl same ↦ none_here (slice_index xs p) (one_if (p == i)) (ap (slice_index xs) same ∙ e)
-      | inr other ↦ less_there (slice_index xs p) (slice_index xs p) (one_if (p == i)) refl
-          (ap one_if (ne_eqb p i other))
-    ]
-
--- a longer table, with none past its end before
-pub reached : (old new : List ℕ) (n : ℕ) → length new ≡ n → length old ≤ n
-    → ((k d : ℕ) → k < n → k < length old → get_or new k d ≡ get_or old k d)
-    → ((k d : ℕ) → length old ≤ k → k < n → get_or new k d ≡ 0)
-    → (p : ℕ) → slice_index new p ≡ slice_index old p
-reached old new n long fewer kept fresh p =
-    elim (cases_lt p (length old)) [
-      | inl h ↦ kept p 0 (omega arith) h
-      | inr h ↦ elim (cases_lt p n) [
-        | inl k ↦ fresh p 0 h k ∙ sym (get_or-eq_default old 0 h)
-        | inr k ↦ get_or-eq_default new 0 (omega arith) ∙ sym (get_or-eq_default old 0 h)
-      ]
-    ]
-
-pub raised_none : (old : List ℕ) (c : List Literal) → AreRaised old (take 0 c) old
-raised_none old c = λ l p. sym (plus_zero (slice_index old (index_of l)))
-
-pub raised_more : (old mid new : List ℕ) (c : List Literal) (i : ℕ) (k : Literal)
+pub raised_more : (old mid new : ℕ → ℕ) (c : List Literal) (i : ℕ) (k : Literal)
     → AreRaised old (take i c) mid → i < length c → k ≡ get_or c i k → 0 < k.variable
-    → ((p : ℕ) → slice_index new p ≡ slice_index mid p + one_if (p == index_of k))
+    → ((p : ℕ) → new p ≡ mid p + one_if (p == index_of k))
     → AreRaised old (take (i + 1) c) new
 raised_more old mid new c i k r h e positive step = λ l p.
-    raise_sum (slice_index new (index_of l)) (slice_index mid (index_of l))
-    (slice_index old (index_of l)) (one_if (index_of l == index_of k)) (one_if (literal_eq l k))
+    raise_sum (new (index_of l)) (mid (index_of l))
+    (old (index_of l)) (one_if (index_of l == index_of k)) (one_if (literal_eq l k))
     (times_in l (take i c)) (times_in l (take (i + 1) c))
     (step (index_of l)) (one_at l k p positive) (r l p) (times_in-more l k c i h e)
 
-pub lowered_none : (old : List ℕ) (c : List Literal) → AreLowered old (take 0 c) old
+pub lowered_none : (old : ℕ → ℕ) (c : List Literal) → AreLowered old (take 0 c) old
 lowered_none old c =
-    λ l p. less_there (slice_index old (index_of l)) (slice_index old (index_of l)) 0 refl refl
+    λ l p. minus_zero (old (index_of l))
 
-pub lowered_more : (old mid new : List ℕ) (c : List Literal) (i : ℕ) (k : Literal)
+pub lowered_more : (old mid new : ℕ → ℕ) (c : List Literal) (i : ℕ) (k : Literal)
     → AreLowered old (take i c) mid → i < length c → k ≡ get_or c i k → 0 < k.variable
-    → ((p : ℕ) → slice_index new p ≡ slice_index mid p - one_if (p == index_of k))
+    → ((p : ℕ) → new p ≡ mid p - one_if (p == index_of k))
     → AreLowered old (take (i + 1) c) new
 lowered_more old mid new c i k r h e positive step = λ l p.
-    lower_sum (slice_index new (index_of l)) (slice_index mid (index_of l))
-    (slice_index old (index_of l)) (one_if (index_of l == index_of k)) (one_if (literal_eq l k))
+    lower_sum (new (index_of l)) (mid (index_of l))
+    (old (index_of l)) (one_if (index_of l == index_of k)) (one_if (literal_eq l k))
     (times_in l (take i c)) (times_in l (take (i + 1) c))
     (step (index_of l)) (one_at l k p positive) (r l p) (times_in-more l k c i h e)
 
@@ -252,7 +177,8 @@ times-append l [] fs = sym (zero_plus (times l fs))
 times-append l (e ∷ es) fs = ap (λ n. times_in l e.1 + n) (times-append l es fs)
     ∙ plus_plus (times_in l e.1) (times l es) (times l fs)
 
-pub counts_push : (old new : List ℕ) (es : Listed) (id : ℕ) (c : List Literal) → AreCounts old es
+pub counts_push : (old new : ℕ → ℕ) (es : Listed) (id : ℕ) (c : List Literal)
+    → AreCounts old es
     → AreRaised old c new → AreCounts new (es ++ (id, c) ∷ [])
 counts_push old new es id c a r = λ l p.
     r l p ∙ ap (λ n. n + times_in l c) (a l p)
@@ -309,7 +235,7 @@ times_without l i (x ∷ es) c r e =
               le_later (times_in l x.1) (times l es) (times_in l c) (times_le l i es c there)
         ]
 
-pub counts_without : (old new : List ℕ) (es : Listed) (id : ℕ) (c : List Literal)
+pub counts_without : (old new : ℕ → ℕ) (es : Listed) (id : ℕ) (c : List Literal)
     → Rises (ids_of es) → listed_at es id ≡ Some c → AreCounts old es → AreLowered old c new
     → AreCounts new (without_id id es)
 counts_without old new es id c r e a w = λ l p. w l p ∙ ap (λ n. n - times_in l c) (a l p)
@@ -506,8 +432,8 @@ taken_are_all l count before ((j, c) ∷ es) ids above r a =
         ]
 
 -- the clauses of the first entries
-pub counts_none : AreCounts [] []
-counts_none = λ l p. refl
+pub counts_none : (counts : ℕ → ℕ) → ((p : ℕ) → counts p ≡ 0) → AreCounts counts []
+counts_none counts none = λ l p. none (index_of l)
 
 more_cells : (es : List Entry) (i : ℕ) (d : Entry) → i < length es
     → cells_of (take (i + 1) es) ≡ cells_of (take i es) ++ cell_of (get_or es i d) ∷ []

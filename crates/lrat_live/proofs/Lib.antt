@@ -12,5 +12,6 @@ mod Clauses
 mod Tables
 mod Lookup
 mod Moves
+mod PageLaws
 mod CountLaws
 pub mod Laws

@@ -1,6 +1,6 @@
 -- How often literals stand in the live clauses, and the candidates of a RAT line by these counts.
 use Rattle.std.specs.Prelude.{◌≡◌, ℕ, ◌+◌, ◌-◌, ◌<◌, Bool, false, List, [], ◌∷◌, Option, Some, None}
-use Rattle.std.specs.Prelude.{nat_lt, nat_le, ◌==◌, ◌&&◌, slice_index, if◌then◌else◌}
+use Rattle.std.specs.Prelude.{nat_lt, nat_le, ◌==◌, ◌&&◌, if◌then◌else◌}
 use Rattle.wcnf.specs.Numbers.{one_if}
 use Rattle.wcnf.specs.Literal.{Literal, literal_eq, index_of}
 use Rattle.lrat_live.specs.Listed.{listed_at}
@@ -19,21 +19,21 @@ abbrev pub times : Literal → List (ℕ × List Literal) → ℕ
 times l [] = 0
 times l (e ∷ es) = times_in l e.1 + times l es
 
--- a row for each literal says how often it stands in the clauses
-abbrev pub AreCounts : List ℕ → List (ℕ × List Literal) → Type 0
-AreCounts counts es = (l : Literal) → 0 < l.variable → slice_index counts (index_of l) ≡ times l es
+-- by its index, each literal has a count that says how often it stands in the clauses
+abbrev pub AreCounts : (ℕ → ℕ) → List (ℕ × List Literal) → Type 0
+AreCounts counts es = (l : Literal) → 0 < l.variable → counts (index_of l) ≡ times l es
 
 -- the clause came, and its counts
-abbrev pub AreRaised : List ℕ → List Literal → List ℕ → Type 0
+abbrev pub AreRaised : (ℕ → ℕ) → List Literal → (ℕ → ℕ) → Type 0
 AreRaised old c new =
     (l : Literal) → 0 < l.variable
-    → slice_index new (index_of l) ≡ slice_index old (index_of l) + times_in l c
+    → new (index_of l) ≡ old (index_of l) + times_in l c
 
 -- the clause went, and its counts
-abbrev pub AreLowered : List ℕ → List Literal → List ℕ → Type 0
+abbrev pub AreLowered : (ℕ → ℕ) → List Literal → (ℕ → ℕ) → Type 0
 AreLowered old c new =
     (l : Literal) → 0 < l.variable
-    → slice_index new (index_of l) ≡ slice_index old (index_of l) - times_in l c
+    → new (index_of l) ≡ old (index_of l) - times_in l c
 
 -- the next id is above the last one, and its clause has the literal, though not more often than is
 -- left

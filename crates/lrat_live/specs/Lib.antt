@@ -1,4 +1,5 @@
 pub mod Listed
+pub mod Pages
 pub mod Counts
 pub mod Chains
 pub mod Table

@@ -7,10 +7,12 @@ ghost use Rattle.std.specs.Option.{option_copied};
 ghost use Rattle.wcnf.specs.Literal.{Literal};
 ghost use Rattle.lrat_live.specs.Counts.{AreCounts};
 ghost use Rattle.lrat_live.specs.Listed.{listed_at, without_id};
+ghost use Rattle.lrat_live.specs.Pages.{count_in};
 
 use crate::append::append;
 use crate::counts::count_entries;
 use crate::entries::{Entry, find, is_above};
+use crate::pages::Counts;
 use crate::reclaim::reclaim;
 use std::alloc::{AllocError, Global};
 use std::marker::Model;
@@ -119,9 +121,9 @@ impl Added {
     }
 
     /// Counts the literals of the clauses, beside those that are counted.
-    pub(crate) fn count(&self, counts: &mut Vec<u32>) -> Result<(), AllocError>
-        ensures { OnOk result ((es : List (ℕ × List Literal)) → AreCounts counts.old.items es
-            → AreCounts counts.new.items (es ++ self.now)) }
+    pub(crate) fn count(&self, counts: &mut Counts) -> Result<(), AllocError>
+        ensures { OnOk result ((es : List (ℕ × List Literal)) → AreCounts (count_in counts.old) es
+            → AreCounts (count_in counts.new) (es ++ self.now)) }
     {
         count_entries(counts, &self.lits, &self.entries)
     }

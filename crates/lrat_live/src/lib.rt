@@ -8,6 +8,7 @@ mod counts;
 mod entries;
 pub mod live;
 mod near;
+mod pages;
 mod reclaim;
 mod spans;
 mod window;

@@ -7,10 +7,12 @@ ghost use Rattle.lrat_live.specs.Counts.{times_at, take_all, AreCounts};
 ghost use Rattle.lrat_live.specs.Listed.{listed_at, listed_from, without_id, ids_listed, same_ids};
 ghost use Rattle.lrat_live.specs.Listed.{IsRising};
 ghost use Rattle.lrat_live.specs.Near.{all_of};
+ghost use Rattle.lrat_live.specs.Pages.{count_in};
 
 use crate::added::Added;
 use crate::counts::{count_last, count_of, is_next, lower, times_in};
 use crate::near::Near;
+use crate::pages::Counts;
 use std::alloc::AllocError;
 use std::marker::Model;
 use wcnf::types::{Formula, Lit};
@@ -25,9 +27,8 @@ pub struct LiveClauses {
     /// Whether the literals of the live clauses are counted, as they are from the first RAT line
     /// on.
     is_counted: bool,
-    /// By a literal's index, how often it stands in the live clauses, if they are counted; a
-    /// literal past the end stands in none.
-    counts: Vec<u32>,
+    /// By a literal's index, how often it stands in the live clauses, if they are counted.
+    counts: Counts,
 }
 
 impl Model for LiveClauses {
@@ -39,11 +40,12 @@ impl Model for LiveClauses {
     ghost use Rattle.lrat_live.specs.Counts.{AreCounts};
     ghost use Rattle.lrat_live.specs.Listed.{IsRising};
     ghost use Rattle.lrat_live.specs.Near.{all_of};
+    ghost use Rattle.lrat_live.specs.Pages.{count_in};
 
     ghost view = { λ s. all_of s.near s.far };
 
     ghost invariant = { λ s. IsRising (all_of s.near s.far)
-        × (s.is_counted ≡ true → AreCounts s.counts.items (all_of s.near s.far)) };
+        × (s.is_counted ≡ true → AreCounts (count_in s.counts) (all_of s.near s.far)) };
 }
 
 /// The clause under an id, near or far.
@@ -81,12 +83,12 @@ fn put(near: &mut Near, far: &mut Added, id: u64, lits: &[Lit]) -> Result<(), Al
 /// Counts the literals of all clauses, unless they are counted.
 fn count_all(
     is_counted: bool,
-    counts: &mut Vec<u32>,
+    counts: &mut Counts,
     near: &Near,
     far: &Added,
 ) -> Result<(), AllocError>
-    requires { is_counted ≡ true → AreCounts counts.old.items (all_of near.now far.now) }
-    ensures counts { OnOk result (AreCounts counts.new.items (all_of near.now far.now)) }
+    requires { is_counted ≡ true → AreCounts (count_in counts.old) (all_of near.now far.now) }
+    ensures counts { OnOk result (AreCounts (count_in counts.new) (all_of near.now far.now)) }
     ensures err { OnErr result (is_counted ≡ false) }
 {
     if is_counted {
@@ -100,10 +102,11 @@ fn count_all(
 }
 
 /// Counts the literals of the clause under an id out, if there is one and they are counted.
-fn count_out(is_counted: bool, counts: &mut [u32], near: &Near, far: &Added, id: u64)
+fn count_out(is_counted: bool, counts: &mut Counts, near: &Near, far: &Added, id: u64)
     requires rising { IsRising (all_of near.now far.now) }
-    ensures { (is_counted ≡ true → AreCounts counts.old (all_of near.now far.now))
-        → is_counted ≡ true → AreCounts counts.new (without_id id (all_of near.now far.now)) }
+    ensures { (is_counted ≡ true → AreCounts (count_in counts.old) (all_of near.now far.now))
+        → is_counted ≡ true
+        → AreCounts (count_in counts.new) (without_id id (all_of near.now far.now)) }
 {
     if !is_counted {
         return;
@@ -125,7 +128,7 @@ impl LiveClauses {
             near: Near::new(formula)?,
             far: Added::new(alloc),
             is_counted: false,
-            counts: Vec::new(alloc),
+            counts: Counts::new(alloc),
         })
     }
 

@@ -15,8 +15,10 @@ ghost use Rattle.wcnf.specs.Literal.{Literal};
 ghost use Rattle.lrat_live.specs.Counts.{AreCounts};
 ghost use Rattle.lrat_live.specs.Listed.{listed_at, listed_from, without_id, IsRising};
 ghost use Rattle.lrat_live.specs.Near.{given_in, recent_in, IsPlace};
+ghost use Rattle.lrat_live.specs.Pages.{count_in};
 
 use crate::added::{Added, is_mostly_dead};
+use crate::pages::Counts;
 use crate::spans::{DEAD, MOST, Span, count_live, is_live, literals_at, spans_of};
 use crate::window::{extend, move_on, place_for, squeeze};
 use std::alloc::AllocError;
@@ -193,17 +195,17 @@ impl Near {
     }
 
     /// Counts the literals of the formula's clauses, beside those that are counted.
-    pub(crate) fn count_given(&self, counts: &mut Vec<u32>) -> Result<(), AllocError>
-        ensures { OnOk result ((es : List (ℕ × List Literal)) → AreCounts counts.old.items es
-            → AreCounts counts.new.items (es ++ self.now.given)) }
+    pub(crate) fn count_given(&self, counts: &mut Counts) -> Result<(), AllocError>
+        ensures { OnOk result ((es : List (ℕ × List Literal)) → AreCounts (count_in counts.old) es
+            → AreCounts (count_in counts.new) (es ++ self.now.given)) }
     {
         count_live(counts, &self.lits, &self.spans[..self.given as usize + 1])
     }
 
     /// Counts the literals of the recent clauses, beside those that are counted.
-    pub(crate) fn count_recent(&self, counts: &mut Vec<u32>) -> Result<(), AllocError>
-        ensures { OnOk result ((es : List (ℕ × List Literal)) → AreCounts counts.old.items es
-            → AreCounts counts.new.items (es ++ self.now.recent)) }
+    pub(crate) fn count_recent(&self, counts: &mut Counts) -> Result<(), AllocError>
+        ensures { OnOk result ((es : List (ℕ × List Literal)) → AreCounts (count_in counts.old) es
+            → AreCounts (count_in counts.new) (es ++ self.now.recent)) }
     {
         count_live(counts, &self.lits, &self.spans[self.given as usize + 1..])
     }

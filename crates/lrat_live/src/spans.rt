@@ -6,8 +6,10 @@ ghost use Rattle.wcnf.specs.Literal.{Literal};
 ghost use Rattle.lrat_live.specs.Counts.{AreCounts};
 ghost use Rattle.lrat_live.specs.Near.{is_live, nowhere, literals_at, spanned, spans_from};
 ghost use Rattle.lrat_live.specs.Near.{AreWithin};
+ghost use Rattle.lrat_live.specs.Pages.{count_in};
 
 use crate::counts::raise;
+use crate::pages::Counts;
 use std::alloc::AllocError;
 use wcnf::clause_list::ClauseList;
 use wcnf::types::Lit;
@@ -81,13 +83,14 @@ pub(crate) fn spans_of(clauses: &ClauseList) -> Result<Vec<Span>, AllocError>
 
 /// Counts the literals of the live clauses, beside those that are counted.
 pub(crate) fn count_live(
-    counts: &mut Vec<u32>,
+    counts: &mut Counts,
     lits: &[Lit],
     spans: &[Span],
 ) -> Result<(), AllocError>
     requires { AreWithin spans.now (length lits.now) }
-    ensures { OnOk result ((es : List (ℕ × List Literal)) (n : ℕ) → AreCounts counts.old.items es
-        → AreCounts counts.new.items (es ++ spanned lits.now n spans.now)) }
+    ensures { OnOk result ((es : List (ℕ × List Literal)) (n : ℕ)
+        → AreCounts (count_in counts.old) es
+        → AreCounts (count_in counts.new) (es ++ spanned lits.now n spans.now)) }
 {
     for span in spans {
         if !is_live(*span) {

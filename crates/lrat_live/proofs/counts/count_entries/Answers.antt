@@ -6,6 +6,7 @@ use Rattle.std.specs.Prelude.{slice_range}
 use Rattle.lrat_live.specs.Counts.{AreCounts}
 use Rattle.lrat_live.specs.Table.{cells_of, clauses_in}
 use Rattle.lrat_live.specs.declared.entries.Entry.{Entry}
+use Rattle.lrat_live.specs.Pages.{count_in}
 use Rattle.lrat_live.proofs.CountLaws.{counts_push, more_dead, more_live}
 use Rattle.lrat_live.proofs.Tables.{literals_end}
 use Rattle.lrat_live.proofs.counts.count_entries.Goals as goal
@@ -14,7 +15,7 @@ abbrev none : Entry
 none = record { id = 0; start = 0; length = 0; next = 0; live = false }
 
 pub loop-entry-init : goal.loop-entry-init
-loop-entry-init c = λ es a. subst (AreCounts c.args.counts.now.items) (sym (append-nil es)) a
+loop-entry-init c = λ es a. subst (AreCounts (count_in c.args.counts.now)) (sym (append-nil es)) a
 
 pub slice_bounds-raise-end : goal.slice_bounds-raise-end
 slice_bounds-raise-end c =
@@ -29,7 +30,7 @@ loop-entry-preserved-then-not-entry c =
     let xs = c.args.entries.now in
     let i = c.loop-entry.entry-index in
     let dead : (get_or xs i none).live ≡ false = first_of (cc, search (rules, not-true)) in
-    λ es a. subst (λ cs. AreCounts c.loop-entry.counts.items (es ++ cs))
+    λ es a. subst (λ cs. AreCounts (count_in c.loop-entry.counts) (es ++ cs))
     (sym (more_dead c.args.lits.now xs i none c.loop-entry-test.true dead))
     (c.loop-entry.invariant es a)
 
@@ -38,19 +39,19 @@ loop-entry-preserved c =
     let xs = c.args.entries.now in
     let i = c.loop-entry.entry-index in
     let x = get_or xs i none in
-    let now = c.raise.new.counts.items in
+    let now = count_in c.raise.new.counts in
     let live : (get_or xs i none).live ≡ true = first_of (cc, search (rules, not-false)) in
     let before = clauses_in c.args.lits.now (cells_of (take i xs)) in
     let part = slice_range c.args.lits.now x.start (x.start + x.length) in
     λ es a. subst (λ cs. AreCounts now (es ++ cs))
     (sym (more_live c.args.lits.now xs i none c.loop-entry-test.true live))
     (subst (AreCounts now) (append_assoc es before ((x.id, part) ∷ []))
-    (counts_push c.loop-entry.counts.items now (es ++ before) x.id part
+    (counts_push (count_in c.loop-entry.counts) now (es ++ before) x.id part
     (c.loop-entry.invariant es a) c.in_ok-raise.ensures))
 
 pub returns : goal.returns
 returns c =
-    λ es a. subst (λ xs. AreCounts c.loop-entry.counts.items
+    λ es a. subst (λ xs. AreCounts (count_in c.loop-entry.counts)
     (es ++ clauses_in c.args.lits.now (cells_of xs)))
     (take_all c.loop-entry.entry-index c.args.entries.now c.loop-entry-test.false)
     (c.loop-entry.invariant es a)

@@ -4,6 +4,7 @@ use Rattle.wcnf.specs.Literal.{Literal}
 use Rattle.lrat_live.specs.Counts.{AreCounts}
 use Rattle.lrat_live.specs.Listed.{IsRising}
 use Rattle.lrat_live.specs.Near.{all_of}
+use Rattle.lrat_live.specs.Pages.{count_in}
 use Rattle.lrat_live.proofs.Listed.{rising_push}
 use Rattle.lrat_live.proofs.live.LiveClauses.add.Goals as goal
 
@@ -14,7 +15,7 @@ invariant_of-self-2 c =
     let old : All (λ (e : ℕ × List Literal). e.0 < c.args.id) es =
     rw c.self.view_is c.requires.rising in
     subst (λ xs. IsRising xs × (c.count_last-self-inside.result ≡ true
-    → AreCounts c.count_last-self-inside.new.counts.items xs)) (sym c.in_ok-put.ensures.ok) (
+    → AreCounts (count_in c.count_last-self-inside.new.counts) xs)) (sym c.in_ok-put.ensures.ok) (
       rising_push es c.args.id c.args.lits.now c.self.invariant.0 old,
       λ yes. c.count_last-self-inside.ensures es c.args.id c.self.invariant.1 yes,
     )

@@ -1,8 +1,8 @@
 use Rattle.std.proofs.Common.{◌≡◌, ◌<◌, ◌∙◌, ap}
-use Rattle.std.specs.Prelude.{All, slice_index}
-use Rattle.wcnf.specs.Literal.{index_of}
+use Rattle.std.specs.Prelude.{All}
 use Rattle.lrat_live.specs.Counts.{AreCounts, take_all, times, times_at}
 use Rattle.lrat_live.specs.Near.{all_of}
+use Rattle.lrat_live.specs.Pages.{count_in}
 use Rattle.lrat_live.proofs.Listed.{rises_from}
 use Rattle.lrat_live.proofs.CountLaws.{agrees_start}
 use Rattle.lrat_live.proofs.live.LiveClauses.are_all_with.Goals as goal
@@ -11,11 +11,10 @@ pub returns-clause-all : goal.returns-clause-all
 returns-clause-all c =
     let s = c.self.inside in
     let es = all_of s.near s.far in
-    let counts : AreCounts c.count_all.new.counts.items es = c.in_ok-count_all.ensures.counts in
+    let counts : AreCounts (count_in c.count_all.new.counts) es =
+    c.in_ok-count_all.ensures.counts in
     let total : c.count_of-total.result ≡ times c.args.lit es =
-    c.count_of-total.ensures.count
-    ∙ ap (λ xs. slice_index xs (index_of c.args.lit)) c.deref.ensures.value
-    ∙ counts c.args.lit c.count_of-total.ensures.from_one in
+    c.count_of-total.ensures.count ∙ counts c.args.lit c.count_of-total.ensures.from_one in
     let from_one : All (λ e. 0 < e.0) es = rw c.self.view_is c.requires in
     rw (← c.self.view_is) (c.take_all.ensures
     ∙ ap (λ n. take_all (times_at c.args.lit es) n 0 c.args.ids.now) total

@@ -1,10 +1,10 @@
-use Rattle.std.proofs.Common.{◌≡◌, ◌++◌, ◌∙◌, List, ℕ, Some, None, true, length, take, drop, ap}
-use Rattle.std.proofs.Common.{refl, sym, subst, arith}
+use Rattle.std.proofs.Common.{◌≡◌, ◌++◌, ◌∙◌, Some, None, true, ap}
+use Rattle.std.proofs.Common.{refl, sym, subst}
 use Rattle.std.specs.Prelude.{IsSome}
 use Rattle.std.proofs.lemmas.Bool.{false≢true}
-use Rattle.std.proofs.lemmas.List.{take_at}
 use Rattle.lrat_live.specs.Counts.{AreCounts}
 use Rattle.lrat_live.specs.Listed.{listed_at, without_id, IsRising}
+use Rattle.lrat_live.specs.Pages.{count_in}
 use Rattle.lrat_live.specs.Near.{all_of}
 use Rattle.lrat_live.proofs.Clauses.{without_none}
 use Rattle.lrat_live.proofs.Listed.{rises_from, rising_without, some_of}
@@ -47,16 +47,11 @@ pub invariant_of-self : goal.invariant_of-self
 invariant_of-self c =
     let s = c.self.inside in
     let es = all_of s.near s.far in
-    let gs = c.count_out.new.counts in
-    let whole : take s.counts.len (gs ++ drop (length gs) s.counts.items) ≡ gs =
-    take_at gs (drop (length gs) s.counts.items) s.counts.len (omega arith) in
     subst (λ xs. IsRising xs
-    × (s.is_counted ≡ true
-    → AreCounts (take s.counts.len (gs ++ drop (length gs) s.counts.items)) xs))
+    × (s.is_counted ≡ true → AreCounts (count_in c.count_out.new.counts) xs))
     (sym (near_gone (goal.at.invariant_of-self c).Then-delete)) (
       rising_without c.args.id es c.self.invariant.0,
-      λ yes. subst (λ (xs : List ℕ). AreCounts xs (without_id c.args.id es)) (sym whole)
-          (c.count_out.ensures (rw c.deref_mut.ensures.value c.self.invariant.1) yes),
+      λ yes. c.count_out.ensures c.self.invariant.1 yes,
     )
 
 pub returns-clause-found : goal.returns-clause-found
@@ -78,15 +73,10 @@ pub invariant_of-self-2 : goal.invariant_of-self-2
 invariant_of-self-2 c =
     let s = c.self.inside in
     let es = all_of s.near s.far in
-    let gs = c.count_out.new.counts in
-    let whole : take s.counts.len (gs ++ drop (length gs) s.counts.items) ≡ gs =
-    take_at gs (drop (length gs) s.counts.items) s.counts.len (omega arith) in
     subst (λ xs. IsRising xs
-    × (s.is_counted ≡ true
-    → AreCounts (take s.counts.len (gs ++ drop (length gs) s.counts.items)) xs))
+    × (s.is_counted ≡ true → AreCounts (count_in c.count_out.new.counts) xs))
     (sym (all_far_left c.self.inside.near c.delete.new.self c.self.inside.far c.delete-2.new.self
     c.args.id c.if-delete.ensures.given c.delete-2.ensures.left c.if-delete.ensures.recent)) (
       rising_without c.args.id es c.self.invariant.0,
-      λ yes. subst (λ (xs : List ℕ). AreCounts xs (without_id c.args.id es)) (sym whole)
-          (c.count_out.ensures (rw c.deref_mut.ensures.value c.self.invariant.1) yes),
+      λ yes. c.count_out.ensures c.self.invariant.1 yes,
     )

@@ -1,10 +1,10 @@
 use Rattle.std.proofs.Common.{◌≡◌, ◌+◌, length, refl, arith, rules}
-use Rattle.lrat_live.proofs.CountLaws.{reached}
-use Rattle.lrat_live.proofs.counts.reach.Goals as goal
+use Rattle.lrat_live.proofs.PageLaws.{reached}
+use Rattle.lrat_live.proofs.pages.reach.Goals as goal
 
 pub returns-clause-same : goal.returns-clause-same
 returns-clause-same c =
-    let old = c.args.counts.now in
+    let old = c.args.page.now in
     let long : length c.resize.new.self.items ≡ c.args.place + 1 = search rules in
     let kept = c.in_ok-resize.ensures.by_index in
     reached old.items c.resize.new.self.items (c.args.place + 1) long (omega arith)

@@ -1,0 +1,188 @@
+-- Pages of counts: one place of a page changes, and so one place of all.
+use Rattle.std.proofs.Common.{◌≡◌, ℕ, zero, suc, ◌+◌, ◌-◌, ◌/◌, ◌%◌, ◌<◌, ◌≤◌, List, [], ◌∷◌, ◌++◌}
+use Rattle.std.proofs.Common.{length, get_or, set, map, refl, sym, ◌∙◌, ap, subst, arith, inl, inr}
+use Rattle.std.specs.Prelude.{◌==◌, slice_index}
+use Rattle.std.proofs.lemmas.Bool.{eq-eqb, ne_eqb, cases_eq, cases_lt}
+use Rattle.std.proofs.Math.ListN.{get_or-eq_default}
+use Rattle.std.proofs.lemmas.List.{get_or-set_same, get_or-set_other, get_or-map, map-set}
+use Rattle.std.proofs.lemmas.List.{length-map}
+use Rattle.wcnf.specs.Numbers.{one_if}
+use Rattle.lrat_live.specs.Pages.{count_in}
+
+-- numbers
+more_here : (h n s was one : ℕ) → h ≡ n → s ≡ was → n ≡ was + 1 → one ≡ 1 → h ≡ s + one
+more_here h n s was one a b c d = omega arith
+
+less_here : (h n s was one : ℕ) → h ≡ n → s ≡ was → n + 1 ≡ was → one ≡ 1 → h ≡ s - one
+less_here h n s was one a b c d = omega arith
+
+more_there : (h s none : ℕ) → h ≡ s → none ≡ 0 → h ≡ s + none
+more_there h s none a b = omega arith
+
+none_here : (s one : ℕ) → s ≡ 0 → s ≡ s - one
+none_here s one e = omega arith
+
+less_there : (h s none : ℕ) → h ≡ s → none ≡ 0 → h ≡ s - none
+less_there h s none a b = omega arith
+
+-- one literal of the clause more
+pub set_more : (xs : List ℕ) (i n : ℕ) → i < length xs → n ≡ slice_index xs i + 1 → (p : ℕ)
+    → slice_index (set xs i n) p ≡ slice_index xs p + one_if (p == i)
+set_more xs i n h e p =
+    elim (cases_eq p i) [
+      | inl same ↦
+          let one : one_if (p == i) ≡ 1 = ap one_if (eq-eqb p i same) in
+          let here : slice_index (set xs i n) p ≡ n =
+          subst (λ k. slice_index (set xs i n) k ≡ n) (sym same) (get_or-set_same xs i n 0 h) in
+          let there : slice_index xs p ≡ slice_index xs i = ap (slice_index xs) same in
+          more_here (slice_index (set xs i n) p) n (slice_index xs p) (slice_index xs i)
+          (one_if (p == i)) here there e one
+      | inr other ↦
+          let none : one_if (p == i) ≡ 0 = ap one_if (ne_eqb p i other) in
+          let here : slice_index (set xs i n) p ≡ slice_index xs p =
+          get_or-set_other xs i p n 0 other in
+          more_there (slice_index (set xs i n) p) (slice_index xs p) (one_if (p == i)) here none
+    ]
+
+pub set_less : (xs : List ℕ) (i n : ℕ) → i < length xs → n + 1 ≡ slice_index xs i → (p : ℕ)
+    → slice_index (set xs i n) p ≡ slice_index xs p - one_if (p == i)
+set_less xs i n h e p =
+    elim (cases_eq p i) [
+      | inl same ↦
+          let one : one_if (p == i) ≡ 1 = ap one_if (eq-eqb p i same) in
+          let here : slice_index (set xs i n) p ≡ n =
+          subst (λ k. slice_index (set xs i n) k ≡ n) (sym same) (get_or-set_same xs i n 0 h) in
+          let there : slice_index xs p ≡ slice_index xs i = ap (slice_index xs) same in
+          less_here (slice_index (set xs i n) p) n (slice_index xs p) (slice_index xs i)
+          (one_if (p == i)) here there e one
+      | inr other ↦
+          let none : one_if (p == i) ≡ 0 = ap one_if (ne_eqb p i other) in
+          let here : slice_index (set xs i n) p ≡ slice_index xs p =
+          get_or-set_other xs i p n 0 other in
+          less_there (slice_index (set xs i n) p) (slice_index xs p) (one_if (p == i)) here none
+    ]
+
+-- where there is none, there is none to take
+pub none_less : (xs : List ℕ) (i : ℕ) → slice_index xs i ≡ 0 → (p : ℕ)
+    → slice_index xs p ≡ slice_index xs p - one_if (p == i)
+none_less xs i e p =
+    elim (cases_eq p i) [
+      | inl same ↦ none_here (slice_index xs p) (one_if (p == i)) (ap (slice_index xs) same ∙ e)
+      | inr other ↦ less_there (slice_index xs p) (slice_index xs p) (one_if (p == i)) refl
+          (ap one_if (ne_eqb p i other))
+    ]
+
+-- a longer table, with none past its end before
+pub reached : (old new : List ℕ) (n : ℕ) → length new ≡ n → length old ≤ n
+    → ((k d : ℕ) → k < n → k < length old → get_or new k d ≡ get_or old k d)
+    → ((k d : ℕ) → length old ≤ k → k < n → get_or new k d ≡ 0)
+    → (p : ℕ) → slice_index new p ≡ slice_index old p
+reached old new n long fewer kept fresh p =
+    elim (cases_lt p (length old)) [
+      | inl h ↦ kept p 0 (omega arith) h
+      | inr h ↦ elim (cases_lt p n) [
+        | inl k ↦ fresh p 0 h k ∙ sym (get_or-eq_default old 0 h)
+        | inr k ↦ get_or-eq_default new 0 (omega arith) ∙ sym (get_or-eq_default old 0 h)
+      ]
+    ]
+
+-- a page of which no place was counted
+none_more : (rows : List (List ℕ)) (i : ℕ) → get_or (rows ++ [] ∷ []) i [] ≡ get_or rows i []
+none_more [] zero = refl
+none_more [] (suc i) = refl
+none_more (r ∷ rows) zero = refl
+none_more (r ∷ rows) (suc i) = none_more rows i
+
+pub pages_push : (rows : List (List ℕ)) (p : ℕ)
+    → count_in (rows ++ [] ∷ []) p ≡ count_in rows p
+pages_push rows p = ap (λ row. slice_index row (p % 4096)) (none_more rows (p / 4096))
+
+-- places of one page
+same_place : (p place : ℕ) → p / 4096 ≡ place / 4096
+    → one_if (p % 4096 == place % 4096) ≡ one_if (p == place)
+same_place p place e =
+    elim (cases_eq p place) [
+      | inl same ↦
+          ap one_if (eq-eqb (p % 4096) (place % 4096) (ap (λ k. k % 4096) same))
+          ∙ sym (ap one_if (eq-eqb p place same))
+      | inr other ↦
+          ap one_if (ne_eqb (p % 4096) (place % 4096) (λ m. other (omega (arith, e, m))))
+          ∙ sym (ap one_if (ne_eqb p place other))
+    ]
+
+-- the page of a place is another one
+module _ {X : Type 0} (f : X → List ℕ) (pages : List X) (place : ℕ) (old new : X)
+    (within : place / 4096 < length pages) (was : old ≡ get_or pages (place / 4096) old) where
+  abbrev rows : List (List ℕ)
+  rows = map f pages
+
+  abbrev after : List (List ℕ)
+  after = map f (set pages (place / 4096) new)
+
+  written : after ≡ set rows (place / 4096) (f new)
+  written = map-set f pages (place / 4096) new
+
+  before : f old ≡ get_or rows (place / 4096) []
+  before = ap f was ∙ sym (get_or-map f pages (place / 4096) old [] within)
+
+  here : (p : ℕ) → p / 4096 ≡ place / 4096 → count_in after p ≡ slice_index (f new) (p % 4096)
+  here p e =
+      let inside : place / 4096 < length rows = omega (arith, within, length-map pages f) in
+      ap (λ xs. count_in xs p) written
+      ∙ ap (λ row. slice_index row (p % 4096))
+      (subst (λ i. get_or (set rows (place / 4096) (f new)) i [] ≡ f new) (sym e)
+      (get_or-set_same rows (place / 4096) (f new) [] inside))
+
+  there : (p : ℕ) → (p / 4096 ≡ place / 4096 → ⊥) → count_in after p ≡ count_in rows p
+  there p other =
+      ap (λ xs. count_in xs p) written
+      ∙ ap (λ row. slice_index row (p % 4096))
+      (get_or-set_other rows (place / 4096) (p / 4096) (f new) [] other)
+
+  was_here : (p : ℕ) → p / 4096 ≡ place / 4096
+      → slice_index (f old) (p % 4096) ≡ count_in rows p
+  was_here p e = ap (λ row. slice_index row (p % 4096)) before
+      ∙ ap (λ i. slice_index (get_or rows i []) (p % 4096)) (sym e)
+
+  pub page_raised : ((q : ℕ) → slice_index (f new) q
+      ≡ slice_index (f old) q + one_if (q == place % 4096))
+      → (p : ℕ) → count_in after p ≡ count_in rows p + one_if (p == place)
+  page_raised step p =
+      elim (cases_eq (p / 4096) (place / 4096)) [
+        | inl e ↦
+            here p e ∙ step (p % 4096)
+            ∙ ap (λ n. slice_index (f old) (p % 4096) + n) (same_place p place e)
+            ∙ ap (λ n. n + one_if (p == place)) (was_here p e)
+        | inr other ↦
+            more_there (count_in after p) (count_in rows p) (one_if (p == place)) (there p other)
+            (ap one_if (ne_eqb p place (λ e. other (ap (λ k. k / 4096) e))))
+      ]
+
+  pub page_lowered : ((q : ℕ) → slice_index (f new) q
+      ≡ slice_index (f old) q - one_if (q == place % 4096))
+      → (p : ℕ) → count_in after p ≡ count_in rows p - one_if (p == place)
+  page_lowered step p =
+      elim (cases_eq (p / 4096) (place / 4096)) [
+        | inl e ↦
+            here p e ∙ step (p % 4096)
+            ∙ ap (λ n. slice_index (f old) (p % 4096) - n) (same_place p place e)
+            ∙ ap (λ n. n - one_if (p == place)) (was_here p e)
+        | inr other ↦
+            less_there (count_in after p) (count_in rows p) (one_if (p == place)) (there p other)
+            (ap one_if (ne_eqb p place (λ e. other (ap (λ k. k / 4096) e))))
+      ]
+
+-- a place of a page that there is not
+pub past_pages : {X : Type 0} (f : X → List ℕ) (pages : List X) (p : ℕ)
+    → length pages ≤ p / 4096 → count_in (map f pages) p ≡ 0
+past_pages f pages p h =
+    ap (λ row. slice_index row (p % 4096))
+    (get_or-eq_default (map f pages) [] (omega (arith, h, length-map pages f)))
+
+-- a place of a page that there is
+pub in_page : {X : Type 0} (f : X → List ℕ) (pages : List X) (p : ℕ) (page : X)
+    → p / 4096 < length pages → page ≡ get_or pages (p / 4096) page
+    → slice_index (f page) (p % 4096) ≡ count_in (map f pages) p
+in_page f pages p page h e =
+    ap (λ row. slice_index row (p % 4096))
+    (ap f e ∙ sym (get_or-map f pages (p / 4096) page [] h))
