@@ -1,5 +1,5 @@
 -- Pages of counts: one place of a page changes, and so one place of all.
-use Rattle.std.proofs.Common.{◌≡◌, ℕ, zero, suc, ◌+◌, ◌-◌, ◌/◌, ◌%◌, ◌<◌, ◌≤◌, List, [], ◌∷◌, ◌++◌}
+use Rattle.std.proofs.Common.{◌≡◌, ℕ, ◌+◌, ◌-◌, ◌/◌, ◌%◌, ◌<◌, ◌≤◌, List, []}
 use Rattle.std.proofs.Common.{length, get_or, set, map, refl, sym, ◌∙◌, ap, subst, arith, inl, inr}
 use Rattle.std.specs.Prelude.{◌==◌, slice_index}
 use Rattle.std.proofs.lemmas.Bool.{eq-eqb, ne_eqb, cases_eq, cases_lt}
@@ -86,17 +86,6 @@ reached old new n long fewer kept fresh p =
       ]
     ]
 
--- a page of which no place was counted
-none_more : (rows : List (List ℕ)) (i : ℕ) → get_or (rows ++ [] ∷ []) i [] ≡ get_or rows i []
-none_more [] zero = refl
-none_more [] (suc i) = refl
-none_more (r ∷ rows) zero = refl
-none_more (r ∷ rows) (suc i) = none_more rows i
-
-pub pages_push : (rows : List (List ℕ)) (p : ℕ)
-    → count_in (rows ++ [] ∷ []) p ≡ count_in rows p
-pages_push rows p = ap (λ row. slice_index row (p % 4096)) (none_more rows (p / 4096))
-
 -- places of one page
 same_place : (p place : ℕ) → p / 4096 ≡ place / 4096
     → one_if (p % 4096 == place % 4096) ≡ one_if (p == place)
@@ -171,18 +160,3 @@ module _ {X : Type 0} (f : X → List ℕ) (pages : List X) (place : ℕ) (old n
             less_there (count_in after p) (count_in rows p) (one_if (p == place)) (there p other)
             (ap one_if (ne_eqb p place (λ e. other (ap (λ k. k / 4096) e))))
       ]
-
--- a place of a page that there is not
-pub past_pages : {X : Type 0} (f : X → List ℕ) (pages : List X) (p : ℕ)
-    → length pages ≤ p / 4096 → count_in (map f pages) p ≡ 0
-past_pages f pages p h =
-    ap (λ row. slice_index row (p % 4096))
-    (get_or-eq_default (map f pages) [] (omega (arith, h, length-map pages f)))
-
--- a place of a page that there is
-pub in_page : {X : Type 0} (f : X → List ℕ) (pages : List X) (p : ℕ) (page : X)
-    → p / 4096 < length pages → page ≡ get_or pages (p / 4096) page
-    → slice_index (f page) (p % 4096) ≡ count_in (map f pages) p
-in_page f pages p page h e =
-    ap (λ row. slice_index row (p % 4096))
-    (ap f e ∙ sym (get_or-map f pages (p / 4096) page [] h))
