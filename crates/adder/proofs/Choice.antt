@@ -5,10 +5,10 @@ use Rattle.std.proofs.Common.{◌==◌, nat_le, if◌then◌else◌, All, refl, 
 use Rattle.std.specs.List.{AllByRecursion}
 use Rattle.std.proofs.lemmas.Bool.{eq-eqb, ne_eqb}
 use Rattle.std.proofs.lemmas.List.Elements.{All-from_recursion}
-use Rattle.wcnf.specs.Numbers.{one_if}
-use Rattle.wcnf.specs.Literal.{Assignment, Literal, negation, literal_value, positive}
-use Rattle.wcnf.specs.Clause.{clause_value, greatest_variable}
-use Rattle.wcnf.specs.Problem.{SoftClause}
+use Rattle.cnf.specs.Numbers.{one_if}
+use Rattle.cnf.specs.Literal.{Assignment, Literal, negation, literal_value, positive}
+use Rattle.cnf.specs.Clause.{clause_value, greatest_variable}
+use Rattle.cnf.specs.Problem.{SoftClause}
 use Rattle.adder.specs.declared.cells.Cell.{Cell}
 use Rattle.adder.specs.declared.cells.Profile.{Profile}
 use Rattle.adder.specs.Network.{Relaxed, Column, bit, relaxed_from, column_of, added_up}

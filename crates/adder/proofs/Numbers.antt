@@ -5,8 +5,8 @@ use Rattle.std.proofs.Common.{None, if◌then◌else◌, refl, ◌∙◌, ap, ar
 use Rattle.std.specs.List.{AllByRecursion}
 use Rattle.std.proofs.lemmas.List.{length-append, length-map}
 use Rattle.std.proofs.lemmas.List.Sums.{sum_by-cons}
-use Rattle.wcnf.specs.Numbers.{one_if}
-use Rattle.wcnf.specs.Literal.{Assignment, Literal, literal_value}
+use Rattle.cnf.specs.Numbers.{one_if}
+use Rattle.cnf.specs.Literal.{Assignment, Literal, literal_value}
 use Rattle.adder.specs.Network.{Relaxed, Number, bit, binary_length, bits_from, number_of}
 use Rattle.adder.specs.Network.{literal_at, addition, round, rounds, lightest_first, numbers_of}
 use Rattle.adder.specs.Network.{along_tree, value_of, IsCellOf}

@@ -3,10 +3,10 @@ use Rattle.std.proofs.Common.{◌≡◌, ◌⊎◌, inl, inr, ℕ, ◌+◌, ◌*
 use Rattle.std.proofs.Common.{filter, sum_by, All, refl, sym, subst, arith, mul-le-mul_right}
 use Rattle.std.specs.List.{AllByRecursion}
 use Rattle.std.proofs.lemmas.List.Elements.{recursion_from_All, All-weaker}
-use Rattle.wcnf.specs.Literal.{Assignment}
-use Rattle.wcnf.specs.Clause.{greatest_variable}
-use Rattle.wcnf.specs.Problem.{Problem, SoftClause}
-use Rattle.wcnf.specs.Instance.{IsInstance, IsClauseWithin}
+use Rattle.cnf.specs.Literal.{Assignment}
+use Rattle.cnf.specs.Clause.{greatest_variable}
+use Rattle.cnf.specs.Problem.{Problem, SoftClause}
+use Rattle.cnf.specs.Instance.{IsInstance, IsClauseWithin}
 use Rattle.adder.specs.declared.cells.Profile.{Profile}
 use Rattle.adder.specs.declared.cells.Profile.TheVariants.{One, Two, Three}
 use Rattle.adder.specs.Network.{Adders, Relaxed, binary_length, total_weight, relaxed_as}

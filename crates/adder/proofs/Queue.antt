@@ -4,7 +4,7 @@ use Rattle.std.proofs.Common.{take, drop, get_or, Option, Some, None, refl, sym,
 use Rattle.std.proofs.Common.{arith, append_assoc}
 use Rattle.std.proofs.lemmas.List.{length-append, length-drop, drop-append-le, drop-drop, drop_at}
 use Rattle.std.proofs.lemmas.List.{take_rest}
-use Rattle.wcnf.specs.Literal.{Literal, positive}
+use Rattle.cnf.specs.Literal.{Literal, positive}
 use Rattle.adder.specs.declared.cells.Cell.{Cell}
 use Rattle.adder.specs.Network.{Column, after_cell, added_up}
 use Rattle.adder.specs.Parts.{column_from}

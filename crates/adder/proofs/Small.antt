@@ -5,8 +5,8 @@ use Rattle.std.proofs.Common.{ap, subst, arith, pow-suc}
 use Rattle.std.proofs.lemmas.Bool.{eqb-false}
 use Rattle.std.proofs.lemmas.List.{length-append, length-map}
 use Rattle.std.proofs.lemmas.List.Sums.{length-filter, count_by-le-length}
-use Rattle.wcnf.specs.Literal.{Literal, positive}
-use Rattle.wcnf.specs.Problem.{Problem, SoftClause}
+use Rattle.cnf.specs.Literal.{Literal, positive}
+use Rattle.cnf.specs.Problem.{Problem, SoftClause}
 use Rattle.adder.specs.declared.cells.Profile.{Profile}
 use Rattle.adder.specs.Network.{Relaxed, bit, binary_length, relaxed_one, relaxed_from, relaxed_as}
 use Rattle.adder.specs.Network.{column_of, added_up, columns_from}

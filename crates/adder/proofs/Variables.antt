@@ -4,8 +4,8 @@ use Rattle.std.proofs.Common.{◌++◌, length, map, filter, Option, Some, None,
 use Rattle.std.proofs.Common.{arith}
 use Rattle.std.specs.List.{AllByRecursion}
 use Rattle.std.proofs.lemmas.List.{length-append}
-use Rattle.wcnf.specs.Literal.{Literal, positive}
-use Rattle.wcnf.specs.Problem.{SoftClause}
+use Rattle.cnf.specs.Literal.{Literal, positive}
+use Rattle.cnf.specs.Problem.{SoftClause}
 use Rattle.adder.specs.declared.cells.Cell.{Cell}
 use Rattle.adder.specs.declared.cells.Profile.{Profile}
 use Rattle.adder.specs.Network.{Relaxed, bit, relaxed_from, column_of, added_up, columns_from}

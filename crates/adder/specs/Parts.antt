@@ -1,6 +1,6 @@
 -- What the parts of the building compute.
 use Rattle.std.specs.Prelude.{ℕ, ◌+◌, List, [], ◌∷◌, length, map, filter, Option, Some, None}
-use Rattle.wcnf.specs.Literal.{Literal, negation}
+use Rattle.cnf.specs.Literal.{Literal, negation}
 use Rattle.adder.specs.declared.cells.Profile.{Profile}
 use Rattle.adder.specs.declared.cells.Profile.TheVariants.{One, Two, Three}
 use Rattle.adder.specs.declared.relaxations.Relaxation.{Relaxation}

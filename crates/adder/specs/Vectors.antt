@@ -1,7 +1,7 @@
 -- Worked networks of profile 3.
 use Rattle.std.specs.Prelude.{◌≡◌, ℕ, ◌+◌, ◌^◌, List, [], ◌∷◌, ◌++◌, map, Option, Some, None}
 use Rattle.std.specs.Prelude.{replicate, refl}
-use Rattle.wcnf.specs.Literal.{Literal, positive}
+use Rattle.cnf.specs.Literal.{Literal, positive}
 use Rattle.adder.specs.declared.cells.Cell.{Cell}
 use Rattle.adder.specs.declared.cells.Profile.TheVariants.{Three}
 use Rattle.adder.specs.Network.{Adders, adders_as}

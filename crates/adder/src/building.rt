@@ -9,7 +9,7 @@ use crate::networks::Network;
 use crate::relaxations::Relaxations;
 use crate::trees::add_tree;
 use std::alloc::{AllocError, Global};
-use wcnf::types::Instance;
+use cnf::types::Instance;
 
 /// The network of an instance in `Profile::One`, as `network_as` gives it.
 ///

@@ -1,5 +1,5 @@
 // Cells and profiles.
-use wcnf::types::Lit;
+use cnf::types::Lit;
 
 /// A full adder of three literals, or a half adder of two: its carry is worth two and its sum one,
 /// and together they are the number of its inputs that are true (Eén and Sörensson, "Translating

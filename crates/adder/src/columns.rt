@@ -1,13 +1,13 @@
 // The columns of a network, one after the other. A column is a queue: a vector and the index of
 // its front, so that nothing is ever moved.
 ghost use Rattle.std.specs.Prelude.{◌≡◌, ◌+◌, ◌<◌, ◌≤◌, ◌^◌, ◌∷◌, [], ◌++◌, IfOk, OnOk};
-ghost use Rattle.wcnf.specs.Literal.{positive};
+ghost use Rattle.cnf.specs.Literal.{positive};
 ghost use Rattle.adder.specs.Parts.{literals_with, column_from};
 
 use crate::cells::Cell;
 use crate::relaxations::Relaxation;
 use std::alloc::{AllocError, Global};
-use wcnf::types::Lit;
+use cnf::types::Lit;
 
 /// The cells so far, and what goes on into the next column.
 #[derive(Drop)]

@@ -4,7 +4,7 @@ ghost use Rattle.std.specs.Prelude.{◌≡◌};
 use crate::cells::Cell;
 use std::alloc::Global;
 use std::marker::Model;
-use wcnf::types::Lit;
+use cnf::types::Lit;
 
 /// Cells that add up the weights of the soft clauses whose relaxation literals are true.
 #[derive(Drop)]

@@ -1,13 +1,13 @@
 // What relaxes each soft clause, and the weight that this gives up: all that the columns know of
 // an instance.
 ghost use Rattle.std.specs.Prelude.{◌≡◌, ◌+◌, ◌<◌, ◌≤◌, ◌^◌, IfOk, OnOk, map, sum_by};
-ghost use Rattle.wcnf.specs.Instance.{IsInstance};
+ghost use Rattle.cnf.specs.Instance.{IsInstance};
 ghost use Rattle.adder.specs.Network.{relaxed_as, relaxed_variables, total_weight, binary_length};
 ghost use Rattle.adder.specs.Parts.{relaxation_of, own_relaxation};
 
 use crate::cells::Profile;
 use std::alloc::AllocError;
-use wcnf::types::{Clause, Instance, Lit, Soft};
+use cnf::types::{Clause, Instance, Lit, Soft};
 
 /// A relaxation literal: its soft clause may be falsified where it is true.
 #[derive(Drop)]

@@ -9,7 +9,7 @@ use crate::networks::Network;
 use crate::relaxations::{Relaxation, Relaxations, digit_count};
 use std::alloc::{AllocError, Global};
 use std::marker::Model;
-use wcnf::types::Lit;
+use cnf::types::Lit;
 
 /// A number in binary.
 #[derive(Drop)]

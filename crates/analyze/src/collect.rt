@@ -13,7 +13,7 @@ use clauses::store::{CRef, Store};
 use propagate::engine::Engine;
 use smallvec::SmallVec;
 use std::alloc::{AllocError, Global};
-use wcnf::types::Lit;
+use cnf::types::Lit;
 
 /// Whether each literal is of level 0 or marked.
 fn all_met(engine: &Engine, lits: &[Lit], marks: &[Mark]) -> bool

@@ -15,7 +15,7 @@ use propagate::engine::Engine;
 use smallvec::SmallVec;
 use std::alloc::{AllocError, Global};
 use std::marker::Model;
-use wcnf::types::Lit;
+use cnf::types::Lit;
 
 /// Learned clauses of so many literals or fewer keep them inline, so that they take no memory
 /// beside their hints.

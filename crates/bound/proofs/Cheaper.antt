@@ -7,10 +7,10 @@ use Rattle.std.proofs.lemmas.Bool.{false≢true, and_parts, and_from, lt-ltb, lt
 use Rattle.std.proofs.lemmas.List.Folds.{list_all-append, list_any-append}
 use Rattle.std.proofs.lemmas.List.Sums.{sum_by-cons}
 use Rattle.std.proofs.lemmas.List.Elements.{recursion_from_All, All-from_recursion, All-weaker}
-use Rattle.wcnf.specs.Literal.{Assignment, Literal, negation, literal_value, positive}
-use Rattle.wcnf.specs.Clause.{Satisfies, clause_value, greatest_variable}
-use Rattle.wcnf.specs.Problem.{Problem, SoftClause, IsFeasible, cost_under}
-use Rattle.wcnf.specs.Instance.{IsInstance, IsClauseWithin}
+use Rattle.cnf.specs.Literal.{Assignment, Literal, negation, literal_value, positive}
+use Rattle.cnf.specs.Clause.{Satisfies, clause_value, greatest_variable}
+use Rattle.cnf.specs.Problem.{Problem, SoftClause, IsFeasible, cost_under}
+use Rattle.cnf.specs.Instance.{IsInstance, IsClauseWithin}
 use Rattle.adder.specs.declared.cells.Cell.{Cell}
 use Rattle.adder.specs.declared.cells.Profile.{Profile}
 use Rattle.adder.specs.Network.{Relaxed, relaxed_one, relaxed_from, relaxed_as, relaxed_variables}

@@ -6,11 +6,11 @@ use Rattle.std.proofs.lemmas.Bool.{false≢true, or_cases}
 use Rattle.std.proofs.lemmas.Grind.{reverse_onto}
 use Rattle.std.proofs.lemmas.List.Folds.{list_all-append}
 use Rattle.std.proofs.lemmas.List.Sums.{AllPass-from_list_all, list_all-from_AllPass}
-use Rattle.wcnf.specs.Literal.{Assignment, Literal, negation, literal_value, literal_eq}
-use Rattle.wcnf.specs.Clause.{Satisfies, clause_value, contains_literal, without_literal, distinct}
-use Rattle.wcnf.specs.Clause.{has_opposites}
-use Rattle.wcnf.specs.Problem.{Problem, IsFeasible}
-use Rattle.wcnf.proofs.Laws.{literal_eq-true}
+use Rattle.cnf.specs.Literal.{Assignment, Literal, negation, literal_value, literal_eq}
+use Rattle.cnf.specs.Clause.{Satisfies, clause_value, contains_literal, without_literal, distinct}
+use Rattle.cnf.specs.Clause.{has_opposites}
+use Rattle.cnf.specs.Problem.{Problem, IsFeasible}
+use Rattle.cnf.proofs.Laws.{literal_eq-true}
 use Rattle.bound.specs.Bound.{kept, hard_cnf}
 
 -- the clauses are all true

@@ -6,7 +6,7 @@ use Rattle.std.proofs.Common.{append-nil, take-append-drop, length-take-le}
 use Rattle.std.proofs.lemmas.Bool.{eq-eqb, ne_eqb}
 use Rattle.std.proofs.lemmas.Grind.{reverse_onto}
 use Rattle.std.proofs.lemmas.List.{drop_more, drop_all}
-use Rattle.wcnf.specs.Literal.{Literal}
+use Rattle.cnf.specs.Literal.{Literal}
 use Rattle.adder.specs.Network.{bit}
 use Rattle.bound.specs.Bound.{no, kept, above, rising_clauses}
 use Rattle.bound.proofs.Kept.{kept-append}

@@ -5,9 +5,9 @@ use Rattle.std.proofs.Common.{nat_lt, inl, inr, refl, sym, ◌∙◌, ap, arith}
 use Rattle.std.proofs.lemmas.Bool.{eqb-true, eq-eqb, false≢true, and_parts, and_from, leb-true}
 use Rattle.std.proofs.lemmas.Bool.{le-leb, lt-leb, leb-false, cases_lt, le-ltb}
 use Rattle.std.proofs.lemmas.Bool.Decides.{nat_tests}
-use Rattle.wcnf.specs.Numbers.{one_if}
-use Rattle.wcnf.specs.Literal.{Assignment, Literal, literal_value}
-use Rattle.wcnf.specs.Clause.{clause_value}
+use Rattle.cnf.specs.Numbers.{one_if}
+use Rattle.cnf.specs.Literal.{Assignment, Literal, literal_value}
+use Rattle.cnf.specs.Clause.{clause_value}
 use Rattle.adder.specs.Network.{bit, value_of}
 use Rattle.adder.proofs.Laws.{digit}
 use Rattle.bound.specs.Bound.{no, above, rising_clauses, comparator_of}

@@ -7,9 +7,9 @@ use Rattle.std.proofs.lemmas.Bool.{or_left, or_right, cases_eq, ne_eqb}
 use Rattle.std.proofs.lemmas.Nat.{shr-shr}
 use Rattle.std.proofs.lemmas.List.Elements.{All-from_recursion}
 use Rattle.std.proofs.lemmas.List.Folds.{list_any-append}
-use Rattle.wcnf.specs.Numbers.{one_if}
-use Rattle.wcnf.specs.Literal.{Literal}
-use Rattle.wcnf.specs.Clause.{is_subset}
+use Rattle.cnf.specs.Numbers.{one_if}
+use Rattle.cnf.specs.Literal.{Literal}
+use Rattle.cnf.specs.Clause.{is_subset}
 use Rattle.adder.specs.Network.{bit}
 use Rattle.adder.proofs.Laws.{digit}
 use Rattle.bound.specs.Bound.{no, above, rising_clauses, comparator_of, IsCovered, CoversLarger}

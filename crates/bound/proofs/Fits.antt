@@ -5,12 +5,12 @@ use Rattle.std.proofs.Common.{◌==◌, if◌then◌else◌, refl, All, subst, a
 use Rattle.std.specs.List.{AllByRecursion, flat_map}
 use Rattle.std.proofs.lemmas.Bool.{or_from, or_parts}
 use Rattle.std.proofs.lemmas.List.Elements.{recursion_from_All, All-from_recursion}
-use Rattle.wcnf.specs.Literal.{Literal, literal_eq}
-use Rattle.wcnf.specs.Clause.{contains_literal, without_literal, distinct, has_repeat}
-use Rattle.wcnf.specs.Clause.{has_opposites, greatest_variable}
-use Rattle.wcnf.specs.Formula.{IsFormula, IsFormulaClause}
-use Rattle.wcnf.specs.Problem.{Problem, SoftClause}
-use Rattle.wcnf.specs.Instance.{IsInstance, IsClauseWithin}
+use Rattle.cnf.specs.Literal.{Literal, literal_eq}
+use Rattle.cnf.specs.Clause.{contains_literal, without_literal, distinct, has_repeat}
+use Rattle.cnf.specs.Clause.{has_opposites, greatest_variable}
+use Rattle.cnf.specs.Formula.{IsFormula, IsFormulaClause}
+use Rattle.cnf.specs.Problem.{Problem, SoftClause}
+use Rattle.cnf.specs.Instance.{IsInstance, IsClauseWithin}
 use Rattle.adder.specs.declared.cells.Cell.{Cell}
 use Rattle.adder.specs.declared.cells.Profile.{Profile}
 use Rattle.adder.specs.Network.{Relaxed, bit, relaxed_as, relaxed_variables, adders_as}

@@ -6,13 +6,13 @@ use Rattle.std.specs.List.{AllByRecursion}
 use Rattle.std.proofs.lemmas.Bool.{or_parts}
 use Rattle.std.proofs.lemmas.List.{take_more}
 use Rattle.std.proofs.lemmas.List.Elements.{All-from_recursion, recursion_from_All}
-use Rattle.wcnf.specs.Literal.{Literal, literal_eq, same_bool}
-use Rattle.wcnf.specs.Clause.{contains_literal, without_literal, distinct, has_repeat}
-use Rattle.wcnf.specs.Clause.{has_opposites, greatest_variable}
-use Rattle.wcnf.specs.Instance.{IsClauseWithin}
+use Rattle.cnf.specs.Literal.{Literal, literal_eq, same_bool}
+use Rattle.cnf.specs.Clause.{contains_literal, without_literal, distinct, has_repeat}
+use Rattle.cnf.specs.Clause.{has_opposites, greatest_variable}
+use Rattle.cnf.specs.Instance.{IsClauseWithin}
 use Rattle.bound.specs.Bound.{kept}
 use Rattle.bound.specs.Adding.{Adds}
-use Rattle.wcnf.specs.Marks.{HasPlace}
+use Rattle.cnf.specs.Marks.{HasPlace}
 use Rattle.bound.proofs.Opposites.{same_number}
 use Rattle.bound.proofs.Clauses.{any-distinct}
 use Rattle.bound.proofs.Fits.{repeat-distinct}

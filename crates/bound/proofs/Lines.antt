@@ -4,11 +4,11 @@ use Rattle.std.proofs.Common.{Option, refl, sym, ◌∙◌, ap, append-nil}
 use Rattle.std.specs.List.{flat_map}
 use Rattle.std.specs.Fmt.{decimal}
 use lib.Chars.{codes}
-use Rattle.wcnf.specs.Literal.{Literal}
-use Rattle.wcnf.specs.Text.{literal_text}
-use Rattle.wcnf.specs.Writing.{PassesOn, AppendsPart}
-use Rattle.wcnf.proofs.Laws.{items_more, items_fault, all_taken}
-use Rattle.wcnf.proofs.Laws.{first_fault, passed-more, passed_part-more, spaced-last}
+use Rattle.cnf.specs.Literal.{Literal}
+use Rattle.text.specs.Text.{literal_text}
+use Rattle.text.specs.Writing.{PassesOn, AppendsPart}
+use Rattle.text.proofs.Laws.{items_more, items_fault, all_taken}
+use Rattle.text.proofs.Laws.{first_fault, passed-more, passed_part-more, spaced-last}
 use Rattle.bound.specs.Bound.{dimacs_clause}
 
 abbrev pub literals_text : List Literal → List ℕ

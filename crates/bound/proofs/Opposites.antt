@@ -4,10 +4,10 @@ use Rattle.std.proofs.Common.{◌∷◌, ◌++◌, length, take, get_or, set, re
 use Rattle.std.proofs.lemmas.Bool.{false≢true, eqb-true, eq-eqb, ne_eqb}
 use Rattle.std.proofs.lemmas.List.{take_more}
 use Rattle.std.proofs.lemmas.List.Folds.{list_any-append}
-use Rattle.wcnf.specs.Literal.{Literal, negation, literal_eq, same_bool, index_of}
-use Rattle.wcnf.specs.Clause.{contains_literal, has_opposites}
-use Rattle.wcnf.specs.Marks.{mark_of, IsMarked, HasPlace}
-use Rattle.wcnf.proofs.Laws.{marked_one}
+use Rattle.cnf.specs.Literal.{Literal, negation, literal_eq, same_bool, index_of}
+use Rattle.cnf.specs.Clause.{contains_literal, has_opposites}
+use Rattle.cnf.specs.Marks.{mark_of, IsMarked, HasPlace}
+use Rattle.cnf.proofs.Laws.{marked_one}
 
 pub same_number : (m n : ℕ) → (m == n) ≡ (n == m)
 same_number m n =

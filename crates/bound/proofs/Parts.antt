@@ -1,9 +1,9 @@
 -- The formula from its parts.
 use Rattle.std.proofs.Common.{◌≡◌, ℕ, ◌+◌, ◌*◌, List, [], ◌++◌, length, Option, ◌∙◌, ap}
 use Rattle.std.specs.List.{flat_map}
-use Rattle.wcnf.specs.Literal.{Literal}
-use Rattle.wcnf.specs.Problem.{Problem}
-use Rattle.wcnf.specs.Formula.{Cnf}
+use Rattle.cnf.specs.Literal.{Literal}
+use Rattle.cnf.specs.Problem.{Problem}
+use Rattle.cnf.specs.Formula.{Cnf}
 use Rattle.adder.specs.declared.cells.Cell.{Cell}
 use Rattle.adder.specs.declared.cells.Profile.{Profile}
 use Rattle.adder.specs.Network.{relaxed_variables, adders_as}

@@ -7,16 +7,16 @@ use Rattle.std.proofs.lemmas.Bool.{ne_eqb, or_from, or_parts, false≢true}
 use Rattle.std.proofs.lemmas.List.{take_more, length-append}
 use Rattle.std.proofs.lemmas.List.Folds.{list_any-append}
 use Rattle.std.proofs.lemmas.List.Elements.{All-from_recursion, recursion_from_All}
-use Rattle.wcnf.specs.Literal.{Literal, literal_eq, same_bool, positive}
-use Rattle.wcnf.specs.Clause.{contains_literal, has_repeat, greatest_variable}
-use Rattle.wcnf.specs.Problem.{SoftClause}
-use Rattle.wcnf.specs.Instance.{IsClauseWithin}
+use Rattle.cnf.specs.Literal.{Literal, literal_eq, same_bool, positive}
+use Rattle.cnf.specs.Clause.{contains_literal, has_repeat, greatest_variable}
+use Rattle.cnf.specs.Problem.{SoftClause}
+use Rattle.cnf.specs.Instance.{IsClauseWithin}
 use Rattle.adder.specs.declared.cells.Profile.{Profile}
 use Rattle.adder.specs.declared.cells.Profile.TheVariants.{One, Two, Three}
 use Rattle.adder.specs.Network.{Relaxed, relaxed_one, relaxed_from}
 use Rattle.adder.proofs.Laws.{relaxed_cases}
 use Rattle.bound.specs.Bound.{kept}
-use Rattle.wcnf.specs.Marks.{HasPlace}
+use Rattle.cnf.specs.Marks.{HasPlace}
 use Rattle.bound.specs.Adding.{gets_variable}
 use Rattle.bound.proofs.Subsets.{all_append}
 use Rattle.bound.proofs.Kept.{kept-append, places_each, same_literals}

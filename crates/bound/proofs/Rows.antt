@@ -1,6 +1,6 @@
 -- The clauses of adders, with names for the negations.
 use Rattle.std.proofs.Common.{◌≡◌, List, [], ◌∷◌, ◌++◌, subst}
-use Rattle.wcnf.specs.Literal.{Literal}
+use Rattle.cnf.specs.Literal.{Literal}
 use Rattle.bound.specs.Bound.{no, full_clauses, half_clauses}
 use Rattle.bound.specs.Adding.{Adds}
 use Rattle.bound.proofs.Kept.{adds_more}

@@ -6,14 +6,14 @@ use Rattle.std.specs.List.{flat_map}
 use Rattle.std.specs.Io.KnownBytes.{Appends}
 use Rattle.std.proofs.KnownBytes.{Appends-nil}
 use Rattle.std.proofs.lemmas.List.{drop_more, length-append}
-use Rattle.wcnf.specs.Literal.{Literal}
-use Rattle.wcnf.specs.Formula.{Cnf}
-use Rattle.wcnf.specs.Clause.{has_repeat, has_opposites}
-use Rattle.wcnf.specs.Writing.{PassesOn, AppendsPart}
-use Rattle.wcnf.proofs.Laws.{flat_map-append}
-use Rattle.wcnf.proofs.Laws.{passed-nil, passed-more, passed_fault, passed_whole, passed_part}
-use Rattle.wcnf.specs.Problem.{Problem}
-use Rattle.wcnf.specs.Instance.{IsInstance}
+use Rattle.cnf.specs.Literal.{Literal}
+use Rattle.cnf.specs.Formula.{Cnf}
+use Rattle.cnf.specs.Clause.{has_repeat, has_opposites}
+use Rattle.text.specs.Writing.{PassesOn, AppendsPart}
+use Rattle.text.proofs.Laws.{flat_map-append}
+use Rattle.text.proofs.Laws.{passed-nil, passed-more, passed_fault, passed_whole, passed_part}
+use Rattle.cnf.specs.Problem.{Problem}
+use Rattle.cnf.specs.Instance.{IsInstance}
 use Rattle.adder.specs.declared.cells.Cell.{Cell}
 use Rattle.adder.specs.declared.cells.Profile.{Profile}
 use Rattle.adder.specs.Network.{Adders, adders_as}

@@ -5,9 +5,9 @@ use Rattle.std.specs.List.{list_any, AllByRecursion}
 use Rattle.std.proofs.lemmas.Bool.{false≢true, true≢false, or_cases, or_left, or_right, both_ways}
 use Rattle.std.proofs.lemmas.Grind.{reverse_onto}
 use Rattle.std.proofs.lemmas.List.Folds.{list_any-append}
-use Rattle.wcnf.specs.Literal.{Literal, negation, literal_eq}
-use Rattle.wcnf.specs.Clause.{contains_literal, distinct, has_opposites, is_subset}
-use Rattle.wcnf.proofs.Laws.{literal_eq-refl, literal_eq-true, negation_twice}
+use Rattle.cnf.specs.Literal.{Literal, negation, literal_eq}
+use Rattle.cnf.specs.Clause.{contains_literal, distinct, has_opposites, is_subset}
+use Rattle.cnf.proofs.Laws.{literal_eq-refl, literal_eq-true, negation_twice}
 use Rattle.bound.specs.Bound.{kept}
 use Rattle.bound.proofs.Clauses.{any-distinct}
 

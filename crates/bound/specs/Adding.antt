@@ -1,6 +1,6 @@
 -- What is asked of the cells of a network, and what adding clauses does.
 use Rattle.std.specs.Prelude.{◌≡◌, ◌<◌, ◌^◌, Bool, true, not, List, ◌++◌, length, ◌==◌}
-use Rattle.wcnf.specs.Literal.{Literal}
+use Rattle.cnf.specs.Literal.{Literal}
 use Rattle.adder.specs.declared.cells.Cell.{Cell}
 use Rattle.adder.specs.declared.cells.Profile.{Profile}
 use Rattle.adder.specs.declared.cells.Profile.TheVariants.{One, Two, Three}

@@ -5,12 +5,12 @@ use Rattle.std.specs.Prelude.{if◌then◌else◌, All}
 use Rattle.std.specs.List.{flat_map, list_any}
 use Rattle.std.specs.Fmt.{decimal}
 use lib.Chars.{codes}
-use Rattle.wcnf.specs.Literal.{Assignment, Literal, negation, positive}
-use Rattle.wcnf.specs.Clause.{Satisfies, distinct, has_opposites, is_subset}
-use Rattle.wcnf.specs.Formula.{Cnf}
-use Rattle.wcnf.specs.Problem.{Problem, IsFeasible, cost_under}
-use Rattle.wcnf.specs.Text.{literal_text}
-use Rattle.wcnf.specs.Writing.{spaced}
+use Rattle.cnf.specs.Literal.{Assignment, Literal, negation, positive}
+use Rattle.cnf.specs.Clause.{Satisfies, distinct, has_opposites, is_subset}
+use Rattle.cnf.specs.Formula.{Cnf}
+use Rattle.cnf.specs.Problem.{Problem, IsFeasible, cost_under}
+use Rattle.text.specs.Text.{literal_text}
+use Rattle.text.specs.Writing.{spaced}
 use Rattle.adder.specs.declared.cells.Cell.{Cell}
 use Rattle.adder.specs.declared.cells.Profile.{Profile}
 use Rattle.adder.specs.declared.cells.Profile.TheVariants.{One}

@@ -1,8 +1,8 @@
 -- The formula that is written part by part.
 use Rattle.std.specs.Prelude.{List, ◌++◌}
 use Rattle.std.specs.List.{flat_map}
-use Rattle.wcnf.specs.Literal.{Literal}
-use Rattle.wcnf.specs.Formula.{Cnf}
+use Rattle.cnf.specs.Literal.{Literal}
+use Rattle.cnf.specs.Formula.{Cnf}
 use Rattle.bound.specs.declared.encoding.Outline.{Outline}
 use Rattle.bound.specs.Bound.{kept, cell_clauses}
 

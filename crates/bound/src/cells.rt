@@ -6,9 +6,9 @@ ghost use Rattle.bound.specs.Adding.{Adds, HasVariables};
 
 use crate::keeping::keep_short;
 use adder::cells::Cell;
+use cnf::clause_list::ClauseList;
+use cnf::types::Lit;
 use std::alloc::AllocError;
-use wcnf::clause_list::ClauseList;
-use wcnf::types::Lit;
 
 /// Adds the clauses of the cells.
 pub(crate) fn keep_cells(clauses: &mut ClauseList, cells: &[Cell]) -> Result<(), AllocError>

@@ -1,14 +1,14 @@
 // The comparator: clauses that hold where the number that the outputs of a network spell is below a
 // bound.
 ghost use Rattle.std.specs.Prelude.{◌≡◌, ◌/◌, ◌≤◌, ◌^◌, ◌++◌, false, reverse, All, IfOk, OnOk};
-ghost use Rattle.wcnf.specs.Clause.{has_repeat};
+ghost use Rattle.cnf.specs.Clause.{has_repeat};
 ghost use Rattle.bound.specs.Bound.{kept, rising_clauses, comparator_of, CoversLarger};
 
 use crate::keeping::keep_short;
 use adder::networks::Network;
+use cnf::clause_list::ClauseList;
+use cnf::types::{Clause, Lit};
 use std::alloc::AllocError;
-use wcnf::clause_list::ClauseList;
-use wcnf::types::{Clause, Lit};
 
 /// The clauses that hold exactly where the outputs of the network spell a number below `k`, a bound
 /// from 0 to 2^62 (Warners, "A linear-time transformation of linear inequalities into conjunctive

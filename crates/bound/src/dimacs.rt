@@ -2,14 +2,13 @@
 ghost use Rattle.std.specs.Prelude.{◌++◌, OnOk, OnErr};
 ghost use Rattle.std.specs.List.{flat_map};
 ghost use Rattle.std.specs.Io.KnownBytes.{Appends};
-ghost use Rattle.wcnf.specs.Writing.{AppendsPart, PassesOn};
+ghost use Rattle.text.specs.Writing.{AppendsPart, PassesOn};
 ghost use Rattle.bound.specs.Bound.{dimacs_text, header_line, dimacs_clause};
 
+use cnf::clause_list::ClauseList;
+use cnf::types::{Formula, Lit};
 use std::io::Write;
-use wcnf::clause_list::ClauseList;
-use wcnf::faults::WriteFault;
-use wcnf::output::Block;
-use wcnf::types::{Formula, Lit};
+use text::output::{Block, WriteFault};
 
 /// Writes the formula as DIMACS CNF ("Satisfiability: Suggested Format", DIMACS Challenge, 1993):
 /// the line `p cnf VARIABLES CLAUSES`, and a line for each clause, its literals and then `0`. One

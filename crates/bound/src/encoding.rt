@@ -4,7 +4,7 @@ ghost use Rattle.std.specs.Prelude.{◌≡◌, ◌+◌, ◌*◌, ◌<◌, ◌≤
 ghost use Rattle.std.specs.Prelude.{OnErr};
 ghost use Rattle.std.specs.List.{flat_map};
 ghost use Rattle.std.specs.Io.KnownBytes.{Appends};
-ghost use Rattle.wcnf.specs.Writing.{AppendsPart, PassesOn};
+ghost use Rattle.text.specs.Writing.{AppendsPart, PassesOn};
 ghost use Rattle.adder.specs.Network.{adders_as};
 ghost use Rattle.bound.specs.Bound.{kept, bound_as, cell_clauses, comparator_for, dimacs_clause};
 ghost use Rattle.bound.specs.Bound.{dimacs_text, relaxed_clauses};
@@ -19,13 +19,12 @@ use crate::relaxing::keep_relaxed;
 use adder::building::network_as;
 use adder::cells::{Cell, Profile};
 use adder::networks::Network;
+use cnf::clause_list::ClauseList;
+use cnf::marks::Marks;
+use cnf::types::Instance;
 use std::alloc::AllocError;
 use std::io::Write;
-use wcnf::clause_list::ClauseList;
-use wcnf::faults::WriteFault;
-use wcnf::marks::Marks;
-use wcnf::output::Block;
-use wcnf::types::Instance;
+use text::output::{Block, WriteFault};
 
 /// Why a formula was not written to its end.
 #[derive(Clone, Copy, Debug, PartialEq, Eq, Drop)]

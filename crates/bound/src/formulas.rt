@@ -12,10 +12,10 @@ use crate::hard::keep_hard;
 use crate::relaxing::keep_relaxed;
 use adder::building::network_as;
 use adder::cells::Profile;
+use cnf::clause_list::ClauseList;
+use cnf::marks::Marks;
+use cnf::types::{Formula, Instance};
 use std::alloc::AllocError;
-use wcnf::clause_list::ClauseList;
-use wcnf::marks::Marks;
-use wcnf::types::{Formula, Instance};
 
 /// The formula for a cost below `k`, a bound from 0 to 2^62: the hard clauses, each soft clause
 /// with its relaxation variable, the cells of the adder network of what is relaxed, and the

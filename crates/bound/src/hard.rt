@@ -1,15 +1,15 @@
 // The hard clauses as a formula.
 ghost use Rattle.std.specs.Prelude.{◌≡◌, ◌*◌, ◌<◌, ◌≤◌, ◌^◌, ◌++◌, length, All, IfOk, OnOk, ◌↔◌};
-ghost use Rattle.wcnf.specs.Literal.{Assignment};
-ghost use Rattle.wcnf.specs.Clause.{Satisfies};
-ghost use Rattle.wcnf.specs.Problem.{IsFeasible};
+ghost use Rattle.cnf.specs.Literal.{Assignment};
+ghost use Rattle.cnf.specs.Clause.{Satisfies};
+ghost use Rattle.cnf.specs.Problem.{IsFeasible};
 ghost use Rattle.bound.specs.Bound.{hard_cnf, kept};
 
 use crate::keeping::keep;
+use cnf::clause_list::ClauseList;
+use cnf::marks::Marks;
+use cnf::types::{Formula, Instance};
 use std::alloc::AllocError;
-use wcnf::clause_list::ClauseList;
-use wcnf::marks::Marks;
-use wcnf::types::{Formula, Instance};
 
 /// The hard clauses as a formula over the instance's variables, in their order, without those that
 /// have a literal beside its negation. The assignments that satisfy it are the instance's

@@ -1,14 +1,14 @@
 // Clauses as formulas have them: each literal once, and none with an opposite pair, which every
 // assignment satisfies.
 ghost use Rattle.std.specs.Prelude.{◌≡◌, false, [], ◌∷◌, ◌++◌, length, All, IfOk, OnOk};
-ghost use Rattle.wcnf.specs.Clause.{contains_literal, distinct, has_repeat, has_opposites};
+ghost use Rattle.cnf.specs.Clause.{contains_literal, distinct, has_repeat, has_opposites};
 ghost use Rattle.bound.specs.Bound.{kept};
-ghost use Rattle.wcnf.specs.Marks.{HasPlace};
+ghost use Rattle.cnf.specs.Marks.{HasPlace};
 
+use cnf::clause_list::ClauseList;
+use cnf::marks::Marks;
+use cnf::types::Lit;
 use std::alloc::{AllocError, Global};
-use wcnf::clause_list::ClauseList;
-use wcnf::marks::Marks;
-use wcnf::types::Lit;
 
 /// Clauses up to this length are searched for opposites pair by pair, which takes fewer steps than
 /// marks do.

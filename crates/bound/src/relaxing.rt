@@ -2,17 +2,17 @@
 // falsified.
 ghost use Rattle.std.specs.Prelude.{◌≡◌, ◌+◌, ◌*◌, ◌<◌, ◌≤◌, ◌^◌, [], ◌∷◌, ◌++◌, length, IfOk};
 ghost use Rattle.std.specs.Prelude.{OnOk};
-ghost use Rattle.wcnf.specs.Literal.{positive};
+ghost use Rattle.cnf.specs.Literal.{positive};
 ghost use Rattle.adder.specs.Network.{relaxed_variables};
 ghost use Rattle.bound.specs.Bound.{kept, relaxed_clauses};
 ghost use Rattle.bound.specs.Adding.{gets_variable};
 
 use crate::keeping::keep;
 use adder::cells::Profile;
+use cnf::clause_list::ClauseList;
+use cnf::marks::Marks;
+use cnf::types::{Instance, Lit};
 use std::alloc::{AllocError, Global};
-use wcnf::clause_list::ClauseList;
-use wcnf::marks::Marks;
-use wcnf::types::{Instance, Lit};
 
 /// Adds the soft clauses that take a relaxation variable, each with that as its last literal. These
 /// variables come after the instance's own, in the order of the clauses; answers the last of them.

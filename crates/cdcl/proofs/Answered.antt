@@ -5,9 +5,9 @@ use Rattle.std.specs.Prelude.{All, Contains, ◌⊎◌, Bool}
 use Rattle.std.specs.List.{list_any}
 use Rattle.std.proofs.lemmas.Bool.{or_from, true≢false}
 use Rattle.std.proofs.lemmas.List.Elements.{All-nil}
-use Rattle.wcnf.specs.Literal.{Literal}
-use Rattle.wcnf.specs.Clause.{greatest_variable}
-use Rattle.wcnf.specs.Refute.{IsRefutedByHints}
+use Rattle.cnf.specs.Literal.{Literal}
+use Rattle.cnf.specs.Clause.{greatest_variable}
+use Rattle.cnf.specs.Refute.{IsRefutedByHints}
 use Rattle.analyze.specs.Learning.{IsQuiet}
 use Rattle.lrat_log.specs.Log.{LogLine, Given}
 use Rattle.lrat_log.specs.Steps.{IsLogOver, IsAcceptedLog, StaysLogOver}

@@ -6,15 +6,15 @@ use Rattle.std.specs.Prelude.{◌==◌}
 use Rattle.std.specs.List.{AllByRecursion}
 use Rattle.std.proofs.lemmas.Bool.{cases_Bool, cases_eq, or_left, or_right, or_cases}
 use Rattle.std.proofs.lemmas.Option.{none-some, same_Some}
-use Rattle.wcnf.specs.Literal.{Literal, negation, literal_eq}
-use Rattle.wcnf.specs.Clause.{contains_literal}
-use Rattle.wcnf.specs.Refute.{Clauses, IsFalseUnder}
+use Rattle.cnf.specs.Literal.{Literal, negation, literal_eq}
+use Rattle.cnf.specs.Clause.{contains_literal}
+use Rattle.cnf.specs.Refute.{Clauses, IsFalseUnder}
 use Rattle.clauses.specs.Slots.{Slots, clause_at}
 use Rattle.propagate.specs.Trail.{Assigned, literals_of, depth_of, level_after, level_from}
 use Rattle.propagate.specs.Trail.{level_in, kept_to, HasReasons}
 use Rattle.propagate.proofs.Laws.{depth_step}
 use Rattle.propagate.proofs.Laws.{negation_twice, contains-append}
-use Rattle.wcnf.proofs.Laws.{literal_eq-refl}
+use Rattle.cnf.proofs.Laws.{literal_eq-refl}
 use Rattle.propagate.proofs.Laws.{in_kept, contains_front, contains_back, kept_prefix}
 use Rattle.propagate.proofs.Laws.{literals-append}
 use Rattle.propagate.proofs.Laws.{all_weaker}

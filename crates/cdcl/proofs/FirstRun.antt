@@ -11,12 +11,12 @@ use Rattle.std.proofs.lemmas.List.{length-map, get_or-map, length-replicate, tak
 use Rattle.std.proofs.lemmas.List.{get_or_default}
 use Rattle.std.proofs.lemmas.List.Elements.{All-nil, All-cons, All-head, All-tail}
 use Rattle.std.proofs.lemmas.List.Elements.{All-from_recursion}
-use Rattle.wcnf.specs.Literal.{Literal}
-use Rattle.wcnf.specs.Clause.{Satisfies}
-use Rattle.wcnf.specs.Lrat.{IsId}
-use Rattle.wcnf.specs.Refute.{IsRefutedByHints}
-use Rattle.wcnf.specs.Bits.{assignment_of}
-use Rattle.wcnf.specs.Formula.{Cnf, IsFormula, IsFormulaClause}
+use Rattle.cnf.specs.Literal.{Literal}
+use Rattle.cnf.specs.Clause.{Satisfies}
+use Rattle.cnf.specs.Lrat.{IsId}
+use Rattle.cnf.specs.Refute.{IsRefutedByHints}
+use Rattle.cnf.specs.Bits.{assignment_of}
+use Rattle.cnf.specs.Formula.{Cnf, IsFormula, IsFormulaClause}
 use Rattle.clauses.specs.Slots.{Slots, clause_at, IsLive, live_places, live_clauses, places_from}
 use Rattle.propagate.specs.Trail.{depth_of}
 use Rattle.propagate.specs.Watches.{is_attached}

@@ -8,15 +8,15 @@ use Rattle.std.proofs.lemmas.Bool.{or_from, or_parts, false≢true, both_ways}
 use Rattle.std.proofs.lemmas.List.{get_or_past, get_or_default, get_or-set_same, get_or-set_other}
 use Rattle.std.proofs.lemmas.List.{take_more, length-set, map_push, map-append}
 use Rattle.std.proofs.lemmas.Option.{none-some, same_Some}
-use Rattle.wcnf.specs.Literal.{Literal, negation, literal_eq}
-use Rattle.wcnf.specs.Clause.{contains_literal, has_repeat}
-use Rattle.wcnf.proofs.Laws.{literal_eq-true}
+use Rattle.cnf.specs.Literal.{Literal, negation, literal_eq}
+use Rattle.cnf.specs.Clause.{contains_literal, has_repeat}
+use Rattle.cnf.proofs.Laws.{literal_eq-true}
 use Rattle.clauses.specs.Slots.{Slots, clause_at}
 use Rattle.propagate.specs.Trail.{Assigned, literals_of, level_in, value_in, HasReasons}
 use Rattle.propagate.specs.Watches.{EngineState, is_attached, IsVariable}
 use Rattle.propagate.specs.Fits.{Fits}
 use Rattle.propagate.proofs.Laws.{negation_twice, contains-push, same_variable}
-use Rattle.wcnf.proofs.Laws.{literal_eq-refl}
+use Rattle.cnf.proofs.Laws.{literal_eq-refl}
 use Rattle.propagate.proofs.Laws.{contains_at, contains_front}
 use Rattle.propagate.proofs.Laws.{all_weaker, all_join}
 use Rattle.propagate.proofs.Laws.{attached_within, within_variable, false_value, not_false_value}

@@ -5,10 +5,10 @@ use Rattle.std.specs.Prelude.{All}
 use Rattle.std.proofs.lemmas.List.{take-append-le, length-append, take_more}
 use Rattle.std.proofs.lemmas.List.Elements.{All-push, All-head, All-tail}
 use Rattle.std.proofs.lemmas.Option.{slice_get_within}
-use Rattle.wcnf.specs.Literal.{Literal}
-use Rattle.wcnf.specs.Clause.{has_repeat, has_opposites, greatest_variable}
-use Rattle.wcnf.specs.Lrat.{IsId}
-use Rattle.wcnf.specs.Formula.{Cnf, IsFormulaClause}
+use Rattle.cnf.specs.Literal.{Literal}
+use Rattle.cnf.specs.Clause.{has_repeat, has_opposites, greatest_variable}
+use Rattle.cnf.specs.Lrat.{IsId}
+use Rattle.cnf.specs.Formula.{Cnf, IsFormulaClause}
 use Rattle.std.proofs.lemmas.Bool.{true≢false}
 use Rattle.propagate.specs.Fits.{IsWithin}
 use Rattle.lrat_log.specs.declared.lines.Name.{Name}

@@ -3,8 +3,8 @@ use Rattle.std.proofs.Common.{◌≡◌, ℕ, List, [], ◌∷◌, ◌++◌, len
 use Rattle.std.specs.Prelude.{All}
 use Rattle.std.specs.List.{AllByRecursion}
 use Rattle.std.proofs.lemmas.List.Elements.{All-from_recursion}
-use Rattle.wcnf.specs.Literal.{Literal}
-use Rattle.wcnf.specs.Lrat.{IsId}
+use Rattle.cnf.specs.Literal.{Literal}
+use Rattle.cnf.specs.Lrat.{IsId}
 use Rattle.clauses.specs.Slots.{Slots, clause_at, IsLive}
 use Rattle.propagate.specs.Trail.{Assigned}
 use Rattle.propagate.proofs.Laws.{all_join}

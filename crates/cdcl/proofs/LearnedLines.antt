@@ -4,14 +4,14 @@ use Rattle.std.proofs.Common.{refl, sym, ◌∙◌, ap, subst}
 use Rattle.std.proofs.lemmas.Bool.{cases_Bool, both_ways, or_left, or_right, or_cases, or_from}
 use Rattle.std.proofs.lemmas.Bool.{or_parts}
 use Rattle.std.proofs.lemmas.List.Elements.{recursion_from_All}
-use Rattle.wcnf.specs.Literal.{Literal, negation, literal_eq}
-use Rattle.wcnf.specs.Clause.{contains_literal, has_repeat, has_opposites, is_subset}
-use Rattle.wcnf.specs.Refute.{Clauses, Refutes, IsFalseUnder}
-use Rattle.wcnf.proofs.Laws.{literal_eq-true}
+use Rattle.cnf.specs.Literal.{Literal, negation, literal_eq}
+use Rattle.cnf.specs.Clause.{contains_literal, has_repeat, has_opposites, is_subset}
+use Rattle.cnf.specs.Refute.{Clauses, Refutes, IsFalseUnder}
+use Rattle.cnf.proofs.Laws.{literal_eq-true}
 use Rattle.clauses.specs.Slots.{Slots, clause_at}
 use Rattle.propagate.specs.Trail.{Assigned, literals_of, depth_of, kept_to, HasReasons}
 use Rattle.propagate.proofs.Laws.{negation_twice, contains-append}
-use Rattle.wcnf.proofs.Laws.{literal_eq-refl}
+use Rattle.cnf.proofs.Laws.{literal_eq-refl}
 use Rattle.propagate.proofs.Laws.{kept_prefix, contains_front, contains_back, literals-append}
 use Rattle.propagate.proofs.Laws.{NoOpposites, no_opposites}
 use Rattle.lrat_log.specs.declared.lines.Name.{Name}

@@ -6,9 +6,9 @@ use Rattle.std.specs.List.{AllByRecursion}
 use Rattle.std.proofs.lemmas.List.{take_all}
 use Rattle.std.proofs.lemmas.List.Elements.{All-nil, All-cons, All-head, All-tail}
 use Rattle.std.proofs.lemmas.List.Elements.{All-from_recursion, recursion_from_All}
-use Rattle.wcnf.specs.Literal.{Literal, negation}
-use Rattle.wcnf.specs.Clause.{greatest_variable}
-use Rattle.wcnf.specs.Refute.{Leads, Refutes, IsFalseUnder}
+use Rattle.cnf.specs.Literal.{Literal, negation}
+use Rattle.cnf.specs.Clause.{greatest_variable}
+use Rattle.cnf.specs.Refute.{Leads, Refutes, IsFalseUnder}
 use Rattle.clauses.specs.Slots.{Slots, clause_at, IsLive}
 use Rattle.propagate.specs.Trail.{Assigned, literals_of, depth_of, kept_to, HasReasons}
 use Rattle.propagate.specs.Watches.{EngineState, is_attached}

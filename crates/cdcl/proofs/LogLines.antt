@@ -4,11 +4,11 @@ use Rattle.std.proofs.Common.{Some, inl, refl, sym, ◌∙◌, ap, subst, arith}
 use Rattle.std.specs.Prelude.{nat_eq, if◌then◌else◌, All}
 use Rattle.std.specs.List.{AllByRecursion, IsDistinct}
 use Rattle.std.proofs.lemmas.List.Elements.{All-push, All-from_recursion}
-use Rattle.wcnf.specs.Literal.{Literal, negation}
-use Rattle.wcnf.specs.Clause.{has_repeat, has_opposites, greatest_variable}
-use Rattle.wcnf.specs.Refute.{Refutes}
-use Rattle.wcnf.specs.Lrat.{Addition, Deletion, Live, with_clause, without_ids, Chain, Step}
-use Rattle.wcnf.specs.Lrat.{IsAddable}
+use Rattle.cnf.specs.Literal.{Literal, negation}
+use Rattle.cnf.specs.Clause.{has_repeat, has_opposites, greatest_variable}
+use Rattle.cnf.specs.Refute.{Refutes}
+use Rattle.cnf.specs.Lrat.{Addition, Deletion, Live, with_clause, without_ids, Chain, Step}
+use Rattle.cnf.specs.Lrat.{IsAddable}
 use Rattle.lrat_log.specs.declared.lines.Name.{Name}
 use Rattle.lrat_log.specs.Log.{LogLine, Given, start_over, is_delete, id_of, name_of, leading_ids}
 use Rattle.lrat_log.specs.Log.{group_ids, numbered_line, numbered_on, numbered_lines}

@@ -12,12 +12,12 @@ use Rattle.std.proofs.lemmas.List.{append-nil}
 use Rattle.std.proofs.lemmas.List.Elements.{All-push, All-head, All-tail, Contains-push_cases}
 use Rattle.std.proofs.lemmas.List.Elements.{All-nil}
 use Rattle.std.proofs.lemmas.Option.{same_Some, unwrap_or-slice_get}
-use Rattle.wcnf.specs.Literal.{Literal, Assignment, literal_value}
-use Rattle.wcnf.specs.Clause.{clause_value, Satisfies, greatest_variable}
-use Rattle.wcnf.specs.Lrat.{IsId}
-use Rattle.wcnf.specs.Refute.{IsUnit, IsFalseUnder, IsRefutedByHints}
-use Rattle.wcnf.specs.Bits.{assignment_of}
-use Rattle.wcnf.specs.Formula.{IsFormulaClause}
+use Rattle.cnf.specs.Literal.{Literal, Assignment, literal_value}
+use Rattle.cnf.specs.Clause.{clause_value, Satisfies, greatest_variable}
+use Rattle.cnf.specs.Lrat.{IsId}
+use Rattle.cnf.specs.Refute.{IsUnit, IsFalseUnder, IsRefutedByHints}
+use Rattle.cnf.specs.Bits.{assignment_of}
+use Rattle.cnf.specs.Formula.{IsFormulaClause}
 use Rattle.clauses.specs.Slots.{Slots, clause_at, Renaming, IsRenaming}
 use Rattle.propagate.specs.Trail.{Assigned, literals_of, depth_of, kept_to}
 use Rattle.propagate.specs.Watches.{EngineState, SetsAttached}

@@ -3,9 +3,9 @@ use Rattle.std.proofs.Common.{◌≡◌, ℕ, ◌+◌, ◌<◌, ◌≤◌, ◌^�
 use Rattle.std.proofs.Common.{◌∷◌, ◌++◌, length, set, Option, Some, None, sym, ◌∙◌, ap, subst}
 use Rattle.std.proofs.Common.{arith}
 use Rattle.std.proofs.lemmas.List.Elements.{All-push}
-use Rattle.wcnf.specs.Literal.{Literal}
-use Rattle.wcnf.specs.Lrat.{IsId}
-use Rattle.wcnf.specs.Refute.{IsUnit, IsFalseUnder}
+use Rattle.cnf.specs.Literal.{Literal}
+use Rattle.cnf.specs.Lrat.{IsId}
+use Rattle.cnf.specs.Refute.{IsUnit, IsFalseUnder}
 use Rattle.clauses.specs.Slots.{Slots, clause_at}
 use Rattle.propagate.specs.Trail.{literals_of, depth_of, kept_to}
 use Rattle.propagate.specs.Watches.{EngineState, SameAttached, SetsAttached}

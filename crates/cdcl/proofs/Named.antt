@@ -8,9 +8,9 @@ use Rattle.std.proofs.lemmas.Bool.{cases_Bool, eqb-true, eq-eqb, ne_eqb, cond-fa
 use Rattle.std.proofs.lemmas.Bool.{or_from, or_left}
 use Rattle.std.proofs.lemmas.List.{get_or_append_left, get_or_at, length-set, length_push}
 use Rattle.std.proofs.lemmas.Option.{none-some, same_Some}
-use Rattle.wcnf.specs.Literal.{Literal}
-use Rattle.wcnf.specs.Refute.{Clauses, Leads, Refutes}
-use Rattle.wcnf.specs.Lrat.{Live, with_clause, without_ids}
+use Rattle.cnf.specs.Literal.{Literal}
+use Rattle.cnf.specs.Refute.{Clauses, Leads, Refutes}
+use Rattle.cnf.specs.Lrat.{Live, with_clause, without_ids}
 use Rattle.clauses.specs.Slots.{Slots, clause_at, IsLive, Renaming, renamed, IsRenaming}
 use Rattle.lrat_log.specs.declared.lines.Name.{Name}
 use Rattle.lrat_log.specs.declared.lines.Name.TheVariants.{Formula, Added}

@@ -7,8 +7,8 @@ use Rattle.std.specs.List.{AllByRecursion}
 use Rattle.std.specs.List.Sorted.{IsStrictlyIncreasing}
 use Rattle.std.proofs.lemmas.List.Elements.{recursion_from_All}
 use Rattle.std.proofs.lemmas.Bool.{cases_lt, cases_eq}
-use Rattle.wcnf.specs.Literal.{Literal}
-use Rattle.wcnf.specs.Refute.{IsUnit, IsFalseUnder}
+use Rattle.cnf.specs.Literal.{Literal}
+use Rattle.cnf.specs.Refute.{IsUnit, IsFalseUnder}
 use Rattle.clauses.specs.Slots.{Slots, Renaming, renamed, IsRenaming}
 use Rattle.propagate.specs.Trail.{Assigned, literals_of, depth_of, is_decision, kept_to}
 use Rattle.propagate.specs.Watches.{EngineState, is_attached, SameAttached, SetsAttached}

@@ -8,10 +8,10 @@ use Rattle.std.proofs.lemmas.Bool.{or_left, or_right, or_cases}
 use Rattle.std.proofs.lemmas.List.Elements.{All-head, All-tail}
 use Rattle.std.proofs.lemmas.List.{get_or-take, length-take-le}
 use Rattle.std.proofs.lemmas.Option.{none-some, same_Some, slice_get-get_or, unwrap_or-slice_get}
-use Rattle.wcnf.specs.Literal.{Literal, Assignment, negation, literal_value}
-use Rattle.wcnf.specs.Clause.{clause_value, Satisfies, contains_literal, greatest_variable}
-use Rattle.wcnf.specs.Bits.{assignment_of, Extends}
-use Rattle.wcnf.specs.Refute.{IsFalseUnder}
+use Rattle.cnf.specs.Literal.{Literal, Assignment, negation, literal_value}
+use Rattle.cnf.specs.Clause.{clause_value, Satisfies, contains_literal, greatest_variable}
+use Rattle.cnf.specs.Bits.{assignment_of, Extends}
+use Rattle.cnf.specs.Refute.{IsFalseUnder}
 use Rattle.clauses.specs.Slots.{Slots, clause_at}
 use Rattle.propagate.specs.Trail.{Assigned, literals_of, value_in}
 use Rattle.propagate.specs.Fits.{IsWithin}

@@ -4,12 +4,12 @@ use Rattle.std.proofs.Common.{refl, sym, ◌∙◌, subst}
 use Rattle.std.specs.List.{AllByRecursion}
 use Rattle.std.proofs.Math.Bool.{or-false}
 use Rattle.std.proofs.lemmas.Bool.{cases_Bool, or_cases, or_left, or_right, both_ways}
-use Rattle.wcnf.specs.Literal.{Literal, negation, literal_eq}
-use Rattle.wcnf.specs.Clause.{contains_literal, HaveSame}
-use Rattle.wcnf.specs.Refute.{Clauses, IsUnit, Leads, Refutes}
-use Rattle.wcnf.proofs.Laws.{refutes_after}
+use Rattle.cnf.specs.Literal.{Literal, negation, literal_eq}
+use Rattle.cnf.specs.Clause.{contains_literal, HaveSame}
+use Rattle.cnf.specs.Refute.{Clauses, IsUnit, Leads, Refutes}
+use Rattle.cnf.proofs.Laws.{refutes_after}
 use Rattle.propagate.proofs.Laws.{contains-append}
-use Rattle.wcnf.proofs.Laws.{literal_eq-refl}
+use Rattle.cnf.proofs.Laws.{literal_eq-refl}
 use Rattle.propagate.proofs.Laws.{all_weaker}
 use Rattle.cdcl.specs.Hinting.{Serves, AreUnits}
 use Rattle.clauses.specs.Within.{Within}

@@ -1,7 +1,7 @@
 -- Learned clauses that are marked, detached and deleted.
 use Rattle.std.specs.Prelude.{◌≡◌, ℕ, ◌<◌, ◌≤◌, ◌^◌, Bool, true, false, not, List, length, Some}
 use Rattle.std.specs.Prelude.{All, slice_index_or}
-use Rattle.wcnf.specs.Literal.{Literal}
+use Rattle.cnf.specs.Literal.{Literal}
 use Rattle.clauses.specs.Slots.{clause_at, IsLive}
 use Rattle.propagate.specs.Trail.{literals_of, kept_to, depth_of}
 use Rattle.propagate.specs.Watches.{is_attached}

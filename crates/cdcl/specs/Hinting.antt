@@ -1,9 +1,9 @@
 -- Hints by name, and clauses of one literal among them.
 use Rattle.std.specs.Prelude.{◌≡◌, ℕ, true, false, List, [], ◌∷◌, ◌++◌, map, Option, Some, Contains}
 use Rattle.std.specs.List.{AllByRecursion}
-use Rattle.wcnf.specs.Literal.{Literal, negation}
-use Rattle.wcnf.specs.Clause.{contains_literal, has_repeat}
-use Rattle.wcnf.specs.Refute.{Clauses}
+use Rattle.cnf.specs.Literal.{Literal, negation}
+use Rattle.cnf.specs.Clause.{contains_literal, has_repeat}
+use Rattle.cnf.specs.Refute.{Clauses}
 use Rattle.clauses.specs.Slots.{Slots, clause_at}
 use Rattle.propagate.specs.Trail.{Assigned}
 use Rattle.clauses.specs.Within.{Within}

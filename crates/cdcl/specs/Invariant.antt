@@ -2,11 +2,11 @@
 use Rattle.std.specs.Prelude.{◌≡◌, ℕ, ◌-◌, ◌<◌, ◌≤◌, Bool, true, false, List, [], ◌∷◌, length, take}
 use Rattle.std.specs.Prelude.{map, Option, Some, None, slice_index_or, nat_le, All, Contains, ◌⊎◌}
 use Rattle.std.specs.List.{AllByRecursion}
-use Rattle.wcnf.specs.Literal.{Literal}
-use Rattle.wcnf.specs.Clause.{Satisfies}
-use Rattle.wcnf.specs.Lrat.{IsId}
-use Rattle.wcnf.specs.Refute.{Clauses, IsRefutedByHints}
-use Rattle.wcnf.specs.Bits.{assignment_of}
+use Rattle.cnf.specs.Literal.{Literal}
+use Rattle.cnf.specs.Clause.{Satisfies}
+use Rattle.cnf.specs.Lrat.{IsId}
+use Rattle.cnf.specs.Refute.{Clauses, IsRefutedByHints}
+use Rattle.cnf.specs.Bits.{assignment_of}
 use Rattle.clauses.specs.Slots.{Slots, clause_at, IsLive}
 use Rattle.propagate.specs.Trail.{Assigned, literals_of, kept_to, depth_of}
 use Rattle.propagate.specs.Watches.{EngineState, is_attached}

@@ -2,8 +2,8 @@
 use Rattle.std.specs.Prelude.{◌≡◌, ℕ, ◌+◌, ◌-◌, ◌*◌, ◌<◌, nat_lt, if◌then◌else◌, Bool, true, false}
 use Rattle.std.specs.Prelude.{List, length, map, Option, Some, None, All, unwrap_or}
 use Rattle.std.specs.Prelude.{slice_index_or}
-use Rattle.wcnf.specs.Literal.{Literal, negation}
-use Rattle.wcnf.specs.Clause.{contains_literal, has_repeat}
+use Rattle.cnf.specs.Literal.{Literal, negation}
+use Rattle.cnf.specs.Clause.{contains_literal, has_repeat}
 use Rattle.clauses.specs.Slots.{Slots, clause_at, Renaming}
 use Rattle.propagate.specs.Trail.{Assigned, value_in}
 use Rattle.propagate.specs.Fits.{renamed_reason}

@@ -1,10 +1,10 @@
 -- What holds of a search between its moves, and what moves do.
 use Rattle.std.specs.Prelude.{◌≡◌, ℕ, ◌+◌, ◌<◌, ◌≤◌, ◌^◌, Bool, true, false, List, [], ◌∷◌, ◌++◌}
 use Rattle.std.specs.Prelude.{length, take, map, Some, All, Result, Ok, Err}
-use Rattle.wcnf.specs.Literal.{Literal}
-use Rattle.wcnf.specs.Clause.{greatest_variable}
-use Rattle.wcnf.specs.Lrat.{IsId}
-use Rattle.wcnf.specs.Formula.{IsFormulaClause}
+use Rattle.cnf.specs.Literal.{Literal}
+use Rattle.cnf.specs.Clause.{greatest_variable}
+use Rattle.cnf.specs.Lrat.{IsId}
+use Rattle.cnf.specs.Formula.{IsFormulaClause}
 use Rattle.propagate.specs.Trail.{literals_of}
 use Rattle.propagate.specs.Watches.{SetsAttached}
 use Rattle.propagate.specs.Fits.{Fits}

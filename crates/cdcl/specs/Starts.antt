@@ -1,8 +1,8 @@
 -- A search before its first move.
 use Rattle.std.specs.Prelude.{◌≡◌, ℕ, ◌<◌, ◌≤◌, true, false, List, [], length, replicate}
 use Rattle.std.specs.Prelude.{slice_index_or, Some, None, All}
-use Rattle.wcnf.specs.Literal.{Literal}
-use Rattle.wcnf.specs.Lrat.{IsId}
+use Rattle.cnf.specs.Literal.{Literal}
+use Rattle.cnf.specs.Lrat.{IsId}
 use Rattle.clauses.specs.Slots.{Slots, clause_at}
 use Rattle.propagate.specs.Watches.{is_attached}
 use Rattle.propagate.specs.Fits.{Fits, IsWithin}

@@ -10,7 +10,7 @@ ghost use Rattle.cdcl.specs.Running.{Runs, IsProblem};
 use crate::problem::Problem;
 use crate::search::Search;
 use std::alloc::AllocError;
-use wcnf::types::Lit;
+use cnf::types::Lit;
 
 /// The values of the formula's variables: those of the trail, with the eliminated ones set on the
 /// way back.

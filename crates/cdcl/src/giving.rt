@@ -1,6 +1,6 @@
 // Clauses that come after the formula.
 ghost use Rattle.std.specs.Prelude.{◌≡◌, ◌<◌, ◌^◌, ◌++◌, [], ◌∷◌, false, All, OnOk, OnErr};
-ghost use Rattle.wcnf.specs.Clause.{has_repeat};
+ghost use Rattle.cnf.specs.Clause.{has_repeat};
 ghost use Rattle.propagate.specs.Fits.{IsWithin};
 ghost use Rattle.lrat_log.specs.declared.lines.Name.TheVariants.{Formula};
 ghost use Rattle.cdcl.specs.Running.{IsReady, TakesClause, Takes, GivesOne};
@@ -9,7 +9,7 @@ use crate::problem::Problem;
 use crate::search::Search;
 use lrat_log::lines::{Name, Number};
 use std::alloc::AllocError;
-use wcnf::types::{Clause, Lit};
+use cnf::types::{Clause, Lit};
 
 /// Searches on with one clause more, from level 0.
 fn take_clause(search: &mut Search, number: u64, lits: &[Lit]) -> Result<(), AllocError>

@@ -17,7 +17,7 @@ use lrat_log::lines::{Hint, Kind, Line, Name};
 use lrat_log::sink::Sink;
 use propagate::engine::Engine;
 use std::alloc::AllocError;
-use wcnf::types::Lit;
+use cnf::types::Lit;
 
 /// Deletes a clause that is detached, where it is marked and live, and writes that down.
 fn delete<S: Sink>(

@@ -15,7 +15,7 @@ use clauses::store::{CRef, MaybeCRef, Store};
 use lrat_log::lines::Name;
 use propagate::engine::Engine;
 use std::alloc::AllocError;
-use wcnf::types::Lit;
+use cnf::types::Lit;
 
 /// What a search works on, between its moves.
 #[derive(Drop)]

@@ -2,7 +2,7 @@
 ghost use Rattle.std.specs.Prelude.{◌≡◌, ℕ, ◌+◌, Bool, true, false, List, [], ◌∷◌, ◌++◌, length};
 ghost use Rattle.std.specs.Prelude.{Ok, Err, All, IfOk, OnOk, OnErr, IsErr, ◌↔◌, ◌⊎◌};
 ghost use Rattle.std.specs.List.{AllByRecursion};
-ghost use Rattle.wcnf.specs.Clause.{has_repeat, has_opposites};
+ghost use Rattle.cnf.specs.Clause.{has_repeat, has_opposites};
 ghost use Rattle.lrat_log.specs.Steps.{IsLogOver, IsAcceptedLog, IsBaseOf, AddsNoEmptyClause};
 ghost use Rattle.lrat_log.specs.Steps.{learned_count, IsShortLine, IsLearnedOrShort, LearnsNew};
 ghost use Rattle.lrat_log.specs.Steps.{nothing_exempt};
@@ -27,7 +27,7 @@ use lrat_log::lines::Name;
 use lrat_log::sink::Sink;
 use std::alloc::AllocError;
 use std::marker::Model;
-use wcnf::types::{Clause, Formula, Lit};
+use cnf::types::{Clause, Formula, Lit};
 
 /// Decides whether clauses can be satisfied together, and writes down why not as lines of a log.
 /// Clauses may be added between two searches, and each search goes on with what was learned before.

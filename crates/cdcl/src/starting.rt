@@ -1,7 +1,7 @@
 // A search over what elimination has left of a formula.
 ghost use Rattle.std.specs.Prelude.{◌≡◌, ◌<◌, ◌^◌, false, true, [], Some, map, length, All, IfOk};
-ghost use Rattle.wcnf.specs.Clause.{has_repeat};
-ghost use Rattle.wcnf.specs.Lrat.{IsId};
+ghost use Rattle.cnf.specs.Clause.{has_repeat};
+ghost use Rattle.cnf.specs.Lrat.{IsId};
 ghost use Rattle.propagate.specs.Watches.{is_attached};
 ghost use Rattle.propagate.specs.Fits.{Fits};
 ghost use Rattle.lrat_log.specs.Log.{number_in};
@@ -17,8 +17,8 @@ use eliminate::elimination::Stack;
 use lrat_log::lines::{Name, Number};
 use propagate::engine::Engine;
 use std::alloc::{AllocError, Global};
-use wcnf::clause_list::ClauseList;
-use wcnf::types::Clause;
+use cnf::clause_list::ClauseList;
+use cnf::types::Clause;
 
 /// A store of these clauses, in their order.
 pub(crate) fn store_of(clauses: &ClauseList) -> Result<Store, AllocError>

@@ -1,7 +1,7 @@
 // Clauses come to the store, the engine and the log together.
 ghost use Rattle.std.specs.Prelude.{◌≡◌, ◌+◌, ◌<◌, ◌^◌, false, All, [], ◌∷◌, ◌++◌, length, IfOk};
 ghost use Rattle.std.specs.Prelude.{OnOk, OnErr};
-ghost use Rattle.wcnf.specs.Lrat.{IsId};
+ghost use Rattle.cnf.specs.Lrat.{IsId};
 ghost use Rattle.propagate.specs.Fits.{IsWithin};
 ghost use Rattle.lrat_log.specs.declared.lines.Name.TheVariants.{Added};
 ghost use Rattle.lrat_log.specs.Log.{is_delete, name_of, number_in};
@@ -13,7 +13,7 @@ use clauses::store::CRef;
 use lrat_log::lines::{Hint, Kind, Line, Name, Number};
 use lrat_log::sink::Sink;
 use std::alloc::AllocError;
-use wcnf::types::Lit;
+use cnf::types::Lit;
 
 impl Search {
     /// Adds a clause to the store under a name, and attaches it.

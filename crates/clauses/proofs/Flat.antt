@@ -2,10 +2,10 @@
 use Rattle.std.proofs.Common.{◌≡◌, ℕ, ◌+◌, ◌<◌, ◌≤◌, true, false, List, length, get_or, drop, set}
 use Rattle.std.proofs.Common.{refl, sym, ap, subst}
 use lib.Seq.{paste}
-use Rattle.wcnf.specs.Literal.{Literal}
+use Rattle.cnf.specs.Literal.{Literal}
 use Rattle.clauses.specs.declared.heads.Span.{Span}
 use Rattle.clauses.specs.Heads.{Head, span_of}
-use Rattle.wcnf.proofs.Laws.{Layout, IsCompacting, moved_within, compacting_dead, compacting_live}
+use Rattle.cnf.proofs.Laws.{Layout, IsCompacting, moved_within, compacting_dead, compacting_live}
 use Rattle.clauses.proofs.Reading.{no_head}
 
 abbrev pub heads : Layout Head Literal (List Literal)

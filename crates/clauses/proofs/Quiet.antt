@@ -2,10 +2,10 @@
 use Rattle.std.proofs.Common.{◌≡◌, ℕ, true, List, [], ◌∷◌, Some, ◌⊎◌, inl, inr, sym, ◌∙◌, ap}
 use Rattle.std.specs.List.{AllByRecursion}
 use Rattle.std.proofs.lemmas.Bool.{cases_Bool, or_cases, false≢true}
-use Rattle.wcnf.specs.Literal.{Literal, negation, literal_eq}
-use Rattle.wcnf.specs.Clause.{contains_literal}
-use Rattle.wcnf.specs.Refute.{Clauses, IsUnit, IsFalseUnder, Leads, Refutes}
-use Rattle.wcnf.proofs.Laws.{literal_eq-true}
+use Rattle.cnf.specs.Literal.{Literal, negation, literal_eq}
+use Rattle.cnf.specs.Clause.{contains_literal}
+use Rattle.cnf.specs.Refute.{Clauses, IsUnit, IsFalseUnder, Leads, Refutes}
+use Rattle.cnf.proofs.Laws.{literal_eq-true}
 use Rattle.clauses.specs.Within.{Within}
 
 abbrev pub OpensNothing : Clauses → List Literal → Type 0

@@ -9,13 +9,13 @@ use Rattle.std.proofs.lemmas.List.{length-take-le, length-drop, length-append, a
 use Rattle.std.proofs.lemmas.List.{drop_more}
 use Rattle.std.proofs.lemmas.List.Elements.{All-nil, All-cons}
 use Rattle.std.proofs.lemmas.List.Sums.{sum_by-cons}
-use Rattle.wcnf.specs.Literal.{Literal}
+use Rattle.cnf.specs.Literal.{Literal}
 use Rattle.clauses.specs.Heads.{Head, literals_of, slots_of, clauses_in, AllLive, IsLaid}
 use Rattle.clauses.specs.Slots.{Slots, clause_at, places_from, live_clauses, room_of, Renaming}
 use Rattle.clauses.specs.Slots.{moves_from, moves_of, IsRenaming}
-use Rattle.wcnf.proofs.Laws.{laid_le, pieces_live, pieces_dead}
-use Rattle.wcnf.specs.Numbers.{RisesFrom}
-use Rattle.wcnf.proofs.Laws.{rises_weaker, rising_from}
+use Rattle.cnf.proofs.Laws.{laid_le, pieces_live, pieces_dead}
+use Rattle.cnf.specs.Numbers.{RisesFrom}
+use Rattle.cnf.proofs.Laws.{rises_weaker, rising_from}
 use Rattle.clauses.proofs.Flat.{heads}
 use Rattle.clauses.proofs.Reading.{no_head}
 use Rattle.clauses.proofs.Stored.{slot_live, slot_dead}

@@ -8,12 +8,12 @@ use Rattle.std.proofs.lemmas.Bool.{cases_Bool, cases_lt}
 use Rattle.std.proofs.lemmas.List.{map-set, map-append, length-set, length-append}
 use Rattle.std.proofs.lemmas.Option.{slice_get-map, slice_get_past, slice_get_cases}
 use Rattle.std.proofs.lemmas.Option.{slice_get-get_or}
-use Rattle.wcnf.specs.Literal.{Literal}
+use Rattle.cnf.specs.Literal.{Literal}
 use Rattle.clauses.specs.declared.heads.Span.{Span}
 use Rattle.clauses.specs.Heads.{Head, span_of, literals_of, slot_of, slots_of, state_of, IsLaid}
 use Rattle.clauses.specs.Heads.{IsStore}
 use Rattle.clauses.specs.Slots.{in_slot, clause_at, IsLive}
-use Rattle.wcnf.proofs.Laws.{range-append, range-appended, laid_le, laid_push, laid_set}
+use Rattle.cnf.proofs.Laws.{range-append, range-appended, laid_le, laid_push, laid_set}
 use Rattle.clauses.proofs.Flat.{heads}
 use Rattle.clauses.proofs.Reading.{no_head}
 

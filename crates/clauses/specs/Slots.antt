@@ -1,8 +1,8 @@
 -- A store of clauses: a clause for each live reference.
 use Rattle.std.specs.Prelude.{◌≡◌, ℕ, ◌+◌, ◌≤◌, List, [], ◌∷◌, map, Option, Some, None, slice_get}
 use Rattle.std.specs.Prelude.{All, ◌==◌, if◌then◌else◌, sum_by, length, slice_index_or}
-use Rattle.wcnf.specs.Literal.{Literal}
-use Rattle.wcnf.specs.Refute.{Clauses}
+use Rattle.cnf.specs.Literal.{Literal}
+use Rattle.cnf.specs.Refute.{Clauses}
 
 -- the clause of reference r stands at place r; none where it was deleted
 abbrev pub Slots : Type 0

@@ -1,6 +1,6 @@
 -- A worked store.
 use Rattle.std.specs.Prelude.{◌≡◌, [], ◌∷◌, Some, None, refl, slice_set}
-use Rattle.wcnf.specs.Literal.{positive as p, negative as n}
+use Rattle.cnf.specs.Literal.{positive as p, negative as n}
 use Rattle.clauses.specs.Slots.{Slots, live_places, live_clauses, room_of, renamed, moves_of}
 
 abbrev three : Slots

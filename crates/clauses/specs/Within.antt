@@ -1,7 +1,7 @@
 -- Literals among others.
 use Rattle.std.specs.Prelude.{◌≡◌, true, List}
-use Rattle.wcnf.specs.Literal.{Literal}
-use Rattle.wcnf.specs.Clause.{contains_literal}
+use Rattle.cnf.specs.Literal.{Literal}
+use Rattle.cnf.specs.Clause.{contains_literal}
 
 -- each literal of B is one of A
 abbrev pub Within : List Literal → List Literal → Type 0

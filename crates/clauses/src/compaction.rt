@@ -8,7 +8,7 @@ ghost use Rattle.std.specs.Prelude.{◌≡◌, ◌<◌, ◌≤◌, ◌^◌, leng
 ghost use Rattle.clauses.specs.Heads.{clauses_in, IsLaid, AllLive};
 
 use crate::heads::{Heads, Span};
-use wcnf::types::Lit;
+use cnf::types::Lit;
 
 /// Drops the dead heads and their literals.
 pub(crate) fn compact(heads: &mut Heads, literals: &mut Vec<Lit>)

@@ -4,7 +4,7 @@ ghost use Rattle.std.specs.Prelude.{◌≡◌, ℕ, ◌+◌, ◌-◌, ◌<◌, �
 ghost use Rattle.std.specs.Prelude.{Some, None, map, length, slice_set, IsTrue, ◌↔◌, OnErr};
 ghost use Rattle.std.specs.Prelude.{IfOk, IfSome};
 ghost use Rattle.std.specs.List.Sorted.{IsStrictlyIncreasing};
-ghost use Rattle.wcnf.specs.Literal.{Literal};
+ghost use Rattle.cnf.specs.Literal.{Literal};
 ghost use Rattle.clauses.specs.Heads.{slots_of};
 ghost use Rattle.clauses.specs.Slots.{IsLive, clause_at, live_clauses, moves_of, room_of, renamed};
 ghost use Rattle.clauses.specs.Slots.{IsRenaming};
@@ -14,7 +14,7 @@ use crate::heads::{Heads, Span};
 use crate::words::MaybeWord;
 use std::alloc::{AllocError, Global};
 use std::marker::Model;
-use wcnf::types::Lit;
+use cnf::types::Lit;
 
 /// A store has at most so many references and literals; what would go beyond counts as a refused
 /// growth.

@@ -3,23 +3,23 @@ use Rattle.std.proofs.Common.{◌≡◌, ℕ, true, false, not, List, [], ◌∷
 use Rattle.std.proofs.Common.{inr, refl, sym, ap, subst, arith, ◌<◌, ◌≤◌, ◌^◌}
 use Rattle.std.proofs.lemmas.Bool.{not-true, or_parts, or_left, or_from, both_ways}
 use Rattle.std.proofs.lemmas.Bool.{false_from_ne_true}
-use Rattle.wcnf.specs.Literal.{Literal, negation, literal_eq}
-use Rattle.wcnf.specs.Clause.{contains_literal, without_literal, has_repeat, has_opposites}
-use Rattle.wcnf.specs.Clause.{greatest_variable}
-use Rattle.wcnf.specs.Formula.{IsFormulaClause}
-use Rattle.wcnf.specs.Refute.{Refutes}
+use Rattle.cnf.specs.Literal.{Literal, negation, literal_eq}
+use Rattle.cnf.specs.Clause.{contains_literal, without_literal, has_repeat, has_opposites}
+use Rattle.cnf.specs.Clause.{greatest_variable}
+use Rattle.cnf.specs.Formula.{IsFormulaClause}
+use Rattle.cnf.specs.Refute.{Refutes}
 use Rattle.lrat_log.specs.declared.lines.Name.{Name}
 use Rattle.lrat_log.specs.declared.lines.Kind.{Kind}
 use Rattle.lrat_log.specs.declared.lines.Hint.TheVariants.{Plain}
 use Rattle.lrat_log.specs.Log.{LogLine, Given, is_delete, id_of, leading_ids, group_ids}
 use Rattle.lrat_log.specs.Steps.{IsBaseOf, log_live}
-use Rattle.names.specs.Work.{IsRupLine}
+use Rattle.eliminate_names.specs.Work.{IsRupLine}
 use Rattle.eliminate_tables.specs.Resolvents.{resolvent}
-use Rattle.wcnf.proofs.Laws.{literal_eq-refl}
+use Rattle.cnf.proofs.Laws.{literal_eq-refl}
 use Rattle.eliminate_tables.proofs.Laws.{filter-contains, contains-either, resolvent_refutes}
 use Rattle.eliminate.proofs.Falsified.{has_repeat-filter, AreFalseByUnits, unit_refutes}
 use Rattle.eliminate.proofs.Falsified.{empty_refutes}
-pub use Rattle.pairs.proofs.Laws.{greatest-filter, member-small}
+pub use Rattle.eliminate_pairs.proofs.Laws.{greatest-filter, member-small}
 
 has_repeat-append : (c d : List Literal) → has_repeat c ≡ false → has_repeat d ≡ false
     → ((k : Literal) → contains_literal k d ≡ true → contains_literal k c ≡ false)

@@ -6,12 +6,12 @@ use Rattle.std.specs.Prelude.{sum_by, if◌then◌else◌, replicate}
 use Rattle.std.proofs.lemmas.Bool.{or_cases, or_left, or_right, both_ways, false≢true}
 use Rattle.std.proofs.lemmas.List.{length-replicate, length-set, get_or-set_same, get_or-set_other}
 use Rattle.std.proofs.lemmas.List.Sums.{sum_by-set}
-use Rattle.wcnf.specs.Literal.{Literal, negation, literal_eq, index_of}
-use Rattle.wcnf.specs.Clause.{contains_literal}
-use Rattle.wcnf.proofs.Laws.{literal_eq-true}
+use Rattle.cnf.specs.Literal.{Literal, negation, literal_eq, index_of}
+use Rattle.cnf.specs.Clause.{contains_literal}
+use Rattle.cnf.proofs.Laws.{literal_eq-true}
 use Rattle.clauses.specs.Slots.{Slots, clause_at}
-use Rattle.wcnf.specs.Marks.{IsMarked, HasPlace}
-use Rattle.wcnf.proofs.Laws.{marked_one, place_within, none_marked}
+use Rattle.cnf.specs.Marks.{IsMarked, HasPlace}
+use Rattle.cnf.proofs.Laws.{marked_one, place_within, none_marked}
 use Rattle.eliminate.specs.declared.units.Units.{Units}
 use Rattle.eliminate.specs.Simplifier.{Grows}
 use Rattle.eliminate.specs.Units.{IsByUnit, AreUnits, open_count, MakesTrue}

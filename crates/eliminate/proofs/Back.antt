@@ -10,18 +10,18 @@ use Rattle.std.proofs.lemmas.Bool.{and_cases, both_ways, cases_eq, eq-eqb, ne_eq
 use Rattle.std.proofs.lemmas.List.{length-set, get_or-set_same, get_or-set_other}
 use Rattle.std.proofs.lemmas.List.Elements.{All-nil, All-cons, All-contains, All-head, All-tail}
 use Rattle.std.proofs.lemmas.Option.{unwrap_or-slice_get}
-use Rattle.wcnf.specs.Literal.{Literal, Assignment, negation, literal_value}
-pub use Rattle.wcnf.specs.Literal.{negative}
-use Rattle.wcnf.specs.Clause.{Satisfies, clause_value, contains_literal, without_literal}
-use Rattle.wcnf.specs.Clause.{has_opposites, is_subset}
-use Rattle.wcnf.specs.Bits.{assignment_of}
-use Rattle.wcnf.proofs.Laws.{negation-value}
-use Rattle.wcnf.proofs.Laws.{made_true, made, clause_kept, rest_kept}
+use Rattle.cnf.specs.Literal.{Literal, Assignment, negation, literal_value}
+pub use Rattle.cnf.specs.Literal.{negative}
+use Rattle.cnf.specs.Clause.{Satisfies, clause_value, contains_literal, without_literal}
+use Rattle.cnf.specs.Clause.{has_opposites, is_subset}
+use Rattle.cnf.specs.Bits.{assignment_of}
+use Rattle.cnf.proofs.Laws.{negation-value}
+use Rattle.cnf.proofs.Laws.{made_true, made, clause_kept, rest_kept}
 use Rattle.eliminate.specs.Elimination.{Removed, positive, becomes_true, is_eliminated, extended}
 use Rattle.eliminate.specs.Elimination.{SatisfiesAll}
 use Rattle.eliminate.specs.State.{GivesBack}
 use Rattle.eliminate_tables.specs.Resolvents.{resolvent}
-use Rattle.pairs.proofs.Laws.{has_true}
+use Rattle.eliminate_pairs.proofs.Laws.{has_true}
 use Rattle.eliminate_tables.proofs.Laws.{not_not, each_literal, resolvent-parts}
 
 -- the variable with this value, as a literal

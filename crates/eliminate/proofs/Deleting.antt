@@ -7,15 +7,15 @@ use Rattle.std.proofs.lemmas.List.{take_more, length-set}
 use Rattle.std.proofs.lemmas.List.Elements.{Contains-push, Contains-push_cases}
 use Rattle.std.proofs.lemmas.List.Elements.{Contains-append_left, Contains-append_right}
 use Rattle.std.proofs.lemmas.List.Elements.{Contains-append_cases}
-use Rattle.wcnf.specs.Literal.{Literal}
+use Rattle.cnf.specs.Literal.{Literal}
 use Rattle.clauses.specs.Slots.{Slots, clause_at, IsLive}
 use Rattle.lrat_log.specs.declared.lines.Name.{Name}
 use Rattle.lrat_log.specs.Log.{LogLine}
 use Rattle.lrat_log.specs.Steps.{added_count}
-use Rattle.names.specs.Work.{name_at, delete_line}
+use Rattle.eliminate_names.specs.Work.{name_at, delete_line}
 use Rattle.eliminate_tables.specs.Rows.{AreRows}
 use Rattle.eliminate.specs.Variables.{LeavesOut, KeepsWork, KeepsLog}
-use Rattle.names.proofs.Laws.{work_deleted, open_deleted}
+use Rattle.eliminate_names.proofs.Laws.{work_deleted, open_deleted}
 use Rattle.clauses.proofs.Laws.{clause_left, clause_other}
 use Rattle.lrat_log.proofs.Laws.{additions_push}
 

@@ -12,15 +12,15 @@ use Rattle.std.proofs.lemmas.List.Elements.{All-nil, All-cons, All-head, All-tai
 use Rattle.std.proofs.lemmas.List.Elements.{All-map, All-weaker, All-push, All-contains}
 use Rattle.std.proofs.lemmas.List.Elements.{Contains-get_or, Contains-append_left}
 use Rattle.std.proofs.lemmas.List.Elements.{Contains-append_right, Contains-append_cases}
-use Rattle.wcnf.specs.Literal.{Literal, Assignment, negation}
-use Rattle.wcnf.specs.Clause.{contains_literal, has_opposites}
-use Rattle.wcnf.specs.Bits.{assignment_of}
+use Rattle.cnf.specs.Literal.{Literal, Assignment, negation}
+use Rattle.cnf.specs.Clause.{contains_literal, has_opposites}
+use Rattle.cnf.specs.Bits.{assignment_of}
 use Rattle.clauses.specs.Slots.{Slots, clause_at, live_clauses}
-use Rattle.wcnf.specs.Lrat.{IsId}
+use Rattle.cnf.specs.Lrat.{IsId}
 use Rattle.lrat_log.specs.declared.lines.Name.{Name}
 use Rattle.lrat_log.specs.declared.lines.Hint.TheVariants.{Plain}
 use Rattle.lrat_log.specs.Log.{HasNumber, LogLine, IsLine, IsPlain, number_in}
-use Rattle.names.specs.Work.{name_at, delete_line}
+use Rattle.eliminate_names.specs.Work.{name_at, delete_line}
 use Rattle.eliminate.specs.declared.simplifier.Simplifier.{Simplifier}
 use Rattle.eliminate.specs.Elimination.{Removed, IsFree, IsRemovedWithin, positive, is_needed}
 use Rattle.eliminate.specs.Elimination.{becomes_true, extended, is_eliminated, SatisfiesAll}
@@ -30,7 +30,7 @@ use Rattle.eliminate.specs.State.{Start, IsState, AreFree, GivesBack}
 use Rattle.eliminate.specs.Simplifier.{IsSimplified}
 use Rattle.eliminate.specs.Variables.{IsWith, AreThoseWith, IsPairResolved, ArePairsResolved}
 use Rattle.eliminate.specs.Variables.{LeavesOut, KeepsWork}
-use Rattle.names.proofs.Laws.{number_at}
+use Rattle.eliminate_names.proofs.Laws.{number_at}
 use Rattle.eliminate.proofs.Back.{negative, extended-append}
 use Rattle.eliminate.proofs.Deleting.{leaves_join, rows_left}
 use Rattle.eliminate.proofs.Growing.{resolvent-lacks}

@@ -4,12 +4,12 @@ use Rattle.std.proofs.Common.{refl, ap, arith}
 use Rattle.std.specs.Prelude.{Result, Ok, Err, IfOk, OnErr, All}
 use Rattle.std.proofs.lemmas.Bool.{or_from, ne_eqb}
 use Rattle.std.proofs.lemmas.List.Elements.{All-head, All-tail, All-weaker}
-use Rattle.wcnf.specs.Bits.{assignment_of}
+use Rattle.cnf.specs.Bits.{assignment_of}
 use Rattle.clauses.specs.Slots.{Slots, live_clauses}
 use Rattle.lrat_log.specs.Log.{LogLine}
 use Rattle.lrat_log.specs.Steps.{given_of}
-use Rattle.names.specs.Work.{NamesState}
-use Rattle.pairs.specs.Pairs.{Stage, Ground, IsStage, Keeps, KeepsLog, stage_of}
+use Rattle.eliminate_names.specs.Work.{NamesState}
+use Rattle.eliminate_pairs.specs.Pairs.{Stage, Ground, IsStage, Keeps, KeepsLog, stage_of}
 use Rattle.eliminate.specs.declared.simplifier.Simplifier.{Simplifier}
 use Rattle.eliminate.specs.Elimination.{Removed, is_eliminated, IsRemovedWithin}
 use Rattle.eliminate.specs.Ending.{IsResult}

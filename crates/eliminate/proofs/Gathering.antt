@@ -6,10 +6,10 @@ use Rattle.std.proofs.lemmas.Bool.{cases_eq}
 use Rattle.std.proofs.lemmas.List.{get_or-set_same, get_or-set_other}
 use Rattle.std.proofs.lemmas.List.Elements.{All-contains, All-filter, All-contains_itself}
 use Rattle.std.proofs.lemmas.List.Elements.{Contains-get_or, filter_passes}
-use Rattle.wcnf.specs.Literal.{Literal, index_of}
+use Rattle.cnf.specs.Literal.{Literal, index_of}
 use Rattle.clauses.specs.Slots.{Slots, clause_at}
-use Rattle.wcnf.specs.Marks.{HasPlace}
-use Rattle.wcnf.proofs.Laws.{place_within}
+use Rattle.cnf.specs.Marks.{HasPlace}
+use Rattle.cnf.proofs.Laws.{place_within}
 use Rattle.eliminate_tables.specs.Rows.{row_at, with_row, is_some, has_clause, AreRows}
 use Rattle.eliminate.specs.Variables.{AreThoseWith}
 use Rattle.eliminate_tables.proofs.Laws.{some_clause}

@@ -4,8 +4,8 @@ use Rattle.std.proofs.Common.{get_or, Some, inl, inr, sym, ◌∙◌, subst}
 use Rattle.std.specs.Prelude.{All}
 use Rattle.std.proofs.lemmas.Bool.{both_ways}
 use Rattle.std.proofs.lemmas.List.Elements.{All-weaker, All-push}
-use Rattle.wcnf.specs.Literal.{Literal, negation}
-use Rattle.wcnf.specs.Clause.{contains_literal, has_opposites}
+use Rattle.cnf.specs.Literal.{Literal, negation}
+use Rattle.cnf.specs.Clause.{contains_literal, has_opposites}
 use Rattle.clauses.specs.Slots.{Slots, clause_at, IsLive}
 use Rattle.eliminate_tables.specs.Resolvents.{resolvent}
 use Rattle.eliminate.specs.Simplifier.{Grows}

@@ -7,15 +7,15 @@ use Rattle.std.proofs.lemmas.Bool.{ne_eqb}
 use Rattle.std.proofs.lemmas.List.{map-append}
 use Rattle.std.proofs.lemmas.List.Elements.{All-nil, All-cons}
 use Rattle.std.proofs.lemmas.Option.{none-some}
-use Rattle.wcnf.specs.Literal.{Literal}
-use Rattle.wcnf.specs.Refute.{Clauses}
-use Rattle.wcnf.specs.Lrat.{IsId}
+use Rattle.cnf.specs.Literal.{Literal}
+use Rattle.cnf.specs.Refute.{Clauses}
+use Rattle.cnf.specs.Lrat.{IsId}
 use Rattle.clauses.specs.Slots.{Slots, clause_at, places_from, live_places}
 use Rattle.lrat_log.specs.declared.lines.Name.{Name}
 use Rattle.lrat_log.specs.Log.{id_of, number_in}
 use Rattle.eliminate.specs.Elimination.{HoldsWhatIsLive, listed_names}
-use Rattle.names.specs.Work.{name_at, AreLiveAs}
-use Rattle.names.proofs.Laws.{number_at}
+use Rattle.eliminate_names.specs.Work.{name_at, AreLiveAs}
+use Rattle.eliminate_names.proofs.Laws.{number_at}
 
 -- the next place has a clause
 places_some : (n i : ℕ) (slots : Slots) (c : List Literal) → clause_at slots i ≡ Some c

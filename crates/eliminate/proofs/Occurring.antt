@@ -6,15 +6,15 @@ use Rattle.std.proofs.lemmas.Bool.{cases_eq, or_cases, or_left, or_right, false�
 use Rattle.std.proofs.lemmas.List.{get_or-set_same, get_or-set_other, length-set}
 use Rattle.std.proofs.lemmas.List.Elements.{Contains-push, Contains-push_cases}
 use Rattle.std.proofs.lemmas.List.Elements.{Contains-append_left, All-head, All-tail}
-use Rattle.wcnf.specs.Literal.{Literal, literal_eq, index_of}
-use Rattle.wcnf.specs.Clause.{contains_literal}
-use Rattle.wcnf.proofs.Laws.{index_same, literal_eq-true}
+use Rattle.cnf.specs.Literal.{Literal, literal_eq, index_of}
+use Rattle.cnf.specs.Clause.{contains_literal}
+use Rattle.cnf.proofs.Laws.{index_same, literal_eq-true}
 use Rattle.clauses.specs.Slots.{Slots}
 use Rattle.eliminate_tables.specs.Rows.{row_at, with_row, with_entry, with_clause_rows, AreRows}
-use Rattle.wcnf.specs.Marks.{HasPlace}
-use Rattle.wcnf.proofs.Laws.{place_within}
+use Rattle.cnf.specs.Marks.{HasPlace}
+use Rattle.cnf.proofs.Laws.{place_within}
 use Rattle.clauses.proofs.Laws.{clause_cases, clause_left, live_within}
-use Rattle.wcnf.proofs.Laws.{literal_eq-refl}
+use Rattle.cnf.proofs.Laws.{literal_eq-refl}
 
 row-same : (rows : List (List ℕ)) (i : ℕ) (row : List ℕ) → i < length rows
     → row_at (with_row rows i row) i ≡ row

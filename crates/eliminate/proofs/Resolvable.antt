@@ -5,10 +5,10 @@ use Rattle.std.specs.Prelude.{All, if◌then◌else◌}
 use Rattle.std.proofs.lemmas.Bool.{both_ways}
 use Rattle.std.proofs.lemmas.Option.{same_Some}
 use Rattle.std.proofs.lemmas.List.Elements.{All-nil, All-cons, All-append, All-filter, All-weaker}
-use Rattle.wcnf.specs.Literal.{Literal, negation, literal_eq}
-use Rattle.wcnf.specs.Clause.{contains_literal, without_literal, has_opposites}
-use Rattle.wcnf.specs.Formula.{IsFormulaClause}
-use Rattle.wcnf.specs.Lrat.{IsId}
+use Rattle.cnf.specs.Literal.{Literal, negation, literal_eq}
+use Rattle.cnf.specs.Clause.{contains_literal, without_literal, has_opposites}
+use Rattle.cnf.specs.Formula.{IsFormulaClause}
+use Rattle.cnf.specs.Lrat.{IsId}
 use Rattle.clauses.specs.Slots.{Slots, clause_at}
 use Rattle.lrat_log.specs.declared.lines.Name.{Name}
 use Rattle.lrat_log.specs.declared.lines.Kind.{Kind}
@@ -17,15 +17,15 @@ use Rattle.lrat_log.specs.declared.lines.Hint.{Hint}
 use Rattle.lrat_log.specs.declared.lines.Hint.TheVariants.{Plain}
 use Rattle.lrat_log.specs.Log.{HasNumber, LogLine, is_delete, is_learned}
 use Rattle.lrat_log.specs.Steps.{given_of, IsOwnGroup, is_empty_clause}
-use Rattle.wcnf.specs.Marks.{HasPlace}
+use Rattle.cnf.specs.Marks.{HasPlace}
 use Rattle.eliminate.specs.declared.simplifier.Simplifier.{Simplifier}
 use Rattle.eliminate.specs.Elimination.{is_eliminated}
 use Rattle.eliminate_tables.specs.Resolvents.{resolvent}
 use Rattle.eliminate.specs.State.{Start}
-use Rattle.names.specs.Work.{name_at}
+use Rattle.eliminate_names.specs.Work.{name_at}
 use Rattle.eliminate.specs.Simplifier.{IsSimplified, IsSimplifier, IsAddableLine}
 use Rattle.eliminate.proofs.Adding.{resolvent_line, resolvent-no_repeat, resolvent-small}
-use Rattle.names.proofs.Laws.{number_at}
+use Rattle.eliminate_names.proofs.Laws.{number_at}
 use Rattle.clauses.proofs.Laws.{clause_new, live_within}
 use Rattle.eliminate.proofs.States.{places_of}
 use Rattle.eliminate.proofs.Tables.{addable_at}

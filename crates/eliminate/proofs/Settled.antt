@@ -3,9 +3,9 @@ use Rattle.std.proofs.Common.{◌≡◌, ℕ, zero, suc, List, [], ◌∷◌, So
 use Rattle.std.specs.Prelude.{All, slice_get}
 use Rattle.std.proofs.lemmas.List.Elements.{All-head, All-tail}
 use Rattle.std.proofs.lemmas.Option.{none-some, same_Some}
-use Rattle.wcnf.specs.Literal.{Literal}
-use Rattle.wcnf.specs.Formula.{numbered}
-use Rattle.wcnf.specs.Refute.{IsRefutedByHints}
+use Rattle.cnf.specs.Literal.{Literal}
+use Rattle.cnf.specs.Formula.{numbered}
+use Rattle.cnf.specs.Refute.{IsRefutedByHints}
 use Rattle.clauses.specs.Slots.{Slots, live_clauses}
 use Rattle.clauses.proofs.Laws.{not_refuted}
 use Rattle.eliminate.specs.Simplifier.{Grows}

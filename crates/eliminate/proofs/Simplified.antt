@@ -4,20 +4,20 @@ use Rattle.std.proofs.Common.{◌≡◌, ◌≢◌, ℕ, ◌+◌, ◌*◌, ◌<�
 use Rattle.std.proofs.Common.{◌∷◌, ◌++◌, length, Some, None, refl, sym, ◌∙◌, ap, subst, arith, set}
 use Rattle.std.specs.Prelude.{All, Contains}
 use Rattle.std.proofs.lemmas.Bool.{both_ways, false≢true}
-use Rattle.wcnf.specs.Literal.{Literal}
-use Rattle.wcnf.specs.Clause.{is_subset}
-use Rattle.wcnf.specs.Formula.{IsFormulaClause}
+use Rattle.cnf.specs.Literal.{Literal}
+use Rattle.cnf.specs.Clause.{is_subset}
+use Rattle.cnf.specs.Formula.{IsFormulaClause}
 use Rattle.clauses.specs.Slots.{Slots, clause_at, live_clauses}
 use Rattle.lrat_log.specs.Log.{LogLine}
 use Rattle.lrat_log.specs.Steps.{is_empty_clause, AddsNoEmptyClause}
-use Rattle.wcnf.specs.Marks.{HasPlace}
+use Rattle.cnf.specs.Marks.{HasPlace}
 use Rattle.eliminate.specs.declared.simplifier.Simplifier.{Simplifier}
 use Rattle.lrat_log.specs.Steps.{added_count}
-use Rattle.names.specs.Work.{NamesState, name_at, added_line, delete_line}
+use Rattle.eliminate_names.specs.Work.{NamesState, name_at, added_line, delete_line}
 use Rattle.eliminate_tables.specs.Rows.{with_clause_rows}
 use Rattle.eliminate.specs.State.{Start, IsState}
 use Rattle.eliminate.specs.Simplifier.{IsSimplified, IsAddableLine, IsLogOf}
-use Rattle.names.proofs.Laws.{open_added, open_deleted}
+use Rattle.eliminate_names.proofs.Laws.{open_added, open_deleted}
 use Rattle.clauses.proofs.Laws.{clause_new}
 use Rattle.lrat_log.proofs.Laws.{additions_push}
 use Rattle.eliminate.proofs.States.{state_added, state_subsumed, contains_live, places_of}

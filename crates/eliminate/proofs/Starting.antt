@@ -9,9 +9,9 @@ use Rattle.std.proofs.lemmas.Bool.{eq-eqb, eqb-true, ne_eqb, both_ways}
 use Rattle.std.proofs.lemmas.List.{length-replicate}
 use Rattle.std.proofs.lemmas.List.Elements.{All-nil, All-head, All-tail}
 use Rattle.std.proofs.lemmas.Option.{none-some}
-use Rattle.wcnf.specs.Literal.{Literal}
-use Rattle.wcnf.specs.Formula.{IsFormula, IsFormulaClause}
-use Rattle.wcnf.specs.Lrat.{IsId}
+use Rattle.cnf.specs.Literal.{Literal}
+use Rattle.cnf.specs.Formula.{IsFormula, IsFormulaClause}
+use Rattle.cnf.specs.Lrat.{IsId}
 use Rattle.clauses.specs.Slots.{Slots, clause_at, live_clauses}
 use Rattle.lrat_log.specs.declared.lines.Name.{Name}
 use Rattle.lrat_log.specs.declared.lines.Name.TheVariants.{Formula, Added}
@@ -21,7 +21,7 @@ use Rattle.eliminate.specs.declared.simplifier.Simplifier.{Simplifier}
 use Rattle.eliminate.specs.Elimination.{Removed, IsFree, IsRemovedWithin}
 use Rattle.eliminate.specs.State.{Start, IsState}
 use Rattle.eliminate.specs.Simplifier.{IsSimplified}
-use Rattle.names.specs.Work.{NamesState, name_at, formula_names, IsNamed}
+use Rattle.eliminate_names.specs.Work.{NamesState, name_at, formula_names, IsNamed}
 use Rattle.eliminate_tables.specs.Rows.{row_at, AreRows}
 use Rattle.eliminate.proofs.States.{live_all}
 

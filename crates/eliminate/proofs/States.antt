@@ -8,28 +8,28 @@ use Rattle.std.proofs.lemmas.Bool.{or_parts, or_from, cases_eq}
 use Rattle.std.proofs.lemmas.List.Folds.{list_any-append}
 use Rattle.std.proofs.lemmas.List.Elements.{All-nil, All-cons, All-head, All-tail}
 use Rattle.std.proofs.lemmas.Option.{same_Some}
-use Rattle.wcnf.specs.Literal.{Literal, literal_eq, same_bool}
-use Rattle.wcnf.specs.Clause.{Satisfies, is_subset, greatest_variable, contains_literal}
-use Rattle.wcnf.specs.Clause.{has_opposites}
-use Rattle.wcnf.specs.Formula.{IsFormulaClause}
-use Rattle.wcnf.specs.Bits.{assignment_of}
+use Rattle.cnf.specs.Literal.{Literal, literal_eq, same_bool}
+use Rattle.cnf.specs.Clause.{Satisfies, is_subset, greatest_variable, contains_literal}
+use Rattle.cnf.specs.Clause.{has_opposites}
+use Rattle.cnf.specs.Formula.{IsFormulaClause}
+use Rattle.cnf.specs.Bits.{assignment_of}
 use Rattle.clauses.specs.Slots.{Slots, clause_at, live_clauses}
 use Rattle.lrat_log.specs.declared.lines.Name.{Name}
 use Rattle.lrat_log.specs.Log.{LogLine, is_learned}
 use Rattle.lrat_log.specs.Steps.{given_of, AddsNoEmptyClause, IsOwnGroup}
-use Rattle.wcnf.specs.Marks.{HasPlace}
+use Rattle.cnf.specs.Marks.{HasPlace}
 use Rattle.eliminate.specs.Elimination.{Removed, is_eliminated, positive}
 use Rattle.eliminate_tables.specs.Resolvents.{resolvent}
 use Rattle.lrat_log.specs.Steps.{added_count}
-use Rattle.names.specs.Work.{name_at, added_line, delete_line, IsRupLine}
+use Rattle.eliminate_names.specs.Work.{name_at, added_line, delete_line, IsRupLine}
 use Rattle.eliminate_tables.specs.Rows.{with_clause_rows}
 use Rattle.eliminate.specs.State.{Start, IsState, AreFree, GivesBack}
 use Rattle.eliminate.proofs.Back.{Entails, IsKept, HaveVariable, negative, extends_weaker}
 use Rattle.eliminate.proofs.Back.{extends_eliminated, resolve_to, entails_subsumed, entails_member}
-use Rattle.names.proofs.Laws.{work_added, work_deleted}
+use Rattle.eliminate_names.proofs.Laws.{work_added, work_deleted}
 use Rattle.clauses.proofs.Laws.{clause_cases, clause_kept, clause_left, clause_other}
 use Rattle.eliminate.proofs.Occurring.{rows_added, rows_deleted, rows-length}
-pub use Rattle.pairs.proofs.Laws.{all_live, live_all, contains_live}
+pub use Rattle.eliminate_pairs.proofs.Laws.{all_live, live_all, contains_live}
 
 place_of : (n : ℕ) (l : Literal) → 0 < l.variable → l.variable ≤ n → HasPlace (2 * n) l
 place_of n l some few = (some, omega arith)

@@ -7,19 +7,19 @@ use Rattle.std.proofs.lemmas.Bool.{or_cases, or_parts, or_left, or_right, both_w
 use Rattle.std.proofs.lemmas.Bool.{true≢false}
 use Rattle.std.proofs.lemmas.List.{take_more}
 use Rattle.std.proofs.lemmas.Option.{same_Some}
-use Rattle.wcnf.specs.Literal.{Literal, negation, literal_eq}
-use Rattle.wcnf.specs.Clause.{contains_literal, has_repeat}
-use Rattle.wcnf.specs.Refute.{IsUnit, IsFalseUnder}
-use Rattle.wcnf.proofs.Laws.{literal_eq-true}
-use Rattle.wcnf.proofs.Laws.{at_contains}
-use Rattle.wcnf.specs.Formula.{IsFormulaClause}
+use Rattle.cnf.specs.Literal.{Literal, negation, literal_eq}
+use Rattle.cnf.specs.Clause.{contains_literal, has_repeat}
+use Rattle.cnf.specs.Refute.{IsUnit, IsFalseUnder}
+use Rattle.cnf.proofs.Laws.{literal_eq-true}
+use Rattle.cnf.proofs.Laws.{at_contains}
+use Rattle.cnf.specs.Formula.{IsFormulaClause}
 use Rattle.clauses.specs.Slots.{Slots, clause_at}
-use Rattle.wcnf.specs.Marks.{mark_of, HasPlace}
+use Rattle.cnf.specs.Marks.{mark_of, HasPlace}
 use Rattle.eliminate.specs.declared.units.Units.{Units}
 use Rattle.eliminate.specs.declared.units.Status.{Status}
 use Rattle.eliminate.specs.declared.units.Status.TheVariants.{Settled, Unit, Falsified}
 use Rattle.eliminate.specs.Units.{IsSettled, AreUnits}
-use Rattle.wcnf.proofs.Laws.{literal_eq-refl}
+use Rattle.cnf.proofs.Laws.{literal_eq-refl}
 use Rattle.eliminate.proofs.States.{places_of}
 
 pub all_member : (P : Literal → Type 0) (c : List Literal) (l : Literal) → AllByRecursion P c

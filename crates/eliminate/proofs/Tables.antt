@@ -2,7 +2,7 @@
 -- or bins change.
 use Rattle.std.proofs.Common.{◌≡◌, ◌*◌, Bool, List, Vec, Global, length, refl, sym, ◌∙◌, ap, subst}
 use Rattle.std.proofs.Common.{arith}
-use Rattle.wcnf.specs.Literal.{Literal}
+use Rattle.cnf.specs.Literal.{Literal}
 use Rattle.clauses.specs.Slots.{Slots}
 use Rattle.lrat_log.specs.declared.lines.Hint.{Hint}
 use Rattle.lrat_log.specs.declared.lines.Kind.{Kind}
@@ -11,7 +11,7 @@ use Rattle.eliminate.specs.declared.simplifier.Simplifier.{Simplifier}
 use Rattle.eliminate_tables.specs.Rows.{AreRows}
 use Rattle.eliminate_tables.specs.Schedule.{ScheduleState}
 use Rattle.eliminate.specs.State.{Start, IsState}
-use Rattle.names.specs.Work.{NamesState}
+use Rattle.eliminate_names.specs.Work.{NamesState}
 use Rattle.eliminate.specs.Simplifier.{IsSimplified, StaysSimplified, LeavesLog, IsAddableLine}
 
 -- the same but for the rows, and for what proofs don't speak of

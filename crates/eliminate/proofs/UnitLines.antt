@@ -7,12 +7,12 @@ use Rattle.std.proofs.lemmas.Bool.{or_cases, or_left, or_right, both_ways, false
 use Rattle.std.proofs.lemmas.Bool.{false_from_ne_true}
 use Rattle.std.proofs.lemmas.List.{append-nil, map-append, get_or_read}
 use Rattle.std.proofs.lemmas.List.Elements.{All-nil, All-cons, filter-append}
-use Rattle.wcnf.specs.Literal.{Literal, negation, literal_eq}
-use Rattle.wcnf.specs.Clause.{contains_literal, without_literal, greatest_variable}
-use Rattle.wcnf.specs.Formula.{IsFormulaClause}
-use Rattle.wcnf.specs.Refute.{IsUnit, IsFalseUnder}
-use Rattle.wcnf.specs.Lrat.{IsId}
-use Rattle.wcnf.proofs.Laws.{literal_eq-true}
+use Rattle.cnf.specs.Literal.{Literal, negation, literal_eq}
+use Rattle.cnf.specs.Clause.{contains_literal, without_literal, greatest_variable}
+use Rattle.cnf.specs.Formula.{IsFormulaClause}
+use Rattle.cnf.specs.Refute.{IsUnit, IsFalseUnder}
+use Rattle.cnf.specs.Lrat.{IsId}
+use Rattle.cnf.proofs.Laws.{literal_eq-true}
 use Rattle.clauses.specs.Slots.{Slots, clause_at}
 use Rattle.lrat_log.specs.declared.lines.Name.{Name}
 use Rattle.lrat_log.specs.declared.lines.Hint.{Hint}
@@ -20,19 +20,19 @@ use Rattle.lrat_log.specs.declared.lines.Hint.TheVariants.{Plain}
 use Rattle.lrat_log.specs.declared.lines.Kind.TheVariants.{Unit, Empty}
 use Rattle.lrat_log.specs.Log.{LogLine, id_of, number_in, HasNumber}
 use Rattle.lrat_log.specs.Steps.{given_of, log_live, IsOwnGroup, IsBaseOf}
-use Rattle.wcnf.specs.Marks.{mark_of}
+use Rattle.cnf.specs.Marks.{mark_of}
 use Rattle.eliminate.specs.declared.simplifier.Simplifier.{Simplifier}
 use Rattle.eliminate.specs.declared.units.Units.{Units}
 use Rattle.eliminate.specs.Elimination.{is_eliminated}
-use Rattle.names.specs.Work.{name_at, IsRupLine}
+use Rattle.eliminate_names.specs.Work.{name_at, IsRupLine}
 use Rattle.eliminate.specs.State.{Start}
 use Rattle.eliminate.specs.Simplifier.{IsSimplified, IsAddableLine}
 use Rattle.eliminate.specs.Units.{AreUnits, unit_of, unit_name, falsified_in, unit_hints}
 use Rattle.eliminate.proofs.Adding.{unit_line, empty_line}
 use Rattle.eliminate.proofs.Falsified.{AreFalseByUnits}
-use Rattle.wcnf.proofs.Laws.{literal_eq-refl}
+use Rattle.cnf.proofs.Laws.{literal_eq-refl}
 use Rattle.eliminate_tables.proofs.Laws.{each_literal, filter-contains, member_has}
-use Rattle.names.proofs.Laws.{number_at}
+use Rattle.eliminate_names.proofs.Laws.{number_at}
 use Rattle.eliminate.proofs.Statuses.{all_member, take_next}
 
 -- the next literal of a clause is false, or not

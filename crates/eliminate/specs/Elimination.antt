@@ -3,10 +3,10 @@ use Rattle.std.specs.Prelude.{◌≡◌, ℕ, ◌-◌, ◌<◌, ◌≤◌, Bool,
 use Rattle.std.specs.Prelude.{map, Some, slice_get, slice_index_or, All, Contains}
 use Rattle.std.specs.Prelude.{nat_eq}
 use Rattle.std.specs.List.{IsDistinct}
-use Rattle.wcnf.specs.Literal.{Literal, Assignment}
-use Rattle.wcnf.specs.Clause.{Satisfies}
-use Rattle.wcnf.specs.Refute.{Clauses}
-use Rattle.wcnf.specs.Bits.{assignment_of}
+use Rattle.cnf.specs.Literal.{Literal, Assignment}
+use Rattle.cnf.specs.Clause.{Satisfies}
+use Rattle.cnf.specs.Refute.{Clauses}
+use Rattle.cnf.specs.Bits.{assignment_of}
 use Rattle.clauses.specs.Slots.{Slots, clause_at, live_places}
 use Rattle.lrat_log.specs.declared.lines.Name.{Name}
 use Rattle.lrat_log.specs.declared.lines.Name.TheVariants.{Formula}

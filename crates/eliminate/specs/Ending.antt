@@ -2,8 +2,8 @@
 use Rattle.std.specs.Prelude.{◌+◌, ◌≤◌, ◌^◌, List, length, All}
 use Rattle.clauses.specs.Slots.{live_clauses}
 use Rattle.lrat_log.specs.Steps.{given_of}
-use Rattle.names.specs.Work.{IsWork}
-use Rattle.pairs.specs.Pairs.{Stage}
+use Rattle.eliminate_names.specs.Work.{IsWork}
+use Rattle.eliminate_pairs.specs.Pairs.{Stage}
 use Rattle.eliminate.specs.Elimination.{Removed, IsFree, IsRemovedWithin}
 use Rattle.eliminate.specs.State.{Start, GivesBack, AreFree}
 

@@ -2,8 +2,8 @@
 -- of some formula.
 use Rattle.std.specs.Prelude.{◌≡◌, ℕ, ◌*◌, ◌+◌, ◌<◌, ◌≤◌, ◌^◌, true, false, List, [], length}
 use Rattle.std.specs.Prelude.{Some, All, Contains}
-use Rattle.wcnf.specs.Literal.{Literal}
-use Rattle.wcnf.specs.Formula.{IsFormulaClause}
+use Rattle.cnf.specs.Literal.{Literal}
+use Rattle.cnf.specs.Formula.{IsFormulaClause}
 use Rattle.clauses.specs.Slots.{Slots, clause_at, live_clauses}
 use Rattle.lrat_log.specs.Log.{LogLine, IsLine, is_learned}
 use Rattle.lrat_log.specs.Steps.{given_of, StaysLogOver, AddsNoEmptyClause, learned_count}
@@ -11,7 +11,7 @@ use Rattle.lrat_log.specs.Steps.{IsOwnGroup}
 use Rattle.eliminate.specs.declared.simplifier.Simplifier.{Simplifier}
 use Rattle.eliminate.specs.Elimination.{is_eliminated}
 use Rattle.lrat_log.specs.Steps.{added_count}
-use Rattle.names.specs.Work.{IsRupLine}
+use Rattle.eliminate_names.specs.Work.{IsRupLine}
 use Rattle.eliminate.specs.State.{Start, IsState}
 
 -- the store and the tables are a simplified form of the formula at the start

@@ -1,8 +1,8 @@
 -- One variable goes: its clauses are found, their resolvents are added, and then they are deleted.
 use Rattle.std.specs.Prelude.{◌≡◌, ℕ, Bool, true, false, List, length, Some, ◌⊎◌, All}
 use Rattle.std.specs.Prelude.{Contains}
-use Rattle.wcnf.specs.Literal.{Literal, negation}
-use Rattle.wcnf.specs.Clause.{contains_literal, has_opposites}
+use Rattle.cnf.specs.Literal.{Literal, negation}
+use Rattle.cnf.specs.Clause.{contains_literal, has_opposites}
 use Rattle.clauses.specs.Slots.{Slots, clause_at}
 use Rattle.lrat_log.specs.declared.lines.Name.{Name}
 use Rattle.lrat_log.specs.Log.{LogLine, Given}
@@ -11,7 +11,7 @@ use Rattle.eliminate.specs.declared.simplifier.Simplifier.{Simplifier}
 use Rattle.eliminate_tables.specs.Resolvents.{resolvent}
 use Rattle.eliminate.specs.State.{Start}
 use Rattle.eliminate.specs.Simplifier.{IsSimplified, IsLogOf, Grows}
-use Rattle.names.specs.Work.{IsWork}
+use Rattle.eliminate_names.specs.Work.{IsWork}
 
 -- a simplified form of some formula, of which these variables are frozen
 abbrev pub IsSimplifierOver : List Bool → Simplifier → Slots → List LogLine → Type 0

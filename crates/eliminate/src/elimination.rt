@@ -1,8 +1,8 @@
 // Elimination, and the way back.
 ghost use Rattle.std.specs.Prelude.{◌≡◌, ℕ, ◌+◌, ◌-◌, ◌<◌, ◌≤◌, ◌^◌, true, false, []};
 ghost use Rattle.std.specs.Prelude.{length, Some, slice_get, All, Contains, IfOk, OnOk, OnErr};
-ghost use Rattle.wcnf.specs.Formula.{IsFormula, IsFormulaClause};
-ghost use Rattle.wcnf.specs.Refute.{IsRefutedByHints};
+ghost use Rattle.cnf.specs.Formula.{IsFormula, IsFormulaClause};
+ghost use Rattle.cnf.specs.Refute.{IsRefutedByHints};
 ghost use Rattle.clauses.specs.Slots.{live_clauses};
 ghost use Rattle.lrat_log.specs.Steps.{StaysLogOver, IsBaseOf, learned_count, log_live, given_of};
 ghost use Rattle.eliminate.specs.Variables.{IsSimplifierOver, StaysOver, LeavesLogOver};
@@ -17,7 +17,7 @@ use clauses::store::{CRef, Store};
 use eliminate_tables::stack::Removals;
 use lrat_log::lines::Name;
 use lrat_log::sink::Sink;
-use names::names::Names;
+use eliminate_names::names::Names;
 use std::alloc::AllocError;
 use std::marker::Model;
 

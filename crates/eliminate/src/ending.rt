@@ -3,13 +3,13 @@ ghost use Rattle.std.specs.Prelude.{◌≡◌, ◌+◌, ◌≤◌, ◌^◌, true
 ghost use Rattle.eliminate.specs.State.{Start};
 ghost use Rattle.eliminate.specs.Simplifier.{IsSimplified};
 ghost use Rattle.eliminate.specs.Variables.{IsSimplifierOver, LeavesLogOver};
-ghost use Rattle.pairs.specs.Pairs.{stage_of};
+ghost use Rattle.eliminate_pairs.specs.Pairs.{stage_of};
 ghost use Rattle.eliminate.specs.Ending.{IsResult};
 
 use crate::simplifier::Simplifier;
 use clauses::store::Store;
 use lrat_log::sink::Sink;
-use pairs::pairs::define_pairs;
+use eliminate_pairs::pairs::define_pairs;
 use std::alloc::AllocError;
 
 /// At most so many variables are fresh.

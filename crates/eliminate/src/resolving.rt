@@ -1,22 +1,22 @@
 // Resolvents that are added to the store, each with its line.
 ghost use Rattle.std.specs.Prelude.{◌≡◌, ◌<◌, List, [], ◌∷◌, false, length};
 ghost use Rattle.std.specs.Prelude.{IfOk, OnErr, IfSome, Some, None, if◌then◌else◌};
-ghost use Rattle.wcnf.specs.Literal.{Literal, negation};
+ghost use Rattle.cnf.specs.Literal.{Literal, negation};
 ghost use Rattle.clauses.specs.Slots.{clause_at};
 ghost use Rattle.lrat_log.specs.Steps.{is_empty_clause};
 ghost use Rattle.eliminate_tables.specs.Resolvents.{resolvent};
 ghost use Rattle.eliminate.specs.Simplifier.{IsSimplifier, StaysSimplified, LeavesLog};
 ghost use Rattle.eliminate.specs.Variables.{IsWith, GrowsWithout, IsPairResolved};
-ghost use Rattle.names.specs.Work.{name_at};
+ghost use Rattle.eliminate_names.specs.Work.{name_at};
 
 use crate::simplifier::Simplifier;
 use clauses::store::{CRef, Store};
 use eliminate_tables::resolvents::resolve;
 use lrat_log::lines::{Hint, Kind};
 use lrat_log::sink::Sink;
-use names::names::Names;
+use eliminate_names::names::Names;
 use std::alloc::{AllocError, Global};
-use wcnf::types::Lit;
+use cnf::types::Lit;
 
 /// Adds the resolvent of two clauses, the first with the pivot and the second with its negation,
 /// where it has no opposite pair. The empty one ends everything.

@@ -2,9 +2,9 @@
 // its proof rests on; the schedule only says where work may be worthwhile.
 ghost use Rattle.std.specs.Prelude.{◌≡◌, ◌<◌, List, [], ◌∷◌, ◌++◌, Bool, true, false, length};
 ghost use Rattle.std.specs.Prelude.{IfOk, IfSome, OnErr, Some, None, slice_set};
-ghost use Rattle.wcnf.specs.Literal.{Literal};
-ghost use Rattle.wcnf.specs.Clause.{is_subset};
-ghost use Rattle.wcnf.specs.Formula.{IsFormula};
+ghost use Rattle.cnf.specs.Literal.{Literal};
+ghost use Rattle.cnf.specs.Clause.{is_subset};
+ghost use Rattle.cnf.specs.Formula.{IsFormula};
 ghost use Rattle.clauses.specs.Slots.{IsLive, clause_at, live_clauses};
 ghost use Rattle.lrat_log.specs.Steps.{is_empty_clause};
 ghost use Rattle.eliminate.specs.State.{Start};
@@ -18,10 +18,10 @@ use eliminate_tables::schedule::Schedule;
 use eliminate_tables::stack::Removals;
 use lrat_log::lines::{Hint, Kind};
 use lrat_log::sink::Sink;
-use names::names::{Names, add, delete};
+use eliminate_names::names::{Names, add, delete};
 use std::alloc::{AllocError, Global};
-use wcnf::marks::Marks;
-use wcnf::types::Lit;
+use cnf::marks::Marks;
+use cnf::types::Lit;
 
 /// The tables of preprocessing, which all passes share.
 #[derive(Drop)]

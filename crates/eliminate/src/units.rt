@@ -5,12 +5,12 @@
 // clause that is false or unit.
 ghost use Rattle.std.specs.Prelude.{◌≡◌, ℕ, ◌+◌, ◌*◌, ◌<◌, ◌≤◌, ◌∷◌, ◌++◌, [], true, false, List};
 ghost use Rattle.std.specs.Prelude.{length, replicate, Some, None, IfOk, OnErr};
-ghost use Rattle.wcnf.specs.Literal.{Literal, negation};
-ghost use Rattle.wcnf.specs.Clause.{contains_literal};
-ghost use Rattle.wcnf.specs.Refute.{IsUnit, IsFalseUnder, IsRefutedByHints};
+ghost use Rattle.cnf.specs.Literal.{Literal, negation};
+ghost use Rattle.cnf.specs.Clause.{contains_literal};
+ghost use Rattle.cnf.specs.Refute.{IsUnit, IsFalseUnder, IsRefutedByHints};
 ghost use Rattle.clauses.specs.Slots.{IsLive, clause_at, live_clauses};
-ghost use Rattle.wcnf.specs.Marks.{HasPlace};
-ghost use Rattle.names.specs.Work.{AreClauses};
+ghost use Rattle.cnf.specs.Marks.{HasPlace};
+ghost use Rattle.eliminate_names.specs.Work.{AreClauses};
 ghost use Rattle.eliminate.specs.Simplifier.{IsSimplifier, StaysSimplified, LeavesLog, Grows};
 ghost use Rattle.eliminate.specs.Units.{HasStatus, AreUnits, AreSettled, unit_hints, open_count};
 ghost use Rattle.eliminate.specs.Units.{MakesTrue, IsPropagating, Propagates, AsksNothing};
@@ -19,10 +19,10 @@ use crate::simplifier::Simplifier;
 use clauses::store::{CRef, MaybeCRef, Store};
 use lrat_log::lines::{Hint, Kind};
 use lrat_log::sink::Sink;
-use names::names::Names;
+use eliminate_names::names::Names;
 use std::alloc::{AllocError, Global};
-use wcnf::marks::Marks;
-use wcnf::types::Lit;
+use cnf::marks::Marks;
+use cnf::types::Lit;
 
 /// The literals that are true, each by a clause of one literal.
 #[derive(Drop)]

@@ -3,13 +3,13 @@
 // Variables are tried in the order in which their clauses changed.
 ghost use Rattle.std.specs.Prelude.{◌≡◌, ℕ, ◌*◌, ◌<◌, true, false, List, length, All, IfOk};
 ghost use Rattle.std.specs.Prelude.{OnErr};
-ghost use Rattle.wcnf.specs.Literal.{negation};
+ghost use Rattle.cnf.specs.Literal.{negation};
 ghost use Rattle.lrat_log.specs.Log.{LogLine, IsLine};
-ghost use Rattle.wcnf.specs.Marks.{HasPlace};
+ghost use Rattle.cnf.specs.Marks.{HasPlace};
 ghost use Rattle.eliminate.specs.Elimination.{positive, IsFree};
 ghost use Rattle.eliminate_tables.specs.Rows.{AreRows};
 ghost use Rattle.lrat_log.specs.Steps.{added_count};
-ghost use Rattle.names.specs.Work.{name_at, delete_line};
+ghost use Rattle.eliminate_names.specs.Work.{name_at, delete_line};
 ghost use Rattle.eliminate.specs.Simplifier.{IsSimplifier, StaysSimplified, LeavesLog};
 ghost use Rattle.eliminate_tables.specs.Bins.{ArePlaced};
 ghost use Rattle.eliminate.specs.Variables.{IsSimplifierOver, StaysOver, LeavesLogOver, IsWith};
@@ -22,9 +22,9 @@ use clauses::store::{CRef, Store};
 use eliminate_tables::schedule::Schedule;
 use eliminate_tables::worthwhile::{is_candidate, is_worthwhile};
 use lrat_log::sink::Sink;
-use names::names::{Names, delete};
+use eliminate_names::names::{Names, delete};
 use std::alloc::AllocError;
-use wcnf::types::Lit;
+use cnf::types::Lit;
 
 /// For each variable, so many tries in one pass.
 const MOST_TRIES: usize = 10;

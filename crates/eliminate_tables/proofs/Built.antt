@@ -6,18 +6,18 @@ use Rattle.std.specs.List.{list_any}
 use Rattle.std.proofs.lemmas.Bool.{or_cases, or_parts, or_left, or_right, or_from, both_ways}
 use Rattle.std.proofs.lemmas.Bool.{false_from_ne_true, false≢true}
 use Rattle.std.proofs.lemmas.List.Elements.{All-head, All-tail}
-use Rattle.wcnf.specs.Literal.{Literal, negation, literal_eq}
-use Rattle.wcnf.specs.Clause.{contains_literal, without_literal, has_opposites}
-use Rattle.wcnf.proofs.Laws.{literal_eq-true}
-use Rattle.wcnf.specs.Marks.{IsMarked, mark_of}
+use Rattle.cnf.specs.Literal.{Literal, negation, literal_eq}
+use Rattle.cnf.specs.Clause.{contains_literal, without_literal, has_opposites}
+use Rattle.cnf.proofs.Laws.{literal_eq-true}
+use Rattle.cnf.specs.Marks.{IsMarked, mark_of}
 use Rattle.eliminate_tables.specs.Resolvents.{resolvent, unmarked_rest, is_opposed}
-use Rattle.wcnf.proofs.Laws.{literal_eq-refl}
+use Rattle.cnf.proofs.Laws.{literal_eq-refl}
 use Rattle.eliminate_tables.proofs.Resolve.{negation_twice, contains-filter, filter-contains}
 use Rattle.eliminate_tables.proofs.Resolve.{contains-left, contains-right, contains-either}
 use Rattle.eliminate_tables.proofs.Resolve.{not-opposite}
-use Rattle.pairs.proofs.Laws.{has_opposites-filter, literal_eq-sides}
-use Rattle.pairs.proofs.Laws.{any_member}
-use Rattle.wcnf.proofs.Laws.{at_contains}
+use Rattle.eliminate_pairs.proofs.Laws.{has_opposites-filter, literal_eq-sides}
+use Rattle.eliminate_pairs.proofs.Laws.{any_member}
+use Rattle.cnf.proofs.Laws.{at_contains}
 
 -- what holds of each literal holds of one
 pub member_has : (P : Literal → Type 0) (c : List Literal) (k : Literal) → All P c

@@ -6,10 +6,10 @@ use Rattle.std.specs.List.{list_any, list_all}
 use Rattle.std.proofs.lemmas.Bool.{leb-true, and_parts}
 use Rattle.std.proofs.lemmas.List.{get_or-map}
 use Rattle.std.proofs.lemmas.List.Elements.{All-head, All-tail, All-filter}
-use Rattle.wcnf.specs.Literal.{Literal, negation, literal_eq}
-use Rattle.wcnf.specs.Clause.{contains_literal, without_literal}
+use Rattle.cnf.specs.Literal.{Literal, negation, literal_eq}
+use Rattle.cnf.specs.Clause.{contains_literal, without_literal}
 use Rattle.clauses.specs.Slots.{Slots, clause_at}
-use Rattle.wcnf.specs.Marks.{IsMarked, HasPlace}
+use Rattle.cnf.specs.Marks.{IsMarked, HasPlace}
 use Rattle.eliminate_tables.specs.Resolvents.{unmarked_rest, is_opposed}
 use Rattle.eliminate_tables.specs.Rows.{clause_under, clauses_under}
 use Rattle.eliminate_tables.specs.Worthwhile.{rest_of, are_opposed, are_few_and_short}

@@ -6,18 +6,18 @@ use Rattle.std.specs.Prelude.{slice_set, All}
 use Rattle.std.proofs.lemmas.Bool.{false_from_ne_true, false≢true, eq-eqb}
 use Rattle.std.proofs.lemmas.List.{get_or-map, length-map, drop_more}
 use Rattle.std.proofs.lemmas.List.Folds.{list_any_at}
-use Rattle.wcnf.specs.Literal.{Literal, Assignment, literal_value, literal_eq}
-use Rattle.wcnf.specs.Clause.{contains_literal, without_literal}
-use Rattle.wcnf.specs.Bits.{assignment_of}
-use Rattle.wcnf.proofs.Laws.{literal_eq-true}
-use Rattle.wcnf.proofs.Laws.{at_contains}
+use Rattle.cnf.specs.Literal.{Literal, Assignment, literal_value, literal_eq}
+use Rattle.cnf.specs.Clause.{contains_literal, without_literal}
+use Rattle.cnf.specs.Bits.{assignment_of}
+use Rattle.cnf.proofs.Laws.{literal_eq-true}
+use Rattle.cnf.proofs.Laws.{at_contains}
 use Rattle.eliminate_tables.specs.Removals.{Removed, extended, is_needed, becomes_true, positive}
 use Rattle.eliminate_tables.specs.declared.stack.Piece.{Piece}
 use Rattle.eliminate_tables.specs.declared.stack.Gone.{Gone}
 use Rattle.eliminate_tables.specs.Flat.{clause_in, clauses_at, one_removed, removed_in, IsGone}
-use Rattle.wcnf.proofs.Laws.{literal_eq-refl}
+use Rattle.cnf.proofs.Laws.{literal_eq-refl}
 use Rattle.eliminate_tables.proofs.Resolve.{contains-filter}
-use Rattle.pairs.proofs.Laws.{has_true}
+use Rattle.eliminate_pairs.proofs.Laws.{has_true}
 
 -- another literal is true: the clause needs nothing
 pub not_needed : (t : Assignment) (p : Literal) (c : List Literal) (i : ℕ) (l : Literal)

@@ -3,15 +3,17 @@ use Rattle.std.proofs.Common.{◌≡◌, ℕ, true, false, not, List, [], ◌∷
 use Rattle.std.proofs.Common.{inl, inr, refl, sym, ◌∙◌, ap, subst}
 use Rattle.std.proofs.lemmas.Bool.{or_cases, or_left, or_right, both_ways, false_from_ne_true}
 use Rattle.std.proofs.lemmas.Bool.{false≢true}
-use Rattle.wcnf.specs.Literal.{Literal, negation, literal_eq}
-use Rattle.wcnf.specs.Clause.{contains_literal, without_literal, has_opposites}
-use Rattle.wcnf.specs.Refute.{IsFalseUnder, Clauses, Refutes}
+use Rattle.cnf.specs.Literal.{Literal, negation, literal_eq}
+use Rattle.cnf.specs.Clause.{contains_literal, without_literal, has_opposites}
+use Rattle.cnf.specs.Refute.{IsFalseUnder, Clauses, Refutes}
 use Rattle.eliminate_tables.specs.Resolvents.{resolvent}
-use Rattle.wcnf.proofs.Laws.{literal_eq-refl}
-pub use Rattle.pairs.proofs.Laws.{not_not, negation_twice, literal_eq-negation, contains-negations}
-pub use Rattle.pairs.proofs.Laws.{Covers, covered_unit, contains_same, contains-filter}
-pub use Rattle.pairs.proofs.Laws.{filter-contains, each_literal, without-contains, not-without}
-pub use Rattle.pairs.proofs.Laws.{not-opposite}
+use Rattle.cnf.proofs.Laws.{literal_eq-refl}
+pub use Rattle.eliminate_pairs.proofs.Laws.{not_not, negation_twice, literal_eq-negation}
+pub use Rattle.eliminate_pairs.proofs.Laws.{contains-negations}
+pub use Rattle.eliminate_pairs.proofs.Laws.{Covers, covered_unit, contains_same, contains-filter}
+pub use Rattle.eliminate_pairs.proofs.Laws.{filter-contains, each_literal, without-contains}
+pub use Rattle.eliminate_pairs.proofs.Laws.{not-without}
+pub use Rattle.eliminate_pairs.proofs.Laws.{not-opposite}
 
 covered_false : (p : Literal) (r d : List Literal) → Covers (negation p) r d
     → IsFalseUnder d (p ∷ map negation r)

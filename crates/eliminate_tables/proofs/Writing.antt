@@ -4,7 +4,7 @@ use Rattle.std.proofs.Common.{Some, None, Option, refl, sym, ◌∙◌, ap, arit
 use Rattle.std.specs.Prelude.{IsTrue, ◌↔◌}
 use Rattle.std.proofs.lemmas.Bool.{false_from_ne_true, false≢true}
 use Rattle.std.proofs.lemmas.List.{map-set, get_or-map, length-map}
-use Rattle.wcnf.specs.Literal.{Literal}
+use Rattle.cnf.specs.Literal.{Literal}
 use Rattle.clauses.specs.Slots.{Slots, clause_at, IsLive}
 use Rattle.eliminate_tables.specs.Rows.{is_some, has_clause}
 

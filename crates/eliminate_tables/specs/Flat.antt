@@ -1,6 +1,6 @@
 -- Eliminated variables with their clauses, in flat lists.
 use Rattle.std.specs.Prelude.{◌≡◌, ℕ, ◌<◌, ◌≤◌, ◌^◌, List, ◌++◌, length, map, All, slice_range}
-use Rattle.wcnf.specs.Literal.{Literal}
+use Rattle.cnf.specs.Literal.{Literal}
 use Rattle.eliminate_tables.specs.declared.stack.Piece.{Piece}
 use Rattle.eliminate_tables.specs.declared.stack.Gone.{Gone}
 use Rattle.eliminate_tables.specs.Removals.{Removed}

@@ -1,10 +1,10 @@
 -- Eliminated variables with their clauses, and how they get their values back.
 use Rattle.std.specs.Prelude.{ℕ, ◌-◌, Bool, not, ◌&&◌, List, [], ◌∷◌, slice_set, ◌==◌}
 use Rattle.std.specs.List.{list_any}
-use Rattle.wcnf.specs.Literal.{Literal, Assignment, literal_value}
-use Rattle.wcnf.specs.Clause.{contains_literal, without_literal}
-use Rattle.wcnf.specs.Bits.{assignment_of}
-pub use Rattle.pairs.specs.Pairs.{positive}
+use Rattle.cnf.specs.Literal.{Literal, Assignment, literal_value}
+use Rattle.cnf.specs.Clause.{contains_literal, without_literal}
+use Rattle.cnf.specs.Bits.{assignment_of}
+pub use Rattle.eliminate_pairs.specs.Pairs.{positive}
 
 -- a variable and the clauses that were removed with it
 pub record Removed : Type 0 where

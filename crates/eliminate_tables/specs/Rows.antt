@@ -1,8 +1,8 @@
 -- Rows of references, one for each literal.
 use Rattle.std.specs.Prelude.{◌≡◌, ℕ, ◌<◌, Bool, true, false, List, [], ◌∷◌, ◌++◌, length, Option}
 use Rattle.std.specs.Prelude.{Some, None, slice_index_or, slice_set, Contains, fold, map, unwrap_or}
-use Rattle.wcnf.specs.Literal.{Literal, index_of}
-use Rattle.wcnf.specs.Clause.{contains_literal}
+use Rattle.cnf.specs.Literal.{Literal, index_of}
+use Rattle.cnf.specs.Clause.{contains_literal}
 use Rattle.clauses.specs.Slots.{Slots, clause_at}
 
 abbrev pub row_at : List (List ℕ) → ℕ → List ℕ

@@ -2,7 +2,7 @@
 use Rattle.std.specs.Prelude.{ℕ, ◌+◌, ◌-◌, ◌^◌, min, nat_le, nat_lt, Bool, true, false, ◌&&◌, ◌||◌}
 use Rattle.std.specs.Prelude.{if◌then◌else◌, List, [], ◌∷◌, ◌++◌, slice_index_or, slice_set}
 use Rattle.std.specs.Prelude.{Option, Some, None}
-use Rattle.wcnf.specs.Literal.{Literal, index_of, negation}
+use Rattle.cnf.specs.Literal.{Literal, index_of, negation}
 
 -- the counts by literal; by variable from 1, whether it waits; the variables that wait, in order
 pub record ScheduleState : Type 0 where

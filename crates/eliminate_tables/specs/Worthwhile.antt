@@ -2,8 +2,8 @@
 use Rattle.std.specs.Prelude.{ℕ, ◌+◌, nat_le, ◌==◌, Bool, not, ◌&&◌, ◌||◌, List, length, filter}
 use Rattle.std.specs.Prelude.{count_by, sum_by}
 use Rattle.std.specs.List.{list_all, list_any}
-use Rattle.wcnf.specs.Literal.{Literal, negation}
-use Rattle.wcnf.specs.Clause.{contains_literal, without_literal}
+use Rattle.cnf.specs.Literal.{Literal, negation}
+use Rattle.cnf.specs.Clause.{contains_literal, without_literal}
 
 -- the literals that a resolvent has from its second clause alone
 abbrev pub rest_of : Literal → List Literal → List Literal → List Literal

@@ -5,7 +5,7 @@
 // the search quadratic: what finds no room is not held against others. Each pass has so many steps
 // that it is linear in the store, also where many long clauses share most of their literals.
 ghost use Rattle.std.specs.Prelude.{◌≡◌, length, List, Some, IfOk, IfSome};
-ghost use Rattle.wcnf.specs.Literal.{Literal};
+ghost use Rattle.cnf.specs.Literal.{Literal};
 ghost use Rattle.clauses.specs.Slots.{IsLive, clause_at};
 ghost use Rattle.subsume.specs.Against.{LiesAgainst};
 ghost use Rattle.eliminate_tables.specs.Bins.{ArePlaced};
@@ -15,8 +15,8 @@ use std::alloc::{AllocError, Global};
 use std::marker::Model;
 use subsume::against::{Against, hold_against};
 use subsume::signatures::{maybe_subsets, signature};
-use wcnf::marks::Marks;
-use wcnf::types::Lit;
+use cnf::marks::Marks;
+use cnf::types::Lit;
 
 /// So many clauses have room in a bin.
 const MOST_IN_A_BIN: usize = 100;

@@ -2,13 +2,13 @@
 ghost use Rattle.std.specs.Prelude.{◌≡◌, true, not, ◌++◌, length, false};
 ghost use Rattle.std.specs.Prelude.{All, IfOk, IfSome, None};
 ghost use Rattle.std.specs.List.{list_any};
-ghost use Rattle.wcnf.specs.Clause.{without_literal, has_opposites};
-ghost use Rattle.wcnf.specs.Marks.{HasPlace};
+ghost use Rattle.cnf.specs.Clause.{without_literal, has_opposites};
+ghost use Rattle.cnf.specs.Marks.{HasPlace};
 ghost use Rattle.eliminate_tables.specs.Resolvents.{resolvent, unmarked_rest, is_opposed};
 
 use std::alloc::AllocError;
-use wcnf::marks::Marks;
-use wcnf::types::Lit;
+use cnf::marks::Marks;
+use cnf::types::Lit;
 
 /// Builds the resolvent of two clauses, the first with the pivot and the second with its negation.
 /// The answer is whether it has no opposite pair; where it has one, what was built is of no use.

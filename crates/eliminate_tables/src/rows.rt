@@ -2,13 +2,13 @@
 // of clauses that were deleted since, until they are cleaned.
 ghost use Rattle.std.specs.Prelude.{◌≡◌, ℕ, ◌+◌, ◌<◌, List, [], ◌∷◌, ◌++◌, length, replicate};
 ghost use Rattle.std.specs.Prelude.{filter, IfOk, All};
-ghost use Rattle.wcnf.specs.Marks.{HasPlace};
+ghost use Rattle.cnf.specs.Marks.{HasPlace};
 ghost use Rattle.eliminate_tables.specs.Rows.{row_at, with_row, with_clause_rows, has_clause};
 
 use clauses::store::{CRef, Store};
 use std::alloc::{AllocError, Global};
 use std::marker::Model;
-use wcnf::types::Lit;
+use cnf::types::Lit;
 
 /// A row of references for each literal.
 #[derive(Drop)]

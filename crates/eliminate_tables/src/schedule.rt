@@ -7,7 +7,7 @@ ghost use Rattle.eliminate_tables.specs.Schedule.{count_of, with_count, without_
 use std::alloc::{AllocError, Global};
 use std::collections::VecDeque;
 use std::marker::Model;
-use wcnf::types::Lit;
+use cnf::types::Lit;
 
 /// Counts of occurrences, and a queue of the variables whose clauses changed since they were tried.
 #[derive(Drop)]

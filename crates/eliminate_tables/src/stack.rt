@@ -2,8 +2,8 @@
 // values back.
 ghost use Rattle.std.specs.Prelude.{◌≡◌, ◌+◌, ◌-◌, ◌<◌, ◌≤◌, ◌^◌, false, List};
 ghost use Rattle.std.specs.Prelude.{[], ◌∷◌, ◌++◌, length, All, IfOk, OnErr};
-ghost use Rattle.wcnf.specs.Literal.{Literal, literal_value};
-ghost use Rattle.wcnf.specs.Bits.{assignment_of};
+ghost use Rattle.cnf.specs.Literal.{Literal, literal_value};
+ghost use Rattle.cnf.specs.Bits.{assignment_of};
 ghost use Rattle.eliminate_tables.specs.Removals.{Removed, extended, is_needed};
 ghost use Rattle.eliminate_tables.specs.Removals.{becomes_true};
 ghost use Rattle.clauses.specs.Slots.{IsLive};
@@ -13,7 +13,7 @@ ghost use Rattle.eliminate_tables.specs.Rows.{clauses_under};
 use clauses::store::{CRef, Store};
 use std::alloc::{AllocError, Global};
 use std::marker::Model;
-use wcnf::types::Lit;
+use cnf::types::Lit;
 
 /// The literals of a clause, from one place up to another.
 #[derive(Clone, Copy, Drop)]

@@ -11,8 +11,8 @@ ghost use Rattle.eliminate_tables.specs.Worthwhile.{are_few_and_short, is_worthw
 use crate::resolvents::count_rest;
 use crate::schedule::Schedule;
 use clauses::store::{CRef, Store};
-use wcnf::marks::Marks;
-use wcnf::types::Lit;
+use cnf::marks::Marks;
+use cnf::types::Lit;
 
 /// A variable goes only where at most so many clauses have it, and at most so many its negation.
 const MOST_OF_A_SIGN: usize = 10;

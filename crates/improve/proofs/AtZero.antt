@@ -3,11 +3,11 @@ use Rattle.std.proofs.Common.{◌≡◌, ℕ, ◌+◌, Bool, List, [], ◌∷◌
 use Rattle.std.proofs.Common.{arith, length-append}
 use Rattle.std.specs.declared.vec.Vec.{Vec}
 use Rattle.std.specs.declared.alloc.Global.{Global}
-use Rattle.wcnf.specs.Literal.{Literal}
-use Rattle.wcnf.specs.Formula.{numbered}
-use Rattle.wcnf.specs.Refute.{Refutes}
-use Rattle.wcnf.specs.Lrat.{Addition, IsAddable, start_of, with_clause}
-use Rattle.wcnf.specs.Problem.{Problem}
+use Rattle.cnf.specs.Literal.{Literal}
+use Rattle.cnf.specs.Formula.{numbered}
+use Rattle.cnf.specs.Refute.{Refutes}
+use Rattle.cnf.specs.Lrat.{Addition, IsAddable, start_of, with_clause}
+use Rattle.cnf.specs.Problem.{Problem}
 use Rattle.lrat_log.specs.Log.{LogLine}
 use Rattle.lrat_log.proofs.Laws.{numbered_right}
 use Rattle.adder.specs.declared.cells.Profile.{Profile}

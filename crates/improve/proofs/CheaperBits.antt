@@ -4,10 +4,10 @@ use Rattle.std.proofs.Common.{length, inr, append_assoc, refl, sym, ◌∙◌, a
 use Rattle.std.specs.List.{AllByRecursion, flat_map}
 use Rattle.std.proofs.lemmas.List.Elements.{recursion_from_All, All-from_recursion, All-map}
 use Rattle.std.proofs.lemmas.List.Elements.{Contains-push}
-use Rattle.wcnf.specs.Literal.{Literal, Assignment}
-use Rattle.wcnf.specs.Clause.{Satisfies}
-use Rattle.wcnf.specs.Bits.{Extends, assignment_of}
-use Rattle.wcnf.specs.Problem.{Problem, IsFeasible, cost_under}
+use Rattle.cnf.specs.Literal.{Literal, Assignment}
+use Rattle.cnf.specs.Clause.{Satisfies}
+use Rattle.cnf.specs.Bits.{Extends, assignment_of}
+use Rattle.cnf.specs.Problem.{Problem, IsFeasible, cost_under}
 use Rattle.lrat_log.specs.declared.lines.Name.{Name}
 use Rattle.bound.specs.Bound.{bound_as, fixed_clauses, comparator_for}
 use Rattle.bound.proofs.Laws.{says_cheaper}
@@ -25,11 +25,11 @@ use Rattle.improve.specs.Frozen.{AreFrozen}
 use Rattle.cdcl.specs.Solving.{given_to, SatisfyGiven, SameGiven, IsPlainlyRefuted, lines_since}
 use Rattle.improve.specs.Improving.{IsSolution, IsCostOfSome, AreFalling}
 use Rattle.improve.specs.Bounds.{LogSolver, IsOver}
-use Rattle.wcnf.specs.Formula.{Cnf}
+use Rattle.cnf.specs.Formula.{Cnf}
 use Rattle.std.proofs.lemmas.List.{length-map}
 use Rattle.lrat_log.proofs.Laws.{new_searched}
 use Rattle.improve.specs.declared.bounds.Bounds.{Bounds}
-use Rattle.wcnf.proofs.Laws.{extends_own}
+use Rattle.cnf.proofs.Laws.{extends_own}
 use Rattle.improve.proofs.GivenParts.{given_split}
 
 -- all clauses given hold, so those of the formula for the last bound do

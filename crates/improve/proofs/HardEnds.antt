@@ -4,12 +4,12 @@ use Rattle.std.proofs.Common.{ap, subst, arith}
 use Rattle.std.specs.Prelude.{All}
 use Rattle.std.proofs.lemmas.List.{length-map}
 use Rattle.std.proofs.lemmas.List.Elements.{All-map}
-use Rattle.wcnf.specs.Literal.{Literal, Assignment}
-use Rattle.wcnf.specs.Clause.{Satisfies}
-use Rattle.wcnf.specs.Bits.{Extends}
-use Rattle.wcnf.specs.Problem.{Problem, IsFeasible}
-use Rattle.wcnf.specs.Refute.{IsRefutedByHints}
-use Rattle.wcnf.proofs.Laws.{certificate_sound}
+use Rattle.cnf.specs.Literal.{Literal, Assignment}
+use Rattle.cnf.specs.Clause.{Satisfies}
+use Rattle.cnf.specs.Bits.{Extends}
+use Rattle.cnf.specs.Problem.{Problem, IsFeasible}
+use Rattle.cnf.specs.Refute.{IsRefutedByHints}
+use Rattle.cnf.proofs.Laws.{certificate_sound}
 use Rattle.lrat_log.specs.declared.lines.Name.{Name}
 use Rattle.lrat_log.specs.Log.{LogLine, numbered_lines, clauses_in}
 use Rattle.lrat_log.specs.Steps.{IsLogOver, IsAcceptedLog, IsBaseOf, AddsNoEmptyClause, LearnsNew}

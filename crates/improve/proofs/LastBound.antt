@@ -8,11 +8,11 @@ use Rattle.std.proofs.lemmas.Grind.{flat_map-append}
 use Rattle.std.proofs.lemmas.Bool.{false≢true}
 use Rattle.std.proofs.lemmas.List.Elements.{recursion_from_All, All-from_recursion}
 use Rattle.std.proofs.lemmas.List.{length-map}
-use Rattle.wcnf.specs.Literal.{Literal}
-use Rattle.wcnf.specs.Clause.{is_subset}
-use Rattle.wcnf.specs.Formula.{Cnf, IsFormulaClause}
-use Rattle.wcnf.specs.Problem.{Problem}
-use Rattle.wcnf.specs.Instance.{IsInstance}
+use Rattle.cnf.specs.Literal.{Literal}
+use Rattle.cnf.specs.Clause.{is_subset}
+use Rattle.cnf.specs.Formula.{Cnf, IsFormulaClause}
+use Rattle.cnf.specs.Problem.{Problem}
+use Rattle.cnf.specs.Instance.{IsInstance}
 use Rattle.lrat_log.specs.declared.lines.Name.{Name}
 use Rattle.lrat_log.specs.Log.{LogLine, clauses_in}
 use Rattle.lrat_log.specs.Steps.{IsLogOver, IsAcceptedLog, AddsNoEmptyClause, is_empty_clause}
@@ -32,7 +32,7 @@ use Rattle.cdcl.specs.Solving.{given_to}
 use Rattle.improve.specs.Improving.{AreFalling, first_subset, weaker_among}
 use Rattle.improve.specs.Bounds.{IsOver}
 use Rattle.improve.specs.declared.bounds.Bounds.{Bounds}
-use Rattle.wcnf.specs.Lrat.{IsId}
+use Rattle.cnf.specs.Lrat.{IsId}
 use Rattle.lrat_log.specs.Rebase.{weaker_list}
 use Rattle.std.specs.declared.vec.Vec.{Vec}
 use Rattle.std.specs.declared.alloc.Global.{Global}

@@ -5,9 +5,9 @@ use Rattle.std.proofs.Common.{subst, arith}
 use Rattle.std.specs.Prelude.{All, OnOk, OnErr, IfOk, IfErr, is_err, if◌then◌else◌, sum_by}
 use Rattle.std.proofs.lemmas.List.Elements.{All-push}
 use Rattle.std.proofs.lemmas.List.Sums.{sum_by-le-sum_by}
-use Rattle.wcnf.specs.Clause.{clause_value}
-use Rattle.wcnf.specs.Problem.{Problem, SoftClause, cost_under}
-use Rattle.wcnf.specs.Instance.{IsInstance}
+use Rattle.cnf.specs.Clause.{clause_value}
+use Rattle.cnf.specs.Problem.{Problem, SoftClause, cost_under}
+use Rattle.cnf.specs.Instance.{IsInstance}
 use Rattle.lrat_log.specs.Log.{LogLine}
 use Rattle.lrat_log.specs.Steps.{learned_count}
 use Rattle.improve.specs.declared.found.Found.{Found}

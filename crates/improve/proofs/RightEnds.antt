@@ -6,11 +6,11 @@ use Rattle.std.proofs.lemmas.Bool.{cases_lt}
 use Rattle.std.proofs.lemmas.List.{length-map}
 use Rattle.std.specs.declared.vec.Vec.{Vec}
 use Rattle.std.specs.declared.alloc.Global.{Global}
-use Rattle.wcnf.specs.Literal.{Assignment}
-use Rattle.wcnf.specs.Bits.{Extends}
-use Rattle.wcnf.specs.Problem.{Problem, IsOptimal}
-use Rattle.wcnf.specs.Instance.{IsInstance}
-use Rattle.wcnf.proofs.Laws.{certificate_sound}
+use Rattle.cnf.specs.Literal.{Assignment}
+use Rattle.cnf.specs.Bits.{Extends}
+use Rattle.cnf.specs.Problem.{Problem, IsOptimal}
+use Rattle.cnf.specs.Instance.{IsInstance}
+use Rattle.cnf.proofs.Laws.{certificate_sound}
 use Rattle.lrat_log.specs.Log.{LogLine, numbered_lines}
 use Rattle.lrat_log.specs.Steps.{IsAcceptedLog, AddsNoEmptyClause, LearnsNew, is_later, given_of}
 use Rattle.lrat_log.specs.Rebase.{weaker_line, moved_line, rebased}

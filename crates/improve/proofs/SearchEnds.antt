@@ -2,7 +2,7 @@
 use Rattle.std.proofs.Common.{◌≡◌, ℕ, ◌+◌, List, [], ◌∷◌, ◌++◌, length, Some, Result, Ok, Err, refl}
 use Rattle.std.proofs.Common.{sym, subst, All}
 use Rattle.std.specs.Prelude.{IfOk, IfErr}
-use Rattle.wcnf.specs.Problem.{Problem}
+use Rattle.cnf.specs.Problem.{Problem}
 use Rattle.adder.specs.declared.cells.Profile.{Profile}
 use Rattle.cdcl_order.specs.Budgets.{BudgetState, left_of}
 use Rattle.improve.specs.declared.found.Found.{Found}

@@ -6,8 +6,8 @@ use Rattle.std.specs.declared.vec.Vec.{Vec}
 use Rattle.std.specs.declared.alloc.Global.{Global}
 use Rattle.std.proofs.lemmas.List.{drop_all, map-append}
 use Rattle.lrat_log.specs.declared.lines.Name.{Name}
-use Rattle.wcnf.specs.Literal.{Literal}
-use Rattle.wcnf.specs.Clause.{contains_literal, is_subset}
+use Rattle.cnf.specs.Literal.{Literal}
+use Rattle.cnf.specs.Clause.{contains_literal, is_subset}
 use Rattle.lrat_log.specs.Log.{Given, clauses_in}
 use Rattle.lrat_log.specs.Rebase.{weaker_list}
 use Rattle.improve.specs.Improving.{first_subset, weaker_among}

@@ -1,8 +1,8 @@
 -- A solver that is given bound after bound.
 use Rattle.std.specs.Prelude.{◌≡◌, ℕ, ◌+◌, ◌<◌, ◌≤◌, ◌^◌, Bool, false, List, [], ◌∷◌, ◌++◌, length}
-use Rattle.wcnf.specs.Literal.{Literal}
-use Rattle.wcnf.specs.Problem.{Problem}
-use Rattle.wcnf.specs.Instance.{IsInstance}
+use Rattle.cnf.specs.Literal.{Literal}
+use Rattle.cnf.specs.Problem.{Problem}
+use Rattle.cnf.specs.Instance.{IsInstance}
 use Rattle.lrat_log.specs.Log.{LogLine, clauses_in}
 use Rattle.lrat_log.specs.Steps.{IsLogOver, IsAcceptedLog, AddsNoEmptyClause, LearnsNew}
 use Rattle.lrat_log.specs.Steps.{is_later, learned_count, given_of}

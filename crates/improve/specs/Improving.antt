@@ -3,12 +3,12 @@ use Rattle.std.specs.Prelude.{◌≡◌, ◌+◌, ◌<◌, ◌^◌, [], ◌∷�
 use Rattle.std.specs.Prelude.{ℕ, Bool, List, length, map, drop, All}
 use Rattle.std.specs.Prelude.{Option, Some, Result, Ok, Err, IfOk, OnOk}
 use Rattle.std.specs.List.{flat_map}
-use Rattle.wcnf.specs.Literal.{Literal, Assignment}
-use Rattle.wcnf.specs.Clause.{is_subset}
-use Rattle.wcnf.specs.Bits.{Extends}
-use Rattle.wcnf.specs.Problem.{Problem, IsFeasible, cost_under, IsOptimal, IsInconsistent}
-use Rattle.wcnf.specs.Refute.{IsRefutedByHints}
-use Rattle.wcnf.specs.Lrat.{Accepts, start_of}
+use Rattle.cnf.specs.Literal.{Literal, Assignment}
+use Rattle.cnf.specs.Clause.{is_subset}
+use Rattle.cnf.specs.Bits.{Extends}
+use Rattle.cnf.specs.Problem.{Problem, IsFeasible, cost_under, IsOptimal, IsInconsistent}
+use Rattle.cnf.specs.Refute.{IsRefutedByHints}
+use Rattle.cnf.specs.Lrat.{Accepts, start_of}
 use Rattle.lrat_log.specs.declared.lines.Name.TheVariants.{Formula}
 use Rattle.lrat_log.specs.declared.lines.Hint.TheVariants.{Plain}
 use Rattle.lrat_log.specs.declared.lines.Kind.TheVariants.{Empty}

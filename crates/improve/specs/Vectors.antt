@@ -1,7 +1,7 @@
 -- Worked bounds: three soft clauses of weight 1, and the costs 3 and 2.
 use Rattle.std.specs.Prelude.{◌≡◌, [], ◌∷◌, refl, length}
-use Rattle.wcnf.specs.Literal.{positive as p, negative as n}
-use Rattle.wcnf.specs.Problem.{Problem}
+use Rattle.cnf.specs.Literal.{positive as p, negative as n}
+use Rattle.cnf.specs.Problem.{Problem}
 use Rattle.adder.specs.declared.cells.Profile.TheVariants.{One}
 use Rattle.bound.specs.Bound.{fixed_clauses}
 use Rattle.improve.specs.Improving.{weaker_for}

@@ -3,8 +3,8 @@
 // formula has the clauses of the last bound alone: at the end the log is told over that one.
 ghost use Rattle.std.specs.Prelude.{◌≡◌, ◌+◌, ◌<◌, ◌≤◌, ◌^◌, [], ◌∷◌, ◌++◌};
 ghost use Rattle.std.specs.Prelude.{ℕ, false, List, length, All, IfOk, OnOk};
-ghost use Rattle.wcnf.specs.Literal.{Literal};
-ghost use Rattle.wcnf.specs.Clause.{has_repeat, has_opposites};
+ghost use Rattle.cnf.specs.Literal.{Literal};
+ghost use Rattle.cnf.specs.Clause.{has_repeat, has_opposites};
 ghost use Rattle.lrat_log.specs.Log.{clauses_in};
 ghost use Rattle.lrat_log.specs.Steps.{learned_count};
 ghost use Rattle.lrat_log.specs.Rebase.{weaker_list};
@@ -30,8 +30,8 @@ use lrat_log::log::Log;
 use lrat_log::rebase::rebase;
 use lrat_log::sink::Sink;
 use std::alloc::{AllocError, Global};
-use wcnf::limits::NUMBER_LIMIT;
-use wcnf::types::{Clause, Instance, Lit};
+use cnf::limits::NUMBER_LIMIT;
+use cnf::types::{Clause, Instance, Lit};
 
 /// No cost reaches this, as all weights sum to less; so it has no comparator clause.
 const NO_BOUND: u64 = NUMBER_LIMIT;

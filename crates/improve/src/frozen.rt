@@ -3,7 +3,7 @@ ghost use Rattle.std.specs.Prelude.{◌≡◌, ◌<◌, true, length, Some, slic
 ghost use Rattle.improve.specs.Frozen.{AreFrozen, IsOutputWithin, KeepsFrozen};
 
 use std::alloc::{AllocError, Global};
-use wcnf::types::Lit;
+use cnf::types::Lit;
 
 /// For each variable from 1, whether an output has it.
 pub fn freeze_outputs(

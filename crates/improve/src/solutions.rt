@@ -1,11 +1,11 @@
 // Solutions with their cost.
 ghost use Rattle.std.specs.Prelude.{◌≡◌, ◌≤◌, length, take};
-ghost use Rattle.wcnf.specs.Literal.{Assignment};
-ghost use Rattle.wcnf.specs.Bits.{Extends};
-ghost use Rattle.wcnf.specs.Problem.{IsFeasible, cost_under};
+ghost use Rattle.cnf.specs.Literal.{Assignment};
+ghost use Rattle.cnf.specs.Bits.{Extends};
+ghost use Rattle.cnf.specs.Problem.{IsFeasible, cost_under};
 ghost use Rattle.improve.specs.Improving.{IsSolution};
 
-use wcnf::types::Instance;
+use cnf::types::Instance;
 
 /// A solution: its bits satisfy the hard clauses.
 #[derive(Drop)]

@@ -1,15 +1,15 @@
 // The clauses of the bounds before the last one, each with a clause of the last one that is a
 // subset of it: by that clause alone it follows.
 ghost use Rattle.std.specs.Prelude.{◌≡◌, ℕ, ◌+◌, ◌<◌, ◌^◌, List, length, map, IfOk};
-ghost use Rattle.wcnf.specs.Literal.{Literal};
-ghost use Rattle.wcnf.specs.Clause.{contains_literal, is_subset};
+ghost use Rattle.cnf.specs.Literal.{Literal};
+ghost use Rattle.cnf.specs.Clause.{contains_literal, is_subset};
 ghost use Rattle.lrat_log.specs.Log.{clauses_in};
 ghost use Rattle.lrat_log.specs.Rebase.{weaker_list};
 ghost use Rattle.improve.specs.Improving.{first_subset, weaker_among};
 
 use lrat_log::lines::Name;
 use std::alloc::{AllocError, Global};
-use wcnf::types::{Clause, Lit};
+use cnf::types::{Clause, Lit};
 
 /// The clauses before, each with the number of the first of the last ones that is a subset of it,
 /// where the last ones have the numbers from `first` on. A bound has at most 62 clauses of at most

@@ -1,7 +1,7 @@
 // The end where a solution costs nothing. The formula for 'cost below 0' has the empty clause, as
 // its last one, so a log of one line refutes it and no solver is asked.
 ghost use Rattle.std.specs.Prelude.{◌≡◌, IfOk};
-ghost use Rattle.wcnf.specs.Lrat.{IsId};
+ghost use Rattle.cnf.specs.Lrat.{IsId};
 ghost use Rattle.bound.specs.Bound.{bound_as};
 ghost use Rattle.improve.specs.Improving.{IsAcceptedOver, IsClauseCount, repeats_empty};
 
@@ -11,7 +11,7 @@ use lrat_log::lines::{Hint, Kind, Line, Name, Number};
 use lrat_log::log::Log;
 use lrat_log::sink::Sink;
 use std::alloc::{AllocError, Global};
-use wcnf::types::Instance;
+use cnf::types::Instance;
 
 /// A log that refutes a formula.
 #[derive(Drop)]

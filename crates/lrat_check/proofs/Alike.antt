@@ -4,10 +4,10 @@ use Rattle.std.proofs.Common.{ap, subst, inl, inr}
 use Rattle.std.proofs.Math.Bool.{cond}
 use Rattle.std.specs.List.{list_any}
 use Rattle.std.proofs.lemmas.Bool.{cases_Bool}
-use Rattle.wcnf.specs.Literal.{Literal, negation}
-use Rattle.wcnf.specs.Clause.{contains_literal, without_literal}
-use Rattle.wcnf.specs.Refute.{Clauses}
-use Rattle.wcnf.specs.Lrat.{Live, CandidateHints}
+use Rattle.cnf.specs.Literal.{Literal, negation}
+use Rattle.cnf.specs.Clause.{contains_literal, without_literal}
+use Rattle.cnf.specs.Refute.{Clauses}
+use Rattle.cnf.specs.Lrat.{Live, CandidateHints}
 use Rattle.lrat_check.specs.declared.verdicts.Cause.TheVariants.{Candidates}
 use Rattle.lrat_live.specs.Listed.{same_ids}
 use Rattle.lrat_check.specs.Verdict.{Walk, Open, Refuted, Fault, Outcome, Dead, NotUnit, Conflict}

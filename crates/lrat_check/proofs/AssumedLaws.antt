@@ -8,10 +8,10 @@ use Rattle.std.proofs.Math.ListN.{length-set}
 use Rattle.std.proofs.lemmas.Bool.{cases_eq, cases_lt, false_from_ne_true}
 use Rattle.std.proofs.lemmas.List.{get_or-set_same, get_or-set_other}
 use Rattle.std.proofs.lemmas.List.Elements.{All-push, All-pop, All-weaker}
-use Rattle.wcnf.specs.Literal.{Literal, index_of, literal_eq}
-use Rattle.wcnf.specs.Clause.{contains_literal}
-use Rattle.wcnf.proofs.Laws.{index_same, index_below}
-use Rattle.wcnf.proofs.Laws.{literal_eq-true}
+use Rattle.cnf.specs.Literal.{Literal, index_of, literal_eq}
+use Rattle.cnf.specs.Clause.{contains_literal}
+use Rattle.cnf.proofs.Laws.{index_same, index_below}
+use Rattle.cnf.proofs.Laws.{literal_eq-true}
 use Rattle.lrat_check.specs.Assumed.{AreValues}
 use Rattle.lrat_check.proofs.Members.{push_other, in_push-last, has_repeat-push, has_repeat-last}
 use Rattle.lrat_check.proofs.Members.{none_past}

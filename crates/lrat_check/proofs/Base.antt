@@ -9,10 +9,10 @@ use Rattle.std.proofs.lemmas.Bool.{or_cases, or_left, or_right, cases_Bool, eq-e
 use Rattle.std.proofs.lemmas.Bool.{both_ways, false≢true}
 use Rattle.std.proofs.lemmas.List.Elements.{All-nil, All-cons, All-contains, All-head, All-tail}
 use Rattle.std.proofs.lemmas.List.Elements.{All-push, All-filter, All-weaker}
-use Rattle.wcnf.specs.Literal.{Literal}
-use Rattle.wcnf.specs.Clause.{contains_literal, greatest_variable}
-use Rattle.wcnf.specs.Formula.{Cnf, IsFormula, IsFormulaClause}
-use Rattle.wcnf.specs.Lrat.{start_of, with_clause}
+use Rattle.cnf.specs.Literal.{Literal}
+use Rattle.cnf.specs.Clause.{contains_literal, greatest_variable}
+use Rattle.cnf.specs.Formula.{Cnf, IsFormula, IsFormulaClause}
+use Rattle.cnf.specs.Lrat.{start_of, with_clause}
 use Rattle.lrat_check.specs.Assumed.{AreWithin}
 use Rattle.lrat_live.specs.Listed.{Listed, ids_of, listed_at, listed_from, without_id, ids_listed}
 use Rattle.lrat_live.proofs.Laws.{Rises, rises_from_pairs, listed_here, listed_there, above_kept}

@@ -5,12 +5,12 @@ use Rattle.std.specs.Prelude.{◌↔◌, IsTrue}
 use Rattle.std.specs.List.{list_all}
 use Rattle.std.proofs.lemmas.Bool.{ne_eqb, eq-eqb, cases_Bool}
 use Rattle.std.proofs.lemmas.List.Elements.{All-from_recursion, recursion_from_All}
-use Rattle.wcnf.specs.Literal.{Assignment}
-use Rattle.wcnf.specs.Bits.{Extends, assignment_of}
-use Rattle.wcnf.proofs.Laws.{extends_own}
-use Rattle.wcnf.specs.Clause.{clause_value}
-use Rattle.wcnf.specs.Problem.{Problem, IsFeasible, cost_under}
-use Rattle.result_read.specs.Result.{Report}
+use Rattle.cnf.specs.Literal.{Assignment}
+use Rattle.cnf.specs.Bits.{Extends, assignment_of}
+use Rattle.cnf.proofs.Laws.{extends_own}
+use Rattle.cnf.specs.Clause.{clause_value}
+use Rattle.cnf.specs.Problem.{Problem, IsFeasible, cost_under}
+use Rattle.lrat_result.specs.Result.{Report}
 use Rattle.lrat_check.specs.declared.verdicts.Cause.TheVariants.{BitsLength, NotFeasible, CostWrong}
 use Rattle.lrat_check.specs.declared.verdicts.Verdict.TheVariants.{No}
 use Rattle.lrat_check.specs.Verdict.{bits_fault}

@@ -11,9 +11,9 @@ use Rattle.std.proofs.lemmas.List.Elements.{Contains-get_or}
 use Rattle.std.proofs.lemmas.List.Kept.{AllPairs-from_increasing}
 use Rattle.std.proofs.lemmas.List.Quantifiers.{all_pairs_push}
 use Rattle.std.proofs.lemmas.List.Folds.{list_any-append}
-use Rattle.wcnf.specs.Literal.{Literal}
-use Rattle.wcnf.specs.Clause.{contains_literal}
-use Rattle.wcnf.specs.Refute.{Clauses}
+use Rattle.cnf.specs.Literal.{Literal}
+use Rattle.cnf.specs.Clause.{contains_literal}
+use Rattle.cnf.specs.Refute.{Clauses}
 use Rattle.lrat_live.specs.Listed.{same_ids}
 use Rattle.lrat_live.proofs.Laws.{Rises, rises_from_pairs}
 use Rattle.lrat_check.specs.Verdict.{ids_with}

@@ -5,10 +5,10 @@ use Rattle.std.specs.Prelude.{◌==◌, ◌↔◌, Result, Ok, Err}
 use Rattle.std.specs.List.{AllByRecursion, list_all, flat_map}
 use Rattle.std.proofs.lemmas.Bool.{and_from, and_parts, cases_Bool, both_ways, eq-eqb, eqb-true}
 use Rattle.std.proofs.lemmas.List.Elements.{All-from_recursion, recursion_from_All, All-append}
-use Rattle.wcnf.specs.Literal.{Literal, Assignment}
-use Rattle.wcnf.specs.Clause.{has_repeat, clause_value, Satisfies}
-use Rattle.wcnf.specs.Problem.{Problem, IsFeasible, cost_under}
-use Rattle.wcnf.specs.Bits.{assignment_of}
+use Rattle.cnf.specs.Literal.{Literal, Assignment}
+use Rattle.cnf.specs.Clause.{has_repeat, clause_value, Satisfies}
+use Rattle.cnf.specs.Problem.{Problem, IsFeasible, cost_under}
+use Rattle.cnf.specs.Bits.{assignment_of}
 use Rattle.wcnf.specs.declared.faults.FaultKind.{FaultKind}
 use Rattle.wcnf.specs.Reading.{reading_of, ReadingIsRight}
 use Rattle.adder.specs.declared.cells.Profile.{Profile}
@@ -16,8 +16,8 @@ use Rattle.adder.specs.Network.{adders_as}
 use Rattle.bound.specs.Bound.{kept, hard_cnf, comparator_of, bound_as, fixed_clauses}
 use Rattle.bound.specs.Bound.{relaxed_clauses, cell_clauses}
 use Rattle.bound.proofs.Laws.{comparator_once, kept_once}
-use Rattle.result_read.specs.Result.{Said, OptimumFound, Unsatisfiable, Satisfiable, Unknown}
-use Rattle.result_read.specs.Result.{Report, report_of}
+use Rattle.lrat_result.specs.Result.{Said, OptimumFound, Unsatisfiable, Satisfiable, Unknown}
+use Rattle.lrat_result.specs.Result.{Report, report_of}
 use Rattle.lrat_check.specs.Checks.{ChecksSaid, ChecksAs}
 use Rattle.lrat_check.specs.declared.verdicts.Cause.{Cause}
 use Rattle.lrat_check.specs.declared.verdicts.Cause.TheVariants.{Text, ResultForm, BitsLength}
@@ -28,7 +28,7 @@ use Rattle.lrat_check.specs.declared.verdicts.Verdict.TheVariants.{Yes, No}
 use Rattle.lrat_check.specs.Verdict.{proof_verdict, bits_fault, said_verdict, verdict_as}
 use Rattle.lrat_check.specs.Verdict.{CheckVerdictIsRight}
 use Rattle.lrat_check.proofs.Proofs.{NoneRepeatsIn, proof_verdict-Yes}
-use Rattle.result_read.proofs.Laws.{says_from_report, report_from_says}
+use Rattle.lrat_result.proofs.Laws.{says_from_report, report_from_says}
 
 -- the formulas that are bounded have no repeats
 pub bound_singles : (profile : Profile) (p : Problem) (k : ℕ)

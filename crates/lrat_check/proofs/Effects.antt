@@ -9,10 +9,10 @@ use Rattle.std.proofs.lemmas.List.{take-append-le, length-take}
 use Rattle.std.specs.List.{last_or}
 use Rattle.std.proofs.lemmas.Bool.{or_cases, false≢true}
 use Rattle.std.proofs.lemmas.List.Elements.{All-head, All-tail}
-use Rattle.wcnf.specs.Literal.{Literal, negation, literal_eq}
-use Rattle.wcnf.specs.Clause.{contains_literal}
-use Rattle.wcnf.specs.Refute.{Clauses}
-use Rattle.wcnf.proofs.Laws.{literal_eq-true}
+use Rattle.cnf.specs.Literal.{Literal, negation, literal_eq}
+use Rattle.cnf.specs.Clause.{contains_literal}
+use Rattle.cnf.specs.Refute.{Clauses}
+use Rattle.cnf.proofs.Laws.{literal_eq-true}
 use Rattle.lrat_check.specs.Assumed.{AreWithin}
 use Rattle.lrat_live.specs.Listed.{listed_at}
 use Rattle.lrat_check.specs.declared.verdicts.Cause.TheVariants.{HintAfterConflict}

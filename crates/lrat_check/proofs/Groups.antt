@@ -8,11 +8,11 @@ use Rattle.std.specs.Bool.{then_some}
 use Rattle.std.specs.List.{list_any}
 use Rattle.std.proofs.lemmas.Bool.{or_left, or_right, cases_eq, eq-eqb, ne_eqb}
 use Rattle.std.proofs.lemmas.List.{drop_more, drop_all}
-use Rattle.wcnf.specs.Literal.{Literal, negation, literal_eq}
-use Rattle.wcnf.specs.Clause.{contains_literal, without_literal}
-use Rattle.wcnf.specs.Lrat.{CandidateHints}
+use Rattle.cnf.specs.Literal.{Literal, negation, literal_eq}
+use Rattle.cnf.specs.Clause.{contains_literal, without_literal}
+use Rattle.cnf.specs.Lrat.{CandidateHints}
 use Rattle.lrat_read.specs.Form.{groups_of}
-use Rattle.wcnf.specs.Refute.{Clauses}
+use Rattle.cnf.specs.Refute.{Clauses}
 use Rattle.lrat_check.specs.declared.verdicts.Cause.TheVariants.{HintAfterConflict}
 use Rattle.lrat_live.specs.Listed.{same_ids}
 use Rattle.lrat_check.specs.Verdict.{Walk, walk, of_walk, group_fault}

@@ -4,7 +4,7 @@ use Rattle.std.proofs.Common.{Option, Some, None, Ok, Err, Result, refl, sym, â—
 use Rattle.std.specs.Prelude.{IfOk, nat_eq}
 use Rattle.std.specs.declared.alloc.AllocError.{AllocError}
 use Rattle.std.proofs.lemmas.Bool.{ne_eqb}
-use Rattle.wcnf.specs.Literal.{Literal}
+use Rattle.cnf.specs.Literal.{Literal}
 use Rattle.lrat_read.specs.Form.{Addition, line_of}
 use Rattle.lrat_read.specs.Reader.{LineState, IsReadAs}
 use Rattle.lrat_read.specs.declared.types.Form.{Form}

@@ -2,22 +2,22 @@
 use Rattle.std.proofs.Common.{◌≡◌, ℕ, List, None, refl, sym, ◌∙◌, ap, subst}
 use Rattle.std.specs.Prelude.{IfOk, Result, Ok, Err, ◌↔◌, All}
 use Rattle.std.proofs.lemmas.Result.{IfOk-weaker}
-use Rattle.wcnf.specs.Literal.{Assignment}
-use Rattle.wcnf.specs.Clause.{Satisfies}
-use Rattle.wcnf.specs.Formula.{Cnf, IsUnsatisfiable}
-use Rattle.wcnf.specs.Problem.{Problem, IsFeasible}
+use Rattle.cnf.specs.Literal.{Assignment}
+use Rattle.cnf.specs.Clause.{Satisfies}
+use Rattle.cnf.specs.Formula.{Cnf, IsUnsatisfiable}
+use Rattle.cnf.specs.Problem.{Problem, IsFeasible}
 use Rattle.wcnf.specs.Wcnf.{Reads}
 use Rattle.wcnf.proofs.Laws.{reading_is_right}
 use Rattle.adder.specs.declared.cells.Profile.{Profile}
 use Rattle.bound.specs.Bound.{hard_cnf, bound_as, SaysCheaper}
-use Rattle.result_read.specs.declared.report.Report.{Report as ReadReport}
-use Rattle.result_read.specs.declared.report.Solution.{Solution}
-use Rattle.result_read.specs.declared.report.Said.TheVariants.{Optimum, Unsat}
+use Rattle.lrat_result.specs.declared.report.Report.{Report as ReadReport}
+use Rattle.lrat_result.specs.declared.report.Solution.{Solution}
+use Rattle.lrat_result.specs.declared.report.Said.TheVariants.{Optimum, Unsat}
 use Rattle.lrat_check.specs.declared.verdicts.Verdict.{Verdict}
 use Rattle.lrat_check.specs.declared.verdicts.Verdict.TheVariants.{Yes, No}
 use Rattle.lrat_check.specs.declared.verdicts.Cause.TheVariants.{ResultForm}
-use Rattle.result_read.specs.Result.{Report, OptimumFound, report_of}
-use Rattle.result_read.specs.Report.{reported}
+use Rattle.lrat_result.specs.Result.{Report, OptimumFound, report_of}
+use Rattle.lrat_result.specs.Report.{reported}
 use Rattle.lrat_check.specs.Checks.{HasCost, IsTrueOf, IsTrueResult}
 use Rattle.lrat_check.specs.Verdict.{proof_verdict, said_verdict, bits_fault, verdict_as}
 use Rattle.lrat_check.proofs.Checked.{optimum_goes, no_report, on_report}

@@ -1,7 +1,7 @@
 -- What is left to check of texts: with a certificate it gives the verdict, and what it shows.
 use Rattle.std.proofs.Common.{◌≡◌, ℕ, List, Option, Some, None, subst}
 use Rattle.std.specs.Prelude.{IfSome}
-use Rattle.wcnf.specs.Formula.{Cnf, IsUnsatisfiable}
+use Rattle.cnf.specs.Formula.{Cnf, IsUnsatisfiable}
 use Rattle.lrat_check.specs.declared.checking.Left.{Left}
 use Rattle.lrat_check.specs.declared.checking.Left.TheVariants.{Nothing, Proof}
 use Rattle.lrat_check.specs.declared.verdicts.Verdict.{Verdict}

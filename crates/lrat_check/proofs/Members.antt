@@ -5,9 +5,9 @@ use Rattle.std.proofs.lemmas.Bool.{or_cases, or_parts, or_from, or_left, or_righ
 use Rattle.std.proofs.lemmas.Bool.{false_from_ne_true}
 use Rattle.std.proofs.lemmas.List.Folds.{list_any-append}
 use Rattle.std.proofs.lemmas.List.Elements.{All-head, All-tail}
-use Rattle.wcnf.specs.Literal.{Literal, negation, literal_eq}
-use Rattle.wcnf.specs.Clause.{contains_literal, has_repeat, has_opposites}
-use Rattle.wcnf.proofs.Laws.{literal_eq-refl, literal_eq-true, negation_twice}
+use Rattle.cnf.specs.Literal.{Literal, negation, literal_eq}
+use Rattle.cnf.specs.Clause.{contains_literal, has_repeat, has_opposites}
+use Rattle.cnf.proofs.Laws.{literal_eq-refl, literal_eq-true, negation_twice}
 use Rattle.lrat_check.specs.Assumed.{AreWithin}
 use Rattle.lrat_check.specs.Steps.{HaveSame}
 

@@ -7,9 +7,9 @@ use Rattle.std.specs.Prelude.{slice_get}
 use Rattle.std.proofs.lemmas.List.{take_more, map-append, length-map}
 use Rattle.std.proofs.lemmas.Bool.{or_left, or_right}
 use Rattle.std.proofs.lemmas.List.Elements.{All-push, All-weaker}
-use Rattle.wcnf.specs.Literal.{Literal, negation}
-use Rattle.wcnf.specs.Clause.{contains_literal, has_repeat, has_opposites}
-use Rattle.wcnf.specs.Lrat.{Live, CandidateHints}
+use Rattle.cnf.specs.Literal.{Literal, negation}
+use Rattle.cnf.specs.Clause.{contains_literal, has_repeat, has_opposites}
+use Rattle.cnf.specs.Lrat.{Live, CandidateHints}
 use Rattle.lrat_read.specs.Form.{leading, groups_of}
 use Rattle.lrat_check.specs.Assumed.{AreWithin}
 use Rattle.lrat_check.specs.declared.verdicts.Cause.TheVariants.{HintAfterConflict, Candidates}
@@ -17,7 +17,7 @@ use Rattle.lrat_check.specs.declared.hints.Walked.{Walked}
 use Rattle.lrat_live.specs.Listed.{same_ids}
 use Rattle.lrat_check.specs.Verdict.{Open, Refuted, walk, ids_with, groups_fault, clause_fault}
 use Rattle.lrat_check.specs.Steps.{EndAlike, walked_as}
-use Rattle.wcnf.proofs.Laws.{negation_twice}
+use Rattle.cnf.proofs.Laws.{negation_twice}
 use Rattle.lrat_check.proofs.Members.{contains-negations, has_repeat-push, has_opposites-push}
 use Rattle.lrat_check.proofs.Members.{repeat_at, opposite_at}
 use Rattle.lrat_check.proofs.Alike.{clause_fault-alike}

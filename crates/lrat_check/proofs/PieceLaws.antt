@@ -10,10 +10,10 @@ use Rattle.std.proofs.lemmas.List.Splits.{slice_split_at, length-slice_split}
 use Rattle.std.proofs.lemmas.List.Elements.{All-append, All-nil}
 use Rattle.std.specs.Prelude.{IfSome, IfOk, Result, Ok, Err, ◌↔◌}
 use Rattle.std.specs.Io.KnownBytes.{Consumes, IsAtEnd}
-use Rattle.wcnf.specs.Literal.{Literal}
-use Rattle.wcnf.specs.Formula.{Cnf, IsFormula}
-use Rattle.wcnf.specs.Text.{tokens_of, token_lines, IsNoFeed, IsFirstFeed}
-use Rattle.wcnf.proofs.Laws.{lines-last, parts-cons}
+use Rattle.cnf.specs.Literal.{Literal}
+use Rattle.cnf.specs.Formula.{Cnf, IsFormula}
+use Rattle.text.specs.Text.{tokens_of, token_lines, IsNoFeed, IsFirstFeed}
+use Rattle.text.proofs.Laws.{lines-last, parts-cons}
 use Rattle.lrat_check.specs.declared.verdicts.Verdict.{Verdict}
 use Rattle.lrat_check.specs.declared.verdicts.Verdict.TheVariants.{Yes}
 use Rattle.lrat_check.specs.Checks.{IsProofOver}

@@ -5,13 +5,15 @@ use Rattle.std.specs.Prelude.{◌↔◌, All, filter}
 use Rattle.std.specs.List.{AllByRecursion}
 use Rattle.std.proofs.lemmas.Bool.{false≢true, true≢false}
 use Rattle.std.proofs.lemmas.List.Elements.{All-from_recursion, recursion_from_All, All-weaker}
-use Rattle.wcnf.specs.Literal.{Literal}
-use Rattle.wcnf.specs.Clause.{has_repeat}
-use Rattle.wcnf.specs.Formula.{Cnf, IsFormula, IsFormulaClause}
-use Rattle.wcnf.specs.Text.{token_lines}
-use Rattle.wcnf.specs.Lrat.{ProofLine, Addition as AddsLine, Deletion as DeletesLine, line_tokens}
-use Rattle.wcnf.specs.Lrat.{HasNumbers, has_tokens, Live, start_of, with_clause, Step, Chain}
-use Rattle.wcnf.specs.Lrat.{adds_empty, AcceptsFrom}
+use Rattle.cnf.specs.Literal.{Literal}
+use Rattle.cnf.specs.Clause.{has_repeat}
+use Rattle.cnf.specs.Formula.{Cnf, IsFormula, IsFormulaClause}
+use Rattle.text.specs.Text.{token_lines}
+use Rattle.cnf.specs.Lrat.{ProofLine, Addition as AddsLine, Deletion as DeletesLine}
+use Rattle.text.specs.LratText.{line_tokens}
+use Rattle.text.specs.LratText.{HasNumbers, has_tokens}
+use Rattle.cnf.specs.Lrat.{Live, start_of, with_clause, Step, Chain}
+use Rattle.cnf.specs.Lrat.{adds_empty, AcceptsFrom}
 use Rattle.lrat_check.specs.Checks.{IsProofOver}
 use Rattle.lrat_check.specs.declared.verdicts.Cause.{Cause}
 use Rattle.lrat_check.specs.declared.verdicts.Cause.TheVariants.{LineForm, DeadId}

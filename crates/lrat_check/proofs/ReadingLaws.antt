@@ -4,8 +4,8 @@ use Rattle.std.proofs.Common.{◌++◌, length, replicate, Option, Some, None, r
 use Rattle.std.proofs.Common.{subst}
 use Rattle.std.proofs.Common.{arith, append_assoc, length-append}
 use Rattle.std.specs.Str.Lines.{strip_carriage_return}
-use Rattle.wcnf.specs.Lrat.{Live}
-use Rattle.wcnf.specs.Text.{token_lines, tokens_of}
+use Rattle.cnf.specs.Lrat.{Live}
+use Rattle.text.specs.Text.{token_lines, tokens_of}
 use Rattle.lrat_read.specs.Batch.{AreRead, IsFirstRead}
 use Rattle.lrat_read.specs.Blanks.{no_tokens}
 use Rattle.lrat_read.specs.Reader.{IsReadAs}

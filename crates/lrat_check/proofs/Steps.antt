@@ -11,14 +11,14 @@ use Rattle.std.proofs.lemmas.Bool.{lt-leb, cond-true, cond-false}
 use Rattle.std.proofs.lemmas.Option.{slice_get_past}
 use Rattle.std.proofs.lemmas.List.Elements.{All-head, All-tail}
 use Rattle.std.proofs.lemmas.Map.Keys.{IsDistinct-head, IsDistinct-tail, IsDistinct-cons}
-use Rattle.wcnf.specs.Formula.{numbered}
-use Rattle.wcnf.specs.Literal.{Literal, negation}
-use Rattle.wcnf.specs.Clause.{contains_literal, without_literal, has_repeat, has_opposites}
-use Rattle.wcnf.specs.Clause.{greatest_variable}
-use Rattle.wcnf.specs.Refute.{Clauses}
-use Rattle.wcnf.specs.Lrat.{CandidateHints, Deletion as DeletesLine, Live}
-use Rattle.wcnf.specs.Lrat.{start_of, with_clause, without_ids, IsAddable, HoldsForCandidate}
-use Rattle.wcnf.specs.Lrat.{candidates_of, IsRat, IsRup, Step}
+use Rattle.cnf.specs.Formula.{numbered}
+use Rattle.cnf.specs.Literal.{Literal, negation}
+use Rattle.cnf.specs.Clause.{contains_literal, without_literal, has_repeat, has_opposites}
+use Rattle.cnf.specs.Clause.{greatest_variable}
+use Rattle.cnf.specs.Refute.{Clauses}
+use Rattle.cnf.specs.Lrat.{CandidateHints, Deletion as DeletesLine, Live}
+use Rattle.cnf.specs.Lrat.{start_of, with_clause, without_ids, IsAddable, HoldsForCandidate}
+use Rattle.cnf.specs.Lrat.{candidates_of, IsRat, IsRup, Step}
 use Rattle.lrat_check.specs.declared.verdicts.Cause.{Cause}
 use Rattle.lrat_check.specs.declared.verdicts.Cause.TheVariants.{IdOrder, DeadId, HintAfterConflict}
 use Rattle.lrat_check.specs.declared.verdicts.Cause.TheVariants.{Candidates, ClauseForm}

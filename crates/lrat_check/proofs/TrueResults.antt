@@ -1,18 +1,18 @@
 -- What a result says is so, where its certificate was accepted.
 use Rattle.std.proofs.Common.{◌≡◌, ℕ, ◌<◌, ◌≤◌, Bool, List, sym, ◌∙◌, ap, subst, arith}
 use Rattle.std.specs.Prelude.{◌↔◌, All, Ok}
-use Rattle.wcnf.specs.Literal.{Assignment}
-use Rattle.wcnf.specs.Bits.{Extends}
-use Rattle.wcnf.specs.Clause.{Satisfies}
-use Rattle.wcnf.specs.Formula.{IsUnsatisfiable}
-use Rattle.wcnf.specs.Problem.{Problem, IsFeasible, cost_under, IsOptimal, IsInconsistent}
+use Rattle.cnf.specs.Literal.{Assignment}
+use Rattle.cnf.specs.Bits.{Extends}
+use Rattle.cnf.specs.Clause.{Satisfies}
+use Rattle.cnf.specs.Formula.{IsUnsatisfiable}
+use Rattle.cnf.specs.Problem.{Problem, IsFeasible, cost_under, IsOptimal, IsInconsistent}
 use Rattle.wcnf.specs.Wcnf.{Reads}
 use Rattle.wcnf.proofs.Laws.{reads_one}
 use Rattle.adder.specs.declared.cells.Profile.{Profile}
 use Rattle.bound.specs.Bound.{hard_cnf, bound_as, SaysCheaper}
-use Rattle.result_read.specs.Result.{Said, Report, Says, report_of}
+use Rattle.lrat_result.specs.Result.{Said, Report, Says, report_of}
 use Rattle.lrat_check.specs.Checks.{HasCost, IsTrueOf, IsTrueResult}
-use Rattle.result_read.proofs.Laws.{report_from_says}
+use Rattle.lrat_result.proofs.Laws.{report_from_says}
 
 not_cheaper : (profile : Profile) (p : Problem) (c : ℕ) → SaysCheaper profile p c
     → IsUnsatisfiable (bound_as profile p c).clauses → (u : Assignment) → IsFeasible p u

@@ -4,10 +4,10 @@ use Rattle.std.proofs.Common.{◌⊎◌, inl, inr, refl, sym, ◌∙◌, ap, sub
 use Rattle.std.proofs.Math.Bool.{cond}
 use Rattle.std.specs.List.{AllByRecursion}
 use Rattle.std.proofs.lemmas.Bool.{or_cases, or_parts, or_left, or_right, both_ways, false≢true}
-use Rattle.wcnf.specs.Literal.{Literal, negation, literal_eq}
-use Rattle.wcnf.specs.Clause.{contains_literal, has_repeat}
-use Rattle.wcnf.specs.Refute.{IsUnit, IsFalseUnder, Clauses, Leads, Refutes}
-use Rattle.wcnf.proofs.Laws.{literal_eq-refl, literal_eq-true}
+use Rattle.cnf.specs.Literal.{Literal, negation, literal_eq}
+use Rattle.cnf.specs.Clause.{contains_literal, has_repeat}
+use Rattle.cnf.specs.Refute.{IsUnit, IsFalseUnder, Clauses, Leads, Refutes}
+use Rattle.cnf.proofs.Laws.{literal_eq-refl, literal_eq-true}
 use Rattle.lrat_check.specs.Verdict.{Walk, Open, Refuted, Outcome, Dead, NotUnit, Conflict, Makes}
 use Rattle.lrat_check.specs.Verdict.{open_literals, outcome_of, goes_on, walk}
 

@@ -1,8 +1,8 @@
 -- What a verdict on a whole certificate means.
 use Rattle.std.proofs.Common.{◌≡◌, ℕ, List, sym, subst}
 use Rattle.std.specs.Prelude.{◌↔◌}
-use Rattle.wcnf.specs.Formula.{Cnf, IsFormula, IsUnsatisfiable}
-use Rattle.wcnf.proofs.Laws.{certificate_sound}
+use Rattle.cnf.specs.Formula.{Cnf, IsFormula, IsUnsatisfiable}
+use Rattle.cnf.proofs.Laws.{certificate_sound}
 use Rattle.lrat_check.specs.Checks.{IsProofOver}
 use Rattle.lrat_check.specs.declared.verdicts.Verdict.{Verdict}
 use Rattle.lrat_check.specs.declared.verdicts.Verdict.TheVariants.{Yes}

@@ -1,8 +1,8 @@
 -- The literals that are assumed true: as a trail, and as a table of each literal's value.
 use Rattle.std.specs.Prelude.{◌≡◌, ℕ, ◌*◌, ◌<◌, ◌≤◌, ◌^◌, Bool, false, List, length, slice_index_or}
 use Rattle.std.specs.Prelude.{All}
-use Rattle.wcnf.specs.Literal.{Literal, index_of}
-use Rattle.wcnf.specs.Clause.{contains_literal, has_repeat}
+use Rattle.cnf.specs.Literal.{Literal, index_of}
+use Rattle.cnf.specs.Clause.{contains_literal, has_repeat}
 
 -- the literals in the order in which they were assumed, and the greatest variable that may be
 pub record AssumedState : Type 0 where

@@ -1,14 +1,15 @@
 -- What a result and a certificate must be, for an instance.
 use Rattle.std.specs.Prelude.{◌≡◌, ℕ, Bool, List, length}
-use Rattle.wcnf.specs.Literal.{Literal, Assignment}
-use Rattle.wcnf.specs.Bits.{Extends, assignment_of}
-use Rattle.wcnf.specs.Problem.{Problem, IsFeasible, cost_under, IsOptimal, IsInconsistent}
+use Rattle.cnf.specs.Literal.{Literal, Assignment}
+use Rattle.cnf.specs.Bits.{Extends, assignment_of}
+use Rattle.cnf.specs.Problem.{Problem, IsFeasible, cost_under, IsOptimal, IsInconsistent}
 use Rattle.wcnf.specs.Wcnf.{Reads}
-use Rattle.wcnf.specs.Lrat.{ProofLine, IsTextOf, Accepts}
+use Rattle.cnf.specs.Lrat.{ProofLine, Accepts}
+use Rattle.text.specs.LratText.{IsTextOf}
 use Rattle.adder.specs.declared.cells.Profile.{Profile}
 use Rattle.adder.specs.declared.cells.Profile.TheVariants.{One}
 use Rattle.bound.specs.Bound.{hard_cnf, bound_as}
-use Rattle.result_read.specs.Result.{Said, OptimumFound, Unsatisfiable, Satisfiable, Unknown, Says}
+use Rattle.lrat_result.specs.Result.{Said, OptimumFound, Unsatisfiable, Satisfiable, Unknown, Says}
 
 -- the proof is accepted over these clauses
 abbrev pub IsProofOver : List (List Literal) → List ℕ → Type 0

@@ -1,6 +1,6 @@
 -- What is left to check of a text and a result, before the certificate is read.
 use Rattle.std.specs.Prelude.{◌≡◌, ℕ, List}
-use Rattle.wcnf.specs.Formula.{IsUnsatisfiable}
+use Rattle.cnf.specs.Formula.{IsUnsatisfiable}
 use Rattle.lrat_check.specs.declared.checking.Left.{Left}
 use Rattle.lrat_check.specs.declared.checking.Left.TheVariants.{Nothing, Proof}
 use Rattle.lrat_check.specs.declared.verdicts.Verdict.{Verdict}

@@ -1,7 +1,7 @@
 -- What the checker knows after some lines, and the verdict where further lines follow.
 use Rattle.std.specs.Prelude.{◌≡◌, ℕ, ◌+◌, Bool, List, ◌∷◌, Option, MatchOption}
-use Rattle.wcnf.specs.Literal.{Literal}
-use Rattle.wcnf.specs.Lrat.{Live}
+use Rattle.cnf.specs.Literal.{Literal}
+use Rattle.cnf.specs.Lrat.{Live}
 use Rattle.lrat_live.specs.Listed.{listed_at}
 use Rattle.lrat_check.specs.Verdict.{verdict_on}
 use Rattle.lrat_check.specs.declared.verdicts.Cause.{Cause}

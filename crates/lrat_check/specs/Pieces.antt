@@ -1,8 +1,8 @@
 -- A checker that is handed the certificate in pieces.
 use Rattle.std.specs.Prelude.{◌≡◌, ℕ, Bool, List, [], ◌∷◌, ◌++◌, length, Option, Some, None, ◌⊎◌}
 use Rattle.std.specs.Prelude.{IfSome}
-use Rattle.wcnf.specs.Literal.{Literal}
-use Rattle.wcnf.specs.Text.{token_lines, tokens_of, IsNoFeed}
+use Rattle.cnf.specs.Literal.{Literal}
+use Rattle.text.specs.Text.{token_lines, tokens_of, IsNoFeed}
 use Rattle.lrat_read.specs.declared.line.ReadLine.{ReadLine}
 use Rattle.lrat_read.specs.Batch.{AreRead}
 use Rattle.lrat_check.specs.declared.verdicts.Cause.{Cause}

@@ -2,10 +2,10 @@
 use Rattle.std.specs.Prelude.{◌≡◌, ℕ, ◌<◌, ◌≤◌, Bool, false, List, [], ◌∷◌, ◌++◌, length, nat_eq}
 use Rattle.std.specs.Prelude.{◌+◌, Option, Some, None, map, drop}
 use Rattle.std.specs.Prelude.{All}
-use Rattle.wcnf.specs.Literal.{Literal}
-pub use Rattle.wcnf.specs.Clause.{HaveSame}
-use Rattle.wcnf.specs.Lrat.{Live}
-use Rattle.wcnf.specs.Refute.{Clauses}
+use Rattle.cnf.specs.Literal.{Literal}
+pub use Rattle.cnf.specs.Clause.{HaveSame}
+use Rattle.cnf.specs.Lrat.{Live}
+use Rattle.cnf.specs.Refute.{Clauses}
 use Rattle.lrat_check.specs.Assumed.{AreWithin}
 use Rattle.lrat_live.specs.Listed.{listed_at, IsRising}
 use Rattle.lrat_check.specs.declared.verdicts.Cause.{Cause}

@@ -4,23 +4,23 @@ use Rattle.std.specs.Prelude.{◌≡◌, ℕ, zero, suc, ◌+◌, Bool, true, fa
 use Rattle.std.specs.Prelude.{◌∷◌, ◌++◌, length, map, filter, Option, Some, None, Result, Ok, Err}
 use Rattle.std.specs.Prelude.{is_some, nat_le, ◌==◌, if◌then◌else◌, ◌↔◌, All}
 use Rattle.std.specs.List.{list_any, list_all}
-use Rattle.wcnf.specs.Literal.{Literal, negation}
-use Rattle.wcnf.specs.Clause.{clause_value, contains_literal, without_literal, has_repeat}
-use Rattle.wcnf.specs.Clause.{has_opposites}
-use Rattle.wcnf.specs.Text.{token_lines}
-use Rattle.wcnf.specs.Problem.{Problem, cost_under}
+use Rattle.cnf.specs.Literal.{Literal, negation}
+use Rattle.cnf.specs.Clause.{clause_value, contains_literal, without_literal, has_repeat}
+use Rattle.cnf.specs.Clause.{has_opposites}
+use Rattle.text.specs.Text.{token_lines}
+use Rattle.cnf.specs.Problem.{Problem, cost_under}
 use Rattle.wcnf.specs.declared.faults.FaultKind.{FaultKind}
 use Rattle.wcnf.specs.Reading.{reading_of}
-use Rattle.wcnf.specs.Bits.{assignment_of}
-use Rattle.wcnf.specs.Refute.{Clauses}
-use Rattle.wcnf.specs.Lrat.{Live, CandidateHints, start_of, with_clause}
+use Rattle.cnf.specs.Bits.{assignment_of}
+use Rattle.cnf.specs.Refute.{Clauses}
+use Rattle.cnf.specs.Lrat.{Live, CandidateHints, start_of, with_clause}
 use Rattle.adder.specs.declared.cells.Profile.{Profile}
 use Rattle.adder.specs.declared.cells.Profile.TheVariants.{One}
 use Rattle.bound.specs.Bound.{hard_cnf, bound_as}
 use Rattle.lrat_read.specs.Form.{Parsed, Addition, Deletion, Malformed, line_of, leading, groups_of}
 use Rattle.lrat_live.specs.Listed.{same_ids}
-use Rattle.result_read.specs.Result.{Said, OptimumFound, Unsatisfiable, Satisfiable, Unknown}
-use Rattle.result_read.specs.Result.{Report, report_of}
+use Rattle.lrat_result.specs.Result.{Said, OptimumFound, Unsatisfiable, Satisfiable, Unknown}
+use Rattle.lrat_result.specs.Result.{Report, report_of}
 use Rattle.lrat_check.specs.Checks.{IsProofOver, ChecksAs}
 use Rattle.lrat_check.specs.declared.verdicts.Cause.{Cause}
 use Rattle.lrat_check.specs.declared.verdicts.Cause.TheVariants.{Text, ResultForm, BitsLength}

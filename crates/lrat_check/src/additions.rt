@@ -2,8 +2,8 @@
 // literal are refuted each by hints of their own (RAT).
 ghost use Rattle.std.specs.Prelude.{◌≡◌, ℕ, ◌<◌, ◌≤◌, true, false, not, ◌||◌, [], Some, None, IfOk};
 ghost use Rattle.std.specs.Prelude.{map, if◌then◌else◌};
-ghost use Rattle.wcnf.specs.Literal.{negation};
-ghost use Rattle.wcnf.specs.Clause.{has_repeat, has_opposites};
+ghost use Rattle.cnf.specs.Literal.{negation};
+ghost use Rattle.cnf.specs.Clause.{has_repeat, has_opposites};
 ghost use Rattle.lrat_check.specs.Assumed.{AreWithin};
 ghost use Rattle.lrat_check.specs.Steps.{IsBase, live_of, IsFaultOf};
 ghost use Rattle.lrat_check.specs.Verdict.{clause_fault, walk as walk_of};
@@ -17,7 +17,7 @@ use crate::verdicts::Cause;
 use lrat_read::line::Line;
 use lrat_read::types::SignedId;
 use std::alloc::AllocError;
-use wcnf::types::Lit;
+use cnf::types::Lit;
 
 /// Assumes the negation of each literal; false where a literal stands twice or with its negation.
 pub(crate) fn assume_negations(clause: &[Lit], assumed: &mut Assumed) -> Result<bool, AllocError>

@@ -2,12 +2,12 @@
 // list of those that are undoes them, so that the table is never cleared as a whole.
 ghost use Rattle.std.specs.Prelude.{◌≡◌, ℕ, ◌<◌, ◌≤◌, ◌^◌, ◌∷◌, [], ◌++◌, false, OnOk, OnErr};
 ghost use Rattle.std.specs.Prelude.{length, take};
-ghost use Rattle.wcnf.specs.Clause.{contains_literal};
+ghost use Rattle.cnf.specs.Clause.{contains_literal};
 ghost use Rattle.lrat_check.specs.Assumed.{AreValues};
 
 use std::alloc::{AllocError, Global};
 use std::marker::Model;
-use wcnf::types::Lit;
+use cnf::types::Lit;
 
 /// The literals that are assumed true, in the order in which they were assumed.
 #[derive(Drop)]

@@ -1,8 +1,8 @@
 //! Whole certificates over a formula.
 ghost use Rattle.std.specs.Prelude.{◌≡◌, [], IfOk, ◌↔◌, List};
-ghost use Rattle.wcnf.specs.Literal.{Literal};
-ghost use Rattle.wcnf.specs.Formula.{IsUnsatisfiable};
-ghost use Rattle.wcnf.specs.Lrat.{ProofLine, Accepts};
+ghost use Rattle.cnf.specs.Literal.{Literal};
+ghost use Rattle.cnf.specs.Formula.{IsUnsatisfiable};
+ghost use Rattle.cnf.specs.Lrat.{ProofLine, Accepts};
 ghost use Rattle.lrat_check.specs.Checks.{IsProofOver};
 ghost use Rattle.lrat_check.specs.Pieces.{Stands};
 ghost use Rattle.lrat_check.specs.Verdict.{proof_verdict};
@@ -10,7 +10,7 @@ ghost use Rattle.lrat_check.specs.Verdict.{proof_verdict};
 use crate::pieces::Checker;
 use crate::verdicts::Verdict;
 use std::alloc::AllocError;
-use wcnf::types::Formula;
+use cnf::types::Formula;
 
 /// Whether the proof, an LRAT certificate over the formula's clauses under the ids from 1, shows
 /// that they have no common solution (Cruz-Filipe et al. 2017). The first fault decides, with the

@@ -2,8 +2,8 @@
 //! from that text: of the certificate, only the refutation is read. The result is a text too, which
 //! is called the answer here, since in a contract `result` is what a function returns.
 ghost use Rattle.std.specs.Prelude.{◌≡◌, ℕ, List, IfOk, IfSome, ◌↔◌, None};
-ghost use Rattle.result_read.specs.Result.{Report as Reported};
-ghost use Rattle.result_read.specs.Report.{reported};
+ghost use Rattle.lrat_result.specs.Result.{Report as Reported};
+ghost use Rattle.lrat_result.specs.Report.{reported};
 ghost use Rattle.lrat_check.specs.Checks.{ChecksAs, IsTrueResult, IsTrueOf, HasCost};
 ghost use Rattle.lrat_check.specs.Verdict.{verdict_as, said_verdict, bits_fault};
 ghost use Rattle.lrat_check.specs.Left.{verdict_left, Shows};
@@ -13,13 +13,13 @@ use crate::streams::check_stream;
 use crate::verdicts::{Cause, CheckFault, Verdict};
 use adder::cells::Profile;
 use bound::formulas::{formula_as, hard_formula};
-use result_read::report::{Report, ReportFault, Said, Solution};
-use result_read::result::read_report;
+use lrat_result::report::{Report, ReportFault, Said, Solution};
+use lrat_result::result::read_report;
 use std::alloc::{AllocError, Global};
 use std::io::Read;
 use wcnf::faults::FaultKind;
 use wcnf::reading::read;
-use wcnf::types::{Formula, Instance};
+use cnf::types::{Formula, Instance};
 
 // What is left to check once the texts but the proof were read.
 #[derive(Drop)]

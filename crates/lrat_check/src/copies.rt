@@ -2,8 +2,8 @@
 ghost use Rattle.std.specs.Prelude.{◌≡◌, IfOk};
 
 use std::alloc::AllocError;
-use wcnf::clause_list::ClauseList;
-use wcnf::types::Formula;
+use cnf::clause_list::ClauseList;
+use cnf::types::Formula;
 
 /// The same formula in memory of its own.
 pub(crate) fn copy_formula(formula: &Formula) -> Result<Formula, AllocError>

@@ -8,12 +8,12 @@
 ghost use Rattle.std.specs.Prelude.{◌≡◌, ℕ, ◌+◌, ◌<◌, ◌≤◌, true, false, List, Some, IfOk};
 ghost use Rattle.std.specs.Prelude.{length, get_or, map, take, All, IfSome};
 ghost use Rattle.std.specs.Option.{option_copied};
-ghost use Rattle.wcnf.specs.Literal.{Literal};
+ghost use Rattle.cnf.specs.Literal.{Literal};
 ghost use Rattle.lrat_check.specs.Assumed.{AreWithin};
 ghost use Rattle.lrat_live.specs.Listed.{listed_at};
 ghost use Rattle.lrat_check.specs.Verdict.{outcome_of, of_walk, walk as walk_of};
 ghost use Rattle.lrat_check.specs.Steps.{outcome_as, walked_as, EndAlike, IsFollowed};
-ghost use Rattle.wcnf.specs.Refute.{Clauses};
+ghost use Rattle.cnf.specs.Refute.{Clauses};
 ghost use Rattle.lrat_read.specs.Form.{leading as leading_of};
 
 use crate::assumed::Assumed;
@@ -21,7 +21,7 @@ use crate::verdicts::Cause;
 use lrat_live::live::LiveClauses;
 use lrat_read::types::SignedId;
 use std::alloc::AllocError;
-use wcnf::types::Lit;
+use cnf::types::Lit;
 
 /// What a live clause does as a hint.
 #[derive(Clone, Copy, Debug, PartialEq, Eq, Drop)]

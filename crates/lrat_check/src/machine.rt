@@ -1,8 +1,8 @@
 // The checker between lines: what is live, and whether the empty clause was added.
 ghost use Rattle.std.specs.Prelude.{◌≡◌, ℕ, ◌+◌, ◌<◌, ◌^◌, List, [], ◌∷◌, ◌++◌, map, length, false};
 ghost use Rattle.std.specs.Prelude.{nat_eq, IfOk, OnErr, IsSome, MatchOption, Some, None};
-ghost use Rattle.wcnf.specs.Formula.{IsFormula};
-ghost use Rattle.wcnf.specs.Text.{tokens_of};
+ghost use Rattle.cnf.specs.Formula.{IsFormula};
+ghost use Rattle.text.specs.Text.{tokens_of};
 ghost use Rattle.lrat_live.specs.Listed.{listed_from};
 ghost use Rattle.lrat_check.specs.Machine.{MachineState, StepsTo, after_lines, verdict_after};
 ghost use Rattle.lrat_check.specs.Steps.{Adds, IsBase, IsFaultOf, live_of};
@@ -21,7 +21,7 @@ use lrat_read::reader::LineReader;
 use lrat_read::types::{Form, SignedId};
 use std::alloc::AllocError;
 use std::marker::Model;
-use wcnf::types::Formula;
+use cnf::types::Formula;
 
 /// Checks the lines of an LRAT certificate one after another (Cruz-Filipe et al. 2017). Between
 /// lines it is seen as the live clauses with their ids, the last id, whether the empty clause was

@@ -1,7 +1,7 @@
 //! A certificate in pieces.
 ghost use Rattle.std.specs.Prelude.{◌≡◌, ℕ, ◌+◌, ◌<◌, ◌^◌, true, false, List, [], ◌++◌, length};
 ghost use Rattle.std.specs.Prelude.{None, Err, IfOk, OnOk, IfSome, IsErr, IsOk, IsSome, ◌↔◌};
-ghost use Rattle.wcnf.specs.Literal.{Literal};
+ghost use Rattle.cnf.specs.Literal.{Literal};
 ghost use Rattle.lrat_check.specs.Pieces.{Stands};
 ghost use Rattle.lrat_check.specs.Verdict.{proof_verdict};
 
@@ -12,7 +12,7 @@ use crate::verdicts::{FeedFault, Verdict};
 use lrat_read::batch::Batch;
 use std::alloc::AllocError;
 use std::marker::Model;
-use wcnf::types::Formula;
+use cnf::types::Formula;
 
 /// Judges an LRAT certificate while it comes in, in pieces of any size (Cruz-Filipe et al. 2017). A
 /// line is judged once its line feed is there; what follows the last line feed is all of the text

@@ -2,8 +2,8 @@
 ghost use Rattle.std.specs.Prelude.{◌≡◌, ℕ, ◌++◌, Some, IfOk, OnOk, length, take, map, All};
 ghost use Rattle.std.specs.Prelude.{if◌then◌else◌};
 ghost use Rattle.std.specs.List.{list_any};
-ghost use Rattle.wcnf.specs.Literal.{negation};
-ghost use Rattle.wcnf.specs.Clause.{contains_literal, without_literal};
+ghost use Rattle.cnf.specs.Literal.{negation};
+ghost use Rattle.cnf.specs.Clause.{contains_literal, without_literal};
 ghost use Rattle.lrat_check.specs.Assumed.{AreWithin};
 ghost use Rattle.lrat_live.specs.Listed.{listed_at, same_ids};
 ghost use Rattle.lrat_check.specs.Steps.{IsBase, HaveSame};
@@ -18,7 +18,7 @@ use crate::verdicts::Cause;
 use lrat_live::live::LiveClauses;
 use lrat_read::types::SignedId;
 use std::alloc::AllocError;
-use wcnf::types::Lit;
+use cnf::types::Lit;
 
 /// The ids with a dash, in their order, in place of what ids held.
 fn candidates_of(hints: &[SignedId], ids: &mut Vec<u64>) -> Result<(), AllocError>

@@ -6,8 +6,8 @@
 // token are passed over.
 ghost use Rattle.std.specs.Prelude.{◌≡◌, ℕ, ◌+◌, ◌<◌, ◌≤◌, ◌^◌, ◌∷◌, ◌++◌, [], List, length, None};
 ghost use Rattle.std.specs.Prelude.{take, IfOk, OnOk, OnErr};
-ghost use Rattle.wcnf.specs.Literal.{Literal};
-ghost use Rattle.wcnf.specs.Text.{IsNoFeed, tokens_of};
+ghost use Rattle.cnf.specs.Literal.{Literal};
+ghost use Rattle.text.specs.Text.{IsNoFeed, tokens_of};
 ghost use Rattle.lrat_read.specs.Batch.{AreRead};
 ghost use Rattle.lrat_read.specs.Reader.{IsReadAs};
 ghost use Rattle.lrat_check.specs.Pieces.{Holds, Judges, JudgesLines};
@@ -19,7 +19,7 @@ use lrat_read::batch::Batch;
 use lrat_read::blanks::blank_lines;
 use lrat_read::line::ReadLine;
 use std::alloc::AllocError;
-use wcnf::pieces::{line_feed_at, without_return};
+use text::pieces::{line_feed_at, without_return};
 
 /// What the pieces so far leave.
 #[derive(Drop)]

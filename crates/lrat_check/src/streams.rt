@@ -1,15 +1,15 @@
 // A certificate that a reader gives.
 ghost use Rattle.std.specs.Prelude.{◌≡◌, ℕ, ◌+◌, ◌<◌, ◌^◌, [], ◌++◌, List, length, IfOk, IfErr};
 ghost use Rattle.std.specs.Prelude.{IfSome, OnOk};
-ghost use Rattle.wcnf.specs.Literal.{Literal};
-ghost use Rattle.wcnf.specs.Formula.{IsUnsatisfiable};
+ghost use Rattle.cnf.specs.Literal.{Literal};
+ghost use Rattle.cnf.specs.Formula.{IsUnsatisfiable};
 ghost use Rattle.lrat_check.specs.Pieces.{Stands, IsJudged};
 ghost use Rattle.lrat_check.specs.Verdict.{proof_verdict};
 
 use crate::pieces::Checker;
 use crate::verdicts::{CheckFault, Verdict};
 use std::io::Read;
-use wcnf::types::Formula;
+use cnf::types::Formula;
 
 /// As `check_owned`, with the certificate from a reader.
 pub(crate) fn check_stream<R: Read>(formula: Formula, proof: &mut R) -> Result<Verdict, CheckFault>

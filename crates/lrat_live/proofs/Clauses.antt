@@ -8,10 +8,10 @@ use Rattle.std.specs.List.Sorted.{IsStrictlyIncreasing}
 use Rattle.std.proofs.lemmas.Bool.{cases_Bool, eq-eqb, eqb-true, ne_eqb}
 use Rattle.std.proofs.lemmas.List.{take-append-drop, drop-drop, append_assoc}
 use lib.Seq.{paste}
-use Rattle.wcnf.specs.Numbers.{RisesFrom}
-use Rattle.wcnf.specs.Literal.{Literal}
-use Rattle.wcnf.proofs.Laws as laws
-use Rattle.wcnf.proofs.Laws.{Layout}
+use Rattle.cnf.specs.Numbers.{RisesFrom}
+use Rattle.cnf.specs.Literal.{Literal}
+use Rattle.cnf.proofs.Laws as laws
+use Rattle.cnf.proofs.Laws.{Layout}
 use Rattle.lrat_live.specs.Listed.{Listed, ids_of, listed_at, without_id}
 use Rattle.lrat_live.specs.Chains.{place_of}
 use Rattle.lrat_live.specs.Table.{Cell, keys_of, literals_of, clauses_in, AllLive, IsLaid}

@@ -12,15 +12,15 @@ use Rattle.std.proofs.lemmas.Bool.{cases_lt, ltb-true, lt-ltb, leb-true, le-leb,
 use Rattle.std.proofs.lemmas.Bool.{cond-true, cond-false, false_from_ne_true}
 use Rattle.std.proofs.lemmas.List.{drop_more, take_more, append-nil, map_push}
 use Rattle.std.proofs.lemmas.List.Elements.{All-head, All-tail}
-use Rattle.wcnf.specs.Numbers.{one_if}
-use Rattle.wcnf.specs.Literal.{Literal, literal_eq, same_bool, index_of}
-use Rattle.wcnf.specs.Clause.{contains_literal}
-use Rattle.wcnf.proofs.Laws.{literal_eq-true}
+use Rattle.cnf.specs.Numbers.{one_if}
+use Rattle.cnf.specs.Literal.{Literal, literal_eq, same_bool, index_of}
+use Rattle.cnf.specs.Clause.{contains_literal}
+use Rattle.cnf.proofs.Laws.{literal_eq-true}
 use Rattle.lrat_live.specs.Counts.{times_in, times, times_at, is_next, take_all, AreCounts}
 use Rattle.lrat_live.specs.Counts.{AreRaised, AreLowered}
 use Rattle.lrat_live.specs.Listed.{Listed, ids_of, ids_listed, listed_at, same_ids, without_id}
 use Rattle.lrat_live.proofs.Listed.{Rises}
-use Rattle.wcnf.proofs.Laws.{literal_eq-refl, index_same}
+use Rattle.cnf.proofs.Laws.{literal_eq-refl, index_same}
 use Rattle.lrat_live.proofs.Clauses.{clauses_live, clauses_dead, clauses-append}
 use Rattle.lrat_live.specs.Table.{cell_of, cells_of, clauses_in}
 use Rattle.lrat_live.specs.declared.entries.Entry.{Entry}

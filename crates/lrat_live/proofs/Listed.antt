@@ -11,8 +11,8 @@ use Rattle.std.proofs.lemmas.List.Elements.{All-nil, All-cons, All-head, All-tai
 use Rattle.std.proofs.lemmas.List.Kept.{AllPairs-from_increasing}
 use Rattle.std.specs.List.{AllPairs}
 use Rattle.std.proofs.lemmas.List.Elements.{recursion_from_All}
-use Rattle.wcnf.specs.Literal.{Literal}
-use Rattle.wcnf.specs.Formula.{numbered}
+use Rattle.cnf.specs.Literal.{Literal}
+use Rattle.cnf.specs.Formula.{numbered}
 use Rattle.lrat_live.specs.Listed.{Listed, ids_of, listed_at, listed_from, without_id, IsRising}
 
 -- each number is below all later ones

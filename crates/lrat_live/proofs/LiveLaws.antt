@@ -7,7 +7,7 @@ use Rattle.std.proofs.Math.Bool.{cond}
 use Rattle.std.specs.List.{AllByRecursion}
 use Rattle.std.proofs.lemmas.Bool.{cases_eq}
 use Rattle.std.proofs.lemmas.List.Elements.{All-nil, All-cons, All-head, All-tail}
-use Rattle.wcnf.specs.Literal.{Literal}
+use Rattle.cnf.specs.Literal.{Literal}
 use Rattle.lrat_live.specs.Listed.{Listed, ids_of, listed_at, without_id, IsRising}
 use Rattle.lrat_live.proofs.Listed.{Rises, listed_here, listed_there, rises_from}
 use Rattle.lrat_live.proofs.Listed.{increasing_from_rises}

@@ -3,7 +3,7 @@ use Rattle.std.proofs.Common.{◌≡◌, ℕ, ◌+◌, ◌<◌, ◌≤◌, true,
 use Rattle.std.proofs.Common.{None, refl, sym, ◌∙◌, ap, subst, arith}
 use Rattle.std.specs.Prelude.{slice_range, ◌==◌}
 use Rattle.std.proofs.lemmas.List.{get_or-map, length-map, map-set, set-get_or, length-set}
-use Rattle.wcnf.specs.Literal.{Literal}
+use Rattle.cnf.specs.Literal.{Literal}
 use Rattle.lrat_live.specs.Listed.{listed_at, without_id}
 use Rattle.lrat_live.specs.Chains.{place_of}
 use Rattle.lrat_live.specs.Table.{Cell, cell_of, cells_of, keys_of, nexts_of, clauses_in, IsTable}

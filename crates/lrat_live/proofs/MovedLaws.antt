@@ -4,7 +4,7 @@ use Rattle.std.proofs.Common.{drop, sym, ◌∙◌, ap, subst, arith}
 use borrow.Rule.Slice.PartMut.{put_mid}
 use Rattle.std.proofs.lemmas.List.{append-nil, drop_all, take_all, take_at, drop_at}
 use Rattle.std.proofs.lemmas.List.{take-take, take_rest, length-take-le, length-drop, length-append}
-use Rattle.wcnf.specs.Literal.{Literal}
+use Rattle.cnf.specs.Literal.{Literal}
 use Rattle.lrat_live.specs.Listed.{Listed}
 use Rattle.lrat_live.specs.Near.{Parts, spanned, given_in, recent_in, IsNear, AreSpread}
 use Rattle.lrat_live.specs.declared.spans.Span.{Span}

@@ -3,7 +3,7 @@ use Rattle.std.proofs.Common.{◌≡◌, ℕ, ◌+◌, ◌<◌, ◌≤◌, true,
 use Rattle.std.proofs.Common.{refl, sym, ◌∙◌, ap, subst, arith}
 use Rattle.std.proofs.lemmas.List.{get_or-map, length-map, map-set}
 use lib.Seq.{paste}
-use Rattle.wcnf.specs.Literal.{Literal}
+use Rattle.cnf.specs.Literal.{Literal}
 use Rattle.lrat_live.specs.Table.{Cell, cell_of, cells_of}
 use Rattle.lrat_live.specs.declared.entries.Entry.{Entry}
 use Rattle.lrat_live.proofs.Clauses.{IsCompacting, moved_within, compacting_dead, compacting_live}

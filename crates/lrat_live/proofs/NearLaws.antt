@@ -9,7 +9,7 @@ use Rattle.std.proofs.lemmas.List.{length-set, length-drop}
 use Rattle.std.proofs.lemmas.List.{drop-set-lt, drop-set-add}
 use Rattle.std.proofs.Math.Seq.{take-set-lt}
 use Rattle.std.proofs.Math.ListN.{get_or-eq_default}
-use Rattle.wcnf.specs.Literal.{Literal}
+use Rattle.cnf.specs.Literal.{Literal}
 use Rattle.lrat_live.specs.Listed.{listed_at, without_id}
 use Rattle.lrat_live.specs.Near.{is_live, nowhere, literals_at, spanned, given_in, recent_in}
 use Rattle.lrat_live.specs.Near.{IsPlace, IsNear}

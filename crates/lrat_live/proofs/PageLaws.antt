@@ -6,7 +6,7 @@ use Rattle.std.proofs.lemmas.Bool.{eq-eqb, ne_eqb, cases_eq, cases_lt}
 use Rattle.std.proofs.Math.ListN.{get_or-eq_default}
 use Rattle.std.proofs.lemmas.List.{get_or-set_same, get_or-set_other, get_or-map, map-set}
 use Rattle.std.proofs.lemmas.List.{length-map}
-use Rattle.wcnf.specs.Numbers.{one_if}
+use Rattle.cnf.specs.Numbers.{one_if}
 use Rattle.lrat_live.specs.Pages.{count_in}
 
 -- numbers

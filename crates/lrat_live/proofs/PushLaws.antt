@@ -8,7 +8,7 @@ use Rattle.std.proofs.lemmas.List.{take-append-le, drop-append-le, drop-take, ta
 use Rattle.std.proofs.lemmas.List.{length-take-le, length-drop, length-append, length-replicate}
 use Rattle.std.proofs.lemmas.List.{take_all, drop_all, append-nil}
 use Rattle.std.proofs.Math.Seq.{take-append_seam, drop-append_seam}
-use Rattle.wcnf.specs.Literal.{Literal}
+use Rattle.cnf.specs.Literal.{Literal}
 use Rattle.lrat_live.specs.Listed.{listed_from}
 use Rattle.lrat_live.specs.Near.{is_live, nowhere, literals_at, spanned, spans_from, AreSpread}
 use Rattle.lrat_live.specs.Near.{AreWithin, padded, given_in, recent_in, IsNear}

@@ -9,7 +9,7 @@ use Rattle.std.proofs.lemmas.List.Elements.{All-head, All-tail}
 use Rattle.std.proofs.lemmas.List.{take-take, drop-drop, append-nil}
 use Rattle.std.proofs.lemmas.List.{take_more, length-take-le}
 use Rattle.std.proofs.lemmas.Slice.{between_is}
-use Rattle.wcnf.specs.Literal.{Literal}
+use Rattle.cnf.specs.Literal.{Literal}
 use Rattle.lrat_live.specs.Listed.{Listed, listed_at, without_id}
 use Rattle.lrat_live.specs.Near.{is_live, nowhere, literals_at, spanned, AreWithin, end_of}
 use Rattle.lrat_live.specs.Near.{AreSpread}

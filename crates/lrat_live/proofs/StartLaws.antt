@@ -9,7 +9,7 @@ use Rattle.std.proofs.lemmas.List.{length-append, drop-drop, take_more}
 use Rattle.std.proofs.lemmas.Grind.{flat_map-append}
 use Rattle.std.proofs.lemmas.Option.{get_or_from_slice_get, slice_get_within}
 use Rattle.std.proofs.Math.Seq.{take-append_seam, drop-append_seam}
-use Rattle.wcnf.specs.Literal.{Literal}
+use Rattle.cnf.specs.Literal.{Literal}
 use Rattle.lrat_live.specs.Listed.{listed_from}
 use Rattle.lrat_live.specs.Near.{is_live, literals_at, spanned, spans_from, AreSpread}
 use Rattle.lrat_live.specs.declared.spans.Span.{Span}

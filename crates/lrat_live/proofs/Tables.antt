@@ -4,8 +4,8 @@ use Rattle.std.proofs.Common.{set, sym, ◌∙◌, ap, subst, arith}
 use Rattle.std.specs.Prelude.{All, slice_index}
 use Rattle.std.proofs.lemmas.List.{get_or-map, length-map, length-set, length-append, length_push}
 use Rattle.std.proofs.lemmas.List.{map_push, get_or_append_left, get_or_push}
-use Rattle.wcnf.specs.Numbers.{RisesFrom}
-use Rattle.wcnf.specs.Literal.{Literal}
+use Rattle.cnf.specs.Numbers.{RisesFrom}
+use Rattle.cnf.specs.Literal.{Literal}
 use Rattle.lrat_live.specs.Listed.{ids_of}
 use Rattle.lrat_live.specs.Chains.{bucket_of, IsChained}
 use Rattle.lrat_live.specs.Table.{Cell, cell_of, cells_of, keys_of, nexts_of, clauses_in, AllLive}

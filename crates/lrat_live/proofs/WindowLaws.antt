@@ -12,7 +12,7 @@ use Rattle.std.proofs.lemmas.List.{take-take}
 use Rattle.std.proofs.lemmas.List.Edits.{drop-paste, length-paste}
 use Rattle.std.proofs.lemmas.List.Elements.{All-nil, All-cons}
 use lib.Seq.{paste}
-use Rattle.wcnf.specs.Literal.{Literal}
+use Rattle.cnf.specs.Literal.{Literal}
 use Rattle.lrat_live.specs.Listed.{Listed, ids_of, IsRising}
 use Rattle.lrat_live.specs.Near.{is_live, literals_at, spanned, AreSpread}
 use Rattle.lrat_live.specs.Near.{AreWithin}

@@ -1,8 +1,8 @@
 -- How often literals stand in the live clauses, and the candidates of a RAT line by these counts.
 use Rattle.std.specs.Prelude.{◌≡◌, ℕ, ◌+◌, ◌-◌, ◌<◌, Bool, false, List, [], ◌∷◌, Option, Some, None}
 use Rattle.std.specs.Prelude.{nat_lt, nat_le, ◌==◌, ◌&&◌, if◌then◌else◌}
-use Rattle.wcnf.specs.Numbers.{one_if}
-use Rattle.wcnf.specs.Literal.{Literal, literal_eq, index_of}
+use Rattle.cnf.specs.Numbers.{one_if}
+use Rattle.cnf.specs.Literal.{Literal, literal_eq, index_of}
 use Rattle.lrat_live.specs.Listed.{listed_at}
 
 -- how often the literal stands in the clause

@@ -2,8 +2,8 @@
 use Rattle.std.specs.Prelude.{◌≡◌, ℕ, ◌+◌, ◌<◌, ◌≤◌, ◌^◌, Bool, true, List, [], ◌∷◌, map, length}
 use Rattle.std.specs.Prelude.{slice_index, slice_range, take, if◌then◌else◌}
 use Rattle.std.specs.List.{AllByRecursion}
-use Rattle.wcnf.specs.Numbers.{RisesFrom}
-use Rattle.wcnf.specs.Literal.{Literal}
+use Rattle.cnf.specs.Numbers.{RisesFrom}
+use Rattle.cnf.specs.Literal.{Literal}
 use Rattle.lrat_live.specs.Chains.{IsChained}
 use Rattle.lrat_live.specs.declared.entries.Entry.{Entry}
 

@@ -4,7 +4,7 @@ ghost use Rattle.std.specs.Prelude.{◌≡◌, ℕ, List, ◌<◌, ◌≤◌, �
 ghost use Rattle.std.specs.Prelude.{All, IsTrue};
 ghost use Rattle.std.specs.Prelude.{IsSome, OnOk, OnErr};
 ghost use Rattle.std.specs.Option.{option_copied};
-ghost use Rattle.wcnf.specs.Literal.{Literal};
+ghost use Rattle.cnf.specs.Literal.{Literal};
 ghost use Rattle.lrat_live.specs.Counts.{AreCounts};
 ghost use Rattle.lrat_live.specs.Listed.{listed_at, without_id};
 ghost use Rattle.lrat_live.specs.Pages.{count_in};
@@ -16,7 +16,7 @@ use crate::pages::Counts;
 use crate::reclaim::reclaim;
 use std::alloc::{AllocError, Global};
 use std::marker::Model;
-use wcnf::types::Lit;
+use cnf::types::Lit;
 
 /// An entry takes as much memory as six literals.
 const ENTRY: usize = 6;
@@ -39,7 +39,7 @@ pub(crate) struct Added {
 
 impl Model for Added {
     ghost use Rattle.std.specs.Prelude.{ℕ, List};
-    ghost use Rattle.wcnf.specs.Literal.{Literal};
+    ghost use Rattle.cnf.specs.Literal.{Literal};
 
     ghost Value = { List (ℕ × List Literal) };
 

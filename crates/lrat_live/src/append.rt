@@ -5,7 +5,7 @@ ghost use Rattle.lrat_live.specs.Table.{IsAboveLast};
 
 use crate::entries::{Entry, bucket, grow};
 use std::alloc::AllocError;
-use wcnf::types::Lit;
+use cnf::types::Lit;
 
 /// There are at most so many literals and so many entries, that their places fit 32 bits.
 const MOST: usize = 4294967294;

@@ -1,7 +1,7 @@
 // How often each literal stands in the live clauses. Candidates that a RAT line names are all that
 // there are if they have the literal in as many places, so they need not be looked for.
 ghost use Rattle.std.specs.Prelude.{◌≡◌, ℕ, ◌<◌, ◌++◌, ◌∷◌, [], List, true, length, OnOk};
-ghost use Rattle.wcnf.specs.Literal.{Literal, index_of};
+ghost use Rattle.cnf.specs.Literal.{Literal, index_of};
 ghost use Rattle.lrat_live.specs.Counts.{times_in, is_next, AreCounts, AreRaised};
 ghost use Rattle.lrat_live.specs.Counts.{AreLowered};
 ghost use Rattle.lrat_live.specs.Pages.{count_in};
@@ -10,7 +10,7 @@ ghost use Rattle.lrat_live.specs.Table.{cells_of, clauses_in, IsLaid};
 use crate::entries::Entry;
 use crate::pages::Counts;
 use std::alloc::AllocError;
-use wcnf::types::Lit;
+use cnf::types::Lit;
 
 /// How often the literal stands in the clause.
 pub(crate) fn times_in(lit: Lit, clause: &[Lit]) -> usize

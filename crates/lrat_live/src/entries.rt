@@ -7,7 +7,7 @@
 // for each where nothing was taken back.
 ghost use Rattle.std.specs.Prelude.{◌≡◌, ℕ, ◌+◌, ◌-◌, ◌<◌, ◌≤◌, ◌^◌, length, MatchOption, OnOk};
 ghost use Rattle.std.specs.Prelude.{IsTrue, ◌↔◌, IfSome};
-ghost use Rattle.wcnf.specs.Numbers.{RisesFrom};
+ghost use Rattle.cnf.specs.Numbers.{RisesFrom};
 ghost use Rattle.lrat_live.specs.Chains.{folded, bucket_of, place_of, IsChained};
 ghost use Rattle.lrat_live.specs.Table.{cells_of, keys_of, nexts_of, IsAboveLast};
 

@@ -15,7 +15,7 @@ use crate::near::Near;
 use crate::pages::Counts;
 use std::alloc::AllocError;
 use std::marker::Model;
-use wcnf::types::{Formula, Lit};
+use cnf::types::{Formula, Lit};
 
 /// The live clauses of a certificate with their ids.
 #[derive(Drop)]
@@ -33,7 +33,7 @@ pub struct LiveClauses {
 
 impl Model for LiveClauses {
     ghost use Rattle.std.specs.Prelude.{◌≡◌, ◌++◌, ℕ, List, true};
-    ghost use Rattle.wcnf.specs.Literal.{Literal};
+    ghost use Rattle.cnf.specs.Literal.{Literal};
 
     ghost Value = { List (ℕ × List Literal) };
 

@@ -11,7 +11,7 @@ ghost use Rattle.std.specs.Prelude.{◌≡◌, ℕ, List, ◌+◌, ◌<◌, ◌�
 ghost use Rattle.std.specs.Prelude.{All, IfOk, IsTrue, IsSome, MatchOption, OnOk, OnErr};
 ghost use Rattle.std.specs.Prelude.{if◌then◌else◌};
 ghost use Rattle.std.specs.Option.{option_copied};
-ghost use Rattle.wcnf.specs.Literal.{Literal};
+ghost use Rattle.cnf.specs.Literal.{Literal};
 ghost use Rattle.lrat_live.specs.Counts.{AreCounts};
 ghost use Rattle.lrat_live.specs.Listed.{listed_at, listed_from, without_id, IsRising};
 ghost use Rattle.lrat_live.specs.Near.{given_in, recent_in, IsPlace};
@@ -23,7 +23,7 @@ use crate::spans::{DEAD, MOST, Span, count_live, is_live, literals_at, spans_of}
 use crate::window::{extend, move_on, place_for, squeeze};
 use std::alloc::AllocError;
 use std::marker::Model;
-use wcnf::types::{Formula, Lit};
+use cnf::types::{Formula, Lit};
 
 /// The clauses whose ids lead straight to their places.
 #[derive(Drop)]

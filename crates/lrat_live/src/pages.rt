@@ -3,7 +3,7 @@
 // of its literals is counted, and up to that one.
 ghost use Rattle.std.specs.Prelude.{◌≡◌, ℕ, ◌+◌, ◌-◌, ◌<◌, ◌^◌, ◌==◌, length, map, OnOk};
 ghost use Rattle.std.specs.Prelude.{slice_index};
-ghost use Rattle.wcnf.specs.Numbers.{one_if};
+ghost use Rattle.cnf.specs.Numbers.{one_if};
 ghost use Rattle.lrat_live.specs.Pages.{count_in};
 
 use std::alloc::{AllocError, Global};

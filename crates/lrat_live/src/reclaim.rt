@@ -4,7 +4,7 @@ ghost use lib.Seq.{paste};
 ghost use Rattle.lrat_live.specs.Table.{cells_of, clauses_in, IsLaid, IsTable, AllLive};
 
 use crate::entries::{Entry, link};
-use wcnf::types::Lit;
+use cnf::types::Lit;
 
 /// Drops the dead entries and their literals.
 pub(crate) fn compact(entries: &mut Vec<Entry>, lits: &mut Vec<Lit>)

@@ -2,7 +2,7 @@
 ghost use Rattle.std.specs.Prelude.{◌≡◌, ℕ, List, ◌∷◌, ◌+◌, ◌<◌, ◌≤◌, ◌^◌, ◌++◌, length};
 ghost use Rattle.std.specs.Prelude.{IfOk, OnOk};
 ghost use Rattle.std.specs.List.{flat_map};
-ghost use Rattle.wcnf.specs.Literal.{Literal};
+ghost use Rattle.cnf.specs.Literal.{Literal};
 ghost use Rattle.lrat_live.specs.Counts.{AreCounts};
 ghost use Rattle.lrat_live.specs.Near.{is_live, nowhere, literals_at, spanned, spans_from};
 ghost use Rattle.lrat_live.specs.Near.{AreWithin};
@@ -11,8 +11,8 @@ ghost use Rattle.lrat_live.specs.Pages.{count_in};
 use crate::counts::raise;
 use crate::pages::Counts;
 use std::alloc::AllocError;
-use wcnf::clause_list::ClauseList;
-use wcnf::types::Lit;
+use cnf::clause_list::ClauseList;
+use cnf::types::Lit;
 
 /// Where a clause's literals lie.
 #[derive(Clone, Copy, Drop)]

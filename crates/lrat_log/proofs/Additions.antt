@@ -4,7 +4,7 @@ use Rattle.std.proofs.Common.{length, map, inl, inr, sym, ◌∙◌, ap, arith}
 use Rattle.std.specs.Prelude.{if◌then◌else◌}
 use Rattle.std.proofs.lemmas.Bool.{cases_Bool}
 use Rattle.std.proofs.lemmas.List.Sums.{sum_by-cons, sum_by_push, count_by-le-length}
-use Rattle.wcnf.specs.Lrat.{Live, with_clause, without_ids}
+use Rattle.cnf.specs.Lrat.{Live, with_clause, without_ids}
 use Rattle.lrat_log.specs.Log.{LogLine, is_delete, id_of, name_of, numbered_line, numbered_on}
 use Rattle.lrat_log.specs.Steps.{live_after, added_count}
 

@@ -4,8 +4,8 @@ use Rattle.std.proofs.Common.{length, get_or, refl, sym, ◌∙◌, ap, subst, a
 use Rattle.std.proofs.Common.{length-append}
 use Rattle.std.specs.Prelude.{slice_range}
 use Rattle.std.proofs.lemmas.List.Elements.{All-append, All-cons, All-nil}
-use Rattle.wcnf.specs.Literal.{Literal}
-use Rattle.wcnf.proofs.Laws.{range-append, range-appended}
+use Rattle.cnf.specs.Literal.{Literal}
+use Rattle.cnf.proofs.Laws.{range-append, range-appended}
 use Rattle.lrat_log.specs.declared.lines.Hint.{Hint}
 use Rattle.lrat_log.specs.declared.log.Head.{Head}
 use Rattle.lrat_log.specs.Log.{LogLine, IsLine, IsLog, line_at}

@@ -5,8 +5,8 @@ use Rattle.std.specs.Prelude.{◌==◌}
 use Rattle.std.specs.List.{enumerate_from, slice_get}
 use Rattle.std.proofs.lemmas.Bool.{eq-eqb, ne_eqb, cond-true, cond-false}
 use Rattle.std.proofs.lemmas.Option.{none-some, slice_get_past, slice_get_within}
-use Rattle.wcnf.specs.Literal.{Literal}
-use Rattle.wcnf.specs.Formula.{numbered}
+use Rattle.cnf.specs.Literal.{Literal}
+use Rattle.cnf.specs.Formula.{numbered}
 use Rattle.lrat_log.specs.declared.lines.Name.TheVariants.{Formula, Added}
 use Rattle.lrat_log.specs.Log.{Given, given_at}
 use Rattle.lrat_log.specs.Steps.{given_of, IsBaseOf}

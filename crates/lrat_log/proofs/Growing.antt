@@ -6,9 +6,9 @@ use Rattle.std.specs.List.{AllByRecursion, list_any, IsDistinct}
 use Rattle.std.proofs.lemmas.Bool.{cases_Bool}
 use Rattle.std.proofs.lemmas.List.{get_or_append_left, length-append}
 use Rattle.std.proofs.lemmas.Option.{none-some}
-use Rattle.wcnf.specs.Literal.{Literal}
-use Rattle.wcnf.specs.Refute.{Clauses, Leads, Refutes}
-use Rattle.wcnf.specs.Lrat.{ProofLine, Addition, Deletion, Live, with_clause, without_ids, Chain}
+use Rattle.cnf.specs.Literal.{Literal}
+use Rattle.cnf.specs.Refute.{Clauses, Leads, Refutes}
+use Rattle.cnf.specs.Lrat.{ProofLine, Addition, Deletion, Live, with_clause, without_ids, Chain}
 use Rattle.lrat_log.specs.declared.lines.Name.TheVariants.{Formula, Added}
 use Rattle.lrat_log.specs.Log.{LogLine, Given, given_at, start_over, numbered_lines}
 use Rattle.lrat_log.specs.Steps.{live_after, log_live, IsBaseOf}

@@ -8,13 +8,14 @@ use Rattle.std.specs.Fmt.{decimal}
 use Rattle.std.specs.Io.KnownBytes.{Appends}
 use Rattle.std.proofs.lemmas.List.Elements.{recursion_from_All}
 use lib.Chars.{codes}
-use Rattle.wcnf.specs.Literal.{Literal}
-use Rattle.wcnf.specs.Text.{literal_text}
-use Rattle.wcnf.specs.Writing.{PassesOn, AppendsPart}
-use Rattle.wcnf.specs.Lrat.{ProofLine, Addition, Deletion, group_tokens}
-use Rattle.wcnf.proofs.Laws.{spaced-last, first_fault, passed-more, passed_fault, passed_part-more}
-use Rattle.wcnf.proofs.Laws.{passed_whole, passed_part}
-use Rattle.wcnf.proofs.Laws.{flat_map-append, items_fault, items_more, all_taken}
+use Rattle.cnf.specs.Literal.{Literal}
+use Rattle.text.specs.Text.{literal_text}
+use Rattle.text.specs.Writing.{PassesOn, AppendsPart}
+use Rattle.cnf.specs.Lrat.{ProofLine, Addition, Deletion}
+use Rattle.text.specs.LratText.{group_tokens}
+use Rattle.text.proofs.Laws.{spaced-last, first_fault, passed-more, passed_fault, passed_part-more}
+use Rattle.text.proofs.Laws.{passed_whole, passed_part}
+use Rattle.text.proofs.Laws.{flat_map-append, items_fault, items_more, all_taken}
 use Rattle.lrat_log.specs.declared.lines.Hint.{Hint}
 use Rattle.lrat_log.specs.declared.lines.Hint.TheVariants.{Plain, Group}
 use Rattle.lrat_log.specs.Log.{LogLine, IsPlain, is_delete, name_of, id_of, leading_ids, group_ids}

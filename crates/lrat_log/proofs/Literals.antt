@@ -1,8 +1,8 @@
 -- A literal's negation among the negations of a clause.
 use Rattle.std.proofs.Common.{◌≡◌, Bool, true, false, not, ◌&&◌, List, [], ◌∷◌, map, refl, ap}
 use Rattle.std.specs.Prelude.{◌==◌}
-use Rattle.wcnf.specs.Literal.{Literal, negation, literal_eq, same_bool}
-use Rattle.wcnf.specs.Clause.{contains_literal}
+use Rattle.cnf.specs.Literal.{Literal, negation, literal_eq, same_bool}
+use Rattle.cnf.specs.Clause.{contains_literal}
 
 same_bool-not : (a b : Bool) → same_bool (not a) (not b) ≡ same_bool a b
 same_bool-not true true = refl

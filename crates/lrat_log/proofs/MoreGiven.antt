@@ -5,10 +5,10 @@ use Rattle.std.specs.Prelude.{◌==◌, nat_eq, if◌then◌else◌}
 use Rattle.std.specs.List.{list_any}
 use Rattle.std.proofs.lemmas.Bool.{eqb-true, false_from_ne_true, false≢true}
 use Rattle.std.proofs.lemmas.Option.{none-some}
-use Rattle.wcnf.specs.Literal.{Literal}
-use Rattle.wcnf.specs.Refute.{Clauses, Leads}
-use Rattle.wcnf.specs.Lrat.{ProofLine, Addition, Deletion, CandidateHints, Live, IsRup, with_clause}
-use Rattle.wcnf.specs.Lrat.{without_ids}
+use Rattle.cnf.specs.Literal.{Literal}
+use Rattle.cnf.specs.Refute.{Clauses, Leads}
+use Rattle.cnf.specs.Lrat.{ProofLine, Addition, Deletion, CandidateHints, Live, IsRup, with_clause}
+use Rattle.cnf.specs.Lrat.{without_ids}
 use Rattle.lrat_log.specs.declared.lines.Name.TheVariants.{Formula, Added}
 use Rattle.lrat_log.specs.Log.{LogLine, Given, given_at, start_over, numbered_lines}
 use Rattle.lrat_log.specs.Steps.{LearnsNew, nothing_exempt, is_later, learned_count, live_after}

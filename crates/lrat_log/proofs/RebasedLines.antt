@@ -8,7 +8,7 @@ use Rattle.std.specs.List.{AllByRecursion, slice_get}
 use Rattle.std.proofs.lemmas.List.Elements.{recursion_from_All}
 use Rattle.std.proofs.lemmas.List.Sums.{sum_by-append}
 use Rattle.std.proofs.lemmas.Option.{none-some}
-use Rattle.wcnf.specs.Literal.{Literal}
+use Rattle.cnf.specs.Literal.{Literal}
 use Rattle.lrat_log.specs.Log.{LogLine, is_learned}
 use Rattle.lrat_log.specs.Steps.{AddsNoEmptyClause, learned_count}
 use Rattle.lrat_log.specs.Rebase.{WeakerList, weaker_list, weaker_line, moved_line, rebased}

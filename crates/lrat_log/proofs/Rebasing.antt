@@ -10,12 +10,13 @@ use Rattle.std.proofs.lemmas.List.{length-map}
 use Rattle.std.proofs.lemmas.List.Elements.{All-from_recursion, recursion_from_All, All-nil}
 use Rattle.std.proofs.lemmas.List.Elements.{All-cons, All-head, All-tail}
 use Rattle.std.proofs.lemmas.Option.{none-some}
-use Rattle.wcnf.specs.Literal.{Literal, negation}
-use Rattle.wcnf.specs.Clause.{contains_literal, is_subset}
-use Rattle.wcnf.specs.Formula.{numbered}
-use Rattle.wcnf.specs.Refute.{IsFalseUnder}
-use Rattle.wcnf.specs.Lrat.{Addition, Deletion, Live, with_clause, start_of, Step, Chain, Accepts}
-use Rattle.wcnf.specs.Lrat.{AcceptsFrom, IsId}
+use Rattle.cnf.specs.Literal.{Literal, negation}
+use Rattle.cnf.specs.Clause.{contains_literal, is_subset}
+use Rattle.cnf.specs.Formula.{numbered}
+use Rattle.cnf.specs.Refute.{IsFalseUnder}
+use Rattle.cnf.specs.Lrat.{Addition, Deletion, Live, with_clause, start_of, Step, Chain, Accepts}
+use Rattle.cnf.specs.Lrat.{AcceptsFrom}
+use Rattle.cnf.specs.Lrat.{IsId}
 use Rattle.lrat_log.specs.declared.lines.Name.{Name}
 use Rattle.lrat_log.specs.declared.lines.Name.TheVariants.{Formula, Added}
 use Rattle.lrat_log.specs.declared.lines.Hint.{Hint}

@@ -12,14 +12,16 @@ use Rattle.std.proofs.lemmas.List.Splits.{slice_split_at, length-slice_split}
 use Rattle.std.proofs.lemmas.List.Elements.{All-from_recursion, recursion_from_All, All-head}
 use Rattle.std.proofs.lemmas.List.Elements.{All-tail}
 use lib.Chars.{codes}
-use Rattle.wcnf.specs.Literal.{Literal}
-use Rattle.wcnf.specs.Text.{is_blank, begins_with_token, put_byte, tokens_of, token_lines}
-use Rattle.wcnf.specs.Text.{literal_text, is_digit}
-use Rattle.wcnf.specs.Writing.{spaced}
-use Rattle.wcnf.specs.Lrat.{ProofLine, Addition, Deletion, CandidateHints, group_tokens}
-use Rattle.wcnf.specs.Lrat.{line_tokens, has_tokens, IsId, HasNumbers, IsTextOf}
-use Rattle.wcnf.proofs.Laws.{GroupHasIds}
-use Rattle.wcnf.proofs.Laws.{digit_bounds, is_number-decimal}
+use Rattle.cnf.specs.Literal.{Literal}
+use Rattle.text.specs.Text.{is_blank, begins_with_token, put_byte, tokens_of, token_lines}
+use Rattle.text.specs.Text.{literal_text, is_digit}
+use Rattle.text.specs.Writing.{spaced}
+use Rattle.cnf.specs.Lrat.{ProofLine, Addition, Deletion, CandidateHints}
+use Rattle.text.specs.LratText.{group_tokens}
+use Rattle.cnf.specs.Lrat.{IsId}
+use Rattle.text.specs.LratText.{line_tokens, has_tokens, HasNumbers, IsTextOf}
+use Rattle.cnf.proofs.Laws.{GroupHasIds}
+use Rattle.text.proofs.Laws.{digit_bounds, is_number-decimal}
 use Rattle.lrat_log.specs.declared.lines.Hint.{Hint}
 use Rattle.lrat_log.specs.declared.lines.Hint.TheVariants.{Plain, Group}
 use Rattle.lrat_log.specs.declared.lines.Name.{Name}

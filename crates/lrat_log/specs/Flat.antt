@@ -1,7 +1,7 @@
 -- How a log lies in memory: the literals of all lines in one list, their hints in another, and for
 -- each line where its own end.
 use Rattle.std.specs.Prelude.{◌≡◌, ℕ, zero, suc, ◌≤◌, List, [], ◌∷◌, length, slice_range}
-use Rattle.wcnf.specs.Literal.{Literal}
+use Rattle.cnf.specs.Literal.{Literal}
 use Rattle.lrat_log.specs.declared.lines.Hint.{Hint}
 use Rattle.lrat_log.specs.declared.log.Head.{Head}
 use Rattle.lrat_log.specs.Log.{LogLine, IsLog}

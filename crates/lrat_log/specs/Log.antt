@@ -2,9 +2,11 @@
 use Rattle.std.specs.Prelude.{◌≡◌, ℕ, ◌+◌, ◌<◌, ◌^◌, Bool, true, false, List, [], ◌∷◌, length, map}
 use Rattle.std.specs.Prelude.{Option, Some, None, ◌==◌, if◌then◌else◌, All, ⊤, slice_index_or}
 use Rattle.std.specs.List.{flat_map}
-use Rattle.wcnf.specs.Literal.{Literal}
-use Rattle.wcnf.specs.Writing.{spaced}
-use Rattle.wcnf.specs.Lrat.{ProofLine, Addition, Deletion, CandidateHints, Live, IsId, line_tokens}
+use Rattle.cnf.specs.Literal.{Literal}
+use Rattle.text.specs.Writing.{spaced}
+use Rattle.cnf.specs.Lrat.{ProofLine, Addition, Deletion, CandidateHints, Live}
+use Rattle.cnf.specs.Lrat.{IsId}
+use Rattle.text.specs.LratText.{line_tokens}
 use Rattle.lrat_log.specs.declared.lines.Name.{Name}
 use Rattle.lrat_log.specs.declared.lines.Name.TheVariants.{Formula, Added}
 use Rattle.lrat_log.specs.declared.lines.Hint.{Hint}

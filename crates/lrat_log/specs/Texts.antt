@@ -3,9 +3,10 @@ use Rattle.std.specs.Prelude.{ℕ, ◌+◌, Bool, List, [], ◌∷◌, ◌++◌,
 use Rattle.std.specs.List.{flat_map}
 use Rattle.std.specs.Fmt.{decimal}
 use lib.Chars.{codes}
-use Rattle.wcnf.specs.Literal.{Literal}
-use Rattle.wcnf.specs.Lrat.{ProofLine, Addition, Deletion, line_tokens}
-use Rattle.wcnf.specs.Writing.{spaced}
+use Rattle.cnf.specs.Literal.{Literal}
+use Rattle.cnf.specs.Lrat.{ProofLine, Addition, Deletion}
+use Rattle.text.specs.LratText.{line_tokens}
+use Rattle.text.specs.Writing.{spaced}
 use Rattle.lrat_log.specs.declared.lines.Hint.{Hint}
 use Rattle.lrat_log.specs.Log.{LogLine, is_delete, is_group, id_of, name_of, leading_ids, group_ids}
 

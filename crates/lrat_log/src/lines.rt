@@ -5,7 +5,7 @@
 ghost use Rattle.std.specs.Prelude.{◌≡◌, ℕ, ◌<◌, ◌≤◌, ◌^◌};
 
 use std::marker::Model;
-use wcnf::types::Lit;
+use cnf::types::Lit;
 
 /// A number from 1, below 2^62.
 #[derive(Clone, Copy, Debug, PartialEq, Eq, Drop)]

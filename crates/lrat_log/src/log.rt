@@ -4,8 +4,8 @@
 ghost use Rattle.std.specs.Prelude.{◌≡◌, ℕ, ◌+◌, ◌<◌, ◌≤◌, ◌^◌, ◌++◌, List, [], Some, length, All};
 ghost use Rattle.std.specs.Prelude.{IfOk, OnOk, OnErr, slice_get, slice_range, ◌==◌};
 ghost use Rattle.std.specs.Io.KnownBytes.{Appends};
-ghost use Rattle.wcnf.specs.Lrat.{IsTextOf};
-ghost use Rattle.wcnf.specs.Writing.{AppendsPart, PassesOn};
+ghost use Rattle.text.specs.LratText.{IsTextOf};
+ghost use Rattle.text.specs.Writing.{AppendsPart, PassesOn};
 ghost use Rattle.lrat_log.specs.Steps.{HoldsAtEachBase};
 ghost use Rattle.lrat_log.specs.Log.{LogLine, IsLine, IsLog, HasSmallIds, line_at, numbered_lines};
 ghost use Rattle.lrat_log.specs.Log.{text_of};
@@ -19,9 +19,9 @@ use crate::spelling::{put_addition, put_deletion};
 use std::alloc::{AllocError, Global};
 use std::io::Write;
 use std::marker::Model;
-use wcnf::faults::WriteFault;
-use wcnf::output::Block;
-use wcnf::types::Lit;
+use text::output::WriteFault;
+use text::output::Block;
+use cnf::types::Lit;
 
 /// A log has fewer lines than this, 2^61.
 const LINE_LIMIT: usize = 1 << 61;

@@ -3,7 +3,7 @@
 // the last bound alone. Each clause of the others has a clause of the last as a subset: so it comes
 // as a line of its own, and the lines of the log name it by that.
 ghost use Rattle.std.specs.Prelude.{◌≡◌, ◌+◌, ◌<◌, ◌^◌, length, map, All, IfOk, OnOk};
-ghost use Rattle.wcnf.specs.Lrat.{IsId};
+ghost use Rattle.cnf.specs.Lrat.{IsId};
 ghost use Rattle.lrat_log.specs.Log.{HasSmallIds, id_of, line_at};
 ghost use Rattle.lrat_log.specs.Rebase.{KeepsLog, moved_hint, moved_line, moved_name, rebased};
 ghost use Rattle.lrat_log.specs.Rebase.{weaker_line, weaker_list};
@@ -12,7 +12,7 @@ use crate::lines::{Hint, Kind, Line, Name, Number};
 use crate::log::Log;
 use crate::sink::Sink;
 use std::alloc::{AllocError, Global};
-use wcnf::types::Lit;
+use cnf::types::Lit;
 
 /// The log of a solver that was given `fixed` clauses, then the weaker ones, then others, as a log
 /// over the fixed clauses and the others: a line for each weaker clause, whose one hint is the

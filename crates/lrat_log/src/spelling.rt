@@ -1,17 +1,17 @@
 // The lines of a certificate, on their way to a writer.
 ghost use Rattle.std.specs.Prelude.{◌≡◌, ◌<◌, ◌≤◌, ◌^◌, ◌++◌, length, map, drop, slice_index, All};
 ghost use Rattle.std.specs.Prelude.{OnOk, OnErr};
-ghost use Rattle.wcnf.specs.Lrat.{Addition, Deletion};
-ghost use Rattle.wcnf.specs.Writing.{AppendsPart, PassesOn};
+ghost use Rattle.cnf.specs.Lrat.{Addition, Deletion};
+ghost use Rattle.text.specs.Writing.{AppendsPart, PassesOn};
 ghost use Rattle.lrat_log.specs.Log.{IsPlain, id_of, name_of, leading_ids, group_ids};
 ghost use Rattle.lrat_log.specs.Texts.{number_text, literals_text, hints_text, end_text, line_text};
 
 use crate::packed::PackedHint;
 use itoa::write_digits;
 use std::io::Write;
-use wcnf::faults::WriteFault;
-use wcnf::output::Block;
-use wcnf::types::Lit;
+use text::output::WriteFault;
+use text::output::Block;
+use cnf::types::Lit;
 
 /// Room for a dash, the 20 digits of the largest number, and a space.
 const NUMBER_ROOM: usize = 22;

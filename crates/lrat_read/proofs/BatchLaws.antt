@@ -4,9 +4,9 @@ use Rattle.std.proofs.Common.{take, drop, refl, sym, ◌∙◌, ap, subst, arith
 use Rattle.std.proofs.Common.{slice_range, get_or, false}
 use Rattle.std.proofs.lemmas.List.{take-append-drop, length-append, length-drop, length-take-le}
 use Rattle.std.proofs.lemmas.List.{drop_more, get_or-map, length-map, map-append}
-use Rattle.wcnf.proofs.Laws.{range-append}
+use Rattle.cnf.proofs.Laws.{range-append}
 use Rattle.std.proofs.Math.Seq.{take-append_seam}
-use Rattle.wcnf.specs.Literal.{Literal}
+use Rattle.cnf.specs.Literal.{Literal}
 use Rattle.lrat_read.specs.Batch.{IsFirstRead, AreRead}
 use Rattle.lrat_read.specs.declared.plain.Span.{Span}
 use Rattle.lrat_read.specs.Plain.{line_in, lines_in, IsSpanWithin, AreSpansWithin}

@@ -9,7 +9,7 @@ use Rattle.std.proofs.lemmas.Bool.{and_parts, cases_Bool, cond-false, cond-true,
 use Rattle.std.proofs.lemmas.List.{drop_more, length-append}
 use Rattle.std.proofs.lemmas.List.Elements.{All-append, All-cons, All-nil}
 use Rattle.std.proofs.Math.Seq.{get_or-append_seam, take-append_seam}
-use Rattle.wcnf.specs.Text.{is_blank, tokens_of, IsNoFeed}
+use Rattle.text.specs.Text.{is_blank, tokens_of, IsNoFeed}
 use Rattle.lrat_read.specs.Batch.{IsFirstRead}
 use Rattle.lrat_read.specs.Blanks.{no_tokens}
 use Rattle.lrat_read.proofs.Scan.{split_at}

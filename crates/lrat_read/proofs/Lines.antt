@@ -9,11 +9,13 @@ use Rattle.std.specs.Fmt.{decimal}
 use Rattle.std.proofs.lemmas.Bool.{cond-false, eqb-true, ne_eqb, cases_Bool, both_ways, eq-eqb}
 use Rattle.std.proofs.lemmas.Bool.{true≢false}
 use Rattle.std.proofs.lemmas.List.Elements.{All-from_recursion, recursion_from_All}
-use Rattle.wcnf.specs.Literal.{Literal}
-use Rattle.wcnf.specs.Text.{literal_text}
-use Rattle.wcnf.specs.Lrat.{CandidateHints, ProofLine, Addition as AddsLine}
-use Rattle.wcnf.specs.Lrat.{Deletion as DeletesLine, group_tokens, line_tokens, IsId, HasNumbers}
-use Rattle.wcnf.proofs.Laws.{GroupHasIds}
+use Rattle.cnf.specs.Literal.{Literal}
+use Rattle.text.specs.Text.{literal_text}
+use Rattle.cnf.specs.Lrat.{CandidateHints, ProofLine, Addition as AddsLine}
+use Rattle.cnf.specs.Lrat.{Deletion as DeletesLine}
+use Rattle.cnf.specs.Lrat.{IsId}
+use Rattle.text.specs.LratText.{group_tokens, line_tokens, HasNumbers}
+use Rattle.cnf.proofs.Laws.{GroupHasIds}
 use Rattle.lrat_read.specs.Form.{signed_of, block_of, Parsed, Addition, Deletion, Malformed}
 use Rattle.lrat_read.specs.Form.{line_of, leading, groups_of}
 use lib.Chars.{codes}

@@ -8,8 +8,8 @@ use Rattle.std.specs.Prelude.{◌==◌}
 use Rattle.std.proofs.lemmas.Bool.{cases_Bool, cases_lt, cond-false, eqb-true, eqb-false}
 use Rattle.std.proofs.lemmas.List.{drop_more, drop_all, get_or-drop, length-drop, length-take}
 use Rattle.std.proofs.lemmas.List.{get_or-take}
-use Rattle.wcnf.specs.Text.{is_blank, begins_with_token, put_byte, tokens_of, is_digit, value_on}
-use Rattle.wcnf.proofs.Laws.{digit_is_no_blank}
+use Rattle.text.specs.Text.{is_blank, begins_with_token, put_byte, tokens_of, is_digit, value_on}
+use Rattle.text.proofs.Laws.{digit_is_no_blank}
 use Rattle.lrat_read.specs.Numbers.{IsDigitsAt, IsSpaced, IsNumber, IsNumberAt}
 use Rattle.lrat_read.specs.declared.numbers.Digits.{Digits}
 use Rattle.lrat_read.specs.declared.numbers.NumberAt.TheVariants.{Malformed, Number}

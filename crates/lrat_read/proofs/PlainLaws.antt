@@ -9,8 +9,8 @@ use Rattle.std.proofs.lemmas.Bool.{cases_lt, ne_eqb}
 use Rattle.std.proofs.lemmas.List.{length-take, length-take-le, take-take, drop-take}
 use Rattle.std.proofs.lemmas.List.{take_more_set, drop-append-le, get_or-take}
 use Rattle.std.proofs.lemmas.Str.Parse.{digits_value_short}
-use Rattle.wcnf.specs.Text.{is_digit, value_on}
-use Rattle.wcnf.proofs.Laws.{decimal_numerals, digit_bounds}
+use Rattle.text.specs.Text.{is_digit, value_on}
+use Rattle.text.proofs.Laws.{decimal_numerals, digit_bounds}
 use Rattle.lrat_read.specs.Numbers.{IsNumberAt}
 use Rattle.lrat_read.specs.Plain.{before_feed, IsPlainDigits, IsPastSpace}
 use Rattle.lrat_read.specs.declared.numbers.Digits.{Digits}

@@ -7,8 +7,8 @@ use Rattle.std.specs.Prelude.{◌==◌, ◌||◌}
 use Rattle.std.specs.List.{list_any}
 use Rattle.std.proofs.lemmas.List.{append-nil, take-set-le, length-set, drop_all}
 use Rattle.std.proofs.lemmas.List.Folds.{list_any-append}
-use Rattle.wcnf.specs.Literal.{Literal}
-use Rattle.wcnf.specs.Text.{tokens_of}
+use Rattle.cnf.specs.Literal.{Literal}
+use Rattle.text.specs.Text.{tokens_of}
 use Rattle.lrat_read.specs.Form.{block_of, signed_of}
 use Rattle.lrat_read.specs.Numbers.{IsNumberAt}
 use Rattle.lrat_read.specs.Plain.{before_feed, IsPlainDigits, IsPastSpace, ArePlainLits}

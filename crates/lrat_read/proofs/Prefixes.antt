@@ -6,8 +6,8 @@ use Rattle.std.specs.Prelude.{◌==◌, ◌||◌, nat_le}
 use Rattle.std.proofs.lemmas.Bool.{lt-leb, le-leb, eqb-true, eqb-false}
 use Rattle.std.proofs.lemmas.List.{map_push, drop_all, drop_more}
 use Rattle.std.proofs.Math.Bool.{or-false, or-true}
-use Rattle.wcnf.specs.Literal.{Literal}
-use Rattle.wcnf.specs.Text.{is_blank, tokens_of}
+use Rattle.cnf.specs.Literal.{Literal}
+use Rattle.text.specs.Text.{is_blank, tokens_of}
 use Rattle.lrat_read.specs.Form.{signed_of, block_of}
 use Rattle.lrat_read.specs.Reader.{is_large_clause}
 use Rattle.lrat_read.specs.Blocks.{literal_from, IsHintsRead, IsLastRead}

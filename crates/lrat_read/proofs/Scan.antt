@@ -12,10 +12,10 @@ use Rattle.std.proofs.lemmas.List.{length-append, length-take}
 use Rattle.std.proofs.lemmas.List.Folds.{list_all-append}
 use Rattle.std.proofs.lemmas.Str.Parse.{digits_value_short}
 use Rattle.std.proofs.lemmas.Fmt.{length-decimal-le}
-use Rattle.wcnf.specs.Text.{is_blank, begins_with_token, put_byte, tokens_of, is_digit, value_on}
-use Rattle.wcnf.specs.Text.{number_of}
-use Rattle.wcnf.proofs.Laws.{number_of-is, is_number, decimal-number_of, digit_bounds, digit_from}
-use Rattle.wcnf.proofs.Laws.{decimal_numerals, digit_is_no_blank}
+use Rattle.text.specs.Text.{is_blank, begins_with_token, put_byte, tokens_of, is_digit, value_on}
+use Rattle.text.specs.Text.{number_of}
+use Rattle.text.proofs.Laws.{number_of-is, is_number, decimal-number_of, digit_bounds, digit_from}
+use Rattle.text.proofs.Laws.{decimal_numerals, digit_is_no_blank}
 use Rattle.lrat_read.specs.Form.{signed_of}
 use Rattle.lrat_read.proofs.Tokens.{tag, signed_dash, signed_plain}
 

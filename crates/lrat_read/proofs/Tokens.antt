@@ -13,9 +13,9 @@ use Rattle.std.proofs.lemmas.Option.{cond_some}
 use Rattle.std.proofs.lemmas.Fmt.{decimal_digit}
 use Rattle.std.proofs.lemmas.Fmt.{first_decimal}
 use lib.Chars.{codes}
-use Rattle.wcnf.specs.Text.{number_of}
-use Rattle.wcnf.specs.Lrat.{IsId}
-use Rattle.wcnf.proofs.Laws.{decimal-number_of, number_of-decimal}
+use Rattle.text.specs.Text.{number_of}
+use Rattle.cnf.specs.Lrat.{IsId}
+use Rattle.text.proofs.Laws.{decimal-number_of, number_of-decimal}
 use Rattle.lrat_read.specs.Form.{signed_of, block_of}
 
 -- with its dash, where it has one

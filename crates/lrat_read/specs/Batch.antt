@@ -1,9 +1,9 @@
 -- Lines of a certificate that are read together.
 use Rattle.std.specs.Prelude.{◌≡◌, ℕ, ◌<◌, ◌≤◌, Bool, List, [], ◌∷◌, ◌++◌, length, drop}
 use Rattle.std.specs.Str.Lines.{strip_carriage_return}
-use Rattle.wcnf.specs.Text.{tokens_of, IsNoFeed}
+use Rattle.text.specs.Text.{tokens_of, IsNoFeed}
 use Rattle.lrat_read.specs.Reader.{IsReadAs}
-use Rattle.wcnf.specs.Literal.{Literal}
+use Rattle.cnf.specs.Literal.{Literal}
 use Rattle.lrat_read.specs.Plain.{IsSpanWithin, line_in}
 use Rattle.lrat_read.specs.declared.batch.NextLine.{NextLine}
 use Rattle.lrat_read.specs.declared.line.ReadLine.{ReadLine}

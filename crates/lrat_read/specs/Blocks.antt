@@ -1,8 +1,8 @@
 -- What the blocks of a line are read as.
 use Rattle.std.specs.Prelude.{◌≡◌, ℕ, ◌≤◌, Bool, false, true, List, [], map, length, drop, Option}
 use Rattle.std.specs.Prelude.{Some, None}
-use Rattle.wcnf.specs.Literal.{Literal}
-use Rattle.wcnf.specs.Text.{tokens_of}
+use Rattle.cnf.specs.Literal.{Literal}
+use Rattle.text.specs.Text.{tokens_of}
 use Rattle.lrat_read.specs.Form.{block_of}
 use Rattle.lrat_read.specs.Reader.{is_large_clause}
 use Rattle.lrat_read.specs.declared.blocks.LitsEnd.{LitsEnd}

@@ -3,9 +3,9 @@
 use Rattle.std.specs.Prelude.{ℕ, zero, suc, Bool, true, false, List, [], ◌∷◌, map, Option, Some}
 use Rattle.std.specs.Prelude.{None, nat_lt, ◌==◌, if◌then◌else◌}
 use Rattle.std.specs.List.{list_any}
-use Rattle.wcnf.specs.Literal.{Literal}
-use Rattle.wcnf.specs.Text.{number_of}
-use Rattle.wcnf.specs.Lrat.{CandidateHints}
+use Rattle.cnf.specs.Literal.{Literal}
+use Rattle.text.specs.Text.{number_of}
+use Rattle.cnf.specs.Lrat.{CandidateHints}
 
 -- with its dash, where it has one
 abbrev pub signed_of : List ℕ → Option (Bool × ℕ)

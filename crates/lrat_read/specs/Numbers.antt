@@ -2,7 +2,7 @@
 use Rattle.std.specs.Prelude.{◌≡◌, ℕ, ◌+◌, ◌<◌, ◌≤◌, ◌^◌, true, false, List, [], ◌∷◌, length, drop}
 use Rattle.std.specs.Prelude.{slice_index, slice_range, Option, Some, None}
 use Rattle.std.specs.List.{list_all}
-use Rattle.wcnf.specs.Text.{tokens_of, begins_with_token, is_digit, value_on}
+use Rattle.text.specs.Text.{tokens_of, begins_with_token, is_digit, value_on}
 use Rattle.lrat_read.specs.Form.{signed_of}
 use Rattle.lrat_read.specs.declared.numbers.Digits.{Digits}
 use Rattle.lrat_read.specs.declared.numbers.NumberAt.{NumberAt}

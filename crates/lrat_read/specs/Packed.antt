@@ -1,7 +1,7 @@
 -- How a signed id is kept in one word: twice the id, and one more where a dash stands before it.
 use Rattle.std.specs.Prelude.{ℕ, Bool, ◌≡◌, ◌+◌, ◌*◌, ◌/◌, ◌%◌, ◌<◌, ◌==◌, if◌then◌else◌}
 use Rattle.std.proofs.Common.{arith, ap}
-use Rattle.wcnf.specs.Packed.{parity}
+use Rattle.cnf.specs.Packed.{parity}
 use Rattle.lrat_read.specs.declared.types.SignedId.TheInside.{Inside}
 
 abbrev pub signed_in : Inside → Bool × ℕ

@@ -4,8 +4,8 @@ use Rattle.std.specs.Prelude.{◌≡◌, ℕ, ◌+◌, ◌-◌, ◌*◌, ◌<◌
 use Rattle.std.specs.Prelude.{take, slice_index, slice_range, map, Some, ◌==◌}
 use Rattle.std.specs.Int.{from_bool}
 use Rattle.std.specs.List.{list_all, list_any, AllByRecursion}
-use Rattle.wcnf.specs.Literal.{Literal}
-use Rattle.wcnf.specs.Text.{tokens_of, is_digit, value_on}
+use Rattle.cnf.specs.Literal.{Literal}
+use Rattle.text.specs.Text.{tokens_of, is_digit, value_on}
 use Rattle.lrat_read.specs.Blocks.{IsLitsRead, IsLastRead}
 use Rattle.lrat_read.specs.Reader.{IsReadAs}
 use Rattle.lrat_read.specs.declared.line.ReadLine.{ReadLine}

@@ -1,7 +1,7 @@
 -- What a reader of lines says of the tokens that it read.
 use Rattle.std.specs.Prelude.{◌≡◌, ℕ, Bool, false, List, [], ◌∷◌, map, Some, nat_le}
 use Rattle.std.specs.List.{list_any}
-use Rattle.wcnf.specs.Literal.{Literal}
+use Rattle.cnf.specs.Literal.{Literal}
 use Rattle.lrat_read.specs.Form.{signed_of, line_of, Addition as AddsLine, Deletion as DeletesLine}
 use Rattle.lrat_read.specs.Form.{Malformed as NoLine}
 use Rattle.lrat_read.specs.declared.types.Form.{Form}

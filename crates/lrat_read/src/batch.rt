@@ -9,8 +9,8 @@ use crate::plain::{Span, Used, plain_line};
 use crate::types::SignedId;
 use std::alloc::{AllocError, Global};
 use std::marker::Model;
-use wcnf::pieces::line_feed_at;
-use wcnf::types::Lit;
+use text::pieces::line_feed_at;
+use cnf::types::Lit;
 
 /// At most so many literals, and so many hints, are held of lines that are read together.
 const ROOM: usize = 16_384;

@@ -6,8 +6,8 @@ ghost use Rattle.lrat_read.specs.Blocks.{IsLitsRead, IsHintsRead, IsLastRead};
 use crate::numbers::{NumberAt, number_at, skip_blanks};
 use crate::types::SignedId;
 use std::alloc::AllocError;
-use wcnf::limits::VARIABLE_LIMIT;
-use wcnf::types::Lit;
+use cnf::limits::VARIABLE_LIMIT;
+use cnf::types::Lit;
 
 /// Where a block of literals ends, and whether one of them is too large for `Lit`.
 #[derive(Clone, Copy, Drop)]

@@ -3,11 +3,11 @@
 ghost use Rattle.std.specs.Prelude.{◌≡◌, ◌+◌, ◌<◌, ◌≤◌, ◌↔◌, length, drop, slice_index, not, false};
 ghost use Rattle.std.specs.Prelude.{IsTrue, slice_range, true};
 ghost use Rattle.std.specs.List.{list_all};
-ghost use Rattle.wcnf.specs.Text.{tokens_of, is_blank, begins_with_token};
+ghost use Rattle.text.specs.Text.{tokens_of, is_blank, begins_with_token};
 ghost use Rattle.lrat_read.specs.Numbers.{IsDigitsAt, IsNumber, IsNumberAt};
 ghost use Rattle.lrat_read.specs.Numbers.{IsAfterLetter};
 
-use wcnf::limits::NUMBER_LIMIT;
+use cnf::limits::NUMBER_LIMIT;
 
 /// Any number of so many digits fits 64 bits, and one with more is too large for an id.
 const MOST_DIGITS: usize = 19;

@@ -13,7 +13,7 @@
 // all numbers of a piece, all the same. A literal's dash is added to its place, since nothing says
 // which literals have one; hints have a dash so seldom that they are read without it first.
 ghost use Rattle.std.specs.Prelude.{◌≡◌, ◌+◌, ◌<◌, ◌≤◌, List, length, slice_index, false, IfSome};
-ghost use Rattle.wcnf.specs.Literal.{Literal};
+ghost use Rattle.cnf.specs.Literal.{Literal};
 ghost use Rattle.lrat_read.specs.Numbers.{IsNumberAt};
 ghost use Rattle.lrat_read.specs.Plain.{EndsInFeed, before_feed, IsPlainDigits, IsPlainNumber};
 ghost use Rattle.lrat_read.specs.Plain.{IsPastSpace, ArePlainLits, ArePlainHints, HasRoomFrom};
@@ -22,7 +22,7 @@ ghost use Rattle.lrat_read.specs.declared.numbers.NumberAt.TheVariants.{Number};
 
 use crate::numbers::Digits;
 use crate::types::{Form, SignedId};
-use wcnf::types::Lit;
+use cnf::types::Lit;
 
 /// A number of a plain line has no more digits: it is below 10^8, and so below the greatest bound
 /// of a literal.

@@ -1,6 +1,6 @@
 // The reader of lines, with its buffers.
 ghost use Rattle.std.specs.Prelude.{◌≡◌, ◌<◌, ◌≤◌, ◌^◌, [], drop, length, false, IfOk};
-ghost use Rattle.wcnf.specs.Text.{tokens_of};
+ghost use Rattle.text.specs.Text.{tokens_of};
 ghost use Rattle.lrat_read.specs.Reader.{IsReadAs, IsAdditionRead, IsDeletionRead};
 
 use crate::blocks::{has_dash, read_last, read_lits};
@@ -9,7 +9,7 @@ use crate::numbers::{NumberAt, after_letter, number_at};
 use crate::types::{Form, SignedId};
 use std::alloc::{AllocError, Global};
 use std::marker::Model;
-use wcnf::types::Lit;
+use cnf::types::Lit;
 
 /// One line, in buffers that are used again for each line.
 #[derive(Drop)]

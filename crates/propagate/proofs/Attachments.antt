@@ -6,14 +6,15 @@ use Rattle.std.specs.List.{AllByRecursion}
 use Rattle.std.proofs.lemmas.Bool.{cases_eq, eq-eqb, ne_eqb, cond-true, cond-false}
 use Rattle.std.proofs.lemmas.List.Elements.{All-weaker}
 use Rattle.std.proofs.lemmas.List.Sums.{sum_by-cons}
-use Rattle.wcnf.specs.Literal.{Literal}
+use Rattle.cnf.specs.Literal.{Literal}
 use Rattle.clauses.specs.Slots.{Slots, clause_at}
-use Rattle.watches.specs.declared.pool.Entry.{Entry}
-use Rattle.watches.specs.declared.table.Attachment.{Attachment}
-use Rattle.watches.specs.declared.table.Attachment.TheVariants.{Detached, Waiting, Satisfied}
-use Rattle.watches.specs.declared.table.Attachment.TheVariants.{Watching}
-use Rattle.watches.specs.Pool.{row_at}
-use Rattle.watches.specs.Table.{is_kept, attachment_in}
+use Rattle.propagate_watches.specs.declared.pool.Entry.{Entry}
+use Rattle.propagate_watches.specs.declared.table.Attachment.{Attachment}
+use Rattle.propagate_watches.specs.declared.table.Attachment.TheVariants.{Detached, Waiting}
+use Rattle.propagate_watches.specs.declared.table.Attachment.TheVariants.{Satisfied}
+use Rattle.propagate_watches.specs.declared.table.Attachment.TheVariants.{Watching}
+use Rattle.propagate_watches.specs.Pool.{row_at}
+use Rattle.propagate_watches.specs.Table.{is_kept, attachment_in}
 use Rattle.propagate.specs.Trail.{Assigned}
 use Rattle.propagate.specs.Watches.{EngineState, is_attached, watches_at, one_at, count_in}
 use Rattle.propagate.specs.Fits.{Fits, FitsAttachment, IsWithin, IsWatch, HasBlocker}

@@ -4,14 +4,14 @@ use Rattle.std.proofs.Common.{◌⊎◌, inl, inr, sym, ◌∙◌, subst}
 use Rattle.std.specs.Prelude.{All, MatchOption}
 use Rattle.std.specs.List.{AllByRecursion}
 use Rattle.std.proofs.lemmas.Bool.{or_cases, or_left, or_right, false≢true}
-use Rattle.wcnf.specs.Literal.{Literal, literal_eq, negation}
-use Rattle.wcnf.specs.Clause.{contains_literal}
-use Rattle.wcnf.proofs.Laws.{literal_eq-true}
+use Rattle.cnf.specs.Literal.{Literal, literal_eq, negation}
+use Rattle.cnf.specs.Clause.{contains_literal}
+use Rattle.cnf.proofs.Laws.{literal_eq-true}
 use Rattle.clauses.specs.Slots.{Slots, clause_at}
-use Rattle.watches.specs.declared.table.Rest.{Rest}
-use Rattle.watches.specs.declared.table.Rest.TheVariants.{Nothing, One, Many}
-use Rattle.watches.specs.declared.pool.Entry.{Entry}
-use Rattle.watches.specs.Table.{attachment_in, rest_in, IsWatchedBy}
+use Rattle.propagate_watches.specs.declared.table.Rest.{Rest}
+use Rattle.propagate_watches.specs.declared.table.Rest.TheVariants.{Nothing, One, Many}
+use Rattle.propagate_watches.specs.declared.pool.Entry.{Entry}
+use Rattle.propagate_watches.specs.Table.{attachment_in, rest_in, IsWatchedBy}
 use Rattle.propagate.specs.Trail.{literals_of, value_in}
 use Rattle.propagate.specs.Watches.{EngineState}
 use Rattle.propagate.specs.Fits.{IsRest}

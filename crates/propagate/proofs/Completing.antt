@@ -4,17 +4,18 @@ use Rattle.std.proofs.Common.{length, get_or, Some, ◌⊎◌, inl, inr, refl, s
 use Rattle.std.specs.List.{AllByRecursion}
 use Rattle.std.proofs.lemmas.Bool.{cases_eq, cases_Bool, or_cases, false≢true, both_ways}
 use Rattle.std.proofs.lemmas.List.{take_more, take_all, length-map, get_or_append_left}
-use Rattle.wcnf.specs.Literal.{Literal, negation, literal_eq, index_of}
-use Rattle.wcnf.specs.Clause.{contains_literal}
-use Rattle.wcnf.specs.Refute.{IsUnit, IsFalseUnder}
-use Rattle.wcnf.proofs.Laws.{literal_eq-true}
+use Rattle.cnf.specs.Literal.{Literal, negation, literal_eq, index_of}
+use Rattle.cnf.specs.Clause.{contains_literal}
+use Rattle.cnf.specs.Refute.{IsUnit, IsFalseUnder}
+use Rattle.cnf.proofs.Laws.{literal_eq-true}
 use Rattle.clauses.specs.Slots.{Slots, clause_at}
-use Rattle.watches.specs.declared.pool.Entry.{Entry}
-use Rattle.watches.specs.declared.table.Attachment.{Attachment}
-use Rattle.watches.specs.declared.table.Attachment.TheVariants.{Detached, Waiting, Satisfied}
-use Rattle.watches.specs.declared.table.Attachment.TheVariants.{Watching}
-use Rattle.watches.specs.Pool.{row_at}
-use Rattle.watches.specs.Table.{attachment_in}
+use Rattle.propagate_watches.specs.declared.pool.Entry.{Entry}
+use Rattle.propagate_watches.specs.declared.table.Attachment.{Attachment}
+use Rattle.propagate_watches.specs.declared.table.Attachment.TheVariants.{Detached, Waiting}
+use Rattle.propagate_watches.specs.declared.table.Attachment.TheVariants.{Satisfied}
+use Rattle.propagate_watches.specs.declared.table.Attachment.TheVariants.{Watching}
+use Rattle.propagate_watches.specs.Pool.{row_at}
+use Rattle.propagate_watches.specs.Table.{attachment_in}
 use Rattle.propagate.specs.Trail.{Assigned, literals_of, kept_to}
 use Rattle.propagate.specs.Watches.{EngineState, is_attached, watches_at, count_in}
 use Rattle.propagate.specs.Fits.{Fits, FitsAttachment, IsWatch, HasTrue, IsComplete}

@@ -3,12 +3,12 @@ use Rattle.std.proofs.Common.{◌≡◌, ℕ, true, false, List, [], ◌∷◌, 
 use Rattle.std.proofs.Common.{sym, ◌∙◌, ap, append_assoc}
 use Rattle.std.proofs.lemmas.Bool.{cases_eq}
 use Rattle.std.proofs.lemmas.List.{append-nil}
-use Rattle.wcnf.specs.Literal.{Literal}
-use Rattle.watches.specs.declared.pool.Entry.{Entry}
-use Rattle.watches.specs.declared.table.Attachment.{Attachment}
-use Rattle.watches.specs.declared.table.Attachment.TheVariants.{Waiting}
-use Rattle.watches.specs.Table.{is_kept, attachment_in}
-use Rattle.watches.proofs.Laws.{attachment_set_other, attachment_set_same}
+use Rattle.cnf.specs.Literal.{Literal}
+use Rattle.propagate_watches.specs.declared.pool.Entry.{Entry}
+use Rattle.propagate_watches.specs.declared.table.Attachment.{Attachment}
+use Rattle.propagate_watches.specs.declared.table.Attachment.TheVariants.{Waiting}
+use Rattle.propagate_watches.specs.Table.{is_kept, attachment_in}
+use Rattle.propagate_watches.proofs.Laws.{attachment_set_other, attachment_set_same}
 use Rattle.propagate.specs.Trail.{Assigned, is_decision}
 use Rattle.propagate.specs.Watches.{EngineState, is_attached}
 use Rattle.propagate.specs.Steps.{Continues, with_trail}

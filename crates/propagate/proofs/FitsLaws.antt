@@ -2,10 +2,10 @@
 use Rattle.std.proofs.Common.{◌≡◌, ℕ, true, List, [], ◌∷◌, Option, Some, None, IfSome, ◌∙◌}
 use Rattle.std.specs.List.{AllByRecursion}
 use Rattle.std.proofs.lemmas.List.Elements.{recursion_from_All}
-use Rattle.wcnf.specs.Literal.{Literal}
-use Rattle.wcnf.specs.Refute.{Clauses}
+use Rattle.cnf.specs.Literal.{Literal}
+use Rattle.cnf.specs.Refute.{Clauses}
 use Rattle.clauses.specs.Slots.{clause_at}
-use Rattle.watches.specs.Pool.{row_at}
+use Rattle.propagate_watches.specs.Pool.{row_at}
 use Rattle.propagate.specs.Trail.{Assigned, HasReasons, IsJustified}
 use Rattle.propagate.specs.Watches.{is_attached}
 use Rattle.propagate.specs.Fits.{FitsIsLocal, HasBlocker}

@@ -6,14 +6,15 @@ use Rattle.std.proofs.lemmas.Bool.{cases_lt}
 use Rattle.std.proofs.lemmas.List.{take_all, take-append-le, length-map, map_push}
 use Rattle.std.proofs.lemmas.List.{get_or_append_left, length-append}
 use Rattle.std.proofs.lemmas.List.Elements.{All-push}
-use Rattle.wcnf.specs.Literal.{Literal, negation}
-use Rattle.wcnf.specs.Clause.{contains_literal}
+use Rattle.cnf.specs.Literal.{Literal, negation}
+use Rattle.cnf.specs.Clause.{contains_literal}
 use Rattle.clauses.specs.Slots.{Slots, clause_at}
 use Rattle.clauses.specs.Within.{Within}
-use Rattle.watches.specs.declared.table.Attachment.{Attachment}
-use Rattle.watches.specs.declared.table.Attachment.TheVariants.{Detached, Waiting, Satisfied}
-use Rattle.watches.specs.declared.table.Attachment.TheVariants.{Watching}
-use Rattle.watches.specs.Table.{attachment_in}
+use Rattle.propagate_watches.specs.declared.table.Attachment.{Attachment}
+use Rattle.propagate_watches.specs.declared.table.Attachment.TheVariants.{Detached, Waiting}
+use Rattle.propagate_watches.specs.declared.table.Attachment.TheVariants.{Satisfied}
+use Rattle.propagate_watches.specs.declared.table.Attachment.TheVariants.{Watching}
+use Rattle.propagate_watches.specs.Table.{attachment_in}
 use Rattle.propagate.specs.Trail.{Assigned, literals_of, depth_of, kept_to, HasReasons, IsJustified}
 use Rattle.propagate.specs.Watches.{EngineState, is_attached}
 use Rattle.propagate.specs.Fits.{Fits, FitsAttachment, HasTrue, IsCovered, StaysCovered, IsWatch}

@@ -7,9 +7,9 @@ use Rattle.std.proofs.lemmas.Bool.{or_left, or_right, false≢true, eqb-false}
 use Rattle.std.proofs.lemmas.List.{map-append, length-map, get_or_append_left, take-append-drop}
 use Rattle.std.proofs.lemmas.List.{take-take}
 use Rattle.std.proofs.lemmas.List.Folds.{list_any_at}
-use Rattle.wcnf.specs.Literal.{Literal, literal_eq}
-use Rattle.wcnf.specs.Clause.{contains_literal}
-use Rattle.wcnf.proofs.Laws.{literal_eq-true}
+use Rattle.cnf.specs.Literal.{Literal, literal_eq}
+use Rattle.cnf.specs.Clause.{contains_literal}
+use Rattle.cnf.proofs.Laws.{literal_eq-true}
 use Rattle.propagate.specs.Trail.{Assigned, literals_of, depth_of, level_after, level_from}
 use Rattle.propagate.specs.Trail.{level_in, kept_from, kept_to}
 use Rattle.propagate.proofs.Literals.{literal_eq-self, contains-append}

@@ -5,10 +5,10 @@ use Rattle.std.specs.Prelude.{◌==◌}
 use Rattle.std.proofs.lemmas.Bool.{or_parts, or_from, and_left, eqb-false, eq-eqb, ne_eqb}
 use Rattle.std.proofs.lemmas.Bool.{cases_Bool}
 use Rattle.std.proofs.lemmas.List.Folds.{list_any-append}
-use Rattle.wcnf.specs.Literal.{Literal, negation, literal_eq, same_bool, index_of}
-use Rattle.wcnf.specs.Clause.{contains_literal}
-pub use Rattle.wcnf.proofs.Laws.{contains-push, literal_eq-refl as literal_eq-self, negation_twice}
-use Rattle.wcnf.proofs.Laws.{index_same, index_below}
+use Rattle.cnf.specs.Literal.{Literal, negation, literal_eq, same_bool, index_of}
+use Rattle.cnf.specs.Clause.{contains_literal}
+pub use Rattle.cnf.proofs.Laws.{contains-push, literal_eq-refl as literal_eq-self, negation_twice}
+use Rattle.cnf.proofs.Laws.{index_same, index_below}
 use Rattle.propagate.specs.Tables.{mentions}
 use Rattle.propagate.specs.Watches.{IsVariable}
 

@@ -6,14 +6,14 @@ use Rattle.std.specs.List.{AllByRecursion}
 use Rattle.std.proofs.lemmas.Bool.{cases_Bool, or_cases, false≢true, both_ways, false_from_ne_true}
 use Rattle.std.proofs.lemmas.List.Elements.{All-head, All-tail, All-nil, All-cons}
 use Rattle.std.proofs.lemmas.List.Elements.{recursion_from_All}
-use Rattle.wcnf.specs.Literal.{Literal, negation, literal_eq}
-use Rattle.wcnf.specs.Clause.{contains_literal, greatest_variable}
-use Rattle.wcnf.specs.Refute.{Clauses, IsUnit, IsFalseUnder}
-use Rattle.wcnf.proofs.Laws.{literal_eq-true}
+use Rattle.cnf.specs.Literal.{Literal, negation, literal_eq}
+use Rattle.cnf.specs.Clause.{contains_literal, greatest_variable}
+use Rattle.cnf.specs.Refute.{Clauses, IsUnit, IsFalseUnder}
+use Rattle.cnf.proofs.Laws.{literal_eq-true}
 use Rattle.clauses.specs.Slots.{Slots, clause_at}
-use Rattle.watches.specs.declared.table.Attachment.{Attachment}
-use Rattle.watches.specs.declared.table.Attachment.TheVariants.{Waiting}
-use Rattle.watches.specs.Table.{is_kept, attachment_in, IsWatchedBy}
+use Rattle.propagate_watches.specs.declared.table.Attachment.{Attachment}
+use Rattle.propagate_watches.specs.declared.table.Attachment.TheVariants.{Waiting}
+use Rattle.propagate_watches.specs.Table.{is_kept, attachment_in, IsWatchedBy}
 use Rattle.propagate.specs.Trail.{Assigned, literals_of, value_in, HasReasons}
 use Rattle.propagate.specs.Watches.{EngineState, IsVariable, is_attached}
 use Rattle.propagate.specs.Fits.{Fits, IsWithin}

@@ -5,9 +5,9 @@ use Rattle.std.specs.Prelude.{is_none, IfSome, nat_le, if◌then◌else◌, ◌=
 use Rattle.std.specs.List.{AllByRecursion}
 use Rattle.std.proofs.lemmas.List.{length-map}
 use Rattle.std.proofs.Math.ListN.{get_or-map}
-use Rattle.wcnf.specs.Literal.{Literal}
+use Rattle.cnf.specs.Literal.{Literal}
 use Rattle.clauses.specs.Slots.{Renaming, renamed}
-use Rattle.watches.proofs.Laws.{named_listed}
+use Rattle.propagate_watches.proofs.Laws.{named_listed}
 use Rattle.propagate.specs.Trail.{Assigned, literals_of, depth_of, value_in, level_in, level_from}
 use Rattle.propagate.specs.Trail.{level_after, kept_from, kept_to, is_decision}
 use Rattle.propagate.specs.Tables.{assigned_by, reason_at, IsTrail}

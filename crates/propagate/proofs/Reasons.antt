@@ -3,11 +3,11 @@ use Rattle.std.proofs.Common.{◌≡◌, ℕ, Bool, true, false, ◌||◌, List,
 use Rattle.std.proofs.Common.{None, inl, inr, refl, sym, ◌∙◌, ap, subst}
 use Rattle.std.proofs.lemmas.Bool.{or_cases, both_ways, false≢true}
 use Rattle.std.proofs.lemmas.List.{append-nil}
-use Rattle.wcnf.specs.Literal.{Literal, negation, literal_eq}
-use Rattle.wcnf.specs.Clause.{contains_literal, HaveSame}
-use Rattle.wcnf.specs.Refute.{Clauses}
-use Rattle.wcnf.proofs.Laws.{literal_eq-true}
-use Rattle.wcnf.proofs.Laws.{unit_same}
+use Rattle.cnf.specs.Literal.{Literal, negation, literal_eq}
+use Rattle.cnf.specs.Clause.{contains_literal, HaveSame}
+use Rattle.cnf.specs.Refute.{Clauses}
+use Rattle.cnf.proofs.Laws.{literal_eq-true}
+use Rattle.cnf.proofs.Laws.{unit_same}
 use Rattle.propagate.specs.Trail.{Assigned, literals_of, HasReasons, IsJustified}
 use Rattle.propagate.proofs.Literals.{literal_eq-negation, negation_twice, contains-append}
 

@@ -8,18 +8,19 @@ use Rattle.std.proofs.lemmas.Bool.{cases_eq, cases_Bool, false≢true}
 use Rattle.std.proofs.lemmas.List.{length-map}
 use Rattle.std.proofs.lemmas.List.Elements.{recursion_from_All, All-from_recursion, All-map}
 use Rattle.std.proofs.Math.ListN.{get_or-map}
-use Rattle.wcnf.specs.Literal.{Literal}
-use Rattle.wcnf.specs.Refute.{Clauses}
+use Rattle.cnf.specs.Literal.{Literal}
+use Rattle.cnf.specs.Refute.{Clauses}
 use Rattle.clauses.specs.Slots.{Slots, clause_at, Renaming, renamed, IsRenaming}
 use Rattle.clauses.proofs.Laws.{same_origin, same_clause}
-use Rattle.watches.specs.declared.pool.Entry.{Entry}
-use Rattle.watches.specs.declared.table.Attachment.{Attachment}
-use Rattle.watches.specs.declared.table.Attachment.TheVariants.{Detached, Waiting, Satisfied}
-use Rattle.watches.specs.declared.table.Attachment.TheVariants.{Watching}
-use Rattle.watches.specs.Pool.{row_at}
-use Rattle.watches.specs.Table.{IsWatching, is_kept, attachment_in}
-use Rattle.watches.specs.Renames.{IsMoved, named, named_entry, named_rows}
-use Rattle.watches.proofs.Laws.{moved_to, moved_from, named_listed}
+use Rattle.propagate_watches.specs.declared.pool.Entry.{Entry}
+use Rattle.propagate_watches.specs.declared.table.Attachment.{Attachment}
+use Rattle.propagate_watches.specs.declared.table.Attachment.TheVariants.{Detached, Waiting}
+use Rattle.propagate_watches.specs.declared.table.Attachment.TheVariants.{Satisfied}
+use Rattle.propagate_watches.specs.declared.table.Attachment.TheVariants.{Watching}
+use Rattle.propagate_watches.specs.Pool.{row_at}
+use Rattle.propagate_watches.specs.Table.{IsWatching, is_kept, attachment_in}
+use Rattle.propagate_watches.specs.Renames.{IsMoved, named, named_entry, named_rows}
+use Rattle.propagate_watches.proofs.Laws.{moved_to, moved_from, named_listed}
 use Rattle.propagate.specs.Trail.{Assigned, TrailState, HasReasons, IsJustified}
 use Rattle.propagate.specs.Watches.{EngineState, engine_state, IsEngine, is_attached, watches_at}
 use Rattle.propagate.specs.Watches.{count_in, one_at}

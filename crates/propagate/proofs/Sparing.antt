@@ -5,12 +5,12 @@ use Rattle.std.specs.Prelude.{All, IfSome}
 use Rattle.std.specs.List.{AllByRecursion}
 use Rattle.std.proofs.lemmas.Bool.{cases_Bool, both_ways}
 use Rattle.clauses.specs.Slots.{Slots}
-use Rattle.watches.specs.declared.pool.Entry.{Entry}
-use Rattle.watches.specs.declared.table.Attachment.{Attachment}
-use Rattle.watches.specs.declared.table.Attachment.TheVariants.{Detached}
-use Rattle.watches.specs.Pool.{row_at}
-use Rattle.watches.specs.Table.{is_kept, attachment_in}
-use Rattle.watches.specs.Doomed.{is_doomed, spared_entries, spared_rows, IsSpared}
+use Rattle.propagate_watches.specs.declared.pool.Entry.{Entry}
+use Rattle.propagate_watches.specs.declared.table.Attachment.{Attachment}
+use Rattle.propagate_watches.specs.declared.table.Attachment.TheVariants.{Detached}
+use Rattle.propagate_watches.specs.Pool.{row_at}
+use Rattle.propagate_watches.specs.Table.{is_kept, attachment_in}
+use Rattle.propagate_watches.specs.Doomed.{is_doomed, spared_entries, spared_rows, IsSpared}
 use Rattle.propagate.specs.Trail.{Assigned}
 use Rattle.propagate.specs.Watches.{EngineState, is_attached, watches_at, count_in}
 use Rattle.propagate.specs.Fits.{Fits, FitsAttachment, HasBlocker}

@@ -8,21 +8,22 @@ use Rattle.std.proofs.lemmas.Bool.{cases_eq, both_ways, or_left}
 use Rattle.std.proofs.lemmas.List.{get_or-set_same, get_or-set_other, length-set, drop_more}
 use Rattle.std.proofs.lemmas.List.{take_more_set, drop-set-lt, length_push}
 use Rattle.std.proofs.lemmas.List.Sums.{sum_by-append}
-use Rattle.wcnf.specs.Literal.{Literal, negation, index_of, literal_eq}
-use Rattle.wcnf.specs.Clause.{contains_literal}
-use Rattle.wcnf.specs.Refute.{IsUnit}
-use Rattle.wcnf.proofs.Laws.{index_same}
+use Rattle.cnf.specs.Literal.{Literal, negation, index_of, literal_eq}
+use Rattle.cnf.specs.Clause.{contains_literal}
+use Rattle.cnf.specs.Refute.{IsUnit}
+use Rattle.cnf.proofs.Laws.{index_same}
 use Rattle.clauses.specs.Slots.{Slots, clause_at}
-use Rattle.watches.specs.declared.pool.Entry.{Entry}
-use Rattle.watches.specs.declared.table.Attachment.{Attachment}
-use Rattle.watches.specs.declared.table.Attachment.TheVariants.{Detached, Waiting, Satisfied}
-use Rattle.watches.specs.declared.table.Attachment.TheVariants.{Watching}
-use Rattle.watches.specs.declared.table.Rest.{Rest}
-use Rattle.watches.specs.declared.table.Rest.TheVariants.{Nothing, One, Many}
-use Rattle.watches.specs.Pool.{row_at, with_row, closed_row}
-use Rattle.watches.specs.Table.{is_kept, attachment_in, rest_in, IsWatching, rest_after}
-use Rattle.watches.specs.Table.{IsWatchedBy}
-use Rattle.watches.proofs.Laws.{attachment_set_other, attachment_set_same}
+use Rattle.propagate_watches.specs.declared.pool.Entry.{Entry}
+use Rattle.propagate_watches.specs.declared.table.Attachment.{Attachment}
+use Rattle.propagate_watches.specs.declared.table.Attachment.TheVariants.{Detached, Waiting}
+use Rattle.propagate_watches.specs.declared.table.Attachment.TheVariants.{Satisfied}
+use Rattle.propagate_watches.specs.declared.table.Attachment.TheVariants.{Watching}
+use Rattle.propagate_watches.specs.declared.table.Rest.{Rest}
+use Rattle.propagate_watches.specs.declared.table.Rest.TheVariants.{Nothing, One, Many}
+use Rattle.propagate_watches.specs.Pool.{row_at, with_row, closed_row}
+use Rattle.propagate_watches.specs.Table.{is_kept, attachment_in, rest_in, IsWatching, rest_after}
+use Rattle.propagate_watches.specs.Table.{IsWatchedBy}
+use Rattle.propagate_watches.proofs.Laws.{attachment_set_other, attachment_set_same}
 use Rattle.propagate.specs.Trail.{Assigned, literals_of, kept_to}
 use Rattle.propagate.specs.Watches.{EngineState, IsEngine, IsVariable, is_attached, watches_at}
 use Rattle.propagate.specs.Watches.{one_at, count_in}

@@ -13,7 +13,7 @@ use Rattle.std.proofs.lemmas.List.{length_push, get_or_push, get_or_append_left,
 use Rattle.std.proofs.lemmas.List.{take_all}
 use Rattle.std.proofs.lemmas.List.Sums.{sum_by-cons}
 use Rattle.std.proofs.lemmas.List.Elements.{All-push, All-nil}
-use Rattle.wcnf.specs.Literal.{Literal, negation, index_of}
+use Rattle.cnf.specs.Literal.{Literal, negation, index_of}
 use Rattle.propagate.specs.Trail.{Assigned, literals_of, depth_of, value_in, level_in, level_after}
 use Rattle.propagate.specs.Trail.{position_in, position_from}
 use Rattle.propagate.specs.Tables.{mentions, reason_at, assigned_by, IsTrail}

@@ -8,8 +8,8 @@ use Rattle.std.proofs.lemmas.Bool.{false≢true, both_ways, cond-true, cond-fals
 use Rattle.std.proofs.lemmas.List.{map_push, length_push, get_or-set_other, length-set, get_or_push}
 use Rattle.std.proofs.lemmas.List.{get_or_append_left, take-append-le, take_all}
 use Rattle.std.proofs.lemmas.List.Sums.{sum_by-set, sum_by-cons, sum_by_push}
-use Rattle.wcnf.specs.Literal.{Literal, negation, literal_eq}
-use Rattle.wcnf.specs.Clause.{contains_literal}
+use Rattle.cnf.specs.Literal.{Literal, negation, literal_eq}
+use Rattle.cnf.specs.Clause.{contains_literal}
 use Rattle.propagate.specs.Trail.{Assigned, literals_of, depth_of, is_decision, value_in, level_in}
 use Rattle.propagate.specs.Trail.{level_from, level_after, reason_in}
 use Rattle.propagate.specs.Tables.{mentions, reason_at, assigned_by}

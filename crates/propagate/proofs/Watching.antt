@@ -7,15 +7,16 @@ use Rattle.std.specs.List.{AllByRecursion}
 use Rattle.std.proofs.lemmas.Bool.{cases_eq, false_from_ne_true}
 use Rattle.std.proofs.lemmas.List.{get_or-set_same, get_or-set_other, length-set, set-set}
 use Rattle.std.proofs.lemmas.List.{set-get_or, take_at}
-use Rattle.wcnf.specs.Literal.{Literal, negation, index_of}
-use Rattle.wcnf.specs.Clause.{contains_literal}
+use Rattle.cnf.specs.Literal.{Literal, negation, index_of}
+use Rattle.cnf.specs.Clause.{contains_literal}
 use Rattle.clauses.specs.Slots.{Slots, clause_at}
-use Rattle.watches.specs.declared.pool.Entry.{Entry}
-use Rattle.watches.specs.declared.table.Rest.{Rest}
-use Rattle.watches.specs.declared.table.Attachment.TheVariants.{Waiting, Satisfied, Watching}
-use Rattle.watches.specs.Pool.{row_at, with_row}
-use Rattle.watches.specs.Table.{is_kept, attachment_in}
-use Rattle.watches.proofs.Laws.{attachment_set_other, attachment_set_same}
+use Rattle.propagate_watches.specs.declared.pool.Entry.{Entry}
+use Rattle.propagate_watches.specs.declared.table.Rest.{Rest}
+use Rattle.propagate_watches.specs.declared.table.Attachment.TheVariants.{Waiting, Satisfied}
+use Rattle.propagate_watches.specs.declared.table.Attachment.TheVariants.{Watching}
+use Rattle.propagate_watches.specs.Pool.{row_at, with_row}
+use Rattle.propagate_watches.specs.Table.{is_kept, attachment_in}
+use Rattle.propagate_watches.proofs.Laws.{attachment_set_other, attachment_set_same}
 use Rattle.propagate.specs.Trail.{literals_of, depth_of, level_in, value_in, kept_to}
 use Rattle.propagate.specs.Watches.{EngineState, IsEngine, is_attached, watches_at, one_at}
 use Rattle.propagate.specs.Watches.{count_in}

@@ -2,18 +2,19 @@
 use Rattle.std.specs.Prelude.{◌≡◌, ◌≢◌, ℕ, ◌<◌, ◌≤◌, Bool, true, List, [], ◌∷◌, ◌++◌, take, map}
 use Rattle.std.specs.Prelude.{Option, Some, None, All, IfSome, Contains, ⊤, ◌⊎◌}
 use Rattle.std.specs.List.{AllByRecursion}
-use Rattle.wcnf.specs.Literal.{Literal, negation}
-use Rattle.wcnf.specs.Clause.{contains_literal, greatest_variable}
-use Rattle.wcnf.specs.Refute.{IsUnit, IsFalseUnder}
+use Rattle.cnf.specs.Literal.{Literal, negation}
+use Rattle.cnf.specs.Clause.{contains_literal, greatest_variable}
+use Rattle.cnf.specs.Refute.{IsUnit, IsFalseUnder}
 use Rattle.clauses.specs.Slots.{Slots, clause_at, Renaming, renamed, IsRenaming}
-use Rattle.watches.specs.Pool.{row_at}
-use Rattle.watches.specs.declared.pool.Entry.{Entry}
-use Rattle.watches.specs.declared.table.Attachment.{Attachment}
-use Rattle.watches.specs.declared.table.Attachment.TheVariants.{Detached, Waiting, Satisfied}
-use Rattle.watches.specs.declared.table.Attachment.TheVariants.{Watching}
-use Rattle.watches.specs.declared.table.Rest.{Rest}
-use Rattle.watches.specs.declared.table.Rest.TheVariants.{Nothing, One, Many}
-use Rattle.watches.specs.Table.{attachment_in}
+use Rattle.propagate_watches.specs.Pool.{row_at}
+use Rattle.propagate_watches.specs.declared.pool.Entry.{Entry}
+use Rattle.propagate_watches.specs.declared.table.Attachment.{Attachment}
+use Rattle.propagate_watches.specs.declared.table.Attachment.TheVariants.{Detached, Waiting}
+use Rattle.propagate_watches.specs.declared.table.Attachment.TheVariants.{Satisfied}
+use Rattle.propagate_watches.specs.declared.table.Attachment.TheVariants.{Watching}
+use Rattle.propagate_watches.specs.declared.table.Rest.{Rest}
+use Rattle.propagate_watches.specs.declared.table.Rest.TheVariants.{Nothing, One, Many}
+use Rattle.propagate_watches.specs.Table.{attachment_in}
 use Rattle.propagate.specs.Trail.{Assigned, literals_of, kept_to, HasReasons}
 use Rattle.propagate.specs.Watches.{EngineState, is_attached, watches_at, count_in}
 

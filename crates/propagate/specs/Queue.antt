@@ -1,8 +1,8 @@
 -- What the looks at clauses answer.
 use Rattle.std.specs.Prelude.{◌≢◌, ℕ, ◌+◌}
-use Rattle.wcnf.specs.Literal.{Literal}
+use Rattle.cnf.specs.Literal.{Literal}
 use Rattle.clauses.specs.Slots.{Slots}
-use Rattle.watches.specs.Table.{attachment_in, IsWatchedBy}
+use Rattle.propagate_watches.specs.Table.{attachment_in, IsWatchedBy}
 use Rattle.propagate.specs.declared.engine.queue.Look.{Look}
 use Rattle.propagate.specs.declared.engine.queue.Look.TheVariants.{True, Watch, Unit as UnitLook}
 use Rattle.propagate.specs.declared.engine.queue.Look.TheVariants.{False}

@@ -2,18 +2,19 @@
 use Rattle.std.specs.Prelude.{◌≡◌, ◌≢◌, ℕ, ◌≤◌, ◌<◌, length, take, Bool, true}
 use Rattle.std.specs.Prelude.{false, List, [], ◌∷◌, ◌++◌, Some, None, slice_set, ◌⊎◌}
 use Rattle.std.specs.List.{AllByRecursion}
-use Rattle.wcnf.specs.Literal.{Literal, negation, index_of}
-use Rattle.wcnf.specs.Clause.{contains_literal}
-use Rattle.wcnf.specs.Refute.{IsUnit, IsFalseUnder}
+use Rattle.cnf.specs.Literal.{Literal, negation, index_of}
+use Rattle.cnf.specs.Clause.{contains_literal}
+use Rattle.cnf.specs.Refute.{IsUnit, IsFalseUnder}
 use Rattle.clauses.specs.Slots.{Slots, clause_at}
-use Rattle.watches.specs.declared.pool.Entry.{Entry}
-use Rattle.watches.specs.declared.table.Attachment.{Attachment}
-use Rattle.watches.specs.declared.table.Attachment.TheVariants.{Detached, Waiting, Satisfied}
-use Rattle.watches.specs.declared.table.Attachment.TheVariants.{Watching}
-use Rattle.watches.specs.declared.table.Rest.{Rest}
-use Rattle.watches.specs.Pool.{row_at, with_row, closed_row}
-use Rattle.watches.specs.Table.{attachment_in, rest_in, IsWatchedBy, rest_after}
-use Rattle.watches.specs.Table.{grown_table}
+use Rattle.propagate_watches.specs.declared.pool.Entry.{Entry}
+use Rattle.propagate_watches.specs.declared.table.Attachment.{Attachment}
+use Rattle.propagate_watches.specs.declared.table.Attachment.TheVariants.{Detached, Waiting}
+use Rattle.propagate_watches.specs.declared.table.Attachment.TheVariants.{Satisfied}
+use Rattle.propagate_watches.specs.declared.table.Attachment.TheVariants.{Watching}
+use Rattle.propagate_watches.specs.declared.table.Rest.{Rest}
+use Rattle.propagate_watches.specs.Pool.{row_at, with_row, closed_row}
+use Rattle.propagate_watches.specs.Table.{attachment_in, rest_in, IsWatchedBy, rest_after}
+use Rattle.propagate_watches.specs.Table.{grown_table}
 use Rattle.propagate.specs.Trail.{Assigned, literals_of, is_decision, value_in}
 use Rattle.propagate.specs.Watches.{EngineState, SameAttached, IsVariable, is_attached}
 use Rattle.propagate.specs.Fits.{Fits, HasTrue, IsRest, IsWithin, IsFalseClause}

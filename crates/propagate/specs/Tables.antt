@@ -3,7 +3,7 @@ use Rattle.std.specs.Prelude.{◌≡◌, ℕ, ◌+◌, ◌*◌, ◌<◌, ◌≤�
 use Rattle.std.specs.Prelude.{take, All, Option, None, is_none, ◌==◌, slice_index, slice_index_or}
 use Rattle.std.specs.Prelude.{count_by}
 use Rattle.std.specs.List.{list_any}
-use Rattle.wcnf.specs.Literal.{Literal, index_of}
+use Rattle.cnf.specs.Literal.{Literal, index_of}
 use Rattle.propagate.specs.Trail.{Assigned, depth_of, value_in, level_in}
 use Rattle.propagate.specs.Watches.{IsVariable}
 

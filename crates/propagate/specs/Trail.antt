@@ -1,9 +1,9 @@
 -- The trail: the literals that are true, in the order in which they became so.
 use Rattle.std.specs.Prelude.{◌≡◌, ℕ, ◌+◌, Bool, true, false, List, [], ◌∷◌, map, Option, Some}
 use Rattle.std.specs.Prelude.{None, is_none, ◌==◌, nat_le, if◌then◌else◌, count_by}
-use Rattle.wcnf.specs.Literal.{Literal, negation}
-use Rattle.wcnf.specs.Clause.{contains_literal}
-use Rattle.wcnf.specs.Refute.{Clauses, IsUnit}
+use Rattle.cnf.specs.Literal.{Literal, negation}
+use Rattle.cnf.specs.Clause.{contains_literal}
+use Rattle.cnf.specs.Refute.{Clauses, IsUnit}
 
 -- a true literal, with the reference of the clause that was unit; a decision has none
 pub record Assigned : Type 0 where

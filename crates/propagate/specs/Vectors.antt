@@ -1,8 +1,9 @@
 -- A worked trail: 1 is decided, 2 follows by the clause 0 and 3 by the clause 1.
 use Rattle.std.specs.Prelude.{◌≡◌, true, false, List, [], ◌∷◌, Some, None, refl}
-use Rattle.wcnf.specs.Literal.{positive as p, negative as n}
-use Rattle.watches.specs.declared.table.Attachment.TheVariants.{Detached, Waiting, Watching}
-use Rattle.watches.specs.declared.table.Rest.TheVariants.{Nothing}
+use Rattle.cnf.specs.Literal.{positive as p, negative as n}
+use Rattle.propagate_watches.specs.declared.table.Attachment.TheVariants.{Detached, Waiting}
+use Rattle.propagate_watches.specs.declared.table.Attachment.TheVariants.{Watching}
+use Rattle.propagate_watches.specs.declared.table.Rest.TheVariants.{Nothing}
 use Rattle.propagate.specs.Watches.{EngineState, engine_state, is_attached}
 use Rattle.propagate.specs.Tables.{assigned_by}
 use Rattle.propagate.specs.Trail.{Assigned, TrailState, literals_of, depth_of, level_in, reason_in}

@@ -3,7 +3,7 @@ ghost use Rattle.std.specs.Prelude.{◌≡◌, ℕ, ◌+◌, ◌<◌, ◌≤◌,
 ghost use Rattle.std.specs.Prelude.{Some, None, length, map, All, Contains, OnOk, OnErr, IfOk};
 ghost use Rattle.std.specs.Prelude.{IfSome, IfNone, IsErr, ◌↔◌};
 ghost use Rattle.clauses.specs.Slots.{Slots, IsLive, clause_at};
-ghost use Rattle.watches.specs.Table.{attachment_in};
+ghost use Rattle.propagate_watches.specs.Table.{attachment_in};
 ghost use Rattle.propagate.specs.Trail.{literals_of, depth_of, value_in, level_in, position_in};
 ghost use Rattle.propagate.specs.Trail.{reason_in, kept_to};
 ghost use Rattle.propagate.specs.Watches.{is_attached, SameAttached, SetsAttached};
@@ -20,9 +20,9 @@ use crate::trail::Trail;
 use clauses::store::{CRef, Store};
 use std::alloc::{AllocError, Global};
 use std::marker::Model;
-use watches::pool::WatchPool;
-use watches::table::{Attachment, Table};
-use wcnf::types::Lit;
+use propagate_watches::pool::WatchPool;
+use propagate_watches::table::{Attachment, Table};
+use cnf::types::Lit;
 
 /// Why an engine gave no answer.
 #[derive(Clone, Copy, Debug, PartialEq, Eq, Drop)]

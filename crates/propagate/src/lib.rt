@@ -5,7 +5,7 @@
 #![tactic(auto)]
 
 pub mod engine;
-mod names;
+mod moved;
 mod search;
 mod trail;
 mod truth;

@@ -1,13 +1,13 @@
 // Searches in the literals of a clause, from the first on.
 ghost use Rattle.std.specs.Prelude.{◌≡◌, ◌≢◌, ◌≤◌, true, false, Some, None, All, IfSome};
 ghost use Rattle.std.specs.Prelude.{MatchOption, ◌⊎◌};
-ghost use Rattle.wcnf.specs.Clause.{contains_literal};
+ghost use Rattle.cnf.specs.Clause.{contains_literal};
 ghost use Rattle.propagate.specs.Trail.{value_in, level_in};
 ghost use Rattle.propagate.specs.Fits.{IsRest};
 
 use crate::trail::Trail;
-use watches::table::Rest;
-use wcnf::types::Lit;
+use propagate_watches::table::Rest;
+use cnf::types::Lit;
 
 /// The first literal that is not false; none where all are.
 pub(crate) fn find_not_false(trail: &Trail, lits: &[Lit]) -> Option<Lit>

@@ -4,7 +4,7 @@ ghost use Rattle.std.specs.Prelude.{◌≡◌, ◌-◌, ◌<◌, ◌≤◌, ◌*
 ghost use Rattle.std.specs.Prelude.{◌∷◌, ◌++◌, Some, None, length, take, All, IfOk, slice_set};
 ghost use Rattle.std.specs.Prelude.{slice_index_or};
 ghost use Rattle.std.specs.Option.{option_map};
-ghost use Rattle.wcnf.specs.Literal.{index_of, negation};
+ghost use Rattle.cnf.specs.Literal.{index_of, negation};
 ghost use Rattle.propagate.specs.Watches.{IsVariable};
 ghost use Rattle.propagate.specs.Trail.{literals_of, depth_of, value_in, level_in, position_in};
 ghost use Rattle.propagate.specs.Trail.{reason_in, kept_to};
@@ -15,7 +15,7 @@ use crate::vardata::VarTable;
 use clauses::store::{CRef, Moves};
 use std::alloc::{AllocError, Global};
 use std::marker::Model;
-use wcnf::types::Lit;
+use cnf::types::Lit;
 
 /// Literals in the order in which they became true. It has room for all variables, so it takes
 /// memory only when it is made.

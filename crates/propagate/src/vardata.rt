@@ -4,7 +4,7 @@ ghost use Rattle.std.specs.Prelude.{slice_set, slice_index, slice_index_or, IfOk
 ghost use Rattle.propagate.specs.Renames.{named_reason};
 ghost use Rattle.propagate.specs.Vardata.{named_var_data};
 
-use crate::names::new_reason;
+use crate::moved::new_reason;
 use clauses::store::{CRef, MaybeCRef, Moves};
 use clauses::words::MaybeWord;
 use std::alloc::{AllocError, Global};

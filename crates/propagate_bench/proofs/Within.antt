@@ -2,8 +2,8 @@
 use Rattle.std.proofs.Common.{ℕ, ◌<◌, ◌≤◌, List, [], ◌∷◌, arith}
 use Rattle.std.specs.List.{AllByRecursion}
 use Rattle.std.proofs.lemmas.List.Elements.{All-from_recursion}
-use Rattle.wcnf.specs.Literal.{Literal}
-use Rattle.wcnf.specs.Clause.{greatest_variable}
+use Rattle.cnf.specs.Literal.{Literal}
+use Rattle.cnf.specs.Clause.{greatest_variable}
 use Rattle.propagate.specs.Watches.{IsVariable}
 use Rattle.propagate.specs.Fits.{IsWithin}
 

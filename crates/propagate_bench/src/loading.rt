@@ -7,9 +7,9 @@ use crate::faults::Fault;
 use clauses::store::{CRef, Store};
 use propagate::engine::Engine;
 use std::alloc::AllocError;
-use wcnf::limits::VARIABLE_LIMIT;
-use wcnf::text::{lines, number, tokens};
-use wcnf::types::Lit;
+use cnf::limits::VARIABLE_LIMIT;
+use text::cutting::{lines, number, tokens};
+use cnf::types::Lit;
 
 /// What a token says.
 #[derive(Clone, Copy, Drop)]

@@ -5,7 +5,7 @@ ghost use Rattle.propagate.specs.Fits.{Fits};
 use crate::faults::Fault;
 use clauses::store::Store;
 use propagate::engine::Engine;
-use wcnf::types::Lit;
+use cnf::types::Lit;
 
 /// What the rounds did. A propagation is a literal that came onto the trail and was no decision.
 #[derive(Clone, Copy, Drop)]

@@ -1,7 +1,7 @@
 -- What was written of what was found.
 use Rattle.std.proofs.Common.{◌≡◌, ℕ, Bool, List, ◌++◌, Option, sym, ◌∙◌, ap, subst}
 use Rattle.std.specs.Io.KnownBytes.{Appends}
-use Rattle.wcnf.specs.Writing.{AppendsPart}
+use Rattle.text.specs.Writing.{AppendsPart}
 use Rattle.improve.specs.declared.found.Found.{Found}
 use Rattle.report.specs.declared.status.Status.{Status}
 use Rattle.report.specs.declared.fault.RunFault.{RunFault}

@@ -7,9 +7,9 @@ use Rattle.std.proofs.lemmas.Fmt.{length-decimal-le}
 use Rattle.std.specs.Io.KnownBytes.{Appends, Keeps}
 use Rattle.std.proofs.KnownBytes.{Appends-trans, Appends-kept}
 use Rattle.std.proofs.lemmas.List.{drop-set, drop_more, drop_all, length-set}
-use Rattle.wcnf.specs.Writing.{spaced, AppendsPart}
+use Rattle.text.specs.Writing.{spaced, AppendsPart}
 use Rattle.std.proofs.lemmas.Grind.{flat_map-append}
-use Rattle.result_read.specs.Result.{cost_tokens}
+use Rattle.lrat_result.specs.Result.{cost_tokens}
 use Rattle.report.specs.Telling.{cost_lines, Tells}
 
 -- a number of 64 bits has at most 20 digits

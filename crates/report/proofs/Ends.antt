@@ -6,27 +6,28 @@ use Rattle.std.specs.Prelude.{All, IfSome}
 use Rattle.std.specs.Io.KnownBytes.{Appends}
 use Rattle.std.proofs.KnownBytes.{Appends-nil, Appends-trans, Keeps-refl}
 use lib.Chars.{codes}
-use Rattle.wcnf.specs.Literal.{Literal}
-use Rattle.wcnf.specs.Bits.{assignment_of}
-use Rattle.wcnf.specs.Problem.{Problem}
+use Rattle.cnf.specs.Literal.{Literal}
+use Rattle.cnf.specs.Bits.{assignment_of}
+use Rattle.cnf.specs.Problem.{Problem}
 use Rattle.wcnf.specs.Wcnf.{Reads}
-use Rattle.wcnf.specs.Writing.{AppendsPart, Begins}
-use Rattle.wcnf.specs.Lrat.{IsTextOf, Accepts}
+use Rattle.text.specs.Writing.{AppendsPart, Begins}
+use Rattle.text.specs.LratText.{IsTextOf}
+use Rattle.cnf.specs.Lrat.{Accepts}
 use Rattle.adder.specs.declared.cells.Profile.{Profile}
 use Rattle.bound.specs.Bound.{hard_cnf, bound_as}
 use Rattle.cdcl_order.specs.Budgets.{BudgetState}
 use Rattle.lrat_log.specs.Log.{LogLine, HasSmallIds, numbered_lines, text_of}
 use Rattle.lrat_log.proofs.Laws.{accepted_ids}
-use Rattle.result_read.specs.Result.{Said, OptimumFound as SaysOptimum}
-use Rattle.result_read.specs.Result.{Unsatisfiable as SaysUnsatisfiable}
-use Rattle.result_read.specs.Result.{Satisfiable as SaysSatisfiable, Unknown as SaysUnknown}
-use Rattle.result_read.specs.Result.{FallsTo, Says}
+use Rattle.lrat_result.specs.Result.{Said, OptimumFound as SaysOptimum}
+use Rattle.lrat_result.specs.Result.{Unsatisfiable as SaysUnsatisfiable}
+use Rattle.lrat_result.specs.Result.{Satisfiable as SaysSatisfiable, Unknown as SaysUnknown}
+use Rattle.lrat_result.specs.Result.{FallsTo, Says}
 use Rattle.lrat_check.specs.Checks.{IsProofOver, ChecksAs}
 use Rattle.improve.specs.declared.found.Found.{Found}
 use Rattle.improve.specs.declared.found.Found.TheVariants.{Optimum, Unsat, Best, Nothing}
 use Rattle.improve.specs.Improving.{AreFalling, IsCostOfSome, IsSolution, IsAcceptedOver}
 use Rattle.improve.specs.Improving.{IsClauseCount, IsBoundWork}
-use Rattle.wcnf.proofs.Laws.{extends_own}
+use Rattle.cnf.proofs.Laws.{extends_own}
 use Rattle.report.specs.declared.status.Status.{Status}
 use Rattle.report.specs.declared.fault.RunFault.{RunFault}
 use Rattle.report.specs.declared.fault.RunFault.TheVariants.{Read, Memory, Output, ProofOutput}

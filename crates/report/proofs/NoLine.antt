@@ -2,8 +2,8 @@
 use Rattle.std.proofs.Common.{ℕ, List, [], ◌++◌, Option, refl, sym, ◌∙◌, ap, subst, append_assoc}
 use Rattle.std.proofs.Common.{append-nil}
 use Rattle.std.specs.Io.KnownBytes.{Appends}
-use Rattle.wcnf.specs.Writing.{PassesOn, AppendsPart}
-use Rattle.wcnf.proofs.Laws.{first_fault, passed-more, passed_fault, passed_part, passed_whole}
+use Rattle.text.specs.Writing.{PassesOn, AppendsPart}
+use Rattle.text.proofs.Laws.{first_fault, passed-more, passed_fault, passed_part, passed_whole}
 
 module _ (a b : Option (List ℕ)) (x d e : List ℕ) where
   pub words_fault : AppendsPart a b ([] ++ x) → AppendsPart a b (x ++ (d ++ e))

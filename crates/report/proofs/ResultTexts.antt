@@ -8,11 +8,11 @@ use Rattle.std.proofs.lemmas.List.Concat.{flat_map_single}
 use Rattle.std.proofs.lemmas.List.Elements.{recursion_from_All}
 use Rattle.std.proofs.lemmas.List.Folds.{flat_map-map}
 use lib.Chars.{codes}
-use Rattle.wcnf.specs.Writing.{spaced}
+use Rattle.text.specs.Writing.{spaced}
 use Rattle.lrat_log.proofs.Laws.{IsWord, token_lines-spaced, decimal_word}
-use Rattle.result_read.specs.Result.{Said, OptimumFound, Unsatisfiable, Satisfiable, Unknown}
-use Rattle.result_read.specs.Result.{FallsTo, Says, fall_to, cost_tokens, digit_of, bits_tokens}
-use Rattle.result_read.specs.Result.{is_ignored, result_lines}
+use Rattle.lrat_result.specs.Result.{Said, OptimumFound, Unsatisfiable, Satisfiable, Unknown}
+use Rattle.lrat_result.specs.Result.{FallsTo, Says, fall_to, cost_tokens, digit_of, bits_tokens}
+use Rattle.lrat_result.specs.Result.{is_ignored, result_lines}
 use Rattle.improve.specs.Improving.{AreFalling}
 use Rattle.report.specs.Telling.{cost_lines}
 use Rattle.report.specs.Running.{result_text}

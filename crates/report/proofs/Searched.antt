@@ -3,9 +3,9 @@ use Rattle.std.proofs.Common.{◌≡◌, ℕ, ◌+◌, ◌<◌, ◌^◌, Bool, t
 use Rattle.std.proofs.Common.{Result, Ok, Err, length, refl, sym, ◌∙◌, ap, subst, arith}
 use Rattle.std.specs.Prelude.{All}
 use Rattle.std.proofs.lemmas.List.Elements.{All-weaker}
-use Rattle.wcnf.specs.Problem.{Problem}
-use Rattle.wcnf.specs.Instance.{IsInstance}
-use Rattle.wcnf.specs.Writing.{AppendsPart}
+use Rattle.cnf.specs.Problem.{Problem}
+use Rattle.cnf.specs.Instance.{IsInstance}
+use Rattle.text.specs.Writing.{AppendsPart}
 use Rattle.std.specs.Io.KnownBytes.{Appends}
 use Rattle.std.proofs.KnownBytes.{Appends-nil}
 use Rattle.adder.specs.declared.cells.Profile.{Profile}

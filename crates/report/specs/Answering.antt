@@ -3,10 +3,10 @@ use Rattle.std.specs.Prelude.{◌≡◌, ℕ, ◌+◌, ◌<◌, ◌^◌, Bool, L
 use Rattle.std.specs.List.{flat_map}
 use Rattle.std.specs.Io.KnownBytes.{Appends}
 use lib.Chars.{codes}
-use Rattle.wcnf.specs.Writing.{AppendsPart}
-use Rattle.wcnf.specs.Lrat.{IsTextOf}
+use Rattle.text.specs.Writing.{AppendsPart}
+use Rattle.text.specs.LratText.{IsTextOf}
 use Rattle.lrat_log.specs.Log.{LogLine, HasSmallIds, numbered_lines, text_of}
-use Rattle.result_read.specs.Result.{digit_of}
+use Rattle.lrat_result.specs.Result.{digit_of}
 use Rattle.improve.specs.declared.found.Found.{Found}
 use Rattle.improve.specs.declared.found.Found.TheVariants.{Optimum, Unsat, Best, Nothing}
 use Rattle.report.specs.declared.status.Status.{Status}

@@ -5,11 +5,11 @@ use Rattle.std.specs.Prelude.{ℕ, Bool, List, length, All}
 use Rattle.std.specs.Prelude.{Option, IfSome, Result, Ok, Err, IfOk, OnOk}
 use Rattle.std.specs.List.{flat_map}
 use Rattle.std.specs.Io.KnownBytes.{Keeps, Appends}
-use Rattle.wcnf.specs.Literal.{Assignment}
-use Rattle.wcnf.specs.Bits.{Extends}
-use Rattle.wcnf.specs.Problem.{Problem, IsOptimal, IsInconsistent}
-use Rattle.wcnf.specs.Refute.{IsRefutedByHints}
-use Rattle.wcnf.specs.Writing.{spaced, Begins, AppendsPart}
+use Rattle.cnf.specs.Literal.{Assignment}
+use Rattle.cnf.specs.Bits.{Extends}
+use Rattle.cnf.specs.Problem.{Problem, IsOptimal, IsInconsistent}
+use Rattle.cnf.specs.Refute.{IsRefutedByHints}
+use Rattle.text.specs.Writing.{spaced, Begins, AppendsPart}
 use Rattle.wcnf.specs.Wcnf.{Reads}
 use Rattle.wcnf.specs.Reading.{IsFirstFault}
 use Rattle.wcnf.specs.declared.faults.ReadFault.{ReadFault}
@@ -17,10 +17,10 @@ use Rattle.wcnf.specs.declared.faults.FaultKind.TheVariants.{Memory as MemoryKin
 use Rattle.adder.specs.declared.cells.Profile.{Profile}
 use Rattle.bound.specs.Bound.{hard_cnf}
 use Rattle.cdcl_order.specs.Budgets.{BudgetState, left_of}
-use Rattle.result_read.specs.Result.{Said, FallsTo, Says, result_tokens}
-use Rattle.result_read.specs.Result.{OptimumFound as SaysOptimum}
-use Rattle.result_read.specs.Result.{Unsatisfiable as SaysUnsatisfiable}
-use Rattle.result_read.specs.Result.{Satisfiable as SaysSatisfiable, Unknown as SaysUnknown}
+use Rattle.lrat_result.specs.Result.{Said, FallsTo, Says, result_tokens}
+use Rattle.lrat_result.specs.Result.{OptimumFound as SaysOptimum}
+use Rattle.lrat_result.specs.Result.{Unsatisfiable as SaysUnsatisfiable}
+use Rattle.lrat_result.specs.Result.{Satisfiable as SaysSatisfiable, Unknown as SaysUnknown}
 use Rattle.lrat_check.specs.Checks.{ChecksAs}
 use Rattle.improve.specs.declared.found.Found.{Found}
 use Rattle.improve.specs.declared.found.Work.{Work}

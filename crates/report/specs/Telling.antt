@@ -3,8 +3,8 @@ use Rattle.std.specs.Prelude.{◌≡◌, [], ◌∷◌, ◌++◌, if◌then◌el
 use Rattle.std.specs.Prelude.{ℕ, Bool, true, false, List, Option, Some}
 use Rattle.std.specs.List.{flat_map}
 use Rattle.std.specs.Io.KnownBytes.{Appends}
-use Rattle.wcnf.specs.Writing.{spaced, AppendsPart}
-use Rattle.result_read.specs.Result.{cost_tokens}
+use Rattle.text.specs.Writing.{spaced, AppendsPart}
+use Rattle.lrat_result.specs.Result.{cost_tokens}
 use Rattle.report.specs.declared.fault.RunFault.{RunFault}
 use Rattle.report.specs.declared.fault.RunFault.TheVariants.{Memory, Output}
 

@@ -3,10 +3,10 @@
 ghost use Rattle.std.specs.Prelude.{◌≡◌, ◌+◌, ◌<◌, ◌^◌, ◌++◌, ◌∷◌, []};
 ghost use Rattle.std.specs.Prelude.{length, codes, OnOk, OnErr, IfOk, IfErr};
 ghost use Rattle.std.specs.Io.KnownBytes.{Appends};
-ghost use Rattle.wcnf.specs.Lrat.{IsTextOf};
-ghost use Rattle.wcnf.specs.Writing.{AppendsPart, PassesOn};
+ghost use Rattle.text.specs.LratText.{IsTextOf};
+ghost use Rattle.text.specs.Writing.{AppendsPart, PassesOn};
 ghost use Rattle.lrat_log.specs.Log.{HasSmallIds, numbered_lines, text_of};
-ghost use Rattle.result_read.specs.Result.{digit_of};
+ghost use Rattle.lrat_result.specs.Result.{digit_of};
 ghost use Rattle.report.specs.Answering.{Answers, LeavesAnswer, HasProofRoom};
 ghost use Rattle.report.specs.Answering.{bits_word, digits_text, words_text};
 
@@ -17,8 +17,8 @@ use improve::found::Found;
 use lrat_log::log::{Log, write_to};
 use lrat_log::sink::Sink;
 use std::io::Write;
-use wcnf::faults::WriteFault;
-use wcnf::output::Block;
+use text::output::WriteFault;
+use text::output::Block;
 
 /// Writes what was found, and flushes each writer once.
 ///

@@ -5,7 +5,7 @@ use adder::cells::Profile;
 use clap::builder::ValueParser;
 use clap::{Arg, ArgAction, Command, Error};
 use std::alloc::Global;
-use wcnf::limits::NUMBER_LIMIT;
+use cnf::limits::NUMBER_LIMIT;
 
 /// The greatest cost: weights of an instance sum to less than 2^62.
 pub const MOST_COST: u64 = NUMBER_LIMIT - 1;

@@ -2,15 +2,16 @@
 ghost use Rattle.std.specs.Prelude.{◌≡◌, ◌++◌, OnOk, OnErr, IfErr, IsOk, codes};
 ghost use Rattle.std.specs.Fmt.{decimal};
 ghost use Rattle.std.specs.Io.KnownBytes.{Appends, Keeps};
-ghost use Rattle.wcnf.specs.Writing.{AppendsPart};
+ghost use Rattle.text.specs.Writing.{AppendsPart};
 ghost use Rattle.report.specs.Codes.{code_of_verdict, code_of_fault};
 ghost use Rattle.report.specs.Printing.{no_text, verdict_text};
 
 use crate::fault::RunFault;
 use lrat_check::verdicts::{Cause, Verdict};
 use std::io::Write;
-use wcnf::faults::{FaultKind, ReadFault, WriteFault};
-use wcnf::output::{Block, write_piece};
+use wcnf::faults::{FaultKind, ReadFault};
+use text::output::WriteFault;
+use text::output::{Block, write_piece};
 
 /// Writes the verdict's line: `YES`, or `NO`, the cause's name and the line of the text, result or
 /// certificate that it stands on.

@@ -13,7 +13,7 @@ use improve::search::improve_as;
 use std::alloc::Global;
 use std::io::{Read, Write};
 use wcnf::reading::read_from;
-use wcnf::types::Instance;
+use cnf::types::Instance;
 
 /// Reads an instance, looks for an optimum, and writes the result and the certificate that proves
 /// it.

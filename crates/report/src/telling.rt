@@ -3,8 +3,8 @@
 // whole lines: a line is one write of at most 23 bytes.
 ghost use Rattle.std.specs.Prelude.{◌≡◌, ◌+◌, ◌<◌, ◌^◌, [], Some, drop, slice_index, OnOk, OnErr};
 ghost use Rattle.std.specs.Io.KnownBytes.{Appends};
-ghost use Rattle.wcnf.specs.Writing.{AppendsPart, spaced};
-ghost use Rattle.result_read.specs.Result.{cost_tokens};
+ghost use Rattle.text.specs.Writing.{AppendsPart, spaced};
+ghost use Rattle.lrat_result.specs.Result.{cost_tokens};
 ghost use Rattle.report.specs.Telling.{Tells, fault_of_telling};
 
 use crate::fault::RunFault;
@@ -12,8 +12,8 @@ use improve::progress::{Progress, ProgressFault};
 use itoa::write_digits;
 use std::alloc::Global;
 use std::io::Write;
-use wcnf::faults::WriteFault;
-use wcnf::output::write_piece;
+use text::output::WriteFault;
+use text::output::write_piece;
 
 /// Room for `o `, the 20 digits of the greatest number, and a line feed.
 const LINE_ROOM: usize = 23;

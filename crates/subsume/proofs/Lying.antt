@@ -4,10 +4,10 @@ use Rattle.std.proofs.Common.{take, drop, get_or, if◌then◌else◌, refl, sym
 use Rattle.std.proofs.lemmas.Bool.{false≢true, true≢false, or_left, or_right}
 use Rattle.std.proofs.lemmas.List.{take_more, take-append-drop}
 use Rattle.std.proofs.lemmas.List.Elements.{filter-append}
-use Rattle.wcnf.specs.Literal.{Literal, literal_eq, negation}
-use Rattle.wcnf.specs.Clause.{contains_literal, without_literal}
-use Rattle.wcnf.specs.Marks.{mark_of, are_marked}
-use Rattle.wcnf.proofs.Laws.{literal_eq-refl}
+use Rattle.cnf.specs.Literal.{Literal, literal_eq, negation}
+use Rattle.cnf.specs.Clause.{contains_literal, without_literal}
+use Rattle.cnf.specs.Marks.{mark_of, are_marked}
+use Rattle.cnf.proofs.Laws.{literal_eq-refl}
 use Rattle.subsume.specs.Against.{LiesAgainst, unmarked, against_without, against_of}
 use Rattle.subsume.specs.declared.against.Against.{Against}
 use Rattle.subsume.specs.declared.against.Against.TheVariants.{Apart, Within, ButFor}

@@ -1,9 +1,9 @@
 -- How clauses lie against a marked one.
 use Rattle.std.specs.Prelude.{◌≡◌, Bool, true, not, if◌then◌else◌}
 use Rattle.std.specs.Prelude.{List, [], ◌∷◌, Option, Some, None, filter}
-use Rattle.wcnf.specs.Literal.{Literal, negation}
-use Rattle.wcnf.specs.Clause.{contains_literal, without_literal}
-use Rattle.wcnf.specs.Marks.{mark_of, are_marked}
+use Rattle.cnf.specs.Literal.{Literal, negation}
+use Rattle.cnf.specs.Clause.{contains_literal, without_literal}
+use Rattle.cnf.specs.Marks.{mark_of, are_marked}
 use Rattle.subsume.specs.declared.against.Against.{Against}
 use Rattle.subsume.specs.declared.against.Against.TheVariants.{Apart, Within, ButFor}
 

@@ -1,7 +1,7 @@
 -- Worked signatures: those of 'one or not two' and of 33 alone, and five entries against the first;
 -- and clauses against the marks of 'one or not two'.
 use Rattle.std.specs.Prelude.{◌≡◌, Bool, true, false, List, [], ◌∷◌, refl}
-use Rattle.wcnf.specs.Literal.{positive as p, negative as n}
+use Rattle.cnf.specs.Literal.{positive as p, negative as n}
 use Rattle.subsume.specs.Signatures.{signature_of, all_within}
 use Rattle.subsume.specs.Against.{against_of}
 use Rattle.subsume.specs.declared.against.Against.TheVariants.{Apart, Within, ButFor}

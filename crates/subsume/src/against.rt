@@ -1,10 +1,10 @@
 // How clauses lie against the marked one, found in time linear in these.
 ghost use Rattle.std.specs.Prelude.{◌≡◌, length, All};
-ghost use Rattle.wcnf.specs.Marks.{HasPlace};
+ghost use Rattle.cnf.specs.Marks.{HasPlace};
 ghost use Rattle.subsume.specs.Against.{LiesAgainst, against_of, but_for};
 
-use wcnf::marks::Marks;
-use wcnf::types::Lit;
+use cnf::marks::Marks;
+use cnf::types::Lit;
 
 /// How a clause lies against the marked one.
 #[derive(Clone, Copy, Debug, PartialEq, Eq, Drop)]

@@ -7,15 +7,16 @@ use Rattle.std.specs.List.{flat_map, enumerate_from}
 use Rattle.std.specs.Str.Lines.{lines}
 use Rattle.std.proofs.lemmas.Bool.{cases_Bool, or_right}
 use Rattle.std.proofs.lemmas.List.{append-nil, length_push}
-use Rattle.wcnf.specs.Literal.{Literal, literal_eq}
-use Rattle.wcnf.specs.Clause.{contains_literal, without_literal, distinct, greatest_variable}
-use Rattle.wcnf.specs.Problem.{Problem, SoftClause}
-use Rattle.wcnf.specs.Text.{tokens_of, numbered_text}
+use Rattle.cnf.specs.Literal.{Literal, literal_eq}
+use Rattle.cnf.specs.Clause.{contains_literal, without_literal, distinct, greatest_variable}
+use Rattle.cnf.specs.Problem.{Problem, SoftClause}
+use Rattle.text.specs.Text.{tokens_of, numbered_text}
 use Rattle.wcnf.specs.declared.faults.FaultKind.{FaultKind}
 use Rattle.wcnf.specs.declared.faults.FaultKind.TheVariants.{Variable, TooMany, Count}
 use Rattle.wcnf.specs.Wcnf.{Header, Row, Ignored, Hard, Soft, hard_of, soft_of, literals_of}
 use Rattle.wcnf.specs.Wcnf.{problem_of, headed_problem}
-use Rattle.wcnf.specs.Reading.{Word, Zero, Literal_word, Other, word_of, ended_at, literals_at}
+use Rattle.text.specs.Words.{Word, Zero, Literal_word, Other, word_of}
+use Rattle.wcnf.specs.Reading.{ended_at, literals_at}
 use Rattle.wcnf.specs.Reading.{most_variable, head_of, begins_comment, row_of, with_row, no_totals}
 use Rattle.wcnf.specs.Reading.{rows_on, header_of, is_p, Heading, heading_on, headed, reading_on}
 use Rattle.wcnf.specs.Reading.{reading_of, clause_row, ◌>>=◌}
@@ -23,9 +24,9 @@ use Rattle.wcnf.specs.Drafts.{Gathered, emptied, with_literal, gather, gathered_
 use Rattle.wcnf.specs.Drafts.{nothing_drafted, is_nil, is_empty, totals_of, variables_of}
 use Rattle.wcnf.specs.Drafts.{problem_drafted, with_clause, with_header, drafted_header}
 use Rattle.wcnf.specs.Drafts.{drafted_line, drafted_lines, finished}
-use Rattle.wcnf.proofs.Sound.{literal_eq-true}
+use Rattle.cnf.proofs.Laws.{literal_eq-true}
 use Rattle.wcnf.proofs.Lines.{bind_ok}
-use Rattle.wcnf.proofs.Literals.{literal_eq-refl, literal_eq_ne, literal_ne, contains-push}
+use Rattle.cnf.proofs.Laws.{literal_eq-refl, literal_eq_ne, literal_ne, contains-push}
 
 -- the literals of a clause, one after another
 abbrev gather_all : Gathered → List Literal → Gathered

@@ -1,8 +1,8 @@
 -- From the lines of a text to what the text reads as, or to its first fault.
 use Rattle.std.proofs.Common.{◌≡◌, ℕ, List, [], ◌∷◌, Some, None, refl, sym, ◌∙◌}
 use Rattle.std.specs.Prelude.{Err}
-use Rattle.wcnf.specs.Text.{tokens_of, numbered_text}
-use Rattle.wcnf.specs.Instance.{IsInstance}
+use Rattle.text.specs.Text.{tokens_of, numbered_text}
+use Rattle.cnf.specs.Instance.{IsInstance}
 use Rattle.wcnf.specs.declared.faults.FaultKind.{FaultKind}
 use Rattle.wcnf.specs.declared.faults.FaultKind.TheVariants.{Count}
 use Rattle.wcnf.specs.Wcnf.{Reads}

@@ -4,11 +4,11 @@ use Rattle.std.proofs.Common.{◌≡◌, ℕ, ◌*◌, ◌<◌, ◌≤◌, Bool,
 use Rattle.std.proofs.Common.{refl, sym, ◌∙◌, arith, length}
 use Rattle.std.proofs.lemmas.Bool.{or_from, or_parts}
 use Rattle.std.proofs.lemmas.List.Elements.{All-nil, All-push}
-use Rattle.wcnf.specs.Literal.{Literal, literal_eq}
-use Rattle.wcnf.specs.Clause.{contains_literal, has_repeat}
-use Rattle.wcnf.specs.Marks.{HasPlace, IsMarked}
+use Rattle.cnf.specs.Literal.{Literal, literal_eq}
+use Rattle.cnf.specs.Clause.{contains_literal, has_repeat}
+use Rattle.cnf.specs.Marks.{HasPlace, IsMarked}
 use Rattle.wcnf.specs.Drafts.{AreMarked}
-use Rattle.wcnf.proofs.Literals.{literal_eq_ne, literal_ne, contains-push}
+use Rattle.cnf.proofs.Laws.{literal_eq_ne, literal_ne, contains-push}
 
 pub repeat-push : (c : List Literal) (l : Literal) → contains_literal l c ≡ false
     → has_repeat c ≡ false → has_repeat (c ++ l ∷ []) ≡ false

@@ -6,10 +6,10 @@ use Rattle.std.specs.Fmt.{decimal}
 use lib.Chars.{codes}
 use Rattle.std.proofs.lemmas.Bool.{eqb-true, eqb-false, ne_eqb, ltb-false, le-ltb, cases_Bool}
 use Rattle.std.proofs.lemmas.Slice.Eq.{bytes_eq-Decides}
-use Rattle.wcnf.specs.Text.{number_of}
+use Rattle.text.specs.Text.{number_of}
 use Rattle.wcnf.specs.Wcnf.{Header}
 use Rattle.wcnf.specs.Reading.{number_within, is_wcnf, header_ended, header_of, is_p}
-use Rattle.wcnf.proofs.Numbers.{number_of-decimal, decimal-number_of}
+use Rattle.text.proofs.Laws.{number_of-decimal, decimal-number_of}
 use Rattle.wcnf.proofs.Lines.{same_Ok, err-ok, bind_ok, unless_err, IsForm}
 
 -- the tokens of a header after the first

@@ -10,16 +10,16 @@ use Rattle.std.proofs.KnownBytes.{Consumes-trans, Consumes-whole}
 use Rattle.std.proofs.lemmas.Bool.{eqb-true, eqb-false}
 use Rattle.std.proofs.lemmas.List.{take_rest, nil_from_length}
 use Rattle.std.proofs.lemmas.List.Elements.{All-append, All-nil}
-use Rattle.wcnf.specs.Text.{tokens_of, numbered_text, IsNoFeed, IsFirstFeed}
+use Rattle.text.specs.Text.{tokens_of, numbered_text, IsNoFeed, IsFirstFeed}
 use Rattle.wcnf.specs.Wcnf.{Reads}
-use Rattle.wcnf.specs.Problem.{Problem}
+use Rattle.cnf.specs.Problem.{Problem}
 use Rattle.wcnf.specs.Reading.{IsFirstFault}
 use Rattle.wcnf.specs.Drafts.{Drafted, nothing_drafted, drafted_line, drafted_lines}
 use Rattle.wcnf.specs.Parsing.{Stands, Ends, NoMemory, IsLineFault, Refuses, HasRead}
 use Rattle.wcnf.specs.declared.faults.FaultKind.TheVariants.{Read}
 use Rattle.wcnf.specs.declared.faults.ReadFault.{ReadFault}
 use Rattle.wcnf.specs.declared.parser.Parser.{Parser}
-use Rattle.wcnf.proofs.FirstPieces.{lines-split, lines-last}
+use Rattle.text.proofs.Laws.{lines-split, lines-last}
 use Rattle.wcnf.proofs.FromLines.{whole_fault}
 use Rattle.wcnf.proofs.Texts.{reads_one}
 

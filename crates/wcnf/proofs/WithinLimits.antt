@@ -8,11 +8,11 @@ use Rattle.std.proofs.lemmas.Bool.{cases_Bool, or_from, or_parts}
 use Rattle.std.proofs.lemmas.List.Elements.{All-nil, All-cons, All-head, All-tail, All-weaker}
 use Rattle.std.proofs.lemmas.List.Elements.{All-filter}
 use Rattle.std.proofs.lemmas.List.Sums.{sum_by-cons}
-use Rattle.wcnf.specs.Literal.{Literal, literal_eq}
-use Rattle.wcnf.specs.Clause.{contains_literal, without_literal, distinct, has_repeat}
-use Rattle.wcnf.specs.Clause.{greatest_variable}
-use Rattle.wcnf.specs.Problem.{Problem, SoftClause}
-use Rattle.wcnf.specs.Instance.{IsClauseWithin, IsInstance}
+use Rattle.cnf.specs.Literal.{Literal, literal_eq}
+use Rattle.cnf.specs.Clause.{contains_literal, without_literal, distinct, has_repeat}
+use Rattle.cnf.specs.Clause.{greatest_variable}
+use Rattle.cnf.specs.Problem.{Problem, SoftClause}
+use Rattle.cnf.specs.Instance.{IsClauseWithin, IsInstance}
 use Rattle.wcnf.specs.Wcnf.{Row, Ignored, Hard, Soft, hard_of, soft_of, literals_of, weight_of}
 use Rattle.wcnf.specs.Wcnf.{IsWithinLimits, Reads}
 use Rattle.wcnf.proofs.Drafting.{greatest-append}

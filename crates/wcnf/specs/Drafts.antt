@@ -2,16 +2,17 @@
 use Rattle.std.specs.Prelude.{◌≡◌, ℕ, ◌+◌, ◌<◌, ◌*◌, max, Bool, true, false, ◌&&◌, List, [], ◌∷◌}
 use Rattle.std.specs.Prelude.{◌++◌, length, Option, Some, None, is_none, Result, Ok, Err, nat_lt}
 use Rattle.std.specs.Prelude.{nat_le, if◌then◌else◌, All}
-use Rattle.wcnf.specs.Literal.{Literal}
-use Rattle.wcnf.specs.Clause.{contains_literal, has_repeat}
-use Rattle.wcnf.specs.Marks.{HasPlace, IsMarked}
-use Rattle.wcnf.specs.Problem.{Problem, SoftClause}
-use Rattle.wcnf.specs.Text.{tokens_of}
+use Rattle.cnf.specs.Literal.{Literal}
+use Rattle.cnf.specs.Clause.{contains_literal, has_repeat}
+use Rattle.cnf.specs.Marks.{HasPlace, IsMarked}
+use Rattle.cnf.specs.Problem.{Problem, SoftClause}
+use Rattle.text.specs.Text.{tokens_of}
 use Rattle.wcnf.specs.declared.faults.FaultKind.{FaultKind}
 use Rattle.wcnf.specs.declared.faults.FaultKind.TheVariants.{Literal as LiteralFault, NoZero}
 use Rattle.wcnf.specs.declared.faults.FaultKind.TheVariants.{Variable, TooMany, Count}
 use Rattle.wcnf.specs.Wcnf.{Header}
-use Rattle.wcnf.specs.Reading.{Totals, Word, Zero, Literal_word, Other, word_of, ended_at}
+use Rattle.wcnf.specs.Reading.{Totals, ended_at}
+use Rattle.text.specs.Words.{Word, Zero, Literal_word, Other, word_of}
 use Rattle.wcnf.specs.Reading.{most_variable, head_of, begins_comment, header_of, is_p, ◌>>=◌}
 
 -- a clause that is being read, each literal once, and the greatest variable of the text so far

@@ -1,5 +1,4 @@
-// What can go wrong while a text is read or written: plain values, which carry no text of their
-// own.
+// What can go wrong while a text is read: plain values, which carry no text of their own.
 ghost use Rattle.std.specs.Prelude.{◌≡◌};
 
 /// The kinds of fault of a WCNF text, and of reading it.
@@ -50,7 +49,3 @@ pub struct ReadFault {
     /// The line on which it stands, from 1; 0 for `Memory` and `Read`.
     pub line: u64,
 }
-
-/// The writer answered an error, or took none of the bytes of a piece that was not empty.
-#[derive(Clone, Copy, Debug, PartialEq, Eq, Drop)]
-pub struct WriteFault;

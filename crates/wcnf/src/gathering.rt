@@ -4,20 +4,20 @@
 // of a large text with short clauses.
 ghost use Rattle.std.specs.Prelude.{◌≡◌, false, ℕ, ◌<◌, ◌≤◌, ◌^◌, max, List, [], ◌∷◌, ◌++◌, length};
 ghost use Rattle.std.specs.Prelude.{All, MatchResult, Ok, Err, OnOk, IfOk, ◌⊎◌};
-ghost use Rattle.wcnf.specs.Clause.{contains_literal, has_repeat};
-ghost use Rattle.wcnf.specs.Literal.{Literal};
-ghost use Rattle.wcnf.specs.Marks.{HasPlace, IsMarked};
+ghost use Rattle.cnf.specs.Clause.{contains_literal, has_repeat};
+ghost use Rattle.cnf.specs.Literal.{Literal};
+ghost use Rattle.cnf.specs.Marks.{HasPlace, IsMarked};
 ghost use Rattle.wcnf.specs.Reading.{ended_at};
 ghost use Rattle.wcnf.specs.Drafts.{with_literal, emptied, gathered_at};
 
 use crate::faults::FaultKind;
-use crate::limits::MOST_LITERALS;
-use crate::marks::Marks;
-use crate::pieces::Tokens;
-use crate::types::Lit;
-use crate::words::{Word, read_word};
+use cnf::limits::MOST_LITERALS;
+use cnf::marks::Marks;
+use cnf::types::Lit;
 use std::alloc::{AllocError, Global};
 use std::marker::Model;
+use text::pieces::Tokens;
+use text::words::{Word, read_word};
 
 /// A clause of at most so many literals has no marks.
 const FEW: usize = 8;

@@ -2,11 +2,11 @@
 ghost use Rattle.std.specs.Prelude.{◌≡◌, ◌≤◌, ◌<◌, ◌^◌, ◌⊎◌, MatchResult};
 ghost use Rattle.wcnf.specs.Reading.{header_of, is_wcnf, number_within};
 
-use crate::digits::number;
 use crate::faults::FaultKind;
-use crate::limits::{MOST_HARD, MOST_SOFT, MOST_VARIABLES, NUMBER_LIMIT};
-use crate::pieces::Tokens;
+use cnf::limits::{MOST_HARD, MOST_SOFT, MOST_VARIABLES, NUMBER_LIMIT};
 use std::marker::Model;
+use text::digits::number;
+use text::pieces::Tokens;
 
 /// The second token of a header.
 const NAME: &[u8] = b"wcnf";

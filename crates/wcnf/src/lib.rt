@@ -1,20 +1,14 @@
-//! Weighted MaxSAT instances, their clauses and formulas, and the reader of WCNF texts.
+//! The reader of WCNF texts. It hands on what an instance is made of (`cnf`), and what a text is
+//! made of (`text`).
 #![tactic(auto)]
 
-pub mod clause_list;
-mod digits;
+pub use cnf::{clause_list, judging, limits, marks, types};
+pub use text::{cutting, digits, output, pieces};
+
 pub mod faults;
 mod gathering;
 mod header;
-pub mod judging;
-pub mod limits;
-pub mod marks;
-pub mod output;
 mod parser;
-pub mod pieces;
 pub mod reading;
 mod rows;
-pub mod text;
-pub mod types;
 pub mod whole;
-mod words;

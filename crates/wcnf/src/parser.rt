@@ -2,17 +2,17 @@
 // return and its line feed. Each line is read once its line feed is there, and only what follows
 // the last line feed is kept.
 ghost use Rattle.std.specs.Prelude.{◌≡◌, ℕ, List, [], ◌∷◌, ◌++◌, ◌+◌, Ok, IfOk, IfErr, OnOk, ◌⊎◌};
-ghost use Rattle.wcnf.specs.Text.{IsNoFeed, tokens_of};
+ghost use Rattle.text.specs.Text.{IsNoFeed, tokens_of};
 ghost use Rattle.wcnf.specs.Wcnf.{Reads};
 ghost use Rattle.wcnf.specs.Reading.{IsFirstFault};
 ghost use Rattle.wcnf.specs.Drafts.{drafted_line};
 ghost use Rattle.wcnf.specs.Parsing.{Stands, Ends, IsLineFault, Refuses, NoMemory};
 
 use crate::faults::{FaultKind, ReadFault};
-use crate::pieces::{line_feed_at, without_return};
 use crate::rows::Draft;
-use crate::types::Instance;
+use cnf::types::Instance;
 use std::alloc::Global;
+use text::pieces::{line_feed_at, without_return};
 
 /// A growth was refused. A text of 2^64 lines, which no machine can hand over, counts as one.
 const NO_MEMORY: ReadFault = ReadFault {

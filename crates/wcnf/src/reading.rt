@@ -1,14 +1,14 @@
 // Reading a WCNF text, given as bytes or by a reader.
 ghost use Rattle.std.specs.Prelude.{◌≡◌, IfOk, IfErr, OnOk, IfSome, ◌⊎◌};
 ghost use Rattle.std.specs.Io.KnownBytes.{IsAtEnd};
-ghost use Rattle.wcnf.specs.Problem.{Problem};
+ghost use Rattle.cnf.specs.Problem.{Problem};
 ghost use Rattle.wcnf.specs.Wcnf.{Reads};
 ghost use Rattle.wcnf.specs.Reading.{IsFirstFault};
 
 use crate::faults::{FaultKind, ReadFault};
 use crate::parser::Parser;
-use crate::types::Instance;
 use crate::whole::FAILED;
+use cnf::types::Instance;
 use std::alloc::Global;
 use std::io::Read;
 

@@ -2,25 +2,25 @@
 ghost use Rattle.std.specs.Prelude.{◌≡◌, ℕ, false, ◌&&◌, [], ◌∷◌, ◌++◌, length, MatchOption, ◌+◌};
 ghost use Rattle.std.specs.Prelude.{◌<◌, ◌≤◌, ◌^◌, Ok, Err, None, OnOk, IfOk, IfSome, MatchResult};
 ghost use Rattle.std.specs.Prelude.{◌⊎◌};
-ghost use Rattle.wcnf.specs.Text.{tokens_of, capped};
+ghost use Rattle.text.specs.Text.{tokens_of, capped};
 ghost use Rattle.wcnf.specs.Reading.{most_variable, one_hard, one_soft, weighed, head_of, is_p};
-ghost use Rattle.wcnf.specs.Clause.{has_repeat};
-ghost use Rattle.wcnf.specs.Instance.{IsInstance};
+ghost use Rattle.cnf.specs.Clause.{has_repeat};
+ghost use Rattle.cnf.specs.Instance.{IsInstance};
 ghost use Rattle.wcnf.specs.Drafts.{totals_of, nothing_drafted, is_empty, drafted_line};
 ghost use Rattle.wcnf.specs.Drafts.{drafted_tokens, drafted_header, drafted_clause, short_at};
 ghost use Rattle.wcnf.specs.Drafts.{problem_drafted};
 
-use crate::clause_list::ClauseList;
-use crate::digits::number;
 use crate::faults::FaultKind;
 use crate::gathering::Gathering;
 use crate::header::Header;
-use crate::limits::{MOST_HARD, MOST_SOFT, MOST_VARIABLES, NUMBER_LIMIT};
-use crate::pieces::Tokens;
-use crate::text::tokens;
-use crate::types::{Clause, Instance, Lit, Soft};
+use cnf::clause_list::ClauseList;
+use cnf::limits::{MOST_HARD, MOST_SOFT, MOST_VARIABLES, NUMBER_LIMIT};
+use cnf::types::{Clause, Instance, Lit, Soft};
 use std::alloc::{AllocError, Global};
 use std::marker::Model;
+use text::cutting::tokens;
+use text::digits::number;
+use text::pieces::Tokens;
 
 /// The instance that the lines so far make.
 #[derive(Drop)]

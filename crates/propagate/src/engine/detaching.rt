@@ -1,14 +1,14 @@
 // Many clauses that are detached at once.
 ghost use Rattle.std.specs.Prelude.{◌≡◌, ℕ, ◌&&◌, not, false, All, IfSome};
 ghost use Rattle.clauses.specs.Slots.{Slots};
-ghost use Rattle.watches.specs.Doomed.{is_doomed};
+ghost use Rattle.propagate_watches.specs.Doomed.{is_doomed};
 ghost use Rattle.propagate.specs.Watches.{is_attached};
 ghost use Rattle.propagate.specs.Fits.{Fits};
 ghost use Rattle.propagate.specs.Doomed.{spared};
 
 use super::Engine;
 use clauses::store::CRef;
-use watches::doomed::is_doomed;
+use propagate_watches::doomed::is_doomed;
 
 /// Takes what is doomed out of a list.
 fn drop_doomed(references: &mut Vec<CRef>, doomed: &[bool])

@@ -12,10 +12,10 @@ ghost use Rattle.std.specs.Prelude.{◌≡◌, ◌≢◌, ℕ, ◌+◌, ◌<◌,
 ghost use Rattle.std.specs.Prelude.{IfSome, IfNone, MatchOption, OnOk, OnErr, slice_index_or};
 ghost use Rattle.std.specs.Prelude.{slice_set};
 ghost use Rattle.std.specs.List.{AllByRecursion};
-ghost use Rattle.wcnf.specs.Literal.{Literal, negation, index_of};
-ghost use Rattle.wcnf.specs.Clause.{contains_literal};
-ghost use Rattle.watches.specs.Pool.{row_at, with_row};
-ghost use Rattle.watches.specs.Table.{IsWatching, attachment_in, rest_in, IsWatchedBy};
+ghost use Rattle.cnf.specs.Literal.{Literal, negation, index_of};
+ghost use Rattle.cnf.specs.Clause.{contains_literal};
+ghost use Rattle.propagate_watches.specs.Pool.{row_at, with_row};
+ghost use Rattle.propagate_watches.specs.Table.{IsWatching, attachment_in, rest_in, IsWatchedBy};
 ghost use Rattle.propagate.specs.Trail.{literals_of, value_in};
 ghost use Rattle.propagate.specs.Watches.{IsVariable, is_attached};
 ghost use Rattle.propagate.specs.Fits.{Fits, IsComplete};
@@ -28,9 +28,9 @@ use super::Engine;
 use crate::search::find_other_not_false;
 use clauses::store::{CRef, Store};
 use std::alloc::AllocError;
-use watches::pool::Entry;
-use watches::table::Rest;
-use wcnf::types::Lit;
+use propagate_watches::pool::Entry;
+use propagate_watches::table::Rest;
+use cnf::types::Lit;
 
 /// What is found of a clause whose watched literal is false.
 #[derive(Clone, Copy, Drop)]

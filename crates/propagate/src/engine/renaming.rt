@@ -5,9 +5,9 @@ ghost use Rattle.propagate.specs.Watches.{is_attached};
 ghost use Rattle.propagate.specs.Fits.{MovesAttached, renamed_trail, FitsMoved};
 
 use super::Engine;
-use crate::names::rename_references;
+use crate::moved::rename_references;
 use clauses::store::Moves;
-use watches::names::move_attachments;
+use propagate_watches::moved::move_attachments;
 
 impl Engine {
     /// Goes over to the new references of the clauses, after a store was compacted. It takes no

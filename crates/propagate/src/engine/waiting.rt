@@ -7,11 +7,11 @@
 ghost use Rattle.std.specs.Prelude.{◌≡◌, ◌≢◌, ℕ, ◌<◌, ◌≤◌, Some, None, true, false, length, filter};
 ghost use Rattle.std.specs.Prelude.{All, IfOk, IfSome, IfNone, OnOk, OnErr, ◌⊎◌, slice_get};
 ghost use Rattle.std.specs.Bool.{MatchBool};
-ghost use Rattle.wcnf.specs.Literal.{negation};
-ghost use Rattle.wcnf.specs.Clause.{contains_literal};
+ghost use Rattle.cnf.specs.Literal.{negation};
+ghost use Rattle.cnf.specs.Clause.{contains_literal};
 ghost use Rattle.clauses.specs.Slots.{clause_at};
-ghost use Rattle.watches.specs.Table.{attachment_in};
-ghost use Rattle.watches.specs.declared.table.Rest.{Rest};
+ghost use Rattle.propagate_watches.specs.Table.{attachment_in};
+ghost use Rattle.propagate_watches.specs.declared.table.Rest.{Rest};
 ghost use Rattle.propagate.specs.Trail.{literals_of, value_in};
 ghost use Rattle.propagate.specs.Watches.{IsVariable, is_attached};
 ghost use Rattle.propagate.specs.Fits.{Fits, HasTrue, IsRest};
@@ -22,9 +22,9 @@ use super::Engine;
 use crate::search::{find_not_false, find_other_not_false, find_other_of_level, gather_rest};
 use clauses::store::{CRef, Store};
 use std::alloc::AllocError;
-use watches::pool::Entry;
-use watches::table::{Attachment, Table};
-use wcnf::types::Lit;
+use propagate_watches::pool::Entry;
+use propagate_watches::table::{Attachment, Table};
+use cnf::types::Lit;
 
 /// Whether the clause is to be looked at.
 fn waits(table: &Table, reference: CRef) -> bool

@@ -1,7 +1,7 @@
 -- One more hint is in range.
 use Rattle.std.proofs.Common.{◌<◌, ◌^◌}
 use Rattle.std.proofs.lemmas.List.Elements.{All-push}
-use Rattle.wcnf.specs.Lrat.{IsId}
+use Rattle.cnf.specs.Lrat.{IsId}
 use Rattle.lrat_log.specs.Log.{id_of, name_of, number_in}
 use Rattle.render_bench.specs.declared.TheConstants.{BASE}
 use Rattle.render_bench.proofs.hints.Goals as goal

@@ -1,7 +1,7 @@
 -- The hints so far are in range.
 use Rattle.std.proofs.Common.{◌<◌, ◌^◌}
 use Rattle.std.specs.Prelude.{All}
-use Rattle.wcnf.specs.Lrat.{IsId}
+use Rattle.cnf.specs.Lrat.{IsId}
 use Rattle.lrat_log.specs.Log.{id_of, name_of, number_in}
 use Rattle.render_bench.specs.declared.TheConstants.{BASE}
 use Rattle.render_bench.proofs.hints.Given as goal

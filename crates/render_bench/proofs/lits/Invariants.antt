@@ -1,6 +1,6 @@
 -- The literals so far are in range.
 use Rattle.std.specs.Prelude.{All}
-use Rattle.wcnf.specs.Lrat.{IsId}
+use Rattle.cnf.specs.Lrat.{IsId}
 use Rattle.render_bench.proofs.lits.Given as goal
 
 abbrev pub invariant-loop-k : goal.invariant-loop-k

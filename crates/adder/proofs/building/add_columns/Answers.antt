@@ -1,5 +1,5 @@
 use Rattle.std.proofs.Common.{◌≡◌, ◌+◌, ◌-◌, ◌++◌, List, suc, arith, refl, ap}
-use Rattle.wcnf.specs.Literal.{Literal}
+use Rattle.cnf.specs.Literal.{Literal}
 use Rattle.adder.proofs.Whole.{filled_is, column_room, builds_column}
 use Rattle.adder.proofs.building.add_columns.Goals as goal
 

@@ -1,7 +1,7 @@
 use Rattle.std.proofs.Common.{rules, ◌≡◌, ◌≢◌, ◌<◌, ◌+◌, ◌++◌, ◌∷◌, [], sym, ◌∙◌, ap, length}
 use Rattle.std.proofs.Common.{get_or, take, inl, inr, arith}
 use Rattle.std.proofs.lemmas.List.{take_more, get_or_default, length-map}
-use Rattle.wcnf.specs.Literal.{negation}
+use Rattle.cnf.specs.Literal.{negation}
 use Rattle.clauses.specs.Slots.{clause_at}
 use Rattle.propagate.specs.Trail.{Assigned, literals_of}
 use Rattle.analyze.specs.declared.marks.Mark.TheVariants.{Kept}

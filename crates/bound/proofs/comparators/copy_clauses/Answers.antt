@@ -3,7 +3,7 @@ use Rattle.std.proofs.Common.{◌≡◌, false, ◌∷◌, [], ◌++◌, ap, sym
 use Rattle.std.proofs.lemmas.List.{append_assoc}
 use Rattle.std.proofs.lemmas.List.Elements.{All-head, All-tail}
 use Rattle.std.specs.Prelude.{All}
-use Rattle.wcnf.specs.Clause.{has_repeat}
+use Rattle.cnf.specs.Clause.{has_repeat}
 use Rattle.bound.proofs.comparators.copy_clauses.Goals as goal
 
 pub new-requires : goal.new-requires

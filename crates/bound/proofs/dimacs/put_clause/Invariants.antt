@@ -1,6 +1,6 @@
 -- The literals before the index were put, each with a space.
 use Rattle.std.proofs.Common.{take}
-use Rattle.wcnf.specs.Writing.{PassesOn}
+use Rattle.text.specs.Writing.{PassesOn}
 use Rattle.bound.proofs.Lines.{literals_text}
 use Rattle.bound.proofs.dimacs.put_clause.Given as goal
 

@@ -1,7 +1,7 @@
 -- Where a fault came, a beginning of the line was put.
 use Rattle.std.proofs.Common.{◌≡◌}
 use Rattle.std.proofs.lemmas.Result.{err_from_is_err_and, on_ok_weaker, on_err_weaker}
-use Rattle.wcnf.proofs.Laws.{passed-more}
+use Rattle.text.proofs.Laws.{passed-more}
 use Rattle.bound.proofs.Lines.{name_fault, variables_fault, between_fault, count_fault, header_end}
 use Rattle.bound.proofs.Lines.{header_fault}
 use Rattle.bound.proofs.dimacs.put_header.Goals as goal

@@ -3,8 +3,8 @@ use Rattle.std.proofs.Common.{◌≡◌, ◌+◌, ◌*◌, ◌≤◌, ◌<◌, �
 use Rattle.std.proofs.Common.{sym, ◌∙◌, subst, rules}
 use Rattle.std.proofs.lemmas.List.Elements.{All-head, All-tail}
 use Rattle.std.specs.Prelude.{All}
-use Rattle.wcnf.specs.Clause.{has_opposites}
-use Rattle.wcnf.specs.Instance.{IsClauseWithin}
+use Rattle.cnf.specs.Clause.{has_opposites}
+use Rattle.cnf.specs.Instance.{IsClauseWithin}
 use Rattle.bound.specs.Bound.{kept}
 use Rattle.bound.proofs.Few.{kept_le}
 use Rattle.bound.proofs.Kept.{places_within}

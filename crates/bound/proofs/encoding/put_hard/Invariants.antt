@@ -1,7 +1,7 @@
 -- What was put, and the lines of what is kept of the clauses that are left, is all.
 use Rattle.std.proofs.Common.{◌≡◌, length}
 use Rattle.std.specs.Prelude.{All}
-use Rattle.wcnf.specs.Instance.{IsClauseWithin}
+use Rattle.cnf.specs.Instance.{IsClauseWithin}
 use Rattle.bound.specs.Bound.{kept}
 use Rattle.bound.proofs.Streams.{IsPutUpTo, lines_of}
 use Rattle.bound.proofs.encoding.put_hard.Given as goal

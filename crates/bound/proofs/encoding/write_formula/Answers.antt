@@ -2,9 +2,9 @@
 use Rattle.std.proofs.Common.{◌≡◌, ◌++◌, List, All, length, sym, ◌∙◌, ap, subst, ℕ}
 use Rattle.std.proofs.lemmas.Result.{err_from_is_err_and, on_ok_weaker, on_err_weaker}
 use Rattle.std.specs.Io.KnownBytes.{Appends}
-use Rattle.wcnf.specs.Writing.{AppendsPart}
-use Rattle.wcnf.specs.Formula.{Cnf}
-use Rattle.wcnf.specs.Problem.{Problem}
+use Rattle.text.specs.Writing.{AppendsPart}
+use Rattle.cnf.specs.Formula.{Cnf}
+use Rattle.cnf.specs.Problem.{Problem}
 use Rattle.adder.specs.declared.cells.Cell.{Cell}
 use Rattle.adder.specs.declared.cells.Profile.{Profile}
 use Rattle.adder.specs.Network.{Adders, adders_as}

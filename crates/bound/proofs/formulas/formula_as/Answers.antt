@@ -1,7 +1,7 @@
 -- The laws of the formula, for each bound.
 use Rattle.std.proofs.Common.{◌≡◌, List, All, sym, subst}
 use Rattle.adder.specs.declared.cells.Cell.{Cell}
-use Rattle.wcnf.specs.Formula.{IsFormula}
+use Rattle.cnf.specs.Formula.{IsFormula}
 use Rattle.adder.specs.Network.{adders_as}
 use Rattle.bound.specs.Adding.{HasVariables}
 use Rattle.bound.proofs.Cheaper.{says_cheaper}

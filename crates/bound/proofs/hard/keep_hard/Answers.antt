@@ -3,7 +3,7 @@ use Rattle.std.proofs.Common.{◌*◌, ◌≤◌, ◌++◌, [], ◌∷◌, ◌�
 use Rattle.std.proofs.lemmas.List.{append_assoc}
 use Rattle.std.proofs.lemmas.List.Elements.{All-head, All-tail}
 use Rattle.std.specs.Prelude.{All}
-use Rattle.wcnf.specs.Instance.{IsClauseWithin}
+use Rattle.cnf.specs.Instance.{IsClauseWithin}
 use Rattle.bound.specs.Bound.{kept}
 use Rattle.bound.proofs.Kept.{kept-append, places_within}
 use Rattle.bound.proofs.hard.keep_hard.Goals as goal

@@ -1,7 +1,7 @@
 -- What is added so far, with what is kept of the clauses that are left, is all.
 use Rattle.std.proofs.Common.{◌≡◌, ◌++◌, length}
 use Rattle.std.specs.Prelude.{All}
-use Rattle.wcnf.specs.Instance.{IsClauseWithin}
+use Rattle.cnf.specs.Instance.{IsClauseWithin}
 use Rattle.bound.specs.Bound.{kept}
 use Rattle.bound.proofs.hard.keep_hard.Given as goal
 

@@ -1,6 +1,6 @@
 -- The literal is not among those before the index.
 use Rattle.std.proofs.Common.{◌≡◌, drop}
-use Rattle.wcnf.specs.Clause.{contains_literal}
+use Rattle.cnf.specs.Clause.{contains_literal}
 use Rattle.bound.proofs.keeping.contains.Given as goal
 
 abbrev pub invariant-loop-other : goal.invariant-loop-other

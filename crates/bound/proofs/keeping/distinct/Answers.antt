@@ -1,6 +1,6 @@
 -- The literal was added exactly where it was not there.
 use Rattle.std.proofs.Common.{◌≡◌, ◌++◌, ◌∷◌, [], if◌then◌else◌, rules, sym, ap, ◌∙◌}
-use Rattle.wcnf.specs.Clause.{contains_literal}
+use Rattle.cnf.specs.Clause.{contains_literal}
 use Rattle.bound.proofs.Kept.{distinct_same_step}
 use Rattle.bound.proofs.keeping.distinct.Goals as goal
 use Rattle.bound.proofs.keeping.distinct.Goals.{then-not-contains+in_ok-push, else-not-contains}

@@ -1,6 +1,6 @@
 -- What is there so far is the literals before the index, each once.
 use Rattle.std.proofs.Common.{◌≡◌, take}
-use Rattle.wcnf.specs.Clause.{distinct}
+use Rattle.cnf.specs.Clause.{distinct}
 use Rattle.bound.proofs.keeping.distinct.Given as goal
 
 abbrev pub invariant-loop-lit : goal.invariant-loop-lit

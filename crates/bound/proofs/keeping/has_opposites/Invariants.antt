@@ -1,6 +1,6 @@
 -- The literals that are gone have no negation.
 use Rattle.std.proofs.Common.{◌≡◌, length}
-use Rattle.wcnf.specs.Clause.{has_opposites}
+use Rattle.cnf.specs.Clause.{has_opposites}
 use Rattle.bound.proofs.keeping.has_opposites.Given as goal
 
 abbrev pub invariant-loop-rest : goal.invariant-loop-rest

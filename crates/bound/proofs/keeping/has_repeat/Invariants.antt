@@ -1,6 +1,6 @@
 -- The literals that are gone stand once.
 use Rattle.std.proofs.Common.{◌≡◌, length}
-use Rattle.wcnf.specs.Clause.{has_repeat}
+use Rattle.cnf.specs.Clause.{has_repeat}
 use Rattle.bound.proofs.keeping.has_repeat.Given as goal
 
 abbrev pub invariant-loop-rest : goal.invariant-loop-rest

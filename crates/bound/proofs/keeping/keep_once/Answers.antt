@@ -1,7 +1,7 @@
 -- The clause is kept exactly where it has no opposite pair.
 use Rattle.std.proofs.Common.{◌≡◌, true, false, sym, ◌∙◌}
 use Rattle.std.proofs.lemmas.Result.{on_ok_weaker}
-use Rattle.wcnf.specs.Clause.{has_opposites}
+use Rattle.cnf.specs.Clause.{has_opposites}
 use Rattle.bound.proofs.Kept.{kept_itself, kept_none}
 use Rattle.bound.proofs.keeping.keep_once.Goals as goal
 

@@ -1,7 +1,7 @@
 -- What `distinct` gives has no repeat, and is kept as what it was made from.
 use Rattle.std.proofs.Common.{◌≡◌, ◌++◌, ap, ◌∙◌}
 use Rattle.std.proofs.lemmas.Result.{on_ok_weaker}
-use Rattle.wcnf.specs.Clause.{distinct}
+use Rattle.cnf.specs.Clause.{distinct}
 use Rattle.bound.proofs.Fits.{repeat-distinct}
 use Rattle.bound.proofs.Kept.{kept-distinct}
 use Rattle.bound.proofs.keeping.keep_short.Goals as goal

@@ -2,8 +2,8 @@
 use Rattle.std.proofs.Common.{◌≡◌, ◌+◌, ◌∙◌, ◌||◌, ap, arith, false, length, length-set, set, subst}
 use Rattle.std.proofs.Common.{sym, take, true}
 use Rattle.std.proofs.lemmas.List.{length-replicate}
-use Rattle.wcnf.specs.Literal.{index_of}
-use Rattle.wcnf.specs.Marks.{mark_of, IsMarked, HasPlace}
+use Rattle.cnf.specs.Literal.{index_of}
+use Rattle.cnf.specs.Marks.{mark_of, IsMarked, HasPlace}
 use Rattle.bound.proofs.Opposites.{mark_step}
 use Rattle.bound.proofs.keeping.meets_negation.Goals as goal
 

@@ -1,8 +1,8 @@
 -- The literals before the index are marked, and none of them stands with its negation but where one
 -- was found.
 use Rattle.std.proofs.Common.{◌≡◌, length, take}
-use Rattle.wcnf.specs.Clause.{has_opposites}
-use Rattle.wcnf.specs.Marks.{IsMarked}
+use Rattle.cnf.specs.Clause.{has_opposites}
+use Rattle.cnf.specs.Marks.{IsMarked}
 use Rattle.bound.proofs.keeping.meets_negation.Given as goal
 
 abbrev pub invariant-loop-lit : goal.invariant-loop-lit

@@ -1,10 +1,10 @@
 -- A clause with the next variable, and what was added with one more.
 use Rattle.std.proofs.Common.{◌≡◌, ◌+◌, ◌*◌, ◌≤◌, List, [], ◌∷◌, ◌++◌, All, length, take}
 use Rattle.std.proofs.Common.{length-take-le, true, false, arith, rules, sym, ◌∙◌, ap, subst}
-use Rattle.wcnf.specs.Literal.{Literal, positive}
-use Rattle.wcnf.specs.Instance.{IsClauseWithin}
+use Rattle.cnf.specs.Literal.{Literal, positive}
+use Rattle.cnf.specs.Instance.{IsClauseWithin}
 use Rattle.bound.specs.Adding.{gets_variable}
-use Rattle.wcnf.specs.Marks.{HasPlace}
+use Rattle.cnf.specs.Marks.{HasPlace}
 use Rattle.bound.proofs.Relaxations.{relaxed_no_repeat, relaxed_places, relaxed_fresh, relaxed_own}
 use Rattle.bound.proofs.Relaxations.{soft_within, soft_more}
 use Rattle.bound.proofs.relaxing.keep_relaxed.Goals as goal

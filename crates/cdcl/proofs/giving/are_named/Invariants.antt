@@ -1,7 +1,7 @@
 -- The first literals have variables from 1.
 use Rattle.std.proofs.Common.{◌<◌, take}
 use Rattle.std.specs.Prelude.{All}
-use Rattle.wcnf.specs.Literal.{Literal}
+use Rattle.cnf.specs.Literal.{Literal}
 use Rattle.cdcl.proofs.giving.are_named.Given as goal
 
 abbrev pub invariant-loop-lit : goal.invariant-loop-lit

@@ -20,8 +20,8 @@ use Rattle.cdcl.proofs.hints.add_units.Goals.{else-stamps-place}
 use Rattle.cdcl.proofs.hints.add_units.Goals.{else-stamps-place-via-then-stamps-place+then-eq+else-eq-2}
 use Rattle.cdcl.proofs.hints.add_units.Goals.{else-stamps-place-via-then-stamps-place+else-eq}
 use Rattle.cdcl.proofs.hints.add_units.Goals.{else-stamps-place-via-else-stamps-place}
-use Rattle.wcnf.specs.Literal.{negation}
-use Rattle.wcnf.specs.Clause.{contains_literal}
+use Rattle.cnf.specs.Literal.{negation}
+use Rattle.cnf.specs.Clause.{contains_literal}
 
 -- the literal has a variable of the engine
 inside : (c : After-variable-variable) → IsVariable c.args.engine.now.variables c.lit-item.result

@@ -7,7 +7,7 @@ use Rattle.lrat_log.specs.declared.lines.Name.TheVariants.{Formula}
 use Rattle.lrat_log.specs.declared.lines.Hint.TheVariants.{Plain}
 use Rattle.lrat_log.specs.declared.lines.Kind.TheVariants.{Delete}
 use Rattle.lrat_log.specs.Log.{LogLine, number_in}
-use Rattle.wcnf.specs.Lrat.{IsId}
+use Rattle.cnf.specs.Lrat.{IsId}
 use Rattle.cdcl.specs.declared.search.Search.{Search}
 use Rattle.cdcl.specs.Invariant.{name_at}
 use Rattle.cdcl.specs.Deletions.{IsDeleting}

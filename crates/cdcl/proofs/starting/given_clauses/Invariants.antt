@@ -1,7 +1,7 @@
 -- The clauses so far under their numbers, with those that are left under the next ones, are all.
 use Rattle.std.proofs.Common.{◌≡◌, ◌+◌, ◌++◌, false, length}
 use Rattle.std.specs.Prelude.{All}
-use Rattle.wcnf.specs.Clause.{has_repeat}
+use Rattle.cnf.specs.Clause.{has_repeat}
 use Rattle.lrat_log.specs.Steps.{given_of}
 use Rattle.lrat_log.proofs.Laws.{given_on}
 use Rattle.cdcl.proofs.starting.given_clauses.Given as goal

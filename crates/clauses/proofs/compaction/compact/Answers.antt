@@ -1,6 +1,6 @@
 use Rattle.std.proofs.Common.{ℕ, ◌≡◌, ◌+◌, ◌-◌, ◌<◌, ◌≤◌, ◌^◌, arith, ◌∙◌, length, rules}
 use Rattle.std.proofs.Common.{length-set}
-use Rattle.wcnf.proofs.Laws.{compacting_all}
+use Rattle.cnf.proofs.Laws.{compacting_all}
 use Rattle.clauses.proofs.Flat.{heads, moves_down, dead_head, live_head}
 use Rattle.clauses.proofs.Reading.{span_at, flag_at}
 use Rattle.clauses.proofs.compaction.compact.Goals as goal

@@ -1,6 +1,6 @@
 use Rattle.std.proofs.Common.{◌≡◌, length}
 use Rattle.clauses.specs.Heads.{clauses_in}
-use Rattle.wcnf.proofs.Laws.{IsCompacting}
+use Rattle.cnf.proofs.Laws.{IsCompacting}
 use Rattle.clauses.proofs.Flat.{heads}
 use Rattle.clauses.proofs.compaction.compact.Given as goal
 

@@ -2,12 +2,12 @@
 use Rattle.std.proofs.Common.{◌≡◌, false, List, Bool, length, sym, ap, subst, refl, inl, inr}
 use Rattle.std.specs.Prelude.{[], All, Contains}
 use Rattle.std.proofs.lemmas.Bool.{cases_Bool}
-use Rattle.wcnf.specs.Literal.{Literal}
-use Rattle.wcnf.specs.Formula.{IsFormulaClause}
+use Rattle.cnf.specs.Literal.{Literal}
+use Rattle.cnf.specs.Formula.{IsFormulaClause}
 use Rattle.clauses.specs.Slots.{Slots, live_clauses}
 use Rattle.lrat_log.specs.Log.{LogLine}
 use Rattle.lrat_log.specs.Steps.{given_of, StaysLogOver, log_live, learned_count}
-use Rattle.pairs.specs.Pairs.{stage_of}
+use Rattle.eliminate_pairs.specs.Pairs.{stage_of}
 use Rattle.eliminate.specs.Elimination.{is_eliminated, HoldsWhatIsLive}
 use Rattle.eliminate.specs.Ending.{IsResult}
 use Rattle.eliminate.specs.State.{Start}

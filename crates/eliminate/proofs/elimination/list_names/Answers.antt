@@ -4,7 +4,7 @@ use Rattle.std.proofs.lemmas.List.{take_all}
 use Rattle.clauses.specs.Slots.{Slots, clause_at}
 use Rattle.lrat_log.specs.declared.lines.Name.{Name}
 use Rattle.eliminate.specs.Elimination.{listed_names}
-use Rattle.names.specs.Work.{name_at}
+use Rattle.eliminate_names.specs.Work.{name_at}
 use Rattle.eliminate.proofs.Listed.{listed_some, listed_none}
 use Rattle.clauses.proofs.Laws.{live_within}
 use Rattle.eliminate.proofs.elimination.list_names.Goals as goal

@@ -2,8 +2,8 @@
 use Rattle.std.proofs.Common.{◌≡◌, ◌∙◌, ◌++◌, ◌∷◌, [], List, Some, true, ap, sym, subst, inr}
 use Rattle.std.proofs.Common.{length}
 use Rattle.std.proofs.lemmas.Bool.{not-true}
-use Rattle.wcnf.specs.Literal.{Literal, negation}
-use Rattle.wcnf.specs.Clause.{contains_literal}
+use Rattle.cnf.specs.Literal.{Literal, negation}
+use Rattle.cnf.specs.Clause.{contains_literal}
 use Rattle.clauses.specs.Slots.{Slots, clause_at}
 use Rattle.lrat_log.specs.Log.{LogLine}
 use Rattle.eliminate.specs.declared.simplifier.Simplifier.{Simplifier}

@@ -1,7 +1,7 @@
 -- All pairs of one clause more are resolved.
 use Rattle.std.proofs.Common.{List, ℕ, sym, subst, arith}
 use Rattle.std.proofs.lemmas.List.{take_all}
-use Rattle.wcnf.specs.Literal.{negation}
+use Rattle.cnf.specs.Literal.{negation}
 use Rattle.eliminate.specs.Simplifier.{LeavesLog}
 use Rattle.eliminate.specs.Variables.{IsWith, ArePairsResolved}
 use Rattle.eliminate.proofs.Growing.{with_later, all_with_later, grows_join, next_pairs}

@@ -2,7 +2,7 @@
 use Rattle.std.proofs.Common.{sym, subst, arith}
 use Rattle.std.specs.Prelude.{All}
 use Rattle.std.proofs.lemmas.List.{take_all}
-use Rattle.wcnf.specs.Literal.{negation}
+use Rattle.cnf.specs.Literal.{negation}
 use Rattle.eliminate.specs.Simplifier.{LeavesLog}
 use Rattle.eliminate.specs.Variables.{IsWith, IsPairResolved}
 use Rattle.eliminate.proofs.Growing.{with_later, grows_join, next_pair}

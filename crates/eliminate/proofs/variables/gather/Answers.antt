@@ -1,11 +1,11 @@
 -- The row of the literal, cleaned, has just the clauses with it.
 use Rattle.std.proofs.Common.{◌≡◌, ◌∙◌, ap, refl, sym, subst, ◌++◌, List, ℕ, length, filter}
 use Rattle.std.proofs.lemmas.List.{length-set}
-use Rattle.wcnf.specs.Literal.{Literal, index_of}
+use Rattle.cnf.specs.Literal.{Literal, index_of}
 use Rattle.clauses.specs.Slots.{Slots}
 use Rattle.lrat_log.specs.Log.{LogLine}
-use Rattle.wcnf.specs.Marks.{HasPlace}
-use Rattle.wcnf.proofs.Laws.{place_within}
+use Rattle.cnf.specs.Marks.{HasPlace}
+use Rattle.cnf.proofs.Laws.{place_within}
 use Rattle.eliminate.specs.declared.simplifier.Simplifier.{Simplifier}
 use Rattle.eliminate_tables.specs.Rows.{AreRows, row_at, with_row, has_clause}
 use Rattle.eliminate.specs.Simplifier.{StaysSimplified}

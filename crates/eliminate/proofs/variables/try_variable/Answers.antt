@@ -1,7 +1,7 @@
 -- The clauses are those with the variable, before and after the resolvents are added.
 use Rattle.std.proofs.Common.{List, ℕ, sym, subst}
 use Rattle.std.specs.Prelude.{All}
-use Rattle.wcnf.specs.Literal.{Literal, negation}
+use Rattle.cnf.specs.Literal.{Literal, negation}
 use Rattle.clauses.specs.Slots.{Slots}
 use Rattle.eliminate.specs.Elimination.{positive}
 use Rattle.eliminate.specs.Variables.{IsWith, AreThoseWith, ArePairsResolved, LeavesLogOver}

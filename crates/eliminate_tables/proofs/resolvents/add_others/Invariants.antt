@@ -1,6 +1,6 @@
 -- The literals so far.
 use Rattle.std.proofs.Common.{◌≡◌, ◌++◌, take}
-use Rattle.wcnf.specs.Clause.{without_literal}
+use Rattle.cnf.specs.Clause.{without_literal}
 use Rattle.eliminate_tables.proofs.resolvents.add_others.Given as goal
 
 abbrev pub invariant-loop-lit : goal.invariant-loop-lit

@@ -1,7 +1,7 @@
 -- A literal and its negation.
 use Rattle.std.proofs.Common.{◌≡◌, ◌∙◌, sym, ap, true, false, rules}
-use Rattle.wcnf.specs.Literal.{negation}
-use Rattle.wcnf.specs.Marks.{mark_of}
+use Rattle.cnf.specs.Literal.{negation}
+use Rattle.cnf.specs.Marks.{mark_of}
 use Rattle.eliminate_tables.proofs.Built.{opposed_at}
 use Rattle.eliminate_tables.proofs.Needed.{codes_differ}
 use Rattle.eliminate_tables.proofs.resolvents.count_rest.Goals as goal

@@ -3,9 +3,9 @@ use Rattle.std.proofs.Common.{◌≡◌, ◌∙◌, ◌<◌, ◌++◌, length, a
 use Rattle.std.specs.Prelude.{All}
 use Rattle.std.specs.List.{list_any}
 use Rattle.std.proofs.lemmas.List.Elements.{All-weaker}
-use Rattle.wcnf.specs.Literal.{Literal, negation}
-use Rattle.wcnf.specs.Clause.{without_literal}
-use Rattle.wcnf.specs.Marks.{HasPlace}
+use Rattle.cnf.specs.Literal.{Literal, negation}
+use Rattle.cnf.specs.Clause.{without_literal}
+use Rattle.cnf.specs.Marks.{HasPlace}
 use Rattle.eliminate_tables.specs.Resolvents.{is_opposed, unmarked_rest}
 use Rattle.eliminate_tables.proofs.Built.{rest_is, opposed_is}
 use Rattle.eliminate_tables.proofs.resolvents.resolve.Goals as goal

@@ -1,6 +1,6 @@
 -- Another literal is true.
 use Rattle.std.proofs.Common.{sym}
-use Rattle.wcnf.specs.Bits.{assignment_of}
+use Rattle.cnf.specs.Bits.{assignment_of}
 use Rattle.eliminate_tables.proofs.Needed.{not_needed, codes_differ}
 use Rattle.eliminate_tables.proofs.stack.is_needed.Goals as goal
 

@@ -1,9 +1,9 @@
 -- The literals so far have the literal or not, and are otherwise false.
 use Rattle.std.proofs.Common.{◌≡◌, false, take}
 use Rattle.std.specs.List.{list_any}
-use Rattle.wcnf.specs.Literal.{literal_value}
-use Rattle.wcnf.specs.Clause.{contains_literal, without_literal}
-use Rattle.wcnf.specs.Bits.{assignment_of}
+use Rattle.cnf.specs.Literal.{literal_value}
+use Rattle.cnf.specs.Clause.{contains_literal, without_literal}
+use Rattle.cnf.specs.Bits.{assignment_of}
 use Rattle.eliminate_tables.proofs.stack.is_needed.Given as goal
 
 abbrev pub invariant-loop-lit : goal.invariant-loop-lit

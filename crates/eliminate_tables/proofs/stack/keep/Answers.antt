@@ -1,7 +1,7 @@
 -- A refused growth leaves the pieces.
 use Rattle.std.proofs.Common.{[]}
 use Rattle.eliminate_tables.specs.Flat.{AddsClauses}
-use Rattle.names.proofs.Laws.{when_err}
+use Rattle.eliminate_names.proofs.Laws.{when_err}
 use Rattle.eliminate_tables.proofs.StackPieces.{adds_none, adds_longer}
 use Rattle.eliminate_tables.proofs.stack.keep.Goals as goal
 

@@ -1,11 +1,11 @@
 -- One clause more was copied.
 use Rattle.std.proofs.Common.{◌≡◌, ◌+◌, ◌∙◌, ◌++◌, ◌∷◌, List, [], ap, sym, subst, take, unwrap_or}
-use Rattle.wcnf.specs.Literal.{Literal}
+use Rattle.cnf.specs.Literal.{Literal}
 use Rattle.std.proofs.lemmas.List.{map-append, take_more}
 use Rattle.clauses.specs.Slots.{IsLive}
 use Rattle.eliminate_tables.specs.Flat.{AddsClauses}
 use Rattle.eliminate_tables.specs.Rows.{clause_under, clauses_under}
-use Rattle.names.proofs.Laws.{when_err}
+use Rattle.eliminate_names.proofs.Laws.{when_err}
 use Rattle.eliminate_tables.proofs.StackPieces.{adds_none, adds_join}
 use Rattle.eliminate_tables.proofs.stack.keep_clauses.Goals as goal
 

@@ -1,7 +1,7 @@
 -- This clause needs it.
 use Rattle.std.proofs.Common.{◌≡◌, sym, true, get_or, subst}
-use Rattle.wcnf.specs.Literal.{Literal}
-use Rattle.wcnf.specs.Bits.{assignment_of}
+use Rattle.cnf.specs.Literal.{Literal}
+use Rattle.cnf.specs.Bits.{assignment_of}
 use Rattle.eliminate_tables.specs.declared.stack.Piece.{Piece}
 use Rattle.eliminate_tables.specs.Removals.{is_needed}
 use Rattle.eliminate_tables.specs.Flat.{clause_in}

@@ -1,7 +1,7 @@
 -- No clause so far needs it.
 use Rattle.std.proofs.Common.{◌≡◌, false, take}
 use Rattle.std.specs.List.{list_any}
-use Rattle.wcnf.specs.Bits.{assignment_of}
+use Rattle.cnf.specs.Bits.{assignment_of}
 use Rattle.eliminate_tables.specs.Removals.{is_needed, positive}
 use Rattle.eliminate_tables.specs.Flat.{clauses_at}
 use Rattle.eliminate_tables.proofs.stack.some_needed.Given as goal

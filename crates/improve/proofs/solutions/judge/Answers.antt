@@ -1,7 +1,7 @@
 -- What holds of all assignments with the bits holds of one, and so of the bits that are kept.
 use Rattle.std.proofs.Common.{sym, ◌∙◌, subst}
-use Rattle.wcnf.specs.Bits.{Extends, assignment_of}
-use Rattle.wcnf.proofs.Laws.{extends_own}
+use Rattle.cnf.specs.Bits.{Extends, assignment_of}
+use Rattle.cnf.proofs.Laws.{extends_own}
 use Rattle.improve.proofs.BitLaws.{extends_taken}
 use Rattle.improve.proofs.solutions.judge.Goals as goal
 

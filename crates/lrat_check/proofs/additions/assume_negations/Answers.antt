@@ -1,6 +1,6 @@
 use Rattle.std.proofs.Common.{◌≡◌, ◌++◌, ◌∷◌, [], map, take, ap, sym, ◌∙◌, arith}
-use Rattle.wcnf.specs.Literal.{negation}
-use Rattle.wcnf.specs.Clause.{contains_literal}
+use Rattle.cnf.specs.Literal.{negation}
+use Rattle.cnf.specs.Clause.{contains_literal}
 use Rattle.lrat_check.proofs.Negations.{not_apart, not_single, negations_more, single_more}
 use Rattle.lrat_check.proofs.Negations.{apart_more, within_more}
 use Rattle.lrat_check.proofs.additions.assume_negations.Goals as goal

@@ -1,6 +1,6 @@
 use Rattle.std.proofs.Common.{◌≡◌, ◌≤◌, false, map, take}
-use Rattle.wcnf.specs.Literal.{negation}
-use Rattle.wcnf.specs.Clause.{has_repeat, has_opposites}
+use Rattle.cnf.specs.Literal.{negation}
+use Rattle.cnf.specs.Clause.{has_repeat, has_opposites}
 use Rattle.lrat_check.specs.Assumed.{AreWithin}
 use Rattle.lrat_check.proofs.additions.assume_negations.Given as goal
 

@@ -1,5 +1,5 @@
 use Rattle.std.proofs.lemmas.Result.{IfOk-weaker}
-use Rattle.wcnf.proofs.Laws.{certificate_sound}
+use Rattle.cnf.proofs.Laws.{certificate_sound}
 use Rattle.lrat_check.proofs.Whole.{yes_is_proof, yes_is_sound}
 use Rattle.lrat_check.proofs.certificate.check_lines.Goals as goal
 

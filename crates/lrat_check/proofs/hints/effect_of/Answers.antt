@@ -1,7 +1,7 @@
 use Rattle.std.proofs.Common.{◌≡◌, ◌∙◌, ap, sym, length, arith, rules, take, Some}
 use Rattle.std.specs.List.{last_or}
 use Rattle.std.proofs.lemmas.List.{length_push, take_all}
-use Rattle.wcnf.specs.Clause.{contains_literal}
+use Rattle.cnf.specs.Clause.{contains_literal}
 use Rattle.lrat_check.specs.Verdict.{open_literals}
 use Rattle.lrat_check.proofs.Effects.{open_more, open_same, last_push, conflict_open, many_open}
 use Rattle.lrat_check.proofs.Effects.{true_open, makes_open}

@@ -1,6 +1,6 @@
 use Rattle.std.proofs.Common.{◌≡◌, ◌++◌, length, map, take}
-use Rattle.wcnf.specs.Literal.{negation}
-use Rattle.wcnf.specs.Clause.{without_literal}
+use Rattle.cnf.specs.Literal.{negation}
+use Rattle.cnf.specs.Clause.{without_literal}
 use Rattle.lrat_check.specs.Steps.{HaveSame}
 use Rattle.lrat_check.proofs.rat.assume_others.Given as goal
 

@@ -1,6 +1,6 @@
 use Rattle.std.proofs.Common.{◌≡◌, take, false}
 use Rattle.std.specs.List.{list_any}
-use Rattle.wcnf.specs.Clause.{contains_literal, without_literal}
+use Rattle.cnf.specs.Clause.{contains_literal, without_literal}
 use Rattle.lrat_check.proofs.rat.has_true.Given as goal
 
 abbrev pub invariant-loop-lit : goal.invariant-loop-lit

@@ -1,7 +1,7 @@
 use Rattle.std.proofs.Common.{◌≡◌, map, ap, sym, ◌∙◌, subst}
 use Rattle.std.proofs.lemmas.Bool.{cond-true, cond-false}
 use Rattle.std.specs.Prelude.{IfOk}
-use Rattle.wcnf.specs.Literal.{negation}
+use Rattle.cnf.specs.Literal.{negation}
 use Rattle.lrat_read.specs.Form.{groups_of}
 use Rattle.lrat_live.specs.Listed.{listed_at, ids_listed, same_ids}
 use Rattle.lrat_check.specs.Verdict.{ids_with, groups_fault}

@@ -1,7 +1,7 @@
 -- The checker stands for the bytes that were read.
 use Rattle.std.proofs.Common.{ℕ, ◌-◌, ◌^◌, List, []}
 use Rattle.std.specs.Io.KnownBytes.{Consumes}
-use Rattle.wcnf.specs.Literal.{Literal}
+use Rattle.cnf.specs.Literal.{Literal}
 use Rattle.lrat_check.specs.Pieces.{Stands}
 use Rattle.lrat_check.proofs.streams.judge_stream.Given as goal
 

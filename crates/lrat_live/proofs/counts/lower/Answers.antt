@@ -1,6 +1,6 @@
 use Rattle.std.proofs.Common.{◌≡◌, ◌-◌, ◌<◌, ℕ, subst, arith}
 use Rattle.std.specs.Prelude.{◌==◌}
-use Rattle.wcnf.specs.Numbers.{one_if}
+use Rattle.cnf.specs.Numbers.{one_if}
 use Rattle.lrat_live.proofs.CountLaws.{lowered_none, lowered_more}
 use Rattle.lrat_live.specs.Pages.{count_in}
 use Rattle.lrat_live.proofs.counts.lower.Goals as goal

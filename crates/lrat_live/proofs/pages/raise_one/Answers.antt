@@ -1,7 +1,7 @@
 use Rattle.std.proofs.Common.{◌+◌, ap, ◌∙◌}
 use Rattle.std.specs.Prelude.{◌==◌}
 use Rattle.std.proofs.lemmas.Grind.{get_or_default_zero}
-use Rattle.wcnf.specs.Numbers.{one_if}
+use Rattle.cnf.specs.Numbers.{one_if}
 use Rattle.lrat_live.proofs.PageLaws.{set_more}
 use Rattle.lrat_live.proofs.pages.raise_one.Goals as goal
 

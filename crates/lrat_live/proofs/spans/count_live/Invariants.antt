@@ -1,5 +1,5 @@
 use Rattle.std.proofs.Common.{ℕ, List, ◌++◌, take}
-use Rattle.wcnf.specs.Literal.{Literal}
+use Rattle.cnf.specs.Literal.{Literal}
 use Rattle.lrat_live.specs.Counts.{AreCounts}
 use Rattle.lrat_live.specs.Near.{spanned}
 use Rattle.lrat_live.specs.Pages.{count_in}

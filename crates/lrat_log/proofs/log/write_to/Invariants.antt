@@ -1,6 +1,6 @@
 -- The lines before this one were put.
 use Rattle.std.proofs.Common.{◌≡◌, []}
-use Rattle.wcnf.specs.Writing.{PassesOn}
+use Rattle.text.specs.Writing.{PassesOn}
 use Rattle.lrat_log.proofs.LineTexts.{last_on, put_before}
 use Rattle.lrat_log.proofs.log.write_to.Given as goal
 

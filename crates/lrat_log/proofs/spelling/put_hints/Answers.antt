@@ -1,7 +1,7 @@
 -- Where a fault came, a beginning of the hints was put.
 use Rattle.std.proofs.Common.{◌≡◌, [], rules}
 use Rattle.std.proofs.lemmas.Result.{err_from_is_err_and}
-use Rattle.wcnf.proofs.Laws.{items_more}
+use Rattle.text.proofs.Laws.{items_more}
 use Rattle.lrat_log.specs.Texts.{number_text, hint_text}
 use Rattle.lrat_log.proofs.LineTexts.{item_fault}
 use Rattle.lrat_log.proofs.spelling.put_hints.Goals as goal

@@ -1,8 +1,8 @@
 -- Where a fault came, a beginning of the literals was put.
 use Rattle.std.proofs.Common.{◌≡◌, [], rules}
 use Rattle.std.proofs.lemmas.Result.{err_from_is_err_and}
-use Rattle.wcnf.proofs.Laws.{items_more}
-use Rattle.wcnf.specs.Literal.{Literal}
+use Rattle.text.proofs.Laws.{items_more}
+use Rattle.cnf.specs.Literal.{Literal}
 use Rattle.lrat_log.specs.Texts.{number_text}
 use Rattle.lrat_log.proofs.LineTexts.{item_fault}
 use Rattle.lrat_log.proofs.spelling.put_literals.Goals as goal

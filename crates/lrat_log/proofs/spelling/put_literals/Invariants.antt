@@ -1,6 +1,6 @@
 -- The literals before the index were put.
 use Rattle.std.proofs.Common.{take}
-use Rattle.wcnf.specs.Writing.{PassesOn}
+use Rattle.text.specs.Writing.{PassesOn}
 use Rattle.lrat_log.specs.Texts.{literals_text}
 use Rattle.lrat_log.proofs.spelling.put_literals.Given as goal
 

@@ -1,5 +1,5 @@
 use Rattle.std.proofs.Common.{length, ◌-◌, ◌≡◌, ◌≤◌, drop}
-use Rattle.wcnf.specs.Text.{tokens_of}
+use Rattle.text.specs.Text.{tokens_of}
 use Rattle.lrat_read.specs.Form.{block_of}
 use Rattle.lrat_read.proofs.Prefixes.{ahead}
 use Rattle.lrat_read.proofs.blocks.read_hints.Given as goal

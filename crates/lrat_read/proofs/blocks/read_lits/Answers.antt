@@ -1,5 +1,5 @@
 use Rattle.std.proofs.Common.{arith, ◌∙◌, ap, [], ◌∷◌, ◌++◌}
-use Rattle.wcnf.specs.Literal.{Literal}
+use Rattle.cnf.specs.Literal.{Literal}
 use Rattle.lrat_read.proofs.Prefixes.{lits_small, lits_large}
 use Rattle.lrat_read.proofs.blocks.read_lits.Goals as goal
 

@@ -1,5 +1,5 @@
 use Rattle.std.proofs.Common.{arith, ◌≡◌, ◌+◌, ◌-◌, ◌*◌, ◌<◌, ◌^◌, get_or, slice_range, sym, ◌∙◌}
-use Rattle.wcnf.specs.Text.{value_on}
+use Rattle.text.specs.Text.{value_on}
 use Rattle.lrat_read.proofs.Scan.{digits_room, digits_step}
 use Rattle.lrat_read.proofs.numbers.digits_at.Goals as goal
 

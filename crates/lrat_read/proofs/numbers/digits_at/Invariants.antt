@@ -1,6 +1,6 @@
 use Rattle.std.proofs.Common.{◌-◌, ◌+◌, ◌≡◌, ◌≤◌, length, slice_range, true}
 use Rattle.std.specs.List.{list_all}
-use Rattle.wcnf.specs.Text.{is_digit, value_on}
+use Rattle.text.specs.Text.{is_digit, value_on}
 use Rattle.lrat_read.proofs.numbers.digits_at.Given as goal
 
 abbrev pub invariant-loop-end : goal.invariant-loop-end

@@ -2,7 +2,7 @@
 use Rattle.std.proofs.Common.{◌≡◌, get_or, true, arith, sym, ◌∙◌, ap}
 use Rattle.std.proofs.lemmas.Bool.{cond-true}
 use Rattle.std.proofs.lemmas.List.{drop_more}
-use Rattle.wcnf.specs.Text.{is_blank, tokens_of}
+use Rattle.text.specs.Text.{is_blank, tokens_of}
 use Rattle.lrat_read.proofs.Scan.{run_push}
 use Rattle.lrat_read.proofs.numbers.skip_blanks.Goals as goal
 

@@ -1,6 +1,6 @@
 use Rattle.std.proofs.Common.{length, ◌-◌, ◌≡◌, ◌≤◌, drop, slice_range, true}
 use Rattle.std.specs.List.{list_all}
-use Rattle.wcnf.specs.Text.{is_blank, tokens_of}
+use Rattle.text.specs.Text.{is_blank, tokens_of}
 use Rattle.lrat_read.proofs.numbers.skip_blanks.Given as goal
 
 abbrev pub invariant-loop-place : goal.invariant-loop-place

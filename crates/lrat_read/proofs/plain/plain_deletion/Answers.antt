@@ -2,7 +2,7 @@
 use Rattle.std.proofs.Common.{◌≡◌, ℕ, ◌+◌, ◌<◌, ◌∷◌, ◌∙◌, [], ap, arith, drop, length, refl}
 use Rattle.std.proofs.Common.{get_or, sym}
 use Rattle.std.proofs.lemmas.List.{drop_more}
-use Rattle.wcnf.specs.Text.{tokens_of}
+use Rattle.text.specs.Text.{tokens_of}
 use Rattle.lrat_read.specs.Form.{line_of}
 use Rattle.lrat_read.specs.Plain.{before_feed}
 use Rattle.lrat_read.proofs.Lines.{deletes_block}

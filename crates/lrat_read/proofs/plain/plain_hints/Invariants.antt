@@ -1,6 +1,6 @@
 use Rattle.std.proofs.Common.{◌≡◌, ◌-◌, ◌*◌, ◌<◌, ◌≤◌, length, slice_range, true, false, drop}
 use Rattle.std.specs.List.{list_any}
-use Rattle.wcnf.specs.Text.{tokens_of}
+use Rattle.text.specs.Text.{tokens_of}
 use Rattle.lrat_read.specs.Form.{block_of}
 use Rattle.lrat_read.specs.Plain.{before_feed, IsKept}
 use Rattle.lrat_read.proofs.Prefixes.{ahead}

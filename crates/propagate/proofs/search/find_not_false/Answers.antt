@@ -1,6 +1,6 @@
 use Rattle.std.proofs.Common.{◌≡◌, false, Some, subst}
 use Rattle.std.specs.Prelude.{All}
-use Rattle.wcnf.specs.Literal.{Literal}
+use Rattle.cnf.specs.Literal.{Literal}
 use Rattle.std.proofs.lemmas.List.{take_all}
 use Rattle.propagate.specs.Trail.{value_in}
 use Rattle.propagate.proofs.Searches.{all_read}

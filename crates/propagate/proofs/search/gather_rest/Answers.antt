@@ -1,7 +1,7 @@
 use Rattle.std.proofs.Common.{◌≡◌, ◌≢◌, ◌++◌, ◌∷◌, [], take, ◌⊎◌, inl, inr, sym, ◌∙◌, ap, subst}
 use Rattle.std.proofs.Common.{rules}
 use Rattle.std.proofs.lemmas.List.{take_all, take_more}
-use Rattle.watches.specs.declared.table.Rest.TheVariants.{One}
+use Rattle.propagate_watches.specs.declared.table.Rest.TheVariants.{One}
 use Rattle.propagate.specs.Fits.{IsRest}
 use Rattle.propagate.proofs.Beside.{rest_same, rest_third}
 use Rattle.propagate.proofs.search.gather_rest.Goals as goal

@@ -2,8 +2,8 @@
 use Rattle.std.proofs.Common.{◌∷◌, [], false, get_or, rules}
 use Rattle.std.proofs.lemmas.Result.{err_from_is_err_and}
 use Rattle.std.proofs.lemmas.List.{get_or_default}
-use Rattle.wcnf.proofs.Laws.{items_more}
-use Rattle.result_read.specs.Result.{digit_of}
+use Rattle.text.proofs.Laws.{items_more}
+use Rattle.lrat_result.specs.Result.{digit_of}
 use Rattle.lrat_log.proofs.Laws.{item_fault}
 use Rattle.report.proofs.answering.put_bits.Goals as goal
 

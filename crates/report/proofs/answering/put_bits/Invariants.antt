@@ -1,6 +1,6 @@
 -- The digits before the index were put.
 use Rattle.std.proofs.Common.{take}
-use Rattle.wcnf.specs.Writing.{PassesOn}
+use Rattle.text.specs.Writing.{PassesOn}
 use Rattle.report.specs.Answering.{digits_text}
 use Rattle.report.proofs.answering.put_bits.Given as goal
 

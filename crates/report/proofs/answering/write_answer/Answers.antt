@@ -4,7 +4,7 @@ use lib.Chars.{codes}
 use Rattle.std.proofs.lemmas.Result.{err_from_is_err_and}
 use Rattle.std.proofs.KnownBytes.{Appends-nil}
 use Rattle.std.specs.Io.KnownBytes.{Appends}
-use Rattle.wcnf.specs.Writing.{AppendsPart}
+use Rattle.text.specs.Writing.{AppendsPart}
 use Rattle.report.proofs.Answered.{end_is, output_left, answers}
 use Rattle.report.proofs.answering.write_answer.Goals as goal
 

@@ -1,8 +1,8 @@
 -- A second literal that is not marked, or one of which neither sign is, ends the search.
 use Rattle.std.proofs.Common.{◌≡◌, ◌∙◌, false, take, sym, ap, subst, rules}
 use Rattle.std.proofs.lemmas.List.{take_all}
-use Rattle.wcnf.specs.Literal.{negation}
-use Rattle.wcnf.specs.Marks.{mark_of}
+use Rattle.cnf.specs.Literal.{negation}
+use Rattle.cnf.specs.Marks.{mark_of}
 use Rattle.subsume.specs.Against.{unmarked}
 use Rattle.subsume.specs.declared.against.Against.TheVariants.{Within}
 use Rattle.subsume.proofs.Lying.{IsOpen, apart_second, apart_neither, open_lies}

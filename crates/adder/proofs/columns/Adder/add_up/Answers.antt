@@ -1,5 +1,5 @@
 use Rattle.std.proofs.Common.{◌≡◌, ◌+◌, ◌++◌, ◌∷◌, [], arith, refl}
-use Rattle.wcnf.specs.Literal.{positive}
+use Rattle.cnf.specs.Literal.{positive}
 use Rattle.adder.proofs.Queue.{two_at, three_at, has_room, adds_cell}
 use Rattle.adder.proofs.columns.Adder.add_up.Goals.{in-len2+in_ok-add-in-len2}
 use Rattle.adder.proofs.columns.Adder.add_up.Goals.{in-len3-up+in_ok-add-in-len3-up}

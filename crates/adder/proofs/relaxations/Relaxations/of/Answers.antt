@@ -1,7 +1,7 @@
 use Rattle.std.proofs.Common.{◌≡◌, ℕ, ◌+◌, ◌≤◌, ◌++◌, List, [], length, map, filter, drop, sym, ◌∙◌}
 use Rattle.std.proofs.Common.{ap, append-nil, arith, rules}
 use Rattle.std.proofs.lemmas.List.{at_drop_all}
-use Rattle.wcnf.specs.Problem.{SoftClause}
+use Rattle.cnf.specs.Problem.{SoftClause}
 use Rattle.adder.specs.declared.cells.Profile.{Profile}
 use Rattle.adder.specs.declared.relaxations.Relaxation.{Relaxation}
 use Rattle.adder.specs.Network.{relaxed_from}

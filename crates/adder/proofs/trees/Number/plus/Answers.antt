@@ -1,5 +1,5 @@
 use Rattle.std.proofs.Common.{◌≡◌, ◌+◌, ◌-◌, ◌++◌, List, suc, arith, refl, ap}
-use Rattle.wcnf.specs.Literal.{Literal}
+use Rattle.cnf.specs.Literal.{Literal}
 use Rattle.adder.specs.Network.{binary_length, literal_at}
 use Rattle.adder.proofs.Whole.{building_starts, column_room, builds_column, builds_end}
 use Rattle.adder.proofs.trees.Number.plus.Goals as goal

@@ -1,6 +1,6 @@
 use Rattle.std.proofs.Common.{◌≤◌, sym, ap, subst}
 use Rattle.std.specs.Prelude.{All}
-use Rattle.wcnf.specs.Literal.{Literal}
+use Rattle.cnf.specs.Literal.{Literal}
 use Rattle.propagate.specs.Trail.{literals_of}
 use Rattle.cdcl.specs.Running.{tables_of}
 use Rattle.cdcl.proofs.Moves.{run_backtrack}

@@ -3,9 +3,9 @@ use Rattle.std.proofs.Common.{◌≡◌, ◌<◌, ◌≤◌, ◌+◌, ◌^◌, f
 use Rattle.std.proofs.Common.{◌∙◌, ap, subst, arith}
 use Rattle.std.specs.Prelude.{All}
 use Rattle.std.proofs.lemmas.List.{drop_all}
-use Rattle.wcnf.specs.Literal.{Literal}
-use Rattle.wcnf.specs.Clause.{has_repeat}
-use Rattle.wcnf.specs.Refute.{IsRefutedByHints}
+use Rattle.cnf.specs.Literal.{Literal}
+use Rattle.cnf.specs.Clause.{has_repeat}
+use Rattle.cnf.specs.Refute.{IsRefutedByHints}
 use Rattle.clauses.specs.Slots.{live_clauses}
 use Rattle.lrat_log.specs.Steps.{StaysLogOver, given_of}
 use Rattle.eliminate.specs.Elimination.{ExtendsBack, IsFree}

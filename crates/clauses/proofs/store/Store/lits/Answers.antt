@@ -1,7 +1,7 @@
 use Rattle.std.proofs.Common.{◌+◌, ◌≤◌, ◌<◌, length, rules}
 use Rattle.clauses.specs.Heads.{slots_of}
 use Rattle.clauses.specs.Slots.{IsLive}
-use Rattle.wcnf.proofs.Laws.{laid_within}
+use Rattle.cnf.proofs.Laws.{laid_within}
 use Rattle.clauses.proofs.Flat.{heads}
 use Rattle.clauses.proofs.Reading.{no_head, span_at}
 use Rattle.clauses.proofs.Stored.{live_within, live_clause}

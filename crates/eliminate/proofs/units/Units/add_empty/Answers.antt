@@ -3,7 +3,7 @@ use Rattle.std.proofs.Common.{[], List, refl, sym, subst}
 use Rattle.lrat_log.specs.declared.lines.Kind.TheVariants.{Empty}
 use Rattle.lrat_log.specs.Log.{LogLine}
 use Rattle.eliminate.specs.declared.simplifier.Simplifier.{Simplifier}
-use Rattle.names.specs.Work.{AreClauses}
+use Rattle.eliminate_names.specs.Work.{AreClauses}
 use Rattle.eliminate.proofs.Tables.{addable_at, leaves_beside}
 use Rattle.eliminate.proofs.UnitLines.{empty_addable}
 use Rattle.eliminate.proofs.units.Units.add_empty.Goals as goal

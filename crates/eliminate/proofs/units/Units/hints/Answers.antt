@@ -3,13 +3,13 @@ use Rattle.std.proofs.Common.{◌≡◌, ℕ, ◌-◌, ◌<◌, ◌∷◌, [], t
 use Rattle.std.proofs.Common.{None, sym, ◌∙◌, ap, subst, arith, Vec, Global}
 use Rattle.std.specs.Prelude.{unwrap_or}
 use Rattle.std.proofs.lemmas.Option.{none-some, same_Some}
-use Rattle.wcnf.specs.Literal.{Literal, negation}
-use Rattle.wcnf.specs.Marks.{mark_of, HasPlace}
+use Rattle.cnf.specs.Literal.{Literal, negation}
+use Rattle.cnf.specs.Marks.{mark_of, HasPlace}
 use Rattle.lrat_log.specs.declared.lines.Name.{Name}
 use Rattle.lrat_log.specs.declared.lines.Hint.{Hint}
 use Rattle.lrat_log.specs.declared.lines.Hint.TheVariants.{Plain}
 use Rattle.eliminate.specs.declared.units.Units.{Units}
-use Rattle.names.specs.Work.{name_at}
+use Rattle.eliminate_names.specs.Work.{name_at}
 use Rattle.eliminate.specs.Units.{unit_of, unit_name}
 use Rattle.clauses.proofs.Laws.{live_within}
 use Rattle.eliminate.proofs.Statuses.{literal_place, mark_says}

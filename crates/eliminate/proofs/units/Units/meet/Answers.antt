@@ -1,8 +1,8 @@
 -- What a clause asks for is done.
 use Rattle.std.proofs.Common.{◌*◌, ap, List, sym, ◌∙◌, subst}
-use Rattle.wcnf.specs.Literal.{Literal}
-use Rattle.wcnf.specs.Marks.{HasPlace}
-use Rattle.names.specs.Work.{AreClauses}
+use Rattle.cnf.specs.Literal.{Literal}
+use Rattle.cnf.specs.Marks.{HasPlace}
+use Rattle.eliminate_names.specs.Work.{AreClauses}
 use Rattle.eliminate.specs.Simplifier.{LeavesLog}
 use Rattle.eliminate.proofs.Assigned.{units_grown, makes_true_grown}
 use Rattle.eliminate.proofs.Propagating.{propagates_nothing}

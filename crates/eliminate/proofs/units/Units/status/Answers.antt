@@ -1,13 +1,13 @@
 -- Literal after literal is looked up.
 use Rattle.std.proofs.Common.{◌+◌, true, false, List, length, take, sym, ◌∙◌, ap, subst, arith}
 use Rattle.std.proofs.lemmas.Option.{same_Some}
-use Rattle.wcnf.specs.Literal.{Literal, negation}
-use Rattle.wcnf.specs.Marks.{mark_of, HasPlace}
+use Rattle.cnf.specs.Literal.{Literal, negation}
+use Rattle.cnf.specs.Marks.{mark_of, HasPlace}
 use Rattle.eliminate.specs.declared.units.Units.{Units}
 use Rattle.eliminate.specs.Units.{IsSettled}
 use Rattle.eliminate.proofs.Statuses.{HasStatusSoFar, settled_true, status_false, status_open}
 use Rattle.eliminate.proofs.Statuses.{status_second, literal_place, mark_says}
-use Rattle.wcnf.proofs.Laws.{at_contains}
+use Rattle.cnf.proofs.Laws.{at_contains}
 use Rattle.eliminate.proofs.units.Units.status.Goals as goal
 use Rattle.eliminate.proofs.units.Units.status.Goals.{then-not-is_marked+in-Falsified}
 use Rattle.eliminate.proofs.units.Units.status.Goals.{else-not-is_marked}

@@ -1,5 +1,5 @@
 use Rattle.std.proofs.Common.{◌≡◌, ℕ, ◌<◌, true, false, List, Some}
-use Rattle.wcnf.specs.Literal.{Literal}
+use Rattle.cnf.specs.Literal.{Literal}
 use Rattle.clauses.specs.Slots.{clause_at}
 use Rattle.eliminate.specs.Units.{IsSettled, open_count, Propagates}
 use Rattle.eliminate.proofs.units.Units.sweep.Given as goal

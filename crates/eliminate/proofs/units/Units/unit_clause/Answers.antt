@@ -1,11 +1,11 @@
 -- The clause itself, or one that is added: the literal that is open follows by the units.
 use Rattle.std.proofs.Common.{◌≡◌, ◌++◌, ◌∷◌, [], List, Some, refl, sym, ◌∙◌, ap, subst}
-use Rattle.wcnf.specs.Literal.{Literal}
+use Rattle.cnf.specs.Literal.{Literal}
 use Rattle.clauses.specs.Slots.{Slots, clause_at}
 use Rattle.lrat_log.specs.declared.lines.Kind.TheVariants.{Unit}
 use Rattle.lrat_log.specs.Log.{LogLine}
 use Rattle.eliminate.specs.declared.simplifier.Simplifier.{Simplifier}
-use Rattle.names.specs.Work.{AreClauses}
+use Rattle.eliminate_names.specs.Work.{AreClauses}
 use Rattle.eliminate.specs.Simplifier.{Grows}
 use Rattle.eliminate.proofs.Assigned.{single}
 use Rattle.clauses.proofs.Laws.{clause_kept, clause_new}

@@ -1,7 +1,7 @@
 -- One variable more has its value.
 use Rattle.std.proofs.Common.{◌≡◌, ◌-◌, ◌<◌, ◌≤◌, length, arith, ap, ◌∙◌}
-use Rattle.wcnf.specs.Literal.{Assignment}
-use Rattle.wcnf.specs.Bits.{assignment_of}
+use Rattle.cnf.specs.Literal.{Assignment}
+use Rattle.cnf.specs.Bits.{assignment_of}
 use Rattle.eliminate_tables.specs.declared.stack.Gone.{Gone}
 use Rattle.eliminate_tables.specs.Removals.{becomes_true}
 use Rattle.eliminate_tables.specs.Flat.{one_removed}

@@ -1,5 +1,5 @@
 use Rattle.std.proofs.Common.{◌≡◌, ◌<◌, ◌≤◌, false, ap, ◌∙◌, arith}
-use Rattle.wcnf.specs.Clause.{contains_literal}
+use Rattle.cnf.specs.Clause.{contains_literal}
 use Rattle.lrat_check.proofs.AssumedLaws.{AreValues-assume}
 use Rattle.lrat_check.proofs.assumed.Assumed.assume.Goals as goal
 

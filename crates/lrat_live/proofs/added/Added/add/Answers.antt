@@ -1,6 +1,6 @@
 use Rattle.std.proofs.Common.{◌<◌, List, ℕ}
 use Rattle.std.specs.Prelude.{All}
-use Rattle.wcnf.specs.Literal.{Literal}
+use Rattle.cnf.specs.Literal.{Literal}
 use Rattle.lrat_live.specs.Table.{cells_of, keys_of, clauses_in, IsAboveLast}
 use Rattle.lrat_live.proofs.Tables.{live_above}
 use Rattle.lrat_live.proofs.added.Added.add.Goals as goal

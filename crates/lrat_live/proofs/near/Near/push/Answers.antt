@@ -1,7 +1,7 @@
 use Rattle.std.proofs.Common.{◌≡◌, ℕ, ◌+◌, ◌<◌, ◌^◌, ◌∷◌, [], ◌++◌, ◌∙◌, List, length, ap, arith}
 use Rattle.std.proofs.Common.{inl, inr, subst, sym}
 use Rattle.std.specs.Prelude.{All, Result, Ok, Err, OnErr}
-use Rattle.wcnf.specs.Literal.{Literal}
+use Rattle.cnf.specs.Literal.{Literal}
 use Rattle.lrat_live.specs.Near.{Parts, IsNear, padded, recent_in}
 use Rattle.lrat_live.proofs.PushLaws.{near_padded, given_padded, recent_padded, near_last}
 use Rattle.lrat_live.proofs.PushLaws.{given_last, recent_last, length-padded}

@@ -1,7 +1,7 @@
 -- One less in the place's page, if there is that page.
 use Rattle.std.proofs.Common.{◌-◌, Vec, Global, ℕ, arith, ap, ◌∙◌}
 use Rattle.std.specs.Prelude.{◌==◌}
-use Rattle.wcnf.specs.Numbers.{one_if}
+use Rattle.cnf.specs.Numbers.{one_if}
 use Rattle.lrat_live.specs.Pages.{count_in}
 use Rattle.lrat_live.proofs.PageLaws.{page_lowered}
 use Rattle.lrat_live.proofs.pages.Counts.lower.Goals as goal

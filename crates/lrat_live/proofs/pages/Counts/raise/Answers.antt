@@ -2,7 +2,7 @@
 use Rattle.std.proofs.Common.{◌+◌, Vec, Global, ℕ, ap, ◌∙◌}
 use Rattle.std.specs.Prelude.{◌==◌}
 use Rattle.std.proofs.lemmas.Result.{on_ok_weaker}
-use Rattle.wcnf.specs.Numbers.{one_if}
+use Rattle.cnf.specs.Numbers.{one_if}
 use Rattle.lrat_live.specs.Pages.{count_in}
 use Rattle.lrat_live.proofs.PageLaws.{page_raised}
 use Rattle.lrat_live.proofs.pages.Counts.raise.Goals as goal

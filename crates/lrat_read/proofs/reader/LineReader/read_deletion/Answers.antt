@@ -1,5 +1,5 @@
 use Rattle.std.proofs.Common.{subst, drop}
-use Rattle.wcnf.specs.Text.{tokens_of}
+use Rattle.text.specs.Text.{tokens_of}
 use Rattle.lrat_read.specs.Blocks.{IsLastRead}
 use Rattle.lrat_read.proofs.Lines.{breaks_in_ids}
 use Rattle.lrat_read.proofs.reader.LineReader.read_deletion.Goals as goal

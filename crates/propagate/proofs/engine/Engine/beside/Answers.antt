@@ -2,9 +2,9 @@ use Rattle.std.proofs.Common.{◌≡◌, ◌≢◌, ◌≤◌, true, false, Some
 use Rattle.std.specs.Prelude.{All, MatchOption}
 use Rattle.std.specs.List.{AllByRecursion}
 use Rattle.std.proofs.lemmas.Bool.{true≢false}
-use Rattle.wcnf.specs.Literal.{Literal, negation}
-use Rattle.wcnf.specs.Clause.{contains_literal}
-use Rattle.watches.specs.declared.table.Rest.TheVariants.{Nothing, One}
+use Rattle.cnf.specs.Literal.{Literal, negation}
+use Rattle.cnf.specs.Clause.{contains_literal}
+use Rattle.propagate_watches.specs.declared.table.Rest.TheVariants.{Nothing, One}
 use Rattle.propagate.specs.Trail.{literals_of, value_in}
 use Rattle.propagate.specs.Watches.{EngineState}
 use Rattle.propagate.proofs.Looking.{within_variable, within_all, false_value}

@@ -2,9 +2,10 @@ use Rattle.std.proofs.Common.{◌≡◌, ℕ, ◌<◌, true, length, Some, sym, 
 use Rattle.std.specs.Prelude.{All}
 use Rattle.std.proofs.lemmas.Fn.{filter_same}
 use Rattle.std.proofs.lemmas.List.{length-set}
-use Rattle.watches.specs.declared.table.Attachment.TheVariants.{Detached, Waiting, Satisfied}
-use Rattle.watches.specs.Table.{IsWatching, attachment_in}
-use Rattle.watches.specs.Pool.{row_at}
+use Rattle.propagate_watches.specs.declared.table.Attachment.TheVariants.{Detached, Waiting}
+use Rattle.propagate_watches.specs.declared.table.Attachment.TheVariants.{Satisfied}
+use Rattle.propagate_watches.specs.Table.{IsWatching, attachment_in}
+use Rattle.propagate_watches.specs.Pool.{row_at}
 use Rattle.propagate.specs.Trail.{Assigned}
 use Rattle.propagate.specs.Watches.{EngineState, IsVariable, engine_state, is_attached, watches_at}
 use Rattle.propagate.specs.Fits.{Fits}

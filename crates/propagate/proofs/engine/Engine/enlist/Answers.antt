@@ -1,6 +1,6 @@
 use Rattle.std.proofs.Common.{refl, subst}
-use Rattle.watches.specs.Table.{IsWatching, grown_table}
-use Rattle.watches.specs.declared.table.Attachment.TheVariants.{Waiting}
+use Rattle.propagate_watches.specs.Table.{IsWatching, grown_table}
+use Rattle.propagate_watches.specs.declared.table.Attachment.TheVariants.{Waiting}
 use Rattle.propagate.specs.Watches.{engine_state}
 use Rattle.propagate.proofs.Attaching.{engine_set, engine_change, attachment_grown, length-grown}
 use Rattle.propagate.proofs.engine.Engine.enlist.Goals as goal

@@ -1,9 +1,9 @@
 use Rattle.std.proofs.Common.{◌≡◌, ◌≢◌, true, false, Some, ◌⊎◌, refl, sym, ap, subst}
 use Rattle.std.specs.Prelude.{All}
-use Rattle.wcnf.specs.Clause.{contains_literal}
+use Rattle.cnf.specs.Clause.{contains_literal}
 use Rattle.clauses.specs.Slots.{clause_at}
-use Rattle.watches.specs.declared.table.Attachment.TheVariants.{Watching}
-use Rattle.watches.specs.Table.{is_kept}
+use Rattle.propagate_watches.specs.declared.table.Attachment.TheVariants.{Watching}
+use Rattle.propagate_watches.specs.Table.{is_kept}
 use Rattle.propagate.specs.Trail.{literals_of, value_in}
 use Rattle.propagate.specs.Watches.{EngineState, IsEngine, IsVariable}
 use Rattle.propagate.specs.Fits.{Fits}

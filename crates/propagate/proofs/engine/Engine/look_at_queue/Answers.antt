@@ -2,8 +2,8 @@ use Rattle.std.proofs.Common.{◌≡◌, ◌+◌, ◌<◌, length, sym, ap, subs
 use Rattle.std.specs.Prelude.{IfNone}
 use Rattle.std.specs.List.{AllByRecursion}
 use Rattle.std.proofs.lemmas.List.{length-append}
-use Rattle.wcnf.specs.Literal.{index_of}
-use Rattle.watches.specs.Pool.{row_at}
+use Rattle.cnf.specs.Literal.{index_of}
+use Rattle.propagate_watches.specs.Pool.{row_at}
 use Rattle.propagate.specs.Trail.{literals_of}
 use Rattle.propagate.specs.Fits.{Fits}
 use Rattle.propagate.specs.Steps.{Continues, AreTrueWaiting, IsTrueEntry}

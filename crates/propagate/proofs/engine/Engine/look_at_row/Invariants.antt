@@ -1,6 +1,6 @@
 use Rattle.std.proofs.Common.{◌≡◌, ◌-◌, length}
-use Rattle.wcnf.specs.Literal.{index_of}
-use Rattle.watches.specs.Pool.{row_at}
+use Rattle.cnf.specs.Literal.{index_of}
+use Rattle.propagate_watches.specs.Pool.{row_at}
 use Rattle.propagate.specs.Steps.{Continues, InRow}
 use Rattle.propagate.proofs.engine.Engine.look_at_row.Given as goal
 

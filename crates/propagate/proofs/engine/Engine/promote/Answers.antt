@@ -1,5 +1,5 @@
 use Rattle.std.proofs.Common.{◌≡◌, ◌<◌, List, Some, length, get_or, sym, ap, ◌∙◌, arith}
-use Rattle.wcnf.specs.Literal.{Literal}
+use Rattle.cnf.specs.Literal.{Literal}
 use Rattle.std.proofs.lemmas.List.{length-map}
 use Rattle.propagate.specs.Trail.{Assigned, literals_of, level_in, depth_of}
 use Rattle.propagate.proofs.Kept.{past_kept}

@@ -1,7 +1,7 @@
 use Rattle.std.proofs.Common.{◌≡◌, ◌<◌, length, ap, ◌∙◌, arith}
 use Rattle.std.proofs.lemmas.List.{length-set}
-use Rattle.watches.specs.declared.table.Attachment.TheVariants.{Watching}
-use Rattle.watches.specs.Table.{is_kept}
+use Rattle.propagate_watches.specs.declared.table.Attachment.TheVariants.{Watching}
+use Rattle.propagate_watches.specs.Table.{is_kept}
 use Rattle.propagate.specs.Watches.{EngineState, engine_state, is_attached}
 use Rattle.propagate.proofs.Attaching.{engine_set, kept_within}
 use Rattle.propagate.proofs.engine.Engine.rewatch.Goals as goal

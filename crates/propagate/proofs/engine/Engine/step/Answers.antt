@@ -1,10 +1,10 @@
 use Rattle.std.proofs.Common.{◌≡◌, ◌+◌, ◌++◌, ◌∷◌, [], true, length, get_or, set, Some, refl, sym}
 use Rattle.std.proofs.Common.{ap, subst, ◌∙◌}
 use Rattle.std.specs.Prelude.{slice_get}
-use Rattle.wcnf.specs.Literal.{index_of}
-use Rattle.watches.specs.declared.table.Attachment.TheVariants.{Watching}
-use Rattle.watches.specs.Pool.{row_at, with_row}
-use Rattle.watches.specs.Table.{attachment_in}
+use Rattle.cnf.specs.Literal.{index_of}
+use Rattle.propagate_watches.specs.declared.table.Attachment.TheVariants.{Watching}
+use Rattle.propagate_watches.specs.Pool.{row_at, with_row}
+use Rattle.propagate_watches.specs.Table.{attachment_in}
 use Rattle.propagate.specs.Watches.{EngineState, IsEngine, IsVariable, is_attached}
 use Rattle.propagate.specs.Steps.{InRow, IsWatched, IsTrueIn, Continues, with_rows, with_trail}
 use Rattle.propagate.specs.Steps.{entry_of}

@@ -1,8 +1,8 @@
 use Rattle.std.proofs.Common.{◌≡◌, true, Some, refl, sym, ap, subst, ◌∙◌}
 use Rattle.std.specs.Prelude.{IfSome}
-use Rattle.wcnf.specs.Clause.{contains_literal}
-use Rattle.watches.specs.declared.table.Attachment.TheVariants.{Watching, Satisfied}
-use Rattle.watches.specs.Table.{is_kept}
+use Rattle.cnf.specs.Clause.{contains_literal}
+use Rattle.propagate_watches.specs.declared.table.Attachment.TheVariants.{Watching, Satisfied}
+use Rattle.propagate_watches.specs.Table.{is_kept}
 use Rattle.propagate.specs.Trail.{level_in, depth_of}
 use Rattle.propagate.specs.Watches.{EngineState, IsEngine}
 use Rattle.propagate.specs.Fits.{Fits}

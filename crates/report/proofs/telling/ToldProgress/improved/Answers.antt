@@ -1,7 +1,7 @@
 -- A failed write leaves a beginning of the line.
 use Rattle.std.proofs.Common.{◌∙◌, ap, sym, subst, arith}
-use Rattle.wcnf.specs.Writing.{AppendsPart, spaced}
-use Rattle.result_read.specs.Result.{cost_tokens}
+use Rattle.text.specs.Writing.{AppendsPart, spaced}
+use Rattle.lrat_result.specs.Result.{cost_tokens}
 use Rattle.improve.proofs.Laws.{at_err}
 use Rattle.report.proofs.CostLines.{broke}
 use Rattle.report.proofs.telling.ToldProgress.improved.Goals as goal

@@ -1,8 +1,8 @@
 -- The clause with one more literal, and its marks.
 use Rattle.std.proofs.Common.{◌≡◌, ◌<◌, ◌≤◌, ◌∙◌, false, length, ap, sym, subst, arith}
-use Rattle.wcnf.specs.Clause.{contains_literal}
+use Rattle.cnf.specs.Clause.{contains_literal}
 use Rattle.wcnf.specs.Drafts.{Gathered}
-use Rattle.wcnf.specs.Marks.{IsMarked}
+use Rattle.cnf.specs.Marks.{IsMarked}
 use Rattle.wcnf.proofs.Gathered.{marked-push}
 use Rattle.wcnf.proofs.gathering.Gathering.add.Goals as goal
 

@@ -1,6 +1,6 @@
 -- What the piece leaves: after a line of it, after its last bytes, and at a fault.
 use Rattle.std.proofs.Common.{refl}
-use Rattle.wcnf.specs.Text.{IsNoFeed}
+use Rattle.text.specs.Text.{IsNoFeed}
 use Rattle.std.proofs.lemmas.Result.{err_from_is_err_and}
 use Rattle.wcnf.proofs.ParserLaws.{none_read, more_read, rest_kept, refused_later}
 use Rattle.wcnf.proofs.parser.Parser.feed.Goals as goal

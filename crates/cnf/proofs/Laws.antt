@@ -1,0 +1,13 @@
+-- The laws of this crate that other crates cite, from one place.
+pub use Rattle.cnf.proofs.Certificates.{certificate_sound, clause_kept, made, made_true, rest_kept}
+pub use Rattle.cnf.proofs.Hints.{GroupHasIds, more_same, refutes_after, unit_same}
+pub use Rattle.cnf.proofs.Judgement.{extends_own}
+pub use Rattle.cnf.proofs.Laid.{IsCompacting, Layout, compacting_all, compacting_dead}
+pub use Rattle.cnf.proofs.Laid.{compacting_live, laid_le, laid_push, laid_set, laid_within}
+pub use Rattle.cnf.proofs.Laid.{moved_within, pieces-append, pieces_dead, pieces_live, pieces_push}
+pub use Rattle.cnf.proofs.Laid.{range-append, range-appended}
+pub use Rattle.cnf.proofs.Literals.{at_contains, contains-push, index_below, index_same}
+pub use Rattle.cnf.proofs.Literals.{literal_eq-refl, literal_eq_ne, literal_ne, negation_twice}
+pub use Rattle.cnf.proofs.Marking.{marked_one, marked_subset, none_marked, place_within}
+pub use Rattle.cnf.proofs.Rising.{rises_least, rises_weaker, rising_from}
+pub use Rattle.cnf.proofs.Sound.{literal_eq-true, negation-value}

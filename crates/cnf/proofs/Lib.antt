@@ -1,0 +1,12 @@
+mod Sound
+mod Hints
+mod Certificates
+mod Witness
+mod Laid
+mod Cutting
+mod Rising
+mod Literals
+mod Marking
+mod Unstamped
+mod Judgement
+pub mod Laws

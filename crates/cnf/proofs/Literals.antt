@@ -1,0 +1,67 @@
+-- Literals that are one, that are negated twice, and their places in a table with a row for each.
+use Rattle.std.proofs.Common.{◌≡◌, ℕ, zero, suc, ◌+◌, ◌-◌, ◌*◌, ◌<◌, ◌≤◌, Bool, true, false, ◌||◌}
+use Rattle.std.proofs.Common.{List, [], ◌∷◌, ◌++◌, length, get_or, refl, ap, subst, arith}
+use Rattle.std.specs.Prelude.{if◌then◌else◌}
+use Rattle.std.proofs.lemmas.Bool.{and_from, or_left, or_right, eq-eqb, false_from_ne_true}
+use Rattle.std.proofs.lemmas.Bool.{both_ways}
+use Rattle.std.proofs.Math.Bool.{or-false, not-not}
+use Rattle.cnf.specs.Literal.{Literal, negation, literal_eq, same_bool, index_of}
+use Rattle.cnf.specs.Clause.{contains_literal}
+use Rattle.cnf.proofs.Sound.{literal_eq-true}
+
+same_bool-refl : (b : Bool) → same_bool b b ≡ true
+same_bool-refl true = refl
+same_bool-refl false = refl
+
+pub literal_eq-refl : (l : Literal) → literal_eq l l ≡ true
+literal_eq-refl l = and_from _ _ (eq-eqb l.variable l.variable refl) (same_bool-refl l.negated)
+
+pub literal_eq_ne : (k l : Literal) → (k ≡ l → ⊥) → literal_eq k l ≡ false
+literal_eq_ne k l n = false_from_ne_true (literal_eq k l) (λ e. n (literal_eq-true k l e))
+
+pub literal_ne : (k l : Literal) → literal_eq k l ≡ false → k ≡ l → ⊥
+literal_ne k l e s = both_ways (literal_eq k l) e (rw s (literal_eq-refl l))
+
+index_same_at : (v w : ℕ) (s t : Bool) → 0 < v → 0 < w
+    → 2 * (v - 1) + (if s then 1 else 0) ≡ 2 * (w - 1) + (if t then 1 else 0) → (v ≡ w) × (s ≡ t)
+index_same_at v w true true p q e = (omega arith, refl)
+index_same_at v w true false p q e = absurd (omega arith)
+index_same_at v w false true p q e = absurd (omega arith)
+index_same_at v w false false p q e = (omega arith, refl)
+
+pub index_same : (k l : Literal) → 0 < k.variable → 0 < l.variable → index_of k ≡ index_of l → k ≡ l
+index_same k l p q e =
+    let h = index_same_at k.variable l.variable k.negated l.negated p q e in
+    λ i. record { variable = h.0 i; negated = h.1 i }
+
+index_below_at : (v : ℕ) (s : Bool) → 0 < v → 2 * (v - 1) + (if s then 1 else 0) < 2 * v
+index_below_at v true p = omega arith
+index_below_at v false p = omega arith
+
+pub index_below : (l : Literal) (n : ℕ) → 0 < l.variable → l.variable ≤ n → index_of l < 2 * n
+index_below l n p h = omega (arith, index_below_at l.variable l.negated p)
+
+pub negation_twice : (l : Literal) → negation (negation l) ≡ l
+negation_twice l = ap (λ b. record { variable = l.variable; negated = b }) (not-not l.negated)
+
+-- one more literal at the end
+pub contains-push : (m : Literal) (c : List Literal) (l : Literal)
+    → contains_literal m (c ++ l ∷ []) ≡ (contains_literal m c || literal_eq m l)
+contains-push m [] l = or-false (literal_eq m l)
+contains-push m (k ∷ c) l =
+    elim (literal_eq m k) as (λ b. (b || contains_literal m (c ++ l ∷ []))
+    ≡ ((b || contains_literal m c) || literal_eq m l)) [
+      | true ↦ refl
+      | false ↦
+          contains-push m c l
+    ]
+
+-- a literal that stands at some place
+pub at_contains : (c : List Literal) (i : ℕ) (l : Literal) → i < length c → l ≡ get_or c i l
+    → contains_literal l c ≡ true
+at_contains [] i l h is = absurd (omega arith)
+at_contains (k ∷ c) zero l h is =
+    or_left (literal_eq l k) (contains_literal l c)
+    (subst (λ x. literal_eq l x ≡ true) is (literal_eq-refl l))
+at_contains (k ∷ c) (suc i) l h is =
+    or_right (literal_eq l k) (contains_literal l c) (at_contains c i l (omega arith) is)

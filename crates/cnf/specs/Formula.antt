@@ -1,0 +1,28 @@
+-- Formulas: clauses numbered from 1.
+use Rattle.std.specs.Prelude.{◌≡◌, ℕ, zero, suc, ◌<◌, ◌≤◌, ◌^◌, false, List, Option, None}
+use Rattle.std.specs.Prelude.{slice_get, All}
+use Rattle.cnf.specs.Literal.{Literal, Assignment}
+use Rattle.cnf.specs.Clause.{Satisfies, has_repeat, has_opposites, greatest_variable}
+
+pub record Cnf : Type 0 where
+  pub variables : ℕ
+  pub clauses : List (List Literal)
+
+-- what is known of each clause of a formula with so many variables
+pub record IsFormulaClause (variables : ℕ) (c : List Literal) : Type 0 where
+  pub no_repeat : has_repeat c ≡ false
+  pub no_opposites : has_opposites c ≡ false
+  pub from_one : All (λ l. 0 < l.variable) c
+  pub small : greatest_variable c ≤ variables
+
+pub record IsFormula (f : Cnf) : Type 0 where
+  pub few : f.variables < 2 ^ 26
+  pub clauses : All (IsFormulaClause f.variables) f.clauses
+
+-- a clause by its number
+abbrev pub numbered : List (List Literal) → ℕ → Option (List Literal)
+numbered cs zero = None
+numbered cs (suc i) = slice_get cs i
+
+abbrev pub IsUnsatisfiable : List (List Literal) → Type 0
+IsUnsatisfiable clauses = (t : Assignment) → All (Satisfies t) clauses → ⊥

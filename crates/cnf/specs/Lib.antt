@@ -1,0 +1,13 @@
+pub mod Numbers
+pub mod Literal
+pub mod Packed
+pub mod Clause
+pub mod Marks
+pub mod MarksVectors
+pub mod Problem
+pub mod Bits
+pub mod Flat
+pub mod Instance
+pub mod Formula
+pub mod Refute
+pub mod Lrat

@@ -1,0 +1,124 @@
+// The name of each clause in the store, and how many additions the log has: so an added clause
+// knows its name.
+ghost use Rattle.std.specs.Prelude.{◌≡◌, ℕ, ◌+◌, ◌<◌, ◌≤◌, ◌^◌, List, [], ◌∷◌, ◌++◌, length, IfOk};
+ghost use Rattle.std.specs.Prelude.{OnErr, slice_set, Some, None, All};
+ghost use Rattle.clauses.specs.Slots.{IsLive};
+ghost use Rattle.cnf.specs.Lrat.{IsId};
+ghost use Rattle.lrat_log.specs.Log.{IsLine, number_in};
+ghost use Rattle.lrat_log.specs.Steps.{added_count};
+ghost use Rattle.eliminate_names.specs.Work.{name_at, added_line, delete_line, formula_names};
+
+use clauses::store::{CRef, Store};
+use lrat_log::lines::{Hint, Kind, Line, Name, Number};
+use lrat_log::sink::Sink;
+use std::alloc::{AllocError, Global};
+use std::marker::Model;
+use cnf::types::Lit;
+
+/// The names of the clauses of a store, by reference.
+#[derive(Drop)]
+pub struct Names {
+    // By reference, also of deleted clauses.
+    names: Vec<Name>,
+    // How many lines of the log add a clause; the next one is named by one more.
+    additions: u64,
+}
+
+impl Model for Names {
+    ghost use Rattle.eliminate_names.specs.Work.{NamesState};
+
+    ghost Value = { NamesState };
+
+    ghost view = { λ n. record { names = n.names.items; additions = n.additions } };
+}
+
+impl Names {
+    /// The i-th live clause of the store has the name of the clause i of a formula.
+    pub fn of(alloc: Global, store: &Store) -> Result<Self, AllocError>
+        ensures named { IfOk result (λ n. n ≡ record {
+          names = formula_names 1 store.now.slots;
+          additions = 0;
+        }) }
+        ensures numbers { IfOk result (λ n. All (λ k. IsId (number_in k)) n.names) }
+    {
+        let mut names = Vec::with_capacity(alloc, store.places())?;
+        let mut number = 1u64;
+        for place in 0..store.places() {
+            names.push(Name::Formula(Number::new(number)))?;
+            match store.live_at(place) {
+                Some(_reference) => number += 1,
+                None => {}
+            }
+        }
+        Ok(Names {
+            names,
+            additions: 0,
+        })
+    }
+
+    /// The name of the clause with this reference.
+    pub fn get(&self, reference: CRef) -> Name
+        requires { reference < length self.now.names }
+        ensures { result ≡ name_at self.now.names reference }
+    {
+        self.names[reference.index()]
+    }
+}
+
+/// Adds a clause to the store and its line to the log. The line comes last: where one is refused,
+/// the log is as it was.
+pub fn add<S: Sink>(
+    store: &mut Store,
+    names: &mut Names,
+    sink: &mut S,
+    kind: Kind,
+    lits: Vec<Lit>,
+    hints: Vec<Hint>,
+) -> Result<CRef, AllocError>
+    requires line { IsLine (record { kind = kind; clause = lits.items; hints = hints.items }) }
+    requires counted { names.old.additions ≡ added_count (S.lines sink.old) }
+    ensures reference { IfOk result (λ r. r ≡ length store.old.slots) }
+    ensures slots { IfOk result (λ _. store.new.slots ≡ store.old.slots ++ Some lits.items ∷ []) }
+    ensures names { IfOk result (λ _. names.new ≡ record {
+      names = names.old.names ++ added_line names.old.additions ∷ [];
+      additions = names.old.additions + 1;
+    }) }
+    ensures lines { IfOk result (λ _. S.lines sink.new ≡ S.lines sink.old ++ record {
+      kind = kind;
+      clause = lits.items;
+      hints = hints.items;
+    } ∷ []) }
+    ensures err { OnErr result (S.lines sink.new ≡ S.lines sink.old) }
+{
+    sink.is_short();
+    let name = Name::Added(Number::new(names.additions + 1));
+    names.names.push(name)?;
+    names.additions += 1;
+    let reference = store.add(&lits)?;
+    sink.append(Line::new(kind, lits, hints))?;
+    Ok(reference)
+}
+
+/// Deletes a clause of the store, and writes the line that does.
+pub fn delete<S: Sink>(
+    store: &mut Store,
+    names: &Names,
+    sink: &mut S,
+    alloc: Global,
+    reference: CRef,
+) -> Result<(), AllocError>
+    requires live { IsLive store.old.slots reference }
+    requires named { reference < length names.now.names }
+    requires line { IsLine (delete_line (name_at names.now.names reference)) }
+    ensures slots { IfOk result (λ _. store.new.slots ≡ slice_set store.old.slots reference None) }
+    ensures lines { IfOk result (λ _.
+        S.lines sink.new ≡ S.lines sink.old ++ delete_line (name_at names.now.names reference) ∷
+        []) }
+    ensures err { OnErr result (S.lines sink.new ≡ S.lines sink.old) }
+{
+    let mut hints = Vec::with_capacity(alloc, 1)?;
+    hints.push(Hint::Plain(names.get(reference)))?;
+    sink.append(Line::new(Kind::Delete, Vec::new(alloc), hints))?;
+    store.delete(reference);
+    Ok(())
+}

@@ -1,0 +1,229 @@
+-- Literals in clauses: negations, tests, and which of them a clause covers.
+use Rattle.std.proofs.Common.{◌≡◌, Bool, true, false, not, ◌≤◌, max, List, [], ◌∷◌, map, filter}
+use Rattle.std.proofs.Common.{◌⊎◌, inl, inr, refl, sym, ◌∙◌, ap, subst, arith}
+use Rattle.std.specs.Prelude.{if◌then◌else◌, ◌==◌}
+use Rattle.std.specs.List.{AllByRecursion, list_any}
+use Rattle.std.proofs.lemmas.Bool.{or_cases, or_parts, or_left, or_right, or_from, and_parts}
+use Rattle.std.proofs.lemmas.Bool.{both_ways, false_from_ne_true, false≢true}
+use Rattle.cnf.specs.Literal.{Literal, Assignment, negation, literal_eq, literal_value, same_bool}
+use Rattle.cnf.specs.Clause.{clause_value, contains_literal, without_literal, has_repeat}
+use Rattle.cnf.specs.Clause.{has_opposites, greatest_variable}
+use Rattle.cnf.specs.Refute.{IsUnit}
+use Rattle.cnf.proofs.Laws.{literal_eq-refl}
+use Rattle.cnf.proofs.Laws.{literal_eq-true}
+pub use Rattle.cnf.proofs.Laws.{negation_twice}
+pub use Rattle.lrat_log.proofs.Laws.{literal_eq-negation, contains-negations}
+
+pub not_not : (a : Bool) → not (not a) ≡ a
+not_not true = refl
+not_not false = refl
+
+pub contains-twice : (k : Literal) (c : List Literal)
+    → contains_literal k (map negation c) ≡ contains_literal (negation k) c
+contains-twice k c = ap (λ x. contains_literal x (map negation c)) (sym (negation_twice k))
+    ∙ contains-negations (negation k) c
+
+-- each literal of c but p is in r
+abbrev pub Covers : Literal → List Literal → List Literal → Type 0
+Covers p r c = AllByRecursion (λ k. (k ≡ p) ⊎ (contains_literal k r ≡ true)) c
+
+covered_others : (p : Literal) (r c : List Literal) → Covers p r c
+    → AllByRecursion (λ k. (k ≡ p) ⊎ (contains_literal (negation k) (map negation r) ≡ true)) c
+covered_others p r [] h = tt
+covered_others p r (k ∷ c) h = (
+  elim h.0 [ inl e ↦ inl e | inr e ↦ inr (contains-negations k r ∙ e) ],
+  covered_others p r c h.1,
+)
+
+-- a clause with p is unit with p where the rest is false
+pub covered_unit : (p : Literal) (r c : List Literal) → contains_literal p c ≡ true → Covers p r c
+    → contains_literal p r ≡ false → contains_literal (negation p) r ≡ false
+    → IsUnit c (map negation r) p
+covered_unit p r c member covers apart apart_not = record {
+  member = member;
+  not_true = contains-twice p r ∙ apart_not;
+  not_false = contains-negations p r ∙ apart;
+  others = covered_others p r c covers;
+}
+
+pub contains_same : (k l : Literal) (c : List Literal) → k ≡ l
+    → contains_literal k c ≡ contains_literal l c
+contains_same k l c e = ap (λ x. contains_literal x c) e
+
+-- what passes a test stays in the list
+pub contains-filter : (q : Literal → Bool) (k : Literal) (c : List Literal)
+    → contains_literal k c ≡ true → q k ≡ true → contains_literal k (filter q c) ≡ true
+contains-filter q k [] e t = e
+contains-filter q k (l ∷ c) e t =
+    elim (or_cases (literal_eq k l) (contains_literal k c) e) [
+      | inl h ↦ rw (sym (ap q (literal_eq-true k l h)) ∙ t)
+          (or_left (literal_eq k l) (contains_literal k (filter q c)) h)
+      | inr h ↦ elim (q l) as (λ b. contains_literal k (if b then l ∷ filter q c else filter q c)
+          ≡ true) [
+            | true ↦ or_right (literal_eq k l) (contains_literal k (filter q c))
+                (contains-filter q k c h t)
+            | false ↦ contains-filter q k c h t
+          ]
+    ]
+
+-- and what is in it was in the list, and passes
+pub filter-contains : (q : Literal → Bool) (k : Literal) (c : List Literal)
+    → contains_literal k (filter q c) ≡ true → (contains_literal k c ≡ true) × (q k ≡ true)
+filter-contains q k [] e = absurd (false≢true e)
+filter-contains q k (l ∷ c) e =
+    elim (q l) as (λ b. q l ≡ b → contains_literal k (if b then l ∷ filter q c else filter q c)
+    ≡ true → (contains_literal k (l ∷ c) ≡ true) × (q k ≡ true)) [
+      | true ↦ λ t h. elim (or_cases (literal_eq k l) (contains_literal k (filter q c)) h) [
+        | inl same ↦ (
+          or_left (literal_eq k l) (contains_literal k c) same,
+          ap q (literal_eq-true k l same) ∙ t,
+        )
+        | inr more ↦ let m = filter-contains q k c more in
+            (or_right (literal_eq k l) (contains_literal k c) m.0, m.1)
+      ]
+      | false ↦ λ t h. let m = filter-contains q k c h in
+          (or_right (literal_eq k l) (contains_literal k c) m.0, m.1)
+    ] refl e
+
+-- each literal of c is p or has the test
+pub each_literal : (P : Literal → Type 0) (c : List Literal)
+    → ((k : Literal) → contains_literal k c ≡ true → P k) → AllByRecursion P c
+each_literal P [] f = tt
+each_literal P (k ∷ c) f = (
+  f k (or_left (literal_eq k k) (contains_literal k c) (literal_eq-refl k)),
+  each_literal P c (λ l h. f l (or_right (literal_eq l k) (contains_literal l c) h)),
+)
+
+pub without-contains : (p k : Literal) (c : List Literal) → contains_literal k c ≡ true
+    → (k ≡ p) ⊎ (contains_literal k (without_literal p c) ≡ true)
+without-contains p k c e =
+    elim (literal_eq p k) as (λ b. literal_eq p k ≡ b
+    → (k ≡ p) ⊎ (contains_literal k (without_literal p c) ≡ true)) [
+      | true ↦ λ h. inl (sym (literal_eq-true p k h))
+      | false ↦ λ h. inr (contains-filter (λ l. not (literal_eq p l)) k c e (ap not h))
+    ] refl
+
+pub not-without : (p : Literal) (c : List Literal)
+    → contains_literal p (without_literal p c) ≡ false
+not-without p c = false_from_ne_true (contains_literal p (without_literal p c)) (λ e.
+    both_ways (literal_eq p p) (sym (not_not (literal_eq p p))
+    ∙ ap not (filter-contains (λ l. not (literal_eq p l)) p c e).1) (literal_eq-refl p))
+
+literal_eq-other : (l : Literal) → literal_eq (negation l) l ≡ false
+literal_eq-other l =
+    false_from_ne_true (literal_eq (negation l) l)
+    (λ e. other l.negated
+    (and_parts (l.variable == l.variable) (same_bool (not l.negated) l.negated) e).1)
+  where
+    other : (b : Bool) → same_bool (not b) b ≡ true → ⊥
+    other true e = false≢true e
+    other false e = false≢true e
+
+-- a clause without opposites that has a literal has not its negation
+pub not-opposite : (p : Literal) (c : List Literal) → has_opposites c ≡ false
+    → contains_literal p c ≡ true → contains_literal (negation p) c ≡ false
+not-opposite p [] o e = refl
+not-opposite p (k ∷ c) o e =
+    let h = or_parts (contains_literal (negation k) c) (has_opposites c) o in
+    elim (or_cases (literal_eq p k) (contains_literal p c) e) [
+      | inl same ↦ subst (λ x. contains_literal (negation x) (k ∷ c) ≡ false)
+          (sym (literal_eq-true p k same))
+          (or_from (literal_eq (negation k) k) (contains_literal (negation k) c)
+          (literal_eq-other k) h.0)
+      | inr more ↦ or_from (literal_eq (negation p) k) (contains_literal (negation p) c)
+          (false_from_ne_true (literal_eq (negation p) k)
+          (λ x. both_ways (contains_literal (negation k) c) h.0
+          (contains_same (negation k) p c (ap negation (sym (literal_eq-true (negation p) k x))
+          ∙ negation_twice p) ∙ more)))
+          (not-opposite p c h.1 more)
+    ]
+
+pub apart-filter : (q : Literal → Bool) (k : Literal) (c : List Literal)
+    → contains_literal k c ≡ false → contains_literal k (filter q c) ≡ false
+apart-filter q k c n =
+    false_from_ne_true (contains_literal k (filter q c))
+    (λ e. both_ways (contains_literal k c) n (filter-contains q k c e).0)
+
+pub has_repeat-filter : (q : Literal → Bool) (c : List Literal) → has_repeat c ≡ false
+    → has_repeat (filter q c) ≡ false
+has_repeat-filter q [] r = refl
+has_repeat-filter q (k ∷ c) r =
+    let h = or_parts (contains_literal k c) (has_repeat c) r in
+    elim (q k) as (λ b. has_repeat (if b then k ∷ filter q c else filter q c) ≡ false) [
+      | true ↦ or_from (contains_literal k (filter q c)) (has_repeat (filter q c))
+          (apart-filter q k c h.0) (has_repeat-filter q c h.1)
+      | false ↦ has_repeat-filter q c h.1
+    ]
+
+pub has_opposites-filter : (q : Literal → Bool) (c : List Literal) → has_opposites c ≡ false
+    → has_opposites (filter q c) ≡ false
+has_opposites-filter q [] r = refl
+has_opposites-filter q (k ∷ c) r =
+    let h = or_parts (contains_literal (negation k) c) (has_opposites c) r in
+    elim (q k) as (λ b. has_opposites (if b then k ∷ filter q c else filter q c) ≡ false) [
+      | true ↦ or_from (contains_literal (negation k) (filter q c)) (has_opposites (filter q c))
+          (apart-filter q (negation k) c h.0) (has_opposites-filter q c h.1)
+      | false ↦ has_opposites-filter q c h.1
+    ]
+
+pub literal_eq-sides : (k l : Literal) → literal_eq k l ≡ false → literal_eq l k ≡ false
+literal_eq-sides k l n =
+    false_from_ne_true (literal_eq l k)
+    (λ e. both_ways (literal_eq k l) n
+    (subst (λ x. literal_eq k x ≡ true) (sym (literal_eq-true l k e)) (literal_eq-refl k)))
+
+pub greatest-filter : (q : Literal → Bool) (c : List Literal)
+    → greatest_variable (filter q c) ≤ greatest_variable c
+greatest-filter q [] = omega arith
+greatest-filter q (k ∷ c) =
+    let h = greatest-filter q c in
+    elim (q k) as (λ b. greatest_variable (if b then k ∷ filter q c else filter q c)
+    ≤ greatest_variable (k ∷ c)) [
+      | true ↦ omega arith
+      | false ↦ omega arith
+    ]
+
+pub member-small : (l : Literal) (c : List Literal) → contains_literal l c ≡ true
+    → l.variable ≤ greatest_variable c
+member-small l [] e = absurd (false≢true e)
+member-small l (k ∷ c) e =
+    elim (or_cases (literal_eq l k) (contains_literal l c) e) [
+      | inl h ↦ subst (λ (x : Literal). x.variable ≤ greatest_variable (k ∷ c))
+          (sym (literal_eq-true l k h))
+          (let m : k.variable ≤ max k.variable (greatest_variable c) = omega arith in m)
+      | inr h ↦ omega (arith, member-small l c h)
+    ]
+
+-- a clause with a true literal is true
+pub has_true : (t : Assignment) (p : Literal) (c : List Literal) → contains_literal p c ≡ true
+    → literal_value t p ≡ true → clause_value t c ≡ true
+has_true t p [] e h = absurd (false≢true e)
+has_true t p (k ∷ c) e h =
+    elim (or_cases (literal_eq p k) (contains_literal p c) e) [
+      | inl same ↦ or_left (literal_value t k) (clause_value t c)
+          (subst (λ x. literal_value t x ≡ true) (literal_eq-true p k same) h)
+      | inr more ↦ or_right (literal_value t k) (clause_value t c) (has_true t p c more h)
+    ]
+
+pub value-filter : (t : Assignment) (q : Literal → Bool) (c : List Literal)
+    → clause_value t (filter q c) ≡ true → clause_value t c ≡ true
+value-filter t q [] e = e
+value-filter t q (k ∷ c) e =
+    elim (q k) as (λ b. clause_value t (if b then k ∷ filter q c else filter q c) ≡ true
+    → clause_value t (k ∷ c) ≡ true) [
+      | true ↦ λ h. elim (or_cases (literal_value t k) (clause_value t (filter q c)) h) [
+        | inl m ↦ or_left (literal_value t k) (clause_value t c) m
+        | inr m ↦ or_right (literal_value t k) (clause_value t c) (value-filter t q c m)
+      ]
+      | false ↦ λ h. or_right (literal_value t k) (clause_value t c) (value-filter t q c h)
+    ] e
+
+pub any_member : (q : Literal → Bool) (k : Literal) (w : List Literal) → contains_literal k w ≡ true
+    → q k ≡ true → list_any q w ≡ true
+any_member q k [] e t = e
+any_member q k (l ∷ w) e t =
+    elim (or_cases (literal_eq k l) (contains_literal k w) e) [
+      | inl same ↦ or_left (q l) (list_any q w)
+          (subst (λ x. q x ≡ true) (literal_eq-true k l same) t)
+      | inr more ↦ or_right (q l) (list_any q w) (any_member q k w more t)
+    ]

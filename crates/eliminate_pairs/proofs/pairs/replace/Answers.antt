@@ -1,0 +1,151 @@
+-- A clause with the variable comes, and the clause with the pair goes.
+use Rattle.std.proofs.Common.{◌≡◌, ◌+◌, ◌<◌, ◌^◌, length, Some, None, slice_set, refl, sym, ◌∙◌, ap}
+use Rattle.std.proofs.Common.{subst, arith}
+use Rattle.clauses.specs.Slots.{Slots, clause_at}
+use Rattle.lrat_log.specs.Steps.{added_count}
+use Rattle.eliminate_pairs.specs.Pairs.{stage_of, replaced, IsDefined, Stage}
+use Rattle.clauses.proofs.Laws.{clause_kept, live_within}
+use Rattle.eliminate_pairs.proofs.Defining.{replaced_is, is_deleted, kept_log, keeps_as}
+use Rattle.eliminate_pairs.proofs.Defining.{counted_added}
+use Rattle.eliminate_pairs.proofs.Defining.{counted_deleted, few_additions, long_added}
+use Rattle.eliminate_pairs.proofs.Defining.{long_deleted}
+use Rattle.eliminate_pairs.proofs.Defining.{name_stays}
+use Rattle.eliminate_pairs.proofs.Staging.{with_replaced, deleted_stage, replaced_right, gone_right}
+use Rattle.eliminate_pairs.proofs.Staging.{defined_after, replaced-is_line, delete-is_line}
+use Rattle.eliminate_pairs.proofs.pairs.replace.Given.{Over}
+use Rattle.eliminate_pairs.proofs.pairs.replace.Goals as goal
+use Rattle.eliminate_pairs.proofs.pairs.replace.Goals.{After-lits, In_ok-new}
+use Rattle.lrat_log.proofs.Laws.{when_err}
+
+-- the clause with the pair has a name
+within : (g : Over) (c : After-lits g) → c.args.reference < length c.args.store.now.slots
+within g c = live_within c.args.store.now.slots c.args.reference c.lits.result.now c.lits.ensures
+
+-- and stays when the other one comes
+stays : (g : Over) (c : In_ok-new g) → clause_at c.add.new.store.slots c.args.reference
+    ≡ Some c.lits.result.now
+stays g c = ap (λ (x : Slots). clause_at x c.args.reference) c.in_ok-new.ensures.slots
+    ∙ clause_kept c.args.store.now.slots c.in_ok-lits.lits.items c.lits.result.now c.args.reference
+    c.lits.ensures
+
+long : (g : Over) (c : In_ok-new g) → length c.add.new.names.names ≡ length c.add.new.store.slots
+long g c = long_added c.args.store.now.slots c.add.new.store.slots c.args.names.now c.add.new.names
+    c.in_ok-lits.lits.items c.requires.long c.in_ok-new.ensures.slots c.in_ok-new.ensures.names
+
+-- the stage with the clause that came
+stage : (g : Over) (c : In_ok-new g)
+    → stage_of c.args.definition.now.variable c.add.new.store.slots c.add.new.names
+    (g.S.Sink.lines c.add.new.sink)
+    ≡ with_replaced (stage_of c.args.definition.now.variable c.args.store.now.slots c.args.names.now
+    (g.S.Sink.lines c.args.sink.now)) c.args.definition.now c.args.reference c.lits.result.now
+stage g c =
+    replaced_is c.args.store.now.slots c.add.new.store.slots c.args.names.now c.add.new.names
+    (g.S.Sink.lines c.args.sink.now) (g.S.Sink.lines c.add.new.sink) c.in_ok-lits.lits.items
+    c.lits.result.now c.in_ok-hints.hints.items c.args.definition.now c.args.reference
+    c.plain-left_side.result c.plain-right_side.result c.plain-clause.result c.requires.counted
+    c.in_ok-new.ensures.slots c.in_ok-new.ensures.names c.in_ok-new.ensures.lines
+    c.in_ok-lits.ensures c.in_ok-hints.ensures.items
+    c.plain-left_side.ensures.hint c.plain-right_side.ensures.hint c.plain-clause.ensures.hint
+
+pub add-requires-clause-line : goal.add-requires-clause-line
+add-requires-clause-line g c =
+    let d = c.args.definition.now in
+    let lits : c.in_ok-lits.lits.items ≡ replaced d.variable d.left d.right c.lits.result.now =
+    c.in_ok-lits.ensures in
+    rw (
+      lits,
+      c.in_ok-hints.ensures.items,
+      c.plain-left_side.ensures.hint,
+      c.plain-right_side.ensures.hint,
+      c.plain-clause.ensures.hint,
+    )
+    (replaced-is_line d.variable d.left d.right c.lits.result.now _ _ _ c.requires.from_one
+    c.requires.small (c.requires.pair c.lits.result.now c.lits.ensures).others
+    c.plain-left_side.ensures.id c.plain-right_side.ensures.id c.plain-clause.ensures.id)
+
+pub delete-requires-clause-line : goal.delete-requires-clause-line
+delete-requires-clause-line g c =
+    let lt = within g (goal.at.delete-requires-clause-line g c).After-lits in
+    rw (name_stays c.args.names.now c.add.new.names c.args.reference c.in_ok-new.ensures.names
+    (omega (arith, c.requires.long))) (delete-is_line _ c.plain-clause.ensures.id)
+
+pub delete-requires-clause-live : goal.delete-requires-clause-live
+delete-requires-clause-live g c =
+    (c.lits.result.now, stays g (goal.at.delete-requires-clause-live g c).In_ok-new)
+
+pub delete-requires-clause-named : goal.delete-requires-clause-named
+delete-requires-clause-named g c =
+    let new = (goal.at.delete-requires-clause-named g c).In_ok-new in
+    omega (
+      arith,
+      long g new,
+      live_within c.add.new.store.slots c.args.reference c.lits.result.now
+          (stays g new),
+    )
+
+pub returns-in_err-new-clause-err : goal.returns-in_err-new-clause-err
+returns-in_err-new-clause-err g c =
+    let s : Stage = stage_of c.args.definition.now.variable c.args.store.now.slots c.args.names.now
+    (g.S.Sink.lines c.args.sink.now) in
+    when_err c.from_residual-in_err-new.result
+    (kept_log s s (g.S.Sink.lines c.add.new.sink) c.in_err-new.ensures.err (λ ground k. k))
+
+pub returns-in_err-delete-clause-err : goal.returns-in_err-delete-clause-err
+returns-in_err-delete-clause-err g c =
+    let d = c.args.definition.now in
+    let clause = c.lits.result.now in
+    let s : Stage =
+    stage_of d.variable c.args.store.now.slots c.args.names.now
+    (g.S.Sink.lines c.args.sink.now) in
+    let small : added_count s.lines + 3 < 2 ^ 62 = few_additions s.lines c.is_short.ensures in
+    let one = stage g (goal.at.returns-in_err-delete-clause-err g c).In_ok-new in
+    when_err c.from_residual-in_err-delete.result
+    (kept_log s (with_replaced s d c.args.reference clause) (g.S.Sink.lines c.delete.new.sink)
+    (c.in_err-delete.ensures.err ∙ ap (λ (x : Stage). x.lines) one)
+    (λ ground k. replaced_right ground s d c.args.reference clause c.requires.defined c.lits.ensures
+    (c.requires.pair clause c.lits.ensures) c.requires.small (omega arith) k))
+
+pub returns-clause-defined : goal.returns-clause-defined
+returns-clause-defined g c =
+    let d = c.args.definition.now in
+    let clause = c.lits.result.now in
+    let r = c.args.reference in
+    subst (λ (x : Slots). IsDefined x d)
+    (sym (c.in_ok-delete.ensures.slots
+    ∙ ap (λ (x : Slots). slice_set x r None) c.in_ok-new.ensures.slots))
+    (defined_after c.args.store.now.slots d r clause c.in_ok-lits.lits.items c.requires.defined
+    c.lits.ensures (c.requires.pair clause c.lits.ensures))
+
+pub returns-clause-counted : goal.returns-clause-counted
+returns-clause-counted g c =
+    counted_deleted c.add.new.names (g.S.Sink.lines c.add.new.sink)
+    (g.S.Sink.lines c.delete.new.sink) _
+    (counted_added c.args.names.now c.add.new.names (g.S.Sink.lines c.args.sink.now)
+    (g.S.Sink.lines c.add.new.sink) _ c.requires.counted c.in_ok-new.ensures.names
+    c.in_ok-new.ensures.lines refl)
+    c.in_ok-delete.ensures.lines
+
+pub returns-clause-long : goal.returns-clause-long
+returns-clause-long g c =
+    long_deleted c.add.new.store.slots c.delete.new.store.slots c.add.new.names.names
+    c.args.reference (long g (goal.at.returns-clause-long g c).In_ok-new)
+    c.in_ok-delete.ensures.slots
+
+pub returns-clause-keeps : goal.returns-clause-keeps
+returns-clause-keeps g c =
+    let d = c.args.definition.now in
+    let clause = c.lits.result.now in
+    let r = c.args.reference in
+    let s : Stage =
+    stage_of d.variable c.args.store.now.slots c.args.names.now
+    (g.S.Sink.lines c.args.sink.now) in
+    let small : added_count s.lines + 3 < 2 ^ 62 = few_additions s.lines c.is_short.ensures in
+    let one = stage g (goal.at.returns-clause-keeps g c).In_ok-new in
+    let two = is_deleted d.variable c.add.new.store.slots c.delete.new.store.slots c.add.new.names
+    (g.S.Sink.lines c.add.new.sink) (g.S.Sink.lines c.delete.new.sink) r
+    c.in_ok-delete.ensures.slots c.in_ok-delete.ensures.lines in
+    keeps_as s (deleted_stage (with_replaced s d r clause) r)
+    (stage_of d.variable c.delete.new.store.slots c.add.new.names
+    (g.S.Sink.lines c.delete.new.sink)) (two ∙ ap (λ (x : Stage). deleted_stage x r) one)
+    (λ ground k. gone_right ground s d r clause c.requires.defined c.lits.ensures
+    (c.requires.pair clause c.lits.ensures) c.requires.small (omega arith) k)

@@ -1,0 +1,104 @@
+-- Pairs of literals that a fresh variable stands for, and what their definition keeps.
+use Rattle.std.specs.Prelude.{◌≡◌, ◌≢◌, ℕ, ◌<◌, ◌≤◌, Bool, true, false, List, [], ◌∷◌, Some, All}
+use Rattle.std.specs.List.{AllByRecursion}
+use Rattle.cnf.specs.Literal.{Literal, Assignment, negation, literal_eq}
+pub use Rattle.cnf.specs.Literal.{positive}
+use Rattle.cnf.specs.Clause.{Satisfies, contains_literal, without_literal}
+use Rattle.cnf.specs.Lrat.{IsId}
+use Rattle.clauses.specs.Slots.{Slots, clause_at, live_clauses}
+use Rattle.lrat_log.specs.declared.lines.Name.{Name}
+use Rattle.lrat_log.specs.declared.lines.Hint.TheVariants.{Group}
+use Rattle.lrat_log.specs.declared.lines.Kind.TheVariants.{Definition}
+use Rattle.lrat_log.specs.Log.{LogLine, Given}
+use Rattle.lrat_log.specs.Steps.{StaysLogOver, AddsNoEmptyClause, learned_count}
+use Rattle.eliminate_names.specs.Work.{IsWork, NamesState}
+use Rattle.eliminate_pairs.specs.declared.pairs.Fresh.{Fresh}
+
+-- not z, or a or b
+abbrev pub whole_clause : ℕ → Literal → Literal → List Literal
+whole_clause z a b = negation (positive z) ∷ a ∷ b ∷ []
+
+-- z or not a
+abbrev pub side_clause : ℕ → Literal → List Literal
+side_clause z a = positive z ∷ negation a ∷ []
+
+abbrev pub whole_line : ℕ → Literal → Literal → LogLine
+whole_line z a b = record { kind = Definition; clause = whole_clause z a b; hints = [] }
+
+-- the line of a side, where the whole clause has this name
+abbrev pub side_line : ℕ → Literal → Name → LogLine
+side_line z a n = record { kind = Definition; clause = side_clause z a; hints = Group n ∷ [] }
+
+-- z and the clause's other literals in their order
+abbrev pub replaced : ℕ → Literal → Literal → List Literal → List Literal
+replaced z a b c = positive z ∷ without_literal b (without_literal a c)
+
+-- two literals of one clause
+pub record ShareClause (slots : Slots) (a b : Literal) : Type 0 where
+  pub place : ℕ
+  pub clause : List Literal
+  pub there : clause_at slots place ≡ Some clause
+  pub has_a : contains_literal a clause ≡ true
+  pub has_b : contains_literal b clause ≡ true
+  pub two : literal_eq a b ≡ false
+
+-- a literal on another variable
+abbrev pub IsOnOther : ℕ → Literal → Type 0
+IsOnOther z l = IsId l.variable × (l.variable ≢ z)
+
+-- both literals stand in the clause, and the variable does not
+pub record HasPairOf (z : ℕ) (a b : Literal) (c : List Literal) : Type 0 where
+  pub has_a : contains_literal a c ≡ true
+  pub has_b : contains_literal b c ≡ true
+  pub others : AllByRecursion (IsOnOther z) c
+
+-- the three clauses of a definition stand in the store
+pub record IsDefined (slots : Slots) (d : Fresh) : Type 0 where
+  pub whole : clause_at slots d.whole ≡ Some (whole_clause d.variable d.left d.right)
+  pub left_side : clause_at slots d.left_side ≡ Some (side_clause d.variable d.left)
+  pub right_side : clause_at slots d.right_side ≡ Some (side_clause d.variable d.right)
+  pub two : literal_eq d.left d.right ≡ false
+
+-- what is in hand between two moves
+pub record Stage : Type 0 where
+  pub variables : ℕ
+  pub slots : Slots
+  pub names : List Name
+  pub lines : List LogLine
+
+abbrev pub stage_of : ℕ → Slots → NamesState → List LogLine → Stage
+stage_of v slots n lines =
+    record { variables = v; slots = slots; names = n.names; lines = lines }
+
+-- what a stage is measured by: the formula's variables and clauses, clauses that are to follow from
+-- what is left, and variables that may not come back
+pub record Ground : Type 0 where
+  pub first : ℕ
+  pub given : Given
+  pub clauses : List (List Literal)
+  pub is_gone : ℕ → Bool
+
+-- the log is open, the store holds what is live, and what satisfies it satisfies the clauses of the
+-- ground
+pub record IsStage (ground : Ground) (s : Stage) : Type 0 where
+  pub more : ground.first ≤ s.variables
+  pub work : IsWork ground.first s.variables ground.given s.slots s.names s.lines
+  pub going : AddsNoEmptyClause s.lines
+  pub back : (t : Assignment) → All (Satisfies t) (live_clauses s.slots)
+      → All (Satisfies t) ground.clauses
+  pub above : (v : ℕ) → s.variables < v → ground.is_gone v ≡ false
+  pub free : (r : ℕ) (c : List Literal) → clause_at s.slots r ≡ Some c
+      → All (λ l. ground.is_gone l.variable ≡ false) c
+
+-- what was right stays so
+abbrev pub Keeps : Stage → Stage → Type 0
+Keeps before after = (ground : Ground) → IsStage ground before → IsStage ground after
+
+-- a log over the formula's clauses that learns nothing
+pub record IsOpenLog (ground : Ground) (lines : List LogLine) : Type 0 where
+  pub steps : StaysLogOver ground.first ground.given lines
+  pub none_learned : learned_count lines ≡ 0
+
+-- where more was to come, its lines are still those of a log
+abbrev pub KeepsLog : Stage → List LogLine → Type 0
+KeepsLog before lines = (ground : Ground) → IsStage ground before → IsOpenLog ground lines

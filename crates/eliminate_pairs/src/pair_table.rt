@@ -1,0 +1,382 @@
+// Which pairs of literals stand together in many clauses, by counting. A first walk over the store
+// counts pairs in a table of small counters by a hash (a counting filter, Fan et al. 2000): a
+// counter is never below the number of the clauses with one of its pairs. A second walk writes down
+// the pairs with a large counter, each with its clause, and sorts these; so what is written down
+// stays small on sparse formulas. Long clauses and literals that stand in few clauses are passed
+// over, and each walk ends after a fixed number of pairs: so the work is near linear.
+ghost use Rattle.std.specs.Prelude.{◌≡◌, ◌≤◌, IfSome};
+ghost use Rattle.clauses.specs.Slots.{IsLive};
+
+use clauses::store::{CRef, Store};
+use std::alloc::{AllocError, Global};
+use cnf::types::Lit;
+
+/// A pair is worth a variable where it stands in so many clauses.
+pub(crate) const FEWEST: usize = 4;
+
+/// The lengths of the clauses in which pairs are looked for.
+const SHORTEST: usize = 3;
+
+const LONGEST: usize = 32;
+
+/// How many pairs a walk looks at.
+const MOST_MEETINGS: usize = 1 << 23;
+
+/// Two literals that stand together in a clause.
+#[derive(Clone, Copy, PartialEq, Eq, PartialOrd, Ord, Drop)]
+struct Meeting {
+    // The indices of the literals, the lower one first.
+    left: u32,
+    right: u32,
+    // The number among the meetings, from 0, in the order of the store.
+    order: u32,
+    // The place of the clause in the store.
+    place: u32,
+}
+
+/// A pair with its meetings. The order puts the pair of most meetings first, and then the pair that
+/// was met first.
+#[derive(Clone, Copy, PartialEq, Eq, PartialOrd, Ord, Drop)]
+struct Run {
+    // A number that falls as the meetings are more.
+    rarity: usize,
+    // The order of the first meeting.
+    order: u32,
+    // The meetings, from one place up to another.
+    start: usize,
+    end: usize,
+}
+
+/// A pair that may be worth a variable.
+#[derive(Drop)]
+pub(crate) struct Candidate {
+    /// The one of lower index.
+    pub(crate) left: Lit,
+    /// The one of higher index.
+    pub(crate) right: Lit,
+    // The meetings, from one place up to another.
+    start: usize,
+    end: usize,
+}
+
+impl Candidate {
+    /// In how many clauses it must still stand.
+    pub(crate) fn fewest(&self) -> usize {
+        FEWEST.max(self.end.saturating_sub(self.start) / 2)
+    }
+}
+
+/// The pairs of a store that stand together in many clauses.
+#[derive(Drop)]
+pub(crate) struct PairTable {
+    // Sorted by pair, and then by order.
+    meetings: Vec<Meeting>,
+    // Pairs in at least `FEWEST` clauses, in their order.
+    runs: Vec<Run>,
+    // By place at the time of the walks, where the clause stands now.
+    moved: Vec<u32>,
+    // The clauses of the pair in hand: the place now, and the place at the time of the walks.
+    found: Vec<(u32, u32)>,
+}
+
+impl PairTable {
+    /// The pairs of the store, whose variables are those up to `vars`.
+    pub(crate) fn new(store: &Store, vars: u32) -> Result<Self, AllocError> {
+        let alloc = store.allocator();
+        let counts = literal_counts(alloc, store, vars)?;
+        let mut meetings = meetings_of(alloc, store, &counts)?;
+        meetings.sort_unstable();
+        let mut runs = runs_of(alloc, &meetings)?;
+        runs.sort_unstable();
+        let mut moved = Vec::with_capacity(alloc, store.places())?;
+        for place in 0..store.places() {
+            moved.push(u32::try_from(place).unwrap_or(u32::MAX))?;
+        }
+        Ok(PairTable {
+            meetings,
+            runs,
+            moved,
+            found: Vec::new(alloc),
+        })
+    }
+
+    /// How many pairs there are.
+    pub(crate) fn len(&self) -> usize {
+        self.runs.len()
+    }
+
+    /// The pair with this number, from 0.
+    pub(crate) fn candidate(&self, k: usize) -> Option<Candidate> {
+        let run = self.runs.get(k)?;
+        let meeting = self.meetings.get(run.start)?;
+        Some(Candidate {
+            left: literal_at(meeting.left)?,
+            right: literal_at(meeting.right)?,
+            start: run.start,
+            end: run.end,
+        })
+    }
+
+    /// Finds the clauses in which the pair still stands, in rising reference.
+    pub(crate) fn find(&mut self, store: &Store, candidate: &Candidate) -> Result<(), AllocError> {
+        self.found.clear();
+        for k in candidate.start..candidate.end {
+            if let Some(meeting) = self.meetings.get(k) {
+                let before = meeting.place;
+                if let Some(place) = self.moved.get(before as usize) {
+                    if stands_in(store, *place, candidate) {
+                        self.found.push((*place, before))?;
+                    }
+                }
+            }
+        }
+        self.found.sort_unstable();
+        Ok(())
+    }
+
+    /// The clauses that were found: the place now, and the place at the time of the walks.
+    pub(crate) fn found(&self) -> &[(u32, u32)] {
+        &self.found
+    }
+
+    /// One of the clauses that were found, where it is still there.
+    pub(crate) fn found_at(&self, k: usize, store: &Store) -> Option<CRef>
+        ensures { IfSome result (λ r. IsLive store.now.slots r) }
+    {
+        let (place, _) = self.found.get(k)?;
+        store.live_at(*place as usize)
+    }
+
+    /// Notes that another clause stands for one of those that were found.
+    pub(crate) fn note(&mut self, k: usize, new: CRef) {
+        if let Some((_, before)) = self.found.get(k) {
+            if let Some(place) = self.moved.get_mut(*before as usize) {
+                *place = u32::try_from(new.index()).unwrap_or(u32::MAX);
+            }
+        }
+    }
+}
+
+/// Whether a clause at this place has both literals and enough others.
+fn stands_in(store: &Store, place: u32, candidate: &Candidate) -> bool {
+    let Some(reference) = store.live_at(place as usize) else {
+        return false;
+    };
+    let lits = store.lits(reference);
+    let mut count = 0u32;
+    for lit in lits {
+        if *lit == candidate.left || *lit == candidate.right {
+            count = count.saturating_add(1);
+        }
+    }
+    count == 2 && lits.len() >= SHORTEST
+}
+
+/// The literal with this index.
+fn literal_at(index: u32) -> Option<Lit> {
+    if index < (1 << 28) - 2 {
+        Some(Lit::new(index / 2 + 1, index % 2 == 1))
+    } else {
+        None
+    }
+}
+
+/// Whether pairs are looked for in a clause of this length.
+fn is_looked_at(length: usize) -> bool {
+    SHORTEST <= length && length <= LONGEST
+}
+
+/// By literal, in how many of these clauses it stands.
+fn literal_counts(alloc: Global, store: &Store, vars: u32) -> Result<Vec<u32>, AllocError> {
+    let mut counts = Vec::from_elem(alloc, 0u32, 2 * vars as usize)?;
+    for place in 0..store.places() {
+        if let Some(reference) = store.live_at(place) {
+            let lits = store.lits(reference);
+            if is_looked_at(lits.len()) {
+                for lit in lits {
+                    if let Some(count) = counts.get_mut(lit.index()) {
+                        *count = count.saturating_add(1);
+                    }
+                }
+            }
+        }
+    }
+    Ok(counts)
+}
+
+/// Puts the indices of the literals that stand in enough clauses into `out`, where pairs are looked
+/// for in the clause.
+fn frequent(
+    store: &Store,
+    place: usize,
+    counts: &[u32],
+    out: &mut Vec<u32>,
+) -> Result<(), AllocError> {
+    out.clear();
+    let Some(reference) = store.live_at(place) else {
+        return Ok(());
+    };
+    let lits = store.lits(reference);
+    if is_looked_at(lits.len()) {
+        for lit in lits {
+            let index = lit.index();
+            if counts
+                .get(index)
+                .is_some_and(|count| *count as usize >= FEWEST)
+            {
+                out.push(index as u32)?;
+            }
+        }
+    }
+    Ok(())
+}
+
+/// Small counters of pairs, by a hash.
+#[derive(Drop)]
+struct Sketch {
+    // A power of two of them; each stays at 255.
+    counters: Vec<u8>,
+    // A hash of 64 bits less so many is the place of a counter.
+    shift: u32,
+}
+
+impl Sketch {
+    fn new(alloc: Global, pairs: usize) -> Result<Self, AllocError> {
+        let bits = bits_for(pairs);
+        Ok(Sketch {
+            counters: Vec::from_elem(alloc, 0u8, 1 << bits)?,
+            shift: 64 - bits,
+        })
+    }
+
+    // By Fibonacci's multiplier (Knuth, The Art of Computer Programming 3).
+    fn place(&self, left: u32, right: u32) -> usize {
+        let pair = u64::from(left) << 32 | u64::from(right);
+        let mixed = (pair ^ pair >> 29).wrapping_mul(0x9E37_79B9_7F4A_7C15);
+        (mixed >> self.shift.min(63)) as usize
+    }
+
+    fn count(&mut self, left: u32, right: u32) {
+        let place = self.place(left, right);
+        if let Some(counter) = self.counters.get_mut(place) {
+            *counter = counter.saturating_add(1);
+        }
+    }
+
+    fn is_many(&self, left: u32, right: u32) -> bool {
+        match self.counters.get(self.place(left, right)) {
+            Some(counter) => *counter as usize >= FEWEST,
+            None => false,
+        }
+    }
+}
+
+/// So many bits that a table of that size has a counter for each pair, within bounds.
+fn bits_for(pairs: usize) -> u32
+    ensures { result ≤ 25 }
+{
+    for bits in 12..25u32 {
+        if 1usize << bits >= pairs {
+            return bits;
+        }
+    }
+    25
+}
+
+/// The meetings of the pairs that may stand in enough clauses, in the order of the store.
+fn meetings_of(alloc: Global, store: &Store, counts: &[u32]) -> Result<Vec<Meeting>, AllocError> {
+    let mut lits = Vec::new(alloc);
+    let (sketch, end) = sketch_of(alloc, store, counts, &mut lits)?;
+    let mut meetings = Vec::new(alloc);
+    for place in 0..end {
+        frequent(store, place, counts, &mut lits)?;
+        write_down(&mut meetings, &sketch, &lits, place)?;
+    }
+    Ok(meetings)
+}
+
+/// Counts the pairs of the store, up to the place where they are too many.
+fn sketch_of(
+    alloc: Global,
+    store: &Store,
+    counts: &[u32],
+    lits: &mut Vec<u32>,
+) -> Result<(Sketch, usize), AllocError> {
+    let mut pairs = 0usize;
+    let mut end = 0usize;
+    for place in 0..store.places() {
+        frequent(store, place, counts, lits)?;
+        let length = lits.len().min(LONGEST);
+        pairs = pairs.saturating_add(length * length / 2);
+        if pairs > MOST_MEETINGS {
+            break;
+        }
+        end = place + 1;
+    }
+    let mut sketch = Sketch::new(alloc, pairs)?;
+    for place in 0..end {
+        frequent(store, place, counts, lits)?;
+        for j in 0..lits.len() {
+            for i in 0..j {
+                sketch.count(lits[i].min(lits[j]), lits[i].max(lits[j]));
+            }
+        }
+    }
+    Ok((sketch, end))
+}
+
+/// Writes down the pairs of a clause that may stand in enough clauses, the first literals first.
+fn write_down(
+    meetings: &mut Vec<Meeting>,
+    sketch: &Sketch,
+    lits: &[u32],
+    place: usize,
+) -> Result<(), AllocError> {
+    for i in 0..lits.len() {
+        for j in i + 1..lits.len() {
+            let left = lits[i].min(lits[j]);
+            let right = lits[i].max(lits[j]);
+            if sketch.is_many(left, right) {
+                meetings.push(Meeting {
+                    left,
+                    right,
+                    order: u32::try_from(meetings.len()).unwrap_or(u32::MAX),
+                    place: u32::try_from(place).unwrap_or(u32::MAX),
+                })?;
+            }
+        }
+    }
+    Ok(())
+}
+
+/// The pairs with at least `FEWEST` meetings.
+fn runs_of(alloc: Global, meetings: &[Meeting]) -> Result<Vec<Run>, AllocError> {
+    let mut runs = Vec::new(alloc);
+    let mut start = 0usize;
+    for end in 1..meetings.len() + 1 {
+        if is_within(meetings, start, end) {
+            continue;
+        }
+        let count = end.saturating_sub(start);
+        if count >= FEWEST {
+            if let Some(first) = meetings.get(start) {
+                runs.push(Run {
+                    rarity: usize::MAX - count,
+                    order: first.order,
+                    start,
+                    end,
+                })?;
+            }
+        }
+        start = end;
+    }
+    Ok(runs)
+}
+
+/// Whether the second meeting is of the pair of the first.
+fn is_within(meetings: &[Meeting], first: usize, second: usize) -> bool {
+    match (meetings.get(first), meetings.get(second)) {
+        (Some(a), Some(b)) => a.left == b.left && a.right == b.right,
+        _ => false,
+    }
+}

@@ -1,0 +1,347 @@
+// Fresh variables for pairs of literals that stand together in many clauses (extended resolution as
+// bounded variable addition, Manthey, Heule and Biere 2012). The pair l1, l2 gets a variable z with
+// 'not z, or l1 or l2', 'z or not l1' and 'z or not l2', and each clause with the pair becomes one
+// with z. Which pairs are worthwhile is found by counting and may be wrong: each clause is looked
+// at again before it changes. A pair whose count has fallen to less than half since it was counted
+// waits for the next round.
+ghost use Rattle.std.specs.Prelude.{◌≡◌, ℕ, ◌+◌, ◌<◌, ◌≤◌, ◌^◌, List, [], ◌∷◌, ◌++◌, length};
+ghost use Rattle.std.specs.Prelude.{IsTrue, IfOk, OnOk, OnErr, Some};
+ghost use Rattle.std.specs.List.{AllByRecursion};
+ghost use Rattle.cnf.specs.Literal.{Literal};
+ghost use Rattle.cnf.specs.Clause.{contains_literal};
+ghost use Rattle.cnf.specs.Lrat.{IsId};
+ghost use Rattle.clauses.specs.Slots.{IsLive, clause_at};
+ghost use Rattle.lrat_log.specs.Log.{number_in};
+ghost use Rattle.lrat_log.specs.declared.lines.Hint.TheVariants.{Plain};
+ghost use Rattle.lrat_log.specs.Steps.{added_count};
+ghost use Rattle.eliminate_names.specs.Work.{name_at, added_line};
+ghost use Rattle.eliminate_pairs.specs.Pairs.{side_clause, side_line, replaced, ShareClause};
+ghost use Rattle.eliminate_pairs.specs.Pairs.{IsOnOther};
+ghost use Rattle.eliminate_pairs.specs.Pairs.{HasPairOf, IsDefined, Keeps, KeepsLog, stage_of};
+
+use crate::pair_table::{Candidate, FEWEST, PairTable};
+use clauses::store::{CRef, Store};
+use lrat_log::lines::{Hint, Kind};
+use lrat_log::sink::Sink;
+use eliminate_names::names::{Names, add, delete};
+use std::alloc::{AllocError, Global};
+use cnf::types::Lit;
+
+/// Clauses with fresh variables have further pairs, for which the counting starts again so often.
+const MOST_ROUNDS: u32 = 6;
+
+/// A fresh variable that means 'left or right', and the three clauses that say so.
+#[derive(Drop)]
+pub(crate) struct Fresh {
+    // Above the variables of all clauses before it, below 2^27.
+    variable: u32,
+    // The literal of the pair with the lower index.
+    left: Lit,
+    // The other one.
+    right: Lit,
+    // 'not the variable, or left or right'
+    whole: CRef,
+    // 'the variable, or not left'
+    left_side: CRef,
+    // 'the variable, or not right'
+    right_side: CRef,
+}
+
+/// Replaces pairs that stand in many clauses by fresh variables, the first of which is `vars + 1`;
+/// the answer is the last variable, which is at most `most`.
+pub fn define_pairs<S: Sink>(
+    store: &mut Store,
+    names: &mut Names,
+    sink: &mut S,
+    vars: u32,
+    most: u32,
+) -> Result<u32, AllocError>
+    requires room { vars ≤ most }
+    requires most { most < 2 ^ 27 }
+    requires counted { names.old.additions ≡ added_count (S.lines sink.old) }
+    requires long { length names.old.names ≡ length store.old.slots }
+    ensures more { IfOk result (λ v. vars ≤ v) }
+    ensures most { IfOk result (λ v. v ≤ most) }
+    ensures counted { OnOk result (names.new.additions ≡ added_count (S.lines sink.new)) }
+    ensures long { OnOk result (length names.new.names ≡ length store.new.slots) }
+    ensures keeps { IfOk result (λ v. Keeps
+        (stage_of vars store.old.slots names.old (S.lines sink.old))
+        (stage_of v store.new.slots names.new (S.lines sink.new))) }
+    ensures err { OnErr result
+        (KeepsLog (stage_of vars store.old.slots names.old (S.lines sink.old))
+        (S.lines sink.new)) }
+{
+    let mut last = vars;
+    for _round in 0..MOST_ROUNDS {
+        let before = last;
+        last = define_counted(store, names, sink, before, most)?;
+        if last == before {
+            return Ok(last);
+        }
+    }
+    Ok(last)
+}
+
+/// Counts the pairs, and replaces those that stand in many clauses.
+fn define_counted<S: Sink>(
+    store: &mut Store,
+    names: &mut Names,
+    sink: &mut S,
+    vars: u32,
+    most: u32,
+) -> Result<u32, AllocError>
+    requires room { vars ≤ most }
+    requires most { most < 2 ^ 27 }
+    requires counted { names.old.additions ≡ added_count (S.lines sink.old) }
+    requires long { length names.old.names ≡ length store.old.slots }
+    ensures more { IfOk result (λ v. vars ≤ v) }
+    ensures most { IfOk result (λ v. v ≤ most) }
+    ensures counted { OnOk result (names.new.additions ≡ added_count (S.lines sink.new)) }
+    ensures long { OnOk result (length names.new.names ≡ length store.new.slots) }
+    ensures keeps { IfOk result (λ v. Keeps
+        (stage_of vars store.old.slots names.old (S.lines sink.old))
+        (stage_of v store.new.slots names.new (S.lines sink.new))) }
+    ensures err { OnErr result
+        (KeepsLog (stage_of vars store.old.slots names.old (S.lines sink.old))
+        (S.lines sink.new)) }
+{
+    let mut table = PairTable::new(store, vars)?;
+    let mut last = vars;
+    for k in 0..table.len() {
+        if last >= most {
+            break;
+        }
+        if let Some(candidate) = table.candidate(k) {
+            table.find(store, &candidate)?;
+            if table.found().len() >= candidate.fewest() {
+                last = define_found(store, names, sink, last, &candidate, &mut table)?;
+            }
+        }
+    }
+    Ok(last)
+}
+
+/// Defines a fresh variable for a pair, and puts it into the clauses that were found.
+fn define_found<S: Sink>(
+    store: &mut Store,
+    names: &mut Names,
+    sink: &mut S,
+    vars: u32,
+    candidate: &Candidate,
+    table: &mut PairTable,
+) -> Result<u32, AllocError>
+    requires room { vars + 1 < 2 ^ 27 }
+    requires counted { names.old.additions ≡ added_count (S.lines sink.old) }
+    requires long { length names.old.names ≡ length store.old.slots }
+    ensures more { IfOk result (λ v. vars ≤ v) }
+    ensures most { IfOk result (λ v. v ≤ vars + 1) }
+    ensures counted { OnOk result (names.new.additions ≡ added_count (S.lines sink.new)) }
+    ensures long { OnOk result (length names.new.names ≡ length store.new.slots) }
+    ensures keeps { IfOk result (λ v. Keeps
+        (stage_of vars store.old.slots names.old (S.lines sink.old))
+        (stage_of v store.new.slots names.new (S.lines sink.new))) }
+    ensures err { OnErr result
+        (KeepsLog (stage_of vars store.old.slots names.old (S.lines sink.old))
+        (S.lines sink.new)) }
+{
+    if !shares_first(store, candidate, table.found()) {
+        return Ok(vars);
+    }
+    let definition = define(store, names, sink, vars, candidate.left, candidate.right)?;
+    for k in 0..table.found().len() {
+        if let Some(reference) = table.found_at(k, store) {
+            if has_pair(store.lits(reference), &definition) {
+                let new = replace(store, names, sink, &definition, reference)?;
+                table.note(k, new);
+            }
+        }
+    }
+    Ok(vars + 1)
+}
+
+/// Whether the first of the clauses has the pair.
+fn shares_first(store: &Store, candidate: &Candidate, found: &[(u32, u32)]) -> bool
+    ensures { IsTrue result → ShareClause store.now.slots candidate.now.left candidate.now.right }
+{
+    if let Some((place, _)) = found.first() {
+        if let Some(reference) = store.live_at(*place as usize) {
+            let lits = store.lits(reference);
+            return contains(lits, candidate.left)
+                && contains(lits, candidate.right)
+                && candidate.left != candidate.right;
+        }
+    }
+    false
+}
+
+/// Whether the literal is one of these.
+fn contains(lits: &[Lit], lit: Lit) -> bool
+    ensures { result ≡ contains_literal lit lits.now }
+{
+    for other in lits {
+        if lit == *other {
+            return true;
+        }
+    }
+    false
+}
+
+/// Whether both literals are among these, and the variable is not.
+fn has_pair(lits: &[Lit], definition: &Fresh) -> bool
+    ensures { IsTrue result
+        → HasPairOf definition.now.variable definition.now.left definition.now.right lits.now }
+{
+    contains(lits, definition.left)
+        && contains(lits, definition.right)
+        && lacks(lits, definition.variable)
+}
+
+/// Whether none of the literals has the variable.
+fn lacks(lits: &[Lit], variable: u32) -> bool
+    ensures { IsTrue result → AllByRecursion (IsOnOther variable) lits.now }
+{
+    for lit in lits {
+        if lit.variable() == variable {
+            return false;
+        }
+    }
+    true
+}
+
+/// Adds the three clauses that define a fresh variable as 'left or right'.
+fn define<S: Sink>(
+    store: &mut Store,
+    names: &mut Names,
+    sink: &mut S,
+    vars: u32,
+    left: Lit,
+    right: Lit,
+) -> Result<Fresh, AllocError>
+    requires room { vars + 1 < 2 ^ 27 }
+    requires shared { ShareClause store.old.slots left right }
+    requires counted { names.old.additions ≡ added_count (S.lines sink.old) }
+    requires long { length names.old.names ≡ length store.old.slots }
+    ensures variable { IfOk result (λ d. d.variable ≡ vars + 1) }
+    ensures defined { IfOk result (λ d. IsDefined store.new.slots d) }
+    ensures counted { OnOk result (names.new.additions ≡ added_count (S.lines sink.new)) }
+    ensures long { OnOk result (length names.new.names ≡ length store.new.slots) }
+    ensures keeps { IfOk result (λ d. Keeps
+        (stage_of vars store.old.slots names.old (S.lines sink.old))
+        (stage_of (vars + 1) store.new.slots names.new (S.lines sink.new))) }
+    ensures err { OnErr result
+        (KeepsLog (stage_of vars store.old.slots names.old (S.lines sink.old))
+        (S.lines sink.new)) }
+{
+    sink.is_short();
+    let alloc = store.allocator();
+    let variable = vars + 1;
+    let fresh = Lit::new(variable, false);
+    let lits = Vec::from_slice(alloc, &[fresh.negation(), left, right])?;
+    let whole = add(store, names, sink, Kind::Definition, lits, Vec::new(alloc))?;
+    let left_side = add_side(store, names, sink, variable, left, whole)?;
+    let right_side = add_side(store, names, sink, variable, right, whole)?;
+    Ok(Fresh {
+        variable,
+        left,
+        right,
+        whole,
+        left_side,
+        right_side,
+    })
+}
+
+/// Adds the clause 'the variable, or not the literal', after the clause with the variable's
+/// negation.
+fn add_side<S: Sink>(
+    store: &mut Store,
+    names: &mut Names,
+    sink: &mut S,
+    variable: u32,
+    lit: Lit,
+    whole: CRef,
+) -> Result<CRef, AllocError>
+    requires from_one { 0 < variable }
+    requires small { variable < 2 ^ 27 }
+    requires named { whole < length names.old.names }
+    requires counted { names.old.additions ≡ added_count (S.lines sink.old) }
+    ensures reference { IfOk result (λ r. r ≡ length store.old.slots) }
+    ensures slots { OnOk result (store.new.slots ≡ store.old.slots ++ Some
+        (side_clause variable lit) ∷ []) }
+    ensures names { OnOk result (names.new ≡ record {
+      names = names.old.names ++ added_line names.old.additions ∷ [];
+      additions = names.old.additions + 1;
+    }) }
+    ensures lines { OnOk result (S.lines sink.new
+        ≡ S.lines sink.old ++ side_line variable lit (name_at names.old.names whole) ∷ []) }
+    ensures err { OnErr result (S.lines sink.new ≡ S.lines sink.old) }
+{
+    let alloc = store.allocator();
+    let lits = Vec::from_slice(alloc, &[Lit::new(variable, false), lit.negation()])?;
+    let hints = Vec::from_slice(alloc, &[Hint::Group(names.get(whole))])?;
+    add(store, names, sink, Kind::Definition, lits, hints)
+}
+
+/// Puts the variable of a definition into a clause in the place of its pair: a clause with the
+/// variable is added, and the clause is deleted.
+fn replace<S: Sink>(
+    store: &mut Store,
+    names: &mut Names,
+    sink: &mut S,
+    definition: &Fresh,
+    reference: CRef,
+) -> Result<CRef, AllocError>
+    requires from_one { 0 < definition.now.variable }
+    requires small { definition.now.variable < 2 ^ 27 }
+    requires defined { IsDefined store.old.slots definition.now }
+    requires live { IsLive store.old.slots reference }
+    requires pair { (c : List Literal) → clause_at store.old.slots reference ≡ Some c
+        → HasPairOf definition.now.variable definition.now.left definition.now.right c }
+    requires counted { names.old.additions ≡ added_count (S.lines sink.old) }
+    requires long { length names.old.names ≡ length store.old.slots }
+    ensures defined { OnOk result (IsDefined store.new.slots definition.now) }
+    ensures counted { OnOk result (names.new.additions ≡ added_count (S.lines sink.new)) }
+    ensures long { OnOk result (length names.new.names ≡ length store.new.slots) }
+    ensures keeps { OnOk result (Keeps
+        (stage_of definition.now.variable store.old.slots names.old (S.lines sink.old))
+        (stage_of definition.now.variable store.new.slots names.new (S.lines sink.new))) }
+    ensures err { OnErr result (KeepsLog
+        (stage_of definition.now.variable store.old.slots names.old (S.lines sink.old))
+        (S.lines sink.new)) }
+{
+    sink.is_short();
+    let alloc = store.allocator();
+    let lits = replaced_lits(alloc, store.lits(reference), definition)?;
+    let left_side = plain(names, definition.left_side);
+    let right_side = plain(names, definition.right_side);
+    let clause = plain(names, reference);
+    let hints = Vec::from_slice(alloc, &[left_side, right_side, clause])?;
+    let new = add(store, names, sink, Kind::Resolvent, lits, hints)?;
+    delete(store, names, sink, alloc, reference)?;
+    Ok(new)
+}
+
+/// The clause as a hint.
+fn plain(names: &Names, reference: CRef) -> Hint
+    requires { reference < length names.now.names }
+    ensures hint { result ≡ Plain (name_at names.now.names reference) }
+    ensures id { IsId (number_in (name_at names.now.names reference)) }
+{
+    Hint::Plain(names.get(reference))
+}
+
+/// The variable, and then the literals without the pair.
+fn replaced_lits(alloc: Global, lits: &[Lit], definition: &Fresh) -> Result<Vec<Lit>, AllocError>
+    requires from_one { 0 < definition.now.variable }
+    requires small { definition.now.variable < 2 ^ 27 }
+    ensures { IfOk result (λ v. v.items
+        ≡ replaced definition.now.variable definition.now.left definition.now.right lits.now) }
+{
+    let mut left = Vec::with_capacity(alloc, lits.len())?;
+    left.push(Lit::new(definition.variable, false))?;
+    for lit in lits {
+        if *lit != definition.left && *lit != definition.right {
+            left.push(*lit)?;
+        }
+    }
+    Ok(left)
+}

@@ -1,9 +1,0 @@
--- The definition stands, and what was right is so with its variable.
-use Rattle.pairs.specs.Pairs.{stage_of}
-use Rattle.pairs.proofs.Defining.{Defines}
-use Rattle.pairs.proofs.pairs.define_found.Given as goal
-
-abbrev pub invariant-loop-k : goal.invariant-loop-k
-invariant-loop-k g l =
-    Defines (stage_of l.vars l.fn.store.slots l.fn.names (g.S.Sink.lines l.fn.sink)) l.vars
-    l.definition l.store.slots l.names (g.S.Sink.lines l.sink)

@@ -1,2 +1,0 @@
--- The laws of this crate that other crates cite, from one place.
-pub use Rattle.result_read.proofs.Reports.{report_from_says, says_from_report}

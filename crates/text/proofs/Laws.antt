@@ -1,0 +1,9 @@
+-- The laws of this crate that other crates cite, from one place.
+pub use Rattle.text.proofs.FirstPieces.{lines-last, lines-split, parts-cons}
+pub use Rattle.text.proofs.Items.{all_taken, flat_map-append, items_fault, items_more}
+pub use Rattle.text.proofs.Numbers.{decimal-number_of, decimal_numerals, digit_bounds, digit_from}
+pub use Rattle.text.proofs.Numbers.{digit_is_no_blank, is_number, is_number-decimal}
+pub use Rattle.text.proofs.Numbers.{literal_of-text, number_of-decimal, number_of-is}
+pub use Rattle.text.proofs.Numbers.{text-literal_of}
+pub use Rattle.text.proofs.Passing.{first_fault, passed-more, passed-nil, passed_fault, passed_part}
+pub use Rattle.text.proofs.Passing.{passed_part-more, passed_whole, spaced-last}

@@ -1,0 +1,6 @@
+pub mod Writing
+pub mod Text
+pub mod LratText
+pub mod Words
+pub mod Seen
+pub mod Ahead

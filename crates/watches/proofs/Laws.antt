@@ -1,3 +1,0 @@
--- The laws of this crate that other crates cite, from one place.
-pub use Rattle.watches.proofs.Attachments.{attachment_set_other, attachment_set_same}
-pub use Rattle.watches.proofs.Moving.{moved_from, moved_to, named_listed}

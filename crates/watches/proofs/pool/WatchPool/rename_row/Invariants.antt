@@ -1,6 +1,0 @@
-use Rattle.watches.specs.Renames.{named_entry}
-use Rattle.watches.proofs.Rewriting.{IsMapped}
-use Rattle.watches.proofs.pool.WatchPool.rename_row.Given as goal
-
-abbrev pub invariant-loop-i : goal.invariant-loop-i
-invariant-loop-i l = IsMapped (named_entry l.moves) l.fn.self l.self l.row l.i

@@ -1,5 +1,0 @@
-use Rattle.watches.specs.Doomed.{IsSparing}
-use Rattle.watches.proofs.table.Table.drop_doomed.Given as goal
-
-abbrev pub invariant-loop-at : goal.invariant-loop-at
-invariant-loop-at l = IsSparing l.doomed l.fn.self l.self l.at

@@ -1,5 +1,0 @@
-use Rattle.wcnf.proofs.Cutting.{start-before}
-use Rattle.wcnf.proofs.clause_list.start_of.Goals as goal
-
-pub returns-else-place-eq0 : goal.returns-else-place-eq0
-returns-else-place-eq0 c = start-before c.args.ends.now c.args.place c.if-place-eq0.false c.requires

@@ -1,8 +1,0 @@
-use Rattle.std.proofs.Common.{◌≡◌, ◌+◌, drop}
-use Rattle.std.specs.List.{position_or_len}
-use Rattle.wcnf.specs.Text.{is_blank}
-use Rattle.wcnf.proofs.pieces.token_at.Given as goal
-
-abbrev pub invariant-loop-i : goal.invariant-loop-i
-invariant-loop-i l =
-    position_or_len is_blank l.bytes ≡ l.i + position_or_len is_blank (drop l.i l.bytes)

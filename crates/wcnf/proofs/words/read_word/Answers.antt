@@ -1,9 +1,0 @@
--- The token is the 0 alone.
-use Rattle.std.proofs.Common.{◌∙◌, Some, sym, ap, refl}
-use Rattle.wcnf.proofs.Zeros.{zero_word}
-use Rattle.wcnf.proofs.words.read_word.Goals as goal
-
-pub returns-in-Some-eq0 : goal.returns-in-Some-eq0
-returns-in-Some-eq0 c =
-    rw (zero_word c.args.token.now (sym c.in-Some-eq0.ensures ∙ ap Some c.in-Some-eq0.field-0-test))
-    refl
