@@ -3,10 +3,10 @@ use Rattle.std.proofs.lemmas.List.{get_or_default}
 use Rattle.clauses.specs.Slots.{new_at}
 use Rattle.propagate_watches.specs.Table.{attachment_in}
 use Rattle.propagate_watches.proofs.Moving.{moving_start, moving_end, moving_hit, moving_gap}
-use Rattle.propagate_watches.proofs.names.move_attachments.Goals as goal
-use Rattle.propagate_watches.proofs.names.move_attachments.Goals.{then-next-pairs+then-index-at}
-use Rattle.propagate_watches.proofs.names.move_attachments.Goals.{then-next-pairs+else-index-at}
-use Rattle.propagate_watches.proofs.names.move_attachments.Goals.{else-next-pairs}
+use Rattle.propagate_watches.proofs.moved.move_attachments.Goals as goal
+use Rattle.propagate_watches.proofs.moved.move_attachments.Goals.{then-next-pairs+then-index-at}
+use Rattle.propagate_watches.proofs.moved.move_attachments.Goals.{then-next-pairs+else-index-at}
+use Rattle.propagate_watches.proofs.moved.move_attachments.Goals.{else-next-pairs}
 
 pub loop-at-init : goal.loop-at-init
 loop-at-init c = moving_start c.args.table.now c.args.pairs.now c.requires.rising c.requires.lower
