@@ -39,23 +39,25 @@ pub fn read(alloc: Global, text: &[u8]) -> Result<Instance, ReadFault>
     parser.finish()
 }
 
-/// As `read`, of the bytes that the reader gives. They are read in pieces, up to the first faulty
-/// line, and of the text only the instance and the line that is being read are in memory.
+/// As `read`, of all bytes that the reader gives. They are read in pieces, and of the text only the
+/// instance and the line that is being read are in memory.
 ///
 /// # Errors
 ///
-/// Those of `read`, and `Read` with line 0 where the reader failed, of whatever kind its error is.
-/// A text of 2^64 pieces or more counts as a failed read.
+/// `Read` with line 0 where the reader failed, of whatever kind its error is, also where it failed
+/// after a faulty line; else those of `read`. A text of 2^64 pieces or more counts as a failed
+/// read.
 pub fn read_from<R: Read>(alloc: Global, reader: &mut R) -> Result<Instance, ReadFault>
     ensures at_end { OnOk result (IsAtEnd (R.remaining reader.new)) }
     ensures instance { IfOk result (λ i. IfSome (R.remaining reader.old) (λ text. Reads text i)) }
     ensures only_one { IfOk result
         (λ i. IfSome (R.remaining reader.old) (λ text. (p : Problem) → Reads text p → p ≡ i)) }
 
-    // The reader's own fault, or that of the whole text.
-    ensures fault { IfErr result (λ f. (f ≡ record { kind = FaultKind.Memory; line = 0 })
-        ⊎ (f ≡ record { kind = FaultKind.Read; line = 0 })
-        ⊎ IfSome (R.remaining reader.old) (λ text. IsFirstFault text f.kind f.line)) }
+    // The reader's own fault, or that of the whole text, which was read to its end.
+    ensures fault { IfErr result (λ f. (f ≡ record { kind = FaultKind.Read; line = 0 })
+        ⊎ (IsAtEnd (R.remaining reader.new)
+        × ((f ≡ record { kind = FaultKind.Memory; line = 0 })
+        ⊎ IfSome (R.remaining reader.old) (λ text. IsFirstFault text f.kind f.line)))) }
 {
     let mut parser = Parser::new(alloc);
     let mut chunk = [0u8; 65536];
@@ -65,7 +67,26 @@ pub fn read_from<R: Read>(alloc: Global, reader: &mut R) -> Result<Instance, Rea
             Ok(count) => count,
             Err(_) => return Err(FAILED),
         };
-        parser.feed(&chunk[..count])?;
+        if let Err(fault) = parser.feed(&chunk[..count]) {
+            read_on(reader)?;
+            return Err(fault);
+        }
+    }
+    Err(FAILED)
+}
+
+/// Reads to the end, and keeps nothing.
+fn read_on<R: Read>(reader: &mut R) -> Result<(), ReadFault>
+    ensures at_end { OnOk result (IsAtEnd (R.remaining reader.new)) }
+    ensures fault { IfErr result (λ f. f ≡ record { kind = FaultKind.Read; line = 0 }) }
+{
+    let mut chunk = [0u8; 65536];
+    for _ in 0..u64::MAX {
+        match reader.read(&mut chunk) {
+            Ok(0) => return Ok(()),
+            Ok(_) => {}
+            Err(_) => return Err(FAILED),
+        }
     }
     Err(FAILED)
 }

@@ -1,8 +1,7 @@
 -- What the pieces so far say of all bytes of the reader.
-use Rattle.std.proofs.Common.{rules, ◌≡◌, [], arith}
+use Rattle.std.proofs.Common.{rules, ◌≡◌, [], arith, inr}
 use Rattle.std.specs.Io.KnownBytes.{IsAtEnd}
 use Rattle.std.proofs.KnownBytes.{Consumes-nil, Consumes-trans}
-use Rattle.std.proofs.lemmas.Result.{err_from_is_err_and}
 use Rattle.wcnf.proofs.ParserLaws.{all_read, piece_refused, reader_refused, reader_read}
 use Rattle.wcnf.proofs.ParserLaws.{reader_read_one}
 use Rattle.wcnf.proofs.reading.read_from.Goals as goal
@@ -40,14 +39,16 @@ returns-in-Ok-eq0-clause-fault g c =
     (all_read _ _ _ i.0 _ c.in-Ok-eq0.field-0 i.2 c.in-Ok-eq0.ensures.bytes.0 zero) end i.1
     c.finish.ensures.fault
 
-pub returns-in_err-feed-clause-fault : goal.returns-in_err-feed-clause-fault
-returns-in_err-feed-clause-fault g c =
+pub returns-in-Err-feed-clause-fault : goal.returns-in-Err-feed-clause-fault
+returns-in-Err-feed-clause-fault g c =
     let i = c.pieces.invariant in
-    let p = err_from_is_err_and c.from_residual.result c.from_residual.ensures.1 in
-    rw (p.1, p.2) (piece_refused _ _ _ i.0 _ c.pieces.parser _ i.2 c.in-Ok.ensures.bytes.0 i.1
-    c.in_err-feed.ensures.fault)
+    inr (
+      c.in_ok-read_on.ensures.at_end,
+      piece_refused _ _ _ i.0 _ c.pieces.parser _ i.2
+          c.in-Ok.ensures.bytes.0 i.1 c.in-Err-feed.ensures.fault,
+    )
 
 pub pieces-preserved : goal.pieces-preserved
 pieces-preserved g c =
     let i = c.pieces.invariant in
-    (_, c.in_ok-feed.ensures.stands i.0 i.1, Consumes-trans _ _ _ i.0 _ i.2 c.in-Ok.ensures.bytes.0)
+    (_, c.in_default.ensures.stands i.0 i.1, Consumes-trans _ _ _ i.0 _ i.2 c.in-Ok.ensures.bytes.0)
