@@ -21,6 +21,7 @@ use Rattle.propagate.specs.Doomed.{is_doomed}
 use Rattle.propagate.specs.Fits.{Fits}
 use Rattle.propagate.proofs.Laws.{fits_local}
 use Rattle.analyze.specs.Learning.{IsQuiet}
+use Rattle.cdcl_order.specs.Policies.{PolicyState}
 use Rattle.lrat_log.specs.Log.{LogLine, IsLine, IsPlain, is_delete, name_of, number_in}
 use Rattle.cdcl.specs.declared.problem.Problem.{Problem}
 use Rattle.cdcl.specs.declared.search.Search.{Search}
@@ -41,7 +42,7 @@ none_marked zero r = refl
 none_marked (suc n) zero = refl
 none_marked (suc n) (suc r) = none_marked n r
 
-pub marks_none : (s : Search) (chosen : List (ℕ × ℕ)) (doomed : List Bool)
+pub marks_none : (s : Search) (chosen : List ℕ) (doomed : List Bool)
     → doomed ≡ replicate (length (s.store).slots) false → AreMarked s chosen 0 doomed
 marks_none s chosen doomed fresh =
     let off : (r : ℕ) → is_doomed doomed r ≡ false = λ r. ap (λ x. is_doomed x r) fresh
@@ -53,7 +54,7 @@ marks_none s chosen doomed fresh =
     }
 
 -- the next clause gets no mark
-pub marks_same : (s : Search) (chosen : List (ℕ × ℕ)) (first : ℕ) (doomed : List Bool)
+pub marks_same : (s : Search) (chosen : List ℕ) (first : ℕ) (doomed : List Bool)
     → AreMarked s chosen first doomed → AreMarked s chosen (first + 1) doomed
 marks_same s chosen first doomed m = record {
   long = m.long;
@@ -62,8 +63,8 @@ marks_same s chosen first doomed m = record {
 }
 
 -- it gets one
-pub marks_more : (s : Search) (chosen : List (ℕ × ℕ)) (first : ℕ) (doomed : List Bool) (q : ℕ)
-    → AreMarked s chosen first doomed → MayBeDeleted s q → (get_or chosen first (0, 0)).1 ≡ q
+pub marks_more : (s : Search) (chosen : List ℕ) (first : ℕ) (doomed : List Bool) (q : ℕ)
+    → AreMarked s chosen first doomed → MayBeDeleted s q → get_or chosen first 0 ≡ q
     → AreMarked s chosen (first + 1) (set doomed q true)
 marks_more s chosen first doomed q m may here = record {
   long = length-set doomed q true ∙ m.long;
@@ -85,7 +86,7 @@ unmarked doomed None h = tt
 unmarked doomed (Some r) h = h r refl
 
 -- no reason is marked
-pub reasons_stay : (s : Search) (chosen : List (ℕ × ℕ)) (first : ℕ) (doomed : List Bool)
+pub reasons_stay : (s : Search) (chosen : List ℕ) (first : ℕ) (doomed : List Bool)
     → AreMarked s chosen first doomed → All (λ a. IfSome a.reason (λ r. is_doomed doomed r ≡ false))
     (s.engine).trail
 reasons_stay s chosen first doomed m i d lt =
@@ -99,7 +100,7 @@ reasons_stay s chosen first doomed m i d lt =
 
 -- the marked clauses are detached
 pub deleting_starts : (s : Search) (f : EngineState) (p : Problem) (ls : List LogLine)
-    (chosen : List (ℕ × ℕ)) (first : ℕ) (doomed : List Bool) → Runs s p ls
+    (chosen : List ℕ) (first : ℕ) (doomed : List Bool) → Runs s p ls
     → AreMarked s chosen first doomed
     → ((r : ℕ) → is_attached f r ≡ (is_attached s.engine r && not (is_doomed doomed r)))
     → (f.trail ≡ (s.engine).trail) × (f.variables ≡ (s.engine).variables)
@@ -121,7 +122,7 @@ deleting_starts s f p ls chosen first doomed run m detached same fits =
       units =
           subst (λ T. NotesUnits (s.store).slots (zero_of T) (depth_of T) (s.units).items s.noted)
           (sym same.0) run.running.units;
-      room = room_moved s f s.order run.room same.1 refl;
+      room = room_moved s f s.policy run.room same.1 refl;
       past = run.past;
       few = run.few;
       long = m.long;
@@ -133,15 +134,16 @@ deleting_starts s f p ls chosen first doomed run m detached same fits =
     }
 
 -- one of them leaves
-pub deleting_more : (s : Search) (k : ℕ) (p : Problem) (ls : List LogLine) (l : LogLine)
+pub deleting_more : (s : Search) (k : PolicyState) (p : Problem) (ls : List LogLine) (l : LogLine)
     (doomed : List Bool) (q : ℕ) (c : List Literal) → IsDeleting s p ls doomed
     → clause_at (s.store).slots q ≡ Some c → is_doomed doomed q ≡ true → is_delete l.kind ≡ true
     → l.hints ≡ plain_hints (name_at (s.names).items q ∷ [])
+    → k ≡ s.policy
     → IsDeleting (record s {
       store = record (s.store) { slots = set (s.store).slots q None };
-      long = k;
+      policy = k;
     }) p (ls ++ l ∷ []) doomed
-deleting_more s k p ls l doomed q c d live on deletes plain =
+deleting_more s k p ls l doomed q c d live on deletes plain same =
     let slots : Slots = (s.store).slots in
     let e : EngineState = s.engine in
     let drop = d.droppable q c live on in
@@ -163,7 +165,7 @@ deleting_more s k p ls l doomed q c d live on deletes plain =
           units_delete slots q c (zero_of e.trail) (depth_of e.trail) (s.units).items s.noted live
           long d.units;
       room = record {
-        order = d.room.order;
+        policy = ap (λ x. x.variables) same ∙ d.room.policy;
         analyzer = d.room.analyzer;
         few = d.room.few;
         stamps = d.room.stamps;
@@ -205,25 +207,25 @@ deleting_ends s p ls doomed d gone =
     }
 
 -- the first so many of the chosen clauses have left, where they are marked
-abbrev pub AreGone : Slots → List (ℕ × ℕ) → ℕ → List Bool → Type 0
+abbrev pub AreGone : Slots → List ℕ → ℕ → List Bool → Type 0
 AreGone slots chosen first doomed =
-    (i : ℕ) → i < first → is_doomed doomed (get_or chosen i (0, 0)).1 ≡ true
-    → IsLive slots (get_or chosen i (0, 0)).1 → ⊥
+    (i : ℕ) → i < first → is_doomed doomed (get_or chosen i 0) ≡ true
+    → IsLive slots (get_or chosen i 0) → ⊥
 
-pub gone_more : (old new : Slots) (chosen : List (ℕ × ℕ)) (first : ℕ) (doomed : List Bool) (q : ℕ)
+pub gone_more : (old new : Slots) (chosen : List ℕ) (first : ℕ) (doomed : List Bool) (q : ℕ)
     → AreGone old chosen first doomed → ((r : ℕ) → IsLive new r → IsLive old r)
-    → (is_doomed doomed q ≡ true → IsLive new q → ⊥) → (get_or chosen first (0, 0)).1 ≡ q
+    → (is_doomed doomed q ≡ true → IsLive new q → ⊥) → get_or chosen first 0 ≡ q
     → AreGone new chosen (first + 1) doomed
 gone_more old new chosen first doomed q gone fewer here at i below on live =
     elim (cases_lt i first) [
       | inl less ↦ gone i less on (fewer _ live)
       | inr more ↦
-          let same : (get_or chosen i (0, 0)).1 ≡ q =
-          ap (λ j. (get_or chosen j (0, 0)).1) (let e : i ≡ first = omega arith in e) ∙ at in
+          let same : get_or chosen i 0 ≡ q =
+          ap (λ j. get_or chosen j 0) (let e : i ≡ first = omega arith in e) ∙ at in
           here (subst (λ r. is_doomed doomed r ≡ true) same on) (subst (IsLive new) same live)
     ]
 
-pub all_gone : (s : Search) (slots : Slots) (chosen : List (ℕ × ℕ)) (first : ℕ) (doomed : List Bool)
+pub all_gone : (s : Search) (slots : Slots) (chosen : List ℕ) (first : ℕ) (doomed : List Bool)
     → AreMarked s chosen (length chosen) doomed → length chosen ≤ first
     → AreGone slots chosen first doomed
     → (r : ℕ) → is_doomed doomed r ≡ true → IsLive slots r → ⊥
@@ -231,22 +233,6 @@ all_gone s slots chosen first doomed m all gone r on live =
     let w = m.among r on in
     gone w.0 (let lt = w.1 in omega arith) (subst (λ x. is_doomed doomed x ≡ true) (sym w.2) on)
     (subst (IsLive slots) (sym w.2) live)
-
--- how often clauses were deleted is a count alone
-pub runs_counted : (s : Search) (k : ℕ) (p : Problem) (ls : List LogLine) → Runs s p ls
-    → Runs (record s { reductions = k }) p ls
-runs_counted s k p ls r = record {
-  running = r.running;
-  room = record {
-    order = r.room.order;
-    analyzer = r.room.analyzer;
-    few = r.room.few;
-    stamps = r.room.stamps;
-    units = r.room.units;
-  };
-  past = r.past;
-  few = r.few;
-}
 
 -- the name in a table, however it is read
 pub named_at : (names : List Name) (i r : ℕ) (n : Name) → i ≡ r → n ≡ get_or names i n

@@ -1,49 +1,54 @@
 -- Where the engine alone moves, the rest of a search stays.
-use Rattle.std.proofs.Common.{◌≡◌, ℕ, ◌<◌, ◌≤◌, List, sym, ◌∙◌, arith}
+use Rattle.std.proofs.Common.{◌≡◌, ℕ, ◌<◌, ◌≤◌, List, refl, sym, ◌∙◌, arith}
 use Rattle.std.specs.Prelude.{All}
 use Rattle.std.proofs.lemmas.List.Elements.{All-map, All-weaker}
 use Rattle.cnf.specs.Literal.{Literal}
 use Rattle.propagate.specs.Trail.{Assigned, literals_of}
 use Rattle.propagate.specs.Watches.{EngineState}
 use Rattle.lrat_log.specs.Log.{LogLine}
-use Rattle.cdcl_order.specs.Orders.{OrderState}
+use Rattle.cdcl_order.specs.Policies.{PolicyState}
 use Rattle.cdcl.specs.declared.problem.Problem.{Problem}
 use Rattle.cdcl.specs.declared.search.Search.{Search}
 use Rattle.cdcl.specs.Invariant.{Searches, IsRunning}
 use Rattle.cdcl.specs.Running.{tables_of, HasRoom, IsReady, Runs}
 
--- with another engine and order
-abbrev pub moved_to : Search → EngineState → OrderState → Search
-moved_to s e o = record s { engine = e; order = o }
+-- with another engine and policy
+abbrev pub moved_to : Search → EngineState → PolicyState → Search
+moved_to s e o = record s { engine = e; policy = o }
 
-pub room_moved : (s : Search) (e : EngineState) (o : OrderState) → HasRoom s
-    → e.variables ≡ (s.engine).variables → o.variables ≡ (s.order).variables
+pub room_moved : (s : Search) (e : EngineState) (o : PolicyState) → HasRoom s
+    → e.variables ≡ (s.engine).variables → o.variables ≡ (s.policy).variables
     → HasRoom (moved_to s e o)
-room_moved s e o r same order = record {
-  order = order ∙ r.order ∙ sym same;
+room_moved s e o r same policy = record {
+  policy = policy ∙ r.policy ∙ sym same;
   analyzer = (let a = r.analyzer in omega arith);
   few = (let a = r.few in omega arith);
   stamps = r.stamps ∙ sym same;
   units = r.units ∙ sym same;
 }
 
-pub ready_moved : (s : Search) (e : EngineState) (o : OrderState) → IsReady s
-    → e.variables ≡ (s.engine).variables → o.variables ≡ (s.order).variables
+pub ready_moved : (s : Search) (e : EngineState) (o : PolicyState) → IsReady s
+    → e.variables ≡ (s.engine).variables → o.variables ≡ (s.policy).variables
     → Searches e (s.store).slots → IsReady (moved_to s e o)
-ready_moved s e o r same order searches =
-    record { searches = searches; room = room_moved s e o r.room same order; named = r.named }
+ready_moved s e o r same policy searches =
+    record { searches = searches; room = room_moved s e o r.room same policy; named = r.named }
 
-pub runs_moved : (s : Search) (e : EngineState) (o : OrderState) (p : Problem) (ls : List LogLine)
-    → Runs s p ls → e.variables ≡ (s.engine).variables → o.variables ≡ (s.order).variables
+pub runs_moved : (s : Search) (e : EngineState) (o : PolicyState) (p : Problem) (ls : List LogLine)
+    → Runs s p ls → e.variables ≡ (s.engine).variables → o.variables ≡ (s.policy).variables
     → IsRunning e (s.store).slots p.stack (tables_of s) (p.frozen).items p.first (p.given).items ls
     → Runs (moved_to s e o) p ls
-runs_moved s e o p ls r same order running =
+runs_moved s e o p ls r same policy running =
     record {
       running = running;
-      room = room_moved s e o r.room same order;
+      room = room_moved s e o r.room same policy;
       past = r.past;
       few = r.few;
     }
+
+-- with another policy over as many variables
+pub runs_chosen : (s : Search) (k : PolicyState) (p : Problem) (ls : List LogLine)
+    → k.variables ≡ (s.policy).variables → Runs s p ls → Runs (record s { policy = k }) p ls
+runs_chosen s k p ls same r = runs_moved s s.engine k p ls r refl same r.running
 
 pub literals_within : (T : List Assigned) (n : ℕ)
     → All (λ a. (0 < a.literal.variable) × (a.literal.variable ≤ n)) T

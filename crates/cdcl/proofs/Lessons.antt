@@ -199,19 +199,3 @@ runs_learned m n p ls l T back run room past w trail adds placed more few =
           (subst (λ x. All (λ y. y ≤ x) (m.stamps).items) (sym more) past);
       few = few;
     }
-
--- how many clauses are long does not matter
-pub runs_long : (n u : Search) (k : ℕ) (p : Problem) (ls : List LogLine) → u ≡ record n { long = k }
-    → Runs n p ls → Runs u p ls
-runs_long n u k p ls e r = subst (λ (s : Search). Runs s p ls) (sym e) (record {
-  running = r.running;
-  room = record {
-    order = r.room.order;
-    analyzer = r.room.analyzer;
-    few = r.room.few;
-    stamps = r.room.stamps;
-    units = r.room.units;
-  };
-  past = r.past;
-  few = r.few;
-})

@@ -27,6 +27,7 @@ pub record IsNoting (old now : Search) (p : Problem) (before ls : List LogLine) 
   pub flat : depth_of (now.engine).trail ≡ 0
   pub trail : (now.engine).trail ≡ (old.engine).trail
   pub variables : (now.engine).variables ≡ (old.engine).variables
+  pub policy : now.policy ≡ old.policy
   pub quiet : IsQuiet (old.store).slots (literals_of (old.engine).trail)
       → IsQuiet (now.store).slots (literals_of (now.engine).trail)
   pub clauses : (r : ℕ) → IsFalseClause (old.store).slots old.engine r
@@ -41,6 +42,7 @@ noting_start s p ls r flat =
       flat = flat;
       trail = refl;
       variables = refl;
+      policy = refl;
       quiet = λ q. q;
       clauses = λ r f. f;
       writes = writes_none (p.given).items ls;
@@ -68,10 +70,11 @@ quiet_true slots A k apart m quiet r c at =
 pub noting_more : (old now new : Search) (p : Problem) (before ls more : List LogLine)
     → IsNoting old now p before ls → now.noted < length (now.engine).trail → Runs new p more
     → (new.engine).trail ≡ (now.engine).trail → (new.engine).variables ≡ (now.engine).variables
+    → new.policy ≡ now.policy
     → (new.store).slots ≡ (now.store).slots
     ++ Some (slice_index_or (literals_of (now.engine).trail) now.noted (positive 0) ∷ []) ∷ []
     → Writes (p.given).items ls more 0 → IsNoting old new p before more
-noting_more old now new p before ls more d lt r trail vars slots w =
+noting_more old now new p before ls more d lt r trail vars policy slots w =
     let A : List Literal = literals_of (now.engine).trail in
     let k : Literal = slice_index_or A now.noted (positive 0) in
     let reasons = d.runs.running.searches.fits.reasons in
@@ -85,6 +88,7 @@ noting_more old now new p before ls more d lt r trail vars slots w =
       flat = ap depth_of trail ∙ d.flat;
       trail = trail ∙ d.trail;
       variables = vars ∙ d.variables;
+      policy = policy ∙ d.policy;
       quiet =
           λ q. subst (λ x. IsQuiet x (literals_of (new.engine).trail)) (sym slots)
           (subst (λ T. IsQuiet ((now.store).slots ++ Some (k ∷ []) ∷ []) (literals_of T))

@@ -84,7 +84,7 @@ adding_line kind c hints variables adds few w names = record {
 pub room_placed : (s n : Search) (name : Name) (c : List Literal) → HasRoom s → Places s n name c
     → HasRoom n
 room_placed s n name c r w = record {
-  order = ap (λ o. o.variables) w.order ∙ r.order ∙ sym w.variables;
+  policy = ap (λ o. o.variables) w.policy ∙ r.policy ∙ sym w.variables;
   analyzer =
       subst (λ k. k < n.analyzer) (sym w.variables)
       (subst (λ k. (s.engine).variables < k) (sym w.analyzer) r.analyzer);

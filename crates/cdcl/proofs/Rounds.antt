@@ -1,9 +1,8 @@
 -- Rounds of a search: each leaves fewer.
 use Rattle.std.proofs.Common.{◌≡◌, ℕ, ◌+◌, ◌-◌, ◌*◌, ◌<◌, ◌≤◌, Bool, true, false, List, length, sym}
 use Rattle.std.proofs.Common.{◌∙◌, ap, subst, arith}
-use Rattle.std.specs.Prelude.{nat_lt, if◌then◌else◌}
+use Rattle.std.specs.Prelude.{if◌then◌else◌}
 use Rattle.std.proofs.Math.Nat.{mul-le-mul_left}
-use Rattle.std.proofs.lemmas.Bool.{lt-ltb}
 use Rattle.cdcl_order.specs.Budgets.{BudgetState, left_of}
 use Rattle.lrat_log.specs.Log.{LogLine, Given}
 use Rattle.cdcl.specs.declared.problem.Problem.{Problem}
@@ -39,18 +38,12 @@ pays_join given a b c s t u v w =
 
 -- What is left.
 
-abbrev flag : ℕ → ℕ
-flag n = if nat_lt 0 n then 1 else 0
+abbrev flag : Bool → ℕ
+flag b = if b then 1 else 0
 
-flag_low : (n : ℕ) → flag n ≤ 1
-flag_low n = at (nat_lt 0 n)
-  where
-    at : (b : Bool) → (if b then 1 else 0) ≤ 1
-    at true = omega arith
-    at false = omega arith
-
-flag_one : (n : ℕ) → 0 < n → flag n ≡ 1
-flag_one n h = ap (λ b. if b then 1 else 0) (lt-ltb 0 n h)
+flag_low : (b : Bool) → flag b ≤ 1
+flag_low true = omega arith
+flag_low false = omega arith
 
 rounds_fall : (a b v s t : ℕ) → a < b → s ≤ v + 1 → a * (v + 2) + s < b * (v + 2) + t
 rounds_fall a b v s t less low =
@@ -58,53 +51,59 @@ rounds_fall a b v s t less low =
     omega (arith, h)
 
 -- the first factor falls
-falls_first : (old new : Search) (before after : BudgetState) (conflicts again : ℕ)
+falls_first : (old new : Search) (before after : BudgetState)
     → (new.engine).variables ≡ (old.engine).variables
-    → 2 * left_of after + flag again < 2 * left_of before + flag conflicts
-    → rounds_left new after again < rounds_left old before conflicts
-falls_first old new before after conflicts again same less =
+    → 2 * left_of after + flag (new.policy).has_learned
+    < 2 * left_of before + flag (old.policy).has_learned
+    → rounds_left new after < rounds_left old before
+falls_first old new before after same less =
     let v = (old.engine).variables in
-    subst (λ n. (2 * left_of after + flag again) * (n + 2) + (n + 1 - length (new.engine).trail)
-    < rounds_left old before conflicts) (sym same)
-    (rounds_fall (2 * left_of after + flag again) (2 * left_of before + flag conflicts) v
+    let again = flag (new.policy).has_learned in
+    let learned = flag (old.policy).has_learned in
+    subst (λ n. (2 * left_of after + again) * (n + 2) + (n + 1 - length (new.engine).trail)
+    < rounds_left old before) (sym same)
+    (rounds_fall (2 * left_of after + again) (2 * left_of before + learned) v
     (v + 1 - length (new.engine).trail) (v + 1 - length (old.engine).trail) less (omega arith))
 
 -- a unit was paid
 pub goes_learned : (old new : Search) (p : Problem) (ls : List LogLine) (before after : BudgetState)
-    (conflicts again : ℕ)
     → Runs new p ls → (new.engine).variables ≡ (old.engine).variables
     → after ≡ record before { learned = before.learned + 1 } → 0 < left_of before
-    → GoesOn old new p ls before after conflicts again
-goes_learned old new p ls before after conflicts again r same paid some = record {
+    → GoesOn old new p ls before after
+goes_learned old new p ls before after r same paid some = record {
   runs = r;
-  fewer = falls_first old new before after conflicts again same
+  fewer = falls_first old new before after same
       (let e : left_of after ≡ before.limit - (before.learned + 1 + before.answers)
       = ap left_of paid in
-      let low = flag_low again in omega arith);
+      let low = flag_low (new.policy).has_learned in omega arith);
 }
 
 -- it starts over
 pub goes_over : (old new : Search) (p : Problem) (ls : List LogLine) (budget : BudgetState)
-    (conflicts : ℕ)
-    → Runs new p ls → (new.engine).variables ≡ (old.engine).variables → 0 < conflicts
-    → GoesOn old new p ls budget budget conflicts 0
-goes_over old new p ls budget conflicts r same some = record {
+    → Runs new p ls → (new.engine).variables ≡ (old.engine).variables
+    → (old.policy).has_learned ≡ true → (new.policy).has_learned ≡ false
+    → GoesOn old new p ls budget budget
+goes_over old new p ls budget r same learned none = record {
   runs = r;
-  fewer = falls_first old new budget budget conflicts 0 same
-      (let one = flag_one conflicts some in omega arith);
+  fewer = falls_first old new budget budget same
+      (let one : flag (old.policy).has_learned ≡ 1 = ap flag learned in
+      let zero : flag (new.policy).has_learned ≡ 0 = ap flag none in omega arith);
 }
 
 -- one more literal is true
 pub goes_decided : (old new : Search) (p : Problem) (ls : List LogLine) (budget : BudgetState)
-    (conflicts : ℕ)
     → Runs new p ls → (new.engine).variables ≡ (old.engine).variables
+    → (new.policy).has_learned ≡ (old.policy).has_learned
     → length (new.engine).trail ≡ length (old.engine).trail + 1
     → length (old.engine).trail ≤ (old.engine).variables
-    → GoesOn old new p ls budget budget conflicts conflicts
-goes_decided old new p ls budget conflicts r same longer within = record {
+    → GoesOn old new p ls budget budget
+goes_decided old new p ls budget r same learned longer within = record {
   runs = r;
   fewer =
-      subst (λ n. (2 * left_of budget + flag conflicts) * (n + 2)
-      + (n + 1 - length (new.engine).trail) < rounds_left old budget conflicts) (sym same)
-      (omega arith);
+      let first = flag (old.policy).has_learned in
+      subst (λ b. (2 * left_of budget + flag b) * ((new.engine).variables + 2)
+      + ((new.engine).variables + 1 - length (new.engine).trail) < rounds_left old budget)
+      (sym learned)
+      (subst (λ n. (2 * left_of budget + first) * (n + 2) + (n + 1 - length (new.engine).trail)
+      < rounds_left old budget) (sym same) (omega arith));
 }

@@ -187,7 +187,7 @@ pub record NotesOne (n u : Search) (v r : ℕ) : Type 0 where
   pub kept : u.kept ≡ n.kept
   pub additions : u.additions ≡ n.additions
   pub stamps : u.stamps ≡ n.stamps
-  pub order : u.order ≡ n.order
+  pub policy : u.policy ≡ n.policy
   pub analyzer : u.analyzer ≡ n.analyzer
 
 pub runs_noted : (m n u : Search) (p : Problem) (ls : List LogLine) (hints : List Hint)
@@ -244,7 +244,8 @@ runs_noted m n u p ls hints k v r run room past flat left at adds w more few vis
           ∙ ap (λ x. x + 1) w.noted) (d.kept ∙ w.kept) (d.additions ∙ more))
           ran;
       room = record {
-        order = ap (λ x. x.variables) d.order ∙ placed.order ∙ sym (ap (λ x. x.variables) d.engine);
+        policy = ap (λ x. x.variables) d.policy ∙ placed.policy
+            ∙ sym (ap (λ x. x.variables) d.engine);
         analyzer =
             subst (λ x. x.variables < u.analyzer) (sym d.engine)
             (subst (λ x. (n.engine).variables < x) (sym d.analyzer) placed.analyzer);

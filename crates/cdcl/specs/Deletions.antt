@@ -17,12 +17,12 @@ use Rattle.cdcl.specs.Moves.{MayBeDeleted}
 
 -- the mark of each clause that has one says that it may be deleted, and it is among the first of
 -- those chosen
-pub record AreMarked (s : Search) (chosen : List (ℕ × ℕ)) (first : ℕ)
+pub record AreMarked (s : Search) (chosen : List ℕ) (first : ℕ)
     (doomed : List Bool) : Type 0 where
   pub long : length doomed ≡ length (s.store).slots
   pub may : (r : ℕ) → is_doomed doomed r ≡ true → MayBeDeleted s r
   pub among : (r : ℕ) → is_doomed doomed r ≡ true
-      → (i : ℕ) × (i < first) × ((slice_index_or chosen i (0, 0)).1 ≡ r)
+      → (i : ℕ) × (i < first) × (slice_index_or chosen i 0 ≡ r)
 
 -- marked clauses are detached and leave one by one; all else is as in a search that runs
 pub record IsDeleting (s : Search) (p : Problem) (ls : List LogLine)

@@ -1,5 +1,5 @@
 -- What is known while hints are gathered, and of tables after a compaction.
-use Rattle.std.specs.Prelude.{◌≡◌, ℕ, ◌+◌, ◌-◌, ◌*◌, ◌<◌, nat_lt, if◌then◌else◌, Bool, true, false}
+use Rattle.std.specs.Prelude.{◌≡◌, ℕ, ◌+◌, ◌-◌, ◌*◌, ◌<◌, if◌then◌else◌, Bool, true, false}
 use Rattle.std.specs.Prelude.{List, length, map, Option, Some, None, All, unwrap_or}
 use Rattle.std.specs.Prelude.{slice_index_or}
 use Rattle.cnf.specs.Literal.{Literal, negation}
@@ -76,16 +76,16 @@ KeepsState old new = (p : Problem) (ls : List LogLine)
 
 -- Rounds of a search: each learns and pays a unit, starts over after something was learned, or
 -- makes one more literal true.
-abbrev pub rounds_left : Search → BudgetState → ℕ → ℕ
-rounds_left s b conflicts =
-    (2 * left_of b + (if nat_lt 0 conflicts then 1 else 0)) * ((s.engine).variables + 2)
+abbrev pub rounds_left : Search → BudgetState → ℕ
+rounds_left s b =
+    (2 * left_of b + (if (s.policy).has_learned then 1 else 0)) * ((s.engine).variables + 2)
     + ((s.engine).variables + 1 - length (s.engine).trail)
 
 -- after a round the search goes on, and fewer are left
-pub record GoesOn (old new : Search) (p : Problem) (ls : List LogLine) (before after : BudgetState)
-    (conflicts again : ℕ) : Type 0 where
+pub record GoesOn (old new : Search) (p : Problem) (ls : List LogLine)
+    (before after : BudgetState) : Type 0 where
   pub runs : Runs new p ls
-  pub fewer : rounds_left new after again < rounds_left old before conflicts
+  pub fewer : rounds_left new after < rounds_left old before
 
 -- the clause is live, was learned, has more than two literals and is no reason
 pub record MayBeDeleted (s : Search) (r : ℕ) : Type 0 where

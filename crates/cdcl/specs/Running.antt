@@ -37,7 +37,7 @@ tables_of s = record {
 
 -- the parts that go by variable have a place for each
 pub record HasRoom (s : Search) : Type 0 where
-  pub order : (s.order).variables ≡ (s.engine).variables
+  pub policy : (s.policy).variables ≡ (s.engine).variables
   pub analyzer : (s.engine).variables < s.analyzer
   pub few : (s.engine).variables < 2 ^ 27
   pub stamps : length (s.stamps).items ≡ (s.engine).variables
@@ -88,7 +88,7 @@ pub record Places (old new : Search) (n : Name) (c : List Literal) : Type 0 wher
   pub noted : new.noted ≡ old.noted
   pub kept : new.kept ≡ old.kept
   pub stamps : new.stamps ≡ old.stamps
-  pub order : new.order ≡ old.order
+  pub policy : new.policy ≡ old.policy
   pub analyzer : new.analyzer ≡ old.analyzer
 
 -- The log.

@@ -1,5 +1,5 @@
 // The room of deleted clauses is taken back.
-ghost use Rattle.std.specs.Prelude.{◌≡◌, Some, map, OnOk, OnErr};
+ghost use Rattle.std.specs.Prelude.{◌≡◌, Some, map, length, OnOk, OnErr};
 ghost use Rattle.clauses.specs.Slots.{live_clauses};
 ghost use Rattle.cdcl.specs.Running.{IsReady, KeepsRunning};
 
@@ -26,6 +26,8 @@ impl Search {
         requires { IsReady self.old }
         ensures runs { OnOk result (KeepsRunning self.old self.new) }
         ensures variables { OnOk result (self.new.engine.variables ≡ self.old.engine.variables) }
+        ensures long { OnOk result (length self.new.engine.trail ≡ length self.old.engine.trail) }
+        ensures policy { self.new.policy ≡ self.old.policy }
         ensures together { OnOk result (self.new.store.slots
             ≡ map Some (live_clauses self.old.store.slots)) }
         ensures err { OnErr result (self.new ≡ self.old) }
@@ -33,6 +35,7 @@ impl Search {
         let moves = self.engine.compact(&mut self.store)?;
         move_names(&mut self.names, moves.pairs(), self.store.places());
         move_units(&mut self.units, &moves);
+        self.policy.rename(&moves);
         Ok(())
     }
 }

@@ -42,12 +42,11 @@ pub(crate) fn learn<S: Sink>(
         search.additions + 1,
         learned.hints.as_slice(),
     )?;
-    search.bump();
+    let distance = search.learn_from(&learned);
     search.backtrack(learned.back_level);
     let reference = search.add_line(sink, Kind::Learned, learned.lits.as_slice(), hints)?;
-    let _ = reference;
-    if learned.lits.as_slice().len() > 2 {
-        search.long = search.long.saturating_add(1);
-    }
+    search
+        .policy
+        .keep(reference, learned.lits.as_slice().len(), distance);
     Ok(())
 }

@@ -28,6 +28,7 @@ pub(crate) fn note_units<S: Sink>(
     ensures runs { OnOk result (Runs search.new problem.now (S.lines sink.new)) }
     ensures all { OnOk result (length (zero_of search.new.engine.trail) ≤ search.new.noted) }
     ensures trail { OnOk result (search.new.engine.trail ≡ search.old.engine.trail) }
+    ensures policy { OnOk result (search.new.policy ≡ search.old.policy) }
     ensures quiet { OnOk result
         (IsQuiet search.old.store.slots (literals_of search.old.engine.trail)
         → IsQuiet search.new.store.slots (literals_of search.new.engine.trail)) }
@@ -57,6 +58,7 @@ fn note_unit<S: Sink>(
     ensures runs { OnOk result (Runs search.new problem.now (S.lines sink.new)) }
     ensures noted { OnOk result (search.new.noted ≡ search.old.noted + 1) }
     ensures trail { OnOk result (search.new.engine.trail ≡ search.old.engine.trail) }
+    ensures policy { OnOk result (search.new.policy ≡ search.old.policy) }
     ensures slots { OnOk result (search.new.store.slots ≡ search.old.store.slots ++ Some (
         slice_index_or (literals_of search.old.engine.trail) search.old.noted (positive 0) ∷ []
         ) ∷ []) }

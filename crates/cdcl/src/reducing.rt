@@ -11,7 +11,7 @@ ghost use Rattle.cdcl.specs.Deletions.{AreMarked, IsDeleting};
 
 use crate::problem::Problem;
 use crate::search::Search;
-use cdcl_order::deletions::{is_due, longer_half};
+use cdcl_order::deletions::Candidate;
 use clauses::store::CRef;
 use lrat_log::lines::{Hint, Kind, Line, Name};
 use lrat_log::sink::Sink;
@@ -36,6 +36,7 @@ fn delete<S: Sink>(
     ensures fewer { OnOk result
         ((r : ℕ) → IsLive search.new.store.slots r → IsLive search.old.store.slots r) }
     ensures engine { OnOk result (search.new.engine ≡ search.old.engine) }
+    ensures policy { OnOk result (search.new.policy ≡ search.old.policy) }
     ensures writes { OnOk result
         (Writes problem.now.given.items (S.lines sink.old) (S.lines sink.new) 0) }
     ensures err { OnErr result (S.lines sink.new ≡ S.lines sink.old) }
@@ -51,13 +52,13 @@ fn delete<S: Sink>(
     hints.push(Hint::Plain(search.names[reference.index()]))?;
     sink.append(Line::new(Kind::Delete, Vec::new(alloc), hints))?;
     search.store.delete(reference);
-    search.long = search.long.saturating_sub(1);
+    search.policy.count_deleted();
     Ok(())
 }
 
 impl Search {
-    /// The learned clauses that may be deleted, each with its length, the older first.
-    fn candidates(&self) -> Result<Vec<(u32, CRef)>, AllocError>
+    /// The learned clauses that may be deleted, the older first.
+    fn candidates(&self) -> Result<Vec<Candidate>, AllocError>
         requires { IsReady self.now }
     {
         let mut candidates = Vec::new(self.store.allocator());
@@ -65,24 +66,23 @@ impl Search {
             if let Some(reference) = self.store.live_at(place)
                 && self.may_delete(reference)
             {
-                let length = match u32::try_from(self.store.lits(reference).len()) {
-                    Ok(length) => length,
-                    Err(_) => u32::MAX,
-                };
-                candidates.push((length, reference))?;
+                candidates.push(Candidate {
+                    length: self.store.lits(reference).len(),
+                    reference,
+                })?;
             }
         }
         Ok(candidates)
     }
 
     /// Marks those of these clauses that may be deleted, by their references' places.
-    fn mark(&self, chosen: &[(u32, CRef)]) -> Result<Vec<bool>, AllocError>
+    fn mark(&self, chosen: &[CRef]) -> Result<Vec<bool>, AllocError>
         requires { IsReady self.now }
         ensures { IfOk result
             (λ doomed. AreMarked self.now chosen.now (length chosen.now) doomed.items) }
     {
         let mut doomed = Vec::from_elem(self.store.allocator(), false, self.store.places())?;
-        for (_, reference) in chosen {
+        for reference in chosen {
             if self.may_delete(*reference) {
                 doomed[reference.index()] = true;
             }
@@ -129,7 +129,7 @@ fn is_reason(engine: &Engine, lits: &[Lit], reference: CRef) -> bool
     false
 }
 
-/// Deletes the longer half of the learned clauses that may be deleted, where it is time for that.
+/// Deletes the learned clauses that the policy chooses, where it says that it is time for that.
 pub(crate) fn reduce<S: Sink>(
     search: &mut Search,
     problem: &Problem,
@@ -138,16 +138,19 @@ pub(crate) fn reduce<S: Sink>(
     requires runs { Runs search.old problem.now (S.lines sink.old) }
     ensures runs { OnOk result (Runs search.new problem.now (S.lines sink.new)) }
     ensures variables { OnOk result (search.new.engine.variables ≡ search.old.engine.variables) }
+    ensures long { OnOk result
+        (length search.new.engine.trail ≡ length search.old.engine.trail) }
+    ensures policy { OnOk result (search.new.policy ≡ search.old.policy) }
     ensures writes { Writes problem.now.given.items (S.lines sink.old) (S.lines sink.new) 0 }
     ensures err { OnErr result (StaysOpen problem.now (S.lines sink.new)) }
 {
-    if !is_due(search.long, search.reductions) {
+    if !search.policy.is_deletion_due() {
         return Ok(());
     }
-    let mut chosen = search.candidates()?;
-    longer_half(&mut chosen)?;
+    let candidates = search.candidates()?;
+    let alloc = search.store.allocator();
+    let chosen = search.policy.choose(alloc, &candidates)?;
     delete_all(search, problem, sink, &chosen)?;
-    search.reductions = search.reductions.saturating_add(1);
     if search.is_sparse() {
         search.compact()?;
     }
@@ -160,17 +163,20 @@ fn delete_all<S: Sink>(
     search: &mut Search,
     problem: &Problem,
     sink: &mut S,
-    chosen: &[(u32, CRef)],
+    chosen: &[CRef],
 ) -> Result<(), AllocError>
     requires runs { Runs search.old problem.now (S.lines sink.old) }
     ensures runs { OnOk result (Runs search.new problem.now (S.lines sink.new)) }
     ensures variables { OnOk result (search.new.engine.variables ≡ search.old.engine.variables) }
+    ensures long { OnOk result
+        (length search.new.engine.trail ≡ length search.old.engine.trail) }
+    ensures policy { OnOk result (search.new.policy ≡ search.old.policy) }
     ensures writes { Writes problem.now.given.items (S.lines sink.old) (S.lines sink.new) 0 }
     ensures err { OnErr result (StaysOpen problem.now (S.lines sink.new)) }
 {
     let doomed = search.mark(chosen)?;
     search.engine.detach_all(&doomed);
-    for (_, reference) in chosen {
+    for reference in chosen {
         delete(search, problem, sink, &doomed, *reference)?;
     }
     Ok(())

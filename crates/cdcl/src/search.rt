@@ -2,15 +2,16 @@
 ghost use Rattle.std.specs.Prelude.{◌≡◌, ℕ, true, false, ◌+◌, ◌<◌, ◌≤◌, [], ◌∷◌, ◌++◌, Some, None};
 ghost use Rattle.std.specs.Prelude.{length, All, IfOk, OnOk, IfSome, IfNone};
 ghost use Rattle.propagate.specs.Trail.{literals_of, depth_of, kept_to};
-ghost use Rattle.propagate.specs.Fits.{GrowsByUnits, IsFalseClause};
+ghost use Rattle.propagate.specs.Watches.{is_attached};
+ghost use Rattle.propagate.specs.Fits.{IsFalseClause, IsWithin};
 ghost use Rattle.analyze.specs.Learning.{IsQuiet};
-ghost use Rattle.cdcl_order.specs.Orders.{IsOpenVariable, AreClosed, tried_literal};
+ghost use Rattle.cdcl_order.specs.Orders.{IsOpenVariable, AreClosed};
 ghost use Rattle.cdcl.specs.Invariant.{zero_of};
 ghost use Rattle.cdcl.specs.Running.{HasRoom, IsReady, KeepsRunning};
 ghost use Rattle.cdcl.specs.Moves.{KeepsState};
 
-use analyze::learning::Analyzer;
-use cdcl_order::order::Order;
+use analyze::learning::{Analyzer, Learned};
+use cdcl_order::policy::Policy;
 use clauses::store::{CRef, MaybeCRef, Store};
 use lrat_log::lines::Name;
 use propagate::engine::Engine;
@@ -39,15 +40,10 @@ pub(crate) struct Search {
     /// By variable, that of 1 first: the number of the last addition that has its unit clause among
     /// the hints, at most `additions`; 0 where none has.
     pub(crate) stamps: Vec<u64>,
-    /// The order of decisions.
-    pub(crate) order: Order,
+    /// What it decides, when it starts over, and what it deletes.
+    pub(crate) policy: Policy,
     /// The memory of conflict analysis.
     pub(crate) analyzer: Analyzer,
-    /// How many learned clauses of more than two literals are live. It is a count for the choice of
-    /// deletions alone.
-    pub(crate) long: usize,
-    /// How often clauses were deleted, likewise.
-    pub(crate) reductions: u64,
 }
 
 impl Search {
@@ -70,6 +66,7 @@ impl Search {
         ensures grows { OnOk result (length self.old.engine.trail ≤ length self.new.engine.trail) }
         ensures store { self.new.store ≡ self.old.store }
         ensures noted { self.new.noted ≡ self.old.noted }
+        ensures policy { self.new.policy ≡ self.old.policy }
         ensures variables { self.new.engine.variables ≡ self.old.engine.variables }
     {
         match self.engine.propagate(&self.store) {
@@ -78,8 +75,7 @@ impl Search {
         }
     }
 
-    /// Undoes the levels above this one. Their variables may be decided again, with the value that
-    /// they have now first.
+    /// Undoes the levels above this one. Their variables may be decided again.
     pub(crate) fn backtrack(&mut self, level: u32)
         requires ready { IsReady self.old }
         requires level { level ≤ depth_of self.old.engine.trail }
@@ -88,22 +84,50 @@ impl Search {
         ensures ready { IsReady self.new }
         ensures trail { self.new.engine.trail ≡ kept_to level self.old.engine.trail }
         ensures variables { self.new.engine.variables ≡ self.old.engine.variables }
-        ensures engine { self.new ≡ record self.old {
-          engine = self.new.engine;
-          order = self.new.order;
-        } }
+        ensures engine { self.new ≡ record self.old { engine = self.new.engine } }
     {
-        put_back(&mut self.order, &self.engine, level);
+        put_back(&mut self.policy, &self.engine, level);
         self.engine.backtrack(level);
     }
 
-    /// The variables that the last analysis met count more from now on.
-    pub(crate) fn bump(&mut self)
-        ensures order { self.new.order ≡ self.old.order }
-        ensures same { self.new ≡ record self.old { order = self.new.order } }
+    /// Begins at level 0.
+    pub(crate) fn begin(&mut self)
+        requires { IsReady self.old }
+        ensures runs { KeepsRunning self.old self.new }
+        ensures ready { IsReady self.new }
+        ensures trail { self.new.engine.trail ≡ kept_to 0 self.old.engine.trail }
     {
-        self.order.bump_all(self.analyzer.met());
-        self.order.decay();
+        self.backtrack(0);
+        self.policy.begin();
+    }
+
+    /// Starts over from level 0.
+    pub(crate) fn start_over(&mut self)
+        requires { IsReady self.old }
+        ensures runs { KeepsRunning self.old self.new }
+        ensures variables { self.new.engine.variables ≡ self.old.engine.variables }
+        ensures policy { self.new.policy.has_learned ≡ false }
+    {
+        self.backtrack(0);
+        self.policy.start_over();
+    }
+
+    /// The policy sees what the last analysis taught, before the way back. It answers how many
+    /// levels above 0 the clause's literals stand in.
+    pub(crate) fn learn_from(&mut self, learned: &Learned) -> u32
+        requires ready { IsReady self.old }
+        requires hints { All (λ r. is_attached self.old.engine r ≡ true) learned.now.hints.items }
+        requires within { IsWithin self.old.engine.variables learned.now.lits.items }
+        ensures variables { self.new.policy.variables ≡ self.old.policy.variables }
+        ensures same { self.new ≡ record self.old { policy = self.new.policy } }
+    {
+        self.policy.learn_from(
+            &self.engine,
+            &self.store,
+            learned.hints.as_slice(),
+            self.analyzer.met(),
+            learned.lits.as_slice(),
+        )
     }
 
     /// Decides a variable without a value; it answers whether there was one.
@@ -120,53 +144,51 @@ impl Search {
         ensures stays { result ≡ false → self.new.engine ≡ self.old.engine }
         ensures variables { self.new.engine.variables ≡ self.old.engine.variables }
         ensures store { self.new.store ≡ self.old.store }
+        ensures policy { self.new.policy ≡ self.old.policy }
     {
         let _ = self.engine.assigned();
-        match self.order.next(&self.engine) {
-            Some(variable) => {
-                self.decide(variable);
+        match self.policy.next(&self.engine) {
+            Some(lit) => {
+                self.decide(lit);
                 true
             }
             None => false,
         }
     }
 
-    /// Opens a level with the variable, at the value that is to be tried first.
-    pub(crate) fn decide(&mut self, variable: u32)
+    /// Opens a level with the literal.
+    pub(crate) fn decide(&mut self, lit: Lit)
         requires ready { IsReady self.old }
-        requires open { IsOpenVariable self.old.engine.trail self.old.engine.variables variable }
+        requires open { IsOpenVariable self.old.engine.trail self.old.engine.variables lit.variable }
         requires quiet { IsQuiet self.old.store.slots (literals_of self.old.engine.trail) }
         requires noted { length (zero_of self.old.engine.trail) ≤ self.old.noted }
         ensures runs { KeepsRunning self.old self.new }
         ensures ready { IsReady self.new }
         ensures trail { self.new.engine.trail ≡ self.old.engine.trail ++ record {
-          literal = tried_literal self.old.order variable;
+          literal = lit;
           reason = None;
         } ∷ [] }
         ensures longer { length self.new.engine.trail ≡ length self.old.engine.trail + 1 }
         ensures same { self.new ≡ record self.old { engine = self.new.engine } }
     {
-        let negated = !self.order.phase(variable);
-        self.engine.decide(Lit::new(variable, negated));
+        self.engine.decide(lit);
     }
 }
 
-/// The variables above this level may be decided again, with the value that they have now first.
-fn put_back(order: &mut Order, engine: &Engine, level: u32)
-    requires room { order.old.variables ≡ engine.now.variables }
-    requires within { All (λ l. l.variable ≤ order.old.variables) (literals_of engine.now.trail) }
-    ensures { order.new ≡ record order.old { phases = order.new.phases } }
+/// The variables above this level may be decided again.
+fn put_back(policy: &mut Policy, engine: &Engine, level: u32)
+    requires room { policy.old.variables ≡ engine.now.variables }
+    requires within { All (λ l. l.variable ≤ policy.old.variables) (literals_of engine.now.trail) }
+    ensures { policy.new ≡ policy.old }
 {
     let trail = engine.trail();
     let mut place = trail.len();
     while place > 0 {
         place -= 1;
         let lit = trail[place];
-        let variable = lit.variable();
-        if engine.level(variable).unwrap_or(0) <= level {
+        if engine.level(lit.variable()).unwrap_or(0) <= level {
             break;
         }
-        order.keep_phase(variable, !lit.is_negated());
-        order.put_back(variable);
+        policy.put_back(lit);
     }
 }

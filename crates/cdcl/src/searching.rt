@@ -1,6 +1,6 @@
 // The loop of a search (Handbook of Satisfiability, chapter on conflict-driven clause learning):
-// propagate, then learn from a conflict or decide. It starts over less and less often, and only
-// after a clause was learned since it last did; so a search is bounded by its budget and the
+// propagate, then learn from a conflict or decide. It starts over where its policy says so, which is
+// only after a clause was learned since it last did; so a search is bounded by its budget and the
 // variables without a value.
 ghost use Rattle.std.specs.Prelude.{◌≡◌, ◌≤◌, length, IfOk, OnOk, OnErr, IfSome, IfNone};
 ghost use Rattle.propagate.specs.Trail.{literals_of, depth_of};
@@ -18,7 +18,6 @@ use crate::noting::{note_units, refute};
 use crate::problem::Problem;
 use crate::reducing::reduce;
 use crate::search::Search;
-use cdcl_order::restarts::Powers;
 use clauses::store::CRef;
 use lrat_log::sink::Sink;
 use std::alloc::AllocError;
@@ -33,18 +32,6 @@ pub(crate) enum End {
     Refuted,
     /// Nothing is left of the budget.
     Spent,
-}
-
-/// Conflicts a term of the sequence.
-const RESTART: u64 = 100;
-
-/// When a search starts over.
-#[derive(Clone, Copy, Drop)]
-struct Pace {
-    // Where the sequence stands: its term, in hundreds of conflicts, is when it does next.
-    powers: Powers,
-    // How many conflicts came since it last did.
-    conflicts: u64,
 }
 
 /// Searches from level 0 until it has an answer or the budget is spent.
@@ -63,7 +50,7 @@ pub(crate) fn run<S: Sink>(
         budget.new }
     ensures err { OnErr result (StaysOpen problem.now (S.lines sink.new)) }
 {
-    search.backtrack(0);
+    search.begin();
     let found = search.propagate()?;
     match found {
         Some(conflict) => {
@@ -87,12 +74,8 @@ fn descend<S: Sink>(
         budget.new }
     ensures err { OnErr result (StaysOpen problem.now (S.lines sink.new)) }
 {
-    let mut pace = Pace {
-        powers: Powers::new(),
-        conflicts: 0,
-    };
     'rounds: loop {
-        match round(search, problem, sink, budget, &mut pace)? {
+        match round(search, problem, sink, budget)? {
             Some(end) => return Ok(end),
             None => {}
         }
@@ -105,21 +88,20 @@ fn round<S: Sink>(
     problem: &Problem,
     sink: &mut S,
     budget: &mut Budget,
-    pace: &mut Pace,
 ) -> Result<Option<End>, AllocError>
     requires runs { Runs search.old problem.now (S.lines sink.old) }
     ensures ends { IfOk result (λ next.
         IfSome next (IsEndOf search.new problem.now (S.lines sink.new) budget.new)) }
     ensures goes { IfOk result (λ next.
         IfNone next (GoesOn search.old search.new problem.now (S.lines sink.new) budget.old
-        budget.new pace.old.conflicts pace.new.conflicts)) }
+        budget.new)) }
     ensures pays { Pays problem.now.given.items (S.lines sink.old) (S.lines sink.new) budget.old
         budget.new }
     ensures err { OnErr result (StaysOpen problem.now (S.lines sink.new)) }
 {
     match search.propagate()? {
-        Some(conflict) => on_conflict(search, problem, sink, budget, pace, conflict),
-        None => on_quiet(search, problem, sink, budget, pace),
+        Some(conflict) => on_conflict(search, problem, sink, budget, conflict),
+        None => on_quiet(search, problem, sink, budget),
     }
 }
 
@@ -129,7 +111,6 @@ fn on_conflict<S: Sink>(
     problem: &Problem,
     sink: &mut S,
     budget: &mut Budget,
-    pace: &mut Pace,
     conflict: CRef,
 ) -> Result<Option<End>, AllocError>
     requires runs { Runs search.old problem.now (S.lines sink.old) }
@@ -138,7 +119,7 @@ fn on_conflict<S: Sink>(
         IfSome next (IsEndOf search.new problem.now (S.lines sink.new) budget.new)) }
     ensures goes { IfOk result (λ next.
         IfNone next (GoesOn search.old search.new problem.now (S.lines sink.new) budget.old
-        budget.new pace.old.conflicts pace.new.conflicts)) }
+        budget.new)) }
     ensures pays { Pays problem.now.given.items (S.lines sink.old) (S.lines sink.new) budget.old
         budget.new }
     ensures err { OnErr result (StaysOpen problem.now (S.lines sink.new)) }
@@ -152,18 +133,16 @@ fn on_conflict<S: Sink>(
     }
     learn(search, problem, sink, conflict)?;
     budget.count_learned();
-    pace.conflicts = pace.conflicts.saturating_add(1);
-    reduce(search, problem, sink)?;
     Ok(None)
 }
 
-/// Starts over or decides, if something is left of the budget.
+/// Starts over or decides, if something is left of the budget. Clauses are deleted after a decision:
+/// by then what was learned has been propagated, and each level below is quiet.
 fn on_quiet<S: Sink>(
     search: &mut Search,
     problem: &Problem,
     sink: &mut S,
     budget: &mut Budget,
-    pace: &mut Pace,
 ) -> Result<Option<End>, AllocError>
     requires runs { Runs search.old problem.now (S.lines sink.old) }
     requires quiet { IsQuiet search.old.store.slots (literals_of search.old.engine.trail) }
@@ -171,7 +150,7 @@ fn on_quiet<S: Sink>(
         IfSome next (IsEndOf search.new problem.now (S.lines sink.new) budget.new)) }
     ensures goes { IfOk result (λ next.
         IfNone next (GoesOn search.old search.new problem.now (S.lines sink.new) budget.old
-        budget.new pace.old.conflicts pace.new.conflicts)) }
+        budget.new)) }
     ensures pays { Pays problem.now.given.items (S.lines sink.old) (S.lines sink.new) budget.old
         budget.new }
     ensures err { OnErr result (StaysOpen problem.now (S.lines sink.new)) }
@@ -179,18 +158,16 @@ fn on_quiet<S: Sink>(
     if budget.left() == 0 {
         return Ok(Some(End::Spent));
     }
-    if pace.conflicts > 0 && pace.conflicts / RESTART >= pace.powers.term() {
-        pace.conflicts = 0;
-        pace.powers.advance();
-        search.backtrack(0);
+    if search.policy.is_restart_due() {
+        search.start_over();
         return Ok(None);
     }
     note_level(search, problem, sink)?;
-    if search.branch() {
-        Ok(None)
-    } else {
-        Ok(Some(End::Satisfied))
+    if !search.branch() {
+        return Ok(Some(End::Satisfied));
     }
+    reduce(search, problem, sink)?;
+    Ok(None)
 }
 
 /// Writes down what is true at level 0, if that is the current level; above it that is done.
@@ -203,6 +180,7 @@ fn note_level<S: Sink>(
     ensures runs { OnOk result (Runs search.new problem.now (S.lines sink.new)) }
     ensures all { OnOk result (length (zero_of search.new.engine.trail) ≤ search.new.noted) }
     ensures trail { OnOk result (search.new.engine.trail ≡ search.old.engine.trail) }
+    ensures policy { OnOk result (search.new.policy ≡ search.old.policy) }
     ensures quiet { OnOk result
         (IsQuiet search.old.store.slots (literals_of search.old.engine.trail)
         → IsQuiet search.new.store.slots (literals_of search.new.engine.trail)) }

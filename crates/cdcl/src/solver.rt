@@ -186,7 +186,7 @@ impl<S: Sink> Solver<S> {
     pub fn weigh(&mut self, lit: Lit, weight: u64)
         ensures same { self.new ≡ self.old }
     {
-        self.search.order.weigh(lit.variable(), weight);
+        self.search.policy.weigh(lit.variable(), weight);
     }
 
     /// Searches until it has an answer or the budget is spent. Each call begins at level 0, with

@@ -11,7 +11,7 @@ ghost use Rattle.lrat_log.specs.Steps.{given_of};
 
 use crate::search::Search;
 use analyze::learning::Analyzer;
-use cdcl_order::order::Order;
+use cdcl_order::policy::Policy;
 use clauses::store::{CRef, MaybeCRef, Store};
 use eliminate::elimination::Stack;
 use lrat_log::lines::{Name, Number};
@@ -107,7 +107,7 @@ pub(crate) fn start(store: Store, stack: &Stack, additions: u64) -> Result<Searc
     let engine = engine_of(alloc, &store, variables, stack.names())?;
     let units = Vec::from_elem(alloc, MaybeCRef::new(None), variables as usize)?;
     let stamps = Vec::from_elem(alloc, 0, variables as usize)?;
-    let order = Order::new(alloc, variables)?;
+    let policy = Policy::new(alloc, variables)?;
     let analyzer = Analyzer::new(alloc, variables)?;
     Ok(Search {
         store,
@@ -118,9 +118,7 @@ pub(crate) fn start(store: Store, stack: &Stack, additions: u64) -> Result<Searc
         kept: additions,
         additions,
         stamps,
-        order,
+        policy,
         analyzer,
-        long: 0,
-        reductions: 0,
     })
 }

@@ -1,1 +1,2 @@
-mod LongerHalf
+mod Stamps
+mod WorseHalf

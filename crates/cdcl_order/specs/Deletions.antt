@@ -1,26 +1,68 @@
--- Which learned clauses are deleted, and when. A clause is given as its length and its reference.
-use Rattle.std.specs.Prelude.{◌≡◌, ℕ, ◌+◌, ◌*◌, ◌/◌, ◌≤◌, nat_lt, Bool, List, ◌++◌, length, All}
-use Rattle.std.specs.Prelude.{IsPermutation, IsSortedBy}
+-- Which learned clauses are deleted, and when.
+use Rattle.std.specs.Prelude.{◌≡◌, ℕ, ◌+◌, ◌-◌, ◌*◌, ◌/◌, nat_lt, Bool, false, List, [], ◌∷◌, ◌++◌}
+use Rattle.std.specs.Prelude.{length, map, All, fold, if◌then◌else◌, IsPermutation, IsSortedBy}
 use Rattle.std.specs.List.Sorted.{IsStableBy}
+use Rattle.std.specs.Ordering.{nat_cmp, ordering_then, is_lt}
+use Rattle.cdcl_order.specs.Standings.{StandingsState, standing_at, with_standing}
+use Rattle.cdcl_order.specs.declared.deletions.Candidate.{Candidate}
+use Rattle.cdcl_order.specs.declared.deletions.Ranked.{Ranked}
 
 -- so many long learned clauses are live when the next deletion comes
 abbrev pub due_at : ℕ → ℕ
 due_at deletions = 2000 + 300 * deletions
 
--- the first clause has more literals
-abbrev pub is_longer : ℕ × ℕ → ℕ × ℕ → Bool
-is_longer c d = nat_lt d.0 c.0
+-- Clauses that are spared.
 
--- none of the chosen ones is shorter than one of the others
-abbrev pub AreLonger : List (ℕ × ℕ) → List (ℕ × ℕ) → Type 0
-AreLonger chosen others = All (λ c. All (λ o. o.0 ≤ c.0) others) chosen
+-- the standings, with what was taken from them, and the clauses that are not spared
+pub record Sifted : Type 0 where
+  pub standings : StandingsState
+  pub rest : List Ranked
 
--- all of them are the chosen ones, the longest first, and the others; of those of one length the
--- earlier comes first
-pub record IsLongerHalf (all chosen : List (ℕ × ℕ)) : Type 0 where
-  pub others : List (ℕ × ℕ)
+-- a clause that was used lately loses a use, one of distance 2 or less stays, another is not spared
+abbrev pub sift_one : Sifted → Candidate → Sifted
+sift_one s c =
+    let t = standing_at s.standings c.reference in
+    if nat_lt 0 t.used then record s {
+      standings = with_standing s.standings c.reference (record t { used = t.used - 1 });
+    }
+    else if nat_lt 2 t.distance then record s {
+      rest = s.rest ++ record {
+        distance = t.distance;
+        length = c.length;
+        reference = c.reference;
+      } ∷ [];
+    }
+    else s
+
+abbrev pub sifted : StandingsState → List Candidate → Sifted
+sifted s candidates = fold sift_one (record { standings = s; rest = [] }) candidates
+
+-- The worse half.
+
+-- the first clause has the greater distance, or the same and more literals
+abbrev pub is_worse : Ranked → Ranked → Bool
+is_worse c d = is_lt (ordering_then (nat_cmp d.distance c.distance) (nat_cmp d.length c.length))
+
+-- none of the others is worse than one of the chosen
+abbrev pub AreWorse : List Ranked → List Ranked → Type 0
+AreWorse chosen others = All (λ c. All (λ o. is_worse o c ≡ false) others) chosen
+
+-- all of them are the chosen ones, the worst first, and the others; of equal ones the earlier
+-- comes first
+pub record IsWorseHalf (all chosen : List Ranked) : Type 0 where
+  pub others : List Ranked
   pub same : IsPermutation all (chosen ++ others)
   pub half : length chosen ≡ length all / 2
-  pub longer : AreLonger chosen others
-  pub falling : IsSortedBy is_longer (chosen ++ others)
-  pub stable : IsStableBy is_longer all (chosen ++ others)
+  pub worse : AreWorse chosen others
+  pub falling : IsSortedBy is_worse (chosen ++ others)
+  pub stable : IsStableBy is_worse all (chosen ++ others)
+
+-- What goes.
+
+-- the worse half of the clauses that are not spared
+pub record IsChosen (old new : StandingsState) (candidates : List Candidate)
+    (chosen : List ℕ) : Type 0 where
+  pub worse : List Ranked
+  pub half : IsWorseHalf (sifted old candidates).rest worse
+  pub are : chosen ≡ map (λ r. r.reference) worse
+  pub standings : new ≡ (sifted old candidates).standings

@@ -1,10 +1,12 @@
-// Which learned clauses are deleted, and when. All of it is policy: a search tests each clause that
-// is chosen before it deletes it.
-ghost use Rattle.std.specs.Prelude.{◌≡◌, ◌≤◌, ◌↔◌, IsTrue, OnOk, OnErr};
-ghost use Rattle.cdcl_order.specs.Deletions.{due_at, IsLongerHalf};
+// Which learned clauses are deleted, and when: the tiers of Glucose and CaDiCaL (Audemard and Simon
+// 2009; Oh 2015). A clause whose literals stood in few levels stays, one that served in a conflict
+// lately outlives a deletion or two, and of the others the worse half goes.
+ghost use Rattle.std.specs.Prelude.{◌≡◌, ◌≤◌, ◌↔◌, IsTrue, OnOk, IfOk};
+ghost use Rattle.cdcl_order.specs.Deletions.{due_at, sifted, IsWorseHalf, IsChosen};
 
+use crate::standings::{KEPT, Standing, Standings};
 use clauses::store::CRef;
-use std::alloc::AllocError;
+use std::alloc::{AllocError, Global};
 
 /// The first deletion comes at so many long learned clauses.
 const FIRST: u64 = 2000;
@@ -12,22 +14,86 @@ const FIRST: u64 = 2000;
 /// Each further one at so many more.
 const MORE: u64 = 300;
 
+/// A learned clause that may be deleted.
+#[derive(Drop)]
+pub struct Candidate {
+    /// How many literals it has.
+    pub length: usize,
+    /// Its reference.
+    pub reference: CRef,
+}
+
+/// A clause that may be deleted, with what tells how bad it is.
+#[derive(Drop)]
+pub(crate) struct Ranked {
+    // Its block distance.
+    distance: u32,
+    // How many literals it has.
+    length: usize,
+    // Its reference.
+    reference: CRef,
+}
+
 /// Whether it is time to delete, where so many long learned clauses are live after so many
 /// deletions.
-pub fn is_due(live: usize, deletions: u64) -> bool
+pub(crate) fn is_due(live: usize, deletions: u64) -> bool
     ensures { IsTrue result ↔ due_at deletions ≤ live }
 {
     let live = live as u64;
     live >= FIRST && (live - FIRST) / MORE >= deletions
 }
 
-/// Keeps the longer half of these clauses, rounded down, each with its length, the longest first;
-/// of equal ones the older, which stands before. Where memory is refused they stay.
-pub fn longer_half(clauses: &mut Vec<(u32, CRef)>) -> Result<(), AllocError>
-    ensures half { OnOk result (IsLongerHalf clauses.old.items clauses.new.items) }
-    ensures err { OnErr result (clauses.new.items ≡ clauses.old.items) }
+/// Of these clauses, the older first, those that are to go. Where memory is refused some may have
+/// lost a use.
+pub(crate) fn choose(
+    alloc: Global,
+    standings: &mut Standings,
+    candidates: &[Candidate],
+) -> Result<Vec<CRef>, AllocError>
+    ensures { IfOk result
+        (λ chosen. IsChosen standings.old standings.new candidates.now chosen.items) }
 {
-    clauses.sort_by(|(one, _), (other, _)| other.cmp(one))?;
+    let mut rest = sift(alloc, standings, candidates)?;
+    worse_half(&mut rest)?;
+    rest.iter().map(|ranked| ranked.reference).collect(alloc)
+}
+
+/// Takes a use from each clause that has one left, and answers those that had none and are not
+/// kept for their distance.
+fn sift(
+    alloc: Global,
+    standings: &mut Standings,
+    candidates: &[Candidate],
+) -> Result<Vec<Ranked>, AllocError>
+    ensures { IfOk result (λ rest. sifted standings.old candidates.now
+        ≡ record { standings = standings.new; rest = rest.items }) }
+{
+    let mut rest = Vec::new(alloc);
+    for candidate in candidates {
+        let standing = standings.get(candidate.reference);
+        if standing.used > 0 {
+            let less = Standing {
+                distance: standing.distance,
+                used: standing.used - 1,
+            };
+            standings.set(candidate.reference, less);
+        } else if standing.distance > KEPT {
+            rest.push(Ranked {
+                distance: standing.distance,
+                length: candidate.length,
+                reference: candidate.reference,
+            })?;
+        }
+    }
+    Ok(rest)
+}
+
+/// Keeps the worse half of these clauses, rounded down: the greater distance first, then the
+/// longer, then the older, which stands before. Where memory is refused they stay.
+fn worse_half(clauses: &mut Vec<Ranked>) -> Result<(), AllocError>
+    ensures half { OnOk result (IsWorseHalf clauses.old.items clauses.new.items) }
+{
+    clauses.sort_by(|one, other| (other.distance, other.length).cmp(&(one.distance, one.length)))?;
     let half = clauses.len() / 2;
     clauses.truncate(half);
     Ok(())

@@ -16,9 +16,9 @@ use Rattle.cdcl.proofs.HintNames.{hint_ids}
 use Rattle.cdcl.proofs.Written.{writes_learned}
 use Rattle.cdcl.proofs.MoreMoves.{learn_is_new}
 use Rattle.cdcl.proofs.Lessons.{refutes_live, live_attached, conflict_of, all_noted}
-use Rattle.cdcl.proofs.Lessons.{asserting_within, back_low, is_lesson, runs_learned, runs_long}
+use Rattle.cdcl.proofs.Lessons.{asserting_within, back_low, is_lesson, runs_learned}
+use Rattle.cdcl.proofs.EngineMoves.{runs_chosen}
 use Rattle.cdcl.proofs.learning.learn.Goals as goal
-use Rattle.cdcl.proofs.learning.learn.Goals.{then-as_slice-gt2, else-as_slice-gt2}
 
 pub analyze-requires-clause-falsified : goal.analyze-requires-clause-falsified
 analyze-requires-clause-falsified g c =
@@ -42,12 +42,26 @@ hints_of-requires-clause-noted g c =
     (all_noted s.store.slots s.engine.trail s.units.items s.noted c.as_slice.result.now
     c.requires.runs.running.units c.requires.deep)
 
+pub learn_from-distance-requires-clause-hints : goal.learn_from-distance-requires-clause-hints
+learn_from-distance-requires-clause-hints g c =
+    let s = c.args.search.now in
+    let learned = c.in_ok-learned.learned in
+    live_attached s.engine s.store.slots learned.hints.items c.requires.runs.running.searches
+    (refutes_live s.store.slots _ learned.hints.items c.in_ok-learned.ensures.hints)
+
+pub learn_from-distance-requires-clause-within : goal.learn_from-distance-requires-clause-within
+learn_from-distance-requires-clause-within g c =
+    let s = c.args.search.now in
+    let learned = c.in_ok-learned.learned in
+    asserting_within s.engine s.store.slots learned.lits.items learned.back_level
+    c.requires.runs.running.searches.fits c.in_ok-learned.ensures.asserting
+
 pub backtrack-requires-clause-level : goal.backtrack-requires-clause-level
 backtrack-requires-clause-level g c =
     let s = c.args.search.now in
     let learned = c.in_ok-learned.learned in
-    let same : depth_of c.bump.new.self.engine.trail ≡ depth_of s.engine.trail =
-    ap (λ (x : Search). depth_of (x.engine).trail) c.bump.ensures.same in
+    let same : depth_of c.learn_from-distance.new.self.engine.trail ≡ depth_of s.engine.trail =
+    ap (λ (x : Search). depth_of (x.engine).trail) c.learn_from-distance.ensures.same in
     let low =
     back_low s.engine.trail learned.lits.items learned.back_level
     c.in_ok-learned.ensures.asserting in
@@ -62,7 +76,7 @@ add_line-requires-clause-within g c =
     c.requires.runs.running.searches.fits c.in_ok-learned.ensures.asserting in
     let same : c.backtrack.new.self.engine.variables ≡ s.engine.variables =
     c.backtrack.ensures.variables
-    ∙ ap (λ (x : Search). (x.engine).variables) c.bump.ensures.same in
+    ∙ ap (λ (x : Search). (x.engine).variables) c.learn_from-distance.ensures.same in
     subst (λ n. IsWithin n c.as_slice-2.result.now) (sym same)
     (subst (IsWithin s.engine.variables) (sym c.as_slice-2.ensures) within)
 
@@ -103,22 +117,22 @@ returns-clause-runs g c =
       clause = c.as_slice-2.result.now;
       hints = c.in_ok-hints.hints.items;
     } in
-    let bumped : IsRunning c.bump.new.self.engine c.bump.new.self.store.slots p.stack
-    (tables_of c.bump.new.self) p.frozen.items p.first p.given.items ls =
+    let bumped : IsRunning c.learn_from-distance.new.self.engine c.learn_from-distance.new.self.store.slots p.stack
+    (tables_of c.learn_from-distance.new.self) p.frozen.items p.first p.given.items ls =
     subst (λ (x : Search). IsRunning x.engine (x.store).slots p.stack (tables_of x) p.frozen.items
-    p.first p.given.items ls) (sym c.bump.ensures.same) c.requires.runs.running in
+    p.first p.given.items ls) (sym c.learn_from-distance.ensures.same) c.requires.runs.running in
     let moved = c.backtrack.ensures.state p ls bumped in
     let trail : m.engine.trail ≡ kept_to learned.back_level T = c.backtrack.ensures.trail
-    ∙ ap (λ (x : Search). kept_to learned.back_level (x.engine).trail) c.bump.ensures.same in
+    ∙ ap (λ (x : Search). kept_to learned.back_level (x.engine).trail) c.learn_from-distance.ensures.same in
     let long : length c.hints_of.new.stamps ≡ s.stamps.len =
     c.hints_of.ensures.long ∙ ap length c.deref_mut.ensures.value ∙ sym s.stamps.ok.0 in
     let stamps : m.stamps.items ≡ c.hints_of.new.stamps =
     ap (λ (x : Search). (x.stamps).items) c.backtrack.ensures.engine
-    ∙ ap (λ (x : Search). (x.stamps).items) c.bump.ensures.same
+    ∙ ap (λ (x : Search). (x.stamps).items) c.learn_from-distance.ensures.same
     ∙ with_items_is s.stamps c.hints_of.new.stamps long in
     let additions : m.additions ≡ s.additions =
     ap (λ (x : Search). x.additions) c.backtrack.ensures.engine
-    ∙ ap (λ (x : Search). x.additions) c.bump.ensures.same in
+    ∙ ap (λ (x : Search). x.additions) c.learn_from-distance.ensures.same in
     let past : All (λ x. x ≤ m.additions + 1) m.stamps.items =
     subst (λ k. All (λ x. x ≤ k + 1) m.stamps.items) (sym additions)
     (subst (All (λ x. x ≤ s.additions + 1)) (sym stamps) c.hints_of.ensures.past) in
@@ -128,12 +142,7 @@ returns-clause-runs g c =
     c.in_ok-reference.ensures.additions c.in_ok-reference.ensures.few in
     let written : Runs n p (g.S.Sink.lines c.add_line.new.sink) =
     subst (Runs n p) (sym c.in_ok-reference.ensures.lines) on in
-    elim c.if-as_slice-gt2.branch [
-      | then-as_slice-gt2 x ↦
-          runs_long n c.if-as_slice-gt2.search x.saturating_add-search.result p _
-          x.search-is written
-      | else-as_slice-gt2 x ↦ runs_long n c.if-as_slice-gt2.search n.long p _ x.search-is written
-    ]
+    runs_chosen n c.keep.new.self p _ (ap (λ x. x.variables) c.keep.ensures) written
 
 pub returns-clause-writes : goal.returns-clause-writes
 returns-clause-writes g c =

@@ -144,7 +144,7 @@ returns-clause-runs g c =
     let stamps : (with_items s.stamps c.hints_of.new.stamps).items ≡ c.hints_of.new.stamps =
     with_items_is s.stamps c.hints_of.new.stamps (long ∙ sym (s.stamps).ok.0) in
     let room : HasRoom (record s { stamps = with_items s.stamps c.hints_of.new.stamps }) = record {
-      order = c.requires.runs.room.order;
+      policy = c.requires.runs.room.policy;
       analyzer = c.requires.runs.room.analyzer;
       few = c.requires.runs.room.few;
       stamps = ap length stamps ∙ long ∙ c.requires.runs.room.stamps;
@@ -167,6 +167,6 @@ returns-clause-runs g c =
       kept = refl;
       additions = refl;
       stamps = refl;
-      order = refl;
+      policy = refl;
       analyzer = refl;
     }))

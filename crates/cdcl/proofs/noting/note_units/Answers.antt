@@ -17,7 +17,7 @@ loop-search-preserved g c =
     (g.S.Sink.lines c.args.sink.now) (g.S.Sink.lines c.loop-search.sink)
     (g.S.Sink.lines c.note_unit.new.sink) c.loop-search.invariant
     (let t = c.loop-search-test.true in let a = c.assigned.ensures.len in
-    omega arith) e.runs e.trail e.variables e.slots e.writes
+    omega arith) e.runs e.trail e.variables e.policy e.slots e.writes
 
 pub returns-clause-all : goal.returns-clause-all
 returns-clause-all g c =

@@ -65,11 +65,12 @@ returns-clause-deleting g c =
     subst (λ k. is_doomed doomed k ≡ true) c.index.ensures c.if-not-doomed-index.false in
     let l : LogLine =
     record { kind = Delete; clause = c.new.result.items; hints = c.push.new.self.items } in
-    let k = c.saturating_sub-search.result in
-    let more = deleting_more s k p ls l doomed r live.0 d live.1 on refl hints in
-    subst (λ x. IsDeleting (record s { store = c.delete.new.self; long = k }) p x doomed)
+    let k = c.count_deleted.new.self in
+    let more =
+    deleting_more s k p ls l doomed r live.0 d live.1 on refl hints c.count_deleted.ensures in
+    subst (λ x. IsDeleting (record s { store = c.delete.new.self; policy = k }) p x doomed)
     (sym (c.in_ok-append.ensures.ok ∙ ap (λ x. ls ++ x ∷ []) c.new-2.ensures))
-    (subst (λ (x : StoreState). IsDeleting (record s { store = x; long = k }) p (ls ++ l ∷ [])
+    (subst (λ (x : StoreState). IsDeleting (record s { store = x; policy = k }) p (ls ++ l ∷ [])
     doomed) (sym c.delete.ensures) more)
 
 pub returns-clause-gone : goal.returns-clause-gone

@@ -1,6 +1,7 @@
-use Rattle.std.proofs.Common.{◌≡◌, ℕ, true, sym, ◌∙◌, ap, subst, get_or, length, arith}
+use Rattle.std.proofs.Common.{◌≡◌, List, true, refl, sym, ◌∙◌, ap, subst, get_or, length, arith}
 use Rattle.std.proofs.lemmas.List.{get_or_default}
 use Rattle.clauses.specs.Slots.{IsLive}
+use Rattle.propagate.specs.Trail.{Assigned}
 use Rattle.propagate.specs.Watches.{EngineState}
 use Rattle.propagate.specs.Doomed.{is_doomed}
 use Rattle.lrat_log.proofs.Laws.{when_err}
@@ -36,6 +37,8 @@ loop-reference-init g c =
           (g.S.Sink.lines c.args.sink.now)) c.deref.ensures.value starts;
       gone = λ i below. absurd (omega arith);
       variables = d.same.1;
+      long = ap (λ (T : List Assigned). length T) d.same.0;
+      policy = refl;
       writes = writes_none c.args.problem.now.given.items (g.S.Sink.lines c.args.sink.now);
     }
 
@@ -44,17 +47,13 @@ loop-reference-preserved g c =
     let d = c.in_ok-delete.ensures in
     let l = c.loop-reference in
     let ms = c.args.chosen.now in
-    let q = c.loop-reference-item.result.1 in
+    let q = c.reference-item.result in
     let doomed = c.in_ok-doomed.doomed.items in
     let problem = c.args.problem.now in
     let before = g.S.Sink.lines c.args.sink.now in
-    let at : (get_or ms l.reference-index (0, 0)).1 ≡ q =
-    ap (λ (p : ℕ × ℕ). p.1)
-    (sym (get_or_default ms l.reference-index c.loop-reference-item.result (
-      0,
-      0,
-    ) c.loop-reference-test.true))
-    ∙ ap (λ (p : ℕ × ℕ). p.1) (sym c.loop-reference-item.is) in
+    let at : get_or ms l.reference-index 0 ≡ q =
+    sym (get_or_default ms l.reference-index q 0 c.loop-reference-test.true)
+    ∙ sym c.reference-item.is in
     record {
       deleting =
           subst (IsDeleting c.delete.new.search problem (g.S.Sink.lines c.delete.new.sink))
@@ -66,6 +65,8 @@ loop-reference-preserved g c =
           (subst (λ ds. is_doomed ds q ≡ true → IsLive c.delete.new.search.store.slots q
           → ⊥) c.deref-in-loop-reference.ensures.value d.gone) at;
       variables = ap (λ (e : EngineState). e.variables) d.engine ∙ l.invariant.variables;
+      long = ap (λ (e : EngineState). length e.trail) d.engine ∙ l.invariant.long;
+      policy = d.policy ∙ l.invariant.policy;
       writes =
           writes_join problem.given.items before (g.S.Sink.lines l.sink)
           (g.S.Sink.lines c.delete.new.sink) 0 0 l.invariant.writes d.writes;

@@ -1,4 +1,4 @@
-use Rattle.std.proofs.Common.{◌≡◌}
+use Rattle.std.proofs.Common.{◌≡◌, length}
 use Rattle.cdcl.specs.Running.{Writes}
 use Rattle.cdcl.specs.Deletions.{IsDeleting}
 use Rattle.cdcl.proofs.Deleting.{AreGone}
@@ -9,5 +9,7 @@ invariant-loop-reference g l = record {
   deleting : IsDeleting l.search l.problem (g.S.Sink.lines l.sink) l.doomed.items;
   gone : AreGone l.search.store.slots l.chosen l.reference-index l.doomed.items;
   variables : l.search.engine.variables ≡ l.fn.search.engine.variables;
+  long : length l.search.engine.trail ≡ length l.fn.search.engine.trail;
+  policy : l.search.policy ≡ l.fn.search.policy;
   writes : Writes l.problem.given.items (g.S.Sink.lines l.fn.sink) (g.S.Sink.lines l.sink) 0;
 }

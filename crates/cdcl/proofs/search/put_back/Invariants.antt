@@ -4,7 +4,7 @@ use Rattle.cdcl.proofs.search.put_back.Given as goal
 abbrev pub invariant-loop-place : goal.invariant-loop-place
 invariant-loop-place l = record {
   within : l.place ≤ length l.trail;
-  same : l.order ≡ record l.initial.order { phases = l.order.phases };
+  same : l.policy ≡ l.initial.policy;
 }
 
 abbrev pub decreases-loop-place : goal.decreases-loop-place

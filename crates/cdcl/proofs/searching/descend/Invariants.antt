@@ -10,4 +10,4 @@ invariant-rounds g l = record {
 }
 
 abbrev pub decreases-rounds : goal.decreases-rounds
-decreases-rounds g l = rounds_left l.search l.budget l.pace.conflicts
+decreases-rounds g l = rounds_left l.search l.budget

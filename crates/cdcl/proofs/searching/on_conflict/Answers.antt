@@ -1,7 +1,6 @@
 use Rattle.std.proofs.Common.{◌-◌, sym, ◌∙◌, subst, arith}
 use Rattle.propagate.specs.Trail.{literals_of, depth_of, kept_to}
 use Rattle.cdcl.specs.Running.{Pays}
-use Rattle.cdcl.proofs.Written.{writes_join}
 use Rattle.cdcl.proofs.Rounds.{pays_nothing, goes_learned}
 use Rattle.cdcl.proofs.searching.on_conflict.Goals as goal
 
@@ -29,28 +28,12 @@ returns-in_err-learn-clause-pays g c =
     subst (λ x. Pays given ls x c.args.budget.now c.args.budget.now)
     (sym c.in_err-learn.ensures.err) (pays_nothing given ls c.args.budget.now)
 
-pub returns-in_err-reduce-clause-pays : goal.returns-in_err-reduce-clause-pays
-returns-in_err-reduce-clause-pays g c = (
-  1,
-  writes_join c.args.problem.now.given.items (g.S.Sink.lines c.args.sink.now)
-      (g.S.Sink.lines c.learn.new.sink) (g.S.Sink.lines c.reduce.new.sink) 1 0
-      c.in_ok-learn.ensures.writes c.reduce.ensures.writes,
-  c.count_learned.ensures,
-)
-
 pub returns-clause-pays : goal.returns-clause-pays
-returns-clause-pays g c = (
-  1,
-  writes_join c.args.problem.now.given.items (g.S.Sink.lines c.args.sink.now)
-      (g.S.Sink.lines c.learn.new.sink) (g.S.Sink.lines c.reduce.new.sink) 1 0
-      c.in_ok-learn.ensures.writes c.reduce.ensures.writes,
-  c.count_learned.ensures,
-)
+returns-clause-pays g c = (1, c.in_ok-learn.ensures.writes, c.count_learned.ensures)
 
 pub returns-clause-goes : goal.returns-clause-goes
 returns-clause-goes g c =
-    goes_learned c.args.search.now c.reduce.new.search c.args.problem.now
-    (g.S.Sink.lines c.reduce.new.sink) c.args.budget.now c.count_learned.new.self
-    c.args.pace.now.conflicts _
-    c.in_ok-reduce.ensures.runs (c.in_ok-reduce.ensures.variables ∙ c.in_ok-learn.ensures.variables)
+    goes_learned c.args.search.now c.learn.new.search c.args.problem.now
+    (g.S.Sink.lines c.learn.new.sink) c.args.budget.now c.count_learned.new.self
+    c.in_ok-learn.ensures.runs c.in_ok-learn.ensures.variables
     c.count_learned.ensures (omega (arith, c.left.ensures.left, c.if-left-eq0.false))

@@ -4,6 +4,8 @@ use Rattle.propagate.specs.Watches.{EngineState}
 use Rattle.clauses.specs.Slots.{StoreState}
 use Rattle.analyze.specs.Learning.{IsQuiet}
 use Rattle.cdcl_order.specs.Orders.{AreClosed}
+use Rattle.cdcl_order.specs.Policies.{PolicyState}
+use Rattle.cdcl.proofs.Written.{writes_join}
 use Rattle.cdcl.proofs.Rounds.{pays_nothing, pays_none, goes_over, goes_decided}
 use Rattle.cdcl.proofs.searching.on_quiet.Goals as goal
 
@@ -11,54 +13,73 @@ pub returns-then-left-eq0-clause-pays : goal.returns-then-left-eq0-clause-pays
 returns-then-left-eq0-clause-pays g c =
     pays_nothing c.args.problem.now.given.items (g.S.Sink.lines c.args.sink.now) c.args.budget.now
 
-pub returns-then-pace-term-clause-pays : goal.returns-then-pace-term-clause-pays
-returns-then-pace-term-clause-pays g c =
+pub returns-then-is_restart_due-clause-pays : goal.returns-then-is_restart_due-clause-pays
+returns-then-is_restart_due-clause-pays g c =
     pays_nothing c.args.problem.now.given.items (g.S.Sink.lines c.args.sink.now) c.args.budget.now
 
-pub returns-then-pace-term-clause-goes : goal.returns-then-pace-term-clause-goes
-returns-then-pace-term-clause-goes g c =
+pub returns-then-is_restart_due-clause-goes : goal.returns-then-is_restart_due-clause-goes
+returns-then-is_restart_due-clause-goes g c =
     let ls = g.S.Sink.lines c.args.sink.now in
     let p = c.args.problem.now in
-    goes_over c.args.search.now c.backtrack.new.self p ls c.args.budget.now
-    c.args.pace.now.conflicts (c.backtrack.ensures.runs p ls c.requires.runs)
-    c.backtrack.ensures.variables (omega arith)
+    let o = c.start_over.ensures in
+    goes_over c.args.search.now c.start_over.new.self p ls c.args.budget.now
+    (o.runs p ls c.requires.runs) o.variables (c.is_restart_due.ensures c.if-is_restart_due.true)
+    o.policy
 
 pub branch-search-requires-clause-quiet : goal.branch-search-requires-clause-quiet
 branch-search-requires-clause-quiet g c = c.in_ok-note_level.ensures.quiet c.requires.quiet
 
-pub returns-then-branch-clause-goes : goal.returns-then-branch-clause-goes
-returns-then-branch-clause-goes g c =
+pub returns-clause-goes : goal.returns-clause-goes
+returns-clause-goes g c =
     let s = c.args.search.now in
     let p = c.args.problem.now in
-    let n = c.note_level.new.search in
+    let n = c.in_ok-note_level.ensures in
     let b = c.branch-search.ensures in
-    let ls = g.S.Sink.lines c.note_level.new.sink in
-    let same : length n.engine.trail ≡ length s.engine.trail =
-    ap (λ (T : List Assigned). length T) c.in_ok-note_level.ensures.trail in
-    let longer = b.longer c.if-branch.true in
-    goes_decided s c.branch-search.new.self p ls c.args.budget.now c.args.pace.now.conflicts
-    (b.runs p ls c.in_ok-note_level.ensures.runs) (b.variables
-    ∙ c.in_ok-note_level.ensures.variables)
-    (omega arith) (omega (arith, b.within, c.in_ok-note_level.ensures.variables))
+    let r = c.in_ok-reduce.ensures in
+    let same : length c.note_level.new.search.engine.trail ≡ length s.engine.trail =
+    ap (λ (T : List Assigned). length T) n.trail in
+    let longer = b.longer c.if-not-branch.false in
+    goes_decided s c.reduce.new.search p (g.S.Sink.lines c.reduce.new.sink) c.args.budget.now
+    r.runs (r.variables ∙ b.variables ∙ n.variables)
+    (ap (λ (x : PolicyState). x.has_learned) (r.policy ∙ b.policy ∙ n.policy))
+    (let l = r.long in omega arith) (omega (arith, b.within, n.variables))
 
-pub returns-then-branch-clause-pays : goal.returns-then-branch-clause-pays
-returns-then-branch-clause-pays g c =
+pub reduce-requires : goal.reduce-requires
+reduce-requires g c = record {
+  runs = c.branch-search.ensures.runs c.args.problem.now (g.S.Sink.lines c.note_level.new.sink)
+      c.in_ok-note_level.ensures.runs;
+}
+
+-- what was written before and by a deletion
+pub returns-in_err-reduce-clause-pays : goal.returns-in_err-reduce-clause-pays
+returns-in_err-reduce-clause-pays g c =
+    pays_none c.args.problem.now.given.items (g.S.Sink.lines c.args.sink.now)
+    (g.S.Sink.lines c.reduce.new.sink) c.args.budget.now
+    (writes_join c.args.problem.now.given.items (g.S.Sink.lines c.args.sink.now)
+    (g.S.Sink.lines c.note_level.new.sink) (g.S.Sink.lines c.reduce.new.sink) 0 0
+    c.note_level.ensures.writes c.reduce.ensures.writes)
+
+pub returns-clause-pays : goal.returns-clause-pays
+returns-clause-pays g c =
+    pays_none c.args.problem.now.given.items (g.S.Sink.lines c.args.sink.now)
+    (g.S.Sink.lines c.reduce.new.sink) c.args.budget.now
+    (writes_join c.args.problem.now.given.items (g.S.Sink.lines c.args.sink.now)
+    (g.S.Sink.lines c.note_level.new.sink) (g.S.Sink.lines c.reduce.new.sink) 0 0
+    c.note_level.ensures.writes c.reduce.ensures.writes)
+
+pub returns-then-not-branch-clause-pays : goal.returns-then-not-branch-clause-pays
+returns-then-not-branch-clause-pays g c =
     pays_none c.args.problem.now.given.items (g.S.Sink.lines c.args.sink.now)
     (g.S.Sink.lines c.note_level.new.sink) c.args.budget.now c.note_level.ensures.writes
 
-pub returns-else-branch-clause-pays : goal.returns-else-branch-clause-pays
-returns-else-branch-clause-pays g c =
-    pays_none c.args.problem.now.given.items (g.S.Sink.lines c.args.sink.now)
-    (g.S.Sink.lines c.note_level.new.sink) c.args.budget.now c.note_level.ensures.writes
-
-pub returns-else-branch-clause-ends : goal.returns-else-branch-clause-ends
-returns-else-branch-clause-ends g c =
+pub returns-then-not-branch-clause-ends : goal.returns-then-not-branch-clause-ends
+returns-then-not-branch-clause-ends g c =
     let p = c.args.problem.now in
     let n = c.note_level.new.search in
     let b = c.branch-search.ensures in
     let f = c.branch-search.new.self in
     let ls = g.S.Sink.lines c.note_level.new.sink in
-    let stays = b.stays c.if-branch.false in
+    let stays = b.stays c.if-not-branch.true in
     record {
       runs = b.runs p ls c.in_ok-note_level.ensures.runs;
       quiet = subst (λ (e : EngineState). IsQuiet f.store.slots (literals_of e.trail)) (sym stays)
@@ -66,6 +87,6 @@ returns-else-branch-clause-ends g c =
           (c.in_ok-note_level.ensures.quiet c.requires.quiet));
       closed =
           subst (λ (e : EngineState). AreClosed e.trail e.variables) (sym stays)
-          (b.closed c.if-branch.false);
+          (b.closed c.if-not-branch.true);
       left = omega (arith, c.left.ensures.left, c.if-left-eq0.false);
     }

@@ -25,20 +25,20 @@ pub refute-requires-clause-runs : goal.refute-requires-clause-runs
 refute-requires-clause-runs g c =
     let p = c.args.problem.now in
     let ls = g.S.Sink.lines c.args.sink.now in
-    c.in_ok-found.ensures.runs p ls (c.backtrack.ensures.runs p ls c.requires.runs)
+    c.in_ok-found.ensures.runs p ls (c.begin.ensures.runs p ls c.requires.runs)
 
 pub refute-requires-clause-flat : goal.refute-requires-clause-flat
 refute-requires-clause-flat g c =
     let low = kept_low 0 (c.args.search.now.engine).trail in
     let none : depth_of (kept_to 0 (c.args.search.now.engine).trail) ≡ 0 = omega arith in
-    c.in_ok-found.ensures.depth ∙ ap depth_of c.backtrack.ensures.trail ∙ none
+    c.in_ok-found.ensures.depth ∙ ap depth_of c.begin.ensures.trail ∙ none
 
 pub descend-requires : goal.descend-requires
 descend-requires g c =
     let p = c.args.problem.now in
     let ls = g.S.Sink.lines c.args.sink.now in
     record {
-      runs = c.in_ok-found.ensures.runs p ls (c.backtrack.ensures.runs p ls c.requires.runs);
+      runs = c.in_ok-found.ensures.runs p ls (c.begin.ensures.runs p ls c.requires.runs);
     }
 
 pub returns-in-None-clause-propagates : goal.returns-in-None-clause-propagates
@@ -46,7 +46,7 @@ returns-in-None-clause-propagates g c =
     let p = c.args.problem.now in
     let ls = g.S.Sink.lines c.args.sink.now in
     let s = c.propagate.new.self in
-    let runs = c.in_ok-found.ensures.runs p ls (c.backtrack.ensures.runs p ls c.requires.runs) in
+    let runs = c.in_ok-found.ensures.runs p ls (c.begin.ensures.runs p ls c.requires.runs) in
     let quiet =
     subst (λ o. IfNone o (IsQuiet (s.store).slots (literals_of (s.engine).trail))) c.in-None.is
     c.in_ok-found.ensures.quiet in

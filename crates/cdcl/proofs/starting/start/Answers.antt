@@ -42,7 +42,7 @@ returns c =
       kept = refl;
       counted = refl;
       room = record {
-        order = ap (λ o. o.variables) c.in_ok-order.ensures ∙ sym many;
+        policy = ap (λ o. o.variables) c.in_ok-policy.ensures ∙ sym many;
         analyzer = (let room = c.in_ok-analyzer.ensures in omega arith);
         few = subst (λ n. n < 2 ^ 27) (sym (many ∙ c.vars-variables.ensures)) c.requires.few;
         stamps = ap length stamps ∙ length-replicate c.vars-variables.result 0 ∙ sym many;

@@ -12,7 +12,7 @@ pub put_back-requires-clause-within : goal.put_back-requires-clause-within
 put_back-requires-clause-within c =
     let s = c.args.self.now in
     subst (λ n. All (λ (l : Literal). l.variable ≤ n) (literals_of s.engine.trail))
-    (sym c.requires.ready.room.order)
+    (sym c.requires.ready.room.policy)
     (literals_within s.engine.trail s.engine.variables c.requires.ready.searches.fits.small)
 
 pub returns-clause-state : goal.returns-clause-state
@@ -27,7 +27,7 @@ pub returns-clause-runs : goal.returns-clause-runs
 returns-clause-runs c p ls r =
     let s = c.args.self.now in
     let b = c.backtrack.ensures in
-    runs_moved s c.backtrack.new.self c.put_back.new.order p ls r b.same.0
+    runs_moved s c.backtrack.new.self c.put_back.new.policy p ls r b.same.0
     (ap (λ o. o.variables) c.put_back.ensures)
     (run_backtrack s.engine c.backtrack.new.self s.store.slots p.stack (tables_of s) p.frozen.items
     p.first p.given.items ls c.args.level r.running c.requires.level b.trail b.attached b.same
@@ -37,7 +37,7 @@ pub returns-clause-ready : goal.returns-clause-ready
 returns-clause-ready c =
     let s = c.args.self.now in
     let b = c.backtrack.ensures in
-    ready_moved s c.backtrack.new.self c.put_back.new.order c.requires.ready b.same.0
+    ready_moved s c.backtrack.new.self c.put_back.new.policy c.requires.ready b.same.0
     (ap (λ o. o.variables) c.put_back.ensures)
     (searches_backtrack s.store.slots s.engine c.backtrack.new.self c.args.level
     c.requires.ready.searches c.requires.level b.trail b.attached b.same.1

@@ -52,6 +52,7 @@ returns-clause-runs c p ls r =
       engine = c.compact.new.self;
       names = c.move_names.new.names;
       units = units;
+      policy = c.rename.new.self;
     } in
     let items : units.items ≡ c.move_units.new.units =
     with_items_is s.units c.move_units.new.units
@@ -73,6 +74,6 @@ returns-clause-runs c p ls r =
       refl,
       refl,
       refl,
-      refl,
+      c.rename.ensures,
       refl,
     ) r

@@ -1,4 +1,4 @@
-use Rattle.std.proofs.Common.{◌≡◌, ℕ, ◌+◌, ◌∙◌, true, false, set, replicate, sym, ap, subst, get_or}
+use Rattle.std.proofs.Common.{◌≡◌, ◌+◌, ◌∙◌, true, false, set, replicate, sym, ap, subst, get_or}
 use Rattle.std.proofs.Common.{rules}
 use Rattle.std.proofs.lemmas.List.{get_or_default}
 use Rattle.cdcl.specs.Deletions.{AreMarked}
@@ -18,11 +18,9 @@ loop-reference-preserved c =
     let l = c.loop-reference in
     let ms = c.args.chosen.now in
     let i = l.reference-index in
-    let q = c.loop-reference-item.result.1 in
-    let at : (get_or ms i (0, 0)).1 ≡ q =
-    ap (λ (p : ℕ × ℕ). p.1)
-    (sym (get_or_default ms i c.loop-reference-item.result (0, 0) c.loop-reference-test.true))
-    ∙ ap (λ (p : ℕ × ℕ). p.1) (sym c.loop-reference-item.is) in
+    let q = c.reference-item.result in
+    let at : get_or ms i 0 ≡ q =
+    sym (get_or_default ms i q 0 c.loop-reference-test.true) ∙ sym c.reference-item.is in
     elim c.if-may_delete.branch [
       | then-may_delete w ↦
           let marked =

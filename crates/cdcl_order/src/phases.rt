@@ -1,0 +1,127 @@
+// The value that a decision tries first: the one that the variable had last (phase saving; Handbook
+// of Satisfiability, chapter on conflict-driven clause learning). From time to time all of them go
+// back to the values of the best solution, which is the last one: a search for cheaper solutions
+// finds the next one mostly beside it.
+ghost use Rattle.std.specs.Prelude.{◌≡◌, ◌<◌, ◌≤◌, length, IfOk};
+ghost use Rattle.cdcl_order.specs.Phases.{first_phases, phase_of, with_value, solved, restarted};
+ghost use Rattle.cdcl_order.specs.Phases.{values_under};
+ghost use Rattle.cdcl_order.specs.Restarts.{one_more};
+
+use std::alloc::{AllocError, Global};
+use std::marker::Model;
+use cnf::types::Lit;
+
+/// The values to try first.
+#[derive(Drop)]
+pub(crate) struct Phases {
+    // By variable, that of 1 first: the value that it had last; at first false.
+    last: Vec<bool>,
+    // By variable: its value in the best solution; at first false.
+    best: Vec<bool>,
+    // Whether there was a solution.
+    is_solved: bool,
+    // How many conflicts came since a restart last took the values back, up to 2^64 - 1.
+    conflicts: u64,
+    // After so many a restart takes them back again: from 1000 up to 2^64 - 1.
+    wait: u64,
+}
+
+impl Model for Phases {
+    ghost use Rattle.std.specs.Prelude.{◌≡◌, length};
+    ghost use Rattle.cdcl_order.specs.Phases.{PhasesState};
+
+    ghost Value = { PhasesState };
+
+    ghost view = { λ p. record {
+      last = p.last.items;
+      best = p.best.items;
+      is_solved = p.is_solved;
+      conflicts = p.conflicts;
+      wait = p.wait;
+    } };
+
+    ghost invariant = { λ p. length p.best.items ≡ length p.last.items };
+}
+
+/// The first restart that takes the values back comes after so many conflicts, and each further one
+/// after so many more than the one before.
+const WAIT: u64 = 1000;
+
+impl Phases {
+    /// All values are false.
+    ///
+    /// # Errors
+    ///
+    /// `AllocError` where memory was refused.
+    pub(crate) fn new(alloc: Global, variables: u32) -> Result<Self, AllocError>
+        ensures { IfOk result (λ p. p ≡ first_phases variables) }
+    {
+        let last = Vec::from_elem(alloc, false, variables as usize)?;
+        let best = Vec::from_elem(alloc, false, variables as usize)?;
+        Ok(Phases {
+            last,
+            best,
+            is_solved: false,
+            conflicts: 0,
+            wait: WAIT,
+        })
+    }
+
+    /// The value to try first.
+    pub(crate) fn value(&self, variable: u32) -> bool
+        requires { (0 < variable) × (variable ≤ length self.now.last) }
+        ensures { result ≡ phase_of self.now variable }
+    {
+        self.last[(variable - 1) as usize]
+    }
+
+    /// Keeps the value under which the literal was true.
+    pub(crate) fn keep(&mut self, lit: Lit)
+        requires { (0 < lit.variable) × (lit.variable ≤ length self.old.last) }
+        ensures { self.new ≡ record self.old { last = with_value self.old.last lit } }
+    {
+        self.last[(lit.variable() - 1) as usize] = !lit.is_negated();
+    }
+
+    /// Keeps the values under which these literals are true as those of the best solution.
+    pub(crate) fn keep_solution(&mut self, trail: &[Lit])
+        ensures solved { self.new ≡ solved self.old trail.now }
+        ensures long { length self.new.last ≡ length self.old.last }
+    {
+        set_values(&mut self.last, trail);
+        self.best.copy_from_slice(&self.last);
+        self.is_solved = true;
+    }
+
+    /// Counts a conflict.
+    pub(crate) fn count(&mut self)
+        ensures { self.new ≡ record self.old { conflicts = one_more self.old.conflicts } }
+    {
+        self.conflicts = self.conflicts.saturating_add(1);
+    }
+
+    /// The search has started over.
+    pub(crate) fn start_over(&mut self)
+        ensures restarted { self.new ≡ restarted self.old }
+        ensures long { length self.new.last ≡ length self.old.last }
+    {
+        if self.is_solved && self.conflicts >= self.wait {
+            self.last.copy_from_slice(&self.best);
+            self.conflicts = 0;
+            self.wait = self.wait.saturating_add(WAIT);
+        }
+    }
+}
+
+/// Puts the values in under which these literals are true. Such of other variables are passed over.
+fn set_values(values: &mut [bool], trail: &[Lit])
+    ensures values { values.new ≡ values_under values.old trail.now }
+    ensures long { length values.new ≡ length values.old }
+{
+    for lit in trail {
+        let variable = lit.variable();
+        if variable > 0 && variable as usize <= values.len() {
+            values[(variable - 1) as usize] = !lit.is_negated();
+        }
+    }
+}

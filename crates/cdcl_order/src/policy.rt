@@ -1,0 +1,226 @@
+// The policy of a search: which variable it decides, and at which value, when it starts over, when
+// it deletes learned clauses, and which. A search relies on little of it, so that another policy
+// changes this crate alone: `next` answers a literal without a value, and none only where each
+// variable has one; a restart is due only after a conflict; what is chosen for deletion is any list
+// of clauses, each of which the search tests.
+ghost use Rattle.std.specs.Prelude.{◌≡◌, ◌<◌, ◌≤◌, ◌^◌, true, false, All, IfOk, IfSome, IfNone};
+ghost use Rattle.propagate.specs.Watches.{is_attached};
+ghost use Rattle.propagate.specs.Fits.{Fits};
+ghost use Rattle.cdcl_order.specs.Orders.{IsOpenVariable, AreClosed};
+
+use crate::deletions::{Candidate, choose, is_due};
+use crate::levels::Levels;
+use crate::order::Order;
+use crate::phases::Phases;
+use crate::restarts::Pace;
+use crate::standings::{KEPT, Standing, Standings};
+use clauses::store::{CRef, Moves, Store};
+use propagate::engine::Engine;
+use std::alloc::{AllocError, Global};
+use std::marker::Model;
+use cnf::types::Lit;
+
+/// What a search goes by.
+#[derive(Drop)]
+pub struct Policy {
+    // Which variable is decided next.
+    order: Order,
+    // At which value.
+    phases: Phases,
+    // When to start over.
+    pace: Pace,
+    // Counts block distances.
+    levels: Levels,
+    // What is known of the worth of learned clauses.
+    standings: Standings,
+    // How many learned clauses of more than two literals are live.
+    long: usize,
+    // How often clauses were chosen for deletion.
+    deletions: u64,
+}
+
+impl Model for Policy {
+    ghost use Rattle.std.specs.Prelude.{◌≡◌, ◌+◌, nat_lt, length};
+    ghost use Rattle.cdcl_order.specs.Policies.{PolicyState};
+
+    ghost Value = { PolicyState };
+
+    ghost view = { λ p. record {
+      variables = p.order;
+      has_learned = nat_lt 0 p.pace.conflicts;
+    } };
+
+    ghost invariant = { λ p. (length p.phases.last ≡ p.order) × (length p.levels.stamps ≡ p.order + 1) };
+}
+
+impl Policy {
+    /// The policy of a search over the variables from 1 to `variables` before it has learned
+    /// anything.
+    ///
+    /// # Errors
+    ///
+    /// `AllocError` where memory was refused.
+    pub fn new(alloc: Global, variables: u32) -> Result<Self, AllocError>
+        requires { variables < 2 ^ 27 }
+        ensures { IfOk result (λ p. p ≡ record { variables = variables; has_learned = false }) }
+    {
+        let order = Order::new(alloc, variables)?;
+        let phases = Phases::new(alloc, variables)?;
+        let levels = Levels::new(alloc, variables)?;
+        Ok(Policy {
+            order,
+            phases,
+            pace: Pace::new(),
+            levels,
+            standings: Standings::new(alloc),
+            long: 0,
+            deletions: 0,
+        })
+    }
+
+    /// A hint: the variable starts at the share that its weight has of the greatest weight so far.
+    /// One that is none of the policy's is passed over.
+    pub fn weigh(&mut self, variable: u32, weight: u64)
+        ensures { self.new ≡ self.old }
+    {
+        self.order.weigh(variable, weight);
+    }
+
+    /// A search begins.
+    pub fn begin(&mut self)
+        ensures { self.new ≡ record self.old { has_learned = false } }
+    {
+        self.pace = Pace::new();
+    }
+
+    /// The literal is not true any more, so its variable may be decided again.
+    pub fn put_back(&mut self, lit: Lit)
+        requires { (0 < lit.variable) × (lit.variable ≤ self.old.variables) }
+        ensures { self.new ≡ self.old }
+    {
+        self.phases.keep(lit);
+        self.order.put_back(lit.variable());
+    }
+
+    /// The literal to decide; none where each variable has a value.
+    pub fn next(&mut self, engine: &Engine) -> Option<Lit>
+        requires { engine.now.variables ≡ self.old.variables }
+        ensures some { IfSome result
+            (λ l. IsOpenVariable engine.now.trail self.old.variables l.variable) }
+        ensures none { IfNone result (AreClosed engine.now.trail self.old.variables) }
+        ensures same { self.new ≡ self.old }
+    {
+        match self.order.next(engine) {
+            Some(variable) => Some(Lit::new(variable, !self.phases.value(variable))),
+            None => {
+                self.phases.keep_solution(engine.trail());
+                None
+            }
+        }
+    }
+
+    /// A conflict taught a clause: by these reasons, the conflict among them, whose analysis met
+    /// these variables. The engine is still as it was at the conflict. It answers the clause's block
+    /// distance: the number of levels above 0 among its literals.
+    pub fn learn_from(
+        &mut self,
+        engine: &Engine,
+        store: &Store,
+        reasons: &[CRef],
+        met: &[u32],
+        lits: &[Lit],
+    ) -> u32
+        requires variables { engine.now.variables ≡ self.old.variables }
+        requires fits { Fits engine.now store.now.slots }
+        requires attached { All (λ r. is_attached engine.now r ≡ true) reasons.now }
+        requires within { All (λ l. l.variable ≤ engine.now.variables) lits.now }
+        ensures { self.new ≡ record self.old { has_learned = true } }
+    {
+        self.order.bump_all(met);
+        self.order.decay();
+        self.phases.count();
+        self.pace.count();
+        for reason in reasons {
+            self.note_use(engine, store, *reason);
+        }
+        self.levels.distance(engine, lits)
+    }
+
+    /// The clause served in an analysis. Its distance is counted again where it may be less now.
+    fn note_use(&mut self, engine: &Engine, store: &Store, reference: CRef)
+        requires variables { engine.now.variables ≡ self.old.variables }
+        requires fits { Fits engine.now store.now.slots }
+        requires attached { is_attached engine.now reference ≡ true }
+        ensures { self.new ≡ self.old }
+    {
+        let standing = self.standings.get(reference);
+        if !standing.is_known() {
+            return;
+        }
+        let mut distance = standing.distance;
+        if distance > KEPT {
+            distance = distance.min(self.levels.distance(engine, store.lits(reference)));
+        }
+        self.standings.set(reference, Standing::fresh(distance));
+    }
+
+    /// The learned clause came to the store, with so many literals, and this block distance.
+    pub fn keep(&mut self, reference: CRef, length: usize, distance: u32)
+        ensures { self.new ≡ self.old }
+    {
+        if length > 2 {
+            self.long = self.long.saturating_add(1);
+        }
+        self.standings.add(reference, Standing::fresh(distance));
+    }
+
+    /// Whether it is time to start over.
+    pub fn is_restart_due(&self) -> bool
+        ensures { result ≡ true → self.now.has_learned ≡ true }
+    {
+        self.pace.is_due()
+    }
+
+    /// The search has started over: it is at level 0.
+    pub fn start_over(&mut self)
+        ensures { self.new ≡ record self.old { has_learned = false } }
+    {
+        self.pace.start_over();
+        self.phases.start_over();
+    }
+
+    /// Whether it is time to delete learned clauses.
+    pub fn is_deletion_due(&self) -> bool {
+        is_due(self.long, self.deletions)
+    }
+
+    /// Those to delete of these learned clauses, the older first, of more than two literals each.
+    ///
+    /// # Errors
+    ///
+    /// `AllocError` where memory was refused.
+    pub fn choose(
+        &mut self,
+        alloc: Global,
+        candidates: &[Candidate],
+    ) -> Result<Vec<CRef>, AllocError>
+        ensures { self.new ≡ self.old }
+    {
+        self.deletions = self.deletions.saturating_add(1);
+        choose(alloc, &mut self.standings, candidates)
+    }
+
+    /// A learned clause of more than two literals was deleted.
+    pub fn count_deleted(&mut self)
+        ensures { self.new ≡ self.old }
+    {
+        self.long = self.long.saturating_sub(1);
+    }
+
+    /// The clauses have new references.
+    pub fn rename(&mut self, moves: &Moves)
+        ensures { self.new ≡ self.old }
+    {
+        self.standings.rename(moves.pairs());
+    }
+}
