@@ -13,7 +13,7 @@ demo:
 	@bash examples/demo
 
 test:
-	@bash tests/all
+	@bash tests/gate
 
 edits:
 	@bash tests/edits $(CRATES)
