@@ -3,14 +3,12 @@
 # solver by crates.txt, and no line of its code, definitions or proofs names one.
 source "$(dirname "$0")/../lib"
 
-checker='lrat_read lrat_live result_read lrat_check'
-shared='cnf text wcnf adder bound'
-both_sides='report wmax render_bench propagate_bench'
-
-# All other crates are the solver's, also those that are still to come.
-solver=$(awk -v others="$checker $shared $both_sides" '
-    BEGIN { n = split(others, name, " "); for (i = 1; i <= n; i++) is_other[name[i]] = 1 }
-    /^[a-z]/ { sub(/:.*/, ""); if (!($1 in is_other)) print $1 }' crates.txt)
+# section NAME: the crates under this heading of crates.txt
+section() {
+    awk -v name="$1" '/^#/ { is_here = $2 ~ "^" name ":?$" } /^[a-z]/ && is_here { sub(/:.*/, ""); print $1 }' crates.txt
+}
+solver=$(section solver)
+apart="$(section shared) $(section checker)"
 any=$(tr '\n' '|' <<< "$solver" | sed 's/|$//')
 
 # naming FOLDER: the lines that name a crate of the solver: `use cdcl::`, `cdcl::solver::Solver`, `Rattle.cdcl.specs`
@@ -28,12 +26,11 @@ is_apart() {
 
 # stands_apart CRATE: nothing that it stands on is of the solver
 stands_apart() {
-    ! below "$1" | grep -qxE "$any"
+    ! tools/below "$1" | grep -qxE "$any"
 }
 
-ok 'there is a solver' [ -n "$any" ]
-for crate in $checker $shared; do
-    [ -d "crates/$crate" ] || continue
+ok 'crates.txt says which crates are the checker and the solver' [ -n "$(section checker)" -a -n "$solver" ]
+for crate in $apart; do
     ok "$crate stands on a crate of the solver" stands_apart "$crate"
     ok "$crate names a crate of the solver" is_apart "$crate"
 done
