@@ -83,6 +83,20 @@ h 01 0|line 1: Literal
 p wcnf 1 1 5|line 1: Count
 ROWS
 
+# The text may come through a pipe.
+lines text 'h 1 2 0' '3 -1 0' '4 -2 0'
+call solve text
+wanted=$out
+for way in 'cat text | "$wmax" solve /dev/stdin' '"$wmax" solve <(cat text)' '"$wmax" solve --proof proof <(cat text)'; do
+    out=$(cd "$work" && eval "$way" 2> .err)
+    status=$?
+    err=$(cat "$work/.err")
+    expect "$way" 30 "$wanted" ''
+done
+printf '%s\n' "$wanted" > "$work/result"
+out=$(cd "$work" && "$wmax" check <(cat text) <(cat result) <(cat proof) 2>&1)
+ok 'all three through pipes' [ "$out" = YES ]
+
 # The certificate's file is not the instance, whatever it is called.
 lines text 'h 1 2 0' '3 -1 0' '4 -2 0'
 cp "$work/text" "$work/kept"
