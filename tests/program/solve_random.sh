@@ -1,7 +1,7 @@
 #!/usr/bin/env bash
 # `wmax solve` on random instances, against the least cost that a search over all assignments finds.
 # Each certificate is checked by `wmax check`; a result without one is checked as far as its bits and cost.
-source "$(dirname "$0")/lib"
+source "$(dirname "$0")/../lib"
 
 # the word after the first in the last line of the result that begins so
 last() { # WORD
@@ -36,7 +36,7 @@ answers() { # WANTED WORD..: solves with these words, and looks at what is answe
     [ ! -s "$work/.err" ] && { is_right "$wanted" || { [ "$bounded" = yes ] && is_honest; }; }
 }
 
-awk -v dir="$work" -v count=400 -f tests/random.awk > "$work/wanted"
+awk -v dir="$work" -v count=400 -f tests/program/random.awk > "$work/wanted"
 while read -r number wanted; do
     text=$work/$number.wcnf
     for profile in '--profile 1' '--profile 2' '--profile 3'; do

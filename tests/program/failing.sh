@@ -1,6 +1,6 @@
 #!/usr/bin/env bash
 # Outputs that are full or closed, and each beginning of a text, a result and a certificate.
-source "$(dirname "$0")/lib"
+source "$(dirname "$0")/../lib"
 
 fails() { # NAME FAULT: what was run ended with this fault
     ok "$1: $status [$err]" test "$status" = 3 -a "$err" = "error: $2"
@@ -26,19 +26,19 @@ for words in 'solve text' 'check text result proof' 'encode text 3' '--help' 'so
     fails "$words, a closed pipe" Output
 done
 if [ -c /dev/full ]; then
-    run solve --proof /dev/full text
+    call solve --proof /dev/full text
     fails 'a full certificate' ProofOutput
     ok 'a full certificate, no s line' test -z "$(grep -v '^o ' <<< "$out")"
 fi
 mkfifo "$work/fifo"
 head -c 10 "$work/fifo" > /dev/null &
-run solve --proof fifo "$PWD/examples/pigeons10.wcnf"
+call solve --proof fifo "$PWD/examples/pigeons10.wcnf"
 fails 'a certificate in a closed pipe' ProofOutput
 ok 'a certificate in a closed pipe, no s line' test -z "$(grep -v '^o ' <<< "$out")"
 wait
-run check text result "$work"
+call check text result "$work"
 fails 'a certificate that is a folder' Read
-run solve "$work"
+call solve "$work"
 fails 'a text that is a folder' Read
 
 # A device that fails after each number of bytes, by an error or by taking nothing, until it meets no failure: what is left is a
@@ -89,7 +89,8 @@ each() { # DEVICE WORD..
     ok "$*: $device fails at $count places" test $wrong = 0 -a $count -gt 5
 }
 
-if command -v cc > /dev/null && cc -O1 -shared -fPIC -o "$work/device.so" tests/device.c; then
+compiles -O1 -shared -fPIC -o "$work/device.so" tests/program/device.c
+if [ -e "$work/device.so" ]; then
     for text in 'h 1 2 0\n3 -1 0\n4 -2 0\n' 'h 1 -1 0\n2 1 1 0\n3 -1 0\n'; do
         printf "$text" > "$work/text"
         for device in out proof text; do each $device solve --proof proof text; done
@@ -101,8 +102,6 @@ if command -v cc > /dev/null && cc -O1 -shared -fPIC -o "$work/device.so" tests/
     each text encode text 3
     lines given '6 0 1 0'
     each out check text result given
-else
-    echo 'no C compiler: devices that fail after some bytes were not tried'
 fi
 lines text 'h 1 2 0' '3 -1 0' '4 -2 0'
 lines proof '6 0 5 4 2 3 1 0'
@@ -114,7 +113,7 @@ beginnings() { # NAME FILE: of text, result and proof
     cp "$work/$file" "$work/whole"
     for n in $(seq 0 "$size"); do
         head -c "$n" "$work/whole" > "$work/$file"
-        run check text result proof
+        call check text result proof
         case "$status $out" in
             '0 YES') yes=$((yes + 1)); [ "$n" -ge $((size - 1)) ] || wrong=$((wrong + 1)) ;;
             '1 NO '*) ;;
@@ -147,7 +146,7 @@ for name in bigw packages timetable vcover; do
     beginnings "the result of $name" result
 done
 printf 'h 1 2 0\n3 -1' > "$work/text"
-run solve text
+call solve text
 expect 'a clause without its 0' 2 '' 'error: line 2: NoZero'
 
 # What each beginning of two texts comes to: a formula, or a fault and its line.
@@ -159,7 +158,7 @@ each_beginning() { # NAME, then 'FROM TO ANSWER' a line: of text
         next=$((to + 1))
         for n in $(seq "$from" "$to"); do
             head -c "$n" "$work/whole" > "$work/text"
-            run encode text 0
+            call encode text 0
             case "$status $wanted" in
                 '0 ok') [ -z "$err" ] && continue ;;
                 2*) [ -z "$out" ] && [ "$err" = "error: $wanted" ] && continue ;;
@@ -213,7 +212,7 @@ each_certificate() { # NAME LINE..: over the four clauses that no assignment sat
                 *) wanted="NO LineForm $count" ;;
             esac
             { printf '%s' "$before"; printf '%s\n' "$line" | head -c "$n"; } > "$work/proof"
-            run check text result proof
+            call check text result proof
             [ "$out" = "$wanted" ] || { wrong=$((wrong + 1)); echo "$name, line $count, $n bytes: $out"; }
         done
         before+=$line$'\n'
@@ -230,7 +229,7 @@ lines text 'h 1 2 0' 'h -1 2 0' 'h 1 -2 0' 'h -1 -2 0'
 lines result 's UNSATISFIABLE'
 while IFS='|' read -r proof wanted; do
     printf '%b' "$proof" > "$work/proof"
-    run check text result proof
+    call check text result proof
     expect "$proof" 1 "NO $wanted" ''
 done <<'ROWS'
 5 2 0 1 2 0\n6 0 5 3 4|LineForm 2

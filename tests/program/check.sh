@@ -1,9 +1,9 @@
 #!/usr/bin/env bash
 # `wmax check` from the files to the printed verdict.
-source "$(dirname "$0")/lib"
+source "$(dirname "$0")/../lib"
 
 verdict() { # NAME WANTED: of text, result and proof
-    run check text result proof
+    call check text result proof
     case $2 in YES) expect "$1" 0 "$2" "" ;; *) expect "$1" 1 "$2" "" ;; esac
 }
 
@@ -140,11 +140,11 @@ verdict 'opposite and repeated literals' YES
 lines text 'h 1 2 0' '3 -1 0' '4 -2 0'
 lines result 'o 3' 's OPTIMUM FOUND' 'v 10'
 lines proof '4 0 3 2 1 0'
-run check --profile 2 text result proof
+call check --profile 2 text result proof
 expect 'profile 2' 0 YES ''
-run check --profile 1 text result proof
+call check --profile 1 text result proof
 expect 'a certificate of profile 2 in profile 1' 1 'NO IdOrder 1' ''
-run check --profile 3 text result proof
+call check --profile 3 text result proof
 expect 'a certificate of profile 2 in profile 3' 1 'NO IdOrder 1' ''
 
 # The clause of a greater bound follows from that of a smaller one, and is no unit.
@@ -181,36 +181,39 @@ ROWS
 
 # What is not a file, and words that the command does not take.
 lines text 'h 1 0'
-run check missing result proof
+call check missing result proof
 expect 'a missing instance' 3 '' 'error: Read'
-run check text missing proof
+call check text missing proof
 expect 'a missing result' 3 '' 'error: Read'
-run check text result missing
+call check text result missing
 expect 'a missing certificate' 3 '' 'error: Read'
-run check . result proof
+call check . result proof
 expect 'a folder' 3 '' 'error: Read'
-run check text result
+call check text result
 ok 'too few words' test "$status" = 2 -a -z "$out" -a -n "$err"
-run check text result proof more
+call check text result proof more
 ok 'too many words' test "$status" = 2 -a -z "$out" -a -n "$err"
-run
+call
 ok 'no command' test "$status" = 2 -a -z "$out" -a -n "$err"
-run check --help
+call check --help
 ok 'help' test "$status" = 0 -a -n "$out" -a -z "$err"
 out=$(cd "$work" && "$wmax" check text result proof 2>&1 > /dev/full)
 status=$?
 ok 'an output that is full' test "$status" = 3 -a "$out" = 'error: Output'
 
 # Bytes of any kind.
+random_bytes() { # SEED: 2,000 of them
+    python3 -c 'import random, sys; sys.stdout.buffer.write(random.Random(int(sys.argv[1])).randbytes(2000))' "$1"
+}
 for seed in 1 2 3 4 5 6 7 8; do
     for f in text result proof; do
-        perl -e 'srand(shift); print chr(int(rand(256))) for 1..2000' "$seed" > "$work/$f"
+        random_bytes "$seed" > "$work/$f"
     done
-    run check text result proof
+    call check text result proof
     ok "random bytes $seed" test "$status" = 1 -a "${out% *}" = 'NO Text' -a -z "$err"
     lines text 'h 1 2 0'
     lines result 's UNSATISFIABLE'
-    run check text result proof
+    call check text result proof
     ok "a random certificate $seed" test "$status" = 1 -a -z "$err"
 done
 
@@ -222,7 +225,7 @@ for text in examples/*.wcnf; do
     cp "$name.lrat" "$work/proof"
     verdict "$name" YES
     sed '$d' "$name.lrat" > "$work/proof"
-    run check text result proof
+    call check text result proof
     ok "$name without its last line" test "$status" = 1 -a "$out" = 'NO NoEmptyClause 0'
 done
 totals

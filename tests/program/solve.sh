@@ -1,6 +1,6 @@
 #!/usr/bin/env bash
 # `wmax solve` from the files to the printed result, and each certificate through `wmax check`.
-source "$(dirname "$0")/lib"
+source "$(dirname "$0")/../lib"
 
 # solved NAME STATUS WORD..: what solving the text prints, in each profile, and whether the certificate checks.
 # Of the `o` lines only the last is fixed.
@@ -9,13 +9,13 @@ solved() {
     shift 2
     for profile in 1 2 3; do
         rm -f "$work/proof"
-        run solve --profile $profile --proof proof "$@" text
+        call solve --profile $profile --proof proof "$@" text
         printf '%s\n' "$out" > "$work/result"
         out=$(grep -v '^o ' <<< "$out"; grep '^o ' <<< "$out" | tail -n 1)
         expect "$name, profile $profile" "$wanted" "$result" ""
         case $wanted in
             20 | 30)
-                run check --profile $profile text result proof
+                call check --profile $profile text result proof
                 expect "$name, profile $profile: certificate" 0 YES ""
                 ;;
             *) ok "$name, profile $profile: no certificate" [ ! -s "$work/proof" ] ;;
@@ -62,7 +62,7 @@ solved 'four clauses that no assignment satisfies' 20
 exactly() { # NAME STATUS RESULT WORD..
     local name=$1 wanted=$2 text=$3
     shift 3
-    run solve "$@" text
+    call solve "$@" text
     expect "$name" "$wanted" "$text" ""
 }
 : > "$work/text"
@@ -73,7 +73,7 @@ exactly 'one solution' 30 $'o 0\ns OPTIMUM FOUND\nv 1' --conflicts 1
 # Faulty texts: one line on standard error, and nothing else.
 while IFS='|' read -r text fault; do
     printf '%b\n' "$text" > "$work/text"
-    run solve text
+    call solve text
     expect "$text" 2 "" "error: $fault"
 done <<'ROWS'
 4611686018427387903 1 0\n1 -1 0|line 2: WeightSum
@@ -83,29 +83,43 @@ h 01 0|line 1: Literal
 p wcnf 1 1 5|line 1: Count
 ROWS
 
+# The text may come through a pipe.
+lines text 'h 1 2 0' '3 -1 0' '4 -2 0'
+call solve text
+wanted=$out
+for way in 'cat text | "$wmax" solve /dev/stdin' '"$wmax" solve <(cat text)' '"$wmax" solve --proof proof <(cat text)'; do
+    out=$(cd "$work" && eval "$way" 2> .err)
+    status=$?
+    err=$(cat "$work/.err")
+    expect "$way" 30 "$wanted" ''
+done
+printf '%s\n' "$wanted" > "$work/result"
+out=$(cd "$work" && "$wmax" check <(cat text) <(cat result) <(cat proof) 2>&1)
+ok 'all three through pipes' [ "$out" = YES ]
+
 # The certificate's file is not the instance, whatever it is called.
 lines text 'h 1 2 0' '3 -1 0' '4 -2 0'
 cp "$work/text" "$work/kept"
 ln -s text "$work/link"
 ln "$work/text" "$work/hard"
 for path in text ./text link hard; do
-    run solve --proof $path text
+    call solve --proof $path text
     expect "the instance as certificate, by $path" 3 "" "error: ProofOutput"
     ok "the instance is kept, by $path" cmp -s "$work/text" "$work/kept"
 done
-run solve --proof missing/proof text
+call solve --proof missing/proof text
 expect 'a certificate in no folder' 3 "" "error: ProofOutput"
-run solve missing
+call solve missing
 expect 'no instance' 3 "" "error: Read"
 lines proof 'of an earlier run, and longer than what comes' 'x' 'x' 'x' 'x' 'x' 'x' 'x' 'x' 'x' 'x' 'x' 'x' 'x' 'x'
-run solve --proof proof text
+call solve --proof proof text
 printf '%s\n' "$out" > "$work/result"
-run check text result proof
+call check text result proof
 expect 'an older certificate is emptied' 0 YES ""
 
 # Outputs that fail.
 if [ -c /dev/full ]; then
-    run solve --proof /dev/full text
+    call solve --proof /dev/full text
     ok 'a certificate that cannot be written' [ "$status $err" = '3 error: ProofOutput' ]
     ok 'no status line without its certificate' [ -z "$(grep -v '^o ' <<< "$out")" ]
     err=$(timeout 60 "$wmax" solve "$work/text" 2>&1 > /dev/full)
@@ -116,29 +130,29 @@ fi
 
 # The command line.
 for words in '--conflicts 4611686018427387905' '--conflicts x' '--profile 4' '--proof'; do
-    run solve $words text
+    call solve $words text
     ok "refused: $words" [ "$status" = 2 ]
 done
 for words in solve check encode ''; do
-    run $words --help
+    call $words --help
     ok "help: $words" [ "$status$err" = 0 ]
     ok "help names the statuses: $words" grep -q '^Statuses: *' <<< "$out"
     ok "help has an example: $words" grep -q "^  wmax ${words:-solve} " <<< "$out"
 done
 for words in --version -V; do
-    run $words
+    call $words
     ok "$words" [ "$status $err" = '0 ' ]
     ok "$words names the program" grep -qxE 'wmax [0-9]+\.[0-9]+\.[0-9]+' <<< "$out"
 done
 for words in $'te\377xt' $'--proof=\200'; do
-    run solve "$words"
+    call solve "$words"
     expect 'a word that is not UTF-8' 2 "" 'error: a word of the command line is not UTF-8'
 done
 
 # Standard input, output and error may be closed at the start: no file that is opened takes their number. Without
 # standard output the run fails as with any other output that cannot be written.
 lines text 'h 1 2 0' '3 -1 0' '4 -2 0'
-run solve --proof wanted text
+call solve --proof wanted text
 for closed in '<&-' '2>&-' '<&- 2>&-' '>&-' '<&- >&-' '2>&- >&-' '<&- 2>&- >&-'; do
     rm -f "$work/proof"
     printed=$(cd "$work" && eval "\"$wmax\" solve --proof proof text $closed")

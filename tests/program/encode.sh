@@ -1,11 +1,11 @@
 #!/usr/bin/env bash
 # `wmax encode` from the file to the printed formula.
-source "$(dirname "$0")/lib"
+source "$(dirname "$0")/../lib"
 
 formula() { # NAME COST LINE..: the formula of text
     local name=$1 cost=$2
     shift 2
-    run encode text "$cost"
+    call encode text "$cost"
     expect "$name" 0 "$(printf '%s\n' "$@")" ""
 }
 
@@ -31,7 +31,7 @@ formula 'a full adder' 2 'p cnf 8 18' '1 4 0' '2 5 0' '3 6 0' '4 5 6 -7 0' '4 5 
 formula_as() { # PROFILE NAME COST LINE..: the formula of text in this profile
     local profile=$1 name=$2 cost=$3
     shift 3
-    run encode --profile "$profile" text "$cost"
+    call encode --profile "$profile" text "$cost"
     expect "$name, profile $profile" 0 "$(printf '%s\n' "$@")" ""
 }
 lines text 'h 1 2 0' '3 -1 0' '4 -2 0'
@@ -54,7 +54,7 @@ formula_as 3 'weights of 61 bits' 1 'p cnf 6 12' '1 3 0' '2 4 0' '4 3 -5 0' '4 -
 
 fault() { # NAME TEXT MESSAGE
     printf '%b' "$2" > "$work/text"
-    run encode text 1
+    call encode text 1
     expect "$1" 2 '' "error: $3"
 }
 fault 'the sum of the weights' '4611686018427387903 1 0\n1 -1 0\n' 'line 2: WeightSum'
@@ -68,15 +68,15 @@ fault 'a great variable' 'h 4194305 0' 'line 1: Variable'
 fault 'a carriage return at the end' 'h 1 0\r' 'line 1: Literal'
 
 lines text 'h 1 0'
-run encode missing 1
+call encode missing 1
 expect 'a missing instance' 3 '' 'error: Read'
-run encode text 4611686018427387904
+call encode text 4611686018427387904
 ok 'a cost of 2^62' test "$status" = 2 -a -z "$out" -a -n "$err"
-run encode text 4611686018427387903
+call encode text 4611686018427387903
 expect 'the greatest cost' 0 "$(printf 'p cnf 1 1\n1 0')" ''
-run encode text -1
+call encode text -1
 ok 'a negative cost' test "$status" = 2 -a -z "$out" -a -n "$err"
-run encode text
+call encode text
 ok 'no cost' test "$status" = 2 -a -z "$out" -a -n "$err"
 err=$(cd "$work" && "$wmax" encode text 1 2>&1 > /dev/full)
 status=$?

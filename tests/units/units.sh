@@ -1,9 +1,9 @@
 #!/usr/bin/env bash
 # The tests of single crates: tests/units/CRATE/PATH.tests is the module `tests` of crates/CRATE/src/PATH.rt. They stand here and
 # not in the crates, where the gate would prove each crate once more for its tests. They are run with no proof, by `rt try`.
-#   tests/units.sh [CRATE..]
-source "$(dirname "$0")/lib"
-[ $# -gt 0 ] || set -- $(ls tests/units)
+#   tests/units/units.sh [CRATE..]
+source "$(dirname "$0")/../lib"
+[ $# -gt 0 ] || set -- $(cd tests/units && ls -d */ | tr -d /)
 copied "$@"
 for crate; do
     src=$work/crates/$crate/src

@@ -1,10 +1,10 @@
 #!/usr/bin/env bash
 # Each allocation of the program refused in turn, until a run meets none: it gives the plain answer, or `error: Memory` with status 3,
 # whole `o` lines and no certificate. What it reads stays as it is.
-source "$(dirname "$0")/lib"
+source "$(dirname "$0")/../lib"
 
-if ! command -v cc > /dev/null || ! cc -O1 -shared -fPIC -o "$work/refuse.so" tests/refuse.c; then
-    echo 'no C compiler: refused memory was not tried'
+compiles -O1 -shared -fPIC -o "$work/refuse.so" tests/program/refuse.c
+if [ ! -e "$work/refuse.so" ]; then
     totals
     exit
 fi

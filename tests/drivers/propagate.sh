@@ -1,7 +1,7 @@
 #!/usr/bin/env bash
 # Unit propagation under random steps, each judged by plain slow code. The driver is run with no proof, by `rt try`.
-#   tests/propagate.sh [SEED..]
-source "$(dirname "$0")/lib"
+#   tests/drivers/propagate.sh [SEED..]
+source "$(dirname "$0")/../lib"
 driver propagate wcnf clauses propagate
 [ $# -gt 0 ] || set -- 1
 for seed; do

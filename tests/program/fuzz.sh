@@ -1,13 +1,10 @@
 #!/usr/bin/env bash
 # Texts, results and certificates changed at random: `wmax check` says the same of whole files and of a certificate in
 # pieces, and what it accepts is accepted by the plain checker of bench/ over the formula that `wmax encode` prints, RAT lines apart.
-source "$(dirname "$0")/lib"
+source "$(dirname "$0")/../lib"
 
-if ! command -v cc > /dev/null || ! cc -O1 -o "$work/fuzz" tests/fuzz.c || ! cc -O2 -o "$work/plain" bench/lrat_check.c; then
-    echo 'no C compiler: nothing was changed at random'
-    totals
-    exit
-fi
+compiles -O1 -o "$work/fuzz" tests/program/fuzz.c
+compiles -O2 -o "$work/plain" bench/lrat_check.c
 
 # Certificates with no RAT lines, which the plain checker reads.
 names='bigw maxcut packages par40 timetable vcover none opposite older'
@@ -24,7 +21,7 @@ lines older.wcnf 'c x' 'p wcnf 2 3 10' '10 1 2 0' '3 -1 0' '4 -2 0'
 lines older.result 'o 3' 's OPTIMUM FOUND' 'v 10'
 lines older.lrat '6 0 5 4 2 3 1 0'
 for name in $names; do
-    run check "$name.wcnf" "$name.result" "$name.lrat"
+    call check "$name.wcnf" "$name.result" "$name.lrat"
     expect "$name as it is" 0 YES ''
 done
 

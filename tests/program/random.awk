@@ -1,5 +1,5 @@
 # Small random instances and their least costs, found by trying all assignments.
-#   awk -v dir=FOLDER -v count=N -f tests/random.awk
+#   awk -v dir=FOLDER -v count=N -f tests/program/random.awk
 # writes FOLDER/1.wcnf to FOLDER/N.wcnf, and prints a line for each: its number, and the least cost or 'none'.
 # The generator is Lehmer's (x -> 16807 x mod 2^31 - 1), so that each awk makes the same instances.
 

@@ -1,8 +1,8 @@
 #!/usr/bin/env bash
 # Elimination of random small formulas, each judged by a table of all assignments and by the checker; and worked ones,
 # whose lines are known. The driver is run with no proof, by `rt try`; each seed takes a minute or two.
-#   tests/eliminate.sh [SEED..]
-source "$(dirname "$0")/lib"
+#   tests/drivers/eliminate.sh [SEED..]
+source "$(dirname "$0")/../lib"
 driver eliminate wcnf clauses lrat_log lrat_check subsume eliminate cdcl
 [ $# -gt 0 ] || set -- 1
 for seed; do

@@ -1,45 +1,45 @@
 #!/usr/bin/env bash
 # Texts of the older form, which begin with a header, through `wmax solve`, `check` and `encode`.
-source "$(dirname "$0")/lib"
+source "$(dirname "$0")/../lib"
 
 optimum() { # NAME LINE..: the end of the result of text; its certificate is accepted
     local name=$1
     shift
-    run solve --proof proof text
+    call solve --proof proof text
     printf '%s\n' "$out" > "$work/result"
     ok "$name, the result" test "$status" = 30 -a "$(tail -n $# <<< "$out")" = "$(printf '%s\n' "$@")"
-    run check text result proof
+    call check text result proof
     expect "$name, the certificate" 0 YES ''
 }
 
 faulty() { # NAME LINE FAULT
     lines result 's UNSATISFIABLE'
     : > "$work/proof"
-    run solve text
+    call solve text
     expect "$1, solve" 2 '' "error: line $2: $3"
-    run encode text 1
+    call encode text 1
     expect "$1, encode" 2 '' "error: line $2: $3"
-    run check text result proof
+    call check text result proof
     expect "$1, check" 1 "NO Text $2" ''
 }
 
 lines text 'p wcnf 2 3 10' '10 1 2 0' '3 -1 0' '4 -2 0'
 optimum 'one of two' 'o 3' 's OPTIMUM FOUND' 'v 10'
-run encode text 3
+call encode text 3
 expect 'one of two, the formula' 0 "$(printf '%s\n' 'p cnf 4 5' '1 2 0' '-1 3 0' '-2 4 0' '-4 0' '-3 0')" ''
 lines text 'p wcnf 0 0 1'
-run solve text
+call solve text
 expect 'no clauses' 30 "$(printf '%s\n' 'o 0' 's OPTIMUM FOUND' 'v')" ''
 lines text 'p wcnf 3 1 5' '2 1 0'
-run encode text 5
+call encode text 5
 expect 'more variables than the clauses have' 0 "$(printf '%s\n' 'p cnf 4 1' '1 4 0')" ''
 lines text 'p wcnf 3 0 5'
-run solve text
+call solve text
 ok 'variables without a clause' test "$status" = 30 -a -n "$(grep -xE 'v [01]{3}' <<< "$out")"
 printf 'c one\r\n\r\n\tp  wcnf 1 2 4611686018427387904\r\nc two\r\n4611686018427387904 -1 0\r\n3 1 0' > "$work/text"
 optimum 'comments, CR LF, the greatest weight' 'o 3' 's OPTIMUM FOUND' 'v 0'
 lines text 'p wcnf 1 2 5' '5 1 0' '5 -1 0'
-run solve text
+call solve text
 expect 'no solution' 20 's UNSATISFIABLE' ''
 
 while IFS='|' read -r text line fault; do
@@ -86,15 +86,15 @@ older() { # FILE: the text of today's form in the older one
         }' "$1"
 }
 
-awk -v dir="$work" -v count=60 -f tests/random.awk > "$work/wanted"
+awk -v dir="$work" -v count=60 -f tests/program/random.awk > "$work/wanted"
 while read -r number wanted; do
-    run solve "$number.wcnf"
+    call solve "$number.wcnf"
     today=$out today_status=$status
     older "$work/$number.wcnf" > "$work/text"
-    run solve --proof proof text
+    call solve --proof proof text
     expect "instance $number" "$today_status" "$today" ''
     printf '%s\n' "$out" > "$work/result"
-    run check "$number.wcnf" result proof
+    call check "$number.wcnf" result proof
     expect "instance $number, the certificate" 0 YES ''
 done < "$work/wanted"
 
