@@ -4,7 +4,7 @@
 #   tests/drivers/pieces.sh [SEED..]
 source "$(dirname "$0")/../lib"
 
-driver pieces wcnf adder bound lrat_check
+driver pieces cnf wcnf adder bound lrat_check
 
 # some NAME TEXT: a certificate of this text over the four clauses of two variables
 some() {

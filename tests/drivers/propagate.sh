@@ -2,7 +2,7 @@
 # Unit propagation under random steps, each judged by plain slow code. The driver is run with no proof, by `rt try`.
 #   tests/drivers/propagate.sh [SEED..]
 source "$(dirname "$0")/../lib"
-driver propagate wcnf clauses propagate
+driver propagate cnf clauses propagate
 [ $# -gt 0 ] || set -- 1
 for seed; do
     drive -- "$seed" 200000

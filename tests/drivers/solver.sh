@@ -4,7 +4,7 @@
 #   tests/drivers/solver.sh [SEED..]
 source "$(dirname "$0")/../lib"
 
-driver solver wcnf clauses propagate analyze cdcl lrat_log lrat_check
+driver solver cnf clauses propagate analyze cdcl lrat_log lrat_check
 [ $# -gt 0 ] || set -- 1
 for seed; do
     drive --steps 1000 --seconds 100 -- "$seed" 300
