@@ -5,61 +5,15 @@ ghost use Rattle.clauses.specs.Slots.{Slots};
 ghost use Rattle.propagate.specs.Fits.{Fits};
 ghost use Rattle.analyze.specs.Learning.{greatest_level, chosen_reasons};
 ghost use Rattle.analyze.specs.Met.{HasMet, IsRising};
-ghost use Rattle.analyze.specs.Marks.{IsMet, IsReduced, KeepsMarked, learned_from, resolved_of};
+ghost use Rattle.analyze.specs.Marks.{learned_from, resolved_of};
 
 use crate::learning::SHORT;
 use crate::marks::{Mark, literal_at};
-use clauses::store::{CRef, Store};
+use clauses::store::CRef;
 use propagate::engine::Engine;
 use smallvec::SmallVec;
 use std::alloc::{AllocError, Global};
 use cnf::types::Lit;
-
-/// Whether each literal is of level 0 or marked.
-fn all_met(engine: &Engine, lits: &[Lit], marks: &[Mark]) -> bool
-    requires named { All (λ l. l.variable ≤ engine.now.variables) lits.now }
-    requires room { engine.now.variables < length marks.now }
-    ensures { IsTrue result → All (IsMet engine.now.trail marks.now) lits.now }
-{
-    for lit in lits {
-        let variable = lit.variable();
-        if marks[variable as usize] == Mark::Clear && engine.level(variable).unwrap_or(0) > 0 {
-            return false;
-        }
-    }
-    true
-}
-
-/// Drops a literal where its reason has marked literals and such of level 0 alone: it follows from
-/// the rest. In the order of the trail, so that a literal counts as marked that was dropped on the
-/// way.
-pub(crate) fn minimise(
-    engine: &Engine,
-    store: &Store,
-    asserting: Lit,
-    marks: &mut [Mark],
-    met: &[u32],
-)
-    requires fits { Fits engine.now store.now.slots }
-    requires room { engine.now.variables < length marks.old }
-    requires listed { HasMet engine.now.trail marks.old met.now }
-    requires reduced { IsReduced engine.now.trail marks.old asserting }
-    ensures reduced { IsReduced engine.now.trail marks.new asserting }
-    ensures same { KeepsMarked store.now.slots engine.now.trail marks.old marks.new }
-    ensures listed { HasMet engine.now.trail marks.new met.now }
-    ensures long { length marks.new ≡ length marks.old }
-{
-    for position in met {
-        let variable = literal_at(engine, *position).variable();
-        if marks[variable as usize] == Mark::Kept
-            && variable != asserting.variable()
-            && let Some(reason) = engine.reason(variable)
-            && all_met(engine, store.lits(reason), marks)
-        {
-            marks[variable as usize] = Mark::Resolved;
-        }
-    }
-}
 
 /// The clause, its asserting literal first, the others in the order of the trail.
 pub(crate) fn collect_literals(

@@ -6,10 +6,11 @@ ghost use Rattle.analyze.specs.Met.{HasMet};
 ghost use Rattle.clauses.specs.Slots.{IsLive, clause_at};
 ghost use Rattle.propagate.specs.Trail.{depth_of};
 ghost use Rattle.propagate.specs.Fits.{Fits};
-ghost use Rattle.analyze.specs.Learning.{IsAsserting, IsConflict, IsRefutedBy};
+ghost use Rattle.analyze.specs.Learning.{IsAsserting, IsConflict, IsInTrailOrder, IsRefutedBy};
 
-use crate::collect::{collect_hints, collect_literals, greatest, minimise};
+use crate::collect::{collect_hints, collect_literals, greatest};
 use crate::marks::{Mark, clear, mark_clause, resolve};
+use crate::minimise::{Idea, NOWHERE, minimise};
 use clauses::store::{CRef, Store};
 use propagate::engine::Engine;
 use smallvec::SmallVec;
@@ -45,6 +46,12 @@ pub struct Analyzer {
     // The variables that are marked, by their positions on the trail; between calls, those that the
     // last analysis met. It has room for all variables.
     met: Vec<u32>,
+    // By variable: what the minimisation at work knows of it, and all unknown between calls.
+    ideas: Vec<Idea>,
+    // The variables that a minimisation meets, by their positions on the trail. It has room for all.
+    queue: Vec<u32>,
+    // By level: the first position of a literal of it in the clause, and nowhere between calls.
+    firsts: Vec<u32>,
 }
 
 impl Model for Analyzer {
@@ -70,7 +77,16 @@ impl Analyzer {
         let count = variables as usize + 1;
         let marks = Vec::from_elem(alloc, Mark::Clear, count)?;
         let met = Vec::with_capacity(alloc, count)?;
-        Ok(Analyzer { marks, met })
+        let ideas = Vec::from_elem(alloc, Idea::Unknown, count)?;
+        let queue = Vec::with_capacity(alloc, count)?;
+        let firsts = Vec::from_elem(alloc, NOWHERE, count)?;
+        Ok(Analyzer {
+            marks,
+            met,
+            ideas,
+            queue,
+            firsts,
+        })
     }
 
     /// Learns a clause from one that is false and has a literal of the current level. Beside the
@@ -96,6 +112,8 @@ impl Analyzer {
             IsAsserting engine.now.trail learned.lits.items learned.back_level) }
         ensures hints { IfOk result (λ learned. IsRefutedBy store.now.slots engine.now.trail
             learned.lits.items learned.hints.items) }
+        ensures order { IfOk result (λ learned.
+            IsInTrailOrder engine.now.trail conflict learned.hints.items) }
         ensures same { self.new ≡ self.old }
     {
         self.met.clear();
@@ -107,6 +125,9 @@ impl Analyzer {
             conflict,
             &mut self.marks,
             &mut self.met,
+            &mut self.ideas,
+            &mut self.queue,
+            &mut self.firsts,
         );
         clear(engine, &mut self.marks, &mut self.met);
         learned
@@ -134,6 +155,8 @@ pub fn analyze(engine: &Engine, store: &Store, conflict: CRef) -> Result<Learned
         IsAsserting engine.now.trail learned.lits.items learned.back_level) }
     ensures hints { IfOk result (λ learned. IsRefutedBy store.now.slots engine.now.trail
         learned.lits.items learned.hints.items) }
+    ensures order { IfOk result (λ learned.
+        IsInTrailOrder engine.now.trail conflict learned.hints.items) }
 {
     let mut analyzer = Analyzer::new(store.allocator(), engine.variables())?;
     analyzer.analyze(engine, store, conflict)
@@ -147,6 +170,9 @@ fn learn(
     conflict: CRef,
     marks: &mut [Mark],
     met: &mut Vec<u32>,
+    ideas: &mut [Idea],
+    queue: &mut Vec<u32>,
+    firsts: &mut [u32],
 ) -> Result<Learned, AllocError>
     requires fits { Fits engine.now store.now.slots }
     requires live { IsLive store.now.slots conflict }
@@ -160,14 +186,16 @@ fn learn(
         IsAsserting engine.now.trail learned.lits.items learned.back_level) }
     ensures hints { IfOk result (λ learned. IsRefutedBy store.now.slots engine.now.trail
         learned.lits.items learned.hints.items) }
+    ensures order { IfOk result (λ learned.
+        IsInTrailOrder engine.now.trail conflict learned.hints.items) }
     ensures listed { HasMet engine.now.trail marks.new met.new.items }
     ensures long { length marks.new ≡ length marks.old }
     ensures spare { length marks.old ≤ vec_capacity met.new }
 {
     let count = mark_clause(engine, store.lits(conflict), marks, met);
     let asserting = resolve(engine, store, count, marks, met);
+    minimise(engine, store, asserting, marks, met, ideas, queue, firsts);
     met.sort_unstable();
-    minimise(engine, store, asserting, marks, met);
     let lits = collect_literals(alloc, engine, asserting, marks, met)?;
     let hints = collect_hints(alloc, engine, conflict, marks, met)?;
     let back_level = greatest(engine, &lits.as_slice()[1..]);

@@ -90,28 +90,61 @@ returns-clause-hints c =
     subst (λ x. IsRefutedBy slots T x c.in_ok-hints.hints.items) (sym c.in_ok-lits.ensures)
     (subst (IsRefutedBy slots T clause) (sym c.in_ok-hints.ensures) r)
 
+pub returns-clause-order : goal.returns-clause-order
+returns-clause-order c = record {
+  chosen = λ l. resolved_of c.minimise.new.marks l.variable;
+  ordered = c.in_ok-hints.ensures;
+}
+
 pub mark_clause-count-requires-clause-listed : goal.mark_clause-count-requires-clause-listed
 mark_clause-count-requires-clause-listed c =
     listed_none c.args.engine.now.trail c.args.marks.now c.args.met.now.items c.requires.clear
     c.requires.none
 
-pub minimise-requires-clause-listed : goal.minimise-requires-clause-listed
-minimise-requires-clause-listed c =
+pub collect_literals-requires-clause-listed : goal.collect_literals-requires-clause-listed
+collect_literals-requires-clause-listed c =
     let T = c.args.engine.now.trail in
-    let M = c.resolve-asserting.new.marks in
+    let M = c.minimise.new.marks in
     let sorted =
-    has_sorted T M c.resolve-asserting.new.met.items c.sort_unstable.new.self.items
-    c.sort_unstable.ensures.permutation c.resolve-asserting.ensures.listed.has in
+    has_sorted T M c.minimise.new.met.items c.sort_unstable.new.self.items
+    c.sort_unstable.ensures.permutation c.minimise.ensures.listed.has in
     subst (HasMet T M) (sym c.deref.ensures.value) sorted
+
+pub collect_hints-requires-clause-listed : goal.collect_hints-requires-clause-listed
+collect_hints-requires-clause-listed c =
+    let T = c.args.engine.now.trail in
+    let M = c.minimise.new.marks in
+    let sorted =
+    has_sorted T M c.minimise.new.met.items c.sort_unstable.new.self.items
+    c.sort_unstable.ensures.permutation c.minimise.ensures.listed.has in
+    subst (HasMet T M) (sym c.deref-2.ensures.value) sorted
 
 pub collect_literals-requires-clause-rising : goal.collect_literals-requires-clause-rising
 collect_literals-requires-clause-rising c =
-    rising_sorted c.resolve-asserting.new.met.items c.sort_unstable.new.self.items _
-    c.deref-2.ensures.value c.sort_unstable.ensures.permutation c.sort_unstable.ensures.sorted
-    c.resolve-asserting.ensures.listed.once
+    rising_sorted c.minimise.new.met.items c.sort_unstable.new.self.items _
+    c.deref.ensures.value c.sort_unstable.ensures.permutation c.sort_unstable.ensures.sorted
+    c.minimise.ensures.listed.once
 
 pub collect_hints-requires-clause-rising : goal.collect_hints-requires-clause-rising
 collect_hints-requires-clause-rising c =
-    rising_sorted c.resolve-asserting.new.met.items c.sort_unstable.new.self.items _
-    c.deref-3.ensures.value c.sort_unstable.ensures.permutation c.sort_unstable.ensures.sorted
-    c.resolve-asserting.ensures.listed.once
+    rising_sorted c.minimise.new.met.items c.sort_unstable.new.self.items _
+    c.deref-2.ensures.value c.sort_unstable.ensures.permutation c.sort_unstable.ensures.sorted
+    c.minimise.ensures.listed.once
+
+pub returns-in_err-lits-clause-listed : goal.returns-in_err-lits-clause-listed
+returns-in_err-lits-clause-listed c =
+    has_sorted c.args.engine.now.trail c.minimise.new.marks c.minimise.new.met.items
+    c.sort_unstable.new.self.items c.sort_unstable.ensures.permutation
+    c.minimise.ensures.listed.has
+
+pub returns-in_err-hints-clause-listed : goal.returns-in_err-hints-clause-listed
+returns-in_err-hints-clause-listed c =
+    has_sorted c.args.engine.now.trail c.minimise.new.marks c.minimise.new.met.items
+    c.sort_unstable.new.self.items c.sort_unstable.ensures.permutation
+    c.minimise.ensures.listed.has
+
+pub returns-clause-listed : goal.returns-clause-listed
+returns-clause-listed c =
+    has_sorted c.args.engine.now.trail c.minimise.new.marks c.minimise.new.met.items
+    c.sort_unstable.new.self.items c.sort_unstable.ensures.permutation
+    c.minimise.ensures.listed.has

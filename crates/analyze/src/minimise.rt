@@ -1,0 +1,320 @@
+// Recursive minimisation: a literal is redundant where its reason's literals are of level 0, stand
+// in the clause, were resolved, or are redundant in their turn.
+//
+// It has two halves. `find` only looks. A queue goes back over the reasons from the literals of the
+// clause, and takes in what may be redundant: it was implied, and a literal of its level stands in
+// the clause before it on the trail. Then one pass along the trail says of each whether it is,
+// since what a reason needs stands before. So each clause is read at most three times, with no
+// recursion and no search of the trail. Nothing rests on what it finds: `drop_redundant` resolves
+// it by its reasons, the last first, as any literal of a conflict is, so that the hints are just
+// the reasons that were used.
+ghost use Rattle.std.specs.Prelude.{◌≡◌, ◌<◌, ◌≤◌, ℕ, Some, All, length, vec_capacity};
+ghost use Rattle.analyze.specs.declared.marks.Mark.TheVariants.{Kept};
+ghost use Rattle.propagate.specs.Trail.{reason_in};
+ghost use Rattle.propagate.specs.Fits.{Fits};
+ghost use Rattle.analyze.specs.Met.{IsListed};
+ghost use Rattle.analyze.specs.Marks.{mark_at, IsReduced, KeepsMarked, Resolves};
+
+use crate::marks::{Mark, mark_clause};
+use clauses::store::{CRef, Store};
+use propagate::engine::Engine;
+use cnf::types::Lit;
+
+/// What a search for redundant literals knows of a variable.
+#[derive(Clone, Copy, Debug, PartialEq, Eq, Drop)]
+pub enum Idea {
+    /// It was not met.
+    Unknown,
+    /// It was met, and is not known to be redundant.
+    Visited,
+    /// It is redundant.
+    Redundant,
+}
+
+/// No literal of the level stands in the clause.
+pub(crate) const NOWHERE: u32 = u32::MAX;
+
+/// What is known of a variable.
+fn idea_of(ideas: &[Idea], variable: u32) -> Idea {
+    match ideas.get(variable as usize) {
+        Some(idea) => *idea,
+        None => Idea::Unknown,
+    }
+}
+
+/// Notes what is known of a variable.
+fn note(ideas: &mut [Idea], variable: u32, idea: Idea) {
+    if let Some(entry) = ideas.get_mut(variable as usize) {
+        *entry = idea;
+    }
+}
+
+/// The variable at a position of the trail; 0, which no literal has, past its end.
+fn variable_of(engine: &Engine, position: u32) -> u32
+    ensures { result ≤ engine.now.variables }
+{
+    match engine.trail().get(position as usize) {
+        Some(lit) => lit.variable().min(engine.variables()),
+        None => 0,
+    }
+}
+
+/// For each level, where the first literal of it stands that is kept, but for the asserting one.
+fn note_firsts(engine: &Engine, asserting: Lit, marks: &[Mark], met: &[u32], firsts: &mut [u32])
+    requires room { engine.now.variables < length marks.now }
+{
+    for position in met {
+        let variable = variable_of(engine, *position);
+        if marks[variable as usize] == Mark::Kept && variable != asserting.variable() {
+            let level = engine.level(variable).unwrap_or(0);
+            if let Some(first) = firsts.get_mut(level as usize) {
+                *first = (*first).min(*position);
+            }
+        }
+    }
+}
+
+/// Takes away what was noted of the levels of these variables.
+fn forget_firsts(engine: &Engine, met: &[u32], firsts: &mut [u32]) {
+    for position in met {
+        let level = engine.level(variable_of(engine, *position)).unwrap_or(0);
+        if let Some(first) = firsts.get_mut(level as usize) {
+            *first = NOWHERE;
+        }
+    }
+}
+
+/// Whether a variable that was not met may be redundant.
+fn may_follow(engine: &Engine, variable: u32, firsts: &[u32]) -> bool
+    requires { variable ≤ engine.now.variables }
+{
+    let level = engine.level(variable).unwrap_or(0);
+    let position = engine.position(variable).unwrap_or(0);
+    if level == 0 {
+        return true;
+    }
+    match firsts.get(level as usize) {
+        Some(first) => *first < position && engine.reason(variable).is_some(),
+        None => false,
+    }
+}
+
+/// Whether each literal is met, of level 0, or may be redundant.
+fn all_may_follow(
+    engine: &Engine,
+    lits: &[Lit],
+    marks: &[Mark],
+    ideas: &[Idea],
+    firsts: &[u32],
+) -> bool
+    requires named { All (λ l. l.variable ≤ engine.now.variables) lits.now }
+    requires room { engine.now.variables < length marks.now }
+{
+    for lit in lits {
+        let variable = lit.variable();
+        if marks[variable as usize] == Mark::Clear
+            && idea_of(ideas, variable) == Idea::Unknown
+            && !may_follow(engine, variable, firsts)
+        {
+            return false;
+        }
+    }
+    true
+}
+
+/// Takes in what was not met of a clause and stands above level 0.
+fn take_in(engine: &Engine, lits: &[Lit], marks: &[Mark], ideas: &mut [Idea], queue: &mut Vec<u32>)
+    requires named { All (λ l. l.variable ≤ engine.now.variables) lits.now }
+    requires room { engine.now.variables < length marks.now }
+{
+    for lit in lits {
+        let variable = lit.variable();
+        if marks[variable as usize] == Mark::Clear
+            && idea_of(ideas, variable) == Idea::Unknown
+            && engine.level(variable).unwrap_or(0) > 0
+        {
+            let position = engine.position(variable).unwrap_or(0);
+            let _ = queue.push(position);
+            note(ideas, variable, Idea::Visited);
+        }
+    }
+}
+
+/// Goes back over the reasons of what may be redundant.
+fn visit(
+    engine: &Engine,
+    store: &Store,
+    marks: &[Mark],
+    ideas: &mut [Idea],
+    queue: &mut Vec<u32>,
+    firsts: &[u32],
+)
+    requires fits { Fits engine.now store.now.slots }
+    requires room { engine.now.variables < length marks.now }
+{
+    let most = engine.assigned();
+    for next in 0..most {
+        if next < queue.len() {
+            let variable = variable_of(engine, queue[next]);
+            if let Some(reason) = engine.reason(variable) {
+                let lits = store.lits(reason);
+                if all_may_follow(engine, lits, marks, ideas, firsts) {
+                    take_in(engine, lits, marks, ideas, queue);
+                }
+            }
+        }
+    }
+}
+
+/// Whether each literal but one of this variable is of level 0, met or redundant.
+fn all_follow(engine: &Engine, lits: &[Lit], variable: u32, marks: &[Mark], ideas: &[Idea]) -> bool
+    requires named { All (λ l. l.variable ≤ engine.now.variables) lits.now }
+    requires room { engine.now.variables < length marks.now }
+{
+    for lit in lits {
+        let other = lit.variable();
+        if marks[other as usize] == Mark::Clear
+            && idea_of(ideas, other) != Idea::Redundant
+            && other != variable
+            && engine.level(other).unwrap_or(0) > 0
+        {
+            return false;
+        }
+    }
+    true
+}
+
+/// Says of each variable of the queue, which is in the order of the trail, whether it is redundant.
+fn settle(engine: &Engine, store: &Store, marks: &[Mark], ideas: &mut [Idea], queue: &[u32])
+    requires fits { Fits engine.now store.now.slots }
+    requires room { engine.now.variables < length marks.now }
+{
+    for position in queue {
+        let variable = variable_of(engine, *position);
+        if let Some(reason) = engine.reason(variable)
+            && all_follow(engine, store.lits(reason), variable, marks, ideas)
+        {
+            note(ideas, variable, Idea::Redundant);
+        }
+    }
+}
+
+/// Resolves a variable of a lower level by its reason.
+fn resolve_lower(
+    engine: &Engine,
+    store: &Store,
+    variable: u32,
+    reason: CRef,
+    marks: &mut [Mark],
+    met: &mut Vec<u32>,
+)
+    requires fits { Fits engine.now store.now.slots }
+    requires room { engine.now.variables < length marks.old }
+    requires small { variable ≤ engine.now.variables }
+    requires reason { reason_in engine.now.trail variable ≡ Some reason }
+    requires kept { mark_at marks.old variable ≡ Kept }
+    requires listed { IsListed engine.now.trail marks.old met.old.items }
+    requires spare { length marks.old ≤ vec_capacity met.old }
+    ensures resolved { Resolves store.now.slots engine.now.trail variable reason
+        marks.old marks.new }
+    ensures listed { IsListed engine.now.trail marks.new met.new.items }
+    ensures spare { length marks.old ≤ vec_capacity met.new }
+{
+    let _ = mark_clause(engine, store.lits(reason), marks, met);
+    marks[variable as usize] = Mark::Resolved;
+}
+
+/// Resolves what is kept of the redundant variables, the last first, since a reason's literals
+/// stand before.
+fn drop_redundant(
+    engine: &Engine,
+    store: &Store,
+    asserting: Lit,
+    ideas: &[Idea],
+    queue: &[u32],
+    marks: &mut [Mark],
+    met: &mut Vec<u32>,
+)
+    requires fits { Fits engine.now store.now.slots }
+    requires room { engine.now.variables < length marks.old }
+    requires listed { IsListed engine.now.trail marks.old met.old.items }
+    requires spare { length marks.old ≤ vec_capacity met.old }
+    requires reduced { IsReduced engine.now.trail marks.old asserting }
+    ensures reduced { IsReduced engine.now.trail marks.new asserting }
+    ensures same { KeepsMarked store.now.slots engine.now.trail marks.old marks.new }
+    ensures listed { IsListed engine.now.trail marks.new met.new.items }
+    ensures long { length marks.new ≡ length marks.old }
+    ensures spare { length marks.old ≤ vec_capacity met.new }
+{
+    let mut place = queue.len();
+    while place > 0 {
+        place -= 1;
+        let variable = variable_of(engine, queue[place]);
+        if idea_of(ideas, variable) == Idea::Redundant
+            && marks[variable as usize] == Mark::Kept
+            && variable != asserting.variable()
+            && let Some(reason) = engine.reason(variable)
+        {
+            resolve_lower(engine, store, variable, reason, marks, met);
+        }
+    }
+}
+
+/// Finds the redundant literals, and lists what was met by their positions, in the order of the
+/// trail.
+fn find(
+    engine: &Engine,
+    store: &Store,
+    asserting: Lit,
+    marks: &[Mark],
+    met: &[u32],
+    ideas: &mut [Idea],
+    queue: &mut Vec<u32>,
+    firsts: &mut [u32],
+)
+    requires fits { Fits engine.now store.now.slots }
+    requires room { engine.now.variables < length marks.now }
+{
+    queue.clear();
+    note_firsts(engine, asserting, marks, met, firsts);
+    for position in met {
+        let variable = variable_of(engine, *position);
+        if marks[variable as usize] == Mark::Kept && variable != asserting.variable() {
+            let _ = queue.push(*position);
+            note(ideas, variable, Idea::Visited);
+        }
+    }
+    visit(engine, store, marks, ideas, queue, firsts);
+    forget_firsts(engine, met, firsts);
+    queue.sort_unstable();
+    settle(engine, store, marks, ideas, queue);
+}
+
+/// Drops the redundant literals.
+pub(crate) fn minimise(
+    engine: &Engine,
+    store: &Store,
+    asserting: Lit,
+    marks: &mut [Mark],
+    met: &mut Vec<u32>,
+    ideas: &mut [Idea],
+    queue: &mut Vec<u32>,
+    firsts: &mut [u32],
+)
+    requires fits { Fits engine.now store.now.slots }
+    requires room { engine.now.variables < length marks.old }
+    requires listed { IsListed engine.now.trail marks.old met.old.items }
+    requires spare { length marks.old ≤ vec_capacity met.old }
+    requires reduced { IsReduced engine.now.trail marks.old asserting }
+    ensures reduced { IsReduced engine.now.trail marks.new asserting }
+    ensures same { KeepsMarked store.now.slots engine.now.trail marks.old marks.new }
+    ensures listed { IsListed engine.now.trail marks.new met.new.items }
+    ensures long { length marks.new ≡ length marks.old }
+    ensures spare { length marks.old ≤ vec_capacity met.new }
+{
+    find(engine, store, asserting, marks, met, ideas, queue, firsts);
+    drop_redundant(engine, store, asserting, ideas, queue, marks, met);
+    for position in queue.iter() {
+        note(ideas, variable_of(engine, *position), Idea::Unknown);
+    }
+}
