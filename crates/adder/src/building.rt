@@ -8,8 +8,8 @@ use crate::columns::{Adder, push_bit};
 use crate::networks::Network;
 use crate::relaxations::Relaxations;
 use crate::trees::add_tree;
-use std::alloc::{AllocError, Global};
 use cnf::types::Instance;
+use std::alloc::{AllocError, Global};
 
 /// The network of an instance in `Profile::One`, as `network_as` gives it.
 ///

@@ -6,8 +6,8 @@ ghost use Rattle.adder.specs.Parts.{literals_with, column_from};
 
 use crate::cells::Cell;
 use crate::relaxations::Relaxation;
-use std::alloc::{AllocError, Global};
 use cnf::types::Lit;
+use std::alloc::{AllocError, Global};
 
 /// The cells so far, and what goes on into the next column.
 #[derive(Drop)]

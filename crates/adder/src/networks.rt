@@ -2,9 +2,9 @@
 ghost use Rattle.std.specs.Prelude.{◌≡◌};
 
 use crate::cells::Cell;
+use cnf::types::Lit;
 use std::alloc::Global;
 use std::marker::Model;
-use cnf::types::Lit;
 
 /// Cells that add up the weights of the soft clauses whose relaxation literals are true.
 #[derive(Drop)]

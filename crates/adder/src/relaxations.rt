@@ -6,8 +6,8 @@ ghost use Rattle.adder.specs.Network.{relaxed_as, relaxed_variables, total_weigh
 ghost use Rattle.adder.specs.Parts.{relaxation_of, own_relaxation};
 
 use crate::cells::Profile;
-use std::alloc::AllocError;
 use cnf::types::{Clause, Instance, Lit, Soft};
+use std::alloc::AllocError;
 
 /// A relaxation literal: its soft clause may be falsified where it is true.
 #[derive(Drop)]

@@ -7,9 +7,9 @@ ghost use Rattle.adder.specs.Parts.{lightest_numbers, most_of, numbers_with, tre
 use crate::columns::Adder;
 use crate::networks::Network;
 use crate::relaxations::{Relaxation, Relaxations, digit_count};
+use cnf::types::Lit;
 use std::alloc::{AllocError, Global};
 use std::marker::Model;
-use cnf::types::Lit;
 
 /// A number in binary.
 #[derive(Drop)]

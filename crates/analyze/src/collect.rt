@@ -10,10 +10,10 @@ ghost use Rattle.analyze.specs.Marks.{learned_from, resolved_of};
 use crate::learning::SHORT;
 use crate::marks::{Mark, literal_at};
 use clauses::store::CRef;
+use cnf::types::Lit;
 use propagate::engine::Engine;
 use smallvec::SmallVec;
 use std::alloc::{AllocError, Global};
-use cnf::types::Lit;
 
 /// The clause, its asserting literal first, the others in the order of the trail.
 pub(crate) fn collect_literals(

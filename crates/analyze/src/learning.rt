@@ -12,11 +12,11 @@ use crate::collect::{collect_hints, collect_literals, greatest};
 use crate::marks::{Mark, clear, mark_clause, resolve};
 use crate::minimise::{Idea, NOWHERE, minimise};
 use clauses::store::{CRef, Store};
+use cnf::types::Lit;
 use propagate::engine::Engine;
 use smallvec::SmallVec;
 use std::alloc::{AllocError, Global};
 use std::marker::Model;
-use cnf::types::Lit;
 
 /// Learned clauses of so many literals or fewer keep them inline, so that they take no memory
 /// beside their hints.

@@ -17,8 +17,8 @@ ghost use Rattle.analyze.specs.Marks.{mark_at, IsReduced, KeepsMarked, Resolves}
 
 use crate::marks::{Mark, mark_clause};
 use clauses::store::{CRef, Store};
-use propagate::engine::Engine;
 use cnf::types::Lit;
+use propagate::engine::Engine;
 
 /// What a search for redundant literals knows of a variable.
 #[derive(Clone, Copy, Debug, PartialEq, Eq, Drop)]

@@ -9,8 +9,8 @@ ghost use Rattle.cdcl.specs.Running.{Runs, IsProblem};
 
 use crate::problem::Problem;
 use crate::search::Search;
-use std::alloc::AllocError;
 use cnf::types::Lit;
+use std::alloc::AllocError;
 
 /// The values of the formula's variables: those of the trail, with the eliminated ones set on the
 /// way back.

@@ -7,9 +7,9 @@ ghost use Rattle.cdcl.specs.Running.{IsReady, TakesClause, Takes, GivesOne};
 
 use crate::problem::Problem;
 use crate::search::Search;
+use cnf::types::{Clause, Lit};
 use lrat_log::lines::{Name, Number};
 use std::alloc::AllocError;
-use cnf::types::{Clause, Lit};
 
 /// Searches on with one clause more, from level 0.
 fn take_clause(search: &mut Search, number: u64, lits: &[Lit]) -> Result<(), AllocError>

@@ -1,7 +1,7 @@
 // What a solver was given. A search leaves it alone.
+use cnf::types::Clause;
 use eliminate::elimination::Stack;
 use lrat_log::lines::Name;
-use cnf::types::Clause;
 
 /// The clauses given, and the way back to them from what elimination left.
 #[derive(Drop)]

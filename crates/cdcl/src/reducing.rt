@@ -13,11 +13,11 @@ use crate::problem::Problem;
 use crate::search::Search;
 use cdcl_order::deletions::Candidate;
 use clauses::store::CRef;
+use cnf::types::Lit;
 use lrat_log::lines::{Hint, Kind, Line, Name};
 use lrat_log::sink::Sink;
 use propagate::engine::Engine;
 use std::alloc::AllocError;
-use cnf::types::Lit;
 
 /// Deletes a clause that is detached, where it is marked and live, and writes that down.
 fn delete<S: Sink>(

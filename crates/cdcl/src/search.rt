@@ -13,10 +13,10 @@ ghost use Rattle.cdcl.specs.Moves.{KeepsState};
 use analyze::learning::{Analyzer, Learned};
 use cdcl_order::policy::Policy;
 use clauses::store::{CRef, MaybeCRef, Store};
+use cnf::types::Lit;
 use lrat_log::lines::Name;
 use propagate::engine::Engine;
 use std::alloc::AllocError;
-use cnf::types::Lit;
 
 /// What a search works on, between its moves.
 #[derive(Drop)]

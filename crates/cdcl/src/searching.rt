@@ -1,7 +1,7 @@
 // The loop of a search (Handbook of Satisfiability, chapter on conflict-driven clause learning):
-// propagate, then learn from a conflict or decide. It starts over where its policy says so, which is
-// only after a clause was learned since it last did; so a search is bounded by its budget and the
-// variables without a value.
+// propagate, then learn from a conflict or decide. It starts over where its policy says so, which
+// is only after a clause was learned since it last did; so a search is bounded by its budget and
+// the variables without a value.
 ghost use Rattle.std.specs.Prelude.{◌≡◌, ◌≤◌, length, IfOk, OnOk, OnErr, IfSome, IfNone};
 ghost use Rattle.propagate.specs.Trail.{literals_of, depth_of};
 ghost use Rattle.propagate.specs.Fits.{IsFalseClause};
@@ -136,8 +136,8 @@ fn on_conflict<S: Sink>(
     Ok(None)
 }
 
-/// Starts over or decides, if something is left of the budget. Clauses are deleted after a decision:
-/// by then what was learned has been propagated, and each level below is quiet.
+/// Starts over or decides, if something is left of the budget. Clauses are deleted after a
+/// decision: by then what was learned has been propagated, and each level below is quiet.
 fn on_quiet<S: Sink>(
     search: &mut Search,
     problem: &Problem,

@@ -22,12 +22,12 @@ use crate::search::Search;
 use crate::searching::{End, run};
 use crate::starting::{given_clauses, start, store_of};
 use crate::tally::Tally;
+use cnf::types::{Clause, Formula, Lit};
 use eliminate::elimination::eliminate;
 use lrat_log::lines::Name;
 use lrat_log::sink::Sink;
 use std::alloc::AllocError;
 use std::marker::Model;
-use cnf::types::{Clause, Formula, Lit};
 
 /// Decides whether clauses can be satisfied together, and writes down why not as lines of a log.
 /// Clauses may be added between two searches, and each search goes on with what was learned before.

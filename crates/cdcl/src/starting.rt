@@ -13,12 +13,12 @@ use crate::search::Search;
 use analyze::learning::Analyzer;
 use cdcl_order::policy::Policy;
 use clauses::store::{CRef, MaybeCRef, Store};
+use cnf::clause_list::ClauseList;
+use cnf::types::Clause;
 use eliminate::elimination::Stack;
 use lrat_log::lines::{Name, Number};
 use propagate::engine::Engine;
 use std::alloc::{AllocError, Global};
-use cnf::clause_list::ClauseList;
-use cnf::types::Clause;
 
 /// A store of these clauses, in their order.
 pub(crate) fn store_of(clauses: &ClauseList) -> Result<Store, AllocError>

@@ -10,10 +10,10 @@ ghost use Rattle.cdcl.specs.Running.{IsReady, Places};
 
 use crate::search::Search;
 use clauses::store::CRef;
+use cnf::types::Lit;
 use lrat_log::lines::{Hint, Kind, Line, Name, Number};
 use lrat_log::sink::Sink;
 use std::alloc::AllocError;
-use cnf::types::Lit;
 
 impl Search {
     /// Adds a clause to the store under a name, and attaches it.

@@ -1,5 +1,5 @@
--- The first terms of the sequence by which a search starts over; values to try; block distances; and
--- a deletion.
+-- The first terms of the sequence by which a search starts over; values to try; block distances;
+-- and a deletion.
 use Rattle.std.specs.Prelude.{◌≡◌, ℕ, zero, suc, true, false, List, [], ◌∷◌, Some, None, refl}
 use Rattle.propagate.specs.Trail.{Assigned}
 use Rattle.cdcl_order.specs.declared.deletions.Candidate.{Candidate}

@@ -3,10 +3,10 @@
 ghost use Rattle.std.specs.Prelude.{◌≡◌, ◌+◌, ◌-◌, ◌<◌, ◌≤◌, ◌^◌, length, min, All, IfOk};
 ghost use Rattle.cdcl_order.specs.Levels.{distance_of};
 
+use cnf::types::Lit;
 use propagate::engine::Engine;
 use std::alloc::{AllocError, Global};
 use std::marker::Model;
-use cnf::types::Lit;
 
 /// Counts levels, with memory that it keeps between calls.
 #[derive(Drop)]

@@ -7,9 +7,9 @@ ghost use Rattle.cdcl_order.specs.Phases.{first_phases, phase_of, with_value, so
 ghost use Rattle.cdcl_order.specs.Phases.{values_under};
 ghost use Rattle.cdcl_order.specs.Restarts.{one_more};
 
+use cnf::types::Lit;
 use std::alloc::{AllocError, Global};
 use std::marker::Model;
-use cnf::types::Lit;
 
 /// The values to try first.
 #[derive(Drop)]

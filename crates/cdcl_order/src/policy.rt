@@ -15,10 +15,10 @@ use crate::phases::Phases;
 use crate::restarts::Pace;
 use crate::standings::{KEPT, Standing, Standings};
 use clauses::store::{CRef, Moves, Store};
+use cnf::types::Lit;
 use propagate::engine::Engine;
 use std::alloc::{AllocError, Global};
 use std::marker::Model;
-use cnf::types::Lit;
 
 /// What a search goes by.
 #[derive(Drop)]
@@ -120,8 +120,8 @@ impl Policy {
     }
 
     /// A conflict taught a clause: by these reasons, the conflict among them, whose analysis met
-    /// these variables. The engine is still as it was at the conflict. It answers the clause's block
-    /// distance: the number of levels above 0 among its literals.
+    /// these variables. The engine is still as it was at the conflict. It answers the clause's
+    /// block distance: the number of levels above 0 among its literals.
     pub fn learn_from(
         &mut self,
         engine: &Engine,

@@ -12,9 +12,9 @@ ghost use Rattle.clauses.specs.Slots.{IsRenaming};
 use crate::compaction::compact;
 use crate::heads::{Heads, Span};
 use crate::words::MaybeWord;
+use cnf::types::Lit;
 use std::alloc::{AllocError, Global};
 use std::marker::Model;
-use cnf::types::Lit;
 
 /// A store has at most so many references and literals; what would go beyond counts as a refused
 /// growth.

@@ -14,10 +14,10 @@ use crate::rounds::simplify;
 use crate::simplifier::Simplifier;
 use crate::units::propagate_units;
 use clauses::store::{CRef, Store};
+use eliminate_names::names::Names;
 use eliminate_tables::stack::Removals;
 use lrat_log::lines::Name;
 use lrat_log::sink::Sink;
-use eliminate_names::names::Names;
 use std::alloc::AllocError;
 use std::marker::Model;
 

@@ -8,8 +8,8 @@ ghost use Rattle.eliminate.specs.Ending.{IsResult};
 
 use crate::simplifier::Simplifier;
 use clauses::store::Store;
-use lrat_log::sink::Sink;
 use eliminate_pairs::pairs::define_pairs;
+use lrat_log::sink::Sink;
 use std::alloc::AllocError;
 
 /// At most so many variables are fresh.

@@ -11,12 +11,12 @@ ghost use Rattle.eliminate_names.specs.Work.{name_at};
 
 use crate::simplifier::Simplifier;
 use clauses::store::{CRef, Store};
+use cnf::types::Lit;
+use eliminate_names::names::Names;
 use eliminate_tables::resolvents::resolve;
 use lrat_log::lines::{Hint, Kind};
 use lrat_log::sink::Sink;
-use eliminate_names::names::Names;
 use std::alloc::{AllocError, Global};
-use cnf::types::Lit;
 
 /// Adds the resolvent of two clauses, the first with the pivot and the second with its negation,
 /// where it has no opposite pair. The empty one ends everything.

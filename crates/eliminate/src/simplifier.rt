@@ -12,16 +12,16 @@ ghost use Rattle.eliminate.specs.Simplifier.{IsSimplified, IsSimplifier, StaysSi
 ghost use Rattle.eliminate.specs.Simplifier.{LeavesLog, IsAddableLine};
 
 use clauses::store::{CRef, Store};
+use cnf::marks::Marks;
+use cnf::types::Lit;
+use eliminate_names::names::{Names, add, delete};
 use eliminate_tables::bins::Bins;
 use eliminate_tables::rows::Rows;
 use eliminate_tables::schedule::Schedule;
 use eliminate_tables::stack::Removals;
 use lrat_log::lines::{Hint, Kind};
 use lrat_log::sink::Sink;
-use eliminate_names::names::{Names, add, delete};
 use std::alloc::{AllocError, Global};
-use cnf::marks::Marks;
-use cnf::types::Lit;
 
 /// The tables of preprocessing, which all passes share.
 #[derive(Drop)]

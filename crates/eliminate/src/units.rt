@@ -17,12 +17,12 @@ ghost use Rattle.eliminate.specs.Units.{MakesTrue, IsPropagating, Propagates, As
 
 use crate::simplifier::Simplifier;
 use clauses::store::{CRef, MaybeCRef, Store};
-use lrat_log::lines::{Hint, Kind};
-use lrat_log::sink::Sink;
-use eliminate_names::names::Names;
-use std::alloc::{AllocError, Global};
 use cnf::marks::Marks;
 use cnf::types::Lit;
+use eliminate_names::names::Names;
+use lrat_log::lines::{Hint, Kind};
+use lrat_log::sink::Sink;
+use std::alloc::{AllocError, Global};
 
 /// The literals that are true, each by a clause of one literal.
 #[derive(Drop)]

@@ -19,12 +19,12 @@ ghost use Rattle.eliminate.specs.Variables.{ArePairsResolved, LeavesOut, KeepsWo
 use crate::resolving::add_resolvent;
 use crate::simplifier::Simplifier;
 use clauses::store::{CRef, Store};
+use cnf::types::Lit;
+use eliminate_names::names::{Names, delete};
 use eliminate_tables::schedule::Schedule;
 use eliminate_tables::worthwhile::{is_candidate, is_worthwhile};
 use lrat_log::sink::Sink;
-use eliminate_names::names::{Names, delete};
 use std::alloc::AllocError;
-use cnf::types::Lit;
 
 /// For each variable, so many tries in one pass.
 const MOST_TRIES: usize = 10;

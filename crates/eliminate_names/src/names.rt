@@ -9,11 +9,11 @@ ghost use Rattle.lrat_log.specs.Steps.{added_count};
 ghost use Rattle.eliminate_names.specs.Work.{name_at, added_line, delete_line, formula_names};
 
 use clauses::store::{CRef, Store};
+use cnf::types::Lit;
 use lrat_log::lines::{Hint, Kind, Line, Name, Number};
 use lrat_log::sink::Sink;
 use std::alloc::{AllocError, Global};
 use std::marker::Model;
-use cnf::types::Lit;
 
 /// The names of the clauses of a store, by reference.
 #[derive(Drop)]

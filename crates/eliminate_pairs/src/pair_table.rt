@@ -8,8 +8,8 @@ ghost use Rattle.std.specs.Prelude.{◌≡◌, ◌≤◌, IfSome};
 ghost use Rattle.clauses.specs.Slots.{IsLive};
 
 use clauses::store::{CRef, Store};
-use std::alloc::{AllocError, Global};
 use cnf::types::Lit;
+use std::alloc::{AllocError, Global};
 
 /// A pair is worth a variable where it stands in so many clauses.
 pub(crate) const FEWEST: usize = 4;

@@ -21,11 +21,11 @@ ghost use Rattle.eliminate_pairs.specs.Pairs.{HasPairOf, IsDefined, Keeps, Keeps
 
 use crate::pair_table::{Candidate, FEWEST, PairTable};
 use clauses::store::{CRef, Store};
+use cnf::types::Lit;
+use eliminate_names::names::{Names, add, delete};
 use lrat_log::lines::{Hint, Kind};
 use lrat_log::sink::Sink;
-use eliminate_names::names::{Names, add, delete};
 use std::alloc::{AllocError, Global};
-use cnf::types::Lit;
 
 /// Clauses with fresh variables have further pairs, for which the counting starts again so often.
 const MOST_ROUNDS: u32 = 6;

@@ -11,12 +11,12 @@ ghost use Rattle.subsume.specs.Against.{LiesAgainst};
 ghost use Rattle.eliminate_tables.specs.Bins.{ArePlaced};
 
 use clauses::store::{CRef, Store};
+use cnf::marks::Marks;
+use cnf::types::Lit;
 use std::alloc::{AllocError, Global};
 use std::marker::Model;
 use subsume::against::{Against, hold_against};
 use subsume::signatures::{maybe_subsets, signature};
-use cnf::marks::Marks;
-use cnf::types::Lit;
 
 /// So many clauses have room in a bin.
 const MOST_IN_A_BIN: usize = 100;

@@ -6,9 +6,9 @@ ghost use Rattle.cnf.specs.Clause.{without_literal, has_opposites};
 ghost use Rattle.cnf.specs.Marks.{HasPlace};
 ghost use Rattle.eliminate_tables.specs.Resolvents.{resolvent, unmarked_rest, is_opposed};
 
-use std::alloc::AllocError;
 use cnf::marks::Marks;
 use cnf::types::Lit;
+use std::alloc::AllocError;
 
 /// Builds the resolvent of two clauses, the first with the pivot and the second with its negation.
 /// The answer is whether it has no opposite pair; where it has one, what was built is of no use.

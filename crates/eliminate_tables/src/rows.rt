@@ -6,9 +6,9 @@ ghost use Rattle.cnf.specs.Marks.{HasPlace};
 ghost use Rattle.eliminate_tables.specs.Rows.{row_at, with_row, with_clause_rows, has_clause};
 
 use clauses::store::{CRef, Store};
+use cnf::types::Lit;
 use std::alloc::{AllocError, Global};
 use std::marker::Model;
-use cnf::types::Lit;
 
 /// A row of references for each literal.
 #[derive(Drop)]

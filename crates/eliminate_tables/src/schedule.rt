@@ -4,10 +4,10 @@ ghost use Rattle.std.specs.Prelude.{◌≡◌, ◌*◌, false, [], fold, replica
 ghost use Rattle.eliminate_tables.specs.Schedule.{entered, first_of, left, touched};
 ghost use Rattle.eliminate_tables.specs.Schedule.{count_of, with_count, without_first};
 
+use cnf::types::Lit;
 use std::alloc::{AllocError, Global};
 use std::collections::VecDeque;
 use std::marker::Model;
-use cnf::types::Lit;
 
 /// Counts of occurrences, and a queue of the variables whose clauses changed since they were tried.
 #[derive(Drop)]

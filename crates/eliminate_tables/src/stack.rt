@@ -11,9 +11,9 @@ ghost use Rattle.eliminate_tables.specs.Flat.{clauses_at, IsWithin, AddsClauses}
 ghost use Rattle.eliminate_tables.specs.Rows.{clauses_under};
 
 use clauses::store::{CRef, Store};
+use cnf::types::Lit;
 use std::alloc::{AllocError, Global};
 use std::marker::Model;
-use cnf::types::Lit;
 
 /// The literals of a clause, from one place up to another.
 #[derive(Clone, Copy, Drop)]

@@ -25,13 +25,13 @@ use bound::formulas::{comparator, formula_as};
 use cdcl::budget::Budget;
 use cdcl::outcome::Outcome;
 use cdcl::solver::Solver;
+use cnf::limits::NUMBER_LIMIT;
+use cnf::types::{Clause, Instance, Lit};
 use lrat_log::lines::{Name, Number};
 use lrat_log::log::Log;
 use lrat_log::rebase::rebase;
 use lrat_log::sink::Sink;
 use std::alloc::{AllocError, Global};
-use cnf::limits::NUMBER_LIMIT;
-use cnf::types::{Clause, Instance, Lit};
 
 /// No cost reaches this, as all weights sum to less; so it has no comparator clause.
 const NO_BOUND: u64 = NUMBER_LIMIT;

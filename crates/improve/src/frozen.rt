@@ -2,8 +2,8 @@
 ghost use Rattle.std.specs.Prelude.{◌≡◌, ◌<◌, true, length, Some, slice_get, All, IfOk};
 ghost use Rattle.improve.specs.Frozen.{AreFrozen, IsOutputWithin, KeepsFrozen};
 
-use std::alloc::{AllocError, Global};
 use cnf::types::Lit;
+use std::alloc::{AllocError, Global};
 
 /// For each variable from 1, whether an output has it.
 pub fn freeze_outputs(

@@ -19,9 +19,9 @@ use bound::formulas::hard_formula;
 use cdcl::budget::Budget;
 use cdcl::outcome::Outcome;
 use cdcl::solver::Solver;
+use cnf::types::Instance;
 use lrat_log::log::Log;
 use std::alloc::AllocError;
-use cnf::types::Instance;
 
 /// Looks for an optimum: first for a solution of the hard clauses, and then for cheaper ones until
 /// there is none or the budget is spent. The cost of each is told to `progress` as soon as it is

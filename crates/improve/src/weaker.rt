@@ -7,9 +7,9 @@ ghost use Rattle.lrat_log.specs.Log.{clauses_in};
 ghost use Rattle.lrat_log.specs.Rebase.{weaker_list};
 ghost use Rattle.improve.specs.Improving.{first_subset, weaker_among};
 
+use cnf::types::{Clause, Lit};
 use lrat_log::lines::Name;
 use std::alloc::{AllocError, Global};
-use cnf::types::{Clause, Lit};
 
 /// The clauses before, each with the number of the first of the last ones that is a subset of it,
 /// where the last ones have the numbers from `first` on. A bound has at most 62 clauses of at most

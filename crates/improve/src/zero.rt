@@ -7,11 +7,11 @@ ghost use Rattle.improve.specs.Improving.{IsAcceptedOver, IsClauseCount, repeats
 
 use adder::cells::Profile;
 use bound::formulas::formula_as;
+use cnf::types::Instance;
 use lrat_log::lines::{Hint, Kind, Line, Name, Number};
 use lrat_log::log::Log;
 use lrat_log::sink::Sink;
 use std::alloc::{AllocError, Global};
-use cnf::types::Instance;
 
 /// A log that refutes a formula.
 #[derive(Drop)]

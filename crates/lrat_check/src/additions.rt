@@ -14,10 +14,10 @@ use crate::hints::{Walked, leading, walk};
 use crate::rat::rat_fault;
 use crate::state::{Base, Scratch};
 use crate::verdicts::Cause;
+use cnf::types::Lit;
 use lrat_read::line::Line;
 use lrat_read::types::SignedId;
 use std::alloc::AllocError;
-use cnf::types::Lit;
 
 /// Assumes the negation of each literal; false where a literal stands twice or with its negation.
 pub(crate) fn assume_negations(clause: &[Lit], assumed: &mut Assumed) -> Result<bool, AllocError>

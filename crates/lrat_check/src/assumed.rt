@@ -5,9 +5,9 @@ ghost use Rattle.std.specs.Prelude.{length, take};
 ghost use Rattle.cnf.specs.Clause.{contains_literal};
 ghost use Rattle.lrat_check.specs.Assumed.{AreValues};
 
+use cnf::types::Lit;
 use std::alloc::{AllocError, Global};
 use std::marker::Model;
-use cnf::types::Lit;
 
 /// The literals that are assumed true, in the order in which they were assumed.
 #[derive(Drop)]

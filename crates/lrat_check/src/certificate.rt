@@ -9,8 +9,8 @@ ghost use Rattle.lrat_check.specs.Verdict.{proof_verdict};
 
 use crate::pieces::Checker;
 use crate::verdicts::Verdict;
-use std::alloc::AllocError;
 use cnf::types::Formula;
+use std::alloc::AllocError;
 
 /// Whether the proof, an LRAT certificate over the formula's clauses under the ids from 1, shows
 /// that they have no common solution (Cruz-Filipe et al. 2017). The first fault decides, with the

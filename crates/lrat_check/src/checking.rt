@@ -13,13 +13,13 @@ use crate::streams::check_stream;
 use crate::verdicts::{Cause, CheckFault, Verdict};
 use adder::cells::Profile;
 use bound::formulas::{formula_as, hard_formula};
+use cnf::types::{Formula, Instance};
 use lrat_result::report::{Report, ReportFault, Said, Solution};
 use lrat_result::result::read_report;
 use std::alloc::{AllocError, Global};
 use std::io::Read;
 use wcnf::faults::FaultKind;
 use wcnf::reading::read;
-use cnf::types::{Formula, Instance};
 
 // What is left to check once the texts but the proof were read.
 #[derive(Drop)]

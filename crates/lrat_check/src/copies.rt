@@ -1,9 +1,9 @@
 // A formula of one's own.
 ghost use Rattle.std.specs.Prelude.{◌≡◌, IfOk};
 
-use std::alloc::AllocError;
 use cnf::clause_list::ClauseList;
 use cnf::types::Formula;
+use std::alloc::AllocError;
 
 /// The same formula in memory of its own.
 pub(crate) fn copy_formula(formula: &Formula) -> Result<Formula, AllocError>

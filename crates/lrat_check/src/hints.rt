@@ -18,10 +18,10 @@ ghost use Rattle.lrat_read.specs.Form.{leading as leading_of};
 
 use crate::assumed::Assumed;
 use crate::verdicts::Cause;
+use cnf::types::Lit;
 use lrat_live::live::LiveClauses;
 use lrat_read::types::SignedId;
 use std::alloc::AllocError;
-use cnf::types::Lit;
 
 /// What a live clause does as a hint.
 #[derive(Clone, Copy, Debug, PartialEq, Eq, Drop)]

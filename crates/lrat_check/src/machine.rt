@@ -14,6 +14,7 @@ use crate::ahead::read_ahead;
 use crate::assumed::Assumed;
 use crate::state::{Base, Scratch};
 use crate::verdicts::{Cause, Verdict};
+use cnf::types::Formula;
 use lrat_live::live::LiveClauses;
 use lrat_read::batch::Batch;
 use lrat_read::line::{Line, ReadLine};
@@ -21,7 +22,6 @@ use lrat_read::reader::LineReader;
 use lrat_read::types::{Form, SignedId};
 use std::alloc::AllocError;
 use std::marker::Model;
-use cnf::types::Formula;
 
 /// Checks the lines of an LRAT certificate one after another (Cruz-Filipe et al. 2017). Between
 /// lines it is seen as the live clauses with their ids, the last id, whether the empty clause was

@@ -9,10 +9,10 @@ use crate::copies::copy_formula;
 use crate::machine::Machine;
 use crate::reading::Reading;
 use crate::verdicts::{FeedFault, Verdict};
+use cnf::types::Formula;
 use lrat_read::batch::Batch;
 use std::alloc::AllocError;
 use std::marker::Model;
-use cnf::types::Formula;
 
 /// Judges an LRAT certificate while it comes in, in pieces of any size (Cruz-Filipe et al. 2017). A
 /// line is judged once its line feed is there; what follows the last line feed is all of the text

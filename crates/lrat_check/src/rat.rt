@@ -15,10 +15,10 @@ use crate::assumed::Assumed;
 use crate::hints::{leading, walk};
 use crate::state::{Base, Scratch};
 use crate::verdicts::Cause;
+use cnf::types::Lit;
 use lrat_live::live::LiveClauses;
 use lrat_read::types::SignedId;
 use std::alloc::AllocError;
-use cnf::types::Lit;
 
 /// The ids with a dash, in their order, in place of what ids held.
 fn candidates_of(hints: &[SignedId], ids: &mut Vec<u64>) -> Result<(), AllocError>

@@ -8,8 +8,8 @@ ghost use Rattle.lrat_check.specs.Verdict.{proof_verdict};
 
 use crate::pieces::Checker;
 use crate::verdicts::{CheckFault, Verdict};
-use std::io::Read;
 use cnf::types::Formula;
+use std::io::Read;
 
 /// As `check_owned`, with the certificate from a reader.
 pub(crate) fn check_stream<R: Read>(formula: Formula, proof: &mut R) -> Result<Verdict, CheckFault>

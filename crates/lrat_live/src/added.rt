@@ -14,9 +14,9 @@ use crate::counts::count_entries;
 use crate::entries::{Entry, find, is_above};
 use crate::pages::Counts;
 use crate::reclaim::reclaim;
+use cnf::types::Lit;
 use std::alloc::{AllocError, Global};
 use std::marker::Model;
-use cnf::types::Lit;
 
 /// An entry takes as much memory as six literals.
 const ENTRY: usize = 6;

@@ -4,8 +4,8 @@ ghost use Rattle.lrat_live.specs.Table.{cells_of, keys_of, clauses_in, IsTable, 
 ghost use Rattle.lrat_live.specs.Table.{IsAboveLast};
 
 use crate::entries::{Entry, bucket, grow};
-use std::alloc::AllocError;
 use cnf::types::Lit;
+use std::alloc::AllocError;
 
 /// There are at most so many literals and so many entries, that their places fit 32 bits.
 const MOST: usize = 4294967294;

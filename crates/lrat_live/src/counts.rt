@@ -9,8 +9,8 @@ ghost use Rattle.lrat_live.specs.Table.{cells_of, clauses_in, IsLaid};
 
 use crate::entries::Entry;
 use crate::pages::Counts;
-use std::alloc::AllocError;
 use cnf::types::Lit;
+use std::alloc::AllocError;
 
 /// How often the literal stands in the clause.
 pub(crate) fn times_in(lit: Lit, clause: &[Lit]) -> usize

@@ -13,9 +13,9 @@ use crate::added::Added;
 use crate::counts::{count_last, count_of, is_next, lower, times_in};
 use crate::near::Near;
 use crate::pages::Counts;
+use cnf::types::{Formula, Lit};
 use std::alloc::AllocError;
 use std::marker::Model;
-use cnf::types::{Formula, Lit};
 
 /// The live clauses of a certificate with their ids.
 #[derive(Drop)]

@@ -21,9 +21,9 @@ use crate::added::{Added, is_mostly_dead};
 use crate::pages::Counts;
 use crate::spans::{DEAD, MOST, Span, count_live, is_live, literals_at, spans_of};
 use crate::window::{extend, move_on, place_for, squeeze};
+use cnf::types::{Formula, Lit};
 use std::alloc::AllocError;
 use std::marker::Model;
-use cnf::types::{Formula, Lit};
 
 /// The clauses whose ids lead straight to their places.
 #[derive(Drop)]

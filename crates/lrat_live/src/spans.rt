@@ -10,9 +10,9 @@ ghost use Rattle.lrat_live.specs.Pages.{count_in};
 
 use crate::counts::raise;
 use crate::pages::Counts;
-use std::alloc::AllocError;
 use cnf::clause_list::ClauseList;
 use cnf::types::Lit;
+use std::alloc::AllocError;
 
 /// Where a clause's literals lie.
 #[derive(Clone, Copy, Drop)]

@@ -7,8 +7,8 @@ ghost use Rattle.lrat_live.specs.Near.{spanned, padded, nowhere, AreWithin, AreS
 use crate::added::Added;
 use crate::reclaim::move_down;
 use crate::spans::{DEAD, Span, is_live, literals_at, nowhere};
-use std::alloc::AllocError;
 use cnf::types::Lit;
+use std::alloc::AllocError;
 
 /// At most so many ids are passed over, each with a span of no clause.
 const PASSED: u64 = 16;

@@ -4,8 +4,8 @@
 // among the additions.
 ghost use Rattle.std.specs.Prelude.{◌≡◌, ℕ, ◌<◌, ◌≤◌, ◌^◌};
 
-use std::marker::Model;
 use cnf::types::Lit;
+use std::marker::Model;
 
 /// A number from 1, below 2^62.
 #[derive(Clone, Copy, Debug, PartialEq, Eq, Drop)]

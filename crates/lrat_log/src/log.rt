@@ -16,12 +16,11 @@ use crate::lines::{Hint, Kind, Line};
 use crate::packed::PackedHint;
 use crate::sink::Sink;
 use crate::spelling::{put_addition, put_deletion};
+use cnf::types::Lit;
 use std::alloc::{AllocError, Global};
 use std::io::Write;
 use std::marker::Model;
-use text::output::WriteFault;
-use text::output::Block;
-use cnf::types::Lit;
+use text::output::{Block, WriteFault};
 
 /// A log has fewer lines than this, 2^61.
 const LINE_LIMIT: usize = 1 << 61;

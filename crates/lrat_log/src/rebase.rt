@@ -11,8 +11,8 @@ ghost use Rattle.lrat_log.specs.Rebase.{weaker_line, weaker_list};
 use crate::lines::{Hint, Kind, Line, Name, Number};
 use crate::log::Log;
 use crate::sink::Sink;
-use std::alloc::{AllocError, Global};
 use cnf::types::Lit;
+use std::alloc::{AllocError, Global};
 
 /// The log of a solver that was given `fixed` clauses, then the weaker ones, then others, as a log
 /// over the fixed clauses and the others: a line for each weaker clause, whose one hint is the

@@ -7,11 +7,10 @@ ghost use Rattle.lrat_log.specs.Log.{IsPlain, id_of, name_of, leading_ids, group
 ghost use Rattle.lrat_log.specs.Texts.{number_text, literals_text, hints_text, end_text, line_text};
 
 use crate::packed::PackedHint;
+use cnf::types::Lit;
 use itoa::write_digits;
 use std::io::Write;
-use text::output::WriteFault;
-use text::output::Block;
-use cnf::types::Lit;
+use text::output::{Block, WriteFault};
 
 /// Room for a dash, the 20 digits of the largest number, and a space.
 const NUMBER_ROOM: usize = 22;

@@ -7,10 +7,10 @@ ghost use Rattle.lrat_read.specs.Plain.{AreKept, AreSpansWithin, lines_in};
 use crate::line::{Line, ReadLine};
 use crate::plain::{Span, Used, plain_line};
 use crate::types::SignedId;
+use cnf::types::Lit;
 use std::alloc::{AllocError, Global};
 use std::marker::Model;
 use text::pieces::line_feed_at;
-use cnf::types::Lit;
 
 /// At most so many literals, and so many hints, are held of lines that are read together.
 const ROOM: usize = 16_384;

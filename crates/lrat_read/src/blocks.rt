@@ -5,9 +5,9 @@ ghost use Rattle.lrat_read.specs.Blocks.{IsLitsRead, IsHintsRead, IsLastRead};
 
 use crate::numbers::{NumberAt, number_at, skip_blanks};
 use crate::types::SignedId;
-use std::alloc::AllocError;
 use cnf::limits::VARIABLE_LIMIT;
 use cnf::types::Lit;
+use std::alloc::AllocError;
 
 /// Where a block of literals ends, and whether one of them is too large for `Lit`.
 #[derive(Clone, Copy, Drop)]

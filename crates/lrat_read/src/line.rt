@@ -2,8 +2,8 @@
 ghost use Rattle.std.specs.Prelude.{◌≡◌, ◌<◌, ◌^◌};
 
 use crate::types::{Form, SignedId};
-use std::marker::Model;
 use cnf::types::Lit;
+use std::marker::Model;
 
 /// An addition or a deletion, in the buffers of its reader.
 #[derive(Drop)]

@@ -7,9 +7,9 @@ use crate::blocks::{has_dash, read_last, read_lits};
 use crate::line::Line;
 use crate::numbers::{NumberAt, after_letter, number_at};
 use crate::types::{Form, SignedId};
+use cnf::types::Lit;
 use std::alloc::{AllocError, Global};
 use std::marker::Model;
-use cnf::types::Lit;
 
 /// One line, in buffers that are used again for each line.
 #[derive(Drop)]

@@ -11,8 +11,8 @@ ghost use Rattle.lrat_result.specs.Report.{report_with};
 
 use crate::report::{Cost, Heading, Report, ReportFault, Said, Solution, Stage, Status};
 use crate::words::{Words, words_of};
-use std::alloc::{AllocError, Global};
 use cnf::limits::NUMBER_LIMIT;
+use std::alloc::{AllocError, Global};
 use text::cutting::{lines, number};
 
 /// What the result text says, or its first line that cannot stand there.

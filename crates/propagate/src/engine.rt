@@ -18,11 +18,11 @@ mod waiting;
 
 use crate::trail::Trail;
 use clauses::store::{CRef, Store};
-use std::alloc::{AllocError, Global};
-use std::marker::Model;
+use cnf::types::Lit;
 use propagate_watches::pool::WatchPool;
 use propagate_watches::table::{Attachment, Table};
-use cnf::types::Lit;
+use std::alloc::{AllocError, Global};
+use std::marker::Model;
 
 /// Why an engine gave no answer.
 #[derive(Clone, Copy, Debug, PartialEq, Eq, Drop)]

@@ -6,8 +6,8 @@ ghost use Rattle.propagate.specs.Trail.{value_in, level_in};
 ghost use Rattle.propagate.specs.Fits.{IsRest};
 
 use crate::trail::Trail;
-use propagate_watches::table::Rest;
 use cnf::types::Lit;
+use propagate_watches::table::Rest;
 
 /// The first literal that is not false; none where all are.
 pub(crate) fn find_not_false(trail: &Trail, lits: &[Lit]) -> Option<Lit>

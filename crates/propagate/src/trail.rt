@@ -13,9 +13,9 @@ ghost use Rattle.propagate.specs.Renames.{named_trail};
 use crate::truth::Truth;
 use crate::vardata::VarTable;
 use clauses::store::{CRef, Moves};
+use cnf::types::Lit;
 use std::alloc::{AllocError, Global};
 use std::marker::Model;
-use cnf::types::Lit;
 
 /// Literals in the order in which they became true. It has room for all variables, so it takes
 /// memory only when it is made.

@@ -5,11 +5,11 @@ ghost use Rattle.propagate.specs.Fits.{Fits, IsWithin};
 
 use crate::faults::Fault;
 use clauses::store::{CRef, Store};
+use cnf::limits::VARIABLE_LIMIT;
+use cnf::types::Lit;
 use propagate::engine::Engine;
 use std::alloc::AllocError;
-use cnf::limits::VARIABLE_LIMIT;
 use text::cutting::{lines, number, tokens};
-use cnf::types::Lit;
 
 /// What a token says.
 #[derive(Clone, Copy, Drop)]

@@ -4,8 +4,8 @@ ghost use Rattle.propagate.specs.Fits.{Fits};
 
 use crate::faults::Fault;
 use clauses::store::Store;
-use propagate::engine::Engine;
 use cnf::types::Lit;
+use propagate::engine::Engine;
 
 /// What the rounds did. A propagation is a literal that came onto the trail and was no decision.
 #[derive(Clone, Copy, Drop)]

@@ -16,10 +16,10 @@ ghost use Rattle.propagate_watches.specs.Renames.{named_entry, named_rows};
 use crate::doomed::is_doomed;
 use crate::moved::new_entry;
 use clauses::store::{CRef, Moves};
+use cnf::types::Lit;
+use propagate_block::Block;
 use std::alloc::{AllocError, Global};
 use std::marker::Model;
-use propagate_block::Block;
-use cnf::types::Lit;
 
 /// A clause that watches a literal, and another literal of it.
 #[derive(Clone, Copy, Debug, PartialEq, Eq, Drop)]

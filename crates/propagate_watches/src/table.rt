@@ -12,9 +12,9 @@ ghost use Rattle.propagate_watches.specs.Table.{IsWatching};
 ghost use Rattle.propagate_watches.specs.Table.{IsWatchedBy};
 
 use clauses::store::CRef;
+use cnf::types::Lit;
 use std::alloc::{AllocError, Global};
 use std::marker::Model;
-use cnf::types::Lit;
 
 /// Whether the clause of a reference is attached, and how the engine keeps it.
 #[derive(Clone, Copy, Debug, PartialEq, Eq, Drop)]

@@ -8,12 +8,12 @@ ghost use Rattle.std.specs.Prelude.{◌≡◌, ◌<◌, ◌≤◌, ◌^◌, All,
 ghost use Rattle.cnf.specs.Lrat.{IsId};
 ghost use Rattle.lrat_log.specs.Log.{HasSmallIds, id_of, name_of, number_in};
 
+use cnf::types::Lit;
 use lrat_log::lines::{Hint, Kind, Line, Name, Number};
 use lrat_log::log::{Log, write_to};
 use lrat_log::sink::Sink;
 use std::alloc::{AllocError, Global};
 use std::{env, io};
-use cnf::types::Lit;
 
 /// Clauses of the formula; hints name these, and as many additions.
 const BASE: u64 = 1_000_000;

@@ -17,8 +17,7 @@ use improve::found::Found;
 use lrat_log::log::{Log, write_to};
 use lrat_log::sink::Sink;
 use std::io::Write;
-use text::output::WriteFault;
-use text::output::Block;
+use text::output::{Block, WriteFault};
 
 /// Writes what was found, and flushes each writer once.
 ///

@@ -4,8 +4,8 @@ ghost use Rattle.std.specs.Prelude.{◌≡◌, Some};
 use adder::cells::Profile;
 use clap::builder::ValueParser;
 use clap::{Arg, ArgAction, Command, Error};
-use std::alloc::Global;
 use cnf::limits::NUMBER_LIMIT;
+use std::alloc::Global;
 
 /// The greatest cost: weights of an instance sum to less than 2^62.
 pub const MOST_COST: u64 = NUMBER_LIMIT - 1;

@@ -9,9 +9,8 @@ ghost use Rattle.report.specs.Printing.{no_text, verdict_text};
 use crate::fault::RunFault;
 use lrat_check::verdicts::{Cause, Verdict};
 use std::io::Write;
+use text::output::{Block, WriteFault, write_piece};
 use wcnf::faults::{FaultKind, ReadFault};
-use text::output::WriteFault;
-use text::output::{Block, write_piece};
 
 /// Writes the verdict's line: `YES`, or `NO`, the cause's name and the line of the text, result or
 /// certificate that it stands on.

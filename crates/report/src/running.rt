@@ -8,12 +8,12 @@ use crate::status::Status;
 use crate::telling::{Finished, Told};
 use adder::cells::Profile;
 use cdcl::budget::Budget;
+use cnf::types::Instance;
 use improve::found::{Found, ImproveFault};
 use improve::search::improve_as;
 use std::alloc::Global;
 use std::io::{Read, Write};
 use wcnf::reading::read_from;
-use cnf::types::Instance;
 
 /// Reads an instance, looks for an optimum, and writes the result and the certificate that proves
 /// it.

@@ -12,8 +12,7 @@ use improve::progress::{Progress, ProgressFault};
 use itoa::write_digits;
 use std::alloc::Global;
 use std::io::Write;
-use text::output::WriteFault;
-use text::output::write_piece;
+use text::output::{WriteFault, write_piece};
 
 /// Room for `o `, the 20 digits of the greatest number, and a line feed.
 const LINE_ROOM: usize = 23;

@@ -27,10 +27,10 @@ ghost use Rattle.propagate.specs.Queue.{LookSays, StepSays};
 use super::Engine;
 use crate::search::find_other_not_false;
 use clauses::store::{CRef, Store};
-use std::alloc::AllocError;
+use cnf::types::Lit;
 use propagate_watches::pool::Entry;
 use propagate_watches::table::Rest;
-use cnf::types::Lit;
+use std::alloc::AllocError;
 
 /// What is found of a clause whose watched literal is false.
 #[derive(Clone, Copy, Drop)]

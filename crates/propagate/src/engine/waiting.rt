@@ -21,10 +21,10 @@ ghost use Rattle.propagate.specs.Steps.{IsMadeTrue, is_waiting, watched, with_at
 use super::Engine;
 use crate::search::{find_not_false, find_other_not_false, find_other_of_level, gather_rest};
 use clauses::store::{CRef, Store};
-use std::alloc::AllocError;
+use cnf::types::Lit;
 use propagate_watches::pool::Entry;
 use propagate_watches::table::{Attachment, Table};
-use cnf::types::Lit;
+use std::alloc::AllocError;
 
 /// Whether the clause is to be looked at.
 fn waits(table: &Table, reference: CRef) -> bool

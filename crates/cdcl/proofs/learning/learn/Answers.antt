@@ -117,13 +117,15 @@ returns-clause-runs g c =
       clause = c.as_slice-2.result.now;
       hints = c.in_ok-hints.hints.items;
     } in
-    let bumped : IsRunning c.learn_from-distance.new.self.engine c.learn_from-distance.new.self.store.slots p.stack
+    let bumped : IsRunning c.learn_from-distance.new.self.engine
+    c.learn_from-distance.new.self.store.slots p.stack
     (tables_of c.learn_from-distance.new.self) p.frozen.items p.first p.given.items ls =
     subst (λ (x : Search). IsRunning x.engine (x.store).slots p.stack (tables_of x) p.frozen.items
     p.first p.given.items ls) (sym c.learn_from-distance.ensures.same) c.requires.runs.running in
     let moved = c.backtrack.ensures.state p ls bumped in
     let trail : m.engine.trail ≡ kept_to learned.back_level T = c.backtrack.ensures.trail
-    ∙ ap (λ (x : Search). kept_to learned.back_level (x.engine).trail) c.learn_from-distance.ensures.same in
+    ∙ ap (λ (x : Search). kept_to learned.back_level (x.engine).trail)
+    c.learn_from-distance.ensures.same in
     let long : length c.hints_of.new.stamps ≡ s.stamps.len =
     c.hints_of.ensures.long ∙ ap length c.deref_mut.ensures.value ∙ sym s.stamps.ok.0 in
     let stamps : m.stamps.items ≡ c.hints_of.new.stamps =
