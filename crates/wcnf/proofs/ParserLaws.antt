@@ -217,13 +217,10 @@ all_read a b c bytes buf k p q e =
     subst (Consumes a c) (append-nil bytes)
     (Consumes-trans a b c bytes [] p (subst (Consumes b c) (ap (λ j. take j buf) e) q))
 
--- a fault of the whole text, where it is known
-abbrev pub IsOfText : Option (List ℕ) → ReadFault → Type 0
-IsOfText known f = NoMemory f ⊎ IfSome known (λ text. IsFirstFault text f.kind f.line)
-
--- the reader's own fault, or one of the whole text, which was read to its end
-abbrev pub IsTold : Option (List ℕ) → Option (List ℕ) → ReadFault → Type 0
-IsTold known left f = (f ≡ record { kind = Read; line = 0 }) ⊎ (IsAtEnd left × IsOfText known f)
+-- the reader's own fault, or one of the whole text, where that is known
+abbrev IsRefusedReading : Option (List ℕ) → ReadFault → Type 0
+IsRefusedReading known f = NoMemory f ⊎ (f ≡ record { kind = Read; line = 0 })
+    ⊎ IfSome known (λ text. IsFirstFault text f.kind f.line)
 
 over_known : (a c : Option (List ℕ)) (bytes piece : List ℕ) (f : ReadFault)
     → Consumes a c (bytes ++ piece)
@@ -235,19 +232,26 @@ over_known (Some x) (Some y) bytes piece f p h =
     subst (λ t. IsFirstFault t f.kind f.line) (sym p) (h y)
 
 pub piece_refused : (a b c : Option (List ℕ)) (bytes piece : List ℕ) (p : Parser) (f : ReadFault)
-    → Consumes a b bytes → Consumes b c piece → Stands p bytes → Refuses p piece f → IsOfText a f
+    → Consumes a b bytes → Consumes b c piece → Stands p bytes → Refuses p piece f
+    → IsRefusedReading a f
 piece_refused a b c bytes piece p f u v s (inl m) = inl m
 piece_refused a b c bytes piece p f u v s (inr r) =
-    inr (over_known a c bytes piece f (Consumes-trans a b c bytes piece u v)
-    (λ more. r bytes more s))
+    inr (inr (over_known a c bytes piece f (Consumes-trans a b c bytes piece u v)
+    (λ more. r bytes more s)))
 
 pub reader_refused : {X : Type 0} (a c : Option (List ℕ)) (bytes : List ℕ) (p : Parser)
     (r : Result X ReadFault) → Consumes a c bytes → IsAtEnd c → Stands p bytes
-    → IfErr r (IsRefusedAtEnd p) → IfErr r (IsTold a c)
+    → IfErr r (IsRefusedAtEnd p) → IfErr r (IsRefusedReading a)
 reader_refused a c bytes p (Ok x) u e s h = tt
-reader_refused a c bytes p (Err f) u e s (inl m) = inr (e, inl m)
+reader_refused a c bytes p (Err f) u e s (inl m) = inl m
 reader_refused a c bytes p (Err f) u e s (inr g) =
-    inr (e, inr (Consumes-whole a c bytes (λ t. IsFirstFault t f.kind f.line) u e (g bytes s)))
+    inr (inr (Consumes-whole a c bytes (λ t. IsFirstFault t f.kind f.line) u e (g bytes s)))
+
+-- what is told at the end is told there
+pub told_at_end : {X : Type 0} (c : Option (List ℕ)) (r : Result X ReadFault) → IsAtEnd c
+    → IfErr r (λ f. (f ≡ record { kind = Read; line = 0 }) ⊎ IsAtEnd c)
+told_at_end c (Ok x) e = tt
+told_at_end c (Err f) e = inr e
 
 pub reader_read : (a c : Option (List ℕ)) (bytes : List ℕ) (p : Parser)
     (r : Result Problem ReadFault) → Consumes a c bytes → IsAtEnd c → Stands p bytes

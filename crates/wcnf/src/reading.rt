@@ -54,10 +54,11 @@ pub fn read_from<R: Read>(alloc: Global, reader: &mut R) -> Result<Instance, Rea
         (λ i. IfSome (R.remaining reader.old) (λ text. (p : Problem) → Reads text p → p ≡ i)) }
 
     // The reader's own fault, or that of the whole text, which was read to its end.
-    ensures fault { IfErr result (λ f. (f ≡ record { kind = FaultKind.Read; line = 0 })
-        ⊎ (IsAtEnd (R.remaining reader.new)
-        × ((f ≡ record { kind = FaultKind.Memory; line = 0 })
-        ⊎ IfSome (R.remaining reader.old) (λ text. IsFirstFault text f.kind f.line)))) }
+    ensures fault { IfErr result (λ f. (f ≡ record { kind = FaultKind.Memory; line = 0 })
+        ⊎ (f ≡ record { kind = FaultKind.Read; line = 0 })
+        ⊎ IfSome (R.remaining reader.old) (λ text. IsFirstFault text f.kind f.line)) }
+    ensures whole { IfErr result (λ f. (f ≡ record { kind = FaultKind.Read; line = 0 })
+        ⊎ IsAtEnd (R.remaining reader.new)) }
 {
     let mut parser = Parser::new(alloc);
     let mut chunk = [0u8; 65536];

@@ -2,7 +2,7 @@
 use Rattle.std.proofs.Common.{rules, ◌≡◌, [], arith, inr}
 use Rattle.std.specs.Io.KnownBytes.{IsAtEnd}
 use Rattle.std.proofs.KnownBytes.{Consumes-nil, Consumes-trans}
-use Rattle.wcnf.proofs.ParserLaws.{all_read, piece_refused, reader_refused, reader_read}
+use Rattle.wcnf.proofs.ParserLaws.{all_read, piece_refused, reader_refused, reader_read, told_at_end}
 use Rattle.wcnf.proofs.ParserLaws.{reader_read_one}
 use Rattle.wcnf.proofs.reading.read_from.Goals as goal
 
@@ -39,14 +39,17 @@ returns-in-Ok-eq0-clause-fault g c =
     (all_read _ _ _ i.0 _ c.in-Ok-eq0.field-0 i.2 c.in-Ok-eq0.ensures.bytes.0 zero) end i.1
     c.finish.ensures.fault
 
+pub returns-in-Ok-eq0-clause-whole : goal.returns-in-Ok-eq0-clause-whole
+returns-in-Ok-eq0-clause-whole g c =
+    let zero : c.in-Ok-eq0.field-0 ≡ 0 = first_of (omega arith, search rules, cc) in
+    let end : IsAtEnd (g.R.Read.remaining c.read.new.self) = search rules in
+    told_at_end _ c.finish.result end
+
 pub returns-in-Err-feed-clause-fault : goal.returns-in-Err-feed-clause-fault
 returns-in-Err-feed-clause-fault g c =
     let i = c.pieces.invariant in
-    inr (
-      c.in_ok-read_on.ensures.at_end,
-      piece_refused _ _ _ i.0 _ c.pieces.parser _ i.2
-          c.in-Ok.ensures.bytes.0 i.1 c.in-Err-feed.ensures.fault,
-    )
+    piece_refused _ _ _ i.0 _ c.pieces.parser _ i.2 c.in-Ok.ensures.bytes.0 i.1
+    c.in-Err-feed.ensures.fault
 
 pub pieces-preserved : goal.pieces-preserved
 pieces-preserved g c =

@@ -1,0 +1,12 @@
+use Rattle.std.proofs.Common.{length, arith}
+use Rattle.sums.specs.Sums.{halved}
+use Rattle.sums.proofs.Making.{odd_length, too_many}
+use Rattle.sums.proofs.halving.halve_list.Goals as goal
+
+pub returns-then-not-has_room-clause-many : goal.returns-then-not-has_room-clause-many
+returns-then-not-has_room-clause-many c =
+    let v = c.args.builder.now.fresh in
+    let xs = c.args.list.now in
+    too_many (length c.args.builder.now.clauses) _ (length (halved v xs).clauses)
+    c.has_room.result c.has_room.ensures c.if-not-has_room.true
+    (omega (arith, odd_length (record { number = 1; variable = v }) xs))

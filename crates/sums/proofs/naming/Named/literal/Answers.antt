@@ -1,0 +1,17 @@
+use Rattle.std.proofs.Common.{◌≡◌, ◌<◌, length, ap, subst, ◌∙◌}
+use Rattle.std.specs.List.{HoldsAt}
+use Rattle.std.specs.Ordering.{nat_cmp}
+use Rattle.std.specs.declared.cmp.Ordering.TheVariants.{Equal}
+use Rattle.sums.specs.Sums.{literal_of}
+use Rattle.sums.proofs.Making.{literal_found}
+use Rattle.sums.proofs.naming.Named.literal.Goals as goal
+
+pub returns-in-Ok : goal.returns-in-Ok
+returns-in-Ok c =
+    let same = c.deref.ensures.value in
+    literal_found c.self.inside.list.items c.self.inside.numbers.items c.args.number c.in-Ok.place
+    c.index.result.now c.yes.result c.self.invariant.0 c.self.invariant.1
+    (subst (λ ns. c.in-Ok.place < length ns) same c.in-Ok.ensures.bound)
+    (subst (λ ns. HoldsAt (λ y. nat_cmp y c.args.number ≡ Equal) ns c.in-Ok.place) same
+    c.in-Ok.ensures.ok) c.index.ensures c.yes.ensures
+    ∙ ap (λ l. literal_of l c.args.number) c.self.view_is

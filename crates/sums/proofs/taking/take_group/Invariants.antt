@@ -1,0 +1,16 @@
+use Rattle.std.proofs.Common.{◌<◌}
+use Rattle.sums.specs.Sums.{with_carries, digits_of, rest_of}
+use Rattle.sums.specs.Parts.{IsOnTheWay, group_node}
+use Rattle.sums.proofs.taking.take_group.Given as goal
+
+abbrev pub invariant-loop-left : goal.invariant-loop-left
+invariant-loop-left l = record {
+  way : IsOnTheWay (group_node l.most l.fn.digits l.fn.members.items l.fn.builder.fresh)
+      l.fn.builder.clauses l.lists.items l.builder.clauses
+      (with_carries l.most l.builder.fresh l.carry.items (digits_of l.left l.members.items)
+      (rest_of l.left l.members.items));
+  from_one : 0 < l.builder.fresh;
+}
+
+abbrev pub decreases-loop-left : goal.decreases-loop-left
+decreases-loop-left l = l.left

@@ -1,0 +1,4 @@
+pub mod Sums
+pub mod Halts
+pub mod Parts
+pub mod Vectors

@@ -1,0 +1,141 @@
+// Lists that are made of others. Their clauses come behind those that are there, unless there would
+// be too many: then nothing is begun.
+ghost use Rattle.std.specs.Prelude.{◌≡◌, ◌+◌, ◌<◌, ◌≤◌, ◌^◌, ◌++◌, ◌↔◌, length, OnOk, IfOk};
+ghost use Rattle.std.specs.Prelude.{IsTrue};
+ghost use Rattle.sums.specs.Halts.{IfTooMany};
+ghost use Rattle.sums.specs.Sums.{grouped, group_list, joined, join};
+
+use crate::halts::Halt;
+use crate::linking::{push_both, push_order, push_own};
+use crate::lists::AtLeast;
+use crate::naming::{Named, push_numbers, push_sums};
+use cnf::clause_list::ClauseList;
+
+/// There are at most so many clauses.
+const MOST: usize = 131_072;
+
+/// The clauses so far, and the next new variable.
+#[derive(Drop)]
+pub(crate) struct Builder {
+    /// At most 2^17.
+    pub clauses: ClauseList,
+    /// From 1.
+    pub fresh: u32,
+}
+
+impl Builder {
+    /// The list of members of a group of which at most one is given up.
+    pub fn group(&mut self, members: Vec<AtLeast>) -> Result<Vec<AtLeast>, Halt>
+        requires { 0 < self.old.fresh }
+        ensures list { IfOk result
+            (λ l. l.items ≡ (group_list self.old.fresh members.items).list) }
+        ensures clauses { OnOk result (self.new.clauses
+            ≡ self.old.clauses ++ (group_list self.old.fresh members.items).clauses) }
+        ensures fresh { OnOk result
+            (self.new.fresh ≡ (group_list self.old.fresh members.items).fresh) }
+        ensures many { IfTooMany result (2 ^ 17
+            < length self.old.clauses
+            + length (group_list self.old.fresh members.items).clauses) }
+    {
+        if members.len() < 2 {
+            return Ok(members);
+        }
+        self.group_many(&members)
+    }
+
+    /// The list of two members or more.
+    fn group_many(&mut self, members: &[AtLeast]) -> Result<Vec<AtLeast>, Halt>
+        requires from_one { 0 < self.old.fresh }
+        requires some { 0 < length members.now }
+        ensures list { IfOk result (λ l. l.items ≡ (grouped self.old.fresh members.now).list) }
+        ensures clauses { OnOk result (self.new.clauses
+            ≡ self.old.clauses ++ (grouped self.old.fresh members.now).clauses) }
+        ensures fresh { OnOk result
+            (self.new.fresh ≡ (grouped self.old.fresh members.now).fresh) }
+        ensures many { IfTooMany result (2 ^ 17
+            < length self.old.clauses + length (grouped self.old.fresh members.now).clauses) }
+    {
+        if !self.has_room(members.len()) {
+            return Err(Halt::TooMany);
+        }
+        let mut all = Vec::new(self.clauses.allocator());
+        push_numbers(&mut all, members)?;
+        let list = Named::of(self.fresh, all)?;
+        if !self.has_room(members.len() + list.len().saturating_sub(1)) {
+            return Err(Halt::TooMany);
+        }
+        push_own(&mut self.clauses, &list, members)?;
+        push_order(&mut self.clauses, list.list())?;
+        self.fresh += list.len() as u32;
+        Ok(list.into_list())
+    }
+
+    /// The list of the sums of two lists.
+    pub fn join(&mut self, left: Vec<AtLeast>, right: Vec<AtLeast>) -> Result<Vec<AtLeast>, Halt>
+        requires { 0 < self.old.fresh }
+        ensures list { IfOk result
+            (λ l. l.items ≡ (join self.old.fresh left.items right.items).list) }
+        ensures clauses { OnOk result (self.new.clauses
+            ≡ self.old.clauses ++ (join self.old.fresh left.items right.items).clauses) }
+        ensures fresh { OnOk result
+            (self.new.fresh ≡ (join self.old.fresh left.items right.items).fresh) }
+        ensures many { IfTooMany result (2 ^ 17
+            < length self.old.clauses
+            + length (join self.old.fresh left.items right.items).clauses) }
+    {
+        if left.is_empty() {
+            return Ok(right);
+        }
+        if right.is_empty() {
+            return Ok(left);
+        }
+        self.join_both(&left, &right)
+    }
+
+    /// The list of the sums of two lists that are not empty.
+    fn join_both(&mut self, left: &[AtLeast], right: &[AtLeast]) -> Result<Vec<AtLeast>, Halt>
+        requires from_one { 0 < self.old.fresh }
+        requires some { 0 < length left.now }
+        ensures list { IfOk result
+            (λ l. l.items ≡ (joined self.old.fresh left.now right.now).list) }
+        ensures clauses { OnOk result (self.new.clauses
+            ≡ self.old.clauses ++ (joined self.old.fresh left.now right.now).clauses) }
+        ensures fresh { OnOk result
+            (self.new.fresh ≡ (joined self.old.fresh left.now right.now).fresh) }
+        ensures many { IfTooMany result (2 ^ 17
+            < length self.old.clauses
+            + length (joined self.old.fresh left.now right.now).clauses) }
+    {
+        if !self.has_room(left.len()) {
+            return Err(Halt::TooMany);
+        }
+        if !self.has_room(right.len()) {
+            return Err(Halt::TooMany);
+        }
+        let links = left.len() + right.len() + left.len() * right.len();
+        if !self.has_room(links) {
+            return Err(Halt::TooMany);
+        }
+        let mut all = Vec::new(self.clauses.allocator());
+        push_numbers(&mut all, left)?;
+        push_numbers(&mut all, right)?;
+        push_sums(&mut all, left, right)?;
+        let list = Named::of(self.fresh, all)?;
+        if !self.has_room(links + list.len().saturating_sub(1)) {
+            return Err(Halt::TooMany);
+        }
+        push_own(&mut self.clauses, &list, left)?;
+        push_own(&mut self.clauses, &list, right)?;
+        push_both(&mut self.clauses, &list, left, right)?;
+        push_order(&mut self.clauses, list.list())?;
+        self.fresh += list.len() as u32;
+        Ok(list.into_list())
+    }
+
+    /// Whether there is room for so many clauses.
+    pub fn has_room(&self, more: usize) -> bool
+        ensures { IsTrue result ↔ length self.now.clauses + more ≤ 2 ^ 17 }
+    {
+        self.clauses.len() <= MOST && more <= MOST - self.clauses.len()
+    }
+}

@@ -1,0 +1,132 @@
+// A digit's list takes what the digit below it has carried, and carries what is too much.
+ghost use Rattle.std.specs.Prelude.{◌≡◌, ◌+◌, ◌<◌, ◌^◌, ◌++◌, length, OnOk, IfOk};
+ghost use Rattle.sums.specs.Halts.{IfTooMany};
+ghost use Rattle.sums.specs.Parts.{carried, digit_made, rest_made};
+ghost use Rattle.sums.specs.Sums.{Members, Both};
+
+use crate::building::Builder;
+use crate::halts::Halt;
+use crate::halving::{Halves, split_list};
+use crate::lists::AtLeast;
+
+/// The list of a digit, and what it carries.
+pub(crate) fn carry_on(
+    builder: &mut Builder,
+    most: usize,
+    own: Vec<AtLeast>,
+    carry: Vec<AtLeast>,
+) -> Result<Halves, Halt>
+    requires { 0 < builder.old.fresh }
+    ensures list { IfOk result
+        (λ h. h.list.items ≡ (carried most builder.old.fresh own.items carry.items).list) }
+    ensures carry { IfOk result
+        (λ h. h.carry.items ≡ (carried most builder.old.fresh own.items carry.items).carry) }
+    ensures clauses { OnOk result (builder.new.clauses
+        ≡ builder.old.clauses
+        ++ (carried most builder.old.fresh own.items carry.items).clauses) }
+    ensures fresh { OnOk result (builder.new.fresh
+        ≡ (carried most builder.old.fresh own.items carry.items).fresh) }
+    ensures many { IfTooMany result (2 ^ 17
+        < length builder.old.clauses
+        + length (carried most builder.old.fresh own.items carry.items).clauses) }
+{
+    let sum = builder.join(own, carry)?;
+    split_list(builder, most, sum)
+}
+
+/// The list of a digit of a group, whose members have it above 0, and what it carries.
+pub(crate) fn group_digit(
+    builder: &mut Builder,
+    most: usize,
+    members: Vec<AtLeast>,
+    carry: Vec<AtLeast>,
+) -> Result<Halves, Halt>
+    requires { 0 < builder.old.fresh }
+    ensures list { IfOk result (λ h. h.list.items
+        ≡ (digit_made most builder.old.fresh (Members members.items) carry.items).list) }
+    ensures carry { IfOk result (λ h. h.carry.items
+        ≡ (digit_made most builder.old.fresh (Members members.items) carry.items).carry) }
+    ensures clauses { OnOk result (builder.new.clauses
+        ≡ builder.old.clauses
+        ++ (digit_made most builder.old.fresh (Members members.items) carry.items).clauses) }
+    ensures fresh { OnOk result (builder.new.fresh
+        ≡ (digit_made most builder.old.fresh (Members members.items) carry.items).fresh) }
+    ensures many { IfTooMany result (2 ^ 17
+        < length builder.old.clauses
+        + length (digit_made most builder.old.fresh (Members members.items) carry.items).clauses) }
+{
+    let own = builder.group(members)?;
+    carry_on(builder, most, own, carry)
+}
+
+/// The list of a digit of two parts, and what it carries.
+pub(crate) fn join_digit(
+    builder: &mut Builder,
+    most: usize,
+    left: Vec<AtLeast>,
+    right: Vec<AtLeast>,
+    carry: Vec<AtLeast>,
+) -> Result<Halves, Halt>
+    requires { 0 < builder.old.fresh }
+    ensures list { IfOk result (λ h. h.list.items
+        ≡ (digit_made most builder.old.fresh (Both left.items right.items) carry.items).list) }
+    ensures carry { IfOk result (λ h. h.carry.items
+        ≡ (digit_made most builder.old.fresh (Both left.items right.items) carry.items).carry) }
+    ensures clauses { OnOk result (builder.new.clauses
+        ≡ builder.old.clauses
+        ++ (digit_made most builder.old.fresh (Both left.items right.items) carry.items).clauses) }
+    ensures fresh { OnOk result (builder.new.fresh
+        ≡ (digit_made most builder.old.fresh (Both left.items right.items) carry.items).fresh) }
+    ensures many { IfTooMany result (2 ^ 17
+        < length builder.old.clauses
+        + length
+        (digit_made most builder.old.fresh (Both left.items right.items) carry.items).clauses) }
+{
+    let own = builder.join(left, right)?;
+    carry_on(builder, most, own, carry)
+}
+
+/// The list of the rest of a group, whose members have one above 0.
+pub(crate) fn group_rest(
+    builder: &mut Builder,
+    members: Vec<AtLeast>,
+    carry: Vec<AtLeast>,
+) -> Result<Vec<AtLeast>, Halt>
+    requires { 0 < builder.old.fresh }
+    ensures list { IfOk result (λ l. l.items
+        ≡ (rest_made builder.old.fresh (Members members.items) carry.items).list) }
+    ensures clauses { OnOk result (builder.new.clauses
+        ≡ builder.old.clauses
+        ++ (rest_made builder.old.fresh (Members members.items) carry.items).clauses) }
+    ensures fresh { OnOk result (builder.new.fresh
+        ≡ (rest_made builder.old.fresh (Members members.items) carry.items).fresh) }
+    ensures many { IfTooMany result (2 ^ 17
+        < length builder.old.clauses
+        + length (rest_made builder.old.fresh (Members members.items) carry.items).clauses) }
+{
+    let own = builder.group(members)?;
+    builder.join(own, carry)
+}
+
+/// The list of the rest of two parts.
+pub(crate) fn join_rest(
+    builder: &mut Builder,
+    left: Vec<AtLeast>,
+    right: Vec<AtLeast>,
+    carry: Vec<AtLeast>,
+) -> Result<Vec<AtLeast>, Halt>
+    requires { 0 < builder.old.fresh }
+    ensures list { IfOk result (λ l. l.items
+        ≡ (rest_made builder.old.fresh (Both left.items right.items) carry.items).list) }
+    ensures clauses { OnOk result (builder.new.clauses
+        ≡ builder.old.clauses
+        ++ (rest_made builder.old.fresh (Both left.items right.items) carry.items).clauses) }
+    ensures fresh { OnOk result (builder.new.fresh
+        ≡ (rest_made builder.old.fresh (Both left.items right.items) carry.items).fresh) }
+    ensures many { IfTooMany result (2 ^ 17
+        < length builder.old.clauses
+        + length (rest_made builder.old.fresh (Both left.items right.items) carry.items).clauses) }
+{
+    let own = builder.join(left, right)?;
+    builder.join(own, carry)
+}

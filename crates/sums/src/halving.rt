@@ -1,0 +1,118 @@
+// A digit's list that is too long becomes its odd one and its half.
+ghost use Rattle.std.specs.Prelude.{◌≡◌, ◌+◌, ◌<◌, ◌≤◌, ◌^◌, ◌++◌, [], ◌∷◌, length, OnOk, IfOk};
+ghost use Rattle.sums.specs.Halts.{IfTooMany};
+ghost use Rattle.sums.specs.Sums.{halved, halves, odd_clauses, split};
+
+use crate::building::Builder;
+use crate::halts::Halt;
+use crate::lists::AtLeast;
+use cnf::clause_list::ClauseList;
+use std::alloc::{AllocError, Global};
+
+/// What is left of a digit's list, and what it carries.
+#[derive(Drop)]
+pub(crate) struct Halves {
+    /// For the digit itself.
+    pub list: Vec<AtLeast>,
+    /// For the next digit.
+    pub carry: Vec<AtLeast>,
+}
+
+/// Halves a list that is longer than `most`.
+pub(crate) fn split_list(
+    builder: &mut Builder,
+    most: usize,
+    list: Vec<AtLeast>,
+) -> Result<Halves, Halt>
+    requires { 0 < builder.old.fresh }
+    ensures list { IfOk result
+        (λ h. h.list.items ≡ (split most builder.old.fresh list.items).list) }
+    ensures carry { IfOk result
+        (λ h. h.carry.items ≡ (split most builder.old.fresh list.items).carry) }
+    ensures clauses { OnOk result (builder.new.clauses
+        ≡ builder.old.clauses ++ (split most builder.old.fresh list.items).clauses) }
+    ensures fresh { OnOk result
+        (builder.new.fresh ≡ (split most builder.old.fresh list.items).fresh) }
+    ensures many { IfTooMany result (2 ^ 17
+        < length builder.old.clauses
+        + length (split most builder.old.fresh list.items).clauses) }
+{
+    if most < list.len() {
+        return halve_list(builder, &list);
+    }
+    let carry = Vec::new(*list.allocator());
+    Ok(Halves { list, carry })
+}
+
+/// The odd one and the half.
+fn halve_list(builder: &mut Builder, list: &[AtLeast]) -> Result<Halves, Halt>
+    requires { 0 < builder.old.fresh }
+    ensures list { IfOk result
+        (λ h. h.list.items ≡ (halved builder.old.fresh list.now).list) }
+    ensures carry { IfOk result
+        (λ h. h.carry.items ≡ (halved builder.old.fresh list.now).carry) }
+    ensures clauses { OnOk result (builder.new.clauses
+        ≡ builder.old.clauses ++ (halved builder.old.fresh list.now).clauses) }
+    ensures fresh { OnOk result (builder.new.fresh ≡ (halved builder.old.fresh list.now).fresh) }
+    ensures many { IfTooMany result (2 ^ 17
+        < length builder.old.clauses + length (halved builder.old.fresh list.now).clauses) }
+{
+    if !builder.has_room(list.len() / 2 + list.len() % 2) {
+        return Err(Halt::TooMany);
+    }
+    if builder.fresh >= VARIABLE_LIMIT {
+        return Err(Halt::Memory);
+    }
+    let alloc = builder.clauses.allocator();
+    let odd = AtLeast::new(1, builder.fresh);
+    let carry = halve(alloc, list)?;
+    let list_left = one(alloc, odd)?;
+    push_odd(&mut builder.clauses, odd, list)?;
+    builder.fresh += 1;
+    Ok(Halves {
+        list: list_left,
+        carry,
+    })
+}
+
+/// A list of one entry.
+fn one(alloc: Global, only: AtLeast) -> Result<Vec<AtLeast>, AllocError>
+    ensures { IfOk result (λ l. l.items ≡ only ∷ []) }
+{
+    let mut list = Vec::new(alloc);
+    list.push(only)?;
+    Ok(list)
+}
+
+/// Each second variable, with the numbers from 1 on.
+fn halve(alloc: Global, list: &[AtLeast]) -> Result<Vec<AtLeast>, AllocError>
+    ensures { IfOk result (λ l. l.items ≡ halves 1 list.now) }
+{
+    let mut half = Vec::with_capacity(alloc, list.len() / 2)?;
+    let mut number = 1;
+    let mut rest = list;
+    while let [_, second, more @ ..] = rest {
+        half.push(AtLeast::new(number, second.variable()))?;
+        number += 1;
+        rest = more;
+    }
+    Ok(half)
+}
+
+/// `odd` is true where the greatest number that is reached is odd.
+fn push_odd(clauses: &mut ClauseList, odd: AtLeast, list: &[AtLeast]) -> Result<(), AllocError>
+    ensures { OnOk result (clauses.new ≡ clauses.old ++ odd_clauses odd list.now) }
+{
+    let mut rest = list;
+    while let [first, second, more @ ..] = rest {
+        clauses.push(&[first.no(), second.yes(), odd.yes()])?;
+        rest = more;
+    }
+    if let [last] = rest {
+        clauses.push(&[last.no(), odd.yes()])?;
+    }
+    Ok(())
+}
+
+/// New variables stay below 2^26.
+const VARIABLE_LIMIT: u32 = 67_108_864;

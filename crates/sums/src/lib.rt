@@ -1,0 +1,13 @@
+//! Sums of the weights of soft clauses that are given up, over a tree of groups of them: clauses
+//! and lists of variables that say that a sum is at least a number.
+#![tactic(auto)]
+
+mod building;
+mod carrying;
+pub mod comparators;
+mod halts;
+mod halving;
+mod linking;
+pub mod lists;
+mod naming;
+pub mod taking;

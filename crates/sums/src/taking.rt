@@ -1,0 +1,184 @@
+// The lists of a group, and of two parts.
+ghost use Rattle.std.specs.Prelude.{◌≡◌, ◌+◌, ◌<◌, ◌^◌, [], ◌∷◌, ◌++◌, length, OnOk, IfOk};
+ghost use Rattle.sums.specs.Halts.{IfTooMany};
+ghost use Rattle.sums.specs.Parts.{group_node, joined_node};
+ghost use Rattle.sums.specs.Sums.{counted, lowest, without_lowest};
+
+use crate::building::Builder;
+use crate::carrying::{group_digit, group_rest, join_digit, join_rest};
+use crate::halts::Halt;
+use crate::lists::AtLeast;
+use std::alloc::{AllocError, Global};
+use std::marker::Model;
+
+/// The sums that are told apart at one digit, or at all above the digits.
+#[derive(Drop)]
+pub struct Sums {
+    // By rising numbers.
+    each: Vec<AtLeast>,
+}
+
+impl Model for Sums {
+    ghost use Rattle.std.specs.Prelude.{List};
+    ghost use Rattle.sums.specs.Sums.{AtLeast as Threshold};
+
+    ghost Value = { List Threshold };
+
+    ghost view = { λ s. s.each.items };
+}
+
+impl Sums {
+    /// Each number, with its variable, by rising size.
+    pub fn each(&self) -> &[AtLeast]
+        ensures { result.now ≡ self.now }
+    {
+        &self.each
+    }
+
+    fn into_each(self) -> Vec<AtLeast>
+        ensures { result.items ≡ self }
+    {
+        self.each
+    }
+}
+
+/// The lists of a node.
+#[derive(Drop)]
+pub(crate) struct Lists {
+    /// For the lowest digits, one by one.
+    pub digits: Vec<Sums>,
+    /// For the rest.
+    pub top: Sums,
+}
+
+/// The lists of a group, with so many digits.
+pub(crate) fn take_group(
+    builder: &mut Builder,
+    most: usize,
+    digits: u32,
+    members: Vec<AtLeast>,
+) -> Result<Lists, Halt>
+    requires { 0 < builder.old.fresh }
+    ensures digits { IfOk result (λ l. l.digits.items
+        ≡ (group_node most digits members.items builder.old.fresh).digits) }
+    ensures top { IfOk result
+        (λ l. l.top ≡ (group_node most digits members.items builder.old.fresh).top) }
+    ensures clauses { OnOk result (builder.new.clauses
+        ≡ builder.old.clauses
+        ++ (group_node most digits members.items builder.old.fresh).clauses) }
+    ensures fresh { OnOk result (builder.new.fresh
+        ≡ (group_node most digits members.items builder.old.fresh).fresh) }
+    ensures many { IfTooMany result (2 ^ 17
+        < length builder.old.clauses
+        + length (group_node most digits members.items builder.old.fresh).clauses) }
+{
+    let alloc = builder.clauses.allocator();
+    let mut lists = Vec::new(alloc);
+    let mut carry = Vec::new(alloc);
+    let mut members = members;
+    let mut left = digits;
+    while left > 0 {
+        let own = lowest_digits(alloc, &members)?;
+        let halves = group_digit(builder, most, own, carry)?;
+        push_list(&mut lists, halves.list)?;
+        carry = halves.carry;
+        members = halve_numbers(alloc, &members)?;
+        left -= 1;
+    }
+    let rest = group_rest(builder, above_zero(alloc, &members)?, carry)?;
+    Ok(Lists {
+        digits: lists,
+        top: Sums { each: rest },
+    })
+}
+
+/// The lists of two parts.
+pub(crate) fn join_lists(
+    builder: &mut Builder,
+    most: usize,
+    left: Lists,
+    right: Lists,
+) -> Result<Lists, Halt>
+    requires { 0 < builder.old.fresh }
+    ensures digits { IfOk result (λ l. l.digits.items
+        ≡ (joined_node most left.digits.items left.top right.digits.items right.top
+        builder.old.fresh).digits) }
+    ensures top { IfOk result (λ l. l.top
+        ≡ (joined_node most left.digits.items left.top right.digits.items right.top
+        builder.old.fresh).top) }
+    ensures clauses { OnOk result (builder.new.clauses
+        ≡ builder.old.clauses
+        ++ (joined_node most left.digits.items left.top right.digits.items right.top
+        builder.old.fresh).clauses) }
+    ensures fresh { OnOk result (builder.new.fresh
+        ≡ (joined_node most left.digits.items left.top right.digits.items right.top
+        builder.old.fresh).fresh) }
+    ensures many { IfTooMany result (2 ^ 17
+        < length builder.old.clauses
+        + length
+        (joined_node most left.digits.items left.top right.digits.items right.top
+        builder.old.fresh).clauses) }
+{
+    let alloc = builder.clauses.allocator();
+    let mut lists = Vec::new(alloc);
+    let mut carry = Vec::new(alloc);
+    // A digit's list is short; that of the rest may be long, and is moved.
+    for j in 0..left.digits.len().min(right.digits.len()) {
+        let a = copy(alloc, left.digits[j].each())?;
+        let b = copy(alloc, right.digits[j].each())?;
+        let halves = join_digit(builder, most, a, b, carry)?;
+        push_list(&mut lists, halves.list)?;
+        carry = halves.carry;
+    }
+    let top_left = left.top.into_each();
+    let top_right = right.top.into_each();
+    let rest = join_rest(builder, top_left, top_right, carry)?;
+    Ok(Lists {
+        digits: lists,
+        top: Sums { each: rest },
+    })
+}
+
+fn copy(alloc: Global, list: &[AtLeast]) -> Result<Vec<AtLeast>, AllocError>
+    ensures { IfOk result (λ l. l.items ≡ list.now) }
+{
+    Ok(Vec::from_slice(alloc, list)?)
+}
+
+fn push_list(lists: &mut Vec<Sums>, list: Vec<AtLeast>) -> Result<(), AllocError>
+    ensures { OnOk result (lists.new.items ≡ lists.old.items ++ list.items ∷ []) }
+{
+    Ok(lists.push(Sums { each: list })?)
+}
+
+/// The lowest binary digits of the numbers, where they are not 0.
+fn lowest_digits(alloc: Global, members: &[AtLeast]) -> Result<Vec<AtLeast>, AllocError>
+    ensures { IfOk result (λ l. l.items ≡ counted (lowest members.now)) }
+{
+    members
+        .iter()
+        .map(|member| AtLeast::new(member.number() % 2, member.variable()))
+        .filter(|member| member.number() > 0)
+        .collect(alloc)
+}
+
+/// The numbers without their lowest binary digits.
+fn halve_numbers(alloc: Global, members: &[AtLeast]) -> Result<Vec<AtLeast>, AllocError>
+    ensures { IfOk result (λ l. l.items ≡ without_lowest members.now) }
+{
+    members
+        .iter()
+        .map(|member| AtLeast::new(member.number() / 2, member.variable()))
+        .collect(alloc)
+}
+
+/// The members whose numbers are not 0.
+fn above_zero(alloc: Global, members: &[AtLeast]) -> Result<Vec<AtLeast>, AllocError>
+    ensures { IfOk result (λ l. l.items ≡ counted members.now) }
+{
+    members
+        .iter()
+        .filter(|member| member.number() > 0)
+        .copied()
+        .collect(alloc)
+}

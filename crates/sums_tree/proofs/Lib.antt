@@ -1,0 +1,7 @@
+mod Grouping
+mod Merging
+mod Arranged
+mod Opposed
+mod Linked
+mod Partnered
+pub mod Laws

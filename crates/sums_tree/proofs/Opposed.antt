@@ -1,0 +1,59 @@
+-- Opposite pairs, as the literals are walked and marked.
+use Rattle.std.proofs.Common.{◌≡◌, ℕ, ◌+◌, ◌<◌, Bool, true, false, not, ◌&&◌, ◌==◌, ◌||◌, List, []}
+use Rattle.std.proofs.Common.{◌∷◌, ◌++◌, length, take, get_or, set, refl, sym, ◌∙◌, ap, subst}
+use Rattle.std.proofs.lemmas.Bool.{false≢true, eqb-true, eq-eqb, ne_eqb}
+use Rattle.std.proofs.lemmas.List.{take_more}
+use Rattle.std.proofs.lemmas.List.Folds.{list_any-append}
+use Rattle.cnf.specs.Literal.{Literal, negation, literal_eq, same_bool, index_of}
+use Rattle.cnf.specs.Clause.{contains_literal, has_opposites}
+use Rattle.cnf.specs.Marks.{mark_of, IsMarked, HasPlace}
+use Rattle.cnf.proofs.Laws.{marked_one}
+
+pub same_number : (m n : ℕ) → (m == n) ≡ (n == m)
+same_number m n =
+    elim (m == n) as (λ b. (m == n) ≡ b → b ≡ (n == m)) [
+      | true ↦ λ e. sym (eq-eqb n m (sym (eqb-true m n e)))
+      | false ↦ λ e. sym (ne_eqb n m (λ s. false≢true (sym e ∙ eq-eqb m n (sym s))))
+    ] refl
+
+opposite_eq : (k l : Literal) → literal_eq (negation k) l ≡ literal_eq (negation l) k
+opposite_eq k l = λ i. same_number k.variable l.variable i && by k.negated l.negated i
+  where
+    by : (a b : Bool) → same_bool (not a) b ≡ same_bool (not b) a
+    by true true = refl
+    by true false = refl
+    by false true = refl
+    by false false = refl
+
+-- one more literal, at the end
+pub opposites-more : (c : List Literal) (l : Literal)
+    → has_opposites (c ++ l ∷ []) ≡ (has_opposites c || contains_literal (negation l) c)
+opposites-more [] l = refl
+opposites-more (k ∷ c) l =
+    (λ i. list_any-append (literal_eq (negation k)) c (l ∷ []) i || opposites-more c l i)
+    ∙ ap (λ b. (contains_literal (negation k) c || (b || false)) ||
+    (has_opposites c || contains_literal (negation l) c)) (opposite_eq k l)
+    ∙ by (contains_literal (negation k) c) (literal_eq (negation l) k) (has_opposites c)
+    (contains_literal (negation l) c)
+  where
+    by : (a b c d : Bool) → ((a || (b || false)) || (c || d)) ≡ ((a || c) || (b || d))
+    by true b c d = refl
+    by false true true d = refl
+    by false true false d = refl
+    by false false c d = refl
+
+-- a step of the walk that marks
+pub mark_step : (marks : List Bool) (found : Bool) (lits : List Literal) (i : ℕ) (l : Literal)
+    → i < length lits → l ≡ get_or lits i l → HasPlace (length marks) l
+    → IsMarked marks (take i lits) × (found ≡ has_opposites (take i lits))
+    → IsMarked (set marks (index_of l) true) (take (i + 1) lits)
+    × ((found || mark_of marks (negation l)) ≡ has_opposites (take (i + 1) lits))
+mark_step marks found lits i l h is p inv =
+    let more : take (i + 1) lits ≡ take i lits ++ l ∷ [] =
+    take_more lits i l h ∙ ap (λ x. take i lits ++ x ∷ []) (sym is) in (
+      subst (IsMarked (set marks (index_of l) true)) (sym more)
+          (marked_one marks (take i lits) l p inv.0),
+      (λ j. inv.1 j || mark_of marks (negation l))
+          ∙ ap (λ b. has_opposites (take i lits) || b) (inv.0.marked (negation l) p.0)
+          ∙ sym (opposites-more (take i lits) l) ∙ ap has_opposites (sym more),
+    )

@@ -1,0 +1,65 @@
+// Whether a clause has an opposite pair, in time linear in its length.
+ghost use Rattle.std.specs.Prelude.{◌≡◌, length, All};
+ghost use Rattle.cnf.specs.Clause.{contains_literal, has_opposites};
+ghost use Rattle.cnf.specs.Marks.{HasPlace};
+
+use cnf::marks::Marks;
+use cnf::types::Lit;
+
+/// Clauses up to this length are searched for opposites pair by pair, which takes fewer steps than
+/// marks do.
+const FEW: usize = 8;
+
+/// Whether some literal stands with its negation, in time linear in their number.
+pub(crate) fn are_opposed(marks: &mut Marks, lits: &[Lit]) -> bool
+    requires { All (HasPlace (length marks.old)) lits.now }
+    ensures value { result ≡ has_opposites lits.now }
+    ensures marks { length marks.new ≡ length marks.old }
+{
+    if lits.len() <= FEW {
+        has_opposites(lits)
+    } else {
+        meets_negation(marks, lits)
+    }
+}
+
+/// Whether some literal stands with its negation: each is held against the marks of those before
+/// it. A clause may have millions of literals.
+fn meets_negation(marks: &mut Marks, lits: &[Lit]) -> bool
+    requires { All (HasPlace (length marks.old)) lits.now }
+    ensures value { result ≡ has_opposites lits.now }
+    ensures marks { length marks.new ≡ length marks.old }
+{
+    marks.clear();
+    let mut found = false;
+    for lit in lits {
+        found |= marks.is_marked(lit.negation());
+        marks.mark(*lit);
+    }
+    found
+}
+
+/// Whether some literal stands with its negation.
+fn has_opposites(lits: &[Lit]) -> bool
+    ensures { result ≡ has_opposites lits.now }
+{
+    let mut rest = lits;
+    while let [first, more @ ..] = rest {
+        if contains(more, first.negation()) {
+            return true;
+        }
+        rest = more;
+    }
+    false
+}
+
+fn contains(lits: &[Lit], lit: Lit) -> bool
+    ensures { result ≡ contains_literal lit lits.now }
+{
+    for other in lits {
+        if *other == lit {
+            return true;
+        }
+    }
+    false
+}
