@@ -23,8 +23,9 @@ plan --weeks
 expect 'a word that it does not know' 1 '' 'roster.py: usage: roster.py [--wcnf]'
 
 # Programs that the script must not believe.
-pretend() { # COMMAND ANSWER STATUS: a program that does as wmax, but for this command
-    printf '#!/bin/sh\nif [ "$1" = %s ]; then printf "%s"; exit %s; fi\nexec "%s" "$@"\n' "$1" "$2" "$3" "$wmax" > "$work/pretender"
+pretend() { # COMMAND ANSWER STATUS: a program that does as wmax, but for what it says to this command
+    printf '#!/bin/sh\n[ "$1" = %s ] || exec "%s" "$@"\n"%s" "$@" > /dev/null\nprintf "%s"\nexit %s\n' \
+        "$1" "$wmax" "$wmax" "$2" "$3" > "$work/pretender"
     chmod +x "$work/pretender"
     WMAX=$work/pretender plan
 }
