@@ -25,6 +25,7 @@ use Rattle.sums.proofs.Shape.{IsDigit, IsShaped, node_shaped}
 use Rattle.sums.proofs.Enough.{whole_worth, node_enough}
 use Rattle.sums.proofs.Comparing.{AreDigits, IsExact, low_worth, shifted, high_is}
 use Rattle.sums.proofs.Comparing.{at_most_says, at_most_holds}
+use Rattle.sums.proofs.Short.{top_short, comparator_short}
 use Rattle.sums.proofs.Variables.{ListOf, ClauseOf, ClausesOf, node_grows, node_of}
 use Rattle.sums.proofs.Extends.{Below, ExactDigits, NodeExtends, hold_same}
 use Rattle.sums.proofs.Nodes.{node_extends}
@@ -226,14 +227,16 @@ record IsRoot (p : Problem) (tree : Tree) (n : Node) : Type 0 where
   digits : ℕ
   is : root p tree digits ≡ n
   few : length n.clauses ≤ 2 ^ 17
+  below : digits ≤ 62
 
 first_is : (p : Problem) (tree : Tree) (n : Node) (steps d left : ℕ)
-    → first_small (root p tree) steps d left ≡ Some n → IsRoot p tree n
-first_is p tree n zero d left = λ e. absurd (none e)
+    → d + steps ≤ 63 → first_small (root p tree) steps d left ≡ Some n → IsRoot p tree n
+unfolding first_small
+first_is p tree n zero d left le = λ e. absurd (none e)
   where
     none : None ≡ Some n → ⊥
     none e = cc
-first_is p tree n (suc steps) d left =
+first_is p tree n (suc steps) d left le =
     elim (nat_le (length (root p tree d).clauses) (2 ^ 17))
     as (λ b. nat_le (length (root p tree d).clauses) (2 ^ 17) ≡ b
     → (if b then Some (root p tree d) else if left == 0 then None
@@ -245,12 +248,13 @@ first_is p tree n (suc steps) d left =
             is = same;
             few = subst (λ m. length m.clauses ≤ 2 ^ 17) same
                 (leb-true (length (root p tree d).clauses) (2 ^ 17) f);
+            below = omega arith;
           }
       | false ↦ λ f. elim (left == 0)
           as (λ b. (if b then None else first_small (root p tree) steps (d + 1) (left / 2)) ≡ Some n
           → IsRoot p tree n) [
             | true ↦ λ e. absurd (none e)
-            | false ↦ first_is p tree n steps (d + 1) (left / 2)
+            | false ↦ first_is p tree n steps (d + 1) (left / 2) (omega arith)
           ]
     ] refl
   where
@@ -266,7 +270,7 @@ over_is p tree n =
     elim (nat_lt (2 ^ 15) (length (groups_of tree))) as (λ b. (if b then None
     else first_small (root p tree) 63 0 (tree_weight p tree)) ≡ Some n → IsRoot p tree n) [
       | true ↦ λ e. absurd (none e)
-      | false ↦ first_is p tree n 63 0 (tree_weight p tree)
+      | false ↦ first_is p tree n 63 0 (tree_weight p tree) (omega arith)
     ]
   where
     none : None ≡ Some n → ⊥
@@ -288,104 +292,116 @@ pub sums_say_cheaper : (p : Problem) (o : Option Tree) (n : Node) (k : ℕ) → 
 sums_say_cheaper p o n k i a e = cheaper_of p n k (over_counting p o n a e) i
 
 -- how many variables there are, and which the clauses have
-abbrev IsNamed : ℕ → ℕ → Type 0
-IsNamed fresh v = (0 < v) × (v < fresh)
+abbrev IsNamed : ℕ → ℕ → ℕ → Type 0
+IsNamed last fresh v = (last < v) × (v < fresh)
 
-named_neg : (fresh : ℕ) (xs : List AtLeast) → ListOf (IsNamed fresh) xs
-    → (n : ℕ) → ClauseOf (IsNamed fresh) (not_number n xs)
-named_neg fresh [] h n = tt
-named_neg fresh (x ∷ xs) h n =
-    elim (x.number == n) as (λ b. ClauseOf (IsNamed fresh) (map no (if b
+named_neg : (last fresh : ℕ) (xs : List AtLeast) → ListOf (IsNamed last fresh) xs
+    → (n : ℕ) → ClauseOf (IsNamed last fresh) (not_number n xs)
+named_neg last fresh [] h n = tt
+named_neg last fresh (x ∷ xs) h n =
+    elim (x.number == n) as (λ b. ClauseOf (IsNamed last fresh) (map no (if b
     then x ∷ filter (λ x. x.number == n) xs else filter (λ x. x.number == n) xs))) [
-      | true ↦ (h.0, named_neg fresh xs h.1 n)
-      | false ↦ named_neg fresh xs h.1 n
+      | true ↦ (h.0, named_neg last fresh xs h.1 n)
+      | false ↦ named_neg last fresh xs h.1 n
     ]
 
-named_above : (fresh : ℕ) (xs : List AtLeast) → ListOf (IsNamed fresh) xs
-    → (n : ℕ) → ClausesOf (IsNamed fresh) (none_above n xs)
-named_above fresh [] h n = tt
-named_above fresh (x ∷ xs) h n =
-    elim (nat_lt n x.number) as (λ b. ClausesOf (IsNamed fresh) (map (λ x. no x ∷ []) (if b
+named_above : (last fresh : ℕ) (xs : List AtLeast) → ListOf (IsNamed last fresh) xs
+    → (n : ℕ) → ClausesOf (IsNamed last fresh) (none_above n xs)
+named_above last fresh [] h n = tt
+named_above last fresh (x ∷ xs) h n =
+    elim (nat_lt n x.number) as (λ b. ClausesOf (IsNamed last fresh) (map (λ x. no x ∷ []) (if b
     then x ∷ filter (λ x. nat_lt n x.number) xs else filter (λ x. nat_lt n x.number) xs))) [
-      | true ↦ ((h.0, tt), named_above fresh xs h.1 n)
-      | false ↦ named_above fresh xs h.1 n
+      | true ↦ ((h.0, tt), named_above last fresh xs h.1 n)
+      | false ↦ named_above last fresh xs h.1 n
     ]
 
-abbrev NamedClause : ℕ → Option (List Literal) → Type 0
-NamedClause fresh None = Unit {0}
-NamedClause fresh (Some c) = ClauseOf (IsNamed fresh) c
+abbrev NamedClause : ℕ → ℕ → Option (List Literal) → Type 0
+NamedClause last fresh None = Unit {0}
+NamedClause last fresh (Some c) = ClauseOf (IsNamed last fresh) c
 
-named_with : (fresh : ℕ) (xs : List AtLeast) (o : Option (List Literal))
-    → ListOf (IsNamed fresh) xs → NamedClause fresh o → NamedClause fresh (with_digit xs o)
-named_with fresh [] o h g = tt
-named_with fresh (x ∷ xs) None h g = tt
-named_with fresh (x ∷ xs) (Some c) h g = (h.0, g)
+named_with : (last fresh : ℕ) (xs : List AtLeast) (o : Option (List Literal))
+    → ListOf (IsNamed last fresh) xs → NamedClause last fresh o
+    → NamedClause last fresh (with_digit xs o)
+named_with last fresh [] o h g = tt
+named_with last fresh (x ∷ xs) None h g = tt
+named_with last fresh (x ∷ xs) (Some c) h g = (h.0, g)
 
-named_ones : (fresh : ℕ) (digits : List (List AtLeast)) (k : ℕ)
-    → AllByRecursion (ListOf (IsNamed fresh)) digits → NamedClause fresh (ones digits k)
-named_ones fresh [] k h = tt
-named_ones fresh (xs ∷ digits) k h =
-    elim (k % 2 == 1) as (λ b. NamedClause fresh (if b
+named_ones : (last fresh : ℕ) (digits : List (List AtLeast)) (k : ℕ)
+    → AllByRecursion (ListOf (IsNamed last fresh)) digits → NamedClause last fresh (ones digits k)
+named_ones last fresh [] k h = tt
+named_ones last fresh (xs ∷ digits) k h =
+    elim (k % 2 == 1) as (λ b. NamedClause last fresh (if b
     then with_digit xs (ones digits (k / 2)) else ones digits (k / 2))) [
-      | true ↦ named_with fresh xs (ones digits (k / 2)) h.0 (named_ones fresh digits (k / 2) h.1)
-      | false ↦ named_ones fresh digits (k / 2) h.1
+      | true ↦ named_with last fresh xs (ones digits (k / 2)) h.0
+          (named_ones last fresh digits (k / 2) h.1)
+      | false ↦ named_ones last fresh digits (k / 2) h.1
     ]
 
-named_led : (fresh : ℕ) (lead : List Literal) (o : Option (List Literal))
-    → ClauseOf (IsNamed fresh) lead → NamedClause fresh o
-    → ClausesOf (IsNamed fresh) (led lead o)
-named_led fresh lead None h g = tt
-named_led fresh lead (Some c) h g = (all_append (λ l. IsNamed fresh l.variable) lead c h g, tt)
+named_led : (last fresh : ℕ) (lead : List Literal) (o : Option (List Literal))
+    → ClauseOf (IsNamed last fresh) lead → NamedClause last fresh o
+    → ClausesOf (IsNamed last fresh) (led lead o)
+named_led last fresh lead None h g = tt
+named_led last fresh lead (Some c) h g =
+    (all_append (λ l. IsNamed last fresh l.variable) lead c h g, tt)
 
-named_digits : (fresh : ℕ) (lead : List Literal) (digits : List (List AtLeast)) (k : ℕ)
-    → ClauseOf (IsNamed fresh) lead → AllByRecursion (ListOf (IsNamed fresh)) digits
-    → ClausesOf (IsNamed fresh) (digit_clauses lead digits k)
-named_digits fresh lead [] k h g = tt
-named_digits fresh lead (xs ∷ digits) k h g =
-    all_append (ClauseOf (IsNamed fresh)) (digit_clauses lead digits (k / 2))
+named_digits : (last fresh : ℕ) (lead : List Literal) (digits : List (List AtLeast)) (k : ℕ)
+    → ClauseOf (IsNamed last fresh) lead → AllByRecursion (ListOf (IsNamed last fresh)) digits
+    → ClausesOf (IsNamed last fresh) (digit_clauses lead digits k)
+named_digits last fresh lead [] k h g = tt
+named_digits last fresh lead (xs ∷ digits) k h g =
+    all_append (ClauseOf (IsNamed last fresh)) (digit_clauses lead digits (k / 2))
     (if k % 2 == 1 then [] else led lead (with_digit xs (ones digits (k / 2))))
-    (named_digits fresh lead digits (k / 2) h g.1)
-    (elim (k % 2 == 1) as (λ b. ClausesOf (IsNamed fresh) (if b then []
+    (named_digits last fresh lead digits (k / 2) h g.1)
+    (elim (k % 2 == 1) as (λ b. ClausesOf (IsNamed last fresh) (if b then []
     else led lead (with_digit xs (ones digits (k / 2))))) [
       | true ↦ tt
-      | false ↦ named_led fresh lead (with_digit xs (ones digits (k / 2))) h
-          (named_with fresh xs (ones digits (k / 2)) g.0 (named_ones fresh digits (k / 2) g.1))
+      | false ↦ named_led last fresh lead (with_digit xs (ones digits (k / 2))) h
+          (named_with last fresh xs (ones digits (k / 2)) g.0
+          (named_ones last fresh digits (k / 2) g.1))
     ])
 
-named_low : (fresh : ℕ) (digits : List (List AtLeast)) (limit high : ℕ) (lead : List Literal)
-    → ClauseOf (IsNamed fresh) lead → AllByRecursion (ListOf (IsNamed fresh)) digits
-    → ClausesOf (IsNamed fresh) (low_clauses digits limit high lead)
-named_low fresh digits limit zero lead h g = named_digits fresh lead digits limit h g
-named_low fresh digits limit (suc high) [] h g = tt
-named_low fresh digits limit (suc high) (l ∷ lead) h g =
-    named_digits fresh (l ∷ lead) digits limit h g
+named_low : (last fresh : ℕ) (digits : List (List AtLeast)) (limit high : ℕ) (lead : List Literal)
+    → ClauseOf (IsNamed last fresh) lead → AllByRecursion (ListOf (IsNamed last fresh)) digits
+    → ClausesOf (IsNamed last fresh) (low_clauses digits limit high lead)
+named_low last fresh digits limit zero lead h g = named_digits last fresh lead digits limit h g
+named_low last fresh digits limit (suc high) [] h g = tt
+named_low last fresh digits limit (suc high) (l ∷ lead) h g =
+    named_digits last fresh (l ∷ lead) digits limit h g
 
-named_comparator : (fresh : ℕ) (n : Node) (k : ℕ)
-    → AllByRecursion (ListOf (IsNamed fresh)) n.digits → ListOf (IsNamed fresh) n.top
-    → ClausesOf (IsNamed fresh) (comparator n k)
-named_comparator fresh n zero h g = (tt, tt)
-named_comparator fresh n (suc limit) h g =
+named_comparator : (last fresh : ℕ) (n : Node) (k : ℕ)
+    → AllByRecursion (ListOf (IsNamed last fresh)) n.digits → ListOf (IsNamed last fresh) n.top
+    → ClausesOf (IsNamed last fresh) (comparator n k)
+named_comparator last fresh n zero h g = (tt, tt)
+named_comparator last fresh n (suc limit) h g =
     let high = limit / 2 ^ length n.digits in
-    all_append (ClauseOf (IsNamed fresh)) (none_above high n.top)
-    (low_clauses n.digits limit high (not_number high n.top)) (named_above fresh n.top g high)
-    (named_low fresh n.digits limit high (not_number high n.top) (named_neg fresh n.top g high) h)
+    all_append (ClauseOf (IsNamed last fresh)) (none_above high n.top)
+    (low_clauses n.digits limit high (not_number high n.top)) (named_above last fresh n.top g high)
+    (named_low last fresh n.digits limit high (not_number high n.top)
+    (named_neg last fresh n.top g high) h)
 
 root_small : (p : Problem) (tree : Tree) (d : ℕ) → IsArrangement p tree
-    → length (root p tree d).clauses ≤ 2 ^ 17 → AreSmall p (root p tree d)
-root_small p tree d a few =
+    → length (root p tree d).clauses ≤ 2 ^ 17 → d ≤ 62 → AreSmall p (root p tree d)
+root_small p tree d a few below =
     let v = p.variables + length p.soft + 1 in
     let n = root p tree d in
     let g = node_grows p d 0 tree v in
     let f =
-    node_of (IsNamed n.fresh) p d 0 tree v
-    (tree_of (IsNamed n.fresh) p (λ i lt. (omega arith, omega (arith, g.up))) tree
+    node_of (IsNamed p.variables n.fresh) p d 0 tree v
+    (tree_of (IsNamed p.variables n.fresh) p (λ i lt. (omega arith, omega (arith, g.up))) tree
     (arranged_places p tree a)) (λ x le lt. (omega arith, lt)) in
     record {
       clauses = few;
       from = omega (arith, g.up);
       to = omega (arith, g.few);
       variables = f.clauses;
-      compared = λ k. named_comparator n.fresh n k f.digits f.top;
+      compared = λ k. named_comparator p.variables n.fresh n k f.digits f.top;
+      comparators =
+          λ k. omega (
+            arith,
+            comparator_short n k,
+            top_short p d 0 tree v,
+            (node_shaped p d 0 tree v).many,
+          );
     }
 
 pub sums_small : (p : Problem) (o : Option Tree) (n : Node) → IsArrangedBy p o
@@ -397,10 +413,11 @@ sums_small p None n a e =
       from = omega arith;
       to = omega arith;
       variables = tt;
-      compared = λ k. named_comparator (nothing p).fresh (nothing p) k tt tt;
+      compared = λ k. named_comparator p.variables (nothing p).fresh (nothing p) k tt tt;
+      comparators = λ k. omega (arith, comparator_short (nothing p) k);
     })
 sums_small p (Some tree) n a e =
     let r = over_is p tree n e in
     subst (AreSmall p) r.is
     (root_small p tree r.digits a
-    (subst (λ m. length m.clauses ≤ 2 ^ 17) (sym r.is) r.few))
+    (subst (λ m. length m.clauses ≤ 2 ^ 17) (sym r.is) r.few) r.below)

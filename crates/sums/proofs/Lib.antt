@@ -13,4 +13,7 @@ mod Sorting
 mod Making
 mod OnTheWay
 mod Descending
+mod Short
+mod Steps
+mod Arranged
 pub mod Laws

@@ -2,3 +2,4 @@ pub mod Sums
 pub mod Halts
 pub mod Parts
 pub mod Vectors
+pub mod Stepping

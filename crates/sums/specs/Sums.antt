@@ -247,7 +247,7 @@ tree_weight p t = sum_by (λ g. sum_by (λ x. x.number) (members p g)) (groups_o
 
 -- the first of p, p + 1, .. with at most 2^17 clauses, up to the number of binary digits of what is
 -- left above p
-abbrev pub first_small : (ℕ → Node) → ℕ → ℕ → ℕ → Option Node
+unfoldable pub first_small : (ℕ → Node) → ℕ → ℕ → ℕ → Option Node
 first_small make zero p left = None
 first_small make (suc steps) p left =
     if nat_le (length (make p).clauses) (2 ^ 17) then Some (make p)
@@ -347,15 +347,17 @@ abbrev pub IsArrangedBy : Problem → Option Tree → Type 0
 IsArrangedBy p None = placed p ≡ []
 IsArrangedBy p (Some t) = IsArrangement p t
 
--- the variables are from 1 on and below the next new one
-abbrev pub HaveVariables : ℕ → List (List Literal) → Type 0
-HaveVariables fresh cs =
-    AllByRecursion (λ c. AllByRecursion (λ l. (0 < l.variable) × (l.variable < fresh)) c) cs
+-- the variables follow those of the instance, and are below the next new one
+abbrev pub HaveVariables : ℕ → ℕ → List (List Literal) → Type 0
+HaveVariables last fresh cs =
+    AllByRecursion (λ c. AllByRecursion (λ l. (last < l.variable) × (l.variable < fresh)) c) cs
 
--- the clauses are few, and so are the new variables, which follow those of the soft clauses
+-- the clauses are few, and so are the new variables, which follow those of the soft clauses; none
+-- speaks of a variable of the instance
 pub record AreSmall (p : Problem) (n : Node) : Type 0 where
   pub clauses : length n.clauses ≤ 2 ^ 17
   pub from : p.variables + length p.soft < n.fresh
   pub to : n.fresh ≤ p.variables + length p.soft + 1 + 2 ^ 17
-  pub variables : HaveVariables n.fresh n.clauses
-  pub compared : (k : ℕ) → HaveVariables n.fresh (comparator n k)
+  pub variables : HaveVariables p.variables n.fresh n.clauses
+  pub compared : (k : ℕ) → HaveVariables p.variables n.fresh (comparator n k)
+  pub comparators : (k : ℕ) → length (comparator n k) ≤ 2 ^ 17 + 64

@@ -1,11 +1,12 @@
 -- Worked sums; expected values come from a program of its own.
-use Rattle.std.specs.Prelude.{◌≡◌, ℕ, List, [], ◌∷◌, ◌++◌, map, Some}
+use Rattle.std.specs.Prelude.{◌≡◌, ℕ, zero, suc, List, [], ◌∷◌, ◌++◌, map, Some}
 use Rattle.std.specs.Prelude.{None}
 use Rattle.std.specs.Prelude.{refl}
 use Rattle.cnf.specs.Literal.{Literal, positive, negative}
 use Rattle.cnf.specs.Problem.{Problem}
-use Rattle.sums_tree.specs.Tree.{Leaf, Fork}
+use Rattle.sums_tree.specs.Tree.{Tree, Leaf, Fork}
 use Rattle.sums.specs.Sums.{AtLeast, root, comparator, split, sums_over, named_from}
+use Rattle.sums.specs.Sums.{first_small}
 
 -- one variable, and a soft clause of each weight
 abbrev weighing : List ℕ → Problem
@@ -189,7 +190,16 @@ no_sums = refl
 -- without digits the clauses are few here
 least_digits : sums_over (weighing (3 ∷ 3 ∷ [])) (Some (Fork (Leaf (0 ∷ [])) (Leaf (1 ∷ []))))
     ≡ Some (root (weighing (3 ∷ 3 ∷ [])) (Fork (Leaf (0 ∷ [])) (Leaf (1 ∷ []))) 0)
+unfolding first_small
 least_digits = refl
+
+-- more than 2^15 groups
+abbrev many_groups : ℕ → Tree
+many_groups zero = Leaf []
+many_groups (suc n) = Fork (Leaf []) (many_groups n)
+
+too_many_groups : sums_over (weighing []) (Some (many_groups 32768)) ≡ None
+too_many_groups = refl
 
 -- a list of 16 stays, one of 17 becomes its odd one and its half
 abbrev rising_to : List ℕ → List AtLeast

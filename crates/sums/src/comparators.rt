@@ -1,12 +1,41 @@
 // The comparator: clauses that hold where the sum is below a bound.
 ghost use Rattle.std.specs.Prelude.{◌≡◌, ◌/◌, ◌^◌, ◌<◌, [], ◌∷◌, ◌++◌, length, OnOk, IfOk};
-ghost use Rattle.sums.specs.Sums.{none_above, not_number, digit_clauses, low_clauses};
+ghost use Rattle.sums.specs.Sums.{none_above, not_number, digit_clauses, at_most, comparator};
 
 use crate::lists::AtLeast;
+use crate::root::Root;
 use crate::taking::Sums;
 use cnf::clause_list::ClauseList;
 use cnf::types::Lit;
 use std::alloc::{AllocError, Global};
+
+/// Puts clauses last that say that the sum is below `k`. For 0 it is the empty clause.
+///
+/// # Errors
+///
+/// `AllocError` where memory was refused; some of the clauses may then be there.
+pub fn push_comparator(clauses: &mut ClauseList, root: &Root, k: u64) -> Result<(), AllocError>
+    ensures { OnOk result (clauses.new ≡ clauses.old ++ comparator root.now k) }
+{
+    if k == 0 {
+        return clauses.push(&[]);
+    }
+    push_at_most(clauses, root, k - 1)
+}
+
+/// The sum is at most the limit.
+fn push_at_most(clauses: &mut ClauseList, root: &Root, limit: u64) -> Result<(), AllocError>
+    ensures { OnOk result (clauses.new
+        ≡ clauses.old ++ at_most root.now limit (limit / 2 ^ length root.now.digits)) }
+{
+    let high = limit >> root.digits().len();
+    push_above(clauses, high, root.top())?;
+    let lead = not_reached(clauses.allocator(), high, root.top())?;
+    if high > 0 && lead.is_empty() {
+        return Ok(());
+    }
+    push_digits(clauses, &lead, root.digits(), limit)
+}
 
 /// No number above `high` is reached.
 fn push_above(clauses: &mut ClauseList, high: u64, top: &[AtLeast]) -> Result<(), AllocError>

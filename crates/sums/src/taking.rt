@@ -51,6 +51,21 @@ pub(crate) struct Lists {
     pub top: Sums,
 }
 
+impl Lists {
+    /// No sums.
+    pub fn none(alloc: Global) -> Self
+        ensures digits { result.digits.items ≡ [] }
+        ensures top { result.top ≡ [] }
+    {
+        Lists {
+            digits: Vec::new(alloc),
+            top: Sums {
+                each: Vec::new(alloc),
+            },
+        }
+    }
+}
+
 /// The lists of a group, with so many digits.
 pub(crate) fn take_group(
     builder: &mut Builder,

@@ -122,6 +122,14 @@ tree_is_arrangement p t e = record {
   exclude = λ a h. exclude p a t e h;
 }
 
+-- the tree has as many leaves as there are groups
+pub length-tree : (p : Problem) (t : Tree) → tree p ≡ Some t
+    → length (groups_of t) ≡ length (groups p)
+length-tree p t e =
+    sym (ap length (singles (groups_of t)))
+    ∙ length_permutation _ _ (groups_once (λ g. g ∷ []) p t e)
+    ∙ ap length (singles (groups p))
+
 nothing_of : (p : Problem) → nodes p ≡ [] → placed p ≡ []
 nothing_of p e =
     let first = leaves_from 0 (groups p) in

@@ -5,3 +5,27 @@ mod Opposed
 mod Linked
 mod Partnered
 pub mod Laws
+mod Seeing
+mod Looks
+mod Joins
+mod Lists
+mod Finding
+mod Entering
+mod Standing
+mod Progress
+mod Touching
+mod Members
+mod Rows
+mod Ranking
+mod Summing
+mod Beside
+mod Connected
+mod Labels
+mod Relabelling
+mod Uniting
+mod Growing
+mod Rounds
+mod Pairs
+mod Heads
+mod Among
+mod Laid

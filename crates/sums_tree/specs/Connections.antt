@@ -23,13 +23,14 @@ groups_with v i (g ∷ groups) =
     if list_any (has_variable v) g then i ∷ groups_with v (i + 1) groups
     else groups_with v (i + 1) groups
 
+-- the group with which a row begins, if it has one
+abbrev pub first_of : List ℕ → Option ℕ
+first_of [] = None
+first_of (g ∷ gs) = Some g
+
 -- the group at home in a variable is the first in which it occurs
 abbrev pub home : List (List Placed) → ℕ → Option ℕ
-home groups v = first (groups_with v 0 groups)
-  where
-    first : List ℕ → Option ℕ
-    first [] = None
-    first (g ∷ gs) = Some g
+home groups v = first_of (groups_with v 0 groups)
 
 -- the row of a hard clause: the groups at home in its variables, in its order
 abbrev pub clause_row : List (List Placed) → List Literal → List ℕ
@@ -48,13 +49,16 @@ rows_of p =
 abbrev pub share : ℕ → ℕ
 share m = max 1 (840 / (m - 1))
 
+-- what two neighbours add
+abbrev pub between : ℕ → ℕ → ℕ → List Connection
+between weight g h =
+    if g == h then [] else record { low = min g h; high = max g h; weight = weight } ∷ []
+
 -- a connection for each two neighbours that differ
 abbrev pub along : ℕ → List ℕ → List Connection
 along weight [] = []
 along weight (g ∷ []) = []
-along weight (g ∷ h ∷ row) =
-    (if g == h then [] else record { low = min g h; high = max g h; weight = weight } ∷ [])
-    ++ along weight (h ∷ row)
+along weight (g ∷ h ∷ row) = between weight g h ++ along weight (h ∷ row)
 
 abbrev pub row_connections : List ℕ → List Connection
 row_connections row = along (share (length row)) row

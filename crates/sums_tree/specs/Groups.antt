@@ -1,5 +1,6 @@
 -- Groups of soft clauses of which at most one is false wherever the hard clauses hold.
 use Rattle.std.specs.Prelude.{ℕ, ◌+◌, ◌^◌, Bool, not, List, [], ◌∷◌, ◌++◌, map, filter, sum_by}
+use Rattle.std.specs.Prelude.{reverse}
 use Rattle.std.specs.Prelude.{count_by, nat_le, if◌then◌else◌}
 use Rattle.std.specs.List.{list_any, list_all}
 use Rattle.cnf.specs.Literal.{Literal, negation, literal_eq}
@@ -88,3 +89,7 @@ grouped p = grouped_from (binding p) 0 [] [] (placed p)
 -- the groups, each clause by its place
 abbrev pub groups : Problem → List (List ℕ)
 groups p = map (λ g. map (λ c. c.place) g) (grouped p)
+
+-- the groups as rows: of each the place of the last member first
+abbrev pub group_rows : Problem → List (List ℕ)
+group_rows p = map (λ g. reverse (map (λ c. c.place) g)) (grouped p)

@@ -5,3 +5,10 @@ pub mod Arranging
 pub mod Vectors
 pub mod Chains
 pub mod Partners
+pub mod Arrangement
+pub mod Seen
+pub mod Looking
+pub mod Joining
+pub mod Homes
+pub mod Adding
+pub mod Nodes

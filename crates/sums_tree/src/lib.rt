@@ -2,6 +2,18 @@
 //! of clauses that exclude each other, and a tree over these groups that follows the hard clauses.
 #![tactic(auto)]
 
+mod adding;
+pub mod arrangement;
 mod chains;
+mod connecting;
+mod connections;
+mod groups;
+mod homes;
+mod joining;
+mod looking;
+mod nodes;
 mod opposites;
+mod pairing;
 mod partners;
+mod seen;
+mod track;

@@ -1,0 +1,61 @@
+use Rattle.std.proofs.Common.{◌≡◌, ℕ, ◌+◌, ◌<◌, ◌≤◌, ◌∙◌, length, map, drop, ap, arith}
+use Rattle.std.proofs.lemmas.Result.{err_from_is_err_and}
+use Rattle.sums_tree.specs.Arrangement.{step_of}
+use Rattle.sums.specs.Sums.{Node}
+use Rattle.sums.specs.Stepping.{Progress, most_before}
+use Rattle.sums.proofs.OnTheWay.{is_too_many_weaker}
+use Rattle.sums.proofs.Steps.{most_more, most_last, step_forward, step_many, step_up}
+use Rattle.sums.proofs.Steps.{steps_ended, root_digits}
+use Rattle.sums.proofs.stepping.root_of.Goals as goal
+use Rattle.sums.proofs.stepping.root_of.Goals.{then-i-steps, else-i-steps}
+
+below : {a b : ℕ} → a ≤ b → 131072 < a → 131072 < b
+below le lt = omega arith
+
+pub returns-in_err-make-clause-many : goal.returns-in_err-make-clause-many
+returns-in_err-make-clause-many c =
+    let most : c.if-i-steps.most
+    ≡ most_before (map step_of (drop (c.loop-i.i + 1) c.args.steps.now)) =
+    elim c.if-i-steps.branch [
+      | then-i-steps w ↦ most_more c.args.steps.now (c.loop-i.i + 1) _ w.if-i-steps.true w.most-is
+      | else-i-steps w ↦ most_last c.args.steps.now (c.loop-i.i + 1) _ w.if-i-steps.false w.most-is
+    ] in
+    let p = err_from_is_err_and c.from_residual.result c.from_residual.ensures.1 in
+    rw (p.1, p.2) (is_too_many_weaker _ _ _
+    (below (step_many c.args.instance.now c.args.digits c.args.steps.now c.loop-i.i
+    c.if-i-steps.most c.loop-i.progress c.index-steps-i.result c.loop-i-test.true
+    c.index-steps-i.is most c.loop-i.invariant.way)) c.in_err-make.ensures.many)
+
+pub loop-i-preserved : goal.loop-i-preserved
+loop-i-preserved c =
+    let most : c.if-i-steps.most
+    ≡ most_before (map step_of (drop (c.loop-i.i + 1) c.args.steps.now)) =
+    elim c.if-i-steps.branch [
+      | then-i-steps w ↦ most_more c.args.steps.now (c.loop-i.i + 1) _ w.if-i-steps.true w.most-is
+      | else-i-steps w ↦ most_last c.args.steps.now (c.loop-i.i + 1) _ w.if-i-steps.false w.most-is
+    ] in
+    record {
+      way =
+          step_forward c.args.instance.now c.args.digits c.args.steps.now c.loop-i.i
+          c.if-i-steps.most c.loop-i.progress c.index-steps-i.result c.loop-i-test.true
+          c.index-steps-i.is most c.make.new.self c.in_ok-make.ensures.ok
+          ∙ c.loop-i.invariant.way;
+      from_one =
+          omega (
+            arith,
+            ap (λ (s : Progress). s.fresh) c.in_ok-make.ensures.ok,
+            step_up c.args.instance.now c.args.digits c.if-i-steps.most
+                (step_of c.index-steps-i.result) c.loop-i.progress,
+            c.loop-i.invariant.from_one,
+          );
+    }
+
+pub finish-requires : goal.finish-requires
+finish-requires c =
+    omega (
+      arith,
+      ap (λ (n : Node). length n.digits) (steps_ended c.args.instance.now c.args.digits
+          c.args.steps.now c.loop-i.i c.loop-i.progress c.loop-i-test.false
+          c.loop-i.invariant.way),
+      root_digits c.args.instance.now (map step_of c.args.steps.now) c.args.digits,
+    )

@@ -1,0 +1,84 @@
+-- What the steps that build a tree make: the lists of each node, one node after another.
+use Rattle.std.specs.Prelude.{ℕ, ◌+◌, List, [], ◌∷◌, ◌++◌, length, sum_by}
+use Rattle.cnf.specs.Literal.{Literal}
+use Rattle.cnf.specs.Problem.{Problem}
+use Rattle.sums_tree.specs.Tree.{Step, Take, Join}
+use Rattle.sums.specs.Sums.{AtLeast, Node, members, most_below}
+use Rattle.sums.specs.Parts.{group_node, joined_node}
+use Rattle.sums.specs.declared.taking.Lists.{Lists}
+
+-- the lists of a part of the tree
+pub record Part : Type 0 where
+  pub digits : List (List AtLeast)
+  pub top : List AtLeast
+
+abbrev pub part_of : Lists → Part
+part_of l = record { digits = l.digits.items; top = l.top }
+
+-- the parts that wait for being joined, the last one first; the clauses of all parts so far, and
+-- the next new variable
+pub record Progress : Type 0 where
+  pub parts : List Part
+  pub clauses : List (List Literal)
+  pub fresh : ℕ
+
+-- a node comes behind some parts
+abbrev pub with_node : Progress → List Part → Node → Progress
+with_node s parts n = record {
+  parts = record { digits = n.digits; top = n.top } ∷ parts;
+  clauses = s.clauses ++ n.clauses;
+  fresh = n.fresh;
+}
+
+-- the last two parts become one; fewer than two stay
+abbrev pub last_joined : ℕ → Progress → List Part → Progress
+last_joined most s [] = s
+last_joined most s (r ∷ []) = s
+last_joined most s (r ∷ l ∷ parts) =
+    with_node s parts (joined_node most l.digits l.top r.digits r.top s.fresh)
+
+abbrev pub step_made : Problem → ℕ → ℕ → Step → Progress → Progress
+step_made problem p most (Take group) s =
+    with_node s s.parts (group_node most p (members problem group) s.fresh)
+step_made problem p most Join s = last_joined most s s.parts
+
+-- how long a digit's list may be, at the step before these: the last step makes the root
+abbrev pub most_before : List Step → ℕ
+most_before [] = 0
+most_before (step ∷ more) = most_below
+
+abbrev pub steps_made : Problem → ℕ → List Step → Progress → Progress
+steps_made problem p [] s = s
+steps_made problem p (step ∷ more) s =
+    steps_made problem p more (step_made problem p (most_before more) step s)
+
+abbrev pub begun : Problem → Progress
+begun problem = record {
+  parts = [];
+  clauses = [];
+  fresh = problem.variables + length problem.soft + 1;
+}
+
+-- the last part, with all clauses
+abbrev pub last_part : Progress → List Part → Node
+last_part s [] = record { digits = []; top = []; clauses = s.clauses; fresh = s.fresh }
+last_part s (x ∷ parts) =
+    record { digits = x.digits; top = x.top; clauses = s.clauses; fresh = s.fresh }
+
+abbrev pub finished : Progress → Node
+finished s = last_part s s.parts
+
+-- the root that the steps make
+abbrev pub root_made : Problem → List Step → ℕ → Node
+root_made problem steps p = finished (steps_made problem p steps (begun problem))
+
+-- the weights of the groups that come
+abbrev pub group_weight : Problem → List ℕ → ℕ
+group_weight problem group = sum_by (λ x. x.number) (members problem group)
+
+abbrev pub step_weight : Problem → Step → ℕ
+step_weight problem (Take group) = group_weight problem group
+step_weight problem Join = 0
+
+abbrev pub steps_weight : Problem → List Step → ℕ
+steps_weight problem steps = sum_by (step_weight problem) steps

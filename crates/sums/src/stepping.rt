@@ -1,0 +1,168 @@
+// The sums along a tree, step by step: the lists of each node from those of its parts.
+ghost use Rattle.std.specs.Prelude.{◌≡◌, ◌+◌, ◌<◌, ◌≤◌, ◌^◌, length, map, OnOk, IfOk};
+ghost use Rattle.cnf.specs.Instance.{IsInstance};
+ghost use Rattle.sums_tree.specs.Arrangement.{step_of};
+ghost use Rattle.sums.specs.Halts.{IfTooMany};
+ghost use Rattle.sums.specs.Stepping.{begun, finished, root_made, step_made};
+ghost use Rattle.sums.specs.Stepping.{group_weight, steps_weight};
+ghost use Rattle.sums.specs.Sums.{members};
+
+use crate::building::Builder;
+use crate::halts::Halt;
+use crate::lists::AtLeast;
+use crate::root::Root;
+use crate::taking::{Lists, join_lists, take_group};
+use cnf::clause_list::ClauseList;
+use cnf::types::Instance;
+use std::alloc::AllocError;
+use std::marker::Model;
+use sums_tree::arrangement::Step;
+
+/// A digit's list may be so long at a node below the root.
+const MOST_BELOW: usize = 16;
+
+/// The parts of a tree that wait for being joined.
+#[derive(Drop)]
+struct Progress {
+    // The last part last; one at most for each step.
+    parts: Vec<Lists>,
+    // The clauses of all parts so far, also of those that were joined.
+    builder: Builder,
+}
+
+impl Model for Progress {
+    ghost use Rattle.std.specs.Prelude.{map, reverse};
+    ghost use Rattle.sums.specs.Stepping.{Progress as Parts, part_of};
+
+    ghost Value = { Parts };
+
+    ghost view = { λ p. record {
+      parts = map part_of (reverse p.parts.items);
+      clauses = p.builder.clauses;
+      fresh = p.builder.fresh;
+    } };
+}
+
+impl Progress {
+    /// No part yet.
+    fn of(instance: &Instance) -> Self
+        ensures begun { result ≡ begun instance.now }
+        ensures limits { IsInstance instance.now }
+    {
+        let alloc = instance.allocator();
+        let fresh = instance.vars() + instance.soft().len() as u32 + 1;
+        Progress {
+            parts: Vec::new(alloc),
+            builder: Builder {
+                clauses: ClauseList::new(alloc),
+                fresh,
+            },
+        }
+    }
+
+    /// Makes the lists of a step, with so many digits.
+    fn make(
+        &mut self,
+        instance: &Instance,
+        digits: u32,
+        most: usize,
+        step: &Step,
+    ) -> Result<(), Halt>
+        requires { 0 < self.old.fresh }
+        ensures ok { OnOk result (self.new
+            ≡ step_made instance.now digits most (step_of step.now) self.old) }
+        ensures many { IfTooMany result (2 ^ 17
+            < length (step_made instance.now digits most (step_of step.now) self.old).clauses) }
+    {
+        let lists = match step {
+            Step::Take(group) => {
+                let each = members_of(instance, group)?;
+                take_group(&mut self.builder, most, digits, each)?
+            }
+            Step::Join => {
+                // The steps of a tree always leave two parts here.
+                let right = self.parts.pop().ok_or(AllocError)?;
+                let left = self.parts.pop().ok_or(AllocError)?;
+                join_lists(&mut self.builder, most, left, right)?
+            }
+        };
+        self.parts.push(lists).map_err(AllocError::from)?;
+        Ok(())
+    }
+
+    /// The last part, with all clauses.
+    fn finish(self) -> Root
+        requires { length (finished self).digits < 64 }
+        ensures { result ≡ finished self }
+    {
+        let Progress { mut parts, builder } = self;
+        let last = match parts.pop() {
+            Some(last) => last,
+            None => Lists::none(builder.clauses.allocator()),
+        };
+        Root::new(builder.clauses, last, builder.fresh)
+    }
+}
+
+/// The root that the steps make, with so many digits, if there are at most 2^17 clauses.
+pub(crate) fn root_of(instance: &Instance, steps: &[Step], digits: u32) -> Result<Root, Halt>
+    requires { digits < 64 }
+    ensures root { IfOk result (λ r. r ≡ root_made instance.now (map step_of steps.now) digits) }
+    ensures few { IfOk result (λ r. length r.clauses ≤ 2 ^ 17) }
+    ensures many { IfTooMany result
+        (2 ^ 17 < length (root_made instance.now (map step_of steps.now) digits).clauses) }
+    ensures limits { IsInstance instance.now }
+{
+    let mut progress = Progress::of(instance);
+    for (i, step) in steps.iter().enumerate() {
+        let most = if i + 1 < steps.len() { MOST_BELOW } else { 0 };
+        progress.make(instance, digits, most, step)?;
+    }
+    // Clauses come only where there is room, so this says no more than that they are so few.
+    if !progress.builder.has_room(0) {
+        return Err(Halt::TooMany);
+    }
+    Ok(progress.finish())
+}
+
+/// The members of a group: each weight, with the variable that is true where the soft clause is
+/// given up.
+fn members_of(instance: &Instance, group: &[u32]) -> Result<Vec<AtLeast>, AllocError>
+    ensures { IfOk result (λ l. l.items ≡ members instance.now group.now) }
+{
+    let alloc = instance.allocator();
+    let mut list = Vec::with_capacity(alloc, group.len())?;
+    for place in group {
+        // The groups of a tree have places within the instance.
+        let soft = instance.soft().get(*place as usize).ok_or(AllocError)?;
+        list.push(AtLeast::new(soft.weight(), instance.vars() + 1 + *place))?;
+    }
+    Ok(list)
+}
+
+/// The weights of all groups that come. A sum from 2^64 on counts as refused memory.
+pub(crate) fn weight_of(instance: &Instance, steps: &[Step]) -> Result<u64, AllocError>
+    ensures { IfOk result (λ n. n ≡ steps_weight instance.now (map step_of steps.now)) }
+{
+    let mut sum: u64 = 0;
+    for step in steps {
+        if let Step::Take(group) = step {
+            sum = sum
+                .checked_add(weight_in(instance, group)?)
+                .ok_or(AllocError)?;
+        }
+    }
+    Ok(sum)
+}
+
+/// The weights of a group.
+fn weight_in(instance: &Instance, group: &[u32]) -> Result<u64, AllocError>
+    ensures { IfOk result (λ n. n ≡ group_weight instance.now group.now) }
+{
+    let mut sum: u64 = 0;
+    for place in group {
+        let soft = instance.soft().get(*place as usize).ok_or(AllocError)?;
+        sum = sum.checked_add(soft.weight()).ok_or(AllocError)?;
+    }
+    Ok(sum)
+}

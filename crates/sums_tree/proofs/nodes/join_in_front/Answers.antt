@@ -1,0 +1,29 @@
+-- The steps of both nodes, and one that joins.
+use Rattle.std.proofs.Common.{◌≡◌, ◌∙◌, ◌++◌, ◌∷◌, [], sym, length, rules}
+use Rattle.std.proofs.lemmas.List.{get_or_read}
+use Rattle.std.proofs.lemmas.Result.{on_ok_weaker}
+use Rattle.sums_tree.specs.Looking.{row_at}
+use Rattle.sums_tree.proofs.Labels.{read_other, read_same, tracks_joined}
+use Rattle.sums_tree.proofs.nodes.join_in_front.Goals as goal
+
+pub returns-clause-steps : goal.returns-clause-steps
+returns-clause-steps c =
+    let S = c.args.tracks.now.items in
+    let dest = c.replace-moved.new.dest in
+    let empty : dest ≡ [] = c.replace-moved.ensures.after ∙ c.new.ensures in
+    let two = (λ (e : c.args.right ≡ c.args.left). c.requires.two (sym e)) in
+    let moved : c.replace-moved.result ≡ row_at S c.args.left =
+    c.replace-moved.ensures.value
+    ∙ get_or_read S c.args.left c.index_mut.result.now c.requires.left
+    c.index_mut.ensures.value [] in
+    let other = read_other S c.args.left c.args.right dest two c.requires.right empty
+    c.index_mut-2.result.now c.index_mut-2.ensures.value in
+    let mid = c.put_in_front.new.self in
+    let both : mid ≡ row_at S c.args.left ++ row_at S c.args.right =
+    c.in_ok-put_in_front.ensures ∙ (λ i. moved i ++ other i) in
+    let third = read_same S c.args.left c.args.right dest two c.requires.right empty mid
+    c.index_mut-3.result.now c.index_mut-3.ensures.value in
+    let mark : c.len-mark.result ≡ length c.args.labels.now.items = search rules in
+    on_ok_weaker c.push.result
+    (λ e. tracks_joined S c.args.left c.args.right dest two c.requires.right empty mid
+    c.push.new.self _ (e ∙ (λ i. (third ∙ both) i ++ mark i ∷ []))) c.push.ensures
