@@ -10,7 +10,7 @@ use Rattle.cnf.specs.Literal.{Assignment, Literal, negation, literal_value, posi
 use Rattle.cnf.specs.Clause.{clause_value, greatest_variable}
 use Rattle.cnf.specs.Problem.{SoftClause}
 use Rattle.adder.specs.declared.cells.Cell.{Cell}
-use Rattle.adder.specs.declared.cells.Profile.{Profile}
+use Rattle.adder.specs.declared.profiles.Relaxing.{Relaxing}
 use Rattle.adder.specs.Network.{Relaxed, Column, bit, relaxed_from, column_of, added_up}
 use Rattle.adder.specs.Network.{columns_from, third_of, IsCellOf, SameUpTo}
 use Rattle.adder.proofs.Sums.{relaxed_cases}
@@ -195,19 +195,20 @@ cells_choice n (cell ∷ cells) t h =
 abbrev pub AreWithin : ℕ → List SoftClause → Type 0
 AreWithin n ss = AllByRecursion (λ s. greatest_variable s.clause ≤ n) ss
 
-pub relaxed_below : (n : ℕ) (profile : Profile) (v : ℕ) (ss : List SoftClause) (m : ℕ)
-    → AreWithin n ss → n < v → v + length (filter (λ e. e.is_fresh) (relaxed_from profile v ss)) ≤ m
-    → AreRelaxedBelow m (relaxed_from profile v ss)
-relaxed_below n profile v [] m h k = λ room. tt
-relaxed_below n profile v (s ∷ ss) m h k =
-    relaxed_cases profile v s
+pub relaxed_below : (n : ℕ) (relaxing : Relaxing) (v : ℕ) (ss : List SoftClause) (m : ℕ)
+    → AreWithin n ss → n < v
+    → v + length (filter (λ e. e.is_fresh) (relaxed_from relaxing v ss)) ≤ m
+    → AreRelaxedBelow m (relaxed_from relaxing v ss)
+relaxed_below n relaxing v [] m h k = λ room. tt
+relaxed_below n relaxing v (s ∷ ss) m h k =
+    relaxed_cases relaxing v s
     (λ e. v + length (filter (λ e. e.is_fresh)
-    (e ∷ relaxed_from profile (if e.is_fresh then v + 1 else v) ss)) ≤ m
-    → AreRelaxedBelow m (e ∷ relaxed_from profile (if e.is_fresh then v + 1 else v) ss))
-    (λ room. (omega arith, relaxed_below n profile (v + 1) ss m h.1 (omega arith) (omega arith)))
+    (e ∷ relaxed_from relaxing (if e.is_fresh then v + 1 else v) ss)) ≤ m
+    → AreRelaxedBelow m (e ∷ relaxed_from relaxing (if e.is_fresh then v + 1 else v) ss))
+    (λ room. (omega arith, relaxed_below n relaxing (v + 1) ss m h.1 (omega arith) (omega arith)))
     (λ l e room. (
       omega (arith, h.0, ap greatest_variable e),
-      relaxed_below n profile v ss m h.1 k room,
+      relaxed_below n relaxing v ss m h.1 k room,
     ))
 
 -- each choice of the variables up to n extends to the cells after them
@@ -231,16 +232,16 @@ negation_value t l = by l.negated (t l.variable)
 abbrev pub IsRelaxedTightly : Assignment → Relaxed → Type 0
 IsRelaxedTightly t e = literal_value t e.literal ≡ not (clause_value t (e.soft).clause)
 
-pub relaxed_choice : (n : ℕ) (profile : Profile) (v : ℕ) (ss : List SoftClause) (u : Assignment)
+pub relaxed_choice : (n : ℕ) (relaxing : Relaxing) (v : ℕ) (ss : List SoftClause) (u : Assignment)
     → AreWithin n ss → n < v → (t : Assignment)
-    × SameBelow v u t × AllByRecursion (IsRelaxedTightly t) (relaxed_from profile v ss)
-relaxed_choice n profile v [] u h k = (u, λ x l. refl, tt)
-relaxed_choice n profile v (s ∷ ss) u h k =
-    relaxed_cases profile v s (λ e. (t : Assignment) × SameBelow v u t
+    × SameBelow v u t × AllByRecursion (IsRelaxedTightly t) (relaxed_from relaxing v ss)
+relaxed_choice n relaxing v [] u h k = (u, λ x l. refl, tt)
+relaxed_choice n relaxing v (s ∷ ss) u h k =
+    relaxed_cases relaxing v s (λ e. (t : Assignment) × SameBelow v u t
     × AllByRecursion (IsRelaxedTightly t)
-    (e ∷ relaxed_from profile (if e.is_fresh then v + 1 else v) ss))
+    (e ∷ relaxed_from relaxing (if e.is_fresh then v + 1 else v) ss))
     (let b = not (clause_value u s.clause) in
-    let r = relaxed_choice n profile (v + 1) ss (put u v b) h.1 (omega arith) in
+    let r = relaxed_choice n relaxing (v + 1) ss (put u v b) h.1 (omega arith) in
     let same : SameBelow v u r.0 = λ x l. r.1 x (omega arith) ∙ put_other u v x b (omega arith) in (
       r.0,
       same,
@@ -251,5 +252,5 @@ relaxed_choice n profile v (s ∷ ss) u h k =
       ),
     ))
     (λ l e.
-    let r = relaxed_choice n profile v ss u h.1 k in
+    let r = relaxed_choice n relaxing v ss u h.1 k in
     (r.0, r.1, (negation_value r.0 l ∙ ap (λ c. not (clause_value r.0 c)) (sym e), r.2)))

@@ -4,7 +4,7 @@ mod Small
 mod Variables
 mod Sorting
 mod Numbers
-mod Profiles
+mod InEachProfile
 mod Queue
 mod Digits
 mod Pairs

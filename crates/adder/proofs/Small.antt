@@ -8,6 +8,8 @@ use Rattle.std.proofs.lemmas.List.Sums.{length-filter, count_by-le-length}
 use Rattle.cnf.specs.Literal.{Literal, positive}
 use Rattle.cnf.specs.Problem.{Problem, SoftClause}
 use Rattle.adder.specs.declared.cells.Profile.{Profile}
+use Rattle.adder.specs.declared.profiles.Relaxing.{Relaxing}
+use Rattle.adder.specs.Network.{relaxing_of}
 use Rattle.adder.specs.Network.{Relaxed, bit, binary_length, relaxed_one, relaxed_from, relaxed_as}
 use Rattle.adder.specs.Network.{column_of, added_up, columns_from}
 use Rattle.adder.proofs.Sums.{length_in}
@@ -80,15 +82,15 @@ length_in_below (suc f) k n h =
 pub binary_length_few : (n : ℕ) → n < 2 ^ 62 → binary_length n ≤ 62
 binary_length_few n h = length_in_below 63 62 n h
 
-pub relaxed_length : (profile : Profile) (v : ℕ) (ss : List SoftClause)
-    → length (relaxed_from profile v ss) ≡ length ss
-relaxed_length profile v [] = refl
-relaxed_length profile v (s ∷ ss) =
-    ap suc (relaxed_length profile (if (relaxed_one profile v s).is_fresh then v + 1 else v) ss)
+pub relaxed_length : (relaxing : Relaxing) (v : ℕ) (ss : List SoftClause)
+    → length (relaxed_from relaxing v ss) ≡ length ss
+relaxed_length relaxing v [] = refl
+relaxed_length relaxing v (s ∷ ss) =
+    ap suc (relaxed_length relaxing (if (relaxed_one relaxing v s).is_fresh then v + 1 else v) ss)
 
 pub fresh_few : (profile : Profile) (p : Problem)
     → length (filter (λ e. e.is_fresh) (relaxed_as profile p)) ≤ length p.soft
 fresh_few profile p =
     subst (λ n. length (filter (λ e. e.is_fresh) (relaxed_as profile p)) ≤ n)
-    (relaxed_length profile (p.variables + 1) p.soft)
+    (relaxed_length (relaxing_of profile) (p.variables + 1) p.soft)
     (filter_le (λ e. e.is_fresh) (relaxed_as profile p))

@@ -10,8 +10,8 @@ use Rattle.std.proofs.lemmas.List.Sums.{sum_by-cons}
 use Rattle.cnf.specs.Numbers.{one_if}
 use Rattle.cnf.specs.Literal.{Assignment, Literal, negation, literal_value, positive}
 use Rattle.cnf.specs.Problem.{SoftClause}
-use Rattle.adder.specs.declared.cells.Profile.{Profile}
-use Rattle.adder.specs.declared.cells.Profile.TheVariants.{One, Two, Three}
+use Rattle.adder.specs.declared.profiles.Relaxing.{Relaxing}
+use Rattle.adder.specs.declared.profiles.Relaxing.TheVariants.{EachByVariable, UnitsByNegation}
 use Rattle.adder.specs.Network.{Relaxed, bit, binary_length, relaxed_one, relaxed_from, column_of}
 use Rattle.adder.specs.Network.{added_up, columns_from, along_columns, value_of, third_of, IsCellOf}
 
@@ -183,14 +183,13 @@ weighed_bound t (e ∷ es) =
     here false n = omega arith
 
 -- the two forms of relaxation
-pub relaxed_cases : (profile : Profile) (v : ℕ) (s : SoftClause) (P : Relaxed → Type 0)
+pub relaxed_cases : (relaxing : Relaxing) (v : ℕ) (s : SoftClause) (P : Relaxed → Type 0)
     → P (record { literal = positive v; soft = s; is_fresh = true })
     → ((l : Literal) → s.clause ≡ l ∷ []
     → P (record { literal = negation l; soft = s; is_fresh = false }))
-    → P (relaxed_one profile v s)
-relaxed_cases One v s P fresh own = fresh
-relaxed_cases Three v s P fresh own = fresh
-relaxed_cases Two v s P fresh own = at s.weight s.clause P fresh own
+    → P (relaxed_one relaxing v s)
+relaxed_cases EachByVariable v s P fresh own = fresh
+relaxed_cases UnitsByNegation v s P fresh own = at s.weight s.clause P fresh own
   where
     at : (w : ℕ) (c : List Literal) (P : Relaxed → Type 0)
         → P (record {
@@ -203,26 +202,27 @@ relaxed_cases Two v s P fresh own = at s.weight s.clause P fresh own
           literal = negation l;
           soft = record { weight = w; clause = c };
           is_fresh = false;
-        })) → P (relaxed_one Two v (record { weight = w; clause = c }))
+        })) → P (relaxed_one UnitsByNegation v (record { weight = w; clause = c }))
     at w [] P fresh own = fresh
     at w (l ∷ []) P fresh own = own l refl
     at w (l ∷ k ∷ c) P fresh own = fresh
 
-pub relaxed_soft : (profile : Profile) (v : ℕ) (s : SoftClause) → (relaxed_one profile v s).soft ≡ s
-relaxed_soft profile v s = relaxed_cases profile v s (λ e. e.soft ≡ s) refl (λ l h. refl)
+pub relaxed_soft : (relaxing : Relaxing) (v : ℕ) (s : SoftClause)
+    → (relaxed_one relaxing v s).soft ≡ s
+relaxed_soft relaxing v s = relaxed_cases relaxing v s (λ e. e.soft ≡ s) refl (λ l h. refl)
 
-pub relaxed_weights : (profile : Profile) (v : ℕ) (ss : List SoftClause)
-    → sum_by (λ e. (e.soft).weight) (relaxed_from profile v ss) ≡ sum_by (λ s. s.weight) ss
-relaxed_weights profile v [] = refl
-relaxed_weights profile v (s ∷ ss) =
-    let first = relaxed_one profile v s in
-    let rest = relaxed_from profile (if first.is_fresh then v + 1 else v) ss in
+pub relaxed_weights : (relaxing : Relaxing) (v : ℕ) (ss : List SoftClause)
+    → sum_by (λ e. (e.soft).weight) (relaxed_from relaxing v ss) ≡ sum_by (λ s. s.weight) ss
+relaxed_weights relaxing v [] = refl
+relaxed_weights relaxing v (s ∷ ss) =
+    let first = relaxed_one relaxing v s in
+    let rest = relaxed_from relaxing (if first.is_fresh then v + 1 else v) ss in
     sum_by-cons (λ (e : Relaxed). (e.soft).weight) first rest
     ∙ omega (
       arith,
-      relaxed_weights profile (if first.is_fresh then v + 1 else v) ss,
+      relaxed_weights relaxing (if first.is_fresh then v + 1 else v) ss,
       sum_by-cons (λ (s : SoftClause). s.weight) s ss,
-      ap (λ (s : SoftClause). s.weight) (relaxed_soft profile v s),
+      ap (λ (s : SoftClause). s.weight) (relaxed_soft relaxing v s),
     )
 
 -- the weights of those that are given up

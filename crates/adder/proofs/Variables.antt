@@ -7,7 +7,7 @@ use Rattle.std.proofs.lemmas.List.{length-append}
 use Rattle.cnf.specs.Literal.{Literal, positive}
 use Rattle.cnf.specs.Problem.{SoftClause}
 use Rattle.adder.specs.declared.cells.Cell.{Cell}
-use Rattle.adder.specs.declared.cells.Profile.{Profile}
+use Rattle.adder.specs.declared.profiles.Relaxing.{Relaxing}
 use Rattle.adder.specs.Network.{Relaxed, bit, relaxed_from, column_of, added_up, columns_from}
 use Rattle.adder.proofs.Sums.{relaxed_cases}
 
@@ -104,22 +104,22 @@ module _ (Q : ℕ → Type 0) where
       (all_append sum.cells rest.cells c.0 r.0, (c.1, r.1))
 
   -- the relaxation literals are those of the clauses, or new
-  pub relaxed_with : (profile : Profile) (v : ℕ) (ss : List SoftClause)
+  pub relaxed_with : (relaxing : Relaxing) (v : ℕ) (ss : List SoftClause)
       → AllByRecursion (λ s. AreOf s.clause) ss
-      → ((x : ℕ) → v ≤ x → x < v + length (filter (λ e. e.is_fresh) (relaxed_from profile v ss))
+      → ((x : ℕ) → v ≤ x → x < v + length (filter (λ e. e.is_fresh) (relaxed_from relaxing v ss))
       → Q x)
       → AllByRecursion (λ e. AreOf (e.soft).clause × Q (e.literal).variable)
-      (relaxed_from profile v ss)
-  relaxed_with profile v [] h = λ f. tt
-  relaxed_with profile v (s ∷ ss) h =
-      relaxed_cases profile v s
+      (relaxed_from relaxing v ss)
+  relaxed_with relaxing v [] h = λ f. tt
+  relaxed_with relaxing v (s ∷ ss) h =
+      relaxed_cases relaxing v s
       (λ e. ((x : ℕ) → v ≤ x
       → x < v + length (filter (λ e. e.is_fresh)
-      (e ∷ relaxed_from profile (if e.is_fresh then v + 1 else v) ss)) → Q x)
+      (e ∷ relaxed_from relaxing (if e.is_fresh then v + 1 else v) ss)) → Q x)
       → AllByRecursion (λ e. AreOf (e.soft).clause × Q (e.literal).variable)
-      (e ∷ relaxed_from profile (if e.is_fresh then v + 1 else v) ss))
+      (e ∷ relaxed_from relaxing (if e.is_fresh then v + 1 else v) ss))
       (λ f. (
         (h.0, f v (omega arith) (omega arith)),
-        relaxed_with profile (v + 1) ss h.1 (λ x l u. f x (omega arith) (omega arith)),
+        relaxed_with relaxing (v + 1) ss h.1 (λ x l u. f x (omega arith) (omega arith)),
       ))
-      (λ l same f. ((h.0, (subst AreOf same h.0).0), relaxed_with profile v ss h.1 f))
+      (λ l same f. ((h.0, (subst AreOf same h.0).0), relaxed_with relaxing v ss h.1 f))

@@ -1,19 +1,18 @@
 -- What the parts of the building compute.
 use Rattle.std.specs.Prelude.{ℕ, ◌+◌, List, [], ◌∷◌, length, map, filter, Option, Some, None}
 use Rattle.cnf.specs.Literal.{Literal, negation}
-use Rattle.adder.specs.declared.cells.Profile.{Profile}
-use Rattle.adder.specs.declared.cells.Profile.TheVariants.{One, Two, Three}
+use Rattle.adder.specs.declared.profiles.Relaxing.{Relaxing}
+use Rattle.adder.specs.declared.profiles.Relaxing.TheVariants.{EachByVariable, UnitsByNegation}
 use Rattle.adder.specs.declared.relaxations.Relaxation.{Relaxation}
 use Rattle.adder.specs.Network.{Adders, Relaxed, Column, Number, bit, added_up, number_of}
 use Rattle.adder.specs.Network.{lightest_first, rounds}
 
 -- the relaxation literal of a clause that takes no fresh variable
-abbrev pub own_relaxation : Profile → List Literal → Option Literal
-own_relaxation Two (l ∷ []) = Some (negation l)
-own_relaxation Two [] = None
-own_relaxation Two (l ∷ k ∷ c) = None
-own_relaxation One c = None
-own_relaxation Three c = None
+abbrev pub own_relaxation : Relaxing → List Literal → Option Literal
+own_relaxation UnitsByNegation (l ∷ []) = Some (negation l)
+own_relaxation UnitsByNegation [] = None
+own_relaxation UnitsByNegation (l ∷ k ∷ c) = None
+own_relaxation EachByVariable c = None
 
 -- what the network reads of a relaxed clause
 abbrev pub relaxation_of : Relaxed → Relaxation

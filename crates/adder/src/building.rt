@@ -6,6 +6,7 @@ ghost use Rattle.adder.specs.Parts.{literals_with};
 use crate::cells::Profile;
 use crate::columns::{Adder, push_bit};
 use crate::networks::Network;
+use crate::profiles::Adding;
 use crate::relaxations::Relaxations;
 use crate::trees::add_tree;
 use cnf::types::Instance;
@@ -35,7 +36,8 @@ pub fn network(instance: &Instance) -> Result<Network, AllocError>
 /// added up from the lowest on. In `Profile::Three` each weight is a number of its own. By rising
 /// weight, and in the order of the soft clauses where weights are equal, these are added in pairs,
 /// an odd one is left for the next round, and rounds follow until one number is left: a column has
-/// the bits of two numbers.
+/// the bits of two numbers. In `Profile::Four` the network is that of `Profile::Three`: it stands
+/// in where sums take too many clauses.
 ///
 /// # Errors
 ///
@@ -46,9 +48,9 @@ pub fn network_as(instance: &Instance, profile: Profile) -> Result<Network, Allo
 {
     let alloc = instance.allocator();
     let relaxations = Relaxations::of(instance, profile)?;
-    match profile {
-        Profile::One | Profile::Two => add_columns(alloc, &relaxations),
-        Profile::Three => add_tree(alloc, relaxations),
+    match profile.adding() {
+        Adding::Columns => add_columns(alloc, &relaxations),
+        Adding::Tree | Adding::Sums => add_tree(alloc, relaxations),
     }
 }
 

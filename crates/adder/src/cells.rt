@@ -18,8 +18,8 @@ pub struct Cell {
     pub carry: u32,
 }
 
-/// How soft clauses are relaxed, by literals that are true where a clause may be falsified, and in
-/// which order the weights of those are added up.
+/// How soft clauses are relaxed, by literals that are true where a clause may be falsified, and how
+/// the weights of those are added up.
 #[derive(Clone, Copy, Debug, PartialEq, Eq, Drop)]
 pub enum Profile {
     /// Each soft clause, in their order, by the next variable after those of the instance. The
@@ -31,4 +31,7 @@ pub enum Profile {
     /// Relaxed as in `One`. The weights are added in pairs along a balanced tree, light ones first,
     /// so that sums of few of them are known early.
     Three,
+    /// Relaxed as in `One`. The weights are added by sums over groups of soft clauses, along a tree
+    /// that follows the hard clauses; where these would take too many clauses, as in `Three`.
+    Four,
 }

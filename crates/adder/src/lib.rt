@@ -5,5 +5,6 @@ pub mod building;
 pub mod cells;
 mod columns;
 pub mod networks;
+pub mod profiles;
 pub mod relaxations;
 mod trees;

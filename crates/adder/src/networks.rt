@@ -30,8 +30,8 @@ impl Network {
         Network { cells, outputs }
     }
 
-    /// The cells, from the lowest column up. Each has for its sum and its carry the next two
-    /// variables after those of the instance, of the relaxation and of the cells before it.
+    /// The cells, in the order in which they were made. Each has for its sum and its carry the next
+    /// two variables after those of the instance, of the relaxation and of the cells before it.
     pub fn cells(&self) -> &[Cell]
         ensures { result.now ≡ self.now.cells }
     {

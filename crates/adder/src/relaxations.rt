@@ -6,6 +6,7 @@ ghost use Rattle.adder.specs.Network.{relaxed_as, relaxed_variables, total_weigh
 ghost use Rattle.adder.specs.Parts.{relaxation_of, own_relaxation};
 
 use crate::cells::Profile;
+use crate::profiles::Relaxing;
 use cnf::types::{Clause, Instance, Lit, Soft};
 use std::alloc::AllocError;
 
@@ -46,7 +47,7 @@ impl Relaxations {
         let mut fresh = instance.vars() + 1;
         let mut each = Vec::with_capacity(instance.allocator(), soft_clauses.len())?;
         for soft in soft_clauses {
-            let lit = match own_literal(soft.clause(), profile) {
+            let lit = match own_literal(soft.clause(), profile.relaxing()) {
                 Some(lit) => lit,
                 None => {
                     fresh += 1;
@@ -69,11 +70,11 @@ impl Relaxations {
 
 /// The relaxation literal of a clause that takes no new variable: a clause of one literal is
 /// false exactly where the negation of that literal is true.
-fn own_literal(clause: &Clause, profile: Profile) -> Option<Lit>
-    ensures { result ≡ own_relaxation profile clause.now }
+fn own_literal(clause: &Clause, relaxing: Relaxing) -> Option<Lit>
+    ensures { result ≡ own_relaxation relaxing clause.now }
 {
-    match (profile, clause.lits()) {
-        (Profile::Two, [lit]) => Some(lit.negation()),
+    match (relaxing, clause.lits()) {
+        (Relaxing::UnitsByNegation, [lit]) => Some(lit.negation()),
         _ => None,
     }
 }

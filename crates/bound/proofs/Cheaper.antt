@@ -1,11 +1,12 @@
 -- The formula says that there is a cheaper solution.
 use Rattle.std.proofs.Common.{◌≡◌, ℕ, ◌+◌, ◌^◌, ◌<◌, ◌≤◌, Bool, true, false, not, ◌&&◌, ◌||◌, List}
-use Rattle.std.proofs.Common.{[], ◌∷◌, ◌++◌, map, filter, sum_by, nat_lt, if◌then◌else◌, All, refl}
+use Rattle.std.proofs.Common.{[], ◌∷◌, ◌++◌, map, filter, sum_by, nat_le, nat_lt, if◌then◌else◌}
+use Rattle.std.proofs.Common.{All, refl}
 use Rattle.std.proofs.Common.{sym, ◌∙◌, ap, subst, arith}
 use Rattle.std.specs.List.{AllByRecursion, flat_map}
-use Rattle.std.proofs.lemmas.Bool.{false≢true, and_parts, and_from, lt-ltb, ltb-true}
+use Rattle.std.proofs.lemmas.Bool.{false≢true, and_parts, and_from, lt-ltb, ltb-true, leb-true}
 use Rattle.std.proofs.lemmas.List.Folds.{list_all-append, list_any-append}
-use Rattle.std.proofs.lemmas.List.Sums.{sum_by-cons}
+use Rattle.std.proofs.lemmas.List.Sums.{sum_by-cons, sum_by-le-sum_by}
 use Rattle.std.proofs.lemmas.List.Elements.{recursion_from_All, All-from_recursion, All-weaker}
 use Rattle.cnf.specs.Literal.{Assignment, Literal, negation, literal_value, positive}
 use Rattle.cnf.specs.Clause.{Satisfies, clause_value, greatest_variable}
@@ -13,14 +14,21 @@ use Rattle.cnf.specs.Problem.{Problem, SoftClause, IsFeasible, cost_under}
 use Rattle.cnf.specs.Instance.{IsInstance, IsClauseWithin}
 use Rattle.adder.specs.declared.cells.Cell.{Cell}
 use Rattle.adder.specs.declared.cells.Profile.{Profile}
+use Rattle.adder.specs.declared.profiles.Relaxing.{Relaxing}
+use Rattle.adder.specs.Network.{relaxing_of}
 use Rattle.adder.specs.Network.{Relaxed, relaxed_one, relaxed_from, relaxed_as, relaxed_variables}
 use Rattle.adder.specs.Network.{adders_as, total_weight, value_of, IsCellOf, SameUpTo}
 use Rattle.adder.proofs.Laws.{relaxed_cases, relaxed_soft}
 use Rattle.adder.proofs.Laws.{AreWithin, AreRelaxedBelow, IsRelaxedTightly, relaxed_below}
 use Rattle.adder.proofs.Laws.{relaxed_choice, clause_same, literal_same}
 use Rattle.adder.proofs.Laws.{outputs_sum, cells_extend}
-use Rattle.bound.specs.Bound.{kept, cell_clauses, relaxed_clauses, comparator_for, bound_as}
+use Rattle.sums.specs.Sums.{Node, SumsSayCheaper, cheaper_clauses, comparator, relaxed}
+use Rattle.bound.specs.declared.additions.Addition.{Addition}
+use Rattle.bound.specs.declared.additions.Addition.TheVariants.{Network, Sums}
+use Rattle.bound.specs.Bound.{kept, cell_clauses, relaxed_clauses, comparator_of, comparator_over}
 use Rattle.bound.specs.Bound.{SaysCheaper}
+use Rattle.bound.proofs.Addition.{AreSumsOf, clauses_with, addition_cases, sums_cheaper}
+use Rattle.bound.proofs.Addition.{sums_relaxed}
 use Rattle.bound.proofs.Clauses.{all_true, all_true-from, from_all_true, all_true-kept, value-no}
 use Rattle.bound.proofs.Adders.{cell_holds, holds_cell}
 use Rattle.bound.proofs.Comparator.{comparator_true}
@@ -44,25 +52,29 @@ hold_cells t (cell ∷ cells) h =
     ∙ and_from (all_true t (cell_clauses cell)) (all_true t (flat_map cell_clauses cells))
     (holds_cell t cell h.0) (hold_cells t cells h.1)
 
--- the parts of the formula
+-- the parts of a formula
+parts_true : (t : Assignment) (a b c d : List (List Literal)) → all_true t (a ++ b ++ c ++ d)
+    ≡ (all_true t a && all_true t b && all_true t c && all_true t d)
+parts_true t a b c d = list_all-append (clause_value t) (a ++ b ++ c) d
+    ∙ ap (λ x. x && all_true t d) (list_all-append (clause_value t) (a ++ b) c
+    ∙ ap (λ x. x && all_true t c) (list_all-append (clause_value t) a b))
+
+-- the formula with a network
+abbrev with_network : Profile → Problem → ℕ → List (List Literal)
+with_network profile p k = clauses_with profile p (Network (adders_as profile p)) k
+
 formula_true : (profile : Profile) (p : Problem) (k : ℕ) (t : Assignment)
-    → all_true t (bound_as profile p k).clauses
+    → all_true t (with_network profile p k)
     ≡ (all_true t p.hard && all_true t (relaxed_clauses profile p) && all_true t
     (flat_map cell_clauses (adders_as profile p).cells) && nat_lt
     (value_of t (adders_as profile p).outputs) k)
 formula_true profile p k t =
-    parts (kept p.hard) (kept (relaxed_clauses profile p))
-    (kept (flat_map cell_clauses (adders_as profile p).cells)) (comparator_for profile p k)
+    parts_true t (kept p.hard) (kept (relaxed_clauses profile p))
+    (kept (flat_map cell_clauses (adders_as profile p).cells))
+    (comparator_of (adders_as profile p).outputs k)
     ∙ (λ i. all_true-kept t p.hard i && all_true-kept t (relaxed_clauses profile p) i &&
     all_true-kept t (flat_map cell_clauses (adders_as profile p).cells) i && comparator_true t
     (adders_as profile p).outputs k i)
-  where
-    parts : (a b c d : List (List Literal))
-        → all_true t (a ++ b ++ c ++ d)
-        ≡ (all_true t a && all_true t b && all_true t c && all_true t d)
-    parts a b c d = list_all-append (clause_value t) (a ++ b ++ c) d
-        ∙ ap (λ x. x && all_true t d) (list_all-append (clause_value t) (a ++ b) c
-        ∙ ap (λ x. x && all_true t c) (list_all-append (clause_value t) a b))
 
 -- what is given up for a soft clause, and what it costs
 abbrev given_up : Assignment → Relaxed → ℕ
@@ -95,26 +107,26 @@ own_cost t l w = subst (λ b. (if literal_value t l || false then 0 else w) ≤ 
     by false = omega arith
 
 -- no more costs than is given up
-cost_le : (t : Assignment) (profile : Profile) (v : ℕ) (ss : List SoftClause)
-    → all_true t (with_variables (relaxed_from profile v ss)) ≡ true
-    → sum_by (cost_of t) ss ≤ sum_by (given_up t) (relaxed_from profile v ss)
-cost_le t profile v [] = λ h. omega arith
-cost_le t profile v (s ∷ ss) =
-    relaxed_cases profile v s
+cost_le : (t : Assignment) (relaxing : Relaxing) (v : ℕ) (ss : List SoftClause)
+    → all_true t (with_variables (relaxed_from relaxing v ss)) ≡ true
+    → sum_by (cost_of t) ss ≤ sum_by (given_up t) (relaxed_from relaxing v ss)
+cost_le t relaxing v [] = λ h. omega arith
+cost_le t relaxing v (s ∷ ss) =
+    relaxed_cases relaxing v s
     (λ e. all_true t (with_variables
-    (e ∷ relaxed_from profile (if e.is_fresh then v + 1 else v) ss)) ≡ true
+    (e ∷ relaxed_from relaxing (if e.is_fresh then v + 1 else v) ss)) ≡ true
     → sum_by (cost_of t) (s ∷ ss) ≤ sum_by (given_up t)
-    (e ∷ relaxed_from profile (if e.is_fresh then v + 1 else v) ss))
+    (e ∷ relaxed_from relaxing (if e.is_fresh then v + 1 else v) ss))
     (λ h.
     let e : Relaxed = record { literal = positive v; soft = s; is_fresh = true } in
     let parts =
     and_parts (clause_value t (s.clause ++ positive v ∷ []))
-    (all_true t (with_variables (relaxed_from profile (v + 1) ss))) h in
+    (all_true t (with_variables (relaxed_from relaxing (v + 1) ss))) h in
     omega (
       arith,
       sum_by-cons (cost_of t) s ss,
-      sum_by-cons (given_up t) e (relaxed_from profile (v + 1) ss),
-      cost_le t profile (v + 1) ss parts.1,
+      sum_by-cons (given_up t) e (relaxed_from relaxing (v + 1) ss),
+      cost_le t relaxing (v + 1) ss parts.1,
       one_cost (clause_value t s.clause) (t v) s.weight (sym (value_with t s.clause (positive v))
           ∙ parts.0),
     ))
@@ -123,8 +135,8 @@ cost_le t profile v (s ∷ ss) =
     omega (
       arith,
       sum_by-cons (cost_of t) s ss,
-      sum_by-cons (given_up t) e (relaxed_from profile v ss),
-      cost_le t profile v ss h,
+      sum_by-cons (given_up t) e (relaxed_from relaxing v ss),
+      cost_le t relaxing v ss h,
       subst (λ c. (if clause_value t c then 0 else s.weight) ≤ (if literal_value t (negation l)
           then s.weight else 0)) (sym same) (own_cost t l s.weight),
     ))
@@ -148,29 +160,29 @@ tight_clauses t (e ∷ es) h =
     either true = refl
     either false = refl
 
-tight_cost : (t : Assignment) (profile : Profile) (v : ℕ) (ss : List SoftClause)
-    → AllByRecursion (IsRelaxedTightly t) (relaxed_from profile v ss)
-    → sum_by (given_up t) (relaxed_from profile v ss) ≡ sum_by (cost_of t) ss
-tight_cost t profile v [] h = refl
-tight_cost t profile v (s ∷ ss) h =
-    let e = relaxed_one profile v s in
+tight_cost : (t : Assignment) (relaxing : Relaxing) (v : ℕ) (ss : List SoftClause)
+    → AllByRecursion (IsRelaxedTightly t) (relaxed_from relaxing v ss)
+    → sum_by (given_up t) (relaxed_from relaxing v ss) ≡ sum_by (cost_of t) ss
+tight_cost t relaxing v [] h = refl
+tight_cost t relaxing v (s ∷ ss) h =
+    let e = relaxed_one relaxing v s in
     let w = if e.is_fresh then v + 1 else v in
     let here : given_up t e ≡ cost_of t s = ap (λ b. if b then (e.soft).weight else 0) h.0
     ∙ turned (clause_value t (e.soft).clause) (e.soft).weight
-    ∙ ap (cost_of t) (relaxed_soft profile v s) in
-    sum_by-cons (given_up t) e (relaxed_from profile w ss)
-    ∙ omega (arith, here, tight_cost t profile w ss h.1, sum_by-cons (cost_of t) s ss)
+    ∙ ap (cost_of t) (relaxed_soft relaxing v s) in
+    sum_by-cons (given_up t) e (relaxed_from relaxing w ss)
+    ∙ omega (arith, here, tight_cost t relaxing w ss h.1, sum_by-cons (cost_of t) s ss)
   where
     turned : (b : Bool) (n : ℕ) → (if not b then n else 0) ≡ (if b then 0 else n)
     turned true n = refl
     turned false n = refl
 
-soft_within : (n : ℕ) (profile : Profile) (v : ℕ) (ss : List SoftClause) → AreWithin n ss
-    → AllByRecursion (λ e. greatest_variable (e.soft).clause ≤ n) (relaxed_from profile v ss)
-soft_within n profile v [] h = tt
-soft_within n profile v (s ∷ ss) h = (
-  subst (λ x. greatest_variable x.clause ≤ n) (sym (relaxed_soft profile v s)) h.0,
-  soft_within n profile (if (relaxed_one profile v s).is_fresh then v + 1 else v) ss h.1,
+soft_within : (n : ℕ) (relaxing : Relaxing) (v : ℕ) (ss : List SoftClause) → AreWithin n ss
+    → AllByRecursion (λ e. greatest_variable (e.soft).clause ≤ n) (relaxed_from relaxing v ss)
+soft_within n relaxing v [] h = tt
+soft_within n relaxing v (s ∷ ss) h = (
+  subst (λ x. greatest_variable x.clause ≤ n) (sym (relaxed_soft relaxing v s)) h.0,
+  soft_within n relaxing (if (relaxed_one relaxing v s).is_fresh then v + 1 else v) ss h.1,
 )
 
 tight_same : (n m : ℕ) (t u : Assignment) (es : List Relaxed) → n ≤ m → SameUpTo m t u
@@ -205,11 +217,11 @@ clauses_same n t u (c ∷ cs) same h =
     cs same h.1 i
 
 module _ (profile : Profile) (p : Problem) (k : ℕ) (small : total_weight p < 2 ^ 63) where
-  cheaper_to : (t : Assignment) → All (Satisfies t) (bound_as profile p k).clauses
+  cheaper_to : (t : Assignment) → All (Satisfies t) (with_network profile p k)
       → IsFeasible p t × (cost_under p t < k)
   cheaper_to t h =
       let whole = sym (formula_true profile p k t)
-      ∙ all_true-from t (bound_as profile p k).clauses h in
+      ∙ all_true-from t (with_network profile p k) h in
       let hard = all_true t p.hard in
       let relaxed = all_true t (relaxed_clauses profile p) in
       let cells = all_true t (flat_map cell_clauses (adders_as profile p).cells) in
@@ -221,7 +233,8 @@ module _ (profile : Profile) (p : Problem) (k : ℕ) (small : total_weight p < 2
       outputs_sum profile p t small (All-from_recursion (IsCellOf t) (adders_as profile p).cells
       (cells_hold t (adders_as profile p).cells third.1)) in (
         from_all_true t p.hard first.0,
-        lower (cost_le t profile (p.variables + 1) p.soft first.1) sum (ltb-true _ k last.1),
+        lower (cost_le t (relaxing_of profile) (p.variables + 1) p.soft first.1) sum
+            (ltb-true _ k last.1),
       )
     where
       lower : {a b c : ℕ} → a ≤ b → c ≡ b → c < k → a < k
@@ -231,32 +244,117 @@ module _ (profile : Profile) (p : Problem) (k : ℕ) (small : total_weight p < 2
       → AllByRecursion (λ c. greatest_variable c ≤ p.variables) p.hard → (u : Assignment)
       → IsFeasible p u → cost_under p u < k
       → (t : Assignment) × SameUpTo p.variables u t
-      × All (Satisfies t) (bound_as profile p k).clauses
+      × All (Satisfies t) (with_network profile p k)
   cheaper_from soft hard u feasible lt =
       let n = p.variables in
       let m = relaxed_variables profile p in
       let es = relaxed_as profile p in
-      let r = relaxed_choice n profile (n + 1) p.soft u soft (omega arith) in
+      let r = relaxed_choice n (relaxing_of profile) (n + 1) p.soft u soft (omega arith) in
       let c = cells_extend profile p r.0 soft in
       let t = c.0 in
       let tight =
       tight_same n m r.0 t es (omega arith) c.1
-      (relaxed_below n profile (n + 1) p.soft (m + 1) soft (omega arith) (omega arith))
-      (soft_within n profile (n + 1) p.soft soft) r.2 in
+      (relaxed_below n (relaxing_of profile) (n + 1) p.soft (m + 1) soft (omega arith)
+      (omega arith))
+      (soft_within n (relaxing_of profile) (n + 1) p.soft soft) r.2 in
       let same : SameUpTo n u t = λ v l. c.1 v (omega arith) ∙ r.1 v (omega arith) in
-      let sum = outputs_sum profile p t small c.2 ∙ tight_cost t profile (n + 1) p.soft tight
+      let sum = outputs_sum profile p t small c.2
+      ∙ tight_cost t (relaxing_of profile) (n + 1) p.soft tight
       ∙ cost_same n u t p.soft same soft in
       let below : nat_lt (value_of t (adders_as profile p).outputs) k ≡ true =
       lt-ltb _ k (subst (λ x. x < k) (sym sum) lt) in (
         t,
         same,
-        from_all_true t (bound_as profile p k).clauses (formula_true profile p k t
+        from_all_true t (with_network profile p k) (formula_true profile p k t
             ∙ and_from _ _ (and_from _ _ (and_from _ _
             (clauses_same n u t p.hard same hard ∙ all_true-from u p.hard feasible)
             (tight_clauses t es tight))
             (hold_cells t (adders_as profile p).cells
             (recursion_from_All (IsCellOf t) (adders_as profile p).cells c.2))) below),
       )
+
+-- no assignment costs more than all weights
+cost_below : (p : Problem) (t : Assignment) → cost_under p t ≤ total_weight p
+cost_below p t =
+    sum_by-le-sum_by (λ (s : SoftClause). if clause_value t s.clause then 0 else s.weight)
+    (λ (s : SoftClause). s.weight) p.soft (λ s. part (clause_value t s.clause) s.weight)
+  where
+    part : (b : Bool) (w : ℕ) → (if b then 0 else w) ≤ w
+    part true w = omega arith
+    part false w = omega arith
+
+-- the formula with sums
+module _ (profile : Profile) (p : Problem) (k : ℕ) (n : Node) (s : AreSumsOf profile p n)
+    (h : IsInstance p) where
+  law : SumsSayCheaper p n k
+  law = sums_cheaper profile p n s k h
+
+  with_sums_true : (t : Assignment) → all_true t (clauses_with profile p (Sums n) k)
+      ≡ (all_true t p.hard && all_true t (relaxed p) && all_true t n.clauses && all_true t
+      (comparator_over (Sums n) k))
+  with_sums_true t =
+      parts_true t (kept p.hard) (kept (relaxed_clauses profile p)) (kept n.clauses)
+      (comparator_over (Sums n) k)
+      ∙ (λ i. all_true-kept t p.hard i && (all_true-kept t (relaxed_clauses profile p)
+      ∙ ap (all_true t) (sums_relaxed profile p n s)) i && all_true-kept t n.clauses i && all_true t
+      (comparator_over (Sums n) k))
+
+  compared_true : (t : Assignment) → all_true t (comparator n k) ≡ true
+      → all_true t (comparator_over (Sums n) k) ≡ true
+  compared_true t e =
+      elim (nat_le (2 ^ 62) k)
+      as (λ b. all_true t (if b then [] else kept (comparator n k)) ≡ true) [
+        | true ↦ refl
+        | false ↦ all_true-kept t (comparator n k) ∙ e
+      ]
+
+  sums_to : (t : Assignment) → All (Satisfies t) (clauses_with profile p (Sums n) k)
+      → IsFeasible p t × (cost_under p t < k)
+  sums_to t g =
+      let whole = sym (with_sums_true t)
+      ∙ all_true-from t (clauses_with profile p (Sums n) k) g in
+      let fixed = all_true t p.hard && all_true t (relaxed p) && all_true t n.clauses in
+      let last = and_parts fixed (all_true t (comparator_over (Sums n) k)) whole in
+      elim (nat_le (2 ^ 62) k) as (λ b. nat_le (2 ^ 62) k ≡ b
+      → all_true t (if b then [] else kept (comparator n k)) ≡ true
+      → IsFeasible p t × (cost_under p t < k)) [
+        | true ↦ λ e f. (
+          from_all_true t p.hard (and_parts (all_true t p.hard) (all_true t (relaxed p))
+              (and_parts (all_true t p.hard && all_true t (relaxed p)) (all_true t n.clauses)
+              last.0).0).0,
+          omega (arith, cost_below p t, h.weight_sum, leb-true (2 ^ 62) k e),
+        )
+        | false ↦ λ e f. law.to t (from_all_true t (cheaper_clauses p n k)
+            (parts_true t p.hard (relaxed p) n.clauses (comparator n k)
+            ∙ and_from fixed (all_true t (comparator n k)) last.0
+            (sym (all_true-kept t (comparator n k)) ∙ f)))
+      ] refl last.1
+
+  sums_from : (u : Assignment) → IsFeasible p u → cost_under p u < k
+      → (t : Assignment) × SameUpTo p.variables u t
+      × All (Satisfies t) (clauses_with profile p (Sums n) k)
+  sums_from u feasible lt =
+      let r = law.from u feasible lt in
+      let t = r.0 in
+      let fixed = all_true t p.hard && all_true t (relaxed p) && all_true t n.clauses in
+      let parts =
+      and_parts fixed (all_true t (comparator n k))
+      (sym (parts_true t p.hard (relaxed p) n.clauses (comparator n k))
+      ∙ all_true-from t (cheaper_clauses p n k) r.2) in (
+        t,
+        r.1,
+        from_all_true t (clauses_with profile p (Sums n) k) (with_sums_true t
+            ∙ and_from fixed (all_true t (comparator_over (Sums n) k)) parts.0
+            (compared_true t parts.1)),
+      )
+
+-- what the law says of the clauses with an addition
+record SaysWith (profile : Profile) (p : Problem) (k : ℕ) (a : Addition) : Type 0 where
+  to : (t : Assignment) → All (Satisfies t) (clauses_with profile p a k)
+      → IsFeasible p t × (cost_under p t < k)
+  from : (u : Assignment) → IsFeasible p u → cost_under p u < k
+      → (t : Assignment) × SameUpTo p.variables u t
+      × All (Satisfies t) (clauses_with profile p a k)
 
 -- the law of `formula_as`, for each bound
 pub says_cheaper : (profile : Profile) (p : Problem) (k : ℕ) → IsInstance p
@@ -271,4 +369,11 @@ says_cheaper profile p k h =
     recursion_from_All _ p.hard
     (All-weaker (IsClauseWithin p.variables) (λ c. greatest_variable c ≤ p.variables)
     (λ c w. w.2) p.hard h.hard_clauses) in
-    record { to = cheaper_to profile p k small; from = cheaper_from profile p k small soft hard }
+    let says =
+    addition_cases profile p (SaysWith profile p k)
+    (record {
+      to = cheaper_to profile p k small;
+      from = cheaper_from profile p k small soft hard;
+    })
+    (λ n s. record { to = sums_to profile p k n s h; from = sums_from profile p k n s h }) in
+    record { to = says.to; from = says.from }

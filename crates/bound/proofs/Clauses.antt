@@ -2,13 +2,13 @@
 use Rattle.std.proofs.Common.{◌≡◌, Bool, true, false, not, ◌&&◌, ◌||◌, List, [], ◌∷◌, reverse}
 use Rattle.std.proofs.Common.{if◌then◌else◌, All, ◌↔◌, inl, inr, refl, sym, ◌∙◌, ap, subst}
 use Rattle.std.specs.List.{list_all, list_any}
-use Rattle.std.proofs.lemmas.Bool.{false≢true, or_cases}
+use Rattle.std.proofs.lemmas.Bool.{false≢true, or_cases, or_from, or_parts}
 use Rattle.std.proofs.lemmas.Grind.{reverse_onto}
 use Rattle.std.proofs.lemmas.List.Folds.{list_all-append}
 use Rattle.std.proofs.lemmas.List.Sums.{AllPass-from_list_all, list_all-from_AllPass}
 use Rattle.cnf.specs.Literal.{Assignment, Literal, negation, literal_value, literal_eq}
 use Rattle.cnf.specs.Clause.{Satisfies, clause_value, contains_literal, without_literal, distinct}
-use Rattle.cnf.specs.Clause.{has_opposites}
+use Rattle.cnf.specs.Clause.{has_opposites, has_repeat}
 use Rattle.cnf.specs.Problem.{Problem, IsFeasible}
 use Rattle.cnf.proofs.Laws.{literal_eq-true}
 use Rattle.bound.specs.Bound.{kept, hard_cnf}
@@ -121,3 +121,47 @@ feasible p t = (
   λ h. from_all_true t p.hard (sym (all_true-kept t p.hard) ∙ all_true-from t (kept p.hard) h),
   λ h. from_all_true t (kept p.hard) (all_true-kept t p.hard ∙ all_true-from t p.hard h),
 )
+
+-- dropping repeats leaves none
+absent-without : (l k : Literal) (c : List Literal) → contains_literal l c ≡ false
+    → contains_literal l (without_literal k c) ≡ false
+absent-without l k [] h = refl
+absent-without l k (x ∷ c) h =
+    let parts = or_parts (literal_eq l x) (contains_literal l c) h in
+    elim (literal_eq k x) as (λ b. contains_literal l (if not b then x ∷ without_literal k c
+    else without_literal k c) ≡ false) [
+      | true ↦ absent-without l k c parts.1
+      | false ↦ or_from (literal_eq l x) (contains_literal l (without_literal k c)) parts.0
+          (absent-without l k c parts.1)
+    ]
+
+absent_own : (l : Literal) (c : List Literal) → contains_literal l (without_literal l c) ≡ false
+absent_own l [] = refl
+absent_own l (x ∷ c) =
+    elim (literal_eq l x) as (λ b. literal_eq l x ≡ b
+    → contains_literal l (if not b then x ∷ without_literal l c else without_literal l c)
+    ≡ false) [
+      | true ↦ λ e. absent_own l c
+      | false ↦ λ e. or_from (literal_eq l x) (contains_literal l (without_literal l c)) e
+          (absent_own l c)
+    ] refl
+
+repeat-without : (k : Literal) (c : List Literal) → has_repeat c ≡ false
+    → has_repeat (without_literal k c) ≡ false
+repeat-without k [] h = refl
+repeat-without k (x ∷ c) h =
+    let parts = or_parts (contains_literal x c) (has_repeat c) h in
+    elim (literal_eq k x) as (λ b. has_repeat (if not b then x ∷ without_literal k c
+    else without_literal k c) ≡ false) [
+      | true ↦ repeat-without k c parts.1
+      | false ↦ or_from (contains_literal x (without_literal k c))
+          (has_repeat (without_literal k c)) (absent-without x k c parts.0)
+          (repeat-without k c parts.1)
+    ]
+
+pub repeat-distinct : (c : List Literal) → has_repeat (distinct c) ≡ false
+repeat-distinct [] = refl
+repeat-distinct (l ∷ c) =
+    or_from (contains_literal l (without_literal l (distinct c)))
+    (has_repeat (without_literal l (distinct c))) (absent_own l (distinct c))
+    (repeat-without l (distinct c) (repeat-distinct c))

@@ -1,70 +1,33 @@
 -- The formulas have clauses with no repeat, no opposite pair and variables within their number.
-use Rattle.std.proofs.Common.{◌≡◌, ℕ, zero, suc, ◌+◌, ◌*◌, ◌/◌, ◌^◌, ◌<◌, ◌≤◌, true, false, not}
-use Rattle.std.proofs.Common.{List, [], ◌∷◌, ◌++◌, length, map, filter, reverse, Option, Some, None}
-use Rattle.std.proofs.Common.{◌==◌, if◌then◌else◌, refl, All, subst, arith}
+use Rattle.std.proofs.Common.{◌≡◌, ℕ, zero, suc, ◌+◌, ◌*◌, ◌^◌, ◌<◌, ◌≤◌, true, false, not}
+use Rattle.std.proofs.Common.{◌-◌, sym, List, [], ◌∷◌, ◌++◌, length, map, filter, reverse, Option}
+use Rattle.std.proofs.Common.{Some, None}
+use Rattle.std.proofs.Common.{if◌then◌else◌, refl, All, subst, arith}
 use Rattle.std.specs.List.{AllByRecursion, flat_map}
-use Rattle.std.proofs.lemmas.Bool.{or_from, or_parts}
-use Rattle.std.proofs.lemmas.List.Elements.{recursion_from_All, All-from_recursion}
-use Rattle.cnf.specs.Literal.{Literal, literal_eq}
-use Rattle.cnf.specs.Clause.{contains_literal, without_literal, distinct, has_repeat}
+use Rattle.std.proofs.lemmas.List.Elements.{recursion_from_All, All-from_recursion, All-append}
+use Rattle.cnf.specs.Literal.{Literal}
+use Rattle.cnf.specs.Clause.{distinct, has_repeat}
 use Rattle.cnf.specs.Clause.{has_opposites, greatest_variable}
 use Rattle.cnf.specs.Formula.{IsFormula, IsFormulaClause}
 use Rattle.cnf.specs.Problem.{Problem, SoftClause}
 use Rattle.cnf.specs.Instance.{IsInstance, IsClauseWithin}
 use Rattle.adder.specs.declared.cells.Cell.{Cell}
 use Rattle.adder.specs.declared.cells.Profile.{Profile}
-use Rattle.adder.specs.Network.{Relaxed, bit, relaxed_as, relaxed_variables, adders_as}
+use Rattle.adder.specs.Network.{relaxing_of}
+use Rattle.adder.specs.Network.{Relaxed, relaxed_as, relaxed_variables, adders_as}
 use Rattle.adder.proofs.Laws.{adders_with, adds_up}
 use Rattle.adder.proofs.Laws.{AreOf, IsOutputOf, IsCellWith, relaxed_with}
-use Rattle.bound.specs.Adding.{HasVariables}
-use Rattle.bound.specs.Bound.{no, kept, hard_cnf, cell_clauses, relaxed_clauses, above}
-use Rattle.bound.specs.Bound.{rising_clauses, comparator_of, comparator_for, fixed_clauses}
-use Rattle.bound.specs.Bound.{bound_as}
+use Rattle.sums.specs.Sums.{HaveVariables, comparator}
+use Rattle.bound.specs.declared.additions.Addition.{Addition}
+use Rattle.bound.specs.declared.additions.Addition.TheVariants.{Network, Sums}
+use Rattle.bound.specs.Adding.{HasVariables, HasRoom, IsFit}
+use Rattle.bound.specs.Bound.{kept, hard_cnf, cell_clauses, relaxed_clauses, addition_as}
+use Rattle.bound.specs.Bound.{rising_clauses, comparator_of, addition_clauses, comparator_over}
+use Rattle.bound.specs.Bound.{last_variable, bound_as}
+use Rattle.bound.proofs.Clauses.{repeat-distinct}
 use Rattle.bound.proofs.Subsets.{all_append, all_reverse}
-use Rattle.bound.proofs.Covers.{rising_each}
-
-absent-without : (l k : Literal) (c : List Literal) → contains_literal l c ≡ false
-    → contains_literal l (without_literal k c) ≡ false
-absent-without l k [] h = refl
-absent-without l k (x ∷ c) h =
-    let parts = or_parts (literal_eq l x) (contains_literal l c) h in
-    elim (literal_eq k x) as (λ b. contains_literal l (if not b then x ∷ without_literal k c
-    else without_literal k c) ≡ false) [
-      | true ↦ absent-without l k c parts.1
-      | false ↦ or_from (literal_eq l x) (contains_literal l (without_literal k c)) parts.0
-          (absent-without l k c parts.1)
-    ]
-
-absent_own : (l : Literal) (c : List Literal) → contains_literal l (without_literal l c) ≡ false
-absent_own l [] = refl
-absent_own l (x ∷ c) =
-    elim (literal_eq l x) as (λ b. literal_eq l x ≡ b
-    → contains_literal l (if not b then x ∷ without_literal l c else without_literal l c)
-    ≡ false) [
-      | true ↦ λ e. absent_own l c
-      | false ↦ λ e. or_from (literal_eq l x) (contains_literal l (without_literal l c)) e
-          (absent_own l c)
-    ] refl
-
-repeat-without : (k : Literal) (c : List Literal) → has_repeat c ≡ false
-    → has_repeat (without_literal k c) ≡ false
-repeat-without k [] h = refl
-repeat-without k (x ∷ c) h =
-    let parts = or_parts (contains_literal x c) (has_repeat c) h in
-    elim (literal_eq k x) as (λ b. has_repeat (if not b then x ∷ without_literal k c
-    else without_literal k c) ≡ false) [
-      | true ↦ repeat-without k c parts.1
-      | false ↦ or_from (contains_literal x (without_literal k c))
-          (has_repeat (without_literal k c)) (absent-without x k c parts.0)
-          (repeat-without k c parts.1)
-    ]
-
-pub repeat-distinct : (c : List Literal) → has_repeat (distinct c) ≡ false
-repeat-distinct [] = refl
-repeat-distinct (l ∷ c) =
-    or_from (contains_literal l (without_literal l (distinct c)))
-    (has_repeat (without_literal l (distinct c))) (absent_own l (distinct c))
-    (repeat-without l (distinct c) (repeat-distinct c))
+use Rattle.bound.proofs.Addition.{clauses_with, addition_cases, sums_few, sums_variables}
+use Rattle.bound.proofs.Compared.{AreCompared, distinct_of, rising_of, named_of, over_sums}
 
 -- a variable from 1 to v
 abbrev pub IsVariable : ℕ → ℕ → Type 0
@@ -72,20 +35,6 @@ IsVariable v n = (0 < n) × (n ≤ v)
 
 abbrev pub IsPlain : ℕ → List Literal → Type 0
 IsPlain v c = AreOf (IsVariable v) c
-
-plain-without : (v : ℕ) (k : Literal) (c : List Literal) → IsPlain v c
-    → IsPlain v (without_literal k c)
-plain-without v k [] h = tt
-plain-without v k (x ∷ c) h =
-    elim (literal_eq k x) as (λ b. IsPlain v (if not b then x ∷ without_literal k c
-    else without_literal k c)) [
-      | true ↦ plain-without v k c h.1
-      | false ↦ (h.0, plain-without v k c h.1)
-    ]
-
-plain-distinct : (v : ℕ) (c : List Literal) → IsPlain v c → IsPlain v (distinct c)
-plain-distinct v [] h = tt
-plain-distinct v (l ∷ c) h = (h.0, plain-without v l (distinct c) (plain-distinct v c h.1))
 
 plain_greatest : (v : ℕ) (c : List Literal) → IsPlain v c → greatest_variable c ≤ v
 plain_greatest v [] h = omega arith
@@ -109,7 +58,7 @@ kept_formula v (c ∷ cs) h =
     → AllByRecursion (IsFormulaClause v) (if not b then distinct c ∷ kept cs else kept cs)) [
       | true ↦ λ e. kept_formula v cs h.1
       | false ↦ λ e.
-          let plain = plain-distinct v c h.0 in (
+          let plain = distinct_of (IsVariable v) c h.0 in (
             record {
               no_repeat = repeat-distinct c;
               no_opposites = e;
@@ -206,48 +155,6 @@ relaxed_plain v (e ∷ es) h =
       | false ↦ relaxed_plain v es h.1
     ]
 
-no_clause : (c : List Literal) → None ≡ Some c → ⊥
-no_clause c h = cc
-
-same_clause : (c d : List Literal) → Some c ≡ Some d → c ≡ d
-same_clause c d h = cc
-
-above_plain : (v : ℕ) (outputs : List (Option Literal)) (limit j : ℕ) (c : List Literal)
-    → AllByRecursion (IsOutputOf (IsVariable v)) outputs → above outputs limit j ≡ Some c
-    → IsPlain v c
-above_plain v [] limit j c h e =
-    elim (limit / 2 ^ j == 0) as (λ b. (limit / 2 ^ j == 0) ≡ b → IsPlain v c) [
-      | true ↦ λ f. subst (IsPlain v) (same_clause [] c (rw f at e)) tt
-      | false ↦ λ f. absurd (no_clause c (rw f at e))
-    ] refl
-above_plain v (o ∷ outputs) limit j c h e =
-    elim (bit limit j) as (λ b. bit limit j ≡ b → IsPlain v c) [
-      | false ↦ λ f. above_plain v outputs limit (j + 1) c h.1 (rw f at e)
-      | true ↦ λ f. led o h.0 f e (λ c. above_plain v outputs limit (j + 1) c h.1)
-    ] refl
-  where
-    led : (o : Option Literal) → IsOutputOf (IsVariable v) o → bit limit j ≡ true
-        → above (o ∷ outputs) limit j ≡ Some c
-        → ((c : List Literal) → above outputs limit (j + 1) ≡ Some c → IsPlain v c) → IsPlain v c
-    led None q f e rest = absurd (no_clause c (rw f at e))
-    led (Some l) q f e rest =
-        elim (above outputs limit (j + 1)) as (λ x. above outputs limit (j + 1) ≡ x → IsPlain v c) [
-          | None ↦ λ g. absurd (no_clause c (rw (f, g) at e))
-          | Some d ↦ λ g. subst (IsPlain v) (same_clause (no l ∷ d) c (rw (f, g) at e))
-              (q, rest d g)
-        ] refl
-
-rising_plain : (v : ℕ) (outputs : List (Option Literal)) (limit j : ℕ)
-    → AllByRecursion (IsOutputOf (IsVariable v)) outputs
-    → AllByRecursion (IsPlain v) (rising_clauses outputs limit j)
-rising_plain v [] limit j h = tt
-rising_plain v (o ∷ outputs) limit j h =
-    rising_each (IsPlain v) o outputs limit j
-    (λ e l c same f. (
-      subst (IsOutputOf (IsVariable v)) same h.0,
-      above_plain v outputs limit (j + 1) c h.1 f,
-    )) (rising_plain v outputs limit (j + 1) h.1)
-
 -- the comparator's clauses, where the outputs are such variables
 pub comparator_formula : (v : ℕ) (outputs : List (Option Literal)) (k : ℕ)
     → AllByRecursion (IsOutputOf (IsVariable v)) outputs
@@ -263,7 +170,8 @@ comparator_formula v outputs zero h = (
 )
 comparator_formula v outputs (suc limit) h =
     kept_formula v (reverse (rising_clauses outputs limit 0))
-    (all_reverse (IsPlain v) (rising_clauses outputs limit 0) (rising_plain v outputs limit 0 h))
+    (all_reverse (IsPlain v) (rising_clauses outputs limit 0)
+    (rising_of (IsVariable v) outputs limit 0 h))
 
 abbrev IsOnce : List Literal → Type 0
 IsOnce c = has_repeat c ≡ false
@@ -314,64 +222,97 @@ hard_is_formula p h = record {
       (recursion_from_All (IsClauseWithin p.variables) p.hard h.hard_clauses)));
 }
 
--- what `Formula::new` asks of the formula
-pub bound_is_formula : (profile : Profile) (p : Problem) (k : ℕ) → IsInstance p
-    → IsFormula (bound_as profile p k)
-bound_is_formula profile p k h =
+-- the variables of the cells and of the outputs
+network_variables : (profile : Profile) (p : Problem) → IsInstance p
+    → (let v = relaxed_variables profile p + 2 * length (adders_as profile p).cells in
+    AllByRecursion (IsCellWith (IsVariable v)) (adders_as profile p).cells
+    × AllByRecursion (IsOutputOf (IsVariable v)) (adders_as profile p).outputs)
+network_variables profile p h =
     let n = p.variables in
-    let m = relaxed_variables profile p in
-    let adders = adders_as profile p in
-    let v = m + 2 * length adders.cells in
+    let v = relaxed_variables profile p + 2 * length (adders_as profile p).cells in
     let es = relaxed_as profile p in
     let soft =
     plain_soft n v p.soft (omega arith)
     (recursion_from_All (λ s. IsClauseWithin n s.clause) p.soft h.soft_clauses) in
     let relaxed =
-    relaxed_with (IsVariable v) profile (n + 1) p.soft soft (λ x l u. (omega arith, omega arith))
-    in
-    let network =
-    adders_with profile p (IsVariable v) (literals_of v es relaxed)
+    relaxed_with (IsVariable v) (relaxing_of profile) (n + 1) p.soft soft
     (λ x l u. (omega arith, omega arith)) in
-    let P = IsFormulaClause v in
-    let hard =
-    kept_formula v p.hard
+    adders_with profile p (IsVariable v) (literals_of v es relaxed)
+    (λ x l u. (omega arith, omega arith))
+
+-- the hard clauses and the soft ones, whatever adds up the weights
+given_formula : (profile : Profile) (p : Problem) (v : ℕ) → IsInstance p
+    → relaxed_variables profile p ≤ v
+    → AllByRecursion (IsFormulaClause v) (kept p.hard ++ kept (relaxed_clauses profile p))
+given_formula profile p v h le =
+    let n = p.variables in
+    let soft =
+    plain_soft n v p.soft (omega arith)
+    (recursion_from_All (λ s. IsClauseWithin n s.clause) p.soft h.soft_clauses) in
+    let relaxed =
+    relaxed_with (IsVariable v) (relaxing_of profile) (n + 1) p.soft soft
+    (λ x l u. (omega arith, omega arith)) in
+    all_append (IsFormulaClause v) (kept p.hard) (kept (relaxed_clauses profile p))
+    (kept_formula v p.hard
     (plain_each n v p.hard (omega arith)
-    (recursion_from_All (IsClauseWithin n) p.hard h.hard_clauses)) in
-    let first =
-    all_append P (kept p.hard) (kept (relaxed_clauses profile p)) hard
-    (kept_formula v (relaxed_clauses profile p) (relaxed_plain v es relaxed)) in
-    let fixed =
-    all_append P (kept p.hard ++ kept (relaxed_clauses profile p))
-    (kept (flat_map cell_clauses adders.cells)) first
-    (kept_formula v (flat_map cell_clauses adders.cells) (cells_plain v adders.cells network.0))
-    in
+    (recursion_from_All (IsClauseWithin n) p.hard h.hard_clauses)))
+    (kept_formula v (relaxed_clauses profile p) (relaxed_plain v (relaxed_as profile p) relaxed))
+
+-- with clauses that add up, and a comparator
+with_formula : (profile : Profile) (p : Problem) (a : Addition) (k v : ℕ) → IsInstance p
+    → relaxed_variables profile p ≤ v → v < 2 ^ 26
+    → AllByRecursion (IsFormulaClause v) (addition_clauses a)
+    → AllByRecursion (IsFormulaClause v) (comparator_over a k)
+    → IsFormula (record { variables = v; clauses = clauses_with profile p a k })
+with_formula profile p a k v h le small added compared =
+    let P = IsFormulaClause v in
+    let given = kept p.hard ++ kept (relaxed_clauses profile p) in
     record {
-      few = (adds_up profile p h).small.0;
+      few = small;
       clauses =
-          All-from_recursion P (bound_as profile p k).clauses
-          (all_append P (fixed_clauses profile p) (comparator_for profile p k) fixed
-          (comparator_formula v adders.outputs k network.1));
+          All-from_recursion P (clauses_with profile p a k)
+          (all_append P (given ++ addition_clauses a) (comparator_over a k)
+          (all_append P given (addition_clauses a) (given_formula profile p v h le) added)
+          compared);
     }
+
+sums_plain : (last fresh : ℕ) (cs : List (List Literal)) → HaveVariables last fresh cs
+    → AllByRecursion (IsPlain (fresh - 1)) cs
+sums_plain last fresh cs h =
+    named_of (IsVariable (fresh - 1)) last fresh (λ v l u. (omega arith, omega arith)) cs h
+
+-- what `Formula::new` asks of the formula
+pub bound_is_formula : (profile : Profile) (p : Problem) (k : ℕ) → IsInstance p
+    → IsFormula (bound_as profile p k)
+bound_is_formula profile p k h =
+    let m = relaxed_variables profile p in
+    addition_cases profile p
+    (λ a. IsFormula
+    (record { variables = last_variable m a; clauses = clauses_with profile p a k }))
+    (let adders = adders_as profile p in
+    let v = m + 2 * length adders.cells in
+    let network = network_variables profile p h in
+    with_formula profile p (Network adders) k v h (omega arith) (adds_up profile p h).small.0
+    (kept_formula v (flat_map cell_clauses adders.cells) (cells_plain v adders.cells network.0))
+    (comparator_formula v adders.outputs k network.1))
+    (λ n s.
+    let few = sums_few profile p n s in
+    let v = n.fresh - 1 in
+    with_formula profile p (Sums n) k v h (omega (arith, few.from, sums_variables profile p n s))
+    (omega (arith, few.to, h.variables, h.soft_count))
+    (kept_formula v n.clauses (sums_plain p.variables n.fresh n.clauses few.variables))
+    (over_sums (IsFormulaClause v) n k
+    (kept_formula v (comparator n k)
+    (sums_plain p.variables n.fresh (comparator n k) (few.compared k)))))
 
 -- the sums and the carries of the cells are variables
 pub cells_variables : (profile : Profile) (p : Problem) → IsInstance p
     → All HasVariables (adders_as profile p).cells
 cells_variables profile p h =
-    let n = p.variables in
-    let m = relaxed_variables profile p in
-    let v = m + 2 * length (adders_as profile p).cells in
-    let es = relaxed_as profile p in
-    let soft =
-    plain_soft n v p.soft (omega arith)
-    (recursion_from_All (λ s. IsClauseWithin n s.clause) p.soft h.soft_clauses) in
-    let relaxed =
-    relaxed_with (IsVariable v) profile (n + 1) p.soft soft (λ x l u. (omega arith, omega arith))
-    in
-    let network =
-    adders_with profile p (IsVariable v) (literals_of v es relaxed)
-    (λ x l u. (omega arith, omega arith)) in
+    let v = relaxed_variables profile p + 2 * length (adders_as profile p).cells in
     All-from_recursion HasVariables (adders_as profile p).cells
-    (each v (adders_as profile p).cells (omega (arith, (adds_up profile p h).small.0)) network.0)
+    (each v (adders_as profile p).cells (omega (arith, (adds_up profile p h).small.0))
+    (network_variables profile p h).0)
   where
     each : (v : ℕ) (cells : List Cell) → v < 2 ^ 26
         → AllByRecursion (IsCellWith (IsVariable v)) cells → AllByRecursion HasVariables cells
@@ -386,18 +327,58 @@ pub outputs_variables : (profile : Profile) (p : Problem) → IsInstance p
     → AllByRecursion (IsOutputOf
     (IsVariable (relaxed_variables profile p + 2 * length (adders_as profile p).cells)))
     (adders_as profile p).outputs
-outputs_variables profile p h =
-    let n = p.variables in
-    let m = relaxed_variables profile p in
-    let v = m + 2 * length (adders_as profile p).cells in
-    let es = relaxed_as profile p in
-    let soft =
-    plain_soft n v p.soft (omega arith)
-    (recursion_from_All (λ s. IsClauseWithin n s.clause) p.soft h.soft_clauses) in
-    let relaxed =
-    relaxed_with (IsVariable v) profile (n + 1) p.soft soft (λ x l u. (omega arith, omega arith))
-    in
-    let network =
-    adders_with profile p (IsVariable v) (literals_of v es relaxed)
-    (λ x l u. (omega arith, omega arith)) in
-    network.1
+outputs_variables profile p h = (network_variables profile p h).1
+
+-- what is asked where the clauses are made
+pub addition_fits : (profile : Profile) (p : Problem) → IsInstance p → IsFit (addition_as profile p)
+addition_fits profile p h =
+    addition_cases profile p IsFit
+    (record { cells = cells_variables profile p h; few = (adds_up profile p h).small.1 })
+    (λ n s. (sums_few profile p n s).clauses)
+
+pub addition_room : (profile : Profile) (p : Problem) (last : ℕ) (a : Addition) → IsInstance p
+    → last ≡ relaxed_variables profile p → a ≡ addition_as profile p → HasRoom last a
+addition_room profile p last a h counted same =
+    let room : HasRoom (relaxed_variables profile p) (addition_as profile p) =
+    addition_cases profile p (HasRoom (relaxed_variables profile p)) (adds_up profile p h).small.0
+    (λ n s. omega (arith, (sums_few profile p n s).from)) in
+    subst (HasRoom last) (sym same)
+    (subst (λ m. HasRoom m (addition_as profile p)) (sym counted) room)
+
+-- the variables of which comparators speak are those of the formula
+pub addition_variables : (profile : Profile) (p : Problem) (k : ℕ) → IsInstance p
+    → AreCompared (IsVariable (bound_as profile p k).variables) p (addition_as profile p)
+addition_variables profile p k h =
+    addition_cases profile p
+    (λ a. AreCompared (IsVariable (last_variable (relaxed_variables profile p) a)) p a)
+    (outputs_variables profile p h) (λ n s v l u. (omega arith, omega arith))
+
+-- no clause has a repeat
+addition_once : (a : Addition) → All (λ c. has_repeat c ≡ false) (addition_clauses a)
+addition_once (Network n) = kept_once (flat_map cell_clauses n.cells)
+addition_once (Sums n) = kept_once n.clauses
+
+pub compared_once : (a : Addition) (k : ℕ) → All (λ c. has_repeat c ≡ false) (comparator_over a k)
+compared_once (Network n) k = comparator_once n.outputs k
+compared_once (Sums n) k =
+    All-from_recursion IsOnce (comparator_over (Sums n) k)
+    (over_sums IsOnce n k (once_kept (comparator n k)))
+
+pub bound_once : (profile : Profile) (p : Problem) (k : ℕ)
+    → All (λ c. has_repeat c ≡ false) (bound_as profile p k).clauses
+bound_once profile p k =
+    let a = addition_as profile p in
+    join (hard ++ relaxed ++ addition_clauses a) (comparator_over a k)
+    (join (hard ++ relaxed) (addition_clauses a)
+    (join hard relaxed (kept_once p.hard) (kept_once (relaxed_clauses profile p)))
+    (addition_once a)) (compared_once a k)
+  where
+    join : (xs ys : List (List Literal)) → All (λ c. has_repeat c ≡ false) xs
+        → All (λ c. has_repeat c ≡ false) ys → All (λ c. has_repeat c ≡ false) (xs ++ ys)
+    join xs ys h g i = All-append (λ c. has_repeat c ≡ false) xs ys h g i
+
+    hard : List (List Literal)
+    hard = kept p.hard
+
+    relaxed : List (List Literal)
+    relaxed = kept (relaxed_clauses profile p)

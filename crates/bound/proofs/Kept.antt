@@ -14,8 +14,7 @@ use Rattle.bound.specs.Bound.{kept}
 use Rattle.bound.specs.Adding.{Adds}
 use Rattle.cnf.specs.Marks.{HasPlace}
 use Rattle.bound.proofs.Opposites.{same_number}
-use Rattle.bound.proofs.Clauses.{any-distinct}
-use Rattle.bound.proofs.Fits.{repeat-distinct}
+use Rattle.bound.proofs.Clauses.{any-distinct, repeat-distinct}
 
 without_absent : (l : Literal) (c : List Literal) → contains_literal l c ≡ false
     → without_literal l c ≡ c

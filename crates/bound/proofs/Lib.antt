@@ -1,7 +1,9 @@
 mod Clauses
 mod Adders
 mod Comparator
+mod Addition
 mod Cheaper
+mod Compared
 mod Subsets
 mod Covers
 mod Few

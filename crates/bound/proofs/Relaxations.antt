@@ -11,8 +11,8 @@ use Rattle.cnf.specs.Literal.{Literal, literal_eq, same_bool, positive}
 use Rattle.cnf.specs.Clause.{contains_literal, has_repeat, greatest_variable}
 use Rattle.cnf.specs.Problem.{SoftClause}
 use Rattle.cnf.specs.Instance.{IsClauseWithin}
-use Rattle.adder.specs.declared.cells.Profile.{Profile}
-use Rattle.adder.specs.declared.cells.Profile.TheVariants.{One, Two, Three}
+use Rattle.adder.specs.declared.profiles.Relaxing.{Relaxing}
+use Rattle.adder.specs.declared.profiles.Relaxing.TheVariants.{EachByVariable, UnitsByNegation}
 use Rattle.adder.specs.Network.{Relaxed, relaxed_one, relaxed_from}
 use Rattle.adder.proofs.Laws.{relaxed_cases}
 use Rattle.bound.specs.Bound.{kept}
@@ -28,38 +28,38 @@ with_variables es = map (λ e. (e.soft).clause ++ e.literal ∷ []) (filter (λ 
 abbrev pub fresh_count : List Relaxed → ℕ
 fresh_count es = length (filter (λ e. e.is_fresh) es)
 
-is_fresh-gets : (profile : Profile) (v : ℕ) (s : SoftClause)
-    → (relaxed_one profile v s).is_fresh ≡ gets_variable profile s.clause
-is_fresh-gets One v s = refl
-is_fresh-gets Three v s = refl
-is_fresh-gets Two v s = by s.weight s.clause
+is_fresh-gets : (relaxing : Relaxing) (v : ℕ) (s : SoftClause)
+    → (relaxed_one relaxing v s).is_fresh ≡ gets_variable relaxing s.clause
+is_fresh-gets EachByVariable v s = refl
+is_fresh-gets UnitsByNegation v s = by s.weight s.clause
   where
     by : (w : ℕ) (c : List Literal)
-        → (relaxed_one Two v (record { weight = w; clause = c })).is_fresh ≡ gets_variable Two c
+        → (relaxed_one UnitsByNegation v (record { weight = w; clause = c })).is_fresh
+        ≡ gets_variable UnitsByNegation c
     by w [] = refl
     by w (l ∷ []) = refl
     by w (l ∷ k ∷ c) = ap not (sym (ne_eqb (suc (suc (length c))) 1 (λ e. absurd (omega arith))))
 
 -- one more soft clause, at the end
-relaxed_from-more : (profile : Profile) (v : ℕ) (ss : List SoftClause) (s : SoftClause)
-    → relaxed_from profile v (ss ++ s ∷ []) ≡ relaxed_from profile v ss ++ relaxed_one profile
-    (v + fresh_count (relaxed_from profile v ss)) s ∷ []
-relaxed_from-more profile v [] s = ap (λ n. relaxed_one profile n s ∷ []) (omega arith)
-relaxed_from-more profile v (r ∷ ss) s =
-    let first = relaxed_one profile v r in
-    elim first.is_fresh as (λ b. first ∷ relaxed_from profile (if b then v + 1 else v)
+relaxed_from-more : (relaxing : Relaxing) (v : ℕ) (ss : List SoftClause) (s : SoftClause)
+    → relaxed_from relaxing v (ss ++ s ∷ []) ≡ relaxed_from relaxing v ss ++ relaxed_one relaxing
+    (v + fresh_count (relaxed_from relaxing v ss)) s ∷ []
+relaxed_from-more relaxing v [] s = ap (λ n. relaxed_one relaxing n s ∷ []) (omega arith)
+relaxed_from-more relaxing v (r ∷ ss) s =
+    let first = relaxed_one relaxing v r in
+    elim first.is_fresh as (λ b. first ∷ relaxed_from relaxing (if b then v + 1 else v)
     (ss ++ s ∷ [])
-    ≡ first ∷ (relaxed_from profile (if b then v + 1 else v) ss ++ relaxed_one profile
+    ≡ first ∷ (relaxed_from relaxing (if b then v + 1 else v) ss ++ relaxed_one relaxing
     (v + length (if b then first ∷ filter (λ e. e.is_fresh)
-    (relaxed_from profile (if b then v + 1 else v) ss)
-    else filter (λ e. e.is_fresh) (relaxed_from profile (if b then v + 1 else v) ss))) s
+    (relaxed_from relaxing (if b then v + 1 else v) ss)
+    else filter (λ e. e.is_fresh) (relaxed_from relaxing (if b then v + 1 else v) ss))) s
     ∷ [])) [
       | true ↦
-          let es = relaxed_from profile (v + 1) ss in
+          let es = relaxed_from relaxing (v + 1) ss in
           let n : (v + 1) + fresh_count es ≡ v + suc (fresh_count es) = omega arith in
-          ap (λ x. first ∷ x) (relaxed_from-more profile (v + 1) ss s
-          ∙ ap (λ m. es ++ relaxed_one profile m s ∷ []) n)
-      | false ↦ ap (λ x. first ∷ x) (relaxed_from-more profile v ss s)
+          ap (λ x. first ∷ x) (relaxed_from-more relaxing (v + 1) ss s
+          ∙ ap (λ m. es ++ relaxed_one relaxing m s ∷ []) n)
+      | false ↦ ap (λ x. first ∷ x) (relaxed_from-more relaxing v ss s)
     ]
 
 filter-more : (es : List Relaxed) (e : Relaxed)
@@ -75,17 +75,17 @@ filter-more (d ∷ es) e =
     ]
 
 -- the clauses of the soft clauses ss were added, and last is the last variable that is taken
-pub record IsRelaxedTo (profile : Profile) (vars : ℕ) (ss : List SoftClause)
+pub record IsRelaxedTo (relaxing : Relaxing) (vars : ℕ) (ss : List SoftClause)
     (old now : List (List Literal)) (last : ℕ) : Type 0 where
-  pub added : now ≡ old ++ kept (with_variables (relaxed_from profile (vars + 1) ss))
-  pub counted : last ≡ vars + fresh_count (relaxed_from profile (vars + 1) ss)
+  pub added : now ≡ old ++ kept (with_variables (relaxed_from relaxing (vars + 1) ss))
+  pub counted : last ≡ vars + fresh_count (relaxed_from relaxing (vars + 1) ss)
   pub few : last ≤ vars + length ss
 
-fresh_literal : (profile : Profile) (v : ℕ) (s : SoftClause)
-    → (relaxed_one profile v s).is_fresh ≡ true
-    → ((relaxed_one profile v s).literal ≡ positive v) × ((relaxed_one profile v s).soft ≡ s)
-fresh_literal profile v s =
-    relaxed_cases profile v s (λ e. e.is_fresh ≡ true → (e.literal ≡ positive v) × (e.soft ≡ s))
+fresh_literal : (relaxing : Relaxing) (v : ℕ) (s : SoftClause)
+    → (relaxed_one relaxing v s).is_fresh ≡ true
+    → ((relaxed_one relaxing v s).literal ≡ positive v) × ((relaxed_one relaxing v s).soft ≡ s)
+fresh_literal relaxing v s =
+    relaxed_cases relaxing v s (λ e. e.is_fresh ≡ true → (e.literal ≡ positive v) × (e.soft ≡ s))
     (λ h. (refl, refl)) (λ l same h. absurd (false≢true h))
 
 abbrev with_literal : Relaxed → List Literal
@@ -117,28 +117,28 @@ count-more es e b h =
     by true = refl
     by false = refl
 
-module _ (profile : Profile) (vars : ℕ) (ss : List SoftClause) (s : SoftClause)
-    (old now : List (List Literal)) (last : ℕ) (h : IsRelaxedTo profile vars ss old now last) where
+module _ (relaxing : Relaxing) (vars : ℕ) (ss : List SoftClause) (s : SoftClause)
+    (old now : List (List Literal)) (last : ℕ) (h : IsRelaxedTo relaxing vars ss old now last) where
   abbrev es : List Relaxed
-  es = relaxed_from profile (vars + 1) ss
+  es = relaxed_from relaxing (vars + 1) ss
 
   abbrev e : Relaxed
-  e = relaxed_one profile ((vars + 1) + fresh_count es) s
+  e = relaxed_one relaxing ((vars + 1) + fresh_count es) s
 
-  one_more : relaxed_from profile (vars + 1) (ss ++ s ∷ []) ≡ es ++ e ∷ []
-  one_more = relaxed_from-more profile (vars + 1) ss s
+  one_more : relaxed_from relaxing (vars + 1) (ss ++ s ∷ []) ≡ es ++ e ∷ []
+  one_more = relaxed_from-more relaxing (vars + 1) ss s
 
   pub relaxed_fresh : (new : List (List Literal)) (c : List Literal)
-      → gets_variable profile s.clause ≡ true → c ≡ s.clause ++ positive (last + 1) ∷ []
+      → gets_variable relaxing s.clause ≡ true → c ≡ s.clause ++ positive (last + 1) ∷ []
       → new ≡ now ++ kept (c ∷ [])
-      → IsRelaxedTo profile vars (ss ++ s ∷ []) old new (last + 1)
+      → IsRelaxedTo relaxing vars (ss ++ s ∷ []) old new (last + 1)
   relaxed_fresh new c g same more =
-      let fresh : e.is_fresh ≡ true = is_fresh-gets profile ((vars + 1) + fresh_count es) s ∙ g in
-      let is = fresh_literal profile ((vars + 1) + fresh_count es) s fresh in
+      let fresh : e.is_fresh ≡ true = is_fresh-gets relaxing ((vars + 1) + fresh_count es) s ∙ g in
+      let is = fresh_literal relaxing ((vars + 1) + fresh_count es) s fresh in
       let number : (vars + 1) + fresh_count es ≡ last + 1 = omega (arith, h.counted) in
       let clause : with_literal e ≡ c = (λ i. (is.1 i).clause ++ is.0 i ∷ [])
       ∙ ap (λ n. s.clause ++ positive n ∷ []) number ∙ sym same in
-      let all : with_variables (relaxed_from profile (vars + 1) (ss ++ s ∷ [])) ≡ with_variables es
+      let all : with_variables (relaxed_from relaxing (vars + 1) (ss ++ s ∷ [])) ≡ with_variables es
       ++ c ∷ [] = ap with_variables one_more ∙ variables-more es e true fresh
       ∙ ap (λ x. with_variables es ++ x ∷ []) clause in
       record {
@@ -150,11 +150,11 @@ module _ (profile : Profile) (vars : ℕ) (ss : List SoftClause) (s : SoftClause
         few = omega (arith, h.few, length-append ss (s ∷ []));
       }
 
-  pub relaxed_own : gets_variable profile s.clause ≡ false
-      → IsRelaxedTo profile vars (ss ++ s ∷ []) old now last
+  pub relaxed_own : gets_variable relaxing s.clause ≡ false
+      → IsRelaxedTo relaxing vars (ss ++ s ∷ []) old now last
   relaxed_own g =
-      let own : e.is_fresh ≡ false = is_fresh-gets profile ((vars + 1) + fresh_count es) s ∙ g in
-      let all : with_variables (relaxed_from profile (vars + 1) (ss ++ s ∷ []))
+      let own : e.is_fresh ≡ false = is_fresh-gets relaxing ((vars + 1) + fresh_count es) s ∙ g in
+      let all : with_variables (relaxed_from relaxing (vars + 1) (ss ++ s ∷ []))
       ≡ with_variables es = ap with_variables one_more ∙ variables-more es e false own
       ∙ append-nil (with_variables es) in
       record {

@@ -155,7 +155,7 @@ covers-kept (d ∷ cs) c h e =
 abbrev pub AreCovered : List (List Literal) → List (List Literal) → Type 0
 AreCovered cs ds = AllByRecursion (λ c. covers cs c ≡ true) ds
 
-kept_each : (cs ds : List (List Literal)) → AreCovered cs ds → AreCovered (kept cs) (kept ds)
+pub kept_each : (cs ds : List (List Literal)) → AreCovered cs ds → AreCovered (kept cs) (kept ds)
 kept_each cs [] h = tt
 kept_each cs (d ∷ ds) h =
     elim (has_opposites (distinct d)) as (λ b. has_opposites (distinct d) ≡ b

@@ -1,20 +1,37 @@
 -- What is asked of the cells of a network, and what adding clauses does.
-use Rattle.std.specs.Prelude.{◌≡◌, ◌<◌, ◌^◌, Bool, true, not, List, ◌++◌, length, ◌==◌}
+use Rattle.std.specs.Prelude.{◌≡◌, ℕ, ◌+◌, ◌*◌, ◌<◌, ◌≤◌, ◌^◌, Bool, true, not, List, ◌++◌, length}
+use Rattle.std.specs.Prelude.{◌==◌, All}
 use Rattle.cnf.specs.Literal.{Literal}
 use Rattle.adder.specs.declared.cells.Cell.{Cell}
-use Rattle.adder.specs.declared.cells.Profile.{Profile}
-use Rattle.adder.specs.declared.cells.Profile.TheVariants.{One, Two, Three}
+use Rattle.adder.specs.declared.profiles.Relaxing.{Relaxing}
+use Rattle.adder.specs.declared.profiles.Relaxing.TheVariants.{EachByVariable, UnitsByNegation}
+use Rattle.adder.specs.Network.{Adders}
+use Rattle.bound.specs.declared.additions.Addition.{Addition}
+use Rattle.bound.specs.declared.additions.Addition.TheVariants.{Network, Sums}
 use Rattle.bound.specs.Bound.{kept}
 
 -- its sum and its carry are variables
 abbrev pub HasVariables : Cell → Type 0
 HasVariables cell = (0 < cell.sum) × (cell.sum < 2 ^ 27) × (0 < cell.carry) × (cell.carry < 2 ^ 27)
 
--- a soft clause of one literal is given up by the negation of that, in profile 2
-abbrev pub gets_variable : Profile → List Literal → Bool
-gets_variable One c = true
-gets_variable Three c = true
-gets_variable Two c = not (length c == 1)
+-- a soft clause of one literal may be given up by the negation of that
+abbrev pub gets_variable : Relaxing → List Literal → Bool
+gets_variable EachByVariable c = true
+gets_variable UnitsByNegation c = not (length c == 1)
+
+-- its clauses are few
+pub record IsFitNetwork (n : Adders) : Type 0 where
+  pub cells : All HasVariables n.cells
+  pub few : length n.cells < 2 ^ 24
+
+abbrev pub IsFit : Addition → Type 0
+IsFit (Network n) = IsFitNetwork n
+IsFit (Sums n) = length n.clauses ≤ 2 ^ 17
+
+-- so are the variables, where the last one of the relaxation is known
+abbrev pub HasRoom : ℕ → Addition → Type 0
+HasRoom relaxed (Network n) = relaxed + 2 * length n.cells < 2 ^ 26
+HasRoom relaxed (Sums n) = 0 < n.fresh
 
 -- the clauses are added, as they are kept
 pub record Adds (old new cs : List (List Literal)) : Type 0 where

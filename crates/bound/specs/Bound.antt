@@ -1,7 +1,7 @@
 -- The hard clauses as a formula, and the formula for 'cost below k'.
 use Rattle.std.specs.Prelude.{◌≡◌, ℕ, zero, suc, ◌+◌, ◌*◌, ◌/◌, ◌^◌, ◌<◌, ◌≤◌, true, not, List, []}
 use Rattle.std.specs.Prelude.{◌∷◌, ◌++◌, length, map, filter, reverse, Option, Some, None, ◌==◌}
-use Rattle.std.specs.Prelude.{if◌then◌else◌, All}
+use Rattle.std.specs.Prelude.{◌-◌, nat_le, if◌then◌else◌, All}
 use Rattle.std.specs.List.{flat_map, list_any}
 use Rattle.std.specs.Fmt.{decimal}
 use lib.Chars.{codes}
@@ -14,7 +14,15 @@ use Rattle.text.specs.Writing.{spaced}
 use Rattle.adder.specs.declared.cells.Cell.{Cell}
 use Rattle.adder.specs.declared.cells.Profile.{Profile}
 use Rattle.adder.specs.declared.cells.Profile.TheVariants.{One}
-use Rattle.adder.specs.Network.{adders_as, bit, relaxed_as, relaxed_variables, SameUpTo}
+use Rattle.adder.specs.declared.profiles.Adding.{Adding}
+use Rattle.adder.specs.declared.profiles.Adding.TheVariants.{Columns, Tree as AlongTree}
+use Rattle.adder.specs.declared.profiles.Adding.TheVariants.{Sums as BySums}
+use Rattle.adder.specs.Network.{Adders, adders_as, adding_of, bit, relaxed_as, relaxed_variables}
+use Rattle.adder.specs.Network.{SameUpTo}
+use Rattle.sums_tree.specs.Arranging.{tree}
+use Rattle.sums.specs.Sums.{Node, sums_over, comparator}
+use Rattle.bound.specs.declared.additions.Addition.{Addition}
+use Rattle.bound.specs.declared.additions.Addition.TheVariants.{Network, Sums}
 
 -- repeats dropped, and clauses with an opposite pair left out
 abbrev pub kept : List (List Literal) → List (List Literal)
@@ -85,18 +93,44 @@ abbrev pub comparator_of : List (Option Literal) → ℕ → List (List Literal)
 comparator_of outputs zero = [] ∷ []
 comparator_of outputs (suc limit) = kept (reverse (rising_clauses outputs limit 0))
 
+-- what adds up the weights: a network, or in a profile of sums these, where there are any
+abbrev pub sums_or : Adders → Option Node → Addition
+sums_or n None = Network n
+sums_or n (Some sums) = Sums sums
+
+unfoldable pub addition_as : Profile → Problem → Addition
+addition_as profile p = by (adding_of profile)
+  where
+    by : Adding → Addition
+    by Columns = Network (adders_as profile p)
+    by AlongTree = Network (adders_as profile p)
+    by BySums = sums_or (adders_as profile p) (sums_over p (tree p))
+
+abbrev pub addition_clauses : Addition → List (List Literal)
+addition_clauses (Network n) = kept (flat_map cell_clauses n.cells)
+addition_clauses (Sums n) = kept n.clauses
+
+-- the last variable of all, where that of the relaxation is known
+abbrev pub last_variable : ℕ → Addition → ℕ
+last_variable relaxed (Network n) = relaxed + 2 * length n.cells
+last_variable relaxed (Sums n) = n.fresh - 1
+
+-- what is added up is below k; sums say nothing of 2^62 and above, which no cost reaches
+abbrev pub comparator_over : Addition → ℕ → List (List Literal)
+comparator_over (Network n) k = comparator_of n.outputs k
+comparator_over (Sums n) k = if nat_le (2 ^ 62) k then [] else kept (comparator n k)
+
 -- all but the comparator
 abbrev pub fixed_clauses : Profile → Problem → List (List Literal)
 fixed_clauses profile p =
-    kept p.hard ++ kept (relaxed_clauses profile p)
-    ++ kept (flat_map cell_clauses (adders_as profile p).cells)
+    kept p.hard ++ kept (relaxed_clauses profile p) ++ addition_clauses (addition_as profile p)
 
 abbrev pub comparator_for : Profile → Problem → ℕ → List (List Literal)
-comparator_for profile p k = comparator_of (adders_as profile p).outputs k
+comparator_for profile p k = comparator_over (addition_as profile p) k
 
 abbrev pub bound_as : Profile → Problem → ℕ → Cnf
 bound_as profile p k = record {
-  variables = relaxed_variables profile p + 2 * length (adders_as profile p).cells;
+  variables = last_variable (relaxed_variables profile p) (addition_as profile p);
   clauses = fixed_clauses profile p ++ comparator_for profile p k;
 }
 
@@ -120,6 +154,10 @@ abbrev pub CoversLarger : List (Option Literal) → ℕ → Type 0
 CoversLarger outputs k =
     (larger : ℕ) → k ≤ larger
     → All (IsCovered (comparator_of outputs k)) (comparator_of outputs larger)
+
+abbrev pub CoversLargerOver : Addition → ℕ → Type 0
+CoversLargerOver a k =
+    (larger : ℕ) → k ≤ larger → All (IsCovered (comparator_over a k)) (comparator_over a larger)
 
 -- the DIMACS text
 abbrev pub header_line : ℕ → ℕ → List ℕ

@@ -1,14 +1,13 @@
 -- The formula that is written part by part.
 use Rattle.std.specs.Prelude.{List, ◌++◌}
-use Rattle.std.specs.List.{flat_map}
 use Rattle.cnf.specs.Literal.{Literal}
 use Rattle.cnf.specs.Formula.{Cnf}
 use Rattle.bound.specs.declared.encoding.Outline.{Outline}
-use Rattle.bound.specs.Bound.{kept, cell_clauses}
+use Rattle.bound.specs.Bound.{kept, addition_clauses}
 
 -- the hard clauses, and what the outline has
 abbrev pub outlined : List (List Literal) → Outline → Cnf
 outlined hard o = record {
   variables = o.vars;
-  clauses = kept hard ++ o.relaxed ++ kept (flat_map cell_clauses o.network.cells) ++ o.comparator;
+  clauses = kept hard ++ o.relaxed ++ addition_clauses o.addition ++ o.comparator;
 }

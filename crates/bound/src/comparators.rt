@@ -1,30 +1,52 @@
-// The comparator: clauses that hold where the number that the outputs of a network spell is below a
-// bound.
+// The comparator: clauses that hold where what is added up is below a bound, be it the number that
+// the outputs of a network spell or the sum at the root of a tree.
 ghost use Rattle.std.specs.Prelude.{◌≡◌, ◌/◌, ◌≤◌, ◌^◌, ◌++◌, false, reverse, All, IfOk, OnOk};
 ghost use Rattle.cnf.specs.Clause.{has_repeat};
 ghost use Rattle.bound.specs.Bound.{kept, rising_clauses, comparator_of, CoversLarger};
+ghost use Rattle.bound.specs.Bound.{comparator_over, CoversLargerOver};
+ghost use Rattle.sums.specs.Sums.{comparator};
 
-use crate::keeping::keep_short;
+use crate::additions::Addition;
+use crate::keeping::{keep_all, keep_short};
 use adder::networks::Network;
 use cnf::clause_list::ClauseList;
+use cnf::limits::NUMBER_LIMIT;
 use cnf::types::{Clause, Lit};
 use std::alloc::AllocError;
+use sums::comparators::push_comparator;
+use sums::root::Root;
 
-/// The clauses that hold exactly where the outputs of the network spell a number below `k`, a bound
-/// from 0 to 2^62 (Warners, "A linear-time transformation of linear inequalities into conjunctive
-/// normal form", 1998). For 0 that is the empty clause. Each clause of the comparator for a larger
-/// bound has one of these as a subset.
+/// The clauses that hold exactly where the outputs of the network spell a number below `k`
+/// (Warners, "A linear-time transformation of linear inequalities into conjunctive normal form",
+/// 1998). For 0 that is the empty clause. Each clause of the comparator for a larger bound has one
+/// of these as a subset.
 ///
 /// # Errors
 ///
 /// `AllocError` where memory was refused.
 pub fn comparator(network: &Network, k: u64) -> Result<Vec<Clause>, AllocError>
-    requires { k ≤ 2 ^ 62 }
     ensures clauses { IfOk result (λ cs. cs.items ≡ comparator_of network.now.outputs k) }
     ensures covers { OnOk result (CoversLarger network.now.outputs k) }
 {
     let mut clauses = ClauseList::new(network.allocator());
-    keep_comparator(&mut clauses, network.outputs(), k)?;
+    keep_outputs_below(&mut clauses, network.outputs(), k)?;
+    Ok(copy_clauses(&clauses)?)
+}
+
+/// The clauses by which `formula_as` says that what is added up is below `k`. Those of a network
+/// are those of `comparator`. Those of sums hold where the sum at the root of their tree is below
+/// `k`; there are none for 2^62 and above, which no cost reaches. For 0 it is the empty clause.
+/// Each clause of the comparator for a larger bound has one of these as a subset.
+///
+/// # Errors
+///
+/// `AllocError` where memory was refused.
+pub fn comparator_as(addition: &Addition, k: u64) -> Result<Vec<Clause>, AllocError>
+    ensures clauses { IfOk result (λ cs. cs.items ≡ comparator_over addition.now k) }
+    ensures covers { OnOk result (CoversLargerOver addition.now k) }
+{
+    let mut clauses = ClauseList::new(addition.allocator());
+    keep_comparator(&mut clauses, addition, k)?;
     Ok(copy_clauses(&clauses)?)
 }
 
@@ -41,8 +63,32 @@ fn copy_clauses(clauses: &ClauseList) -> Result<Vec<Clause>, AllocError>
     Ok(owned)
 }
 
-/// Adds the comparator of the outputs.
+/// Adds the comparator of what adds up the weights.
 pub(crate) fn keep_comparator(
+    clauses: &mut ClauseList,
+    addition: &Addition,
+    k: u64,
+) -> Result<(), AllocError>
+    ensures { OnOk result (clauses.new ≡ clauses.old ++ comparator_over addition.now k) }
+{
+    match addition {
+        Addition::Network(network) => keep_outputs_below(clauses, network.outputs(), k),
+        Addition::Sums(_) if k >= NUMBER_LIMIT => Ok(()),
+        Addition::Sums(root) => keep_sums_below(clauses, root, k),
+    }
+}
+
+/// Adds the comparator of sums.
+fn keep_sums_below(clauses: &mut ClauseList, root: &Root, k: u64) -> Result<(), AllocError>
+    ensures { OnOk result (clauses.new ≡ clauses.old ++ kept (comparator root.now k)) }
+{
+    let mut below = ClauseList::new(clauses.allocator());
+    push_comparator(&mut below, root, k)?;
+    keep_all(clauses, &below)
+}
+
+/// Adds the comparator of the outputs.
+fn keep_outputs_below(
     clauses: &mut ClauseList,
     outputs: &[Option<Lit>],
     k: u64,

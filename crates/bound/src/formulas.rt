@@ -3,14 +3,13 @@ ghost use Rattle.std.specs.Prelude.{◌≡◌, ◌<◌, ◌≤◌, ◌^◌, [], 
 ghost use Rattle.adder.specs.Network.{relaxed_variables};
 ghost use Rattle.bound.specs.Bound.{kept, relaxed_clauses, bound_as, comparator_for, SaysCheaper};
 
-use crate::cells::keep_cells;
-pub use crate::comparators::comparator;
+use crate::additions::{Addition, keep_addition};
 use crate::comparators::keep_comparator;
+pub use crate::comparators::{comparator, comparator_as};
 pub use crate::dimacs::write_dimacs;
 pub use crate::hard::hard_formula;
 use crate::hard::keep_hard;
 use crate::relaxing::keep_relaxed;
-use adder::building::network_as;
 use adder::cells::Profile;
 use cnf::clause_list::ClauseList;
 use cnf::marks::Marks;
@@ -39,7 +38,8 @@ pub fn formula(instance: &Instance, k: u64) -> Result<Formula, AllocError>
 
 /// As `formula`, in any profile: in `Profile::Two` a soft clause of one literal has no relaxation
 /// variable and is not among the clauses, as the negation of its literal relaxes it; in
-/// `Profile::Three` the network adds the weights in pairs along a balanced tree.
+/// `Profile::Three` the network adds the weights in pairs along a balanced tree; in `Profile::Four`
+/// the clauses of sums stand in place of those of cells, unless they would be too many.
 ///
 /// # Errors
 ///
@@ -56,11 +56,10 @@ pub fn formula_as(instance: &Instance, k: u64, profile: Profile) -> Result<Formu
     let _vars = instance.vars();
     let mut clauses = ClauseList::new(instance.allocator());
     let last = keep_given(&mut clauses, instance, profile)?;
-    let network = network_as(instance, profile)?;
-    keep_cells(&mut clauses, network.cells())?;
-    keep_comparator(&mut clauses, network.outputs(), k)?;
-    let vars = last + 2 * network.cells().len() as u32;
-    Ok(Formula::new(vars, clauses))
+    let addition = Addition::of(instance, profile)?;
+    keep_addition(&mut clauses, &addition)?;
+    keep_comparator(&mut clauses, &addition, k)?;
+    Ok(Formula::new(addition.last_variable(last), clauses))
 }
 
 /// Adds the hard clauses and the soft ones with their relaxation variables; answers the last of all

@@ -2,6 +2,7 @@
 //! bound; and their text.
 #![tactic(auto)]
 
+pub mod additions;
 mod cells;
 mod comparators;
 mod dimacs;

@@ -9,6 +9,7 @@ ghost use Rattle.bound.specs.Adding.{gets_variable};
 
 use crate::keeping::keep;
 use adder::cells::Profile;
+use adder::profiles::Relaxing;
 use cnf::clause_list::ClauseList;
 use cnf::marks::Marks;
 use cnf::types::{Instance, Lit};
@@ -31,7 +32,7 @@ pub(crate) fn keep_relaxed(
     let mut last = instance.vars();
     for soft in instance.soft() {
         let lits = soft.clause().lits();
-        if is_given_variable(profile, lits) {
+        if is_given_variable(profile.relaxing(), lits) {
             last += 1;
             let relaxed = with_variable(instance.allocator(), lits, last)?;
             keep(clauses, marks, &relaxed)?;
@@ -40,14 +41,14 @@ pub(crate) fn keep_relaxed(
     Ok(last)
 }
 
-/// Whether a soft clause takes a relaxation variable. In `Profile::Two` one of a single literal
-/// does not, as the negation of that literal relaxes it.
-fn is_given_variable(profile: Profile, lits: &[Lit]) -> bool
-    ensures { result ≡ gets_variable profile lits.now }
+/// Whether a soft clause takes a relaxation variable. One of a single literal may not need it, as
+/// the negation of that literal relaxes it.
+fn is_given_variable(relaxing: Relaxing, lits: &[Lit]) -> bool
+    ensures { result ≡ gets_variable relaxing lits.now }
 {
-    match profile {
-        Profile::One | Profile::Three => true,
-        Profile::Two => lits.len() != 1,
+    match relaxing {
+        Relaxing::EachByVariable => true,
+        Relaxing::UnitsByNegation => lits.len() != 1,
     }
 }
 

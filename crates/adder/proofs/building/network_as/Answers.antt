@@ -3,7 +3,7 @@ use Rattle.adder.specs.Network.{total_weight, relaxed_as}
 use Rattle.adder.specs.Parts.{most_of}
 use Rattle.adder.proofs.Sums.{binary_length_le}
 use Rattle.adder.proofs.Numbers.{numbers_of-most}
-use Rattle.adder.proofs.Profiles.{weights, is_columns, is_tree, adds_up}
+use Rattle.adder.proofs.InEachProfile.{weights, is_columns, is_tree, adds_up}
 use Rattle.adder.proofs.Whole.{columns_are, numbers_are, tree_is, if_ok_from}
 use Rattle.adder.proofs.building.network_as.Goals as goal
 
@@ -12,7 +12,7 @@ add_columns-requires c =
     let p = c.args.instance.now in
     let r = c.in_ok-relaxations.ensures in
     let same = columns_are (relaxed_as c.args.profile p) (total_weight p) r.each r.digits r.fresh
-    ∙ is_columns c.args.profile p c.in-One.is in
+    ∙ is_columns c.args.profile p c.adding.result c.adding.ensures c.in-Columns.is in
     let law = adds_up c.args.profile p r.limits in
     record {
       digits = omega (arith, binary_length_le (total_weight p), r.digits);
@@ -20,12 +20,12 @@ add_columns-requires c =
       small = rw same (omega (arith, law.small.0, r.fresh));
     }
 
-pub returns-in-One : goal.returns-in-One
-returns-in-One c =
+pub returns-in-Columns : goal.returns-in-Columns
+returns-in-Columns c =
     let p = c.args.instance.now in
     let r = c.in_ok-relaxations.ensures in
     let same = columns_are (relaxed_as c.args.profile p) (total_weight p) r.each r.digits r.fresh
-    ∙ is_columns c.args.profile p c.in-One.is in
+    ∙ is_columns c.args.profile p c.adding.result c.adding.ensures c.in-Columns.is in
     let built = rw same at c.add_columns.ensures in
     record {
       cells = built;
@@ -49,23 +49,23 @@ add_tree-requires-clause-small c =
     let p = c.args.instance.now in
     let r = c.in_ok-relaxations.ensures in
     let same = tree_is (relaxed_as c.args.profile p) r.each r.fresh
-    ∙ is_tree c.args.profile p c.in-Three.is in
+    ∙ is_tree c.args.profile p c.adding.result c.adding.ensures c.in-Tree.is in
     let law = adds_up c.args.profile p r.limits in
     rw same (omega (arith, law.small.0, r.fresh))
 
-pub returns-in-Three-clause-cells : goal.returns-in-Three-clause-cells
-returns-in-Three-clause-cells c =
+pub returns-in-Tree-clause-cells : goal.returns-in-Tree-clause-cells
+returns-in-Tree-clause-cells c =
     let p = c.args.instance.now in
     let r = c.in_ok-relaxations.ensures in
     let same = tree_is (relaxed_as c.args.profile p) r.each r.fresh
-    ∙ is_tree c.args.profile p c.in-Three.is in
+    ∙ is_tree c.args.profile p c.adding.result c.adding.ensures c.in-Tree.is in
     rw same at c.add_tree.ensures
 
-pub returns-in-Three-clause-adds_up : goal.returns-in-Three-clause-adds_up
-returns-in-Three-clause-adds_up c =
+pub returns-in-Tree-clause-adds_up : goal.returns-in-Tree-clause-adds_up
+returns-in-Tree-clause-adds_up c =
     let p = c.args.instance.now in
     let r = c.in_ok-relaxations.ensures in
     let same = tree_is (relaxed_as c.args.profile p) r.each r.fresh
-    ∙ is_tree c.args.profile p c.in-Three.is in
+    ∙ is_tree c.args.profile p c.adding.result c.adding.ensures c.in-Tree.is in
     if_ok_from _ c.add_tree.result (rw same at c.add_tree.ensures)
     (adds_up c.args.profile p r.limits)

@@ -2,7 +2,7 @@
 use Rattle.std.proofs.Common.{◌≡◌, ◌++◌, ap, ◌∙◌}
 use Rattle.std.proofs.lemmas.Result.{on_ok_weaker}
 use Rattle.cnf.specs.Clause.{distinct}
-use Rattle.bound.proofs.Fits.{repeat-distinct}
+use Rattle.bound.proofs.Clauses.{repeat-distinct}
 use Rattle.bound.proofs.Kept.{kept-distinct}
 use Rattle.bound.proofs.keeping.keep_short.Goals as goal
 

@@ -3,11 +3,14 @@ use Rattle.std.proofs.Common.{◌≡◌, ◌+◌, ◌*◌, ◌≤◌, List, [], 
 use Rattle.std.proofs.Common.{length-take-le, true, false, arith, rules, sym, ◌∙◌, ap, subst}
 use Rattle.cnf.specs.Literal.{Literal, positive}
 use Rattle.cnf.specs.Instance.{IsClauseWithin}
+use Rattle.adder.specs.Network.{relaxing_of}
 use Rattle.bound.specs.Adding.{gets_variable}
 use Rattle.cnf.specs.Marks.{HasPlace}
 use Rattle.bound.proofs.Relaxations.{relaxed_no_repeat, relaxed_places, relaxed_fresh, relaxed_own}
 use Rattle.bound.proofs.Relaxations.{soft_within, soft_more}
 use Rattle.bound.proofs.relaxing.keep_relaxed.Goals as goal
+use Rattle.bound.proofs.relaxing.keep_relaxed.Goals.{}
+use Rattle.bound.proofs.relaxing.keep_relaxed.Goals.{}
 use Rattle.bound.proofs.relaxing.keep_relaxed.Goals.{then-is_given_variable+in_ok-relaxed+in_ok-keep}
 use Rattle.bound.proofs.relaxing.keep_relaxed.Goals.{else-is_given_variable}
 
@@ -69,13 +72,14 @@ loop-soft-preserved c =
     soft_more ss i s (search rules) c.soft-item.is in
     elim c.if-is_given_variable.branch [
       | then-is_given_variable+in_ok-relaxed+in_ok-keep w ↦
-          let gets : gets_variable c.args.profile s.clause ≡ true =
-          cc (lits, c.is_given_variable.ensures, w.if-is_given_variable.true) in
+          let gets : gets_variable (relaxing_of c.args.profile) s.clause ≡ true =
+          cc (lits, c.relaxing.ensures, c.is_given_variable.ensures, w.if-is_given_variable.true) in
           let text : w.deref.result.now ≡ s.clause ++ positive (c.loop-soft.last + 1) ∷ [] =
           w.deref.ensures.value ∙ w.in_ok-relaxed.ensures
           ∙ ap (λ x. x ++ positive (c.loop-soft.last + 1) ∷ []) lits in
           let added =
-          relaxed_fresh c.args.profile vars (take i ss) s _ c.loop-soft.clauses c.loop-soft.last
+          relaxed_fresh (relaxing_of c.args.profile) vars (take i ss) s _ c.loop-soft.clauses
+          c.loop-soft.last
           c.loop-soft.invariant.0 w.keep.new.clauses w.deref.result.now gets text
           w.in_ok-keep.ensures.clauses in
           rw (more, w.clauses-is, w.last-is, w.marks-is) (
@@ -84,10 +88,12 @@ loop-soft-preserved c =
                 ∙ c.loop-soft.invariant.1,
           )
       | else-is_given_variable w ↦
-          let gets : gets_variable c.args.profile s.clause ≡ false =
-          cc (lits, c.is_given_variable.ensures, w.if-is_given_variable.false) in
+          let gets : gets_variable (relaxing_of c.args.profile) s.clause ≡ false =
+          cc (lits, c.relaxing.ensures, c.is_given_variable.ensures, w.if-is_given_variable.false)
+          in
           let added =
-          relaxed_own c.args.profile vars (take i ss) s _ c.loop-soft.clauses c.loop-soft.last
+          relaxed_own (relaxing_of c.args.profile) vars (take i ss) s _ c.loop-soft.clauses
+          c.loop-soft.last
           c.loop-soft.invariant.0 gets in
           rw (more, w.clauses-is, w.last-is, w.marks-is) (added, c.loop-soft.invariant.1)
     ]

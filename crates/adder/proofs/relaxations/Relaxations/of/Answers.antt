@@ -2,26 +2,26 @@ use Rattle.std.proofs.Common.{◌≡◌, ℕ, ◌+◌, ◌≤◌, ◌++◌, List
 use Rattle.std.proofs.Common.{ap, append-nil, arith, rules}
 use Rattle.std.proofs.lemmas.List.{at_drop_all}
 use Rattle.cnf.specs.Problem.{SoftClause}
-use Rattle.adder.specs.declared.cells.Profile.{Profile}
+use Rattle.adder.specs.declared.profiles.Relaxing.{Relaxing}
 use Rattle.adder.specs.declared.relaxations.Relaxation.{Relaxation}
-use Rattle.adder.specs.Network.{relaxed_from}
+use Rattle.adder.specs.Network.{relaxing_of, relaxed_from}
 use Rattle.adder.specs.Parts.{relaxation_of}
 use Rattle.adder.proofs.relaxations.Relaxations.of.Goals as goal
 
 -- at the end nothing is left
-all_built : (profile : Profile) (v i : ℕ) (ss : List SoftClause) (each whole : List Relaxation)
+all_built : (relaxing : Relaxing) (v i : ℕ) (ss : List SoftClause) (each whole : List Relaxation)
     → length ss ≤ i
-    → each ++ map relaxation_of (relaxed_from profile v (drop i ss)) ≡ whole → each ≡ whole
-all_built profile v i ss each whole le e =
+    → each ++ map relaxation_of (relaxed_from relaxing v (drop i ss)) ≡ whole → each ≡ whole
+all_built relaxing v i ss each whole le e =
     sym (append-nil each)
-    ∙ sym (at_drop_all (λ x. each ++ map relaxation_of (relaxed_from profile v x)) ss i le) ∙ e
+    ∙ sym (at_drop_all (λ x. each ++ map relaxation_of (relaxed_from relaxing v x)) ss i le) ∙ e
 
-all_numbered : (profile : Profile) (v i : ℕ) (ss : List SoftClause) (whole : ℕ) → length ss ≤ i
-    → v + length (filter (λ e. e.is_fresh) (relaxed_from profile v (drop i ss))) ≡ whole
+all_numbered : (relaxing : Relaxing) (v i : ℕ) (ss : List SoftClause) (whole : ℕ) → length ss ≤ i
+    → v + length (filter (λ e. e.is_fresh) (relaxed_from relaxing v (drop i ss))) ≡ whole
     → v ≡ whole
-all_numbered profile v i ss whole le e =
+all_numbered relaxing v i ss whole le e =
     let none =
-    at_drop_all (λ x. length (filter (λ e. e.is_fresh) (relaxed_from profile v x))) ss i le in
+    at_drop_all (λ x. length (filter (λ e. e.is_fresh) (relaxed_from relaxing v x))) ss i le in
     omega (arith, none, e)
 
 pub overflow_add-fresh-in-None : goal.overflow_add-fresh-in-None
@@ -36,13 +36,13 @@ overflow_add-fresh-in-None c =
 
 pub returns-clause-each : goal.returns-clause-each
 returns-clause-each c =
-    all_built c.args.profile c.loop-soft.fresh c.loop-soft.soft-index
+    all_built (relaxing_of c.args.profile) c.loop-soft.fresh c.loop-soft.soft-index
     c.soft-soft_clauses.result.now c.loop-soft.each.items _ c.loop-soft-test.false
     c.loop-soft.invariant.each
 
 pub returns-clause-fresh : goal.returns-clause-fresh
 returns-clause-fresh c =
-    all_numbered c.args.profile c.loop-soft.fresh c.loop-soft.soft-index
+    all_numbered (relaxing_of c.args.profile) c.loop-soft.fresh c.loop-soft.soft-index
     c.soft-soft_clauses.result.now _ c.loop-soft-test.false c.loop-soft.invariant.fresh
 
 pub digit_count-digits-requires : goal.digit_count-digits-requires

@@ -1,6 +1,7 @@
 -- The laws of the network in each profile.
 use Rattle.std.proofs.Common.{◌≡◌, ◌⊎◌, inl, inr, ℕ, ◌+◌, ◌*◌, ◌^◌, ◌<◌, ◌≤◌, List, [], length}
-use Rattle.std.proofs.Common.{filter, sum_by, All, refl, sym, subst, arith, mul-le-mul_right}
+use Rattle.std.proofs.Common.{filter, sum_by, All, refl, sym, ◌∙◌, ap, subst, arith}
+use Rattle.std.proofs.Common.{mul-le-mul_right}
 use Rattle.std.specs.List.{AllByRecursion}
 use Rattle.std.proofs.lemmas.List.Elements.{recursion_from_All, All-weaker}
 use Rattle.cnf.specs.Literal.{Assignment}
@@ -8,7 +9,10 @@ use Rattle.cnf.specs.Clause.{greatest_variable}
 use Rattle.cnf.specs.Problem.{Problem, SoftClause}
 use Rattle.cnf.specs.Instance.{IsInstance, IsClauseWithin}
 use Rattle.adder.specs.declared.cells.Profile.{Profile}
-use Rattle.adder.specs.declared.cells.Profile.TheVariants.{One, Two, Three}
+use Rattle.adder.specs.declared.cells.Profile.TheVariants.{One, Two, Three, Four}
+use Rattle.adder.specs.declared.profiles.Adding.{Adding}
+use Rattle.adder.specs.declared.profiles.Adding.TheVariants.{Columns, Tree, Sums}
+use Rattle.adder.specs.Network.{relaxing_of, adding_of}
 use Rattle.adder.specs.Network.{Adders, Relaxed, binary_length, total_weight, relaxed_as}
 use Rattle.adder.specs.Network.{relaxed_variables, column_of, along_columns, along_tree, adders_as}
 use Rattle.adder.specs.Network.{value_of, relaxed_weight, IsCellOf, SameUpTo, AddsUp}
@@ -21,31 +25,43 @@ use Rattle.adder.proofs.Variables.{IsOutputOf, IsCellWith, columns_with, column_
 use Rattle.adder.proofs.Numbers.{along_tree_sum, along_tree_cells, along_tree_outputs}
 use Rattle.adder.proofs.Numbers.{along_tree_with, along_tree_chain}
 
--- the two forms of the network
+-- which of its two forms the network has
+abbrev adders_by : Profile → Problem → Adding → Adders
+adders_by profile p Columns =
+    along_columns (relaxed_as profile p) (total_weight p) (relaxed_variables profile p + 1)
+adders_by profile p Tree = along_tree (relaxed_as profile p) (relaxed_variables profile p + 1)
+adders_by profile p Sums = along_tree (relaxed_as profile p) (relaxed_variables profile p + 1)
+
+adders_are : (profile : Profile) (p : Problem)
+    → adders_by profile p (adding_of profile) ≡ adders_as profile p
+adders_are One p = refl
+adders_are Two p = refl
+adders_are Three p = refl
+adders_are Four p = refl
+
+pub is_columns : (profile : Profile) (p : Problem) (a : Adding) → a ≡ adding_of profile
+    → a ≡ Columns
+    → along_columns (relaxed_as profile p) (total_weight p) (relaxed_variables profile p + 1)
+    ≡ adders_as profile p
+is_columns profile p a same e = ap (adders_by profile p) (sym e ∙ same) ∙ adders_are profile p
+
+pub is_tree : (profile : Profile) (p : Problem) (a : Adding) → a ≡ adding_of profile
+    → (a ≡ Tree) ⊎ (a ≡ Sums)
+    → along_tree (relaxed_as profile p) (relaxed_variables profile p + 1) ≡ adders_as profile p
+is_tree profile p a same (inl e) = ap (adders_by profile p) (sym e ∙ same) ∙ adders_are profile p
+is_tree profile p a same (inr e) = ap (adders_by profile p) (sym e ∙ same) ∙ adders_are profile p
+
+-- what holds of both forms
 pub adders_cases : (profile : Profile) (p : Problem) (P : Adders → Type 0)
     → P (along_columns (relaxed_as profile p) (total_weight p) (relaxed_variables profile p + 1))
     → P (along_tree (relaxed_as profile p) (relaxed_variables profile p + 1))
     → P (adders_as profile p)
-adders_cases One p P columns tree = columns
-adders_cases Two p P columns tree = columns
-adders_cases Three p P columns tree = tree
-
--- which of them it is
-pub is_columns : (profile : Profile) (p : Problem) → (profile ≡ One) ⊎ (profile ≡ Two)
-    → along_columns (relaxed_as profile p) (total_weight p) (relaxed_variables profile p + 1)
-    ≡ adders_as profile p
-is_columns profile p (inl e) =
-    subst (λ (q : Profile). along_columns (relaxed_as q p) (total_weight p)
-    (relaxed_variables q p + 1) ≡ adders_as q p) (sym e) refl
-is_columns profile p (inr e) =
-    subst (λ (q : Profile). along_columns (relaxed_as q p) (total_weight p)
-    (relaxed_variables q p + 1) ≡ adders_as q p) (sym e) refl
-
-pub is_tree : (profile : Profile) (p : Problem) → profile ≡ Three
-    → along_tree (relaxed_as profile p) (relaxed_variables profile p + 1) ≡ adders_as profile p
-is_tree profile p e =
-    subst (λ (q : Profile). along_tree (relaxed_as q p) (relaxed_variables q p + 1) ≡ adders_as q p)
-    (sym e) refl
+adders_cases profile p P columns tree = by (adding_of profile) refl
+  where
+    by : (a : Adding) → adding_of profile ≡ a → P (adders_as profile p)
+    by Columns e = subst P (is_columns profile p Columns (sym e) refl) columns
+    by Tree e = subst P (is_tree profile p Tree (sym e) (inl refl)) tree
+    by Sums e = subst P (is_tree profile p Sums (sym e) (inr refl)) tree
 
 module _ (profile : Profile) (p : Problem) where
   abbrev es : List Relaxed
@@ -55,7 +71,7 @@ module _ (profile : Profile) (p : Problem) where
   n = relaxed_variables profile p + 1
 
   pub weights : sum_by (λ e. (e.soft).weight) es ≡ total_weight p
-  weights = relaxed_weights profile (p.variables + 1) p.soft
+  weights = relaxed_weights (relaxing_of profile) (p.variables + 1) p.soft
 
   -- the field `sum` of `AddsUp`
   pub outputs_sum : (t : Assignment) → total_weight p < 2 ^ 63
@@ -74,7 +90,7 @@ module _ (profile : Profile) (p : Problem) where
       × All (IsCellOf u) (adders_as profile p).cells
   cells_extend t h =
       let below : AreRelaxedBelow n es =
-      relaxed_below p.variables profile (p.variables + 1) p.soft n h (omega arith)
+      relaxed_below p.variables (relaxing_of profile) (p.variables + 1) p.soft n h (omega arith)
       (omega arith) in
       chain_extends (relaxed_variables profile p) (adders_as profile p).cells t
       (adders_cases profile p (λ a. IsChain n a.cells)
@@ -91,7 +107,7 @@ module _ (profile : Profile) (p : Problem) where
 
   pub cells_few : length (adders_as profile p).cells ≤ 63 * length p.soft
   cells_few =
-      let many = relaxed_length profile (p.variables + 1) p.soft in
+      let many = relaxed_length (relaxing_of profile) (p.variables + 1) p.soft in
       adders_cases profile p (λ a. length a.cells ≤ 63 * length p.soft)
       (of (binary_length (total_weight p)) (length (along_columns es (total_weight p) n).cells)
       (length es) (binary_length_le (total_weight p))

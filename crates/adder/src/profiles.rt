@@ -1,0 +1,51 @@
+// What a profile stands for: how soft clauses are relaxed, and how their weights are added.
+ghost use Rattle.std.specs.Prelude.{◌≡◌};
+ghost use Rattle.adder.specs.Network.{relaxing_of, adding_of};
+
+use crate::cells::Profile;
+
+/// How soft clauses are relaxed, by literals that are true where a clause may be falsified.
+#[derive(Clone, Copy, Debug, PartialEq, Eq, Drop)]
+pub enum Relaxing {
+    /// Each soft clause, in their order, by the next variable after those of the instance.
+    EachByVariable,
+    /// A soft clause of just one literal by the negation of that literal; each other one by the
+    /// next variable after those of the instance.
+    UnitsByNegation,
+}
+
+/// How the weights of the relaxed soft clauses are added up.
+#[derive(Clone, Copy, Debug, PartialEq, Eq, Drop)]
+pub enum Adding {
+    /// By a network, column by column.
+    Columns,
+    /// By a network, in pairs along a balanced tree, light ones first, so that sums of few of them
+    /// are known early.
+    Tree,
+    /// By sums over groups of soft clauses, along a tree that follows the hard clauses. Where these
+    /// would take too many clauses, by the network of `Tree`.
+    Sums,
+}
+
+impl Profile {
+    /// How soft clauses are relaxed in this profile.
+    pub fn relaxing(self) -> Relaxing
+        ensures { result ≡ relaxing_of self }
+    {
+        match self {
+            Profile::One | Profile::Three | Profile::Four => Relaxing::EachByVariable,
+            Profile::Two => Relaxing::UnitsByNegation,
+        }
+    }
+
+    /// How the weights are added up in this profile.
+    pub fn adding(self) -> Adding
+        ensures { result ≡ adding_of self }
+    {
+        match self {
+            Profile::One | Profile::Two => Adding::Columns,
+            Profile::Three => Adding::Tree,
+            Profile::Four => Adding::Sums,
+        }
+    }
+}
