@@ -1,21 +1,19 @@
 -- The verdict on a text with its result and certificate.
-use Rattle.std.proofs.Common.{◌≡◌, ℕ, Bool, true, false, List, [], ◌∷◌, ◌++◌, length, Some, None}
+use Rattle.std.proofs.Common.{◌≡◌, ℕ, Bool, true, List, [], ◌∷◌, length, Some, None}
 use Rattle.std.proofs.Common.{◌⊎◌, inl, inr, refl, sym, ◌∙◌}
 use Rattle.std.specs.Prelude.{◌==◌, ◌↔◌, Result, Ok, Err}
-use Rattle.std.specs.List.{AllByRecursion, list_all, flat_map}
+use Rattle.std.specs.List.{AllByRecursion, list_all}
 use Rattle.std.proofs.lemmas.Bool.{and_from, and_parts, cases_Bool, both_ways, eq-eqb, eqb-true}
-use Rattle.std.proofs.lemmas.List.Elements.{All-from_recursion, recursion_from_All, All-append}
+use Rattle.std.proofs.lemmas.List.Elements.{All-from_recursion, recursion_from_All}
 use Rattle.cnf.specs.Literal.{Literal, Assignment}
-use Rattle.cnf.specs.Clause.{has_repeat, clause_value, Satisfies}
+use Rattle.cnf.specs.Clause.{clause_value, Satisfies}
 use Rattle.cnf.specs.Problem.{Problem, IsFeasible, cost_under}
 use Rattle.cnf.specs.Bits.{assignment_of}
 use Rattle.wcnf.specs.declared.faults.FaultKind.{FaultKind}
 use Rattle.wcnf.specs.Reading.{reading_of, ReadingIsRight}
 use Rattle.adder.specs.declared.cells.Profile.{Profile}
-use Rattle.adder.specs.Network.{adders_as}
-use Rattle.bound.specs.Bound.{kept, hard_cnf, comparator_of, bound_as, fixed_clauses}
-use Rattle.bound.specs.Bound.{relaxed_clauses, cell_clauses}
-use Rattle.bound.proofs.Laws.{comparator_once, kept_once}
+use Rattle.bound.specs.Bound.{hard_cnf, bound_as}
+use Rattle.bound.proofs.Laws.{bound_once, kept_once}
 use Rattle.lrat_result.specs.Result.{Said, OptimumFound, Unsatisfiable, Satisfiable, Unknown}
 use Rattle.lrat_result.specs.Result.{Report, report_of}
 use Rattle.lrat_check.specs.Checks.{ChecksSaid, ChecksAs}
@@ -27,31 +25,8 @@ use Rattle.lrat_check.specs.declared.verdicts.Verdict.{Verdict}
 use Rattle.lrat_check.specs.declared.verdicts.Verdict.TheVariants.{Yes, No}
 use Rattle.lrat_check.specs.Verdict.{proof_verdict, bits_fault, said_verdict, verdict_as}
 use Rattle.lrat_check.specs.Verdict.{CheckVerdictIsRight}
-use Rattle.lrat_check.proofs.Proofs.{NoneRepeatsIn, proof_verdict-Yes}
+use Rattle.lrat_check.proofs.Proofs.{proof_verdict-Yes}
 use Rattle.lrat_result.proofs.Laws.{says_from_report, report_from_says}
-
--- the formulas that are bounded have no repeats
-pub bound_singles : (profile : Profile) (p : Problem) (k : ℕ)
-    → NoneRepeatsIn (bound_as profile p k).clauses
-bound_singles profile p k =
-    join (fixed_clauses profile p) (comparator_of (adders_as profile p).outputs k)
-    (join (hard ++ relaxed) cells
-    (join hard relaxed (kept_once p.hard) (kept_once (relaxed_clauses profile p)))
-    (kept_once (flat_map cell_clauses (adders_as profile p).cells)))
-    (comparator_once (adders_as profile p).outputs k)
-  where
-    join : (xs ys : List (List Literal)) → NoneRepeatsIn xs → NoneRepeatsIn ys
-        → NoneRepeatsIn (xs ++ ys)
-    join xs ys h i = All-append (λ c. has_repeat c ≡ false) xs ys h i
-
-    hard : List (List Literal)
-    hard = kept p.hard
-
-    relaxed : List (List Literal)
-    relaxed = kept (relaxed_clauses profile p)
-
-    cells : List (List Literal)
-    cells = kept (flat_map cell_clauses (adders_as profile p).cells)
 
 -- the bits
 pub feasible_from : (t : Assignment) (cs : List (List Literal))
@@ -140,7 +115,7 @@ module _ (profile : Profile) (p : Problem) (r : Report) (proof : List ℕ) where
           h.1.0,
           h.1.1,
           h.1.2,
-          (proof_verdict-Yes (bound_as profile p c).clauses (bound_singles profile p c) proof).0
+          (proof_verdict-Yes (bound_as profile p c).clauses (bound_once profile p c) proof).0
               (sym (optimum_goes c bits u h.0) ∙ e),
         )
         | inr h ↦ let z = optimum_fault c bits (No h.0 h.1) u h.2 in absurd (cc)
@@ -159,7 +134,7 @@ module _ (profile : Profile) (p : Problem) (r : Report) (proof : List ℕ) where
   said_from (OptimumFound c bits) u h =
       elim (bits_answer p r c bits) [
         | inl k ↦ optimum_goes c bits u k.0
-            ∙ (proof_verdict-Yes (bound_as profile p c).clauses (bound_singles profile p c) proof).1
+            ∙ (proof_verdict-Yes (bound_as profile p c).clauses (bound_once profile p c) proof).1
             h.3
         | inr k ↦ absurd (k.3 (h.0, h.1, h.2))
       ]

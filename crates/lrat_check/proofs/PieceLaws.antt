@@ -18,14 +18,13 @@ use Rattle.lrat_check.specs.declared.verdicts.Verdict.{Verdict}
 use Rattle.lrat_check.specs.declared.verdicts.Verdict.TheVariants.{Yes}
 use Rattle.lrat_check.specs.Checks.{IsProofOver}
 use Rattle.lrat_check.proofs.Whole.{yes_is_proof}
-use Rattle.lrat_check.specs.declared.reading.Reading.{Reading}
 use Rattle.lrat_live.specs.Listed.{listed_from}
 use Rattle.lrat_check.specs.Machine.{MachineState, verdict_after}
 use Rattle.lrat_check.specs.Verdict.{verdict_on, proof_verdict}
 use Rattle.lrat_check.proofs.Base.{live_of-start}
 use Rattle.lrat_check.proofs.Judged.{state_of}
-use Rattle.lrat_check.specs.Pieces.{IsOpen, IsRefused, Holds, Judges, HasTaken, CheckerState}
-use Rattle.lrat_check.specs.Pieces.{Stands, IsEnded, EndsInFeed, JudgesLines}
+use Rattle.lrat_check.specs.Pieces.{ReadingState, IsOpen, IsRefused, Holds, Judges, HasTaken}
+use Rattle.lrat_check.specs.Pieces.{CheckerState, Stands, IsEnded, EndsInFeed, JudgesLines}
 
 abbrev is_feed : ℕ → Bool
 is_feed b = b == 10
@@ -45,9 +44,9 @@ regroup : (d r t more : List ℕ) → d ++ ((r ++ t) ++ more) ≡ ((d ++ r) ++ t
 regroup d r t more = simp append_assoc
 
 -- lines more, the last of which is ended
-module _ (old new : Reading) (formula : List (List Literal)) (bytes text : List ℕ)
+module _ (old new : ReadingState) (formula : List (List Literal)) (bytes text : List ℕ)
     (o : IsOpen old formula bytes) (ended : EndsInFeed text)
-    (empty : (new.rest).items ≡ []) where
+    (empty : new.rest ≡ []) where
   abbrev whole : List ℕ
   whole = bytes ++ text
 
@@ -60,14 +59,14 @@ module _ (old new : Reading) (formula : List (List Literal)) (bytes text : List 
       )
 
   from_old : (more : List ℕ)
-      → verdict_after old.machine (token_lines (((old.rest).items ++ text) ++ more))
+      → verdict_after old.machine (token_lines ((old.rest ++ text) ++ more))
       ≡ proof_verdict formula (whole ++ more)
   from_old more =
-      o.resumes (((old.rest).items ++ text) ++ more)
-      ∙ ap (proof_verdict formula) (regroup o.done (old.rest).items text more)
+      o.resumes ((old.rest ++ text) ++ more)
+      ∙ ap (proof_verdict formula) (regroup o.done old.rest text more)
       ∙ ap (λ x. proof_verdict formula ((x ++ text) ++ more)) (sym o.split)
 
-  still_open : JudgesLines old.machine ((old.rest).items ++ text) new.machine None
+  still_open : JudgesLines old.machine (old.rest ++ text) new.machine None
       → IsOpen new formula whole
   still_open j = record {
     done = whole;
@@ -78,7 +77,7 @@ module _ (old new : Reading) (formula : List (List Literal)) (bytes text : List 
   }
 
   now_refused : (v : Verdict)
-      → JudgesLines old.machine ((old.rest).items ++ text) new.machine (Some v)
+      → JudgesLines old.machine (old.rest ++ text) new.machine (Some v)
       → IsRefused v formula whole
   now_refused v j = record {
     done = whole;
@@ -91,16 +90,16 @@ module _ (old new : Reading) (formula : List (List Literal)) (bytes text : List 
     stays = λ more. sym (from_old more) ∙ j.1 more;
   }
 
-pub lines_more : (old new : Reading) (text : List ℕ) → old.refused ≡ None → EndsInFeed text
-    → (new.rest).items ≡ []
-    → JudgesLines old.machine ((old.rest).items ++ text) new.machine new.refused
+pub lines_more : (old new : ReadingState) (text : List ℕ) → old.refused ≡ None → EndsInFeed text
+    → new.rest ≡ []
+    → JudgesLines old.machine (old.rest ++ text) new.machine new.refused
     → (formula : List (List Literal)) (bytes : List ℕ) → Holds old formula bytes
     → Holds new formula (bytes ++ text)
 lines_more old new text none ended empty j formula bytes h = record {
   open_end = λ e. still_open old new formula bytes text (h.open_end none) ended empty
-      (subst (JudgesLines old.machine ((old.rest).items ++ text) new.machine) e j);
+      (subst (JudgesLines old.machine (old.rest ++ text) new.machine) e j);
   refused = λ v e. now_refused old new formula bytes text (h.open_end none) ended empty v
-      (subst (JudgesLines old.machine ((old.rest).items ++ text) new.machine) e j);
+      (subst (JudgesLines old.machine (old.rest ++ text) new.machine) e j);
 }
 
 -- the verdict where a line and its line feed come next
@@ -126,19 +125,19 @@ judges_line old new x line None h e j = λ more. first_of old x line more h e �
 judges_line old new x line (Some v) h e j =
     (j.0, λ more. first_of old x line more h e ∙ j.1 (token_lines more))
 
-pub line_more : (old new : Reading) (end line : List ℕ) → old.refused ≡ None → IsNoFeed end
-    → line ≡ strip_carriage_return ((old.rest).items ++ end)
-    → (new.rest).items ≡ [] → Judges old.machine line new.machine new.refused
+pub line_more : (old new : ReadingState) (end line : List ℕ) → old.refused ≡ None → IsNoFeed end
+    → line ≡ strip_carriage_return (old.rest ++ end)
+    → new.rest ≡ [] → Judges old.machine line new.machine new.refused
     → (formula : List (List Literal)) (bytes : List ℕ) → Holds old formula bytes
     → Holds new formula (bytes ++ end ++ 10 ∷ [])
 line_more old new end line none no_feed same empty j formula bytes h =
-    let no_feeds : IsNoFeed ((old.rest).items ++ end) =
-    All-append (λ b. (b == 10) ≡ false) (old.rest).items end
+    let no_feeds : IsNoFeed (old.rest ++ end) =
+    All-append (λ b. (b == 10) ≡ false) old.rest end
     ((h.open_end none).unfinished) no_feed in
-    let judged : JudgesLines old.machine ((old.rest).items ++ (end ++ 10 ∷ [])) new.machine
+    let judged : JudgesLines old.machine (old.rest ++ (end ++ 10 ∷ [])) new.machine
     new.refused = subst (λ x. JudgesLines old.machine x new.machine new.refused)
-    (append_assoc (old.rest).items end (10 ∷ []))
-    (judges_line old.machine new.machine ((old.rest).items ++ end) line new.refused no_feeds same j)
+    (append_assoc old.rest end (10 ∷ []))
+    (judges_line old.machine new.machine (old.rest ++ end) line new.refused no_feeds same j)
     in
     subst (Holds new formula) (sym (append_assoc bytes end (10 ∷ [])))
     (lines_more old new (end ++ 10 ∷ []) none (end, refl) empty judged formula bytes h)
@@ -168,7 +167,8 @@ taken_lengths left end line rest f e g =
     omega (arith, f.within)
 
 -- what is taken in turn is taken together
-pub taken_on : (old mid new : Reading) (piece left text rest : List ℕ) → HasTaken old mid piece left
+pub taken_on : (old mid new : ReadingState) (piece left text rest : List ℕ)
+    → HasTaken old mid piece left
     → left ≡ text ++ rest
     → ((formula : List (List Literal)) (bytes : List ℕ) → Holds mid formula bytes
     → Holds new formula (bytes ++ text))
@@ -181,7 +181,7 @@ taken_on old mid new piece left text rest t split next = record {
       (next formula (bytes ++ t.taken) (t.holds formula bytes h));
 }
 
-pub taken_more : (old mid new : Reading) (piece left : List ℕ) (end : ℕ) (line rest : List ℕ)
+pub taken_more : (old mid new : ReadingState) (piece left : List ℕ) (end : ℕ) (line rest : List ℕ)
     → HasTaken old mid piece left → IsFirstFeed left end
     → line ≡ take end left → rest ≡ take (length left - (end + 1)) (drop (end + 1) left)
     → ((formula : List (List Literal)) (bytes : List ℕ) → Holds mid formula bytes
@@ -205,7 +205,7 @@ batch_lengths left count rest le g =
     omega (arith, size, le)
 
 -- the lines that were read together
-pub taken_batch : (old mid new : Reading) (piece left : List ℕ) (count : ℕ) (rest : List ℕ)
+pub taken_batch : (old mid new : ReadingState) (piece left : List ℕ) (count : ℕ) (rest : List ℕ)
     → HasTaken old mid piece left
     → rest ≡ take (length left - count) (drop count left)
     → ((formula : List (List Literal)) (bytes : List ℕ) → Holds mid formula bytes
@@ -216,7 +216,7 @@ taken_batch old mid new piece left count rest t g next =
     (sym (take-append-drop count left)
     ∙ ap (λ x. take count left ++ x) (sym (g ∙ take_rest left count))) next
 
-pub taken_none : (old mid new : Reading) (piece left : List ℕ) (count : ℕ)
+pub taken_none : (old mid new : ReadingState) (piece left : List ℕ) (count : ℕ)
     → HasTaken old mid piece left → count ≡ 0
     → ((formula : List (List Literal)) (bytes : List ℕ) → Holds mid formula bytes
     → Holds new formula (bytes ++ take count left))
@@ -225,10 +225,10 @@ taken_none old mid new piece left count t zero next =
     taken_on old mid new piece left (take count left) left t
     (sym (ap (λ k. take k left ++ left) zero)) next
 
-pub rest_kept : (old mid new : Reading) (piece left : List ℕ) → HasTaken old mid piece left
+pub rest_kept : (old mid new : ReadingState) (piece left : List ℕ) → HasTaken old mid piece left
     → mid.refused ≡ None → IsNoFeed left
     → new.machine ≡ mid.machine → new.refused ≡ mid.refused
-    → (new.rest).items ≡ (mid.rest).items ++ left
+    → new.rest ≡ mid.rest ++ left
     → (formula : List (List Literal)) (bytes : List ℕ) → Holds old formula bytes
     → Holds new formula (bytes ++ piece)
 rest_kept old mid new piece left t none no_feed machine refused rest formula bytes h =
@@ -238,19 +238,19 @@ rest_kept old mid new piece left t none no_feed machine refused rest formula byt
       open_end = λ e. record {
         done = o.done;
         split = ap (λ x. bytes ++ x) t.split ∙ sym (append_assoc bytes t.taken left)
-            ∙ ap (λ x. x ++ left) o.split ∙ append_assoc o.done (mid.rest).items left
+            ∙ ap (λ x. x ++ left) o.split ∙ append_assoc o.done mid.rest left
             ∙ ap (λ x. o.done ++ x) (sym rest);
         ended = o.ended;
         unfinished =
             subst IsNoFeed (sym rest)
-            (All-append (λ b. (b == 10) ≡ false) (mid.rest).items left o.unfinished no_feed);
+            (All-append (λ b. (b == 10) ≡ false) mid.rest left o.unfinished no_feed);
         resumes = λ more. ap (λ (x : MachineState). verdict_after x (token_lines more)) machine
             ∙ o.resumes more;
       };
       refused = λ v e. absurd (let two : None ≡ Some v = sym none ∙ sym refused ∙ e in cc);
     }
 
-pub rest_dropped : (old new : Reading) (piece left : List ℕ) → HasTaken old new piece left
+pub rest_dropped : (old new : ReadingState) (piece left : List ℕ) → HasTaken old new piece left
     → (new.refused ≡ None → ⊥)
     → (formula : List (List Literal)) (bytes : List ℕ) → Holds old formula bytes
     → Holds new formula (bytes ++ piece)
@@ -265,7 +265,7 @@ rest_dropped old new piece left t some formula bytes h =
     }
 
 -- what comes after a fault is dropped
-pub holds_more : (r : Reading) (formula : List (List Literal)) (bytes more : List ℕ)
+pub holds_more : (r : ReadingState) (formula : List (List Literal)) (bytes more : List ℕ)
     → (r.refused ≡ None → ⊥) → Holds r formula bytes → Holds r formula (bytes ++ more)
 holds_more r formula bytes more some h = record {
   open_end = λ e. absurd (some e);
@@ -280,8 +280,8 @@ pub some_from_true : (o : Option Verdict) → is_some o ≡ true → o ≡ None 
 some_from_true o e none = let t : false ≡ true = sym (ap is_some none) ∙ e in cc
 
 -- the start
-pub starts : (r : Reading) (formula : List (List Literal))
-    → r.machine ≡ state_of (listed_from 1 formula) (length formula) false 0 → (r.rest).items ≡ []
+pub starts : (r : ReadingState) (formula : List (List Literal))
+    → r.machine ≡ state_of (listed_from 1 formula) (length formula) false 0 → r.rest ≡ []
     → r.refused ≡ None → Holds r formula []
 starts r formula e empty none = record {
   open_end = λ n. record {
@@ -296,37 +296,37 @@ starts r formula e empty none = record {
 }
 
 -- the end
-pub ends_refused : (r : Reading) (v : Verdict) → r.refused ≡ Some v
+pub ends_refused : (r : ReadingState) (v : Verdict) → r.refused ≡ Some v
     → (formula : List (List Literal)) (bytes : List ℕ) → Holds r formula bytes
     → v ≡ proof_verdict formula bytes
 ends_refused r v e formula bytes h =
     let w = h.refused v e in
     sym (w.stays w.after) ∙ ap (proof_verdict formula) (sym w.split)
 
-pub ends_empty : (r : Reading) → r.refused ≡ None → (r.rest).items ≡ []
+pub ends_empty : (r : ReadingState) → r.refused ≡ None → r.rest ≡ []
     → (formula : List (List Literal)) (bytes : List ℕ) → Holds r formula bytes
     → verdict_after r.machine [] ≡ proof_verdict formula bytes
 ends_empty r none empty formula bytes h =
     let o = h.open_end none in
     o.resumes [] ∙ ap (proof_verdict formula) (ap (λ x. o.done ++ x) (sym empty) ∙ sym o.split)
 
-module _ (r : Reading) (none : r.refused ≡ None) (some : 0 < length (r.rest).items)
+module _ (r : ReadingState) (none : r.refused ≡ None) (some : 0 < length r.rest)
     (formula : List (List Literal)) (bytes : List ℕ) (h : Holds r formula bytes) where
-  last_line : verdict_after r.machine (tokens_of (r.rest).items ∷ []) ≡ proof_verdict formula bytes
+  last_line : verdict_after r.machine (tokens_of r.rest ∷ []) ≡ proof_verdict formula bytes
   last_line =
       let o = h.open_end none in
-      ap (verdict_after r.machine) (sym (tokens-last (r.rest).items some o.unfinished))
-      ∙ o.resumes (r.rest).items ∙ ap (proof_verdict formula) (sym o.split)
+      ap (verdict_after r.machine) (sym (tokens-last r.rest some o.unfinished))
+      ∙ o.resumes r.rest ∙ ap (proof_verdict formula) (sym o.split)
 
-  pub ends_open : (new : MachineState) → Judges r.machine (r.rest).items new None
+  pub ends_open : (new : MachineState) → Judges r.machine r.rest new None
       → verdict_after new [] ≡ proof_verdict formula bytes
   ends_open new j = sym (j []) ∙ last_line
 
-  pub ends_fault : (new : MachineState) (v : Verdict) → Judges r.machine (r.rest).items new (Some v)
+  pub ends_fault : (new : MachineState) (v : Verdict) → Judges r.machine r.rest new (Some v)
       → v ≡ proof_verdict formula bytes
   ends_fault new v j = sym (j.1 []) ∙ last_line
 
-pub refused_stays : (r : Reading) (o : Option Verdict) → o ≡ r.refused
+pub refused_stays : (r : ReadingState) (o : Option Verdict) → o ≡ r.refused
     → (formula : List (List Literal)) (bytes more : List ℕ) → Holds r formula bytes
     → IfSome o (λ v. v ≡ proof_verdict formula (bytes ++ more))
 refused_stays r None e formula bytes more h = tt

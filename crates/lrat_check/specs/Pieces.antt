@@ -20,13 +20,26 @@ EndsInFeed bytes = (front : List ℕ) × (bytes ≡ front ++ 10 ∷ [])
 abbrev pub IsEnded : List ℕ → Type 0
 IsEnded bytes = (bytes ≡ []) ⊎ EndsInFeed bytes
 
+-- what the pieces so far leave
+pub record ReadingState : Type 0 where
+  -- after the lines that a line feed has ended, up to the first fault
+  pub machine : MachineState
+  -- what follows the last line feed
+  pub rest : List ℕ
+  -- the first fault
+  pub refused : Option Verdict
+
+-- what is seen of a reading: the lines that were read together last are not
+abbrev pub reading_state : Reading → ReadingState
+reading_state r = record { machine = r.machine; rest = (r.rest).items; refused = r.refused }
+
 -- no ended line of the bytes is faulty: the rest is what follows the last of them, and from the
 -- machine the verdict follows, whatever comes
-pub record IsOpen (r : Reading) (formula : List (List Literal)) (bytes : List ℕ) : Type 0 where
+pub record IsOpen (r : ReadingState) (formula : List (List Literal)) (bytes : List ℕ) : Type 0 where
   pub done : List ℕ
-  pub split : bytes ≡ done ++ (r.rest).items
+  pub split : bytes ≡ done ++ r.rest
   pub ended : IsEnded done
-  pub unfinished : IsNoFeed (r.rest).items
+  pub unfinished : IsNoFeed r.rest
   pub resumes : (more : List ℕ)
       → verdict_after r.machine (token_lines more) ≡ proof_verdict formula (done ++ more)
 
@@ -42,7 +55,7 @@ pub record IsRefused (v : Verdict) (formula : List (List Literal)) (bytes : List
   pub stays : (more : List ℕ) → proof_verdict formula (done ++ more) ≡ v
 
 -- what was read stands for these bytes over the clauses
-pub record Holds (r : Reading) (formula : List (List Literal)) (bytes : List ℕ) : Type 0 where
+pub record Holds (r : ReadingState) (formula : List (List Literal)) (bytes : List ℕ) : Type 0 where
   pub open_end : r.refused ≡ None → IsOpen r formula bytes
   pub refused : (v : Verdict) → r.refused ≡ Some v → IsRefused v formula bytes
 
@@ -73,15 +86,17 @@ pub record HaveJudged (old : MachineState) (bytes : List ℕ) (new : MachineStat
       ≡ verdict_after new (token_lines (left_bytes ++ more))
 
 -- all but the left part of the piece was read
-pub record HasTaken (old new : Reading) (piece left : List ℕ) : Type 0 where
+pub record HasTaken (old new : ReadingState) (piece left : List ℕ) : Type 0 where
   pub taken : List ℕ
   pub split : piece ≡ taken ++ left
   pub holds : (formula : List (List Literal)) (bytes : List ℕ) → Holds old formula bytes
       → Holds new formula (bytes ++ taken)
 
 pub record CheckerState : Type 0 where
-  pub reading : Reading
+  pub reading : ReadingState
+  -- how many bytes came in
   pub fed : ℕ
+  -- memory was refused
   pub failed : Bool
 
 -- the checker stands for these bytes over the clauses

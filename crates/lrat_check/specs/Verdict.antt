@@ -2,7 +2,7 @@
 -- first fault decides.
 use Rattle.std.specs.Prelude.{◌≡◌, ℕ, zero, suc, ◌+◌, Bool, true, false, not, ◌||◌, List, []}
 use Rattle.std.specs.Prelude.{◌∷◌, ◌++◌, length, map, filter, Option, Some, None, Result, Ok, Err}
-use Rattle.std.specs.Prelude.{is_some, nat_le, ◌==◌, if◌then◌else◌, ◌↔◌, All}
+use Rattle.std.specs.Prelude.{is_some, nat_le, ◌==◌, if◌then◌else◌, ◌↔◌}
 use Rattle.std.specs.List.{list_any, list_all}
 use Rattle.cnf.specs.Literal.{Literal, negation}
 use Rattle.cnf.specs.Clause.{clause_value, contains_literal, without_literal, has_repeat}
@@ -21,7 +21,7 @@ use Rattle.lrat_read.specs.Form.{Parsed, Addition, Deletion, Malformed, line_of,
 use Rattle.lrat_live.specs.Listed.{same_ids}
 use Rattle.lrat_result.specs.Result.{Said, OptimumFound, Unsatisfiable, Satisfiable, Unknown}
 use Rattle.lrat_result.specs.Result.{Report, report_of}
-use Rattle.lrat_check.specs.Checks.{IsProofOver, ChecksAs}
+use Rattle.lrat_check.specs.Checks.{ChecksAs}
 use Rattle.lrat_check.specs.declared.verdicts.Cause.{Cause}
 use Rattle.lrat_check.specs.declared.verdicts.Cause.TheVariants.{Text, ResultForm, BitsLength}
 use Rattle.lrat_check.specs.declared.verdicts.Cause.TheVariants.{NotFeasible, CostWrong}
@@ -200,12 +200,7 @@ verdict_as profile text result proof = read (reading_of text)
 abbrev pub check_verdict : List ℕ → List ℕ → List ℕ → Verdict
 check_verdict text result proof = verdict_as One text result proof
 
--- the laws that tie verdicts to what a certificate is
-abbrev pub ProofVerdictIsRight : Type 0
-ProofVerdictIsRight =
-    (formula : List (List Literal)) (bytes : List ℕ) → All (λ c. has_repeat c ≡ false) formula
-    → (proof_verdict formula bytes ≡ Yes) ↔ IsProofOver formula bytes
-
+-- the law that ties the verdict to what is checked
 abbrev pub CheckVerdictIsRight : Type 0
 CheckVerdictIsRight =
     (profile : Profile) (text result proof : List ℕ) → (verdict_as profile text result proof ≡ Yes)

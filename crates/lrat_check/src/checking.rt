@@ -59,8 +59,7 @@ pub fn check(alloc: Global, text: &[u8], answer: &[u8], proof: &[u8]) -> Result<
     check_as(alloc, text, answer, proof, Profile::One)
 }
 
-/// As `check`, where the formula for a cost below the told one relaxes soft clauses as `profile`
-/// says.
+/// As `check`, where the formula for a cost below the told one is that of `profile`.
 pub fn check_as(
     alloc: Global,
     text: &[u8],
@@ -103,8 +102,7 @@ pub fn check_from<R: Read>(
     check_from_as(alloc, text, answer, proof, Profile::One)
 }
 
-/// As `check_from`, where the formula for a cost below the told one relaxes soft clauses as
-/// `profile` says.
+/// As `check_from`, where the formula for a cost below the told one is that of `profile`.
 pub fn check_from_as<R: Read>(
     alloc: Global,
     text: &[u8],

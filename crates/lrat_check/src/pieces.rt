@@ -29,11 +29,15 @@ pub struct Checker {
 
 impl Model for Checker {
     ghost use Rattle.std.specs.Prelude.{◌≡◌, ◌+◌, ◌≤◌, true, None, length};
-    ghost use Rattle.lrat_check.specs.Pieces.{CheckerState};
+    ghost use Rattle.lrat_check.specs.Pieces.{CheckerState, reading_state};
 
     ghost Value = { CheckerState };
 
-    ghost view = { λ c. record { reading = c.reading; fed = c.fed; failed = c.failed } };
+    ghost view = { λ c. record {
+      reading = reading_state c.reading;
+      fed = c.fed;
+      failed = c.failed;
+    } };
 
     ghost invariant = { λ c. (((c.reading).machine).lines + length ((c.reading).rest).items ≤ c.fed)
         × (c.failed ≡ true → (c.reading).refused ≡ None) };
@@ -110,12 +114,13 @@ impl Checker {
     }
 
     /// The fault of the first faulty line that a line feed has ended, where there is one. It is the
-    /// verdict whatever comes.
+    /// verdict whatever comes. After refused memory there is none.
     pub fn refused(&self) -> Option<Verdict>
         ensures refused { result ≡ (self.now.reading).refused }
         ensures stays { IfSome result
             (λ v. (formula : List (List Literal)) (bytes more : List ℕ)
             → Stands self.now formula bytes → v ≡ proof_verdict formula (bytes ++ more)) }
+        ensures failed { self.now.failed ≡ true → result ≡ None }
     {
         self.reading.refused
     }

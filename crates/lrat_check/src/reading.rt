@@ -10,7 +10,7 @@ ghost use Rattle.cnf.specs.Literal.{Literal};
 ghost use Rattle.text.specs.Text.{IsNoFeed, tokens_of};
 ghost use Rattle.lrat_read.specs.Batch.{AreRead};
 ghost use Rattle.lrat_read.specs.Reader.{IsReadAs};
-ghost use Rattle.lrat_check.specs.Pieces.{Holds, Judges, JudgesLines};
+ghost use Rattle.lrat_check.specs.Pieces.{Holds, Judges, JudgesLines, reading_state};
 ghost use Rattle.lrat_check.specs.Verdict.{proof_verdict};
 
 use crate::machine::Machine;
@@ -84,7 +84,8 @@ impl Reading {
     pub fn take(&mut self, piece: &[u8]) -> Result<(), AllocError>
         requires { self.old.machine.lines + length self.old.rest.items + length piece.now < 2 ^ 64 }
         ensures holds { OnOk result ((formula : List (List Literal)) (bytes : List ℕ)
-            → Holds self.old formula bytes → Holds self.new formula (bytes ++ piece.now)) }
+            → Holds (reading_state self.old) formula bytes
+            → Holds (reading_state self.new) formula (bytes ++ piece.now)) }
         ensures lines { self.new.machine.lines + length self.new.rest.items ≤ self.old.machine.lines
             + length
             self.old.rest.items + length piece.now }
@@ -117,8 +118,8 @@ impl Reading {
         requires room { self.old.machine.lines + length text.now < 2 ^ 64 }
         ensures within { IfOk result (λ count. count ≤ length text.now) }
         ensures holds { IfOk result (λ count. (formula : List (List Literal)) (bytes : List ℕ)
-            → Holds self.old formula bytes
-            → Holds self.new formula (bytes ++ take count text.now)) }
+            → Holds (reading_state self.old) formula bytes
+            → Holds (reading_state self.new) formula (bytes ++ take count text.now)) }
         ensures open { IfOk result (λ count. count ≡ 0 → self.new.refused ≡ None) }
         ensures rest { self.new.rest ≡ self.old.rest }
         ensures lines { IfOk result (λ count.
@@ -146,8 +147,8 @@ impl Reading {
         requires open { self.old.refused ≡ None }
         requires no_feed { IsNoFeed end.now }
         ensures holds { OnOk result ((formula : List (List Literal)) (bytes : List ℕ)
-            → Holds self.old formula bytes
-            → Holds self.new formula (bytes ++ end.now ++ 10 ∷ [])) }
+            → Holds (reading_state self.old) formula bytes
+            → Holds (reading_state self.new) formula (bytes ++ end.now ++ 10 ∷ [])) }
         ensures lines { self.new.machine.lines + length self.new.rest.items ≤ self.old.machine.lines
             + length
             self.old.rest.items + length end.now + 1 }
@@ -166,7 +167,7 @@ impl Reading {
     pub fn end(mut self) -> Result<Verdict, AllocError>
         requires { self.machine.lines + length self.rest.items < 2 ^ 64 }
         ensures { IfOk result (λ v. (formula : List (List Literal)) (bytes : List ℕ)
-            → Holds self formula bytes → v ≡ proof_verdict formula bytes) }
+            → Holds (reading_state self) formula bytes → v ≡ proof_verdict formula bytes) }
     {
         match self.refused {
             Some(refused) => Ok(refused),

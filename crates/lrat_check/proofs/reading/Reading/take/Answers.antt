@@ -1,5 +1,6 @@
 -- What the piece leaves: after a line of it, after its last bytes, and after a fault.
 use Rattle.std.proofs.Common.{◌≡◌, length, ap, refl, arith}
+use Rattle.lrat_check.specs.Pieces.{reading_state}
 use Rattle.lrat_check.proofs.PieceLaws.{taken_more, taken_lengths, rest_kept, rest_dropped}
 use Rattle.lrat_check.proofs.PieceLaws.{taken_batch, taken_none, batch_lengths, some_from_test}
 use Rattle.lrat_check.proofs.reading.Reading.take.Goals as goal
@@ -7,8 +8,9 @@ use Rattle.lrat_check.proofs.reading.Reading.take.Goals as goal
 pub loop-left-preserved-then-count-gt0 : goal.loop-left-preserved-then-count-gt0
 loop-left-preserved-then-count-gt0 c = record {
   taken =
-      taken_batch c.args.self.now c.loop-left.self c.take_batch.new.self c.args.piece.now
-      c.loop-left.left.now c.in_ok-count.count _ c.loop-left.invariant.taken refl
+      taken_batch (reading_state c.args.self.now) (reading_state c.loop-left.self)
+      (reading_state c.take_batch.new.self) c.args.piece.now c.loop-left.left.now
+      c.in_ok-count.count _ c.loop-left.invariant.taken refl
       c.in_ok-count.ensures.holds;
   room =
       (let n = batch_lengths c.loop-left.left.now c.in_ok-count.count _
@@ -22,11 +24,13 @@ loop-left-preserved c =
     let none : c.in_ok-count.count ≡ 0 = omega (arith, c.if-count-gt0.false) in
     record {
       taken =
-          taken_more c.args.self.now c.take_batch.new.self c.end_line.new.self c.args.piece.now
+          taken_more (reading_state c.args.self.now) (reading_state c.take_batch.new.self)
+          (reading_state c.end_line.new.self) c.args.piece.now
           c.loop-left.left.now c.in-Some.end _ _
-          (taken_none c.args.self.now c.loop-left.self c.take_batch.new.self c.args.piece.now
-          c.loop-left.left.now c.in_ok-count.count c.loop-left.invariant.taken none
-          c.in_ok-count.ensures.holds) c.in-Some.ensures refl refl
+          (taken_none (reading_state c.args.self.now) (reading_state c.loop-left.self)
+          (reading_state c.take_batch.new.self) c.args.piece.now c.loop-left.left.now
+          c.in_ok-count.count c.loop-left.invariant.taken none c.in_ok-count.ensures.holds)
+          c.in-Some.ensures refl refl
           c.in_ok-end_line-in-Some.ensures.holds;
       room =
           (let n = taken_lengths c.loop-left.left.now c.in-Some.end _ _ c.in-Some.ensures refl refl
@@ -46,15 +50,17 @@ loop-left-preserved c =
 pub returns-in-None-clause-holds : goal.returns-in-None-clause-holds
 returns-in-None-clause-holds c =
     let none : c.in_ok-count.count ≡ 0 = omega (arith, c.if-count-gt0.false) in
-    rest_kept c.args.self.now c.take_batch.new.self _ c.args.piece.now c.loop-left.left.now
-    (taken_none c.args.self.now c.loop-left.self c.take_batch.new.self c.args.piece.now
-    c.loop-left.left.now c.in_ok-count.count c.loop-left.invariant.taken none
-    c.in_ok-count.ensures.holds) (c.in_ok-count.ensures.open none) c.in-None.ensures refl refl
+    rest_kept (reading_state c.args.self.now) (reading_state c.take_batch.new.self) _
+    c.args.piece.now c.loop-left.left.now
+    (taken_none (reading_state c.args.self.now) (reading_state c.loop-left.self)
+    (reading_state c.take_batch.new.self) c.args.piece.now c.loop-left.left.now
+    c.in_ok-count.count c.loop-left.invariant.taken none c.in_ok-count.ensures.holds)
+    (c.in_ok-count.ensures.open none) c.in-None.ensures refl refl
     c.in_ok-extend_from_slice-in-None.ensures.items
 
 pub returns-clause-holds : goal.returns-clause-holds
 returns-clause-holds c =
-    rest_dropped c.args.self.now c.loop-left.self c.args.piece.now c.loop-left.left.now
-    c.loop-left.invariant.taken
+    rest_dropped (reading_state c.args.self.now) (reading_state c.loop-left.self)
+    c.args.piece.now c.loop-left.left.now c.loop-left.invariant.taken
     (some_from_test c.loop-left.self.refused c.is_none.result c.is_none.ensures
     c.loop-left-test.false)

@@ -1,11 +1,11 @@
 -- What is left of the piece, and what the lines before it leave.
 use Rattle.std.proofs.Common.{◌+◌, ◌≤◌, length}
-use Rattle.lrat_check.specs.Pieces.{HasTaken}
+use Rattle.lrat_check.specs.Pieces.{HasTaken, reading_state}
 use Rattle.lrat_check.proofs.reading.Reading.take.Given as goal
 
 abbrev pub invariant-loop-left : goal.invariant-loop-left
 invariant-loop-left l = record {
-  taken : HasTaken l.fn.self l.self l.piece l.left;
+  taken : HasTaken (reading_state l.fn.self) (reading_state l.self) l.piece l.left;
   room : ((l.self).machine).lines + length ((l.self).rest).items + length l.left
       ≤ ((l.fn.self).machine).lines + length ((l.fn.self).rest).items + length l.piece;
 }

@@ -4,7 +4,7 @@ use Rattle.std.proofs.lemmas.List.{length-take-le}
 use Rattle.wcnf.proofs.Laws.{empty_from_test}
 use Rattle.lrat_read.specs.Blanks.{no_tokens}
 use Rattle.lrat_check.specs.Machine.{MachineState}
-use Rattle.lrat_check.specs.Pieces.{JudgesLines}
+use Rattle.lrat_check.specs.Pieces.{JudgesLines, reading_state}
 use Rattle.lrat_check.proofs.PieceLaws.{lines_more}
 use Rattle.lrat_check.proofs.ReadingLaws.{lines_passed, lines_within, read_ends}
 use Rattle.lrat_check.proofs.reading.Reading.take_batch.Goals as goal
@@ -17,22 +17,22 @@ pass_over-requires c =
 pub returns-then-blank-gt0-clause-holds : goal.returns-then-blank-gt0-clause-holds
 returns-then-blank-gt0-clause-holds c =
     let blank = c.blank_lines-blank in
-    let old = c.args.self.now in
+    let old = reading_state c.args.self.now in
     let text = take blank.result.bytes c.args.text.now in
     let size = length-take-le blank.result.bytes c.args.text.now blank.ensures.within in
     let empty =
-    empty_from_test (old.rest).items c.as_slice.result.now c.is_empty.result
+    empty_from_test old.rest c.as_slice.result.now c.is_empty.result
     c.as_slice.ensures.value c.is_empty.ensures c.if-not-is_empty.false in
     let passed : JudgesLines old.machine text c.pass_over.new.self None =
     subst (λ m. JudgesLines old.machine text m None) (sym c.pass_over.ensures)
     (lines_passed old.machine blank.result.count text blank.ensures.read) in
-    let behind : JudgesLines old.machine ((old.rest).items ++ text) c.pass_over.new.self None =
+    let behind : JudgesLines old.machine (old.rest ++ text) c.pass_over.new.self None =
     subst (λ x. JudgesLines old.machine x c.pass_over.new.self None)
     (ap (λ x. x ++ text) (sym empty)) passed in
     lines_more old _ text c.requires.open
     (read_ends text (replicate blank.result.count no_tokens) blank.ensures.read
     (omega (arith, size, c.if-blank-gt0.true))) empty
-    (subst (JudgesLines old.machine ((old.rest).items ++ text) c.pass_over.new.self)
+    (subst (JudgesLines old.machine (old.rest ++ text) c.pass_over.new.self)
     (sym c.requires.open) behind)
 
 pub returns-then-blank-gt0-clause-lines : goal.returns-then-blank-gt0-clause-lines
@@ -65,7 +65,7 @@ returns-in_ok-self-clause-holds c =
     empty_from_test (c.args.self.now.rest).items c.as_slice.result.now c.is_empty.result
     c.as_slice.ensures.value c.is_empty.ensures c.if-not-is_empty.false in
     let text = take c.in_ok-count.count c.args.text.now in
-    lines_more c.args.self.now _ text c.requires.open
+    lines_more (reading_state c.args.self.now) _ text c.requires.open
     (read_ends text c.read.new.self c.in_ok-count.ensures.read
     (omega (arith, size, c.if-count-gt0.true))) empty
     (subst (λ x. JudgesLines c.args.self.now.machine x c.judge_batch.new.machine
