@@ -10,7 +10,7 @@ ghost use Rattle.analyze.specs.Learning.{IsAsserting, IsConflict, IsInTrailOrder
 
 use crate::collect::{collect_hints, collect_literals, greatest};
 use crate::marks::{Mark, clear, mark_clause, resolve};
-use crate::minimise::{Idea, NOWHERE, minimise};
+use crate::minimise::{Idea, NOWHERE, meet_reasons, minimise};
 use clauses::store::{CRef, Store};
 use cnf::types::Lit;
 use propagate::engine::Engine;
@@ -48,7 +48,8 @@ pub struct Analyzer {
     met: Vec<u32>,
     // By variable: what the minimisation at work knows of it, and all unknown between calls.
     ideas: Vec<Idea>,
-    // The variables that a minimisation meets, by their positions on the trail. It has room for all.
+    // The variables that a minimisation meets, by their positions on the trail; between calls,
+    // those beside what was learned. It has room for all variables.
     queue: Vec<u32>,
     // By level: the first position of a literal of it in the clause, and nowhere between calls.
     firsts: Vec<u32>,
@@ -139,6 +140,12 @@ impl Analyzer {
     {
         &self.met
     }
+
+    /// The variables of the reasons of what was learned last that its analysis did not meet, each
+    /// once.
+    pub fn beside(&self) -> &[u32] {
+        &self.queue
+    }
 }
 
 /// Learns one clause, as [`Analyzer::analyze`] does, with memory of its own for each variable.
@@ -199,6 +206,7 @@ fn learn(
     let lits = collect_literals(alloc, engine, asserting, marks, met)?;
     let hints = collect_hints(alloc, engine, conflict, marks, met)?;
     let back_level = greatest(engine, &lits.as_slice()[1..]);
+    meet_reasons(engine, store, lits.as_slice(), marks, ideas, queue);
     Ok(Learned {
         lits,
         back_level,

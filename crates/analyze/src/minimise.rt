@@ -290,6 +290,34 @@ fn find(
     settle(engine, store, marks, ideas, queue);
 }
 
+/// Lists the variables of the reasons of these literals, each once, but for such as were met and
+/// such of level 0.
+pub(crate) fn meet_reasons(
+    engine: &Engine,
+    store: &Store,
+    lits: &[Lit],
+    marks: &[Mark],
+    ideas: &mut [Idea],
+    queue: &mut Vec<u32>,
+)
+    requires fits { Fits engine.now store.now.slots }
+    requires room { engine.now.variables < length marks.now }
+{
+    queue.clear();
+    for lit in lits {
+        let variable = lit.variable().min(engine.variables());
+        if let Some(reason) = engine.reason(variable) {
+            let lits = store.lits(reason);
+            take_in(engine, lits, marks, ideas, queue);
+        }
+    }
+    for entry in queue.iter_mut() {
+        let variable = variable_of(engine, *entry);
+        note(ideas, variable, Idea::Unknown);
+        *entry = variable;
+    }
+}
+
 /// Drops the redundant literals.
 pub(crate) fn minimise(
     engine: &Engine,

@@ -46,17 +46,17 @@ module _ (given : Given) (before after : List LogLine) (n : ℕ)
 -- the clauses given, as they are seen
 abbrev pub seen_given : Problem → Given
 seen_given p =
-    given_of (map (λ g. g.1) (take p.first (p.given).items)) ++ drop p.first (p.given).items
+    given_of (map (λ g. g.1) (take p.first p.given)) ++ drop p.first p.given
 
-pub given_seen : (p : Problem) → IsProblem p → seen_given p ≡ (p.given).items
+pub given_seen : (p : Problem) → IsProblem p → seen_given p ≡ p.given
 given_seen p i =
-    ap (λ x. x ++ drop p.first (p.given).items) i.numbered
-    ∙ take-append-drop p.first (p.given).items
+    ap (λ x. x ++ drop p.first p.given) i.numbered
+    ∙ take-append-drop p.first p.given
 
 pub log_now : (p : Problem) (ls : List LogLine) → IsProblem p
-    → StaysLogOver (length (p.frozen).items) (p.given).items ls → IsLogOver (seen_given p) ls
+    → StaysLogOver (length (p.frozen).items) p.given ls → IsLogOver (seen_given p) ls
 log_now p ls i stays =
-    subst (λ g. IsLogOver g ls) (append-nil (p.given).items ∙ sym (given_seen p i))
+    subst (λ g. IsLogOver g ls) (append-nil p.given ∙ sym (given_seen p i))
     (stays [] (All-nil (λ g. greatest_variable g.1 ≤ length (p.frozen).items)))
 
 pub ended_log : (p : Problem) (ls : List LogLine) → IsProblem p → IsEnded p ls
@@ -65,12 +65,12 @@ ended_log p ls i e = accepted_log (seen_given p) ls (log_now p ls i e.stays) e.r
 
 pub not_plain : (s : Search) (p : Problem) (ls : List LogLine) (A : List Literal) → IsProblem p
     → Runs s p ls → IsQuiet (s.store).slots A
-    → IsRefutedByHints (map (λ g. g.1) (take p.first (p.given).items))
+    → IsRefutedByHints (map (λ g. g.1) (take p.first p.given))
     ⊎ Contains (map (λ g. g.1) (seen_given p)) []
     → ⊥
 not_plain s p ls A i r quiet h =
-    plain_open (s.store).slots A p.first (p.given).items r.running.recorded.plain quiet
-    (subst (λ g. IsRefutedByHints (map (λ x. x.1) (take p.first (p.given).items))
+    plain_open (s.store).slots A p.first p.given r.running.recorded.plain quiet
+    (subst (λ g. IsRefutedByHints (map (λ x. x.1) (take p.first p.given))
     ⊎ Contains (map (λ x. x.1) g) []) (given_seen p i) h)
 
 -- no line added the empty clause
@@ -109,7 +109,7 @@ answered_log s p ls b Limit i a = log_now p ls i a.runs.running.recorded.log.sta
 
 pub plain_unsat : (s : Search) (p : Problem) (ls : List LogLine) (b : BudgetState) (o : Outcome)
     → IsProblem p → IsAnswer s p ls b o
-    → IsRefutedByHints (map (λ g. g.1) (take p.first (p.given).items))
+    → IsRefutedByHints (map (λ g. g.1) (take p.first p.given))
     ⊎ Contains (map (λ g. g.1) (seen_given p)) []
     → o ≡ Unsat
 plain_unsat s p ls b (Sat bits) i a h = absurd (not_plain s p ls a.quiet.0 i a.runs a.quiet.1 h)
@@ -125,9 +125,9 @@ abbrev pub view_of : {S : Type 0} → Problem → S → Bool → SolverState S
 view_of p sink failed = record {
   formula = record {
     variables = length (p.frozen).items;
-    clauses = map (λ g. g.1) (take p.first (p.given).items);
+    clauses = map (λ g. g.1) (take p.first p.given);
   };
-  added = drop p.first (p.given).items;
+  added = drop p.first p.given;
   frozen = (p.frozen).items;
   sink = sink;
   failed = failed;
@@ -135,7 +135,7 @@ view_of p sink failed = record {
 
 module _ {S : Type 0} (lines : S → List LogLine) {p : Problem} {sink : S} {failed : Bool}
     {old : SolverState S} (i : IsProblem p) (same : view_of p sink failed ≡ old) where
-  pub seen_log : StaysLogOver (length (p.frozen).items) (p.given).items (lines sink)
+  pub seen_log : StaysLogOver (length (p.frozen).items) p.given (lines sink)
       → IsLogOver (given_to old) (lines old.sink)
   seen_log stays =
       subst (λ s. IsLogOver (given_to s) (lines s.sink)) same (log_now p (lines sink) i stays)
@@ -149,13 +149,13 @@ module _ {S : Type 0} (lines : S → List LogLine) {p : Problem} {sink : S} {fai
   seen_plain s ls b o a h = plain_unsat s p ls b o i a (subst IsPlainlyRefuted (sym same) h)
 
   pub seen_live : IsLiveRefuted (given_to old) (lines old.sink)
-      → IsLiveRefuted (p.given).items (lines sink)
+      → IsLiveRefuted p.given (lines sink)
   seen_live h =
       subst (λ g. IsLiveRefuted g (lines sink)) (given_seen p i)
       (subst (λ s. IsLiveRefuted (given_to s) (lines s.sink)) (sym same) h)
 
-  pub seen_short : (now : List LogLine) (n : ℕ) → Writes (p.given).items (lines sink) now n
+  pub seen_short : (now : List LogLine) (n : ℕ) → Writes p.given (lines sink) now n
       → All IsLearnedOrShort (lines_since (lines old.sink) now)
   seen_short now n w =
       subst (λ s. All IsLearnedOrShort (lines_since (lines s.sink) now)) same
-      (written_short (p.given).items (lines sink) now n w)
+      (written_short p.given (lines sink) now n w)

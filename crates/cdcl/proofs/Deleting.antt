@@ -151,7 +151,7 @@ deleting_more s k p ls l doomed q c d live on deletes plain same =
     record {
       recorded =
           recorded_delete slots p.stack (tables_of s) (p.frozen).items p.first
-          (p.given).items ls l q
+          p.given ls l q
           c d.recorded live long drop.1 deletes plain;
       works = d.works;
       fits = fits_local e slots (set slots q None) d.fits

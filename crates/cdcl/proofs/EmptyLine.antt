@@ -37,7 +37,7 @@ all_noted s p ls rs r full q m c at x x_in f =
 pub adds_empty : (s : Search) (p : Problem) (ls : List LogLine) (hints : List Hint) (r : ℕ)
     → Runs s p ls → depth_of (s.engine).trail ≡ 0 → IsFalseClause (s.store).slots s.engine r
     → AreHintsOf (s.store).slots (s.names).items (s.engine).trail (r ∷ []) hints
-    → AddsByHints (p.given).items ls (record { kind = Empty; clause = []; hints = hints })
+    → AddsByHints p.given ls (record { kind = Empty; clause = []; hints = hints })
 adds_empty s p ls hints r run flat wrong h =
     let T = (s.engine).trail in
     let slots = (s.store).slots in
@@ -46,7 +46,7 @@ adds_empty s p ls hints r run flat wrong h =
     let in_trail : (y : Literal) → contains_literal y h.zeros ≡ true
     → contains_literal y (literals_of T) ≡ true = λ y m. ap (contains_literal y) (sym z)
     ∙ h.within y m in
-    adds_learned slots (s.names).items (p.given).items ls
+    adds_learned slots (s.names).items p.given ls
     (record { kind = Empty; clause = []; hints = hints }) (h.units ++ r ∷ [])
     run.running.recorded.names refl h.spelled
     (record { no_repeat = refl; no_opposites = refl; small = omega arith })
@@ -57,11 +57,11 @@ adds_empty s p ls hints r run flat wrong h =
     wrong.2 m)))
 
 pub is_ended : (s : Search) (p : Problem) (ls : List LogLine) (hints : List Hint) → Runs s p ls
-    → AddsByHints (p.given).items ls (record { kind = Empty; clause = []; hints = hints })
+    → AddsByHints p.given ls (record { kind = Empty; clause = []; hints = hints })
     → IsEnded p (ls ++ record { kind = Empty; clause = []; hints = hints } ∷ [])
 is_ended s p ls hints run adds =
     let w =
-    answer_unsat (length (p.frozen).items) (p.given).items ls
+    answer_unsat (length (p.frozen).items) p.given ls
     (record { kind = Empty; clause = []; hints = hints }) run.running.recorded.log.stays
     run.running.recorded.log.unrefuted adds refl in
     record { stays = w.0; refuted = w.1 }

@@ -35,7 +35,7 @@ ready_moved s e o r same policy searches =
 
 pub runs_moved : (s : Search) (e : EngineState) (o : PolicyState) (p : Problem) (ls : List LogLine)
     → Runs s p ls → e.variables ≡ (s.engine).variables → o.variables ≡ (s.policy).variables
-    → IsRunning e (s.store).slots p.stack (tables_of s) (p.frozen).items p.first (p.given).items ls
+    → IsRunning e (s.store).slots p.stack (tables_of s) (p.frozen).items p.first p.given ls
     → Runs (moved_to s e o) p ls
 runs_moved s e o p ls r same policy running =
     record {

@@ -276,7 +276,7 @@ empty_refutes cs w = (
 pub first_runs : (s : Search) (p : Problem) (ls : List LogLine) (cs : List (List Literal))
     (slots : Slots) (additions : ℕ)
     → IsStarted slots p.stack additions s → IsLeft cs slots p.stack ls
-    → (p.given).items ≡ given_of cs → p.first ≡ length (p.given).items
+    → p.given ≡ given_of cs → p.first ≡ length p.given
     → StaysLogOver (length (p.frozen).items) (given_of cs) ls → is_refuted ls ≡ false
     → additions ≡ added_count ls → additions < 2 ^ 61
     → All (λ r. IsFree (p.frozen).items r.variable) (p.stack).removed
@@ -286,13 +286,13 @@ first_runs s p ls cs slots additions t h given firsts stays open_log counted few
     back plain =
     let n = p.stack in
     let named = first_names cs slots n ls h (s.names).items t.named t.long in
-    let all : map (λ g. g.1) (take p.first (p.given).items) ≡ cs =
-    ap (λ x. map (λ g. g.1) x) (take_all p.first (p.given).items (omega arith) ∙ given)
+    let all : map (λ g. g.1) (take p.first p.given) ≡ cs =
+    ap (λ x. map (λ g. g.1) x) (take_all p.first p.given (omega arith) ∙ given)
     ∙ clauses_given cs in
-    let whole : map (λ g. g.1) (p.given).items ≡ cs =
+    let whole : map (λ g. g.1) p.given ≡ cs =
     ap (map (λ g. g.1)) given ∙ clauses_given cs in
     let kept : additions ≡ s.kept = sym t.kept in
-    let run : IsRunning s.engine slots n (tables_of s) (p.frozen).items p.first (p.given).items ls =
+    let run : IsRunning s.engine slots n (tables_of s) (p.frozen).items p.first p.given ls =
     record {
       recorded = record {
         log =
@@ -337,7 +337,7 @@ first_runs s p ls cs slots additions t h given firsts stays open_log counted few
     } in
     record {
       running = subst
-          (λ x. IsRunning s.engine x n (tables_of s) (p.frozen).items p.first (p.given).items ls)
+          (λ x. IsRunning s.engine x n (tables_of s) (p.frozen).items p.first p.given ls)
           (sym t.slots_are) run;
       room = t.room;
       past = t.past;
@@ -367,15 +367,15 @@ left_from cs ds slots stack ls e live left = record {
   left = left;
 }
 
-pub first_clauses : (p : Problem) (cs : List (List Literal)) → (p.given).items ≡ given_of cs
-    → p.first ≡ length (p.given).items → map (λ g. g.1) (take p.first (p.given).items) ≡ cs
+pub first_clauses : (p : Problem) (cs : List (List Literal)) → p.given ≡ given_of cs
+    → p.first ≡ length p.given → map (λ g. g.1) (take p.first p.given) ≡ cs
 first_clauses p cs given firsts =
-    ap (λ x. map (λ g. g.1) x) (take_all p.first (p.given).items (omega arith) ∙ given)
+    ap (λ x. map (λ g. g.1) x) (take_all p.first p.given (omega arith) ∙ given)
     ∙ clauses_given cs
 
 pub new_problem : (f : Cnf) (p : Problem) (cs : List (List Literal)) → IsFormula f → cs ≡ f.clauses
-    → length (p.frozen).items ≡ f.variables → (p.given).items ≡ given_of cs
-    → p.first ≡ length (p.given).items
+    → length (p.frozen).items ≡ f.variables → p.given ≡ given_of cs
+    → p.first ≡ length p.given
     → length (p.frozen).items ≤ (p.stack).variables
     → (p.stack).variables ≤ length (p.frozen).items + 2 ^ 20 → IsProblem p
 new_problem f p cs h same wide given firsts low high =
@@ -383,7 +383,7 @@ new_problem f p cs h same wide given firsts low high =
     let bound : (p.stack).variables < 2 ^ 27 = omega arith in
     record {
       numbered = ap given_of (first_clauses p cs given firsts) ∙ sym
-          (take_all p.first (p.given).items (omega arith) ∙ given);
+          (take_all p.first p.given (omega arith) ∙ given);
       first_within = omega arith;
       based = (length cs, subst (λ g. IsBaseOf g (length cs)) (sym given) (based_first cs));
       few_given = few;

@@ -41,58 +41,58 @@ named_more c i k lt at one all =
     (All-push (λ (l : Literal). 0 < l.variable) (take i c) (get_or c i k) all
     (subst (λ (l : Literal). 0 < l.variable) at one))
 
-pub same_problem : (p q : Problem) → IsProblem p → (q.given).items ≡ (p.given).items
+pub same_problem : (p q : Problem) → IsProblem p → q.given ≡ p.given
     → q.stack ≡ p.stack → q.frozen ≡ p.frozen → q.first ≡ p.first → IsProblem q
 same_problem p q i given stack frozen first = record {
   numbered = subst (λ g. given_of (map (λ x. x.1) (take q.first g)) ≡ take q.first g) (sym given)
-      (subst (λ k. given_of (map (λ x. x.1) (take k (p.given).items)) ≡ take k (p.given).items)
+      (subst (λ k. given_of (map (λ x. x.1) (take k p.given)) ≡ take k p.given)
       (sym first) i.numbered);
   first_within =
       subst (λ g. q.first ≤ length g) (sym given)
-      (subst (λ k. k ≤ length (p.given).items) (sym first) i.first_within);
+      (subst (λ k. k ≤ length p.given) (sym first) i.first_within);
   based = subst (λ g. (base : ℕ) × IsBaseOf g base) (sym given) i.based;
   few_given = subst (λ f. length f.items < 2 ^ 26) (sym frozen) i.few_given;
   few = subst (λ s. s.variables < 2 ^ 27) (sym stack) i.few;
   no_fewer =
       subst (λ f. length f.items ≤ (q.stack).variables) (sym frozen)
       (subst (λ s. length (p.frozen).items ≤ s.variables) (sym stack) i.no_fewer);
-  given_small = subst (λ f. All (λ g. IsFormulaClause (length f.items) g.1) (q.given).items)
+  given_small = subst (λ f. All (λ g. IsFormulaClause (length f.items) g.1) q.given)
       (sym frozen) (subst (All (λ g. IsFormulaClause (length (p.frozen).items) g.1))
       (sym given) i.given_small);
 }
 
 pub problem_gives : (p q : Problem) (n : Name) (c : List Literal) → IsProblem p → GivesOne p q n c
-    → IsFreshName (p.given).items n → has_repeat c ≡ false → has_opposites c ≡ false
+    → IsFreshName p.given n → has_repeat c ≡ false → has_opposites c ≡ false
     → All (λ l. 0 < l.variable) c
     → greatest_variable c ≤ length (p.frozen).items → IsProblem q
 problem_gives p q n c i gives fresh once apart ones small =
-    let front : take p.first ((p.given).items ++ (n, c) ∷ []) ≡ take p.first (p.given).items =
-    take-append-le p.first (p.given).items ((n, c) ∷ []) i.first_within in
-    let named : (p.given).items ++ (Formula fresh.0, c) ∷ [] ≡ (p.given).items ++ (n, c) ∷ [] =
-    ap (λ x. (p.given).items ++ (x, c) ∷ []) (sym fresh.1) in
+    let front : take p.first (p.given ++ (n, c) ∷ []) ≡ take p.first p.given =
+    take-append-le p.first p.given ((n, c) ∷ []) i.first_within in
+    let named : p.given ++ (Formula fresh.0, c) ∷ [] ≡ p.given ++ (n, c) ∷ [] =
+    ap (λ x. p.given ++ (x, c) ∷ []) (sym fresh.1) in
     record {
       numbered =
           subst (λ g. given_of (map (λ x. x.1) (take q.first g)) ≡ take q.first g) (sym gives.given)
-          (subst (λ k. given_of (map (λ x. x.1) (take k ((p.given).items ++ (n, c) ∷ [])))
-          ≡ take k ((p.given).items ++ (n, c) ∷ [])) (sym gives.first)
+          (subst (λ k. given_of (map (λ x. x.1) (take k (p.given ++ (n, c) ∷ [])))
+          ≡ take k (p.given ++ (n, c) ∷ [])) (sym gives.first)
           (subst (λ g. given_of (map (λ x. x.1) g) ≡ g) (sym front) i.numbered));
       first_within =
           subst (λ g. q.first ≤ length g) (sym gives.given)
-          (subst (λ k. k ≤ length ((p.given).items ++ (n, c) ∷ [])) (sym gives.first)
-          (let w = i.first_within in omega (arith, length-append (p.given).items ((n, c) ∷ []))));
+          (subst (λ k. k ≤ length (p.given ++ (n, c) ∷ [])) (sym gives.first)
+          (let w = i.first_within in omega (arith, length-append p.given ((n, c) ∷ []))));
       based =
           subst (λ g. (base : ℕ) × IsBaseOf g base) (named ∙ sym gives.given)
-          (based_given (p.given).items fresh.0 c i.based);
+          (based_given p.given fresh.0 c i.based);
       few_given = subst (λ f. length f.items < 2 ^ 26) (sym gives.frozen) i.few_given;
       few = subst (λ s. s.variables < 2 ^ 27) (sym gives.stack) i.few;
       no_fewer =
           subst (λ f. length f.items ≤ (q.stack).variables) (sym gives.frozen)
           (subst (λ s. length (p.frozen).items ≤ s.variables) (sym gives.stack) i.no_fewer);
-      given_small = subst (λ f. All (λ g. IsFormulaClause (length f.items) g.1) (q.given).items)
+      given_small = subst (λ f. All (λ g. IsFormulaClause (length f.items) g.1) q.given)
           (sym gives.frozen)
           (subst (All (λ g. IsFormulaClause (length (p.frozen).items) g.1)) (sym gives.given)
           (All-push (λ (g : Name × List Literal). IsFormulaClause (length (p.frozen).items) g.1)
-          (p.given).items (n, c) i.given_small (record {
+          p.given (n, c) i.given_small (record {
             no_repeat = once;
             no_opposites = apart;
             from_one = ones;
@@ -102,18 +102,18 @@ problem_gives p q n c i gives fresh once apart ones small =
 
 pub lines_given : (p q : Problem) (n : Name) (c : List Literal) (ls : List LogLine)
     → GivesOne p q n c → greatest_variable c ≤ length (p.frozen).items
-    → StaysLogOver (length (p.frozen).items) (p.given).items ls
-    → StaysLogOver (length (q.frozen).items) (q.given).items ls
+    → StaysLogOver (length (p.frozen).items) p.given ls
+    → StaysLogOver (length (q.frozen).items) q.given ls
 lines_given p q n c ls gives small stays =
-    subst (λ f. StaysLogOver (length f.items) (q.given).items ls) (sym gives.frozen)
+    subst (λ f. StaysLogOver (length f.items) q.given ls) (sym gives.frozen)
     (subst (λ g. StaysLogOver (length (p.frozen).items) g ls) (sym gives.given)
-    (log_given (length (p.frozen).items) (p.given).items n c ls small stays))
+    (log_given (length (p.frozen).items) p.given n c ls small stays))
 
-pub lines_same : (p q : Problem) (ls : List LogLine) → (q.given).items ≡ (p.given).items
-    → q.frozen ≡ p.frozen → StaysLogOver (length (p.frozen).items) (p.given).items ls
-    → StaysLogOver (length (q.frozen).items) (q.given).items ls
+pub lines_same : (p q : Problem) (ls : List LogLine) → q.given ≡ p.given
+    → q.frozen ≡ p.frozen → StaysLogOver (length (p.frozen).items) p.given ls
+    → StaysLogOver (length (q.frozen).items) q.given ls
 lines_same p q ls given frozen stays =
-    subst (λ f. StaysLogOver (length f.items) (q.given).items ls) (sym frozen)
+    subst (λ f. StaysLogOver (length f.items) q.given ls) (sym frozen)
     (subst (λ g. StaysLogOver (length (p.frozen).items) g ls) (sym given) stays)
 
 -- What the solver is then.
@@ -122,10 +122,10 @@ abbrev pub formula_of : Problem → Cnf
 formula_of p =
     record {
       variables = length (p.frozen).items;
-      clauses = map (λ g. g.1) (take p.first (p.given).items);
+      clauses = map (λ g. g.1) (take p.first p.given);
     }
 
-pub formula_same : (p q : Problem) → (q.given).items ≡ (p.given).items → q.frozen ≡ p.frozen
+pub formula_same : (p q : Problem) → q.given ≡ p.given → q.frozen ≡ p.frozen
     → q.first ≡ p.first → formula_of q ≡ formula_of p
 formula_same p q given frozen first =
     let wide : length (q.frozen).items ≡ length (p.frozen).items =
@@ -134,7 +134,7 @@ formula_same p q given frozen first =
 
 pub gives_solver : (s t : Search) (p q : Problem) (n : Name) (c : List Literal) (ls : List LogLine)
     (refuted failed : Bool) → IsSolver s p ls refuted failed → failed ≡ false → GivesOne p q n c
-    → IsFreshName (p.given).items n → IsId (number_in n)
+    → IsFreshName p.given n → IsId (number_in n)
     → All (IsFrozen (p.frozen).items) c → has_repeat c ≡ false → has_opposites c ≡ false
     → All (λ l. 0 < l.variable) c → (refuted ≡ false → Takes s t p q n c)
     → IsSolver t q ls refuted failed
@@ -155,7 +155,7 @@ gives_solver s t p q n c ls refuted failed i works gives fresh id fixed once apa
     }
 
 pub fails_solver : (s t : Search) (p q : Problem) (ls : List LogLine) (refuted failed : Bool)
-    → IsSolver s p ls refuted failed → (q.given).items ≡ (p.given).items → q.stack ≡ p.stack
+    → IsSolver s p ls refuted failed → q.given ≡ p.given → q.stack ≡ p.stack
     → q.frozen ≡ p.frozen → q.first ≡ p.first → IsSolver t q ls refuted true
 fails_solver s t p q ls refuted failed i given stack frozen first = record {
   problem = same_problem p q i.problem given stack frozen first;

@@ -141,7 +141,7 @@ adds_lesson slots T names given ls c back variables rs hints reasons w deep refu
 pub record IsLesson (s : Search) (p : Problem) (ls : List LogLine) (c : List Literal) (back : ℕ)
     (hints : List Hint) : Type 0 where
   pub asserting : IsAsserting (s.engine).trail c back
-  pub adds : AddsByHints (p.given).items ls (record { kind = Learned; clause = c; hints = hints })
+  pub adds : AddsByHints p.given ls (record { kind = Learned; clause = c; hints = hints })
 
 pub is_lesson : (s : Search) (p : Problem) (ls : List LogLine) (learned c : List Literal) (back : ℕ)
     (found rs : List ℕ) (names : List Name) (hints : List Hint)
@@ -164,7 +164,7 @@ is_lesson s p ls learned c back found rs names hints r deep asserting refuted hi
     let within = asserting_within s.engine slots c back run.searches.fits w in
     record {
       asserting = w;
-      adds = adds_lesson slots T (s.names).items (p.given).items ls c back (s.engine).variables rs
+      adds = adds_lesson slots T (s.names).items p.given ls c back (s.engine).variables rs
           hints run.searches.fits.reasons w deep refutes run.recorded.names h r.room.few within;
     }
 
@@ -172,10 +172,10 @@ is_lesson s p ls learned c back found rs names hints r deep asserting refuted hi
 pub runs_learned : (m n : Search) (p : Problem) (ls : List LogLine) (l : LogLine)
     (T : List Assigned) (back : ℕ)
     → IsRunning m.engine (m.store).slots p.stack (tables_of m) (p.frozen).items p.first
-    (p.given).items ls
+    p.given ls
     → HasRoom m
     → All (λ x. x ≤ m.additions + 1) (m.stamps).items → IsAsserting T l.clause back
-    → (m.engine).trail ≡ kept_to back T → AddsByHints (p.given).items ls l
+    → (m.engine).trail ≡ kept_to back T → AddsByHints p.given ls l
     → Places m n (Added (m.additions + 1)) l.clause → n.additions ≡ m.additions + 1
     → n.additions < 2 ^ 61 → Runs n p (ls ++ l ∷ [])
 runs_learned m n p ls l T back run room past w trail adds placed more few =
@@ -183,13 +183,13 @@ runs_learned m n p ls l T back run room past w trail adds placed more few =
     let low : depth_of (m.engine).trail ≤ back =
     subst (λ X. depth_of X ≤ back) (sym trail) (kept_low back T) in
     let ran = run_learn m.engine n.engine slots p.stack (tables_of m) (p.frozen).items p.first
-    (p.given).items ls l T back run w (back_low T l.clause back w) trail low adds (omega arith)
+    p.given ls l T back run w (back_low T l.clause back w) trail low adds (omega arith)
     placed.attached (placed.trail, placed.variables) placed.works placed.fits in
     record {
       running = running_same n.engine n.engine (slots ++ Some l.clause ∷ []) (n.store).slots p.stack
           (with_addition (tables_of m) (m.units).items m.noted) (tables_of n)
           (p.frozen).items p.first
-          (p.given).items (ls ++ l ∷ [])
+          p.given (ls ++ l ∷ [])
           refl placed.slots
           (tables_same (with_addition (tables_of m) (m.units).items m.noted) (tables_of n)
           placed.names (ap (λ x. x.items) placed.units) placed.noted placed.kept more)

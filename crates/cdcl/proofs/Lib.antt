@@ -29,6 +29,7 @@ pub mod Lessons
 pub mod Taking
 pub mod FirstRun
 pub mod Answered
+pub mod GivenList
 pub mod GivenClause
 pub mod Rounds
 pub mod Deleting

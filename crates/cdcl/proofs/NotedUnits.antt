@@ -32,7 +32,7 @@ pub record IsNoting (old now : Search) (p : Problem) (before ls : List LogLine) 
       → IsQuiet (now.store).slots (literals_of (now.engine).trail)
   pub clauses : (r : ℕ) → IsFalseClause (old.store).slots old.engine r
       → IsFalseClause (now.store).slots now.engine r
-  pub writes : Writes (p.given).items before ls 0
+  pub writes : Writes p.given before ls 0
 
 pub noting_start : (s : Search) (p : Problem) (ls : List LogLine) → Runs s p ls
     → depth_of (s.engine).trail ≡ 0 → IsNoting s s p ls ls
@@ -45,7 +45,7 @@ noting_start s p ls r flat =
       policy = refl;
       quiet = λ q. q;
       clauses = λ r f. f;
-      writes = writes_none (p.given).items ls;
+      writes = writes_none p.given ls;
     }
 
 -- a clause of one true literal is neither false nor unit
@@ -73,7 +73,7 @@ pub noting_more : (old now new : Search) (p : Problem) (before ls more : List Lo
     → new.policy ≡ now.policy
     → (new.store).slots ≡ (now.store).slots
     ++ Some (slice_index_or (literals_of (now.engine).trail) now.noted (positive 0) ∷ []) ∷ []
-    → Writes (p.given).items ls more 0 → IsNoting old new p before more
+    → Writes p.given ls more 0 → IsNoting old new p before more
 noting_more old now new p before ls more d lt r trail vars policy slots w =
     let A : List Literal = literals_of (now.engine).trail in
     let k : Literal = slice_index_or A now.noted (positive 0) in
@@ -100,5 +100,5 @@ noting_more old now new p before ls more d lt r trail vars policy slots w =
                 (clause_kept (now.store).slots (k ∷ []) x.0 q x.1),
             subst (λ T. IsFalseUnder x.0 (literals_of T)) (sym trail) x.2,
           ));
-      writes = writes_join (p.given).items before ls more 0 0 d.writes w;
+      writes = writes_join p.given before ls more 0 0 d.writes w;
     }

@@ -18,18 +18,6 @@ use Rattle.lrat_log.proofs.Laws.{given_on}
 use Rattle.cdcl.specs.Invariant.{name_at}
 use Rattle.cdcl.specs.Starts.{AreRising}
 
--- one more clause under its number
-pub given_next : (now : Given) (c : List Literal) (left : List (List Literal)) (all : Given)
-    → now ++ given_on (length now + 1) (c ∷ left) ≡ all
-    → (now ++ (Formula (length now + 1), c) ∷ []) ++ given_on
-    (length (now ++ (Formula (length now + 1), c) ∷ []) + 1) left
-    ≡ all
-given_next now c left all e =
-    let g : Name × List Literal = (Formula (length now + 1), c) in
-    append_assoc now (g ∷ []) (given_on (length (now ++ g ∷ []) + 1) left)
-    ∙ ap (λ n. now ++ g ∷ given_on (n + 1) left) (length_push now g)
-    ∙ e
-
 -- Names by place.
 
 pub record AreNamed (names : List Name) (listed : List (ℕ × Name)) (n places : ℕ) : Type 0 where

@@ -17,31 +17,31 @@ use Rattle.cdcl.proofs.Placing.{room_placed, running_same, tables_same}
 
 pub taken : (m n : Search) (p q : Problem) (name : Name) (c : List Literal) (ls : List LogLine)
     → Runs m p ls → depth_of (m.engine).trail ≡ 0 → IsGivable p name c → GivesOne p q name c
-    → p.first ≤ length (p.given).items
+    → p.first ≤ length p.given
     → Places m n name c → n.additions ≡ m.additions → Runs n q ls
 taken m n p q name c ls r flat ask gives first w same =
     let f = ask.fresh in
     let slots = (m.store).slots in
     let id : IsId f.0 = subst (λ x. IsId (number_in x)) f.1 ask.id in
     let ran = run_given m.engine n.engine slots p.stack (tables_of m) (p.frozen).items p.first
-    (p.given).items ls f.0 c r.running flat first f.3 id ask.frozen ask.from_one ask.small
+    p.given ls f.0 c r.running flat first f.3 id ask.frozen ask.from_one ask.small
     w.attached (w.trail, w.variables) w.works w.fits in
     let now = running_same n.engine n.engine (slots ++ Some c ∷ []) (n.store).slots p.stack
     (with_given (tables_of m) f.0) (tables_of n) (p.frozen).items p.first
-    ((p.given).items ++ (Formula f.0, c) ∷ []) ls refl w.slots
+    (p.given ++ (Formula f.0, c) ∷ []) ls refl w.slots
     (tables_same (with_given (tables_of m) f.0) (tables_of n) (w.names
     ∙ ap (λ x. (m.names).items ++ x ∷ []) f.1) (ap (λ v. v.items) w.units) w.noted w.kept
     same) ran in
-    let given : (q.given).items ≡ (p.given).items ++ (Formula f.0, c) ∷ [] =
-    gives.given ∙ ap (λ x. (p.given).items ++ (x, c) ∷ []) f.1 in
+    let given : q.given ≡ p.given ++ (Formula f.0, c) ∷ [] =
+    gives.given ∙ ap (λ x. p.given ++ (x, c) ∷ []) f.1 in
     record {
       running =
           subst (λ x. IsRunning n.engine (n.store).slots x (tables_of n) (q.frozen).items q.first
-          (q.given).items ls) (sym gives.stack)
+          q.given ls) (sym gives.stack)
           (subst (λ x. IsRunning n.engine (n.store).slots p.stack (tables_of n) x.items q.first
-          (q.given).items ls) (sym gives.frozen)
+          q.given ls) (sym gives.frozen)
           (subst (λ x. IsRunning n.engine (n.store).slots p.stack (tables_of n) (p.frozen).items x
-          (q.given).items ls) (sym gives.first)
+          q.given ls) (sym gives.first)
           (subst (λ x. IsRunning n.engine (n.store).slots p.stack (tables_of n) (p.frozen).items
           p.first x ls) (sym given) now)));
       room = room_placed m n name c r.room w;

@@ -192,11 +192,11 @@ pub record NotesOne (n u : Search) (v r : ℕ) : Type 0 where
 
 pub runs_noted : (m n u : Search) (p : Problem) (ls : List LogLine) (hints : List Hint)
     (k : Literal) (v r : ℕ) → IsRunning m.engine (m.store).slots p.stack (tables_of m)
-    (p.frozen).items p.first (p.given).items ls → HasRoom m
+    (p.frozen).items p.first p.given ls → HasRoom m
     → All (λ x. x ≤ m.additions + 1) (m.stamps).items
     → depth_of (m.engine).trail ≡ 0 → m.noted < length (m.engine).trail
     → k ≡ get_or (literals_of (m.engine).trail) m.noted k
-    → AddsByHints (p.given).items ls (record { kind = UnitKind; clause = k ∷ []; hints = hints })
+    → AddsByHints p.given ls (record { kind = UnitKind; clause = k ∷ []; hints = hints })
     → Places m n (Added (m.additions + 1)) (k ∷ []) → n.additions ≡ m.additions + 1
     → n.additions < 2 ^ 61
     → v ≡ k.variable - 1 → r ≡ length (m.store).slots → NotesOne n u v r
@@ -225,7 +225,7 @@ runs_noted m n u p ls hints k v r run room past flat left at adds w more few vis
     let room_k : k.variable ≤ length (m.units).items = (let ru = room.units in let sk = small.1 in
     omega arith) in
     let ran =
-    run_note e n.engine slots p.stack (tables_of m) (p.frozen).items p.first (p.given).items ls l
+    run_note e n.engine slots p.stack (tables_of m) (p.frozen).items p.first p.given ls l
     k run flat left_zero at_zero refl apart ones room_k adds (omega arith) w.attached (
       w.trail,
       w.variables,
@@ -234,7 +234,7 @@ runs_noted m n u p ls hints k v r run room past flat left at adds w more few vis
     record {
       running = running_same n.engine u.engine (slots ++ Some (k ∷ []) ∷ []) (u.store).slots p.stack
           (with_addition (tables_of m) (set (m.units).items (k.variable - 1) (Some (length slots)))
-          (m.noted + 1)) (tables_of u) (p.frozen).items p.first (p.given).items (ls ++ l ∷ [])
+          (m.noted + 1)) (tables_of u) (p.frozen).items p.first p.given (ls ++ l ∷ [])
           d.engine (d.slots ∙ w.slots)
           (tables_same (with_addition (tables_of m)
           (set (m.units).items (k.variable - 1) (Some (length slots))) (m.noted + 1))

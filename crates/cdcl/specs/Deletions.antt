@@ -28,7 +28,7 @@ pub record AreMarked (s : Search) (chosen : List ℕ) (first : ℕ)
 pub record IsDeleting (s : Search) (p : Problem) (ls : List LogLine)
     (doomed : List Bool) : Type 0 where
   pub recorded : IsRecorded (s.store).slots p.stack (tables_of s) (p.frozen).items p.first
-      (p.given).items ls
+      p.given ls
   pub works : (s.engine).failed ≡ false
   pub fits : Fits s.engine (s.store).slots
   pub attached : (r : ℕ) → IsLive (s.store).slots r

@@ -70,9 +70,9 @@ AreValues T bits = (i : ℕ) → i < length bits
 abbrev pub KeepsState : Search → Search → Type 0
 KeepsState old new = (p : Problem) (ls : List LogLine)
     → IsRunning old.engine (old.store).slots p.stack (tables_of old) (p.frozen).items p.first
-    (p.given).items ls
+    p.given ls
     → IsRunning new.engine (new.store).slots p.stack (tables_of new) (p.frozen).items p.first
-    (p.given).items ls
+    p.given ls
 
 -- Rounds of a search: each learns and pays a unit, starts over after something was learned, or
 -- makes one more literal true.

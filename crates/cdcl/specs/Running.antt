@@ -52,7 +52,7 @@ pub record IsReady (s : Search) : Type 0 where
 -- it goes on over the clauses given, with these lines written
 pub record Runs (s : Search) (p : Problem) (ls : List LogLine) : Type 0 where
   pub running : IsRunning s.engine (s.store).slots p.stack (tables_of s) (p.frozen).items p.first
-      (p.given).items ls
+      p.given ls
   pub room : HasRoom s
   -- no line before the next addition has its number as a stamp
   pub past : All (λ n. n ≤ s.additions) (s.stamps).items
@@ -61,14 +61,14 @@ pub record Runs (s : Search) (p : Problem) (ls : List LogLine) : Type 0 where
 -- what is known of the clauses given
 pub record IsProblem (p : Problem) : Type 0 where
   -- the first of them are the formula, and all have numbers
-  pub numbered : given_of (map (λ g. g.1) (take p.first (p.given).items))
-      ≡ take p.first (p.given).items
-  pub first_within : p.first ≤ length (p.given).items
-  pub based : (base : ℕ) × IsBaseOf (p.given).items base
+  pub numbered : given_of (map (λ g. g.1) (take p.first p.given))
+      ≡ take p.first p.given
+  pub first_within : p.first ≤ length p.given
+  pub based : (base : ℕ) × IsBaseOf p.given base
   pub few_given : length (p.frozen).items < 2 ^ 26
   pub few : (p.stack).variables < 2 ^ 27
   pub no_fewer : length (p.frozen).items ≤ (p.stack).variables
-  pub given_small : All (λ g. IsFormulaClause (length (p.frozen).items) g.1) (p.given).items
+  pub given_small : All (λ g. IsFormulaClause (length (p.frozen).items) g.1) p.given
 
 -- Moves.
 
@@ -108,12 +108,12 @@ Pays given before after old new = (n : ℕ) × Writes given before after n
 
 -- a log to which lines may be added, now and after further clauses are given
 pub record StaysOpen (p : Problem) (ls : List LogLine) : Type 0 where
-  pub stays : StaysLogOver (length (p.frozen).items) (p.given).items ls
+  pub stays : StaysLogOver (length (p.frozen).items) p.given ls
   pub unrefuted : AddsNoEmptyClause ls
 
 -- a log that ends in the empty clause
 pub record IsEnded (p : Problem) (ls : List LogLine) : Type 0 where
-  pub stays : StaysLogOver (length (p.frozen).items) (p.given).items ls
+  pub stays : StaysLogOver (length (p.frozen).items) p.given ls
   pub refuted : is_refuted ls ≡ true
 
 -- How a search ends.
@@ -141,7 +141,7 @@ IsEndOf s p ls b Spent = IsSpent s p ls b
 
 -- what is asked of one
 pub record IsGivable (p : Problem) (n : Name) (c : List Literal) : Type 0 where
-  pub fresh : IsFreshName (p.given).items n
+  pub fresh : IsFreshName p.given n
   pub frozen : All (IsFrozen (p.frozen).items) c
   pub id : IsId (number_in n)
   pub from_one : All (λ l. 0 < l.variable) c
@@ -149,24 +149,24 @@ pub record IsGivable (p : Problem) (n : Name) (c : List Literal) : Type 0 where
 
 -- the clauses given, with one more
 pub record GivesOne (old new : Problem) (n : Name) (c : List Literal) : Type 0 where
-  pub given : (new.given).items ≡ (old.given).items ++ (n, c) ∷ []
+  pub given : new.given ≡ old.given ++ (n, c) ∷ []
   pub stack : new.stack ≡ old.stack
   pub frozen : new.frozen ≡ old.frozen
   pub first : new.first ≡ old.first
 
 abbrev pub TakesClause : Search → Search → Name → List Literal → Type 0
 TakesClause old new n c = (p q : Problem) (ls : List LogLine) → IsGivable p n c → GivesOne p q n c
-    → p.first ≤ length (p.given).items → Runs old p ls → Runs new q ls
+    → p.first ≤ length p.given → Runs old p ls → Runs new q ls
 
 abbrev pub Takes : Search → Search → Problem → Problem → Name → List Literal → Type 0
 Takes old new p q n c = (ls : List LogLine) → IsGivable p n c
-    → p.first ≤ length (p.given).items → Runs old p ls → Runs new q ls
+    → p.first ≤ length p.given → Runs old p ls → Runs new q ls
 
 -- what holds of a solver between its calls
 pub record IsSolver (s : Search) (p : Problem) (ls : List LogLine)
     (refuted failed : Bool) : Type 0 where
   pub problem : IsProblem p
-  pub lines : StaysLogOver (length (p.frozen).items) (p.given).items ls
+  pub lines : StaysLogOver (length (p.frozen).items) p.given ls
   pub refuted_is : refuted ≡ is_refuted ls
   pub running : failed ≡ false → refuted ≡ false → Runs s p ls
 
@@ -178,7 +178,7 @@ pub record IsSatisfying (s : Search) (p : Problem) (ls : List LogLine)
   pub runs : Runs s p ls
   pub quiet : (A : List Literal) × IsQuiet (s.store).slots A
   pub long : length bits ≡ length (p.frozen).items
-  pub satisfied : SatisfyGiven bits (p.given).items
+  pub satisfied : SatisfyGiven bits p.given
 
 abbrev pub IsAnswer : Search → Problem → List LogLine → BudgetState → Outcome → Type 0
 IsAnswer s p ls b (Sat bits) = IsSatisfying s p ls bits.items

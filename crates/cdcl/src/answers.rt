@@ -20,7 +20,7 @@ pub(crate) fn bits(search: &Search, problem: &Problem) -> Result<Vec<bool>, Allo
     requires quiet { IsQuiet search.now.store.slots (literals_of search.now.engine.trail) }
     requires closed { AreClosed search.now.engine.trail search.now.engine.variables }
     ensures long { IfOk result (λ bits. length bits.items ≡ length problem.now.frozen.items) }
-    ensures satisfied { IfOk result (λ bits. SatisfyGiven bits.items problem.now.given.items) }
+    ensures satisfied { IfOk result (λ bits. SatisfyGiven bits.items problem.now.given) }
 {
     let mut bits = Vec::new(search.store.allocator());
     for variable in 1..problem.stack.vars() + 1 {

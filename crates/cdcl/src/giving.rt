@@ -1,13 +1,12 @@
 // Clauses that come after the formula.
 ghost use Rattle.std.specs.Prelude.{◌≡◌, ◌<◌, ◌^◌, ◌++◌, [], ◌∷◌, false, All, OnOk, OnErr};
-ghost use Rattle.cnf.specs.Clause.{has_repeat};
 ghost use Rattle.propagate.specs.Fits.{IsWithin};
 ghost use Rattle.lrat_log.specs.declared.lines.Name.TheVariants.{Formula};
 ghost use Rattle.cdcl.specs.Running.{IsReady, TakesClause, Takes, GivesOne};
 
 use crate::problem::Problem;
 use crate::search::Search;
-use cnf::types::{Clause, Lit};
+use cnf::types::Lit;
 use lrat_log::lines::{Name, Number};
 use std::alloc::AllocError;
 
@@ -26,22 +25,14 @@ fn take_clause(search: &mut Search, number: u64, lits: &[Lit]) -> Result<(), All
 /// Keeps the clause among those given.
 fn keep_clause(problem: &mut Problem, number: u64, lits: &[Lit]) -> Result<(), AllocError>
     requires number { (0 < number) × (number < 2 ^ 62) }
-    requires no_repeat { has_repeat lits.now ≡ false }
-    ensures given { OnOk result (problem.new.given.items
-        ≡ problem.old.given.items ++ (Formula number, lits.now) ∷ []) }
+    ensures given { OnOk result (problem.new.given
+        ≡ problem.old.given ++ (Formula number, lits.now) ∷ []) }
     ensures stack { problem.new.stack ≡ problem.old.stack }
     ensures frozen { problem.new.frozen ≡ problem.old.frozen }
     ensures first { problem.new.first ≡ problem.old.first }
-    ensures err { OnErr result (problem.new.given.items ≡ problem.old.given.items) }
+    ensures err { OnErr result (problem.new.given ≡ problem.old.given) }
 {
-    let lits = Vec::from_slice(*problem.given.allocator(), lits)?;
-    match problem
-        .given
-        .push((Name::Formula(Number::new(number)), Clause::new(lits)))
-    {
-        Ok(()) => Ok(()),
-        Err(_) => Err(AllocError),
-    }
+    problem.given.push(Number::new(number), lits)
 }
 
 /// Gives the clause to the search, unless that has ended with the empty clause, and keeps it among
@@ -56,14 +47,13 @@ pub(crate) fn give(
     requires number { (0 < number) × (number < 2 ^ 62) }
     requires ready { refuted ≡ false → IsReady search.old }
     requires within { refuted ≡ false → IsWithin search.old.engine.variables lits.now }
-    requires no_repeat { has_repeat lits.now ≡ false }
     ensures takes { OnOk result (refuted ≡ false
         → Takes search.old search.new problem.old problem.new (Formula number) lits.now) }
     ensures given { OnOk result (GivesOne problem.old problem.new (Formula number) lits.now) }
     ensures stack { problem.new.stack ≡ problem.old.stack }
     ensures frozen { problem.new.frozen ≡ problem.old.frozen }
     ensures first { problem.new.first ≡ problem.old.first }
-    ensures err { OnErr result (problem.new.given.items ≡ problem.old.given.items) }
+    ensures err { OnErr result (problem.new.given ≡ problem.old.given) }
 {
     if refuted {
         return keep_clause(problem, number, lits);

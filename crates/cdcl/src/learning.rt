@@ -26,7 +26,7 @@ pub(crate) fn learn<S: Sink>(
     ensures runs { OnOk result (Runs search.new problem.now (S.lines sink.new)) }
     ensures variables { OnOk result (search.new.engine.variables ≡ search.old.engine.variables) }
     ensures writes { OnOk result
-        (Writes problem.now.given.items (S.lines sink.old) (S.lines sink.new) 1) }
+        (Writes problem.now.given (S.lines sink.old) (S.lines sink.new) 1) }
     ensures err { OnErr result (S.lines sink.new ≡ S.lines sink.old) }
 {
     let _ = problem;

@@ -1,10 +1,11 @@
 //! Conflict-driven search under a budget.
 #![tactic(auto)]
 
-pub use cdcl_order::budget;
+pub use cdcl_order::{budget, watch};
 
 mod answers;
 mod compacting;
+pub mod given;
 mod giving;
 mod hints;
 mod learning;

@@ -36,7 +36,7 @@ pub(crate) fn note_units<S: Sink>(
         → IsFalseClause search.old.store.slots search.old.engine r
         → IsFalseClause search.new.store.slots search.new.engine r) }
     ensures variables { OnOk result (search.new.engine.variables ≡ search.old.engine.variables) }
-    ensures writes { Writes problem.now.given.items (S.lines sink.old) (S.lines sink.new) 0 }
+    ensures writes { Writes problem.now.given (S.lines sink.old) (S.lines sink.new) 0 }
     ensures err { OnErr result (StaysOpen problem.now (S.lines sink.new)) }
 {
     while search.noted < search.engine.assigned() {
@@ -64,7 +64,7 @@ fn note_unit<S: Sink>(
         ) ∷ []) }
     ensures variables { OnOk result (search.new.engine.variables ≡ search.old.engine.variables) }
     ensures writes { OnOk result (
-        Writes problem.now.given.items (S.lines sink.old) (S.lines sink.new) 0) }
+        Writes problem.now.given (S.lines sink.old) (S.lines sink.new) 0) }
     ensures err { OnErr result (S.lines sink.new ≡ S.lines sink.old) }
 {
     let lit = search.engine.trail()[search.noted];
@@ -98,7 +98,7 @@ pub(crate) fn refute<S: Sink>(
     requires flat { depth_of search.old.engine.trail ≡ 0 }
     requires conflict { IsFalseClause search.old.store.slots search.old.engine conflict }
     ensures ended { OnOk result (IsEnded problem.now (S.lines sink.new)) }
-    ensures writes { Writes problem.now.given.items (S.lines sink.old) (S.lines sink.new) 0 }
+    ensures writes { Writes problem.now.given (S.lines sink.old) (S.lines sink.new) 0 }
     ensures err { OnErr result (StaysOpen problem.now (S.lines sink.new)) }
 {
     note_units(search, problem, sink)?;

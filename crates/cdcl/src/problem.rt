@@ -1,7 +1,6 @@
 // What a solver was given. A search leaves it alone.
-use cnf::types::Clause;
+use crate::given::GivenClauses;
 use eliminate::elimination::Stack;
-use lrat_log::lines::Name;
 
 /// The clauses given, and the way back to them from what elimination left.
 #[derive(Drop)]
@@ -14,5 +13,5 @@ pub(crate) struct Problem {
     /// How many of the clauses given are those of the formula: the first ones.
     pub(crate) first: usize,
     /// The clauses given, in their order.
-    pub(crate) given: Vec<(Name, Clause)>,
+    pub(crate) given: GivenClauses,
 }

@@ -38,7 +38,7 @@ fn delete<S: Sink>(
     ensures engine { OnOk result (search.new.engine ≡ search.old.engine) }
     ensures policy { OnOk result (search.new.policy ≡ search.old.policy) }
     ensures writes { OnOk result
-        (Writes problem.now.given.items (S.lines sink.old) (S.lines sink.new) 0) }
+        (Writes problem.now.given (S.lines sink.old) (S.lines sink.new) 0) }
     ensures err { OnErr result (S.lines sink.new ≡ S.lines sink.old) }
 {
     if !search.store.is_live(reference) {
@@ -141,7 +141,7 @@ pub(crate) fn reduce<S: Sink>(
     ensures long { OnOk result
         (length search.new.engine.trail ≡ length search.old.engine.trail) }
     ensures policy { OnOk result (search.new.policy ≡ search.old.policy) }
-    ensures writes { Writes problem.now.given.items (S.lines sink.old) (S.lines sink.new) 0 }
+    ensures writes { Writes problem.now.given (S.lines sink.old) (S.lines sink.new) 0 }
     ensures err { OnErr result (StaysOpen problem.now (S.lines sink.new)) }
 {
     if !search.policy.is_deletion_due() {
@@ -171,7 +171,7 @@ fn delete_all<S: Sink>(
     ensures long { OnOk result
         (length search.new.engine.trail ≡ length search.old.engine.trail) }
     ensures policy { OnOk result (search.new.policy ≡ search.old.policy) }
-    ensures writes { Writes problem.now.given.items (S.lines sink.old) (S.lines sink.new) 0 }
+    ensures writes { Writes problem.now.given (S.lines sink.old) (S.lines sink.new) 0 }
     ensures err { OnErr result (StaysOpen problem.now (S.lines sink.new)) }
 {
     let doomed = search.mark(chosen)?;

@@ -126,6 +126,7 @@ impl Search {
             &self.store,
             learned.hints.as_slice(),
             self.analyzer.met(),
+            self.analyzer.beside(),
             learned.lits.as_slice(),
         )
     }

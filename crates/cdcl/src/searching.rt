@@ -18,6 +18,7 @@ use crate::noting::{note_units, refute};
 use crate::problem::Problem;
 use crate::reducing::reduce;
 use crate::search::Search;
+use crate::watch::Watch;
 use clauses::store::CRef;
 use lrat_log::sink::Sink;
 use std::alloc::AllocError;
@@ -35,18 +36,19 @@ pub(crate) enum End {
 }
 
 /// Searches from level 0 until it has an answer or the budget is spent.
-pub(crate) fn run<S: Sink>(
+pub(crate) fn run<S: Sink, W: Watch>(
     search: &mut Search,
     problem: &Problem,
     sink: &mut S,
     budget: &mut Budget,
+    watch: &mut W,
 ) -> Result<End, AllocError>
     requires runs { Runs search.old problem.now (S.lines sink.old) }
     ensures ends { IfOk result (IsEndOf search.new problem.now (S.lines sink.new) budget.new) }
     ensures propagates { IfOk result
-        (λ end. IsLiveRefuted problem.now.given.items (S.lines sink.old)
+        (λ end. IsLiveRefuted problem.now.given (S.lines sink.old)
         → end ≡ Refuted) }
-    ensures pays { Pays problem.now.given.items (S.lines sink.old) (S.lines sink.new) budget.old
+    ensures pays { Pays problem.now.given (S.lines sink.old) (S.lines sink.new) budget.old
         budget.new }
     ensures err { OnErr result (StaysOpen problem.now (S.lines sink.new)) }
 {
@@ -57,25 +59,26 @@ pub(crate) fn run<S: Sink>(
             refute(search, problem, sink, conflict)?;
             Ok(End::Refuted)
         }
-        None => descend(search, problem, sink, budget),
+        None => descend(search, problem, sink, budget, watch),
     }
 }
 
 /// Learns and decides until it has an answer or the budget is spent.
-fn descend<S: Sink>(
+fn descend<S: Sink, W: Watch>(
     search: &mut Search,
     problem: &Problem,
     sink: &mut S,
     budget: &mut Budget,
+    watch: &mut W,
 ) -> Result<End, AllocError>
     requires runs { Runs search.old problem.now (S.lines sink.old) }
     ensures ends { IfOk result (IsEndOf search.new problem.now (S.lines sink.new) budget.new) }
-    ensures pays { Pays problem.now.given.items (S.lines sink.old) (S.lines sink.new) budget.old
+    ensures pays { Pays problem.now.given (S.lines sink.old) (S.lines sink.new) budget.old
         budget.new }
     ensures err { OnErr result (StaysOpen problem.now (S.lines sink.new)) }
 {
     'rounds: loop {
-        match round(search, problem, sink, budget)? {
+        match round(search, problem, sink, budget, watch)? {
             Some(end) => return Ok(end),
             None => {}
         }
@@ -83,11 +86,12 @@ fn descend<S: Sink>(
 }
 
 /// Propagates, and then learns, starts over or decides; it answers how the search ended, if it did.
-fn round<S: Sink>(
+fn round<S: Sink, W: Watch>(
     search: &mut Search,
     problem: &Problem,
     sink: &mut S,
     budget: &mut Budget,
+    watch: &mut W,
 ) -> Result<Option<End>, AllocError>
     requires runs { Runs search.old problem.now (S.lines sink.old) }
     ensures ends { IfOk result (λ next.
@@ -95,13 +99,13 @@ fn round<S: Sink>(
     ensures goes { IfOk result (λ next.
         IfNone next (GoesOn search.old search.new problem.now (S.lines sink.new) budget.old
         budget.new)) }
-    ensures pays { Pays problem.now.given.items (S.lines sink.old) (S.lines sink.new) budget.old
+    ensures pays { Pays problem.now.given (S.lines sink.old) (S.lines sink.new) budget.old
         budget.new }
     ensures err { OnErr result (StaysOpen problem.now (S.lines sink.new)) }
 {
     match search.propagate()? {
         Some(conflict) => on_conflict(search, problem, sink, budget, conflict),
-        None => on_quiet(search, problem, sink, budget),
+        None => on_quiet(search, problem, sink, budget, watch),
     }
 }
 
@@ -120,7 +124,7 @@ fn on_conflict<S: Sink>(
     ensures goes { IfOk result (λ next.
         IfNone next (GoesOn search.old search.new problem.now (S.lines sink.new) budget.old
         budget.new)) }
-    ensures pays { Pays problem.now.given.items (S.lines sink.old) (S.lines sink.new) budget.old
+    ensures pays { Pays problem.now.given (S.lines sink.old) (S.lines sink.new) budget.old
         budget.new }
     ensures err { OnErr result (StaysOpen problem.now (S.lines sink.new)) }
 {
@@ -138,11 +142,12 @@ fn on_conflict<S: Sink>(
 
 /// Starts over or decides, if something is left of the budget. Clauses are deleted after a
 /// decision: by then what was learned has been propagated, and each level below is quiet.
-fn on_quiet<S: Sink>(
+fn on_quiet<S: Sink, W: Watch>(
     search: &mut Search,
     problem: &Problem,
     sink: &mut S,
     budget: &mut Budget,
+    watch: &mut W,
 ) -> Result<Option<End>, AllocError>
     requires runs { Runs search.old problem.now (S.lines sink.old) }
     requires quiet { IsQuiet search.old.store.slots (literals_of search.old.engine.trail) }
@@ -151,7 +156,7 @@ fn on_quiet<S: Sink>(
     ensures goes { IfOk result (λ next.
         IfNone next (GoesOn search.old search.new problem.now (S.lines sink.new) budget.old
         budget.new)) }
-    ensures pays { Pays problem.now.given.items (S.lines sink.old) (S.lines sink.new) budget.old
+    ensures pays { Pays problem.now.given (S.lines sink.old) (S.lines sink.new) budget.old
         budget.new }
     ensures err { OnErr result (StaysOpen problem.now (S.lines sink.new)) }
 {
@@ -160,6 +165,7 @@ fn on_quiet<S: Sink>(
     }
     if search.policy.is_restart_due() {
         search.start_over();
+        watch.restarted(&search.policy.report(budget));
         return Ok(None);
     }
     note_level(search, problem, sink)?;
@@ -185,7 +191,7 @@ fn note_level<S: Sink>(
         (IsQuiet search.old.store.slots (literals_of search.old.engine.trail)
         → IsQuiet search.new.store.slots (literals_of search.new.engine.trail)) }
     ensures variables { OnOk result (search.new.engine.variables ≡ search.old.engine.variables) }
-    ensures writes { Writes problem.now.given.items (S.lines sink.old) (S.lines sink.new) 0 }
+    ensures writes { Writes problem.now.given (S.lines sink.old) (S.lines sink.new) 0 }
     ensures err { OnErr result (StaysOpen problem.now (S.lines sink.new)) }
 {
     if search.engine.depth() > 0 {

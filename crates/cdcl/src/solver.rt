@@ -15,6 +15,7 @@ ghost use Rattle.cdcl.specs.Solving.{IsPlainlyRefuted, IsLiveRefuted, lines_sinc
 
 use crate::answers::bits;
 use crate::budget::Budget;
+use crate::given::GivenClauses;
 use crate::giving::{are_named, give};
 use crate::outcome::{Outcome, SolveFault};
 use crate::problem::Problem;
@@ -22,7 +23,8 @@ use crate::search::Search;
 use crate::searching::{End, run};
 use crate::starting::{given_clauses, start, store_of};
 use crate::tally::Tally;
-use cnf::types::{Clause, Formula, Lit};
+use crate::watch::{Unwatched, Watch};
+use cnf::types::{Formula, Lit};
 use eliminate::elimination::eliminate;
 use lrat_log::lines::Name;
 use lrat_log::sink::Sink;
@@ -55,9 +57,9 @@ impl<S: Sink> Model for Solver<S> {
     ghost view = { λ s. record {
       formula = record {
         variables = length s.problem.frozen.items;
-        clauses = map (λ g. g.1) (take s.problem.first s.problem.given.items);
+        clauses = map (λ g. g.1) (take s.problem.first s.problem.given);
       };
-      added = drop s.problem.first s.problem.given.items;
+      added = drop s.problem.first s.problem.given;
       frozen = s.problem.frozen.items;
       sink = s.sink;
       failed = s.failed;
@@ -112,7 +114,7 @@ impl<S: Sink> Solver<S> {
     }
 
     /// The clauses given so far, in their order.
-    pub fn given(&self) -> &[(Name, Clause)]
+    pub fn given(&self) -> &GivenClauses
         ensures { result.now ≡ given_to self.now }
     {
         &self.problem.given
@@ -229,13 +231,65 @@ impl<S: Sink> Solver<S> {
         ensures answers { budget.new.answers ≡ budget.old.answers + answer_count result }
         ensures same_limit { budget.new.limit ≡ budget.old.limit }
     {
+        self.solve_watched(budget, &mut Unwatched)
+    }
+
+    /// As `solve`. The watch is told how far the search has come, each time that it starts over.
+    ///
+    /// # Errors
+    ///
+    /// `Memory` where memory was refused: the lines are steps also then. `Failed` after that.
+    pub fn solve_watched<W: Watch>(
+        &mut self,
+        budget: &mut Budget,
+        watch: &mut W,
+    ) -> Result<Outcome, SolveFault>
+        ensures sat { OnSat result (λ bits. (length bits ≡ self.old.formula.variables)
+            × SatisfyGiven bits (given_to self.old)) }
+        ensures unsat { OnUnsat result (IsAcceptedLog (given_to self.old) (S.lines self.new.sink)) }
+        ensures limit { OnLimit result (left_of budget.new ≡ 0) }
+
+        // Where it answers at once.
+        ensures refuted { OnOk result (IsPlainlyRefuted self.old → result ≡ Ok Outcome.Unsat) }
+        ensures propagates { OnOk result (IsLiveRefuted (given_to self.old) (S.lines self.old.sink)
+            → result ≡ Ok Outcome.Unsat) }
+        ensures again { is_refuted (S.lines self.old.sink) ≡ true → self.old.failed ≡ false
+            → (result ≡ Ok Outcome.Unsat) × (budget.new ≡ budget.old) }
+        ensures failed { (result ≡ Err SolveFault.Failed) ↔ (self.old.failed ≡ true) }
+        ensures fails { IsErr result ↔ (self.new.failed ≡ true) }
+
+        // The lines, at every return.
+        ensures given { SameGiven self.old self.new }
+        ensures grows { S.lines self.new.sink
+            ≡ S.lines self.old.sink ++ lines_since (S.lines self.old.sink) (S.lines self.new.sink) }
+        ensures lines { IsLogOver (given_to self.new) (S.lines self.new.sink) }
+        ensures open { OnOk result ((result ≡ Ok Outcome.Unsat → ⊥)
+            → AddsNoEmptyClause (S.lines self.new.sink)) }
+        ensures short { All IsLearnedOrShort
+            (lines_since (S.lines self.old.sink) (S.lines self.new.sink)) }
+        ensures new { (base : ℕ) → IsBaseOf (given_to self.old) base
+            → LearnsNew nothing_exempt (given_to self.old) base (S.lines self.old.sink)
+            (lines_since (S.lines self.old.sink) (S.lines self.new.sink)) }
+
+        // The effort.
+        ensures learned { budget.new.learned ≡ budget.old.learned
+            + learned_count (lines_since (S.lines self.old.sink) (S.lines self.new.sink)) }
+        ensures answers { budget.new.answers ≡ budget.old.answers + answer_count result }
+        ensures same_limit { budget.new.limit ≡ budget.old.limit }
+    {
         if self.failed {
             return Err(SolveFault::Failed);
         }
         if self.refuted {
             return Ok(Outcome::Unsat);
         }
-        match answer(&mut self.search, &self.problem, &mut self.sink, budget) {
+        match answer(
+            &mut self.search,
+            &self.problem,
+            &mut self.sink,
+            budget,
+            watch,
+        ) {
             Ok(Outcome::Sat(bits)) => Ok(Outcome::Sat(bits)),
             Ok(Outcome::Limit) => Ok(Outcome::Limit),
             Ok(Outcome::Unsat) => {
@@ -251,22 +305,23 @@ impl<S: Sink> Solver<S> {
 }
 
 /// Searches, and reads the bits off the trail.
-fn answer<S: Sink>(
+fn answer<S: Sink, W: Watch>(
     search: &mut Search,
     problem: &Problem,
     sink: &mut S,
     budget: &mut Budget,
+    watch: &mut W,
 ) -> Result<Outcome, AllocError>
     requires runs { Runs search.old problem.now (S.lines sink.old) }
     requires problem { IsProblem problem.now }
     ensures answers { IfOk result (IsAnswer search.new problem.now (S.lines sink.new) budget.new) }
     ensures propagates { IfOk result (λ o.
-        IsLiveRefuted problem.now.given.items (S.lines sink.old) → o ≡ Unsat) }
-    ensures pays { PaysFor result problem.now.given.items (S.lines sink.old) (S.lines sink.new)
+        IsLiveRefuted problem.now.given (S.lines sink.old) → o ≡ Unsat) }
+    ensures pays { PaysFor result problem.now.given (S.lines sink.old) (S.lines sink.new)
         budget.old budget.new }
     ensures err { OnErr result (StaysOpen problem.now (S.lines sink.new)) }
 {
-    let end = run(search, problem, sink, budget)?;
+    let end = run(search, problem, sink, budget, watch)?;
     match end {
         End::Satisfied => {
             let bits = bits(search, problem)?;

@@ -1,6 +1,5 @@
 // A search over what elimination has left of a formula.
 ghost use Rattle.std.specs.Prelude.{◌≡◌, ◌<◌, ◌^◌, false, true, [], Some, map, length, All, IfOk};
-ghost use Rattle.cnf.specs.Clause.{has_repeat};
 ghost use Rattle.cnf.specs.Lrat.{IsId};
 ghost use Rattle.propagate.specs.Watches.{is_attached};
 ghost use Rattle.propagate.specs.Fits.{Fits};
@@ -9,12 +8,12 @@ ghost use Rattle.cdcl.specs.Invariant.{name_at};
 ghost use Rattle.cdcl.specs.Starts.{AreRising, IsLiveWithin, IsStarted};
 ghost use Rattle.lrat_log.specs.Steps.{given_of};
 
+use crate::given::GivenClauses;
 use crate::search::Search;
 use analyze::learning::Analyzer;
 use cdcl_order::policy::Policy;
 use clauses::store::{CRef, MaybeCRef, Store};
 use cnf::clause_list::ClauseList;
-use cnf::types::Clause;
 use eliminate::elimination::Stack;
 use lrat_log::lines::{Name, Number};
 use propagate::engine::Engine;
@@ -32,21 +31,13 @@ pub(crate) fn store_of(clauses: &ClauseList) -> Result<Store, AllocError>
 }
 
 /// The clauses of a formula by name.
-pub(crate) fn given_clauses(clauses: &ClauseList) -> Result<Vec<(Name, Clause)>, AllocError>
-    requires once { All (λ c. has_repeat c ≡ false) clauses.now }
-    ensures given { IfOk result (λ given. given.items ≡ given_of clauses.now) }
-    ensures few { IfOk result (λ _. length clauses.now < 2 ^ 61) }
+pub(crate) fn given_clauses(clauses: &ClauseList) -> Result<GivenClauses, AllocError>
+    ensures { IfOk result (λ given. given ≡ given_of clauses.now) }
 {
-    // The names of clauses stay below 2^62.
-    if clauses.len() >= 1 << 61 {
-        return Err(AllocError);
-    }
-    let alloc = clauses.allocator();
-    let mut given = Vec::new(alloc);
+    let mut given = GivenClauses::new(clauses.allocator());
     for clause in clauses.iter() {
-        let lits = Vec::from_slice(alloc, clause)?;
         let number = Number::new(given.len() as u64 + 1);
-        given.push((Name::Formula(number), Clause::new(lits)))?;
+        given.push(number, clause)?;
     }
     Ok(given)
 }

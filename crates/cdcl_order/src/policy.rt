@@ -8,12 +8,14 @@ ghost use Rattle.propagate.specs.Watches.{is_attached};
 ghost use Rattle.propagate.specs.Fits.{Fits};
 ghost use Rattle.cdcl_order.specs.Orders.{IsOpenVariable, AreClosed};
 
+use crate::budget::Budget;
 use crate::deletions::{Candidate, choose, is_due};
 use crate::levels::Levels;
 use crate::order::Order;
 use crate::phases::Phases;
 use crate::restarts::Pace;
 use crate::standings::{KEPT, Standing, Standings};
+use crate::watch::SearchReport;
 use clauses::store::{CRef, Moves, Store};
 use cnf::types::Lit;
 use propagate::engine::Engine;
@@ -37,6 +39,8 @@ pub struct Policy {
     long: usize,
     // How often clauses were chosen for deletion.
     deletions: u64,
+    // How often the search has started over, up to 2^64 - 1.
+    restarts: u64,
 }
 
 impl Model for Policy {
@@ -75,6 +79,7 @@ impl Policy {
             standings: Standings::new(alloc),
             long: 0,
             deletions: 0,
+            restarts: 0,
         })
     }
 
@@ -119,15 +124,17 @@ impl Policy {
         }
     }
 
-    /// A conflict taught a clause: by these reasons, the conflict among them, whose analysis met
-    /// these variables. The engine is still as it was at the conflict. It answers the clause's
-    /// block distance: the number of levels above 0 among its literals.
+    /// A conflict taught a clause: by these reasons, the conflict among them. Its analysis met
+    /// these variables, and those beside them stand in the reasons of the clause's literals: they
+    /// count too. The engine is still as it was at the conflict. It answers the clause's block distance:
+    /// the number of levels above 0 among its literals.
     pub fn learn_from(
         &mut self,
         engine: &Engine,
         store: &Store,
         reasons: &[CRef],
         met: &[u32],
+        beside: &[u32],
         lits: &[Lit],
     ) -> u32
         requires variables { engine.now.variables ≡ self.old.variables }
@@ -137,6 +144,7 @@ impl Policy {
         ensures { self.new ≡ record self.old { has_learned = true } }
     {
         self.order.bump_all(met);
+        self.order.bump_all(beside);
         self.order.decay();
         self.phases.count();
         self.pace.count();
@@ -187,6 +195,16 @@ impl Policy {
     {
         self.pace.start_over();
         self.phases.start_over();
+        self.restarts = self.restarts.saturating_add(1);
+    }
+
+    /// How far the search has come.
+    pub fn report(&self, budget: &Budget) -> SearchReport {
+        SearchReport {
+            conflicts: budget.learned(),
+            learned: self.long,
+            restarts: self.restarts,
+        }
     }
 
     /// Whether it is time to delete learned clauses.

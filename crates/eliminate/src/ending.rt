@@ -9,11 +9,27 @@ ghost use Rattle.eliminate.specs.Ending.{IsResult};
 use crate::simplifier::Simplifier;
 use clauses::store::Store;
 use eliminate_pairs::pairs::define_pairs;
+use eliminate_tables::bins::Bins;
+use eliminate_tables::rows::Rows;
+use eliminate_tables::schedule::Schedule;
 use lrat_log::sink::Sink;
-use std::alloc::AllocError;
+use std::alloc::{AllocError, Global};
 
 /// At most so many variables are fresh.
 const MOST_FRESH: u32 = 1 << 20;
+
+/// Frees the tables that the last pass does not need: on large formulas its pairs take their room.
+fn give_back(occurrences: &mut Rows, bins: &mut Bins, schedule: &mut Schedule, alloc: Global) {
+    if let Ok(none) = Rows::new(alloc, 0) {
+        *occurrences = none;
+    }
+    if let Ok(none) = Bins::new(alloc, 0) {
+        *bins = none;
+    }
+    if let Ok(none) = Schedule::new(alloc, 0) {
+        *schedule = none;
+    }
+}
 
 /// Replaces pairs of literals by fresh variables, unless the empty clause was added. The answer is
 /// the number of variables. The store and the names are then those of what is left; the other
@@ -38,6 +54,12 @@ pub(crate) fn define_where_open<S: Sink>(
     if simplifier.is_refuted {
         return Ok(simplifier.vars);
     }
+    give_back(
+        &mut simplifier.occurrences,
+        &mut simplifier.bins,
+        &mut simplifier.schedule,
+        store.allocator(),
+    );
     let most = frozen.len() as u32 + MOST_FRESH;
     define_pairs(store, &mut simplifier.names, sink, simplifier.vars, most)
 }

@@ -28,20 +28,20 @@ struct Meeting {
     // The indices of the literals, the lower one first.
     left: u32,
     right: u32,
-    // The number among the meetings, from 0, in the order of the store.
-    order: u32,
     // The place of the clause in the store.
     place: u32,
 }
 
+const _: () = prove!(size_of::<Meeting>() == 12);
+
 /// A pair with its meetings. The order puts the pair of most meetings first, and then the pair that
-/// was met first.
+/// was met first; of two that met first in one clause, the one of lower indices.
 #[derive(Clone, Copy, PartialEq, Eq, PartialOrd, Ord, Drop)]
 struct Run {
     // A number that falls as the meetings are more.
     rarity: usize,
-    // The order of the first meeting.
-    order: u32,
+    // The place of the clause of the first meeting.
+    place: u32,
     // The meetings, from one place up to another.
     start: usize,
     end: usize,
@@ -69,7 +69,7 @@ impl Candidate {
 /// The pairs of a store that stand together in many clauses.
 #[derive(Drop)]
 pub(crate) struct PairTable {
-    // Sorted by pair, and then by order.
+    // Sorted by pair, and then by place.
     meetings: Vec<Meeting>,
     // Pairs in at least `FEWEST` clauses, in their order.
     runs: Vec<Run>,
@@ -340,7 +340,6 @@ fn write_down(
                 meetings.push(Meeting {
                     left,
                     right,
-                    order: u32::try_from(meetings.len()).unwrap_or(u32::MAX),
                     place: u32::try_from(place).unwrap_or(u32::MAX),
                 })?;
             }
@@ -362,7 +361,7 @@ fn runs_of(alloc: Global, meetings: &[Meeting]) -> Result<Vec<Run>, AllocError> 
             if let Some(first) = meetings.get(start) {
                 runs.push(Run {
                     rarity: usize::MAX - count,
-                    order: first.order,
+                    place: first.place,
                     start,
                     end,
                 })?;

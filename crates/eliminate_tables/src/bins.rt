@@ -4,6 +4,10 @@
 // compared. A bin has room for a hundred clauses, so that no literal that stands everywhere makes
 // the search quadratic: what finds no room is not held against others. Each pass has so many steps
 // that it is linear in the store, also where many long clauses share most of their literals.
+//
+// All bins lie in two vectors: a vector each for the references and the signatures of a bin would
+// take three times the memory where clauses are short. A bin without room left moves to the end,
+// where it has twice its room; its old places are not used again.
 ghost use Rattle.std.specs.Prelude.{◌≡◌, length, List, Some, IfOk, IfSome};
 ghost use Rattle.cnf.specs.Literal.{Literal};
 ghost use Rattle.clauses.specs.Slots.{IsLive, clause_at};
@@ -24,23 +28,34 @@ const MOST_IN_A_BIN: usize = 100;
 /// literal, or holds eight signatures against one.
 const STEPS: usize = 64;
 
-/// Clauses, with their signatures at the same places.
-#[derive(Drop)]
+/// The room that a bin gets with its first clause.
+const FIRST_ROOM: u8 = 2;
+
+/// Where the clauses of a bin lie. It takes sixteen bytes.
+#[derive(Clone, Copy, Drop)]
 struct Bin {
     // The bits that all the signatures have; all bits, where there is none. Where one of them is
     // missing no signature fits, so that most bins are passed over without a look into them.
     common: u64,
-    // At most as many as a bin may hold; some of them may be dead.
-    references: Vec<CRef>,
-    // At the place of each reference, the signature of its clause.
-    signatures: Vec<u64>,
+    // The place of the first one.
+    start: u32,
+    // How many there are, some of which may be dead: at most as many as a bin may hold.
+    length: u8,
+    // How many places from the first on are the bin's own.
+    room: u8,
 }
+
+const _: () = prove!(size_of::<Bin>() == 16);
 
 /// A bin for each literal.
 #[derive(Drop)]
 pub struct Bins {
     // By literal.
     bins: Vec<Bin>,
+    // The clauses of all bins, and places that no bin has.
+    references: Vec<CRef>,
+    // At the place of each reference, the signature of its clause.
+    signatures: Vec<u64>,
     // By reference, whether the clause was put into a bin, or found no room.
     is_connected: Vec<bool>,
     // The first place of the store with a clause that no pass has seen.
@@ -75,16 +90,16 @@ impl Bins {
         ensures { IfOk result (λ b. b ≡ 0) }
     {
         let count = 2 * vars as usize;
-        let mut bins = Vec::with_capacity(alloc, count)?;
-        for _literal in 0..count {
-            bins.push(Bin {
-                common: u64::MAX,
-                references: Vec::new(alloc),
-                signatures: Vec::new(alloc),
-            })?;
-        }
+        let empty = Bin {
+            common: u64::MAX,
+            start: 0,
+            length: 0,
+            room: 0,
+        };
         Ok(Bins {
-            bins,
+            bins: Vec::from_elem(alloc, empty, count)?,
+            references: Vec::new(alloc),
+            signatures: Vec::new(alloc),
             is_connected: Vec::new(alloc),
             first_new: 0,
             fits: Vec::from_elem(alloc, false, MOST_IN_A_BIN)?,
@@ -106,7 +121,7 @@ impl Bins {
         self.first_new = store.places();
         self.steps = store.used().saturating_mul(STEPS);
         for bin in self.bins.iter_mut() {
-            bin.clean(store);
+            clean(bin, &mut self.references, &mut self.signatures, store);
         }
     }
 
@@ -126,10 +141,17 @@ impl Bins {
         }
         let least = self.least_full(lits);
         if let Some(bin) = self.bins.get_mut(least) {
+            if bin.length == bin.room {
+                make_room(bin, &mut self.references, &mut self.signatures, reference)?;
+            }
             let signature = signature(lits);
-            bin.references.push(reference)?;
-            bin.signatures.push(signature)?;
-            bin.common &= signature;
+            put(
+                bin,
+                &mut self.references,
+                &mut self.signatures,
+                reference,
+                signature,
+            );
         }
         Ok(())
     }
@@ -140,8 +162,8 @@ impl Bins {
         let mut place = usize::MAX;
         for lit in lits {
             if let Some(bin) = self.bins.get(lit.index()) {
-                if bin.references.len() < least {
-                    least = bin.references.len();
+                if (bin.length as usize) < least {
+                    least = bin.length as usize;
                     place = lit.index();
                 }
             }
@@ -172,8 +194,17 @@ impl Bins {
                     return None;
                 }
                 if let Some(bin) = self.bins.get(row) {
-                    let fits = &mut self.fits;
-                    let found = bin.find(fits, &mut self.steps, signature, marks, store, current);
+                    let found = find(
+                        bin,
+                        &self.references,
+                        &self.signatures,
+                        &mut self.fits,
+                        &mut self.steps,
+                        signature,
+                        marks,
+                        store,
+                        current,
+                    );
                     if found.is_some() {
                         return found;
                     }
@@ -184,71 +215,109 @@ impl Bins {
     }
 }
 
-impl Bin {
-    /// Takes out what was deleted.
-    fn clean(&mut self, store: &Store) {
-        let mut kept = 0;
-        for k in 0..self.references.len() {
-            let reference = self.references[k];
-            if store.is_live(reference) && kept < k && k < self.signatures.len() {
-                self.references[kept] = reference;
-                self.signatures[kept] = self.signatures[k];
-            }
-            if store.is_live(reference) {
-                kept += 1;
-            }
-        }
-        self.references.truncate(kept);
-        self.signatures.truncate(kept);
-        self.common = common_bits(&self.signatures);
+/// Gives a bin twice its room, at the end. Where that would lie past 2^32 places, or the bin is
+/// full, all stays as it is.
+fn make_room(
+    bin: &mut Bin,
+    references: &mut Vec<CRef>,
+    signatures: &mut Vec<u64>,
+    fill: CRef,
+) -> Result<(), AllocError> {
+    let start = references.len();
+    let room = bin.room.saturating_mul(2).max(FIRST_ROOM);
+    if start >= u32::MAX as usize || bin.length as usize >= MOST_IN_A_BIN {
+        return Ok(());
     }
+    for k in 0..room {
+        let from = bin.start as usize + k as usize;
+        let (reference, signature) = match (references.get(from), signatures.get(from)) {
+            (Some(reference), Some(signature)) => (*reference, *signature),
+            _ => (fill, 0),
+        };
+        references.push(reference)?;
+        signatures.push(signature)?;
+    }
+    bin.start = start as u32;
+    bin.room = room;
+    Ok(())
+}
 
-    /// Another clause of the bin that is within the marked one, or but for one literal.
-    fn find(
-        &self,
-        fits: &mut [bool],
-        steps: &mut usize,
-        signature: u64,
-        marks: &Marks,
-        store: &Store,
-        current: CRef,
-    ) -> Option<Found>
-        requires { ArePlaced (length marks.now) store.now.slots }
-        ensures other { IfSome result (λ found. found.by ≡ current → ⊥) }
-        ensures live { IfSome result (λ found. IsLive store.now.slots found.by) }
-        ensures against { IfSome result (λ found. (c : List Literal)
-            → clause_at store.now.slots found.by ≡ Some c → LiesAgainst marks.now c found.against) }
-    {
-        let count = self.signatures.len();
-        if count > fits.len() {
-            return None;
-        }
-        *steps = steps.saturating_sub(1 + count / 8);
-        if self.common & signature != self.common {
-            return None;
-        }
-        maybe_subsets(signature, &self.signatures, &mut fits[..count]);
-        for (by, fit) in self.references.iter().zip(fits.iter()) {
-            if *fit && *by != current && *steps > 0 && store.is_live(*by) {
-                let lits = store.lits(*by);
-                *steps = steps.saturating_sub(lits.len());
-                let against = hold_against(marks, lits);
-                if against != Against::Apart {
-                    return Some(Found { by: *by, against });
-                }
-            }
-        }
-        None
+/// Puts a clause last, where there is room.
+fn put(
+    bin: &mut Bin,
+    references: &mut [CRef],
+    signatures: &mut [u64],
+    reference: CRef,
+    signature: u64,
+) {
+    let at = bin.start as usize + bin.length as usize;
+    if bin.length < bin.room && at < references.len() && at < signatures.len() {
+        references[at] = reference;
+        signatures[at] = signature;
+        bin.length += 1;
+        bin.common &= signature;
     }
 }
 
-/// The bits that all the signatures have.
-fn common_bits(signatures: &[u64]) -> u64 {
+/// Takes out what was deleted.
+fn clean(bin: &mut Bin, references: &mut [CRef], signatures: &mut [u64], store: &Store) {
+    let start = bin.start as usize;
+    let mut kept: u8 = 0;
     let mut common = u64::MAX;
-    for signature in signatures {
-        common &= *signature;
+    for k in 0..bin.length {
+        let from = start + k as usize;
+        let to = start + kept as usize;
+        if from < references.len() && from < signatures.len() && store.is_live(references[from]) {
+            references[to] = references[from];
+            signatures[to] = signatures[from];
+            common &= signatures[from];
+            kept += 1;
+        }
     }
-    common
+    bin.length = kept;
+    bin.common = common;
+}
+
+/// Another clause of the bin that is within the marked one, or but for one literal.
+fn find(
+    bin: &Bin,
+    references: &[CRef],
+    signatures: &[u64],
+    fits: &mut [bool],
+    steps: &mut usize,
+    signature: u64,
+    marks: &Marks,
+    store: &Store,
+    current: CRef,
+) -> Option<Found>
+    requires { ArePlaced (length marks.now) store.now.slots }
+    ensures other { IfSome result (λ found. found.by ≡ current → ⊥) }
+    ensures live { IfSome result (λ found. IsLive store.now.slots found.by) }
+    ensures against { IfSome result (λ found. (c : List Literal)
+        → clause_at store.now.slots found.by ≡ Some c → LiesAgainst marks.now c found.against) }
+{
+    let start = bin.start as usize;
+    let count = bin.length as usize;
+    let end = start + count;
+    if count > fits.len() || end > references.len() || end > signatures.len() {
+        return None;
+    }
+    *steps = steps.saturating_sub(1 + count / 8);
+    if bin.common & signature != bin.common {
+        return None;
+    }
+    maybe_subsets(signature, &signatures[start..end], &mut fits[..count]);
+    for (by, fit) in references[start..end].iter().zip(fits.iter()) {
+        if *fit && *by != current && *steps > 0 && store.is_live(*by) {
+            let lits = store.lits(*by);
+            *steps = steps.saturating_sub(lits.len());
+            let against = hold_against(marks, lits);
+            if against != Against::Apart {
+                return Some(Found { by: *by, against });
+            }
+        }
+    }
+    None
 }
 
 /// The bits of the literals and of their negations: a clause that strengthens has one literal

@@ -34,7 +34,7 @@ returns-clause-satisfied c =
     ∙ ap (λ k. take k (extended removed read)) count in
     let fits : n ≤ length (extended removed read) =
     omega (arith, wide, many, c.requires.problem.no_fewer) in
-    subst (λ bits. SatisfyGiven bits p.given.items) (sym items)
-    (answer_sat s.engine s.store.slots p.stack (tables_of s) p.frozen.items p.first p.given.items
+    subst (λ bits. SatisfyGiven bits p.given) (sym items)
+    (answer_sat s.engine s.store.slots p.stack (tables_of s) p.frozen.items p.first p.given
     c.requires.runs.0 read r c.requires.quiet many c.loop-variable.invariant.read
     c.requires.problem.given_small fits)

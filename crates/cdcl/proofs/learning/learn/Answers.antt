@@ -119,9 +119,9 @@ returns-clause-runs g c =
     } in
     let bumped : IsRunning c.learn_from-distance.new.self.engine
     c.learn_from-distance.new.self.store.slots p.stack
-    (tables_of c.learn_from-distance.new.self) p.frozen.items p.first p.given.items ls =
+    (tables_of c.learn_from-distance.new.self) p.frozen.items p.first p.given ls =
     subst (λ (x : Search). IsRunning x.engine (x.store).slots p.stack (tables_of x) p.frozen.items
-    p.first p.given.items ls) (sym c.learn_from-distance.ensures.same) c.requires.runs.running in
+    p.first p.given ls) (sym c.learn_from-distance.ensures.same) c.requires.runs.running in
     let moved = c.backtrack.ensures.state p ls bumped in
     let trail : m.engine.trail ≡ kept_to learned.back_level T = c.backtrack.ensures.trail
     ∙ ap (λ (x : Search). kept_to learned.back_level (x.engine).trail)
@@ -165,8 +165,8 @@ returns-clause-writes g c =
       clause = c.as_slice-2.result.now;
       hints = c.in_ok-hints.hints.items;
     } in
-    subst (λ x. Writes p.given.items ls x 1) (sym c.in_ok-reference.ensures.lines)
-    (writes_learned p.given.items ls l refl lesson.adds
-    (λ base above. learn_is_new s.engine s.store.slots s.names.items p.given.items ls l
+    subst (λ x. Writes p.given ls x 1) (sym c.in_ok-reference.ensures.lines)
+    (writes_learned p.given ls l refl lesson.adds
+    (λ base above. learn_is_new s.engine s.store.slots s.names.items p.given ls l
     learned.back_level run.searches run.recorded.names lesson.asserting c.requires.deep
     base above))

@@ -136,7 +136,7 @@ returns-clause-runs g c =
     let few_k : k.variable < 2 ^ 27 =
     (let a = c.variable.ensures.small in let b = c.variable.ensures.variable in omega arith) in
     let adds =
-    adds_unit slots T (s.names).items (c.args.problem.now.given).items
+    adds_unit slots T (s.names).items c.args.problem.now.given
     (g.S.Sink.lines c.args.sink.now) c.in_ok-hints.hints.items k s.noted r reasons
     c.requires.flat n run.recorded.names h few_k in
     let long : length c.hints_of.new.stamps ≡ length (s.stamps).items =

@@ -80,7 +80,7 @@ returns-clause-ended g c =
 
 pub returns-clause-writes : goal.returns-clause-writes
 returns-clause-writes g c =
-    let given = (c.args.problem.now.given).items in
+    let given = c.args.problem.now.given in
     let old = g.S.Sink.lines c.args.sink.now in
     let ls = g.S.Sink.lines c.note_units.new.sink in
     let e = c.in_ok-note_units.ensures in

@@ -39,7 +39,7 @@ loop-reference-init g c =
       variables = d.same.1;
       long = ap (λ (T : List Assigned). length T) d.same.0;
       policy = refl;
-      writes = writes_none c.args.problem.now.given.items (g.S.Sink.lines c.args.sink.now);
+      writes = writes_none c.args.problem.now.given (g.S.Sink.lines c.args.sink.now);
     }
 
 pub loop-reference-preserved : goal.loop-reference-preserved
@@ -68,7 +68,7 @@ loop-reference-preserved g c =
       long = ap (λ (e : EngineState). length e.trail) d.engine ∙ l.invariant.long;
       policy = d.policy ∙ l.invariant.policy;
       writes =
-          writes_join problem.given.items before (g.S.Sink.lines l.sink)
+          writes_join problem.given before (g.S.Sink.lines l.sink)
           (g.S.Sink.lines c.delete.new.sink) 0 0 l.invariant.writes d.writes;
     }
 
@@ -82,7 +82,7 @@ delete-requires g c =
 
 pub returns-in_err-doomed-clause-writes : goal.returns-in_err-doomed-clause-writes
 returns-in_err-doomed-clause-writes g c =
-    writes_none c.args.problem.now.given.items (g.S.Sink.lines c.args.sink.now)
+    writes_none c.args.problem.now.given (g.S.Sink.lines c.args.sink.now)
 
 pub returns-in_err-delete-clause-err : goal.returns-in_err-delete-clause-err
 returns-in_err-delete-clause-err g c =

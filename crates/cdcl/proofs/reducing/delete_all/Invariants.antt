@@ -11,5 +11,5 @@ invariant-loop-reference g l = record {
   variables : l.search.engine.variables ≡ l.fn.search.engine.variables;
   long : length l.search.engine.trail ≡ length l.fn.search.engine.trail;
   policy : l.search.policy ≡ l.fn.search.policy;
-  writes : Writes l.problem.given.items (g.S.Sink.lines l.fn.sink) (g.S.Sink.lines l.sink) 0;
+  writes : Writes l.problem.given (g.S.Sink.lines l.fn.sink) (g.S.Sink.lines l.sink) 0;
 }

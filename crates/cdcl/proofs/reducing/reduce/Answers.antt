@@ -8,15 +8,15 @@ use Rattle.cdcl.proofs.reducing.reduce.Goals.{then-is_sparse+in_ok-compact, else
 pub returns-then-not-is_deletion_due-clause-writes :
     goal.returns-then-not-is_deletion_due-clause-writes
 returns-then-not-is_deletion_due-clause-writes g c =
-    writes_none c.args.problem.now.given.items (g.S.Sink.lines c.args.sink.now)
+    writes_none c.args.problem.now.given (g.S.Sink.lines c.args.sink.now)
 
 pub returns-in_err-candidates-clause-writes : goal.returns-in_err-candidates-clause-writes
 returns-in_err-candidates-clause-writes g c =
-    writes_none c.args.problem.now.given.items (g.S.Sink.lines c.args.sink.now)
+    writes_none c.args.problem.now.given (g.S.Sink.lines c.args.sink.now)
 
 pub returns-in_err-chosen-clause-writes : goal.returns-in_err-chosen-clause-writes
 returns-in_err-chosen-clause-writes g c =
-    writes_none c.args.problem.now.given.items (g.S.Sink.lines c.args.sink.now)
+    writes_none c.args.problem.now.given (g.S.Sink.lines c.args.sink.now)
 
 pub delete_all-requires : goal.delete_all-requires
 delete_all-requires g c = record {

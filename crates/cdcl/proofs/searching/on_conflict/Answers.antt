@@ -19,11 +19,11 @@ returns-then-left-eq0-clause-ends g c =
 
 pub returns-then-left-eq0-clause-pays : goal.returns-then-left-eq0-clause-pays
 returns-then-left-eq0-clause-pays g c =
-    pays_nothing c.args.problem.now.given.items (g.S.Sink.lines c.args.sink.now) c.args.budget.now
+    pays_nothing c.args.problem.now.given (g.S.Sink.lines c.args.sink.now) c.args.budget.now
 
 pub returns-in_err-learn-clause-pays : goal.returns-in_err-learn-clause-pays
 returns-in_err-learn-clause-pays g c =
-    let given = c.args.problem.now.given.items in
+    let given = c.args.problem.now.given in
     let ls = g.S.Sink.lines c.args.sink.now in
     subst (λ x. Pays given ls x c.args.budget.now c.args.budget.now)
     (sym c.in_err-learn.ensures.err) (pays_nothing given ls c.args.budget.now)

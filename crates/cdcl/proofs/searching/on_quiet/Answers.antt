@@ -11,11 +11,11 @@ use Rattle.cdcl.proofs.searching.on_quiet.Goals as goal
 
 pub returns-then-left-eq0-clause-pays : goal.returns-then-left-eq0-clause-pays
 returns-then-left-eq0-clause-pays g c =
-    pays_nothing c.args.problem.now.given.items (g.S.Sink.lines c.args.sink.now) c.args.budget.now
+    pays_nothing c.args.problem.now.given (g.S.Sink.lines c.args.sink.now) c.args.budget.now
 
 pub returns-then-is_restart_due-clause-pays : goal.returns-then-is_restart_due-clause-pays
 returns-then-is_restart_due-clause-pays g c =
-    pays_nothing c.args.problem.now.given.items (g.S.Sink.lines c.args.sink.now) c.args.budget.now
+    pays_nothing c.args.problem.now.given (g.S.Sink.lines c.args.sink.now) c.args.budget.now
 
 pub returns-then-is_restart_due-clause-goes : goal.returns-then-is_restart_due-clause-goes
 returns-then-is_restart_due-clause-goes g c =
@@ -53,23 +53,23 @@ reduce-requires g c = record {
 -- what was written before and by a deletion
 pub returns-in_err-reduce-clause-pays : goal.returns-in_err-reduce-clause-pays
 returns-in_err-reduce-clause-pays g c =
-    pays_none c.args.problem.now.given.items (g.S.Sink.lines c.args.sink.now)
+    pays_none c.args.problem.now.given (g.S.Sink.lines c.args.sink.now)
     (g.S.Sink.lines c.reduce.new.sink) c.args.budget.now
-    (writes_join c.args.problem.now.given.items (g.S.Sink.lines c.args.sink.now)
+    (writes_join c.args.problem.now.given (g.S.Sink.lines c.args.sink.now)
     (g.S.Sink.lines c.note_level.new.sink) (g.S.Sink.lines c.reduce.new.sink) 0 0
     c.note_level.ensures.writes c.reduce.ensures.writes)
 
 pub returns-clause-pays : goal.returns-clause-pays
 returns-clause-pays g c =
-    pays_none c.args.problem.now.given.items (g.S.Sink.lines c.args.sink.now)
+    pays_none c.args.problem.now.given (g.S.Sink.lines c.args.sink.now)
     (g.S.Sink.lines c.reduce.new.sink) c.args.budget.now
-    (writes_join c.args.problem.now.given.items (g.S.Sink.lines c.args.sink.now)
+    (writes_join c.args.problem.now.given (g.S.Sink.lines c.args.sink.now)
     (g.S.Sink.lines c.note_level.new.sink) (g.S.Sink.lines c.reduce.new.sink) 0 0
     c.note_level.ensures.writes c.reduce.ensures.writes)
 
 pub returns-then-not-branch-clause-pays : goal.returns-then-not-branch-clause-pays
 returns-then-not-branch-clause-pays g c =
-    pays_none c.args.problem.now.given.items (g.S.Sink.lines c.args.sink.now)
+    pays_none c.args.problem.now.given (g.S.Sink.lines c.args.sink.now)
     (g.S.Sink.lines c.note_level.new.sink) c.args.budget.now c.note_level.ensures.writes
 
 pub returns-then-not-branch-clause-ends : goal.returns-then-not-branch-clause-ends

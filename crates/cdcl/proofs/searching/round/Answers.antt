@@ -3,7 +3,7 @@ use Rattle.cdcl.proofs.searching.round.Goals as goal
 
 pub returns-in_err-conflict-clause-pays : goal.returns-in_err-conflict-clause-pays
 returns-in_err-conflict-clause-pays g c =
-    pays_nothing c.args.problem.now.given.items (g.S.Sink.lines c.args.sink.now) c.args.budget.now
+    pays_nothing c.args.problem.now.given (g.S.Sink.lines c.args.sink.now) c.args.budget.now
 
 pub on_conflict-requires-clause-runs : goal.on_conflict-requires-clause-runs
 on_conflict-requires-clause-runs g c =

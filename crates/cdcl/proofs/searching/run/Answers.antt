@@ -17,7 +17,7 @@ returns-in_err-found-clause-pays g c =
     let b = c.args.budget.now in
     let e : b.learned ≡ b.learned + 0 = omega arith in (
       0,
-      writes_none (c.args.problem.now.given).items (g.S.Sink.lines c.args.sink.now),
+      writes_none c.args.problem.now.given (g.S.Sink.lines c.args.sink.now),
       λ i. record { limit = b.limit; learned = e i; answers = b.answers },
     )
 
@@ -51,6 +51,6 @@ returns-in-None-clause-propagates g c =
     subst (λ o. IfNone o (IsQuiet (s.store).slots (literals_of (s.engine).trail))) c.in-None.is
     c.in_ok-found.ensures.quiet in
     IfOk-weaker c.descend.result (IsEndOf c.descend.new.search p (g.S.Sink.lines c.descend.new.sink)
-    c.descend.new.budget) (λ end. IsLiveRefuted (p.given).items ls → end ≡ Refuted)
-    (λ end w h. absurd (answer_open s.engine (s.store).slots (s.names).items (p.given).items ls
+    c.descend.new.budget) (λ end. IsLiveRefuted p.given ls → end ≡ Refuted)
+    (λ end w h. absurd (answer_open s.engine (s.store).slots (s.names).items p.given ls
     runs.running.recorded.names quiet h)) c.descend.ensures.ends

@@ -20,7 +20,7 @@ returns-clause-state c p ls r =
     let s = c.args.self.now in
     let b = c.backtrack.ensures in
     run_backtrack s.engine c.backtrack.new.self s.store.slots p.stack (tables_of s) p.frozen.items
-    p.first p.given.items ls c.args.level r c.requires.level b.trail b.attached b.same
+    p.first p.given ls c.args.level r c.requires.level b.trail b.attached b.same
     (b.fits s.store.slots c.requires.ready.searches.fits)
 
 pub returns-clause-runs : goal.returns-clause-runs
@@ -30,7 +30,7 @@ returns-clause-runs c p ls r =
     runs_moved s c.backtrack.new.self c.put_back.new.policy p ls r b.same.0
     (ap (λ o. o.variables) c.put_back.ensures)
     (run_backtrack s.engine c.backtrack.new.self s.store.slots p.stack (tables_of s) p.frozen.items
-    p.first p.given.items ls c.args.level r.running c.requires.level b.trail b.attached b.same
+    p.first p.given ls c.args.level r.running c.requires.level b.trail b.attached b.same
     (b.fits s.store.slots c.requires.ready.searches.fits))
 
 pub returns-clause-ready : goal.returns-clause-ready

@@ -11,7 +11,7 @@ returns-clause-runs c p ls r =
     let d = c.decide.ensures in
     runs_moved s c.decide.new.self s.policy p ls r d.same.0 refl
     (run_decide s.engine c.decide.new.self s.store.slots p.stack (tables_of s) p.frozen.items
-    p.first p.given.items ls c.args.lit r.running c.requires.quiet c.requires.noted d.trail
+    p.first p.given ls c.args.lit r.running c.requires.quiet c.requires.noted d.trail
     d.attached d.same (d.fits s.store.slots c.requires.ready.searches.fits))
 
 pub returns-clause-ready : goal.returns-clause-ready

@@ -16,7 +16,7 @@ returns-in-Ok-clause-runs c p ls r =
     false_from_ne_true f.failed (λ e. false≢true (c.in-Ok.ensures.fails.1 e)) in
     runs_moved s f s.policy p ls r c.propagate.ensures.same refl
     (run_propagate s.engine f s.store.slots p.stack (tables_of s) p.frozen.items p.first
-    p.given.items ls r.running c.propagate.ensures.grows c.propagate.ensures.attached
+    p.given ls r.running c.propagate.ensures.grows c.propagate.ensures.attached
     c.propagate.ensures.same works c.propagate.ensures.fits)
 
 pub returns-in-Ok-clause-ready : goal.returns-in-Ok-clause-ready

@@ -20,7 +20,7 @@ gives g c =
     subst (λ x. IsFreshName x c.args.name) (given_seen p c.self.invariant.problem) seen in
     let name : c.args.name ≡ Formula c.get-number.result =
     c.in-Formula.is ∙ ap Formula (sym c.get-number.ensures.value) in
-    let fresh = subst (IsFreshName (p.given).items) name free in
+    let fresh = subst (IsFreshName p.given) name free in
     let fixed =
     subst (λ s. All (IsFrozen s.frozen) c.args.lits.now) (sym c.self.view_is) c.requires.frozen in
     gives_solver c.self.inside.search c.give.new.search p c.give.new.problem

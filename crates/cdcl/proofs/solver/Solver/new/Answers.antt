@@ -2,12 +2,14 @@
 use Rattle.std.proofs.Common.{◌≡◌, ◌<◌, ◌≤◌, ◌+◌, ◌^◌, false, List, length, rules, take, map, sym}
 use Rattle.std.proofs.Common.{◌∙◌, ap, subst, arith}
 use Rattle.std.specs.Prelude.{All}
-use Rattle.std.proofs.lemmas.List.{drop_all}
+use Rattle.std.proofs.lemmas.List.{drop_all, length-map}
 use Rattle.cnf.specs.Literal.{Literal}
 use Rattle.cnf.specs.Clause.{has_repeat}
 use Rattle.cnf.specs.Refute.{IsRefutedByHints}
 use Rattle.clauses.specs.Slots.{live_clauses}
+use Rattle.lrat_log.specs.declared.lines.Name.{Name}
 use Rattle.lrat_log.specs.Steps.{StaysLogOver, given_of}
+use Rattle.lrat_log.proofs.Laws.{clauses_given}
 use Rattle.eliminate.specs.Elimination.{ExtendsBack, IsFree}
 use Rattle.cdcl.specs.declared.problem.Problem.{Problem}
 use Rattle.cdcl.proofs.Placing.{added_few}
@@ -26,12 +28,6 @@ left g c =
     c.eliminate.new.store.slots c.in_ok-stack.stack (g.S.Sink.lines c.eliminate.new.sink.sink)
     (ap live_clauses c.in_ok-store.ensures ∙ live_map c.clauses-clauses.result.now)
     c.in_ok-stack.ensures.live c.in_ok-stack.ensures.left
-
-pub given_clauses-requires : goal.given_clauses-requires
-given_clauses-requires g c = record {
-  once = subst (All (λ (x : List Literal). has_repeat x ≡ false)) (sym c.clauses-clauses.ensures)
-      (λ k d lt. (c.vars.ensures.limits.clauses k d lt).no_repeat);
-}
 
 pub eliminate-requires-clause-formula : goal.eliminate-requires-clause-formula
 eliminate-requires-clause-formula g c =
@@ -70,10 +66,14 @@ start-requires-clause-numbers g c =
     let few =
     added_few ls c.eliminate.new.sink.additions c.eliminate.new.sink.counted c.is_short.ensures in
     let same = c.eliminate.new.sink.counted in
-    let many = c.in_ok-given.ensures.few in
+    let cs = c.clauses-clauses.result.now in
+    let firsts = c.len-first.ensures in
+    let numbered = ap length c.in_ok-given.ensures in
+    let alone = length-map (given_of cs) (λ (g : Name × List Literal). g.1) in
+    let many = ap length (clauses_given cs) in
     left_numbers c.clauses-clauses.result.now c.eliminate.new.store.slots c.in_ok-stack.stack ls
     (left g (goal.at.start-requires-clause-numbers g c).After-is_short)
-    (omega (arith, few, same, many))
+    (omega (arith, few, same, firsts.len, firsts.few, numbered, alone, many))
 
 pub invariant_of-result : goal.invariant_of-result
 invariant_of-result g c =
@@ -91,7 +91,7 @@ invariant_of-result g c =
       first = c.len-first.result;
       given = c.in_ok-given.given;
     } in
-    let firsts : c.len-first.result ≡ length (c.in_ok-given.given).items = search rules in
+    let firsts : c.len-first.result ≡ length c.in_ok-given.given = c.len-first.ensures.len in
     let stays : StaysLogOver (length (c.in_ok-frozen.frozen).items) (given_of cs) ls =
     subst (λ f. StaysLogOver (length f) (given_of cs) ls) (sym frozen)
     (subst (λ x. StaysLogOver (length c.args.frozen.now) (given_of x) ls) e stack.lines) in
@@ -99,17 +99,17 @@ invariant_of-result g c =
     added_few ls c.eliminate.new.sink.additions c.eliminate.new.sink.counted c.is_short.ensures in
     record {
       problem = new_problem c.args.formula.now p cs c.vars.ensures.limits c.clauses-clauses.ensures
-          (ap length frozen ∙ c.requires.frozen) c.in_ok-given.ensures.given firsts
+          (ap length frozen ∙ c.requires.frozen) c.in_ok-given.ensures firsts
           (subst (λ f. length f ≤ c.in_ok-stack.stack.variables) (sym frozen) stack.variables.0)
           (subst (λ f. c.in_ok-stack.stack.variables ≤ length f + 2 ^ 20) (sym frozen)
           stack.variables.1);
       lines =
           subst (λ x. StaysLogOver (length (c.in_ok-frozen.frozen).items) x ls)
-          (sym c.in_ok-given.ensures.given) stays;
+          (sym c.in_ok-given.ensures) stays;
       refuted_is = c.eliminate.new.sink.told;
       running =
           λ works not_refuted. first_runs c.in_ok-search.search p ls cs slots
-          c.eliminate.new.sink.additions c.in_ok-search.ensures rest c.in_ok-given.ensures.given
+          c.eliminate.new.sink.additions c.in_ok-search.ensures rest c.in_ok-given.ensures
           firsts stays (sym c.eliminate.new.sink.told ∙ not_refuted) c.eliminate.new.sink.counted
           few
           (subst (λ f. All (λ r. IsFree f r.variable) (c.in_ok-stack.stack).removed) (sym frozen)
@@ -129,14 +129,14 @@ returns-clause-given g c =
       first = c.len-first.result;
       given = c.in_ok-given.given;
     } in
-    let firsts : c.len-first.result ≡ length (c.in_ok-given.given).items = search rules in
+    let firsts : c.len-first.result ≡ length c.in_ok-given.given = c.len-first.ensures.len in
     let wide : length (c.in_ok-frozen.frozen).items ≡ c.args.formula.now.variables =
     ap length frozen ∙ c.requires.frozen in
-    let same : map (λ x. x.1) (take c.len-first.result (c.in_ok-given.given).items)
-    ≡ c.args.formula.now.clauses = first_clauses p cs c.in_ok-given.ensures.given firsts
+    let same : map (λ x. x.1) (take c.len-first.result c.in_ok-given.given)
+    ≡ c.args.formula.now.clauses = first_clauses p cs c.in_ok-given.ensures firsts
     ∙ c.clauses-clauses.ensures in (
       λ i. record { variables = wide i; clauses = same i },
-      drop_all c.len-first.result (c.in_ok-given.given).items (omega arith),
+      drop_all c.len-first.result c.in_ok-given.given (omega arith),
       frozen,
     )
 
@@ -154,15 +154,15 @@ returns-clause-lines g c =
       first = c.len-first.result;
       given = c.in_ok-given.given;
     } in
-    let firsts : c.len-first.result ≡ length (c.in_ok-given.given).items = search rules in
+    let firsts : c.len-first.result ≡ length c.in_ok-given.given = c.len-first.ensures.len in
     let stays : StaysLogOver (length (c.in_ok-frozen.frozen).items) (given_of cs) ls =
     subst (λ f. StaysLogOver (length f) (given_of cs) ls) (sym frozen)
     (subst (λ x. StaysLogOver (length c.args.frozen.now) (given_of x) ls) e stack.lines) in
     let problem =
     new_problem c.args.formula.now p cs c.vars.ensures.limits c.clauses-clauses.ensures
-    (ap length frozen ∙ c.requires.frozen) c.in_ok-given.ensures.given firsts
+    (ap length frozen ∙ c.requires.frozen) c.in_ok-given.ensures firsts
     (subst (λ f. length f ≤ c.in_ok-stack.stack.variables) (sym frozen) stack.variables.0)
     (subst (λ f. c.in_ok-stack.stack.variables ≤ length f + 2 ^ 20) (sym frozen)
     stack.variables.1) in
     log_now p ls problem (subst (λ x. StaysLogOver (length (c.in_ok-frozen.frozen).items) x ls)
-    (sym c.in_ok-given.ensures.given) stays)
+    (sym c.in_ok-given.ensures) stays)

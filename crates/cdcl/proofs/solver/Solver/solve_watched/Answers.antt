@@ -5,7 +5,7 @@ use Rattle.cdcl.specs.Running.{IsAnswer}
 use Rattle.cdcl.proofs.Answered.{given_seen, log_now, ended_log, answered_log, solver_runs}
 use Rattle.cdcl.proofs.Answered.{solver_fails}
 use Rattle.cdcl.proofs.Answered.{seen_log, seen_ended, seen_plain, seen_live, seen_short}
-use Rattle.cdcl.proofs.solver.Solver.solve.Goals as goal
+use Rattle.cdcl.proofs.solver.Solver.solve_watched.Goals as goal
 
 pub returns-then-self-clause-lines : goal.returns-then-self-clause-lines
 returns-then-self-clause-lines g c =

@@ -1,0 +1,27 @@
+// What is told of a search while it runs. No contract speaks of it.
+
+/// How far a search has come.
+#[derive(Clone, Copy, Debug, PartialEq, Eq, Drop)]
+pub struct SearchReport {
+    /// How many conflicts were paid from the budget so far; each taught a clause.
+    pub conflicts: u64,
+    /// How many learned clauses of more than two literals are live.
+    pub learned: usize,
+    /// How often this solver has started over, in all its searches.
+    pub restarts: u64,
+}
+
+/// Is told how far a search has come, each time that it starts over. What the search answers, and
+/// what it writes, does not depend on it.
+pub trait Watch {
+    /// The search starts over.
+    fn restarted(&mut self, report: &SearchReport);
+}
+
+/// Looks at nothing.
+#[derive(Drop)]
+pub struct Unwatched;
+
+impl Watch for Unwatched {
+    fn restarted(&mut self, _report: &SearchReport) {}
+}
