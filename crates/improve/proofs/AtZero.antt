@@ -1,6 +1,6 @@
 -- The formula for 'cost below 0' has the empty clause as its last one, and no cost is below 0.
 use Rattle.std.proofs.Common.{◌≡◌, ℕ, ◌+◌, Bool, List, [], ◌∷◌, ◌++◌, length, inl, refl, sym, subst}
-use Rattle.std.proofs.Common.{arith, length-append}
+use Rattle.std.proofs.Common.{ap, ◌∙◌, arith, length-append}
 use Rattle.std.specs.declared.vec.Vec.{Vec}
 use Rattle.std.specs.declared.alloc.Global.{Global}
 use Rattle.cnf.specs.Literal.{Literal}
@@ -11,10 +11,11 @@ use Rattle.cnf.specs.Problem.{Problem}
 use Rattle.lrat_log.specs.Log.{LogLine}
 use Rattle.lrat_log.proofs.Laws.{numbered_right}
 use Rattle.adder.specs.declared.cells.Profile.{Profile}
-use Rattle.bound.specs.Bound.{bound_as, fixed_clauses}
+use Rattle.bound.specs.Bound.{bound_as, addition_as, fixed_clauses}
 use Rattle.improve.specs.Improving.{IsSolution, IsAcceptedOver, IsClauseCount, IsRightFound}
 use Rattle.improve.specs.Improving.{repeats_empty}
 use Rattle.improve.specs.declared.found.Found.TheVariants.{Optimum}
+use Rattle.improve.proofs.Comparators.{compared_zero}
 
 -- its number is that of the clauses
 empty_accepted : (cs : List (List Literal)) (n : ℕ) → n ≡ length (cs ++ [] ∷ [])
@@ -53,8 +54,11 @@ pub zero_accepted : (profile : Profile) (p : Problem) (n : ℕ) (log : List LogL
     → n ≡ length (bound_as profile p 0).clauses → log ≡ repeats_empty n
     → IsAcceptedOver (bound_as profile p 0).clauses log
 zero_accepted profile p n log e is =
+    let fixed = fixed_clauses profile p in
+    let none = compared_zero (addition_as profile p) in
     subst (IsAcceptedOver (bound_as profile p 0).clauses) (sym is)
-    (empty_accepted (fixed_clauses profile p) n e)
+    (subst (λ x. IsAcceptedOver (fixed ++ x) (repeats_empty n)) (sym none)
+    (empty_accepted fixed n (e ∙ ap (λ x. length (fixed ++ x)) none)))
 
 pub right_zero : (profile : Profile) (p : Problem) (bits : Vec Bool Global) (log : List LogLine)
     (count : ℕ) → IsSolution p bits.items 0 → IsAcceptedOver (bound_as profile p 0).clauses log

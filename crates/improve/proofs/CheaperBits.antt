@@ -1,5 +1,5 @@
 -- Bits that satisfy all that was given are a solution that is cheaper than the last bound.
-use Rattle.std.proofs.Common.{◌≡◌, ℕ, zero, suc, ◌+◌, ◌<◌, ◌≤◌, Bool, true, List, [], ◌∷◌, ◌++◌}
+use Rattle.std.proofs.Common.{◌≡◌, ℕ, zero, suc, ◌+◌, ◌^◌, ◌<◌, ◌≤◌, Bool, true, List, [], ◌∷◌, ◌++◌}
 use Rattle.std.proofs.Common.{length, inr, append_assoc, refl, sym, ◌∙◌, ap, subst, arith, All}
 use Rattle.std.specs.List.{AllByRecursion, flat_map}
 use Rattle.std.proofs.lemmas.List.Elements.{recursion_from_All, All-from_recursion, All-map}
@@ -9,7 +9,7 @@ use Rattle.cnf.specs.Clause.{Satisfies}
 use Rattle.cnf.specs.Bits.{Extends, assignment_of}
 use Rattle.cnf.specs.Problem.{Problem, IsFeasible, cost_under}
 use Rattle.lrat_log.specs.declared.lines.Name.{Name}
-use Rattle.bound.specs.Bound.{bound_as, fixed_clauses, comparator_for}
+use Rattle.bound.specs.Bound.{bound_as, addition_as, fixed_clauses, comparator_for}
 use Rattle.bound.proofs.Laws.{says_cheaper}
 use Rattle.bound.proofs.Laws.{all_append}
 use Rattle.std.specs.Prelude.{Contains, if◌then◌else◌}
@@ -19,9 +19,8 @@ use Rattle.lrat_log.specs.Log.{LogLine, is_learned, clauses_in}
 use Rattle.lrat_log.specs.Steps.{IsLogOver, IsBaseOf, LearnsNew, is_later, nothing_exempt}
 use Rattle.lrat_log.specs.Steps.{learned_count, given_of}
 use Rattle.lrat_log.proofs.Laws.{base_of}
-use Rattle.adder.specs.Network.{adders_as}
 use Rattle.adder.proofs.Laws.{left_part, right_part}
-use Rattle.improve.specs.Frozen.{AreFrozen}
+use Rattle.improve.specs.Frozen.{IsFrozenFor}
 use Rattle.cdcl.specs.Solving.{given_to, SatisfyGiven, SameGiven, IsPlainlyRefuted, lines_since}
 use Rattle.improve.specs.Improving.{IsSolution, IsCostOfSome, AreFalling}
 use Rattle.improve.specs.Bounds.{LogSolver, IsOver}
@@ -30,6 +29,7 @@ use Rattle.std.proofs.lemmas.List.{length-map}
 use Rattle.lrat_log.proofs.Laws.{new_searched}
 use Rattle.improve.specs.declared.bounds.Bounds.{Bounds}
 use Rattle.cnf.proofs.Laws.{extends_own}
+use Rattle.improve.proofs.Comparators.{compared_zero, variables_within}
 use Rattle.improve.proofs.GivenParts.{given_split}
 
 -- all clauses given hold, so those of the formula for the last bound do
@@ -68,7 +68,8 @@ cost_cheaper p b before c cost bits h e s same =
 -- the bits are as many as the formula's variables, so those of the instance are among them
 pub bits_long : (p : Problem) (b : Bounds) (bits : List Bool) → IsOver p b
     → length bits ≡ ((b.solver).formula).variables → p.variables ≤ length bits
-bits_long p b bits h e = omega (arith, ap (λ f. f.variables) h.formula)
+bits_long p b bits h e =
+    omega (arith, ap (λ f. f.variables) h.formula, variables_within b.profile p (2 ^ 62))
 
 -- a solution's cost is that of some assignment, and cheaper ones go on falling
 pub cost_of_solution : (p : Problem) (bits : List Bool) (c : ℕ) → IsSolution p bits c
@@ -91,7 +92,7 @@ pub solved_over : (p : Problem) (b : Bounds) (s : LogSolver) → IsOver p b → 
     (lines_since (b.solver).sink s.sink))
     → IsOver p (record {
       solver = s;
-      network = b.network;
+      addition = b.addition;
       profile = b.profile;
       costs = b.costs;
       fixed = b.fixed;
@@ -113,8 +114,8 @@ solved_over p b s h same works log grows fresh =
           };
       formula = same.0 ∙ h.formula;
       clauses = ap clauses_in given ∙ h.clauses;
-      network = h.network;
-      frozen = subst (λ x. AreFrozen x (adders_as b.profile p).outputs) (sym same.2) h.frozen;
+      addition = h.addition;
+      frozen = subst (λ x. IsFrozenFor x p (addition_as b.profile p)) (sym same.2) h.frozen;
       fixed = h.fixed;
       last = h.last;
     }
@@ -167,6 +168,7 @@ zero_refuted p b before c h e none =
     ≡ (fixed_clauses b.profile p ++ flat_map (comparator_for b.profile p) before) ++ [] ∷ [] =
     given_split p b before c h e
     ∙ ap (λ k. A ++ (B ++ comparator_for b.profile p k)) none
+    ∙ ap (λ x. A ++ (B ++ x)) (compared_zero (addition_as b.profile p))
     ∙ sym (append_assoc A B ([] ∷ [])) in
     inr (subst (λ x. Contains x []) (sym parts) (Contains-push (A ++ B) []))
 

@@ -19,11 +19,10 @@ use Rattle.lrat_log.specs.Steps.{IsLogOver, IsAcceptedLog, AddsNoEmptyClause, is
 use Rattle.lrat_log.specs.Steps.{LearnsNew, is_later, learned_count, given_of}
 use Rattle.lrat_log.specs.Rebase.{WeakerList, rebased, IsWeakerOf, IsSomeClause, KeepsLog}
 use Rattle.adder.specs.declared.cells.Profile.{Profile}
-use Rattle.adder.specs.Network.{adders_as}
 use Rattle.adder.proofs.Laws.{right_part}
-use Rattle.bound.specs.Bound.{bound_as, fixed_clauses, comparator_for, IsCovered}
+use Rattle.bound.specs.Bound.{bound_as, addition_as, fixed_clauses, comparator_for, IsCovered}
 use Rattle.bound.proofs.Laws.{all_append}
-use Rattle.bound.proofs.Laws.{covers_larger}
+use Rattle.bound.proofs.Laws.{covers_larger_over}
 use Rattle.bound.proofs.Laws.{without_bound}
 use Rattle.bound.proofs.Laws.{bound_is_formula}
 use Rattle.lrat_log.proofs.Laws.{numbered_right}
@@ -37,7 +36,7 @@ use Rattle.lrat_log.specs.Rebase.{weaker_list}
 use Rattle.std.specs.declared.vec.Vec.{Vec}
 use Rattle.std.specs.declared.alloc.Global.{Global}
 use Rattle.improve.specs.Bounds.{BoundLog}
-use Rattle.improve.proofs.Comparators.{comparator_some}
+use Rattle.improve.proofs.Comparators.{compared_some}
 use Rattle.improve.proofs.GivenParts.{clause_ids, entries_are, entry_literals}
 
 -- the first subset is one
@@ -112,9 +111,9 @@ module _ (profile : Profile) (p : Problem) (h : IsInstance p) (before : List ℕ
       let cs = comparator_for profile p d in
       let a = right_part (IsFormulaClause (bound_as profile p d).variables) fixed cs formula in
       let b =
-      recursion_from_All (IsCovered last) cs (covers_larger (adders_as profile p).outputs c d
+      recursion_from_All (IsCovered last) cs (covers_larger_over (addition_as profile p) c d
       (omega arith)) in
-      let e = comparator_some (adders_as profile p).outputs d (omega arith) in
+      let e = compared_some (addition_as profile p) d (omega arith) in
       each (λ x. IsFormulaClause (bound_as profile p d).variables x
       × (IsCovered last x × (is_empty_clause x ≡ false))) Fits (λ x y. (y.0, y.1.0, y.1.1)) cs
       (both (IsFormulaClause (bound_as profile p d).variables) (λ x. IsCovered last x

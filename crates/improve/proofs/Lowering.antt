@@ -1,6 +1,6 @@
 -- From one bound to the next: the cost in hand is one more that was told.
 use Rattle.std.proofs.Common.{◌≡◌, ℕ, ◌+◌, ◌<◌, ◌≤◌, ◌^◌, Bool, true, false, List, [], ◌∷◌, ◌++◌}
-use Rattle.std.proofs.Common.{Result, Ok, Err, length, append_assoc, length-append, sym, ◌∙◌, ap}
+use Rattle.std.proofs.Common.{Result, Ok, Err, Some, length, append_assoc, length-append, sym, ◌∙◌, ap}
 use Rattle.std.proofs.Common.{subst, arith}
 use Rattle.std.specs.Prelude.{All, OnOk, OnErr, IfOk, IfErr, is_err, if◌then◌else◌, sum_by}
 use Rattle.std.proofs.lemmas.List.Elements.{All-push}
@@ -14,13 +14,13 @@ use Rattle.improve.specs.declared.found.Found.{Found}
 use Rattle.improve.specs.declared.found.Found.TheVariants.{Optimum, Unsat, Best, Nothing}
 use Rattle.improve.specs.declared.found.Work.{Work}
 use Rattle.improve.specs.declared.found.ImproveFault.{ImproveFault}
-use Rattle.improve.specs.declared.found.ImproveFault.TheVariants.{Memory}
+use Rattle.improve.specs.declared.found.ImproveFault.TheVariants.{Memory, Progress}
 use Rattle.adder.specs.declared.cells.Profile.{Profile}
 use Rattle.cdcl_order.specs.Budgets.{BudgetState, left_of}
 use Rattle.improve.specs.Improving.{IsSolution, IsCostOfSome, OnWork, work_count}
 use Rattle.improve.specs.Improving.{AreFalling, IsRightFound, Telling, Improves}
-use Rattle.improve.proofs.SearchEnds.{memory_end, found_end}
-use Rattle.improve.proofs.CheaperBits.{cost_of_solution}
+use Rattle.improve.proofs.SearchEnds.{memory_end, progress_end, found_end}
+use Rattle.improve.proofs.CheaperBits.{cost_of_solution, falling_more}
 
 part : (b : Bool) (w : ℕ) → (if b then 0 else w) ≤ w
 part true w = omega arith
@@ -41,43 +41,59 @@ module _ (p : Problem) (costs new : List ℕ) (c : ℕ) (bits : List Bool)
       subst (All (IsCostOfSome p)) (sym more)
       (All-push (IsCostOfSome p) costs c h (cost_of_solution p bits c s))
 
-  pub told_new : (old mid last : List ℕ) → mid ≡ old ++ costs → last ≡ mid ++ c ∷ []
-      → last ≡ old ++ new
-  told_new old mid last e f =
-      f ∙ ap (λ x. x ++ c ∷ []) e ∙ append_assoc old costs (c ∷ []) ∙ ap (λ x. old ++ x) (sym more)
-
   pub count_new : length new ≡ length costs + 1
   count_new = ap length more ∙ length-append costs (c ∷ [])
 
   -- a search that told these costs, the last of them too, comes to its end
-  pub lowered_end : (profile used : Profile) (old now : Telling) (mid : List ℕ)
-      (before left : BudgetState)
+  pub lowered_end : (profile used : Profile) (old now : Telling) (before left : BudgetState)
       (result : Result Found ImproveFault) → left.limit ≡ before.limit
-      → mid ≡ old.told ++ costs → now.told ≡ mid ++ c ∷ [] → now.failures ≡ old.failures
+      → now.told ≡ old.told ++ (costs ++ c ∷ []) → now.failures ≡ old.failures
       → AreFalling (costs ++ c ∷ []) → IsSolution p bits c → All (IsCostOfSome p) costs
       → IfErr result (λ e. e ≡ Memory) → used ≡ profile → IfOk result (IsRightFound used p new)
       → left.answers ≡ before.answers + (length costs + 1)
       → OnWork result (λ work. left.learned ≡ before.learned + work_count work)
       → OnWork result (λ work. left_of left ≡ 0) → Improves profile p result old now before left
-  lowered_end profile used old now mid before left result limit
-      told_first told_last failures falling solution honest fault same right answers learned spent =
+  lowered_end profile used old now before left result limit
+      told failures falling solution honest fault same right answers learned spent =
       found_end profile p old now before left limit new
-      (told_new old.told mid now.told told_first told_last) result
+      (told ∙ ap (λ x. old.told ++ x) (sym more)) result
       (subst AreFalling (sym more) falling) (honest_new solution honest) failures fault
       (subst (λ q. IfOk result (IsRightFound q p new)) same right)
       (omega (arith, answers, count_new)) learned spent
 
   -- one that told them, and was then refused memory
-  pub lowered_memory : (profile : Profile) (old now : Telling) (mid : List ℕ)
-      (before left : BudgetState) → left.limit ≡ before.limit
-      → mid ≡ old.told ++ costs → now.told ≡ mid ++ c ∷ [] → now.failures ≡ old.failures
+  pub lowered_memory : (profile : Profile) (old now : Telling) (before left : BudgetState)
+      → left.limit ≡ before.limit
+      → now.told ≡ old.told ++ (costs ++ c ∷ []) → now.failures ≡ old.failures
       → AreFalling (costs ++ c ∷ []) → IsSolution p bits c → All (IsCostOfSome p) costs
       → Improves profile p (Err Memory) old now before left
-  lowered_memory profile old now mid before left limit
-      told_first told_last failures falling solution honest =
+  lowered_memory profile old now before left limit
+      told failures falling solution honest =
       memory_end profile p old now before left limit new
-      (told_new old.told mid now.told told_first told_last) (subst AreFalling (sym more) falling)
+      (told ∙ ap (λ x. old.told ++ x) (sym more)) (subst AreFalling (sym more) falling)
       (honest_new solution honest) failures
+
+  -- one that told them, and could not tell the next
+  pub lowered_progress : (profile : Profile) (old now : Telling) (before left : BudgetState)
+      → left.limit ≡ before.limit → (d : ℕ) (next : List Bool)
+      → now.told ≡ old.told ++ (costs ++ c ∷ [])
+      → AreFalling (costs ++ c ∷ []) → IsSolution p bits c → All (IsCostOfSome p) costs
+      → d < c → IsSolution p next d → now.failed ≡ Some d → now.failures ≡ old.failures + 1
+      → Improves profile p (Err Progress) old now before left
+  lowered_progress profile old now before left limit d next
+      told falling solution honest below found failed failures =
+      progress_end profile p old now before left limit new
+      (told ∙ ap (λ x. old.told ++ x) (sym more)) d
+      (subst (λ x. AreFalling (x ++ d ∷ [])) (sym more) (falling_more costs c d falling below))
+      (All-push (IsCostOfSome p) new d (honest_new solution honest)
+      (cost_of_solution p next d found)) failed failures
+
+-- one more cost was told
+pub told_more : (costs new : List ℕ) (c d : ℕ) → new ≡ costs ++ c ∷ [] → (mid last old : List ℕ)
+    → mid ≡ old ++ (costs ++ c ∷ []) → last ≡ mid ++ d ∷ [] → last ≡ old ++ (new ++ d ∷ [])
+told_more costs new c d more mid last old e f =
+    f ∙ ap (λ x. x ++ d ∷ []) e ∙ append_assoc old (costs ++ c ∷ []) (d ∷ [])
+    ∙ ap (λ x. old ++ (x ++ d ∷ [])) (sym more)
 
 pub at_ok : {T E P : Type 0} (r : Result T E) → false ≡ is_err r → OnOk r P → P
 at_ok (Ok x) e h = h

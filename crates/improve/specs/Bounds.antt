@@ -8,10 +8,9 @@ use Rattle.lrat_log.specs.Steps.{IsLogOver, IsAcceptedLog, AddsNoEmptyClause, Le
 use Rattle.lrat_log.specs.Steps.{is_later, learned_count, given_of}
 use Rattle.lrat_log.specs.Rebase.{rebased}
 use Rattle.adder.specs.declared.cells.Profile.{Profile}
-use Rattle.adder.specs.Network.{adders_as}
-use Rattle.bound.specs.Bound.{hard_cnf, bound_as, fixed_clauses, comparator_for}
+use Rattle.bound.specs.Bound.{hard_cnf, bound_as, addition_as, fixed_clauses, comparator_for}
 use Rattle.cdcl.specs.Solving.{SolverState, given_to}
-use Rattle.improve.specs.Frozen.{AreFrozen}
+use Rattle.improve.specs.Frozen.{IsFrozenFor}
 use Rattle.improve.specs.Improving.{AreFalling, IsSolution, IsNewOver}
 use Rattle.improve.specs.Improving.{comparators_for, weaker_before}
 use Rattle.improve.specs.declared.bounds.Bounds.{Bounds}
@@ -53,11 +52,21 @@ pub record IsOver (p : Problem) (b : Bounds) : Type 0 where
   pub formula : (b.solver).formula ≡ bound_as b.profile p (2 ^ 62)
   pub clauses : clauses_in (given_to b.solver)
       ≡ fixed_clauses b.profile p ++ comparators_for b.profile p (b.costs).items
-  pub network : b.network ≡ adders_as b.profile p
-  pub frozen : AreFrozen (b.solver).frozen (adders_as b.profile p).outputs
+  pub addition : b.addition ≡ addition_as b.profile p
+  pub frozen : IsFrozenFor (b.solver).frozen p (addition_as b.profile p)
   pub fixed : b.fixed ≡ length (fixed_clauses b.profile p)
   pub last : (before : List ℕ) (c : ℕ) → HasLast b before c
       → b.last ≡ length (comparator_for b.profile p c)
+
+-- a new solver of the formula without a bound
+pub record IsOverFixed (profile : Profile) (p : Problem) (s : LogSolver) : Type 0 where
+  pub instance : IsInstance p
+  pub works : s.failed ≡ false
+  pub formula : s.formula ≡ bound_as profile p (2 ^ 62)
+  pub none_added : s.added ≡ []
+  pub log : IsLogOver (given_to s) s.sink
+  pub learned : learned_count s.sink ≡ 0
+  pub frozen : IsFrozenFor s.frozen p (addition_as profile p)
 
 -- no bound was given yet, and nothing learned
 pub record HasNoBound (profile : Profile) (b : Bounds) : Type 0 where

@@ -201,6 +201,10 @@ pub record Telling : Type 0 where
   pub failed : Option ℕ
   pub failures : ℕ
 
+-- these are the costs told before and then this one
+abbrev pub HasTold : Telling → List ℕ → ℕ → Type 0
+HasTold earlier told c = told ≡ earlier.told ++ c ∷ []
+
 -- what a search answers, tells and spends
 pub record Improves (profile : Profile) (p : Problem) (result : Result Found ImproveFault)
     (old new : Telling) (budget left : BudgetState) : Type 0 where

@@ -8,21 +8,21 @@ ghost use Rattle.cnf.specs.Clause.{has_repeat, has_opposites};
 ghost use Rattle.lrat_log.specs.Log.{clauses_in};
 ghost use Rattle.lrat_log.specs.Steps.{learned_count};
 ghost use Rattle.lrat_log.specs.Rebase.{weaker_list};
-ghost use Rattle.bound.specs.Bound.{bound_as};
+ghost use Rattle.bound.specs.Bound.{addition_as, bound_as};
 ghost use Rattle.cdcl.specs.Solving.{IsFrozen};
 ghost use Rattle.improve.specs.Bounds.{IsUsable, Gives, GivesAll};
-ghost use Rattle.improve.specs.Bounds.{IsOver, HasNoBound, IsNext, BoundLog};
+ghost use Rattle.improve.specs.Bounds.{IsOver, IsOverFixed, HasNoBound, IsNext, BoundLog};
 ghost use Rattle.improve.specs.Improving.{AreFalling, EndsWith, weaker_among};
 
-use crate::frozen::freeze_outputs;
+use crate::frozen::freeze_compared;
 use crate::solutions::{Solution, judge};
 use crate::weaker::pair_with_subsets;
-use adder::building::network_as;
 use adder::cells::Profile;
-use adder::networks::Network;
 use adder::relaxations::{Relaxation, Relaxations};
-use bound::formulas::{comparator, formula_as};
+use bound::additions::Addition;
+use bound::formulas::{comparator_as, formula_as};
 use cdcl::budget::Budget;
+use cdcl::given::GivenClauses;
 use cdcl::outcome::Outcome;
 use cdcl::solver::Solver;
 use cnf::limits::NUMBER_LIMIT;
@@ -43,8 +43,8 @@ pub struct Bounds {
     /// It was given the formula without a bound, then the comparator clauses of each bound, all
     /// under the numbers from 1 on.
     pub solver: Solver<Log>,
-    /// The adder network whose outputs the comparators speak of. Their variables are frozen.
-    pub network: Network,
+    /// What adds up the weights. The variables of which its comparators speak are frozen.
+    pub addition: Addition,
     /// How soft clauses are relaxed.
     pub profile: Profile,
     /// The bounds in the order in which they were given, each at most 2^62.
@@ -74,18 +74,16 @@ impl Bounds {
     {
         // The contract of `vars` has the limits of the instance.
         let _vars = instance.vars();
-        let network = network_as(instance, profile)?;
-        let formula = formula_as(instance, NO_BOUND, profile)?;
-        let alloc = instance.allocator();
-        let frozen = freeze_outputs(alloc, network.outputs(), formula.vars())?;
-        let mut solver = Solver::new(&formula, &frozen, Log::new(alloc))?;
+        let addition = Addition::of(instance, profile)?;
+        let mut solver = make_solver(instance, profile, &addition)?;
         weigh(&mut solver, &Relaxations::of(instance, profile)?.each);
+        let fixed = solver.given().len();
         Ok(Bounds {
             solver,
-            network,
+            addition,
             profile,
-            costs: Vec::new(alloc),
-            fixed: formula.clauses().len(),
+            costs: Vec::new(instance.allocator()),
+            fixed,
             last: 0,
         })
     }
@@ -101,7 +99,7 @@ impl Bounds {
             (learned_count self.new.solver.sink ≡ learned_count self.old.solver.sink) }
     {
         let _vars = instance.vars();
-        let clauses = comparator(&self.network, cost)?;
+        let clauses = comparator_as(&self.addition, cost)?;
         give_all(&mut self.solver, &clauses)?;
         self.last = clauses.len();
         self.costs.push(cost)?;
@@ -160,6 +158,23 @@ impl Bounds {
     }
 }
 
+/// A solver of the formula without a bound. The formula itself is given back here: the solver has
+/// its clauses, and works long.
+fn make_solver(
+    instance: &Instance,
+    profile: Profile,
+    addition: &Addition,
+) -> Result<Solver<Log>, AllocError>
+    requires { addition.now ≡ addition_as profile instance.now }
+    ensures { IfOk result (IsOverFixed profile instance.now) }
+{
+    let _vars = instance.vars();
+    let formula = formula_as(instance, NO_BOUND, profile)?;
+    let alloc = instance.allocator();
+    let frozen = freeze_compared(alloc, instance, addition, formula.vars())?;
+    Solver::new(&formula, &frozen, Log::new(alloc))
+}
+
 /// Tells the solver what each relaxation literal costs: a search that decides what costs most first
 /// meets cheap solutions sooner.
 fn weigh(solver: &mut Solver<Log>, relaxations: &[Relaxation])
@@ -174,7 +189,7 @@ fn weigh(solver: &mut Solver<Log>, relaxations: &[Relaxation])
 /// of the last one.
 fn collect_weaker(
     alloc: Global,
-    given: &[(Name, Clause)],
+    given: &GivenClauses,
     fixed: usize,
     last: usize,
 ) -> Result<Vec<(Vec<Lit>, u64)>, AllocError>
@@ -185,7 +200,7 @@ fn collect_weaker(
         → weaker_list weaker.items ≡ weaker_among (fixed + 1) c b) }
 {
     let end = given.len() - last;
-    pair_with_subsets(alloc, &given[fixed..end], &given[end..], fixed as u64 + 1)
+    pair_with_subsets(alloc, given, fixed, end, fixed as u64 + 1)
 }
 
 /// Gives the clauses, in their order.

@@ -1,12 +1,45 @@
-// Which variables stay: those of the network's outputs, since the clauses of each bound name them.
-ghost use Rattle.std.specs.Prelude.{◌≡◌, ◌<◌, true, length, Some, slice_get, All, IfOk};
-ghost use Rattle.improve.specs.Frozen.{AreFrozen, IsOutputWithin, KeepsFrozen};
+// Which variables stay: those that the clauses of a bound may name. With sums all stay that are not
+// of the instance: what is learned of a part of the tree is said in them.
+ghost use Rattle.std.specs.Prelude.{◌≡◌, ℕ, ◌-◌, ◌<◌, ◌≤◌, true, length, Some, slice_get, All};
+ghost use Rattle.std.specs.Prelude.{IfOk};
+ghost use Rattle.improve.specs.Frozen.{AreFrozen, IsFrozenFor, IsOutputWithin, IsWithin};
+ghost use Rattle.improve.specs.Frozen.{KeepsFrozen};
 
-use cnf::types::Lit;
+use bound::additions::Addition;
+use cnf::types::{Instance, Lit};
 use std::alloc::{AllocError, Global};
 
+/// For each variable from 1, whether a comparator may speak of it: with a network those of its
+/// outputs, with sums all that are not of the instance.
+pub fn freeze_compared(
+    alloc: Global,
+    instance: &Instance,
+    addition: &Addition,
+    vars: u32,
+) -> Result<Vec<bool>, AllocError>
+    requires { IsWithin vars addition.now }
+    ensures len { IfOk result (λ frozen. length frozen.items ≡ vars) }
+    ensures frozen { IfOk result (λ frozen. IsFrozenFor frozen.items instance.now addition.now) }
+{
+    match addition {
+        Addition::Network(network) => freeze_outputs(alloc, network.outputs(), vars),
+        Addition::Sums(_) => freeze_after(alloc, instance.vars(), vars),
+    }
+}
+
+/// For each variable from 1, whether it comes after the first ones.
+fn freeze_after(alloc: Global, first: u32, vars: u32) -> Result<Vec<bool>, AllocError>
+    ensures len { IfOk result (λ frozen. length frozen.items ≡ vars) }
+    ensures frozen { IfOk result (λ frozen. (v : ℕ) → first < v → v ≤ vars
+        → slice_get frozen.items (v - 1) ≡ Some true) }
+{
+    let mut frozen = freeze_none(alloc, first as usize)?;
+    frozen.resize(vars as usize, true)?;
+    Ok(frozen)
+}
+
 /// For each variable from 1, whether an output has it.
-pub fn freeze_outputs(
+fn freeze_outputs(
     alloc: Global,
     outputs: &[Option<Lit>],
     vars: u32,

@@ -1,18 +1,20 @@
 //! The improving search: each solution bounds the cost of the next (Handbook of Satisfiability,
 //! chapter MaxSAT, linear search from satisfiable to unsatisfiable).
-ghost use Rattle.std.specs.Prelude.{◌≡◌, ℕ, ◌+◌, ◌<◌, ◌^◌, [], ◌∷◌, IfOk, IfErr};
+ghost use Rattle.std.specs.Prelude.{◌≡◌, ℕ, ◌+◌, ◌<◌, ◌^◌, [], ◌∷◌, ◌++◌, Some};
+ghost use Rattle.std.specs.Prelude.{IfOk, IfErr, OnOk, OnErr};
 ghost use Rattle.lrat_log.specs.Steps.{IsAcceptedLog, AddsNoEmptyClause, learned_count};
 ghost use Rattle.cdcl_order.specs.Budgets.{BudgetState};
 ghost use Rattle.cdcl.specs.Solving.{given_to};
 ghost use Rattle.improve.specs.Improving.{Improves, IsHardLog, IsRightFound, IsSolution, OnWork};
-ghost use Rattle.improve.specs.Improving.{EndsWith, AreFalling};
+ghost use Rattle.improve.specs.Improving.{EndsWith, AreFalling, Telling, HasTold};
 ghost use Rattle.improve.specs.Bounds.{HasNoBound, IsOver, IsOverHard};
 
 use crate::bounds::{Bounds, Next};
 use crate::found::{Found, ImproveFault, Work};
 use crate::frozen::freeze_none;
-use crate::progress::Progress;
+use crate::progress::{Progress, ProgressFault};
 use crate::solutions::{Solution, judge};
+use crate::watch::{Silent, Watch};
 use crate::zero::refute_zero;
 use adder::cells::Profile;
 use bound::formulas::hard_formula;
@@ -79,6 +81,36 @@ pub fn improve_as<T: Progress>(
         })
         budget.old budget.new }
 {
+    improve_watched(instance, budget, progress, profile, &mut Silent)
+}
+
+/// As `improve_as`, where `watch` looks on: each solution is shown to it before its cost is told.
+///
+/// # Errors
+///
+/// Those of `improve`.
+pub fn improve_watched<T: Progress, W: Watch>(
+    instance: &Instance,
+    budget: &mut Budget,
+    progress: &mut T,
+    profile: Profile,
+    watch: &mut W,
+) -> Result<Found, ImproveFault>
+    requires { T.failures progress.old < 2 ^ 62 }
+    ensures follows { (first : T) → T.follows first progress.old → T.follows first progress.new }
+    ensures improves { Improves profile instance.now result
+        (record {
+          told = T.told progress.old;
+          failed = T.failed progress.old;
+          failures = T.failures progress.old;
+        })
+        (record {
+          told = T.told progress.new;
+          failed = T.failed progress.new;
+          failures = T.failures progress.new;
+        })
+        budget.old budget.new }
+{
     let Ok(mut solver) = make_hard_solver(instance) else {
         return Err(ImproveFault::Memory);
     };
@@ -86,7 +118,7 @@ pub fn improve_as<T: Progress>(
         Ok(Outcome::Sat(bits)) => {
             let first = judge(instance, bits);
             let hard = solver.into_sink();
-            lower(instance, budget, progress, profile, hard, first)
+            lower(instance, budget, progress, profile, watch, hard, first)
         }
         Ok(Outcome::Unsat) => {
             let clauses = solver.given().len() as u64;
@@ -118,13 +150,14 @@ fn make_hard_solver(instance: &Instance) -> Result<Solver<Log>, AllocError>
     Ok(solver)
 }
 
-/// Goes on from a solution that was not told yet to cheaper ones: each is told, and then its cost
-/// is the next bound. The log is that of the hard clauses.
-fn lower<T: Progress>(
+/// Goes on from a solution that was not told yet. It is told before anything of a bound is built:
+/// that takes time and memory, and may fail. The log is that of the hard clauses.
+fn lower<T: Progress, W: Watch>(
     instance: &Instance,
     budget: &mut Budget,
     progress: &mut T,
     profile: Profile,
+    watch: &mut W,
     hard: Log,
     first: Solution,
 ) -> Result<Found, ImproveFault>
@@ -151,21 +184,26 @@ fn lower<T: Progress>(
         })
         before budget.new }
 {
+    if tell(instance, progress, watch, &first).is_err() {
+        return Err(ImproveFault::Progress);
+    }
     if first.cost == 0 {
-        return end_at_zero(instance, progress, profile, first.bits);
+        return conclude_zero(instance, profile, first.bits);
     }
     let Ok(mut bounds) = Bounds::new(instance, profile) else {
         return Err(ImproveFault::Memory);
     };
-    tighten(instance, budget, progress, &mut bounds, hard, first)
+    tighten(instance, budget, progress, watch, &mut bounds, hard, first)
 }
 
-/// Tells one solution after another, each cheaper than the bound that the one before it set. The
-/// solver of the bounds is its caller's, so that no exit here has to give it back.
-fn tighten<T: Progress>(
+/// Goes from a solution that was told to cheaper ones: the cost of each is the next bound, and what
+/// is found below it is told. The solver of the bounds is its caller's, so that no exit here has to
+/// give it back.
+fn tighten<T: Progress, W: Watch>(
     instance: &Instance,
     budget: &mut Budget,
     progress: &mut T,
+    watch: &mut W,
     bounds: &mut Bounds,
     hard: Log,
     first: Solution,
@@ -176,15 +214,15 @@ fn tighten<T: Progress>(
     requires over { IsOver instance.now bounds.old }
     requires none { HasNoBound bounds.old.profile bounds.old }
     ensures follows { (first : T) → T.follows first progress.old → T.follows first progress.new }
+
+    // From before the search over the hard clauses, as in `lower`, and before the first cost was
+    // told.
     ensures improves { (before : BudgetState) → before.limit ≡ budget.old.limit
         → before.answers + 1 ≡ budget.old.answers
         → before.learned + learned_count hard ≡ budget.old.learned
-        → Improves bounds.old.profile instance.now result
-        (record {
-          told = T.told progress.old;
-          failed = T.failed progress.old;
-          failures = T.failures progress.old;
-        })
+        → (earlier : Telling) → HasTold earlier (T.told progress.old) first.cost
+        → earlier.failures ≡ T.failures progress.old
+        → Improves bounds.old.profile instance.now result earlier
         (record {
           told = T.told progress.new;
           failed = T.failed progress.new;
@@ -194,14 +232,16 @@ fn tighten<T: Progress>(
 {
     let mut best = first;
     loop {
-        if progress.improved(best.cost).is_err() {
-            return Err(ImproveFault::Progress);
-        }
         if bounds.add(instance, best.cost).is_err() {
             return Err(ImproveFault::Memory);
         }
         match bounds.search(instance, budget) {
-            Ok(Next::Cheaper(solution)) => best = solution,
+            Ok(Next::Cheaper(solution)) => {
+                if tell(instance, progress, watch, &solution).is_err() {
+                    return Err(ImproveFault::Progress);
+                }
+                best = solution;
+            }
             Ok(Next::Refuted) => return conclude_optimum(instance, bounds, best),
             Ok(Next::Spent) => return conclude_spent(instance, bounds, best, hard),
             Err(AllocError) => return Err(ImproveFault::Memory),
@@ -209,37 +249,26 @@ fn tighten<T: Progress>(
     }
 }
 
-/// The end where the first solution costs nothing: it is told, and no bound is tried.
-fn end_at_zero<T: Progress>(
+/// Shows the solution, and then tells what it costs: whoever is told a cost finds what it belongs
+/// to.
+fn tell<T: Progress, W: Watch>(
     instance: &Instance,
     progress: &mut T,
-    profile: Profile,
-    bits: Vec<bool>,
-) -> Result<Found, ImproveFault>
+    watch: &mut W,
+    solution: &Solution,
+) -> Result<(), ProgressFault>
     requires failures { T.failures progress.old < 2 ^ 62 }
-    requires solution { IsSolution instance.now bits.items 0 }
+    requires solution { IsSolution instance.now solution.now.bits.items solution.now.cost }
+    ensures ok { OnOk result
+        ((T.told progress.new ≡ T.told progress.old ++ solution.now.cost ∷ [])
+        × (T.failures progress.new ≡ T.failures progress.old)) }
+    ensures err { OnErr result ((T.told progress.new ≡ T.told progress.old)
+        × (T.failed progress.new ≡ Some solution.now.cost)
+        × (T.failures progress.new ≡ T.failures progress.old + 1)) }
     ensures follows { (first : T) → T.follows first progress.old → T.follows first progress.new }
-
-    // Whatever was learned, where one solution was counted.
-    ensures improves { (before left : BudgetState) → left.limit ≡ before.limit
-        → left.answers ≡ before.answers + 1
-        → Improves profile instance.now result
-        (record {
-          told = T.told progress.old;
-          failed = T.failed progress.old;
-          failures = T.failures progress.old;
-        })
-        (record {
-          told = T.told progress.new;
-          failed = T.failed progress.new;
-          failures = T.failures progress.new;
-        })
-        before left }
 {
-    if progress.improved(0).is_err() {
-        return Err(ImproveFault::Progress);
-    }
-    conclude_zero(instance, profile, bits)
+    watch.better(instance, solution.cost, &solution.bits);
+    progress.improved(solution.cost)
 }
 
 /// The optimum that costs nothing.

@@ -1,4 +1,4 @@
--- What was told are the bounds so far; the last of them is the cost in hand.
+-- What was told are the bounds so far and the cost in hand.
 use Rattle.std.proofs.Common.{◌≡◌, ℕ, ◌+◌, [], ◌∷◌, ◌++◌, refl, sym, ◌∙◌, ap, subst, arith}
 use Rattle.std.specs.declared.vec.Vec.{Vec}
 use Rattle.std.specs.declared.alloc.Global.{Global}
@@ -6,9 +6,9 @@ use Rattle.cdcl_order.specs.Budgets.{left_of}
 use Rattle.lrat_log.specs.Steps.{learned_count}
 use Rattle.improve.specs.Improving.{AreFalling, IsHardLog, work_count}
 use Rattle.improve.proofs.CheaperBits.{cost_of_solution, falling_more}
-use Rattle.improve.proofs.SearchEnds.{progress_end}
-use Rattle.improve.proofs.Lowering.{cost_small, honest_new, told_new, count_new, at_ok, at_err}
+use Rattle.improve.proofs.Lowering.{cost_small, honest_new, count_new, at_ok, at_err, told_more}
 use Rattle.improve.proofs.Lowering.{on_work_weaker, work_learned, lowered_end, lowered_memory}
+use Rattle.improve.proofs.Lowering.{lowered_progress}
 use Rattle.improve.proofs.search.tighten.Goals as goal
 
 pub add-requires-clause-small : goal.add-requires-clause-small
@@ -22,52 +22,59 @@ add-requires-clause-small g c =
     omega (arith, small)
 
 pub returns-then-is_err-clause-improves : goal.returns-then-is_err-clause-improves
-returns-then-is_err-clause-improves g c = λ before l a e.
-    let i = c.loop-best.invariant in
-    let costs = c.loop-best.bounds.costs.items in
-    let cost = c.loop-best.best.cost in
-    let err = at_err c.improved.result c.if-is_err.ensures.value c.improved.ensures.err in
-    progress_end c.args.bounds.now.profile c.args.instance.now _ _ before c.loop-best.budget
-    (i.limit ∙ sym l) costs (err.0 ∙ i.told) cost i.falling
-    (honest_new c.args.instance.now costs (costs ++ cost ∷ []) cost c.loop-best.best.bits.items
-    refl i.solution i.honest) err.1 (err.2 ∙ ap (λ n. n + 1) i.failures)
-
-pub returns-then-is_err-2-clause-improves : goal.returns-then-is_err-2-clause-improves
-returns-then-is_err-2-clause-improves g c = λ before l a e.
+returns-then-is_err-clause-improves g c = λ before l a e earlier t f.
     let i = c.loop-best.invariant in
     let best = c.loop-best.best in
-    let ok = at_ok c.improved.result c.if-is_err.ensures.value c.improved.ensures.ok in
     lowered_memory c.args.instance.now c.loop-best.bounds.costs.items _ best.cost
-    best.bits.items refl
-    c.args.bounds.now.profile _ _ _ before c.loop-best.budget (i.limit ∙ sym l)
-    i.told ok.0 (ok.2 ∙ i.failures) i.falling i.solution i.honest
+    best.bits.items refl c.args.bounds.now.profile earlier _ before c.loop-best.budget
+    (i.limit ∙ sym l) (i.told earlier t) (i.failures ∙ sym f) i.falling i.solution i.honest
 
 pub returns-in-Err-clause-improves : goal.returns-in-Err-clause-improves
-returns-in-Err-clause-improves g c = λ before l a e.
+returns-in-Err-clause-improves g c = λ before l a e earlier t f.
     let i = c.loop-best.invariant in
     let best = c.loop-best.best in
-    let ok = at_ok c.improved.result c.if-is_err.ensures.value c.improved.ensures.ok in
     lowered_memory c.args.instance.now c.loop-best.bounds.costs.items _ best.cost
-    best.bits.items refl
-    c.args.bounds.now.profile _ _ _ before c.search.new.budget
+    best.bits.items refl c.args.bounds.now.profile earlier _ before c.search.new.budget
     (c.search.ensures.limit ∙ i.limit ∙ sym l)
-    i.told ok.0 (ok.2 ∙ i.failures) i.falling i.solution i.honest
+    (i.told earlier t) (i.failures ∙ sym f) i.falling i.solution i.honest
 
 pub search-requires-clause-over : goal.search-requires-clause-over
-search-requires-clause-over g c = at_ok c.add.result c.if-is_err-2.ensures.value c.add.ensures.over
+search-requires-clause-over g c = at_ok c.add.result c.if-is_err.ensures.value c.add.ensures.over
 
 pub search-requires-clause-bounded : goal.search-requires-clause-bounded
 search-requires-clause-bounded g c = (
   c.loop-best.best.cost,
   (
     c.loop-best.bounds.costs.items,
-    at_ok c.add.result c.if-is_err-2.ensures.value c.add.ensures.costs,
+    at_ok c.add.result c.if-is_err.ensures.value c.add.ensures.costs,
   ),
 )
 
+pub tell-requires-clause-solution : goal.tell-requires-clause-solution
+tell-requires-clause-solution g c =
+    let next = rw c.in-Ok-Cheaper.field-0-is at c.in-Ok-Cheaper.ensures.next in next.solution
+
+pub returns-then-is_err-2-clause-improves : goal.returns-then-is_err-2-clause-improves
+returns-then-is_err-2-clause-improves g c = λ before l a e earlier t f.
+    let p = c.args.instance.now in
+    let i = c.loop-best.invariant in
+    let costs = c.loop-best.bounds.costs.items in
+    let best = c.loop-best.best in
+    let cost = c.in-Ok-Cheaper.solution.cost in
+    let next = rw c.in-Ok-Cheaper.field-0-is at c.in-Ok-Cheaper.ensures.next in
+    let err = at_err c.tell.result c.if-is_err-2.ensures.value c.tell.ensures.err in
+    let more : c.search.new.self.costs.items ≡ costs ++ best.cost ∷ [] =
+    ap (λ (v : Vec ℕ Global). v.items) c.search.ensures.costs
+    ∙ at_ok c.add.result c.if-is_err.ensures.value c.add.ensures.costs in
+    lowered_progress p costs c.search.new.self.costs.items best.cost best.bits.items more
+    c.args.bounds.now.profile earlier _ before c.search.new.budget
+    (c.search.ensures.limit ∙ i.limit ∙ sym l) cost c.in-Ok-Cheaper.solution.bits.items
+    (err.0 ∙ i.told earlier t) i.falling i.solution i.honest (next.below costs best.cost more)
+    next.solution err.1 (err.2 ∙ ap (λ n. n + 1) (i.failures ∙ sym f))
+
 pub loop-best-smaller : goal.loop-best-smaller
 loop-best-smaller g c =
-    let added = at_ok c.add.result c.if-is_err-2.ensures.value c.add.ensures.costs in
+    let added = at_ok c.add.result c.if-is_err.ensures.value c.add.ensures.costs in
     let next = rw c.in-Ok-Cheaper.field-0-is at c.in-Ok-Cheaper.ensures.next in
     next.below c.loop-best.bounds.costs.items c.loop-best.best.cost
     (ap (λ (v : Vec ℕ Global). v.items) c.search.ensures.costs ∙ added)
@@ -77,26 +84,28 @@ loop-best-preserved g c =
     let p = c.args.instance.now in
     let i = c.loop-best.invariant in
     let costs = c.loop-best.bounds.costs.items in
-    let cost = c.loop-best.best.cost in
-    let bits = c.loop-best.best.bits.items in
+    let best = c.loop-best.best in
     let next = rw c.in-Ok-Cheaper.field-0-is at c.in-Ok-Cheaper.ensures.next in
-    let ok = at_ok c.improved.result c.if-is_err.ensures.value c.improved.ensures.ok in
-    let added = at_ok c.add.result c.if-is_err-2.ensures.value c.add.ensures.costs in
-    let same = at_ok c.add.result c.if-is_err-2.ensures.value c.add.ensures.profile in
-    let unlearned = at_ok c.add.result c.if-is_err-2.ensures.value c.add.ensures.learned in
-    let more : c.search.new.self.costs.items ≡ costs ++ cost ∷ [] =
+    let ok = at_ok c.tell.result c.if-is_err-2.ensures.value c.tell.ensures.ok in
+    let added = at_ok c.add.result c.if-is_err.ensures.value c.add.ensures.costs in
+    let same = at_ok c.add.result c.if-is_err.ensures.value c.add.ensures.profile in
+    let unlearned = at_ok c.add.result c.if-is_err.ensures.value c.add.ensures.learned in
+    let more : c.search.new.self.costs.items ≡ costs ++ best.cost ∷ [] =
     ap (λ (v : Vec ℕ Global). v.items) c.search.ensures.costs ∙ added in
     record {
       over = c.in-Ok-Cheaper.ensures.over;
       profile = c.search.ensures.profile ∙ same ∙ i.profile;
       solution = next.solution;
       falling = subst (λ x. AreFalling (x ++ c.in-Ok-Cheaper.solution.cost ∷ [])) (sym more)
-          (falling_more costs cost c.in-Ok-Cheaper.solution.cost i.falling
-          (next.below costs cost more));
-      honest = honest_new p costs c.search.new.self.costs.items cost bits more i.solution i.honest;
-      told = told_new p costs c.search.new.self.costs.items cost bits more _ _ _ i.told ok.0;
-      failures = ok.2 ∙ i.failures;
-      follows = λ first h. c.improved.ensures.follows first (i.follows first h);
+          (falling_more costs best.cost c.in-Ok-Cheaper.solution.cost i.falling
+          (next.below costs best.cost more));
+      honest =
+          honest_new p costs c.search.new.self.costs.items best.cost best.bits.items more
+          i.solution i.honest;
+      told = λ earlier t. told_more costs c.search.new.self.costs.items best.cost
+          c.in-Ok-Cheaper.solution.cost more _ _ earlier.told (i.told earlier t) ok.0;
+      failures = ok.1 ∙ i.failures;
+      follows = λ first h. c.tell.ensures.follows first (i.follows first h);
       hard = i.hard;
       limit = c.search.ensures.limit ∙ i.limit;
       answers =
@@ -104,25 +113,24 @@ loop-best-preserved g c =
             arith,
             next.answers,
             i.answers,
-            count_new p costs c.search.new.self.costs.items cost bits more,
+            count_new p costs c.search.new.self.costs.items best.cost best.bits.items more,
           );
       learned = omega (arith, c.search.ensures.learned, unlearned, i.learned);
     }
 
 pub returns-in-Ok-Refuted-clause-improves : goal.returns-in-Ok-Refuted-clause-improves
-returns-in-Ok-Refuted-clause-improves g c = λ before l a e.
+returns-in-Ok-Refuted-clause-improves g c = λ before l a e earlier t f.
     let i = c.loop-best.invariant in
     let next = rw c.in-Ok-Refuted.field-0-is at c.in-Ok-Refuted.ensures.next in
-    let ok = at_ok c.improved.result c.if-is_err.ensures.value c.improved.ensures.ok in
     let r = c.conclude_optimum in
     lowered_end c.args.instance.now c.loop-best.bounds.costs.items c.search.new.self.costs.items
     c.loop-best.best.cost c.loop-best.best.bits.items
     (ap (λ (v : Vec ℕ Global). v.items) c.search.ensures.costs
-    ∙ at_ok c.add.result c.if-is_err-2.ensures.value c.add.ensures.costs)
-    c.args.bounds.now.profile _ _ _ _ before c.search.new.budget r.result
+    ∙ at_ok c.add.result c.if-is_err.ensures.value c.add.ensures.costs)
+    c.args.bounds.now.profile _ earlier _ before c.search.new.budget r.result
     (c.search.ensures.limit ∙ i.limit ∙ sym l)
-    i.told ok.0 (ok.2 ∙ i.failures) i.falling i.solution i.honest r.ensures.fault
-    (c.search.ensures.profile ∙ at_ok c.add.result c.if-is_err-2.ensures.value c.add.ensures.profile
+    (i.told earlier t) (i.failures ∙ sym f) i.falling i.solution i.honest r.ensures.fault
+    (c.search.ensures.profile ∙ at_ok c.add.result c.if-is_err.ensures.value c.add.ensures.profile
     ∙ i.profile)
     r.ensures.found (omega (arith, next.answers, i.answers, a))
     (on_work_weaker r.result (λ w. ⊥)
@@ -133,7 +141,7 @@ returns-in-Ok-Refuted-clause-improves g c = λ before l a e.
 
 pub conclude_spent-requires-clause-above : goal.conclude_spent-requires-clause-above
 conclude_spent-requires-clause-above g c =
-    let added = at_ok c.add.result c.if-is_err-2.ensures.value c.add.ensures.costs in
+    let added = at_ok c.add.result c.if-is_err.ensures.value c.add.ensures.costs in
     let next = rw c.in-Ok-Spent.field-0-is at c.in-Ok-Spent.ensures.next in
     next.above_zero c.loop-best.bounds.costs.items c.loop-best.best.cost
     (ap (λ (v : Vec ℕ Global). v.items) c.search.ensures.costs ∙ added)
@@ -143,24 +151,23 @@ conclude_spent-requires-clause-hard g c =
     subst (IsHardLog c.args.instance.now) (sym c.loop-best.invariant.hard) c.requires.hard
 
 pub returns-in-Ok-Spent-clause-improves : goal.returns-in-Ok-Spent-clause-improves
-returns-in-Ok-Spent-clause-improves g c = λ before l a e.
+returns-in-Ok-Spent-clause-improves g c = λ before l a e earlier t f.
     let i = c.loop-best.invariant in
     let next = rw c.in-Ok-Spent.field-0-is at c.in-Ok-Spent.ensures.next in
-    let ok = at_ok c.improved.result c.if-is_err.ensures.value c.improved.ensures.ok in
     let r = c.conclude_spent in
     let sink = c.search.new.self.solver.sink in
-    let unlearned = at_ok c.add.result c.if-is_err-2.ensures.value c.add.ensures.learned in
+    let unlearned = at_ok c.add.result c.if-is_err.ensures.value c.add.ensures.learned in
     let learned : c.search.new.budget.learned ≡ c.args.budget.now.learned + learned_count
     c.search.new.self.solver.sink =
     omega (arith, c.search.ensures.learned, unlearned, i.learned) in
     lowered_end c.args.instance.now c.loop-best.bounds.costs.items c.search.new.self.costs.items
     c.loop-best.best.cost c.loop-best.best.bits.items
     (ap (λ (v : Vec ℕ Global). v.items) c.search.ensures.costs
-    ∙ at_ok c.add.result c.if-is_err-2.ensures.value c.add.ensures.costs)
-    c.args.bounds.now.profile _ _ _ _ before c.search.new.budget r.result
+    ∙ at_ok c.add.result c.if-is_err.ensures.value c.add.ensures.costs)
+    c.args.bounds.now.profile _ earlier _ before c.search.new.budget r.result
     (c.search.ensures.limit ∙ i.limit ∙ sym l)
-    i.told ok.0 (ok.2 ∙ i.failures) i.falling i.solution i.honest r.ensures.fault
-    (c.search.ensures.profile ∙ at_ok c.add.result c.if-is_err-2.ensures.value c.add.ensures.profile
+    (i.told earlier t) (i.failures ∙ sym f) i.falling i.solution i.honest r.ensures.fault
+    (c.search.ensures.profile ∙ at_ok c.add.result c.if-is_err.ensures.value c.add.ensures.profile
     ∙ i.profile)
     r.ensures.found (omega (arith, next.answers, i.answers, a))
     (on_work_weaker r.result (λ w. (w.hard ≡ c.loop-best.hard)
@@ -172,22 +179,6 @@ returns-in-Ok-Spent-clause-improves g c = λ before l a e.
     × (learned_count w.bound ≡ learned_count sink))
     (λ w. left_of c.search.new.budget ≡ 0) (λ w x. next.none_left) r.ensures.work)
 
-pub returns-then-is_err-clause-follows : goal.returns-then-is_err-clause-follows
-returns-then-is_err-clause-follows g c =
-    λ first h. c.improved.ensures.follows first (c.loop-best.invariant.follows first h)
-
 pub returns-then-is_err-2-clause-follows : goal.returns-then-is_err-2-clause-follows
 returns-then-is_err-2-clause-follows g c =
-    λ first h. c.improved.ensures.follows first (c.loop-best.invariant.follows first h)
-
-pub returns-in-Ok-Refuted-clause-follows : goal.returns-in-Ok-Refuted-clause-follows
-returns-in-Ok-Refuted-clause-follows g c =
-    λ first h. c.improved.ensures.follows first (c.loop-best.invariant.follows first h)
-
-pub returns-in-Ok-Spent-clause-follows : goal.returns-in-Ok-Spent-clause-follows
-returns-in-Ok-Spent-clause-follows g c =
-    λ first h. c.improved.ensures.follows first (c.loop-best.invariant.follows first h)
-
-pub returns-in-Err-clause-follows : goal.returns-in-Err-clause-follows
-returns-in-Err-clause-follows g c =
-    λ first h. c.improved.ensures.follows first (c.loop-best.invariant.follows first h)
+    λ first h. c.tell.ensures.follows first (c.loop-best.invariant.follows first h)

@@ -1,9 +1,9 @@
--- The costs told are the bounds so far; the solution in hand is cheaper than they are, and was not
--- told yet.
+-- The costs told since before the first one are the bounds so far and the cost in hand, which is
+-- below them.
 use Rattle.std.proofs.Common.{◌≡◌, ◌+◌, ◌++◌, ◌∷◌, [], length}
 use Rattle.std.specs.Prelude.{All}
 use Rattle.lrat_log.specs.Steps.{learned_count}
-use Rattle.improve.specs.Improving.{AreFalling, IsCostOfSome, IsSolution}
+use Rattle.improve.specs.Improving.{AreFalling, IsCostOfSome, IsSolution, Telling, HasTold}
 use Rattle.improve.specs.Bounds.{IsOver}
 use Rattle.improve.proofs.search.tighten.Given as goal
 
@@ -14,7 +14,10 @@ invariant-loop-best g l = record {
   solution : IsSolution l.instance ((l.best).bits).items (l.best).cost;
   falling : AreFalling (((l.bounds).costs).items ++ (l.best).cost ∷ []);
   honest : All (IsCostOfSome l.instance) ((l.bounds).costs).items;
-  told : g.T.Progress.told l.progress ≡ g.T.Progress.told l.fn.progress ++ ((l.bounds).costs).items;
+  told : (earlier : Telling)
+      → HasTold earlier (g.T.Progress.told l.fn.progress) (l.fn.first).cost
+      → g.T.Progress.told l.progress
+      ≡ earlier.told ++ (((l.bounds).costs).items ++ (l.best).cost ∷ []);
   failures : g.T.Progress.failures l.progress ≡ g.T.Progress.failures l.fn.progress;
   follows : (first : g.row.T.Denot) → g.T.Progress.follows first l.fn.progress
       → g.T.Progress.follows first l.progress;

@@ -9,7 +9,7 @@ use Rattle.improve.proofs.CheaperBits.{same_given}
 use Rattle.improve.proofs.SearchEnds.{memory_end, found_end}
 use Rattle.improve.proofs.HardEnds.{hard_feasible, hard_log, right_unsat, right_nothing}
 use Rattle.improve.proofs.HardEnds.{hard_learned, nothing_learned}
-use Rattle.improve.proofs.search.improve_as.Goals as goal
+use Rattle.improve.proofs.search.improve_watched.Goals as goal
 
 pub judge-first-requires-clause-feasible : goal.judge-first-requires-clause-feasible
 judge-first-requires-clause-feasible g c =
@@ -38,14 +38,14 @@ pub returns-in-Ok-Unsat-clause-improves : goal.returns-in-Ok-Unsat-clause-improv
 returns-in-Ok-Unsat-clause-improves g c =
     let p = c.args.instance.now in
     let log = c.into_sink-log.result in
-    let count : ℕ = length c.given.result.now in
+    let count : ℕ = c.len-clauses.result in
     let accepted = rw c.in-Ok-Unsat.field-0-is at c.in-Ok-Unsat.ensures.unsat in
     let answers = rw c.in-Ok-Unsat.field-0-is at c.in-Ok-Unsat.ensures.answers in
     found_end c.args.profile p _ _ c.args.budget.now c.solve.new.budget c.solve.ensures.same_limit
     [] (sym (append-nil _)) (Ok (Unsat log count)) tt (All-nil (IsCostOfSome p)) refl tt
     (right_unsat p c.in-Ok.solver c.in-Ok.ensures c.args.profile log count
     (subst (IsAcceptedLog (given_to c.in-Ok.solver)) (sym c.into_sink-log.ensures) accepted)
-    (ap length (c.given.ensures
+    (c.len-clauses.ensures.len ∙ ap length (c.given.ensures
     ∙ sym (same_given c.in-Ok.solver c.solve.new.self c.solve.ensures.given))))
     (omega (arith, answers)) tt tt
 
