@@ -199,16 +199,17 @@ module _ (profile : Profile) (text : Option (List ℕ)) (p : Problem)
           (honest_costs s.tried s.falling s.honest)
 
       -- no fault
-      pub ends : (status : Status) → Answers status found out' last proof proof'
+      pub ends : (status : Status) → status ≡ status_of found
+          → Answers found out' last proof proof'
           → EndsAs profile text out last proof proof' status old new
-      ends status w =
+      ends status is w =
           let r = spells found s in
           let whole =
           subst (Appends out last) (sym r.spelled)
           (Appends-trans out out' last (cost_lines s.tried) (end_text found) s.lines
           w.out_grows) in
           subst (λ st. EndsAs profile text out last proof proof' st old new)
-          (sym w.status_is) (record {
+          (sym is) (record {
             written = result_text r.before r.said;
             proved = proof_text found;
             out_grows = whole;

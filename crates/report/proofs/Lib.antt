@@ -4,3 +4,4 @@ pub mod Searched
 pub mod ResultTexts
 pub mod Answered
 pub mod Ends
+mod BestTexts

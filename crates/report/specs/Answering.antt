@@ -96,9 +96,7 @@ LeavesAnswer Memory found out out' proof proof' = ⊥
 LeavesAnswer (Read fault) found out out' proof proof' = ⊥
 
 -- and where there was none
-pub record Answers (status : Status) (found : Found) (out out' proof proof' : Option (List ℕ))
-    : Type 0 where
-  pub status_is : status ≡ status_of found
+pub record Answers (found : Found) (out out' proof proof' : Option (List ℕ)) : Type 0 where
   pub out_grows : Appends out out' (end_text found)
   pub proof_grows : Appends proof proof' (proof_text found)
   pub spelled : IsSpelledProof found

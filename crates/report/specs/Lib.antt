@@ -4,3 +4,4 @@ pub mod Faults
 pub mod Telling
 pub mod Answering
 pub mod Running
+pub mod Best

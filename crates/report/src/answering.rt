@@ -1,7 +1,7 @@
 // What was found, on its way to the writers: the certificate first, whole and flushed, then the
 // lines of the status and the bits.
 ghost use Rattle.std.specs.Prelude.{◌≡◌, ◌+◌, ◌<◌, ◌^◌, ◌++◌, ◌∷◌, []};
-ghost use Rattle.std.specs.Prelude.{length, codes, OnOk, OnErr, IfOk, IfErr};
+ghost use Rattle.std.specs.Prelude.{length, codes, OnOk, OnErr, IfErr};
 ghost use Rattle.std.specs.Io.KnownBytes.{Appends};
 ghost use Rattle.text.specs.LratText.{IsTextOf};
 ghost use Rattle.text.specs.Writing.{AppendsPart, PassesOn};
@@ -12,7 +12,6 @@ ghost use Rattle.report.specs.Answering.{bits_word, digits_text, words_text};
 
 use crate::fault::RunFault;
 use crate::printing::deliver;
-use crate::status::Status;
 use improve::found::Found;
 use lrat_log::log::{Log, write_to};
 use lrat_log::sink::Sink;
@@ -26,14 +25,14 @@ use text::output::{Block, WriteFault};
 /// `ProofOutput` where the certificate's writer failed: nothing of the end of the result was
 /// written then. `Output` where the result's writer failed.
 pub fn write_answer<O: Write, P: Write>(
-    found: Found,
+    found: &Found,
     out: &mut O,
     proof: &mut P,
-) -> Result<Status, RunFault>
-    requires { HasProofRoom found }
-    ensures ok { IfOk result (λ status. Answers status found (O.contents out.old)
+) -> Result<(), RunFault>
+    requires { HasProofRoom found.now }
+    ensures ok { OnOk result (Answers found.now (O.contents out.old)
         (O.contents out.new) (P.contents proof.old) (P.contents proof.new)) }
-    ensures fault { IfErr result (λ fault. LeavesAnswer fault found (O.contents out.old)
+    ensures fault { IfErr result (λ fault. LeavesAnswer fault found.now (O.contents out.old)
         (O.contents out.new) (P.contents proof.old) (P.contents proof.new)) }
 {
     match found {
@@ -43,23 +42,15 @@ pub fn write_answer<O: Write, P: Write>(
             clauses,
             ..
         } => {
-            deliver_proof(&log, clauses, proof)?;
-            deliver_end(spell_optimum(&bits), &bits, out)?;
-            Ok(Status::OptimumFound)
+            deliver_proof(log, *clauses, proof)?;
+            deliver_end(spell_optimum(bits), bits, out)
         }
         Found::Unsat { log, clauses } => {
-            deliver_proof(&log, clauses, proof)?;
-            deliver_end(b"s UNSATISFIABLE", &[], out)?;
-            Ok(Status::Unsatisfiable)
+            deliver_proof(log, *clauses, proof)?;
+            deliver_end(b"s UNSATISFIABLE", &[], out)
         }
-        Found::Best { bits, work, .. } => {
-            deliver_end(spell_satisfiable(&bits), &bits, out)?;
-            Ok(Status::Satisfiable(work))
-        }
-        Found::Nothing { work } => {
-            deliver_end(b"s UNKNOWN", &[], out)?;
-            Ok(Status::Unknown(work))
-        }
+        Found::Best { bits, .. } => deliver_end(spell_satisfiable(bits), bits, out),
+        Found::Nothing { .. } => deliver_end(b"s UNKNOWN", &[], out),
     }
 }
 
@@ -92,7 +83,11 @@ fn deliver_end<O: Write>(words: &[u8], bits: &[bool], out: &mut O) -> Result<(),
 }
 
 /// Writes the words, the digits of the bits and a line feed.
-fn write_end<O: Write>(words: &[u8], bits: &[bool], out: &mut O) -> Result<(), WriteFault>
+///
+/// # Errors
+///
+/// `WriteFault` where the writer failed. It has then a beginning of them.
+pub fn write_end<O: Write>(words: &[u8], bits: &[bool], out: &mut O) -> Result<(), WriteFault>
     ensures ok { OnOk result (Appends (O.contents out.old) (O.contents out.new)
         (words_text words.now bits.now)) }
     ensures fault { OnErr result (AppendsPart (O.contents out.old) (O.contents out.new)
@@ -126,7 +121,7 @@ fn spell_digit(bit: bool) -> &'static [u8]
 }
 
 /// What stands before the digits; with no digit, no space does.
-fn spell_optimum(bits: &[bool]) -> &'static [u8]
+pub fn spell_optimum(bits: &[bool]) -> &'static [u8]
     ensures { result.now ≡ codes "s OPTIMUM FOUND\n" ++ bits_word bits.now }
 {
     match bits {
@@ -136,7 +131,7 @@ fn spell_optimum(bits: &[bool]) -> &'static [u8]
 }
 
 /// As `spell_optimum`, for a solution that may not be the cheapest.
-fn spell_satisfiable(bits: &[bool]) -> &'static [u8]
+pub fn spell_satisfiable(bits: &[bool]) -> &'static [u8]
     ensures { result.now ≡ codes "s SATISFIABLE\n" ++ bits_word bits.now }
 {
     match bits {

@@ -3,6 +3,7 @@
 #![tactic(auto)]
 
 mod answering;
+pub mod best;
 pub mod fault;
 pub mod options;
 pub mod printing;

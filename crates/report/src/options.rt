@@ -1,5 +1,5 @@
 //! The command line.
-ghost use Rattle.std.specs.Prelude.{◌≡◌, Some};
+ghost use Rattle.std.specs.Prelude.{◌≡◌, ◌<◌, ◌⊎◌, Some, None};
 
 use adder::cells::Profile;
 use clap::builder::ValueParser;
@@ -32,8 +32,13 @@ the certificate. The same N gives the same answer on each machine, whatever its 
 The certificate proves OPTIMUM FOUND and UNSATISFIABLE to whoever checks it, and is written before
 the 's' line. For the other two none is. Without --proof it is dropped.
 
+--profile 4 finds most optima; a certificate belongs to its profile. --best PATH keeps the best
+solution, so that a run can be stopped at any moment. A script that stops at errors writes
+
+  wmax solve --profile 4 a.wcnf > a.result || [ $? = 30 ]
+
 Example:
-  wmax solve --proof a.lrat a.wcnf > a.result";
+  wmax solve --profile 4 --proof a.lrat --best a.best a.wcnf > a.result";
 
 const CHECK_NOTES: &str = "\
 OPTIMUM FOUND is checked against the formula for 'cheaper than the last o line', UNSATISFIABLE
@@ -46,8 +51,23 @@ Statuses:
    2  the command line is faulty
    3  a file cannot be opened or read, the verdict cannot be written, or memory is refused
 
+A certificate of another profile is refused, as with NO DeadId 1: give the one of solve.
+
 Example:
-  wmax check a.wcnf a.result a.lrat";
+  wmax check --profile 4 a.wcnf a.result a.lrat";
+
+const EXPLAIN_NOTES: &str = "\
+Prints the cost, then each soft clause that the bits give up, heaviest first, with its line and the
+comment above it, and what is paid so far; then each hard clause that the bits break.
+
+Statuses:
+   0  the bits are a solution of just the cost that the result says, or it has none
+   1  they are not, or NO ResultForm: the result cannot be read
+   2  the FILE or the command line is faulty
+   3  a file cannot be opened or read, the output cannot be written, or memory is refused
+
+Example:
+  wmax explain a.wcnf a.result";
 
 const ENCODE_NOTES: &str = "\
 A certificate for cost COST refutes this formula. Another LRAT checker takes it, and a SAT solver
@@ -62,12 +82,13 @@ Example:
   wmax encode a.wcnf 4 > a.cnf";
 
 const NOTES: &str = "\
-Statuses: solve 30, 20, 10, 0; check 0, 1; encode 0; each 2 and 3 for faults. 'wmax COMMAND --help'
-says what they mean.
+Statuses: solve 30, 20, 10, 0; check and explain 0, 1; encode 0; each 2 and 3 for faults. 'wmax
+COMMAND --help' says what they mean. FILE may be /dev/stdin, or a pipe such as <(zcat a.wcnf.gz).
 
 Example:
-  wmax solve --proof a.lrat a.wcnf > a.result
-  wmax check a.wcnf a.result a.lrat";
+  wmax solve --profile 4 --proof a.lrat a.wcnf > a.result
+  wmax check --profile 4 a.wcnf a.result a.lrat
+  wmax explain a.wcnf a.result";
 
 /// What `--version` prints after the name.
 const VERSION: &str = "1.0.0";
@@ -84,26 +105,31 @@ fn make_path<'a>(alloc: Global, id: &'a str, help: &'a str) -> Arg<'a> {
 fn make_profile<'a>(alloc: Global) -> Arg<'a> {
     Arg::new(alloc, "profile")
         .long("profile")
-        .value_name("1|2|3")
-        .value_parser(ValueParser::unsigned(1, 3))
+        .value_name("1|2|3|4")
+        .value_parser(ValueParser::unsigned(1, 4))
         .default_value("1")
         .help(
             "How 'cheaper' is encoded: 1 adds all weights column by column; 2 as 1, and spends no \
-             variable on soft clauses of one literal; 3 adds weights in pairs, light ones first. \
-             solve and check need the same one",
+             variable on soft clauses of one literal; 3 adds weights in pairs, light ones first; 4, \
+             which finds most, has sums of weights along a tree that follows the hard clauses. solve \
+             and check need the same one",
         )
 }
 
-/// The profile with this number: the first where there is no other.
-pub fn pick_profile(number: Option<u64>) -> Profile
-    ensures second { number ≡ Some 2 → result ≡ Profile.Two }
-    ensures third { number ≡ Some 3 → result ≡ Profile.Three }
-    ensures first { (number ≡ Some 2 → ⊥) → (number ≡ Some 3 → ⊥) → result ≡ Profile.One }
+/// The profile with this number, from 1 to 4.
+pub fn pick_profile(number: u64) -> Option<Profile>
+    ensures first { number ≡ 1 → result ≡ Some Profile.One }
+    ensures second { number ≡ 2 → result ≡ Some Profile.Two }
+    ensures third { number ≡ 3 → result ≡ Some Profile.Three }
+    ensures fourth { number ≡ 4 → result ≡ Some Profile.Four }
+    ensures no_other { (number ≡ 0) ⊎ (4 < number) → result ≡ None }
 {
     match number {
-        Some(2) => Profile::Two,
-        Some(3) => Profile::Three,
-        _ => Profile::One,
+        1 => Some(Profile::One),
+        2 => Some(Profile::Two),
+        3 => Some(Profile::Three),
+        4 => Some(Profile::Four),
+        _ => None,
     }
 }
 
@@ -125,11 +151,16 @@ fn make_solve<'a>(alloc: Global) -> Result<Command<'a>, Error> {
             "Where the LRAT certificate goes: created or emptied at once, written at the end. \
              FILE itself is refused",
         );
+    let best = Arg::new(alloc, "best").long("best").value_name("PATH").help(
+        "Where the best solution is kept: at each moment a whole result text, which each better \
+             solution replaces. FILE and the certificate are refused",
+    );
     let command = Command::new(alloc, "solve")
         .about("Finds a solution of least cost, and a certificate that nothing is cheaper")
         .after_help(SOLVE_NOTES)
         .arg(conflicts)?
         .arg(proof)?
+        .arg(best)?
         .arg(make_profile(alloc))?
         .arg(make_path(alloc, "FILE", "The instance, a WCNF text"))?;
     Ok(command)
@@ -151,6 +182,20 @@ fn make_check<'a>(alloc: Global) -> Result<Command<'a>, Error> {
         ))?
         .arg(make_path(alloc, "PROOF", "The certificate, LRAT as text"))?
         .arg(make_profile(alloc))?;
+    Ok(command)
+}
+
+/// `wmax explain`.
+fn make_explain<'a>(alloc: Global) -> Result<Command<'a>, Error> {
+    let command = Command::new(alloc, "explain")
+        .about("Prints what a result costs, what is given up for it, and what it breaks")
+        .after_help(EXPLAIN_NOTES)
+        .arg(make_path(alloc, "FILE", "The instance, a WCNF text"))?
+        .arg(make_path(
+            alloc,
+            "RESULT",
+            "The result, as a solver printed it: o, s and v lines",
+        ))?;
     Ok(command)
 }
 
@@ -183,6 +228,7 @@ pub fn make_command<'a>(alloc: Global) -> Result<Command<'a>, Error> {
         .disable_help_subcommand(true)
         .subcommand(make_solve(alloc)?)?
         .subcommand(make_check(alloc)?)?
+        .subcommand(make_explain(alloc)?)?
         .subcommand(make_encode(alloc)?)?;
     Ok(command)
 }

@@ -3,6 +3,7 @@ ghost use Rattle.std.specs.Prelude.{◌≡◌, IfOk, IfErr};
 ghost use Rattle.report.specs.Running.{EndsAs, Leaves, Searches, outcome_of};
 
 use crate::answering::write_answer;
+use crate::best::Keep;
 use crate::fault::RunFault;
 use crate::status::Status;
 use crate::telling::{Finished, Told};
@@ -10,7 +11,8 @@ use adder::cells::Profile;
 use cdcl::budget::Budget;
 use cnf::types::Instance;
 use improve::found::{Found, ImproveFault};
-use improve::search::improve_as;
+use improve::search::improve_watched;
+use improve::watch::Silent;
 use std::alloc::Global;
 use std::io::{Read, Write};
 use wcnf::reading::read_from;
@@ -78,25 +80,54 @@ pub fn run_as<R: Read, O: Write, P: Write>(
         (O.contents out.old) (O.contents out.new) (P.contents proof.old) (P.contents proof.new)) }
     ensures same_limit { budget.new.limit ≡ budget.old.limit }
 {
+    run_watched(alloc, input, budget, out, proof, profile, &mut Silent)
+}
+
+/// As `run_as`, where `keeper` looks on: each solution is shown to it before its `o` line is
+/// written, and what was found once the result is written and flushed. After a fault it is shown no
+/// more.
+///
+/// # Errors
+///
+/// Those of `run`.
+pub fn run_watched<R: Read, O: Write, P: Write, K: Keep>(
+    alloc: Global,
+    input: &mut R,
+    budget: &mut Budget,
+    out: &mut O,
+    proof: &mut P,
+    profile: Profile,
+    keeper: &mut K,
+) -> Result<Status, RunFault>
+    ensures ok { IfOk result (λ status. EndsAs profile (R.remaining input.old)
+        (O.contents out.old) (O.contents out.new) (P.contents proof.old) (P.contents proof.new)
+        status budget.old budget.new) }
+    ensures fault { IfErr result (λ fault. Leaves profile fault (R.remaining input.old)
+        (O.contents out.old) (O.contents out.new) (P.contents proof.old) (P.contents proof.new)) }
+    ensures same_limit { budget.new.limit ≡ budget.old.limit }
+{
     let instance = read_from(alloc, input)?;
-    let found = search(alloc, &instance, budget, out, profile)?;
-    write_answer(found, out, proof)
+    let found = search(alloc, &instance, budget, out, profile, keeper)?;
+    write_answer(&found, out, proof)?;
+    keeper.ended(&instance, &found);
+    Ok(Status::of(found))
 }
 
 /// Looks for an optimum, and tells the cost of each better solution.
-fn search<O: Write>(
+fn search<O: Write, K: Keep>(
     alloc: Global,
     instance: &Instance,
     budget: &mut Budget,
     out: &mut O,
     profile: Profile,
+    keeper: &mut K,
 ) -> Result<Found, RunFault>
     ensures { Searches profile instance.now result (O.contents out.old)
         (O.contents out.new) budget.old budget.new }
 {
     let _limits = instance.vars();
     let mut told = Told::new(alloc, out);
-    let searched = improve_as(instance, budget, &mut told, profile);
+    let searched = improve_watched(instance, budget, &mut told, profile, keeper);
     let Finished { writer, fault } = told.finish();
     // Nothing is done here: the proof learns from this use what the writer holds.
     let _ = &*writer;

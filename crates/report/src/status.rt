@@ -1,8 +1,9 @@
 //! How a run ends that met no fault.
 ghost use Rattle.std.specs.Prelude.{◌≡◌};
+ghost use Rattle.report.specs.Answering.{status_of};
 ghost use Rattle.report.specs.Codes.{code_of_status};
 
-use improve::found::Work;
+use improve::found::{Found, Work};
 
 /// What a run found out.
 #[derive(Drop)]
@@ -19,6 +20,18 @@ pub enum Status {
 }
 
 impl Status {
+    /// How a run ends that found this.
+    pub fn of(found: Found) -> Self
+        ensures { result ≡ status_of found }
+    {
+        match found {
+            Found::Optimum { .. } => Status::OptimumFound,
+            Found::Unsat { .. } => Status::Unsatisfiable,
+            Found::Best { work, .. } => Status::Satisfiable(work),
+            Found::Nothing { work } => Status::Unknown(work),
+        }
+    }
+
     /// The exit status: 30 for an optimum, 20 where there is no solution, 10 for a solution, 0
     /// where nothing is known.
     pub fn code(&self) -> u8

@@ -2,6 +2,7 @@
 //! libraries.
 #![tactic(auto)]
 
+mod keeping;
 mod placing;
 
 use adder::cells::Profile;
@@ -9,13 +10,15 @@ use bound::encoding::write_formula;
 use cdcl::budget::Budget;
 use clap::error::ErrorKind;
 use clap::{ArgMatches, Error};
+use explain::explaining::{ExplainFault, write_explanation};
+use keeping::{BestPaths, Keeper};
 use lrat_check::checking::check_from_as;
-use lrat_check::verdicts::{CheckFault, Verdict};
-use placing::open_proof;
+use lrat_check::verdicts::{Cause, CheckFault, Verdict};
+use placing::{Place, find_place, open_proof};
 use report::fault::RunFault;
 use report::options::{self, MOST_CONFLICTS, MOST_COST};
 use report::printing::{deliver, fault_code, print_fault, print_verdict, verdict_code};
-use report::running::run_as;
+use report::running::run_watched;
 use std::fs::{File, OpenFile, OpenOptions};
 use std::io::{Read, Write};
 use std::mem::ManuallyDrop;
@@ -37,65 +40,114 @@ fn read_file<R: AllocGlobal, F: Read>(rt: &R, file: &mut F) -> Result<Vec<u8>, R
     Ok(read_all(rt.alloc(), file)?)
 }
 
-/// The profile that `--profile` names, else the first.
-fn read_profile(matches: &ArgMatches<'_>) -> Profile {
-    options::pick_profile(matches.get_one::<u64>("profile"))
+/// The profile that `--profile` names.
+fn read_profile(matches: &ArgMatches<'_>) -> Option<Profile> {
+    options::pick_profile(matches.get_one::<u64>("profile")?)
 }
 
-/// `wmax solve`: FILE is opened, then PATH is created or emptied, then the text is read. Without
-/// PATH the certificate is dropped.
-fn solve<R: Files + AllocGlobal + Print>(rt: &R, matches: &ArgMatches<'_>) -> Result<u8, RunFault> {
+/// `wmax solve`: FILE is opened, then the PATH of the certificate is created or emptied, then the
+/// PATH of the best solution, then the text is read. Without a PATH the certificate is dropped.
+fn solve<R: Files + AllocGlobal + Print, E: Write>(
+    rt: &R,
+    err: &mut E,
+    matches: &ArgMatches<'_>,
+) -> Result<u8, RunFault> {
     // `clap` lets no command line pass that lacks one of these; nothing is known of that here.
     let (Some(text), Some(limit)) = (matches.get_str("FILE"), matches.get_one::<u64>("conflicts"))
     else {
         return Err(UNREADABLE);
     };
     let mut text = File::open(rt, text).map_err(|_| UNREADABLE)?;
+    let Some(here) = find_place(&text) else {
+        return Err(UNREADABLE);
+    };
     // `clap` lets no greater effort pass; said again, since nothing is known of that here.
-    let mut budget = Budget::new(limit.min(MOST_CONFLICTS));
-    let mut out = io::writer(rt);
-    let profile = read_profile(matches);
-    let status = match matches.get_str("proof") {
+    let budget = Budget::new(limit.min(MOST_CONFLICTS));
+    match matches.get_str("proof") {
         Some(path) => {
-            let mut proof = open_proof(rt, path, &text)?;
-            run_as(
-                rt.alloc(),
+            let mut proof = open_proof(rt, path, here)?;
+            let Some(there) = find_place(&proof) else {
+                return Err(RunFault::ProofOutput);
+            };
+            keep(
+                rt,
+                err,
+                matches,
+                budget,
                 &mut text,
-                &mut budget,
-                &mut out,
                 &mut proof,
-                profile,
-            )?
+                [here, there],
+            )
         }
         None => {
             let mut dropped = io::sink();
-            run_as(
-                rt.alloc(),
+            keep(
+                rt,
+                err,
+                matches,
+                budget,
                 &mut text,
-                &mut budget,
-                &mut out,
                 &mut dropped,
-                profile,
-            )?
+                [here, here],
+            )
         }
+    }
+}
+
+/// Solves with a certificate, where `--best` may name neither of the others.
+fn keep<R: Files + AllocGlobal + Print, E: Write, T: Read, P: Write>(
+    rt: &R,
+    err: &mut E,
+    matches: &ArgMatches<'_>,
+    mut budget: Budget,
+    text: &mut T,
+    proof: &mut P,
+    others: [Place; 2],
+) -> Result<u8, RunFault> {
+    let Some(profile) = read_profile(matches) else {
+        return Err(UNREADABLE);
     };
+    let paths = match matches.get_str("best") {
+        Some(path) => Some(BestPaths::new(rt.alloc(), path).map_err(|_| RunFault::Memory)?),
+        None => None,
+    };
+    if let Some(paths) = &paths {
+        if paths.are_taken(rt, &others) {
+            let _ = writeln!(
+                err,
+                "error: --best names FILE, the certificate or no regular file"
+            );
+            return Ok(2);
+        }
+    }
+    let mut keeper = Keeper::new(rt, err, paths, others);
+    let mut out = io::writer(rt);
+    let status = run_watched(
+        rt.alloc(),
+        text,
+        &mut budget,
+        &mut out,
+        proof,
+        profile,
+        &mut keeper,
+    )?;
     Ok(status.code())
 }
 
 /// `wmax check`: the files are opened in their order before any is read, and read in their order.
 /// The certificate is judged while it is read, so none of it is kept but the clauses that are live.
 fn check<R: Files + AllocGlobal + Print>(rt: &R, matches: &ArgMatches<'_>) -> Result<u8, RunFault> {
-    let (Some(text), Some(answer), Some(proof)) = (
+    let (Some(text), Some(answer), Some(proof), Some(profile)) = (
         matches.get_str("FILE"),
         matches.get_str("RESULT"),
         matches.get_str("PROOF"),
+        read_profile(matches),
     ) else {
         return Err(UNREADABLE);
     };
     let mut text = File::open(rt, text).map_err(|_| UNREADABLE)?;
     let mut answer = File::open(rt, answer).map_err(|_| UNREADABLE)?;
     let mut proof = File::open(rt, proof).map_err(|_| UNREADABLE)?;
-    let profile = read_profile(matches);
     judge(rt, &mut text, &mut answer, &mut proof, profile)
 }
 
@@ -123,25 +175,50 @@ fn show<R: Print>(rt: &R, verdict: &Verdict) -> Result<u8, RunFault> {
     Ok(verdict_code(verdict))
 }
 
+/// `wmax explain`: FILE and RESULT are opened, then read in their order, and what the result comes
+/// to is printed.
+fn explain<R: Files + AllocGlobal + Print>(
+    rt: &R,
+    matches: &ArgMatches<'_>,
+) -> Result<u8, RunFault> {
+    let (Some(text), Some(answer)) = (matches.get_str("FILE"), matches.get_str("RESULT")) else {
+        return Err(UNREADABLE);
+    };
+    let mut text = File::open(rt, text).map_err(|_| UNREADABLE)?;
+    let mut answer = File::open(rt, answer).map_err(|_| UNREADABLE)?;
+    let text = read_file(rt, &mut text)?;
+    let answer = read_file(rt, &mut answer)?;
+    let mut out = io::writer(rt);
+    match write_explanation(rt.alloc(), &text, &answer, &mut out) {
+        Ok(is_right) => {
+            deliver(Ok(()), &mut out)?;
+            Ok(u8::from(!is_right))
+        }
+        Err(ExplainFault::Result(line)) => show(rt, &Verdict::No(Cause::ResultForm, line)),
+        Err(ExplainFault::Text(fault)) => Err(RunFault::Read(fault)),
+        Err(ExplainFault::Memory) => Err(RunFault::Memory),
+        Err(ExplainFault::Output) => Err(RunFault::Output),
+    }
+}
+
 /// `wmax encode`: the formula for 'cost below COST'. The process ends after it, so the clauses of
 /// the text are not given back one by one.
 fn encode<R: Files + AllocGlobal + Print>(
     rt: &R,
     matches: &ArgMatches<'_>,
 ) -> Result<u8, RunFault> {
-    let (Some(text), Some(cost)) = (matches.get_str("FILE"), matches.get_one::<u64>("COST")) else {
+    let (Some(text), Some(cost), Some(profile)) = (
+        matches.get_str("FILE"),
+        matches.get_one::<u64>("COST"),
+        read_profile(matches),
+    ) else {
         return Err(UNREADABLE);
     };
     let mut text = File::open(rt, text).map_err(|_| UNREADABLE)?;
     let instance = ManuallyDrop::new(read_from(rt.alloc(), &mut text)?);
     let mut out = io::writer(rt);
     // `clap` lets no greater cost pass; said again, since nothing is known of that here.
-    write_formula(
-        &instance,
-        cost.min(MOST_COST),
-        read_profile(matches),
-        &mut out,
-    )?;
+    write_formula(&instance, cost.min(MOST_COST), profile, &mut out)?;
     deliver(Ok(()), &mut out)?;
     Ok(0)
 }
@@ -206,8 +283,12 @@ fn run_matches<R: Files + AllocGlobal + Print, E: Write>(
     matches: &ArgMatches<'_>,
 ) -> u8 {
     match matches.subcommand() {
-        Some(("solve", found)) => tell(err, solve(rt, found)),
+        Some(("solve", found)) => {
+            let outcome = solve(rt, err, found);
+            tell(err, outcome)
+        }
         Some(("check", found)) => tell(err, check(rt, found)),
+        Some(("explain", found)) => tell(err, explain(rt, found)),
         Some(("encode", found)) => tell(err, encode(rt, found)),
         _ => 2,
     }

@@ -1,31 +1,72 @@
-//! The file that the certificate goes to.
+//! Where files are written: never into one that the run reads or writes otherwise.
 use report::fault::RunFault;
-use std::fs::{OpenFile, OpenOptions};
+use std::fs::{self, Metadata, OpenFile, OpenOptions};
 use std::os::unix::fs::MetadataExt;
 use std::rt::Files;
 
-/// Opens or creates the file, and empties it. The instance itself, by whatever name or link, is
-/// refused before anything is emptied: the open files are compared and not their paths, so no
-/// renaming in between makes a difference. What is no regular file, as a pipe, has nothing to
-/// empty.
-///
-/// # Errors
-///
-/// `ProofOutput` where the file cannot be opened, looked at or emptied, or is the instance.
-pub fn open_proof<R: Files>(rt: &R, path: &str, text: &R::File) -> Result<R::File, RunFault> {
+/// Which file one is, by whatever name or link it is found.
+#[derive(Clone, Copy, PartialEq, Eq, Drop)]
+pub struct Place {
+    /// The number of the device that it stands on.
+    dev: u64,
+    /// Its number there.
+    ino: u64,
+}
+
+/// The place of the file that was looked at.
+fn place_of(data: &Metadata) -> Place {
+    Place {
+        dev: data.dev(),
+        ino: data.ino(),
+    }
+}
+
+/// The place of an open file; none where it cannot be looked at.
+pub fn find_place<F: OpenFile>(file: &F) -> Option<Place> {
+    match file.metadata() {
+        Ok(data) => Some(place_of(&data)),
+        Err(_) => None,
+    }
+}
+
+/// Whether the path is that of one of these files, or of what is no regular file.
+pub fn is_taken<R: Files>(rt: &R, path: &str, others: &[Place]) -> bool {
+    match fs::metadata(rt, path) {
+        Ok(data) => !data.is_file() || others.contains(&place_of(&data)),
+        Err(_) => false,
+    }
+}
+
+/// Opens or creates the file, and empties it. One of the others is refused before anything is
+/// emptied: the open files are compared and not their paths, so no renaming in between makes a
+/// difference. What is no regular file, as a pipe, has nothing to empty. None where the file cannot
+/// be opened, looked at or emptied, or is refused.
+pub fn open_empty<R: Files>(rt: &R, path: &str, others: &[Place]) -> Option<R::File> {
     let mut options = OpenOptions::new();
     options.write(true).create(true);
     let Ok(file) = options.open(rt, path) else {
-        return Err(RunFault::ProofOutput);
+        return None;
     };
-    let (Ok(here), Ok(there)) = (file.metadata(), text.metadata()) else {
-        return Err(RunFault::ProofOutput);
+    let Ok(data) = file.metadata() else {
+        return None;
     };
-    if here.dev() == there.dev() && here.ino() == there.ino() {
-        return Err(RunFault::ProofOutput);
+    if others.contains(&place_of(&data)) {
+        return None;
     }
-    if here.is_file() && file.set_len(0).is_err() {
-        return Err(RunFault::ProofOutput);
+    if data.is_file() && file.set_len(0).is_err() {
+        return None;
     }
-    Ok(file)
+    Some(file)
+}
+
+/// Opens or creates the file that the certificate goes to, and empties it.
+///
+/// # Errors
+///
+/// `ProofOutput` where it cannot be opened, looked at or emptied, or is the instance.
+pub fn open_proof<R: Files>(rt: &R, path: &str, text: Place) -> Result<R::File, RunFault> {
+    match open_empty(rt, path, &[text]) {
+        Some(file) => Ok(file),
+        None => Err(RunFault::ProofOutput),
+    }
 }

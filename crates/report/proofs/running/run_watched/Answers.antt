@@ -1,7 +1,7 @@
 -- The ends of a run, by what was read, searched and written.
-use Rattle.std.proofs.lemmas.Result.{err_from_is_err_and, IfOk-weaker, IfErr-weaker}
+use Rattle.std.proofs.lemmas.Result.{err_from_is_err_and}
 use Rattle.report.proofs.Ends.{proof_room, ends, answer_leaves, search_leaves}
-use Rattle.report.proofs.running.run_as.Goals as goal
+use Rattle.report.proofs.running.run_watched.Goals as goal
 
 pub returns-in_err-found-clause-fault : goal.returns-in_err-found-clause-fault
 returns-in_err-found-clause-fault g c =
@@ -22,6 +22,22 @@ write_answer-requires g c =
     proof_room c.args.profile c.in_ok-instance.instance (held c.args.out.now)
     (held c.search.new.out) c.args.budget.now c.search.new.budget f.found f.ensures
 
+pub returns-in_err-write_answer-clause-fault : goal.returns-in_err-write_answer-clause-fault
+returns-in_err-write_answer-clause-fault g c =
+    let held = g.O.Write.contents in
+    let certified = g.P.Write.contents in
+    let p =
+    err_from_is_err_and c.from_residual-in_err-write_answer.result
+    c.from_residual-in_err-write_answer.ensures.1 in
+    let i = c.in_ok-instance in
+    let f = c.in_ok-found in
+    let w = c.write_answer in
+    rw (p.1, p.2) (answer_leaves c.args.profile (g.R.Read.remaining c.args.input.now)
+    i.instance i.ensures.instance i.ensures.only_one c.args.budget.now c.search.new.budget
+    (held c.args.out.now) (held c.search.new.out) (held w.new.out) (certified c.args.proof.now)
+    (certified w.new.proof) f.found f.ensures c.in_err-write_answer.field-0.0
+    c.in_err-write_answer.ensures.fault)
+
 pub returns-clause-ok : goal.returns-clause-ok
 returns-clause-ok g c =
     let held = g.O.Write.contents in
@@ -29,19 +45,13 @@ returns-clause-ok g c =
     let i = c.in_ok-instance in
     let f = c.in_ok-found in
     let w = c.write_answer in
-    IfOk-weaker w.result _ _ (ends c.args.profile (g.R.Read.remaining c.args.input.now) i.instance
+    ends c.args.profile (g.R.Read.remaining c.args.input.now) i.instance
     i.ensures.instance i.ensures.only_one c.args.budget.now c.search.new.budget
     (held c.args.out.now) (held c.search.new.out) (held w.new.out) (certified c.args.proof.now)
-    (certified w.new.proof) f.found f.ensures) w.ensures.ok
+    (certified w.new.proof) f.found f.ensures c.of.result c.of.ensures
+    c.in_ok-write_answer.ensures.ok
 
-pub returns-clause-fault : goal.returns-clause-fault
-returns-clause-fault g c =
-    let held = g.O.Write.contents in
-    let certified = g.P.Write.contents in
-    let i = c.in_ok-instance in
-    let f = c.in_ok-found in
-    let w = c.write_answer in
-    IfErr-weaker w.result _ _ (answer_leaves c.args.profile (g.R.Read.remaining c.args.input.now)
-    i.instance i.ensures.instance i.ensures.only_one c.args.budget.now c.search.new.budget
-    (held c.args.out.now) (held c.search.new.out) (held w.new.out) (certified c.args.proof.now)
-    (certified w.new.proof) f.found f.ensures) w.ensures.fault
+pub ended-requires : goal.ended-requires
+ended-requires g c =
+    let s = c.in_ok-found.ensures in
+    (c.args.profile, s.tried, s.found)

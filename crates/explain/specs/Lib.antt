@@ -1,0 +1,2 @@
+pub mod Falsified
+pub mod Vectors

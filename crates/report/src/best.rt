@@ -1,0 +1,121 @@
+//! The best solution so far as a text of its own: a whole result, which tells its own cost alone.
+ghost use Rattle.std.specs.Prelude.{◌≡◌, ◌++◌, [], OnOk, OnErr};
+ghost use Rattle.std.specs.Io.KnownBytes.{Appends};
+ghost use Rattle.text.specs.Writing.{AppendsPart, spaced};
+ghost use Rattle.lrat_result.specs.Result.{Satisfiable, Unknown, cost_tokens};
+ghost use Rattle.improve.specs.Improving.{IsSolution};
+ghost use Rattle.report.specs.Answering.{words_text};
+ghost use Rattle.report.specs.Best.{IsFound, IsTrueText, best_text, said_of};
+
+use crate::answering::{spell_optimum, spell_satisfiable, write_end};
+use crate::telling::write_cost;
+use cnf::types::Instance;
+use improve::found::Found;
+use improve::watch::{Silent, Watch};
+use std::io::Write;
+use text::output::WriteFault;
+
+/// Looks on while a run goes, and is shown how it ended.
+pub trait Keep: Watch {
+    /// Is shown what was found, once the result and the certificate are written and flushed.
+    fn ended(&mut self, instance: &Instance, found: &Found)
+        requires { IsFound instance.now found.now };
+}
+
+impl Keep for Silent {
+    fn ended(&mut self, _instance: &Instance, _found: &Found) {}
+}
+
+/// Writes that nothing is known, and flushes.
+///
+/// # Errors
+///
+/// `WriteFault` where the writer failed. It has then a beginning of the text.
+pub fn write_unknown<W: Write>(writer: &mut W) -> Result<(), WriteFault>
+    ensures ok { OnOk result (Appends (W.contents writer.old) (W.contents writer.new)
+        (best_text Unknown)) }
+    ensures fault { OnErr result (AppendsPart (W.contents writer.old) (W.contents writer.new)
+        (best_text Unknown)) }
+{
+    write_words(b"s UNKNOWN", &[], writer)
+}
+
+/// Writes a solution that may not be the cheapest, and flushes.
+///
+/// # Errors
+///
+/// `WriteFault` where the writer failed. It has then a beginning of the text.
+pub fn write_best<W: Write>(
+    instance: &Instance,
+    cost: u64,
+    bits: &[bool],
+    writer: &mut W,
+) -> Result<(), WriteFault>
+    requires { IsSolution instance.now bits.now cost }
+    ensures ok { OnOk result (Appends (W.contents writer.old) (W.contents writer.new)
+        (best_text (Satisfiable cost bits.now))) }
+    ensures fault { OnErr result (AppendsPart (W.contents writer.old) (W.contents writer.new)
+        (best_text (Satisfiable cost bits.now))) }
+    ensures true_text { IsTrueText instance.now (best_text (Satisfiable cost bits.now)) }
+{
+    // The contract of `vars` has the limits of the instance.
+    let _vars = instance.vars();
+    write_solution(cost, spell_satisfiable(bits), bits, writer)
+}
+
+/// Writes what was found, and flushes.
+///
+/// # Errors
+///
+/// `WriteFault` where the writer failed. It has then a beginning of the text.
+pub fn write_found<W: Write>(
+    instance: &Instance,
+    found: &Found,
+    writer: &mut W,
+) -> Result<(), WriteFault>
+    requires { IsFound instance.now found.now }
+    ensures ok { OnOk result (Appends (W.contents writer.old) (W.contents writer.new)
+        (best_text (said_of found.now))) }
+    ensures fault { OnErr result (AppendsPart (W.contents writer.old) (W.contents writer.new)
+        (best_text (said_of found.now))) }
+    ensures true_text { IsTrueText instance.now (best_text (said_of found.now)) }
+{
+    let _vars = instance.vars();
+    match found {
+        Found::Optimum { cost, bits, .. } => {
+            write_solution(*cost, spell_optimum(bits), bits, writer)
+        }
+        Found::Unsat { .. } => write_words(b"s UNSATISFIABLE", &[], writer),
+        Found::Best { cost, bits, .. } => {
+            write_solution(*cost, spell_satisfiable(bits), bits, writer)
+        }
+        Found::Nothing { .. } => write_unknown(writer),
+    }
+}
+
+/// Writes the line of the cost, the words, the digits of the bits and a line feed, and flushes.
+fn write_solution<W: Write>(
+    cost: u64,
+    words: &[u8],
+    bits: &[bool],
+    writer: &mut W,
+) -> Result<(), WriteFault>
+    ensures ok { OnOk result (Appends (W.contents writer.old) (W.contents writer.new)
+        (spaced (cost_tokens cost) ++ words_text words.now bits.now)) }
+    ensures fault { OnErr result (AppendsPart (W.contents writer.old) (W.contents writer.new)
+        (spaced (cost_tokens cost) ++ words_text words.now bits.now)) }
+{
+    write_cost(writer, cost)?;
+    write_words(words, bits, writer)
+}
+
+/// Writes the words, the digits of the bits and a line feed, and flushes.
+fn write_words<W: Write>(words: &[u8], bits: &[bool], writer: &mut W) -> Result<(), WriteFault>
+    ensures ok { OnOk result (Appends (W.contents writer.old) (W.contents writer.new)
+        (words_text words.now bits.now)) }
+    ensures fault { OnErr result (AppendsPart (W.contents writer.old) (W.contents writer.new)
+        (words_text words.now bits.now)) }
+{
+    write_end(words, bits, writer)?;
+    writer.flush().map_err(|_| WriteFault)
+}

@@ -1,0 +1,111 @@
+#!/usr/bin/env bash
+# `--best PATH`: whatever happens, PATH has a whole text, and what it says is so.
+source "$(dirname "$0")/../lib"
+
+best_is() { # NAME LINE..: PATH has these lines, and nothing is left beside it
+    local name=$1
+    shift
+    ok "$name: the text" [ "$(cat "$work/best")" = "$(printf '%s\n' "$@")" ]
+    ok "$name: nothing beside it" [ ! -e "$work/best.part" ]
+}
+
+# Each status, over what an earlier run left.
+lines best 'of an earlier run'
+lines text 'h 1 2 0' '3 -1 0' '4 -2 0'
+call solve --best best --proof proof text
+expect 'an optimum' 30 $'o 3\ns OPTIMUM FOUND\nv 10' ''
+best_is 'an optimum' 'o 3' 's OPTIMUM FOUND' 'v 10'
+call check text best proof
+expect 'it checks' 0 YES ''
+cp examples/roster.wcnf "$work/text"
+call solve --best best --conflicts 1 text
+ok 'little effort' [ "$status" = 10 ]
+best_is 'a solution' "$(grep '^o' <<< "$out" | tail -n 1)" 's SATISFIABLE' "$(grep '^v' <<< "$out")"
+call check text best /dev/null
+expect 'the solution is right' 1 'NO StatusWithoutProof 2' ''
+call solve --best best --conflicts 0 text
+best_is 'nothing' 's UNKNOWN'
+lines text 'h 1 0' '3 2 0'
+call solve --best best text
+best_is 'no cost' 'o 0' 's OPTIMUM FOUND' 'v 11'
+lines text 'h 1 0' 'h -1 0'
+call solve --best best text
+best_is 'no solution' 's UNSATISFIABLE'
+lines text 'h 0'
+lines best 'of an earlier run'
+lines bad 'h 1'
+call solve --best best bad
+expect 'a faulty text' 2 '' 'error: line 1: NoZero'
+best_is 'a faulty text' 's UNKNOWN'
+
+# A failed output: what was met before stays.
+lines text 'h 1 2 0' '3 -1 0' '4 -2 0'
+if [ -c /dev/full ]; then
+    err=$(cd "$work" && timeout 60 "$wmax" solve --best best text 2>&1 > /dev/full)
+    ok 'a full output' [ "$?" = 3 -a "$err" = 'error: Output' ]
+    ok 'a full output: the solution' [ "$(sed -n 2p "$work/best")" = 's SATISFIABLE' ]
+    call solve --best best --proof /dev/full text
+    ok 'a full certificate' [ "$status" = 3 -a "$err" = 'error: ProofOutput' ]
+    best_is 'a full certificate' "$(tail -n 1 <<< "$out")" 's SATISFIABLE' "$(tail -n 1 "$work/best")"
+fi
+
+# What is refused, and left as it was.
+refusal='error: --best names FILE, the certificate or no regular file'
+refused() { # NAME WORD..
+    local name=$1
+    shift
+    cp "$work/text" "$work/before"
+    call solve "$@"
+    expect "$name" 2 '' "$refusal"
+    ok "$name: the text stays" cmp -s "$work/text" "$work/before"
+}
+rm -f "$work"/{best,proof,link,hard}
+ln -s text "$work/link"
+ln "$work/text" "$work/hard"
+cp "$work/text" "$work/other.part"
+for path in text ./text "$work/text" link hard; do refused "FILE as $path" --best $path text; done
+refused 'FILE beside it' --best other other.part
+refused 'the certificate' --best proof --proof proof text
+refused 'the certificate beside it' --best proof --proof proof.part text
+refused 'the certificate, by a link' --best proof --proof proof link
+refused 'a folder' --best . text
+refused 'a device' --best /dev/null text
+ok 'a device stays' [ -c /dev/null ]
+mkfifo "$work/pipe.part"
+refused 'a pipe beside it' --best pipe text
+
+# What cannot be written is told once, and changes nothing else.
+cp examples/roster.wcnf "$work/text"
+call solve text
+plain=$out
+for path in missing/best text/best; do
+    call solve --best $path text
+    expect "an unwritable path, $path" 30 "$plain" "warning: $path cannot be written"
+done
+lines best 'of an earlier run'
+err=$(cd "$work" && { trap '' XFSZ; ulimit -f 0; timeout 60 "$wmax" solve --best best text 2>&1 > /dev/null; } | cat)
+ok 'a full disk' [ "$err" = 'warning: best cannot be written' ]
+best_is 'a full disk' 'of an earlier run'
+
+# Killed at forty moments: PATH has a whole text, and the solution in it is one.
+awk 'BEGIN {
+    srand(7)
+    print "h 100000 0" # so that a text takes many writes
+    for (i = 1; i <= 600; i++) printf "h %d %d 0\n", int(rand() * 200) + 1, int(rand() * 200) + 1
+    for (i = 1; i <= 200; i++) printf "1 -%d 0\n", i
+}' > "$work/text"
+wrong=0
+solved=0
+for moment in $(seq 1 40); do
+    rm -f "$work/best"
+    { (cd "$work" && timeout -s KILL "0.$(printf %02d "$moment")" "$wmax" solve --best best text > .out); } 2> /dev/null
+    [ -e "$work/best" ] || continue
+    call check text best /dev/null
+    case "$out $(grep '^s' "$work/best")" in
+        'NO StatusWithoutProof 2 s SATISFIABLE') solved=$((solved + 1)) ;;
+        'NO StatusWithoutProof 1 s UNKNOWN' | 'NO NoEmptyClause '*' s OPTIMUM FOUND') ;;
+        *) wrong=$((wrong + 1)); echo "killed at $moment: $out"; head -c 200 "$work/best" ;;
+    esac
+done
+ok "killed at forty moments: $solved solutions" [ $wrong = 0 -a $solved -gt 3 ]
+totals
