@@ -146,6 +146,8 @@ call check --profile 1 text result proof
 expect 'a certificate of profile 2 in profile 1' 1 'NO IdOrder 1' ''
 call check --profile 3 text result proof
 expect 'a certificate of profile 2 in profile 3' 1 'NO IdOrder 1' ''
+call check --profile 4 text result proof
+expect 'a certificate of profile 2 in profile 4' 1 'NO IdOrder 1' ''
 
 # The clause of a greater bound follows from that of a smaller one, and is no unit.
 lines text '1 1 0' '1 2 0' '1 3 0'

@@ -52,6 +52,23 @@ lines text '1152921504606846977 1 0' '1152921504606846976 2 0'
 formula_as 3 'weights of 61 bits' 1 'p cnf 6 12' '1 3 0' '2 4 0' '4 3 -5 0' '4 -3 5 0' '-4 3 5 0' '-4 -3 -5 0' '4 -6 0' '3 -6 0' \
     '-4 -3 6 0' '-6 0' '-5 0' '-3 0'
 
+# Profile 4: sums of weights, by whose variables 'at least so much' is said
+: > "$work/text"
+formula_as 4 'an empty text' 0 'p cnf 0 1' '0'
+lines text '5 0'
+formula_as 4 'an empty soft clause' 5 'p cnf 1 2' '1 0' '-1 0'
+lines text 'h 1 2 0' '3 -1 0' '4 -2 0'
+formula_as 4 'sums of two' 3 'p cnf 7 11' '1 2 0' '-1 3 0' '-2 4 0' '-3 5 0' '-4 6 0' '-3 -4 7 0' '-6 5 0' '-7 6 0' '-5 0' '-6 0' '-7 0'
+lines text '3 1 0' '1 1 0'
+formula_as 4 'two weights of one literal' 1 'p cnf 6 10' '1 2 0' '1 3 0' '-2 5 0' '-3 4 0' '-2 -3 6 0' '-5 4 0' '-6 5 0' '-4 0' \
+    '-5 0' '-6 0'
+lines text '1 1 0' '1 2 0' '1 3 0'
+formula_as 4 'three of one weight' 2 'p cnf 11 16' '1 4 0' '2 5 0' '3 6 0' '-4 7 0' '-5 7 0' '-4 -5 8 0' '-8 7 0' '-7 9 0' '-8 10 0' \
+    '-6 9 0' '-7 -6 10 0' '-8 -6 11 0' '-10 9 0' '-11 10 0' '-10 0' '-11 0'
+lines text 'h -1 -2 0' 'h -1 -3 0' 'h -2 -3 0' '2 -1 0' '3 -2 0' '5 -3 0'
+formula_as 4 'at most one of three is given up' 2 'p cnf 9 14' '-1 -2 0' '-1 -3 0' '-2 -3 0' '-1 4 0' '-2 5 0' '-3 6 0' '-4 7 0' \
+    '-5 8 0' '-6 9 0' '-8 7 0' '-9 8 0' '-7 0' '-8 0' '-9 0'
+
 fault() { # NAME TEXT MESSAGE
     printf '%b' "$2" > "$work/text"
     call encode text 1

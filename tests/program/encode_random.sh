@@ -10,7 +10,7 @@ answer() { # COST: the status line of solving the formula
 
 awk -v dir="$work" -v count=100 -f tests/program/random.awk > "$work/wanted"
 while read -r number wanted; do
-    for profile in 1 2 3; do
+    for profile in 1 2 3 4; do
         if [ "$wanted" = none ]; then
             ok "instance $number, profile $profile: no solution" [ "$(answer 4611686018427387903)" = 's UNSATISFIABLE' ]
         else

@@ -2,8 +2,8 @@
  *
  *   fuzz PROGRAM PLAIN FOLDER SEED RUNS NAME..
  *
- * FOLDER has NAME.wcnf, NAME.result and NAME.lrat for each NAME. Each run changes one of the three files and asks
- * `PROGRAM check` twice: of the files, and with the certificate through a pipe that cuts it into pieces at random. Both
+ * FOLDER has NAME.wcnf, NAME.result and NAME.lrat for each NAME; a NAME that ends in -P is of profile P, any other of profile
+ * 1. Each run changes one of the three files and asks `PROGRAM check` twice: of the files, and with the certificate through a pipe that cuts it into pieces at random. Both
  * must say the same, in the form of a verdict. Where they say YES, the formula that `PROGRAM encode` prints and the
  * certificate are given to PLAIN, a checker of its own, which must accept them, or find that hints end without a
  * conflict: it knows no RAT lines, and a line whose pivot has no candidates is one. Prints 'SEED RUNS YES PLAIN WRONG',
@@ -138,7 +138,7 @@ static int is_verdict(int status, const char *out) {
     return status == 1 && sscanf(out, "NO %31s %d\n%n", cause, &line, &end) == 2 && out[end] == 0;
 }
 
-static char *program, *plain, *folder;
+static char *program, *plain, *folder, *profile;
 static char paths[5][4096];
 
 /* Whether the plain checker accepts the certificate over the formula that the program prints; -1 where it can't say. */
@@ -155,7 +155,7 @@ static int is_accepted(void) {
     static char formula[1 << 20];
     char *number = cost + strspn(cost, " \t");
     number[strcspn(number, " \t")] = 0;
-    char *words[] = {program, "encode", paths[0], number, NULL};
+    char *words[] = {program, "encode", "--profile", profile, paths[0], number, NULL};
     if (!last) return -1; /* no bound: its formula is of the hard clauses alone, which `encode` does not print */
     if (run(words, NULL, formula, sizeof formula) != 0) return 0;
     FILE *f = fopen(paths[3], "wb");
@@ -180,7 +180,8 @@ int main(int count, char **words) {
     int names = count - 6;
     for (int i = 0; i < 4; i++) snprintf(paths[i], sizeof paths[i], "%s/%s.%d", folder, words[4], i);
     for (long i = 0; i < runs; i++) {
-        char *name = words[6 + below((uint64_t)names)];
+        char *name = words[6 + below((uint64_t)names)], *dash = strrchr(name, '-');
+        profile = dash ? dash + 1 : "1";
         int changed = (int)below(3);
         Text proof = {NULL, 0};
         for (int k = 0; k < 3; k++) {
@@ -192,8 +193,8 @@ int main(int count, char **words) {
             if (k == 2) proof = t; else free(t.bytes);
         }
         char out[2][256];
-        char *whole[] = {program, "check", paths[0], paths[1], paths[2], NULL};
-        char *pieces[] = {program, "check", paths[0], paths[1], "/dev/stdin", NULL};
+        char *whole[] = {program, "check", "--profile", profile, paths[0], paths[1], paths[2], NULL};
+        char *pieces[] = {program, "check", "--profile", profile, paths[0], paths[1], "/dev/stdin", NULL};
         int status = run(whole, NULL, out[0], sizeof out[0]);
         int other = run(pieces, &proof, out[1], sizeof out[1]);
         int good = status == other && strcmp(out[0], out[1]) == 0 && is_verdict(status, out[0]);

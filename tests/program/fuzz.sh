@@ -24,6 +24,14 @@ for name in $names; do
     call check "$name.wcnf" "$name.result" "$name.lrat"
     expect "$name as it is" 0 YES ''
 done
+for name in maxcut packages vcover older; do
+    cp "$work/$name.wcnf" "$work/$name-4.wcnf"
+    call solve --profile 4 --proof "$name-4.lrat" "$name-4.wcnf"
+    printf '%s\n' "$out" > "$work/$name-4.result"
+    call check --profile 4 "$name-4.wcnf" "$name-4.result" "$name-4.lrat"
+    expect "$name as it is, profile 4" 0 YES ''
+    names="$names $name-4"
+done
 
 changed() { # SEED..: 4,000 changes for each seed, side by side
     local seed said

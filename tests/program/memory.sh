@@ -75,8 +75,12 @@ each 'CR LF' solve --proof proof text
 lines text '3 1 0' '1 1 0'
 each 'two weights of one literal' solve --proof proof text
 each 'two weights of one literal, profile 3' solve --profile 3 --proof proof text
+each 'two weights of one literal, profile 4' solve --profile 4 --proof proof text
 each 'encode: two weights of one literal' encode text 1
 each 'encode: two weights of one literal, profile 3' encode --profile 3 text 1
+each 'encode: two weights of one literal, profile 4' encode --profile 4 text 1
+lines text 'h -1 -2 0' 'h -1 -3 0' 'h -2 -3 0' 'h 1 4 0' '2 -1 0' '3 -2 0' '5 -3 0' '4 -4 1 0'
+each 'a group of three, profile 4' solve --profile 4 --proof proof text
 lines text 'p wcnf 2 3 10' '10 1 2 0' '3 -1 0' '4 -2 0'
 each 'the older form' solve --proof proof text
 lines text 'h 1 2 0' 'h -1 2 0' 'h 1 -2 0' 'h -1 -2 0'
