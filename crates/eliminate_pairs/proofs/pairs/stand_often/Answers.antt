@@ -2,7 +2,8 @@
 use Rattle.std.proofs.Common.{◌+◌, rules, slice_index_or, arith}
 use Rattle.eliminate_pairs.proofs.Meetings.{one_more, some_of}
 use Rattle.eliminate_pairs.proofs.pairs.stand_often.Goals as goal
-use Rattle.eliminate_pairs.proofs.pairs.stand_often.Goals.{then-place-from+then-stand_at+else-count-eq-FEWEST, else-place-from}
+use Rattle.eliminate_pairs.proofs.pairs.stand_often.Goals.{then-place-from+then-stand_at+else-count-eq-FEWEST}
+use Rattle.eliminate_pairs.proofs.pairs.stand_often.Goals.{else-place-from}
 
 pub returns-then-count-eq-FEWEST : goal.returns-then-count-eq-FEWEST
 returns-then-count-eq-FEWEST c _ =
@@ -29,7 +30,8 @@ loop-place-preserved c =
     let place = (slice_index_or c.args.found.now c.loop-place.place-index (0, 0)).0 in
     elim c.if-place-from.branch [
       | then-place-from+then-stand_at+else-count-eq-FEWEST w ↦
-          let more = one_more a b slots c.loop-place.from place w.if-place-from.true (search rules) in
+          let more =
+          one_more a b slots c.loop-place.from place w.if-place-from.true (search rules) in
           rw (w.count-is, w.from-is) (
             omega (arith, c.loop-place.invariant.0, w.if-count-eq-FEWEST.false),
             omega (arith, c.loop-place.invariant.1, more),
