@@ -7,6 +7,6 @@ driver eliminate cnf clauses lrat_log lrat_check subsume eliminate cdcl
 [ $# -gt 0 ] || set -- 1
 for seed; do
     drive --seconds 300 -- "$seed" 1500
-    expect "seed $seed" 0 'ok 1502' ''
+    expect "seed $seed" 0 'ok 1504' ''
 done
 totals

@@ -42,7 +42,8 @@ call solve "$work"
 fails 'a text that is a folder' Read
 
 # A device that fails after each number of bytes, by an error or by taking nothing, until it meets no failure: what is left is a
-# beginning of the plain output, with the whole certificate before the first byte of the `s` line.
+# beginning of the plain output, with the whole certificate before the first byte of the `s` line. The same is left by one that
+# fails once and then works: nothing that failed is tried again.
 device() { # AT WORD..: the program with a device that fails after so many bytes
     local at=$1
     shift
@@ -57,14 +58,14 @@ begins() { # AT FILE: the first bytes of the plain one, and no more
     head -c "$1" "$work/plain/$2" | cmp -s - "$work/$2"
 }
 
-left_well() { # DEVICE AT COMMAND: what stands after the failure
+left_well() { # DEVICE AT COMMAND: what stands after the failure, of which there was one
     case $1 in
         out)
             [ "$err" = 'error: Output' ] && begins "$2" .out &&
                 { [ "$3" != solve ] || [ "$2" -le "$lines_end" ] || cmp -s "$work/proof" "$work/plain/proof"; } ;;
         proof) [ "$err" = 'error: ProofOutput' ] && begins "$2" proof && begins "$lines_end" .out ;;
         text) [ "$err" = 'error: Read' ] && begins 0 .out && begins 0 proof ;;
-    esac && [ "$status" = 3 ]
+    esac && [ "$status" = 3 ] && [ "$(stat -c %s "$work/mark")" = 1 ]
 }
 
 each() { # DEVICE WORD..
@@ -77,8 +78,8 @@ each() { # DEVICE WORD..
     touch "$work/proof"
     mv "$work/proof" "$work/plain"
     lines_end=$(grep '^o ' "$work/plain/.out" | wc -c)
-    for how in error none; do
-        [ "$device $how" != 'text none' ] || continue # no bytes are the end of a text
+    for how in error none 'error once' 'none once'; do
+        [ "$device ${how% *}" != 'text none' ] || continue # no bytes are the end of a text
         for ((at = 0; at < 10000; at++)); do
             DEVICE=$device DEVICE_FAILS=$how device $at "$@"
             [ -e "$work/mark" ] || break

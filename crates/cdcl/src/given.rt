@@ -76,8 +76,8 @@ impl GivenClauses {
     ///
     /// # Errors
     ///
-    /// `AllocError` where a growth was refused; one past 2^32 - 1 clauses or literals always is.
-    /// The clauses are then as they were.
+    /// `AllocError` where memory was refused, or where more than 2^32 - 1 clauses or literals would
+    /// be held. The clauses are then as they were.
     pub(crate) fn push(&mut self, number: Number, lits: &[Lit]) -> Result<(), AllocError>
         ensures ok { OnOk result (self.new ≡ self.old ++ (Formula number, lits.now) ∷ []) }
         ensures err { OnErr result (self.new ≡ self.old) }

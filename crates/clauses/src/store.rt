@@ -129,8 +129,8 @@ impl Store {
     ///
     /// # Errors
     ///
-    /// `AllocError` where a growth was refused; one past 2^32 - 1 references or literals always is.
-    /// The store is then unchanged.
+    /// `AllocError` where memory was refused, or where more than 2^32 - 1 references or literals
+    /// would be held, dead ones too. The store is then unchanged.
     pub fn add(&mut self, lits: &[Lit]) -> Result<CRef, AllocError>
         ensures reference { IfOk result (λ r. r ≡ length self.old.slots) }
         ensures ok { IfOk result (λ _. self.new ≡ record {

@@ -2,6 +2,7 @@ mod Defining
 mod Definitions
 mod Literals
 mod LiveClauses
+mod Meetings
 mod Pairing
 mod Replacing
 mod Staging

@@ -1,5 +1,6 @@
 -- Pairs of literals that a fresh variable stands for, and what their definition keeps.
-use Rattle.std.specs.Prelude.{◌≡◌, ◌≢◌, ℕ, ◌<◌, ◌≤◌, Bool, true, false, List, [], ◌∷◌, Some, All}
+use Rattle.std.specs.Prelude.{◌≡◌, ◌≢◌, ℕ, ◌+◌, ◌<◌, ◌≤◌, Bool, true, false, List, [], ◌∷◌, All}
+use Rattle.std.specs.Prelude.{Some, None, ◌&&◌, nat_le, length, if◌then◌else◌}
 use Rattle.std.specs.List.{AllByRecursion}
 use Rattle.cnf.specs.Literal.{Literal, Assignment, negation, literal_eq}
 pub use Rattle.cnf.specs.Literal.{positive}
@@ -32,6 +33,27 @@ side_line z a n = record { kind = Definition; clause = side_clause z a; hints = 
 -- z and the clause's other literals in their order
 abbrev pub replaced : ℕ → Literal → Literal → List Literal → List Literal
 replaced z a b c = positive z ∷ without_literal b (without_literal a c)
+
+-- a clause of three or more literals has both
+abbrev pub together : Literal → Literal → List Literal → Bool
+together a b c = contains_literal a c && contains_literal b c && nat_le 3 (length c)
+
+-- in how many live clauses they stand so
+abbrev pub meetings : Literal → Literal → Slots → ℕ
+meetings a b [] = 0
+meetings a b (None ∷ slots) = meetings a b slots
+meetings a b (Some c ∷ slots) = (if together a b c then 1 else 0) + meetings a b slots
+
+-- and in four or more
+pub record StandOften (slots : Slots) (a b : Literal) : Type 0 where
+  pub two : literal_eq a b ≡ false
+  pub many : 4 ≤ meetings a b slots
+
+-- in the clause at this place
+pub record StandAt (slots : Slots) (a b : Literal) (place : ℕ) : Type 0 where
+  pub clause : List Literal
+  pub there : clause_at slots place ≡ Some clause
+  pub both : together a b clause ≡ true
 
 -- two literals of one clause
 pub record ShareClause (slots : Slots) (a b : Literal) : Type 0 where

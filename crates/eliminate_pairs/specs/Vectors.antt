@@ -1,7 +1,7 @@
--- Worked values: variable 7 stands for the pair 1 2 in 1 2 3.
-use Rattle.std.specs.Prelude.{◌≡◌, [], ◌∷◌, refl}
+-- Worked values: variable 7 stands for the pair 1 2 in 1 2 3; which clauses count for a pair.
+use Rattle.std.specs.Prelude.{◌≡◌, [], ◌∷◌, Some, None, refl}
 use Rattle.cnf.specs.Literal.{positive as p, negative as n}
-use Rattle.eliminate_pairs.specs.Pairs.{whole_clause, side_clause, replaced}
+use Rattle.eliminate_pairs.specs.Pairs.{whole_clause, side_clause, replaced, meetings}
 
 first_clause : whole_clause 7 (p 1) (p 2) ≡ n 7 ∷ p 1 ∷ p 2 ∷ []
 first_clause = refl
@@ -11,3 +11,8 @@ second_clause = refl
 
 fourth_clause : replaced 7 (p 1) (p 2) (p 1 ∷ p 2 ∷ p 3 ∷ []) ≡ p 7 ∷ p 3 ∷ []
 fourth_clause = refl
+
+-- a clause of two literals, a deleted one and one with another sign are not counted
+two_meetings : meetings (p 1) (p 2) (Some (p 3 ∷ p 2 ∷ p 1 ∷ []) ∷ Some (p 1 ∷ p 2 ∷ []) ∷ None
+    ∷ Some (n 1 ∷ p 2 ∷ p 3 ∷ []) ∷ Some (p 1 ∷ p 2 ∷ n 4 ∷ []) ∷ []) ≡ 2
+two_meetings = refl

@@ -15,7 +15,7 @@ use std::alloc::{AllocError, Global};
 pub(crate) const FEWEST: usize = 4;
 
 /// The lengths of the clauses in which pairs are looked for.
-const SHORTEST: usize = 3;
+pub(crate) const SHORTEST: usize = 3;
 
 const LONGEST: usize = 32;
 

@@ -15,11 +15,11 @@ ghost use Rattle.lrat_log.specs.Log.{number_in};
 ghost use Rattle.lrat_log.specs.declared.lines.Hint.TheVariants.{Plain};
 ghost use Rattle.lrat_log.specs.Steps.{added_count};
 ghost use Rattle.eliminate_names.specs.Work.{name_at, added_line};
-ghost use Rattle.eliminate_pairs.specs.Pairs.{side_clause, side_line, replaced, ShareClause};
-ghost use Rattle.eliminate_pairs.specs.Pairs.{IsOnOther};
+ghost use Rattle.eliminate_pairs.specs.Pairs.{side_clause, side_line, replaced, together};
+ghost use Rattle.eliminate_pairs.specs.Pairs.{IsOnOther, StandAt, StandOften};
 ghost use Rattle.eliminate_pairs.specs.Pairs.{HasPairOf, IsDefined, Keeps, KeepsLog, stage_of};
 
-use crate::pair_table::{Candidate, FEWEST, PairTable};
+use crate::pair_table::{Candidate, FEWEST, PairTable, SHORTEST};
 use clauses::store::{CRef, Store};
 use cnf::types::Lit;
 use eliminate_names::names::{Names, add, delete};
@@ -121,7 +121,8 @@ fn define_counted<S: Sink>(
     Ok(last)
 }
 
-/// Defines a fresh variable for a pair, and puts it into the clauses that were found.
+/// Defines a fresh variable for a pair that still stands together in `FEWEST` clauses, and puts it
+/// into the clauses that were found.
 fn define_found<S: Sink>(
     store: &mut Store,
     names: &mut Names,
@@ -135,6 +136,8 @@ fn define_found<S: Sink>(
     requires long { length names.old.names ≡ length store.old.slots }
     ensures more { IfOk result (λ v. vars ≤ v) }
     ensures most { IfOk result (λ v. v ≤ vars + 1) }
+    ensures often { IfOk result (λ v. vars < v
+        → StandOften store.old.slots candidate.now.left candidate.now.right) }
     ensures counted { OnOk result (names.new.additions ≡ added_count (S.lines sink.new)) }
     ensures long { OnOk result (length names.new.names ≡ length store.new.slots) }
     ensures keeps { IfOk result (λ v. Keeps
@@ -144,7 +147,7 @@ fn define_found<S: Sink>(
         (KeepsLog (stage_of vars store.old.slots names.old (S.lines sink.old))
         (S.lines sink.new)) }
 {
-    if !shares_first(store, candidate, table.found()) {
+    if !stand_often(store, candidate, table.found()) {
         return Ok(vars);
     }
     let definition = define(store, names, sink, vars, candidate.left, candidate.right)?;
@@ -159,19 +162,49 @@ fn define_found<S: Sink>(
     Ok(vars + 1)
 }
 
-/// Whether the first of the clauses has the pair.
-fn shares_first(store: &Store, candidate: &Candidate, found: &[(u32, u32)]) -> bool
-    ensures { IsTrue result → ShareClause store.now.slots candidate.now.left candidate.now.right }
+/// Whether the pair stands together in `FEWEST` clauses, by those that were found.
+fn stand_often(store: &Store, candidate: &Candidate, found: &[(u32, u32)]) -> bool
+    ensures { IsTrue result → StandOften store.now.slots candidate.now.left candidate.now.right }
 {
-    if let Some((place, _)) = found.first() {
-        if let Some(reference) = store.live_at(*place as usize) {
-            let lits = store.lits(reference);
-            return contains(lits, candidate.left)
-                && contains(lits, candidate.right)
-                && candidate.left != candidate.right;
+    if candidate.left == candidate.right {
+        return false;
+    }
+    // Below `FEWEST`.
+    let mut count = 0usize;
+    // The clauses of lower places were looked at.
+    let mut from = 0usize;
+    for (place, _) in found {
+        let place = *place as usize;
+        if place >= from && stand_at(store, candidate, place) {
+            count += 1;
+            from = place + 1;
+            if count == FEWEST {
+                return true;
+            }
         }
     }
     false
+}
+
+/// Whether a live clause with the pair and another literal stands at this place.
+fn stand_at(store: &Store, candidate: &Candidate, place: usize) -> bool
+    ensures { IsTrue result
+        → StandAt store.now.slots candidate.now.left candidate.now.right place }
+{
+    match store.live_at(place) {
+        Some(reference) => {
+            let lits = store.lits(reference);
+            has_both(lits, candidate.left, candidate.right)
+        }
+        None => false,
+    }
+}
+
+/// Whether a clause has both literals, and is long enough.
+fn has_both(lits: &[Lit], left: Lit, right: Lit) -> bool
+    ensures { result ≡ together left right lits.now }
+{
+    contains(lits, left) && contains(lits, right) && lits.len() >= SHORTEST
 }
 
 /// Whether the literal is one of these.
@@ -208,7 +241,8 @@ fn lacks(lits: &[Lit], variable: u32) -> bool
     true
 }
 
-/// Adds the three clauses that define a fresh variable as 'left or right'.
+/// Adds the three clauses that define a fresh variable as 'left or right'. No other function adds a
+/// definition.
 fn define<S: Sink>(
     store: &mut Store,
     names: &mut Names,
@@ -218,7 +252,7 @@ fn define<S: Sink>(
     right: Lit,
 ) -> Result<Fresh, AllocError>
     requires room { vars + 1 < 2 ^ 27 }
-    requires shared { ShareClause store.old.slots left right }
+    requires often { StandOften store.old.slots left right }
     requires counted { names.old.additions ≡ added_count (S.lines sink.old) }
     requires long { length names.old.names ≡ length store.old.slots }
     ensures variable { IfOk result (λ d. d.variable ≡ vars + 1) }

@@ -256,7 +256,8 @@ impl Engine {
     /// # Errors
     ///
     /// `Memory` where a growth was refused: the engine has failed, and still belongs to the store.
-    /// `Failed` where it had failed before: nothing has changed.
+    /// The trail may have grown, by literals that are units all the same. `Failed` where it had
+    /// failed before: nothing has changed.
     pub fn propagate(&mut self, store: &Store) -> Result<Option<CRef>, EngineFault>
         requires fits { Fits self.old store.now.slots }
         ensures grows { GrowsByUnits store.now.slots self.old self.new }

@@ -9,6 +9,7 @@ use Rattle.eliminate_pairs.proofs.Defining.{counted_added}
 use Rattle.eliminate_pairs.proofs.Defining.{few_additions}
 use Rattle.eliminate_pairs.proofs.Staging.{with_whole, with_side, whole_right, left_right}
 use Rattle.eliminate_pairs.proofs.Staging.{right_right}
+use Rattle.eliminate_pairs.proofs.Meetings.{shares}
 use Rattle.eliminate_pairs.proofs.pairs.define.Given.{Over}
 use Rattle.eliminate_pairs.proofs.pairs.define.Goals as goal
 use Rattle.eliminate_pairs.proofs.pairs.define.Goals.{In_ok-whole, In_ok-left_side}
@@ -87,7 +88,7 @@ returns-in_err-left_side-clause-err g c =
     when_err c.from_residual-in_err-left_side.result
     (kept_log s (with_whole s a b) (g.S.Sink.lines c.add_side.new.sink)
     (c.in_err-left_side.ensures.err ∙ ap (λ (x : Stage). x.lines) one)
-    (λ ground k. whole_right ground s a b c.requires.shared c.requires.room
+    (λ ground k. whole_right ground s a b (shares a b s.slots c.requires.often) c.requires.room
     (few_additions s.lines c.is_short.ensures) k))
 
 pub returns-in_err-right_side-clause-err : goal.returns-in_err-right_side-clause-err
@@ -102,7 +103,7 @@ returns-in_err-right_side-clause-err g c =
     (kept_log s (with_side (with_whole s a b) (length s.slots) a)
     (g.S.Sink.lines c.add_side-2.new.sink) (c.in_err-right_side.ensures.err
     ∙ ap (λ (x : Stage). x.lines) two)
-    (λ ground k. left_right ground s a b c.requires.shared c.requires.room
+    (λ ground k. left_right ground s a b (shares a b s.slots c.requires.often) c.requires.room
     (few_additions s.lines c.is_short.ensures) k))
 
 pub returns-clause-defined : goal.returns-clause-defined
@@ -120,7 +121,7 @@ returns-clause-defined g c =
     c.in_ok-left_side.ensures.slots c.in_ok-right_side.ensures.slots
     c.in_ok-whole.ensures.reference c.in_ok-left_side.ensures.reference
     c.in_ok-right_side.ensures.reference in
-    record { whole = d.0; left_side = d.1; right_side = d.2; two = c.requires.shared.two }
+    record { whole = d.0; left_side = d.1; right_side = d.2; two = c.requires.often.two }
 
 pub returns-clause-keeps : goal.returns-clause-keeps
 returns-clause-keeps g c =
@@ -140,5 +141,5 @@ returns-clause-keeps g c =
     keeps_as s (with_side (with_side (with_whole s a b) (length s.slots) a) (length s.slots) b)
     (stage_of (v + 1) c.add_side-2.new.store.slots c.add_side-2.new.names
     (g.S.Sink.lines c.add_side-2.new.sink)) three
-    (λ ground k. right_right ground s a b c.requires.shared c.requires.room
+    (λ ground k. right_right ground s a b (shares a b s.slots c.requires.often) c.requires.room
     (few_additions s.lines c.is_short.ensures) k)
