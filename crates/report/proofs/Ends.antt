@@ -1,7 +1,7 @@
 -- What a run ends with, or leaves.
 use Rattle.std.proofs.Common.{◌≡◌, ℕ, ◌+◌, ◌<◌, ◌^◌, Bool, List, [], ◌∷◌, ◌++◌, length, Option}
 use Rattle.std.proofs.Common.{Some, None, Ok, Err, refl, sym, ◌∙◌, ap, subst, arith, append_assoc}
-use Rattle.std.proofs.Common.{append-nil}
+use Rattle.std.proofs.Common.{append-nil, length-append}
 use Rattle.std.specs.Prelude.{All, IfSome}
 use Rattle.std.specs.Io.KnownBytes.{Appends}
 use Rattle.std.proofs.KnownBytes.{Appends-nil, Appends-trans, Keeps-refl}
@@ -36,6 +36,7 @@ use Rattle.report.specs.Answering.{status_of, end_text, proof_text, HasRoom, Has
 use Rattle.report.specs.Answering.{IsSpelledProof, HasProof, LeavesAnswer, Answers}
 use Rattle.report.specs.Running.{result_text, told_in, AreHonest, AreChecked, IsTrueAnswer}
 use Rattle.report.specs.Running.{NeedsProof, EndsAs, LeavesResult, LeavesProof, Leaves, Searches}
+use Rattle.report.specs.Running.{IsTrueLimit}
 use Rattle.report.proofs.ResultTexts.{optimum_text, satisfiable_text, falls_to, text_says}
 
 -- the accepted log, spelled with the ids from the formula's number of clauses on
@@ -78,6 +79,7 @@ record Spells (profile : Profile) (text : Option (List ℕ)) (p : Problem) (trie
   pub no_proof : (NeedsProof said → ⊥) → proof_text found ≡ []
   pub checked : NeedsProof said → IsSpelledProof found
       → AreChecked profile text (result_text before said) (proof_text found)
+  pub limit : IsTrueLimit text said new
 
 module _ (profile : Profile) (text : Option (List ℕ)) (p : Problem)
     (reads : IfSome text (λ bytes. Reads bytes p))
@@ -87,6 +89,13 @@ module _ (profile : Profile) (text : Option (List ℕ)) (p : Problem)
       → IfSome known (λ bytes. (q : Problem) → Reads bytes q → All (IsCostOfSome q) costs)
   honest_at None costs o h = tt
   honest_at (Some bytes) costs o h = λ q r. subst (λ x. All (IsCostOfSome x) costs) (sym (o q r)) h
+
+  solution_at : (known : Option (List ℕ)) (bits : List Bool) (c : ℕ)
+      → IfSome known (λ bytes. (q : Problem) → Reads bytes q → q ≡ p) → IsSolution p bits c
+      → IfSome known (λ bytes. (q : Problem) → Reads bytes q → IsSolution q bits c)
+  solution_at None bits c o h = tt
+  solution_at (Some bytes) bits c o h =
+      λ q r. subst (λ x. IsSolution x bits c) (sym (o q r)) h
 
   pub honest_costs : (costs : List ℕ) → AreFalling costs → All (IsCostOfSome p) costs
       → AreHonest text costs
@@ -138,6 +147,7 @@ module _ (profile : Profile) (text : Option (List ℕ)) (p : Problem)
               (text_says before (SaysOptimum c bits.items) falls) f.solution
               (proof_over (bound_as profile p c).clauses clauses log f.accepted
               f.counted.0 spelled);
+          limit = tt;
         }
     spells (Unsat log clauses) s =
         let f = s.found in record {
@@ -152,6 +162,7 @@ module _ (profile : Profile) (text : Option (List ℕ)) (p : Problem)
           checked = λ n spelled. unsatisfiable_checks text reads (result_text [] SaysUnsatisfiable)
               (text_of clauses log) (text_says [] SaysUnsatisfiable refl)
               (proof_over (hard_cnf p).clauses clauses log f.accepted f.counted.0 spelled);
+          limit = tt;
         }
     spells (Best c bits work) s =
         let f = s.found in
@@ -172,6 +183,7 @@ module _ (profile : Profile) (text : Option (List ℕ)) (p : Problem)
           needed = λ n. absurd n;
           no_proof = λ n. refl;
           checked = λ n. absurd n;
+          limit = (solution_at text bits.items c only f.solution, s.spent);
         }
     spells (Nothing work) s =
         let f = s.found in record {
@@ -189,6 +201,7 @@ module _ (profile : Profile) (text : Option (List ℕ)) (p : Problem)
           needed = λ n. absurd n;
           no_proof = λ n. refl;
           checked = λ n. absurd n;
+          limit = s.spent;
         }
 
     module _ (last proof proof' : Option (List ℕ)) (found : Found)
@@ -231,7 +244,7 @@ module _ (profile : Profile) (text : Option (List ℕ)) (p : Problem)
       -- a fault of the result's writer
       output_leaves : AppendsPart out' last (end_text found)
           → Appends proof proof' (proof_text found) → IsSpelledProof found
-          → LeavesResult profile text out last proof proof'
+          → LeavesResult profile text out last proof proof' new
       output_leaves part grows spelled =
           let r = spells found s in record {
             written = cost_lines s.tried ++ part.0;
@@ -249,6 +262,7 @@ module _ (profile : Profile) (text : Option (List ℕ)) (p : Problem)
             );
             no_proof = r.no_proof;
             proof_is_whole = λ n lt. r.checked n spelled;
+            limit = λ lt. r.limit;
           }
 
       -- a fault of the certificate's writer
@@ -272,7 +286,7 @@ module _ (profile : Profile) (text : Option (List ℕ)) (p : Problem)
           }
 
       pub answer_leaves : (fault : RunFault) → LeavesAnswer fault found out' last proof proof'
-          → Leaves profile fault text out last proof proof'
+          → Leaves profile fault text out last proof proof' new
       answer_leaves Output w = output_leaves w.out_part w.proof_grows w.spelled
       answer_leaves ProofOutput w = proof_leaves w.out_kept w.proof_part w.has_proof w.spelled
       answer_leaves Memory w = absurd w
@@ -284,9 +298,14 @@ module _ (profile : Profile) (text : Option (List ℕ)) (p : Problem)
     begun lines part tail whole b e =
         (b.0 ++ tail, e ∙ ap (λ z. z ++ tail) b.1 ∙ append_assoc part b.0 tail)
 
+    -- a beginning of the lines does not reach past them
+    not_past : (lines part : List ℕ) → Begins part lines → length lines < length part → ⊥
+    not_past lines part b lt =
+        omega (arith, lt, ap length b.1, length-append part b.0)
+
     pub search_leaves : (proof : Option (List ℕ)) (fault : RunFault)
         → Searches profile p (Err fault) out out' old new
-        → Leaves profile fault text out out' proof proof
+        → Leaves profile fault text out out' proof proof new
     search_leaves proof Memory s = record {
       costs = s.tried;
       out_grows = s.lines;
@@ -311,6 +330,8 @@ module _ (profile : Profile) (text : Option (List ℕ)) (p : Problem)
               ∙ ap (λ z. cost_lines z ++ codes "s SATISFIABLE\nv\n") (sym is));
           no_proof = λ n. refl;
           proof_is_whole = λ n. absurd n;
+          limit = λ lt. absurd (not_past (cost_lines s.tried) part.0 part.1
+              (subst (λ z. length (cost_lines z) < length part.0) (sym is) lt));
         }
     search_leaves proof ProofOutput s = absurd s.lines
     search_leaves proof (Read fault) s = absurd s.lines

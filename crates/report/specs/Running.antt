@@ -147,10 +147,20 @@ pub record LeavesLines (text out out' proof proof' : Option (List ℕ)) : Type 0
   pub honest : AreHonest text costs
   pub proof_kept : Keeps proof proof'
 
--- A beginning of a result; past the o lines, the certificate that it needs is whole. Its last cost
--- may be one whose line was begun.
+-- Where a result needs no certificate, its bits are a solution of the last cost, and the budget is
+-- spent.
+abbrev pub IsTrueLimit : Option (List ℕ) → Said → BudgetState → Type 0
+IsTrueLimit text (SaysOptimum c bits) budget = ⊤
+IsTrueLimit text SaysUnsatisfiable budget = ⊤
+IsTrueLimit text (SaysSatisfiable c bits) budget =
+    IfSome text (λ bytes. (p : Problem) → Reads bytes p → IsSolution p bits c)
+    × (left_of budget ≡ 0)
+IsTrueLimit text SaysUnknown budget = left_of budget ≡ 0
+
+-- A beginning of a result; past the o lines, the certificate that it needs is whole, or it is true
+-- without one. Its last cost may be one whose line was begun.
 pub record LeavesResult (profile : Profile) (text out out' proof proof' : Option (List ℕ))
-    : Type 0 where
+    (budget : BudgetState) : Type 0 where
   pub written : List ℕ
   pub proved : List ℕ
   pub out_grows : Appends out out' written
@@ -164,6 +174,8 @@ pub record LeavesResult (profile : Profile) (text out out' proof proof' : Option
   pub proof_is_whole : NeedsProof said
       → length (cost_lines (told_in before said)) < length written
       → AreChecked profile text (result_text before said) proved
+  pub limit : length (cost_lines (told_in before said)) < length written
+      → IsTrueLimit text said budget
 
 -- whole o lines, and a beginning of a certificate of some result that begins with them
 pub record LeavesProof (profile : Profile) (text out out' proof proof' : Option (List ℕ))
@@ -180,13 +192,14 @@ pub record LeavesProof (profile : Profile) (text out out' proof proof' : Option 
   pub checked : AreChecked profile text (result_text before said) whole
 
 -- what stands after a fault
-abbrev pub Leaves : Profile → RunFault → Option (List ℕ)
-    → Option (List ℕ) → Option (List ℕ) → Option (List ℕ) → Option (List ℕ) → Type 0
-Leaves profile (Read fault) text out out' proof proof' =
+abbrev pub Leaves : Profile → RunFault → Option (List ℕ) → Option (List ℕ) → Option (List ℕ)
+    → Option (List ℕ) → Option (List ℕ) → BudgetState → Type 0
+Leaves profile (Read fault) text out out' proof proof' budget =
     LeavesNothing text out out' proof proof' fault
-Leaves profile Memory text out out' proof proof' = LeavesLines text out out' proof proof'
-Leaves profile Output text out out' proof proof' = LeavesResult profile text out out' proof proof'
-Leaves profile ProofOutput text out out' proof proof' =
+Leaves profile Memory text out out' proof proof' budget = LeavesLines text out out' proof proof'
+Leaves profile Output text out out' proof proof' budget =
+    LeavesResult profile text out out' proof proof' budget
+Leaves profile ProofOutput text out out' proof proof' budget =
     LeavesProof profile text out out' proof proof'
 
 -- what the writer has of a search that ended so, where these costs were tried

@@ -53,7 +53,8 @@ pub fn run<R: Read, O: Write, P: Write>(
         (O.contents out.old) (O.contents out.new) (P.contents proof.old) (P.contents proof.new)
         status budget.old budget.new) }
     ensures fault { IfErr result (λ fault. Leaves Profile.One fault (R.remaining input.old)
-        (O.contents out.old) (O.contents out.new) (P.contents proof.old) (P.contents proof.new)) }
+        (O.contents out.old) (O.contents out.new) (P.contents proof.old) (P.contents proof.new)
+        budget.new) }
     ensures same_limit { budget.new.limit ≡ budget.old.limit }
 {
     run_as(alloc, input, budget, out, proof, Profile::One)
@@ -77,7 +78,8 @@ pub fn run_as<R: Read, O: Write, P: Write>(
         (O.contents out.old) (O.contents out.new) (P.contents proof.old) (P.contents proof.new)
         status budget.old budget.new) }
     ensures fault { IfErr result (λ fault. Leaves profile fault (R.remaining input.old)
-        (O.contents out.old) (O.contents out.new) (P.contents proof.old) (P.contents proof.new)) }
+        (O.contents out.old) (O.contents out.new) (P.contents proof.old) (P.contents proof.new)
+        budget.new) }
     ensures same_limit { budget.new.limit ≡ budget.old.limit }
 {
     run_watched(alloc, input, budget, out, proof, profile, &mut Silent)
@@ -103,7 +105,8 @@ pub fn run_watched<R: Read, O: Write, P: Write, K: Keep>(
         (O.contents out.old) (O.contents out.new) (P.contents proof.old) (P.contents proof.new)
         status budget.old budget.new) }
     ensures fault { IfErr result (λ fault. Leaves profile fault (R.remaining input.old)
-        (O.contents out.old) (O.contents out.new) (P.contents proof.old) (P.contents proof.new)) }
+        (O.contents out.old) (O.contents out.new) (P.contents proof.old) (P.contents proof.new)
+        budget.new) }
     ensures same_limit { budget.new.limit ≡ budget.old.limit }
 {
     let instance = read_from(alloc, input)?;
