@@ -20,7 +20,8 @@ use Rattle.sums_tree.specs.Nodes.{higher_of, Merges, step_at, head_of, IsNode, R
 use Rattle.sums_tree.proofs.Relabelling.{kept_gone, row_kept, row_other, labels_after}
 use Rattle.std.proofs.lemmas.List.{get_or_append_left}
 use Rattle.std.proofs.lemmas.Bool.{MatchBool-at_true, MatchBool-at_false}
-use Rattle.sums_tree.proofs.Uniting.{all_weaker, all_both, head_is, without_all, without_rising}
+use Rattle.cnf.proofs.Laws.{all_weaker}
+use Rattle.sums_tree.proofs.Uniting.{all_both, head_is, without_all, without_rising}
 use Rattle.sums_tree.proofs.Uniting.{found_in, found_cover, cover_found, label_from, has_from}
 use Rattle.sums_tree.proofs.Uniting.{not_later, without_has, merged_stays}
 
@@ -197,12 +198,12 @@ module _ (G S T : List (List ℕ)) (labels new_labels : List ℕ)
       get_or_append_left x.groups y.groups 0 0 ((head_is G S x nx).1) in
       let not_g = without_has G S labels old g nodes g_in each rising.1 in
       let not_other = without_all (λ z. has_group other z ≡ false) g nodes
-      (all_weaker _ _ (λ z h. not_later G S labels old other x z other_in nx h.0 has h.1) nodes
+      (all_weaker _ _ nodes (λ z h. not_later G S labels old other x z other_in nx h.0 has h.1)
       (all_both (IsNode G S) (λ z. head_of x < head_of z) nodes each rising.0)) in
       subst (Grown G T (x ∷ nodes)) (sym new) (record {
         each = (
           fork_node x y nx ny (there.0).1 pair,
-          all_weaker _ _ (λ z h. kept_node which z h.0 h.1.0 h.1.1) rest
+          all_weaker _ _ rest (λ z h. kept_node which z h.0 h.1.0 h.1.1)
               (all_both (IsNode G S)
               (λ z. (has_group other z ≡ false) × (has_group g z ≡ false)) rest
               (without_all (IsNode G S) g nodes each)

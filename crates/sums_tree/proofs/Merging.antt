@@ -150,7 +150,7 @@ module _ {X : Type 0} (f : List ℕ → List X) where
       one_tree-of steps (in_pairs (u ∷ v ∷ more)) t e ∙ pairs-of (u ∷ v ∷ more)
 
 -- pairs leave at most half, and one more
-length-in_pairs : (ts : List Tree) → 2 * length (in_pairs ts) ≤ length ts + 1
+pub length-in_pairs : (ts : List Tree) → 2 * length (in_pairs ts) ≤ length ts + 1
 length-in_pairs [] = omega arith
 length-in_pairs (t ∷ []) = omega arith
 length-in_pairs (t ∷ u ∷ more) = let rest = length-in_pairs more in omega arith

@@ -16,6 +16,7 @@ use Rattle.cnf.specs.Problem.{Problem, SoftClause}
 use Rattle.cnf.specs.Instance.{IsInstance, IsClauseWithin}
 use Rattle.cnf.specs.Marks.{HasPlace}
 use Rattle.cnf.proofs.Laws.{place_within}
+use Rattle.cnf.proofs.Laws.{places_within}
 use Rattle.sums_tree.specs.declared.joining.Grouping.{Grouping}
 use Rattle.sums_tree.specs.Groups.{Placed, placed_from, partners, binding, grouped_from, grouped}
 use Rattle.sums_tree.specs.Groups.{looks_cost, group_rows}
@@ -24,8 +25,8 @@ use Rattle.sums_tree.specs.Joining.{Adds, IsReady}
 use Rattle.sums_tree.specs.Partners.{ArePartners}
 use Rattle.sums_tree.proofs.Finding.{partners_places}
 use Rattle.sums_tree.proofs.Joins.{below-weaker}
-use Rattle.sums_tree.proofs.Partnered.{places_within}
-use Rattle.sums_tree.proofs.Standing.{Stands, row_of, after, stands_after}
+use Rattle.sums_tree.proofs.Standing.{Stands, row_of, stands_after}
+use Rattle.sums_tree.proofs.Grouping.{after}
 
 -- the literals of the soft clause at a place
 abbrev pub lits_at : Problem → ℕ → List Literal

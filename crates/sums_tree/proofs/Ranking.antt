@@ -18,6 +18,7 @@ use Rattle.std.proofs.lemmas.Cmp.{on_total, then_total, nat_cmp_total}
 use Rattle.std.proofs.lemmas.List.Elements.{recursion_from_All}
 use Rattle.std.proofs.lemmas.List.Sorted.{ranks_by, sorted_far}
 use Rattle.std.proofs.lemmas.List.Sums.{sum_by-cons}
+use Rattle.cnf.proofs.Laws.{all_weaker}
 use Rattle.sums_tree.specs.Connections.{Connection, comes_before}
 use Rattle.sums_tree.specs.Adding.{is_lower, is_greater}
 
@@ -41,11 +42,6 @@ apart_numbers : (a b l m h i : ℕ)
     → (a ≡ b) × (l ≡ m) × (h ≡ i)
 apart_numbers a b l m h i p q =
     (grind (arith, nat_tests), grind (arith, nat_tests), grind (arith, nat_tests))
-
-one_way_numbers : (a b l m h i : ℕ)
-    → (nat_lt b a || ((a == b) && (nat_lt l m || ((l == m) && nat_lt h i)))) ≡ true
-    → (nat_lt a b || ((b == a) && (nat_lt m l || ((m == l) && nat_lt i h)))) ≡ false
-one_way_numbers a b l m h i p = grind (arith, nat_tests)
 
 flipped : {K : Type 0} {R : K → K → Ordering} → IsTotalOrder R → IsTotalOrder (λ x y. R y x)
 flipped o = record {
@@ -102,13 +98,8 @@ falls_put_in k (c ∷ cs) h =
     cond_both (comes_before k c) (k ∷ c ∷ cs) (c ∷ put_in k cs) Falls
     (λ first.
     let back = before_orders.one_way k c first in
-    ((back, all_weaker _ _ (λ y e. before_orders.chain y c k e back) cs h.0), h))
+    ((back, all_weaker _ _ cs (λ y e. before_orders.chain y c k e back) h.0), h))
     (λ later. (all_put_in _ k cs later h.0, falls_put_in k cs h.1))
-  where
-    all_weaker : (P Q : Connection → Type 0) → ((x : Connection) → P x → Q x)
-        → (xs : List Connection) → AllByRecursion P xs → AllByRecursion Q xs
-    all_weaker P Q f [] h = tt
-    all_weaker P Q f (x ∷ xs) h = (f x h.0, all_weaker P Q f xs h.1)
 
 pub falls_greatest : (cs : List Connection) → Falls (greatest_first cs)
 falls_greatest [] = tt

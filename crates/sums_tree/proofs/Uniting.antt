@@ -7,6 +7,7 @@ use Rattle.std.specs.List.{find, list_any, AllByRecursion}
 use Rattle.std.proofs.lemmas.Bool.{cases_Bool, and_parts, both_ways, ltb-true, lt-ltb}
 use Rattle.std.proofs.lemmas.Bool.{lt-leb, or_cases, cond-true}
 use Rattle.std.proofs.lemmas.Bool.{cond-false, false_from_ne_true, and_from, eqb-true}
+use Rattle.cnf.proofs.Laws.{all_weaker}
 use Rattle.sums_tree.specs.Connections.{Connection}
 use Rattle.sums_tree.specs.Arranging.{Node, has_group, fork, without, with_node, merged}
 use Rattle.sums_tree.specs.Seen.{is_in}
@@ -14,11 +15,6 @@ use Rattle.sums_tree.specs.Looking.{row_at}
 use Rattle.sums_tree.specs.Nodes.{label_of, first_step, AreLabels, stays}
 use Rattle.sums_tree.specs.Nodes.{head_of, IsNode, Rising}
 use Rattle.sums_tree.proofs.Finding.{in-filter}
-
-pub all_weaker : (P Q : Node → Type 0) → ((x : Node) → P x → Q x) → (xs : List Node)
-    → AllByRecursion P xs → AllByRecursion Q xs
-all_weaker P Q f [] h = tt
-all_weaker P Q f (x ∷ xs) h = (f x h.0, all_weaker P Q f xs h.1)
 
 pub all_both : (P Q : Node → Type 0) (xs : List Node) → AllByRecursion P xs → AllByRecursion Q xs
     → AllByRecursion (λ x. P x × Q x) xs
@@ -153,7 +149,7 @@ module _ (G S : List (List ℕ)) (labels : List ℕ) (old : AreLabels labels S (
         | inl here ↦
             subst (AllByRecursion (λ z. has_group g z ≡ false))
             (sym (cond-true (has_group g z) nodes (z ∷ without g nodes) here))
-            (all_weaker _ _ (λ y k. not_later g z y h each.0 k.0 here k.1) nodes
+            (all_weaker _ _ nodes (λ y k. not_later g z y h each.0 k.0 here k.1)
             (all_both (IsNode G S) (λ y. head_of z < head_of y) nodes each.1 rising.0))
         | inr other ↦
             subst (AllByRecursion (λ z. has_group g z ≡ false))

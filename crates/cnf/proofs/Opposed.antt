@@ -1,20 +1,13 @@
 -- Opposite pairs, as the literals are walked and marked.
-use Rattle.std.proofs.Common.{◌≡◌, ℕ, ◌+◌, ◌<◌, Bool, true, false, not, ◌&&◌, ◌==◌, ◌||◌, List, []}
+use Rattle.std.proofs.Common.{◌≡◌, ℕ, ◌+◌, ◌<◌, Bool, true, false, not, ◌&&◌, ◌||◌, List, []}
 use Rattle.std.proofs.Common.{◌∷◌, ◌++◌, length, take, get_or, set, refl, sym, ◌∙◌, ap, subst}
-use Rattle.std.proofs.lemmas.Bool.{false≢true, eqb-true, eq-eqb, ne_eqb}
 use Rattle.std.proofs.lemmas.List.{take_more}
 use Rattle.std.proofs.lemmas.List.Folds.{list_any-append}
 use Rattle.cnf.specs.Literal.{Literal, negation, literal_eq, same_bool, index_of}
 use Rattle.cnf.specs.Clause.{contains_literal, has_opposites}
 use Rattle.cnf.specs.Marks.{mark_of, IsMarked, HasPlace}
-use Rattle.cnf.proofs.Laws.{marked_one}
-
-pub same_number : (m n : ℕ) → (m == n) ≡ (n == m)
-same_number m n =
-    elim (m == n) as (λ b. (m == n) ≡ b → b ≡ (n == m)) [
-      | true ↦ λ e. sym (eq-eqb n m (sym (eqb-true m n e)))
-      | false ↦ λ e. sym (ne_eqb n m (λ s. false≢true (sym e ∙ eq-eqb m n (sym s))))
-    ] refl
+use Rattle.cnf.proofs.Marking.{marked_one}
+use Rattle.cnf.proofs.Numbers.{same_number}
 
 opposite_eq : (k l : Literal) → literal_eq (negation k) l ≡ literal_eq (negation l) k
 opposite_eq k l = λ i. same_number k.variable l.variable i && by k.negated l.negated i
