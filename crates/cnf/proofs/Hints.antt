@@ -5,8 +5,7 @@ use Rattle.std.proofs.Common.{◌∙◌, ap, append_assoc, subst}
 use Rattle.std.specs.Prelude.{All}
 use Rattle.cnf.specs.Literal.{Literal, negation, literal_eq}
 use Rattle.cnf.specs.Clause.{contains_literal, HaveSame}
-use Rattle.cnf.specs.Lrat.{CandidateHints}
-use Rattle.cnf.specs.Lrat.{IsId}
+use Rattle.cnf.specs.Lrat.{CandidateHints, IsId}
 use Rattle.cnf.specs.Refute.{IsUnit, IsFalseUnder, Clauses, Leads, Refutes}
 use Rattle.cnf.proofs.Lists.{all_weaker}
 

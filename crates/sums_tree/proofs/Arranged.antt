@@ -20,8 +20,7 @@ use Rattle.sums_tree.specs.Connections.{connections}
 use Rattle.sums_tree.specs.Arranging.{Node, leaves_from, nodes, round_count, tree, is_false}
 use Rattle.sums_tree.specs.Arranging.{IsArrangement}
 use Rattle.sums_tree.proofs.Grouping.{IsAt, all_of, false_in, HasOneFalse, grouped_all, grouped_one}
-use Rattle.sums_tree.proofs.Grouping.{placed_at, same_IsPermutation}
-use Rattle.sums_tree.proofs.Grouping.{places}
+use Rattle.sums_tree.proofs.Grouping.{placed_at, same_IsPermutation, places}
 use Rattle.sums_tree.proofs.Merging.{of_tree, of_nodes, leaves-of, rounds-of, trees-of}
 use Rattle.sums_tree.proofs.Merging.{one_tree-of, one_tree-none}
 

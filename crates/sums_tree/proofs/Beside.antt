@@ -10,8 +10,7 @@ use Rattle.std.proofs.lemmas.Bool.{cond-true, cond-false, and_parts, eqb-true, e
 use Rattle.std.proofs.lemmas.Bool.Decides.{nat_tests}
 use Rattle.std.proofs.lemmas.List.{take_more, get_or_read, take_all}
 use Rattle.std.proofs.lemmas.List.Sums.{fold_push}
-use Rattle.cnf.proofs.Laws.{all_weaker}
-use Rattle.cnf.proofs.Laws.{all_push}
+use Rattle.cnf.proofs.Laws.{all_weaker, all_push}
 use Rattle.sums_tree.specs.Connections.{Connection, added}
 use Rattle.sums_tree.specs.Adding.{added_along, is_lower, same_groups}
 
@@ -113,7 +112,8 @@ module _ (first : Connection) (more : List Connection) (i : ℕ) (cs : List Conn
         sum =
             ap (λ w. cs ++ record present { weight = w } ∷ []) total
             ∙ sym (added_last cs present part
-            (all_weaker _ _ cs (λ c lower. (λ j. (c.low == sym pair.0 j) && (c.high == sym pair.1 j))
+            (all_weaker _ _ cs (λ c lower.
+            (λ j. (c.low == sym pair.0 j) && (c.high == sym pair.1 j))
             ∙ differs c present lower) h.lower) same)
             ∙ sum_is;
         lower = h.lower;

@@ -81,7 +81,8 @@ module _ (lits : ℕ → List Literal) (having partners_rows : List (List ℕ)) 
   in_row : (m : ℕ) (r : Literal) → is_in m es ≡ true → HasPlace (length having) r
       → is_in m (row_at having (index_of r)) ≡ contains_literal r (lits m)
   in_row m r known h =
-      ap (is_in m) (rows.each r h) ∙ any_reverse (λ n. n == m) (filter (λ m. contains_literal r (lits m)) es)
+      ap (is_in m) (rows.each r h)
+      ∙ any_reverse (λ n. n == m) (filter (λ m. contains_literal r (lits m)) es)
       ∙ in-filter (λ m. contains_literal r (lits m)) es m
       ∙ ap (λ b. b && contains_literal r (lits m)) known
 
@@ -99,7 +100,8 @@ module _ (lits : ℕ → List Literal) (having partners_rows : List (List ℕ)) 
       ps (λ r. in_row m r known) (partners_places (length having) l hard places))) i)
 
   -- a clause finds those that it excludes
-  pub found_excluded : (c : Placed) (d : Placed) → AllByRecursion (HasPlace (length having)) c.literals
+  pub found_excluded : (c : Placed) (d : Placed)
+      → AllByRecursion (HasPlace (length having)) c.literals
       → is_in d.place es ≡ true → d.literals ≡ lits d.place
       → is_in d.place (flat_map (found having partners_rows) c.literals) ≡ excludes hard c d
   found_excluded c d h known at =

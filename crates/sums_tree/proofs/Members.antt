@@ -12,9 +12,7 @@ use Rattle.cnf.specs.Literal.{Literal}
 use Rattle.cnf.specs.Problem.{Problem, SoftClause}
 use Rattle.cnf.specs.Instance.{IsInstance, IsClauseWithin}
 use Rattle.cnf.specs.Marks.{HasPlace}
-use Rattle.cnf.proofs.Laws.{all_weaker}
-use Rattle.cnf.proofs.Laws.{places_within}
-use Rattle.cnf.proofs.Laws.{all_push}
+use Rattle.cnf.proofs.Laws.{all_weaker, places_within, all_push}
 use Rattle.sums_tree.specs.Groups.{Placed, placed, binding, grouped_from, grouped, group_rows}
 use Rattle.sums_tree.specs.Groups.{looks_cost, look_limit, joined}
 use Rattle.sums_tree.specs.Connections.{has_variable}
@@ -55,7 +53,8 @@ pub members_of : (p : Problem) → AllByRecursion (AllByRecursion (IsMember p.so
 members_of p =
     grouped_each (IsMember p.soft) (binding p) 0 [] [] (placed p)
     (all_weaker (IsAt p.soft) (IsMember p.soft)
-    (placed p) (λ d h. let f = from_get p.soft d.place h.clause (record { weight = 0; clause = [] }) h.found in
+    (placed p) (λ d h. let f =
+    from_get p.soft d.place h.clause (record { weight = 0; clause = [] }) h.found in
     record {
       at = sym (ap (λ (s : SoftClause). s.clause) f.1 ∙ h.same);
       below = f.0;

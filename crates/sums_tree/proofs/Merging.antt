@@ -13,8 +13,7 @@ use Rattle.std.proofs.lemmas.List.Sorted.{IsPermutation-append_left}
 use Rattle.sums_tree.specs.Tree.{Tree, Fork, groups_of}
 use Rattle.sums_tree.specs.Connections.{Connection}
 use Rattle.sums_tree.specs.Arranging.{Node, has_group, leaves_from, fork}
-use Rattle.sums_tree.specs.Arranging.{without, with_node, merged}
-use Rattle.sums_tree.specs.Arranging.{round, rounds, in_pairs, one_tree}
+use Rattle.sums_tree.specs.Arranging.{without, with_node, merged, round, rounds, in_pairs, one_tree}
 use Rattle.sums_tree.proofs.Grouping.{same_IsPermutation}
 
 -- what each group of a tree gives, one after another

@@ -78,7 +78,8 @@ pub left_step : (G parts new : List (List ℕ)) (all : List Tree) → 1 < length
     → new ≡ paired (length G) parts → TreesLeft G parts all → TreesLeft G new all
 left_step G parts new all lt is at =
     let long = same_long G parts at.trees at.builds in
-    let next = one_more at.fuel at.trees (omega (arith, lt, long)) (omega (arith, lt, long, at.enough)) in
+    let next = one_more at.fuel at.trees (omega (arith, lt, long))
+    (omega (arith, lt, long, at.enough)) in
     let fewer = length-in_pairs at.trees in
     record {
       trees = in_pairs at.trees;

@@ -132,7 +132,8 @@ first_weight : (x : Connection) (xs : List Connection) → count_in x.low x.high
 first_weight x xs h =
     let f : Connection → ℕ = λ c. if is_of x.low x.high c then c.weight else 0 in
     let t : Connection → ℕ = λ c. cond (is_of x.low x.high c) 1 0 in
-    let one : ◌≡◌ {A = ℕ} (cond (is_of x.low x.high x) 1 0) 1 = ap {B = ℕ} (λ b. cond b 1 0) (own x) in
+    let one : ◌≡◌ {A = ℕ} (cond (is_of x.low x.high x) 1 0) 1 =
+    ap {B = ℕ} (λ b. cond b 1 0) (own x) in
     let here : f x ≡ x.weight = ap (λ b. if b then x.weight else 0) (own x) in
     let none : count_in x.low x.high xs ≡ 0 = omega (arith, sum_by-cons t x xs, one, h) in
     omega (arith, sum_by-cons f x xs, here, no_weight x.low x.high xs none)
@@ -140,7 +141,8 @@ first_weight x xs h =
 -- groups that have a weight stand somewhere
 stands : (P : Connection → Type 0) (low high : ℕ) (cs : List Connection) → AllByRecursion P cs
     → count_in low high cs ≤ 1 → 0 < weight_in low high cs
-    → (c : Connection) × P c × (c ≡ record { low = low; high = high; weight = weight_in low high cs })
+    → (c : Connection) × P c × (c
+    ≡ record { low = low; high = high; weight = weight_in low high cs })
 stands P low high [] all once h = absurd (omega arith)
 stands P low high (c ∷ cs) all once h =
     let f : Connection → ℕ = λ x. if is_of low high x then x.weight else 0 in
@@ -152,7 +154,8 @@ stands P low high (c ∷ cs) all once h =
           let g = eqb-true c.high high parts.1 in
           let weight : weight_in low high (c ∷ cs) ≡ c.weight =
           (λ i. weight_in (sym l i) (sym g i) (c ∷ cs))
-          ∙ first_weight c cs (subst (λ n. n ≤ 1) (λ i. count_in (sym l i) (sym g i) (c ∷ cs)) once) in
+          ∙ first_weight c cs (subst (λ n. n ≤ 1) (λ i. count_in (sym l i) (sym g i) (c ∷ cs)) once)
+          in
           (c, all.0, λ i. record { low = l i; high = g i; weight = sym weight i })
       | inr other ↦
           let none : f c ≡ 0 = ap (λ b. if b then c.weight else 0) other in

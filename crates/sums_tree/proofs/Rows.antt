@@ -15,7 +15,7 @@ use Rattle.cnf.specs.Instance.{IsClauseWithin}
 use Rattle.cnf.specs.Marks.{HasPlace}
 use Rattle.cnf.proofs.Laws.{places_within}
 use Rattle.sums_tree.specs.Groups.{Placed, plain}
-use Rattle.sums_tree.specs.Connections.{Connection, groups_with, home, clause_row, variable_rows}
+use Rattle.sums_tree.specs.Connections.{Connection, home, clause_row}
 use Rattle.sums_tree.specs.Connections.{along, share, row_connections}
 use Rattle.sums_tree.specs.Looking.{row_at}
 use Rattle.sums_tree.specs.Homes.{AreHomes}
@@ -73,13 +73,6 @@ row_end w row i xs all h inv =
     sym (ap (λ z. xs ++ z) (short_row w (drop (i - 1) row) (length-drop-less i row h))
     ∙ append-nil xs) ∙ inv
 
-rows_down : (groups : List (List Placed)) (v : ℕ) → 0 < v
-    → variable_rows groups v ≡ groups_with v 0 groups ∷ variable_rows groups (v - 1)
-rows_down groups zero h = absurd (omega arith)
-rows_down groups (suc v) h =
-    let e : suc v - 1 ≡ v = omega arith in
-    ap (λ i. groups_with (suc v) 0 groups ∷ variable_rows groups i) (sym e)
-
 -- the row of a clause, by the rows of its variables
 pub homes_row : (homes : List (List ℕ)) (groups : List (List Placed)) (vars : ℕ)
     (c : List Literal) → AreHomes homes groups vars → IsClauseWithin vars c
@@ -102,7 +95,8 @@ pub clause_skipped : (groups : List (List Placed)) (it rest : List (List Literal
     → xs ++ flat_map row_connections (map (clause_row groups) (plain rest)) ≡ all
 clause_skipped groups it rest c xs all is opposed inv =
     sym (ap (λ cs. xs ++ flat_map row_connections (map (clause_row groups) cs))
-    (ap plain is ∙ cond-false (not (has_opposites c)) (c ∷ plain rest) (plain rest) (ap not opposed)))
+    (ap plain is ∙ cond-false (not (has_opposites c)) (c ∷ plain rest) (plain rest)
+    (ap not opposed)))
     ∙ inv
 
 pub clause_step : (groups : List (List Placed)) (it rest : List (List Literal))

@@ -11,8 +11,7 @@ use Rattle.std.proofs.lemmas.List.Folds.{list_any-append}
 use Rattle.std.proofs.lemmas.List.Elements.{recursion_from_All}
 use Rattle.cnf.specs.Literal.{Literal}
 use Rattle.cnf.specs.Marks.{HasPlace}
-use Rattle.cnf.proofs.Laws.{all_weaker}
-use Rattle.cnf.proofs.Laws.{all_push}
+use Rattle.cnf.proofs.Laws.{all_weaker, all_push}
 use Rattle.sums_tree.specs.declared.joining.Grouping.{Grouping}
 use Rattle.sums_tree.specs.Groups.{Placed, excludes, looks_cost, look_limit, joined}
 use Rattle.sums_tree.specs.Seen.{is_in, seen_at, with_seen}
@@ -112,7 +111,8 @@ module _ (lits : ℕ → List Literal) (vars n : ℕ) (hard : List (List Literal
   paid : cost ≤ look_limit → sum_by (found_cost old.having partners) c.literals
       ≡ looks_cost hard earlier c
   paid h =
-      looks_paid lits old.having partners (places earlier) hard ready.tables.long (stands.within h).1
+      looks_paid lits old.having partners (places earlier) hard ready.tables.long
+      (stands.within h).1
       others hards earlier refl stands.at c c_places
 
   cost_is : cost ≤ look_limit → new.cost ≡ min (cost + looks_cost hard earlier c) (2 ^ 64 - 1)
@@ -178,7 +178,8 @@ module _ (lits : ℕ → List Literal) (vars n : ℕ) (hard : List (List Literal
       let found_at : List (List ℕ) → ℕ = λ ms.
       first_found old.having partners ms (length old.seen) c.literals in
       adds.members
-      ∙ ap (λ ms. joined_at (if nat_le new.cost look_limit then found_at ms else length ms) c.place ms)
+      ∙ ap (λ ms. joined_at (if nat_le new.cost look_limit then found_at ms else length ms) c.place
+      ms)
       stands.members
       ∙ ap (λ b. joined_at (if b then found_at rows else length rows) c.place rows) same_test
       ∙ elim (cases_lt look_limit total) as (λ _.
@@ -188,13 +189,15 @@ module _ (lits : ℕ → List Literal) (vars n : ℕ) (hard : List (List Literal
             ap (λ b. joined_at (if b then found_at rows else length rows) c.place rows)
             (lt-leb total look_limit past)
             ∙ joined_at-end rows c.place ∙ sym (map_push row_of groups (c ∷ []))
-            ∙ sym (ap (λ b. map row_of (if b then joined hard c groups else groups ++ (c ∷ []) ∷ []))
+            ∙ sym (ap (λ b. map row_of
+            (if b then joined hard c groups else groups ++ (c ∷ []) ∷ []))
             (lt-leb total look_limit past))
         | inr le ↦
             ap (λ b. joined_at (if b then found_at rows else length rows) c.place rows)
             (le-leb total look_limit le)
             ∙ sym (joined_rows hard c _ groups (agree_all (within_both le).1))
-            ∙ sym (ap (λ b. map row_of (if b then joined hard c groups else groups ++ (c ∷ []) ∷ []))
+            ∙ sym (ap (λ b. map row_of
+            (if b then joined hard c groups else groups ++ (c ∷ []) ∷ []))
             (le-leb total look_limit le))
       ]
 
@@ -242,13 +245,15 @@ module _ (lits : ℕ → List Literal) (vars n : ℕ) (hard : List (List Literal
             (λ _. stands.reach));
         within = λ le.
             let both = within_both le in
-            let test : nat_le new.cost look_limit ≡ true = same_test ∙ le-leb total look_limit le in (
+            let test : nat_le new.cost look_limit ≡ true =
+            same_test ∙ le-leb total look_limit le in (
               both.0,
               subst (HasRows lits new.having)
                   (sym (map_push (λ (d : Placed). d.place) earlier c))
                   (subst (λ h. HasRows lits h (places earlier ++ c.place ∷ []))
                   (sym (adds.having ∙ cond-true _ entries old.having test))
-                  (rows-entered lits old.having (places earlier) c.literals c.place at ready.once c_places
+                  (rows-entered lits old.having (places earlier) c.literals c.place at ready.once
+                  c_places
                   (stands.within both.1).1)),
             );
         over = over_both;
