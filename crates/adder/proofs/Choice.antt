@@ -3,31 +3,18 @@ use Rattle.std.proofs.Common.{◌≡◌, ℕ, zero, suc, ◌+◌, ◌*◌, ◌%�
 use Rattle.std.proofs.Common.{◌||◌, List, [], ◌∷◌, ◌++◌, length, map, filter, Option, Some, None}
 use Rattle.std.proofs.Common.{◌==◌, nat_le, if◌then◌else◌, All, refl, sym, ◌∙◌, ap, subst, arith}
 use Rattle.std.specs.List.{AllByRecursion}
-use Rattle.std.proofs.lemmas.Bool.{eq-eqb, ne_eqb}
 use Rattle.std.proofs.lemmas.List.Elements.{All-from_recursion}
 use Rattle.cnf.specs.Numbers.{one_if}
 use Rattle.cnf.specs.Literal.{Assignment, Literal, negation, literal_value, positive}
+use Rattle.cnf.specs.Literal.{put, SameBelow}
 use Rattle.cnf.specs.Clause.{clause_value, greatest_variable}
-use Rattle.cnf.specs.Problem.{SoftClause}
+use Rattle.cnf.specs.Problem.{SoftClause, AreWithin}
+use Rattle.cnf.proofs.Laws.{put_here, put_other, one_if_le}
 use Rattle.adder.specs.declared.cells.Cell.{Cell}
 use Rattle.adder.specs.declared.profiles.Relaxing.{Relaxing}
 use Rattle.adder.specs.Network.{Relaxed, Column, bit, relaxed_from, column_of, added_up}
 use Rattle.adder.specs.Network.{columns_from, third_of, IsCellOf, SameUpTo}
 use Rattle.adder.proofs.Sums.{relaxed_cases}
-
--- the assignment with one value changed
-abbrev pub put : Assignment → ℕ → Bool → Assignment
-put t n b v = if v == n then b else t v
-
-pub put_here : (t : Assignment) (n : ℕ) (b : Bool) → put t n b n ≡ b
-put_here t n b = ap (λ c. if c then b else t n) (eq-eqb n n refl)
-
-pub put_other : (t : Assignment) (n v : ℕ) (b : Bool) → (v ≡ n → ⊥) → put t n b v ≡ t v
-put_other t n v b h = ap (λ c. if c then b else t v) (ne_eqb v n h)
-
--- the two agree below n
-abbrev pub SameBelow : ℕ → Assignment → Assignment → Type 0
-SameBelow n t u = (v : ℕ) → v < n → u v ≡ t v
 
 pub literal_same : (t u : Assignment) (l : Literal) → u l.variable ≡ t l.variable
     → literal_value u l ≡ literal_value t l
@@ -135,10 +122,6 @@ third_same : (n : ℕ) (t u : Assignment) (o : Option Literal) → SameBelow n t
 third_same n t u None s h = refl
 third_same n t u (Some d) s h = ap one_if (literal_same t u d (s d.variable h))
 
-one_if_le : (b : Bool) → one_if b ≤ 1
-one_if_le true = omega arith
-one_if_le false = omega arith
-
 third_le : (t : Assignment) (o : Option Literal) → third_of t o ≤ 1
 third_le t None = omega arith
 third_le t (Some d) = one_if_le (literal_value t d)
@@ -190,10 +173,6 @@ cells_choice n (cell ∷ cells) t h =
         r.2,
       ),
     )
-
--- the clauses name variables up to n
-abbrev pub AreWithin : ℕ → List SoftClause → Type 0
-AreWithin n ss = AllByRecursion (λ s. greatest_variable s.clause ≤ n) ss
 
 pub relaxed_below : (n : ℕ) (relaxing : Relaxing) (v : ℕ) (ss : List SoftClause) (m : ℕ)
     → AreWithin n ss → n < v

@@ -6,7 +6,7 @@ use Rattle.std.specs.List.{AllByRecursion}
 use Rattle.std.proofs.lemmas.List.Elements.{recursion_from_All, All-weaker}
 use Rattle.cnf.specs.Literal.{Assignment}
 use Rattle.cnf.specs.Clause.{greatest_variable}
-use Rattle.cnf.specs.Problem.{Problem, SoftClause}
+use Rattle.cnf.specs.Problem.{Problem, SoftClause, AreWithin}
 use Rattle.cnf.specs.Instance.{IsInstance, IsClauseWithin}
 use Rattle.adder.specs.declared.cells.Profile.{Profile}
 use Rattle.adder.specs.declared.cells.Profile.TheVariants.{One, Two, Three, Four}
@@ -17,7 +17,7 @@ use Rattle.adder.specs.Network.{Adders, Relaxed, binary_length, total_weight, re
 use Rattle.adder.specs.Network.{relaxed_variables, column_of, along_columns, along_tree, adders_as}
 use Rattle.adder.specs.Network.{value_of, relaxed_weight, IsCellOf, SameUpTo, AddsUp}
 use Rattle.adder.proofs.Sums.{binary_length_le, relaxed_weights, along_columns_sum}
-use Rattle.adder.proofs.Choice.{AreWithin, AreRelaxedBelow, IsChain, column_below, columns_chain}
+use Rattle.adder.proofs.Choice.{AreRelaxedBelow, IsChain, column_below, columns_chain}
 use Rattle.adder.proofs.Choice.{chain_extends, relaxed_below}
 use Rattle.adder.proofs.Small.{column_le, columns_cells, columns_outputs, binary_length_few}
 use Rattle.adder.proofs.Small.{relaxed_length, fresh_few}

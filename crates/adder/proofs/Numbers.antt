@@ -7,12 +7,13 @@ use Rattle.std.proofs.lemmas.List.{length-append, length-map}
 use Rattle.std.proofs.lemmas.List.Sums.{sum_by-cons}
 use Rattle.cnf.specs.Numbers.{one_if}
 use Rattle.cnf.specs.Literal.{Assignment, Literal, literal_value}
+use Rattle.cnf.proofs.Laws.{all_left, all_right}
 use Rattle.adder.specs.Network.{Relaxed, Number, bit, binary_length, bits_from, number_of}
 use Rattle.adder.specs.Network.{literal_at, addition, round, rounds, lightest_first, numbers_of}
 use Rattle.adder.specs.Network.{along_tree, value_of, IsCellOf}
 use Rattle.adder.specs.declared.relaxations.Relaxation.{Relaxation}
 use Rattle.adder.specs.Parts.{most_of, numbers_with}
-use Rattle.adder.proofs.Sums.{left_part, right_part, count_true, count_true-append, digit}
+use Rattle.adder.proofs.Sums.{count_true, count_true-append, digit}
 use Rattle.adder.proofs.Sums.{columns_sum, binary_length_room, binary_length_le, given_up, scaled}
 use Rattle.adder.proofs.Choice.{IsChain, AreRelaxedBelow, chain_append, below_append, columns_chain}
 use Rattle.adder.proofs.Small.{columns_cells, columns_outputs, binary_length_few}
@@ -137,9 +138,9 @@ round_value t fresh (x ∷ y ∷ more) h small all =
     let rest = round next more in
     let here =
     addition_value t fresh x y h.0 h.1.0 (omega arith)
-    (left_part (IsCellOf t) sum.cells rest.cells all) in
+    (all_left (IsCellOf t) sum.cells rest.cells all) in
     let r =
-    round_value t next more h.1.1 (omega arith) (right_part (IsCellOf t) sum.cells rest.cells all)
+    round_value t next more h.1.1 (omega arith) (all_right (IsCellOf t) sum.cells rest.cells all)
     in
     (omega (arith, here, r.0), (omega (arith, here, h.0, h.1.0), r.1))
 
@@ -155,11 +156,11 @@ rounds_value t (suc steps) fresh (x ∷ y ∷ more) few h small all =
     let next = fresh + 2 * length first.cells in
     let rest = rounds steps next first.numbers in
     let r =
-    round_value t fresh (x ∷ y ∷ more) h small (left_part (IsCellOf t) first.cells rest.cells all)
+    round_value t fresh (x ∷ y ∷ more) h small (all_left (IsCellOf t) first.cells rest.cells all)
     in
     rounds_value t steps next first.numbers (omega (arith, round_length fresh (x ∷ y ∷ more))) r.1
     (omega (arith, round_most fresh (x ∷ y ∷ more)))
-    (right_part (IsCellOf t) first.cells rest.cells all) ∙ r.0
+    (all_right (IsCellOf t) first.cells rest.cells all) ∙ r.0
 
 -- the numbers of the soft clauses
 abbrev number : Relaxed → Number

@@ -10,20 +10,11 @@ use Rattle.std.proofs.lemmas.List.Sums.{sum_by-cons}
 use Rattle.cnf.specs.Numbers.{one_if}
 use Rattle.cnf.specs.Literal.{Assignment, Literal, negation, literal_value, positive}
 use Rattle.cnf.specs.Problem.{SoftClause}
+use Rattle.cnf.proofs.Laws.{all_left, all_right}
 use Rattle.adder.specs.declared.profiles.Relaxing.{Relaxing}
 use Rattle.adder.specs.declared.profiles.Relaxing.TheVariants.{EachByVariable, UnitsByNegation}
 use Rattle.adder.specs.Network.{Relaxed, bit, binary_length, relaxed_one, relaxed_from, column_of}
 use Rattle.adder.specs.Network.{added_up, columns_from, along_columns, value_of, third_of, IsCellOf}
-
-pub left_part : {X : Type 0} (P : X → Type 0) (xs ys : List X) → AllByRecursion P (xs ++ ys)
-    → AllByRecursion P xs
-left_part P [] ys h = tt
-left_part P (x ∷ xs) ys h = (h.0, left_part P xs ys h.1)
-
-pub right_part : {X : Type 0} (P : X → Type 0) (xs ys : List X) → AllByRecursion P (xs ++ ys)
-    → AllByRecursion P ys
-right_part P [] ys h = h
-right_part P (x ∷ xs) ys h = right_part P xs ys h.1
 
 -- how many are true
 abbrev pub count_true : Assignment → List Literal → ℕ
@@ -109,12 +100,12 @@ columns_sum t column worth law (suc more) j fresh carries all room =
     let rest = columns_from column more (j + 1) sum.fresh sum.carries in
     let short : length ls ≤ length ls + 1 = omega arith in
     let here =
-    column_sum t (length ls) fresh ls short (left_part (IsCellOf t) sum.cells rest.cells all) in
+    column_sum t (length ls) fresh ls short (all_left (IsCellOf t) sum.cells rest.cells all) in
     let below : count_true t sum.carries + worth (j + 1) < 2 ^ more =
     omega (arith, here, count_true-append t (column j) carries, law j, pow-suc 2 more) in
     let above =
     columns_sum t column worth law more (j + 1) sum.fresh sum.carries
-    (right_part (IsCellOf t) sum.cells rest.cells all) below in
+    (all_right (IsCellOf t) sum.cells rest.cells all) below in
     joined sum.output rest.outputs (count_true t sum.carries + worth (j + 1)) above
     (omega (arith, here, count_true-append t (column j) carries, law j))
   where

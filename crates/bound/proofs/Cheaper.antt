@@ -10,7 +10,7 @@ use Rattle.std.proofs.lemmas.List.Sums.{sum_by-cons, sum_by-le-sum_by}
 use Rattle.std.proofs.lemmas.List.Elements.{recursion_from_All, All-from_recursion, All-weaker}
 use Rattle.cnf.specs.Literal.{Assignment, Literal, negation, literal_value, positive}
 use Rattle.cnf.specs.Clause.{Satisfies, clause_value, greatest_variable}
-use Rattle.cnf.specs.Problem.{Problem, SoftClause, IsFeasible, cost_under}
+use Rattle.cnf.specs.Problem.{Problem, SoftClause, IsFeasible, cost_under, cost_of, AreWithin}
 use Rattle.cnf.specs.Instance.{IsInstance, IsClauseWithin}
 use Rattle.adder.specs.declared.cells.Cell.{Cell}
 use Rattle.adder.specs.declared.cells.Profile.{Profile}
@@ -19,9 +19,8 @@ use Rattle.adder.specs.Network.{relaxing_of}
 use Rattle.adder.specs.Network.{Relaxed, relaxed_one, relaxed_from, relaxed_as, relaxed_variables}
 use Rattle.adder.specs.Network.{adders_as, total_weight, value_of, IsCellOf, SameUpTo}
 use Rattle.adder.proofs.Laws.{relaxed_cases, relaxed_soft}
-use Rattle.adder.proofs.Laws.{AreWithin, AreRelaxedBelow, IsRelaxedTightly, relaxed_below}
-use Rattle.adder.proofs.Laws.{relaxed_choice, clause_same, literal_same}
-use Rattle.adder.proofs.Laws.{outputs_sum, cells_extend}
+use Rattle.adder.proofs.Laws.{AreRelaxedBelow, IsRelaxedTightly, relaxed_below}
+use Rattle.adder.proofs.Laws.{relaxed_choice, clause_same, literal_same, outputs_sum, cells_extend}
 use Rattle.sums.specs.Sums.{Node, SumsSayCheaper, cheaper_clauses, comparator, relaxed}
 use Rattle.bound.specs.declared.additions.Addition.{Addition}
 use Rattle.bound.specs.declared.additions.Addition.TheVariants.{Network, Sums}
@@ -79,9 +78,6 @@ formula_true profile p k t =
 -- what is given up for a soft clause, and what it costs
 abbrev given_up : Assignment → Relaxed → ℕ
 given_up t e = if literal_value t e.literal then (e.soft).weight else 0
-
-abbrev cost_of : Assignment → SoftClause → ℕ
-cost_of t s = if clause_value t s.clause then 0 else s.weight
 
 value_with : (t : Assignment) (c : List Literal) (l : Literal)
     → clause_value t (c ++ l ∷ []) ≡ (clause_value t c || literal_value t l)

@@ -1,8 +1,8 @@
 -- Dropped repeats, clauses with an opposite pair and the order change no value.
 use Rattle.std.proofs.Common.{◌≡◌, Bool, true, false, not, ◌&&◌, ◌||◌, List, [], ◌∷◌, reverse}
-use Rattle.std.proofs.Common.{if◌then◌else◌, All, ◌↔◌, inl, inr, refl, sym, ◌∙◌, ap, subst}
+use Rattle.std.proofs.Common.{if◌then◌else◌, All, ◌↔◌, refl, sym, ◌∙◌, ap, subst}
 use Rattle.std.specs.List.{list_all, list_any}
-use Rattle.std.proofs.lemmas.Bool.{false≢true, or_cases, or_from, or_parts}
+use Rattle.std.proofs.lemmas.Bool.{or_from, or_parts}
 use Rattle.std.proofs.lemmas.Grind.{reverse_onto}
 use Rattle.std.proofs.lemmas.List.Folds.{list_all-append}
 use Rattle.std.proofs.lemmas.List.Sums.{AllPass-from_list_all, list_all-from_AllPass}
@@ -10,7 +10,7 @@ use Rattle.cnf.specs.Literal.{Assignment, Literal, negation, literal_value, lite
 use Rattle.cnf.specs.Clause.{Satisfies, clause_value, contains_literal, without_literal, distinct}
 use Rattle.cnf.specs.Clause.{has_opposites, has_repeat}
 use Rattle.cnf.specs.Problem.{Problem, IsFeasible}
-use Rattle.cnf.proofs.Laws.{literal_eq-true}
+use Rattle.cnf.proofs.Laws.{literal_eq-true, opposites_true}
 use Rattle.bound.specs.Bound.{kept, hard_cnf}
 
 -- the clauses are all true
@@ -34,21 +34,6 @@ value-no t l = by l.negated (t l.variable)
     by true false = refl
     by false true = refl
     by false false = refl
-
-pub value_member : (t : Assignment) (l : Literal) (c : List Literal) → contains_literal l c ≡ true
-    → literal_value t l ≡ true → clause_value t c ≡ true
-value_member t l [] h e = absurd (false≢true h)
-value_member t l (k ∷ c) h e =
-    elim (or_cases (literal_eq l k) (contains_literal l c) h) [
-      | inl same ↦ ap (λ b. b || clause_value t c)
-          (subst (λ m. literal_value t m ≡ true) (literal_eq-true l k same) e)
-      | inr more ↦ ap (λ b. literal_value t k || b) (value_member t l c more e)
-          ∙ or_true (literal_value t k)
-    ]
-  where
-    or_true : (b : Bool) → (b || true) ≡ true
-    or_true true = refl
-    or_true false = refl
 
 -- a literal that fails the test can be left out
 any-without : (f : Literal → Bool) (l : Literal) (c : List Literal) → f l ≡ false
@@ -75,19 +60,6 @@ any-distinct f (l ∷ c) =
       | false ↦ λ e. any-without f l (distinct c) e ∙ any-distinct f c
     ] refl
 
--- a clause with an opposite pair is true
-pub value_opposites : (t : Assignment) (c : List Literal) → has_opposites c ≡ true
-    → clause_value t c ≡ true
-value_opposites t [] h = absurd (false≢true h)
-value_opposites t (l ∷ c) h =
-    elim (literal_value t l) as (λ b. literal_value t l ≡ b → (b || clause_value t c) ≡ true) [
-      | true ↦ λ e. refl
-      | false ↦ λ e. elim (or_cases (contains_literal (negation l) c) (has_opposites c) h) [
-        | inl here ↦ value_member t (negation l) c here (value-no t l ∙ ap not e)
-        | inr more ↦ value_opposites t c more
-      ]
-    ] refl
-
 pub all_true-kept : (t : Assignment) (cs : List (List Literal))
     → all_true t (kept cs) ≡ all_true t cs
 all_true-kept t [] = refl
@@ -96,7 +68,7 @@ all_true-kept t (c ∷ cs) =
     → all_true t (if not b then distinct c ∷ kept cs else kept cs) ≡ all_true t (c ∷ cs)) [
       | true ↦ λ h. all_true-kept t cs
           ∙ ap (λ b. b && all_true t cs)
-          (sym (sym (any-distinct (literal_value t) c) ∙ value_opposites t (distinct c) h))
+          (sym (sym (any-distinct (literal_value t) c) ∙ opposites_true t (distinct c) h))
       | false ↦ λ h. λ i. any-distinct (literal_value t) c i && all_true-kept t cs i
     ] refl
 

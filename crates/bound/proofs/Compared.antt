@@ -9,6 +9,7 @@ use Rattle.std.specs.List.{AllByRecursion}
 use Rattle.cnf.specs.Literal.{Literal, literal_eq}
 use Rattle.cnf.specs.Clause.{without_literal, distinct, has_opposites}
 use Rattle.cnf.specs.Problem.{Problem}
+use Rattle.cnf.proofs.Laws.{all_append}
 use Rattle.adder.specs.declared.cells.Profile.{Profile}
 use Rattle.adder.specs.Network.{bit, adders_as}
 use Rattle.adder.proofs.Laws.{AreOf, IsOutputOf}
@@ -19,7 +20,7 @@ use Rattle.bound.specs.declared.additions.Addition.{Addition}
 use Rattle.bound.specs.declared.additions.Addition.TheVariants.{Network, Sums}
 use Rattle.bound.specs.Bound.{no, kept, above, rising_clauses, comparator_of, comparator_over}
 use Rattle.bound.specs.Bound.{addition_as, comparator_for}
-use Rattle.bound.proofs.Subsets.{all_append, all_reverse}
+use Rattle.bound.proofs.Subsets.{all_reverse}
 use Rattle.bound.proofs.Covers.{rising_each}
 use Rattle.bound.proofs.Addition.{addition_cases, sums_few}
 

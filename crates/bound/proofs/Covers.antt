@@ -9,10 +9,10 @@ use Rattle.std.proofs.lemmas.List.Elements.{All-from_recursion, recursion_from_A
 use Rattle.std.proofs.lemmas.List.Folds.{list_any-append}
 use Rattle.cnf.specs.Numbers.{one_if}
 use Rattle.cnf.specs.Literal.{Literal}
-use Rattle.cnf.specs.Clause.{is_subset}
+use Rattle.cnf.specs.Clause.{is_subset, IsCovered}
 use Rattle.adder.specs.Network.{bit}
 use Rattle.adder.proofs.Laws.{digit}
-use Rattle.bound.specs.Bound.{no, above, rising_clauses, comparator_of, IsCovered, CoversLarger}
+use Rattle.bound.specs.Bound.{no, above, rising_clauses, comparator_of, CoversLarger}
 use Rattle.sums.specs.Sums.{comparator}
 use Rattle.sums.proofs.Laws.{covers_larger as sums_cover}
 use Rattle.bound.specs.declared.additions.Addition.{Addition}

@@ -6,17 +6,15 @@ use Rattle.std.proofs.Common.{if◌then◌else◌, refl, All, subst, arith}
 use Rattle.std.specs.List.{AllByRecursion, flat_map}
 use Rattle.std.proofs.lemmas.List.Elements.{recursion_from_All, All-from_recursion, All-append}
 use Rattle.cnf.specs.Literal.{Literal}
-use Rattle.cnf.specs.Clause.{distinct, has_repeat}
-use Rattle.cnf.specs.Clause.{has_opposites, greatest_variable}
+use Rattle.cnf.specs.Clause.{distinct, has_repeat, has_opposites, greatest_variable}
 use Rattle.cnf.specs.Formula.{IsFormula, IsFormulaClause}
 use Rattle.cnf.specs.Problem.{Problem, SoftClause}
 use Rattle.cnf.specs.Instance.{IsInstance, IsClauseWithin}
+use Rattle.cnf.proofs.Laws.{all_append}
 use Rattle.adder.specs.declared.cells.Cell.{Cell}
 use Rattle.adder.specs.declared.cells.Profile.{Profile}
-use Rattle.adder.specs.Network.{relaxing_of}
-use Rattle.adder.specs.Network.{Relaxed, relaxed_as, relaxed_variables, adders_as}
-use Rattle.adder.proofs.Laws.{adders_with, adds_up}
-use Rattle.adder.proofs.Laws.{AreOf, IsOutputOf, IsCellWith, relaxed_with}
+use Rattle.adder.specs.Network.{relaxing_of, Relaxed, relaxed_as, relaxed_variables, adders_as}
+use Rattle.adder.proofs.Laws.{adders_with, adds_up, AreOf, IsOutputOf, IsCellWith, relaxed_with}
 use Rattle.sums.specs.Sums.{HaveVariables, comparator}
 use Rattle.bound.specs.declared.additions.Addition.{Addition}
 use Rattle.bound.specs.declared.additions.Addition.TheVariants.{Network, Sums}
@@ -25,7 +23,7 @@ use Rattle.bound.specs.Bound.{kept, hard_cnf, cell_clauses, relaxed_clauses, add
 use Rattle.bound.specs.Bound.{rising_clauses, comparator_of, addition_clauses, comparator_over}
 use Rattle.bound.specs.Bound.{last_variable, bound_as}
 use Rattle.bound.proofs.Clauses.{repeat-distinct}
-use Rattle.bound.proofs.Subsets.{all_append, all_reverse}
+use Rattle.bound.proofs.Subsets.{all_reverse}
 use Rattle.bound.proofs.Addition.{clauses_with, addition_cases, sums_few, sums_variables}
 use Rattle.bound.proofs.Compared.{AreCompared, distinct_of, rising_of, named_of, over_sums}
 

@@ -1,19 +1,14 @@
 -- Clauses as they are kept, one after another.
-use Rattle.std.proofs.Common.{◌≡◌, ℕ, ◌+◌, ◌*◌, ◌<◌, ◌≤◌, Bool, true, false, not, ◌&&◌, ◌||◌, List}
-use Rattle.std.proofs.Common.{[], ◌∷◌, ◌++◌, length, take, get_or, if◌then◌else◌, All, refl, sym}
-use Rattle.std.proofs.Common.{◌∙◌, ap, arith, append_assoc, append-nil}
-use Rattle.std.specs.List.{AllByRecursion}
+use Rattle.std.proofs.Common.{◌≡◌, ℕ, ◌+◌, ◌<◌, Bool, true, false, not, ◌&&◌, ◌||◌, List}
+use Rattle.std.proofs.Common.{[], ◌∷◌, ◌++◌, length, take, get_or, if◌then◌else◌, refl, sym}
+use Rattle.std.proofs.Common.{◌∙◌, ap, append_assoc, append-nil}
 use Rattle.std.proofs.lemmas.Bool.{or_parts}
 use Rattle.std.proofs.lemmas.List.{take_more}
-use Rattle.std.proofs.lemmas.List.Elements.{All-from_recursion, recursion_from_All}
 use Rattle.cnf.specs.Literal.{Literal, literal_eq, same_bool}
-use Rattle.cnf.specs.Clause.{contains_literal, without_literal, distinct, has_repeat}
-use Rattle.cnf.specs.Clause.{has_opposites, greatest_variable}
-use Rattle.cnf.specs.Instance.{IsClauseWithin}
+use Rattle.cnf.specs.Clause.{contains_literal, without_literal, distinct, has_repeat, has_opposites}
 use Rattle.bound.specs.Bound.{kept}
 use Rattle.bound.specs.Adding.{Adds}
-use Rattle.cnf.specs.Marks.{HasPlace}
-use Rattle.bound.proofs.Opposites.{same_number}
+use Rattle.cnf.proofs.Laws.{same_number}
 use Rattle.bound.proofs.Clauses.{any-distinct, repeat-distinct}
 
 without_absent : (l : Literal) (c : List Literal) → contains_literal l c ≡ false
@@ -64,20 +59,6 @@ kept_more old cs i c now new h is inv e =
     take_more cs i c h ∙ ap (λ x. take i cs ++ x ∷ []) (sym is) in
     e ∙ ap (λ x. x ++ kept (c ∷ [])) inv ∙ append_assoc old (kept (take i cs)) (kept (c ∷ []))
     ∙ ap (λ x. old ++ x) (sym (kept-append (take i cs) (c ∷ [])) ∙ ap kept (sym more))
-
-pub places_each : (vars rows : ℕ) (c : List Literal) → 2 * vars ≤ rows
-    → AllByRecursion (λ l. 0 < l.variable) c → greatest_variable c ≤ vars
-    → AllByRecursion (HasPlace rows) c
-places_each vars rows [] h p g = tt
-places_each vars rows (l ∷ c) h p g =
-    ((p.0, omega arith), places_each vars rows c h p.1 (omega arith))
-
--- the literals of an instance's clause have places
-pub places_within : (vars rows : ℕ) (c : List Literal) → 2 * vars ≤ rows → IsClauseWithin vars c
-    → All (HasPlace rows) c
-places_within vars rows c h w =
-    All-from_recursion (HasPlace rows) c
-    (places_each vars rows c h (recursion_from_All (λ l. 0 < l.variable) c w.1) w.2)
 
 -- repeats may be dropped before
 pub kept-distinct : (c once : List Literal) → once ≡ distinct c → kept (once ∷ []) ≡ kept (c ∷ [])

@@ -8,7 +8,6 @@ mod Subsets
 mod Covers
 mod Few
 mod Fits
-mod Opposites
 mod Kept
 mod Rows
 mod Columns

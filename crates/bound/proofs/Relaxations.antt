@@ -17,9 +17,9 @@ use Rattle.adder.specs.Network.{Relaxed, relaxed_one, relaxed_from}
 use Rattle.adder.proofs.Laws.{relaxed_cases}
 use Rattle.bound.specs.Bound.{kept}
 use Rattle.cnf.specs.Marks.{HasPlace}
+use Rattle.cnf.proofs.Laws.{all_append, places_each}
 use Rattle.bound.specs.Adding.{gets_variable}
-use Rattle.bound.proofs.Subsets.{all_append}
-use Rattle.bound.proofs.Kept.{kept-append, places_each, same_literals}
+use Rattle.bound.proofs.Kept.{kept-append, same_literals}
 
 -- the clauses of those that have a variable, and how many these are
 abbrev pub with_variables : List Relaxed → List (List Literal)

@@ -1,13 +1,14 @@
 -- Subsets of clauses, as they are kept.
-use Rattle.std.proofs.Common.{◌≡◌, Bool, true, false, not, ◌||◌, List, [], ◌∷◌, ◌++◌, reverse}
+use Rattle.std.proofs.Common.{◌≡◌, Bool, true, false, not, ◌||◌, List, [], ◌∷◌, reverse}
 use Rattle.std.proofs.Common.{if◌then◌else◌, inl, inr, refl, sym, ◌∙◌, ap, subst}
 use Rattle.std.specs.List.{list_any, AllByRecursion}
 use Rattle.std.proofs.lemmas.Bool.{false≢true, true≢false, or_cases, or_left, or_right, both_ways}
 use Rattle.std.proofs.lemmas.Grind.{reverse_onto}
 use Rattle.std.proofs.lemmas.List.Folds.{list_any-append}
+use Rattle.std.proofs.Math.Bool.{or_comm}
 use Rattle.cnf.specs.Literal.{Literal, negation, literal_eq}
 use Rattle.cnf.specs.Clause.{contains_literal, distinct, has_opposites, is_subset}
-use Rattle.cnf.proofs.Laws.{literal_eq-refl, literal_eq-true, negation_twice}
+use Rattle.cnf.proofs.Laws.{literal_eq-refl, literal_eq-true, negation_twice, all_append}
 use Rattle.bound.specs.Bound.{kept}
 use Rattle.bound.proofs.Clauses.{any-distinct}
 
@@ -119,12 +120,6 @@ covers_more l (d ∷ cs) c h =
       | inr more ↦ or_right (is_subset d (l ∷ c)) (covers cs (l ∷ c)) (covers_more l cs c more)
     ]
 
-or_comm : (a b : Bool) → (a || b) ≡ (b || a)
-or_comm true true = refl
-or_comm true false = refl
-or_comm false true = refl
-or_comm false false = refl
-
 covers-reverse : (cs : List (List Literal)) (c : List Literal) → covers (reverse cs) c ≡ covers cs c
 covers-reverse [] c = refl
 covers-reverse (d ∷ cs) c =
@@ -163,11 +158,6 @@ kept_each cs (d ∷ ds) h =
       | true ↦ λ e. kept_each cs ds h.1
       | false ↦ λ e. (covers-kept cs d h.0 e, kept_each cs ds h.1)
     ] refl
-
-pub all_append : {X : Type 0} (P : X → Type 0) (xs ys : List X) → AllByRecursion P xs
-    → AllByRecursion P ys → AllByRecursion P (xs ++ ys)
-all_append P [] ys h g = g
-all_append P (x ∷ xs) ys h g = (h.0, all_append P xs ys h.1 g)
 
 pub all_reverse : {X : Type 0} (P : X → Type 0) (xs : List X) → AllByRecursion P xs
     → AllByRecursion P (reverse xs)

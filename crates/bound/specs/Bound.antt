@@ -1,12 +1,12 @@
 -- The hard clauses as a formula, and the formula for 'cost below k'.
-use Rattle.std.specs.Prelude.{◌≡◌, ℕ, zero, suc, ◌+◌, ◌*◌, ◌/◌, ◌^◌, ◌<◌, ◌≤◌, true, not, List, []}
+use Rattle.std.specs.Prelude.{ℕ, zero, suc, ◌+◌, ◌*◌, ◌/◌, ◌^◌, ◌<◌, ◌≤◌, not, List, []}
 use Rattle.std.specs.Prelude.{◌∷◌, ◌++◌, length, map, filter, reverse, Option, Some, None, ◌==◌}
 use Rattle.std.specs.Prelude.{◌-◌, nat_le, if◌then◌else◌, All}
-use Rattle.std.specs.List.{flat_map, list_any}
+use Rattle.std.specs.List.{flat_map}
 use Rattle.std.specs.Fmt.{decimal}
 use lib.Chars.{codes}
 use Rattle.cnf.specs.Literal.{Assignment, Literal, negation, positive}
-use Rattle.cnf.specs.Clause.{Satisfies, distinct, has_opposites, is_subset}
+use Rattle.cnf.specs.Clause.{Satisfies, IsCovered, distinct, has_opposites}
 use Rattle.cnf.specs.Formula.{Cnf}
 use Rattle.cnf.specs.Problem.{Problem, IsFeasible, cost_under}
 use Rattle.text.specs.Text.{literal_text}
@@ -147,9 +147,6 @@ pub record SaysCheaper (profile : Profile) (p : Problem) (k : ℕ) : Type 0 wher
       × All (Satisfies t) (bound_as profile p k).clauses
 
 -- each clause of the comparator for a larger bound has one for this bound as a subset
-abbrev pub IsCovered : List (List Literal) → List Literal → Type 0
-IsCovered cs c = list_any (λ d. is_subset d c) cs ≡ true
-
 abbrev pub CoversLarger : List (Option Literal) → ℕ → Type 0
 CoversLarger outputs k =
     (larger : ℕ) → k ≤ larger

@@ -8,12 +8,9 @@ ghost use Rattle.cnf.specs.Marks.{HasPlace};
 
 use cnf::clause_list::ClauseList;
 use cnf::marks::Marks;
+use cnf::opposites::{are_opposed, contains, has_opposites};
 use cnf::types::Lit;
 use std::alloc::{AllocError, Global};
-
-/// Clauses up to this length are searched for opposites pair by pair, which takes fewer steps than
-/// marks do.
-const FEW: usize = 8;
 
 /// Adds the clause of the literals, of which none stands twice, unless some literal stands with its
 /// negation.
@@ -31,35 +28,6 @@ pub(crate) fn keep(
         return Ok(());
     }
     clauses.push(lits)
-}
-
-/// Whether some literal stands with its negation, in time linear in their number.
-pub(crate) fn are_opposed(marks: &mut Marks, lits: &[Lit]) -> bool
-    requires { All (HasPlace (length marks.old)) lits.now }
-    ensures value { result ≡ has_opposites lits.now }
-    ensures marks { length marks.new ≡ length marks.old }
-{
-    if lits.len() <= FEW {
-        has_opposites(lits)
-    } else {
-        meets_negation(marks, lits)
-    }
-}
-
-/// Whether some literal stands with its negation: each is held against the marks of those before
-/// it. A clause may have millions of literals.
-fn meets_negation(marks: &mut Marks, lits: &[Lit]) -> bool
-    requires { All (HasPlace (length marks.old)) lits.now }
-    ensures value { result ≡ has_opposites lits.now }
-    ensures marks { length marks.new ≡ length marks.old }
-{
-    marks.clear();
-    let mut found = false;
-    for lit in lits {
-        found |= marks.is_marked(lit.negation());
-        marks.mark(*lit);
-    }
-    found
 }
 
 /// As `keep`, for a few literals, of which some may stand twice. Its time is quadratic in their
@@ -121,29 +89,4 @@ fn distinct(alloc: Global, lits: &[Lit]) -> Result<Vec<Lit>, AllocError>
         }
     }
     Ok(once)
-}
-
-/// Whether some literal stands with its negation.
-fn has_opposites(lits: &[Lit]) -> bool
-    ensures { result ≡ has_opposites lits.now }
-{
-    let mut rest = lits;
-    while let [first, more @ ..] = rest {
-        if contains(more, first.negation()) {
-            return true;
-        }
-        rest = more;
-    }
-    false
-}
-
-fn contains(lits: &[Lit], lit: Lit) -> bool
-    ensures { result ≡ contains_literal lit lits.now }
-{
-    for other in lits {
-        if *other == lit {
-            return true;
-        }
-    }
-    false
 }

@@ -11,14 +11,12 @@ use Rattle.cnf.specs.Clause.{contains_literal}
 use Rattle.cnf.specs.Refute.{Clauses, IsFalseUnder}
 use Rattle.clauses.specs.Slots.{Slots, clause_at}
 use Rattle.propagate.specs.Trail.{Assigned, literals_of, depth_of, level_after, level_from}
-use Rattle.propagate.specs.Trail.{level_in, kept_to, HasReasons}
-use Rattle.propagate.proofs.Laws.{depth_step}
-use Rattle.propagate.proofs.Laws.{negation_twice, contains-append}
-use Rattle.cnf.proofs.Laws.{literal_eq-refl}
+use Rattle.propagate.specs.Trail.{level_in, kept_to, HasReasons, level_of}
+use Rattle.propagate.proofs.Laws.{depth_step, negation_twice, contains-append}
+use Rattle.cnf.proofs.Laws.{literal_eq-refl, all_weaker}
 use Rattle.propagate.proofs.Laws.{in_kept, contains_front, contains_back, kept_prefix}
 use Rattle.propagate.proofs.Laws.{literals-append}
-use Rattle.propagate.proofs.Laws.{all_weaker}
-use Rattle.analyze.specs.Learning.{level_of, IsConflict, IsQuiet}
+use Rattle.analyze.specs.Learning.{IsConflict, IsQuiet}
 use Rattle.analyze.proofs.Laws.{level_is, false_below}
 use Rattle.cdcl.specs.Invariant.{zero_of}
 use Rattle.cdcl.specs.Hinting.{Serves}

@@ -5,11 +5,11 @@ use Rattle.std.specs.List.{AllByRecursion}
 use Rattle.std.proofs.lemmas.List.{take_all}
 use Rattle.cnf.specs.Literal.{Literal, negation}
 use Rattle.cnf.specs.Clause.{contains_literal}
+use Rattle.cnf.proofs.Laws.{all_at}
 use Rattle.clauses.specs.Slots.{clause_at}
 use Rattle.propagate.specs.Trail.{literals_of, depth_of}
 use Rattle.propagate.specs.Fits.{IsFalseClause}
 use Rattle.propagate.proofs.Laws.{no_opposites}
-use Rattle.analyze.proofs.Laws.{all_at}
 use Rattle.lrat_log.specs.declared.lines.Hint.{Hint}
 use Rattle.lrat_log.specs.declared.lines.Kind.TheVariants.{Empty}
 use Rattle.lrat_log.specs.Log.{LogLine}

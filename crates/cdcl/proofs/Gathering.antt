@@ -16,9 +16,8 @@ use Rattle.propagate.specs.Trail.{Assigned, literals_of, level_in, value_in, Has
 use Rattle.propagate.specs.Watches.{EngineState, is_attached, IsVariable}
 use Rattle.propagate.specs.Fits.{Fits}
 use Rattle.propagate.proofs.Laws.{negation_twice, contains-push, same_variable}
-use Rattle.cnf.proofs.Laws.{literal_eq-refl}
+use Rattle.cnf.proofs.Laws.{literal_eq-refl, all_weaker, all_append}
 use Rattle.propagate.proofs.Laws.{contains_at, contains_front}
-use Rattle.propagate.proofs.Laws.{all_weaker, all_join}
 use Rattle.propagate.proofs.Laws.{attached_within, within_variable, false_value, not_false_value}
 use Rattle.propagate.proofs.Laws.{no_opposites}
 use Rattle.analyze.proofs.Laws.{low_kept}
@@ -307,7 +306,7 @@ module _ (slots : Slots) (names : List Name) (units : List (Option ℕ)) (T : Li
     once = g.once;
     have = g.have;
     serves =
-        all_join _ done (r ∷ []) g.serves (
+        all_append _ done (r ∷ []) g.serves (
           λ d e k m z. g.covers k (ap (contains_literal k) (same_Some c d (sym live ∙ e)) ∙ m) z,
           tt,
         );

@@ -5,9 +5,9 @@ use Rattle.std.specs.List.{AllByRecursion}
 use Rattle.std.proofs.lemmas.List.Elements.{All-from_recursion}
 use Rattle.cnf.specs.Literal.{Literal}
 use Rattle.cnf.specs.Lrat.{IsId}
+use Rattle.cnf.proofs.Laws.{all_append}
 use Rattle.clauses.specs.Slots.{Slots, clause_at, IsLive}
 use Rattle.propagate.specs.Trail.{Assigned}
-use Rattle.propagate.proofs.Laws.{all_join}
 use Rattle.lrat_log.specs.declared.lines.Name.{Name}
 use Rattle.lrat_log.specs.declared.lines.Name.TheVariants.{Formula}
 use Rattle.lrat_log.specs.declared.lines.Hint.{Hint}
@@ -39,4 +39,4 @@ hint_ids slots names T rs hints h long ids live =
     (All-from_recursion (λ x. IsId (number_in (name_of x)))
     (plain_hints (map (name_at names) (h.units ++ rs)))
     (plain_ids slots names (h.units ++ rs) long ids
-    (all_join (IsLive slots) h.units rs (units_live slots h.units h.zeros h.are_units) live)))
+    (all_append (IsLive slots) h.units rs (units_live slots h.units h.zeros h.are_units) live)))

@@ -9,15 +9,15 @@ use Rattle.cnf.specs.Clause.{contains_literal, has_repeat, has_opposites, is_sub
 use Rattle.cnf.specs.Refute.{Clauses, Refutes, IsFalseUnder}
 use Rattle.cnf.proofs.Laws.{literal_eq-true}
 use Rattle.clauses.specs.Slots.{Slots, clause_at}
-use Rattle.propagate.specs.Trail.{Assigned, literals_of, depth_of, kept_to, HasReasons}
+use Rattle.propagate.specs.Trail.{Assigned, literals_of, depth_of, kept_to, HasReasons, level_of}
 use Rattle.propagate.proofs.Laws.{negation_twice, contains-append}
-use Rattle.cnf.proofs.Laws.{literal_eq-refl}
+use Rattle.cnf.proofs.Laws.{literal_eq-refl, all_at}
 use Rattle.propagate.proofs.Laws.{kept_prefix, contains_front, contains_back, literals-append}
 use Rattle.propagate.proofs.Laws.{NoOpposites, no_opposites}
 use Rattle.lrat_log.specs.declared.lines.Name.{Name}
 use Rattle.lrat_log.specs.Log.{LogLine, Given, is_delete, id_of, leading_ids, group_ids}
 use Rattle.lrat_log.specs.Steps.{log_live, IsNewTo, IsByRup, nothing_exempt}
-use Rattle.analyze.specs.Learning.{IsAsserting, IsRefutedBy, level_of}
+use Rattle.analyze.specs.Learning.{IsAsserting, IsRefutedBy}
 use Rattle.clauses.specs.Within.{Within}
 use Rattle.analyze.proofs.Laws.{contains_negation}
 use Rattle.cdcl.specs.Invariant.{NamesWhatIsLive, NamesStore, name_at, zero_of}
@@ -25,7 +25,7 @@ use Rattle.cdcl.proofs.LogLines.{IsNewClause, AddsByHints, leading-plain, groups
 use Rattle.cdcl.proofs.Named.{refutes_named}
 use Rattle.cdcl.specs.Hinting.{plain_hints, Serves, AreUnits}
 use Rattle.cdcl.proofs.Zero.{AreOpen, refutes_served, refutes_after_units}
-use Rattle.analyze.proofs.Laws.{all_at, open_below}
+use Rattle.analyze.proofs.Laws.{open_below}
 
 pub new_to_log : (slots : Slots) (names : List Name) (base : ℕ) (at : Clauses) (c : List Literal)
     → NamesWhatIsLive slots names base at

@@ -9,15 +9,13 @@ use Rattle.std.proofs.lemmas.List.Elements.{All-from_recursion, recursion_from_A
 use Rattle.cnf.specs.Literal.{Literal, negation}
 use Rattle.cnf.specs.Clause.{greatest_variable}
 use Rattle.cnf.specs.Refute.{Leads, Refutes, IsFalseUnder}
+use Rattle.cnf.proofs.Laws.{all_weaker, all_append, all_at}
 use Rattle.clauses.specs.Slots.{Slots, clause_at, IsLive}
-use Rattle.propagate.specs.Trail.{Assigned, literals_of, depth_of, kept_to, HasReasons}
+use Rattle.propagate.specs.Trail.{Assigned, literals_of, depth_of, kept_to, HasReasons, level_of}
 use Rattle.propagate.specs.Watches.{EngineState, is_attached}
 use Rattle.propagate.specs.Fits.{Fits, IsWithin, IsFalseClause}
-use Rattle.propagate.proofs.Laws.{all_weaker, all_join}
-use Rattle.propagate.proofs.Laws.{kept_low}
-use Rattle.propagate.proofs.Laws.{no_opposites}
-use Rattle.analyze.specs.Learning.{IsAsserting, IsConflict, IsRefutedBy, level_of, greatest_level}
-use Rattle.analyze.proofs.Laws.{all_at}
+use Rattle.propagate.proofs.Laws.{kept_low, no_opposites}
+use Rattle.analyze.specs.Learning.{IsAsserting, IsConflict, IsRefutedBy, greatest_level}
 use Rattle.lrat_log.specs.declared.lines.Hint.{Hint}
 use Rattle.lrat_log.specs.declared.lines.Name.{Name}
 use Rattle.lrat_log.specs.declared.lines.Name.TheVariants.{Added}
@@ -45,7 +43,7 @@ pub refutes_live : (slots : Slots) (A : List Literal) (hints : List ℕ)
     → Refutes (clause_at slots) A hints → AllByRecursion (IsLive slots) hints
 refutes_live slots A hints r =
     subst (AllByRecursion (IsLive slots)) (sym r.split)
-    (all_join (IsLive slots) r.front (r.final ∷ []) (leads_live slots A r.front r.reached r.leads)
+    (all_append (IsLive slots) r.front (r.final ∷ []) (leads_live slots A r.front r.reached r.leads)
     ((r.clause, r.live), tt))
 
 pub live_attached : (e : EngineState) (slots : Slots) (rs : List ℕ) → Searches e slots

@@ -1,8 +1,9 @@
 -- Rounds of a search: each leaves fewer.
-use Rattle.std.proofs.Common.{◌≡◌, ℕ, ◌+◌, ◌-◌, ◌*◌, ◌<◌, ◌≤◌, Bool, true, false, List, length, sym}
+use Rattle.std.proofs.Common.{◌≡◌, ℕ, ◌+◌, ◌-◌, ◌*◌, ◌<◌, ◌≤◌, true, false, List, length, sym}
 use Rattle.std.proofs.Common.{◌∙◌, ap, subst, arith}
-use Rattle.std.specs.Prelude.{if◌then◌else◌}
 use Rattle.std.proofs.Math.Nat.{mul-le-mul_left}
+use Rattle.cnf.specs.Numbers.{one_if}
+use Rattle.cnf.proofs.Laws.{one_if_le}
 use Rattle.cdcl_order.specs.Budgets.{BudgetState, left_of}
 use Rattle.lrat_log.specs.Log.{LogLine, Given}
 use Rattle.cdcl.specs.declared.problem.Problem.{Problem}
@@ -38,13 +39,6 @@ pays_join given a b c s t u v w =
 
 -- What is left.
 
-abbrev flag : Bool → ℕ
-flag b = if b then 1 else 0
-
-flag_low : (b : Bool) → flag b ≤ 1
-flag_low true = omega arith
-flag_low false = omega arith
-
 rounds_fall : (a b v s t : ℕ) → a < b → s ≤ v + 1 → a * (v + 2) + s < b * (v + 2) + t
 rounds_fall a b v s t less low =
     let h : (v + 2) * (a + 1) ≤ (v + 2) * b = mul-le-mul_left (v + 2) (omega arith) in
@@ -53,13 +47,13 @@ rounds_fall a b v s t less low =
 -- the first factor falls
 falls_first : (old new : Search) (before after : BudgetState)
     → (new.engine).variables ≡ (old.engine).variables
-    → 2 * left_of after + flag (new.policy).has_learned
-    < 2 * left_of before + flag (old.policy).has_learned
+    → 2 * left_of after + one_if (new.policy).has_learned
+    < 2 * left_of before + one_if (old.policy).has_learned
     → rounds_left new after < rounds_left old before
 falls_first old new before after same less =
     let v = (old.engine).variables in
-    let again = flag (new.policy).has_learned in
-    let learned = flag (old.policy).has_learned in
+    let again = one_if (new.policy).has_learned in
+    let learned = one_if (old.policy).has_learned in
     subst (λ n. (2 * left_of after + again) * (n + 2) + (n + 1 - length (new.engine).trail)
     < rounds_left old before) (sym same)
     (rounds_fall (2 * left_of after + again) (2 * left_of before + learned) v
@@ -75,7 +69,7 @@ goes_learned old new p ls before after r same paid some = record {
   fewer = falls_first old new before after same
       (let e : left_of after ≡ before.limit - (before.learned + 1 + before.answers)
       = ap left_of paid in
-      let low = flag_low (new.policy).has_learned in omega arith);
+      let low = one_if_le (new.policy).has_learned in omega arith);
 }
 
 -- it starts over
@@ -86,8 +80,8 @@ pub goes_over : (old new : Search) (p : Problem) (ls : List LogLine) (budget : B
 goes_over old new p ls budget r same learned none = record {
   runs = r;
   fewer = falls_first old new budget budget same
-      (let one : flag (old.policy).has_learned ≡ 1 = ap flag learned in
-      let zero : flag (new.policy).has_learned ≡ 0 = ap flag none in omega arith);
+      (let one : one_if (old.policy).has_learned ≡ 1 = ap one_if learned in
+      let zero : one_if (new.policy).has_learned ≡ 0 = ap one_if none in omega arith);
 }
 
 -- one more literal is true
@@ -100,8 +94,8 @@ pub goes_decided : (old new : Search) (p : Problem) (ls : List LogLine) (budget 
 goes_decided old new p ls budget r same learned longer within = record {
   runs = r;
   fewer =
-      let first = flag (old.policy).has_learned in
-      subst (λ b. (2 * left_of budget + flag b) * ((new.engine).variables + 2)
+      let first = one_if (old.policy).has_learned in
+      subst (λ b. (2 * left_of budget + one_if b) * ((new.engine).variables + 2)
       + ((new.engine).variables + 1 - length (new.engine).trail) < rounds_left old budget)
       (sym learned)
       (subst (λ n. (2 * left_of budget + first) * (n + 2) + (n + 1 - length (new.engine).trail)

@@ -1,20 +1,17 @@
 -- The tables of a search before its first move.
-use Rattle.std.proofs.Common.{◌≡◌, ◌≢◌, ℕ, ◌+◌, ◌<◌, true, false, List, [], ◌∷◌, ◌++◌, length}
+use Rattle.std.proofs.Common.{◌≡◌, ◌≢◌, ℕ, ◌+◌, ◌<◌, true, false, List, [], length}
 use Rattle.std.proofs.Common.{get_or, set, inl, inr, sym, ◌∙◌, ap, subst, arith}
 use Rattle.std.specs.Prelude.{All}
 use Rattle.std.proofs.lemmas.Bool.{cases_eq, cases_Bool, both_ways}
 use Rattle.std.proofs.lemmas.List.{length-set, get_or-set_same, get_or-set_other, get_or_default}
-use Rattle.std.proofs.lemmas.List.{length_push, append_assoc}
 use Rattle.std.proofs.lemmas.List.Elements.{All-set}
-use Rattle.cnf.specs.Literal.{Literal}
 use Rattle.cnf.specs.Lrat.{IsId}
 use Rattle.clauses.specs.Slots.{Slots}
 use Rattle.propagate.specs.Watches.{EngineState, is_attached, SetsAttached}
 use Rattle.propagate.specs.Fits.{Fits}
 use Rattle.lrat_log.specs.declared.lines.Name.{Name}
 use Rattle.lrat_log.specs.declared.lines.Name.TheVariants.{Formula}
-use Rattle.lrat_log.specs.Log.{Given, number_in}
-use Rattle.lrat_log.proofs.Laws.{given_on}
+use Rattle.lrat_log.specs.Log.{number_in}
 use Rattle.cdcl.specs.Invariant.{name_at}
 use Rattle.cdcl.specs.Starts.{AreRising}
 

@@ -12,15 +12,12 @@ use Rattle.std.proofs.lemmas.List.Elements.{recursion_from_All}
 use Rattle.cnf.specs.Literal.{Literal, negation}
 use Rattle.cnf.specs.Clause.{contains_literal}
 use Rattle.cnf.specs.Refute.{IsUnit}
+use Rattle.cnf.proofs.Laws.{all_at}
 use Rattle.clauses.specs.Slots.{Slots, clause_at}
 use Rattle.propagate.specs.Trail.{Assigned, literals_of, depth_of, is_decision, reason_in}
 use Rattle.propagate.specs.Trail.{HasReasons, IsJustified}
-use Rattle.propagate.proofs.Laws.{negation_twice}
-use Rattle.propagate.proofs.Laws.{kept_all}
-use Rattle.propagate.proofs.Laws.{depth-cons}
-use Rattle.propagate.proofs.Laws.{contains_at, contains_take}
+use Rattle.propagate.proofs.Laws.{negation_twice, kept_all, depth-cons, contains_at, contains_take}
 use Rattle.propagate.proofs.Laws.{NoOpposites, no_opposites}
-use Rattle.analyze.proofs.Laws.{all_at}
 use Rattle.analyze.proofs.Laws.{reason_at}
 use Rattle.lrat_log.specs.declared.lines.Hint.{Hint}
 use Rattle.lrat_log.specs.declared.lines.Name.{Name}

@@ -9,8 +9,7 @@ use Rattle.cnf.specs.Clause.{contains_literal, HaveSame}
 use Rattle.cnf.specs.Refute.{Clauses, IsUnit, Leads, Refutes}
 use Rattle.cnf.proofs.Laws.{refutes_after}
 use Rattle.propagate.proofs.Laws.{contains-append}
-use Rattle.cnf.proofs.Laws.{literal_eq-refl}
-use Rattle.propagate.proofs.Laws.{all_weaker}
+use Rattle.cnf.proofs.Laws.{literal_eq-refl, all_weaker}
 use Rattle.cdcl.specs.Hinting.{Serves, AreUnits}
 use Rattle.clauses.specs.Within.{Within}
 

@@ -9,12 +9,11 @@ use Rattle.cnf.specs.Refute.{Clauses, Refutes, IsUnit, IsFalseUnder}
 use Rattle.cnf.proofs.Laws.{literal_eq-true}
 use Rattle.propagate.specs.Trail.{Assigned, literals_of, HasReasons, IsJustified}
 use Rattle.propagate.proofs.Laws.{negation_twice}
-use Rattle.cnf.proofs.Laws.{literal_eq-refl}
+use Rattle.cnf.proofs.Laws.{literal_eq-refl, all_from}
 use Rattle.propagate.proofs.Laws.{NoOpposites, justified_same, same_swap}
 use Rattle.cdcl.specs.Hinting.{AreUnits}
 use Rattle.clauses.specs.Within.{Within}
 use Rattle.cdcl.proofs.Zero.{AreOpen, refutes_after_units}
-use Rattle.analyze.proofs.Laws.{all_from}
 use Rattle.cdcl.proofs.LearnedLines.{open_all}
 
 -- unit clauses, and one that is false with their literals

@@ -2,7 +2,7 @@
 use Rattle.std.proofs.Common.{◌≡◌, ℕ, zero, suc, ◌+◌, ◌<◌, ◌≤◌, true, false, List, [], ◌∷◌, length}
 use Rattle.std.proofs.Common.{get_or, set, take, Option, Some, None, refl, sym, ◌∙◌, ap, inl, inr}
 use Rattle.std.proofs.Common.{arith}
-use Rattle.std.specs.Prelude.{◌==◌, nat_lt, unwrap_or, All}
+use Rattle.std.specs.Prelude.{◌==◌, nat_lt, unwrap_or}
 use Rattle.std.specs.List.{list_any}
 use Rattle.std.proofs.lemmas.Bool.{cases_Bool, cases_eq, eq-eqb, ne_eqb, lt-ltb}
 use Rattle.std.proofs.lemmas.List.{get_or-set_other, get_or-set_same, length-set}
@@ -10,9 +10,9 @@ use Rattle.std.proofs.lemmas.List.Sums.{count_by-le-length, fold_more}
 use Rattle.std.proofs.lemmas.Option.{same_Some}
 use Rattle.cnf.specs.Literal.{Literal}
 use Rattle.propagate.specs.Trail.{Assigned, is_decision, depth_of, level_in, level_from}
-use Rattle.propagate.specs.Trail.{level_after}
+use Rattle.propagate.specs.Trail.{level_after, level_of}
 use Rattle.propagate.proofs.Laws.{depth_step}
-use Rattle.cdcl_order.specs.Levels.{level_of, with_level, levels_of}
+use Rattle.cdcl_order.specs.Levels.{with_level, levels_of}
 
 -- Levels.
 
@@ -46,13 +46,6 @@ level_low T l =
 pub record AreStamped (stamps : List ℕ) (count : ℕ) (met : List ℕ) : Type 0 where
   pub says : (k : ℕ) → k < length stamps
       → list_any (λ m. m == k) met ≡ (get_or stamps k 0 == count)
-
-pub stamped_none : (stamps : List ℕ) (count : ℕ) → All (λ n. n < count) stamps
-    → AreStamped stamps count []
-stamped_none stamps count fresh = record {
-  says = λ k below. let less : get_or stamps k 0 < count = fresh k 0 below in
-      sym (ne_eqb (get_or stamps k 0) count (λ e. omega (arith, less, e)));
-}
 
 -- a level is met for the first time
 pub stamped_more : (stamps : List ℕ) (count : ℕ) (met : List ℕ) (k : ℕ)

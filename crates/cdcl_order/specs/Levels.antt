@@ -1,17 +1,14 @@
 -- How many levels meet in a clause.
-use Rattle.std.specs.Prelude.{ℕ, ◌&&◌, not, nat_lt, ◌==◌, List, [], ◌∷◌, length, fold, unwrap_or}
+use Rattle.std.specs.Prelude.{ℕ, ◌&&◌, not, nat_lt, ◌==◌, List, [], ◌∷◌, length, fold}
 use Rattle.std.specs.Prelude.{if◌then◌else◌}
 use Rattle.std.specs.List.{list_any}
 use Rattle.cnf.specs.Literal.{Literal}
-use Rattle.propagate.specs.Trail.{Assigned, level_in}
+use Rattle.propagate.specs.Trail.{Assigned, level_of}
 
 -- by level the number of the last count that met it, and the number of the last count
 pub record LevelsState : Type 0 where
   pub stamps : List ℕ
   pub count : ℕ
-
-abbrev pub level_of : List Assigned → Literal → ℕ
-level_of trail l = unwrap_or (level_in trail l.variable) 0
 
 -- a level above 0 comes to the list, where it is not in it
 abbrev pub with_level : List ℕ → ℕ → List ℕ

@@ -3,20 +3,14 @@
 use Rattle.std.proofs.Common.{◌≡◌, ℕ, true, ◌||◌, List, [], ◌∷◌, ◌++◌, ◌⊎◌, inl, inr, refl, sym}
 use Rattle.std.proofs.Common.{◌∙◌, ap, append_assoc, subst}
 use Rattle.std.specs.Prelude.{All}
-use Rattle.std.specs.List.{AllByRecursion}
 use Rattle.cnf.specs.Literal.{Literal, negation, literal_eq}
 use Rattle.cnf.specs.Clause.{contains_literal, HaveSame}
-use Rattle.cnf.specs.Lrat.{CandidateHints}
-use Rattle.cnf.specs.Lrat.{IsId}
+use Rattle.cnf.specs.Lrat.{CandidateHints, IsId}
 use Rattle.cnf.specs.Refute.{IsUnit, IsFalseUnder, Clauses, Leads, Refutes}
+use Rattle.cnf.proofs.Lists.{all_weaker}
 
 abbrev pub GroupHasIds : CandidateHints → Type 0
 GroupHasIds g = IsId g.candidate × All IsId g.hints
-
-all_by : {X : Type 0} (P Q : X → Type 0) (xs : List X) → ((x : X) → P x → Q x) → AllByRecursion P xs
-    → AllByRecursion Q xs
-all_by P Q [] f h = h
-all_by P Q (x ∷ xs) f h = (f x h.0, all_by P Q xs f h.1)
 
 pub unit_same : (c A B : List Literal) (l : Literal) → HaveSame A B → IsUnit c A l → IsUnit c B l
 unit_same c A B l same u = record {
@@ -24,14 +18,14 @@ unit_same c A B l same u = record {
   not_true = sym (same l) ∙ u.not_true;
   not_false = sym (same (negation l)) ∙ u.not_false;
   others =
-      all_by (λ k. (k ≡ l) ⊎ (contains_literal (negation k) A ≡ true))
+      all_weaker (λ k. (k ≡ l) ⊎ (contains_literal (negation k) A ≡ true))
       (λ k. (k ≡ l) ⊎ (contains_literal (negation k) B ≡ true)) c
       (λ k h. elim h [ inl e ↦ inl e | inr e ↦ inr (sym (same (negation k)) ∙ e) ]) u.others;
 }
 
 pub false_same : (c A B : List Literal) → HaveSame A B → IsFalseUnder c A → IsFalseUnder c B
 false_same c A B same h =
-    all_by (λ k. contains_literal (negation k) A ≡ true)
+    all_weaker (λ k. contains_literal (negation k) A ≡ true)
     (λ k. contains_literal (negation k) B ≡ true) c
     (λ k e. sym (same (negation k)) ∙ e) h
 

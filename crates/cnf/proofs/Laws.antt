@@ -1,4 +1,5 @@
 -- The laws of this crate that other crates cite, from one place.
+pub use Rattle.cnf.proofs.Assignments.{put_here, put_other}
 pub use Rattle.cnf.proofs.Certificates.{certificate_sound, clause_kept, made, made_true, rest_kept}
 pub use Rattle.cnf.proofs.Hints.{GroupHasIds, more_same, refutes_after, unit_same}
 pub use Rattle.cnf.proofs.Judgement.{extends_own}
@@ -6,8 +7,14 @@ pub use Rattle.cnf.proofs.Laid.{IsCompacting, Layout, compacting_all, compacting
 pub use Rattle.cnf.proofs.Laid.{compacting_live, laid_le, laid_push, laid_set, laid_within}
 pub use Rattle.cnf.proofs.Laid.{moved_within, pieces-append, pieces_dead, pieces_live, pieces_push}
 pub use Rattle.cnf.proofs.Laid.{range-append, range-appended}
+pub use Rattle.cnf.proofs.Lists.{all_append, all_both, all_left, all_parts, all_push, all_right}
+pub use Rattle.cnf.proofs.Lists.{all_weaker}
+pub use Rattle.cnf.proofs.Literals.{all_at, all_from}
 pub use Rattle.cnf.proofs.Literals.{at_contains, contains-push, index_below, index_same}
 pub use Rattle.cnf.proofs.Literals.{literal_eq-refl, literal_eq_ne, literal_ne, negation_twice}
 pub use Rattle.cnf.proofs.Marking.{marked_one, marked_subset, none_marked, place_within}
+pub use Rattle.cnf.proofs.Marking.{places_each, places_within}
+pub use Rattle.cnf.proofs.Numbers.{one_if_le, same_number}
+pub use Rattle.cnf.proofs.Opposed.{contained_true, opposites_true}
 pub use Rattle.cnf.proofs.Rising.{rises_least, rises_weaker, rising_from}
 pub use Rattle.cnf.proofs.Sound.{literal_eq-true, negation-value}

@@ -1,3 +1,6 @@
+mod Lists
+mod Numbers
+mod Assignments
 mod Sound
 mod Hints
 mod Certificates
@@ -7,6 +10,7 @@ mod Cutting
 mod Rising
 mod Literals
 mod Marking
+mod Opposed
 mod Unstamped
 mod Judgement
 pub mod Laws

@@ -1,9 +1,11 @@
 -- Literals that are one, that are negated twice, and their places in a table with a row for each.
 use Rattle.std.proofs.Common.{◌≡◌, ℕ, zero, suc, ◌+◌, ◌-◌, ◌*◌, ◌<◌, ◌≤◌, Bool, true, false, ◌||◌}
-use Rattle.std.proofs.Common.{List, [], ◌∷◌, ◌++◌, length, get_or, refl, ap, subst, arith}
+use Rattle.std.proofs.Common.{List, [], ◌∷◌, ◌++◌, length, get_or, inl, inr, refl, sym, ap}
+use Rattle.std.proofs.Common.{subst, arith}
 use Rattle.std.specs.Prelude.{if◌then◌else◌}
+use Rattle.std.specs.List.{AllByRecursion}
 use Rattle.std.proofs.lemmas.Bool.{and_from, or_left, or_right, eq-eqb, false_from_ne_true}
-use Rattle.std.proofs.lemmas.Bool.{both_ways}
+use Rattle.std.proofs.lemmas.Bool.{both_ways, false≢true, or_cases}
 use Rattle.std.proofs.Math.Bool.{or-false, not-not}
 use Rattle.cnf.specs.Literal.{Literal, negation, literal_eq, same_bool, index_of}
 use Rattle.cnf.specs.Clause.{contains_literal}
@@ -65,3 +67,21 @@ at_contains (k ∷ c) zero l h is =
     (subst (λ x. literal_eq l x ≡ true) is (literal_eq-refl l))
 at_contains (k ∷ c) (suc i) l h is =
     or_right (literal_eq l k) (contains_literal l c) (at_contains c i l (omega arith) is)
+
+-- what holds of each literal, and of each that stands in the list
+pub all_at : (P : Literal → Type 0) (c : List Literal) (k : Literal) → AllByRecursion P c
+    → contains_literal k c ≡ true → P k
+all_at P [] k h e = absurd (false≢true e)
+all_at P (l ∷ c) k h e =
+    elim (or_cases (literal_eq k l) (contains_literal k c) e) [
+      | inl s ↦ subst P (sym (literal_eq-true k l s)) h.0
+      | inr m ↦ all_at P c k h.1 m
+    ]
+
+pub all_from : (P : Literal → Type 0) (c : List Literal)
+    → ((k : Literal) → contains_literal k c ≡ true → P k) → AllByRecursion P c
+all_from P [] f = tt
+all_from P (l ∷ c) f = (
+  f l (or_left (literal_eq l l) (contains_literal l c) (literal_eq-refl l)),
+  all_from P c (λ k m. f k (or_right (literal_eq k l) (contains_literal k c) m)),
+)

@@ -4,9 +4,12 @@ use Rattle.std.proofs.Common.{List, [], ◌∷◌, ◌++◌, length, take, get_o
 use Rattle.std.proofs.Common.{if◌then◌else◌, refl, sym, ◌∙◌, ap, arith, add-one}
 use Rattle.std.proofs.Common.{get_or-set_same, get_or-set_other}
 use Rattle.std.specs.Prelude.{All}
+use Rattle.std.specs.List.{AllByRecursion}
 use Rattle.std.proofs.lemmas.List.Elements.{All-head, All-tail}
+use Rattle.std.proofs.lemmas.List.Elements.{All-from_recursion, recursion_from_All}
 use Rattle.cnf.specs.Literal.{Literal, literal_eq, index_of}
-use Rattle.cnf.specs.Clause.{contains_literal, is_subset}
+use Rattle.cnf.specs.Clause.{contains_literal, is_subset, greatest_variable}
+use Rattle.cnf.specs.Instance.{IsClauseWithin}
 use Rattle.cnf.specs.Marks.{mark_of, IsMarked, HasPlace, are_marked}
 use Rattle.cnf.proofs.Sound.{literal_eq-true}
 use Rattle.cnf.proofs.Literals.{literal_ne, index_same, contains-push}
@@ -18,6 +21,20 @@ place_bound v false rows p q = omega arith
 
 pub place_within : (rows : ℕ) (l : Literal) → HasPlace rows l → index_of l < rows
 place_within rows l h = place_bound l.variable l.negated rows h.0 h.1
+
+pub places_each : (vars rows : ℕ) (c : List Literal) → 2 * vars ≤ rows
+    → AllByRecursion (λ l. 0 < l.variable) c → greatest_variable c ≤ vars
+    → AllByRecursion (HasPlace rows) c
+places_each vars rows [] h p g = tt
+places_each vars rows (l ∷ c) h p g =
+    ((p.0, omega arith), places_each vars rows c h p.1 (omega arith))
+
+-- the literals of an instance's clause have places
+pub places_within : (vars rows : ℕ) (c : List Literal) → 2 * vars ≤ rows → IsClauseWithin vars c
+    → All (HasPlace rows) c
+places_within vars rows c h w =
+    All-from_recursion (HasPlace rows) c
+    (places_each vars rows c h (recursion_from_All (λ l. 0 < l.variable) c w.1) w.2)
 
 -- after a write at the place of l
 mark-set : (marks : List Bool) (b : Bool) (k l : Literal) → 0 < k.variable → 0 < l.variable

@@ -45,3 +45,7 @@ greatest_variable (l ∷ c) = max l.variable (greatest_variable c)
 abbrev pub is_subset : List Literal → List Literal → Bool
 is_subset [] d = true
 is_subset (l ∷ c) d = if contains_literal l d then is_subset c d else false
+
+-- some clause of the list is a subset of the clause
+abbrev pub IsCovered : List (List Literal) → List Literal → Type 0
+IsCovered cs c = list_any (λ d. is_subset d c) cs ≡ true

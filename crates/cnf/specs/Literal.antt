@@ -1,5 +1,6 @@
 -- Variables, literals and assignments.
-use Rattle.std.specs.Prelude.{ℕ, Bool, true, false, not, ◌+◌, ◌-◌, ◌*◌, if◌then◌else◌, ◌==◌, ◌&&◌}
+use Rattle.std.specs.Prelude.{◌≡◌, ℕ, ◌<◌, Bool, true, false, not, ◌+◌, ◌-◌, ◌*◌}
+use Rattle.std.specs.Prelude.{if◌then◌else◌, ◌==◌, ◌&&◌}
 
 -- a variable from 1, or its negation
 pub record Literal : Type 0 where
@@ -19,6 +20,14 @@ negation l = record { variable = l.variable; negated = not l.negated }
 -- a truth value for each variable
 abbrev pub Assignment : Type 0
 Assignment = ℕ → Bool
+
+-- the assignment with one value changed
+abbrev pub put : Assignment → ℕ → Bool → Assignment
+put t n b v = if v == n then b else t v
+
+-- the two agree below n
+abbrev pub SameBelow : ℕ → Assignment → Assignment → Type 0
+SameBelow n t u = (v : ℕ) → v < n → u v ≡ t v
 
 -- a positive literal is true when its variable is, a negated one when its variable is not
 abbrev pub literal_value : Assignment → Literal → Bool

@@ -1,5 +1,6 @@
 -- Bits that satisfy all that was given are a solution that is cheaper than the last bound.
-use Rattle.std.proofs.Common.{◌≡◌, ℕ, zero, suc, ◌+◌, ◌^◌, ◌<◌, ◌≤◌, Bool, true, List, [], ◌∷◌, ◌++◌}
+use Rattle.std.proofs.Common.{◌≡◌, ℕ, zero, suc, ◌+◌, ◌^◌, ◌<◌, ◌≤◌, Bool, true, List, [], ◌∷◌}
+use Rattle.std.proofs.Common.{◌++◌}
 use Rattle.std.proofs.Common.{length, inr, append_assoc, refl, sym, ◌∙◌, ap, subst, arith, All}
 use Rattle.std.specs.List.{AllByRecursion, flat_map}
 use Rattle.std.proofs.lemmas.List.Elements.{recursion_from_All, All-from_recursion, All-map}
@@ -11,7 +12,6 @@ use Rattle.cnf.specs.Problem.{Problem, IsFeasible, cost_under}
 use Rattle.lrat_log.specs.declared.lines.Name.{Name}
 use Rattle.bound.specs.Bound.{bound_as, addition_as, fixed_clauses, comparator_for}
 use Rattle.bound.proofs.Laws.{says_cheaper}
-use Rattle.bound.proofs.Laws.{all_append}
 use Rattle.std.specs.Prelude.{Contains, if◌then◌else◌}
 use Rattle.std.proofs.lemmas.Bool.{false_from_ne_true}
 use Rattle.std.proofs.lemmas.List.Sums.{sum_by-append}
@@ -19,7 +19,6 @@ use Rattle.lrat_log.specs.Log.{LogLine, is_learned, clauses_in}
 use Rattle.lrat_log.specs.Steps.{IsLogOver, IsBaseOf, LearnsNew, is_later, nothing_exempt}
 use Rattle.lrat_log.specs.Steps.{learned_count, given_of}
 use Rattle.lrat_log.proofs.Laws.{base_of}
-use Rattle.adder.proofs.Laws.{left_part, right_part}
 use Rattle.improve.specs.Frozen.{IsFrozenFor}
 use Rattle.cdcl.specs.Solving.{given_to, SatisfyGiven, SameGiven, IsPlainlyRefuted, lines_since}
 use Rattle.improve.specs.Improving.{IsSolution, IsCostOfSome, AreFalling}
@@ -28,7 +27,7 @@ use Rattle.cnf.specs.Formula.{Cnf}
 use Rattle.std.proofs.lemmas.List.{length-map}
 use Rattle.lrat_log.proofs.Laws.{new_searched}
 use Rattle.improve.specs.declared.bounds.Bounds.{Bounds}
-use Rattle.cnf.proofs.Laws.{extends_own}
+use Rattle.cnf.proofs.Laws.{extends_own, all_left, all_right, all_append}
 use Rattle.improve.proofs.Comparators.{compared_zero, variables_within}
 use Rattle.improve.proofs.GivenParts.{given_split}
 
@@ -46,8 +45,8 @@ last_satisfied p b before c t h e s =
     (recursion_from_All (Satisfies t) (clauses_in (given_to b.solver))
     (All-map (Satisfies t) (λ (g : Name × List Literal). g.1) (given_to b.solver) s)) in
     All-from_recursion (Satisfies t) (A ++ C)
-    (all_append (Satisfies t) A C (left_part (Satisfies t) A (B ++ C) all)
-    (right_part (Satisfies t) B C (right_part (Satisfies t) A (B ++ C) all)))
+    (all_append (Satisfies t) A C (all_left (Satisfies t) A (B ++ C) all)
+    (all_right (Satisfies t) B C (all_right (Satisfies t) A (B ++ C) all)))
 
 pub bits_cheaper : (p : Problem) (b : Bounds) (before : List ℕ) (c : ℕ) (bits : List Bool)
     → IsOver p b → (b.costs).items ≡ before ++ c ∷ []

@@ -9,7 +9,7 @@ use Rattle.std.proofs.lemmas.Bool.{false≢true}
 use Rattle.std.proofs.lemmas.List.Elements.{recursion_from_All, All-from_recursion}
 use Rattle.std.proofs.lemmas.List.{length-map}
 use Rattle.cnf.specs.Literal.{Literal}
-use Rattle.cnf.specs.Clause.{is_subset}
+use Rattle.cnf.specs.Clause.{is_subset, IsCovered}
 use Rattle.cnf.specs.Formula.{Cnf, IsFormulaClause}
 use Rattle.cnf.specs.Problem.{Problem}
 use Rattle.cnf.specs.Instance.{IsInstance}
@@ -19,19 +19,15 @@ use Rattle.lrat_log.specs.Steps.{IsLogOver, IsAcceptedLog, AddsNoEmptyClause, is
 use Rattle.lrat_log.specs.Steps.{LearnsNew, is_later, learned_count, given_of}
 use Rattle.lrat_log.specs.Rebase.{WeakerList, rebased, IsWeakerOf, IsSomeClause, KeepsLog}
 use Rattle.adder.specs.declared.cells.Profile.{Profile}
-use Rattle.adder.proofs.Laws.{right_part}
-use Rattle.bound.specs.Bound.{bound_as, addition_as, fixed_clauses, comparator_for, IsCovered}
-use Rattle.bound.proofs.Laws.{all_append}
-use Rattle.bound.proofs.Laws.{covers_larger_over}
-use Rattle.bound.proofs.Laws.{without_bound}
-use Rattle.bound.proofs.Laws.{bound_is_formula}
-use Rattle.lrat_log.proofs.Laws.{numbered_right}
-use Rattle.lrat_log.proofs.Laws.{open_rebased, learned_rebased}
+use Rattle.bound.specs.Bound.{bound_as, addition_as, fixed_clauses, comparator_for}
+use Rattle.bound.proofs.Laws.{covers_larger_over, without_bound, bound_is_formula}
+use Rattle.lrat_log.proofs.Laws.{numbered_right, open_rebased, learned_rebased}
 use Rattle.cdcl.specs.Solving.{given_to}
 use Rattle.improve.specs.Improving.{AreFalling, first_subset, weaker_among}
 use Rattle.improve.specs.Bounds.{IsOver}
 use Rattle.improve.specs.declared.bounds.Bounds.{Bounds}
 use Rattle.cnf.specs.Lrat.{IsId}
+use Rattle.cnf.proofs.Laws.{all_right, all_append, all_weaker, all_both}
 use Rattle.lrat_log.specs.Rebase.{weaker_list}
 use Rattle.std.specs.declared.vec.Vec.{Vec}
 use Rattle.std.specs.declared.alloc.Global.{Global}
@@ -63,16 +59,6 @@ all_mapped : {X Y : Type 0} (P : Y → Type 0) (f : X → Y) (xs : List X)
     → AllByRecursion (λ x. P (f x)) xs → AllByRecursion P (map f xs)
 all_mapped P f [] h = tt
 all_mapped P f (x ∷ xs) h = (h.0, all_mapped P f xs h.1)
-
-each : {X : Type 0} (P Q : X → Type 0) → ((x : X) → P x → Q x) → (xs : List X) → AllByRecursion P xs
-    → AllByRecursion Q xs
-each P Q f [] h = tt
-each P Q f (x ∷ xs) h = (f x h.0, each P Q f xs h.1)
-
-both : {X : Type 0} (P Q : X → Type 0) (xs : List X) → AllByRecursion P xs → AllByRecursion Q xs
-    → AllByRecursion (λ x. P x × Q x) xs
-both P Q [] h g = tt
-both P Q (x ∷ xs) h g = ((h.0, g.0), both P Q xs h.1 g.1)
 
 -- falling costs are above the last one
 falling_above : (ds : List ℕ) (c : ℕ) → AreFalling (ds ++ c ∷ []) → AllByRecursion (λ d. c < d) ds
@@ -109,21 +95,22 @@ module _ (profile : Profile) (p : Problem) (h : IsInstance p) (before : List ℕ
       recursion_from_All (IsFormulaClause (bound_as profile p d).variables)
       (bound_as profile p d).clauses (bound_is_formula profile p d h).clauses in
       let cs = comparator_for profile p d in
-      let a = right_part (IsFormulaClause (bound_as profile p d).variables) fixed cs formula in
+      let a = all_right (IsFormulaClause (bound_as profile p d).variables) fixed cs formula in
       let b =
       recursion_from_All (IsCovered last) cs (covers_larger_over (addition_as profile p) c d
       (omega arith)) in
       let e = compared_some (addition_as profile p) d (omega arith) in
-      each (λ x. IsFormulaClause (bound_as profile p d).variables x
-      × (IsCovered last x × (is_empty_clause x ≡ false))) Fits (λ x y. (y.0, y.1.0, y.1.1)) cs
-      (both (IsFormulaClause (bound_as profile p d).variables) (λ x. IsCovered last x
+      all_weaker (λ x. IsFormulaClause (bound_as profile p d).variables x
+      × (IsCovered last x × (is_empty_clause x ≡ false))) Fits cs (λ x y. (y.0, y.1.0, y.1.1))
+      (all_both (IsFormulaClause (bound_as profile p d).variables) (λ x. IsCovered last x
       × (is_empty_clause x ≡ false)) cs a
-      (both (IsCovered last) (λ x. is_empty_clause x ≡ false) cs b e))
+      (all_both (IsCovered last) (λ x. is_empty_clause x ≡ false) cs b e))
 
   fits : AllByRecursion Fits earlier
   fits =
       all_flat Fits (comparator_for profile p) before
-      (each (λ d. c < d) (λ d. AllByRecursion Fits (comparator_for profile p d)) fits_at before
+      (all_weaker (λ d. c < d) (λ d. AllByRecursion Fits (comparator_for profile p d)) before
+      fits_at
       (falling_above before c falling))
 
   weaker_one : (x : List Literal) → Fits x
@@ -143,19 +130,19 @@ module _ (profile : Profile) (p : Problem) (h : IsInstance p) (before : List ℕ
   pub weaker_fits : All (IsWeakerOf (fixed ++ last)) weaker
   weaker_fits = All-from_recursion (IsWeakerOf (fixed ++ last)) weaker
       (all_mapped (IsWeakerOf (fixed ++ last)) (λ x. (x, first_subset (length fixed + 1) last x))
-      earlier (each Fits
-      (λ x. IsWeakerOf (fixed ++ last) (x, first_subset (length fixed + 1) last x)) weaker_one
-      earlier fits))
+      earlier (all_weaker Fits
+      (λ x. IsWeakerOf (fixed ++ last) (x, first_subset (length fixed + 1) last x)) earlier
+      weaker_one fits))
 
   pub earlier_ids : AllByRecursion (λ x. All (λ l. IsId l.variable) x) earlier
   earlier_ids =
       let few = (bound_is_formula profile p c h).few in
-      each Fits (λ x. All (λ l. IsId l.variable) x)
-      (λ x f. clause_ids (bound_as profile p c).variables x (omega arith) f.0) earlier fits
+      all_weaker Fits (λ x. All (λ l. IsId l.variable) x)
+      earlier (λ x f. clause_ids (bound_as profile p c).variables x (omega arith) f.0) fits
 
   some_each : AllByRecursion IsSomeClause weaker
   some_each = all_mapped IsSomeClause (λ x. (x, first_subset (length fixed + 1) last x)) earlier
-      (each Fits (λ x. is_empty_clause x ≡ false) (λ x f. f.2) earlier fits)
+      (all_weaker Fits (λ x. is_empty_clause x ≡ false) earlier (λ x f. f.2) fits)
 
   pub weaker_some : All IsSomeClause weaker
   weaker_some = All-from_recursion IsSomeClause weaker some_each

@@ -1,6 +1,7 @@
 -- From one bound to the next: the cost in hand is one more that was told.
 use Rattle.std.proofs.Common.{◌≡◌, ℕ, ◌+◌, ◌<◌, ◌≤◌, ◌^◌, Bool, true, false, List, [], ◌∷◌, ◌++◌}
-use Rattle.std.proofs.Common.{Result, Ok, Err, Some, length, append_assoc, length-append, sym, ◌∙◌, ap}
+use Rattle.std.proofs.Common.{Result, Ok, Err, Some, length, append_assoc, length-append, sym, ◌∙◌}
+use Rattle.std.proofs.Common.{ap}
 use Rattle.std.proofs.Common.{subst, arith}
 use Rattle.std.specs.Prelude.{All, OnOk, OnErr, IfOk, IfErr, is_err, if◌then◌else◌, sum_by}
 use Rattle.std.proofs.lemmas.List.Elements.{All-push}

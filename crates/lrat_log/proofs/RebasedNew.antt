@@ -10,6 +10,7 @@ use Rattle.std.proofs.lemmas.List.{map-append}
 use Rattle.cnf.specs.Literal.{Literal}
 use Rattle.cnf.specs.Refute.{Clauses}
 use Rattle.cnf.specs.Lrat.{Live, Chain, IsRup, start_of}
+use Rattle.cnf.proofs.Laws.{all_parts}
 use Rattle.lrat_log.specs.declared.lines.Name.{Name}
 use Rattle.lrat_log.specs.declared.lines.Name.TheVariants.{Formula, Added}
 use Rattle.lrat_log.specs.declared.lines.Hint.{Hint}
@@ -20,7 +21,7 @@ use Rattle.lrat_log.specs.Steps.{IsByRup, IsLogOver, LearnsNew}
 use Rattle.lrat_log.specs.Rebase.{WeakerList, weaker_line, moved_name, moved_hint, moved_line}
 use Rattle.lrat_log.specs.Rebase.{rebased, IsWeakerOf, KeepsLog}
 use Rattle.lrat_log.proofs.Names.{leading_names, group_names, group_by, leading_ids-names}
-use Rattle.lrat_log.proofs.Names.{group_ids-names, all_append, SameLive, LineKnown, rup_after}
+use Rattle.lrat_log.proofs.Names.{group_ids-names, SameLive, LineKnown, rup_after}
 use Rattle.lrat_log.proofs.Names.{leading_known, chain_end}
 use Rattle.lrat_log.proofs.NewLines.{later_true, none_new, append_new}
 use Rattle.lrat_log.proofs.RebasedLines.{learned_weaker}
@@ -93,7 +94,7 @@ module _ (first others : List (List Literal)) (ws : WeakerList)
       let front = chain_front a 0 (start_over before_move a) before rest left chain in
       let x =
       rebased_live ws first others weaker a (omega arith) before
-      (all_append (LineKnown a is_added) before rest known).0 front.0 front.1 in
+      (all_parts (LineKnown a is_added) before rest known).0 front.0 front.1 in
       let new =
       chain_end (start_of kept) (numbered_lines b (rebased (length first) ws before)) x.0 x.1 in
       let start = ap (λ s. live_after s (numbered_lines b (rebased (length first) ws before)))
@@ -144,7 +145,7 @@ module _ (first others : List (List Literal)) (ws : WeakerList)
       let at = log_live before_move a before in
       let bt = log_live (given_of kept) b (rebased (length first) ws before) in
       let move : LogLine → LogLine = moved_line (length first) (length ws) in
-      let known_line = (all_append (LineKnown a is_added) before (l ∷ ls) known).1.0 in
+      let known_line = (all_parts (LineKnown a is_added) before (l ∷ ls) known).1.0 in
       let parts = sym (append_assoc before (l ∷ []) ls) in
       let more = ap (λ x. map weaker_line ws ++ x) (map-append move before (l ∷ []))
       ∙ sym (append_assoc (map weaker_line ws) (map move before) (move l ∷ [])) in (

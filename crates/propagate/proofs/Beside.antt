@@ -3,10 +3,10 @@ use Rattle.std.proofs.Common.{◌≡◌, ◌≢◌, ℕ, true, false, List, [], 
 use Rattle.std.proofs.Common.{◌⊎◌, inl, inr, sym, ◌∙◌, subst}
 use Rattle.std.specs.Prelude.{All, MatchOption}
 use Rattle.std.specs.List.{AllByRecursion}
-use Rattle.std.proofs.lemmas.Bool.{or_cases, or_left, or_right, false≢true}
+use Rattle.std.proofs.lemmas.Bool.{or_cases, or_left, false≢true}
 use Rattle.cnf.specs.Literal.{Literal, literal_eq, negation}
 use Rattle.cnf.specs.Clause.{contains_literal}
-use Rattle.cnf.proofs.Laws.{literal_eq-true}
+use Rattle.cnf.proofs.Laws.{literal_eq-true, all_from}
 use Rattle.clauses.specs.Slots.{Slots, clause_at}
 use Rattle.propagate_watches.specs.declared.table.Rest.{Rest}
 use Rattle.propagate_watches.specs.declared.table.Rest.TheVariants.{Nothing, One, Many}
@@ -67,14 +67,6 @@ rest_third c one other x a b h = (
   ],
 )
 
-pub all_members : (P : Literal → Type 0) (c : List Literal)
-    → ((l : Literal) → contains_literal l c ≡ true → P l) → AllByRecursion P c
-all_members P [] f = tt
-all_members P (x ∷ c) f = (
-  f x (or_left (literal_eq x x) (contains_literal x c) (literal_eq-self x)),
-  all_members P c (λ l m. f l (or_right (literal_eq l x) (contains_literal l c) m)),
-)
-
 abbrev IsLeft : List Literal → Literal → Literal → Type 0
 IsLeft A o l = (l ≡ o) ⊎ (contains_literal (negation l) A ≡ true)
 
@@ -87,7 +79,7 @@ pub nothing_left : (A c : List Literal) (w o : Literal) → IsRest c w o Nothing
     → contains_literal (negation w) A ≡ true
     → AllByRecursion (λ l. (l ≡ o) ⊎ (contains_literal (negation l) A ≡ true)) c
 nothing_left A c w o h f =
-    all_members (IsLeft A o) c (λ l m. elim (h l m) [
+    all_from (IsLeft A o) c (λ l m. elim (h l m) [
       | inl e ↦ inr (false_too A w l e f)
       | inr e ↦ inl e
     ])
@@ -95,7 +87,7 @@ nothing_left A c w o h f =
 pub one_false : (A c : List Literal) (w o t : Literal) → IsRest c w o (One t)
     → contains_literal (negation w) A ≡ true → contains_literal (negation t) A ≡ true
     → AllByRecursion (λ l. (l ≡ o) ⊎ (contains_literal (negation l) A ≡ true)) c
-one_false A c w o t h f g = all_members (IsLeft A o) c (λ l m. elim (h.3 l m) [
+one_false A c w o t h f g = all_from (IsLeft A o) c (λ l m. elim (h.3 l m) [
   | inl e ↦ inr (false_too A w l e f)
   | inr k ↦ elim k [ inl e ↦ inl e | inr e ↦ inr (false_too A t l e g) ]
 ])

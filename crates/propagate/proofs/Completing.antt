@@ -2,18 +2,17 @@
 use Rattle.std.proofs.Common.{◌≡◌, ◌≢◌, ℕ, ◌+◌, ◌<◌, true, false, ◌||◌, List, [], ◌∷◌, ◌++◌, take}
 use Rattle.std.proofs.Common.{length, get_or, Some, ◌⊎◌, inl, inr, refl, sym, ◌∙◌, ap, subst, arith}
 use Rattle.std.specs.List.{AllByRecursion}
-use Rattle.std.proofs.lemmas.Bool.{cases_eq, cases_Bool, or_cases, false≢true, both_ways}
+use Rattle.std.proofs.lemmas.Bool.{cases_eq, cases_Bool, or_cases, both_ways}
 use Rattle.std.proofs.lemmas.List.{take_more, take_all, length-map, get_or_append_left}
 use Rattle.cnf.specs.Literal.{Literal, negation, literal_eq, index_of}
 use Rattle.cnf.specs.Clause.{contains_literal}
 use Rattle.cnf.specs.Refute.{IsUnit, IsFalseUnder}
-use Rattle.cnf.proofs.Laws.{literal_eq-true}
+use Rattle.cnf.proofs.Laws.{literal_eq-true, all_at}
 use Rattle.clauses.specs.Slots.{Slots, clause_at}
 use Rattle.propagate_watches.specs.declared.pool.Entry.{Entry}
 use Rattle.propagate_watches.specs.declared.table.Attachment.{Attachment}
 use Rattle.propagate_watches.specs.declared.table.Attachment.TheVariants.{Detached, Waiting}
-use Rattle.propagate_watches.specs.declared.table.Attachment.TheVariants.{Satisfied}
-use Rattle.propagate_watches.specs.declared.table.Attachment.TheVariants.{Watching}
+use Rattle.propagate_watches.specs.declared.table.Attachment.TheVariants.{Satisfied, Watching}
 use Rattle.propagate_watches.specs.Pool.{row_at}
 use Rattle.propagate_watches.specs.Table.{attachment_in}
 use Rattle.propagate.specs.Trail.{Assigned, literals_of, kept_to}
@@ -116,14 +115,6 @@ fits_advance e slots w d lt at row fits = record {
   waiting = fits.waiting;
   blockers = fits.blockers;
 }
-
-all_at : (P : Literal → Type 0) (c : List Literal) (k : Literal) → AllByRecursion P c
-    → contains_literal k c ≡ true → P k
-all_at P [] k h e = absurd (false≢true e)
-all_at P (x ∷ c) k h e = elim (or_cases (literal_eq k x) (contains_literal k c) e) [
-  | inl same ↦ subst P (sym (literal_eq-true k x same)) h.0
-  | inr later ↦ all_at P c k h.1 later
-]
 
 abbrev IsDone : List Literal → List Literal → Type 0
 IsDone c A = (IsFalseUnder c A → ⊥) × ((l : Literal) → IsUnit c A l → ⊥)

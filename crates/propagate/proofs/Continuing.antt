@@ -4,6 +4,7 @@ use Rattle.std.proofs.Common.{sym, ◌∙◌, ap, append_assoc}
 use Rattle.std.proofs.lemmas.Bool.{cases_eq}
 use Rattle.std.proofs.lemmas.List.{append-nil}
 use Rattle.cnf.specs.Literal.{Literal}
+use Rattle.cnf.proofs.Laws.{all_append}
 use Rattle.propagate_watches.specs.declared.pool.Entry.{Entry}
 use Rattle.propagate_watches.specs.declared.table.Attachment.{Attachment}
 use Rattle.propagate_watches.specs.declared.table.Attachment.TheVariants.{Waiting}
@@ -15,7 +16,6 @@ use Rattle.propagate.specs.Steps.{Continues, with_trail}
 use Rattle.propagate.proofs.Trails.{made}
 use Rattle.propagate.proofs.Attachments.{with_watches}
 use Rattle.propagate.proofs.Fitting.{with_progress}
-use Rattle.propagate.proofs.Facts.{all_join}
 use Rattle.propagate.proofs.Attaching.{kept_within}
 
 -- neither the trail nor an attachment changes
@@ -38,7 +38,7 @@ pub continues_then : (e f g : EngineState) → Continues e f → Continues f g �
 continues_then e f g a b = record {
   more = a.more ++ b.more;
   grown = b.grown ∙ ap (λ T. T ++ b.more) a.grown ∙ append_assoc e.trail a.more b.more;
-  forced = all_join (λ (x : Assigned). is_decision x ≡ false) a.more b.more a.forced b.forced;
+  forced = all_append (λ (x : Assigned). is_decision x ≡ false) a.more b.more a.forced b.forced;
   variables = b.variables ∙ a.variables;
   failed = b.failed ∙ a.failed;
   attached = λ r. b.attached r ∙ a.attached r;

@@ -4,12 +4,13 @@ use Rattle.std.specs.List.{AllByRecursion}
 use Rattle.std.proofs.lemmas.List.Elements.{recursion_from_All}
 use Rattle.cnf.specs.Literal.{Literal}
 use Rattle.cnf.specs.Refute.{Clauses}
+use Rattle.cnf.proofs.Laws.{all_weaker}
 use Rattle.clauses.specs.Slots.{clause_at}
 use Rattle.propagate_watches.specs.Pool.{row_at}
 use Rattle.propagate.specs.Trail.{Assigned, HasReasons, IsJustified}
 use Rattle.propagate.specs.Watches.{is_attached}
 use Rattle.propagate.specs.Fits.{FitsIsLocal, HasBlocker}
-use Rattle.propagate.proofs.Facts.{all_weaker, some_weaker}
+use Rattle.propagate.proofs.Facts.{some_weaker}
 
 pub justified_at : (at at' : Clauses) (A : List Literal) (l : Literal) (reason : Option ℕ)
     → IfSome reason (λ r. at' r ≡ at r)

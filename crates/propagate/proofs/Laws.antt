@@ -1,7 +1,6 @@
 -- The laws of this crate that other crates cite, from one place.
 pub use Rattle.propagate.proofs.Added.{added_live, fits_added, new_is_detached}
 pub use Rattle.propagate.proofs.Compacting.{reasons_listed}
-pub use Rattle.propagate.proofs.Facts.{all_join, all_weaker}
 pub use Rattle.propagate.proofs.FitsLaws.{fits_local}
 pub use Rattle.propagate.proofs.Kept.{contains_at, contains_back, contains_front, contains_take}
 pub use Rattle.propagate.proofs.Kept.{in_kept, kept_kept, kept_low, kept_prefix, literals-append}

@@ -9,7 +9,7 @@ use Rattle.std.proofs.lemmas.List.Elements.{recursion_from_All}
 use Rattle.cnf.specs.Literal.{Literal, negation, literal_eq}
 use Rattle.cnf.specs.Clause.{contains_literal, greatest_variable}
 use Rattle.cnf.specs.Refute.{Clauses, IsUnit, IsFalseUnder}
-use Rattle.cnf.proofs.Laws.{literal_eq-true}
+use Rattle.cnf.proofs.Laws.{literal_eq-true, all_weaker}
 use Rattle.clauses.specs.Slots.{Slots, clause_at}
 use Rattle.propagate_watches.specs.declared.table.Attachment.{Attachment}
 use Rattle.propagate_watches.specs.declared.table.Attachment.TheVariants.{Waiting}
@@ -19,7 +19,6 @@ use Rattle.propagate.specs.Watches.{EngineState, IsVariable, is_attached}
 use Rattle.propagate.specs.Fits.{Fits, IsWithin}
 use Rattle.propagate.proofs.Trails.{open_at}
 use Rattle.propagate.proofs.Reasons.{no_opposites}
-use Rattle.propagate.proofs.Facts.{all_weaker}
 
 pub within_variable : (v : ℕ) (c : List Literal) (l : Literal) → IsWithin v c
     → contains_literal l c ≡ true → IsVariable v l

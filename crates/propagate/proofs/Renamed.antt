@@ -10,13 +10,13 @@ use Rattle.std.proofs.lemmas.List.Elements.{recursion_from_All, All-from_recursi
 use Rattle.std.proofs.Math.ListN.{get_or-map}
 use Rattle.cnf.specs.Literal.{Literal}
 use Rattle.cnf.specs.Refute.{Clauses}
+use Rattle.cnf.proofs.Laws.{all_weaker}
 use Rattle.clauses.specs.Slots.{Slots, clause_at, Renaming, renamed, IsRenaming}
 use Rattle.clauses.proofs.Laws.{same_origin, same_clause}
 use Rattle.propagate_watches.specs.declared.pool.Entry.{Entry}
 use Rattle.propagate_watches.specs.declared.table.Attachment.{Attachment}
 use Rattle.propagate_watches.specs.declared.table.Attachment.TheVariants.{Detached, Waiting}
-use Rattle.propagate_watches.specs.declared.table.Attachment.TheVariants.{Satisfied}
-use Rattle.propagate_watches.specs.declared.table.Attachment.TheVariants.{Watching}
+use Rattle.propagate_watches.specs.declared.table.Attachment.TheVariants.{Satisfied, Watching}
 use Rattle.propagate_watches.specs.Pool.{row_at}
 use Rattle.propagate_watches.specs.Table.{IsWatching, is_kept, attachment_in}
 use Rattle.propagate_watches.specs.Renames.{IsMoved, named, named_entry, named_rows}
@@ -28,7 +28,7 @@ use Rattle.propagate.specs.Fits.{FitsAttachment, FitsMoved, MovesAttached, HasBl
 use Rattle.propagate.specs.Renames.{named_reason, named_trail}
 use Rattle.propagate.proofs.Attachments.{count-cons, one-same, one-other}
 use Rattle.propagate.proofs.Naming.{literals_named, kept_named, named_assigned}
-use Rattle.propagate.proofs.Facts.{all_weaker, some_weaker}
+use Rattle.propagate.proofs.Facts.{some_weaker}
 
 -- the engine with this table, under new names
 abbrev pub engine_named : EngineState → Renaming → List Attachment → EngineState

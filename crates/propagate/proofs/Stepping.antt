@@ -11,13 +11,12 @@ use Rattle.std.proofs.lemmas.List.Sums.{sum_by-append}
 use Rattle.cnf.specs.Literal.{Literal, negation, index_of, literal_eq}
 use Rattle.cnf.specs.Clause.{contains_literal}
 use Rattle.cnf.specs.Refute.{IsUnit}
-use Rattle.cnf.proofs.Laws.{index_same}
+use Rattle.cnf.proofs.Laws.{index_same, all_weaker, all_left, all_right, all_append}
 use Rattle.clauses.specs.Slots.{Slots, clause_at}
 use Rattle.propagate_watches.specs.declared.pool.Entry.{Entry}
 use Rattle.propagate_watches.specs.declared.table.Attachment.{Attachment}
 use Rattle.propagate_watches.specs.declared.table.Attachment.TheVariants.{Detached, Waiting}
-use Rattle.propagate_watches.specs.declared.table.Attachment.TheVariants.{Satisfied}
-use Rattle.propagate_watches.specs.declared.table.Attachment.TheVariants.{Watching}
+use Rattle.propagate_watches.specs.declared.table.Attachment.TheVariants.{Satisfied, Watching}
 use Rattle.propagate_watches.specs.declared.table.Rest.{Rest}
 use Rattle.propagate_watches.specs.declared.table.Rest.TheVariants.{Nothing, One, Many}
 use Rattle.propagate_watches.specs.Pool.{row_at, with_row, closed_row}
@@ -30,7 +29,6 @@ use Rattle.propagate.specs.Watches.{one_at, count_in}
 use Rattle.propagate.specs.Fits.{Fits, FitsAttachment, IsRest, IsWatch, HasBlocker}
 use Rattle.propagate.specs.Steps.{with_rows, with_trail, closed, entry_of, moved, InRow, IsWatched}
 use Rattle.propagate.specs.Steps.{IsTrueIn, IsTrueEntry, MayBeWatched}
-use Rattle.propagate.proofs.Facts.{all_weaker, all_left, all_right, all_join}
 use Rattle.propagate.proofs.Literals.{index-within, literal_eq-self}
 use Rattle.propagate.proofs.Trails.{made}
 use Rattle.propagate.proofs.Kept.{contains_take, contains_front, contains_back, kept_prefix}
@@ -251,8 +249,8 @@ keep_row slots e w write read x b inv st lt at is_true =
             | inl same ↦ subst (λ z. AllByRecursion (HasBlocker ce slots)
                 (row_at ce'.watches.rows z)) (sym same)
                 (subst (AllByRecursion (HasBlocker ce slots)) (sym split')
-                (all_join (HasBlocker ce slots) (A ++ y ∷ []) B
-                (all_join (HasBlocker ce slots) A (y ∷ [])
+                (all_append (HasBlocker ce slots) (A ++ y ∷ []) B
+                (all_append (HasBlocker ce slots) A (y ∷ [])
                 (all_left (HasBlocker ce slots) A (x ∷ B) old) (hy, tt))
                 (all_right (HasBlocker ce slots) A (x ∷ B) old).1))
             | inr ne ↦ subst (AllByRecursion (HasBlocker ce slots)) (sym (elsewhere k ne))
@@ -264,7 +262,7 @@ keep_row slots e w write read x b inv st lt at is_true =
       kept =
           subst (AllByRecursion (IsTrueEntry slots (literals_of e.trail)))
           (sym (ap (take (write + 1)) here ∙ front))
-          (all_join (IsTrueEntry slots (literals_of e.trail)) A (y ∷ []) st.kept
+          (all_append (IsTrueEntry slots (literals_of e.trail)) A (y ∷ []) st.kept
           ((λ c live. (b, (is_true c live).0, (is_true c live).1)), tt));
       order = let o = st.order in omega arith;
       within = subst (λ z. read + 1 ≤ length z) (sym here) (omega arith);
@@ -569,12 +567,12 @@ rewatch_row slots e w write read x other l inv st lt at by apart may =
     (elim (cases_eq k i) [
       | inl same ↦ subst (λ z. AllByRecursion (HasBlocker ce slots) (row_at ce'.watches.rows z))
           (sym same) (subst (AllByRecursion (HasBlocker ce slots)) (sym split')
-          (all_join (HasBlocker ce slots) A B (all_left (HasBlocker ce slots) A (x ∷ B) old)
+          (all_append (HasBlocker ce slots) A B (all_left (HasBlocker ce slots) A (x ∷ B) old)
           (all_right (HasBlocker ce slots) A (x ∷ B) old).1))
       | inr ni ↦ elim (cases_eq k j) [
         | inl same ↦ subst (λ z. AllByRecursion (HasBlocker ce slots) (row_at ce'.watches.rows z))
             (sym same) (subst (AllByRecursion (HasBlocker ce slots)) (sym (other_row j ne ∙ grown))
-            (all_join (HasBlocker ce slots) (row_at R j) (y ∷ [])
+            (all_append (HasBlocker ce slots) (row_at R j) (y ∷ [])
             (subst (AllByRecursion (HasBlocker ce slots)) (row_closed_other e i write read j ne)
             (st.fits.blockers j)) (hy, tt)))
         | inr nj ↦ subst (AllByRecursion (HasBlocker ce slots))

@@ -9,6 +9,7 @@ use Rattle.std.proofs.lemmas.List.{get_or-set_same, get_or-set_other, length-set
 use Rattle.std.proofs.lemmas.List.{set-get_or, take_at}
 use Rattle.cnf.specs.Literal.{Literal, negation, index_of}
 use Rattle.cnf.specs.Clause.{contains_literal}
+use Rattle.cnf.proofs.Laws.{all_append}
 use Rattle.clauses.specs.Slots.{Slots, clause_at}
 use Rattle.propagate_watches.specs.declared.pool.Entry.{Entry}
 use Rattle.propagate_watches.specs.declared.table.Rest.{Rest}
@@ -33,7 +34,6 @@ use Rattle.propagate.proofs.Attachments.{one-other}
 use Rattle.propagate.proofs.Attaching.{kept_within}
 use Rattle.propagate.proofs.Looking.{within_variable, unit_left, one_left, true_value}
 use Rattle.propagate.proofs.Stepping.{count-append, open_watch, last_true}
-use Rattle.propagate.proofs.Facts.{all_join}
 use Rattle.propagate.proofs.Continuing.{continues_unit, continues_same}
 use Rattle.propagate.proofs.Fitting.{fits_grow}
 use Rattle.propagate.proofs.Trails.{made}
@@ -94,7 +94,7 @@ all_pushed P R l w lt h all k = elim (cases_eq k (index_of l)) [
   | inl at ↦ subst (λ z. AllByRecursion P (row_at (pushed R l w) z)) (sym at)
       (subst (AllByRecursion P)
       (sym (get_or-set_same R (index_of l) (row_at R (index_of l) ++ w ∷ []) [] lt))
-      (all_join P (row_at R (index_of l)) (w ∷ []) (all (index_of l)) (h, tt)))
+      (all_append P (row_at R (index_of l)) (w ∷ []) (all (index_of l)) (h, tt)))
   | inr ne ↦ subst (AllByRecursion P)
       (sym (get_or-set_other R (index_of l) k (row_at R (index_of l) ++ w ∷ []) [] ne)) (all k)
 ]

@@ -1,6 +1,6 @@
 -- The trail: the literals that are true, in the order in which they became so.
 use Rattle.std.specs.Prelude.{◌≡◌, ℕ, ◌+◌, Bool, true, false, List, [], ◌∷◌, map, Option, Some}
-use Rattle.std.specs.Prelude.{None, is_none, ◌==◌, nat_le, if◌then◌else◌, count_by}
+use Rattle.std.specs.Prelude.{None, is_none, unwrap_or, ◌==◌, nat_le, if◌then◌else◌, count_by}
 use Rattle.cnf.specs.Literal.{Literal, negation}
 use Rattle.cnf.specs.Clause.{contains_literal}
 use Rattle.cnf.specs.Refute.{Clauses, IsUnit}
@@ -35,6 +35,10 @@ level_from level (a ∷ trail) v = if a.literal.variable == v then Some (level_a
 
 abbrev pub level_in : List Assigned → ℕ → Option ℕ
 level_in trail v = level_from 0 trail v
+
+-- the level of a literal that has a value
+abbrev pub level_of : List Assigned → Literal → ℕ
+level_of trail l = unwrap_or (level_in trail l.variable) 0
 
 -- how many literals stand before the variable's, where it has one
 abbrev pub position_from : ℕ → List Assigned → ℕ → Option ℕ

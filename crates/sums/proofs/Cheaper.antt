@@ -10,8 +10,9 @@ use Rattle.std.proofs.lemmas.Bool.{false≢true, leb-true, leb-false}
 use Rattle.std.proofs.lemmas.List.Elements.{All-from_recursion, recursion_from_All, All-weaker}
 use Rattle.cnf.specs.Literal.{Assignment, Literal, positive}
 use Rattle.cnf.specs.Clause.{Satisfies, greatest_variable}
-use Rattle.cnf.specs.Problem.{Problem, SoftClause, IsFeasible, cost_under}
+use Rattle.cnf.specs.Problem.{Problem, SoftClause, IsFeasible, cost_under, AreWithin}
 use Rattle.cnf.specs.Instance.{IsInstance, IsClauseWithin}
+use Rattle.cnf.proofs.Laws.{all_append, all_parts}
 use Rattle.sums_tree.specs.Tree.{Tree, groups_of}
 use Rattle.sums_tree.specs.Groups.{placed}
 use Rattle.sums_tree.specs.Arranging.{IsArrangement}
@@ -19,7 +20,6 @@ use Rattle.sums.specs.Sums.{AtLeast, Node, root, comparator, at_most, relaxed}
 use Rattle.sums.specs.Sums.{relaxed_from, IsArrangedBy, AreSmall, no, not_number, none_above, ones}
 use Rattle.sums.specs.Sums.{with_digit, led, digit_clauses, low_clauses}
 use Rattle.sums.specs.Sums.{cheaper_clauses, SumsSayCheaper, first_small, sums_over, tree_weight}
-use Rattle.sums.proofs.Numbers.{all_append, all_parts}
 use Rattle.sums.proofs.Worth.{Hold, worth}
 use Rattle.sums.proofs.Shape.{IsDigit, IsShaped, node_shaped}
 use Rattle.sums.proofs.Enough.{whole_worth, node_enough}
@@ -29,11 +29,8 @@ use Rattle.sums.proofs.Short.{top_short, comparator_short}
 use Rattle.sums.proofs.Variables.{ListOf, ClauseOf, ClausesOf, node_grows, node_of}
 use Rattle.sums.proofs.Extends.{Below, ExactDigits, NodeExtends, hold_same}
 use Rattle.sums.proofs.Nodes.{node_extends}
-use Rattle.sums.proofs.Costs.{cost_le, gives_up, given_below, given_clause, AreWithin}
-use Rattle.sums.proofs.Costs.{given_relaxed}
-use Rattle.sums.proofs.Costs.{given_cost, gives_once, tree_of, arranged_places}
-use Rattle.sums.proofs.Costs.{whole_cost}
-use Rattle.sums.proofs.Costs.{cost_at}
+use Rattle.sums.proofs.Costs.{cost_le, gives_up, given_below, given_clause, given_relaxed}
+use Rattle.sums.proofs.Costs.{given_cost, gives_once, tree_of, arranged_places, whole_cost, cost_at}
 
 -- what is known of the sums at a root
 pub record Counting (p : Problem) (n : Node) : Type 0 where

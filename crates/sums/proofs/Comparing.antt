@@ -13,9 +13,9 @@ use Rattle.std.proofs.lemmas.List.Folds.{list_any-append}
 use Rattle.cnf.specs.Numbers.{one_if, RisesFrom}
 use Rattle.cnf.specs.Literal.{Assignment, Literal, literal_value}
 use Rattle.cnf.specs.Clause.{Satisfies, clause_value}
+use Rattle.cnf.proofs.Laws.{all_append, all_parts, all_weaker, one_if_le}
 use Rattle.sums.specs.Sums.{AtLeast, Node, no, numbers, with_digit, ones, led, digit_clauses}
 use Rattle.sums.specs.Sums.{low_clauses, none_above, not_number, at_most}
-use Rattle.sums.proofs.Numbers.{all_append, all_parts, all_weaker}
 use Rattle.sums.proofs.Worth.{Hold, worth, worth_le}
 use Rattle.sums.proofs.Shape.{IsDigit, IsShaped}
 use Rattle.sums.proofs.Enough.{whole_worth}
@@ -69,10 +69,6 @@ digit_is t r [] h = by (t r.variable) h.0.numbers.0
     by true e = omega arith
     by false e = omega arith
 digit_is t r (x ∷ rs) h = absurd (omega (arith, h.1))
-
-one_if_le : (b : Bool) → one_if b ≤ 1
-one_if_le true = omega arith
-one_if_le false = omega arith
 
 pub digit_le : (t : Assignment) (xs : List AtLeast) → IsDigit 0 xs → worth t xs ≤ 1
 digit_le t [] h = omega arith

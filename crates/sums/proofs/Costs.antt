@@ -7,7 +7,7 @@ use Rattle.std.proofs.Common.{None, slice_get, get_or, nat_le, if◌then◌else�
 use Rattle.std.proofs.Common.{sym}
 use Rattle.std.proofs.Common.{◌∙◌, ap, subst, arith, append_assoc}
 use Rattle.std.specs.List.{AllByRecursion, flat_map}
-use Rattle.std.proofs.lemmas.Bool.{false≢true, true≢false, or_left, or_right, or_cases, cases_Bool}
+use Rattle.std.proofs.lemmas.Bool.{false≢true, true≢false}
 use Rattle.std.proofs.lemmas.Bool.{le-leb, lt-leb, cases_lt}
 use Rattle.std.proofs.lemmas.Grind.{flat_map-append}
 use Rattle.std.proofs.lemmas.List.{length-append}
@@ -18,52 +18,23 @@ use Rattle.std.proofs.lemmas.List.Sums.{sum_by-cons, sum_by-append}
 use Rattle.std.proofs.lemmas.Option.{slice_get_past}
 use Rattle.std.proofs.lemmas.List.Concat.{flat_map-cons}
 use Rattle.cnf.specs.Numbers.{one_if}
-use Rattle.cnf.specs.Literal.{Assignment, Literal, literal_value, literal_eq, negation, positive}
-use Rattle.cnf.specs.Clause.{clause_value, contains_literal, has_opposites}
-use Rattle.cnf.specs.Clause.{greatest_variable}
-use Rattle.cnf.specs.Problem.{Problem, SoftClause, IsFeasible, cost_under}
-use Rattle.cnf.proofs.Laws.{literal_eq-true, negation-value}
+use Rattle.cnf.specs.Literal.{Assignment, Literal, literal_value, positive, SameBelow}
+use Rattle.cnf.specs.Clause.{clause_value, has_opposites, greatest_variable}
+use Rattle.cnf.specs.Problem.{Problem, SoftClause, IsFeasible, cost_under, cost_of, AreWithin}
+use Rattle.cnf.proofs.Laws.{all_parts, opposites_true}
 use Rattle.sums_tree.specs.Tree.{Tree, Leaf, Fork, groups_of}
 use Rattle.sums_tree.specs.Groups.{Placed, placed_from, placed}
 use Rattle.sums_tree.specs.Arranging.{is_false, IsArrangement}
 use Rattle.sums.specs.Sums.{member, members, weights, relaxed_from, relaxed}
-use Rattle.sums.proofs.Numbers.{all_parts}
 use Rattle.sums.proofs.Worth.{Hold, worth}
 use Rattle.sums.proofs.Enough.{tree_worth}
 use Rattle.sums.proofs.Variables.{ListOf, ClauseOf, TreeOf}
-use Rattle.sums.proofs.Extends.{SameBelow, Below, clause_same, given, number_if}
+use Rattle.sums.proofs.Extends.{Below, clause_same, given, number_if}
 use Rattle.sums.proofs.Nodes.{trues, tree_given, GivesOnce}
-
--- a clause with an opposite pair is true
-contained_true : (t : Assignment) (l : Literal) (c : List Literal) → contains_literal l c ≡ true
-    → literal_value t l ≡ true → clause_value t c ≡ true
-contained_true t l [] h e = absurd (false≢true h)
-contained_true t l (k ∷ c) h e =
-    elim (or_cases (literal_eq l k) (contains_literal l c) h) [
-      | inl here ↦ or_left (literal_value t k) (clause_value t c)
-          (subst (λ m. literal_value t m ≡ true) (literal_eq-true l k here) e)
-      | inr more ↦ or_right (literal_value t k) (clause_value t c) (contained_true t l c more e)
-    ]
-
-opposites_true : (t : Assignment) (c : List Literal) → has_opposites c ≡ true
-    → clause_value t c ≡ true
-opposites_true t [] h = absurd (false≢true h)
-opposites_true t (l ∷ c) h =
-    elim (or_cases (contains_literal (negation l) c) (has_opposites c) h) [
-      | inl here ↦ elim (cases_Bool (literal_value t l)) [
-        | inl on ↦ or_left (literal_value t l) (clause_value t c) on
-        | inr off ↦ or_right (literal_value t l) (clause_value t c)
-            (contained_true t (negation l) c here (negation-value t l off))
-      ]
-      | inr more ↦ or_right (literal_value t l) (clause_value t c) (opposites_true t c more)
-    ]
 
 -- the cost of the soft clause at a place
 abbrev pub cost_at : Problem → Assignment → ℕ → ℕ
 cost_at p t i = if is_false p t i then get_or (weights p) i 0 else 0
-
-abbrev cost_of : Assignment → SoftClause → ℕ
-cost_of t s = if clause_value t s.clause then 0 else s.weight
 
 -- soft clauses by their places
 get_seam : (pre ss : List SoftClause) (s : SoftClause) (i : ℕ) → length pre ≡ i
@@ -333,10 +304,6 @@ pub given_clause : (p : Problem) (u : Assignment) (c : List Literal)
 given_clause p u c h =
     clause_same (p.variables + 1) u (gives_up p u) c (clause_below p.variables c h) (given_below p
     u)
-
--- the soft clauses name variables of the instance
-abbrev pub AreWithin : ℕ → List SoftClause → Type 0
-AreWithin n ss = AllByRecursion (λ s. greatest_variable s.clause ≤ n) ss
 
 relaxed_hold : (p : Problem) (u : Assignment) (i v : ℕ) (ss : List SoftClause) → IsRest p u i ss
     → v ≡ (p.variables + 1) + i → AreWithin p.variables ss

@@ -10,11 +10,10 @@ use Rattle.std.proofs.lemmas.Bool.{or_left, or_right, cases_lt}
 use Rattle.std.proofs.lemmas.List.Folds.{list_any-append}
 use Rattle.std.proofs.lemmas.List.Elements.{All-from_recursion}
 use Rattle.cnf.specs.Literal.{Literal, literal_eq}
-use Rattle.cnf.specs.Clause.{contains_literal, is_subset}
-use Rattle.cnf.proofs.Laws.{literal_eq-refl}
+use Rattle.cnf.specs.Clause.{contains_literal, is_subset, IsCovered}
+use Rattle.cnf.proofs.Laws.{literal_eq-refl, all_append, all_weaker}
 use Rattle.sums.specs.Sums.{AtLeast, Node, no, with_digit, ones, led, digit_clauses, low_clauses}
-use Rattle.sums.specs.Sums.{none_above, not_number, at_most, comparator, IsCovered, CoversLarger}
-use Rattle.sums.proofs.Numbers.{all_append, all_weaker}
+use Rattle.sums.specs.Sums.{none_above, not_number, at_most, comparator, CoversLarger}
 use Rattle.sums.proofs.Comparing.{high_part, high_is}
 
 -- subsets by their literals
@@ -42,12 +41,6 @@ in_left c d =
     all_weaker (λ k. contains_literal k c ≡ true) (λ k. contains_literal k (c ++ d) ≡ true) c
     (λ k e. list_any-append (literal_eq k) c d
     ∙ or_left (contains_literal k c) (contains_literal k d) e) (in_self c)
-
-in_right : (c d : List Literal) → AreIn d (c ++ d)
-in_right c d =
-    all_weaker (λ k. contains_literal k d ≡ true) (λ k. contains_literal k (c ++ d) ≡ true) d
-    (λ k e. list_any-append (literal_eq k) c d
-    ∙ or_right (contains_literal k c) (contains_literal k d) e) (in_self d)
 
 -- covered by one list of clauses, or by one behind it
 abbrev AreCovered : List (List Literal) → List (List Literal) → Type 0

@@ -8,17 +8,14 @@ use Rattle.std.proofs.lemmas.Bool.{ltb-false}
 use Rattle.cnf.specs.Literal.{Assignment}
 use Rattle.cnf.specs.Clause.{Satisfies}
 use Rattle.cnf.specs.Problem.{Problem}
+use Rattle.cnf.proofs.Laws.{all_parts}
 use Rattle.sums_tree.specs.Tree.{Tree, Leaf, Fork}
 use Rattle.sums.specs.Sums.{AtLeast, join, Own, Both, own_list, split, with_carries}
 use Rattle.sums.specs.Sums.{members, counted, lowest, without_lowest, digits_of, rest_of}
-use Rattle.sums.specs.Sums.{both_digits}
-use Rattle.sums.specs.Sums.{most_below, node}
-use Rattle.sums.proofs.Numbers.{all_parts}
+use Rattle.sums.specs.Sums.{both_digits, most_below, node}
 use Rattle.sums.proofs.Worth.{Hold, worth, IsOrdered, join_worth, least, IsOrderedOwn}
-use Rattle.sums.proofs.Worth.{own_list_worth}
-use Rattle.sums.proofs.Worth.{split_worth}
-use Rattle.sums.proofs.Shape.{IsCounting, Counts, room, own_counts, join_counts}
-use Rattle.sums.proofs.Shape.{split_counts}
+use Rattle.sums.proofs.Worth.{own_list_worth, split_worth}
+use Rattle.sums.proofs.Shape.{IsCounting, Counts, room, own_counts, join_counts, split_counts}
 use Rattle.sums.proofs.Shape.{digits_counting, both_counting, node_shaped}
 
 -- the worth of the lists of a node, and that of which they are made

@@ -10,35 +10,19 @@ use Rattle.std.proofs.lemmas.Bool.{eq-eqb, ne_eqb, leb-true, leb-false, le-leb, 
 use Rattle.std.proofs.lemmas.Bool.{false≢true, cases_lt}
 use Rattle.std.proofs.lemmas.List.Sums.{sum_by-cons}
 use Rattle.cnf.specs.Numbers.{RisesFrom}
-use Rattle.cnf.specs.Literal.{Assignment, Literal, literal_value}
+use Rattle.cnf.specs.Literal.{Assignment, Literal, literal_value, put, SameBelow}
 use Rattle.cnf.specs.Clause.{Satisfies, clause_value}
+use Rattle.cnf.proofs.Laws.{all_append, all_parts, all_weaker, put_here, put_other}
 use Rattle.sums.specs.Sums.{AtLeast, Split, no, put_number, rising, named_from, literal_of}
 use Rattle.sums.specs.Sums.{own_clauses, order_after, order_clauses, numbers, sums_with}
 use Rattle.sums.specs.Sums.{sum_clauses}
 use Rattle.sums.specs.Sums.{joined, join, grouped, group_list, Own, Members, Both, own_list}
 use Rattle.sums.specs.Sums.{odd_clauses, halves, split, Node}
-use Rattle.sums.proofs.Numbers.{all_append, all_weaker, has, rising_rises, CountsFrom}
-use Rattle.sums.proofs.Numbers.{numbers-named}
-use Rattle.sums.proofs.Numbers.{put_cases, all_parts}
+use Rattle.sums.proofs.Numbers.{has, rising_rises, CountsFrom, numbers-named, put_cases}
 use Rattle.sums.proofs.Worth.{Hold, literal_at, HasNumbers, named_has, joined_numbers}
-use Rattle.sums.proofs.Shape.{room}
-use Rattle.sums.proofs.Shape.{halves_length}
-use Rattle.sums.proofs.Shape.{ArePositive}
+use Rattle.sums.proofs.Shape.{room, halves_length, ArePositive}
 use Rattle.sums.proofs.Variables.{ListOf, ClauseOf, ClausesOf, OwnOf}
 use Rattle.sums.proofs.Comparing.{IsExact}
-
--- the assignment with one value changed; two that agree below n
-abbrev pub put : Assignment → ℕ → Bool → Assignment
-put t n b v = if v == n then b else t v
-
-pub put_here : (t : Assignment) (n : ℕ) (b : Bool) → put t n b n ≡ b
-put_here t n b = ap (λ c. if c then b else t n) (eq-eqb n n refl)
-
-pub put_other : (t : Assignment) (n v : ℕ) (b : Bool) → (v ≡ n → ⊥) → put t n b v ≡ t v
-put_other t n v b h = ap (λ c. if c then b else t v) (ne_eqb v n h)
-
-abbrev pub SameBelow : ℕ → Assignment → Assignment → Type 0
-SameBelow n t u = (v : ℕ) → v < n → u v ≡ t v
 
 abbrev pub Below : ℕ → ℕ → Type 0
 Below n v = v < n

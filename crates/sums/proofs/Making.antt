@@ -166,12 +166,6 @@ join_as v [] ys us vs e f h g = absurd (omega arith)
 join_as v (x ∷ xs) [] us vs e f h g = absurd (omega arith)
 join_as v (x ∷ xs) (y ∷ ys) us vs e f h g = λ i. joined v (e i) (f i)
 
-pub group_as : (v : ℕ) (xs us : List AtLeast) → us ≡ xs → 2 ≤ length xs
-    → grouped v us ≡ group_list v xs
-group_as v [] us e h = absurd (omega arith)
-group_as v (x ∷ []) us e h = absurd (omega arith)
-group_as v (x ∷ y ∷ more) us e h = ap (grouped v) e
-
 -- no room for some of the clauses is no room for all
 pub too_many : (n k m : ℕ) (b : Bool) → ((b ≡ true) ↔ (n + k ≤ 131072)) → b ≡ false → k ≤ m
     → 131072 < n + m

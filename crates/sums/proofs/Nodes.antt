@@ -8,15 +8,14 @@ use Rattle.std.specs.List.{AllByRecursion}
 use Rattle.std.proofs.lemmas.Bool.{ltb-false}
 use Rattle.std.proofs.lemmas.List.Sums.{sum_by-cons}
 use Rattle.cnf.specs.Numbers.{one_if}
-use Rattle.cnf.specs.Literal.{Assignment}
+use Rattle.cnf.specs.Literal.{Assignment, SameBelow}
 use Rattle.cnf.specs.Clause.{Satisfies}
 use Rattle.cnf.specs.Problem.{Problem}
+use Rattle.cnf.proofs.Laws.{all_append, all_weaker}
 use Rattle.sums_tree.specs.Tree.{Tree, Leaf, Fork}
 use Rattle.sums.specs.Sums.{AtLeast, join, Own, Both, own_list, split, Node, with_carries}
 use Rattle.sums.specs.Sums.{members, counted, lowest, without_lowest, digits_of, rest_of}
-use Rattle.sums.specs.Sums.{both_digits}
-use Rattle.sums.specs.Sums.{most_below, node}
-use Rattle.sums.proofs.Numbers.{all_append, all_weaker}
+use Rattle.sums.specs.Sums.{both_digits, most_below, node}
 use Rattle.sums.proofs.Worth.{Hold}
 use Rattle.sums.proofs.Shape.{Counts, IsCounting, room, room_of, own_counts, join_counts}
 use Rattle.sums.proofs.Shape.{split_counts, digits_counting, rest_rising, both_counting}
@@ -25,9 +24,8 @@ use Rattle.sums.proofs.Variables.{ListOf, OwnOf, TreeOf, join_of, own_list_of, s
 use Rattle.sums.proofs.Variables.{digits_of_of, rest_of_of, both_of, node_of, own_grows}
 use Rattle.sums.proofs.Variables.{join_grows, split_grows, node_grows}
 use Rattle.sums.proofs.Comparing.{IsExact}
-use Rattle.sums.proofs.Extends.{SameBelow, Below, same_on, list_below, hold_same, exact_same}
-use Rattle.sums.proofs.Extends.{none_from, ExactOwns}
-use Rattle.sums.proofs.Extends.{ExactDigits}
+use Rattle.sums.proofs.Extends.{Below, same_on, list_below, hold_same, exact_same}
+use Rattle.sums.proofs.Extends.{none_from, ExactOwns, ExactDigits}
 use Rattle.sums.proofs.Extends.{NodeExtends, own_extends, join_extends, split_extends, owns_same}
 use Rattle.sums.proofs.Extends.{own_below, digits_same, given, given_same, number_if}
 

@@ -1,6 +1,6 @@
 -- Numbers by rising size, each once, and lists of numbers without a gap.
 use Rattle.std.proofs.Common.{◌≡◌, ℕ, zero, suc, ◌+◌, ◌<◌, ◌≤◌, Bool, true, false, ◌==◌, List}
-use Rattle.std.proofs.Common.{[], ◌∷◌, ◌++◌, length, map, nat_lt, if◌then◌else◌, inl, inr, refl}
+use Rattle.std.proofs.Common.{[], ◌∷◌, length, map, nat_lt, if◌then◌else◌, inl, inr, refl}
 use Rattle.std.proofs.Common.{sym}
 use Rattle.std.proofs.Common.{◌∙◌, ap, subst, arith}
 use Rattle.std.specs.List.{AllByRecursion, list_any}
@@ -9,25 +9,8 @@ use Rattle.std.proofs.lemmas.Bool.{or_right, or_cases, false≢true, cases_lt}
 use Rattle.std.proofs.lemmas.List.{length-map}
 use Rattle.std.proofs.lemmas.List.Folds.{list_any-append}
 use Rattle.cnf.specs.Numbers.{RisesFrom}
+use Rattle.cnf.proofs.Laws.{all_append, all_weaker}
 use Rattle.sums.specs.Sums.{AtLeast, put_number, rising, named_from, numbers, sums_with}
-
--- all of two lists, and all of a list of more
-pub all_append : {X : Type 0} (P : X → Type 0) (xs ys : List X) → AllByRecursion P xs
-    → AllByRecursion P ys → AllByRecursion P (xs ++ ys)
-all_append P [] ys h g = g
-all_append P (x ∷ xs) ys h g = (h.0, all_append P xs ys h.1 g)
-
-pub all_parts : {X : Type 0} (P : X → Type 0) (xs ys : List X) → AllByRecursion P (xs ++ ys)
-    → AllByRecursion P xs × AllByRecursion P ys
-all_parts P [] ys h = (tt, h)
-all_parts P (x ∷ xs) ys h =
-    let r = all_parts P xs ys h.1 in
-    ((h.0, r.0), r.1)
-
-pub all_weaker : {X : Type 0} (P Q : X → Type 0) (xs : List X) → ((x : X) → P x → Q x)
-    → AllByRecursion P xs → AllByRecursion Q xs
-all_weaker P Q [] f h = tt
-all_weaker P Q (x ∷ xs) f h = (f x h.0, all_weaker P Q xs f h.1)
 
 -- where a number is put
 pub put_cases : (P : List ℕ → Type 0) (n m : ℕ) (ms : List ℕ) → (n < m → P (n ∷ m ∷ ms))

@@ -7,13 +7,13 @@ use Rattle.std.proofs.lemmas.Bool.{ltb-true, ltb-false, eq-eqb, or_left, or_righ
 use Rattle.std.proofs.lemmas.List.Folds.{list_any-append}
 use Rattle.cnf.specs.Numbers.{RisesFrom}
 use Rattle.cnf.specs.Problem.{Problem}
+use Rattle.cnf.proofs.Laws.{all_append, all_weaker}
 use Rattle.sums_tree.specs.Tree.{Tree, Leaf, Fork}
-use Rattle.sums.specs.Sums.{AtLeast, Split, rising, named_from, numbers, sums_with, joined}
-use Rattle.sums.specs.Sums.{join}
+use Rattle.sums.specs.Sums.{AtLeast, Split, rising, named_from, numbers, sums_with, joined, join}
 use Rattle.sums.specs.Sums.{group_list, Own, Members, Both, own_list, halves, split}
 use Rattle.sums.specs.Sums.{with_carries, Node, members, counted, lowest, without_lowest, digits_of}
 use Rattle.sums.specs.Sums.{rest_of, both_digits, most_below, node, odd_clauses}
-use Rattle.sums.proofs.Numbers.{all_append, all_weaker, has, rising_has, rising_rises, rising_all}
+use Rattle.sums.proofs.Numbers.{has, rising_has, rising_rises, rising_all}
 use Rattle.sums.proofs.Numbers.{CountsFrom, counts_all, counts_has, counts_rises, counts_from}
 use Rattle.sums.proofs.Numbers.{rises_all, numbers-named, length-named, length-numbers, sums_all}
 use Rattle.sums.proofs.Numbers.{sums_has}

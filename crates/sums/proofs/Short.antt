@@ -1,13 +1,13 @@
 -- The lists of a node are no longer than there are clauses, so that a comparator is short.
-use Rattle.std.proofs.Common.{ℕ, zero, suc, ◌+◌, ◌/◌, ◌%◌, ◌^◌, ◌<◌, ◌≤◌, ◌==◌, Bool, true, false}
+use Rattle.std.proofs.Common.{ℕ, zero, suc, ◌+◌, ◌/◌, ◌%◌, ◌^◌, ◌≤◌, ◌==◌, Bool, true, false}
 use Rattle.std.proofs.Common.{List, [], ◌∷◌, ◌++◌, length, map, filter, Option, Some, None, nat_lt}
 use Rattle.std.proofs.Common.{if◌then◌else◌, arith}
 use Rattle.std.proofs.lemmas.List.{length-append}
 use Rattle.cnf.specs.Literal.{Literal}
 use Rattle.cnf.specs.Problem.{Problem}
 use Rattle.sums_tree.specs.Tree.{Tree, Leaf, Fork}
-use Rattle.sums.specs.Sums.{AtLeast, Own, Members, Both, Split, Node, no, own_list, join, joined}
-use Rattle.sums.specs.Sums.{grouped, group_list, odd_clauses, halves, halved, split, with_carries}
+use Rattle.sums.specs.Sums.{AtLeast, Own, Members, Both, Split, Node, no, own_list, join}
+use Rattle.sums.specs.Sums.{odd_clauses, halves, halved, split, with_carries}
 use Rattle.sums.specs.Sums.{members, rest_of, without_lowest, digits_of, both_digits, most_below}
 use Rattle.sums.specs.Sums.{node, comparator, digit_clauses, low_clauses, none_above, not_number}
 use Rattle.sums.specs.Sums.{with_digit, ones, led}

@@ -9,6 +9,7 @@ use Rattle.std.proofs.lemmas.Bool.{ltb-true}
 use Rattle.std.proofs.lemmas.List.{length-append}
 use Rattle.cnf.specs.Literal.{Literal}
 use Rattle.cnf.specs.Problem.{Problem}
+use Rattle.cnf.proofs.Laws.{all_append, all_parts, all_weaker}
 use Rattle.sums_tree.specs.Tree.{Tree, Leaf, Fork}
 use Rattle.sums.specs.Sums.{AtLeast, Split, no, rising, named_from, literal_of, own_clauses}
 use Rattle.sums.specs.Sums.{order_after, order_clauses, numbers, sums_with, sum_clauses, joined}
@@ -16,8 +17,7 @@ use Rattle.sums.specs.Sums.{join}
 use Rattle.sums.specs.Sums.{grouped, group_list, Own, Members, Both, own_list, odd_clauses, halves}
 use Rattle.sums.specs.Sums.{split, Node, with_carries, members, counted, lowest, without_lowest}
 use Rattle.sums.specs.Sums.{digits_of, rest_of, both_digits, most_below, node}
-use Rattle.sums.proofs.Numbers.{all_append, all_parts, all_weaker, has, rising_length, length-named}
-use Rattle.sums.proofs.Numbers.{length-numbers}
+use Rattle.sums.proofs.Numbers.{has, rising_length, length-named, length-numbers}
 use Rattle.sums.proofs.Worth.{literal_at, HasNumbers, named_has, joined_numbers}
 
 -- new variables follow v, and are no more than the clauses

@@ -9,14 +9,13 @@ use Rattle.std.proofs.lemmas.Bool.{true≢false}
 use Rattle.cnf.specs.Numbers.{one_if}
 use Rattle.cnf.specs.Literal.{Assignment, Literal, literal_value}
 use Rattle.cnf.specs.Clause.{Satisfies}
+use Rattle.cnf.proofs.Laws.{all_parts, all_weaker}
 use Rattle.sums.specs.Sums.{AtLeast, Split, yes, no, rising, named_from, literal_of}
 use Rattle.sums.specs.Sums.{own_clauses, order_after, order_clauses, numbers, sums_with}
 use Rattle.sums.specs.Sums.{sum_clauses}
 use Rattle.sums.specs.Sums.{joined, join, grouped, group_list, Own, Members, Both, own_list}
 use Rattle.sums.specs.Sums.{odd_clauses, halves, split}
-use Rattle.sums.proofs.Numbers.{all_parts, all_weaker, has, has_self, rising_has}
-use Rattle.sums.proofs.Numbers.{CountsFrom}
-use Rattle.sums.proofs.Numbers.{numbers-named}
+use Rattle.sums.proofs.Numbers.{has, has_self, rising_has, CountsFrom, numbers-named}
 
 -- all clauses are true
 abbrev pub Hold : Assignment → List (List Literal) → Type 0
@@ -114,13 +113,8 @@ worth_le t y z (x ∷ xs) le h = first (t x.variable) h.0 (worth_le t y z xs le 
     first true f r = omega (arith, f refl)
     first false f r = omega arith
 
--- the new list has the numbers for which it was made
-pub all_numbers : (P : ℕ → Type 0) (xs : List AtLeast) → AllByRecursion P (numbers xs)
-    → AllByRecursion (λ x. P x.number) xs
-all_numbers P [] h = tt
-all_numbers P (x ∷ xs) h = (h.0, all_numbers P xs h.1)
-
--- those of ns, among new variables for all of ns
+-- the new list has the numbers for which it was made: those of ns, among new variables for all of
+-- ns
 pub named_has : (v : ℕ) (ns : List ℕ)
     → AllByRecursion (λ n. has n (numbers (named_from v (rising ns))) ≡ true) ns
 named_has v ns =

@@ -1,11 +1,11 @@
 -- Sums of the weights of the soft clauses that are given up, in mixed form: the lowest digits of a
 -- sum one by one and the rest at once, over a tree of groups of soft clauses.
-use Rattle.std.specs.Prelude.{◌≡◌, ℕ, zero, suc, ◌+◌, ◌/◌, ◌%◌, ◌^◌, ◌<◌, ◌≤◌, true}
+use Rattle.std.specs.Prelude.{◌≡◌, ℕ, zero, suc, ◌+◌, ◌/◌, ◌%◌, ◌^◌, ◌<◌, ◌≤◌}
 use Rattle.std.specs.Prelude.{List, [], ◌∷◌, ◌++◌, length, map, filter, sum_by, Option, Some, None}
 use Rattle.std.specs.Prelude.{slice_index, ◌==◌, nat_lt, nat_le, if◌then◌else◌, All}
-use Rattle.std.specs.List.{AllByRecursion, flat_map, list_any}
+use Rattle.std.specs.List.{AllByRecursion, flat_map}
 use Rattle.cnf.specs.Literal.{Assignment, Literal, positive, negative}
-use Rattle.cnf.specs.Clause.{Satisfies, is_subset}
+use Rattle.cnf.specs.Clause.{Satisfies, IsCovered}
 use Rattle.cnf.specs.Problem.{Problem, SoftClause, IsFeasible, cost_under}
 use Rattle.sums_tree.specs.Tree.{Tree, Leaf, Fork, groups_of}
 use Rattle.sums_tree.specs.Groups.{placed}
@@ -335,9 +335,6 @@ pub record SumsSayCheaper (p : Problem) (n : Node) (k : ℕ) : Type 0 where
       × All (Satisfies t) (cheaper_clauses p n k)
 
 -- each clause of the comparator for a larger bound has one for this bound as a subset
-abbrev pub IsCovered : List (List Literal) → List Literal → Type 0
-IsCovered cs c = list_any (λ d. is_subset d c) cs ≡ true
-
 abbrev pub CoversLarger : Node → ℕ → Type 0
 CoversLarger n k =
     (larger : ℕ) → k ≤ larger → All (IsCovered (comparator n k)) (comparator n larger)

@@ -1,13 +1,14 @@
 -- Connections are between groups of the instance.
 use Rattle.std.proofs.Common.{ℕ, zero, suc, ◌+◌, ◌<◌, ◌≤◌, ◌==◌, ◌&&◌, Bool, true, false, List, []}
 use Rattle.std.proofs.Common.{◌∷◌}
-use Rattle.std.proofs.Common.{◌++◌, length, map, min, max}
+use Rattle.std.proofs.Common.{length, map, min, max}
 use Rattle.std.proofs.Common.{arith, if◌then◌else◌, cond}
 use Rattle.std.specs.List.{flat_map, cons_option, list_any, AllByRecursion}
 use Rattle.std.proofs.lemmas.Bool.{cond_both}
 use Rattle.std.proofs.lemmas.List.Elements.{All-from_recursion}
 use Rattle.cnf.specs.Literal.{Literal}
 use Rattle.cnf.specs.Problem.{Problem}
+use Rattle.cnf.proofs.Laws.{all_append}
 use Rattle.sums_tree.specs.Groups.{Placed, grouped, binding}
 use Rattle.sums_tree.specs.Connections.{Connection, has_variable, groups_with, first_of}
 use Rattle.sums_tree.specs.Connections.{clause_row, variable_rows, rows_of, along, between, share}
@@ -20,11 +21,6 @@ IsAmong n k = (k.low < n) × (k.high < n)
 
 abbrev AreIn : ℕ → List ℕ → Type 0
 AreIn n row = AllByRecursion (λ g. g < n) row
-
-all_append : {X : Type 0} (P : X → Type 0) (xs ys : List X) → AllByRecursion P xs
-    → AllByRecursion P ys → AllByRecursion P (xs ++ ys)
-all_append P [] ys h k = k
-all_append P (x ∷ xs) ys h k = (h.0, all_append P xs ys h.1 k)
 
 with_in : (n v i : ℕ) (groups : List (List Placed)) → i + length groups ≤ n
     → AreIn n (groups_with v i groups)

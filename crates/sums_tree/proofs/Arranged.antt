@@ -13,13 +13,14 @@ use Rattle.std.proofs.lemmas.List.Sums.{sum_by-cons}
 use Rattle.cnf.specs.Literal.{Assignment}
 use Rattle.cnf.specs.Clause.{clause_value, has_opposites, Satisfies}
 use Rattle.cnf.specs.Problem.{Problem, IsFeasible}
+use Rattle.cnf.proofs.Laws.{all_parts}
 use Rattle.sums_tree.specs.Tree.{Tree, groups_of}
 use Rattle.sums_tree.specs.Groups.{Placed, placed, binding, grouped, groups}
 use Rattle.sums_tree.specs.Connections.{connections}
 use Rattle.sums_tree.specs.Arranging.{Node, leaves_from, nodes, round_count, tree, is_false}
 use Rattle.sums_tree.specs.Arranging.{IsArrangement}
 use Rattle.sums_tree.proofs.Grouping.{IsAt, all_of, false_in, HasOneFalse, grouped_all, grouped_one}
-use Rattle.sums_tree.proofs.Grouping.{placed_at, same_IsPermutation}
+use Rattle.sums_tree.proofs.Grouping.{placed_at, same_IsPermutation, places}
 use Rattle.sums_tree.proofs.Merging.{of_tree, of_nodes, leaves-of, rounds-of, trees-of}
 use Rattle.sums_tree.proofs.Merging.{one_tree-of, one_tree-none}
 
@@ -35,9 +36,6 @@ groups_once {X} f p t e =
     IsPermutation-trans _ _ _ (same_IsPermutation _ _ start)
     (IsPermutation-trans _ _ _ (rounds-of f round_count 2 (connections p) first)
     (same_IsPermutation _ _ last))
-
-abbrev places : List Placed → List ℕ
-places g = map (λ c. c.place) g
 
 places-all : (gs : List (List Placed)) → flat_map (λ g. g) (map places gs) ≡ places (all_of gs)
 places-all [] = refl
@@ -57,15 +55,10 @@ singles : {X : Type 0} (xs : List X) → flat_map (λ x. x ∷ []) xs ≡ xs
 singles [] = refl
 singles (x ∷ xs) = ap (λ z. x ∷ z) (singles xs)
 
-split : {X : Type 0} (P : X → Type 0) (xs ys : List X) → AllByRecursion P (xs ++ ys)
-    → AllByRecursion P xs × AllByRecursion P ys
-split P [] ys h = (tt, h)
-split P (x ∷ xs) ys h = let rest = split P xs ys h.1 in ((h.0, rest.0), rest.1)
-
 each : (P : Placed → Type 0) (gs : List (List Placed)) → AllByRecursion P (all_of gs)
     → AllByRecursion (AllByRecursion P) gs
 each P [] h = tt
-each P (g ∷ gs) h = let parts = split P g (all_of gs) h in (parts.0, each P gs parts.1)
+each P (g ∷ gs) h = let parts = all_parts P g (all_of gs) h in (parts.0, each P gs parts.1)
 
 module _ (p : Problem) (a : Assignment) where
   is_false-at : (c : Placed) → IsAt p.soft c → is_false p a c.place ≡ false_in a c

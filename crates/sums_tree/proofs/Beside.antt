@@ -10,6 +10,7 @@ use Rattle.std.proofs.lemmas.Bool.{cond-true, cond-false, and_parts, eqb-true, e
 use Rattle.std.proofs.lemmas.Bool.Decides.{nat_tests}
 use Rattle.std.proofs.lemmas.List.{take_more, get_or_read, take_all}
 use Rattle.std.proofs.lemmas.List.Sums.{fold_push}
+use Rattle.cnf.proofs.Laws.{all_weaker, all_push}
 use Rattle.sums_tree.specs.Connections.{Connection, added}
 use Rattle.sums_tree.specs.Adding.{added_along, is_lower, same_groups}
 
@@ -74,29 +75,11 @@ added_new (c ∷ cs) k h =
     (c ∷ added k cs) h.0
     ∙ ap (λ z. c ∷ z) (added_new cs k h.1)
 
-all_weaker : (P Q : Connection → Type 0) → ((x : Connection) → P x → Q x)
-    → (xs : List Connection) → AllByRecursion P xs → AllByRecursion Q xs
-all_weaker P Q f [] h = tt
-all_weaker P Q f (x ∷ xs) h = (f x h.0, all_weaker P Q f xs h.1)
-
-all_push : (P : Connection → Type 0) (xs : List Connection) (x : Connection)
-    → AllByRecursion P xs → P x → AllByRecursion P (xs ++ x ∷ [])
-all_push P [] x h p = (p, tt)
-all_push P (y ∷ xs) x h p = (h.0, all_push P xs x h.1 p)
-
 pub record IsAdding (first : Connection) (more : List Connection) (i : ℕ) (cs : List Connection)
     (present : Connection) : Type 0 where
   pub sum : cs ++ present ∷ [] ≡ added_along (first ∷ take i more)
   pub lower : AllByRecursion (λ c. is_lower c present ≡ true) cs
   pub last : same_groups present (get_or (first ∷ more) i present) ≡ true
-
-pub adding_none : (first : Connection) (more : List Connection) → IsAdding first more 0 [] first
-adding_none first more = record {
-  sum = refl;
-  lower = tt;
-  last = and_from (first.low == first.low) (first.high == first.high)
-      (eq-eqb first.low first.low refl) (eq-eqb first.high first.high refl);
-}
 
 module _ (first : Connection) (more : List Connection) (i : ℕ) (cs : List Connection)
     (present part : Connection) (up : IsSortedBy is_lower (first ∷ more)) (lt : i < length more)
@@ -129,8 +112,9 @@ module _ (first : Connection) (more : List Connection) (i : ℕ) (cs : List Conn
         sum =
             ap (λ w. cs ++ record present { weight = w } ∷ []) total
             ∙ sym (added_last cs present part
-            (all_weaker _ _ (λ c lower. (λ j. (c.low == sym pair.0 j) && (c.high == sym pair.1 j))
-            ∙ differs c present lower) cs h.lower) same)
+            (all_weaker _ _ cs (λ c lower.
+            (λ j. (c.low == sym pair.0 j) && (c.high == sym pair.1 j))
+            ∙ differs c present lower) h.lower) same)
             ∙ sum_is;
         lower = h.lower;
         last =
@@ -142,11 +126,11 @@ module _ (first : Connection) (more : List Connection) (i : ℕ) (cs : List Conn
   added_other other =
       let above = other_way present part not_below other in
       let all = all_push (λ c. is_lower c part ≡ true) cs present
-      (all_weaker _ _ (λ c lower. chained c present part lower above) cs h.lower) above in
+      (all_weaker _ _ cs (λ c lower. chained c present part lower above) h.lower) above in
       record {
         sum =
             sym (added_new (cs ++ present ∷ []) part
-            (all_weaker _ _ (λ c lower. differs c part lower) (cs ++ present ∷ []) all))
+            (all_weaker _ _ (cs ++ present ∷ []) (λ c lower. differs c part lower) all))
             ∙ sum_is;
         lower = all;
         last =

@@ -23,7 +23,8 @@ positive-along : (w : ℕ) (row : List ℕ) → 0 < w → ArePositive (along w r
 positive-along w [] h = tt
 positive-along w (g ∷ []) h = tt
 positive-along w (g ∷ h ∷ row) lt =
-    positive-append (between w g h) (along w (h ∷ row)) (one (g == h)) (positive-along w (h ∷ row) lt)
+    positive-append (between w g h) (along w (h ∷ row)) (one (g == h))
+    (positive-along w (h ∷ row) lt)
   where
     one : (b : Bool)
         → ArePositive (cond b [] (record { low = min g h; high = max g h; weight = w } ∷ []))

@@ -1,6 +1,6 @@
 -- A clause finds, of the earlier ones, those that it excludes, at the cost of its looks.
 use Rattle.std.proofs.Common.{◌≡◌, ℕ, ◌+◌, ◌==◌, ◌&&◌, ◌||◌, Bool, true, false, List, []}
-use Rattle.std.proofs.Common.{◌∷◌, ◌++◌, map, length, reverse, sum_by, count_by, cond, refl, sym}
+use Rattle.std.proofs.Common.{◌∷◌, map, length, reverse, sum_by, count_by, cond, refl, sym}
 use Rattle.std.proofs.Common.{ap}
 use Rattle.std.proofs.Common.{◌∙◌, subst, if◌then◌else◌, inl, inr}
 use Rattle.std.specs.List.{flat_map, list_any, filter, AllByRecursion}
@@ -10,6 +10,7 @@ use Rattle.std.proofs.lemmas.List.Sums.{sum_by-cons, length-filter}
 use Rattle.cnf.specs.Literal.{Literal, negation, index_of, literal_eq}
 use Rattle.cnf.specs.Clause.{contains_literal}
 use Rattle.cnf.specs.Marks.{HasPlace}
+use Rattle.cnf.proofs.Laws.{all_append, all_weaker}
 use Rattle.sums_tree.specs.Groups.{Placed, partner, partners, rivals, excludes, look_cost}
 use Rattle.sums_tree.specs.Groups.{looks_cost}
 use Rattle.sums_tree.specs.Seen.{is_in}
@@ -61,23 +62,13 @@ partner_places n l (a ∷ b ∷ []) h =
     (λ _. cond_both (literal_eq l b) (a ∷ []) [] (AllByRecursion (HasPlace n)) (λ _. (h.0, tt))
     (λ _. tt))
 
-all-append : {X : Type 0} (P : X → Type 0) (xs ys : List X) → AllByRecursion P xs
-    → AllByRecursion P ys → AllByRecursion P (xs ++ ys)
-all-append P [] ys h k = k
-all-append P (x ∷ xs) ys h k = (h.0, all-append P xs ys h.1 k)
-
 pub partners_places : (n : ℕ) (l : Literal) (hard : List (List Literal))
     → AllByRecursion (AllByRecursion (HasPlace n)) hard
     → AllByRecursion (HasPlace n) (partners l hard)
 partners_places n l [] h = tt
 partners_places n l (c ∷ hard) h =
-    all-append (HasPlace n) (partner l c) (partners l hard) (partner_places n l c h.0)
+    all_append (HasPlace n) (partner l c) (partners l hard) (partner_places n l c h.0)
     (partners_places n l hard h.1)
-
-map_all : {X : Type 0} (P Q : X → Type 0) → ((x : X) → P x → Q x) → (xs : List X)
-    → AllByRecursion P xs → AllByRecursion Q xs
-map_all P Q f [] h = tt
-map_all P Q f (x ∷ xs) h = (f x h.0, map_all P Q f xs h.1)
 
 module _ (lits : ℕ → List Literal) (having partners_rows : List (List ℕ)) (es : List ℕ)
     (hard : List (List Literal)) (long : length partners_rows ≡ length having)
@@ -90,7 +81,8 @@ module _ (lits : ℕ → List Literal) (having partners_rows : List (List ℕ)) 
   in_row : (m : ℕ) (r : Literal) → is_in m es ≡ true → HasPlace (length having) r
       → is_in m (row_at having (index_of r)) ≡ contains_literal r (lits m)
   in_row m r known h =
-      ap (is_in m) (rows.each r h) ∙ any_reverse (λ n. n == m) (filter (λ m. contains_literal r (lits m)) es)
+      ap (is_in m) (rows.each r h)
+      ∙ any_reverse (λ n. n == m) (filter (λ m. contains_literal r (lits m)) es)
       ∙ in-filter (λ m. contains_literal r (lits m)) es m
       ∙ ap (λ b. b && contains_literal r (lits m)) known
 
@@ -104,20 +96,21 @@ module _ (lits : ℕ → List Literal) (having partners_rows : List (List ℕ)) 
       ∙ (λ i. in_row m (negation l) known h i || (ap (list_any test) (row_of_partners l h)
       ∙ any_reverse test (map index_of ps) ∙ any_map index_of test ps
       ∙ any_agree (λ r. test (index_of r)) (λ r. contains_literal r (lits m)) ps
-      (map_all (HasPlace (length having)) (λ r. test (index_of r) ≡ contains_literal r (lits m))
-      (λ r. in_row m r known) ps (partners_places (length having) l hard places))) i)
+      (all_weaker (HasPlace (length having)) (λ r. test (index_of r) ≡ contains_literal r (lits m))
+      ps (λ r. in_row m r known) (partners_places (length having) l hard places))) i)
 
   -- a clause finds those that it excludes
-  pub found_excluded : (c : Placed) (d : Placed) → AllByRecursion (HasPlace (length having)) c.literals
+  pub found_excluded : (c : Placed) (d : Placed)
+      → AllByRecursion (HasPlace (length having)) c.literals
       → is_in d.place es ≡ true → d.literals ≡ lits d.place
       → is_in d.place (flat_map (found having partners_rows) c.literals) ≡ excludes hard c d
   found_excluded c d h known at =
       any_flat (λ n. n == d.place) (found having partners_rows) c.literals
       ∙ any_agree (λ l. is_in d.place (found having partners_rows l))
       (λ l. list_any (λ m. contains_literal m d.literals) (rivals hard l)) c.literals
-      (map_all (HasPlace (length having)) _
-      (λ l place. found_one d.place l known place
-      ∙ ap (λ ls. list_any (λ m. contains_literal m ls) (rivals hard l)) (sym at)) c.literals h)
+      (all_weaker (HasPlace (length having)) _
+      c.literals (λ l place. found_one d.place l known place
+      ∙ ap (λ ls. list_any (λ m. contains_literal m ls) (rivals hard l)) (sym at)) h)
 
   module _ (earlier : List Placed) (same : es ≡ map (λ c. c.place) earlier)
       (at : AllByRecursion (λ c. c.literals ≡ lits c.place) earlier) where
@@ -146,8 +139,8 @@ module _ (lits : ℕ → List Literal) (having partners_rows : List (List ℕ)) 
         ∙ (λ i. look_paid (negation l) h i + (ap (sum_by f) (row_of_partners l h)
         ∙ sum_reverse f (map index_of ps) ∙ sum_map index_of f ps
         ∙ sum_agree (λ r. f (index_of r)) (λ m. look_cost m earlier) ps
-        (map_all (HasPlace (length having)) (λ r. f (index_of r) ≡ look_cost r earlier)
-        look_paid ps (partners_places (length having) l hard places))) i)
+        (all_weaker (HasPlace (length having)) (λ r. f (index_of r) ≡ look_cost r earlier)
+        ps look_paid (partners_places (length having) l hard places))) i)
         ∙ sym (sum_by-cons (λ m. look_cost m earlier) (negation l) ps)
 
     -- its looks cost what is said
@@ -156,4 +149,4 @@ module _ (lits : ℕ → List Literal) (having partners_rows : List (List ℕ)) 
     looks_paid c h =
         sum_agree (found_cost having partners_rows)
         (λ l. sum_by (λ m. look_cost m earlier) (rivals hard l)) c.literals
-        (map_all (HasPlace (length having)) _ paid_one c.literals h)
+        (all_weaker (HasPlace (length having)) _ c.literals paid_one h)

@@ -4,6 +4,7 @@ use Rattle.std.proofs.Common.{cond, not, ◌||◌, List, []}
 use Rattle.std.proofs.Common.{◌∷◌, ◌++◌, count_by, nat_le, Some}
 use Rattle.std.proofs.Common.{slice_get, IsPermutation, if◌then◌else◌, refl, sym, ap, ◌∙◌}
 use Rattle.std.proofs.Common.{subst, inl, inr, arith, append_assoc}
+use Rattle.std.proofs.Common.{map}
 use Rattle.std.specs.List.{list_any, list_all, flat_map, AllByRecursion}
 use Rattle.std.proofs.lemmas.Bool.{cond_both, or_cases, or_parts, or_left, or_right, and_parts}
 use Rattle.std.proofs.lemmas.Bool.{both_ways, not_from_true, cases_Bool}
@@ -19,6 +20,10 @@ use Rattle.cnf.specs.Problem.{SoftClause}
 use Rattle.cnf.proofs.Laws.{literal_eq-true, negation-value}
 use Rattle.sums_tree.specs.Groups.{Placed, placed_from, partner, partners, rivals, excludes}
 use Rattle.sums_tree.specs.Groups.{looks_cost, look_limit, joined, grouped_from}
+
+-- the places of clauses
+abbrev pub places : List Placed → List ℕ
+places g = map (λ c. c.place) g
 
 -- all clauses of groups
 abbrev pub all_of : List (List Placed) → List Placed
@@ -49,7 +54,7 @@ alone_all c groups =
     (IsPermutation-sym _ _ (IsPermutation-to_front (all_of groups) c))
 
 -- the groups after a clause
-abbrev after : List (List Literal) → ℕ → Placed → List (List Placed) → List (List Placed)
+abbrev pub after : List (List Literal) → ℕ → Placed → List (List Placed) → List (List Placed)
 after hard total c groups =
     if nat_le total look_limit then joined hard c groups else groups ++ (c ∷ []) ∷ []
 

@@ -20,7 +20,8 @@ use Rattle.sums_tree.specs.Nodes.{higher_of, Merges, step_at, head_of, IsNode, R
 use Rattle.sums_tree.proofs.Relabelling.{kept_gone, row_kept, row_other, labels_after}
 use Rattle.std.proofs.lemmas.List.{get_or_append_left}
 use Rattle.std.proofs.lemmas.Bool.{MatchBool-at_true, MatchBool-at_false}
-use Rattle.sums_tree.proofs.Uniting.{all_weaker, all_both, head_is, without_all, without_rising}
+use Rattle.cnf.proofs.Laws.{all_weaker, all_both}
+use Rattle.sums_tree.proofs.Uniting.{head_is, without_all, without_rising}
 use Rattle.sums_tree.proofs.Uniting.{found_in, found_cover, cover_found, label_from, has_from}
 use Rattle.sums_tree.proofs.Uniting.{not_later, without_has, merged_stays}
 
@@ -188,7 +189,8 @@ module _ (G S T : List (List ℕ)) (labels new_labels : List ℕ)
       let ly = label_from G S labels old g y ny g_in there.1 in
       let pair = paired which lx ly in
       let fits : nat_le (length x.groups + length y.groups) most ≡ true =
-      le-leb (length x.groups + length y.groups) most (omega (arith, sizes x y nx ny pair, nx.size, ny.size)) in
+      le-leb (length x.groups + length y.groups) most
+      (omega (arith, sizes x y nx ny pair, nx.size, ny.size)) in
       let rest = without g nodes in
       let new : with_node most x g nodes ≡ fork x y ∷ rest =
       rw found.1 (cond-true (nat_le (length x.groups + length y.groups) most)
@@ -197,12 +199,12 @@ module _ (G S T : List (List ℕ)) (labels new_labels : List ℕ)
       get_or_append_left x.groups y.groups 0 0 ((head_is G S x nx).1) in
       let not_g = without_has G S labels old g nodes g_in each rising.1 in
       let not_other = without_all (λ z. has_group other z ≡ false) g nodes
-      (all_weaker _ _ (λ z h. not_later G S labels old other x z other_in nx h.0 has h.1) nodes
+      (all_weaker _ _ nodes (λ z h. not_later G S labels old other x z other_in nx h.0 has h.1)
       (all_both (IsNode G S) (λ z. head_of x < head_of z) nodes each rising.0)) in
       subst (Grown G T (x ∷ nodes)) (sym new) (record {
         each = (
           fork_node x y nx ny (there.0).1 pair,
-          all_weaker _ _ (λ z h. kept_node which z h.0 h.1.0 h.1.1) rest
+          all_weaker _ _ rest (λ z h. kept_node which z h.0 h.1.0 h.1.1)
               (all_both (IsNode G S)
               (λ z. (has_group other z ≡ false) × (has_group g z ≡ false)) rest
               (without_all (IsNode G S) g nodes each)
@@ -271,7 +273,8 @@ module _ (G S T : List (List ℕ)) (labels new_labels : List ℕ)
               subst (Grown G T (x ∷ nodes))
               (sym (cond-true (has_group k.low x) _ _ has_low
               ∙ cond-false (has_group k.high x) _ _ not_high))
-              (grown_with x k.high k.low nodes high_in low_in (inl (refl, refl)) each.0 each.1 rising
+              (grown_with x k.high k.low nodes high_in low_in (inl (refl, refl)) each.0 each.1
+              rising
               has_low (sym (ap (λ b. b || list_any (has_group k.high) nodes) not_high) ∙ high))
         ]
         | inr not_low ↦ elim (cases_Bool (has_group k.high x)) [
@@ -279,7 +282,8 @@ module _ (G S T : List (List ℕ)) (labels new_labels : List ℕ)
               subst (Grown G T (x ∷ nodes))
               (sym (cond-false (has_group k.low x) _ _ not_low
               ∙ cond-true (has_group k.high x) _ _ has_high))
-              (grown_with x k.low k.high nodes low_in high_in (inr (refl, refl)) each.0 each.1 rising
+              (grown_with x k.low k.high nodes low_in high_in (inr (refl, refl)) each.0 each.1
+              rising
               has_high (sym (ap (λ b. b || list_any (has_group k.low) nodes) not_low) ∙ low))
           | inr not_high ↦
               let rest = merged_grows nodes each.1 rising.1
@@ -324,12 +328,14 @@ merged_are G S T labels new_labels k most nodes low_in high_in old are h =
           let same = MatchBool-at_true _ _ stay h in (
             subst (λ ls. AreLabels ls T (length G)) (sym same.0)
                 (subst (λ s. AreLabels labels s (length G)) (sym same.1) old),
-            subst (AreNodes G T) (sym (merged_stays G S labels old k most low_in high_in nodes stay are.each))
+            subst (AreNodes G T) (sym
+                (merged_stays G S labels old k most low_in high_in nodes stay are.each))
                 (subst (λ s. AreNodes G s nodes) (sym same.1) are),
           )
       | inr go ↦
           let j = MatchBool-at_false _ _ go h in
-          let grown = merged_grows G S T labels new_labels old k most low_in high_in go j nodes are.each
+          let grown = merged_grows G S T labels new_labels old k most low_in high_in go j nodes
+          are.each
           are.rising (are.cover k.low low_in) (are.cover k.high high_in) in (
             new_labels_are G S T labels new_labels old k most low_in high_in go j,
             record {

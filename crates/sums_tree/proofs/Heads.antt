@@ -8,14 +8,14 @@ use Rattle.std.specs.List.{list_any, AllByRecursion}
 use Rattle.std.proofs.lemmas.Bool.{cases_Bool, cases_lt, lt-ltb, le-ltb, cond-true, cond-false}
 use Rattle.std.proofs.lemmas.Bool.{both_ways}
 use Rattle.std.proofs.lemmas.Bool.{eq-eqb, or_left}
+use Rattle.cnf.proofs.Laws.{all_weaker, all_both}
 use Rattle.sums_tree.specs.Tree.{steps_of}
 use Rattle.sums_tree.specs.Arranging.{Node, has_group}
 use Rattle.sums_tree.specs.Seen.{is_in}
 use Rattle.sums_tree.specs.Looking.{row_at}
 use Rattle.sums_tree.specs.Nodes.{label_of, first_step, AreLabels, head_of, IsNode, Rising}
-use Rattle.sums_tree.specs.Nodes.{AreNodes}
-use Rattle.sums_tree.specs.Nodes.{BuildNodes, steps_at}
-use Rattle.sums_tree.proofs.Uniting.{head_is, label_from, found_in, cover_found, all_both}
+use Rattle.sums_tree.specs.Nodes.{AreNodes, BuildNodes, steps_at}
+use Rattle.sums_tree.proofs.Uniting.{head_is, label_from, found_in, cover_found}
 
 -- the nodes whose first group is below a number
 abbrev pub below : ℕ → List Node → List Node
@@ -34,11 +34,6 @@ all_below m [] h = refl
 all_below m (z ∷ nodes) h =
     cond-true (nat_lt (head_of z) m) (z ∷ below m nodes) (below m nodes) (lt-ltb _ _ h.0)
     ∙ ap (λ zs. z ∷ zs) (all_below m nodes h.1)
-
-weaker : (P Q : Node → Type 0) → ((x : Node) → P x → Q x) → (xs : List Node)
-    → AllByRecursion P xs → AllByRecursion Q xs
-weaker P Q f [] h = tt
-weaker P Q f (x ∷ xs) h = (f x h.0, weaker P Q f xs h.1)
 
 first_in : (gs : List ℕ) → 0 < length gs → is_in (get_or gs 0 0) gs ≡ true
 first_in [] h = absurd (omega arith)
@@ -92,20 +87,23 @@ module _ (G S : List (List ℕ)) (labels : List ℕ) (old : AreLabels labels S (
             let label = label_from G S labels old g z each.0 lt here in
             let head : head_of z ≡ g =
             (head_is G S z each.0).0 ∙ ap (λ l. first_step (row_at S l)) (sym label) ∙ is in
-            let none = none_below g nodes (weaker _ _ (λ y k. omega (arith, k, head)) nodes rising.0) in
+            let none = none_below g nodes
+            (all_weaker _ _ nodes (λ y k. omega (arith, k, head)) rising.0) in
             let none' = none_below (g + 1) nodes
-            (weaker _ _ (λ y k. omega (arith, k, head)) nodes rising.0) in
+            (all_weaker _ _ nodes (λ y k. omega (arith, k, head)) rising.0) in
             ap (map f) (cond-true (nat_lt (head_of z) (g + 1)) (z ∷ below (g + 1) nodes)
             (below (g + 1) nodes) (lt-ltb _ _ (omega (arith, head)))
             ∙ ap (λ zs. z ∷ zs) none')
-            ∙ ap (λ s. s ∷ []) (sym ((each.0).builds) ∙ ap (λ l. steps_at G (row_at S l)) (sym label))
+            ∙ ap (λ s. s ∷ []) (sym ((each.0).builds)
+            ∙ ap (λ l. steps_at G (row_at S l)) (sym label))
             ∙ sym (ap (λ zs. map f zs ++ steps_at G (row_at S (label_of labels g)) ∷ [])
             (cond-false (nat_lt (head_of z) g) (z ∷ below g nodes) (below g nodes)
             (le-ltb _ _ (omega (arith, head))) ∙ none))
         | inr other ↦
             let rest_cover = sym (ap (λ b. b || list_any (has_group g) nodes) other) ∙ cover in
             let found = cover_found g nodes rest_cover in
-            let there = found_in (λ y. IsNode G S y × (head_of z < head_of y)) g found.0 nodes found.1
+            let there = found_in (λ y. IsNode G S y × (head_of z < head_of y)) g found.0 nodes
+            found.1
             (all_both (IsNode G S) (λ y. head_of z < head_of y) nodes each.1 rising.0) in
             let head : head_of found.0 ≡ g =
             (head_is G S found.0 (there.0).0).0
@@ -139,14 +137,14 @@ module _ (G S : List (List ℕ)) (labels : List ℕ) (old : AreLabels labels S (
 heads_in : (G S : List (List ℕ)) (nodes : List Node) → AllByRecursion (IsNode G S) nodes
     → AllByRecursion (λ y. head_of y < length G) nodes
 heads_in G S nodes each =
-    weaker _ _ (λ y node. subst (λ k. k < length G) (sym ((head_is G S y node).0)) node.begins)
-    nodes each
+    all_weaker _ _ nodes
+    (λ y node. subst (λ k. k < length G) (sym ((head_is G S y node).0)) node.begins) each
 
 pub all_built : (G S parts : List (List ℕ)) (nodes : List Node) (m : ℕ) → length G ≤ m
     → AreNodes G S nodes → BuildNodes G parts (below m nodes) → BuildNodes G parts nodes
 all_built G S parts nodes m le are h =
     h ∙ ap (map (λ (x : Node). steps_of x.tree)) (all_below m nodes
-    (weaker _ _ (λ y lt. omega arith) nodes (heads_in G S nodes are.each)))
+    (all_weaker _ _ nodes (λ y lt. omega arith) (heads_in G S nodes are.each)))
 
 pub none_built : (G : List (List ℕ)) (parts : List (List ℕ)) (nodes : List Node) → parts ≡ []
     → BuildNodes G parts (below 0 nodes)

@@ -10,7 +10,8 @@ use Rattle.std.proofs.lemmas.List.Elements.{All-nil, All-cons, All-head, All-tai
 use Rattle.sums_tree.specs.Looking.{row_at, AreBelow, AreGroups}
 use Rattle.sums_tree.specs.Joining.{joined_at}
 
-pub on_ok_both : {T E P Q R : Type 0} (r : Result T E) → (P → Q → R) → OnOk r P → OnOk r Q → OnOk r R
+pub on_ok_both : {T E P Q R : Type 0} (r : Result T E) → (P → Q → R) → OnOk r P → OnOk r Q
+    → OnOk r R
 on_ok_both (Ok x) f p q = f p q
 on_ok_both (Err e) f p q = tt
 
@@ -120,7 +121,8 @@ groups-joined rows group_of k m n groups fresh lt le = record {
     above_other k j h ne =
         elim (cases_lt k j) [ inl lt ↦ lt | inr ge ↦ absurd (ne (omega arith)) ]
 
-    others : (j : ℕ) → j < length rows → All (λ p. get_or (set group_of m k) p 0 ≡ j) (row_at rows j)
+    others : (j : ℕ) → j < length rows
+        → All (λ p. get_or (set group_of m k) p 0 ≡ j) (row_at rows j)
     others j there i d h =
         let below : get_or (row_at rows j) i d < m = fresh j [] there i d h in
         get_or-set_other group_of m (get_or (row_at rows j) i d) k 0 (λ e. absurd (omega arith))

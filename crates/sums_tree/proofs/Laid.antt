@@ -5,7 +5,8 @@ use Rattle.cnf.specs.Problem.{Problem}
 use Rattle.sums_tree.specs.Tree.{steps_of}
 use Rattle.sums_tree.specs.Groups.{Placed, grouped, groups, group_rows}
 use Rattle.sums_tree.specs.Arranging.{Node}
-use Rattle.sums_tree.proofs.Standing.{places, row_of}
+use Rattle.sums_tree.proofs.Standing.{row_of}
+use Rattle.sums_tree.proofs.Grouping.{places}
 
 pub trees_of_nodes : (ns : List Node)
     → map steps_of (map (λ (x : Node). x.tree) ns) ≡ map (λ (x : Node). steps_of x.tree) ns

@@ -1,7 +1,6 @@
 mod Grouping
 mod Merging
 mod Arranged
-mod Opposed
 mod Linked
 mod Partnered
 pub mod Laws

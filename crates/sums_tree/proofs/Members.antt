@@ -12,6 +12,7 @@ use Rattle.cnf.specs.Literal.{Literal}
 use Rattle.cnf.specs.Problem.{Problem, SoftClause}
 use Rattle.cnf.specs.Instance.{IsInstance, IsClauseWithin}
 use Rattle.cnf.specs.Marks.{HasPlace}
+use Rattle.cnf.proofs.Laws.{all_weaker, places_within, all_push}
 use Rattle.sums_tree.specs.Groups.{Placed, placed, binding, grouped_from, grouped, group_rows}
 use Rattle.sums_tree.specs.Groups.{looks_cost, look_limit, joined}
 use Rattle.sums_tree.specs.Connections.{has_variable}
@@ -19,8 +20,7 @@ use Rattle.sums_tree.specs.Looking.{row_at}
 use Rattle.sums_tree.specs.Homes.{clause_at, occurs}
 use Rattle.sums_tree.proofs.Grouping.{IsAt, placed_at}
 use Rattle.sums_tree.proofs.Lists.{any_reverse, any_map, any_agree}
-use Rattle.sums_tree.proofs.Partnered.{places_within}
-use Rattle.sums_tree.proofs.Standing.{all_more, all_push, joined_each, row_of}
+use Rattle.sums_tree.proofs.Standing.{joined_each, row_of}
 
 pub record IsMember (soft : List SoftClause) (d : Placed) : Type 0 where
   pub at : d.literals ≡ clause_at soft d.place
@@ -52,12 +52,13 @@ grouped_each P hard cost earlier groups (c ∷ more) h k =
 pub members_of : (p : Problem) → AllByRecursion (AllByRecursion (IsMember p.soft)) (grouped p)
 members_of p =
     grouped_each (IsMember p.soft) (binding p) 0 [] [] (placed p)
-    (all_more (IsAt p.soft) (IsMember p.soft)
-    (λ d h. let f = from_get p.soft d.place h.clause (record { weight = 0; clause = [] }) h.found in
+    (all_weaker (IsAt p.soft) (IsMember p.soft)
+    (placed p) (λ d h. let f =
+    from_get p.soft d.place h.clause (record { weight = 0; clause = [] }) h.found in
     record {
       at = sym (ap (λ (s : SoftClause). s.clause) f.1 ∙ h.same);
       below = f.0;
-    }) (placed p) (placed_at p.soft 0 p.soft (λ k. ap (slice_get p.soft) (zero-add k))))
+    }) (placed_at p.soft 0 p.soft (λ k. ap (slice_get p.soft) (zero-add k))))
     tt
 
 pub row_below : (p : Problem) (k : ℕ) → k < length (group_rows p)
@@ -91,7 +92,7 @@ occurs_in p v k h =
     ap (list_any test) row ∙ any_reverse test (map (λ (c : Placed). c.place) g)
     ∙ any_map (λ (c : Placed). c.place) test g
     ∙ any_agree (λ c. test c.place) (has_variable v) g
-    (all_more (IsMember p.soft) _ (λ c h. ap (occurs v) (sym h.at)) g members)
+    (all_weaker (IsMember p.soft) _ g (λ c h. ap (occurs v) (sym h.at)) members)
 
 pub variables_below : (p : Problem) (n : ℕ) → IsInstance p → n ≡ p.variables + 1
     → All (λ s. All (λ l. l.variable < n) s.clause) p.soft

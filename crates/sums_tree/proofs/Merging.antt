@@ -13,8 +13,7 @@ use Rattle.std.proofs.lemmas.List.Sorted.{IsPermutation-append_left}
 use Rattle.sums_tree.specs.Tree.{Tree, Fork, groups_of}
 use Rattle.sums_tree.specs.Connections.{Connection}
 use Rattle.sums_tree.specs.Arranging.{Node, has_group, leaves_from, fork}
-use Rattle.sums_tree.specs.Arranging.{without, with_node, merged}
-use Rattle.sums_tree.specs.Arranging.{round, rounds, in_pairs, one_tree}
+use Rattle.sums_tree.specs.Arranging.{without, with_node, merged, round, rounds, in_pairs, one_tree}
 use Rattle.sums_tree.proofs.Grouping.{same_IsPermutation}
 
 -- what each group of a tree gives, one after another
@@ -150,7 +149,7 @@ module _ {X : Type 0} (f : List ℕ → List X) where
       one_tree-of steps (in_pairs (u ∷ v ∷ more)) t e ∙ pairs-of (u ∷ v ∷ more)
 
 -- pairs leave at most half, and one more
-length-in_pairs : (ts : List Tree) → 2 * length (in_pairs ts) ≤ length ts + 1
+pub length-in_pairs : (ts : List Tree) → 2 * length (in_pairs ts) ≤ length ts + 1
 length-in_pairs [] = omega arith
 length-in_pairs (t ∷ []) = omega arith
 length-in_pairs (t ∷ u ∷ more) = let rest = length-in_pairs more in omega arith

@@ -1,15 +1,16 @@
 -- Parts that become one tree in pairs.
 use Rattle.std.proofs.Common.{◌≡◌, ℕ, zero, suc, ◌+◌, ◌*◌, ◌<◌, ◌≤◌, List, [], ◌∷◌, ◌++◌, length}
 use Rattle.std.proofs.Common.{refl}
-use Rattle.std.proofs.Common.{sym, ap, ◌∙◌, subst, arith, drop, get_or, append_assoc, nat_lt, Some}
+use Rattle.std.proofs.Common.{sym, ap, ◌∙◌, subst, arith, get_or, nat_lt, Some}
 use Rattle.std.proofs.Common.{None}
 use Rattle.std.proofs.lemmas.Bool.{cond-false, le-ltb}
-use Rattle.std.proofs.lemmas.List.{map-append, length-map, drop_more}
+use Rattle.std.proofs.lemmas.List.{map-append, length-map}
 use Rattle.sums_tree.specs.Tree.{Tree, Take, Join, steps_of}
 use Rattle.sums_tree.specs.Arranging.{in_pairs, one_tree}
 use Rattle.sums_tree.specs.Arrangement.{steps_to}
 use Rattle.sums_tree.specs.Looking.{row_at}
 use Rattle.sums_tree.specs.Nodes.{BuildTrees, paired, step_at, steps_at}
+use Rattle.sums_tree.proofs.Merging.{length-in_pairs}
 
 heads_equal : {X : Type 0} {x y : X} {xs ys : List X} → x ∷ xs ≡ y ∷ ys → x ≡ y
 heads_equal e = cc
@@ -56,11 +57,6 @@ left_first G parts ts h = record {
   same = refl;
 }
 
-length-pairs : (ts : List Tree) → 2 * length (in_pairs ts) ≤ length ts + 1
-length-pairs [] = omega arith
-length-pairs (t ∷ []) = omega arith
-length-pairs (t ∷ u ∷ more) = let rest = length-pairs more in omega arith
-
 pub length-paired : (n : ℕ) (parts : List (List ℕ)) → 2 * length (paired n parts) ≤ length parts + 1
 length-paired n [] = omega arith
 length-paired n (a ∷ []) = omega arith
@@ -82,8 +78,9 @@ pub left_step : (G parts new : List (List ℕ)) (all : List Tree) → 1 < length
     → new ≡ paired (length G) parts → TreesLeft G parts all → TreesLeft G new all
 left_step G parts new all lt is at =
     let long = same_long G parts at.trees at.builds in
-    let next = one_more at.fuel at.trees (omega (arith, lt, long)) (omega (arith, lt, long, at.enough)) in
-    let fewer = length-pairs at.trees in
+    let next = one_more at.fuel at.trees (omega (arith, lt, long))
+    (omega (arith, lt, long, at.enough)) in
+    let fewer = length-in_pairs at.trees in
     record {
       trees = in_pairs at.trees;
       fuel = next.0;
@@ -128,17 +125,3 @@ pub single_list : (parts : List (List ℕ)) → 0 < length parts → length part
 single_list [] h k = absurd (omega arith)
 single_list (x ∷ []) h k = refl
 single_list (x ∷ y ∷ parts) h k = absurd (omega arith)
-
-pub pairs_step : (n i : ℕ) (parts xs new all : List (List ℕ)) (a b c : List ℕ) → i + 1 < length parts
-    → a ≡ row_at parts i → b ≡ row_at parts (i + 1) → c ≡ (a ++ b) ++ n ∷ []
-    → new ≡ xs ++ c ∷ [] → xs ++ paired n (drop i parts) ≡ all
-    → new ++ paired n (drop (i + 2) parts) ≡ all
-pairs_step n i parts xs new all a b c lt as' bs is e inv =
-    let two : i + 1 + 1 ≡ i + 2 = omega arith in
-    let first : drop i parts ≡ a ∷ b ∷ drop (i + 2) parts =
-    drop_more parts i [] (omega arith)
-    ∙ (λ l. sym as' l ∷ (drop_more parts (i + 1) [] lt
-    ∙ (λ m. sym bs m ∷ drop (two m) parts)) l) in
-    ap (λ z. z ++ paired n (drop (i + 2) parts)) (e ∙ ap (λ z. xs ++ z ∷ []) is)
-    ∙ append_assoc xs (((a ++ b) ++ n ∷ []) ∷ []) (paired n (drop (i + 2) parts))
-    ∙ sym (ap (λ ps. xs ++ paired n ps) first) ∙ inv

@@ -1,14 +1,11 @@
 -- A table of partners grows clause by clause.
-use Rattle.std.proofs.Common.{◌≡◌, ℕ, ◌*◌, ◌<◌, ◌≤◌, true, false, not, List, []}
+use Rattle.std.proofs.Common.{◌≡◌, ℕ, true, false, not, List, []}
 use Rattle.std.proofs.Common.{◌∷◌, ◌++◌, length, map, reverse}
-use Rattle.std.proofs.Common.{get_or, All, refl, sym, ap, ◌∙◌, subst, arith, append_assoc}
+use Rattle.std.proofs.Common.{get_or, refl, sym, ap, ◌∙◌, subst, append_assoc}
 use Rattle.std.proofs.Common.{if◌then◌else◌}
-use Rattle.std.specs.List.{AllByRecursion}
 use Rattle.std.proofs.lemmas.List.{map-append, reverse-append, append-nil}
-use Rattle.std.proofs.lemmas.List.Elements.{All-from_recursion, recursion_from_All}
 use Rattle.cnf.specs.Literal.{Literal, index_of}
-use Rattle.cnf.specs.Clause.{has_opposites, greatest_variable}
-use Rattle.cnf.specs.Instance.{IsClauseWithin}
+use Rattle.cnf.specs.Clause.{has_opposites}
 use Rattle.cnf.specs.Marks.{HasPlace}
 use Rattle.sums_tree.specs.Groups.{partner, partners, plain}
 use Rattle.sums_tree.specs.Partners.{PutsPartners}
@@ -47,17 +44,3 @@ covers_more old new c left all covers puts = record {
       ∙ reverse-append (map index_of one) (map index_of rest)))
       ∙ covers.each l place;
 }
-
-places_each : (vars rows : ℕ) (c : List Literal) → 2 * vars ≤ rows
-    → AllByRecursion (λ l. 0 < l.variable) c → greatest_variable c ≤ vars
-    → AllByRecursion (HasPlace rows) c
-places_each vars rows [] h p g = tt
-places_each vars rows (l ∷ c) h p g =
-    ((p.0, omega arith), places_each vars rows c h p.1 (omega arith))
-
--- the literals of an instance's clause have places
-pub places_within : (vars rows : ℕ) (c : List Literal) → 2 * vars ≤ rows → IsClauseWithin vars c
-    → All (HasPlace rows) c
-places_within vars rows c h w =
-    All-from_recursion (HasPlace rows) c
-    (places_each vars rows c h (recursion_from_All (λ l. 0 < l.variable) c w.1) w.2)

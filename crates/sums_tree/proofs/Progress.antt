@@ -15,7 +15,7 @@ use Rattle.cnf.specs.Clause.{has_opposites}
 use Rattle.cnf.specs.Problem.{Problem, SoftClause}
 use Rattle.cnf.specs.Instance.{IsInstance, IsClauseWithin}
 use Rattle.cnf.specs.Marks.{HasPlace}
-use Rattle.cnf.proofs.Laws.{place_within}
+use Rattle.cnf.proofs.Laws.{place_within, places_within}
 use Rattle.sums_tree.specs.declared.joining.Grouping.{Grouping}
 use Rattle.sums_tree.specs.Groups.{Placed, placed_from, partners, binding, grouped_from, grouped}
 use Rattle.sums_tree.specs.Groups.{looks_cost, group_rows}
@@ -24,8 +24,8 @@ use Rattle.sums_tree.specs.Joining.{Adds, IsReady}
 use Rattle.sums_tree.specs.Partners.{ArePartners}
 use Rattle.sums_tree.proofs.Finding.{partners_places}
 use Rattle.sums_tree.proofs.Joins.{below-weaker}
-use Rattle.sums_tree.proofs.Partnered.{places_within}
-use Rattle.sums_tree.proofs.Standing.{Stands, row_of, after, stands_after}
+use Rattle.sums_tree.proofs.Standing.{Stands, row_of, stands_after}
+use Rattle.sums_tree.proofs.Grouping.{after}
 
 -- the literals of the soft clause at a place
 abbrev pub lits_at : Problem → ℕ → List Literal
@@ -36,7 +36,8 @@ pub record Progress (p : Problem) (g : Grouping) (i : ℕ) : Type 0 where
   pub earlier : List Placed
   pub groups : List (List Placed)
   pub stands : Stands (lits_at p) p.variables (length p.soft) g cost i earlier groups
-  pub rest : grouped_from (binding p) cost earlier groups (placed_from i (drop i p.soft)) ≡ grouped p
+  pub rest : grouped_from (binding p) cost earlier groups (placed_from i (drop i p.soft))
+      ≡ grouped p
 
 -- a table of partners names the literals that have places
 index-literal_at : (k : ℕ) → index_of (record { variable = k / 2 + 1; negated = k % 2 == 1 }) ≡ k
@@ -104,7 +105,8 @@ begun p g cost having members group_of seen = record {
         each = λ r place.
             ap (λ h. row_at h (index_of r)) having
             ∙ get_or-replicate (2 * p.variables) (index_of r) [] []
-            (subst (λ n. index_of r < n) (ap length having ∙ length-replicate {A = List ℕ} (2 * p.variables) [])
+            (subst (λ n. index_of r < n)
+            (ap length having ∙ length-replicate {A = List ℕ} (2 * p.variables) [])
             (place_within (length g.having) r place));
       },
     );
@@ -123,7 +125,8 @@ begun p g cost having members group_of seen = record {
   rest = refl;
 }
   where
-    none : (k : ℕ) (d : List ℕ) → k < length g.having → (i : ℕ) → i < length (get_or g.having k d) → ⊥
+    none : (k : ℕ) (d : List ℕ) → k < length g.having → (i : ℕ) → i < length (get_or g.having k d)
+        → ⊥
     none k d lt i h =
         let row : get_or g.having k d ≡ [] =
         ap (λ t. get_or t k d) having
@@ -146,7 +149,8 @@ module _ (p : Problem) (i : ℕ) (s : SoftClause) (h : i < length p.soft) (is : 
         limits.soft_clauses)
 
     -- a clause with opposites takes no part
-    pub skipped : (g : Grouping) → Progress p g i → has_opposites s.clause ≡ true → Progress p g (i + 1)
+    pub skipped : (g : Grouping) → Progress p g i → has_opposites s.clause ≡ true
+        → Progress p g (i + 1)
     skipped g pr opposed = record {
       cost = pr.cost;
       earlier = pr.earlier;

@@ -18,6 +18,7 @@ use Rattle.std.proofs.lemmas.Cmp.{on_total, then_total, nat_cmp_total}
 use Rattle.std.proofs.lemmas.List.Elements.{recursion_from_All}
 use Rattle.std.proofs.lemmas.List.Sorted.{ranks_by, sorted_far}
 use Rattle.std.proofs.lemmas.List.Sums.{sum_by-cons}
+use Rattle.cnf.proofs.Laws.{all_weaker}
 use Rattle.sums_tree.specs.Connections.{Connection, comes_before}
 use Rattle.sums_tree.specs.Adding.{is_lower, is_greater}
 
@@ -41,11 +42,6 @@ apart_numbers : (a b l m h i : ℕ)
     → (a ≡ b) × (l ≡ m) × (h ≡ i)
 apart_numbers a b l m h i p q =
     (grind (arith, nat_tests), grind (arith, nat_tests), grind (arith, nat_tests))
-
-one_way_numbers : (a b l m h i : ℕ)
-    → (nat_lt b a || ((a == b) && (nat_lt l m || ((l == m) && nat_lt h i)))) ≡ true
-    → (nat_lt a b || ((b == a) && (nat_lt m l || ((m == l) && nat_lt i h)))) ≡ false
-one_way_numbers a b l m h i p = grind (arith, nat_tests)
 
 flipped : {K : Type 0} {R : K → K → Ordering} → IsTotalOrder R → IsTotalOrder (λ x y. R y x)
 flipped o = record {
@@ -102,13 +98,8 @@ falls_put_in k (c ∷ cs) h =
     cond_both (comes_before k c) (k ∷ c ∷ cs) (c ∷ put_in k cs) Falls
     (λ first.
     let back = before_orders.one_way k c first in
-    ((back, all_weaker _ _ (λ y e. before_orders.chain y c k e back) cs h.0), h))
+    ((back, all_weaker _ _ cs (λ y e. before_orders.chain y c k e back) h.0), h))
     (λ later. (all_put_in _ k cs later h.0, falls_put_in k cs h.1))
-  where
-    all_weaker : (P Q : Connection → Type 0) → ((x : Connection) → P x → Q x)
-        → (xs : List Connection) → AllByRecursion P xs → AllByRecursion Q xs
-    all_weaker P Q f [] h = tt
-    all_weaker P Q f (x ∷ xs) h = (f x h.0, all_weaker P Q f xs h.1)
 
 pub falls_greatest : (cs : List Connection) → Falls (greatest_first cs)
 falls_greatest [] = tt
@@ -141,7 +132,8 @@ first_weight : (x : Connection) (xs : List Connection) → count_in x.low x.high
 first_weight x xs h =
     let f : Connection → ℕ = λ c. if is_of x.low x.high c then c.weight else 0 in
     let t : Connection → ℕ = λ c. cond (is_of x.low x.high c) 1 0 in
-    let one : ◌≡◌ {A = ℕ} (cond (is_of x.low x.high x) 1 0) 1 = ap {B = ℕ} (λ b. cond b 1 0) (own x) in
+    let one : ◌≡◌ {A = ℕ} (cond (is_of x.low x.high x) 1 0) 1 =
+    ap {B = ℕ} (λ b. cond b 1 0) (own x) in
     let here : f x ≡ x.weight = ap (λ b. if b then x.weight else 0) (own x) in
     let none : count_in x.low x.high xs ≡ 0 = omega (arith, sum_by-cons t x xs, one, h) in
     omega (arith, sum_by-cons f x xs, here, no_weight x.low x.high xs none)
@@ -149,7 +141,8 @@ first_weight x xs h =
 -- groups that have a weight stand somewhere
 stands : (P : Connection → Type 0) (low high : ℕ) (cs : List Connection) → AllByRecursion P cs
     → count_in low high cs ≤ 1 → 0 < weight_in low high cs
-    → (c : Connection) × P c × (c ≡ record { low = low; high = high; weight = weight_in low high cs })
+    → (c : Connection) × P c × (c
+    ≡ record { low = low; high = high; weight = weight_in low high cs })
 stands P low high [] all once h = absurd (omega arith)
 stands P low high (c ∷ cs) all once h =
     let f : Connection → ℕ = λ x. if is_of low high x then x.weight else 0 in
@@ -161,7 +154,8 @@ stands P low high (c ∷ cs) all once h =
           let g = eqb-true c.high high parts.1 in
           let weight : weight_in low high (c ∷ cs) ≡ c.weight =
           (λ i. weight_in (sym l i) (sym g i) (c ∷ cs))
-          ∙ first_weight c cs (subst (λ n. n ≤ 1) (λ i. count_in (sym l i) (sym g i) (c ∷ cs)) once) in
+          ∙ first_weight c cs (subst (λ n. n ≤ 1) (λ i. count_in (sym l i) (sym g i) (c ∷ cs)) once)
+          in
           (c, all.0, λ i. record { low = l i; high = g i; weight = sym weight i })
       | inr other ↦
           let none : f c ≡ 0 = ap (λ b. if b then c.weight else 0) other in

@@ -48,7 +48,8 @@ round_goes R S T labels new_labels ks i k most n lt is low high old h goes = λ 
     take_more ks i k lt ∙ ap (λ c. take i ks ++ c ∷ []) (sym is) in
     let low' : k.low < length G = omega (arith, low, long) in
     let high' : k.high < length G = omega (arith, high, long) in
-    subst (AreNodes G T) (sym (ap (λ cs. round most cs nodes) more ∙ round-push most (take i ks) k nodes))
+    subst (AreNodes G T) (sym
+    (ap (λ cs. round most cs nodes) more ∙ round-push most (take i ks) k nodes))
     ((merged_are G S T labels new_labels k most (round most (take i ks) nodes) low' high'
     (subst (AreLabels labels S) (sym long) old) (goes G nodes long are)
     (subst (Merges labels new_labels S T (label_of labels k.low) (label_of labels k.high) most)
@@ -166,7 +167,8 @@ cover_leaves g i (x ∷ rest) le lt =
     ]
   where
     above : (i g : ℕ) → i ≤ g → (i ≡ g → ⊥) → i + 1 ≤ g
-    above i g le ne = elim (cases_lt i g) [ inl lt ↦ omega arith | inr ge ↦ absurd (ne (omega arith)) ]
+    above i g le ne = elim (cases_lt i g)
+        [ inl lt ↦ omega arith | inr ge ↦ absurd (ne (omega arith)) ]
 
 pub first_round : (G S : List (List ℕ)) (ks : List Connection)
     → ((g : ℕ) → g < length G → row_at S g ≡ g ∷ []) → InRound G S ks 0 2

@@ -5,7 +5,6 @@ use Rattle.std.proofs.Common.{All}
 use Rattle.std.proofs.Common.{refl, sym, ap, ◌∙◌, arith, append_assoc}
 use Rattle.std.specs.List.{flat_map, filter_map, AllByRecursion, cons_option}
 use Rattle.std.specs.Option.{option_to_list}
-use Rattle.std.proofs.lemmas.Grind.{flat_map-append}
 use Rattle.std.proofs.Common.{length-drop}
 use Rattle.std.proofs.lemmas.Bool.{cond-true, cond-false}
 use Rattle.std.proofs.lemmas.List.{drop_more, append-nil}
@@ -14,13 +13,13 @@ use Rattle.cnf.specs.Literal.{Literal}
 use Rattle.cnf.specs.Clause.{has_opposites}
 use Rattle.cnf.specs.Instance.{IsClauseWithin}
 use Rattle.cnf.specs.Marks.{HasPlace}
+use Rattle.cnf.proofs.Laws.{places_within}
 use Rattle.sums_tree.specs.Groups.{Placed, plain}
-use Rattle.sums_tree.specs.Connections.{Connection, groups_with, home, clause_row, variable_rows}
+use Rattle.sums_tree.specs.Connections.{Connection, home, clause_row}
 use Rattle.sums_tree.specs.Connections.{along, share, row_connections}
 use Rattle.sums_tree.specs.Looking.{row_at}
 use Rattle.sums_tree.specs.Homes.{AreHomes}
 use Rattle.sums_tree.specs.Connections.{between, first_of}
-use Rattle.sums_tree.proofs.Partnered.{places_within}
 
 -- one more behind, or none
 pub kept_more : {Y : Type 0} (xs : List ℕ) (f : Y → Option ℕ) (y : Y) (ys : List Y)
@@ -32,16 +31,6 @@ kept_more xs f y ys =
     by : (o : Option ℕ) → option_to_list o ++ filter_map f ys ≡ cons_option o (filter_map f ys)
     by None = refl
     by (Some n) = refl
-
-pub kept_step : {Y : Type 0} (ys : List Y) (i : ℕ) (y : Y) (f : Y → Option ℕ) (row new : List ℕ)
-    → i < length ys → y ≡ get_or ys i y → new ≡ row ++ option_to_list (f y)
-    → row ++ filter_map f (drop i ys) ≡ filter_map f ys
-    → new ++ filter_map f (drop (i + 1) ys) ≡ filter_map f ys
-kept_step ys i y f row new h is e inv =
-    ap (λ z. z ++ filter_map f (drop (i + 1) ys)) e
-    ∙ kept_more row f y (drop (i + 1) ys)
-    ∙ ap (λ z. row ++ filter_map f (z ∷ drop (i + 1) ys)) is
-    ∙ sym (ap (λ z. row ++ filter_map f z) (drop_more ys i y h)) ∙ inv
 
 short_row : (w : ℕ) (row : List ℕ) → length row < 2 → along w row ≡ []
 short_row w [] h = refl
@@ -84,26 +73,6 @@ row_end w row i xs all h inv =
     sym (ap (λ z. xs ++ z) (short_row w (drop (i - 1) row) (length-drop-less i row h))
     ∙ append-nil xs) ∙ inv
 
-rows_down : (groups : List (List Placed)) (v : ℕ) → 0 < v
-    → variable_rows groups v ≡ groups_with v 0 groups ∷ variable_rows groups (v - 1)
-rows_down groups zero h = absurd (omega arith)
-rows_down groups (suc v) h =
-    let e : suc v - 1 ≡ v = omega arith in
-    ap (λ i. groups_with (suc v) 0 groups ∷ variable_rows groups i) (sym e)
-
-pub variable_step : (groups : List (List Placed)) (v : ℕ) (row : List ℕ)
-    (xs new all : List Connection) → 0 < v → row ≡ groups_with v 0 groups
-    → new ≡ xs ++ row_connections row
-    → xs ++ flat_map row_connections (variable_rows groups v) ≡ all
-    → new ++ flat_map row_connections (variable_rows groups (v - 1)) ≡ all
-variable_step groups v row xs new all h is e inv =
-    ap (λ z. z ++ flat_map row_connections (variable_rows groups (v - 1)))
-    (e ∙ ap (λ r. xs ++ row_connections r) is)
-    ∙ append_assoc xs (row_connections (groups_with v 0 groups))
-    (flat_map row_connections (variable_rows groups (v - 1)))
-    ∙ sym (ap (λ z. xs ++ flat_map row_connections z) (rows_down groups v h))
-    ∙ inv
-
 -- the row of a clause, by the rows of its variables
 pub homes_row : (homes : List (List ℕ)) (groups : List (List Placed)) (vars : ℕ)
     (c : List Literal) → AreHomes homes groups vars → IsClauseWithin vars c
@@ -126,7 +95,8 @@ pub clause_skipped : (groups : List (List Placed)) (it rest : List (List Literal
     → xs ++ flat_map row_connections (map (clause_row groups) (plain rest)) ≡ all
 clause_skipped groups it rest c xs all is opposed inv =
     sym (ap (λ cs. xs ++ flat_map row_connections (map (clause_row groups) cs))
-    (ap plain is ∙ cond-false (not (has_opposites c)) (c ∷ plain rest) (plain rest) (ap not opposed)))
+    (ap plain is ∙ cond-false (not (has_opposites c)) (c ∷ plain rest) (plain rest)
+    (ap not opposed)))
     ∙ inv
 
 pub clause_step : (groups : List (List Placed)) (it rest : List (List Literal))
@@ -143,13 +113,6 @@ clause_step groups it rest c row xs new all is plain_is row_is e inv =
     (ap plain is
     ∙ cond-true (not (has_opposites c)) (c ∷ plain rest) (plain rest) (ap not plain_is)))
     ∙ inv
-
-pub flat_both : (xs : List Connection) (ks ls : List (List ℕ))
-    → (xs ++ flat_map row_connections ks) ++ flat_map row_connections ls
-    ≡ xs ++ flat_map row_connections (ks ++ ls)
-flat_both xs ks ls =
-    append_assoc xs (flat_map row_connections ks) (flat_map row_connections ls)
-    ∙ ap (λ z. xs ++ z) (sym (flat_map-append row_connections ks ls))
 
 pub variables_within : (vars n : ℕ) (c : List Literal) → n ≡ vars + 1 → IsClauseWithin vars c
     → All (λ l. l.variable < n) c

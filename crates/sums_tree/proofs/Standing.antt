@@ -11,6 +11,7 @@ use Rattle.std.proofs.lemmas.List.Folds.{list_any-append}
 use Rattle.std.proofs.lemmas.List.Elements.{recursion_from_All}
 use Rattle.cnf.specs.Literal.{Literal}
 use Rattle.cnf.specs.Marks.{HasPlace}
+use Rattle.cnf.proofs.Laws.{all_weaker, all_push}
 use Rattle.sums_tree.specs.declared.joining.Grouping.{Grouping}
 use Rattle.sums_tree.specs.Groups.{Placed, excludes, looks_cost, look_limit, joined}
 use Rattle.sums_tree.specs.Seen.{is_in, seen_at, with_seen}
@@ -22,9 +23,7 @@ use Rattle.sums_tree.proofs.Seeing.{seen-after}
 use Rattle.sums_tree.proofs.Finding.{HasRows, found_excluded, looks_paid}
 use Rattle.sums_tree.proofs.Entering.{length-entered, below-entered, rows-entered}
 use Rattle.sums_tree.proofs.Joins.{joined_at-end, below-joined, below-weaker}
-
-abbrev pub places : List Placed → List ℕ
-places g = map (λ c. c.place) g
+use Rattle.sums_tree.proofs.Grouping.{places, after}
 
 -- a group as a row: the last member first
 abbrev pub row_of : List Placed → List ℕ
@@ -89,16 +88,6 @@ pub record Stands (lits : ℕ → List Literal) (vars n : ℕ) (g : Grouping) (c
   pub at : AllByRecursion (λ c. c.literals ≡ lits c.place) earlier
   pub known : AllByRecursion (AllByRecursion (Known lits n (places earlier))) groups
 
-pub all_more : {X : Type 0} (P Q : X → Type 0) → ((x : X) → P x → Q x) → (xs : List X)
-    → AllByRecursion P xs → AllByRecursion Q xs
-all_more P Q f [] h = tt
-all_more P Q f (x ∷ xs) h = (f x h.0, all_more P Q f xs h.1)
-
-pub all_push : {X : Type 0} (P : X → Type 0) (xs : List X) (x : X) → AllByRecursion P xs → P x
-    → AllByRecursion P (xs ++ x ∷ [])
-all_push P [] x h p = (p, tt)
-all_push P (y ∷ xs) x h p = (h.0, all_push P xs x h.1 p)
-
 pub joined_each : (P : Placed → Type 0) (hard : List (List Literal)) (c : Placed)
     (groups : List (List Placed)) → P c → AllByRecursion (AllByRecursion P) groups
     → AllByRecursion (AllByRecursion P) (joined hard c groups)
@@ -107,11 +96,6 @@ joined_each P hard c (g ∷ groups) p h =
     cond_both (list_all (excludes hard c) g) ((g ++ c ∷ []) ∷ groups) (g ∷ joined hard c groups)
     (AllByRecursion (AllByRecursion P))
     (λ _. (all_push P g c h.0 p, h.1)) (λ _. (h.0, joined_each P hard c groups p h.1))
-
--- the groups after a clause
-abbrev pub after : List (List Literal) → ℕ → Placed → List (List Placed) → List (List Placed)
-after hard total c groups =
-    if nat_le total look_limit then joined hard c groups else groups ++ (c ∷ []) ∷ []
 
 module _ (lits : ℕ → List Literal) (vars n : ℕ) (hard : List (List Literal))
     (partners : List (List ℕ)) (others : ArePartners partners hard) (old new : Grouping)
@@ -127,7 +111,8 @@ module _ (lits : ℕ → List Literal) (vars n : ℕ) (hard : List (List Literal
   paid : cost ≤ look_limit → sum_by (found_cost old.having partners) c.literals
       ≡ looks_cost hard earlier c
   paid h =
-      looks_paid lits old.having partners (places earlier) hard ready.tables.long (stands.within h).1
+      looks_paid lits old.having partners (places earlier) hard ready.tables.long
+      (stands.within h).1
       others hards earlier refl stands.at c c_places
 
   cost_is : cost ≤ look_limit → new.cost ≡ min (cost + looks_cost hard earlier c) (2 ^ 64 - 1)
@@ -184,7 +169,7 @@ module _ (lits : ℕ → List Literal) (vars n : ℕ) (hard : List (List Literal
       (with_seen (flat_map (found old.having partners) c.literals)
       (replicate (length old.seen) false)))) groups
   agree_all le =
-      all_more _ _ (λ g. all_more _ _ (λ d. agree_one d le) g) groups stands.known
+      all_weaker _ _ groups (λ g. all_weaker _ _ g (λ d. agree_one d le)) stands.known
 
   members_after : new.members ≡ map row_of (after hard (cost + looks_cost hard earlier c) c groups)
   members_after =
@@ -193,7 +178,8 @@ module _ (lits : ℕ → List Literal) (vars n : ℕ) (hard : List (List Literal
       let found_at : List (List ℕ) → ℕ = λ ms.
       first_found old.having partners ms (length old.seen) c.literals in
       adds.members
-      ∙ ap (λ ms. joined_at (if nat_le new.cost look_limit then found_at ms else length ms) c.place ms)
+      ∙ ap (λ ms. joined_at (if nat_le new.cost look_limit then found_at ms else length ms) c.place
+      ms)
       stands.members
       ∙ ap (λ b. joined_at (if b then found_at rows else length rows) c.place rows) same_test
       ∙ elim (cases_lt look_limit total) as (λ _.
@@ -203,13 +189,15 @@ module _ (lits : ℕ → List Literal) (vars n : ℕ) (hard : List (List Literal
             ap (λ b. joined_at (if b then found_at rows else length rows) c.place rows)
             (lt-leb total look_limit past)
             ∙ joined_at-end rows c.place ∙ sym (map_push row_of groups (c ∷ []))
-            ∙ sym (ap (λ b. map row_of (if b then joined hard c groups else groups ++ (c ∷ []) ∷ []))
+            ∙ sym (ap (λ b. map row_of
+            (if b then joined hard c groups else groups ++ (c ∷ []) ∷ []))
             (lt-leb total look_limit past))
         | inr le ↦
             ap (λ b. joined_at (if b then found_at rows else length rows) c.place rows)
             (le-leb total look_limit le)
             ∙ sym (joined_rows hard c _ groups (agree_all (within_both le).1))
-            ∙ sym (ap (λ b. map row_of (if b then joined hard c groups else groups ++ (c ∷ []) ∷ []))
+            ∙ sym (ap (λ b. map row_of
+            (if b then joined hard c groups else groups ++ (c ∷ []) ∷ []))
             (le-leb total look_limit le))
       ]
 
@@ -241,7 +229,7 @@ module _ (lits : ℕ → List Literal) (vars n : ℕ) (hard : List (List Literal
   stands_after =
       let total = cost + looks_cost hard earlier c in
       let entries = entered c.literals c.place old.having in
-      let all_known = all_more _ _ (λ g. all_more _ _ more_known g) groups stands.known in
+      let all_known = all_weaker _ _ groups (λ g. all_weaker _ _ g more_known) stands.known in
       record {
         long =
             subst (λ h. length h ≡ 2 * vars) (sym adds.having)
@@ -257,13 +245,15 @@ module _ (lits : ℕ → List Literal) (vars n : ℕ) (hard : List (List Literal
             (λ _. stands.reach));
         within = λ le.
             let both = within_both le in
-            let test : nat_le new.cost look_limit ≡ true = same_test ∙ le-leb total look_limit le in (
+            let test : nat_le new.cost look_limit ≡ true =
+            same_test ∙ le-leb total look_limit le in (
               both.0,
               subst (HasRows lits new.having)
                   (sym (map_push (λ (d : Placed). d.place) earlier c))
                   (subst (λ h. HasRows lits h (places earlier ++ c.place ∷ []))
                   (sym (adds.having ∙ cond-true _ entries old.having test))
-                  (rows-entered lits old.having (places earlier) c.literals c.place at ready.once c_places
+                  (rows-entered lits old.having (places earlier) c.literals c.place at ready.once
+                  c_places
                   (stands.within both.1).1)),
             );
         over = over_both;

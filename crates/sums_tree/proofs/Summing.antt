@@ -54,10 +54,16 @@ weight-added low high k (c ∷ cs) =
     let f : Connection → ℕ = λ x. if is_of low high x then x.weight else 0 in
     elim (cases_Bool (same_groups c k)) [
       | inl same ↦
-          ap (sum_by f) (cond-true (same_groups c k) (record c { weight = c.weight + k.weight } ∷ cs)
+          ap (sum_by f) (cond-true (same_groups c k)
+          (record c { weight = c.weight + k.weight } ∷ cs)
           (c ∷ added k cs) same)
           ∙ sum_by-cons f (record c { weight = c.weight + k.weight }) cs
-          ∙ omega (arith, both (of_same low high k c same), sum_by-cons f k (c ∷ cs), sum_by-cons f c cs)
+          ∙ omega (
+            arith,
+            both (of_same low high k c same),
+            sum_by-cons f k (c ∷ cs),
+            sum_by-cons f c cs,
+          )
       | inr other ↦
           ap (sum_by f) (cond-false (same_groups c k)
           (record c { weight = c.weight + k.weight } ∷ cs) (c ∷ added k cs) other)
@@ -114,7 +120,8 @@ count-added low high k (c ∷ cs) =
           ∙ ap (λ m. if is_of low high k then max 1 m else m) (sym (sum_by-cons f c cs))
     ]
   where
-    by : (b : Bool) (n : ℕ) → cond b 1 0 + n ≡ (if b then max 1 (cond b 1 0 + n) else cond b 1 0 + n)
+    by : (b : Bool) (n : ℕ) → cond b 1 0 + n
+        ≡ (if b then max 1 (cond b 1 0 + n) else cond b 1 0 + n)
     by true n = omega arith
     by false n = refl
 
@@ -215,7 +222,12 @@ weight-put_in f k (c ∷ cs) =
     elim (comes_before k c) as (λ b. sum_by f (if b then k ∷ c ∷ cs else c ∷ put_in k cs)
     ≡ f k + sum_by f (c ∷ cs)) [
       | true ↦ sum_by-cons f k (c ∷ cs)
-      | false ↦ omega (arith, sum_by-cons f c (put_in k cs), weight-put_in f k cs, sum_by-cons f c cs)
+      | false ↦ omega (
+        arith,
+        sum_by-cons f c (put_in k cs),
+        weight-put_in f k cs,
+        sum_by-cons f c cs,
+      )
     ]
 
 pub weight-greatest : (f : Connection → ℕ) (cs : List Connection)
@@ -242,7 +254,8 @@ pub sums-greatest : (cs parts : List Connection) → AreSums cs parts
     → AreSums (greatest_first cs) parts
 sums-greatest cs parts h = record {
   weights = λ low high. weight-greatest _ cs ∙ h.weights low high;
-  once = λ low high. subst (λ n. n ≤ 1) (sym (weight-greatest (λ c. cond (is_of low high c) 1 0) cs))
+  once = λ low high. subst (λ n. n ≤ 1)
+      (sym (weight-greatest (λ c. cond (is_of low high c) 1 0) cs))
       (h.once low high);
   positive = positive-greatest cs h.positive;
 }

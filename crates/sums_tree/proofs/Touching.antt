@@ -1,10 +1,9 @@
 -- A group comes into the rows of variables.
-use Rattle.std.proofs.Common.{◌≡◌, ℕ, ◌+◌, ◌<◌, ◌==◌, ◌&&◌, ◌||◌, Bool, true, false, not}
-use Rattle.std.proofs.Common.{List, [], ◌∷◌, length, set, refl, sym, ap}
-use Rattle.std.proofs.Common.{◌∙◌, subst, arith, inl, inr, length-set, if◌then◌else◌}
+use Rattle.std.proofs.Common.{◌≡◌, ℕ, ◌+◌, ◌<◌, ◌&&◌, ◌||◌, Bool, true, false, not}
+use Rattle.std.proofs.Common.{List, [], ◌∷◌, refl, sym, ap}
+use Rattle.std.proofs.Common.{◌∙◌, subst, arith, inl, inr, if◌then◌else◌}
 use Rattle.std.specs.List.{list_any}
-use Rattle.std.proofs.lemmas.Bool.{cases_Bool, cases_eq, eq-eqb, ne_eqb, cond_both}
-use Rattle.std.proofs.lemmas.List.{get_or-set_same, get_or-set_other}
+use Rattle.std.proofs.lemmas.Bool.{cases_Bool, eq-eqb, ne_eqb, cond_both}
 use Rattle.sums_tree.specs.Groups.{Placed}
 use Rattle.sums_tree.specs.Connections.{groups_with, has_variable}
 use Rattle.sums_tree.specs.Looking.{row_at, begins_with}
@@ -74,41 +73,6 @@ some_more old now new group one f it rest x all is h k = record {
     or_assoc : (a b c : Bool) → ((a || b) || c) ≡ (a || (b || c))
     or_assoc true b c = refl
     or_assoc false b c = refl
-
--- a push into one row
-pub touches_one : (rows new : List (List ℕ)) (row group : ℕ) → row < length rows
-    → begins_with group (row_at rows row) ≡ false → new ≡ set rows row (group ∷ row_at rows row)
-    → Touches rows new group (λ v. row == v)
-touches_one rows new row group lt none is = record {
-  long = ap length is ∙ length-set rows row (group ∷ row_at rows row);
-  each = λ v h. ap (λ t. row_at t v) is ∙ elim (cases_eq v row) [
-    | inl same ↦
-        subst (λ i. row_at (set rows row (group ∷ row_at rows row)) i
-        ≡ touched group (row == i) (row_at rows i)) (sym same)
-        (get_or-set_same rows row (group ∷ row_at rows row) [] lt
-        ∙ sym (λ i. if eq-eqb row row refl i && not (none i) then group ∷ row_at rows row
-        else row_at rows row))
-    | inr other ↦
-        get_or-set_other rows row v (group ∷ row_at rows row) [] other
-        ∙ sym (ap (λ t. touched group t (row_at rows v))
-        (ne_eqb row v (λ e. other (sym e))))
-  ];
-}
-
--- the group is there already
-pub touches_there : (rows : List (List ℕ)) (row group : ℕ)
-    → begins_with group (row_at rows row) ≡ true → Touches rows rows group (λ v. row == v)
-touches_there rows row group there = record {
-  long = refl;
-  each = λ v h. elim (cases_eq v row) [
-    | inl same ↦
-        subst (λ i. row_at rows i ≡ touched group (row == i) (row_at rows i)) (sym same)
-        (sym (λ i. if eq-eqb row row refl i && not (there i) then group ∷ row_at rows row
-        else row_at rows row))
-    | inr other ↦
-        sym (ap (λ t. touched group t (row_at rows v)) (ne_eqb row v (λ e. other (sym e))))
-  ];
-}
 
 -- groups that come later have greater numbers
 later_groups : (v i : ℕ) (g : ℕ) (groups : List (List Placed)) → g < i

@@ -7,23 +7,13 @@ use Rattle.std.specs.List.{find, list_any, AllByRecursion}
 use Rattle.std.proofs.lemmas.Bool.{cases_Bool, and_parts, both_ways, ltb-true, lt-ltb}
 use Rattle.std.proofs.lemmas.Bool.{lt-leb, or_cases, cond-true}
 use Rattle.std.proofs.lemmas.Bool.{cond-false, false_from_ne_true, and_from, eqb-true}
+use Rattle.cnf.proofs.Laws.{all_weaker, all_both}
 use Rattle.sums_tree.specs.Connections.{Connection}
 use Rattle.sums_tree.specs.Arranging.{Node, has_group, fork, without, with_node, merged}
 use Rattle.sums_tree.specs.Seen.{is_in}
 use Rattle.sums_tree.specs.Looking.{row_at}
-use Rattle.sums_tree.specs.Nodes.{label_of, first_step, AreLabels, stays}
-use Rattle.sums_tree.specs.Nodes.{head_of, IsNode, Rising}
+use Rattle.sums_tree.specs.Nodes.{label_of, first_step, AreLabels, stays, head_of, IsNode, Rising}
 use Rattle.sums_tree.proofs.Finding.{in-filter}
-
-pub all_weaker : (P Q : Node → Type 0) → ((x : Node) → P x → Q x) → (xs : List Node)
-    → AllByRecursion P xs → AllByRecursion Q xs
-all_weaker P Q f [] h = tt
-all_weaker P Q f (x ∷ xs) h = (f x h.0, all_weaker P Q f xs h.1)
-
-pub all_both : (P Q : Node → Type 0) (xs : List Node) → AllByRecursion P xs → AllByRecursion Q xs
-    → AllByRecursion (λ x. P x × Q x) xs
-all_both P Q [] h k = tt
-all_both P Q (x ∷ xs) h k = ((h.0, k.0), all_both P Q xs h.1 k.1)
 
 -- a node's first group is its first step
 pub head_is : (G S : List (List ℕ)) (x : Node) (node : IsNode G S x)
@@ -153,7 +143,7 @@ module _ (G S : List (List ℕ)) (labels : List ℕ) (old : AreLabels labels S (
         | inl here ↦
             subst (AllByRecursion (λ z. has_group g z ≡ false))
             (sym (cond-true (has_group g z) nodes (z ∷ without g nodes) here))
-            (all_weaker _ _ (λ y k. not_later g z y h each.0 k.0 here k.1) nodes
+            (all_weaker _ _ nodes (λ y k. not_later g z y h each.0 k.0 here k.1)
             (all_both (IsNode G S) (λ y. head_of z < head_of y) nodes each.1 rising.0))
         | inr other ↦
             subst (AllByRecursion (λ z. has_group g z ≡ false))
@@ -161,91 +151,96 @@ module _ (G S : List (List ℕ)) (labels : List ℕ) (old : AreLabels labels S (
             (other, without_has g nodes h each.1 rising.1)
       ]
 
-  module _ (k : Connection) (most : ℕ) (low_in : k.low < length G) (high_in : k.high < length G) where
-    too_great : (x y : Node) (nx : IsNode G S x) (ny : IsNode G S y)
-        → stays S (label_of labels k.low) (label_of labels k.high) most ≡ true
-        → ((nx.label ≡ label_of labels k.low) × (ny.label ≡ label_of labels k.high))
-        ⊎ ((nx.label ≡ label_of labels k.high) × (ny.label ≡ label_of labels k.low))
-        → (nx.label ≡ ny.label → ⊥)
-        → nat_le (length x.groups + length y.groups) most ≡ false
-    too_great x y nx ny stay which ne =
-        lt-leb (length x.groups + length y.groups) most (omega (arith, sizes which, nx.size, ny.size))
-      where
-        more : nat_lt (2 * most) (length (row_at S (label_of labels k.low))
-            + length (row_at S (label_of labels k.high)) + 2) ≡ true
-        more =
-            elim (or_cases (label_of labels k.low == label_of labels k.high) _ stay) [
-              | inl same ↦ absurd (ne (by which (eqb-true _ _ same)))
-              | inr great ↦ great
-            ]
-          where
-            by : ((nx.label ≡ label_of labels k.low) × (ny.label ≡ label_of labels k.high))
-                ⊎ ((nx.label ≡ label_of labels k.high) × (ny.label ≡ label_of labels k.low))
-                → label_of labels k.low ≡ label_of labels k.high → nx.label ≡ ny.label
-            by (inl e) s = e.0 ∙ s ∙ sym e.1
-            by (inr e) s = e.0 ∙ sym s ∙ sym e.1
-
-        sizes : ((nx.label ≡ label_of labels k.low) × (ny.label ≡ label_of labels k.high))
-            ⊎ ((nx.label ≡ label_of labels k.high) × (ny.label ≡ label_of labels k.low))
-            → 2 * most < length (row_at S nx.label) + length (row_at S ny.label) + 2
-        sizes (inl e) =
-            subst (λ n. 2 * most < n)
-            (λ i. length (row_at S (sym e.0 i)) + length (row_at S (sym e.1 i)) + 2)
-            (ltb-true (2 * most) _ more)
-        sizes (inr e) =
-            let there = subst (λ n. 2 * most < n)
-            (λ i. length (row_at S (sym e.1 i)) + length (row_at S (sym e.0 i)) + 2)
-            (ltb-true (2 * most) _ more) in
-            omega (arith, there)
-
-    stays_with : (x : Node) (g other : ℕ) (nodes : List Node) → g < length G → other < length G
-        → ((other ≡ k.low) × (g ≡ k.high)) ⊎ ((other ≡ k.high) × (g ≡ k.low))
-        → stays S (label_of labels k.low) (label_of labels k.high) most ≡ true → IsNode G S x
-        → AllByRecursion (IsNode G S) nodes → has_group other x ≡ true → has_group g x ≡ false
-        → with_node most x g nodes ≡ x ∷ nodes
-    stays_with x g other nodes g_in other_in which stay nx each has not =
-        by (find (has_group g) nodes) refl
-      where
-        by : (o : Option Node) → find (has_group g) nodes ≡ o → with_node most x g nodes ≡ x ∷ nodes
-        by None e = rw e refl
-        by (Some y) e =
-            let there = found_in (IsNode G S) g y nodes e each in
-            let ny = there.0 in
-            let lx = label_from other x nx other_in has in
-            let ly = label_from g y ny g_in there.1 in
-            let great = too_great x y nx ny stay (pair which lx ly)
-            (λ s. both_ways (has_group g x) not (has_from g x nx g_in (ly ∙ sym s))) in
-            rw e (cond-false (nat_le (length x.groups + length y.groups) most)
-            (fork x y ∷ without g nodes) (x ∷ nodes) great)
-          where
-            pair : ((other ≡ k.low) × (g ≡ k.high)) ⊎ ((other ≡ k.high) × (g ≡ k.low))
-                → {l m : ℕ} → label_of labels other ≡ l → label_of labels g ≡ m
-                → ((l ≡ label_of labels k.low) × (m ≡ label_of labels k.high))
-                ⊎ ((l ≡ label_of labels k.high) × (m ≡ label_of labels k.low))
-            pair (inl w) p q =
-                inl (sym p ∙ ap (label_of labels) w.0, sym q ∙ ap (label_of labels) w.1)
-            pair (inr w) p q =
-                inr (sym p ∙ ap (label_of labels) w.0, sym q ∙ ap (label_of labels) w.1)
-
-    -- nodes that are one, or too great, stay
-    pub merged_stays : (nodes : List Node)
-        → stays S (label_of labels k.low) (label_of labels k.high) most ≡ true
-        → AllByRecursion (IsNode G S) nodes → merged most k nodes ≡ nodes
-    merged_stays [] stay each = refl
-    merged_stays (x ∷ nodes) stay each =
-        elim (cases_Bool (has_group k.low x)) [
-          | inl low ↦ cond-true (has_group k.low x) _ _ low ∙ elim (cases_Bool (has_group k.high x)) [
-            | inl high ↦ cond-true (has_group k.high x) _ _ high
-            | inr not ↦ cond-false (has_group k.high x) _ _ not
-                ∙ stays_with x k.high k.low nodes high_in low_in (inl (refl, refl)) stay each.0 each.1
-                low not
-          ]
-          | inr none ↦ cond-false (has_group k.low x) _ _ none
-              ∙ elim (cases_Bool (has_group k.high x)) [
-                | inl high ↦ cond-true (has_group k.high x) _ _ high
-                    ∙ stays_with x k.low k.high nodes low_in high_in (inr (refl, refl)) stay each.0 each.1
-                    high none
-                | inr not ↦ cond-false (has_group k.high x) _ _ not
-                    ∙ ap (λ z. x ∷ z) (merged_stays nodes stay each.1)
+  module _ (k : Connection) (most : ℕ) (low_in : k.low < length G) (high_in : k.high < length G)
+    where
+      too_great : (x y : Node) (nx : IsNode G S x) (ny : IsNode G S y)
+          → stays S (label_of labels k.low) (label_of labels k.high) most ≡ true
+          → ((nx.label ≡ label_of labels k.low) × (ny.label ≡ label_of labels k.high))
+          ⊎ ((nx.label ≡ label_of labels k.high) × (ny.label ≡ label_of labels k.low))
+          → (nx.label ≡ ny.label → ⊥)
+          → nat_le (length x.groups + length y.groups) most ≡ false
+      too_great x y nx ny stay which ne =
+          lt-leb (length x.groups + length y.groups) most
+          (omega (arith, sizes which, nx.size, ny.size))
+        where
+          more : nat_lt (2 * most) (length (row_at S (label_of labels k.low))
+              + length (row_at S (label_of labels k.high)) + 2) ≡ true
+          more =
+              elim (or_cases (label_of labels k.low == label_of labels k.high) _ stay) [
+                | inl same ↦ absurd (ne (by which (eqb-true _ _ same)))
+                | inr great ↦ great
               ]
-        ]
+            where
+              by : ((nx.label ≡ label_of labels k.low) × (ny.label ≡ label_of labels k.high))
+                  ⊎ ((nx.label ≡ label_of labels k.high) × (ny.label ≡ label_of labels k.low))
+                  → label_of labels k.low ≡ label_of labels k.high → nx.label ≡ ny.label
+              by (inl e) s = e.0 ∙ s ∙ sym e.1
+              by (inr e) s = e.0 ∙ sym s ∙ sym e.1
+
+          sizes : ((nx.label ≡ label_of labels k.low) × (ny.label ≡ label_of labels k.high))
+              ⊎ ((nx.label ≡ label_of labels k.high) × (ny.label ≡ label_of labels k.low))
+              → 2 * most < length (row_at S nx.label) + length (row_at S ny.label) + 2
+          sizes (inl e) =
+              subst (λ n. 2 * most < n)
+              (λ i. length (row_at S (sym e.0 i)) + length (row_at S (sym e.1 i)) + 2)
+              (ltb-true (2 * most) _ more)
+          sizes (inr e) =
+              let there = subst (λ n. 2 * most < n)
+              (λ i. length (row_at S (sym e.1 i)) + length (row_at S (sym e.0 i)) + 2)
+              (ltb-true (2 * most) _ more) in
+              omega (arith, there)
+
+      stays_with : (x : Node) (g other : ℕ) (nodes : List Node) → g < length G → other < length G
+          → ((other ≡ k.low) × (g ≡ k.high)) ⊎ ((other ≡ k.high) × (g ≡ k.low))
+          → stays S (label_of labels k.low) (label_of labels k.high) most ≡ true → IsNode G S x
+          → AllByRecursion (IsNode G S) nodes → has_group other x ≡ true → has_group g x ≡ false
+          → with_node most x g nodes ≡ x ∷ nodes
+      stays_with x g other nodes g_in other_in which stay nx each has not =
+          by (find (has_group g) nodes) refl
+        where
+          by : (o : Option Node) → find (has_group g) nodes ≡ o → with_node most x g nodes ≡ x ∷ nodes
+          by None e = rw e refl
+          by (Some y) e =
+              let there = found_in (IsNode G S) g y nodes e each in
+              let ny = there.0 in
+              let lx = label_from other x nx other_in has in
+              let ly = label_from g y ny g_in there.1 in
+              let great = too_great x y nx ny stay (pair which lx ly)
+              (λ s. both_ways (has_group g x) not (has_from g x nx g_in (ly ∙ sym s))) in
+              rw e (cond-false (nat_le (length x.groups + length y.groups) most)
+              (fork x y ∷ without g nodes) (x ∷ nodes) great)
+            where
+              pair : ((other ≡ k.low) × (g ≡ k.high)) ⊎ ((other ≡ k.high) × (g ≡ k.low))
+                  → {l m : ℕ} → label_of labels other ≡ l → label_of labels g ≡ m
+                  → ((l ≡ label_of labels k.low) × (m ≡ label_of labels k.high))
+                  ⊎ ((l ≡ label_of labels k.high) × (m ≡ label_of labels k.low))
+              pair (inl w) p q =
+                  inl (sym p ∙ ap (label_of labels) w.0, sym q ∙ ap (label_of labels) w.1)
+              pair (inr w) p q =
+                  inr (sym p ∙ ap (label_of labels) w.0, sym q ∙ ap (label_of labels) w.1)
+
+      -- nodes that are one, or too great, stay
+      pub merged_stays : (nodes : List Node)
+          → stays S (label_of labels k.low) (label_of labels k.high) most ≡ true
+          → AllByRecursion (IsNode G S) nodes → merged most k nodes ≡ nodes
+      merged_stays [] stay each = refl
+      merged_stays (x ∷ nodes) stay each =
+          elim (cases_Bool (has_group k.low x)) [
+            | inl low ↦ cond-true (has_group k.low x) _ _ low
+                ∙ elim (cases_Bool (has_group k.high x)) [
+                  | inl high ↦ cond-true (has_group k.high x) _ _ high
+                  | inr not ↦ cond-false (has_group k.high x) _ _ not
+                      ∙ stays_with x k.high k.low nodes high_in low_in (inl (refl, refl)) stay each.0
+                      each.1
+                      low not
+                ]
+            | inr none ↦ cond-false (has_group k.low x) _ _ none
+                ∙ elim (cases_Bool (has_group k.high x)) [
+                  | inl high ↦ cond-true (has_group k.high x) _ _ high
+                      ∙ stays_with x k.low k.high nodes low_in high_in (inr (refl, refl)) stay each.0
+                      each.1
+                      high none
+                  | inr not ↦ cond-false (has_group k.high x) _ _ not
+                      ∙ ap (λ z. x ∷ z) (merged_stays nodes stay each.1)
+                ]
+          ]

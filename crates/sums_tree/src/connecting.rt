@@ -12,8 +12,8 @@ ghost use Rattle.sums_tree.specs.Homes.{AreHomes};
 ghost use Rattle.sums_tree.specs.Connections.{between, first_of};
 
 use crate::chains::Chains;
-use crate::opposites::are_opposed;
 use cnf::marks::Marks;
+use cnf::opposites::are_opposed;
 use cnf::types::{Instance, Lit};
 use std::alloc::AllocError;
 use std::marker::Model;

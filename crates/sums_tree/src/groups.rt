@@ -4,9 +4,9 @@ ghost use Rattle.sums_tree.specs.Groups.{group_rows};
 
 use crate::chains::Chains;
 use crate::joining::Grouping;
-use crate::opposites::are_opposed;
 use crate::partners::partners_of;
 use cnf::marks::Marks;
+use cnf::opposites::are_opposed;
 use cnf::types::Instance;
 use std::alloc::AllocError;
 

@@ -12,7 +12,6 @@ mod homes;
 mod joining;
 mod looking;
 mod nodes;
-mod opposites;
 mod pairing;
 mod partners;
 mod seen;

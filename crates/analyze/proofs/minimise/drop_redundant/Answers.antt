@@ -1,4 +1,4 @@
-use Rattle.std.proofs.Common.{rules, arith, ◌≡◌, ◌≢◌, ◌<◌, ◌≤◌, length, sym, ◌∙◌}
+use Rattle.std.proofs.Common.{rules, arith, ◌≡◌, ◌≢◌, ◌<◌, length, sym, ◌∙◌}
 use Rattle.analyze.specs.declared.marks.Mark.TheVariants.{Kept}
 use Rattle.analyze.specs.Marks.{mark_at}
 use Rattle.analyze.proofs.Lower.{lower_reduced, lower_same, lower_long}

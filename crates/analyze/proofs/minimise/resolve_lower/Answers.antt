@@ -1,7 +1,7 @@
 use Rattle.std.proofs.Common.{arith, ◌≡◌, ◌<◌, ◌≤◌, sym, ◌∙◌, subst, length}
 use Rattle.std.specs.Prelude.{All}
 use Rattle.std.proofs.lemmas.Option.{same_Some}
-use Rattle.analyze.specs.declared.marks.Mark.TheVariants.{Kept, Resolved}
+use Rattle.analyze.specs.declared.marks.Mark.TheVariants.{Kept}
 use Rattle.analyze.specs.Marks.{mark_at}
 use Rattle.analyze.proofs.Listing.{listed_resolved}
 use Rattle.analyze.proofs.Resolving.{kept_is_not_clear}

@@ -5,9 +5,9 @@ use Rattle.std.proofs.lemmas.List.Elements.{All-head, All-tail}
 use Rattle.std.specs.Prelude.{All}
 use Rattle.cnf.specs.Clause.{has_opposites}
 use Rattle.cnf.specs.Instance.{IsClauseWithin}
+use Rattle.cnf.proofs.Laws.{places_within}
 use Rattle.bound.specs.Bound.{kept}
 use Rattle.bound.proofs.Few.{kept_le}
-use Rattle.bound.proofs.Kept.{places_within}
 use Rattle.bound.proofs.Streams.{hard_counted, hard_passed}
 use Rattle.bound.proofs.encoding.count_hard.Goals as goal
 

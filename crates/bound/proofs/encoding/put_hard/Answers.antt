@@ -6,8 +6,8 @@ use Rattle.std.proofs.lemmas.Result.{err_from_is_err_and}
 use Rattle.std.specs.Prelude.{All}
 use Rattle.cnf.specs.Clause.{has_opposites}
 use Rattle.cnf.specs.Instance.{IsClauseWithin}
+use Rattle.cnf.proofs.Laws.{places_within}
 use Rattle.bound.specs.Bound.{kept}
-use Rattle.bound.proofs.Kept.{places_within}
 use Rattle.bound.proofs.Streams.{lines_of, none_put, same_left, all_put, hard_put, hard_skipped}
 use Rattle.bound.proofs.Streams.{hard_fault}
 use Rattle.bound.proofs.encoding.put_hard.Goals as goal

@@ -4,8 +4,9 @@ use Rattle.std.proofs.lemmas.List.{append_assoc}
 use Rattle.std.proofs.lemmas.List.Elements.{All-head, All-tail}
 use Rattle.std.specs.Prelude.{All}
 use Rattle.cnf.specs.Instance.{IsClauseWithin}
+use Rattle.cnf.proofs.Laws.{places_within}
 use Rattle.bound.specs.Bound.{kept}
-use Rattle.bound.proofs.Kept.{kept-append, places_within}
+use Rattle.bound.proofs.Kept.{kept-append}
 use Rattle.bound.proofs.hard.keep_hard.Goals as goal
 use Rattle.bound.proofs.hard.keep_hard.Goals.{After-next}
 

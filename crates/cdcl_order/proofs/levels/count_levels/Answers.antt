@@ -2,8 +2,8 @@ use Rattle.std.proofs.Common.{◌≡◌, ℕ, ◌+◌, ◌-◌, ◌<◌, ◌≤�
 use Rattle.std.proofs.Common.{sym, ◌∙◌, ap, subst, arith}
 use Rattle.std.specs.Prelude.{All, min, unwrap_or}
 use Rattle.std.proofs.lemmas.List.Elements.{All-set}
-use Rattle.propagate.specs.Trail.{level_in}
-use Rattle.cdcl_order.specs.Levels.{level_of, levels_of, with_level}
+use Rattle.propagate.specs.Trail.{level_in, level_of}
+use Rattle.cdcl_order.specs.Levels.{levels_of, with_level}
 use Rattle.cdcl_order.proofs.Stamps.{AreStamped, stamped_more, met_first, met_before, levels_more}
 use Rattle.cdcl_order.proofs.Stamps.{level_low}
 use Rattle.cdcl_order.proofs.levels.count_levels.Goals as goal

@@ -8,5 +8,6 @@ use Rattle.sums_tree.proofs.adding.add_up.Goals as goal
 pub add_to-requires : goal.add_to-requires
 add_to-requires c =
     subst (IsSortedBy is_lower)
-    (sym (whole_list c.args.parts.now c.first-item.result c.in-len1-up.len_at_least c.first-item.is))
+    (sym (whole_list c.args.parts.now c.first-item.result c.in-len1-up.len_at_least
+    c.first-item.is))
     c.requires

@@ -3,8 +3,8 @@ use Rattle.std.proofs.Common.{◌∙◌, ◌∷◌, sym, subst, length, arith}
 use Rattle.std.specs.Prelude.{All}
 use Rattle.std.proofs.lemmas.List.Elements.{All-head, All-tail}
 use Rattle.cnf.specs.Instance.{IsClauseWithin}
+use Rattle.cnf.proofs.Laws.{places_within}
 use Rattle.sums_tree.specs.Groups.{grouped}
-use Rattle.sums_tree.proofs.Partnered.{places_within}
 use Rattle.sums_tree.proofs.Rows.{clause_skipped, clause_step, homes_row, variables_within}
 use Rattle.sums_tree.proofs.connecting.connect_clauses.Goals as goal
 

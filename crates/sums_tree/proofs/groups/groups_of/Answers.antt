@@ -4,10 +4,10 @@ use Rattle.std.proofs.Common.{replicate, List, []}
 use Rattle.cnf.specs.Clause.{has_opposites}
 use Rattle.cnf.specs.Problem.{SoftClause}
 use Rattle.cnf.specs.Marks.{HasPlace}
+use Rattle.cnf.proofs.Laws.{places_within}
 use Rattle.sums_tree.specs.Groups.{plain}
 use Rattle.sums_tree.specs.Joining.{Adds, IsReady}
 use Rattle.sums_tree.specs.Partners.{ArePartners}
-use Rattle.sums_tree.proofs.Partnered.{places_within}
 use Rattle.sums_tree.proofs.Progress.{begun, skipped, is_ready, gone_on, all_grouped, within_limits}
 use Rattle.sums_tree.proofs.groups.groups_of.Goals as goal
 

@@ -20,7 +20,12 @@ touch_all-requires-clause-places c =
     let p = c.args.instance.now in
     let k = c.loop-group.group - 1 in
     let lt : k < length (group_rows p) =
-    omega (arith, ap length c.requires.members, c.loop-group.invariant.within, c.loop-group-test.true) in
+    omega (
+      arith,
+      ap length c.requires.members,
+      c.loop-group.invariant.within,
+      c.loop-group-test.true,
+    ) in
     subst (λ (ss : List SoftClause). All (λ m. m < length ss) (row_at c.args.members.now k))
     (sym c.soft-clauses.ensures)
     (subst (λ rows. All (λ m. m < length p.soft) (row_at rows k)) (sym c.requires.members)
@@ -41,11 +46,17 @@ loop-group-preserved c =
     let k = g - 1 in
     let next : k + 1 ≡ g = omega (arith, c.loop-group-test.true) in
     let lt : k < length (group_rows p) =
-    omega (arith, ap length c.requires.members, c.loop-group.invariant.within, c.loop-group-test.true) in
+    omega (
+      arith,
+      ap length c.requires.members,
+      c.loop-group.invariant.within,
+      c.loop-group-test.true,
+    ) in
     let there : k < length (grouped p) = omega (arith, lt, length-map (grouped p) row_of) in
     let rows = c.loop-group.rows in
     let more : drop k (grouped p) ≡ get_or (grouped p) k [] ∷ drop g (grouped p) =
-    drop_more (grouped p) k [] there ∙ ap (λ i. get_or (grouped p) k [] ∷ drop i (grouped p)) next in
+    drop_more (grouped p) k [] there
+    ∙ ap (λ i. get_or (grouped p) k [] ∷ drop i (grouped p)) next in
     record {
       within = omega (arith, c.loop-group.invariant.within);
       long = c.in_ok-touch_all.ensures.long ∙ c.loop-group.invariant.long;
@@ -55,7 +66,8 @@ loop-group-preserved c =
           (row_at c.touch_all.new.rows v) _
           ((λ i. list_any (λ m. occurs v (clause_at (c.soft-clauses.ensures i) m))
           (row_at (c.requires.members i) k)) ∙ occurs_in p v k lt)
-          (c.loop-group.invariant.each v h ∙ ap (λ i. groups_with v i (drop g (grouped p))) (sym next))
+          (c.loop-group.invariant.each v h
+          ∙ ap (λ i. groups_with v i (drop g (grouped p))) (sym next))
           (c.in_ok-touch_all.ensures.each v in')
           ∙ ap (groups_with v k) (sym more);
     }

@@ -6,7 +6,8 @@ use Rattle.sums_tree.proofs.joining.put.Goals as goal
 
 pub returns-then-row-len : goal.returns-then-row-len
 returns-then-row-len c =
-    let last : c.args.row ≡ length c.args.rows.now = omega (arith, c.if-row-len.true, c.len.ensures) in
+    let last : c.args.row ≡ length c.args.rows.now =
+    omega (arith, c.if-row-len.true, c.len.ensures) in
     on_ok_weaker c.push.result (λ h. put_new c.args.rows.now c.push_row.new.self _ c.args.row
     c.args.number c.in_ok-push_row.ensures last h) c.push.ensures
 

@@ -20,7 +20,8 @@ loop-lit-preserved c =
     let having = c.args.having.now in
     let partners = c.args.partners.now in
     let place = c.index.ensures.index ∙ ap index_of c.negation.ensures in
-    let first = c.in_ok-see_row.ensures ∙ ap (λ i. with_seen (row_at having i) c.loop-lit.seen) place in
+    let first = c.in_ok-see_row.ensures
+    ∙ ap (λ i. with_seen (row_at having i) c.loop-lit.seen) place in
     let second = c.in_ok-look_along.ensures
     ∙ ap (λ i. with_seen (flat_map (row_at having) (row_at partners i)) c.see_row.new.seen)
     c.index-in-loop-lit.ensures.index in
@@ -33,6 +34,7 @@ loop-lit-preserved c =
       long = ap length second
           ∙ length-with_seen (flat_map (row_at having) (row_at partners (index_of l)))
           c.see_row.new.seen
-          ∙ ap length first ∙ length-with_seen (row_at having (index_of (negation l))) c.loop-lit.seen
+          ∙ ap length first ∙ length-with_seen (row_at having (index_of (negation l)))
+          c.loop-lit.seen
           ∙ c.loop-lit.invariant.long;
     }

@@ -28,7 +28,8 @@ merge-requires-clause-second c =
     c.loop-connection-test.true c.connection-item.is c.requires.among in
     let high = ap (λ (x : Connection). x.high) c.connection.view_is in
     let label = get_or_read labels c.connection.inside.high c.index-in-loop-connection.result.now
-    (omega (arith, in'.1, high, c.loop-connection.invariant.len)) c.index-in-loop-connection.ensures 0
+    (omega (arith, in'.1, high, c.loop-connection.invariant.len)) c.index-in-loop-connection.ensures
+    0
     ∙ ap (label_of labels) high in
     subst (λ z. 0 < length (row_at c.loop-connection.tracks.items z)) (sym label)
     (some_in k.high _ (c.loop-connection.invariant.labels.owns k.high in'.1))
@@ -50,14 +51,17 @@ loop-connection-preserved c =
     (omega (arith, in'.0, low, c.loop-connection.invariant.len)) c.index.ensures 0
     ∙ ap (label_of labels) low in
     let y = get_or_read labels c.connection.inside.high c.index-in-loop-connection.result.now
-    (omega (arith, in'.1, high, c.loop-connection.invariant.len)) c.index-in-loop-connection.ensures 0
+    (omega (arith, in'.1, high, c.loop-connection.invariant.len)) c.index-in-loop-connection.ensures
+    0
     ∙ ap (label_of labels) high in
-    let merges : Merges labels new S T (label_of labels k.low) (label_of labels k.high) c.args.most n =
+    let merges : Merges labels new S T (label_of labels k.low) (label_of labels k.high) c.args.most
+    n =
     subst (λ z. Merges labels new S T z (label_of labels k.high) c.args.most n) x
     (subst (λ z. Merges labels new S T c.index.result.now z c.args.most n) y
     (subst (λ m. Merges labels new S T c.index.result.now c.index-in-loop-connection.result.now
     c.args.most m) c.loop-connection.invariant.len c.in_ok-merge.ensures)) in
-    let after = labels_go S T labels new k c.args.most n in'.0 in'.1 c.loop-connection.invariant.labels
+    let after = labels_go S T labels new k c.args.most n in'.0 in'.1
+    c.loop-connection.invariant.labels
     merges in
     record {
       len = after.labels_long;

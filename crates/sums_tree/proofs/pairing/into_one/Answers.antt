@@ -35,7 +35,8 @@ loop-left-preserved c = λ G ts long h.
 
 pub returns-then-is_empty : goal.returns-then-is_empty
 returns-then-is_empty c = λ G ts long h.
-    let zero = eqb-true (vec_len c.loop-left.left) 0 (sym c.is_empty.ensures ∙ c.if-is_empty.true) in
+    let zero = eqb-true (vec_len c.loop-left.left) 0
+    (sym c.is_empty.ensures ∙ c.if-is_empty.true) in
     let none : length c.loop-left.left.items ≡ 0 = omega (arith, zero, c.loop-left.left.ok.0) in
     ap (steps_at G) c.new.ensures
     ∙ left_none G c.loop-left.left.items ts (nil_from_length c.loop-left.left.items none)
@@ -44,7 +45,8 @@ returns-then-is_empty c = λ G ts long h.
 pub returns : goal.returns
 returns c =
     let parts = c.loop-left.left.items in
-    let ne = eqb-false (vec_len c.loop-left.left) 0 (sym c.is_empty.ensures ∙ c.if-is_empty.false) in
+    let ne = eqb-false (vec_len c.loop-left.left) 0
+    (sym c.is_empty.ensures ∙ c.if-is_empty.false) in
     let some : 0 < length parts = elim (cases_lt 0 (length parts)) [
       | inl h ↦ h
       | inr ge ↦ absurd (ne (omega (arith, ge, c.loop-left.left.ok.0)))

@@ -3,7 +3,8 @@ use Rattle.std.proofs.Common.{◌*◌, ◌≤◌, ◌∷◌, ◌∙◌, subst, a
 use Rattle.std.proofs.lemmas.List.Elements.{All-head, All-tail}
 use Rattle.std.specs.Prelude.{All}
 use Rattle.cnf.specs.Instance.{IsClauseWithin}
-use Rattle.sums_tree.proofs.Partnered.{Covers, covers_more, places_within}
+use Rattle.cnf.proofs.Laws.{places_within}
+use Rattle.sums_tree.proofs.Partnered.{Covers, covers_more}
 use Rattle.sums_tree.proofs.partners.partners_of.Goals as goal
 
 pub add-requires-clause-places : goal.add-requires-clause-places

@@ -1,4 +1,4 @@
-use Rattle.std.proofs.Common.{◌≡◌, ℕ, ◌+◌, ◌≤◌, ◌++◌, List, [], length, map, filter, drop, sym, ◌∙◌}
+use Rattle.std.proofs.Common.{◌≡◌, ℕ, ◌+◌, ◌≤◌, ◌++◌, List, length, map, filter, drop, sym, ◌∙◌}
 use Rattle.std.proofs.Common.{ap, append-nil, arith, rules}
 use Rattle.std.proofs.lemmas.List.{at_drop_all}
 use Rattle.cnf.specs.Problem.{SoftClause}

@@ -1,4 +1,4 @@
-use Rattle.std.proofs.Common.{◌≡◌, length, ap, sym, ◌∙◌, arith}
+use Rattle.std.proofs.Common.{length, ap, arith}
 use Rattle.clauses.proofs.Laws.{length-zipped}
 use Rattle.cdcl.specs.Solving.{given_as}
 use Rattle.cdcl.proofs.given.GivenClauses.len.Goals as goal

@@ -1,6 +1,4 @@
-use Rattle.std.proofs.Common.{◌≡◌, ◌<◌, length, ap, sym, ◌∙◌, arith}
-use Rattle.std.specs.Prelude.{slice_get}
-use Rattle.lrat_log.specs.Log.{clauses_in}
+use Rattle.std.proofs.Common.{length, ap, arith}
 use Rattle.clauses.proofs.Laws.{length-zipped}
 use Rattle.cdcl.specs.Solving.{given_as}
 use Rattle.cdcl.proofs.GivenList.{listed_clauses}

@@ -1,10 +1,9 @@
 -- What elimination leaves starts the search.
-use Rattle.std.proofs.Common.{◌≡◌, ◌<◌, ◌≤◌, ◌+◌, ◌^◌, false, List, length, rules, take, map, sym}
+use Rattle.std.proofs.Common.{◌≡◌, ◌<◌, ◌≤◌, ◌+◌, ◌^◌, List, length, take, map, sym}
 use Rattle.std.proofs.Common.{◌∙◌, ap, subst, arith}
 use Rattle.std.specs.Prelude.{All}
 use Rattle.std.proofs.lemmas.List.{drop_all, length-map}
 use Rattle.cnf.specs.Literal.{Literal}
-use Rattle.cnf.specs.Clause.{has_repeat}
 use Rattle.cnf.specs.Refute.{IsRefutedByHints}
 use Rattle.clauses.specs.Slots.{live_clauses}
 use Rattle.lrat_log.specs.declared.lines.Name.{Name}

@@ -43,13 +43,15 @@ loop-done-preserved c =
       len = c.in_ok-go_round.ensures.len ∙ n;
       labels = subst (AreLabels _ _) n c.in_ok-go_round.ensures.labels;
       nodes = λ gs long. next_round gs c.loop-done.tracks.items c.go_round.new.tracks.items
-          c.args.connections.now c.loop-done.done c.loop-done.most _ c.args.groups (omega (arith, c.loop-done-test.true)) long (omega arith)
+          c.args.connections.now c.loop-done.done c.loop-done.most _ c.args.groups
+          (omega (arith, c.loop-done-test.true)) long (omega arith)
           (c.loop-done.invariant.nodes gs long)
           (subst (GoesRound c.loop-done.tracks.items c.go_round.new.tracks.items
           c.args.connections.now c.loop-done.most) n c.in_ok-go_round.ensures.nodes);
     }
 
 pub returns-clause-nodes : goal.returns-clause-nodes
-returns-clause-nodes c = λ gs long. all_rounds gs _ c.args.connections.now c.loop-done.done c.loop-done.most
+returns-clause-nodes c = λ gs long. all_rounds gs _ c.args.connections.now c.loop-done.done
+    c.loop-done.most
     (omega (arith, c.loop-done-test.false, c.loop-done.auto.done-end))
     (c.loop-done.invariant.nodes gs long)

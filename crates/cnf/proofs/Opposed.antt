@@ -1,20 +1,17 @@
--- Opposite pairs, as the literals are walked and marked.
-use Rattle.std.proofs.Common.{◌≡◌, ℕ, ◌+◌, ◌<◌, Bool, true, false, not, ◌&&◌, ◌==◌, ◌||◌, List, []}
-use Rattle.std.proofs.Common.{◌∷◌, ◌++◌, length, take, get_or, set, refl, sym, ◌∙◌, ap, subst}
-use Rattle.std.proofs.lemmas.Bool.{false≢true, eqb-true, eq-eqb, ne_eqb}
+-- Opposite pairs, as the literals are walked and marked, and what they make true.
+use Rattle.std.proofs.Common.{◌≡◌, ℕ, ◌+◌, ◌<◌, Bool, true, false, not, ◌&&◌, ◌||◌, List, []}
+use Rattle.std.proofs.Common.{◌∷◌, ◌++◌, length, take, get_or, set, inl, inr, refl, sym, ◌∙◌, ap}
+use Rattle.std.proofs.Common.{subst}
+use Rattle.std.proofs.lemmas.Bool.{false≢true, or_left, or_right, or_cases, cases_Bool}
 use Rattle.std.proofs.lemmas.List.{take_more}
 use Rattle.std.proofs.lemmas.List.Folds.{list_any-append}
-use Rattle.cnf.specs.Literal.{Literal, negation, literal_eq, same_bool, index_of}
-use Rattle.cnf.specs.Clause.{contains_literal, has_opposites}
+use Rattle.cnf.specs.Literal.{Literal, Assignment, negation, literal_value, literal_eq, same_bool}
+use Rattle.cnf.specs.Literal.{index_of}
+use Rattle.cnf.specs.Clause.{clause_value, contains_literal, has_opposites}
 use Rattle.cnf.specs.Marks.{mark_of, IsMarked, HasPlace}
-use Rattle.cnf.proofs.Laws.{marked_one}
-
-pub same_number : (m n : ℕ) → (m == n) ≡ (n == m)
-same_number m n =
-    elim (m == n) as (λ b. (m == n) ≡ b → b ≡ (n == m)) [
-      | true ↦ λ e. sym (eq-eqb n m (sym (eqb-true m n e)))
-      | false ↦ λ e. sym (ne_eqb n m (λ s. false≢true (sym e ∙ eq-eqb m n (sym s))))
-    ] refl
+use Rattle.cnf.proofs.Marking.{marked_one}
+use Rattle.cnf.proofs.Numbers.{same_number}
+use Rattle.cnf.proofs.Sound.{literal_eq-true, negation-value}
 
 opposite_eq : (k l : Literal) → literal_eq (negation k) l ≡ literal_eq (negation l) k
 opposite_eq k l = λ i. same_number k.variable l.variable i && by k.negated l.negated i
@@ -57,3 +54,27 @@ mark_step marks found lits i l h is p inv =
           ∙ ap (λ b. has_opposites (take i lits) || b) (inv.0.marked (negation l) p.0)
           ∙ sym (opposites-more (take i lits) l) ∙ ap has_opposites (sym more),
     )
+
+pub contained_true : (t : Assignment) (l : Literal) (c : List Literal) → contains_literal l c ≡ true
+    → literal_value t l ≡ true → clause_value t c ≡ true
+contained_true t l [] h e = absurd (false≢true h)
+contained_true t l (k ∷ c) h e =
+    elim (or_cases (literal_eq l k) (contains_literal l c) h) [
+      | inl here ↦ or_left (literal_value t k) (clause_value t c)
+          (subst (λ m. literal_value t m ≡ true) (literal_eq-true l k here) e)
+      | inr more ↦ or_right (literal_value t k) (clause_value t c) (contained_true t l c more e)
+    ]
+
+-- a clause with an opposite pair is true
+pub opposites_true : (t : Assignment) (c : List Literal) → has_opposites c ≡ true
+    → clause_value t c ≡ true
+opposites_true t [] h = absurd (false≢true h)
+opposites_true t (l ∷ c) h =
+    elim (or_cases (contains_literal (negation l) c) (has_opposites c) h) [
+      | inl here ↦ elim (cases_Bool (literal_value t l)) [
+        | inl on ↦ or_left (literal_value t l) (clause_value t c) on
+        | inr off ↦ or_right (literal_value t l) (clause_value t c)
+            (contained_true t (negation l) c here (negation-value t l off))
+      ]
+      | inr more ↦ or_right (literal_value t l) (clause_value t c) (opposites_true t c more)
+    ]

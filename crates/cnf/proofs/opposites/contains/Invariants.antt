@@ -1,7 +1,7 @@
 -- The literal is not among those before the index.
 use Rattle.std.proofs.Common.{◌≡◌, drop}
 use Rattle.cnf.specs.Clause.{contains_literal}
-use Rattle.sums_tree.proofs.opposites.contains.Given as goal
+use Rattle.cnf.proofs.opposites.contains.Given as goal
 
 abbrev pub invariant-loop-other : goal.invariant-loop-other
 invariant-loop-other l =

@@ -3,7 +3,7 @@
 use Rattle.std.proofs.Common.{◌≡◌, length, take}
 use Rattle.cnf.specs.Clause.{has_opposites}
 use Rattle.cnf.specs.Marks.{IsMarked}
-use Rattle.bound.proofs.keeping.meets_negation.Given as goal
+use Rattle.cnf.proofs.opposites.meets_negation.Given as goal
 
 abbrev pub invariant-loop-lit : goal.invariant-loop-lit
 invariant-loop-lit l = record {

@@ -1,17 +1,17 @@
-// Whether a clause has an opposite pair, in time linear in its length.
+// Whether a clause has an opposite pair.
 ghost use Rattle.std.specs.Prelude.{◌≡◌, length, All};
 ghost use Rattle.cnf.specs.Clause.{contains_literal, has_opposites};
 ghost use Rattle.cnf.specs.Marks.{HasPlace};
 
-use cnf::marks::Marks;
-use cnf::types::Lit;
+use crate::marks::Marks;
+use crate::types::Lit;
 
 /// Clauses up to this length are searched for opposites pair by pair, which takes fewer steps than
 /// marks do.
 const FEW: usize = 8;
 
 /// Whether some literal stands with its negation, in time linear in their number.
-pub(crate) fn are_opposed(marks: &mut Marks, lits: &[Lit]) -> bool
+pub fn are_opposed(marks: &mut Marks, lits: &[Lit]) -> bool
     requires { All (HasPlace (length marks.old)) lits.now }
     ensures value { result ≡ has_opposites lits.now }
     ensures marks { length marks.new ≡ length marks.old }
@@ -39,8 +39,8 @@ fn meets_negation(marks: &mut Marks, lits: &[Lit]) -> bool
     found
 }
 
-/// Whether some literal stands with its negation.
-fn has_opposites(lits: &[Lit]) -> bool
+/// Whether some literal stands with its negation: pair by pair, for a few literals.
+pub fn has_opposites(lits: &[Lit]) -> bool
     ensures { result ≡ has_opposites lits.now }
 {
     let mut rest = lits;
@@ -53,7 +53,8 @@ fn has_opposites(lits: &[Lit]) -> bool
     false
 }
 
-fn contains(lits: &[Lit], lit: Lit) -> bool
+/// Whether the literal stands in the list.
+pub fn contains(lits: &[Lit], lit: Lit) -> bool
     ensures { result ≡ contains_literal lit lits.now }
 {
     for other in lits {
