@@ -19,8 +19,8 @@ returns-then-branch-clause-all c =
     let taken : Takes c.args.lit es (times c.args.lit es) 0 c.args.ids.now =
     subst (λ n. Takes c.args.lit es n 0 c.args.ids.now) total
     (c.in_ok-take_shown.ensures c.if-branch.true) in
-    rw (← c.self.view_is) (sym (takes_start c.args.lit es from_one (rises_from es c.self.invariant.0)
-    c.args.ids.now taken))
+    rw (← c.self.view_is) (sym (takes_start c.args.lit es from_one
+    (rises_from es c.self.invariant.0) c.args.ids.now taken))
 
 pub returns-clause-all : goal.returns-clause-all
 returns-clause-all c =
