@@ -102,6 +102,32 @@ static void candidate(long n) {
     ended(5 + n);
 }
 
+/* A clause of N literals that N lines name as their candidate. It is true at one literal of it: the last one, or, where
+ * the lines take turns, each in turn the last one and the one in the middle, or any. */
+static void satisfied(long n, char which) {
+    base();
+    fprintf(text, "h -10");
+    for (long i = 1; i < n; i++) fprintf(text, " %ld", 10 + i);
+    fprintf(text, " 0\n");
+    for (long k = 0; k < n; k++) {
+        long at = which == 'a' ? 1 + (long)below((unsigned long)(n - 1)) : which == 't' && k % 2 ? n / 2 : n - 1;
+        fprintf(proof, "%ld 10 -%ld %ld 0 -4 0\n", 5 + k, 10 + at, n + 100 + k % 1000);
+    }
+    ended(5 + n);
+}
+
+/* The same, of two clauses of N / 2 literals in turn, on two variables. */
+static void alternating(long n) {
+    base();
+    for (long c = 0; c < 2; c++) {
+        fprintf(text, "h -%ld", 10 + c);
+        for (long i = 2; i < n / 2; i++) fprintf(text, " %ld", 10 + i);
+        fprintf(text, " 0\n");
+    }
+    for (long k = 0; k < n; k++) fprintf(proof, "%ld %ld -%ld %ld 0 -%ld 0\n", 6 + k, 10 + k % 2, 9 + n / 2, n + 100 + k % 1000, 4 + k % 2);
+    ended(6 + n);
+}
+
 /* One line of N bytes that has no end: blanks, or digits of one number. */
 static void line(long n, char byte) {
     base();
@@ -141,6 +167,10 @@ int main(int argc, char **argv) {
     else if (!strcmp(kind, "falling")) churn(n, 'f');
     else if (!strcmp(kind, "mixed")) churn(n, 'm');
     else if (!strcmp(kind, "candidate")) candidate(n);
+    else if (!strcmp(kind, "last")) satisfied(n, 'l');
+    else if (!strcmp(kind, "turns")) satisfied(n, 't');
+    else if (!strcmp(kind, "any")) satisfied(n, 'a');
+    else if (!strcmp(kind, "two")) alternating(n);
     else if (!strcmp(kind, "blanks")) line(n, ' ');
     else if (!strcmp(kind, "digits")) line(n, '7');
     else if (!strcmp(kind, "hints")) hints(n);

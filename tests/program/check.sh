@@ -87,6 +87,37 @@ verdict 'a pair is replaced' 'NO NoEmptyClause 0'
 lines proof '5 -7 1 2 0 0' '6 7 -1 0 0'
 verdict 'a pair with a candidate that is not named' 'NO Candidates 2'
 
+# Two clauses have the negated pivot. The line names both, one, one of them twice, or both out of order; and the second one,
+# which is true where the line's clause is false, has a hint.
+lines text 'h -9 1 0' 'h -9 -2 0' 'h 1 2 0' 'h 1 -2 0' 'h -1 0'
+while IFS='|' read -r proof wanted; do
+    printf '%b\n' "$proof" > "$work/proof"
+    verdict "$proof" "NO $wanted"
+done <<'ROWS'
+6 9 -1 2 0 -1 -2 0|NoEmptyClause 0
+6 9 -1 2 0 -1 0|Candidates 1
+6 9 -1 2 0 -1 -1 -2 0|Candidates 1
+6 9 -1 2 0 -2 -1 0|Candidates 1
+6 9 -1 2 0 -1 -2 -3 0|Candidates 1
+6 9 -1 2 0 -1 -2 3 0|HintAfterConflict 1
+6 9 -1 2 0 -1 5 -2 0|HintAfterConflict 1
+6 9 2 0 -1 3 -2 0|NoEmptyClause 0
+6 9 2 0 -1 4 -2 0|HintNotUnit 1
+ROWS
+# A candidate of 71 literals, which is sorted once it was named.
+lines text "h -9 $(seq -s ' ' 100 169) 0" 'h 1 2 0' 'h -1 0'
+while IFS='|' read -r proof wanted; do
+    printf '%b\n' "$proof" > "$work/proof"
+    verdict "$proof" "NO $wanted"
+done <<'ROWS'
+4 9 -169 170 0 -1 0\n5 9 -169 0 -1 0\n6 9 -100 0 -1 0|NoEmptyClause 0
+4 9 -169 0 -1 0\n5 9 -169 0 -1 2 0|HintAfterConflict 2
+4 9 -169 0 -1 0\n5 9 -169 0 0|Candidates 2
+4 9 -169 0 -1 0\n5 9 169 0 -1 0|NoConflict 2
+4 9 -169 0 -1 0\n5 9 0 -1 0|NoConflict 2
+4 9 -169 0 -1 0\n4 d 1 0\n5 9 -169 0 -1 0|Candidates 3
+ROWS
+
 # Results.
 lines text 'h 1 2 0' '3 -1 0' '4 -2 0'
 lines result 'o 3' 's OPTIMUM FOUND' 'v 10'

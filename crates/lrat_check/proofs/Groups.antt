@@ -6,7 +6,10 @@ use Rattle.std.proofs.Math.Bool.{cond}
 use Rattle.std.specs.Prelude.{◌==◌, filter}
 use Rattle.std.specs.Bool.{then_some}
 use Rattle.std.specs.List.{list_any}
-use Rattle.std.proofs.lemmas.Bool.{or_left, or_right, cases_eq, eq-eqb, ne_eqb}
+use Rattle.std.proofs.lemmas.Bool.{or_left, or_right, or_cases, cases_eq, eq-eqb, ne_eqb}
+use Rattle.std.proofs.lemmas.Bool.{false≢true}
+use Rattle.cnf.proofs.Laws.{literal_eq-true}
+use Rattle.lrat_check.proofs.Members.{in_middle}
 use Rattle.std.proofs.lemmas.List.{drop_more, drop_all}
 use Rattle.cnf.specs.Literal.{Literal, negation, literal_eq}
 use Rattle.cnf.specs.Clause.{contains_literal, without_literal}
@@ -58,6 +61,33 @@ true_at A c i k l lt here ne h =
     (ap (λ zs. take i c ++ zs) (sym (drop_at c i l lt here)) ∙ take-append-drop i c)
     (any_kept (λ x. contains_literal x A) (λ x. not (literal_eq k x)) (take i c) (drop (i + 1) c) l
     (ap not (ne_codes k l ne)) h)
+
+-- a literal of the candidate that is true
+true_kept : (p q : Literal → Bool) (l : Literal) (c : List Literal) → contains_literal l c ≡ true
+    → q l ≡ true → p l ≡ true → list_any p (filter q c) ≡ true
+true_kept p q l [] h t k = absurd (false≢true h)
+true_kept p q l (x ∷ c) h t k =
+    elim (or_cases (literal_eq l x) (contains_literal l c) h) [
+      | inl e ↦
+          let same : l ≡ x = literal_eq-true l x e in
+          any_kept p q [] c x (subst (λ y. q y ≡ true) same t) (subst (λ y. p y ≡ true) same k)
+      | inr e ↦ elim (q x) as (λ v. list_any p (cond v (x ∷ filter q c) (filter q c)) ≡ true) [
+        | true ↦ or_right _ _ (true_kept p q l c e t k)
+        | false ↦ true_kept p q l c e t k
+      ]
+    ]
+
+pub true_shown : (A c : List Literal) (i : ℕ) (k l : Literal) → i < length A → l ≡ get_or A i l
+    → not ((2 * l.variable + cond l.negated 1 0) == (2 * k.variable + cond k.negated 1 0)) ≡ true
+    → contains_literal l c ≡ true
+    → list_any (λ x. contains_literal x A) (without_literal k c) ≡ true
+true_shown A c i k l lt here ne h =
+    let among : contains_literal l A ≡ true =
+    subst (λ xs. contains_literal l xs ≡ true)
+    (ap (λ zs. take i A ++ zs) (sym (drop_at A i l lt here)) ∙ take-append-drop i A)
+    (in_middle l (take i A) (drop (i + 1) A)) in
+    true_kept (λ x. contains_literal x A) (λ x. not (literal_eq k x)) l c h
+    (ap not (ne_codes k l ne)) among
 
 -- how a group ends
 pub group_end : (at : Clauses) (p q : Literal) (B T : List Literal) (n : ℕ) (hs : List ℕ)

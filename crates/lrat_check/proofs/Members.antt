@@ -72,7 +72,7 @@ push_other k l xs e =
     ∙ ap (λ b. contains_literal k xs || b) (or_from (literal_eq k l) false e refl)
     ∙ or-false (contains_literal k xs)
 
-in_middle : (l : Literal) (xs ys : List Literal) → contains_literal l (xs ++ l ∷ ys) ≡ true
+pub in_middle : (l : Literal) (xs ys : List Literal) → contains_literal l (xs ++ l ∷ ys) ≡ true
 in_middle l xs ys = list_any-append (literal_eq l) xs (l ∷ ys)
     ∙ or_right _ _ (or_left _ _ (literal_eq-refl l))
 

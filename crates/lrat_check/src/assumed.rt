@@ -49,6 +49,13 @@ impl Assumed {
         self.trail.len()
     }
 
+    /// The literals that are assumed.
+    pub(crate) fn literals(&self) -> &[Lit]
+        ensures { result.now ≡ self.now.literals }
+    {
+        &self.trail
+    }
+
     /// Lets the variables up to this one be assumed.
     pub(crate) fn grow(&mut self, variable: u32) -> Result<(), AllocError>
         requires { variable < 2 ^ 27 }

@@ -1,5 +1,10 @@
 // RAT: the clauses with the negated pivot, which a line has to name all, and the hints of each.
-ghost use Rattle.std.specs.Prelude.{◌≡◌, ℕ, ◌++◌, Some, IfOk, OnOk, length, take, map, All};
+//
+// A candidate of n literals may be true at its last one alone, and n lines may name it: to go over
+// it for each takes n^2 steps. So where it is longer than what the line assumes, each literal that
+// is assumed is first looked for in it, which is done by halving (`LiveClauses::shows`).
+// Still slow: a long candidate that is not true, whose literals are all assumed for each group.
+ghost use Rattle.std.specs.Prelude.{◌≡◌, ℕ, ◌++◌, Some, IfOk, OnOk, length, take, map, All, true};
 ghost use Rattle.std.specs.Prelude.{if◌then◌else◌};
 ghost use Rattle.std.specs.List.{list_any};
 ghost use Rattle.cnf.specs.Literal.{negation};
@@ -33,8 +38,36 @@ fn candidates_of(hints: &[SignedId], ids: &mut Vec<u64>) -> Result<(), AllocErro
     Ok(())
 }
 
+/// Whether one of the literals, other than the left out one, is known to stand in the clause under
+/// an id. A false answer says nothing.
+fn shows_true(live: &LiveClauses, id: u64, clause: &[Lit], left_out: Lit, lits: &[Lit]) -> bool
+    ensures { result ≡ true → list_any (λ k. contains_literal k lits.now)
+        (without_literal left_out clause.now) ≡ true }
+{
+    for lit in lits {
+        if *lit != left_out && live.shows(id, *lit, clause) {
+            return true;
+        }
+    }
+    false
+}
+
+/// As `finds_true`, for the clause under an id.
+fn has_true(live: &LiveClauses, id: u64, clause: &[Lit], left_out: Lit, assumed: &Assumed) -> bool
+    requires { AreWithin assumed.now.variables clause.now }
+    ensures { result ≡ list_any (λ k. contains_literal k assumed.now.literals)
+        (without_literal left_out clause.now) }
+{
+    if assumed.len() < clause.len() / 16
+        && shows_true(live, id, clause, left_out, assumed.literals())
+    {
+        return true;
+    }
+    finds_true(clause, left_out, assumed)
+}
+
 /// Whether a literal other than the left out one is true.
-fn has_true(clause: &[Lit], left_out: Lit, assumed: &Assumed) -> bool
+fn finds_true(clause: &[Lit], left_out: Lit, assumed: &Assumed) -> bool
     requires { AreWithin assumed.now.variables clause.now }
     ensures { result ≡ list_any (λ k. contains_literal k assumed.now.literals)
         (without_literal left_out clause.now) }
@@ -83,7 +116,7 @@ fn group_fault(
     let Some(clause) = live.find(candidate) else {
         return Ok(Some(Cause::DeadId));
     };
-    if has_true(clause, left_out, assumed) {
+    if has_true(live, candidate, clause, left_out, assumed) {
         return Ok((!hints.is_empty()).then_some(Cause::HintAfterConflict));
     }
     let before = assumed.len();

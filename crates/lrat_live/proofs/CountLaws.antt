@@ -16,7 +16,7 @@ use Rattle.cnf.specs.Numbers.{one_if}
 use Rattle.cnf.specs.Literal.{Literal, literal_eq, same_bool, index_of}
 use Rattle.cnf.specs.Clause.{contains_literal}
 use Rattle.cnf.proofs.Laws.{literal_eq-true}
-use Rattle.lrat_live.specs.Counts.{times_in, times, times_at, is_next, take_all, AreCounts}
+use Rattle.lrat_live.specs.Counts.{times_in, times, times_at, is_next, take_all, AreCounts, Takes}
 use Rattle.lrat_live.specs.Counts.{AreRaised, AreLowered}
 use Rattle.lrat_live.specs.Listed.{Listed, ids_of, ids_listed, listed_at, same_ids, without_id}
 use Rattle.lrat_live.proofs.Listed.{Rises}
@@ -119,7 +119,7 @@ times_none l [] e = refl
 times_none l (k ∷ c) e = let h = or_parts (literal_eq l k) (contains_literal l c) e in
     ap (λ n. n + times_in l c) (ap one_if h.0) ∙ zero_plus (times_in l c) ∙ times_none l c h.1
 
-times_some : (l : Literal) (c : List Literal) → contains_literal l c ≡ true → 0 < times_in l c
+pub times_some : (l : Literal) (c : List Literal) → contains_literal l c ≡ true → 0 < times_in l c
 times_some l [] e = absurd (false≢true e)
 times_some l (k ∷ c) e =
     elim (cases_Bool (literal_eq l k)) [
@@ -431,6 +431,142 @@ taken_are_all l count before ((j, c) ∷ es) ids above r a =
               ]) ∙ sym no
         ]
 
+positive : (es : Listed) → All (λ e. 0 < e.0) es → AllByRecursion (λ y. 0 < y) (ids_of es)
+positive [] h = tt
+positive (e ∷ es) h =
+    (All-head (λ x. 0 < x.0) e es h, positive es (All-tail (λ x. 0 < x.0) e es h))
+
+-- what is taken in part
+takes_after : (l : Literal) (j : ℕ) (c : List Literal) (es : Listed) (left before : ℕ)
+    (ids : List ℕ) → j ≤ before → Takes l ((j, c) ∷ es) left before ids → Takes l es left before ids
+takes_after l j c es left before [] h t = t
+takes_after l j c es left before (i ∷ is) h t =
+    let p = next_parts before i t.0 left t.1 in
+    let same = times_there l j c es i (λ e. absurd (omega (arith, p.0, h, e))) in (
+      t.0,
+      t.1,
+      subst (λ k. t.0 ≤ k) same t.2,
+      takes_after l j c es (left - t.0) i is (omega (arith, p.0, h)) t.3,
+    )
+
+takes_none : (l : Literal) (j : ℕ) (c : List Literal) (es : Listed) (left before : ℕ)
+    (ids : List ℕ) → contains_literal l c ≡ false → Takes l ((j, c) ∷ es) left before ids
+    → Takes l es left before ids
+takes_none l j c es left before [] none t = t
+takes_none l j c es left before (i ∷ is) none t =
+    let p = next_parts before i t.0 left t.1 in (
+      t.0,
+      t.1,
+      elim (cases_eq i j) [
+        | inl same ↦
+            let z : times_at l ((j, c) ∷ es) i ≡ 0 =
+            times_here l j c es i same ∙ times_none l c none in
+            absurd (omega (arith, p.1, z, t.2))
+        | inr other ↦ subst (λ k. t.0 ≤ k) (times_there l j c es i other) t.2
+      ],
+      takes_none l j c es (left - t.0) i is none t.3,
+    )
+
+-- from a lower id on
+takes_from : (l : Literal) (es : Listed) (left before j i : ℕ) (is : List ℕ) → j < i
+    → Takes l es left before (i ∷ is) → Takes l es left j (i ∷ is)
+takes_from l es left before j i is h t =
+    let p = next_parts before i t.0 left t.1 in
+    (t.0, next_from j i t.0 left h p.1 p.2, t.2, t.3)
+
+pub takes_le : (l : Literal) (before left : ℕ) (es : Listed) (ids : List ℕ)
+    → AllByRecursion (λ y. before < y) (ids_of es) → Rises (ids_of es)
+    → Takes l es left before ids → left ≤ times l es
+takes_le l before left es [] above r t = omega (arith, t)
+takes_le l before left [] (i ∷ is) above r t =
+    let p = next_parts before i t.0 left t.1 in absurd (omega (arith, p.1, t.2))
+takes_le l before left ((j, c) ∷ es) (i ∷ is) above r t =
+    let p = next_parts before i t.0 left t.1 in
+    elim (cases_eq i j) [
+      | inl same ↦
+          let n : t.0 ≤ times_in l c = subst (λ k. t.0 ≤ k) (times_here l j c es i same) t.2 in
+          let rest : Takes l es (left - t.0) j is =
+          subst (λ k. Takes l es (left - t.0) k is) same
+          (takes_after l j c es (left - t.0) i is (omega (arith, same)) t.3) in
+          let h = takes_le l j (left - t.0) es is r.0 r.1 rest in
+          omega (arith, h, n, p.2)
+      | inr other ↦ elim (cases_lt i j) [
+        | inl lt ↦
+            let z : times_at l ((j, c) ∷ es) i ≡ 0 = times_there l j c es i other
+            ∙ above_all l i es (higher i j (ids_of es) lt r.0) in
+            absurd (omega (arith, p.1, z, t.2))
+        | inr ge ↦
+            let past : j < i = omega arith in
+            let again : Takes l es left j (i ∷ is) =
+            takes_after l j c es left j (i ∷ is) (omega arith)
+            (takes_from l ((j, c) ∷ es) left before j i is past t) in
+            let h = takes_le l j left es (i ∷ is) r.0 r.1 again in
+            omega (arith, h)
+      ]
+    ]
+
+pub takes_all : (l : Literal) (before : ℕ) (es : Listed) (ids : List ℕ)
+    → AllByRecursion (λ y. before < y) (ids_of es) → Rises (ids_of es)
+    → Takes l es (times l es) before ids → same_ids ids (ids_listed l es) ≡ true
+takes_all l before [] [] above r t = refl
+takes_all l before [] (i ∷ is) above r t =
+    let p = next_parts before i t.0 0 t.1 in absurd (omega (arith, p.1, p.2))
+takes_all l before ((j, c) ∷ es) ids above r t =
+    elim (cases_Bool (contains_literal l c)) [
+      | inr none ↦
+          let zero_in : times_in l c ≡ 0 = times_none l c none in
+          let total : times l ((j, c) ∷ es) ≡ times l es = omega (arith, zero_in) in
+          ap (same_ids ids) (listed_no l j c es none)
+          ∙ takes_all l before es ids above.1 r.1
+          (subst (λ n. Takes l es n before ids) total
+          (takes_none l j c es (times l ((j, c) ∷ es)) before ids none t))
+      | inl has ↦ ap (same_ids ids) (listed_yes l j c es has)
+          ∙ named l before j c es ids above r has
+          (λ is u. takes_all l j es is r.0 r.1 u) t
+    ]
+  where
+    named : (l : Literal) (before j : ℕ) (c : List Literal) (es : Listed) (ids : List ℕ)
+        → AllByRecursion (λ y. before < y) (j ∷ ids_of es) → Rises (j ∷ ids_of es)
+        → contains_literal l c ≡ true
+        → ((is : List ℕ) → Takes l es (times l es) j is → same_ids is (ids_listed l es) ≡ true)
+        → Takes l ((j, c) ∷ es) (times_in l c + times l es) before ids
+        → same_ids ids (j ∷ ids_listed l es) ≡ true
+    named l before j c es [] above r has rest_all t =
+        let some = times_some l c has in absurd (omega (arith, some, t))
+    named l before j c es (i ∷ is) above r has rest_all t =
+        let some = times_some l c has in
+        let p = next_parts before i t.0 (times_in l c + times l es) t.1 in
+        elim (cases_eq i j) [
+          | inl same ↦
+              let n : t.0 ≤ times_in l c = subst (λ k. t.0 ≤ k) (times_here l j c es i same) t.2 in
+              let rest : Takes l es (times_in l c + times l es - t.0) j is =
+              subst (λ k. Takes l es (times_in l c + times l es - t.0) k is) same
+              (takes_after l j c es (times_in l c + times l es - t.0) i is (omega (arith, same))
+              t.3) in
+              let h = takes_le l j (times_in l c + times l es - t.0) es is r.0 r.1 rest in
+              let left : times_in l c + times l es - t.0 ≡ times l es =
+              omega (arith, h, n, p.2) in
+              and_from _ _ (eq-eqb i j same)
+              (rest_all is (subst (λ k. Takes l es k j is) left rest))
+          | inr other ↦ elim (cases_lt i j) [
+            | inl lt ↦
+                let z : times_at l ((j, c) ∷ es) i ≡ 0 = times_there l j c es i other
+                ∙ above_all l i es (higher i j (ids_of es) lt r.0) in
+                absurd (omega (arith, p.1, z, t.2))
+            | inr ge ↦
+                let past : j < i = omega arith in
+                let again : Takes l es (times_in l c + times l es) j (i ∷ is) =
+                takes_after l j c es (times_in l c + times l es) j (i ∷ is) (omega arith)
+                (takes_from l ((j, c) ∷ es) (times_in l c + times l es) before j i is past t) in
+                let h = takes_le l j (times_in l c + times l es) es (i ∷ is) r.0 r.1 again in
+                absurd (omega (arith, h, some))
+          ]
+        ]
+
+pub takes_start : (l : Literal) (es : Listed) → All (λ e. 0 < e.0) es → Rises (ids_of es)
+    → (ids : List ℕ) → Takes l es (times l es) 0 ids → same_ids ids (ids_listed l es) ≡ true
+takes_start l es from_one r ids t = takes_all l 0 es ids (positive es from_one) r t
+
 -- the clauses of the first entries
 pub counts_none : (counts : ℕ → ℕ) → ((p : ℕ) → counts p ≡ 0) → AreCounts counts []
 counts_none counts none = λ l p. none (index_of l)
@@ -468,16 +604,17 @@ pub agrees_start : (l : Literal) (es : Listed) → All (λ e. 0 < e.0) es → Ri
     → (ids : List ℕ) → take_all (times_at l es) (times l es) 0 ids ≡ same_ids ids (ids_listed l es)
 agrees_start l es from_one r ids =
     taken_are_all l (times_at l es) 0 es ids (positive es from_one) r (λ i lt. refl)
-  where
-    positive : (es : Listed) → All (λ e. 0 < e.0) es → AllByRecursion (λ y. 0 < y) (ids_of es)
-    positive [] h = tt
-    positive (e ∷ es) h =
-        (All-head (λ x. 0 < x.0) e es h, positive es (All-tail (λ x. 0 < x.0) e es h))
 
 -- the walk over the ids
 drop_here : (ids : List ℕ) (k i : ℕ) → k < length ids → i ≡ get_or ids k 0
     → drop k ids ≡ i ∷ drop (k + 1) ids
 drop_here ids k i h e = drop_more ids k 0 h ∙ ap (λ x. x ∷ drop (k + 1) ids) (sym e)
+
+pub takes_step : (l : Literal) (es : Listed) (left before : ℕ) (ids : List ℕ) (k i n : ℕ)
+    → k < length ids → i ≡ get_or ids k 0 → n ≤ times_at l es i → is_next before i n left ≡ true
+    → Takes l es (left - n) i (drop (k + 1) ids) → Takes l es left before (drop k ids)
+takes_step l es left before ids k i n h e le next t =
+    subst (Takes l es left before) (sym (drop_here ids k i h e)) (n, next, le, t)
 
 pub taken_step : (count : ℕ → ℕ) (left before : ℕ) (ids : List ℕ) (k i n : ℕ) → k < length ids
     → i ≡ get_or ids k 0 → n ≡ count i → is_next before i n left ≡ true

@@ -1,5 +1,6 @@
 -- How often literals stand in the live clauses, and the candidates of a RAT line by these counts.
-use Rattle.std.specs.Prelude.{◌≡◌, ℕ, ◌+◌, ◌-◌, ◌<◌, Bool, false, List, [], ◌∷◌, Option, Some, None}
+use Rattle.std.specs.Prelude.{◌≡◌, ℕ, ◌+◌, ◌-◌, ◌<◌, ◌≤◌, Bool, true, false, List, []}
+use Rattle.std.specs.Prelude.{◌∷◌, Option, Some, None}
 use Rattle.std.specs.Prelude.{nat_lt, nat_le, ◌==◌, ◌&&◌, if◌then◌else◌}
 use Rattle.cnf.specs.Numbers.{one_if}
 use Rattle.cnf.specs.Literal.{Literal, literal_eq, index_of}
@@ -48,3 +49,9 @@ take_all count left before (i ∷ is) =
 
 abbrev pub times_at : Literal → List (ℕ × List Literal) → ℕ → ℕ
 times_at l es i = times_of l (listed_at es i)
+
+-- as take_all, where each clause has the literal in at least as many places as are taken
+abbrev pub Takes : Literal → List (ℕ × List Literal) → ℕ → ℕ → List ℕ → Type 0
+Takes l es left before [] = left ≡ 0
+Takes l es left before (i ∷ is) =
+    (n : ℕ) × (is_next before i n left ≡ true) × (n ≤ times_at l es i) × Takes l es (left - n) i is

@@ -9,6 +9,7 @@ mod entries;
 pub mod live;
 mod near;
 mod pages;
+mod places;
 mod reclaim;
 mod spans;
 mod window;

@@ -3,7 +3,8 @@ ghost use Rattle.std.specs.Prelude.{◌≡◌, ◌<◌, ◌≤◌, ◌↔◌, �
 ghost use Rattle.std.specs.Prelude.{IfOk, IsTrue};
 ghost use Rattle.std.specs.Prelude.{IsSome, OnOk, OnErr};
 ghost use Rattle.std.specs.Option.{option_copied};
-ghost use Rattle.lrat_live.specs.Counts.{times_at, take_all, AreCounts};
+ghost use Rattle.cnf.specs.Clause.{contains_literal};
+ghost use Rattle.lrat_live.specs.Counts.{times_at, take_all, AreCounts, Takes};
 ghost use Rattle.lrat_live.specs.Listed.{listed_at, listed_from, without_id, ids_listed, same_ids};
 ghost use Rattle.lrat_live.specs.Listed.{IsRising};
 ghost use Rattle.lrat_live.specs.Near.{all_of};
@@ -13,6 +14,7 @@ use crate::added::Added;
 use crate::counts::{count_last, count_of, is_next, lower, times_in};
 use crate::near::Near;
 use crate::pages::Counts;
+use crate::places::Places;
 use cnf::types::{Formula, Lit};
 use std::alloc::AllocError;
 use std::marker::Model;
@@ -29,6 +31,8 @@ pub struct LiveClauses {
     is_counted: bool,
     /// By a literal's index, how often it stands in the live clauses, if they are counted.
     counts: Counts,
+    /// Where the literals of long candidates stand.
+    places: Places,
 }
 
 impl Model for LiveClauses {
@@ -117,6 +121,35 @@ fn count_out(is_counted: bool, counts: &mut Counts, near: &Near, far: &Added, id
     lower(counts, clause);
 }
 
+/// As `take_all`, with the places that are known of long clauses. A false answer says nothing.
+fn take_shown(
+    near: &Near,
+    far: &Added,
+    places: &mut Places,
+    lit: Lit,
+    total: usize,
+    ids: &[u64],
+) -> Result<bool, AllocError>
+    requires { IsRising (all_of near.now far.now) }
+    ensures { IfOk result (λ all. all ≡ true
+        → Takes lit (all_of near.now far.now) total 0 ids.now) }
+{
+    let mut before = 0;
+    let mut left = total;
+    for id in ids {
+        let Some(clause) = lookup(near, far, *id) else {
+            return Ok(false);
+        };
+        let times = places.times(*id, lit, clause)?;
+        if !is_next(before, *id, times, left) {
+            return Ok(false);
+        }
+        left -= times;
+        before = *id;
+    }
+    Ok(left == 0)
+}
+
 impl LiveClauses {
     /// The clauses of the formula under the ids from 1. An AllocError comes where memory was
     /// refused, or where the formula has more than 2^32 - 2 literals.
@@ -129,6 +162,7 @@ impl LiveClauses {
             far: Added::new(alloc),
             is_counted: false,
             counts: Counts::new(alloc),
+            places: Places::new(alloc),
         })
     }
 
@@ -160,11 +194,21 @@ impl LiveClauses {
         lookup(&self.near, &self.far, id)
     }
 
+    /// Whether the literal is known to stand in the clause under an id, as it may be where the
+    /// clause is long and was named in `are_all_with`. A false answer says nothing.
+    #[inline]
+    pub fn shows(&self, id: u64, lit: Lit, clause: &[Lit]) -> bool
+        ensures { result ≡ true → contains_literal lit clause.now ≡ true }
+    {
+        self.places.shows(id, lit, clause)
+    }
+
     /// Takes the clause out; false where there is none under the id.
     pub fn delete(&mut self, id: u64) -> bool
         ensures found { IsTrue result ↔ IsSome (listed_at self.old id) }
         ensures left { self.new ≡ without_id id self.old }
     {
+        self.places.forget(id);
         count_out(self.is_counted, &mut self.counts, &self.near, &self.far, id);
         if self.near.delete(id) {
             return true;
@@ -182,6 +226,9 @@ impl LiveClauses {
         count_all(self.is_counted, &mut self.counts, &self.near, &self.far)?;
         self.is_counted = true;
         let total = count_of(&self.counts, lit);
+        if take_shown(&self.near, &self.far, &mut self.places, lit, total, ids)? {
+            return Ok(true);
+        }
         Ok(self.take_all(lit, total, ids))
     }
 

@@ -1,7 +1,7 @@
 use Rattle.std.proofs.Common.{◌≡◌, take, false}
 use Rattle.std.specs.List.{list_any}
 use Rattle.cnf.specs.Clause.{contains_literal, without_literal}
-use Rattle.lrat_check.proofs.rat.has_true.Given as goal
+use Rattle.lrat_check.proofs.rat.finds_true.Given as goal
 
 abbrev pub invariant-loop-lit : goal.invariant-loop-lit
 invariant-loop-lit l =

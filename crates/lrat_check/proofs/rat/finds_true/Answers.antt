@@ -1,6 +1,6 @@
 use Rattle.std.proofs.Common.{sym}
 use Rattle.lrat_check.proofs.Groups.{true_at}
-use Rattle.lrat_check.proofs.rat.has_true.Goals as goal
+use Rattle.lrat_check.proofs.rat.finds_true.Goals as goal
 
 pub returns-then-is_true : goal.returns-then-is_true
 returns-then-is_true c =
