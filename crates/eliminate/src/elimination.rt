@@ -58,6 +58,13 @@ impl Stack {
         &self.names
     }
 
+    /// Gives the list of names back: the way back needs none.
+    pub fn forget_names(&mut self)
+        ensures { self.new ≡ record self.old { names = [] } }
+    {
+        self.names = Vec::new(*self.names.allocator());
+    }
+
     /// Sets the eliminated variables, the last eliminated first: each becomes true just where some
     /// removed clause with it is otherwise false. All other variables keep their values.
     pub fn extend(&self, bits: &mut [bool])
