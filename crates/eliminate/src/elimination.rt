@@ -28,7 +28,8 @@ pub struct Stack {
     vars: u32,
     // The eliminated variables, each with the clauses that its value has to satisfy.
     removed: Removals,
-    // The clauses that are left, by rising reference, each with its name in the log.
+    // The clauses that are left, by rising reference, each with its name in the log; none once the
+    // list was given back.
     names: Vec<(CRef, Name)>,
 }
 
@@ -51,7 +52,8 @@ impl Stack {
         self.vars
     }
 
-    /// Each live reference of the store with the name of its clause.
+    /// Each live reference of the store with the name of its clause, as `eliminate` left them; none
+    /// after `forget_names`.
     pub fn names(&self) -> &[(CRef, Name)]
         ensures { result.now ≡ self.now.names }
     {
