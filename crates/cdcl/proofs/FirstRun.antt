@@ -274,17 +274,17 @@ empty_refutes cs w = (
 )
 
 pub first_runs : (s : Search) (p : Problem) (ls : List LogLine) (cs : List (List Literal))
-    (slots : Slots) (additions : ℕ)
-    → IsStarted slots p.stack additions s → IsLeft cs slots p.stack ls
+    (slots : Slots) (additions : ℕ) (n : StackState) → p.stack ≡ record n { names = [] }
+    → IsStarted slots n additions s → IsLeft cs slots n ls
     → p.given ≡ given_of cs → p.first ≡ length p.given
     → StaysLogOver (length (p.frozen).items) (given_of cs) ls → is_refuted ls ≡ false
     → additions ≡ added_count ls → additions < 2 ^ 61
-    → All (λ r. IsFree (p.frozen).items r.variable) (p.stack).removed
-    → ExtendsBack p.stack cs (live_clauses slots)
+    → All (λ r. IsFree (p.frozen).items r.variable) n.removed
+    → ExtendsBack n cs (live_clauses slots)
     → (IsRefutedByHints cs → Contains (live_clauses slots) []) → Runs s p ls
-first_runs s p ls cs slots additions t h given firsts stays open_log counted few not_frozen
-    back plain =
-    let n = p.stack in
+first_runs s p ls cs slots additions n unnamed t h given firsts stays open_log counted few
+    not_frozen back plain =
+    let m : StackState = record n { names = [] } in
     let named = first_names cs slots n ls h (s.names).items t.named t.long in
     let all : map (λ g. g.1) (take p.first p.given) ≡ cs =
     ap (λ x. map (λ g. g.1) x) (take_all p.first p.given (omega arith) ∙ given)
@@ -292,7 +292,7 @@ first_runs s p ls cs slots additions t h given firsts stays open_log counted few
     let whole : map (λ g. g.1) p.given ≡ cs =
     ap (map (λ g. g.1)) given ∙ clauses_given cs in
     let kept : additions ≡ s.kept = sym t.kept in
-    let run : IsRunning s.engine slots n (tables_of s) (p.frozen).items p.first p.given ls =
+    let run : IsRunning s.engine slots m (tables_of s) (p.frozen).items p.first p.given ls =
     record {
       recorded = record {
         log =
@@ -337,8 +337,11 @@ first_runs s p ls cs slots additions t h given firsts stays open_log counted few
     } in
     record {
       running = subst
-          (λ x. IsRunning s.engine x n (tables_of s) (p.frozen).items p.first p.given ls)
-          (sym t.slots_are) run;
+          (λ x. IsRunning s.engine x p.stack (tables_of s) (p.frozen).items p.first p.given ls)
+          (sym t.slots_are)
+          (subst
+          (λ x. IsRunning s.engine slots x (tables_of s) (p.frozen).items p.first p.given ls)
+          (sym unnamed) run);
       room = t.room;
       past = t.past;
       few = subst (λ k. k < 2 ^ 61) (sym t.counted) few;

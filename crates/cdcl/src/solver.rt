@@ -87,16 +87,18 @@ impl<S: Sink> Solver<S> {
         let _ = formula.vars();
         let clauses = formula.clauses();
         let mut store = store_of(clauses)?;
-        let given = given_clauses(clauses)?;
-        let first = given.len();
         let mut tally = Tally {
             sink,
             additions: 0,
             refuted: false,
         };
-        let stack = eliminate(&mut store, frozen, &mut tally)?;
+        let mut stack = eliminate(&mut store, frozen, &mut tally)?;
+        // Preprocessing takes much memory for a while, so what stays is made after it.
+        let given = given_clauses(clauses)?;
+        let first = given.len();
         tally.is_short();
         let search = start(store, &stack, tally.additions)?;
+        stack.forget_names();
         let frozen = Vec::from_slice(formula.allocator(), frozen)?;
         let Tally { sink, refuted, .. } = tally;
         Ok(Solver {

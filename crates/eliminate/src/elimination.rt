@@ -28,7 +28,8 @@ pub struct Stack {
     vars: u32,
     // The eliminated variables, each with the clauses that its value has to satisfy.
     removed: Removals,
-    // The clauses that are left, by rising reference, each with its name in the log.
+    // The clauses that are left, by rising reference, each with its name in the log; none once the
+    // list was given back.
     names: Vec<(CRef, Name)>,
 }
 
@@ -51,11 +52,19 @@ impl Stack {
         self.vars
     }
 
-    /// Each live reference of the store with the name of its clause.
+    /// Each live reference of the store with the name of its clause, as `eliminate` left them; none
+    /// after `forget_names`.
     pub fn names(&self) -> &[(CRef, Name)]
         ensures { result.now ≡ self.now.names }
     {
         &self.names
+    }
+
+    /// Gives the list of names back: the way back needs none.
+    pub fn forget_names(&mut self)
+        ensures { self.new ≡ record self.old { names = [] } }
+    {
+        self.names = Vec::new(*self.names.allocator());
     }
 
     /// Sets the eliminated variables, the last eliminated first: each becomes true just where some

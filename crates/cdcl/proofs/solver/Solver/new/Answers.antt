@@ -9,7 +9,7 @@ use Rattle.clauses.specs.Slots.{live_clauses}
 use Rattle.lrat_log.specs.declared.lines.Name.{Name}
 use Rattle.lrat_log.specs.Steps.{StaysLogOver, given_of}
 use Rattle.lrat_log.proofs.Laws.{clauses_given}
-use Rattle.eliminate.specs.Elimination.{ExtendsBack, IsFree}
+use Rattle.eliminate.specs.Elimination.{ExtendsBack, IsFree, StackState}
 use Rattle.cdcl.specs.declared.problem.Problem.{Problem}
 use Rattle.cdcl.proofs.Placing.{added_few}
 use Rattle.cdcl.proofs.FirstRun.{IsLeft, formula_again, left_from, live_map, left_rising, left_live}
@@ -85,11 +85,13 @@ invariant_of-result g c =
     let frozen : (c.in_ok-frozen.frozen).items ≡ c.args.frozen.now = c.in_ok-frozen.ensures.items in
     let p : Problem =
     record {
-      stack = c.in_ok-stack.stack;
+      stack = c.forget_names.new.self;
       frozen = c.in_ok-frozen.frozen;
       first = c.len-first.result;
       given = c.in_ok-given.given;
     } in
+    let wide : c.forget_names.new.self.variables ≡ c.in_ok-stack.stack.variables =
+    ap (λ (k : StackState). k.variables) c.forget_names.ensures in
     let firsts : c.len-first.result ≡ length c.in_ok-given.given = c.len-first.ensures.len in
     let stays : StaysLogOver (length (c.in_ok-frozen.frozen).items) (given_of cs) ls =
     subst (λ f. StaysLogOver (length f) (given_of cs) ls) (sym frozen)
@@ -99,16 +101,18 @@ invariant_of-result g c =
     record {
       problem = new_problem c.args.formula.now p cs c.vars.ensures.limits c.clauses-clauses.ensures
           (ap length frozen ∙ c.requires.frozen) c.in_ok-given.ensures firsts
-          (subst (λ f. length f ≤ c.in_ok-stack.stack.variables) (sym frozen) stack.variables.0)
-          (subst (λ f. c.in_ok-stack.stack.variables ≤ length f + 2 ^ 20) (sym frozen)
-          stack.variables.1);
+          (subst (λ f. length f ≤ p.stack.variables) (sym frozen)
+          (subst (λ n. length c.args.frozen.now ≤ n) (sym wide) stack.variables.0))
+          (subst (λ f. p.stack.variables ≤ length f + 2 ^ 20) (sym frozen)
+          (subst (λ n. n ≤ length c.args.frozen.now + 2 ^ 20) (sym wide) stack.variables.1));
       lines =
           subst (λ x. StaysLogOver (length (c.in_ok-frozen.frozen).items) x ls)
           (sym c.in_ok-given.ensures) stays;
       refuted_is = c.eliminate.new.sink.told;
       running =
           λ works not_refuted. first_runs c.in_ok-search.search p ls cs slots
-          c.eliminate.new.sink.additions c.in_ok-search.ensures rest c.in_ok-given.ensures
+          c.eliminate.new.sink.additions c.in_ok-stack.stack c.forget_names.ensures
+          c.in_ok-search.ensures rest c.in_ok-given.ensures
           firsts stays (sym c.eliminate.new.sink.told ∙ not_refuted) c.eliminate.new.sink.counted
           few
           (subst (λ f. All (λ r. IsFree f r.variable) (c.in_ok-stack.stack).removed) (sym frozen)
@@ -123,7 +127,7 @@ returns-clause-given g c =
     let frozen : (c.in_ok-frozen.frozen).items ≡ c.args.frozen.now = c.in_ok-frozen.ensures.items in
     let p : Problem =
     record {
-      stack = c.in_ok-stack.stack;
+      stack = c.forget_names.new.self;
       frozen = c.in_ok-frozen.frozen;
       first = c.len-first.result;
       given = c.in_ok-given.given;
@@ -148,11 +152,13 @@ returns-clause-lines g c =
     let frozen : (c.in_ok-frozen.frozen).items ≡ c.args.frozen.now = c.in_ok-frozen.ensures.items in
     let p : Problem =
     record {
-      stack = c.in_ok-stack.stack;
+      stack = c.forget_names.new.self;
       frozen = c.in_ok-frozen.frozen;
       first = c.len-first.result;
       given = c.in_ok-given.given;
     } in
+    let wide : c.forget_names.new.self.variables ≡ c.in_ok-stack.stack.variables =
+    ap (λ (k : StackState). k.variables) c.forget_names.ensures in
     let firsts : c.len-first.result ≡ length c.in_ok-given.given = c.len-first.ensures.len in
     let stays : StaysLogOver (length (c.in_ok-frozen.frozen).items) (given_of cs) ls =
     subst (λ f. StaysLogOver (length f) (given_of cs) ls) (sym frozen)
@@ -160,8 +166,9 @@ returns-clause-lines g c =
     let problem =
     new_problem c.args.formula.now p cs c.vars.ensures.limits c.clauses-clauses.ensures
     (ap length frozen ∙ c.requires.frozen) c.in_ok-given.ensures firsts
-    (subst (λ f. length f ≤ c.in_ok-stack.stack.variables) (sym frozen) stack.variables.0)
-    (subst (λ f. c.in_ok-stack.stack.variables ≤ length f + 2 ^ 20) (sym frozen)
-    stack.variables.1) in
+    (subst (λ f. length f ≤ p.stack.variables) (sym frozen)
+    (subst (λ n. length c.args.frozen.now ≤ n) (sym wide) stack.variables.0))
+    (subst (λ f. p.stack.variables ≤ length f + 2 ^ 20) (sym frozen)
+    (subst (λ n. n ≤ length c.args.frozen.now + 2 ^ 20) (sym wide) stack.variables.1)) in
     log_now p ls problem (subst (λ x. StaysLogOver (length (c.in_ok-frozen.frozen).items) x ls)
     (sym c.in_ok-given.ensures) stays)
