@@ -104,17 +104,18 @@ fn round<S: Sink, W: Watch>(
     ensures err { OnErr result (StaysOpen problem.now (S.lines sink.new)) }
 {
     match search.propagate()? {
-        Some(conflict) => on_conflict(search, problem, sink, budget, conflict),
-        None => on_quiet(search, problem, sink, budget, watch),
+        Some(conflict) => on_conflict(search, problem, sink, budget, watch, conflict),
+        None => on_quiet(search, problem, sink, budget),
     }
 }
 
 /// Learns from a conflict, if it is above level 0 and something is left of the budget.
-fn on_conflict<S: Sink>(
+fn on_conflict<S: Sink, W: Watch>(
     search: &mut Search,
     problem: &Problem,
     sink: &mut S,
     budget: &mut Budget,
+    watch: &mut W,
     conflict: CRef,
 ) -> Result<Option<End>, AllocError>
     requires runs { Runs search.old problem.now (S.lines sink.old) }
@@ -137,17 +138,17 @@ fn on_conflict<S: Sink>(
     }
     learn(search, problem, sink, conflict)?;
     budget.count_learned();
+    watch.learned(&search.policy.report(budget));
     Ok(None)
 }
 
 /// Starts over or decides, if something is left of the budget. Clauses are deleted after a
 /// decision: by then what was learned has been propagated, and each level below is quiet.
-fn on_quiet<S: Sink, W: Watch>(
+fn on_quiet<S: Sink>(
     search: &mut Search,
     problem: &Problem,
     sink: &mut S,
     budget: &mut Budget,
-    watch: &mut W,
 ) -> Result<Option<End>, AllocError>
     requires runs { Runs search.old problem.now (S.lines sink.old) }
     requires quiet { IsQuiet search.old.store.slots (literals_of search.old.engine.trail) }
@@ -165,7 +166,6 @@ fn on_quiet<S: Sink, W: Watch>(
     }
     if search.policy.is_restart_due() {
         search.start_over();
-        watch.restarted(&search.policy.report(budget));
         return Ok(None);
     }
     note_level(search, problem, sink)?;

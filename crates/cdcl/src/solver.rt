@@ -236,7 +236,8 @@ impl<S: Sink> Solver<S> {
         self.solve_watched(budget, &mut Unwatched)
     }
 
-    /// As `solve`. The watch is told how far the search has come, each time that it starts over.
+    /// As `solve`. The watch is told how far the search has come, each time that it has learned a
+    /// clause.
     ///
     /// # Errors
     ///

@@ -11,11 +11,11 @@ pub struct SearchReport {
     pub restarts: u64,
 }
 
-/// Is told how far a search has come, each time that it starts over. What the search answers, and
-/// what it writes, does not depend on it.
+/// Is told how far a search has come, each time that it has learned a clause. What the search
+/// answers, and what it writes, does not depend on it.
 pub trait Watch {
-    /// The search starts over.
-    fn restarted(&mut self, report: &SearchReport);
+    /// The search has learned a clause.
+    fn learned(&mut self, report: &SearchReport);
 }
 
 /// Looks at nothing.
@@ -23,5 +23,5 @@ pub trait Watch {
 pub struct Unwatched;
 
 impl Watch for Unwatched {
-    fn restarted(&mut self, _report: &SearchReport) {}
+    fn learned(&mut self, _report: &SearchReport) {}
 }
