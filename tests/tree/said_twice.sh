@@ -11,9 +11,6 @@ without_variable: nothing names it; it goes with the next change of eliminate
 eliminations_back: nothing names it; it goes with the next change of eliminate
 adds_blocks: nothing names it; it goes with the next change of lrat_read
 listed_from-push: nothing names it; it goes with the next change of lrat_live
-soft_passed: nothing names it; it goes with the next change of explain
-soft_listed: nothing names it; it goes with the next change of explain
-hard_listed: nothing names it; it goes with the next change of explain
 live_test: nothing names it; it goes with the next change of eliminate_tables
 yes_over: nothing names it; it goes with the next change of lrat_check
 same_bytes-refl: nothing names it; it goes with the next change of lrat_result

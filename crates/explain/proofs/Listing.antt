@@ -26,26 +26,7 @@ weights_cost t i (s ∷ ss) =
     ]
     ∙ sym (sum_by-cons (λ (s : SoftClause). if clause_value t s.clause then 0 else s.weight) s ss)
 
--- a true clause is passed over, and a false one is listed
-pub soft_passed : (t : Assignment) (i : ℕ) (s : SoftClause) (ss : List SoftClause)
-    → clause_value t s.clause ≡ true
-    → false_soft_from t i (s ∷ ss) ≡ false_soft_from t (i + 1) ss
-soft_passed t i s ss e = ap (λ b. if b then false_soft_from t (i + 1) ss
-    else record { place = i; weight = s.weight } ∷ false_soft_from t (i + 1) ss) e
-
-pub soft_listed : (t : Assignment) (i : ℕ) (s : SoftClause) (ss : List SoftClause)
-    → clause_value t s.clause ≡ false
-    → false_soft_from t i (s ∷ ss)
-    ≡ record { place = i; weight = s.weight } ∷ false_soft_from t (i + 1) ss
-soft_listed t i s ss e = ap (λ b. if b then false_soft_from t (i + 1) ss
-    else record { place = i; weight = s.weight } ∷ false_soft_from t (i + 1) ss) e
-
 pub hard_passed : (t : Assignment) (i : ℕ) (c : List Literal) (cs : List (List Literal))
     → clause_value t c ≡ true → false_hard_from t i (c ∷ cs) ≡ false_hard_from t (i + 1) cs
 hard_passed t i c cs e =
-    ap (λ b. if b then false_hard_from t (i + 1) cs else i ∷ false_hard_from t (i + 1) cs) e
-
-pub hard_listed : (t : Assignment) (i : ℕ) (c : List Literal) (cs : List (List Literal))
-    → clause_value t c ≡ false → false_hard_from t i (c ∷ cs) ≡ i ∷ false_hard_from t (i + 1) cs
-hard_listed t i c cs e =
     ap (λ b. if b then false_hard_from t (i + 1) cs else i ∷ false_hard_from t (i + 1) cs) e
