@@ -133,6 +133,11 @@ for words in '--conflicts 4611686018427387905' '--conflicts x' '--profile 0' '--
     call solve $words text
     ok "refused: $words" [ "$status" = 2 ]
 done
+for words in --time -z; do
+    call solve $words 3 text
+    ok "unknown: $words" [ "$status$out" = 2 ]
+    ok "unknown: $words: no tip to write it behind '--'" [ "$(grep -c . <<< "$err")" = 3 -a -z "$(grep tip <<< "$err")" ]
+done
 for words in solve check encode ''; do
     call $words --help
     ok "help: $words" [ "$status$err" = 0 ]

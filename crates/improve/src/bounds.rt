@@ -25,6 +25,7 @@ use cdcl::budget::Budget;
 use cdcl::given::GivenClauses;
 use cdcl::outcome::Outcome;
 use cdcl::solver::Solver;
+use cdcl::watch::Watch;
 use cnf::limits::NUMBER_LIMIT;
 use cnf::types::{Clause, Instance, Lit};
 use lrat_log::lines::{Name, Number};
@@ -107,7 +108,12 @@ impl Bounds {
     }
 
     /// Looks for a solution below the last bound.
-    pub fn search(&mut self, instance: &Instance, budget: &mut Budget) -> Result<Next, AllocError>
+    pub fn search<W: Watch>(
+        &mut self,
+        instance: &Instance,
+        budget: &mut Budget,
+        watch: &mut W,
+    ) -> Result<Next, AllocError>
         requires over { IsOver instance.now self.old }
         requires bounded { (c : ℕ) × EndsWith self.old.costs.items c }
         ensures over { OnOk result (IsOver instance.now self.new) }
@@ -120,7 +126,7 @@ impl Bounds {
             ≡ budget.old.learned + learned_count self.new.solver.sink }
         ensures limit { budget.new.limit ≡ budget.old.limit }
     {
-        let Ok(outcome) = self.solver.solve(budget) else {
+        let Ok(outcome) = self.solver.solve_watched(budget, watch) else {
             return Err(AllocError);
         };
         match outcome {

@@ -84,7 +84,8 @@ pub fn improve_as<T: Progress>(
     improve_watched(instance, budget, progress, profile, &mut Silent)
 }
 
-/// As `improve_as`, where `watch` looks on: each solution is shown to it before its cost is told.
+/// As `improve_as`, where `watch` looks on. It is told of each clause that is learned, and each
+/// solution is shown to it before its cost is told.
 ///
 /// # Errors
 ///
@@ -114,7 +115,7 @@ pub fn improve_watched<T: Progress, W: Watch>(
     let Ok(mut solver) = make_hard_solver(instance) else {
         return Err(ImproveFault::Memory);
     };
-    match solver.solve(budget) {
+    match solver.solve_watched(budget, watch) {
         Ok(Outcome::Sat(bits)) => {
             let first = judge(instance, bits);
             let hard = solver.into_sink();
@@ -235,7 +236,7 @@ fn tighten<T: Progress, W: Watch>(
         if bounds.add(instance, best.cost).is_err() {
             return Err(ImproveFault::Memory);
         }
-        match bounds.search(instance, budget) {
+        match bounds.search(instance, budget, watch) {
             Ok(Next::Cheaper(solution)) => {
                 if tell(instance, progress, watch, &solution).is_err() {
                     return Err(ImproveFault::Progress);

@@ -17,12 +17,17 @@ use text::output::WriteFault;
 
 /// Looks on while a run goes, and is shown how it ended.
 pub trait Keep: Watch {
+    /// The search is over, and nothing of its end is written yet.
+    fn searched(&mut self);
+
     /// Is shown what was found, once the result and the certificate are written and flushed.
     fn ended(&mut self, instance: &Instance, found: &Found)
         requires { IsFound instance.now found.now };
 }
 
 impl Keep for Silent {
+    fn searched(&mut self) {}
+
     fn ended(&mut self, _instance: &Instance, _found: &Found) {}
 }
 

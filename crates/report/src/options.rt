@@ -33,12 +33,26 @@ The certificate proves OPTIMUM FOUND and UNSATISFIABLE to whoever checks it, and
 the 's' line. For the other two none is. Without --proof it is dropped.
 
 --profile 4 finds most optima; a certificate belongs to its profile. --best PATH keeps the best
-solution, so that a run can be stopped at any moment. A script that stops at errors writes
+solution, so that a run can be stopped at any moment. --progress tells meanwhile how far it is. A
+script that stops at errors writes
 
   wmax solve --profile 4 a.wcnf > a.result || [ $? = 30 ]
 
 Example:
-  wmax solve --profile 4 --proof a.lrat --best a.best a.wcnf > a.result";
+  wmax solve --profile 4 --proof a.lrat --best a.best a.wcnf > a.result
+
+Faults:
+  error: line N: FirstToken  line N of FILE begins with neither 'h', a weight nor 'c'
+  error: line N: Weight      a weight that is no number from 1 on: 0, -2, 1.5
+  error: line N: Literal     a word that is no literal: x, +1, 01
+  error: line N: NoZero      the clause on line N has no 0 at its end
+  error: line N: AfterZero   something stands behind the 0 of the clause
+  error: line N: OldForm     a line 'p' that is not the first one
+  error: Read                FILE cannot be opened or read
+  error: Memory              memory was refused
+  error: Output              standard output cannot be written
+  error: ProofOutput         the certificate cannot be written, or is FILE
+README.md has the others.";
 
 const CHECK_NOTES: &str = "\
 OPTIMUM FOUND is checked against the formula for 'cheaper than the last o line', UNSATISFIABLE
@@ -54,7 +68,20 @@ Statuses:
 A certificate of another profile is refused, as with NO DeadId 1: give the one of solve.
 
 Example:
-  wmax check --profile 4 a.wcnf a.result a.lrat";
+  wmax check --profile 4 a.wcnf a.result a.lrat
+
+Faults:
+  NO Text N                 line N of FILE is faulty: wmax explain says how
+  NO ResultForm N           line N of RESULT cannot stand there
+  NO BitsLength N           line N has too few or too many bits
+  NO NotFeasible N          the bits on line N break a hard clause
+  NO CostWrong N            the bits do not cost what line N says
+  NO StatusWithoutProof N   bits and cost are right, but nothing says that none is cheaper
+  NO DeadId N               line N of PROOF names a clause that is not there
+  NO HintNotUnit N          a clause that line N of PROOF names does not serve there
+  NO NoConflict N           the clauses that line N of PROOF names do not suffice
+  NO NoEmptyClause 0        PROOF ends too soon
+README.md has the others.";
 
 const EXPLAIN_NOTES: &str = "\
 Prints the cost, then each soft clause that the bits give up, heaviest first, with its line and the
@@ -67,7 +94,15 @@ Statuses:
    3  a file cannot be opened or read, the output cannot be written, or memory is refused
 
 Example:
-  wmax explain a.wcnf a.result";
+  wmax explain a.wcnf a.result
+
+Faults:
+  error: line N: NoZero  the clause on line N of FILE has no 0 at its end, and so on
+  NO ResultForm N        line N of RESULT cannot stand there
+  error: Read            a file cannot be opened or read
+  error: Memory          memory was refused
+  error: Output          standard output cannot be written
+'wmax solve --help' has more of those of FILE, and README.md all.";
 
 const ENCODE_NOTES: &str = "\
 A certificate for cost COST refutes this formula. Another LRAT checker takes it, and a SAT solver
@@ -79,7 +114,14 @@ Statuses:
    3  a file cannot be opened or read, the formula cannot be written, or memory is refused
 
 Example:
-  wmax encode a.wcnf 4 > a.cnf";
+  wmax encode a.wcnf 4 > a.cnf
+
+Faults:
+  error: line N: NoZero  the clause on line N has no 0 at its end, and so on
+  error: Read            FILE cannot be opened or read
+  error: Memory          memory was refused
+  error: Output          standard output cannot be written
+'wmax solve --help' has more of those of FILE, and README.md all.";
 
 const NOTES: &str = "\
 Statuses: solve 30, 20, 10, 0; check and explain 0, 1; encode 0; each 2 and 3 for faults. 'wmax
@@ -155,12 +197,20 @@ fn make_solve<'a>(alloc: Global) -> Result<Command<'a>, Error> {
         "Where the best solution is kept: at each moment a whole result text, which each better \
              solution replaces. FILE and the certificate are refused",
     );
+    let progress = Arg::new(alloc, "progress")
+        .long("progress")
+        .action(ArgAction::SetTrue)
+        .help(
+            "Tells on standard error how far the search is: a line at each better solution, and at \
+             most one a second between them. On a terminal one line is written over",
+        );
     let command = Command::new(alloc, "solve")
         .about("Finds a solution of least cost, and a certificate that nothing is cheaper")
         .after_help(SOLVE_NOTES)
         .arg(conflicts)?
         .arg(proof)?
         .arg(best)?
+        .arg(progress)?
         .arg(make_profile(alloc))?
         .arg(make_path(alloc, "FILE", "The instance, a WCNF text"))?;
     Ok(command)

@@ -85,9 +85,9 @@ pub fn run_as<R: Read, O: Write, P: Write>(
     run_watched(alloc, input, budget, out, proof, profile, &mut Silent)
 }
 
-/// As `run_as`, where `keeper` looks on: each solution is shown to it before its `o` line is
-/// written, and what was found once the result is written and flushed. After a fault it is shown no
-/// more.
+/// As `run_as`, where `keeper` looks on. It is told of each clause that is learned, and of the end
+/// of the search. Each solution is shown to it before its `o` line is written, and what was found
+/// once the result is written and flushed. After a fault it is shown no more.
 ///
 /// # Errors
 ///
@@ -111,6 +111,7 @@ pub fn run_watched<R: Read, O: Write, P: Write, K: Keep>(
 {
     let instance = read_from(alloc, input)?;
     let found = search(alloc, &instance, budget, out, profile, keeper)?;
+    keeper.searched();
     write_answer(&found, out, proof)?;
     keeper.ended(&instance, &found);
     Ok(Status::of(found))

@@ -1,9 +1,12 @@
 //! The file of `--best`: at each moment a whole result text. A text is written beside it and then
 //! renamed over it, so that whoever kills the program finds the text before or the one after.
+ghost use Rattle.improve.specs.Improving.{IsSolution};
+ghost use Rattle.report.specs.Best.{IsFound};
+
 use crate::placing::{Place, is_taken, open_empty};
+use crate::standard_error::Messages;
 use improve::found::Found;
-use improve::watch::Watch;
-use report::best::{Keep, write_best, write_found, write_unknown};
+use report::best::{write_best, write_found, write_unknown};
 use std::alloc::{AllocError, Global};
 use std::fs;
 use std::io::Write;
@@ -42,11 +45,9 @@ impl<'a> BestPaths<'a> {
 /// Keeps the best solution in a file, or nowhere. What cannot be written is told once and changes
 /// nothing else; the next text is tried again.
 #[derive(Drop)]
-pub struct Keeper<'a, R: Files, E: Write> {
+pub struct Keeper<'a, R: Files> {
     /// Where files are.
     rt: &'a R,
-    /// Where a failure is told.
-    err: &'a mut E,
     /// The files; without them nothing is kept.
     paths: Option<BestPaths<'a>>,
     /// What is not written into, also where it was linked to the name since.
@@ -55,43 +56,42 @@ pub struct Keeper<'a, R: Files, E: Write> {
     is_told: bool,
 }
 
-impl<'a, R: Files, E: Write> Keeper<'a, R, E> {
+impl<'a, R: Files> Keeper<'a, R> {
     /// Writes first that nothing is known, so that what stood there is not taken for an answer of
     /// this run.
-    pub fn new(
+    pub fn new<E: Write>(
         rt: &'a R,
-        err: &'a mut E,
         paths: Option<BestPaths<'a>>,
         others: [Place; 2],
+        messages: &mut Messages<'_, E>,
     ) -> Self {
         let mut keeper = Keeper {
             rt,
-            err,
             paths,
             others,
             is_told: false,
         };
-        if let Some(mut file) = keeper.begin() {
+        if let Some(mut file) = keeper.begin(messages) {
             let written = write_unknown(&mut file);
-            keeper.end(written);
+            keeper.end(written, messages);
         }
         keeper
     }
 
     /// The file of the next text, empty; none where there is none to write.
-    fn begin(&mut self) -> Option<R::File> {
+    fn begin<E: Write>(&mut self, messages: &mut Messages<'_, E>) -> Option<R::File> {
         let Some(paths) = &self.paths else {
             return None;
         };
         let file = open_empty(self.rt, &paths.part, &self.others);
         if file.is_none() {
-            self.fail();
+            self.fail(messages);
         }
         file
     }
 
     /// Puts the text that was written in its place; a broken one is taken away.
-    fn end(&mut self, written: Result<(), WriteFault>) {
+    fn end<E: Write>(&mut self, written: Result<(), WriteFault>, messages: &mut Messages<'_, E>) {
         let Some(paths) = &self.paths else {
             return;
         };
@@ -99,36 +99,49 @@ impl<'a, R: Files, E: Write> Keeper<'a, R, E> {
             return;
         }
         let _ = fs::remove_file(self.rt, &paths.part);
-        self.fail();
+        self.fail(messages);
     }
 
     /// Tells the first failure.
-    fn fail(&mut self) {
+    fn fail<E: Write>(&mut self, messages: &mut Messages<'_, E>) {
         if self.is_told {
             return;
         }
         self.is_told = true;
         if let Some(paths) = &self.paths {
             let path = paths.path;
-            let _ = writeln!(self.err, "warning: {path} cannot be written");
+            let _ = writeln!(messages.below(), "warning: {path} cannot be written");
         }
     }
-}
 
-impl<'a, R: Files, E: Write> Watch for Keeper<'a, R, E> {
-    fn better(&mut self, instance: &Instance, cost: u64, bits: &[bool]) {
-        if let Some(mut file) = self.begin() {
+    /// Keeps a better solution.
+    pub fn better<E: Write>(
+        &mut self,
+        instance: &Instance,
+        cost: u64,
+        bits: &[bool],
+        messages: &mut Messages<'_, E>,
+    )
+        requires { IsSolution instance.now bits.now cost }
+    {
+        if let Some(mut file) = self.begin(messages) {
             let written = write_best(instance, cost, bits, &mut file);
-            self.end(written);
+            self.end(written, messages);
         }
     }
-}
 
-impl<'a, R: Files, E: Write> Keep for Keeper<'a, R, E> {
-    fn ended(&mut self, instance: &Instance, found: &Found) {
-        if let Some(mut file) = self.begin() {
+    /// Keeps what was found.
+    pub fn ended<E: Write>(
+        &mut self,
+        instance: &Instance,
+        found: &Found,
+        messages: &mut Messages<'_, E>,
+    )
+        requires { IsFound instance.now found.now }
+    {
+        if let Some(mut file) = self.begin(messages) {
             let written = write_found(instance, found, &mut file);
-            self.end(written);
+            self.end(written, messages);
         }
     }
 }

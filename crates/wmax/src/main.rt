@@ -4,6 +4,9 @@
 
 mod keeping;
 mod placing;
+mod progress;
+mod standard_error;
+mod watching;
 
 use adder::cells::Profile;
 use bound::encoding::write_formula;
@@ -15,16 +18,19 @@ use keeping::{BestPaths, Keeper};
 use lrat_check::checking::check_from_as;
 use lrat_check::verdicts::{Cause, CheckFault, Verdict};
 use placing::{Place, find_place, open_proof};
+use progress::Meter;
 use report::fault::RunFault;
 use report::options::{self, MOST_CONFLICTS, MOST_COST};
 use report::printing::{deliver, fault_code, print_fault, print_verdict, verdict_code};
 use report::running::run_watched;
+use standard_error::Messages;
 use std::fs::{File, OpenFile, OpenOptions};
-use std::io::{Read, Write};
+use std::io::{IsTerminal, Read, Write};
 use std::mem::ManuallyDrop;
 use std::process::ExitCode;
-use std::rt::{Env, Files};
+use std::rt::{Clock, Env, Files};
 use std::{env, io};
+use watching::Onlooker;
 use wcnf::faults::{FaultKind, ReadFault};
 use wcnf::reading::read_from;
 use wcnf::whole::read_all;
@@ -47,9 +53,9 @@ fn read_profile(matches: &ArgMatches<'_>) -> Option<Profile> {
 
 /// `wmax solve`: FILE is opened, then the PATH of the certificate is created or emptied, then the
 /// PATH of the best solution, then the text is read. Without a PATH the certificate is dropped.
-fn solve<R: Files + AllocGlobal + Print, E: Write>(
+fn solve<R: Files + AllocGlobal + Print + Clock, E: Write>(
     rt: &R,
-    err: &mut E,
+    messages: &mut Messages<'_, E>,
     matches: &ArgMatches<'_>,
 ) -> Result<u8, RunFault> {
     // `clap` lets no command line pass that lacks one of these; nothing is known of that here.
@@ -71,7 +77,7 @@ fn solve<R: Files + AllocGlobal + Print, E: Write>(
             };
             keep(
                 rt,
-                err,
+                messages,
                 matches,
                 budget,
                 &mut text,
@@ -83,7 +89,7 @@ fn solve<R: Files + AllocGlobal + Print, E: Write>(
             let mut dropped = io::sink();
             keep(
                 rt,
-                err,
+                messages,
                 matches,
                 budget,
                 &mut text,
@@ -95,10 +101,10 @@ fn solve<R: Files + AllocGlobal + Print, E: Write>(
 }
 
 /// Solves with a certificate, where `--best` may name neither of the others.
-fn keep<R: Files + AllocGlobal + Print, E: Write, T: Read, P: Write>(
-    rt: &R,
-    err: &mut E,
-    matches: &ArgMatches<'_>,
+fn keep<'a, R: Files + AllocGlobal + Print + Clock, E: Write, T: Read, P: Write>(
+    rt: &'a R,
+    messages: &'a mut Messages<'_, E>,
+    matches: &'a ArgMatches<'_>,
     mut budget: Budget,
     text: &mut T,
     proof: &mut P,
@@ -114,13 +120,23 @@ fn keep<R: Files + AllocGlobal + Print, E: Write, T: Read, P: Write>(
     if let Some(paths) = &paths {
         if paths.are_taken(rt, &others) {
             let _ = writeln!(
-                err,
+                messages.below(),
                 "error: --best names FILE, the certificate or no regular file"
             );
             return Ok(2);
         }
     }
-    let mut keeper = Keeper::new(rt, err, paths, others);
+    let meter = if matches.get_flag("progress") {
+        Meter::start(rt, budget.left())
+    } else {
+        None
+    };
+    let keeper = Keeper::new(rt, paths, others, messages);
+    let mut onlooker = Onlooker {
+        keeper,
+        meter,
+        messages,
+    };
     let mut out = io::writer(rt);
     let status = run_watched(
         rt.alloc(),
@@ -129,7 +145,7 @@ fn keep<R: Files + AllocGlobal + Print, E: Write, T: Read, P: Write>(
         &mut out,
         proof,
         profile,
-        &mut keeper,
+        &mut onlooker,
     )?;
     Ok(status.code())
 }
@@ -224,11 +240,11 @@ fn encode<R: Files + AllocGlobal + Print>(
 }
 
 /// The exit status. A fault is told on standard error; one that cannot be told changes no status.
-fn tell<E: Write>(err: &mut E, outcome: Result<u8, RunFault>) -> u8 {
+fn tell<E: Write>(messages: &mut Messages<'_, E>, outcome: Result<u8, RunFault>) -> u8 {
     match outcome {
         Ok(status) => status,
         Err(fault) => {
-            let _ = print_fault(&fault, err);
+            let _ = print_fault(&fault, messages.below());
             fault_code(&fault)
         }
     }
@@ -236,70 +252,104 @@ fn tell<E: Write>(err: &mut E, outcome: Result<u8, RunFault>) -> u8 {
 
 /// The exit status where the command line cannot be read: refused memory, or a word that is not
 /// UTF-8.
-fn tell_words<E: Write>(err: &mut E, kind: io::ErrorKind) -> u8 {
+fn tell_words<E: Write>(messages: &mut Messages<'_, E>, kind: io::ErrorKind) -> u8 {
     if kind == io::ErrorKind::OutOfMemory {
-        return tell(err, Err(RunFault::Memory));
+        return tell(messages, Err(RunFault::Memory));
     }
-    let _ = writeln!(err, "error: a word of the command line is not UTF-8");
+    let _ = writeln!(
+        messages.below(),
+        "error: a word of the command line is not UTF-8"
+    );
     2
+}
+
+/// How a line begins that `clap` adds to many mistakes, and that is of no use here: no FILE begins
+/// with '-'.
+const TIP: &str = "  tip: to pass ";
+
+/// Tells a mistake of the command line in the words of `clap`, without that line.
+fn print_mistake<E: Write>(messages: &mut Messages<'_, E>, text: &str) {
+    let err = messages.below();
+    let mut is_blank = false;
+    for line in text.lines() {
+        if line.starts_with(TIP) || (is_blank && line.is_empty()) {
+            continue;
+        }
+        is_blank = line.is_empty();
+        let _ = writeln!(err, "{line}");
+    }
 }
 
 /// Prints what `clap` says: help that was asked for on standard output, and a mistake on standard
 /// error, where a failure changes no status.
-fn print_refusal<R: Print + Eprint, E: Write>(rt: &R, err: &mut E, error: &Error) -> u8 {
-    let printed = error.print(rt);
+fn print_refusal<R: AllocGlobal + Print, E: Write>(
+    rt: &R,
+    messages: &mut Messages<'_, E>,
+    error: &Error,
+) -> u8 {
     if error.use_stderr() {
+        let Ok(text) = format!(in rt.alloc(); "{error}") else {
+            return tell(messages, Err(RunFault::Memory));
+        };
+        print_mistake(messages, text.as_str());
         return 2;
     }
-    match printed {
+    match rt.print(error) {
         Ok(()) => 0,
-        Err(_) => tell(err, Err(RunFault::Output)),
+        Err(_) => tell(messages, Err(RunFault::Output)),
     }
 }
 
 /// Reads the command line and does what it says.
-fn run_command<R: Files + AllocGlobal + Print + Eprint + Env, E: Write>(rt: &R, err: &mut E) -> u8 {
+fn run_command<R: Files + AllocGlobal + Print + Env + Clock, E: Write>(
+    rt: &R,
+    messages: &mut Messages<'_, E>,
+) -> u8 {
     let args = match env::args(rt) {
         Ok(args) => args,
-        Err(error) => return tell_words(err, error.kind()),
+        Err(error) => return tell_words(messages, error.kind()),
     };
     let Ok(words) = args.collect(rt.alloc()) else {
-        return tell(err, Err(RunFault::Memory));
+        return tell(messages, Err(RunFault::Memory));
     };
     let words: Vec<String> = words;
     match options::make_command(rt.alloc()) {
         Ok(command) => match command.try_get_matches_from(words.as_slice()) {
-            Ok(matches) => run_matches(rt, err, &matches),
-            Err(error) => refuse(rt, err, &error),
+            Ok(matches) => run_matches(rt, messages, &matches),
+            Err(error) => refuse(rt, messages, &error),
         },
-        Err(_) => tell(err, Err(RunFault::Memory)),
+        Err(_) => tell(messages, Err(RunFault::Memory)),
     }
 }
 
 /// Does what a command line says that was read.
-fn run_matches<R: Files + AllocGlobal + Print, E: Write>(
+fn run_matches<R: Files + AllocGlobal + Print + Clock, E: Write>(
     rt: &R,
-    err: &mut E,
+    messages: &mut Messages<'_, E>,
     matches: &ArgMatches<'_>,
 ) -> u8 {
     match matches.subcommand() {
         Some(("solve", found)) => {
-            let outcome = solve(rt, err, found);
-            tell(err, outcome)
+            let outcome = solve(rt, messages, found);
+            tell(messages, outcome)
         }
-        Some(("check", found)) => tell(err, check(rt, found)),
-        Some(("explain", found)) => tell(err, explain(rt, found)),
-        Some(("encode", found)) => tell(err, encode(rt, found)),
+        Some(("check", found)) => tell(messages, check(rt, found)),
+        Some(("explain", found)) => tell(messages, explain(rt, found)),
+        Some(("encode", found)) => tell(messages, encode(rt, found)),
         _ => 2,
     }
 }
 
 /// The exit status where `clap` gives no matches: refused memory, help, or a mistake.
-fn refuse<R: Print + Eprint, E: Write>(rt: &R, err: &mut E, error: &Error) -> u8 {
+fn refuse<R: AllocGlobal + Print, E: Write>(
+    rt: &R,
+    messages: &mut Messages<'_, E>,
+    error: &Error,
+) -> u8 {
     if error.kind() == ErrorKind::OutOfMemory {
-        return tell(err, Err(RunFault::Memory));
+        return tell(messages, Err(RunFault::Memory));
     }
-    print_refusal(rt, err, error)
+    print_refusal(rt, messages, error)
 }
 
 /// The file on which nothing is read.
@@ -320,7 +370,11 @@ fn open_nothing<R: Files>(rt: &R) -> Option<R::File> {
 /// is opened three times first, and held to the end.
 fn main(rt: HostRuntime) -> ExitCode {
     let held = [open_nothing(&rt), open_nothing(&rt), open_nothing(&rt)];
-    let ended = run_command(&rt, &mut rt.stderr());
+    let mut err = rt.stderr();
+    let is_terminal = err.is_terminal();
+    let mut messages = Messages::new(&mut err, is_terminal, rt.stdout().is_terminal());
+    let ended = run_command(&rt, &mut messages);
+    messages.below();
     let _ = held;
     ExitCode::from(ended)
 }

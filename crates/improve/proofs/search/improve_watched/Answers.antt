@@ -20,19 +20,19 @@ pub lower-requires-clause-hard : goal.lower-requires-clause-hard
 lower-requires-clause-hard g c =
     let free = rw c.in-Ok-Sat.field-0-is at c.in-Ok-Sat.ensures.open in
     subst (IsHardLog c.args.instance.now) (sym c.into_sink-hard.ensures)
-    (hard_log c.args.instance.now c.in-Ok.solver c.in-Ok.ensures c.solve.new.self
-    c.solve.ensures.given c.solve.ensures.lines (free (λ e. cc)) c.solve.ensures.grows
-    c.solve.ensures.new)
+    (hard_log c.args.instance.now c.in-Ok.solver c.in-Ok.ensures c.solve_watched.new.self
+    c.solve_watched.ensures.given c.solve_watched.ensures.lines (free (λ e. cc))
+    c.solve_watched.ensures.grows c.solve_watched.ensures.new)
 
 pub returns-in-Ok-Sat-clause-improves : goal.returns-in-Ok-Sat-clause-improves
 returns-in-Ok-Sat-clause-improves g c =
     let answers = rw c.in-Ok-Sat.field-0-is at c.in-Ok-Sat.ensures.answers in
     let learned =
-    hard_learned c.args.instance.now c.in-Ok.solver c.in-Ok.ensures c.solve.new.self.sink
-    c.args.budget.now.learned c.solve.new.budget.learned c.solve.ensures.grows
-    c.solve.ensures.learned in
-    c.lower.ensures.improves c.args.budget.now (sym c.solve.ensures.same_limit) (sym answers)
-    (omega (arith, learned, ap learned_count c.into_sink-hard.ensures))
+    hard_learned c.args.instance.now c.in-Ok.solver c.in-Ok.ensures c.solve_watched.new.self.sink
+    c.args.budget.now.learned c.solve_watched.new.budget.learned c.solve_watched.ensures.grows
+    c.solve_watched.ensures.learned in
+    c.lower.ensures.improves c.args.budget.now (sym c.solve_watched.ensures.same_limit)
+    (sym answers) (omega (arith, learned, ap learned_count c.into_sink-hard.ensures))
 
 pub returns-in-Ok-Unsat-clause-improves : goal.returns-in-Ok-Unsat-clause-improves
 returns-in-Ok-Unsat-clause-improves g c =
@@ -41,12 +41,13 @@ returns-in-Ok-Unsat-clause-improves g c =
     let count : ℕ = c.len-clauses.result in
     let accepted = rw c.in-Ok-Unsat.field-0-is at c.in-Ok-Unsat.ensures.unsat in
     let answers = rw c.in-Ok-Unsat.field-0-is at c.in-Ok-Unsat.ensures.answers in
-    found_end c.args.profile p _ _ c.args.budget.now c.solve.new.budget c.solve.ensures.same_limit
-    [] (sym (append-nil _)) (Ok (Unsat log count)) tt (All-nil (IsCostOfSome p)) refl tt
+    found_end c.args.profile p _ _ c.args.budget.now c.solve_watched.new.budget
+    c.solve_watched.ensures.same_limit [] (sym (append-nil _)) (Ok (Unsat log count)) tt
+    (All-nil (IsCostOfSome p)) refl tt
     (right_unsat p c.in-Ok.solver c.in-Ok.ensures c.args.profile log count
     (subst (IsAcceptedLog (given_to c.in-Ok.solver)) (sym c.into_sink-log.ensures) accepted)
     (c.len-clauses.ensures.len ∙ ap length (c.given.ensures
-    ∙ sym (same_given c.in-Ok.solver c.solve.new.self c.solve.ensures.given))))
+    ∙ sym (same_given c.in-Ok.solver c.solve_watched.new.self c.solve_watched.ensures.given))))
     (omega (arith, answers)) tt tt
 
 pub returns-in-Ok-Limit-clause-improves : goal.returns-in-Ok-Limit-clause-improves
@@ -59,22 +60,25 @@ returns-in-Ok-Limit-clause-improves g c =
     let answers = rw c.in-Ok-Limit.field-0-is at c.in-Ok-Limit.ensures.answers in
     let work =
     subst (IsHardLog p) (sym c.into_sink-hard-in-Ok-Limit.ensures)
-    (hard_log p c.in-Ok.solver c.in-Ok.ensures c.solve.new.self c.solve.ensures.given
-    c.solve.ensures.lines (free (λ e. cc)) c.solve.ensures.grows c.solve.ensures.new) in
+    (hard_log p c.in-Ok.solver c.in-Ok.ensures c.solve_watched.new.self
+    c.solve_watched.ensures.given c.solve_watched.ensures.lines (free (λ e. cc))
+    c.solve_watched.ensures.grows c.solve_watched.ensures.new) in
     let learned =
-    hard_learned p c.in-Ok.solver c.in-Ok.ensures c.solve.new.self.sink c.args.budget.now.learned
-    c.solve.new.budget.learned c.solve.ensures.grows c.solve.ensures.learned in
-    found_end c.args.profile p _ _ c.args.budget.now c.solve.new.budget c.solve.ensures.same_limit
-    [] (sym (append-nil _)) (Ok (Nothing (record { hard = log; bound = c.new-bound.result }))) tt
+    hard_learned p c.in-Ok.solver c.in-Ok.ensures c.solve_watched.new.self.sink
+    c.args.budget.now.learned c.solve_watched.new.budget.learned c.solve_watched.ensures.grows
+    c.solve_watched.ensures.learned in
+    found_end c.args.profile p _ _ c.args.budget.now c.solve_watched.new.budget
+    c.solve_watched.ensures.same_limit [] (sym (append-nil _))
+    (Ok (Nothing (record { hard = log; bound = c.new-bound.result }))) tt
     (All-nil (IsCostOfSome p)) refl tt
     (right_nothing p c.in-Ok.solver c.in-Ok.ensures c.args.profile log c.new-bound.result work
     c.new-bound.ensures (λ r. let x = refuted r in cc)) (omega (arith, answers))
-    (nothing_learned log c.new-bound.result c.solve.new.self.sink c.args.budget.now.learned
-    c.solve.new.budget.learned c.into_sink-hard-in-Ok-Limit.ensures c.new-bound.ensures learned)
-    left
+    (nothing_learned log c.new-bound.result c.solve_watched.new.self.sink c.args.budget.now.learned
+    c.solve_watched.new.budget.learned c.into_sink-hard-in-Ok-Limit.ensures c.new-bound.ensures
+    learned) left
 
 pub returns-in-Err-clause-improves : goal.returns-in-Err-clause-improves
 returns-in-Err-clause-improves g c =
-    memory_end c.args.profile c.args.instance.now _ _ c.args.budget.now c.solve.new.budget
-    c.solve.ensures.same_limit [] (sym (append-nil _)) tt
+    memory_end c.args.profile c.args.instance.now _ _ c.args.budget.now c.solve_watched.new.budget
+    c.solve_watched.ensures.same_limit [] (sym (append-nil _)) tt
     (All-nil (IsCostOfSome c.args.instance.now)) refl

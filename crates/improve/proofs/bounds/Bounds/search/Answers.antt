@@ -7,19 +7,19 @@ use Rattle.improve.proofs.CheaperBits.{above_zero, same_given, solved_over}
 use Rattle.improve.proofs.bounds.Bounds.search.Goals as goal
 
 pub judge-requires-clause-long : goal.judge-requires-clause-long
-judge-requires-clause-long c =
+judge-requires-clause-long g c =
     let sat = rw c.in-Sat.is at c.in-Ok.ensures.sat in
     bits_long c.args.instance.now c.args.self.now c.in-Sat.bits.items c.requires.over sat.0
 
 pub judge-requires-clause-feasible : goal.judge-requires-clause-feasible
-judge-requires-clause-feasible c = λ t x.
+judge-requires-clause-feasible g c = λ t x.
     let sat = rw c.in-Sat.is at c.in-Ok.ensures.sat in
     let b = c.requires.bounded in
     (bits_cheaper c.args.instance.now c.args.self.now b.1.0 b.0 c.in-Sat.bits.items c.requires.over
     b.1.1 sat.1 t x).0
 
 pub returns-in-Sat-clause-next : goal.returns-in-Sat-clause-next
-returns-in-Sat-clause-next c =
+returns-in-Sat-clause-next g c =
     let p = c.args.instance.now in
     let b = c.args.self.now in
     let bits = c.in-Sat.bits.items in
@@ -34,17 +34,18 @@ returns-in-Sat-clause-next c =
     }
 
 pub returns-in-Unsat-clause-next : goal.returns-in-Unsat-clause-next
-returns-in-Unsat-clause-next c =
+returns-in-Unsat-clause-next g c =
     let accepted = rw c.in-Unsat.is at c.in-Ok.ensures.unsat in
     let answers = rw c.in-Unsat.is at c.in-Ok.ensures.answers in
-    let same = same_given c.args.self.now.solver c.solve.new.self c.solve.ensures.given in
+    let same =
+    same_given c.args.self.now.solver c.solve_watched.new.self c.solve_watched.ensures.given in
     record {
-      accepted = subst (λ g. IsAcceptedLog g c.solve.new.self.sink) same accepted;
+      accepted = subst (λ g. IsAcceptedLog g c.solve_watched.new.self.sink) same accepted;
       answers = omega (arith, answers);
     }
 
 pub returns-in-Limit-clause-next : goal.returns-in-Limit-clause-next
-returns-in-Limit-clause-next c =
+returns-in-Limit-clause-next g c =
     let p = c.args.instance.now in
     let b = c.args.self.now in
     let free = rw c.in-Limit.is at c.in-Ok.ensures.open in
@@ -61,19 +62,19 @@ returns-in-Limit-clause-next c =
     }
 
 pub returns-in-Sat-clause-over : goal.returns-in-Sat-clause-over
-returns-in-Sat-clause-over c =
-    solved_over c.args.instance.now c.args.self.now c.solve.new.self c.requires.over
-    c.solve.ensures.given (λ f. false≢true (c.in-Ok.ensures.fails.1 f)) c.solve.ensures.lines
-    c.solve.ensures.grows c.solve.ensures.new
+returns-in-Sat-clause-over g c =
+    solved_over c.args.instance.now c.args.self.now c.solve_watched.new.self c.requires.over
+    c.solve_watched.ensures.given (λ f. false≢true (c.in-Ok.ensures.fails.1 f))
+    c.solve_watched.ensures.lines c.solve_watched.ensures.grows c.solve_watched.ensures.new
 
 pub returns-in-Unsat-clause-over : goal.returns-in-Unsat-clause-over
-returns-in-Unsat-clause-over c =
-    solved_over c.args.instance.now c.args.self.now c.solve.new.self c.requires.over
-    c.solve.ensures.given (λ f. false≢true (c.in-Ok.ensures.fails.1 f)) c.solve.ensures.lines
-    c.solve.ensures.grows c.solve.ensures.new
+returns-in-Unsat-clause-over g c =
+    solved_over c.args.instance.now c.args.self.now c.solve_watched.new.self c.requires.over
+    c.solve_watched.ensures.given (λ f. false≢true (c.in-Ok.ensures.fails.1 f))
+    c.solve_watched.ensures.lines c.solve_watched.ensures.grows c.solve_watched.ensures.new
 
 pub returns-in-Limit-clause-over : goal.returns-in-Limit-clause-over
-returns-in-Limit-clause-over c =
-    solved_over c.args.instance.now c.args.self.now c.solve.new.self c.requires.over
-    c.solve.ensures.given (λ f. false≢true (c.in-Ok.ensures.fails.1 f)) c.solve.ensures.lines
-    c.solve.ensures.grows c.solve.ensures.new
+returns-in-Limit-clause-over g c =
+    solved_over c.args.instance.now c.args.self.now c.solve_watched.new.self c.requires.over
+    c.solve_watched.ensures.given (λ f. false≢true (c.in-Ok.ensures.fails.1 f))
+    c.solve_watched.ensures.lines c.solve_watched.ensures.grows c.solve_watched.ensures.new

@@ -1,0 +1,139 @@
+//! The lines of `--progress`: how far a run is, once a second and at each better solution.
+use crate::standard_error::Messages;
+use cdcl::watch::SearchReport;
+use std::alloc::AllocError;
+use std::io::Write;
+use std::rt::Clock;
+use std::time::{Duration, Instant};
+
+/// The clock is read after so many conflicts, and at each better solution.
+const LOOK: u64 = 16;
+
+/// No line comes sooner after another than so many seconds, but at a better solution.
+const PAUSE: u64 = 1;
+
+/// How far a run is.
+#[derive(Drop)]
+pub struct Meter<'a, R: Clock> {
+    /// The clock.
+    rt: &'a R,
+    /// When the run began.
+    start: Instant,
+    /// When the last line was told, or the run began.
+    told: Instant,
+    /// How many conflicts and solutions the run may spend, at most 2^62.
+    limit: u64,
+    /// What was told last of the search.
+    report: SearchReport,
+    /// How often the solvers before this one started over.
+    restarts: u64,
+    /// How many solutions were shown, each a unit of the effort.
+    solutions: u64,
+    /// What the best of them costs, below 2^62; none where there is none.
+    cost: Option<u64>,
+}
+
+impl<'a, R: Clock + AllocGlobal> Meter<'a, R> {
+    /// A run begins; none where the clock cannot be read.
+    pub fn start(rt: &'a R, limit: u64) -> Option<Self> {
+        let Ok(start) = Instant::now(rt) else {
+            return None;
+        };
+        Some(Meter {
+            rt,
+            start,
+            told: start,
+            limit,
+            report: SearchReport {
+                conflicts: 0,
+                learned: 0,
+                restarts: 0,
+            },
+            restarts: 0,
+            solutions: 0,
+            cost: None,
+        })
+    }
+
+    /// Takes note of how far the search is, and tells it if the last line is a second old.
+    pub fn learned<E: Write>(&mut self, report: &SearchReport, messages: &mut Messages<'_, E>) {
+        if report.restarts < self.report.restarts {
+            // Another solver goes on.
+            self.restarts = self.restarts.saturating_add(self.report.restarts);
+        }
+        self.report = *report;
+        if report.conflicts % LOOK != 0 {
+            return;
+        }
+        if let Ok(now) = Instant::now(self.rt) {
+            if now.duration_since(self.told).as_secs() >= PAUSE {
+                self.tell(now, messages);
+            }
+        }
+    }
+
+    /// Takes note of a better solution, and tells how far the search is.
+    pub fn better<E: Write>(&mut self, cost: u64, messages: &mut Messages<'_, E>) {
+        self.solutions = self.solutions.saturating_add(1);
+        self.cost = Some(cost);
+        if let Ok(now) = Instant::now(self.rt) {
+            self.tell(now, messages);
+        }
+    }
+
+    /// Tells how far the search is; where memory for the line is refused, nothing.
+    fn tell<E: Write>(&mut self, now: Instant, messages: &mut Messages<'_, E>) {
+        self.told = now;
+        let (start, end) = messages.edges();
+        if let Ok(line) = self.spell(now, start, end) {
+            messages.show(line.as_str());
+        }
+    }
+
+    /// The line, between its edges.
+    fn spell(&self, now: Instant, start: &str, end: &str) -> Result<String, AllocError> {
+        let age = now.duration_since(self.start);
+        let report = &self.report;
+        let cost = self.spell_cost()?;
+        let spent = self.spell_spent()?;
+        format!(in self.rt.alloc();
+            "{start}{}.{} s, {}, {} conflicts, {}/s, {} learned, {} restarts, {}{end}",
+            age.as_secs(),
+            age.subsec_millis() / 100,
+            cost,
+            report.conflicts,
+            per_second(report.conflicts, age),
+            report.learned,
+            self.restarts.saturating_add(report.restarts),
+            spent
+        )
+    }
+
+    /// What the best solution costs.
+    fn spell_cost(&self) -> Result<String, AllocError> {
+        match self.cost {
+            Some(cost) => format!(in self.rt.alloc(); "cost {cost}"),
+            None => format!(in self.rt.alloc(); "no solution yet"),
+        }
+    }
+
+    /// How much of the effort is spent, in hundredths of a percent.
+    fn spell_spent(&self) -> Result<String, AllocError> {
+        let spent = self.report.conflicts.saturating_add(self.solutions);
+        let part = spent.saturating_mul(10_000) / self.limit.max(1);
+        format!(in self.rt.alloc(); "{}.{:02} % spent", part / 100, part % 100)
+    }
+}
+
+/// How many a second: none in the first thousandth of one. A product past 2^64 is cut off, which
+/// takes some thousand years.
+fn per_second(count: u64, age: Duration) -> u64 {
+    let millis = age
+        .as_secs()
+        .saturating_mul(1000)
+        .saturating_add(u64::from(age.subsec_millis()));
+    if millis == 0 {
+        return 0;
+    }
+    count.saturating_mul(1000) / millis
+}

@@ -1,0 +1,133 @@
+#!/usr/bin/env bash
+# `--progress`: lines on standard error, and nothing else is different.
+source "$(dirname "$0")/../lib"
+
+form='[0-9]+\.[0-9] s, (no solution yet|cost [0-9]+), [0-9]+ conflicts, [0-9]+/s, [0-9]+ learned, [0-9]+ restarts, [0-9]+\.[0-9]{2} % spent'
+
+plain() { # WORD..: the run without the option: `out`, `status` and the certificate
+    rm -f "$work/proof"
+    call solve "$@" --proof proof text
+    plain_out=$out
+    plain_status=$status
+    cp "$work/proof" "$work/plain"
+}
+
+same() { # NAME: as without the option
+    ok "$1: the same status" [ "$status" = "$plain_status" ]
+    ok "$1: the same output" [ "$out" = "$plain_out" ]
+    ok "$1: the same certificate" cmp -s "$work/proof" "$work/plain"
+}
+
+# numbers NAME EXPRESSION: these of the lines do not fall
+numbers() {
+    ok "$1 do not fall" awk -v last=0 '{ if ($1 + 0 < last) wrong = 1; last = $1 + 0 } END { exit wrong }' <<< "$(sed -E "s|$2|\\1|" <<< "$err")"
+}
+
+# A run of a second or two, into a file.
+awk -v family=random -v size=40 -v seed=1 -f bench/maxsat.awk > "$work/text"
+plain --profile 4
+ok 'without it nothing is told' [ -z "$err" ]
+call solve --profile 4 --proof proof --progress text
+same 'a file'
+ok 'a file: each line has the form' [ -z "$(grep -vxE "$form" <<< "$err")" ]
+ok 'a file: nothing but whole lines' [ "$(tr -cd '\r\033' < "$work/.err" | wc -c)" = 0 -a -z "$(tail -c 1 "$work/.err")" ]
+ok 'a file: a line at each solution, and no other cost' \
+    [ "$(sed -nE 's/.*, cost ([0-9]+),.*/o \1/p' <<< "$err" | uniq)" = "$(grep '^o' <<< "$out")" ]
+numbers 'the seconds' '^([0-9.]+) s.*'
+numbers 'the conflicts' '.*, ([0-9]+) conflicts.*'
+numbers 'the restarts' '.*, ([0-9]+) restarts.*'
+numbers 'the shares of the effort' '.*, ([0-9.]+) % spent'
+
+# The share of the effort: each conflict and each solution is a unit.
+call solve --profile 4 --conflicts 100 --progress text
+ok 'the share of the effort' awk -F '[ ,]+' '
+    $4 != cost { cost = $4; solutions++ }
+    { share = $5 + solutions - $(NF - 2); if (share < -0.01 || share > 0.01) wrong = 1 }
+    END { exit wrong || !NR }' <<< "$(grep 'cost' <<< "$err")"
+
+# Nothing to tell.
+lines text 'h 1 0' 'h -1 0'
+call solve --progress text
+expect 'no solution' 20 's UNSATISFIABLE' ''
+lines bad 'h 1'
+call solve --progress bad
+expect 'a faulty text' 2 '' 'error: line 1: NoZero'
+
+# Standard error that cannot be written.
+cp examples/roster.wcnf "$work/text"
+plain
+run() { # NAME: `status` and the certificate after a run whose standard error the caller redirects
+    rm -f "$work/proof"
+    out=$(cd "$work" && timeout 60 "$wmax" solve --progress --proof proof text < /dev/null)
+    status=$?
+}
+run 2>&-
+same 'closed'
+if [ -c /dev/full ]; then
+    run 2> /dev/full
+    same 'full'
+fi
+rm -f "$work/proof"
+out=$(cd "$work" && { { sleep 0.3; timeout 60 "$wmax" solve --progress --proof proof text 2>&1 >&3 < /dev/null; echo $? > .status; } | :; } 3>&1)
+status=$(cat "$work/.status")
+same 'a closed pipe'
+
+# With --best.
+call solve --progress --best best --proof proof text
+same 'with --best'
+ok 'with --best: each line has the form' [ -n "$err" -a -z "$(grep -vxE "$form" <<< "$err")" ]
+ok 'with --best: the text' [ "$(cat "$work/best")" = "$(tail -n 3 <<< "$out")" ]
+call solve --progress --best missing/best --proof proof text
+same 'an unwritable best'
+ok 'an unwritable best: told once, on a line' [ "$(grep -vxE "$form" <<< "$err")" = 'warning: missing/best cannot be written' ]
+
+# A terminal. terminal WHICH WORD..: what the terminal got goes to $work/screen, WHICH is err, or both for standard output too
+terminal() {
+    (cd "$work" && timeout 60 python3 - "$wmax" "$@" << 'PYTHON'
+import os, pty, subprocess, sys
+wmax, which, *words = sys.argv[1:]
+leader, follower = pty.openpty()
+output = follower if which == 'both' else open('out', 'wb')
+run = subprocess.Popen([wmax] + words, stdin=subprocess.DEVNULL, stdout=output, stderr=follower)
+os.close(follower)
+screen = b''
+while True:
+    try:
+        piece = os.read(leader, 65536)
+    except OSError:
+        break
+    if not piece:
+        break
+    screen += piece
+with open('screen', 'wb') as file:
+    file.write(screen.replace(b'\r\n', b'\n'))
+sys.exit(run.wait())
+PYTHON
+    )
+    status=$?
+    out=$(cat "$work/out" 2> /dev/null)
+}
+clear=$'\r\033[K\033[?7l'
+shown() { # the lines that the screen shows: what was written over is gone
+    sed -E "s/^.*$(printf '\r')$(printf '\033')\[K$(printf '\033')\[\?7l//; s/$(printf '\033')\[\?7h//g" "$work/screen"
+}
+terminal err solve --progress --proof proof text
+same 'a terminal'
+ok 'a terminal: one line, ended at the end' [ "$(wc -l < "$work/screen")" = 1 -a -z "$(tail -c 1 "$work/screen")" ]
+ok 'a terminal: written over at each solution' [ "$(tr -cd '\r' < "$work/screen" | wc -c)" -ge "$(grep -c '^o' <<< "$out")" ]
+ok 'a terminal: it begins with a cleared line' [ "$(head -c "${#clear}" "$work/screen")" = "$clear" ]
+ok 'a terminal: the last cost stands' grep -qxE "${form/(no solution yet|cost \[0-9\]+)/$(grep '^o' <<< "$out" | tail -n 1 | sed 's/^o/cost/')}" <<< "$(shown)"
+terminal err solve --progress --best missing/best --proof proof text
+same 'a terminal, a warning'
+ok 'a terminal, a warning: on a line of its own' grep -qx 'warning: missing/best cannot be written' "$work/screen"
+if [ -c /dev/full ]; then
+    terminal err solve --progress --proof /dev/full text
+    ok 'a terminal, a fault: on a line of its own' [ "$status" = 3 -a "$(tail -n 1 "$work/screen")" = 'error: ProofOutput' ]
+    ok 'a terminal, a fault: the line before it has the form' grep -qxE "$form" <<< "$(shown | head -n 1)"
+fi
+terminal both solve --progress --proof proof text
+ok 'one terminal: the lines of the result are whole' [ "$(shown | grep -vxE "$form")" = "$plain_out" ]
+terminal err solve --proof proof text
+same 'a terminal without it'
+ok 'a terminal without it: nothing' [ ! -s "$work/screen" ]
+totals
