@@ -6,7 +6,7 @@ ok 'make install' make -s install DESTDIR="$work/root" PREFIX=/usr > /dev/null
 page=$work/root/usr/share/man/man1/wmax.1
 ok 'the program' cmp -s wmax "$work/root/usr/bin/wmax"
 ok 'it can be run' [ "$("$work/root/usr/bin/wmax" --version)" = "$("$wmax" --version)" ]
-for command in solve check encode; do
+for command in solve check explain encode; do
     ok "the page has $command" grep -qx ".SH wmax $command" "$page"
     for option in $("$wmax" $command --help | grep -oE '^ +(-., )?--[a-z]+' | grep -oE '[-]-[a-z]+'); do
         ok "the page has $command $option" grep -qF "${option//-/\\-}" "$page"
@@ -17,6 +17,6 @@ for status in 30 20 10 0 1 2 3; do
 done
 if command -v man > /dev/null; then
     ok 'man has nothing to say against it' [ -z "$(man --warnings -l "$page" 2>&1 > /dev/null)" ]
-    ok 'man shows it' [ "$(MANWIDTH=100 man -l "$page" 2> /dev/null | grep -cE '^ +wmax (solve|check|encode) ')" -ge 6 ]
+    ok 'man shows it' [ "$(MANWIDTH=100 man -l "$page" 2> /dev/null | grep -cE '^ +wmax (solve|check|explain|encode) ')" -ge 8 ]
 fi
 totals
