@@ -11,6 +11,7 @@ without_variable: nothing names it; it goes with the next change of eliminate
 eliminations_back: nothing names it; it goes with the next change of eliminate
 adds_blocks: nothing names it; it goes with the next change of lrat_read
 listed_from-push: nothing names it; it goes with the next change of lrat_live
+takes_step: nothing names it; it goes with the next change of lrat_live
 live_test: nothing names it; it goes with the next change of eliminate_tables
 yes_over: nothing names it; it goes with the next change of lrat_check
 same_bytes-refl: nothing names it; it goes with the next change of lrat_result
