@@ -9,14 +9,7 @@ allowed() {
 row_at row_at: rows of other tables, by the place of a clause and by a literal; the crates share none that has rows
 without_variable: nothing names it; it goes with the next change of eliminate
 eliminations_back: nothing names it; it goes with the next change of eliminate
-adds_blocks: nothing names it; it goes with the next change of lrat_read
-listed_from-push: nothing names it; it goes with the next change of lrat_live
-takes_step: nothing names it; it goes with the next change of lrat_live
 live_test: nothing names it; it goes with the next change of eliminate_tables
-yes_over: nothing names it; it goes with the next change of lrat_check
-same_bytes-refl: nothing names it; it goes with the next change of lrat_result
-status_told: nothing names it; it goes with the next change of lrat_result
-bits_told: nothing names it; it goes with the next change of lrat_result
 ROWS
 }
 

@@ -8,4 +8,5 @@ pub use Rattle.bound.proofs.Covers.{covers_larger, covers_larger_over, rising_ea
 pub use Rattle.bound.proofs.Few.{clauses_few, hard_few, without_bound}
 pub use Rattle.bound.proofs.Fits.{IsVariable, addition_variables, bound_is_formula, bound_once}
 pub use Rattle.bound.proofs.Fits.{compared_once, comparator_once, kept_once, outputs_variables}
+pub use Rattle.bound.proofs.Kept.{same_literals}
 pub use Rattle.bound.proofs.Subsets.{all_reverse}

@@ -1,6 +1,7 @@
 -- Which literals a list has: after a push, under negation, and twice.
 use Rattle.std.proofs.Common.{◌≡◌, ℕ, ◌<◌, ◌≤◌, Bool, true, false, ◌||◌, List, [], ◌∷◌, ◌++◌, map}
 use Rattle.std.proofs.Common.{refl, sym, ◌∙◌, ap, subst, inl, inr, arith}
+use Rattle.std.proofs.Math.Bool.{or-false}
 use Rattle.std.proofs.lemmas.Bool.{or_cases, or_parts, or_from, or_left, or_right, false≢true}
 use Rattle.std.proofs.lemmas.Bool.{false_from_ne_true}
 use Rattle.std.proofs.lemmas.List.Folds.{list_any-append}
@@ -8,6 +9,7 @@ use Rattle.std.proofs.lemmas.List.Elements.{All-head, All-tail}
 use Rattle.cnf.specs.Literal.{Literal, negation, literal_eq}
 use Rattle.cnf.specs.Clause.{contains_literal, has_repeat, has_opposites}
 use Rattle.cnf.proofs.Laws.{literal_eq-refl, literal_eq-true, negation_twice}
+use Rattle.bound.proofs.Laws.{same_literals}
 use Rattle.lrat_check.specs.Assumed.{AreWithin}
 use Rattle.lrat_check.specs.Steps.{HaveSame}
 
@@ -20,11 +22,6 @@ same_tests false false f g = refl
 
 literal_eq-from : (k l : Literal) → k ≡ l → literal_eq k l ≡ true
 literal_eq-from k l e = subst (λ m. literal_eq k m ≡ true) e (literal_eq-refl k)
-
-pub literal_eq-swap : (k l : Literal) → literal_eq k l ≡ literal_eq l k
-literal_eq-swap k l =
-    same_tests _ _ (λ e. literal_eq-from l k (sym (literal_eq-true k l e)))
-    (λ e. literal_eq-from k l (sym (literal_eq-true l k e)))
 
 pub literal_eq-negation : (k l : Literal) → literal_eq k (negation l) ≡ literal_eq (negation k) l
 literal_eq-negation k l =
@@ -39,10 +36,6 @@ pub contains-negations : (l : Literal) (xs : List Literal)
 contains-negations l [] = refl
 contains-negations l (x ∷ xs) = let e = literal_eq-negation l x in
     let f = contains-negations l xs in cc
-
-or-false : (b : Bool) → (b || false) ≡ b
-or-false true = refl
-or-false false = refl
 
 -- one more at the end
 pub contains-push : (k l : Literal) (xs : List Literal)
@@ -102,7 +95,7 @@ has_repeat-push l [] r h = refl
 has_repeat-push l (x ∷ xs) r h =
     let p = or_parts (contains_literal x xs) (has_repeat xs) r in
     let q = or_parts (literal_eq l x) (contains_literal l xs) h in
-    or_from _ _ (not_in_push x l xs p.0 (literal_eq-swap x l ∙ q.0)) (has_repeat-push l xs p.1 q.1)
+    or_from _ _ (not_in_push x l xs p.0 (same_literals x l ∙ q.0)) (has_repeat-push l xs p.1 q.1)
 
 pub has_repeat-last : (l : Literal) (xs : List Literal) → has_repeat (xs ++ l ∷ []) ≡ false
     → (has_repeat xs ≡ false) × (contains_literal l xs ≡ false)
@@ -111,7 +104,7 @@ has_repeat-last l (x ∷ xs) r =
     let p = or_parts (contains_literal x (xs ++ l ∷ [])) (has_repeat (xs ++ l ∷ [])) r in
     let q = not_in_push-parts x l xs p.0 in
     let h = has_repeat-last l xs p.1 in
-    (or_from _ _ q.0 h.0, or_from _ _ (literal_eq-swap l x ∙ q.1) h.1)
+    (or_from _ _ q.0 h.0, or_from _ _ (same_literals l x ∙ q.1) h.1)
 
 pub repeat_at : (l : Literal) (xs ys : List Literal) → contains_literal l xs ≡ true
     → has_repeat (xs ++ l ∷ ys) ≡ true
@@ -131,7 +124,7 @@ has_opposites-push l (x ∷ xs) r h =
     let p = or_parts (contains_literal (negation x) xs) (has_opposites xs) r in
     let q = or_parts (literal_eq (negation l) x) (contains_literal (negation l) xs) h in
     or_from _ _ (not_in_push (negation x) l xs p.0 (sym (literal_eq-negation x l)
-    ∙ literal_eq-swap x (negation l) ∙ q.0)) (has_opposites-push l xs p.1 q.1)
+    ∙ same_literals x (negation l) ∙ q.0)) (has_opposites-push l xs p.1 q.1)
 
 pub opposite_at : (l : Literal) (xs ys : List Literal) → contains_literal (negation l) xs ≡ true
     → has_opposites (xs ++ l ∷ ys) ≡ true

@@ -8,16 +8,12 @@ use Rattle.std.specs.Str.Lines.{lines_of_parts, strip_carriage_return}
 use Rattle.std.proofs.lemmas.List.{length-take-le, length-drop, take_rest, take-append-drop}
 use Rattle.std.proofs.lemmas.List.Splits.{slice_split_at, length-slice_split}
 use Rattle.std.proofs.lemmas.List.Elements.{All-append, All-nil}
-use Rattle.std.specs.Prelude.{IfSome, IfOk, Result, Ok, Err, ◌↔◌}
+use Rattle.std.specs.Prelude.{IfSome}
 use Rattle.std.specs.Io.KnownBytes.{Consumes, IsAtEnd}
 use Rattle.cnf.specs.Literal.{Literal}
-use Rattle.cnf.specs.Formula.{Cnf, IsFormula}
 use Rattle.text.specs.Text.{tokens_of, token_lines, IsNoFeed, IsFirstFeed}
 use Rattle.text.proofs.Laws.{lines-last, parts-cons}
 use Rattle.lrat_check.specs.declared.verdicts.Verdict.{Verdict}
-use Rattle.lrat_check.specs.declared.verdicts.Verdict.TheVariants.{Yes}
-use Rattle.lrat_check.specs.Checks.{IsProofOver}
-use Rattle.lrat_check.proofs.Whole.{yes_is_proof}
 use Rattle.lrat_live.specs.Listed.{listed_from}
 use Rattle.lrat_check.specs.Machine.{MachineState, verdict_after}
 use Rattle.lrat_check.specs.Verdict.{verdict_on, proof_verdict}
@@ -371,12 +367,6 @@ over_ended (Some x) None fed v formula p e h = absurd p
 over_ended (Some x) (Some y) fed v formula p e h =
     h ∙ ap (proof_verdict formula) (sym (append-nil fed) ∙ ap (λ z. fed ++ z) (sym e) ∙ sym p)
 
-pub yes_over : (f : Cnf) (o : Option (List ℕ)) (v : Verdict) → IsFormula f
-    → IfSome o (λ bytes. v ≡ proof_verdict f.clauses bytes)
-    → IfSome o (λ bytes. (v ≡ Yes) ↔ IsProofOver f.clauses bytes)
-yes_over f None v h e = tt
-yes_over f (Some bytes) v h e = yes_is_proof f bytes v h e
-
 pub over_end : (o m n : Option (List ℕ)) (fed buf : List ℕ) (k : ℕ) (v : Verdict)
     (formula : List (List Literal)) → Consumes o m fed → Consumes m n (take k buf) → k ≡ 0
     → IsAtEnd n
@@ -386,8 +376,3 @@ over_end o m n fed buf k v formula p q e end h =
     over_ended o n fed v formula
     (subst (Consumes o n) (append-nil fed)
     (read_more o m n fed [] p (subst (Consumes m n) none q))) end h
-
-pub if_ok_weaker : {X E : Type 0} (r : Result X E) (P Q : X → Type 0) → ((x : X) → P x → Q x)
-    → IfOk r P → IfOk r Q
-if_ok_weaker (Ok x) P Q f h = f x h
-if_ok_weaker (Err e) P Q f h = h

@@ -4,14 +4,13 @@ use Rattle.std.proofs.Common.{◌≡◌, ℕ, zero, suc, ◌+◌, ◌<◌, ◌�
 use Rattle.std.proofs.Common.{length, get_or, take, drop, set, Some, None, refl, sym, ◌∙◌, ap}
 use Rattle.std.proofs.Common.{subst, arith, inl, inr}
 use Rattle.std.specs.Prelude.{◌==◌, slice_index}
-use Rattle.std.specs.List.Sorted.{IsStrictlyIncreasing}
 use Rattle.std.proofs.lemmas.Bool.{cases_Bool, eq-eqb, eqb-true, ne_eqb}
 use Rattle.std.proofs.lemmas.List.{take-append-drop, drop-drop, append_assoc}
 use lib.Seq.{paste}
 use Rattle.cnf.specs.Numbers.{RisesFrom}
 use Rattle.cnf.specs.Literal.{Literal}
 use Rattle.cnf.proofs.Laws as laws
-use Rattle.cnf.proofs.Laws.{Layout}
+use Rattle.cnf.proofs.Laws.{Layout, rises_least}
 use Rattle.lrat_live.specs.Listed.{Listed, ids_of, listed_at, without_id}
 use Rattle.lrat_live.specs.Chains.{place_of}
 use Rattle.lrat_live.specs.Table.{Cell, keys_of, literals_of, clauses_in, AllLive, IsLaid}
@@ -139,14 +138,6 @@ listed_nowhere ls (c ∷ cs) i h =
     ]
 
 -- keys that rise
-rises_least : (least : ℕ) (ks : List ℕ) (p : ℕ) → RisesFrom least ks → p < length ks
-    → least ≤ slice_index ks p
-rises_least = laws.rises_least
-
--- each key is below the next
-pub rising_from : (least : ℕ) (ks : List ℕ) → RisesFrom least ks → IsStrictlyIncreasing ks
-rising_from = laws.rising_from
-
 pub rises_push : (least : ℕ) (ks : List ℕ) (k : ℕ) → RisesFrom least ks → least ≤ k
     → IsAboveLast k ks → RisesFrom least (ks ++ k ∷ [])
 rises_push least [] k r h l = (h, tt)

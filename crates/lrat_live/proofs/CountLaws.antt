@@ -610,12 +610,6 @@ drop_here : (ids : List ℕ) (k i : ℕ) → k < length ids → i ≡ get_or ids
     → drop k ids ≡ i ∷ drop (k + 1) ids
 drop_here ids k i h e = drop_more ids k 0 h ∙ ap (λ x. x ∷ drop (k + 1) ids) (sym e)
 
-pub takes_step : (l : Literal) (es : Listed) (left before : ℕ) (ids : List ℕ) (k i n : ℕ)
-    → k < length ids → i ≡ get_or ids k 0 → n ≤ times_at l es i → is_next before i n left ≡ true
-    → Takes l es (left - n) i (drop (k + 1) ids) → Takes l es left before (drop k ids)
-takes_step l es left before ids k i n h e le next t =
-    subst (Takes l es left before) (sym (drop_here ids k i h e)) (n, next, le, t)
-
 pub taken_step : (count : ℕ → ℕ) (left before : ℕ) (ids : List ℕ) (k i n : ℕ) → k < length ids
     → i ≡ get_or ids k 0 → n ≡ count i → is_next before i n left ≡ true
     → take_all count left before (drop k ids) ≡ take_all count (left - n) i (drop (k + 1) ids)

@@ -13,6 +13,7 @@ use Rattle.std.specs.List.{AllPairs}
 use Rattle.std.proofs.lemmas.List.Elements.{recursion_from_All}
 use Rattle.cnf.specs.Literal.{Literal}
 use Rattle.cnf.specs.Formula.{numbered}
+use Rattle.cnf.proofs.Laws.{same_number}
 use Rattle.lrat_live.specs.Listed.{Listed, ids_of, listed_at, listed_from, without_id, IsRising}
 
 -- each number is below all later ones
@@ -84,16 +85,9 @@ rises_push (x ∷ es) e r h = (
     above_push x (y ∷ es) e a h = (a.0, above_push x es e a.1 h)
 
 -- the list as a function of ids, where one comes or goes
-same_place : (i j : ℕ) → (i == j) ≡ (j == i)
-same_place i j =
-    elim (cases_eq i j) [
-      | inl e ↦ eq-eqb i j e ∙ sym (eq-eqb j i (sym e))
-      | inr n ↦ ne_eqb i j n ∙ sym (ne_eqb j i (λ e. n (sym e)))
-    ]
-
 pub listed_at-push : (es : Listed) (id : ℕ) (c : List Literal) → All (λ e. e.0 < id) es → (j : ℕ)
     → listed_at (es ++ (id, c) ∷ []) j ≡ cond (j == id) (Some c) (listed_at es j)
-listed_at-push [] id c h j = ap (λ b. cond b (Some c) None) (same_place id j)
+listed_at-push [] id c h j = ap (λ b. cond b (Some c) None) (same_number id j)
 listed_at-push (e ∷ es) id c h j =
     let below : e.0 < id = All-head (λ x. x.0 < id) e es h in
     elim (cases_eq e.0 j) [
@@ -150,14 +144,6 @@ pub listed_numbered : (cs : List (List Literal)) (i : ℕ)
     → listed_at (listed_from 1 cs) i ≡ numbered cs i
 listed_numbered cs zero = listed_before 1 cs 0 (omega arith)
 listed_numbered cs (suc i) = listed_after cs 1 i (suc i) (omega arith)
-
-pub listed_from-push : (n : ℕ) (cs : List (List Literal)) (c : List Literal)
-    → listed_from n (cs ++ c ∷ []) ≡ listed_from n cs ++ (n + length cs, c) ∷ []
-listed_from-push n [] c = ap (λ k. (k, c) ∷ []) (omega arith)
-listed_from-push n (d ∷ cs) c =
-    let same : (n + 1) + length cs ≡ n + length (d ∷ cs) = omega arith in
-    ap (λ es. (n, d) ∷ es) (listed_from-push (n + 1) cs c
-    ∙ ap (λ k. listed_from (n + 1) cs ++ (k, c) ∷ []) same)
 
 pub rises_listed : (n : ℕ) (cs : List (List Literal)) → Rises (ids_of (listed_from n cs))
 rises_listed n [] = tt

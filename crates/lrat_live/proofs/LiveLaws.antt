@@ -77,8 +77,8 @@ pub cases_listed : (o : Option (List Literal)) → (o ≡ None) ⊎ ((c : List L
 cases_listed None = inl refl
 cases_listed (Some c) = inr (c, refl)
 
-none_here : (xs ys : Listed) (i : ℕ) → listed_at (xs ++ ys) i ≡ None → listed_at xs i ≡ None
-none_here xs ys i e =
+pub none_first : (xs ys : Listed) (i : ℕ) → listed_at (xs ++ ys) i ≡ None → listed_at xs i ≡ None
+none_first xs ys i e =
     elim (cases_listed (listed_at xs i)) [
       | inl n ↦ n
       | inr (c, s) ↦ (let found = listed_first xs ys i c s in absurd (cc))
@@ -89,7 +89,7 @@ pub far_none : (xs ys zs : Listed) (i : ℕ) (c : List Literal) → Rises (ids_o
     → listed_at (xs ++ zs) i ≡ Some c → listed_at ys i ≡ None
 far_none xs ys zs i c r e =
     elim (cases_listed (listed_at xs i)) [
-      | inr (d, s) ↦ none_here ys zs i (once xs (ys ++ zs) i d r s)
+      | inr (d, s) ↦ none_first ys zs i (once xs (ys ++ zs) i d r s)
       | inl n ↦ elim (cases_listed (listed_at ys i)) [
         | inl m ↦ m
         | inr (d, s) ↦
@@ -113,7 +113,7 @@ near_found xs ys zs i c r e =
 pub far_found : (xs ys zs : Listed) (i : ℕ) → listed_at (xs ++ zs) i ≡ None
     → listed_at (xs ++ (ys ++ zs)) i ≡ listed_at ys i
 far_found xs ys zs i e =
-    let n : listed_at xs i ≡ None = none_here xs zs i e in
+    let n : listed_at xs i ≡ None = none_first xs zs i e in
     let m : listed_at zs i ≡ None = sym (listed_second xs zs i n) ∙ e in
     listed_second xs (ys ++ zs) i n ∙ elim (cases_listed (listed_at ys i)) [
       | inl k ↦ listed_second ys zs i k ∙ m ∙ sym k
@@ -145,11 +145,8 @@ pub none_of : (o : Option (List Literal)) → (IsSome o → ⊥) → o ≡ None
 none_of None h = refl
 none_of (Some c) h = absurd (h refl)
 
-pub none_first : (xs ys : Listed) (i : ℕ) → listed_at (xs ++ ys) i ≡ None → listed_at xs i ≡ None
-none_first xs ys i e = none_here xs ys i e
-
 pub none_second : (xs ys : Listed) (i : ℕ) → listed_at (xs ++ ys) i ≡ None → listed_at ys i ≡ None
-none_second xs ys i e = sym (listed_second xs ys i (none_here xs ys i e)) ∙ e
+none_second xs ys i e = sym (listed_second xs ys i (none_first xs ys i e)) ∙ e
 
 pub all_far_left : (n m : Parts) (far now : Listed) (i : ℕ) → m.given ≡ without_id i n.given
     → now ≡ without_id i far → m.recent ≡ without_id i n.recent

@@ -408,16 +408,6 @@ unfolding as_deletion ends_at
 deletes_block t us n hs e b d = line_deletes t us n e ∙ ap (λ o. as_deletion (ends_at o)) b
     ∙ cond-false (list_any (λ x. x.0) hs) Malformed (Deletion (map (λ x. x.1) hs)) d
 
-pub adds_blocks : (t : List ℕ) (us : List (List ℕ)) (n : ℕ) (c hs : Signed) (rest : List (List ℕ))
-    → signed_of t ≡ Some (false, n) → block_of us ≡ Some (c, rest) → block_of rest ≡ Some (hs, [])
-    → line_of (t ∷ us) ≡ Addition n (map literal_from c) hs
-unfolding as_addition as_hinted ends_at
-adds_blocks t [] n c hs rest e b d = absurd (cc)
-adds_blocks t (u ∷ us) n c hs rest e b d =
-    let other : u ≡ 100 ∷ [] → ⊥ = λ z.
-    let none : Some (c, rest) ≡ None = sym b ∙ ap (λ x. block_of (x ∷ us)) z in absurd (cc) in
-    line_adds_at t u us n e other (Some (c, rest)) b ∙ ap (λ o. as_hinted n c (ends_at o)) d
-
 -- how a line is read
 abbrev pub parsed_of : ProofLine → Parsed
 parsed_of (AddsLine id c hints groups) = Addition id c (signed_hints hints groups)

@@ -15,7 +15,7 @@ use Rattle.std.proofs.lemmas.Fmt.{length-decimal-le}
 use Rattle.text.specs.Text.{is_blank, begins_with_token, put_byte, tokens_of, is_digit, value_on}
 use Rattle.text.specs.Text.{number_of}
 use Rattle.text.proofs.Laws.{number_of-is, is_number, decimal-number_of, digit_bounds, digit_from}
-use Rattle.text.proofs.Laws.{decimal_numerals, digit_is_no_blank}
+use Rattle.text.proofs.Laws.{decimal_numerals, digit_is_no_blank, value_on-push}
 use Rattle.lrat_read.specs.Form.{signed_of}
 use Rattle.lrat_read.proofs.Tokens.{tag, signed_dash, signed_plain}
 
@@ -85,11 +85,6 @@ range_push s i j h l =
     ∙ ap (λ x. slice_range s i j ++ x ∷ []) (get_or-drop i s (j - i) 0
     ∙ ap (λ k. get_or s k 0) same)
 
-value_push : (n : ℕ) (ds : List ℕ) (b : ℕ)
-    → value_on n (ds ++ b ∷ []) ≡ 10 * value_on n ds + (b - 48)
-value_push n [] b = refl
-value_push n (d ∷ ds) b = value_push (10 * n + (d - 48)) ds b
-
 -- a run of bytes that pass a test, and one byte more
 pub run_push : (test : ℕ → Bool) (s : List ℕ) (i j : ℕ) → i ≤ j → j < length s
     → list_all test (slice_range s i j) ≡ true → test (get_or s j 0) ≡ true
@@ -122,7 +117,7 @@ pub digits_step : (s : List ℕ) (i j : ℕ) → i ≤ j → j < length s → 48
     + (get_or s j 0 - 48))
 digits_step s i j h l low high e = (
   run_push is_digit s i j h l e (digit_from (get_or s j 0) low high),
-  ap (value_on 0) (range_push s i j h l) ∙ value_push 0 (slice_range s i j) (get_or s j 0),
+  ap (value_on 0) (range_push s i j h l) ∙ value_on-push 0 (slice_range s i j) (get_or s j 0),
 )
 
 range_none : (s : List ℕ) (i : ℕ) → slice_range s i i ≡ []

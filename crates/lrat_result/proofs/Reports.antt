@@ -1,14 +1,14 @@
 -- What a result is read as, against what it says.
 use Rattle.std.proofs.Common.{◌≡◌, ℕ, ◌+◌, ◌<◌, ◌^◌, Bool, true, false, not, ◌&&◌, List, [], ◌∷◌}
 use Rattle.std.proofs.Common.{◌++◌, map, Option, Some, None, inl, inr, refl, sym, ◌∙◌, ap, subst}
-use Rattle.std.proofs.Common.{arith, rules}
+use Rattle.std.proofs.Common.{arith}
 use Rattle.std.proofs.Math.Bool.{cond}
 use Rattle.std.proofs.Math.Dec.{ltb}
 use Rattle.std.specs.Prelude.{◌==◌, filter, Ok, Err}
 use Rattle.std.specs.List.{AllByRecursion}
 use Rattle.std.specs.Str.Lines.{lines}
 use Rattle.std.specs.Fmt.{decimal}
-use Rattle.std.proofs.lemmas.Bool.{and_from, and_parts, cases_Bool, eq-eqb, eqb-true, ltb-true}
+use Rattle.std.proofs.lemmas.Bool.{and_parts, cases_Bool, eqb-true, ltb-true}
 use Rattle.std.proofs.lemmas.Bool.{lt-ltb, cond-true, cond-false, false≢true}
 use Rattle.std.proofs.lemmas.Option.{cond_some}
 use Rattle.std.proofs.lemmas.List.Elements.{All-from_recursion, recursion_from_All}
@@ -69,10 +69,6 @@ same_bytes-true (x ∷ xs) [] e = absurd (false≢true e)
 same_bytes-true (x ∷ xs) (y ∷ ys) e =
     let h = and_parts (x == y) (same_bytes xs ys) e in
     ap (λ z. z ∷ xs) (eqb-true x y h.0) ∙ ap (λ zs. y ∷ zs) (same_bytes-true xs ys h.1)
-
-same_bytes-refl : (xs : List ℕ) → same_bytes xs xs ≡ true
-same_bytes-refl [] = refl
-same_bytes-refl (x ∷ xs) = and_from _ _ (eq-eqb x x refl) (same_bytes-refl xs)
 
 -- costs
 small_cost : Option ℕ → Option ℕ
@@ -185,12 +181,6 @@ status_no_cost Unsat = refl
 status_no_cost Sat = refl
 status_no_cost Limit = refl
 
-status_told : (x : Status) → is_ignored (status_tokens x) ≡ false
-status_told Optimum = refl
-status_told Unsat = refl
-status_told Sat = refl
-status_told Limit = refl
-
 -- bits
 bit_zero : (b : ℕ) (bs : List ℕ) (xs : List Bool) → (b == 48) ≡ true → bits_on bs ≡ Some xs
     → bits_on (b ∷ bs) ≡ Some (false ∷ xs)
@@ -255,10 +245,6 @@ bits_means (v ∷ t ∷ u ∷ us) h xs e = absurd (cc)
 bits_from : (xs : List Bool) → bits_of (bits_tokens xs) ≡ Some xs
 bits_from [] = refl
 bits_from (x ∷ xs) = bits_on_from (x ∷ xs)
-
-bits_told : (xs : List Bool) → is_ignored (bits_tokens xs) ≡ false
-bits_told [] = refl
-bits_told (x ∷ xs) = refl
 
 -- after the last line that says something
 ended_means : (ls : List Line) (n : ℕ) (report r : Report) → ended n report ls ≡ Ok r

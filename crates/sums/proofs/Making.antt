@@ -17,7 +17,7 @@ use Rattle.cnf.specs.Numbers.{RisesFrom}
 use Rattle.cnf.specs.Literal.{Literal}
 use Rattle.sums.specs.Sums.{AtLeast, yes, no, literal_of, named_from, numbers, rising, sums_with}
 use Rattle.sums.specs.Sums.{own_clauses, order_after, order_clauses, sum_clauses, joined, join}
-use Rattle.sums.specs.Sums.{grouped, group_list, halves, odd_clauses}
+use Rattle.sums.specs.Sums.{grouped, halves, odd_clauses}
 use Rattle.sums.proofs.Numbers.{rising_rises, numbers-named, length-numbers}
 
 named-append : (v : ℕ) (ns : List ℕ) (n w : ℕ) → w ≡ v + length ns
@@ -132,7 +132,7 @@ sum_length list (x ∷ xs) ys =
       sum_length list xs ys,
     )
 
-own_length : (list xs : List AtLeast) → length (own_clauses list xs) ≡ length xs
+pub own_length : (list xs : List AtLeast) → length (own_clauses list xs) ≡ length xs
 own_length list xs = length-map xs (λ (x : AtLeast). no x ∷ literal_of list x.number ∷ [])
 
 pub grouped_length : (v : ℕ) (xs : List AtLeast)

@@ -16,10 +16,11 @@ use Rattle.sums_tree.specs.Arrangement.{step_of}
 use Rattle.sums.specs.Halts.{IsTooMany}
 use Rattle.sums.specs.declared.halts.Halt.{Halt}
 use Rattle.sums.specs.declared.halts.Halt.TheVariants.{TooMany, Memory}
+use Rattle.sums.proofs.Shape.{digits_length}
 use Rattle.sums.proofs.Variables.{carries_grow}
 use Rattle.sums.specs.Sums.{AtLeast, Node, Own, Both, members, most_below, node, root}
 use Rattle.sums.specs.Sums.{with_carries, digits_of, rest_of, both_digits, own_list, join, split}
-use Rattle.sums.specs.Sums.{first_small, tree_weight, without_lowest}
+use Rattle.sums.specs.Sums.{first_small, tree_weight}
 use Rattle.sums.specs.Parts.{group_node, joined_node}
 use Rattle.sums.specs.Stepping.{Part, Progress, with_node, last_joined, step_made, most_before}
 use Rattle.sums.specs.Stepping.{steps_made, begun, finished, last_part, root_made, group_weight}
@@ -128,10 +129,6 @@ carries_digits most v carry (digit ∷ digits) rest =
     let parts = split most sum.fresh sum.list in
     ap suc (carries_digits most parts.fresh parts.carry digits rest)
 
-group_digits : (d : ℕ) (xs : List AtLeast) → length (digits_of d xs) ≡ d
-group_digits zero xs = refl
-group_digits (suc d) xs = ap suc (group_digits d (without_lowest xs))
-
 parts_digits : (d : ℕ) (xs ys : List (List AtLeast)) → length xs ≤ d
     → length (both_digits xs ys) ≤ d
 parts_digits d [] ys le = omega arith
@@ -159,7 +156,7 @@ step_digits p d m (Take g) s h = (
   omega (
     arith,
     carries_digits m s.fresh [] (digits_of d (members p g)) (rest_of d (members p g)),
-    group_digits d (members p g),
+    digits_length d (members p g),
   ),
   h,
 )

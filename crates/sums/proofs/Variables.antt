@@ -18,6 +18,7 @@ use Rattle.sums.specs.Sums.{grouped, group_list, Own, Members, Both, own_list, o
 use Rattle.sums.specs.Sums.{split, Node, with_carries, members, counted, lowest, without_lowest}
 use Rattle.sums.specs.Sums.{digits_of, rest_of, both_digits, most_below, node}
 use Rattle.sums.proofs.Numbers.{has, rising_length, length-named, length-numbers}
+use Rattle.sums.proofs.Making.{own_length}
 use Rattle.sums.proofs.Worth.{literal_at, HasNumbers, named_has, joined_numbers}
 
 -- new variables follow v, and are no more than the clauses
@@ -53,10 +54,6 @@ sums_length list (x ∷ xs) ys =
       length-append (map (λ y. no x ∷ no y ∷ literal_of list (x.number + y.number) ∷ []) ys)
           (sum_clauses list xs ys),
     )
-
-own_length : (list xs : List AtLeast) → length (own_clauses list xs) ≡ length xs
-own_length list [] = refl
-own_length list (x ∷ xs) = ap (λ n. suc n) (own_length list xs)
 
 joined_grows : (v : ℕ) (xs ys : List AtLeast)
     → Grows v (joined v xs ys).fresh (joined v xs ys).clauses

@@ -2,6 +2,7 @@
 use Rattle.std.proofs.Common.{◌≡◌, ℕ, ◌<◌, ◌==◌, ◌||◌, Bool, true, false, List, [], ◌∷◌, ◌++◌}
 use Rattle.std.proofs.Common.{length, set, replicate, refl, sym, ap, ◌∙◌, arith, inl, inr}
 use Rattle.std.proofs.Common.{length-set}
+use Rattle.std.proofs.Math.Bool.{or-false, or-true}
 use Rattle.std.proofs.lemmas.Bool.{cases_eq, false_from_ne_true, eq-eqb, ne_eqb}
 use Rattle.std.proofs.lemmas.List.{ext_get_or, get_or-replicate, length-replicate}
 use Rattle.std.proofs.lemmas.List.{get_or-set_same, get_or-set_other}
@@ -18,24 +19,16 @@ or_assoc : (a b c : Bool) → ((a || b) || c) ≡ (a || (b || c))
 or_assoc true b c = refl
 or_assoc false b c = refl
 
-or_true : (a : Bool) → (a || true) ≡ true
-or_true true = refl
-or_true false = refl
-
-or_false : (a : Bool) → (a || false) ≡ a
-or_false true = refl
-or_false false = refl
-
 seen-one : (flags : List Bool) (n m : ℕ) → m < length flags
     → seen_at (set flags n true) m ≡ (seen_at flags m || (n == m))
 seen-one flags n m h =
     elim (cases_eq n m) [
       | inl same ↦
           ap (λ i. seen_at (set flags i true) m) same ∙ get_or-set_same flags m true false h
-          ∙ sym (ap (λ b. seen_at flags m || b) (eq-eqb n m same) ∙ or_true (seen_at flags m))
+          ∙ sym (ap (λ b. seen_at flags m || b) (eq-eqb n m same) ∙ or-true (seen_at flags m))
       | inr other ↦
           get_or-set_other flags n m true false (λ e. other (sym e))
-          ∙ sym (ap (λ b. seen_at flags m || b) (ne_eqb n m other) ∙ or_false (seen_at flags m))
+          ∙ sym (ap (λ b. seen_at flags m || b) (ne_eqb n m other) ∙ or-false (seen_at flags m))
     ]
 
 pub length-with_seen : (ms : List ℕ) (flags : List Bool)
@@ -46,7 +39,7 @@ length-with_seen (m ∷ ms) flags =
 
 pub seen-after : (ms : List ℕ) (flags : List Bool) (m : ℕ) → m < length flags
     → seen_at (with_seen ms flags) m ≡ (seen_at flags m || is_in m ms)
-seen-after [] flags m h = sym (or_false (seen_at flags m))
+seen-after [] flags m h = sym (or-false (seen_at flags m))
 seen-after (n ∷ ms) flags m h =
     seen-after ms (set flags n true) m (omega (arith, h, length-set flags n true))
     ∙ ap (λ b. b || is_in m ms) (seen-one flags n m h)

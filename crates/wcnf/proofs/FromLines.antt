@@ -6,17 +6,15 @@ use Rattle.cnf.specs.Instance.{IsInstance}
 use Rattle.wcnf.specs.declared.faults.FaultKind.{FaultKind}
 use Rattle.wcnf.specs.declared.faults.FaultKind.TheVariants.{Count}
 use Rattle.wcnf.specs.Wcnf.{Reads}
-use Rattle.wcnf.specs.Reading.{reading_of, IsFirstFault}
 use Rattle.wcnf.specs.Drafts.{Drafted, nothing_drafted, problem_drafted, drafted_line}
-use Rattle.wcnf.specs.Drafts.{drafted_lines, short_at, finished}
+use Rattle.wcnf.specs.Reading.{drafted_lines, short_at, finished, reading_of, IsFirstFault}
 use Rattle.wcnf.proofs.Texts.{reading_is_right, first_fault}
-use Rattle.wcnf.proofs.Drafting.{reading-drafted}
 use Rattle.wcnf.proofs.WithinLimits.{reads_instance}
 
 whole_read : (text : List ℕ) (d : Drafted)
     → drafted_lines d [] ≡ drafted_lines nothing_drafted (numbered_text text)
     → reading_of text ≡ finished d
-whole_read text d e = reading-drafted text ∙ rw (sym e) refl
+whole_read text d e = rw (sym e) refl
 
 pub reads_whole : (text : List ℕ) (d : Drafted)
     → drafted_lines d [] ≡ drafted_lines nothing_drafted (numbered_text text) → short_at d ≡ None
@@ -40,4 +38,4 @@ pub whole_fault : (text : List ℕ) (d : Drafted) (n : ℕ) (l : List ℕ) (more
     → drafted_lines d ((n, l) ∷ more) ≡ drafted_lines nothing_drafted (numbered_text text)
     → drafted_line n d (tokens_of l) ≡ Err k → IsFirstFault text k n
 whole_fault text d n l more k e h =
-    first_fault text k n (reading-drafted text ∙ rw (sym e, h) refl)
+    first_fault text k n (rw (sym e, h) refl)

@@ -8,7 +8,7 @@ use Rattle.std.proofs.lemmas.Bool.{eqb-true, eqb-false, ne_eqb, ltb-false, le-lt
 use Rattle.std.proofs.lemmas.Slice.Eq.{bytes_eq-Decides}
 use Rattle.text.specs.Text.{number_of}
 use Rattle.wcnf.specs.Wcnf.{Header}
-use Rattle.wcnf.specs.Reading.{number_within, is_wcnf, header_ended, header_of, is_p}
+use Rattle.wcnf.specs.Heads.{number_within, is_wcnf, header_ended, header_of, is_p}
 use Rattle.text.proofs.Laws.{number_of-decimal, decimal-number_of}
 use Rattle.wcnf.proofs.Lines.{same_Ok, err-ok, bind_ok, unless_err, IsForm}
 

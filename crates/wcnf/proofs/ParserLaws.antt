@@ -13,8 +13,8 @@ use Rattle.std.proofs.lemmas.List.Elements.{All-append, All-nil}
 use Rattle.text.specs.Text.{tokens_of, numbered_text, IsNoFeed, IsFirstFeed}
 use Rattle.wcnf.specs.Wcnf.{Reads}
 use Rattle.cnf.specs.Problem.{Problem}
-use Rattle.wcnf.specs.Reading.{IsFirstFault}
-use Rattle.wcnf.specs.Drafts.{Drafted, nothing_drafted, drafted_line, drafted_lines}
+use Rattle.wcnf.specs.Drafts.{Drafted, nothing_drafted, drafted_line}
+use Rattle.wcnf.specs.Reading.{drafted_lines, IsFirstFault}
 use Rattle.wcnf.specs.Parsing.{Stands, Ends, NoMemory, IsLineFault, Refuses, HasRead}
 use Rattle.wcnf.specs.declared.faults.FaultKind.TheVariants.{Read}
 use Rattle.wcnf.specs.declared.faults.ReadFault.{ReadFault}

@@ -6,14 +6,13 @@ use Rattle.cnf.specs.Literal.{Literal}
 use Rattle.cnf.specs.Clause.{contains_literal, has_repeat}
 use Rattle.cnf.specs.Marks.{HasPlace, IsMarked}
 use Rattle.cnf.specs.Problem.{Problem, SoftClause}
-use Rattle.text.specs.Text.{tokens_of}
 use Rattle.wcnf.specs.declared.faults.FaultKind.{FaultKind}
 use Rattle.wcnf.specs.declared.faults.FaultKind.TheVariants.{Literal as LiteralFault, NoZero}
-use Rattle.wcnf.specs.declared.faults.FaultKind.TheVariants.{Variable, TooMany, Count}
+use Rattle.wcnf.specs.declared.faults.FaultKind.TheVariants.{AfterZero, Variable, TooMany}
 use Rattle.wcnf.specs.Wcnf.{Header}
-use Rattle.wcnf.specs.Reading.{Totals, ended_at}
+use Rattle.wcnf.specs.Heads.{Totals, most_variable, head_of, begins_comment, header_of, is_p}
+use Rattle.wcnf.specs.Heads.{◌>>=◌}
 use Rattle.text.specs.Words.{Word, Zero, Literal_word, Other, word_of}
-use Rattle.wcnf.specs.Reading.{most_variable, head_of, begins_comment, header_of, is_p, ◌>>=◌}
 
 -- a clause that is being read, each literal once, and the greatest variable of the text so far
 pub record Gathered : Type 0 where
@@ -38,6 +37,15 @@ pub record AreMarked (variables : ℕ) (marks : List Bool) (c : List Literal) : 
   pub marked : 8 < length c → IsMarked marks c
   pub places : All (HasPlace (2 * variables)) c
   pub once : has_repeat c ≡ false
+
+-- after the 0: a token that is neither 0 nor a literal is the lower fault
+abbrev pub ended_at : List (List ℕ) → Result (List Literal) FaultKind
+ended_at [] = Ok []
+ended_at (t ∷ ts) = by (word_of t)
+  where
+    by : Word → Result (List Literal) FaultKind
+    by Other = Err LiteralFault
+    by word = Err AfterZero
 
 -- the clause up to the 0 that ends the line, and how many literals stand in the text then
 abbrev pub gathered_at : ℕ → Gathered → ℕ → List (List ℕ) → Result (Gathered × ℕ) FaultKind
@@ -156,30 +164,3 @@ drafted_tokens n d t ts =
 abbrev pub drafted_line : ℕ → Drafted → List (List ℕ) → Result Drafted FaultKind
 drafted_line n d [] = Ok d
 drafted_line n d (t ∷ ts) = if begins_comment t then Ok d else drafted_tokens n d t ts
-
--- the lines that are left, with their numbers
-abbrev pub drafted_lines : Drafted → List (ℕ × List ℕ) → Result Drafted (FaultKind × ℕ)
-drafted_lines d [] = Ok d
-drafted_lines d (line ∷ more) =
-    on (drafted_line line.0 d (tokens_of line.1)) (λ e. drafted_lines e more)
-  where
-    on : Result Drafted FaultKind → (Drafted → Result Drafted (FaultKind × ℕ))
-        → Result Drafted (FaultKind × ℕ)
-    on (Ok e) next = next e
-    on (Err k) next = Err (k, line.0)
-
--- the line of the header, where that says more clauses than there are
-abbrev pub short_at : Drafted → Option ℕ
-short_at d = by d.header
-  where
-    by : Option Header → Option ℕ
-    by None = None
-    by (Some h) = if nat_lt (length d.hard + length d.soft) h.clauses then Some d.line else None
-
--- what the text reads as after its last line
-abbrev pub finished : Drafted → Result Problem (FaultKind × ℕ)
-finished d = by (short_at d)
-  where
-    by : Option ℕ → Result Problem (FaultKind × ℕ)
-    by None = Ok (problem_drafted d)
-    by (Some n) = Err (Count, n)

@@ -1,5 +1,6 @@
 pub mod Wcnf
-pub mod Reading
+pub mod Heads
 pub mod Drafts
+pub mod Reading
 pub mod Parsing
 pub mod ReadingVectors

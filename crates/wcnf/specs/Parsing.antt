@@ -3,8 +3,8 @@ use Rattle.std.specs.Prelude.{◌≡◌, ℕ, List, [], ◌++◌, Err, ◌⊎◌
 use Rattle.std.specs.List.{enumerate_from}
 use Rattle.std.specs.Str.Lines.{lines}
 use Rattle.text.specs.Text.{tokens_of, numbered_text, IsNoFeed}
-use Rattle.wcnf.specs.Reading.{IsFirstFault}
-use Rattle.wcnf.specs.Drafts.{Drafted, nothing_drafted, drafted_line, drafted_lines}
+use Rattle.wcnf.specs.Drafts.{Drafted, nothing_drafted, drafted_line}
+use Rattle.wcnf.specs.Reading.{drafted_lines, IsFirstFault}
 use Rattle.wcnf.specs.declared.faults.ReadFault.{ReadFault}
 use Rattle.wcnf.specs.declared.faults.FaultKind.TheVariants.{Memory}
 use Rattle.wcnf.specs.declared.parser.Parser.{Parser}

@@ -7,8 +7,7 @@ ghost use Rattle.std.specs.Prelude.{All, MatchResult, Ok, Err, OnOk, IfOk, â—ŒâŠ
 ghost use Rattle.cnf.specs.Clause.{contains_literal, has_repeat};
 ghost use Rattle.cnf.specs.Literal.{Literal};
 ghost use Rattle.cnf.specs.Marks.{HasPlace, IsMarked};
-ghost use Rattle.wcnf.specs.Reading.{ended_at};
-ghost use Rattle.wcnf.specs.Drafts.{with_literal, emptied, gathered_at};
+ghost use Rattle.wcnf.specs.Drafts.{with_literal, emptied, ended_at, gathered_at};
 
 use crate::faults::FaultKind;
 use cnf::limits::MOST_LITERALS;

@@ -1,6 +1,6 @@
 // The header of the older form, which says what the text has.
 ghost use Rattle.std.specs.Prelude.{◌≡◌, ◌≤◌, ◌<◌, ◌^◌, ◌⊎◌, MatchResult};
-ghost use Rattle.wcnf.specs.Reading.{header_of, is_wcnf, number_within};
+ghost use Rattle.wcnf.specs.Heads.{header_of, is_wcnf, number_within};
 
 use crate::faults::FaultKind;
 use cnf::limits::{MOST_HARD, MOST_SOFT, MOST_VARIABLES, NUMBER_LIMIT};

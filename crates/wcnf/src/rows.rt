@@ -3,12 +3,13 @@ ghost use Rattle.std.specs.Prelude.{◌≡◌, ℕ, false, ◌&&◌, [], ◌∷�
 ghost use Rattle.std.specs.Prelude.{◌<◌, ◌≤◌, ◌^◌, Ok, Err, None, OnOk, IfOk, IfSome, MatchResult};
 ghost use Rattle.std.specs.Prelude.{◌⊎◌};
 ghost use Rattle.text.specs.Text.{tokens_of, capped};
-ghost use Rattle.wcnf.specs.Reading.{most_variable, one_hard, one_soft, weighed, head_of, is_p};
+ghost use Rattle.wcnf.specs.Heads.{most_variable, one_hard, one_soft, weighed, head_of, is_p};
 ghost use Rattle.cnf.specs.Clause.{has_repeat};
 ghost use Rattle.cnf.specs.Instance.{IsInstance};
 ghost use Rattle.wcnf.specs.Drafts.{totals_of, nothing_drafted, is_empty, drafted_line};
-ghost use Rattle.wcnf.specs.Drafts.{drafted_tokens, drafted_header, drafted_clause, short_at};
+ghost use Rattle.wcnf.specs.Drafts.{drafted_tokens, drafted_header, drafted_clause};
 ghost use Rattle.wcnf.specs.Drafts.{problem_drafted};
+ghost use Rattle.wcnf.specs.Reading.{short_at};
 
 use crate::faults::FaultKind;
 use crate::gathering::Gathering;
@@ -43,7 +44,7 @@ pub(crate) struct Draft {
 
 impl Model for Draft {
     ghost use Rattle.std.specs.Prelude.{◌≤◌, ◌<◌, ◌^◌};
-    ghost use Rattle.wcnf.specs.Reading.{most_variable};
+    ghost use Rattle.wcnf.specs.Heads.{most_variable};
     ghost use Rattle.wcnf.specs.Drafts.{Drafted};
 
     ghost Value = { Drafted };

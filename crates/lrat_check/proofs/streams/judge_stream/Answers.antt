@@ -1,7 +1,8 @@
 -- The verdict is that on all bytes of the reader.
 use Rattle.std.proofs.Common.{rules, ◌≡◌, [], ◌++◌, arith}
 use Rattle.std.specs.Io.KnownBytes.{IsAtEnd}
-use Rattle.lrat_check.proofs.PieceLaws.{over_all, over_end, read_more, if_ok_weaker}
+use Rattle.std.proofs.lemmas.Result.{IfOk-weaker}
+use Rattle.lrat_check.proofs.PieceLaws.{over_all, over_end, read_more}
 use Rattle.lrat_check.proofs.streams.judge_stream.Goals as goal
 
 pub returns-in-Some : goal.returns-in-Some
@@ -21,7 +22,7 @@ returns-in-Ok-eq0 g c =
     let i = c.pieces.invariant in
     let zero : c.in-Ok-eq0.field-0 ≡ 0 = first_of (omega arith, search rules, cc) in
     let end : IsAtEnd (g.R.Read.remaining c.read.new.self) = search rules in
-    if_ok_weaker c.conclude.result _ _
+    IfOk-weaker c.conclude.result _ _
     (λ v h. λ formula s. record {
       bytes = i.0;
       verdict = h formula i.0 (i.1 formula s);

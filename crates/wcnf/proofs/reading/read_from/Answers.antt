@@ -1,5 +1,5 @@
 -- What the pieces so far say of all bytes of the reader.
-use Rattle.std.proofs.Common.{rules, ◌≡◌, [], arith, inr}
+use Rattle.std.proofs.Common.{rules, ◌≡◌, [], arith}
 use Rattle.std.specs.Io.KnownBytes.{IsAtEnd}
 use Rattle.std.proofs.KnownBytes.{Consumes-nil, Consumes-trans}
 use Rattle.wcnf.proofs.ParserLaws.{all_read, piece_refused, reader_refused, reader_read, told_at_end}
