@@ -154,13 +154,14 @@ fn visit(
 {
     let most = engine.assigned();
     for next in 0..most {
-        if next < queue.len() {
-            let variable = variable_of(engine, queue[next]);
-            if let Some(reason) = engine.reason(variable) {
-                let lits = store.lits(reason);
-                if all_may_follow(engine, lits, marks, ideas, firsts) {
-                    take_in(engine, lits, marks, ideas, queue);
-                }
+        if next >= queue.len() {
+            break;
+        }
+        let variable = variable_of(engine, queue[next]);
+        if let Some(reason) = engine.reason(variable) {
+            let lits = store.lits(reason);
+            if all_may_follow(engine, lits, marks, ideas, firsts) {
+                take_in(engine, lits, marks, ideas, queue);
             }
         }
     }
