@@ -2,6 +2,7 @@
 //! certificate.
 #![tactic(auto)]
 
+mod heads;
 pub mod lines;
 pub mod log;
 mod packed;

@@ -12,6 +12,7 @@ ghost use Rattle.lrat_log.specs.Log.{text_of};
 ghost use Rattle.lrat_log.specs.Texts.{line_text, numbered_after, last_after};
 ghost use Rattle.lrat_log.specs.Flat.{lits_before, hints_before};
 
+use crate::heads::Head;
 use crate::lines::{Hint, Kind, Line};
 use crate::packed::PackedHint;
 use crate::sink::Sink;
@@ -25,21 +26,7 @@ use text::output::{Block, WriteFault};
 /// A log has fewer lines than this, 2^61.
 const LINE_LIMIT: usize = 1 << 61;
 
-/// A line, by the places where its literals and its hints end. They begin where those of the line
-/// before end.
-#[derive(Clone, Copy, Drop)]
-struct Head {
-    // What the line does, and why it may.
-    kind: Kind,
-    // The place behind its last literal.
-    lits_end: usize,
-    // The place behind its last hint.
-    hints_end: usize,
-}
-
-const _: () = prove!(size_of::<Head>() <= 24);
-
-/// The lines of a solver, in memory: 4 bytes for each literal, 8 for each hint, and 24 for each
+/// The lines of a solver, in memory: 4 bytes for each literal, 8 for each hint, and 12 for each
 /// line.
 #[derive(Drop)]
 pub struct Log {
@@ -96,7 +83,7 @@ impl Log {
         requires { line < length self.now }
         ensures { result ≡ (line_at self.now line).kind }
     {
-        self.heads[line].kind
+        self.heads[line].kind()
     }
 
     /// The literals of the line in this place, from 0.
@@ -152,15 +139,13 @@ impl Sink for Log {
         }
         let lits = line.lits();
         let hints = line.hints();
+        let lits_end = self.lits.len() + lits.len();
+        let hints_end = self.hints.len() + hints.len();
+        let head = Head::new(line.kind(), lits_end as u64, hints_end as u64)?;
         self.heads.reserve(1)?;
         self.lits.reserve(lits.len())?;
         push_hints(&mut self.hints, hints)?;
         self.lits.extend_from_slice(lits)?;
-        let head = Head {
-            kind: line.kind(),
-            lits_end: self.lits.len(),
-            hints_end: self.hints.len(),
-        };
         self.heads.push(head)?;
         Ok(())
     }
@@ -180,7 +165,7 @@ fn find_ends(heads: &[Head], count: usize) -> (usize, usize)
         return (0, 0);
     }
     let head = heads[count - 1];
-    (head.lits_end, head.hints_end)
+    (head.lits_end() as usize, head.hints_end() as usize)
 }
 
 /// The items from one place up to another.

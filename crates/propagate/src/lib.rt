@@ -4,6 +4,8 @@
 //! `vardata` the tables that it reads.
 #![tactic(auto)]
 
+pub use propagate_watches::{pool, table};
+
 pub mod engine;
 mod moved;
 mod search;
