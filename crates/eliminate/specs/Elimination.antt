@@ -7,7 +7,7 @@ use Rattle.cnf.specs.Literal.{Literal, Assignment}
 use Rattle.cnf.specs.Clause.{Satisfies}
 use Rattle.cnf.specs.Refute.{Clauses}
 use Rattle.cnf.specs.Bits.{assignment_of}
-use Rattle.clauses.specs.Slots.{Slots, clause_at, live_places}
+use Rattle.clauses.specs.Slots.{Slots, clause_at, live_places, Renaming, IsRenaming}
 use Rattle.lrat_log.specs.declared.lines.Name.{Name}
 use Rattle.lrat_log.specs.declared.lines.Name.TheVariants.{Formula}
 use Rattle.lrat_log.specs.Log.{id_of, number_in}
@@ -51,6 +51,11 @@ pub record HoldsWhatIsLive (slots : Slots) (names : List (ℕ × Name)) (base : 
   pub only : (i : ℕ) (c : List Literal) → at i ≡ Some c
       → Contains (map (λ n. id_of base n.1) names) i
 
--- the live places with their names
-abbrev pub listed_names : List Name → Slots → List (ℕ × Name)
-listed_names names slots = map (λ r. (r, slice_index_or names r (Formula 1))) (live_places slots)
+-- the clauses in their new places, each with the name that it had in its old one
+abbrev pub moved_names : List Name → Renaming → List (ℕ × Name)
+moved_names names moves = map (λ m. (m.1, slice_index_or names m.0 (Formula 1))) moves
+
+-- by moves that bring the clauses of one store into another
+abbrev pub AreMoved : List Name → Slots → Slots → List (ℕ × Name) → Type 0
+AreMoved names old new listed = (moves : Renaming) × IsRenaming old new moves
+    × (listed ≡ moved_names names moves)

@@ -1,13 +1,13 @@
 // Elimination, and the way back.
 ghost use Rattle.std.specs.Prelude.{◌≡◌, ℕ, ◌+◌, ◌-◌, ◌<◌, ◌≤◌, ◌^◌, true, false, []};
-ghost use Rattle.std.specs.Prelude.{length, Some, slice_get, All, Contains, IfOk, OnOk, OnErr};
+ghost use Rattle.std.specs.Prelude.{length, map, Some, slice_get, All, Contains, IfOk, OnOk, OnErr};
 ghost use Rattle.cnf.specs.Formula.{IsFormula, IsFormulaClause};
 ghost use Rattle.cnf.specs.Refute.{IsRefutedByHints};
 ghost use Rattle.clauses.specs.Slots.{live_clauses};
 ghost use Rattle.lrat_log.specs.Steps.{StaysLogOver, IsBaseOf, learned_count, log_live, given_of};
 ghost use Rattle.eliminate.specs.Variables.{IsSimplifierOver, StaysOver, LeavesLogOver};
 ghost use Rattle.eliminate.specs.Elimination.{extended, is_eliminated, IsFree, AreFreeOf};
-ghost use Rattle.eliminate.specs.Elimination.{ExtendsBack, HoldsWhatIsLive, listed_names};
+ghost use Rattle.eliminate.specs.Elimination.{ExtendsBack, HoldsWhatIsLive, AreMoved};
 
 use crate::ending::define_where_open;
 use crate::rounds::simplify;
@@ -79,7 +79,8 @@ impl Stack {
     }
 }
 
-/// Eliminates variables that are not frozen, and writes down what it adds and deletes.
+/// Eliminates variables that are not frozen, and writes down what it adds and deletes. What is left
+/// is moved together, so that a search sizes its tables by clauses that are there.
 ///
 /// The i-th live clause is the clause i of a formula. After an `Err` nothing is known of the store.
 pub fn eliminate<S: Sink>(
@@ -99,6 +100,7 @@ pub fn eliminate<S: Sink>(
     ensures none_learned { learned_count (S.lines sink.new) ≡ 0 }
 
     // What is left in the store.
+    ensures together { OnOk result (store.new.slots ≡ map Some (live_clauses store.new.slots)) }
     ensures live { IfOk result (λ stack. (base : ℕ)
         → IsBaseOf (given_of (live_clauses store.old.slots)) base
         → HoldsWhatIsLive store.new.slots stack.names base
@@ -119,7 +121,7 @@ pub fn eliminate<S: Sink>(
     propagate_units(&mut simplifier, store, sink)?;
     simplify_open(&mut simplifier, store, frozen, sink)?;
     let vars = define_where_open(&mut simplifier, store, frozen, sink)?;
-    let names = list_names(&simplifier.names, store)?;
+    let names = move_together(store, &simplifier.names)?;
     Ok(Stack {
         vars,
         removed: simplifier.removals,
@@ -150,17 +152,18 @@ fn simplify_open<S: Sink>(
     Ok(())
 }
 
-/// Each live reference with the name of its clause, in rising order.
-fn list_names(names: &Names, store: &Store) -> Result<Vec<(CRef, Name)>, AllocError>
-    requires { length names.now.names ≡ length store.now.slots }
-    ensures { IfOk result (λ listed. listed.items ≡ listed_names names.now.names store.now.slots) }
+/// Moves the clauses that are left together, and lists each with its name, in rising order.
+fn move_together(store: &mut Store, names: &Names) -> Result<Vec<(CRef, Name)>, AllocError>
+    requires { length names.now.names ≡ length store.old.slots }
+    ensures together { OnOk result (store.new.slots ≡ map Some (live_clauses store.old.slots)) }
+    ensures names { IfOk result (λ listed.
+        AreMoved names.now.names store.old.slots store.new.slots listed.items) }
 {
-    let mut listed = Vec::new(store.allocator());
-    for place in 0..store.places() {
-        match store.live_at(place) {
-            Some(reference) => listed.push((reference, names.get(reference)))?,
-            None => {}
-        }
+    let moves = store.compact()?;
+    let pairs = moves.pairs();
+    let mut listed = Vec::with_capacity(store.allocator(), pairs.len())?;
+    for (old, new) in pairs {
+        listed.push((*new, names.get(*old)))?;
     }
     Ok(listed)
 }

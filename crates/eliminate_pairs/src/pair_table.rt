@@ -1,9 +1,14 @@
 // Which pairs of literals stand together in many clauses, by counting. A first walk over the store
 // counts pairs in a table of small counters by a hash (a counting filter, Fan et al. 2000): a
 // counter is never below the number of the clauses with one of its pairs. A second walk writes down
-// the pairs with a large counter, each with its clause, and sorts these; so what is written down
-// stays small on sparse formulas. Long clauses and literals that stand in few clauses are passed
-// over, and each walk ends after a fixed number of pairs: so the work is near linear.
+// the pairs with a large counter, each with its clause; so what is written down stays small on
+// sparse formulas. Long clauses and literals that stand in few clauses are passed over, and each
+// walk ends after a fixed number of pairs: so the work is near linear.
+//
+// What was written down is dealt into a row for each lower literal, and only rows that can hold a
+// pair that stands often are sorted, by one word a meeting; all meetings sorted at once by three
+// words took more time than the rest. A clause that has not moved has its pairs still, and the
+// literals of the others are read only while the pair can still stand in enough clauses.
 ghost use Rattle.std.specs.Prelude.{◌≡◌, ◌≤◌, IfSome};
 ghost use Rattle.clauses.specs.Slots.{IsLive};
 
@@ -23,7 +28,7 @@ const LONGEST: usize = 32;
 const MOST_MEETINGS: usize = 1 << 23;
 
 /// Two literals that stand together in a clause.
-#[derive(Clone, Copy, PartialEq, Eq, PartialOrd, Ord, Drop)]
+#[derive(Clone, Copy, Drop)]
 struct Meeting {
     // The indices of the literals, the lower one first.
     left: u32,
@@ -39,12 +44,14 @@ const _: () = prove!(size_of::<Meeting>() == 12);
 #[derive(Clone, Copy, PartialEq, Eq, PartialOrd, Ord, Drop)]
 struct Run {
     // A number that falls as the meetings are more.
-    rarity: usize,
+    rarity: u32,
     // The place of the clause of the first meeting.
     place: u32,
     // The meetings, from one place up to another.
-    start: usize,
-    end: usize,
+    start: u32,
+    end: u32,
+    // The index of the lower literal.
+    left: u32,
 }
 
 /// A pair that may be worth a variable.
@@ -69,8 +76,9 @@ impl Candidate {
 /// The pairs of a store that stand together in many clauses.
 #[derive(Drop)]
 pub(crate) struct PairTable {
-    // Sorted by pair, and then by place.
-    meetings: Vec<Meeting>,
+    // A row for each lower literal, those that hold a run sorted: the index of the higher literal
+    // in the upper half of a word, and the place of the clause in the lower one.
+    meetings: Vec<u64>,
     // Pairs in at least `FEWEST` clauses, in their order.
     runs: Vec<Run>,
     // By place at the time of the walks, where the clause stands now.
@@ -84,9 +92,8 @@ impl PairTable {
     pub(crate) fn new(store: &Store, vars: u32) -> Result<Self, AllocError> {
         let alloc = store.allocator();
         let counts = literal_counts(alloc, store, vars)?;
-        let mut meetings = meetings_of(alloc, store, &counts)?;
-        meetings.sort_unstable();
-        let mut runs = runs_of(alloc, &meetings)?;
+        let (mut meetings, ends) = rows_of(alloc, store, &counts)?;
+        let mut runs = runs_of(alloc, &mut meetings, &ends)?;
         runs.sort_unstable();
         let mut moved = Vec::with_capacity(alloc, store.places())?;
         for place in 0..store.places() {
@@ -108,29 +115,41 @@ impl PairTable {
     /// The pair with this number, from 0.
     pub(crate) fn candidate(&self, k: usize) -> Option<Candidate> {
         let run = self.runs.get(k)?;
-        let meeting = self.meetings.get(run.start)?;
+        let start = run.start as usize;
+        let meeting = self.meetings.get(start)?;
         Some(Candidate {
-            left: literal_at(meeting.left)?,
-            right: literal_at(meeting.right)?,
-            start: run.start,
-            end: run.end,
+            left: literal_at(run.left)?,
+            right: literal_at(right_of(*meeting))?,
+            start,
+            end: run.end as usize,
         })
     }
 
-    /// Finds the clauses in which the pair still stands, in rising reference.
+    /// Finds the clauses in which the pair still stands, in rising reference; fewer than all where
+    /// they are fewer than it must still stand in.
     pub(crate) fn find(&mut self, store: &Store, candidate: &Candidate) -> Result<(), AllocError> {
         self.found.clear();
+        let fewest = candidate.fewest();
+        let mut is_moved = false;
         for k in candidate.start..candidate.end {
-            if let Some(meeting) = self.meetings.get(k) {
-                let before = meeting.place;
-                if let Some(place) = self.moved.get(before as usize) {
-                    if stands_in(store, *place, candidate) {
-                        self.found.push((*place, before))?;
-                    }
-                }
+            let left = candidate.end.saturating_sub(k);
+            if self.found.len().saturating_add(left) < fewest {
+                return Ok(());
+            }
+            let before = place_of(self.meetings.get(k).copied().unwrap_or(u64::MAX));
+            let Some(place) = self.moved.get(before as usize) else {
+                continue;
+            };
+            if *place == before {
+                self.found.push((before, before))?;
+            } else if stands_in(store, *place, candidate) {
+                is_moved = true;
+                self.found.push((*place, before))?;
             }
         }
-        self.found.sort_unstable();
+        if is_moved {
+            self.found.sort_unstable();
+        }
         Ok(())
     }
 
@@ -348,23 +367,66 @@ fn write_down(
     Ok(())
 }
 
-/// The pairs with at least `FEWEST` meetings.
-fn runs_of(alloc: Global, meetings: &[Meeting]) -> Result<Vec<Run>, AllocError> {
-    let mut runs = Vec::new(alloc);
-    let mut start = 0usize;
-    for end in 1..meetings.len() + 1 {
-        if is_within(meetings, start, end) {
-            continue;
+/// The meetings in rows, and where each row ends.
+fn rows_of(
+    alloc: Global,
+    store: &Store,
+    counts: &[u32],
+) -> Result<(Vec<u64>, Vec<u32>), AllocError> {
+    let written = meetings_of(alloc, store, counts)?;
+    dealt(alloc, &written, counts.len())
+}
+
+/// The index of the higher literal of a meeting.
+fn right_of(meeting: u64) -> u32 {
+    (meeting >> 32) as u32
+}
+
+/// The place of the clause of a meeting.
+fn place_of(meeting: u64) -> u32 {
+    (meeting & 0xFFFF_FFFF) as u32
+}
+
+/// The meetings in rows by lower literal, of which there are so many, and where each row ends.
+fn dealt(
+    alloc: Global,
+    written: &[Meeting],
+    rows: usize,
+) -> Result<(Vec<u64>, Vec<u32>), AllocError> {
+    let mut ends = Vec::from_elem(alloc, 0u32, rows)?;
+    for meeting in written {
+        if let Some(count) = ends.get_mut(meeting.left as usize) {
+            *count = count.saturating_add(1);
         }
-        let count = end.saturating_sub(start);
-        if count >= FEWEST {
-            if let Some(first) = meetings.get(start) {
-                runs.push(Run {
-                    rarity: usize::MAX - count,
-                    place: first.place,
-                    start,
-                    end,
-                })?;
+    }
+    let mut sum = 0u32;
+    for end in ends.iter_mut() {
+        let count = *end;
+        *end = sum;
+        sum = sum.saturating_add(count);
+    }
+    let mut meetings = Vec::from_elem(alloc, 0u64, written.len())?;
+    for meeting in written {
+        if let Some(end) = ends.get_mut(meeting.left as usize) {
+            if let Some(word) = meetings.get_mut(*end as usize) {
+                *word = u64::from(meeting.right) << 32 | u64::from(meeting.place);
+            }
+            *end = end.saturating_add(1);
+        }
+    }
+    Ok((meetings, ends))
+}
+
+/// The pairs with at least `FEWEST` meetings, whose rows are sorted.
+fn runs_of(alloc: Global, meetings: &mut [u64], ends: &[u32]) -> Result<Vec<Run>, AllocError> {
+    let mut runs = Vec::new(alloc);
+    let mut start = 0u32;
+    for left in 0..ends.len() {
+        let end = ends[left];
+        if end.saturating_sub(start) as usize >= FEWEST {
+            if let Some(row) = meetings.get_mut(start as usize..end as usize) {
+                row.sort_unstable();
+                add_runs(&mut runs, row, start, left)?;
             }
         }
         start = end;
@@ -372,10 +434,40 @@ fn runs_of(alloc: Global, meetings: &[Meeting]) -> Result<Vec<Run>, AllocError> 
     Ok(runs)
 }
 
-/// Whether the second meeting is of the pair of the first.
-fn is_within(meetings: &[Meeting], first: usize, second: usize) -> bool {
-    match (meetings.get(first), meetings.get(second)) {
-        (Some(a), Some(b)) => a.left == b.left && a.right == b.right,
+/// Adds the runs of a row that starts at this place.
+fn add_runs(runs: &mut Vec<Run>, row: &[u64], start: u32, left: usize) -> Result<(), AllocError> {
+    let mut first = 0usize;
+    for end in 1..row.len() + 1 {
+        if is_within(row, first, end) {
+            continue;
+        }
+        let count = end.saturating_sub(first);
+        if count >= FEWEST {
+            if let Some(meeting) = row.get(first) {
+                let from = start.saturating_add(word(first));
+                runs.push(Run {
+                    rarity: u32::MAX - word(count),
+                    place: place_of(*meeting),
+                    start: from,
+                    end: from.saturating_add(word(count)),
+                    left: word(left),
+                })?;
+            }
+        }
+        first = end;
+    }
+    Ok(())
+}
+
+/// A number that fits a word here.
+fn word(number: usize) -> u32 {
+    u32::try_from(number).unwrap_or(u32::MAX)
+}
+
+/// Whether the second meeting of a row is of the pair of the first.
+fn is_within(row: &[u64], first: usize, second: usize) -> bool {
+    match (row.get(first), row.get(second)) {
+        (Some(a), Some(b)) => right_of(*a) == right_of(*b),
         _ => false,
     }
 }

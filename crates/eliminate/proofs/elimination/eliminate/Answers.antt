@@ -1,24 +1,26 @@
 -- The store that is left is a simplified form of the formula.
-use Rattle.std.proofs.Common.{◌≡◌, false, List, Bool, length, sym, ap, subst, refl, inl, inr}
+use Rattle.std.proofs.Common.{◌≡◌, ◌∙◌, false, List, Bool, Some, length, map, sym, ap, subst, refl}
+use Rattle.std.proofs.Common.{inl, inr}
 use Rattle.std.specs.Prelude.{[], All, Contains}
 use Rattle.std.proofs.lemmas.Bool.{cases_Bool}
 use Rattle.cnf.specs.Literal.{Literal}
 use Rattle.cnf.specs.Formula.{IsFormulaClause}
+use Rattle.cnf.specs.Bits.{assignment_of}
 use Rattle.clauses.specs.Slots.{Slots, live_clauses}
 use Rattle.lrat_log.specs.Log.{LogLine}
 use Rattle.lrat_log.specs.Steps.{given_of, StaysLogOver, log_live, learned_count}
 use Rattle.eliminate_pairs.specs.Pairs.{stage_of}
-use Rattle.eliminate.specs.Elimination.{is_eliminated, HoldsWhatIsLive}
+use Rattle.eliminate.specs.Elimination.{is_eliminated, AreFreeOf, SatisfiesAll}
 use Rattle.eliminate.specs.Ending.{IsResult}
 use Rattle.eliminate.specs.State.{Start}
 use Rattle.eliminate.specs.Simplifier.{IsSimplified}
-use Rattle.eliminate.proofs.Listed.{holds_live}
+use Rattle.eliminate.proofs.Listed.{moved_holds, live_map}
 use Rattle.eliminate.proofs.Starting.{stays_start}
 use Rattle.eliminate.proofs.States.{all_live}
 use Rattle.eliminate.proofs.elimination.eliminate.Given.{Over}
 use Rattle.eliminate.proofs.elimination.eliminate.Goals as goal
 use Rattle.eliminate.proofs.elimination.eliminate.Goals.{In_ok-simplifier, In_ok-propagate_units}
-use Rattle.eliminate.proofs.elimination.eliminate.Goals.{In_ok-simplify_open, In_ok-vars}
+use Rattle.eliminate.proofs.elimination.eliminate.Goals.{In_ok-simplify_open, In_ok-vars, In_ok-names}
 
 abbrev start_of : Slots → List Bool → Start
 start_of slots frozen = record { clauses = live_clauses slots; frozen = frozen }
@@ -140,24 +142,35 @@ pub returns-clause-none_learned : goal.returns-clause-none_learned
 returns-clause-none_learned g c =
     (ended g (goal.at.returns-clause-none_learned g c).In_ok-vars).work.none_learned
 
-pub list_names-requires : goal.list_names-requires
-list_names-requires g c = (ended g (goal.at.list_names-requires g c).In_ok-vars).work.named.long
+pub move_together-requires : goal.move_together-requires
+move_together-requires g c = (ended g (goal.at.move_together-requires g c).In_ok-vars).work.named.long
+
+-- what was left has its clauses still
+same_clauses : (g : Over) (c : In_ok-names g)
+    → live_clauses c.move_together.new.store.slots ≡ live_clauses
+    c.define_where_open.new.store.slots
+same_clauses g c = ap live_clauses c.in_ok-names.ensures.together
+    ∙ live_map (live_clauses c.define_where_open.new.store.slots)
+
+pub returns-clause-together : goal.returns-clause-together
+returns-clause-together g c = c.in_ok-names.ensures.together
+    ∙ ap (map Some) (sym (same_clauses g (goal.at.returns-clause-together g c).In_ok-names))
 
 pub returns-clause-live : goal.returns-clause-live
 returns-clause-live g c base above =
     let k = ended g (goal.at.returns-clause-live g c).In_ok-vars in
-    let slots = c.define_where_open.new.store.slots in
-    let live =
-    log_live (given_of (live_clauses c.args.store.now.slots)) base
-    (g.S.Sink.lines c.define_where_open.new.sink) in
-    subst (λ ns. HoldsWhatIsLive slots ns base live) (sym c.in_ok-names.ensures)
-    (holds_live slots c.define_where_open.new.simplifier.names.names base _ live
-    k.work.named.numbers (k.work.named.live base above))
+    moved_holds c.define_where_open.new.store.slots c.move_together.new.store.slots
+    c.define_where_open.new.simplifier.names.names c.in_ok-names.names.items base _
+    (log_live (given_of (live_clauses c.args.store.now.slots)) base
+    (g.S.Sink.lines c.define_where_open.new.sink)) k.work.named.numbers c.in_ok-names.ensures.names
+    (k.work.named.live base above)
 
 pub returns-clause-left : goal.returns-clause-left
 returns-clause-left g c =
-    all_live (IsFormulaClause c.in_ok-vars.vars) c.define_where_open.new.store.slots
-    (ended g (goal.at.returns-clause-left g c).In_ok-vars).work.clauses
+    subst (All (IsFormulaClause c.in_ok-vars.vars))
+    (sym (same_clauses g (goal.at.returns-clause-left g c).In_ok-names))
+    (all_live (IsFormulaClause c.in_ok-vars.vars) c.define_where_open.new.store.slots
+    (ended g (goal.at.returns-clause-left g c).In_ok-vars).work.clauses)
 
 pub returns-clause-variables : goal.returns-clause-variables
 returns-clause-variables g c = let k = ended g (goal.at.returns-clause-variables g c).In_ok-vars in
@@ -165,10 +178,12 @@ returns-clause-variables g c = let k = ended g (goal.at.returns-clause-variables
 
 pub returns-clause-free : goal.returns-clause-free
 returns-clause-free g c =
-    all_live (λ (d : List Literal). All
-    (λ (l : Literal). is_eliminated c.define_where_open.new.simplifier.removals l.variable
-    ≡ false) d) c.define_where_open.new.store.slots
-    (ended g (goal.at.returns-clause-free g c).In_ok-vars).free
+    let removed = c.define_where_open.new.simplifier.removals in
+    subst (AreFreeOf removed) (sym (same_clauses g (goal.at.returns-clause-free g c).In_ok-names))
+    (all_live (λ (d : List Literal). All
+    (λ (l : Literal). is_eliminated removed l.variable ≡ false) d)
+    c.define_where_open.new.store.slots
+    (ended g (goal.at.returns-clause-free g c).In_ok-vars).free)
 
 pub returns-clause-not_frozen : goal.returns-clause-not_frozen
 returns-clause-not_frozen g c =
@@ -176,15 +191,18 @@ returns-clause-not_frozen g c =
 
 pub returns-clause-back : goal.returns-clause-back
 returns-clause-back g c bits few all =
-    (ended g (goal.at.returns-clause-back g c).In_ok-vars).back bits few all
+    (ended g (goal.at.returns-clause-back g c).In_ok-vars).back bits few
+    (subst (SatisfiesAll (assignment_of bits))
+    (same_clauses g (goal.at.returns-clause-back g c).In_ok-names) all)
 
 pub returns-clause-refuted : goal.returns-clause-refuted
 returns-clause-refuted g c w =
     elim (cases_Bool c.propagate_units.new.simplifier.is_refuted) [
       | inl e ↦
           let h = simplified g (goal.at.returns-clause-refuted g c).In_ok-simplify_open in
-          subst (λ (x : Slots). Contains (live_clauses x) [])
-          (sym (c.in_ok-vars.ensures.same (c.in_ok-simplify_open.ensures.refuted e)))
+          subst (λ (cs : List (List Literal)). Contains cs [])
+          (sym (same_clauses g (goal.at.returns-clause-refuted g c).In_ok-names
+          ∙ ap live_clauses (c.in_ok-vars.ensures.same (c.in_ok-simplify_open.ensures.refuted e))))
           (h.refuted (c.in_ok-simplify_open.ensures.refuted e))
       | inr e ↦ absurd (c.in_ok-propagate_units.ensures.refuted e w)
     ]
