@@ -6,7 +6,7 @@ use Rattle.std.specs.Prelude.{slice_get, ◌==◌}
 use Rattle.std.specs.List.{AllByRecursion}
 use Rattle.std.proofs.lemmas.Bool.{cases_eq, both_ways, or_left}
 use Rattle.std.proofs.lemmas.List.{get_or-set_same, get_or-set_other, length-set, drop_more}
-use Rattle.std.proofs.lemmas.List.{take_more_set, drop-set-lt, length_push}
+use Rattle.std.proofs.lemmas.List.{take_more_set, drop-set-lt, length_push, set-get_or}
 use Rattle.std.proofs.lemmas.List.Sums.{sum_by-append}
 use Rattle.cnf.specs.Literal.{Literal, negation, index_of, literal_eq}
 use Rattle.cnf.specs.Clause.{contains_literal}
@@ -267,6 +267,20 @@ keep_row slots e w write read x b inv st lt at is_true =
       order = let o = st.order in omega arith;
       within = subst (λ z. read + 1 ≤ length z) (sym here) (omega arith);
     }
+
+-- an entry whose blocker is true stays where it is
+pub stay_row : (slots : Slots) (e : EngineState) (w : Literal) (k : ℕ) (x : Entry) → IsEngine e
+    → InRow slots e w k k → k < length (row_at e.watches.rows (index_of w))
+    → x ≡ get_or (row_at e.watches.rows (index_of w)) k x
+    → IsTrueIn slots e x.reference x.blocker → InRow slots e w (k + 1) (k + 1)
+stay_row slots e w k x inv st lt at is_true =
+    let i = index_of w in
+    let R = e.watches.rows in
+    let same : with_row R i (set (row_at R i) k x) ≡ R =
+    ap (with_row R i) (ap (set (row_at R i) k) at ∙ set-get_or (row_at R i) k x)
+    ∙ set-get_or R i [] in
+    subst (λ z. InRow slots (with_rows e z) w (k + 1) (k + 1)) same
+    (keep_row slots e w k k x x.blocker inv st lt at is_true)
 
 -- the trail grows by a unit
 pub imply_row : (slots : Slots) (e : EngineState) (w : Literal) (write read : ℕ) (l : Literal)

@@ -17,7 +17,7 @@ ghost use Rattle.cnf.specs.Clause.{contains_literal};
 ghost use Rattle.propagate_watches.specs.Pool.{row_at, with_row};
 ghost use Rattle.propagate_watches.specs.Table.{IsWatching, attachment_in, rest_in, IsWatchedBy};
 ghost use Rattle.propagate.specs.Trail.{literals_of, value_in};
-ghost use Rattle.propagate.specs.Watches.{IsVariable, is_attached};
+ghost use Rattle.propagate.specs.Watches.{IsEngine, IsVariable, is_attached};
 ghost use Rattle.propagate.specs.Fits.{Fits, IsComplete};
 ghost use Rattle.propagate.specs.Steps.{Continues, AreTrueWaiting, IsTrueEntry, IsConflict};
 ghost use Rattle.propagate.specs.Steps.{IsWatched, LeavesOne, MayBeWatched, InRow, with_rows};
@@ -127,6 +127,10 @@ impl Engine {
         let mut write = 0;
         let mut read = 0;
         while read < self.row_len(falsified) {
+            if write == read {
+                read = self.skip_true(store, falsified, read);
+                write = read;
+            }
             match self.step(store, falsified, write, read) {
                 Step::Kept => {
                     read += 1;
@@ -165,6 +169,41 @@ impl Engine {
         self.pool.close(lit.index(), write, read);
     }
 
+    /// The first place from here on whose entry is not settled by its blocker, or the last place of
+    /// the row. No entry is written.
+    fn skip_true(&self, store: &Store, falsified: Lit, from: usize) -> usize
+        requires state { InRow store.now.slots self.now falsified from from }
+        requires more { from < length (row_at self.now.watches.rows (index_of falsified)) }
+        ensures state { InRow store.now.slots self.now falsified result result }
+        ensures more { result < length (row_at self.now.watches.rows (index_of falsified)) }
+        ensures order { from ≤ result }
+    {
+        let last = self.row_len(falsified) - 1;
+        let mut at = from;
+        while at < last {
+            let entry = self.entry_at(store, falsified, at, at);
+            if !self.trail.is_true(entry.blocker) {
+                break;
+            }
+            at += 1;
+        }
+        at
+    }
+
+    /// The entry at place `read` of a row that is being filtered.
+    fn entry_at(&self, store: &Store, falsified: Lit, write: usize, read: usize) -> Entry
+        requires state { InRow store.now.slots self.now falsified write read }
+        requires more { read < length (row_at self.now.watches.rows (index_of falsified)) }
+        ensures at { result ≡ slice_index_or (row_at self.now.watches.rows (index_of falsified))
+            read result }
+        ensures known { IsWatched store.now.slots self.now falsified result }
+        ensures sound { IsEngine self.now }
+    {
+        let _ = store;
+        let _ = write;
+        self.pool.get(falsified.index(), read)
+    }
+
     /// Looks at the entry at place `read`, and keeps it at place `write` where it stays.
     fn step(&mut self, store: &Store, falsified: Lit, write: usize, read: usize) -> Step
         requires state { InRow store.now.slots self.old falsified write read }
@@ -175,7 +214,7 @@ impl Engine {
             ≡ length (row_at self.old.watches.rows (index_of falsified)) }
         ensures after { StepSays store.now.slots self.new falsified write read result }
     {
-        let entry = self.pool.get(falsified.index(), read);
+        let entry = self.entry_at(store, falsified, write, read);
         let reference = entry.reference;
         match self.look_at(store, falsified, entry) {
             Look::True(blocker) => {
