@@ -23,7 +23,7 @@ use Rattle.propagate_watches.specs.Pool.{row_at, with_row, closed_row}
 use Rattle.propagate_watches.specs.Table.{is_kept, attachment_in, rest_in, IsWatching, rest_after}
 use Rattle.propagate_watches.specs.Table.{IsWatchedBy}
 use Rattle.propagate_watches.proofs.Laws.{attachment_set_other, attachment_set_same}
-use Rattle.propagate.specs.Trail.{Assigned, literals_of, kept_to}
+use Rattle.propagate.specs.Trail.{Assigned, literals_of, kept_to, value_in}
 use Rattle.propagate.specs.Watches.{EngineState, IsEngine, IsVariable, is_attached, watches_at}
 use Rattle.propagate.specs.Watches.{one_at, count_in}
 use Rattle.propagate.specs.Fits.{Fits, FitsAttachment, IsRest, IsWatch, HasBlocker}
@@ -37,7 +37,7 @@ use Rattle.propagate.proofs.Fitting.{fits_grow, more_literals, true_more}
 use Rattle.propagate.proofs.Attachments.{with_watches, attachment_same, fits_attachment}
 use Rattle.propagate.proofs.Attachments.{blockers_kept, count-cons, one-same, one-other}
 use Rattle.propagate.proofs.Attaching.{kept_within}
-use Rattle.propagate.proofs.Looking.{not_false_value, within_variable}
+use Rattle.propagate.proofs.Looking.{not_false_value, true_value, within_variable}
 
 pub count-append : (q : ℕ) (A B : List Entry) → count_in q (A ++ B) ≡ count_in q A + count_in q B
 count-append q A B = sum_by-append (λ (x : Entry). cond (x.reference == q) 1 0) A B
@@ -267,6 +267,22 @@ keep_row slots e w write read x b inv st lt at is_true =
       order = let o = st.order in omega arith;
       within = subst (λ z. read + 1 ≤ length z) (sym here) (omega arith);
     }
+
+-- a blocker may be asked for
+pub blocker_within : (slots : Slots) (e : EngineState) (w : Literal) (x : Entry)
+    → IsWatched slots e w x → x.blocker.variable ≤ e.variables
+blocker_within slots e w x W =
+    (within_variable e.variables W.clause x.blocker W.within W.blocker).1
+
+-- a true blocker makes its clause true
+pub true_blocker : (slots : Slots) (e : EngineState) (w : Literal) (x : Entry)
+    → IsWatched slots e w x → value_in e.trail x.blocker ≡ Some true
+    → IsTrueIn slots e x.reference x.blocker
+true_blocker slots e w x W is_true = λ d live.
+    let same : W.clause ≡ d = cc (W.live, live) in (
+      subst (λ y. contains_literal x.blocker y ≡ true) same W.blocker,
+      true_value e.trail x.blocker is_true,
+    )
 
 -- an entry whose blocker is true stays where it is
 pub stay_row : (slots : Slots) (e : EngineState) (w : Literal) (k : ℕ) (x : Entry) → IsEngine e

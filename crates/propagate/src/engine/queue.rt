@@ -124,13 +124,10 @@ impl Engine {
             (AllByRecursion (IsTrueEntry store.now.slots (literals_of self.new.trail))
             (row_at self.new.watches.rows (index_of falsified)))) }
     {
-        let mut write = 0;
-        let mut read = 0;
-        while read < self.row_len(falsified) {
-            if write == read {
-                read = self.skip_true(store, falsified, read);
-                write = read;
-            }
+        let len = self.row_len(falsified);
+        let mut write = self.skip_true(store, falsified);
+        let mut read = write;
+        while read < len {
             match self.step(store, falsified, write, read) {
                 Step::Kept => {
                     read += 1;
@@ -147,7 +144,7 @@ impl Engine {
                 }
             }
         }
-        self.close_row(falsified, write, read);
+        self.end_row(falsified, write, read);
         Ok(None)
     }
 
@@ -159,7 +156,10 @@ impl Engine {
         self.pool.len(lit.index())
     }
 
-    /// Takes out of a row what stands from place `write` up to place `read`.
+    /// Takes out of a row what stands from place `write` up to place `read`. It stands apart from
+    /// the loop, which seldom ends before the row does.
+    #[cold]
+    #[inline(never)]
     fn close_row(&mut self, lit: Lit, write: usize, read: usize)
         requires in_range { lit.variable ≤ self.old.variables }
         requires order { write ≤ read }
@@ -169,25 +169,21 @@ impl Engine {
         self.pool.close(lit.index(), write, read);
     }
 
-    /// The first place from here on whose entry is not settled by its blocker, or the last place of
-    /// the row. No entry is written.
-    fn skip_true(&self, store: &Store, falsified: Lit, from: usize) -> usize
-        requires state { InRow store.now.slots self.now falsified from from }
-        requires more { from < length (row_at self.now.watches.rows (index_of falsified)) }
-        ensures state { InRow store.now.slots self.now falsified result result }
-        ensures more { result < length (row_at self.now.watches.rows (index_of falsified)) }
-        ensures order { from ≤ result }
+    /// How many entries at the front of a row have true blockers: these stay, and are not written.
+    fn skip_true(&self, store: &Store, falsified: Lit) -> usize
+        requires { InRow store.now.slots self.now falsified 0 0 }
+        ensures { InRow store.now.slots self.now falsified result result }
     {
-        let last = self.row_len(falsified) - 1;
-        let mut at = from;
-        while at < last {
-            let entry = self.entry_at(store, falsified, at, at);
+        let len = self.row_len(falsified);
+        let mut kept = 0;
+        while kept < len {
+            let entry = self.entry_at(store, falsified, kept, kept);
             if !self.trail.is_true(entry.blocker) {
                 break;
             }
-            at += 1;
+            kept += 1;
         }
-        at
+        kept
     }
 
     /// The entry at place `read` of a row that is being filtered.
@@ -202,6 +198,17 @@ impl Engine {
         let _ = store;
         let _ = write;
         self.pool.get(falsified.index(), read)
+    }
+
+    /// Takes out of a row what stands from place `write` up to its end.
+    fn end_row(&mut self, lit: Lit, write: usize, read: usize)
+        requires in_range { lit.variable ≤ self.old.variables }
+        requires order { write ≤ read }
+        requires end { read ≡ length (row_at self.old.watches.rows (index_of lit)) }
+        ensures { self.new ≡ closed self.old (index_of lit) write read }
+    {
+        let _ = read;
+        self.pool.truncate(lit.index(), write);
     }
 
     /// Looks at the entry at place `read`, and keeps it at place `write` where it stays.

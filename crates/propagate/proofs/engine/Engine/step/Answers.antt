@@ -1,16 +1,15 @@
-use Rattle.std.proofs.Common.{◌≡◌, ◌+◌, ◌++◌, ◌∷◌, [], true, length, get_or, set, Some, refl, sym}
+use Rattle.std.proofs.Common.{◌≡◌, ◌+◌, ◌++◌, ◌∷◌, [], true, length, set, Some, refl, sym}
 use Rattle.std.proofs.Common.{ap, subst, ◌∙◌}
-use Rattle.std.specs.Prelude.{slice_get}
 use Rattle.cnf.specs.Literal.{index_of}
 use Rattle.propagate_watches.specs.declared.table.Attachment.TheVariants.{Watching}
 use Rattle.propagate_watches.specs.Pool.{row_at, with_row}
 use Rattle.propagate_watches.specs.Table.{attachment_in}
-use Rattle.propagate.specs.Watches.{EngineState, IsEngine, IsVariable, is_attached}
-use Rattle.propagate.specs.Steps.{InRow, IsWatched, IsTrueIn, Continues, with_rows, with_trail}
+use Rattle.propagate.specs.Watches.{EngineState, IsVariable, is_attached}
+use Rattle.propagate.specs.Steps.{InRow, IsTrueIn, Continues, with_rows, with_trail}
 use Rattle.propagate.specs.Steps.{entry_of}
 use Rattle.propagate.proofs.Trails.{made}
 use Rattle.propagate.proofs.Looking.{within_variable, same_other}
-use Rattle.propagate.proofs.Stepping.{watched_from, keep_row, imply_row, rewatch_row, got_at}
+use Rattle.propagate.proofs.Stepping.{keep_row, imply_row, rewatch_row}
 use Rattle.propagate.proofs.Stepping.{kept_by, moved_row, engine_trail, last_true}
 use Rattle.propagate.proofs.Continuing.{continues_attachment}
 use Rattle.propagate.proofs.engine.Engine.step.Goals as goal
