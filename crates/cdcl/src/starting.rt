@@ -73,7 +73,7 @@ fn engine_of(
     ensures works { IfOk result (λ e. e.failed ≡ false) }
     ensures attached { IfOk result (λ e. All (λ n. is_attached e n.0 ≡ true) listed.now) }
 {
-    let mut engine = Engine::new(alloc, variables)?;
+    let mut engine = Engine::with_room(alloc, variables, store)?;
     for (reference, _) in listed {
         match engine.attach(store, *reference) {
             Ok(()) => {}

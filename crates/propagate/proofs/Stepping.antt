@@ -6,7 +6,7 @@ use Rattle.std.specs.Prelude.{slice_get, ◌==◌}
 use Rattle.std.specs.List.{AllByRecursion}
 use Rattle.std.proofs.lemmas.Bool.{cases_eq, both_ways, or_left}
 use Rattle.std.proofs.lemmas.List.{get_or-set_same, get_or-set_other, length-set, drop_more}
-use Rattle.std.proofs.lemmas.List.{take_more_set, drop-set-lt, length_push}
+use Rattle.std.proofs.lemmas.List.{take_more_set, drop-set-lt, length_push, set-get_or}
 use Rattle.std.proofs.lemmas.List.Sums.{sum_by-append}
 use Rattle.cnf.specs.Literal.{Literal, negation, index_of, literal_eq}
 use Rattle.cnf.specs.Clause.{contains_literal}
@@ -23,7 +23,7 @@ use Rattle.propagate_watches.specs.Pool.{row_at, with_row, closed_row}
 use Rattle.propagate_watches.specs.Table.{is_kept, attachment_in, rest_in, IsWatching, rest_after}
 use Rattle.propagate_watches.specs.Table.{IsWatchedBy}
 use Rattle.propagate_watches.proofs.Laws.{attachment_set_other, attachment_set_same}
-use Rattle.propagate.specs.Trail.{Assigned, literals_of, kept_to}
+use Rattle.propagate.specs.Trail.{Assigned, literals_of, kept_to, value_in}
 use Rattle.propagate.specs.Watches.{EngineState, IsEngine, IsVariable, is_attached, watches_at}
 use Rattle.propagate.specs.Watches.{one_at, count_in}
 use Rattle.propagate.specs.Fits.{Fits, FitsAttachment, IsRest, IsWatch, HasBlocker}
@@ -37,7 +37,7 @@ use Rattle.propagate.proofs.Fitting.{fits_grow, more_literals, true_more}
 use Rattle.propagate.proofs.Attachments.{with_watches, attachment_same, fits_attachment}
 use Rattle.propagate.proofs.Attachments.{blockers_kept, count-cons, one-same, one-other}
 use Rattle.propagate.proofs.Attaching.{kept_within}
-use Rattle.propagate.proofs.Looking.{not_false_value, within_variable}
+use Rattle.propagate.proofs.Looking.{not_false_value, true_value, within_variable}
 
 pub count-append : (q : ℕ) (A B : List Entry) → count_in q (A ++ B) ≡ count_in q A + count_in q B
 count-append q A B = sum_by-append (λ (x : Entry). cond (x.reference == q) 1 0) A B
@@ -267,6 +267,36 @@ keep_row slots e w write read x b inv st lt at is_true =
       order = let o = st.order in omega arith;
       within = subst (λ z. read + 1 ≤ length z) (sym here) (omega arith);
     }
+
+-- a blocker may be asked for
+pub blocker_within : (slots : Slots) (e : EngineState) (w : Literal) (x : Entry)
+    → IsWatched slots e w x → x.blocker.variable ≤ e.variables
+blocker_within slots e w x W =
+    (within_variable e.variables W.clause x.blocker W.within W.blocker).1
+
+-- a true blocker makes its clause true
+pub true_blocker : (slots : Slots) (e : EngineState) (w : Literal) (x : Entry)
+    → IsWatched slots e w x → value_in e.trail x.blocker ≡ Some true
+    → IsTrueIn slots e x.reference x.blocker
+true_blocker slots e w x W is_true = λ d live.
+    let same : W.clause ≡ d = cc (W.live, live) in (
+      subst (λ y. contains_literal x.blocker y ≡ true) same W.blocker,
+      true_value e.trail x.blocker is_true,
+    )
+
+-- an entry whose blocker is true stays where it is
+pub stay_row : (slots : Slots) (e : EngineState) (w : Literal) (k : ℕ) (x : Entry) → IsEngine e
+    → InRow slots e w k k → k < length (row_at e.watches.rows (index_of w))
+    → x ≡ get_or (row_at e.watches.rows (index_of w)) k x
+    → IsTrueIn slots e x.reference x.blocker → InRow slots e w (k + 1) (k + 1)
+stay_row slots e w k x inv st lt at is_true =
+    let i = index_of w in
+    let R = e.watches.rows in
+    let same : with_row R i (set (row_at R i) k x) ≡ R =
+    ap (with_row R i) (ap (set (row_at R i) k) at ∙ set-get_or (row_at R i) k x)
+    ∙ set-get_or R i [] in
+    subst (λ z. InRow slots (with_rows e z) w (k + 1) (k + 1)) same
+    (keep_row slots e w k k x x.blocker inv st lt at is_true)
 
 -- the trail grows by a unit
 pub imply_row : (slots : Slots) (e : EngineState) (w : Literal) (write read : ℕ) (l : Literal)

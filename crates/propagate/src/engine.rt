@@ -14,6 +14,7 @@ mod compacting;
 mod detaching;
 mod queue;
 mod renaming;
+mod rooms;
 mod waiting;
 
 use crate::trail::Trail;
@@ -97,6 +98,22 @@ impl Engine {
             qhead: 0,
             failed: false,
         })
+    }
+
+    /// As `new`, with room for the watches of the store's clauses, which are not attached yet.
+    ///
+    /// # Errors
+    ///
+    /// `AllocError` where memory was refused; for 2^32 - 1 variables it always is.
+    pub fn with_room(alloc: Global, vars: u32, store: &Store) -> Result<Self, AllocError>
+        ensures empty { IfOk result (λ e. (e.variables ≡ vars) × (e.trail ≡ [])
+            × (e.failed ≡ false)) }
+        ensures fits { IfOk result (λ e. (slots : Slots) → Fits e slots) }
+        ensures unattached { IfOk result (λ e. (r : ℕ) → is_attached e r ≡ false) }
+    {
+        let mut engine = Engine::new(alloc, vars)?;
+        engine.make_rooms(store)?;
+        Ok(engine)
     }
 
     /// The number of variables.

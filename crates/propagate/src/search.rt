@@ -33,7 +33,7 @@ pub(crate) fn find_other_not_false(trail: &Trail, lits: &[Lit], but: Lit) -> Opt
         × (value_in trail.now.assigned l ≢ Some false)) }
 {
     for lit in lits {
-        if *lit != but && !trail.is_false(*lit) {
+        if !trail.is_false(*lit) && *lit != but {
             return Some(*lit);
         }
     }

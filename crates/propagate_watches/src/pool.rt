@@ -248,6 +248,28 @@ impl WatchPool {
         }
     }
 
+    /// Gives each row room for so many entries, where it has no more, all side by side in a block
+    /// that has just that room: rows that grow one by one leave their old places empty.
+    ///
+    /// # Errors
+    ///
+    /// `AllocError` where a growth was refused.
+    pub fn make_rooms(&mut self, rooms: &[u32], fill: &Entry) -> Result<(), AllocError>
+        ensures { self.new ≡ self.old }
+    {
+        let mut count = self.used;
+        for room in rooms {
+            count = count.saturating_add(*room as usize);
+        }
+        if count > self.block.len() {
+            self.grow(count, fill)?;
+        }
+        for row in 0..self.rows().min(rooms.len()) {
+            self.move_row(row, rooms[row]);
+        }
+        Ok(())
+    }
+
     /// Adds the entry where its row has room, and says whether it had.
     #[inline]
     fn put(&mut self, row: usize, entry: &Entry) -> bool

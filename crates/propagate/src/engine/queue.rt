@@ -17,7 +17,7 @@ ghost use Rattle.cnf.specs.Clause.{contains_literal};
 ghost use Rattle.propagate_watches.specs.Pool.{row_at, with_row};
 ghost use Rattle.propagate_watches.specs.Table.{IsWatching, attachment_in, rest_in, IsWatchedBy};
 ghost use Rattle.propagate.specs.Trail.{literals_of, value_in};
-ghost use Rattle.propagate.specs.Watches.{IsVariable, is_attached};
+ghost use Rattle.propagate.specs.Watches.{IsEngine, IsVariable, is_attached};
 ghost use Rattle.propagate.specs.Fits.{Fits, IsComplete};
 ghost use Rattle.propagate.specs.Steps.{Continues, AreTrueWaiting, IsTrueEntry, IsConflict};
 ghost use Rattle.propagate.specs.Steps.{IsWatched, LeavesOne, MayBeWatched, InRow, with_rows};
@@ -124,9 +124,10 @@ impl Engine {
             (AllByRecursion (IsTrueEntry store.now.slots (literals_of self.new.trail))
             (row_at self.new.watches.rows (index_of falsified)))) }
     {
-        let mut write = 0;
-        let mut read = 0;
-        while read < self.row_len(falsified) {
+        let len = self.row_len(falsified);
+        let mut write = self.skip_true(store, falsified);
+        let mut read = write;
+        while read < len {
             match self.step(store, falsified, write, read) {
                 Step::Kept => {
                     read += 1;
@@ -143,7 +144,7 @@ impl Engine {
                 }
             }
         }
-        self.close_row(falsified, write, read);
+        self.end_row(falsified, write, read);
         Ok(None)
     }
 
@@ -155,7 +156,10 @@ impl Engine {
         self.pool.len(lit.index())
     }
 
-    /// Takes out of a row what stands from place `write` up to place `read`.
+    /// Takes out of a row what stands from place `write` up to place `read`. It stands apart from
+    /// the loop, which seldom ends before the row does.
+    #[cold]
+    #[inline(never)]
     fn close_row(&mut self, lit: Lit, write: usize, read: usize)
         requires in_range { lit.variable ≤ self.old.variables }
         requires order { write ≤ read }
@@ -163,6 +167,48 @@ impl Engine {
         ensures { self.new ≡ closed self.old (index_of lit) write read }
     {
         self.pool.close(lit.index(), write, read);
+    }
+
+    /// How many entries at the front of a row have true blockers: these stay, and are not written.
+    fn skip_true(&self, store: &Store, falsified: Lit) -> usize
+        requires { InRow store.now.slots self.now falsified 0 0 }
+        ensures { InRow store.now.slots self.now falsified result result }
+    {
+        let len = self.row_len(falsified);
+        let mut kept = 0;
+        while kept < len {
+            let entry = self.entry_at(store, falsified, kept, kept);
+            if !self.trail.is_true(entry.blocker) {
+                break;
+            }
+            kept += 1;
+        }
+        kept
+    }
+
+    /// The entry at place `read` of a row that is being filtered.
+    fn entry_at(&self, store: &Store, falsified: Lit, write: usize, read: usize) -> Entry
+        requires state { InRow store.now.slots self.now falsified write read }
+        requires more { read < length (row_at self.now.watches.rows (index_of falsified)) }
+        ensures at { result ≡ slice_index_or (row_at self.now.watches.rows (index_of falsified))
+            read result }
+        ensures known { IsWatched store.now.slots self.now falsified result }
+        ensures sound { IsEngine self.now }
+    {
+        let _ = store;
+        let _ = write;
+        self.pool.get(falsified.index(), read)
+    }
+
+    /// Takes out of a row what stands from place `write` up to its end.
+    fn end_row(&mut self, lit: Lit, write: usize, read: usize)
+        requires in_range { lit.variable ≤ self.old.variables }
+        requires order { write ≤ read }
+        requires end { read ≡ length (row_at self.old.watches.rows (index_of lit)) }
+        ensures { self.new ≡ closed self.old (index_of lit) write read }
+    {
+        let _ = read;
+        self.pool.truncate(lit.index(), write);
     }
 
     /// Looks at the entry at place `read`, and keeps it at place `write` where it stays.
@@ -175,7 +221,7 @@ impl Engine {
             ≡ length (row_at self.old.watches.rows (index_of falsified)) }
         ensures after { StepSays store.now.slots self.new falsified write read result }
     {
-        let entry = self.pool.get(falsified.index(), read);
+        let entry = self.entry_at(store, falsified, write, read);
         let reference = entry.reference;
         match self.look_at(store, falsified, entry) {
             Look::True(blocker) => {

@@ -8,8 +8,9 @@ abbrev pub invariant-loop-read : goal.invariant-loop-read
 invariant-loop-read l = record {
   continues : Continues l.initial.self l.self;
   state : InRow l.store.slots l.self l.falsified l.write l.read;
+  long : l.len ≡ length (row_at l.self.watches.rows (index_of l.falsified));
   same : l.self.watches.qhead ≡ l.initial.self.watches.qhead;
 }
 
 abbrev pub decreases-loop-read : goal.decreases-loop-read
-decreases-loop-read l = length (row_at l.self.watches.rows (index_of l.falsified)) - l.read
+decreases-loop-read l = l.len - l.read

@@ -1,0 +1,54 @@
+// Room for the watches of clauses that are about to be attached. Without values a clause watches its
+// first two literals, so they are counted beforehand: rows that grow one by one take up to three
+// times the memory.
+ghost use Rattle.std.specs.Prelude.{◌≡◌};
+
+use super::Engine;
+use clauses::store::{CRef, Store};
+use cnf::types::Lit;
+use propagate_watches::pool::Entry;
+use std::alloc::AllocError;
+
+/// By literal, how many live clauses have it as one of their first two.
+fn count_watches(store: &Store, rows: usize) -> Result<Vec<u32>, AllocError> {
+    let mut counts = Vec::from_elem(store.allocator(), 0, rows)?;
+    for place in 0..store.places() {
+        if let Some(reference) = store.live_at(place) {
+            count_first(&mut counts, store.lits(reference));
+        }
+    }
+    Ok(counts)
+}
+
+/// Counts the first two literals of a clause.
+fn count_first(counts: &mut [u32], lits: &[Lit]) {
+    for at in 0..lits.len().min(2) {
+        if let Some(count) = counts.get_mut(lits[at].index()) {
+            *count = count.saturating_add(1);
+        }
+    }
+}
+
+/// The first live clause, where there is one.
+fn first_live(store: &Store) -> Option<CRef> {
+    for place in 0..store.places() {
+        if let Some(reference) = store.live_at(place) {
+            return Some(reference);
+        }
+    }
+    None
+}
+
+impl Engine {
+    /// Gives the rows room for the watches of the store's clauses.
+    pub(super) fn make_rooms(&mut self, store: &Store) -> Result<(), AllocError>
+        ensures { self.new ≡ self.old }
+    {
+        let Some(reference) = first_live(store) else {
+            return Ok(());
+        };
+        let counts = count_watches(store, self.pool.rows())?;
+        let blocker = Lit::new(1, false);
+        self.pool.make_rooms(&counts, &Entry { reference, blocker })
+    }
+}
