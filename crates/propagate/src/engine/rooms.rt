@@ -1,6 +1,6 @@
-// Room for the watches of clauses that are about to be attached. Without values a clause watches its
-// first two literals, so they are counted beforehand: rows that grow one by one take up to three
-// times the memory.
+// Room for the watches of clauses that are about to be attached. Without values a clause watches
+// its first two literals, so these are counted beforehand: rows that grow one by one leave their
+// old places empty, and end with up to half of their own room unused.
 ghost use Rattle.std.specs.Prelude.{◌≡◌};
 
 use super::Engine;

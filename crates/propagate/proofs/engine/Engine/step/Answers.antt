@@ -35,7 +35,8 @@ returns-in-True-clause-after c =
     subst (λ z. InRow c.args.store.now.slots z c.args.falsified (c.args.write + 1)
     (c.args.read + 1)) (sym c.keep.ensures)
     (keep_row c.args.store.now.slots c.args.self.now c.args.falsified c.args.write c.args.read
-    c.entry_at-entry.result c.in-True.blocker c.entry_at-entry.ensures.sound c.requires.state c.requires.more
+    c.entry_at-entry.result c.in-True.blocker c.entry_at-entry.ensures.sound c.requires.state
+    c.requires.more
     c.entry_at-entry.ensures.at c.in-True.ensures)
 
 pub returns-in-Unit-clause-after : goal.returns-in-Unit-clause-after
@@ -53,7 +54,8 @@ returns-in-Unit-clause-after c =
     within_variable now.variables W.clause l W.within unit.member in
     let e1 = with_trail now (now.trail ++ made l (Some r) ∷ []) in
     let st1 =
-    imply_row slots now w c.args.write c.args.read l r W.clause c.entry_at-entry.ensures.sound c.requires.state W.live
+    imply_row slots now w c.args.write c.args.read l r W.clause c.entry_at-entry.ensures.sound
+    c.requires.state W.live
     was unit named in
     let is_true : IsTrueIn slots e1 r l =
     λ d live. ((c.in-Unit.ensures.2 d live).member, last_true now.trail (made l (Some r))) in
@@ -64,15 +66,18 @@ returns-in-Unit-clause-after c =
     (set (row_at e.watches.rows (index_of w)) c.args.write (entry_of r l))))
     c.imply.ensures.pushed))
     (keep_row slots e1 w c.args.write c.args.read c.entry_at-entry.result l
-    (engine_trail now (made l (Some r)) c.entry_at-entry.ensures.sound) st1 c.requires.more c.entry_at-entry.ensures.at is_true)
+    (engine_trail now (made l (Some r)) c.entry_at-entry.ensures.sound) st1 c.requires.more
+    c.entry_at-entry.ensures.at is_true)
 
 pub returns-in-Ok-clause-after : goal.returns-in-Ok-clause-after
 returns-in-Ok-clause-after c =
     subst (λ z. InRow c.args.store.now.slots z c.args.falsified c.args.write (c.args.read + 1))
     (sym c.in-Ok.ensures.ok)
     (rewatch_row c.args.store.now.slots c.args.self.now c.args.falsified c.args.write c.args.read
-    c.entry_at-entry.result c.in-Watch.other c.in-Watch.lit c.entry_at-entry.ensures.sound c.requires.state
-    c.requires.more c.entry_at-entry.ensures.at c.in-Watch.ensures.0 c.in-Watch.ensures.1 c.in-Watch.ensures.2)
+    c.entry_at-entry.result c.in-Watch.other c.in-Watch.lit c.entry_at-entry.ensures.sound
+    c.requires.state
+    c.requires.more c.entry_at-entry.ensures.at c.in-Watch.ensures.0 c.in-Watch.ensures.1
+    c.in-Watch.ensures.2)
 
 pub returns-in-Ok-clause-continues : goal.returns-in-Ok-clause-continues
 returns-in-Ok-clause-continues c =
