@@ -20,7 +20,8 @@ use Rattle.eliminate.proofs.States.{all_live}
 use Rattle.eliminate.proofs.elimination.eliminate.Given.{Over}
 use Rattle.eliminate.proofs.elimination.eliminate.Goals as goal
 use Rattle.eliminate.proofs.elimination.eliminate.Goals.{In_ok-simplifier, In_ok-propagate_units}
-use Rattle.eliminate.proofs.elimination.eliminate.Goals.{In_ok-simplify_open, In_ok-vars, In_ok-names}
+use Rattle.eliminate.proofs.elimination.eliminate.Goals.{In_ok-simplify_open, In_ok-vars}
+use Rattle.eliminate.proofs.elimination.eliminate.Goals.{In_ok-names}
 
 abbrev start_of : Slots → List Bool → Start
 start_of slots frozen = record { clauses = live_clauses slots; frozen = frozen }
@@ -143,7 +144,8 @@ returns-clause-none_learned g c =
     (ended g (goal.at.returns-clause-none_learned g c).In_ok-vars).work.none_learned
 
 pub move_together-requires : goal.move_together-requires
-move_together-requires g c = (ended g (goal.at.move_together-requires g c).In_ok-vars).work.named.long
+move_together-requires g c =
+    (ended g (goal.at.move_together-requires g c).In_ok-vars).work.named.long
 
 -- what was left has its clauses still
 same_clauses : (g : Over) (c : In_ok-names g)
