@@ -54,6 +54,9 @@ solved 'CR LF, and a last line without LF' 30
 lines text 'h 1 0'
 optimum 0 1
 solved 'the effort of one solution' 30 --conflicts 1
+for v in $(seq 12); do printf '1 %d 0\n1 -%d 0\n' "$v" "$v"; done > "$work/text"
+result=$'s SATISFIABLE\nv 000000000000\no 12'
+solved 'the effort of one solution, which is not shown to be the cheapest' 10 --conflicts 1
 lines text 'h 1 2 0' 'h -1 2 0' 'h 1 -2 0' 'h -1 -2 0'
 result='s UNSATISFIABLE'
 solved 'four clauses that no assignment satisfies' 20

@@ -26,10 +26,10 @@ count_at : (d : Bool) (before n : ℕ)
 count_at true before n = omega arith
 count_at false before n = omega arith
 
-abbrev after_line : LogLine → ℕ → ℕ
+abbrev pub after_line : LogLine → ℕ → ℕ
 after_line l before = if is_delete l.kind then before else before + 1
 
-count_step : (before : ℕ) (l : LogLine) (ls : List LogLine)
+pub count_step : (before : ℕ) (l : LogLine) (ls : List LogLine)
     → after_line l before + added_count ls ≡ before + added_count (l ∷ ls)
 count_step before l ls =
     count_at (is_delete l.kind) before (added_count ls)

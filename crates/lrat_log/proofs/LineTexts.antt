@@ -22,6 +22,8 @@ use Rattle.lrat_log.specs.Log.{LogLine, IsPlain, is_delete, name_of, id_of, lead
 use Rattle.lrat_log.specs.Log.{numbered_on, numbered_lines, text_of, line_at}
 use Rattle.lrat_log.specs.Texts.{number_text, literals_text, hints_text, end_text, line_text}
 use Rattle.lrat_log.specs.Texts.{numbered_after, last_after}
+use Rattle.lrat_log.specs.Steps.{added_count}
+use Rattle.lrat_log.proofs.Additions.{count_step}
 
 -- each token with the space behind it
 abbrev pub with_spaces : List (List ℕ) → List ℕ
@@ -238,10 +240,6 @@ step_last : (d : Bool) (base before : ℕ) → base + (if d then before else bef
 step_last true base before = refl
 step_last false base before = omega arith
 
-step_le : (d : Bool) (last : ℕ) → (if d then last else last + 1) ≤ last + 1
-step_le true last = omega arith
-step_le false last = omega arith
-
 numbered_on-at : (base before : ℕ) (ls : List LogLine) (k : ℕ) (x : ProofLine) → k < length ls
     → numbered_after base (last_on (base + before) ls k) (line_at ls k)
     ≡ get_or (numbered_on base before ls) k x
@@ -278,11 +276,11 @@ pub last_on-more : (last : ℕ) (ls : List LogLine) (k : ℕ) → k < length ls
     → last_on last ls (k + 1) ≡ last_after (last_on last ls k) (line_at ls k)
 last_on-more last ls k h = rw add-one (last_on-suc last ls k h)
 
-pub last_on-le : (last : ℕ) (ls : List LogLine) (k : ℕ) → last_on last ls k ≤ last + k
-last_on-le last ls zero = omega arith
-last_on-le last [] (suc k) = omega arith
-last_on-le last (l ∷ ls) (suc k) = let h = last_on-le (last_after last l) ls k in
-    let g = step_le (is_delete l.kind) last in omega arith
+pub last_on-few : (last : ℕ) (ls : List LogLine) (k : ℕ) → last_on last ls k ≤ last + added_count ls
+last_on-few last ls zero = omega arith
+last_on-few last [] (suc k) = omega arith
+last_on-few last (l ∷ ls) (suc k) =
+    let h = last_on-few (last_after last l) ls k in omega (arith, count_step last l ls)
 
 -- a line put under another spelling
 pub passes_as : (a b : Option (List ℕ)) (h j x y : List ℕ) → x ≡ y → PassesOn a h y b j

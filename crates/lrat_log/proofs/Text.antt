@@ -1,5 +1,6 @@
 -- The text of a log spells its lines.
 use Rattle.std.proofs.Common.{◌≡◌, ℕ, zero, suc, ◌+◌, ◌-◌, ◌<◌, ◌≤◌, ◌^◌, Bool, true, false, not}
+use Rattle.std.proofs.Common.{cond}
 use Rattle.std.proofs.Common.{List, [], ◌∷◌, ◌++◌, length, map, get_or, refl, sym, ◌∙◌, ap, subst}
 use Rattle.std.proofs.Common.{arith, append_assoc}
 use Rattle.std.specs.Prelude.{◌==◌, if◌then◌else◌, All, filter}
@@ -29,6 +30,8 @@ use Rattle.lrat_log.specs.declared.lines.Name.TheVariants.{Formula, Added}
 use Rattle.lrat_log.specs.Log.{LogLine, IsLine, HasSmallIds, is_delete, name_of, number_in, id_of}
 use Rattle.lrat_log.specs.Log.{leading_ids, group_ids, numbered_on, numbered_lines, text_of}
 use Rattle.lrat_log.specs.Log.{HasNumber}
+use Rattle.lrat_log.specs.Steps.{added_count}
+use Rattle.lrat_log.proofs.Additions.{additions_cons, count_step}
 
 -- no byte that ends a token or a line
 abbrev pub IsWord : List ℕ → Type 0
@@ -275,7 +278,7 @@ IsLineOf base l = AllByRecursion (λ k. IsId k.variable) l.clause
     × AllByRecursion (IsSmall base) l.hints
 
 numbers_at : (d : Bool) (base before : ℕ) (l : LogLine) → IsLineOf base l
-    → base + before + 1 < 2 ^ 62
+    → base + before + cond (not d) 1 0 < 2 ^ 62
     → HasNumbers (if d then Deletion (base + before) (map (λ h. id_of base (name_of h)) l.hints)
     else Addition (base + before + 1) l.clause (leading_ids base l.hints)
     (group_ids base l.hints))
@@ -288,17 +291,14 @@ numbers_at false base before l a small = (
   All-from_recursion GroupHasIds _ (groups_are base l.hints a.1),
 )
 
-next_small : (d : Bool) (before : ℕ) → (if d then before else before + 1) ≤ before + 1
-next_small true before = omega arith
-next_small false before = omega arith
-
 numbers_on : (base before : ℕ) (ls : List LogLine) → AllByRecursion (IsLineOf base) ls
-    → base + before + length ls < 2 ^ 62 → AllByRecursion HasNumbers (numbered_on base before ls)
+    → base + before + added_count ls < 2 ^ 62
+    → AllByRecursion HasNumbers (numbered_on base before ls)
 numbers_on base before [] a room = tt
 numbers_on base before (l ∷ ls) a room = (
-  numbers_at (is_delete l.kind) base before l a.0 (omega arith),
+  numbers_at (is_delete l.kind) base before l a.0 (omega (arith, additions_cons l ls)),
   numbers_on base (if is_delete l.kind then before else before + 1) ls a.1
-      (omega (arith, next_small (is_delete l.kind) before)),
+      (omega (arith, count_step before l ls)),
 )
 
 small_hints : (base : ℕ) (hs : List Hint) → All HasNumber hs
@@ -326,12 +326,12 @@ lines_of_log base (l ∷ ls) p s =
     )
 
 pub numbered_lines-numbers : (base : ℕ) (ls : List LogLine) → All IsLine ls → HasSmallIds base ls
-    → base + length ls < 2 ^ 62 → All HasNumbers (numbered_lines base ls)
+    → base + added_count ls < 2 ^ 62 → All HasNumbers (numbered_lines base ls)
 numbered_lines-numbers base ls lines small room =
     All-from_recursion HasNumbers (numbered_lines base ls)
     (numbers_on base 0 ls (lines_of_log base ls lines small) (omega arith))
 
 pub text_of-lines : (base : ℕ) (ls : List LogLine) → All IsLine ls → HasSmallIds base ls
-    → base + length ls < 2 ^ 62 → IsTextOf (text_of base ls) (numbered_lines base ls)
+    → base + added_count ls < 2 ^ 62 → IsTextOf (text_of base ls) (numbered_lines base ls)
 text_of-lines base ls lines small room =
     text-lines (numbered_lines base ls) (numbered_lines-numbers base ls lines small room)

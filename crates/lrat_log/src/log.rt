@@ -6,7 +6,7 @@ ghost use Rattle.std.specs.Prelude.{IfOk, OnOk, OnErr, slice_get, slice_range, �
 ghost use Rattle.std.specs.Io.KnownBytes.{Appends};
 ghost use Rattle.text.specs.LratText.{IsTextOf};
 ghost use Rattle.text.specs.Writing.{AppendsPart, PassesOn};
-ghost use Rattle.lrat_log.specs.Steps.{HoldsAtEachBase};
+ghost use Rattle.lrat_log.specs.Steps.{HoldsAtEachBase, added_count};
 ghost use Rattle.lrat_log.specs.Log.{LogLine, IsLine, IsLog, HasSmallIds, line_at, numbered_lines};
 ghost use Rattle.lrat_log.specs.Log.{text_of};
 ghost use Rattle.lrat_log.specs.Texts.{line_text, numbered_after, last_after};
@@ -198,7 +198,7 @@ fn push_hints(kept: &mut Vec<PackedHint>, hints: &[Hint]) -> Result<(), AllocErr
 ///
 /// `AllocError` where memory for the text was refused.
 pub fn render(log: &Log, base: u64) -> Result<Vec<u8>, AllocError>
-    requires room { base + length log.now < 2 ^ 62 }
+    requires room { base + added_count log.now < 2 ^ 62 }
     requires ids { HasSmallIds base log.now }
     ensures text { IfOk result (λ bytes. bytes.items ≡ text_of base log.now) }
     ensures lines { IfOk result (λ bytes. IsTextOf bytes.items (numbered_lines base log.now)) }
@@ -219,7 +219,7 @@ pub fn render(log: &Log, base: u64) -> Result<Vec<u8>, AllocError>
 /// `WriteFault` where the writer answered `Err`, or took none of the bytes that it was given. It
 /// has then a beginning of the text, and is not called again.
 pub fn write_to<W: Write>(log: &Log, base: u64, writer: &mut W) -> Result<(), WriteFault>
-    requires room { base + length log.now < 2 ^ 62 }
+    requires room { base + added_count log.now < 2 ^ 62 }
     requires ids { HasSmallIds base log.now }
     ensures ok { OnOk result (Appends (W.contents writer.old) (W.contents writer.new)
         (text_of base log.now)) }

@@ -1,7 +1,7 @@
 -- What was put before a fault is a beginning of the text.
 use Rattle.std.proofs.Common.{◌<◌, ◌≤◌, [], length, arith}
 use Rattle.std.proofs.lemmas.Result.{err_from_is_err_and, on_ok_weaker, on_err_weaker}
-use Rattle.lrat_log.proofs.LineTexts.{last_on-le, last_next, lines_more, line_fault, text_whole}
+use Rattle.lrat_log.proofs.LineTexts.{last_on-few, last_next, lines_more, line_fault, text_whole}
 use Rattle.lrat_log.proofs.LineTexts.{text_part}
 use Rattle.lrat_log.proofs.Text.{text_of-lines}
 use Rattle.lrat_log.proofs.Numbering.{holds_at_each_base}
@@ -9,7 +9,7 @@ use Rattle.lrat_log.proofs.log.write_to.Goals as goal
 
 pub put_line-requires-clause-last : goal.put_line-requires-clause-last
 put_line-requires-clause-last g c =
-    let bound = last_on-le c.args.base c.args.log.now c.loop-line.line in
+    let bound = last_on-few c.args.base c.args.log.now c.loop-line.line in
     let here : c.loop-line.line < length c.args.log.now = omega arith in
     omega (arith, c.loop-line.invariant.0)
 
