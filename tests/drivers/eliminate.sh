@@ -3,7 +3,7 @@
 # whose lines are known. The driver is run with no proof, by `rt try`; each seed takes a minute or two.
 #   tests/drivers/eliminate.sh [SEED..]
 source "$(dirname "$0")/../lib"
-driver eliminate cnf clauses lrat_log lrat_check subsume eliminate cdcl
+driver eliminate cnf clauses lrat_log lrat_check eliminate cdcl
 [ $# -gt 0 ] || set -- 1
 for seed; do
     drive --seconds 300 -- "$seed" 1500

@@ -1,5 +1,8 @@
-//! Elimination of variables before the search.
+//! Elimination of variables before the search. `elimination` is what other crates call, and the
+//! subset tests by `signatures` are handed on.
 #![tactic(auto)]
+
+pub use subsume::signatures;
 
 pub mod elimination;
 mod ending;
