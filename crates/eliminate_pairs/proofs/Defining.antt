@@ -15,7 +15,7 @@ use Rattle.eliminate_names.specs.Work.{NamesState, name_at, added_line, delete_l
 use Rattle.eliminate_pairs.specs.Pairs.{Ground, stage_of, positive, whole_clause, side_clause}
 use Rattle.eliminate_pairs.specs.Pairs.{whole_line}
 use Rattle.eliminate_pairs.specs.Pairs.{side_line, replaced, IsDefined, Stage, IsStage, IsOpenLog}
-use Rattle.eliminate_pairs.specs.Pairs.{Keeps}
+use Rattle.eliminate_pairs.specs.Pairs.{Keeps, AreRare, RestsWhereRare}
 use Rattle.eliminate_pairs.specs.Pairs.{KeepsLog}
 use Rattle.clauses.proofs.Laws.{clause_kept, clause_new}
 use Rattle.lrat_log.proofs.Laws.{additions_few, additions_push}
@@ -221,6 +221,17 @@ pub record Counts (s : Stage) (v bound last : ℕ) (slots : Slots) (n : NamesSta
   pub counted : n.additions ≡ added_count lines
   pub long : length n.names ≡ length slots
   pub keeps : Keeps s (stage_of last slots n lines)
+  pub rests : RestsWhereRare s (stage_of last slots n lines)
+
+-- one rest after another
+pub rests_on : (s t u : Stage) → RestsWhereRare s t → RestsWhereRare t u → RestsWhereRare s u
+rests_on s t u p q r = q (subst (λ (x : Stage). AreRare x.slots) (sym (p r)) r) ∙ p r
+
+-- and its lines
+pub rests_log : (s t : Stage) (lines : List LogLine) → RestsWhereRare s t
+    → (AreRare t.slots → lines ≡ t.lines) → AreRare s.slots → lines ≡ s.lines
+rests_log s t lines p q r =
+    q (subst (λ (x : Stage). AreRare x.slots) (sym (p r)) r) ∙ ap (λ (x : Stage). x.lines) (p r)
 
 pub counts_same : (s : Stage) (v bound last last' : ℕ) (slots slots' : Slots) (n n' : NamesState)
     (lines lines' : List LogLine) → last' ≡ last → slots' ≡ slots → n' ≡ n → lines' ≡ lines

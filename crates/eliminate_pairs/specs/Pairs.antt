@@ -124,3 +124,11 @@ pub record IsOpenLog (ground : Ground) (lines : List LogLine) : Type 0 where
 -- where more was to come, its lines are still those of a log
 abbrev pub KeepsLog : Stage → List LogLine → Type 0
 KeepsLog before lines = (ground : Ground) → IsStage ground before → IsOpenLog ground lines
+
+-- no two literals stand together in four or more clauses
+abbrev pub AreRare : Slots → Type 0
+AreRare slots = (a b : Literal) → StandOften slots a b → ⊥
+
+-- where that is so, nothing is done
+abbrev pub RestsWhereRare : Stage → Stage → Type 0
+RestsWhereRare before after = AreRare before.slots → after ≡ before

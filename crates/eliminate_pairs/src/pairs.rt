@@ -18,6 +18,7 @@ ghost use Rattle.eliminate_names.specs.Work.{name_at, added_line};
 ghost use Rattle.eliminate_pairs.specs.Pairs.{side_clause, side_line, replaced, together};
 ghost use Rattle.eliminate_pairs.specs.Pairs.{IsOnOther, StandAt, StandOften};
 ghost use Rattle.eliminate_pairs.specs.Pairs.{HasPairOf, IsDefined, Keeps, KeepsLog, stage_of};
+ghost use Rattle.eliminate_pairs.specs.Pairs.{AreRare, RestsWhereRare};
 
 use crate::pair_table::{Candidate, FEWEST, PairTable, SHORTEST};
 use clauses::store::{CRef, Store};
@@ -48,7 +49,8 @@ pub(crate) struct Fresh {
 }
 
 /// Replaces pairs that stand in many clauses by fresh variables, the first of which is `vars + 1`;
-/// the answer is the last variable, which is at most `most`.
+/// the answer is the last variable, which is at most `most`. Where no pair stands together in four
+/// or more clauses of three or more literals, nothing is done.
 pub fn define_pairs<S: Sink>(
     store: &mut Store,
     names: &mut Names,
@@ -67,9 +69,14 @@ pub fn define_pairs<S: Sink>(
     ensures keeps { IfOk result (λ v. Keeps
         (stage_of vars store.old.slots names.old (S.lines sink.old))
         (stage_of v store.new.slots names.new (S.lines sink.new))) }
+    ensures rests { IfOk result (λ v. RestsWhereRare
+        (stage_of vars store.old.slots names.old (S.lines sink.old))
+        (stage_of v store.new.slots names.new (S.lines sink.new))) }
     ensures err { OnErr result
         (KeepsLog (stage_of vars store.old.slots names.old (S.lines sink.old))
         (S.lines sink.new)) }
+    ensures rests_err { OnErr result
+        (AreRare store.old.slots → S.lines sink.new ≡ S.lines sink.old) }
 {
     let mut last = vars;
     for _round in 0..MOST_ROUNDS {
@@ -101,9 +108,14 @@ fn define_counted<S: Sink>(
     ensures keeps { IfOk result (λ v. Keeps
         (stage_of vars store.old.slots names.old (S.lines sink.old))
         (stage_of v store.new.slots names.new (S.lines sink.new))) }
+    ensures rests { IfOk result (λ v. RestsWhereRare
+        (stage_of vars store.old.slots names.old (S.lines sink.old))
+        (stage_of v store.new.slots names.new (S.lines sink.new))) }
     ensures err { OnErr result
         (KeepsLog (stage_of vars store.old.slots names.old (S.lines sink.old))
         (S.lines sink.new)) }
+    ensures rests_err { OnErr result
+        (AreRare store.old.slots → S.lines sink.new ≡ S.lines sink.old) }
 {
     let mut table = PairTable::new(store, vars)?;
     let mut last = vars;
@@ -143,9 +155,14 @@ fn define_found<S: Sink>(
     ensures keeps { IfOk result (λ v. Keeps
         (stage_of vars store.old.slots names.old (S.lines sink.old))
         (stage_of v store.new.slots names.new (S.lines sink.new))) }
+    ensures rests { IfOk result (λ v. RestsWhereRare
+        (stage_of vars store.old.slots names.old (S.lines sink.old))
+        (stage_of v store.new.slots names.new (S.lines sink.new))) }
     ensures err { OnErr result
         (KeepsLog (stage_of vars store.old.slots names.old (S.lines sink.old))
         (S.lines sink.new)) }
+    ensures rests_err { OnErr result
+        (AreRare store.old.slots → S.lines sink.new ≡ S.lines sink.old) }
 {
     if !stand_often(store, candidate, table.found()) {
         return Ok(vars);

@@ -2,7 +2,7 @@
 use Rattle.std.proofs.Common.{ap, arith}
 use Rattle.clauses.specs.Slots.{StoreState}
 use Rattle.eliminate_pairs.specs.Pairs.{stage_of, Stage}
-use Rattle.eliminate_pairs.proofs.Defining.{open_log, counts_same}
+use Rattle.eliminate_pairs.proofs.Defining.{open_log, counts_same, rests_on, rests_log}
 use Rattle.eliminate_pairs.proofs.pairs.define_counted.Goals as goal
 use Rattle.eliminate_pairs.proofs.pairs.define_counted.Goals.{in-Some+in_ok-find+then-found-fewest+in_ok-last}
 use Rattle.eliminate_pairs.proofs.pairs.define_counted.Goals.{in-Some+in_ok-find+else-found-fewest}
@@ -18,6 +18,20 @@ pub returns-in_err-last-clause-err : goal.returns-in_err-last-clause-err
 returns-in_err-last-clause-err g c =
     when_err c.from_residual-in_err-last.result
     (λ ground k. c.in_err-last.ensures.err ground (c.loop-k.invariant.keeps ground k))
+
+pub returns-in_err-find-clause-rests_err : goal.returns-in_err-find-clause-rests_err
+returns-in_err-find-clause-rests_err g c =
+    when_err c.from_residual-in_err-find.result (λ rare.
+    ap (λ (x : Stage). x.lines) (c.loop-k.invariant.rests rare))
+
+pub returns-in_err-last-clause-rests_err : goal.returns-in_err-last-clause-rests_err
+returns-in_err-last-clause-rests_err g c =
+    let L = g.S.Sink.lines in
+    let s : Stage =
+    stage_of c.args.vars c.args.store.now.slots c.args.names.now (L c.args.sink.now) in
+    when_err c.from_residual-in_err-last.result
+    (rests_log s (stage_of c.loop-k.last c.loop-k.store.slots c.loop-k.names (L c.loop-k.sink))
+    _ c.loop-k.invariant.rests c.in_err-last.ensures.rests_err)
 
 pub loop-k-preserved : goal.loop-k-preserved
 loop-k-preserved g c =
@@ -37,6 +51,11 @@ loop-k-preserved g c =
             counted = w.in_ok-last.ensures.counted;
             long = w.in_ok-last.ensures.long;
             keeps = λ ground k. w.in_ok-last.ensures.keeps ground (was.keeps ground k);
+            rests =
+                rests_on s (stage_of c.loop-k.last c.loop-k.store.slots c.loop-k.names
+                (L c.loop-k.sink)) (stage_of w.in_ok-last.last w.define_found.new.store.slots
+                w.define_found.new.names (L w.define_found.new.sink)) was.rests
+                w.in_ok-last.ensures.rests;
           })
       | in-Some+in_ok-find+else-found-fewest w ↦
           counts_same s c.args.vars c.args.most c.loop-k.last c.match-candidate.last

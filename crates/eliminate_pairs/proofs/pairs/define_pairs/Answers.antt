@@ -1,5 +1,6 @@
 -- Count after count, each over what the one before left.
 use Rattle.std.proofs.Common.{arith}
+use Rattle.eliminate_pairs.proofs.Defining.{rests_on, rests_log}
 use Rattle.eliminate_pairs.proofs.pairs.define_pairs.Goals as goal
 use Rattle.lrat_log.proofs.Laws.{when_err}
 
@@ -12,6 +13,7 @@ loop-round-preserved g c =
       counted = c.in_ok-last.ensures.counted;
       long = c.in_ok-last.ensures.long;
       keeps = λ ground k. c.in_ok-last.ensures.keeps ground (was.keeps ground k);
+      rests = rests_on _ _ _ was.rests c.in_ok-last.ensures.rests;
     }
 
 pub returns-in_err-last-clause-err : goal.returns-in_err-last-clause-err
@@ -26,3 +28,12 @@ returns-then-last-before-clause-keeps g c ground k =
 pub returns-then-last-before-clause-more : goal.returns-then-last-before-clause-more
 returns-then-last-before-clause-more g c =
     omega (arith, c.loop-round.invariant.more, c.in_ok-last.ensures.more)
+
+pub returns-in_err-last-clause-rests_err : goal.returns-in_err-last-clause-rests_err
+returns-in_err-last-clause-rests_err g c =
+    when_err c.from_residual.result
+    (rests_log _ _ _ c.loop-round.invariant.rests c.in_err-last.ensures.rests_err)
+
+pub returns-then-last-before-clause-rests : goal.returns-then-last-before-clause-rests
+returns-then-last-before-clause-rests g c =
+    rests_on _ _ _ c.loop-round.invariant.rests c.in_ok-last.ensures.rests
