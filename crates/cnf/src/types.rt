@@ -241,8 +241,8 @@ impl Instance {
 /// A formula in conjunctive normal form: clauses, numbered from 1 in their order (Handbook of
 /// Satisfiability).
 ///
-/// No clause has a variable beside its negation. There are fewer than 2^26 variables, and no
-/// literal has a variable above `vars`.
+/// No clause has a literal twice, or a variable beside its negation. There are fewer than 2^26
+/// variables, and no literal has a variable above `vars`.
 #[derive(Drop)]
 pub struct Formula {
     // Below 2^26; no literal has a greater variable.

@@ -49,7 +49,8 @@ enum Left {
 /// - `StatusWithoutProof`: `SATISFIABLE` or `UNKNOWN`, which no certificate shows; the `s` line.
 /// - Any other cause: the first fault of the certificate, as `check_lines` tells it.
 ///
-/// An AllocError comes only where memory was refused.
+/// An AllocError comes only where memory was refused, or where the formula, or what the certificate
+/// adds, has more than 2^32 - 2 literals or clauses.
 pub fn check(alloc: Global, text: &[u8], answer: &[u8], proof: &[u8]) -> Result<Verdict, AllocError>
     ensures verdict { IfOk result (λ v. v ≡ verdict_as Profile.One text.now answer.now proof.now) }
     ensures yes { IfOk result
@@ -84,7 +85,8 @@ pub fn check_as(
 ///
 /// # Errors
 ///
-/// `Memory` where memory was refused, `Read` where the reader failed.
+/// `Memory` where memory was refused, or where more than 2^32 - 2 literals or clauses are held;
+/// `Read` where the reader failed.
 pub fn check_from<R: Read>(
     alloc: Global,
     text: &[u8],
