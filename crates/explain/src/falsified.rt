@@ -60,7 +60,7 @@ fn falsified_soft(instance: &Instance, bits: &[bool]) -> Result<Vec<GivenUp>, Al
 
 /// Sorts by weight, the heaviest first. Those of one weight stay in their order.
 fn sort(falsified: &mut Vec<GivenUp>) -> Result<(), AllocError>
-    ensures same { OnOk result (IsPermutation falsified.old.items falsified.new.items) }
+    ensures permutes { OnOk result (IsPermutation falsified.old.items falsified.new.items) }
     ensures heaviest { OnOk result
         (IsNonDecreasingBy (λ g. most_weight - g.weight) falsified.new.items) }
 {

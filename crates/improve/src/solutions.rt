@@ -22,7 +22,7 @@ pub fn judge(instance: &Instance, mut bits: Vec<bool>) -> Solution
     requires long { instance.now.variables ≤ length bits.items }
     requires feasible { (t : Assignment) → Extends bits.items t → IsFeasible instance.now t }
     ensures solution { IsSolution instance.now result.bits.items result.cost }
-    ensures same { (t : Assignment) → Extends bits.items t
+    ensures cost { (t : Assignment) → Extends bits.items t
         → cost_under instance.now t ≡ result.cost }
 {
     bits.truncate(instance.vars() as usize);

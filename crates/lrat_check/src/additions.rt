@@ -52,7 +52,7 @@ fn hints_fault(
         ≡ clause_fault (live_of base.old.last base.old.live) clause.now
         (walk_of (live_of base.old.last base.old.live).clause_at (map negation clause.now)
         (leading_of hints.now)) (groups_of hints.now)) }
-    ensures same { base.new ≡ base.old }
+    ensures unchanged { base.new ≡ base.old }
     ensures variables { scratch.new.assumed.variables ≡ scratch.old.assumed.variables }
 {
     let first = leading(hints);
@@ -79,7 +79,7 @@ pub(crate) fn addition_fault(
         (λ f. f ≡ None → AreWithin scratch.new.assumed.variables line.now.clause) }
     ensures rising { IfOk result (λ f. f ≡ None → base.old.last < line.now.id) }
     ensures small { IfOk result (λ f. f ≡ None → line.now.is_large ≡ false) }
-    ensures same { base.new ≡ base.old }
+    ensures unchanged { base.new ≡ base.old }
     ensures more { scratch.old.assumed.variables ≤ scratch.new.assumed.variables }
 {
     if line.id() <= base.last {

@@ -61,7 +61,7 @@ impl Assumed {
         requires { variable < 2 ^ 27 }
         ensures ok { OnOk result (variable ≤ self.new.variables) }
         ensures more { self.old.variables ≤ self.new.variables }
-        ensures same { self.new.literals ≡ self.old.literals }
+        ensures literals { self.new.literals ≡ self.old.literals }
         ensures err { OnErr result (self.new ≡ self.old) }
     {
         if self.variables < variable {

@@ -83,7 +83,7 @@ fn finds_true(clause: &[Lit], left_out: Lit, assumed: &Assumed) -> bool
 /// Assumes the negations of all literals but the left out one.
 fn assume_others(clause: &[Lit], left_out: Lit, assumed: &mut Assumed) -> Result<(), AllocError>
     requires { AreWithin assumed.old.variables clause.now }
-    ensures same { IfOk result (λ _.
+    ensures negated { IfOk result (λ _.
         HaveSame (map negation (without_literal left_out clause.now) ++ assumed.old.literals)
         assumed.new.literals) }
     ensures kept { take (length assumed.old.literals) assumed.new.literals ≡ assumed.old.literals }
@@ -109,7 +109,7 @@ fn group_fault(
     ensures fault { IfOk result (λ f. f
         ≡ group_fault_of (listed_at live.now) pivot assumed.old.literals
         (record { candidate = candidate; hints = map (λ h. h.1) hints.now })) }
-    ensures same { OnOk result (assumed.new ≡ assumed.old) }
+    ensures unchanged { OnOk result (assumed.new ≡ assumed.old) }
     ensures variables { assumed.new.variables ≡ assumed.old.variables }
 {
     let left_out = pivot.negation();
@@ -165,7 +165,7 @@ pub(crate) fn rat_fault(
         (ids_with (listed_at base.old.live) (negation pivot) base.old.last) then groups_fault_of
         (listed_at base.old.live) pivot scratch.old.assumed.literals (groups_of hints.now)
         else Some Cause.Candidates)) }
-    ensures same { base.new ≡ base.old }
+    ensures unchanged { base.new ≡ base.old }
     ensures variables { scratch.new.assumed.variables ≡ scratch.old.assumed.variables }
 {
     candidates_of(hints, &mut scratch.candidates)?;

@@ -221,7 +221,7 @@ impl LiveClauses {
     pub fn are_all_with(&mut self, lit: Lit, ids: &[u64]) -> Result<bool, AllocError>
         requires { All (λ e. 0 < e.0) self.old }
         ensures all { IfOk result (λ all. all ≡ same_ids ids.now (ids_listed lit self.old)) }
-        ensures same { self.new ≡ self.old }
+        ensures unchanged { self.new ≡ self.old }
     {
         count_all(self.is_counted, &mut self.counts, &self.near, &self.far)?;
         self.is_counted = true;

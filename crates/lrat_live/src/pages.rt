@@ -38,7 +38,7 @@ fn count_at(page: &[u32], place: usize) -> u32
 /// Lets the page reach a place.
 fn reach(page: &mut Vec<u32>, place: usize) -> Result<(), AllocError>
     requires { place < 2 ^ 28 }
-    ensures same { OnOk result
+    ensures counts { OnOk result
         ((p : ℕ) → slice_index page.new.items p ≡ slice_index page.old.items p) }
     ensures within { OnOk result (place < length page.new.items) }
 {
@@ -82,7 +82,7 @@ fn lower_one(page: &mut Vec<u32>, place: usize)
 
 /// Lets there be a page of this number.
 fn reach_page(pages: &mut Vec<Vec<u32>>, page: usize) -> Result<(), AllocError>
-    ensures same { OnOk result ((p : ℕ)
+    ensures counts { OnOk result ((p : ℕ)
         → count_in (map (λ x. x.items) pages.new.items) p
         ≡ count_in (map (λ x. x.items) pages.old.items) p) }
     ensures within { OnOk result (page < length pages.new.items) }

@@ -52,7 +52,7 @@ pub(crate) fn extend(
 ) -> Result<(), AllocError>
     requires few { length lits.old.items + length clause.now + 1 < 2 ^ 32 }
     ensures lits { OnOk result (lits.new.items ≡ lits.old.items ++ clause.now) }
-    ensures same { OnErr result (lits.new.items ≡ lits.old.items) }
+    ensures lits_stay { OnErr result (lits.new.items ≡ lits.old.items) }
     ensures ok { OnOk result (spans.new.items ≡ padded place spans.old.items
         ++ (record { start = length lits.old.items; length = length clause.now }) ∷ []) }
     ensures err { OnErr result ((spans.new.items ≡ spans.old.items)

@@ -49,7 +49,7 @@ pub fn skip_blanks(line: &[u8], at: usize) -> usize
     requires { at ≤ length line.now }
     ensures from { at ≤ result }
     ensures within { result ≤ length line.now }
-    ensures same { tokens_of (drop result line.now) ≡ tokens_of (drop at line.now) }
+    ensures tokens { tokens_of (drop result line.now) ≡ tokens_of (drop at line.now) }
     ensures blank { list_all is_blank (slice_range line.now at result) ≡ true }
     ensures stops { result < length line.now → is_blank (slice_index line.now result) ≡ false }
 {

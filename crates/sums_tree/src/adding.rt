@@ -10,7 +10,7 @@ use std::alloc::{AllocError, Global};
 
 /// Sorts parts by their groups.
 pub(crate) fn sort_by_groups(parts: &mut Vec<Connection>)
-    ensures same { IsPermutation parts.old.items parts.new.items }
+    ensures permutes { IsPermutation parts.old.items parts.new.items }
     ensures sorted { IsSortedBy is_lower parts.new.items }
 {
     parts.sort_unstable_by(|one, other| (one.low, one.high).cmp(&(other.low, other.high)));
@@ -18,7 +18,7 @@ pub(crate) fn sort_by_groups(parts: &mut Vec<Connection>)
 
 /// Sorts connections: the greatest first, of equal ones that with the lower groups.
 pub(crate) fn sort_by_weight(connections: &mut Vec<Connection>)
-    ensures same { IsPermutation connections.old.items connections.new.items }
+    ensures permutes { IsPermutation connections.old.items connections.new.items }
     ensures sorted { IsSortedBy comes_before connections.new.items }
 {
     connections.sort_unstable_by(|one, other| {

@@ -137,7 +137,7 @@ fn merge(
     requires first { 0 < length (row_at tracks.old.items x) }
     requires second { 0 < length (row_at tracks.old.items y) }
     requires few { length tracks.old.items ≤ 2 ^ 15 }
-    requires same { length labels.old.items ≡ length tracks.old.items }
+    requires lengths { length labels.old.items ≡ length tracks.old.items }
     requires most { most < 2 ^ 32 }
     ensures { OnOk result (Merges labels.old.items labels.new.items tracks.old.items
         tracks.new.items x y most (length labels.old.items)) }
@@ -181,7 +181,7 @@ fn join(
     requires right { right < length tracks.old.items }
     requires two { left ≢ right }
     requires few { length tracks.old.items ≤ 2 ^ 15 }
-    requires same { length labels.old.items ≡ length tracks.old.items }
+    requires lengths { length labels.old.items ≡ length tracks.old.items }
     ensures { OnOk result (Joins labels.old.items labels.new.items tracks.old.items
         tracks.new.items left right (length labels.old.items)) }
 {
@@ -204,7 +204,7 @@ fn join_in_front(
     requires right { right < length tracks.old.items }
     requires two { left ≢ right }
     requires few { length tracks.old.items ≤ 2 ^ 15 }
-    requires same { length labels.old.items ≡ length tracks.old.items }
+    requires lengths { length labels.old.items ≡ length tracks.old.items }
     ensures labels { OnOk result
         (labels.new.items ≡ relabelled right (row_at tracks.old.items left) labels.old.items) }
     ensures steps { OnOk result (tracks.new.items ≡ slice_set (slice_set tracks.old.items left []) right
@@ -230,7 +230,7 @@ fn join_behind(
     requires right { right < length tracks.old.items }
     requires two { left ≢ right }
     requires few { length tracks.old.items ≤ 2 ^ 15 }
-    requires same { length labels.old.items ≡ length tracks.old.items }
+    requires lengths { length labels.old.items ≡ length tracks.old.items }
     ensures labels { OnOk result
         (labels.new.items ≡ relabelled left (row_at tracks.old.items right) labels.old.items) }
     ensures steps { OnOk result (tracks.new.items ≡ slice_set (slice_set tracks.old.items right []) left

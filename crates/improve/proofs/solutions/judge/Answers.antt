@@ -13,8 +13,8 @@ prove-unreachable-requires c =
     let e = (c.if-prove.ensures t x).1 (c.requires.feasible t (extends_own c.args.bits.items)) in
     cc
 
-pub returns-clause-same : goal.returns-clause-same
-returns-clause-same c = λ t h.
+pub returns-clause-cost : goal.returns-clause-cost
+returns-clause-cost c = λ t h.
     let x =
     subst (λ bits. Extends bits t) (sym (c.deref-2.ensures.value ∙ c.truncate.ensures.items))
     (extends_taken c.vars.result c.args.bits.items t h) in

@@ -11,7 +11,7 @@ pub returns-then-is_true-clause-distinct : goal.returns-then-is_true-clause-dist
 returns-then-is_true-clause-distinct c =
     let T = c.grow.new.self.literals in
     let i = c.loop-lit.lit-index in
-    let negated : T ≡ map negation (take i c.args.clause.now) = c.in_ok-grow.ensures.same
+    let negated : T ≡ map negation (take i c.args.clause.now) = c.in_ok-grow.ensures.literals
     ∙ c.loop-lit.invariant.negated in
     elim c.then-is_true.branch [
       | then-is_true-via-then-is_true w ↦
@@ -30,7 +30,7 @@ loop-lit-preserved c =
     let i = c.loop-lit.lit-index in
     let d = c.args.clause.now in
     let l = c.lit-item.result in
-    let negated : T ≡ map negation (take i d) = c.in_ok-grow.ensures.same
+    let negated : T ≡ map negation (take i d) = c.in_ok-grow.ensures.literals
     ∙ c.loop-lit.invariant.negated in
     let now = c.in_ok-assume.ensures.ok in
     let literals : c.assume.new.self.literals ≡ T ++ negation l ∷ [] = ap (λ a. a.literals) now

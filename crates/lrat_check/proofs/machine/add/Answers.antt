@@ -11,7 +11,7 @@ returns-in_ok-add-clause-base c =
     let fine : c.in_ok-fault.fault ≡ None = search rules in
     let live : c.add.new.self ≡ b.live ++ (s.id, s.clause) ∷ [] =
     c.in_ok-add.ensures.ok
-    ∙ ap (λ x. x.live ++ (c.id.result, c.lits.result.now) ∷ []) c.in_ok-fault.ensures.same
+    ∙ ap (λ x. x.live ++ (c.id.result, c.lits.result.now) ∷ []) c.in_ok-fault.ensures.unchanged
     ∙ ap (λ k. b.live ++ (k, c.lits.result.now) ∷ []) c.id.ensures.id
     ∙ ap (λ d. b.live ++ (s.id, d) ∷ []) c.lits.ensures in
     subst (λ k. IsBase n k c.add.new.self) (sym c.id-base.ensures.id)

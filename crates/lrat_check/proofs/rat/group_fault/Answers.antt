@@ -32,4 +32,4 @@ returns-clause-fault c =
     c.args.assumed.now.literals c.assume_others.new.assumed.literals c.args.candidate
     (map (λ h. h.1) c.args.hints.now) c.in-Some.clause.now
     (walked_as c.in_ok-walked.walked T) c.negation-left_out.ensures (sym c.in-Some.ensures)
-    (sym c.if-has_true.ensures) c.in_ok-assume_others.ensures.same c.in_ok-walked.ensures.walked)
+    (sym c.if-has_true.ensures) c.in_ok-assume_others.ensures.negated c.in_ok-walked.ensures.walked)

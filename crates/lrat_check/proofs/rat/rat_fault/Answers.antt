@@ -32,7 +32,7 @@ returns-clause-fault c =
     let gs = groups_of c.args.hints.now in
     subst (λ z. IfOk c.groups_fault.result (λ f. f ≡ z))
     (ap (λ xs. groups_fault (listed_at xs) c.args.pivot c.args.scratch.now.assumed.literals gs)
-    c.in_ok-named_all.ensures.same
+    c.in_ok-named_all.ensures.unchanged
     ∙ sym (cond-true _ _ _ (test (goal.at.returns-clause-fault c).In_ok-named_all
     ∙ c.if-not-named_all.false)))
     c.groups_fault.ensures.fault

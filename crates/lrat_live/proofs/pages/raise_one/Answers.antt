@@ -11,4 +11,4 @@ returns c = λ p.
     set_more xs c.args.place _ c.in_ok-reach.ensures.within
     (ap (λ n. n + 1) (c.index-count.ensures
     ∙ get_or_default_zero xs c.args.place _ c.in_ok-reach.ensures.within)) p
-    ∙ ap (λ n. n + one_if (p == c.args.place)) (c.in_ok-reach.ensures.same p)
+    ∙ ap (λ n. n + one_if (p == c.args.place)) (c.in_ok-reach.ensures.counts p)

@@ -2,8 +2,8 @@ use Rattle.std.proofs.Common.{◌≡◌, ◌+◌, length, refl, arith, rules}
 use Rattle.lrat_live.proofs.PageLaws.{reached}
 use Rattle.lrat_live.proofs.pages.reach.Goals as goal
 
-pub returns-clause-same : goal.returns-clause-same
-returns-clause-same c =
+pub returns-clause-counts : goal.returns-clause-counts
+returns-clause-counts c =
     let old = c.args.page.now in
     let long : length c.resize.new.self.items ≡ c.args.place + 1 = search rules in
     let kept = c.in_ok-resize.ensures.by_index in

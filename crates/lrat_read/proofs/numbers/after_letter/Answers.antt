@@ -9,7 +9,7 @@ use Rattle.lrat_read.proofs.numbers.after_letter.Goals.{else-first-line-via-else
 pub returns-else-first-line : goal.returns-else-first-line
 returns-else-first-line c =
     letter_missing c.args.line.now c.args.at c.skip_blanks-first.result
-    c.skip_blanks-first.ensures.same c.skip_blanks-first.ensures.stops
+    c.skip_blanks-first.ensures.tokens c.skip_blanks-first.ensures.stops
     (λ h e ends. elim c.else-first-line.branch [
       | else-first-line-via-then-first-line+then-line-first-eq100+else-is_token_end w ↦
           both_ways _ w.if-is_token_end.false (w.is_token_end.ensures ∙ ap not ends)

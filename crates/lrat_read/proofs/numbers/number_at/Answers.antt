@@ -8,16 +8,16 @@ returns-then-is_number c =
     number_past c.args.line.now c.args.at _ c.digits_at-digits.result.value
     c.digits_at-digits.result.end c.skip_blanks-end.result
     (number_found c.args.line.now c.args.at c.skip_blanks-first.result _ c.digits_at-digits.result
-    c.skip_blanks-first.ensures.same c.skip_blanks-first.ensures.from (omega arith)
+    c.skip_blanks-first.ensures.tokens c.skip_blanks-first.ensures.from (omega arith)
     (c.skip_blanks-first.ensures.stops (omega arith))
     (ap (λ n. c.skip_blanks-first.result + n) c.from.ensures) c.digits_at-digits.ensures
     (c.is_number.ensures.0 c.if-is_number.true))
-    c.skip_blanks-end.ensures.same c.skip_blanks-end.ensures.from c.skip_blanks-end.ensures.within
+    c.skip_blanks-end.ensures.tokens c.skip_blanks-end.ensures.from c.skip_blanks-end.ensures.within
 
 pub returns-else-is_number : goal.returns-else-is_number
 returns-else-is_number c =
     number_missing c.args.line.now c.args.at c.skip_blanks-first.result _ c.digits_at-digits.result
-    c.skip_blanks-first.ensures.same (omega arith)
+    c.skip_blanks-first.ensures.tokens (omega arith)
     (c.skip_blanks-first.ensures.stops (omega arith))
     (ap (λ n. c.skip_blanks-first.result + n) c.from.ensures) c.digits_at-digits.ensures
     (λ w. both_ways _ c.if-is_number.false (c.is_number.ensures.1 w))

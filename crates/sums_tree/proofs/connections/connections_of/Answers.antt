@@ -8,5 +8,5 @@ pub returns : goal.returns
 returns c =
     connections_are c.args.instance.now c.in_ok-parts.parts.items c.sort_by_groups.new.parts.items
     c.in_ok-sums.sums.items c.sort_by_weight.new.connections.items c.in_ok-parts.ensures
-    c.sort_by_groups.ensures.same (c.in_ok-sums.ensures ∙ ap added_along c.deref.ensures.value)
-    c.sort_by_weight.ensures.same c.sort_by_weight.ensures.sorted
+    c.sort_by_groups.ensures.permutes (c.in_ok-sums.ensures ∙ ap added_along c.deref.ensures.value)
+    c.sort_by_weight.ensures.permutes c.sort_by_weight.ensures.sorted

@@ -29,7 +29,7 @@ returns-in-Sat-clause-next g c =
       solution = c.judge.ensures.solution;
       below =
           λ before k e. cost_cheaper p b before k c.judge.result.cost bits c.requires.over e sat.1
-          c.judge.ensures.same;
+          c.judge.ensures.cost;
       answers = answers;
     }
 

@@ -51,7 +51,7 @@ pub invariant_of-self : goal.invariant_of-self
 invariant_of-self c =
     let s = c.self.inside in
     let at = (goal.at.invariant_of-self c).In-Some in
-    rw c.in_err-extend.ensures.same (elim c.in_err-extend.ensures.err [
+    rw c.in_err-extend.ensures.lits_stay (elim c.in_err-extend.ensures.err [
       | inl e ↦ rw e c.self.invariant
       | inr e ↦ rw e (near_more at)
     ])
@@ -67,7 +67,7 @@ returns-in_err-extend-clause-err c =
       | inr e ↦ ap (λ ss. recent_in s.lits.items ss s.given s.gap) e ∙ recent_same at
     ] in
     on_err c.from_residual.result
-    (ap (λ ls. recent_in ls c.extend.new.spans.items s.given s.gap) c.in_err-extend.ensures.same
+    (ap (λ ls. recent_in ls c.extend.new.spans.items s.given s.gap) c.in_err-extend.ensures.lits_stay
     ∙ spans ∙ ap (λ (m : Parts). m.recent) c.self.view_is)
 
 pub invariant_of-self-2 : goal.invariant_of-self-2

@@ -14,5 +14,5 @@ returns c =
     on_ok_weaker c.raise_one.result (λ step p.
     page_raised (λ (v : Vec ℕ Global). v.items) pages c.args.place c.index_mut.result.now
     c.raise_one.new.page reached.within c.index_mut.ensures.value step p
-    ∙ ap (λ n. n + one_if (p == c.args.place)) (reached.same p
+    ∙ ap (λ n. n + one_if (p == c.args.place)) (reached.counts p
     ∙ ap (λ rows. count_in rows p) c.self.view_is)) c.raise_one.ensures
