@@ -4,7 +4,7 @@ use eliminate::elimination::Stack;
 
 /// The clauses given, and the way back to them from what elimination left.
 #[derive(Drop)]
-pub(crate) struct Problem {
+pub(crate) struct Input {
     /// The variables that were eliminated, each with the clauses that its value has to satisfy.
     pub(crate) stack: Stack,
     /// By variable, that of 1 first: whether clauses that come later may have it, so that it is not
