@@ -62,7 +62,8 @@ pub(crate) fn give(
     keep_clause(input, number, lits)
 }
 
-/// Says that variables are from 1, as those of all literals.
+/// Says that variables are from 1, as those of all literals. A proof learns this of a literal that
+/// the code asks, and of no others, so each is asked.
 pub(crate) fn are_named(lits: &[Lit]) -> bool
     ensures { All (λ l. 0 < l.variable) lits.now }
 {

@@ -29,7 +29,6 @@ pub(crate) fn learn<S: Sink>(
         (Writes input.now.given (S.lines sink.old) (S.lines sink.new) 1) }
     ensures err { OnErr result (S.lines sink.new ≡ S.lines sink.old) }
 {
-    let _ = input;
     let learned = search
         .analyzer
         .analyze(&search.engine, &search.store, conflict)?;
