@@ -15,7 +15,7 @@ use Rattle.lrat_log.specs.Steps.{AddsNoEmptyClause, adds_empty_clause}
 use Rattle.lrat_log.specs.Steps.{IsLearnedOrShort, given_of}
 use Rattle.lrat_log.proofs.Laws.{accepted_log}
 use Rattle.cdcl.specs.declared.search.Search.{Search}
-use Rattle.cdcl.specs.declared.problem.Problem.{Problem}
+use Rattle.cdcl.specs.declared.input.Input.{Input}
 use Rattle.cdcl.specs.declared.outcome.Outcome.{Outcome}
 use Rattle.cdcl.specs.declared.outcome.Outcome.TheVariants.{Sat, Unsat, Limit}
 use Rattle.cdcl.specs.Solving.{SolverState, given_to, lines_since, is_refuted}
@@ -23,7 +23,7 @@ use Rattle.cdcl.specs.Solving.{IsPlainlyRefuted, IsLiveRefuted}
 use Rattle.cdcl_order.specs.Budgets.{BudgetState}
 use Rattle.cdcl.specs.declared.searching.End.{End}
 use Rattle.cdcl.specs.declared.searching.End.TheVariants.{Satisfied}
-use Rattle.cdcl.specs.Running.{Writes, IsProblem, Runs, IsEnded, StaysOpen, IsSolver, IsSatisfied}
+use Rattle.cdcl.specs.Running.{Writes, IsInput, Runs, IsEnded, StaysOpen, IsSolver, IsSatisfied}
 use Rattle.cdcl.specs.Running.{IsEndOf, IsAnswer}
 use Rattle.cdcl.proofs.MoreMoves.{plain_open}
 
@@ -44,26 +44,26 @@ module _ (given : Given) (before after : List LogLine) (n : ℕ)
   written_short = subst (All IsLearnedOrShort) (sym since) w.short
 
 -- the clauses given, as they are seen
-abbrev pub seen_given : Problem → Given
+abbrev pub seen_given : Input → Given
 seen_given p =
     given_of (map (λ g. g.1) (take p.first p.given)) ++ drop p.first p.given
 
-pub given_seen : (p : Problem) → IsProblem p → seen_given p ≡ p.given
+pub given_seen : (p : Input) → IsInput p → seen_given p ≡ p.given
 given_seen p i =
     ap (λ x. x ++ drop p.first p.given) i.numbered
     ∙ take-append-drop p.first p.given
 
-pub log_now : (p : Problem) (ls : List LogLine) → IsProblem p
+pub log_now : (p : Input) (ls : List LogLine) → IsInput p
     → StaysLogOver (length (p.frozen).items) p.given ls → IsLogOver (seen_given p) ls
 log_now p ls i stays =
     subst (λ g. IsLogOver g ls) (append-nil p.given ∙ sym (given_seen p i))
     (stays [] (All-nil (λ g. greatest_variable g.1 ≤ length (p.frozen).items)))
 
-pub ended_log : (p : Problem) (ls : List LogLine) → IsProblem p → IsEnded p ls
+pub ended_log : (p : Input) (ls : List LogLine) → IsInput p → IsEnded p ls
     → IsAcceptedLog (seen_given p) ls
 ended_log p ls i e = accepted_log (seen_given p) ls (log_now p ls i e.stays) e.refuted
 
-pub not_plain : (s : Search) (p : Problem) (ls : List LogLine) (A : List Literal) → IsProblem p
+pub not_plain : (s : Search) (p : Input) (ls : List LogLine) (A : List Literal) → IsInput p
     → Runs s p ls → IsQuiet (s.store).slots A
     → IsRefutedByHints (map (λ g. g.1) (take p.first p.given))
     ⊎ Contains (map (λ g. g.1) (seen_given p)) []
@@ -79,36 +79,36 @@ not_refuted [] h = refl
 not_refuted (l ∷ ls) h =
     or_from (adds_empty_clause l) (list_any adds_empty_clause ls) h.0 (not_refuted ls h.1)
 
-pub solver_runs : (s : Search) (p : Problem) (ls : List LogLine) (refuted failed : Bool)
-    → IsProblem p → Runs s p ls → refuted ≡ false → IsSolver s p ls refuted failed
+pub solver_runs : (s : Search) (p : Input) (ls : List LogLine) (refuted failed : Bool)
+    → IsInput p → Runs s p ls → refuted ≡ false → IsSolver s p ls refuted failed
 solver_runs s p ls refuted failed i r e =
     let log = r.running.recorded.log in
     record {
-      problem = i;
+      input = i;
       lines = log.stays;
       refuted_is = e ∙ sym (not_refuted ls log.unrefuted);
       running = λ f u. r;
     }
 
-pub solver_fails : (s : Search) (p : Problem) (ls : List LogLine) (refuted : Bool) → IsProblem p
+pub solver_fails : (s : Search) (p : Input) (ls : List LogLine) (refuted : Bool) → IsInput p
     → StaysOpen p ls → refuted ≡ false → IsSolver s p ls refuted true
 solver_fails s p ls refuted i o e =
     record {
-      problem = i;
+      input = i;
       lines = o.stays;
       refuted_is = e ∙ sym (not_refuted ls o.unrefuted);
       running = λ f u. absurd (true≢false f);
     }
 
 -- what an end or an answer says
-pub answered_log : (s : Search) (p : Problem) (ls : List LogLine) (b : BudgetState) (o : Outcome)
-    → IsProblem p → IsAnswer s p ls b o → IsLogOver (seen_given p) ls
+pub answered_log : (s : Search) (p : Input) (ls : List LogLine) (b : BudgetState) (o : Outcome)
+    → IsInput p → IsAnswer s p ls b o → IsLogOver (seen_given p) ls
 answered_log s p ls b (Sat bits) i a = log_now p ls i a.runs.running.recorded.log.stays
 answered_log s p ls b Unsat i a = log_now p ls i a.stays
 answered_log s p ls b Limit i a = log_now p ls i a.runs.running.recorded.log.stays
 
-pub plain_unsat : (s : Search) (p : Problem) (ls : List LogLine) (b : BudgetState) (o : Outcome)
-    → IsProblem p → IsAnswer s p ls b o
+pub plain_unsat : (s : Search) (p : Input) (ls : List LogLine) (b : BudgetState) (o : Outcome)
+    → IsInput p → IsAnswer s p ls b o
     → IsRefutedByHints (map (λ g. g.1) (take p.first p.given))
     ⊎ Contains (map (λ g. g.1) (seen_given p)) []
     → o ≡ Unsat
@@ -116,12 +116,12 @@ plain_unsat s p ls b (Sat bits) i a h = absurd (not_plain s p ls a.quiet.0 i a.r
 plain_unsat s p ls b Unsat i a h = refl
 plain_unsat s p ls b Limit i a h = absurd (not_plain s p ls a.quiet.0 i a.runs a.quiet.1 h)
 
-pub is_satisfied : (s : Search) (p : Problem) (ls : List LogLine) (b : BudgetState) (end : End)
+pub is_satisfied : (s : Search) (p : Input) (ls : List LogLine) (b : BudgetState) (end : End)
     → end ≡ Satisfied → IsEndOf s p ls b end → IsSatisfied s p ls b
 is_satisfied s p ls b end e h = subst (IsEndOf s p ls b) e h
 
--- What a caller sees: the view of a solver over this problem.
-abbrev pub view_of : {S : Type 0} → Problem → S → Bool → SolverState S
+-- What a caller sees: the view of a solver over this input.
+abbrev pub view_of : {S : Type 0} → Input → S → Bool → SolverState S
 view_of p sink failed = record {
   formula = record {
     variables = length (p.frozen).items;
@@ -133,8 +133,8 @@ view_of p sink failed = record {
   failed = failed;
 }
 
-module _ {S : Type 0} (lines : S → List LogLine) {p : Problem} {sink : S} {failed : Bool}
-    {old : SolverState S} (i : IsProblem p) (same : view_of p sink failed ≡ old) where
+module _ {S : Type 0} (lines : S → List LogLine) {p : Input} {sink : S} {failed : Bool}
+    {old : SolverState S} (i : IsInput p) (same : view_of p sink failed ≡ old) where
   pub seen_log : StaysLogOver (length (p.frozen).items) p.given (lines sink)
       → IsLogOver (given_to old) (lines old.sink)
   seen_log stays =

@@ -23,7 +23,7 @@ use Rattle.propagate.proofs.Laws.{fits_local}
 use Rattle.analyze.specs.Learning.{IsQuiet}
 use Rattle.cdcl_order.specs.Policies.{PolicyState}
 use Rattle.lrat_log.specs.Log.{LogLine, IsLine, IsPlain, is_delete, name_of, number_in}
-use Rattle.cdcl.specs.declared.problem.Problem.{Problem}
+use Rattle.cdcl.specs.declared.input.Input.{Input}
 use Rattle.cdcl.specs.declared.search.Search.{Search}
 use Rattle.cdcl.specs.Invariant.{name_at, NotesUnits, zero_of}
 use Rattle.cdcl.specs.Hinting.{plain_hints}
@@ -99,7 +99,7 @@ reasons_stay s chosen first doomed m i d lt =
 -- Deletions.
 
 -- the marked clauses are detached
-pub deleting_starts : (s : Search) (f : EngineState) (p : Problem) (ls : List LogLine)
+pub deleting_starts : (s : Search) (f : EngineState) (p : Input) (ls : List LogLine)
     (chosen : List ℕ) (first : ℕ) (doomed : List Bool) → Runs s p ls
     → AreMarked s chosen first doomed
     → ((r : ℕ) → is_attached f r ≡ (is_attached s.engine r && not (is_doomed doomed r)))
@@ -134,7 +134,7 @@ deleting_starts s f p ls chosen first doomed run m detached same fits =
     }
 
 -- one of them leaves
-pub deleting_more : (s : Search) (k : PolicyState) (p : Problem) (ls : List LogLine) (l : LogLine)
+pub deleting_more : (s : Search) (k : PolicyState) (p : Input) (ls : List LogLine) (l : LogLine)
     (doomed : List Bool) (q : ℕ) (c : List Literal) → IsDeleting s p ls doomed
     → clause_at (s.store).slots q ≡ Some c → is_doomed doomed q ≡ true → is_delete l.kind ≡ true
     → l.hints ≡ plain_hints (name_at (s.names).items q ∷ [])
@@ -178,7 +178,7 @@ deleting_more s k p ls l doomed q c d live on deletes plain same =
     }
 
 -- what is marked has left
-pub deleting_ends : (s : Search) (p : Problem) (ls : List LogLine) (doomed : List Bool)
+pub deleting_ends : (s : Search) (p : Input) (ls : List LogLine) (doomed : List Bool)
     → IsDeleting s p ls doomed → ((r : ℕ) → is_doomed doomed r ≡ true → IsLive (s.store).slots r
     → ⊥) → Runs s p ls
 deleting_ends s p ls doomed d gone =

@@ -14,7 +14,7 @@ use Rattle.lrat_log.specs.declared.lines.Hint.{Hint}
 use Rattle.lrat_log.specs.declared.lines.Kind.TheVariants.{Empty}
 use Rattle.lrat_log.specs.Log.{LogLine}
 use Rattle.cdcl.specs.declared.search.Search.{Search}
-use Rattle.cdcl.specs.declared.problem.Problem.{Problem}
+use Rattle.cdcl.specs.declared.input.Input.{Input}
 use Rattle.cdcl.specs.Hinting.{AreHintsOf, AreNoted}
 use Rattle.cdcl.specs.Invariant.{HasUnit, zero_of}
 use Rattle.cdcl.specs.Running.{Runs, IsEnded}
@@ -25,7 +25,7 @@ use Rattle.cdcl.proofs.MoreMoves.{answer_unsat}
 use Rattle.cdcl.proofs.UnitLines.{flat_zero}
 
 -- all of level 0 is noted
-pub all_noted : (s : Search) (p : Problem) (ls : List LogLine) (rs : List ℕ) → Runs s p ls
+pub all_noted : (s : Search) (p : Input) (ls : List LogLine) (rs : List ℕ) → Runs s p ls
     → length (zero_of (s.engine).trail) ≤ s.noted
     → AreNoted (s.store).slots (s.units).items (s.engine).trail rs
 all_noted s p ls rs r full q m c at x x_in f =
@@ -34,7 +34,7 @@ all_noted s p ls rs r full q m c at x x_in f =
     (subst (AllByRecursion (HasUnit (s.store).slots (s.units).items)) (take_all s.noted Z full)
     r.running.units.have) f
 
-pub adds_empty : (s : Search) (p : Problem) (ls : List LogLine) (hints : List Hint) (r : ℕ)
+pub adds_empty : (s : Search) (p : Input) (ls : List LogLine) (hints : List Hint) (r : ℕ)
     → Runs s p ls → depth_of (s.engine).trail ≡ 0 → IsFalseClause (s.store).slots s.engine r
     → AreHintsOf (s.store).slots (s.names).items (s.engine).trail (r ∷ []) hints
     → AddsByHints p.given ls (record { kind = Empty; clause = []; hints = hints })
@@ -56,7 +56,7 @@ adds_empty s p ls hints r run flat wrong h =
     ∙ all_at (λ y. contains_literal (negation y) (literals_of T) ≡ true) wrong.0 k
     wrong.2 m)))
 
-pub is_ended : (s : Search) (p : Problem) (ls : List LogLine) (hints : List Hint) → Runs s p ls
+pub is_ended : (s : Search) (p : Input) (ls : List LogLine) (hints : List Hint) → Runs s p ls
     → AddsByHints p.given ls (record { kind = Empty; clause = []; hints = hints })
     → IsEnded p (ls ++ record { kind = Empty; clause = []; hints = hints } ∷ [])
 is_ended s p ls hints run adds =

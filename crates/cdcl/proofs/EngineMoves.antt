@@ -7,7 +7,7 @@ use Rattle.propagate.specs.Trail.{Assigned, literals_of}
 use Rattle.propagate.specs.Watches.{EngineState}
 use Rattle.lrat_log.specs.Log.{LogLine}
 use Rattle.cdcl_order.specs.Policies.{PolicyState}
-use Rattle.cdcl.specs.declared.problem.Problem.{Problem}
+use Rattle.cdcl.specs.declared.input.Input.{Input}
 use Rattle.cdcl.specs.declared.search.Search.{Search}
 use Rattle.cdcl.specs.Invariant.{Searches, IsRunning}
 use Rattle.cdcl.specs.Running.{tables_of, HasRoom, IsReady, Runs}
@@ -33,7 +33,7 @@ pub ready_moved : (s : Search) (e : EngineState) (o : PolicyState) → IsReady s
 ready_moved s e o r same policy searches =
     record { searches = searches; room = room_moved s e o r.room same policy; named = r.named }
 
-pub runs_moved : (s : Search) (e : EngineState) (o : PolicyState) (p : Problem) (ls : List LogLine)
+pub runs_moved : (s : Search) (e : EngineState) (o : PolicyState) (p : Input) (ls : List LogLine)
     → Runs s p ls → e.variables ≡ (s.engine).variables → o.variables ≡ (s.policy).variables
     → IsRunning e (s.store).slots p.stack (tables_of s) (p.frozen).items p.first p.given ls
     → Runs (moved_to s e o) p ls
@@ -46,7 +46,7 @@ runs_moved s e o p ls r same policy running =
     }
 
 -- with another policy over as many variables
-pub runs_chosen : (s : Search) (k : PolicyState) (p : Problem) (ls : List LogLine)
+pub runs_chosen : (s : Search) (k : PolicyState) (p : Input) (ls : List LogLine)
     → k.variables ≡ (s.policy).variables → Runs s p ls → Runs (record s { policy = k }) p ls
 runs_chosen s k p ls same r = runs_moved s s.engine k p ls r refl same r.running
 

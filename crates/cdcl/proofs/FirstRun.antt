@@ -27,10 +27,10 @@ use Rattle.lrat_log.specs.Steps.{StaysLogOver, IsBaseOf, log_live, given_of, Add
 use Rattle.lrat_log.specs.Steps.{adds_empty_clause, added_count}
 use Rattle.eliminate.specs.Elimination.{StackState, HoldsWhatIsLive, ExtendsBack, IsFree, extended}
 use Rattle.cdcl.specs.declared.search.Search.{Search}
-use Rattle.cdcl.specs.declared.problem.Problem.{Problem}
+use Rattle.cdcl.specs.declared.input.Input.{Input}
 use Rattle.cdcl.specs.Solving.{is_refuted}
 use Rattle.cdcl.specs.Invariant.{name_at, is_kept_name, NamesStore, NotesUnits, zero_of, IsRunning}
-use Rattle.cdcl.specs.Running.{Runs, IsProblem, tables_of}
+use Rattle.cdcl.specs.Running.{Runs, IsInput, tables_of}
 use Rattle.eliminate.proofs.Laws.{live_all}
 use Rattle.cdcl.specs.Starts.{AreRising, IsLiveWithin, IsStarted}
 use Rattle.cdcl.proofs.Places.{stands, live_within}
@@ -273,7 +273,7 @@ empty_refutes cs w = (
   },
 )
 
-pub first_runs : (s : Search) (p : Problem) (ls : List LogLine) (cs : List (List Literal))
+pub first_runs : (s : Search) (p : Input) (ls : List LogLine) (cs : List (List Literal))
     (slots : Slots) (additions : ℕ) (n : StackState) → p.stack ≡ record n { names = [] }
     → IsStarted slots n additions s → IsLeft cs slots n ls
     → p.given ≡ given_of cs → p.first ≡ length p.given
@@ -370,18 +370,18 @@ left_from cs ds slots stack ls e live left = record {
   left = left;
 }
 
-pub first_clauses : (p : Problem) (cs : List (List Literal)) → p.given ≡ given_of cs
+pub first_clauses : (p : Input) (cs : List (List Literal)) → p.given ≡ given_of cs
     → p.first ≡ length p.given → map (λ g. g.1) (take p.first p.given) ≡ cs
 first_clauses p cs given firsts =
     ap (λ x. map (λ g. g.1) x) (take_all p.first p.given (omega arith) ∙ given)
     ∙ clauses_given cs
 
-pub new_problem : (f : Cnf) (p : Problem) (cs : List (List Literal)) → IsFormula f → cs ≡ f.clauses
+pub new_input : (f : Cnf) (p : Input) (cs : List (List Literal)) → IsFormula f → cs ≡ f.clauses
     → length (p.frozen).items ≡ f.variables → p.given ≡ given_of cs
     → p.first ≡ length p.given
     → length (p.frozen).items ≤ (p.stack).variables
-    → (p.stack).variables ≤ length (p.frozen).items + 2 ^ 20 → IsProblem p
-new_problem f p cs h same wide given firsts low high =
+    → (p.stack).variables ≤ length (p.frozen).items + 2 ^ 20 → IsInput p
+new_input f p cs h same wide given firsts low high =
     let few : length (p.frozen).items < 2 ^ 26 = subst (λ x. x < 2 ^ 26) (sym wide) h.few in
     let bound : (p.stack).variables < 2 ^ 27 = omega arith in
     record {

@@ -16,9 +16,9 @@ use Rattle.lrat_log.specs.declared.lines.Name.TheVariants.{Formula}
 use Rattle.lrat_log.specs.Log.{LogLine, number_in}
 use Rattle.lrat_log.specs.Steps.{IsBaseOf, StaysLogOver, given_of}
 use Rattle.cdcl.specs.declared.search.Search.{Search}
-use Rattle.cdcl.specs.declared.problem.Problem.{Problem}
+use Rattle.cdcl.specs.declared.input.Input.{Input}
 use Rattle.cdcl.specs.Solving.{IsFreshName, IsFrozen}
-use Rattle.cdcl.specs.Running.{IsProblem, GivesOne, Takes, Runs, IsSolver}
+use Rattle.cdcl.specs.Running.{IsInput, GivesOne, Takes, Runs, IsSolver}
 use Rattle.cdcl.proofs.MoreGiven.{log_given, based_given}
 
 pub frozen_small : (frozen : List Bool) (c : List Literal) → All (IsFrozen frozen) c
@@ -41,9 +41,9 @@ named_more c i k lt at one all =
     (All-push (λ (l : Literal). 0 < l.variable) (take i c) (get_or c i k) all
     (subst (λ (l : Literal). 0 < l.variable) at one))
 
-pub same_problem : (p q : Problem) → IsProblem p → q.given ≡ p.given
-    → q.stack ≡ p.stack → q.frozen ≡ p.frozen → q.first ≡ p.first → IsProblem q
-same_problem p q i given stack frozen first = record {
+pub same_input : (p q : Input) → IsInput p → q.given ≡ p.given
+    → q.stack ≡ p.stack → q.frozen ≡ p.frozen → q.first ≡ p.first → IsInput q
+same_input p q i given stack frozen first = record {
   numbered = subst (λ g. given_of (map (λ x. x.1) (take q.first g)) ≡ take q.first g) (sym given)
       (subst (λ k. given_of (map (λ x. x.1) (take k p.given)) ≡ take k p.given)
       (sym first) i.numbered);
@@ -61,11 +61,11 @@ same_problem p q i given stack frozen first = record {
       (sym given) i.given_small);
 }
 
-pub problem_gives : (p q : Problem) (n : Name) (c : List Literal) → IsProblem p → GivesOne p q n c
+pub input_gives : (p q : Input) (n : Name) (c : List Literal) → IsInput p → GivesOne p q n c
     → IsFreshName p.given n → has_repeat c ≡ false → has_opposites c ≡ false
     → All (λ l. 0 < l.variable) c
-    → greatest_variable c ≤ length (p.frozen).items → IsProblem q
-problem_gives p q n c i gives fresh once apart ones small =
+    → greatest_variable c ≤ length (p.frozen).items → IsInput q
+input_gives p q n c i gives fresh once apart ones small =
     let front : take p.first (p.given ++ (n, c) ∷ []) ≡ take p.first p.given =
     take-append-le p.first p.given ((n, c) ∷ []) i.first_within in
     let named : p.given ++ (Formula fresh.0, c) ∷ [] ≡ p.given ++ (n, c) ∷ [] =
@@ -100,7 +100,7 @@ problem_gives p q n c i gives fresh once apart ones small =
           })));
     }
 
-pub lines_given : (p q : Problem) (n : Name) (c : List Literal) (ls : List LogLine)
+pub lines_given : (p q : Input) (n : Name) (c : List Literal) (ls : List LogLine)
     → GivesOne p q n c → greatest_variable c ≤ length (p.frozen).items
     → StaysLogOver (length (p.frozen).items) p.given ls
     → StaysLogOver (length (q.frozen).items) q.given ls
@@ -109,7 +109,7 @@ lines_given p q n c ls gives small stays =
     (subst (λ g. StaysLogOver (length (p.frozen).items) g ls) (sym gives.given)
     (log_given (length (p.frozen).items) p.given n c ls small stays))
 
-pub lines_same : (p q : Problem) (ls : List LogLine) → q.given ≡ p.given
+pub lines_same : (p q : Input) (ls : List LogLine) → q.given ≡ p.given
     → q.frozen ≡ p.frozen → StaysLogOver (length (p.frozen).items) p.given ls
     → StaysLogOver (length (q.frozen).items) q.given ls
 lines_same p q ls given frozen stays =
@@ -118,21 +118,21 @@ lines_same p q ls given frozen stays =
 
 -- What the solver is then.
 
-abbrev pub formula_of : Problem → Cnf
+abbrev pub formula_of : Input → Cnf
 formula_of p =
     record {
       variables = length (p.frozen).items;
       clauses = map (λ g. g.1) (take p.first p.given);
     }
 
-pub formula_same : (p q : Problem) → q.given ≡ p.given → q.frozen ≡ p.frozen
+pub formula_same : (p q : Input) → q.given ≡ p.given → q.frozen ≡ p.frozen
     → q.first ≡ p.first → formula_of q ≡ formula_of p
 formula_same p q given frozen first =
     let wide : length (q.frozen).items ≡ length (p.frozen).items =
     ap (λ f. length f.items) frozen in
     λ i. record { variables = wide i; clauses = map (λ g. g.1) (take (first i) (given i)) }
 
-pub gives_solver : (s t : Search) (p q : Problem) (n : Name) (c : List Literal) (ls : List LogLine)
+pub gives_solver : (s t : Search) (p q : Input) (n : Name) (c : List Literal) (ls : List LogLine)
     (refuted failed : Bool) → IsSolver s p ls refuted failed → failed ≡ false → GivesOne p q n c
     → IsFreshName p.given n → IsId (number_in n)
     → All (IsFrozen (p.frozen).items) c → has_repeat c ≡ false → has_opposites c ≡ false
@@ -141,7 +141,7 @@ pub gives_solver : (s t : Search) (p q : Problem) (n : Name) (c : List Literal) 
 gives_solver s t p q n c ls refuted failed i works gives fresh id fixed once apart ones takes =
     let small = frozen_small (p.frozen).items c fixed ones in
     record {
-      problem = problem_gives p q n c i.problem gives fresh once apart ones small;
+      input = input_gives p q n c i.input gives fresh once apart ones small;
       lines = lines_given p q n c ls gives small i.lines;
       refuted_is = i.refuted_is;
       running =
@@ -151,21 +151,21 @@ gives_solver s t p q n c ls refuted failed i works gives fresh id fixed once apa
             id = id;
             from_one = ones;
             small = small;
-          }) i.problem.first_within (i.running f u);
+          }) i.input.first_within (i.running f u);
     }
 
-pub fails_solver : (s t : Search) (p q : Problem) (ls : List LogLine) (refuted failed : Bool)
+pub fails_solver : (s t : Search) (p q : Input) (ls : List LogLine) (refuted failed : Bool)
     → IsSolver s p ls refuted failed → q.given ≡ p.given → q.stack ≡ p.stack
     → q.frozen ≡ p.frozen → q.first ≡ p.first → IsSolver t q ls refuted true
 fails_solver s t p q ls refuted failed i given stack frozen first = record {
-  problem = same_problem p q i.problem given stack frozen first;
+  input = same_input p q i.input given stack frozen first;
   lines = lines_same p q ls given frozen i.lines;
   refuted_is = i.refuted_is;
   running = λ f u. absurd (true≢false f);
 }
 
 -- a clause over frozen variables lies within the engine's
-pub frozen_within : (s : Search) (p : Problem) (ls : List LogLine) (c : List Literal) → IsProblem p
+pub frozen_within : (s : Search) (p : Input) (ls : List LogLine) (c : List Literal) → IsInput p
     → Runs s p ls → All (IsFrozen (p.frozen).items) c → All (λ l. 0 < l.variable) c
     → IsWithin (s.engine).variables c
 frozen_within s p ls c i r fixed ones =

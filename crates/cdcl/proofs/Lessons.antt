@@ -22,7 +22,7 @@ use Rattle.lrat_log.specs.declared.lines.Name.TheVariants.{Added}
 use Rattle.lrat_log.specs.declared.lines.Kind.TheVariants.{Learned}
 use Rattle.lrat_log.specs.Log.{LogLine, Given}
 use Rattle.cdcl.specs.declared.search.Search.{Search}
-use Rattle.cdcl.specs.declared.problem.Problem.{Problem}
+use Rattle.cdcl.specs.declared.input.Input.{Input}
 use Rattle.cdcl.specs.Invariant.{HasUnit, NotesUnits, NamesStore, Searches, IsRunning, zero_of}
 use Rattle.cdcl.specs.Hinting.{AreHintsOf, AreNoted}
 use Rattle.cdcl.specs.Running.{HasRoom, Places, Runs, tables_of}
@@ -136,12 +136,12 @@ adds_lesson slots T names given ls c back variables rs hints reasons w deep refu
     (all_weaker _ _ rs (λ r f d at k m level z. f d at k m z) h.serves)))
 
 -- what was learned, in the words in which the line is written
-pub record IsLesson (s : Search) (p : Problem) (ls : List LogLine) (c : List Literal) (back : ℕ)
+pub record IsLesson (s : Search) (p : Input) (ls : List LogLine) (c : List Literal) (back : ℕ)
     (hints : List Hint) : Type 0 where
   pub asserting : IsAsserting (s.engine).trail c back
   pub adds : AddsByHints p.given ls (record { kind = Learned; clause = c; hints = hints })
 
-pub is_lesson : (s : Search) (p : Problem) (ls : List LogLine) (learned c : List Literal) (back : ℕ)
+pub is_lesson : (s : Search) (p : Input) (ls : List LogLine) (learned c : List Literal) (back : ℕ)
     (found rs : List ℕ) (names : List Name) (hints : List Hint)
     → Runs s p ls → 0 < depth_of (s.engine).trail
     → IsAsserting (s.engine).trail learned back
@@ -167,7 +167,7 @@ is_lesson s p ls learned c back found rs names hints r deep asserting refuted hi
     }
 
 -- What the search is once the line is written.
-pub runs_learned : (m n : Search) (p : Problem) (ls : List LogLine) (l : LogLine)
+pub runs_learned : (m n : Search) (p : Input) (ls : List LogLine) (l : LogLine)
     (T : List Assigned) (back : ℕ)
     → IsRunning m.engine (m.store).slots p.stack (tables_of m) (p.frozen).items p.first
     p.given ls

@@ -17,12 +17,12 @@ use Rattle.analyze.specs.Learning.{IsQuiet}
 use Rattle.lrat_log.specs.Log.{LogLine}
 use Rattle.cdcl_order.specs.Orders.{positive}
 use Rattle.cdcl.specs.declared.search.Search.{Search}
-use Rattle.cdcl.specs.declared.problem.Problem.{Problem}
+use Rattle.cdcl.specs.declared.input.Input.{Input}
 use Rattle.cdcl.specs.Running.{Runs, Writes}
 use Rattle.cdcl.proofs.Places.{clause_cases, clause_kept}
 use Rattle.cdcl.proofs.Written.{writes_none, writes_join}
 
-pub record IsNoting (old now : Search) (p : Problem) (before ls : List LogLine) : Type 0 where
+pub record IsNoting (old now : Search) (p : Input) (before ls : List LogLine) : Type 0 where
   pub runs : Runs now p ls
   pub flat : depth_of (now.engine).trail ≡ 0
   pub trail : (now.engine).trail ≡ (old.engine).trail
@@ -34,7 +34,7 @@ pub record IsNoting (old now : Search) (p : Problem) (before ls : List LogLine) 
       → IsFalseClause (now.store).slots now.engine r
   pub writes : Writes p.given before ls 0
 
-pub noting_start : (s : Search) (p : Problem) (ls : List LogLine) → Runs s p ls
+pub noting_start : (s : Search) (p : Input) (ls : List LogLine) → Runs s p ls
     → depth_of (s.engine).trail ≡ 0 → IsNoting s s p ls ls
 noting_start s p ls r flat =
     record {
@@ -67,7 +67,7 @@ quiet_true slots A k apart m quiet r c at =
           )
     ]
 
-pub noting_more : (old now new : Search) (p : Problem) (before ls more : List LogLine)
+pub noting_more : (old now new : Search) (p : Input) (before ls more : List LogLine)
     → IsNoting old now p before ls → now.noted < length (now.engine).trail → Runs new p more
     → (new.engine).trail ≡ (now.engine).trail → (new.engine).variables ≡ (now.engine).variables
     → new.policy ≡ now.policy

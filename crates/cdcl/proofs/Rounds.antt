@@ -6,7 +6,7 @@ use Rattle.cnf.specs.Numbers.{one_if}
 use Rattle.cnf.proofs.Laws.{one_if_le}
 use Rattle.cdcl_order.specs.Budgets.{BudgetState, left_of}
 use Rattle.lrat_log.specs.Log.{LogLine, Given}
-use Rattle.cdcl.specs.declared.problem.Problem.{Problem}
+use Rattle.cdcl.specs.declared.input.Input.{Input}
 use Rattle.cdcl.specs.declared.search.Search.{Search}
 use Rattle.cdcl.specs.Running.{Runs, Writes, Pays}
 use Rattle.cdcl.specs.Moves.{rounds_left, GoesOn}
@@ -60,7 +60,7 @@ falls_first old new before after same less =
     (v + 1 - length (new.engine).trail) (v + 1 - length (old.engine).trail) less (omega arith))
 
 -- a unit was paid
-pub goes_learned : (old new : Search) (p : Problem) (ls : List LogLine) (before after : BudgetState)
+pub goes_learned : (old new : Search) (p : Input) (ls : List LogLine) (before after : BudgetState)
     → Runs new p ls → (new.engine).variables ≡ (old.engine).variables
     → after ≡ record before { learned = before.learned + 1 } → 0 < left_of before
     → GoesOn old new p ls before after
@@ -73,7 +73,7 @@ goes_learned old new p ls before after r same paid some = record {
 }
 
 -- it starts over
-pub goes_over : (old new : Search) (p : Problem) (ls : List LogLine) (budget : BudgetState)
+pub goes_over : (old new : Search) (p : Input) (ls : List LogLine) (budget : BudgetState)
     → Runs new p ls → (new.engine).variables ≡ (old.engine).variables
     → (old.policy).has_learned ≡ true → (new.policy).has_learned ≡ false
     → GoesOn old new p ls budget budget
@@ -85,7 +85,7 @@ goes_over old new p ls budget r same learned none = record {
 }
 
 -- one more literal is true
-pub goes_decided : (old new : Search) (p : Problem) (ls : List LogLine) (budget : BudgetState)
+pub goes_decided : (old new : Search) (p : Input) (ls : List LogLine) (budget : BudgetState)
     → Runs new p ls → (new.engine).variables ≡ (old.engine).variables
     → (new.policy).has_learned ≡ (old.policy).has_learned
     → length (new.engine).trail ≡ length (old.engine).trail + 1

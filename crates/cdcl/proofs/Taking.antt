@@ -9,13 +9,13 @@ use Rattle.lrat_log.specs.declared.lines.Name.{Name}
 use Rattle.lrat_log.specs.declared.lines.Name.TheVariants.{Formula}
 use Rattle.lrat_log.specs.Log.{LogLine, number_in}
 use Rattle.cdcl.specs.declared.search.Search.{Search}
-use Rattle.cdcl.specs.declared.problem.Problem.{Problem}
+use Rattle.cdcl.specs.declared.input.Input.{Input}
 use Rattle.cdcl.specs.Invariant.{IsRunning}
 use Rattle.cdcl.specs.Running.{Runs, Places, IsGivable, GivesOne, tables_of}
 use Rattle.cdcl.proofs.MoreMoves.{run_given, with_given}
 use Rattle.cdcl.proofs.Placing.{room_placed, running_same, tables_same}
 
-pub taken : (m n : Search) (p q : Problem) (name : Name) (c : List Literal) (ls : List LogLine)
+pub taken : (m n : Search) (p q : Input) (name : Name) (c : List Literal) (ls : List LogLine)
     → Runs m p ls → depth_of (m.engine).trail ≡ 0 → IsGivable p name c → GivesOne p q name c
     → p.first ≤ length p.given
     → Places m n name c → n.additions ≡ m.additions → Runs n q ls

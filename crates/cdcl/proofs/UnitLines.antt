@@ -27,7 +27,7 @@ use Rattle.cdcl.specs.Hinting.{AreHintsOf, AreNoted}
 use Rattle.cdcl.specs.Invariant.{HasUnit, NotesUnits, NamesStore, zero_of}
 use Rattle.lrat_log.specs.declared.lines.Name.TheVariants.{Added}
 use Rattle.cdcl.specs.declared.search.Search.{Search}
-use Rattle.cdcl.specs.declared.problem.Problem.{Problem}
+use Rattle.cdcl.specs.declared.input.Input.{Input}
 use Rattle.cdcl.specs.Invariant.{IsRunning}
 use Rattle.cdcl.specs.Running.{HasRoom, Places, Runs, tables_of}
 use Rattle.cdcl.proofs.LogLines.{AddsByHints}
@@ -187,7 +187,7 @@ pub record NotesOne (n u : Search) (v r : ℕ) : Type 0 where
   pub policy : u.policy ≡ n.policy
   pub analyzer : u.analyzer ≡ n.analyzer
 
-pub runs_noted : (m n u : Search) (p : Problem) (ls : List LogLine) (hints : List Hint)
+pub runs_noted : (m n u : Search) (p : Input) (ls : List LogLine) (hints : List Hint)
     (k : Literal) (v r : ℕ) → IsRunning m.engine (m.store).slots p.stack (tables_of m)
     (p.frozen).items p.first p.given ls → HasRoom m
     → All (λ x. x ≤ m.additions + 1) (m.stamps).items

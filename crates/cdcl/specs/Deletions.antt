@@ -9,7 +9,7 @@ use Rattle.propagate.specs.Doomed.{is_doomed}
 use Rattle.propagate.specs.Fits.{Fits}
 use Rattle.analyze.specs.Learning.{IsQuiet}
 use Rattle.lrat_log.specs.Log.{LogLine}
-use Rattle.cdcl.specs.declared.problem.Problem.{Problem}
+use Rattle.cdcl.specs.declared.input.Input.{Input}
 use Rattle.cdcl.specs.declared.search.Search.{Search}
 use Rattle.cdcl.specs.Invariant.{name_at, is_kept_name, zero_of, NotesUnits, IsRecorded}
 use Rattle.cdcl.specs.Running.{tables_of, HasRoom}
@@ -25,7 +25,7 @@ pub record AreMarked (s : Search) (chosen : List ℕ) (first : ℕ)
       → (i : ℕ) × (i < first) × (slice_index_or chosen i 0 ≡ r)
 
 -- marked clauses are detached and leave one by one; all else is as in a search that runs
-pub record IsDeleting (s : Search) (p : Problem) (ls : List LogLine)
+pub record IsDeleting (s : Search) (p : Input) (ls : List LogLine)
     (doomed : List Bool) : Type 0 where
   pub recorded : IsRecorded (s.store).slots p.stack (tables_of s) (p.frozen).items p.first
       p.given ls

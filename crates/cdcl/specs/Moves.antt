@@ -11,7 +11,7 @@ use Rattle.clauses.specs.Within.{Within}
 use Rattle.lrat_log.specs.declared.lines.Name.{Name}
 use Rattle.lrat_log.specs.declared.lines.Hint.{Hint}
 use Rattle.lrat_log.specs.Log.{LogLine}
-use Rattle.cdcl.specs.declared.problem.Problem.{Problem}
+use Rattle.cdcl.specs.declared.input.Input.{Input}
 use Rattle.cdcl.specs.declared.search.Search.{Search}
 use Rattle.cdcl.specs.Invariant.{name_at, is_kept_name, HasUnit, zero_of, IsRunning}
 use Rattle.cdcl_order.specs.Budgets.{BudgetState, left_of}
@@ -68,7 +68,7 @@ AreValues T bits = (i : ℕ) → i < length bits
 
 -- whatever clauses are given and lines are written: what is known of store, engine and tables stays
 abbrev pub KeepsState : Search → Search → Type 0
-KeepsState old new = (p : Problem) (ls : List LogLine)
+KeepsState old new = (p : Input) (ls : List LogLine)
     → IsRunning old.engine (old.store).slots p.stack (tables_of old) (p.frozen).items p.first
     p.given ls
     → IsRunning new.engine (new.store).slots p.stack (tables_of new) (p.frozen).items p.first
@@ -82,7 +82,7 @@ rounds_left s b =
     + ((s.engine).variables + 1 - length (s.engine).trail)
 
 -- after a round the search goes on, and fewer are left
-pub record GoesOn (old new : Search) (p : Problem) (ls : List LogLine)
+pub record GoesOn (old new : Search) (p : Input) (ls : List LogLine)
     (before after : BudgetState) : Type 0 where
   pub runs : Runs new p ls
   pub fewer : rounds_left new after < rounds_left old before

@@ -15,7 +15,7 @@ use Rattle.lrat_log.specs.declared.lines.Name.{Name}
 use Rattle.lrat_log.specs.Log.{LogLine, Given, number_in}
 use Rattle.lrat_log.specs.Steps.{StaysLogOver, AddsNoEmptyClause, IsBaseOf, given_of, learned_count}
 use Rattle.lrat_log.specs.Steps.{IsLearnedOrShort, LearnsNew, nothing_exempt}
-use Rattle.cdcl.specs.declared.problem.Problem.{Problem}
+use Rattle.cdcl.specs.declared.input.Input.{Input}
 use Rattle.cdcl.specs.declared.search.Search.{Search}
 use Rattle.cdcl.specs.declared.searching.End.{End}
 use Rattle.cdcl.specs.declared.searching.End.TheVariants.{Satisfied, Refuted, Spent}
@@ -50,7 +50,7 @@ pub record IsReady (s : Search) : Type 0 where
   pub named : length (s.names).items ≡ length (s.store).slots
 
 -- it goes on over the clauses given, with these lines written
-pub record Runs (s : Search) (p : Problem) (ls : List LogLine) : Type 0 where
+pub record Runs (s : Search) (p : Input) (ls : List LogLine) : Type 0 where
   pub running : IsRunning s.engine (s.store).slots p.stack (tables_of s) (p.frozen).items p.first
       p.given ls
   pub room : HasRoom s
@@ -59,7 +59,7 @@ pub record Runs (s : Search) (p : Problem) (ls : List LogLine) : Type 0 where
   pub few : s.additions < 2 ^ 61
 
 -- what is known of the clauses given
-pub record IsProblem (p : Problem) : Type 0 where
+pub record IsInput (p : Input) : Type 0 where
   -- the first of them are the formula, and all have numbers
   pub numbered : given_of (map (λ g. g.1) (take p.first p.given))
       ≡ take p.first p.given
@@ -73,7 +73,7 @@ pub record IsProblem (p : Problem) : Type 0 where
 -- Moves.
 
 abbrev pub KeepsRunning : Search → Search → Type 0
-KeepsRunning old new = (p : Problem) (ls : List LogLine) → Runs old p ls → Runs new p ls
+KeepsRunning old new = (p : Input) (ls : List LogLine) → Runs old p ls → Runs new p ls
 
 -- a clause came under a name, the last of the store
 pub record Places (old new : Search) (n : Name) (c : List Literal) : Type 0 where
@@ -107,19 +107,19 @@ Pays given before after old new = (n : ℕ) × Writes given before after n
     × (new ≡ record old { learned = old.learned + n })
 
 -- a log to which lines may be added, now and after further clauses are given
-pub record StaysOpen (p : Problem) (ls : List LogLine) : Type 0 where
+pub record StaysOpen (p : Input) (ls : List LogLine) : Type 0 where
   pub stays : StaysLogOver (length (p.frozen).items) p.given ls
   pub unrefuted : AddsNoEmptyClause ls
 
 -- a log that ends in the empty clause
-pub record IsEnded (p : Problem) (ls : List LogLine) : Type 0 where
+pub record IsEnded (p : Input) (ls : List LogLine) : Type 0 where
   pub stays : StaysLogOver (length (p.frozen).items) p.given ls
   pub refuted : is_refuted ls ≡ true
 
 -- How a search ends.
 
 -- each variable has a value, no clause is false, and the answer can be paid for
-pub record IsSatisfied (s : Search) (p : Problem) (ls : List LogLine)
+pub record IsSatisfied (s : Search) (p : Input) (ls : List LogLine)
     (b : BudgetState) : Type 0 where
   pub runs : Runs s p ls
   pub quiet : IsQuiet (s.store).slots (literals_of (s.engine).trail)
@@ -127,12 +127,12 @@ pub record IsSatisfied (s : Search) (p : Problem) (ls : List LogLine)
   pub left : 0 < left_of b
 
 -- nothing is left of the budget, and hints do not refute what is live
-pub record IsSpent (s : Search) (p : Problem) (ls : List LogLine) (b : BudgetState) : Type 0 where
+pub record IsSpent (s : Search) (p : Input) (ls : List LogLine) (b : BudgetState) : Type 0 where
   pub runs : Runs s p ls
   pub quiet : (A : List Literal) × IsQuiet (s.store).slots A
   pub spent : left_of b ≡ 0
 
-abbrev pub IsEndOf : Search → Problem → List LogLine → BudgetState → End → Type 0
+abbrev pub IsEndOf : Search → Input → List LogLine → BudgetState → End → Type 0
 IsEndOf s p ls b Satisfied = IsSatisfied s p ls b
 IsEndOf s p ls b Refuted = IsEnded p ls
 IsEndOf s p ls b Spent = IsSpent s p ls b
@@ -140,7 +140,7 @@ IsEndOf s p ls b Spent = IsSpent s p ls b
 -- Clauses that are given later.
 
 -- what is asked of one
-pub record IsGivable (p : Problem) (n : Name) (c : List Literal) : Type 0 where
+pub record IsGivable (p : Input) (n : Name) (c : List Literal) : Type 0 where
   pub fresh : IsFreshName p.given n
   pub frozen : All (IsFrozen (p.frozen).items) c
   pub id : IsId (number_in n)
@@ -148,24 +148,24 @@ pub record IsGivable (p : Problem) (n : Name) (c : List Literal) : Type 0 where
   pub small : greatest_variable c ≤ length (p.frozen).items
 
 -- the clauses given, with one more
-pub record GivesOne (old new : Problem) (n : Name) (c : List Literal) : Type 0 where
+pub record GivesOne (old new : Input) (n : Name) (c : List Literal) : Type 0 where
   pub given : new.given ≡ old.given ++ (n, c) ∷ []
   pub stack : new.stack ≡ old.stack
   pub frozen : new.frozen ≡ old.frozen
   pub first : new.first ≡ old.first
 
 abbrev pub TakesClause : Search → Search → Name → List Literal → Type 0
-TakesClause old new n c = (p q : Problem) (ls : List LogLine) → IsGivable p n c → GivesOne p q n c
+TakesClause old new n c = (p q : Input) (ls : List LogLine) → IsGivable p n c → GivesOne p q n c
     → p.first ≤ length p.given → Runs old p ls → Runs new q ls
 
-abbrev pub Takes : Search → Search → Problem → Problem → Name → List Literal → Type 0
+abbrev pub Takes : Search → Search → Input → Input → Name → List Literal → Type 0
 Takes old new p q n c = (ls : List LogLine) → IsGivable p n c
     → p.first ≤ length p.given → Runs old p ls → Runs new q ls
 
 -- what holds of a solver between its calls
-pub record IsSolver (s : Search) (p : Problem) (ls : List LogLine)
+pub record IsSolver (s : Search) (p : Input) (ls : List LogLine)
     (refuted failed : Bool) : Type 0 where
-  pub problem : IsProblem p
+  pub input : IsInput p
   pub lines : StaysLogOver (length (p.frozen).items) p.given ls
   pub refuted_is : refuted ≡ is_refuted ls
   pub running : failed ≡ false → refuted ≡ false → Runs s p ls
@@ -173,14 +173,14 @@ pub record IsSolver (s : Search) (p : Problem) (ls : List LogLine)
 -- What a search answers.
 
 -- the bits satisfy what was given, and the search may go on
-pub record IsSatisfying (s : Search) (p : Problem) (ls : List LogLine)
+pub record IsSatisfying (s : Search) (p : Input) (ls : List LogLine)
     (bits : List Bool) : Type 0 where
   pub runs : Runs s p ls
   pub quiet : (A : List Literal) × IsQuiet (s.store).slots A
   pub long : length bits ≡ length (p.frozen).items
   pub satisfied : SatisfyGiven bits p.given
 
-abbrev pub IsAnswer : Search → Problem → List LogLine → BudgetState → Outcome → Type 0
+abbrev pub IsAnswer : Search → Input → List LogLine → BudgetState → Outcome → Type 0
 IsAnswer s p ls b (Sat bits) = IsSatisfying s p ls bits.items
 IsAnswer s p ls b Unsat = IsEnded p ls
 IsAnswer s p ls b Limit = IsSpent s p ls b

@@ -4,7 +4,7 @@ ghost use Rattle.propagate.specs.Fits.{IsWithin};
 ghost use Rattle.lrat_log.specs.declared.lines.Name.TheVariants.{Formula};
 ghost use Rattle.cdcl.specs.Running.{IsReady, TakesClause, Takes, GivesOne};
 
-use crate::problem::Problem;
+use crate::input::Input;
 use crate::search::Search;
 use cnf::types::Lit;
 use lrat_log::lines::{Name, Number};
@@ -23,23 +23,23 @@ fn take_clause(search: &mut Search, number: u64, lits: &[Lit]) -> Result<(), All
 }
 
 /// Keeps the clause among those given.
-fn keep_clause(problem: &mut Problem, number: u64, lits: &[Lit]) -> Result<(), AllocError>
+fn keep_clause(input: &mut Input, number: u64, lits: &[Lit]) -> Result<(), AllocError>
     requires number { (0 < number) × (number < 2 ^ 62) }
-    ensures given { OnOk result (problem.new.given
-        ≡ problem.old.given ++ (Formula number, lits.now) ∷ []) }
-    ensures stack { problem.new.stack ≡ problem.old.stack }
-    ensures frozen { problem.new.frozen ≡ problem.old.frozen }
-    ensures first { problem.new.first ≡ problem.old.first }
-    ensures err { OnErr result (problem.new.given ≡ problem.old.given) }
+    ensures given { OnOk result (input.new.given
+        ≡ input.old.given ++ (Formula number, lits.now) ∷ []) }
+    ensures stack { input.new.stack ≡ input.old.stack }
+    ensures frozen { input.new.frozen ≡ input.old.frozen }
+    ensures first { input.new.first ≡ input.old.first }
+    ensures err { OnErr result (input.new.given ≡ input.old.given) }
 {
-    problem.given.push(Number::new(number), lits)
+    input.given.push(Number::new(number), lits)
 }
 
 /// Gives the clause to the search, unless that has ended with the empty clause, and keeps it among
 /// those given.
 pub(crate) fn give(
     search: &mut Search,
-    problem: &mut Problem,
+    input: &mut Input,
     refuted: bool,
     number: u64,
     lits: &[Lit],
@@ -48,21 +48,22 @@ pub(crate) fn give(
     requires ready { refuted ≡ false → IsReady search.old }
     requires within { refuted ≡ false → IsWithin search.old.engine.variables lits.now }
     ensures takes { OnOk result (refuted ≡ false
-        → Takes search.old search.new problem.old problem.new (Formula number) lits.now) }
-    ensures given { OnOk result (GivesOne problem.old problem.new (Formula number) lits.now) }
-    ensures stack { problem.new.stack ≡ problem.old.stack }
-    ensures frozen { problem.new.frozen ≡ problem.old.frozen }
-    ensures first { problem.new.first ≡ problem.old.first }
-    ensures err { OnErr result (problem.new.given ≡ problem.old.given) }
+        → Takes search.old search.new input.old input.new (Formula number) lits.now) }
+    ensures given { OnOk result (GivesOne input.old input.new (Formula number) lits.now) }
+    ensures stack { input.new.stack ≡ input.old.stack }
+    ensures frozen { input.new.frozen ≡ input.old.frozen }
+    ensures first { input.new.first ≡ input.old.first }
+    ensures err { OnErr result (input.new.given ≡ input.old.given) }
 {
     if refuted {
-        return keep_clause(problem, number, lits);
+        return keep_clause(input, number, lits);
     }
     take_clause(search, number, lits)?;
-    keep_clause(problem, number, lits)
+    keep_clause(input, number, lits)
 }
 
-/// Says that variables are from 1, as those of all literals.
+/// Says that variables are from 1, as those of all literals. A proof learns this of a literal that
+/// the code asks, and of no others, so each is asked.
 pub(crate) fn are_named(lits: &[Lit]) -> bool
     ensures { All (λ l. 0 < l.variable) lits.now }
 {

@@ -5,7 +5,7 @@ ghost use Rattle.propagate.specs.Fits.{IsFalseClause};
 ghost use Rattle.cdcl.specs.Running.{Runs, Writes};
 
 use crate::hints::hints_of;
-use crate::problem::Problem;
+use crate::input::Input;
 use crate::search::Search;
 use clauses::store::CRef;
 use lrat_log::lines::Kind;
@@ -16,20 +16,19 @@ use std::alloc::AllocError;
 /// choice.
 pub(crate) fn learn<S: Sink>(
     search: &mut Search,
-    problem: &Problem,
+    input: &Input,
     sink: &mut S,
     conflict: CRef,
 ) -> Result<(), AllocError>
-    requires runs { Runs search.old problem.now (S.lines sink.old) }
+    requires runs { Runs search.old input.now (S.lines sink.old) }
     requires deep { 0 < depth_of search.old.engine.trail }
     requires conflict { IsFalseClause search.old.store.slots search.old.engine conflict }
-    ensures runs { OnOk result (Runs search.new problem.now (S.lines sink.new)) }
+    ensures runs { OnOk result (Runs search.new input.now (S.lines sink.new)) }
     ensures variables { OnOk result (search.new.engine.variables ≡ search.old.engine.variables) }
     ensures writes { OnOk result
-        (Writes problem.now.given (S.lines sink.old) (S.lines sink.new) 1) }
+        (Writes input.now.given (S.lines sink.old) (S.lines sink.new) 1) }
     ensures err { OnErr result (S.lines sink.new ≡ S.lines sink.old) }
 {
-    let _ = problem;
     let learned = search
         .analyzer
         .analyze(&search.engine, &search.store, conflict)?;

@@ -10,7 +10,7 @@ ghost use Rattle.cdcl.specs.Invariant.{zero_of};
 ghost use Rattle.cdcl.specs.Running.{Runs, Writes, StaysOpen, IsEnded};
 
 use crate::hints::hints_of;
-use crate::problem::Problem;
+use crate::input::Input;
 use crate::search::Search;
 use clauses::store::{CRef, MaybeCRef};
 use lrat_log::lines::{Kind, Line};
@@ -20,12 +20,12 @@ use std::alloc::AllocError;
 /// Writes a Unit line for each literal of level 0 that has none, in the order of the trail.
 pub(crate) fn note_units<S: Sink>(
     search: &mut Search,
-    problem: &Problem,
+    input: &Input,
     sink: &mut S,
 ) -> Result<(), AllocError>
-    requires runs { Runs search.old problem.now (S.lines sink.old) }
+    requires runs { Runs search.old input.now (S.lines sink.old) }
     requires flat { depth_of search.old.engine.trail ≡ 0 }
-    ensures runs { OnOk result (Runs search.new problem.now (S.lines sink.new)) }
+    ensures runs { OnOk result (Runs search.new input.now (S.lines sink.new)) }
     ensures all { OnOk result (length (zero_of search.new.engine.trail) ≤ search.new.noted) }
     ensures trail { OnOk result (search.new.engine.trail ≡ search.old.engine.trail) }
     ensures policy { OnOk result (search.new.policy ≡ search.old.policy) }
@@ -36,26 +36,22 @@ pub(crate) fn note_units<S: Sink>(
         → IsFalseClause search.old.store.slots search.old.engine r
         → IsFalseClause search.new.store.slots search.new.engine r) }
     ensures variables { OnOk result (search.new.engine.variables ≡ search.old.engine.variables) }
-    ensures writes { Writes problem.now.given (S.lines sink.old) (S.lines sink.new) 0 }
-    ensures err { OnErr result (StaysOpen problem.now (S.lines sink.new)) }
+    ensures writes { Writes input.now.given (S.lines sink.old) (S.lines sink.new) 0 }
+    ensures err { OnErr result (StaysOpen input.now (S.lines sink.new)) }
 {
     while search.noted < search.engine.assigned() {
-        note_unit(search, problem, sink)?;
+        note_unit(search, input, sink)?;
     }
     Ok(())
 }
 
 /// Writes a Unit line for the next literal of level 0: by its reason, and the unit clauses of the
 /// literals before it.
-fn note_unit<S: Sink>(
-    search: &mut Search,
-    problem: &Problem,
-    sink: &mut S,
-) -> Result<(), AllocError>
-    requires runs { Runs search.old problem.now (S.lines sink.old) }
+fn note_unit<S: Sink>(search: &mut Search, input: &Input, sink: &mut S) -> Result<(), AllocError>
+    requires runs { Runs search.old input.now (S.lines sink.old) }
     requires flat { depth_of search.old.engine.trail ≡ 0 }
     requires next { search.old.noted < length search.old.engine.trail }
-    ensures runs { OnOk result (Runs search.new problem.now (S.lines sink.new)) }
+    ensures runs { OnOk result (Runs search.new input.now (S.lines sink.new)) }
     ensures noted { OnOk result (search.new.noted ≡ search.old.noted + 1) }
     ensures trail { OnOk result (search.new.engine.trail ≡ search.old.engine.trail) }
     ensures policy { OnOk result (search.new.policy ≡ search.old.policy) }
@@ -64,7 +60,7 @@ fn note_unit<S: Sink>(
         ) ∷ []) }
     ensures variables { OnOk result (search.new.engine.variables ≡ search.old.engine.variables) }
     ensures writes { OnOk result (
-        Writes problem.now.given (S.lines sink.old) (S.lines sink.new) 0) }
+        Writes input.now.given (S.lines sink.old) (S.lines sink.new) 0) }
     ensures err { OnErr result (S.lines sink.new ≡ S.lines sink.old) }
 {
     let lit = search.engine.trail()[search.noted];
@@ -90,18 +86,18 @@ fn note_unit<S: Sink>(
 /// Writes the Empty line, by a clause that is false at level 0.
 pub(crate) fn refute<S: Sink>(
     search: &mut Search,
-    problem: &Problem,
+    input: &Input,
     sink: &mut S,
     conflict: CRef,
 ) -> Result<(), AllocError>
-    requires runs { Runs search.old problem.now (S.lines sink.old) }
+    requires runs { Runs search.old input.now (S.lines sink.old) }
     requires flat { depth_of search.old.engine.trail ≡ 0 }
     requires conflict { IsFalseClause search.old.store.slots search.old.engine conflict }
-    ensures ended { OnOk result (IsEnded problem.now (S.lines sink.new)) }
-    ensures writes { Writes problem.now.given (S.lines sink.old) (S.lines sink.new) 0 }
-    ensures err { OnErr result (StaysOpen problem.now (S.lines sink.new)) }
+    ensures ended { OnOk result (IsEnded input.now (S.lines sink.new)) }
+    ensures writes { Writes input.now.given (S.lines sink.old) (S.lines sink.new) 0 }
+    ensures err { OnErr result (StaysOpen input.now (S.lines sink.new)) }
 {
-    note_units(search, problem, sink)?;
+    note_units(search, input, sink)?;
     let hints = hints_of(
         &search.store,
         &search.engine,

@@ -9,7 +9,7 @@ ghost use Rattle.cdcl.specs.Running.{IsReady, Runs, StaysOpen, Writes};
 ghost use Rattle.cdcl.specs.Moves.{MayBeDeleted};
 ghost use Rattle.cdcl.specs.Deletions.{AreMarked, IsDeleting};
 
-use crate::problem::Problem;
+use crate::input::Input;
 use crate::search::Search;
 use cdcl_order::deletions::Candidate;
 use clauses::store::CRef;
@@ -22,14 +22,14 @@ use std::alloc::AllocError;
 /// Deletes a clause that is detached, where it is marked and live, and writes that down.
 fn delete<S: Sink>(
     search: &mut Search,
-    problem: &Problem,
+    input: &Input,
     sink: &mut S,
     doomed: &[bool],
     reference: CRef,
 ) -> Result<(), AllocError>
-    requires deleting { IsDeleting search.old problem.now (S.lines sink.old) doomed.now }
+    requires deleting { IsDeleting search.old input.now (S.lines sink.old) doomed.now }
     ensures deleting { OnOk result
-        (IsDeleting search.new problem.now (S.lines sink.new) doomed.now) }
+        (IsDeleting search.new input.now (S.lines sink.new) doomed.now) }
     ensures gone { OnOk result
         (is_doomed doomed.now reference ≡ true → IsLive search.new.store.slots reference
         → ⊥) }
@@ -38,7 +38,7 @@ fn delete<S: Sink>(
     ensures engine { OnOk result (search.new.engine ≡ search.old.engine) }
     ensures policy { OnOk result (search.new.policy ≡ search.old.policy) }
     ensures writes { OnOk result
-        (Writes problem.now.given (S.lines sink.old) (S.lines sink.new) 0) }
+        (Writes input.now.given (S.lines sink.old) (S.lines sink.new) 0) }
     ensures err { OnErr result (S.lines sink.new ≡ S.lines sink.old) }
 {
     if !search.store.is_live(reference) {
@@ -132,17 +132,17 @@ fn is_reason(engine: &Engine, lits: &[Lit], reference: CRef) -> bool
 /// Deletes the learned clauses that the policy chooses, where it says that it is time for that.
 pub(crate) fn reduce<S: Sink>(
     search: &mut Search,
-    problem: &Problem,
+    input: &Input,
     sink: &mut S,
 ) -> Result<(), AllocError>
-    requires runs { Runs search.old problem.now (S.lines sink.old) }
-    ensures runs { OnOk result (Runs search.new problem.now (S.lines sink.new)) }
+    requires runs { Runs search.old input.now (S.lines sink.old) }
+    ensures runs { OnOk result (Runs search.new input.now (S.lines sink.new)) }
     ensures variables { OnOk result (search.new.engine.variables ≡ search.old.engine.variables) }
     ensures long { OnOk result
         (length search.new.engine.trail ≡ length search.old.engine.trail) }
     ensures policy { OnOk result (search.new.policy ≡ search.old.policy) }
-    ensures writes { Writes problem.now.given (S.lines sink.old) (S.lines sink.new) 0 }
-    ensures err { OnErr result (StaysOpen problem.now (S.lines sink.new)) }
+    ensures writes { Writes input.now.given (S.lines sink.old) (S.lines sink.new) 0 }
+    ensures err { OnErr result (StaysOpen input.now (S.lines sink.new)) }
 {
     if !search.policy.is_deletion_due() {
         return Ok(());
@@ -150,7 +150,7 @@ pub(crate) fn reduce<S: Sink>(
     let candidates = search.candidates()?;
     let alloc = search.store.allocator();
     let chosen = search.policy.choose(alloc, &candidates)?;
-    delete_all(search, problem, sink, &chosen)?;
+    delete_all(search, input, sink, &chosen)?;
     if search.is_sparse() {
         search.compact()?;
     }
@@ -161,23 +161,23 @@ pub(crate) fn reduce<S: Sink>(
 /// all.
 fn delete_all<S: Sink>(
     search: &mut Search,
-    problem: &Problem,
+    input: &Input,
     sink: &mut S,
     chosen: &[CRef],
 ) -> Result<(), AllocError>
-    requires runs { Runs search.old problem.now (S.lines sink.old) }
-    ensures runs { OnOk result (Runs search.new problem.now (S.lines sink.new)) }
+    requires runs { Runs search.old input.now (S.lines sink.old) }
+    ensures runs { OnOk result (Runs search.new input.now (S.lines sink.new)) }
     ensures variables { OnOk result (search.new.engine.variables ≡ search.old.engine.variables) }
     ensures long { OnOk result
         (length search.new.engine.trail ≡ length search.old.engine.trail) }
     ensures policy { OnOk result (search.new.policy ≡ search.old.policy) }
-    ensures writes { Writes problem.now.given (S.lines sink.old) (S.lines sink.new) 0 }
-    ensures err { OnErr result (StaysOpen problem.now (S.lines sink.new)) }
+    ensures writes { Writes input.now.given (S.lines sink.old) (S.lines sink.new) 0 }
+    ensures err { OnErr result (StaysOpen input.now (S.lines sink.new)) }
 {
     let doomed = search.mark(chosen)?;
     search.engine.detach_all(&doomed);
     for reference in chosen {
-        delete(search, problem, sink, &doomed, *reference)?;
+        delete(search, input, sink, &doomed, *reference)?;
     }
     Ok(())
 }

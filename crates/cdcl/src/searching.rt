@@ -13,9 +13,9 @@ ghost use Rattle.cdcl.specs.Running.{Runs, Writes, Pays, StaysOpen, IsEndOf};
 ghost use Rattle.cdcl.specs.declared.searching.End.TheVariants.{Refuted};
 
 use crate::budget::Budget;
+use crate::input::Input;
 use crate::learning::learn;
 use crate::noting::{note_units, refute};
-use crate::problem::Problem;
 use crate::reducing::reduce;
 use crate::search::Search;
 use crate::watch::Watch;
@@ -38,47 +38,47 @@ pub(crate) enum End {
 /// Searches from level 0 until it has an answer or the budget is spent.
 pub(crate) fn run<S: Sink, W: Watch>(
     search: &mut Search,
-    problem: &Problem,
+    input: &Input,
     sink: &mut S,
     budget: &mut Budget,
     watch: &mut W,
 ) -> Result<End, AllocError>
-    requires runs { Runs search.old problem.now (S.lines sink.old) }
-    ensures ends { IfOk result (IsEndOf search.new problem.now (S.lines sink.new) budget.new) }
+    requires runs { Runs search.old input.now (S.lines sink.old) }
+    ensures ends { IfOk result (IsEndOf search.new input.now (S.lines sink.new) budget.new) }
     ensures propagates { IfOk result
-        (λ end. IsLiveRefuted problem.now.given (S.lines sink.old)
+        (λ end. IsLiveRefuted input.now.given (S.lines sink.old)
         → end ≡ Refuted) }
-    ensures pays { Pays problem.now.given (S.lines sink.old) (S.lines sink.new) budget.old
+    ensures pays { Pays input.now.given (S.lines sink.old) (S.lines sink.new) budget.old
         budget.new }
-    ensures err { OnErr result (StaysOpen problem.now (S.lines sink.new)) }
+    ensures err { OnErr result (StaysOpen input.now (S.lines sink.new)) }
 {
     search.begin();
     let found = search.propagate()?;
     match found {
         Some(conflict) => {
-            refute(search, problem, sink, conflict)?;
+            refute(search, input, sink, conflict)?;
             Ok(End::Refuted)
         }
-        None => descend(search, problem, sink, budget, watch),
+        None => descend(search, input, sink, budget, watch),
     }
 }
 
 /// Learns and decides until it has an answer or the budget is spent.
 fn descend<S: Sink, W: Watch>(
     search: &mut Search,
-    problem: &Problem,
+    input: &Input,
     sink: &mut S,
     budget: &mut Budget,
     watch: &mut W,
 ) -> Result<End, AllocError>
-    requires runs { Runs search.old problem.now (S.lines sink.old) }
-    ensures ends { IfOk result (IsEndOf search.new problem.now (S.lines sink.new) budget.new) }
-    ensures pays { Pays problem.now.given (S.lines sink.old) (S.lines sink.new) budget.old
+    requires runs { Runs search.old input.now (S.lines sink.old) }
+    ensures ends { IfOk result (IsEndOf search.new input.now (S.lines sink.new) budget.new) }
+    ensures pays { Pays input.now.given (S.lines sink.old) (S.lines sink.new) budget.old
         budget.new }
-    ensures err { OnErr result (StaysOpen problem.now (S.lines sink.new)) }
+    ensures err { OnErr result (StaysOpen input.now (S.lines sink.new)) }
 {
     'rounds: loop {
-        match round(search, problem, sink, budget, watch)? {
+        match round(search, input, sink, budget, watch)? {
             Some(end) => return Ok(end),
             None => {}
         }
@@ -88,55 +88,55 @@ fn descend<S: Sink, W: Watch>(
 /// Propagates, and then learns, starts over or decides; it answers how the search ended, if it did.
 fn round<S: Sink, W: Watch>(
     search: &mut Search,
-    problem: &Problem,
+    input: &Input,
     sink: &mut S,
     budget: &mut Budget,
     watch: &mut W,
 ) -> Result<Option<End>, AllocError>
-    requires runs { Runs search.old problem.now (S.lines sink.old) }
+    requires runs { Runs search.old input.now (S.lines sink.old) }
     ensures ends { IfOk result (λ next.
-        IfSome next (IsEndOf search.new problem.now (S.lines sink.new) budget.new)) }
+        IfSome next (IsEndOf search.new input.now (S.lines sink.new) budget.new)) }
     ensures goes { IfOk result (λ next.
-        IfNone next (GoesOn search.old search.new problem.now (S.lines sink.new) budget.old
+        IfNone next (GoesOn search.old search.new input.now (S.lines sink.new) budget.old
         budget.new)) }
-    ensures pays { Pays problem.now.given (S.lines sink.old) (S.lines sink.new) budget.old
+    ensures pays { Pays input.now.given (S.lines sink.old) (S.lines sink.new) budget.old
         budget.new }
-    ensures err { OnErr result (StaysOpen problem.now (S.lines sink.new)) }
+    ensures err { OnErr result (StaysOpen input.now (S.lines sink.new)) }
 {
     match search.propagate()? {
-        Some(conflict) => on_conflict(search, problem, sink, budget, watch, conflict),
-        None => on_quiet(search, problem, sink, budget),
+        Some(conflict) => on_conflict(search, input, sink, budget, watch, conflict),
+        None => on_quiet(search, input, sink, budget),
     }
 }
 
 /// Learns from a conflict, if it is above level 0 and something is left of the budget.
 fn on_conflict<S: Sink, W: Watch>(
     search: &mut Search,
-    problem: &Problem,
+    input: &Input,
     sink: &mut S,
     budget: &mut Budget,
     watch: &mut W,
     conflict: CRef,
 ) -> Result<Option<End>, AllocError>
-    requires runs { Runs search.old problem.now (S.lines sink.old) }
+    requires runs { Runs search.old input.now (S.lines sink.old) }
     requires conflict { IsFalseClause search.old.store.slots search.old.engine conflict }
     ensures ends { IfOk result (λ next.
-        IfSome next (IsEndOf search.new problem.now (S.lines sink.new) budget.new)) }
+        IfSome next (IsEndOf search.new input.now (S.lines sink.new) budget.new)) }
     ensures goes { IfOk result (λ next.
-        IfNone next (GoesOn search.old search.new problem.now (S.lines sink.new) budget.old
+        IfNone next (GoesOn search.old search.new input.now (S.lines sink.new) budget.old
         budget.new)) }
-    ensures pays { Pays problem.now.given (S.lines sink.old) (S.lines sink.new) budget.old
+    ensures pays { Pays input.now.given (S.lines sink.old) (S.lines sink.new) budget.old
         budget.new }
-    ensures err { OnErr result (StaysOpen problem.now (S.lines sink.new)) }
+    ensures err { OnErr result (StaysOpen input.now (S.lines sink.new)) }
 {
     if search.engine.depth() == 0 {
-        refute(search, problem, sink, conflict)?;
+        refute(search, input, sink, conflict)?;
         return Ok(Some(End::Refuted));
     }
     if budget.left() == 0 {
         return Ok(Some(End::Spent));
     }
-    learn(search, problem, sink, conflict)?;
+    learn(search, input, sink, conflict)?;
     budget.count_learned();
     watch.learned(&search.policy.report(budget));
     Ok(None)
@@ -146,20 +146,20 @@ fn on_conflict<S: Sink, W: Watch>(
 /// decision: by then what was learned has been propagated, and each level below is quiet.
 fn on_quiet<S: Sink>(
     search: &mut Search,
-    problem: &Problem,
+    input: &Input,
     sink: &mut S,
     budget: &mut Budget,
 ) -> Result<Option<End>, AllocError>
-    requires runs { Runs search.old problem.now (S.lines sink.old) }
+    requires runs { Runs search.old input.now (S.lines sink.old) }
     requires quiet { IsQuiet search.old.store.slots (literals_of search.old.engine.trail) }
     ensures ends { IfOk result (λ next.
-        IfSome next (IsEndOf search.new problem.now (S.lines sink.new) budget.new)) }
+        IfSome next (IsEndOf search.new input.now (S.lines sink.new) budget.new)) }
     ensures goes { IfOk result (λ next.
-        IfNone next (GoesOn search.old search.new problem.now (S.lines sink.new) budget.old
+        IfNone next (GoesOn search.old search.new input.now (S.lines sink.new) budget.old
         budget.new)) }
-    ensures pays { Pays problem.now.given (S.lines sink.old) (S.lines sink.new) budget.old
+    ensures pays { Pays input.now.given (S.lines sink.old) (S.lines sink.new) budget.old
         budget.new }
-    ensures err { OnErr result (StaysOpen problem.now (S.lines sink.new)) }
+    ensures err { OnErr result (StaysOpen input.now (S.lines sink.new)) }
 {
     if budget.left() == 0 {
         return Ok(Some(End::Spent));
@@ -168,22 +168,18 @@ fn on_quiet<S: Sink>(
         search.start_over();
         return Ok(None);
     }
-    note_level(search, problem, sink)?;
+    note_level(search, input, sink)?;
     if !search.branch() {
         return Ok(Some(End::Satisfied));
     }
-    reduce(search, problem, sink)?;
+    reduce(search, input, sink)?;
     Ok(None)
 }
 
 /// Writes down what is true at level 0, if that is the current level; above it that is done.
-fn note_level<S: Sink>(
-    search: &mut Search,
-    problem: &Problem,
-    sink: &mut S,
-) -> Result<(), AllocError>
-    requires runs { Runs search.old problem.now (S.lines sink.old) }
-    ensures runs { OnOk result (Runs search.new problem.now (S.lines sink.new)) }
+fn note_level<S: Sink>(search: &mut Search, input: &Input, sink: &mut S) -> Result<(), AllocError>
+    requires runs { Runs search.old input.now (S.lines sink.old) }
+    ensures runs { OnOk result (Runs search.new input.now (S.lines sink.new)) }
     ensures all { OnOk result (length (zero_of search.new.engine.trail) ≤ search.new.noted) }
     ensures trail { OnOk result (search.new.engine.trail ≡ search.old.engine.trail) }
     ensures policy { OnOk result (search.new.policy ≡ search.old.policy) }
@@ -191,11 +187,11 @@ fn note_level<S: Sink>(
         (IsQuiet search.old.store.slots (literals_of search.old.engine.trail)
         → IsQuiet search.new.store.slots (literals_of search.new.engine.trail)) }
     ensures variables { OnOk result (search.new.engine.variables ≡ search.old.engine.variables) }
-    ensures writes { Writes problem.now.given (S.lines sink.old) (S.lines sink.new) 0 }
-    ensures err { OnErr result (StaysOpen problem.now (S.lines sink.new)) }
+    ensures writes { Writes input.now.given (S.lines sink.old) (S.lines sink.new) 0 }
+    ensures err { OnErr result (StaysOpen input.now (S.lines sink.new)) }
 {
     if search.engine.depth() > 0 {
         return Ok(());
     }
-    note_units(search, problem, sink)
+    note_units(search, input, sink)
 }

@@ -8,7 +8,7 @@ ghost use Rattle.lrat_log.specs.Steps.{learned_count, IsShortLine, IsLearnedOrSh
 ghost use Rattle.lrat_log.specs.Steps.{nothing_exempt};
 ghost use Rattle.cdcl_order.specs.Budgets.{left_of};
 ghost use Rattle.cdcl.specs.declared.outcome.Outcome.TheVariants.{Unsat};
-ghost use Rattle.cdcl.specs.Running.{Runs, IsProblem, IsAnswer, PaysFor, StaysOpen};
+ghost use Rattle.cdcl.specs.Running.{Runs, IsInput, IsAnswer, PaysFor, StaysOpen};
 ghost use Rattle.cdcl.specs.Solving.{given_to, IsFreshName, IsFrozen, SameGiven, GivesMore, OnSat};
 ghost use Rattle.cdcl.specs.Solving.{OnUnsat, OnLimit, answer_count, SatisfyGiven, is_refuted};
 ghost use Rattle.cdcl.specs.Solving.{IsPlainlyRefuted, IsLiveRefuted, lines_since};
@@ -17,8 +17,8 @@ use crate::answers::bits;
 use crate::budget::Budget;
 use crate::given::GivenClauses;
 use crate::giving::{are_named, give};
+use crate::input::Input;
 use crate::outcome::{Outcome, SolveFault};
-use crate::problem::Problem;
 use crate::search::Search;
 use crate::searching::{End, run};
 use crate::starting::{given_clauses, start, store_of};
@@ -38,7 +38,7 @@ pub struct Solver<S: Sink> {
     // What it works on; after `refuted` or `failed` it is not used.
     search: Search,
     // What it was given.
-    problem: Problem,
+    input: Input,
     // What its lines go to.
     sink: S,
     // Whether the empty clause was added. It stays so.
@@ -56,16 +56,16 @@ impl<S: Sink> Model for Solver<S> {
 
     ghost view = { λ s. record {
       formula = record {
-        variables = length s.problem.frozen.items;
-        clauses = map (λ g. g.1) (take s.problem.first s.problem.given);
+        variables = length s.input.frozen.items;
+        clauses = map (λ g. g.1) (take s.input.first s.input.given);
       };
-      added = drop s.problem.first s.problem.given;
-      frozen = s.problem.frozen.items;
+      added = drop s.input.first s.input.given;
+      frozen = s.input.frozen.items;
       sink = s.sink;
       failed = s.failed;
     } };
 
-    ghost invariant = { λ s. IsSolver s.search s.problem (S.lines s.sink) s.refuted s.failed };
+    ghost invariant = { λ s. IsSolver s.search s.input (S.lines s.sink) s.refuted s.failed };
 }
 
 impl<S: Sink> Solver<S> {
@@ -103,7 +103,7 @@ impl<S: Sink> Solver<S> {
         let Tally { sink, refuted, .. } = tally;
         Ok(Solver {
             search,
-            problem: Problem {
+            input: Input {
                 stack,
                 frozen,
                 first,
@@ -119,7 +119,7 @@ impl<S: Sink> Solver<S> {
     pub fn given(&self) -> &GivenClauses
         ensures { result.now ≡ given_to self.now }
     {
-        &self.problem.given
+        &self.input.given
     }
 
     /// The lines written so far.
@@ -172,7 +172,7 @@ impl<S: Sink> Solver<S> {
         let _ = are_named(lits);
         match give(
             &mut self.search,
-            &mut self.problem,
+            &mut self.input,
             self.refuted,
             number,
             lits,
@@ -286,13 +286,7 @@ impl<S: Sink> Solver<S> {
         if self.refuted {
             return Ok(Outcome::Unsat);
         }
-        match answer(
-            &mut self.search,
-            &self.problem,
-            &mut self.sink,
-            budget,
-            watch,
-        ) {
+        match answer(&mut self.search, &self.input, &mut self.sink, budget, watch) {
             Ok(Outcome::Sat(bits)) => Ok(Outcome::Sat(bits)),
             Ok(Outcome::Limit) => Ok(Outcome::Limit),
             Ok(Outcome::Unsat) => {
@@ -310,24 +304,24 @@ impl<S: Sink> Solver<S> {
 /// Searches, and reads the bits off the trail.
 fn answer<S: Sink, W: Watch>(
     search: &mut Search,
-    problem: &Problem,
+    input: &Input,
     sink: &mut S,
     budget: &mut Budget,
     watch: &mut W,
 ) -> Result<Outcome, AllocError>
-    requires runs { Runs search.old problem.now (S.lines sink.old) }
-    requires problem { IsProblem problem.now }
-    ensures answers { IfOk result (IsAnswer search.new problem.now (S.lines sink.new) budget.new) }
+    requires runs { Runs search.old input.now (S.lines sink.old) }
+    requires input { IsInput input.now }
+    ensures answers { IfOk result (IsAnswer search.new input.now (S.lines sink.new) budget.new) }
     ensures propagates { IfOk result (λ o.
-        IsLiveRefuted problem.now.given (S.lines sink.old) → o ≡ Unsat) }
-    ensures pays { PaysFor result problem.now.given (S.lines sink.old) (S.lines sink.new)
+        IsLiveRefuted input.now.given (S.lines sink.old) → o ≡ Unsat) }
+    ensures pays { PaysFor result input.now.given (S.lines sink.old) (S.lines sink.new)
         budget.old budget.new }
-    ensures err { OnErr result (StaysOpen problem.now (S.lines sink.new)) }
+    ensures err { OnErr result (StaysOpen input.now (S.lines sink.new)) }
 {
-    let end = run(search, problem, sink, budget, watch)?;
+    let end = run(search, input, sink, budget, watch)?;
     match end {
         End::Satisfied => {
-            let bits = bits(search, problem)?;
+            let bits = bits(search, input)?;
             budget.count_answer();
             Ok(Outcome::Sat(bits))
         }

@@ -10,7 +10,7 @@ use Rattle.cdcl.proofs.answers.bits.Goals as goal
 pub returns-clause-satisfied : goal.returns-clause-satisfied
 returns-clause-satisfied c =
     let s = c.args.search.now in
-    let p = c.args.problem.now in
+    let p = c.args.input.now in
     let r = c.requires.runs.1.running in
     let read = c.loop-variable.bits.items in
     let removed = p.stack.removed in
@@ -33,8 +33,8 @@ returns-clause-satisfied c =
     ∙ ap (take c.len.result) (with_items_is c.loop-variable.bits c.extend.new.bits long ∙ set)
     ∙ ap (λ k. take k (extended removed read)) count in
     let fits : n ≤ length (extended removed read) =
-    omega (arith, wide, many, c.requires.problem.no_fewer) in
+    omega (arith, wide, many, c.requires.input.no_fewer) in
     subst (λ bits. SatisfyGiven bits p.given) (sym items)
     (answer_sat s.engine s.store.slots p.stack (tables_of s) p.frozen.items p.first p.given
     c.requires.runs.0 read r c.requires.quiet many c.loop-variable.invariant.read
-    c.requires.problem.given_small fits)
+    c.requires.input.given_small fits)

@@ -21,8 +21,8 @@ returns-then-refuted-clause-given c =
 pub returns-clause-takes : goal.returns-clause-takes
 returns-clause-takes c =
     on_ok_weaker c.keep_clause-2.result
-    (λ given f ls ask first r. c.in_ok-take_clause.ensures c.args.problem.now
-    c.keep_clause-2.new.problem ls ask
+    (λ given f ls ask first r. c.in_ok-take_clause.ensures c.args.input.now
+    c.keep_clause-2.new.input ls ask
     (record {
       given = given;
       stack = c.keep_clause-2.ensures.stack;

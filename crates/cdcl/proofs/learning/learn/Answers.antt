@@ -99,7 +99,7 @@ add_line-requires-clause-hints g c =
 pub returns-clause-runs : goal.returns-clause-runs
 returns-clause-runs g c =
     let s = c.args.search.now in
-    let p = c.args.problem.now in
+    let p = c.args.input.now in
     let ls = g.S.Sink.lines c.args.sink.now in
     let T = s.engine.trail in
     let learned = c.in_ok-learned.learned in
@@ -149,7 +149,7 @@ returns-clause-runs g c =
 pub returns-clause-writes : goal.returns-clause-writes
 returns-clause-writes g c =
     let s = c.args.search.now in
-    let p = c.args.problem.now in
+    let p = c.args.input.now in
     let ls = g.S.Sink.lines c.args.sink.now in
     let learned = c.in_ok-learned.learned in
     let run = c.requires.runs.running in

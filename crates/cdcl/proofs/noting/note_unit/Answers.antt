@@ -136,7 +136,7 @@ returns-clause-runs g c =
     let few_k : k.variable < 2 ^ 27 =
     (let a = c.variable.ensures.small in let b = c.variable.ensures.variable in omega arith) in
     let adds =
-    adds_unit slots T (s.names).items c.args.problem.now.given
+    adds_unit slots T (s.names).items c.args.input.now.given
     (g.S.Sink.lines c.args.sink.now) c.in_ok-hints.hints.items k s.noted r reasons
     c.requires.flat n run.recorded.names h few_k in
     let long : length c.hints_of.new.stamps ≡ length (s.stamps).items =
@@ -150,9 +150,9 @@ returns-clause-runs g c =
       stamps = ap length stamps ∙ long ∙ c.requires.runs.room.stamps;
       units = c.requires.runs.room.units;
     } in
-    subst (Runs _ c.args.problem.now) (sym c.in_ok-unit.ensures.lines)
+    subst (Runs _ c.args.input.now) (sym c.in_ok-unit.ensures.lines)
     (runs_noted (record s { stamps = with_items s.stamps c.hints_of.new.stamps })
-    c.add_line.new.self _ c.args.problem.now (g.S.Sink.lines c.args.sink.now)
+    c.add_line.new.self _ c.args.input.now (g.S.Sink.lines c.args.sink.now)
     c.in_ok-hints.hints.items k (c.variable.result - 1) c.in_ok-unit.unit run room
     (subst (All (λ x. x ≤ s.additions + 1)) (sym stamps) c.hints_of.ensures.past) c.requires.flat
     c.requires.next at adds c.in_ok-unit.ensures.placed c.in_ok-unit.ensures.additions

@@ -7,13 +7,13 @@ use Rattle.cdcl.proofs.noting.note_units.Goals as goal
 
 pub loop-search-init : goal.loop-search-init
 loop-search-init g c =
-    noting_start c.args.search.now c.args.problem.now (g.S.Sink.lines c.args.sink.now)
+    noting_start c.args.search.now c.args.input.now (g.S.Sink.lines c.args.sink.now)
     c.requires.runs c.requires.flat
 
 pub loop-search-preserved : goal.loop-search-preserved
 loop-search-preserved g c =
     let e = c.in_ok-note_unit.ensures in
-    noting_more c.args.search.now c.loop-search.search c.note_unit.new.search c.args.problem.now
+    noting_more c.args.search.now c.loop-search.search c.note_unit.new.search c.args.input.now
     (g.S.Sink.lines c.args.sink.now) (g.S.Sink.lines c.loop-search.sink)
     (g.S.Sink.lines c.note_unit.new.sink) c.loop-search.invariant
     (let t = c.loop-search-test.true in let a = c.assigned.ensures.len in

@@ -5,7 +5,7 @@ use Rattle.cdcl.proofs.noting.note_units.Given as goal
 
 abbrev pub invariant-loop-search : goal.invariant-loop-search
 invariant-loop-search g l =
-    IsNoting l.fn.search l.search l.problem (g.S.Sink.lines l.fn.sink) (g.S.Sink.lines l.sink)
+    IsNoting l.fn.search l.search l.input (g.S.Sink.lines l.fn.sink) (g.S.Sink.lines l.sink)
 
 abbrev pub decreases-loop-search : goal.decreases-loop-search
 decreases-loop-search g l = length (l.search.engine).trail - l.search.noted

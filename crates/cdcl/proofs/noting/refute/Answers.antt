@@ -28,7 +28,7 @@ hints_of-requires-clause-noted g c =
     let s = c.note_units.new.search in
     subst (λ us. AreNoted (s.store).slots us (s.engine).trail (c.args.conflict ∷ []))
     (sym c.deref-2.ensures.value)
-    (all_noted s c.args.problem.now (g.S.Sink.lines c.note_units.new.sink) (c.args.conflict ∷ [])
+    (all_noted s c.args.input.now (g.S.Sink.lines c.note_units.new.sink) (c.args.conflict ∷ [])
     c.in_ok-note_units.ensures.runs c.in_ok-note_units.ensures.all)
 
 pub new-requires : goal.new-requires
@@ -50,13 +50,13 @@ new-requires g c =
 pub returns-clause-err : goal.returns-clause-err
 returns-clause-err g c =
     let log = c.in_ok-note_units.ensures.runs.running.recorded.log in
-    on_err_weaker c.append.result (λ e. subst (StaysOpen c.args.problem.now) (sym e)
+    on_err_weaker c.append.result (λ e. subst (StaysOpen c.args.input.now) (sym e)
     (record { stays = log.stays; unrefuted = log.unrefuted })) c.append.ensures.err
 
 pub returns-clause-ended : goal.returns-clause-ended
 returns-clause-ended g c =
     let s = c.note_units.new.search in
-    let p = c.args.problem.now in
+    let p = c.args.input.now in
     let ls = g.S.Sink.lines c.note_units.new.sink in
     let e = c.in_ok-note_units.ensures in
     let h =
@@ -80,7 +80,7 @@ returns-clause-ended g c =
 
 pub returns-clause-writes : goal.returns-clause-writes
 returns-clause-writes g c =
-    let given = c.args.problem.now.given in
+    let given = c.args.input.now.given in
     let old = g.S.Sink.lines c.args.sink.now in
     let ls = g.S.Sink.lines c.note_units.new.sink in
     let e = c.in_ok-note_units.ensures in

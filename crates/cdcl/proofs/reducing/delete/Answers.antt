@@ -22,11 +22,11 @@ returns-then-not-is_live-clause-gone g c on live =
 
 pub returns-then-not-is_live-clause-writes : goal.returns-then-not-is_live-clause-writes
 returns-then-not-is_live-clause-writes g c =
-    writes_none c.args.problem.now.given (g.S.Sink.lines c.args.sink.now)
+    writes_none c.args.input.now.given (g.S.Sink.lines c.args.sink.now)
 
 pub returns-then-not-doomed-index-clause-writes : goal.returns-then-not-doomed-index-clause-writes
 returns-then-not-doomed-index-clause-writes g c =
-    writes_none c.args.problem.now.given (g.S.Sink.lines c.args.sink.now)
+    writes_none c.args.input.now.given (g.S.Sink.lines c.args.sink.now)
 
 pub new-requires-2 : goal.new-requires-2
 new-requires-2 g c =
@@ -47,7 +47,7 @@ new-requires-2 g c =
 pub returns-clause-deleting : goal.returns-clause-deleting
 returns-clause-deleting g c =
     let s : Search = c.args.search.now in
-    let p = c.args.problem.now in
+    let p = c.args.input.now in
     let ls = g.S.Sink.lines c.args.sink.now in
     let r = c.args.reference in
     let doomed = c.args.doomed.now in

@@ -28,18 +28,18 @@ loop-reference-init g c =
     c.in_ok-doomed.ensures in
     let d = c.detach_all.ensures in
     let starts =
-    deleting_starts s c.detach_all.new.self c.args.problem.now (g.S.Sink.lines c.args.sink.now)
+    deleting_starts s c.detach_all.new.self c.args.input.now (g.S.Sink.lines c.args.sink.now)
     c.args.chosen.now (length c.args.chosen.now) c.deref.result.now c.requires.runs m d.detached
     d.same (d.fits s.store.slots c.requires.runs.running.searches.fits) in
     record {
       deleting =
-          subst (IsDeleting (record s { engine = c.detach_all.new.self }) c.args.problem.now
+          subst (IsDeleting (record s { engine = c.detach_all.new.self }) c.args.input.now
           (g.S.Sink.lines c.args.sink.now)) c.deref.ensures.value starts;
       gone = λ i below. absurd (omega arith);
       variables = d.same.1;
       long = ap (λ (T : List Assigned). length T) d.same.0;
       policy = refl;
-      writes = writes_none c.args.problem.now.given (g.S.Sink.lines c.args.sink.now);
+      writes = writes_none c.args.input.now.given (g.S.Sink.lines c.args.sink.now);
     }
 
 pub loop-reference-preserved : goal.loop-reference-preserved
@@ -49,14 +49,14 @@ loop-reference-preserved g c =
     let ms = c.args.chosen.now in
     let q = c.reference-item.result in
     let doomed = c.in_ok-doomed.doomed.items in
-    let problem = c.args.problem.now in
+    let input = c.args.input.now in
     let before = g.S.Sink.lines c.args.sink.now in
     let at : get_or ms l.reference-index 0 ≡ q =
     sym (get_or_default ms l.reference-index q 0 c.loop-reference-test.true)
     ∙ sym c.reference-item.is in
     record {
       deleting =
-          subst (IsDeleting c.delete.new.search problem (g.S.Sink.lines c.delete.new.sink))
+          subst (IsDeleting c.delete.new.search input (g.S.Sink.lines c.delete.new.sink))
           c.deref-in-loop-reference.ensures.value d.deleting;
       gone =
           gone_more l.search.store.slots c.delete.new.search.store.slots ms l.reference-index doomed
@@ -68,34 +68,34 @@ loop-reference-preserved g c =
       long = ap (λ (e : EngineState). length e.trail) d.engine ∙ l.invariant.long;
       policy = d.policy ∙ l.invariant.policy;
       writes =
-          writes_join problem.given before (g.S.Sink.lines l.sink)
+          writes_join input.given before (g.S.Sink.lines l.sink)
           (g.S.Sink.lines c.delete.new.sink) 0 0 l.invariant.writes d.writes;
     }
 
 pub delete-requires : goal.delete-requires
 delete-requires g c =
     record {
-      deleting = subst (IsDeleting c.loop-reference.search c.args.problem.now
+      deleting = subst (IsDeleting c.loop-reference.search c.args.input.now
           (g.S.Sink.lines c.loop-reference.sink)) (sym c.deref-in-loop-reference.ensures.value)
           c.loop-reference.invariant.deleting;
     }
 
 pub returns-in_err-doomed-clause-writes : goal.returns-in_err-doomed-clause-writes
 returns-in_err-doomed-clause-writes g c =
-    writes_none c.args.problem.now.given (g.S.Sink.lines c.args.sink.now)
+    writes_none c.args.input.now.given (g.S.Sink.lines c.args.sink.now)
 
 pub returns-in_err-delete-clause-err : goal.returns-in_err-delete-clause-err
 returns-in_err-delete-clause-err g c =
     let log = c.loop-reference.invariant.deleting.recorded.log in
-    let stays : StaysOpen c.args.problem.now (g.S.Sink.lines c.delete.new.sink) =
-    subst (StaysOpen c.args.problem.now) (sym c.in_err-delete.ensures.err)
+    let stays : StaysOpen c.args.input.now (g.S.Sink.lines c.delete.new.sink) =
+    subst (StaysOpen c.args.input.now) (sym c.in_err-delete.ensures.err)
     (record { stays = log.stays; unrefuted = log.unrefuted }) in
     when_err _ stays
 
 pub returns-clause-runs : goal.returns-clause-runs
 returns-clause-runs g c =
     let l = c.loop-reference in
-    deleting_ends l.search c.args.problem.now (g.S.Sink.lines l.sink) c.in_ok-doomed.doomed.items
+    deleting_ends l.search c.args.input.now (g.S.Sink.lines l.sink) c.in_ok-doomed.doomed.items
     l.invariant.deleting
     (all_gone c.args.search.now l.search.store.slots c.args.chosen.now l.reference-index
     c.in_ok-doomed.doomed.items c.in_ok-doomed.ensures c.loop-reference-test.false

@@ -6,10 +6,10 @@ use Rattle.cdcl.proofs.reducing.delete_all.Given as goal
 
 abbrev pub invariant-loop-reference : goal.invariant-loop-reference
 invariant-loop-reference g l = record {
-  deleting : IsDeleting l.search l.problem (g.S.Sink.lines l.sink) l.doomed.items;
+  deleting : IsDeleting l.search l.input (g.S.Sink.lines l.sink) l.doomed.items;
   gone : AreGone l.search.store.slots l.chosen l.reference-index l.doomed.items;
   variables : l.search.engine.variables ≡ l.fn.search.engine.variables;
   long : length l.search.engine.trail ≡ length l.fn.search.engine.trail;
   policy : l.search.policy ≡ l.fn.search.policy;
-  writes : Writes l.problem.given (g.S.Sink.lines l.fn.sink) (g.S.Sink.lines l.sink) 0;
+  writes : Writes l.input.given (g.S.Sink.lines l.fn.sink) (g.S.Sink.lines l.sink) 0;
 }

@@ -4,8 +4,8 @@ use Rattle.cdcl.proofs.searching.descend.Given as goal
 
 abbrev pub invariant-rounds : goal.invariant-rounds
 invariant-rounds g l = record {
-  runs : Runs l.search l.problem (g.S.Sink.lines l.sink);
-  pays : Pays l.problem.given (g.S.Sink.lines l.fn.sink) (g.S.Sink.lines l.sink)
+  runs : Runs l.search l.input (g.S.Sink.lines l.sink);
+  pays : Pays l.input.given (g.S.Sink.lines l.fn.sink) (g.S.Sink.lines l.sink)
       l.fn.budget l.budget;
 }
 

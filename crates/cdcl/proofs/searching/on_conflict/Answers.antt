@@ -19,11 +19,11 @@ returns-then-left-eq0-clause-ends g c =
 
 pub returns-then-left-eq0-clause-pays : goal.returns-then-left-eq0-clause-pays
 returns-then-left-eq0-clause-pays g c =
-    pays_nothing c.args.problem.now.given (g.S.Sink.lines c.args.sink.now) c.args.budget.now
+    pays_nothing c.args.input.now.given (g.S.Sink.lines c.args.sink.now) c.args.budget.now
 
 pub returns-in_err-learn-clause-pays : goal.returns-in_err-learn-clause-pays
 returns-in_err-learn-clause-pays g c =
-    let given = c.args.problem.now.given in
+    let given = c.args.input.now.given in
     let ls = g.S.Sink.lines c.args.sink.now in
     subst (λ x. Pays given ls x c.args.budget.now c.args.budget.now)
     (sym c.in_err-learn.ensures.err) (pays_nothing given ls c.args.budget.now)
@@ -33,7 +33,7 @@ returns-clause-pays g c = (1, c.in_ok-learn.ensures.writes, c.count_learned.ensu
 
 pub returns-clause-goes : goal.returns-clause-goes
 returns-clause-goes g c =
-    goes_learned c.args.search.now c.learn.new.search c.args.problem.now
+    goes_learned c.args.search.now c.learn.new.search c.args.input.now
     (g.S.Sink.lines c.learn.new.sink) c.args.budget.now c.count_learned.new.self
     c.in_ok-learn.ensures.runs c.in_ok-learn.ensures.variables
     c.count_learned.ensures (omega (arith, c.left.ensures.left, c.if-left-eq0.false))

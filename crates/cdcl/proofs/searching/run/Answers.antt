@@ -17,13 +17,13 @@ returns-in_err-found-clause-pays g c =
     let b = c.args.budget.now in
     let e : b.learned ≡ b.learned + 0 = omega arith in (
       0,
-      writes_none c.args.problem.now.given (g.S.Sink.lines c.args.sink.now),
+      writes_none c.args.input.now.given (g.S.Sink.lines c.args.sink.now),
       λ i. record { limit = b.limit; learned = e i; answers = b.answers },
     )
 
 pub refute-requires-clause-runs : goal.refute-requires-clause-runs
 refute-requires-clause-runs g c =
-    let p = c.args.problem.now in
+    let p = c.args.input.now in
     let ls = g.S.Sink.lines c.args.sink.now in
     c.in_ok-found.ensures.runs p ls (c.begin.ensures.runs p ls c.requires.runs)
 
@@ -35,7 +35,7 @@ refute-requires-clause-flat g c =
 
 pub descend-requires : goal.descend-requires
 descend-requires g c =
-    let p = c.args.problem.now in
+    let p = c.args.input.now in
     let ls = g.S.Sink.lines c.args.sink.now in
     record {
       runs = c.in_ok-found.ensures.runs p ls (c.begin.ensures.runs p ls c.requires.runs);
@@ -43,7 +43,7 @@ descend-requires g c =
 
 pub returns-in-None-clause-propagates : goal.returns-in-None-clause-propagates
 returns-in-None-clause-propagates g c =
-    let p = c.args.problem.now in
+    let p = c.args.input.now in
     let ls = g.S.Sink.lines c.args.sink.now in
     let s = c.propagate.new.self in
     let runs = c.in_ok-found.ensures.runs p ls (c.begin.ensures.runs p ls c.requires.runs) in

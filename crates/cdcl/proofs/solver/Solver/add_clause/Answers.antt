@@ -10,20 +10,20 @@ use Rattle.cdcl.proofs.solver.Solver.add_clause.Goals.{In-Ok, In-Err}
 
 -- the clause was given
 gives : (g : _) (c : In-Ok g)
-    → IsSolver c.give.new.search c.give.new.problem (g.S.Sink.lines c.self.inside.sink)
+    → IsSolver c.give.new.search c.give.new.input (g.S.Sink.lines c.self.inside.sink)
     c.self.inside.refuted c.self.inside.failed
 gives g c =
-    let p = c.self.inside.problem in
+    let p = c.self.inside.input in
     let seen =
     subst (λ s. IsFreshName (given_to s) c.args.name) (sym c.self.view_is) c.requires.fresh in
     let free =
-    subst (λ x. IsFreshName x c.args.name) (given_seen p c.self.invariant.problem) seen in
+    subst (λ x. IsFreshName x c.args.name) (given_seen p c.self.invariant.input) seen in
     let name : c.args.name ≡ Formula c.get-number.result =
     c.in-Formula.is ∙ ap Formula (sym c.get-number.ensures.value) in
     let fresh = subst (IsFreshName p.given) name free in
     let fixed =
     subst (λ s. All (IsFrozen s.frozen) c.args.lits.now) (sym c.self.view_is) c.requires.frozen in
-    gives_solver c.self.inside.search c.give.new.search p c.give.new.problem
+    gives_solver c.self.inside.search c.give.new.search p c.give.new.input
     (Formula c.get-number.result) c.args.lits.now (g.S.Sink.lines c.self.inside.sink)
     c.self.inside.refuted c.self.inside.failed
     c.self.invariant c.if-self.false c.in-Ok.ensures.given fresh (
@@ -34,24 +34,24 @@ gives g c =
 
 -- memory was refused
 fails : (g : _) (c : In-Err g)
-    → IsSolver c.give.new.search c.give.new.problem (g.S.Sink.lines c.self.inside.sink)
+    → IsSolver c.give.new.search c.give.new.input (g.S.Sink.lines c.self.inside.sink)
     c.self.inside.refuted true
 fails g c =
-    fails_solver c.self.inside.search c.give.new.search c.self.inside.problem c.give.new.problem
+    fails_solver c.self.inside.search c.give.new.search c.self.inside.input c.give.new.input
     (g.S.Sink.lines c.self.inside.sink) c.self.inside.refuted c.self.inside.failed
     c.self.invariant c.in-Err.ensures.err c.give.ensures.stack c.give.ensures.frozen
     c.give.ensures.first
 
 pub returns-then-self-clause-lines : goal.returns-then-self-clause-lines
 returns-then-self-clause-lines g c =
-    seen_log g.S.Sink.lines c.self.invariant.problem c.self.view_is c.self.invariant.lines
+    seen_log g.S.Sink.lines c.self.invariant.input c.self.view_is c.self.invariant.lines
 
 pub give-requires-clause-within : goal.give-requires-clause-within
 give-requires-clause-within g c = λ u.
     let fixed =
     subst (λ s. All (IsFrozen s.frozen) c.args.lits.now) (sym c.self.view_is) c.requires.frozen in
-    frozen_within c.self.inside.search c.self.inside.problem (g.S.Sink.lines c.self.inside.sink)
-    c.args.lits.now c.self.invariant.problem (c.self.invariant.running c.if-self.false u) fixed
+    frozen_within c.self.inside.search c.self.inside.input (g.S.Sink.lines c.self.inside.sink)
+    c.args.lits.now c.self.invariant.input (c.self.invariant.running c.if-self.false u) fixed
     c.are_named.ensures
 
 pub invariant_of-self : goal.invariant_of-self
@@ -63,9 +63,9 @@ invariant_of-self-in-Err g c = fails g (goal.at.invariant_of-self-in-Err g c).In
 pub returns-in-Ok-clause-lines : goal.returns-in-Ok-clause-lines
 returns-in-Ok-clause-lines g c =
     let ok = gives g (goal.at.returns-in-Ok-clause-lines g c).In-Ok in
-    log_now c.give.new.problem (g.S.Sink.lines c.self.inside.sink) ok.problem ok.lines
+    log_now c.give.new.input (g.S.Sink.lines c.self.inside.sink) ok.input ok.lines
 
 pub returns-in-Err-clause-lines : goal.returns-in-Err-clause-lines
 returns-in-Err-clause-lines g c =
     let bad = fails g (goal.at.returns-in-Err-clause-lines g c).In-Err in
-    log_now c.give.new.problem (g.S.Sink.lines c.self.inside.sink) bad.problem bad.lines
+    log_now c.give.new.input (g.S.Sink.lines c.self.inside.sink) bad.input bad.lines

@@ -10,10 +10,10 @@ use Rattle.lrat_log.specs.declared.lines.Name.{Name}
 use Rattle.lrat_log.specs.Steps.{StaysLogOver, given_of}
 use Rattle.lrat_log.proofs.Laws.{clauses_given}
 use Rattle.eliminate.specs.Elimination.{ExtendsBack, IsFree, StackState}
-use Rattle.cdcl.specs.declared.problem.Problem.{Problem}
+use Rattle.cdcl.specs.declared.input.Input.{Input}
 use Rattle.cdcl.proofs.Placing.{added_few}
 use Rattle.cdcl.proofs.FirstRun.{IsLeft, formula_again, left_from, live_map, left_rising, left_live}
-use Rattle.cdcl.proofs.FirstRun.{left_within, left_numbers, new_problem, first_clauses, first_runs}
+use Rattle.cdcl.proofs.FirstRun.{left_within, left_numbers, new_input, first_clauses, first_runs}
 use Rattle.cdcl.proofs.Answered.{log_now}
 use Rattle.cdcl.proofs.solver.Solver.new.Goals as goal
 use Rattle.cdcl.proofs.solver.Solver.new.Goals.{After-is_short}
@@ -83,7 +83,7 @@ invariant_of-result g c =
     let stack = c.in_ok-stack.ensures in
     let rest = left g (goal.at.invariant_of-result g c).After-is_short in
     let frozen : (c.in_ok-frozen.frozen).items ≡ c.args.frozen.now = c.in_ok-frozen.ensures.items in
-    let p : Problem =
+    let p : Input =
     record {
       stack = c.forget_names.new.self;
       frozen = c.in_ok-frozen.frozen;
@@ -99,7 +99,7 @@ invariant_of-result g c =
     let few =
     added_few ls c.eliminate.new.sink.additions c.eliminate.new.sink.counted c.is_short.ensures in
     record {
-      problem = new_problem c.args.formula.now p cs c.vars.ensures.limits c.clauses-clauses.ensures
+      input = new_input c.args.formula.now p cs c.vars.ensures.limits c.clauses-clauses.ensures
           (ap length frozen ∙ c.requires.frozen) c.in_ok-given.ensures firsts
           (subst (λ f. length f ≤ p.stack.variables) (sym frozen)
           (subst (λ n. length c.args.frozen.now ≤ n) (sym wide) stack.variables.0))
@@ -125,7 +125,7 @@ pub returns-clause-given : goal.returns-clause-given
 returns-clause-given g c =
     let cs = c.clauses-clauses.result.now in
     let frozen : (c.in_ok-frozen.frozen).items ≡ c.args.frozen.now = c.in_ok-frozen.ensures.items in
-    let p : Problem =
+    let p : Input =
     record {
       stack = c.forget_names.new.self;
       frozen = c.in_ok-frozen.frozen;
@@ -150,7 +150,7 @@ returns-clause-lines g c =
     let e = ap live_clauses c.in_ok-store.ensures ∙ live_map cs in
     let stack = c.in_ok-stack.ensures in
     let frozen : (c.in_ok-frozen.frozen).items ≡ c.args.frozen.now = c.in_ok-frozen.ensures.items in
-    let p : Problem =
+    let p : Input =
     record {
       stack = c.forget_names.new.self;
       frozen = c.in_ok-frozen.frozen;
@@ -163,12 +163,12 @@ returns-clause-lines g c =
     let stays : StaysLogOver (length (c.in_ok-frozen.frozen).items) (given_of cs) ls =
     subst (λ f. StaysLogOver (length f) (given_of cs) ls) (sym frozen)
     (subst (λ x. StaysLogOver (length c.args.frozen.now) (given_of x) ls) e stack.lines) in
-    let problem =
-    new_problem c.args.formula.now p cs c.vars.ensures.limits c.clauses-clauses.ensures
+    let input =
+    new_input c.args.formula.now p cs c.vars.ensures.limits c.clauses-clauses.ensures
     (ap length frozen ∙ c.requires.frozen) c.in_ok-given.ensures firsts
     (subst (λ f. length f ≤ p.stack.variables) (sym frozen)
     (subst (λ n. length c.args.frozen.now ≤ n) (sym wide) stack.variables.0))
     (subst (λ f. p.stack.variables ≤ length f + 2 ^ 20) (sym frozen)
     (subst (λ n. n ≤ length c.args.frozen.now + 2 ^ 20) (sym wide) stack.variables.1)) in
-    log_now p ls problem (subst (λ x. StaysLogOver (length (c.in_ok-frozen.frozen).items) x ls)
+    log_now p ls input (subst (λ x. StaysLogOver (length (c.in_ok-frozen.frozen).items) x ls)
     (sym c.in_ok-given.ensures) stays)

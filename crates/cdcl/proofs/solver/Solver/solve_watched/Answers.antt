@@ -9,11 +9,11 @@ use Rattle.cdcl.proofs.solver.Solver.solve_watched.Goals as goal
 
 pub returns-then-self-clause-lines : goal.returns-then-self-clause-lines
 returns-then-self-clause-lines g c =
-    seen_log g.S.Sink.lines c.self.invariant.problem c.self.view_is c.self.invariant.lines
+    seen_log g.S.Sink.lines c.self.invariant.input c.self.view_is c.self.invariant.lines
 
 pub returns-then-self-2-clause-unsat : goal.returns-then-self-2-clause-unsat
 returns-then-self-2-clause-unsat g c =
-    seen_ended g.S.Sink.lines c.self.invariant.problem c.self.view_is
+    seen_ended g.S.Sink.lines c.self.invariant.input c.self.view_is
     (record {
       stays = c.self.invariant.lines;
       refuted = sym c.self.invariant.refuted_is ∙ c.if-self-2.true;
@@ -21,11 +21,11 @@ returns-then-self-2-clause-unsat g c =
 
 pub returns-then-self-2-clause-lines : goal.returns-then-self-2-clause-lines
 returns-then-self-2-clause-lines g c =
-    seen_log g.S.Sink.lines c.self.invariant.problem c.self.view_is c.self.invariant.lines
+    seen_log g.S.Sink.lines c.self.invariant.input c.self.view_is c.self.invariant.lines
 
 pub returns-in-Ok-Sat-clause-refuted : goal.returns-in-Ok-Sat-clause-refuted
 returns-in-Ok-Sat-clause-refuted g c = λ h.
-    let plain = seen_plain g.S.Sink.lines c.self.invariant.problem c.self.view_is
+    let plain = seen_plain g.S.Sink.lines c.self.invariant.input c.self.view_is
     c.answer.new.search (g.S.Sink.lines c.answer.new.sink) c.answer.new.budget _
     c.in-Ok-Sat.ensures.answers h in
     let e = sym c.in-Ok-Sat.field-0-is ∙ plain in
@@ -33,22 +33,22 @@ returns-in-Ok-Sat-clause-refuted g c = λ h.
 
 pub returns-in-Ok-Sat-clause-propagates : goal.returns-in-Ok-Sat-clause-propagates
 returns-in-Ok-Sat-clause-propagates g c = λ h.
-    let held = seen_live g.S.Sink.lines c.self.invariant.problem c.self.view_is h in
+    let held = seen_live g.S.Sink.lines c.self.invariant.input c.self.view_is h in
     let e = sym c.in-Ok-Sat.field-0-is ∙ c.in-Ok-Sat.ensures.propagates held in
     absurd (cc)
 
 pub returns-in-Ok-Sat-clause-lines : goal.returns-in-Ok-Sat-clause-lines
 returns-in-Ok-Sat-clause-lines g c =
-    answered_log c.answer.new.search c.self.inside.problem (g.S.Sink.lines c.answer.new.sink)
-    c.answer.new.budget _ c.self.invariant.problem c.in-Ok-Sat.ensures.answers
+    answered_log c.answer.new.search c.self.inside.input (g.S.Sink.lines c.answer.new.sink)
+    c.answer.new.budget _ c.self.invariant.input c.in-Ok-Sat.ensures.answers
 
 pub returns-in-Ok-Sat-clause-short : goal.returns-in-Ok-Sat-clause-short
 returns-in-Ok-Sat-clause-short g c =
-    seen_short g.S.Sink.lines c.self.invariant.problem c.self.view_is _ _ c.answer.ensures.pays.1
+    seen_short g.S.Sink.lines c.self.invariant.input c.self.view_is _ _ c.answer.ensures.pays.1
 
 pub returns-in-Ok-Limit-clause-refuted : goal.returns-in-Ok-Limit-clause-refuted
 returns-in-Ok-Limit-clause-refuted g c = λ h.
-    let plain = seen_plain g.S.Sink.lines c.self.invariant.problem c.self.view_is
+    let plain = seen_plain g.S.Sink.lines c.self.invariant.input c.self.view_is
     c.answer.new.search (g.S.Sink.lines c.answer.new.sink) c.answer.new.budget _
     c.in-Ok-Limit.ensures.answers h in
     let e = sym c.in-Ok-Limit.field-0-is ∙ plain in
@@ -56,22 +56,22 @@ returns-in-Ok-Limit-clause-refuted g c = λ h.
 
 pub returns-in-Ok-Limit-clause-propagates : goal.returns-in-Ok-Limit-clause-propagates
 returns-in-Ok-Limit-clause-propagates g c = λ h.
-    let held = seen_live g.S.Sink.lines c.self.invariant.problem c.self.view_is h in
+    let held = seen_live g.S.Sink.lines c.self.invariant.input c.self.view_is h in
     let e = sym c.in-Ok-Limit.field-0-is ∙ c.in-Ok-Limit.ensures.propagates held in
     absurd (cc)
 
 pub returns-in-Ok-Limit-clause-lines : goal.returns-in-Ok-Limit-clause-lines
 returns-in-Ok-Limit-clause-lines g c =
-    answered_log c.answer.new.search c.self.inside.problem (g.S.Sink.lines c.answer.new.sink)
-    c.answer.new.budget _ c.self.invariant.problem c.in-Ok-Limit.ensures.answers
+    answered_log c.answer.new.search c.self.inside.input (g.S.Sink.lines c.answer.new.sink)
+    c.answer.new.budget _ c.self.invariant.input c.in-Ok-Limit.ensures.answers
 
 pub returns-in-Ok-Limit-clause-short : goal.returns-in-Ok-Limit-clause-short
 returns-in-Ok-Limit-clause-short g c =
-    seen_short g.S.Sink.lines c.self.invariant.problem c.self.view_is _ _ c.answer.ensures.pays.1
+    seen_short g.S.Sink.lines c.self.invariant.input c.self.view_is _ _ c.answer.ensures.pays.1
 
 pub returns-in-Ok-Sat-clause-sat : goal.returns-in-Ok-Sat-clause-sat
 returns-in-Ok-Sat-clause-sat g c =
-    let p = c.self.inside.problem in
+    let p = c.self.inside.input in
     let ls = g.S.Sink.lines c.answer.new.sink in
     let a =
     subst (IsAnswer c.answer.new.search p ls c.answer.new.budget) c.in-Ok-Sat.field-0-is
@@ -80,58 +80,58 @@ returns-in-Ok-Sat-clause-sat g c =
     × SatisfyGiven (c.in-Ok-Sat.bits).items (given_to s)) c.self.view_is (
       a.long,
       subst (SatisfyGiven (c.in-Ok-Sat.bits).items)
-          (sym (given_seen p c.self.invariant.problem)) a.satisfied,
+          (sym (given_seen p c.self.invariant.input)) a.satisfied,
     )
 
 pub returns-in-Ok-Unsat-clause-unsat : goal.returns-in-Ok-Unsat-clause-unsat
 returns-in-Ok-Unsat-clause-unsat g c =
-    let p = c.self.inside.problem in
+    let p = c.self.inside.input in
     let ls = g.S.Sink.lines c.answer.new.sink in
     let a =
     subst (IsAnswer c.answer.new.search p ls c.answer.new.budget) c.in-Ok-Unsat.field-0-is
     c.in-Ok-Unsat.ensures.answers in
     subst (λ s. IsAcceptedLog (given_to s) ls) c.self.view_is
-    (ended_log p ls c.self.invariant.problem a)
+    (ended_log p ls c.self.invariant.input a)
 
 pub returns-in-Ok-Unsat-clause-lines : goal.returns-in-Ok-Unsat-clause-lines
 returns-in-Ok-Unsat-clause-lines g c =
-    answered_log c.answer.new.search c.self.inside.problem (g.S.Sink.lines c.answer.new.sink)
-    c.answer.new.budget _ c.self.invariant.problem c.in-Ok-Unsat.ensures.answers
+    answered_log c.answer.new.search c.self.inside.input (g.S.Sink.lines c.answer.new.sink)
+    c.answer.new.budget _ c.self.invariant.input c.in-Ok-Unsat.ensures.answers
 
 pub returns-in-Ok-Unsat-clause-short : goal.returns-in-Ok-Unsat-clause-short
 returns-in-Ok-Unsat-clause-short g c =
-    seen_short g.S.Sink.lines c.self.invariant.problem c.self.view_is _ _ c.answer.ensures.pays.1
+    seen_short g.S.Sink.lines c.self.invariant.input c.self.view_is _ _ c.answer.ensures.pays.1
 
 pub returns-in-Err-clause-lines : goal.returns-in-Err-clause-lines
 returns-in-Err-clause-lines g c =
-    log_now c.self.inside.problem (g.S.Sink.lines c.answer.new.sink) c.self.invariant.problem
+    log_now c.self.inside.input (g.S.Sink.lines c.answer.new.sink) c.self.invariant.input
     c.in-Err.ensures.err.stays
 
 pub returns-in-Err-clause-short : goal.returns-in-Err-clause-short
 returns-in-Err-clause-short g c =
-    seen_short g.S.Sink.lines c.self.invariant.problem c.self.view_is _ _ c.answer.ensures.pays.1
+    seen_short g.S.Sink.lines c.self.invariant.input c.self.view_is _ _ c.answer.ensures.pays.1
 
 pub invariant_of-self : goal.invariant_of-self
 invariant_of-self g c =
-    let p = c.self.inside.problem in
+    let p = c.self.inside.input in
     let ls = g.S.Sink.lines c.answer.new.sink in
     let a =
     subst (IsAnswer c.answer.new.search p ls c.answer.new.budget) c.in-Ok-Sat.field-0-is
     c.in-Ok-Sat.ensures.answers in
     solver_runs c.answer.new.search p ls c.self.inside.refuted c.self.inside.failed
-    c.self.invariant.problem a.runs c.if-self-2.false
+    c.self.invariant.input a.runs c.if-self-2.false
 
 pub invariant_of-self-in-Ok-Limit : goal.invariant_of-self-in-Ok-Limit
 invariant_of-self-in-Ok-Limit g c =
-    let p = c.self.inside.problem in
+    let p = c.self.inside.input in
     let ls = g.S.Sink.lines c.answer.new.sink in
     let a =
     subst (IsAnswer c.answer.new.search p ls c.answer.new.budget) c.in-Ok-Limit.field-0-is
     c.in-Ok-Limit.ensures.answers in
     solver_runs c.answer.new.search p ls c.self.inside.refuted c.self.inside.failed
-    c.self.invariant.problem a.runs c.if-self-2.false
+    c.self.invariant.input a.runs c.if-self-2.false
 
 pub invariant_of-self-in-Err : goal.invariant_of-self-in-Err
 invariant_of-self-in-Err g c =
-    solver_fails c.answer.new.search c.self.inside.problem (g.S.Sink.lines c.answer.new.sink)
-    c.self.inside.refuted c.self.invariant.problem c.in-Err.ensures.err c.if-self-2.false
+    solver_fails c.answer.new.search c.self.inside.input (g.S.Sink.lines c.answer.new.sink)
+    c.self.inside.refuted c.self.invariant.input c.in-Err.ensures.err c.if-self-2.false

@@ -5,11 +5,11 @@ use Rattle.cdcl.proofs.solver.Solver.weigh.Goals as goal
 
 pub invariant_of-self : goal.invariant_of-self
 invariant_of-self g c = record {
-  problem = c.self.invariant.problem;
+  input = c.self.invariant.input;
   lines = c.self.invariant.lines;
   refuted_is = c.self.invariant.refuted_is;
   running = λ works goes.
-      runs_chosen c.self.inside.search c.weigh.new.self c.self.inside.problem
+      runs_chosen c.self.inside.search c.weigh.new.self c.self.inside.input
       (g.S.Sink.lines c.self.inside.sink) (ap (λ x. x.variables) c.weigh.ensures)
       (c.self.invariant.running works goes);
 }

@@ -2,9 +2,11 @@
 use crate::given::GivenClauses;
 use eliminate::elimination::Stack;
 
-/// The clauses given, and the way back to them from what elimination left.
+/// The clauses given, and the way back to them from what elimination left. Much of a search is
+/// handed it and reads none of it: contracts speak of it. A ghost value would do for that, but a
+/// generic function that has one leaves its proof no names for what it requires.
 #[derive(Drop)]
-pub(crate) struct Problem {
+pub(crate) struct Input {
     /// The variables that were eliminated, each with the clauses that its value has to satisfy.
     pub(crate) stack: Stack,
     /// By variable, that of 1 first: whether clauses that come later may have it, so that it is not
