@@ -139,9 +139,7 @@ impl Outline {
             (λ o. o.count ≡ length (bound_as profile instance.now k).clauses) }
         ensures marks { length marks.new ≡ length marks.old }
     {
-        // The contract of `vars` has the limits of the instance, from which those of the formula
-        // follow.
-        let _vars = instance.vars();
+        instance.limits();
         let alloc = instance.allocator();
         let mut relaxed = ClauseList::new(alloc);
         let last = keep_relaxed(&mut relaxed, marks, instance, profile)?;
@@ -170,7 +168,7 @@ fn count_hard(instance: &Instance, marks: &mut Marks) -> usize
     ensures count { result ≡ length (kept instance.now.hard) }
     ensures marks { length marks.new ≡ length marks.old }
 {
-    let _vars = instance.vars();
+    instance.limits();
     let mut count = 0;
     for clause in instance.hard().iter() {
         if !are_opposed(marks, clause) {
@@ -236,7 +234,7 @@ fn put_hard<W: Write>(
     ensures fault { OnErr result (AppendsPart (W.contents writer.old) (W.contents writer.new)
         (block.old ++ flat_map dimacs_clause (kept instance.now.hard))) }
 {
-    let _vars = instance.vars();
+    instance.limits();
     for clause in instance.hard().iter() {
         if !are_opposed(marks, clause) {
             put_clause(block, writer, clause)?;

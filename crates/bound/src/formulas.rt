@@ -51,9 +51,7 @@ pub fn formula_as(instance: &Instance, k: u64, profile: Profile) -> Result<Formu
     ensures few { OnOk result (length (bound_as profile instance.now k).clauses < 2 ^ 28) }
     ensures without_bound { OnOk result (comparator_for profile instance.now (2 ^ 62) ≡ []) }
 {
-    // The contract of `vars` has the limits of the instance, from which those of the formula
-    // follow.
-    let _vars = instance.vars();
+    instance.limits();
     let mut clauses = ClauseList::new(instance.allocator());
     let last = keep_given(&mut clauses, instance, profile)?;
     let addition = Addition::of(instance, profile)?;

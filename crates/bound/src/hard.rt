@@ -42,8 +42,8 @@ pub(crate) fn keep_hard(
     ensures clauses { OnOk result (clauses.new ≡ clauses.old ++ kept instance.now.hard) }
     ensures marks { length marks.new ≡ length marks.old }
 {
-    // The contract of `vars` has the limits of the instance: its literals have places in the table.
-    let _vars = instance.vars();
+    // The literals have places in the table.
+    instance.limits();
     for clause in instance.hard().iter() {
         keep(clauses, marks, clause)?;
     }

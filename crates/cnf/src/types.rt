@@ -218,6 +218,16 @@ impl Instance {
         self.vars
     }
 
+    /// Says the limits of each instance; it does nothing.
+    ///
+    /// A contract that speaks of an instance behind a reference knows them once the body has called
+    /// a method of it. A body that calls no other for its own sake calls this one.
+    pub fn limits(&self)
+        ensures { IsInstance self.now }
+    {
+        let _ = &self.vars;
+    }
+
     /// The hard clauses in the order of the text.
     pub fn hard(&self) -> &ClauseList
         ensures { result.now ≡ self.now.hard }
@@ -274,6 +284,13 @@ impl Formula {
         ensures limits { IsFormula self.now }
     {
         self.vars
+    }
+
+    /// Says the limits of each formula; it does nothing. `Instance::limits` has the reason.
+    pub fn limits(&self)
+        ensures { IsFormula self.now }
+    {
+        let _ = &self.vars;
     }
 
     /// The clauses, of which the first is number 1.

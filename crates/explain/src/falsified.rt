@@ -42,8 +42,7 @@ pub fn given_up(instance: &Instance, bits: &[bool]) -> Result<Vec<GivenUp>, Allo
 fn falsified_soft(instance: &Instance, bits: &[bool]) -> Result<Vec<GivenUp>, AllocError>
     ensures { IfOk result (λ r. r.items ≡ false_soft instance.now bits.now) }
 {
-    // The contract of `vars` has the limits of the instance.
-    let _vars = instance.vars();
+    instance.limits();
     let mut falsified = Vec::new(instance.allocator());
     let mut place = 0;
     for soft in instance.soft() {
@@ -77,8 +76,7 @@ fn sort(falsified: &mut Vec<GivenUp>) -> Result<(), AllocError>
 pub fn broken(instance: &Instance, bits: &[bool]) -> Result<Vec<u32>, AllocError>
     ensures { IfOk result (λ r. r.items ≡ false_hard instance.now bits.now) }
 {
-    // The contract of `vars` has the limits of the instance.
-    let _vars = instance.vars();
+    instance.limits();
     let mut broken = Vec::new(instance.allocator());
     let mut place = 0;
     for clause in instance.hard().iter() {

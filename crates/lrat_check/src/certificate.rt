@@ -24,8 +24,7 @@ pub fn check_lines(formula: &Formula, proof: &[u8]) -> Result<Verdict, AllocErro
         → IsUnsatisfiable formula.now.clauses }
     ensures sound { IfOk result (λ v. v ≡ Verdict.Yes → IsUnsatisfiable formula.now.clauses) }
 {
-    // the clauses are those of a formula
-    let _vars = formula.vars();
+    formula.limits();
     judge_whole(Checker::new(formula)?, proof)
 }
 
@@ -34,8 +33,7 @@ pub(crate) fn check_owned(formula: Formula, proof: &[u8]) -> Result<Verdict, All
     ensures verdict { IfOk result (λ v. v ≡ proof_verdict formula.clauses proof.now) }
     ensures sound { IfOk result (λ v. v ≡ Verdict.Yes → IsUnsatisfiable formula.clauses) }
 {
-    // the clauses are those of a formula
-    let _vars = formula.vars();
+    formula.limits();
     judge_whole(Checker::over(formula)?, proof)
 }
 

@@ -17,8 +17,7 @@ pub(crate) fn check_stream<R: Read>(formula: Formula, proof: &mut R) -> Result<V
         IfSome (R.remaining proof.old) (λ bytes. v ≡ proof_verdict formula.clauses bytes)) }
     ensures sound { IfOk result (λ v. v ≡ Verdict.Yes → IsUnsatisfiable formula.clauses) }
 {
-    // the clauses are those of a formula
-    let _vars = formula.vars();
+    formula.limits();
     let Ok(checker) = Checker::over(formula) else {
         return Err(CheckFault::Memory);
     };

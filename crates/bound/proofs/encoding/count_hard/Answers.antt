@@ -29,7 +29,7 @@ overflow_add-count c =
       arith,
       c.loop-clause.invariant.counted,
       kept_le p.hard,
-      c.vars-vars.ensures.limits.hard_count,
+      c.limits.ensures.hard_count,
     ) in
     search rules
 

@@ -44,7 +44,7 @@ loop-clause-init g c = record {
   left =
       subst (All (IsClauseWithin c.args.instance.now.variables))
       (sym (c.into_iter-clause-iterator.ensures.into_iter_gives ∙ c.iter-clause-items.ensures
-      ∙ c.hard.ensures)) c.vars-vars.ensures.limits.hard_clauses;
+      ∙ c.hard.ensures)) c.limits.ensures.hard_clauses;
 }
 
 pub loop-clause-preserved-in-Continue-1 : goal.loop-clause-preserved-in-Continue-1

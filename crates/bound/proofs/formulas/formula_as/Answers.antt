@@ -11,12 +11,12 @@ use Rattle.bound.proofs.formulas.formula_as.Goals as goal
 pub keep_addition-requires : goal.keep_addition-requires
 keep_addition-requires c =
     subst IsFit (sym c.in_ok-addition.ensures)
-    (addition_fits c.args.profile c.args.instance.now c.vars-vars.ensures.limits)
+    (addition_fits c.args.profile c.args.instance.now c.limits.ensures)
 
 pub last_variable-requires : goal.last_variable-requires
 last_variable-requires c =
     addition_room c.args.profile c.args.instance.now c.in_ok-last.last c.in_ok-addition.addition
-    c.vars-vars.ensures.limits c.in_ok-last.ensures.last c.in_ok-addition.ensures
+    c.limits.ensures c.in_ok-last.ensures.last c.in_ok-addition.ensures
 
 pub new-requires : goal.new-requires
 new-requires c =
@@ -29,16 +29,16 @@ new-requires c =
     c.in_ok-keep_addition.ensures c.in_ok-keep_comparator.ensures c.in_ok-last.ensures.last
     c.in_ok-addition.ensures c.last_variable.ensures in
     subst IsFormula (sym same)
-    (bound_is_formula c.args.profile p c.args.k c.vars-vars.ensures.limits)
+    (bound_is_formula c.args.profile p c.args.k c.limits.ensures)
 
 pub returns-clause-cheaper : goal.returns-clause-cheaper
 returns-clause-cheaper c =
-    says_cheaper c.args.profile c.args.instance.now c.args.k c.vars-vars.ensures.limits
+    says_cheaper c.args.profile c.args.instance.now c.args.k c.limits.ensures
 
 pub returns-clause-few : goal.returns-clause-few
 returns-clause-few c =
-    clauses_few c.args.profile c.args.instance.now c.args.k c.vars-vars.ensures.limits
+    clauses_few c.args.profile c.args.instance.now c.args.k c.limits.ensures
 
 pub returns-clause-without_bound : goal.returns-clause-without_bound
 returns-clause-without_bound c =
-    without_bound c.args.profile c.args.instance.now c.vars-vars.ensures.limits
+    without_bound c.args.profile c.args.instance.now c.limits.ensures

@@ -11,13 +11,13 @@ returns-clause-verdict c =
 pub returns-clause-yes : goal.returns-clause-yes
 returns-clause-yes c =
     IfOk-weaker c.judge_whole.result _ _
-    (λ v h. yes_is_proof c.args.formula.now c.args.proof.now v c.vars-vars.ensures.limits
+    (λ v h. yes_is_proof c.args.formula.now c.args.proof.now v c.limits.ensures
     (h c.args.formula.now.clauses c.in_ok-new.ensures.stands)) c.judge_whole.ensures
 
 pub returns-clause-sound : goal.returns-clause-sound
 returns-clause-sound c =
     IfOk-weaker c.judge_whole.result _ _
-    (λ v h. yes_is_sound c.args.formula.now c.args.proof.now v c.vars-vars.ensures.limits
+    (λ v h. yes_is_sound c.args.formula.now c.args.proof.now v c.limits.ensures
     (h c.args.formula.now.clauses c.in_ok-new.ensures.stands)) c.judge_whole.ensures
 
 pub returns-clause-accepted : goal.returns-clause-accepted

@@ -10,5 +10,5 @@ returns-clause-verdict c =
 pub returns-clause-sound : goal.returns-clause-sound
 returns-clause-sound c =
     IfOk-weaker c.judge_whole.result _ _
-    (λ v h. yes_is_sound c.args.formula c.args.proof.now v c.vars-vars.ensures.limits
+    (λ v h. yes_is_sound c.args.formula c.args.proof.now v c.limits.ensures
     (h c.args.formula.clauses c.in_ok-over.ensures.stands)) c.judge_whole.ensures

@@ -11,5 +11,5 @@ pub returns-clause-sound : goal.returns-clause-sound
 returns-clause-sound g c =
     IfOk-weaker c.judge_stream.result _ _
     (λ v h. let j = h c.args.formula.clauses c.in-Ok.ensures.stands in
-    yes_is_sound c.args.formula j.bytes v c.vars-vars.ensures.limits j.verdict)
+    yes_is_sound c.args.formula j.bytes v c.limits.ensures j.verdict)
     c.judge_stream.ensures
