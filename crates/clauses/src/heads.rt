@@ -117,4 +117,12 @@ impl Heads {
         self.spans.truncate(count);
         self.live.truncate(count);
     }
+
+    /// Gives back the memory beyond that of the heads.
+    pub(crate) fn shrink_to_fit(&mut self)
+        ensures { self.new ≡ self.old }
+    {
+        self.spans.shrink_to_fit();
+        self.live.shrink_to_fit();
+    }
 }

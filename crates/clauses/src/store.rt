@@ -230,6 +230,15 @@ impl Store {
         Ok(Moves { pairs })
     }
 
+    /// Gives back the memory that the clauses do not need. A compaction keeps it, for clauses that
+    /// come after it.
+    pub fn shrink_to_fit(&mut self)
+        ensures { self.new ≡ self.old }
+    {
+        self.literals.shrink_to_fit();
+        self.heads.shrink_to_fit();
+    }
+
     /// The allocator that the store was made with.
     pub fn allocator(&self) -> Global {
         *self.literals.allocator()

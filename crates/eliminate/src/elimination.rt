@@ -160,6 +160,7 @@ fn move_together(store: &mut Store, names: &Names) -> Result<Vec<(CRef, Name)>, 
         AreMoved names.now.names store.old.slots store.new.slots listed.items) }
 {
     let moves = store.compact()?;
+    store.shrink_to_fit();
     let pairs = moves.pairs();
     let mut listed = Vec::with_capacity(store.allocator(), pairs.len())?;
     for (old, new) in pairs {

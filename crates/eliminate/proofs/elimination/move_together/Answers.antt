@@ -38,7 +38,7 @@ loop-old-preserved c =
 pub returns-clause-names : goal.returns-clause-names
 returns-clause-names c = (
   c.in_ok-moves.moves,
-  c.in_ok-moves.ensures.moves,
+  rw c.shrink_to_fit.ensures c.in_ok-moves.ensures.moves,
   c.loop-old.invariant
       ∙ ap (moved_names c.args.names.now.names) (take_all c.loop-old.old-index
       c.pairs-pairs.result.now c.loop-old-test.false ∙ c.pairs-pairs.ensures.pairs),
