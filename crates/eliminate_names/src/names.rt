@@ -11,6 +11,7 @@ ghost use Rattle.eliminate_names.specs.Work.{name_at, added_line, delete_line, f
 use clauses::store::{CRef, Store};
 use cnf::types::Lit;
 use lrat_log::lines::{Hint, Kind, Line, Name, Number};
+use lrat_log::packed_name::PackedName;
 use lrat_log::sink::Sink;
 use std::alloc::{AllocError, Global};
 use std::marker::Model;
@@ -19,7 +20,7 @@ use std::marker::Model;
 #[derive(Drop)]
 pub struct Names {
     // By reference, also of deleted clauses.
-    names: Vec<Name>,
+    names: Vec<PackedName>,
     // How many lines of the log add a clause; the next one is named by one more.
     additions: u64,
 }
@@ -44,7 +45,7 @@ impl Names {
         let mut names = Vec::with_capacity(alloc, store.places())?;
         let mut number = 1u64;
         for place in 0..store.places() {
-            names.push(Name::Formula(Number::new(number)))?;
+            names.push(PackedName::new(Name::Formula(Number::new(number))))?;
             match store.live_at(place) {
                 Some(_reference) => number += 1,
                 None => {}
@@ -61,7 +62,7 @@ impl Names {
         requires { reference < length self.now.names }
         ensures { result ≡ name_at self.now.names reference }
     {
-        self.names[reference.index()]
+        self.names[reference.index()].name()
     }
 }
 
@@ -92,7 +93,7 @@ pub fn add<S: Sink>(
 {
     sink.is_short();
     let name = Name::Added(Number::new(names.additions + 1));
-    names.names.push(name)?;
+    names.names.push(PackedName::new(name))?;
     names.additions += 1;
     let reference = store.add(&lits)?;
     sink.append(Line::new(kind, lits, hints))?;

@@ -1,5 +1,6 @@
 pub mod Log
 pub mod Packed
+pub mod PackedNames
 pub mod Heads
 pub mod Flat
 pub mod Texts

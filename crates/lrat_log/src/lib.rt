@@ -6,6 +6,7 @@ mod heads;
 pub mod lines;
 pub mod log;
 mod packed;
+pub mod packed_name;
 pub mod rebase;
 pub mod sink;
 mod spelling;

@@ -19,6 +19,7 @@ loop-place-preserved c =
     let n = c.loop-place.number in
     let i = c.loop-place.place in
     let pushed : c.push.new.self.items ≡ items ++ Formula n ∷ [] = c.in_ok-push.ensures.items
+    ∙ ap (λ (k : Name). items ++ k ∷ []) c.new-in-loop-place.ensures
     ∙ ap (λ k. items ++ Formula k ∷ []) c.new.ensures in
     let all : All (λ k. IsId (number_in k)) c.push.new.self.items =
     subst (All (λ k. IsId (number_in k))) (sym pushed)
