@@ -5,20 +5,17 @@ use Rattle.std.proofs.Common.{arith, ap, ◌∙◌}
 use Rattle.cnf.specs.Packed.{parity}
 use Rattle.lrat_log.specs.declared.lines.Name.{Name}
 use Rattle.lrat_log.specs.declared.lines.Name.TheVariants.{Formula, Added}
+use Rattle.lrat_log.specs.Packed.{name_as}
 use Rattle.lrat_log.specs.declared.packed_name.PackedName.TheInside.{Inside}
 
-abbrev pub word_as : Bool → ℕ → Name
-word_as true n = Added n
-word_as false n = Formula n
-
 abbrev pub name_in : Inside → Name
-name_in a = word_as (a.code % 2 == 1) (a.code / 2)
+name_in a = name_as (a.code % 2 == 1) (a.code / 2)
 
 abbrev pub code_of : Name → Inside
 code_of (Formula i) = record { code = 2 * i }
 code_of (Added j) = record { code = 2 * j + 1 }
 
-code_of-as : (b : Bool) (n : ℕ) → (code_of (word_as b n)).code ≡ 2 * n + (if b then 1 else 0)
+code_of-as : (b : Bool) (n : ℕ) → (code_of (name_as b n)).code ≡ 2 * n + (if b then 1 else 0)
 code_of-as true n = omega arith
 code_of-as false n = omega arith
 
