@@ -56,7 +56,8 @@ pub(crate) fn collect_hints(
     ensures { IfOk result (λ hints. hints.items ≡ chosen_reasons
         (λ l. resolved_of marks.now l.variable) engine.now.trail ++ conflict ∷ []) }
 {
-    let mut hints = Vec::new(alloc);
+    // Room for all at once, so that they do not grow step by step.
+    let mut hints = Vec::with_capacity(alloc, met.len().saturating_add(1))?;
     for position in met {
         let variable = literal_at(engine, *position).variable();
         if marks[variable as usize] == Mark::Resolved

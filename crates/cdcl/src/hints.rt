@@ -98,6 +98,7 @@ fn add_named(hints: &mut Vec<Hint>, names: &[Name], references: &[CRef]) -> Resu
     ensures { OnOk result (hints.new.items
         ≡ hints.old.items ++ plain_hints (map (name_at names.now) references.now)) }
 {
+    hints.reserve(references.len())?;
     for reference in references {
         hints.push(Hint::Plain(names[reference.index()]))?;
     }

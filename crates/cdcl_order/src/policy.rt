@@ -99,6 +99,7 @@ impl Policy {
     }
 
     /// The literal is not true any more, so its variable may be decided again.
+    #[inline]
     pub fn put_back(&mut self, lit: Lit)
         requires { (0 < lit.variable) × (lit.variable ≤ self.old.variables) }
         ensures { self.new ≡ self.old }
