@@ -73,8 +73,7 @@ impl Bounds {
         ensures over { IfOk result (λ b. IsOver instance.now b) }
         ensures none { IfOk result (HasNoBound profile) }
     {
-        // The contract of `vars` has the limits of the instance.
-        let _vars = instance.vars();
+        instance.limits();
         let addition = Addition::of(instance, profile)?;
         let mut solver = make_solver(instance, profile, &addition)?;
         weigh(&mut solver, &Relaxations::of(instance, profile)?.each);
@@ -99,7 +98,7 @@ impl Bounds {
         ensures learned { OnOk result
             (learned_count self.new.solver.sink ≡ learned_count self.old.solver.sink) }
     {
-        let _vars = instance.vars();
+        instance.limits();
         let clauses = comparator_as(&self.addition, cost)?;
         give_all(&mut self.solver, &clauses)?;
         self.last = clauses.len();
@@ -143,7 +142,7 @@ impl Bounds {
         ensures { (before : List ℕ) (c : ℕ) → self.now.costs.items ≡ before ++ c ∷ []
             → result ≡ length (bound_as self.now.profile instance.now c).clauses }
     {
-        let _vars = instance.vars();
+        instance.limits();
         self.fixed as u64 + self.last as u64
     }
 
@@ -155,7 +154,7 @@ impl Bounds {
         requires falling { AreFalling self.now.costs.items }
         ensures { IfOk result (λ log. BoundLog instance.now self.now log) }
     {
-        let _vars = instance.vars();
+        instance.limits();
         let sink = self.solver.sink();
         sink.is_short();
         let given = self.solver.given();
@@ -174,7 +173,7 @@ fn make_solver(
     requires { addition.now ≡ addition_as profile instance.now }
     ensures { IfOk result (IsOverFixed profile instance.now) }
 {
-    let _vars = instance.vars();
+    instance.limits();
     let formula = formula_as(instance, NO_BOUND, profile)?;
     let alloc = instance.allocator();
     let frozen = freeze_compared(alloc, instance, addition, formula.vars())?;

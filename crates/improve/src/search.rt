@@ -141,8 +141,7 @@ pub fn improve_watched<T: Progress, W: Watch>(
 fn make_hard_solver(instance: &Instance) -> Result<Solver<Log>, AllocError>
     ensures { IfOk result (IsOverHard instance.now) }
 {
-    // The contract of `vars` has the limits of the instance.
-    let _instance_vars = instance.vars();
+    instance.limits();
     let alloc = instance.allocator();
     let formula = hard_formula(instance)?;
     let vars = formula.vars() as usize;

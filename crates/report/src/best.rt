@@ -63,8 +63,7 @@ pub fn write_best<W: Write>(
         (best_text (Satisfiable cost bits.now))) }
     ensures true_text { IsTrueText instance.now (best_text (Satisfiable cost bits.now)) }
 {
-    // The contract of `vars` has the limits of the instance.
-    let _vars = instance.vars();
+    instance.limits();
     write_solution(cost, spell_satisfiable(bits), bits, writer)
 }
 
@@ -85,7 +84,7 @@ pub fn write_found<W: Write>(
         (best_text (said_of found.now))) }
     ensures true_text { IsTrueText instance.now (best_text (said_of found.now)) }
 {
-    let _vars = instance.vars();
+    instance.limits();
     match found {
         Found::Optimum { cost, bits, .. } => {
             write_solution(*cost, spell_optimum(bits), bits, writer)

@@ -129,7 +129,7 @@ fn search<O: Write, K: Keep>(
     ensures { Searches profile instance.now result (O.contents out.old)
         (O.contents out.new) budget.old budget.new }
 {
-    let _limits = instance.vars();
+    instance.limits();
     let mut told = Told::new(alloc, out);
     let searched = improve_watched(instance, budget, &mut told, profile, keeper);
     let Finished { writer, fault } = told.finish();

@@ -7,4 +7,4 @@ pub freeze_compared-requires : goal.freeze_compared-requires
 freeze_compared-requires c =
     let vars = c.vars.ensures.vars ∙ ap (λ f. f.variables) c.in_ok-formula.ensures.clauses in
     rw (c.requires, vars) (addition_within c.args.profile c.args.instance.now
-    (2 ^ 62) c.vars-vars.ensures.limits)
+    (2 ^ 62) c.limits.ensures)

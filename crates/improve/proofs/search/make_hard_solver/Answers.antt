@@ -7,7 +7,7 @@ pub returns : goal.returns
 returns c =
     let formula = c.in_ok-solver.ensures.given.0 ∙ c.in_ok-formula.ensures.clauses in
     record {
-      instance = c.vars-instance_vars.ensures.limits;
+      instance = c.limits.ensures;
       works = c.in_ok-solver.ensures.works;
       formula = formula;
       given = given_whole c.in_ok-solver.solver _ formula c.in_ok-solver.ensures.given.1;

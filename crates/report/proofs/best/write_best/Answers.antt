@@ -26,5 +26,5 @@ returns-clause-fault g c =
 
 pub returns-clause-true_text : goal.returns-clause-true_text
 returns-clause-true_text g c =
-    satisfiable_true c.args.instance.now c.args.cost c.args.bits.now c.vars-vars.ensures.limits
+    satisfiable_true c.args.instance.now c.args.cost c.args.bits.now c.limits.ensures
     c.requires

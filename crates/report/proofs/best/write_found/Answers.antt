@@ -32,7 +32,7 @@ returns-in-Optimum-clause-fault g c =
 
 pub returns-in-Optimum-clause-true_text : goal.returns-in-Optimum-clause-true_text
 returns-in-Optimum-clause-true_text g c =
-    found_true c.args.instance.now c.args.found.now c.vars-vars.ensures.limits c.requires
+    found_true c.args.instance.now c.args.found.now c.limits.ensures c.requires
 
 pub returns-in-Unsat-clause-ok : goal.returns-in-Unsat-clause-ok
 returns-in-Unsat-clause-ok g c =
@@ -48,7 +48,7 @@ returns-in-Unsat-clause-fault g c =
 
 pub returns-in-Unsat-clause-true_text : goal.returns-in-Unsat-clause-true_text
 returns-in-Unsat-clause-true_text g c =
-    found_true c.args.instance.now c.args.found.now c.vars-vars.ensures.limits c.requires
+    found_true c.args.instance.now c.args.found.now c.limits.ensures c.requires
 
 pub returns-in-Best-clause-ok : goal.returns-in-Best-clause-ok
 returns-in-Best-clause-ok g c =
@@ -72,7 +72,7 @@ returns-in-Best-clause-fault g c =
 
 pub returns-in-Best-clause-true_text : goal.returns-in-Best-clause-true_text
 returns-in-Best-clause-true_text g c =
-    found_true c.args.instance.now c.args.found.now c.vars-vars.ensures.limits c.requires
+    found_true c.args.instance.now c.args.found.now c.limits.ensures c.requires
 
 pub returns-in-Nothing-clause-fault : goal.returns-in-Nothing-clause-fault
 returns-in-Nothing-clause-fault g c =
@@ -82,4 +82,4 @@ returns-in-Nothing-clause-fault g c =
 
 pub returns-in-Nothing-clause-true_text : goal.returns-in-Nothing-clause-true_text
 returns-in-Nothing-clause-true_text g c =
-    found_true c.args.instance.now c.args.found.now c.vars-vars.ensures.limits c.requires
+    found_true c.args.instance.now c.args.found.now c.limits.ensures c.requires
