@@ -16,7 +16,7 @@ returns g c =
     let name = ap (λ w. w.ghost_name) f.writer ∙ t.0 ∙ n.writer in
     let result = c.conclude.ensures ∙ ap (outcome_of c.improve_watched-searched.result) f.fault in
     let s =
-    search_ended c.args.profile p c.vars-limits.ensures.limits _ _ c.args.budget.now
+    search_ended c.args.profile p c.limits.ensures _ _ c.args.budget.now
     c.improve_watched-searched.new.budget _ _ _ n.none.0 n.none.1 t.1 c.improve_watched-searched.result
     c.improve_watched-searched.ensures.improves in
     let first =
