@@ -2,6 +2,7 @@
 use Rattle.std.specs.Prelude.{◌≡◌, ℕ, ◌+◌, ◌*◌, ◌<◌, ◌≤◌, ◌^◌, Bool, true, not, List, ◌++◌, length}
 use Rattle.std.specs.Prelude.{◌==◌, All}
 use Rattle.cnf.specs.Literal.{Literal}
+use Rattle.cnf.specs.declared.limits.TheConstants.{VARIABLE_LIMIT, FORMULA_VARIABLE_LIMIT}
 use Rattle.adder.specs.declared.cells.Cell.{Cell}
 use Rattle.adder.specs.declared.profiles.Relaxing.{Relaxing}
 use Rattle.adder.specs.declared.profiles.Relaxing.TheVariants.{EachByVariable, UnitsByNegation}
@@ -12,7 +13,9 @@ use Rattle.bound.specs.Bound.{kept}
 
 -- its sum and its carry are variables
 abbrev pub HasVariables : Cell → Type 0
-HasVariables cell = (0 < cell.sum) × (cell.sum < 2 ^ 27) × (0 < cell.carry) × (cell.carry < 2 ^ 27)
+HasVariables cell =
+    (0 < cell.sum) × (cell.sum < VARIABLE_LIMIT)
+    × (0 < cell.carry) × (cell.carry < VARIABLE_LIMIT)
 
 -- a soft clause of one literal may be given up by the negation of that
 abbrev pub gets_variable : Relaxing → List Literal → Bool
@@ -30,7 +33,7 @@ IsFit (Sums n) = length n.clauses ≤ 2 ^ 17
 
 -- so are the variables, where the last one of the relaxation is known
 abbrev pub HasRoom : ℕ → Addition → Type 0
-HasRoom relaxed (Network n) = relaxed + 2 * length n.cells < 2 ^ 26
+HasRoom relaxed (Network n) = relaxed + 2 * length n.cells < FORMULA_VARIABLE_LIMIT
 HasRoom relaxed (Sums n) = 0 < n.fresh
 
 -- the clauses are added, as they are kept

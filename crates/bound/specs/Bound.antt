@@ -9,6 +9,7 @@ use Rattle.cnf.specs.Literal.{Assignment, Literal, negation, positive}
 use Rattle.cnf.specs.Clause.{Satisfies, IsCovered, distinct, has_opposites}
 use Rattle.cnf.specs.Formula.{Cnf}
 use Rattle.cnf.specs.Problem.{Problem, IsFeasible, cost_under}
+use Rattle.cnf.specs.declared.limits.TheConstants.{NUMBER_LIMIT}
 use Rattle.text.specs.Text.{literal_text}
 use Rattle.text.specs.Writing.{spaced}
 use Rattle.adder.specs.declared.cells.Cell.{Cell}
@@ -115,10 +116,10 @@ abbrev pub last_variable : ℕ → Addition → ℕ
 last_variable relaxed (Network n) = relaxed + 2 * length n.cells
 last_variable relaxed (Sums n) = n.fresh - 1
 
--- what is added up is below k; sums say nothing of 2^62 and above, which no cost reaches
+-- what is added up is below k; sums say nothing of a bound that no cost reaches
 abbrev pub comparator_over : Addition → ℕ → List (List Literal)
 comparator_over (Network n) k = comparator_of n.outputs k
-comparator_over (Sums n) k = if nat_le (2 ^ 62) k then [] else kept (comparator n k)
+comparator_over (Sums n) k = if nat_le NUMBER_LIMIT k then [] else kept (comparator n k)
 
 -- all but the comparator
 abbrev pub fixed_clauses : Profile → Problem → List (List Literal)

@@ -1,8 +1,9 @@
 -- Formulas: clauses numbered from 1.
-use Rattle.std.specs.Prelude.{◌≡◌, ℕ, zero, suc, ◌<◌, ◌≤◌, ◌^◌, false, List, Option, None}
+use Rattle.std.specs.Prelude.{◌≡◌, ℕ, zero, suc, ◌<◌, ◌≤◌, false, List, Option, None}
 use Rattle.std.specs.Prelude.{slice_get, All}
 use Rattle.cnf.specs.Literal.{Literal, Assignment}
 use Rattle.cnf.specs.Clause.{Satisfies, has_repeat, has_opposites, greatest_variable}
+use Rattle.cnf.specs.declared.limits.TheConstants.{FORMULA_VARIABLE_LIMIT}
 
 pub record Cnf : Type 0 where
   pub variables : ℕ
@@ -16,7 +17,7 @@ pub record IsFormulaClause (variables : ℕ) (c : List Literal) : Type 0 where
   pub small : greatest_variable c ≤ variables
 
 pub record IsFormula (f : Cnf) : Type 0 where
-  pub few : f.variables < 2 ^ 26
+  pub few : f.variables < FORMULA_VARIABLE_LIMIT
   pub clauses : All (IsFormulaClause f.variables) f.clauses
 
 -- a clause by its number

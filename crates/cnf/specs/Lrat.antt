@@ -1,6 +1,6 @@
 -- LRAT certificates (Cruz-Filipe et al. 2017): lines, what a correct line is, and what a whole
 -- certificate is.
-use Rattle.std.specs.Prelude.{◌≡◌, ℕ, ◌<◌, ◌^◌, Bool, true, false, List, [], ◌∷◌, ◌++◌, length, map}
+use Rattle.std.specs.Prelude.{◌≡◌, ℕ, ◌<◌, Bool, true, false, List, [], ◌∷◌, ◌++◌, length, map}
 use Rattle.std.specs.Prelude.{Some, None, ◌==◌, nat_eq, if◌then◌else◌, Contains, ◌⊎◌}
 use Rattle.std.specs.Prelude.{◌↔◌}
 use Rattle.std.specs.List.{IsDistinct, AllByRecursion, list_any}
@@ -10,10 +10,11 @@ use Rattle.cnf.specs.Clause.{contains_literal, without_literal, has_repeat, has_
 use Rattle.cnf.specs.Clause.{greatest_variable}
 use Rattle.cnf.specs.Formula.{numbered}
 use Rattle.cnf.specs.Refute.{Clauses, Leads, Refutes}
+use Rattle.cnf.specs.declared.limits.TheConstants.{NUMBER_LIMIT, VARIABLE_LIMIT}
 
 -- the number of a clause, or of a variable that a line may spell
 abbrev pub IsId : ℕ → Type 0
-IsId n = (0 < n) × (n < 2 ^ 62)
+IsId n = (0 < n) × (n < NUMBER_LIMIT)
 
 -- a candidate of a RAT line, and the hints for it
 pub record CandidateHints : Type 0 where
@@ -49,7 +50,7 @@ pub record IsAddable (live : Live) (id : ℕ) (c : List Literal) : Type 0 where
   pub rising : live.last < id
   pub no_repeat : has_repeat c ≡ false
   pub no_opposites : has_opposites c ≡ false
-  pub small : greatest_variable c < 2 ^ 27
+  pub small : greatest_variable c < VARIABLE_LIMIT
 
 -- The candidate d resolves with the pivot to a clause that is already true under B, or that is
 -- refuted by the group's hints.

@@ -7,6 +7,12 @@ pub const NUMBER_LIMIT: u64 = 1 << 62;
 /// The variables of literals lie below this: the greatest bound of a certificate's literal.
 pub const VARIABLE_LIMIT: u32 = 1 << 27;
 
+/// The number of variables of a formula lies below this, with those that an encoding adds.
+pub const FORMULA_VARIABLE_LIMIT: u32 = 1 << 26;
+
+/// The number of clauses of a formula that is made of a text lies below this.
+pub const CLAUSE_LIMIT: u32 = 1 << 28;
+
 /// The greatest variable that a text may have.
 pub const MOST_VARIABLES: u32 = 1 << 22;
 

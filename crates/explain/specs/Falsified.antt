@@ -1,14 +1,15 @@
 -- Which clauses of an instance bits make false.
-use Rattle.std.specs.Prelude.{ℕ, ◌+◌, ◌-◌, ◌^◌, Bool, List, [], ◌∷◌, if◌then◌else◌}
+use Rattle.std.specs.Prelude.{ℕ, ◌+◌, ◌-◌, Bool, List, [], ◌∷◌, if◌then◌else◌}
 use Rattle.cnf.specs.Literal.{Assignment, Literal}
 use Rattle.cnf.specs.Clause.{clause_value}
 use Rattle.cnf.specs.Problem.{Problem, SoftClause}
 use Rattle.cnf.specs.Bits.{assignment_of}
+use Rattle.cnf.specs.declared.limits.TheConstants.{NUMBER_LIMIT}
 use Rattle.explain.specs.declared.falsified.GivenUp.{GivenUp}
 
 -- no weight is greater
 abbrev pub most_weight : ℕ
-most_weight = 2 ^ 62 - 1
+most_weight = NUMBER_LIMIT - 1
 
 -- the false ones among soft clauses, of which the first has place i
 abbrev pub false_soft_from : Assignment → ℕ → List SoftClause → List GivenUp

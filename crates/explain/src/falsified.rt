@@ -8,6 +8,7 @@ ghost use Rattle.cnf.specs.Literal.{literal_value};
 ghost use Rattle.cnf.specs.Problem.{cost_under};
 ghost use Rattle.explain.specs.Falsified.{false_hard, false_soft, most_weight};
 
+use cnf::limits::NUMBER_LIMIT;
 use cnf::types::{Instance, Lit};
 use std::alloc::AllocError;
 
@@ -104,4 +105,4 @@ fn is_true(lit: Lit, bits: &[bool]) -> bool
 }
 
 /// No weight is greater.
-const MOST_WEIGHT: u64 = 4_611_686_018_427_387_903;
+const MOST_WEIGHT: u64 = NUMBER_LIMIT - 1;

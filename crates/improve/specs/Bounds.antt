@@ -1,8 +1,9 @@
 -- A solver that is given bound after bound.
-use Rattle.std.specs.Prelude.{◌≡◌, ℕ, ◌+◌, ◌<◌, ◌≤◌, ◌^◌, Bool, false, List, [], ◌∷◌, ◌++◌, length}
+use Rattle.std.specs.Prelude.{◌≡◌, ℕ, ◌+◌, ◌<◌, ◌≤◌, Bool, false, List, [], ◌∷◌, ◌++◌, length}
 use Rattle.cnf.specs.Literal.{Literal}
 use Rattle.cnf.specs.Problem.{Problem}
 use Rattle.cnf.specs.Instance.{IsInstance}
+use Rattle.cnf.specs.declared.limits.TheConstants.{NUMBER_LIMIT}
 use Rattle.lrat_log.specs.Log.{LogLine, clauses_in}
 use Rattle.lrat_log.specs.Steps.{IsLogOver, IsAcceptedLog, AddsNoEmptyClause, LearnsNew}
 use Rattle.lrat_log.specs.Steps.{is_later, learned_count, given_of}
@@ -49,7 +50,7 @@ HasLast b before c = (b.costs).items ≡ before ++ c ∷ []
 pub record IsOver (p : Problem) (b : Bounds) : Type 0 where
   pub instance : IsInstance p
   pub usable : IsUsable b.solver
-  pub formula : (b.solver).formula ≡ bound_as b.profile p (2 ^ 62)
+  pub formula : (b.solver).formula ≡ bound_as b.profile p NUMBER_LIMIT
   pub clauses : clauses_in (given_to b.solver)
       ≡ fixed_clauses b.profile p ++ comparators_for b.profile p (b.costs).items
   pub addition : b.addition ≡ addition_as b.profile p
@@ -62,7 +63,7 @@ pub record IsOver (p : Problem) (b : Bounds) : Type 0 where
 pub record IsOverFixed (profile : Profile) (p : Problem) (s : LogSolver) : Type 0 where
   pub instance : IsInstance p
   pub works : s.failed ≡ false
-  pub formula : s.formula ≡ bound_as profile p (2 ^ 62)
+  pub formula : s.formula ≡ bound_as profile p NUMBER_LIMIT
   pub none_added : s.added ≡ []
   pub log : IsLogOver (given_to s) s.sink
   pub learned : learned_count s.sink ≡ 0

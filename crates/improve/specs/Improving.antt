@@ -1,5 +1,5 @@
 -- What the improving search finds.
-use Rattle.std.specs.Prelude.{◌≡◌, ◌+◌, ◌<◌, ◌^◌, [], ◌∷◌, ◌++◌, if◌then◌else◌, ⊤}
+use Rattle.std.specs.Prelude.{◌≡◌, ◌+◌, ◌<◌, [], ◌∷◌, ◌++◌, if◌then◌else◌, ⊤}
 use Rattle.std.specs.Prelude.{ℕ, Bool, List, length, map, drop, All}
 use Rattle.std.specs.Prelude.{Option, Some, Result, Ok, Err, IfOk, OnOk}
 use Rattle.std.specs.List.{flat_map}
@@ -9,6 +9,7 @@ use Rattle.cnf.specs.Bits.{Extends}
 use Rattle.cnf.specs.Problem.{Problem, IsFeasible, cost_under, IsOptimal, IsInconsistent}
 use Rattle.cnf.specs.Refute.{IsRefutedByHints}
 use Rattle.cnf.specs.Lrat.{Accepts, start_of}
+use Rattle.cnf.specs.declared.limits.TheConstants.{CLAUSE_LIMIT}
 use Rattle.lrat_log.specs.declared.lines.Name.TheVariants.{Formula}
 use Rattle.lrat_log.specs.declared.lines.Hint.TheVariants.{Plain}
 use Rattle.lrat_log.specs.declared.lines.Kind.TheVariants.{Empty}
@@ -130,7 +131,7 @@ pub record IsBoundWork (profile : Profile) (p : Problem) (costs : List ℕ) (c :
 
 -- the number of these clauses, which are few
 abbrev pub IsClauseCount : ℕ → List (List Literal) → Type 0
-IsClauseCount n cs = (n ≡ length cs) × (n < 2 ^ 28)
+IsClauseCount n cs = (n ≡ length cs) × (n < CLAUSE_LIMIT)
 
 -- What was found is right, where these costs were told.
 

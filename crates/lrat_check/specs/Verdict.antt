@@ -14,6 +14,7 @@ use Rattle.wcnf.specs.Reading.{reading_of}
 use Rattle.cnf.specs.Bits.{assignment_of}
 use Rattle.cnf.specs.Refute.{Clauses}
 use Rattle.cnf.specs.Lrat.{Live, CandidateHints, start_of, with_clause}
+use Rattle.cnf.specs.declared.limits.TheConstants.{VARIABLE_LIMIT}
 use Rattle.adder.specs.declared.cells.Profile.{Profile}
 use Rattle.adder.specs.declared.cells.Profile.TheVariants.{One}
 use Rattle.bound.specs.Bound.{hard_cnf, bound_as}
@@ -122,7 +123,7 @@ abbrev pub addition_fault : Live → ℕ → List Literal → List (Bool × ℕ)
 addition_fault live id c hints =
     if nat_le id live.last then Some IdOrder
     else if has_repeat c || has_opposites c
-    || list_any (λ l. nat_le 134217728 l.variable) c then Some ClauseForm
+    || list_any (λ l. nat_le VARIABLE_LIMIT l.variable) c then Some ClauseForm
     else clause_fault live c (walk live.clause_at (map negation c) (leading hints))
     (groups_of hints)
 

@@ -1,11 +1,13 @@
 -- The solver's log: lines over names, and how names become ids.
-use Rattle.std.specs.Prelude.{◌≡◌, ℕ, ◌+◌, ◌<◌, ◌^◌, Bool, true, false, List, [], ◌∷◌, length, map}
+use Rattle.std.specs.Prelude.{◌≡◌, ℕ, ◌+◌, ◌<◌, Bool, true, false, List, [], ◌∷◌, length, map}
 use Rattle.std.specs.Prelude.{Option, Some, None, ◌==◌, if◌then◌else◌, All, ⊤, slice_index_or}
 use Rattle.std.specs.List.{flat_map}
 use Rattle.cnf.specs.Literal.{Literal}
 use Rattle.text.specs.Writing.{spaced}
 use Rattle.cnf.specs.Lrat.{ProofLine, Addition, Deletion, CandidateHints, Live}
 use Rattle.cnf.specs.Lrat.{IsId}
+use Rattle.cnf.specs.declared.limits.TheConstants.{NUMBER_LIMIT}
+use Rattle.lrat_log.specs.declared.log.TheConstants.{LINE_LIMIT}
 use Rattle.text.specs.LratText.{line_tokens}
 use Rattle.lrat_log.specs.declared.lines.Name.{Name}
 use Rattle.lrat_log.specs.declared.lines.Name.TheVariants.{Formula, Added}
@@ -47,12 +49,12 @@ abbrev pub is_group : Hint → Bool
 is_group (Plain n) = false
 is_group (Group n) = true
 
--- the number in the hint's name is from 1 and below 2^62
+-- the number in the hint's name is from 1 and below the limit
 abbrev pub HasNumber : Hint → Type 0
 HasNumber h = IsId (number_in (name_of h))
 
--- what is known of each line: variables and numbers are from 1 and below 2^62; one that deletes has
--- no literals, and its hints are plain
+-- what is known of each line: variables and numbers are from 1 and below the limit; one that
+-- deletes has no literals, and its hints are plain
 pub record IsLine (l : LogLine) : Type 0 where
   pub literals : All (λ k. IsId k.variable) l.clause
   pub names : All HasNumber l.hints
@@ -64,7 +66,7 @@ line_at ls i = slice_index_or ls i (record { kind = Empty; clause = []; hints = 
 
 -- what is known of each log
 pub record IsLog (ls : List LogLine) : Type 0 where
-  pub short : length ls < 2 ^ 61
+  pub short : length ls < LINE_LIMIT
   pub lines : All IsLine ls
 
 abbrev pub id_of : ℕ → Name → ℕ
@@ -117,6 +119,6 @@ given_at ((Added n, c) ∷ more) i = given_at more i
 abbrev pub start_over : Given → ℕ → Live
 start_over given base = record { clause_at = given_at given; last = base }
 
--- the number in each name becomes an id below 2^62
+-- the number in each name becomes an id below the limit
 abbrev pub HasSmallIds : ℕ → List LogLine → Type 0
-HasSmallIds base ls = All (λ l. All (λ h. id_of base (name_of h) < 2 ^ 62) l.hints) ls
+HasSmallIds base ls = All (λ l. All (λ h. id_of base (name_of h) < NUMBER_LIMIT) l.hints) ls

@@ -6,6 +6,7 @@ use Rattle.std.specs.List.{list_any}
 use Rattle.cnf.specs.Literal.{Literal}
 use Rattle.text.specs.Text.{number_of}
 use Rattle.cnf.specs.Lrat.{CandidateHints}
+use Rattle.cnf.specs.declared.limits.TheConstants.{NUMBER_LIMIT}
 
 -- with its dash, where it has one
 abbrev pub signed_of : List ℕ → Option (Bool × ℕ)
@@ -15,7 +16,7 @@ signed_of (b ∷ bs) =
   where
     tagged : Bool → Option ℕ → Option (Bool × ℕ)
     tagged s None = None
-    tagged s (Some n) = if nat_lt n 4611686018427387904 then Some (s, n) else None
+    tagged s (Some n) = if nat_lt n NUMBER_LIMIT then Some (s, n) else None
 
 -- numbers that are not 0, up to the first 0, and what follows that
 abbrev pub block_of : List (List ℕ) → Option (List (Bool × ℕ) × List (List ℕ))

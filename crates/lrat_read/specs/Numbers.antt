@@ -1,7 +1,8 @@
 -- What stands in a line from a place on: a run of digits, a number, or a lone letter d.
-use Rattle.std.specs.Prelude.{◌≡◌, ℕ, ◌+◌, ◌<◌, ◌≤◌, ◌^◌, true, false, List, [], ◌∷◌, length, drop}
+use Rattle.std.specs.Prelude.{◌≡◌, ℕ, ◌+◌, ◌<◌, ◌≤◌, true, false, List, [], ◌∷◌, length, drop}
 use Rattle.std.specs.Prelude.{slice_index, slice_range, Option, Some, None}
 use Rattle.std.specs.List.{list_all}
+use Rattle.cnf.specs.declared.limits.TheConstants.{NUMBER_LIMIT}
 use Rattle.text.specs.Text.{tokens_of, begins_with_token, is_digit, value_on}
 use Rattle.lrat_read.specs.Form.{signed_of}
 use Rattle.lrat_read.specs.declared.numbers.Digits.{Digits}
@@ -17,11 +18,11 @@ pub record IsDigitsAt (line : List ℕ) (start : ℕ) (d : Digits) : Type 0 wher
   pub value : d.value ≡ value_on 0 (slice_range line start d.end)
   pub stops : d.end < length line → d.end < start + 19 → is_digit (slice_index line d.end) ≡ false
 
--- the run is a plainly spelled number below 2^62, with nothing after it in its token
+-- the run is a plainly spelled number below the limit, with nothing after it in its token
 pub record IsNumber (line : List ℕ) (start : ℕ) (d : Digits) : Type 0 where
   pub nonempty : start < d.end
   pub lead : slice_index line start ≡ 48 → d.end ≡ start + 1
-  pub small : d.value < 2 ^ 62
+  pub small : d.value < NUMBER_LIMIT
   pub ends : begins_with_token (drop d.end line) ≡ false
 
 -- the run is a number, and a space follows
@@ -37,7 +38,7 @@ IsNumberAt line at Malformed =
     (t : List ℕ) × (ts : List (List ℕ)) × (tokens_of (drop at line) ≡ t ∷ ts) × (signed_of t ≡ None)
 IsNumberAt line at (Number s n end) =
     (t : List ℕ) × (tokens_of (drop at line) ≡ t ∷ tokens_of (drop end line))
-    × (signed_of t ≡ Some (s, n)) × (n < 2 ^ 62) × (at < end) × (end ≤ length line)
+    × (signed_of t ≡ Some (s, n)) × (n < NUMBER_LIMIT) × (at < end) × (end ≤ length line)
 
 -- the place after the letter d, where that is the next token
 abbrev pub IsAfterLetter : List ℕ → ℕ → Option ℕ → Type 0

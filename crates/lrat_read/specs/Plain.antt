@@ -5,6 +5,7 @@ use Rattle.std.specs.Prelude.{take, slice_index, slice_range, map, Some, ◌==�
 use Rattle.std.specs.Int.{from_bool}
 use Rattle.std.specs.List.{list_all, list_any, AllByRecursion}
 use Rattle.cnf.specs.Literal.{Literal}
+use Rattle.cnf.specs.declared.limits.TheConstants.{NUMBER_LIMIT}
 use Rattle.text.specs.Text.{tokens_of, is_digit, value_on}
 use Rattle.lrat_read.specs.Blocks.{IsLitsRead, IsLastRead}
 use Rattle.lrat_read.specs.Reader.{IsReadAs}
@@ -98,7 +99,7 @@ pub record IsSpanWithin (most_lits most_hints : ℕ) (s : Span) : Type 0 where
   pub lits : s.lits_end ≤ most_lits
   pub hints_order : s.hints_start ≤ s.hints_end
   pub hints : s.hints_end ≤ most_hints
-  pub small : s.id < 2 ^ 62
+  pub small : s.id < NUMBER_LIMIT
 
 -- the lines of spans, and that each span lies before these places
 abbrev pub lines_in : List Literal → List (Bool × ℕ) → List Span → List ReadLine

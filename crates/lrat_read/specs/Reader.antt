@@ -2,6 +2,7 @@
 use Rattle.std.specs.Prelude.{◌≡◌, ℕ, Bool, false, List, [], ◌∷◌, map, Some, nat_le}
 use Rattle.std.specs.List.{list_any}
 use Rattle.cnf.specs.Literal.{Literal}
+use Rattle.cnf.specs.declared.limits.TheConstants.{VARIABLE_LIMIT}
 use Rattle.lrat_read.specs.Form.{signed_of, line_of, Addition as AddsLine, Deletion as DeletesLine}
 use Rattle.lrat_read.specs.Form.{Malformed as NoLine}
 use Rattle.lrat_read.specs.declared.types.Form.{Form}
@@ -15,9 +16,9 @@ pub record LineState : Type 0 where
   pub is_large : Bool
   pub hints : List (Bool × ℕ)
 
--- some variable is 2^27 or more
+-- some variable is not below the limit
 abbrev pub is_large_clause : List Literal → Bool
-is_large_clause c = list_any (λ l. nat_le 134217728 l.variable) c
+is_large_clause c = list_any (λ l. nat_le VARIABLE_LIMIT l.variable) c
 
 abbrev pub IsReadAs : List (List ℕ) → Form → LineState → Type 0
 IsReadAs ts Blank s = ts ≡ []

@@ -1,9 +1,10 @@
 -- Result texts: what they say, and the first line that cannot stand there.
-use Rattle.std.specs.Prelude.{◌≡◌, ℕ, ◌+◌, ◌<◌, ◌^◌, Bool, true, false, not, ◌&&◌, List, [], ◌∷◌}
+use Rattle.std.specs.Prelude.{◌≡◌, ℕ, ◌+◌, ◌<◌, Bool, true, false, not, ◌&&◌, List, [], ◌∷◌}
 use Rattle.std.specs.Prelude.{◌++◌, map, filter, Option, Some, None, Result as Outcome, Ok, Err}
 use Rattle.std.specs.Prelude.{nat_lt, ◌==◌, if◌then◌else◌, All}
 use Rattle.std.specs.Fmt.{decimal}
 use lib.Chars.{codes}
+use Rattle.cnf.specs.declared.limits.TheConstants.{NUMBER_LIMIT}
 use Rattle.text.specs.Text.{token_lines, number_of}
 use Rattle.lrat_result.specs.declared.report.Status.{Status}
 use Rattle.lrat_result.specs.declared.report.Status.TheVariants.{Optimum, Unsat, Sat, Limit}
@@ -43,8 +44,10 @@ result_tokens before Unsatisfiable = (codes "s" ∷ codes "UNSATISFIABLE" ∷ []
 result_tokens before Unknown = (codes "s" ∷ codes "UNKNOWN" ∷ []) ∷ []
 
 abbrev pub FallsTo : List ℕ → Said → Type 0
-FallsTo before (OptimumFound c bits) = fall_to before c × All (λ d. d < 2 ^ 62) (before ++ c ∷ [])
-FallsTo before (Satisfiable c bits) = fall_to before c × All (λ d. d < 2 ^ 62) (before ++ c ∷ [])
+FallsTo before (OptimumFound c bits) =
+    fall_to before c × All (λ d. d < NUMBER_LIMIT) (before ++ c ∷ [])
+FallsTo before (Satisfiable c bits) =
+    fall_to before c × All (λ d. d < NUMBER_LIMIT) (before ++ c ∷ [])
 FallsTo before Unsatisfiable = before ≡ []
 FallsTo before Unknown = before ≡ []
 
@@ -92,7 +95,7 @@ cost_of (o ∷ t ∷ []) = if same_bytes o (codes "o") then small (number_of t) 
   where
     small : Option ℕ → Option ℕ
     small None = None
-    small (Some c) = if nat_lt c 4611686018427387904 then Some c else None
+    small (Some c) = if nat_lt c NUMBER_LIMIT then Some c else None
 cost_of other = None
 
 abbrev pub bits_on : List ℕ → Option (List Bool)

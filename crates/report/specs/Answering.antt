@@ -1,8 +1,9 @@
 -- What a run writes of what was found: the certificate, and the end of the result.
-use Rattle.std.specs.Prelude.{◌≡◌, ℕ, ◌+◌, ◌<◌, ◌^◌, Bool, List, [], ◌∷◌, ◌++◌, length, Option, ⊤}
+use Rattle.std.specs.Prelude.{◌≡◌, ℕ, ◌+◌, ◌<◌, Bool, List, [], ◌∷◌, ◌++◌, length, Option, ⊤}
 use Rattle.std.specs.List.{flat_map}
 use Rattle.std.specs.Io.KnownBytes.{Appends}
 use lib.Chars.{codes}
+use Rattle.cnf.specs.declared.limits.TheConstants.{CLAUSE_LIMIT, NUMBER_LIMIT}
 use Rattle.text.specs.Writing.{AppendsPart}
 use Rattle.text.specs.LratText.{IsTextOf}
 use Rattle.lrat_log.specs.Log.{LogLine, HasSmallIds, numbered_lines, text_of}
@@ -51,7 +52,7 @@ proof_text (Nothing work) = []
 
 -- with ids from this number on, the numbers of the log stay small where its lines are few
 abbrev pub HasRoom : ℕ → List LogLine → Type 0
-HasRoom n ls = (n < 2 ^ 28) × (n + length ls < 2 ^ 62 → HasSmallIds n ls)
+HasRoom n ls = (n < CLAUSE_LIMIT) × (n + length ls < NUMBER_LIMIT → HasSmallIds n ls)
 
 abbrev pub HasProofRoom : Found → Type 0
 HasProofRoom (Optimum c bits log clauses) = HasRoom clauses log

@@ -1,6 +1,6 @@
 -- What a run reads, writes and leaves. Bytes are known where a reader or a writer tells them, as
 -- those over memory do.
-use Rattle.std.specs.Prelude.{◌≡◌, ◌+◌, ◌<◌, ◌^◌, [], ◌∷◌, ◌++◌, ⊤, ◌⊎◌}
+use Rattle.std.specs.Prelude.{◌≡◌, ◌+◌, ◌<◌, [], ◌∷◌, ◌++◌, ⊤, ◌⊎◌}
 use Rattle.std.specs.Prelude.{ℕ, Bool, List, length, All}
 use Rattle.std.specs.Prelude.{Option, IfSome, Result, Ok, Err, IfOk, OnOk}
 use Rattle.std.specs.List.{flat_map}
@@ -9,6 +9,7 @@ use Rattle.cnf.specs.Literal.{Assignment}
 use Rattle.cnf.specs.Bits.{Extends}
 use Rattle.cnf.specs.Problem.{Problem, IsOptimal, IsInconsistent}
 use Rattle.cnf.specs.Refute.{IsRefutedByHints}
+use Rattle.cnf.specs.declared.limits.TheConstants.{NUMBER_LIMIT}
 use Rattle.text.specs.Writing.{spaced, Begins, AppendsPart}
 use Rattle.wcnf.specs.Wcnf.{Reads}
 use Rattle.wcnf.specs.Reading.{IsFirstFault}
@@ -223,7 +224,7 @@ pub record Searches (profile : Profile) (p : Problem) (result : Result Found Run
   pub tried : List ℕ
   pub falling : AreFalling tried
   pub honest : All (IsCostOfSome p) tried
-  pub small : All (λ c. c < 2 ^ 62) tried
+  pub small : All (λ c. c < NUMBER_LIMIT) tried
   pub lines : HasLines result tried out out'
   pub found : IfOk result (IsRightFound profile p tried)
   -- the effort

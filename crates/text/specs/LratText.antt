@@ -1,10 +1,11 @@
 -- How the lines of an LRAT certificate are spelled.
-use Rattle.std.specs.Prelude.{◌≡◌, ℕ, ◌<◌, ◌^◌, Bool, true, false, List, [], ◌∷◌, ◌++◌, map, filter}
+use Rattle.std.specs.Prelude.{◌≡◌, ℕ, ◌<◌, Bool, true, false, List, [], ◌∷◌, ◌++◌, map, filter}
 use Rattle.std.specs.Prelude.{All}
 use Rattle.std.specs.List.{flat_map}
 use Rattle.std.specs.Fmt.{decimal}
 use lib.Chars.{codes}
 use Rattle.cnf.specs.Lrat.{CandidateHints, ProofLine, Addition, Deletion, IsId}
+use Rattle.cnf.specs.declared.limits.TheConstants.{NUMBER_LIMIT}
 use Rattle.text.specs.Text.{token_lines, literal_text}
 
 -- how a line is spelled
@@ -19,9 +20,9 @@ line_tokens (Deletion lead ids) = decimal lead ∷ codes "d" ∷ map decimal ids
 
 abbrev pub HasNumbers : ProofLine → Type 0
 HasNumbers (Addition id clause hints groups) =
-    (id < 2 ^ 62) × All (λ l. IsId l.variable) clause × All IsId hints
+    (id < NUMBER_LIMIT) × All (λ l. IsId l.variable) clause × All IsId hints
     × All (λ g. IsId g.candidate × All IsId g.hints) groups
-HasNumbers (Deletion lead ids) = (lead < 2 ^ 62) × All IsId ids
+HasNumbers (Deletion lead ids) = (lead < NUMBER_LIMIT) × All IsId ids
 
 abbrev pub has_tokens : List (List ℕ) → Bool
 has_tokens [] = false

@@ -7,6 +7,7 @@ use Rattle.std.specs.List.{list_all, enumerate_from}
 use Rattle.std.specs.Str.Lines.{lines}
 use Rattle.std.specs.Fmt.{decimal}
 use Rattle.cnf.specs.Literal.{Literal}
+use Rattle.cnf.specs.declared.limits.TheConstants.{NUMBER_LIMIT}
 
 abbrev pub is_blank : ℕ → Bool
 is_blank b = (b == 32) || (b == 9)
@@ -61,9 +62,9 @@ literal_of (b ∷ bs) =
     signed s (Some zero) = None
     signed s (Some (suc n)) = Some (record { variable = suc n; negated = s })
 
--- the value, where it is at most 2^62; else 2^62 + 1
+-- the value, where it is at most the limit; else one more than that
 abbrev pub capped : ℕ → ℕ
-capped n = if nat_le n 4611686018427387904 then n else 4611686018427387905
+capped n = if nat_le n NUMBER_LIMIT then n else NUMBER_LIMIT + 1
 
 -- the lines with their numbers
 abbrev pub numbered_text : List ℕ → List (ℕ × List ℕ)

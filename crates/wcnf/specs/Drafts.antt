@@ -6,6 +6,7 @@ use Rattle.cnf.specs.Literal.{Literal}
 use Rattle.cnf.specs.Clause.{contains_literal, has_repeat}
 use Rattle.cnf.specs.Marks.{HasPlace, IsMarked}
 use Rattle.cnf.specs.Problem.{Problem, SoftClause}
+use Rattle.cnf.specs.declared.limits.TheConstants.{MOST_LITERALS}
 use Rattle.wcnf.specs.declared.faults.FaultKind.{FaultKind}
 use Rattle.wcnf.specs.declared.faults.FaultKind.TheVariants.{Literal as LiteralFault, NoZero}
 use Rattle.wcnf.specs.declared.faults.FaultKind.TheVariants.{AfterZero, Variable, TooMany}
@@ -58,7 +59,7 @@ gathered_at most g n (t ∷ ts) = by (word_of t) (λ l. gathered_at most (gather
       c ← ended_at ts
       Ok (g, n)
     by (Literal_word l) more =
-        if nat_lt most l.variable then Err Variable else if nat_le 67108864 n then Err TooMany
+        if nat_lt most l.variable then Err Variable else if nat_le MOST_LITERALS n then Err TooMany
         else more l
 
 -- the instance that the lines so far make, with the header and its line; literals are counted as

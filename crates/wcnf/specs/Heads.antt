@@ -2,6 +2,8 @@
 use Rattle.std.specs.Prelude.{ℕ, ◌+◌, Bool, false, ◌||◌, List, [], ◌∷◌, Option, Some, None, Result}
 use Rattle.std.specs.Prelude.{Ok, Err, nat_lt, nat_le, ◌==◌, if◌then◌else◌, bytes_eq}
 use lib.Chars.{codes}
+use Rattle.cnf.specs.declared.limits.TheConstants.{MOST_VARIABLES, MOST_HARD, MOST_SOFT}
+use Rattle.cnf.specs.declared.limits.TheConstants.{NUMBER_LIMIT}
 use Rattle.text.specs.Text.{number_of, is_digit}
 use Rattle.wcnf.specs.declared.faults.FaultKind.{FaultKind}
 use Rattle.wcnf.specs.declared.faults.FaultKind.TheVariants.{FirstToken, OldForm, Weight, WeightSum}
@@ -22,18 +24,18 @@ abbrev pub ◌>>=◌ : {A B E : Type 0} → Result A E → (A → Result B E) �
 
 -- the greatest variable that a literal may have
 abbrev pub most_variable : Option Header → ℕ
-most_variable None = 4194304
+most_variable None = MOST_VARIABLES
 most_variable (Some h) = h.variables
 
 -- one more hard clause: no weight
 abbrev pub one_hard : Totals → Result (Option ℕ) FaultKind
-one_hard totals = if nat_le 4194304 totals.hard then Err TooMany else Ok None
+one_hard totals = if nat_le MOST_HARD totals.hard then Err TooMany else Ok None
 
 -- one more soft clause
 abbrev pub one_soft : Totals → ℕ → Result (Option ℕ) FaultKind
 one_soft totals w =
-    if nat_le 4611686018427387904 (totals.weight + w) then Err WeightSum
-    else if nat_le 262144 totals.soft then Err TooMany else Ok (Some w)
+    if nat_le NUMBER_LIMIT (totals.weight + w) then Err WeightSum
+    else if nat_le MOST_SOFT totals.soft then Err TooMany else Ok (Some w)
 
 -- one more clause of those that the header counts
 abbrev pub one_counted : Header → Totals → Option ℕ → Result (Option ℕ) FaultKind
@@ -42,7 +44,7 @@ one_counted h totals w = if nat_le h.clauses (totals.hard + totals.soft) then Er
 -- a clause by its weight
 abbrev pub weighed : Option Header → Totals → ℕ → Result (Option ℕ) FaultKind
 weighed None totals w =
-    if (w == 0) || nat_le 4611686018427387904 w then Err Weight else one_soft totals w
+    if (w == 0) || nat_le NUMBER_LIMIT w then Err Weight else one_soft totals w
 weighed (Some h) totals w = if (w == 0) || nat_lt h.top w then Err Weight else do
   v ← if w == h.top then one_hard totals else one_soft totals w
   one_counted h totals v
@@ -93,9 +95,9 @@ header_ended v c w (t ∷ ts) = Err HeaderFault
 abbrev pub header_of : List (List ℕ) → Result Header FaultKind
 header_of [] = Err HeaderFault
 header_of (t ∷ ts) = if is_wcnf t then (do
-  v ← number_within 4194304 ts
-  c ← number_within 4456448 v.1
-  w ← number_within 4611686018427387904 c.1
+  v ← number_within MOST_VARIABLES ts
+  c ← number_within (MOST_HARD + MOST_SOFT) v.1
+  w ← number_within NUMBER_LIMIT c.1
   header_ended v.0 c.0 w.0 w.1) else Err HeaderFault
 
 abbrev pub is_p : List ℕ → Bool
