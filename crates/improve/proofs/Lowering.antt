@@ -18,8 +18,9 @@ use Rattle.improve.specs.declared.found.ImproveFault.{ImproveFault}
 use Rattle.improve.specs.declared.found.ImproveFault.TheVariants.{Memory, Progress}
 use Rattle.adder.specs.declared.cells.Profile.{Profile}
 use Rattle.cdcl_order.specs.Budgets.{BudgetState, left_of}
+use Rattle.improve.specs.Progress.{Telling}
 use Rattle.improve.specs.Improving.{IsSolution, IsCostOfSome, OnWork, work_count}
-use Rattle.improve.specs.Improving.{AreFalling, IsRightFound, Telling, Improves}
+use Rattle.improve.specs.Improving.{AreFalling, IsRightFound, Improves}
 use Rattle.improve.proofs.SearchEnds.{memory_end, progress_end, found_end}
 use Rattle.improve.proofs.CheaperBits.{cost_of_solution, falling_more}
 

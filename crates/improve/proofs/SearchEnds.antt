@@ -8,7 +8,8 @@ use Rattle.cdcl_order.specs.Budgets.{BudgetState, left_of}
 use Rattle.improve.specs.declared.found.Found.{Found}
 use Rattle.improve.specs.declared.found.ImproveFault.{ImproveFault}
 use Rattle.improve.specs.declared.found.ImproveFault.TheVariants.{Memory, Progress}
-use Rattle.improve.specs.Improving.{AreFalling, IsCostOfSome, IsRightFound, Telling, Improves}
+use Rattle.improve.specs.Progress.{Telling}
+use Rattle.improve.specs.Improving.{AreFalling, IsCostOfSome, IsRightFound, Improves}
 use Rattle.improve.specs.Improving.{OnWork, work_count}
 
 module _ (profile : Profile) (p : Problem) (old new : Telling) (before left : BudgetState)

@@ -20,6 +20,7 @@ use Rattle.lrat_log.specs.Rebase.{WeakerList, weaker_line}
 use Rattle.adder.specs.declared.cells.Profile.{Profile}
 use Rattle.bound.specs.Bound.{hard_cnf, bound_as, fixed_clauses, comparator_for}
 use Rattle.cdcl_order.specs.Budgets.{BudgetState, left_of}
+use Rattle.improve.specs.Progress.{Telling}
 use Rattle.improve.specs.declared.found.Work.{Work}
 use Rattle.improve.specs.declared.found.Found.{Found}
 use Rattle.improve.specs.declared.found.Found.TheVariants.{Optimum, Unsat, Best, Nothing}
@@ -196,15 +197,12 @@ OnWork (Err e) P = ⊤
 abbrev pub work_count : Work → ℕ
 work_count w = learned_count w.hard + learned_count w.bound
 
--- what was told, what failed to be told last, and how often that failed
-pub record Telling : Type 0 where
-  pub told : List ℕ
-  pub failed : Option ℕ
-  pub failures : ℕ
-
--- these are the costs told before and then this one
-abbrev pub HasTold : Telling → List ℕ → ℕ → Type 0
-HasTold earlier told c = told ≡ earlier.told ++ c ∷ []
+-- the budget before the search over the hard clauses, of which this is left: its one solution and
+-- its learned lines were counted
+pub record PaysForHard (before left : BudgetState) (hard : List LogLine) : Type 0 where
+  pub limit : before.limit ≡ left.limit
+  pub answers : before.answers + 1 ≡ left.answers
+  pub learned : before.learned + learned_count hard ≡ left.learned
 
 -- what a search answers, tells and spends
 pub record Improves (profile : Profile) (p : Problem) (result : Result Found ImproveFault)

@@ -15,7 +15,7 @@ ghost use Rattle.improve.specs.Bounds.{IsOver, IsOverFixed, HasNoBound, IsNext, 
 ghost use Rattle.improve.specs.Improving.{AreFalling, EndsWith, weaker_among};
 
 use crate::frozen::freeze_compared;
-use crate::solutions::{Solution, judge};
+use crate::solutions::{Solution, price};
 use crate::weaker::pair_with_subsets;
 use adder::cells::Profile;
 use adder::relaxations::{Relaxation, Relaxations};
@@ -129,7 +129,7 @@ impl Bounds {
             return Err(AllocError);
         };
         match outcome {
-            Outcome::Sat(bits) => Ok(Next::Cheaper(judge(instance, bits))),
+            Outcome::Sat(bits) => Ok(Next::Cheaper(price(instance, bits))),
             Outcome::Unsat => Ok(Next::Refuted),
             Outcome::Limit => Ok(Next::Spent),
         }

@@ -1,6 +1,6 @@
 // Who is told of each better solution.
-ghost use Rattle.std.specs.Prelude.{◌≡◌, ◌+◌, ◌<◌, ◌^◌, [], ◌∷◌, ◌++◌};
-ghost use Rattle.std.specs.Prelude.{ℕ, List, Option, Some, OnOk, OnErr};
+ghost use Rattle.std.specs.Prelude.{◌≡◌, ◌<◌, ◌^◌, OnOk, OnErr};
+ghost use Rattle.improve.specs.Progress.{Telling, with_told, with_failed};
 
 /// A cost could not be told.
 #[derive(Clone, Copy, Debug, PartialEq, Eq, Drop)]
@@ -8,14 +8,8 @@ pub struct ProgressFault;
 
 /// Is told the cost of each solution that is cheaper than those before.
 pub trait Progress {
-    /// The costs told, in their order.
-    ghost told: { Self → List ℕ };
-
-    /// The cost that it failed to tell last.
-    ghost failed: { Self → Option ℕ };
-
-    /// How often it failed.
-    ghost failures: { Self → ℕ };
+    /// The costs told, and those that it failed to tell.
+    ghost state: { Self → Telling };
 
     /// Whether the second came from the first by calls of `improved` alone. A caller of the search
     /// learns by it what was told to.
@@ -27,10 +21,8 @@ pub trait Progress {
     ///
     /// `ProgressFault` where it could not be told.
     fn improved(&mut self, cost: u64) -> Result<(), ProgressFault>
-        requires { failures self.old < 2 ^ 62 }
-        ensures ok { OnOk result ((told self.new ≡ told self.old ++ cost ∷ [])
-            × (failed self.new ≡ failed self.old) × (failures self.new ≡ failures self.old)) }
-        ensures err { OnErr result ((told self.new ≡ told self.old)
-            × (failed self.new ≡ Some cost) × (failures self.new ≡ failures self.old + 1)) }
+        requires { (state self.old).failures < 2 ^ 62 }
+        ensures ok { OnOk result (state self.new ≡ with_told cost (state self.old)) }
+        ensures err { OnErr result (state self.new ≡ with_failed cost (state self.old)) }
         ensures follows { (first : Self) → follows first self.old → follows first self.new };
 }

@@ -1,19 +1,20 @@
 //! The improving search: each solution bounds the cost of the next (Handbook of Satisfiability,
 //! chapter MaxSAT, linear search from satisfiable to unsatisfiable).
-ghost use Rattle.std.specs.Prelude.{◌≡◌, ℕ, ◌+◌, ◌<◌, ◌^◌, [], ◌∷◌, ◌++◌, Some};
+ghost use Rattle.std.specs.Prelude.{◌≡◌, ◌<◌, ◌^◌, [], ◌∷◌};
 ghost use Rattle.std.specs.Prelude.{IfOk, IfErr, OnOk, OnErr};
 ghost use Rattle.lrat_log.specs.Steps.{IsAcceptedLog, AddsNoEmptyClause, learned_count};
 ghost use Rattle.cdcl_order.specs.Budgets.{BudgetState};
 ghost use Rattle.cdcl.specs.Solving.{given_to};
 ghost use Rattle.improve.specs.Improving.{Improves, IsHardLog, IsRightFound, IsSolution, OnWork};
-ghost use Rattle.improve.specs.Improving.{EndsWith, AreFalling, Telling, HasTold};
+ghost use Rattle.improve.specs.Improving.{PaysForHard, EndsWith, AreFalling};
+ghost use Rattle.improve.specs.Progress.{Telling, with_told, with_failed};
 ghost use Rattle.improve.specs.Bounds.{HasNoBound, IsOver, IsOverHard};
 
 use crate::bounds::{Bounds, Next};
 use crate::found::{Found, ImproveFault, Work};
 use crate::frozen::freeze_none;
 use crate::progress::{Progress, ProgressFault};
-use crate::solutions::{Solution, judge};
+use crate::solutions::{Solution, price};
 use crate::watch::{Silent, Watch};
 use crate::zero::refute_zero;
 use adder::cells::Profile;
@@ -37,19 +38,10 @@ pub fn improve<T: Progress>(
     budget: &mut Budget,
     progress: &mut T,
 ) -> Result<Found, ImproveFault>
-    requires { T.failures progress.old < 2 ^ 62 }
+    requires { (T.state progress.old).failures < 2 ^ 62 }
     ensures follows { (first : T) → T.follows first progress.old → T.follows first progress.new }
     ensures improves { Improves Profile.One instance.now result
-        (record {
-          told = T.told progress.old;
-          failed = T.failed progress.old;
-          failures = T.failures progress.old;
-        })
-        (record {
-          told = T.told progress.new;
-          failed = T.failed progress.new;
-          failures = T.failures progress.new;
-        })
+        (T.state progress.old) (T.state progress.new)
         budget.old budget.new }
 {
     improve_as(instance, budget, progress, Profile::One)
@@ -66,19 +58,10 @@ pub fn improve_as<T: Progress>(
     progress: &mut T,
     profile: Profile,
 ) -> Result<Found, ImproveFault>
-    requires { T.failures progress.old < 2 ^ 62 }
+    requires { (T.state progress.old).failures < 2 ^ 62 }
     ensures follows { (first : T) → T.follows first progress.old → T.follows first progress.new }
     ensures improves { Improves profile instance.now result
-        (record {
-          told = T.told progress.old;
-          failed = T.failed progress.old;
-          failures = T.failures progress.old;
-        })
-        (record {
-          told = T.told progress.new;
-          failed = T.failed progress.new;
-          failures = T.failures progress.new;
-        })
+        (T.state progress.old) (T.state progress.new)
         budget.old budget.new }
 {
     improve_watched(instance, budget, progress, profile, &mut Silent)
@@ -97,19 +80,10 @@ pub fn improve_watched<T: Progress, W: Watch>(
     profile: Profile,
     watch: &mut W,
 ) -> Result<Found, ImproveFault>
-    requires { T.failures progress.old < 2 ^ 62 }
+    requires { (T.state progress.old).failures < 2 ^ 62 }
     ensures follows { (first : T) → T.follows first progress.old → T.follows first progress.new }
     ensures improves { Improves profile instance.now result
-        (record {
-          told = T.told progress.old;
-          failed = T.failed progress.old;
-          failures = T.failures progress.old;
-        })
-        (record {
-          told = T.told progress.new;
-          failed = T.failed progress.new;
-          failures = T.failures progress.new;
-        })
+        (T.state progress.old) (T.state progress.new)
         budget.old budget.new }
 {
     let Ok(mut solver) = make_hard_solver(instance) else {
@@ -117,7 +91,7 @@ pub fn improve_watched<T: Progress, W: Watch>(
     };
     match solver.solve_watched(budget, watch) {
         Ok(Outcome::Sat(bits)) => {
-            let first = judge(instance, bits);
+            let first = price(instance, bits);
             let hard = solver.into_sink();
             lower(instance, budget, progress, profile, watch, hard, first)
         }
@@ -161,27 +135,15 @@ fn lower<T: Progress, W: Watch>(
     hard: Log,
     first: Solution,
 ) -> Result<Found, ImproveFault>
-    requires failures { T.failures progress.old < 2 ^ 62 }
+    requires failures { (T.state progress.old).failures < 2 ^ 62 }
     requires solution { IsSolution instance.now first.bits.items first.cost }
     requires hard { IsHardLog instance.now hard }
     ensures follows { (first : T) → T.follows first progress.old → T.follows first progress.new }
 
-    // From before the search over the hard clauses, whose one solution and whose learned lines were
-    // counted.
-    ensures improves { (before : BudgetState) → before.limit ≡ budget.old.limit
-        → before.answers + 1 ≡ budget.old.answers
-        → before.learned + learned_count hard ≡ budget.old.learned
+    // From before the search over the hard clauses.
+    ensures improves { (before : BudgetState) → PaysForHard before budget.old hard
         → Improves profile instance.now result
-        (record {
-          told = T.told progress.old;
-          failed = T.failed progress.old;
-          failures = T.failures progress.old;
-        })
-        (record {
-          told = T.told progress.new;
-          failed = T.failed progress.new;
-          failures = T.failures progress.new;
-        })
+        (T.state progress.old) (T.state progress.new)
         before budget.new }
 {
     if tell(instance, progress, watch, &first).is_err() {
@@ -208,7 +170,7 @@ fn tighten<T: Progress, W: Watch>(
     hard: Log,
     first: Solution,
 ) -> Result<Found, ImproveFault>
-    requires failures { T.failures progress.old < 2 ^ 62 }
+    requires failures { (T.state progress.old).failures < 2 ^ 62 }
     requires solution { IsSolution instance.now first.bits.items first.cost }
     requires hard { IsHardLog instance.now hard }
     requires over { IsOver instance.now bounds.old }
@@ -217,17 +179,10 @@ fn tighten<T: Progress, W: Watch>(
 
     // From before the search over the hard clauses, as in `lower`, and before the first cost was
     // told.
-    ensures improves { (before : BudgetState) → before.limit ≡ budget.old.limit
-        → before.answers + 1 ≡ budget.old.answers
-        → before.learned + learned_count hard ≡ budget.old.learned
-        → (earlier : Telling) → HasTold earlier (T.told progress.old) first.cost
-        → earlier.failures ≡ T.failures progress.old
+    ensures improves { (before : BudgetState) → PaysForHard before budget.old hard
+        → (earlier : Telling) → T.state progress.old ≡ with_told first.cost earlier
         → Improves bounds.old.profile instance.now result earlier
-        (record {
-          told = T.told progress.new;
-          failed = T.failed progress.new;
-          failures = T.failures progress.new;
-        })
+        (T.state progress.new)
         before budget.new }
 {
     let mut best = first;
@@ -257,14 +212,12 @@ fn tell<T: Progress, W: Watch>(
     watch: &mut W,
     solution: &Solution,
 ) -> Result<(), ProgressFault>
-    requires failures { T.failures progress.old < 2 ^ 62 }
+    requires failures { (T.state progress.old).failures < 2 ^ 62 }
     requires solution { IsSolution instance.now solution.now.bits.items solution.now.cost }
     ensures ok { OnOk result
-        ((T.told progress.new ≡ T.told progress.old ++ solution.now.cost ∷ [])
-        × (T.failures progress.new ≡ T.failures progress.old)) }
-    ensures err { OnErr result ((T.told progress.new ≡ T.told progress.old)
-        × (T.failed progress.new ≡ Some solution.now.cost)
-        × (T.failures progress.new ≡ T.failures progress.old + 1)) }
+        (T.state progress.new ≡ with_told solution.now.cost (T.state progress.old)) }
+    ensures err { OnErr result
+        (T.state progress.new ≡ with_failed solution.now.cost (T.state progress.old)) }
     ensures follows { (first : T) → T.follows first progress.old → T.follows first progress.new }
 {
     watch.better(instance, solution.cost, &solution.bits);

@@ -18,7 +18,7 @@ pub struct Solution {
 
 /// The solution that these bits begin with, and what it costs. The bits may be those of more
 /// variables.
-pub fn judge(instance: &Instance, mut bits: Vec<bool>) -> Solution
+pub fn price(instance: &Instance, mut bits: Vec<bool>) -> Solution
     requires long { instance.now.variables ≤ length bits.items }
     requires feasible { (t : Assignment) → Extends bits.items t → IsFeasible instance.now t }
     ensures solution { IsSolution instance.now result.bits.items result.cost }

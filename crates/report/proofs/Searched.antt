@@ -13,7 +13,8 @@ use Rattle.cdcl_order.specs.Budgets.{BudgetState}
 use Rattle.improve.specs.declared.found.Found.{Found}
 use Rattle.improve.specs.declared.found.ImproveFault.{ImproveFault}
 use Rattle.improve.specs.declared.found.ImproveFault.TheVariants.{Memory as SearchMemory, Progress}
-use Rattle.improve.specs.Improving.{AreFalling, IsCostOfSome, IsRightFound, Improves, Telling}
+use Rattle.improve.specs.Progress.{Telling}
+use Rattle.improve.specs.Improving.{AreFalling, IsCostOfSome, IsRightFound, Improves}
 use Rattle.improve.proofs.Laws.{cost_small}
 use Rattle.improve.proofs.Laws.{told_fall, told_each}
 use Rattle.report.specs.declared.fault.RunFault.{RunFault}

@@ -110,7 +110,7 @@ pub fn run_watched<R: Read, O: Write, P: Write, K: Keep>(
     ensures same_limit { budget.new.limit ≡ budget.old.limit }
 {
     let instance = read_from(alloc, input)?;
-    let found = search(alloc, &instance, budget, out, profile, keeper)?;
+    let found = find_best(alloc, &instance, budget, out, profile, keeper)?;
     keeper.searched();
     write_answer(&found, out, proof)?;
     keeper.ended(&instance, &found);
@@ -118,7 +118,7 @@ pub fn run_watched<R: Read, O: Write, P: Write, K: Keep>(
 }
 
 /// Looks for an optimum, and tells the cost of each better solution.
-fn search<O: Write, K: Keep>(
+fn find_best<O: Write, K: Keep>(
     alloc: Global,
     instance: &Instance,
     budget: &mut Budget,

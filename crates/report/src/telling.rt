@@ -93,11 +93,11 @@ impl<'a, W: Write> Told<'a, W> {
 }
 
 impl<'a, W: Write> Progress for Told<'a, W> {
-    ghost told = { λ t. t.costs.items };
-
-    ghost failed = { λ t. t.failed };
-
-    ghost failures = { λ t. t.failures };
+    ghost state = { λ t. record {
+      told = t.costs.items;
+      failed = t.failed;
+      failures = t.failures;
+    } };
 
     ghost follows = { λ first now. (now.writer.ghost_name ≡ first.writer.ghost_name)
         × Tells (W.contents first.writer.now) (W.contents now.writer.now) now.costs.items

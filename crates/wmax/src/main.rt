@@ -75,7 +75,7 @@ fn solve<R: Files + AllocGlobal + Print + Clock, E: Write>(
             let Some(there) = find_place(&proof) else {
                 return Err(RunFault::ProofOutput);
             };
-            keep(
+            solve_kept(
                 rt,
                 messages,
                 matches,
@@ -87,7 +87,7 @@ fn solve<R: Files + AllocGlobal + Print + Clock, E: Write>(
         }
         None => {
             let mut dropped = io::sink();
-            keep(
+            solve_kept(
                 rt,
                 messages,
                 matches,
@@ -101,7 +101,7 @@ fn solve<R: Files + AllocGlobal + Print + Clock, E: Write>(
 }
 
 /// Solves with a certificate, where `--best` may name neither of the others.
-fn keep<'a, R: Files + AllocGlobal + Print + Clock, E: Write, T: Read, P: Write>(
+fn solve_kept<'a, R: Files + AllocGlobal + Print + Clock, E: Write, T: Read, P: Write>(
     rt: &'a R,
     messages: &'a mut Messages<'_, E>,
     matches: &'a ArgMatches<'_>,
@@ -164,11 +164,11 @@ fn check<R: Files + AllocGlobal + Print>(rt: &R, matches: &ArgMatches<'_>) -> Re
     let mut text = File::open(rt, text).map_err(|_| UNREADABLE)?;
     let mut answer = File::open(rt, answer).map_err(|_| UNREADABLE)?;
     let mut proof = File::open(rt, proof).map_err(|_| UNREADABLE)?;
-    judge(rt, &mut text, &mut answer, &mut proof, profile)
+    check_opened(rt, &mut text, &mut answer, &mut proof, profile)
 }
 
 /// Reads the text and the result, judges the certificate, and prints the verdict.
-fn judge<R: AllocGlobal + Print, T: Read, A: Read, P: Read>(
+fn check_opened<R: AllocGlobal + Print, T: Read, A: Read, P: Read>(
     rt: &R,
     text: &mut T,
     answer: &mut A,

@@ -11,8 +11,8 @@ use Rattle.improve.proofs.HardEnds.{hard_feasible, hard_log, right_unsat, right_
 use Rattle.improve.proofs.HardEnds.{hard_learned, nothing_learned}
 use Rattle.improve.proofs.search.improve_watched.Goals as goal
 
-pub judge-first-requires-clause-feasible : goal.judge-first-requires-clause-feasible
-judge-first-requires-clause-feasible g c =
+pub price-first-requires-clause-feasible : goal.price-first-requires-clause-feasible
+price-first-requires-clause-feasible g c =
     let sat = rw c.in-Ok-Sat.field-0-is at c.in-Ok-Sat.ensures.sat in
     hard_feasible c.args.instance.now c.in-Ok.solver c.in-Ok.ensures c.in-Ok-Sat.bits.items sat.1
 
@@ -31,8 +31,11 @@ returns-in-Ok-Sat-clause-improves g c =
     hard_learned c.args.instance.now c.in-Ok.solver c.in-Ok.ensures c.solve_watched.new.self.sink
     c.args.budget.now.learned c.solve_watched.new.budget.learned c.solve_watched.ensures.grows
     c.solve_watched.ensures.learned in
-    c.lower.ensures.improves c.args.budget.now (sym c.solve_watched.ensures.same_limit)
-    (sym answers) (omega (arith, learned, ap learned_count c.into_sink-hard.ensures))
+    c.lower.ensures.improves c.args.budget.now (record {
+      limit = sym c.solve_watched.ensures.same_limit;
+      answers = sym answers;
+      learned = omega (arith, learned, ap learned_count c.into_sink-hard.ensures);
+    })
 
 pub returns-in-Ok-Unsat-clause-improves : goal.returns-in-Ok-Unsat-clause-improves
 returns-in-Ok-Unsat-clause-improves g c =

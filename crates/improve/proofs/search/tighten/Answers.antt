@@ -22,21 +22,23 @@ add-requires-clause-small g c =
     omega (arith, small)
 
 pub returns-then-is_err-clause-improves : goal.returns-then-is_err-clause-improves
-returns-then-is_err-clause-improves g c = λ before l a e earlier t f.
+returns-then-is_err-clause-improves g c = λ before paid earlier h.
     let i = c.loop-best.invariant in
     let best = c.loop-best.best in
     lowered_memory c.args.instance.now c.loop-best.bounds.costs.items _ best.cost
     best.bits.items refl c.args.bounds.now.profile earlier _ before c.loop-best.budget
-    (i.limit ∙ sym l) (i.told earlier t) (i.failures ∙ sym f) i.falling i.solution i.honest
+    (i.limit ∙ sym paid.limit) (i.told earlier h)
+    (i.failures ∙ ap (λ t. t.failures) h) i.falling i.solution i.honest
 
 pub returns-in-Err-clause-improves : goal.returns-in-Err-clause-improves
-returns-in-Err-clause-improves g c = λ before l a e earlier t f.
+returns-in-Err-clause-improves g c = λ before paid earlier h.
     let i = c.loop-best.invariant in
     let best = c.loop-best.best in
     lowered_memory c.args.instance.now c.loop-best.bounds.costs.items _ best.cost
     best.bits.items refl c.args.bounds.now.profile earlier _ before c.search.new.budget
-    (c.search.ensures.limit ∙ i.limit ∙ sym l)
-    (i.told earlier t) (i.failures ∙ sym f) i.falling i.solution i.honest
+    (c.search.ensures.limit ∙ i.limit ∙ sym paid.limit)
+    (i.told earlier h)
+    (i.failures ∙ ap (λ t. t.failures) h) i.falling i.solution i.honest
 
 pub search-requires-clause-over : goal.search-requires-clause-over
 search-requires-clause-over g c = at_ok c.add.result c.if-is_err.ensures.value c.add.ensures.over
@@ -55,7 +57,7 @@ tell-requires-clause-solution g c =
     let next = rw c.in-Ok-Cheaper.field-0-is at c.in-Ok-Cheaper.ensures.next in next.solution
 
 pub returns-then-is_err-2-clause-improves : goal.returns-then-is_err-2-clause-improves
-returns-then-is_err-2-clause-improves g c = λ before l a e earlier t f.
+returns-then-is_err-2-clause-improves g c = λ before paid earlier h.
     let p = c.args.instance.now in
     let i = c.loop-best.invariant in
     let costs = c.loop-best.bounds.costs.items in
@@ -68,9 +70,11 @@ returns-then-is_err-2-clause-improves g c = λ before l a e earlier t f.
     ∙ at_ok c.add.result c.if-is_err.ensures.value c.add.ensures.costs in
     lowered_progress p costs c.search.new.self.costs.items best.cost best.bits.items more
     c.args.bounds.now.profile earlier _ before c.search.new.budget
-    (c.search.ensures.limit ∙ i.limit ∙ sym l) cost c.in-Ok-Cheaper.solution.bits.items
-    (err.0 ∙ i.told earlier t) i.falling i.solution i.honest (next.below costs best.cost more)
-    next.solution err.1 (err.2 ∙ ap (λ n. n + 1) (i.failures ∙ sym f))
+    (c.search.ensures.limit ∙ i.limit ∙ sym paid.limit) cost c.in-Ok-Cheaper.solution.bits.items
+    (ap (λ t. t.told) err ∙ i.told earlier h) i.falling i.solution i.honest
+    (next.below costs best.cost more)
+    next.solution (ap (λ t. t.failed) err)
+    (ap (λ t. t.failures) err ∙ ap (λ n. n + 1) (i.failures ∙ ap (λ t. t.failures) h))
 
 pub loop-best-smaller : goal.loop-best-smaller
 loop-best-smaller g c =
@@ -102,9 +106,10 @@ loop-best-preserved g c =
       honest =
           honest_new p costs c.search.new.self.costs.items best.cost best.bits.items more
           i.solution i.honest;
-      told = λ earlier t. told_more costs c.search.new.self.costs.items best.cost
-          c.in-Ok-Cheaper.solution.cost more _ _ earlier.told (i.told earlier t) ok.0;
-      failures = ok.1 ∙ i.failures;
+      told = λ earlier h. told_more costs c.search.new.self.costs.items best.cost
+          c.in-Ok-Cheaper.solution.cost more _ _ earlier.told (i.told earlier h)
+          (ap (λ t. t.told) ok);
+      failures = ap (λ t. t.failures) ok ∙ i.failures;
       follows = λ first h. c.tell.ensures.follows first (i.follows first h);
       hard = i.hard;
       limit = c.search.ensures.limit ∙ i.limit;
@@ -119,7 +124,7 @@ loop-best-preserved g c =
     }
 
 pub returns-in-Ok-Refuted-clause-improves : goal.returns-in-Ok-Refuted-clause-improves
-returns-in-Ok-Refuted-clause-improves g c = λ before l a e earlier t f.
+returns-in-Ok-Refuted-clause-improves g c = λ before paid earlier h.
     let i = c.loop-best.invariant in
     let next = rw c.in-Ok-Refuted.field-0-is at c.in-Ok-Refuted.ensures.next in
     let r = c.conclude_optimum in
@@ -128,11 +133,12 @@ returns-in-Ok-Refuted-clause-improves g c = λ before l a e earlier t f.
     (ap (λ (v : Vec ℕ Global). v.items) c.search.ensures.costs
     ∙ at_ok c.add.result c.if-is_err.ensures.value c.add.ensures.costs)
     c.args.bounds.now.profile _ earlier _ before c.search.new.budget r.result
-    (c.search.ensures.limit ∙ i.limit ∙ sym l)
-    (i.told earlier t) (i.failures ∙ sym f) i.falling i.solution i.honest r.ensures.fault
+    (c.search.ensures.limit ∙ i.limit ∙ sym paid.limit)
+    (i.told earlier h) (i.failures ∙ ap (λ t. t.failures) h) i.falling i.solution i.honest
+    r.ensures.fault
     (c.search.ensures.profile ∙ at_ok c.add.result c.if-is_err.ensures.value c.add.ensures.profile
     ∙ i.profile)
-    r.ensures.found (omega (arith, next.answers, i.answers, a))
+    r.ensures.found (omega (arith, next.answers, i.answers, paid.answers))
     (on_work_weaker r.result (λ w. ⊥)
     (λ w. c.search.new.budget.learned ≡ before.learned + work_count w) (λ w x. absurd x)
     r.ensures.work)
@@ -151,7 +157,7 @@ conclude_spent-requires-clause-hard g c =
     subst (IsHardLog c.args.instance.now) (sym c.loop-best.invariant.hard) c.requires.hard
 
 pub returns-in-Ok-Spent-clause-improves : goal.returns-in-Ok-Spent-clause-improves
-returns-in-Ok-Spent-clause-improves g c = λ before l a e earlier t f.
+returns-in-Ok-Spent-clause-improves g c = λ before paid earlier h.
     let i = c.loop-best.invariant in
     let next = rw c.in-Ok-Spent.field-0-is at c.in-Ok-Spent.ensures.next in
     let r = c.conclude_spent in
@@ -165,16 +171,17 @@ returns-in-Ok-Spent-clause-improves g c = λ before l a e earlier t f.
     (ap (λ (v : Vec ℕ Global). v.items) c.search.ensures.costs
     ∙ at_ok c.add.result c.if-is_err.ensures.value c.add.ensures.costs)
     c.args.bounds.now.profile _ earlier _ before c.search.new.budget r.result
-    (c.search.ensures.limit ∙ i.limit ∙ sym l)
-    (i.told earlier t) (i.failures ∙ sym f) i.falling i.solution i.honest r.ensures.fault
+    (c.search.ensures.limit ∙ i.limit ∙ sym paid.limit)
+    (i.told earlier h) (i.failures ∙ ap (λ t. t.failures) h) i.falling i.solution i.honest
+    r.ensures.fault
     (c.search.ensures.profile ∙ at_ok c.add.result c.if-is_err.ensures.value c.add.ensures.profile
     ∙ i.profile)
-    r.ensures.found (omega (arith, next.answers, i.answers, a))
+    r.ensures.found (omega (arith, next.answers, i.answers, paid.answers))
     (on_work_weaker r.result (λ w. (w.hard ≡ c.loop-best.hard)
     × (learned_count w.bound ≡ learned_count sink))
     (λ w. c.search.new.budget.learned ≡ before.learned + work_count w)
     (λ w x. work_learned w c.args.hard sink before.learned c.args.budget.now.learned
-    c.search.new.budget.learned (x.0 ∙ i.hard, x.1) e learned) r.ensures.work)
+    c.search.new.budget.learned (x.0 ∙ i.hard, x.1) paid.learned learned) r.ensures.work)
     (on_work_weaker r.result (λ w. (w.hard ≡ c.loop-best.hard)
     × (learned_count w.bound ≡ learned_count sink))
     (λ w. left_of c.search.new.budget ≡ 0) (λ w x. next.none_left) r.ensures.work)

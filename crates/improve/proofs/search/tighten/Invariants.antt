@@ -3,7 +3,8 @@
 use Rattle.std.proofs.Common.{◌≡◌, ◌+◌, ◌++◌, ◌∷◌, [], length}
 use Rattle.std.specs.Prelude.{All}
 use Rattle.lrat_log.specs.Steps.{learned_count}
-use Rattle.improve.specs.Improving.{AreFalling, IsCostOfSome, IsSolution, Telling, HasTold}
+use Rattle.improve.specs.Progress.{Telling, with_told}
+use Rattle.improve.specs.Improving.{AreFalling, IsCostOfSome, IsSolution}
 use Rattle.improve.specs.Bounds.{IsOver}
 use Rattle.improve.proofs.search.tighten.Given as goal
 
@@ -15,10 +16,11 @@ invariant-loop-best g l = record {
   falling : AreFalling (((l.bounds).costs).items ++ (l.best).cost ∷ []);
   honest : All (IsCostOfSome l.instance) ((l.bounds).costs).items;
   told : (earlier : Telling)
-      → HasTold earlier (g.T.Progress.told l.fn.progress) (l.fn.first).cost
-      → g.T.Progress.told l.progress
+      → g.T.Progress.state l.fn.progress ≡ with_told (l.fn.first).cost earlier
+      → (g.T.Progress.state l.progress).told
       ≡ earlier.told ++ (((l.bounds).costs).items ++ (l.best).cost ∷ []);
-  failures : g.T.Progress.failures l.progress ≡ g.T.Progress.failures l.fn.progress;
+  failures : (g.T.Progress.state l.progress).failures
+      ≡ (g.T.Progress.state l.fn.progress).failures;
   follows : (first : g.row.T.Denot) → g.T.Progress.follows first l.fn.progress
       → g.T.Progress.follows first l.progress;
   hard : l.hard ≡ l.fn.hard;

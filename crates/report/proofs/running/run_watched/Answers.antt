@@ -11,8 +11,8 @@ returns-in_err-found-clause-fault g c =
     in
     let i = c.in_ok-instance in
     rw (p.1, p.2) (search_leaves c.args.profile (g.R.Read.remaining c.args.input.now) i.instance
-    i.ensures.instance i.ensures.only_one c.args.budget.now c.search.new.budget
-    (held c.args.out.now) (held c.search.new.out) (g.P.Write.contents c.args.proof.now)
+    i.ensures.instance i.ensures.only_one c.args.budget.now c.find_best.new.budget
+    (held c.args.out.now) (held c.find_best.new.out) (g.P.Write.contents c.args.proof.now)
     c.in_err-found.field-0.0 c.in_err-found.ensures)
 
 pub write_answer-requires : goal.write_answer-requires
@@ -20,7 +20,7 @@ write_answer-requires g c =
     let held = g.O.Write.contents in
     let f = c.in_ok-found in
     proof_room c.args.profile c.in_ok-instance.instance (held c.args.out.now)
-    (held c.search.new.out) c.args.budget.now c.search.new.budget f.found f.ensures
+    (held c.find_best.new.out) c.args.budget.now c.find_best.new.budget f.found f.ensures
 
 pub returns-in_err-write_answer-clause-fault : goal.returns-in_err-write_answer-clause-fault
 returns-in_err-write_answer-clause-fault g c =
@@ -33,8 +33,8 @@ returns-in_err-write_answer-clause-fault g c =
     let f = c.in_ok-found in
     let w = c.write_answer in
     rw (p.1, p.2) (answer_leaves c.args.profile (g.R.Read.remaining c.args.input.now)
-    i.instance i.ensures.instance i.ensures.only_one c.args.budget.now c.search.new.budget
-    (held c.args.out.now) (held c.search.new.out) (held w.new.out) (certified c.args.proof.now)
+    i.instance i.ensures.instance i.ensures.only_one c.args.budget.now c.find_best.new.budget
+    (held c.args.out.now) (held c.find_best.new.out) (held w.new.out) (certified c.args.proof.now)
     (certified w.new.proof) f.found f.ensures c.in_err-write_answer.field-0.0
     c.in_err-write_answer.ensures.fault)
 
@@ -46,8 +46,8 @@ returns-clause-ok g c =
     let f = c.in_ok-found in
     let w = c.write_answer in
     ends c.args.profile (g.R.Read.remaining c.args.input.now) i.instance
-    i.ensures.instance i.ensures.only_one c.args.budget.now c.search.new.budget
-    (held c.args.out.now) (held c.search.new.out) (held w.new.out) (certified c.args.proof.now)
+    i.ensures.instance i.ensures.only_one c.args.budget.now c.find_best.new.budget
+    (held c.args.out.now) (held c.find_best.new.out) (held w.new.out) (certified c.args.proof.now)
     (certified w.new.proof) f.found f.ensures c.of.result c.of.ensures
     c.in_ok-write_answer.ensures.ok
 

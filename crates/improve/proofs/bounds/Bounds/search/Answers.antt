@@ -6,13 +6,13 @@ use Rattle.improve.proofs.CheaperBits.{bits_cheaper, cost_cheaper, bits_long, ze
 use Rattle.improve.proofs.CheaperBits.{above_zero, same_given, solved_over}
 use Rattle.improve.proofs.bounds.Bounds.search.Goals as goal
 
-pub judge-requires-clause-long : goal.judge-requires-clause-long
-judge-requires-clause-long g c =
+pub price-requires-clause-long : goal.price-requires-clause-long
+price-requires-clause-long g c =
     let sat = rw c.in-Sat.is at c.in-Ok.ensures.sat in
     bits_long c.args.instance.now c.args.self.now c.in-Sat.bits.items c.requires.over sat.0
 
-pub judge-requires-clause-feasible : goal.judge-requires-clause-feasible
-judge-requires-clause-feasible g c = λ t x.
+pub price-requires-clause-feasible : goal.price-requires-clause-feasible
+price-requires-clause-feasible g c = λ t x.
     let sat = rw c.in-Sat.is at c.in-Ok.ensures.sat in
     let b = c.requires.bounded in
     (bits_cheaper c.args.instance.now c.args.self.now b.1.0 b.0 c.in-Sat.bits.items c.requires.over
@@ -26,10 +26,10 @@ returns-in-Sat-clause-next g c =
     let sat = rw c.in-Sat.is at c.in-Ok.ensures.sat in
     let answers = rw c.in-Sat.is at c.in-Ok.ensures.answers in
     record {
-      solution = c.judge.ensures.solution;
+      solution = c.price.ensures.solution;
       below =
-          λ before k e. cost_cheaper p b before k c.judge.result.cost bits c.requires.over e sat.1
-          c.judge.ensures.cost;
+          λ before k e. cost_cheaper p b before k c.price.result.cost bits c.requires.over e sat.1
+          c.price.ensures.cost;
       answers = answers;
     }
 

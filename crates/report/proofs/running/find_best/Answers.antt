@@ -2,7 +2,7 @@
 use Rattle.std.proofs.Common.{◌≡◌, ◌∙◌, refl, sym, ap, subst, rules}
 use Rattle.report.specs.Running.{Searches, outcome_of}
 use Rattle.report.proofs.Searched.{search_ended, tells_none}
-use Rattle.report.proofs.running.search.Goals as goal
+use Rattle.report.proofs.running.find_best.Goals as goal
 
 pub returns : goal.returns
 returns g c =
