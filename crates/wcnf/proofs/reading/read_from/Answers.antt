@@ -54,4 +54,4 @@ returns-in-Err-feed-clause-fault g c =
 pub pieces-preserved : goal.pieces-preserved
 pieces-preserved g c =
     let i = c.pieces.invariant in
-    (_, c.in_default.ensures.stands i.0 i.1, Consumes-trans _ _ _ i.0 _ i.2 c.in-Ok.ensures.bytes.0)
+    (_, c.in_default.ensures.read i.0 i.1, Consumes-trans _ _ _ i.0 _ i.2 c.in-Ok.ensures.bytes.0)
