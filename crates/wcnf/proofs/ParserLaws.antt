@@ -33,7 +33,8 @@ read_on d e n line more h = rw h refl
 module _ (p : Parser) (end line : List ℕ) (no_feed : IsNoFeed end)
     (same : line ≡ strip_carriage_return (p.rest ++ end)) (bytes : List ℕ)
     (s : HasRead p bytes) where
-  regroup : (d r e more : List ℕ) → d ++ (r ++ (e ++ 10 ∷ more)) ≡ ((d ++ r) ++ (e ++ 10 ∷ [])) ++ more
+  regroup : (d r e more : List ℕ) → d ++ (r ++ (e ++ 10 ∷ more))
+      ≡ ((d ++ r) ++ (e ++ 10 ∷ [])) ++ more
   regroup d r e more = simp append_assoc
 
   at_line : (more : List ℕ)
@@ -114,7 +115,8 @@ rest_kept old mid new piece left t no_feed draft number rest =
     (kept_rest mid new left no_feed draft number rest)
 
 pub refused_later : (old mid : Parser) (piece left : List ℕ) (end : ℕ) (line : List ℕ)
-    (f : ReadFault) → HasTaken (HasRead old) (HasRead mid) piece left → IsFirstFeed left end → line ≡ take end left
+    (f : ReadFault) → HasTaken (HasRead old) (HasRead mid) piece left → IsFirstFeed left end
+    → line ≡ take end left
     → Refuses mid (line ++ 10 ∷ []) f → Refuses old piece f
 refused_later old mid piece left end line f t at e (inl m) = inl m
 refused_later old mid piece left end line f t at e (inr r) = inr (λ bytes more s.

@@ -15,7 +15,7 @@ loop-left-preserved-then-count-gt0 c = record {
   room =
       (let n = batch_lengths c.loop-left.left.now c.in_ok-count.count _
       c.in_ok-count.ensures.within refl in
-      let same = ap (λ r. length r.items) c.take_batch.ensures.rest in
+      let same = ap length c.take_batch.ensures.rest in
       omega (arith, c.in_ok-count.ensures.lines, c.loop-left.invariant.room, n, same));
 }
 
@@ -35,7 +35,7 @@ loop-left-preserved c =
       room =
           (let n = taken_lengths c.loop-left.left.now c.in-Some.end _ _ c.in-Some.ensures refl refl
           in
-          let same = ap (λ r. length r.items) c.take_batch.ensures.rest in
+          let same = ap length c.take_batch.ensures.rest in
           omega (
             arith,
             c.in_ok-end_line-in-Some.ensures.lines,
@@ -56,7 +56,7 @@ returns-in-None-clause-holds c =
     (reading_state c.take_batch.new.self) c.args.piece.now c.loop-left.left.now
     c.in_ok-count.count c.loop-left.invariant.taken none c.in_ok-count.ensures.holds)
     (c.in_ok-count.ensures.open none) c.in-None.ensures refl refl
-    c.in_ok-extend_from_slice-in-None.ensures.items
+    c.in_ok-keep-in-None.ensures.kept
 
 pub returns-clause-holds : goal.returns-clause-holds
 returns-clause-holds c =
