@@ -4,14 +4,14 @@ use Rattle.std.proofs.Common.{take, drop, Option, Some, None, refl, sym, ◌∙�
 use Rattle.std.proofs.Common.{length, arith, append_assoc, append-nil}
 use Rattle.std.specs.Prelude.{◌-◌, ◌==◌, not, is_some}
 use Rattle.std.specs.Str.Lines.{strip_carriage_return}
-use Rattle.std.proofs.lemmas.List.{length-take-le, length-drop, take_rest, take-append-drop}
+use Rattle.std.proofs.lemmas.List.{length-drop, take_rest, take-append-drop}
 use Rattle.std.proofs.lemmas.List.Elements.{All-append}
 use Rattle.std.specs.Prelude.{IfSome}
 use Rattle.std.specs.Io.KnownBytes.{Consumes, IsAtEnd}
 use Rattle.cnf.specs.Literal.{Literal}
-use Rattle.text.specs.Text.{tokens_of, token_lines, IsNoFeed, IsFirstFeed}
+use Rattle.text.specs.Text.{tokens_of, token_lines, IsNoFeed}
 use Rattle.text.specs.Pieces.{EndsInFeed, IsCut, HasTaken}
-use Rattle.text.proofs.Laws.{cut-ended, cut-kept, cut-nothing, first_line, lines-rest, lines-split}
+use Rattle.text.proofs.Laws.{cut-ended, cut-kept, cut-nothing, lines-rest, lines-split}
 use Rattle.text.proofs.Laws.{taken-on, taken-whole}
 use Rattle.lrat_check.specs.declared.verdicts.Verdict.{Verdict}
 use Rattle.lrat_live.specs.Listed.{listed_from}
@@ -150,25 +150,14 @@ abbrev pub TakesUpTo : ReadingState → ReadingState → List ℕ → List ℕ �
 TakesUpTo old new piece left =
     (formula : List (List Literal)) → HasTaken (Holds old formula) (Holds new formula) piece left
 
--- the line that a line feed of the left part ends, and what is left then
-pub taken_lengths : (left : List ℕ) (end : ℕ) (line rest : List ℕ) → IsFirstFeed left end
-    → line ≡ take end left → rest ≡ take (length left - (end + 1)) (drop (end + 1) left)
-    → length left ≡ length line + length rest + 1
-taken_lengths left end line rest f e g =
-    let a : length line ≡ end = ap length e ∙ length-take-le end left (omega (arith, f.within)) in
-    let b : length rest ≡ length left - (end + 1) = ap length (g ∙ take_rest left (end + 1))
-    ∙ length-drop (end + 1) left in
-    omega (arith, f.within)
-
-pub taken_more : (old mid new : ReadingState) (piece left : List ℕ) (end : ℕ) (line rest : List ℕ)
-    → TakesUpTo old mid piece left → IsFirstFeed left end
-    → line ≡ take end left → rest ≡ take (length left - (end + 1)) (drop (end + 1) left)
+pub taken_on : (old mid new : ReadingState) (piece left text rest : List ℕ)
+    → TakesUpTo old mid piece left → left ≡ text ++ rest
     → ((formula : List (List Literal)) (bytes : List ℕ) → Holds mid formula bytes
-    → Holds new formula (bytes ++ (line ++ 10 ∷ [])))
+    → Holds new formula (bytes ++ text))
     → TakesUpTo old new piece rest
-taken_more old mid new piece left end line rest t f e g next formula =
-    taken-on (Holds old formula) (Holds mid formula) (Holds new formula) piece left
-    (line ++ 10 ∷ []) rest (t formula) (first_line left end line rest f e g) (next formula)
+taken_on old mid new piece left text rest t split next formula =
+    taken-on (Holds old formula) (Holds mid formula) (Holds new formula) piece left text rest
+    (t formula) split (next formula)
 
 pub batch_lengths : (left : List ℕ) (count : ℕ) (rest : List ℕ) → count ≤ length left
     → rest ≡ take (length left - count) (drop count left) → length left ≡ count + length rest
@@ -183,20 +172,19 @@ pub taken_batch : (old mid new : ReadingState) (piece left : List ℕ) (count : 
     → ((formula : List (List Literal)) (bytes : List ℕ) → Holds mid formula bytes
     → Holds new formula (bytes ++ take count left))
     → TakesUpTo old new piece rest
-taken_batch old mid new piece left count rest t g next formula =
-    taken-on (Holds old formula) (Holds mid formula) (Holds new formula) piece left
-    (take count left) rest (t formula)
+taken_batch old mid new piece left count rest t g next =
+    taken_on old mid new piece left (take count left) rest t
     (sym (take-append-drop count left)
-    ∙ ap (λ x. take count left ++ x) (sym (g ∙ take_rest left count))) (next formula)
+    ∙ ap (λ x. take count left ++ x) (sym (g ∙ take_rest left count))) next
 
 pub taken_none : (old mid new : ReadingState) (piece left : List ℕ) (count : ℕ)
     → TakesUpTo old mid piece left → count ≡ 0
     → ((formula : List (List Literal)) (bytes : List ℕ) → Holds mid formula bytes
     → Holds new formula (bytes ++ take count left))
     → TakesUpTo old new piece left
-taken_none old mid new piece left count t zero next formula =
-    taken-on (Holds old formula) (Holds mid formula) (Holds new formula) piece left
-    (take count left) left (t formula) (sym (ap (λ k. take k left ++ left) zero)) (next formula)
+taken_none old mid new piece left count t zero next =
+    taken_on old mid new piece left (take count left) left t
+    (sym (ap (λ k. take k left ++ left) zero)) next
 
 kept_rest : (mid new : ReadingState) (left : List ℕ) → mid.refused ≡ None → IsNoFeed left
     → new.machine ≡ mid.machine → new.refused ≡ mid.refused → new.rest ≡ mid.rest ++ left

@@ -19,7 +19,7 @@ use lrat_read::blanks::blank_lines;
 use lrat_read::line::ReadLine;
 use std::alloc::AllocError;
 use text::buffer::LineBuffer;
-use text::pieces::line_feed_at;
+use text::pieces::split_line;
 
 /// What the pieces so far leave.
 #[derive(Drop)]
@@ -98,10 +98,10 @@ impl Reading {
                 left = &left[count..];
                 continue;
             }
-            match line_feed_at(left) {
-                Some(end) => {
-                    self.end_line(&left[..end])?;
-                    left = &left[end + 1..];
+            match split_line(left) {
+                Some((end, after)) => {
+                    self.end_line(end)?;
+                    left = after;
                 }
                 None => {
                     self.rest.keep(left)?;

@@ -1,12 +1,12 @@
 -- A text in pieces: what is kept after a line more and after a piece, and what is taken in turn.
-use Rattle.std.proofs.Common.{◌≡◌, ℕ, ◌+◌, ◌<◌, List, [], ◌∷◌, ◌++◌, length, take, drop, inl, inr}
+use Rattle.std.proofs.Common.{◌≡◌, ℕ, ◌<◌, List, [], ◌∷◌, ◌++◌, length, inl, inr}
+use Rattle.std.proofs.Common.{◌+◌, arith, length-append}
 use Rattle.std.proofs.Common.{refl, sym, ◌∙◌, ap, subst, append_assoc, append-nil}
-use Rattle.std.specs.Prelude.{◌-◌, ◌==◌, false}
+use Rattle.std.specs.Prelude.{◌==◌, false}
 use Rattle.std.specs.Str.Lines.{lines, strip_carriage_return}
-use Rattle.std.proofs.lemmas.List.{take_rest}
 use Rattle.std.proofs.lemmas.List.Elements.{All-append, All-nil}
-use Rattle.text.specs.Text.{IsNoFeed, IsFirstFeed}
-use Rattle.text.specs.Pieces.{EndsInFeed, IsCut, HasTaken}
+use Rattle.text.specs.Text.{IsNoFeed}
+use Rattle.text.specs.Pieces.{EndsInFeed, IsCut, IsFirstLine, HasTaken}
 use Rattle.text.proofs.FirstPieces.{lines-split, lines-last}
 
 abbrev IsOrdinary : ℕ → Type 0
@@ -47,14 +47,13 @@ lines-ended rest end more r e =
 pub lines-rest : (rest : List ℕ) → 0 < length rest → IsNoFeed rest → lines rest ≡ rest ∷ []
 lines-rest rest some no_feed = lines-last rest some (λ k lt. no_feed k 0 lt)
 
--- the first line of a piece, up to its line feed, and what follows it
-pub first_line : (left : List ℕ) (end : ℕ) (line rest : List ℕ) → IsFirstFeed left end
-    → line ≡ take end left → rest ≡ take (length left - (end + 1)) (drop (end + 1) left)
-    → left ≡ (line ++ 10 ∷ []) ++ rest
-first_line left end line rest f e g =
-    f.split ∙ ap (λ x. x ++ 10 ∷ drop (end + 1) left) (sym e)
-    ∙ ap (λ x. line ++ 10 ∷ x) (sym (g ∙ take_rest left (end + 1)))
-    ∙ sym (append_assoc line (10 ∷ []) rest)
+-- how long the first line and what follows it are
+pub line_lengths : (text line rest : List ℕ) → IsFirstLine text line rest
+    → length text ≡ length line + length rest + 1
+line_lengths text line rest f =
+    let whole = ap length f.split ∙ length-append (line ++ 10 ∷ []) rest in
+    let first = length-append line (10 ∷ []) in
+    omega (arith, whole, first)
 
 -- what is taken in turn
 pub taken-nothing : (P : List ℕ → Type 0) (piece : List ℕ) → HasTaken P P piece piece

@@ -16,6 +16,11 @@ pub record IsCut (bytes done rest : List ℕ) : Type 0 where
   pub ended : IsEnded done
   pub unfinished : IsNoFeed rest
 
+-- the bytes before the first line feed of the text, and those behind it
+pub record IsFirstLine (text line rest : List ℕ) : Type 0 where
+  pub split : text ≡ (line ++ 10 ∷ []) ++ rest
+  pub no_feed : IsNoFeed line
+
 -- all but the left part of the piece was taken: what held of the bytes before it leads on to what
 -- holds of those up to there
 pub record HasTaken (old new : List ℕ → Type 0) (piece left : List ℕ) : Type 0 where

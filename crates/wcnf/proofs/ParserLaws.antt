@@ -1,12 +1,12 @@
 -- A text in pieces: what holds after a line more, after a piece, and at the end.
-use Rattle.std.proofs.Common.{◌≡◌, ℕ, ◌+◌, ◌<◌, List, [], ◌∷◌, ◌++◌, length, take, drop, inl, inr}
+use Rattle.std.proofs.Common.{◌≡◌, ℕ, ◌+◌, ◌<◌, List, [], ◌∷◌, ◌++◌, length, take, inl, inr}
 use Rattle.std.proofs.Common.{◌⊎◌, refl, sym, ◌∙◌, ap, subst, append_assoc, append-nil, None, Some}
-use Rattle.std.specs.Prelude.{◌-◌, ◌==◌, false, Ok, Err, Option, Result, IfSome, IfOk, IfErr}
+use Rattle.std.specs.Prelude.{◌==◌, false, Ok, Err, Option, Result, IfSome, IfOk, IfErr}
 use Rattle.std.specs.List.{enumerate_from}
 use Rattle.std.specs.Str.Lines.{lines, strip_carriage_return}
 use Rattle.std.specs.Io.KnownBytes.{Consumes, IsAtEnd}
 use Rattle.std.proofs.KnownBytes.{Consumes-trans, Consumes-whole}
-use Rattle.text.specs.Text.{tokens_of, numbered_text, IsNoFeed, IsFirstFeed}
+use Rattle.text.specs.Text.{tokens_of, numbered_text, IsNoFeed}
 use Rattle.text.specs.Pieces.{IsCut, HasTaken}
 use Rattle.wcnf.specs.Wcnf.{Reads}
 use Rattle.cnf.specs.Problem.{Problem}
@@ -16,8 +16,7 @@ use Rattle.wcnf.specs.Parsing.{HasRead, Ends, NoMemory, IsLineFault, Refuses}
 use Rattle.wcnf.specs.declared.faults.FaultKind.TheVariants.{Read}
 use Rattle.wcnf.specs.declared.faults.ReadFault.{ReadFault}
 use Rattle.wcnf.specs.declared.parser.Parser.{Parser}
-use Rattle.text.proofs.Laws.{cut-ended, cut-kept, first_line, lines-ended, lines-rest, taken-on}
-use Rattle.text.proofs.Laws.{taken-whole}
+use Rattle.text.proofs.Laws.{cut-ended, cut-kept, lines-ended, lines-rest, taken-whole}
 use Rattle.wcnf.proofs.FromLines.{whole_fault}
 use Rattle.wcnf.proofs.Texts.{reads_one}
 
@@ -85,15 +84,6 @@ line_refused p end line no_feed same f (inl m) = inl m
 line_refused p end line no_feed same f (inr e) = inr (line_fault p end line no_feed same f e.0 e.1)
 
 -- a piece
-pub more_read : (old mid new : Parser) (piece left : List ℕ) (end : ℕ) (line rest : List ℕ)
-    → HasTaken (HasRead old) (HasRead mid) piece left → IsFirstFeed left end
-    → line ≡ take end left → rest ≡ take (length left - (end + 1)) (drop (end + 1) left)
-    → ((bytes : List ℕ) → HasRead mid bytes → HasRead new (bytes ++ (line ++ 10 ∷ [])))
-    → HasTaken (HasRead old) (HasRead new) piece rest
-more_read old mid new piece left end line rest t f e g next =
-    taken-on (HasRead old) (HasRead mid) (HasRead new) piece left (line ++ 10 ∷ []) rest t
-    (first_line left end line rest f e g) next
-
 kept_rest : (mid new : Parser) (left : List ℕ) → IsNoFeed left → new.draft ≡ mid.draft
     → new.number ≡ mid.number → new.rest ≡ mid.rest ++ left → (bytes : List ℕ)
     → HasRead mid bytes → HasRead new (bytes ++ left)
@@ -114,21 +104,17 @@ rest_kept old mid new piece left t no_feed draft number rest =
     taken-whole (HasRead old) (HasRead mid) (HasRead new) piece left t
     (kept_rest mid new left no_feed draft number rest)
 
-pub refused_later : (old mid : Parser) (piece left : List ℕ) (end : ℕ) (line : List ℕ)
-    (f : ReadFault) → HasTaken (HasRead old) (HasRead mid) piece left → IsFirstFeed left end
-    → line ≡ take end left
-    → Refuses mid (line ++ 10 ∷ []) f → Refuses old piece f
-refused_later old mid piece left end line f t at e (inl m) = inl m
-refused_later old mid piece left end line f t at e (inr r) = inr (λ bytes more s.
-    let after = drop (end + 1) left in
-    let all : piece ≡ t.taken ++ (line ++ 10 ∷ after) =
-    t.split ∙ ap (λ x. t.taken ++ x) (at.split ∙ ap (λ x. x ++ 10 ∷ after) (sym e)) in
-    subst (λ x. IsFirstFault x f.kind f.line) (grouped bytes t.taken line after more
+pub refused_later : (old mid : Parser) (piece left text rest : List ℕ) (f : ReadFault)
+    → HasTaken (HasRead old) (HasRead mid) piece left → left ≡ text ++ rest → Refuses mid text f
+    → Refuses old piece f
+refused_later old mid piece left text rest f t split (inl m) = inl m
+refused_later old mid piece left text rest f t split (inr r) = inr (λ bytes more s.
+    let all : piece ≡ t.taken ++ (text ++ rest) = t.split ∙ ap (λ x. t.taken ++ x) split in
+    subst (λ x. IsFirstFault x f.kind f.line) (grouped bytes t.taken text rest more
     ∙ ap (λ x. bytes ++ x ++ more) (sym all))
-    (r (bytes ++ t.taken) (after ++ more) (t.holds bytes s)))
+    (r (bytes ++ t.taken) (rest ++ more) (t.holds bytes s)))
   where
-    grouped : (b t l a m : List ℕ) → (b ++ t) ++ (l ++ 10 ∷ []) ++ (a ++ m)
-        ≡ b ++ (t ++ (l ++ 10 ∷ a)) ++ m
+    grouped : (b t l a m : List ℕ) → (b ++ t) ++ l ++ (a ++ m) ≡ b ++ (t ++ (l ++ a)) ++ m
     grouped b t l a m = simp append_assoc
 
 -- the end

@@ -12,7 +12,7 @@ use crate::rows::Draft;
 use cnf::types::Instance;
 use std::alloc::{AllocError, Global};
 use text::buffer::LineBuffer;
-use text::pieces::line_feed_at;
+use text::pieces::split_line;
 
 /// A growth was refused. A text of 2^64 lines, which no machine can hand over, counts as one.
 const NO_MEMORY: ReadFault = ReadFault {
@@ -50,9 +50,9 @@ impl Parser {
         ensures fault { IfErr result (Refuses self.old piece.now) }
     {
         let mut left = piece;
-        while let Some(end) = line_feed_at(left) {
-            self.end_line(&left[..end])?;
-            left = &left[end + 1..];
+        while let Some((end, after)) = split_line(left) {
+            self.end_line(end)?;
+            left = after;
         }
         match self.rest.keep(left) {
             Ok(()) => Ok(()),

@@ -1,7 +1,8 @@
 -- What the piece leaves: after a line of it, after its last bytes, and after a fault.
-use Rattle.std.proofs.Common.{◌≡◌, length, ap, refl, arith}
+use Rattle.std.proofs.Common.{◌≡◌, ◌++◌, ◌∷◌, [], length, ap, refl, arith}
+use Rattle.text.proofs.Laws.{line_lengths}
 use Rattle.lrat_check.specs.Pieces.{reading_state}
-use Rattle.lrat_check.proofs.PieceLaws.{taken_more, taken_lengths, rest_kept, rest_dropped}
+use Rattle.lrat_check.proofs.PieceLaws.{taken_on, rest_kept, rest_dropped}
 use Rattle.lrat_check.proofs.PieceLaws.{taken_batch, taken_none, batch_lengths, some_from_test}
 use Rattle.lrat_check.proofs.reading.Reading.take.Goals as goal
 
@@ -24,17 +25,17 @@ loop-left-preserved c =
     let none : c.in_ok-count.count ≡ 0 = omega (arith, c.if-count-gt0.false) in
     record {
       taken =
-          taken_more (reading_state c.args.self.now) (reading_state c.take_batch.new.self)
+          taken_on (reading_state c.args.self.now) (reading_state c.take_batch.new.self)
           (reading_state c.end_line.new.self) c.args.piece.now
-          c.loop-left.left.now c.in-Some.end _ _
+          c.loop-left.left.now (c.in-Some.end.now ++ 10 ∷ []) c.in-Some.after.now
           (taken_none (reading_state c.args.self.now) (reading_state c.loop-left.self)
           (reading_state c.take_batch.new.self) c.args.piece.now c.loop-left.left.now
           c.in_ok-count.count c.loop-left.invariant.taken none c.in_ok-count.ensures.holds)
-          c.in-Some.ensures refl refl
+          c.in-Some.ensures.split
           c.in_ok-end_line-in-Some.ensures.holds;
       room =
-          (let n = taken_lengths c.loop-left.left.now c.in-Some.end _ _ c.in-Some.ensures refl refl
-          in
+          (let n = line_lengths c.loop-left.left.now c.in-Some.end.now c.in-Some.after.now
+          c.in-Some.ensures in
           let same = ap length c.take_batch.ensures.rest in
           omega (
             arith,
