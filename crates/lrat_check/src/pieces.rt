@@ -109,6 +109,7 @@ impl Checker {
             Err(AllocError) => {
                 self.failed = true;
                 self.reading.refused = None;
+                // No contract tells what a failure leaves there.
                 self.reading.rest.clear();
                 Err(FeedFault::Memory)
             }
