@@ -1,40 +1,34 @@
 -- A certificate in pieces: what holds after a line more, after a piece, and at the end.
 use Rattle.std.proofs.Common.{◌≡◌, ℕ, ◌+◌, ◌<◌, ◌≤◌, Bool, true, false, List, [], ◌∷◌, ◌++◌, map}
-use Rattle.std.proofs.Common.{take, drop, Option, Some, None, inl, inr, refl, sym, ◌∙◌, ap, subst}
+use Rattle.std.proofs.Common.{take, drop, Option, Some, None, refl, sym, ◌∙◌, ap, subst}
 use Rattle.std.proofs.Common.{length, arith, append_assoc, append-nil}
 use Rattle.std.specs.Prelude.{◌-◌, ◌==◌, not, is_some}
-use Rattle.std.specs.List.{slice_split}
-use Rattle.std.specs.Str.Lines.{lines_of_parts, strip_carriage_return}
-use Rattle.std.proofs.lemmas.List.{length-take-le, length-drop, take_rest, take-append-drop}
-use Rattle.std.proofs.lemmas.List.Splits.{slice_split_at, length-slice_split}
-use Rattle.std.proofs.lemmas.List.Elements.{All-append, All-nil}
+use Rattle.std.specs.Str.Lines.{strip_carriage_return}
+use Rattle.std.proofs.lemmas.List.{length-drop, take_rest, take-append-drop}
+use Rattle.std.proofs.lemmas.List.Elements.{All-append}
 use Rattle.std.specs.Prelude.{IfSome}
 use Rattle.std.specs.Io.KnownBytes.{Consumes, IsAtEnd}
 use Rattle.cnf.specs.Literal.{Literal}
-use Rattle.text.specs.Text.{tokens_of, token_lines, IsNoFeed, IsFirstFeed}
-use Rattle.text.proofs.Laws.{lines-last, parts-cons}
+use Rattle.text.specs.Text.{tokens_of, token_lines, IsNoFeed}
+use Rattle.text.specs.Pieces.{EndsInFeed, IsCut, HasTaken}
+use Rattle.text.proofs.Laws.{cut-ended, cut-kept, cut-nothing, lines-rest, lines-split}
+use Rattle.text.proofs.Laws.{taken-on, taken-whole}
 use Rattle.lrat_check.specs.declared.verdicts.Verdict.{Verdict}
 use Rattle.lrat_live.specs.Listed.{listed_from}
 use Rattle.lrat_check.specs.Machine.{MachineState, verdict_after}
 use Rattle.lrat_check.specs.Verdict.{verdict_on, proof_verdict}
 use Rattle.lrat_check.proofs.Base.{live_of-start}
 use Rattle.lrat_check.proofs.Judged.{state_of}
-use Rattle.lrat_check.specs.Pieces.{ReadingState, IsOpen, IsRefused, Holds, Judges, HasTaken}
-use Rattle.lrat_check.specs.Pieces.{CheckerState, Stands, IsEnded, EndsInFeed, JudgesLines}
-
-abbrev is_feed : ℕ → Bool
-is_feed b = b == 10
+use Rattle.lrat_check.specs.Pieces.{ReadingState, IsOpen, IsRefused, Holds, Judges}
+use Rattle.lrat_check.specs.Pieces.{CheckerState, HasJudged, JudgesLines}
 
 -- the tokens of the first line, and those of the others
 tokens-first : (x more : List ℕ) → IsNoFeed x
     → token_lines (x ++ 10 ∷ more) ≡ tokens_of (strip_carriage_return x) ∷ token_lines more
-tokens-first x more h =
-    ap (λ parts. map tokens_of (lines_of_parts parts)) (slice_split_at is_feed x 10 more h refl)
-    ∙ ap (map tokens_of)
-    (parts-cons x (slice_split is_feed more) (omega (arith, length-slice_split is_feed more)))
+tokens-first x more h = ap (map tokens_of) (lines-split x more h)
 
 tokens-last : (x : List ℕ) → 0 < length x → IsNoFeed x → token_lines x ≡ tokens_of x ∷ []
-tokens-last x l h = ap (map tokens_of) (lines-last x l (λ k lt. h k 0 lt))
+tokens-last x l h = ap (map tokens_of) (lines-rest x l h)
 
 regroup : (d r t more : List ℕ) → d ++ ((r ++ t) ++ more) ≡ ((d ++ r) ++ t) ++ more
 regroup d r t more = simp append_assoc
@@ -46,13 +40,8 @@ module _ (old new : ReadingState) (formula : List (List Literal)) (bytes text : 
   abbrev whole : List ℕ
   whole = bytes ++ text
 
-  whole_ended : IsEnded whole
-  whole_ended =
-      inr (
-        bytes ++ ended.0,
-        ap (λ x. bytes ++ x) ended.1
-            ∙ sym (append_assoc bytes ended.0 (10 ∷ [])),
-      )
+  whole_cut : IsCut whole whole []
+  whole_cut = cut-ended bytes text ended
 
   from_old : (more : List ℕ)
       → verdict_after old.machine (token_lines ((old.rest ++ text) ++ more))
@@ -60,15 +49,13 @@ module _ (old new : ReadingState) (formula : List (List Literal)) (bytes text : 
   from_old more =
       o.resumes ((old.rest ++ text) ++ more)
       ∙ ap (proof_verdict formula) (regroup o.done old.rest text more)
-      ∙ ap (λ x. proof_verdict formula ((x ++ text) ++ more)) (sym o.split)
+      ∙ ap (λ x. proof_verdict formula ((x ++ text) ++ more)) (sym (o.cut).split)
 
   still_open : JudgesLines old.machine (old.rest ++ text) new.machine None
       → IsOpen new formula whole
   still_open j = record {
     done = whole;
-    split = sym (append-nil whole) ∙ ap (λ x. whole ++ x) (sym empty);
-    ended = whole_ended;
-    unfinished = subst IsNoFeed (sym empty) (All-nil (λ b. (b == 10) ≡ false));
+    cut = subst (IsCut whole whole) (sym empty) whole_cut;
     resumes = λ more. sym (j more) ∙ from_old more;
   }
 
@@ -78,8 +65,8 @@ module _ (old new : ReadingState) (formula : List (List Literal)) (bytes text : 
   now_refused v j = record {
     done = whole;
     after = [];
-    split = sym (append-nil whole);
-    ended = whole_ended;
+    split = whole_cut.split;
+    ended = whole_cut.ended;
     cause = j.0.0;
     line = j.0.1;
     fault = j.0.2;
@@ -125,18 +112,16 @@ pub line_more : (old new : ReadingState) (end line : List ℕ) → old.refused �
     → line ≡ strip_carriage_return (old.rest ++ end)
     → new.rest ≡ [] → Judges old.machine line new.machine new.refused
     → (formula : List (List Literal)) (bytes : List ℕ) → Holds old formula bytes
-    → Holds new formula (bytes ++ end ++ 10 ∷ [])
-line_more old new end line none no_feed same empty j formula bytes h =
-    let no_feeds : IsNoFeed (old.rest ++ end) =
+    → Holds new formula (bytes ++ (end ++ 10 ∷ []))
+line_more old new end line none no_feed same empty j =
+    λ formula bytes h. let no_feeds : IsNoFeed (old.rest ++ end) =
     All-append (λ b. (b == 10) ≡ false) old.rest end
-    ((h.open_end none).unfinished) no_feed in
+    (((h.open_end none).cut).unfinished) no_feed in
     let judged : JudgesLines old.machine (old.rest ++ (end ++ 10 ∷ [])) new.machine
     new.refused = subst (λ x. JudgesLines old.machine x new.machine new.refused)
     (append_assoc old.rest end (10 ∷ []))
     (judges_line old.machine new.machine (old.rest ++ end) line new.refused no_feeds same j)
-    in
-    subst (Holds new formula) (sym (append_assoc bytes end (10 ∷ [])))
-    (lines_more old new (end ++ 10 ∷ []) none (end, refl) empty judged formula bytes h)
+    in lines_more old new (end ++ 10 ∷ []) none (end, refl) empty judged formula bytes h
 
 refused_more : (v : Verdict) (formula : List (List Literal)) (bytes more : List ℕ)
     → IsRefused v formula bytes → IsRefused v formula (bytes ++ more)
@@ -151,47 +136,28 @@ refused_more v formula bytes more r = record {
   stays = r.stays;
 }
 
--- a piece
--- the line that a line feed of the left part ends, and what is left then
-pub taken_lengths : (left : List ℕ) (end : ℕ) (line rest : List ℕ) → IsFirstFeed left end
-    → line ≡ take end left → rest ≡ take (length left - (end + 1)) (drop (end + 1) left)
-    → length left ≡ length line + length rest + 1
-taken_lengths left end line rest f e g =
-    let a : length line ≡ end = ap length e ∙ length-take-le end left (omega (arith, f.within)) in
-    let b : length rest ≡ length left - (end + 1) = ap length (g ∙ take_rest left (end + 1))
-    ∙ length-drop (end + 1) left in
-    omega (arith, f.within)
-
--- what is taken in turn is taken together
-pub taken_on : (old mid new : ReadingState) (piece left text rest : List ℕ)
-    → HasTaken old mid piece left
-    → left ≡ text ++ rest
-    → ((formula : List (List Literal)) (bytes : List ℕ) → Holds mid formula bytes
-    → Holds new formula (bytes ++ text))
-    → HasTaken old new piece rest
-taken_on old mid new piece left text rest t split next = record {
-  taken = t.taken ++ text;
-  split = t.split ∙ ap (λ x. t.taken ++ x) split ∙ sym (append_assoc t.taken text rest);
-  holds =
-      λ formula bytes h. subst (Holds new formula) (append_assoc bytes t.taken text)
-      (next formula (bytes ++ t.taken) (t.holds formula bytes h));
+-- what comes after a fault is dropped
+pub holds_more : (r : ReadingState) (formula : List (List Literal)) (bytes more : List ℕ)
+    → (r.refused ≡ None → ⊥) → Holds r formula bytes → Holds r formula (bytes ++ more)
+holds_more r formula bytes more some h = record {
+  open_end = λ e. absurd (some e);
+  refused = λ v e. refused_more v formula bytes more (h.refused v e);
 }
 
-pub taken_more : (old mid new : ReadingState) (piece left : List ℕ) (end : ℕ) (line rest : List ℕ)
-    → HasTaken old mid piece left → IsFirstFeed left end
-    → line ≡ take end left → rest ≡ take (length left - (end + 1)) (drop (end + 1) left)
+-- a piece
+-- all but the left part of it was taken, whatever the clauses are
+abbrev pub TakesUpTo : ReadingState → ReadingState → List ℕ → List ℕ → Type 0
+TakesUpTo old new piece left =
+    (formula : List (List Literal)) → HasTaken (Holds old formula) (Holds new formula) piece left
+
+pub taken_on : (old mid new : ReadingState) (piece left text rest : List ℕ)
+    → TakesUpTo old mid piece left → left ≡ text ++ rest
     → ((formula : List (List Literal)) (bytes : List ℕ) → Holds mid formula bytes
-    → Holds new formula (bytes ++ line ++ 10 ∷ []))
-    → HasTaken old new piece rest
-taken_more old mid new piece left end line rest t f e g next =
-    taken_on old mid new piece left (line ++ 10 ∷ []) rest t
-    (whole ∙ sym (append_assoc line (10 ∷ []) rest))
-    (λ formula bytes h. subst (Holds new formula) (append_assoc bytes line (10 ∷ []))
-    (next formula bytes h))
-  where
-    whole : left ≡ line ++ 10 ∷ rest
-    whole = f.split ∙ ap (λ x. x ++ 10 ∷ drop (end + 1) left) (sym e)
-        ∙ ap (λ x. line ++ 10 ∷ x) (sym (g ∙ take_rest left (end + 1)))
+    → Holds new formula (bytes ++ text))
+    → TakesUpTo old new piece rest
+taken_on old mid new piece left text rest t split next formula =
+    taken-on (Holds old formula) (Holds mid formula) (Holds new formula) piece left text rest
+    (t formula) split (next formula)
 
 pub batch_lengths : (left : List ℕ) (count : ℕ) (rest : List ℕ) → count ≤ length left
     → rest ≡ take (length left - count) (drop count left) → length left ≡ count + length rest
@@ -202,71 +168,58 @@ batch_lengths left count rest le g =
 
 -- the lines that were read together
 pub taken_batch : (old mid new : ReadingState) (piece left : List ℕ) (count : ℕ) (rest : List ℕ)
-    → HasTaken old mid piece left
-    → rest ≡ take (length left - count) (drop count left)
+    → TakesUpTo old mid piece left → rest ≡ take (length left - count) (drop count left)
     → ((formula : List (List Literal)) (bytes : List ℕ) → Holds mid formula bytes
     → Holds new formula (bytes ++ take count left))
-    → HasTaken old new piece rest
+    → TakesUpTo old new piece rest
 taken_batch old mid new piece left count rest t g next =
     taken_on old mid new piece left (take count left) rest t
     (sym (take-append-drop count left)
     ∙ ap (λ x. take count left ++ x) (sym (g ∙ take_rest left count))) next
 
 pub taken_none : (old mid new : ReadingState) (piece left : List ℕ) (count : ℕ)
-    → HasTaken old mid piece left → count ≡ 0
+    → TakesUpTo old mid piece left → count ≡ 0
     → ((formula : List (List Literal)) (bytes : List ℕ) → Holds mid formula bytes
     → Holds new formula (bytes ++ take count left))
-    → HasTaken old new piece left
+    → TakesUpTo old new piece left
 taken_none old mid new piece left count t zero next =
     taken_on old mid new piece left (take count left) left t
     (sym (ap (λ k. take k left ++ left) zero)) next
 
-pub rest_kept : (old mid new : ReadingState) (piece left : List ℕ) → HasTaken old mid piece left
-    → mid.refused ≡ None → IsNoFeed left
-    → new.machine ≡ mid.machine → new.refused ≡ mid.refused
-    → new.rest ≡ mid.rest ++ left
-    → (formula : List (List Literal)) (bytes : List ℕ) → Holds old formula bytes
-    → Holds new formula (bytes ++ piece)
-rest_kept old mid new piece left t none no_feed machine refused rest formula bytes h =
-    let m = t.holds formula bytes h in
+kept_rest : (mid new : ReadingState) (left : List ℕ) → mid.refused ≡ None → IsNoFeed left
+    → new.machine ≡ mid.machine → new.refused ≡ mid.refused → new.rest ≡ mid.rest ++ left
+    → (formula : List (List Literal)) (bytes : List ℕ) → Holds mid formula bytes
+    → Holds new formula (bytes ++ left)
+kept_rest mid new left none no_feed machine refused rest formula bytes m =
     let o = m.open_end none in
     record {
       open_end = λ e. record {
         done = o.done;
-        split = ap (λ x. bytes ++ x) t.split ∙ sym (append_assoc bytes t.taken left)
-            ∙ ap (λ x. x ++ left) o.split ∙ append_assoc o.done mid.rest left
-            ∙ ap (λ x. o.done ++ x) (sym rest);
-        ended = o.ended;
-        unfinished =
-            subst IsNoFeed (sym rest)
-            (All-append (λ b. (b == 10) ≡ false) mid.rest left o.unfinished no_feed);
+        cut = subst (IsCut (bytes ++ left) o.done) (sym rest)
+            (cut-kept bytes o.done mid.rest left o.cut no_feed);
         resumes = λ more. ap (λ (x : MachineState). verdict_after x (token_lines more)) machine
             ∙ o.resumes more;
       };
       refused = λ v e. absurd (let two : None ≡ Some v = sym none ∙ sym refused ∙ e in cc);
     }
 
-pub rest_dropped : (old new : ReadingState) (piece left : List ℕ) → HasTaken old new piece left
+pub rest_kept : (old mid new : ReadingState) (piece left : List ℕ) → TakesUpTo old mid piece left
+    → mid.refused ≡ None → IsNoFeed left
+    → new.machine ≡ mid.machine → new.refused ≡ mid.refused
+    → new.rest ≡ mid.rest ++ left
+    → (formula : List (List Literal)) (bytes : List ℕ) → Holds old formula bytes
+    → Holds new formula (bytes ++ piece)
+rest_kept old mid new piece left t none no_feed machine refused rest formula =
+    taken-whole (Holds old formula) (Holds mid formula) (Holds new formula) piece left (t formula)
+    (kept_rest mid new left none no_feed machine refused rest formula)
+
+pub rest_dropped : (old new : ReadingState) (piece left : List ℕ) → TakesUpTo old new piece left
     → (new.refused ≡ None → ⊥)
     → (formula : List (List Literal)) (bytes : List ℕ) → Holds old formula bytes
     → Holds new formula (bytes ++ piece)
-rest_dropped old new piece left t some formula bytes h =
-    let m = t.holds formula bytes h in
-    record {
-      open_end = λ e. absurd (some e);
-      refused =
-          λ v e. subst (IsRefused v formula) (append_assoc bytes t.taken left
-          ∙ ap (λ x. bytes ++ x) (sym t.split))
-          (refused_more v formula (bytes ++ t.taken) left (m.refused v e));
-    }
-
--- what comes after a fault is dropped
-pub holds_more : (r : ReadingState) (formula : List (List Literal)) (bytes more : List ℕ)
-    → (r.refused ≡ None → ⊥) → Holds r formula bytes → Holds r formula (bytes ++ more)
-holds_more r formula bytes more some h = record {
-  open_end = λ e. absurd (some e);
-  refused = λ v e. refused_more v formula bytes more (h.refused v e);
-}
+rest_dropped old new piece left t some formula =
+    taken-whole (Holds old formula) (Holds new formula) (Holds new formula) piece left (t formula)
+    (λ bytes h. holds_more new formula bytes left some h)
 
 -- what a test for a fault says
 pub some_from_test : (o : Option Verdict) (b : Bool) → is_some o ≡ not b → b ≡ false → o ≡ None → ⊥
@@ -282,9 +235,7 @@ pub starts : (r : ReadingState) (formula : List (List Literal))
 starts r formula e empty none = record {
   open_end = λ n. record {
     done = [];
-    split = sym empty;
-    ended = inl refl;
-    unfinished = subst IsNoFeed (sym empty) (All-nil (λ b. (b == 10) ≡ false));
+    cut = subst (IsCut [] []) (sym empty) cut-nothing;
     resumes = λ more. ap (λ (x : MachineState). verdict_after x (token_lines more)) e
         ∙ ap (λ l. verdict_on l false 1 (token_lines more)) (live_of-start formula);
   };
@@ -304,15 +255,16 @@ pub ends_empty : (r : ReadingState) → r.refused ≡ None → r.rest ≡ []
     → verdict_after r.machine [] ≡ proof_verdict formula bytes
 ends_empty r none empty formula bytes h =
     let o = h.open_end none in
-    o.resumes [] ∙ ap (proof_verdict formula) (ap (λ x. o.done ++ x) (sym empty) ∙ sym o.split)
+    o.resumes []
+    ∙ ap (proof_verdict formula) (ap (λ x. o.done ++ x) (sym empty) ∙ sym (o.cut).split)
 
 module _ (r : ReadingState) (none : r.refused ≡ None) (some : 0 < length r.rest)
     (formula : List (List Literal)) (bytes : List ℕ) (h : Holds r formula bytes) where
   last_line : verdict_after r.machine (tokens_of r.rest ∷ []) ≡ proof_verdict formula bytes
   last_line =
       let o = h.open_end none in
-      ap (verdict_after r.machine) (sym (tokens-last r.rest some o.unfinished))
-      ∙ o.resumes r.rest ∙ ap (proof_verdict formula) (sym o.split)
+      ap (verdict_after r.machine) (sym (tokens-last r.rest some (o.cut).unfinished))
+      ∙ o.resumes r.rest ∙ ap (proof_verdict formula) (sym (o.cut).split)
 
   pub ends_open : (new : MachineState) → Judges r.machine r.rest new None
       → verdict_after new [] ≡ proof_verdict formula bytes
@@ -333,7 +285,7 @@ refused_stays r (Some v) e formula bytes more h =
     ∙ ap (λ x. x ++ more) (sym w.split))
 
 abbrev pub StaysVerdict : CheckerState → Verdict → Type 0
-StaysVerdict c v = (formula : List (List Literal)) (bytes more : List ℕ) → Stands c formula bytes
+StaysVerdict c v = (formula : List (List Literal)) (bytes more : List ℕ) → HasJudged c formula bytes
     → v ≡ proof_verdict formula (bytes ++ more)
 
 pub checker_stays : (c : CheckerState) (o : Option Verdict) → o ≡ (c.reading).refused

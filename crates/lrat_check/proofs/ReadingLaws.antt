@@ -6,13 +6,14 @@ use Rattle.std.proofs.Common.{arith, append_assoc, length-append}
 use Rattle.std.specs.Str.Lines.{strip_carriage_return}
 use Rattle.cnf.specs.Lrat.{Live}
 use Rattle.text.specs.Text.{token_lines, tokens_of}
+use Rattle.text.specs.Pieces.{EndsInFeed}
 use Rattle.lrat_read.specs.Batch.{AreRead, IsFirstRead}
 use Rattle.lrat_read.specs.Blanks.{no_tokens}
 use Rattle.lrat_read.specs.Reader.{IsReadAs}
 use Rattle.lrat_read.specs.declared.line.ReadLine.{ReadLine}
 use Rattle.lrat_check.specs.declared.verdicts.Verdict.{Verdict}
 use Rattle.lrat_check.specs.Machine.{MachineState, after_lines, live_in, verdict_after}
-use Rattle.lrat_check.specs.Pieces.{Judges, JudgesLines, HaveJudged, EndsInFeed}
+use Rattle.lrat_check.specs.Pieces.{Judges, JudgesLines, JudgesUpTo}
 use Rattle.lrat_check.specs.Verdict.{verdict_on}
 use Rattle.lrat_check.proofs.PieceLaws.{verdict_first}
 
@@ -21,7 +22,7 @@ JudgesRead old r new f =
     (line : List ℕ) → IsReadAs (tokens_of line) r.form r.line → Judges old line new f
 
 module _ (old mid new : MachineState) (bytes : List ℕ) (r : ReadLine) (rs : List ReadLine)
-    (h : HaveJudged old bytes mid (r ∷ rs)) where
+    (h : JudgesUpTo old bytes mid (r ∷ rs)) where
   abbrev after : List ℕ
   after = (h.read).0
 
@@ -37,7 +38,7 @@ module _ (old mid new : MachineState) (bytes : List ℕ) (r : ReadLine) (rs : Li
       ∙ ap (λ x. verdict_after mid (token_lines x)) (append_assoc front.line (10 ∷ after) more)
       ∙ verdict_first mid front.line (after ++ more) front.no_feed
 
-  one_more : JudgesRead mid r new None → HaveJudged old bytes new rs
+  one_more : JudgesRead mid r new None → JudgesUpTo old bytes new rs
   one_more j = record {
     left_bytes = after;
     read = (h.read).2;
@@ -52,16 +53,16 @@ module _ (old mid new : MachineState) (bytes : List ℕ) (r : ReadLine) (rs : Li
 
 pub judged_more : (old mid new : MachineState) (bytes : List ℕ) (r : ReadLine)
     (all rs : List ReadLine) → all ≡ r ∷ rs → (f : Option Verdict) → f ≡ None
-    → JudgesRead mid r new f → HaveJudged old bytes mid all → HaveJudged old bytes new rs
+    → JudgesRead mid r new f → JudgesUpTo old bytes mid all → JudgesUpTo old bytes new rs
 judged_more old mid new bytes r all rs e f none j h =
-    one_more old mid new bytes r rs (subst (HaveJudged old bytes mid) e h)
+    one_more old mid new bytes r rs (subst (JudgesUpTo old bytes mid) e h)
     (subst (JudgesRead mid r new) none j)
 
 pub judged_fault : (old mid new : MachineState) (bytes : List ℕ) (r : ReadLine)
     (all rs : List ReadLine) → all ≡ r ∷ rs → (f : Option Verdict) (v : Verdict) → f ≡ Some v
-    → JudgesRead mid r new f → HaveJudged old bytes mid all → JudgesLines old bytes new (Some v)
+    → JudgesRead mid r new f → JudgesUpTo old bytes mid all → JudgesLines old bytes new (Some v)
 judged_fault old mid new bytes r all rs e f v some j h =
-    one_faulty old mid new bytes r rs (subst (HaveJudged old bytes mid) e h) v
+    one_faulty old mid new bytes r rs (subst (JudgesUpTo old bytes mid) e h) v
     (subst (JudgesRead mid r new) some j)
 
 -- each line has a line feed

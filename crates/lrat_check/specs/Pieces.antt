@@ -1,8 +1,8 @@
 -- A checker that is handed the certificate in pieces.
-use Rattle.std.specs.Prelude.{◌≡◌, ℕ, Bool, List, [], ◌∷◌, ◌++◌, length, Option, Some, None, ◌⊎◌}
-use Rattle.std.specs.Prelude.{IfSome}
+use Rattle.std.specs.Prelude.{◌≡◌, ℕ, Bool, List, ◌∷◌, ◌++◌, length, Option, Some, None, IfSome}
 use Rattle.cnf.specs.Literal.{Literal}
-use Rattle.text.specs.Text.{token_lines, tokens_of, IsNoFeed}
+use Rattle.text.specs.Text.{token_lines, tokens_of}
+use Rattle.text.specs.Pieces.{IsCut, IsEnded}
 use Rattle.lrat_read.specs.declared.line.ReadLine.{ReadLine}
 use Rattle.lrat_read.specs.Batch.{AreRead}
 use Rattle.lrat_check.specs.declared.verdicts.Cause.{Cause}
@@ -11,14 +11,6 @@ use Rattle.lrat_check.specs.declared.verdicts.Verdict.TheVariants.{No}
 use Rattle.lrat_check.specs.declared.reading.Reading.{Reading}
 use Rattle.lrat_check.specs.Machine.{MachineState, verdict_after}
 use Rattle.lrat_check.specs.Verdict.{proof_verdict}
-
--- lines that are each ended by a line feed
-abbrev pub EndsInFeed : List ℕ → Type 0
-EndsInFeed bytes = (front : List ℕ) × (bytes ≡ front ++ 10 ∷ [])
-
--- nothing, or such lines
-abbrev pub IsEnded : List ℕ → Type 0
-IsEnded bytes = (bytes ≡ []) ⊎ EndsInFeed bytes
 
 -- what the pieces so far leave
 pub record ReadingState : Type 0 where
@@ -31,15 +23,13 @@ pub record ReadingState : Type 0 where
 
 -- what is seen of a reading: the lines that were read together last are not
 abbrev pub reading_state : Reading → ReadingState
-reading_state r = record { machine = r.machine; rest = (r.rest).items; refused = r.refused }
+reading_state r = record { machine = r.machine; rest = r.rest; refused = r.refused }
 
 -- no ended line of the bytes is faulty: the rest is what follows the last of them, and from the
 -- machine the verdict follows, whatever comes
 pub record IsOpen (r : ReadingState) (formula : List (List Literal)) (bytes : List ℕ) : Type 0 where
   pub done : List ℕ
-  pub split : bytes ≡ done ++ r.rest
-  pub ended : IsEnded done
-  pub unfinished : IsNoFeed r.rest
+  pub cut : IsCut bytes done r.rest
   pub resumes : (more : List ℕ)
       → verdict_after r.machine (token_lines more) ≡ proof_verdict formula (done ++ more)
 
@@ -54,7 +44,7 @@ pub record IsRefused (v : Verdict) (formula : List (List Literal)) (bytes : List
   pub fault : v ≡ No cause line
   pub stays : (more : List ℕ) → proof_verdict formula (done ++ more) ≡ v
 
--- what was read stands for these bytes over the clauses
+-- this is what these bytes leave, over the clauses
 pub record Holds (r : ReadingState) (formula : List (List Literal)) (bytes : List ℕ) : Type 0 where
   pub open_end : r.refused ≡ None → IsOpen r formula bytes
   pub refused : (v : Verdict) → r.refused ≡ Some v → IsRefused v formula bytes
@@ -78,19 +68,12 @@ JudgesLines old bytes new (Some v) =
     × ((more : List ℕ) → verdict_after old (token_lines (bytes ++ more)) ≡ v)
 
 -- all but the left ones of the lines of the bytes lead on to a state
-pub record HaveJudged (old : MachineState) (bytes : List ℕ) (new : MachineState)
+pub record JudgesUpTo (old : MachineState) (bytes : List ℕ) (new : MachineState)
     (left : List ReadLine) : Type 0 where
   pub left_bytes : List ℕ
   pub read : AreRead left_bytes left
   pub leads : (more : List ℕ) → verdict_after old (token_lines (bytes ++ more))
       ≡ verdict_after new (token_lines (left_bytes ++ more))
-
--- all but the left part of the piece was read
-pub record HasTaken (old new : ReadingState) (piece left : List ℕ) : Type 0 where
-  pub taken : List ℕ
-  pub split : piece ≡ taken ++ left
-  pub holds : (formula : List (List Literal)) (bytes : List ℕ) → Holds old formula bytes
-      → Holds new formula (bytes ++ taken)
 
 pub record CheckerState : Type 0 where
   pub reading : ReadingState
@@ -99,8 +82,9 @@ pub record CheckerState : Type 0 where
   -- memory was refused
   pub failed : Bool
 
--- the checker stands for these bytes over the clauses
-pub record Stands (c : CheckerState) (formula : List (List Literal)) (bytes : List ℕ) : Type 0 where
+-- the checker has judged these bytes over the clauses
+pub record HasJudged (c : CheckerState) (formula : List (List Literal)) (bytes : List ℕ) :
+    Type 0 where
   pub fed : c.fed ≡ length bytes
   pub holds : Holds c.reading formula bytes
 

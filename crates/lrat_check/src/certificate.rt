@@ -4,7 +4,7 @@ ghost use Rattle.cnf.specs.Literal.{Literal};
 ghost use Rattle.cnf.specs.Formula.{IsUnsatisfiable};
 ghost use Rattle.cnf.specs.Lrat.{ProofLine, Accepts};
 ghost use Rattle.lrat_check.specs.Checks.{IsProofOver};
-ghost use Rattle.lrat_check.specs.Pieces.{Stands};
+ghost use Rattle.lrat_check.specs.Pieces.{HasJudged};
 ghost use Rattle.lrat_check.specs.Verdict.{proof_verdict};
 
 use crate::pieces::Checker;
@@ -40,7 +40,7 @@ pub(crate) fn check_owned(formula: Formula, proof: &[u8]) -> Result<Verdict, All
 /// The verdict of a checker that has read nothing so far.
 pub(crate) fn judge_whole(checker: Checker, proof: &[u8]) -> Result<Verdict, AllocError>
     requires { checker.fed ≡ 0 }
-    ensures { IfOk result (λ v. (formula : List (List Literal)) → Stands checker formula []
+    ensures { IfOk result (λ v. (formula : List (List Literal)) → HasJudged checker formula []
         → v ≡ proof_verdict formula proof.now) }
 {
     let mut checker = checker;

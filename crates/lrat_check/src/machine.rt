@@ -94,7 +94,7 @@ fn add(line: &Line, base: &mut Base, scratch: &mut Scratch) -> Result<Option<Cau
 }
 
 // Does what the line says, if it may. A line without tokens is always let be.
-fn judge(
+fn apply_line(
     form: Form,
     line: &Line,
     base: &mut Base,
@@ -122,9 +122,9 @@ fn judge(
     }
 }
 
-// As `judge`, and counts the line.
+// As `apply_line`, and counts the line.
 #[inline(always)]
-fn judge_next(
+fn apply_next(
     form: Form,
     line: &Line,
     base: &mut Base,
@@ -150,7 +150,7 @@ fn judge_next(
     ensures err_base { OnErr result (base.new ≡ base.old) }
     ensures err_lines { OnErr result (lines.new ≡ lines.old) }
 {
-    let fault = judge(form, line, base, scratch)?;
+    let fault = apply_line(form, line, base, scratch)?;
     *lines += 1;
     Ok(fault)
 }
@@ -189,8 +189,8 @@ impl Machine {
         })
     }
 
-    /// Reads what the look-ups of the hints of sixteen lines, from a place on, will read, where that
-    /// pays. Nothing that is seen of the machine changes.
+    /// Reads what the look-ups of the hints of sixteen lines, from a place on, will read, where
+    /// that pays. Nothing that is seen of the machine changes.
     #[inline]
     pub fn read_ahead(&mut self, batch: &Batch, from: usize)
         ensures { self.new ≡ self.old }
@@ -225,7 +225,7 @@ impl Machine {
     {
         let form = self.reader.read(line)?;
         let line = self.reader.line();
-        judge_next(
+        apply_next(
             form,
             &line,
             &mut self.base,
@@ -243,7 +243,7 @@ impl Machine {
         ensures lines { IfOk result (λ f. self.new.lines ≡ self.old.lines + 1) }
         ensures err { OnErr result (self.new ≡ self.old) }
     {
-        judge_next(
+        apply_next(
             read.form,
             &read.line,
             &mut self.base,

@@ -2,7 +2,7 @@
 ghost use Rattle.std.specs.Prelude.{◌≡◌, ℕ, ◌+◌, ◌<◌, ◌^◌, true, false, List, [], ◌++◌, length};
 ghost use Rattle.std.specs.Prelude.{None, Err, IfOk, OnOk, IfSome, IsErr, IsOk, IsSome, ◌↔◌};
 ghost use Rattle.cnf.specs.Literal.{Literal};
-ghost use Rattle.lrat_check.specs.Pieces.{Stands};
+ghost use Rattle.lrat_check.specs.Pieces.{HasJudged};
 ghost use Rattle.lrat_check.specs.Verdict.{proof_verdict};
 
 use crate::copies::copy_formula;
@@ -13,6 +13,7 @@ use cnf::types::Formula;
 use lrat_read::batch::Batch;
 use std::alloc::AllocError;
 use std::marker::Model;
+use text::buffer::LineBuffer;
 
 /// Judges an LRAT certificate while it comes in, in pieces of any size (Cruz-Filipe et al. 2017). A
 /// line is judged once its line feed is there; what follows the last line feed is all of the text
@@ -39,7 +40,7 @@ impl Model for Checker {
       failed = c.failed;
     } };
 
-    ghost invariant = { λ c. (((c.reading).machine).lines + length ((c.reading).rest).items ≤ c.fed)
+    ghost invariant = { λ c. (((c.reading).machine).lines + length (c.reading).rest ≤ c.fed)
         × (c.failed ≡ true → (c.reading).refused ≡ None) };
 }
 
@@ -50,7 +51,7 @@ impl Checker {
     ///
     /// `AllocError` where memory was refused, or where the formula has more than 2^32 - 2 literals.
     pub fn new(formula: &Formula) -> Result<Self, AllocError>
-        ensures stands { IfOk result (λ c. Stands c formula.now.clauses []) }
+        ensures judged { IfOk result (λ c. HasJudged c formula.now.clauses []) }
         ensures works { IfOk result (λ c. c.failed ≡ false) }
     {
         Checker::over(copy_formula(formula)?)
@@ -58,14 +59,14 @@ impl Checker {
 
     /// As `new`, over a formula whose memory the checker takes.
     pub(crate) fn over(formula: Formula) -> Result<Self, AllocError>
-        ensures stands { IfOk result (λ c. Stands c formula.clauses []) }
+        ensures judged { IfOk result (λ c. HasJudged c formula.clauses []) }
         ensures works { IfOk result (λ c. c.failed ≡ false) }
     {
         let alloc = formula.allocator();
         Ok(Checker {
             reading: Reading {
                 machine: Machine::new(formula)?,
-                rest: Vec::new(alloc),
+                rest: LineBuffer::new(alloc),
                 refused: None,
                 batch: Batch::new(alloc),
             },
@@ -88,8 +89,8 @@ impl Checker {
     /// `Memory` where memory was refused, and `Failed` after that.
     pub fn feed(&mut self, piece: &[u8]) -> Result<(), FeedFault>
         requires { self.old.fed + length piece.now < 2 ^ 64 }
-        ensures stands { OnOk result ((formula : List (List Literal)) (bytes : List ℕ)
-            → Stands self.old formula bytes → Stands self.new formula (bytes ++ piece.now)) }
+        ensures judged { OnOk result ((formula : List (List Literal)) (bytes : List ℕ)
+            → HasJudged self.old formula bytes → HasJudged self.new formula (bytes ++ piece.now)) }
         ensures fed { self.new.fed ≡ self.old.fed + length piece.now }
         ensures failed { (result ≡ Err FeedFault.Failed) ↔ (self.old.failed ≡ true) }
         ensures fails { IsErr result ↔ (self.new.failed ≡ true) }
@@ -108,6 +109,8 @@ impl Checker {
             Err(AllocError) => {
                 self.failed = true;
                 self.reading.refused = None;
+                // No contract tells what a failure leaves there.
+                self.reading.rest.clear();
                 Err(FeedFault::Memory)
             }
         }
@@ -119,7 +122,7 @@ impl Checker {
         ensures refused { result ≡ (self.now.reading).refused }
         ensures stays { IfSome result
             (λ v. (formula : List (List Literal)) (bytes more : List ℕ)
-            → Stands self.now formula bytes → v ≡ proof_verdict formula (bytes ++ more)) }
+            → HasJudged self.now formula bytes → v ≡ proof_verdict formula (bytes ++ more)) }
         ensures failed { self.now.failed ≡ true → result ≡ None }
     {
         self.reading.refused
@@ -132,7 +135,7 @@ impl Checker {
     /// `Memory` where memory was refused, and `Failed` where `feed` answered that before.
     pub fn finish(self) -> Result<Verdict, FeedFault>
         ensures verdict { IfOk result (λ v. (formula : List (List Literal)) (bytes : List ℕ)
-            → Stands self formula bytes → v ≡ proof_verdict formula bytes) }
+            → HasJudged self formula bytes → v ≡ proof_verdict formula bytes) }
         ensures failed { (result ≡ Err FeedFault.Failed) ↔ (self.failed ≡ true) }
     {
         if self.failed {

@@ -1,9 +1,8 @@
-// A certificate that comes in pieces, which may end anywhere: also within a token, or between a
-// carriage return and its line feed. Each line is judged once its line feed is there, and only what
-// follows the last line feed is kept. Where no line has begun, the lines that come next are read
-// many at a time and then judged in turn, up to the first fault: a whole check takes one tenth less
-// time so, as measured. A line that cannot be read with others is read alone, and lines without a
-// token are passed over.
+// A certificate that comes in pieces. Each line is judged once its line feed is there, and only
+// what follows the last line feed is kept. Where no line has begun, the lines that come next are
+// read many at a time and then judged in turn, up to the first fault: a whole check takes one tenth
+// less time so, as measured. A line that cannot be read with others is read alone, and lines
+// without a token are passed over.
 ghost use Rattle.std.specs.Prelude.{◌≡◌, ℕ, ◌+◌, ◌<◌, ◌≤◌, ◌^◌, ◌∷◌, ◌++◌, [], List, length, None};
 ghost use Rattle.std.specs.Prelude.{take, IfOk, OnOk, OnErr};
 ghost use Rattle.cnf.specs.Literal.{Literal};
@@ -19,7 +18,8 @@ use lrat_read::batch::Batch;
 use lrat_read::blanks::blank_lines;
 use lrat_read::line::ReadLine;
 use std::alloc::AllocError;
-use text::pieces::{line_feed_at, without_return};
+use text::buffer::LineBuffer;
+use text::pieces::split_line;
 
 /// What the pieces so far leave.
 #[derive(Drop)]
@@ -27,7 +27,7 @@ pub struct Reading {
     /// The lines that a line feed has ended.
     pub machine: Machine,
     /// What follows the last line feed.
-    pub rest: Vec<u8>,
+    pub rest: LineBuffer,
     /// The first fault. No piece that comes after it is read.
     pub refused: Option<Verdict>,
     /// The lines that were read together last. Nothing of it lasts but its memory.
@@ -35,7 +35,7 @@ pub struct Reading {
 }
 
 /// Judges the line. Answers the verdict where the certificate fails at it.
-fn judge(machine: &mut Machine, line: &[u8]) -> Result<Option<Verdict>, AllocError>
+fn judge_line(machine: &mut Machine, line: &[u8]) -> Result<Option<Verdict>, AllocError>
     requires { machine.old.lines + 1 < 2 ^ 64 }
     ensures judges { IfOk result (Judges machine.old line.now machine.new) }
     ensures lines { OnOk result (machine.new.lines ≡ machine.old.lines + 1) }
@@ -47,7 +47,7 @@ fn judge(machine: &mut Machine, line: &[u8]) -> Result<Option<Verdict>, AllocErr
     }
 }
 
-/// As `judge`, with a line that was read already.
+/// As `judge_line`, with a line that was read already.
 #[inline(always)]
 fn judge_read(machine: &mut Machine, read: &ReadLine) -> Result<Option<Verdict>, AllocError>
     requires { machine.old.lines + 1 < 2 ^ 64 }
@@ -82,13 +82,14 @@ fn judge_batch(machine: &mut Machine, batch: &Batch) -> Result<Option<Verdict>, 
 impl Reading {
     /// Reads the piece, up to the first fault.
     pub fn take(&mut self, piece: &[u8]) -> Result<(), AllocError>
-        requires { self.old.machine.lines + length self.old.rest.items + length piece.now < 2 ^ 64 }
+        requires { self.old.machine.lines + length self.old.rest + length piece.now < 2 ^ 64 }
         ensures holds { OnOk result ((formula : List (List Literal)) (bytes : List ℕ)
             → Holds (reading_state self.old) formula bytes
             → Holds (reading_state self.new) formula (bytes ++ piece.now)) }
-        ensures lines { self.new.machine.lines + length self.new.rest.items ≤ self.old.machine.lines
-            + length
-            self.old.rest.items + length piece.now }
+        ensures lines { OnOk result (self.new.machine.lines + length self.new.rest
+            ≤ self.old.machine.lines + length self.old.rest + length piece.now) }
+        ensures counted { self.new.machine.lines
+            ≤ self.old.machine.lines + length self.old.rest + length piece.now }
     {
         let mut left = piece;
         while self.refused.is_none() {
@@ -97,13 +98,13 @@ impl Reading {
                 left = &left[count..];
                 continue;
             }
-            match line_feed_at(left) {
-                Some(end) => {
-                    self.end_line(&left[..end])?;
-                    left = &left[end + 1..];
+            match split_line(left) {
+                Some((end, after)) => {
+                    self.end_line(end)?;
+                    left = after;
                 }
                 None => {
-                    self.rest.extend_from_slice(left)?;
+                    self.rest.keep(left)?;
                     return Ok(());
                 }
             }
@@ -126,7 +127,7 @@ impl Reading {
             self.new.machine.lines ≤ self.old.machine.lines + count) }
         ensures room { self.new.machine.lines ≤ self.old.machine.lines + length text.now }
     {
-        if !self.rest.as_slice().is_empty() {
+        if !self.rest.is_empty() {
             return Ok(0);
         }
         let blank = blank_lines(text);
@@ -148,34 +149,30 @@ impl Reading {
         requires no_feed { IsNoFeed end.now }
         ensures holds { OnOk result ((formula : List (List Literal)) (bytes : List ℕ)
             → Holds (reading_state self.old) formula bytes
-            → Holds (reading_state self.new) formula (bytes ++ end.now ++ 10 ∷ [])) }
-        ensures lines { self.new.machine.lines + length self.new.rest.items ≤ self.old.machine.lines
-            + length
-            self.old.rest.items + length end.now + 1 }
+            → Holds (reading_state self.new) formula (bytes ++ (end.now ++ 10 ∷ []))) }
+        ensures lines { OnOk result (self.new.machine.lines + length self.new.rest
+            ≤ self.old.machine.lines + length self.old.rest + length end.now + 1) }
+        ensures counted { self.new.machine.lines ≤ self.old.machine.lines + 1 }
     {
-        if self.rest.as_slice().is_empty() {
-            self.refused = judge(&mut self.machine, without_return(end))?;
-        } else {
-            self.rest.extend_from_slice(end)?;
-            self.refused = judge(&mut self.machine, without_return(&self.rest))?;
-            self.rest.clear();
-        }
+        let line = self.rest.line_ended_by(end)?;
+        self.refused = judge_line(&mut self.machine, line)?;
+        self.rest.clear();
         Ok(())
     }
 
     /// The verdict, where nothing follows.
     pub fn end(mut self) -> Result<Verdict, AllocError>
-        requires { self.machine.lines + length self.rest.items < 2 ^ 64 }
+        requires { self.machine.lines + length self.rest < 2 ^ 64 }
         ensures { IfOk result (λ v. (formula : List (List Literal)) (bytes : List ℕ)
             → Holds (reading_state self) formula bytes → v ≡ proof_verdict formula bytes) }
     {
         match self.refused {
             Some(refused) => Ok(refused),
             None => {
-                if self.rest.as_slice().is_empty() {
+                if self.rest.is_empty() {
                     return Ok(self.machine.verdict());
                 }
-                let fault = judge(&mut self.machine, &self.rest)?;
+                let fault = judge_line(&mut self.machine, self.rest.bytes())?;
                 match fault {
                     Some(refused) => Ok(refused),
                     None => Ok(self.machine.verdict()),

@@ -3,7 +3,7 @@ ghost use Rattle.std.specs.Prelude.{◌≡◌, ℕ, ◌+◌, ◌<◌, ◌^◌, [
 ghost use Rattle.std.specs.Prelude.{IfSome, OnOk};
 ghost use Rattle.cnf.specs.Literal.{Literal};
 ghost use Rattle.cnf.specs.Formula.{IsUnsatisfiable};
-ghost use Rattle.lrat_check.specs.Pieces.{Stands, IsJudged};
+ghost use Rattle.lrat_check.specs.Pieces.{HasJudged, IsJudged};
 ghost use Rattle.lrat_check.specs.Verdict.{proof_verdict};
 
 use crate::pieces::Checker;
@@ -27,7 +27,7 @@ pub(crate) fn check_stream<R: Read>(formula: Formula, proof: &mut R) -> Result<V
 /// The verdict on the bytes of the reader, which is read up to the first faulty line. A certificate
 /// of 2^64 bytes or more counts as a failed read.
 fn judge_stream<R: Read>(checker: Checker, proof: &mut R) -> Result<Verdict, CheckFault>
-    ensures { IfOk result (λ v. (formula : List (List Literal)) → Stands checker formula []
+    ensures { IfOk result (λ v. (formula : List (List Literal)) → HasJudged checker formula []
         → IsJudged (R.remaining proof.old) formula v) }
 {
     let mut checker = checker;
@@ -51,8 +51,9 @@ fn judge_stream<R: Read>(checker: Checker, proof: &mut R) -> Result<Verdict, Che
 /// Hands the piece to the checker.
 fn hand_on(checker: &mut Checker, piece: &[u8]) -> Result<(), CheckFault>
     requires { checker.old.fed + length piece.now < 2 ^ 64 }
-    ensures stands { OnOk result ((formula : List (List Literal)) (bytes : List ℕ)
-        → Stands checker.old formula bytes → Stands checker.new formula (bytes ++ piece.now)) }
+    ensures judged { OnOk result ((formula : List (List Literal)) (bytes : List ℕ)
+        → HasJudged checker.old formula bytes
+        → HasJudged checker.new formula (bytes ++ piece.now)) }
     ensures fed { checker.new.fed ≡ checker.old.fed + length piece.now }
 {
     match checker.feed(piece) {
@@ -64,7 +65,7 @@ fn hand_on(checker: &mut Checker, piece: &[u8]) -> Result<(), CheckFault>
 /// The verdict, where nothing follows.
 fn conclude(checker: Checker) -> Result<Verdict, CheckFault>
     ensures verdict { IfOk result (λ v. (formula : List (List Literal)) (bytes : List ℕ)
-        → Stands checker formula bytes → v ≡ proof_verdict formula bytes) }
+        → HasJudged checker formula bytes → v ≡ proof_verdict formula bytes) }
     ensures fault { IfErr result (λ fault. fault ≡ CheckFault.Memory) }
 {
     match checker.finish() {

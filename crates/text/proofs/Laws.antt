@@ -1,6 +1,8 @@
 -- The laws of this crate that other crates cite, from one place.
 pub use Rattle.text.proofs.CappedNumbers.{value_on-push}
-pub use Rattle.text.proofs.FirstPieces.{lines-last, lines-split, parts-cons}
+pub use Rattle.text.proofs.Cuts.{cut-ended, cut-kept, cut-nothing, line_lengths, lines-ended}
+pub use Rattle.text.proofs.Cuts.{lines-rest, taken-nothing, taken-on, taken-whole}
+pub use Rattle.text.proofs.FirstPieces.{lines-split}
 pub use Rattle.text.proofs.Items.{all_taken, flat_map-append, items_fault, items_more}
 pub use Rattle.text.proofs.Numbers.{decimal-number_of, decimal_numerals, digit_bounds, digit_from}
 pub use Rattle.text.proofs.Numbers.{digit_is_no_blank, is_number, is_number-decimal}

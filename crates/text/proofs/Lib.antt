@@ -7,4 +7,5 @@ mod DigitCounts
 mod Items
 mod AheadLaws
 mod Feeds
+mod Cuts
 pub mod Laws

@@ -2,6 +2,7 @@
 //! written.
 #![tactic(auto)]
 
+pub mod buffer;
 pub mod cutting;
 pub mod digits;
 pub mod output;

@@ -5,6 +5,7 @@ ghost use Rattle.std.specs.Iterator.{YieldsFirstBy, YieldsFirstRef, item_count};
 ghost use Rattle.std.specs.List.{prefix_len, position_or_len};
 ghost use Rattle.std.specs.Str.Lines.{strip_carriage_return};
 ghost use Rattle.text.specs.Ahead.{IsNextWord};
+ghost use Rattle.text.specs.Pieces.{IsFirstLine};
 ghost use Rattle.text.specs.Text.{is_blank, numbered_text, tokens_of, IsNoFeed, IsFirstFeed};
 
 use crate::digits::is_blank;
@@ -80,6 +81,15 @@ pub fn line_feed_at(text: &[u8]) -> Option<usize>
         Some(end) => Some(end),
         None => None,
     }
+}
+
+/// The bytes before the first line feed, and those behind it.
+pub fn split_line(text: &[u8]) -> Option<(&[u8], &[u8])>
+    ensures { MatchOption result (IsNoFeed text.now)
+        (λ parts. IsFirstLine text.now parts.0.now parts.1.now) }
+{
+    let end = line_feed_at(text)?;
+    Some((&text[..end], &text[end + 1..]))
 }
 
 /// The bytes before a line feed, less one carriage return at their end.

@@ -2,19 +2,21 @@
 use Rattle.std.specs.Prelude.{◌≡◌, ℕ, List, [], ◌++◌, Err, ◌⊎◌}
 use Rattle.std.specs.List.{enumerate_from}
 use Rattle.std.specs.Str.Lines.{lines}
-use Rattle.text.specs.Text.{tokens_of, numbered_text, IsNoFeed}
+use Rattle.text.specs.Text.{tokens_of, numbered_text}
+use Rattle.text.specs.Pieces.{IsCut}
 use Rattle.wcnf.specs.Drafts.{Drafted, nothing_drafted, drafted_line}
 use Rattle.wcnf.specs.Reading.{drafted_lines, IsFirstFault}
 use Rattle.wcnf.specs.declared.faults.ReadFault.{ReadFault}
 use Rattle.wcnf.specs.declared.faults.FaultKind.TheVariants.{Memory}
 use Rattle.wcnf.specs.declared.parser.Parser.{Parser}
 
--- the parser stands for these bytes: they read on, whatever comes, from its draft and its rest
-pub record Stands (p : Parser) (bytes : List ℕ) : Type 0 where
-  pub unfinished : IsNoFeed (p.rest).items
-  pub resumes : (more : List ℕ)
-      → drafted_lines p.draft (enumerate_from p.number (lines ((p.rest).items ++ more)))
-      ≡ drafted_lines nothing_drafted (numbered_text (bytes ++ more))
+-- the parser has read these bytes: from its draft, which the ended lines make, the text reads on,
+-- whatever comes after them, and it keeps what follows the last line feed
+pub record HasRead (p : Parser) (bytes : List ℕ) : Type 0 where
+  pub done : List ℕ
+  pub cut : IsCut bytes done p.rest
+  pub resumes : (more : List ℕ) → drafted_lines p.draft (enumerate_from p.number (lines more))
+      ≡ drafted_lines nothing_drafted (numbered_text (done ++ more))
 
 -- the draft is that of all lines of the bytes
 abbrev pub Ends : Drafted → List ℕ → Type 0
@@ -31,11 +33,5 @@ IsLineFault d n line f =
 -- the first fault of the text, which is in the piece
 abbrev pub Refuses : Parser → List ℕ → ReadFault → Type 0
 Refuses p piece f =
-    NoMemory f ⊎ ((bytes more : List ℕ) → Stands p bytes
+    NoMemory f ⊎ ((bytes more : List ℕ) → HasRead p bytes
     → IsFirstFault (bytes ++ piece ++ more) f.kind f.line)
-
--- all but the left part of the piece was read
-pub record HasRead (old new : Parser) (piece left : List ℕ) : Type 0 where
-  pub taken : List ℕ
-  pub split : piece ≡ taken ++ left
-  pub stands : (bytes : List ℕ) → Stands old bytes → Stands new (bytes ++ taken)

@@ -1,18 +1,18 @@
-// A text that comes in pieces, which may end anywhere: also within a token, or between a carriage
-// return and its line feed. Each line is read once its line feed is there, and only what follows
+// A text that comes in pieces. Each line is read once its line feed is there, and only what follows
 // the last line feed is kept.
 ghost use Rattle.std.specs.Prelude.{◌≡◌, ℕ, List, [], ◌∷◌, ◌++◌, ◌+◌, Ok, IfOk, IfErr, OnOk, ◌⊎◌};
 ghost use Rattle.text.specs.Text.{IsNoFeed, tokens_of};
 ghost use Rattle.wcnf.specs.Wcnf.{Reads};
 ghost use Rattle.wcnf.specs.Reading.{IsFirstFault};
 ghost use Rattle.wcnf.specs.Drafts.{drafted_line};
-ghost use Rattle.wcnf.specs.Parsing.{Stands, Ends, IsLineFault, Refuses, NoMemory};
+ghost use Rattle.wcnf.specs.Parsing.{HasRead, Ends, IsLineFault, Refuses, NoMemory};
 
 use crate::faults::{FaultKind, ReadFault};
 use crate::rows::Draft;
 use cnf::types::Instance;
-use std::alloc::Global;
-use text::pieces::{line_feed_at, without_return};
+use std::alloc::{AllocError, Global};
+use text::buffer::LineBuffer;
+use text::pieces::split_line;
 
 /// A growth was refused. A text of 2^64 lines, which no machine can hand over, counts as one.
 const NO_MEMORY: ReadFault = ReadFault {
@@ -28,64 +28,60 @@ pub(crate) struct Parser {
     /// The number of the next line, from 1.
     pub number: u64,
     /// What follows the last line feed.
-    pub rest: Vec<u8>,
+    pub rest: LineBuffer,
 }
 
 impl Parser {
     /// The parser of no bytes.
     pub(crate) fn new(alloc: Global) -> Self
-        ensures { Stands result [] }
+        ensures { HasRead result [] }
     {
         Parser {
             draft: Draft::new(alloc),
             number: 1,
-            rest: Vec::new(alloc),
+            rest: LineBuffer::new(alloc),
         }
     }
 
     /// Reads the piece, up to its first faulty line.
     pub(crate) fn feed(&mut self, piece: &[u8]) -> Result<(), ReadFault>
-        ensures stands { OnOk result
-            ((bytes : List ℕ) → Stands self.old bytes → Stands self.new (bytes ++ piece.now)) }
+        ensures read { OnOk result
+            ((bytes : List ℕ) → HasRead self.old bytes → HasRead self.new (bytes ++ piece.now)) }
         ensures fault { IfErr result (Refuses self.old piece.now) }
     {
         let mut left = piece;
-        while let Some(end) = line_feed_at(left) {
-            self.end_line(&left[..end])?;
-            left = &left[end + 1..];
+        while let Some((end, after)) = split_line(left) {
+            self.end_line(end)?;
+            left = after;
         }
-        keep(&mut self.rest, left)?;
-        Ok(())
+        match self.rest.keep(left) {
+            Ok(()) => Ok(()),
+            Err(AllocError) => Err(NO_MEMORY),
+        }
     }
 
     /// Reads the line that these bytes and a line feed end.
     fn end_line(&mut self, end: &[u8]) -> Result<(), ReadFault>
         requires { IsNoFeed end.now }
-        ensures stands { OnOk result ((bytes : List ℕ) → Stands self.old bytes
-            → Stands self.new (bytes ++ end.now ++ 10 ∷ [])) }
+        ensures read { OnOk result ((bytes : List ℕ) → HasRead self.old bytes
+            → HasRead self.new (bytes ++ (end.now ++ 10 ∷ []))) }
         ensures fault { IfErr result (Refuses self.old (end.now ++ 10 ∷ [])) }
     {
-        if self.rest.as_slice().is_empty() {
-            read_line(&mut self.draft, &mut self.number, without_return(end))?;
-        } else {
-            keep(&mut self.rest, end)?;
-            read_line(
-                &mut self.draft,
-                &mut self.number,
-                without_return(&self.rest),
-            )?;
-            self.rest.clear();
-        }
+        let Ok(line) = self.rest.line_ended_by(end) else {
+            return Err(NO_MEMORY);
+        };
+        read_line(&mut self.draft, &mut self.number, line)?;
+        self.rest.clear();
         Ok(())
     }
 
     /// The instance, where nothing follows.
     pub(crate) fn finish(mut self) -> Result<Instance, ReadFault>
-        requires { (bytes : List ℕ) × Stands self bytes }
+        requires { (bytes : List ℕ) × HasRead self bytes }
         ensures instance { IfOk result
-            (λ i. (bytes : List ℕ) → Stands self bytes → Reads bytes i) }
+            (λ i. (bytes : List ℕ) → HasRead self bytes → Reads bytes i) }
         ensures fault { IfErr result (λ f. NoMemory f
-            ⊎ ((bytes : List ℕ) → Stands self bytes → IsFirstFault bytes f.kind f.line)) }
+            ⊎ ((bytes : List ℕ) → HasRead self bytes → IsFirstFault bytes f.kind f.line)) }
     {
         self.end_text()?;
         finish_draft(self.draft)
@@ -94,25 +90,16 @@ impl Parser {
     /// Reads what follows the last line feed, if it is not empty, as one more line.
     fn end_text(&mut self) -> Result<(), ReadFault>
         ensures ends { OnOk result
-            ((bytes : List ℕ) → Stands self.old bytes → Ends self.new.draft bytes) }
+            ((bytes : List ℕ) → HasRead self.old bytes → Ends self.new.draft bytes) }
         ensures fault { IfErr result (λ f. NoMemory f
-            ⊎ ((bytes : List ℕ) → Stands self.old bytes → IsFirstFault bytes f.kind f.line)) }
+            ⊎ ((bytes : List ℕ) → HasRead self.old bytes → IsFirstFault bytes f.kind f.line)) }
     {
-        if self.rest.as_slice().is_empty() {
+        if self.rest.is_empty() {
             return Ok(());
         }
-        read_line(&mut self.draft, &mut self.number, &self.rest)?;
+        read_line(&mut self.draft, &mut self.number, self.rest.bytes())?;
         Ok(())
     }
-}
-
-/// Puts the bytes behind the rest.
-fn keep(rest: &mut Vec<u8>, bytes: &[u8]) -> Result<(), ReadFault>
-    ensures kept { OnOk result (rest.new.items ≡ rest.old.items ++ bytes.now) }
-    ensures fault { IfErr result NoMemory }
-{
-    rest.extend_from_slice(bytes).map_err(|_| NO_MEMORY)?;
-    Ok(())
 }
 
 /// Reads the line of this number, and counts it.

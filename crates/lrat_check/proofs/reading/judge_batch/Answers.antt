@@ -1,7 +1,7 @@
 -- A line more of those that were read together, and the first fault.
 use Rattle.std.proofs.Common.{ap, arith, drop, subst, sym}
 use Rattle.lrat_check.specs.Machine.{MachineState}
-use Rattle.lrat_check.specs.Pieces.{HaveJudged}
+use Rattle.lrat_check.specs.Pieces.{JudgesUpTo}
 use Rattle.lrat_check.proofs.ReadingLaws.{judged_more, judged_fault}
 use Rattle.lrat_check.proofs.reading.judge_batch.Goals as goal
 
@@ -10,7 +10,7 @@ returns-in-Some-clause-judges c = λ bytes read.
     judged_fault c.args.machine.now c.read_ahead.new.self c.judge_read.new.machine bytes
     c.get.result _ _ c.get.ensures c.in_ok-refused.field-0 c.in-Some.refused c.in-Some.is
     c.in_ok-refused.ensures.judges
-    (subst (λ m. HaveJudged c.args.machine.now bytes m (drop c.loop-place.place c.args.batch.now))
+    (subst (λ m. JudgesUpTo c.args.machine.now bytes m (drop c.loop-place.place c.args.batch.now))
     (sym c.read_ahead.ensures) (c.loop-place.invariant.judged bytes read))
 
 pub loop-place-preserved : goal.loop-place-preserved
@@ -19,7 +19,7 @@ loop-place-preserved c = record {
       judged_more c.args.machine.now c.read_ahead.new.self c.judge_read.new.machine bytes
       c.get.result _ _ c.get.ensures c.in_ok-refused.field-0 c.in_default.is
       c.in_ok-refused.ensures.judges
-      (subst (λ m. HaveJudged c.args.machine.now bytes m
+      (subst (λ m. JudgesUpTo c.args.machine.now bytes m
       (drop c.loop-place.place c.args.batch.now)) (sym c.read_ahead.ensures)
       (c.loop-place.invariant.judged bytes read));
   lines = omega (

@@ -36,7 +36,7 @@ pub pieces-preserved : goal.pieces-preserved
 pieces-preserved g c =
     let i = c.pieces.invariant in (
       _,
-      λ formula s. c.in_ok-hand_on.ensures.stands formula i.0 (i.1 formula s),
+      λ formula s. c.in_ok-hand_on.ensures.judged formula i.0 (i.1 formula s),
       read_more (g.R.Read.remaining c.args.proof.now) (g.R.Read.remaining c.pieces.proof)
           (g.R.Read.remaining c.read.new.self) i.0 _ i.2 c.in-Ok.ensures.bytes.0,
     )

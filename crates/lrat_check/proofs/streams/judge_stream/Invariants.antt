@@ -1,14 +1,14 @@
--- The checker stands for the bytes that were read.
+-- The checker has judged the bytes that were read.
 use Rattle.std.proofs.Common.{ℕ, ◌-◌, ◌^◌, List, []}
 use Rattle.std.specs.Io.KnownBytes.{Consumes}
 use Rattle.cnf.specs.Literal.{Literal}
-use Rattle.lrat_check.specs.Pieces.{Stands}
+use Rattle.lrat_check.specs.Pieces.{HasJudged}
 use Rattle.lrat_check.proofs.streams.judge_stream.Given as goal
 
 abbrev pub invariant-pieces : goal.invariant-pieces
 invariant-pieces g l =
-    (fed : List ℕ) × ((formula : List (List Literal)) → Stands l.fn.checker formula []
-    → Stands l.checker formula fed) × Consumes (g.R.Read.remaining l.fn.proof)
+    (fed : List ℕ) × ((formula : List (List Literal)) → HasJudged l.fn.checker formula []
+    → HasJudged l.checker formula fed) × Consumes (g.R.Read.remaining l.fn.proof)
     (g.R.Read.remaining l.proof) fed
 
 abbrev pub decreases-pieces : goal.decreases-pieces

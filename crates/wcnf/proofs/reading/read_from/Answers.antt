@@ -2,8 +2,8 @@
 use Rattle.std.proofs.Common.{rules, ◌≡◌, [], arith}
 use Rattle.std.specs.Io.KnownBytes.{IsAtEnd}
 use Rattle.std.proofs.KnownBytes.{Consumes-nil, Consumes-trans}
-use Rattle.wcnf.proofs.ParserLaws.{all_read, piece_refused, reader_refused, reader_read, told_at_end}
-use Rattle.wcnf.proofs.ParserLaws.{reader_read_one}
+use Rattle.wcnf.proofs.ParserLaws.{all_read, piece_refused, reader_read, reader_read_one}
+use Rattle.wcnf.proofs.ParserLaws.{reader_refused, told_at_end}
 use Rattle.wcnf.proofs.reading.read_from.Goals as goal
 
 pub pieces-init : goal.pieces-init
@@ -54,4 +54,4 @@ returns-in-Err-feed-clause-fault g c =
 pub pieces-preserved : goal.pieces-preserved
 pieces-preserved g c =
     let i = c.pieces.invariant in
-    (_, c.in_default.ensures.stands i.0 i.1, Consumes-trans _ _ _ i.0 _ i.2 c.in-Ok.ensures.bytes.0)
+    (_, c.in_default.ensures.read i.0 i.1, Consumes-trans _ _ _ i.0 _ i.2 c.in-Ok.ensures.bytes.0)

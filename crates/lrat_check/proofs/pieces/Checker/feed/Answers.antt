@@ -1,12 +1,12 @@
 -- After a fault the piece is dropped.
 use Rattle.std.proofs.Common.{◌∙◌, sym, subst, arith, length-append}
-use Rattle.lrat_check.specs.Pieces.{CheckerState, Stands, reading_state}
+use Rattle.lrat_check.specs.Pieces.{CheckerState, HasJudged, reading_state}
 use Rattle.lrat_check.proofs.PieceLaws.{holds_more, some_from_true}
 use Rattle.lrat_check.proofs.pieces.Checker.feed.Goals as goal
 
-pub returns-then-is_some-clause-stands : goal.returns-then-is_some-clause-stands
-returns-then-is_some-clause-stands c = λ formula bytes s.
-    let inside = subst (λ (x : CheckerState). Stands x formula bytes) (sym c.self.view_is) s in
+pub returns-then-is_some-clause-judged : goal.returns-then-is_some-clause-judged
+returns-then-is_some-clause-judged c = λ formula bytes s.
+    let inside = subst (λ (x : CheckerState). HasJudged x formula bytes) (sym c.self.view_is) s in
     record {
       fed = omega (arith, inside.fed, length-append bytes c.args.piece.now);
       holds =

@@ -1,7 +1,6 @@
 -- The first fault, or the verdict after the last line.
 use Rattle.std.proofs.Common.{◌∙◌, subst}
 use Rattle.lrat_check.specs.Pieces.{Judges, reading_state}
-use Rattle.wcnf.proofs.Laws.{empty_from_test, some_from_test}
 use Rattle.lrat_check.proofs.PieceLaws.{ends_refused, ends_empty, ends_open, ends_fault}
 use Rattle.lrat_check.proofs.reading.Reading.end.Goals as goal
 
@@ -12,30 +11,25 @@ returns-in-Some c =
 
 pub returns-then-is_empty : goal.returns-then-is_empty
 returns-then-is_empty c =
-    let empty =
-    empty_from_test (c.args.self.rest).items c.as_slice.result.now c.is_empty.result
-    c.as_slice.ensures.value c.is_empty.ensures c.if-is_empty.true in
+    let empty = c.is_empty.ensures.empty c.if-is_empty.true in
     λ formula bytes h. c.verdict.ensures
     ∙ ends_empty (reading_state c.args.self) c.in-None.is empty formula bytes h
 
 pub returns-in-Some-fault : goal.returns-in-Some-fault
 returns-in-Some-fault c =
-    let some =
-    some_from_test (c.args.self.rest).items c.as_slice.result.now c.is_empty.result
-    c.as_slice.ensures.value c.is_empty.ensures c.if-is_empty.false in
-    let judges = rw c.deref.ensures.value at c.in_ok-fault-in-None.ensures.judges in
+    let some = c.is_empty.ensures.some c.if-is_empty.false in
+    let judges = rw c.bytes.ensures at c.in_ok-fault-in-None.ensures.judges in
     λ formula bytes h. ends_fault (reading_state c.args.self) c.in-None.is some formula bytes h
-    c.judge.new.machine c.in-Some-fault.refused
-    (subst (λ f. Judges c.args.self.machine (c.args.self.rest).items c.judge.new.machine f)
+    c.judge_line.new.machine c.in-Some-fault.refused
+    (subst (λ f. Judges c.args.self.machine c.args.self.rest c.judge_line.new.machine f)
     c.in-Some-fault.is judges)
 
 pub returns : goal.returns
 returns c =
-    let some =
-    some_from_test (c.args.self.rest).items c.as_slice.result.now c.is_empty.result
-    c.as_slice.ensures.value c.is_empty.ensures c.if-is_empty.false in
-    let judges = rw c.deref.ensures.value at c.in_ok-fault-in-None.ensures.judges in
+    let some = c.is_empty.ensures.some c.if-is_empty.false in
+    let judges = rw c.bytes.ensures at c.in_ok-fault-in-None.ensures.judges in
     λ formula bytes h. c.verdict-in-None-fault.ensures
-    ∙ ends_open (reading_state c.args.self) c.in-None.is some formula bytes h c.judge.new.machine
-    (subst (λ f. Judges c.args.self.machine (c.args.self.rest).items c.judge.new.machine f)
+    ∙ ends_open (reading_state c.args.self) c.in-None.is some formula bytes h
+    c.judge_line.new.machine
+    (subst (λ f. Judges c.args.self.machine c.args.self.rest c.judge_line.new.machine f)
     c.in-None-fault.is judges)

@@ -1,7 +1,8 @@
 -- What the piece leaves: after a line of it, after its last bytes, and after a fault.
-use Rattle.std.proofs.Common.{◌≡◌, length, ap, refl, arith}
+use Rattle.std.proofs.Common.{◌≡◌, ◌++◌, ◌∷◌, [], length, ap, refl, arith}
+use Rattle.text.proofs.Laws.{line_lengths}
 use Rattle.lrat_check.specs.Pieces.{reading_state}
-use Rattle.lrat_check.proofs.PieceLaws.{taken_more, taken_lengths, rest_kept, rest_dropped}
+use Rattle.lrat_check.proofs.PieceLaws.{taken_on, rest_kept, rest_dropped}
 use Rattle.lrat_check.proofs.PieceLaws.{taken_batch, taken_none, batch_lengths, some_from_test}
 use Rattle.lrat_check.proofs.reading.Reading.take.Goals as goal
 
@@ -15,7 +16,7 @@ loop-left-preserved-then-count-gt0 c = record {
   room =
       (let n = batch_lengths c.loop-left.left.now c.in_ok-count.count _
       c.in_ok-count.ensures.within refl in
-      let same = ap (λ r. length r.items) c.take_batch.ensures.rest in
+      let same = ap length c.take_batch.ensures.rest in
       omega (arith, c.in_ok-count.ensures.lines, c.loop-left.invariant.room, n, same));
 }
 
@@ -24,18 +25,18 @@ loop-left-preserved c =
     let none : c.in_ok-count.count ≡ 0 = omega (arith, c.if-count-gt0.false) in
     record {
       taken =
-          taken_more (reading_state c.args.self.now) (reading_state c.take_batch.new.self)
+          taken_on (reading_state c.args.self.now) (reading_state c.take_batch.new.self)
           (reading_state c.end_line.new.self) c.args.piece.now
-          c.loop-left.left.now c.in-Some.end _ _
+          c.loop-left.left.now (c.in-Some.end.now ++ 10 ∷ []) c.in-Some.after.now
           (taken_none (reading_state c.args.self.now) (reading_state c.loop-left.self)
           (reading_state c.take_batch.new.self) c.args.piece.now c.loop-left.left.now
           c.in_ok-count.count c.loop-left.invariant.taken none c.in_ok-count.ensures.holds)
-          c.in-Some.ensures refl refl
+          c.in-Some.ensures.split
           c.in_ok-end_line-in-Some.ensures.holds;
       room =
-          (let n = taken_lengths c.loop-left.left.now c.in-Some.end _ _ c.in-Some.ensures refl refl
-          in
-          let same = ap (λ r. length r.items) c.take_batch.ensures.rest in
+          (let n = line_lengths c.loop-left.left.now c.in-Some.end.now c.in-Some.after.now
+          c.in-Some.ensures in
+          let same = ap length c.take_batch.ensures.rest in
           omega (
             arith,
             c.in_ok-end_line-in-Some.ensures.lines,
@@ -56,7 +57,7 @@ returns-in-None-clause-holds c =
     (reading_state c.take_batch.new.self) c.args.piece.now c.loop-left.left.now
     c.in_ok-count.count c.loop-left.invariant.taken none c.in_ok-count.ensures.holds)
     (c.in_ok-count.ensures.open none) c.in-None.ensures refl refl
-    c.in_ok-extend_from_slice-in-None.ensures.items
+    c.in_ok-keep-in-None.ensures.kept
 
 pub returns-clause-holds : goal.returns-clause-holds
 returns-clause-holds c =

@@ -1,7 +1,6 @@
 -- The bytes that were taken hold the lines that were judged, or those that were passed over.
 use Rattle.std.proofs.Common.{◌++◌, None, replicate, take, ap, sym, subst, arith}
 use Rattle.std.proofs.lemmas.List.{length-take-le}
-use Rattle.wcnf.proofs.Laws.{empty_from_test}
 use Rattle.lrat_read.specs.Blanks.{no_tokens}
 use Rattle.lrat_check.specs.Machine.{MachineState}
 use Rattle.lrat_check.specs.Pieces.{JudgesLines, reading_state}
@@ -20,9 +19,7 @@ returns-then-blank-gt0-clause-holds c =
     let old = reading_state c.args.self.now in
     let text = take blank.result.bytes c.args.text.now in
     let size = length-take-le blank.result.bytes c.args.text.now blank.ensures.within in
-    let empty =
-    empty_from_test old.rest c.as_slice.result.now c.is_empty.result
-    c.as_slice.ensures.value c.is_empty.ensures c.if-not-is_empty.false in
+    let empty = c.is_empty.ensures.empty c.if-not-is_empty.false in
     let passed : JudgesLines old.machine text c.pass_over.new.self None =
     subst (λ m. JudgesLines old.machine text m None) (sym c.pass_over.ensures)
     (lines_passed old.machine blank.result.count text blank.ensures.read) in
@@ -61,9 +58,7 @@ returns-in_err-self-clause-room c =
 pub returns-in_ok-self-clause-holds : goal.returns-in_ok-self-clause-holds
 returns-in_ok-self-clause-holds c =
     let size = length-take-le c.in_ok-count.count c.args.text.now c.in_ok-count.ensures.within in
-    let empty =
-    empty_from_test (c.args.self.now.rest).items c.as_slice.result.now c.is_empty.result
-    c.as_slice.ensures.value c.is_empty.ensures c.if-not-is_empty.false in
+    let empty = c.is_empty.ensures.empty c.if-not-is_empty.false in
     let text = take c.in_ok-count.count c.args.text.now in
     lines_more (reading_state c.args.self.now) _ text c.requires.open
     (read_ends text c.read.new.self c.in_ok-count.ensures.read

@@ -1,5 +1,5 @@
 use Rattle.lrat_check.proofs.Judged.{steps_added}
-use Rattle.lrat_check.proofs.machine.judge.Goals as goal
+use Rattle.lrat_check.proofs.machine.apply_line.Goals as goal
 
 pub returns-in-Deletion-false-clause-base : goal.returns-in-Deletion-false-clause-base
 returns-in-Deletion-false-clause-base c =
