@@ -24,11 +24,11 @@ ghost use Rattle.cnf.specs.Clause.{contains_literal};
 ghost use Rattle.propagate_watches.specs.Pool.{row_at, with_row};
 ghost use Rattle.propagate_watches.specs.Table.{IsWatching, attachment_in, rest_in, IsWatchedBy};
 ghost use Rattle.propagate.specs.Trail.{literals_of, value_in};
-ghost use Rattle.propagate.specs.Watches.{IsEngine, IsVariable, is_attached};
-ghost use Rattle.propagate.specs.Fits.{Fits, IsComplete};
-ghost use Rattle.propagate.specs.Steps.{Continues, AreTrueWaiting, IsTrueEntry, IsConflict};
-ghost use Rattle.propagate.specs.Steps.{IsWatched, LeavesOne, MayBeWatched, InRow, with_rows};
-ghost use Rattle.propagate.specs.Steps.{closed, moved};
+ghost use Rattle.propagate.specs.Watches.{IsEngine, IsVariable};
+ghost use Rattle.propagate.specs.Fits.{Fits};
+ghost use Rattle.propagate.specs.Steps.{Continues, Settles, AreTrueWaiting, IsTrueEntry};
+ghost use Rattle.propagate.specs.Steps.{IsConflict, IsWatched, LeavesOne, MayBeWatched, InRow};
+ghost use Rattle.propagate.specs.Steps.{with_rows, closed, moved};
 ghost use Rattle.propagate.specs.Queue.{LookSays, StepSays};
 
 use super::Engine;
@@ -72,10 +72,7 @@ impl Engine {
         requires waiting { AreTrueWaiting store.now.slots self.old }
         ensures continues { Continues self.old self.new }
         ensures fits { Fits self.new store.now.slots }
-        ensures conflict { IfOk result (λ found. IfSome found
-            (IsConflict store.now.slots self.new)) }
-        ensures complete { IfOk result (λ found. IfNone found
-            (IsComplete store.now.slots (is_attached self.new) self.new.trail)) }
+        ensures settles { IfOk result (Settles store.now.slots self.new) }
     {
         while let Some(falsified) = self.next_falsified() {
             if let Some(conflict) = self.look_at_row(store, falsified)? {
@@ -124,7 +121,7 @@ impl Engine {
         ensures continues { Continues self.old self.new }
         ensures fits { Fits self.new store.now.slots }
         ensures waiting { AreTrueWaiting store.now.slots self.new }
-        ensures same { self.new.watches.qhead ≡ self.old.watches.qhead }
+        ensures qhead { self.new.watches.qhead ≡ self.old.watches.qhead }
         ensures conflict { IfOk result (λ found. IfSome found
             (IsConflict store.now.slots self.new)) }
         ensures done { IfOk result (λ found. IfNone found
@@ -223,7 +220,7 @@ impl Engine {
         requires state { InRow store.now.slots self.old falsified write read }
         requires more { read < length (row_at self.old.watches.rows (index_of falsified)) }
         ensures continues { Continues self.old self.new }
-        ensures same { self.new.watches.qhead ≡ self.old.watches.qhead }
+        ensures qhead { self.new.watches.qhead ≡ self.old.watches.qhead }
         ensures len { length (row_at self.new.watches.rows (index_of falsified))
             ≡ length (row_at self.old.watches.rows (index_of falsified)) }
         ensures after { StepSays store.now.slots self.new falsified write read result }

@@ -6,7 +6,6 @@
 // level, or is dropped as satisfied at level 0.
 ghost use Rattle.std.specs.Prelude.{◌≡◌, ◌≢◌, ℕ, ◌<◌, ◌≤◌, Some, None, true, false, length, filter};
 ghost use Rattle.std.specs.Prelude.{All, IfOk, IfSome, IfNone, OnOk, OnErr, ◌⊎◌, slice_get};
-ghost use Rattle.std.specs.Bool.{MatchBool};
 ghost use Rattle.cnf.specs.Literal.{negation};
 ghost use Rattle.cnf.specs.Clause.{contains_literal};
 ghost use Rattle.clauses.specs.Slots.{clause_at};
@@ -15,7 +14,7 @@ ghost use Rattle.propagate_watches.specs.declared.table.Rest.{Rest};
 ghost use Rattle.propagate.specs.Trail.{literals_of, value_in};
 ghost use Rattle.propagate.specs.Watches.{IsVariable, is_attached};
 ghost use Rattle.propagate.specs.Fits.{Fits, HasTrue, IsRest};
-ghost use Rattle.propagate.specs.Steps.{Continues, AreTrueWaiting, IsTrueWaiting, IsConflict};
+ghost use Rattle.propagate.specs.Steps.{Continues, AreTrueWaiting, IsConflict, WaitSays};
 ghost use Rattle.propagate.specs.Steps.{IsMadeTrue, is_waiting, watched, with_attachment};
 
 use super::Engine;
@@ -97,9 +96,7 @@ impl Engine {
         ensures continues { Continues self.old self.new }
         ensures fits { Fits self.new store.now.slots }
         ensures list { self.new.watches.waiting ≡ self.old.watches.waiting }
-        ensures done { IfOk result (λ ok. MatchBool ok
-            (IsTrueWaiting store.now.slots self.new reference)
-            (IsConflict store.now.slots self.new reference)) }
+        ensures done { IfOk result (WaitSays store.now.slots self.new reference) }
     {
         match self.attachment(reference) {
             Attachment::Waiting => self.look_at_clause(store, reference),
@@ -117,9 +114,7 @@ impl Engine {
         ensures continues { Continues self.old self.new }
         ensures fits { Fits self.new store.now.slots }
         ensures list { self.new.watches.waiting ≡ self.old.watches.waiting }
-        ensures done { IfOk result (λ ok. MatchBool ok
-            (IsTrueWaiting store.now.slots self.new reference)
-            (IsConflict store.now.slots self.new reference)) }
+        ensures done { IfOk result (WaitSays store.now.slots self.new reference) }
     {
         let lits = store.lits(reference);
         let Some(one) = find_not_false(&self.trail, lits) else {

@@ -22,13 +22,13 @@ loop-falsified-preserved c =
     let s = c.in-Some.ensures in
     let long : length mid.trail ≡ length old.trail + length g.more =
     ap length g.grown ∙ length-append old.trail g.more in
-    let lt : mid.watches.qhead < length mid.trail = let e = f.same in let b = s.0 in omega arith in
+    let lt : mid.watches.qhead < length mid.trail = let e = f.qhead in let b = s.0 in omega arith in
     let row =
     subst (λ o. IfNone o (AllByRecursion (IsTrueEntry slots (literals_of mid.trail))
     (row_at mid.watches.rows (index_of w)))) c.in_default-2.is f.done in
     let at =
     grown_at old.trail mid.trail g.more old.watches.qhead mid.watches.qhead w w g.grown
-    f.same s.0 s.3 in
+    f.qhead s.0 s.3 in
     let fits : Fits c.advance.new.self slots =
     subst (λ e. Fits e slots) (sym c.advance.ensures)
     (fits_advance mid slots w w lt at row f.fits) in
@@ -42,7 +42,10 @@ loop-falsified-preserved c =
       waiting = subst (AreTrueWaiting slots) (sym c.advance.ensures) f.waiting;
     }
 
-pub returns-clause-complete : goal.returns-clause-complete
-returns-clause-complete c =
-    complete c.loop-falsified.self c.args.store.now.slots c.in_default.ensures
-    c.loop-falsified.invariant.waiting c.loop-falsified.invariant.fits
+pub returns-clause-settles : goal.returns-clause-settles
+returns-clause-settles c = record {
+  conflict = tt;
+  complete =
+      complete c.loop-falsified.self c.args.store.now.slots c.in_default.ensures
+      c.loop-falsified.invariant.waiting c.loop-falsified.invariant.fits;
+}
