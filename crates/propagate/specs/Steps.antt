@@ -73,6 +73,11 @@ pub record Continues (old new : EngineState) : Type 0 where
   pub waiting : (r : ℕ) → attachment_in new.watches.table r ≡ Waiting
       → attachment_in old.watches.table r ≡ Waiting
 
+-- it does so, and still belongs to the store
+pub record GoesOn (slots : Slots) (old new : EngineState) : Type 0 where
+  pub continues : Continues old new
+  pub fits : Fits new slots
+
 -- where the clause waits, it is true
 abbrev pub IsTrueWaiting : Slots → EngineState → ℕ → Type 0
 IsTrueWaiting slots e r = (c : List Literal) → attachment_in e.watches.table r ≡ Waiting
@@ -102,13 +107,17 @@ IsTrueEntry slots A w = (c : List Literal) → clause_at slots w.reference ≡ S
 abbrev pub IsConflict : Slots → EngineState → ℕ → Type 0
 IsConflict slots e r = (is_attached e r ≡ true) × IsFalseClause slots e r
 
+-- what is found is a conflict
+abbrev pub FindsConflict : Slots → EngineState → Option ℕ → Type 0
+FindsConflict slots e found = IfSome found (IsConflict slots e)
+
 -- what a look at a clause that may wait answers
 abbrev pub WaitSays : Slots → EngineState → ℕ → Bool → Type 0
 WaitSays slots e r ok = MatchBool ok (IsTrueWaiting slots e r) (IsConflict slots e r)
 
 -- what propagation answers: a conflict, or none, and then no attached clause is false or unit
 pub record Settles (slots : Slots) (e : EngineState) (found : Option ℕ) : Type 0 where
-  pub conflict : IfSome found (IsConflict slots e)
+  pub conflict : FindsConflict slots e found
   pub complete : IfNone found (IsComplete slots (is_attached e) e.trail)
 
 -- what is known of the clause of an entry in the row of a false literal

@@ -8,7 +8,7 @@ ghost use Rattle.propagate.specs.Trail.{literals_of, depth_of, value_in, level_i
 ghost use Rattle.propagate.specs.Trail.{reason_in, kept_to};
 ghost use Rattle.propagate.specs.Watches.{is_attached, SameAttached, SetsAttached, SameFrame};
 ghost use Rattle.propagate.specs.Watches.{IsBare};
-ghost use Rattle.propagate.specs.Steps.{enlisted, with_trail, Continues, Settles};
+ghost use Rattle.propagate.specs.Steps.{enlisted, with_trail, GoesOn, Settles};
 ghost use Rattle.propagate.specs.Fits.{Fits, StaysFit, IsWithin, GrowsByUnits, IsFalseClause};
 ghost use Rattle.propagate.specs.Fits.{IsComplete};
 
@@ -349,8 +349,7 @@ impl Engine {
     /// The waiting clauses first, then the queue.
     fn propagate_all(&mut self, store: &Store) -> Result<Option<CRef>, AllocError>
         requires { Fits self.old store.now.slots }
-        ensures continues { Continues self.old self.new }
-        ensures fits { Fits self.new store.now.slots }
+        ensures goes_on { GoesOn store.now.slots self.old self.new }
         ensures settles { IfOk result (Settles store.now.slots self.new) }
     {
         match self.look_at_waiting(store)? {

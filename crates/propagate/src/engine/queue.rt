@@ -26,9 +26,9 @@ ghost use Rattle.propagate_watches.specs.Table.{IsWatching, attachment_in, rest_
 ghost use Rattle.propagate.specs.Trail.{literals_of, value_in};
 ghost use Rattle.propagate.specs.Watches.{IsEngine, IsVariable};
 ghost use Rattle.propagate.specs.Fits.{Fits};
-ghost use Rattle.propagate.specs.Steps.{Continues, Settles, AreTrueWaiting, IsTrueEntry};
-ghost use Rattle.propagate.specs.Steps.{IsConflict, IsWatched, LeavesOne, MayBeWatched, InRow};
-ghost use Rattle.propagate.specs.Steps.{with_rows, closed, moved};
+ghost use Rattle.propagate.specs.Steps.{Continues, GoesOn, Settles, AreTrueWaiting};
+ghost use Rattle.propagate.specs.Steps.{IsTrueEntry, FindsConflict, IsWatched, LeavesOne};
+ghost use Rattle.propagate.specs.Steps.{MayBeWatched, InRow, with_rows, closed, moved};
 ghost use Rattle.propagate.specs.Queue.{LookSays, StepSays};
 
 use super::Engine;
@@ -70,8 +70,7 @@ impl Engine {
     pub(super) fn look_at_queue(&mut self, store: &Store) -> Result<Option<CRef>, AllocError>
         requires fits { Fits self.old store.now.slots }
         requires waiting { AreTrueWaiting store.now.slots self.old }
-        ensures continues { Continues self.old self.new }
-        ensures fits { Fits self.new store.now.slots }
+        ensures goes_on { GoesOn store.now.slots self.old self.new }
         ensures settles { IfOk result (Settles store.now.slots self.new) }
     {
         while let Some(falsified) = self.next_falsified() {
@@ -118,12 +117,10 @@ impl Engine {
         requires falsified { contains_literal (negation falsified) (literals_of self.old.trail)
             ≡ true }
         requires in_range { IsVariable self.old.variables falsified }
-        ensures continues { Continues self.old self.new }
-        ensures fits { Fits self.new store.now.slots }
+        ensures goes_on { GoesOn store.now.slots self.old self.new }
         ensures waiting { AreTrueWaiting store.now.slots self.new }
         ensures qhead { self.new.watches.qhead ≡ self.old.watches.qhead }
-        ensures conflict { IfOk result (λ found. IfSome found
-            (IsConflict store.now.slots self.new)) }
+        ensures conflict { IfOk result (FindsConflict store.now.slots self.new) }
         ensures done { IfOk result (λ found. IfNone found
             (AllByRecursion (IsTrueEntry store.now.slots (literals_of self.new.trail))
             (row_at self.new.watches.rows (index_of falsified)))) }

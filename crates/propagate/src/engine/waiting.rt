@@ -14,7 +14,7 @@ ghost use Rattle.propagate_watches.specs.declared.table.Rest.{Rest};
 ghost use Rattle.propagate.specs.Trail.{literals_of, value_in};
 ghost use Rattle.propagate.specs.Watches.{IsVariable, is_attached};
 ghost use Rattle.propagate.specs.Fits.{Fits, HasTrue, IsRest};
-ghost use Rattle.propagate.specs.Steps.{Continues, AreTrueWaiting, IsConflict, WaitSays};
+ghost use Rattle.propagate.specs.Steps.{GoesOn, AreTrueWaiting, FindsConflict, WaitSays};
 ghost use Rattle.propagate.specs.Steps.{IsMadeTrue, is_waiting, watched, with_attachment};
 
 use super::Engine;
@@ -44,10 +44,8 @@ impl Engine {
     /// Looks at each clause without watches. Those that go on to wait are true.
     pub(super) fn look_at_waiting(&mut self, store: &Store) -> Result<Option<CRef>, AllocError>
         requires { Fits self.old store.now.slots }
-        ensures continues { Continues self.old self.new }
-        ensures fits { Fits self.new store.now.slots }
-        ensures conflict { IfOk result (λ found. IfSome found
-            (IsConflict store.now.slots self.new)) }
+        ensures goes_on { GoesOn store.now.slots self.old self.new }
+        ensures conflict { IfOk result (FindsConflict store.now.slots self.new) }
         ensures waiting { IfOk result (λ found. IfNone found
             (AreTrueWaiting store.now.slots self.new)) }
     {
@@ -93,8 +91,7 @@ impl Engine {
     /// Looks at a clause where it waits. False where the clause is.
     fn look_at_reference(&mut self, store: &Store, reference: CRef) -> Result<bool, AllocError>
         requires { Fits self.old store.now.slots }
-        ensures continues { Continues self.old self.new }
-        ensures fits { Fits self.new store.now.slots }
+        ensures goes_on { GoesOn store.now.slots self.old self.new }
         ensures list { self.new.watches.waiting ≡ self.old.watches.waiting }
         ensures done { IfOk result (WaitSays store.now.slots self.new reference) }
     {
@@ -111,8 +108,7 @@ impl Engine {
     fn look_at_clause(&mut self, store: &Store, reference: CRef) -> Result<bool, AllocError>
         requires fits { Fits self.old store.now.slots }
         requires waits { attachment_in self.old.watches.table reference ≡ Attachment.Waiting }
-        ensures continues { Continues self.old self.new }
-        ensures fits { Fits self.new store.now.slots }
+        ensures goes_on { GoesOn store.now.slots self.old self.new }
         ensures list { self.new.watches.waiting ≡ self.old.watches.waiting }
         ensures done { IfOk result (WaitSays store.now.slots self.new reference) }
     {
@@ -152,8 +148,7 @@ impl Engine {
         requires member { IfSome (clause_at store.now.slots reference)
             (λ c. contains_literal one c ≡ true) }
         requires is_true { contains_literal one (literals_of self.old.trail) ≡ true }
-        ensures continues { Continues self.old self.new }
-        ensures fits { Fits self.new store.now.slots }
+        ensures goes_on { GoesOn store.now.slots self.old self.new }
         ensures list { self.new.watches.waiting ≡ self.old.watches.waiting }
         ensures trail { self.new.trail ≡ self.old.trail }
     {
