@@ -1,6 +1,6 @@
 // The trail and the clauses that are attached to it.
-ghost use Rattle.std.specs.Prelude.{◌≡◌, ℕ, ◌+◌, ◌<◌, ◌≤◌, Bool, true, false, List, [], ◌∷◌, ◌++◌};
-ghost use Rattle.std.specs.Prelude.{Some, None, length, map, All, Contains, OnOk, OnErr, IfOk};
+ghost use Rattle.std.specs.Prelude.{◌≡◌, ℕ, ◌<◌, ◌≤◌, true, false, [], ◌∷◌, ◌++◌, Some, None};
+ghost use Rattle.std.specs.Prelude.{length, All, OnOk, OnErr, IfOk};
 ghost use Rattle.std.specs.Prelude.{IfSome, IfNone, IsErr, ◌↔◌};
 ghost use Rattle.clauses.specs.Slots.{Slots, IsLive, clause_at};
 ghost use Rattle.propagate_watches.specs.Table.{attachment_in};

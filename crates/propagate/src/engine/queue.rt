@@ -15,15 +15,14 @@
 // true entries down, takes eighteen instructions more for each entry that is not settled, as much
 // as it saves. Where the row ends by itself its end is cut off, and `close_row` stays out of the
 // loop.
-ghost use Rattle.std.specs.Prelude.{◌≡◌, ◌≢◌, ℕ, ◌+◌, ◌<◌, ◌≤◌, true, Some, None, length, IfOk};
-ghost use Rattle.std.specs.Prelude.{IfSome, IfNone, MatchOption, OnOk, OnErr, slice_index_or};
-ghost use Rattle.std.specs.Prelude.{slice_set};
+ghost use Rattle.std.specs.Prelude.{◌≡◌, ◌≢◌, ◌+◌, ◌<◌, ◌≤◌, true, Some, None, length, IfOk, IfNone};
+ghost use Rattle.std.specs.Prelude.{MatchOption, OnOk, OnErr, slice_index_or, slice_set};
 ghost use Rattle.std.specs.List.{AllByRecursion};
 ghost use Rattle.cnf.specs.Literal.{Literal, negation, index_of};
 ghost use Rattle.cnf.specs.Clause.{contains_literal};
 ghost use Rattle.propagate_watches.specs.Pool.{row_at, with_row};
 ghost use Rattle.propagate_watches.specs.Table.{IsWatching, attachment_in, rest_in, IsWatchedBy};
-ghost use Rattle.propagate.specs.Trail.{literals_of, value_in};
+ghost use Rattle.propagate.specs.Trail.{literals_of};
 ghost use Rattle.propagate.specs.Watches.{IsEngine, IsVariable};
 ghost use Rattle.propagate.specs.Fits.{Fits};
 ghost use Rattle.propagate.specs.Steps.{Continues, GoesOn, Settles, AreTrueWaiting};
