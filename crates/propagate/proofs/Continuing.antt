@@ -13,7 +13,6 @@ use Rattle.propagate_watches.specs.Table.{is_kept, attachment_in}
 use Rattle.propagate_watches.proofs.Laws.{attachment_set_other, attachment_set_same}
 use Rattle.propagate.specs.Trail.{Assigned, is_decision}
 use Rattle.propagate.specs.Watches.{EngineState, is_attached}
-use Rattle.propagate.specs.Fits.{Fits}
 use Rattle.propagate.specs.Steps.{Continues, GoesOn, with_trail}
 use Rattle.propagate.proofs.Trails.{made}
 use Rattle.propagate.proofs.Attachments.{with_watches}
@@ -46,9 +45,6 @@ continues_then e f g a b = record {
   attached = λ r. b.attached r ∙ a.attached r;
   waiting = λ r h. a.waiting r (b.waiting r h);
 }
-
-pub goes_on_same : (slots : Slots) (e : EngineState) → Fits e slots → GoesOn slots e e
-goes_on_same slots e fits = record { continues = continues_same e; fits = fits }
 
 pub goes_on_then : (slots : Slots) (e f g : EngineState) → GoesOn slots e f → GoesOn slots f g
     → GoesOn slots e g

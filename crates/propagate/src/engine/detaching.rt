@@ -1,7 +1,7 @@
 // Many clauses that are detached at once.
 ghost use Rattle.std.specs.Prelude.{◌≡◌, ℕ, ◌&&◌, not, false, All, IfSome};
 ghost use Rattle.propagate_watches.specs.Doomed.{is_doomed};
-ghost use Rattle.propagate.specs.Watches.{is_attached, SameFrame};
+ghost use Rattle.propagate.specs.Watches.{is_attached};
 ghost use Rattle.propagate.specs.Fits.{StaysFit};
 ghost use Rattle.propagate.specs.Doomed.{spared};
 
@@ -25,7 +25,8 @@ impl Engine {
             self.old.trail }
         ensures detached { (r : ℕ) → is_attached self.new r
             ≡ (is_attached self.old r && not (is_doomed doomed.now r)) }
-        ensures same { (self.new.trail ≡ self.old.trail) × SameFrame self.old self.new }
+        ensures same { (self.new.trail ≡ self.old.trail) × (self.new.variables ≡ self.old.variables)
+            × (self.new.failed ≡ self.old.failed) }
         ensures fits { StaysFit self.old self.new }
     {
         self.table.drop_doomed(doomed);
