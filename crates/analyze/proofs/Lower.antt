@@ -13,7 +13,7 @@ use Rattle.analyze.specs.Learning.{IsMarked}
 use Rattle.analyze.specs.declared.marks.Mark.{Mark}
 use Rattle.analyze.specs.declared.marks.Mark.TheVariants.{Clear, Kept, Resolved}
 use Rattle.analyze.specs.Marks.{mark_at, level_at_variable, kept_of, resolved_of, IsAbove}
-use Rattle.analyze.specs.Marks.{Resolves, KeepsMarked, IsReduced}
+use Rattle.analyze.specs.Marks.{Resolves, KeepsMarked, IsReduced, Reduces}
 use Rattle.analyze.specs.Met.{nowhere, variable_at}
 use Rattle.analyze.proofs.Listing.{found}
 use Rattle.analyze.proofs.Reasoning.{reason_at, unit_of}
@@ -53,7 +53,7 @@ reason_low slots T v r w c h up here live ne k =
     let m = depth_more T (suc q.0) (suc p.0) (omega arith) in
     omega arith
 
-pub lower_reduced : (slots : Slots) (T : List Assigned) (v r : ℕ) (M N : List Mark) (u : Literal)
+lower_reduced : (slots : Slots) (T : List Assigned) (v r : ℕ) (M N : List Mark) (u : Literal)
     → HasReasons (clause_at slots) [] T → mark_at M v ≡ Kept → v ≢ u.variable → v < length M
     → reason_in T v ≡ Some r → Resolves slots T v r M N → IsReduced T M u → IsReduced T N u
 lower_reduced slots T v r M N u h kept ne room here d i =
@@ -78,11 +78,11 @@ lower_reduced slots T v r M N u h kept ne room here d i =
           ];
     }
 
-pub lower_same : (slots : Slots) (T : List Assigned) (first M N : List Mark) (v r : ℕ) (u : Literal)
+lower_known : (slots : Slots) (T : List Assigned) (first M N : List Mark) (v r : ℕ) (u : Literal)
     → HasReasons (clause_at slots) [] T → mark_at M v ≡ Kept → v < length M
     → reason_in T v ≡ Some r → Resolves slots T v r M N → IsReduced T M u
     → KeepsMarked slots T first M → KeepsMarked slots T first N
-lower_same slots T first M N v r u h kept room here d i s =
+lower_known slots T first M N v r u h kept room here d i s =
     let long : length d.between ≡ length M = d.marks.long in
     let within : v < length d.between = omega arith in
     λ wrong m. subst (λ x. IsMarked (clause_at slots) T wrong (kept_of x) (resolved_of x))
@@ -90,7 +90,12 @@ lower_same slots T first M N v r u h kept room here d i s =
     (marked_resolve (clause_at slots) T wrong d.clause M d.between v r h here d.live
     (i.above v kept) kept within d.marks (s wrong m))
 
-pub lower_long : (slots : Slots) (T : List Assigned) (M N : List Mark) (v r : ℕ)
-    → Resolves slots T v r M N → length N ≡ length M
-lower_long slots T M N v r d =
-    ap length d.resolved ∙ length-set d.between v Resolved ∙ d.marks.long
+pub lower_reduces : (slots : Slots) (T : List Assigned) (first M N : List Mark) (v r : ℕ)
+    (u : Literal) → HasReasons (clause_at slots) [] T → mark_at M v ≡ Kept → v ≢ u.variable
+    → v < length M → reason_in T v ≡ Some r → Resolves slots T v r M N
+    → Reduces slots T first M u → Reduces slots T first N u
+lower_reduces slots T first M N v r u h kept ne room here d w = record {
+  long = ap length d.resolved ∙ length-set d.between v Resolved ∙ d.marks.long ∙ w.long;
+  known = lower_known slots T first M N v r u h kept room here d w.reduced w.known;
+  reduced = lower_reduced slots T v r M N u h kept ne room here d w.reduced;
+}

@@ -1,10 +1,7 @@
 // What is learned, read off the marks.
-ghost use Rattle.std.specs.Prelude.{◌≡◌, ◌+◌, ◌<◌, ◌≤◌, ℕ, All, [], ◌∷◌, ◌++◌, length, IsTrue};
-ghost use Rattle.std.specs.Prelude.{IfOk};
-ghost use Rattle.clauses.specs.Slots.{Slots};
-ghost use Rattle.propagate.specs.Fits.{Fits};
+ghost use Rattle.std.specs.Prelude.{◌≡◌, ◌≤◌, All, [], ◌∷◌, ◌++◌, IfOk};
 ghost use Rattle.analyze.specs.Learning.{greatest_level, chosen_reasons};
-ghost use Rattle.analyze.specs.Met.{HasMet, IsRising};
+ghost use Rattle.analyze.specs.Met.{GoesAlong};
 ghost use Rattle.analyze.specs.Marks.{learned_from, resolved_of};
 
 use crate::learning::SHORT;
@@ -23,10 +20,7 @@ pub(crate) fn collect_literals(
     marks: &[Mark],
     met: &[u32],
 ) -> Result<SmallVec<Lit, SHORT>, AllocError>
-    requires fits { (slots : Slots) × Fits engine.now slots }
-    requires room { engine.now.variables < length marks.now }
-    requires listed { HasMet engine.now.trail marks.now met.now }
-    requires rising { IsRising met.now }
+    requires { GoesAlong engine.now marks.now met.now }
     ensures { IfOk result (λ lits. lits.items ≡ learned_from engine.now.trail marks.now asserting) }
 {
     let mut lits = SmallVec::new(alloc);
@@ -49,10 +43,7 @@ pub(crate) fn collect_hints(
     marks: &[Mark],
     met: &[u32],
 ) -> Result<Vec<CRef>, AllocError>
-    requires fits { (slots : Slots) × Fits engine.now slots }
-    requires room { engine.now.variables < length marks.now }
-    requires listed { HasMet engine.now.trail marks.now met.now }
-    requires rising { IsRising met.now }
+    requires { GoesAlong engine.now marks.now met.now }
     ensures { IfOk result (λ hints. hints.items ≡ chosen_reasons
         (λ l. resolved_of marks.now l.variable) engine.now.trail ++ conflict ∷ []) }
 {

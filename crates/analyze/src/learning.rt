@@ -7,6 +7,7 @@ ghost use Rattle.clauses.specs.Slots.{IsLive, clause_at};
 ghost use Rattle.propagate.specs.Trail.{depth_of};
 ghost use Rattle.propagate.specs.Fits.{Fits};
 ghost use Rattle.analyze.specs.Learning.{IsAsserting, IsConflict, IsInTrailOrder, IsRefutedBy};
+ghost use Rattle.analyze.specs.Learning.{CanLearn, Learns};
 
 use crate::collect::{collect_hints, collect_literals, greatest};
 use crate::marks::{Mark, clear, mark_clause, resolve};
@@ -115,7 +116,7 @@ impl Analyzer {
             learned.lits.items learned.hints.items) }
         ensures order { IfOk result (λ learned.
             IsInTrailOrder engine.now.trail conflict learned.hints.items) }
-        ensures same { self.new ≡ self.old }
+        ensures unchanged { self.new ≡ self.old }
     {
         self.met.clear();
         let alloc = store.allocator();
@@ -154,16 +155,8 @@ impl Analyzer {
 ///
 /// `AllocError` where memory was refused.
 pub fn analyze(engine: &Engine, store: &Store, conflict: CRef) -> Result<Learned, AllocError>
-    requires fits { Fits engine.now store.now.slots }
-    requires live { IsLive store.now.slots conflict }
-    requires falsified { IfSome (clause_at store.now.slots conflict) (IsConflict engine.now.trail) }
-    requires deep { 0 < depth_of engine.now.trail }
-    ensures asserting { IfOk result (λ learned.
-        IsAsserting engine.now.trail learned.lits.items learned.back_level) }
-    ensures hints { IfOk result (λ learned. IsRefutedBy store.now.slots engine.now.trail
-        learned.lits.items learned.hints.items) }
-    ensures order { IfOk result (λ learned.
-        IsInTrailOrder engine.now.trail conflict learned.hints.items) }
+    requires { CanLearn engine.now store.now.slots conflict }
+    ensures { IfOk result (Learns store.now.slots engine.now.trail conflict) }
 {
     let mut analyzer = Analyzer::new(store.allocator(), engine.variables())?;
     analyzer.analyze(engine, store, conflict)
@@ -181,20 +174,12 @@ fn learn(
     queue: &mut Vec<u32>,
     firsts: &mut [u32],
 ) -> Result<Learned, AllocError>
-    requires fits { Fits engine.now store.now.slots }
-    requires live { IsLive store.now.slots conflict }
-    requires falsified { IfSome (clause_at store.now.slots conflict) (IsConflict engine.now.trail) }
-    requires deep { 0 < depth_of engine.now.trail }
+    requires can { CanLearn engine.now store.now.slots conflict }
     requires room { engine.now.variables < length marks.old }
     requires clear { IsClear marks.old }
     requires none { met.old.items ≡ [] }
     requires spare { length marks.old ≤ vec_capacity met.old }
-    ensures asserting { IfOk result (λ learned.
-        IsAsserting engine.now.trail learned.lits.items learned.back_level) }
-    ensures hints { IfOk result (λ learned. IsRefutedBy store.now.slots engine.now.trail
-        learned.lits.items learned.hints.items) }
-    ensures order { IfOk result (λ learned.
-        IsInTrailOrder engine.now.trail conflict learned.hints.items) }
+    ensures learns { IfOk result (Learns store.now.slots engine.now.trail conflict) }
     ensures listed { HasMet engine.now.trail marks.new met.new.items }
     ensures long { length marks.new ≡ length marks.old }
     ensures spare { length marks.old ≤ vec_capacity met.new }

@@ -8,15 +8,13 @@
 // recursion and no search of the trail. Nothing rests on what it finds: `drop_redundant` resolves
 // it by its reasons, the last first, as any literal of a conflict is, so that the hints are just
 // the reasons that were used.
-ghost use Rattle.std.specs.Prelude.{◌≡◌, ◌<◌, ◌≤◌, ℕ, Some, All, length, vec_capacity};
-ghost use Rattle.analyze.specs.declared.marks.Mark.TheVariants.{Kept};
-ghost use Rattle.propagate.specs.Trail.{reason_in};
+ghost use Rattle.std.specs.Prelude.{◌<◌, ◌≤◌, length};
 ghost use Rattle.propagate.specs.Fits.{Fits};
-ghost use Rattle.analyze.specs.Met.{IsListed};
-ghost use Rattle.analyze.specs.Marks.{mark_at, IsReduced, KeepsMarked, Resolves};
+ghost use Rattle.analyze.specs.Marks.{IsReduced, Reduces, HasMarks, FitsMarks};
+ghost use Rattle.analyze.specs.Met.{IsMarking};
 
-use crate::marks::{Mark, mark_clause};
-use clauses::store::{CRef, Store};
+use crate::marks::{Mark, resolve_one};
+use clauses::store::Store;
 use cnf::types::Lit;
 use propagate::engine::Engine;
 
@@ -61,7 +59,7 @@ fn variable_of(engine: &Engine, position: u32) -> u32
 
 /// For each level, where the first literal of it stands that is kept, but for the asserting one.
 fn note_firsts(engine: &Engine, asserting: Lit, marks: &[Mark], met: &[u32], firsts: &mut [u32])
-    requires room { engine.now.variables < length marks.now }
+    requires { engine.now.variables < length marks.now }
 {
     for position in met {
         let variable = variable_of(engine, *position);
@@ -107,8 +105,7 @@ fn all_may_follow(
     ideas: &[Idea],
     firsts: &[u32],
 ) -> bool
-    requires named { All (λ l. l.variable ≤ engine.now.variables) lits.now }
-    requires room { engine.now.variables < length marks.now }
+    requires { HasMarks engine.now marks.now lits.now }
 {
     for lit in lits {
         let variable = lit.variable();
@@ -124,8 +121,7 @@ fn all_may_follow(
 
 /// Takes in what was not met of a clause and stands above level 0.
 fn take_in(engine: &Engine, lits: &[Lit], marks: &[Mark], ideas: &mut [Idea], queue: &mut Vec<u32>)
-    requires named { All (λ l. l.variable ≤ engine.now.variables) lits.now }
-    requires room { engine.now.variables < length marks.now }
+    requires { HasMarks engine.now marks.now lits.now }
 {
     for lit in lits {
         let variable = lit.variable();
@@ -149,8 +145,7 @@ fn visit(
     queue: &mut Vec<u32>,
     firsts: &[u32],
 )
-    requires fits { Fits engine.now store.now.slots }
-    requires room { engine.now.variables < length marks.now }
+    requires { FitsMarks engine.now store.now.slots marks.now }
 {
     let most = engine.assigned();
     for next in 0..most {
@@ -169,8 +164,7 @@ fn visit(
 
 /// Whether each literal but one of this variable is of level 0, met or redundant.
 fn all_follow(engine: &Engine, lits: &[Lit], variable: u32, marks: &[Mark], ideas: &[Idea]) -> bool
-    requires named { All (λ l. l.variable ≤ engine.now.variables) lits.now }
-    requires room { engine.now.variables < length marks.now }
+    requires { HasMarks engine.now marks.now lits.now }
 {
     for lit in lits {
         let other = lit.variable();
@@ -187,8 +181,7 @@ fn all_follow(engine: &Engine, lits: &[Lit], variable: u32, marks: &[Mark], idea
 
 /// Says of each variable of the queue, which is in the order of the trail, whether it is redundant.
 fn settle(engine: &Engine, store: &Store, marks: &[Mark], ideas: &mut [Idea], queue: &[u32])
-    requires fits { Fits engine.now store.now.slots }
-    requires room { engine.now.variables < length marks.now }
+    requires { FitsMarks engine.now store.now.slots marks.now }
 {
     for position in queue {
         let variable = variable_of(engine, *position);
@@ -198,31 +191,6 @@ fn settle(engine: &Engine, store: &Store, marks: &[Mark], ideas: &mut [Idea], qu
             note(ideas, variable, Idea::Redundant);
         }
     }
-}
-
-/// Resolves a variable of a lower level by its reason.
-fn resolve_lower(
-    engine: &Engine,
-    store: &Store,
-    variable: u32,
-    reason: CRef,
-    marks: &mut [Mark],
-    met: &mut Vec<u32>,
-)
-    requires fits { Fits engine.now store.now.slots }
-    requires room { engine.now.variables < length marks.old }
-    requires small { variable ≤ engine.now.variables }
-    requires reason { reason_in engine.now.trail variable ≡ Some reason }
-    requires kept { mark_at marks.old variable ≡ Kept }
-    requires listed { IsListed engine.now.trail marks.old met.old.items }
-    requires spare { length marks.old ≤ vec_capacity met.old }
-    ensures resolved { Resolves store.now.slots engine.now.trail variable reason
-        marks.old marks.new }
-    ensures listed { IsListed engine.now.trail marks.new met.new.items }
-    ensures spare { length marks.old ≤ vec_capacity met.new }
-{
-    let _ = mark_clause(engine, store.lits(reason), marks, met);
-    marks[variable as usize] = Mark::Resolved;
 }
 
 /// Resolves what is kept of the redundant variables, the last first, since a reason's literals
@@ -237,15 +205,10 @@ fn drop_redundant(
     met: &mut Vec<u32>,
 )
     requires fits { Fits engine.now store.now.slots }
-    requires room { engine.now.variables < length marks.old }
-    requires listed { IsListed engine.now.trail marks.old met.old.items }
-    requires spare { length marks.old ≤ vec_capacity met.old }
     requires reduced { IsReduced engine.now.trail marks.old asserting }
-    ensures reduced { IsReduced engine.now.trail marks.new asserting }
-    ensures same { KeepsMarked store.now.slots engine.now.trail marks.old marks.new }
-    ensures listed { IsListed engine.now.trail marks.new met.new.items }
-    ensures long { length marks.new ≡ length marks.old }
-    ensures spare { length marks.old ≤ vec_capacity met.new }
+    requires marking { IsMarking engine.now marks.old met.old }
+    ensures reduces { Reduces store.now.slots engine.now.trail marks.old marks.new asserting }
+    ensures marking { IsMarking engine.now marks.new met.new }
 {
     let mut place = queue.len();
     while place > 0 {
@@ -256,7 +219,7 @@ fn drop_redundant(
             && variable != asserting.variable()
             && let Some(reason) = engine.reason(variable)
         {
-            resolve_lower(engine, store, variable, reason, marks, met);
+            let _ = resolve_one(engine, store, variable, reason, marks, met);
         }
     }
 }
@@ -273,8 +236,7 @@ fn find(
     queue: &mut Vec<u32>,
     firsts: &mut [u32],
 )
-    requires fits { Fits engine.now store.now.slots }
-    requires room { engine.now.variables < length marks.now }
+    requires { FitsMarks engine.now store.now.slots marks.now }
 {
     queue.clear();
     note_firsts(engine, asserting, marks, met, firsts);
@@ -301,8 +263,7 @@ pub(crate) fn meet_reasons(
     ideas: &mut [Idea],
     queue: &mut Vec<u32>,
 )
-    requires fits { Fits engine.now store.now.slots }
-    requires room { engine.now.variables < length marks.now }
+    requires { FitsMarks engine.now store.now.slots marks.now }
 {
     queue.clear();
     for lit in lits {
@@ -331,15 +292,10 @@ pub(crate) fn minimise(
     firsts: &mut [u32],
 )
     requires fits { Fits engine.now store.now.slots }
-    requires room { engine.now.variables < length marks.old }
-    requires listed { IsListed engine.now.trail marks.old met.old.items }
-    requires spare { length marks.old ≤ vec_capacity met.old }
     requires reduced { IsReduced engine.now.trail marks.old asserting }
-    ensures reduced { IsReduced engine.now.trail marks.new asserting }
-    ensures same { KeepsMarked store.now.slots engine.now.trail marks.old marks.new }
-    ensures listed { IsListed engine.now.trail marks.new met.new.items }
-    ensures long { length marks.new ≡ length marks.old }
-    ensures spare { length marks.old ≤ vec_capacity met.new }
+    requires marking { IsMarking engine.now marks.old met.old }
+    ensures reduces { Reduces store.now.slots engine.now.trail marks.old marks.new asserting }
+    ensures marking { IsMarking engine.now marks.new met.new }
 {
     find(engine, store, asserting, marks, met, ideas, queue, firsts);
     drop_redundant(engine, store, asserting, ideas, queue, marks, met);

@@ -5,6 +5,7 @@ use Rattle.std.proofs.lemmas.Bool.{cases_eq}
 use Rattle.std.proofs.lemmas.List.{append-nil}
 use Rattle.cnf.specs.Literal.{Literal}
 use Rattle.cnf.proofs.Laws.{all_append}
+use Rattle.clauses.specs.Slots.{Slots}
 use Rattle.propagate_watches.specs.declared.pool.Entry.{Entry}
 use Rattle.propagate_watches.specs.declared.table.Attachment.{Attachment}
 use Rattle.propagate_watches.specs.declared.table.Attachment.TheVariants.{Waiting}
@@ -12,7 +13,7 @@ use Rattle.propagate_watches.specs.Table.{is_kept, attachment_in}
 use Rattle.propagate_watches.proofs.Laws.{attachment_set_other, attachment_set_same}
 use Rattle.propagate.specs.Trail.{Assigned, is_decision}
 use Rattle.propagate.specs.Watches.{EngineState, is_attached}
-use Rattle.propagate.specs.Steps.{Continues, with_trail}
+use Rattle.propagate.specs.Steps.{Continues, GoesOn, with_trail}
 use Rattle.propagate.proofs.Trails.{made}
 use Rattle.propagate.proofs.Attachments.{with_watches}
 use Rattle.propagate.proofs.Fitting.{with_progress}
@@ -44,6 +45,11 @@ continues_then e f g a b = record {
   attached = λ r. b.attached r ∙ a.attached r;
   waiting = λ r h. a.waiting r (b.waiting r h);
 }
+
+pub goes_on_then : (slots : Slots) (e f g : EngineState) → GoesOn slots e f → GoesOn slots f g
+    → GoesOn slots e g
+goes_on_then slots e f g a b =
+    record { continues = continues_then e f g a.continues b.continues; fits = b.fits }
 
 -- only rows and the waiting list change
 pub continues_rows : (e : EngineState) (R : List (List Entry)) (w : List ℕ)

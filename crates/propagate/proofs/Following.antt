@@ -18,7 +18,7 @@ use Rattle.propagate_watches.specs.Table.{attachment_in}
 use Rattle.propagate.specs.Trail.{Assigned, literals_of, is_decision, HasReasons, IsJustified}
 use Rattle.propagate.specs.Watches.{EngineState, is_attached}
 use Rattle.propagate.specs.Fits.{Fits, FitsAttachment, FollowByUnits, GrowsByUnits}
-use Rattle.propagate.specs.Steps.{Continues}
+use Rattle.propagate.specs.Steps.{GoesOn}
 use Rattle.propagate.proofs.Reasons.{same_swap}
 
 reasons_back : (at : Clauses) (A : List Literal) (T U : List Assigned) → HasReasons at A (T ++ U)
@@ -46,9 +46,11 @@ follow_on slots e A B (a ∷ more) m h g n = (
       h.1 g.1 n.1,
 )
 
-pub follows : (slots : Slots) (old new : EngineState) → Fits new slots → Continues old new
+pub follows : (slots : Slots) (old new : EngineState) → GoesOn slots old new
     → GrowsByUnits slots old new
-follows slots old new fits g =
+follows slots old new on =
+    let g = on.continues in
+    let fits = on.fits in
     let reasons = subst (HasReasons (clause_at slots) []) g.grown fits.reasons in
     let w = reasons_back (clause_at slots) [] old.trail g.more reasons in
     let attached =

@@ -78,6 +78,10 @@ pub record Fits (e : EngineState) (slots : Slots) : Type 0 where
   pub waiting : (r : ℕ) → attachment_in e.watches.table r ≡ Waiting → Contains e.watches.waiting r
   pub blockers : (i : ℕ) → AllByRecursion (HasBlocker e slots) (row_at e.watches.rows i)
 
+-- it still belongs to each store to which it belonged
+abbrev pub StaysFit : EngineState → EngineState → Type 0
+StaysFit old new = (slots : Slots) → Fits old slots → Fits new slots
+
 -- a law, by which the owner of both keeps it where the store changes
 abbrev pub FitsIsLocal : Type 0
 FitsIsLocal = (e : EngineState) (old new : Slots) → Fits e old

@@ -1,6 +1,8 @@
 -- The small changes of an engine that propagation is made of.
 use Rattle.std.specs.Prelude.{◌≡◌, ◌≢◌, ℕ, ◌≤◌, ◌<◌, length, take, Bool, true}
-use Rattle.std.specs.Prelude.{false, List, [], ◌∷◌, ◌++◌, Some, None, slice_set, ◌⊎◌}
+use Rattle.std.specs.Prelude.{false, List, [], ◌∷◌, ◌++◌, Option, Some, None, slice_set, ◌⊎◌}
+use Rattle.std.specs.Prelude.{IfSome, IfNone}
+use Rattle.std.specs.Bool.{MatchBool}
 use Rattle.std.specs.List.{AllByRecursion}
 use Rattle.cnf.specs.Literal.{Literal, negation, index_of}
 use Rattle.cnf.specs.Clause.{contains_literal}
@@ -17,7 +19,7 @@ use Rattle.propagate_watches.specs.Table.{attachment_in, rest_in, IsWatchedBy, r
 use Rattle.propagate_watches.specs.Table.{grown_table}
 use Rattle.propagate.specs.Trail.{Assigned, literals_of, is_decision, value_in}
 use Rattle.propagate.specs.Watches.{EngineState, SameAttached, IsVariable, is_attached}
-use Rattle.propagate.specs.Fits.{Fits, HasTrue, IsRest, IsWithin, IsFalseClause}
+use Rattle.propagate.specs.Fits.{Fits, HasTrue, IsRest, IsWithin, IsFalseClause, IsComplete}
 
 abbrev pub with_rows : EngineState → List (List Entry) → EngineState
 with_rows e rows = record e { watches = record e.watches { rows = rows } }
@@ -71,6 +73,11 @@ pub record Continues (old new : EngineState) : Type 0 where
   pub waiting : (r : ℕ) → attachment_in new.watches.table r ≡ Waiting
       → attachment_in old.watches.table r ≡ Waiting
 
+-- it does so, and still belongs to the store
+pub record GoesOn (slots : Slots) (old new : EngineState) : Type 0 where
+  pub continues : Continues old new
+  pub fits : Fits new slots
+
 -- where the clause waits, it is true
 abbrev pub IsTrueWaiting : Slots → EngineState → ℕ → Type 0
 IsTrueWaiting slots e r = (c : List Literal) → attachment_in e.watches.table r ≡ Waiting
@@ -99,6 +106,19 @@ IsTrueEntry slots A w = (c : List Literal) → clause_at slots w.reference ≡ S
 -- a clause that is attached and false
 abbrev pub IsConflict : Slots → EngineState → ℕ → Type 0
 IsConflict slots e r = (is_attached e r ≡ true) × IsFalseClause slots e r
+
+-- what is found is a conflict
+abbrev pub FindsConflict : Slots → EngineState → Option ℕ → Type 0
+FindsConflict slots e found = IfSome found (IsConflict slots e)
+
+-- what a look at a clause that may wait answers
+abbrev pub WaitSays : Slots → EngineState → ℕ → Bool → Type 0
+WaitSays slots e r ok = MatchBool ok (IsTrueWaiting slots e r) (IsConflict slots e r)
+
+-- what propagation answers: a conflict, or none, and then no attached clause is false or unit
+pub record Settles (slots : Slots) (e : EngineState) (found : Option ℕ) : Type 0 where
+  pub conflict : FindsConflict slots e found
+  pub complete : IfNone found (IsComplete slots (is_attached e) e.trail)
 
 -- what is known of the clause of an entry in the row of a false literal
 pub record IsWatched (slots : Slots) (e : EngineState) (w : Literal) (entry : Entry) : Type 0 where

@@ -1,5 +1,5 @@
 -- How an engine keeps the clauses that are attached to it.
-use Rattle.std.specs.Prelude.{◌≡◌, ℕ, ◌*◌, ◌+◌, ◌<◌, ◌≤◌, Bool, List, length}
+use Rattle.std.specs.Prelude.{◌≡◌, ℕ, ◌*◌, ◌+◌, ◌<◌, ◌≤◌, Bool, false, List, [], length}
 use Rattle.std.specs.Prelude.{◌==◌, if◌then◌else◌, count_by}
 use Rattle.cnf.specs.Literal.{Literal, index_of}
 use Rattle.propagate_watches.specs.declared.pool.Entry.{Entry}
@@ -55,6 +55,14 @@ SameAttached old new = (r : ℕ) → is_attached new r ≡ is_attached old r
 abbrev pub SetsAttached : EngineState → EngineState → ℕ → Bool → Type 0
 SetsAttached old new r attached = (is_attached new r ≡ attached)
     × ((q : ℕ) → (q ≡ r → ⊥) → is_attached new q ≡ is_attached old q)
+
+-- over the same variables, and failed where it had failed before
+abbrev pub SameFrame : EngineState → EngineState → Type 0
+SameFrame old new = (new.variables ≡ old.variables) × (new.failed ≡ old.failed)
+
+-- over so many variables, with nothing true, and it has not failed
+abbrev pub IsBare : ℕ → EngineState → Type 0
+IsBare variables e = (e.variables ≡ variables) × (e.trail ≡ []) × (e.failed ≡ false)
 
 abbrev pub IsVariable : ℕ → Literal → Type 0
 IsVariable variables l = (0 < l.variable) × (l.variable ≤ variables)

@@ -1,14 +1,16 @@
 // The trail and the clauses that are attached to it.
-ghost use Rattle.std.specs.Prelude.{◌≡◌, ℕ, ◌+◌, ◌<◌, ◌≤◌, Bool, true, false, List, [], ◌∷◌, ◌++◌};
-ghost use Rattle.std.specs.Prelude.{Some, None, length, map, All, Contains, OnOk, OnErr, IfOk};
+ghost use Rattle.std.specs.Prelude.{◌≡◌, ℕ, ◌<◌, ◌≤◌, true, false, [], ◌∷◌, ◌++◌, Some, None};
+ghost use Rattle.std.specs.Prelude.{length, All, OnOk, OnErr, IfOk};
 ghost use Rattle.std.specs.Prelude.{IfSome, IfNone, IsErr, ◌↔◌};
 ghost use Rattle.clauses.specs.Slots.{Slots, IsLive, clause_at};
 ghost use Rattle.propagate_watches.specs.Table.{attachment_in};
 ghost use Rattle.propagate.specs.Trail.{literals_of, depth_of, value_in, level_in, position_in};
 ghost use Rattle.propagate.specs.Trail.{reason_in, kept_to};
-ghost use Rattle.propagate.specs.Watches.{is_attached, SameAttached, SetsAttached};
-ghost use Rattle.propagate.specs.Steps.{enlisted, with_trail, Continues, IsConflict};
-ghost use Rattle.propagate.specs.Fits.{Fits, IsWithin, GrowsByUnits, IsFalseClause, IsComplete};
+ghost use Rattle.propagate.specs.Watches.{is_attached, SameAttached, SetsAttached, SameFrame};
+ghost use Rattle.propagate.specs.Watches.{IsBare};
+ghost use Rattle.propagate.specs.Steps.{enlisted, with_trail, GoesOn, Settles};
+ghost use Rattle.propagate.specs.Fits.{Fits, StaysFit, IsWithin, GrowsByUnits, IsFalseClause};
+ghost use Rattle.propagate.specs.Fits.{IsComplete};
 
 mod compacting;
 mod detaching;
@@ -82,8 +84,7 @@ impl Engine {
     ///
     /// `AllocError` where memory was refused; for 2^32 - 1 variables it always is.
     pub fn new(alloc: Global, vars: u32) -> Result<Self, AllocError>
-        ensures empty { IfOk result (λ e. (e.variables ≡ vars) × (e.trail ≡ [])
-            × (e.failed ≡ false)) }
+        ensures empty { IfOk result (IsBare vars) }
         ensures fits { IfOk result (λ e. (slots : Slots) → Fits e slots) }
         ensures unattached { IfOk result (λ e. (r : ℕ) → is_attached e r ≡ false) }
     {
@@ -106,8 +107,7 @@ impl Engine {
     ///
     /// `AllocError` where memory was refused; for 2^32 - 1 variables it always is.
     pub fn with_room(alloc: Global, vars: u32, store: &Store) -> Result<Self, AllocError>
-        ensures empty { IfOk result (λ e. (e.variables ≡ vars) × (e.trail ≡ [])
-            × (e.failed ≡ false)) }
+        ensures empty { IfOk result (IsBare vars) }
         ensures fits { IfOk result (λ e. (slots : Slots) → Fits e slots) }
         ensures unattached { IfOk result (λ e. (r : ℕ) → is_attached e r ≡ false) }
     {
@@ -170,9 +170,9 @@ impl Engine {
         requires attached { is_attached self.old reference ≡ true }
         requires no_reason { All (λ a. a.reason ≡ Some reference → ⊥) self.old.trail }
         ensures detached { SetsAttached self.old self.new reference false }
-        ensures same { (self.new.trail ≡ self.old.trail) × (self.new.variables ≡ self.old.variables)
-            × (self.new.failed ≡ self.old.failed) }
-        ensures fits { (slots : Slots) → Fits self.old slots → Fits self.new slots }
+        ensures trail { self.new.trail ≡ self.old.trail }
+        ensures frame { SameFrame self.old self.new }
+        ensures fits { StaysFit self.old self.new }
     {
         let attachment = self.attachment(reference);
         self.table.set(reference.index(), Attachment::Detached);
@@ -194,9 +194,8 @@ impl Engine {
         ensures trail { self.new.trail ≡ self.old.trail ++ record { literal = lit; reason = None }
             ∷ [] }
         ensures attached { SameAttached self.old self.new }
-        ensures same { (self.new.variables ≡ self.old.variables)
-            × (self.new.failed ≡ self.old.failed) }
-        ensures fits { (slots : Slots) → Fits self.old slots → Fits self.new slots }
+        ensures same { SameFrame self.old self.new }
+        ensures fits { StaysFit self.old self.new }
     {
         self.promote();
         self.trail.push(lit, None);
@@ -208,9 +207,8 @@ impl Engine {
         requires { level ≤ depth_of self.old.trail }
         ensures trail { self.new.trail ≡ kept_to level self.old.trail }
         ensures attached { SameAttached self.old self.new }
-        ensures same { (self.new.variables ≡ self.old.variables)
-            × (self.new.failed ≡ self.old.failed) }
-        ensures fits { (slots : Slots) → Fits self.old slots → Fits self.new slots }
+        ensures same { SameFrame self.old self.new }
+        ensures fits { StaysFit self.old self.new }
     {
         self.promote();
         self.trail.backtrack(level);
@@ -320,7 +318,7 @@ impl Engine {
     fn promote(&mut self)
         ensures shape { self.new ≡ record self.old
             { watches = record self.old.watches { stable_qhead = self.new.watches.stable_qhead } } }
-        ensures fits { (slots : Slots) → Fits self.old slots → Fits self.new slots }
+        ensures fits { StaysFit self.old self.new }
     {
         if self.stable_qhead < self.qhead {
             let lit = self.trail.literals()[self.stable_qhead];
@@ -351,12 +349,8 @@ impl Engine {
     /// The waiting clauses first, then the queue.
     fn propagate_all(&mut self, store: &Store) -> Result<Option<CRef>, AllocError>
         requires { Fits self.old store.now.slots }
-        ensures continues { Continues self.old self.new }
-        ensures fits { Fits self.new store.now.slots }
-        ensures conflict { IfOk result (λ found. IfSome found
-            (IsConflict store.now.slots self.new)) }
-        ensures complete { IfOk result (λ found. IfNone found
-            (IsComplete store.now.slots (is_attached self.new) self.new.trail)) }
+        ensures goes_on { GoesOn store.now.slots self.old self.new }
+        ensures settles { IfOk result (Settles store.now.slots self.new) }
     {
         match self.look_at_waiting(store)? {
             Some(conflict) => Ok(Some(conflict)),

@@ -81,7 +81,7 @@ fn play(
     requires few { vars < 2 ^ 27 }
     requires first { first < vars }
     ensures fits { OnOk result (Fits engine.new store.now.slots) }
-    ensures same { OnOk result (engine.new.variables ≡ vars) }
+    ensures vars { OnOk result (engine.new.variables ≡ vars) }
 {
     let step = DECISION_STEP % vars;
     let before = engine.trail().len();

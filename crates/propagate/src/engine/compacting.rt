@@ -1,6 +1,7 @@
 // The engine and its store under new references.
 ghost use Rattle.std.specs.Prelude.{◌≡◌, Some, map, IfOk, OnErr};
 ghost use Rattle.clauses.specs.Slots.{live_clauses, room_of, IsRenaming};
+ghost use Rattle.propagate.specs.Watches.{SameFrame};
 ghost use Rattle.propagate.specs.Fits.{Fits, MovesAttached, renamed_trail};
 
 use super::Engine;
@@ -23,8 +24,7 @@ impl Engine {
         ensures used { IfOk result (λ _. store.new.used ≡ room_of (live_clauses store.new.slots)) }
         ensures attached { IfOk result (MovesAttached self.old self.new) }
         ensures trail { IfOk result (λ moves. self.new.trail ≡ renamed_trail moves self.old.trail) }
-        ensures same { (self.new.variables ≡ self.old.variables)
-            × (self.new.failed ≡ self.old.failed) }
+        ensures same { SameFrame self.old self.new }
         ensures fits { Fits self.new store.new.slots }
         ensures err { OnErr result ((self.new ≡ self.old) × (store.new ≡ store.old)) }
     {

@@ -1,9 +1,8 @@
 // Many clauses that are detached at once.
 ghost use Rattle.std.specs.Prelude.{◌≡◌, ℕ, ◌&&◌, not, false, All, IfSome};
-ghost use Rattle.clauses.specs.Slots.{Slots};
 ghost use Rattle.propagate_watches.specs.Doomed.{is_doomed};
 ghost use Rattle.propagate.specs.Watches.{is_attached};
-ghost use Rattle.propagate.specs.Fits.{Fits};
+ghost use Rattle.propagate.specs.Fits.{StaysFit};
 ghost use Rattle.propagate.specs.Doomed.{spared};
 
 use super::Engine;
@@ -28,7 +27,7 @@ impl Engine {
             ≡ (is_attached self.old r && not (is_doomed doomed.now r)) }
         ensures same { (self.new.trail ≡ self.old.trail) × (self.new.variables ≡ self.old.variables)
             × (self.new.failed ≡ self.old.failed) }
-        ensures fits { (slots : Slots) → Fits self.old slots → Fits self.new slots }
+        ensures fits { StaysFit self.old self.new }
     {
         self.table.drop_doomed(doomed);
         drop_doomed(&mut self.waiting, doomed);

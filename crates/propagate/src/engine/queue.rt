@@ -15,20 +15,19 @@
 // true entries down, takes eighteen instructions more for each entry that is not settled, as much
 // as it saves. Where the row ends by itself its end is cut off, and `close_row` stays out of the
 // loop.
-ghost use Rattle.std.specs.Prelude.{◌≡◌, ◌≢◌, ℕ, ◌+◌, ◌<◌, ◌≤◌, true, Some, None, length, IfOk};
-ghost use Rattle.std.specs.Prelude.{IfSome, IfNone, MatchOption, OnOk, OnErr, slice_index_or};
-ghost use Rattle.std.specs.Prelude.{slice_set};
+ghost use Rattle.std.specs.Prelude.{◌≡◌, ◌≢◌, ◌+◌, ◌<◌, ◌≤◌, true, Some, None, length, IfOk, IfNone};
+ghost use Rattle.std.specs.Prelude.{MatchOption, OnOk, OnErr, slice_index_or, slice_set};
 ghost use Rattle.std.specs.List.{AllByRecursion};
 ghost use Rattle.cnf.specs.Literal.{Literal, negation, index_of};
 ghost use Rattle.cnf.specs.Clause.{contains_literal};
 ghost use Rattle.propagate_watches.specs.Pool.{row_at, with_row};
 ghost use Rattle.propagate_watches.specs.Table.{IsWatching, attachment_in, rest_in, IsWatchedBy};
-ghost use Rattle.propagate.specs.Trail.{literals_of, value_in};
-ghost use Rattle.propagate.specs.Watches.{IsEngine, IsVariable, is_attached};
-ghost use Rattle.propagate.specs.Fits.{Fits, IsComplete};
-ghost use Rattle.propagate.specs.Steps.{Continues, AreTrueWaiting, IsTrueEntry, IsConflict};
-ghost use Rattle.propagate.specs.Steps.{IsWatched, LeavesOne, MayBeWatched, InRow, with_rows};
-ghost use Rattle.propagate.specs.Steps.{closed, moved};
+ghost use Rattle.propagate.specs.Trail.{literals_of};
+ghost use Rattle.propagate.specs.Watches.{IsEngine, IsVariable};
+ghost use Rattle.propagate.specs.Fits.{Fits};
+ghost use Rattle.propagate.specs.Steps.{Continues, GoesOn, Settles, AreTrueWaiting};
+ghost use Rattle.propagate.specs.Steps.{IsTrueEntry, FindsConflict, IsWatched, LeavesOne};
+ghost use Rattle.propagate.specs.Steps.{MayBeWatched, InRow, with_rows, closed, moved};
 ghost use Rattle.propagate.specs.Queue.{LookSays, StepSays};
 
 use super::Engine;
@@ -70,12 +69,8 @@ impl Engine {
     pub(super) fn look_at_queue(&mut self, store: &Store) -> Result<Option<CRef>, AllocError>
         requires fits { Fits self.old store.now.slots }
         requires waiting { AreTrueWaiting store.now.slots self.old }
-        ensures continues { Continues self.old self.new }
-        ensures fits { Fits self.new store.now.slots }
-        ensures conflict { IfOk result (λ found. IfSome found
-            (IsConflict store.now.slots self.new)) }
-        ensures complete { IfOk result (λ found. IfNone found
-            (IsComplete store.now.slots (is_attached self.new) self.new.trail)) }
+        ensures goes_on { GoesOn store.now.slots self.old self.new }
+        ensures settles { IfOk result (Settles store.now.slots self.new) }
     {
         while let Some(falsified) = self.next_falsified() {
             if let Some(conflict) = self.look_at_row(store, falsified)? {
@@ -121,12 +116,10 @@ impl Engine {
         requires falsified { contains_literal (negation falsified) (literals_of self.old.trail)
             ≡ true }
         requires in_range { IsVariable self.old.variables falsified }
-        ensures continues { Continues self.old self.new }
-        ensures fits { Fits self.new store.now.slots }
+        ensures goes_on { GoesOn store.now.slots self.old self.new }
         ensures waiting { AreTrueWaiting store.now.slots self.new }
-        ensures same { self.new.watches.qhead ≡ self.old.watches.qhead }
-        ensures conflict { IfOk result (λ found. IfSome found
-            (IsConflict store.now.slots self.new)) }
+        ensures qhead { self.new.watches.qhead ≡ self.old.watches.qhead }
+        ensures conflict { IfOk result (FindsConflict store.now.slots self.new) }
         ensures done { IfOk result (λ found. IfNone found
             (AllByRecursion (IsTrueEntry store.now.slots (literals_of self.new.trail))
             (row_at self.new.watches.rows (index_of falsified)))) }
@@ -223,7 +216,7 @@ impl Engine {
         requires state { InRow store.now.slots self.old falsified write read }
         requires more { read < length (row_at self.old.watches.rows (index_of falsified)) }
         ensures continues { Continues self.old self.new }
-        ensures same { self.new.watches.qhead ≡ self.old.watches.qhead }
+        ensures qhead { self.new.watches.qhead ≡ self.old.watches.qhead }
         ensures len { length (row_at self.new.watches.rows (index_of falsified))
             ≡ length (row_at self.old.watches.rows (index_of falsified)) }
         ensures after { StepSays store.now.slots self.new falsified write read result }

@@ -1,7 +1,7 @@
 // The engine under the new references of the clauses.
 ghost use Rattle.std.specs.Prelude.{◌≡◌, ℕ, true, Some, All, IfSome};
 ghost use Rattle.clauses.specs.Slots.{renamed};
-ghost use Rattle.propagate.specs.Watches.{is_attached};
+ghost use Rattle.propagate.specs.Watches.{is_attached, SameFrame};
 ghost use Rattle.propagate.specs.Fits.{MovesAttached, renamed_trail, FitsMoved};
 
 use super::Engine;
@@ -19,8 +19,7 @@ impl Engine {
             (λ r. (q : ℕ) × (renamed moves.now r ≡ Some q))) self.old.trail }
         ensures attached { MovesAttached self.old self.new moves.now }
         ensures trail { self.new.trail ≡ renamed_trail moves.now self.old.trail }
-        ensures same { (self.new.variables ≡ self.old.variables)
-            × (self.new.failed ≡ self.old.failed) }
+        ensures frame { SameFrame self.old self.new }
         ensures fits { FitsMoved self.old self.new moves.now }
     {
         move_attachments(&mut self.table, moves.pairs());

@@ -4,18 +4,16 @@
 // already. With two literals that are not false it watches these. Else the literal that is left is
 // made true, and the clause goes on to wait until it finds a second watch, a literal of the current
 // level, or is dropped as satisfied at level 0.
-ghost use Rattle.std.specs.Prelude.{◌≡◌, ◌≢◌, ℕ, ◌<◌, ◌≤◌, Some, None, true, false, length, filter};
-ghost use Rattle.std.specs.Prelude.{All, IfOk, IfSome, IfNone, OnOk, OnErr, ◌⊎◌, slice_get};
-ghost use Rattle.std.specs.Bool.{MatchBool};
-ghost use Rattle.cnf.specs.Literal.{negation};
+ghost use Rattle.std.specs.Prelude.{◌≡◌, ◌<◌, ◌≤◌, Some, true, length, filter, slice_get};
+ghost use Rattle.std.specs.Prelude.{IfOk, IfSome, IfNone, OnOk, OnErr};
 ghost use Rattle.cnf.specs.Clause.{contains_literal};
 ghost use Rattle.clauses.specs.Slots.{clause_at};
 ghost use Rattle.propagate_watches.specs.Table.{attachment_in};
 ghost use Rattle.propagate_watches.specs.declared.table.Rest.{Rest};
-ghost use Rattle.propagate.specs.Trail.{literals_of, value_in};
+ghost use Rattle.propagate.specs.Trail.{literals_of};
 ghost use Rattle.propagate.specs.Watches.{IsVariable, is_attached};
-ghost use Rattle.propagate.specs.Fits.{Fits, HasTrue, IsRest};
-ghost use Rattle.propagate.specs.Steps.{Continues, AreTrueWaiting, IsTrueWaiting, IsConflict};
+ghost use Rattle.propagate.specs.Fits.{Fits, IsRest};
+ghost use Rattle.propagate.specs.Steps.{GoesOn, AreTrueWaiting, FindsConflict, WaitSays};
 ghost use Rattle.propagate.specs.Steps.{IsMadeTrue, is_waiting, watched, with_attachment};
 
 use super::Engine;
@@ -45,10 +43,8 @@ impl Engine {
     /// Looks at each clause without watches. Those that go on to wait are true.
     pub(super) fn look_at_waiting(&mut self, store: &Store) -> Result<Option<CRef>, AllocError>
         requires { Fits self.old store.now.slots }
-        ensures continues { Continues self.old self.new }
-        ensures fits { Fits self.new store.now.slots }
-        ensures conflict { IfOk result (λ found. IfSome found
-            (IsConflict store.now.slots self.new)) }
+        ensures goes_on { GoesOn store.now.slots self.old self.new }
+        ensures conflict { IfOk result (FindsConflict store.now.slots self.new) }
         ensures waiting { IfOk result (λ found. IfNone found
             (AreTrueWaiting store.now.slots self.new)) }
     {
@@ -94,12 +90,9 @@ impl Engine {
     /// Looks at a clause where it waits. False where the clause is.
     fn look_at_reference(&mut self, store: &Store, reference: CRef) -> Result<bool, AllocError>
         requires { Fits self.old store.now.slots }
-        ensures continues { Continues self.old self.new }
-        ensures fits { Fits self.new store.now.slots }
+        ensures goes_on { GoesOn store.now.slots self.old self.new }
         ensures list { self.new.watches.waiting ≡ self.old.watches.waiting }
-        ensures done { IfOk result (λ ok. MatchBool ok
-            (IsTrueWaiting store.now.slots self.new reference)
-            (IsConflict store.now.slots self.new reference)) }
+        ensures done { IfOk result (WaitSays store.now.slots self.new reference) }
     {
         match self.attachment(reference) {
             Attachment::Waiting => self.look_at_clause(store, reference),
@@ -114,12 +107,9 @@ impl Engine {
     fn look_at_clause(&mut self, store: &Store, reference: CRef) -> Result<bool, AllocError>
         requires fits { Fits self.old store.now.slots }
         requires waits { attachment_in self.old.watches.table reference ≡ Attachment.Waiting }
-        ensures continues { Continues self.old self.new }
-        ensures fits { Fits self.new store.now.slots }
+        ensures goes_on { GoesOn store.now.slots self.old self.new }
         ensures list { self.new.watches.waiting ≡ self.old.watches.waiting }
-        ensures done { IfOk result (λ ok. MatchBool ok
-            (IsTrueWaiting store.now.slots self.new reference)
-            (IsConflict store.now.slots self.new reference)) }
+        ensures done { IfOk result (WaitSays store.now.slots self.new reference) }
     {
         let lits = store.lits(reference);
         let Some(one) = find_not_false(&self.trail, lits) else {
@@ -157,8 +147,7 @@ impl Engine {
         requires member { IfSome (clause_at store.now.slots reference)
             (λ c. contains_literal one c ≡ true) }
         requires is_true { contains_literal one (literals_of self.old.trail) ≡ true }
-        ensures continues { Continues self.old self.new }
-        ensures fits { Fits self.new store.now.slots }
+        ensures goes_on { GoesOn store.now.slots self.old self.new }
         ensures list { self.new.watches.waiting ≡ self.old.watches.waiting }
         ensures trail { self.new.trail ≡ self.old.trail }
     {

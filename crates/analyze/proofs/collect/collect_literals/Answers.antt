@@ -2,7 +2,6 @@ use Rattle.std.proofs.Common.{rules, ◌≡◌, ◌≢◌, ◌<◌, ◌+◌, ◌
 use Rattle.std.proofs.Common.{get_or, take, inl, inr, arith}
 use Rattle.std.proofs.lemmas.List.{take_more, get_or_default, length-map}
 use Rattle.cnf.specs.Literal.{negation}
-use Rattle.clauses.specs.Slots.{clause_at}
 use Rattle.propagate.specs.Trail.{Assigned, literals_of}
 use Rattle.analyze.specs.declared.marks.Mark.TheVariants.{Kept}
 use Rattle.analyze.specs.Marks.{mark_at, others_in}
@@ -21,8 +20,8 @@ loop-position-init c =
     let u = c.args.asserting in
     let T = c.args.engine.now.trail in
     let first =
-    sweep_first (others_in M u) (literals_of T) (clause_at c.requires.fits.0) T M c.args.met.now
-    c.requires.fits.1.reasons c.requires.listed c.requires.rising (others_pass T M u) in
+    sweep_first (others_in M u) (literals_of T) c.args.engine.now M c.args.met.now
+    c.requires (others_pass T M u) in
     c.in_ok-push.ensures.ok ∙ ap (λ x. x ++ c.negation.result ∷ []) c.new-lits.ensures.items
     ∙ ap (λ x. x ∷ []) c.negation.ensures ∙ ap (λ x. negation u ∷ x) (sym first)
 
@@ -42,8 +41,8 @@ loop-position-preserved c =
     let long = length-map T (λ (x : Assigned). x.literal) in
     let in_list : p < length L = omega arith in
     let next =
-    sweep_next (others_in M u) L (clause_at c.requires.fits.0) T M met q c.requires.fits.1.reasons
-    c.requires.listed c.requires.rising lt (others_pass T M u) in
+    sweep_next (others_in M u) L c.args.engine.now M met q c.requires lt
+    (others_pass T M u) in
     let more : others_in M u (take (get_or met (q + 1) (length T)) L) ≡ others_in M u
     (take p L ++ k ∷ []) = next ∙ ap (others_in M u) (take_more L p k in_list)
     ∙ ap (λ x. others_in M u (take p L ++ x ∷ [])) here in

@@ -5,10 +5,9 @@ use Rattle.clauses.specs.Slots.{clause_at}
 use Rattle.propagate.specs.Trail.{literals_of}
 use Rattle.analyze.specs.Learning.{IsAsserting, IsRefutedBy, greatest_level}
 use Rattle.analyze.specs.Marks.{kept_of, resolved_of, others_in, learned_from}
-use Rattle.analyze.specs.Met.{HasMet}
 use Rattle.analyze.proofs.Counting.{current_clear}
 use Rattle.analyze.proofs.Fitting.{false_within}
-use Rattle.analyze.proofs.Listing.{listed_none, has_sorted, rising_sorted}
+use Rattle.analyze.proofs.Listing.{listed_none, has_sorted, along_sorted}
 use Rattle.analyze.proofs.Resolving.{marked_start}
 use Rattle.analyze.proofs.Marked.{marked_refutes}
 use Rattle.analyze.proofs.Collecting.{conflict_is, start_above, start_some, learned_asserting}
@@ -18,8 +17,9 @@ use Rattle.analyze.proofs.learning.learn.Goals as goal
 pub mark_clause-count-requires-clause-named : goal.mark_clause-count-requires-clause-named
 mark_clause-count-requires-clause-named c =
     let conflict =
-    conflict_is c.args.engine.now.trail c.lits.result.now _ c.lits.ensures c.requires.falsified in
-    false_within c.args.engine.now c.args.store.now.slots c.lits.result.now c.requires.fits
+    conflict_is c.args.engine.now.trail c.lits.result.now _ c.lits.ensures
+    c.requires.can.falsified in
+    false_within c.args.engine.now c.args.store.now.slots c.lits.result.now c.requires.can.fits
     conflict.falsified
 
 pub resolve-asserting-requires-clause-above : goal.resolve-asserting-requires-clause-above
@@ -37,10 +37,10 @@ pub resolve-asserting-requires-clause-some : goal.resolve-asserting-requires-cla
 resolve-asserting-requires-clause-some c =
     let T = c.args.engine.now.trail in
     let old = c.args.marks.now in
-    let conflict = conflict_is T c.lits.result.now _ c.lits.ensures c.requires.falsified in
+    let conflict = conflict_is T c.lits.result.now _ c.lits.ensures c.requires.can.falsified in
     let some =
     start_some T c.lits.result.now old c.mark_clause-count.new.marks c.requires.clear
-    c.mark_clause-count.ensures.marked c.requires.deep conflict in
+    c.mark_clause-count.ensures.marked c.requires.can.deep conflict in
     let zero = current_clear T old c.requires.clear in
     let n = c.mark_clause-count.ensures.counted in
     omega arith
@@ -53,98 +53,81 @@ greatest-back_level-requires c =
     let tail = tail_is (negation u) (others_in M u (literals_of e.trail)) c.as_slice.result.now
     (c.as_slice.ensures ∙ c.in_ok-lits.ensures) in
     subst (All (λ (l : Literal). l.variable ≤ e.variables)) (sym tail)
-    (learned_within e c.args.store.now.slots M u c.requires.fits c.minimise.ensures.reduced)
+    (learned_within e c.args.store.now.slots M u c.requires.can.fits
+    c.minimise.ensures.reduces.reduced)
 
-pub returns-clause-asserting : goal.returns-clause-asserting
-returns-clause-asserting c =
+pub returns-clause-learns : goal.returns-clause-learns
+returns-clause-learns c =
     let T = c.args.engine.now.trail in
+    let slots = c.args.store.now.slots in
+    let at = clause_at slots in
+    let reasons = c.requires.can.fits.reasons in
+    let ls = c.lits.result.now in
     let M = c.minimise.new.marks in
     let u = c.resolve-asserting.result in
     let back = c.greatest-back_level.result in
+    let reduces = c.minimise.ensures.reduces in
     let tail =
     tail_is (negation u) (others_in M u (literals_of T)) c.as_slice.result.now (c.as_slice.ensures
     ∙ c.in_ok-lits.ensures) in
     let greatest = c.greatest-back_level.ensures ∙ ap (greatest_level T) tail in
-    subst (λ x. IsAsserting T x back) (sym c.in_ok-lits.ensures)
-    (learned_asserting (clause_at c.args.store.now.slots) T M u back c.requires.fits.reasons
-    c.minimise.ensures.reduced greatest)
-
-pub returns-clause-hints : goal.returns-clause-hints
-returns-clause-hints c =
-    let T = c.args.engine.now.trail in
-    let slots = c.args.store.now.slots in
-    let at = clause_at slots in
-    let ls = c.lits.result.now in
-    let M = c.minimise.new.marks in
-    let u = c.resolve-asserting.result in
-    let clause = learned_from T M u in
-    let conflict = conflict_is T ls _ c.lits.ensures c.requires.falsified in
+    let conflict = conflict_is T ls _ c.lits.ensures c.requires.can.falsified in
     let first =
     marked_start at T ls c.args.marks.now c.mark_clause-count.new.marks c.requires.clear
     c.mark_clause-count.ensures.marked in
-    let marked = c.minimise.ensures.same ls (c.resolve-asserting.ensures.same ls first) in
-    let collected = learned_collected at T M u c.requires.fits.reasons c.minimise.ensures.reduced in
-    let r =
-    marked_refutes slots T c.args.conflict ls clause (kept_of M) (resolved_of M)
-    c.requires.fits.reasons c.lits.ensures conflict.falsified marked collected in
-    subst (λ x. IsRefutedBy slots T x c.in_ok-hints.hints.items) (sym c.in_ok-lits.ensures)
-    (subst (IsRefutedBy slots T clause) (sym c.in_ok-hints.ensures) r)
+    let marked = reduces.known ls (c.resolve-asserting.ensures.reduces.known ls first) in
+    let collected = learned_collected at T M u reasons reduces.reduced in
+    let refuted =
+    marked_refutes slots T c.args.conflict ls (learned_from T M u) (kept_of M) (resolved_of M)
+    reasons c.lits.ensures conflict.falsified marked collected in
+    record {
+      asserting = subst (λ x. IsAsserting T x back) (sym c.in_ok-lits.ensures)
+          (learned_asserting at T M u back reasons reduces.reduced greatest);
+      hints = subst (λ x. IsRefutedBy slots T x c.in_ok-hints.hints.items)
+          (sym c.in_ok-lits.ensures)
+          (subst (IsRefutedBy slots T (learned_from T M u)) (sym c.in_ok-hints.ensures) refuted);
+      order = record {
+        chosen = λ l. resolved_of M l.variable;
+        ordered = c.in_ok-hints.ensures;
+      };
+    }
 
-pub returns-clause-order : goal.returns-clause-order
-returns-clause-order c = record {
-  chosen = λ l. resolved_of c.minimise.new.marks l.variable;
-  ordered = c.in_ok-hints.ensures;
+pub mark_clause-count-requires-clause-marking : goal.mark_clause-count-requires-clause-marking
+mark_clause-count-requires-clause-marking c = record {
+  room = c.requires.room;
+  spare = c.requires.spare;
+  listed = listed_none c.args.engine.now.trail c.args.marks.now c.args.met.now.items
+      c.requires.clear c.requires.none;
 }
 
-pub mark_clause-count-requires-clause-listed : goal.mark_clause-count-requires-clause-listed
-mark_clause-count-requires-clause-listed c =
-    listed_none c.args.engine.now.trail c.args.marks.now c.args.met.now.items c.requires.clear
-    c.requires.none
-
-pub collect_literals-requires-clause-listed : goal.collect_literals-requires-clause-listed
-collect_literals-requires-clause-listed c =
-    let T = c.args.engine.now.trail in
-    let M = c.minimise.new.marks in
-    let sorted =
-    has_sorted T M c.minimise.new.met.items c.sort_unstable.new.self.items
-    c.sort_unstable.ensures.permutation c.minimise.ensures.listed.has in
-    subst (HasMet T M) (sym c.deref.ensures.value) sorted
-
-pub collect_hints-requires-clause-listed : goal.collect_hints-requires-clause-listed
-collect_hints-requires-clause-listed c =
-    let T = c.args.engine.now.trail in
-    let M = c.minimise.new.marks in
-    let sorted =
-    has_sorted T M c.minimise.new.met.items c.sort_unstable.new.self.items
-    c.sort_unstable.ensures.permutation c.minimise.ensures.listed.has in
-    subst (HasMet T M) (sym c.deref-2.ensures.value) sorted
-
-pub collect_literals-requires-clause-rising : goal.collect_literals-requires-clause-rising
-collect_literals-requires-clause-rising c =
-    rising_sorted c.minimise.new.met.items c.sort_unstable.new.self.items _
+pub collect_literals-requires : goal.collect_literals-requires
+collect_literals-requires c =
+    let m = c.minimise.ensures.marking in
+    along_sorted c.args.engine.now c.args.store.now.slots c.minimise.new.marks
+    c.minimise.new.met.items c.sort_unstable.new.self.items _ c.requires.can.fits m.room m.listed
     c.deref.ensures.value c.sort_unstable.ensures.permutation c.sort_unstable.ensures.sorted
-    c.minimise.ensures.listed.once
 
-pub collect_hints-requires-clause-rising : goal.collect_hints-requires-clause-rising
-collect_hints-requires-clause-rising c =
-    rising_sorted c.minimise.new.met.items c.sort_unstable.new.self.items _
+pub collect_hints-requires : goal.collect_hints-requires
+collect_hints-requires c =
+    let m = c.minimise.ensures.marking in
+    along_sorted c.args.engine.now c.args.store.now.slots c.minimise.new.marks
+    c.minimise.new.met.items c.sort_unstable.new.self.items _ c.requires.can.fits m.room m.listed
     c.deref-2.ensures.value c.sort_unstable.ensures.permutation c.sort_unstable.ensures.sorted
-    c.minimise.ensures.listed.once
 
 pub returns-in_err-lits-clause-listed : goal.returns-in_err-lits-clause-listed
 returns-in_err-lits-clause-listed c =
     has_sorted c.args.engine.now.trail c.minimise.new.marks c.minimise.new.met.items
     c.sort_unstable.new.self.items c.sort_unstable.ensures.permutation
-    c.minimise.ensures.listed.has
+    c.minimise.ensures.marking.listed.has
 
 pub returns-in_err-hints-clause-listed : goal.returns-in_err-hints-clause-listed
 returns-in_err-hints-clause-listed c =
     has_sorted c.args.engine.now.trail c.minimise.new.marks c.minimise.new.met.items
     c.sort_unstable.new.self.items c.sort_unstable.ensures.permutation
-    c.minimise.ensures.listed.has
+    c.minimise.ensures.marking.listed.has
 
 pub returns-clause-listed : goal.returns-clause-listed
 returns-clause-listed c =
     has_sorted c.args.engine.now.trail c.minimise.new.marks c.minimise.new.met.items
     c.sort_unstable.new.self.items c.sort_unstable.ensures.permutation
-    c.minimise.ensures.listed.has
+    c.minimise.ensures.marking.listed.has

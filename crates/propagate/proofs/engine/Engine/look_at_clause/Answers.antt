@@ -7,7 +7,7 @@ use Rattle.propagate_watches.specs.Table.{is_kept}
 use Rattle.propagate.specs.Trail.{literals_of, value_in}
 use Rattle.propagate.specs.Watches.{EngineState, IsEngine, IsVariable}
 use Rattle.propagate.specs.Fits.{Fits}
-use Rattle.propagate.specs.Steps.{Continues}
+use Rattle.propagate.specs.Steps.{Continues, GoesOn}
 use Rattle.propagate.proofs.Looking.{waiting_within, waiting_variable, waiting_all, all_false_from}
 use Rattle.propagate.proofs.Looking.{not_false_value}
 use Rattle.propagate.proofs.Stepping.{open_watch}
@@ -87,39 +87,37 @@ watch-requires-clause-other c =
 pub make_true-requires : goal.make_true-requires
 make_true-requires c = (one_within (goal.at.make_true-requires c).In-Some).1
 
-pub returns-in-Some-find_other_not_false-clause-continues
-    : goal.returns-in-Some-find_other_not_false-clause-continues
-returns-in-Some-find_other_not_false-clause-continues c =
-    let now = c.args.self.now in
-    subst (Continues now) (sym c.in_ok-watch.ensures.ok.2)
-    (continues_attachment now c.args.reference
-    (Watching c.in-Some.one c.in-Some-find_other_not_false.other c.in_ok-watch.ensures.ok.0) _
-    (ap is_kept c.requires.waits) refl (λ e. (cc)))
-
-pub returns-in-Some-find_other_not_false-clause-fits
-    : goal.returns-in-Some-find_other_not_false-clause-fits
-returns-in-Some-find_other_not_false-clause-fits c =
+pub returns-in-Some-find_other_not_false-clause-goes_on
+    : goal.returns-in-Some-find_other_not_false-clause-goes_on
+returns-in-Some-find_other_not_false-clause-goes_on c =
     let now = c.args.self.now in
     let slots = c.args.store.now.slots in
     let lits = c.lits-lits.result.now in
     let one = c.in-Some.one in
     let other = c.in-Some-find_other_not_false.other in
+    let rest = c.in_ok-watch.ensures.ok.0 in
     let trail = ap (λ (x : EngineState). x.trail) c.self.view_is in
     let a =
     not_false_value (clause_at slots) now.trail one c.requires.fits.reasons
-    (one_open (goal.at.returns-in-Some-find_other_not_false-clause-fits c).In-Some) in
+    (one_open (goal.at.returns-in-Some-find_other_not_false-clause-goes_on c).In-Some) in
     let b =
     not_false_value (clause_at slots) now.trail other c.requires.fits.reasons
     (subst (λ T. value_in T other ≢ Some false) trail c.in-Some-find_other_not_false.ensures.2)
     in
-    subst (λ e. Fits e slots) (sym c.in_ok-watch.ensures.ok.2)
-    (fits_watch now slots c.args.reference lits one other c.in_ok-watch.ensures.ok.0
-    (subst IsEngine c.self.view_is c.self.invariant) c.requires.fits c.requires.waits
-    c.lits-lits.ensures
-    (λ e. c.in-Some-find_other_not_false.ensures.1 (sym e))
-    (open_watch now lits one c.in-Some.ensures.0 a)
-    (open_watch now lits other c.in-Some-find_other_not_false.ensures.0 b)
-    c.in_ok-watch.ensures.ok.1)
+    subst (GoesOn slots now) (sym c.in_ok-watch.ensures.ok.2)
+    (record {
+      continues =
+          continues_attachment now c.args.reference (Watching one other rest) _
+          (ap is_kept c.requires.waits) refl (λ e. (cc));
+      fits =
+          fits_watch now slots c.args.reference lits one other rest
+          (subst IsEngine c.self.view_is c.self.invariant) c.requires.fits c.requires.waits
+          c.lits-lits.ensures
+          (λ e. c.in-Some-find_other_not_false.ensures.1 (sym e))
+          (open_watch now lits one c.in-Some.ensures.0 a)
+          (open_watch now lits other c.in-Some-find_other_not_false.ensures.0 b)
+          c.in_ok-watch.ensures.ok.1;
+    })
 
 pub watch_satisfied-requires-clause-fits : goal.watch_satisfied-requires-clause-fits
 watch_satisfied-requires-clause-fits c =

@@ -7,7 +7,7 @@ use Rattle.propagate_watches.specs.Pool.{row_at}
 use Rattle.propagate.specs.Trail.{literals_of}
 use Rattle.propagate.specs.Fits.{Fits}
 use Rattle.propagate.specs.Steps.{Continues, AreTrueWaiting, IsTrueEntry}
-use Rattle.propagate.proofs.Continuing.{continues_then, continues_progress}
+use Rattle.propagate.proofs.Continuing.{goes_on_then, continues_progress}
 use Rattle.propagate.proofs.Completing.{complete, fits_advance, grown_at}
 use Rattle.propagate.proofs.engine.Engine.look_at_queue.Goals as goal
 
@@ -18,31 +18,36 @@ loop-falsified-preserved c =
     let mid = c.look_at_row.new.self in
     let w = c.in-Some.falsified in
     let f = c.in_ok-conflict.ensures in
-    let g = f.continues in
+    let g = f.goes_on.continues in
     let s = c.in-Some.ensures in
     let long : length mid.trail ≡ length old.trail + length g.more =
     ap length g.grown ∙ length-append old.trail g.more in
-    let lt : mid.watches.qhead < length mid.trail = let e = f.same in let b = s.0 in omega arith in
+    let lt : mid.watches.qhead < length mid.trail = let e = f.qhead in let b = s.0 in omega arith in
     let row =
     subst (λ o. IfNone o (AllByRecursion (IsTrueEntry slots (literals_of mid.trail))
     (row_at mid.watches.rows (index_of w)))) c.in_default-2.is f.done in
     let at =
     grown_at old.trail mid.trail g.more old.watches.qhead mid.watches.qhead w w g.grown
-    f.same s.0 s.3 in
+    f.qhead s.0 s.3 in
     let fits : Fits c.advance.new.self slots =
     subst (λ e. Fits e slots) (sym c.advance.ensures)
-    (fits_advance mid slots w w lt at row f.fits) in
+    (fits_advance mid slots w w lt at row f.goes_on.fits) in
     record {
-      continues =
-          continues_then c.args.self.now mid c.advance.new.self
-          (continues_then c.args.self.now old mid c.loop-falsified.invariant.continues g)
-          (subst (Continues mid) (sym c.advance.ensures)
-          (continues_progress mid mid.watches.stable_qhead (mid.watches.qhead + 1)));
-      fits = fits;
+      goes_on =
+          goes_on_then slots c.args.self.now mid c.advance.new.self
+          (goes_on_then slots c.args.self.now old mid c.loop-falsified.invariant.goes_on f.goes_on)
+          (record {
+            continues = subst (Continues mid) (sym c.advance.ensures)
+                (continues_progress mid mid.watches.stable_qhead (mid.watches.qhead + 1));
+            fits = fits;
+          });
       waiting = subst (AreTrueWaiting slots) (sym c.advance.ensures) f.waiting;
     }
 
-pub returns-clause-complete : goal.returns-clause-complete
-returns-clause-complete c =
-    complete c.loop-falsified.self c.args.store.now.slots c.in_default.ensures
-    c.loop-falsified.invariant.waiting c.loop-falsified.invariant.fits
+pub returns-clause-settles : goal.returns-clause-settles
+returns-clause-settles c = record {
+  conflict = tt;
+  complete =
+      complete c.loop-falsified.self c.args.store.now.slots c.in_default.ensures
+      c.loop-falsified.invariant.waiting c.loop-falsified.invariant.goes_on.fits;
+}

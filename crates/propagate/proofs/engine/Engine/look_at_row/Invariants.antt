@@ -9,7 +9,7 @@ invariant-loop-read l = record {
   continues : Continues l.initial.self l.self;
   state : InRow l.store.slots l.self l.falsified l.write l.read;
   long : l.len ≡ length (row_at l.self.watches.rows (index_of l.falsified));
-  same : l.self.watches.qhead ≡ l.initial.self.watches.qhead;
+  qhead : l.self.watches.qhead ≡ l.initial.self.watches.qhead;
 }
 
 abbrev pub decreases-loop-read : goal.decreases-loop-read

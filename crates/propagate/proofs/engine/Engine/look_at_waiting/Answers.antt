@@ -1,8 +1,7 @@
 use Rattle.std.proofs.Common.{◌≤◌, sym, subst, ◌∙◌, length, arith}
 use Rattle.std.specs.Bool.{MatchBool}
-use Rattle.propagate.specs.Fits.{Fits}
-use Rattle.propagate.specs.Steps.{Continues, IsTrueWaiting, IsConflict, AreTrueWaiting}
-use Rattle.propagate.proofs.Continuing.{continues_then, continues_rows}
+use Rattle.propagate.specs.Steps.{GoesOn, IsTrueWaiting, IsConflict, AreTrueWaiting}
+use Rattle.propagate.proofs.Continuing.{goes_on_then, continues_rows}
 use Rattle.propagate.proofs.Waiting.{seen_more, all_seen, fits_waiting}
 use Rattle.propagate.proofs.engine.Engine.look_at_waiting.Goals as goal
 
@@ -18,26 +17,25 @@ loop-at-preserved c =
     subst (λ b. MatchBool b (IsTrueWaiting slots new x) (IsConflict slots new x))
     c.if-not-branch.false f.done in
     record {
-      continues = continues_then c.args.self.now old new inv.continues f.continues;
-      fits = f.fits;
+      goes_on = goes_on_then slots c.args.self.now old new inv.goes_on f.goes_on;
       list = f.list ∙ inv.list;
       seen =
           seen_more slots old new c.args.self.now.watches.waiting old.watches.waiting c.loop-at.at x
           inv.list (let t = c.loop-at-test.true in let n = c.waiting_len-at-end.ensures in
-          omega arith) c.waiting_at-reference.ensures f.continues inv.seen here;
+          omega arith) c.waiting_at-reference.ensures f.goes_on.continues inv.seen here;
     }
 
-pub returns-clause-fits : goal.returns-clause-fits
-returns-clause-fits c =
+pub returns-clause-goes_on : goal.returns-clause-goes_on
+returns-clause-goes_on c =
     let slots = c.args.store.now.slots in
-    subst (λ e. Fits e slots) (sym c.prune_waiting.ensures)
-    (fits_waiting c.loop-at.self slots c.loop-at.invariant.fits)
-
-pub returns-clause-continues : goal.returns-clause-continues
-returns-clause-continues c =
     let e = c.loop-at.self in
-    continues_then c.args.self.now e c.prune_waiting.new.self c.loop-at.invariant.continues
-    (subst (Continues e) (sym c.prune_waiting.ensures) (continues_rows e e.watches.rows _))
+    let on = c.loop-at.invariant.goes_on in
+    goes_on_then slots c.args.self.now e c.prune_waiting.new.self on
+    (subst (GoesOn slots e) (sym c.prune_waiting.ensures)
+    (record {
+      continues = continues_rows e e.watches.rows _;
+      fits = fits_waiting e slots on.fits;
+    }))
 
 pub returns-clause-waiting : goal.returns-clause-waiting
 returns-clause-waiting c =
@@ -46,4 +44,4 @@ returns-clause-waiting c =
     let n = c.waiting_len-at-end.ensures in omega arith in
     subst (AreTrueWaiting slots) (sym c.prune_waiting.ensures)
     (all_seen slots c.loop-at.self c.args.self.now.watches.waiting c.loop-at.at
-    c.loop-at.invariant.fits c.loop-at.invariant.list le c.loop-at.invariant.seen)
+    c.loop-at.invariant.goes_on.fits c.loop-at.invariant.list le c.loop-at.invariant.seen)

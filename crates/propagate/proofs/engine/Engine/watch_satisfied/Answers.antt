@@ -5,8 +5,7 @@ use Rattle.propagate_watches.specs.declared.table.Attachment.TheVariants.{Watchi
 use Rattle.propagate_watches.specs.Table.{is_kept}
 use Rattle.propagate.specs.Trail.{level_in, depth_of}
 use Rattle.propagate.specs.Watches.{EngineState, IsEngine}
-use Rattle.propagate.specs.Fits.{Fits}
-use Rattle.propagate.specs.Steps.{Continues}
+use Rattle.propagate.specs.Steps.{GoesOn}
 use Rattle.propagate.proofs.Looking.{waiting_variable, waiting_all}
 use Rattle.propagate.proofs.Continuing.{continues_attachment}
 use Rattle.propagate.proofs.Watching.{fits_watch, fits_satisfied, level_watch, true_watch}
@@ -37,49 +36,47 @@ watch-requires-clause-other c =
     waiting_variable c.args.self.now c.args.store.now.slots c.args.reference c.lits-lits.result.now
     c.in-Some.other c.requires.fits c.requires.waits c.lits-lits.ensures c.in-Some.ensures.0
 
-pub returns-in-Some-clause-continues : goal.returns-in-Some-clause-continues
-returns-in-Some-clause-continues c =
-    let now = c.args.self.now in
-    subst (Continues now) (sym c.in_ok-watch.ensures.ok.2)
-    (continues_attachment now c.args.reference
-    (Watching c.args.one c.in-Some.other c.in_ok-watch.ensures.ok.0) _
-    (ap is_kept c.requires.waits) refl (λ e. (cc)))
-
-pub returns-in-Some-clause-fits : goal.returns-in-Some-clause-fits
-returns-in-Some-clause-fits c =
+pub returns-in-Some-clause-goes_on : goal.returns-in-Some-clause-goes_on
+returns-in-Some-clause-goes_on c =
     let now = c.args.self.now in
     let slots = c.args.store.now.slots in
     let lits = c.lits-lits.result.now in
     let other = c.in-Some.other in
-    let m = member (goal.at.returns-in-Some-clause-fits c).After-lits-lits in
+    let rest = c.in_ok-watch.ensures.ok.0 in
+    let m = member (goal.at.returns-in-Some-clause-goes_on c).After-lits-lits in
     let trail = ap (λ (x : EngineState). x.trail) c.self.view_is in
     let at : level_in now.trail other.variable ≡ Some (depth_of now.trail) =
     ap (λ T. level_in T other.variable) (sym trail) ∙ c.in-Some.ensures.2
     ∙ ap Some (c.depth-depth.ensures ∙ ap depth_of trail) in
-    subst (λ e. Fits e slots) (sym c.in_ok-watch.ensures.ok.2)
-    (fits_watch now slots c.args.reference lits c.args.one other c.in_ok-watch.ensures.ok.0
-    (subst IsEngine c.self.view_is c.self.invariant) c.requires.fits c.requires.waits
-    c.lits-lits.ensures
-    (λ e. c.in-Some.ensures.1 (sym e))
-    (true_watch now slots lits c.args.one c.requires.fits m c.requires.is_true)
-    (level_watch now lits c.args.one other m c.requires.is_true c.in-Some.ensures.0 at)
-    c.in_ok-watch.ensures.ok.1)
+    subst (GoesOn slots now) (sym c.in_ok-watch.ensures.ok.2)
+    (record {
+      continues =
+          continues_attachment now c.args.reference (Watching c.args.one other rest) _
+          (ap is_kept c.requires.waits) refl (λ e. (cc));
+      fits =
+          fits_watch now slots c.args.reference lits c.args.one other rest
+          (subst IsEngine c.self.view_is c.self.invariant) c.requires.fits c.requires.waits
+          c.lits-lits.ensures
+          (λ e. c.in-Some.ensures.1 (sym e))
+          (true_watch now slots lits c.args.one c.requires.fits m c.requires.is_true)
+          (level_watch now lits c.args.one other m c.requires.is_true c.in-Some.ensures.0 at)
+          c.in_ok-watch.ensures.ok.1;
+    })
 
-pub returns-then-depth-eq0-clause-continues : goal.returns-then-depth-eq0-clause-continues
-returns-then-depth-eq0-clause-continues c =
-    let now = c.args.self.now in
-    subst (Continues now) (sym c.set_satisfied.ensures)
-    (continues_attachment now c.args.reference Satisfied _ (ap is_kept c.requires.waits) refl
-    (λ e. (cc)))
-
-pub returns-then-depth-eq0-clause-fits : goal.returns-then-depth-eq0-clause-fits
-returns-then-depth-eq0-clause-fits c =
+pub returns-then-depth-eq0-clause-goes_on : goal.returns-then-depth-eq0-clause-goes_on
+returns-then-depth-eq0-clause-goes_on c =
     let now = c.args.self.now in
     let slots = c.args.store.now.slots in
-    let m = member (goal.at.returns-then-depth-eq0-clause-fits c).After-lits-lits in
+    let m = member (goal.at.returns-then-depth-eq0-clause-goes_on c).After-lits-lits in
     let trail = ap (λ (x : EngineState). x.trail) c.self.view_is in
     let zero : depth_of now.trail ≡ 0 = sym (c.depth-depth.ensures ∙ ap depth_of trail)
     ∙ c.if-depth-eq0.true in
-    subst (λ e. Fits e slots) (sym c.set_satisfied.ensures)
-    (fits_satisfied now slots c.args.reference c.lits-lits.result.now c.requires.fits
-    c.requires.waits c.lits-lits.ensures zero (c.args.one, m, c.requires.is_true))
+    subst (GoesOn slots now) (sym c.set_satisfied.ensures)
+    (record {
+      continues =
+          continues_attachment now c.args.reference Satisfied _ (ap is_kept c.requires.waits) refl
+          (λ e. (cc));
+      fits =
+          fits_satisfied now slots c.args.reference c.lits-lits.result.now c.requires.fits
+          c.requires.waits c.lits-lits.ensures zero (c.args.one, m, c.requires.is_true);
+    })
