@@ -10,7 +10,8 @@ ghost use Rattle.cdcl.specs.Hinting.{AreNoted, IsNotedIn, AreHintsOf, plain_hint
 ghost use Rattle.cdcl.specs.Moves.{Gathers};
 
 use clauses::store::{CRef, MaybeCRef, Store};
-use lrat_log::lines::{Hint, Name};
+use lrat_log::lines::Hint;
+use lrat_log::packed_name::PackedName;
 use propagate::engine::Engine;
 use std::alloc::AllocError;
 
@@ -20,7 +21,7 @@ use std::alloc::AllocError;
 pub(crate) fn hints_of(
     store: &Store,
     engine: &Engine,
-    names: &[Name],
+    names: &[PackedName],
     units: &[MaybeCRef],
     stamps: &mut [u64],
     stamp: u64,
@@ -54,7 +55,7 @@ fn add_units(
     hints: &mut Vec<Hint>,
     store: &Store,
     engine: &Engine,
-    names: &[Name],
+    names: &[PackedName],
     units: &[MaybeCRef],
     stamps: &mut [u64],
     stamp: u64,
@@ -84,7 +85,7 @@ fn add_units(
         {
             stamps[place] = stamp;
             match units[place].get() {
-                Some(unit) => hints.push(Hint::Plain(names[unit.index()]))?,
+                Some(unit) => hints.push(Hint::Plain(names[unit.index()].name()))?,
                 None => unreachable!(),
             }
         }
@@ -93,14 +94,18 @@ fn add_units(
 }
 
 /// Adds these clauses, by name.
-fn add_named(hints: &mut Vec<Hint>, names: &[Name], references: &[CRef]) -> Result<(), AllocError>
+fn add_named(
+    hints: &mut Vec<Hint>,
+    names: &[PackedName],
+    references: &[CRef],
+) -> Result<(), AllocError>
     requires { All (λ r. r < length names.now) references.now }
     ensures { OnOk result (hints.new.items
         ≡ hints.old.items ++ plain_hints (map (name_at names.now) references.now)) }
 {
     hints.reserve(references.len())?;
     for reference in references {
-        hints.push(Hint::Plain(names[reference.index()]))?;
+        hints.push(Hint::Plain(names[reference.index()].name()))?;
     }
     Ok(())
 }

@@ -49,7 +49,7 @@ fn delete<S: Sink>(
     }
     let alloc = search.store.allocator();
     let mut hints = Vec::new(alloc);
-    hints.push(Hint::Plain(search.names[reference.index()]))?;
+    hints.push(Hint::Plain(search.names[reference.index()].name()))?;
     sink.append(Line::new(Kind::Delete, Vec::new(alloc), hints))?;
     search.store.delete(reference);
     search.policy.count_deleted();
@@ -100,7 +100,7 @@ impl Search {
         }
         let lits = self.store.lits(reference);
         lits.len() > 2
-            && !is_kept(self.names[reference.index()], self.kept)
+            && !is_kept(self.names[reference.index()].name(), self.kept)
             && !is_reason(&self.engine, lits, reference)
     }
 }

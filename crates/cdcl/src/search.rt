@@ -14,7 +14,7 @@ use analyze::learning::{Analyzer, Learned};
 use cdcl_order::policy::Policy;
 use clauses::store::{CRef, MaybeCRef, Store};
 use cnf::types::Lit;
-use lrat_log::lines::Name;
+use lrat_log::packed_name::PackedName;
 use propagate::engine::Engine;
 use std::alloc::AllocError;
 
@@ -26,7 +26,7 @@ pub(crate) struct Search {
     /// The trail. All live clauses are attached.
     pub(crate) engine: Engine,
     /// The name of the clause in each place of the store.
-    pub(crate) names: Vec<Name>,
+    pub(crate) names: Vec<PackedName>,
     /// By variable, that of 1 first: the reference of the clause of one literal that it has from
     /// level 0, or none.
     pub(crate) units: Vec<MaybeCRef>,

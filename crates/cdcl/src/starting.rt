@@ -16,6 +16,7 @@ use clauses::store::{CRef, MaybeCRef, Store};
 use cnf::clause_list::ClauseList;
 use eliminate::elimination::Stack;
 use lrat_log::lines::{Name, Number};
+use lrat_log::packed_name::PackedName;
 use propagate::engine::Engine;
 use std::alloc::{AllocError, Global};
 
@@ -43,7 +44,11 @@ pub(crate) fn given_clauses(clauses: &ClauseList) -> Result<GivenClauses, AllocE
 }
 
 /// The names of the clauses by place.
-fn names_of(alloc: Global, places: usize, listed: &[(CRef, Name)]) -> Result<Vec<Name>, AllocError>
+fn names_of(
+    alloc: Global,
+    places: usize,
+    listed: &[(CRef, PackedName)],
+) -> Result<Vec<PackedName>, AllocError>
     requires within { All (λ n. n.0 < places) listed.now }
     requires rising { AreRising listed.now }
     requires numbers { All (λ n. IsId (number_in n.1)) listed.now }
@@ -51,7 +56,8 @@ fn names_of(alloc: Global, places: usize, listed: &[(CRef, Name)]) -> Result<Vec
     ensures named { IfOk result (λ names. All (λ n. name_at names.items n.0 ≡ n.1) listed.now) }
     ensures numbers { IfOk result (λ names. All (λ n. IsId (number_in n)) names.items) }
 {
-    let mut names = Vec::from_elem(alloc, Name::Formula(Number::new(1)), places)?;
+    let none = PackedName::new(Name::Formula(Number::new(1)));
+    let mut names = Vec::from_elem(alloc, none, places)?;
     for (reference, name) in listed {
         names[reference.index()] = *name;
     }
@@ -63,7 +69,7 @@ fn engine_of(
     alloc: Global,
     store: &Store,
     variables: u32,
-    listed: &[(CRef, Name)],
+    listed: &[(CRef, PackedName)],
 ) -> Result<Engine, AllocError>
     requires rising { AreRising listed.now }
     requires live { All (λ n. IsLiveWithin store.now.slots variables n.0) listed.now }

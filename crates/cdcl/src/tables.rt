@@ -5,11 +5,11 @@ ghost use Rattle.propagate.specs.Fits.{renamed_reason};
 ghost use Rattle.cdcl.specs.Moves.{NamesMoved, UnitsMoved};
 
 use clauses::store::{CRef, MaybeCRef, Moves};
-use lrat_log::lines::Name;
+use lrat_log::packed_name::PackedName;
 
 /// Moves each name to its clause's new place, of which there are so many. No place is written
 /// before it is read, since no reference rises.
-pub(crate) fn move_names(names: &mut Vec<Name>, pairs: &[(CRef, CRef)], places: usize)
+pub(crate) fn move_names(names: &mut Vec<PackedName>, pairs: &[(CRef, CRef)], places: usize)
     requires rising { IsStrictlyIncreasing (map (λ p. p.1) pairs.now) }
     requires lower { All (λ p. p.1 ≤ p.0) pairs.now }
     requires old_within { All (λ p. p.0 < length names.old.items) pairs.now }

@@ -12,6 +12,7 @@ use crate::search::Search;
 use clauses::store::CRef;
 use cnf::types::Lit;
 use lrat_log::lines::{Hint, Kind, Line, Name, Number};
+use lrat_log::packed_name::PackedName;
 use lrat_log::sink::Sink;
 use std::alloc::AllocError;
 
@@ -25,7 +26,7 @@ impl Search {
         ensures reference { IfOk result (λ r. r ≡ length self.old.store.slots) }
     {
         let reference = self.store.add(lits)?;
-        self.names.push(name)?;
+        self.names.push(PackedName::new(name))?;
         match self.engine.attach(&self.store, reference) {
             Ok(()) => Ok(reference),
             Err(_) => Err(AllocError),

@@ -16,7 +16,7 @@ use crate::units::propagate_units;
 use clauses::store::{CRef, Store};
 use eliminate_names::names::Names;
 use eliminate_tables::stack::Removals;
-use lrat_log::lines::Name;
+use lrat_log::packed_name::PackedName;
 use lrat_log::sink::Sink;
 use std::alloc::AllocError;
 use std::marker::Model;
@@ -30,7 +30,7 @@ pub struct Stack {
     removed: Removals,
     // The clauses that are left, by rising reference, each with its name in the log; none once the
     // list was given back.
-    names: Vec<(CRef, Name)>,
+    names: Vec<(CRef, PackedName)>,
 }
 
 impl Model for Stack {
@@ -54,7 +54,7 @@ impl Stack {
 
     /// Each live reference of the store with the name of its clause, as `eliminate` left them; none
     /// after `forget_names`.
-    pub fn names(&self) -> &[(CRef, Name)]
+    pub fn names(&self) -> &[(CRef, PackedName)]
         ensures { result.now ≡ self.now.names }
     {
         &self.names
@@ -153,7 +153,10 @@ fn simplify_open<S: Sink>(
 }
 
 /// Moves the clauses that are left together, and lists each with its name, in rising order.
-fn move_together(store: &mut Store, names: &Names) -> Result<Vec<(CRef, Name)>, AllocError>
+fn move_together(
+    store: &mut Store,
+    names: &Names,
+) -> Result<Vec<(CRef, PackedName)>, AllocError>
     requires { length names.now.names ≡ length store.old.slots }
     ensures together { OnOk result (store.new.slots ≡ map Some (live_clauses store.old.slots)) }
     ensures names { IfOk result (λ listed.
@@ -164,7 +167,7 @@ fn move_together(store: &mut Store, names: &Names) -> Result<Vec<(CRef, Name)>, 
     let pairs = moves.pairs();
     let mut listed = Vec::with_capacity(store.allocator(), pairs.len())?;
     for (old, new) in pairs {
-        listed.push((*new, names.get(*old)))?;
+        listed.push((*new, PackedName::new(names.get(*old))))?;
     }
     Ok(listed)
 }

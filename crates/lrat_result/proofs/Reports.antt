@@ -19,10 +19,10 @@ use Rattle.text.proofs.Laws.{decimal-number_of, number_of-decimal}
 use Rattle.lrat_result.specs.Result.{Said, OptimumFound, Unsatisfiable, Satisfiable, Unknown}
 use Rattle.lrat_result.specs.Result.{fall_to, cost_tokens, digit_of, bits_tokens, result_tokens}
 use Rattle.lrat_result.specs.Result.{FallsTo, is_ignored, result_lines, Says, Report, same_bytes}
-use Rattle.lrat_result.specs.Result.{status_of, cost_of, bits_on, bits_of, ended, with_bits}
+use Rattle.lrat_result.specs.Result.{claim_of, cost_of, bits_on, bits_of, ended, with_bits}
 use Rattle.lrat_result.specs.Result.{result_on, report_of}
-use Rattle.lrat_result.specs.declared.report.Status.{Status}
-use Rattle.lrat_result.specs.declared.report.Status.TheVariants.{Optimum, Unsat, Sat, Limit}
+use Rattle.lrat_result.specs.declared.report.Claim.{Claim}
+use Rattle.lrat_result.specs.declared.report.Claim.TheVariants.{Optimum, Unsat, Sat, Limit}
 
 abbrev Line : Type 0
 Line = List (List ℕ)
@@ -113,43 +113,43 @@ cost_from c h = cost_is (codes "o") (decimal c) refl
     ∙ cond-true (ltb c 4611686018427387904) _ _ (lt-ltb _ _ h)
 
 -- states
-abbrev status_tokens : Status → Line
-status_tokens Optimum = codes "s" ∷ codes "OPTIMUM" ∷ codes "FOUND" ∷ []
-status_tokens Unsat = codes "s" ∷ codes "UNSATISFIABLE" ∷ []
-status_tokens Sat = codes "s" ∷ codes "SATISFIABLE" ∷ []
-status_tokens Limit = codes "s" ∷ codes "UNKNOWN" ∷ []
+abbrev claim_tokens : Claim → Line
+claim_tokens Optimum = codes "s" ∷ codes "OPTIMUM" ∷ codes "FOUND" ∷ []
+claim_tokens Unsat = codes "s" ∷ codes "UNSATISFIABLE" ∷ []
+claim_tokens Sat = codes "s" ∷ codes "SATISFIABLE" ∷ []
+claim_tokens Limit = codes "s" ∷ codes "UNKNOWN" ∷ []
 
-two_status : (s t : List ℕ) (x : Status) → status_of (s ∷ t ∷ []) ≡ Some x
-    → (s ∷ t ∷ []) ≡ status_tokens x
-two_status s t x e =
+two_claim : (s t : List ℕ) (x : Claim) → claim_of (s ∷ t ∷ []) ≡ Some x
+    → (s ∷ t ∷ []) ≡ claim_tokens x
+two_claim s t x e =
     elim (cases_Bool (same_bytes s (codes "s"))) [
-      | inr f ↦ let z : status_of (s ∷ t ∷ []) ≡ None = rw f refl in absurd (cc)
+      | inr f ↦ let z : claim_of (s ∷ t ∷ []) ≡ None = rw f refl in absurd (cc)
       | inl y ↦ let es = same_bytes-true s (codes "s") y in
           elim (cases_Bool (same_bytes t (codes "UNSATISFIABLE"))) [
-            | inl a ↦ let z : status_of (s ∷ t ∷ []) ≡ Some Unsat = rw (y, a) refl in
+            | inl a ↦ let z : claim_of (s ∷ t ∷ []) ≡ Some Unsat = rw (y, a) refl in
                 let k : x ≡ Unsat = cc in
                 ap (λ u. s ∷ u ∷ []) (same_bytes-true t (codes "UNSATISFIABLE") a)
-                ∙ ap (λ u. u ∷ codes "UNSATISFIABLE" ∷ []) es ∙ ap status_tokens (sym k)
+                ∙ ap (λ u. u ∷ codes "UNSATISFIABLE" ∷ []) es ∙ ap claim_tokens (sym k)
             | inr a ↦ elim (cases_Bool (same_bytes t (codes "SATISFIABLE"))) [
-              | inl b ↦ let z : status_of (s ∷ t ∷ []) ≡ Some Sat = rw (y, a, b) refl in
+              | inl b ↦ let z : claim_of (s ∷ t ∷ []) ≡ Some Sat = rw (y, a, b) refl in
                   let k : x ≡ Sat = cc in
                   ap (λ u. s ∷ u ∷ []) (same_bytes-true t (codes "SATISFIABLE") b)
-                  ∙ ap (λ u. u ∷ codes "SATISFIABLE" ∷ []) es ∙ ap status_tokens (sym k)
+                  ∙ ap (λ u. u ∷ codes "SATISFIABLE" ∷ []) es ∙ ap claim_tokens (sym k)
               | inr b ↦ elim (cases_Bool (same_bytes t (codes "UNKNOWN"))) [
-                | inl d ↦ let z : status_of (s ∷ t ∷ []) ≡ Some Limit = rw (y, a, b, d) refl in
+                | inl d ↦ let z : claim_of (s ∷ t ∷ []) ≡ Some Limit = rw (y, a, b, d) refl in
                     let k : x ≡ Limit = cc in
                     ap (λ u. s ∷ u ∷ []) (same_bytes-true t (codes "UNKNOWN") d)
-                    ∙ ap (λ u. u ∷ codes "UNKNOWN" ∷ []) es ∙ ap status_tokens (sym k)
-                | inr d ↦ let z : status_of (s ∷ t ∷ []) ≡ None = rw (y, a, b, d) refl in
+                    ∙ ap (λ u. u ∷ codes "UNKNOWN" ∷ []) es ∙ ap claim_tokens (sym k)
+                | inr d ↦ let z : claim_of (s ∷ t ∷ []) ≡ None = rw (y, a, b, d) refl in
                     absurd (cc)
               ]
             ]
           ]
     ]
 
-three_status : (s t u : List ℕ) (x : Status) → status_of (s ∷ t ∷ u ∷ []) ≡ Some x
-    → (s ∷ t ∷ u ∷ []) ≡ status_tokens x
-three_status s t u x e =
+three_claim : (s t u : List ℕ) (x : Claim) → claim_of (s ∷ t ∷ u ∷ []) ≡ Some x
+    → (s ∷ t ∷ u ∷ []) ≡ claim_tokens x
+three_claim s t u x e =
     let h =
     cond_some (same_bytes s (codes "s") && same_bytes t (codes "OPTIMUM") && same_bytes u
     (codes "FOUND")) Optimum x e in
@@ -160,26 +160,26 @@ three_status s t u x e =
     ap (λ y. y ∷ t ∷ u ∷ []) (same_bytes-true s (codes "s") q.0)
     ∙ ap (λ y. codes "s" ∷ y ∷ u ∷ []) (same_bytes-true t (codes "OPTIMUM") q.1)
     ∙ ap (λ y. codes "s" ∷ codes "OPTIMUM" ∷ y ∷ []) (same_bytes-true u (codes "FOUND") p.1)
-    ∙ ap status_tokens h.1
+    ∙ ap claim_tokens h.1
 
-status_means : (l : Line) (x : Status) → status_of l ≡ Some x → l ≡ status_tokens x
-status_means [] x e = absurd (cc)
-status_means (s ∷ []) x e = absurd (cc)
-status_means (s ∷ t ∷ []) x e = two_status s t x e
-status_means (s ∷ t ∷ u ∷ []) x e = three_status s t u x e
-status_means (s ∷ t ∷ u ∷ w ∷ ws) x e = absurd (cc)
+claim_means : (l : Line) (x : Claim) → claim_of l ≡ Some x → l ≡ claim_tokens x
+claim_means [] x e = absurd (cc)
+claim_means (s ∷ []) x e = absurd (cc)
+claim_means (s ∷ t ∷ []) x e = two_claim s t x e
+claim_means (s ∷ t ∷ u ∷ []) x e = three_claim s t u x e
+claim_means (s ∷ t ∷ u ∷ w ∷ ws) x e = absurd (cc)
 
-status_from : (x : Status) → status_of (status_tokens x) ≡ Some x
-status_from Optimum = refl
-status_from Unsat = refl
-status_from Sat = refl
-status_from Limit = refl
+claim_from : (x : Claim) → claim_of (claim_tokens x) ≡ Some x
+claim_from Optimum = refl
+claim_from Unsat = refl
+claim_from Sat = refl
+claim_from Limit = refl
 
-status_no_cost : (x : Status) → cost_of (status_tokens x) ≡ None
-status_no_cost Optimum = refl
-status_no_cost Unsat = refl
-status_no_cost Sat = refl
-status_no_cost Limit = refl
+claim_no_cost : (x : Claim) → cost_of (claim_tokens x) ≡ None
+claim_no_cost Optimum = refl
+claim_no_cost Unsat = refl
+claim_no_cost Sat = refl
+claim_no_cost Limit = refl
 
 -- bits
 bit_zero : (b : ℕ) (bs : List ℕ) (xs : List Bool) → (b == 48) ≡ true → bits_on bs ≡ Some xs
@@ -321,13 +321,13 @@ with_bits_from (l ∷ ls) n report xs e =
 
 -- what is left of a result, after a cost or none
 abbrev Ending : Option ℕ → List Line → Said → Type 0
-Ending None fl Unsatisfiable = fl ≡ status_tokens Unsat ∷ []
-Ending None fl Unknown = fl ≡ status_tokens Limit ∷ []
+Ending None fl Unsatisfiable = fl ≡ claim_tokens Unsat ∷ []
+Ending None fl Unknown = fl ≡ claim_tokens Limit ∷ []
 Ending None fl (OptimumFound c bits) = ⊥
 Ending None fl (Satisfiable c bits) = ⊥
 Ending (Some d) fl (OptimumFound c bits) =
-    (d ≡ c) × (fl ≡ status_tokens Optimum ∷ bits_tokens bits ∷ [])
-Ending (Some d) fl (Satisfiable c bits) = (d ≡ c) × (fl ≡ status_tokens Sat ∷ bits_tokens bits ∷ [])
+    (d ≡ c) × (fl ≡ claim_tokens Optimum ∷ bits_tokens bits ∷ [])
+Ending (Some d) fl (Satisfiable c bits) = (d ≡ c) × (fl ≡ claim_tokens Sat ∷ bits_tokens bits ∷ [])
 Ending (Some d) fl Unsatisfiable = ⊥
 Ending (Some d) fl Unknown = ⊥
 
@@ -357,11 +357,11 @@ module _ (l : Line) (ls : List Line) (n : ℕ) (plain : is_ignored l ≡ false) 
       → result_on (Some (d, at)) n (l ∷ ls) ≡ Err n
   cost_rises c d at u t = rw (plain, u, t) refl
 
-  no_status : (last : Option (ℕ × ℕ)) → cost_of l ≡ None → status_of l ≡ None
+  no_status : (last : Option (ℕ × ℕ)) → cost_of l ≡ None → claim_of l ≡ None
       → result_on last n (l ∷ ls) ≡ Err n
   no_status last u v = rw (plain, u, v) refl
 
-  is_unsat : cost_of l ≡ None → status_of l ≡ Some Unsat
+  is_unsat : cost_of l ≡ None → claim_of l ≡ Some Unsat
       → result_on None n (l ∷ ls) ≡ ended (n + 1) (record {
         said = Unsatisfiable;
         cost_line = 0;
@@ -370,12 +370,12 @@ module _ (l : Line) (ls : List Line) (n : ℕ) (plain : is_ignored l ≡ false) 
       }) ls
   is_unsat u v = rw (plain, u, v) refl
 
-  is_limit : cost_of l ≡ None → status_of l ≡ Some Limit
+  is_limit : cost_of l ≡ None → claim_of l ≡ Some Limit
       → result_on None n (l ∷ ls) ≡ ended (n + 1)
       (record { said = Unknown; cost_line = 0; status_line = n; bits_line = 0 }) ls
   is_limit u v = rw (plain, u, v) refl
 
-  is_optimum : (c at : ℕ) → cost_of l ≡ None → status_of l ≡ Some Optimum
+  is_optimum : (c at : ℕ) → cost_of l ≡ None → claim_of l ≡ Some Optimum
       → result_on (Some (c, at)) n (l ∷ ls) ≡ with_bits (n + 1)
       (λ bits m. record {
         said = OptimumFound c bits;
@@ -385,7 +385,7 @@ module _ (l : Line) (ls : List Line) (n : ℕ) (plain : is_ignored l ≡ false) 
       }) ls
   is_optimum c at u v = rw (plain, u, v) refl
 
-  is_sat : (c at : ℕ) → cost_of l ≡ None → status_of l ≡ Some Sat
+  is_sat : (c at : ℕ) → cost_of l ≡ None → claim_of l ≡ Some Sat
       → result_on (Some (c, at)) n (l ∷ ls) ≡ with_bits (n + 1)
       (λ bits m. record {
         said = Satisfiable c bits;
@@ -396,17 +396,17 @@ module _ (l : Line) (ls : List Line) (n : ℕ) (plain : is_ignored l ≡ false) 
       ls
   is_sat c at u v = rw (plain, u, v) refl
 
-  bare_optimum : cost_of l ≡ None → status_of l ≡ Some Optimum → result_on None n (l ∷ ls) ≡ Err n
+  bare_optimum : cost_of l ≡ None → claim_of l ≡ Some Optimum → result_on None n (l ∷ ls) ≡ Err n
   bare_optimum u v = rw (plain, u, v) refl
 
-  bare_sat : cost_of l ≡ None → status_of l ≡ Some Sat → result_on None n (l ∷ ls) ≡ Err n
+  bare_sat : cost_of l ≡ None → claim_of l ≡ Some Sat → result_on None n (l ∷ ls) ≡ Err n
   bare_sat u v = rw (plain, u, v) refl
 
-  costly_unsat : (x : ℕ × ℕ) → cost_of l ≡ None → status_of l ≡ Some Unsat
+  costly_unsat : (x : ℕ × ℕ) → cost_of l ≡ None → claim_of l ≡ Some Unsat
       → result_on (Some x) n (l ∷ ls) ≡ Err n
   costly_unsat x u v = rw (plain, u, v) refl
 
-  costly_limit : (x : ℕ × ℕ) → cost_of l ≡ None → status_of l ≡ Some Limit
+  costly_limit : (x : ℕ × ℕ) → cost_of l ≡ None → claim_of l ≡ Some Limit
       → result_on (Some x) n (l ∷ ls) ≡ Err n
   costly_limit x u v = rw (plain, u, v) refl
 
@@ -416,7 +416,7 @@ Told last fl r = (costs : List ℕ) × Tail (cost_in last) costs fl r.said
 step_means : (l : Line) (ls : List Line) → AllByRecursion AreTokens ls
     → ((last : Option (ℕ × ℕ)) (n : ℕ) (r : Report) → result_on last n ls ≡ Ok r
     → Told last (told ls) r) → (last : Option (ℕ × ℕ)) (n : ℕ) (r : Report) → is_ignored l ≡ false
-    → (m : Option ℕ) → cost_of l ≡ m → (x : Option Status) → status_of l ≡ x
+    → (m : Option ℕ) → cost_of l ≡ m → (x : Option Claim) → claim_of l ≡ x
     → result_on last n (l ∷ ls) ≡ Ok r → Told last (l ∷ told ls) r
 step_means l ls h ih None n r f (Some c) u x v e =
     let k = cost_means l c u in
@@ -435,13 +435,13 @@ step_means l ls h ih None n r f None u (Some Unsat) v e =
     let k = ended_means ls (n + 1) _ r (sym (is_unsat l ls n f u v) ∙ e) in (
       [],
       subst (λ q. Ending None (l ∷ told ls) q.said) k.1
-          (ap (λ y. y ∷ told ls) (status_means l Unsat v) ∙ ap (λ y. status_tokens Unsat ∷ y) k.0),
+          (ap (λ y. y ∷ told ls) (claim_means l Unsat v) ∙ ap (λ y. claim_tokens Unsat ∷ y) k.0),
     )
 step_means l ls h ih None n r f None u (Some Limit) v e =
     let k = ended_means ls (n + 1) _ r (sym (is_limit l ls n f u v) ∙ e) in (
       [],
       subst (λ q. Ending None (l ∷ told ls) q.said) k.1
-          (ap (λ y. y ∷ told ls) (status_means l Limit v) ∙ ap (λ y. status_tokens Limit ∷ y) k.0),
+          (ap (λ y. y ∷ told ls) (claim_means l Limit v) ∙ ap (λ y. claim_tokens Limit ∷ y) k.0),
     )
 step_means l ls h ih None n r f None u (Some Optimum) v e = let z = bare_optimum l ls n f u v in
     absurd (cc)
@@ -451,8 +451,8 @@ step_means l ls h ih (Some (c, at)) n r f None u (Some Optimum) v e =
       [],
       subst (λ q. Ending (Some c) (l ∷ told ls) q.said) k.3 (
         refl,
-        ap (λ y. y ∷ told ls) (status_means l Optimum v)
-            ∙ ap (λ y. status_tokens Optimum ∷ y) k.2,
+        ap (λ y. y ∷ told ls) (claim_means l Optimum v)
+            ∙ ap (λ y. claim_tokens Optimum ∷ y) k.2,
       ),
     )
 step_means l ls h ih (Some (c, at)) n r f None u (Some Sat) v e =
@@ -460,7 +460,7 @@ step_means l ls h ih (Some (c, at)) n r f None u (Some Sat) v e =
       [],
       subst (λ q. Ending (Some c) (l ∷ told ls) q.said) k.3 (
         refl,
-        ap (λ y. y ∷ told ls) (status_means l Sat v) ∙ ap (λ y. status_tokens Sat ∷ y) k.2,
+        ap (λ y. y ∷ told ls) (claim_means l Sat v) ∙ ap (λ y. claim_tokens Sat ∷ y) k.2,
       ),
     )
 step_means l ls h ih (Some x) n r f None u (Some Unsat) v e = let z = costly_unsat l ls n f x u v in
@@ -480,7 +480,7 @@ result_means (l ∷ ls) h last n r e =
           (result_means ls h.1 last (n + 1) r (sym z ∙ e))
       | inr f ↦ subst (λ fl. Told last fl r) (sym (told_take l ls f))
           (step_means l ls h.1 (result_means ls h.1) last n r f (cost_of l) refl
-          (status_of l) refl e)
+          (claim_of l) refl e)
     ]
 
 -- and back
@@ -511,26 +511,26 @@ ending_from : (l : Line) (ls : List Line) (n : ℕ) → is_ignored l ≡ false
     → (last : Option (ℕ × ℕ)) (said : Said) → Ending (cost_in last) (l ∷ told ls) said
     → ReadsAs last n (l ∷ ls) said
 ending_from l ls n f None Unsatisfiable e =
-    let first : l ≡ status_tokens Unsat = cc in
+    let first : l ≡ claim_tokens Unsat = cc in
     let rest : told ls ≡ [] = cc in (
       _,
-      is_unsat l ls n f (ap cost_of first ∙ status_no_cost Unsat) (ap status_of first
-          ∙ status_from Unsat) ∙ ended_from ls (n + 1) _ rest,
+      is_unsat l ls n f (ap cost_of first ∙ claim_no_cost Unsat) (ap claim_of first
+          ∙ claim_from Unsat) ∙ ended_from ls (n + 1) _ rest,
       refl,
     )
 ending_from l ls n f None Unknown e =
-    let first : l ≡ status_tokens Limit = cc in
+    let first : l ≡ claim_tokens Limit = cc in
     let rest : told ls ≡ [] = cc in (
       _,
-      is_limit l ls n f (ap cost_of first ∙ status_no_cost Limit) (ap status_of first
-          ∙ status_from Limit) ∙ ended_from ls (n + 1) _ rest,
+      is_limit l ls n f (ap cost_of first ∙ claim_no_cost Limit) (ap claim_of first
+          ∙ claim_from Limit) ∙ ended_from ls (n + 1) _ rest,
       refl,
     )
 ending_from l ls n f None (OptimumFound c bits) e = absurd e
 ending_from l ls n f None (Satisfiable c bits) e = absurd e
 ending_from l ls n f (Some (d, at)) (OptimumFound c bits) e =
     let z = e.1 in
-    let first : l ≡ status_tokens Optimum = cc in
+    let first : l ≡ claim_tokens Optimum = cc in
     let rest : told ls ≡ bits_tokens bits ∷ [] = cc in
     let k =
     with_bits_from ls (n + 1) (λ bits m. record {
@@ -540,13 +540,13 @@ ending_from l ls n f (Some (d, at)) (OptimumFound c bits) e =
       bits_line = m;
     }) bits rest in (
       _,
-      is_optimum l ls n f d at (ap cost_of first ∙ status_no_cost Optimum) (ap status_of first
-          ∙ status_from Optimum) ∙ k.1,
+      is_optimum l ls n f d at (ap cost_of first ∙ claim_no_cost Optimum) (ap claim_of first
+          ∙ claim_from Optimum) ∙ k.1,
       ap (λ x. OptimumFound x bits) e.0,
     )
 ending_from l ls n f (Some (d, at)) (Satisfiable c bits) e =
     let z = e.1 in
-    let first : l ≡ status_tokens Sat = cc in
+    let first : l ≡ claim_tokens Sat = cc in
     let rest : told ls ≡ bits_tokens bits ∷ [] = cc in
     let k =
     with_bits_from ls (n + 1) (λ bits m. record {
@@ -556,8 +556,8 @@ ending_from l ls n f (Some (d, at)) (Satisfiable c bits) e =
       bits_line = m;
     }) bits rest in (
       _,
-      is_sat l ls n f d at (ap cost_of first ∙ status_no_cost Sat) (ap status_of first
-          ∙ status_from Sat) ∙ k.1,
+      is_sat l ls n f d at (ap cost_of first ∙ claim_no_cost Sat) (ap claim_of first
+          ∙ claim_from Sat) ∙ k.1,
       ap (λ x. Satisfiable x bits) e.0,
     )
 ending_from l ls n f (Some x) Unsatisfiable e = absurd e
@@ -631,13 +631,13 @@ tail_from_says (OptimumFound c bits) before fl h e = (
   before ++ c ∷ [],
   subst (λ x. Tail None (before ++ c ∷ []) x (OptimumFound c bits)) (sym e)
       (tail_of_before before c None (OptimumFound c bits)
-      (status_tokens Optimum ∷ bits_tokens bits ∷ []) (heads_none before c) h.0
+      (claim_tokens Optimum ∷ bits_tokens bits ∷ []) (heads_none before c) h.0
       (recursion_from_All (λ d. d < 2 ^ 62) (before ++ c ∷ []) h.1) (refl, refl)),
 )
 tail_from_says (Satisfiable c bits) before fl h e = (
   before ++ c ∷ [],
   subst (λ x. Tail None (before ++ c ∷ []) x (Satisfiable c bits)) (sym e)
-      (tail_of_before before c None (Satisfiable c bits) (status_tokens Sat ∷ bits_tokens bits ∷ [])
+      (tail_of_before before c None (Satisfiable c bits) (claim_tokens Sat ∷ bits_tokens bits ∷ [])
       (heads_none before c) h.0 (recursion_from_All (λ d. d < 2 ^ 62) (before ++ c ∷ []) h.1)
       (refl, refl)),
 )
@@ -674,12 +674,12 @@ says_from_tail : (said : Said) (costs : List ℕ) (fl : List Line) → Tail None
     → (before : List ℕ) × FallsTo before said × (fl ≡ result_tokens before said)
 says_from_tail (OptimumFound c bits) [] fl t = absurd t
 says_from_tail (OptimumFound c bits) (d ∷ ds) fl t =
-    let k = before_of_tail (OptimumFound c bits) c (status_tokens Optimum ∷ bits_tokens bits ∷ [])
+    let k = before_of_tail (OptimumFound c bits) c (claim_tokens Optimum ∷ bits_tokens bits ∷ [])
     (λ d fl h. h) ds d None t.0 tt t.2 t.4 in
     (k.0, (k.2, All-from_recursion (λ d. d < 2 ^ 62) (k.0 ++ c ∷ []) k.3), t.3 ∙ k.4)
 says_from_tail (Satisfiable c bits) [] fl t = absurd t
 says_from_tail (Satisfiable c bits) (d ∷ ds) fl t =
-    let k = before_of_tail (Satisfiable c bits) c (status_tokens Sat ∷ bits_tokens bits ∷ [])
+    let k = before_of_tail (Satisfiable c bits) c (claim_tokens Sat ∷ bits_tokens bits ∷ [])
     (λ d fl h. h) ds d None t.0 tt t.2 t.4 in
     (k.0, (k.2, All-from_recursion (λ d. d < 2 ^ 62) (k.0 ++ c ∷ []) k.3), t.3 ∙ k.4)
 says_from_tail Unsatisfiable [] fl t = ([], refl, t)

@@ -6,8 +6,8 @@ use Rattle.std.specs.Fmt.{decimal}
 use lib.Chars.{codes}
 use Rattle.cnf.specs.declared.limits.TheConstants.{NUMBER_LIMIT}
 use Rattle.text.specs.Text.{token_lines, number_of}
-use Rattle.lrat_result.specs.declared.report.Status.{Status}
-use Rattle.lrat_result.specs.declared.report.Status.TheVariants.{Optimum, Unsat, Sat, Limit}
+use Rattle.lrat_result.specs.declared.report.Claim.{Claim}
+use Rattle.lrat_result.specs.declared.report.Claim.TheVariants.{Optimum, Unsat, Sat, Limit}
 
 -- what a result says
 pub data Said : Type 0 where
@@ -77,18 +77,18 @@ same_bytes [] [] = true
 same_bytes (x ∷ xs) (y ∷ ys) = (x == y) && same_bytes xs ys
 same_bytes other others = false
 
-abbrev pub status_of : List (List ℕ) → Option Status
-status_of (s ∷ t ∷ []) = if same_bytes s (codes "s") then alone t else None
+abbrev pub claim_of : List (List ℕ) → Option Claim
+claim_of (s ∷ t ∷ []) = if same_bytes s (codes "s") then alone t else None
   where
-    alone : List ℕ → Option Status
+    alone : List ℕ → Option Claim
     alone u =
         if same_bytes u (codes "UNSATISFIABLE") then Some Unsat
         else if same_bytes u (codes "SATISFIABLE") then Some Sat
         else if same_bytes u (codes "UNKNOWN") then Some Limit else None
-status_of (s ∷ t ∷ u ∷ []) =
+claim_of (s ∷ t ∷ u ∷ []) =
     if same_bytes s (codes "s") && same_bytes t (codes "OPTIMUM")
     && same_bytes u (codes "FOUND") then Some Optimum else None
-status_of other = None
+claim_of other = None
 
 abbrev pub cost_of : List (List ℕ) → Option ℕ
 cost_of (o ∷ t ∷ []) = if same_bytes o (codes "o") then small (number_of t) else None
@@ -137,26 +137,26 @@ result_on last n (l ∷ ls) =
     falls None c = true
     falls (Some (d, at)) c = nat_lt c d
 
-    with_status : Option Status → Option (ℕ × ℕ) → Outcome Report ℕ
-    with_status None x = Err n
-    with_status (Some Unsat) None =
+    with_claim : Option Claim → Option (ℕ × ℕ) → Outcome Report ℕ
+    with_claim None x = Err n
+    with_claim (Some Unsat) None =
         ended (n + 1)
         (record { said = Unsatisfiable; cost_line = 0; status_line = n; bits_line = 0 }) ls
-    with_status (Some Limit) None =
+    with_claim (Some Limit) None =
         ended (n + 1) (record { said = Unknown; cost_line = 0; status_line = n; bits_line = 0 }) ls
-    with_status (Some Optimum) (Some (c, at)) =
+    with_claim (Some Optimum) (Some (c, at)) =
         with_bits (n + 1)
         (λ bits m. record
         { said = OptimumFound c bits; cost_line = at; status_line = n; bits_line = m }) ls
-    with_status (Some Sat) (Some (c, at)) =
+    with_claim (Some Sat) (Some (c, at)) =
         with_bits (n + 1)
         (λ bits m. record
         { said = Satisfiable c bits; cost_line = at; status_line = n; bits_line = m }) ls
-    with_status other x = Err n
+    with_claim other x = Err n
 
     cost : Option ℕ → (ℕ → Outcome Report ℕ) → Outcome Report ℕ
     cost (Some c) more = if falls last c then more c else Err n
-    cost None more = with_status (status_of l) last
+    cost None more = with_claim (claim_of l) last
 
 -- what a result says, or the first line that cannot stand there, or 0 where it ends too soon
 abbrev pub report_of : List ℕ → Outcome Report ℕ

@@ -3,7 +3,7 @@ ghost use Rattle.std.specs.Prelude.{◌<◌, ◌^◌};
 
 /// What an `s` line says.
 #[derive(Clone, Copy, Debug, PartialEq, Eq, Drop)]
-pub(crate) enum Status {
+pub(crate) enum Claim {
     /// `OPTIMUM FOUND`
     Optimum,
     /// `UNSATISFIABLE`

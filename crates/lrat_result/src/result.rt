@@ -3,13 +3,13 @@
 ghost use Rattle.std.specs.Prelude.{◌≡◌, ℕ, List, ◌<◌, ◌^◌, IfOk, IfErr, IfSome, false, [], ◌∷◌};
 ghost use Rattle.std.specs.Option.{option_map};
 ghost use Rattle.text.specs.Text.{tokens_of};
-ghost use Rattle.lrat_result.specs.Result.{same_bytes, bits_on, cost_of, status_of, bits_of};
+ghost use Rattle.lrat_result.specs.Result.{same_bytes, bits_on, cost_of, claim_of, bits_of};
 ghost use Rattle.lrat_result.specs.Result.{is_ignored};
 ghost use Rattle.lrat_result.specs.Words.{HasWords};
 ghost use Rattle.lrat_result.specs.Report.{IsNextStage, IsReadReport, falls_below, reported};
 ghost use Rattle.lrat_result.specs.Report.{report_with};
 
-use crate::report::{Cost, Heading, Report, ReportFault, Said, Solution, Stage, Status};
+use crate::report::{Cost, Heading, Report, ReportFault, Said, Solution, Stage, Claim};
 use crate::words::{Words, words_of};
 use cnf::limits::NUMBER_LIMIT;
 use std::alloc::{AllocError, Global};
@@ -57,21 +57,21 @@ fn after_costs(last: Option<Cost>, line: u64, words: Words<'_>) -> Result<Stage,
             Err(ReportFault::Form(line))
         };
     }
-    match (status_in(words), last) {
-        (Some(Status::Unsat), None) => Ok(Stage::End(Report {
+    match (claim_in(words), last) {
+        (Some(Claim::Unsat), None) => Ok(Stage::End(Report {
             said: Said::Unsat,
             status_line: line,
         })),
-        (Some(Status::Limit), None) => Ok(Stage::End(Report {
+        (Some(Claim::Limit), None) => Ok(Stage::End(Report {
             said: Said::Limit,
             status_line: line,
         })),
-        (Some(Status::Optimum), Some(cost)) => Ok(Stage::Bits(Heading {
+        (Some(Claim::Optimum), Some(cost)) => Ok(Stage::Bits(Heading {
             is_optimum: true,
             cost,
             status_line: line,
         })),
-        (Some(Status::Sat), Some(cost)) => Ok(Stage::Bits(Heading {
+        (Some(Claim::Sat), Some(cost)) => Ok(Stage::Bits(Heading {
             is_optimum: false,
             cost,
             status_line: line,
@@ -156,24 +156,24 @@ fn cost_in(words: Words<'_>) -> Option<u64>
 }
 
 // What an `s` line says.
-fn status_in(words: Words<'_>) -> Option<Status>
-    ensures { (ts : List (List ℕ)) → HasWords ts words.entry → result ≡ status_of ts }
+fn claim_in(words: Words<'_>) -> Option<Claim>
+    ensures { (ts : List (List ℕ)) → HasWords ts words.entry → result ≡ claim_of ts }
 {
     match words {
         Words::Two(first, second) if is(first, b"s") => {
             if is(second, b"UNSATISFIABLE") {
-                Some(Status::Unsat)
+                Some(Claim::Unsat)
             } else if is(second, b"SATISFIABLE") {
-                Some(Status::Sat)
+                Some(Claim::Sat)
             } else if is(second, b"UNKNOWN") {
-                Some(Status::Limit)
+                Some(Claim::Limit)
             } else {
                 None
             }
         }
         Words::Three(first, second, third)
             if is(first, b"s") && is(second, b"OPTIMUM") && is(third, b"FOUND") => {
-            Some(Status::Optimum)
+            Some(Claim::Optimum)
         }
         _ => None,
     }

@@ -1,5 +1,5 @@
--- A list of attachments, kept as two lists: the kind of each, and the two literals that its clause
--- watches.
+-- A list of attachments, kept as two lists: the tag of each, and the two literals that its
+-- clause watches.
 use Rattle.std.specs.Prelude.{List}
 use Rattle.clauses.specs.Zipped.{zipped}
 use Rattle.propagate_watches.specs.declared.table.Attachment.{Attachment}
@@ -7,16 +7,16 @@ use Rattle.propagate_watches.specs.declared.table.Attachment.TheVariants.{Detach
 use Rattle.propagate_watches.specs.declared.table.Attachment.TheVariants.{Waiting as WaitingAttachment}
 use Rattle.propagate_watches.specs.declared.table.Attachment.TheVariants.{Satisfied as SatisfiedAttachment}
 use Rattle.propagate_watches.specs.declared.table.Attachment.TheVariants.{Watching as WatchingAttachment}
-use Rattle.propagate_watches.specs.declared.table.Kind.{Kind}
-use Rattle.propagate_watches.specs.declared.table.Kind.TheVariants.{Detached, Waiting, Satisfied}
-use Rattle.propagate_watches.specs.declared.table.Kind.TheVariants.{Watching}
+use Rattle.propagate_watches.specs.declared.table.Tag.{Tag}
+use Rattle.propagate_watches.specs.declared.table.Tag.TheVariants.{Detached, Waiting, Satisfied}
+use Rattle.propagate_watches.specs.declared.table.Tag.TheVariants.{Watching}
 use Rattle.propagate_watches.specs.declared.table.Pair.{Pair}
 
-abbrev pub attachment_of : Kind → Pair → Attachment
+abbrev pub attachment_of : Tag → Pair → Attachment
 attachment_of Detached p = NoAttachment
 attachment_of Waiting p = WaitingAttachment
 attachment_of Satisfied p = SatisfiedAttachment
 attachment_of Watching p = WatchingAttachment p.one p.other p.rest
 
-abbrev pub attachments : List Kind → List Pair → List Attachment
+abbrev pub attachments : List Tag → List Pair → List Attachment
 attachments ks ps = zipped attachment_of ks ps

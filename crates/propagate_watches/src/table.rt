@@ -2,7 +2,7 @@
 //
 // Propagation asks for the pair of each clause that its blocker does not settle, by `other`, and
 // writes it by `rewatch`. It knows that such a clause watches two literals, so it reads the pair
-// alone, and the kinds, one byte each, lie elsewhere. With a pair goes the third literal of a
+// alone, and the tags, one byte each, lie elsewhere. With a pair goes the third literal of a
 // clause of three: those of up to three literals need no look into the store.
 ghost use Rattle.std.specs.Prelude.{◌≡◌, ℕ, ◌<◌, List, [], length, take, slice_set, OnOk, OnErr};
 ghost use Rattle.cnf.specs.Literal.{Literal};
@@ -55,7 +55,7 @@ impl Rest {
 
 /// An attachment without its literals.
 #[derive(Clone, Copy, Debug, PartialEq, Eq, Drop)]
-pub(crate) enum Kind {
+pub(crate) enum Tag {
     // As in `Attachment`.
     Detached,
     Waiting,
@@ -79,8 +79,8 @@ pub(crate) struct Pair {
 pub struct Table {
     // By reference, whether the clause is attached, and how; shorter than the store where the
     // clauses at the end never were.
-    kinds: Vec<Kind>,
-    // By reference, as many as kinds; of no meaning where the kind is not `Watching`.
+    tags: Vec<Tag>,
+    // By reference, as many as tags; of no meaning where the tag is not `Watching`.
     pairs: Vec<Pair>,
 }
 
@@ -91,9 +91,9 @@ impl Model for Table {
 
     ghost Value = { List Attachment };
 
-    ghost view = { λ t. attachments t.kinds.items t.pairs.items };
+    ghost view = { λ t. attachments t.tags.items t.pairs.items };
 
-    ghost invariant = { λ t. length t.pairs.items ≡ length t.kinds.items };
+    ghost invariant = { λ t. length t.pairs.items ≡ length t.tags.items };
 }
 
 impl Table {
@@ -102,7 +102,7 @@ impl Table {
         ensures { result ≡ [] }
     {
         Table {
-            kinds: Vec::new(alloc),
+            tags: Vec::new(alloc),
             pairs: Vec::new(alloc),
         }
     }
@@ -111,21 +111,21 @@ impl Table {
     pub fn len(&self) -> usize
         ensures { result ≡ length self.now }
     {
-        self.kinds.len()
+        self.tags.len()
     }
 
     /// The attachment of a reference; one past the end is not attached.
     pub fn get(&self, reference: usize) -> Attachment
         ensures { result ≡ attachment_in self.now reference }
     {
-        if reference >= self.kinds.len() {
+        if reference >= self.tags.len() {
             return Attachment::Detached;
         }
-        match self.kinds[reference] {
-            Kind::Detached => Attachment::Detached,
-            Kind::Waiting => Attachment::Waiting,
-            Kind::Satisfied => Attachment::Satisfied,
-            Kind::Watching => {
+        match self.tags[reference] {
+            Tag::Detached => Attachment::Detached,
+            Tag::Waiting => Attachment::Waiting,
+            Tag::Satisfied => Attachment::Satisfied,
+            Tag::Watching => {
                 let Pair { one, other, rest } = self.pairs[reference];
                 Attachment::Watching(one, other, rest)
             }
@@ -138,11 +138,11 @@ impl Table {
         ensures { self.new ≡ slice_set self.old reference attachment }
     {
         match attachment {
-            Attachment::Detached => self.kinds[reference] = Kind::Detached,
-            Attachment::Waiting => self.kinds[reference] = Kind::Waiting,
-            Attachment::Satisfied => self.kinds[reference] = Kind::Satisfied,
+            Attachment::Detached => self.tags[reference] = Tag::Detached,
+            Attachment::Waiting => self.tags[reference] = Tag::Waiting,
+            Attachment::Satisfied => self.tags[reference] = Tag::Satisfied,
             Attachment::Watching(one, other, rest) => {
-                self.kinds[reference] = Kind::Watching;
+                self.tags[reference] = Tag::Watching;
                 self.pairs[reference] = Pair { one, other, rest };
             }
         }
@@ -199,19 +199,19 @@ impl Table {
         ensures ok { OnOk result (self.new ≡ grown_table self.old reference) }
         ensures err { OnErr result (self.new ≡ self.old) }
     {
-        let len = self.kinds.len();
+        let len = self.tags.len();
         if len > reference.index() {
             return Ok(());
         }
         let none = Lit::new(1, false);
-        self.kinds.resize(reference.index() + 1, Kind::Detached)?;
+        self.tags.resize(reference.index() + 1, Tag::Detached)?;
         let pair = Pair {
             one: none,
             other: none,
             rest: Rest::Nothing,
         };
         if self.pairs.resize(reference.index() + 1, pair).is_err() {
-            self.kinds.truncate(len);
+            self.tags.truncate(len);
             return Err(AllocError);
         }
         Ok(())
@@ -221,7 +221,7 @@ impl Table {
     pub fn truncate(&mut self, len: usize)
         ensures { self.new ≡ take len self.old }
     {
-        self.kinds.truncate(len);
+        self.tags.truncate(len);
         self.pairs.truncate(len);
     }
 }

@@ -139,8 +139,8 @@ loop-lit-preserved c =
           let unit : w.index.result ≡ unit_at U l =
           w.index.ensures ∙ same ∙ sym (ap (λ o. unwrap_or o 0) has.2) in
           let inside_store = live_within S has.0 (negation l ∷ []) has.3 in
-          let name : w.index-names-index.result ≡ name_at N (unit_at U l) =
-          w.index-names-index.is ∙ get_or_default N w.index.result w.index-names-index.result
+          let name : w.name.result ≡ name_at N (unit_at U l) =
+          w.name.ensures ∙ w.index-names-index.is ∙ get_or_default N w.index.result w.index-names-index.result
           (Formula 0) (omega (arith, c.requires.named)) ∙ ap (name_at N) unit in
           let fresh : get_or stamps (l.variable - 1) 0 < stamp =
           omega (arith, here, w.if-stamps-place.true) in
@@ -150,7 +150,7 @@ loop-lit-preserved c =
                 c.loop-lit.invariant.past;
             gathers =
                 λ all done listed g. gathers_hit S N U T stamp all done c.args.reference lits listed
-                reasons live i stamps c.loop-lit.hints.items l w.index-names-index.result
+                reasons live i stamps c.loop-lit.hints.items l w.name.result
                 (c.loop-lit.invariant.gathers all done listed g) c.loop-lit-test.true c.lit-item.is
                 level is_false fresh room inside.0
                 (subst (λ o. IfSome o (IsNotedIn S U T)) live c.requires.noted) name;

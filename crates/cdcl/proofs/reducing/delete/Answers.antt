@@ -36,12 +36,12 @@ new-requires-2 g c =
     let live = c.is_live.ensures.0 c.if-not-is_live.false in
     let inside = live_within s.store.slots r live.0 live.1 in
     let lt : r < length s.names.items = omega (arith, recorded.names.as_many) in
-    let name : c.index-3.result.now ≡ name_at s.names.items r =
-    named_at s.names.items c.index-2.result r c.index-3.result.now c.index-2.ensures
+    let name : c.name.result ≡ name_at s.names.items r =
+    c.name.ensures ∙ named_at s.names.items c.index-2.result r c.index-3.result.now c.index-2.ensures
     c.index-3.ensures lt in
-    deleting_line c.new.result.items c.push.new.self.items c.index-3.result.now c.new.ensures.items
+    deleting_line c.new.result.items c.push.new.self.items c.name.result c.new.ensures.items
     (c.in_ok-push.ensures.items
-    ∙ ap (λ x. x ++ Plain c.index-3.result.now ∷ []) c.new-hints.ensures.items)
+    ∙ ap (λ x. x ++ Plain c.name.result ∷ []) c.new-hints.ensures.items)
     (subst (λ n. IsId (number_in n)) (sym name) (recorded.numbers r (Formula 0) lt))
 
 pub returns-clause-deleting : goal.returns-clause-deleting
@@ -55,11 +55,11 @@ returns-clause-deleting g c =
     let live = c.is_live.ensures.0 c.if-not-is_live.false in
     let inside = live_within s.store.slots r live.0 live.1 in
     let lt : r < length s.names.items = omega (arith, d.recorded.names.as_many) in
-    let name : c.index-3.result.now ≡ name_at s.names.items r =
-    named_at s.names.items c.index-2.result r c.index-3.result.now c.index-2.ensures
+    let name : c.name.result ≡ name_at s.names.items r =
+    c.name.ensures ∙ named_at s.names.items c.index-2.result r c.index-3.result.now c.index-2.ensures
     c.index-3.ensures lt in
     let hints = c.in_ok-push.ensures.items
-    ∙ ap (λ x. x ++ Plain c.index-3.result.now ∷ []) c.new-hints.ensures.items
+    ∙ ap (λ x. x ++ Plain c.name.result ∷ []) c.new-hints.ensures.items
     ∙ ap (λ n. Plain n ∷ []) name in
     let on : is_doomed doomed r ≡ true =
     subst (λ k. is_doomed doomed k ≡ true) c.index.ensures c.if-not-doomed-index.false in

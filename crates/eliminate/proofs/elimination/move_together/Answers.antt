@@ -29,7 +29,7 @@ loop-old-preserved c =
     let item = c.loop-old-item.result in
     let f : ℕ × ℕ → ℕ × Name = λ m. (m.1, name_at names m.0) in
     c.in_ok-push.ensures.items
-    ∙ ap (λ (n : Name). before ++ (item.1, n) ∷ []) c.get.ensures
+    ∙ ap (λ (n : Name). before ++ (item.1, n) ∷ []) (c.new.ensures ∙ c.get.ensures)
     ∙ ap (λ (m : ℕ × ℕ). before ++ f m ∷ []) c.loop-old-item.is
     ∙ ap (λ (xs : List (ℕ × Name)). xs ++ f (get_or pairs c.loop-old.old-index item) ∷ [])
     c.loop-old.invariant

@@ -50,8 +50,8 @@ returns-then-not-is_kept c e =
         long = omega (arith, w.if-lits-gt2.true);
         learned =
             ap (is_kept_name s.kept)
-            (sym (name w.index.result w.index-then-lits-gt2.result.now w.index.ensures
-            w.index-then-lits-gt2.ensures)) ∙ sym w.is_kept.ensures
+            (sym (w.name.ensures ∙ name w.index.result w.index-then-lits-gt2.result.now
+            w.index.ensures w.index-then-lits-gt2.ensures)) ∙ sym w.is_kept.ensures
             ∙ not_true w.is_kept.result (sym w.value-is ∙ c.if-not-is_kept.true);
         no_reason = free;
       }

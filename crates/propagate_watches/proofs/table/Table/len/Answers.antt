@@ -9,7 +9,7 @@ returns c =
     omega (
       arith,
       c.len.ensures,
-      i.kinds.ok.0,
-      length-zipped attachment_of i.kinds.items i.pairs.items c.self.invariant,
+      i.tags.ok.0,
+      length-zipped attachment_of i.tags.items i.pairs.items c.self.invariant,
       ap length c.self.view_is,
     )

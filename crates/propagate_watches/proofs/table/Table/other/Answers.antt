@@ -9,7 +9,7 @@ index-requires-2 c =
     omega (
       arith,
       c.index.ensures,
-      watched_within i.kinds.items i.pairs.items c.args.reference c.args.watched c.requires.0 by,
+      watched_within i.tags.items i.pairs.items c.args.reference c.args.watched c.requires.0 by,
       i.pairs.ok.0,
     )
 
@@ -20,7 +20,7 @@ returns-then-eq-clause-other c =
     let at : p ≡ get_or i.pairs.items c.args.reference p =
     c.index-2.ensures ∙ ap (λ k. get_or i.pairs.items k p) c.index.ensures in
     let same : p.one ≡ c.args.watched = search rules in
-    rw (← c.self.view_is) (beside_one i.kinds.items i.pairs.items c.args.reference p c.args.watched
+    rw (← c.self.view_is) (beside_one i.tags.items i.pairs.items c.args.reference p c.args.watched
     c.requires.0 at (rw (← c.self.view_is) at c.requires.1) same)
 
 pub returns-then-eq-clause-rest : goal.returns-then-eq-clause-rest
@@ -29,7 +29,7 @@ returns-then-eq-clause-rest c =
     let p = c.index-2.result.now in
     let at : p ≡ get_or i.pairs.items c.args.reference p =
     c.index-2.ensures ∙ ap (λ k. get_or i.pairs.items k p) c.index.ensures in
-    rw (← c.self.view_is) (watched_rest i.kinds.items i.pairs.items c.args.reference p
+    rw (← c.self.view_is) (watched_rest i.tags.items i.pairs.items c.args.reference p
     c.args.watched c.requires.0 at (rw (← c.self.view_is) at c.requires.1))
 
 pub returns-else-eq-clause-other : goal.returns-else-eq-clause-other
@@ -39,7 +39,7 @@ returns-else-eq-clause-other c =
     let at : p ≡ get_or i.pairs.items c.args.reference p =
     c.index-2.ensures ∙ ap (λ k. get_or i.pairs.items k p) c.index.ensures in
     let apart : p.one ≢ c.args.watched = search rules in
-    rw (← c.self.view_is) (beside_other i.kinds.items i.pairs.items c.args.reference p
+    rw (← c.self.view_is) (beside_other i.tags.items i.pairs.items c.args.reference p
     c.args.watched c.requires.0 at (rw (← c.self.view_is) at c.requires.1) apart)
 
 pub returns-else-eq-clause-rest : goal.returns-else-eq-clause-rest
@@ -48,5 +48,5 @@ returns-else-eq-clause-rest c =
     let p = c.index-2.result.now in
     let at : p ≡ get_or i.pairs.items c.args.reference p =
     c.index-2.ensures ∙ ap (λ k. get_or i.pairs.items k p) c.index.ensures in
-    rw (← c.self.view_is) (watched_rest i.kinds.items i.pairs.items c.args.reference p
+    rw (← c.self.view_is) (watched_rest i.tags.items i.pairs.items c.args.reference p
     c.args.watched c.requires.0 at (rw (← c.self.view_is) at c.requires.1))

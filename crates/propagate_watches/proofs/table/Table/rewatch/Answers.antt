@@ -11,7 +11,7 @@ index-requires c =
     omega (
       arith,
       c.index-at.ensures,
-      (watching_within i.kinds.items i.pairs.items c.args.reference c.requires.0 c.requires.1
+      (watching_within i.tags.items i.pairs.items c.args.reference c.requires.0 c.requires.1
           watching).1,
       i.pairs.ok.0,
     )
@@ -23,7 +23,7 @@ index_mut-requires c =
     omega (
       arith,
       c.index-at.ensures,
-      (watching_within i.kinds.items i.pairs.items c.args.reference c.requires.0 c.requires.1
+      (watching_within i.tags.items i.pairs.items c.args.reference c.requires.0 c.requires.1
           watching).1,
       i.pairs.ok.0,
     )
@@ -37,16 +37,16 @@ returns c =
     let at : p ≡ get_or i.pairs.items r p =
     c.index.ensures ∙ ap (λ k. get_or i.pairs.items k p) c.index-at.ensures in
     let rest : c.after-rest.result ≡ rest_after c.args.falsified
-    (rest_in (attachment_in (attachments i.kinds.items i.pairs.items) r)) =
+    (rest_in (attachment_in (attachments i.tags.items i.pairs.items) r)) =
     c.after-rest.ensures
     ∙ ap (rest_after c.args.falsified)
-    (watching_rest i.kinds.items i.pairs.items r p c.requires.0 c.requires.1 at watching) in
+    (watching_rest i.tags.items i.pairs.items r p c.requires.0 c.requires.1 at watching) in
     rw (c.index-at.ensures, rest, ← c.self.view_is)
-    (attachments_set_pair i.kinds.items i.pairs.items r
+    (attachments_set_pair i.tags.items i.pairs.items r
     (record {
       one = c.args.one;
       other = c.args.other;
       rest = rest_after c.args.falsified
-          (rest_in (attachment_in (attachments i.kinds.items i.pairs.items) r));
+          (rest_in (attachment_in (attachments i.tags.items i.pairs.items) r));
     })
     c.requires.0 c.requires.1 watching)

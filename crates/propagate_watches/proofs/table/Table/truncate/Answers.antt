@@ -7,5 +7,5 @@ pub returns : goal.returns
 returns c =
     let i = c.self.inside in
     rw (c.truncate.ensures.items, c.truncate-2.ensures.items)
-    (zipped-take attachment_of c.args.len i.kinds.items i.pairs.items
+    (zipped-take attachment_of c.args.len i.tags.items i.pairs.items
     ∙ ap (take c.args.len) c.self.view_is)
