@@ -5,7 +5,7 @@ ghost use Rattle.cnf.specs.Formula.{IsFormula, IsFormulaClause};
 ghost use Rattle.cnf.specs.Refute.{IsRefutedByHints};
 ghost use Rattle.clauses.specs.Slots.{live_clauses};
 ghost use Rattle.lrat_log.specs.Steps.{StaysLogOver, IsBaseOf, learned_count, log_live, given_of};
-ghost use Rattle.eliminate.specs.Variables.{IsSimplifierOver, StaysOver, LeavesLogOver};
+ghost use Rattle.eliminate.specs.Variables.{IsSimplifierOver, PassesOver};
 ghost use Rattle.eliminate.specs.Elimination.{extended, is_eliminated, IsFree, AreFreeOf};
 ghost use Rattle.eliminate.specs.Elimination.{ExtendsBack, HoldsWhatIsLive, AreMoved};
 
@@ -137,13 +137,10 @@ fn simplify_open<S: Sink>(
     sink: &mut S,
 ) -> Result<(), AllocError>
     requires { IsSimplifierOver frozen.now simplifier.old store.old.slots (S.lines sink.old) }
-    ensures simplified { IfOk result (λ _.
-        StaysOver frozen.now simplifier.old store.old.slots (S.lines sink.old)
-        simplifier.new store.new.slots (S.lines sink.new)) }
+    ensures passes { PassesOver frozen.now result simplifier.old store.old.slots
+        (S.lines sink.old) simplifier.new store.new.slots (S.lines sink.new) }
     ensures refuted { IfOk result (λ _. simplifier.old.is_refuted ≡ true
         → simplifier.new.is_refuted ≡ true) }
-    ensures err { OnErr result (LeavesLogOver frozen.now simplifier.old store.old.slots
-        (S.lines sink.old) (S.lines sink.new)) }
 {
     if simplifier.is_refuted {
         return Ok(());

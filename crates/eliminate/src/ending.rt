@@ -46,7 +46,7 @@ pub(crate) fn define_where_open<S: Sink>(
         → IsSimplified start simplifier.old store.old.slots (S.lines sink.old)
         → IsResult start simplifier.new.removals
         (stage_of v store.new.slots simplifier.new.names (S.lines sink.new))) }
-    ensures same { OnOk result (simplifier.old.is_refuted ≡ true
+    ensures refuted { OnOk result (simplifier.old.is_refuted ≡ true
         → store.new.slots ≡ store.old.slots) }
     ensures err { OnErr result (LeavesLogOver frozen.now simplifier.old store.old.slots
         (S.lines sink.old) (S.lines sink.new)) }

@@ -40,7 +40,7 @@ propagated : (g : Over) (c : In_ok-propagate_units g)
     c.propagate_units.new.simplifier c.propagate_units.new.store.slots
     (g.S.Sink.lines c.propagate_units.new.sink)
 propagated g c =
-    c.in_ok-propagate_units.ensures.simplified (start_of c.args.store.now.slots c.args.frozen.now)
+    c.in_ok-propagate_units.ensures.passes (start_of c.args.store.now.slots c.args.frozen.now)
     (tables g (goal.at.In_ok-propagate_units g c).In_ok-simplifier)
 
 simplified : (g : Over) (c : In_ok-simplify_open g)
@@ -48,7 +48,7 @@ simplified : (g : Over) (c : In_ok-simplify_open g)
     c.simplify_open.new.simplifier c.simplify_open.new.store.slots
     (g.S.Sink.lines c.simplify_open.new.sink)
 simplified g c =
-    c.in_ok-simplify_open.ensures.simplified (start_of c.args.store.now.slots c.args.frozen.now)
+    c.in_ok-simplify_open.ensures.passes (start_of c.args.store.now.slots c.args.frozen.now)
     refl (propagated g (goal.at.In_ok-simplify_open g c).In_ok-propagate_units)
 
 -- and what the last one leaves is a result
@@ -60,11 +60,14 @@ ended : (g : Over) (c : In_ok-vars g)
 ended g c = c.in_ok-vars.ensures.result (start_of c.args.store.now.slots c.args.frozen.now) refl
     (simplified g (goal.at.In_ok-vars g c).In_ok-simplify_open)
 
-pub propagate_units-requires-clause-simplified : goal.propagate_units-requires-clause-simplified
-propagate_units-requires-clause-simplified g c = (
-  start_of c.args.store.now.slots c.args.frozen.now,
-  tables g (goal.at.propagate_units-requires-clause-simplified g c).In_ok-simplifier,
-)
+pub propagate_units-requires : goal.propagate_units-requires
+propagate_units-requires g c = record {
+  simplified = (
+    start_of c.args.store.now.slots c.args.frozen.now,
+    tables g (goal.at.propagate_units-requires g c).In_ok-simplifier,
+  );
+  going = c.in_ok-simplifier.ensures.going;
+}
 
 pub returns-in_err-simplifier-clause-lines : goal.returns-in_err-simplifier-clause-lines
 returns-in_err-simplifier-clause-lines g c =
@@ -78,13 +81,13 @@ returns-in_err-simplifier-clause-none_learned g c = ap learned_count c.requires.
 
 pub returns-in_err-propagate_units-clause-lines : goal.returns-in_err-propagate_units-clause-lines
 returns-in_err-propagate_units-clause-lines g c =
-    (c.in_err-propagate_units.ensures.err (start_of c.args.store.now.slots c.args.frozen.now)
+    (c.in_err-propagate_units.ensures.passes (start_of c.args.store.now.slots c.args.frozen.now)
     (tables g (goal.at.returns-in_err-propagate_units-clause-lines g c).In_ok-simplifier)).0
 
 pub returns-in_err-propagate_units-clause-none_learned
     : goal.returns-in_err-propagate_units-clause-none_learned
 returns-in_err-propagate_units-clause-none_learned g c =
-    (c.in_err-propagate_units.ensures.err (start_of c.args.store.now.slots c.args.frozen.now)
+    (c.in_err-propagate_units.ensures.passes (start_of c.args.store.now.slots c.args.frozen.now)
     (tables g (goal.at.returns-in_err-propagate_units-clause-none_learned g
     c).In_ok-simplifier)).1
 
@@ -97,14 +100,14 @@ simplify_open-requires g c = (
 
 pub returns-in_err-simplify_open-clause-lines : goal.returns-in_err-simplify_open-clause-lines
 returns-in_err-simplify_open-clause-lines g c =
-    (c.in_err-simplify_open.ensures.err (start_of c.args.store.now.slots c.args.frozen.now) refl
+    (c.in_err-simplify_open.ensures.passes (start_of c.args.store.now.slots c.args.frozen.now) refl
     (propagated g (goal.at.returns-in_err-simplify_open-clause-lines g
     c).In_ok-propagate_units)).0
 
 pub returns-in_err-simplify_open-clause-none_learned
     : goal.returns-in_err-simplify_open-clause-none_learned
 returns-in_err-simplify_open-clause-none_learned g c =
-    (c.in_err-simplify_open.ensures.err (start_of c.args.store.now.slots c.args.frozen.now) refl
+    (c.in_err-simplify_open.ensures.passes (start_of c.args.store.now.slots c.args.frozen.now) refl
     (propagated g (goal.at.returns-in_err-simplify_open-clause-none_learned g
     c).In_ok-propagate_units)).1
 
@@ -204,7 +207,8 @@ returns-clause-refuted g c w =
           let h = simplified g (goal.at.returns-clause-refuted g c).In_ok-simplify_open in
           subst (λ (cs : List (List Literal)). Contains cs [])
           (sym (same_clauses g (goal.at.returns-clause-refuted g c).In_ok-names
-          ∙ ap live_clauses (c.in_ok-vars.ensures.same (c.in_ok-simplify_open.ensures.refuted e))))
+          ∙ ap live_clauses
+          (c.in_ok-vars.ensures.refuted (c.in_ok-simplify_open.ensures.refuted e))))
           (h.refuted (c.in_ok-simplify_open.ensures.refuted e))
       | inr e ↦ absurd (c.in_ok-propagate_units.ensures.refuted e w)
     ]

@@ -2,8 +2,8 @@
 use Rattle.std.proofs.lemmas.Bool.{both_ways}
 use Rattle.eliminate.proofs.elimination.simplify_open.Goals as goal
 
-pub returns-then-simplifier-clause-simplified : goal.returns-then-simplifier-clause-simplified
-returns-then-simplifier-clause-simplified g c start same h = h
+pub returns-then-simplifier-clause-passes : goal.returns-then-simplifier-clause-passes
+returns-then-simplifier-clause-passes g c start same h = h
 
 pub returns-then-simplifier-clause-refuted : goal.returns-then-simplifier-clause-refuted
 returns-then-simplifier-clause-refuted g c e = e
