@@ -40,8 +40,7 @@ pub(crate) fn define_where_open<S: Sink>(
     frozen: &[bool],
     sink: &mut S,
 ) -> Result<u32, AllocError>
-    requires simplified { IsSimplifierOver frozen.now simplifier.old store.old.slots
-        (S.lines sink.old) }
+    requires { IsSimplifierOver frozen.now simplifier.old store.old.slots (S.lines sink.old) }
     ensures result { IfOk result (λ v. (start : Start) → start.frozen ≡ frozen.now
         → IsSimplified start simplifier.old store.old.slots (S.lines sink.old)
         → IsResult start simplifier.new.removals

@@ -112,14 +112,11 @@ returns-in_err-simplify_open-clause-none_learned g c =
     c).In_ok-propagate_units)).1
 
 pub define_where_open-requires : goal.define_where_open-requires
-define_where_open-requires g c =
-    record {
-      simplified = (
-        start_of c.args.store.now.slots c.args.frozen.now,
-        refl,
-        simplified g (goal.at.define_where_open-requires g c).In_ok-simplify_open,
-      );
-    }
+define_where_open-requires g c = (
+  start_of c.args.store.now.slots c.args.frozen.now,
+  refl,
+  simplified g (goal.at.define_where_open-requires g c).In_ok-simplify_open,
+)
 
 pub returns-in_err-vars-clause-lines : goal.returns-in_err-vars-clause-lines
 returns-in_err-vars-clause-lines g c =
