@@ -100,14 +100,8 @@ impl Simplifier {
             return None;
         }
         match self.occurrences.get(lit.index()).get(at) {
-            Some(reference) => {
-                if store.is_live(*reference) {
-                    Some(*reference)
-                } else {
-                    None
-                }
-            }
-            None => None,
+            Some(reference) if store.is_live(*reference) => Some(*reference),
+            _ => None,
         }
     }
 

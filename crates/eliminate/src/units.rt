@@ -309,9 +309,8 @@ impl Units {
         ensures { Moves result self.old simplifier.old store.old.slots (S.lines sink.old)
             self.new simplifier.new store.new.slots (S.lines sink.new) }
     {
-        let reference = match simplifier.occurrence(store, lit, at) {
-            Some(reference) => reference,
-            None => return Ok(()),
+        let Some(reference) = simplifier.occurrence(store, lit, at) else {
+            return Ok(());
         };
         if !is_due(unmet, reference) {
             return Ok(());

@@ -256,20 +256,10 @@ fn remove_variable<S: Sink>(
         (S.lines sink.old) simplifier.new store.new.slots (S.lines sink.new) }
 {
     simplifier.removals.push(variable, firsts, store)?;
-    delete_all(
-        &simplifier.names,
-        &mut simplifier.schedule,
-        store,
-        sink,
-        firsts,
-    )?;
-    delete_all(
-        &simplifier.names,
-        &mut simplifier.schedule,
-        store,
-        sink,
-        seconds,
-    )?;
+    let names = &simplifier.names;
+    let schedule = &mut simplifier.schedule;
+    delete_all(names, schedule, store, sink, firsts)?;
+    delete_all(names, schedule, store, sink, seconds)?;
     Ok(())
 }
 
