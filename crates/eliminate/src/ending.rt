@@ -1,5 +1,5 @@
 // The last pass: fresh variables for pairs. It needs the names of the clauses, and no other table.
-ghost use Rattle.std.specs.Prelude.{◌≡◌, ◌+◌, ◌≤◌, ◌^◌, true, length, IfOk, OnErr, OnOk};
+ghost use Rattle.std.specs.Prelude.{◌≡◌, ◌+◌, true, IfOk, OnErr, OnOk};
 ghost use Rattle.eliminate.specs.State.{Start};
 ghost use Rattle.eliminate.specs.Simplifier.{IsSimplified};
 ghost use Rattle.eliminate.specs.Variables.{IsSimplifierOver, LeavesLogOver};

@@ -1,6 +1,6 @@
 // Resolvents that are added to the store, each with its line.
 ghost use Rattle.std.specs.Prelude.{◌≡◌, ◌<◌, List, [], ◌∷◌, false, length};
-ghost use Rattle.std.specs.Prelude.{IfOk, OnErr, IfSome, Some, None, if◌then◌else◌};
+ghost use Rattle.std.specs.Prelude.{IfOk, IfSome, Some, None, if◌then◌else◌};
 ghost use Rattle.cnf.specs.Literal.{Literal, negation};
 ghost use Rattle.clauses.specs.Slots.{clause_at};
 ghost use Rattle.lrat_log.specs.Steps.{is_empty_clause};

@@ -1,14 +1,14 @@
 // What preprocessing keeps beside the store and the log. Names, occurrences and removals are what
 // its proof rests on; the schedule only says where work may be worthwhile.
-ghost use Rattle.std.specs.Prelude.{◌≡◌, ◌<◌, List, [], ◌∷◌, ◌++◌, Bool, true, false, length};
+ghost use Rattle.std.specs.Prelude.{◌≡◌, ◌<◌, List, [], ◌∷◌, ◌++◌, Bool, false, length};
 ghost use Rattle.std.specs.Prelude.{IfOk, OnOk, IfSome, OnErr, Some, None, slice_set};
-ghost use Rattle.cnf.specs.Literal.{Literal};
-ghost use Rattle.cnf.specs.Clause.{is_subset};
 ghost use Rattle.cnf.specs.Formula.{IsFormula};
-ghost use Rattle.clauses.specs.Slots.{IsLive, clause_at, live_clauses};
+ghost use Rattle.clauses.specs.Slots.{IsLive, live_clauses};
 ghost use Rattle.lrat_log.specs.Steps.{is_empty_clause};
+ghost use Rattle.subsume.specs.declared.against.Against.TheVariants.{Within};
 ghost use Rattle.eliminate.specs.State.{Start};
 ghost use Rattle.eliminate.specs.Simplifier.{IsSimplified, IsOpen, Passes, IsAddableLine};
+ghost use Rattle.eliminate.specs.Subsuming.{AreBeside};
 
 use clauses::store::{CRef, Store};
 use cnf::marks::Marks;
@@ -153,8 +153,7 @@ impl Simplifier {
         requires other { by ≡ reference → ⊥ }
         requires live { IsLive store.old.slots reference }
         requires live_too { IsLive store.old.slots by }
-        requires subset { (c d : List Literal) → clause_at store.old.slots by ≡ Some c
-            → clause_at store.old.slots reference ≡ Some d → is_subset c d ≡ true }
+        requires subset { AreBeside store.old.slots by reference Within }
         ensures slots { IfOk result (λ _.
             store.new.slots ≡ slice_set store.old.slots reference None) }
         ensures passes { Passes result self.old store.old.slots (S.lines sink.old)

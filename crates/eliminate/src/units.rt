@@ -3,8 +3,8 @@
 // only once a count says that at most one of its literals may be open, so that all visits together
 // are linear in the literals of the formula. Nothing rests on the counts: the last sweep finds no
 // clause that is false or unit.
-ghost use Rattle.std.specs.Prelude.{◌≡◌, ℕ, ◌+◌, ◌*◌, ◌<◌, ◌≤◌, ◌∷◌, ◌++◌, [], true, false, List};
-ghost use Rattle.std.specs.Prelude.{length, replicate, Some, None, IfOk, OnErr};
+ghost use Rattle.std.specs.Prelude.{◌≡◌, ◌+◌, ◌*◌, ◌<◌, ◌∷◌, [], true, false, List};
+ghost use Rattle.std.specs.Prelude.{length, replicate, Some, None, IfOk, OnOk};
 ghost use Rattle.cnf.specs.Literal.{Literal, negation};
 ghost use Rattle.cnf.specs.Clause.{contains_literal};
 ghost use Rattle.cnf.specs.Refute.{IsUnit, IsFalseUnder, IsRefutedByHints};
@@ -152,8 +152,8 @@ impl Units {
         ensures grows { IfOk result (λ _. Grows store.old.slots store.new.slots) }
         ensures passes { Passes result simplifier.old store.old.slots (S.lines sink.old)
             simplifier.new store.new.slots (S.lines sink.new) }
-        ensures going { IfOk result (λ _. (simplifier.new.is_refuted ≡ false)
-            × (simplifier.new.vars ≡ simplifier.old.vars)) }
+        ensures going { OnOk result (simplifier.new.is_refuted ≡ false) }
+        ensures vars { OnOk result (simplifier.new.vars ≡ simplifier.old.vars) }
     {
         if store.lits(reference).len() == 1 {
             return Ok(reference);
@@ -180,8 +180,8 @@ impl Units {
             → IsFalseUnder c self.now.trail.items }
         ensures passes { Passes result simplifier.old store.old.slots (S.lines sink.old)
             simplifier.new store.new.slots (S.lines sink.new) }
-        ensures refuted { IfOk result (λ _. (simplifier.new.is_refuted ≡ true)
-            × (simplifier.new.vars ≡ simplifier.old.vars)) }
+        ensures refuted { OnOk result (simplifier.new.is_refuted ≡ true) }
+        ensures vars { OnOk result (simplifier.new.vars ≡ simplifier.old.vars) }
     {
         let hints = self.hints(&simplifier.names, store, reference)?;
         simplifier.clause.clear();

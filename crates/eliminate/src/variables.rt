@@ -1,10 +1,9 @@
 // Bounded variable elimination (Davis and Putnam 1960; Eén and Biere 2005): the clauses with a
 // variable are replaced by their resolvents on it, where these are no more and none is long.
 // Variables are tried in the order in which their clauses changed.
-ghost use Rattle.std.specs.Prelude.{◌≡◌, ℕ, ◌*◌, ◌<◌, true, false, List, length, All, IfOk};
-ghost use Rattle.std.specs.Prelude.{OnErr};
+ghost use Rattle.std.specs.Prelude.{◌≡◌, ℕ, ◌*◌, ◌<◌, true, false, length, All, IfOk, OnErr};
 ghost use Rattle.cnf.specs.Literal.{negation};
-ghost use Rattle.lrat_log.specs.Log.{LogLine, IsLine};
+ghost use Rattle.lrat_log.specs.Log.{IsLine};
 ghost use Rattle.cnf.specs.Marks.{HasPlace};
 ghost use Rattle.eliminate.specs.Elimination.{positive, IsFree};
 ghost use Rattle.eliminate_tables.specs.Rows.{AreRows};

@@ -57,7 +57,7 @@ pub returns-in_ok-assign-in-Unit-clause-moves
     : goal.returns-in_ok-assign-in-Unit-clause-moves
 returns-in_ok-assign-in-Unit-clause-moves g c = record {
   simplified = c.in_ok-unit-in-Unit.ensures.passes;
-  vars = c.in_ok-unit-in-Unit.ensures.going.1;
+  vars = c.in_ok-unit-in-Unit.ensures.vars;
   units =
       λ works. makes_true_grown c.args.self.now c.assign.new.self c.args.store.now.slots
       c.unit_clause.new.store.slots c.in_ok-unit-in-Unit.ensures.grows
