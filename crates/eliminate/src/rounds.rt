@@ -20,8 +20,8 @@ pub(crate) fn simplify<S: Sink>(
     sink: &mut S,
 ) -> Result<(), AllocError>
     requires { IsSimplifierOver frozen.now simplifier.old store.old.slots (S.lines sink.old) }
-    ensures passes { PassesOver frozen.now result simplifier.old store.old.slots
-        (S.lines sink.old) simplifier.new store.new.slots (S.lines sink.new) }
+    ensures passes { PassesOver frozen.now result simplifier.old store.old.slots (S.lines sink.old)
+        simplifier.new store.new.slots (S.lines sink.new) }
     ensures refuted { OnOk result (simplifier.old.is_refuted ≡ true
         → simplifier.new.is_refuted ≡ true) }
 {

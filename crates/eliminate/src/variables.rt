@@ -46,8 +46,8 @@ pub(crate) fn eliminate_variables<S: Sink>(
     sink: &mut S,
 ) -> Result<bool, AllocError>
     requires { IsOpenOver frozen.now simplifier.old store.old.slots (S.lines sink.old) }
-    ensures { PassesOver frozen.now result simplifier.old store.old.slots
-        (S.lines sink.old) simplifier.new store.new.slots (S.lines sink.new) }
+    ensures { PassesOver frozen.now result simplifier.old store.old.slots (S.lines sink.old)
+        simplifier.new store.new.slots (S.lines sink.new) }
 {
     let alloc = store.allocator();
     let mut parents = Parents {
@@ -95,8 +95,8 @@ fn try_variable<S: Sink>(
 ) -> Result<bool, AllocError>
     requires is_open { IsOpenOver frozen.now simplifier.old store.old.slots (S.lines sink.old) }
     requires free { IsFree frozen.now variable }
-    ensures { PassesOver frozen.now result simplifier.old store.old.slots
-        (S.lines sink.old) simplifier.new store.new.slots (S.lines sink.new) }
+    ensures { PassesOver frozen.now result simplifier.old store.old.slots (S.lines sink.old)
+        simplifier.new store.new.slots (S.lines sink.new) }
 {
     let pivot = Lit::new(variable, false);
     if !find_parents(simplifier, store, pivot, parents)? {
@@ -251,8 +251,8 @@ fn remove_variable<S: Sink>(
     requires seconds { AreThoseWith (negation (positive variable)) store.old.slots seconds.now }
     requires resolved { ArePairsResolved (positive variable) store.old.slots store.old.slots
         firsts.now seconds.now }
-    ensures { PassesOver frozen.now result simplifier.old store.old.slots
-        (S.lines sink.old) simplifier.new store.new.slots (S.lines sink.new) }
+    ensures { PassesOver frozen.now result simplifier.old store.old.slots (S.lines sink.old)
+        simplifier.new store.new.slots (S.lines sink.new) }
 {
     simplifier.removals.push(variable, firsts, store)?;
     let names = &simplifier.names;
