@@ -28,6 +28,11 @@ HasStatus A c Settled = IsSettled A c
 HasStatus A c (Unit l) = IsUnit c A l
 HasStatus A c Falsified = IsFalseUnder c A
 
+-- so for the clause at a place
+abbrev pub HasStatusAt : Units → Slots → ℕ → Status → Type 0
+HasStatusAt u slots place status = (c : List Literal) → clause_at slots place ≡ Some c
+    → HasStatus u.trail.items c status
+
 -- no clause of the store is false or unit
 abbrev pub AreSettled : List Literal → Slots → Type 0
 AreSettled A slots = (r : ℕ) (c : List Literal) → clause_at slots r ≡ Some c → IsSettled A c
@@ -103,4 +108,4 @@ MakesProgress u t v found = found ≡ true → t.is_refuted ≡ false → open_c
 -- the clause at a place is settled, and nothing changed
 abbrev pub AsksNothing : Units → Slots → ℕ → Units → Simplifier → Slots → Type 0
 AsksNothing u slots place v t left = (t.is_refuted ≡ false) × (v ≡ u) × (left ≡ slots)
-    × ((c : List Literal) → clause_at slots place ≡ Some c → IsSettled u.trail.items c)
+    × HasStatusAt u slots place Settled

@@ -7,12 +7,12 @@ ghost use Rattle.std.specs.Prelude.{◌≡◌, ◌+◌, ◌*◌, ◌<◌, ◌∷
 ghost use Rattle.std.specs.Prelude.{length, replicate, Some, None, IfOk, OnOk};
 ghost use Rattle.cnf.specs.Literal.{Literal, negation};
 ghost use Rattle.cnf.specs.Clause.{contains_literal};
-ghost use Rattle.cnf.specs.Refute.{IsUnit, IsFalseUnder, IsRefutedByHints};
+ghost use Rattle.cnf.specs.Refute.{IsRefutedByHints};
 ghost use Rattle.clauses.specs.Slots.{IsLive, clause_at, live_clauses};
 ghost use Rattle.cnf.specs.Marks.{HasPlace};
 ghost use Rattle.eliminate_names.specs.Work.{AreClauses};
 ghost use Rattle.eliminate.specs.Simplifier.{IsOpen, Passes, Grows};
-ghost use Rattle.eliminate.specs.Units.{HasStatus, AreUnits, AreSettled, unit_hints, open_count};
+ghost use Rattle.eliminate.specs.Units.{HasStatusAt, AreUnits, AreSettled, unit_hints, open_count};
 ghost use Rattle.eliminate.specs.Units.{MakesTrue, IsPropagating, Moves, MakesProgress};
 ghost use Rattle.eliminate.specs.Units.{AsksNothing};
 
@@ -91,8 +91,7 @@ impl Units {
         requires units { AreUnits self.now store.now.slots }
         requires clauses { AreClauses (length self.now.clauses.items) store.now.slots }
         requires live { IsLive store.now.slots reference }
-        ensures { (c : List Literal) → clause_at store.now.slots reference ≡ Some c
-            → HasStatus self.now.trail.items c result }
+        ensures { HasStatusAt self.now store.now.slots reference result }
     {
         let mut found = Status::Falsified;
         for lit in store.lits(reference) {
@@ -146,8 +145,7 @@ impl Units {
         requires propagating { IsPropagating self.now simplifier.old store.old.slots
             (S.lines sink.old) }
         requires live { IsLive store.old.slots reference }
-        requires unit { (c : List Literal) → clause_at store.old.slots reference ≡ Some c
-            → IsUnit c self.now.trail.items lit }
+        requires unit { HasStatusAt self.now store.old.slots reference (Status.Unit lit) }
         ensures alone { IfOk result (λ r. clause_at store.new.slots r ≡ Some (lit ∷ [])) }
         ensures grows { IfOk result (λ _. Grows store.old.slots store.new.slots) }
         ensures passes { Passes result simplifier.old store.old.slots (S.lines sink.old)
@@ -176,8 +174,7 @@ impl Units {
         requires propagating { IsPropagating self.now simplifier.old store.old.slots
             (S.lines sink.old) }
         requires live { IsLive store.old.slots reference }
-        requires falsified { (c : List Literal) → clause_at store.old.slots reference ≡ Some c
-            → IsFalseUnder c self.now.trail.items }
+        requires falsified { HasStatusAt self.now store.old.slots reference Status.Falsified }
         ensures passes { Passes result simplifier.old store.old.slots (S.lines sink.old)
             simplifier.new store.new.slots (S.lines sink.new) }
         ensures refuted { OnOk result (simplifier.new.is_refuted ≡ true) }
