@@ -41,9 +41,10 @@ abbrev pub StaysSimplified : Simplifier → Slots → List LogLine → Simplifie
 StaysSimplified s slots lines t left more = (start : Start) → IsSimplified start s slots lines
     → IsSimplified start t left more
 
--- whatever the lines are
-abbrev pub KeepsForm : Simplifier → Simplifier → Slots → Type 0
-KeepsForm s t slots = (lines : List LogLine) → StaysSimplified s slots lines t slots lines
+-- so do other tables, whatever the lines are, and they say the same of the empty clause
+pub record KeepsForm (s t : Simplifier) (slots : Slots) : Type 0 where
+  pub stays : (lines : List LogLine) → StaysSimplified s slots lines t slots lines
+  pub refuted : t.is_refuted ≡ s.is_refuted
 
 -- lines that stay a log over the formula, and learn nothing
 abbrev pub IsLogOf : Start → List LogLine → Type 0

@@ -135,8 +135,7 @@ fn find_parents(
     requires place { HasPlace (length simplifier.old.occurrences) pivot }
     requires rows { AreRows simplifier.old.occurrences store.now.slots }
     requires placed { ArePlaced (length simplifier.old.marks) store.now.slots }
-    ensures simplified { KeepsForm simplifier.old simplifier.new store.now.slots }
-    ensures refuted { simplifier.new.is_refuted ≡ simplifier.old.is_refuted }
+    ensures form { KeepsForm simplifier.old simplifier.new store.now.slots }
     ensures positive { IfOk result (λ good. good ≡ true
         → AreThoseWith pivot store.now.slots parents.new.positive.items) }
     ensures negative { IfOk result (λ good. good ≡ true
@@ -168,8 +167,7 @@ fn gather(
     requires rows { AreRows simplifier.old.occurrences store.now.slots }
     ensures gathered { IfOk result (λ _. AreThoseWith lit store.now.slots references.new.items) }
     ensures rows { AreRows simplifier.new.occurrences store.now.slots }
-    ensures simplified { KeepsForm simplifier.old simplifier.new store.now.slots }
-    ensures refuted { simplifier.new.is_refuted ≡ simplifier.old.is_refuted }
+    ensures form { KeepsForm simplifier.old simplifier.new store.now.slots }
     ensures marks { length simplifier.new.marks ≡ length simplifier.old.marks }
     ensures places { length simplifier.new.occurrences ≡ length simplifier.old.occurrences }
 {

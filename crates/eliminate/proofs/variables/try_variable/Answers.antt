@@ -76,11 +76,11 @@ pub returns-in_err-add_resolvents : goal.returns-in_err-add_resolvents
 returns-in_err-add_resolvents g c =
     MatchResult-from_err _ _ _ c.from_residual-in_err-add_resolvents.ensures.0
     (λ _ start same h. c.in_err-add_resolvents.ensures.passes start
-    (c.find_parents.ensures.simplified (g.S.Sink.lines c.args.sink.now) start h))
+    (c.find_parents.ensures.form.stays (g.S.Sink.lines c.args.sink.now) start h))
 
 pub returns-in_err-remove_variable : goal.returns-in_err-remove_variable
 returns-in_err-remove_variable g c =
     MatchResult-from_err _ _ _ c.from_residual-in_err-remove_variable.ensures.0
     (λ _ start same h. c.in_err-remove_variable.ensures start same
     (c.in_ok-add_resolvents.ensures.passes start
-    (c.find_parents.ensures.simplified (g.S.Sink.lines c.args.sink.now) start h)))
+    (c.find_parents.ensures.form.stays (g.S.Sink.lines c.args.sink.now) start h)))
