@@ -7,9 +7,6 @@ source "$(dirname "$0")/../lib"
 allowed() {
     cat << 'ROWS'
 row_at row_at: rows of other tables, by the place of a clause and by a literal; the crates share none that has rows
-without_variable: nothing names it; it goes with the next change of eliminate
-eliminations_back: nothing names it; it goes with the next change of eliminate
-live_test: nothing names it; it goes with the next change of eliminate_tables
 ROWS
 }
 

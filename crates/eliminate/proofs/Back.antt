@@ -151,18 +151,6 @@ removed_back t r have resolved =
       | false ↦ λ e. not_needed_back t r have e
     ] refl
 
--- a clause without the variable is as true as before
-pub without_variable : (t : Assignment) (v : ℕ) (b : Bool) (c : List Literal)
-    → list_any (λ l. v == l.variable) c ≡ false
-    → clause_value (made_true t (valued v b)) c ≡ clause_value t c
-without_variable t v b [] e = refl
-without_variable t v b (k ∷ c) e =
-    let h = or_parts (v == k.variable) (list_any (λ l. v == l.variable) c) e in
-    let same : literal_value (made_true t (valued v b)) k ≡ literal_value t k =
-    ap (λ x. if k.negated then not (if x then not (not b) else t k.variable)
-    else (if x then not (not b) else t k.variable)) h.0 in
-    rw (same, without_variable t v b c h.1) refl
-
 -- setting a bit makes the literal true
 pub set_bit : (bits : List Bool) (v : ℕ) (b : Bool) → 0 < v → v ≤ length bits → (u : ℕ)
     → assignment_of (slice_set bits (v - 1) b) u ≡ made_true (assignment_of bits) (valued v b) u
@@ -262,22 +250,6 @@ pub extended-value : (r : Removed) (rs : List Removed) (bits : List Bool) → 0 
 extended-value r rs bits some few =
     set_bits (extended rs bits) r.variable (becomes_true (assignment_of (extended rs bits)) r) some
     (omega (arith, length-extended rs bits))
-
--- one elimination after another leads from the clauses before to those after
-abbrev pub AreEliminations : ℕ → List Removed → List (List Literal) → List (List Literal) → Type 0
-AreEliminations n [] before after = All (Entails after) before
-AreEliminations n (r ∷ rs) before after = (mid : List (List Literal)) × (r.variable ≤ n)
-    × IsElimination r before mid × AreEliminations n rs mid after
-
--- the whole stack
-pub eliminations_back : (n : ℕ) (rs : List Removed) (before after : List (List Literal))
-    → AreEliminations n rs before after → GivesBack n rs before after
-eliminations_back n [] before after e bits few all = λ k z lt. e k z lt (assignment_of bits) all
-eliminations_back n (r ∷ rs) before after e bits few all =
-    subst (λ (t : Assignment). SatisfiesAll t before)
-    (sym (extended-value r rs bits e.2.from_one (omega (arith, e.1))))
-    (elimination_back (assignment_of (extended rs bits)) r before e.0 e.2
-    (eliminations_back n rs e.0 after e.3 bits few all))
 
 pub extends_weaker : (n : ℕ) (rs : List Removed) (before mid after : List (List Literal))
     → GivesBack n rs before mid → All (Entails after) mid → GivesBack n rs before after

@@ -9,7 +9,7 @@ use Rattle.clauses.specs.Slots.{Slots, live_clauses}
 use Rattle.lrat_log.specs.Log.{LogLine}
 use Rattle.lrat_log.specs.Steps.{given_of}
 use Rattle.eliminate_names.specs.Work.{NamesState}
-use Rattle.eliminate_pairs.specs.Pairs.{Stage, Ground, IsStage, Keeps, KeepsLog, stage_of}
+use Rattle.eliminate_pairs.specs.Pairs.{Stage, Ground, IsStage, Passes, stage_of}
 use Rattle.eliminate.specs.declared.simplifier.Simplifier.{Simplifier}
 use Rattle.eliminate.specs.Elimination.{Removed, is_eliminated, IsRemovedWithin}
 use Rattle.eliminate.specs.Ending.{IsResult}
@@ -69,21 +69,21 @@ stage_result start s slots lines t h more k fresh = record {
 -- where the pairs were done
 pub ended : {E : Type 0} (r : Result ℕ E) (frozen : List Bool) (s : Simplifier)
     (slots slots' : Slots) (n' : NamesState) (lines lines' : List LogLine) → s.is_refuted ≡ false
-    → IfOk r (λ v. s.vars ≤ v) → IfOk r (λ v. v ≤ length frozen + 2 ^ 20)
-    → IfOk r (λ v. Keeps (stage_of s.vars slots s.names lines) (stage_of v slots' n' lines'))
+    → Passes r (stage_of s.vars slots s.names lines) (length frozen + 2 ^ 20) slots' n' lines'
     → IfOk r (λ v. (start : Start) → start.frozen ≡ frozen → IsSimplified start s slots lines
     → IsResult start s.removals (stage_of v slots' n' lines'))
-ended (Ok v) frozen s slots slots' n' lines lines' running more most keeps = λ start is h.
+ended (Ok v) frozen s slots slots' n' lines lines' running done = λ start is h.
     let same : length start.frozen ≡ length frozen = ap length is in
-    stage_result start s slots lines (stage_of v slots' n' lines') h more
-    (keeps (ground_of start s slots) (open_stage start s slots lines h running)) (omega arith)
-ended (Err x) frozen s slots slots' n' lines lines' running more most keeps = tt
+    stage_result start s slots lines (stage_of v slots' n' lines') h done.more
+    (done.keeps (ground_of start s slots) (open_stage start s slots lines h running))
+    (omega (arith, done.most))
+ended (Err x) frozen s slots slots' n' lines lines' running done = tt
 
-pub refused : {T E : Type 0} (r : Result T E) (frozen : List Bool) (s : Simplifier) (slots : Slots)
-    (lines lines' : List LogLine) → s.is_refuted ≡ false
-    → OnErr r (KeepsLog (stage_of s.vars slots s.names lines) lines')
+pub refused : {E : Type 0} (r : Result ℕ E) (frozen : List Bool) (s : Simplifier)
+    (slots slots' : Slots) (n' : NamesState) (lines lines' : List LogLine) → s.is_refuted ≡ false
+    → Passes r (stage_of s.vars slots s.names lines) (length frozen + 2 ^ 20) slots' n' lines'
     → OnErr r (LeavesLogOver frozen s slots lines lines')
-refused (Ok v) frozen s slots lines lines' running k = tt
-refused (Err e) frozen s slots lines lines' running k = λ start is h.
-    let log = k (ground_of start s slots) (open_stage start s slots lines h running) in
+refused (Ok v) frozen s slots slots' n' lines lines' running done = tt
+refused (Err e) frozen s slots slots' n' lines lines' running done = λ start is h.
+    let log = done.log (ground_of start s slots) (open_stage start s slots lines h running) in
     (log.steps, log.none_learned)

@@ -22,8 +22,13 @@ module _ (u : Units) (s : Simplifier) (slots : Slots) (ls : List LogLine) where
     pub still_propagating : IsPropagating u s slots ls → t.is_refuted ≡ false
         → IsPropagating v t mid more
     still_propagating p going = record {
-      simplified = (p.simplified.0, first.simplified p.simplified.0 p.simplified.1);
-      going = going;
+      is_open = record {
+        simplified = (
+          p.is_open.simplified.0,
+          first.simplified p.is_open.simplified.0 p.is_open.simplified.1,
+        );
+        going = going;
+      };
       units = (first.units going).units;
       fits = (first.units going).rows ∙ p.fits ∙ sym first.vars;
     }

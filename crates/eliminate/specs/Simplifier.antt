@@ -1,7 +1,7 @@
 -- What a simplifier's tables say of the store and the log: that together they are a simplified form
 -- of some formula.
 use Rattle.std.specs.Prelude.{◌≡◌, ℕ, ◌*◌, ◌+◌, ◌<◌, ◌≤◌, ◌^◌, true, false, List, [], length}
-use Rattle.std.specs.Prelude.{Some, All, Contains}
+use Rattle.std.specs.Prelude.{Some, All, Contains, Result, MatchResult}
 use Rattle.cnf.specs.Literal.{Literal}
 use Rattle.cnf.specs.Formula.{IsFormulaClause}
 use Rattle.clauses.specs.Slots.{Slots, clause_at, live_clauses}
@@ -30,11 +30,21 @@ pub record IsSimplified (start : Start) (s : Simplifier) (slots : Slots) (lines 
 abbrev pub IsSimplifier : Simplifier → Slots → List LogLine → Type 0
 IsSimplifier s slots lines = (start : Start) × IsSimplified start s slots lines
 
+-- and the empty clause was not added
+pub record IsOpen (s : Simplifier) (slots : Slots) (lines : List LogLine) : Type 0 where
+  pub simplified : IsSimplifier s slots lines
+  pub going : s.is_refuted ≡ false
+
 -- a simplified form of a formula stays one of it
 abbrev pub StaysSimplified : Simplifier → Slots → List LogLine → Simplifier → Slots → List LogLine
     → Type 0
 StaysSimplified s slots lines t left more = (start : Start) → IsSimplified start s slots lines
     → IsSimplified start t left more
+
+-- so do other tables, whatever the lines are, and they say the same of the empty clause
+pub record KeepsForm (s t : Simplifier) (slots : Slots) : Type 0 where
+  pub stays : (lines : List LogLine) → StaysSimplified s slots lines t slots lines
+  pub refuted : t.is_refuted ≡ s.is_refuted
 
 -- lines that stay a log over the formula, and learn nothing
 abbrev pub IsLogOf : Start → List LogLine → Type 0
@@ -45,6 +55,13 @@ IsLogOf start lines = StaysLogOver (length start.frozen) (given_of start.clauses
 abbrev pub LeavesLog : Simplifier → Slots → List LogLine → List LogLine → Type 0
 LeavesLog s slots lines more = (start : Start) → IsSimplified start s slots lines
     → IsLogOf start more
+
+-- what a pass leaves: a simplified form, and after an error such lines
+abbrev pub Passes : {T E : Type 0} → Result T E → Simplifier → Slots → List LogLine → Simplifier
+    → Slots → List LogLine → Type 0
+Passes result s slots lines t left more =
+    MatchResult result (λ _. StaysSimplified s slots lines t left more)
+    (λ _. LeavesLog s slots lines more)
 
 -- a line that may be added
 pub record IsAddableLine (start : Start) (s : Simplifier) (lines : List LogLine) (l : LogLine) :

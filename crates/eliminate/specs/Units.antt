@@ -1,5 +1,6 @@
 -- Literals that clauses of one literal make true.
-use Rattle.std.specs.Prelude.{◌≡◌, ℕ, ◌+◌, ◌-◌, ◌*◌, ◌<◌, ◌≤◌, true, false, List, [], ◌∷◌, ◌++◌}
+use Rattle.std.specs.Prelude.{◌≡◌, ℕ, ◌+◌, ◌-◌, ◌*◌, ◌<◌, ◌≤◌, Bool, true, false, List, []}
+use Rattle.std.specs.Prelude.{◌∷◌, ◌++◌, Result, MatchResult}
 use Rattle.std.specs.Prelude.{length, map, filter, Option, Some, None, slice_index_or, unwrap_or}
 use Rattle.std.specs.Prelude.{sum_by, if◌then◌else◌}
 use Rattle.cnf.specs.Literal.{Literal, negation}
@@ -15,7 +16,7 @@ use Rattle.eliminate.specs.declared.simplifier.Simplifier.{Simplifier}
 use Rattle.eliminate.specs.declared.units.Units.{Units}
 use Rattle.eliminate.specs.declared.units.Status.{Status}
 use Rattle.eliminate.specs.declared.units.Status.TheVariants.{Settled, Unit, Falsified}
-use Rattle.eliminate.specs.Simplifier.{IsSimplifier, StaysSimplified, Grows}
+use Rattle.eliminate.specs.Simplifier.{IsOpen, StaysSimplified, LeavesLog, Grows}
 use Rattle.eliminate_names.specs.Work.{name_at}
 
 -- with the literals of A true, the clause is neither false nor unit
@@ -26,6 +27,11 @@ abbrev pub HasStatus : List Literal → List Literal → Status → Type 0
 HasStatus A c Settled = IsSettled A c
 HasStatus A c (Unit l) = IsUnit c A l
 HasStatus A c Falsified = IsFalseUnder c A
+
+-- so for the clause at a place
+abbrev pub HasStatusAt : Units → Slots → ℕ → Status → Type 0
+HasStatusAt u slots place status = (c : List Literal) → clause_at slots place ≡ Some c
+    → HasStatus u.trail.items c status
 
 -- no clause of the store is false or unit
 abbrev pub AreSettled : List Literal → Slots → Type 0
@@ -77,8 +83,7 @@ pub record MakesTrue (u : Units) (slots : Slots) (v : Units) (left : Slots) : Ty
 -- a simplified form without the empty clause, and literals that its clauses make true
 pub record IsPropagating (u : Units) (s : Simplifier) (slots : Slots) (lines : List LogLine) :
     Type 0 where
-  pub simplified : IsSimplifier s slots lines
-  pub going : s.is_refuted ≡ false
+  pub is_open : IsOpen s slots lines
   pub units : AreUnits u slots
   pub fits : length u.clauses.items ≡ s.vars
 
@@ -89,7 +94,18 @@ pub record Propagates (u : Units) (s : Simplifier) (slots : Slots) (lines : List
   pub vars : t.vars ≡ s.vars
   pub units : t.is_refuted ≡ false → MakesTrue u slots v left
 
+-- what a move of propagation leaves, and after an error the lines of a log
+abbrev pub Moves : {T E : Type 0} → Result T E → Units → Simplifier → Slots → List LogLine → Units
+    → Simplifier → Slots → List LogLine → Type 0
+Moves result u s slots lines v t left more =
+    MatchResult result (λ _. Propagates u s slots lines v t left more)
+    (λ _. LeavesLog s slots lines more)
+
+-- where something was found, more literals are true, unless the empty clause was added
+abbrev pub MakesProgress : Units → Simplifier → Units → Bool → Type 0
+MakesProgress u t v found = found ≡ true → t.is_refuted ≡ false → open_count v < open_count u
+
 -- the clause at a place is settled, and nothing changed
 abbrev pub AsksNothing : Units → Slots → ℕ → Units → Simplifier → Slots → Type 0
 AsksNothing u slots place v t left = (t.is_refuted ≡ false) × (v ≡ u) × (left ≡ slots)
-    × ((c : List Literal) → clause_at slots place ≡ Some c → IsSettled u.trail.items c)
+    × HasStatusAt u slots place Settled

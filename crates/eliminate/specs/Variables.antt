@@ -1,6 +1,6 @@
 -- One variable goes: its clauses are found, their resolvents are added, and then they are deleted.
 use Rattle.std.specs.Prelude.{◌≡◌, ℕ, Bool, true, false, List, length, Some, ◌⊎◌, All}
-use Rattle.std.specs.Prelude.{Contains}
+use Rattle.std.specs.Prelude.{Contains, Result, MatchResult}
 use Rattle.cnf.specs.Literal.{Literal, negation}
 use Rattle.cnf.specs.Clause.{contains_literal, has_opposites}
 use Rattle.clauses.specs.Slots.{Slots, clause_at}
@@ -18,6 +18,12 @@ abbrev pub IsSimplifierOver : List Bool → Simplifier → Slots → List LogLin
 IsSimplifierOver frozen s slots lines = (start : Start) × (start.frozen ≡ frozen)
     × IsSimplified start s slots lines
 
+-- and the empty clause was not added
+pub record IsOpenOver (frozen : List Bool) (s : Simplifier) (slots : Slots)
+    (lines : List LogLine) : Type 0 where
+  pub simplified : IsSimplifierOver frozen s slots lines
+  pub going : s.is_refuted ≡ false
+
 abbrev pub StaysOver : List Bool → Simplifier → Slots → List LogLine → Simplifier → Slots
     → List LogLine → Type 0
 StaysOver frozen s slots lines t left more = (start : Start) → start.frozen ≡ frozen
@@ -26,6 +32,13 @@ StaysOver frozen s slots lines t left more = (start : Start) → start.frozen �
 abbrev pub LeavesLogOver : List Bool → Simplifier → Slots → List LogLine → List LogLine → Type 0
 LeavesLogOver frozen s slots lines more = (start : Start) → start.frozen ≡ frozen
     → IsSimplified start s slots lines → IsLogOf start more
+
+-- what a pass over a formula with these frozen variables leaves
+abbrev pub PassesOver : {T E : Type 0} → List Bool → Result T E → Simplifier → Slots
+    → List LogLine → Simplifier → Slots → List LogLine → Type 0
+PassesOver frozen result s slots lines t left more =
+    MatchResult result (λ _. StaysOver frozen s slots lines t left more)
+    (λ _. LeavesLogOver frozen s slots lines more)
 
 -- the reference is that of a live clause with the literal
 abbrev pub IsWith : Literal → Slots → ℕ → Type 0

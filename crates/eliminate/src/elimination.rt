@@ -1,11 +1,10 @@
 // Elimination, and the way back.
-ghost use Rattle.std.specs.Prelude.{◌≡◌, ℕ, ◌+◌, ◌-◌, ◌<◌, ◌≤◌, ◌^◌, true, false, []};
-ghost use Rattle.std.specs.Prelude.{length, map, Some, slice_get, All, Contains, IfOk, OnOk, OnErr};
+ghost use Rattle.std.specs.Prelude.{◌≡◌, ℕ, ◌+◌, ◌-◌, ◌<◌, ◌≤◌, ◌^◌, false, []};
+ghost use Rattle.std.specs.Prelude.{length, map, Some, slice_get, All, Contains, IfOk, OnOk};
 ghost use Rattle.cnf.specs.Formula.{IsFormula, IsFormulaClause};
 ghost use Rattle.cnf.specs.Refute.{IsRefutedByHints};
 ghost use Rattle.clauses.specs.Slots.{live_clauses};
 ghost use Rattle.lrat_log.specs.Steps.{StaysLogOver, IsBaseOf, learned_count, log_live, given_of};
-ghost use Rattle.eliminate.specs.Variables.{IsSimplifierOver, StaysOver, LeavesLogOver};
 ghost use Rattle.eliminate.specs.Elimination.{extended, is_eliminated, IsFree, AreFreeOf};
 ghost use Rattle.eliminate.specs.Elimination.{ExtendsBack, HoldsWhatIsLive, AreMoved};
 
@@ -119,7 +118,7 @@ pub fn eliminate<S: Sink>(
 {
     let mut simplifier = Simplifier::new(store.allocator(), store, frozen.len() as u32)?;
     propagate_units(&mut simplifier, store, sink)?;
-    simplify_open(&mut simplifier, store, frozen, sink)?;
+    simplify(&mut simplifier, store, frozen, sink)?;
     let vars = define_where_open(&mut simplifier, store, frozen, sink)?;
     let names = move_together(store, &simplifier.names)?;
     Ok(Stack {
@@ -127,29 +126,6 @@ pub fn eliminate<S: Sink>(
         removed: simplifier.removals,
         names,
     })
-}
-
-/// Subsumes, strengthens and eliminates, unless the empty clause was added.
-fn simplify_open<S: Sink>(
-    simplifier: &mut Simplifier,
-    store: &mut Store,
-    frozen: &[bool],
-    sink: &mut S,
-) -> Result<(), AllocError>
-    requires { IsSimplifierOver frozen.now simplifier.old store.old.slots (S.lines sink.old) }
-    ensures simplified { IfOk result (λ _.
-        StaysOver frozen.now simplifier.old store.old.slots (S.lines sink.old)
-        simplifier.new store.new.slots (S.lines sink.new)) }
-    ensures refuted { IfOk result (λ _. simplifier.old.is_refuted ≡ true
-        → simplifier.new.is_refuted ≡ true) }
-    ensures err { OnErr result (LeavesLogOver frozen.now simplifier.old store.old.slots
-        (S.lines sink.old) (S.lines sink.new)) }
-{
-    if simplifier.is_refuted {
-        return Ok(());
-    }
-    simplify(simplifier, store, frozen, sink)?;
-    Ok(())
 }
 
 /// Moves the clauses that are left together, and lists each with its name, in rising order.

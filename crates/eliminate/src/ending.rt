@@ -1,5 +1,5 @@
 // The last pass: fresh variables for pairs. It needs the names of the clauses, and no other table.
-ghost use Rattle.std.specs.Prelude.{◌≡◌, ◌+◌, ◌≤◌, ◌^◌, true, length, IfOk, OnErr, OnOk};
+ghost use Rattle.std.specs.Prelude.{◌≡◌, ◌+◌, true, IfOk, OnErr, OnOk};
 ghost use Rattle.eliminate.specs.State.{Start};
 ghost use Rattle.eliminate.specs.Simplifier.{IsSimplified};
 ghost use Rattle.eliminate.specs.Variables.{IsSimplifierOver, LeavesLogOver};
@@ -40,13 +40,12 @@ pub(crate) fn define_where_open<S: Sink>(
     frozen: &[bool],
     sink: &mut S,
 ) -> Result<u32, AllocError>
-    requires simplified { IsSimplifierOver frozen.now simplifier.old store.old.slots
-        (S.lines sink.old) }
+    requires { IsSimplifierOver frozen.now simplifier.old store.old.slots (S.lines sink.old) }
     ensures result { IfOk result (λ v. (start : Start) → start.frozen ≡ frozen.now
         → IsSimplified start simplifier.old store.old.slots (S.lines sink.old)
         → IsResult start simplifier.new.removals
         (stage_of v store.new.slots simplifier.new.names (S.lines sink.new))) }
-    ensures same { OnOk result (simplifier.old.is_refuted ≡ true
+    ensures refuted { OnOk result (simplifier.old.is_refuted ≡ true
         → store.new.slots ≡ store.old.slots) }
     ensures err { OnErr result (LeavesLogOver frozen.now simplifier.old store.old.slots
         (S.lines sink.old) (S.lines sink.new)) }

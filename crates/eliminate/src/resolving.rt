@@ -1,11 +1,11 @@
 // Resolvents that are added to the store, each with its line.
 ghost use Rattle.std.specs.Prelude.{◌≡◌, ◌<◌, List, [], ◌∷◌, false, length};
-ghost use Rattle.std.specs.Prelude.{IfOk, OnErr, IfSome, Some, None, if◌then◌else◌};
+ghost use Rattle.std.specs.Prelude.{IfOk, IfSome, Some, None, if◌then◌else◌};
 ghost use Rattle.cnf.specs.Literal.{Literal, negation};
 ghost use Rattle.clauses.specs.Slots.{clause_at};
 ghost use Rattle.lrat_log.specs.Steps.{is_empty_clause};
 ghost use Rattle.eliminate_tables.specs.Resolvents.{resolvent};
-ghost use Rattle.eliminate.specs.Simplifier.{IsSimplifier, StaysSimplified, LeavesLog};
+ghost use Rattle.eliminate.specs.Simplifier.{IsOpen, Passes};
 ghost use Rattle.eliminate.specs.Variables.{IsWith, GrowsWithout, IsPairResolved};
 ghost use Rattle.eliminate_names.specs.Work.{name_at};
 
@@ -28,13 +28,11 @@ pub(crate) fn add_resolvent<S: Sink>(
     first: CRef,
     second: CRef,
 ) -> Result<Option<CRef>, AllocError>
-    requires simplified { IsSimplifier simplifier.old store.old.slots (S.lines sink.old) }
-    requires going { simplifier.old.is_refuted ≡ false }
+    requires is_open { IsOpen simplifier.old store.old.slots (S.lines sink.old) }
     requires first { IsWith pivot store.old.slots first }
     requires second { IsWith (negation pivot) store.old.slots second }
-    ensures simplified { IfOk result (λ _.
-        StaysSimplified simplifier.old store.old.slots (S.lines sink.old)
-        simplifier.new store.new.slots (S.lines sink.new)) }
+    ensures passes { Passes result simplifier.old store.old.slots (S.lines sink.old)
+        simplifier.new store.new.slots (S.lines sink.new) }
     ensures grows { IfOk result (λ _. GrowsWithout pivot store.old.slots store.new.slots) }
     ensures resolved { IfOk result (λ _.
         IsPairResolved pivot store.old.slots store.new.slots first second) }
@@ -43,8 +41,6 @@ pub(crate) fn add_resolvent<S: Sink>(
         → clause_at store.old.slots second ≡ Some d
         → clause_at store.new.slots r ≡ Some (resolvent pivot c d)))) }
     ensures none { IfOk result (λ added. added ≡ None → simplifier.new.is_refuted ≡ false) }
-    ensures err { OnErr result (LeavesLog simplifier.old store.old.slots (S.lines sink.old)
-        (S.lines sink.new)) }
 {
     let is_plain = resolve(
         &mut simplifier.marks,

@@ -1,6 +1,6 @@
 // Rounds of subsumption and elimination: what one changes may let the other go on.
-ghost use Rattle.std.specs.Prelude.{IfOk, OnErr};
-ghost use Rattle.eliminate.specs.Variables.{IsSimplifierOver, StaysOver, LeavesLogOver};
+ghost use Rattle.std.specs.Prelude.{◌≡◌, true, OnOk};
+ghost use Rattle.eliminate.specs.Variables.{IsSimplifierOver, PassesOver};
 
 use crate::simplifier::Simplifier;
 use crate::subsuming::subsume;
@@ -20,11 +20,10 @@ pub(crate) fn simplify<S: Sink>(
     sink: &mut S,
 ) -> Result<(), AllocError>
     requires { IsSimplifierOver frozen.now simplifier.old store.old.slots (S.lines sink.old) }
-    ensures simplified { IfOk result (λ _.
-        StaysOver frozen.now simplifier.old store.old.slots (S.lines sink.old)
-        simplifier.new store.new.slots (S.lines sink.new)) }
-    ensures err { OnErr result (LeavesLogOver frozen.now simplifier.old store.old.slots
-        (S.lines sink.old) (S.lines sink.new)) }
+    ensures passes { PassesOver frozen.now result simplifier.old store.old.slots (S.lines sink.old)
+        simplifier.new store.new.slots (S.lines sink.new) }
+    ensures refuted { OnOk result (simplifier.old.is_refuted ≡ true
+        → simplifier.new.is_refuted ≡ true) }
 {
     for _round in 0..MOST_ROUNDS {
         if simplifier.is_refuted {

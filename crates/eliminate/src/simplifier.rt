@@ -1,15 +1,14 @@
 // What preprocessing keeps beside the store and the log. Names, occurrences and removals are what
 // its proof rests on; the schedule only says where work may be worthwhile.
-ghost use Rattle.std.specs.Prelude.{◌≡◌, ◌<◌, List, [], ◌∷◌, ◌++◌, Bool, true, false, length};
-ghost use Rattle.std.specs.Prelude.{IfOk, IfSome, OnErr, Some, None, slice_set};
-ghost use Rattle.cnf.specs.Literal.{Literal};
-ghost use Rattle.cnf.specs.Clause.{is_subset};
+ghost use Rattle.std.specs.Prelude.{◌≡◌, ◌<◌, List, [], ◌∷◌, ◌++◌, Bool, false, length};
+ghost use Rattle.std.specs.Prelude.{IfOk, OnOk, IfSome, OnErr, Some, None, slice_set};
 ghost use Rattle.cnf.specs.Formula.{IsFormula};
-ghost use Rattle.clauses.specs.Slots.{IsLive, clause_at, live_clauses};
+ghost use Rattle.clauses.specs.Slots.{IsLive, live_clauses};
 ghost use Rattle.lrat_log.specs.Steps.{is_empty_clause};
+ghost use Rattle.subsume.specs.declared.against.Against.TheVariants.{Within};
 ghost use Rattle.eliminate.specs.State.{Start};
-ghost use Rattle.eliminate.specs.Simplifier.{IsSimplified, IsSimplifier, StaysSimplified};
-ghost use Rattle.eliminate.specs.Simplifier.{LeavesLog, IsAddableLine};
+ghost use Rattle.eliminate.specs.Simplifier.{IsSimplified, IsOpen, Passes, IsAddableLine};
+ghost use Rattle.eliminate.specs.Subsuming.{AreBeside};
 
 use clauses::store::{CRef, Store};
 use cnf::marks::Marks;
@@ -101,14 +100,8 @@ impl Simplifier {
             return None;
         }
         match self.occurrences.get(lit.index()).get(at) {
-            Some(reference) => {
-                if store.is_live(*reference) {
-                    Some(*reference)
-                } else {
-                    None
-                }
-            }
-            None => None,
+            Some(reference) if store.is_live(*reference) => Some(*reference),
+            _ => None,
         }
     }
 
@@ -120,8 +113,7 @@ impl Simplifier {
         kind: Kind,
         hints: Vec<Hint>,
     ) -> Result<CRef, AllocError>
-        requires simplified { IsSimplifier self.old store.old.slots (S.lines sink.old) }
-        requires going { self.old.is_refuted ≡ false }
+        requires is_open { IsOpen self.old store.old.slots (S.lines sink.old) }
         requires line { (start : Start)
             → IsSimplified start self.old store.old.slots (S.lines sink.old)
             → IsAddableLine start self.old (S.lines sink.old) (record {
@@ -132,15 +124,12 @@ impl Simplifier {
         ensures reference { IfOk result (λ r. r ≡ length store.old.slots) }
         ensures slots { IfOk result (λ _.
             store.new.slots ≡ store.old.slots ++ Some self.old.clause.items ∷ []) }
-        ensures simplified { IfOk result (λ _.
-            StaysSimplified self.old store.old.slots (S.lines sink.old) self.new store.new.slots
-            (S.lines sink.new)) }
+        ensures passes { Passes result self.old store.old.slots (S.lines sink.old)
+            self.new store.new.slots (S.lines sink.new) }
         ensures refuted { IfOk result (λ _.
             self.new.is_refuted ≡ is_empty_clause self.old.clause.items) }
-        ensures same { IfOk result (λ _. (self.new.vars ≡ self.old.vars)
-            × (self.new.removals ≡ self.old.removals)) }
-        ensures err { OnErr result (LeavesLog self.old store.old.slots (S.lines sink.old)
-            (S.lines sink.new)) }
+        ensures vars { OnOk result (self.new.vars ≡ self.old.vars) }
+        ensures removals { OnOk result (self.new.removals ≡ self.old.removals) }
     {
         sink.is_short();
         let mut lits = Vec::with_capacity(store.allocator(), self.clause.len())?;
@@ -160,21 +149,18 @@ impl Simplifier {
         reference: CRef,
         by: CRef,
     ) -> Result<(), AllocError>
-        requires simplified { IsSimplifier self.old store.old.slots (S.lines sink.old) }
-        requires going { self.old.is_refuted ≡ false }
+        requires is_open { IsOpen self.old store.old.slots (S.lines sink.old) }
         requires other { by ≡ reference → ⊥ }
         requires live { IsLive store.old.slots reference }
         requires live_too { IsLive store.old.slots by }
-        requires subset { (c d : List Literal) → clause_at store.old.slots by ≡ Some c
-            → clause_at store.old.slots reference ≡ Some d → is_subset c d ≡ true }
+        requires subset { AreBeside store.old.slots by reference Within }
         ensures slots { IfOk result (λ _.
             store.new.slots ≡ slice_set store.old.slots reference None) }
-        ensures simplified { IfOk result (λ _.
-            StaysSimplified self.old store.old.slots (S.lines sink.old) self.new store.new.slots
-            (S.lines sink.new)) }
+        ensures passes { Passes result self.old store.old.slots (S.lines sink.old)
+            self.new store.new.slots (S.lines sink.new) }
         ensures going { IfOk result (λ _. self.new.is_refuted ≡ false) }
-        ensures same { IfOk result (λ _. (self.new.vars ≡ self.old.vars)
-            × (self.new.removals ≡ self.old.removals)) }
+        ensures vars { OnOk result (self.new.vars ≡ self.old.vars) }
+        ensures removals { OnOk result (self.new.removals ≡ self.old.removals) }
         ensures err { OnErr result (S.lines sink.new ≡ S.lines sink.old) }
     {
         let _ = by;

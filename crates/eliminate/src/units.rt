@@ -3,17 +3,18 @@
 // only once a count says that at most one of its literals may be open, so that all visits together
 // are linear in the literals of the formula. Nothing rests on the counts: the last sweep finds no
 // clause that is false or unit.
-ghost use Rattle.std.specs.Prelude.{◌≡◌, ℕ, ◌+◌, ◌*◌, ◌<◌, ◌≤◌, ◌∷◌, ◌++◌, [], true, false, List};
-ghost use Rattle.std.specs.Prelude.{length, replicate, Some, None, IfOk, OnErr};
+ghost use Rattle.std.specs.Prelude.{◌≡◌, ◌+◌, ◌*◌, ◌<◌, ◌∷◌, [], true, false, List};
+ghost use Rattle.std.specs.Prelude.{length, replicate, Some, None, IfOk, OnOk};
 ghost use Rattle.cnf.specs.Literal.{Literal, negation};
 ghost use Rattle.cnf.specs.Clause.{contains_literal};
-ghost use Rattle.cnf.specs.Refute.{IsUnit, IsFalseUnder, IsRefutedByHints};
+ghost use Rattle.cnf.specs.Refute.{IsRefutedByHints};
 ghost use Rattle.clauses.specs.Slots.{IsLive, clause_at, live_clauses};
 ghost use Rattle.cnf.specs.Marks.{HasPlace};
 ghost use Rattle.eliminate_names.specs.Work.{AreClauses};
-ghost use Rattle.eliminate.specs.Simplifier.{IsSimplifier, StaysSimplified, LeavesLog, Grows};
-ghost use Rattle.eliminate.specs.Units.{HasStatus, AreUnits, AreSettled, unit_hints, open_count};
-ghost use Rattle.eliminate.specs.Units.{MakesTrue, IsPropagating, Propagates, AsksNothing};
+ghost use Rattle.eliminate.specs.Simplifier.{IsOpen, Passes, Grows};
+ghost use Rattle.eliminate.specs.Units.{HasStatusAt, AreUnits, AreSettled, unit_hints, open_count};
+ghost use Rattle.eliminate.specs.Units.{MakesTrue, IsPropagating, Moves, MakesProgress};
+ghost use Rattle.eliminate.specs.Units.{AsksNothing};
 
 use crate::simplifier::Simplifier;
 use clauses::store::{CRef, MaybeCRef, Store};
@@ -90,8 +91,7 @@ impl Units {
         requires units { AreUnits self.now store.now.slots }
         requires clauses { AreClauses (length self.now.clauses.items) store.now.slots }
         requires live { IsLive store.now.slots reference }
-        ensures { (c : List Literal) → clause_at store.now.slots reference ≡ Some c
-            → HasStatus self.now.trail.items c result }
+        ensures { HasStatusAt self.now store.now.slots reference result }
     {
         let mut found = Status::Falsified;
         for lit in store.lits(reference) {
@@ -145,17 +145,13 @@ impl Units {
         requires propagating { IsPropagating self.now simplifier.old store.old.slots
             (S.lines sink.old) }
         requires live { IsLive store.old.slots reference }
-        requires unit { (c : List Literal) → clause_at store.old.slots reference ≡ Some c
-            → IsUnit c self.now.trail.items lit }
+        requires unit { HasStatusAt self.now store.old.slots reference (Status.Unit lit) }
         ensures alone { IfOk result (λ r. clause_at store.new.slots r ≡ Some (lit ∷ [])) }
         ensures grows { IfOk result (λ _. Grows store.old.slots store.new.slots) }
-        ensures simplified { IfOk result (λ _.
-            StaysSimplified simplifier.old store.old.slots (S.lines sink.old)
-            simplifier.new store.new.slots (S.lines sink.new)) }
-        ensures going { IfOk result (λ _. (simplifier.new.is_refuted ≡ false)
-            × (simplifier.new.vars ≡ simplifier.old.vars)) }
-        ensures err { OnErr result (LeavesLog simplifier.old store.old.slots (S.lines sink.old)
-            (S.lines sink.new)) }
+        ensures passes { Passes result simplifier.old store.old.slots (S.lines sink.old)
+            simplifier.new store.new.slots (S.lines sink.new) }
+        ensures going { OnOk result (simplifier.new.is_refuted ≡ false) }
+        ensures vars { OnOk result (simplifier.new.vars ≡ simplifier.old.vars) }
     {
         if store.lits(reference).len() == 1 {
             return Ok(reference);
@@ -178,15 +174,11 @@ impl Units {
         requires propagating { IsPropagating self.now simplifier.old store.old.slots
             (S.lines sink.old) }
         requires live { IsLive store.old.slots reference }
-        requires falsified { (c : List Literal) → clause_at store.old.slots reference ≡ Some c
-            → IsFalseUnder c self.now.trail.items }
-        ensures simplified { IfOk result (λ _.
-            StaysSimplified simplifier.old store.old.slots (S.lines sink.old)
-            simplifier.new store.new.slots (S.lines sink.new)) }
-        ensures refuted { IfOk result (λ _. (simplifier.new.is_refuted ≡ true)
-            × (simplifier.new.vars ≡ simplifier.old.vars)) }
-        ensures err { OnErr result (LeavesLog simplifier.old store.old.slots (S.lines sink.old)
-            (S.lines sink.new)) }
+        requires falsified { HasStatusAt self.now store.old.slots reference Status.Falsified }
+        ensures passes { Passes result simplifier.old store.old.slots (S.lines sink.old)
+            simplifier.new store.new.slots (S.lines sink.new) }
+        ensures refuted { OnOk result (simplifier.new.is_refuted ≡ true) }
+        ensures vars { OnOk result (simplifier.new.vars ≡ simplifier.old.vars) }
     {
         let hints = self.hints(&simplifier.names, store, reference)?;
         simplifier.clause.clear();
@@ -224,16 +216,12 @@ impl Units {
         requires propagating { IsPropagating self.old simplifier.old store.old.slots
             (S.lines sink.old) }
         requires live { IsLive store.old.slots reference }
-        ensures propagated { IfOk result (λ _.
-            Propagates self.old simplifier.old store.old.slots (S.lines sink.old)
-            self.new simplifier.new store.new.slots (S.lines sink.new)) }
+        ensures moves { Moves result self.old simplifier.old store.old.slots (S.lines sink.old)
+            self.new simplifier.new store.new.slots (S.lines sink.new) }
         ensures settled { IfOk result (λ found. found ≡ false
             → AsksNothing self.old store.old.slots reference self.new simplifier.new
             store.new.slots) }
-        ensures progress { IfOk result (λ found. found ≡ true → simplifier.new.is_refuted ≡ false
-            → open_count self.new < open_count self.old) }
-        ensures err { OnErr result (LeavesLog simplifier.old store.old.slots (S.lines sink.old)
-            (S.lines sink.new)) }
+        ensures progress { IfOk result (MakesProgress self.old simplifier.new self.new) }
     {
         match self.status(store, reference) {
             Status::Settled => Ok(false),
@@ -261,15 +249,11 @@ impl Units {
         place: usize,
     ) -> Result<bool, AllocError>
         requires { IsPropagating self.old simplifier.old store.old.slots (S.lines sink.old) }
-        ensures propagated { IfOk result (λ _.
-            Propagates self.old simplifier.old store.old.slots (S.lines sink.old)
-            self.new simplifier.new store.new.slots (S.lines sink.new)) }
+        ensures moves { Moves result self.old simplifier.old store.old.slots (S.lines sink.old)
+            self.new simplifier.new store.new.slots (S.lines sink.new) }
         ensures settled { IfOk result (λ found. found ≡ false
             → AsksNothing self.old store.old.slots place self.new simplifier.new store.new.slots) }
-        ensures progress { IfOk result (λ found. found ≡ true → simplifier.new.is_refuted ≡ false
-            → open_count self.new < open_count self.old) }
-        ensures err { OnErr result (LeavesLog simplifier.old store.old.slots (S.lines sink.old)
-            (S.lines sink.new)) }
+        ensures progress { IfOk result (MakesProgress self.old simplifier.new self.new) }
     {
         match store.live_at(place) {
             Some(reference) => {
@@ -288,15 +272,11 @@ impl Units {
         sink: &mut S,
     ) -> Result<bool, AllocError>
         requires { IsPropagating self.old simplifier.old store.old.slots (S.lines sink.old) }
-        ensures propagated { IfOk result (λ _.
-            Propagates self.old simplifier.old store.old.slots (S.lines sink.old)
-            self.new simplifier.new store.new.slots (S.lines sink.new)) }
+        ensures moves { Moves result self.old simplifier.old store.old.slots (S.lines sink.old)
+            self.new simplifier.new store.new.slots (S.lines sink.new) }
         ensures settled { IfOk result (λ found. found ≡ false → (simplifier.new.is_refuted ≡ false)
             × AreSettled self.old.trail.items store.old.slots) }
-        ensures progress { IfOk result (λ found. found ≡ true → simplifier.new.is_refuted ≡ false
-            → open_count self.new < open_count self.old) }
-        ensures err { OnErr result (LeavesLog simplifier.old store.old.slots (S.lines sink.old)
-            (S.lines sink.new)) }
+        ensures progress { IfOk result (MakesProgress self.old simplifier.new self.new) }
     {
         let mut found = false;
         for place in 0..store.places() {
@@ -323,15 +303,11 @@ impl Units {
         at: usize,
     ) -> Result<(), AllocError>
         requires { IsPropagating self.old simplifier.old store.old.slots (S.lines sink.old) }
-        ensures propagated { IfOk result (λ _.
-            Propagates self.old simplifier.old store.old.slots (S.lines sink.old)
-            self.new simplifier.new store.new.slots (S.lines sink.new)) }
-        ensures err { OnErr result (LeavesLog simplifier.old store.old.slots (S.lines sink.old)
-            (S.lines sink.new)) }
+        ensures { Moves result self.old simplifier.old store.old.slots (S.lines sink.old)
+            self.new simplifier.new store.new.slots (S.lines sink.new) }
     {
-        let reference = match simplifier.occurrence(store, lit, at) {
-            Some(reference) => reference,
-            None => return Ok(()),
+        let Some(reference) = simplifier.occurrence(store, lit, at) else {
+            return Ok(());
         };
         if !is_due(unmet, reference) {
             return Ok(());
@@ -350,11 +326,8 @@ impl Units {
         lit: Lit,
     ) -> Result<(), AllocError>
         requires { IsPropagating self.old simplifier.old store.old.slots (S.lines sink.old) }
-        ensures propagated { IfOk result (λ _.
-            Propagates self.old simplifier.old store.old.slots (S.lines sink.old)
-            self.new simplifier.new store.new.slots (S.lines sink.new)) }
-        ensures err { OnErr result (LeavesLog simplifier.old store.old.slots (S.lines sink.old)
-            (S.lines sink.new)) }
+        ensures { Moves result self.old simplifier.old store.old.slots (S.lines sink.old)
+            self.new simplifier.new store.new.slots (S.lines sink.new) }
     {
         for at in 0..simplifier.occurrence_count(lit) {
             self.visit_at(unmet, simplifier, store, sink, lit, at)?;
@@ -375,11 +348,8 @@ impl Units {
         sink: &mut S,
     ) -> Result<(), AllocError>
         requires { IsPropagating self.old simplifier.old store.old.slots (S.lines sink.old) }
-        ensures propagated { IfOk result (λ _.
-            Propagates self.old simplifier.old store.old.slots (S.lines sink.old)
-            self.new simplifier.new store.new.slots (S.lines sink.new)) }
-        ensures err { OnErr result (LeavesLog simplifier.old store.old.slots (S.lines sink.old)
-            (S.lines sink.new)) }
+        ensures { Moves result self.old simplifier.old store.old.slots (S.lines sink.old)
+            self.new simplifier.new store.new.slots (S.lines sink.new) }
     {
         while visits.qhead < self.trail.len() {
             let lit = self.trail[visits.qhead].negation();
@@ -411,15 +381,11 @@ pub(crate) fn propagate_units<S: Sink>(
     store: &mut Store,
     sink: &mut S,
 ) -> Result<(), AllocError>
-    requires simplified { IsSimplifier simplifier.old store.old.slots (S.lines sink.old) }
-    requires going { simplifier.old.is_refuted ≡ false }
-    ensures simplified { IfOk result (λ _.
-        StaysSimplified simplifier.old store.old.slots (S.lines sink.old)
-        simplifier.new store.new.slots (S.lines sink.new)) }
+    requires { IsOpen simplifier.old store.old.slots (S.lines sink.old) }
+    ensures passes { Passes result simplifier.old store.old.slots (S.lines sink.old)
+        simplifier.new store.new.slots (S.lines sink.new) }
     ensures refuted { IfOk result (λ _. simplifier.new.is_refuted ≡ false
         → IsRefutedByHints (live_clauses store.old.slots) → ⊥) }
-    ensures err { OnErr result (LeavesLog simplifier.old store.old.slots (S.lines sink.old)
-        (S.lines sink.new)) }
 {
     let alloc = store.allocator();
     let mut units = Units::new(alloc, simplifier.vars, store)?;

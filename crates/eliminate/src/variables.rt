@@ -1,18 +1,17 @@
 // Bounded variable elimination (Davis and Putnam 1960; Eén and Biere 2005): the clauses with a
 // variable are replaced by their resolvents on it, where these are no more and none is long.
 // Variables are tried in the order in which their clauses changed.
-ghost use Rattle.std.specs.Prelude.{◌≡◌, ℕ, ◌*◌, ◌<◌, true, false, List, length, All, IfOk};
-ghost use Rattle.std.specs.Prelude.{OnErr};
+ghost use Rattle.std.specs.Prelude.{◌≡◌, ℕ, ◌*◌, ◌<◌, true, false, length, All, IfOk, OnErr};
 ghost use Rattle.cnf.specs.Literal.{negation};
-ghost use Rattle.lrat_log.specs.Log.{LogLine, IsLine};
+ghost use Rattle.lrat_log.specs.Log.{IsLine};
 ghost use Rattle.cnf.specs.Marks.{HasPlace};
 ghost use Rattle.eliminate.specs.Elimination.{positive, IsFree};
 ghost use Rattle.eliminate_tables.specs.Rows.{AreRows};
 ghost use Rattle.lrat_log.specs.Steps.{added_count};
 ghost use Rattle.eliminate_names.specs.Work.{name_at, delete_line};
-ghost use Rattle.eliminate.specs.Simplifier.{IsSimplifier, StaysSimplified, LeavesLog};
+ghost use Rattle.eliminate.specs.Simplifier.{IsOpen, KeepsForm, Passes};
 ghost use Rattle.eliminate_tables.specs.Bins.{ArePlaced};
-ghost use Rattle.eliminate.specs.Variables.{IsSimplifierOver, StaysOver, LeavesLogOver, IsWith};
+ghost use Rattle.eliminate.specs.Variables.{IsOpenOver, PassesOver, IsWith};
 ghost use Rattle.eliminate.specs.Variables.{AreThoseWith, GrowsWithout, IsPairResolved};
 ghost use Rattle.eliminate.specs.Variables.{ArePairsResolved, LeavesOut, KeepsWork, KeepsLog};
 
@@ -46,14 +45,9 @@ pub(crate) fn eliminate_variables<S: Sink>(
     frozen: &[bool],
     sink: &mut S,
 ) -> Result<bool, AllocError>
-    requires simplified { IsSimplifierOver frozen.now simplifier.old store.old.slots
-        (S.lines sink.old) }
-    requires going { simplifier.old.is_refuted ≡ false }
-    ensures simplified { IfOk result (λ _.
-        StaysOver frozen.now simplifier.old store.old.slots (S.lines sink.old)
-        simplifier.new store.new.slots (S.lines sink.new)) }
-    ensures err { OnErr result (LeavesLogOver frozen.now simplifier.old store.old.slots
-        (S.lines sink.old) (S.lines sink.new)) }
+    requires { IsOpenOver frozen.now simplifier.old store.old.slots (S.lines sink.old) }
+    ensures { PassesOver frozen.now result simplifier.old store.old.slots (S.lines sink.old)
+        simplifier.new store.new.slots (S.lines sink.new) }
 {
     let alloc = store.allocator();
     let mut parents = Parents {
@@ -99,15 +93,10 @@ fn try_variable<S: Sink>(
     variable: u32,
     parents: &mut Parents,
 ) -> Result<bool, AllocError>
-    requires simplified { IsSimplifierOver frozen.now simplifier.old store.old.slots
-        (S.lines sink.old) }
-    requires going { simplifier.old.is_refuted ≡ false }
+    requires is_open { IsOpenOver frozen.now simplifier.old store.old.slots (S.lines sink.old) }
     requires free { IsFree frozen.now variable }
-    ensures simplified { IfOk result (λ _.
-        StaysOver frozen.now simplifier.old store.old.slots (S.lines sink.old)
-        simplifier.new store.new.slots (S.lines sink.new)) }
-    ensures err { OnErr result (LeavesLogOver frozen.now simplifier.old store.old.slots
-        (S.lines sink.old) (S.lines sink.new)) }
+    ensures { PassesOver frozen.now result simplifier.old store.old.slots (S.lines sink.old)
+        simplifier.new store.new.slots (S.lines sink.new) }
 {
     let pivot = Lit::new(variable, false);
     if !find_parents(simplifier, store, pivot, parents)? {
@@ -146,10 +135,7 @@ fn find_parents(
     requires place { HasPlace (length simplifier.old.occurrences) pivot }
     requires rows { AreRows simplifier.old.occurrences store.now.slots }
     requires placed { ArePlaced (length simplifier.old.marks) store.now.slots }
-    ensures simplified { (lines : List LogLine)
-        → StaysSimplified simplifier.old store.now.slots lines
-        simplifier.new store.now.slots lines }
-    ensures same { simplifier.new.is_refuted ≡ simplifier.old.is_refuted }
+    ensures form { KeepsForm simplifier.old simplifier.new store.now.slots }
     ensures positive { IfOk result (λ good. good ≡ true
         → AreThoseWith pivot store.now.slots parents.new.positive.items) }
     ensures negative { IfOk result (λ good. good ≡ true
@@ -181,12 +167,9 @@ fn gather(
     requires rows { AreRows simplifier.old.occurrences store.now.slots }
     ensures gathered { IfOk result (λ _. AreThoseWith lit store.now.slots references.new.items) }
     ensures rows { AreRows simplifier.new.occurrences store.now.slots }
-    ensures simplified { (lines : List LogLine)
-        → StaysSimplified simplifier.old store.now.slots lines
-        simplifier.new store.now.slots lines }
-    ensures same { (simplifier.new.is_refuted ≡ simplifier.old.is_refuted)
-        × (length simplifier.new.marks ≡ length simplifier.old.marks)
-        × (length simplifier.new.occurrences ≡ length simplifier.old.occurrences) }
+    ensures form { KeepsForm simplifier.old simplifier.new store.now.slots }
+    ensures marks { length simplifier.new.marks ≡ length simplifier.old.marks }
+    ensures places { length simplifier.new.occurrences ≡ length simplifier.old.occurrences }
 {
     let row = lit.index();
     simplifier.occurrences.clean(row, store);
@@ -204,18 +187,14 @@ fn add_resolvents<S: Sink>(
     firsts: &[CRef],
     seconds: &[CRef],
 ) -> Result<(), AllocError>
-    requires simplified { IsSimplifier simplifier.old store.old.slots (S.lines sink.old) }
-    requires going { simplifier.old.is_refuted ≡ false }
+    requires is_open { IsOpen simplifier.old store.old.slots (S.lines sink.old) }
     requires firsts { All (IsWith pivot store.old.slots) firsts.now }
     requires seconds { All (IsWith (negation pivot) store.old.slots) seconds.now }
-    ensures simplified { IfOk result (λ _.
-        StaysSimplified simplifier.old store.old.slots (S.lines sink.old)
-        simplifier.new store.new.slots (S.lines sink.new)) }
+    ensures passes { Passes result simplifier.old store.old.slots (S.lines sink.old)
+        simplifier.new store.new.slots (S.lines sink.new) }
     ensures grows { IfOk result (λ _. GrowsWithout pivot store.old.slots store.new.slots) }
     ensures resolved { IfOk result (λ _. simplifier.new.is_refuted ≡ false
         → ArePairsResolved pivot store.old.slots store.new.slots firsts.now seconds.now) }
-    ensures err { OnErr result (LeavesLog simplifier.old store.old.slots (S.lines sink.old)
-        (S.lines sink.new)) }
 {
     for first in firsts {
         add_resolvents_of(simplifier, store, sink, pivot, *first, seconds)?;
@@ -235,18 +214,14 @@ fn add_resolvents_of<S: Sink>(
     first: CRef,
     seconds: &[CRef],
 ) -> Result<(), AllocError>
-    requires simplified { IsSimplifier simplifier.old store.old.slots (S.lines sink.old) }
-    requires going { simplifier.old.is_refuted ≡ false }
+    requires is_open { IsOpen simplifier.old store.old.slots (S.lines sink.old) }
     requires first { IsWith pivot store.old.slots first }
     requires seconds { All (IsWith (negation pivot) store.old.slots) seconds.now }
-    ensures simplified { IfOk result (λ _.
-        StaysSimplified simplifier.old store.old.slots (S.lines sink.old)
-        simplifier.new store.new.slots (S.lines sink.new)) }
+    ensures passes { Passes result simplifier.old store.old.slots (S.lines sink.old)
+        simplifier.new store.new.slots (S.lines sink.new) }
     ensures grows { IfOk result (λ _. GrowsWithout pivot store.old.slots store.new.slots) }
     ensures resolved { IfOk result (λ _. simplifier.new.is_refuted ≡ false
         → All (IsPairResolved pivot store.old.slots store.new.slots first) seconds.now) }
-    ensures err { OnErr result (LeavesLog simplifier.old store.old.slots (S.lines sink.old)
-        (S.lines sink.new)) }
 {
     for second in seconds {
         add_resolvent(simplifier, store, sink, pivot, first, *second)?;
@@ -268,35 +243,20 @@ fn remove_variable<S: Sink>(
     firsts: &[CRef],
     seconds: &[CRef],
 ) -> Result<(), AllocError>
-    requires simplified { IsSimplifierOver frozen.now simplifier.old store.old.slots
-        (S.lines sink.old) }
-    requires going { simplifier.old.is_refuted ≡ false }
+    requires is_open { IsOpenOver frozen.now simplifier.old store.old.slots (S.lines sink.old) }
     requires free { IsFree frozen.now variable }
     requires firsts { AreThoseWith (positive variable) store.old.slots firsts.now }
     requires seconds { AreThoseWith (negation (positive variable)) store.old.slots seconds.now }
     requires resolved { ArePairsResolved (positive variable) store.old.slots store.old.slots
         firsts.now seconds.now }
-    ensures simplified { IfOk result (λ _.
-        StaysOver frozen.now simplifier.old store.old.slots (S.lines sink.old)
-        simplifier.new store.new.slots (S.lines sink.new)) }
-    ensures err { OnErr result (LeavesLogOver frozen.now simplifier.old store.old.slots
-        (S.lines sink.old) (S.lines sink.new)) }
+    ensures { PassesOver frozen.now result simplifier.old store.old.slots (S.lines sink.old)
+        simplifier.new store.new.slots (S.lines sink.new) }
 {
     simplifier.removals.push(variable, firsts, store)?;
-    delete_all(
-        &simplifier.names,
-        &mut simplifier.schedule,
-        store,
-        sink,
-        firsts,
-    )?;
-    delete_all(
-        &simplifier.names,
-        &mut simplifier.schedule,
-        store,
-        sink,
-        seconds,
-    )?;
+    let names = &simplifier.names;
+    let schedule = &mut simplifier.schedule;
+    delete_all(names, schedule, store, sink, firsts)?;
+    delete_all(names, schedule, store, sink, seconds)?;
     Ok(())
 }
 

@@ -15,8 +15,8 @@ use Rattle.eliminate_names.specs.Work.{NamesState, name_at, added_line, delete_l
 use Rattle.eliminate_pairs.specs.Pairs.{Ground, stage_of, positive, whole_clause, side_clause}
 use Rattle.eliminate_pairs.specs.Pairs.{whole_line}
 use Rattle.eliminate_pairs.specs.Pairs.{side_line, replaced, IsDefined, Stage, IsStage, IsOpenLog}
-use Rattle.eliminate_pairs.specs.Pairs.{Keeps, AreRare, RestsWhereRare}
-use Rattle.eliminate_pairs.specs.Pairs.{KeepsLog}
+use Rattle.eliminate_pairs.specs.Pairs.{FitNames, Keeps, KeepsLog, AreRare, RestsWhereRare}
+use Rattle.eliminate_pairs.specs.Pairs.{Replaces, LeavesLog}
 use Rattle.clauses.proofs.Laws.{clause_kept, clause_new}
 use Rattle.lrat_log.proofs.Laws.{additions_few, additions_push}
 use Rattle.eliminate_names.proofs.Laws.{name-push}
@@ -59,43 +59,42 @@ is_deleted v slots slots' n lines lines' r p q =
     same_stage v slots' (slice_set slots r None) n.names n.names lines'
     (lines ++ delete_line (name_at n.names r) ∷ []) p refl q
 
--- the counts go together
-pub counted_added : (n n' : NamesState) (lines lines' : List LogLine) (l : LogLine)
-    → n.additions ≡ added_count lines → n' ≡ more_names n → lines' ≡ lines ++ l ∷ []
-    → is_delete l.kind ≡ false
-    → n'.additions ≡ added_count lines'
-counted_added n n' lines lines' l counted q r adds =
+-- the names fit the store and the log with a clause more
+pub fit_added : (n n' : NamesState) (slots slots' : Slots) (lines lines' : List LogLine)
+    (c : List Literal) (l : LogLine) → FitNames n slots lines → slots' ≡ slots ++ Some c ∷ []
+    → n' ≡ more_names n → lines' ≡ lines ++ l ∷ [] → is_delete l.kind ≡ false
+    → FitNames n' slots' lines'
+fit_added n n' slots slots' lines lines' c l fit p q r adds =
     let e : added_count (lines ++ l ∷ []) ≡ added_count lines + 1 =
     rw adds at (additions_push lines l) in
     let f : n'.additions ≡ n.additions + 1 = ap (λ (x : NamesState). x.additions) q in
     let h : added_count lines' ≡ added_count (lines ++ l ∷ []) = ap added_count r in
-    omega arith
+    let named : length n'.names ≡ length (n.names ++ added_line n.additions ∷ []) =
+    ap (λ (x : NamesState). length x.names) q in
+    let long : length slots' ≡ length (slots ++ Some c ∷ []) = ap length p in
+    record {
+      counted = omega (arith, fit.counted);
+      long =
+          omega (
+            arith,
+            fit.long,
+            length-append n.names (added_line n.additions ∷ []),
+            length-append slots (Some c ∷ []),
+          );
+    }
 
-pub counted_deleted : (n : NamesState) (lines lines' : List LogLine) (m : Name)
-    → n.additions ≡ added_count lines → lines' ≡ lines ++ delete_line m ∷ []
-    → n.additions ≡ added_count lines'
-counted_deleted n lines lines' m counted r =
+-- and with one less
+pub fit_deleted : (n : NamesState) (slots slots' : Slots) (lines lines' : List LogLine) (r : ℕ)
+    (m : Name) → FitNames n slots lines → slots' ≡ slice_set slots r None
+    → lines' ≡ lines ++ delete_line m ∷ [] → FitNames n slots' lines'
+fit_deleted n slots slots' lines lines' r m fit p q =
     let e : added_count (lines ++ delete_line m ∷ []) ≡ added_count lines + 0 =
     additions_push lines (delete_line m) in
-    let h : added_count lines' ≡ added_count (lines ++ delete_line m ∷ []) = ap added_count r in
-    omega arith
-
-pub long_added : (slots slots' : Slots) (n n' : NamesState) (c : List Literal)
-    → length n.names ≡ length slots → slots' ≡ slots ++ Some c ∷ [] → n' ≡ more_names n
-    → length n'.names ≡ length slots'
-long_added slots slots' n n' c long p q =
-    let e : length n'.names ≡ length (n.names ++ added_line n.additions ∷ []) =
-    ap (λ (x : NamesState). length x.names) q in
-    let f : length slots' ≡ length (slots ++ Some c ∷ []) = ap length p in
-    omega (
-      arith,
-      length-append n.names (added_line n.additions ∷ []),
-      length-append slots (Some c ∷ []),
-    )
-
-pub long_deleted : (slots slots' : Slots) (names : List Name) (r : ℕ) → length names ≡ length slots
-    → slots' ≡ slice_set slots r None → length names ≡ length slots'
-long_deleted slots slots' names r long p = long ∙ sym (length-set slots r None) ∙ sym (ap length p)
+    let h : added_count lines' ≡ added_count (lines ++ delete_line m ∷ []) = ap added_count q in
+    record {
+      counted = omega (arith, fit.counted);
+      long = fit.long ∙ sym (length-set slots r None) ∙ sym (ap length p);
+    }
 
 pub few_additions : (lines : List LogLine) → length lines < 2 ^ 61 → added_count lines + 3 < 2 ^ 62
 few_additions lines short = omega (arith, additions_few lines)
@@ -201,8 +200,7 @@ pub record Defines (s : Stage) (v : ℕ) (d : Fresh) (slots : Slots) (n : NamesS
     (lines : List LogLine) : Type 0 where
   pub variable : d.variable ≡ v + 1
   pub defined : IsDefined slots d
-  pub counted : n.additions ≡ added_count lines
-  pub long : length n.names ≡ length slots
+  pub fit : FitNames n slots lines
   pub keeps : Keeps s (stage_of d.variable slots n lines)
 
 pub defines_same : (s : Stage) (v : ℕ) (d : Fresh) (slots slots' : Slots) (n n' : NamesState)
@@ -213,31 +211,47 @@ defines_same s v d slots slots' n n' lines lines' p q r h =
     (subst (λ (x : NamesState). Defines s v d slots x lines') (sym q)
     (subst (λ (x : List LogLine). Defines s v d slots n x) (sym r) h))
 
--- and with so many variables, at most
-pub record Counts (s : Stage) (v bound last : ℕ) (slots : Slots) (n : NamesState)
-    (lines : List LogLine) : Type 0 where
-  pub more : v ≤ last
-  pub most : last ≤ bound
-  pub counted : n.additions ≡ added_count lines
-  pub long : length n.names ≡ length slots
-  pub keeps : Keeps s (stage_of last slots n lines)
-  pub rests : RestsWhereRare s (stage_of last slots n lines)
-
 -- one rest after another
-pub rests_on : (s t u : Stage) → RestsWhereRare s t → RestsWhereRare t u → RestsWhereRare s u
+rests_on : (s t u : Stage) → RestsWhereRare s t → RestsWhereRare t u → RestsWhereRare s u
 rests_on s t u p q r = q (subst (λ (x : Stage). AreRare x.slots) (sym (p r)) r) ∙ p r
 
--- and its lines
-pub rests_log : (s t : Stage) (lines : List LogLine) → RestsWhereRare s t
-    → (AreRare t.slots → lines ≡ t.lines) → AreRare s.slots → lines ≡ s.lines
-rests_log s t lines p q r =
-    q (subst (λ (x : Stage). AreRare x.slots) (sym (p r)) r) ∙ ap (λ (x : Stage). x.lines) (p r)
+module _ (s : Stage) (most last : ℕ) (slots : Slots) (n : NamesState) (lines : List LogLine)
+    (h : Replaces s most last slots n lines) where
+  -- pairs are replaced after others
+  pub replaces_on : (bound last' : ℕ) (slots' : Slots) (n' : NamesState) (lines' : List LogLine)
+      → bound ≤ most → Replaces (stage_of last slots n lines) bound last' slots' n' lines'
+      → Replaces s most last' slots' n' lines'
+  replaces_on bound last' slots' n' lines' within next = record {
+    more = omega (arith, h.more, next.more);
+    most = omega (arith, next.most);
+    fit = next.fit;
+    keeps = λ ground k. next.keeps ground (h.keeps ground k);
+    rests =
+        rests_on s (stage_of last slots n lines) (stage_of last' slots' n' lines') h.rests
+        next.rests;
+  }
 
-pub counts_same : (s : Stage) (v bound last last' : ℕ) (slots slots' : Slots) (n n' : NamesState)
-    (lines lines' : List LogLine) → last' ≡ last → slots' ≡ slots → n' ≡ n → lines' ≡ lines
-    → Counts s v bound last slots n lines → Counts s v bound last' slots' n' lines'
-counts_same s v bound last last' slots slots' n n' lines lines' e p q r h =
-    subst (λ (x : ℕ). Counts s v bound x slots' n' lines') (sym e)
-    (subst (λ (x : Slots). Counts s v bound last x n' lines') (sym p)
-    (subst (λ (x : NamesState). Counts s v bound last slots x lines') (sym q)
-    (subst (λ (x : List LogLine). Counts s v bound last slots n x) (sym r) h)))
+  -- and an error comes after that, or at once
+  pub leaves_on : (lines' : List LogLine) → LeavesLog (stage_of last slots n lines) lines'
+      → LeavesLog s lines'
+  leaves_on lines' next = record {
+    log = λ ground k. next.log ground (h.keeps ground k);
+    rests =
+        λ rare. next.rests (subst (λ (x : Stage). AreRare x.slots) (sym (h.rests rare)) rare)
+        ∙ ap (λ (x : Stage). x.lines) (h.rests rare);
+  }
+
+  pub leaves_now : LeavesLog s lines
+  leaves_now = record {
+    log = λ ground k. open_log ground (stage_of last slots n lines) (h.keeps ground k);
+    rests = λ rare. ap (λ (x : Stage). x.lines) (h.rests rare);
+  }
+
+  pub replaces_same : (last' : ℕ) (slots' : Slots) (n' : NamesState) (lines' : List LogLine)
+      → last' ≡ last → slots' ≡ slots → n' ≡ n → lines' ≡ lines
+      → Replaces s most last' slots' n' lines'
+  replaces_same last' slots' n' lines' e p q r =
+      subst (λ (x : ℕ). Replaces s most x slots' n' lines') (sym e)
+      (subst (λ (x : Slots). Replaces s most last x n' lines') (sym p)
+      (subst (λ (x : NamesState). Replaces s most last slots x lines') (sym q)
+      (subst (λ (x : List LogLine). Replaces s most last slots n x) (sym r) h)))

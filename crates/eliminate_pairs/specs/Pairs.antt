@@ -1,6 +1,7 @@
 -- Pairs of literals that a fresh variable stands for, and what their definition keeps.
 use Rattle.std.specs.Prelude.{◌≡◌, ◌≢◌, ℕ, ◌+◌, ◌<◌, ◌≤◌, Bool, true, false, List, [], ◌∷◌, All}
 use Rattle.std.specs.Prelude.{Some, None, ◌&&◌, nat_le, length, if◌then◌else◌}
+use Rattle.std.specs.Prelude.{Result, MatchResult}
 use Rattle.std.specs.List.{AllByRecursion}
 use Rattle.cnf.specs.Literal.{Literal, Assignment, negation, literal_eq}
 pub use Rattle.cnf.specs.Literal.{positive}
@@ -11,7 +12,7 @@ use Rattle.lrat_log.specs.declared.lines.Name.{Name}
 use Rattle.lrat_log.specs.declared.lines.Hint.TheVariants.{Group}
 use Rattle.lrat_log.specs.declared.lines.Kind.TheVariants.{Definition}
 use Rattle.lrat_log.specs.Log.{LogLine, Given}
-use Rattle.lrat_log.specs.Steps.{StaysLogOver, AddsNoEmptyClause, learned_count}
+use Rattle.lrat_log.specs.Steps.{StaysLogOver, AddsNoEmptyClause, learned_count, added_count}
 use Rattle.eliminate_names.specs.Work.{IsWork, NamesState}
 use Rattle.eliminate_pairs.specs.declared.pairs.Fresh.{Fresh}
 
@@ -92,6 +93,11 @@ abbrev pub stage_of : ℕ → Slots → NamesState → List LogLine → Stage
 stage_of v slots n lines =
     record { variables = v; slots = slots; names = n.names; lines = lines }
 
+-- the names are those of the store's clauses, and count the additions of the log
+pub record FitNames (n : NamesState) (slots : Slots) (lines : List LogLine) : Type 0 where
+  pub counted : n.additions ≡ added_count lines
+  pub long : length n.names ≡ length slots
+
 -- what a stage is measured by: the formula's variables and clauses, clauses that are to follow from
 -- what is left, and variables that may not come back
 pub record Ground : Type 0 where
@@ -125,6 +131,11 @@ pub record IsOpenLog (ground : Ground) (lines : List LogLine) : Type 0 where
 abbrev pub KeepsLog : Stage → List LogLine → Type 0
 KeepsLog before lines = (ground : Ground) → IsStage ground before → IsOpenLog ground lines
 
+-- what a move leaves, and after an error the lines of a log
+abbrev pub Moves : {T E : Type 0} → Result T E → Stage → Stage → Type 0
+Moves result before after =
+    MatchResult result (λ _. Keeps before after) (λ _. KeepsLog before after.lines)
+
 -- no two literals stand together in four or more clauses
 abbrev pub AreRare : Slots → Type 0
 AreRare slots = (a b : Literal) → StandOften slots a b → ⊥
@@ -132,3 +143,24 @@ AreRare slots = (a b : Literal) → StandOften slots a b → ⊥
 -- where that is so, nothing is done
 abbrev pub RestsWhereRare : Stage → Stage → Type 0
 RestsWhereRare before after = AreRare before.slots → after ≡ before
+
+-- pairs got the variables after those of a stage, up to the last, which is at most a bound
+pub record Replaces (before : Stage) (bound last : ℕ) (slots : Slots) (n : NamesState)
+    (lines : List LogLine) : Type 0 where
+  pub more : before.variables ≤ last
+  pub most : last ≤ bound
+  pub fit : FitNames n slots lines
+  pub keeps : Keeps before (stage_of last slots n lines)
+  pub rests : RestsWhereRare before (stage_of last slots n lines)
+
+-- and after an error
+pub record LeavesLog (before : Stage) (lines : List LogLine) : Type 0 where
+  pub log : KeepsLog before lines
+  pub rests : AreRare before.slots → lines ≡ before.lines
+
+-- what a pass leaves, which answers with the last variable
+abbrev pub Passes : {E : Type 0} → Result ℕ E → Stage → ℕ → Slots → NamesState → List LogLine
+    → Type 0
+Passes result before bound slots n lines =
+    MatchResult result (λ last. Replaces before bound last slots n lines)
+    (λ _. LeavesLog before lines)

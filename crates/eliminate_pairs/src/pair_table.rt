@@ -9,7 +9,7 @@
 // pair that stands often are sorted, by one word a meeting; all meetings sorted at once by three
 // words took more time than the rest. A clause that has not moved has its pairs still, and the
 // literals of the others are read only while the pair can still stand in enough clauses.
-ghost use Rattle.std.specs.Prelude.{◌≡◌, ◌≤◌, IfSome};
+ghost use Rattle.std.specs.Prelude.{◌≤◌, IfSome};
 ghost use Rattle.clauses.specs.Slots.{IsLive};
 
 use clauses::store::{CRef, Store};

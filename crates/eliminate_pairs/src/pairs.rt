@@ -4,7 +4,7 @@
 // with z. Which pairs are worthwhile is found by counting and may be wrong: each clause is looked
 // at again before it changes. A pair whose count has fallen to less than half since it was counted
 // waits for the next round.
-ghost use Rattle.std.specs.Prelude.{◌≡◌, ℕ, ◌+◌, ◌<◌, ◌≤◌, ◌^◌, List, [], ◌∷◌, ◌++◌, length};
+ghost use Rattle.std.specs.Prelude.{◌≡◌, ◌+◌, ◌<◌, ◌≤◌, ◌^◌, List, [], ◌∷◌, ◌++◌, length};
 ghost use Rattle.std.specs.Prelude.{IsTrue, IfOk, OnOk, OnErr, Some};
 ghost use Rattle.std.specs.List.{AllByRecursion};
 ghost use Rattle.cnf.specs.Literal.{Literal};
@@ -16,9 +16,8 @@ ghost use Rattle.lrat_log.specs.declared.lines.Hint.TheVariants.{Plain};
 ghost use Rattle.lrat_log.specs.Steps.{added_count};
 ghost use Rattle.eliminate_names.specs.Work.{name_at, added_line};
 ghost use Rattle.eliminate_pairs.specs.Pairs.{side_clause, side_line, replaced, together};
-ghost use Rattle.eliminate_pairs.specs.Pairs.{IsOnOther, StandAt, StandOften};
-ghost use Rattle.eliminate_pairs.specs.Pairs.{HasPairOf, IsDefined, Keeps, KeepsLog, stage_of};
-ghost use Rattle.eliminate_pairs.specs.Pairs.{AreRare, RestsWhereRare};
+ghost use Rattle.eliminate_pairs.specs.Pairs.{IsOnOther, StandAt, StandOften, HasPairOf, IsDefined};
+ghost use Rattle.eliminate_pairs.specs.Pairs.{stage_of, FitNames, Moves, Passes};
 
 use crate::pair_table::{Candidate, FEWEST, PairTable, SHORTEST};
 use clauses::store::{CRef, Store};
@@ -60,23 +59,9 @@ pub fn define_pairs<S: Sink>(
 ) -> Result<u32, AllocError>
     requires room { vars ≤ most }
     requires most { most < 2 ^ 27 }
-    requires counted { names.old.additions ≡ added_count (S.lines sink.old) }
-    requires long { length names.old.names ≡ length store.old.slots }
-    ensures more { IfOk result (λ v. vars ≤ v) }
-    ensures most { IfOk result (λ v. v ≤ most) }
-    ensures counted { OnOk result (names.new.additions ≡ added_count (S.lines sink.new)) }
-    ensures long { OnOk result (length names.new.names ≡ length store.new.slots) }
-    ensures keeps { IfOk result (λ v. Keeps
-        (stage_of vars store.old.slots names.old (S.lines sink.old))
-        (stage_of v store.new.slots names.new (S.lines sink.new))) }
-    ensures rests { IfOk result (λ v. RestsWhereRare
-        (stage_of vars store.old.slots names.old (S.lines sink.old))
-        (stage_of v store.new.slots names.new (S.lines sink.new))) }
-    ensures err { OnErr result
-        (KeepsLog (stage_of vars store.old.slots names.old (S.lines sink.old))
-        (S.lines sink.new)) }
-    ensures rests_err { OnErr result
-        (AreRare store.old.slots → S.lines sink.new ≡ S.lines sink.old) }
+    requires fit { FitNames names.old store.old.slots (S.lines sink.old) }
+    ensures { Passes result (stage_of vars store.old.slots names.old (S.lines sink.old))
+        most store.new.slots names.new (S.lines sink.new) }
 {
     let mut last = vars;
     for _round in 0..MOST_ROUNDS {
@@ -99,23 +84,9 @@ fn define_counted<S: Sink>(
 ) -> Result<u32, AllocError>
     requires room { vars ≤ most }
     requires most { most < 2 ^ 27 }
-    requires counted { names.old.additions ≡ added_count (S.lines sink.old) }
-    requires long { length names.old.names ≡ length store.old.slots }
-    ensures more { IfOk result (λ v. vars ≤ v) }
-    ensures most { IfOk result (λ v. v ≤ most) }
-    ensures counted { OnOk result (names.new.additions ≡ added_count (S.lines sink.new)) }
-    ensures long { OnOk result (length names.new.names ≡ length store.new.slots) }
-    ensures keeps { IfOk result (λ v. Keeps
-        (stage_of vars store.old.slots names.old (S.lines sink.old))
-        (stage_of v store.new.slots names.new (S.lines sink.new))) }
-    ensures rests { IfOk result (λ v. RestsWhereRare
-        (stage_of vars store.old.slots names.old (S.lines sink.old))
-        (stage_of v store.new.slots names.new (S.lines sink.new))) }
-    ensures err { OnErr result
-        (KeepsLog (stage_of vars store.old.slots names.old (S.lines sink.old))
-        (S.lines sink.new)) }
-    ensures rests_err { OnErr result
-        (AreRare store.old.slots → S.lines sink.new ≡ S.lines sink.old) }
+    requires fit { FitNames names.old store.old.slots (S.lines sink.old) }
+    ensures { Passes result (stage_of vars store.old.slots names.old (S.lines sink.old))
+        most store.new.slots names.new (S.lines sink.new) }
 {
     let mut table = PairTable::new(store, vars)?;
     let mut last = vars;
@@ -144,25 +115,11 @@ fn define_found<S: Sink>(
     table: &mut PairTable,
 ) -> Result<u32, AllocError>
     requires room { vars + 1 < 2 ^ 27 }
-    requires counted { names.old.additions ≡ added_count (S.lines sink.old) }
-    requires long { length names.old.names ≡ length store.old.slots }
-    ensures more { IfOk result (λ v. vars ≤ v) }
-    ensures most { IfOk result (λ v. v ≤ vars + 1) }
+    requires fit { FitNames names.old store.old.slots (S.lines sink.old) }
     ensures often { IfOk result (λ v. vars < v
         → StandOften store.old.slots candidate.now.left candidate.now.right) }
-    ensures counted { OnOk result (names.new.additions ≡ added_count (S.lines sink.new)) }
-    ensures long { OnOk result (length names.new.names ≡ length store.new.slots) }
-    ensures keeps { IfOk result (λ v. Keeps
-        (stage_of vars store.old.slots names.old (S.lines sink.old))
-        (stage_of v store.new.slots names.new (S.lines sink.new))) }
-    ensures rests { IfOk result (λ v. RestsWhereRare
-        (stage_of vars store.old.slots names.old (S.lines sink.old))
-        (stage_of v store.new.slots names.new (S.lines sink.new))) }
-    ensures err { OnErr result
-        (KeepsLog (stage_of vars store.old.slots names.old (S.lines sink.old))
-        (S.lines sink.new)) }
-    ensures rests_err { OnErr result
-        (AreRare store.old.slots → S.lines sink.new ≡ S.lines sink.old) }
+    ensures passes { Passes result (stage_of vars store.old.slots names.old (S.lines sink.old))
+        (vars + 1) store.new.slots names.new (S.lines sink.new) }
 {
     if !stand_often(store, candidate, table.found()) {
         return Ok(vars);
@@ -270,18 +227,12 @@ fn define<S: Sink>(
 ) -> Result<Fresh, AllocError>
     requires room { vars + 1 < 2 ^ 27 }
     requires often { StandOften store.old.slots left right }
-    requires counted { names.old.additions ≡ added_count (S.lines sink.old) }
-    requires long { length names.old.names ≡ length store.old.slots }
+    requires fit { FitNames names.old store.old.slots (S.lines sink.old) }
     ensures variable { IfOk result (λ d. d.variable ≡ vars + 1) }
     ensures defined { IfOk result (λ d. IsDefined store.new.slots d) }
-    ensures counted { OnOk result (names.new.additions ≡ added_count (S.lines sink.new)) }
-    ensures long { OnOk result (length names.new.names ≡ length store.new.slots) }
-    ensures keeps { IfOk result (λ d. Keeps
-        (stage_of vars store.old.slots names.old (S.lines sink.old))
-        (stage_of (vars + 1) store.new.slots names.new (S.lines sink.new))) }
-    ensures err { OnErr result
-        (KeepsLog (stage_of vars store.old.slots names.old (S.lines sink.old))
-        (S.lines sink.new)) }
+    ensures fit { OnOk result (FitNames names.new store.new.slots (S.lines sink.new)) }
+    ensures moves { Moves result (stage_of vars store.old.slots names.old (S.lines sink.old))
+        (stage_of (vars + 1) store.new.slots names.new (S.lines sink.new)) }
 {
     sink.is_short();
     let alloc = store.allocator();
@@ -347,17 +298,12 @@ fn replace<S: Sink>(
     requires live { IsLive store.old.slots reference }
     requires pair { (c : List Literal) → clause_at store.old.slots reference ≡ Some c
         → HasPairOf definition.now.variable definition.now.left definition.now.right c }
-    requires counted { names.old.additions ≡ added_count (S.lines sink.old) }
-    requires long { length names.old.names ≡ length store.old.slots }
+    requires fit { FitNames names.old store.old.slots (S.lines sink.old) }
     ensures defined { OnOk result (IsDefined store.new.slots definition.now) }
-    ensures counted { OnOk result (names.new.additions ≡ added_count (S.lines sink.new)) }
-    ensures long { OnOk result (length names.new.names ≡ length store.new.slots) }
-    ensures keeps { OnOk result (Keeps
+    ensures fit { OnOk result (FitNames names.new store.new.slots (S.lines sink.new)) }
+    ensures moves { Moves result
         (stage_of definition.now.variable store.old.slots names.old (S.lines sink.old))
-        (stage_of definition.now.variable store.new.slots names.new (S.lines sink.new))) }
-    ensures err { OnErr result (KeepsLog
-        (stage_of definition.now.variable store.old.slots names.old (S.lines sink.old))
-        (S.lines sink.new)) }
+        (stage_of definition.now.variable store.new.slots names.new (S.lines sink.new)) }
 {
     sink.is_short();
     let alloc = store.allocator();

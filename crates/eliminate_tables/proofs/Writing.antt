@@ -1,12 +1,10 @@
 -- Rows that are written, and the test of a reference.
-use Rattle.std.proofs.Common.{◌≡◌, ℕ, ◌<◌, Bool, true, false, List, [], map, length, get_or, set}
+use Rattle.std.proofs.Common.{◌≡◌, ℕ, ◌<◌, true, List, [], map, length, get_or, set}
 use Rattle.std.proofs.Common.{Some, None, Option, refl, sym, ◌∙◌, ap, arith}
-use Rattle.std.specs.Prelude.{IsTrue, ◌↔◌}
-use Rattle.std.proofs.lemmas.Bool.{false_from_ne_true, false≢true}
+use Rattle.std.proofs.lemmas.Bool.{false≢true}
 use Rattle.std.proofs.lemmas.List.{map-set, get_or-map, length-map}
 use Rattle.cnf.specs.Literal.{Literal}
-use Rattle.clauses.specs.Slots.{Slots, clause_at, IsLive}
-use Rattle.eliminate_tables.specs.Rows.{is_some, has_clause}
+use Rattle.eliminate_tables.specs.Rows.{is_some}
 
 -- the row that is written, and what stands in it afterwards
 pub row_written : {X E : Type 0} (f : X → List E) (rows : List X) (i : ℕ) (old new : X)
@@ -23,11 +21,3 @@ row_within f rows now i e h = omega (arith, ap length e, length-map rows f)
 pub some_clause : (o : Option (List Literal)) → is_some o ≡ true → (c : List Literal) × (o ≡ Some c)
 some_clause None e = absurd (false≢true e)
 some_clause (Some c) e = (c, refl)
-
--- the store's test and the definition's
-pub live_test : (slots : Slots) (r : ℕ) (b : Bool) → (IsTrue b ↔ IsLive slots r)
-    → b ≡ has_clause slots r
-live_test slots r true h = let w = h.0 refl in sym (ap is_some w.1)
-live_test slots r false h =
-    sym (false_from_ne_true (has_clause slots r)
-    (λ e. false≢true (h.1 (some_clause (clause_at slots r) e))))

@@ -1,5 +1,5 @@
 -- Worked values of extended bits, of a schedule, and of what is worthwhile.
-use Rattle.std.specs.Prelude.{◌≡◌, ℕ, true, false, List, [], ◌∷◌, fold, Some, refl}
+use Rattle.std.specs.Prelude.{◌≡◌, true, false, List, [], ◌∷◌, fold, Some, refl}
 use Rattle.cnf.specs.Literal.{Literal, positive as p, negative as n}
 use Rattle.eliminate_tables.specs.Removals.{Removed, extended}
 use Rattle.eliminate_tables.specs.Schedule.{ScheduleState, entered, left, first_of, without_first}

@@ -8,11 +8,8 @@
 // All bins lie in two vectors: a vector each for the references and the signatures of a bin would
 // take three times the memory where clauses are short. A bin without room left moves to the end,
 // where it has twice its room; its old places are not used again.
-ghost use Rattle.std.specs.Prelude.{◌≡◌, length, List, Some, IfOk, IfSome};
-ghost use Rattle.cnf.specs.Literal.{Literal};
-ghost use Rattle.clauses.specs.Slots.{IsLive, clause_at};
-ghost use Rattle.subsume.specs.Against.{LiesAgainst};
-ghost use Rattle.eliminate_tables.specs.Bins.{ArePlaced};
+ghost use Rattle.std.specs.Prelude.{◌≡◌, length, Some, IfOk, IfSome};
+ghost use Rattle.eliminate_tables.specs.Bins.{ArePlaced, IsOther};
 
 use clauses::store::{CRef, Store};
 use cnf::marks::Marks;
@@ -182,10 +179,7 @@ impl Bins {
     ) -> Option<Found>
         requires { ArePlaced (length marks.now) store.now.slots }
         ensures kept { self.new ≡ self.old }
-        ensures other { IfSome result (λ found. found.by ≡ current → ⊥) }
-        ensures live { IfSome result (λ found. IsLive store.now.slots found.by) }
-        ensures against { IfSome result (λ found. (c : List Literal)
-            → clause_at store.now.slots found.by ≡ Some c → LiesAgainst marks.now c found.against) }
+        ensures found { IfSome result (IsOther marks.now store.now.slots current) }
     {
         let signature = signature_both(lits);
         for lit in lits {
@@ -291,10 +285,7 @@ fn find(
     current: CRef,
 ) -> Option<Found>
     requires { ArePlaced (length marks.now) store.now.slots }
-    ensures other { IfSome result (λ found. found.by ≡ current → ⊥) }
-    ensures live { IfSome result (λ found. IsLive store.now.slots found.by) }
-    ensures against { IfSome result (λ found. (c : List Literal)
-        → clause_at store.now.slots found.by ≡ Some c → LiesAgainst marks.now c found.against) }
+    ensures { IfSome result (IsOther marks.now store.now.slots current) }
 {
     let start = bin.start as usize;
     let count = bin.length as usize;

@@ -20,7 +20,7 @@ use Rattle.eliminate.proofs.States.{all_live}
 use Rattle.eliminate.proofs.elimination.eliminate.Given.{Over}
 use Rattle.eliminate.proofs.elimination.eliminate.Goals as goal
 use Rattle.eliminate.proofs.elimination.eliminate.Goals.{In_ok-simplifier, In_ok-propagate_units}
-use Rattle.eliminate.proofs.elimination.eliminate.Goals.{In_ok-simplify_open, In_ok-vars}
+use Rattle.eliminate.proofs.elimination.eliminate.Goals.{In_ok-simplify, In_ok-vars}
 use Rattle.eliminate.proofs.elimination.eliminate.Goals.{In_ok-names}
 
 abbrev start_of : Slots → List Bool → Start
@@ -40,16 +40,16 @@ propagated : (g : Over) (c : In_ok-propagate_units g)
     c.propagate_units.new.simplifier c.propagate_units.new.store.slots
     (g.S.Sink.lines c.propagate_units.new.sink)
 propagated g c =
-    c.in_ok-propagate_units.ensures.simplified (start_of c.args.store.now.slots c.args.frozen.now)
+    c.in_ok-propagate_units.ensures.passes (start_of c.args.store.now.slots c.args.frozen.now)
     (tables g (goal.at.In_ok-propagate_units g c).In_ok-simplifier)
 
-simplified : (g : Over) (c : In_ok-simplify_open g)
+simplified : (g : Over) (c : In_ok-simplify g)
     → IsSimplified (start_of c.args.store.now.slots c.args.frozen.now)
-    c.simplify_open.new.simplifier c.simplify_open.new.store.slots
-    (g.S.Sink.lines c.simplify_open.new.sink)
+    c.simplify.new.simplifier c.simplify.new.store.slots
+    (g.S.Sink.lines c.simplify.new.sink)
 simplified g c =
-    c.in_ok-simplify_open.ensures.simplified (start_of c.args.store.now.slots c.args.frozen.now)
-    refl (propagated g (goal.at.In_ok-simplify_open g c).In_ok-propagate_units)
+    c.in_ok-simplify.ensures.passes (start_of c.args.store.now.slots c.args.frozen.now)
+    refl (propagated g (goal.at.In_ok-simplify g c).In_ok-propagate_units)
 
 -- and what the last one leaves is a result
 ended : (g : Over) (c : In_ok-vars g)
@@ -58,13 +58,16 @@ ended : (g : Over) (c : In_ok-vars g)
     (stage_of c.in_ok-vars.vars c.define_where_open.new.store.slots
     c.define_where_open.new.simplifier.names (g.S.Sink.lines c.define_where_open.new.sink))
 ended g c = c.in_ok-vars.ensures.result (start_of c.args.store.now.slots c.args.frozen.now) refl
-    (simplified g (goal.at.In_ok-vars g c).In_ok-simplify_open)
+    (simplified g (goal.at.In_ok-vars g c).In_ok-simplify)
 
-pub propagate_units-requires-clause-simplified : goal.propagate_units-requires-clause-simplified
-propagate_units-requires-clause-simplified g c = (
-  start_of c.args.store.now.slots c.args.frozen.now,
-  tables g (goal.at.propagate_units-requires-clause-simplified g c).In_ok-simplifier,
-)
+pub propagate_units-requires : goal.propagate_units-requires
+propagate_units-requires g c = record {
+  simplified = (
+    start_of c.args.store.now.slots c.args.frozen.now,
+    tables g (goal.at.propagate_units-requires g c).In_ok-simplifier,
+  );
+  going = c.in_ok-simplifier.ensures.going;
+}
 
 pub returns-in_err-simplifier-clause-lines : goal.returns-in_err-simplifier-clause-lines
 returns-in_err-simplifier-clause-lines g c =
@@ -78,55 +81,52 @@ returns-in_err-simplifier-clause-none_learned g c = ap learned_count c.requires.
 
 pub returns-in_err-propagate_units-clause-lines : goal.returns-in_err-propagate_units-clause-lines
 returns-in_err-propagate_units-clause-lines g c =
-    (c.in_err-propagate_units.ensures.err (start_of c.args.store.now.slots c.args.frozen.now)
+    (c.in_err-propagate_units.ensures.passes (start_of c.args.store.now.slots c.args.frozen.now)
     (tables g (goal.at.returns-in_err-propagate_units-clause-lines g c).In_ok-simplifier)).0
 
 pub returns-in_err-propagate_units-clause-none_learned
     : goal.returns-in_err-propagate_units-clause-none_learned
 returns-in_err-propagate_units-clause-none_learned g c =
-    (c.in_err-propagate_units.ensures.err (start_of c.args.store.now.slots c.args.frozen.now)
+    (c.in_err-propagate_units.ensures.passes (start_of c.args.store.now.slots c.args.frozen.now)
     (tables g (goal.at.returns-in_err-propagate_units-clause-none_learned g
     c).In_ok-simplifier)).1
 
-pub simplify_open-requires : goal.simplify_open-requires
-simplify_open-requires g c = (
+pub simplify-requires : goal.simplify-requires
+simplify-requires g c = (
   start_of c.args.store.now.slots c.args.frozen.now,
   refl,
-  propagated g (goal.at.simplify_open-requires g c).In_ok-propagate_units,
+  propagated g (goal.at.simplify-requires g c).In_ok-propagate_units,
 )
 
-pub returns-in_err-simplify_open-clause-lines : goal.returns-in_err-simplify_open-clause-lines
-returns-in_err-simplify_open-clause-lines g c =
-    (c.in_err-simplify_open.ensures.err (start_of c.args.store.now.slots c.args.frozen.now) refl
-    (propagated g (goal.at.returns-in_err-simplify_open-clause-lines g
+pub returns-in_err-simplify-clause-lines : goal.returns-in_err-simplify-clause-lines
+returns-in_err-simplify-clause-lines g c =
+    (c.in_err-simplify.ensures.passes (start_of c.args.store.now.slots c.args.frozen.now) refl
+    (propagated g (goal.at.returns-in_err-simplify-clause-lines g
     c).In_ok-propagate_units)).0
 
-pub returns-in_err-simplify_open-clause-none_learned
-    : goal.returns-in_err-simplify_open-clause-none_learned
-returns-in_err-simplify_open-clause-none_learned g c =
-    (c.in_err-simplify_open.ensures.err (start_of c.args.store.now.slots c.args.frozen.now) refl
-    (propagated g (goal.at.returns-in_err-simplify_open-clause-none_learned g
+pub returns-in_err-simplify-clause-none_learned
+    : goal.returns-in_err-simplify-clause-none_learned
+returns-in_err-simplify-clause-none_learned g c =
+    (c.in_err-simplify.ensures.passes (start_of c.args.store.now.slots c.args.frozen.now) refl
+    (propagated g (goal.at.returns-in_err-simplify-clause-none_learned g
     c).In_ok-propagate_units)).1
 
 pub define_where_open-requires : goal.define_where_open-requires
-define_where_open-requires g c =
-    record {
-      simplified = (
-        start_of c.args.store.now.slots c.args.frozen.now,
-        refl,
-        simplified g (goal.at.define_where_open-requires g c).In_ok-simplify_open,
-      );
-    }
+define_where_open-requires g c = (
+  start_of c.args.store.now.slots c.args.frozen.now,
+  refl,
+  simplified g (goal.at.define_where_open-requires g c).In_ok-simplify,
+)
 
 pub returns-in_err-vars-clause-lines : goal.returns-in_err-vars-clause-lines
 returns-in_err-vars-clause-lines g c =
     (c.in_err-vars.ensures.err (start_of c.args.store.now.slots c.args.frozen.now) refl
-    (simplified g (goal.at.returns-in_err-vars-clause-lines g c).In_ok-simplify_open)).0
+    (simplified g (goal.at.returns-in_err-vars-clause-lines g c).In_ok-simplify)).0
 
 pub returns-in_err-vars-clause-none_learned : goal.returns-in_err-vars-clause-none_learned
 returns-in_err-vars-clause-none_learned g c =
     (c.in_err-vars.ensures.err (start_of c.args.store.now.slots c.args.frozen.now) refl
-    (simplified g (goal.at.returns-in_err-vars-clause-none_learned g c).In_ok-simplify_open)).1
+    (simplified g (goal.at.returns-in_err-vars-clause-none_learned g c).In_ok-simplify)).1
 
 pub returns-in_err-names-clause-lines : goal.returns-in_err-names-clause-lines
 returns-in_err-names-clause-lines g c =
@@ -201,11 +201,12 @@ pub returns-clause-refuted : goal.returns-clause-refuted
 returns-clause-refuted g c w =
     elim (cases_Bool c.propagate_units.new.simplifier.is_refuted) [
       | inl e ↦
-          let h = simplified g (goal.at.returns-clause-refuted g c).In_ok-simplify_open in
+          let h = simplified g (goal.at.returns-clause-refuted g c).In_ok-simplify in
           subst (λ (cs : List (List Literal)). Contains cs [])
           (sym (same_clauses g (goal.at.returns-clause-refuted g c).In_ok-names
-          ∙ ap live_clauses (c.in_ok-vars.ensures.same (c.in_ok-simplify_open.ensures.refuted e))))
-          (h.refuted (c.in_ok-simplify_open.ensures.refuted e))
+          ∙ ap live_clauses
+          (c.in_ok-vars.ensures.refuted (c.in_ok-simplify.ensures.refuted e))))
+          (h.refuted (c.in_ok-simplify.ensures.refuted e))
       | inr e ↦ absurd (c.in_ok-propagate_units.ensures.refuted e w)
     ]
 

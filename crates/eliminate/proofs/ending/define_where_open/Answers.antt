@@ -7,10 +7,11 @@ returns-clause-result g c =
     ended c.define_pairs.result c.args.frozen.now c.args.simplifier.now c.args.store.now.slots
     c.define_pairs.new.store.slots c.define_pairs.new.names
     (g.S.Sink.lines c.args.sink.now) (g.S.Sink.lines c.define_pairs.new.sink) c.if-simplifier.false
-    c.define_pairs.ensures.more c.define_pairs.ensures.most c.define_pairs.ensures.keeps
+    c.define_pairs.ensures
 
 pub returns-clause-err : goal.returns-clause-err
 returns-clause-err g c =
     refused c.define_pairs.result c.args.frozen.now c.args.simplifier.now c.args.store.now.slots
+    c.define_pairs.new.store.slots c.define_pairs.new.names
     (g.S.Sink.lines c.args.sink.now) (g.S.Sink.lines c.define_pairs.new.sink) c.if-simplifier.false
-    c.define_pairs.ensures.err
+    c.define_pairs.ensures

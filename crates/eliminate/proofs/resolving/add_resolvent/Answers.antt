@@ -2,6 +2,7 @@
 use Rattle.std.proofs.Common.{◌≡◌, ◌∙◌, ◌++◌, ◌∷◌, [], List, Some, true, ap, sym, subst, inr}
 use Rattle.std.proofs.Common.{length}
 use Rattle.std.proofs.lemmas.Bool.{not-true}
+use Rattle.std.proofs.lemmas.Result.{MatchResult-from_err}
 use Rattle.cnf.specs.Literal.{Literal, negation}
 use Rattle.cnf.specs.Clause.{contains_literal}
 use Rattle.clauses.specs.Slots.{Slots, clause_at}
@@ -12,39 +13,38 @@ use Rattle.eliminate.specs.Variables.{GrowsWithout}
 use Rattle.eliminate.proofs.Resolvable.{resolvent_addable, resolvent_kind, literals_placed}
 use Rattle.eliminate.proofs.Resolvable.{literals_plain, is_named, same_at, pair_added}
 use Rattle.eliminate.proofs.Growing.{grows_one, resolvent-lacks}
-use Rattle.lrat_log.proofs.Laws.{when_err}
 use Rattle.eliminate.proofs.Tables.{leaves_beside}
 use Rattle.eliminate.proofs.resolving.add_resolvent.Goals as goal
 
 pub resolve-requires-clause-first : goal.resolve-requires-clause-first
 resolve-requires-clause-first g c =
     literals_placed c.args.simplifier.now c.args.store.now.slots (g.S.Sink.lines c.args.sink.now)
-    c.requires.simplified c.args.first c.lits.result.now c.lits.ensures
+    c.requires.is_open.simplified c.args.first c.lits.result.now c.lits.ensures
 
 pub resolve-requires-clause-second : goal.resolve-requires-clause-second
 resolve-requires-clause-second g c =
     literals_placed c.args.simplifier.now c.args.store.now.slots (g.S.Sink.lines c.args.sink.now)
-    c.requires.simplified c.args.second c.lits-2.result.now c.lits-2.ensures
+    c.requires.is_open.simplified c.args.second c.lits-2.result.now c.lits-2.ensures
 
 pub resolve-requires-clause-plain_first : goal.resolve-requires-clause-plain_first
 resolve-requires-clause-plain_first g c =
     literals_plain c.args.simplifier.now c.args.store.now.slots (g.S.Sink.lines c.args.sink.now)
-    c.requires.simplified c.args.first c.lits.result.now c.lits.ensures
+    c.requires.is_open.simplified c.args.first c.lits.result.now c.lits.ensures
 
 pub resolve-requires-clause-plain_second : goal.resolve-requires-clause-plain_second
 resolve-requires-clause-plain_second g c =
     literals_plain c.args.simplifier.now c.args.store.now.slots (g.S.Sink.lines c.args.sink.now)
-    c.requires.simplified c.args.second c.lits-2.result.now c.lits-2.ensures
+    c.requires.is_open.simplified c.args.second c.lits-2.result.now c.lits-2.ensures
 
 pub parents-requires-clause-first : goal.parents-requires-clause-first
 parents-requires-clause-first g c =
     is_named c.args.simplifier.now c.args.store.now.slots (g.S.Sink.lines c.args.sink.now)
-    c.requires.simplified c.args.first c.lits.result.now c.lits.ensures
+    c.requires.is_open.simplified c.args.first c.lits.result.now c.lits.ensures
 
 pub parents-requires-clause-second : goal.parents-requires-clause-second
 parents-requires-clause-second g c =
     is_named c.args.simplifier.now c.args.store.now.slots (g.S.Sink.lines c.args.sink.now)
-    c.requires.simplified c.args.second c.lits-2.result.now c.lits-2.ensures
+    c.requires.is_open.simplified c.args.second c.lits-2.result.now c.lits-2.ensures
 
 pub add-requires-clause-line : goal.add-requires-clause-line
 add-requires-clause-line g c start h =
@@ -71,11 +71,12 @@ add-requires-clause-line g c start h =
     kind.0 kind.1 has has_not (not-true _ (sym plain ∙ is_plain))
     (c.in_ok-is_plain.ensures.built is_plain) c.in_ok-hints.ensures
 
-pub returns-in_err-reference-clause-err : goal.returns-in_err-reference-clause-err
-returns-in_err-reference-clause-err g c =
-    when_err _ (leaves_beside c.args.simplifier.now c.resolve.new.marks c.resolve.new.out
+pub returns-in_err-reference-clause-passes : goal.returns-in_err-reference-clause-passes
+returns-in_err-reference-clause-passes g c =
+    MatchResult-from_err _ _ _ c.from_residual-in_err-reference.ensures.0
+    (λ _. leaves_beside c.args.simplifier.now c.resolve.new.marks c.resolve.new.out
     c.args.store.now.slots (g.S.Sink.lines c.args.sink.now) (g.S.Sink.lines c.add.new.sink)
-    c.resolve.ensures.len c.in_err-reference.ensures.err)
+    c.resolve.ensures.len c.in_err-reference.ensures.passes)
 
 pub returns-clause-grows : goal.returns-clause-grows
 returns-clause-grows g c =
@@ -94,8 +95,8 @@ returns-clause-grows g c =
     (same_at slots c.args.second c.requires.second.0 e c.requires.second.1 c.lits-2.ensures)
     c.requires.second.2 in
     let lacks =
-    resolvent-lacks p d e (literals_plain s slots ls c.requires.simplified c.args.first d
-    c.lits.ensures) (literals_plain s slots ls c.requires.simplified c.args.second e
+    resolvent-lacks p d e (literals_plain s slots ls c.requires.is_open.simplified c.args.first d
+    c.lits.ensures) (literals_plain s slots ls c.requires.is_open.simplified c.args.second e
     c.lits-2.ensures) has has_not in
     subst (GrowsWithout p slots)
     (sym (c.in_ok-reference.ensures.slots

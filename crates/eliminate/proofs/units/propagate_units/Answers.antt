@@ -1,19 +1,16 @@
 -- A sweep that finds nothing leaves no clause that is false or unit.
 use Rattle.std.proofs.Common.{arith}
 use Rattle.std.proofs.lemmas.Bool.{both_ways}
-use Rattle.eliminate.specs.Simplifier.{LeavesLog}
+use Rattle.std.proofs.lemmas.Result.{MatchResult-from_err}
 use Rattle.eliminate.proofs.Propagating.{still_propagating}
 use Rattle.eliminate.proofs.Settled.{settled_not_refuted}
-use Rattle.eliminate.proofs.Simplified.{log_of}
 use Rattle.eliminate.proofs.units.propagate_units.Goals as goal
-use Rattle.lrat_log.proofs.Laws.{when_err}
 
 pub sweeps-init : goal.sweeps-init
 sweeps-init g c = record {
   simplified = λ start h. h;
   propagating = record {
-    simplified = c.requires.simplified;
-    going = c.requires.going;
+    is_open = c.requires;
     units = c.in_ok-units.ensures.units;
     fits = c.in_ok-units.ensures.rows;
   };
@@ -25,61 +22,40 @@ sweep-requires g c = c.sweeps.invariant.propagating
 
 pub follow-requires : goal.follow-requires
 follow-requires g c =
-    still_propagating _ _ _ _ _ _ _ _ c.in_ok-found.ensures.propagated
+    still_propagating _ _ _ _ _ _ _ _ c.in_ok-found.ensures.moves
     c.sweeps.invariant.propagating c.if-simplifier.false
 
-pub returns-in_err-units-clause-err : goal.returns-in_err-units-clause-err
-returns-in_err-units-clause-err g c =
-    let logs : LeavesLog c.args.simplifier.now c.args.store.now.slots
-    (g.S.Sink.lines c.args.sink.now) _ =
-    (λ start h. log_of start c.args.simplifier.now c.args.store.now.slots
-    (g.S.Sink.lines c.args.sink.now) h) in
-    when_err _ logs
+pub returns-in_err-found-clause-passes : goal.returns-in_err-found-clause-passes
+returns-in_err-found-clause-passes g c =
+    MatchResult-from_err _ _ _ c.from_residual-in_err-found.ensures.0
+    (λ _ start h. c.in_err-found.ensures.moves start (c.sweeps.invariant.simplified start h))
 
-pub returns-in_err-visits-clause-err : goal.returns-in_err-visits-clause-err
-returns-in_err-visits-clause-err g c =
-    let logs : LeavesLog c.args.simplifier.now c.args.store.now.slots
-    (g.S.Sink.lines c.args.sink.now) _ =
-    (λ start h. log_of start c.args.simplifier.now c.args.store.now.slots
-    (g.S.Sink.lines c.args.sink.now) h) in
-    when_err _ logs
+pub returns-in_err-follow-clause-passes : goal.returns-in_err-follow-clause-passes
+returns-in_err-follow-clause-passes g c =
+    MatchResult-from_err _ _ _ c.from_residual-in_err-follow.ensures.0
+    (λ _ start h. c.in_err-follow.ensures start
+    (c.in_ok-found.ensures.moves.simplified start (c.sweeps.invariant.simplified start h)))
 
-pub returns-in_err-found-clause-err : goal.returns-in_err-found-clause-err
-returns-in_err-found-clause-err g c =
-    let logs : LeavesLog c.args.simplifier.now c.args.store.now.slots
-    (g.S.Sink.lines c.args.sink.now) _ =
-    (λ start h. c.in_err-found.ensures.err start (c.sweeps.invariant.simplified start h)) in
-    when_err _ logs
-
-pub returns-in_err-follow-clause-err : goal.returns-in_err-follow-clause-err
-returns-in_err-follow-clause-err g c =
-    let logs : LeavesLog c.args.simplifier.now c.args.store.now.slots
-    (g.S.Sink.lines c.args.sink.now) _ =
-    (λ start h. c.in_err-follow.ensures.err start
-    (c.in_ok-found.ensures.propagated.simplified start (c.sweeps.invariant.simplified start h)))
-    in
-    when_err _ logs
-
-pub returns-then-simplifier-clause-simplified : goal.returns-then-simplifier-clause-simplified
-returns-then-simplifier-clause-simplified g c start h =
-    c.in_ok-found.ensures.propagated.simplified start (c.sweeps.invariant.simplified start h)
+pub returns-then-simplifier-clause-passes : goal.returns-then-simplifier-clause-passes
+returns-then-simplifier-clause-passes g c start h =
+    c.in_ok-found.ensures.moves.simplified start (c.sweeps.invariant.simplified start h)
 
 pub returns-then-simplifier-clause-refuted : goal.returns-then-simplifier-clause-refuted
 returns-then-simplifier-clause-refuted g c works = absurd (both_ways _ works c.if-simplifier.true)
 
-pub returns-then-not-found-clause-simplified : goal.returns-then-not-found-clause-simplified
-returns-then-not-found-clause-simplified g c start h =
-    c.in_ok-found.ensures.propagated.simplified start (c.sweeps.invariant.simplified start h)
+pub returns-then-not-found-clause-passes : goal.returns-then-not-found-clause-passes
+returns-then-not-found-clause-passes g c start h =
+    c.in_ok-found.ensures.moves.simplified start (c.sweeps.invariant.simplified start h)
 
 pub returns-then-not-found-clause-refuted : goal.returns-then-not-found-clause-refuted
 returns-then-not-found-clause-refuted g c works =
     settled_not_refuted c.sweeps.units.trail.items c.args.store.now.slots c.sweeps.store.slots
     (c.in_ok-found.ensures.settled c.if-not-found.true).1 c.sweeps.invariant.grows
 
-pub returns-then-simplifier-2-clause-simplified : goal.returns-then-simplifier-2-clause-simplified
-returns-then-simplifier-2-clause-simplified g c start h =
-    c.in_ok-follow.ensures.propagated.simplified start
-    (c.in_ok-found.ensures.propagated.simplified start (c.sweeps.invariant.simplified start h))
+pub returns-then-simplifier-2-clause-passes : goal.returns-then-simplifier-2-clause-passes
+returns-then-simplifier-2-clause-passes g c start h =
+    c.in_ok-follow.ensures.simplified start
+    (c.in_ok-found.ensures.moves.simplified start (c.sweeps.invariant.simplified start h))
 
 pub returns-then-simplifier-2-clause-refuted : goal.returns-then-simplifier-2-clause-refuted
 returns-then-simplifier-2-clause-refuted g c works =
@@ -87,15 +63,15 @@ returns-then-simplifier-2-clause-refuted g c works =
 
 pub sweeps-preserved : goal.sweeps-preserved
 sweeps-preserved g c =
-    let swept = c.in_ok-found.ensures.propagated.units c.if-simplifier.false in
-    let followed = c.in_ok-follow.ensures.propagated.units c.if-simplifier-2.false in
+    let swept = c.in_ok-found.ensures.moves.units c.if-simplifier.false in
+    let followed = c.in_ok-follow.ensures.units c.if-simplifier-2.false in
     record {
       simplified =
-          λ start h. c.in_ok-follow.ensures.propagated.simplified start
-          (c.in_ok-found.ensures.propagated.simplified start
+          λ start h. c.in_ok-follow.ensures.simplified start
+          (c.in_ok-found.ensures.moves.simplified start
           (c.sweeps.invariant.simplified start h));
-      propagating = still_propagating _ _ _ _ _ _ _ _ c.in_ok-follow.ensures.propagated
-          (still_propagating _ _ _ _ _ _ _ _ c.in_ok-found.ensures.propagated
+      propagating = still_propagating _ _ _ _ _ _ _ _ c.in_ok-follow.ensures
+          (still_propagating _ _ _ _ _ _ _ _ c.in_ok-found.ensures.moves
           c.sweeps.invariant.propagating c.if-simplifier.false)
           c.if-simplifier-2.false;
       grows = λ r d e. followed.grows r d (swept.grows r d (c.sweeps.invariant.grows r d e));
@@ -104,6 +80,6 @@ sweeps-preserved g c =
 pub sweeps-smaller : goal.sweeps-smaller
 sweeps-smaller g c =
     let less = c.in_ok-found.ensures.progress c.if-not-found.false c.if-simplifier.false in
-    let followed = c.in_ok-follow.ensures.propagated.units c.if-simplifier-2.false in
+    let followed = c.in_ok-follow.ensures.units c.if-simplifier-2.false in
     let few = followed.fewer in
     omega arith

@@ -1,11 +1,10 @@
 -- All pairs of one clause more are resolved.
 use Rattle.std.proofs.Common.{List, ℕ, sym, subst, arith}
 use Rattle.std.proofs.lemmas.List.{take_all}
+use Rattle.std.proofs.lemmas.Result.{MatchResult-from_err}
 use Rattle.cnf.specs.Literal.{negation}
-use Rattle.eliminate.specs.Simplifier.{LeavesLog}
 use Rattle.eliminate.specs.Variables.{IsWith, ArePairsResolved}
 use Rattle.eliminate.proofs.Growing.{with_later, all_with_later, grows_join, next_pairs}
-use Rattle.lrat_log.proofs.Laws.{when_err}
 use Rattle.eliminate.proofs.variables.add_resolvents.Goals as goal
 
 pub add_resolvents_of-requires-clause-first : goal.add_resolvents_of-requires-clause-first
@@ -20,13 +19,12 @@ add_resolvents_of-requires-clause-seconds g c =
     all_with_later (negation c.args.pivot) c.args.store.now.slots c.loop-first.store.slots
     c.args.seconds.now c.loop-first.invariant.grows.kept c.requires.seconds
 
-pub returns-in_err-add_resolvents_of-clause-err : goal.returns-in_err-add_resolvents_of-clause-err
-returns-in_err-add_resolvents_of-clause-err g c =
-    let logs : LeavesLog c.args.simplifier.now c.args.store.now.slots
-    (g.S.Sink.lines c.args.sink.now) (g.S.Sink.lines c.add_resolvents_of.new.sink) =
-    (λ start h. c.in_err-add_resolvents_of.ensures.err start
-    (c.loop-first.invariant.simplified start h)) in
-    when_err _ logs
+pub returns-in_err-add_resolvents_of-clause-passes
+    : goal.returns-in_err-add_resolvents_of-clause-passes
+returns-in_err-add_resolvents_of-clause-passes g c =
+    MatchResult-from_err _ _ _ c.from_residual.ensures.0
+    (λ _ start h. c.in_err-add_resolvents_of.ensures.passes start
+    (c.loop-first.invariant.simplified start h))
 
 pub returns-then-simplifier-clause-grows : goal.returns-then-simplifier-clause-grows
 returns-then-simplifier-clause-grows g c =
@@ -37,7 +35,7 @@ returns-then-simplifier-clause-grows g c =
 pub loop-first-preserved : goal.loop-first-preserved
 loop-first-preserved g c = record {
   simplified =
-      λ start h. c.in_ok-add_resolvents_of.ensures.simplified start
+      λ start h. c.in_ok-add_resolvents_of.ensures.passes start
       (c.loop-first.invariant.simplified start h);
   works = c.if-simplifier.false;
   grows =

@@ -2,11 +2,10 @@
 use Rattle.std.proofs.Common.{sym, subst, arith}
 use Rattle.std.specs.Prelude.{All}
 use Rattle.std.proofs.lemmas.List.{take_all}
+use Rattle.std.proofs.lemmas.Result.{MatchResult-from_err}
 use Rattle.cnf.specs.Literal.{negation}
-use Rattle.eliminate.specs.Simplifier.{LeavesLog}
 use Rattle.eliminate.specs.Variables.{IsWith, IsPairResolved}
 use Rattle.eliminate.proofs.Growing.{with_later, grows_join, next_pair}
-use Rattle.lrat_log.proofs.Laws.{when_err}
 use Rattle.eliminate.proofs.variables.add_resolvents_of.Goals as goal
 
 pub add_resolvent-requires-clause-second : goal.add_resolvent-requires-clause-second
@@ -17,13 +16,11 @@ add_resolvent-requires-clause-second g c =
     (c.requires.seconds c.loop-second.second-index c.second-item.result
     c.loop-second-test.true))
 
-pub returns-in_err-add_resolvent-clause-err : goal.returns-in_err-add_resolvent-clause-err
-returns-in_err-add_resolvent-clause-err g c =
-    let logs : LeavesLog c.args.simplifier.now c.args.store.now.slots
-    (g.S.Sink.lines c.args.sink.now) (g.S.Sink.lines c.add_resolvent.new.sink) =
-    (λ start h. c.in_err-add_resolvent.ensures.err start
-    (c.loop-second.invariant.simplified start h)) in
-    when_err _ logs
+pub returns-in_err-add_resolvent-clause-passes : goal.returns-in_err-add_resolvent-clause-passes
+returns-in_err-add_resolvent-clause-passes g c =
+    MatchResult-from_err _ _ _ c.from_residual.ensures.0
+    (λ _ start h. c.in_err-add_resolvent.ensures.passes start
+    (c.loop-second.invariant.simplified start h))
 
 pub returns-then-simplifier-clause-grows : goal.returns-then-simplifier-clause-grows
 returns-then-simplifier-clause-grows g c =
@@ -34,7 +31,7 @@ returns-then-simplifier-clause-grows g c =
 pub loop-second-preserved : goal.loop-second-preserved
 loop-second-preserved g c = record {
   simplified =
-      λ start h. c.in_ok-add_resolvent.ensures.simplified start
+      λ start h. c.in_ok-add_resolvent.ensures.passes start
       (c.loop-second.invariant.simplified start h);
   works = c.if-simplifier.false;
   grows =

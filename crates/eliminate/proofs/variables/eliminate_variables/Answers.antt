@@ -1,10 +1,10 @@
 -- One variable more was tried.
 use Rattle.std.proofs.Common.{◌∙◌, List, ap, refl}
+use Rattle.std.proofs.lemmas.Result.{MatchResult-from_err}
 use Rattle.clauses.specs.Slots.{Slots, StoreState}
 use Rattle.lrat_log.specs.Log.{LogLine}
 use Rattle.eliminate.specs.declared.simplifier.Simplifier.{Simplifier}
-use Rattle.eliminate.specs.Variables.{LeavesLogOver, StaysOver}
-use Rattle.lrat_log.proofs.Laws.{when_err}
+use Rattle.eliminate.specs.Variables.{StaysOver}
 use Rattle.eliminate.proofs.Tables.{simplified_beside, simplified_at}
 use Rattle.eliminate.proofs.variables.eliminate_variables.Given.{Over}
 use Rattle.eliminate.proofs.variables.eliminate_variables.Goals as goal
@@ -21,18 +21,16 @@ popped g c start same h =
     simplified_beside start s s.marks s.clause c.pop.new.self c.loop-try.store.slots
     (g.S.Sink.lines c.loop-try.sink) refl (c.loop-try.invariant.simplified start same h)
 
-pub returns-in_err-is_gone-clause-err : goal.returns-in_err-is_gone-clause-err
-returns-in_err-is_gone-clause-err g c =
-    let logs : LeavesLogOver c.args.frozen.now c.args.simplifier.now c.args.store.now.slots
-    (g.S.Sink.lines c.args.sink.now) (g.S.Sink.lines c.try_variable.new.sink) = (λ start same h.
-    c.in_err-is_gone.ensures.err start same
-    (popped g (goal.at.returns-in_err-is_gone-clause-err g c).After-pop start same h)) in
-    when_err _ logs
+pub returns-in_err-is_gone : goal.returns-in_err-is_gone
+returns-in_err-is_gone g c =
+    MatchResult-from_err _ _ _ c.from_residual.ensures.0
+    (λ _ start same h. c.in_err-is_gone.ensures start same
+    (popped g (goal.at.returns-in_err-is_gone g c).After-pop start same h))
 
-pub returns-then-simplifier-clause-simplified : goal.returns-then-simplifier-clause-simplified
-returns-then-simplifier-clause-simplified g c start same h =
-    c.in_ok-is_gone.ensures.simplified start same
-    (popped g (goal.at.returns-then-simplifier-clause-simplified g c).After-pop start same h)
+pub returns-then-simplifier : goal.returns-then-simplifier
+returns-then-simplifier g c start same h =
+    c.in_ok-is_gone.ensures start same
+    (popped g (goal.at.returns-then-simplifier g c).After-pop start same h)
 
 pub loop-try-preserved : goal.loop-try-preserved
 loop-try-preserved g c =
@@ -50,7 +48,7 @@ loop-try-preserved g c =
             w.try_variable.new.store.slots kept (g.S.Sink.lines w.try_variable.new.sink) most
             w.simplifier-is (ap (λ (x : StoreState). x.slots) w.store-is)
             (ap g.S.Sink.lines w.sink-is)
-            (w.in_ok-is_gone.ensures.simplified start same (before start same h));
+            (w.in_ok-is_gone.ensures start same (before start same h));
         works = ap (λ (x : Simplifier). x.is_refuted) w.simplifier-is ∙ w.if-simplifier.false;
       }
       | else-is_free w ↦ record {

@@ -3,12 +3,11 @@ use Rattle.std.proofs.Common.{◌≡◌, ◌∙◌, ap, refl, sym, subst, ◌++�
 use Rattle.std.proofs.lemmas.List.{length-set}
 use Rattle.cnf.specs.Literal.{Literal, index_of}
 use Rattle.clauses.specs.Slots.{Slots}
-use Rattle.lrat_log.specs.Log.{LogLine}
 use Rattle.cnf.specs.Marks.{HasPlace}
 use Rattle.cnf.proofs.Laws.{place_within}
 use Rattle.eliminate.specs.declared.simplifier.Simplifier.{Simplifier}
 use Rattle.eliminate_tables.specs.Rows.{AreRows, row_at, with_row, has_clause}
-use Rattle.eliminate.specs.Simplifier.{StaysSimplified}
+use Rattle.eliminate.specs.Simplifier.{KeepsForm}
 use Rattle.eliminate.proofs.Gathering.{rows_cleaned, those_with}
 use Rattle.eliminate.proofs.Tables.{simplified_same}
 use Rattle.eliminate.proofs.variables.gather.Goals as goal
@@ -34,30 +33,31 @@ right c =
     are_cleaned c.args.simplifier.now.occurrences c.clean.new.self c.args.store.now.slots c.args.lit
     c.index-row.result c.requires.place c.requires.rows c.index-row.ensures.index c.clean.ensures
 
-stays : (c : After-clean) (lines : List LogLine)
-    → StaysSimplified c.args.simplifier.now c.args.store.now.slots lines
-    (record c.args.simplifier.now { occurrences = c.clean.new.self }) c.args.store.now.slots lines
-stays c lines start h =
+keeps : (c : After-clean) → KeepsForm c.args.simplifier.now
+    (record c.args.simplifier.now { occurrences = c.clean.new.self }) c.args.store.now.slots
+keeps c =
     let s : Simplifier = c.args.simplifier.now in
-    simplified_same start s (record s { occurrences = c.clean.new.self })
-    c.args.store.now.slots lines
-    (record {
-      vars = refl;
-      names = refl;
-      places = (right c).1;
-      removals = refl;
-      marks = refl;
+    record {
+      stays = λ lines start h. simplified_same start s
+          (record s { occurrences = c.clean.new.self }) c.args.store.now.slots lines
+          (record {
+            vars = refl;
+            names = refl;
+            places = (right c).1;
+            removals = refl;
+            marks = refl;
+            refuted = refl;
+          }) (right c).0 h;
       refuted = refl;
-    }) (right c).0 h
+    }
 
 pub returns-in_err-extend_from_slice-clause-rows : goal.returns-in_err-extend_from_slice-clause-rows
 returns-in_err-extend_from_slice-clause-rows c =
     (right (goal.at.returns-in_err-extend_from_slice-clause-rows c).After-clean).0
 
-pub returns-in_err-extend_from_slice-clause-simplified
-    : goal.returns-in_err-extend_from_slice-clause-simplified
-returns-in_err-extend_from_slice-clause-simplified c lines start h =
-    stays (goal.at.returns-in_err-extend_from_slice-clause-simplified c).After-clean lines start h
+pub returns-in_err-extend_from_slice-clause-form : goal.returns-in_err-extend_from_slice-clause-form
+returns-in_err-extend_from_slice-clause-form c =
+    keeps (goal.at.returns-in_err-extend_from_slice-clause-form c).After-clean
 
 pub returns-clause-gathered : goal.returns-clause-gathered
 returns-clause-gathered c =
@@ -73,6 +73,5 @@ returns-clause-gathered c =
 pub returns-clause-rows : goal.returns-clause-rows
 returns-clause-rows c = (right (goal.at.returns-clause-rows c).After-clean).0
 
-pub returns-clause-simplified : goal.returns-clause-simplified
-returns-clause-simplified c lines start h =
-    stays (goal.at.returns-clause-simplified c).After-clean lines start h
+pub returns-clause-form : goal.returns-clause-form
+returns-clause-form c = keeps (goal.at.returns-clause-form c).After-clean

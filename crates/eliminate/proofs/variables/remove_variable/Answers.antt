@@ -1,15 +1,15 @@
 -- The variable is gone.
 use Rattle.std.proofs.Common.{◌∙◌, ◌≤◌, List, sym, subst, arith, length}
 use Rattle.std.proofs.lemmas.Bool.{both_ways}
+use Rattle.std.proofs.lemmas.Result.{MatchResult-from_err}
 use Rattle.clauses.specs.Slots.{Slots}
 use Rattle.lrat_log.specs.Log.{LogLine}
 use Rattle.eliminate.specs.declared.simplifier.Simplifier.{Simplifier}
 use Rattle.eliminate.specs.Elimination.{Removed, IsFree}
 use Rattle.eliminate.specs.State.{IsState}
-use Rattle.eliminate.specs.Variables.{KeepsWork, LeavesLogOver}
+use Rattle.eliminate.specs.Variables.{KeepsWork}
 use Rattle.eliminate.proofs.Deleting.{keeps_join, log_after}
 use Rattle.eliminate.proofs.Eliminating.{variable_goes, free_within, line_deletes}
-use Rattle.lrat_log.proofs.Laws.{when_err}
 use Rattle.eliminate.proofs.variables.remove_variable.Goals as goal
 
 pub push-requires-clause-live : goal.push-requires-clause-live
@@ -18,31 +18,27 @@ push-requires-clause-live g c k d lt = let w = c.requires.firsts.with_it k d lt 
 pub delete_all-requires-clause-lines : goal.delete_all-requires-clause-lines
 delete_all-requires-clause-lines g c r =
     line_deletes c.args.simplifier.now.names.names r
-    c.requires.simplified.2.state.work.named.numbers
+    c.requires.is_open.simplified.2.state.work.named.numbers
 
 pub delete_all-requires-2-clause-lines : goal.delete_all-requires-2-clause-lines
 delete_all-requires-2-clause-lines g c r =
     line_deletes c.args.simplifier.now.names.names r
-    c.requires.simplified.2.state.work.named.numbers
+    c.requires.is_open.simplified.2.state.work.named.numbers
 
-pub returns-in_err-delete_all-clause-err : goal.returns-in_err-delete_all-clause-err
-returns-in_err-delete_all-clause-err g c =
-    let logs : LeavesLogOver c.args.frozen.now c.args.simplifier.now c.args.store.now.slots
-    (g.S.Sink.lines c.args.sink.now) (g.S.Sink.lines c.delete_all.new.sink) =
-    (λ start same h. c.in_err-delete_all.ensures.err _ _ _ h.state.work (h.going c.requires.going))
-    in
-    when_err _ logs
+pub returns-in_err-delete_all : goal.returns-in_err-delete_all
+returns-in_err-delete_all g c =
+    MatchResult-from_err _ _ _ c.from_residual-in_err-delete_all.ensures.0
+    (λ _ start same h. c.in_err-delete_all.ensures.err _ _ _ h.state.work
+    (h.going c.requires.is_open.going))
 
-pub returns-in_err-delete_all-2-clause-err : goal.returns-in_err-delete_all-2-clause-err
-returns-in_err-delete_all-2-clause-err g c =
-    let logs : LeavesLogOver c.args.frozen.now c.args.simplifier.now c.args.store.now.slots
-    (g.S.Sink.lines c.args.sink.now) (g.S.Sink.lines c.delete_all-2.new.sink) =
-    (λ start same h. log_after _ _ _ _ _ _ c.in_ok-delete_all.ensures.work
-    c.in_err-delete_all-2.ensures.err _ _ _ h.state.work (h.going c.requires.going)) in
-    when_err _ logs
+pub returns-in_err-delete_all-2 : goal.returns-in_err-delete_all-2
+returns-in_err-delete_all-2 g c =
+    MatchResult-from_err _ _ _ c.from_residual-in_err-delete_all-2.ensures.0
+    (λ _ start same h. log_after _ _ _ _ _ _ c.in_ok-delete_all.ensures.work
+    c.in_err-delete_all-2.ensures.err _ _ _ h.state.work (h.going c.requires.is_open.going))
 
-pub returns-clause-simplified : goal.returns-clause-simplified
-returns-clause-simplified g c start same h =
+pub returns : goal.returns
+returns g c start same h =
     let s : Simplifier = c.args.simplifier.now in
     let slots : Slots = c.args.store.now.slots in
     let mid : Slots = c.delete_all.new.store.slots in
@@ -59,7 +55,8 @@ returns-clause-simplified g c start same h =
     let state =
     variable_goes start s slots mid left ls most v c.args.firsts.now c.args.seconds.now h
     c.requires.firsts c.requires.seconds c.requires.resolved
-    c.in_ok-delete_all.ensures.left c.in_ok-delete_all-2.ensures.left c.requires.going free (
+    c.in_ok-delete_all.ensures.left c.in_ok-delete_all-2.ensures.left c.requires.is_open.going
+    free (
       free.0,
       below,
     ) work in
@@ -75,6 +72,6 @@ returns-clause-simplified g c start same h =
       few = h.few;
       given = h.given;
       fresh = h.fresh;
-      going = λ e. (work _ _ _ h.state.work (h.going c.requires.going)).1;
-      refuted = λ e. absurd (both_ways s.is_refuted c.requires.going e);
+      going = λ e. (work _ _ _ h.state.work (h.going c.requires.is_open.going)).1;
+      refuted = λ e. absurd (both_ways s.is_refuted c.requires.is_open.going e);
     }

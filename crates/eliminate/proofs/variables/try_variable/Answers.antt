@@ -1,19 +1,19 @@
 -- The clauses are those with the variable, before and after the resolvents are added.
 use Rattle.std.proofs.Common.{List, ℕ, sym, subst}
 use Rattle.std.specs.Prelude.{All}
+use Rattle.std.proofs.lemmas.Result.{MatchResult-from_err}
 use Rattle.cnf.specs.Literal.{Literal, negation}
 use Rattle.clauses.specs.Slots.{Slots}
 use Rattle.eliminate.specs.Elimination.{positive}
-use Rattle.eliminate.specs.Variables.{IsWith, AreThoseWith, ArePairsResolved, LeavesLogOver}
+use Rattle.eliminate.specs.Variables.{IsWith, AreThoseWith, ArePairsResolved}
 use Rattle.eliminate.proofs.Growing.{those_later, those_not_later, pairs_now}
-use Rattle.lrat_log.proofs.Laws.{when_err}
 use Rattle.eliminate.proofs.Resolvable.{literals_placed}
 use Rattle.eliminate.proofs.variables.try_variable.Goals as goal
 
 pub find_parents-requires-clause-placed : goal.find_parents-requires-clause-placed
 find_parents-requires-clause-placed g c r x e =
     literals_placed c.args.simplifier.now c.args.store.now.slots (g.S.Sink.lines c.args.sink.now)
-    (c.requires.simplified.0, c.requires.simplified.2) r x e
+    (c.requires.is_open.simplified.0, c.requires.is_open.simplified.2) r x e
 
 pub add_resolvents-requires-clause-firsts : goal.add_resolvents-requires-clause-firsts
 add_resolvents-requires-clause-firsts g c =
@@ -26,14 +26,6 @@ add_resolvents-requires-clause-seconds g c =
     subst (λ (rs : List ℕ). All (IsWith (negation c.new-pivot.result) c.args.store.now.slots) rs)
     (sym c.deref-2.ensures.value)
     (c.in_ok-find_parents.ensures.negative c.if-not-branch.false).with_it
-
-pub returns-in_err-add_resolvents-clause-err : goal.returns-in_err-add_resolvents-clause-err
-returns-in_err-add_resolvents-clause-err g c =
-    let logs : LeavesLogOver c.args.frozen.now c.args.simplifier.now c.args.store.now.slots
-    (g.S.Sink.lines c.args.sink.now) (g.S.Sink.lines c.add_resolvents.new.sink) =
-    (λ start same h. c.in_err-add_resolvents.ensures.err start
-    (c.find_parents.ensures.simplified (g.S.Sink.lines c.args.sink.now) start h)) in
-    when_err _ logs
 
 pub remove_variable-requires-clause-firsts : goal.remove_variable-requires-clause-firsts
 remove_variable-requires-clause-firsts g c =
@@ -80,11 +72,15 @@ remove_variable-requires-clause-resolved g c =
     (sym c.deref-4.ensures.value)
     (subst (λ (l : Literal). ArePairsResolved l more more fs ss) c.new-pivot.ensures now))
 
-pub returns-in_err-remove_variable-clause-err : goal.returns-in_err-remove_variable-clause-err
-returns-in_err-remove_variable-clause-err g c =
-    let logs : LeavesLogOver c.args.frozen.now c.args.simplifier.now c.args.store.now.slots
-    (g.S.Sink.lines c.args.sink.now) (g.S.Sink.lines c.remove_variable.new.sink) =
-    (λ start same h. c.in_err-remove_variable.ensures.err start same
-    (c.in_ok-add_resolvents.ensures.simplified start
-    (c.find_parents.ensures.simplified (g.S.Sink.lines c.args.sink.now) start h))) in
-    when_err _ logs
+pub returns-in_err-add_resolvents : goal.returns-in_err-add_resolvents
+returns-in_err-add_resolvents g c =
+    MatchResult-from_err _ _ _ c.from_residual-in_err-add_resolvents.ensures.0
+    (λ _ start same h. c.in_err-add_resolvents.ensures.passes start
+    (c.find_parents.ensures.form.stays (g.S.Sink.lines c.args.sink.now) start h))
+
+pub returns-in_err-remove_variable : goal.returns-in_err-remove_variable
+returns-in_err-remove_variable g c =
+    MatchResult-from_err _ _ _ c.from_residual-in_err-remove_variable.ensures.0
+    (λ _ start same h. c.in_err-remove_variable.ensures start same
+    (c.in_ok-add_resolvents.ensures.passes start
+    (c.find_parents.ensures.form.stays (g.S.Sink.lines c.args.sink.now) start h)))

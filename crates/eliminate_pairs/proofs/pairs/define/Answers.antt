@@ -1,26 +1,25 @@
 -- The three clauses of a definition, one after another.
 use Rattle.std.proofs.Common.{◌≡◌, ◌+◌, [], ◌∷◌, ◌++◌, length, Some, refl, ◌∙◌, ap}
+use Rattle.std.proofs.lemmas.Result.{MatchResult-from_err}
 use Rattle.cnf.specs.Literal.{negation}
 use Rattle.clauses.specs.Slots.{Slots}
-use Rattle.lrat_log.specs.Steps.{added_count}
-use Rattle.eliminate_pairs.specs.Pairs.{stage_of, whole_clause, Stage}
+use Rattle.eliminate_pairs.specs.Pairs.{stage_of, whole_clause, Stage, FitNames}
 use Rattle.eliminate_pairs.proofs.Defining.{whole_is, side_is, defined_is, kept_log, keeps_as}
-use Rattle.eliminate_pairs.proofs.Defining.{counted_added}
-use Rattle.eliminate_pairs.proofs.Defining.{few_additions}
+use Rattle.eliminate_pairs.proofs.Defining.{fit_added, few_additions}
 use Rattle.eliminate_pairs.proofs.Staging.{with_whole, with_side, whole_right, left_right}
 use Rattle.eliminate_pairs.proofs.Staging.{right_right}
 use Rattle.eliminate_pairs.proofs.Meetings.{shares}
 use Rattle.eliminate_pairs.proofs.pairs.define.Given.{Over}
 use Rattle.eliminate_pairs.proofs.pairs.define.Goals as goal
 use Rattle.eliminate_pairs.proofs.pairs.define.Goals.{In_ok-whole, In_ok-left_side}
-use Rattle.lrat_log.proofs.Laws.{when_err}
 
--- the first clause, its count, and the stage with it
-whole_counted : (g : Over) (c : In_ok-whole g)
-    → c.add.new.names.additions ≡ added_count (g.S.Sink.lines c.add.new.sink)
-whole_counted g c = counted_added c.args.names.now c.add.new.names (g.S.Sink.lines c.args.sink.now)
-    (g.S.Sink.lines c.add.new.sink) _ c.requires.counted c.in_ok-whole.ensures.names
-    c.in_ok-whole.ensures.lines refl
+-- the names with the first clause, and the stage with it
+whole_fits : (g : Over) (c : In_ok-whole g)
+    → FitNames c.add.new.names c.add.new.store.slots (g.S.Sink.lines c.add.new.sink)
+whole_fits g c =
+    fit_added c.args.names.now c.add.new.names c.args.store.now.slots c.add.new.store.slots
+    (g.S.Sink.lines c.args.sink.now) (g.S.Sink.lines c.add.new.sink) _ _ c.requires.fit
+    c.in_ok-whole.ensures.slots c.in_ok-whole.ensures.names c.in_ok-whole.ensures.lines refl
 
 whole_stage : (g : Over) (c : In_ok-whole g)
     → stage_of (c.args.vars + 1) c.add.new.store.slots c.add.new.names
@@ -31,19 +30,20 @@ whole_stage g c =
     whole_is c.args.vars c.args.store.now.slots c.add.new.store.slots c.args.names.now
     c.add.new.names (g.S.Sink.lines c.args.sink.now) (g.S.Sink.lines c.add.new.sink)
     c.in_ok-lits.lits.items c.new.result.items c.negation.result c.args.left c.args.right
-    c.requires.counted
+    c.requires.fit.counted
     c.in_ok-whole.ensures.slots c.in_ok-whole.ensures.names c.in_ok-whole.ensures.lines
     c.in_ok-lits.ensures.items (c.negation.ensures ∙ ap negation c.new-fresh.ensures)
     c.new.ensures.items
 
 -- and those of the side of the left literal
-left_counted : (g : Over) (c : In_ok-left_side g)
-    → c.add_side.new.names.additions ≡ added_count (g.S.Sink.lines c.add_side.new.sink)
-left_counted g c =
-    counted_added c.add.new.names c.add_side.new.names (g.S.Sink.lines c.add.new.sink)
-    (g.S.Sink.lines c.add_side.new.sink) _
-    (whole_counted g (goal.at.In_ok-left_side g c).In_ok-whole) c.in_ok-left_side.ensures.names
-    c.in_ok-left_side.ensures.lines refl
+left_fits : (g : Over) (c : In_ok-left_side g)
+    → FitNames c.add_side.new.names c.add_side.new.store.slots
+    (g.S.Sink.lines c.add_side.new.sink)
+left_fits g c =
+    fit_added c.add.new.names c.add_side.new.names c.add.new.store.slots c.add_side.new.store.slots
+    (g.S.Sink.lines c.add.new.sink) (g.S.Sink.lines c.add_side.new.sink) _ _
+    (whole_fits g (goal.at.In_ok-left_side g c).In_ok-whole) c.in_ok-left_side.ensures.slots
+    c.in_ok-left_side.ensures.names c.in_ok-left_side.ensures.lines refl
 
 left_stage : (g : Over) (c : In_ok-left_side g)
     → stage_of (c.args.vars + 1) c.add_side.new.store.slots c.add_side.new.names
@@ -59,48 +59,50 @@ left_stage g c =
     side_is (c.args.vars + 1) c.add.new.store.slots c.add_side.new.store.slots c.add.new.names
     c.add_side.new.names (g.S.Sink.lines c.add.new.sink) (g.S.Sink.lines c.add_side.new.sink)
     (with_whole s c.args.left c.args.right) c.in_ok-whole.whole (length s.slots) c.args.left
-    (whole_counted g w) c.in_ok-left_side.ensures.slots c.in_ok-left_side.ensures.names
+    (whole_fits g w).counted c.in_ok-left_side.ensures.slots c.in_ok-left_side.ensures.names
     c.in_ok-left_side.ensures.lines (whole_stage g w) c.in_ok-whole.ensures.reference
 
 pub add_side-requires-clause-counted : goal.add_side-requires-clause-counted
 add_side-requires-clause-counted g c =
-    whole_counted g (goal.at.add_side-requires-clause-counted g c).In_ok-whole
+    (whole_fits g (goal.at.add_side-requires-clause-counted g c).In_ok-whole).counted
 
 pub add_side-requires-2-clause-counted : goal.add_side-requires-2-clause-counted
 add_side-requires-2-clause-counted g c =
-    left_counted g (goal.at.add_side-requires-2-clause-counted g c).In_ok-left_side
+    (left_fits g (goal.at.add_side-requires-2-clause-counted g c).In_ok-left_side).counted
 
-pub returns-clause-counted : goal.returns-clause-counted
-returns-clause-counted g c =
-    counted_added c.add_side.new.names c.add_side-2.new.names (g.S.Sink.lines c.add_side.new.sink)
-    (g.S.Sink.lines c.add_side-2.new.sink) _
-    (left_counted g (goal.at.returns-clause-counted g c).In_ok-left_side)
-    c.in_ok-right_side.ensures.names c.in_ok-right_side.ensures.lines refl
+pub returns-clause-fit : goal.returns-clause-fit
+returns-clause-fit g c =
+    fit_added c.add_side.new.names c.add_side-2.new.names c.add_side.new.store.slots
+    c.add_side-2.new.store.slots (g.S.Sink.lines c.add_side.new.sink)
+    (g.S.Sink.lines c.add_side-2.new.sink) _ _
+    (left_fits g (goal.at.returns-clause-fit g c).In_ok-left_side)
+    c.in_ok-right_side.ensures.slots c.in_ok-right_side.ensures.names
+    c.in_ok-right_side.ensures.lines refl
 
-pub returns-in_err-left_side-clause-err : goal.returns-in_err-left_side-clause-err
-returns-in_err-left_side-clause-err g c =
+pub returns-in_err-left_side-clause-moves : goal.returns-in_err-left_side-clause-moves
+returns-in_err-left_side-clause-moves g c =
+    MatchResult-from_err _ _ _ c.from_residual-in_err-left_side.ensures.0 (λ _.
     let a = c.args.left in
     let b = c.args.right in
     let s : Stage =
     stage_of c.args.vars c.args.store.now.slots c.args.names.now
     (g.S.Sink.lines c.args.sink.now) in
-    let one = whole_stage g (goal.at.returns-in_err-left_side-clause-err g c).In_ok-whole in
-    when_err c.from_residual-in_err-left_side.result
-    (kept_log s (with_whole s a b) (g.S.Sink.lines c.add_side.new.sink)
+    let one = whole_stage g (goal.at.returns-in_err-left_side-clause-moves g c).In_ok-whole in
+    kept_log s (with_whole s a b) (g.S.Sink.lines c.add_side.new.sink)
     (c.in_err-left_side.ensures.err ∙ ap (λ (x : Stage). x.lines) one)
     (λ ground k. whole_right ground s a b (shares a b s.slots c.requires.often) c.requires.room
     (few_additions s.lines c.is_short.ensures) k))
 
-pub returns-in_err-right_side-clause-err : goal.returns-in_err-right_side-clause-err
-returns-in_err-right_side-clause-err g c =
+pub returns-in_err-right_side-clause-moves : goal.returns-in_err-right_side-clause-moves
+returns-in_err-right_side-clause-moves g c =
+    MatchResult-from_err _ _ _ c.from_residual-in_err-right_side.ensures.0 (λ _.
     let a = c.args.left in
     let b = c.args.right in
     let s : Stage =
     stage_of c.args.vars c.args.store.now.slots c.args.names.now
     (g.S.Sink.lines c.args.sink.now) in
-    let two = left_stage g (goal.at.returns-in_err-right_side-clause-err g c).In_ok-left_side in
-    when_err c.from_residual-in_err-right_side.result
-    (kept_log s (with_side (with_whole s a b) (length s.slots) a)
+    let two = left_stage g (goal.at.returns-in_err-right_side-clause-moves g c).In_ok-left_side in
+    kept_log s (with_side (with_whole s a b) (length s.slots) a)
     (g.S.Sink.lines c.add_side-2.new.sink) (c.in_err-right_side.ensures.err
     ∙ ap (λ (x : Stage). x.lines) two)
     (λ ground k. left_right ground s a b (shares a b s.slots c.requires.often) c.requires.room
@@ -123,19 +125,20 @@ returns-clause-defined g c =
     c.in_ok-right_side.ensures.reference in
     record { whole = d.0; left_side = d.1; right_side = d.2; two = c.requires.often.two }
 
-pub returns-clause-keeps : goal.returns-clause-keeps
-returns-clause-keeps g c =
+pub returns-clause-moves : goal.returns-clause-moves
+returns-clause-moves g c =
     let v = c.args.vars in
     let a = c.args.left in
     let b = c.args.right in
     let s : Stage =
     stage_of v c.args.store.now.slots c.args.names.now (g.S.Sink.lines c.args.sink.now) in
-    let left = (goal.at.returns-clause-keeps g c).In_ok-left_side in
+    let left = (goal.at.returns-clause-moves g c).In_ok-left_side in
     let three =
     side_is (v + 1) c.add_side.new.store.slots c.add_side-2.new.store.slots c.add_side.new.names
     c.add_side-2.new.names (g.S.Sink.lines c.add_side.new.sink)
     (g.S.Sink.lines c.add_side-2.new.sink) (with_side (with_whole s a b) (length s.slots) a)
-    c.in_ok-whole.whole (length s.slots) b (left_counted g left) c.in_ok-right_side.ensures.slots
+    c.in_ok-whole.whole (length s.slots) b (left_fits g left).counted
+    c.in_ok-right_side.ensures.slots
     c.in_ok-right_side.ensures.names c.in_ok-right_side.ensures.lines (left_stage g left)
     c.in_ok-whole.ensures.reference in
     keeps_as s (with_side (with_side (with_whole s a b) (length s.slots) a) (length s.slots) b)

@@ -1,5 +1,6 @@
 -- Clause after clause gets the variable.
-use Rattle.std.proofs.Common.{ap, sym, subst, ℕ}
+use Rattle.std.proofs.Common.{ap, sym, subst, arith, ℕ}
+use Rattle.std.proofs.lemmas.Result.{MatchResult-from_err}
 use Rattle.clauses.specs.Slots.{StoreState}
 use Rattle.eliminate_pairs.specs.declared.pairs.Fresh.{Fresh}
 use Rattle.eliminate_pairs.specs.Pairs.{stage_of, Stage, IsStage, Keeps}
@@ -7,7 +8,6 @@ use Rattle.eliminate_pairs.proofs.Defining.{defines_same}
 use Rattle.eliminate_pairs.proofs.pairs.define_found.Goals as goal
 use Rattle.eliminate_pairs.proofs.pairs.define_found.Goals.{in-Some+then-has_pair+in_ok-new}
 use Rattle.eliminate_pairs.proofs.pairs.define_found.Goals.{in-Some+else-has_pair, in_default}
-use Rattle.lrat_log.proofs.Laws.{when_err}
 
 pub loop-k-init : goal.loop-k-init
 loop-k-init g c =
@@ -17,18 +17,26 @@ loop-k-init g c =
     record {
       variable = c.in_ok-definition.ensures.variable;
       defined = c.in_ok-definition.ensures.defined;
-      counted = c.in_ok-definition.ensures.counted;
-      long = c.in_ok-definition.ensures.long;
+      fit = c.in_ok-definition.ensures.fit;
       keeps =
           subst (λ (v : ℕ). Keeps s (stage_of v c.define.new.store.slots c.define.new.names
           (L c.define.new.sink))) (sym c.in_ok-definition.ensures.variable)
-          c.in_ok-definition.ensures.keeps;
+          c.in_ok-definition.ensures.moves;
     }
 
-pub returns-in_err-new-clause-err : goal.returns-in_err-new-clause-err
-returns-in_err-new-clause-err g c =
-    when_err c.from_residual-in_err-new.result
-    (λ ground k. c.in_err-new.ensures.err ground (c.loop-k.invariant.keeps ground k))
+pub returns-in_err-definition-clause-passes : goal.returns-in_err-definition-clause-passes
+returns-in_err-definition-clause-passes g c =
+    MatchResult-from_err _ _ _ c.from_residual.ensures.0 (λ _. record {
+      log = c.in_err-definition.ensures.moves;
+      rests = λ rare. absurd (rare _ _ (c.stand_often.ensures c.if-not-stand_often.false));
+    })
+
+pub returns-in_err-new-clause-passes : goal.returns-in_err-new-clause-passes
+returns-in_err-new-clause-passes g c =
+    MatchResult-from_err _ _ _ c.from_residual-in_err-new.ensures.0 (λ _. record {
+      log = λ ground k. c.in_err-new.ensures.moves ground (c.loop-k.invariant.keeps ground k);
+      rests = λ rare. absurd (rare _ _ (c.stand_often.ensures c.if-not-stand_often.false));
+    })
 
 pub loop-k-preserved : goal.loop-k-preserved
 loop-k-preserved g c =
@@ -46,9 +54,8 @@ loop-k-preserved g c =
           (record {
             variable = was.variable;
             defined = w.in_ok-new.ensures.defined;
-            counted = w.in_ok-new.ensures.counted;
-            long = w.in_ok-new.ensures.long;
-            keeps = λ ground k. w.in_ok-new.ensures.keeps ground (was.keeps ground k);
+            fit = w.in_ok-new.ensures.fit;
+            keeps = λ ground k. w.in_ok-new.ensures.moves ground (was.keeps ground k);
           })
       | in-Some+else-has_pair w ↦
           defines_same s c.args.vars d c.loop-k.store.slots c.match-found_at.store.slots
@@ -60,8 +67,13 @@ loop-k-preserved g c =
           (ap (λ (x : StoreState). x.slots) w.store-is) w.names-is (ap L w.sink-is) was
     ]
 
-pub returns-clause-keeps : goal.returns-clause-keeps
-returns-clause-keeps g c ground k =
-    subst (λ (v : ℕ). IsStage ground
-    (stage_of v c.loop-k.store.slots c.loop-k.names (g.S.Sink.lines c.loop-k.sink)))
-    c.loop-k.invariant.variable (c.loop-k.invariant.keeps ground k)
+pub returns-clause-passes : goal.returns-clause-passes
+returns-clause-passes g c = record {
+  more = omega arith;
+  most = omega arith;
+  fit = c.loop-k.invariant.fit;
+  keeps = λ ground k. subst (λ (v : ℕ). IsStage ground
+      (stage_of v c.loop-k.store.slots c.loop-k.names (g.S.Sink.lines c.loop-k.sink)))
+      c.loop-k.invariant.variable (c.loop-k.invariant.keeps ground k);
+  rests = λ rare. absurd (rare _ _ (c.stand_often.ensures c.if-not-stand_often.false));
+}

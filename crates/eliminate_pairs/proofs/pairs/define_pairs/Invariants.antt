@@ -1,9 +1,8 @@
 -- What was right is so with the variables so far.
-use Rattle.eliminate_pairs.specs.Pairs.{stage_of}
-use Rattle.eliminate_pairs.proofs.Defining.{Counts}
+use Rattle.eliminate_pairs.specs.Pairs.{stage_of, Replaces}
 use Rattle.eliminate_pairs.proofs.pairs.define_pairs.Given as goal
 
 abbrev pub invariant-loop-round : goal.invariant-loop-round
 invariant-loop-round g l =
-    Counts (stage_of l.vars l.fn.store.slots l.fn.names (g.S.Sink.lines l.fn.sink)) l.vars l.most
-    l.last l.store.slots l.names (g.S.Sink.lines l.sink)
+    Replaces (stage_of l.vars l.fn.store.slots l.fn.names (g.S.Sink.lines l.fn.sink)) l.most l.last
+    l.store.slots l.names (g.S.Sink.lines l.sink)

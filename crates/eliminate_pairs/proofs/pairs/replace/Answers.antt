@@ -1,21 +1,18 @@
 -- A clause with the variable comes, and the clause with the pair goes.
 use Rattle.std.proofs.Common.{◌≡◌, ◌+◌, ◌<◌, ◌^◌, length, Some, None, slice_set, refl, sym, ◌∙◌, ap}
 use Rattle.std.proofs.Common.{subst, arith}
+use Rattle.std.proofs.lemmas.Result.{MatchResult-from_err}
 use Rattle.clauses.specs.Slots.{Slots, clause_at}
 use Rattle.lrat_log.specs.Steps.{added_count}
-use Rattle.eliminate_pairs.specs.Pairs.{stage_of, replaced, IsDefined, Stage}
+use Rattle.eliminate_pairs.specs.Pairs.{stage_of, replaced, IsDefined, Stage, FitNames}
 use Rattle.clauses.proofs.Laws.{clause_kept, live_within}
 use Rattle.eliminate_pairs.proofs.Defining.{replaced_is, is_deleted, kept_log, keeps_as}
-use Rattle.eliminate_pairs.proofs.Defining.{counted_added}
-use Rattle.eliminate_pairs.proofs.Defining.{counted_deleted, few_additions, long_added}
-use Rattle.eliminate_pairs.proofs.Defining.{long_deleted}
-use Rattle.eliminate_pairs.proofs.Defining.{name_stays}
+use Rattle.eliminate_pairs.proofs.Defining.{fit_added, fit_deleted, few_additions, name_stays}
 use Rattle.eliminate_pairs.proofs.Staging.{with_replaced, deleted_stage, replaced_right, gone_right}
 use Rattle.eliminate_pairs.proofs.Staging.{defined_after, replaced-is_line, delete-is_line}
 use Rattle.eliminate_pairs.proofs.pairs.replace.Given.{Over}
 use Rattle.eliminate_pairs.proofs.pairs.replace.Goals as goal
 use Rattle.eliminate_pairs.proofs.pairs.replace.Goals.{After-lits, In_ok-new}
-use Rattle.lrat_log.proofs.Laws.{when_err}
 
 -- the clause with the pair has a name
 within : (g : Over) (c : After-lits g) → c.args.reference < length c.args.store.now.slots
@@ -28,9 +25,13 @@ stays g c = ap (λ (x : Slots). clause_at x c.args.reference) c.in_ok-new.ensure
     ∙ clause_kept c.args.store.now.slots c.in_ok-lits.lits.items c.lits.result.now c.args.reference
     c.lits.ensures
 
-long : (g : Over) (c : In_ok-new g) → length c.add.new.names.names ≡ length c.add.new.store.slots
-long g c = long_added c.args.store.now.slots c.add.new.store.slots c.args.names.now c.add.new.names
-    c.in_ok-lits.lits.items c.requires.long c.in_ok-new.ensures.slots c.in_ok-new.ensures.names
+fits : (g : Over) (c : In_ok-new g)
+    → FitNames c.add.new.names c.add.new.store.slots (g.S.Sink.lines c.add.new.sink)
+fits g c =
+    fit_added c.args.names.now c.add.new.names c.args.store.now.slots c.add.new.store.slots
+    (g.S.Sink.lines c.args.sink.now) (g.S.Sink.lines c.add.new.sink) c.in_ok-lits.lits.items _
+    c.requires.fit c.in_ok-new.ensures.slots c.in_ok-new.ensures.names c.in_ok-new.ensures.lines
+    refl
 
 -- the stage with the clause that came
 stage : (g : Over) (c : In_ok-new g)
@@ -42,7 +43,7 @@ stage g c =
     replaced_is c.args.store.now.slots c.add.new.store.slots c.args.names.now c.add.new.names
     (g.S.Sink.lines c.args.sink.now) (g.S.Sink.lines c.add.new.sink) c.in_ok-lits.lits.items
     c.lits.result.now c.in_ok-hints.hints.items c.args.definition.now c.args.reference
-    c.plain-left_side.result c.plain-right_side.result c.plain-clause.result c.requires.counted
+    c.plain-left_side.result c.plain-right_side.result c.plain-clause.result c.requires.fit.counted
     c.in_ok-new.ensures.slots c.in_ok-new.ensures.names c.in_ok-new.ensures.lines
     c.in_ok-lits.ensures c.in_ok-hints.ensures.items
     c.plain-left_side.ensures.hint c.plain-right_side.ensures.hint c.plain-clause.ensures.hint
@@ -67,7 +68,7 @@ pub delete-requires-clause-line : goal.delete-requires-clause-line
 delete-requires-clause-line g c =
     let lt = within g (goal.at.delete-requires-clause-line g c).After-lits in
     rw (name_stays c.args.names.now c.add.new.names c.args.reference c.in_ok-new.ensures.names
-    (omega (arith, c.requires.long))) (delete-is_line _ c.plain-clause.ensures.id)
+    (omega (arith, c.requires.fit.long))) (delete-is_line _ c.plain-clause.ensures.id)
 
 pub delete-requires-clause-live : goal.delete-requires-clause-live
 delete-requires-clause-live g c =
@@ -78,29 +79,29 @@ delete-requires-clause-named g c =
     let new = (goal.at.delete-requires-clause-named g c).In_ok-new in
     omega (
       arith,
-      long g new,
+      (fits g new).long,
       live_within c.add.new.store.slots c.args.reference c.lits.result.now
           (stays g new),
     )
 
-pub returns-in_err-new-clause-err : goal.returns-in_err-new-clause-err
-returns-in_err-new-clause-err g c =
+pub returns-in_err-new-clause-moves : goal.returns-in_err-new-clause-moves
+returns-in_err-new-clause-moves g c =
+    MatchResult-from_err _ _ _ c.from_residual-in_err-new.ensures.0 (λ _.
     let s : Stage = stage_of c.args.definition.now.variable c.args.store.now.slots c.args.names.now
     (g.S.Sink.lines c.args.sink.now) in
-    when_err c.from_residual-in_err-new.result
-    (kept_log s s (g.S.Sink.lines c.add.new.sink) c.in_err-new.ensures.err (λ ground k. k))
+    kept_log s s (g.S.Sink.lines c.add.new.sink) c.in_err-new.ensures.err (λ ground k. k))
 
-pub returns-in_err-delete-clause-err : goal.returns-in_err-delete-clause-err
-returns-in_err-delete-clause-err g c =
+pub returns-in_err-delete-clause-moves : goal.returns-in_err-delete-clause-moves
+returns-in_err-delete-clause-moves g c =
+    MatchResult-from_err _ _ _ c.from_residual-in_err-delete.ensures.0 (λ _.
     let d = c.args.definition.now in
     let clause = c.lits.result.now in
     let s : Stage =
     stage_of d.variable c.args.store.now.slots c.args.names.now
     (g.S.Sink.lines c.args.sink.now) in
     let small : added_count s.lines + 3 < 2 ^ 62 = few_additions s.lines c.is_short.ensures in
-    let one = stage g (goal.at.returns-in_err-delete-clause-err g c).In_ok-new in
-    when_err c.from_residual-in_err-delete.result
-    (kept_log s (with_replaced s d c.args.reference clause) (g.S.Sink.lines c.delete.new.sink)
+    let one = stage g (goal.at.returns-in_err-delete-clause-moves g c).In_ok-new in
+    kept_log s (with_replaced s d c.args.reference clause) (g.S.Sink.lines c.delete.new.sink)
     (c.in_err-delete.ensures.err ∙ ap (λ (x : Stage). x.lines) one)
     (λ ground k. replaced_right ground s d c.args.reference clause c.requires.defined c.lits.ensures
     (c.requires.pair clause c.lits.ensures) c.requires.small (omega arith) k))
@@ -116,23 +117,15 @@ returns-clause-defined g c =
     (defined_after c.args.store.now.slots d r clause c.in_ok-lits.lits.items c.requires.defined
     c.lits.ensures (c.requires.pair clause c.lits.ensures))
 
-pub returns-clause-counted : goal.returns-clause-counted
-returns-clause-counted g c =
-    counted_deleted c.add.new.names (g.S.Sink.lines c.add.new.sink)
-    (g.S.Sink.lines c.delete.new.sink) _
-    (counted_added c.args.names.now c.add.new.names (g.S.Sink.lines c.args.sink.now)
-    (g.S.Sink.lines c.add.new.sink) _ c.requires.counted c.in_ok-new.ensures.names
-    c.in_ok-new.ensures.lines refl)
+pub returns-clause-fit : goal.returns-clause-fit
+returns-clause-fit g c =
+    fit_deleted c.add.new.names c.add.new.store.slots c.delete.new.store.slots
+    (g.S.Sink.lines c.add.new.sink) (g.S.Sink.lines c.delete.new.sink) c.args.reference _
+    (fits g (goal.at.returns-clause-fit g c).In_ok-new) c.in_ok-delete.ensures.slots
     c.in_ok-delete.ensures.lines
 
-pub returns-clause-long : goal.returns-clause-long
-returns-clause-long g c =
-    long_deleted c.add.new.store.slots c.delete.new.store.slots c.add.new.names.names
-    c.args.reference (long g (goal.at.returns-clause-long g c).In_ok-new)
-    c.in_ok-delete.ensures.slots
-
-pub returns-clause-keeps : goal.returns-clause-keeps
-returns-clause-keeps g c =
+pub returns-clause-moves : goal.returns-clause-moves
+returns-clause-moves g c =
     let d = c.args.definition.now in
     let clause = c.lits.result.now in
     let r = c.args.reference in
@@ -140,7 +133,7 @@ returns-clause-keeps g c =
     stage_of d.variable c.args.store.now.slots c.args.names.now
     (g.S.Sink.lines c.args.sink.now) in
     let small : added_count s.lines + 3 < 2 ^ 62 = few_additions s.lines c.is_short.ensures in
-    let one = stage g (goal.at.returns-clause-keeps g c).In_ok-new in
+    let one = stage g (goal.at.returns-clause-moves g c).In_ok-new in
     let two = is_deleted d.variable c.add.new.store.slots c.delete.new.store.slots c.add.new.names
     (g.S.Sink.lines c.add.new.sink) (g.S.Sink.lines c.delete.new.sink) r
     c.in_ok-delete.ensures.slots c.in_ok-delete.ensures.lines in

@@ -2,6 +2,7 @@
 use Rattle.std.proofs.Common.{◌≡◌, ◌∷◌, ◌++◌, [], Some, sym, ap, subst, ◌∙◌, refl, arith, length}
 use Rattle.std.proofs.Common.{List}
 use Rattle.std.specs.Prelude.{All}
+use Rattle.std.proofs.lemmas.Result.{MatchResult-from_err}
 use Rattle.cnf.specs.Literal.{Literal}
 use Rattle.clauses.specs.Slots.{Slots}
 use Rattle.lrat_log.specs.Log.{LogLine}
@@ -11,7 +12,7 @@ use Rattle.eliminate.specs.declared.simplifier.Simplifier.{Simplifier}
 use Rattle.eliminate_tables.specs.Rows.{with_clause_rows}
 use Rattle.eliminate.specs.State.{Start}
 use Rattle.eliminate.specs.Simplifier.{IsSimplified, LeavesLog}
-use Rattle.lrat_log.proofs.Laws.{additions_few, when_err}
+use Rattle.lrat_log.proofs.Laws.{additions_few}
 use Rattle.eliminate.proofs.Simplified.{simplified_added, clause_places, log_of, HasAdded}
 use Rattle.eliminate.proofs.simplifier.Simplifier.add.Given.{Over}
 use Rattle.eliminate.proofs.simplifier.Simplifier.add.Goals as goal
@@ -20,7 +21,7 @@ use Rattle.eliminate.proofs.simplifier.Simplifier.add.Goals.{In_ok-reference}
 pub add-requires-2 : goal.add-requires-2
 add-requires-2 g c =
     let s : Simplifier = c.args.self.now in
-    let w = c.requires.simplified in
+    let w = c.requires.is_open.simplified in
     let clause = (c.requires.line w.0 w.1).clause in
     subst (λ (xs : List Literal). All (HasPlace (length s.occurrences)) xs)
     (sym c.deref-2.ensures.value)
@@ -58,7 +59,7 @@ added g c t has start h =
     ∙ ap (λ (xs : List Literal). slots ++ Some xs ∷ []) (copied g c) in
     subst (λ (xs : Slots). IsSimplified start t xs (g.S.Sink.lines c.add.new.sink)) (sym slotted)
     (subst (IsSimplified start t (slots ++ Some s.clause.items ∷ [])) (sym lines)
-    (simplified_added start s t slots ls line h c.requires.going (c.requires.line start h)
+    (simplified_added start s t slots ls line h c.requires.is_open.going (c.requires.line start h)
     (omega (arith, additions_few ls, c.is_short.ensures)) has))
 
 -- whatever the tables are, the lines stay a log
@@ -84,16 +85,18 @@ leaves g c start h =
       refuted = refl;
     }) start h)
 
-pub returns-in_err-add-clause-err : goal.returns-in_err-add-clause-err
-returns-in_err-add-clause-err g c =
-    when_err _ (leaves g (goal.at.returns-in_err-add-clause-err g c).In_ok-reference)
+pub returns-in_err-add-clause-passes : goal.returns-in_err-add-clause-passes
+returns-in_err-add-clause-passes g c =
+    MatchResult-from_err _ _ _ c.from_residual-in_err-add.ensures.0
+    (λ _. leaves g (goal.at.returns-in_err-add-clause-passes g c).In_ok-reference)
 
-pub returns-in_err-enter-clause-err : goal.returns-in_err-enter-clause-err
-returns-in_err-enter-clause-err g c =
-    when_err _ (leaves g (goal.at.returns-in_err-enter-clause-err g c).In_ok-reference)
+pub returns-in_err-enter-clause-passes : goal.returns-in_err-enter-clause-passes
+returns-in_err-enter-clause-passes g c =
+    MatchResult-from_err _ _ _ c.from_residual-in_err-enter.ensures.0
+    (λ _. leaves g (goal.at.returns-in_err-enter-clause-passes g c).In_ok-reference)
 
-pub returns-clause-simplified : goal.returns-clause-simplified
-returns-clause-simplified g c start h =
+pub returns-clause-passes : goal.returns-clause-passes
+returns-clause-passes g c start h =
     let s : Simplifier = c.args.self.now in
     let slots : Slots = c.args.store.now.slots in
     let t : Simplifier =
@@ -110,7 +113,7 @@ returns-clause-simplified g c start h =
     ∙ ap (with_clause_rows s.occurrences s.clause.items) c.in_ok-reference.ensures.reference in
     let empty : c.is_empty_clause-self.result ≡ is_empty_clause s.clause.items =
     c.is_empty_clause-self.ensures ∙ ap is_empty_clause c.deref-4.ensures.value in
-    added g (goal.at.returns-clause-simplified g c).In_ok-reference t
+    added g (goal.at.returns-clause-passes g c).In_ok-reference t
     (record {
       vars = refl;
       names = c.in_ok-reference.ensures.names;

@@ -7,8 +7,8 @@ use Rattle.eliminate.specs.Simplifier.{IsSimplified}
 use Rattle.eliminate.proofs.Simplified.{simplified_subsumed}
 use Rattle.eliminate.proofs.simplifier.Simplifier.delete_subsumed.Goals as goal
 
-pub returns-clause-simplified : goal.returns-clause-simplified
-returns-clause-simplified g c start h =
+pub returns-clause-passes : goal.returns-clause-passes
+returns-clause-passes g c start h =
     let s : Simplifier = c.args.self.now in
     let t : Simplifier = record s { schedule = c.leave.new.self } in
     let slots : Slots = c.args.store.now.slots in
@@ -17,7 +17,7 @@ returns-clause-simplified g c start h =
     let live = c.requires.live in
     let by = c.requires.live_too in
     let kept =
-    simplified_subsumed start s t slots ls r c.args.by by.0 live.0 h c.requires.going
+    simplified_subsumed start s t slots ls r c.args.by by.0 live.0 h c.requires.is_open.going
     c.requires.other live.1 by.1 (c.requires.subset by.0 live.0 by.1 live.1)
     (record {
       vars = refl;

@@ -1,5 +1,6 @@
 -- The empty clause follows by the units.
 use Rattle.std.proofs.Common.{[], List, refl, sym, subst}
+use Rattle.std.proofs.lemmas.Result.{MatchResult-from_err}
 use Rattle.lrat_log.specs.declared.lines.Kind.TheVariants.{Empty}
 use Rattle.lrat_log.specs.Log.{LogLine}
 use Rattle.eliminate.specs.declared.simplifier.Simplifier.{Simplifier}
@@ -7,12 +8,11 @@ use Rattle.eliminate_names.specs.Work.{AreClauses}
 use Rattle.eliminate.proofs.Tables.{addable_at, leaves_beside}
 use Rattle.eliminate.proofs.UnitLines.{empty_addable}
 use Rattle.eliminate.proofs.units.Units.add_empty.Goals as goal
-use Rattle.lrat_log.proofs.Laws.{when_err}
 
 pub hints-requires-clause-clauses : goal.hints-requires-clause-clauses
 hints-requires-clause-clauses g c =
     subst (λ n. AreClauses n c.args.store.now.slots) (sym c.requires.propagating.fits)
-    c.requires.propagating.simplified.1.state.work.clauses
+    c.requires.propagating.is_open.simplified.1.state.work.clauses
 
 pub add-requires-clause-line : goal.add-requires-clause-line
 add-requires-clause-line g c start h =
@@ -25,8 +25,9 @@ add-requires-clause-line g c start h =
     ls c.args.self.now h c.requires.propagating.units d c.args.reference at
     (c.requires.falsified d at))
 
-pub returns-in_err-add-clause-err : goal.returns-in_err-add-clause-err
-returns-in_err-add-clause-err g c =
-    when_err _ (leaves_beside c.args.simplifier.now c.args.simplifier.now.marks c.clear.new.self
+pub returns-in_err-add-clause-passes : goal.returns-in_err-add-clause-passes
+returns-in_err-add-clause-passes g c =
+    MatchResult-from_err _ _ _ c.from_residual-in_err-add.ensures.0
+    (λ _. leaves_beside c.args.simplifier.now c.args.simplifier.now.marks c.clear.new.self
     c.args.store.now.slots (g.S.Sink.lines c.args.sink.now) (g.S.Sink.lines c.add.new.sink) refl
-    c.in_err-add.ensures.err)
+    c.in_err-add.ensures.passes)

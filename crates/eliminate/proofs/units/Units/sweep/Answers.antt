@@ -1,6 +1,7 @@
 -- Clause after clause is met.
 use Rattle.std.proofs.Common.{◌≡◌, inl, inr, refl, sym, ◌∙◌, ap, subst, arith}
 use Rattle.std.proofs.lemmas.Bool.{both_ways, cases_lt, false≢true, true≢false}
+use Rattle.std.proofs.lemmas.Result.{MatchResult-from_err}
 use Rattle.clauses.specs.Slots.{Slots, clause_at}
 use Rattle.eliminate.specs.declared.units.Units.{Units}
 use Rattle.eliminate.specs.Units.{IsSettled}
@@ -9,12 +10,11 @@ use Rattle.eliminate.proofs.Propagating.{leaves_later}
 use Rattle.clauses.proofs.Laws.{live_within}
 use Rattle.eliminate.proofs.units.Units.sweep.Goals as goal
 use Rattle.eliminate.proofs.units.Units.sweep.Goals.{then-asked, else-asked}
-use Rattle.lrat_log.proofs.Laws.{when_err}
 
 pub loop-place-init : goal.loop-place-init
 loop-place-init g c = record {
   propagated = propagates_nothing _ _ _ _ c.requires.units;
-  going = c.requires.going;
+  going = c.requires.is_open.going;
   settled = λ unasked. (refl, refl, λ r d lt at. absurd (omega arith));
   progress = λ e. absurd (false≢true e);
 }
@@ -24,15 +24,16 @@ meet_at-requires g c =
     still_propagating _ _ _ _ _ _ _ _ c.loop-place.invariant.propagated c.requires
     c.loop-place.invariant.going
 
-pub returns-in_err-asked-clause-err : goal.returns-in_err-asked-clause-err
-returns-in_err-asked-clause-err g c =
-    when_err _ (leaves_later _ _ _ _ _ _ _ _ c.loop-place.invariant.propagated _
-    c.in_err-asked.ensures.err)
+pub returns-in_err-asked-clause-moves : goal.returns-in_err-asked-clause-moves
+returns-in_err-asked-clause-moves g c =
+    MatchResult-from_err _ _ _ c.from_residual.ensures.0 (λ _.
+    leaves_later _ _ _ _ _ _ _ _ c.loop-place.invariant.propagated _
+    c.in_err-asked.ensures.moves)
 
-pub returns-then-simplifier-clause-propagated : goal.returns-then-simplifier-clause-propagated
-returns-then-simplifier-clause-propagated g c =
+pub returns-then-simplifier-clause-moves : goal.returns-then-simplifier-clause-moves
+returns-then-simplifier-clause-moves g c =
     propagates_more _ _ _ _ _ _ _ _ c.loop-place.invariant.propagated c.loop-place.invariant.going _
-    _ _ _ c.in_ok-asked.ensures.propagated
+    _ _ _ c.in_ok-asked.ensures.moves
 
 pub returns-then-simplifier-clause-settled : goal.returns-then-simplifier-clause-settled
 returns-then-simplifier-clause-settled g c unasked = absurd (true≢false unasked)
@@ -46,11 +47,11 @@ loop-place-preserved g c =
     let first : Units = c.args.self.now in
     let slots : Slots = c.args.store.now.slots in
     let i = c.loop-place.place in
-    let made = c.in_ok-asked.ensures.propagated.units c.if-simplifier.false in
+    let made = c.in_ok-asked.ensures.moves.units c.if-simplifier.false in
     record {
       propagated =
           propagates_more _ _ _ _ _ _ _ _ c.loop-place.invariant.propagated
-          c.loop-place.invariant.going _ _ _ _ c.in_ok-asked.ensures.propagated;
+          c.loop-place.invariant.going _ _ _ _ c.in_ok-asked.ensures.moves;
       going = c.if-simplifier.false;
       settled = λ unasked. elim c.if-asked.branch [
         | then-asked w ↦ absurd (both_ways _ unasked w.found-is)
@@ -79,8 +80,8 @@ loop-place-preserved g c =
       ];
     }
 
-pub returns-clause-propagated : goal.returns-clause-propagated
-returns-clause-propagated g c = c.loop-place.invariant.propagated
+pub returns-clause-moves : goal.returns-clause-moves
+returns-clause-moves g c = c.loop-place.invariant.propagated
 
 pub returns-clause-settled : goal.returns-clause-settled
 returns-clause-settled g c unasked =

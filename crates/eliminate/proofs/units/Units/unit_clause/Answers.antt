@@ -1,5 +1,6 @@
 -- The clause itself, or one that is added: the literal that is open follows by the units.
 use Rattle.std.proofs.Common.{◌≡◌, ◌++◌, ◌∷◌, [], List, Some, refl, sym, ◌∙◌, ap, subst}
+use Rattle.std.proofs.lemmas.Result.{MatchResult-from_err}
 use Rattle.cnf.specs.Literal.{Literal}
 use Rattle.clauses.specs.Slots.{Slots, clause_at}
 use Rattle.lrat_log.specs.declared.lines.Kind.TheVariants.{Unit}
@@ -14,7 +15,6 @@ use Rattle.eliminate.proofs.UnitLines.{unit_addable}
 use Rattle.eliminate.proofs.units.Units.unit_clause.Given.{Over}
 use Rattle.eliminate.proofs.units.Units.unit_clause.Goals as goal
 use Rattle.eliminate.proofs.units.Units.unit_clause.Goals.{In_ok-push}
-use Rattle.lrat_log.proofs.Laws.{when_err}
 
 -- the clause in hand has the literal alone
 alone : (g : Over) (c : In_ok-push g) → c.push.new.self.items ≡ c.args.lit ∷ []
@@ -30,7 +30,7 @@ returns-then-lits-eq1-clause-alone g c =
 pub hints-requires-clause-clauses : goal.hints-requires-clause-clauses
 hints-requires-clause-clauses g c =
     subst (λ n. AreClauses n c.args.store.now.slots) (sym c.requires.propagating.fits)
-    c.requires.propagating.simplified.1.state.work.clauses
+    c.requires.propagating.is_open.simplified.1.state.work.clauses
 
 pub add-requires-clause-line : goal.add-requires-clause-line
 add-requires-clause-line g c start h =
@@ -43,11 +43,12 @@ add-requires-clause-line g c start h =
     (unit_addable start s c.args.store.now.slots ls c.args.self.now h c.requires.propagating.units d
     c.args.reference at c.args.lit (c.requires.unit d at))
 
-pub returns-in_err-unit-clause-err : goal.returns-in_err-unit-clause-err
-returns-in_err-unit-clause-err g c =
-    when_err _ (leaves_beside c.args.simplifier.now c.args.simplifier.now.marks c.push.new.self
+pub returns-in_err-unit-clause-passes : goal.returns-in_err-unit-clause-passes
+returns-in_err-unit-clause-passes g c =
+    MatchResult-from_err _ _ _ c.from_residual-in_err-unit.ensures.0
+    (λ _. leaves_beside c.args.simplifier.now c.args.simplifier.now.marks c.push.new.self
     c.args.store.now.slots (g.S.Sink.lines c.args.sink.now) (g.S.Sink.lines c.add.new.sink) refl
-    c.in_err-unit.ensures.err)
+    c.in_err-unit.ensures.passes)
 
 pub returns-clause-alone : goal.returns-clause-alone
 returns-clause-alone g c =
