@@ -84,7 +84,7 @@ impl Search {
         ensures ready { IsReady self.new }
         ensures trail { self.new.engine.trail ≡ kept_to level self.old.engine.trail }
         ensures variables { self.new.engine.variables ≡ self.old.engine.variables }
-        ensures engine { self.new ≡ record self.old { engine = self.new.engine } }
+        ensures only_engine { self.new ≡ record self.old { engine = self.new.engine } }
     {
         put_back(&mut self.policy, &self.engine, level);
         self.engine.backtrack(level);
@@ -119,7 +119,7 @@ impl Search {
         requires hints { All (λ r. is_attached self.old.engine r ≡ true) learned.now.hints.items }
         requires within { IsWithin self.old.engine.variables learned.now.lits.items }
         ensures variables { self.new.policy.variables ≡ self.old.policy.variables }
-        ensures same { self.new ≡ record self.old { policy = self.new.policy } }
+        ensures only_policy { self.new ≡ record self.old { policy = self.new.policy } }
     {
         self.policy.learn_from(
             &self.engine,
@@ -170,7 +170,7 @@ impl Search {
           reason = None;
         } ∷ [] }
         ensures longer { length self.new.engine.trail ≡ length self.old.engine.trail + 1 }
-        ensures same { self.new ≡ record self.old { engine = self.new.engine } }
+        ensures only_engine { self.new ≡ record self.old { engine = self.new.engine } }
     {
         self.engine.decide(lit);
     }

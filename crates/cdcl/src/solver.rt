@@ -188,7 +188,7 @@ impl<S: Sink> Solver<S> {
     /// A hint for the order of decisions, on which no answer depends: the literal's variable starts
     /// at the share that its weight has of the greatest weight so far.
     pub fn weigh(&mut self, lit: Lit, weight: u64)
-        ensures same { self.new ≡ self.old }
+        ensures unchanged { self.new ≡ self.old }
     {
         self.search.policy.weigh(lit.variable(), weight);
     }

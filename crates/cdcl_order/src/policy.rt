@@ -114,7 +114,7 @@ impl Policy {
         ensures some { IfSome result
             (λ l. IsOpenVariable engine.now.trail self.old.variables l.variable) }
         ensures none { IfNone result (AreClosed engine.now.trail self.old.variables) }
-        ensures same { self.new ≡ self.old }
+        ensures unchanged { self.new ≡ self.old }
     {
         match self.order.next(engine) {
             Some(variable) => Some(Lit::new(variable, !self.phases.value(variable))),

@@ -61,7 +61,7 @@ backtrack-requires-clause-level g c =
     let s = c.args.search.now in
     let learned = c.in_ok-learned.learned in
     let same : depth_of c.learn_from-distance.new.self.engine.trail ≡ depth_of s.engine.trail =
-    ap (λ (x : Search). depth_of (x.engine).trail) c.learn_from-distance.ensures.same in
+    ap (λ (x : Search). depth_of (x.engine).trail) c.learn_from-distance.ensures.only_policy in
     let low =
     back_low s.engine.trail learned.lits.items learned.back_level
     c.in_ok-learned.ensures.asserting in
@@ -76,7 +76,7 @@ add_line-requires-clause-within g c =
     c.requires.runs.running.searches.fits c.in_ok-learned.ensures.asserting in
     let same : c.backtrack.new.self.engine.variables ≡ s.engine.variables =
     c.backtrack.ensures.variables
-    ∙ ap (λ (x : Search). (x.engine).variables) c.learn_from-distance.ensures.same in
+    ∙ ap (λ (x : Search). (x.engine).variables) c.learn_from-distance.ensures.only_policy in
     subst (λ n. IsWithin n c.as_slice-2.result.now) (sym same)
     (subst (IsWithin s.engine.variables) (sym c.as_slice-2.ensures) within)
 
@@ -121,20 +121,20 @@ returns-clause-runs g c =
     c.learn_from-distance.new.self.store.slots p.stack
     (tables_of c.learn_from-distance.new.self) p.frozen.items p.first p.given ls =
     subst (λ (x : Search). IsRunning x.engine (x.store).slots p.stack (tables_of x) p.frozen.items
-    p.first p.given ls) (sym c.learn_from-distance.ensures.same) c.requires.runs.running in
+    p.first p.given ls) (sym c.learn_from-distance.ensures.only_policy) c.requires.runs.running in
     let moved = c.backtrack.ensures.state p ls bumped in
     let trail : m.engine.trail ≡ kept_to learned.back_level T = c.backtrack.ensures.trail
     ∙ ap (λ (x : Search). kept_to learned.back_level (x.engine).trail)
-    c.learn_from-distance.ensures.same in
+    c.learn_from-distance.ensures.only_policy in
     let long : length c.hints_of.new.stamps ≡ s.stamps.len =
     c.hints_of.ensures.long ∙ ap length c.deref_mut.ensures.value ∙ sym s.stamps.ok.0 in
     let stamps : m.stamps.items ≡ c.hints_of.new.stamps =
-    ap (λ (x : Search). (x.stamps).items) c.backtrack.ensures.engine
-    ∙ ap (λ (x : Search). (x.stamps).items) c.learn_from-distance.ensures.same
+    ap (λ (x : Search). (x.stamps).items) c.backtrack.ensures.only_engine
+    ∙ ap (λ (x : Search). (x.stamps).items) c.learn_from-distance.ensures.only_policy
     ∙ with_items_is s.stamps c.hints_of.new.stamps long in
     let additions : m.additions ≡ s.additions =
-    ap (λ (x : Search). x.additions) c.backtrack.ensures.engine
-    ∙ ap (λ (x : Search). x.additions) c.learn_from-distance.ensures.same in
+    ap (λ (x : Search). x.additions) c.backtrack.ensures.only_engine
+    ∙ ap (λ (x : Search). x.additions) c.learn_from-distance.ensures.only_policy in
     let past : All (λ x. x ≤ m.additions + 1) m.stamps.items =
     subst (λ k. All (λ x. x ≤ k + 1) m.stamps.items) (sym additions)
     (subst (All (λ x. x ≤ s.additions + 1)) (sym stamps) c.hints_of.ensures.past) in
