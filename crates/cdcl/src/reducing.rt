@@ -5,9 +5,10 @@ ghost use Rattle.clauses.specs.Slots.{IsLive};
 ghost use Rattle.propagate.specs.Doomed.{is_doomed};
 ghost use Rattle.propagate.specs.Trail.{reason_in};
 ghost use Rattle.cdcl.specs.Invariant.{name_at, is_kept_name};
-ghost use Rattle.cdcl.specs.Running.{IsReady, Runs, StaysOpen, Writes};
+ghost use Rattle.cdcl.specs.Running.{IsReady, Runs, Writes};
 ghost use Rattle.cdcl.specs.Moves.{MayBeDeleted};
 ghost use Rattle.cdcl.specs.Deletions.{AreMarked, IsDeleting};
+ghost use Rattle.cdcl.specs.Turns.{LearnsNothing, Reduces};
 
 use crate::input::Input;
 use crate::search::Search;
@@ -136,13 +137,8 @@ pub(crate) fn reduce<S: Sink>(
     sink: &mut S,
 ) -> Result<(), AllocError>
     requires runs { Runs search.old input.now (S.lines sink.old) }
-    ensures runs { OnOk result (Runs search.new input.now (S.lines sink.new)) }
-    ensures variables { OnOk result (search.new.engine.variables ≡ search.old.engine.variables) }
-    ensures long { OnOk result
-        (length search.new.engine.trail ≡ length search.old.engine.trail) }
-    ensures policy { OnOk result (search.new.policy ≡ search.old.policy) }
-    ensures writes { Writes input.now.given (S.lines sink.old) (S.lines sink.new) 0 }
-    ensures err { OnErr result (StaysOpen input.now (S.lines sink.new)) }
+    ensures { LearnsNothing result (Reduces search.old search.new input.now (S.lines sink.new))
+        input.now (S.lines sink.old) (S.lines sink.new) }
 {
     if !search.policy.is_deletion_due() {
         return Ok(());
@@ -166,13 +162,8 @@ fn delete_all<S: Sink>(
     chosen: &[CRef],
 ) -> Result<(), AllocError>
     requires runs { Runs search.old input.now (S.lines sink.old) }
-    ensures runs { OnOk result (Runs search.new input.now (S.lines sink.new)) }
-    ensures variables { OnOk result (search.new.engine.variables ≡ search.old.engine.variables) }
-    ensures long { OnOk result
-        (length search.new.engine.trail ≡ length search.old.engine.trail) }
-    ensures policy { OnOk result (search.new.policy ≡ search.old.policy) }
-    ensures writes { Writes input.now.given (S.lines sink.old) (S.lines sink.new) 0 }
-    ensures err { OnErr result (StaysOpen input.now (S.lines sink.new)) }
+    ensures { LearnsNothing result (Reduces search.old search.new input.now (S.lines sink.new))
+        input.now (S.lines sink.old) (S.lines sink.new) }
 {
     let doomed = search.mark(chosen)?;
     search.engine.detach_all(&doomed);
