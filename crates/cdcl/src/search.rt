@@ -64,10 +64,8 @@ impl Search {
         ensures depth { OnOk result (depth_of self.new.engine.trail
             ≡ depth_of self.old.engine.trail) }
         ensures grows { OnOk result (length self.old.engine.trail ≤ length self.new.engine.trail) }
-        ensures store { self.new.store ≡ self.old.store }
-        ensures noted { self.new.noted ≡ self.old.noted }
-        ensures policy { self.new.policy ≡ self.old.policy }
         ensures variables { self.new.engine.variables ≡ self.old.engine.variables }
+        ensures only_engine { self.new ≡ record self.old { engine = self.new.engine } }
     {
         match self.engine.propagate(&self.store) {
             Ok(found) => Ok(found),
@@ -144,8 +142,7 @@ impl Search {
             → AreClosed self.old.engine.trail self.old.engine.variables }
         ensures stays { result ≡ false → self.new.engine ≡ self.old.engine }
         ensures variables { self.new.engine.variables ≡ self.old.engine.variables }
-        ensures store { self.new.store ≡ self.old.store }
-        ensures policy { self.new.policy ≡ self.old.policy }
+        ensures only_engine { self.new ≡ record self.old { engine = self.new.engine } }
     {
         let _ = self.engine.assigned();
         match self.policy.next(&self.engine) {

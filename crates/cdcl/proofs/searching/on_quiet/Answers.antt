@@ -5,6 +5,7 @@ use Rattle.clauses.specs.Slots.{StoreState}
 use Rattle.analyze.specs.Learning.{IsQuiet}
 use Rattle.cdcl_order.specs.Orders.{AreClosed}
 use Rattle.cdcl_order.specs.Policies.{PolicyState}
+use Rattle.cdcl.specs.declared.search.Search.{Search}
 use Rattle.cdcl.specs.declared.searching.End.TheVariants.{Satisfied, Spent}
 use Rattle.cdcl.proofs.Written.{writes_none, writes_join}
 use Rattle.cdcl.proofs.Rounds.{goes_over, goes_decided, turn_ends, turn_goes, turn_fails}
@@ -66,7 +67,8 @@ returns-then-not-branch g c =
     (record {
       runs = b.runs p ls keeps.runs;
       quiet = subst (λ (e : EngineState). IsQuiet f.store.slots (literals_of e.trail)) (sym stays)
-          (subst (λ (t : StoreState). IsQuiet t.slots (literals_of n.engine.trail)) (sym b.store)
+          (subst (λ (t : StoreState). IsQuiet t.slots (literals_of n.engine.trail))
+          (sym (ap (λ (x : Search). x.store) b.only_engine))
           (keeps.quiet c.requires.quiet));
       closed =
           subst (λ (e : EngineState). AreClosed e.trail e.variables) (sym stays)
@@ -107,7 +109,7 @@ returns g c =
     turn_goes s c.reduce.new.search p ls more c.args.budget.now
     (goes_decided s c.reduce.new.search p more c.args.budget.now r.runs
     (r.variables ∙ b.variables ∙ n.variables)
-    (ap (λ (x : PolicyState). x.has_learned) (r.policy ∙ b.policy ∙ n.policy))
+    (ap (λ (x : PolicyState). x.has_learned) (r.policy ∙ ap (λ (x : Search). x.policy) b.only_engine ∙ n.policy))
     (let l = r.long in omega arith) (omega (arith, b.within, n.variables)))
     (writes_join p.given ls (g.S.Sink.lines c.note_level.new.sink) more 0 0
     c.note_level.ensures.writes c.reduce.ensures.writes)
