@@ -18,7 +18,7 @@ use Rattle.cdcl_order.specs.Orders.{positive}
 use Rattle.cdcl.specs.declared.search.Search.{Search}
 use Rattle.cdcl.specs.declared.input.Input.{Input}
 use Rattle.cdcl.specs.Running.{Runs, Writes}
-use Rattle.cdcl.specs.Turns.{KeepsTrail}
+use Rattle.cdcl.specs.Turns.{KeepsTrail, NotesNext}
 use Rattle.cdcl.proofs.Places.{clause_cases, clause_kept}
 use Rattle.cdcl.proofs.Written.{writes_none, writes_join}
 
@@ -63,13 +63,9 @@ quiet_true slots A k apart m quiet r c at =
     ]
 
 pub noting_more : (old now new : Search) (p : Input) (before ls more : List LogLine)
-    → IsNoting old now p before ls → now.noted < length (now.engine).trail → Runs new p more
-    → (new.engine).trail ≡ (now.engine).trail → (new.engine).variables ≡ (now.engine).variables
-    → new.policy ≡ now.policy
-    → (new.store).slots ≡ (now.store).slots
-    ++ Some (slice_index_or (literals_of (now.engine).trail) now.noted (positive 0) ∷ []) ∷ []
-    → Writes p.given ls more 0 → IsNoting old new p before more
-noting_more old now new p before ls more d lt r trail vars policy slots w =
+    → IsNoting old now p before ls → now.noted < length (now.engine).trail
+    → NotesNext now new p ls more → IsNoting old new p before more
+noting_more old now new p before ls more d lt next =
     let A : List Literal = literals_of (now.engine).trail in
     let k : Literal = slice_index_or A now.noted (positive 0) in
     let kept = d.keeps in
@@ -81,22 +77,22 @@ noting_more old now new p before ls more d lt r trail vars policy slots w =
     let m : contains_literal k A ≡ true = contains_at A now.noted (positive 0) (omega arith) in
     record {
       keeps = record {
-        runs = r;
-        trail = trail ∙ kept.trail;
-        variables = vars ∙ kept.variables;
-        policy = policy ∙ kept.policy;
+        runs = next.runs;
+        trail = next.trail ∙ kept.trail;
+        variables = next.variables ∙ kept.variables;
+        policy = next.policy ∙ kept.policy;
         quiet =
-            λ q. subst (λ x. IsQuiet x (literals_of (new.engine).trail)) (sym slots)
+            λ q. subst (λ x. IsQuiet x (literals_of (new.engine).trail)) (sym next.slots)
             (subst (λ T. IsQuiet ((now.store).slots ++ Some (k ∷ []) ∷ []) (literals_of T))
-            (sym trail) (quiet_true (now.store).slots A k apart m (kept.quiet q)));
+            (sym next.trail) (quiet_true (now.store).slots A k apart m (kept.quiet q)));
         false_stays =
             λ q f. (let x = kept.false_stays q f in (
               x.0,
-              subst (λ s. clause_at s q ≡ Some x.0) (sym slots)
+              subst (λ s. clause_at s q ≡ Some x.0) (sym next.slots)
                   (clause_kept (now.store).slots (k ∷ []) x.0 q x.1),
-              subst (λ T. IsFalseUnder x.0 (literals_of T)) (sym trail) x.2,
+              subst (λ T. IsFalseUnder x.0 (literals_of T)) (sym next.trail) x.2,
             ));
       };
-      flat = ap depth_of trail ∙ d.flat;
-      writes = writes_join p.given before ls more 0 0 d.writes w;
+      flat = ap depth_of next.trail ∙ d.flat;
+      writes = writes_join p.given before ls more 0 0 d.writes next.writes;
     }

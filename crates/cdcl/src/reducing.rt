@@ -1,14 +1,11 @@
 // Learned clauses are deleted from time to time, so that propagation has fewer to look at.
-ghost use Rattle.std.specs.Prelude.{◌≡◌, ℕ, ◌<◌, ◌≤◌, true, false, Some, All, length, IfOk, OnOk};
-ghost use Rattle.std.specs.Prelude.{OnErr};
-ghost use Rattle.clauses.specs.Slots.{IsLive};
-ghost use Rattle.propagate.specs.Doomed.{is_doomed};
+ghost use Rattle.std.specs.Prelude.{◌≡◌, ◌≤◌, true, false, Some, All, length, IfOk, OnOk, OnErr};
 ghost use Rattle.propagate.specs.Trail.{reason_in};
-ghost use Rattle.cdcl.specs.Invariant.{name_at, is_kept_name};
-ghost use Rattle.cdcl.specs.Running.{IsReady, Runs, Writes};
+ghost use Rattle.cdcl.specs.Invariant.{is_kept_name};
+ghost use Rattle.cdcl.specs.Running.{IsReady, Runs};
 ghost use Rattle.cdcl.specs.Moves.{MayBeDeleted};
 ghost use Rattle.cdcl.specs.Deletions.{AreMarked, IsDeleting};
-ghost use Rattle.cdcl.specs.Turns.{LearnsNothing, Reduces};
+ghost use Rattle.cdcl.specs.Turns.{LearnsNothing, Deletes, Reduces};
 
 use crate::input::Input;
 use crate::search::Search;
@@ -29,17 +26,8 @@ fn delete<S: Sink>(
     reference: CRef,
 ) -> Result<(), AllocError>
     requires deleting { IsDeleting search.old input.now (S.lines sink.old) doomed.now }
-    ensures deleting { OnOk result
-        (IsDeleting search.new input.now (S.lines sink.new) doomed.now) }
-    ensures gone { OnOk result
-        (is_doomed doomed.now reference ≡ true → IsLive search.new.store.slots reference
-        → ⊥) }
-    ensures fewer { OnOk result
-        ((r : ℕ) → IsLive search.new.store.slots r → IsLive search.old.store.slots r) }
-    ensures engine { OnOk result (search.new.engine ≡ search.old.engine) }
-    ensures policy { OnOk result (search.new.policy ≡ search.old.policy) }
-    ensures writes { OnOk result
-        (Writes input.now.given (S.lines sink.old) (S.lines sink.new) 0) }
+    ensures deletes { OnOk result (Deletes search.old search.new input.now (S.lines sink.old)
+        (S.lines sink.new) doomed.now reference) }
     ensures err { OnErr result (S.lines sink.new ≡ S.lines sink.old) }
 {
     if !search.store.is_live(reference) {

@@ -96,8 +96,8 @@ add_line-requires-clause-hints g c =
     hint_ids slots s.names.items s.engine.trail rs c.in_ok-hints.hints.items h
     recorded.names.as_many recorded.numbers (refutes_live slots _ rs refutes)
 
-pub returns-clause-runs : goal.returns-clause-runs
-returns-clause-runs g c =
+pub returns-clause-learns : goal.returns-clause-learns
+returns-clause-learns g c =
     let s = c.args.search.now in
     let p = c.args.input.now in
     let ls = g.S.Sink.lines c.args.sink.now in
@@ -144,29 +144,16 @@ returns-clause-runs g c =
     c.in_ok-reference.ensures.additions c.in_ok-reference.ensures.few in
     let written : Runs n p (g.S.Sink.lines c.add_line.new.sink) =
     subst (Runs n p) (sym c.in_ok-reference.ensures.lines) on in
-    runs_chosen n c.keep.new.self p _ (ap (λ x. x.variables) c.keep.ensures) written
-
-pub returns-clause-writes : goal.returns-clause-writes
-returns-clause-writes g c =
-    let s = c.args.search.now in
-    let p = c.args.input.now in
-    let ls = g.S.Sink.lines c.args.sink.now in
-    let learned = c.in_ok-learned.learned in
     let run = c.requires.runs.running in
-    let lesson =
-    is_lesson s p ls learned.lits.items c.as_slice-2.result.now learned.back_level
-    learned.hints.items c.as_slice.result.now _ c.in_ok-hints.hints.items c.requires.runs
-    c.requires.deep
-    c.in_ok-learned.ensures.asserting c.in_ok-learned.ensures.hints c.in_ok-hints.ensures.hints
-    c.as_slice-2.ensures c.as_slice.ensures.value c.deref.ensures.value in
-    let l : LogLine =
+    let same : m.engine.variables ≡ s.engine.variables = c.backtrack.ensures.variables
+    ∙ ap (λ (x : Search). (x.engine).variables) c.learn_from-distance.ensures.only_policy in
     record {
-      kind = Learned;
-      clause = c.as_slice-2.result.now;
-      hints = c.in_ok-hints.hints.items;
-    } in
-    subst (λ x. Writes p.given ls x 1) (sym c.in_ok-reference.ensures.lines)
-    (writes_learned p.given ls l refl lesson.adds
-    (λ base above. learn_is_new s.engine s.store.slots s.names.items p.given ls l
-    learned.back_level run.searches run.recorded.names lesson.asserting c.requires.deep
-    base above))
+      runs = runs_chosen n c.keep.new.self p _ (ap (λ x. x.variables) c.keep.ensures) written;
+      variables = c.in_ok-reference.ensures.placed.variables ∙ same;
+      writes =
+          subst (λ x. Writes p.given ls x 1) (sym c.in_ok-reference.ensures.lines)
+          (writes_learned p.given ls l refl lesson.adds
+          (λ base above. learn_is_new s.engine s.store.slots s.names.items p.given ls l
+          learned.back_level run.searches run.recorded.names lesson.asserting c.requires.deep
+          base above));
+    }

@@ -13,12 +13,11 @@ loop-search-init g c =
 
 pub loop-search-preserved : goal.loop-search-preserved
 loop-search-preserved g c =
-    let e = c.in_ok-note_unit.ensures in
     noting_more c.args.search.now c.loop-search.search c.note_unit.new.search c.args.input.now
     (g.S.Sink.lines c.args.sink.now) (g.S.Sink.lines c.loop-search.sink)
     (g.S.Sink.lines c.note_unit.new.sink) c.loop-search.invariant
     (let t = c.loop-search-test.true in let a = c.assigned.ensures.len in
-    omega arith) e.runs e.trail e.variables e.policy e.slots e.writes
+    omega arith) c.in_ok-note_unit.ensures.notes
 
 pub returns-in_err-note_unit : goal.returns-in_err-note_unit
 returns-in_err-note_unit g c =

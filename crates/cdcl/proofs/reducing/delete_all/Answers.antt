@@ -42,7 +42,7 @@ loop-reference-init g c =
 
 pub loop-reference-preserved : goal.loop-reference-preserved
 loop-reference-preserved g c =
-    let d = c.in_ok-delete.ensures in
+    let d = c.in_ok-delete.ensures.deletes in
     let l = c.loop-reference in
     let ms = c.args.chosen.now in
     let q = c.reference-item.result in

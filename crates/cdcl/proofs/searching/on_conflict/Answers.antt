@@ -53,8 +53,8 @@ returns g c = record {
   goes =
       goes_learned c.args.search.now c.learn.new.search c.args.input.now
       (g.S.Sink.lines c.learn.new.sink) c.args.budget.now c.count_learned.new.self
-      c.in_ok-learn.ensures.runs c.in_ok-learn.ensures.variables
+      c.in_ok-learn.ensures.learns.runs c.in_ok-learn.ensures.learns.variables
       c.count_learned.ensures (omega (arith, c.left.ensures.left, c.if-left-eq0.false));
-  pays = (1, c.in_ok-learn.ensures.writes, c.count_learned.ensures);
+  pays = (1, c.in_ok-learn.ensures.learns.writes, c.count_learned.ensures);
   err = tt;
 }
