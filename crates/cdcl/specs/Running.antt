@@ -75,6 +75,11 @@ pub record IsInput (p : Input) : Type 0 where
 abbrev pub KeepsRunning : Search → Search → Type 0
 KeepsRunning old new = (p : Input) (ls : List LogLine) → Runs old p ls → Runs new p ls
 
+-- the engine moved alone, over the same variables
+pub record EngineMoves (old new : Search) : Type 0 where
+  pub variables : (new.engine).variables ≡ (old.engine).variables
+  pub rest : new ≡ record old { engine = new.engine }
+
 -- a clause came under a name, the last of the store
 pub record Places (old new : Search) (n : Name) (c : List Literal) : Type 0 where
   pub slots : (new.store).slots ≡ (old.store).slots ++ Some c ∷ []

@@ -7,7 +7,7 @@ ghost use Rattle.propagate.specs.Fits.{IsFalseClause, IsWithin};
 ghost use Rattle.analyze.specs.Learning.{IsQuiet};
 ghost use Rattle.cdcl_order.specs.Orders.{IsOpenVariable, AreClosed};
 ghost use Rattle.cdcl.specs.Invariant.{zero_of};
-ghost use Rattle.cdcl.specs.Running.{HasRoom, IsReady, KeepsRunning};
+ghost use Rattle.cdcl.specs.Running.{EngineMoves, IsReady, KeepsRunning};
 ghost use Rattle.cdcl.specs.Moves.{KeepsState};
 
 use analyze::learning::{Analyzer, Learned};
@@ -64,8 +64,7 @@ impl Search {
         ensures depth { OnOk result (depth_of self.new.engine.trail
             ≡ depth_of self.old.engine.trail) }
         ensures grows { OnOk result (length self.old.engine.trail ≤ length self.new.engine.trail) }
-        ensures variables { self.new.engine.variables ≡ self.old.engine.variables }
-        ensures only_engine { self.new ≡ record self.old { engine = self.new.engine } }
+        ensures engine { EngineMoves self.old self.new }
     {
         match self.engine.propagate(&self.store) {
             Ok(found) => Ok(found),
@@ -81,8 +80,7 @@ impl Search {
         ensures state { KeepsState self.old self.new }
         ensures ready { IsReady self.new }
         ensures trail { self.new.engine.trail ≡ kept_to level self.old.engine.trail }
-        ensures variables { self.new.engine.variables ≡ self.old.engine.variables }
-        ensures only_engine { self.new ≡ record self.old { engine = self.new.engine } }
+        ensures engine { EngineMoves self.old self.new }
     {
         put_back(&mut self.policy, &self.engine, level);
         self.engine.backtrack(level);
@@ -141,8 +139,7 @@ impl Search {
         ensures closed { result ≡ false
             → AreClosed self.old.engine.trail self.old.engine.variables }
         ensures stays { result ≡ false → self.new.engine ≡ self.old.engine }
-        ensures variables { self.new.engine.variables ≡ self.old.engine.variables }
-        ensures only_engine { self.new ≡ record self.old { engine = self.new.engine } }
+        ensures engine { EngineMoves self.old self.new }
     {
         let _ = self.engine.assigned();
         match self.policy.next(&self.engine) {
@@ -167,7 +164,7 @@ impl Search {
           reason = None;
         } ∷ [] }
         ensures longer { length self.new.engine.trail ≡ length self.old.engine.trail + 1 }
-        ensures only_engine { self.new ≡ record self.old { engine = self.new.engine } }
+        ensures engine { EngineMoves self.old self.new }
     {
         self.engine.decide(lit);
     }

@@ -75,7 +75,7 @@ add_line-requires-clause-within g c =
     asserting_within s.engine s.store.slots learned.lits.items learned.back_level
     c.requires.runs.running.searches.fits c.in_ok-learned.ensures.asserting in
     let same : c.backtrack.new.self.engine.variables ≡ s.engine.variables =
-    c.backtrack.ensures.variables
+    c.backtrack.ensures.engine.variables
     ∙ ap (λ (x : Search). (x.engine).variables) c.learn_from-distance.ensures.only_policy in
     subst (λ n. IsWithin n c.as_slice-2.result.now) (sym same)
     (subst (IsWithin s.engine.variables) (sym c.as_slice-2.ensures) within)
@@ -129,11 +129,11 @@ returns-clause-learns g c =
     let long : length c.hints_of.new.stamps ≡ s.stamps.len =
     c.hints_of.ensures.long ∙ ap length c.deref_mut.ensures.value ∙ sym s.stamps.ok.0 in
     let stamps : m.stamps.items ≡ c.hints_of.new.stamps =
-    ap (λ (x : Search). (x.stamps).items) c.backtrack.ensures.only_engine
+    ap (λ (x : Search). (x.stamps).items) c.backtrack.ensures.engine.rest
     ∙ ap (λ (x : Search). (x.stamps).items) c.learn_from-distance.ensures.only_policy
     ∙ with_items_is s.stamps c.hints_of.new.stamps long in
     let additions : m.additions ≡ s.additions =
-    ap (λ (x : Search). x.additions) c.backtrack.ensures.only_engine
+    ap (λ (x : Search). x.additions) c.backtrack.ensures.engine.rest
     ∙ ap (λ (x : Search). x.additions) c.learn_from-distance.ensures.only_policy in
     let past : All (λ x. x ≤ m.additions + 1) m.stamps.items =
     subst (λ k. All (λ x. x ≤ k + 1) m.stamps.items) (sym additions)
@@ -145,7 +145,7 @@ returns-clause-learns g c =
     let written : Runs n p (g.S.Sink.lines c.add_line.new.sink) =
     subst (Runs n p) (sym c.in_ok-reference.ensures.lines) on in
     let run = c.requires.runs.running in
-    let same : m.engine.variables ≡ s.engine.variables = c.backtrack.ensures.variables
+    let same : m.engine.variables ≡ s.engine.variables = c.backtrack.ensures.engine.variables
     ∙ ap (λ (x : Search). (x.engine).variables) c.learn_from-distance.ensures.only_policy in
     record {
       runs = runs_chosen n c.keep.new.self p _ (ap (λ x. x.variables) c.keep.ensures) written;

@@ -68,7 +68,7 @@ returns-then-not-branch g c =
       runs = b.runs p ls keeps.runs;
       quiet = subst (λ (e : EngineState). IsQuiet f.store.slots (literals_of e.trail)) (sym stays)
           (subst (λ (t : StoreState). IsQuiet t.slots (literals_of n.engine.trail))
-          (sym (ap (λ (x : Search). x.store) b.only_engine))
+          (sym (ap (λ (x : Search). x.store) b.engine.rest))
           (keeps.quiet c.requires.quiet));
       closed =
           subst (λ (e : EngineState). AreClosed e.trail e.variables) (sym stays)
@@ -106,10 +106,11 @@ returns g c =
     let same : length c.note_level.new.search.engine.trail ≡ length s.engine.trail =
     ap (λ (T : List Assigned). length T) n.trail in
     let longer = b.longer c.if-not-branch.false in
+    let policy = ap (λ (x : Search). x.policy) b.engine.rest in
     turn_goes s c.reduce.new.search p ls more c.args.budget.now
     (goes_decided s c.reduce.new.search p more c.args.budget.now r.runs
-    (r.variables ∙ b.variables ∙ n.variables)
-    (ap (λ (x : PolicyState). x.has_learned) (r.policy ∙ ap (λ (x : Search). x.policy) b.only_engine ∙ n.policy))
+    (r.variables ∙ b.engine.variables ∙ n.variables)
+    (ap (λ (x : PolicyState). x.has_learned) (r.policy ∙ policy ∙ n.policy))
     (let l = r.long in omega arith) (omega (arith, b.within, n.variables)))
     (writes_join p.given ls (g.S.Sink.lines c.note_level.new.sink) more 0 0
     c.note_level.ensures.writes c.reduce.ensures.writes)

@@ -23,8 +23,8 @@ returns-in-Some g c =
     let e = c.in_ok-conflict.ensures in
     turn_from c.on_conflict.result c.args.search.now c.propagate.new.self c.on_conflict.new.search
     c.args.input.now (g.S.Sink.lines c.args.sink.now) (g.S.Sink.lines c.on_conflict.new.sink)
-    c.args.budget.now c.on_conflict.new.budget e.variables
-    (ap (λ (x : Search). x.policy) e.only_engine) e.grows c.on_conflict.ensures
+    c.args.budget.now c.on_conflict.new.budget e.engine.variables
+    (ap (λ (x : Search). x.policy) e.engine.rest) e.grows c.on_conflict.ensures
 
 pub on_quiet-requires-clause-runs : goal.on_quiet-requires-clause-runs
 on_quiet-requires-clause-runs g c =
@@ -36,5 +36,5 @@ returns-in-None g c =
     let e = c.in_ok-conflict.ensures in
     turn_from c.on_quiet.result c.args.search.now c.propagate.new.self c.on_quiet.new.search
     c.args.input.now (g.S.Sink.lines c.args.sink.now) (g.S.Sink.lines c.on_quiet.new.sink)
-    c.args.budget.now c.on_quiet.new.budget e.variables
-    (ap (λ (x : Search). x.policy) e.only_engine) e.grows c.on_quiet.ensures
+    c.args.budget.now c.on_quiet.new.budget e.engine.variables
+    (ap (λ (x : Search). x.policy) e.engine.rest) e.grows c.on_quiet.ensures
