@@ -1,12 +1,12 @@
 -- What a solver answers, from what its search does.
-use Rattle.std.proofs.Common.{◌≡◌, ℕ, ◌+◌, true, false, Bool, List, ◌++◌, length, refl, sym, ◌∙◌, ap}
-use Rattle.std.proofs.Common.{subst, arith}
+use Rattle.std.proofs.Common.{◌≡◌, ℕ, ◌+◌, true, false, Bool, List, ◌++◌, length, refl, sym, ◌∙◌}
+use Rattle.std.proofs.Common.{ap, subst, arith}
 use Rattle.std.specs.Prelude.{Ok, Err}
 use Rattle.std.specs.declared.alloc.AllocError.{AllocError}
 use Rattle.std.proofs.lemmas.Bool.{both_ways, false≢true}
 use Rattle.lrat_log.specs.Log.{LogLine}
-use Rattle.lrat_log.specs.Steps.{IsAcceptedLog, StaysLogOver, AddsNoEmptyClause, IsBaseOf, LearnsNew}
-use Rattle.lrat_log.specs.Steps.{nothing_exempt, learned_count}
+use Rattle.lrat_log.specs.Steps.{IsAcceptedLog, StaysLogOver, AddsNoEmptyClause, IsBaseOf}
+use Rattle.lrat_log.specs.Steps.{LearnsNew, nothing_exempt, learned_count}
 use Rattle.cdcl_order.specs.Budgets.{BudgetState, left_of}
 use Rattle.cdcl.specs.declared.search.Search.{Search}
 use Rattle.cdcl.specs.declared.input.Input.{Input}
@@ -89,8 +89,8 @@ module _ {S : Type 0} (lines : S → List LogLine) {p : Input} {sink : S} {faile
       let after = lines more in
       let w = pays.1 in
       subst (λ x. Solves (Ok x) old (view_of p more failed) (lines old.sink) after had left) is
-      (subst (λ (v : SolverState S). Solves (Ok o) v (view_of p more failed) (lines v.sink) after had
-      left) same (record {
+      (subst (λ (v : SolverState S). Solves (Ok o) v (view_of p more failed) (lines v.sink) after
+      had left) same (record {
         sat = sat_of s p after left o i a;
         unsat = unsat_of s p after left o i a;
         limit = limit_of s p after left o a;

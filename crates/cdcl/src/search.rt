@@ -154,7 +154,8 @@ impl Search {
     /// Opens a level with the literal.
     pub(crate) fn decide(&mut self, lit: Lit)
         requires ready { IsReady self.old }
-        requires open { IsOpenVariable self.old.engine.trail self.old.engine.variables lit.variable }
+        requires open { IsOpenVariable self.old.engine.trail self.old.engine.variables
+            lit.variable }
         requires quiet { IsQuiet self.old.store.slots (literals_of self.old.engine.trail) }
         requires noted { length (zero_of self.old.engine.trail) ≤ self.old.noted }
         ensures runs { KeepsRunning self.old self.new }

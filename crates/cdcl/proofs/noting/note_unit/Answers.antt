@@ -1,6 +1,6 @@
 -- The next literal of level 0 follows from its reason.
-use Rattle.std.proofs.Common.{◌≡◌, ◌+◌, ◌-◌, ◌<◌, ◌≤◌, ◌^◌, List, [], ◌∷◌, ◌++◌, length, get_or, true}
-use Rattle.std.proofs.Common.{Some, None, sym, ◌∙◌, ap, subst, arith, refl, set}
+use Rattle.std.proofs.Common.{◌≡◌, ◌+◌, ◌-◌, ◌<◌, ◌≤◌, ◌^◌, List, [], ◌∷◌, ◌++◌, length, get_or}
+use Rattle.std.proofs.Common.{true, Some, None, sym, ◌∙◌, ap, subst, arith, refl, set}
 use Rattle.std.specs.Prelude.{All}
 use Rattle.std.proofs.lemmas.Option.{none-some}
 use Rattle.std.proofs.lemmas.List.{with_items_is}
@@ -168,15 +168,16 @@ returns-clause-notes g c =
           (runs_noted (record s { stamps = with_items s.stamps c.hints_of.new.stamps })
           c.add_line.new.self _ c.args.input.now (g.S.Sink.lines c.args.sink.now)
           c.in_ok-hints.hints.items k (c.variable.result - 1) c.in_ok-unit.unit run room
-          (subst (All (λ x. x ≤ s.additions + 1)) (sym stamps) c.hints_of.ensures.past) c.requires.flat
-          c.requires.next at adds c.in_ok-unit.ensures.placed c.in_ok-unit.ensures.additions
+          (subst (All (λ x. x ≤ s.additions + 1)) (sym stamps) c.hints_of.ensures.past)
+          c.requires.flat c.requires.next at adds placed c.in_ok-unit.ensures.additions
           c.in_ok-unit.ensures.few
           (ap (λ x. x - 1) c.variable.ensures.variable) c.in_ok-unit.ensures.reference
           (record {
             engine = refl;
             slots = refl;
             names = refl;
-            units = ap (set (c.add_line.new.self.units).items (c.variable.result - 1)) c.new.ensures;
+            units =
+                ap (set (c.add_line.new.self.units).items (c.variable.result - 1)) c.new.ensures;
             noted = refl;
             kept = refl;
             additions = refl;

@@ -18,9 +18,10 @@ use Rattle.cdcl.proofs.noting.refute.Goals as goal
 pub hints_of-requires-clause-attached : goal.hints_of-requires-clause-attached
 hints_of-requires-clause-attached g c =
     let s = c.note_units.new.search in
-    let w = c.in_ok-note_units.ensures.leaves.keeps.false_stays c.args.conflict c.requires.conflict in
+    let k = c.in_ok-note_units.ensures.leaves.keeps in
+    let w = k.false_stays c.args.conflict c.requires.conflict in
     All-cons (λ q. is_attached s.engine q ≡ true) c.args.conflict []
-    (c.in_ok-note_units.ensures.leaves.keeps.runs.running.searches.all_attached c.args.conflict (w.0, w.1))
+    (k.runs.running.searches.all_attached c.args.conflict (w.0, w.1))
     (All-nil (λ q. is_attached s.engine q ≡ true))
 
 pub hints_of-requires-clause-noted : goal.hints_of-requires-clause-noted

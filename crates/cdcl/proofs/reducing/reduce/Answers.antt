@@ -21,7 +21,8 @@ returns-in_err-candidates g c =
 pub returns-in_err-chosen : goal.returns-in_err-chosen
 returns-in_err-chosen g c =
     refused_at_once c.from_residual-in_err-chosen.result c.args.input.now
-    (g.S.Sink.lines c.args.sink.now) c.from_residual-in_err-chosen.ensures.0 c.requires.runs.running.recorded.log
+    (g.S.Sink.lines c.args.sink.now) c.from_residual-in_err-chosen.ensures.0
+    c.requires.runs.running.recorded.log
 
 pub delete_all-requires : goal.delete_all-requires
 delete_all-requires g c = record {

@@ -10,7 +10,9 @@ returns-then-depth-gt0 g c =
     record {
       leaves = record {
         keeps = keeps_trail c.args.search.now p ls c.requires.runs;
-        all = c.requires.runs.running.units.all (omega (arith, c.depth.ensures, c.if-depth-gt0.true));
+        all =
+            c.requires.runs.running.units.all
+            (omega (arith, c.depth.ensures, c.if-depth-gt0.true));
       };
       writes = writes_none p.given ls;
       err = tt;

@@ -39,7 +39,8 @@ pub returns-in_err-note_level : goal.returns-in_err-note_level
 returns-in_err-note_level g c =
     turn_fails c.from_residual.result c.args.search.now c.note_level.new.search
     c.args.input.now (g.S.Sink.lines c.args.sink.now) (g.S.Sink.lines c.note_level.new.sink)
-    c.args.budget.now c.from_residual.ensures.0 c.in_err-note_level.ensures.err c.note_level.ensures.writes
+    c.args.budget.now c.from_residual.ensures.0 c.in_err-note_level.ensures.err
+    c.note_level.ensures.writes
 
 pub branch-search-requires : goal.branch-search-requires
 branch-search-requires g c =
