@@ -19,7 +19,6 @@ use Rattle.cdcl.specs.declared.input.Input.{Input}
 use Rattle.cdcl.specs.declared.outcome.Outcome.{Outcome}
 use Rattle.cdcl.specs.declared.outcome.Outcome.TheVariants.{Sat, Unsat, Limit}
 use Rattle.cdcl.specs.Solving.{SolverState, given_to, lines_since, is_refuted}
-use Rattle.cdcl.specs.Solving.{IsPlainlyRefuted, IsLiveRefuted}
 use Rattle.cdcl_order.specs.Budgets.{BudgetState}
 use Rattle.cdcl.specs.declared.searching.End.{End}
 use Rattle.cdcl.specs.declared.searching.End.TheVariants.{Satisfied}
@@ -133,29 +132,9 @@ view_of p sink failed = record {
   failed = failed;
 }
 
-module _ {S : Type 0} (lines : S → List LogLine) {p : Input} {sink : S} {failed : Bool}
-    {old : SolverState S} (i : IsInput p) (same : view_of p sink failed ≡ old) where
-  pub seen_log : StaysLogOver (length (p.frozen).items) p.given (lines sink)
-      → IsLogOver (given_to old) (lines old.sink)
-  seen_log stays =
-      subst (λ s. IsLogOver (given_to s) (lines s.sink)) same (log_now p (lines sink) i stays)
-
-  pub seen_ended : IsEnded p (lines sink) → IsAcceptedLog (given_to old) (lines old.sink)
-  seen_ended e =
-      subst (λ s. IsAcceptedLog (given_to s) (lines s.sink)) same (ended_log p (lines sink) i e)
-
-  pub seen_plain : (s : Search) (ls : List LogLine) (b : BudgetState) (o : Outcome)
-      → IsAnswer s p ls b o → IsPlainlyRefuted old → o ≡ Unsat
-  seen_plain s ls b o a h = plain_unsat s p ls b o i a (subst IsPlainlyRefuted (sym same) h)
-
-  pub seen_live : IsLiveRefuted (given_to old) (lines old.sink)
-      → IsLiveRefuted p.given (lines sink)
-  seen_live h =
-      subst (λ g. IsLiveRefuted g (lines sink)) (given_seen p i)
-      (subst (λ s. IsLiveRefuted (given_to s) (lines s.sink)) (sym same) h)
-
-  pub seen_short : (now : List LogLine) (n : ℕ) → Writes p.given (lines sink) now n
-      → All IsLearnedOrShort (lines_since (lines old.sink) now)
-  seen_short now n w =
-      subst (λ s. All IsLearnedOrShort (lines_since (lines s.sink) now)) same
-      (written_short p.given (lines sink) now n w)
+pub seen_log : {S : Type 0} (lines : S → List LogLine) {p : Input} {sink : S} {failed : Bool}
+    {old : SolverState S} → IsInput p → view_of p sink failed ≡ old
+    → StaysLogOver (length (p.frozen).items) p.given (lines sink)
+    → IsLogOver (given_to old) (lines old.sink)
+seen_log lines {p = p} {sink = sink} i same stays =
+    subst (λ s. IsLogOver (given_to s) (lines s.sink)) same (log_now p (lines sink) i stays)

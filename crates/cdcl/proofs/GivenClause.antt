@@ -8,7 +8,7 @@ use Rattle.std.proofs.lemmas.Option.{slice_get_within}
 use Rattle.cnf.specs.Literal.{Literal}
 use Rattle.cnf.specs.Clause.{has_repeat, has_opposites, greatest_variable}
 use Rattle.cnf.specs.Lrat.{IsId}
-use Rattle.cnf.specs.Formula.{Cnf, IsFormulaClause}
+use Rattle.cnf.specs.Formula.{IsFormulaClause}
 use Rattle.std.proofs.lemmas.Bool.{true≢false}
 use Rattle.propagate.specs.Fits.{IsWithin}
 use Rattle.lrat_log.specs.declared.lines.Name.{Name}
@@ -40,26 +40,6 @@ named_more c i k lt at one all =
     subst (All (λ (l : Literal). 0 < l.variable)) (sym (take_more c i k lt))
     (All-push (λ (l : Literal). 0 < l.variable) (take i c) (get_or c i k) all
     (subst (λ (l : Literal). 0 < l.variable) at one))
-
-pub same_input : (p q : Input) → IsInput p → q.given ≡ p.given
-    → q.stack ≡ p.stack → q.frozen ≡ p.frozen → q.first ≡ p.first → IsInput q
-same_input p q i given stack frozen first = record {
-  numbered = subst (λ g. given_of (map (λ x. x.1) (take q.first g)) ≡ take q.first g) (sym given)
-      (subst (λ k. given_of (map (λ x. x.1) (take k p.given)) ≡ take k p.given)
-      (sym first) i.numbered);
-  first_within =
-      subst (λ g. q.first ≤ length g) (sym given)
-      (subst (λ k. k ≤ length p.given) (sym first) i.first_within);
-  based = subst (λ g. (base : ℕ) × IsBaseOf g base) (sym given) i.based;
-  few_given = subst (λ f. length f.items < 2 ^ 26) (sym frozen) i.few_given;
-  few = subst (λ s. s.variables < 2 ^ 27) (sym stack) i.few;
-  no_fewer =
-      subst (λ f. length f.items ≤ (q.stack).variables) (sym frozen)
-      (subst (λ s. length (p.frozen).items ≤ s.variables) (sym stack) i.no_fewer);
-  given_small = subst (λ f. All (λ g. IsFormulaClause (length f.items) g.1) q.given)
-      (sym frozen) (subst (All (λ g. IsFormulaClause (length (p.frozen).items) g.1))
-      (sym given) i.given_small);
-}
 
 pub input_gives : (p q : Input) (n : Name) (c : List Literal) → IsInput p → GivesOne p q n c
     → IsFreshName p.given n → has_repeat c ≡ false → has_opposites c ≡ false
@@ -109,28 +89,7 @@ lines_given p q n c ls gives small stays =
     (subst (λ g. StaysLogOver (length (p.frozen).items) g ls) (sym gives.given)
     (log_given (length (p.frozen).items) p.given n c ls small stays))
 
-pub lines_same : (p q : Input) (ls : List LogLine) → q.given ≡ p.given
-    → q.frozen ≡ p.frozen → StaysLogOver (length (p.frozen).items) p.given ls
-    → StaysLogOver (length (q.frozen).items) q.given ls
-lines_same p q ls given frozen stays =
-    subst (λ f. StaysLogOver (length f.items) q.given ls) (sym frozen)
-    (subst (λ g. StaysLogOver (length (p.frozen).items) g ls) (sym given) stays)
-
 -- What the solver is then.
-
-abbrev pub formula_of : Input → Cnf
-formula_of p =
-    record {
-      variables = length (p.frozen).items;
-      clauses = map (λ g. g.1) (take p.first p.given);
-    }
-
-pub formula_same : (p q : Input) → q.given ≡ p.given → q.frozen ≡ p.frozen
-    → q.first ≡ p.first → formula_of q ≡ formula_of p
-formula_same p q given frozen first =
-    let wide : length (q.frozen).items ≡ length (p.frozen).items =
-    ap (λ f. length f.items) frozen in
-    λ i. record { variables = wide i; clauses = map (λ g. g.1) (take (first i) (given i)) }
 
 pub gives_solver : (s t : Search) (p q : Input) (n : Name) (c : List Literal) (ls : List LogLine)
     (refuted failed : Bool) → IsSolver s p ls refuted failed → failed ≡ false → GivesOne p q n c
@@ -155,14 +114,14 @@ gives_solver s t p q n c ls refuted failed i works gives fresh id fixed once apa
     }
 
 pub fails_solver : (s t : Search) (p q : Input) (ls : List LogLine) (refuted failed : Bool)
-    → IsSolver s p ls refuted failed → q.given ≡ p.given → q.stack ≡ p.stack
-    → q.frozen ≡ p.frozen → q.first ≡ p.first → IsSolver t q ls refuted true
-fails_solver s t p q ls refuted failed i given stack frozen first = record {
-  input = same_input p q i.input given stack frozen first;
-  lines = lines_same p q ls given frozen i.lines;
-  refuted_is = i.refuted_is;
-  running = λ f u. absurd (true≢false f);
-}
+    → IsSolver s p ls refuted failed → q ≡ p → IsSolver t q ls refuted true
+fails_solver s t p q ls refuted failed i same =
+    subst (λ x. IsSolver t x ls refuted true) (sym same) (record {
+      input = i.input;
+      lines = i.lines;
+      refuted_is = i.refuted_is;
+      running = λ f u. absurd (true≢false f);
+    })
 
 -- a clause over frozen variables lies within the engine's
 pub frozen_within : (s : Search) (p : Input) (ls : List LogLine) (c : List Literal) → IsInput p

@@ -33,3 +33,4 @@ pub mod GivenList
 pub mod GivenClause
 pub mod Rounds
 pub mod Deleting
+pub mod Solved

@@ -1,15 +1,21 @@
--- Rounds of a search: each leaves fewer.
+-- Turns of a search: each leaves fewer.
 use Rattle.std.proofs.Common.{◌≡◌, ℕ, ◌+◌, ◌-◌, ◌*◌, ◌<◌, ◌≤◌, true, false, List, length, sym}
-use Rattle.std.proofs.Common.{◌∙◌, ap, subst, arith}
+use Rattle.std.proofs.Common.{◌∙◌, ap, subst, arith, Option, Some, None}
+use Rattle.std.specs.Prelude.{Result, Ok, IsErr, IfSome, IfNone}
+use Rattle.std.proofs.lemmas.Result.{IfOk-weaker, IfOk-from_err}
+use Rattle.lrat_log.proofs.Laws.{when_err}
 use Rattle.std.proofs.Math.Nat.{mul-le-mul_left}
 use Rattle.cnf.specs.Numbers.{one_if}
 use Rattle.cnf.proofs.Laws.{one_if_le}
 use Rattle.cdcl_order.specs.Budgets.{BudgetState, left_of}
+use Rattle.cdcl_order.specs.Policies.{PolicyState}
 use Rattle.lrat_log.specs.Log.{LogLine, Given}
 use Rattle.cdcl.specs.declared.input.Input.{Input}
 use Rattle.cdcl.specs.declared.search.Search.{Search}
-use Rattle.cdcl.specs.Running.{Runs, Writes, Pays}
+use Rattle.cdcl.specs.declared.searching.End.{End}
+use Rattle.cdcl.specs.Running.{Runs, Writes, Pays, StaysOpen, IsEndOf}
 use Rattle.cdcl.specs.Moves.{rounds_left, GoesOn}
+use Rattle.cdcl.specs.Turns.{Ends, Turns}
 use Rattle.cdcl.proofs.Written.{writes_none, writes_join}
 
 -- What is paid.
@@ -100,4 +106,89 @@ goes_decided old new p ls budget r same learned longer within = record {
       (sym learned)
       (subst (λ n. (2 * left_of budget + first) * (n + 2) + (n + 1 - length (new.engine).trail)
       < rounds_left old budget) (sym same) (omega arith));
+}
+
+-- How a turn ends that learns nothing.
+
+pub turn_ends : {E : Type 0} (old new : Search) (p : Input) (before after : List LogLine)
+    (budget : BudgetState) (end : End) → IsEndOf new p after budget end
+    → Writes p.given before after 0
+    → Turns {E = E} (Ok (Some end)) old new p before after budget budget
+turn_ends old new p before after budget end is w = record {
+  ends = is;
+  goes = tt;
+  pays = pays_none p.given before after budget w;
+  err = tt;
+}
+
+pub turn_goes : {E : Type 0} (old new : Search) (p : Input) (before after : List LogLine)
+    (budget : BudgetState) → GoesOn old new p after budget budget
+    → Writes p.given before after 0 → Turns {E = E} (Ok None) old new p before after budget budget
+turn_goes old new p before after budget goes w = record {
+  ends = tt;
+  goes = goes;
+  pays = pays_none p.given before after budget w;
+  err = tt;
+}
+
+pub turn_fails : {E : Type 0} (result : Result (Option End) E) (old new : Search) (p : Input)
+    (before after : List LogLine) (budget : BudgetState) → IsErr result → StaysOpen p after
+    → Writes p.given before after 0 → Turns result old new p before after budget budget
+turn_fails result old new p before after budget fails log w = record {
+  ends = IfOk-from_err result (λ next. IfSome next (IsEndOf new p after budget)) fails;
+  goes =
+      IfOk-from_err result (λ next. IfNone next (GoesOn old new p after budget budget)) fails;
+  pays = pays_none p.given before after budget w;
+  err = when_err result log;
+}
+
+pub search_fails : {E : Type 0} (result : Result End E) (new : Search) (p : Input)
+    (before after : List LogLine) (had left : BudgetState) → IsErr result → StaysOpen p after
+    → Pays p.given before after had left → Ends result new p before after had left
+search_fails result new p before after had left fails log pays = record {
+  ends = IfOk-from_err result (IsEndOf new p after left) fails;
+  pays = pays;
+  err = when_err result log;
+}
+
+-- Before a turn literals became true.
+
+fewer_before : (old mid new : Search) (had left : BudgetState)
+    → (mid.engine).variables ≡ (old.engine).variables → mid.policy ≡ old.policy
+    → length (old.engine).trail ≤ length (mid.engine).trail
+    → rounds_left new left < rounds_left mid had → rounds_left new left < rounds_left old had
+fewer_before old mid new had left variables policy longer fewer =
+    let first = one_if (old.policy).has_learned in
+    let v = (old.engine).variables in
+    let t = length (mid.engine).trail in
+    let now : rounds_left new left < (2 * left_of had + first) * (v + 2) + (v + 1 - t) =
+    subst (λ n. rounds_left new left < (2 * left_of had + first) * (n + 2) + (n + 1 - t)) variables
+    (subst (λ (o : PolicyState). rounds_left new left
+    < (2 * left_of had + one_if o.has_learned) * ((mid.engine).variables + 2)
+    + ((mid.engine).variables + 1 - t)) policy fewer) in
+    omega arith
+
+goes_before : (old mid new : Search) (p : Input) (after : List LogLine) (had left : BudgetState)
+    → (mid.engine).variables ≡ (old.engine).variables → mid.policy ≡ old.policy
+    → length (old.engine).trail ≤ length (mid.engine).trail → (next : Option End)
+    → IfNone next (GoesOn mid new p after had left) → IfNone next (GoesOn old new p after had left)
+goes_before old mid new p after had left variables policy longer (Some end) goes = tt
+goes_before old mid new p after had left variables policy longer None goes = record {
+  runs = goes.runs;
+  fewer = fewer_before old mid new had left variables policy longer goes.fewer;
+}
+
+pub turn_from : {E : Type 0} (result : Result (Option End) E) (old mid new : Search) (p : Input)
+    (before after : List LogLine) (had left : BudgetState)
+    → (mid.engine).variables ≡ (old.engine).variables → mid.policy ≡ old.policy
+    → length (old.engine).trail ≤ length (mid.engine).trail
+    → Turns result mid new p before after had left → Turns result old new p before after had left
+turn_from result old mid new p before after had left variables policy longer t = record {
+  ends = t.ends;
+  goes =
+      IfOk-weaker result (λ next. IfNone next (GoesOn mid new p after had left))
+      (λ next. IfNone next (GoesOn old new p after had left))
+      (goes_before old mid new p after had left variables policy longer) t.goes;
+  pays = t.pays;
+  err = t.err;
 }

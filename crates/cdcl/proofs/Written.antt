@@ -1,13 +1,18 @@
 -- What moves write, one after another.
 use Rattle.std.proofs.Common.{◌≡◌, ℕ, ◌+◌, true, false, cond, List, [], ◌∷◌, ◌++◌, inl, inr, sym}
 use Rattle.std.proofs.Common.{◌∙◌, ap, subst, refl, arith, append_assoc, append-nil}
-use Rattle.std.specs.Prelude.{Result, Ok, Err, OnOk, OnErr}
+use Rattle.std.specs.Prelude.{length, Result, Ok, Err, OnOk, OnErr, IsErr}
+use Rattle.std.proofs.lemmas.Bool.{false≢true}
 use Rattle.std.proofs.lemmas.List.Elements.{All-nil, All-cons, All-append}
 use Rattle.std.proofs.lemmas.List.Sums.{sum_by-append, sum_by-cons}
 use Rattle.lrat_log.specs.Log.{LogLine, Given, is_learned}
 use Rattle.lrat_log.specs.Steps.{IsBaseOf, learned_count, IsLearnedOrShort, IsShortLine, LearnsNew}
 use Rattle.lrat_log.specs.Steps.{nothing_exempt, IsNewTo, log_live}
+use Rattle.lrat_log.proofs.Laws.{when_err}
+use Rattle.cdcl.specs.declared.input.Input.{Input}
+use Rattle.cdcl.specs.Invariant.{IsOpenLog}
 use Rattle.cdcl.specs.Running.{Writes}
+use Rattle.cdcl.specs.Turns.{LearnsNothing}
 use Rattle.cdcl.proofs.LogLines.{AddsByHints}
 use Rattle.cdcl.proofs.LearnedLines.{by_rup}
 
@@ -85,3 +90,25 @@ writes_learned given ls l learned adds new = record {
 pub either : {T E A B C : Type 0} (r : Result T E) → OnOk r A → OnErr r B → (A → C) → (B → C) → C
 either (Ok x) a b f g = f a
 either (Err e) a b f g = g b
+
+fails_ok : {T E : Type 0} (r : Result T E) (P : Type 0) → IsErr r → OnOk r P
+fails_ok (Ok x) P f = absurd (false≢true f)
+fails_ok (Err e) P f = tt
+
+-- memory was refused where lines may be added, before another one came
+pub refused : {A E Left : Type 0} {n : ℕ} (result : Result A E) (p : Input)
+    (before ls after : List LogLine) → IsErr result
+    → IsOpenLog (length (p.frozen).items) p.given ls n → Writes p.given before ls 0 → after ≡ ls
+    → LearnsNothing result Left p before after
+refused {Left = Left} result p before ls after fails log w same =
+    subst (LearnsNothing result Left p before) (sym same) (record {
+      leaves = fails_ok result Left fails;
+      writes = w;
+      err = when_err result (record { stays = log.stays; unrefuted = log.unrefuted });
+    })
+
+pub refused_at_once : {A E Left : Type 0} {n : ℕ} (result : Result A E) (p : Input)
+    (ls : List LogLine) → IsErr result → IsOpenLog (length (p.frozen).items) p.given ls n
+    → LearnsNothing result Left p ls ls
+refused_at_once result p ls fails log =
+    refused result p ls ls ls fails log (writes_none p.given ls) refl

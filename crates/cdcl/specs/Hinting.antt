@@ -1,16 +1,27 @@
 -- Hints by name, and clauses of one literal among them.
-use Rattle.std.specs.Prelude.{◌≡◌, ℕ, true, false, List, [], ◌∷◌, ◌++◌, map, Option, Some, Contains}
+use Rattle.std.specs.Prelude.{◌≡◌, ℕ, true, false, List, [], ◌∷◌, ◌++◌, length, map, Option}
+use Rattle.std.specs.Prelude.{Some, Contains}
 use Rattle.std.specs.List.{AllByRecursion}
 use Rattle.cnf.specs.Literal.{Literal, negation}
 use Rattle.cnf.specs.Clause.{contains_literal, has_repeat}
 use Rattle.cnf.specs.Refute.{Clauses}
 use Rattle.clauses.specs.Slots.{Slots, clause_at}
 use Rattle.propagate.specs.Trail.{Assigned}
+use Rattle.propagate.specs.Watches.{EngineState}
+use Rattle.propagate.specs.Fits.{Fits}
 use Rattle.clauses.specs.Within.{Within}
 use Rattle.lrat_log.specs.declared.lines.Name.{Name}
 use Rattle.lrat_log.specs.declared.lines.Hint.{Hint}
 use Rattle.lrat_log.specs.declared.lines.Hint.TheVariants.{Plain}
 use Rattle.cdcl.specs.Invariant.{name_at, HasUnit, zero_of}
+
+-- names by place, and units and stamps by variable, beside an engine over these clauses
+pub record AreTables (e : EngineState) (slots : Slots) (by_place : List Name)
+    (by_variable : List (Option ℕ)) (last : List ℕ) : Type 0 where
+  pub fits : Fits e slots
+  pub named : length by_place ≡ length slots
+  pub units : length by_variable ≡ e.variables
+  pub stamps : length last ≡ e.variables
 
 abbrev pub plain_hints : List Name → List Hint
 plain_hints ns = map Plain ns

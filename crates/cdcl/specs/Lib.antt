@@ -5,3 +5,4 @@ pub mod Running
 pub mod Starts
 pub mod Moves
 pub mod Deletions
+pub mod Turns

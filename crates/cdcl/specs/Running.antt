@@ -1,6 +1,6 @@
 -- What holds of a search between its moves, and what moves do.
 use Rattle.std.specs.Prelude.{◌≡◌, ℕ, ◌+◌, ◌<◌, ◌≤◌, ◌^◌, Bool, true, false, List, [], ◌∷◌, ◌++◌}
-use Rattle.std.specs.Prelude.{length, take, map, Some, All, Result, Ok, Err}
+use Rattle.std.specs.Prelude.{length, take, map, Some, All, Result}
 use Rattle.cnf.specs.Literal.{Literal}
 use Rattle.cnf.specs.Clause.{greatest_variable}
 use Rattle.cnf.specs.Lrat.{IsId}
@@ -21,7 +21,7 @@ use Rattle.cdcl.specs.declared.searching.End.{End}
 use Rattle.cdcl.specs.declared.searching.End.TheVariants.{Satisfied, Refuted, Spent}
 use Rattle.cdcl.specs.declared.outcome.Outcome.{Outcome}
 use Rattle.cdcl.specs.declared.outcome.Outcome.TheVariants.{Sat, Unsat, Limit}
-use Rattle.cdcl.specs.Solving.{is_refuted, IsFreshName, IsFrozen, SatisfyGiven}
+use Rattle.cdcl.specs.Solving.{is_refuted, IsFreshName, IsFrozen, SatisfyGiven, answer_count}
 use Rattle.cdcl.specs.Invariant.{Tables, Searches, IsRunning}
 
 -- The state of a search.
@@ -74,6 +74,11 @@ pub record IsInput (p : Input) : Type 0 where
 
 abbrev pub KeepsRunning : Search → Search → Type 0
 KeepsRunning old new = (p : Input) (ls : List LogLine) → Runs old p ls → Runs new p ls
+
+-- the engine moved alone, over the same variables
+pub record EngineMoves (old new : Search) : Type 0 where
+  pub variables : (new.engine).variables ≡ (old.engine).variables
+  pub rest : new ≡ record old { engine = new.engine }
 
 -- a clause came under a name, the last of the store
 pub record Places (old new : Search) (n : Name) (c : List Literal) : Type 0 where
@@ -185,15 +190,8 @@ IsAnswer s p ls b (Sat bits) = IsSatisfying s p ls bits.items
 IsAnswer s p ls b Unsat = IsEnded p ls
 IsAnswer s p ls b Limit = IsSpent s p ls b
 
--- one for an answer with bits
-abbrev pub units_for : {E : Type 0} → Result Outcome E → ℕ
-units_for (Ok (Sat bits)) = 1
-units_for (Ok Unsat) = 0
-units_for (Ok Limit) = 0
-units_for (Err e) = 0
-
 -- and a unit was paid for each learned line, and for bits
 abbrev pub PaysFor : {E : Type 0} → Result Outcome E → Given → List LogLine → List LogLine
     → BudgetState → BudgetState → Type 0
 PaysFor answer given before after old new = (n : ℕ) × Writes given before after n
-    × (new ≡ record old { learned = old.learned + n; answers = old.answers + units_for answer })
+    × (new ≡ record old { learned = old.learned + n; answers = old.answers + answer_count answer })

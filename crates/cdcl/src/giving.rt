@@ -1,5 +1,5 @@
 // Clauses that come after the formula.
-ghost use Rattle.std.specs.Prelude.{◌≡◌, ◌<◌, ◌^◌, ◌++◌, [], ◌∷◌, false, All, OnOk, OnErr};
+ghost use Rattle.std.specs.Prelude.{◌≡◌, ◌<◌, ◌^◌, false, All, OnOk, OnErr};
 ghost use Rattle.propagate.specs.Fits.{IsWithin};
 ghost use Rattle.lrat_log.specs.declared.lines.Name.TheVariants.{Formula};
 ghost use Rattle.cdcl.specs.Running.{IsReady, TakesClause, Takes, GivesOne};
@@ -25,12 +25,8 @@ fn take_clause(search: &mut Search, number: u64, lits: &[Lit]) -> Result<(), All
 /// Keeps the clause among those given.
 fn keep_clause(input: &mut Input, number: u64, lits: &[Lit]) -> Result<(), AllocError>
     requires number { (0 < number) × (number < 2 ^ 62) }
-    ensures given { OnOk result (input.new.given
-        ≡ input.old.given ++ (Formula number, lits.now) ∷ []) }
-    ensures stack { input.new.stack ≡ input.old.stack }
-    ensures frozen { input.new.frozen ≡ input.old.frozen }
-    ensures first { input.new.first ≡ input.old.first }
-    ensures err { OnErr result (input.new.given ≡ input.old.given) }
+    ensures given { OnOk result (GivesOne input.old input.new (Formula number) lits.now) }
+    ensures unchanged { OnErr result (input.new ≡ input.old) }
 {
     input.given.push(Number::new(number), lits)
 }
@@ -50,10 +46,7 @@ pub(crate) fn give(
     ensures takes { OnOk result (refuted ≡ false
         → Takes search.old search.new input.old input.new (Formula number) lits.now) }
     ensures given { OnOk result (GivesOne input.old input.new (Formula number) lits.now) }
-    ensures stack { input.new.stack ≡ input.old.stack }
-    ensures frozen { input.new.frozen ≡ input.old.frozen }
-    ensures first { input.new.first ≡ input.old.first }
-    ensures err { OnErr result (input.new.given ≡ input.old.given) }
+    ensures unchanged { OnErr result (input.new ≡ input.old) }
 {
     if refuted {
         return keep_clause(input, number, lits);

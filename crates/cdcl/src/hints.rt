@@ -4,9 +4,8 @@ ghost use Rattle.std.specs.Prelude.{◌≡◌, ℕ, ◌<◌, ◌≤◌, true, Li
 ghost use Rattle.std.specs.Prelude.{Contains, IfOk, OnOk, IfSome};
 ghost use Rattle.clauses.specs.Slots.{clause_at};
 ghost use Rattle.propagate.specs.Watches.{is_attached};
-ghost use Rattle.propagate.specs.Fits.{Fits};
 ghost use Rattle.cdcl.specs.Invariant.{name_at};
-ghost use Rattle.cdcl.specs.Hinting.{AreNoted, IsNotedIn, AreHintsOf, plain_hints};
+ghost use Rattle.cdcl.specs.Hinting.{AreTables, AreNoted, IsNotedIn, AreHintsOf, plain_hints};
 ghost use Rattle.cdcl.specs.Moves.{Gathers};
 
 use clauses::store::{CRef, MaybeCRef, Store};
@@ -27,10 +26,7 @@ pub(crate) fn hints_of(
     stamp: u64,
     references: &[CRef],
 ) -> Result<Vec<Hint>, AllocError>
-    requires fits { Fits engine.now store.now.slots }
-    requires named { length names.now ≡ length store.now.slots }
-    requires units { length units.now ≡ engine.now.variables }
-    requires stamps { length stamps.old ≡ engine.now.variables }
+    requires tables { AreTables engine.now store.now.slots names.now units.now stamps.old }
     requires past { All (λ n. n < stamp) stamps.old }
     requires attached { All (λ r. is_attached engine.now r ≡ true) references.now }
     requires noted { AreNoted store.now.slots units.now engine.now.trail references.now }
@@ -61,10 +57,7 @@ fn add_units(
     stamp: u64,
     reference: CRef,
 ) -> Result<(), AllocError>
-    requires fits { Fits engine.now store.now.slots }
-    requires named { length names.now ≡ length store.now.slots }
-    requires units { length units.now ≡ engine.now.variables }
-    requires stamps { length stamps.old ≡ engine.now.variables }
+    requires tables { AreTables engine.now store.now.slots names.now units.now stamps.old }
     requires past { All (λ n. n ≤ stamp) stamps.old }
     requires attached { is_attached engine.now reference ≡ true }
     requires noted { IfSome (clause_at store.now.slots reference)

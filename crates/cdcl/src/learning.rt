@@ -2,7 +2,8 @@
 ghost use Rattle.std.specs.Prelude.{◌≡◌, ◌<◌, OnOk, OnErr};
 ghost use Rattle.propagate.specs.Trail.{depth_of};
 ghost use Rattle.propagate.specs.Fits.{IsFalseClause};
-ghost use Rattle.cdcl.specs.Running.{Runs, Writes};
+ghost use Rattle.cdcl.specs.Running.{Runs};
+ghost use Rattle.cdcl.specs.Turns.{Learns};
 
 use crate::hints::hints_of;
 use crate::input::Input;
@@ -23,10 +24,8 @@ pub(crate) fn learn<S: Sink>(
     requires runs { Runs search.old input.now (S.lines sink.old) }
     requires deep { 0 < depth_of search.old.engine.trail }
     requires conflict { IsFalseClause search.old.store.slots search.old.engine conflict }
-    ensures runs { OnOk result (Runs search.new input.now (S.lines sink.new)) }
-    ensures variables { OnOk result (search.new.engine.variables ≡ search.old.engine.variables) }
-    ensures writes { OnOk result
-        (Writes input.now.given (S.lines sink.old) (S.lines sink.new) 1) }
+    ensures learns { OnOk result
+        (Learns search.old search.new input.now (S.lines sink.old) (S.lines sink.new)) }
     ensures err { OnErr result (S.lines sink.new ≡ S.lines sink.old) }
 {
     let learned = search

@@ -1,13 +1,10 @@
 // What is true at level 0 is written down as clauses of one literal, so that later lines may use it
 // as hints.
-ghost use Rattle.std.specs.Prelude.{◌≡◌, ℕ, ◌+◌, ◌<◌, ◌≤◌, [], ◌∷◌, ◌++◌, Some, length};
-ghost use Rattle.std.specs.Prelude.{slice_index_or, OnOk, OnErr};
-ghost use Rattle.propagate.specs.Trail.{literals_of, depth_of};
+ghost use Rattle.std.specs.Prelude.{◌≡◌, ◌<◌, length, OnOk, OnErr};
+ghost use Rattle.propagate.specs.Trail.{depth_of};
 ghost use Rattle.propagate.specs.Fits.{IsFalseClause};
-ghost use Rattle.analyze.specs.Learning.{IsQuiet};
-ghost use Rattle.cdcl_order.specs.Orders.{positive};
-ghost use Rattle.cdcl.specs.Invariant.{zero_of};
-ghost use Rattle.cdcl.specs.Running.{Runs, Writes, StaysOpen, IsEnded};
+ghost use Rattle.cdcl.specs.Running.{Runs, IsEnded};
+ghost use Rattle.cdcl.specs.Turns.{LearnsNothing, NotesAll, NotesNext};
 
 use crate::hints::hints_of;
 use crate::input::Input;
@@ -25,19 +22,8 @@ pub(crate) fn note_units<S: Sink>(
 ) -> Result<(), AllocError>
     requires runs { Runs search.old input.now (S.lines sink.old) }
     requires flat { depth_of search.old.engine.trail ≡ 0 }
-    ensures runs { OnOk result (Runs search.new input.now (S.lines sink.new)) }
-    ensures all { OnOk result (length (zero_of search.new.engine.trail) ≤ search.new.noted) }
-    ensures trail { OnOk result (search.new.engine.trail ≡ search.old.engine.trail) }
-    ensures policy { OnOk result (search.new.policy ≡ search.old.policy) }
-    ensures quiet { OnOk result
-        (IsQuiet search.old.store.slots (literals_of search.old.engine.trail)
-        → IsQuiet search.new.store.slots (literals_of search.new.engine.trail)) }
-    ensures clauses { OnOk result ((r : ℕ)
-        → IsFalseClause search.old.store.slots search.old.engine r
-        → IsFalseClause search.new.store.slots search.new.engine r) }
-    ensures variables { OnOk result (search.new.engine.variables ≡ search.old.engine.variables) }
-    ensures writes { Writes input.now.given (S.lines sink.old) (S.lines sink.new) 0 }
-    ensures err { OnErr result (StaysOpen input.now (S.lines sink.new)) }
+    ensures { LearnsNothing result (NotesAll search.old search.new input.now (S.lines sink.new))
+        input.now (S.lines sink.old) (S.lines sink.new) }
 {
     while search.noted < search.engine.assigned() {
         note_unit(search, input, sink)?;
@@ -51,16 +37,8 @@ fn note_unit<S: Sink>(search: &mut Search, input: &Input, sink: &mut S) -> Resul
     requires runs { Runs search.old input.now (S.lines sink.old) }
     requires flat { depth_of search.old.engine.trail ≡ 0 }
     requires next { search.old.noted < length search.old.engine.trail }
-    ensures runs { OnOk result (Runs search.new input.now (S.lines sink.new)) }
-    ensures noted { OnOk result (search.new.noted ≡ search.old.noted + 1) }
-    ensures trail { OnOk result (search.new.engine.trail ≡ search.old.engine.trail) }
-    ensures policy { OnOk result (search.new.policy ≡ search.old.policy) }
-    ensures slots { OnOk result (search.new.store.slots ≡ search.old.store.slots ++ Some (
-        slice_index_or (literals_of search.old.engine.trail) search.old.noted (positive 0) ∷ []
-        ) ∷ []) }
-    ensures variables { OnOk result (search.new.engine.variables ≡ search.old.engine.variables) }
-    ensures writes { OnOk result (
-        Writes input.now.given (S.lines sink.old) (S.lines sink.new) 0) }
+    ensures notes { OnOk result
+        (NotesNext search.old search.new input.now (S.lines sink.old) (S.lines sink.new)) }
     ensures err { OnErr result (S.lines sink.new ≡ S.lines sink.old) }
 {
     let lit = search.engine.trail()[search.noted];
@@ -93,9 +71,8 @@ pub(crate) fn refute<S: Sink>(
     requires runs { Runs search.old input.now (S.lines sink.old) }
     requires flat { depth_of search.old.engine.trail ≡ 0 }
     requires conflict { IsFalseClause search.old.store.slots search.old.engine conflict }
-    ensures ended { OnOk result (IsEnded input.now (S.lines sink.new)) }
-    ensures writes { Writes input.now.given (S.lines sink.old) (S.lines sink.new) 0 }
-    ensures err { OnErr result (StaysOpen input.now (S.lines sink.new)) }
+    ensures { LearnsNothing result (IsEnded input.now (S.lines sink.new)) input.now
+        (S.lines sink.old) (S.lines sink.new) }
 {
     note_units(search, input, sink)?;
     let hints = hints_of(

@@ -1,13 +1,11 @@
 // Learned clauses are deleted from time to time, so that propagation has fewer to look at.
-ghost use Rattle.std.specs.Prelude.{◌≡◌, ℕ, ◌<◌, ◌≤◌, true, false, Some, All, length, IfOk, OnOk};
-ghost use Rattle.std.specs.Prelude.{OnErr};
-ghost use Rattle.clauses.specs.Slots.{IsLive};
-ghost use Rattle.propagate.specs.Doomed.{is_doomed};
+ghost use Rattle.std.specs.Prelude.{◌≡◌, ◌≤◌, true, false, Some, All, length, IfOk, OnOk, OnErr};
 ghost use Rattle.propagate.specs.Trail.{reason_in};
-ghost use Rattle.cdcl.specs.Invariant.{name_at, is_kept_name};
-ghost use Rattle.cdcl.specs.Running.{IsReady, Runs, StaysOpen, Writes};
+ghost use Rattle.cdcl.specs.Invariant.{is_kept_name};
+ghost use Rattle.cdcl.specs.Running.{IsReady, Runs};
 ghost use Rattle.cdcl.specs.Moves.{MayBeDeleted};
 ghost use Rattle.cdcl.specs.Deletions.{AreMarked, IsDeleting};
+ghost use Rattle.cdcl.specs.Turns.{LearnsNothing, Deletes, Reduces};
 
 use crate::input::Input;
 use crate::search::Search;
@@ -28,17 +26,8 @@ fn delete<S: Sink>(
     reference: CRef,
 ) -> Result<(), AllocError>
     requires deleting { IsDeleting search.old input.now (S.lines sink.old) doomed.now }
-    ensures deleting { OnOk result
-        (IsDeleting search.new input.now (S.lines sink.new) doomed.now) }
-    ensures gone { OnOk result
-        (is_doomed doomed.now reference ≡ true → IsLive search.new.store.slots reference
-        → ⊥) }
-    ensures fewer { OnOk result
-        ((r : ℕ) → IsLive search.new.store.slots r → IsLive search.old.store.slots r) }
-    ensures engine { OnOk result (search.new.engine ≡ search.old.engine) }
-    ensures policy { OnOk result (search.new.policy ≡ search.old.policy) }
-    ensures writes { OnOk result
-        (Writes input.now.given (S.lines sink.old) (S.lines sink.new) 0) }
+    ensures deletes { OnOk result (Deletes search.old search.new input.now (S.lines sink.old)
+        (S.lines sink.new) doomed.now reference) }
     ensures err { OnErr result (S.lines sink.new ≡ S.lines sink.old) }
 {
     if !search.store.is_live(reference) {
@@ -136,13 +125,8 @@ pub(crate) fn reduce<S: Sink>(
     sink: &mut S,
 ) -> Result<(), AllocError>
     requires runs { Runs search.old input.now (S.lines sink.old) }
-    ensures runs { OnOk result (Runs search.new input.now (S.lines sink.new)) }
-    ensures variables { OnOk result (search.new.engine.variables ≡ search.old.engine.variables) }
-    ensures long { OnOk result
-        (length search.new.engine.trail ≡ length search.old.engine.trail) }
-    ensures policy { OnOk result (search.new.policy ≡ search.old.policy) }
-    ensures writes { Writes input.now.given (S.lines sink.old) (S.lines sink.new) 0 }
-    ensures err { OnErr result (StaysOpen input.now (S.lines sink.new)) }
+    ensures { LearnsNothing result (Reduces search.old search.new input.now (S.lines sink.new))
+        input.now (S.lines sink.old) (S.lines sink.new) }
 {
     if !search.policy.is_deletion_due() {
         return Ok(());
@@ -166,13 +150,8 @@ fn delete_all<S: Sink>(
     chosen: &[CRef],
 ) -> Result<(), AllocError>
     requires runs { Runs search.old input.now (S.lines sink.old) }
-    ensures runs { OnOk result (Runs search.new input.now (S.lines sink.new)) }
-    ensures variables { OnOk result (search.new.engine.variables ≡ search.old.engine.variables) }
-    ensures long { OnOk result
-        (length search.new.engine.trail ≡ length search.old.engine.trail) }
-    ensures policy { OnOk result (search.new.policy ≡ search.old.policy) }
-    ensures writes { Writes input.now.given (S.lines sink.old) (S.lines sink.new) 0 }
-    ensures err { OnErr result (StaysOpen input.now (S.lines sink.new)) }
+    ensures { LearnsNothing result (Reduces search.old search.new input.now (S.lines sink.new))
+        input.now (S.lines sink.old) (S.lines sink.new) }
 {
     let doomed = search.mark(chosen)?;
     search.engine.detach_all(&doomed);

@@ -7,7 +7,7 @@ ghost use Rattle.propagate.specs.Fits.{IsFalseClause, IsWithin};
 ghost use Rattle.analyze.specs.Learning.{IsQuiet};
 ghost use Rattle.cdcl_order.specs.Orders.{IsOpenVariable, AreClosed};
 ghost use Rattle.cdcl.specs.Invariant.{zero_of};
-ghost use Rattle.cdcl.specs.Running.{HasRoom, IsReady, KeepsRunning};
+ghost use Rattle.cdcl.specs.Running.{EngineMoves, IsReady, KeepsRunning};
 ghost use Rattle.cdcl.specs.Moves.{KeepsState};
 
 use analyze::learning::{Analyzer, Learned};
@@ -64,10 +64,7 @@ impl Search {
         ensures depth { OnOk result (depth_of self.new.engine.trail
             ≡ depth_of self.old.engine.trail) }
         ensures grows { OnOk result (length self.old.engine.trail ≤ length self.new.engine.trail) }
-        ensures store { self.new.store ≡ self.old.store }
-        ensures noted { self.new.noted ≡ self.old.noted }
-        ensures policy { self.new.policy ≡ self.old.policy }
-        ensures variables { self.new.engine.variables ≡ self.old.engine.variables }
+        ensures engine { EngineMoves self.old self.new }
     {
         match self.engine.propagate(&self.store) {
             Ok(found) => Ok(found),
@@ -83,8 +80,7 @@ impl Search {
         ensures state { KeepsState self.old self.new }
         ensures ready { IsReady self.new }
         ensures trail { self.new.engine.trail ≡ kept_to level self.old.engine.trail }
-        ensures variables { self.new.engine.variables ≡ self.old.engine.variables }
-        ensures engine { self.new ≡ record self.old { engine = self.new.engine } }
+        ensures engine { EngineMoves self.old self.new }
     {
         put_back(&mut self.policy, &self.engine, level);
         self.engine.backtrack(level);
@@ -119,7 +115,7 @@ impl Search {
         requires hints { All (λ r. is_attached self.old.engine r ≡ true) learned.now.hints.items }
         requires within { IsWithin self.old.engine.variables learned.now.lits.items }
         ensures variables { self.new.policy.variables ≡ self.old.policy.variables }
-        ensures same { self.new ≡ record self.old { policy = self.new.policy } }
+        ensures only_policy { self.new ≡ record self.old { policy = self.new.policy } }
     {
         self.policy.learn_from(
             &self.engine,
@@ -143,9 +139,7 @@ impl Search {
         ensures closed { result ≡ false
             → AreClosed self.old.engine.trail self.old.engine.variables }
         ensures stays { result ≡ false → self.new.engine ≡ self.old.engine }
-        ensures variables { self.new.engine.variables ≡ self.old.engine.variables }
-        ensures store { self.new.store ≡ self.old.store }
-        ensures policy { self.new.policy ≡ self.old.policy }
+        ensures engine { EngineMoves self.old self.new }
     {
         let _ = self.engine.assigned();
         match self.policy.next(&self.engine) {
@@ -160,7 +154,8 @@ impl Search {
     /// Opens a level with the literal.
     pub(crate) fn decide(&mut self, lit: Lit)
         requires ready { IsReady self.old }
-        requires open { IsOpenVariable self.old.engine.trail self.old.engine.variables lit.variable }
+        requires open { IsOpenVariable self.old.engine.trail self.old.engine.variables
+            lit.variable }
         requires quiet { IsQuiet self.old.store.slots (literals_of self.old.engine.trail) }
         requires noted { length (zero_of self.old.engine.trail) ≤ self.old.noted }
         ensures runs { KeepsRunning self.old self.new }
@@ -170,7 +165,7 @@ impl Search {
           reason = None;
         } ∷ [] }
         ensures longer { length self.new.engine.trail ≡ length self.old.engine.trail + 1 }
-        ensures same { self.new ≡ record self.old { engine = self.new.engine } }
+        ensures engine { EngineMoves self.old self.new }
     {
         self.engine.decide(lit);
     }

@@ -2,14 +2,13 @@
 // propagate, then learn from a conflict or decide. It starts over where its policy says so, which
 // is only after a clause was learned since it last did; so a search is bounded by its budget and
 // the variables without a value.
-ghost use Rattle.std.specs.Prelude.{◌≡◌, ◌≤◌, length, IfOk, OnOk, OnErr, IfSome, IfNone};
-ghost use Rattle.propagate.specs.Trail.{literals_of, depth_of};
+ghost use Rattle.std.specs.Prelude.{◌≡◌, IfOk};
+ghost use Rattle.propagate.specs.Trail.{literals_of};
 ghost use Rattle.propagate.specs.Fits.{IsFalseClause};
 ghost use Rattle.analyze.specs.Learning.{IsQuiet};
-ghost use Rattle.cdcl.specs.Moves.{GoesOn};
 ghost use Rattle.cdcl.specs.Solving.{IsLiveRefuted};
-ghost use Rattle.cdcl.specs.Invariant.{zero_of};
-ghost use Rattle.cdcl.specs.Running.{Runs, Writes, Pays, StaysOpen, IsEndOf};
+ghost use Rattle.cdcl.specs.Running.{Runs};
+ghost use Rattle.cdcl.specs.Turns.{Ends, Turns, LearnsNothing, NotesAll};
 ghost use Rattle.cdcl.specs.declared.searching.End.TheVariants.{Refuted};
 
 use crate::budget::Budget;
@@ -44,13 +43,11 @@ pub(crate) fn run<S: Sink, W: Watch>(
     watch: &mut W,
 ) -> Result<End, AllocError>
     requires runs { Runs search.old input.now (S.lines sink.old) }
-    ensures ends { IfOk result (IsEndOf search.new input.now (S.lines sink.new) budget.new) }
+    ensures search { Ends result search.new input.now (S.lines sink.old) (S.lines sink.new)
+        budget.old budget.new }
     ensures propagates { IfOk result
         (λ end. IsLiveRefuted input.now.given (S.lines sink.old)
         → end ≡ Refuted) }
-    ensures pays { Pays input.now.given (S.lines sink.old) (S.lines sink.new) budget.old
-        budget.new }
-    ensures err { OnErr result (StaysOpen input.now (S.lines sink.new)) }
 {
     search.begin();
     let found = search.propagate()?;
@@ -72,10 +69,8 @@ fn descend<S: Sink, W: Watch>(
     watch: &mut W,
 ) -> Result<End, AllocError>
     requires runs { Runs search.old input.now (S.lines sink.old) }
-    ensures ends { IfOk result (IsEndOf search.new input.now (S.lines sink.new) budget.new) }
-    ensures pays { Pays input.now.given (S.lines sink.old) (S.lines sink.new) budget.old
+    ensures { Ends result search.new input.now (S.lines sink.old) (S.lines sink.new) budget.old
         budget.new }
-    ensures err { OnErr result (StaysOpen input.now (S.lines sink.new)) }
 {
     'rounds: loop {
         match round(search, input, sink, budget, watch)? {
@@ -94,14 +89,8 @@ fn round<S: Sink, W: Watch>(
     watch: &mut W,
 ) -> Result<Option<End>, AllocError>
     requires runs { Runs search.old input.now (S.lines sink.old) }
-    ensures ends { IfOk result (λ next.
-        IfSome next (IsEndOf search.new input.now (S.lines sink.new) budget.new)) }
-    ensures goes { IfOk result (λ next.
-        IfNone next (GoesOn search.old search.new input.now (S.lines sink.new) budget.old
-        budget.new)) }
-    ensures pays { Pays input.now.given (S.lines sink.old) (S.lines sink.new) budget.old
-        budget.new }
-    ensures err { OnErr result (StaysOpen input.now (S.lines sink.new)) }
+    ensures { Turns result search.old search.new input.now (S.lines sink.old) (S.lines sink.new)
+        budget.old budget.new }
 {
     match search.propagate()? {
         Some(conflict) => on_conflict(search, input, sink, budget, watch, conflict),
@@ -120,14 +109,8 @@ fn on_conflict<S: Sink, W: Watch>(
 ) -> Result<Option<End>, AllocError>
     requires runs { Runs search.old input.now (S.lines sink.old) }
     requires conflict { IsFalseClause search.old.store.slots search.old.engine conflict }
-    ensures ends { IfOk result (λ next.
-        IfSome next (IsEndOf search.new input.now (S.lines sink.new) budget.new)) }
-    ensures goes { IfOk result (λ next.
-        IfNone next (GoesOn search.old search.new input.now (S.lines sink.new) budget.old
-        budget.new)) }
-    ensures pays { Pays input.now.given (S.lines sink.old) (S.lines sink.new) budget.old
-        budget.new }
-    ensures err { OnErr result (StaysOpen input.now (S.lines sink.new)) }
+    ensures { Turns result search.old search.new input.now (S.lines sink.old) (S.lines sink.new)
+        budget.old budget.new }
 {
     if search.engine.depth() == 0 {
         refute(search, input, sink, conflict)?;
@@ -152,14 +135,8 @@ fn on_quiet<S: Sink>(
 ) -> Result<Option<End>, AllocError>
     requires runs { Runs search.old input.now (S.lines sink.old) }
     requires quiet { IsQuiet search.old.store.slots (literals_of search.old.engine.trail) }
-    ensures ends { IfOk result (λ next.
-        IfSome next (IsEndOf search.new input.now (S.lines sink.new) budget.new)) }
-    ensures goes { IfOk result (λ next.
-        IfNone next (GoesOn search.old search.new input.now (S.lines sink.new) budget.old
-        budget.new)) }
-    ensures pays { Pays input.now.given (S.lines sink.old) (S.lines sink.new) budget.old
-        budget.new }
-    ensures err { OnErr result (StaysOpen input.now (S.lines sink.new)) }
+    ensures { Turns result search.old search.new input.now (S.lines sink.old) (S.lines sink.new)
+        budget.old budget.new }
 {
     if budget.left() == 0 {
         return Ok(Some(End::Spent));
@@ -179,16 +156,8 @@ fn on_quiet<S: Sink>(
 /// Writes down what is true at level 0, if that is the current level; above it that is done.
 fn note_level<S: Sink>(search: &mut Search, input: &Input, sink: &mut S) -> Result<(), AllocError>
     requires runs { Runs search.old input.now (S.lines sink.old) }
-    ensures runs { OnOk result (Runs search.new input.now (S.lines sink.new)) }
-    ensures all { OnOk result (length (zero_of search.new.engine.trail) ≤ search.new.noted) }
-    ensures trail { OnOk result (search.new.engine.trail ≡ search.old.engine.trail) }
-    ensures policy { OnOk result (search.new.policy ≡ search.old.policy) }
-    ensures quiet { OnOk result
-        (IsQuiet search.old.store.slots (literals_of search.old.engine.trail)
-        → IsQuiet search.new.store.slots (literals_of search.new.engine.trail)) }
-    ensures variables { OnOk result (search.new.engine.variables ≡ search.old.engine.variables) }
-    ensures writes { Writes input.now.given (S.lines sink.old) (S.lines sink.new) 0 }
-    ensures err { OnErr result (StaysOpen input.now (S.lines sink.new)) }
+    ensures { LearnsNothing result (NotesAll search.old search.new input.now (S.lines sink.new))
+        input.now (S.lines sink.old) (S.lines sink.new) }
 {
     if search.engine.depth() > 0 {
         return Ok(());

@@ -1,17 +1,12 @@
 // The solver.
-ghost use Rattle.std.specs.Prelude.{◌≡◌, ℕ, ◌+◌, Bool, true, false, List, [], ◌∷◌, ◌++◌, length};
-ghost use Rattle.std.specs.Prelude.{Ok, Err, All, IfOk, OnOk, OnErr, IsErr, ◌↔◌, ◌⊎◌};
-ghost use Rattle.std.specs.List.{AllByRecursion};
+ghost use Rattle.std.specs.Prelude.{◌≡◌, true, false, [], ◌++◌, length, Ok, Err, All, IfOk, OnOk};
+ghost use Rattle.std.specs.Prelude.{OnErr, IsErr, ◌↔◌, ◌⊎◌};
 ghost use Rattle.cnf.specs.Clause.{has_repeat, has_opposites};
-ghost use Rattle.lrat_log.specs.Steps.{IsLogOver, IsAcceptedLog, IsBaseOf, AddsNoEmptyClause};
-ghost use Rattle.lrat_log.specs.Steps.{learned_count, IsShortLine, IsLearnedOrShort, LearnsNew};
-ghost use Rattle.lrat_log.specs.Steps.{nothing_exempt};
-ghost use Rattle.cdcl_order.specs.Budgets.{left_of};
+ghost use Rattle.lrat_log.specs.Steps.{IsLogOver, learned_count, IsShortLine};
 ghost use Rattle.cdcl.specs.declared.outcome.Outcome.TheVariants.{Unsat};
 ghost use Rattle.cdcl.specs.Running.{Runs, IsInput, IsAnswer, PaysFor, StaysOpen};
-ghost use Rattle.cdcl.specs.Solving.{given_to, IsFreshName, IsFrozen, SameGiven, GivesMore, OnSat};
-ghost use Rattle.cdcl.specs.Solving.{OnUnsat, OnLimit, answer_count, SatisfyGiven, is_refuted};
-ghost use Rattle.cdcl.specs.Solving.{IsPlainlyRefuted, IsLiveRefuted, lines_since};
+ghost use Rattle.cdcl.specs.Solving.{Solves, given_to, IsFreshName, IsFrozen, SameGiven, GivesMore};
+ghost use Rattle.cdcl.specs.Solving.{IsLiveRefuted, lines_since};
 
 use crate::answers::bits;
 use crate::budget::Budget;
@@ -188,7 +183,7 @@ impl<S: Sink> Solver<S> {
     /// A hint for the order of decisions, on which no answer depends: the literal's variable starts
     /// at the share that its weight has of the greatest weight so far.
     pub fn weigh(&mut self, lit: Lit, weight: u64)
-        ensures same { self.new ≡ self.old }
+        ensures unchanged { self.new ≡ self.old }
     {
         self.search.policy.weigh(lit.variable(), weight);
     }
@@ -200,38 +195,8 @@ impl<S: Sink> Solver<S> {
     ///
     /// `Memory` where memory was refused: the lines are steps also then. `Failed` after that.
     pub fn solve(&mut self, budget: &mut Budget) -> Result<Outcome, SolveFault>
-        ensures sat { OnSat result (λ bits. (length bits ≡ self.old.formula.variables)
-            × SatisfyGiven bits (given_to self.old)) }
-        ensures unsat { OnUnsat result (IsAcceptedLog (given_to self.old) (S.lines self.new.sink)) }
-        ensures limit { OnLimit result (left_of budget.new ≡ 0) }
-
-        // Where it answers at once.
-        ensures refuted { OnOk result (IsPlainlyRefuted self.old → result ≡ Ok Outcome.Unsat) }
-        ensures propagates { OnOk result (IsLiveRefuted (given_to self.old) (S.lines self.old.sink)
-            → result ≡ Ok Outcome.Unsat) }
-        ensures again { is_refuted (S.lines self.old.sink) ≡ true → self.old.failed ≡ false
-            → (result ≡ Ok Outcome.Unsat) × (budget.new ≡ budget.old) }
-        ensures failed { (result ≡ Err SolveFault.Failed) ↔ (self.old.failed ≡ true) }
-        ensures fails { IsErr result ↔ (self.new.failed ≡ true) }
-
-        // The lines, at every return.
-        ensures given { SameGiven self.old self.new }
-        ensures grows { S.lines self.new.sink
-            ≡ S.lines self.old.sink ++ lines_since (S.lines self.old.sink) (S.lines self.new.sink) }
-        ensures lines { IsLogOver (given_to self.new) (S.lines self.new.sink) }
-        ensures open { OnOk result ((result ≡ Ok Outcome.Unsat → ⊥)
-            → AddsNoEmptyClause (S.lines self.new.sink)) }
-        ensures short { All IsLearnedOrShort
-            (lines_since (S.lines self.old.sink) (S.lines self.new.sink)) }
-        ensures new { (base : ℕ) → IsBaseOf (given_to self.old) base
-            → LearnsNew nothing_exempt (given_to self.old) base (S.lines self.old.sink)
-            (lines_since (S.lines self.old.sink) (S.lines self.new.sink)) }
-
-        // The effort.
-        ensures learned { budget.new.learned ≡ budget.old.learned
-            + learned_count (lines_since (S.lines self.old.sink) (S.lines self.new.sink)) }
-        ensures answers { budget.new.answers ≡ budget.old.answers + answer_count result }
-        ensures same_limit { budget.new.limit ≡ budget.old.limit }
+        ensures { Solves result self.old self.new (S.lines self.old.sink) (S.lines self.new.sink)
+            budget.old budget.new }
     {
         self.solve_watched(budget, &mut Unwatched)
     }
@@ -247,38 +212,8 @@ impl<S: Sink> Solver<S> {
         budget: &mut Budget,
         watch: &mut W,
     ) -> Result<Outcome, SolveFault>
-        ensures sat { OnSat result (λ bits. (length bits ≡ self.old.formula.variables)
-            × SatisfyGiven bits (given_to self.old)) }
-        ensures unsat { OnUnsat result (IsAcceptedLog (given_to self.old) (S.lines self.new.sink)) }
-        ensures limit { OnLimit result (left_of budget.new ≡ 0) }
-
-        // Where it answers at once.
-        ensures refuted { OnOk result (IsPlainlyRefuted self.old → result ≡ Ok Outcome.Unsat) }
-        ensures propagates { OnOk result (IsLiveRefuted (given_to self.old) (S.lines self.old.sink)
-            → result ≡ Ok Outcome.Unsat) }
-        ensures again { is_refuted (S.lines self.old.sink) ≡ true → self.old.failed ≡ false
-            → (result ≡ Ok Outcome.Unsat) × (budget.new ≡ budget.old) }
-        ensures failed { (result ≡ Err SolveFault.Failed) ↔ (self.old.failed ≡ true) }
-        ensures fails { IsErr result ↔ (self.new.failed ≡ true) }
-
-        // The lines, at every return.
-        ensures given { SameGiven self.old self.new }
-        ensures grows { S.lines self.new.sink
-            ≡ S.lines self.old.sink ++ lines_since (S.lines self.old.sink) (S.lines self.new.sink) }
-        ensures lines { IsLogOver (given_to self.new) (S.lines self.new.sink) }
-        ensures open { OnOk result ((result ≡ Ok Outcome.Unsat → ⊥)
-            → AddsNoEmptyClause (S.lines self.new.sink)) }
-        ensures short { All IsLearnedOrShort
-            (lines_since (S.lines self.old.sink) (S.lines self.new.sink)) }
-        ensures new { (base : ℕ) → IsBaseOf (given_to self.old) base
-            → LearnsNew nothing_exempt (given_to self.old) base (S.lines self.old.sink)
-            (lines_since (S.lines self.old.sink) (S.lines self.new.sink)) }
-
-        // The effort.
-        ensures learned { budget.new.learned ≡ budget.old.learned
-            + learned_count (lines_since (S.lines self.old.sink) (S.lines self.new.sink)) }
-        ensures answers { budget.new.answers ≡ budget.old.answers + answer_count result }
-        ensures same_limit { budget.new.limit ≡ budget.old.limit }
+        ensures { Solves result self.old self.new (S.lines self.old.sink) (S.lines self.new.sink)
+            budget.old budget.new }
     {
         if self.failed {
             return Err(SolveFault::Failed);

@@ -54,7 +54,8 @@ impl Model for Policy {
       has_learned = nat_lt 0 p.pace.conflicts;
     } };
 
-    ghost invariant = { λ p. (length p.phases.last ≡ p.order) × (length p.levels.stamps ≡ p.order + 1) };
+    ghost invariant = { λ p. (length p.phases.last ≡ p.order)
+        × (length p.levels.stamps ≡ p.order + 1) };
 }
 
 impl Policy {
@@ -114,7 +115,7 @@ impl Policy {
         ensures some { IfSome result
             (λ l. IsOpenVariable engine.now.trail self.old.variables l.variable) }
         ensures none { IfNone result (AreClosed engine.now.trail self.old.variables) }
-        ensures same { self.new ≡ self.old }
+        ensures unchanged { self.new ≡ self.old }
     {
         match self.order.next(engine) {
             Some(variable) => Some(Lit::new(variable, !self.phases.value(variable))),
@@ -127,8 +128,8 @@ impl Policy {
 
     /// A conflict taught a clause: by these reasons, the conflict among them. Its analysis met
     /// these variables, and those beside them stand in the reasons of the clause's literals: they
-    /// count too. The engine is still as it was at the conflict. It answers the clause's block distance:
-    /// the number of levels above 0 among its literals.
+    /// count too. The engine is still as it was at the conflict. It answers the clause's block
+    /// distance: the number of levels above 0 among its literals.
     pub fn learn_from(
         &mut self,
         engine: &Engine,

@@ -7,37 +7,9 @@ returns-then-refuted-clause-takes c =
     on_ok_weaker c.keep_clause.result
     (λ given f. absurd (both_ways c.args.refuted f c.if-refuted.true)) c.keep_clause.ensures.given
 
-pub returns-then-refuted-clause-given : goal.returns-then-refuted-clause-given
-returns-then-refuted-clause-given c =
-    on_ok_weaker c.keep_clause.result
-    (λ given. record {
-      given = given;
-      stack = c.keep_clause.ensures.stack;
-      frozen = c.keep_clause.ensures.frozen;
-      first = c.keep_clause.ensures.first;
-    })
-    c.keep_clause.ensures.given
-
 pub returns-clause-takes : goal.returns-clause-takes
 returns-clause-takes c =
     on_ok_weaker c.keep_clause-2.result
     (λ given f ls ask first r. c.in_ok-take_clause.ensures c.args.input.now
-    c.keep_clause-2.new.input ls ask
-    (record {
-      given = given;
-      stack = c.keep_clause-2.ensures.stack;
-      frozen = c.keep_clause-2.ensures.frozen;
-      first = c.keep_clause-2.ensures.first;
-    }) first r)
-    c.keep_clause-2.ensures.given
-
-pub returns-clause-given : goal.returns-clause-given
-returns-clause-given c =
-    on_ok_weaker c.keep_clause-2.result
-    (λ given. record {
-      given = given;
-      stack = c.keep_clause-2.ensures.stack;
-      frozen = c.keep_clause-2.ensures.frozen;
-      first = c.keep_clause-2.ensures.first;
-    })
+    c.keep_clause-2.new.input ls ask given first r)
     c.keep_clause-2.ensures.given

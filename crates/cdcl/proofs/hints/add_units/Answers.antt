@@ -27,7 +27,7 @@ use Rattle.cnf.specs.Clause.{contains_literal}
 inside : (c : After-variable-variable) → IsVariable c.args.engine.now.variables c.lit-item.result
 inside c =
     literal_within c.args.engine.now c.args.store.now.slots c.args.reference
-    c.lits-lit-items.result.now c.loop-lit.lit-index c.lit-item.result c.requires.fits
+    c.lits-lit-items.result.now c.loop-lit.lit-index c.lit-item.result c.requires.tables.fits
     c.requires.attached
     c.lits-lit-items.ensures c.loop-lit-test.true c.lit-item.is
 
@@ -41,7 +41,7 @@ bounds-stamps-place c =
       inside (goal.at.bounds-stamps-place c).After-variable-variable,
       c.variable-variable.ensures.variable,
       c.loop-lit.auto.stamps,
-      c.requires.stamps,
+      c.requires.tables.stamps,
     )
 
 pub level-requires : goal.level-requires
@@ -61,7 +61,7 @@ bounds-stamps-place-then-eq-2 c =
       inside (goal.at.bounds-stamps-place-then-eq-2 c).After-variable-variable,
       c.variable-variable.ensures.variable,
       c.loop-lit.auto.stamps,
-      c.requires.stamps,
+      c.requires.tables.stamps,
     )
 
 pub bounds-units-place : goal.bounds-units-place
@@ -69,7 +69,7 @@ bounds-units-place c = omega (
   arith,
   inside (goal.at.bounds-units-place c).After-variable-variable,
   c.variable-variable.ensures.variable,
-  c.requires.units,
+  c.requires.tables.units,
 )
 
 pub bounds-names-index : goal.bounds-names-index
@@ -78,7 +78,7 @@ bounds-names-index c =
     let value : c.value.result ≡ Some false = search rules in
     let has =
     found_unit c.args.engine.now c.args.store.now.slots c.args.units.now c.args.reference
-    c.lits-lit-items.result.now c.loop-lit.lit-index c.lit-item.result c.requires.fits
+    c.lits-lit-items.result.now c.loop-lit.lit-index c.lit-item.result c.requires.tables.fits
     c.requires.noted c.lits-lit-items.ensures c.loop-lit-test.true c.lit-item.is
     c.variable-variable.result c.index-units-place.result c.variable-variable.ensures.variable
     (sym c.level.ensures ∙ zero) (sym c.value.ensures ∙ value) c.index-units-place.is in
@@ -86,7 +86,7 @@ bounds-names-index c =
     same_Some c.in-Some.unit has.0 (sym c.in-Some.is ∙ c.get.ensures ∙ has.1) in
     let inside_store =
     live_within c.args.store.now.slots has.0 (negation c.lit-item.result ∷ []) has.3 in
-    omega (arith, c.requires.named)
+    omega (arith, c.requires.tables.named)
 
 pub unreachable-requires : goal.unreachable-requires
 unreachable-requires c =
@@ -94,7 +94,7 @@ unreachable-requires c =
     let value : c.value.result ≡ Some false = search rules in
     let has =
     found_unit c.args.engine.now c.args.store.now.slots c.args.units.now c.args.reference
-    c.lits-lit-items.result.now c.loop-lit.lit-index c.lit-item.result c.requires.fits
+    c.lits-lit-items.result.now c.loop-lit.lit-index c.lit-item.result c.requires.tables.fits
     c.requires.noted c.lits-lit-items.ensures c.loop-lit-test.true c.lit-item.is
     c.variable-variable.result c.index-units-place.result c.variable-variable.ensures.variable
     (sym c.level.ensures ∙ zero) (sym c.value.ensures ∙ value) c.index-units-place.is in
@@ -113,14 +113,14 @@ loop-lit-preserved c =
     let stamp = c.args.stamp in
     let stamps = c.loop-lit.stamps in
     let inside =
-    literal_within e S c.args.reference lits i l c.requires.fits c.requires.attached
+    literal_within e S c.args.reference lits i l c.requires.tables.fits c.requires.attached
     c.lits-lit-items.ensures c.loop-lit-test.true c.lit-item.is in
     let variable : c.variable-variable.result ≡ l.variable = c.variable-variable.ensures.variable in
     let room : l.variable - 1 < length stamps =
-    omega (arith, c.loop-lit.auto.stamps, c.requires.stamps) in
+    omega (arith, c.loop-lit.auto.stamps, c.requires.tables.stamps) in
     let here : get_or stamps (c.variable-variable.result - 1) 0 ≡ get_or stamps (l.variable - 1) 0 =
     ap (λ v. get_or stamps (v - 1) 0) variable in
-    let reasons = c.requires.fits.reasons in
+    let reasons = c.requires.tables.fits.reasons in
     let live = c.lits-lit-items.ensures in
     elim c.if-stamps-place.branch [
       | then-stamps-place+then-eq+then-eq-2+in-Some+in_ok-push-in-Some w ↦
@@ -130,7 +130,7 @@ loop-lit-preserved c =
           ∙ sym w.level.ensures ∙ zero in
           let is_false : value_in T l ≡ Some false = sym w.value.ensures ∙ value in
           let has =
-          found_unit e S U c.args.reference lits i l c.requires.fits c.requires.noted live
+          found_unit e S U c.args.reference lits i l c.requires.tables.fits c.requires.noted live
           c.loop-lit-test.true c.lit-item.is
           c.variable-variable.result w.index-units-place.result variable (sym w.level.ensures
           ∙ zero) is_false w.index-units-place.is in
@@ -140,8 +140,9 @@ loop-lit-preserved c =
           w.index.ensures ∙ same ∙ sym (ap (λ o. unwrap_or o 0) has.2) in
           let inside_store = live_within S has.0 (negation l ∷ []) has.3 in
           let name : w.name.result ≡ name_at N (unit_at U l) =
-          w.name.ensures ∙ w.index-names-index.is ∙ get_or_default N w.index.result w.index-names-index.result
-          (Formula 0) (omega (arith, c.requires.named)) ∙ ap (name_at N) unit in
+          w.name.ensures ∙ w.index-names-index.is
+          ∙ get_or_default N w.index.result w.index-names-index.result (Formula 0)
+          (omega (arith, c.requires.tables.named)) ∙ ap (name_at N) unit in
           let fresh : get_or stamps (l.variable - 1) 0 < stamp =
           omega (arith, here, w.if-stamps-place.true) in
           rw (w.stamps-is, w.hints-is, w.in_ok-push-in-Some.ensures.items, variable) (record {
@@ -187,7 +188,7 @@ returns-clause-gathers c all done listed g =
     let S = c.args.store.now.slots in
     let lits = c.lits-lit-items.result.now in
     gathers_clause S c.args.names.now c.args.units.now e.trail c.args.stamp all done
-    c.args.reference lits listed c.requires.fits.reasons c.lits-lit-items.ensures
+    c.args.reference lits listed c.requires.tables.fits.reasons c.lits-lit-items.ensures
     c.loop-lit.stamps c.loop-lit.hints.items
     (subst (λ x. Gathers S c.args.names.now c.args.units.now e.trail c.args.stamp all done x
     c.loop-lit.stamps c.loop-lit.hints.items)

@@ -61,7 +61,7 @@ backtrack-requires-clause-level g c =
     let s = c.args.search.now in
     let learned = c.in_ok-learned.learned in
     let same : depth_of c.learn_from-distance.new.self.engine.trail ≡ depth_of s.engine.trail =
-    ap (λ (x : Search). depth_of (x.engine).trail) c.learn_from-distance.ensures.same in
+    ap (λ (x : Search). depth_of (x.engine).trail) c.learn_from-distance.ensures.only_policy in
     let low =
     back_low s.engine.trail learned.lits.items learned.back_level
     c.in_ok-learned.ensures.asserting in
@@ -75,8 +75,8 @@ add_line-requires-clause-within g c =
     asserting_within s.engine s.store.slots learned.lits.items learned.back_level
     c.requires.runs.running.searches.fits c.in_ok-learned.ensures.asserting in
     let same : c.backtrack.new.self.engine.variables ≡ s.engine.variables =
-    c.backtrack.ensures.variables
-    ∙ ap (λ (x : Search). (x.engine).variables) c.learn_from-distance.ensures.same in
+    c.backtrack.ensures.engine.variables
+    ∙ ap (λ (x : Search). (x.engine).variables) c.learn_from-distance.ensures.only_policy in
     subst (λ n. IsWithin n c.as_slice-2.result.now) (sym same)
     (subst (IsWithin s.engine.variables) (sym c.as_slice-2.ensures) within)
 
@@ -96,8 +96,8 @@ add_line-requires-clause-hints g c =
     hint_ids slots s.names.items s.engine.trail rs c.in_ok-hints.hints.items h
     recorded.names.as_many recorded.numbers (refutes_live slots _ rs refutes)
 
-pub returns-clause-runs : goal.returns-clause-runs
-returns-clause-runs g c =
+pub returns-clause-learns : goal.returns-clause-learns
+returns-clause-learns g c =
     let s = c.args.search.now in
     let p = c.args.input.now in
     let ls = g.S.Sink.lines c.args.sink.now in
@@ -121,20 +121,20 @@ returns-clause-runs g c =
     c.learn_from-distance.new.self.store.slots p.stack
     (tables_of c.learn_from-distance.new.self) p.frozen.items p.first p.given ls =
     subst (λ (x : Search). IsRunning x.engine (x.store).slots p.stack (tables_of x) p.frozen.items
-    p.first p.given ls) (sym c.learn_from-distance.ensures.same) c.requires.runs.running in
+    p.first p.given ls) (sym c.learn_from-distance.ensures.only_policy) c.requires.runs.running in
     let moved = c.backtrack.ensures.state p ls bumped in
     let trail : m.engine.trail ≡ kept_to learned.back_level T = c.backtrack.ensures.trail
     ∙ ap (λ (x : Search). kept_to learned.back_level (x.engine).trail)
-    c.learn_from-distance.ensures.same in
+    c.learn_from-distance.ensures.only_policy in
     let long : length c.hints_of.new.stamps ≡ s.stamps.len =
     c.hints_of.ensures.long ∙ ap length c.deref_mut.ensures.value ∙ sym s.stamps.ok.0 in
     let stamps : m.stamps.items ≡ c.hints_of.new.stamps =
-    ap (λ (x : Search). (x.stamps).items) c.backtrack.ensures.engine
-    ∙ ap (λ (x : Search). (x.stamps).items) c.learn_from-distance.ensures.same
+    ap (λ (x : Search). (x.stamps).items) c.backtrack.ensures.engine.rest
+    ∙ ap (λ (x : Search). (x.stamps).items) c.learn_from-distance.ensures.only_policy
     ∙ with_items_is s.stamps c.hints_of.new.stamps long in
     let additions : m.additions ≡ s.additions =
-    ap (λ (x : Search). x.additions) c.backtrack.ensures.engine
-    ∙ ap (λ (x : Search). x.additions) c.learn_from-distance.ensures.same in
+    ap (λ (x : Search). x.additions) c.backtrack.ensures.engine.rest
+    ∙ ap (λ (x : Search). x.additions) c.learn_from-distance.ensures.only_policy in
     let past : All (λ x. x ≤ m.additions + 1) m.stamps.items =
     subst (λ k. All (λ x. x ≤ k + 1) m.stamps.items) (sym additions)
     (subst (All (λ x. x ≤ s.additions + 1)) (sym stamps) c.hints_of.ensures.past) in
@@ -144,29 +144,16 @@ returns-clause-runs g c =
     c.in_ok-reference.ensures.additions c.in_ok-reference.ensures.few in
     let written : Runs n p (g.S.Sink.lines c.add_line.new.sink) =
     subst (Runs n p) (sym c.in_ok-reference.ensures.lines) on in
-    runs_chosen n c.keep.new.self p _ (ap (λ x. x.variables) c.keep.ensures) written
-
-pub returns-clause-writes : goal.returns-clause-writes
-returns-clause-writes g c =
-    let s = c.args.search.now in
-    let p = c.args.input.now in
-    let ls = g.S.Sink.lines c.args.sink.now in
-    let learned = c.in_ok-learned.learned in
     let run = c.requires.runs.running in
-    let lesson =
-    is_lesson s p ls learned.lits.items c.as_slice-2.result.now learned.back_level
-    learned.hints.items c.as_slice.result.now _ c.in_ok-hints.hints.items c.requires.runs
-    c.requires.deep
-    c.in_ok-learned.ensures.asserting c.in_ok-learned.ensures.hints c.in_ok-hints.ensures.hints
-    c.as_slice-2.ensures c.as_slice.ensures.value c.deref.ensures.value in
-    let l : LogLine =
+    let same : m.engine.variables ≡ s.engine.variables = c.backtrack.ensures.engine.variables
+    ∙ ap (λ (x : Search). (x.engine).variables) c.learn_from-distance.ensures.only_policy in
     record {
-      kind = Learned;
-      clause = c.as_slice-2.result.now;
-      hints = c.in_ok-hints.hints.items;
-    } in
-    subst (λ x. Writes p.given ls x 1) (sym c.in_ok-reference.ensures.lines)
-    (writes_learned p.given ls l refl lesson.adds
-    (λ base above. learn_is_new s.engine s.store.slots s.names.items p.given ls l
-    learned.back_level run.searches run.recorded.names lesson.asserting c.requires.deep
-    base above))
+      runs = runs_chosen n c.keep.new.self p _ (ap (λ x. x.variables) c.keep.ensures) written;
+      variables = c.in_ok-reference.ensures.placed.variables ∙ same;
+      writes =
+          subst (λ x. Writes p.given ls x 1) (sym c.in_ok-reference.ensures.lines)
+          (writes_learned p.given ls l refl lesson.adds
+          (λ base above. learn_is_new s.engine s.store.slots s.names.items p.given ls l
+          learned.back_level run.searches run.recorded.names lesson.asserting c.requires.deep
+          base above));
+    }

@@ -1,6 +1,6 @@
 -- The next literal of level 0 follows from its reason.
-use Rattle.std.proofs.Common.{◌≡◌, ◌+◌, ◌-◌, ◌<◌, ◌≤◌, ◌^◌, [], ◌∷◌, length, get_or, true, Some}
-use Rattle.std.proofs.Common.{None, sym, ◌∙◌, ap, subst, arith, refl, set}
+use Rattle.std.proofs.Common.{◌≡◌, ◌+◌, ◌-◌, ◌<◌, ◌≤◌, ◌^◌, List, [], ◌∷◌, ◌++◌, length, get_or}
+use Rattle.std.proofs.Common.{true, Some, None, sym, ◌∙◌, ap, subst, arith, refl, set}
 use Rattle.std.specs.Prelude.{All}
 use Rattle.std.proofs.lemmas.Option.{none-some}
 use Rattle.std.proofs.lemmas.List.{with_items_is}
@@ -8,15 +8,19 @@ use Rattle.std.proofs.lemmas.List.Elements.{All-cons, All-nil}
 use Rattle.std.specs.Vec.{with_items}
 use Rattle.cnf.specs.Literal.{Literal}
 use Rattle.clauses.specs.Slots.{clause_at}
-use Rattle.propagate.specs.Trail.{Assigned, reason_in}
+use Rattle.propagate.specs.Trail.{Assigned, literals_of, reason_in}
 use Rattle.propagate.specs.Watches.{is_attached, IsVariable}
-use Rattle.cdcl.specs.Running.{Runs, HasRoom}
+use Rattle.cdcl.specs.Running.{Runs, HasRoom, Writes}
 use Rattle.cdcl.specs.Hinting.{AreHintsOf, AreNoted}
 use Rattle.cdcl.proofs.HintNames.{hint_ids}
 use Rattle.cdcl.proofs.Placing.{literal_small}
 use Rattle.cdcl.proofs.UnitLines.{flat_reason, IsNext, is_next, next_noted, adds_unit, runs_noted}
 use Rattle.analyze.proofs.Laws.{reason_at}
-use Rattle.std.proofs.lemmas.List.{get_or-map}
+use Rattle.std.proofs.lemmas.List.{get_or-map, get_or_default, length-map}
+use Rattle.lrat_log.specs.declared.lines.Kind.TheVariants.{Unit as UnitKind}
+use Rattle.lrat_log.specs.Log.{LogLine}
+use Rattle.cdcl_order.specs.Orders.{positive}
+use Rattle.cdcl.proofs.Written.{writes_short}
 use Rattle.cdcl.proofs.noting.note_unit.Goals as goal
 use Rattle.cdcl.proofs.noting.note_unit.Goals.{After-index-trail-search, In-Some}
 
@@ -118,8 +122,8 @@ index_mut-requires g c =
     let one = small.0 in
     omega (arith, (c.add_line.new.self.units).ok.0)
 
-pub returns-clause-runs : goal.returns-clause-runs
-returns-clause-runs g c =
+pub returns-clause-notes : goal.returns-clause-notes
+returns-clause-notes g c =
     let s = c.args.search.now in
     let k = c.index-trail-search.result in
     let T = (s.engine).trail in
@@ -128,11 +132,11 @@ returns-clause-runs g c =
     let r = c.in-Some.reason in
     let run = c.requires.runs.running in
     let reasons = run.searches.fits.reasons in
-    let n = next g (goal.at.returns-clause-runs g c).In-Some in
+    let n = next g (goal.at.returns-clause-notes g c).In-Some in
     let h =
     subst (λ x. AreHintsOf slots x T (r ∷ []) c.in_ok-hints.hints.items) c.deref.ensures.value
     c.in_ok-hints.ensures.hints in
-    let small = named g (goal.at.returns-clause-runs g c).After-index-trail-search in
+    let small = named g (goal.at.returns-clause-notes g c).After-index-trail-search in
     let few_k : k.variable < 2 ^ 27 =
     (let a = c.variable.ensures.small in let b = c.variable.ensures.variable in omega arith) in
     let adds =
@@ -150,23 +154,45 @@ returns-clause-runs g c =
       stamps = ap length stamps ∙ long ∙ c.requires.runs.room.stamps;
       units = c.requires.runs.room.units;
     } in
-    subst (Runs _ c.args.input.now) (sym c.in_ok-unit.ensures.lines)
-    (runs_noted (record s { stamps = with_items s.stamps c.hints_of.new.stamps })
-    c.add_line.new.self _ c.args.input.now (g.S.Sink.lines c.args.sink.now)
-    c.in_ok-hints.hints.items k (c.variable.result - 1) c.in_ok-unit.unit run room
-    (subst (All (λ x. x ≤ s.additions + 1)) (sym stamps) c.hints_of.ensures.past) c.requires.flat
-    c.requires.next at adds c.in_ok-unit.ensures.placed c.in_ok-unit.ensures.additions
-    c.in_ok-unit.ensures.few
-    (ap (λ x. x - 1) c.variable.ensures.variable) c.in_ok-unit.ensures.reference
-    (record {
-      engine = refl;
-      slots = refl;
-      names = refl;
-      units = ap (set (c.add_line.new.self.units).items (c.variable.result - 1)) c.new.ensures;
-      noted = refl;
-      kept = refl;
-      additions = refl;
-      stamps = refl;
-      policy = refl;
-      analyzer = refl;
-    }))
+    let A : List Literal = literals_of T in
+    let placed = c.in_ok-unit.ensures.placed in
+    let first : k ≡ get_or A s.noted (positive 0) =
+    at ∙ get_or_default A s.noted k (positive 0)
+    (let long : length A ≡ length T = length-map T (λ (x : Assigned). x.literal) in
+    omega (arith, c.requires.next)) in
+    let l : LogLine =
+    record { kind = UnitKind; clause = k ∷ []; hints = c.in_ok-hints.hints.items } in
+    record {
+      runs =
+          subst (Runs _ c.args.input.now) (sym c.in_ok-unit.ensures.lines)
+          (runs_noted (record s { stamps = with_items s.stamps c.hints_of.new.stamps })
+          c.add_line.new.self _ c.args.input.now (g.S.Sink.lines c.args.sink.now)
+          c.in_ok-hints.hints.items k (c.variable.result - 1) c.in_ok-unit.unit run room
+          (subst (All (λ x. x ≤ s.additions + 1)) (sym stamps) c.hints_of.ensures.past)
+          c.requires.flat c.requires.next at adds placed c.in_ok-unit.ensures.additions
+          c.in_ok-unit.ensures.few
+          (ap (λ x. x - 1) c.variable.ensures.variable) c.in_ok-unit.ensures.reference
+          (record {
+            engine = refl;
+            slots = refl;
+            names = refl;
+            units =
+                ap (set (c.add_line.new.self.units).items (c.variable.result - 1)) c.new.ensures;
+            noted = refl;
+            kept = refl;
+            additions = refl;
+            stamps = refl;
+            policy = refl;
+            analyzer = refl;
+          }));
+      noted = ap (λ n. n + 1) placed.noted;
+      trail = placed.trail;
+      variables = placed.variables;
+      policy = placed.policy;
+      slots = placed.slots ∙ ap (λ x. slots ++ Some (x ∷ []) ∷ []) first;
+      writes =
+          subst (λ x. Writes c.args.input.now.given (g.S.Sink.lines c.args.sink.now) x 0)
+          (sym c.in_ok-unit.ensures.lines)
+          (writes_short c.args.input.now.given (g.S.Sink.lines c.args.sink.now) l refl
+          (omega arith));
+    }

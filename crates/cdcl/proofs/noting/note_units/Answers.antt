@@ -3,6 +3,7 @@ use Rattle.std.proofs.lemmas.List.{length-map}
 use Rattle.propagate.specs.Trail.{Assigned, literals_of}
 use Rattle.cdcl.proofs.UnitLines.{flat_zero}
 use Rattle.cdcl.proofs.NotedUnits.{noting_start, noting_more}
+use Rattle.cdcl.proofs.Written.{refused}
 use Rattle.cdcl.proofs.noting.note_units.Goals as goal
 
 pub loop-search-init : goal.loop-search-init
@@ -12,18 +13,33 @@ loop-search-init g c =
 
 pub loop-search-preserved : goal.loop-search-preserved
 loop-search-preserved g c =
-    let e = c.in_ok-note_unit.ensures in
     noting_more c.args.search.now c.loop-search.search c.note_unit.new.search c.args.input.now
     (g.S.Sink.lines c.args.sink.now) (g.S.Sink.lines c.loop-search.sink)
     (g.S.Sink.lines c.note_unit.new.sink) c.loop-search.invariant
     (let t = c.loop-search-test.true in let a = c.assigned.ensures.len in
-    omega arith) e.runs e.trail e.variables e.policy e.slots e.writes
+    omega arith) c.in_ok-note_unit.ensures.notes
 
-pub returns-clause-all : goal.returns-clause-all
-returns-clause-all g c =
-    let T = (c.loop-search.search.engine).trail in
-    subst (λ X. length X ≤ c.loop-search.search.noted)
-    (sym (flat_zero T c.loop-search.invariant.flat))
-    (let t = c.loop-search-test.false in let a = c.assigned.ensures.len in
-    let m : length (literals_of T) ≡ length T = length-map T (λ (x : Assigned). x.literal) in
-    omega arith)
+pub returns-in_err-note_unit : goal.returns-in_err-note_unit
+returns-in_err-note_unit g c =
+    let l = c.loop-search in
+    refused c.from_residual.result c.args.input.now (g.S.Sink.lines c.args.sink.now)
+    (g.S.Sink.lines l.sink) (g.S.Sink.lines c.note_unit.new.sink) c.from_residual.ensures.0
+    l.invariant.keeps.runs.running.recorded.log
+    l.invariant.writes c.in_err-note_unit.ensures.err
+
+pub returns : goal.returns
+returns g c =
+    let l = c.loop-search in
+    let T = (l.search.engine).trail in
+    record {
+      leaves = record {
+        keeps = l.invariant.keeps;
+        all =
+            subst (λ X. length X ≤ l.search.noted) (sym (flat_zero T l.invariant.flat))
+            (let t = c.loop-search-test.false in let a = c.assigned.ensures.len in
+            let m : length (literals_of T) ≡ length T =
+            length-map T (λ (x : Assigned). x.literal) in omega arith);
+      };
+      writes = l.invariant.writes;
+      err = tt;
+    }

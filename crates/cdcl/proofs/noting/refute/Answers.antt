@@ -11,16 +11,17 @@ use Rattle.cdcl.specs.Running.{IsEnded, StaysOpen, Writes}
 use Rattle.cdcl.specs.Hinting.{AreHintsOf, AreNoted}
 use Rattle.cdcl.proofs.HintNames.{hint_ids}
 use Rattle.cdcl.proofs.Placing.{adding_line}
-use Rattle.cdcl.proofs.Written.{writes_short, writes_join, either}
+use Rattle.cdcl.proofs.Written.{writes_short, writes_join, either, refused}
 use Rattle.cdcl.proofs.EmptyLine.{all_noted, adds_empty, is_ended}
 use Rattle.cdcl.proofs.noting.refute.Goals as goal
 
 pub hints_of-requires-clause-attached : goal.hints_of-requires-clause-attached
 hints_of-requires-clause-attached g c =
     let s = c.note_units.new.search in
-    let w = c.in_ok-note_units.ensures.clauses c.args.conflict c.requires.conflict in
+    let k = c.in_ok-note_units.ensures.leaves.keeps in
+    let w = k.false_stays c.args.conflict c.requires.conflict in
     All-cons (λ q. is_attached s.engine q ≡ true) c.args.conflict []
-    (c.in_ok-note_units.ensures.runs.running.searches.all_attached c.args.conflict (w.0, w.1))
+    (k.runs.running.searches.all_attached c.args.conflict (w.0, w.1))
     (All-nil (λ q. is_attached s.engine q ≡ true))
 
 pub hints_of-requires-clause-noted : goal.hints_of-requires-clause-noted
@@ -29,13 +30,13 @@ hints_of-requires-clause-noted g c =
     subst (λ us. AreNoted (s.store).slots us (s.engine).trail (c.args.conflict ∷ []))
     (sym c.deref-2.ensures.value)
     (all_noted s c.args.input.now (g.S.Sink.lines c.note_units.new.sink) (c.args.conflict ∷ [])
-    c.in_ok-note_units.ensures.runs c.in_ok-note_units.ensures.all)
+    c.in_ok-note_units.ensures.leaves.keeps.runs c.in_ok-note_units.ensures.leaves.all)
 
 pub new-requires : goal.new-requires
 new-requires g c =
     let s = c.note_units.new.search in
-    let e = c.in_ok-note_units.ensures in
-    let w = e.clauses c.args.conflict c.requires.conflict in
+    let e = c.in_ok-note_units.ensures.leaves.keeps in
+    let w = e.false_stays c.args.conflict c.requires.conflict in
     let h =
     subst (λ x. AreHintsOf (s.store).slots x (s.engine).trail (c.args.conflict ∷ [])
     c.in_ok-hints.hints.items) c.deref.ensures.value c.in_ok-hints.ensures.hints in
@@ -47,43 +48,28 @@ new-requires g c =
     c.in_ok-hints.hints.items h e.runs.running.recorded.names.as_many
     e.runs.running.recorded.numbers ((w.0, w.1), tt)))
 
-pub returns-clause-err : goal.returns-clause-err
-returns-clause-err g c =
-    let log = c.in_ok-note_units.ensures.runs.running.recorded.log in
-    on_err_weaker c.append.result (λ e. subst (StaysOpen c.args.input.now) (sym e)
-    (record { stays = log.stays; unrefuted = log.unrefuted })) c.append.ensures.err
+pub returns-in_err-hints : goal.returns-in_err-hints
+returns-in_err-hints g c =
+    let e = c.in_ok-note_units.ensures in
+    refused c.from_residual-in_err-hints.result c.args.input.now
+    (g.S.Sink.lines c.args.sink.now) (g.S.Sink.lines c.note_units.new.sink)
+    (g.S.Sink.lines c.note_units.new.sink) c.from_residual-in_err-hints.ensures.0
+    e.leaves.keeps.runs.running.recorded.log e.writes refl
 
-pub returns-clause-ended : goal.returns-clause-ended
-returns-clause-ended g c =
+pub returns : goal.returns
+returns g c =
     let s = c.note_units.new.search in
     let p = c.args.input.now in
+    let old = g.S.Sink.lines c.args.sink.now in
     let ls = g.S.Sink.lines c.note_units.new.sink in
     let e = c.in_ok-note_units.ensures in
+    let k = e.leaves.keeps in
     let h =
     subst (λ x. AreHintsOf (s.store).slots x (s.engine).trail (c.args.conflict ∷ [])
     c.in_ok-hints.hints.items) c.deref.ensures.value c.in_ok-hints.ensures.hints in
     let adds =
-    adds_empty s p ls c.in_ok-hints.hints.items c.args.conflict e.runs (ap depth_of e.trail
-    ∙ c.requires.flat) (e.clauses c.args.conflict c.requires.conflict) h in
-    let line : c.new.result ≡ record {
-      kind = Empty;
-      clause = [];
-      hints = c.in_ok-hints.hints.items;
-    } =
-    c.new.ensures ∙ ap (λ x. record {
-      kind = Empty;
-      clause = x;
-      hints = c.in_ok-hints.hints.items;
-    }) c.new-none.ensures.items in
-    on_ok_weaker c.append.result (λ a. subst (IsEnded p) (sym (a ∙ ap (λ l. ls ++ l ∷ []) line))
-    (is_ended s p ls c.in_ok-hints.hints.items e.runs adds)) c.append.ensures.ok
-
-pub returns-clause-writes : goal.returns-clause-writes
-returns-clause-writes g c =
-    let given = c.args.input.now.given in
-    let old = g.S.Sink.lines c.args.sink.now in
-    let ls = g.S.Sink.lines c.note_units.new.sink in
-    let e = c.in_ok-note_units.ensures in
+    adds_empty s p ls c.in_ok-hints.hints.items c.args.conflict k.runs (ap depth_of k.trail
+    ∙ c.requires.flat) (k.false_stays c.args.conflict c.requires.conflict) h in
     let l : LogLine = record { kind = Empty; clause = []; hints = c.in_ok-hints.hints.items } in
     let line : c.new.result ≡ l =
     c.new.ensures ∙ ap (λ x. record {
@@ -91,8 +77,19 @@ returns-clause-writes g c =
       clause = x;
       hints = c.in_ok-hints.hints.items;
     }) c.new-none.ensures.items in
-    either c.append.result c.append.ensures.ok c.append.ensures.err
-    (λ a. subst (λ x. Writes given old x 0) (sym (a ∙ ap (λ k. ls ++ k ∷ []) line))
-    (writes_join given old ls (ls ++ l ∷ []) 0 0 e.writes
-    (writes_short given ls l refl (omega arith))))
-    (λ b. subst (λ x. Writes given old x 0) (sym b) e.writes)
+    let log = k.runs.running.recorded.log in
+    record {
+      leaves =
+          on_ok_weaker c.append.result
+          (λ a. subst (IsEnded p) (sym (a ∙ ap (λ x. ls ++ x ∷ []) line))
+          (is_ended s p ls c.in_ok-hints.hints.items k.runs adds)) c.append.ensures.ok;
+      writes =
+          either c.append.result c.append.ensures.ok c.append.ensures.err
+          (λ a. subst (λ x. Writes p.given old x 0) (sym (a ∙ ap (λ x. ls ++ x ∷ []) line))
+          (writes_join p.given old ls (ls ++ l ∷ []) 0 0 e.writes
+          (writes_short p.given ls l refl (omega arith))))
+          (λ b. subst (λ x. Writes p.given old x 0) (sym b) e.writes);
+      err =
+          on_err_weaker c.append.result (λ b. subst (StaysOpen p) (sym b)
+          (record { stays = log.stays; unrefuted = log.unrefuted })) c.append.ensures.err;
+    }

@@ -1,5 +1,5 @@
-use Rattle.std.proofs.Common.{◌≡◌, ◌<◌, [], ◌∷◌, ◌++◌, Some, true, length, refl, subst, sym, ◌∙◌}
-use Rattle.std.proofs.Common.{ap, arith}
+use Rattle.std.proofs.Common.{◌≡◌, ◌<◌, [], ◌∷◌, ◌++◌, Some, true, false, length, refl, subst, sym}
+use Rattle.std.proofs.Common.{◌∙◌, ap, arith}
 use Rattle.std.proofs.lemmas.Bool.{both_ways}
 use Rattle.clauses.specs.Slots.{StoreState, clause_at}
 use Rattle.propagate.specs.Doomed.{is_doomed}
@@ -12,21 +12,35 @@ use Rattle.cdcl.specs.declared.search.Search.{Search}
 use Rattle.cdcl.specs.Invariant.{name_at}
 use Rattle.cdcl.specs.Deletions.{IsDeleting}
 use Rattle.cdcl.proofs.Places.{live_within, clause_gone, clause_left}
-use Rattle.cdcl.proofs.Written.{writes_none}
+use Rattle.cdcl.specs.Running.{Writes}
+use Rattle.cdcl.proofs.Written.{writes_none, writes_short}
 use Rattle.cdcl.proofs.Deleting.{named_at, deleting_line, deleting_more}
 use Rattle.cdcl.proofs.reducing.delete.Goals as goal
 
-pub returns-then-not-is_live-clause-gone : goal.returns-then-not-is_live-clause-gone
-returns-then-not-is_live-clause-gone g c on live =
-    both_ways c.is_live.result c.if-not-is_live.true (c.is_live.ensures.1 live)
+pub returns-then-not-is_live-clause-deletes : goal.returns-then-not-is_live-clause-deletes
+returns-then-not-is_live-clause-deletes g c = record {
+  deleting = c.requires.deleting;
+  gone = λ on live. both_ways c.is_live.result c.if-not-is_live.true (c.is_live.ensures.1 live);
+  fewer = λ r live. live;
+  engine = refl;
+  policy = refl;
+  writes = writes_none c.args.input.now.given (g.S.Sink.lines c.args.sink.now);
+}
 
-pub returns-then-not-is_live-clause-writes : goal.returns-then-not-is_live-clause-writes
-returns-then-not-is_live-clause-writes g c =
-    writes_none c.args.input.now.given (g.S.Sink.lines c.args.sink.now)
-
-pub returns-then-not-doomed-index-clause-writes : goal.returns-then-not-doomed-index-clause-writes
-returns-then-not-doomed-index-clause-writes g c =
-    writes_none c.args.input.now.given (g.S.Sink.lines c.args.sink.now)
+pub returns-then-not-doomed-index-clause-deletes : goal.returns-then-not-doomed-index-clause-deletes
+returns-then-not-doomed-index-clause-deletes g c =
+    let doomed = c.args.doomed.now in
+    let r = c.args.reference in
+    let off : is_doomed doomed r ≡ false =
+    subst (λ k. is_doomed doomed k ≡ false) c.index.ensures c.if-not-doomed-index.true in
+    record {
+      deleting = c.requires.deleting;
+      gone = λ on live. both_ways (is_doomed doomed r) off on;
+      fewer = λ q live. live;
+      engine = refl;
+      policy = refl;
+      writes = writes_none c.args.input.now.given (g.S.Sink.lines c.args.sink.now);
+    }
 
 pub new-requires-2 : goal.new-requires-2
 new-requires-2 g c =
@@ -44,8 +58,8 @@ new-requires-2 g c =
     ∙ ap (λ x. x ++ Plain c.name.result ∷ []) c.new-hints.ensures.items)
     (subst (λ n. IsId (number_in n)) (sym name) (recorded.numbers r (Formula 0) lt))
 
-pub returns-clause-deleting : goal.returns-clause-deleting
-returns-clause-deleting g c =
+pub returns-clause-deletes : goal.returns-clause-deletes
+returns-clause-deletes g c =
     let s : Search = c.args.search.now in
     let p = c.args.input.now in
     let ls = g.S.Sink.lines c.args.sink.now in
@@ -68,23 +82,28 @@ returns-clause-deleting g c =
     let k = c.count_deleted.new.self in
     let more =
     deleting_more s k p ls l doomed r live.0 d live.1 on refl hints c.count_deleted.ensures in
-    subst (λ x. IsDeleting (record s { store = c.delete.new.self; policy = k }) p x doomed)
-    (sym (c.in_ok-append.ensures.ok ∙ ap (λ x. ls ++ x ∷ []) c.new-2.ensures))
-    (subst (λ (x : StoreState). IsDeleting (record s { store = x; policy = k }) p (ls ++ l ∷ [])
-    doomed) (sym c.delete.ensures) more)
-
-pub returns-clause-gone : goal.returns-clause-gone
-returns-clause-gone g c on live =
-    let slots = c.args.search.now.store.slots in
-    clause_gone slots c.args.reference live.0
-    (subst (λ (x : StoreState). clause_at x.slots c.args.reference ≡ Some live.0)
-    c.delete.ensures live.1)
-
-pub returns-clause-fewer : goal.returns-clause-fewer
-returns-clause-fewer g c r live =
-    let slots = c.args.search.now.store.slots in (
-      live.0,
-      (clause_left slots c.args.reference r live.0
-          (subst (λ (x : StoreState). clause_at x.slots r ≡ Some live.0) c.delete.ensures
-          live.1)).1,
-    )
+    let written : g.S.Sink.lines c.append.new.self ≡ ls ++ l ∷ [] =
+    c.in_ok-append.ensures.ok ∙ ap (λ x. ls ++ x ∷ []) c.new-2.ensures in
+    let store = c.delete.ensures in
+    record {
+      deleting =
+          subst (λ x. IsDeleting (record s { store = c.delete.new.self; policy = k }) p x doomed)
+          (sym written)
+          (subst (λ (x : StoreState). IsDeleting (record s { store = x; policy = k }) p
+          (ls ++ l ∷ []) doomed) (sym store) more);
+      gone =
+          λ here still. clause_gone s.store.slots r still.0
+          (subst (λ (x : StoreState). clause_at x.slots r ≡ Some still.0) store still.1);
+      fewer =
+          λ q still. (
+            still.0,
+            (clause_left s.store.slots r q still.0
+                (subst (λ (x : StoreState). clause_at x.slots q ≡ Some still.0) store
+                still.1)).1,
+          );
+      engine = refl;
+      policy = c.count_deleted.ensures;
+      writes =
+          subst (λ x. Writes p.given ls x 0) (sym written)
+          (writes_short p.given ls l refl (omega (arith, ap length c.new.ensures.items)));
+    }

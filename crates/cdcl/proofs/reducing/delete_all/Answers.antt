@@ -4,10 +4,8 @@ use Rattle.clauses.specs.Slots.{IsLive}
 use Rattle.propagate.specs.Trail.{Assigned}
 use Rattle.propagate.specs.Watches.{EngineState}
 use Rattle.propagate.specs.Doomed.{is_doomed}
-use Rattle.lrat_log.proofs.Laws.{when_err}
 use Rattle.cdcl.specs.Deletions.{IsDeleting, AreMarked}
-use Rattle.cdcl.specs.Running.{StaysOpen}
-use Rattle.cdcl.proofs.Written.{writes_none, writes_join}
+use Rattle.cdcl.proofs.Written.{writes_none, writes_join, refused, refused_at_once}
 use Rattle.cdcl.proofs.Deleting.{reasons_stay, deleting_starts, deleting_ends, gone_more, all_gone}
 use Rattle.cdcl.proofs.reducing.delete_all.Goals as goal
 
@@ -44,7 +42,7 @@ loop-reference-init g c =
 
 pub loop-reference-preserved : goal.loop-reference-preserved
 loop-reference-preserved g c =
-    let d = c.in_ok-delete.ensures in
+    let d = c.in_ok-delete.ensures.deletes in
     let l = c.loop-reference in
     let ms = c.args.chosen.now in
     let q = c.reference-item.result in
@@ -80,23 +78,34 @@ delete-requires g c =
           c.loop-reference.invariant.deleting;
     }
 
-pub returns-in_err-doomed-clause-writes : goal.returns-in_err-doomed-clause-writes
-returns-in_err-doomed-clause-writes g c =
-    writes_none c.args.input.now.given (g.S.Sink.lines c.args.sink.now)
+pub returns-in_err-doomed : goal.returns-in_err-doomed
+returns-in_err-doomed g c =
+    refused_at_once c.from_residual.result c.args.input.now (g.S.Sink.lines c.args.sink.now)
+    c.from_residual.ensures.0 c.requires.runs.running.recorded.log
 
-pub returns-in_err-delete-clause-err : goal.returns-in_err-delete-clause-err
-returns-in_err-delete-clause-err g c =
-    let log = c.loop-reference.invariant.deleting.recorded.log in
-    let stays : StaysOpen c.args.input.now (g.S.Sink.lines c.delete.new.sink) =
-    subst (StaysOpen c.args.input.now) (sym c.in_err-delete.ensures.err)
-    (record { stays = log.stays; unrefuted = log.unrefuted }) in
-    when_err _ stays
-
-pub returns-clause-runs : goal.returns-clause-runs
-returns-clause-runs g c =
+pub returns-in_err-delete : goal.returns-in_err-delete
+returns-in_err-delete g c =
     let l = c.loop-reference in
-    deleting_ends l.search c.args.input.now (g.S.Sink.lines l.sink) c.in_ok-doomed.doomed.items
-    l.invariant.deleting
-    (all_gone c.args.search.now l.search.store.slots c.args.chosen.now l.reference-index
-    c.in_ok-doomed.doomed.items c.in_ok-doomed.ensures c.loop-reference-test.false
-    l.invariant.gone)
+    refused c.from_residual-in_err-delete.result c.args.input.now
+    (g.S.Sink.lines c.args.sink.now) (g.S.Sink.lines l.sink) (g.S.Sink.lines c.delete.new.sink)
+    c.from_residual-in_err-delete.ensures.0 l.invariant.deleting.recorded.log l.invariant.writes
+    c.in_err-delete.ensures.err
+
+pub returns : goal.returns
+returns g c =
+    let l = c.loop-reference in
+    record {
+      leaves = record {
+        runs =
+            deleting_ends l.search c.args.input.now (g.S.Sink.lines l.sink)
+            c.in_ok-doomed.doomed.items l.invariant.deleting
+            (all_gone c.args.search.now l.search.store.slots c.args.chosen.now l.reference-index
+            c.in_ok-doomed.doomed.items c.in_ok-doomed.ensures c.loop-reference-test.false
+            l.invariant.gone);
+        long = l.invariant.long;
+        variables = l.invariant.variables;
+        policy = l.invariant.policy;
+      };
+      writes = l.invariant.writes;
+      err = tt;
+    }

@@ -1,4 +1,4 @@
-use Rattle.cdcl.proofs.Rounds.{pays_nothing, pays_join}
+use Rattle.cdcl.proofs.Rounds.{pays_nothing, pays_join, search_fails}
 use Rattle.cdcl.proofs.searching.descend.Goals as goal
 
 pub rounds-init : goal.rounds-init
@@ -18,14 +18,21 @@ rounds-preserved g c = record {
       c.rounds.budget c.round.new.budget c.rounds.invariant.pays c.round.ensures.pays;
 }
 
-pub returns-in_err-end-clause-pays : goal.returns-in_err-end-clause-pays
-returns-in_err-end-clause-pays g c =
-    pays_join c.args.input.now.given (g.S.Sink.lines c.args.sink.now)
+pub returns-in_err-end : goal.returns-in_err-end
+returns-in_err-end g c =
+    search_fails c.from_residual.result c.round.new.search c.args.input.now
+    (g.S.Sink.lines c.args.sink.now) (g.S.Sink.lines c.round.new.sink) c.args.budget.now
+    c.round.new.budget c.from_residual.ensures.0 c.in_err-end.ensures.err
+    (pays_join c.args.input.now.given (g.S.Sink.lines c.args.sink.now)
     (g.S.Sink.lines c.rounds.sink) (g.S.Sink.lines c.round.new.sink) c.args.budget.now
-    c.rounds.budget c.round.new.budget c.rounds.invariant.pays c.round.ensures.pays
+    c.rounds.budget c.round.new.budget c.rounds.invariant.pays c.round.ensures.pays)
 
-pub returns-in-Some-clause-pays : goal.returns-in-Some-clause-pays
-returns-in-Some-clause-pays g c =
-    pays_join c.args.input.now.given (g.S.Sink.lines c.args.sink.now)
-    (g.S.Sink.lines c.rounds.sink) (g.S.Sink.lines c.round.new.sink) c.args.budget.now
-    c.rounds.budget c.round.new.budget c.rounds.invariant.pays c.round.ensures.pays
+pub returns-in-Some : goal.returns-in-Some
+returns-in-Some g c = record {
+  ends = (let ends = rw c.in-Some.is at c.in_ok-end.ensures.ends in ends);
+  pays =
+      pays_join c.args.input.now.given (g.S.Sink.lines c.args.sink.now)
+      (g.S.Sink.lines c.rounds.sink) (g.S.Sink.lines c.round.new.sink) c.args.budget.now
+      c.rounds.budget c.round.new.budget c.rounds.invariant.pays c.round.ensures.pays;
+  err = tt;
+}

@@ -1,13 +1,31 @@
 use Rattle.std.proofs.Common.{◌-◌, sym, ◌∙◌, subst, arith}
 use Rattle.propagate.specs.Trail.{literals_of, depth_of, kept_to}
-use Rattle.cdcl.specs.Running.{Pays}
-use Rattle.cdcl.proofs.Rounds.{pays_nothing, goes_learned}
+use Rattle.cdcl.specs.declared.searching.End.TheVariants.{Refuted, Spent}
+use Rattle.cdcl.specs.Running.{StaysOpen, Writes}
+use Rattle.cdcl.proofs.Written.{writes_none}
+use Rattle.cdcl.proofs.Rounds.{goes_learned, turn_ends, turn_fails}
 use Rattle.cdcl.proofs.searching.on_conflict.Goals as goal
 
-pub returns-then-left-eq0-clause-ends : goal.returns-then-left-eq0-clause-ends
-returns-then-left-eq0-clause-ends g c =
-    let T = c.args.search.now.engine.trail in
-    record {
+pub returns-in_err-refute : goal.returns-in_err-refute
+returns-in_err-refute g c =
+    turn_fails c.from_residual.result c.args.search.now c.refute.new.search c.args.input.now
+    (g.S.Sink.lines c.args.sink.now) (g.S.Sink.lines c.refute.new.sink) c.args.budget.now
+    c.from_residual.ensures.0 c.in_err-refute.ensures.err c.refute.ensures.writes
+
+pub returns-then-depth-eq0 : goal.returns-then-depth-eq0
+returns-then-depth-eq0 g c =
+    turn_ends c.args.search.now c.refute.new.search c.args.input.now
+    (g.S.Sink.lines c.args.sink.now) (g.S.Sink.lines c.refute.new.sink) c.args.budget.now
+    Refuted c.in_ok-refute.ensures.leaves c.refute.ensures.writes
+
+pub returns-then-left-eq0 : goal.returns-then-left-eq0
+returns-then-left-eq0 g c =
+    let s = c.args.search.now in
+    let p = c.args.input.now in
+    let ls = g.S.Sink.lines c.args.sink.now in
+    let T = s.engine.trail in
+    turn_ends s s p ls ls c.args.budget.now Spent
+    (record {
       runs = c.requires.runs;
       quiet = (
         literals_of (kept_to (depth_of T - 1) T),
@@ -15,25 +33,28 @@ returns-then-left-eq0-clause-ends g c =
             (omega (arith, c.depth.ensures, c.if-depth-eq0.false)),
       );
       spent = sym c.left.ensures.left ∙ c.if-left-eq0.true;
-    }
+    })
+    (writes_none p.given ls)
 
-pub returns-then-left-eq0-clause-pays : goal.returns-then-left-eq0-clause-pays
-returns-then-left-eq0-clause-pays g c =
-    pays_nothing c.args.input.now.given (g.S.Sink.lines c.args.sink.now) c.args.budget.now
-
-pub returns-in_err-learn-clause-pays : goal.returns-in_err-learn-clause-pays
-returns-in_err-learn-clause-pays g c =
-    let given = c.args.input.now.given in
+pub returns-in_err-learn : goal.returns-in_err-learn
+returns-in_err-learn g c =
+    let p = c.args.input.now in
     let ls = g.S.Sink.lines c.args.sink.now in
-    subst (λ x. Pays given ls x c.args.budget.now c.args.budget.now)
-    (sym c.in_err-learn.ensures.err) (pays_nothing given ls c.args.budget.now)
+    let log = c.requires.runs.running.recorded.log in
+    turn_fails c.from_residual-in_err-learn.result c.args.search.now c.learn.new.search p ls
+    (g.S.Sink.lines c.learn.new.sink) c.args.budget.now c.from_residual-in_err-learn.ensures.0
+    (subst (StaysOpen p) (sym c.in_err-learn.ensures.err)
+    (record { stays = log.stays; unrefuted = log.unrefuted }))
+    (subst (λ x. Writes p.given ls x 0) (sym c.in_err-learn.ensures.err) (writes_none p.given ls))
 
-pub returns-clause-pays : goal.returns-clause-pays
-returns-clause-pays g c = (1, c.in_ok-learn.ensures.writes, c.count_learned.ensures)
-
-pub returns-clause-goes : goal.returns-clause-goes
-returns-clause-goes g c =
-    goes_learned c.args.search.now c.learn.new.search c.args.input.now
-    (g.S.Sink.lines c.learn.new.sink) c.args.budget.now c.count_learned.new.self
-    c.in_ok-learn.ensures.runs c.in_ok-learn.ensures.variables
-    c.count_learned.ensures (omega (arith, c.left.ensures.left, c.if-left-eq0.false))
+pub returns : goal.returns
+returns g c = record {
+  ends = tt;
+  goes =
+      goes_learned c.args.search.now c.learn.new.search c.args.input.now
+      (g.S.Sink.lines c.learn.new.sink) c.args.budget.now c.count_learned.new.self
+      c.in_ok-learn.ensures.learns.runs c.in_ok-learn.ensures.learns.variables
+      c.count_learned.ensures (omega (arith, c.left.ensures.left, c.if-left-eq0.false));
+  pays = (1, c.in_ok-learn.ensures.learns.writes, c.count_learned.ensures);
+  err = tt;
+}

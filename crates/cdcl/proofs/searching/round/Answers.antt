@@ -1,16 +1,40 @@
-use Rattle.cdcl.proofs.Rounds.{pays_nothing}
+use Rattle.std.proofs.Common.{ap}
+use Rattle.cdcl.specs.declared.search.Search.{Search}
+use Rattle.cdcl.proofs.Written.{writes_none}
+use Rattle.cdcl.proofs.Rounds.{turn_fails, turn_from}
 use Rattle.cdcl.proofs.searching.round.Goals as goal
 
-pub returns-in_err-conflict-clause-pays : goal.returns-in_err-conflict-clause-pays
-returns-in_err-conflict-clause-pays g c =
-    pays_nothing c.args.input.now.given (g.S.Sink.lines c.args.sink.now) c.args.budget.now
+pub returns-in_err-conflict : goal.returns-in_err-conflict
+returns-in_err-conflict g c =
+    let p = c.args.input.now in
+    let ls = g.S.Sink.lines c.args.sink.now in
+    let log = c.requires.runs.running.recorded.log in
+    turn_fails c.from_residual.result c.args.search.now c.propagate.new.self p ls ls
+    c.args.budget.now c.from_residual.ensures.0
+    (record { stays = log.stays; unrefuted = log.unrefuted }) (writes_none p.given ls)
 
 pub on_conflict-requires-clause-runs : goal.on_conflict-requires-clause-runs
 on_conflict-requires-clause-runs g c =
     c.in_ok-conflict.ensures.runs c.args.input.now (g.S.Sink.lines c.args.sink.now)
     c.requires.runs
 
+pub returns-in-Some : goal.returns-in-Some
+returns-in-Some g c =
+    let e = c.in_ok-conflict.ensures in
+    turn_from c.on_conflict.result c.args.search.now c.propagate.new.self c.on_conflict.new.search
+    c.args.input.now (g.S.Sink.lines c.args.sink.now) (g.S.Sink.lines c.on_conflict.new.sink)
+    c.args.budget.now c.on_conflict.new.budget e.engine.variables
+    (ap (λ (x : Search). x.policy) e.engine.rest) e.grows c.on_conflict.ensures
+
 pub on_quiet-requires-clause-runs : goal.on_quiet-requires-clause-runs
 on_quiet-requires-clause-runs g c =
     c.in_ok-conflict.ensures.runs c.args.input.now (g.S.Sink.lines c.args.sink.now)
     c.requires.runs
+
+pub returns-in-None : goal.returns-in-None
+returns-in-None g c =
+    let e = c.in_ok-conflict.ensures in
+    turn_from c.on_quiet.result c.args.search.now c.propagate.new.self c.on_quiet.new.search
+    c.args.input.now (g.S.Sink.lines c.args.sink.now) (g.S.Sink.lines c.on_quiet.new.sink)
+    c.args.budget.now c.on_quiet.new.budget e.engine.variables
+    (ap (λ (x : Search). x.policy) e.engine.rest) e.grows c.on_quiet.ensures

@@ -1,5 +1,5 @@
 -- Propagation at level 0, and then the rounds.
-use Rattle.std.proofs.Common.{◌≡◌, ◌+◌, ◌∙◌, ap, subst, arith}
+use Rattle.std.proofs.Common.{◌≡◌, ◌∙◌, ap, subst, arith}
 use Rattle.std.specs.Prelude.{IfNone}
 use Rattle.std.proofs.lemmas.Result.{IfOk-weaker}
 use Rattle.propagate.specs.Trail.{depth_of, kept_to, literals_of}
@@ -9,17 +9,36 @@ use Rattle.cdcl.specs.declared.searching.End.TheVariants.{Refuted}
 use Rattle.cdcl.specs.Solving.{IsLiveRefuted}
 use Rattle.cdcl.specs.Running.{IsEndOf}
 use Rattle.cdcl.proofs.MoreMoves.{answer_open}
-use Rattle.cdcl.proofs.Written.{writes_none}
+use Rattle.cdcl.proofs.Rounds.{pays_none, pays_nothing, search_fails}
 use Rattle.cdcl.proofs.searching.run.Goals as goal
 
-pub returns-in_err-found-clause-pays : goal.returns-in_err-found-clause-pays
-returns-in_err-found-clause-pays g c =
+pub returns-in_err-found-clause-search : goal.returns-in_err-found-clause-search
+returns-in_err-found-clause-search g c =
+    let p = c.args.input.now in
+    let ls = g.S.Sink.lines c.args.sink.now in
     let b = c.args.budget.now in
-    let e : b.learned ≡ b.learned + 0 = omega arith in (
-      0,
-      writes_none c.args.input.now.given (g.S.Sink.lines c.args.sink.now),
-      λ i. record { limit = b.limit; learned = e i; answers = b.answers },
-    )
+    let log = c.requires.runs.running.recorded.log in
+    search_fails c.from_residual.result c.propagate.new.self p ls ls b b
+    c.from_residual.ensures.0 (record { stays = log.stays; unrefuted = log.unrefuted })
+    (pays_nothing p.given ls b)
+
+pub returns-in_err-refute-in-Some-clause-search : goal.returns-in_err-refute-in-Some-clause-search
+returns-in_err-refute-in-Some-clause-search g c =
+    let p = c.args.input.now in
+    let ls = g.S.Sink.lines c.args.sink.now in
+    let b = c.args.budget.now in
+    search_fails c.from_residual-in_err-refute-in-Some.result c.refute.new.search p ls
+    (g.S.Sink.lines c.refute.new.sink) b b c.from_residual-in_err-refute-in-Some.ensures.0
+    c.in_err-refute-in-Some.ensures.err
+    (pays_none p.given ls (g.S.Sink.lines c.refute.new.sink) b c.refute.ensures.writes)
+
+pub returns-in_ok-refute-in-Some-clause-search : goal.returns-in_ok-refute-in-Some-clause-search
+returns-in_ok-refute-in-Some-clause-search g c = record {
+  ends = c.in_ok-refute-in-Some.ensures.leaves;
+  pays = pays_none c.args.input.now.given (g.S.Sink.lines c.args.sink.now)
+      (g.S.Sink.lines c.refute.new.sink) c.args.budget.now c.refute.ensures.writes;
+  err = tt;
+}
 
 pub refute-requires-clause-runs : goal.refute-requires-clause-runs
 refute-requires-clause-runs g c =

@@ -6,28 +6,28 @@ pub bits-requires-clause-runs : goal.bits-requires-clause-runs
 bits-requires-clause-runs g c =
     let e =
     is_satisfied c.run.new.search c.args.input.now (g.S.Sink.lines c.run.new.sink)
-    c.run.new.budget _ c.in-Satisfied.is c.in_ok-end.ensures.ends in
+    c.run.new.budget _ c.in-Satisfied.is c.in_ok-end.ensures.search.ends in
     (g.S.Sink.lines c.run.new.sink, e.runs)
 
 pub bits-requires-clause-quiet : goal.bits-requires-clause-quiet
 bits-requires-clause-quiet g c =
     let e =
     is_satisfied c.run.new.search c.args.input.now (g.S.Sink.lines c.run.new.sink)
-    c.run.new.budget _ c.in-Satisfied.is c.in_ok-end.ensures.ends in
+    c.run.new.budget _ c.in-Satisfied.is c.in_ok-end.ensures.search.ends in
     e.quiet
 
 pub bits-requires-clause-closed : goal.bits-requires-clause-closed
 bits-requires-clause-closed g c =
     let e =
     is_satisfied c.run.new.search c.args.input.now (g.S.Sink.lines c.run.new.sink)
-    c.run.new.budget _ c.in-Satisfied.is c.in_ok-end.ensures.ends in
+    c.run.new.budget _ c.in-Satisfied.is c.in_ok-end.ensures.search.ends in
     e.closed
 
 pub count_answer-requires : goal.count_answer-requires
 count_answer-requires g c =
     let e =
     is_satisfied c.run.new.search c.args.input.now (g.S.Sink.lines c.run.new.sink)
-    c.run.new.budget _ c.in-Satisfied.is c.in_ok-end.ensures.ends in
+    c.run.new.budget _ c.in-Satisfied.is c.in_ok-end.ensures.search.ends in
     e.left
 
 pub returns-in_ok-bits-in-Satisfied-clause-answers
@@ -35,7 +35,7 @@ pub returns-in_ok-bits-in-Satisfied-clause-answers
 returns-in_ok-bits-in-Satisfied-clause-answers g c =
     let e =
     is_satisfied c.run.new.search c.args.input.now (g.S.Sink.lines c.run.new.sink)
-    c.run.new.budget _ c.in-Satisfied.is c.in_ok-end.ensures.ends in
+    c.run.new.budget _ c.in-Satisfied.is c.in_ok-end.ensures.search.ends in
     let bits = c.in_ok-bits-in-Satisfied.ensures in
     record {
       runs = e.runs;

@@ -18,7 +18,7 @@ price-first-requires-clause-feasible g c =
 
 pub lower-requires-clause-hard : goal.lower-requires-clause-hard
 lower-requires-clause-hard g c =
-    let free = rw c.in-Ok-Sat.field-0-is at c.in-Ok-Sat.ensures.open in
+    let free = rw c.in-Ok-Sat.field-0-is at c.in-Ok-Sat.ensures.stays_open in
     subst (IsHardLog c.args.instance.now) (sym c.into_sink-hard.ensures)
     (hard_log c.args.instance.now c.in-Ok.solver c.in-Ok.ensures c.solve_watched.new.self
     c.solve_watched.ensures.given c.solve_watched.ensures.lines (free (λ e. cc))
@@ -57,7 +57,7 @@ pub returns-in-Ok-Limit-clause-improves : goal.returns-in-Ok-Limit-clause-improv
 returns-in-Ok-Limit-clause-improves g c =
     let p = c.args.instance.now in
     let log = c.into_sink-hard-in-Ok-Limit.result in
-    let free = rw c.in-Ok-Limit.field-0-is at c.in-Ok-Limit.ensures.open in
+    let free = rw c.in-Ok-Limit.field-0-is at c.in-Ok-Limit.ensures.stays_open in
     let refuted = rw c.in-Ok-Limit.field-0-is at c.in-Ok-Limit.ensures.refuted in
     let left = rw c.in-Ok-Limit.field-0-is at c.in-Ok-Limit.ensures.limit in
     let answers = rw c.in-Ok-Limit.field-0-is at c.in-Ok-Limit.ensures.answers in

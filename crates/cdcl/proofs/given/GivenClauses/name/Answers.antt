@@ -19,4 +19,5 @@ index-requires c =
 pub returns : goal.returns
 returns c =
     rw (← c.self.view_is) (listed_name c.self.inside.numbers.items c.self.inside.clauses
-    c.args.place c.index.result.now c.self.invariant.0 (within (goal.at.returns c).After-self) c.index.ensures)
+    c.args.place c.index.result.now c.self.invariant.0
+    (within (goal.at.returns c).After-self) c.index.ensures)

@@ -39,8 +39,7 @@ fails : (g : _) (c : In-Err g)
 fails g c =
     fails_solver c.self.inside.search c.give.new.search c.self.inside.input c.give.new.input
     (g.S.Sink.lines c.self.inside.sink) c.self.inside.refuted c.self.inside.failed
-    c.self.invariant c.in-Err.ensures.err c.give.ensures.stack c.give.ensures.frozen
-    c.give.ensures.first
+    c.self.invariant c.in-Err.ensures.unchanged
 
 pub returns-then-self-clause-lines : goal.returns-then-self-clause-lines
 returns-then-self-clause-lines g c =

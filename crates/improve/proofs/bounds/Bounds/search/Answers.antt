@@ -48,7 +48,7 @@ pub returns-in-Limit-clause-next : goal.returns-in-Limit-clause-next
 returns-in-Limit-clause-next g c =
     let p = c.args.instance.now in
     let b = c.args.self.now in
-    let free = rw c.in-Limit.is at c.in-Ok.ensures.open in
+    let free = rw c.in-Limit.is at c.in-Ok.ensures.stays_open in
     let refuted = rw c.in-Limit.is at c.in-Ok.ensures.refuted in
     let left = rw c.in-Limit.is at c.in-Ok.ensures.limit in
     let answers = rw c.in-Limit.is at c.in-Ok.ensures.answers in

@@ -1,0 +1,202 @@
+-- What a solver answers, from what its search does.
+use Rattle.std.proofs.Common.{◌≡◌, ℕ, ◌+◌, true, false, Bool, List, ◌++◌, length, refl, sym, ◌∙◌}
+use Rattle.std.proofs.Common.{ap, subst, arith}
+use Rattle.std.specs.Prelude.{Ok, Err}
+use Rattle.std.specs.declared.alloc.AllocError.{AllocError}
+use Rattle.std.proofs.lemmas.Bool.{both_ways, false≢true}
+use Rattle.lrat_log.specs.Log.{LogLine}
+use Rattle.lrat_log.specs.Steps.{IsAcceptedLog, StaysLogOver, AddsNoEmptyClause, IsBaseOf}
+use Rattle.lrat_log.specs.Steps.{LearnsNew, nothing_exempt, learned_count}
+use Rattle.cdcl_order.specs.Budgets.{BudgetState, left_of}
+use Rattle.cdcl.specs.declared.search.Search.{Search}
+use Rattle.cdcl.specs.declared.input.Input.{Input}
+use Rattle.cdcl.specs.declared.outcome.Outcome.{Outcome}
+use Rattle.cdcl.specs.declared.outcome.Outcome.TheVariants.{Sat, Unsat, Limit}
+use Rattle.cdcl.specs.declared.outcome.SolveFault.{SolveFault}
+use Rattle.cdcl.specs.declared.outcome.SolveFault.TheVariants.{Memory, Failed}
+use Rattle.cdcl.specs.Solving.{SolverState, Solves, lines_since, is_refuted, OnSat, OnUnsat}
+use Rattle.cdcl.specs.Solving.{OnLimit, SatisfyGiven, IsLiveRefuted, Answer, answer_count}
+use Rattle.cdcl.specs.Running.{Writes, IsInput, IsAnswer, IsEnded, PaysFor, StaysOpen}
+use Rattle.cdcl.proofs.Answered.{seen_given, given_seen, log_now, ended_log, plain_unsat, view_of}
+use Rattle.cdcl.proofs.Answered.{answered_log, since_more, written_short}
+use Rattle.cdcl.proofs.Written.{writes_none}
+
+-- what an answer says
+
+sat_of : (s : Search) (p : Input) (ls : List LogLine) (b : BudgetState) (o : Outcome) → IsInput p
+    → IsAnswer s p ls b o
+    → OnSat (Ok o) (λ bits. (length bits ≡ length (p.frozen).items)
+    × SatisfyGiven bits (seen_given p))
+sat_of s p ls b (Sat bits) i a =
+    (a.long, subst (SatisfyGiven bits.items) (sym (given_seen p i)) a.satisfied)
+sat_of s p ls b Unsat i a = tt
+sat_of s p ls b Limit i a = tt
+
+unsat_of : (s : Search) (p : Input) (ls : List LogLine) (b : BudgetState) (o : Outcome)
+    → IsInput p → IsAnswer s p ls b o → OnUnsat (Ok o) (IsAcceptedLog (seen_given p) ls)
+unsat_of s p ls b (Sat bits) i a = tt
+unsat_of s p ls b Unsat i a = ended_log p ls i a
+unsat_of s p ls b Limit i a = tt
+
+limit_of : (s : Search) (p : Input) (ls : List LogLine) (b : BudgetState) (o : Outcome)
+    → IsAnswer s p ls b o → OnLimit (Ok o) (left_of b ≡ 0)
+limit_of s p ls b (Sat bits) a = tt
+limit_of s p ls b Unsat a = tt
+limit_of s p ls b Limit a = a.spent
+
+open_of : (s : Search) (p : Input) (ls : List LogLine) (b : BudgetState) (o : Outcome)
+    → IsAnswer s p ls b o → (◌≡◌ {A = Answer} (Ok o) (Ok Unsat) → ⊥) → AddsNoEmptyClause ls
+open_of s p ls b (Sat bits) a other = a.runs.running.recorded.log.unrefuted
+open_of s p ls b Unsat a other = absurd (other refl)
+open_of s p ls b Limit a other = a.runs.running.recorded.log.unrefuted
+
+-- What is written, as a caller sees it.
+module _ (p : Input) (before after : List LogLine) (n : ℕ) (i : IsInput p)
+    (w : Writes p.given before after n) where
+  since : lines_since before after ≡ w.more
+  since = since_more before after w.more w.grows
+
+  grows_by : after ≡ before ++ lines_since before after
+  grows_by = w.grows ∙ ap (λ x. before ++ x) (sym since)
+
+  new_since : (base : ℕ) → IsBaseOf (seen_given p) base
+      → LearnsNew nothing_exempt (seen_given p) base before (lines_since before after)
+  new_since base above =
+      subst (λ x. LearnsNew nothing_exempt (seen_given p) base before x) (sym since)
+      (subst (λ g. LearnsNew nothing_exempt g base before w.more) (sym (given_seen p i))
+      (w.new base (subst (λ g. IsBaseOf g base) (given_seen p i) above)))
+
+  learned_since : (had left : ℕ) → left ≡ had + n
+      → left ≡ had + learned_count (lines_since before after)
+  learned_since had left e = e ∙ ap (λ k. had + k) (sym w.learned_is ∙ ap learned_count (sym since))
+
+count_same : (o : Outcome)
+    → answer_count {E = AllocError} (Ok o) ≡ answer_count {E = SolveFault} (Ok o)
+count_same (Sat bits) = refl
+count_same Unsat = refl
+count_same Limit = refl
+
+module _ {S : Type 0} (lines : S → List LogLine) {p : Input} {sink : S} {failed : Bool}
+    {old : SolverState S} (i : IsInput p) (same : view_of p sink failed ≡ old) where
+  -- the search has answered
+  pub has_answered : (s : Search) (more : S) (had left : BudgetState)
+      (o seen : Outcome) → o ≡ seen → failed ≡ false → is_refuted (lines sink) ≡ false
+      → IsAnswer s p (lines more) left o → (IsLiveRefuted p.given (lines sink) → o ≡ Unsat)
+      → PaysFor {E = AllocError} (Ok o) p.given (lines sink) (lines more) had left
+      → Solves (Ok seen) old (view_of p more failed) (lines old.sink) (lines more) had left
+  has_answered s more had left o seen is works unrefuted a live pays =
+      let before = lines sink in
+      let after = lines more in
+      let w = pays.1 in
+      subst (λ x. Solves (Ok x) old (view_of p more failed) (lines old.sink) after had left) is
+      (subst (λ (v : SolverState S). Solves (Ok o) v (view_of p more failed) (lines v.sink) after
+      had left) same (record {
+        sat = sat_of s p after left o i a;
+        unsat = unsat_of s p after left o i a;
+        limit = limit_of s p after left o a;
+        refuted = λ h. ap Ok (plain_unsat s p after left o i a h);
+        propagates =
+            λ h. ap Ok (live (subst (λ g. IsLiveRefuted g before) (given_seen p i) h));
+        again = λ on f. absurd (both_ways (is_refuted before) unrefuted on);
+        failed = (λ e. absurd (cc), λ f. absurd (both_ways failed works f));
+        fails = (λ e. absurd (false≢true e), λ f. absurd (both_ways failed works f));
+        given = (refl, refl, refl);
+        grows = grows_by p before after pays.0 i w;
+        lines = answered_log s p after left o i a;
+        stays_open = open_of s p after left o a;
+        short = written_short p.given before after pays.0 w;
+        new = new_since p before after pays.0 i w;
+        learned =
+            learned_since p before after pays.0 i w had.learned left.learned
+            (ap (λ (b : BudgetState). b.learned) pays.2);
+        answers =
+            ap (λ (b : BudgetState). b.answers) pays.2 ∙ ap (λ k. had.answers + k) (count_same o);
+        same_limit = ap (λ (b : BudgetState). b.limit) pays.2;
+      }))
+
+  -- memory was refused
+  pub has_refused : (more : S) (had left : BudgetState)
+      → failed ≡ false → is_refuted (lines sink) ≡ false → StaysOpen p (lines more)
+      → PaysFor {E = SolveFault} (Err Memory) p.given (lines sink) (lines more) had left
+      → Solves (Err Memory) old (view_of p more true) (lines old.sink) (lines more) had left
+  has_refused more had left works unrefuted stays pays =
+      let before = lines sink in
+      let after = lines more in
+      let w = pays.1 in
+      subst (λ (v : SolverState S). Solves (Err Memory) v (view_of p more true) (lines v.sink) after
+      had left) same (record {
+        sat = tt;
+        unsat = tt;
+        limit = tt;
+        refuted = tt;
+        propagates = tt;
+        again = λ on f. absurd (both_ways (is_refuted before) unrefuted on);
+        failed = (λ e. absurd (cc), λ f. absurd (both_ways failed works f));
+        fails = (λ e. refl, λ f. refl);
+        given = (refl, refl, refl);
+        grows = grows_by p before after pays.0 i w;
+        lines = log_now p after i stays.stays;
+        stays_open = tt;
+        short = written_short p.given before after pays.0 w;
+        new = new_since p before after pays.0 i w;
+        learned =
+            learned_since p before after pays.0 i w had.learned left.learned
+            (ap (λ (b : BudgetState). b.learned) pays.2);
+        answers = ap (λ (b : BudgetState). b.answers) pays.2;
+        same_limit = ap (λ (b : BudgetState). b.limit) pays.2;
+      })
+
+  -- memory was refused before
+  pub has_failed : (b : BudgetState) → failed ≡ true
+      → StaysLogOver (length (p.frozen).items) p.given (lines sink)
+      → Solves (Err Failed) old old (lines old.sink) (lines old.sink) b b
+  has_failed b fails stays =
+      let before = lines sink in
+      let w = writes_none p.given before in
+      subst (λ (v : SolverState S). Solves (Err Failed) v v (lines v.sink) (lines v.sink) b b) same
+      (record {
+        sat = tt;
+        unsat = tt;
+        limit = tt;
+        refuted = tt;
+        propagates = tt;
+        again = λ on f. absurd (both_ways failed f fails);
+        failed = (λ e. fails, λ f. refl);
+        fails = (λ e. fails, λ f. refl);
+        given = (refl, refl, refl);
+        grows = grows_by p before before 0 i w;
+        lines = log_now p before i stays;
+        stays_open = tt;
+        short = written_short p.given before before 0 w;
+        new = new_since p before before 0 i w;
+        learned = learned_since p before before 0 i w b.learned b.learned (omega arith);
+        answers = omega arith;
+        same_limit = refl;
+      })
+
+  -- the empty clause was added before
+  pub was_refuted : (b : BudgetState) → failed ≡ false → IsEnded p (lines sink)
+      → Solves (Ok Unsat) old old (lines old.sink) (lines old.sink) b b
+  was_refuted b works ended =
+      let before = lines sink in
+      let w = writes_none p.given before in
+      subst (λ (v : SolverState S). Solves (Ok Unsat) v v (lines v.sink) (lines v.sink) b b) same
+      (record {
+        sat = tt;
+        unsat = ended_log p before i ended;
+        limit = tt;
+        refuted = λ h. refl;
+        propagates = λ h. refl;
+        again = λ on f. (refl, refl);
+        failed = (λ e. absurd (cc), λ f. absurd (both_ways failed works f));
+        fails = (λ e. absurd (false≢true e), λ f. absurd (both_ways failed works f));
+        given = (refl, refl, refl);
+        grows = grows_by p before before 0 i w;
+        lines = log_now p before i ended.stays;
+        stays_open = λ other. absurd (other refl);
+        short = written_short p.given before before 0 w;
+        new = new_since p before before 0 i w;
+        learned = learned_since p before before 0 i w b.learned b.learned (omega arith);
+        answers = omega arith;
+        same_limit = refl;
+      })
