@@ -15,8 +15,8 @@
 // true entries down, takes eighteen instructions more for each entry that is not settled, as much
 // as it saves. Where the row ends by itself its end is cut off, and `close_row` stays out of the
 // loop.
-ghost use Rattle.std.specs.Prelude.{◌≡◌, ◌≢◌, ◌+◌, ◌<◌, ◌≤◌, true, Some, None, length, IfOk, IfNone};
-ghost use Rattle.std.specs.Prelude.{MatchOption, OnOk, OnErr, slice_index_or, slice_set};
+ghost use Rattle.std.specs.Prelude.{◌≡◌, ◌≢◌, ◌+◌, ◌<◌, ◌≤◌, true, Some, None, length, IfOk};
+ghost use Rattle.std.specs.Prelude.{IfNone, MatchOption, OnOk, OnErr, slice_index_or, slice_set};
 ghost use Rattle.std.specs.List.{AllByRecursion};
 ghost use Rattle.cnf.specs.Literal.{Literal, negation, index_of};
 ghost use Rattle.cnf.specs.Clause.{contains_literal};
