@@ -171,6 +171,26 @@ impl Search {
     }
 }
 
+/// Where on the trail the first literal above this level stands: levels rise along it, so a few of
+/// them tell.
+fn first_above(engine: &Engine, level: u32) -> usize
+    requires { All (λ l. l.variable ≤ engine.now.variables) (literals_of engine.now.trail) }
+    ensures { result ≤ length engine.now.trail }
+{
+    let trail = engine.trail();
+    let mut first = 0;
+    let mut end = trail.len();
+    while first < end {
+        let middle = first + (end - first) / 2;
+        if engine.level(trail[middle].variable()).unwrap_or(0) <= level {
+            first = middle + 1;
+        } else {
+            end = middle;
+        }
+    }
+    end
+}
+
 /// The variables above this level may be decided again.
 fn put_back(policy: &mut Policy, engine: &Engine, level: u32)
     requires room { policy.old.variables ≡ engine.now.variables }
@@ -178,13 +198,10 @@ fn put_back(policy: &mut Policy, engine: &Engine, level: u32)
     ensures { policy.new ≡ policy.old }
 {
     let trail = engine.trail();
+    let first = first_above(engine, level);
     let mut place = trail.len();
-    while place > 0 {
+    while place > first {
         place -= 1;
-        let lit = trail[place];
-        if engine.level(lit.variable()).unwrap_or(0) <= level {
-            break;
-        }
-        policy.put_back(lit);
+        policy.put_back(trail[place]);
     }
 }

@@ -102,11 +102,12 @@ impl Policy {
     /// The literal is not true any more, so its variable may be decided again.
     #[inline]
     pub fn put_back(&mut self, lit: Lit)
-        requires { (0 < lit.variable) × (lit.variable ≤ self.old.variables) }
+        requires { lit.variable ≤ self.old.variables }
         ensures { self.new ≡ self.old }
     {
+        let variable = lit.variable();
         self.phases.keep(lit);
-        self.order.put_back(lit.variable());
+        self.order.put_back(variable);
     }
 
     /// The literal to decide; none where each variable has a value.
