@@ -73,7 +73,7 @@ pub fn check_as(
         (λ v. (v ≡ Verdict.Yes) ↔ ChecksAs profile text.now answer.now proof.now) }
     ensures sound { IfOk result (λ v. v ≡ Verdict.Yes → IsTrueResult text.now answer.now) }
 {
-    let left = left_of(alloc, text, answer, profile)?;
+    let left = read_texts(alloc, text, answer, profile)?;
     match left {
         Left::Nothing(verdict) => Ok(verdict),
         Left::Proof(formula) => check_owned(formula, proof),
@@ -120,7 +120,7 @@ pub fn check_from_as<R: Read>(
         (λ bytes. (v ≡ Verdict.Yes) ↔ ChecksAs profile text.now answer.now bytes)) }
     ensures sound { IfOk result (λ v. v ≡ Verdict.Yes → IsTrueResult text.now answer.now) }
 {
-    let Ok(left) = left_of(alloc, text, answer, profile) else {
+    let Ok(left) = read_texts(alloc, text, answer, profile) else {
         return Err(CheckFault::Memory);
     };
     match left {
@@ -130,7 +130,12 @@ pub fn check_from_as<R: Read>(
 }
 
 // What is left to check of the texts, before a byte of the proof is read.
-fn left_of(alloc: Global, text: &[u8], answer: &[u8], profile: Profile) -> Result<Left, AllocError>
+fn read_texts(
+    alloc: Global,
+    text: &[u8],
+    answer: &[u8],
+    profile: Profile,
+) -> Result<Left, AllocError>
     ensures verdict { IfOk result (λ left. (proof : List ℕ)
         → verdict_left left proof ≡ verdict_as profile text.now answer.now proof) }
     ensures sound { IfOk result (λ left. Shows left (IsTrueResult text.now answer.now)) }
@@ -141,7 +146,7 @@ fn left_of(alloc: Global, text: &[u8], answer: &[u8], profile: Profile) -> Resul
         Err(fault) => return Ok(Left::Nothing(Verdict::No(Cause::Text, fault.line))),
     };
     match read_report(alloc, answer) {
-        Ok(report) => left_of_report(&instance, &report, profile),
+        Ok(report) => read_claim(&instance, &report, profile),
         Err(ReportFault::Form(line)) => Ok(Left::Nothing(Verdict::No(Cause::ResultForm, line))),
         Err(ReportFault::Memory) => Err(AllocError),
     }
@@ -149,11 +154,7 @@ fn left_of(alloc: Global, text: &[u8], answer: &[u8], profile: Profile) -> Resul
 
 // What is left of what was said of an instance. The bits come first, since they cost the least to
 // check.
-fn left_of_report(
-    instance: &Instance,
-    report: &Report,
-    profile: Profile,
-) -> Result<Left, AllocError>
+fn read_claim(instance: &Instance, report: &Report, profile: Profile) -> Result<Left, AllocError>
     ensures verdict { IfOk result (λ left. (proof : List ℕ)
         → verdict_left left proof
         ≡ said_verdict profile instance.now (reported report.now) proof) }

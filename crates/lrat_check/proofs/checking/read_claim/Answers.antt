@@ -2,7 +2,7 @@ use Rattle.std.proofs.Common.{ℕ, [], refl}
 use Rattle.std.specs.Prelude.{Ok}
 use Rattle.lrat_check.specs.declared.verdicts.Verdict.TheVariants.{Yes}
 use Rattle.lrat_check.proofs.Judging.{optimum_sound, unsat_sound}
-use Rattle.lrat_check.proofs.checking.left_of_report.Goals as goal
+use Rattle.lrat_check.proofs.checking.read_claim.Goals as goal
 
 pub returns-in_ok-formula-in-None-clause-sound : goal.returns-in_ok-formula-in-None-clause-sound
 returns-in_ok-formula-in-None-clause-sound c =
