@@ -18,7 +18,7 @@ fn take_clause(search: &mut Search, number: u64, lits: &[Lit]) -> Result<(), All
     ensures { OnOk result (TakesClause search.old search.new (Formula number) lits.now) }
 {
     search.backtrack(0);
-    search.place(Name::Formula(Number::new(number)), lits)?;
+    search.attach_clause(Name::Formula(Number::new(number)), lits)?;
     Ok(())
 }
 

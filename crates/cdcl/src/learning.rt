@@ -45,6 +45,6 @@ pub(crate) fn learn<S: Sink>(
     let reference = search.add_line(sink, Kind::Learned, learned.lits.as_slice(), hints)?;
     search
         .policy
-        .keep(reference, learned.lits.as_slice().len(), distance);
+        .note_learned(reference, learned.lits.as_slice().len(), distance);
     Ok(())
 }

@@ -18,7 +18,7 @@ use std::alloc::AllocError;
 
 impl Search {
     /// Adds a clause to the store under a name, and attaches it.
-    pub(crate) fn place(&mut self, name: Name, lits: &[Lit]) -> Result<CRef, AllocError>
+    pub(crate) fn attach_clause(&mut self, name: Name, lits: &[Lit]) -> Result<CRef, AllocError>
         requires ready { IsReady self.old }
         requires within { IsWithin self.old.engine.variables lits.now }
         ensures placed { OnOk result (Places self.old self.new name lits.now) }
@@ -62,7 +62,7 @@ impl Search {
     {
         let name = Name::Added(Number::new(self.additions + 1));
         let owned = Vec::from_slice(self.store.allocator(), lits)?;
-        let reference = self.place(name, lits)?;
+        let reference = self.attach_clause(name, lits)?;
         sink.append(Line::new(kind, owned, hints))?;
         sink.is_short();
         self.additions += 1;

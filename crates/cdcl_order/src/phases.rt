@@ -76,7 +76,7 @@ impl Phases {
     }
 
     /// Keeps the value under which the literal was true.
-    pub(crate) fn keep(&mut self, lit: Lit)
+    pub(crate) fn save(&mut self, lit: Lit)
         requires { (0 < lit.variable) × (lit.variable ≤ length self.old.last) }
         ensures { self.new ≡ record self.old { last = with_value self.old.last lit } }
     {

@@ -106,7 +106,7 @@ impl Policy {
         ensures { self.new ≡ self.old }
     {
         let variable = lit.variable();
-        self.phases.keep(lit);
+        self.phases.save(lit);
         self.order.put_back(variable);
     }
 
@@ -176,7 +176,7 @@ impl Policy {
     }
 
     /// The learned clause came to the store, with so many literals, and this block distance.
-    pub fn keep(&mut self, reference: CRef, length: usize, distance: u32)
+    pub fn note_learned(&mut self, reference: CRef, length: usize, distance: u32)
         ensures { self.new ≡ self.old }
     {
         if length > 2 {

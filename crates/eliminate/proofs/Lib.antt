@@ -16,7 +16,7 @@ mod Shortened
 mod Simplified
 mod Starting
 mod States
-mod Statuses
+mod ClauseStates
 mod Tables
 mod UnitLines
 pub mod Laws

@@ -33,7 +33,7 @@ use Rattle.eliminate.proofs.Falsified.{AreFalseByUnits}
 use Rattle.cnf.proofs.Laws.{literal_eq-refl}
 use Rattle.eliminate_tables.proofs.Laws.{each_literal, filter-contains, member_has}
 use Rattle.eliminate_names.proofs.Laws.{number_at}
-use Rattle.eliminate.proofs.Statuses.{all_member, take_next}
+use Rattle.eliminate.proofs.ClauseStates.{all_member, take_next}
 
 -- the next literal of a clause is false, or not
 falsified-pushed : (u : Units) (c : List Literal) (l : Literal)

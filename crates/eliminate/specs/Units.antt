@@ -14,8 +14,8 @@ use Rattle.lrat_log.specs.Log.{LogLine}
 use Rattle.cnf.specs.Marks.{IsMarked, mark_of}
 use Rattle.eliminate.specs.declared.simplifier.Simplifier.{Simplifier}
 use Rattle.eliminate.specs.declared.units.Units.{Units}
-use Rattle.eliminate.specs.declared.units.Status.{Status}
-use Rattle.eliminate.specs.declared.units.Status.TheVariants.{Settled, Unit, Falsified}
+use Rattle.eliminate.specs.declared.units.ClauseState.{ClauseState}
+use Rattle.eliminate.specs.declared.units.ClauseState.TheVariants.{Settled, Unit, Falsified}
 use Rattle.eliminate.specs.Simplifier.{IsOpen, StaysSimplified, LeavesLog, Grows}
 use Rattle.eliminate_names.specs.Work.{name_at}
 
@@ -23,15 +23,15 @@ use Rattle.eliminate_names.specs.Work.{name_at}
 abbrev pub IsSettled : List Literal → List Literal → Type 0
 IsSettled A c = (IsFalseUnder c A → ⊥) × ((l : Literal) → IsUnit c A l → ⊥)
 
-abbrev pub HasStatus : List Literal → List Literal → Status → Type 0
-HasStatus A c Settled = IsSettled A c
-HasStatus A c (Unit l) = IsUnit c A l
-HasStatus A c Falsified = IsFalseUnder c A
+abbrev pub HasState : List Literal → List Literal → ClauseState → Type 0
+HasState A c Settled = IsSettled A c
+HasState A c (Unit l) = IsUnit c A l
+HasState A c Falsified = IsFalseUnder c A
 
 -- so for the clause at a place
-abbrev pub HasStatusAt : Units → Slots → ℕ → Status → Type 0
-HasStatusAt u slots place status = (c : List Literal) → clause_at slots place ≡ Some c
-    → HasStatus u.trail.items c status
+abbrev pub HasStateAt : Units → Slots → ℕ → ClauseState → Type 0
+HasStateAt u slots place state = (c : List Literal) → clause_at slots place ≡ Some c
+    → HasState u.trail.items c state
 
 -- no clause of the store is false or unit
 abbrev pub AreSettled : List Literal → Slots → Type 0
@@ -108,4 +108,4 @@ MakesProgress u t v found = found ≡ true → t.is_refuted ≡ false → open_c
 -- the clause at a place is settled, and nothing changed
 abbrev pub AsksNothing : Units → Slots → ℕ → Units → Simplifier → Slots → Type 0
 AsksNothing u slots place v t left = (t.is_refuted ≡ false) × (v ≡ u) × (left ≡ slots)
-    × HasStatusAt u slots place Settled
+    × HasStateAt u slots place Settled

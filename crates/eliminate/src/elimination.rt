@@ -129,10 +129,7 @@ pub fn eliminate<S: Sink>(
 }
 
 /// Moves the clauses that are left together, and lists each with its name, in rising order.
-fn move_together(
-    store: &mut Store,
-    names: &Names,
-) -> Result<Vec<(CRef, PackedName)>, AllocError>
+fn move_together(store: &mut Store, names: &Names) -> Result<Vec<(CRef, PackedName)>, AllocError>
     requires { length names.now.names ≡ length store.old.slots }
     ensures together { OnOk result (store.new.slots ≡ map Some (live_clauses store.old.slots)) }
     ensures names { IfOk result (λ listed.

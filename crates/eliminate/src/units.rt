@@ -12,7 +12,7 @@ ghost use Rattle.clauses.specs.Slots.{IsLive, clause_at, live_clauses};
 ghost use Rattle.cnf.specs.Marks.{HasPlace};
 ghost use Rattle.eliminate_names.specs.Work.{AreClauses};
 ghost use Rattle.eliminate.specs.Simplifier.{IsOpen, Passes, Grows};
-ghost use Rattle.eliminate.specs.Units.{HasStatusAt, AreUnits, AreSettled, unit_hints, open_count};
+ghost use Rattle.eliminate.specs.Units.{HasStateAt, AreUnits, AreSettled, unit_hints, open_count};
 ghost use Rattle.eliminate.specs.Units.{MakesTrue, IsPropagating, Moves, MakesProgress};
 ghost use Rattle.eliminate.specs.Units.{AsksNothing};
 
@@ -47,7 +47,7 @@ struct Visits {
 
 /// What the true literals make of a clause.
 #[derive(Clone, Copy, Debug, PartialEq, Eq, Drop)]
-pub(crate) enum Status {
+pub(crate) enum ClauseState {
     /// It has a true literal, or two that are open.
     Settled,
     /// All its literals but this one are false, and this one is open.
@@ -87,22 +87,22 @@ impl Units {
     }
 
     /// What the true literals make of a clause of the store.
-    fn status(&self, store: &Store, reference: CRef) -> Status
+    fn state(&self, store: &Store, reference: CRef) -> ClauseState
         requires units { AreUnits self.now store.now.slots }
         requires clauses { AreClauses (length self.now.clauses.items) store.now.slots }
         requires live { IsLive store.now.slots reference }
-        ensures { HasStatusAt self.now store.now.slots reference result }
+        ensures { HasStateAt self.now store.now.slots reference result }
     {
-        let mut found = Status::Falsified;
+        let mut found = ClauseState::Falsified;
         for lit in store.lits(reference) {
             if self.values.is_marked(*lit) {
-                return Status::Settled;
+                return ClauseState::Settled;
             }
             if !self.values.is_marked(lit.negation()) {
                 match found {
-                    Status::Falsified => found = Status::Unit(*lit),
-                    Status::Unit(_) => return Status::Settled,
-                    Status::Settled => return Status::Settled,
+                    ClauseState::Falsified => found = ClauseState::Unit(*lit),
+                    ClauseState::Unit(_) => return ClauseState::Settled,
+                    ClauseState::Settled => return ClauseState::Settled,
                 }
             }
         }
@@ -145,7 +145,7 @@ impl Units {
         requires propagating { IsPropagating self.now simplifier.old store.old.slots
             (S.lines sink.old) }
         requires live { IsLive store.old.slots reference }
-        requires unit { HasStatusAt self.now store.old.slots reference (Status.Unit lit) }
+        requires unit { HasStateAt self.now store.old.slots reference (ClauseState.Unit lit) }
         ensures alone { IfOk result (λ r. clause_at store.new.slots r ≡ Some (lit ∷ [])) }
         ensures grows { IfOk result (λ _. Grows store.old.slots store.new.slots) }
         ensures passes { Passes result simplifier.old store.old.slots (S.lines sink.old)
@@ -174,7 +174,7 @@ impl Units {
         requires propagating { IsPropagating self.now simplifier.old store.old.slots
             (S.lines sink.old) }
         requires live { IsLive store.old.slots reference }
-        requires falsified { HasStatusAt self.now store.old.slots reference Status.Falsified }
+        requires falsified { HasStateAt self.now store.old.slots reference ClauseState.Falsified }
         ensures passes { Passes result simplifier.old store.old.slots (S.lines sink.old)
             simplifier.new store.new.slots (S.lines sink.new) }
         ensures refuted { OnOk result (simplifier.new.is_refuted ≡ true) }
@@ -223,14 +223,14 @@ impl Units {
             store.new.slots) }
         ensures progress { IfOk result (MakesProgress self.old simplifier.new self.new) }
     {
-        match self.status(store, reference) {
-            Status::Settled => Ok(false),
-            Status::Unit(lit) => {
+        match self.state(store, reference) {
+            ClauseState::Settled => Ok(false),
+            ClauseState::Unit(lit) => {
                 let unit = self.unit_clause(simplifier, store, sink, reference, lit)?;
                 self.assign(store, lit, unit)?;
                 Ok(true)
             }
-            Status::Falsified => {
+            ClauseState::Falsified => {
                 self.add_empty(simplifier, store, sink, reference)?;
                 Ok(true)
             }

@@ -269,21 +269,21 @@ impl Sketch {
     }
 
     // By Fibonacci's multiplier (Knuth, The Art of Computer Programming 3).
-    fn place(&self, left: u32, right: u32) -> usize {
+    fn slot(&self, left: u32, right: u32) -> usize {
         let pair = u64::from(left) << 32 | u64::from(right);
         let mixed = (pair ^ pair >> 29).wrapping_mul(0x9E37_79B9_7F4A_7C15);
         (mixed >> self.shift.min(63)) as usize
     }
 
     fn count(&mut self, left: u32, right: u32) {
-        let place = self.place(left, right);
+        let place = self.slot(left, right);
         if let Some(counter) = self.counters.get_mut(place) {
             *counter = counter.saturating_add(1);
         }
     }
 
     fn is_many(&self, left: u32, right: u32) -> bool {
-        match self.counters.get(self.place(left, right)) {
+        match self.counters.get(self.slot(left, right)) {
             Some(counter) => *counter as usize >= FEWEST,
             None => false,
         }

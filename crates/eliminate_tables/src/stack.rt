@@ -85,9 +85,9 @@ impl Removals {
           clauses = clauses_under store.now.slots references.now;
         } ∷ []) }
     {
-        let start = place(self.pieces.len())?;
-        keep_clauses(references, store, &mut self.pieces, &mut self.literals)?;
-        let end = place(self.pieces.len())?;
+        let start = as_place(self.pieces.len())?;
+        copy_clauses(references, store, &mut self.pieces, &mut self.literals)?;
+        let end = as_place(self.pieces.len())?;
         self.gone.push(Gone {
             variable,
             start,
@@ -112,7 +112,7 @@ impl Removals {
 }
 
 /// A length as a place, in four bytes; a longer one counts as a refused growth.
-fn place(len: usize) -> Result<u32, AllocError>
+fn as_place(len: usize) -> Result<u32, AllocError>
     ensures { IfOk result (λ place. place ≡ len) }
 {
     if len > u32::MAX as usize {
@@ -122,7 +122,7 @@ fn place(len: usize) -> Result<u32, AllocError>
 }
 
 /// Copies the clauses to the end, each as a piece.
-fn keep_clauses(
+fn copy_clauses(
     references: &[CRef],
     store: &Store,
     pieces: &mut Vec<Piece>,
@@ -137,22 +137,26 @@ fn keep_clauses(
         some) }
 {
     for reference in references {
-        keep(store.lits(*reference), pieces, literals)?;
+        copy_clause(store.lits(*reference), pieces, literals)?;
     }
     Ok(())
 }
 
 /// Copies a clause to the end, as a piece.
-fn keep(clause: &[Lit], pieces: &mut Vec<Piece>, literals: &mut Vec<Lit>) -> Result<(), AllocError>
+fn copy_clause(
+    clause: &[Lit],
+    pieces: &mut Vec<Piece>,
+    literals: &mut Vec<Lit>,
+) -> Result<(), AllocError>
     ensures ok { IfOk result (λ _.
         AddsClauses pieces.old.items pieces.new.items literals.old.items literals.new.items
         (clause.now ∷ [])) }
     ensures err { OnErr result (AddsClauses pieces.old.items pieces.new.items literals.old.items
         literals.new.items []) }
 {
-    let start = place(literals.len())?;
+    let start = as_place(literals.len())?;
     literals.extend_from_slice(clause)?;
-    let end = place(literals.len())?;
+    let end = as_place(literals.len())?;
     pieces.push(Piece { start, end })?;
     Ok(())
 }

@@ -9,7 +9,7 @@ ghost use Rattle.lrat_result.specs.Words.{HasWords};
 ghost use Rattle.lrat_result.specs.Report.{IsNextStage, IsReadReport, falls_below, reported};
 ghost use Rattle.lrat_result.specs.Report.{report_with};
 
-use crate::report::{Cost, Heading, Report, ReportFault, Said, Solution, Stage, Claim};
+use crate::report::{Claim, Cost, Heading, Report, ReportFault, Said, Solution, Stage};
 use crate::words::{Words, words_of};
 use cnf::limits::NUMBER_LIMIT;
 use std::alloc::{AllocError, Global};

@@ -225,12 +225,12 @@ impl Engine {
         let reference = entry.reference;
         match self.look_at(store, falsified, entry) {
             Look::True(blocker) => {
-                self.keep(falsified, write, Entry { reference, blocker });
+                self.write_entry(falsified, write, Entry { reference, blocker });
                 Step::Kept
             }
             Look::Unit(blocker) => {
                 self.imply(blocker, reference);
-                self.keep(falsified, write, Entry { reference, blocker });
+                self.write_entry(falsified, write, Entry { reference, blocker });
                 Step::Kept
             }
             Look::Watch(other, lit) => match self.rewatch(reference, falsified, other, lit) {
@@ -242,7 +242,7 @@ impl Engine {
     }
 
     /// Writes the entry at a place of a row.
-    fn keep(&mut self, lit: Lit, at: usize, entry: Entry)
+    fn write_entry(&mut self, lit: Lit, at: usize, entry: Entry)
         requires in_range { lit.variable ≤ self.old.variables }
         requires within { at < length (row_at self.old.watches.rows (index_of lit)) }
         ensures { self.new ≡ with_rows self.old

@@ -12,7 +12,7 @@ use Rattle.eliminate.specs.declared.units.Units.{Units}
 use Rattle.eliminate_names.specs.Work.{name_at}
 use Rattle.eliminate.specs.Units.{unit_of, unit_name}
 use Rattle.clauses.proofs.Laws.{live_within}
-use Rattle.eliminate.proofs.Statuses.{literal_place, mark_says}
+use Rattle.eliminate.proofs.ClauseStates.{literal_place, mark_says}
 use Rattle.eliminate.proofs.UnitLines.{looked_up, falsified_more, falsified_same}
 use Rattle.eliminate.proofs.units.Units.hints.Goals as goal
 use Rattle.eliminate.proofs.units.Units.hints.Goals.{then-is_marked+in-Some+in_ok-push-in-Some}

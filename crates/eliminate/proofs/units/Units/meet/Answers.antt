@@ -11,8 +11,8 @@ use Rattle.eliminate.proofs.States.{places_of}
 use Rattle.eliminate_tables.proofs.Laws.{member_has}
 use Rattle.eliminate.proofs.units.Units.meet.Goals as goal
 
-pub status-requires-clause-clauses : goal.status-requires-clause-clauses
-status-requires-clause-clauses g c =
+pub state-requires-clause-clauses : goal.state-requires-clause-clauses
+state-requires-clause-clauses g c =
     subst (λ n. AreClauses n c.args.store.now.slots) (sym c.requires.propagating.fits)
     c.requires.propagating.is_open.simplified.1.state.work.clauses
 

@@ -33,7 +33,7 @@ rewatch-requires-clause-other c =
 pub returns-in-True-clause-after : goal.returns-in-True-clause-after
 returns-in-True-clause-after c =
     subst (λ z. InRow c.args.store.now.slots z c.args.falsified (c.args.write + 1)
-    (c.args.read + 1)) (sym c.keep.ensures)
+    (c.args.read + 1)) (sym c.write_entry.ensures)
     (keep_row c.args.store.now.slots c.args.self.now c.args.falsified c.args.write c.args.read
     c.entry_at-entry.result c.in-True.blocker c.entry_at-entry.ensures.sound c.requires.state
     c.requires.more
@@ -60,7 +60,7 @@ returns-in-Unit-clause-after c =
     let is_true : IsTrueIn slots e1 r l =
     λ d live. ((c.in-Unit.ensures.2 d live).member, last_true now.trail (made l (Some r))) in
     subst (λ z. InRow slots z w (c.args.write + 1) (c.args.read + 1))
-    (sym (c.keep-in-Unit.ensures
+    (sym (c.write_entry-in-Unit.ensures
     ∙ ap (λ (e : EngineState). with_rows e
     (with_row e.watches.rows (index_of w)
     (set (row_at e.watches.rows (index_of w)) c.args.write (entry_of r l))))

@@ -3,7 +3,7 @@ use Rattle.std.proofs.Common.{[]}
 use Rattle.eliminate_tables.specs.Flat.{AddsClauses}
 use Rattle.eliminate_names.proofs.Laws.{when_err}
 use Rattle.eliminate_tables.proofs.StackPieces.{adds_none, adds_longer}
-use Rattle.eliminate_tables.proofs.stack.keep.Goals as goal
+use Rattle.eliminate_tables.proofs.stack.copy_clause.Goals as goal
 
 pub returns-in_err-start-clause-err : goal.returns-in_err-start-clause-err
 returns-in_err-start-clause-err c =

@@ -2,7 +2,7 @@ use Rattle.std.proofs.Common.{ap, sym, subst, ◌∙◌}
 use Rattle.propagate.specs.Watches.{is_attached}
 use Rattle.propagate.specs.Fits.{Fits}
 use Rattle.cdcl.proofs.Placing.{fits_more, not_attached, new_live, new_within}
-use Rattle.cdcl.proofs.search.Search.place.Goals as goal
+use Rattle.cdcl.proofs.search.Search.attach_clause.Goals as goal
 
 pub attach-requires-clause-fits : goal.attach-requires-clause-fits
 attach-requires-clause-fits c =

@@ -16,8 +16,8 @@ use Rattle.cnf.specs.Formula.{IsFormulaClause}
 use Rattle.clauses.specs.Slots.{Slots, clause_at}
 use Rattle.cnf.specs.Marks.{mark_of, HasPlace}
 use Rattle.eliminate.specs.declared.units.Units.{Units}
-use Rattle.eliminate.specs.declared.units.Status.{Status}
-use Rattle.eliminate.specs.declared.units.Status.TheVariants.{Settled, Unit, Falsified}
+use Rattle.eliminate.specs.declared.units.ClauseState.{ClauseState}
+use Rattle.eliminate.specs.declared.units.ClauseState.TheVariants.{Settled, Unit, Falsified}
 use Rattle.eliminate.specs.Units.{IsSettled, AreUnits}
 use Rattle.cnf.proofs.Laws.{literal_eq-refl}
 use Rattle.eliminate.proofs.States.{places_of}
@@ -139,13 +139,13 @@ settled_two A c k l hk hl apart nk nl = (
 )
 
 -- what is found of the first literals of a clause
-abbrev pub HasStatusSoFar : List Literal → List Literal → Status → Type 0
+abbrev pub HasStatusSoFar : List Literal → List Literal → ClauseState → Type 0
 HasStatusSoFar A c Settled = ⊥
 HasStatusSoFar A c (Unit l) = IsUnit c A l
 HasStatusSoFar A c Falsified = IsFalseUnder c A
 
 -- a false literal more
-pub status_false : (A c : List Literal) (i : ℕ) (k : Literal) (s : Status) → i < length c
+pub status_false : (A c : List Literal) (i : ℕ) (k : Literal) (s : ClauseState) → i < length c
     → k ≡ get_or c i k → contains_literal (negation k) A ≡ true
     → HasStatusSoFar A (take i c) s → HasStatusSoFar A (take (i + 1) c) s
 status_false A c i k Settled h is f so = so

@@ -2,7 +2,7 @@
 use Rattle.std.proofs.Common.{take}
 use Rattle.eliminate_tables.specs.Flat.{AddsClauses}
 use Rattle.eliminate_tables.specs.Rows.{clauses_under}
-use Rattle.eliminate_tables.proofs.stack.keep_clauses.Given as goal
+use Rattle.eliminate_tables.proofs.stack.copy_clauses.Given as goal
 
 abbrev pub invariant-loop-reference : goal.invariant-loop-reference
 invariant-loop-reference l =

@@ -7,8 +7,8 @@ use Rattle.propagate.specs.Trail.{position_in}
 use Rattle.analyze.specs.declared.marks.Mark.TheVariants.{Kept}
 use Rattle.analyze.specs.Met.{IsListed}
 use Rattle.analyze.proofs.Listing.{position_at, position_some, listed_kept, listed_spare}
-use Rattle.analyze.proofs.marks.keep.Goals as goal
-use Rattle.analyze.proofs.marks.keep.Goals.{in-Some, in_default}
+use Rattle.analyze.proofs.marks.mark_kept.Goals as goal
+use Rattle.analyze.proofs.marks.mark_kept.Goals.{in-Some, in_default}
 
 pub returns-clause-marking : goal.returns-clause-marking
 returns-clause-marking c =

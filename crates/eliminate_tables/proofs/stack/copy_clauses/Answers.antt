@@ -7,7 +7,7 @@ use Rattle.eliminate_tables.specs.Flat.{AddsClauses}
 use Rattle.eliminate_tables.specs.Rows.{clause_under, clauses_under}
 use Rattle.eliminate_names.proofs.Laws.{when_err}
 use Rattle.eliminate_tables.proofs.StackPieces.{adds_none, adds_join}
-use Rattle.eliminate_tables.proofs.stack.keep_clauses.Goals as goal
+use Rattle.eliminate_tables.proofs.stack.copy_clauses.Goals as goal
 
 pub loop-reference-init : goal.loop-reference-init
 loop-reference-init c = adds_none c.args.pieces.now.items c.args.literals.now.items
@@ -18,18 +18,18 @@ lits-requires c =
     (c.requires c.loop-reference.reference-index c.reference-item.result
     c.loop-reference-test.true)
 
-pub returns-in_err-keep-clause-err : goal.returns-in_err-keep-clause-err
-returns-in_err-keep-clause-err c =
+pub returns-in_err-copy_clause-clause-err : goal.returns-in_err-copy_clause-clause-err
+returns-in_err-copy_clause-clause-err c =
     let so_far : List (List Literal) =
     clauses_under c.args.store.now.slots
     (take c.loop-reference.reference-index c.args.references.now) in
     let some : (cs : List (List Literal))
-    × AddsClauses c.args.pieces.now.items c.keep.new.pieces.items c.args.literals.now.items
-    c.keep.new.literals.items cs = (
+    × AddsClauses c.args.pieces.now.items c.copy_clause.new.pieces.items c.args.literals.now.items
+    c.copy_clause.new.literals.items cs = (
       so_far ++ [],
       adds_join c.args.pieces.now.items c.loop-reference.pieces.items
-          c.keep.new.pieces.items c.args.literals.now.items c.loop-reference.literals.items
-          c.keep.new.literals.items so_far [] c.loop-reference.invariant c.in_err-keep.ensures.err,
+          c.copy_clause.new.pieces.items c.args.literals.now.items c.loop-reference.literals.items
+          c.copy_clause.new.literals.items so_far [] c.loop-reference.invariant c.in_err-copy_clause.ensures.err,
     ) in
     when_err _ some
 
@@ -47,8 +47,8 @@ loop-reference-preserved c =
     ∙ ap (λ x. take i refs ++ x ∷ []) (sym c.reference-item.is))
     ∙ map-append (clause_under slots) (take i refs) (r ∷ [])
     ∙ ap (λ xs. clauses_under slots (take i refs) ++ xs) last in
-    subst (λ (cs : List (List Literal)). AddsClauses c.args.pieces.now.items c.keep.new.pieces.items
-    c.args.literals.now.items c.keep.new.literals.items cs) (sym more)
-    (adds_join c.args.pieces.now.items c.loop-reference.pieces.items c.keep.new.pieces.items
-    c.args.literals.now.items c.loop-reference.literals.items c.keep.new.literals.items _
-    (c.lits.result.now ∷ []) c.loop-reference.invariant c.in_ok-keep.ensures.ok)
+    subst (λ (cs : List (List Literal)). AddsClauses c.args.pieces.now.items c.copy_clause.new.pieces.items
+    c.args.literals.now.items c.copy_clause.new.literals.items cs) (sym more)
+    (adds_join c.args.pieces.now.items c.loop-reference.pieces.items c.copy_clause.new.pieces.items
+    c.args.literals.now.items c.loop-reference.literals.items c.copy_clause.new.literals.items _
+    (c.lits.result.now ∷ []) c.loop-reference.invariant c.in_ok-copy_clause.ensures.ok)

@@ -5,12 +5,12 @@ use Rattle.cnf.specs.Literal.{Literal, negation}
 use Rattle.cnf.specs.Marks.{mark_of, HasPlace}
 use Rattle.eliminate.specs.declared.units.Units.{Units}
 use Rattle.eliminate.specs.Units.{IsSettled}
-use Rattle.eliminate.proofs.Statuses.{HasStatusSoFar, settled_true, status_false, status_open}
-use Rattle.eliminate.proofs.Statuses.{status_second, literal_place, mark_says}
+use Rattle.eliminate.proofs.ClauseStates.{HasStatusSoFar, settled_true, status_false, status_open}
+use Rattle.eliminate.proofs.ClauseStates.{status_second, literal_place, mark_says}
 use Rattle.cnf.proofs.Laws.{at_contains}
-use Rattle.eliminate.proofs.units.Units.status.Goals as goal
-use Rattle.eliminate.proofs.units.Units.status.Goals.{then-not-is_marked+in-Falsified}
-use Rattle.eliminate.proofs.units.Units.status.Goals.{else-not-is_marked}
+use Rattle.eliminate.proofs.units.Units.state.Goals as goal
+use Rattle.eliminate.proofs.units.Units.state.Goals.{then-not-is_marked+in-Falsified}
+use Rattle.eliminate.proofs.units.Units.state.Goals.{else-not-is_marked}
 
 pub is_marked-requires : goal.is_marked-requires
 is_marked-requires c =
