@@ -1,0 +1,49 @@
+// Some of the numbers below a bound, in any order: one is put in, taken out or met by its place in
+// one step.
+use crate::checked::{at, narrow, set};
+use std::alloc::{AllocError, Global};
+
+#[derive(Drop)]
+pub(crate) struct Group {
+    // The numbers that are in it, each once; there is room for all.
+    members: Vec<u32>,
+    // By number, its place among the members, where it is one.
+    places: Vec<u32>,
+}
+
+impl Group {
+    /// None of the numbers below the bound.
+    pub(crate) fn new(alloc: Global, bound: usize) -> Result<Self, AllocError> {
+        let mut members = Vec::new(alloc);
+        members.reserve(bound)?;
+        let places = Vec::from_elem(alloc, 0, bound)?;
+        Ok(Group { members, places })
+    }
+
+    /// How many are in it.
+    pub(crate) fn len(&self) -> usize {
+        self.members.len()
+    }
+
+    /// The one at this place.
+    pub(crate) fn at(&self, place: usize) -> u32 {
+        at(&self.members, place)
+    }
+
+    /// Puts one in that is not there.
+    pub(crate) fn put(&mut self, number: u32) {
+        let place = self.members.len();
+        if self.members.push(number).is_ok() {
+            set(&mut self.places, number as usize, narrow(place));
+        }
+    }
+
+    /// Takes one out that is there: the last one takes its place.
+    pub(crate) fn take(&mut self, number: u32) {
+        if let Some(last) = self.members.pop() {
+            let place = at(&self.places, number as usize);
+            set(&mut self.members, place as usize, last);
+            set(&mut self.places, last as usize, place);
+        }
+    }
+}

@@ -1,0 +1,65 @@
+// Making a solution cheaper: a local search over all clauses, where clauses that stay false become
+// heavier (Lei and Cai, "Solving (Weighted) Partial MaxSAT by Dynamic Local Search for SAT", IJCAI
+// 2018).
+//
+// A step flips the best of some variables whose flip betters more weight than it worsens. Where
+// there is none, each false clause becomes heavier, a soft one up to a bound, and a variable of one
+// of them is flipped. What the search finds counts only where it is judged to be a solution that
+// costs no more, so nothing has to be known of the search itself.
+ghost use Rattle.std.specs.Prelude.{◌≡◌, ◌≤◌, IsTrue, length};
+ghost use Rattle.cnf.specs.Literal.{Assignment};
+ghost use Rattle.cnf.specs.Bits.{Extends};
+ghost use Rattle.cnf.specs.Problem.{IsFeasible, cost_under};
+
+use crate::clauses::Occurrences;
+use crate::steps::Walk;
+use cnf::types::Instance;
+use std::alloc::AllocError;
+
+/// A solution that costs no more than this one; where memory is refused, this one. The time is
+/// linear in the instance.
+pub fn polish(instance: &Instance, bits: Vec<bool>) -> Vec<bool>
+    requires as_many { length bits.items ≡ instance.now.variables }
+    requires feasible { (t : Assignment) → Extends bits.items t → IsFeasible instance.now t }
+    ensures as_many { length result.items ≡ instance.now.variables }
+    ensures feasible { (t : Assignment) → Extends result.items t → IsFeasible instance.now t }
+    ensures no_dearer { (old new : Assignment) → Extends bits.items old
+        → Extends result.items new
+        → cost_under instance.now new ≤ cost_under instance.now old }
+{
+    let cost = instance.cost(&bits);
+    if cost == 0 {
+        return bits;
+    }
+    let Ok(found) = search(instance, &bits) else {
+        return bits;
+    };
+    if is_solution(instance, &found, cost) {
+        found
+    } else {
+        bits
+    }
+}
+
+/// Whether the bits satisfy the hard clauses and cost at most so much.
+fn is_solution(instance: &Instance, bits: &[bool], most: u64) -> bool
+    ensures as_many { IsTrue result → length bits.now ≡ instance.now.variables }
+    ensures feasible { IsTrue result → (t : Assignment) → Extends bits.now t
+        → IsFeasible instance.now t }
+    ensures cost { IsTrue result → (t : Assignment) → Extends bits.now t
+        → cost_under instance.now t ≤ most }
+{
+    bits.len() == instance.vars() as usize && instance.feasible(bits) && instance.cost(bits) <= most
+}
+
+/// The best bits that a search from these meets.
+fn search(instance: &Instance, bits: &[bool]) -> Result<Vec<bool>, AllocError> {
+    let alloc = instance.allocator();
+    let mut from = Vec::new(alloc);
+    from.extend_from_slice(bits)?;
+    let mut best = Vec::new(alloc);
+    best.extend_from_slice(bits)?;
+    let places = Occurrences::new(alloc, instance)?;
+    let walk = Walk::new(alloc, instance, from, best)?;
+    Ok(walk.finish(instance, &places))
+}
