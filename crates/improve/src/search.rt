@@ -14,7 +14,7 @@ use crate::bounds::{Bounds, Next};
 use crate::found::{Found, ImproveFault, Work};
 use crate::frozen::freeze_none;
 use crate::progress::{Progress, ProgressFault};
-use crate::solutions::{Solution, price};
+use crate::solutions::{Solution, price_polished};
 use crate::watch::{Silent, Watch};
 use crate::zero::refute_zero;
 use adder::cells::Profile;
@@ -91,7 +91,7 @@ pub fn improve_watched<T: Progress, W: Watch>(
     };
     match solver.solve_watched(budget, watch) {
         Ok(Outcome::Sat(bits)) => {
-            let first = price(instance, bits);
+            let first = price_polished(instance, bits);
             let hard = solver.into_sink();
             lower(instance, budget, progress, profile, watch, hard, first)
         }

@@ -6,6 +6,7 @@ ghost use Rattle.cnf.specs.Problem.{IsFeasible, cost_under};
 ghost use Rattle.improve.specs.Improving.{IsSolution};
 
 use cnf::types::Instance;
+use improve_local::polishing::polish;
 
 /// A solution: its bits satisfy the hard clauses.
 #[derive(Drop)]
@@ -29,4 +30,16 @@ pub fn price(instance: &Instance, mut bits: Vec<bool>) -> Solution
     prove!(instance.feasible(&bits));
     let cost = instance.cost(&bits);
     Solution { cost, bits }
+}
+
+/// The solution that these bits begin with, made cheaper where a search around it finds one that
+/// is.
+pub fn price_polished(instance: &Instance, bits: Vec<bool>) -> Solution
+    requires long { instance.now.variables ≤ length bits.items }
+    requires feasible { (t : Assignment) → Extends bits.items t → IsFeasible instance.now t }
+    ensures { IsSolution instance.now result.bits.items result.cost }
+{
+    let first = price(instance, bits);
+    let polished = polish(instance, first.bits);
+    price(instance, polished)
 }
