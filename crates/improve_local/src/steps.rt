@@ -7,7 +7,7 @@ use cnf::types::Instance;
 use std::alloc::{AllocError, Global};
 
 /// So many visits for each literal of the instance,
-const VISITS: u64 = 100;
+const VISITS: u64 = 300;
 
 /// and at most so many.
 const MOST_VISITS: u64 = 10_000_000;
