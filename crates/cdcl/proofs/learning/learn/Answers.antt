@@ -148,7 +148,8 @@ returns-clause-learns g c =
     let same : m.engine.variables ≡ s.engine.variables = c.backtrack.ensures.engine.variables
     ∙ ap (λ (x : Search). (x.engine).variables) c.learn_from-distance.ensures.only_policy in
     record {
-      runs = runs_chosen n c.note_learned.new.self p _ (ap (λ x. x.variables) c.note_learned.ensures) written;
+      runs = runs_chosen n c.note_learned.new.self p _
+          (ap (λ x. x.variables) c.note_learned.ensures) written;
       variables = c.in_ok-reference.ensures.placed.variables ∙ same;
       writes =
           subst (λ x. Writes p.given ls x 1) (sym c.in_ok-reference.ensures.lines)

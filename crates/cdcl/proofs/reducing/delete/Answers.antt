@@ -51,8 +51,8 @@ new-requires-2 g c =
     let inside = live_within s.store.slots r live.0 live.1 in
     let lt : r < length s.names.items = omega (arith, recorded.names.as_many) in
     let name : c.name.result ≡ name_at s.names.items r =
-    c.name.ensures ∙ named_at s.names.items c.index-2.result r c.index-3.result.now c.index-2.ensures
-    c.index-3.ensures lt in
+    c.name.ensures ∙ named_at s.names.items c.index-2.result r c.index-3.result.now
+    c.index-2.ensures c.index-3.ensures lt in
     deleting_line c.new.result.items c.push.new.self.items c.name.result c.new.ensures.items
     (c.in_ok-push.ensures.items
     ∙ ap (λ x. x ++ Plain c.name.result ∷ []) c.new-hints.ensures.items)
@@ -70,8 +70,8 @@ returns-clause-deletes g c =
     let inside = live_within s.store.slots r live.0 live.1 in
     let lt : r < length s.names.items = omega (arith, d.recorded.names.as_many) in
     let name : c.name.result ≡ name_at s.names.items r =
-    c.name.ensures ∙ named_at s.names.items c.index-2.result r c.index-3.result.now c.index-2.ensures
-    c.index-3.ensures lt in
+    c.name.ensures ∙ named_at s.names.items c.index-2.result r c.index-3.result.now
+    c.index-2.ensures c.index-3.ensures lt in
     let hints = c.in_ok-push.ensures.items
     ∙ ap (λ x. x ++ Plain c.name.result ∷ []) c.new-hints.ensures.items
     ∙ ap (λ n. Plain n ∷ []) name in

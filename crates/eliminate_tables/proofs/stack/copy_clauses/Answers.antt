@@ -29,7 +29,8 @@ returns-in_err-copy_clause-clause-err c =
       so_far ++ [],
       adds_join c.args.pieces.now.items c.loop-reference.pieces.items
           c.copy_clause.new.pieces.items c.args.literals.now.items c.loop-reference.literals.items
-          c.copy_clause.new.literals.items so_far [] c.loop-reference.invariant c.in_err-copy_clause.ensures.err,
+          c.copy_clause.new.literals.items so_far [] c.loop-reference.invariant
+          c.in_err-copy_clause.ensures.err,
     ) in
     when_err _ some
 
@@ -47,8 +48,8 @@ loop-reference-preserved c =
     ∙ ap (λ x. take i refs ++ x ∷ []) (sym c.reference-item.is))
     ∙ map-append (clause_under slots) (take i refs) (r ∷ [])
     ∙ ap (λ xs. clauses_under slots (take i refs) ++ xs) last in
-    subst (λ (cs : List (List Literal)). AddsClauses c.args.pieces.now.items c.copy_clause.new.pieces.items
-    c.args.literals.now.items c.copy_clause.new.literals.items cs) (sym more)
+    subst (λ (cs : List (List Literal)). AddsClauses c.args.pieces.now.items
+    c.copy_clause.new.pieces.items c.args.literals.now.items c.copy_clause.new.literals.items cs) (sym more)
     (adds_join c.args.pieces.now.items c.loop-reference.pieces.items c.copy_clause.new.pieces.items
     c.args.literals.now.items c.loop-reference.literals.items c.copy_clause.new.literals.items _
     (c.lits.result.now ∷ []) c.loop-reference.invariant c.in_ok-copy_clause.ensures.ok)

@@ -11,7 +11,8 @@ use Rattle.improve.proofs.HardEnds.{hard_feasible, hard_log, right_unsat, right_
 use Rattle.improve.proofs.HardEnds.{hard_learned, nothing_learned}
 use Rattle.improve.proofs.search.improve_watched.Goals as goal
 
-pub price_polished-first-requires-clause-feasible : goal.price_polished-first-requires-clause-feasible
+pub price_polished-first-requires-clause-feasible :
+    goal.price_polished-first-requires-clause-feasible
 price_polished-first-requires-clause-feasible g c =
     let sat = rw c.in-Ok-Sat.field-0-is at c.in-Ok-Sat.ensures.sat in
     hard_feasible c.args.instance.now c.in-Ok.solver c.in-Ok.ensures c.in-Ok-Sat.bits.items sat.1
