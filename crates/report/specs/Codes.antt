@@ -1,9 +1,6 @@
 -- Exit statuses.
 use Rattle.std.specs.Prelude.{ℕ}
 use Rattle.wcnf.specs.declared.faults.FaultKind.{FaultKind}
-use Rattle.wcnf.specs.declared.faults.FaultKind.TheVariants.{FirstToken, OldForm, Weight, Literal}
-use Rattle.wcnf.specs.declared.faults.FaultKind.TheVariants.{NoZero, AfterZero, Variable, WeightSum}
-use Rattle.wcnf.specs.declared.faults.FaultKind.TheVariants.{TooMany, Header, Count}
 use Rattle.wcnf.specs.declared.faults.FaultKind.TheVariants.{Memory as MemoryKind, Read as ReadKind}
 use Rattle.lrat_check.specs.declared.verdicts.Verdict.{Verdict}
 use Rattle.lrat_check.specs.declared.verdicts.Verdict.TheVariants.{Yes, No}
@@ -27,17 +24,7 @@ code_of_verdict (No cause line) = 1
 abbrev pub code_of_kind : FaultKind → ℕ
 code_of_kind ReadKind = 3
 code_of_kind MemoryKind = 3
-code_of_kind FirstToken = 2
-code_of_kind OldForm = 2
-code_of_kind Weight = 2
-code_of_kind Literal = 2
-code_of_kind NoZero = 2
-code_of_kind AfterZero = 2
-code_of_kind Variable = 2
-code_of_kind WeightSum = 2
-code_of_kind TooMany = 2
-code_of_kind Header = 2
-code_of_kind Count = 2
+code_of_kind other = 2
 
 abbrev pub code_of_fault : RunFault → ℕ
 code_of_fault (Read fault) = code_of_kind fault.kind

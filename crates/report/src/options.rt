@@ -152,9 +152,9 @@ fn make_profile<'a>(alloc: Global) -> Arg<'a> {
         .default_value("1")
         .help(
             "How 'cheaper' is encoded: 1 adds all weights column by column; 2 as 1, and spends no \
-             variable on soft clauses of one literal; 3 adds weights in pairs, light ones first; 4, \
-             which finds most, has sums of weights along a tree that follows the hard clauses. solve \
-             and check need the same one",
+             variable on soft clauses of one literal; 3 adds weights in pairs, light ones first; \
+             4, which finds most, has sums of weights along a tree that follows the hard clauses. \
+             solve and check need the same one",
         )
 }
 

@@ -198,7 +198,8 @@ module _ (G S : List (List ℕ)) (labels : List ℕ) (old : AreLabels labels S (
       stays_with x g other nodes g_in other_in which stay nx each has not =
           by (find (has_group g) nodes) refl
         where
-          by : (o : Option Node) → find (has_group g) nodes ≡ o → with_node most x g nodes ≡ x ∷ nodes
+          by : (o : Option Node) → find (has_group g) nodes ≡ o
+              → with_node most x g nodes ≡ x ∷ nodes
           by None e = rw e refl
           by (Some y) e =
               let there = found_in (IsNode G S) g y nodes e each in
@@ -230,15 +231,15 @@ module _ (G S : List (List ℕ)) (labels : List ℕ) (old : AreLabels labels S (
                 ∙ elim (cases_Bool (has_group k.high x)) [
                   | inl high ↦ cond-true (has_group k.high x) _ _ high
                   | inr not ↦ cond-false (has_group k.high x) _ _ not
-                      ∙ stays_with x k.high k.low nodes high_in low_in (inl (refl, refl)) stay each.0
-                      each.1
+                      ∙ stays_with x k.high k.low nodes high_in low_in (inl (refl, refl)) stay
+                      each.0 each.1
                       low not
                 ]
             | inr none ↦ cond-false (has_group k.low x) _ _ none
                 ∙ elim (cases_Bool (has_group k.high x)) [
                   | inl high ↦ cond-true (has_group k.high x) _ _ high
-                      ∙ stays_with x k.low k.high nodes low_in high_in (inr (refl, refl)) stay each.0
-                      each.1
+                      ∙ stays_with x k.low k.high nodes low_in high_in (inr (refl, refl)) stay
+                      each.0 each.1
                       high none
                   | inr not ↦ cond-false (has_group k.high x) _ _ not
                       ∙ ap (λ z. x ∷ z) (merged_stays nodes stay each.1)

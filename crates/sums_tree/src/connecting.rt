@@ -58,7 +58,8 @@ fn connect_clauses(
 ) -> Result<(), AllocError>
     requires { AreHomes homes.now (grouped instance.now) (instance.now).variables }
     ensures { OnOk result (parts.new.items ≡ parts.old.items
-        ++ flat_map row_connections (map (clause_row (grouped instance.now)) (binding instance.now))) }
+        ++ flat_map row_connections
+        (map (clause_row (grouped instance.now)) (binding instance.now))) }
 {
     let mut marks = Marks::new(instance.allocator(), instance.vars())?;
     let mut row = Vec::new(instance.allocator());

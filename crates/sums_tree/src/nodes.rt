@@ -207,7 +207,8 @@ fn join_in_front(
     requires lengths { length labels.old.items ≡ length tracks.old.items }
     ensures labels { OnOk result
         (labels.new.items ≡ relabelled right (row_at tracks.old.items left) labels.old.items) }
-    ensures steps { OnOk result (tracks.new.items ≡ slice_set (slice_set tracks.old.items left []) right
+    ensures steps { OnOk result (tracks.new.items
+        ≡ slice_set (slice_set tracks.old.items left []) right
         ((row_at tracks.old.items left ++ row_at tracks.old.items right)
         ++ length labels.old.items ∷ [])) }
 {
@@ -233,7 +234,8 @@ fn join_behind(
     requires lengths { length labels.old.items ≡ length tracks.old.items }
     ensures labels { OnOk result
         (labels.new.items ≡ relabelled left (row_at tracks.old.items right) labels.old.items) }
-    ensures steps { OnOk result (tracks.new.items ≡ slice_set (slice_set tracks.old.items right []) left
+    ensures steps { OnOk result (tracks.new.items
+        ≡ slice_set (slice_set tracks.old.items right []) left
         ((row_at tracks.old.items left ++ row_at tracks.old.items right)
         ++ length labels.old.items ∷ [])) }
 {
