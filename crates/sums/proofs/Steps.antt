@@ -296,7 +296,7 @@ module _ (p : Problem) (d : ℕ) (ss : List made.Step) (i most : ℕ) (s : Progr
         ap length (finished_clauses (steps_made p d (map step_of ss) (begun p))),
       )
 
-pub most_more : (ss : List made.Step) (k m : ℕ) → k < length ss → m ≡ 16
+pub most_more : (ss : List made.Step) (k m : ℕ) → k < length ss → m ≡ most_below
     → m ≡ most_before (map step_of (drop k ss))
 most_more [] k m lt e = absurd (omega arith)
 most_more (x ∷ ss) zero m lt e = e

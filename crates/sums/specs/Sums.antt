@@ -220,7 +220,7 @@ both_digits (x ∷ xs) (y ∷ ys) = Both x y ∷ both_digits xs ys
 
 -- so long may a digit's list be at a node below the root
 abbrev pub most_below : ℕ
-most_below = 16
+most_below = 32
 
 -- the sums at a node with p digits, left part first, then right part, then the node itself
 abbrev pub node : Problem → ℕ → ℕ → Tree → ℕ → Node

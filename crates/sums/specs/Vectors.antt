@@ -201,7 +201,7 @@ many_groups (suc n) = Fork (Leaf []) (many_groups n)
 too_many_groups : sums_over (weighing []) (Some (many_groups 32768)) ≡ None
 too_many_groups = refl
 
--- a list of 16 stays, one of 17 becomes its odd one and its half
+-- where 16 is the bound, a list of 16 stays, and one of 17 becomes its odd one and its half
 abbrev rising_to : List ℕ → List AtLeast
 rising_to ns = named_from 1 ns
 

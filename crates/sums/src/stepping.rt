@@ -19,7 +19,7 @@ use std::marker::Model;
 use sums_tree::arrangement::Step;
 
 /// A digit's list may be so long at a node below the root.
-const MOST_BELOW: usize = 16;
+const MOST_BELOW: usize = 32;
 
 /// The parts of a tree that wait for being joined.
 #[derive(Drop)]
