@@ -198,6 +198,7 @@ impl Trail {
     }
 
     /// Makes an open literal true, by a decision where there is no reason.
+    #[inline(always)]
     pub(crate) fn push(&mut self, lit: Lit, reason: Option<CRef>)
         requires small { lit.variable ≤ self.old.variables }
         requires open { value_in self.old.assigned lit ≡ None }
@@ -210,7 +211,7 @@ impl Trail {
         self.depth += u32::from(reason.is_none());
         set_value(&mut self.values, lit, Some(true));
         self.vardata.set(variable, self.depth, position, reason);
-        let _ = self.literals.push(lit);
+        self.literals.push_reserved(lit);
     }
 
     /// The level of the literal at a place.
