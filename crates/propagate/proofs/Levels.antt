@@ -1,8 +1,7 @@
 -- What is kept of a trail up to a level.
-use Rattle.std.proofs.Common.{◌≡◌, ℕ, ◌+◌, ◌-◌, ◌<◌, ◌≤◌, leb, List, [], ◌∷◌, ◌++◌, take, length}
-use Rattle.std.proofs.Common.{get_or, inl, inr, refl, sym, ◌∙◌, ap, subst, arith}
+use Rattle.std.proofs.Common.{◌≡◌, ℕ, ◌+◌, ◌<◌, ◌≤◌, leb, List, [], ◌∷◌, ◌++◌, length}
+use Rattle.std.proofs.Common.{inl, inr, refl, sym, ◌∙◌, ap, subst, arith}
 use Rattle.std.proofs.lemmas.Bool.{cases_Bool, le-leb, lt-leb, cond-true, cond-false}
-use Rattle.std.proofs.lemmas.List.{take_more, take_all}
 use Rattle.std.proofs.lemmas.List.Sums.{count_by-le-length}
 use Rattle.propagate.specs.Trail.{Assigned, depth_of, is_decision, level_after, kept_from, kept_to}
 use Rattle.propagate.proofs.Trails.{depth-cons, depth_push}
@@ -47,23 +46,6 @@ kept_push to T a h =
 
 pub depth-le-length : (T : List Assigned) → depth_of T ≤ length T
 depth-le-length T = count_by-le-length is_decision T
-
-last_apart : (T : List Assigned) → 0 < length T
-    → (a : Assigned) × (T ≡ take (length T - 1) T ++ a ∷ [])
-last_apart [] h = absurd (omega arith)
-last_apart (b ∷ T) h =
-    let xs = b ∷ T in (
-      get_or xs (length xs - 1) b,
-      sym (sym (take_more xs (length xs - 1) b (omega arith))
-          ∙ take_all (length xs - 1 + 1) xs (omega arith)),
-    )
-
-pub kept_pop : (to : ℕ) (T : List Assigned) → to < depth_of T
-    → kept_to to (take (length T - 1) T) ≡ kept_to to T
-kept_pop to T h =
-    let w = last_apart T (omega (arith, depth-le-length T)) in
-    sym (ap (kept_to to) w.1
-    ∙ kept_push to (take (length T - 1) T) w.0 (subst (λ X. to < depth_of X) w.1 h))
 
 pub depth_grows : (T : List Assigned) (a : Assigned) → depth_of T ≤ depth_of (T ++ a ∷ [])
 depth_grows T a =

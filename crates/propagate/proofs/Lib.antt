@@ -2,6 +2,7 @@ mod Sparing
 mod Facts
 mod Literals
 mod Trails
+mod Undoing
 mod Tables
 mod Levels
 mod Pools

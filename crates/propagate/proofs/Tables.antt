@@ -344,16 +344,6 @@ pub trail_push_at : (n : ℕ) (A : List Literal) (vs : List (Option Bool)) (ls :
 trail_push_at n A vs ls ps R d room room' l r A' vs' v p k a b e g f wide t named o =
     rw (a, b, e, g, f) (trail_push n A vs ls ps R d room room' l r wide t named o)
 
-pub trail_pop_at : (n : ℕ) (A : List Literal) (vs : List (Option Bool)) (ls : List (Option ℕ))
-    (ps : List ℕ) (R : List (Option ℕ)) (d room room' : ℕ) (l : Literal)
-    (A' : List Literal) (vs' : List (Option Bool)) (v k : ℕ)
-    → A ≡ A' ++ l ∷ [] → vs' ≡ set (set vs (index_of l) None) (index_of (negation l)) None
-    → v ≡ l.variable → k ≡ (if is_none (reason_at R l.variable) then 1 else 0)
-    → n ≤ room' → IsTrail n A vs ls ps R d room
-    → IsTrail n A' vs' (set ls v None) ps R (d - k) room'
-trail_pop_at n A vs ls ps R d room room' l A' vs' v k a b e f wide t =
-    rw (b, e, f) (trail_pop n A' vs ls ps R d room room' l wide (rw a at t))
-
 pub one_from : (o : Option ℕ) (b : Bool) (k : ℕ) → is_some o ≡ not b → k ≡ bool_byte b
     → k ≡ (if is_none o then 1 else 0)
 one_from None true k e f = f

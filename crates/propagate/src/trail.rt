@@ -1,11 +1,12 @@
 // The literals that are true, with tables by which a value, a level or a reason is found in one
 // step.
-ghost use Rattle.std.specs.Prelude.{◌≡◌, ◌-◌, ◌<◌, ◌≤◌, ◌*◌, not, true, false, IsTrue, ◌↔◌, []};
+ghost use Rattle.std.specs.Prelude.{◌≡◌, ◌+◌, ◌<◌, ◌≤◌, ◌*◌, not, true, false, IsTrue, ◌↔◌, []};
 ghost use Rattle.std.specs.Prelude.{◌∷◌, ◌++◌, Some, None, length, take, All, IfOk, slice_set};
 ghost use Rattle.std.specs.Prelude.{slice_index_or};
 ghost use Rattle.std.specs.Option.{option_map};
 ghost use Rattle.cnf.specs.Literal.{index_of, negation};
 ghost use Rattle.propagate.specs.Watches.{IsVariable};
+ghost use Rattle.propagate.specs.Tables.{IsTrail, assigned_by};
 ghost use Rattle.propagate.specs.Trail.{literals_of, depth_of, value_in, level_in, position_in};
 ghost use Rattle.propagate.specs.Trail.{reason_in, kept_to};
 ghost use Rattle.propagate.specs.Renames.{named_trail};
@@ -59,6 +60,33 @@ fn set_value(values: &mut Vec<Truth>, lit: Lit, value: Option<bool>)
 {
     values[lit.index()] = Truth::new(value);
     values[lit.negation().index()] = Truth::new(value.map(|v| !v));
+}
+
+/// Takes the values and the levels of the literals from place `keep` on away, the last one first.
+fn undo(
+    values: &mut Vec<Truth>,
+    vardata: &mut VarTable,
+    literals: &[Lit],
+    keep: usize,
+    variables: u32,
+)
+    requires tables { IsTrail variables literals.now values.old.items vardata.old.levels
+        vardata.old.positions vardata.old.reasons
+        (depth_of (assigned_by vardata.old.reasons literals.now)) variables }
+    requires within { keep ≤ length literals.now }
+    ensures tables { IsTrail variables (take keep literals.now) values.new.items vardata.new.levels
+        vardata.new.positions vardata.new.reasons
+        (depth_of (assigned_by vardata.old.reasons (take keep literals.now))) variables }
+    ensures reasons { vardata.new.reasons ≡ vardata.old.reasons }
+{
+    let _ = variables;
+    let mut at = literals.len();
+    while at > keep {
+        at -= 1;
+        let lit = literals[at];
+        set_value(values, lit, None);
+        vardata.clear(lit.variable() as usize);
+    }
 }
 
 impl Trail {
@@ -170,6 +198,7 @@ impl Trail {
     }
 
     /// Makes an open literal true, by a decision where there is no reason.
+    #[inline(always)]
     pub(crate) fn push(&mut self, lit: Lit, reason: Option<CRef>)
         requires small { lit.variable ≤ self.old.variables }
         requires open { value_in self.old.assigned lit ≡ None }
@@ -182,32 +211,52 @@ impl Trail {
         self.depth += u32::from(reason.is_none());
         set_value(&mut self.values, lit, Some(true));
         self.vardata.set(variable, self.depth, position, reason);
-        let _ = self.literals.push(lit);
+        self.literals.push_reserved(lit);
     }
 
-    /// Takes the last literal away.
-    fn pop(&mut self)
-        requires { 0 < length self.old.assigned }
-        ensures { self.new ≡ record self.old {
-          assigned =
-              take (length self.old.assigned - 1) self.old.assigned;
-        } }
+    /// The level of the literal at a place.
+    fn level_at(&self, place: usize) -> u32
+        requires { place < length self.now.assigned }
+        ensures { result ≡ depth_of (take (place + 1) self.now.assigned) }
     {
-        if let Some(lit) = self.literals.pop() {
-            let variable = lit.variable() as usize;
-            self.depth -= u32::from(self.vardata.reason(variable).is_none());
-            set_value(&mut self.values, lit, None);
-            self.vardata.clear(variable);
+        let variable = self.literals[place].variable();
+        self.vardata.level(variable as usize).unwrap_or(0)
+    }
+
+    /// How many literals the levels up to `level` have: levels rise along the trail, so a few of
+    /// them tell.
+    fn first_above(&self, level: u32) -> usize
+        ensures kept { kept_to level self.now.assigned ≡ take result self.now.assigned }
+        ensures within { result ≤ length self.now.assigned }
+    {
+        let mut first = 0;
+        let mut end = self.len();
+        while first < end {
+            let middle = first + (end - first) / 2;
+            if self.level_at(middle) <= level {
+                first = middle + 1;
+            } else {
+                end = middle;
+            }
         }
+        end
     }
 
     /// Keeps the literals of the levels up to `level`.
     pub(crate) fn backtrack(&mut self, level: u32)
+        requires { level ≤ depth_of self.old.assigned }
         ensures { self.new ≡ record self.old { assigned = kept_to level self.old.assigned } }
     {
-        while level < self.depth() {
-            self.pop();
-        }
+        let keep = self.first_above(level);
+        undo(
+            &mut self.values,
+            &mut self.vardata,
+            &self.literals,
+            keep,
+            self.variables,
+        );
+        self.literals.truncate(keep);
+        self.depth = level;
     }
 
     /// Renames the reasons.

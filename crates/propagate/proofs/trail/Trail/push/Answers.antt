@@ -1,12 +1,23 @@
-use Rattle.std.proofs.Common.{◌≡◌, true, false, List, ◌++◌, ◌∷◌, [], None, ◌∙◌, ap, arith, rules}
+use Rattle.std.proofs.Common.{◌≡◌, false, List, None, ◌∙◌, ap, arith, rules}
 use Rattle.propagate.specs.Trail.{TrailState, Assigned, value_in}
 use Rattle.propagate.specs.Tables.{assigned_by, mentions}
 use Rattle.propagate.specs.Watches.{IsVariable}
-use Rattle.std.specs.Result.{is_ok}
-use Rattle.std.proofs.lemmas.Bool.{cond-true}
 use Rattle.propagate.proofs.Trails.{open_none, literals_of-assigned}
 use Rattle.propagate.proofs.Tables.{trail_push_at, assigned_push, room_left, one_from}
 use Rattle.propagate.proofs.trail.Trail.push.Goals as goal
+
+pub push_reserved-requires : goal.push_reserved-requires
+push_reserved-requires c =
+    let i = c.self.inside in
+    let h : value_in (assigned_by i.vardata.reasons i.literals.items) c.args.lit ≡ None =
+    ap (λ (t : TrailState). value_in t.assigned c.args.lit) c.self.view_is ∙ c.requires.open in
+    let n : IsVariable i.variables c.args.lit = (omega arith, search rules) in
+    omega (
+      arith,
+      c.self.invariant.has_room,
+      room_left i.variables i.literals.items i.values.items i.vardata.levels i.vardata.positions
+          i.vardata.reasons i.depth _ c.args.lit c.self.invariant n h,
+    )
 
 pub invariant_of-self : goal.invariant_of-self
 invariant_of-self c =
@@ -14,16 +25,11 @@ invariant_of-self c =
     let h : value_in (assigned_by i.vardata.reasons i.literals.items) c.args.lit ≡ None =
     ap (λ (t : TrailState). value_in t.assigned c.args.lit) c.self.view_is ∙ c.requires.open in
     let n : IsVariable i.variables c.args.lit = (omega arith, search rules) in
-    let left =
-    room_left i.variables i.literals.items i.values.items i.vardata.levels i.vardata.positions
-    i.vardata.reasons i.depth _ c.args.lit c.self.invariant n h in
-    let items : c.push.new.self.items ≡ i.literals.items ++ c.args.lit ∷ [] =
-    let k : is_ok c.push.result ≡ true = c.push.ensures.succeeds (omega arith) in
-    c.push.ensures.items ∙ cond-true (is_ok c.push.result) _ _ k in
     rw (c.set.ensures.levels, c.set.ensures.positions, c.set.ensures.reasons)
     (trail_push_at i.variables i.literals.items i.values.items i.vardata.levels i.vardata.positions
-    i.vardata.reasons i.depth _ _ c.args.lit c.args.reason _ _ _ _ _ items c.set_value.ensures
-    c.variable-variable.ensures.variable (omega (arith, c.len-position.ensures))
+    i.vardata.reasons i.depth _ _ c.args.lit c.args.reason _ _ _ _ _
+    c.push_reserved.ensures.items c.set_value.ensures c.variable-variable.ensures.variable
+    (omega (arith, c.len-position.ensures))
     (one_from c.args.reason c.is_none.result c.from.result c.is_none.ensures c.from.ensures)
     (omega arith) c.self.invariant n h)
 
@@ -33,16 +39,15 @@ returns-clause-pushed c =
     let h : value_in (assigned_by i.vardata.reasons i.literals.items) c.args.lit ≡ None =
     ap (λ (t : TrailState). value_in t.assigned c.args.lit) c.self.view_is ∙ c.requires.open in
     let n : IsVariable i.variables c.args.lit = (omega arith, search rules) in
-    let left =
-    room_left i.variables i.literals.items i.values.items i.vardata.levels i.vardata.positions
-    i.vardata.reasons i.depth _ c.args.lit c.self.invariant n h in
-    let items : c.push.new.self.items ≡ i.literals.items ++ c.args.lit ∷ [] =
-    let k : is_ok c.push.result ≡ true = c.push.ensures.succeeds (omega arith) in
-    c.push.ensures.items ∙ cond-true (is_ok c.push.result) _ _ k in
     let new : mentions c.args.lit.variable i.literals.items ≡ false =
     rw literals_of-assigned at
     (open_none (assigned_by i.vardata.reasons i.literals.items) c.args.lit h) in
-    rw (← c.self.view_is, items, c.set.ensures.reasons, c.variable-variable.ensures.variable)
+    rw (
+      ← c.self.view_is,
+      c.push_reserved.ensures.items,
+      c.set.ensures.reasons,
+      c.variable-variable.ensures.variable,
+    )
     (ap (λ (T : List Assigned). record { variables = i.variables; assigned = T })
     (assigned_push i.vardata.reasons i.literals.items c.args.lit c.args.reason
     (omega (arith, c.self.invariant.reasons_length)) new))
