@@ -10,6 +10,7 @@ mod MoreGiven
 mod Names
 mod NewLines
 mod Numbering
+mod Parts
 mod RebasedLines
 mod RebasedNew
 mod Rebasing

@@ -2,7 +2,7 @@
 // their heads count. Two ends in words of 8 bytes and the kind took 24; three words of 4 bytes hold
 // them with ends up to 2^46 and more, which no memory reaches. Lengths in place of ends would be as
 // small, but a line would be found by a walk over all before it.
-ghost use Rattle.std.specs.Prelude.{◌≡◌, ◌<◌, ◌≤◌, IfOk};
+ghost use Rattle.std.specs.Prelude.{◌≡◌, ◌<◌, ◌≤◌, ◌^◌, IfOk, OnOk};
 ghost use Rattle.lrat_log.specs.Heads.{kind_at, number_of, kind_of, end_of_lits, end_of_hints};
 
 use crate::lines::Kind;
@@ -48,6 +48,7 @@ impl Head {
         ensures kind { IfOk result (λ head. kind_of head ≡ kind) }
         ensures lits { IfOk result (λ head. end_of_lits head ≡ lits_end) }
         ensures hints { IfOk result (λ head. end_of_hints head ≡ hints_end) }
+        ensures few { OnOk result (hints_end < 2 ^ 46) }
     {
         if lits_end >= LITS_LIMIT || hints_end >= HINTS_LIMIT {
             return Err(AllocError);

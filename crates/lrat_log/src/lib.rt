@@ -3,6 +3,7 @@
 #![tactic(auto)]
 
 mod heads;
+mod hints;
 pub mod lines;
 pub mod log;
 mod packed;

@@ -13,8 +13,8 @@ ghost use Rattle.lrat_log.specs.Texts.{line_text, numbered_after, last_after};
 ghost use Rattle.lrat_log.specs.Flat.{lits_before, hints_before};
 
 use crate::heads::Head;
+use crate::hints::{HintList, HintSlice};
 use crate::lines::{Hint, Kind, Line};
-use crate::packed::PackedHint;
 use crate::sink::Sink;
 use crate::spelling::{put_addition, put_deletion};
 use cnf::types::Lit;
@@ -26,8 +26,8 @@ use text::output::{Block, WriteFault};
 /// A log has fewer lines than this, 2^61.
 const LINE_LIMIT: usize = 1 << 61;
 
-/// The lines of a solver, in memory: 4 bytes for each literal, 8 for each hint, and 12 for each
-/// line.
+/// The lines of a solver, in memory: 4 bytes for each literal and each hint, and 12 for each line;
+/// from the first line on with a number of 2^30 or more, 8 for each hint.
 #[derive(Drop)]
 pub struct Log {
     // By line, in their order; fewer than 2^61.
@@ -35,7 +35,7 @@ pub struct Log {
     // The literals of all lines, those of one line after those of the line before.
     lits: Vec<Lit>,
     // The hints of all lines, in the same order.
-    hints: Vec<PackedHint>,
+    hints: HintList,
 }
 
 impl Model for Log {
@@ -46,9 +46,9 @@ impl Model for Log {
 
     ghost use Rattle.lrat_log.specs.Flat.{lines_in, IsFlat};
 
-    ghost view = { λ l. lines_in l.heads.items l.lits.items l.hints.items };
+    ghost view = { λ l. lines_in l.heads.items l.lits.items l.hints };
 
-    ghost invariant = { λ l. IsFlat l.heads.items l.lits.items l.hints.items };
+    ghost invariant = { λ l. IsFlat l.heads.items l.lits.items l.hints };
 }
 
 impl Log {
@@ -59,7 +59,7 @@ impl Log {
         Log {
             heads: Vec::new(alloc),
             lits: Vec::new(alloc),
-            hints: Vec::new(alloc),
+            hints: HintList::new(alloc),
         }
     }
 
@@ -110,7 +110,7 @@ impl Log {
         requires index { index < length (line_at self.now line).hints }
         ensures { slice_get (line_at self.now line).hints index ≡ Some result }
     {
-        self.packed_hints(line)[index].hint()
+        self.packed_hints(line).get(index)
     }
 
     /// What its memory comes from.
@@ -119,14 +119,14 @@ impl Log {
     }
 
     /// The hints of the line in this place, from 0.
-    fn packed_hints(&self, line: usize) -> &[PackedHint]
+    fn packed_hints(&self, line: usize) -> HintSlice<'_>
         requires { line < length self.now }
-        ensures hints { result.now ≡ (line_at self.now line).hints }
+        ensures hints { result ≡ (line_at self.now line).hints }
         ensures line { IsLine (line_at self.now line) }
     {
         let (_, start) = find_ends(&self.heads, line);
         let (_, end) = find_ends(&self.heads, line + 1);
-        cut_out(&self.hints, start, end)
+        self.hints.part(start, end)
     }
 }
 
@@ -140,11 +140,11 @@ impl Sink for Log {
         let lits = line.lits();
         let hints = line.hints();
         let lits_end = self.lits.len() + lits.len();
-        let hints_end = self.hints.len() + hints.len();
+        let hints_end = self.hints.len().saturating_add(hints.len());
         let head = Head::new(line.kind(), lits_end as u64, hints_end as u64)?;
         self.heads.reserve(1)?;
         self.lits.reserve(lits.len())?;
-        push_hints(&mut self.hints, hints)?;
+        self.hints.extend(hints)?;
         self.lits.extend_from_slice(lits)?;
         self.heads.push(head)?;
         Ok(())
@@ -174,18 +174,6 @@ fn cut_out<T>(items: &[T], start: usize, end: usize) -> &[T]
     ensures { result.now ≡ slice_range items.now start end }
 {
     &items[start..end]
-}
-
-/// Packs the hints behind those that are kept.
-fn push_hints(kept: &mut Vec<PackedHint>, hints: &[Hint]) -> Result<(), AllocError>
-    ensures ok { OnOk result (kept.new.items ≡ kept.old.items ++ hints.now) }
-    ensures err { OnErr result (kept.new.items ≡ kept.old.items) }
-{
-    kept.reserve(hints.len())?;
-    for hint in hints {
-        kept.push(PackedHint::new(*hint))?;
-    }
-    Ok(())
 }
 
 /// The text of the log as an LRAT certificate (Cruz-Filipe et al. 2017), where the first addition
@@ -260,10 +248,10 @@ fn put_line<W: Write>(
 {
     let hints = log.packed_hints(line);
     if log.kind(line).is_delete() {
-        put_deletion(block, writer, base, last, hints)?;
+        put_deletion(block, writer, base, last, &hints)?;
         Ok(last)
     } else {
-        put_addition(block, writer, base, last + 1, log.lits(line), hints)?;
+        put_addition(block, writer, base, last + 1, log.lits(line), &hints)?;
         Ok(last + 1)
     }
 }

@@ -1,7 +1,8 @@
-// Hints as the log keeps them: a log has many more hints than lines, so each takes one word.
-ghost use Rattle.std.specs.Prelude.{◌≡◌, ◌<◌, ◌≤◌, ◌-◌, ◌^◌};
+// Hints as the log keeps them: a log has many more hints than lines, so each takes one word, of
+// four bytes where its number is small.
+ghost use Rattle.std.specs.Prelude.{◌≡◌, ◌<◌, ◌≤◌, ◌-◌, ◌^◌, IfSome};
 ghost use Rattle.lrat_log.specs.Log.{id_of, name_of, is_group, is_added};
-ghost use Rattle.lrat_log.specs.Packed.{name_code};
+ghost use Rattle.lrat_log.specs.Packed.{name_code, hint_code};
 
 use crate::lines::{Hint, Name, Number};
 use std::marker::Model;
@@ -38,13 +39,8 @@ impl PackedHint {
     pub fn new(hint: Hint) -> Self
         ensures { result ≡ hint }
     {
-        match hint {
-            Hint::Plain(name) => PackedHint {
-                code: packed_name(name),
-            },
-            Hint::Group(name) => PackedHint {
-                code: packed_name(name) + 1,
-            },
+        PackedHint {
+            code: packed_hint(hint),
         }
     }
 
@@ -90,6 +86,65 @@ impl PackedHint {
         ensures { result ≡ is_added (name_of self) }
     {
         self.code / 2 % 2 == 1
+    }
+}
+
+/// A hint in four bytes: as a packed hint, where that is below 2^32.
+#[derive(Clone, Copy, Debug, PartialEq, Eq, Drop)]
+pub struct NarrowHint {
+    // From 4 to 2^32 - 1.
+    code: u32,
+}
+
+impl Model for NarrowHint {
+    ghost use Rattle.std.specs.Prelude.{◌≤◌};
+    ghost use Rattle.lrat_log.specs.declared.lines.Hint.{Hint};
+
+    ghost Value = { Hint };
+
+    ghost use Rattle.lrat_log.specs.Packed.{narrow_in, narrow_of, narrow_of-narrow_in};
+
+    ghost view = { narrow_in };
+
+    ghost invariant = { λ h. 4 ≤ h.code };
+
+    ghost inverse = { narrow_of };
+
+    ghost inverse_ok = { λ h _. narrow_of-narrow_in h };
+}
+
+const _: () = prove!(size_of::<NarrowHint>() == 4);
+
+impl NarrowHint {
+    /// The hint in four bytes, where its number is below 2^30.
+    pub fn new(hint: Hint) -> Option<Self>
+        ensures { IfSome result (λ narrow. narrow ≡ hint) }
+    {
+        let code = packed_hint(hint);
+        if code > u64::from(u32::MAX) {
+            return None;
+        }
+        Some(NarrowHint { code: code as u32 })
+    }
+
+    /// The hint in eight bytes.
+    pub fn widen(self) -> PackedHint
+        ensures { result ≡ self }
+    {
+        PackedHint {
+            code: u64::from(self.code),
+        }
+    }
+}
+
+/// A hint as it stands in a packed hint.
+fn packed_hint(hint: Hint) -> u64
+    ensures code { result ≡ hint_code hint }
+    ensures from_four { 4 ≤ result }
+{
+    match hint {
+        Hint::Plain(name) => packed_name(name),
+        Hint::Group(name) => packed_name(name) + 1,
     }
 }
 

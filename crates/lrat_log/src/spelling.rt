@@ -4,8 +4,10 @@ ghost use Rattle.std.specs.Prelude.{OnOk, OnErr};
 ghost use Rattle.cnf.specs.Lrat.{Addition, Deletion};
 ghost use Rattle.text.specs.Writing.{AppendsPart, PassesOn};
 ghost use Rattle.lrat_log.specs.Log.{IsPlain, id_of, name_of, leading_ids, group_ids};
-ghost use Rattle.lrat_log.specs.Texts.{number_text, literals_text, hints_text, end_text, line_text};
+ghost use Rattle.lrat_log.specs.Texts.{number_text, literals_text, hint_text, hints_text, end_text};
+ghost use Rattle.lrat_log.specs.Texts.{line_text};
 
+use crate::hints::HintSlice;
 use crate::packed::PackedHint;
 use cnf::types::Lit;
 use itoa::write_digits;
@@ -22,7 +24,7 @@ pub fn put_addition<W: Write>(
     base: u64,
     id: u64,
     lits: &[Lit],
-    hints: &[PackedHint],
+    hints: &HintSlice<'_>,
 ) -> Result<(), WriteFault>
     requires { All (λ h. id_of base (name_of h) < 2 ^ 62) hints.now }
     ensures ok { OnOk result (PassesOn (W.contents writer.old) block.old
@@ -43,7 +45,7 @@ pub fn put_deletion<W: Write>(
     writer: &mut W,
     base: u64,
     lead: u64,
-    hints: &[PackedHint],
+    hints: &HintSlice<'_>,
 ) -> Result<(), WriteFault>
     requires small { All (λ h. id_of base (name_of h) < 2 ^ 62) hints.now }
     requires plain { All IsPlain hints.now }
@@ -63,7 +65,7 @@ fn put_end<W: Write>(
     writer: &mut W,
     word: &[u8],
     base: u64,
-    hints: &[PackedHint],
+    hints: &HintSlice<'_>,
 ) -> Result<(), WriteFault>
     requires { All (λ h. id_of base (name_of h) < 2 ^ 62) hints.now }
     ensures ok { OnOk result (PassesOn (W.contents writer.old) block.old
@@ -81,7 +83,7 @@ fn put_hints<W: Write>(
     block: &mut Block,
     writer: &mut W,
     base: u64,
-    hints: &[PackedHint],
+    hints: &HintSlice<'_>,
 ) -> Result<(), WriteFault>
     requires { All (λ h. id_of base (name_of h) < 2 ^ 62) hints.now }
     ensures ok { OnOk result (PassesOn (W.contents writer.old) block.old
@@ -89,10 +91,29 @@ fn put_hints<W: Write>(
     ensures fault { OnErr result (AppendsPart (W.contents writer.old) (W.contents writer.new)
         (block.old ++ hints_text base hints.now)) }
 {
-    for hint in hints {
-        put_number(block, writer, hint.is_group(), hint.id(base))?;
+    for narrow in hints.narrow {
+        put_hint(block, writer, base, narrow.widen())?;
+    }
+    for wide in hints.wide {
+        put_hint(block, writer, base, *wide)?;
     }
     Ok(())
+}
+
+/// Puts the hint with a space behind it.
+fn put_hint<W: Write>(
+    block: &mut Block,
+    writer: &mut W,
+    base: u64,
+    hint: PackedHint,
+) -> Result<(), WriteFault>
+    requires { id_of base (name_of hint) < 2 ^ 62 }
+    ensures ok { OnOk result (PassesOn (W.contents writer.old) block.old
+        (hint_text base hint) (W.contents writer.new) block.new) }
+    ensures fault { OnErr result (AppendsPart (W.contents writer.old) (W.contents writer.new)
+        (block.old ++ hint_text base hint)) }
+{
+    put_number(block, writer, hint.is_group(), hint.id(base))
 }
 
 /// Puts the literals, each with a space behind it.

@@ -11,7 +11,7 @@ returns-in_err-put_deletion-clause-fault g c =
     let deletes : is_delete (line_at c.args.log.now c.args.line).kind ≡ true = cc in
     let text =
     line_deletes c.args.base c.args.last (line_at c.args.log.now c.args.line)
-    c.packed_hints-hints.result.now deletes c.packed_hints-hints.ensures.hints in
+    c.packed_hints-hints.result deletes c.packed_hints-hints.ensures.hints in
     let q =
     part_as (g.W.Write.contents c.args.writer.now) (g.W.Write.contents c.put_deletion.new.writer)
     c.args.block.now _ _ text c.in_err-put_deletion.ensures.fault in
@@ -22,7 +22,7 @@ returns-in_ok-put_deletion-clause-ok g c =
     let deletes : is_delete (line_at c.args.log.now c.args.line).kind ≡ true = cc in
     let text =
     line_deletes c.args.base c.args.last (line_at c.args.log.now c.args.line)
-    c.packed_hints-hints.result.now deletes c.packed_hints-hints.ensures.hints in
+    c.packed_hints-hints.result deletes c.packed_hints-hints.ensures.hints in
     passes_as _ _ _ _ _ _ text c.in_ok-put_deletion.ensures.ok
 
 pub returns-in_err-put_addition-clause-fault : goal.returns-in_err-put_addition-clause-fault
@@ -33,7 +33,7 @@ returns-in_err-put_addition-clause-fault g c =
     let adds : is_delete (line_at c.args.log.now c.args.line).kind ≡ false = cc in
     let text =
     line_adds c.args.base c.args.last (line_at c.args.log.now c.args.line) c.lits.result.now
-    c.packed_hints-hints.result.now adds c.lits.ensures c.packed_hints-hints.ensures.hints in
+    c.packed_hints-hints.result adds c.lits.ensures c.packed_hints-hints.ensures.hints in
     let q =
     part_as (g.W.Write.contents c.args.writer.now) (g.W.Write.contents c.put_addition.new.writer)
     c.args.block.now _ _ text c.in_err-put_addition.ensures.fault in
@@ -44,5 +44,5 @@ returns-in_ok-put_addition-clause-ok g c =
     let adds : is_delete (line_at c.args.log.now c.args.line).kind ≡ false = cc in
     let text =
     line_adds c.args.base c.args.last (line_at c.args.log.now c.args.line) c.lits.result.now
-    c.packed_hints-hints.result.now adds c.lits.ensures c.packed_hints-hints.ensures.hints in
+    c.packed_hints-hints.result adds c.lits.ensures c.packed_hints-hints.ensures.hints in
     passes_as _ _ _ _ _ _ text c.in_ok-put_addition.ensures.ok

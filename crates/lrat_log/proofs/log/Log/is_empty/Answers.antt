@@ -8,5 +8,5 @@ returns c =
     rw (
       ← c.self.view_is,
       length-lines_from 0 0 c.self.inside.heads.items c.self.inside.lits.items
-          c.self.inside.hints.items,
+          c.self.inside.hints,
     ) (search rules)

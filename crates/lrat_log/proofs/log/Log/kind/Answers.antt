@@ -14,4 +14,4 @@ returns c =
     below_heads _ _ _ _ _ c.self.view_is c.requires in
     rw (← c.self.view_is) (c.kind.ensures
     ∙ kind-line_at 0 0 c.self.inside.heads.items c.self.inside.lits.items
-    c.self.inside.hints.items c.args.line c.index.result.now h c.index.ensures)
+    c.self.inside.hints c.args.line c.index.result.now h c.index.ensures)

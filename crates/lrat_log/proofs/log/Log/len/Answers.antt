@@ -8,4 +8,4 @@ returns-clause-len c =
     let heads : c.len.result ≡ length c.self.inside.heads.items = search rules in
     rw (← c.self.view_is) (heads
     ∙ sym (length-lines_from 0 0 c.self.inside.heads.items c.self.inside.lits.items
-    c.self.inside.hints.items))
+    c.self.inside.hints))

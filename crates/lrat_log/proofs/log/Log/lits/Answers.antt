@@ -17,7 +17,7 @@ find_ends-end-requires c =
 placed : (c : After-find_ends-end)
     → Placed c.self.inside.lits.items c.find_ends-start.result.0 c.find_ends-end.result.0
     (line_at (lines_from 0 0 c.self.inside.heads.items c.self.inside.lits.items
-    c.self.inside.hints.items) c.args.line).clause
+    c.self.inside.hints) c.args.line).clause
 placed c =
     let h = below_heads _ _ _ _ _ c.self.view_is c.requires in
     let start = rw c.deref.ensures.value at c.find_ends-start.ensures.lits in

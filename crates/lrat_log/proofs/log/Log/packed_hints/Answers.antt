@@ -15,21 +15,21 @@ find_ends-end-requires c =
     rw c.deref-2.ensures.value (omega (arith, below_heads _ _ _ _ _ c.self.view_is c.requires))
 
 placed : (c : After-find_ends-end)
-    → Placed c.self.inside.hints.items c.find_ends-start.result.1 c.find_ends-end.result.1
+    → Placed c.self.inside.hints c.find_ends-start.result.1 c.find_ends-end.result.1
     (line_at (lines_from 0 0 c.self.inside.heads.items c.self.inside.lits.items
-    c.self.inside.hints.items) c.args.line).hints
+    c.self.inside.hints) c.args.line).hints
 placed c =
     let h = below_heads _ _ _ _ _ c.self.view_is c.requires in
     let start = rw c.deref.ensures.value at c.find_ends-start.ensures.hints in
     let end = rw c.deref-2.ensures.value at c.find_ends-end.ensures.hints in
     hints-line_at _ _ _ _ _ _ c.self.invariant.ends h start end
 
-pub cut_out-requires : goal.cut_out-requires
-cut_out-requires c =
-    let p = placed (goal.at.cut_out-requires c).After-find_ends-end in
-    rw c.deref-3.ensures.value (p.rising, p.within)
+pub part-requires : goal.part-requires
+part-requires c =
+    let p = placed (goal.at.part-requires c).After-find_ends-end in
+    (p.rising, p.within)
 
 pub returns-clause-hints : goal.returns-clause-hints
 returns-clause-hints c =
     let p = placed (goal.at.returns-clause-hints c).After-find_ends-end in
-    rw (← c.self.view_is) (rw c.deref-3.ensures.value at c.cut_out.ensures ∙ p.part_is)
+    rw (← c.self.view_is) (c.part.ensures ∙ p.part_is)

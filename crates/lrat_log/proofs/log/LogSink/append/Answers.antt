@@ -9,7 +9,7 @@ use Rattle.lrat_log.proofs.log.LogSink.append.Goals.{After-reserve}
 ends : (c : After-reserve)
     → (end_of_lits c.in_ok-head.head ≡ length c.self.inside.lits.items + length c.args.line.clause)
     × (end_of_hints c.in_ok-head.head
-    ≡ length c.self.inside.hints.items + length c.args.line.hints)
+    ≡ length c.self.inside.hints + length c.args.line.hints)
 ends c = search rules
 
 pub invariant_of-self-2 : goal.invariant_of-self-2
@@ -22,11 +22,11 @@ invariant_of-self-2 c =
       c.in_ok-reserve.ensures.items,
       c.in_ok-extend_from_slice.ensures.items,
       c.in_ok-reserve-2.ensures.items,
-      c.in_ok-push_hints.ensures.ok,
+      c.in_ok-extend.ensures.ok,
       c.lits-lits.ensures,
       c.hints-hints.ensures,
     )
-    (IsFlat-push c.self.inside.heads.items c.self.inside.lits.items c.self.inside.hints.items _
+    (IsFlat-push c.self.inside.heads.items c.self.inside.lits.items c.self.inside.hints _
     c.args.line c.self.invariant (c.in_ok-head.ensures.kind ∙ c.kind.ensures.kind) e.0 e.1 short
     c.kind.ensures.line)
 
@@ -38,10 +38,10 @@ returns-clause-ok c =
       c.in_ok-reserve.ensures.items,
       c.in_ok-extend_from_slice.ensures.items,
       c.in_ok-reserve-2.ensures.items,
-      c.in_ok-push_hints.ensures.ok,
+      c.in_ok-extend.ensures.ok,
       c.lits-lits.ensures,
       c.hints-hints.ensures,
       ← c.self.view_is,
     )
-    (lines_in-push c.self.inside.heads.items c.self.inside.lits.items c.self.inside.hints.items _
+    (lines_in-push c.self.inside.heads.items c.self.inside.lits.items c.self.inside.hints _
     c.args.line c.self.invariant (c.in_ok-head.ensures.kind ∙ c.kind.ensures.kind) e.0 e.1)
