@@ -1,4 +1,5 @@
 pub mod Solving
+pub mod GivenNumbers
 pub mod Invariant
 pub mod Hinting
 pub mod Running

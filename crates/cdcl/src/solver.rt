@@ -16,7 +16,7 @@ use crate::input::Input;
 use crate::outcome::{Outcome, SolveFault};
 use crate::search::Search;
 use crate::searching::{End, run};
-use crate::starting::{given_clauses, start, store_of};
+use crate::starting::{copy_of, start, store_of};
 use crate::tally::Tally;
 use crate::watch::{Unwatched, Watch};
 use cnf::types::{Formula, Lit};
@@ -65,7 +65,8 @@ impl<S: Sink> Model for Solver<S> {
 
 impl<S: Sink> Solver<S> {
     /// A solver for the formula, whose variables may be eliminated but for the frozen ones, by
-    /// variable from 1. Clauses that come later have frozen variables alone.
+    /// variable from 1. Clauses that come later have frozen variables alone. It copies both; `of`
+    /// takes them.
     ///
     /// # Errors
     ///
@@ -79,22 +80,39 @@ impl<S: Sink> Solver<S> {
         ensures lines { IfOk result (λ s. IsLogOver (given_to s) (S.lines s.sink)) }
         ensures none_learned { IfOk result (λ s. learned_count (S.lines s.sink) ≡ 0) }
     {
-        let _ = formula.vars();
-        let clauses = formula.clauses();
-        let mut store = store_of(clauses)?;
+        let copy = copy_of(formula)?;
+        let frozen = Vec::from_slice(formula.allocator(), frozen)?;
+        Solver::of(copy, frozen, sink)
+    }
+
+    /// As `new`, of a formula and frozen variables that are the solver's from then on.
+    ///
+    /// # Errors
+    ///
+    /// `AllocError` where memory was refused.
+    pub fn of(formula: Formula, frozen: Vec<bool>, sink: S) -> Result<Self, AllocError>
+        requires frozen { length frozen.items ≡ formula.variables }
+        requires empty { S.lines sink ≡ [] }
+        ensures given { IfOk result (λ s.
+            (s.formula ≡ formula) × (s.added ≡ []) × (s.frozen ≡ frozen.items)) }
+        ensures works { IfOk result (λ s. s.failed ≡ false) }
+        ensures lines { IfOk result (λ s. IsLogOver (given_to s) (S.lines s.sink)) }
+        ensures none_learned { IfOk result (λ s. learned_count (S.lines s.sink) ≡ 0) }
+    {
+        formula.limits();
+        let clauses = formula.into_clauses();
+        let mut store = store_of(&clauses)?;
         let mut tally = Tally {
             sink,
             additions: 0,
             refuted: false,
         };
-        let mut stack = eliminate(&mut store, frozen, &mut tally)?;
-        // Preprocessing takes much memory for a while, so what stays is made after it.
-        let given = given_clauses(clauses)?;
+        let mut stack = eliminate(&mut store, &frozen, &mut tally)?;
+        let given = GivenClauses::of(clauses)?;
         let first = given.len();
         tally.is_short();
         let search = start(store, &stack, tally.additions)?;
         stack.forget_names();
-        let frozen = Vec::from_slice(formula.allocator(), frozen)?;
         let Tally { sink, refuted, .. } = tally;
         Ok(Solver {
             search,

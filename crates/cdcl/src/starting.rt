@@ -6,14 +6,13 @@ ghost use Rattle.propagate.specs.Fits.{Fits};
 ghost use Rattle.lrat_log.specs.Log.{number_in};
 ghost use Rattle.cdcl.specs.Invariant.{name_at};
 ghost use Rattle.cdcl.specs.Starts.{AreRising, IsLiveWithin, IsStarted};
-ghost use Rattle.lrat_log.specs.Steps.{given_of};
 
-use crate::given::GivenClauses;
 use crate::search::Search;
 use analyze::learning::Analyzer;
 use cdcl_order::policy::Policy;
 use clauses::store::{CRef, MaybeCRef, Store};
 use cnf::clause_list::ClauseList;
+use cnf::types::Formula;
 use eliminate::elimination::Stack;
 use lrat_log::lines::{Name, Number};
 use lrat_log::packed_name::PackedName;
@@ -31,16 +30,16 @@ pub(crate) fn store_of(clauses: &ClauseList) -> Result<Store, AllocError>
     Ok(store)
 }
 
-/// The clauses of a formula by name.
-pub(crate) fn given_clauses(clauses: &ClauseList) -> Result<GivenClauses, AllocError>
-    ensures { IfOk result (λ given. given ≡ given_of clauses.now) }
+/// The same formula once more.
+pub(crate) fn copy_of(formula: &Formula) -> Result<Formula, AllocError>
+    ensures { IfOk result (λ copy. copy ≡ formula.now) }
 {
-    let mut given = GivenClauses::new(clauses.allocator());
-    for clause in clauses.iter() {
-        let number = Number::new(given.len() as u64 + 1);
-        given.push(number, clause)?;
+    let vars = formula.vars();
+    let mut clauses = ClauseList::new(formula.allocator());
+    for clause in formula.clauses().iter() {
+        clauses.push(clause)?;
     }
-    Ok(given)
+    Ok(Formula::new(vars, clauses))
 }
 
 /// The names of the clauses by place.

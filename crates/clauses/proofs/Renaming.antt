@@ -184,11 +184,9 @@ pub brought_together : (ls ms : List Literal) (hs ks : List Head) → AllLive ks
 brought_together ls ms hs ks live same = slots_of_live ms ks live
     ∙ ap (map Some) (same ∙ sym (clauses_of_slots ls hs))
 
-pub compacted : (ls ms : List Literal) (hs ks : List Head) (moves : Renaming) → AllLive ks
-    → clauses_in ms ks ≡ clauses_in ls hs → moves ≡ moves_of (slots_of ls hs)
-    → IsRenaming (slots_of ls hs) (slots_of ms ks) moves
-compacted ls ms hs ks moves live same is =
-    rw (brought_together ls ms hs ks live same, is) (renaming_together (slots_of ls hs))
+pub renamed_together : (old new : Slots) (moves : Renaming) → new ≡ map Some (live_clauses old)
+    → moves ≡ moves_of old → IsRenaming old new moves
+renamed_together old new moves together is = rw (together, is) (renaming_together old)
 
 -- the room of live clauses without gaps
 room_laid : (ls : List Literal) (from to : ℕ) (hs : List Head) → IsLaid from hs to → to ≤ length ls

@@ -226,8 +226,18 @@ impl Store {
         ensures err { OnErr result (self.new ≡ self.old) }
     {
         let pairs = list_moves(*self.literals.allocator(), &self.heads)?;
-        compact(&mut self.heads, &mut self.literals);
+        self.move_together();
         Ok(Moves { pairs })
+    }
+
+    /// Moves the live clauses together as `compact` does, for a caller that needs no list of the
+    /// moves: the new reference of a clause is the number of live clauses before it. It takes no
+    /// memory.
+    pub fn move_together(&mut self)
+        ensures together { self.new.slots ≡ map Some (live_clauses self.old.slots) }
+        ensures used { self.new.used ≡ room_of (live_clauses self.new.slots) }
+    {
+        compact(&mut self.heads, &mut self.literals);
     }
 
     /// Gives back the memory that the clauses do not need. A compaction keeps it, for clauses that

@@ -1,11 +1,17 @@
-use Rattle.std.proofs.Common.{length, ap, arith}
+use Rattle.std.proofs.Common.{◌≡◌, ◌+◌, ◌∙◌, List, ℕ, length, ap, arith, sym}
 use Rattle.clauses.proofs.Laws.{length-zipped}
 use Rattle.cdcl.specs.Solving.{given_as}
+use Rattle.cdcl.specs.GivenNumbers.{numbers_with}
+use Rattle.cdcl.proofs.GivenList.{length-numbers}
 use Rattle.cdcl.proofs.given.GivenClauses.len.Goals as goal
 
 pub returns-clause-len : goal.returns-clause-len
 returns-clause-len c =
+    let first = c.self.inside.first in
+    let later : List ℕ = c.self.inside.later.items in
+    let many = length-numbers first later in
     let long =
-    length-zipped given_as c.self.inside.numbers.items c.self.inside.clauses c.self.invariant.0 in
+    length-zipped given_as (numbers_with first later) c.self.inside.clauses
+    (c.self.invariant.0 ∙ sym many) in
     let seen = ap length c.self.view_is in
-    omega (arith, long, seen, c.len.ensures, c.self.inside.numbers.ok.0)
+    omega (arith, long, seen, many, c.self.invariant.0, c.len.ensures)

@@ -1,20 +1,24 @@
-use Rattle.std.proofs.Common.{length, ap, arith}
+use Rattle.std.proofs.Common.{◌∙◌, length, ap, arith, sym}
 use Rattle.clauses.proofs.Laws.{length-zipped}
 use Rattle.cdcl.specs.Solving.{given_as}
-use Rattle.cdcl.proofs.GivenList.{listed_clauses}
+use Rattle.cdcl.specs.GivenNumbers.{numbers_with}
+use Rattle.cdcl.proofs.GivenList.{listed_clauses, length-numbers}
 use Rattle.cdcl.proofs.given.GivenClauses.lits.Goals as goal
 
 pub get-requires : goal.get-requires
 get-requires c =
+    let ns = numbers_with c.self.inside.first c.self.inside.later.items in
+    let many = length-numbers c.self.inside.first c.self.inside.later.items in
     let long =
-    length-zipped given_as c.self.inside.numbers.items c.self.inside.clauses c.self.invariant.0 in
+    length-zipped given_as ns c.self.inside.clauses (c.self.invariant.0 ∙ sym many) in
     let seen = ap length c.self.view_is in
-    let same = c.self.invariant.0 in
-    omega (arith, long, seen, same, c.requires)
+    omega (arith, long, seen, many, c.self.invariant.0, c.requires)
 
 pub returns : goal.returns
 returns c =
+    let many = length-numbers c.self.inside.first c.self.inside.later.items in
     rw (
       ← c.self.view_is,
-      listed_clauses c.self.inside.numbers.items c.self.inside.clauses c.self.invariant.0,
+      listed_clauses (numbers_with c.self.inside.first c.self.inside.later.items)
+          c.self.inside.clauses (c.self.invariant.0 ∙ sym many),
     ) c.get.ensures

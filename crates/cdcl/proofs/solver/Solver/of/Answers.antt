@@ -1,5 +1,5 @@
 -- What elimination leaves starts the search.
-use Rattle.std.proofs.Common.{◌≡◌, ◌<◌, ◌≤◌, ◌+◌, ◌^◌, List, length, take, map, sym}
+use Rattle.std.proofs.Common.{◌≡◌, ◌<◌, ◌≤◌, ◌+◌, ◌^◌, List, length, take, map, refl, sym}
 use Rattle.std.proofs.Common.{◌∙◌, ap, subst, arith}
 use Rattle.std.specs.Prelude.{All}
 use Rattle.std.proofs.lemmas.List.{drop_all, length-map}
@@ -15,47 +15,49 @@ use Rattle.cdcl.proofs.Placing.{added_few}
 use Rattle.cdcl.proofs.FirstRun.{IsLeft, formula_again, left_from, live_map, left_rising, left_live}
 use Rattle.cdcl.proofs.FirstRun.{left_within, left_numbers, new_input, first_clauses, first_runs}
 use Rattle.cdcl.proofs.Answered.{log_now}
-use Rattle.cdcl.proofs.solver.Solver.new.Goals as goal
-use Rattle.cdcl.proofs.solver.Solver.new.Goals.{After-is_short}
+use Rattle.cdcl.proofs.solver.Solver.of.Goals as goal
+use Rattle.cdcl.proofs.solver.Solver.of.Goals.{After-is_short}
 
 -- what elimination has left
 left : (g : _) (c : After-is_short g)
-    → IsLeft c.clauses-clauses.result.now c.eliminate.new.store.slots c.in_ok-stack.stack
+    → IsLeft c.into_clauses-clauses.result c.eliminate.new.store.slots c.in_ok-stack.stack
     (g.S.Sink.lines c.eliminate.new.sink.sink)
 left g c =
-    left_from c.clauses-clauses.result.now (live_clauses c.in_ok-store.store.slots)
+    left_from c.into_clauses-clauses.result (live_clauses c.in_ok-store.store.slots)
     c.eliminate.new.store.slots c.in_ok-stack.stack (g.S.Sink.lines c.eliminate.new.sink.sink)
-    (ap live_clauses c.in_ok-store.ensures ∙ live_map c.clauses-clauses.result.now)
+    (ap live_clauses c.in_ok-store.ensures ∙ live_map c.into_clauses-clauses.result)
     c.in_ok-stack.ensures.live c.in_ok-stack.ensures.left
 
 pub eliminate-requires-clause-formula : goal.eliminate-requires-clause-formula
 eliminate-requires-clause-formula g c =
-    formula_again c.args.formula.now (length c.args.frozen.now)
-    (live_clauses c.in_ok-store.store.slots) c.vars.ensures.limits c.requires.frozen
-    (ap live_clauses c.in_ok-store.ensures ∙ live_map c.clauses-clauses.result.now
-    ∙ c.clauses-clauses.ensures)
+    formula_again c.args.formula (length c.deref.result.now)
+    (live_clauses c.in_ok-store.store.slots) c.limits.ensures
+    (ap length c.deref.ensures.value ∙ c.requires.frozen)
+    (ap live_clauses c.in_ok-store.ensures ∙ live_map c.into_clauses-clauses.result
+    ∙ c.into_clauses-clauses.ensures)
 
 pub start-requires-clause-few : goal.start-requires-clause-few
 start-requires-clause-few g c =
-    let few = subst (λ n. n < 2 ^ 26) (sym c.requires.frozen) c.vars.ensures.limits.few in
+    let few = subst (λ n. n < 2 ^ 26) (sym c.requires.frozen) c.limits.ensures.few in
     let v = c.in_ok-stack.ensures.variables in
-    omega (arith, v.1, few)
+    let wide = ap length c.deref.ensures.value in
+    omega (arith, v.1, few, wide)
 
 pub start-requires-clause-within : goal.start-requires-clause-within
 start-requires-clause-within g c =
-    left_within c.clauses-clauses.result.now c.eliminate.new.store.slots c.in_ok-stack.stack
+    left_within c.into_clauses-clauses.result c.eliminate.new.store.slots c.in_ok-stack.stack
     (g.S.Sink.lines c.eliminate.new.sink.sink)
     (left g (goal.at.start-requires-clause-within g c).After-is_short)
 
 pub start-requires-clause-rising : goal.start-requires-clause-rising
 start-requires-clause-rising g c =
-    left_rising c.clauses-clauses.result.now c.eliminate.new.store.slots c.in_ok-stack.stack
+    left_rising c.into_clauses-clauses.result c.eliminate.new.store.slots c.in_ok-stack.stack
     (g.S.Sink.lines c.eliminate.new.sink.sink)
     (left g (goal.at.start-requires-clause-rising g c).After-is_short)
 
 pub start-requires-clause-live : goal.start-requires-clause-live
 start-requires-clause-live g c =
-    left_live c.clauses-clauses.result.now c.eliminate.new.store.slots c.in_ok-stack.stack
+    left_live c.into_clauses-clauses.result c.eliminate.new.store.slots c.in_ok-stack.stack
     (g.S.Sink.lines c.eliminate.new.sink.sink)
     (left g (goal.at.start-requires-clause-live g c).After-is_short)
 
@@ -65,48 +67,48 @@ start-requires-clause-numbers g c =
     let few =
     added_few ls c.eliminate.new.sink.additions c.eliminate.new.sink.counted c.is_short.ensures in
     let same = c.eliminate.new.sink.counted in
-    let cs = c.clauses-clauses.result.now in
+    let cs = c.into_clauses-clauses.result in
     let firsts = c.len-first.ensures in
     let numbered = ap length c.in_ok-given.ensures in
     let alone = length-map (given_of cs) (λ (g : Name × List Literal). g.1) in
     let many = ap length (clauses_given cs) in
-    left_numbers c.clauses-clauses.result.now c.eliminate.new.store.slots c.in_ok-stack.stack ls
+    left_numbers c.into_clauses-clauses.result c.eliminate.new.store.slots c.in_ok-stack.stack ls
     (left g (goal.at.start-requires-clause-numbers g c).After-is_short)
     (omega (arith, few, same, firsts.len, firsts.few, numbered, alone, many))
 
 pub invariant_of-result : goal.invariant_of-result
 invariant_of-result g c =
-    let cs = c.clauses-clauses.result.now in
+    let cs = c.into_clauses-clauses.result in
     let slots = c.eliminate.new.store.slots in
     let ls = g.S.Sink.lines c.eliminate.new.sink.sink in
     let e = ap live_clauses c.in_ok-store.ensures ∙ live_map cs in
     let stack = c.in_ok-stack.ensures in
     let rest = left g (goal.at.invariant_of-result g c).After-is_short in
-    let frozen : (c.in_ok-frozen.frozen).items ≡ c.args.frozen.now = c.in_ok-frozen.ensures.items in
+    let frozen : c.args.frozen.items ≡ c.deref.result.now = sym c.deref.ensures.value in
     let p : Input =
     record {
       stack = c.forget_names.new.self;
-      frozen = c.in_ok-frozen.frozen;
+      frozen = c.args.frozen;
       first = c.len-first.result;
       given = c.in_ok-given.given;
     } in
     let wide : c.forget_names.new.self.variables ≡ c.in_ok-stack.stack.variables =
     ap (λ (k : StackState). k.variables) c.forget_names.ensures in
     let firsts : c.len-first.result ≡ length c.in_ok-given.given = c.len-first.ensures.len in
-    let stays : StaysLogOver (length (c.in_ok-frozen.frozen).items) (given_of cs) ls =
+    let stays : StaysLogOver (length c.args.frozen.items) (given_of cs) ls =
     subst (λ f. StaysLogOver (length f) (given_of cs) ls) (sym frozen)
-    (subst (λ x. StaysLogOver (length c.args.frozen.now) (given_of x) ls) e stack.lines) in
+    (subst (λ x. StaysLogOver (length c.deref.result.now) (given_of x) ls) e stack.lines) in
     let few =
     added_few ls c.eliminate.new.sink.additions c.eliminate.new.sink.counted c.is_short.ensures in
     record {
-      input = new_input c.args.formula.now p cs c.vars.ensures.limits c.clauses-clauses.ensures
-          (ap length frozen ∙ c.requires.frozen) c.in_ok-given.ensures firsts
+      input = new_input c.args.formula p cs c.limits.ensures c.into_clauses-clauses.ensures
+          c.requires.frozen c.in_ok-given.ensures firsts
           (subst (λ f. length f ≤ p.stack.variables) (sym frozen)
-          (subst (λ n. length c.args.frozen.now ≤ n) (sym wide) stack.variables.0))
+          (subst (λ n. length c.deref.result.now ≤ n) (sym wide) stack.variables.0))
           (subst (λ f. p.stack.variables ≤ length f + 2 ^ 20) (sym frozen)
-          (subst (λ n. n ≤ length c.args.frozen.now + 2 ^ 20) (sym wide) stack.variables.1));
+          (subst (λ n. n ≤ length c.deref.result.now + 2 ^ 20) (sym wide) stack.variables.1));
       lines =
-          subst (λ x. StaysLogOver (length (c.in_ok-frozen.frozen).items) x ls)
+          subst (λ x. StaysLogOver (length c.args.frozen.items) x ls)
           (sym c.in_ok-given.ensures) stays;
       refuted_is = c.eliminate.new.sink.told;
       running =
@@ -123,52 +125,50 @@ invariant_of-result g c =
 
 pub returns-clause-given : goal.returns-clause-given
 returns-clause-given g c =
-    let cs = c.clauses-clauses.result.now in
-    let frozen : (c.in_ok-frozen.frozen).items ≡ c.args.frozen.now = c.in_ok-frozen.ensures.items in
+    let cs = c.into_clauses-clauses.result in
     let p : Input =
     record {
       stack = c.forget_names.new.self;
-      frozen = c.in_ok-frozen.frozen;
+      frozen = c.args.frozen;
       first = c.len-first.result;
       given = c.in_ok-given.given;
     } in
     let firsts : c.len-first.result ≡ length c.in_ok-given.given = c.len-first.ensures.len in
-    let wide : length (c.in_ok-frozen.frozen).items ≡ c.args.formula.now.variables =
-    ap length frozen ∙ c.requires.frozen in
+    let wide : length c.args.frozen.items ≡ c.args.formula.variables = c.requires.frozen in
     let same : map (λ x. x.1) (take c.len-first.result c.in_ok-given.given)
-    ≡ c.args.formula.now.clauses = first_clauses p cs c.in_ok-given.ensures firsts
-    ∙ c.clauses-clauses.ensures in (
+    ≡ c.args.formula.clauses = first_clauses p cs c.in_ok-given.ensures firsts
+    ∙ c.into_clauses-clauses.ensures in (
       λ i. record { variables = wide i; clauses = same i },
       drop_all c.len-first.result c.in_ok-given.given (omega arith),
-      frozen,
+      refl,
     )
 
 pub returns-clause-lines : goal.returns-clause-lines
 returns-clause-lines g c =
-    let cs = c.clauses-clauses.result.now in
+    let cs = c.into_clauses-clauses.result in
     let ls = g.S.Sink.lines c.eliminate.new.sink.sink in
     let e = ap live_clauses c.in_ok-store.ensures ∙ live_map cs in
     let stack = c.in_ok-stack.ensures in
-    let frozen : (c.in_ok-frozen.frozen).items ≡ c.args.frozen.now = c.in_ok-frozen.ensures.items in
+    let frozen : c.args.frozen.items ≡ c.deref.result.now = sym c.deref.ensures.value in
     let p : Input =
     record {
       stack = c.forget_names.new.self;
-      frozen = c.in_ok-frozen.frozen;
+      frozen = c.args.frozen;
       first = c.len-first.result;
       given = c.in_ok-given.given;
     } in
     let wide : c.forget_names.new.self.variables ≡ c.in_ok-stack.stack.variables =
     ap (λ (k : StackState). k.variables) c.forget_names.ensures in
     let firsts : c.len-first.result ≡ length c.in_ok-given.given = c.len-first.ensures.len in
-    let stays : StaysLogOver (length (c.in_ok-frozen.frozen).items) (given_of cs) ls =
+    let stays : StaysLogOver (length c.args.frozen.items) (given_of cs) ls =
     subst (λ f. StaysLogOver (length f) (given_of cs) ls) (sym frozen)
-    (subst (λ x. StaysLogOver (length c.args.frozen.now) (given_of x) ls) e stack.lines) in
+    (subst (λ x. StaysLogOver (length c.deref.result.now) (given_of x) ls) e stack.lines) in
     let input =
-    new_input c.args.formula.now p cs c.vars.ensures.limits c.clauses-clauses.ensures
-    (ap length frozen ∙ c.requires.frozen) c.in_ok-given.ensures firsts
+    new_input c.args.formula p cs c.limits.ensures c.into_clauses-clauses.ensures
+    c.requires.frozen c.in_ok-given.ensures firsts
     (subst (λ f. length f ≤ p.stack.variables) (sym frozen)
-    (subst (λ n. length c.args.frozen.now ≤ n) (sym wide) stack.variables.0))
+    (subst (λ n. length c.deref.result.now ≤ n) (sym wide) stack.variables.0))
     (subst (λ f. p.stack.variables ≤ length f + 2 ^ 20) (sym frozen)
-    (subst (λ n. n ≤ length c.args.frozen.now + 2 ^ 20) (sym wide) stack.variables.1)) in
-    log_now p ls input (subst (λ x. StaysLogOver (length (c.in_ok-frozen.frozen).items) x ls)
+    (subst (λ n. n ≤ length c.deref.result.now + 2 ^ 20) (sym wide) stack.variables.1)) in
+    log_now p ls input (subst (λ x. StaysLogOver (length c.args.frozen.items) x ls)
     (sym c.in_ok-given.ensures) stays)
