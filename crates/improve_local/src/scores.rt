@@ -4,21 +4,24 @@
 // All of it is policy: nothing is known of it but that no step of it can fail. A place outside its
 // table has no effect, and sums stop at the ends of their range.
 //
-// Soft clauses weigh what they cost, and hard ones become heavier and lighter.
+// Soft clauses weigh what they cost, and hard ones become heavier and lighter. A start of half of
+// the mean weight of a soft clause is as good on small texts. On one with 500,000 variables it
+// lets the search leave the solutions for good, as far as its visits last.
 use crate::checked::{at, fill, narrow, set};
 use crate::clauses::{Occurrences, count, lits, price};
 use crate::group::Group;
 use cnf::types::{Instance, Lit};
 use std::alloc::{AllocError, Global};
 
-/// So many units are the mean weight of a soft clause.
+/// A unit is this part of the mean weight of a soft clause.
 const UNITS: u64 = 16;
 
-/// Weights of less than this together are counted in parts of one, as many as units.
+/// Prices of less than this together, 2^58, are multiplied by `UNITS`, so that a unit is a whole
+/// number.
 const SMALL: u64 = 288_230_376_151_711_744;
 
 /// A hard clause weighs so many units at the start,
-const HARD_START: i64 = 24;
+const HARD_START: i64 = 16;
 
 /// and no less than so many later.
 const HARD_LEAST: i64 = 3;

@@ -1,4 +1,10 @@
 // The steps of the search, and how each chooses the variable to flip.
+//
+// Tried: soft clauses that become heavier too, up to twenty times their price, with hard ones that
+// never become lighter. The search then comes to the right weights once and goes past them, and it
+// found the optimum less often. One round in place of two, with as many visits, is no worse but
+// where hard clauses are few. A sample of 20 is no better than one of 10. docs/EXPERIMENTS.md has
+// the numbers.
 use crate::best::Best;
 use crate::checked::{at, set};
 use crate::clauses::{Occurrences, lits};
@@ -11,13 +17,13 @@ use std::alloc::{AllocError, Global};
 const ROUNDS: u64 = 2;
 
 /// A round takes so many visits for each literal of the instance,
-const VISITS: u64 = 150;
+const VISITS: u64 = 120;
 
 /// and all of them at most so many.
 const MOST_VISITS: u64 = 10_000_000;
 
 /// The best of so many good variables is flipped.
-const SAMPLE: usize = 20;
+const SAMPLE: usize = 10;
 
 /// A variable that was flipped is not again for so many flips.
 const TABU: u64 = 2;
@@ -29,7 +35,7 @@ const HEAVIER: usize = 16;
 const LIGHTER: usize = 64;
 
 /// and no more than this part of all hard clauses.
-const LIGHTER_PART: usize = 16;
+const LIGHTER_PART: usize = 8;
 
 /// A search that is under way.
 #[derive(Drop)]
