@@ -13,6 +13,13 @@ pub(crate) fn set<T: Drop>(table: &mut [T], place: usize, value: T) {
     }
 }
 
+/// Writes at each place.
+pub(crate) fn fill<T: Copy + Drop>(table: &mut [T], value: T) {
+    for slot in table.iter_mut() {
+        *slot = value;
+    }
+}
+
 /// The number in four bytes; the greatest of those where it has no room.
 pub(crate) fn narrow(number: usize) -> u32 {
     u32::try_from(number).unwrap_or(u32::MAX)

@@ -20,6 +20,11 @@ impl Group {
         Ok(Group { members, places })
     }
 
+    /// Takes all out.
+    pub(crate) fn clear(&mut self) {
+        self.members.clear();
+    }
+
     /// How many are in it.
     pub(crate) fn len(&self) -> usize {
         self.members.len()

@@ -1,6 +1,7 @@
 //! A local search: a solution becomes cheaper before any bound is built.
 #![tactic(auto)]
 
+mod best;
 mod checked;
 mod clauses;
 mod draws;

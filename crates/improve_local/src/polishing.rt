@@ -1,11 +1,12 @@
-// Making a solution cheaper: a local search over all clauses, where clauses that stay false become
-// heavier (Lei and Cai, "Solving (Weighted) Partial MaxSAT by Dynamic Local Search for SAT", IJCAI
-// 2018).
+// Making a solution cheaper: a local search over all clauses, where hard clauses that stay false
+// become heavier (after Lei and Cai, "Solving (Weighted) Partial MaxSAT by Dynamic Local Search for
+// SAT", IJCAI 2018, where soft ones become heavier too).
 //
 // A step flips the best of some variables whose flip betters more weight than it worsens. Where
-// there is none, each false clause becomes heavier, a soft one up to a bound, and a variable of one
-// of them is flipped. What the search finds counts only where it is judged to be a solution that
-// costs no more, so nothing has to be known of the search itself.
+// there is none, false hard clauses become heavier, or some hard clauses lighter where none is
+// false, and a variable of a false clause is flipped. So the search goes to and fro between
+// solutions and cheap bits that miss a few hard clauses. What it finds counts only where it is
+// judged to be a solution that costs no more, so nothing has to be known of the search itself.
 ghost use Rattle.std.specs.Prelude.{◌≡◌, ◌≤◌, IsTrue, length};
 ghost use Rattle.cnf.specs.Literal.{Assignment};
 ghost use Rattle.cnf.specs.Bits.{Extends};
@@ -55,11 +56,9 @@ fn is_solution(instance: &Instance, bits: &[bool], most: u64) -> bool
 /// The best bits that a search from these meets.
 fn search(instance: &Instance, bits: &[bool]) -> Result<Vec<bool>, AllocError> {
     let alloc = instance.allocator();
-    let mut from = Vec::new(alloc);
-    from.extend_from_slice(bits)?;
-    let mut best = Vec::new(alloc);
-    best.extend_from_slice(bits)?;
+    let mut first = Vec::new(alloc);
+    first.extend_from_slice(bits)?;
     let places = Occurrences::new(alloc, instance)?;
-    let walk = Walk::new(alloc, instance, from, best)?;
+    let walk = Walk::new(alloc, instance, first)?;
     Ok(walk.finish(instance, &places))
 }

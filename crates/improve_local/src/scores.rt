@@ -3,14 +3,28 @@
 //
 // All of it is policy: nothing is known of it but that no step of it can fail. A place outside its
 // table has no effect, and sums stop at the ends of their range.
-use crate::checked::{at, narrow, set};
+//
+// Soft clauses weigh what they cost, and hard ones become heavier and lighter. A start of half of
+// the mean weight of a soft clause is as good on small texts. On one with 500,000 variables it
+// lets the search leave the solutions for good, as far as its visits last.
+use crate::checked::{at, fill, narrow, set};
 use crate::clauses::{Occurrences, count, lits, price};
 use crate::group::Group;
 use cnf::types::{Instance, Lit};
 use std::alloc::{AllocError, Global};
 
-/// The weight of a hard clause at the start, in mean weights of a soft one.
-const HARD_START: i64 = 3;
+/// A unit is this part of the mean weight of a soft clause.
+const UNITS: u64 = 16;
+
+/// Prices of less than this together, 2^58, are multiplied by `UNITS`, so that a unit is a whole
+/// number.
+const SMALL: u64 = 288_230_376_151_711_744;
+
+/// A hard clause weighs so many units at the start,
+const HARD_START: i64 = 16;
+
+/// and no less than so many later.
+const HARD_LEAST: i64 = 3;
 
 /// The bits, and the tables that go with them. Variables and clauses are numbers from 0.
 #[derive(Drop)]
@@ -22,8 +36,8 @@ pub(crate) struct Scores {
     // By clause, the variables of its true literals, each bit with an odd number of them: where one
     // literal is true, its variable.
     true_variables: Vec<u32>,
-    /// By clause, its weight in the scores, from 0: the greater, the longer it was false.
-    pub(crate) weights: Vec<i64>,
+    // By clause, its weight in the scores, from 0.
+    weights: Vec<i64>,
     // By variable, the weights of the clauses that its flip makes true, less those of the clauses
     // that it makes false.
     scores: Vec<i64>,
@@ -35,37 +49,55 @@ pub(crate) struct Scores {
     pub(crate) false_soft: Group,
     /// What the bits cost.
     pub(crate) cost: u64,
-    /// The mean weight of a soft clause, from 1.
-    pub(crate) unit: i64,
+    // What a soft clause weighs for each 1 that it costs: `UNITS`, or 1 where prices are great.
+    scale: u64,
+    // What a hard clause becomes heavier or lighter by, from 1.
+    unit: i64,
+    // The hard clause that becomes lighter next.
+    next_hard: usize,
     /// How many literals and clauses were visited.
     pub(crate) work: u64,
 }
 
 impl Scores {
-    /// What is known of these bits.
-    pub(crate) fn new(
-        alloc: Global,
-        instance: &Instance,
-        bits: Vec<bool>,
-    ) -> Result<Self, AllocError> {
+    /// Tables for bits that are not known yet, each of them false.
+    pub(crate) fn new(alloc: Global, instance: &Instance) -> Result<Self, AllocError> {
         let clauses = count(instance);
-        let variables = bits.len();
-        let unit = mean_weight(instance);
-        let mut scores = Scores {
-            bits,
+        let variables = instance.vars() as usize;
+        let sum = sum_of_prices(instance);
+        let scale = if sum < SMALL { UNITS } else { 1 };
+        let soft_clauses = instance.soft().len().max(1) as u64;
+        let unit = (sum / soft_clauses).saturating_mul(scale) / UNITS;
+        Ok(Scores {
+            bits: Vec::from_elem(alloc, false, variables)?,
             true_counts: Vec::from_elem(alloc, 0, clauses)?,
             true_variables: Vec::from_elem(alloc, 0, clauses)?,
-            weights: Vec::from_elem(alloc, unit.saturating_mul(HARD_START), clauses)?,
+            weights: Vec::from_elem(alloc, 0, clauses)?,
             scores: Vec::from_elem(alloc, 0, variables)?,
             good: Group::new(alloc, variables)?,
             false_hard: Group::new(alloc, clauses)?,
             false_soft: Group::new(alloc, clauses)?,
             cost: 0,
-            unit,
+            scale,
+            unit: i64::try_from(unit).unwrap_or(i64::MAX).max(1),
+            next_hard: 0,
             work: 0,
-        };
-        scores.judge_all(instance);
-        Ok(scores)
+        })
+    }
+
+    /// Begins with these bits, and with the weights of the start.
+    pub(crate) fn begin(&mut self, instance: &Instance, bits: &[bool]) {
+        for (place, bit) in self.bits.iter_mut().enumerate() {
+            *bit = at(bits, place);
+        }
+        fill(&mut self.true_counts, 0);
+        fill(&mut self.true_variables, 0);
+        fill(&mut self.scores, 0);
+        self.good.clear();
+        self.false_hard.clear();
+        self.false_soft.clear();
+        self.cost = 0;
+        self.judge_all(instance);
     }
 
     /// What the flip of a variable would better.
@@ -90,11 +122,36 @@ impl Scores {
         self.change(variable, back);
     }
 
-    /// A clause becomes heavier by so much, where it is false.
-    pub(crate) fn weigh(&mut self, instance: &Instance, number: u32, by: i64) {
-        let weight = at(&self.weights, number as usize).saturating_add(by);
+    /// A hard clause that is false becomes heavier by a unit.
+    pub(crate) fn weigh(&mut self, instance: &Instance, number: u32) {
+        let weight = at(&self.weights, number as usize).saturating_add(self.unit);
         set(&mut self.weights, number as usize, weight);
-        self.change_all(instance, number, by);
+        self.change_all(instance, number, self.unit);
+    }
+
+    /// So many hard clauses become lighter by a unit, each in its turn. All of them are true.
+    pub(crate) fn lighten(&mut self, instance: &Instance, clauses: usize) {
+        let hard = instance.hard().len();
+        for _clause in 0..clauses.min(hard) {
+            let place = self.next_hard;
+            let next = place.saturating_add(1);
+            self.next_hard = if next < hard { next } else { 0 };
+            self.lighten_one(place);
+        }
+    }
+
+    // A hard clause that is true becomes lighter by a unit, unless it is as light as it gets.
+    fn lighten_one(&mut self, place: usize) {
+        self.work = self.work.saturating_add(1);
+        let weight = at(&self.weights, place).saturating_sub(self.unit);
+        if weight < self.unit.saturating_mul(HARD_LEAST) {
+            return;
+        }
+        set(&mut self.weights, place, weight);
+        if at(&self.true_counts, place) == 1 {
+            let only = at(&self.true_variables, place);
+            self.change(only, self.unit);
+        }
     }
 
     // Begins: what each clause adds to the scores.
@@ -102,10 +159,13 @@ impl Scores {
         let hard = instance.hard().len();
         for place in 0..count(instance) {
             let number = narrow(place);
-            if place >= hard {
-                let price = i64::try_from(price(instance, number)).unwrap_or(i64::MAX);
-                set(&mut self.weights, place, price);
-            }
+            let weight = if place < hard {
+                self.unit.saturating_mul(HARD_START)
+            } else {
+                let weight = price(instance, number).saturating_mul(self.scale);
+                i64::try_from(weight).unwrap_or(i64::MAX)
+            };
+            set(&mut self.weights, place, weight);
             for lit in lits(instance, number) {
                 let variable = lit.variable() - 1;
                 if is_true(&self.bits, *lit) {
@@ -211,14 +271,13 @@ impl Scores {
     }
 }
 
-/// The mean weight of the soft clauses, from 1.
-fn mean_weight(instance: &Instance) -> i64 {
+/// What all soft clauses cost together.
+fn sum_of_prices(instance: &Instance) -> u64 {
     let mut sum = 0u64;
     for soft in instance.soft() {
         sum = sum.saturating_add(soft.weight());
     }
-    let count = instance.soft().len().max(1) as u64;
-    i64::try_from(sum / count).unwrap_or(i64::MAX).max(1)
+    sum
 }
 
 /// Whether the bits make the literal true.

@@ -1,28 +1,41 @@
 // The steps of the search, and how each chooses the variable to flip.
+//
+// Tried: soft clauses that become heavier too, up to twenty times their price, with hard ones that
+// never become lighter. The search then comes to the right weights once and goes past them, and it
+// found the optimum less often. One round in place of two, with as many visits, is no worse but
+// where hard clauses are few. A sample of 20 is no better than one of 10. docs/EXPERIMENTS.md has
+// the numbers.
+use crate::best::Best;
 use crate::checked::{at, set};
-use crate::clauses::{Occurrences, lits, price};
+use crate::clauses::{Occurrences, lits};
 use crate::draws::Draws;
 use crate::scores::Scores;
 use cnf::types::Instance;
 use std::alloc::{AllocError, Global};
 
-/// So many visits for each literal of the instance,
-const VISITS: u64 = 300;
+/// There are so many rounds: each goes on from the best bits with the weights of the start.
+const ROUNDS: u64 = 2;
 
-/// and at most so many.
+/// A round takes so many visits for each literal of the instance,
+const VISITS: u64 = 120;
+
+/// and all of them at most so many.
 const MOST_VISITS: u64 = 10_000_000;
 
 /// The best of so many good variables is flipped.
-const SAMPLE: usize = 20;
+const SAMPLE: usize = 10;
 
 /// A variable that was flipped is not again for so many flips.
 const TABU: u64 = 2;
 
-/// A soft clause weighs at most so many times its price, with one growth more,
-const MOST_TIMES: i64 = 20;
+/// So many hard clauses that are false become heavier at a time,
+const HEAVIER: usize = 16;
 
-/// and grows by this part of its price.
-const SOFT_PART: i64 = 2;
+/// or so many that are true lighter,
+const LIGHTER: usize = 64;
+
+/// and no more than this part of all hard clauses.
+const LIGHTER_PART: usize = 8;
 
 /// A search that is under way.
 #[derive(Drop)]
@@ -35,26 +48,26 @@ pub(crate) struct Walk {
     flips: u64,
     // What the best bits cost that met all hard clauses.
     best_cost: u64,
-    // Those bits, as many as variables.
-    best: Vec<bool>,
+    // Those bits.
+    best: Best,
     // What is drawn.
     draws: Draws,
 }
 
 impl Walk {
-    /// A search from bits that meet the hard clauses. There is a second copy of them.
+    /// A search from bits that meet the hard clauses.
     pub(crate) fn new(
         alloc: Global,
         instance: &Instance,
         bits: Vec<bool>,
-        best: Vec<bool>,
     ) -> Result<Self, AllocError> {
         let flipped = Vec::from_elem(alloc, 0, bits.len())?;
-        let scores = Scores::new(alloc, instance, bits)?;
+        let scores = Scores::new(alloc, instance)?;
+        let best = Best::new(alloc, bits)?;
         Ok(Walk {
             flipped,
             flips: TABU,
-            best_cost: scores.cost,
+            best_cost: u64::MAX,
             best,
             scores,
             draws: Draws::new(),
@@ -63,22 +76,36 @@ impl Walk {
 
     /// Goes on until the budget is spent, and answers the best bits.
     pub(crate) fn finish(mut self, instance: &Instance, places: &Occurrences) -> Vec<bool> {
-        let budget = (places.len() as u64)
-            .saturating_mul(VISITS)
-            .min(MOST_VISITS);
-        for _step in 0..budget {
-            if self.best_cost == 0 || self.scores.work >= budget {
-                break;
+        let visits = (places.len() as u64).saturating_mul(VISITS);
+        for round in 0..ROUNDS {
+            let end = visits
+                .saturating_mul(round.saturating_add(1))
+                .min(MOST_VISITS);
+            if self.scores.work < end {
+                self.scores.begin(instance, self.best.bits());
+                self.best_cost = self.scores.cost;
+                self.best.go_back();
+                self.walk(instance, places, end);
+            }
+        }
+        self.best.into_bits()
+    }
+
+    // Flips variables until so many visits were made.
+    fn walk(&mut self, instance: &Instance, places: &Occurrences, end: u64) {
+        for _step in 0..end {
+            if self.best_cost == 0 || self.scores.work >= end {
+                return;
             }
             let Some(variable) = self.choose(instance) else {
-                break;
+                return;
             };
             self.flips = self.flips.saturating_add(1);
             set(&mut self.flipped, variable as usize, self.flips);
             self.scores.flip(instance, places, variable);
+            self.best.follow(variable);
             self.keep();
         }
-        self.best
     }
 
     // Keeps the bits where they are the best.
@@ -87,19 +114,17 @@ impl Walk {
             return;
         }
         self.best_cost = self.scores.cost;
-        for (place, bit) in self.best.iter_mut().enumerate() {
-            *bit = at(&self.scores.bits, place);
-        }
-        self.scores.work = self.scores.work.saturating_add(self.best.len() as u64);
+        let written = self.best.take(&self.scores.bits);
+        self.scores.work = self.scores.work.saturating_add(written);
     }
 
     // The variable to be flipped: the best of some good ones, or else the best of a false clause,
-    // once the false ones are heavier. There is none where no clause is false.
+    // once weights have changed. There is none where no clause is false.
     fn choose(&mut self, instance: &Instance) -> Option<u32> {
         match self.choose_good() {
             Some(variable) => Some(variable),
             None => {
-                self.weigh_false(instance);
+                self.reweigh(instance);
                 self.choose_false(instance)
             }
         }
@@ -164,21 +189,22 @@ impl Walk {
         if is_better { Some(variable) } else { best }
     }
 
-    // Makes the false clauses heavier: no flip betters them by the weights that they have.
-    fn weigh_false(&mut self, instance: &Instance) {
-        let unit = self.scores.unit;
-        for place in 0..self.scores.false_hard.len() {
-            let number = self.scores.false_hard.at(place);
-            self.scores.weigh(instance, number, unit);
+    // No flip betters the bits by the weights that clauses have: false hard clauses become heavier,
+    // or hard clauses lighter where none is false.
+    fn reweigh(&mut self, instance: &Instance) {
+        let count = self.scores.false_hard.len();
+        if count == 0 {
+            let part = instance.hard().len().div_ceil(LIGHTER_PART);
+            self.scores.lighten(instance, part.min(LIGHTER));
         }
-        for place in 0..self.scores.false_soft.len() {
-            let number = self.scores.false_soft.at(place);
-            let price = i64::try_from(price(instance, number)).unwrap_or(i64::MAX);
-            self.scores.work = self.scores.work.saturating_add(1);
-            if at(&self.scores.weights, number as usize) < price.saturating_mul(MOST_TIMES) {
-                self.scores
-                    .weigh(instance, number, (price / SOFT_PART).max(1));
-            }
+        for try_number in 0..count.min(HEAVIER) {
+            let place = if count <= HEAVIER {
+                try_number
+            } else {
+                self.draws.below(count)
+            };
+            let number = self.scores.false_hard.at(place);
+            self.scores.weigh(instance, number);
         }
     }
 }

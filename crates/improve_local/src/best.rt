@@ -1,0 +1,65 @@
+// The best bits that a search met. Bits that are better take the place of these by the flips that
+// led to them: where each better solution of 200,000 variables was copied, 42 of them took all
+// visits.
+use crate::checked::{at, set};
+use std::alloc::{AllocError, Global};
+
+#[derive(Drop)]
+pub(crate) struct Best {
+    // As many as variables.
+    bits: Vec<bool>,
+    // The variables that were flipped since, in their order, as many as there is room for. There
+    // is room for as many as variables.
+    flipped: Vec<u32>,
+    // How many flips there were since, also such as had no room.
+    flips: usize,
+}
+
+impl Best {
+    /// These bits are the best so far.
+    pub(crate) fn new(alloc: Global, bits: Vec<bool>) -> Result<Self, AllocError> {
+        let flipped = Vec::from_elem(alloc, 0, bits.len())?;
+        Ok(Best {
+            bits,
+            flipped,
+            flips: 0,
+        })
+    }
+
+    pub(crate) fn bits(&self) -> &[bool] {
+        &self.bits
+    }
+
+    pub(crate) fn into_bits(self) -> Vec<bool> {
+        self.bits
+    }
+
+    /// The search goes on from the best bits.
+    pub(crate) fn go_back(&mut self) {
+        self.flips = 0;
+    }
+
+    /// The search flipped a variable.
+    pub(crate) fn follow(&mut self, variable: u32) {
+        set(&mut self.flipped, self.flips, variable);
+        self.flips = self.flips.saturating_add(1);
+    }
+
+    /// The bits of the search are the best so far. The answer is how many were written.
+    pub(crate) fn take(&mut self, bits: &[bool]) -> u64 {
+        let flips = self.flips;
+        self.flips = 0;
+        if flips > self.flipped.len() {
+            for (place, bit) in self.bits.iter_mut().enumerate() {
+                *bit = at(bits, place);
+            }
+            return self.bits.len() as u64;
+        }
+        for place in 0..flips {
+            if let Some(bit) = self.bits.get_mut(at(&self.flipped, place) as usize) {
+                *bit = !*bit;
+            }
+        }
+        flips as u64
+    }
+}
