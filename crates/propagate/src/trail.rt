@@ -260,7 +260,7 @@ impl Trail {
         undo(
             &mut self.values,
             &mut self.vardata,
-            &self.literals,
+            self.literals.as_slice(),
             keep,
             self.variables,
         );
