@@ -23,7 +23,7 @@ invariant_of-self c =
     ∙ ap depth_of (take-map (λ (l : Literal). made l (reason_at R l.variable)) keep A) in
     let t = subst (λ X. IsTrail i.variables (take keep X) c.undo.new.values.items
     c.undo.new.vardata.levels c.undo.new.vardata.positions c.undo.new.vardata.reasons
-    (depth_of (assigned_by R (take keep X))) i.variables) c.deref.ensures.value
+    (depth_of (assigned_by R (take keep X))) i.variables) c.as_slice.ensures.value
     c.undo.ensures.tables in
     rw c.truncate.ensures.items (trail_sized i.variables (take keep A) _ _ _ _ _ c.args.level _ _ e
     (omega (arith, c.truncate.ensures.capacity, c.self.invariant.has_room)) t)
