@@ -3,7 +3,7 @@
 // that fits in memory comes so far, but for one over clauses with such numbers; so a hint is one
 // load behind a comparison, and which of the two it takes is the same all the time.
 ghost use Rattle.std.specs.Prelude.{◌≡◌, ◌<◌, ◌≤◌, [], ◌++◌, Some, length, slice_get};
-ghost use Rattle.std.specs.Prelude.{slice_range, IfOk, OnOk, OnErr, if◌then◌else◌};
+ghost use Rattle.std.specs.Prelude.{slice_range, IfOk, OnOk, OnErr, take, if◌then◌else◌};
 
 use crate::lines::Hint;
 use crate::packed::{NarrowHint, PackedHint};
@@ -71,6 +71,15 @@ impl HintList {
             return Ok(());
         }
         push_wide(&mut self.wide, hints)
+    }
+
+    /// Keeps the first hints alone.
+    pub fn truncate(&mut self, count: usize)
+        ensures { self.new ≡ take count self.old }
+    {
+        let wide = count.saturating_sub(self.narrow.len());
+        self.narrow.truncate(count);
+        self.wide.truncate(wide);
     }
 }
 
