@@ -5,8 +5,9 @@
 // of 20 literals and 50 hints a line takes 2 % more instructions than with eight bytes for each.
 // Whether a line fits is asked hint by hint while it is put there, since a pass before that would
 // read each hint twice; the first part of a line that does not fit is taken away again.
-ghost use Rattle.std.specs.Prelude.{◌≡◌, ◌<◌, ◌≤◌, [], ◌++◌, Some, length, slice_get};
-ghost use Rattle.std.specs.Prelude.{slice_range, IfOk, OnOk, OnErr, take, if◌then◌else◌};
+ghost use Rattle.std.specs.Prelude.{◌≡◌, ◌<◌, ◌≤◌, ◌^◌, [], ◌++◌, Some, true, length, slice_get};
+ghost use Rattle.std.specs.Prelude.{slice_range, IfOk, OnOk, OnErr, take, if◌then◌else◌, All};
+ghost use Rattle.lrat_log.specs.Packed.{hint_code};
 
 use crate::lines::Hint;
 use crate::packed::{NarrowHint, PackedHint};
@@ -126,11 +127,12 @@ impl<'a> HintSlice<'a> {
     }
 }
 
-/// Puts the hints behind those that are kept, and answers true; or changes nothing, where one of
-/// them has a number from 2^30 on.
+/// Puts the hints behind those that are kept, and answers true; or changes nothing and answers
+/// false, which it does only where one of them has a number from 2^30 on.
 fn push_narrow(kept: &mut Vec<NarrowHint>, hints: &[Hint]) -> Result<bool, AllocError>
     ensures ok { IfOk result (λ fits. kept.new.items
         ≡ (if fits then kept.old.items ++ hints.now else kept.old.items)) }
+    ensures fits { IfOk result (λ fits. All (λ h. hint_code h < 2 ^ 32) hints.now → fits ≡ true) }
     ensures err { OnErr result (kept.new.items ≡ kept.old.items) }
 {
     let count = kept.len();
