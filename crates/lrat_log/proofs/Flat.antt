@@ -2,13 +2,13 @@
 use Rattle.std.proofs.Common.{◌≡◌, ℕ, zero, suc, ◌+◌, ◌-◌, ◌<◌, ◌≤◌, ◌^◌, List, [], ◌∷◌, ◌++◌}
 use Rattle.std.proofs.Common.{length, get_or, refl, sym, ◌∙◌, ap, subst, arith, add-one}
 use Rattle.std.proofs.Common.{length-append}
-use Rattle.std.specs.Prelude.{slice_range}
+use Rattle.std.specs.Prelude.{Some, slice_get, slice_range}
 use Rattle.std.proofs.lemmas.List.Elements.{All-append, All-cons, All-nil}
+use Rattle.std.proofs.lemmas.Option.{get_or_from_slice_get}
 use Rattle.cnf.specs.Literal.{Literal}
 use Rattle.cnf.proofs.Laws.{range-append, range-appended}
 use Rattle.lrat_log.specs.declared.lines.Hint.{Hint}
 use Rattle.lrat_log.specs.declared.heads.Head.{Head}
-use Rattle.lrat_log.specs.Heads.{kind_of, end_of_lits, end_of_hints}
 use Rattle.lrat_log.specs.Log.{LogLine, IsLine, IsLog, line_at}
 use Rattle.lrat_log.specs.Flat.{lines_from, lines_in, AreEndsFrom, IsFlat, lits_before}
 use Rattle.lrat_log.specs.Flat.{hints_before}
@@ -17,7 +17,7 @@ pub length-lines_from : (i j : ℕ) (hs : List Head) (lits : List Literal) (hint
     → length (lines_from i j hs lits hints) ≡ length hs
 length-lines_from i j [] lits hints = refl
 length-lines_from i j (h ∷ hs) lits hints =
-    ap suc (length-lines_from (end_of_lits h) (end_of_hints h) hs lits hints)
+    ap suc (length-lines_from h.lits_end h.hints_end hs lits hints)
 
 pub below_heads : (hs : List Head) (lits : List Literal) (hints : List Hint) (ls : List LogLine)
     (k : ℕ) → lines_from 0 0 hs lits hints ≡ ls → k < length ls → k < length hs
@@ -25,37 +25,44 @@ below_heads hs lits hints ls k e lt = let n = length-lines_from 0 0 hs lits hint
     let m : length (lines_from 0 0 hs lits hints) ≡ length ls = ap length e in omega arith
 
 pub kind-line_at : (i j : ℕ) (hs : List Head) (lits : List Literal) (hints : List Hint) (k : ℕ)
-    (h : Head) → k < length hs → h ≡ get_or hs k h
-    → kind_of h ≡ (line_at (lines_from i j hs lits hints) k).kind
+    (h : Head) → k < length hs → slice_get hs k ≡ Some h
+    → h.kind ≡ (line_at (lines_from i j hs lits hints) k).kind
 kind-line_at i j [] lits hints k h lt e = absurd (omega arith)
-kind-line_at i j (g ∷ hs) lits hints zero h lt e = ap kind_of e
+kind-line_at i j (g ∷ hs) lits hints zero h lt e =
+    ap (λ (x : Head). x.kind) (sym (get_or_from_slice_get (g ∷ hs) zero h h e))
 kind-line_at i j (g ∷ hs) lits hints (suc k) h lt e =
-    kind-line_at (end_of_lits g) (end_of_hints g) hs lits hints k h (omega arith) e
+    kind-line_at g.lits_end g.hints_end hs lits hints k h (omega arith) e
 
 -- the ends of the line before
 lits_before-suc : (i : ℕ) (hs : List Head) (k : ℕ) (d : Head) → k < length hs
-    → end_of_lits (get_or hs k d) ≡ lits_before i hs (suc k)
+    → (get_or hs k d).lits_end ≡ lits_before i hs (suc k)
 lits_before-suc i [] k d lt = absurd (omega arith)
 lits_before-suc i (g ∷ hs) zero d lt = refl
-lits_before-suc i (g ∷ hs) (suc k) d lt = lits_before-suc (end_of_lits g) hs k d (omega arith)
+lits_before-suc i (g ∷ hs) (suc k) d lt = lits_before-suc g.lits_end hs k d (omega arith)
 
 hints_before-suc : (j : ℕ) (hs : List Head) (k : ℕ) (d : Head) → k < length hs
-    → end_of_hints (get_or hs k d) ≡ hints_before j hs (suc k)
+    → (get_or hs k d).hints_end ≡ hints_before j hs (suc k)
 hints_before-suc j [] k d lt = absurd (omega arith)
 hints_before-suc j (g ∷ hs) zero d lt = refl
-hints_before-suc j (g ∷ hs) (suc k) d lt = hints_before-suc (end_of_hints g) hs k d (omega arith)
+hints_before-suc j (g ∷ hs) (suc k) d lt = hints_before-suc g.hints_end hs k d (omega arith)
 
-pub lits_before-last : (hs : List Head) (n : ℕ) (d : Head) → (n ≡ 0 → ⊥) → n ≤ length hs
-    → end_of_lits (get_or hs (n - 1) d) ≡ lits_before 0 hs n
-lits_before-last hs zero d some le = absurd (some refl)
-lits_before-last hs (suc k) d some le = let e : suc k - 1 ≡ k = omega arith in
-    rw e (lits_before-suc 0 hs k d (omega arith))
+module _ (hs : List Head) (n : ℕ) (h : Head) (some : n ≡ 0 → ⊥) (le : n ≤ length hs)
+    (is : slice_get hs (n - 1) ≡ Some h) where
+  last : get_or hs (n - 1) h ≡ h
+  last = get_or_from_slice_get hs (n - 1) h h is
 
-pub hints_before-last : (hs : List Head) (n : ℕ) (d : Head) → (n ≡ 0 → ⊥) → n ≤ length hs
-    → end_of_hints (get_or hs (n - 1) d) ≡ hints_before 0 hs n
-hints_before-last hs zero d some le = absurd (some refl)
-hints_before-last hs (suc k) d some le = let e : suc k - 1 ≡ k = omega arith in
-    rw e (hints_before-suc 0 hs k d (omega arith))
+  next : suc (n - 1) ≡ n
+  next = omega arith
+
+  pub lits_before-last : h.lits_end ≡ lits_before 0 hs n
+  lits_before-last =
+      ap (λ (x : Head). x.lits_end) (sym last) ∙ lits_before-suc 0 hs (n - 1) h (omega arith)
+      ∙ ap (lits_before 0 hs) next
+
+  pub hints_before-last : h.hints_end ≡ hints_before 0 hs n
+  hints_before-last =
+      ap (λ (x : Head). x.hints_end) (sym last) ∙ hints_before-suc 0 hs (n - 1) h (omega arith)
+      ∙ ap (hints_before 0 hs) next
 
 -- where a line's literals lie
 pub record Placed {X : Type 0} (xs : List X) (start end : ℕ) (part : List X) : Type 0 where
@@ -71,7 +78,7 @@ lits_placed i j [] lits hints k ends lt = absurd (omega arith)
 lits_placed i j (h ∷ hs) lits hints zero ends lt =
     record { rising = ends.0; within = ends.1; part_is = refl }
 lits_placed i j (h ∷ hs) lits hints (suc k) ends lt =
-    lits_placed (end_of_lits h) (end_of_hints h) hs lits hints k ends.4 (omega arith)
+    lits_placed h.lits_end h.hints_end hs lits hints k ends.4 (omega arith)
 
 hints_placed : (i j : ℕ) (hs : List Head) (lits : List Literal) (hints : List Hint) (k : ℕ)
     → AreEndsFrom i j hs lits hints → k < length hs
@@ -81,7 +88,7 @@ hints_placed i j [] lits hints k ends lt = absurd (omega arith)
 hints_placed i j (h ∷ hs) lits hints zero ends lt =
     record { rising = ends.2; within = ends.3; part_is = refl }
 hints_placed i j (h ∷ hs) lits hints (suc k) ends lt =
-    hints_placed (end_of_lits h) (end_of_hints h) hs lits hints k ends.4 (omega arith)
+    hints_placed h.lits_end h.hints_end hs lits hints k ends.4 (omega arith)
 
 module _ (hs : List Head) (lits : List Literal) (hints : List Hint) (k s e : ℕ)
     (ends : AreEndsFrom 0 0 hs lits hints) (lt : k < length hs) where
@@ -96,30 +103,30 @@ module _ (hs : List Head) (lits : List Literal) (hints : List Hint) (k s e : ℕ
 -- a line more
 pub lines_from-push : (i j : ℕ) (hs : List Head) (lits more_lits : List Literal)
     (hints more_hints : List Hint) (h : Head) → AreEndsFrom i j hs lits hints
-    → end_of_lits h ≡ length lits + length more_lits
-    → end_of_hints h ≡ length hints + length more_hints
+    → h.lits_end ≡ length lits + length more_lits
+    → h.hints_end ≡ length hints + length more_hints
     → lines_from i j (hs ++ h ∷ []) (lits ++ more_lits) (hints ++ more_hints)
     ≡ lines_from i j hs lits hints ++ record {
-      kind = kind_of h;
+      kind = h.kind;
       clause = more_lits;
       hints = more_hints;
     } ∷ []
 lines_from-push i j [] lits ml hints mh h ends p q =
     rw (
-      range-appended lits ml i (end_of_lits h) ends.0 p,
-      range-appended hints mh j (end_of_hints h) ends.1 q,
+      range-appended lits ml i h.lits_end ends.0 p,
+      range-appended hints mh j h.hints_end ends.1 q,
     ) refl
 lines_from-push i j (g ∷ hs) lits ml hints mh h ends p q =
     rw (
-      range-append lits ml i (end_of_lits g) ends.0 ends.1,
-      range-append hints mh j (end_of_hints g) ends.2 ends.3,
-      lines_from-push (end_of_lits g) (end_of_hints g) hs lits ml hints mh h ends.4 p q,
+      range-append lits ml i g.lits_end ends.0 ends.1,
+      range-append hints mh j g.hints_end ends.2 ends.3,
+      lines_from-push g.lits_end g.hints_end hs lits ml hints mh h ends.4 p q,
     ) refl
 
 pub AreEndsFrom-push : (i j : ℕ) (hs : List Head) (lits more_lits : List Literal)
     (hints more_hints : List Hint) (h : Head) → AreEndsFrom i j hs lits hints
-    → end_of_lits h ≡ length lits + length more_lits
-    → end_of_hints h ≡ length hints + length more_hints
+    → h.lits_end ≡ length lits + length more_lits
+    → h.hints_end ≡ length hints + length more_hints
     → AreEndsFrom i j (hs ++ h ∷ []) (lits ++ more_lits) (hints ++ more_hints)
 AreEndsFrom-push i j [] lits ml hints mh h ends p q =
     let a = length-append lits ml in
@@ -137,13 +144,13 @@ AreEndsFrom-push i j (g ∷ hs) lits ml hints mh h ends p q =
       omega (arith, ends.1),
       ends.2,
       omega (arith, ends.3),
-      AreEndsFrom-push (end_of_lits g) (end_of_hints g) hs lits ml hints mh h ends.4 p q,
+      AreEndsFrom-push g.lits_end g.hints_end hs lits ml hints mh h ends.4 p q,
     )
 
 module _ (hs : List Head) (lits : List Literal) (hints : List Hint) (h : Head) (line : LogLine)
     (flat : IsFlat hs lits hints)
-    (kind : kind_of h ≡ line.kind) (p : end_of_lits h ≡ length lits + length line.clause)
-    (q : end_of_hints h ≡ length hints + length line.hints) where
+    (kind : h.kind ≡ line.kind) (p : h.lits_end ≡ length lits + length line.clause)
+    (q : h.hints_end ≡ length hints + length line.hints) where
   pub lines_in-push : lines_in (hs ++ h ∷ []) (lits ++ line.clause) (hints ++ line.hints)
       ≡ lines_in hs lits hints ++ line ∷ []
   lines_in-push =

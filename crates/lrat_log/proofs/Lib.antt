@@ -8,6 +8,7 @@ mod LineTexts
 mod Literals
 mod MoreGiven
 mod Names
+mod NearWords
 mod NewLines
 mod Numbering
 mod Parts

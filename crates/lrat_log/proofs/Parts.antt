@@ -5,7 +5,7 @@ use Rattle.std.proofs.Common.{length-append}
 use Rattle.std.specs.Prelude.{slice_range}
 use Rattle.std.proofs.lemmas.Bool.{cases_lt}
 use Rattle.std.proofs.lemmas.List.{drop-append-le, length-drop, take_all, get_or_append_left}
-use Rattle.std.proofs.lemmas.List.{get_or-append-add}
+use Rattle.std.proofs.lemmas.List.{get_or-append-add, take-append-le}
 use Rattle.std.proofs.Math.Seq.{drop-append-add, take-append-add}
 use Rattle.cnf.proofs.Laws.{range-append}
 
@@ -54,6 +54,19 @@ range_split xs ys i j h = elim (cases_lt (length xs) j) [
     | inl q ↦ across xs ys i j h q p
     | inr q ↦ after xs ys i j h q
   ]
+]
+
+-- the first ones
+pub take_split : {X : Type 0} (xs ys : List X) (n : ℕ)
+    → take n (xs ++ ys) ≡ take n xs ++ take (n - length xs) ys
+take_split xs ys n = elim (cases_lt (length xs) n) [
+  | inl p ↦
+      let e : length xs + (n - length xs) ≡ n = omega arith in
+      ap (λ k. take k (xs ++ ys)) (sym e) ∙ take-append-add xs ys (n - length xs)
+      ∙ ap (λ zs. zs ++ take (n - length xs) ys) (sym (take_all n xs (omega arith)))
+  | inr p ↦
+      let e : n - length xs ≡ 0 = omega arith in
+      rw e (take-append-le n xs ys p ∙ sym (append-nil (take n xs)))
 ]
 
 -- what stands at a place

@@ -4,7 +4,6 @@ use Rattle.std.specs.Prelude.{◌≡◌, ℕ, zero, suc, ◌≤◌, List, [], �
 use Rattle.cnf.specs.Literal.{Literal}
 use Rattle.lrat_log.specs.declared.lines.Hint.{Hint}
 use Rattle.lrat_log.specs.declared.heads.Head.{Head}
-use Rattle.lrat_log.specs.Heads.{kind_of, end_of_lits, end_of_hints}
 use Rattle.lrat_log.specs.Log.{LogLine, IsLog}
 
 -- the lines of the heads, where those before end at these places
@@ -12,10 +11,10 @@ abbrev pub lines_from : ℕ → ℕ → List Head → List Literal → List Hint
 lines_from i j [] lits hints = []
 lines_from i j (h ∷ hs) lits hints =
     record {
-      kind = kind_of h;
-      clause = slice_range lits i (end_of_lits h);
-      hints = slice_range hints j (end_of_hints h);
-    } ∷ lines_from (end_of_lits h) (end_of_hints h) hs lits hints
+      kind = h.kind;
+      clause = slice_range lits i h.lits_end;
+      hints = slice_range hints j h.hints_end;
+    } ∷ lines_from h.lits_end h.hints_end hs lits hints
 
 abbrev pub lines_in : List Head → List Literal → List Hint → List LogLine
 lines_in heads lits hints = lines_from 0 0 heads lits hints
@@ -24,9 +23,9 @@ lines_in heads lits hints = lines_from 0 0 heads lits hints
 abbrev pub AreEndsFrom : ℕ → ℕ → List Head → List Literal → List Hint → Type 0
 AreEndsFrom i j [] lits hints = (i ≡ length lits) × (j ≡ length hints)
 AreEndsFrom i j (h ∷ hs) lits hints =
-    (i ≤ end_of_lits h) × (end_of_lits h ≤ length lits) × (j ≤ end_of_hints h)
-    × (end_of_hints h ≤ length hints)
-    × AreEndsFrom (end_of_lits h) (end_of_hints h) hs lits hints
+    (i ≤ h.lits_end) × (h.lits_end ≤ length lits) × (j ≤ h.hints_end)
+    × (h.hints_end ≤ length hints)
+    × AreEndsFrom h.lits_end h.hints_end hs lits hints
 
 pub record IsFlat (heads : List Head) (lits : List Literal) (hints : List Hint) : Type 0 where
   pub log : IsLog (lines_in heads lits hints)
@@ -36,9 +35,9 @@ pub record IsFlat (heads : List Head) (lits : List Literal) (hints : List Hint) 
 abbrev pub lits_before : ℕ → List Head → ℕ → ℕ
 lits_before i hs zero = i
 lits_before i [] (suc k) = i
-lits_before i (h ∷ hs) (suc k) = lits_before (end_of_lits h) hs k
+lits_before i (h ∷ hs) (suc k) = lits_before h.lits_end hs k
 
 abbrev pub hints_before : ℕ → List Head → ℕ → ℕ
 hints_before j hs zero = j
 hints_before j [] (suc k) = j
-hints_before j (h ∷ hs) (suc k) = hints_before (end_of_hints h) hs k
+hints_before j (h ∷ hs) (suc k) = hints_before h.hints_end hs k

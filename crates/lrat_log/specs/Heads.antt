@@ -1,7 +1,10 @@
--- What the log keeps of each line, in three words of four bytes: the places where its literals and
--- its hints end without their 2^32s; and in the third word these, and the number of its kind.
-use Rattle.std.specs.Prelude.{ℕ, ◌+◌, ◌*◌, ◌/◌, ◌%◌, ◌^◌, ◌==◌, if◌then◌else◌}
+-- What the log keeps of each line: the number of its kind and the places where its literals and its
+-- hints end, in one word over the ends of another line, or in three words. There the places stand
+-- without their 2^32s, and these are in the third word, with the number of the kind.
+use Rattle.std.specs.Prelude.{ℕ, suc, ◌+◌, ◌*◌, ◌/◌, ◌%◌, ◌^◌, ◌==◌, if◌then◌else◌, List, []}
+use Rattle.std.specs.Prelude.{◌∷◌, slice_index_or}
 use Rattle.lrat_log.specs.declared.heads.Head.{Head}
+use Rattle.lrat_log.specs.declared.heads.FarHead.{FarHead}
 use Rattle.lrat_log.specs.declared.lines.Kind.{Kind}
 use Rattle.lrat_log.specs.declared.lines.Kind.TheVariants.{Learned, Unit, Resolvent, Definition}
 use Rattle.lrat_log.specs.declared.lines.Kind.TheVariants.{Weaker, Delete, Empty}
@@ -27,13 +30,32 @@ number_of Weaker = 4
 number_of Delete = 5
 number_of Empty = 6
 
-abbrev pub kind_of : Head → Kind
-kind_of h = kind_at (h.tops % 2 ^ 3)
+-- where the literals and the hints of a line end
+pub record Ends : Type 0 where
+  pub lits : ℕ
+  pub hints : ℕ
 
--- the place behind the last literal
-abbrev pub end_of_lits : Head → ℕ
-end_of_lits h = h.lits_low + 2 ^ 32 * (h.tops / 2 ^ 17)
+-- a line's word, over the ends of the first line of its block
+abbrev pub near_head : Ends → ℕ → Head
+near_head base word = record {
+  kind = kind_at (word % 2 ^ 3);
+  lits_end = base.lits + word / 2 ^ 18;
+  hints_end = base.hints + word % 2 ^ 18 / 2 ^ 3;
+}
 
--- the place behind the last hint
-abbrev pub end_of_hints : Head → ℕ
-end_of_hints h = h.hints_low + 2 ^ 32 * (h.tops % 2 ^ 17 / 2 ^ 3)
+abbrev pub base_at : List Ends → ℕ → Ends
+base_at bases place = slice_index_or bases (place / 32) (record { lits = 0; hints = 0 })
+
+-- the words of the lines from a place on
+abbrev pub near_heads : ℕ → List Ends → List ℕ → List Head
+near_heads place bases [] = []
+near_heads place bases (word ∷ words) =
+    near_head (base_at bases place) word ∷ near_heads (suc place) bases words
+
+-- a line in three words
+abbrev pub far_head : FarHead → Head
+far_head h = record {
+  kind = kind_at (h.tops % 2 ^ 3);
+  lits_end = h.lits_low + 2 ^ 32 * (h.tops / 2 ^ 17);
+  hints_end = h.hints_low + 2 ^ 32 * (h.tops % 2 ^ 17 / 2 ^ 3);
+}

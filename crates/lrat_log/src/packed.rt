@@ -1,6 +1,6 @@
 // Hints as the log keeps them: a log has many more hints than lines, so each takes one word, of
 // four bytes where its number is small.
-ghost use Rattle.std.specs.Prelude.{◌≡◌, ◌<◌, ◌≤◌, ◌-◌, ◌^◌, IfSome};
+ghost use Rattle.std.specs.Prelude.{◌≡◌, ◌<◌, ◌≤◌, ◌-◌, ◌^◌, ◌↔◌, IsTrue};
 ghost use Rattle.lrat_log.specs.Log.{id_of, name_of, is_group, is_added};
 ghost use Rattle.lrat_log.specs.Packed.{name_code, hint_code};
 
@@ -39,8 +39,13 @@ impl PackedHint {
     pub fn new(hint: Hint) -> Self
         ensures { result ≡ hint }
     {
-        PackedHint {
-            code: packed_hint(hint),
+        match hint {
+            Hint::Plain(name) => PackedHint {
+                code: packed_name(name),
+            },
+            Hint::Group(name) => PackedHint {
+                code: packed_name(name) + 1,
+            },
         }
     }
 
@@ -81,6 +86,23 @@ impl PackedHint {
         }
     }
 
+    /// Whether it fits four bytes: its number is below 2^30.
+    pub fn is_narrow(self) -> bool
+        ensures { IsTrue result ↔ hint_code self < 2 ^ 32 }
+    {
+        self.code < 1 << 32
+    }
+
+    /// The hint in four bytes.
+    pub fn narrow(self) -> NarrowHint
+        requires { hint_code self < 2 ^ 32 }
+        ensures { result ≡ self }
+    {
+        NarrowHint {
+            code: self.code as u32,
+        }
+    }
+
     /// Whether the hint names an addition.
     fn names_addition(self) -> bool
         ensures { result ≡ is_added (name_of self) }
@@ -116,17 +138,6 @@ impl Model for NarrowHint {
 const _: () = prove!(size_of::<NarrowHint>() == 4);
 
 impl NarrowHint {
-    /// The hint in four bytes, where its number is below 2^30.
-    pub fn new(hint: Hint) -> Option<Self>
-        ensures { IfSome result (λ narrow. narrow ≡ hint) }
-    {
-        let code = packed_hint(hint);
-        if code > u64::from(u32::MAX) {
-            return None;
-        }
-        Some(NarrowHint { code: code as u32 })
-    }
-
     /// The hint in eight bytes.
     pub fn widen(self) -> PackedHint
         ensures { result ≡ self }
@@ -134,17 +145,6 @@ impl NarrowHint {
         PackedHint {
             code: u64::from(self.code),
         }
-    }
-}
-
-/// A hint as it stands in a packed hint.
-fn packed_hint(hint: Hint) -> u64
-    ensures code { result ≡ hint_code hint }
-    ensures from_four { 4 ≤ result }
-{
-    match hint {
-        Hint::Plain(name) => packed_name(name),
-        Hint::Group(name) => packed_name(name) + 1,
     }
 }
 

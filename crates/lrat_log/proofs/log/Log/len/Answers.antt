@@ -5,7 +5,7 @@ use Rattle.lrat_log.proofs.log.Log.len.Goals as goal
 
 pub returns-clause-len : goal.returns-clause-len
 returns-clause-len c =
-    let heads : c.len.result ≡ length c.self.inside.heads.items = search rules in
+    let heads : c.len.result ≡ length c.self.inside.heads = search rules in
     rw (← c.self.view_is) (heads
-    ∙ sym (length-lines_from 0 0 c.self.inside.heads.items c.self.inside.lits.items
+    ∙ sym (length-lines_from 0 0 c.self.inside.heads c.self.inside.lits.items
     c.self.inside.hints))

@@ -8,21 +8,20 @@ use Rattle.lrat_log.proofs.log.Log.packed_hints.Goals.{After-find_ends-end}
 
 pub find_ends-start-requires : goal.find_ends-start-requires
 find_ends-start-requires c =
-    rw c.deref.ensures.value (omega (arith, below_heads _ _ _ _ _ c.self.view_is c.requires))
+    omega (arith, below_heads _ _ _ _ _ c.self.view_is c.requires)
 
 pub find_ends-end-requires : goal.find_ends-end-requires
 find_ends-end-requires c =
-    rw c.deref-2.ensures.value (omega (arith, below_heads _ _ _ _ _ c.self.view_is c.requires))
+    omega (arith, below_heads _ _ _ _ _ c.self.view_is c.requires)
 
 placed : (c : After-find_ends-end)
     → Placed c.self.inside.hints c.find_ends-start.result.1 c.find_ends-end.result.1
-    (line_at (lines_from 0 0 c.self.inside.heads.items c.self.inside.lits.items
+    (line_at (lines_from 0 0 c.self.inside.heads c.self.inside.lits.items
     c.self.inside.hints) c.args.line).hints
 placed c =
     let h = below_heads _ _ _ _ _ c.self.view_is c.requires in
-    let start = rw c.deref.ensures.value at c.find_ends-start.ensures.hints in
-    let end = rw c.deref-2.ensures.value at c.find_ends-end.ensures.hints in
-    hints-line_at _ _ _ _ _ _ c.self.invariant.ends h start end
+    hints-line_at _ _ _ _ _ _ c.self.invariant.ends h c.find_ends-start.ensures.hints
+    c.find_ends-end.ensures.hints
 
 pub part-requires : goal.part-requires
 part-requires c =
