@@ -1,6 +1,6 @@
-// The last pass: fresh variables for pairs. It needs the names of the clauses, and no other table. So
-// the clauses that are left can move together before it: mostly more are dead than live, and their
-// room goes to the table of pairs.
+// The last pass: fresh variables for pairs. It needs the names of the clauses, and no other table.
+// So the clauses that are left can move together before it: mostly more are dead than live, and
+// their room goes to the table of pairs.
 ghost use Rattle.std.specs.Prelude.{◌≡◌, ◌+◌, true, IfOk, OnErr, OnOk};
 ghost use Rattle.eliminate.specs.State.{Start};
 ghost use Rattle.eliminate.specs.Simplifier.{IsSimplified};

@@ -177,7 +177,8 @@ returns-clause-variables g c = let k = ended g (goal.at.returns-clause-variables
 pub returns-clause-free : goal.returns-clause-free
 returns-clause-free g c =
     let removed = c.define_where_open.new.simplifier.removals in
-    subst (AreFreeOf removed) (sym (same_clauses g (goal.at.returns-clause-free g c).After-move_together))
+    subst (AreFreeOf removed)
+    (sym (same_clauses g (goal.at.returns-clause-free g c).After-move_together))
     (all_live (λ (d : List Literal). All
     (λ (l : Literal). is_eliminated removed l.variable ≡ false) d)
     c.define_where_open.new.store.slots
