@@ -32,36 +32,19 @@ use Rattle.cdcl.specs.Solving.{is_refuted}
 use Rattle.cdcl.specs.Invariant.{name_at, is_kept_name, NamesStore, NotesUnits, zero_of, IsRunning}
 use Rattle.cdcl.specs.Running.{Runs, IsInput, tables_of}
 use Rattle.eliminate.proofs.Laws.{live_all}
-use Rattle.cdcl.specs.Starts.{AreRising, IsLiveWithin, IsStarted}
-use Rattle.cdcl.proofs.Places.{stands, live_within}
+use Rattle.cdcl.specs.Starts.{IsLiveWithin, IsStarted}
+use Rattle.cdcl.proofs.Places.{stands}
 use Rattle.cdcl.proofs.FirstNames.{names_start}
 use Rattle.cdcl.proofs.Named.{live_below}
 use Rattle.lrat_log.proofs.Laws.{base_of, clauses_given}
 
 -- Lists of places.
 
-places_low : (n : ℕ) (slots : Slots) (i : ℕ) → i < length (places_from n slots)
-    → n ≤ get_or (places_from n slots) i 0
-places_low n [] i lt = absurd (omega arith)
-places_low n (None ∷ slots) i lt =
-    (let h : n + 1 ≤ get_or (places_from (n + 1) slots) i 0 = places_low (n + 1) slots i lt in
-    omega arith)
-places_low n (Some c ∷ slots) zero lt = omega arith
-places_low n (Some c ∷ slots) (suc i) lt =
-    (let h : n + 1 ≤ get_or (places_from (n + 1) slots) i 0 = places_low (n + 1) slots i
-    (omega arith) in omega arith)
-
-places_rise : (n : ℕ) (slots : Slots) (i j : ℕ) → i < j → j < length (places_from n slots)
-    → get_or (places_from n slots) i 0 < get_or (places_from n slots) j 0
-places_rise n [] i j lt within = absurd (omega arith)
-places_rise n (None ∷ slots) i j lt within = places_rise (n + 1) slots i j lt within
-places_rise n (Some c ∷ slots) zero zero lt within = absurd (omega arith)
-places_rise n (Some c ∷ slots) zero (suc j) lt within =
-    (let h : n + 1 ≤ get_or (places_from (n + 1) slots) j 0 = places_low (n + 1) slots j
-    (omega arith) in omega arith)
-places_rise n (Some c ∷ slots) (suc i) zero lt within = absurd (omega arith)
-places_rise n (Some c ∷ slots) (suc i) (suc j) lt within =
-    places_rise (n + 1) slots i j (omega arith) (omega arith)
+-- of a store without gaps
+places_all : (n : ℕ) (cs : List (List Literal))
+    → length (places_from n (map Some cs)) ≡ length (map Some cs)
+places_all n [] = refl
+places_all n (c ∷ cs) = ap suc (places_all (n + 1) cs)
 
 place_live : (n : ℕ) (slots : Slots) (i : ℕ) → i < length (places_from n slots)
     → (r : ℕ) × (c : List Literal) × (get_or (places_from n slots) i 0 ≡ n + r)
@@ -157,13 +140,10 @@ module _ (cs : List (List Literal)) (slots : Slots) (stack : StackState) (ls : L
       sym (get_or-map (λ (n : ℕ × Name). n.0) stack.names i d 0 lt)
       ∙ ap (λ ps. get_or ps i 0) first.listed
 
-  pub left_rising : AreRising stack.names
-  left_rising i j d lt within =
-      let a = place_is i d (omega arith) in
-      let b = place_is j d within in
-      let r : get_or (live_places slots) i 0 < get_or (live_places slots) j 0 =
-      places_rise 0 slots i j lt (omega (arith, places_long)) in
-      omega arith
+  pub left_long : slots ≡ map Some (live_clauses slots) → length stack.names ≡ length slots
+  left_long gapless = sym places_long
+      ∙ subst (λ (x : Slots). length (live_places x) ≡ length x) (sym gapless)
+      (places_all 0 (live_clauses slots))
 
   live_here : (i : ℕ) (d : ℕ × Name) → i < length stack.names
       → (c : List Literal) × (clause_at slots (get_or stack.names i d).0 ≡ Some c)
@@ -178,10 +158,6 @@ module _ (cs : List (List Literal)) (slots : Slots) (stack : StackState) (ls : L
       let f =
       live_all (IsFormulaClause stack.variables) slots h.left (get_or stack.names i d).0 w.0 w.1 in
       record { clause = w.0; live = w.1; within = (f.from_one, f.small) }
-
-  pub left_within : All (λ n. n.0 < length slots) stack.names
-  left_within i d lt =
-      let w = live_here i d lt in live_within slots (get_or stack.names i d).0 w.0 w.1
 
   -- each has the id of something live
   id_below : (i : ℕ) (d : ℕ × Name) → i < length stack.names

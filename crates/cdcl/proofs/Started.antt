@@ -1,132 +1,109 @@
 -- The tables of a search before its first move.
-use Rattle.std.proofs.Common.{◌≡◌, ◌≢◌, ℕ, ◌+◌, ◌<◌, true, false, List, [], length}
-use Rattle.std.proofs.Common.{get_or, set, inl, inr, sym, ◌∙◌, ap, subst, arith}
+use Rattle.std.proofs.Common.{◌≡◌, ◌≢◌, ℕ, ◌+◌, ◌<◌, true, false, List, [], length, get_or, Some}
+use Rattle.std.proofs.Common.{None, inl, inr, sym, ◌∙◌, ap, subst, arith, zero-add}
 use Rattle.std.specs.Prelude.{All}
+use Rattle.std.specs.List.{enumerate_from}
 use Rattle.std.proofs.lemmas.Bool.{cases_eq, cases_Bool, both_ways}
-use Rattle.std.proofs.lemmas.List.{length-set, get_or-set_same, get_or-set_other, get_or_default}
-use Rattle.std.proofs.lemmas.List.Elements.{All-set}
+use Rattle.std.proofs.lemmas.List.{get_or_default}
+use Rattle.std.proofs.lemmas.List.FromFn.{get_or-enumerate_from, length-enumerate_from}
+use Rattle.std.proofs.lemmas.Option.{none-some, same_Some}
+use Rattle.cnf.specs.Literal.{Literal}
 use Rattle.cnf.specs.Lrat.{IsId}
-use Rattle.clauses.specs.Slots.{Slots}
+use Rattle.clauses.specs.Slots.{Slots, clause_at}
 use Rattle.propagate.specs.Watches.{EngineState, is_attached, SetsAttached}
-use Rattle.propagate.specs.Fits.{Fits}
+use Rattle.propagate.specs.Fits.{Fits, IsWithin}
 use Rattle.lrat_log.specs.declared.lines.Name.{Name}
 use Rattle.lrat_log.specs.declared.lines.Name.TheVariants.{Formula}
 use Rattle.lrat_log.specs.Log.{number_in}
 use Rattle.cdcl.specs.Invariant.{name_at}
-use Rattle.cdcl.specs.Starts.{AreRising}
+use Rattle.cdcl.specs.Starts.{AreAttachedBelow, AreWithin, IsLiveWithin}
+use Rattle.cdcl.proofs.Places.{live_within}
 
--- Names by place.
+-- Names by place, which the stack lists with their places.
 
-pub record AreNamed (names : List Name) (listed : List (ℕ × Name)) (n places : ℕ) : Type 0 where
-  pub long : length names ≡ places
-  pub numbers : All (λ x. IsId (number_in x)) names
-  pub named : (i : ℕ) (d : ℕ × Name) → i < n → i < length listed
-      → name_at names (get_or listed i d).0 ≡ (get_or listed i d).1
+pub listed_names : (names : List Name)
+    → All (λ n. name_at names n.0 ≡ n.1) (enumerate_from 0 names)
+listed_names names i d lt =
+    let within : i < length names = omega (arith, length-enumerate_from 0 names) in
+    subst (λ (x : ℕ × Name). name_at names x.0 ≡ x.1)
+    (sym (get_or-enumerate_from 0 names i d within))
+    (ap (name_at names) (zero-add i) ∙ get_or_default names i _ d.1 within)
 
-pub named_more : (names : List Name) (listed : List (ℕ × Name)) (n places : ℕ) (item : ℕ × Name)
-    → AreRising listed → All (λ x. x.0 < places) listed → All (λ x. IsId (number_in x.1)) listed
-    → n < length listed → item ≡ get_or listed n item → AreNamed names listed n places
-    → AreNamed (set names item.0 item.1) listed (n + 1) places
-named_more names listed n places item rising within ids lt at a =
-    let low : item.0 < length names =
-    subst (λ (x : ℕ × Name). x.0 < length names) (sym at) (let h = within n item lt in
-    let l = a.long in omega arith) in
-    record {
-      long = length-set names item.0 item.1 ∙ a.long;
-      numbers = All-set (λ x. IsId (number_in x)) names item.0 item.1
-          (subst (λ (x : ℕ × Name). IsId (number_in x.1)) (sym at) (ids n item lt)) a.numbers;
-      named =
-          λ i d h inside. elim (cases_eq i n) as (λ _. name_at (set names item.0 item.1)
-          (get_or listed i d).0 ≡ (get_or listed i d).1) [
-            | inl same ↦
-                let is : get_or listed i d ≡ item =
-                ap (λ k. get_or listed k d) same ∙ get_or_default listed n d item lt ∙ sym at in
-                subst (λ (x : ℕ × Name). name_at (set names item.0 item.1) x.0 ≡ x.1) (sym is)
-                (get_or-set_same names item.0 item.1 (Formula 0) low)
-            | inr other ↦
-                let below : i < n = omega arith in
-                let is : get_or listed n d ≡ item = get_or_default listed n d item lt ∙ sym at in
-                let less : (get_or listed i d).0 < item.0 =
-                subst (λ (x : ℕ × Name). (get_or listed i d).0 < x.0) is (rising i n d below lt) in
-                let ne : (get_or listed i d).0 ≢ item.0 = omega arith in
-                get_or-set_other names item.0 (get_or listed i d).0 item.1 (Formula 0) ne
-                ∙ a.named i d below inside
-          ];
-    }
+pub listed_numbers : (names : List Name)
+    → All (λ n. IsId (number_in n.1)) (enumerate_from 0 names)
+    → All (λ n. IsId (number_in n)) names
+listed_numbers names all i d lt =
+    subst (λ (x : ℕ × Name). IsId (number_in x.1)) (get_or-enumerate_from 0 names i (0, d) lt)
+    (all i (0, d) (omega (arith, length-enumerate_from 0 names)))
+
+-- a list of all places has each live clause
+pub listed_within : (names : List Name) (slots : Slots) (variables : ℕ)
+    → length names ≡ length slots
+    → All (λ n. IsLiveWithin slots variables n.0) (enumerate_from 0 names)
+    → AreWithin slots variables
+listed_within names slots variables long all r c e =
+    let within : r < length names = omega (arith, live_within slots r c e) in
+    let d : ℕ × Name = (0, Formula 0) in
+    let at : (get_or (enumerate_from 0 names) r d).0 ≡ r =
+    ap (λ (x : ℕ × Name). x.0) (get_or-enumerate_from 0 names r d within) ∙ zero-add r in
+    let w : IsLiveWithin slots variables r =
+    subst (IsLiveWithin slots variables) at
+    (all r d (omega (arith, length-enumerate_from 0 names))) in
+    subst (IsWithin variables) (same_Some w.clause c (sym w.live ∙ e)) w.within
 
 -- Clauses attached in turn.
 
-pub record AreAttached (e : EngineState) (slots : Slots) (variables : ℕ) (listed : List (ℕ × Name))
-    (n : ℕ) : Type 0 where
-  pub fits : Fits e slots
-  pub trail : e.trail ≡ []
-  pub variables_are : e.variables ≡ variables
-  pub works : e.failed ≡ false
-  pub attached : (i : ℕ) (d : ℕ × Name) → i < n → i < length listed
-      → is_attached e (get_or listed i d).0 ≡ true
-  pub only : (r : ℕ) → is_attached e r ≡ true
-      → (i : ℕ) × (i < n) × (i < length listed) × ((d : ℕ × Name) → (get_or listed i d).0 ≡ r)
-
-pub attached_none : (e : EngineState) (slots : Slots) (variables : ℕ) (listed : List (ℕ × Name))
-    → Fits e slots → (e.variables ≡ variables) × (e.trail ≡ []) × (e.failed ≡ false)
-    → ((r : ℕ) → is_attached e r ≡ false)
-    → AreAttached e slots variables listed 0
-attached_none e slots variables listed fits same none = record {
+pub attached_none : (e : EngineState) (slots : Slots) (variables : ℕ) → Fits e slots
+    → (e.variables ≡ variables) × (e.trail ≡ []) × (e.failed ≡ false)
+    → ((r : ℕ) → is_attached e r ≡ false) → AreAttachedBelow e slots variables 0
+attached_none e slots variables fits same none = record {
   fits = fits;
   trail = same.1;
   variables_are = same.0;
   works = same.2;
-  attached = λ i d lt inside. absurd (omega arith);
+  attached = λ r lt live. absurd (omega arith);
   only = λ r on. absurd (both_ways (is_attached e r) (none r) on);
 }
 
-pub not_yet : (e : EngineState) (slots : Slots) (variables : ℕ) (listed : List (ℕ × Name)) (n : ℕ)
-    (item : ℕ × Name)
-    → AreRising listed → n < length listed → item ≡ get_or listed n item
-    → AreAttached e slots variables listed n
-    → is_attached e item.0 ≡ false
-not_yet e slots variables listed n item rising lt at a =
-    elim (cases_Bool (is_attached e item.0)) as (λ _. is_attached e item.0 ≡ false) [
+pub not_yet : (e : EngineState) (slots : Slots) (variables n : ℕ)
+    → AreAttachedBelow e slots variables n → is_attached e n ≡ false
+not_yet e slots variables n a =
+    elim (cases_Bool (is_attached e n)) as (λ _. is_attached e n ≡ false) [
       | inr f ↦ f
-      | inl t ↦
-          let w = a.only item.0 t in
-          let less : (get_or listed w.0 item).0 < item.0 =
-          subst (λ (x : ℕ × Name). (get_or listed w.0 item).0 < x.0) (sym at)
-          (rising w.0 n item w.1 lt) in
-          let same : (get_or listed w.0 item).0 ≡ item.0 = w.3 item in
-          absurd (omega arith)
+      | inl t ↦ let lt : n < n = a.only n t in absurd (omega arith)
     ]
 
-pub attached_more : (e f : EngineState) (slots : Slots) (variables : ℕ) (listed : List (ℕ × Name))
-    (n : ℕ) (item : ℕ × Name)
-    → n < length listed → item ≡ get_or listed n item → AreAttached e slots variables listed n
-    → SetsAttached e f item.0 true → (f.trail ≡ e.trail) × (f.variables ≡ e.variables)
-    → f.failed ≡ false → Fits f slots → AreAttached f slots variables listed (n + 1)
-attached_more e f slots variables listed n item lt at a sets same works fits = record {
+pub attached_more : (e f : EngineState) (slots : Slots) (variables n : ℕ)
+    → AreAttachedBelow e slots variables n → SetsAttached e f n true
+    → (f.trail ≡ e.trail) × (f.variables ≡ e.variables) → f.failed ≡ false → Fits f slots
+    → AreAttachedBelow f slots variables (n + 1)
+attached_more e f slots variables n a sets same works fits = record {
   fits = fits;
   trail = same.0 ∙ a.trail;
   variables_are = same.1 ∙ a.variables_are;
   works = works;
-  attached =
-      λ i d h inside. elim (cases_eq (get_or listed i d).0 item.0)
-      as (λ _. is_attached f (get_or listed i d).0 ≡ true) [
-        | inl s ↦ ap (is_attached f) s ∙ sets.0
-        | inr o ↦ elim (cases_eq i n) as (λ _. is_attached f (get_or listed i d).0 ≡ true) [
-          | inl here ↦ absurd (o (ap (λ (x : ℕ × Name). x.0) (ap (λ k. get_or listed k d) here
-              ∙ get_or_default listed n d item lt ∙ sym at)))
-          | inr other ↦ sets.1 (get_or listed i d).0 o ∙ a.attached i d (omega arith) inside
-        ]
-      ];
-  only =
-      λ r on. elim (cases_eq r item.0) as (λ _. (i : ℕ) × (i < n + 1) × (i < length listed)
-      × ((d : ℕ × Name) → (get_or listed i d).0 ≡ r)) [
-        | inl s ↦ (
-          n,
-          omega arith,
-          lt,
-          λ d. ap (λ (x : ℕ × Name). x.0) (get_or_default listed n d item lt ∙ sym at) ∙ sym s,
-        )
-        | inr o ↦ let w = a.only r (sym (sets.1 r o) ∙ on) in
-            (w.0, (let h = w.1 in omega arith), w.2, w.3)
-      ];
+  attached = λ r lt live. elim (cases_eq r n) as (λ _. is_attached f r ≡ true) [
+    | inl s ↦ ap (is_attached f) s ∙ sets.0
+    | inr o ↦ sets.1 r o ∙ a.attached r (omega arith) live
+  ];
+  only = λ r on. elim (cases_eq r n) as (λ _. r < n + 1) [
+    | inl s ↦ omega arith
+    | inr o ↦ let below : r < n = a.only r (sym (sets.1 r o) ∙ on) in omega arith
+  ];
+}
+
+-- a place without a clause
+pub attached_past : (e : EngineState) (slots : Slots) (variables n : ℕ)
+    → AreAttachedBelow e slots variables n → clause_at slots n ≡ None
+    → AreAttachedBelow e slots variables (n + 1)
+attached_past e slots variables n a gone = record {
+  fits = a.fits;
+  trail = a.trail;
+  variables_are = a.variables_are;
+  works = a.works;
+  attached = λ r lt live. elim (cases_eq r n) as (λ _. is_attached e r ≡ true) [
+    | inl s ↦ absurd (none-some live.0 (sym gone ∙ ap (clause_at slots) (sym s) ∙ live.1))
+    | inr o ↦ a.attached r (omega arith) live
+  ];
+  only = λ r on. let below : r < n = a.only r on in omega arith;
 }

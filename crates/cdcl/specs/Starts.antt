@@ -1,28 +1,36 @@
 -- A search before its first move.
 use Rattle.std.specs.Prelude.{◌≡◌, ℕ, ◌<◌, ◌≤◌, true, false, List, [], length, replicate}
-use Rattle.std.specs.Prelude.{slice_index_or, Some, None, All}
+use Rattle.std.specs.Prelude.{Some, None, All}
 use Rattle.cnf.specs.Literal.{Literal}
 use Rattle.cnf.specs.Lrat.{IsId}
-use Rattle.clauses.specs.Slots.{Slots, clause_at}
-use Rattle.propagate.specs.Watches.{is_attached}
+use Rattle.clauses.specs.Slots.{Slots, clause_at, IsLive}
+use Rattle.propagate.specs.Watches.{EngineState, is_attached}
 use Rattle.propagate.specs.Fits.{Fits, IsWithin}
-use Rattle.lrat_log.specs.declared.lines.Name.{Name}
 use Rattle.lrat_log.specs.Log.{number_in}
 use Rattle.eliminate.specs.Elimination.{StackState}
 use Rattle.cdcl.specs.declared.search.Search.{Search}
 use Rattle.cdcl.specs.Invariant.{name_at}
 use Rattle.cdcl.specs.Running.{HasRoom}
 
--- the references rise
-abbrev pub AreRising : List (ℕ × Name) → Type 0
-AreRising listed = (i j : ℕ) (d : ℕ × Name) → i < j → j < length listed
-    → (slice_index_or listed i d).0 < (slice_index_or listed j d).0
-
 -- a live clause over so many variables
 pub record IsLiveWithin (slots : Slots) (variables r : ℕ) : Type 0 where
   pub clause : List Literal
   pub live : clause_at slots r ≡ Some clause
   pub within : IsWithin variables clause
+
+-- each clause is
+abbrev pub AreWithin : Slots → ℕ → Type 0
+AreWithin slots variables = (r : ℕ) (c : List Literal) → clause_at slots r ≡ Some c
+    → IsWithin variables c
+
+-- nothing is true, and of the places below one those with a live clause are attached, no others
+pub record AreAttachedBelow (e : EngineState) (slots : Slots) (variables n : ℕ) : Type 0 where
+  pub fits : Fits e slots
+  pub trail : e.trail ≡ []
+  pub variables_are : e.variables ≡ variables
+  pub works : e.failed ≡ false
+  pub attached : (r : ℕ) → r < n → IsLive slots r → is_attached e r ≡ true
+  pub only : (r : ℕ) → is_attached e r ≡ true → r < n
 
 -- nothing is true, all clauses that the stack lists are attached, and each has its name
 pub record IsStarted (slots : Slots) (stack : StackState) (additions : ℕ)

@@ -111,8 +111,7 @@ impl<S: Sink> Solver<S> {
         let given = GivenClauses::of(clauses)?;
         let first = given.len();
         tally.is_short();
-        let search = start(store, &stack, tally.additions)?;
-        stack.forget_names();
+        let search = start(store, &mut stack, tally.additions)?;
         let Tally { sink, refuted, .. } = tally;
         Ok(Solver {
             search,

@@ -9,13 +9,15 @@ use Rattle.clauses.specs.Slots.{Slots, live_clauses}
 use Rattle.lrat_log.specs.Log.{LogLine}
 use Rattle.lrat_log.specs.Steps.{given_of}
 use Rattle.eliminate_names.specs.Work.{NamesState}
-use Rattle.eliminate_pairs.specs.Pairs.{Stage, Ground, IsStage, Passes, stage_of}
+use Rattle.eliminate_names.proofs.Laws.{AreTogether}
+use Rattle.eliminate_pairs.specs.Pairs.{Stage, Ground, IsStage, Passes, FitNames, stage_of}
 use Rattle.eliminate.specs.declared.simplifier.Simplifier.{Simplifier}
 use Rattle.eliminate.specs.Elimination.{Removed, is_eliminated, IsRemovedWithin}
 use Rattle.eliminate.specs.Ending.{IsResult}
 use Rattle.eliminate.specs.State.{Start}
 use Rattle.eliminate.specs.Variables.{LeavesLogOver}
 use Rattle.eliminate.specs.Simplifier.{IsSimplified}
+use Rattle.eliminate_pairs.proofs.Laws.{fit_together, stage_together}
 
 -- a variable above all that were eliminated is none of these
 none_above : (v z : ℕ) (removed : List Removed) → v < z → All (IsRemovedWithin v) removed
@@ -50,6 +52,22 @@ open_stage start s slots lines h running = record {
   free = h.state.free;
 }
 
+-- also once the clauses have moved together
+moved_stage : (start : Start) (s : Simplifier) (slots moved : Slots) (n : NamesState)
+    (lines : List LogLine) → IsSimplified start s slots lines → s.is_refuted ≡ false
+    → AreTogether slots moved s.names n
+    → IsStage (ground_of start s slots) (stage_of s.vars moved n lines)
+moved_stage start s slots moved n lines h running t =
+    stage_together (ground_of start s slots) s.vars slots moved s.names n lines t
+    (open_stage start s slots lines h running)
+
+pub moved_fit : (start : Start) (s : Simplifier) (slots moved : Slots) (n : NamesState)
+    (lines : List LogLine) → IsSimplified start s slots lines → AreTogether slots moved s.names n
+    → FitNames n moved lines
+moved_fit start s slots moved n lines h t =
+    fit_together slots moved s.names n lines t
+    (record { counted = h.counted; long = h.state.work.named.long })
+
 -- and with the fresh variables
 stage_result : (start : Start) (s : Simplifier) (slots : Slots) (lines : List LogLine) (t : Stage)
     → IsSimplified start s slots lines → s.vars ≤ t.variables → IsStage (ground_of start s slots) t
@@ -68,22 +86,25 @@ stage_result start s slots lines t h more k fresh = record {
 
 -- where the pairs were done
 pub ended : {E : Type 0} (r : Result ℕ E) (frozen : List Bool) (s : Simplifier)
-    (slots slots' : Slots) (n' : NamesState) (lines lines' : List LogLine) → s.is_refuted ≡ false
-    → Passes r (stage_of s.vars slots s.names lines) (length frozen + 2 ^ 20) slots' n' lines'
+    (slots moved slots' : Slots) (n n' : NamesState) (lines lines' : List LogLine)
+    → s.is_refuted ≡ false → AreTogether slots moved s.names n
+    → Passes r (stage_of s.vars moved n lines) (length frozen + 2 ^ 20) slots' n' lines'
     → IfOk r (λ v. (start : Start) → start.frozen ≡ frozen → IsSimplified start s slots lines
     → IsResult start s.removals (stage_of v slots' n' lines'))
-ended (Ok v) frozen s slots slots' n' lines lines' running done = λ start is h.
+ended (Ok v) frozen s slots moved slots' n n' lines lines' running t done = λ start is h.
     let same : length start.frozen ≡ length frozen = ap length is in
     stage_result start s slots lines (stage_of v slots' n' lines') h done.more
-    (done.keeps (ground_of start s slots) (open_stage start s slots lines h running))
+    (done.keeps (ground_of start s slots) (moved_stage start s slots moved n lines h running t))
     (omega (arith, done.most))
-ended (Err x) frozen s slots slots' n' lines lines' running done = tt
+ended (Err x) frozen s slots moved slots' n n' lines lines' running t done = tt
 
 pub refused : {E : Type 0} (r : Result ℕ E) (frozen : List Bool) (s : Simplifier)
-    (slots slots' : Slots) (n' : NamesState) (lines lines' : List LogLine) → s.is_refuted ≡ false
-    → Passes r (stage_of s.vars slots s.names lines) (length frozen + 2 ^ 20) slots' n' lines'
+    (slots moved slots' : Slots) (n n' : NamesState) (lines lines' : List LogLine)
+    → s.is_refuted ≡ false → AreTogether slots moved s.names n
+    → Passes r (stage_of s.vars moved n lines) (length frozen + 2 ^ 20) slots' n' lines'
     → OnErr r (LeavesLogOver frozen s slots lines lines')
-refused (Ok v) frozen s slots slots' n' lines lines' running done = tt
-refused (Err e) frozen s slots slots' n' lines lines' running done = λ start is h.
-    let log = done.log (ground_of start s slots) (open_stage start s slots lines h running) in
+refused (Ok v) frozen s slots moved slots' n n' lines lines' running t done = tt
+refused (Err e) frozen s slots moved slots' n n' lines lines' running t done = λ start is h.
+    let log = done.log (ground_of start s slots)
+    (moved_stage start s slots moved n lines h running t) in
     (log.steps, log.none_learned)

@@ -2,7 +2,7 @@
 use Rattle.std.proofs.Common.{◌≡◌, ℕ, zero, suc, ◌+◌, ◌<◌, false, List, [], ◌∷◌, length, map}
 use Rattle.std.proofs.Common.{get_or, Some, None, refl, sym, ◌∙◌, ap, subst, arith, zero-add}
 use Rattle.std.specs.Prelude.{All, Contains, nat_eq}
-use Rattle.std.specs.List.{AllByRecursion, IsDistinct}
+use Rattle.std.specs.List.{AllByRecursion, IsDistinct, enumerate_from}
 use Rattle.std.proofs.lemmas.Bool.{ne_eqb}
 use Rattle.std.proofs.lemmas.List.{get_or-map, length-map}
 use Rattle.std.proofs.lemmas.List.Elements.{All-from_recursion, All-map}
@@ -12,11 +12,13 @@ use Rattle.cnf.specs.Literal.{Literal}
 use Rattle.cnf.specs.Refute.{Clauses}
 use Rattle.cnf.specs.Lrat.{IsId}
 use Rattle.clauses.specs.Slots.{Slots, clause_at, places_from, live_places, live_clauses, Renaming}
-use Rattle.clauses.specs.Slots.{IsRenaming}
+use Rattle.clauses.specs.Slots.{IsRenaming, moves_from, moves_of}
 use Rattle.lrat_log.specs.declared.lines.Name.{Name}
 use Rattle.lrat_log.specs.Log.{id_of, number_in}
-use Rattle.eliminate.specs.Elimination.{HoldsWhatIsLive, AreMoved, moved_names}
+use Rattle.eliminate.specs.Elimination.{HoldsWhatIsLive}
+use Rattle.eliminate_names.specs.Together.{live_names}
 use Rattle.eliminate_names.specs.Work.{name_at, AreLiveAs}
+use Rattle.clauses.proofs.Laws.{renamed_together}
 use Rattle.eliminate_names.proofs.Laws.{number_at}
 
 -- what holds of each live place holds of those in order
@@ -91,8 +93,12 @@ contains_place f n (Some d ∷ slots) (suc r) c e =
     (let x : n + 1 + r ≡ n + suc r = omega arith in x) (contains_place f (n + 1) slots r c e) in
     (suc w.0, (let lt = w.1 in omega arith), w.2)
 
+-- the clauses in their new places, each with the name that it had in its old one
+abbrev moved_names : List Name → Renaming → List (ℕ × Name)
+moved_names names moves = map (λ (m : ℕ × ℕ). (m.1, name_at names m.0)) moves
+
 -- the clauses of the old store have their names in the new one
-pub holds_moved : (old new : Slots) (moves : Renaming) (names : List Name) (base last : ℕ)
+holds_moved : (old new : Slots) (moves : Renaming) (names : List Name) (base last : ℕ)
     (at : Clauses) → All (λ n. IsId (number_in n)) names → IsRenaming old new moves
     → AreLiveAs (λ r. id_of base (name_at names r)) old at last
     → HoldsWhatIsLive new (moved_names names moves) base at
@@ -122,15 +128,35 @@ holds_moved old new moves names base last at ids renames a =
           (contains_place id 0 old w.0 c w.1));
     }
 
-pub moved_holds : (old new : Slots) (names : List Name) (listed : List (ℕ × Name)) (base last : ℕ)
-    (at : Clauses) → All (λ n. IsId (number_in n)) names → AreMoved names old new listed
-    → AreLiveAs (λ r. id_of base (name_at names r)) old at last
-    → HoldsWhatIsLive new listed base at
-moved_holds old new names listed base last at ids moved a =
-    subst (λ ns. HoldsWhatIsLive new ns base at) (sym moved.2)
-    (holds_moved old new moved.0 names base last at ids moved.1 a)
+-- where they move together, the names are those of what was live
+names_moved : (all : List Name) (old new : ℕ) (names : List Name) (slots : Slots)
+    → length names ≡ length slots
+    → ((k : ℕ) → k < length names → name_at all (old + k) ≡ name_at names k)
+    → moved_names all (moves_from old new slots) ≡ enumerate_from new (live_names names slots)
+names_moved all old new [] [] long h = refl
+names_moved all old new [] (s ∷ slots) long h = absurd (omega arith)
+names_moved all old new (n ∷ names) [] long h = absurd (omega arith)
+names_moved all old new (n ∷ names) (None ∷ slots) long h =
+    names_moved all (old + 1) new names slots (omega arith)
+    (λ k lt. ap (name_at all) (let x : old + 1 + k ≡ old + suc k = omega arith in x)
+    ∙ h (suc k) (omega arith))
+names_moved all old new (n ∷ names) (Some c ∷ slots) long h =
+    let first : name_at all old ≡ n =
+    ap (name_at all) (let x : old ≡ old + 0 = omega arith in x) ∙ h 0 (omega arith) in
+    ap (λ (m : Name). (new, m) ∷ moved_names all (moves_from (old + 1) (new + 1) slots)) first
+    ∙ ap (λ (ms : List (ℕ × Name)). (new, n) ∷ ms)
+    (names_moved all (old + 1) (new + 1) names slots (omega arith)
+    (λ k lt. ap (name_at all) (let x : old + 1 + k ≡ old + suc k = omega arith in x)
+    ∙ h (suc k) (omega arith)))
 
--- a store without gaps has just the clauses that it was made of
-pub live_map : (cs : List (List Literal)) → live_clauses (map Some cs) ≡ cs
-live_map [] = refl
-live_map (c ∷ cs) = ap (λ ds. c ∷ ds) (live_map cs)
+pub together_holds : (old new : Slots) (names left : List Name) (base last : ℕ) (at : Clauses)
+    → All (λ n. IsId (number_in n)) names → length names ≡ length old
+    → new ≡ map Some (live_clauses old) → left ≡ live_names names old
+    → AreLiveAs (λ r. id_of base (name_at names r)) old at last
+    → HoldsWhatIsLive new (enumerate_from 0 left) base at
+together_holds old new names left base last at ids long moved is a =
+    subst (λ (ns : List (ℕ × Name)). HoldsWhatIsLive new ns base at)
+    (names_moved names 0 0 names old long (λ k lt. ap (name_at names) (zero-add k))
+    ∙ ap (enumerate_from 0) (sym is))
+    (holds_moved old new (moves_of old) names base last at ids
+    (renamed_together old new (moves_of old) moved refl) a)

@@ -1,15 +1,14 @@
 -- Eliminated variables, and how they get their values back.
 use Rattle.std.specs.Prelude.{◌≡◌, ℕ, ◌-◌, ◌<◌, ◌≤◌, Bool, false, List, length}
-use Rattle.std.specs.Prelude.{map, Some, slice_get, slice_index_or, All, Contains}
+use Rattle.std.specs.Prelude.{map, Some, slice_get, All, Contains}
 use Rattle.std.specs.Prelude.{nat_eq}
 use Rattle.std.specs.List.{IsDistinct}
 use Rattle.cnf.specs.Literal.{Literal, Assignment}
 use Rattle.cnf.specs.Clause.{Satisfies}
 use Rattle.cnf.specs.Refute.{Clauses}
 use Rattle.cnf.specs.Bits.{assignment_of}
-use Rattle.clauses.specs.Slots.{Slots, clause_at, live_places, Renaming, IsRenaming}
+use Rattle.clauses.specs.Slots.{Slots, clause_at, live_places}
 use Rattle.lrat_log.specs.declared.lines.Name.{Name}
-use Rattle.lrat_log.specs.declared.lines.Name.TheVariants.{Formula}
 use Rattle.lrat_log.specs.Log.{id_of, number_in}
 pub use Rattle.eliminate_tables.specs.Removals.{Removed, positive, is_needed, becomes_true}
 pub use Rattle.eliminate_tables.specs.Removals.{extended, is_eliminated}
@@ -50,12 +49,3 @@ pub record HoldsWhatIsLive (slots : Slots) (names : List (ℕ × Name)) (base : 
   pub named : All (λ n. at (id_of base n.1) ≡ clause_at slots n.0) names
   pub only : (i : ℕ) (c : List Literal) → at i ≡ Some c
       → Contains (map (λ n. id_of base n.1) names) i
-
--- the clauses in their new places, each with the name that it had in its old one
-abbrev pub moved_names : List Name → Renaming → List (ℕ × Name)
-moved_names names moves = map (λ m. (m.1, slice_index_or names m.0 (Formula 1))) moves
-
--- by moves that bring the clauses of one store into another
-abbrev pub AreMoved : List Name → Slots → Slots → List (ℕ × Name) → Type 0
-AreMoved names old new listed = (moves : Renaming) × IsRenaming old new moves
-    × (listed ≡ moved_names names moves)

@@ -1,24 +1,26 @@
 // Elimination, and the way back.
 ghost use Rattle.std.specs.Prelude.{◌≡◌, ℕ, ◌+◌, ◌-◌, ◌<◌, ◌≤◌, ◌^◌, false, []};
 ghost use Rattle.std.specs.Prelude.{length, map, Some, slice_get, All, Contains, IfOk, OnOk};
+ghost use Rattle.std.specs.List.{enumerate_from};
 ghost use Rattle.cnf.specs.Formula.{IsFormula, IsFormulaClause};
 ghost use Rattle.cnf.specs.Refute.{IsRefutedByHints};
 ghost use Rattle.clauses.specs.Slots.{live_clauses};
 ghost use Rattle.lrat_log.specs.Steps.{StaysLogOver, IsBaseOf, learned_count, log_live, given_of};
 ghost use Rattle.eliminate.specs.Elimination.{extended, is_eliminated, IsFree, AreFreeOf};
-ghost use Rattle.eliminate.specs.Elimination.{ExtendsBack, HoldsWhatIsLive, AreMoved};
+ghost use Rattle.eliminate.specs.Elimination.{ExtendsBack, HoldsWhatIsLive};
 
 use crate::ending::define_where_open;
 use crate::rounds::simplify;
 use crate::simplifier::Simplifier;
 use crate::units::propagate_units;
-use clauses::store::{CRef, Store};
-use eliminate_names::names::Names;
+use clauses::store::Store;
+use eliminate_names::names::move_together;
 use eliminate_tables::stack::Removals;
 use lrat_log::packed_name::PackedName;
 use lrat_log::sink::Sink;
 use std::alloc::AllocError;
 use std::marker::Model;
+use std::mem::replace;
 
 /// The eliminated variables, and the names of the clauses that are left.
 #[derive(Drop)]
@@ -27,18 +29,23 @@ pub struct Stack {
     vars: u32,
     // The eliminated variables, each with the clauses that its value has to satisfy.
     removed: Removals,
-    // The clauses that are left, by rising reference, each with its name in the log; none once the
-    // list was given back.
-    names: Vec<(CRef, PackedName)>,
+    // By reference, from 0, the name in the log of each clause that is left; none once they were
+    // taken.
+    names: Vec<PackedName>,
 }
 
 impl Model for Stack {
     ghost use Rattle.std.specs.Prelude.{All};
+    ghost use Rattle.std.specs.List.{enumerate_from};
     ghost use Rattle.eliminate.specs.Elimination.{StackState, IsRemovedWithin};
 
     ghost Value = { StackState };
 
-    ghost view = { λ s. record { variables = s.vars; removed = s.removed; names = s.names.items } };
+    ghost view = { λ s. record {
+      variables = s.vars;
+      removed = s.removed;
+      names = enumerate_from 0 s.names.items;
+    } };
 
     ghost invariant = { λ s. All (IsRemovedWithin s.vars) s.removed };
 }
@@ -51,19 +58,21 @@ impl Stack {
         self.vars
     }
 
-    /// Each live reference of the store with the name of its clause, as `eliminate` left them; none
-    /// after `forget_names`.
-    pub fn names(&self) -> &[(CRef, PackedName)]
-        ensures { result.now ≡ self.now.names }
+    /// By reference, from 0, the name of each clause of the store, as `eliminate` left them; none
+    /// after `take_names`.
+    pub fn names(&self) -> &[PackedName]
+        ensures { enumerate_from 0 result.now ≡ self.now.names }
     {
         &self.names
     }
 
-    /// Gives the list of names back: the way back needs none.
-    pub fn forget_names(&mut self)
-        ensures { self.new ≡ record self.old { names = [] } }
+    /// Takes the names out: the way back needs none.
+    pub fn take_names(&mut self) -> Vec<PackedName>
+        ensures taken { enumerate_from 0 result.items ≡ self.old.names }
+        ensures rest { self.new ≡ record self.old { names = [] } }
     {
-        self.names = Vec::new(*self.names.allocator());
+        let none = Vec::new(*self.names.allocator());
+        replace(&mut self.names, none)
     }
 
     /// Sets the eliminated variables, the last eliminated first: each becomes true just where some
@@ -120,27 +129,10 @@ pub fn eliminate<S: Sink>(
     propagate_units(&mut simplifier, store, sink)?;
     simplify(&mut simplifier, store, frozen, sink)?;
     let vars = define_where_open(&mut simplifier, store, frozen, sink)?;
-    let names = move_together(store, &simplifier.names)?;
+    move_together(store, &mut simplifier.names);
     Ok(Stack {
         vars,
         removed: simplifier.removals,
-        names,
+        names: simplifier.names.into_packed(),
     })
-}
-
-/// Moves the clauses that are left together, and lists each with its name, in rising order.
-fn move_together(store: &mut Store, names: &Names) -> Result<Vec<(CRef, PackedName)>, AllocError>
-    requires { length names.now.names ≡ length store.old.slots }
-    ensures together { OnOk result (store.new.slots ≡ map Some (live_clauses store.old.slots)) }
-    ensures names { IfOk result (λ listed.
-        AreMoved names.now.names store.old.slots store.new.slots listed.items) }
-{
-    let moves = store.compact()?;
-    store.shrink_to_fit();
-    let pairs = moves.pairs();
-    let mut listed = Vec::with_capacity(store.allocator(), pairs.len())?;
-    for (old, new) in pairs {
-        listed.push((*new, PackedName::new(names.get(*old))))?;
-    }
-    Ok(listed)
 }

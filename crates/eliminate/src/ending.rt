@@ -1,4 +1,6 @@
 // The last pass: fresh variables for pairs. It needs the names of the clauses, and no other table.
+// So the clauses that are left can move together before it: mostly more are dead than live, and
+// their room goes to the table of pairs.
 ghost use Rattle.std.specs.Prelude.{◌≡◌, ◌+◌, true, IfOk, OnErr, OnOk};
 ghost use Rattle.eliminate.specs.State.{Start};
 ghost use Rattle.eliminate.specs.Simplifier.{IsSimplified};
@@ -8,6 +10,7 @@ ghost use Rattle.eliminate.specs.Ending.{IsResult};
 
 use crate::simplifier::Simplifier;
 use clauses::store::Store;
+use eliminate_names::names::move_together;
 use eliminate_pairs::pairs::define_pairs;
 use eliminate_tables::bins::Bins;
 use eliminate_tables::rows::Rows;
@@ -59,6 +62,7 @@ pub(crate) fn define_where_open<S: Sink>(
         &mut simplifier.schedule,
         store.allocator(),
     );
+    move_together(store, &mut simplifier.names);
     let most = frozen.len() as u32 + MOST_FRESH;
     define_pairs(store, &mut simplifier.names, sink, simplifier.vars, most)
 }

@@ -5,3 +5,5 @@ pub use Rattle.eliminate_names.proofs.Moving.{learned-push, open_added, open_del
 pub use Rattle.eliminate_names.proofs.Moving.{work_added}
 pub use Rattle.eliminate_names.proofs.Moving.{work_deleted}
 pub use Rattle.eliminate_names.proofs.Naming.{name-last, name-push, named_added, number_at}
+pub use Rattle.eliminate_names.proofs.Together.{AreTogether, together_fit, was_there}
+pub use Rattle.eliminate_names.proofs.Together.{work_together}

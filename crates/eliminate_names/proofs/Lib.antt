@@ -2,4 +2,5 @@ mod Logs
 mod Moving
 mod Named
 mod Naming
+mod Together
 pub mod Laws

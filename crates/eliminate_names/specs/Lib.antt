@@ -1,2 +1,3 @@
+pub mod Together
 pub mod Vectors
 pub mod Work

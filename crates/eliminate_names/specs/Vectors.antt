@@ -7,6 +7,7 @@ use Rattle.lrat_log.specs.declared.lines.Name.TheVariants.{Formula, Added}
 use Rattle.lrat_log.specs.declared.lines.Kind.TheVariants.{Resolvent}
 use Rattle.lrat_log.specs.Log.{LogLine}
 use Rattle.lrat_log.specs.Steps.{added_count}
+use Rattle.eliminate_names.specs.Together.{live_names}
 use Rattle.eliminate_names.specs.Work.{added_line, delete_line, formula_names, name_at}
 
 abbrev two : Slots
@@ -25,3 +26,7 @@ two_additions = refl
 
 next_name : added_line 2 ≡ Added 3
 next_name = refl
+
+-- the names of what is left close the gap
+left_names : live_names (Added 1 ∷ Added 2 ∷ Added 3 ∷ []) two ≡ Added 1 ∷ Added 3 ∷ []
+left_names = refl

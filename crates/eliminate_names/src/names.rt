@@ -1,11 +1,12 @@
 // The name of each clause in the store, and how many additions the log has: so an added clause
 // knows its name.
 ghost use Rattle.std.specs.Prelude.{◌≡◌, ℕ, ◌+◌, ◌<◌, ◌≤◌, ◌^◌, List, [], ◌∷◌, ◌++◌, length, IfOk};
-ghost use Rattle.std.specs.Prelude.{OnErr, slice_set, Some, None, All};
-ghost use Rattle.clauses.specs.Slots.{IsLive};
+ghost use Rattle.std.specs.Prelude.{OnErr, slice_set, Some, None, All, map};
+ghost use Rattle.clauses.specs.Slots.{IsLive, live_clauses};
 ghost use Rattle.cnf.specs.Lrat.{IsId};
 ghost use Rattle.lrat_log.specs.Log.{IsLine, number_in};
 ghost use Rattle.lrat_log.specs.Steps.{added_count};
+ghost use Rattle.eliminate_names.specs.Together.{live_names};
 ghost use Rattle.eliminate_names.specs.Work.{name_at, added_line, delete_line, formula_names};
 
 use clauses::store::{CRef, Store};
@@ -64,6 +65,49 @@ impl Names {
     {
         self.names[reference.index()].name()
     }
+
+    /// The names alone, by reference.
+    pub fn into_packed(self) -> Vec<PackedName>
+        ensures { result.items ≡ self.names }
+    {
+        self.names
+    }
+
+    /// Closes the gaps that deleted clauses leave, in place: no name is written over before it was
+    /// read, since what was kept ends below the place in hand.
+    fn keep_live(&mut self, store: &Store)
+        requires { length self.old.names ≡ length store.now.slots }
+        ensures { self.new ≡ record self.old {
+          names = live_names self.old.names store.now.slots;
+        } }
+    {
+        let mut kept = 0;
+        for place in 0..store.places() {
+            match store.live_at(place) {
+                Some(_reference) => {
+                    self.names[kept] = self.names[place];
+                    kept += 1;
+                }
+                None => {}
+            }
+        }
+        self.names.truncate(kept);
+        self.names.shrink_to_fit();
+    }
+}
+
+/// Moves the live clauses of the store together, and their names with them, and gives back the
+/// memory that the others had. It takes none.
+pub fn move_together(store: &mut Store, names: &mut Names)
+    requires { length names.old.names ≡ length store.old.slots }
+    ensures slots { store.new.slots ≡ map Some (live_clauses store.old.slots) }
+    ensures names { names.new ≡ record names.old {
+      names = live_names names.old.names store.old.slots;
+    } }
+{
+    names.keep_live(store);
+    store.move_together();
+    store.shrink_to_fit();
 }
 
 /// Adds a clause to the store and its line to the log. The line comes last: where one is refused,

@@ -9,4 +9,5 @@ pub use Rattle.eliminate_pairs.proofs.Literals.{has_true, literal_eq-negation, l
 pub use Rattle.eliminate_pairs.proofs.Literals.{member-small}
 pub use Rattle.eliminate_pairs.proofs.Literals.{negation_twice, not-opposite, not-without, not_not}
 pub use Rattle.eliminate_pairs.proofs.Literals.{without-contains}
-pub use Rattle.eliminate_pairs.proofs.LiveClauses.{all_live, contains_live, live_all}
+pub use Rattle.eliminate_pairs.proofs.LiveClauses.{all_live, contains_live, live_all, live_map}
+pub use Rattle.eliminate_pairs.proofs.Together.{fit_together, stage_together}

@@ -6,4 +6,5 @@ mod Meetings
 mod Pairing
 mod Replacing
 mod Staging
+mod Together
 pub mod Laws

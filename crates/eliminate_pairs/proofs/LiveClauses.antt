@@ -1,5 +1,5 @@
 -- What holds of each clause of a store holds of the live ones in order, and back.
-use Rattle.std.proofs.Common.{◌≡◌, ℕ, zero, suc, List, [], ◌∷◌, Some, None, refl, subst}
+use Rattle.std.proofs.Common.{◌≡◌, ℕ, zero, suc, List, [], ◌∷◌, map, Some, None, refl, ap, subst}
 use Rattle.std.specs.Prelude.{All, Contains}
 use Rattle.std.proofs.lemmas.List.Elements.{All-nil, All-cons, All-head, All-tail, Contains-get_or}
 use Rattle.std.proofs.lemmas.Option.{same_Some, none-some}
@@ -28,3 +28,8 @@ pub contains_live : (slots : Slots) (r : ℕ) (c : List Literal) → clause_at s
 contains_live slots r c e =
     live_all (Contains (live_clauses slots)) slots
     (λ k d lt. Contains-get_or (live_clauses slots) k d lt) r c e
+
+-- a store without gaps has just the clauses that it was made of
+pub live_map : (cs : List (List Literal)) → live_clauses (map Some cs) ≡ cs
+live_map [] = refl
+live_map (c ∷ cs) = ap (λ ds. c ∷ ds) (live_map cs)

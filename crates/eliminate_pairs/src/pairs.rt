@@ -3,7 +3,8 @@
 // 'not z, or l1 or l2', 'z or not l1' and 'z or not l2', and each clause with the pair becomes one
 // with z. Which pairs are worthwhile is found by counting and may be wrong: each clause is looked
 // at again before it changes. A pair whose count has fallen to less than half since it was counted
-// waits for the next round.
+// waits for the next round. Each clause that changes leaves a dead one behind, so after a round the
+// clauses move together.
 ghost use Rattle.std.specs.Prelude.{◌≡◌, ◌+◌, ◌<◌, ◌≤◌, ◌^◌, List, [], ◌∷◌, ◌++◌, length};
 ghost use Rattle.std.specs.Prelude.{IsTrue, IfOk, OnOk, OnErr, Some};
 ghost use Rattle.std.specs.List.{AllByRecursion};
@@ -22,7 +23,7 @@ ghost use Rattle.eliminate_pairs.specs.Pairs.{stage_of, FitNames, Moves, Passes}
 use crate::pair_table::{Candidate, FEWEST, PairTable, SHORTEST};
 use clauses::store::{CRef, Store};
 use cnf::types::Lit;
-use eliminate_names::names::{Names, add, delete};
+use eliminate_names::names::{Names, add, delete, move_together};
 use lrat_log::lines::{Hint, Kind};
 use lrat_log::sink::Sink;
 use std::alloc::{AllocError, Global};
@@ -70,6 +71,7 @@ pub fn define_pairs<S: Sink>(
         if last == before {
             return Ok(last);
         }
+        move_together(store, names);
     }
     Ok(last)
 }

@@ -163,8 +163,7 @@ impl Bounds {
     }
 }
 
-/// A solver of the formula without a bound. The formula itself is given back here: the solver has
-/// its clauses, and works long.
+/// A solver of the formula without a bound.
 fn make_solver(
     instance: &Instance,
     profile: Profile,
@@ -177,7 +176,7 @@ fn make_solver(
     let formula = formula_as(instance, NO_BOUND, profile)?;
     let alloc = instance.allocator();
     let frozen = freeze_compared(alloc, instance, addition, formula.vars())?;
-    Solver::new(&formula, &frozen, Log::new(alloc))
+    Solver::of(formula, frozen, Log::new(alloc))
 }
 
 /// Tells the solver what each relaxation literal costs: a search that decides what costs most first

@@ -120,7 +120,7 @@ fn make_hard_solver(instance: &Instance) -> Result<Solver<Log>, AllocError>
     let formula = hard_formula(instance)?;
     let vars = formula.vars() as usize;
     let frozen = freeze_none(alloc, vars)?;
-    let solver = Solver::new(&formula, &frozen, Log::new(alloc))?;
+    let solver = Solver::of(formula, frozen, Log::new(alloc))?;
     Ok(solver)
 }
 

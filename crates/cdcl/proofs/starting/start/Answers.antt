@@ -1,42 +1,60 @@
-use Rattle.std.proofs.Common.{◌≡◌, ℕ, ◌<◌, ◌≤◌, ◌^◌, true, length, replicate, refl, sym, ◌∙◌, ap}
-use Rattle.std.proofs.Common.{subst, arith, rules}
+use Rattle.std.proofs.Common.{◌≡◌, ℕ, ◌<◌, ◌≤◌, ◌^◌, true, List, length, replicate, refl, sym, ◌∙◌}
+use Rattle.std.proofs.Common.{ap, subst, arith, rules}
 use Rattle.std.specs.Prelude.{All}
+use Rattle.std.specs.List.{enumerate_from}
 use Rattle.std.proofs.lemmas.List.{length-replicate}
 use Rattle.std.proofs.lemmas.List.Elements.{All-replicate}
+use Rattle.std.proofs.lemmas.List.FromFn.{length-enumerate_from}
+use Rattle.cnf.specs.Lrat.{IsId}
+use Rattle.clauses.specs.Slots.{Slots}
 use Rattle.propagate.specs.Watches.{is_attached}
 use Rattle.lrat_log.specs.declared.lines.Name.{Name}
+use Rattle.lrat_log.specs.Log.{number_in}
 use Rattle.cdcl.specs.Invariant.{name_at}
-use Rattle.cdcl.specs.Starts.{IsLiveWithin}
+use Rattle.cdcl.specs.Starts.{AreWithin, IsLiveWithin}
+use Rattle.cdcl.proofs.Places.{live_within}
+use Rattle.cdcl.proofs.Started.{listed_names, listed_numbers, listed_within}
 use Rattle.cdcl.proofs.starting.start.Goals as goal
+use Rattle.cdcl.proofs.starting.start.Goals.{After-take_names-names}
 
-pub engine_of-requires-clause-live : goal.engine_of-requires-clause-live
-engine_of-requires-clause-live c =
-    subst (λ v. All (λ (n : ℕ × Name). IsLiveWithin c.args.store.slots v n.0) c.names-2.result.now)
-    (sym c.vars-variables.ensures)
-    (subst (All (λ (n : ℕ × Name). IsLiveWithin c.args.store.slots c.args.stack.now.variables n.0))
-    (sym c.names-2.ensures) c.requires.live)
+-- the names are as many as the places
+long : (c : After-take_names-names)
+    → length c.take_names-names.result.items ≡ length c.args.store.slots
+long c = sym (length-enumerate_from 0 c.take_names-names.result.items)
+    ∙ ap length c.take_names-names.ensures.taken ∙ c.requires.long
 
-pub returns : goal.returns
-returns c =
-    let many = c.in_ok-engine.ensures.variables in
+pub engine_of-requires : goal.engine_of-requires
+engine_of-requires c =
+    let names : List Name = c.take_names-names.result.items in
+    let slots : Slots = c.args.store.slots in
+    subst (AreWithin slots) (sym c.vars-variables.ensures)
+    (listed_within names slots c.args.stack.now.variables
+    (long (goal.at.engine_of-requires c).After-take_names-names)
+    (subst (All (λ (n : ℕ × Name). IsLiveWithin slots c.args.stack.now.variables n.0))
+    (sym c.take_names-names.ensures.taken) c.requires.live))
+
+pub returns-clause-started : goal.returns-clause-started
+returns-clause-started c =
+    let e = c.in_ok-engine.ensures in
+    let names : List Name = c.take_names-names.result.items in
+    let taken = c.take_names-names.ensures.taken in
+    let many = e.variables_are in
     let stamps : (c.in_ok-stamps.stamps).items ≡ replicate c.vars-variables.result 0 =
     search rules in
     let units : (c.in_ok-units.units).items ≡ replicate c.vars-variables.result c.new.result =
     search rules in
     record {
       slots_are = refl;
-      trail = c.in_ok-engine.ensures.empty;
+      trail = e.trail;
       variables = many ∙ c.vars-variables.ensures;
-      works = c.in_ok-engine.ensures.works;
-      fits = c.in_ok-engine.ensures.fits;
-      attached =
-          subst (All (λ (n : ℕ × Name). is_attached c.in_ok-engine.engine n.0 ≡ true))
-          c.names-2.ensures c.in_ok-engine.ensures.attached;
-      long = c.in_ok-names.ensures.long ∙ c.places.ensures;
-      named =
-          subst (All (λ (n : ℕ × Name). name_at (c.in_ok-names.names).items n.0 ≡ n.1))
-          c.names.ensures c.in_ok-names.ensures.named;
-      numbers = c.in_ok-names.ensures.numbers;
+      works = e.works;
+      fits = e.fits;
+      attached = λ i d lt. let w = c.requires.live i d lt in
+          e.attached _ (live_within _ _ w.clause w.live) (w.clause, w.live);
+      long = long (goal.at.returns-clause-started c).After-take_names-names;
+      named = subst (All (λ (n : ℕ × Name). name_at names n.0 ≡ n.1)) taken (listed_names names);
+      numbers = listed_numbers names
+          (subst (All (λ (n : ℕ × Name). IsId (number_in n.1))) (sym taken) c.requires.numbers);
       units = units ∙ (λ i. replicate (c.vars-variables.ensures i) (c.new.ensures i));
       noted = refl;
       kept = refl;

@@ -9,19 +9,21 @@ use Rattle.cnf.specs.Bits.{assignment_of}
 use Rattle.clauses.specs.Slots.{Slots, live_clauses}
 use Rattle.lrat_log.specs.Log.{LogLine}
 use Rattle.lrat_log.specs.Steps.{given_of, StaysLogOver, log_live, learned_count}
+use Rattle.eliminate_names.specs.Work.{NamesState}
 use Rattle.eliminate_pairs.specs.Pairs.{stage_of}
 use Rattle.eliminate.specs.Elimination.{is_eliminated, AreFreeOf, SatisfiesAll}
 use Rattle.eliminate.specs.Ending.{IsResult}
 use Rattle.eliminate.specs.State.{Start}
 use Rattle.eliminate.specs.Simplifier.{IsSimplified}
-use Rattle.eliminate.proofs.Listed.{moved_holds, live_map}
+use Rattle.eliminate_pairs.proofs.Laws.{live_map}
+use Rattle.eliminate.proofs.Listed.{together_holds}
 use Rattle.eliminate.proofs.Starting.{stays_start}
 use Rattle.eliminate.proofs.States.{all_live}
 use Rattle.eliminate.proofs.elimination.eliminate.Given.{Over}
 use Rattle.eliminate.proofs.elimination.eliminate.Goals as goal
 use Rattle.eliminate.proofs.elimination.eliminate.Goals.{In_ok-simplifier, In_ok-propagate_units}
 use Rattle.eliminate.proofs.elimination.eliminate.Goals.{In_ok-simplify, In_ok-vars}
-use Rattle.eliminate.proofs.elimination.eliminate.Goals.{In_ok-names}
+use Rattle.eliminate.proofs.elimination.eliminate.Goals.{After-move_together}
 
 abbrev start_of : Slots → List Bool → Start
 start_of slots frozen = record { clauses = live_clauses slots; frozen = frozen }
@@ -128,14 +130,6 @@ returns-in_err-vars-clause-none_learned g c =
     (c.in_err-vars.ensures.err (start_of c.args.store.now.slots c.args.frozen.now) refl
     (simplified g (goal.at.returns-in_err-vars-clause-none_learned g c).In_ok-simplify)).1
 
-pub returns-in_err-names-clause-lines : goal.returns-in_err-names-clause-lines
-returns-in_err-names-clause-lines g c =
-    (ended g (goal.at.returns-in_err-names-clause-lines g c).In_ok-vars).work.log
-
-pub returns-in_err-names-clause-none_learned : goal.returns-in_err-names-clause-none_learned
-returns-in_err-names-clause-none_learned g c =
-    (ended g (goal.at.returns-in_err-names-clause-none_learned g c).In_ok-vars).work.none_learned
-
 pub returns-clause-lines : goal.returns-clause-lines
 returns-clause-lines g c = (ended g (goal.at.returns-clause-lines g c).In_ok-vars).work.log
 
@@ -148,29 +142,31 @@ move_together-requires g c =
     (ended g (goal.at.move_together-requires g c).In_ok-vars).work.named.long
 
 -- what was left has its clauses still
-same_clauses : (g : Over) (c : In_ok-names g)
+same_clauses : (g : Over) (c : After-move_together g)
     → live_clauses c.move_together.new.store.slots ≡ live_clauses
     c.define_where_open.new.store.slots
-same_clauses g c = ap live_clauses c.in_ok-names.ensures.together
+same_clauses g c = ap live_clauses c.move_together.ensures.slots
     ∙ live_map (live_clauses c.define_where_open.new.store.slots)
 
 pub returns-clause-together : goal.returns-clause-together
-returns-clause-together g c = c.in_ok-names.ensures.together
-    ∙ ap (map Some) (sym (same_clauses g (goal.at.returns-clause-together g c).In_ok-names))
+returns-clause-together g c = c.move_together.ensures.slots
+    ∙ ap (map Some) (sym (same_clauses g (goal.at.returns-clause-together g c).After-move_together))
 
 pub returns-clause-live : goal.returns-clause-live
 returns-clause-live g c base above =
     let k = ended g (goal.at.returns-clause-live g c).In_ok-vars in
-    moved_holds c.define_where_open.new.store.slots c.move_together.new.store.slots
-    c.define_where_open.new.simplifier.names.names c.in_ok-names.names.items base _
+    together_holds c.define_where_open.new.store.slots c.move_together.new.store.slots
+    c.define_where_open.new.simplifier.names.names c.into_packed.result.items base _
     (log_live (given_of (live_clauses c.args.store.now.slots)) base
-    (g.S.Sink.lines c.define_where_open.new.sink)) k.work.named.numbers c.in_ok-names.ensures.names
+    (g.S.Sink.lines c.define_where_open.new.sink)) k.work.named.numbers k.work.named.long
+    c.move_together.ensures.slots
+    (c.into_packed.ensures ∙ ap (λ (n : NamesState). n.names) c.move_together.ensures.names)
     (k.work.named.live base above)
 
 pub returns-clause-left : goal.returns-clause-left
 returns-clause-left g c =
     subst (All (IsFormulaClause c.in_ok-vars.vars))
-    (sym (same_clauses g (goal.at.returns-clause-left g c).In_ok-names))
+    (sym (same_clauses g (goal.at.returns-clause-left g c).After-move_together))
     (all_live (IsFormulaClause c.in_ok-vars.vars) c.define_where_open.new.store.slots
     (ended g (goal.at.returns-clause-left g c).In_ok-vars).work.clauses)
 
@@ -181,7 +177,8 @@ returns-clause-variables g c = let k = ended g (goal.at.returns-clause-variables
 pub returns-clause-free : goal.returns-clause-free
 returns-clause-free g c =
     let removed = c.define_where_open.new.simplifier.removals in
-    subst (AreFreeOf removed) (sym (same_clauses g (goal.at.returns-clause-free g c).In_ok-names))
+    subst (AreFreeOf removed)
+    (sym (same_clauses g (goal.at.returns-clause-free g c).After-move_together))
     (all_live (λ (d : List Literal). All
     (λ (l : Literal). is_eliminated removed l.variable ≡ false) d)
     c.define_where_open.new.store.slots
@@ -195,7 +192,7 @@ pub returns-clause-back : goal.returns-clause-back
 returns-clause-back g c bits few all =
     (ended g (goal.at.returns-clause-back g c).In_ok-vars).back bits few
     (subst (SatisfiesAll (assignment_of bits))
-    (same_clauses g (goal.at.returns-clause-back g c).In_ok-names) all)
+    (same_clauses g (goal.at.returns-clause-back g c).After-move_together) all)
 
 pub returns-clause-refuted : goal.returns-clause-refuted
 returns-clause-refuted g c w =
@@ -203,7 +200,7 @@ returns-clause-refuted g c w =
       | inl e ↦
           let h = simplified g (goal.at.returns-clause-refuted g c).In_ok-simplify in
           subst (λ (cs : List (List Literal)). Contains cs [])
-          (sym (same_clauses g (goal.at.returns-clause-refuted g c).In_ok-names
+          (sym (same_clauses g (goal.at.returns-clause-refuted g c).After-move_together
           ∙ ap live_clauses
           (c.in_ok-vars.ensures.refuted (c.in_ok-simplify.ensures.refuted e))))
           (h.refuted (c.in_ok-simplify.ensures.refuted e))

@@ -2,11 +2,17 @@
 use Rattle.std.proofs.Common.{arith}
 use Rattle.std.proofs.lemmas.Result.{MatchResult-from_err}
 use Rattle.eliminate_pairs.proofs.Defining.{replaces_on, leaves_on}
+use Rattle.eliminate_pairs.proofs.Together.{replaces_together}
 use Rattle.eliminate_pairs.proofs.pairs.define_pairs.Goals as goal
 
 pub loop-round-preserved : goal.loop-round-preserved
 loop-round-preserved g c =
-    replaces_on _ _ _ _ _ _ c.loop-round.invariant _ _ _ _ _ (omega arith) c.in_ok-last.ensures
+    let more = c.in_ok-last.ensures.more in
+    replaces_together _ _ _ _ _ _ _ _ (record {
+      slots_are = c.move_together.ensures.slots;
+      names_are = c.move_together.ensures.names;
+    }) (omega (arith, c.loop-round.invariant.more, more))
+    (replaces_on _ _ _ _ _ _ c.loop-round.invariant _ _ _ _ _ (omega arith) c.in_ok-last.ensures)
 
 pub returns-in_err-last : goal.returns-in_err-last
 returns-in_err-last g c =

@@ -12,8 +12,8 @@ use Rattle.lrat_log.proofs.Laws.{clauses_given}
 use Rattle.eliminate.specs.Elimination.{ExtendsBack, IsFree, StackState}
 use Rattle.cdcl.specs.declared.input.Input.{Input}
 use Rattle.cdcl.proofs.Placing.{added_few}
-use Rattle.cdcl.proofs.FirstRun.{IsLeft, formula_again, left_from, live_map, left_rising, left_live}
-use Rattle.cdcl.proofs.FirstRun.{left_within, left_numbers, new_input, first_clauses, first_runs}
+use Rattle.cdcl.proofs.FirstRun.{IsLeft, formula_again, left_from, live_map, left_long, left_live}
+use Rattle.cdcl.proofs.FirstRun.{left_numbers, new_input, first_clauses, first_runs}
 use Rattle.cdcl.proofs.Answered.{log_now}
 use Rattle.cdcl.proofs.solver.Solver.of.Goals as goal
 use Rattle.cdcl.proofs.solver.Solver.of.Goals.{After-is_short}
@@ -43,17 +43,11 @@ start-requires-clause-few g c =
     let wide = ap length c.deref.ensures.value in
     omega (arith, v.1, few, wide)
 
-pub start-requires-clause-within : goal.start-requires-clause-within
-start-requires-clause-within g c =
-    left_within c.into_clauses-clauses.result c.eliminate.new.store.slots c.in_ok-stack.stack
+pub start-requires-clause-long : goal.start-requires-clause-long
+start-requires-clause-long g c =
+    left_long c.into_clauses-clauses.result c.eliminate.new.store.slots c.in_ok-stack.stack
     (g.S.Sink.lines c.eliminate.new.sink.sink)
-    (left g (goal.at.start-requires-clause-within g c).After-is_short)
-
-pub start-requires-clause-rising : goal.start-requires-clause-rising
-start-requires-clause-rising g c =
-    left_rising c.into_clauses-clauses.result c.eliminate.new.store.slots c.in_ok-stack.stack
-    (g.S.Sink.lines c.eliminate.new.sink.sink)
-    (left g (goal.at.start-requires-clause-rising g c).After-is_short)
+    (left g (goal.at.start-requires-clause-long g c).After-is_short) c.in_ok-stack.ensures.together
 
 pub start-requires-clause-live : goal.start-requires-clause-live
 start-requires-clause-live g c =
@@ -87,13 +81,13 @@ invariant_of-result g c =
     let frozen : c.args.frozen.items ≡ c.deref.result.now = sym c.deref.ensures.value in
     let p : Input =
     record {
-      stack = c.forget_names.new.self;
+      stack = c.start.new.stack;
       frozen = c.args.frozen;
       first = c.len-first.result;
       given = c.in_ok-given.given;
     } in
-    let wide : c.forget_names.new.self.variables ≡ c.in_ok-stack.stack.variables =
-    ap (λ (k : StackState). k.variables) c.forget_names.ensures in
+    let wide : c.start.new.stack.variables ≡ c.in_ok-stack.stack.variables =
+    ap (λ (k : StackState). k.variables) c.in_ok-search.ensures.names in
     let firsts : c.len-first.result ≡ length c.in_ok-given.given = c.len-first.ensures.len in
     let stays : StaysLogOver (length c.args.frozen.items) (given_of cs) ls =
     subst (λ f. StaysLogOver (length f) (given_of cs) ls) (sym frozen)
@@ -113,8 +107,8 @@ invariant_of-result g c =
       refuted_is = c.eliminate.new.sink.told;
       running =
           λ works not_refuted. first_runs c.in_ok-search.search p ls cs slots
-          c.eliminate.new.sink.additions c.in_ok-stack.stack c.forget_names.ensures
-          c.in_ok-search.ensures rest c.in_ok-given.ensures
+          c.eliminate.new.sink.additions c.in_ok-stack.stack c.in_ok-search.ensures.names
+          c.in_ok-search.ensures.started rest c.in_ok-given.ensures
           firsts stays (sym c.eliminate.new.sink.told ∙ not_refuted) c.eliminate.new.sink.counted
           few
           (subst (λ f. All (λ r. IsFree f r.variable) (c.in_ok-stack.stack).removed) (sym frozen)
@@ -128,7 +122,7 @@ returns-clause-given g c =
     let cs = c.into_clauses-clauses.result in
     let p : Input =
     record {
-      stack = c.forget_names.new.self;
+      stack = c.start.new.stack;
       frozen = c.args.frozen;
       first = c.len-first.result;
       given = c.in_ok-given.given;
@@ -152,13 +146,13 @@ returns-clause-lines g c =
     let frozen : c.args.frozen.items ≡ c.deref.result.now = sym c.deref.ensures.value in
     let p : Input =
     record {
-      stack = c.forget_names.new.self;
+      stack = c.start.new.stack;
       frozen = c.args.frozen;
       first = c.len-first.result;
       given = c.in_ok-given.given;
     } in
-    let wide : c.forget_names.new.self.variables ≡ c.in_ok-stack.stack.variables =
-    ap (λ (k : StackState). k.variables) c.forget_names.ensures in
+    let wide : c.start.new.stack.variables ≡ c.in_ok-stack.stack.variables =
+    ap (λ (k : StackState). k.variables) c.in_ok-search.ensures.names in
     let firsts : c.len-first.result ≡ length c.in_ok-given.given = c.len-first.ensures.len in
     let stays : StaysLogOver (length c.args.frozen.items) (given_of cs) ls =
     subst (λ f. StaysLogOver (length f) (given_of cs) ls) (sym frozen)
