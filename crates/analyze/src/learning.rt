@@ -12,6 +12,8 @@ ghost use Rattle.analyze.specs.Learning.{CanLearn, Learns};
 use crate::collect::{collect_hints, collect_literals, greatest};
 use crate::marks::{Mark, clear, mark_clause, resolve};
 use crate::minimise::{Idea, NOWHERE, meet_reasons, minimise};
+use crate::ordering::put_in_order;
+use crate::places::Places;
 use clauses::store::{CRef, Store};
 use cnf::types::Lit;
 use propagate::engine::Engine;
@@ -54,6 +56,8 @@ pub struct Analyzer {
     queue: Vec<u32>,
     // By level: the first position of a literal of it in the clause, and nowhere between calls.
     firsts: Vec<u32>,
+    // Puts positions of the trail in order; nothing is taken in between calls.
+    places: Places,
 }
 
 impl Model for Analyzer {
@@ -82,18 +86,20 @@ impl Analyzer {
         let ideas = Vec::from_elem(alloc, Idea::Unknown, count)?;
         let queue = Vec::with_capacity(alloc, count)?;
         let firsts = Vec::from_elem(alloc, NOWHERE, count)?;
+        let places = Places::new(alloc, variables)?;
         Ok(Analyzer {
             marks,
             met,
             ideas,
             queue,
             firsts,
+            places,
         })
     }
 
     /// Learns a clause from one that is false and has a literal of the current level. Beside the
     /// clause and its hints it takes no memory. Its time is that of the clauses that it reads and
-    /// of the trail back to the asserting literal, and of a sort of the variables that it meets.
+    /// of the trail back to the asserting literal, and a step for each 4096 literals of the trail.
     ///
     /// # Errors
     ///
@@ -130,6 +136,7 @@ impl Analyzer {
             &mut self.ideas,
             &mut self.queue,
             &mut self.firsts,
+            &mut self.places,
         );
         clear(engine, &mut self.marks, &mut self.met);
         learned
@@ -173,6 +180,7 @@ fn learn(
     ideas: &mut [Idea],
     queue: &mut Vec<u32>,
     firsts: &mut [u32],
+    places: &mut Places,
 ) -> Result<Learned, AllocError>
     requires can { CanLearn engine.now store.now.slots conflict }
     requires room { engine.now.variables < length marks.old }
@@ -186,8 +194,10 @@ fn learn(
 {
     let count = mark_clause(engine, store.lits(conflict), marks, met);
     let asserting = resolve(engine, store, count, marks, met);
-    minimise(engine, store, asserting, marks, met, ideas, queue, firsts);
-    met.sort_unstable();
+    minimise(
+        engine, store, asserting, marks, met, ideas, queue, firsts, places,
+    );
+    put_in_order(engine, marks, met, places, queue);
     let lits = collect_literals(alloc, engine, asserting, marks, met)?;
     let hints = collect_hints(alloc, engine, conflict, marks, met)?;
     let back_level = greatest(engine, &lits.as_slice()[1..]);

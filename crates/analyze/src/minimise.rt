@@ -14,6 +14,7 @@ ghost use Rattle.analyze.specs.Marks.{IsReduced, Reduces, HasMarks, FitsMarks};
 ghost use Rattle.analyze.specs.Met.{IsMarking};
 
 use crate::marks::{Mark, resolve_one};
+use crate::places::Places;
 use clauses::store::Store;
 use cnf::types::Lit;
 use propagate::engine::Engine;
@@ -235,6 +236,7 @@ fn find(
     ideas: &mut [Idea],
     queue: &mut Vec<u32>,
     firsts: &mut [u32],
+    places: &mut Places,
 )
     requires { FitsMarks engine.now store.now.slots marks.now }
 {
@@ -249,7 +251,8 @@ fn find(
     }
     visit(engine, store, marks, ideas, queue, firsts);
     forget_firsts(engine, met, firsts);
-    queue.sort_unstable();
+    places.gather(queue);
+    places.list_into(queue);
     settle(engine, store, marks, ideas, queue);
 }
 
@@ -290,6 +293,7 @@ pub(crate) fn minimise(
     ideas: &mut [Idea],
     queue: &mut Vec<u32>,
     firsts: &mut [u32],
+    places: &mut Places,
 )
     requires fits { Fits engine.now store.now.slots }
     requires reduced { IsReduced engine.now.trail marks.old asserting }
@@ -297,7 +301,9 @@ pub(crate) fn minimise(
     ensures reduces { Reduces store.now.slots engine.now.trail marks.old marks.new asserting }
     ensures marking { IsMarking engine.now marks.new met.new }
 {
-    find(engine, store, asserting, marks, met, ideas, queue, firsts);
+    find(
+        engine, store, asserting, marks, met, ideas, queue, firsts, places,
+    );
     drop_redundant(engine, store, asserting, ideas, queue, marks, met);
     for position in queue.iter() {
         note(ideas, variable_of(engine, *position), Idea::Unknown);

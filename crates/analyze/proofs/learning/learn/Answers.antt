@@ -7,7 +7,8 @@ use Rattle.analyze.specs.Learning.{IsAsserting, IsRefutedBy, greatest_level}
 use Rattle.analyze.specs.Marks.{kept_of, resolved_of, others_in, learned_from}
 use Rattle.analyze.proofs.Counting.{current_clear}
 use Rattle.analyze.proofs.Fitting.{false_within}
-use Rattle.analyze.proofs.Listing.{listed_none, has_sorted, along_sorted}
+use Rattle.analyze.specs.Met.{GoesAlong}
+use Rattle.analyze.proofs.Listing.{listed_none}
 use Rattle.analyze.proofs.Resolving.{marked_start}
 use Rattle.analyze.proofs.Marked.{marked_refutes}
 use Rattle.analyze.proofs.Collecting.{conflict_is, start_above, start_some, learned_asserting}
@@ -100,34 +101,32 @@ mark_clause-count-requires-clause-marking c = record {
       c.requires.clear c.requires.none;
 }
 
+pub put_in_order-requires-clause-small : goal.put_in_order-requires-clause-small
+put_in_order-requires-clause-small c = λ i d lt.
+    let s = c.requires.can.fits.small i d lt in
+    let room = c.minimise.ensures.marking.room in
+    let low = s.0 in
+    let high = s.1 in
+    (omega arith, omega arith)
+
 pub collect_literals-requires : goal.collect_literals-requires
 collect_literals-requires c =
-    let m = c.minimise.ensures.marking in
-    along_sorted c.args.engine.now c.args.store.now.slots c.minimise.new.marks
-    c.minimise.new.met.items c.sort_unstable.new.self.items _ c.requires.can.fits m.room m.listed
-    c.deref.ensures.value c.sort_unstable.ensures.permutation c.sort_unstable.ensures.sorted
+    subst (GoesAlong c.args.engine.now c.minimise.new.marks) (sym c.deref.ensures.value)
+    (c.put_in_order.ensures.along c.args.store.now.slots c.requires.can.fits)
 
 pub collect_hints-requires : goal.collect_hints-requires
 collect_hints-requires c =
-    let m = c.minimise.ensures.marking in
-    along_sorted c.args.engine.now c.args.store.now.slots c.minimise.new.marks
-    c.minimise.new.met.items c.sort_unstable.new.self.items _ c.requires.can.fits m.room m.listed
-    c.deref-2.ensures.value c.sort_unstable.ensures.permutation c.sort_unstable.ensures.sorted
+    subst (GoesAlong c.args.engine.now c.minimise.new.marks) (sym c.deref-2.ensures.value)
+    (c.put_in_order.ensures.along c.args.store.now.slots c.requires.can.fits)
 
 pub returns-in_err-lits-clause-listed : goal.returns-in_err-lits-clause-listed
 returns-in_err-lits-clause-listed c =
-    has_sorted c.args.engine.now.trail c.minimise.new.marks c.minimise.new.met.items
-    c.sort_unstable.new.self.items c.sort_unstable.ensures.permutation
-    c.minimise.ensures.marking.listed.has
+    (c.put_in_order.ensures.along c.args.store.now.slots c.requires.can.fits).listed
 
 pub returns-in_err-hints-clause-listed : goal.returns-in_err-hints-clause-listed
 returns-in_err-hints-clause-listed c =
-    has_sorted c.args.engine.now.trail c.minimise.new.marks c.minimise.new.met.items
-    c.sort_unstable.new.self.items c.sort_unstable.ensures.permutation
-    c.minimise.ensures.marking.listed.has
+    (c.put_in_order.ensures.along c.args.store.now.slots c.requires.can.fits).listed
 
 pub returns-clause-listed : goal.returns-clause-listed
 returns-clause-listed c =
-    has_sorted c.args.engine.now.trail c.minimise.new.marks c.minimise.new.met.items
-    c.sort_unstable.new.self.items c.sort_unstable.ensures.permutation
-    c.minimise.ensures.marking.listed.has
+    (c.put_in_order.ensures.along c.args.store.now.slots c.requires.can.fits).listed
