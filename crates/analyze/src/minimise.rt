@@ -157,7 +157,8 @@ fn take_all(
     let len = queue.len();
     for lit in lits {
         let variable = lit.variable();
-        if marks[variable as usize] == Mark::Clear && !joins(engine, variable, ideas, queue, firsts)
+        if marks[variable as usize] == Mark::Clear
+            && !joins(engine, variable, ideas, queue, firsts)
         {
             leave(engine, len, ideas, queue);
             return false;
