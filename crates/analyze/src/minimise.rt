@@ -142,8 +142,8 @@ fn joins(
     true
 }
 
-/// Takes a clause's literals into the queue, where each that is neither marked nor of level 0 may be
-/// redundant; else none of them. It answers whether it did.
+/// Takes a clause's literals into the queue, where each that is neither marked nor of level 0 may
+/// be redundant; else none of them. It answers whether it did.
 fn take_all(
     engine: &Engine,
     lits: &[Lit],
