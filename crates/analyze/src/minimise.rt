@@ -4,10 +4,11 @@
 // It has two halves. `find` only looks. A queue goes back over the reasons from the literals of the
 // clause, and takes in what may be redundant: it was implied, and a literal of its level stands in
 // the clause before it on the trail. Then one pass along the trail says of each whether it is,
-// since what a reason needs stands before. So each clause is read at most three times, with no
-// recursion and no search of the trail. Nothing rests on what it finds: `drop_redundant` resolves
-// it by its reasons, the last first, as any literal of a conflict is, so that the hints are just
-// the reasons that were used.
+// since what a reason needs stands before. What has no reason, or one with a literal that cannot
+// be redundant, is told apart at once, so that each clause is read at most twice, with no recursion
+// and no search of the trail. Nothing rests on what it finds: `drop_redundant` resolves it by its
+// reasons, the last first, as any literal of a conflict is, so that the hints are just the reasons
+// that were used.
 ghost use Rattle.std.specs.Prelude.{◌<◌, ◌≤◌, length};
 ghost use Rattle.propagate.specs.Fits.{Fits};
 ghost use Rattle.analyze.specs.Marks.{IsReduced, Reduces, HasMarks, FitsMarks};
@@ -24,8 +25,10 @@ use propagate::engine::Engine;
 pub enum Idea {
     /// It was not met.
     Unknown,
-    /// It was met, and is not known to be redundant.
+    /// It was met, and may be redundant.
     Visited,
+    /// It was met, and is not redundant.
+    Needed,
     /// It is redundant.
     Redundant,
 }
@@ -58,66 +61,118 @@ fn variable_of(engine: &Engine, position: u32) -> u32
     }
 }
 
-/// For each level, where the first literal of it stands that is kept, but for the asserting one.
-fn note_firsts(engine: &Engine, asserting: Lit, marks: &[Mark], met: &[u32], firsts: &mut [u32])
+/// The level of a variable, and 0 where it has no value.
+fn level_of(engine: &Engine, variable: u32) -> u32
+    requires { variable ≤ engine.now.variables }
+{
+    engine.level(variable).unwrap_or(0)
+}
+
+/// Lists what is kept, but for the asserting literal, and for each level where the first literal of
+/// it stands.
+fn start(
+    engine: &Engine,
+    asserting: Lit,
+    marks: &[Mark],
+    met: &[u32],
+    ideas: &mut [Idea],
+    queue: &mut Vec<u32>,
+    firsts: &mut [u32],
+)
     requires { engine.now.variables < length marks.now }
 {
+    queue.clear();
     for position in met {
         let variable = variable_of(engine, *position);
         if marks[variable as usize] == Mark::Kept && variable != asserting.variable() {
-            let level = engine.level(variable).unwrap_or(0);
-            if let Some(first) = firsts.get_mut(level as usize) {
+            let _ = queue.push(*position);
+            note(ideas, variable, Idea::Visited);
+            if let Some(first) = firsts.get_mut(level_of(engine, variable) as usize) {
                 *first = (*first).min(*position);
             }
         }
     }
 }
 
-/// Takes away what was noted of the levels of these variables.
-fn forget_firsts(engine: &Engine, met: &[u32], firsts: &mut [u32]) {
-    for position in met {
-        let level = engine.level(variable_of(engine, *position)).unwrap_or(0);
+/// Takes away what was noted of the levels of the variables at these positions.
+fn forget_firsts(engine: &Engine, positions: &[u32], firsts: &mut [u32]) {
+    for position in positions {
+        let level = level_of(engine, variable_of(engine, *position));
         if let Some(first) = firsts.get_mut(level as usize) {
             *first = NOWHERE;
         }
     }
 }
 
-/// Whether a variable that was not met may be redundant.
-fn may_follow(engine: &Engine, variable: u32, firsts: &[u32]) -> bool
+/// Whether a variable of this level above 0, and at this position, may be redundant.
+fn may_follow(engine: &Engine, variable: u32, level: u32, position: u32, firsts: &[u32]) -> bool
     requires { variable ≤ engine.now.variables }
 {
-    let level = engine.level(variable).unwrap_or(0);
-    let position = engine.position(variable).unwrap_or(0);
-    if level == 0 {
-        return true;
-    }
     match firsts.get(level as usize) {
         Some(first) => *first < position && engine.reason(variable).is_some(),
         None => false,
     }
 }
 
-/// Whether each literal is met, of level 0, or may be redundant.
-fn all_may_follow(
+/// Whether a literal that is neither marked nor of level 0 is in the queue or comes into it.
+fn joins(
+    engine: &Engine,
+    variable: u32,
+    ideas: &mut [Idea],
+    queue: &mut Vec<u32>,
+    firsts: &[u32],
+) -> bool
+    requires { variable ≤ engine.now.variables }
+{
+    match idea_of(ideas, variable) {
+        Idea::Unknown => {}
+        Idea::Needed => return false,
+        Idea::Visited | Idea::Redundant => return true,
+    }
+    let level = level_of(engine, variable);
+    if level == 0 {
+        return true;
+    }
+    let position = engine.position(variable).unwrap_or(0);
+    if !may_follow(engine, variable, level, position, firsts) {
+        return false;
+    }
+    let _ = queue.push(position);
+    note(ideas, variable, Idea::Visited);
+    true
+}
+
+/// Takes a clause's literals into the queue, where each that is neither marked nor of level 0 may
+/// be redundant; else none of them. It answers whether it did.
+fn take_all(
     engine: &Engine,
     lits: &[Lit],
     marks: &[Mark],
-    ideas: &[Idea],
+    ideas: &mut [Idea],
+    queue: &mut Vec<u32>,
     firsts: &[u32],
 ) -> bool
     requires { HasMarks engine.now marks.now lits.now }
 {
+    let len = queue.len();
     for lit in lits {
         let variable = lit.variable();
         if marks[variable as usize] == Mark::Clear
-            && idea_of(ideas, variable) == Idea::Unknown
-            && !may_follow(engine, variable, firsts)
+            && !joins(engine, variable, ideas, queue, firsts)
         {
+            leave(engine, len, ideas, queue);
             return false;
         }
     }
     true
+}
+
+/// Takes what came last out of the queue, down to this length.
+fn leave(engine: &Engine, len: usize, ideas: &mut [Idea], queue: &mut Vec<u32>) {
+    for position in queue.iter().skip(len) {
+        note(ideas, variable_of(engine, *position), Idea::Unknown);
+    }
+    queue.truncate(len);
 }
 
 /// Takes in what was not met of a clause and stands above level 0.
@@ -154,11 +209,12 @@ fn visit(
             break;
         }
         let variable = variable_of(engine, queue[next]);
-        if let Some(reason) = engine.reason(variable) {
-            let lits = store.lits(reason);
-            if all_may_follow(engine, lits, marks, ideas, firsts) {
-                take_in(engine, lits, marks, ideas, queue);
-            }
+        let follows = match engine.reason(variable) {
+            Some(reason) => take_all(engine, store.lits(reason), marks, ideas, queue, firsts),
+            None => false,
+        };
+        if !follows {
+            note(ideas, variable, Idea::Needed);
         }
     }
 }
@@ -186,7 +242,8 @@ fn settle(engine: &Engine, store: &Store, marks: &[Mark], ideas: &mut [Idea], qu
 {
     for position in queue {
         let variable = variable_of(engine, *position);
-        if let Some(reason) = engine.reason(variable)
+        if idea_of(ideas, variable) == Idea::Visited
+            && let Some(reason) = engine.reason(variable)
             && all_follow(engine, store.lits(reason), variable, marks, ideas)
         {
             note(ideas, variable, Idea::Redundant);
@@ -195,12 +252,12 @@ fn settle(engine: &Engine, store: &Store, marks: &[Mark], ideas: &mut [Idea], qu
 }
 
 /// Resolves what is kept of the redundant variables, the last first, since a reason's literals
-/// stand before.
+/// stand before, and forgets what was known of the queue.
 fn drop_redundant(
     engine: &Engine,
     store: &Store,
     asserting: Lit,
-    ideas: &[Idea],
+    ideas: &mut [Idea],
     queue: &[u32],
     marks: &mut [Mark],
     met: &mut Vec<u32>,
@@ -215,7 +272,9 @@ fn drop_redundant(
     while place > 0 {
         place -= 1;
         let variable = variable_of(engine, queue[place]);
-        if idea_of(ideas, variable) == Idea::Redundant
+        let idea = idea_of(ideas, variable);
+        note(ideas, variable, Idea::Unknown);
+        if idea == Idea::Redundant
             && marks[variable as usize] == Mark::Kept
             && variable != asserting.variable()
             && let Some(reason) = engine.reason(variable)
@@ -240,17 +299,12 @@ fn find(
 )
     requires { FitsMarks engine.now store.now.slots marks.now }
 {
-    queue.clear();
-    note_firsts(engine, asserting, marks, met, firsts);
-    for position in met {
-        let variable = variable_of(engine, *position);
-        if marks[variable as usize] == Mark::Kept && variable != asserting.variable() {
-            let _ = queue.push(*position);
-            note(ideas, variable, Idea::Visited);
-        }
-    }
+    start(engine, asserting, marks, met, ideas, queue, firsts);
+    let kept = queue.len();
     visit(engine, store, marks, ideas, queue, firsts);
-    forget_firsts(engine, met, firsts);
+    if kept <= queue.len() {
+        forget_firsts(engine, &queue[..kept], firsts);
+    }
     places.gather(queue);
     places.list_into(queue);
     settle(engine, store, marks, ideas, queue);
@@ -305,7 +359,4 @@ pub(crate) fn minimise(
         engine, store, asserting, marks, met, ideas, queue, firsts, places,
     );
     drop_redundant(engine, store, asserting, ideas, queue, marks, met);
-    for position in queue.iter() {
-        note(ideas, variable_of(engine, *position), Idea::Unknown);
-    }
 }

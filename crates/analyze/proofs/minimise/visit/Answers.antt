@@ -2,21 +2,14 @@ use Rattle.std.proofs.Common.{sym, ◌∙◌}
 use Rattle.analyze.proofs.Fitting.{reason_live, reason_marked}
 use Rattle.analyze.proofs.minimise.visit.Goals as goal
 
-pub lits-lits-requires : goal.lits-lits-requires
-lits-lits-requires c =
+pub lits-requires : goal.lits-requires
+lits-requires c =
     reason_live c.args.engine.now c.args.store.now.slots c.variable_of-variable.result
     c.in-Some.reason c.requires.fits (sym c.reason.ensures ∙ c.in-Some.is)
 
-pub all_may_follow-requires : goal.all_may_follow-requires
-all_may_follow-requires c =
+pub take_all-follows-requires : goal.take_all-follows-requires
+take_all-follows-requires c =
     reason_marked c.args.engine.now c.args.store.now.slots c.args.marks.now
-    c.variable_of-variable.result c.in-Some.reason c.lits-lits.result.now c.requires
+    c.variable_of-variable.result c.in-Some.reason c.lits.result.now c.requires
     (sym c.reason.ensures ∙ c.in-Some.is)
-    c.lits-lits.ensures
-
-pub take_in-requires : goal.take_in-requires
-take_in-requires c =
-    reason_marked c.args.engine.now c.args.store.now.slots c.args.marks.now
-    c.variable_of-variable.result c.in-Some.reason c.lits-lits.result.now c.requires
-    (sym c.reason.ensures ∙ c.in-Some.is)
-    c.lits-lits.ensures
+    c.lits.ensures
