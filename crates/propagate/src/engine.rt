@@ -194,7 +194,7 @@ impl Engine {
         ensures trail { self.new.trail ≡ self.old.trail ++ record { literal = lit; reason = None }
             ∷ [] }
         ensures attached { SameAttached self.old self.new }
-        ensures same { SameFrame self.old self.new }
+        ensures frame { SameFrame self.old self.new }
         ensures fits { StaysFit self.old self.new }
     {
         self.promote();
@@ -207,7 +207,7 @@ impl Engine {
         requires { level ≤ depth_of self.old.trail }
         ensures trail { self.new.trail ≡ kept_to level self.old.trail }
         ensures attached { SameAttached self.old self.new }
-        ensures same { SameFrame self.old self.new }
+        ensures frame { SameFrame self.old self.new }
         ensures fits { StaysFit self.old self.new }
     {
         self.promote();
@@ -281,7 +281,7 @@ impl Engine {
         ensures complete { IfOk result (λ found. IfNone found
             (IsComplete store.now.slots (is_attached self.new) self.new.trail)) }
         ensures attached { SameAttached self.old self.new }
-        ensures same { self.new.variables ≡ self.old.variables }
+        ensures variables { self.new.variables ≡ self.old.variables }
         ensures fits { Fits self.new store.now.slots }
         ensures failed { (result ≡ Err EngineFault.Failed) ↔ (self.old.failed ≡ true) }
         ensures fails { IsErr result ↔ (self.new.failed ≡ true) }

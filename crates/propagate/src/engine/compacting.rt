@@ -24,7 +24,7 @@ impl Engine {
         ensures used { IfOk result (λ _. store.new.used ≡ room_of (live_clauses store.new.slots)) }
         ensures attached { IfOk result (MovesAttached self.old self.new) }
         ensures trail { IfOk result (λ moves. self.new.trail ≡ renamed_trail moves self.old.trail) }
-        ensures same { SameFrame self.old self.new }
+        ensures frame { SameFrame self.old self.new }
         ensures fits { Fits self.new store.new.slots }
         ensures err { OnErr result ((self.new ≡ self.old) × (store.new ≡ store.old)) }
     {

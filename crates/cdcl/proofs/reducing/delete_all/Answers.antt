@@ -28,14 +28,14 @@ loop-reference-init g c =
     let starts =
     deleting_starts s c.detach_all.new.self c.args.input.now (g.S.Sink.lines c.args.sink.now)
     c.args.chosen.now (length c.args.chosen.now) c.deref.result.now c.requires.runs m d.detached
-    d.same (d.fits s.store.slots c.requires.runs.running.searches.fits) in
+    d.frame (d.fits s.store.slots c.requires.runs.running.searches.fits) in
     record {
       deleting =
           subst (IsDeleting (record s { engine = c.detach_all.new.self }) c.args.input.now
           (g.S.Sink.lines c.args.sink.now)) c.deref.ensures.value starts;
       gone = λ i below. absurd (omega arith);
-      variables = d.same.1;
-      long = ap (λ (T : List Assigned). length T) d.same.0;
+      variables = d.frame.1;
+      long = ap (λ (T : List Assigned). length T) d.frame.0;
       policy = refl;
       writes = writes_none c.args.input.now.given (g.S.Sink.lines c.args.sink.now);
     }

@@ -67,7 +67,7 @@ returns-clause-runs c p ls r =
     subst (λ us. UnitsMoved s.units.items us ms) (sym items)
     (subst (λ us. UnitsMoved us c.move_units.new.units ms) c.deref_mut.ensures.value
     c.move_units.ensures.moved) in
-    runs_compacted s n ms p ls m.moves m.together rises m.attached m.trail c.compact.ensures.same
+    runs_compacted s n ms p ls m.moves m.together rises m.attached m.trail c.compact.ensures.frame
     c.compact.ensures.fits (c.move_names.ensures.long ∙ c.places.ensures) along
     (ap length items ∙ c.move_units.ensures.long ∙ ap length c.deref_mut.ensures.value) moved (
       refl,

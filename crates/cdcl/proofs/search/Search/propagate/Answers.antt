@@ -14,10 +14,10 @@ returns-in-Ok-clause-runs c p ls r =
     let f = c.propagate.new.self in
     let works : f.failed ≡ false =
     false_from_ne_true f.failed (λ e. false≢true (c.in-Ok.ensures.fails.1 e)) in
-    runs_moved s f s.policy p ls r c.propagate.ensures.same refl
+    runs_moved s f s.policy p ls r c.propagate.ensures.variables refl
     (run_propagate s.engine f s.store.slots p.stack (tables_of s) p.frozen.items p.first
     p.given ls r.running c.propagate.ensures.grows c.propagate.ensures.attached
-    c.propagate.ensures.same works c.propagate.ensures.fits)
+    c.propagate.ensures.variables works c.propagate.ensures.fits)
 
 pub returns-in-Ok-clause-ready : goal.returns-in-Ok-clause-ready
 returns-in-Ok-clause-ready c =
@@ -25,7 +25,7 @@ returns-in-Ok-clause-ready c =
     let f = c.propagate.new.self in
     let works : f.failed ≡ false =
     false_from_ne_true f.failed (λ e. false≢true (c.in-Ok.ensures.fails.1 e)) in
-    ready_moved s f s.policy c.requires c.propagate.ensures.same refl
+    ready_moved s f s.policy c.requires c.propagate.ensures.variables refl
     (searches_propagate s.store.slots s.engine f c.requires.searches c.propagate.ensures.grows
     c.propagate.ensures.attached c.propagate.ensures.fits works)
 
