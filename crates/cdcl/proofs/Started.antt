@@ -3,14 +3,14 @@ use Rattle.std.proofs.Common.{◌≡◌, ◌≢◌, ℕ, ◌+◌, ◌<◌, true,
 use Rattle.std.proofs.Common.{None, inl, inr, sym, ◌∙◌, ap, subst, arith, zero-add}
 use Rattle.std.specs.Prelude.{All}
 use Rattle.std.specs.List.{enumerate_from}
-use Rattle.std.proofs.lemmas.Bool.{cases_eq, cases_Bool, both_ways}
+use Rattle.std.proofs.lemmas.Bool.{cases_Bool, both_ways}
 use Rattle.std.proofs.lemmas.List.{get_or_default}
 use Rattle.std.proofs.lemmas.List.FromFn.{get_or-enumerate_from, length-enumerate_from}
-use Rattle.std.proofs.lemmas.Option.{none-some, same_Some}
+use Rattle.std.proofs.lemmas.Option.{same_Some}
 use Rattle.cnf.specs.Literal.{Literal}
 use Rattle.cnf.specs.Lrat.{IsId}
 use Rattle.clauses.specs.Slots.{Slots, clause_at}
-use Rattle.propagate.specs.Watches.{EngineState, is_attached, SetsAttached}
+use Rattle.propagate.specs.Watches.{EngineState, is_attached}
 use Rattle.propagate.specs.Fits.{Fits, IsWithin}
 use Rattle.lrat_log.specs.declared.lines.Name.{Name}
 use Rattle.lrat_log.specs.declared.lines.Name.TheVariants.{Formula}
@@ -72,38 +72,3 @@ not_yet e slots variables n a =
       | inr f ↦ f
       | inl t ↦ let lt : n < n = a.only n t in absurd (omega arith)
     ]
-
-pub attached_more : (e f : EngineState) (slots : Slots) (variables n : ℕ)
-    → AreAttachedBelow e slots variables n → SetsAttached e f n true
-    → (f.trail ≡ e.trail) × (f.variables ≡ e.variables) → f.failed ≡ false → Fits f slots
-    → AreAttachedBelow f slots variables (n + 1)
-attached_more e f slots variables n a sets same works fits = record {
-  fits = fits;
-  trail = same.0 ∙ a.trail;
-  variables_are = same.1 ∙ a.variables_are;
-  works = works;
-  attached = λ r lt live. elim (cases_eq r n) as (λ _. is_attached f r ≡ true) [
-    | inl s ↦ ap (is_attached f) s ∙ sets.0
-    | inr o ↦ sets.1 r o ∙ a.attached r (omega arith) live
-  ];
-  only = λ r on. elim (cases_eq r n) as (λ _. r < n + 1) [
-    | inl s ↦ omega arith
-    | inr o ↦ let below : r < n = a.only r (sym (sets.1 r o) ∙ on) in omega arith
-  ];
-}
-
--- a place without a clause
-pub attached_past : (e : EngineState) (slots : Slots) (variables n : ℕ)
-    → AreAttachedBelow e slots variables n → clause_at slots n ≡ None
-    → AreAttachedBelow e slots variables (n + 1)
-attached_past e slots variables n a gone = record {
-  fits = a.fits;
-  trail = a.trail;
-  variables_are = a.variables_are;
-  works = a.works;
-  attached = λ r lt live. elim (cases_eq r n) as (λ _. is_attached e r ≡ true) [
-    | inl s ↦ absurd (none-some live.0 (sym gone ∙ ap (clause_at slots) (sym s) ∙ live.1))
-    | inr o ↦ a.attached r (omega arith) live
-  ];
-  only = λ r on. let below : r < n = a.only r on in omega arith;
-}

@@ -19,9 +19,6 @@ use Rattle.eliminate_names.specs.Work.{name_at, NamesState, AreLiveAs, IsNamed, 
 use Rattle.eliminate_names.specs.Work.{IsWork}
 use Rattle.eliminate_names.specs.Together.{live_names}
 
-abbrev together : Slots → Slots
-together slots = map Some (live_clauses slots)
-
 -- The list closes its gaps.
 
 -- so many places were passed, of which these names are kept, each in the front
@@ -139,7 +136,8 @@ origin (None ∷ slots) r = suc (origin slots r)
 origin (Some c ∷ slots) zero = zero
 origin (Some c ∷ slots) (suc r) = suc (origin slots r)
 
-clause_from : (slots : Slots) (r : ℕ) (c : List Literal) → clause_at (together slots) r ≡ Some c
+clause_from : (slots : Slots) (r : ℕ) (c : List Literal)
+    → clause_at (map Some (live_clauses slots)) r ≡ Some c
     → clause_at slots (origin slots r) ≡ Some c
 unfolding origin
 clause_from [] r c e = absurd (none-some c e)
@@ -148,7 +146,7 @@ clause_from (Some d ∷ slots) zero c e = e
 clause_from (Some d ∷ slots) (suc r) c e = clause_from slots r c e
 
 name_from : (names : List Name) (slots : Slots) (r : ℕ) (c : List Literal)
-    → length names ≡ length slots → clause_at (together slots) r ≡ Some c
+    → length names ≡ length slots → clause_at (map Some (live_clauses slots)) r ≡ Some c
     → name_at (live_names names slots) r ≡ name_at names (origin slots r)
 unfolding origin
 name_from names [] r c long e = absurd (none-some c e)
@@ -157,8 +155,9 @@ name_from (n ∷ names) (None ∷ slots) r c long e = name_from names slots r c 
 name_from (n ∷ names) (Some d ∷ slots) zero c long e = refl
 name_from (n ∷ names) (Some d ∷ slots) (suc r) c long e = name_from names slots r c (omega arith) e
 
-same_from : (slots : Slots) (r s : ℕ) (c d : List Literal) → clause_at (together slots) r ≡ Some c
-    → clause_at (together slots) s ≡ Some d → origin slots r ≡ origin slots s → r ≡ s
+same_from : (slots : Slots) (r s : ℕ) (c d : List Literal)
+    → clause_at (map Some (live_clauses slots)) r ≡ Some c
+    → clause_at (map Some (live_clauses slots)) s ≡ Some d → origin slots r ≡ origin slots s → r ≡ s
 unfolding origin
 same_from [] r s c d e f same = absurd (none-some c e)
 same_from (None ∷ slots) r s c d e f same = same_from slots r s c d e f (omega arith)
@@ -169,7 +168,7 @@ same_from (Some x ∷ slots) (suc r) (suc s) c d e f same =
     ap suc (same_from slots r s c d e f (omega arith))
 
 arrived : (slots : Slots) (q : ℕ) (c : List Literal) → clause_at slots q ≡ Some c
-    → (r : ℕ) × (clause_at (together slots) r ≡ Some c) × (origin slots r ≡ q)
+    → (r : ℕ) × (clause_at (map Some (live_clauses slots)) r ≡ Some c) × (origin slots r ≡ q)
 unfolding origin
 arrived [] q c e = absurd (none-some c e)
 arrived (None ∷ slots) zero c e = absurd (none-some c e)
@@ -180,7 +179,8 @@ arrived (Some d ∷ slots) (suc q) c e = let w = arrived slots q c e in (suc w.0
 live_together : (names : List Name) (slots : Slots) (at : Clauses) (base last : ℕ)
     → length names ≡ length slots
     → AreLiveAs (λ r. id_of base (name_at names r)) slots at last
-    → AreLiveAs (λ r. id_of base (name_at (live_names names slots) r)) (together slots) at last
+    → AreLiveAs (λ r. id_of base (name_at (live_names names slots) r))
+    (map Some (live_clauses slots)) at last
 live_together names slots at base last long a = record {
   named = λ r c e. ap (λ (n : Name). at (id_of base n)) (name_from names slots r c long e)
       ∙ a.named (origin slots r) c (clause_from slots r c e);
@@ -203,7 +203,7 @@ live_together names slots at base last long a = record {
 }
 
 long_together : (names : List Name) (slots : Slots) → length names ≡ length slots
-    → length (live_names names slots) ≡ length (together slots)
+    → length (live_names names slots) ≡ length (map Some (live_clauses slots))
 long_together [] [] long = refl
 long_together [] (s ∷ slots) long = absurd (omega arith)
 long_together (n ∷ names) [] long = absurd (omega arith)
@@ -234,7 +234,7 @@ together_fit slots moved names n t long =
 -- what was work in hand stays so
 pub work_together : (first variables : ℕ) (given : Given) (slots : Slots) (names : List Name)
     (lines : List LogLine) → IsWork first variables given slots names lines
-    → IsWork first variables given (together slots) (live_names names slots) lines
+    → IsWork first variables given (map Some (live_clauses slots)) (live_names names slots) lines
 work_together first variables given slots names lines w = record {
   log = w.log;
   none_learned = w.none_learned;
@@ -247,6 +247,7 @@ work_together first variables given slots names lines w = record {
 }
 
 -- each of the clauses was there
-pub was_there : (slots : Slots) (r : ℕ) (c : List Literal) → clause_at (together slots) r ≡ Some c
+pub was_there : (slots : Slots) (r : ℕ) (c : List Literal)
+    → clause_at (map Some (live_clauses slots)) r ≡ Some c
     → (q : ℕ) × (clause_at slots q ≡ Some c)
 was_there slots r c e = (origin slots r, clause_from slots r c e)

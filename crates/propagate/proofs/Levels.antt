@@ -2,7 +2,6 @@
 use Rattle.std.proofs.Common.{◌≡◌, ℕ, ◌+◌, ◌<◌, ◌≤◌, leb, List, [], ◌∷◌, ◌++◌, length}
 use Rattle.std.proofs.Common.{inl, inr, refl, sym, ◌∙◌, ap, subst, arith}
 use Rattle.std.proofs.lemmas.Bool.{cases_Bool, le-leb, lt-leb, cond-true, cond-false}
-use Rattle.std.proofs.lemmas.List.Sums.{count_by-le-length}
 use Rattle.propagate.specs.Trail.{Assigned, depth_of, is_decision, level_after, kept_from, kept_to}
 use Rattle.propagate.proofs.Trails.{depth-cons, depth_push}
 
@@ -43,9 +42,6 @@ pub kept_push : (to : ℕ) (T : List Assigned) (a : Assigned) → to < depth_of 
 kept_push to T a h =
     kept_push_from 0 to T a (subst (λ k. to < level_after k a) (omega arith)
     (subst (λ k. to < k) (depth_push T a) h))
-
-pub depth-le-length : (T : List Assigned) → depth_of T ≤ length T
-depth-le-length T = count_by-le-length is_decision T
 
 pub depth_grows : (T : List Assigned) (a : Assigned) → depth_of T ≤ depth_of (T ++ a ∷ [])
 depth_grows T a =
