@@ -5,6 +5,7 @@ ghost use Rattle.std.specs.Prelude.{IfOk, OnOk, IfSome, OnErr, Some, None, slice
 ghost use Rattle.cnf.specs.Formula.{IsFormula};
 ghost use Rattle.clauses.specs.Slots.{IsLive, live_clauses};
 ghost use Rattle.lrat_log.specs.Steps.{is_empty_clause};
+ghost use Rattle.eliminate_tables.specs.Rows.{AreRows};
 ghost use Rattle.subsume.specs.declared.against.Against.TheVariants.{Within};
 ghost use Rattle.eliminate.specs.State.{Start};
 ghost use Rattle.eliminate.specs.Simplifier.{IsSimplified, IsOpen, Passes, IsAddableLine};
@@ -57,15 +58,12 @@ impl Simplifier {
         ensures going { IfOk result (λ s. s.is_refuted ≡ false) }
     {
         let count = 2 * vars as usize;
+        let schedule = schedule_of(alloc, store, vars)?;
         let mut occurrences = Rows::new(alloc, count)?;
-        let mut schedule = Schedule::new(alloc, vars)?;
+        make_rooms(&mut occurrences, store, &schedule)?;
         for place in 0..store.places() {
             match store.live_at(place) {
-                Some(reference) => {
-                    let lits = store.lits(reference);
-                    occurrences.add(lits, reference)?;
-                    schedule.enter(lits)?;
-                }
+                Some(reference) => occurrences.add(store.lits(reference), reference)?,
                 None => {}
             }
         }
@@ -85,7 +83,7 @@ impl Simplifier {
     /// In how many clauses, deleted ones too, a literal occurs.
     pub(crate) fn occurrence_count(&self, lit: Lit) -> usize {
         if lit.index() < self.occurrences.count() {
-            self.occurrences.get(lit.index()).len()
+            self.occurrences.len(lit.index())
         } else {
             0
         }
@@ -96,17 +94,54 @@ impl Simplifier {
     pub(crate) fn occurrence(&self, store: &Store, lit: Lit, at: usize) -> Option<CRef>
         ensures { IfSome result (λ r. IsLive store.now.slots r) }
     {
-        if lit.index() >= self.occurrences.count() {
+        let row = lit.index();
+        if row >= self.occurrences.count() {
             return None;
         }
-        match self.occurrences.get(lit.index()).get(at) {
-            Some(reference) if store.is_live(*reference) => Some(*reference),
-            _ => None,
+        if at >= self.occurrences.len(row) {
+            return None;
+        }
+        let reference = self.occurrences.get(row, at);
+        if store.is_live(reference) {
+            Some(reference)
+        } else {
+            None
         }
     }
 
     /// Adds the clause that was built, under a reference above all others, with its line.
     pub(crate) fn add<S: Sink>(
+        &mut self,
+        store: &mut Store,
+        sink: &mut S,
+        kind: Kind,
+        hints: Vec<Hint>,
+    ) -> Result<CRef, AllocError>
+        requires is_open { IsOpen self.old store.old.slots (S.lines sink.old) }
+        requires line { (start : Start)
+            → IsSimplified start self.old store.old.slots (S.lines sink.old)
+            → IsAddableLine start self.old (S.lines sink.old) (record {
+              kind = kind;
+              clause = self.old.clause.items;
+              hints = hints.items;
+            }) }
+        ensures reference { IfOk result (λ r. r ≡ length store.old.slots) }
+        ensures slots { IfOk result (λ _.
+            store.new.slots ≡ store.old.slots ++ Some self.old.clause.items ∷ []) }
+        ensures passes { Passes result self.old store.old.slots (S.lines sink.old)
+            self.new store.new.slots (S.lines sink.new) }
+        ensures refuted { IfOk result (λ _.
+            self.new.is_refuted ≡ is_empty_clause self.old.clause.items) }
+        ensures vars { OnOk result (self.new.vars ≡ self.old.vars) }
+        ensures removals { OnOk result (self.new.removals ≡ self.old.removals) }
+    {
+        let reference = self.add_line(store, sink, kind, hints)?;
+        make_space(&mut self.occurrences, store, &self.clause, reference)?;
+        Ok(reference)
+    }
+
+    /// As `add`, whatever room is left in the rows.
+    fn add_line<S: Sink>(
         &mut self,
         store: &mut Store,
         sink: &mut S,
@@ -169,6 +204,59 @@ impl Simplifier {
         delete(store, &self.names, sink, alloc, reference)?;
         Ok(())
     }
+}
+
+/// Where work may be worthwhile: each clause of the store has entered.
+fn schedule_of(alloc: Global, store: &Store, vars: u32) -> Result<Schedule, AllocError> {
+    let mut schedule = Schedule::new(alloc, vars)?;
+    for place in 0..store.places() {
+        if let Some(reference) = store.live_at(place) {
+            schedule.enter(store.lits(reference))?;
+        }
+    }
+    Ok(schedule)
+}
+
+/// Gives each row the room that the clauses of the store need, and half as much for resolvents.
+fn make_rooms(rows: &mut Rows, store: &Store, schedule: &Schedule) -> Result<(), AllocError>
+    ensures { rows.new ≡ rows.old }
+{
+    let Some(reference) = first_live(store) else {
+        return Ok(());
+    };
+    let mut rooms = Vec::with_capacity(store.allocator(), schedule.counts().len())?;
+    for count in schedule.counts() {
+        rooms.push(count.saturating_add(1 + *count / 2))?;
+    }
+    rows.make_rooms(&rooms, reference)
+}
+
+/// The first live clause, where there is one.
+fn first_live(store: &Store) -> Option<CRef> {
+    for place in 0..store.places() {
+        if let Some(reference) = store.live_at(place) {
+            return Some(reference);
+        }
+    }
+    None
+}
+
+/// Makes space in the rows of these literals that are full.
+fn make_space(
+    rows: &mut Rows,
+    store: &Store,
+    lits: &[Lit],
+    fill: CRef,
+) -> Result<(), AllocError>
+    ensures rows { AreRows rows.old store.now.slots → AreRows rows.new store.now.slots }
+    ensures places { length rows.new ≡ length rows.old }
+{
+    for lit in lits {
+        if lit.index() < rows.count() {
+            rows.make_space(lit.index(), store, fill)?;
+        }
+    }
+    Ok(())
 }
 
 /// Whether it has no literals.

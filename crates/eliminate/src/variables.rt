@@ -174,8 +174,7 @@ fn gather(
     let row = lit.index();
     simplifier.occurrences.clean(row, store);
     references.clear();
-    references.extend_from_slice(simplifier.occurrences.get(row))?;
-    Ok(())
+    simplifier.occurrences.collect(row, references)
 }
 
 /// Adds the resolvents of all pairs that have no opposite pair. It stops at the empty clause.

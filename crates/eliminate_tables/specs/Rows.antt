@@ -1,15 +1,10 @@
 -- Rows of references, one for each literal.
 use Rattle.std.specs.Prelude.{◌≡◌, ℕ, ◌<◌, Bool, true, false, List, [], ◌∷◌, ◌++◌, length, Option}
-use Rattle.std.specs.Prelude.{Some, None, slice_index_or, slice_set, Contains, fold, map, unwrap_or}
+use Rattle.std.specs.Prelude.{Some, None, Contains, fold, map, unwrap_or}
 use Rattle.cnf.specs.Literal.{Literal, index_of}
 use Rattle.cnf.specs.Clause.{contains_literal}
 use Rattle.clauses.specs.Slots.{Slots, clause_at}
-
-abbrev pub row_at : List (List ℕ) → ℕ → List ℕ
-row_at rows i = slice_index_or rows i []
-
-abbrev pub with_row : List (List ℕ) → ℕ → List ℕ → List (List ℕ)
-with_row rows i row = slice_set rows i row
+pub use Rattle.propagate_block.specs.Rows.{row_at, with_row}
 
 -- a reference more in the row of a literal
 abbrev pub with_entry : ℕ → List (List ℕ) → Literal → List (List ℕ)

@@ -1,12 +1,16 @@
-// In which clauses each literal occurs: a row of references for each literal. Rows keep references
-// of clauses that were deleted since, until they are cleaned.
-ghost use Rattle.std.specs.Prelude.{◌≡◌, ℕ, ◌+◌, ◌<◌, List, [], ◌∷◌, ◌++◌, length, replicate};
-ghost use Rattle.std.specs.Prelude.{filter, IfOk, All};
+// In which clauses each literal occurs: a row of references for each literal, all rows in one block
+// of memory. Rows keep references of clauses that were deleted since, until they are cleaned.
+//
+// The rows of a formula get just the room that its clauses need. A vector for each row took 24
+// bytes a row, with room that doubles, and left its pieces between the blocks that came later.
+ghost use Rattle.std.specs.Prelude.{◌≡◌, ◌<◌, ◌≤◌, [], ◌∷◌, ◌++◌, ◌⊎◌, length, replicate, Some};
+ghost use Rattle.std.specs.Prelude.{slice_get, slice_set, take, filter, IfOk, All};
 ghost use Rattle.cnf.specs.Marks.{HasPlace};
 ghost use Rattle.eliminate_tables.specs.Rows.{row_at, with_row, with_clause_rows, has_clause};
 
 use clauses::store::{CRef, Store};
 use cnf::types::Lit;
+use propagate_block::rows::BlockRows;
 use std::alloc::{AllocError, Global};
 use std::marker::Model;
 
@@ -14,15 +18,15 @@ use std::marker::Model;
 #[derive(Drop)]
 pub struct Rows {
     // By a literal's index: the clauses with the literal, also such as were deleted since.
-    rows: Vec<Vec<CRef>>,
+    rows: BlockRows<CRef>,
 }
 
 impl Model for Rows {
-    ghost use Rattle.std.specs.Prelude.{List, ℕ, map};
+    ghost use Rattle.std.specs.Prelude.{List, ℕ};
 
     ghost Value = { List (List ℕ) };
 
-    ghost view = { λ r. map (λ row. row.items) r.rows.items };
+    ghost view = { λ r. r.rows };
 }
 
 impl Rows {
@@ -30,26 +34,40 @@ impl Rows {
     pub fn new(alloc: Global, count: usize) -> Result<Self, AllocError>
         ensures { IfOk result (λ r. r ≡ replicate count []) }
     {
-        let mut rows = Vec::with_capacity(alloc, count)?;
-        for _row in 0..count {
-            rows.push(Vec::new(alloc))?;
-        }
-        Ok(Rows { rows })
+        Ok(Rows {
+            rows: BlockRows::new(alloc, count)?,
+        })
     }
 
     /// How many rows there are.
     pub fn count(&self) -> usize
         ensures { result ≡ length self.now }
     {
-        self.rows.len()
+        self.rows.rows()
     }
 
-    /// The references in a row.
-    pub fn get(&self, row: usize) -> &[CRef]
+    /// The number of references in a row.
+    pub fn len(&self, row: usize) -> usize
         requires { row < length self.now }
-        ensures { result.now ≡ row_at self.now row }
+        ensures { result ≡ length (row_at self.now row) }
     {
-        &self.rows[row]
+        self.rows.len(row)
+    }
+
+    /// The reference at a place of a row.
+    pub fn get(&self, row: usize, place: usize) -> CRef
+        requires row { row < length self.now }
+        requires place { place < length (row_at self.now row) }
+        ensures { slice_get (row_at self.now row) place ≡ Some result }
+    {
+        self.rows.get(row, place)
+    }
+
+    /// Gives each row room for so many references, where it has no more.
+    pub fn make_rooms(&mut self, rooms: &[u32], fill: CRef) -> Result<(), AllocError>
+        ensures { self.new ≡ self.old }
+    {
+        self.rows.make_rooms(rooms, &fill)
     }
 
     /// Puts a reference at the end of a row.
@@ -58,8 +76,7 @@ impl Rows {
         ensures { IfOk result (λ _.
             self.new ≡ with_row self.old row (row_at self.old row ++ reference ∷ [])) }
     {
-        self.rows[row].push(reference)?;
-        Ok(())
+        self.rows.push(row, reference)
     }
 
     /// Puts a clause into the rows of its literals.
@@ -79,7 +96,69 @@ impl Rows {
         ensures { self.new ≡ with_row self.old row
             (filter (has_clause store.now.slots) (row_at self.old row)) }
     {
-        self.rows[row].retain(|reference| has_clause(store, *reference));
+        let mut write = 0;
+        for read in 0..self.len(row) {
+            let reference = self.get(row, read);
+            if has_clause(store, reference) {
+                self.set(row, write, reference);
+                write += 1;
+            }
+        }
+        self.truncate(row, write);
+    }
+
+    /// Writes a reference at a place of a row.
+    fn set(&mut self, row: usize, place: usize, reference: CRef)
+        requires row { row < length self.old }
+        requires place { place < length (row_at self.old row) }
+        ensures { self.new ≡ with_row self.old row
+            (slice_set (row_at self.old row) place reference) }
+    {
+        self.rows.set(row, place, reference);
+    }
+
+    /// Keeps the first references of a row, so many.
+    fn truncate(&mut self, row: usize, len: usize)
+        requires row { row < length self.old }
+        requires shorter { len ≤ length (row_at self.old row) }
+        ensures { self.new ≡ with_row self.old row (take len (row_at self.old row)) }
+    {
+        self.rows.truncate(row, len);
+    }
+
+    /// Makes space in a row that is full: what was deleted is taken out of it. Where that leaves
+    /// less than an eighth of its room it gets twice as much, so that a long row is not cleaned at
+    /// each reference that it gets.
+    ///
+    /// # Errors
+    ///
+    /// `AllocError` where a growth was refused. The row is then cleaned.
+    pub fn make_space(&mut self, row: usize, store: &Store, fill: CRef) -> Result<(), AllocError>
+        requires { row < length self.old }
+        ensures { (self.new ≡ self.old) ⊎ (self.new ≡ with_row self.old row
+            (filter (has_clause store.now.slots) (row_at self.old row))) }
+    {
+        let room = self.rows.room(row);
+        if self.rows.len(row) < room {
+            return Ok(());
+        }
+        self.clean(row, store);
+        if self.rows.len(row) > room - room / 8 {
+            self.rows.make_room(row, &fill)?;
+        }
+        Ok(())
+    }
+
+    /// Puts the references of a row at the end of a list.
+    pub fn collect(&self, row: usize, references: &mut Vec<CRef>) -> Result<(), AllocError>
+        requires { row < length self.now }
+        ensures { IfOk result (λ _.
+            references.new.items ≡ references.old.items ++ row_at self.now row) }
+    {
+        for place in 0..self.len(row) {
+            references.push(self.get(row, place))?;
+        }
+        Ok(())
     }
 }
 

@@ -58,6 +58,13 @@ impl Schedule {
         }
     }
 
+    /// By literal, how many live clauses have it.
+    pub fn counts(&self) -> &[u32]
+        ensures { result.now ≡ self.now.counts }
+    {
+        &self.counts
+    }
+
     /// A clause was added.
     pub fn enter(&mut self, lits: &[Lit]) -> Result<(), AllocError>
         ensures { IfOk result (λ _. self.new ≡ fold entered self.old lits.now) }

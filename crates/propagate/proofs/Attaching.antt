@@ -23,7 +23,7 @@ use Rattle.propagate_watches.specs.Table.{is_kept, IsWatching, attachment_in, gr
 use Rattle.propagate_watches.proofs.Laws.{attachment_set_other, attachment_set_same}
 use Rattle.propagate.specs.Trail.{Assigned}
 use Rattle.propagate.specs.Watches.{EngineState, IsEngine, IsVariable, is_attached, watches_at}
-use Rattle.propagate.specs.Watches.{count_in}
+use Rattle.propagate.specs.Watches.{count_in, SetsAttached}
 use Rattle.propagate.specs.Fits.{Fits, FitsAttachment, IsWithin, HasBlocker}
 use Rattle.propagate.proofs.Attachments.{with_watches, fits_attachment, blockers_kept}
 use Rattle.propagate.proofs.Attachments.{blockers_gone, count-cons, one-other}
@@ -48,6 +48,17 @@ length-grown t r =
       arith,
       length-append t (replicate (r + 1 - length t) Detached),
       length-replicate (r + 1 - length t) Detached,
+    )
+
+-- a clause with a place in the table is attached by what is put down there
+pub sets_kept : (e : EngineState) (r : ℕ) (p : Attachment) (R : List (List Entry)) (w : List ℕ)
+    → is_kept p ≡ true
+    → SetsAttached e (with_watches e (set (grown_table e.watches.table r) r p) R w) r true
+sets_kept e r p R w kept =
+    let g = grown_table e.watches.table r in (
+      ap is_kept (attachment_set_same g r p (length-grown e.watches.table r)) ∙ kept,
+      λ q ne. ap is_kept (attachment_set_other g r q p ne
+          ∙ attachment_grown e.watches.table r q),
     )
 
 detached_at : (p : Attachment) → is_kept p ≡ false → p ≡ Detached

@@ -41,6 +41,12 @@ within_all v [] h = All-nil (λ (l : Literal). l.variable ≤ v)
 within_all v (k ∷ c) h =
     All-cons (λ (l : Literal). l.variable ≤ v) k c (omega arith) (within_all v c (omega arith))
 
+-- so the literals of such a clause may be asked for
+pub within_at : (v w : ℕ) (c : List Literal) → v ≡ w → IsWithin w c
+    → All (λ (l : Literal). l.variable ≤ v) c
+within_at v w c same within =
+    within_all v c (subst (λ n. greatest_variable c ≤ n) (sym same) within.1)
+
 false_at : (a b : Bool) → ◌≡◌ {A = Option Bool} (if a then Some true else if b then Some false
     else None) (Some false) → b ≡ true
 false_at true b e = absurd (cc)
@@ -153,11 +159,9 @@ pub waiting_variable : (e : EngineState) (slots : Slots) (r : ℕ) (c : List Lit
 waiting_variable e slots r c l fits waits live =
     within_variable e.variables c l (waiting_within e slots r c fits waits live)
 
--- so its literals may be asked for
 pub waiting_all : (v : ℕ) (e : EngineState) (slots : Slots) (r : ℕ) (c : List Literal)
     → v ≡ e.variables → Fits e slots → attachment_in e.watches.table r ≡ Waiting
     → clause_at slots r ≡ Some c
     → All (λ (l : Literal). l.variable ≤ v) c
 waiting_all v e slots r c same fits waits live =
-    within_all v c (subst (λ n. greatest_variable c ≤ n) (sym same)
-    (waiting_within e slots r c fits waits live).1)
+    within_at v e.variables c same (waiting_within e slots r c fits waits live)

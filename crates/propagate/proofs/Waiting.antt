@@ -6,6 +6,7 @@ use Rattle.std.proofs.lemmas.List.{take_more, take_all}
 use Rattle.std.proofs.lemmas.List.Elements.{Contains-push_cases}
 use Rattle.cnf.specs.Clause.{contains_literal}
 use Rattle.clauses.specs.Slots.{Slots}
+use Rattle.propagate_watches.specs.declared.table.Attachment.TheVariants.{Waiting}
 use Rattle.propagate_watches.specs.Table.{attachment_in}
 use Rattle.propagate.specs.Trail.{literals_of}
 use Rattle.propagate.specs.Watches.{EngineState}
@@ -50,11 +51,11 @@ pub all_seen : (slots : Slots) (e : EngineState) (w : List ℕ) (n : ℕ) → Fi
 all_seen slots e w n fits same le seen r c p live =
     seen r (subst (λ z. Contains z r) (same ∙ sym (take_all n w le)) (fits.waiting r p)) c p live
 
-pub fits_waiting : (e : EngineState) (slots : Slots) → Fits e slots
-    → Fits (with_watches e e.watches.table e.watches.rows
-    (filter (λ r. is_waiting (attachment_in e.watches.table r)) e.watches.waiting)) slots
-fits_waiting e slots fits =
-    let w = filter (λ r. is_waiting (attachment_in e.watches.table r)) e.watches.waiting in
+-- the list may change where it still has the clauses that wait
+pub fits_listed : (e : EngineState) (slots : Slots) (w : List ℕ) → Fits e slots
+    → ((r : ℕ) → attachment_in e.watches.table r ≡ Waiting → Contains w r)
+    → Fits (with_watches e e.watches.table e.watches.rows w) slots
+fits_listed e slots w fits listed =
     record {
       attached = λ r h. let f = fits.attached r h in (
         f.0,
@@ -69,9 +70,15 @@ fits_waiting e slots fits =
       reasons_attached = fits.reasons_attached;
       small = fits.small;
       rows = fits.rows;
-      waiting =
-          λ r h. Contains-filter (λ x. is_waiting (attachment_in e.watches.table x))
-          e.watches.waiting
-          r (ap is_waiting h) (fits.waiting r h);
+      waiting = listed;
       blockers = fits.blockers;
     }
+
+pub fits_waiting : (e : EngineState) (slots : Slots) → Fits e slots
+    → Fits (with_watches e e.watches.table e.watches.rows
+    (filter (λ r. is_waiting (attachment_in e.watches.table r)) e.watches.waiting)) slots
+fits_waiting e slots fits =
+    fits_listed e slots (filter (λ r. is_waiting (attachment_in e.watches.table r))
+    e.watches.waiting) fits
+    (λ r h. Contains-filter (λ x. is_waiting (attachment_in e.watches.table x)) e.watches.waiting
+    r (ap is_waiting h) (fits.waiting r h))

@@ -2,7 +2,7 @@
 use Rattle.std.proofs.Common.{◌≡◌, ◌≢◌, ℕ, ◌+◌, ◌<◌, Bool, true, false, List, [], ◌∷◌, ◌++◌, take}
 use Rattle.std.proofs.Common.{length, set, Option, Some, None, ◌⊎◌, inl, inr, refl, sym, ◌∙◌, ap}
 use Rattle.std.proofs.Common.{subst, arith}
-use Rattle.std.specs.Prelude.{All}
+use Rattle.std.specs.Prelude.{All, Contains}
 use Rattle.std.specs.List.{AllByRecursion}
 use Rattle.std.proofs.lemmas.Bool.{cases_eq, false_from_ne_true}
 use Rattle.std.proofs.lemmas.List.{get_or-set_same, get_or-set_other, length-set, set-set}
@@ -16,7 +16,7 @@ use Rattle.propagate_watches.specs.declared.table.Rest.{Rest}
 use Rattle.propagate_watches.specs.declared.table.Attachment.TheVariants.{Waiting, Satisfied}
 use Rattle.propagate_watches.specs.declared.table.Attachment.TheVariants.{Watching}
 use Rattle.propagate_watches.specs.Pool.{row_at, with_row}
-use Rattle.propagate_watches.specs.Table.{is_kept, attachment_in}
+use Rattle.propagate_watches.specs.Table.{is_kept, attachment_in, grown_table, IsWatching}
 use Rattle.propagate_watches.proofs.Laws.{attachment_set_other, attachment_set_same}
 use Rattle.propagate.specs.Trail.{literals_of, depth_of, level_in, value_in, kept_to}
 use Rattle.propagate.specs.Watches.{EngineState, IsEngine, is_attached, watches_at, one_at}
@@ -24,14 +24,16 @@ use Rattle.propagate.specs.Watches.{count_in}
 use Rattle.propagate.specs.Fits.{Fits, FitsAttachment, IsRest, IsWatch, IsWithin, HasBlocker}
 use Rattle.propagate.specs.Fits.{HasTrue}
 use Rattle.propagate.specs.Steps.{entry_of, pushed, watched, with_attachment, with_trail, Continues}
-use Rattle.propagate.specs.Steps.{IsMadeTrue}
+use Rattle.propagate.specs.Steps.{IsMadeTrue, with_room}
 use Rattle.propagate.proofs.Literals.{index-within}
 use Rattle.propagate.proofs.Levels.{kept_all}
 use Rattle.propagate.proofs.Kept.{contains_take, in_kept}
 use Rattle.propagate.proofs.Reasons.{no_opposites}
 use Rattle.propagate.proofs.Attachments.{fits_attachment, blockers_kept, count-cons, one-same}
-use Rattle.propagate.proofs.Attachments.{one-other}
-use Rattle.propagate.proofs.Attaching.{kept_within}
+use Rattle.propagate.proofs.Attachments.{one-other, watch_same, with_watches}
+use Rattle.propagate.proofs.Attaching.{kept_within, fits_attach, engine_change, engine_set}
+use Rattle.propagate.proofs.Attaching.{attachment_grown, length-grown}
+use Rattle.propagate.proofs.Waiting.{fits_listed}
 use Rattle.propagate.proofs.Looking.{within_variable, unit_left, one_left, true_value}
 use Rattle.propagate.proofs.Stepping.{count-append, open_watch, last_true}
 use Rattle.propagate.proofs.Continuing.{continues_unit, continues_same}
@@ -146,6 +148,45 @@ fits_watch e slots r c one other rest inv fits at live apart a b d =
     (λ k. blockers_kept e slots r t Rj e.watches.waiting (row_at Rj k) elsewhere kept
     (all_pushed (HasBlocker e slots) Ri other v l2 (c, was, live, a.member)
     (all_pushed (HasBlocker e slots) R one w l1 (c, was, live, b.member) fits.blockers) k))
+
+-- a clause that is attached and watches two literals at once: it waits, and then does so no more
+pub fits_watch_new : (e : EngineState) (slots : Slots) (r : ℕ) (c : List Literal)
+    (one other : Literal) (rest : Rest) → IsEngine e → Fits e slots → is_attached e r ≡ false
+    → clause_at slots r ≡ Some c → IsWithin e.variables c → one ≢ other → IsWatch e c one
+    → IsWatch e c other → IsRest c one other rest
+    → Fits (watched (with_room e r) r one other rest) slots
+fits_watch_new e slots r c one other rest inv fits out live within apart a b d =
+    let g = grown_table e.watches.table r in
+    let t = set g r Waiting in
+    let R = e.watches.rows in
+    let w = e.watches.waiting in
+    let at : attachment_in t r ≡ Waiting =
+    attachment_set_same g r Waiting (length-grown e.watches.table r) in
+    let waits : Fits (with_watches e t R (w ++ r ∷ [])) slots =
+    fits_attach e slots r c out live within fits in
+    let is : IsEngine (with_watches e t R (w ++ r ∷ [])) =
+    engine_set (with_watches e g R w) r Waiting R (w ++ r ∷ [])
+    (engine_change e g R w inv refl
+    (λ q l m h. inv.watching q l m
+    (subst (λ x. IsWatching x l m) (attachment_grown e.watches.table r q) h)))
+    refl (length-grown e.watches.table r) (λ l m h. absurd (cc)) in
+    let watches : Fits (watched (with_watches e t R (w ++ r ∷ [])) r one other rest) slots =
+    fits_watch (with_watches e t R (w ++ r ∷ [])) slots r c one other rest is waits at live apart
+    (watch_same e t R (w ++ r ∷ []) c one a) (watch_same e t R (w ++ r ∷ []) c other b) d in
+    let p = Watching one other rest in
+    let rows = pushed (pushed R one (entry_of r other)) other (entry_of r one) in
+    let once : set t r p ≡ set g r p = set-set g r Waiting p in
+    let listed : (q : ℕ) → attachment_in (set t r p) q ≡ Waiting → Contains w q =
+    λ q h. elim (cases_eq q r) [
+      | inl same ↦ absurd (let h' = sym (ap (attachment_in (set t r p)) same
+          ∙ attachment_set_same t r p (omega (arith, length-set g r Waiting,
+          length-grown e.watches.table r))) ∙ h in cc)
+      | inr ne ↦ fits.waiting q (sym (attachment_set_other t r q p ne
+          ∙ attachment_set_other g r q Waiting ne ∙ attachment_grown e.watches.table r q) ∙ h)
+    ] in
+    subst (λ table. Fits (with_watches e table rows w) slots) once
+    (fits_listed (watched (with_watches e t R (w ++ r ∷ [])) r one other rest) slots w watches
+    listed)
 
 pub fits_satisfied : (e : EngineState) (slots : Slots) (r : ℕ) (c : List Literal) → Fits e slots
     → attachment_in e.watches.table r ≡ Waiting → clause_at slots r ≡ Some c → depth_of e.trail ≡ 0

@@ -53,6 +53,11 @@ watched e r one other rest = with_attachment (with_rows e
     (pushed (pushed e.watches.rows one (entry_of r other)) other (entry_of r one))) r
     (Watching one other rest)
 
+-- the table has a place for the clause
+abbrev pub with_room : EngineState → ℕ → EngineState
+with_room e r =
+    record e { watches = record e.watches { table = grown_table e.watches.table r } }
+
 -- the clause waits
 abbrev pub enlisted : EngineState → ℕ → EngineState
 enlisted e r = record e {

@@ -1,2 +1,4 @@
 pub mod Ownership
 pub mod Block
+pub mod Rows
+pub mod RowLayout

@@ -1,6 +1,4 @@
 mod Attachments
 mod Zipped
 mod Moving
-mod Laid
-mod Rewriting
 pub mod Laws

@@ -1,12 +1,2 @@
--- A list of rows of any entries.
-use Rattle.std.specs.Prelude.{ℕ, List, [], ◌++◌, take, drop, slice_index_or, slice_set}
-
-abbrev pub row_at : {A : Type 0} → List (List A) → ℕ → List A
-row_at rows i = slice_index_or rows i []
-
-abbrev pub with_row : {A : Type 0} → List (List A) → ℕ → List A → List (List A)
-with_row rows i row = slice_set rows i row
-
--- the row without its entries from place `write` to place `read`
-abbrev pub closed_row : {A : Type 0} → ℕ → ℕ → List A → List A
-closed_row write read row = take write row ++ drop read row
+-- Rows of entries, in the words of the block in which they lie.
+pub use Rattle.propagate_block.specs.Rows.{row_at, with_row, closed_row}

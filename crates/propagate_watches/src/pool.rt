@@ -2,12 +2,10 @@
 //
 // Propagation goes along the row of each literal that became false: `get` reads its entries one
 // after another, `set` writes those that stay over those that leave, `close` takes the gap out at
-// the end, and `push` adds an entry to another row. So an entry is found by two reads, of its row's
-// head and of its place, the entries of a row lie side by side, and what seldom happens, that a row
-// has no room left, stands apart in `make_room`. Rows that move leave their old places empty; these
-// are not used again.
+// the end, and `push` adds an entry to another row. Where the rows lie is the business of
+// `BlockRows`.
 ghost use Rattle.std.specs.Prelude.{◌≡◌, ℕ, ◌<◌, ◌≤◌, List, [], ◌∷◌, ◌++◌, length, map, replicate};
-ghost use Rattle.std.specs.Prelude.{take, Some, slice_get, slice_set, OnOk, OnErr, IfOk, IsTrue};
+ghost use Rattle.std.specs.Prelude.{take, Some, slice_get, slice_set, OnOk, OnErr, IfOk};
 ghost use Rattle.std.specs.Prelude.{filter, not, ◌==◌};
 ghost use Rattle.propagate_watches.specs.Pool.{row_at, with_row, closed_row};
 ghost use Rattle.propagate_watches.specs.Doomed.{spared_entries, spared_rows};
@@ -17,7 +15,7 @@ use crate::doomed::is_doomed;
 use crate::moved::new_entry;
 use clauses::store::{CRef, Moves};
 use cnf::types::Lit;
-use propagate_block::Block;
+use propagate_block::rows::BlockRows;
 use std::alloc::{AllocError, Global};
 use std::marker::Model;
 
@@ -31,41 +29,12 @@ pub struct Entry {
     pub blocker: Lit,
 }
 
-/// Where a row lies in the block. It takes sixteen bytes, so that none lies across the lines of a
-/// cache.
-#[derive(Clone, Copy, Drop)]
-pub(crate) struct Head {
-    // The place of its first entry in the block.
-    start: usize,
-    // The number of its entries, at most `room`.
-    length: u32,
-    // The number of places from the first on that are the row's own.
-    room: u32,
-}
-
-const _: () = prove!(size_of::<Head>() == 16);
-
-const NO_ROW: Head = Head {
-    start: 0,
-    length: 0,
-    room: 0,
-};
-
-/// The room, in entries, that a row gets with its first entry.
-const FIRST_ROOM: u32 = 4;
-
-/// A list of entries for each row, all in one block. A row without room left moves to the end of
-/// what is in use, where it has twice its room; a block without room left is copied to a larger
-/// one.
+/// A list of entries for each row, all in one block: a row without room left moves to the end of
+/// what is in use, where it has twice its room.
 #[derive(Drop)]
 pub struct WatchPool {
-    // The rows, and the places between them that none has.
-    block: Block<Entry>,
-    // For each row, where it lies in the block.
-    heads: Vec<Head>,
-    // The number of places at the block's front in which all rows lie; at most the block's length,
-    // and below 2^63.
-    used: usize,
+    // The entries, by row.
+    rows: BlockRows<Entry>,
 }
 
 impl Model for WatchPool {
@@ -74,11 +43,7 @@ impl Model for WatchPool {
 
     ghost Value = { List (List Entry) };
 
-    ghost use Rattle.propagate_watches.specs.PoolLayout.{rows_of, IsLaid};
-
-    ghost view = { λ p. rows_of p.block p.heads.items };
-
-    ghost invariant = { λ p. IsLaid p.block p.heads.items p.used };
+    ghost view = { λ p. p.rows };
 }
 
 impl WatchPool {
@@ -90,12 +55,8 @@ impl WatchPool {
     pub fn new(alloc: Global, rows: usize) -> Result<Self, AllocError>
         ensures { IfOk result (λ p. p ≡ replicate rows []) }
     {
-        let block = Block::empty(alloc);
-        let heads = Vec::from_elem(alloc, NO_ROW, rows)?;
         Ok(WatchPool {
-            block,
-            heads,
-            used: 0,
+            rows: BlockRows::new(alloc, rows)?,
         })
     }
 
@@ -103,7 +64,7 @@ impl WatchPool {
     pub fn rows(&self) -> usize
         ensures { result ≡ length self.now }
     {
-        self.heads.len()
+        self.rows.rows()
     }
 
     /// The number of entries in a row.
@@ -111,7 +72,7 @@ impl WatchPool {
         requires { row < length self.now }
         ensures { result ≡ length (row_at self.now row) }
     {
-        self.heads[row].length as usize
+        self.rows.len(row)
     }
 
     /// The entry at place `i` of a row.
@@ -120,8 +81,7 @@ impl WatchPool {
         requires place { i < length (row_at self.now row) }
         ensures { slice_get (row_at self.now row) i ≡ Some result }
     {
-        let start = self.heads[row].start;
-        self.block.get(start + i)
+        self.rows.get(row, i)
     }
 
     /// Puts an entry at the end of a row.
@@ -137,15 +97,7 @@ impl WatchPool {
             (row_at self.old row ++ entry ∷ [])) }
         ensures err { OnErr result (self.new ≡ self.old) }
     {
-        if self.put(row, &entry) {
-            return Ok(());
-        }
-        self.make_room(row, &entry)?;
-        if self.put(row, &entry) {
-            Ok(())
-        } else {
-            Err(AllocError)
-        }
+        self.rows.push(row, entry)
     }
 
     /// Writes an entry at place `i` of a row.
@@ -154,8 +106,7 @@ impl WatchPool {
         requires place { i < length (row_at self.old row) }
         ensures { self.new ≡ with_row self.old row (slice_set (row_at self.old row) i entry) }
     {
-        let start = self.heads[row].start;
-        self.block.set(start + i, entry);
+        self.rows.set(row, i, entry);
     }
 
     /// Keeps the first `len` entries of a row.
@@ -164,9 +115,7 @@ impl WatchPool {
         requires shorter { len ≤ length (row_at self.old row) }
         ensures { self.new ≡ with_row self.old row (take len (row_at self.old row)) }
     {
-        if len < self.heads[row].length as usize {
-            self.heads[row].length = len as u32;
-        }
+        self.rows.truncate(row, len);
     }
 
     /// Moves the entries of a row from place `read` on down to place `write`: those between the two
@@ -248,8 +197,8 @@ impl WatchPool {
         }
     }
 
-    /// Gives each row room for so many entries, where it has no more, all side by side in a block
-    /// that has just that room: rows that grow one by one leave their old places empty.
+    /// Gives each row room for so many entries, where it has no more, all side by side: rows that
+    /// grow one by one leave their old places empty.
     ///
     /// # Errors
     ///
@@ -257,95 +206,6 @@ impl WatchPool {
     pub fn make_rooms(&mut self, rooms: &[u32], fill: &Entry) -> Result<(), AllocError>
         ensures { self.new ≡ self.old }
     {
-        let mut count = self.used;
-        for room in rooms {
-            count = count.saturating_add(*room as usize);
-        }
-        if count > self.block.len() {
-            self.grow(count, fill)?;
-        }
-        for row in 0..self.rows().min(rooms.len()) {
-            self.move_row(row, rooms[row]);
-        }
-        Ok(())
-    }
-
-    /// Adds the entry where its row has room, and says whether it had.
-    #[inline]
-    fn put(&mut self, row: usize, entry: &Entry) -> bool
-        requires { row < length self.old }
-        ensures added { IsTrue result → self.new
-            ≡ with_row self.old row (row_at self.old row ++ entry.now ∷ []) }
-        ensures full { ¬ IsTrue result → self.new ≡ self.old }
-    {
-        let Head {
-            start,
-            length,
-            room,
-        } = self.heads[row];
-        if length == room {
-            return false;
-        }
-        self.block.set(start + length as usize, *entry);
-        self.heads[row].length = length + 1;
-        true
-    }
-
-    /// Gives a row twice its room, in a larger block where this one has none left: half as large
-    /// again, or by that room if it is more. A row seldom needs it, so it stands apart from the
-    /// loop that pushes.
-    #[cold]
-    #[inline(never)]
-    fn make_room(&mut self, row: usize, fill: &Entry) -> Result<(), AllocError>
-        requires { row < length self.old }
-        ensures { self.new ≡ self.old }
-    {
-        let room = self.heads[row].room.saturating_mul(2).max(FIRST_ROOM);
-        let len = self.block.len();
-        if room as usize > len - self.used {
-            let more = (len / 2).max(room as usize);
-            self.grow(len.saturating_add(more), fill)?;
-        }
-        self.move_row(row, room);
-        Ok(())
-    }
-
-    /// Moves a row to the end of what is in use, where it gets `room` places. Where the block has
-    /// not so many left, or the row more entries, all stays as it is.
-    fn move_row(&mut self, row: usize, room: u32)
-        requires { row < length self.old }
-        ensures { self.new ≡ self.old }
-    {
-        let Head {
-            start,
-            length,
-            room: _,
-        } = self.heads[row];
-        let to = self.used;
-        if room < length || room as usize > self.block.len() - to {
-            return;
-        }
-        self.block.copy_within(start, to, length as usize);
-        self.heads[row] = Head {
-            start: to,
-            length,
-            room,
-        };
-        self.used = to + room as usize;
-    }
-
-    /// Moves all rows, each to the same places, to a block of `count` places.
-    fn grow(&mut self, count: usize, fill: &Entry) -> Result<(), AllocError>
-        ensures { self.new ≡ self.old }
-    {
-        if count < self.used {
-            return Err(AllocError);
-        }
-        let mut next = Block::new(*self.heads.allocator(), count, fill)?;
-        for place in 0..self.used {
-            next.set(place, self.block.get(place));
-        }
-        self.block = next;
-        Ok(())
+        self.rows.make_rooms(rooms, fill)
     }
 }

@@ -1,9 +1,9 @@
 // The clauses that have no watches yet.
 //
-// A clause that was attached waits until the next propagation, which may find it unit or false
-// already. With two literals that are not false it watches these. Else the literal that is left is
-// made true, and the clause goes on to wait until it finds a second watch, a literal of the current
-// level, or is dropped as satisfied at level 0.
+// A clause that was attached without two literals that are not false waits until the next
+// propagation, which may find it unit or false. Where two are not false by then it watches these.
+// Else the literal that is left is made true, and the clause goes on to wait until it finds a second
+// watch, a literal of the current level, or is dropped as satisfied at level 0.
 ghost use Rattle.std.specs.Prelude.{◌≡◌, ◌<◌, ◌≤◌, Some, true, length, filter, slice_get};
 ghost use Rattle.std.specs.Prelude.{IfOk, IfSome, IfNone, OnOk, OnErr};
 ghost use Rattle.cnf.specs.Clause.{contains_literal};
@@ -173,14 +173,14 @@ impl Engine {
 
     /// A clause without watches watches these two literals from now on. A refused growth changes
     /// nothing.
-    fn watch(
+    pub(super) fn watch(
         &mut self,
         reference: CRef,
         lits: &[Lit],
         one: Lit,
         other: Lit,
     ) -> Result<(), AllocError>
-        requires attached { is_attached self.old reference ≡ true }
+        requires place { reference < length self.old.watches.table }
         requires one { IsVariable self.old.variables one }
         requires other { IsVariable self.old.variables other }
         ensures ok { OnOk result ((rest : Rest) × IsRest lits.now one other rest

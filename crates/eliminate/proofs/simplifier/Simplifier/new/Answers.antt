@@ -12,7 +12,7 @@ use Rattle.eliminate.proofs.Occurring.{rows_added, rows-length}
 use Rattle.eliminate.proofs.Starting.{rows_start, rows_none, slot_some, slot_none, simplified_start}
 use Rattle.eliminate.proofs.States.{places_of, live_all}
 use Rattle.eliminate.proofs.simplifier.Simplifier.new.Goals as goal
-use Rattle.eliminate.proofs.simplifier.Simplifier.new.Goals.{in-Some+in_ok-add-in-Some+in_ok-enter-in-Some}
+use Rattle.eliminate.proofs.simplifier.Simplifier.new.Goals.{in-Some+in_ok-add-in-Some}
 use Rattle.eliminate.proofs.simplifier.Simplifier.new.Goals.{in-None}
 
 -- the clause has its places
@@ -45,7 +45,7 @@ loop-place-preserved c =
     let more : take (i + 1) slots ≡ take i slots ++ get_or slots i None ∷ [] =
     take_more slots i None within in
     elim c.match-live_at.branch [
-      | in-Some+in_ok-add-in-Some+in_ok-enter-in-Some w ↦
+      | in-Some+in_ok-add-in-Some w ↦
           let at = w.in-Some.ensures.live in
           let lits : List Literal = w.lits-lits.result.now in
           let f =

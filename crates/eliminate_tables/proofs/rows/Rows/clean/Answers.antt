@@ -1,15 +1,29 @@
 -- One row keeps what is live.
-use Rattle.std.proofs.Common.{Vec, Global, ℕ, filter, rules}
-use Rattle.std.proofs.lemmas.Fn.{filter_same}
-use Rattle.eliminate_tables.specs.Rows.{has_clause}
-use Rattle.eliminate_tables.proofs.Writing.{row_written, row_within}
+use Rattle.std.proofs.Common.{◌<◌, ◌∙◌, length, arith, rules}
+use Rattle.eliminate_tables.specs.Rows.{row_at, has_clause}
+use Rattle.propagate_block.proofs.Laws.{sieved_none, sieved_kept, sieved_left, sieved_all}
 use Rattle.eliminate_tables.proofs.rows.Rows.clean.Goals as goal
+use Rattle.eliminate_tables.proofs.rows.Rows.clean.Goals.{then-has_clause, else-has_clause}
+
+pub loop-read-preserved : goal.loop-read-preserved
+loop-read-preserved c =
+    let p = has_clause c.args.store.now.slots in
+    let l = c.loop-read in
+    let within : l.read < length (row_at c.args.self.now c.args.row) =
+    omega (arith, c.loop-read-test.true, c.len-read-end.ensures) in
+    elim c.if-has_clause.branch [
+      | then-has_clause w ↦
+          rw (w.self-is, w.write-is, w.set.ensures)
+          (sieved_kept p c.args.self.now l.self c.args.row l.write l.read l.invariant
+          c.get-reference.result c.requires within c.get-reference.ensures (search rules))
+      | else-has_clause w ↦
+          rw (w.self-is, w.write-is) (sieved_left p c.args.self.now l.self c.args.row l.write l.read
+          l.invariant c.get-reference.result within c.get-reference.ensures (search rules))
+    ]
 
 pub returns : goal.returns
 returns c =
-    rw (← c.self.view_is) (row_written (λ (v : Vec ℕ Global). v.items) c.self.inside.rows.items
-    c.args.row c.index_mut.result.now c.retain.new.self
-    (filter (has_clause c.args.store.now.slots))
-    (row_within (λ (v : Vec ℕ Global). v.items) c.self.inside.rows.items c.args.self.now c.args.row
-    c.self.view_is c.requires) c.index_mut.ensures.value
-    (filter_same _ _ _ (λ x b f' k. search rules) _ _ c.retain.ensures.filtered))
+    c.truncate.ensures
+    ∙ sieved_all (has_clause c.args.store.now.slots) c.args.self.now c.loop-read.self c.args.row
+    c.loop-read.write c.loop-read.read c.loop-read.invariant
+    (omega (arith, c.loop-read-test.false, c.len-read-end.ensures))

@@ -11,6 +11,7 @@ use Rattle.propagate.specs.Steps.{Continues, GoesOn}
 use Rattle.propagate.proofs.Looking.{waiting_within, waiting_variable, waiting_all, all_false_from}
 use Rattle.propagate.proofs.Looking.{not_false_value}
 use Rattle.propagate.proofs.Stepping.{open_watch}
+use Rattle.propagate.proofs.Attaching.{kept_within}
 use Rattle.propagate.proofs.Continuing.{continues_attachment}
 use Rattle.propagate.proofs.Watching.{fits_watch, made_true}
 use Rattle.propagate.proofs.engine.Engine.look_at_clause.Goals as goal
@@ -74,6 +75,10 @@ returns-in_default-clause-done c =
             c.in_default.ensures),
       ),
     )
+
+pub watch-requires-clause-place : goal.watch-requires-clause-place
+watch-requires-clause-place c =
+    kept_within c.args.self.now.watches.table c.args.reference (ap is_kept c.requires.waits)
 
 pub watch-requires-clause-one : goal.watch-requires-clause-one
 watch-requires-clause-one c = one_within (goal.at.watch-requires-clause-one c).In-Some

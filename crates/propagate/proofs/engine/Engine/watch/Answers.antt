@@ -1,13 +1,14 @@
-use Rattle.std.proofs.Common.{◌≡◌, ◌<◌, length, take, ◌++◌, ◌∷◌, [], refl, ap, ◌∙◌, arith}
+use Rattle.std.proofs.Common.{◌≡◌, ◌<◌, length, take, ◌++◌, ◌∷◌, [], refl, ap, ◌∙◌, arith, sym}
+use Rattle.std.proofs.Common.{subst}
 use Rattle.std.proofs.lemmas.List.{length-set}
 use Rattle.cnf.specs.Literal.{index_of}
 use Rattle.propagate_watches.specs.declared.table.Attachment.TheVariants.{Watching}
 use Rattle.propagate_watches.specs.Pool.{row_at, with_row}
-use Rattle.propagate.specs.Watches.{EngineState, engine_state, is_attached}
+use Rattle.propagate.specs.Watches.{EngineState, engine_state}
 use Rattle.propagate.specs.Steps.{entry_of}
 use Rattle.propagate.proofs.Pools.{on_err_at, on_ok_at}
 use Rattle.propagate.proofs.Literals.{index-within}
-use Rattle.propagate.proofs.Attaching.{engine_set, kept_within}
+use Rattle.propagate.proofs.Attaching.{engine_set}
 use Rattle.propagate.proofs.Watching.{unpushed}
 use Rattle.propagate.proofs.engine.Engine.watch.Goals as goal
 
@@ -48,7 +49,7 @@ invariant_of-self-2 c =
     let e = engine_state i.trail i.table i.pool i.waiting.items i.stable_qhead i.qhead i.failed in
     let variables = ap (λ (x : EngineState). x.variables) c.self.view_is in
     let lt : r < length i.table =
-    kept_within i.table r (ap (λ x. is_attached x r) c.self.view_is ∙ c.requires.attached) in
+    subst (λ (x : EngineState). r < length x.watches.table) (sym c.self.view_is) c.requires.place in
     let long : length c.push-2.new.self ≡ length i.pool =
     ap length (on_ok_at c.push-2.result c.if-is_err.ensures.value c.push-2.ensures.ok)
     ∙ length-set _ _ _ ∙ ap length c.in_ok-push.ensures.ok ∙ length-set _ _ _ in

@@ -7,6 +7,7 @@ use Rattle.propagate.specs.Trail.{level_in, depth_of}
 use Rattle.propagate.specs.Watches.{EngineState, IsEngine}
 use Rattle.propagate.specs.Steps.{GoesOn}
 use Rattle.propagate.proofs.Looking.{waiting_variable, waiting_all}
+use Rattle.propagate.proofs.Attaching.{kept_within}
 use Rattle.propagate.proofs.Continuing.{continues_attachment}
 use Rattle.propagate.proofs.Watching.{fits_watch, fits_satisfied, level_watch, true_watch}
 use Rattle.propagate.proofs.engine.Engine.watch_satisfied.Goals as goal
@@ -24,6 +25,10 @@ find_other_of_level-requires c =
     waiting_all _ c.args.self.now c.args.store.now.slots c.args.reference c.lits-lits.result.now
     (ap (λ (x : EngineState). x.variables) c.self.view_is) c.requires.fits c.requires.waits
     c.lits-lits.ensures
+
+pub watch-requires-clause-place : goal.watch-requires-clause-place
+watch-requires-clause-place c =
+    kept_within c.args.self.now.watches.table c.args.reference (ap is_kept c.requires.waits)
 
 pub watch-requires-clause-one : goal.watch-requires-clause-one
 watch-requires-clause-one c =

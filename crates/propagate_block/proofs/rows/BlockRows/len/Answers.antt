@@ -1,0 +1,20 @@
+use Rattle.std.proofs.Common.{ap, arith}
+use Rattle.propagate_block.specs.declared.rows.Head.{Head}
+use Rattle.propagate_block.proofs.RowsLaid.{head_read, long_row, row_there}
+use Rattle.propagate_block.proofs.rows.BlockRows.len.Goals as goal
+
+pub index-requires : goal.index-requires
+index-requires g c =
+    let i = c.self.inside in
+    omega (arith, row_there i.block i.heads.items _ c.self.view_is c.args.row c.requires)
+
+pub returns : goal.returns
+returns g c =
+    let i = c.self.inside in
+    omega (
+      arith,
+      long_row i.block i.heads.items i.used c.self.invariant _ c.self.view_is c.args.row c.requires,
+      ap (λ (r : Head). r.length)
+          (head_read i.block i.heads.items _ c.self.view_is c.args.row c.requires c.index.result.now
+          c.index.ensures),
+    )

@@ -1,0 +1,51 @@
+use Rattle.std.proofs.Common.{◌≡◌, ◌<◌, ◌≤◌, length, get_or, ap, arith, refl}
+use Rattle.propagate_block.specs.RowLayout.{no_head}
+use Rattle.propagate_block.specs.declared.rows.Head.{Head}
+use Rattle.propagate_block.proofs.RowsLaid.{head_read, next_fits, row_there, rows_put}
+use Rattle.propagate_block.proofs.rows.BlockRows.put.Goals as goal
+
+pub returns-clause-added : goal.returns-clause-added
+returns-clause-added g c _ =
+    let i = c.self.inside in let laid = c.self.invariant in
+    let li : c.args.row < length i.heads.items =
+    row_there i.block i.heads.items _ c.self.view_is c.args.row c.requires in
+    let is : c.index.result.now ≡ get_or i.heads.items c.args.row no_head =
+    head_read i.block i.heads.items _ c.self.view_is c.args.row c.requires c.index.result.now
+    c.index.ensures in
+    let is' : c.index_mut.result.now ≡ get_or i.heads.items c.args.row no_head =
+    head_read i.block i.heads.items _ c.self.view_is c.args.row c.requires c.index_mut.result.now
+    c.index_mut.ensures.value in
+    let room : (get_or i.heads.items c.args.row no_head).length
+    < (get_or i.heads.items c.args.row no_head).room =
+    rw (← is) (let f : c.index.result.now.length ≤ c.index.result.now.room = rw is
+    (laid.filled c.args.row li) in omega arith) in
+    let start : c.index.result.now.start ≡ (get_or i.heads.items c.args.row no_head).start =
+    ap (λ (r : Head). r.start) is in
+    let long : c.index.result.now.length ≡ (get_or i.heads.items c.args.row no_head).length =
+    ap (λ (r : Head). r.length) is in
+    rw (c.set.ensures, start, long, ← c.self.view_is)
+    (rows_put i.block i.heads.items i.used laid c.args.row c.args.entry.now _ li room
+    (ap (λ (r : Head). r.start) is') refl)
+
+pub index-requires : goal.index-requires
+index-requires g c =
+    let i = c.self.inside in
+    omega (arith, row_there i.block i.heads.items _ c.self.view_is c.args.row c.requires)
+
+pub overflow_add-start : goal.overflow_add-start
+overflow_add-start g c =
+    let i = c.self.inside in
+    omega (
+      arith,
+      next_fits i.block i.heads.items i.used c.self.invariant _ c.self.view_is c.args.row
+          c.requires c.index.result.now c.index.ensures (omega arith),
+    )
+
+pub set-requires : goal.set-requires
+set-requires g c =
+    let i = c.self.inside in
+    omega (
+      arith,
+      next_fits i.block i.heads.items i.used c.self.invariant _ c.self.view_is c.args.row
+          c.requires c.index.result.now c.index.ensures (omega arith),
+    )

@@ -1,0 +1,27 @@
+use Rattle.std.proofs.Common.{◌≡◌, ◌<◌, ◌≤◌, length, get_or, ap, arith, refl}
+use Rattle.propagate_block.specs.RowLayout.{no_head}
+use Rattle.propagate_block.specs.declared.rows.Head.{Head}
+use Rattle.propagate_block.proofs.RowsLaid.{head_read, long_row, row_there, rows_truncate}
+use Rattle.propagate_block.proofs.rows.BlockRows.truncate.Goals as goal
+
+pub returns-then-len-index : goal.returns-then-len-index
+returns-then-len-index g c =
+    let i = c.self.inside in let laid = c.self.invariant in
+    let li : c.args.row < length i.heads.items =
+    row_there i.block i.heads.items _ c.self.view_is c.args.row c.requires.row in
+    let is : c.index_mut.result.now ≡ get_or i.heads.items c.args.row no_head =
+    head_read i.block i.heads.items _ c.self.view_is c.args.row c.requires.row
+    c.index_mut.result.now c.index_mut.ensures.value in
+    let lk : c.args.len ≤ (get_or i.heads.items c.args.row no_head).length =
+    omega (
+      arith,
+      long_row i.block i.heads.items i.used laid _ c.self.view_is c.args.row c.requires.row,
+      c.requires.shorter,
+    ) in
+    rw (← c.self.view_is) (rows_truncate i.block i.heads.items i.used laid c.args.row c.args.len _
+    li (ap (λ (r : Head). r.start) is) refl lk)
+
+pub index-requires : goal.index-requires
+index-requires g c =
+    let i = c.self.inside in
+    omega (arith, row_there i.block i.heads.items _ c.self.view_is c.args.row c.requires.row)

@@ -1,0 +1,29 @@
+-- Where the rows lie in the block.
+use Rattle.std.specs.Prelude.{ℕ, List, ◌+◌, ◌^◌, ◌<◌, ◌≤◌, ◌≢◌, ◌⊎◌, length, map, slice_range}
+use Rattle.std.specs.Prelude.{get_or}
+use Rattle.propagate_block.specs.declared.rows.Head.{Head}
+
+abbrev pub no_head : Head
+no_head = record { start = 0; length = 0; room = 0 }
+
+-- the first place behind those that are the row's own
+abbrev pub end_of : Head → ℕ
+end_of r = r.start + r.room
+
+abbrev pub row_of : {A : Type 0} → List A → Head → List A
+row_of block r = slice_range block r.start (r.start + r.length)
+
+abbrev pub rows_of : {A : Type 0} → List A → List Head → List (List A)
+rows_of block heads = map (row_of block) heads
+
+-- each row lies in the part in use, and no two share a place
+pub record IsLaid {A : Type 0} (block : List A) (heads : List Head) (used : ℕ) : Type 0 where
+  pub used_fits : used ≤ length block
+  pub small : used < 2 ^ 63
+  pub filled : (i : ℕ) → i < length heads
+      → (get_or heads i no_head).length ≤ (get_or heads i no_head).room
+  pub inside : (i : ℕ) → i < length heads
+      → end_of (get_or heads i no_head) ≤ used
+  pub apart : (i j : ℕ) → i < length heads → j < length heads → i ≢ j
+      → (end_of (get_or heads i no_head) ≤ (get_or heads j no_head).start)
+      ⊎ (end_of (get_or heads j no_head) ≤ (get_or heads i no_head).start)
