@@ -47,6 +47,24 @@ pub(crate) struct Search {
 }
 
 impl Search {
+    /// Gives back the memory of its tables. It is not used after that.
+    pub(crate) fn clear(&mut self) {
+        let alloc = self.store.allocator();
+        if let Ok(engine) = Engine::new(alloc, 0) {
+            self.engine = engine;
+        }
+        if let Ok(policy) = Policy::new(alloc, 0) {
+            self.policy = policy;
+        }
+        if let Ok(analyzer) = Analyzer::new(alloc, 0) {
+            self.analyzer = analyzer;
+        }
+        self.store = Store::new(alloc);
+        self.names = Vec::new(alloc);
+        self.units = Vec::new(alloc);
+        self.stamps = Vec::new(alloc);
+    }
+
     /// Makes true what is left, and answers a clause that is false, or none: then no clause is
     /// false or unit.
     ///

@@ -38,7 +38,7 @@ pub struct Solver<S: Sink> {
     sink: S,
     // Whether the empty clause was added. It stays so.
     refuted: bool,
-    // Whether memory was refused. It stays so.
+    // Whether memory was refused, or the search was given back. It stays so.
     failed: bool,
 }
 
@@ -146,6 +146,15 @@ impl<S: Sink> Solver<S> {
         ensures { result ≡ self.sink }
     {
         self.sink
+    }
+
+    /// Gives back the memory of the search, for whoever needs only the lines and the clauses from
+    /// now on: as after a failure no clause can be given, and nothing is solved.
+    pub fn retire(&mut self)
+        ensures { self.new ≡ record self.old { failed = true } }
+    {
+        self.failed = true;
+        self.search.clear();
     }
 
     /// Gives one more clause, under a name that none has.

@@ -1,9 +1,9 @@
 -- Rows that are cleaned, and the clauses that are then found in them.
 use Rattle.std.proofs.Common.{◌≡◌, ℕ, zero, suc, ◌<◌, Bool, true, false, List, [], ◌∷◌, length}
-use Rattle.std.proofs.Common.{filter, inl, inr, sym, ◌∙◌, ap, subst, arith, get_or}
+use Rattle.std.proofs.Common.{filter, inl, inr, ◌⊎◌, sym, ◌∙◌, ap, subst, arith, get_or}
 use Rattle.std.specs.Prelude.{Contains, if◌then◌else◌}
 use Rattle.std.proofs.lemmas.Bool.{cases_eq}
-use Rattle.std.proofs.lemmas.List.{get_or-set_same, get_or-set_other}
+use Rattle.std.proofs.lemmas.List.{get_or-set_same, get_or-set_other, length-set}
 use Rattle.std.proofs.lemmas.List.Elements.{All-contains, All-filter, All-contains_itself}
 use Rattle.std.proofs.lemmas.List.Elements.{Contains-get_or, filter_passes}
 use Rattle.cnf.specs.Literal.{Literal, index_of}
@@ -74,6 +74,18 @@ rows_cleaned rows slots i lt a = record {
       (cleaned-from rows slots i (index_of l) r lt stands);
   before = λ j r h. a.before j r (cleaned-from rows slots i j r lt h);
 }
+
+-- rows of which one may have been cleaned
+pub rows_spaced : (old new : List (List ℕ)) (slots : Slots) (i : ℕ) → i < length old
+    → (new ≡ old) ⊎ (new ≡ with_row old i (filter (has_clause slots) (row_at old i)))
+    → (AreRows old slots → AreRows new slots) × (length new ≡ length old)
+rows_spaced old new slots i lt h = elim h [
+  | inl same ↦ (λ a. subst (λ rs. AreRows rs slots) (sym same) a, ap length same)
+  | inr cleaned ↦ (
+      λ a. subst (λ rs. AreRows rs slots) (sym cleaned) (rows_cleaned old slots i lt a),
+      ap length cleaned ∙ length-set old i _,
+    )
+]
 
 -- the live clauses in a literal's row are those with it
 pub those_with : (rows : List (List ℕ)) (slots : Slots) (l : Literal) (references : List ℕ)

@@ -63,7 +63,10 @@ impl Simplifier {
         make_rooms(&mut occurrences, store, &schedule)?;
         for place in 0..store.places() {
             match store.live_at(place) {
-                Some(reference) => occurrences.add(store.lits(reference), reference)?,
+                Some(reference) => {
+                    let lits = store.lits(reference);
+                    occurrences.add(lits, reference)?;
+                }
                 None => {}
             }
         }
@@ -252,8 +255,9 @@ fn make_space(
     ensures places { length rows.new ≡ length rows.old }
 {
     for lit in lits {
-        if lit.index() < rows.count() {
-            rows.make_space(lit.index(), store, fill)?;
+        let row = lit.index();
+        if row < rows.count() {
+            rows.make_space(row, store, fill)?;
         }
     }
     Ok(())

@@ -174,7 +174,8 @@ fn gather(
     let row = lit.index();
     simplifier.occurrences.clean(row, store);
     references.clear();
-    simplifier.occurrences.collect(row, references)
+    simplifier.occurrences.collect(row, references)?;
+    Ok(())
 }
 
 /// Adds the resolvents of all pairs that have no opposite pair. It stops at the empty clause.

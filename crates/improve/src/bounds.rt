@@ -147,14 +147,16 @@ impl Bounds {
     }
 
     /// The log as one over the formula for the last bound: a line for each clause of the bounds
-    /// before, and then the lines of the solver's log.
-    pub fn rebase_log(&self, instance: &Instance) -> Result<Log, AllocError>
-        requires over { IsOver instance.now self.now }
-        requires bounded { (c : ℕ) × EndsWith self.now.costs.items c }
-        requires falling { AreFalling self.now.costs.items }
-        ensures { IfOk result (λ log. BoundLog instance.now self.now log) }
+    /// before, and then the lines of the solver's log. It is the last that is asked of the bounds:
+    /// the memory of the search goes to the copy of the log.
+    pub fn rebase_log(&mut self, instance: &Instance) -> Result<Log, AllocError>
+        requires over { IsOver instance.now self.old }
+        requires bounded { (c : ℕ) × EndsWith self.old.costs.items c }
+        requires falling { AreFalling self.old.costs.items }
+        ensures { IfOk result (λ log. BoundLog instance.now self.old log) }
     {
         instance.limits();
+        self.solver.retire();
         let sink = self.solver.sink();
         sink.is_short();
         let given = self.solver.given();

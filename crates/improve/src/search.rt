@@ -249,25 +249,26 @@ fn conclude_zero(
 /// The end where no solution is cheaper.
 fn conclude_optimum(
     instance: &Instance,
-    bounds: &Bounds,
+    bounds: &mut Bounds,
     best: Solution,
 ) -> Result<Found, ImproveFault>
-    requires over { IsOver instance.now bounds.now }
-    requires refuted { IsAcceptedLog (given_to bounds.now.solver) bounds.now.solver.sink }
+    requires over { IsOver instance.now bounds.old }
+    requires refuted { IsAcceptedLog (given_to bounds.old.solver) bounds.old.solver.sink }
     requires solution { IsSolution instance.now best.bits.items best.cost }
-    requires last { EndsWith bounds.now.costs.items best.cost }
-    requires falling { AreFalling bounds.now.costs.items }
+    requires last { EndsWith bounds.old.costs.items best.cost }
+    requires falling { AreFalling bounds.old.costs.items }
     ensures found { IfOk result
-        (IsRightFound bounds.now.profile instance.now bounds.now.costs.items) }
+        (IsRightFound bounds.old.profile instance.now bounds.old.costs.items) }
     ensures work { OnWork result (λ _. ⊥) }
     ensures fault { IfErr result (λ e. e ≡ ImproveFault.Memory) }
 {
+    let clauses = bounds.count_clauses(instance);
     match bounds.rebase_log(instance) {
         Ok(log) => Ok(Found::Optimum {
             cost: best.cost,
             bits: best.bits,
             log,
-            clauses: bounds.count_clauses(instance),
+            clauses,
         }),
         Err(AllocError) => Err(ImproveFault::Memory),
     }
@@ -276,21 +277,21 @@ fn conclude_optimum(
 /// The end where the budget is spent.
 fn conclude_spent(
     instance: &Instance,
-    bounds: &Bounds,
+    bounds: &mut Bounds,
     best: Solution,
     hard: Log,
 ) -> Result<Found, ImproveFault>
-    requires over { IsOver instance.now bounds.now }
-    requires open { AddsNoEmptyClause bounds.now.solver.sink }
+    requires over { IsOver instance.now bounds.old }
+    requires open { AddsNoEmptyClause bounds.old.solver.sink }
     requires solution { IsSolution instance.now best.bits.items best.cost }
     requires above { 0 < best.cost }
-    requires last { EndsWith bounds.now.costs.items best.cost }
-    requires falling { AreFalling bounds.now.costs.items }
+    requires last { EndsWith bounds.old.costs.items best.cost }
+    requires falling { AreFalling bounds.old.costs.items }
     requires hard { IsHardLog instance.now hard }
     ensures found { IfOk result
-        (IsRightFound bounds.now.profile instance.now bounds.now.costs.items) }
+        (IsRightFound bounds.old.profile instance.now bounds.old.costs.items) }
     ensures work { OnWork result (λ work. (work.hard ≡ hard)
-        × (learned_count work.bound ≡ learned_count bounds.now.solver.sink)) }
+        × (learned_count work.bound ≡ learned_count bounds.old.solver.sink)) }
     ensures fault { IfErr result (λ e. e ≡ ImproveFault.Memory) }
 {
     match bounds.rebase_log(instance) {

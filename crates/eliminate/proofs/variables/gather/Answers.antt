@@ -51,13 +51,21 @@ keeps c =
       refuted = refl;
     }
 
+pub returns-in_err-collect-clause-rows : goal.returns-in_err-collect-clause-rows
+returns-in_err-collect-clause-rows c =
+    (right (goal.at.returns-in_err-collect-clause-rows c).After-clean).0
+
+pub returns-in_err-collect-clause-form : goal.returns-in_err-collect-clause-form
+returns-in_err-collect-clause-form c =
+    keeps (goal.at.returns-in_err-collect-clause-form c).After-clean
+
 pub returns-clause-gathered : goal.returns-clause-gathered
 returns-clause-gathered c =
     let rows = c.args.simplifier.now.occurrences in
     let slots : Slots = c.args.store.now.slots in
     those_with rows slots c.args.lit c.collect.new.references.items c.requires.place
     c.requires.rows
-    (c.collect.ensures
+    (c.in_ok-collect.ensures
     ∙ ap (λ xs. xs ++ row_at c.clean.new.self c.index-row.result) c.clear.ensures.items
     ∙ ap (λ rs. row_at rs c.index-row.result) c.clean.ensures
     ∙ ap (λ i. row_at (cleaned rows slots i) i) c.index-row.ensures.index)

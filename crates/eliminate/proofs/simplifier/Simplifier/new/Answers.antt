@@ -27,8 +27,8 @@ add-requires c =
 
 pub loop-place-init : goal.loop-place-init
 loop-place-init c =
-    let rows : c.in_ok-occurrences.occurrences ≡ replicate (2 * c.args.vars) [] =
-    c.in_ok-occurrences.ensures in
+    let rows : c.make_rooms.new.rows ≡ replicate (2 * c.args.vars) [] =
+    c.make_rooms.ensures ∙ c.in_ok-occurrences.ensures in
     record {
       rows = subst (λ (x : List (List ℕ)). AreRows x []) (sym rows) (rows_start (2 * c.args.vars));
       places = ap length rows ∙ length-replicate (2 * c.args.vars) [];
@@ -93,7 +93,7 @@ returns-clause-simplified c frozen long =
       rows = subst (λ (x : List (List ℕ)). AreRows x slots) (sym c.occurrences-2.view_is)
           (subst (AreRows old) end c.loop-place.invariant.rows);
       places = ap length c.occurrences-2.view_is ∙ c.loop-place.invariant.places;
-      removals = c.new-3.ensures;
+      removals = c.new-2.ensures;
       marks = c.in_ok-new.ensures.none;
       works = refl;
     })
