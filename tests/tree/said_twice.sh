@@ -6,7 +6,7 @@ source "$(dirname "$0")/../lib"
 # What may stand: a row of the list without its places, and why.
 allowed() {
     cat << 'ROWS'
-row_at row_at: rows of other tables, by the place of a clause and by a literal; the crates share none that has rows
+row_at row_at: rows of numbers in a tree, and of values in one block; no crate below both has rows
 ROWS
 }
 

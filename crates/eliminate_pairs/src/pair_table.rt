@@ -15,6 +15,7 @@ ghost use Rattle.clauses.specs.Slots.{IsLive};
 use clauses::store::{CRef, Store};
 use cnf::types::Lit;
 use std::alloc::{AllocError, Global};
+use std::cmp::Ordering;
 
 /// A pair is worth a variable where it stands in so many clauses.
 pub(crate) const FEWEST: usize = 4;
@@ -257,6 +258,8 @@ struct Sketch {
     counters: Vec<u8>,
     // A hash of 64 bits less so many is the place of a counter.
     shift: u32,
+    // How many of the pairs that were counted have a counter of at least `FEWEST`.
+    many: usize,
 }
 
 impl Sketch {
@@ -265,6 +268,7 @@ impl Sketch {
         Ok(Sketch {
             counters: Vec::from_elem(alloc, 0u8, 1 << bits)?,
             shift: 64 - bits,
+            many: 0,
         })
     }
 
@@ -279,6 +283,12 @@ impl Sketch {
         let place = self.slot(left, right);
         if let Some(counter) = self.counters.get_mut(place) {
             *counter = counter.saturating_add(1);
+            let more = match (*counter as usize).cmp(&FEWEST) {
+                Ordering::Less => 0,
+                Ordering::Equal => FEWEST,
+                Ordering::Greater => 1,
+            };
+            self.many = self.many.saturating_add(more);
         }
     }
 
@@ -306,7 +316,8 @@ fn bits_for(pairs: usize) -> u32
 fn meetings_of(alloc: Global, store: &Store, counts: &[u32]) -> Result<Vec<Meeting>, AllocError> {
     let mut lits = Vec::new(alloc);
     let (sketch, end) = sketch_of(alloc, store, counts, &mut lits)?;
-    let mut meetings = Vec::new(alloc);
+    // Room for all at once: a list that doubles leaves its old places between what comes later.
+    let mut meetings = Vec::with_capacity(alloc, sketch.many)?;
     for place in 0..end {
         frequent(store, place, counts, &mut lits)?;
         write_down(&mut meetings, &sketch, &lits, place)?;
