@@ -82,9 +82,9 @@ pub rows_spaced : (old new : List (List ℕ)) (slots : Slots) (i : ℕ) → i < 
 rows_spaced old new slots i lt h = elim h [
   | inl same ↦ (λ a. subst (λ rs. AreRows rs slots) (sym same) a, ap length same)
   | inr cleaned ↦ (
-      λ a. subst (λ rs. AreRows rs slots) (sym cleaned) (rows_cleaned old slots i lt a),
-      ap length cleaned ∙ length-set old i _,
-    )
+    λ a. subst (λ rs. AreRows rs slots) (sym cleaned) (rows_cleaned old slots i lt a),
+    ap length cleaned ∙ length-set old i _,
+  )
 ]
 
 -- the live clauses in a literal's row are those with it

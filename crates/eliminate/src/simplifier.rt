@@ -245,12 +245,7 @@ fn first_live(store: &Store) -> Option<CRef> {
 }
 
 /// Makes space in the rows of these literals that are full.
-fn make_space(
-    rows: &mut Rows,
-    store: &Store,
-    lits: &[Lit],
-    fill: CRef,
-) -> Result<(), AllocError>
+fn make_space(rows: &mut Rows, store: &Store, lits: &[Lit], fill: CRef) -> Result<(), AllocError>
     ensures rows { AreRows rows.old store.now.slots → AreRows rows.new store.now.slots }
     ensures places { length rows.new ≡ length rows.old }
 {

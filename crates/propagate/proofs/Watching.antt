@@ -179,8 +179,11 @@ fits_watch_new e slots r c one other rest inv fits out live within apart a b d =
     let listed : (q : ℕ) → attachment_in (set t r p) q ≡ Waiting → Contains w q =
     λ q h. elim (cases_eq q r) [
       | inl same ↦ absurd (let h' = sym (ap (attachment_in (set t r p)) same
-          ∙ attachment_set_same t r p (omega (arith, length-set g r Waiting,
-          length-grown e.watches.table r))) ∙ h in cc)
+          ∙ attachment_set_same t r p (omega (
+            arith,
+            length-set g r Waiting,
+            length-grown e.watches.table r,
+          ))) ∙ h in cc)
       | inr ne ↦ fits.waiting q (sym (attachment_set_other t r q p ne
           ∙ attachment_set_other g r q Waiting ne ∙ attachment_grown e.watches.table r q) ∙ h)
     ] in

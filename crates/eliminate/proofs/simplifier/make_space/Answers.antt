@@ -24,8 +24,8 @@ loop-lit-preserved c = elim c.if-row-count.branch [
         places = ap length w.rows-is ∙ spaced.1 ∙ c.loop-lit.invariant.places;
       }
   | else-row-count w ↦ record {
-      rows = λ a. subst (λ (rs : List (List ℕ)). AreRows rs c.args.store.now.slots)
-          (sym w.rows-is) (c.loop-lit.invariant.rows a);
-      places = ap length w.rows-is ∙ c.loop-lit.invariant.places;
-    }
+    rows = λ a. subst (λ (rs : List (List ℕ)). AreRows rs c.args.store.now.slots)
+        (sym w.rows-is) (c.loop-lit.invariant.rows a);
+    places = ap length w.rows-is ∙ c.loop-lit.invariant.places;
+  }
 ]
