@@ -18,7 +18,8 @@ use Rattle.analyze.specs.Met.{nowhere, variable_at}
 use Rattle.analyze.proofs.Listing.{found}
 use Rattle.analyze.proofs.Reasoning.{reason_at, unit_of}
 use Rattle.analyze.proofs.Resolving.{marked_resolve, kept_is_not_clear}
-use Rattle.analyze.proofs.Walking.{before_from, depth_more, level_here, resolved_kept}
+use Rattle.analyze.proofs.Reducing.{resolved_kept}
+use Rattle.analyze.proofs.Walking.{before_from, depth_more, level_here}
 
 -- the other literals of a reason are of no greater level
 reason_low : (slots : Slots) (T : List Assigned) (v r w : ℕ) (c : List Literal)

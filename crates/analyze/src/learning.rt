@@ -9,9 +9,9 @@ ghost use Rattle.propagate.specs.Fits.{Fits};
 ghost use Rattle.analyze.specs.Learning.{IsAsserting, IsConflict, IsInTrailOrder, IsRefutedBy};
 ghost use Rattle.analyze.specs.Learning.{CanLearn, Learns};
 
-use crate::collect::{collect_hints, collect_literals, greatest};
+use crate::collect::{collect, greatest};
 use crate::marks::{Mark, clear, mark_clause, resolve};
-use crate::minimise::{Idea, NOWHERE, meet_reasons, minimise};
+use crate::minimise::{Idea, NOWHERE, Step, meet_reasons, minimise};
 use crate::ordering::put_in_order;
 use crate::places::Places;
 use clauses::store::{CRef, Store};
@@ -49,15 +49,19 @@ pub struct Analyzer {
     // The variables that are marked, by their positions on the trail; between calls, those that the
     // last analysis met. It has room for all variables.
     met: Vec<u32>,
+    // These positions once more; nothing is taken in between calls.
+    marked: Places,
     // By variable: what the minimisation at work knows of it, and all unknown between calls.
     ideas: Vec<Idea>,
-    // The variables that a minimisation meets, by their positions on the trail; between calls,
-    // those beside what was learned. It has room for all variables.
+    // The variables that a minimisation begins with; between calls, those beside what was learned.
+    // It has room for all variables.
     queue: Vec<u32>,
     // By level: the first position of a literal of it in the clause, and nowhere between calls.
     firsts: Vec<u32>,
-    // Puts positions of the trail in order; nothing is taken in between calls.
-    places: Places,
+    // The way of a minimisation back over the reasons. It has room for all variables.
+    path: Vec<Step>,
+    // The variables of which a minimisation knows whether they are redundant. It has room for all.
+    settled: Vec<u32>,
 }
 
 impl Model for Analyzer {
@@ -83,17 +87,21 @@ impl Analyzer {
         let count = variables as usize + 1;
         let marks = Vec::from_elem(alloc, Mark::Clear, count)?;
         let met = Vec::with_capacity(alloc, count)?;
+        let marked = Places::new(alloc, variables)?;
         let ideas = Vec::from_elem(alloc, Idea::Unknown, count)?;
         let queue = Vec::with_capacity(alloc, count)?;
         let firsts = Vec::from_elem(alloc, NOWHERE, count)?;
-        let places = Places::new(alloc, variables)?;
+        let path = Vec::with_capacity(alloc, count)?;
+        let settled = Vec::with_capacity(alloc, count)?;
         Ok(Analyzer {
             marks,
             met,
+            marked,
             ideas,
             queue,
             firsts,
-            places,
+            path,
+            settled,
         })
     }
 
@@ -133,10 +141,12 @@ impl Analyzer {
             conflict,
             &mut self.marks,
             &mut self.met,
+            &mut self.marked,
             &mut self.ideas,
             &mut self.queue,
             &mut self.firsts,
-            &mut self.places,
+            &mut self.path,
+            &mut self.settled,
         );
         clear(engine, &mut self.marks, &mut self.met);
         learned
@@ -177,10 +187,12 @@ fn learn(
     conflict: CRef,
     marks: &mut [Mark],
     met: &mut Vec<u32>,
+    marked: &mut Places,
     ideas: &mut [Idea],
     queue: &mut Vec<u32>,
     firsts: &mut [u32],
-    places: &mut Places,
+    path: &mut Vec<Step>,
+    settled: &mut Vec<u32>,
 ) -> Result<Learned, AllocError>
     requires can { CanLearn engine.now store.now.slots conflict }
     requires room { engine.now.variables < length marks.old }
@@ -192,14 +204,16 @@ fn learn(
     ensures long { length marks.new ≡ length marks.old }
     ensures spare { length marks.old ≤ vec_capacity met.new }
 {
-    let count = mark_clause(engine, store.lits(conflict), marks, met);
-    let asserting = resolve(engine, store, count, marks, met);
+    let count = mark_clause(engine, store.lits(conflict), marks, met, marked);
+    let asserting = resolve(engine, store, count, marks, met, marked);
     minimise(
-        engine, store, asserting, marks, met, ideas, queue, firsts, places,
+        engine, store, asserting, marks, met, marked, ideas, queue, firsts, path, settled,
     );
-    put_in_order(engine, marks, met, places, queue);
-    let lits = collect_literals(alloc, engine, asserting, marks, met)?;
-    let hints = collect_hints(alloc, engine, conflict, marks, met)?;
+    put_in_order(engine, marks, met, marked, queue);
+    let mut lits = SmallVec::new(alloc);
+    // Room for all at once, so that they do not grow step by step.
+    let mut hints = Vec::with_capacity(alloc, met.len() + 1)?;
+    collect(engine, asserting, conflict, marks, met, &mut lits, &mut hints)?;
     let back_level = greatest(engine, &lits.as_slice()[1..]);
     meet_reasons(engine, store, lits.as_slice(), marks, ideas, queue);
     Ok(Learned {

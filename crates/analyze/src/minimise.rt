@@ -1,21 +1,20 @@
 // Recursive minimisation: a literal is redundant where its reason's literals are of level 0, stand
 // in the clause, were resolved, or are redundant in their turn.
 //
-// It has two halves. `find` only looks. A queue goes back over the reasons from the literals of the
-// clause, and takes in what may be redundant: it was implied, and a literal of its level stands in
-// the clause before it on the trail. Then one pass along the trail says of each whether it is,
-// since what a reason needs stands before. What has no reason, or one with a literal that cannot
-// be redundant, is told apart at once, so that each clause is read at most twice, with no recursion
-// and no search of the trail. Nothing rests on what it finds: `drop_redundant` resolves it by its
-// reasons, the last first, as any literal of a conflict is, so that the hints are just the reasons
-// that were used.
+// It has two halves. `search` only looks. From a literal of the clause it goes back over the reasons
+// along one path at a time. A variable that has no reason, or stands on the trail before all
+// literals of its level in the clause, is not redundant, and neither is then what led to it. What
+// the path leaves is known from then on, so that no reason is read twice, with no recursion and no
+// search of the trail. Nothing rests on what it finds: `drop_redundant` resolves it by its reasons,
+// as any literal of a conflict is, so that the hints are just the reasons that were used. It takes
+// what was found last first, since a variable is found to be redundant after those of its reason.
 ghost use Rattle.std.specs.Prelude.{◌<◌, ◌≤◌, length};
 ghost use Rattle.propagate.specs.Fits.{Fits};
 ghost use Rattle.analyze.specs.Marks.{IsReduced, Reduces, HasMarks, FitsMarks};
 ghost use Rattle.analyze.specs.Met.{IsMarking};
 
 use crate::marks::{Mark, resolve_one};
-use crate::places::Places;
+use crate::places::{Places, put};
 use clauses::store::Store;
 use cnf::types::Lit;
 use propagate::engine::Engine;
@@ -23,14 +22,32 @@ use propagate::engine::Engine;
 /// What a search for redundant literals knows of a variable.
 #[derive(Clone, Copy, Debug, PartialEq, Eq, Drop)]
 pub enum Idea {
-    /// It was not met.
+    /// Nothing yet.
     Unknown,
-    /// It was met, and may be redundant.
-    Visited,
-    /// It was met, and is not redundant.
+    /// It is not redundant.
     Needed,
     /// It is redundant.
     Redundant,
+}
+
+/// A variable on the way back over the reasons.
+#[derive(Clone, Copy, Debug, PartialEq, Eq, Drop)]
+pub struct Step {
+    // The variable.
+    variable: u32,
+    // The place in its reason of the first literal that was not looked at.
+    next: usize,
+}
+
+/// Where a way back over the reasons goes from a variable.
+#[derive(Clone, Copy, Debug, PartialEq, Eq, Drop)]
+pub enum Way {
+    /// On to this variable of its reason, which stands before this place.
+    Into(u32, usize),
+    /// Back, since the variable is redundant.
+    Redundant,
+    /// To an end, since it is not.
+    Needed,
 }
 
 /// No literal of the level stands in the clause.
@@ -49,6 +66,12 @@ fn note(ideas: &mut [Idea], variable: u32, idea: Idea) {
     if let Some(entry) = ideas.get_mut(variable as usize) {
         *entry = idea;
     }
+}
+
+/// Notes what was found of a variable, and lists it.
+fn settle(ideas: &mut [Idea], settled: &mut Vec<u32>, variable: u32, idea: Idea) {
+    note(ideas, variable, idea);
+    put(settled, variable);
 }
 
 /// The variable at a position of the trail; 0, which no literal has, past its end.
@@ -75,18 +98,16 @@ fn start(
     asserting: Lit,
     marks: &[Mark],
     met: &[u32],
-    ideas: &mut [Idea],
-    queue: &mut Vec<u32>,
+    kept: &mut Vec<u32>,
     firsts: &mut [u32],
 )
     requires { engine.now.variables < length marks.now }
 {
-    queue.clear();
+    kept.clear();
     for position in met {
         let variable = variable_of(engine, *position);
         if marks[variable as usize] == Mark::Kept && variable != asserting.variable() {
-            let _ = queue.push(*position);
-            note(ideas, variable, Idea::Visited);
+            put(kept, variable);
             if let Some(first) = firsts.get_mut(level_of(engine, variable) as usize) {
                 *first = (*first).min(*position);
             }
@@ -94,85 +115,161 @@ fn start(
     }
 }
 
-/// Takes away what was noted of the levels of the variables at these positions.
-fn forget_firsts(engine: &Engine, positions: &[u32], firsts: &mut [u32]) {
-    for position in positions {
-        let level = level_of(engine, variable_of(engine, *position));
+/// Takes away what was noted of the levels of these variables.
+fn forget_firsts(engine: &Engine, variables: &[u32], firsts: &mut [u32]) {
+    for variable in variables {
+        let level = level_of(engine, (*variable).min(engine.variables()));
         if let Some(first) = firsts.get_mut(level as usize) {
             *first = NOWHERE;
         }
     }
 }
 
-/// Whether a variable of this level above 0, and at this position, may be redundant.
-fn may_follow(engine: &Engine, variable: u32, level: u32, position: u32, firsts: &[u32]) -> bool
+/// Whether a variable of this level above 0 may be redundant.
+fn may_follow(engine: &Engine, variable: u32, level: u32, firsts: &[u32]) -> bool
     requires { variable ≤ engine.now.variables }
 {
-    match firsts.get(level as usize) {
-        Some(first) => *first < position && engine.reason(variable).is_some(),
-        None => false,
+    match (firsts.get(level as usize), engine.position(variable)) {
+        (Some(first), Some(position)) => *first < position && engine.reason(variable).is_some(),
+        _ => false,
     }
 }
 
-/// Whether a literal that is neither marked nor of level 0 is in the queue or comes into it.
-fn joins(
-    engine: &Engine,
-    variable: u32,
-    ideas: &mut [Idea],
-    queue: &mut Vec<u32>,
-    firsts: &[u32],
-) -> bool
+/// What is known of a variable that is not marked, or can be told at once.
+fn idea_now(engine: &Engine, variable: u32, ideas: &[Idea], firsts: &[u32]) -> Idea
     requires { variable ≤ engine.now.variables }
 {
-    match idea_of(ideas, variable) {
-        Idea::Unknown => {}
-        Idea::Needed => return false,
-        Idea::Visited | Idea::Redundant => return true,
+    let known = idea_of(ideas, variable);
+    if known != Idea::Unknown {
+        return known;
     }
     let level = level_of(engine, variable);
     if level == 0 {
-        return true;
+        return Idea::Redundant;
     }
-    let position = engine.position(variable).unwrap_or(0);
-    if !may_follow(engine, variable, level, position, firsts) {
-        return false;
+    if may_follow(engine, variable, level, firsts) {
+        Idea::Unknown
+    } else {
+        Idea::Needed
     }
-    let _ = queue.push(position);
-    note(ideas, variable, Idea::Visited);
-    true
 }
 
-/// Takes a clause's literals into the queue, where each that is neither marked nor of level 0 may
-/// be redundant; else none of them. It answers whether it did.
-fn take_all(
+/// Looks at the literals of a variable's reason, from the next one on.
+fn look(
     engine: &Engine,
     lits: &[Lit],
+    step: Step,
     marks: &[Mark],
-    ideas: &mut [Idea],
-    queue: &mut Vec<u32>,
+    ideas: &[Idea],
     firsts: &[u32],
-) -> bool
+) -> Way
     requires { HasMarks engine.now marks.now lits.now }
 {
-    let len = queue.len();
-    for lit in lits {
-        let variable = lit.variable();
-        if marks[variable as usize] == Mark::Clear
-            && !joins(engine, variable, ideas, queue, firsts)
-        {
-            leave(engine, len, ideas, queue);
-            return false;
+    for at in step.next..lits.len() {
+        let other = lits[at].variable();
+        if marks[other as usize] == Mark::Clear && other != step.variable {
+            match idea_now(engine, other, ideas, firsts) {
+                Idea::Unknown => return Way::Into(other, at + 1),
+                Idea::Needed => return Way::Needed,
+                Idea::Redundant => {}
+            }
         }
     }
-    true
+    Way::Redundant
 }
 
-/// Takes what came last out of the queue, down to this length.
-fn leave(engine: &Engine, len: usize, ideas: &mut [Idea], queue: &mut Vec<u32>) {
-    for position in queue.iter().skip(len) {
-        note(ideas, variable_of(engine, *position), Idea::Unknown);
+/// Where the way goes on from a variable.
+fn go_on(
+    engine: &Engine,
+    store: &Store,
+    step: Step,
+    marks: &[Mark],
+    ideas: &[Idea],
+    firsts: &[u32],
+) -> Way
+    requires { FitsMarks engine.now store.now.slots marks.now }
+{
+    let variable = step.variable.min(engine.variables());
+    match engine.reason(variable) {
+        Some(reason) => look(engine, store.lits(reason), step, marks, ideas, firsts),
+        None => Way::Needed,
     }
-    queue.truncate(len);
+}
+
+/// Finds out whether a variable is redundant, and what it takes to know it.
+fn search(
+    engine: &Engine,
+    store: &Store,
+    variable: u32,
+    marks: &[Mark],
+    ideas: &mut [Idea],
+    firsts: &[u32],
+    path: &mut Vec<Step>,
+    settled: &mut Vec<u32>,
+)
+    requires { FitsMarks engine.now store.now.slots marks.now }
+{
+    path.clear();
+    let mut step = Step { variable, next: 0 };
+    // Each variable comes to the path once, and leaves it once.
+    for _ in 0..engine.assigned().saturating_mul(2) {
+        match go_on(engine, store, step, marks, ideas, firsts) {
+            Way::Into(other, next) => {
+                if path.len() < path.capacity() {
+                    path.push_reserved(Step { variable: step.variable, next });
+                }
+                step = Step { variable: other, next: 0 };
+            }
+            Way::Redundant => {
+                settle(ideas, settled, step.variable, Idea::Redundant);
+                match path.pop() {
+                    Some(last) => step = last,
+                    None => return,
+                }
+            }
+            Way::Needed => {
+                settle(ideas, settled, step.variable, Idea::Needed);
+                for before in path.iter() {
+                    settle(ideas, settled, before.variable, Idea::Needed);
+                }
+                return;
+            }
+        }
+    }
+}
+
+/// Resolves what is kept of the redundant variables, the last first, and forgets what was known of
+/// all.
+fn drop_redundant(
+    engine: &Engine,
+    store: &Store,
+    asserting: Lit,
+    ideas: &mut [Idea],
+    settled: &[u32],
+    marks: &mut [Mark],
+    met: &mut Vec<u32>,
+    marked: &mut Places,
+)
+    requires fits { Fits engine.now store.now.slots }
+    requires reduced { IsReduced engine.now.trail marks.old asserting }
+    requires marking { IsMarking engine.now marks.old met.old }
+    ensures reduces { Reduces store.now.slots engine.now.trail marks.old marks.new asserting }
+    ensures marking { IsMarking engine.now marks.new met.new }
+{
+    let mut place = settled.len();
+    while place > 0 {
+        place -= 1;
+        let variable = settled[place].min(engine.variables());
+        let idea = idea_of(ideas, variable);
+        note(ideas, variable, Idea::Unknown);
+        if idea == Idea::Redundant
+            && marks[variable as usize] == Mark::Kept
+            && variable != asserting.variable()
+            && let Some(reason) = engine.reason(variable)
+        {
+            let _ = resolve_one(engine, store, variable, reason, marks, met, marked);
+        }
+    }
 }
 
 /// Takes in what was not met of a clause and stands above level 0.
@@ -183,131 +280,11 @@ fn take_in(engine: &Engine, lits: &[Lit], marks: &[Mark], ideas: &mut [Idea], qu
         let variable = lit.variable();
         if marks[variable as usize] == Mark::Clear
             && idea_of(ideas, variable) == Idea::Unknown
-            && engine.level(variable).unwrap_or(0) > 0
+            && level_of(engine, variable) > 0
         {
-            let position = engine.position(variable).unwrap_or(0);
-            let _ = queue.push(position);
-            note(ideas, variable, Idea::Visited);
+            settle(ideas, queue, variable, Idea::Needed);
         }
     }
-}
-
-/// Goes back over the reasons of what may be redundant.
-fn visit(
-    engine: &Engine,
-    store: &Store,
-    marks: &[Mark],
-    ideas: &mut [Idea],
-    queue: &mut Vec<u32>,
-    firsts: &[u32],
-)
-    requires { FitsMarks engine.now store.now.slots marks.now }
-{
-    let most = engine.assigned();
-    for next in 0..most {
-        if next >= queue.len() {
-            break;
-        }
-        let variable = variable_of(engine, queue[next]);
-        let follows = match engine.reason(variable) {
-            Some(reason) => take_all(engine, store.lits(reason), marks, ideas, queue, firsts),
-            None => false,
-        };
-        if !follows {
-            note(ideas, variable, Idea::Needed);
-        }
-    }
-}
-
-/// Whether each literal but one of this variable is of level 0, met or redundant.
-fn all_follow(engine: &Engine, lits: &[Lit], variable: u32, marks: &[Mark], ideas: &[Idea]) -> bool
-    requires { HasMarks engine.now marks.now lits.now }
-{
-    for lit in lits {
-        let other = lit.variable();
-        if marks[other as usize] == Mark::Clear
-            && idea_of(ideas, other) != Idea::Redundant
-            && other != variable
-            && engine.level(other).unwrap_or(0) > 0
-        {
-            return false;
-        }
-    }
-    true
-}
-
-/// Says of each variable of the queue, which is in the order of the trail, whether it is redundant.
-fn settle(engine: &Engine, store: &Store, marks: &[Mark], ideas: &mut [Idea], queue: &[u32])
-    requires { FitsMarks engine.now store.now.slots marks.now }
-{
-    for position in queue {
-        let variable = variable_of(engine, *position);
-        if idea_of(ideas, variable) == Idea::Visited
-            && let Some(reason) = engine.reason(variable)
-            && all_follow(engine, store.lits(reason), variable, marks, ideas)
-        {
-            note(ideas, variable, Idea::Redundant);
-        }
-    }
-}
-
-/// Resolves what is kept of the redundant variables, the last first, since a reason's literals
-/// stand before, and forgets what was known of the queue.
-fn drop_redundant(
-    engine: &Engine,
-    store: &Store,
-    asserting: Lit,
-    ideas: &mut [Idea],
-    queue: &[u32],
-    marks: &mut [Mark],
-    met: &mut Vec<u32>,
-)
-    requires fits { Fits engine.now store.now.slots }
-    requires reduced { IsReduced engine.now.trail marks.old asserting }
-    requires marking { IsMarking engine.now marks.old met.old }
-    ensures reduces { Reduces store.now.slots engine.now.trail marks.old marks.new asserting }
-    ensures marking { IsMarking engine.now marks.new met.new }
-{
-    let mut place = queue.len();
-    while place > 0 {
-        place -= 1;
-        let variable = variable_of(engine, queue[place]);
-        let idea = idea_of(ideas, variable);
-        note(ideas, variable, Idea::Unknown);
-        if idea == Idea::Redundant
-            && marks[variable as usize] == Mark::Kept
-            && variable != asserting.variable()
-            && let Some(reason) = engine.reason(variable)
-        {
-            let _ = resolve_one(engine, store, variable, reason, marks, met);
-        }
-    }
-}
-
-/// Finds the redundant literals, and lists what was met by their positions, in the order of the
-/// trail.
-fn find(
-    engine: &Engine,
-    store: &Store,
-    asserting: Lit,
-    marks: &[Mark],
-    met: &[u32],
-    ideas: &mut [Idea],
-    queue: &mut Vec<u32>,
-    firsts: &mut [u32],
-    places: &mut Places,
-)
-    requires { FitsMarks engine.now store.now.slots marks.now }
-{
-    start(engine, asserting, marks, met, ideas, queue, firsts);
-    let kept = queue.len();
-    visit(engine, store, marks, ideas, queue, firsts);
-    if kept <= queue.len() {
-        forget_firsts(engine, &queue[..kept], firsts);
-    }
-    places.gather(queue);
-    places.list_into(queue);
-    settle(engine, store, marks, ideas, queue);
 }
 
 /// Lists the variables of the reasons of these literals, each once, but for such as were met and
@@ -330,10 +307,8 @@ pub(crate) fn meet_reasons(
             take_in(engine, lits, marks, ideas, queue);
         }
     }
-    for entry in queue.iter_mut() {
-        let variable = variable_of(engine, *entry);
-        note(ideas, variable, Idea::Unknown);
-        *entry = variable;
+    for variable in queue.iter() {
+        note(ideas, *variable, Idea::Unknown);
     }
 }
 
@@ -344,10 +319,12 @@ pub(crate) fn minimise(
     asserting: Lit,
     marks: &mut [Mark],
     met: &mut Vec<u32>,
+    marked: &mut Places,
     ideas: &mut [Idea],
     queue: &mut Vec<u32>,
     firsts: &mut [u32],
-    places: &mut Places,
+    path: &mut Vec<Step>,
+    settled: &mut Vec<u32>,
 )
     requires fits { Fits engine.now store.now.slots }
     requires reduced { IsReduced engine.now.trail marks.old asserting }
@@ -355,8 +332,15 @@ pub(crate) fn minimise(
     ensures reduces { Reduces store.now.slots engine.now.trail marks.old marks.new asserting }
     ensures marking { IsMarking engine.now marks.new met.new }
 {
-    find(
-        engine, store, asserting, marks, met, ideas, queue, firsts, places,
+    start(engine, asserting, marks, met, queue, firsts);
+    settled.clear();
+    for variable in queue.iter() {
+        search(
+            engine, store, *variable, marks, ideas, firsts, path, settled,
+        );
+    }
+    forget_firsts(engine, queue, firsts);
+    drop_redundant(
+        engine, store, asserting, ideas, settled, marks, met, marked,
     );
-    drop_redundant(engine, store, asserting, ideas, queue, marks, met);
 }

@@ -52,7 +52,7 @@ greatest-back_level-requires c =
     let M = c.minimise.new.marks in
     let u = c.resolve-asserting.result in
     let tail = tail_is (negation u) (others_in M u (literals_of e.trail)) c.as_slice.result.now
-    (c.as_slice.ensures ∙ c.in_ok-lits.ensures) in
+    (c.as_slice.ensures ∙ c.in_ok-collect.ensures.lits) in
     subst (All (λ (l : Literal). l.variable ≤ e.variables)) (sym tail)
     (learned_within e c.args.store.now.slots M u c.requires.can.fits
     c.minimise.ensures.reduces.reduced)
@@ -70,7 +70,7 @@ returns-clause-learns c =
     let reduces = c.minimise.ensures.reduces in
     let tail =
     tail_is (negation u) (others_in M u (literals_of T)) c.as_slice.result.now (c.as_slice.ensures
-    ∙ c.in_ok-lits.ensures) in
+    ∙ c.in_ok-collect.ensures.lits) in
     let greatest = c.greatest-back_level.ensures ∙ ap (greatest_level T) tail in
     let conflict = conflict_is T ls _ c.lits.ensures c.requires.can.falsified in
     let first =
@@ -82,14 +82,14 @@ returns-clause-learns c =
     marked_refutes slots T c.args.conflict ls (learned_from T M u) (kept_of M) (resolved_of M)
     reasons c.lits.ensures conflict.falsified marked collected in
     record {
-      asserting = subst (λ x. IsAsserting T x back) (sym c.in_ok-lits.ensures)
+      asserting = subst (λ x. IsAsserting T x back) (sym c.in_ok-collect.ensures.lits)
           (learned_asserting at T M u back reasons reduces.reduced greatest);
-      hints = subst (λ x. IsRefutedBy slots T x c.in_ok-hints.hints.items)
-          (sym c.in_ok-lits.ensures)
-          (subst (IsRefutedBy slots T (learned_from T M u)) (sym c.in_ok-hints.ensures) refuted);
+      hints = subst (λ x. IsRefutedBy slots T x c.collect.new.hints.items)
+          (sym c.in_ok-collect.ensures.lits)
+          (subst (IsRefutedBy slots T (learned_from T M u)) (sym c.in_ok-collect.ensures.hints) refuted);
       order = record {
         chosen = λ l. resolved_of M l.variable;
-        ordered = c.in_ok-hints.ensures;
+        ordered = c.in_ok-collect.ensures.hints;
       };
     }
 
@@ -109,18 +109,13 @@ put_in_order-requires-clause-small c = λ i d lt.
     let high = s.1 in
     (omega arith, omega arith)
 
-pub collect_literals-requires : goal.collect_literals-requires
-collect_literals-requires c =
+pub collect-requires-clause-along : goal.collect-requires-clause-along
+collect-requires-clause-along c =
     subst (GoesAlong c.args.engine.now c.minimise.new.marks) (sym c.deref.ensures.value)
     (c.put_in_order.ensures.along c.args.store.now.slots c.requires.can.fits)
 
-pub collect_hints-requires : goal.collect_hints-requires
-collect_hints-requires c =
-    subst (GoesAlong c.args.engine.now c.minimise.new.marks) (sym c.deref-2.ensures.value)
-    (c.put_in_order.ensures.along c.args.store.now.slots c.requires.can.fits)
-
-pub returns-in_err-lits-clause-listed : goal.returns-in_err-lits-clause-listed
-returns-in_err-lits-clause-listed c =
+pub returns-in_err-collect-clause-listed : goal.returns-in_err-collect-clause-listed
+returns-in_err-collect-clause-listed c =
     (c.put_in_order.ensures.along c.args.store.now.slots c.requires.can.fits).listed
 
 pub returns-in_err-hints-clause-listed : goal.returns-in_err-hints-clause-listed

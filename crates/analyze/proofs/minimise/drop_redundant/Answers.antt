@@ -10,13 +10,13 @@ loop-place-preserved-in-loop-place c =
     let slots = c.args.store.now.slots in
     let M = c.loop-place.marks in
     let N = c.resolve_one.new.marks in
-    let v = c.variable_of-variable.result in
+    let v = c.min-variable.result in
     let r = c.in-Some.reason in
     let u = c.args.asserting in
     let i = c.loop-place.invariant in
     let kept : mark_at M v ≡ Kept = search rules in
     let ne : v ≢ u.variable = search rules in
-    let small = c.variable_of-variable.ensures in
+    let small = c.min-variable.ensures in
     let room : v < length M = let wide = i.marking.room in omega arith in
     let here = sym c.reason.ensures ∙ c.in-Some.is in
     let d = c.resolve_one.ensures.resolved in

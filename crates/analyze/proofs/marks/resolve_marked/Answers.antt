@@ -1,0 +1,87 @@
+use Rattle.std.proofs.Common.{rules, arith, ◌≡◌, ◌<◌, Some, sym, ◌∙◌, ap, subst, length}
+use Rattle.std.specs.Prelude.{unwrap_or}
+use Rattle.propagate.specs.Trail.{depth_of}
+use Rattle.analyze.specs.declared.marks.Mark.TheVariants.{Kept}
+use Rattle.analyze.specs.Marks.{mark_at, level_at_variable, is_current, IsReducing}
+use Rattle.analyze.proofs.Counting.{current_le}
+use Rattle.analyze.proofs.Reducing.{level_current, reducing_resolved}
+use Rattle.analyze.proofs.Walking.{Stands, stands, stands_last}
+use Rattle.analyze.proofs.marks.resolve_marked.Goals as goal
+use Rattle.analyze.proofs.marks.resolve_marked.Goals.{After-variable-variable, Then-eq-2}
+
+-- the literal at the position
+here : (c : After-variable-variable)
+    → Stands c.args.engine.now c.args.store.now.slots c.in-Some.position
+    c.index-trail-position.result c.variable-variable.result
+here c =
+    let i = c.loop-position.invariant in
+    stands c.args.engine.now c.args.store.now.slots c.trail-trail.result.now c.in-Some.position
+    c.index-trail-position.result c.variable-variable.result c.requires.fits i.literals
+    (let low = c.in-Some.ensures in let within = i.within in omega arith)
+    c.index-trail-position.is c.variable-variable.ensures.variable
+
+-- it is of the current level
+level : (c : Then-eq-2)
+    → level_at_variable c.args.engine.now.trail c.variable-variable.result
+    ≡ depth_of c.args.engine.now.trail
+level c =
+    let is : c.level.result ≡ Some c.depth-depth.result = search rules in
+    ap (λ o. unwrap_or o 0) (sym c.level.ensures ∙ is) ∙ c.depth-depth.ensures
+
+pub bounds-marks-variable : goal.bounds-marks-variable
+bounds-marks-variable c =
+    let small = (here (goal.at.bounds-marks-variable c).After-variable-variable).small in
+    let room = c.loop-position.invariant.marking.room in
+    omega arith
+
+pub returns-then-open-eq1-clause-reduces : goal.returns-then-open-eq1-clause-reduces
+returns-then-open-eq1-clause-reduces c =
+    let kept : mark_at c.loop-position.marks c.variable-variable.result ≡ Kept = search rules in
+    let e = c.args.engine.now in
+    let slots = c.args.store.now.slots in
+    let M = c.loop-position.marks in
+    stands_last e slots c.args.marks.now M c.in-Some.position c.index-trail-position.result
+    c.variable-variable.result
+    (here (goal.at.returns-then-open-eq1-clause-reduces c).After-variable-variable) kept
+    (level (goal.at.returns-then-open-eq1-clause-reduces c).Then-eq-2)
+    (subst (IsReducing slots e.trail c.args.marks.now M) c.if-open-eq1.true
+    c.loop-position.invariant.state)
+
+pub overflow_add-open : goal.overflow_add-open
+overflow_add-open c =
+    let T = c.args.engine.now.trail in
+    let current = level_current T c.variable-variable.result
+    (level (goal.at.overflow_add-open c).Then-eq-2) in
+    let n = c.resolve_one-fresh.ensures.counted current in
+    let m = c.loop-position.invariant.state.counted in
+    let some = c.loop-position.invariant.state.some in
+    let most = current_le T c.resolve_one-fresh.new.marks in
+    let long = c.resolve_one-fresh.auto.marks in
+    let first = c.loop-position.auto.marks in
+    let fits : length c.args.marks.now < 18446744073709551616 = search rules in
+    omega arith
+
+pub loop-position-preserved-then-eq-2 : goal.loop-position-preserved-then-eq-2
+loop-position-preserved-then-eq-2 c =
+    let i = c.loop-position.invariant in
+    let T = c.args.engine.now.trail in
+    let slots = c.args.store.now.slots in
+    let M = c.loop-position.marks in
+    let v = c.variable-variable.result in
+    let at = here (goal.at.loop-position-preserved-then-eq-2 c).After-variable-variable in
+    let kept : mark_at M v ≡ Kept = search rules in
+    let current =
+    level_current T v (level (goal.at.loop-position-preserved-then-eq-2 c).Then-eq-2) in
+    let lt = at.within in
+    let small = at.small in
+    record {
+      state =
+          reducing_resolved slots T c.args.marks.now M c.resolve_one-fresh.new.marks
+          c.loop-position.open c.resolve_one-fresh.result v c.in-Some-reason.reason at.reasons kept
+          (let room = i.marking.room in omega arith)
+          (sym c.reason.ensures ∙ c.in-Some-reason.is) c.resolve_one-fresh.ensures.resolved
+          (c.resolve_one-fresh.ensures.counted current) c.if-open-eq1.false i.state;
+      within = omega arith;
+      literals = i.literals;
+      marking = c.resolve_one-fresh.ensures.marking;
+    }

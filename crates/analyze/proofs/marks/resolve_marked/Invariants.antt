@@ -1,0 +1,16 @@
+use Rattle.std.proofs.Common.{◌≡◌, ◌≤◌, length}
+use Rattle.propagate.specs.Trail.{literals_of}
+use Rattle.analyze.specs.Marks.{IsReducing}
+use Rattle.analyze.specs.Met.{IsMarking}
+use Rattle.analyze.proofs.marks.resolve_marked.Given as goal
+
+abbrev pub invariant-loop-position : goal.invariant-loop-position
+invariant-loop-position l = record {
+  state : IsReducing l.store.slots l.engine.trail l.fn.marks l.marks l.open;
+  within : l.place ≤ length l.engine.trail;
+  literals : l.trail ≡ literals_of l.engine.trail;
+  marking : IsMarking l.engine l.marks l.met;
+}
+
+abbrev pub decreases-loop-position : goal.decreases-loop-position
+decreases-loop-position l = l.place

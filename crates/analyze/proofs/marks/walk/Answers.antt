@@ -1,0 +1,99 @@
+use Rattle.std.proofs.Common.{rules, arith, ◌≡◌, ◌≢◌, ◌<◌, sym, ◌∙◌, subst, length}
+use Rattle.analyze.specs.declared.marks.Mark.TheVariants.{Kept}
+use Rattle.analyze.specs.Marks.{mark_at}
+use Rattle.analyze.proofs.Counting.{current_le}
+use Rattle.analyze.proofs.Walking.{IsWalked, Meets, meets, met_current, met_last, met_resolved}
+use Rattle.analyze.proofs.Walking.{met_decision}
+use Rattle.analyze.proofs.Walking.{met_other, walk_end}
+use Rattle.analyze.proofs.marks.walk.Goals as goal
+use Rattle.analyze.proofs.marks.walk.Goals.{After-variable-variable}
+
+-- what the walk meets
+met : (c : After-variable-variable)
+    → Meets c.args.engine.now c.args.store.now.slots c.args.marks.now c.loop-place.marks
+    c.loop-place.open c.loop-place.place c.index-trail-place.result c.variable-variable.result
+met c =
+    let i = c.loop-place.invariant in
+    meets c.args.engine.now c.args.store.now.slots c.trail-trail.result.now c.args.marks.now
+    c.loop-place.marks c.loop-place.open c.loop-place.place c.index-trail-place.result
+    c.variable-variable.result c.requires.fits i.literals c.loop-place-test.true i.within
+    c.index-trail-place.is c.variable-variable.ensures.variable i.walked
+
+pub bounds-marks-variable : goal.bounds-marks-variable
+bounds-marks-variable c =
+    let i = c.loop-place.invariant in
+    let m = met (goal.at.bounds-marks-variable c).After-variable-variable in
+    let small = m.here.small in
+    let room = i.marking.room in
+    omega arith
+
+pub reason-requires : goal.reason-requires
+reason-requires c = (met (goal.at.reason-requires c).After-variable-variable).here.small
+
+pub resolve_one-fresh-requires-clause-small : goal.resolve_one-fresh-requires-clause-small
+resolve_one-fresh-requires-clause-small c =
+    (met (goal.at.resolve_one-fresh-requires-clause-small c).After-variable-variable).here.small
+
+pub returns-then-open-eq1-clause-reduces : goal.returns-then-open-eq1-clause-reduces
+returns-then-open-eq1-clause-reduces c =
+    let m = met (goal.at.returns-then-open-eq1-clause-reduces c).After-variable-variable in
+    let kept : mark_at c.loop-place.marks c.variable-variable.result ≡ Kept = search rules in
+    met_last m kept c.if-open-eq1.true
+
+pub overflow_add-open : goal.overflow_add-open
+overflow_add-open c =
+    let at = met (goal.at.overflow_add-open c).After-variable-variable in
+    let kept : mark_at c.loop-place.marks c.variable-variable.result ≡ Kept = search rules in
+    let n = c.resolve_one-fresh.ensures.counted (met_current at kept) in
+    let m = c.loop-place.invariant.walked.state.counted in
+    let some = c.loop-place.invariant.walked.state.some in
+    let most = current_le c.args.engine.now.trail c.resolve_one-fresh.new.marks in
+    let long = c.resolve_one-fresh.auto.marks in
+    let first = c.loop-place.auto.marks in
+    let fits : length c.args.marks.now < 18446744073709551616 = search rules in
+    omega arith
+
+pub loop-place-preserved-in-Some : goal.loop-place-preserved-in-Some
+loop-place-preserved-in-Some c =
+    let i = c.loop-place.invariant in
+    let m = met (goal.at.loop-place-preserved-in-Some c).After-variable-variable in
+    let kept : mark_at c.loop-place.marks c.variable-variable.result ≡ Kept = search rules in
+    let lt = m.here.within in
+    let small = m.here.small in
+    record {
+      walked =
+          met_resolved m c.resolve_one-fresh.new.marks c.resolve_one-fresh.result
+          c.in-Some.reason kept
+          (let room = i.marking.room in omega arith) (sym c.reason.ensures ∙ c.in-Some.is)
+          c.resolve_one-fresh.ensures.resolved
+          (c.resolve_one-fresh.ensures.counted (met_current m kept)) c.if-open-eq1.false;
+      within = omega arith;
+      literals = i.literals;
+      marking = c.resolve_one-fresh.ensures.marking;
+    }
+
+pub returns-in-None-clause-reduces : goal.returns-in-None-clause-reduces
+returns-in-None-clause-reduces c =
+    let m = met (goal.at.returns-in-None-clause-reduces c).After-variable-variable in
+    let kept : mark_at c.loop-place.marks c.variable-variable.result ≡ Kept = search rules in
+    absurd (met_decision m kept c.if-open-eq1.false (sym c.reason.ensures ∙ c.in-None.is))
+
+pub loop-place-preserved : goal.loop-place-preserved
+loop-place-preserved c =
+    let i = c.loop-place.invariant in
+    let m = met (goal.at.loop-place-preserved c).After-variable-variable in
+    let other : mark_at c.loop-place.marks c.variable-variable.result ≢ Kept = search rules in
+    let lt = m.here.within in
+    record {
+      walked = met_other m other;
+      within = omega arith;
+      literals = i.literals;
+      marking = i.marking;
+    }
+
+pub unreachable-requires : goal.unreachable-requires
+unreachable-requires c =
+    let zero : c.loop-place.place ≡ 0 = omega arith in
+    walk_end c.args.store.now.slots c.args.engine.now.trail c.args.marks.now c.loop-place.marks
+    c.loop-place.open (subst (IsWalked c.args.store.now.slots c.args.engine.now.trail
+    c.args.marks.now c.loop-place.marks c.loop-place.open) zero c.loop-place.invariant.walked)
