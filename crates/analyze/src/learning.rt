@@ -213,7 +213,9 @@ fn learn(
     let mut lits = SmallVec::new(alloc);
     // Room for all at once, so that they do not grow step by step.
     let mut hints = Vec::with_capacity(alloc, met.len() + 1)?;
-    collect(engine, asserting, conflict, marks, met, &mut lits, &mut hints)?;
+    collect(
+        engine, asserting, conflict, marks, met, &mut lits, &mut hints,
+    )?;
     let back_level = greatest(engine, &lits.as_slice()[1..]);
     meet_reasons(engine, store, lits.as_slice(), marks, ideas, queue);
     Ok(Learned {

@@ -216,9 +216,15 @@ fn search(
         match go_on(engine, store, step, marks, ideas, firsts) {
             Way::Into(other, next) => {
                 if path.len() < path.capacity() {
-                    path.push_reserved(Step { variable: step.variable, next });
+                    path.push_reserved(Step {
+                        variable: step.variable,
+                        next,
+                    });
                 }
-                step = Step { variable: other, next: 0 };
+                step = Step {
+                    variable: other,
+                    next: 0,
+                };
             }
             Way::Redundant => {
                 settle(ideas, settled, step.variable, Idea::Redundant);
@@ -340,7 +346,5 @@ pub(crate) fn minimise(
         );
     }
     forget_firsts(engine, queue, firsts);
-    drop_redundant(
-        engine, store, asserting, ideas, settled, marks, met, marked,
-    );
+    drop_redundant(engine, store, asserting, ideas, settled, marks, met, marked);
 }

@@ -1,4 +1,4 @@
-use Rattle.std.proofs.Common.{rules, ◌≡◌, ◌≢◌, ◌<◌, ◌≤◌, ◌+◌, ◌++◌, ◌∷◌, [], Bool, sym, ◌∙◌, ap}
+use Rattle.std.proofs.Common.{rules, ◌≡◌, ◌≢◌, ◌<◌, ◌+◌, ◌++◌, ◌∷◌, [], Bool, sym, ◌∙◌, ap}
 use Rattle.std.proofs.Common.{length, get_or, take, inl, inr, arith, None, vec_capacity}
 use Rattle.std.proofs.lemmas.List.{take_more, append-nil, get_or_default, length-map, length_push}
 use Rattle.cnf.specs.Literal.{Literal, negation}

@@ -2,7 +2,7 @@ use Rattle.std.proofs.Common.{rules, arith, ◌≡◌, ◌<◌, Some, sym, ◌�
 use Rattle.std.specs.Prelude.{unwrap_or}
 use Rattle.propagate.specs.Trail.{depth_of}
 use Rattle.analyze.specs.declared.marks.Mark.TheVariants.{Kept}
-use Rattle.analyze.specs.Marks.{mark_at, level_at_variable, is_current, IsReducing}
+use Rattle.analyze.specs.Marks.{mark_at, level_at_variable, IsReducing}
 use Rattle.analyze.proofs.Counting.{current_le}
 use Rattle.analyze.proofs.Reducing.{level_current, reducing_resolved}
 use Rattle.analyze.proofs.Walking.{Stands, stands, stands_last}
@@ -34,24 +34,24 @@ bounds-marks-variable c =
     let room = c.loop-position.invariant.marking.room in
     omega arith
 
-pub returns-then-open-eq1-clause-reduces : goal.returns-then-open-eq1-clause-reduces
-returns-then-open-eq1-clause-reduces c =
+pub returns-then-left-eq1-clause-reduces : goal.returns-then-left-eq1-clause-reduces
+returns-then-left-eq1-clause-reduces c =
     let kept : mark_at c.loop-position.marks c.variable-variable.result ≡ Kept = search rules in
     let e = c.args.engine.now in
     let slots = c.args.store.now.slots in
     let M = c.loop-position.marks in
     stands_last e slots c.args.marks.now M c.in-Some.position c.index-trail-position.result
     c.variable-variable.result
-    (here (goal.at.returns-then-open-eq1-clause-reduces c).After-variable-variable) kept
-    (level (goal.at.returns-then-open-eq1-clause-reduces c).Then-eq-2)
-    (subst (IsReducing slots e.trail c.args.marks.now M) c.if-open-eq1.true
+    (here (goal.at.returns-then-left-eq1-clause-reduces c).After-variable-variable) kept
+    (level (goal.at.returns-then-left-eq1-clause-reduces c).Then-eq-2)
+    (subst (IsReducing slots e.trail c.args.marks.now M) c.if-left-eq1.true
     c.loop-position.invariant.state)
 
-pub overflow_add-open : goal.overflow_add-open
-overflow_add-open c =
+pub overflow_add-left : goal.overflow_add-left
+overflow_add-left c =
     let T = c.args.engine.now.trail in
     let current = level_current T c.variable-variable.result
-    (level (goal.at.overflow_add-open c).Then-eq-2) in
+    (level (goal.at.overflow_add-left c).Then-eq-2) in
     let n = c.resolve_one-fresh.ensures.counted current in
     let m = c.loop-position.invariant.state.counted in
     let some = c.loop-position.invariant.state.some in
@@ -77,10 +77,10 @@ loop-position-preserved-then-eq-2 c =
     record {
       state =
           reducing_resolved slots T c.args.marks.now M c.resolve_one-fresh.new.marks
-          c.loop-position.open c.resolve_one-fresh.result v c.in-Some-reason.reason at.reasons kept
+          c.loop-position.left c.resolve_one-fresh.result v c.in-Some-reason.reason at.reasons kept
           (let room = i.marking.room in omega arith)
           (sym c.reason.ensures ∙ c.in-Some-reason.is) c.resolve_one-fresh.ensures.resolved
-          (c.resolve_one-fresh.ensures.counted current) c.if-open-eq1.false i.state;
+          (c.resolve_one-fresh.ensures.counted current) c.if-left-eq1.false i.state;
       within = omega arith;
       literals = i.literals;
       marking = c.resolve_one-fresh.ensures.marking;
