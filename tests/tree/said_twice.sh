@@ -3,10 +3,9 @@
 # `said_twice` lists what is; `said_twice --types` lists also laws that may be one.
 source "$(dirname "$0")/../lib"
 
-# What may stand: a row of the list without its places, and why.
+# What may stand: a row of the list without its places, and why. Nothing does now.
 allowed() {
     cat << 'ROWS'
-row_at row_at: rows of numbers in a tree, and of values in one block; no crate below both has rows
 ROWS
 }
 
