@@ -9,19 +9,19 @@ use Rattle.improve.proofs.LastBound.{entries_spelled, bound_log}
 use Rattle.improve.proofs.bounds.Bounds.rebase_log.Goals as goal
 
 -- a solver that retired was given the same, and has the same lines
-given_same : {g : Given} {s t : LogSolver} → g ≡ given_to t → t ≡ record s { failed = true }
-    → g ≡ given_to s
-given_same e r = e ∙ ap given_to r
+given_same : {g : Given} {t : LogSolver} (s : LogSolver) → g ≡ given_to t
+    → t ≡ record s { failed = true } → g ≡ given_to s
+given_same s e r = e ∙ ap given_to r
 
-sink_same : {ls : List LogLine} {s t : LogSolver} → ls ≡ t.sink → t ≡ record s { failed = true }
-    → ls ≡ s.sink
-sink_same e r = e ∙ ap (λ (x : LogSolver). x.sink) r
+sink_same : {ls : List LogLine} {t : LogSolver} (s : LogSolver) → ls ≡ t.sink
+    → t ≡ record s { failed = true } → ls ≡ s.sink
+sink_same s e r = e ∙ ap (λ (x : LogSolver). x.sink) r
 
 pub collect_weaker-requires : goal.collect_weaker-requires
 collect_weaker-requires c =
     let b = c.requires.bounded in
     let n = given_length c.args.instance.now c.args.self.now b.1.0 b.0 c.requires.over b.1.1 in
-    omega (arith, n, ap length (given_same c.given-given.ensures c.retire.ensures))
+    omega (arith, n, ap length (given_same c.args.self.now.solver c.given-given.ensures c.retire.ensures))
 
 pub rebase-requires-clause-numbers : goal.rebase-requires-clause-numbers
 rebase-requires-clause-numbers c =
@@ -29,7 +29,7 @@ rebase-requires-clause-numbers c =
     let w = c.in_ok-weaker in
     rw c.deref.ensures.value
     (entries_fit c.args.instance.now c.args.self.now b.1.0 b.0 c.requires.over b.1.1 _
-    (given_same c.given-given.ensures c.retire.ensures) w.weaker.items w.ensures.weaker w.ensures.few)
+    (given_same c.args.self.now.solver c.given-given.ensures c.retire.ensures) w.weaker.items w.ensures.weaker w.ensures.few)
 
 pub rebase-requires-clause-literals : goal.rebase-requires-clause-literals
 rebase-requires-clause-literals c =
@@ -37,7 +37,7 @@ rebase-requires-clause-literals c =
     let b = c.requires.bounded in
     let w = c.in_ok-weaker in
     let are =
-    entries_are c.args.instance.now s b.1.0 b.0 c.requires.over b.1.1 _ (given_same c.given-given.ensures c.retire.ensures)
+    entries_are c.args.instance.now s b.1.0 b.0 c.requires.over b.1.1 _ (given_same c.args.self.now.solver c.given-given.ensures c.retire.ensures)
     w.weaker.items w.ensures.weaker in
     rw c.deref.ensures.value (entries_spelled c.args.instance.now s b.1.0 b.0 c.requires.over b.1.1
     c.requires.falling w.weaker.items are)
@@ -48,7 +48,7 @@ rebase-requires-clause-room c =
     let w = c.in_ok-weaker in
     let count =
     entries_count c.args.instance.now c.args.self.now b.1.0 b.0 c.requires.over b.1.1 _
-    (given_same c.given-given.ensures c.retire.ensures) w.weaker.items w.ensures.weaker in
+    (given_same c.args.self.now.solver c.given-given.ensures c.retire.ensures) w.weaker.items w.ensures.weaker in
     omega (arith, count, w.ensures.few, ap length c.deref.ensures.value)
 
 pub rebase-requires-clause-ids : goal.rebase-requires-clause-ids
@@ -57,21 +57,21 @@ rebase-requires-clause-ids c =
     let b = c.requires.bounded in
     let w = c.in_ok-weaker in
     let count =
-    entries_count c.args.instance.now s b.1.0 b.0 c.requires.over b.1.1 _ (given_same c.given-given.ensures c.retire.ensures)
+    entries_count c.args.instance.now s b.1.0 b.0 c.requires.over b.1.1 _ (given_same c.args.self.now.solver c.given-given.ensures c.retire.ensures)
     w.weaker.items w.ensures.weaker in
-    let same = ap length (given_same c.given-given.ensures c.retire.ensures) in
+    let same = ap length (given_same c.args.self.now.solver c.given-given.ensures c.retire.ensures) in
     let few : length (given_to s.solver) < 2 ^ 58 = omega (arith, same, w.ensures.few) in
     let short : length (s.solver).sink < 2 ^ 61 =
-    omega (arith, ap length (sink_same c.sink-sink.ensures c.retire.ensures), c.is_short.ensures) in
-    rw (c.deref.ensures.value, (sink_same c.sink-sink.ensures c.retire.ensures))
+    omega (arith, ap length (sink_same c.args.self.now.solver c.sink-sink.ensures c.retire.ensures), c.is_short.ensures) in
+    rw (c.deref.ensures.value, (sink_same c.args.self.now.solver c.sink-sink.ensures c.retire.ensures))
     (solver_ids s.solver (length w.weaker.items) c.requires.over.usable few short
     (omega (arith, count, same)))
 
 pub returns : goal.returns
 returns c =
     let w = c.in_ok-weaker in
-    let lines = rw (c.deref.ensures.value, (sink_same c.sink-sink.ensures c.retire.ensures)) at c.rebase.ensures.lines in
-    let keeps = rw (c.deref.ensures.value, (sink_same c.sink-sink.ensures c.retire.ensures)) at c.rebase.ensures.keeps in
+    let lines = rw (c.deref.ensures.value, (sink_same c.args.self.now.solver c.sink-sink.ensures c.retire.ensures)) at c.rebase.ensures.lines in
+    let keeps = rw (c.deref.ensures.value, (sink_same c.args.self.now.solver c.sink-sink.ensures c.retire.ensures)) at c.rebase.ensures.keeps in
     if_ok_both c.rebase.result _ _ _ lines keeps (λ log e k.
     bound_log c.args.instance.now c.args.self.now w.weaker.items log c.requires.over
-    (λ x y z u f g. w.ensures.weaker x y z (ap clauses_in (given_same c.given-given.ensures c.retire.ensures) ∙ u) f g) e k)
+    (λ x y z u f g. w.ensures.weaker x y z (ap clauses_in (given_same c.args.self.now.solver c.given-given.ensures c.retire.ensures) ∙ u) f g) e k)
