@@ -1,8 +1,7 @@
 -- A stage stays one where its clauses move together, with their names.
-use Rattle.std.proofs.Common.{◌≡◌, ℕ, ◌<◌, List, [], ◌∷◌, map, length, Some, refl, sym, ◌∙◌, ap}
+use Rattle.std.proofs.Common.{◌≡◌, ℕ, ◌<◌, List, map, Some, sym, ◌∙◌, ap}
 use Rattle.std.proofs.Common.{subst, arith}
 use Rattle.std.specs.Prelude.{All}
-use Rattle.cnf.specs.Literal.{Literal}
 use Rattle.cnf.specs.Clause.{Satisfies}
 use Rattle.clauses.specs.Slots.{Slots, live_clauses}
 use Rattle.lrat_log.specs.Log.{LogLine}

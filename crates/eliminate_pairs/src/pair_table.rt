@@ -17,8 +17,15 @@ use cnf::types::Lit;
 use std::alloc::{AllocError, Global};
 use std::cmp::Ordering;
 
-/// A pair is worth a variable where it stands in so many clauses.
+/// A pair may be worth a variable where it stands in so many clauses.
 pub(crate) const FEWEST: usize = 4;
+
+/// In a large store it must stand in so many: each saves one literal, and a definition takes seven.
+/// So a large formula does not get longer.
+const FEWEST_IN_A_LARGE_STORE: usize = 8;
+
+/// A store with more literals, dead ones too, is large.
+const LARGE: usize = 1 << 20;
 
 /// The lengths of the clauses in which pairs are looked for.
 pub(crate) const SHORTEST: usize = 3;
@@ -80,7 +87,7 @@ pub(crate) struct PairTable {
     // A row for each lower literal, those that hold a run sorted: the index of the higher literal
     // in the upper half of a word, and the place of the clause in the lower one.
     meetings: Vec<u64>,
-    // Pairs in at least `FEWEST` clauses, in their order.
+    // The pairs that were met often enough, in their order.
     runs: Vec<Run>,
     // By place at the time of the walks, where the clause stands now.
     moved: Vec<u32>,
@@ -89,12 +96,12 @@ pub(crate) struct PairTable {
 }
 
 impl PairTable {
-    /// The pairs of the store, whose variables are those up to `vars`.
-    pub(crate) fn new(store: &Store, vars: u32) -> Result<Self, AllocError> {
+    /// The pairs of the clauses from the place `first` on, over the variables up to `vars`.
+    pub(crate) fn new(store: &Store, first: usize, vars: u32) -> Result<Self, AllocError> {
         let alloc = store.allocator();
-        let counts = literal_counts(alloc, store, vars)?;
-        let (mut meetings, ends) = rows_of(alloc, store, &counts)?;
-        let mut runs = runs_of(alloc, &mut meetings, &ends)?;
+        let literals = Literals::of(alloc, store, first, vars)?;
+        let (mut meetings, ends) = rows_of(alloc, store, &literals)?;
+        let mut runs = runs_of(alloc, &mut meetings, &ends, literals.fewest)?;
         runs.sort_unstable();
         let mut moved = Vec::with_capacity(alloc, store.places())?;
         for place in 0..store.places() {
@@ -206,49 +213,83 @@ fn is_looked_at(length: usize) -> bool {
     SHORTEST <= length && length <= LONGEST
 }
 
-/// By literal, in how many of these clauses it stands.
-fn literal_counts(alloc: Global, store: &Store, vars: u32) -> Result<Vec<u32>, AllocError> {
-    let mut counts = Vec::from_elem(alloc, 0u32, 2 * vars as usize)?;
-    for place in 0..store.places() {
-        if let Some(reference) = store.live_at(place) {
-            let lits = store.lits(reference);
-            if is_looked_at(lits.len()) {
-                for lit in lits {
-                    if let Some(count) = counts.get_mut(lit.index()) {
-                        *count = count.saturating_add(1);
-                    }
+/// In how many clauses a pair must stand to be worth a variable, `FEWEST` or more.
+fn fewest_in(store: &Store) -> usize {
+    if store.used() > LARGE {
+        FEWEST_IN_A_LARGE_STORE
+    } else {
+        FEWEST
+    }
+}
+
+/// The first place of those where a round after the first one looks for pairs: as many clauses as
+/// `new` came last.
+pub(crate) fn first_looked_at(store: &Store, new: usize) -> usize {
+    if store.used() > LARGE {
+        store.places().saturating_sub(new)
+    } else {
+        0
+    }
+}
+
+/// Which literals stand in enough clauses.
+#[derive(Drop)]
+struct Literals {
+    // The first place of the store where pairs are looked for.
+    first: usize,
+    // By literal, in how many of the clauses in which pairs are looked for it stands.
+    counts: Vec<u32>,
+    // In how many of them a pair must stand.
+    fewest: usize,
+}
+
+impl Literals {
+    /// The literals of the clauses from a place on, over the variables up to `vars`.
+    fn of(alloc: Global, store: &Store, first: usize, vars: u32) -> Result<Self, AllocError> {
+        let mut counts = Vec::from_elem(alloc, 0u32, 2 * vars as usize)?;
+        for place in first..store.places() {
+            for lit in clause_at(store, place) {
+                if let Some(count) = counts.get_mut(lit.index()) {
+                    *count = count.saturating_add(1);
                 }
             }
         }
+        Ok(Literals {
+            first,
+            counts,
+            fewest: fewest_in(store),
+        })
     }
-    Ok(counts)
-}
 
-/// Puts the indices of the literals that stand in enough clauses into `out`, where pairs are looked
-/// for in the clause.
-fn frequent(
-    store: &Store,
-    place: usize,
-    counts: &[u32],
-    out: &mut Vec<u32>,
-) -> Result<(), AllocError> {
-    out.clear();
-    let Some(reference) = store.live_at(place) else {
-        return Ok(());
-    };
-    let lits = store.lits(reference);
-    if is_looked_at(lits.len()) {
-        for lit in lits {
-            let index = lit.index();
-            if counts
-                .get(index)
-                .is_some_and(|count| *count as usize >= FEWEST)
-            {
-                out.push(index as u32)?;
-            }
+    /// Whether the literal stands in enough clauses.
+    fn is_frequent(&self, lit: Lit) -> bool {
+        match self.counts.get(lit.index()) {
+            Some(count) => *count as usize >= self.fewest,
+            None => false,
         }
     }
-    Ok(())
+
+    /// Puts the indices of the frequent literals of a clause into `out`.
+    fn list(&self, store: &Store, place: usize, out: &mut Vec<u32>) -> Result<(), AllocError> {
+        out.clear();
+        for lit in clause_at(store, place) {
+            if self.is_frequent(*lit) {
+                out.push(lit.index() as u32)?;
+            }
+        }
+        Ok(())
+    }
+}
+
+/// The literals of the clause at a place, where pairs are looked for in it; else none.
+fn clause_at(store: &Store, place: usize) -> &[Lit] {
+    match store.live_at(place) {
+        Some(reference) => {
+            let lits = store.lits(reference);
+            if is_looked_at(lits.len()) { lits } else { &[] }
+        }
+        None => &[],
+    }
 }
 
 /// Small counters of pairs, by a hash.
@@ -258,16 +299,19 @@ struct Sketch {
     counters: Vec<u8>,
     // A hash of 64 bits less so many is the place of a counter.
     shift: u32,
-    // How many of the pairs that were counted have a counter of at least `FEWEST`.
+    // A counter of so many is a large one.
+    fewest: usize,
+    // How many of the pairs that were counted have a large counter.
     many: usize,
 }
 
 impl Sketch {
-    fn new(alloc: Global, pairs: usize) -> Result<Self, AllocError> {
+    fn new(alloc: Global, pairs: usize, fewest: usize) -> Result<Self, AllocError> {
         let bits = bits_for(pairs);
         Ok(Sketch {
             counters: Vec::from_elem(alloc, 0u8, 1 << bits)?,
             shift: 64 - bits,
+            fewest,
             many: 0,
         })
     }
@@ -283,9 +327,9 @@ impl Sketch {
         let place = self.slot(left, right);
         if let Some(counter) = self.counters.get_mut(place) {
             *counter = counter.saturating_add(1);
-            let more = match (*counter as usize).cmp(&FEWEST) {
+            let more = match (*counter as usize).cmp(&self.fewest) {
                 Ordering::Less => 0,
-                Ordering::Equal => FEWEST,
+                Ordering::Equal => self.fewest,
                 Ordering::Greater => 1,
             };
             self.many = self.many.saturating_add(more);
@@ -294,7 +338,7 @@ impl Sketch {
 
     fn is_many(&self, left: u32, right: u32) -> bool {
         match self.counters.get(self.slot(left, right)) {
-            Some(counter) => *counter as usize >= FEWEST,
+            Some(counter) => *counter as usize >= self.fewest,
             None => false,
         }
     }
@@ -313,13 +357,17 @@ fn bits_for(pairs: usize) -> u32
 }
 
 /// The meetings of the pairs that may stand in enough clauses, in the order of the store.
-fn meetings_of(alloc: Global, store: &Store, counts: &[u32]) -> Result<Vec<Meeting>, AllocError> {
+fn meetings_of(
+    alloc: Global,
+    store: &Store,
+    literals: &Literals,
+) -> Result<Vec<Meeting>, AllocError> {
     let mut lits = Vec::new(alloc);
-    let (sketch, end) = sketch_of(alloc, store, counts, &mut lits)?;
+    let (sketch, end) = sketch_of(alloc, store, literals, &mut lits)?;
     // Room for all at once: a list that doubles leaves its old places between what comes later.
     let mut meetings = Vec::with_capacity(alloc, sketch.many)?;
-    for place in 0..end {
-        frequent(store, place, counts, &mut lits)?;
+    for place in literals.first..end {
+        literals.list(store, place, &mut lits)?;
         write_down(&mut meetings, &sketch, &lits, place)?;
     }
     Ok(meetings)
@@ -329,13 +377,13 @@ fn meetings_of(alloc: Global, store: &Store, counts: &[u32]) -> Result<Vec<Meeti
 fn sketch_of(
     alloc: Global,
     store: &Store,
-    counts: &[u32],
+    literals: &Literals,
     lits: &mut Vec<u32>,
 ) -> Result<(Sketch, usize), AllocError> {
     let mut pairs = 0usize;
-    let mut end = 0usize;
-    for place in 0..store.places() {
-        frequent(store, place, counts, lits)?;
+    let mut end = literals.first;
+    for place in literals.first..store.places() {
+        literals.list(store, place, lits)?;
         let length = lits.len().min(LONGEST);
         pairs = pairs.saturating_add(length * length / 2);
         if pairs > MOST_MEETINGS {
@@ -343,9 +391,9 @@ fn sketch_of(
         }
         end = place + 1;
     }
-    let mut sketch = Sketch::new(alloc, pairs)?;
-    for place in 0..end {
-        frequent(store, place, counts, lits)?;
+    let mut sketch = Sketch::new(alloc, pairs, literals.fewest)?;
+    for place in literals.first..end {
+        literals.list(store, place, lits)?;
         for j in 0..lits.len() {
             for i in 0..j {
                 sketch.count(lits[i].min(lits[j]), lits[i].max(lits[j]));
@@ -382,10 +430,10 @@ fn write_down(
 fn rows_of(
     alloc: Global,
     store: &Store,
-    counts: &[u32],
+    literals: &Literals,
 ) -> Result<(Vec<u64>, Vec<u32>), AllocError> {
-    let written = meetings_of(alloc, store, counts)?;
-    dealt(alloc, &written, counts.len())
+    let written = meetings_of(alloc, store, literals)?;
+    dealt(alloc, &written, literals.counts.len())
 }
 
 /// The index of the higher literal of a meeting.
@@ -428,16 +476,21 @@ fn dealt(
     Ok((meetings, ends))
 }
 
-/// The pairs with at least `FEWEST` meetings, whose rows are sorted.
-fn runs_of(alloc: Global, meetings: &mut [u64], ends: &[u32]) -> Result<Vec<Run>, AllocError> {
+/// The pairs with at least `fewest` meetings, whose rows are sorted.
+fn runs_of(
+    alloc: Global,
+    meetings: &mut [u64],
+    ends: &[u32],
+    fewest: usize,
+) -> Result<Vec<Run>, AllocError> {
     let mut runs = Vec::new(alloc);
     let mut start = 0u32;
     for left in 0..ends.len() {
         let end = ends[left];
-        if end.saturating_sub(start) as usize >= FEWEST {
+        if end.saturating_sub(start) as usize >= fewest {
             if let Some(row) = meetings.get_mut(start as usize..end as usize) {
                 row.sort_unstable();
-                add_runs(&mut runs, row, start, left)?;
+                add_runs(&mut runs, row, start, left, fewest)?;
             }
         }
         start = end;
@@ -446,14 +499,20 @@ fn runs_of(alloc: Global, meetings: &mut [u64], ends: &[u32]) -> Result<Vec<Run>
 }
 
 /// Adds the runs of a row that starts at this place.
-fn add_runs(runs: &mut Vec<Run>, row: &[u64], start: u32, left: usize) -> Result<(), AllocError> {
+fn add_runs(
+    runs: &mut Vec<Run>,
+    row: &[u64],
+    start: u32,
+    left: usize,
+    fewest: usize,
+) -> Result<(), AllocError> {
     let mut first = 0usize;
     for end in 1..row.len() + 1 {
         if is_within(row, first, end) {
             continue;
         }
         let count = end.saturating_sub(first);
-        if count >= FEWEST {
+        if count >= fewest {
             if let Some(meeting) = row.get(first) {
                 let from = start.saturating_add(word(first));
                 runs.push(Run {

@@ -4,7 +4,8 @@
 // with z. Which pairs are worthwhile is found by counting and may be wrong: each clause is looked
 // at again before it changes. A pair whose count has fallen to less than half since it was counted
 // waits for the next round. Each clause that changes leaves a dead one behind, so after a round the
-// clauses move together.
+// clauses move together. In a large store a further round looks only at the clauses that the round
+// before it made, since the others were looked at.
 ghost use Rattle.std.specs.Prelude.{◌≡◌, ◌+◌, ◌<◌, ◌≤◌, ◌^◌, List, [], ◌∷◌, ◌++◌, length};
 ghost use Rattle.std.specs.Prelude.{IsTrue, IfOk, OnOk, OnErr, Some};
 ghost use Rattle.std.specs.List.{AllByRecursion};
@@ -20,7 +21,7 @@ ghost use Rattle.eliminate_pairs.specs.Pairs.{side_clause, side_line, replaced, 
 ghost use Rattle.eliminate_pairs.specs.Pairs.{IsOnOther, StandAt, StandOften, HasPairOf, IsDefined};
 ghost use Rattle.eliminate_pairs.specs.Pairs.{stage_of, FitNames, Moves, Passes};
 
-use crate::pair_table::{Candidate, FEWEST, PairTable, SHORTEST};
+use crate::pair_table::{Candidate, FEWEST, PairTable, SHORTEST, first_looked_at};
 use clauses::store::{CRef, Store};
 use cnf::types::Lit;
 use eliminate_names::names::{Names, add, delete, move_together};
@@ -65,22 +66,34 @@ pub fn define_pairs<S: Sink>(
         most store.new.slots names.new (S.lines sink.new) }
 {
     let mut last = vars;
+    let mut first = 0;
     for _round in 0..MOST_ROUNDS {
         let before = last;
-        last = define_counted(store, names, sink, before, most)?;
+        let places = store.places();
+        last = define_counted(store, names, sink, first, before, most)?;
         if last == before {
             return Ok(last);
         }
+        let new = count_live(store, places);
         move_together(store, names);
+        first = first_looked_at(store, new);
     }
     Ok(last)
 }
 
-/// Counts the pairs, and replaces those that stand in many clauses.
+/// How many live clauses stand from a place on.
+fn count_live(store: &Store, from: usize) -> usize {
+    (from..store.places())
+        .filter(|place| store.live_at(*place).is_some())
+        .count()
+}
+
+/// Counts the pairs of the clauses from the place `first` on, and replaces those that stand in many.
 fn define_counted<S: Sink>(
     store: &mut Store,
     names: &mut Names,
     sink: &mut S,
+    first: usize,
     vars: u32,
     most: u32,
 ) -> Result<u32, AllocError>
@@ -90,7 +103,7 @@ fn define_counted<S: Sink>(
     ensures { Passes result (stage_of vars store.old.slots names.old (S.lines sink.old))
         most store.new.slots names.new (S.lines sink.new) }
 {
-    let mut table = PairTable::new(store, vars)?;
+    let mut table = PairTable::new(store, first, vars)?;
     let mut last = vars;
     for k in 0..table.len() {
         if last >= most {
