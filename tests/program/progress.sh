@@ -2,7 +2,7 @@
 # `--progress`: lines on standard error, and nothing else is different.
 source "$(dirname "$0")/../lib"
 
-form='[0-9]+\.[0-9] s, (no solution yet|cost [0-9]+), [0-9]+ conflicts, [0-9]+/s, [0-9]+ learned, [0-9]+ restarts, [0-9]+\.[0-9]{2} % spent'
+form='[0-9]+\.[0-9] s, (no solution yet|cost [0-9]+), [0-9]+ conflicts, [0-9]+/s, [0-9]+ propagations, [0-9]+ learned, [0-9]+ restarts, [0-9]+\.[0-9]{2} % spent'
 
 plain() { # WORD..: the run without the option: `out`, `status` and the certificate
     rm -f "$work/proof"
@@ -35,6 +35,7 @@ ok 'a file: a line at each solution, and no other cost' \
     [ "$(sed -nE 's/.*, cost ([0-9]+),.*/o \1/p' <<< "$err" | uniq)" = "$(grep '^o' <<< "$out")" ]
 numbers 'the seconds' '^([0-9.]+) s.*'
 numbers 'the conflicts' '.*, ([0-9]+) conflicts.*'
+numbers 'the propagations' '.*, ([0-9]+) propagations.*'
 numbers 'the restarts' '.*, ([0-9]+) restarts.*'
 numbers 'the shares of the effort' '.*, ([0-9.]+) % spent'
 
@@ -44,6 +45,8 @@ ok 'the share of the effort' awk -F '[ ,]+' '
     $4 != cost { cost = $4; solutions++ }
     { share = $5 + solutions - $(NF - 2); if (share < -0.01 || share > 0.01) wrong = 1 }
     END { exit wrong || !NR }' <<< "$(grep 'cost' <<< "$err")"
+
+ok 'the last line is of the end' grep -q ', 100.00 % spent$' <<< "$(sed -n '$p' <<< "$err")"
 
 # Nothing to tell.
 lines text 'h 1 0' 'h -1 0'

@@ -39,6 +39,8 @@ pub struct Policy {
     long: usize,
     // How often clauses were chosen for deletion.
     deletions: u64,
+    // How many literals were put back, up to 2^64 - 1.
+    undone: u64,
     // How often the search has started over, up to 2^64 - 1.
     restarts: u64,
 }
@@ -80,6 +82,7 @@ impl Policy {
             standings: Standings::new(alloc),
             long: 0,
             deletions: 0,
+            undone: 0,
             restarts: 0,
         })
     }
@@ -106,6 +109,7 @@ impl Policy {
         ensures { self.new ≡ self.old }
     {
         let variable = lit.variable();
+        self.undone = self.undone.saturating_add(1);
         self.phases.save(lit);
         self.order.put_back(variable);
     }
@@ -205,6 +209,7 @@ impl Policy {
     pub fn report(&self, budget: &Budget) -> SearchReport {
         SearchReport {
             conflicts: budget.learned(),
+            propagations: self.undone,
             learned: self.long,
             restarts: self.restarts,
         }

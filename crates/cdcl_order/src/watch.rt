@@ -5,6 +5,9 @@
 pub struct SearchReport {
     /// How many conflicts were paid from the budget so far; each taught a clause.
     pub conflicts: u64,
+    /// How many literals of the trail were taken back, up to 2^64 - 1: so many were propagated or
+    /// decided, but for those that still stand there.
+    pub propagations: u64,
     /// How many learned clauses of more than two literals are live.
     pub learned: usize,
     /// How often this solver has started over, in all its searches.

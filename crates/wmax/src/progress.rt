@@ -1,4 +1,5 @@
-//! The lines of `--progress`: how far a run is, once a second and at each better solution.
+//! The lines of `--progress`: how far a run is, once a second, at each better solution and at the
+//! end of the search.
 use crate::standard_error::Messages;
 use cdcl::watch::SearchReport;
 use std::alloc::AllocError;
@@ -25,8 +26,12 @@ pub struct Meter<'a, R: Clock> {
     limit: u64,
     /// What was told last of the search.
     report: SearchReport,
+    /// How many conflicts there were at the last line.
+    told_conflicts: u64,
     /// How often the solvers before this one started over.
     restarts: u64,
+    /// How many propagations they made.
+    propagations: u64,
     /// How many solutions were shown, each a unit of the effort.
     solutions: u64,
     /// What the best of them costs, below 2^62; none where there is none.
@@ -46,10 +51,13 @@ impl<'a, R: Clock + AllocGlobal> Meter<'a, R> {
             limit,
             report: SearchReport {
                 conflicts: 0,
+                propagations: 0,
                 learned: 0,
                 restarts: 0,
             },
+            told_conflicts: 0,
             restarts: 0,
+            propagations: 0,
             solutions: 0,
             cost: None,
         })
@@ -57,9 +65,11 @@ impl<'a, R: Clock + AllocGlobal> Meter<'a, R> {
 
     /// Takes note of how far the search is, and tells it if the last line is a second old.
     pub fn learned<E: Write>(&mut self, report: &SearchReport, messages: &mut Messages<'_, E>) {
-        if report.restarts < self.report.restarts {
+        let last = &self.report;
+        if report.restarts < last.restarts || report.propagations < last.propagations {
             // Another solver goes on.
             self.restarts = self.restarts.saturating_add(self.report.restarts);
+            self.propagations = self.propagations.saturating_add(self.report.propagations);
         }
         self.report = *report;
         if report.conflicts % LOOK != 0 {
@@ -81,9 +91,20 @@ impl<'a, R: Clock + AllocGlobal> Meter<'a, R> {
         }
     }
 
+    /// The search has ended: it tells how far it came, where it has gone on since the last line.
+    pub fn searched<E: Write>(&mut self, messages: &mut Messages<'_, E>) {
+        if self.report.conflicts == self.told_conflicts {
+            return;
+        }
+        if let Ok(now) = Instant::now(self.rt) {
+            self.tell(now, messages);
+        }
+    }
+
     /// Tells how far the search is; where memory for the line is refused, nothing.
     fn tell<E: Write>(&mut self, now: Instant, messages: &mut Messages<'_, E>) {
         self.told = now;
+        self.told_conflicts = self.report.conflicts;
         let (start, end) = messages.edges();
         if let Ok(line) = self.spell(now, start, end) {
             messages.show(line.as_str());
@@ -97,12 +118,13 @@ impl<'a, R: Clock + AllocGlobal> Meter<'a, R> {
         let cost = self.spell_cost()?;
         let spent = self.spell_spent()?;
         format!(in self.rt.alloc();
-            "{start}{}.{} s, {}, {} conflicts, {}/s, {} learned, {} restarts, {}{end}",
+            "{start}{}.{} s, {}, {} conflicts, {}/s, {} propagations, {} learned, {} restarts, {}{end}",
             age.as_secs(),
             age.subsec_millis() / 100,
             cost,
             report.conflicts,
             per_second(report.conflicts, age),
+            self.propagations.saturating_add(report.propagations),
             report.learned,
             self.restarts.saturating_add(report.restarts),
             spent

@@ -42,6 +42,9 @@ impl<'a, 'b, R: Files + Clock + AllocGlobal, E: Write> Watch for Onlooker<'a, 'b
 
 impl<'a, 'b, R: Files + Clock + AllocGlobal, E: Write> Keep for Onlooker<'a, 'b, R, E> {
     fn searched(&mut self) {
+        if let Some(meter) = &mut self.meter {
+            meter.searched(self.messages);
+        }
         self.messages.give_way();
     }
 
