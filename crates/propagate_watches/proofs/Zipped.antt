@@ -7,8 +7,6 @@ use Rattle.cnf.specs.Literal.{Literal}
 use Rattle.clauses.proofs.Laws.{length-zipped, get_or-zipped, zipped-append, zipped-replicate}
 use Rattle.clauses.proofs.Laws.{zipped-set_first}
 use Rattle.propagate_watches.specs.declared.table.Attachment.{Attachment}
-use Rattle.propagate_watches.specs.declared.table.Attachment.TheVariants.{Watching as WatchingAttachment}
-use Rattle.propagate_watches.specs.declared.table.Attachment.TheVariants.{Detached as NoAttachment}
 use Rattle.propagate_watches.specs.declared.table.Tag.{Tag}
 use Rattle.propagate_watches.specs.declared.table.Tag.TheVariants.{Detached, Waiting, Satisfied}
 use Rattle.propagate_watches.specs.declared.table.Tag.TheVariants.{Watching}
@@ -18,9 +16,9 @@ use Rattle.propagate_watches.specs.Table.{attachment_in, rest_in, IsWatching, Is
 use Rattle.propagate_watches.specs.TableLayout.{attachment_of, attachments}
 
 pub attachments_past : (ks : List Tag) (ps : List Pair) (r : ℕ) → length ps ≡ length ks
-    → length ks ≤ r → NoAttachment ≡ attachment_in (attachments ks ps) r
+    → length ks ≤ r → Attachment.Detached ≡ attachment_in (attachments ks ps) r
 attachments_past ks ps r h le =
-    sym (get_or_past (attachments ks ps) r NoAttachment
+    sym (get_or_past (attachments ks ps) r Attachment.Detached
     (omega (arith, length-zipped attachment_of ks ps h)))
 
 any_pair : Pair
@@ -36,7 +34,7 @@ pub attachments_tag : (ks : List Tag) (ps : List Pair) (r : ℕ) (x k : Tag) (P 
     → length ps ≡ length ks → r < length ks → x ≡ get_or ks r x → x ≡ k
     → ((p : Pair) → attachment_of k p ≡ P) → P ≡ attachment_in (attachments ks ps) r
 attachments_tag ks ps r x k P h l at is of =
-    sym (get_or-zipped attachment_of ks ps r NoAttachment x any_pair h l
+    sym (get_or-zipped attachment_of ks ps r Attachment.Detached x any_pair h l
     ∙ ap (λ z. attachment_of z (get_or ps r any_pair)) (sym at ∙ is)
     ∙ of (get_or ps r any_pair))
 
@@ -58,9 +56,9 @@ attachments_set_tag ks ps table r k P of is =
 -- a place with literals, as it is read
 pub attachments_pair : (ks : List Tag) (ps : List Pair) (r : ℕ) (x : Tag) (p : Pair)
     → length ps ≡ length ks → r < length ks → x ≡ get_or ks r x → x ≡ Watching → p ≡ get_or ps r p
-    → WatchingAttachment p.one p.other p.rest ≡ attachment_in (attachments ks ps) r
+    → Attachment.Watching p.one p.other p.rest ≡ attachment_in (attachments ks ps) r
 attachments_pair ks ps r x p h l at is pair =
-    sym (get_or-zipped attachment_of ks ps r NoAttachment x p h l
+    sym (get_or-zipped attachment_of ks ps r Attachment.Detached x p h l
     ∙ ap (λ z. attachment_of z (get_or ps r p)) (sym at ∙ is)
     ∙ ap (attachment_of Watching) (sym pair))
 
@@ -92,7 +90,7 @@ watching_pair (k ∷ ks) (q ∷ ps) (suc r) p a b at e = watching_pair ks ps r p
 pub attachments_set_pair : (ks : List Tag) (ps : List Pair) (r : ℕ) (p : Pair) (a b : Literal)
     → IsWatching (attachment_in (attachments ks ps) r) a b
     → attachments ks (set ps r p) ≡ set (attachments ks ps) r
-    (WatchingAttachment p.one p.other p.rest)
+    (Attachment.Watching p.one p.other p.rest)
 attachments_set_pair [] ps r p a b e = refl
 attachments_set_pair (x ∷ ks) [] zero p a b e = refl
 attachments_set_pair (x ∷ ks) [] (suc r) p a b e = refl
@@ -138,11 +136,11 @@ pub beside_one : (ks : List Tag) (ps : List Pair) (r : ℕ) (p : Pair) (w o : Li
     → IsWatchedBy (attachment_in (attachments ks ps) r) w p.other
 beside_one ks ps r p w o at h e = elim h [
   | inl f ↦ let q = watching_pair ks ps r p w o at f in
-      inl (f ∙ ap (λ x. WatchingAttachment w x (rest_in (attachment_in (attachments ks ps) r)))
+      inl (f ∙ ap (λ x. Attachment.Watching w x (rest_in (attachment_in (attachments ks ps) r)))
       (sym q.1))
   | inr f ↦ let q = watching_pair ks ps r p o w at f in
-      inl (f ∙ ap (λ x. WatchingAttachment x w (rest_in (attachment_in (attachments ks ps) r)))
-      (sym q.0 ∙ e) ∙ ap (λ x. WatchingAttachment w x
+      inl (f ∙ ap (λ x. Attachment.Watching x w (rest_in (attachment_in (attachments ks ps) r)))
+      (sym q.0 ∙ e) ∙ ap (λ x. Attachment.Watching w x
       (rest_in (attachment_in (attachments ks ps) r))) (sym q.1))
 ]
 
@@ -152,7 +150,7 @@ pub beside_other : (ks : List Tag) (ps : List Pair) (r : ℕ) (p : Pair) (w o : 
 beside_other ks ps r p w o at h ne = elim h [
   | inl f ↦ absurd (ne (watching_pair ks ps r p w o at f).0)
   | inr f ↦ let q = watching_pair ks ps r p o w at f in
-      inr (f ∙ ap (λ x. WatchingAttachment x w (rest_in (attachment_in (attachments ks ps) r)))
+      inr (f ∙ ap (λ x. Attachment.Watching x w (rest_in (attachment_in (attachments ks ps) r)))
       (sym q.0))
 ]
 

@@ -1,4 +1,5 @@
 pub mod Pool
+pub mod Packed
 pub mod Table
 pub mod TableLayout
 pub mod Doomed

@@ -8,5 +8,6 @@
 
 pub mod doomed;
 pub mod moved;
+mod packed;
 pub mod pool;
 pub mod table;

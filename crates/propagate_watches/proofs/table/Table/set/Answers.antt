@@ -1,9 +1,6 @@
 use Rattle.std.proofs.Common.{◌∙◌, ap, set, refl, sym, arith}
 use Rattle.clauses.proofs.Laws.{zipped-set}
-use Rattle.propagate_watches.specs.declared.table.Attachment.TheVariants.{Detached as DetachedAttachment}
-use Rattle.propagate_watches.specs.declared.table.Attachment.TheVariants.{Waiting as WaitingAttachment}
-use Rattle.propagate_watches.specs.declared.table.Attachment.TheVariants.{Satisfied as SatisfiedAttachment}
-use Rattle.propagate_watches.specs.declared.table.Attachment.TheVariants.{Watching as WatchingAttachment}
+use Rattle.propagate_watches.specs.declared.table.Attachment.TheVariants as Attachment
 use Rattle.propagate_watches.specs.declared.table.Tag.TheVariants.{Detached, Waiting, Satisfied}
 use Rattle.propagate_watches.specs.declared.table.Tag.TheVariants.{Watching}
 use Rattle.propagate_watches.specs.TableLayout.{attachment_of}
@@ -42,17 +39,17 @@ index_mut-requires-in-Watching-2 c = let i = c.self.inside in
 
 pub returns-in-Detached : goal.returns-in-Detached
 returns-in-Detached c =
-    attachments_set_tag _ _ _ c.args.reference Detached DetachedAttachment (λ p. refl)
+    attachments_set_tag _ _ _ c.args.reference Detached Attachment.Detached (λ p. refl)
     c.self.view_is ∙ ap (set c.args.self.now c.args.reference) (sym c.in-Detached.is)
 
 pub returns-in-Waiting : goal.returns-in-Waiting
 returns-in-Waiting c =
-    attachments_set_tag _ _ _ c.args.reference Waiting WaitingAttachment (λ p. refl)
+    attachments_set_tag _ _ _ c.args.reference Waiting Attachment.Waiting (λ p. refl)
     c.self.view_is ∙ ap (set c.args.self.now c.args.reference) (sym c.in-Waiting.is)
 
 pub returns-in-Satisfied : goal.returns-in-Satisfied
 returns-in-Satisfied c =
-    attachments_set_tag _ _ _ c.args.reference Satisfied SatisfiedAttachment (λ p. refl)
+    attachments_set_tag _ _ _ c.args.reference Satisfied Attachment.Satisfied (λ p. refl)
     c.self.view_is ∙ ap (set c.args.self.now c.args.reference) (sym c.in-Satisfied.is)
 
 pub returns-in-Watching : goal.returns-in-Watching
@@ -60,7 +57,8 @@ returns-in-Watching c =
     let i = c.self.inside in
     let one = c.in-Watching.one in
     let other = c.in-Watching.other in
-    zipped-set attachment_of i.tags.items i.pairs.items c.args.reference Watching
-    (record { one = one; other = other; rest = c.in-Watching.rest })
-    ∙ ap (λ t. set t c.args.reference (WatchingAttachment one other c.in-Watching.rest))
+    rw c.of-rest.ensures
+    (zipped-set attachment_of i.tags.items i.pairs.items c.args.reference Watching
+    (record { one = one; other = other; rest = c.in-Watching.rest }))
+    ∙ ap (λ t. set t c.args.reference (Attachment.Watching one other c.in-Watching.rest))
     c.self.view_is ∙ ap (set c.args.self.now c.args.reference) (sym c.in-Watching.is)
