@@ -42,8 +42,9 @@ range_set_outside b p e s n h out =
     at_range (slice_set b p e) s n k e l ∙ get_or-set_other b p (s + k) e e other
     ∙ sym (at_range b s n k e l))
 
-pub range_set_inside : {A : Type 0} (b : List A) (i : ℕ) (e : A) (s n : ℕ) → s + n ≤ length b → i < n
-    → slice_range (slice_set b (s + i) e) s (s + n) ≡ slice_set (slice_range b s (s + n)) i e
+pub range_set_inside : {A : Type 0} (b : List A) (i : ℕ) (e : A) (s n : ℕ) → s + n ≤ length b
+    → i < n → slice_range (slice_set b (s + i) e) s (s + n)
+    ≡ slice_set (slice_range b s (s + n)) i e
 range_set_inside b i e s n h li =
     let h' : s + n ≤ length (slice_set b (s + i) e) = rw length-set h in
     let within : i < length (slice_range b s (s + n)) = omega (arith, long_range b s n h) in
@@ -253,8 +254,8 @@ rows_same b b' rows used laid room same =
     at_range b' s n k d lk ∙ same (s + k) d (omega arith) ∙ sym (at_range b s n k d lk))
     ∙ sym (get_or-map (row_of b) rows j no_head [] lj))
 
-module _ {A : Type 0} (b b' : List A) (rows : List Head) (used : ℕ) (laid : IsLaid b rows used) (i room : ℕ)
-    (r : Head) (li : i < length rows)
+module _ {A : Type 0} (b b' : List A) (rows : List Head) (used : ℕ) (laid : IsLaid b rows used)
+    (i room : ℕ) (r : Head) (li : i < length rows)
     (at : r.start ≡ used) (same_length : r.length ≡ (get_or rows i no_head).length)
     (same_room : r.room ≡ room) (enough : (get_or rows i no_head).length ≤ room)
     (fits : used + room ≤ length b') (bounded : used + room < 2 ^ 63) where

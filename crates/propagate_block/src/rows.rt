@@ -91,7 +91,8 @@ impl<T: Copy> BlockRows<T> {
         self.heads[row].length as usize
     }
 
-    /// How many entries a row can have before it moves.
+    /// How many entries a row can have before it moves. Only a bound is proved of it, since the
+    /// room is no part of what rows are.
     pub fn room(&self, row: usize) -> usize
         requires { row < length self.now }
         ensures { length (row_at self.now row) ≤ result }
