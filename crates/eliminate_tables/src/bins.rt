@@ -7,7 +7,8 @@
 //
 // All bins lie in two vectors: a vector each for the references and the signatures of a bin would
 // take three times the memory where clauses are short. A bin without room left moves to the end,
-// where it has twice its room; its old places are not used again.
+// where it has twice its room; its old places are not used again. So before the first pass each bin
+// gets just the room that it will need.
 ghost use Rattle.std.specs.Prelude.{◌≡◌, length, Some, IfOk, IfSome};
 ghost use Rattle.eliminate_tables.specs.Bins.{ArePlaced, IsOther};
 
@@ -120,6 +121,60 @@ impl Bins {
         for bin in self.bins.iter_mut() {
             clean(bin, &mut self.references, &mut self.signatures, store);
         }
+    }
+
+    /// Gives each bin the room that it needs for these clauses, before the first of them is put into
+    /// one. Where clauses are deleted or shortened meanwhile, they will need another. Once there are
+    /// clauses in bins, nothing is done.
+    ///
+    /// # Errors
+    ///
+    /// `AllocError` where memory was refused.
+    pub fn make_rooms(&mut self, store: &Store, clauses: &[CRef]) -> Result<(), AllocError>
+        ensures { self.new ≡ self.old }
+    {
+        let Some(fill) = clauses.first() else {
+            return Ok(());
+        };
+        if !self.references.is_empty() {
+            return Ok(());
+        }
+        self.foresee(store, clauses);
+        let places = self.lay_out();
+        // Half as much again for the clauses that come later.
+        self.references.reserve(places.saturating_add(places / 2))?;
+        self.references.resize(places, *fill)?;
+        self.signatures.reserve(places.saturating_add(places / 2))?;
+        self.signatures.resize(places, 0)
+    }
+
+    /// Counts in each bin's length the clauses that will be put into it.
+    fn foresee(&mut self, store: &Store, clauses: &[CRef])
+        ensures { self.new ≡ self.old }
+    {
+        for reference in clauses {
+            if store.is_live(*reference) {
+                let least = self.least_full(store.lits(*reference));
+                if let Some(bin) = self.bins.get_mut(least) {
+                    bin.length = bin.length.saturating_add(1);
+                }
+            }
+        }
+    }
+
+    /// Lays the bins side by side, each with its length as its room, and empty. The answer is how
+    /// many places they take.
+    fn lay_out(&mut self) -> usize
+        ensures { self.new ≡ self.old }
+    {
+        let mut places = 0u32;
+        for bin in self.bins.iter_mut() {
+            bin.start = places;
+            bin.room = bin.length;
+            bin.length = 0;
+            places = places.saturating_add(u32::from(bin.room));
+        }
+        places as usize
     }
 
     /// Puts a clause into the least full bin of its literals, where it is in none yet.
