@@ -139,42 +139,13 @@ impl Bins {
         if !self.references.is_empty() {
             return Ok(());
         }
-        self.foresee(store, clauses);
-        let places = self.lay_out();
+        foresee(&mut self.bins, store, clauses);
+        let places = lay_out(&mut self.bins);
         // Half as much again for the clauses that come later.
         self.references.reserve(places.saturating_add(places / 2))?;
         self.references.resize(places, *fill)?;
         self.signatures.reserve(places.saturating_add(places / 2))?;
         self.signatures.resize(places, 0)
-    }
-
-    /// Counts in each bin's length the clauses that will be put into it.
-    fn foresee(&mut self, store: &Store, clauses: &[CRef])
-        ensures { self.new ≡ self.old }
-    {
-        for reference in clauses {
-            if store.is_live(*reference) {
-                let least = self.least_full(store.lits(*reference));
-                if let Some(bin) = self.bins.get_mut(least) {
-                    bin.length = bin.length.saturating_add(1);
-                }
-            }
-        }
-    }
-
-    /// Lays the bins side by side, each with its length as its room, and empty. The answer is how
-    /// many places they take.
-    fn lay_out(&mut self) -> usize
-        ensures { self.new ≡ self.old }
-    {
-        let mut places = 0u32;
-        for bin in self.bins.iter_mut() {
-            bin.start = places;
-            bin.room = bin.length;
-            bin.length = 0;
-            places = places.saturating_add(u32::from(bin.room));
-        }
-        places as usize
     }
 
     /// Puts a clause into the least full bin of its literals, where it is in none yet.
@@ -191,7 +162,7 @@ impl Bins {
             }
             *is_connected = true;
         }
-        let least = self.least_full(lits);
+        let least = least_full(&self.bins, lits);
         if let Some(bin) = self.bins.get_mut(least) {
             if bin.length == bin.room {
                 make_room(bin, &mut self.references, &mut self.signatures, reference)?;
@@ -206,21 +177,6 @@ impl Bins {
             );
         }
         Ok(())
-    }
-
-    /// The place of the least full bin of the literals; past the last one where all are full.
-    fn least_full(&self, lits: &[Lit]) -> usize {
-        let mut least = MOST_IN_A_BIN;
-        let mut place = usize::MAX;
-        for lit in lits {
-            if let Some(bin) = self.bins.get(lit.index()) {
-                if (bin.length as usize) < least {
-                    least = bin.length as usize;
-                    place = lit.index();
-                }
-            }
-        }
-        place
     }
 
     /// Another clause that is within the marked one, or but for one literal; none where the pass
@@ -262,6 +218,46 @@ impl Bins {
         }
         None
     }
+}
+
+/// The place of the least full bin of the literals; past the last one where all are full.
+fn least_full(bins: &[Bin], lits: &[Lit]) -> usize {
+    let mut least = MOST_IN_A_BIN;
+    let mut place = usize::MAX;
+    for lit in lits {
+        if let Some(bin) = bins.get(lit.index()) {
+            if (bin.length as usize) < least {
+                least = bin.length as usize;
+                place = lit.index();
+            }
+        }
+    }
+    place
+}
+
+/// Counts in the length of each bin, all of which are empty, the clauses that will be put into it.
+fn foresee(bins: &mut [Bin], store: &Store, clauses: &[CRef]) {
+    for reference in clauses {
+        if store.is_live(*reference) {
+            let least = least_full(bins, store.lits(*reference));
+            if let Some(bin) = bins.get_mut(least) {
+                bin.length = bin.length.saturating_add(1);
+            }
+        }
+    }
+}
+
+/// Lays the bins side by side, each with its length as its room, and empty. The answer is how many
+/// places they take.
+fn lay_out(bins: &mut [Bin]) -> usize {
+    let mut places = 0u32;
+    for bin in bins.iter_mut() {
+        bin.start = places;
+        bin.room = bin.length;
+        bin.length = 0;
+        places = places.saturating_add(u32::from(bin.room));
+    }
+    places as usize
 }
 
 /// Gives a bin twice its room, at the end. Where that would lie past 2^32 places, or the bin is
