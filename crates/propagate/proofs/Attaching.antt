@@ -21,7 +21,7 @@ use Rattle.propagate_watches.specs.declared.table.Attachment.TheVariants.{Watchi
 use Rattle.propagate_watches.specs.Pool.{row_at, with_row}
 use Rattle.propagate_watches.specs.Table.{is_kept, IsWatching, attachment_in, grown_table}
 use Rattle.propagate_watches.proofs.Laws.{attachment_set_other, attachment_set_same}
-use Rattle.propagate.specs.Trail.{Assigned}
+use Rattle.propagate_trail.specs.Trail.{Assigned}
 use Rattle.propagate.specs.Watches.{EngineState, IsEngine, IsVariable, is_attached, watches_at}
 use Rattle.propagate.specs.Watches.{count_in, SetsAttached}
 use Rattle.propagate.specs.Fits.{Fits, FitsAttachment, IsWithin, HasBlocker}

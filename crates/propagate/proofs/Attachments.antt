@@ -15,7 +15,7 @@ use Rattle.propagate_watches.specs.declared.table.Attachment.TheVariants.{Satisf
 use Rattle.propagate_watches.specs.declared.table.Attachment.TheVariants.{Watching}
 use Rattle.propagate_watches.specs.Pool.{row_at}
 use Rattle.propagate_watches.specs.Table.{is_kept, attachment_in}
-use Rattle.propagate.specs.Trail.{Assigned}
+use Rattle.propagate_trail.specs.Trail.{Assigned}
 use Rattle.propagate.specs.Watches.{EngineState, is_attached, watches_at, one_at, count_in}
 use Rattle.propagate.specs.Fits.{Fits, FitsAttachment, IsWithin, IsWatch, HasBlocker}
 use Rattle.propagate.proofs.Facts.{some_weaker}

@@ -11,10 +11,10 @@ use Rattle.propagate_watches.specs.declared.table.Attachment.{Attachment}
 use Rattle.propagate_watches.specs.declared.table.Attachment.TheVariants.{Waiting}
 use Rattle.propagate_watches.specs.Table.{is_kept, attachment_in}
 use Rattle.propagate_watches.proofs.Laws.{attachment_set_other, attachment_set_same}
-use Rattle.propagate.specs.Trail.{Assigned, is_decision}
+use Rattle.propagate_trail.specs.Trail.{Assigned, is_decision}
 use Rattle.propagate.specs.Watches.{EngineState, is_attached}
 use Rattle.propagate.specs.Steps.{Continues, GoesOn, with_trail}
-use Rattle.propagate.proofs.Trails.{made}
+use Rattle.propagate_trail.proofs.Laws.{made}
 use Rattle.propagate.proofs.Attachments.{with_watches}
 use Rattle.propagate.proofs.Fitting.{with_progress}
 use Rattle.propagate.proofs.Attaching.{kept_within}

@@ -7,7 +7,7 @@ use Rattle.cnf.specs.Refute.{Clauses}
 use Rattle.cnf.proofs.Laws.{all_weaker}
 use Rattle.clauses.specs.Slots.{clause_at}
 use Rattle.propagate_watches.specs.Pool.{row_at}
-use Rattle.propagate.specs.Trail.{Assigned, HasReasons, IsJustified}
+use Rattle.propagate_trail.specs.Trail.{Assigned, HasReasons, IsJustified}
 use Rattle.propagate.specs.Watches.{is_attached}
 use Rattle.propagate.specs.Fits.{FitsIsLocal, HasBlocker}
 use Rattle.propagate.proofs.Facts.{some_weaker}

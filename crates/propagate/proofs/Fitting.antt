@@ -15,13 +15,13 @@ use Rattle.propagate_watches.specs.declared.table.Attachment.TheVariants.{Detach
 use Rattle.propagate_watches.specs.declared.table.Attachment.TheVariants.{Satisfied}
 use Rattle.propagate_watches.specs.declared.table.Attachment.TheVariants.{Watching}
 use Rattle.propagate_watches.specs.Table.{attachment_in}
-use Rattle.propagate.specs.Trail.{Assigned, literals_of, depth_of, kept_to, HasReasons, IsJustified}
+use Rattle.propagate_trail.specs.Trail.{Assigned, literals_of, depth_of, kept_to, HasReasons}
+use Rattle.propagate_trail.specs.Trail.{IsJustified}
 use Rattle.propagate.specs.Watches.{EngineState, is_attached}
 use Rattle.propagate.specs.Fits.{Fits, FitsAttachment, HasTrue, IsCovered, StaysCovered, IsWatch}
-use Rattle.propagate.proofs.Levels.{kept_all, kept_push, depth_grows}
-use Rattle.propagate.proofs.Kept.{contains_front, contains_take_more, kept_prefix, kept_kept}
-use Rattle.propagate.proofs.Kept.{kept_above}
-use Rattle.propagate.proofs.Reasons.{reasons_front, reasons_push}
+use Rattle.propagate_trail.proofs.Laws.{kept_all, kept_push, depth_grows, contains_front}
+use Rattle.propagate_trail.proofs.Laws.{contains_take_more, kept_prefix, kept_kept, kept_above}
+use Rattle.propagate_trail.proofs.Laws.{reasons_front, reasons_push}
 
 pub true_more : (c A B : List Literal) → Within A B → HasTrue c A → HasTrue c B
 true_more c A B f h = (h.0, h.1, f h.0 h.2)

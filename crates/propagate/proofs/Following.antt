@@ -15,11 +15,11 @@ use Rattle.propagate_watches.specs.declared.table.Attachment.{Attachment}
 use Rattle.propagate_watches.specs.declared.table.Attachment.TheVariants.{Detached, Waiting}
 use Rattle.propagate_watches.specs.declared.table.Attachment.TheVariants.{Satisfied, Watching}
 use Rattle.propagate_watches.specs.Table.{attachment_in}
-use Rattle.propagate.specs.Trail.{Assigned, literals_of, is_decision, HasReasons, IsJustified}
+use Rattle.propagate_trail.specs.Trail.{Assigned, literals_of, is_decision, HasReasons, IsJustified}
 use Rattle.propagate.specs.Watches.{EngineState, is_attached}
 use Rattle.propagate.specs.Fits.{Fits, FitsAttachment, FollowByUnits, GrowsByUnits}
 use Rattle.propagate.specs.Steps.{GoesOn}
-use Rattle.propagate.proofs.Reasons.{same_swap}
+use Rattle.propagate_trail.proofs.Laws.{same_swap}
 
 reasons_back : (at : Clauses) (A : List Literal) (T U : List Assigned) → HasReasons at A (T ++ U)
     → (B : List Literal) × HaveSame B (literals_of T ++ A) × HasReasons at B U

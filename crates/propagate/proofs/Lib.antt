@@ -1,17 +1,9 @@
 mod Sparing
 mod Facts
-mod Literals
-mod Trails
-mod Undoing
-mod Tables
-mod Levels
 mod Pools
 mod Searches
 mod FitsLaws
-mod Kept
-mod Reasons
 mod Fitting
-mod VarTables
 mod Beside
 mod Attachments
 mod Attaching
@@ -22,7 +14,6 @@ mod Completing
 mod Watching
 mod Waiting
 mod Following
-mod Naming
 mod Renamed
 mod Compacting
 mod Added

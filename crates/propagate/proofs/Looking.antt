@@ -14,11 +14,10 @@ use Rattle.clauses.specs.Slots.{Slots, clause_at}
 use Rattle.propagate_watches.specs.declared.table.Attachment.{Attachment}
 use Rattle.propagate_watches.specs.declared.table.Attachment.TheVariants.{Waiting}
 use Rattle.propagate_watches.specs.Table.{is_kept, attachment_in, IsWatchedBy}
-use Rattle.propagate.specs.Trail.{Assigned, literals_of, value_in, HasReasons}
+use Rattle.propagate_trail.specs.Trail.{Assigned, literals_of, value_in, HasReasons}
 use Rattle.propagate.specs.Watches.{EngineState, IsVariable, is_attached}
 use Rattle.propagate.specs.Fits.{Fits, IsWithin}
-use Rattle.propagate.proofs.Trails.{open_at}
-use Rattle.propagate.proofs.Reasons.{no_opposites}
+use Rattle.propagate_trail.proofs.Laws.{open_at, no_opposites}
 
 pub within_variable : (v : ℕ) (c : List Literal) (l : Literal) → IsWithin v c
     → contains_literal l c ≡ true → IsVariable v l

@@ -21,13 +21,13 @@ use Rattle.propagate_watches.specs.Pool.{row_at}
 use Rattle.propagate_watches.specs.Table.{IsWatching, is_kept, attachment_in}
 use Rattle.propagate_watches.specs.Renames.{IsMoved, named, named_entry, named_rows}
 use Rattle.propagate_watches.proofs.Laws.{moved_to, moved_from, named_listed}
-use Rattle.propagate.specs.Trail.{Assigned, TrailState, HasReasons, IsJustified}
+use Rattle.propagate_trail.specs.Trail.{Assigned, TrailState, HasReasons, IsJustified}
 use Rattle.propagate.specs.Watches.{EngineState, engine_state, IsEngine, is_attached, watches_at}
 use Rattle.propagate.specs.Watches.{count_in, one_at}
 use Rattle.propagate.specs.Fits.{FitsAttachment, FitsMoved, MovesAttached, HasBlocker, IsWatch}
-use Rattle.propagate.specs.Renames.{named_reason, named_trail}
+use Rattle.propagate_trail.specs.Renames.{named_reason, named_trail}
 use Rattle.propagate.proofs.Attachments.{count-cons, one-same, one-other}
-use Rattle.propagate.proofs.Naming.{literals_named, kept_named, named_assigned}
+use Rattle.propagate_trail.proofs.Laws.{literals_named, kept_named, named_assigned}
 use Rattle.propagate.proofs.Facts.{some_weaker}
 
 -- the engine with this table, under new names

@@ -11,7 +11,7 @@ use Rattle.propagate_watches.specs.declared.table.Attachment.TheVariants.{Detach
 use Rattle.propagate_watches.specs.Pool.{row_at}
 use Rattle.propagate_watches.specs.Table.{is_kept, attachment_in}
 use Rattle.propagate_watches.specs.Doomed.{is_doomed, spared_entries, spared_rows, IsSpared}
-use Rattle.propagate.specs.Trail.{Assigned}
+use Rattle.propagate_trail.specs.Trail.{Assigned}
 use Rattle.propagate.specs.Watches.{EngineState, is_attached, watches_at, count_in}
 use Rattle.propagate.specs.Fits.{Fits, FitsAttachment, HasBlocker}
 use Rattle.propagate.specs.Doomed.{spared}

@@ -12,6 +12,7 @@ use Rattle.cnf.specs.Literal.{Literal, negation, index_of, literal_eq}
 use Rattle.cnf.specs.Clause.{contains_literal}
 use Rattle.cnf.specs.Refute.{IsUnit}
 use Rattle.cnf.proofs.Laws.{index_same, all_weaker, all_left, all_right, all_append}
+use Rattle.cnf.proofs.Laws.{literal_eq-refl}
 use Rattle.clauses.specs.Slots.{Slots, clause_at}
 use Rattle.propagate_watches.specs.declared.pool.Entry.{Entry}
 use Rattle.propagate_watches.specs.declared.table.Attachment.{Attachment}
@@ -23,16 +24,14 @@ use Rattle.propagate_watches.specs.Pool.{row_at, with_row, closed_row}
 use Rattle.propagate_watches.specs.Table.{is_kept, attachment_in, rest_in, IsWatching, rest_after}
 use Rattle.propagate_watches.specs.Table.{IsWatchedBy}
 use Rattle.propagate_watches.proofs.Laws.{attachment_set_other, attachment_set_same}
-use Rattle.propagate.specs.Trail.{Assigned, literals_of, kept_to, value_in}
+use Rattle.propagate_trail.specs.Trail.{Assigned, literals_of, kept_to, value_in}
 use Rattle.propagate.specs.Watches.{EngineState, IsEngine, IsVariable, is_attached, watches_at}
 use Rattle.propagate.specs.Watches.{one_at, count_in}
 use Rattle.propagate.specs.Fits.{Fits, FitsAttachment, IsRest, IsWatch, HasBlocker}
 use Rattle.propagate.specs.Steps.{with_rows, with_trail, closed, entry_of, moved, InRow, IsWatched}
 use Rattle.propagate.specs.Steps.{IsTrueIn, IsTrueEntry, MayBeWatched}
-use Rattle.propagate.proofs.Literals.{index-within, literal_eq-self}
-use Rattle.propagate.proofs.Trails.{made}
-use Rattle.propagate.proofs.Kept.{contains_take, contains_front, contains_back, kept_prefix}
-use Rattle.propagate.proofs.Kept.{literals-append}
+use Rattle.propagate_trail.proofs.Laws.{index-within, made, contains_take, contains_front}
+use Rattle.propagate_trail.proofs.Laws.{contains_back, kept_prefix, literals-append}
 use Rattle.propagate.proofs.Fitting.{fits_grow, more_literals, true_more}
 use Rattle.propagate.proofs.Attachments.{with_watches, attachment_same, fits_attachment}
 use Rattle.propagate.proofs.Attachments.{blockers_kept, count-cons, one-same, one-other}
@@ -660,4 +659,4 @@ pub last_true : (T : List Assigned) (a : Assigned)
     → contains_literal a.literal (literals_of (T ++ a ∷ [])) ≡ true
 last_true T a = subst (λ X. contains_literal a.literal X ≡ true) (sym (literals-append T (a ∷ [])))
     (contains_back a.literal (literals_of T) (a.literal ∷ [])
-    (or_left (literal_eq a.literal a.literal) false (literal_eq-self a.literal)))
+    (or_left (literal_eq a.literal a.literal) false (literal_eq-refl a.literal)))

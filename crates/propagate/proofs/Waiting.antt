@@ -8,11 +8,11 @@ use Rattle.cnf.specs.Clause.{contains_literal}
 use Rattle.clauses.specs.Slots.{Slots}
 use Rattle.propagate_watches.specs.declared.table.Attachment.TheVariants.{Waiting}
 use Rattle.propagate_watches.specs.Table.{attachment_in}
-use Rattle.propagate.specs.Trail.{literals_of}
+use Rattle.propagate_trail.specs.Trail.{literals_of}
 use Rattle.propagate.specs.Watches.{EngineState}
 use Rattle.propagate.specs.Fits.{Fits}
 use Rattle.propagate.specs.Steps.{Continues, IsTrueWaiting, AreTrueWaiting, is_waiting}
-use Rattle.propagate.proofs.Kept.{literals-append, contains_front}
+use Rattle.propagate_trail.proofs.Laws.{literals-append, contains_front}
 use Rattle.propagate.proofs.Fitting.{true_more}
 use Rattle.propagate.proofs.Attachments.{with_watches, attachment_same}
 use Rattle.propagate.proofs.Attaching.{Contains-filter}

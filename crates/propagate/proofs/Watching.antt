@@ -18,17 +18,15 @@ use Rattle.propagate_watches.specs.declared.table.Attachment.TheVariants.{Watchi
 use Rattle.propagate_watches.specs.Pool.{row_at, with_row}
 use Rattle.propagate_watches.specs.Table.{is_kept, attachment_in, grown_table, IsWatching}
 use Rattle.propagate_watches.proofs.Laws.{attachment_set_other, attachment_set_same}
-use Rattle.propagate.specs.Trail.{literals_of, depth_of, level_in, value_in, kept_to}
+use Rattle.propagate_trail.specs.Trail.{literals_of, depth_of, level_in, value_in, kept_to}
 use Rattle.propagate.specs.Watches.{EngineState, IsEngine, is_attached, watches_at, one_at}
 use Rattle.propagate.specs.Watches.{count_in}
 use Rattle.propagate.specs.Fits.{Fits, FitsAttachment, IsRest, IsWatch, IsWithin, HasBlocker}
 use Rattle.propagate.specs.Fits.{HasTrue}
 use Rattle.propagate.specs.Steps.{entry_of, pushed, watched, with_attachment, with_trail, Continues}
 use Rattle.propagate.specs.Steps.{IsMadeTrue, with_room}
-use Rattle.propagate.proofs.Literals.{index-within}
-use Rattle.propagate.proofs.Levels.{kept_all}
-use Rattle.propagate.proofs.Kept.{contains_take, in_kept}
-use Rattle.propagate.proofs.Reasons.{no_opposites}
+use Rattle.propagate_trail.proofs.Laws.{index-within, kept_all, contains_take, in_kept}
+use Rattle.propagate_trail.proofs.Laws.{no_opposites, made}
 use Rattle.propagate.proofs.Attachments.{fits_attachment, blockers_kept, count-cons, one-same}
 use Rattle.propagate.proofs.Attachments.{one-other, watch_same, with_watches}
 use Rattle.propagate.proofs.Attaching.{kept_within, fits_attach, engine_change, engine_set}
@@ -38,7 +36,6 @@ use Rattle.propagate.proofs.Looking.{within_variable, unit_left, one_left, true_
 use Rattle.propagate.proofs.Stepping.{count-append, open_watch, last_true}
 use Rattle.propagate.proofs.Continuing.{continues_unit, continues_same}
 use Rattle.propagate.proofs.Fitting.{fits_grow}
-use Rattle.propagate.proofs.Trails.{made}
 
 -- a literal of the current level, beside a true one
 pub level_watch : (e : EngineState) (c : List Literal) (one other : Literal)

@@ -1,6 +1,6 @@
 -- How an engine and a store belong together, and what propagation does.
-use Rattle.std.specs.Prelude.{◌≡◌, ◌≢◌, ℕ, ◌<◌, ◌≤◌, Bool, true, List, [], ◌∷◌, ◌++◌, take, map}
-use Rattle.std.specs.Prelude.{Option, Some, None, All, IfSome, Contains, ⊤, ◌⊎◌}
+use Rattle.std.specs.Prelude.{◌≡◌, ◌≢◌, ℕ, ◌<◌, ◌≤◌, Bool, true, List, [], ◌∷◌, ◌++◌, take}
+use Rattle.std.specs.Prelude.{Some, All, IfSome, Contains, ⊤, ◌⊎◌}
 use Rattle.std.specs.List.{AllByRecursion}
 use Rattle.cnf.specs.Literal.{Literal, negation}
 use Rattle.cnf.specs.Clause.{contains_literal, greatest_variable}
@@ -15,8 +15,9 @@ use Rattle.propagate_watches.specs.declared.table.Attachment.TheVariants.{Watchi
 use Rattle.propagate_watches.specs.declared.table.Rest.{Rest}
 use Rattle.propagate_watches.specs.declared.table.Rest.TheVariants.{Nothing, One, Many}
 use Rattle.propagate_watches.specs.Table.{attachment_in}
-use Rattle.propagate.specs.Trail.{Assigned, literals_of, kept_to, HasReasons}
+use Rattle.propagate_trail.specs.Trail.{Assigned, literals_of, kept_to, HasReasons}
 use Rattle.propagate.specs.Watches.{EngineState, is_attached, watches_at, count_in}
+pub use Rattle.propagate_trail.specs.Renames.{renamed_reason, renamed_trail}
 
 -- some literal of the clause is true
 abbrev pub HasTrue : List Literal → List Literal → Type 0
@@ -116,14 +117,6 @@ IsComplete slots attached trail = (r : ℕ) (c : List Literal) → attached r �
 pub record MovesAttached (old new : EngineState) (moves : Renaming) : Type 0 where
   pub to : (r q : ℕ) → renamed moves r ≡ Some q → is_attached new q ≡ is_attached old r
   pub from : (q : ℕ) → is_attached new q ≡ true → (r : ℕ) × (renamed moves r ≡ Some q)
-
-abbrev pub renamed_reason : Renaming → Option ℕ → Option ℕ
-renamed_reason moves None = None
-renamed_reason moves (Some r) = renamed moves r
-
-abbrev pub renamed_trail : Renaming → List Assigned → List Assigned
-renamed_trail moves trail =
-    map (λ a. record { literal = a.literal; reason = renamed_reason moves a.reason }) trail
 
 -- what fitted the store before its clauses moved fits it afterwards
 abbrev pub FitsMoved : EngineState → EngineState → Renaming → Type 0

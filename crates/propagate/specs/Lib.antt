@@ -1,7 +1,4 @@
 pub mod Trail
-pub mod Tables
-pub mod Vardata
-pub mod Truth
 pub mod Watches
 pub mod Doomed
 pub mod Fits

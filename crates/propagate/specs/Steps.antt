@@ -17,7 +17,7 @@ use Rattle.propagate_watches.specs.declared.table.Rest.{Rest}
 use Rattle.propagate_watches.specs.Pool.{row_at, with_row, closed_row}
 use Rattle.propagate_watches.specs.Table.{attachment_in, rest_in, IsWatchedBy, rest_after}
 use Rattle.propagate_watches.specs.Table.{grown_table}
-use Rattle.propagate.specs.Trail.{Assigned, literals_of, is_decision, value_in}
+use Rattle.propagate_trail.specs.Trail.{Assigned, literals_of, is_decision, value_in}
 use Rattle.propagate.specs.Watches.{EngineState, SameAttached, IsVariable, is_attached}
 use Rattle.propagate.specs.Fits.{Fits, HasTrue, IsRest, IsWithin, IsFalseClause, IsComplete}
 

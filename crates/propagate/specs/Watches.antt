@@ -1,5 +1,5 @@
 -- How an engine keeps the clauses that are attached to it.
-use Rattle.std.specs.Prelude.{◌≡◌, ℕ, ◌*◌, ◌+◌, ◌<◌, ◌≤◌, Bool, false, List, [], length}
+use Rattle.std.specs.Prelude.{◌≡◌, ℕ, ◌*◌, ◌+◌, ◌≤◌, Bool, false, List, [], length}
 use Rattle.std.specs.Prelude.{◌==◌, if◌then◌else◌, count_by}
 use Rattle.cnf.specs.Literal.{Literal, index_of}
 use Rattle.propagate_watches.specs.declared.pool.Entry.{Entry}
@@ -8,7 +8,8 @@ use Rattle.propagate_watches.specs.declared.table.Attachment.TheVariants.{Detach
 use Rattle.propagate_watches.specs.declared.table.Attachment.TheVariants.{Satisfied}
 use Rattle.propagate_watches.specs.declared.table.Attachment.TheVariants.{Watching}
 use Rattle.propagate_watches.specs.Table.{attachment_in, is_kept, IsWatching}
-use Rattle.propagate.specs.Trail.{Assigned, TrailState}
+use Rattle.propagate_trail.specs.Trail.{Assigned, TrailState}
+pub use Rattle.propagate_trail.specs.Trail.{IsVariable}
 
 pub record Watches : Type 0 where
   -- for each reference, whether it is attached, and its two watches
@@ -63,9 +64,6 @@ SameFrame old new = (new.variables ≡ old.variables) × (new.failed ≡ old.fai
 -- over so many variables, with nothing true, and it has not failed
 abbrev pub IsBare : ℕ → EngineState → Type 0
 IsBare variables e = (e.variables ≡ variables) × (e.trail ≡ []) × (e.failed ≡ false)
-
-abbrev pub IsVariable : ℕ → Literal → Type 0
-IsVariable variables l = (0 < l.variable) × (l.variable ≤ variables)
 
 -- how often the row has the clause
 abbrev pub count_in : ℕ → List Entry → ℕ

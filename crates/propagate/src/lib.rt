@@ -1,7 +1,7 @@
 //! Unit propagation over the clauses of a store.
 //!
-//! `engine` is what other crates call. `engine/queue.rt` is the hot loop, and `trail`, `truth` and
-//! `vardata` the tables that it reads.
+//! `engine` is what other crates call, and `engine/queue.rt` the hot loop. It reads the trail of
+//! `propagate_trail`, and the rows and the table of `propagate_watches`.
 #![tactic(auto)]
 
 pub use propagate_watches::{pool, table};
@@ -9,6 +9,3 @@ pub use propagate_watches::{pool, table};
 pub mod engine;
 mod moved;
 mod search;
-mod trail;
-mod truth;
-mod vardata;

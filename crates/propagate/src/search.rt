@@ -2,11 +2,11 @@
 ghost use Rattle.std.specs.Prelude.{◌≡◌, ◌≢◌, ◌≤◌, true, false, Some, None, All, IfSome};
 ghost use Rattle.std.specs.Prelude.{MatchOption, ◌⊎◌};
 ghost use Rattle.cnf.specs.Clause.{contains_literal};
-ghost use Rattle.propagate.specs.Trail.{value_in, level_in};
+ghost use Rattle.propagate_trail.specs.Trail.{value_in, level_in};
 ghost use Rattle.propagate.specs.Fits.{IsRest};
 
-use crate::trail::Trail;
 use cnf::types::Lit;
+use propagate_trail::trail::Trail;
 use propagate_watches::table::Rest;
 
 /// The first literal that is not false; none where all are.

@@ -25,8 +25,8 @@ impl Engine {
             self.old.trail }
         ensures detached { (r : ℕ) → is_attached self.new r
             ≡ (is_attached self.old r && not (is_doomed doomed.now r)) }
-        ensures frame { (self.new.trail ≡ self.old.trail) × (self.new.variables ≡ self.old.variables)
-            × (self.new.failed ≡ self.old.failed) }
+        ensures frame { (self.new.trail ≡ self.old.trail)
+            × (self.new.variables ≡ self.old.variables) × (self.new.failed ≡ self.old.failed) }
         ensures fits { StaysFit self.old self.new }
     {
         self.table.drop_doomed(doomed);

@@ -22,7 +22,7 @@ ghost use Rattle.cnf.specs.Literal.{Literal, negation, index_of};
 ghost use Rattle.cnf.specs.Clause.{contains_literal};
 ghost use Rattle.propagate_watches.specs.Pool.{row_at, with_row};
 ghost use Rattle.propagate_watches.specs.Table.{IsWatching, attachment_in, rest_in, IsWatchedBy};
-ghost use Rattle.propagate.specs.Trail.{literals_of};
+ghost use Rattle.propagate_trail.specs.Trail.{literals_of};
 ghost use Rattle.propagate.specs.Watches.{IsEngine, IsVariable};
 ghost use Rattle.propagate.specs.Fits.{Fits};
 ghost use Rattle.propagate.specs.Steps.{Continues, GoesOn, Settles, AreTrueWaiting};

@@ -4,7 +4,7 @@
 ghost use Rattle.std.specs.Prelude.{◌≡◌};
 
 use super::Engine;
-use clauses::store::{CRef, Store};
+use clauses::store::Store;
 use cnf::types::Lit;
 use propagate_watches::pool::Entry;
 use std::alloc::AllocError;
@@ -29,22 +29,12 @@ fn count_first(counts: &mut [u32], lits: &[Lit]) {
     }
 }
 
-/// The first live clause, where there is one.
-fn first_live(store: &Store) -> Option<CRef> {
-    for place in 0..store.places() {
-        if let Some(reference) = store.live_at(place) {
-            return Some(reference);
-        }
-    }
-    None
-}
-
 impl Engine {
     /// Gives the rows room for the watches of the store's clauses.
     pub(super) fn make_rooms(&mut self, store: &Store) -> Result<(), AllocError>
         ensures { self.new ≡ self.old }
     {
-        let Some(reference) = first_live(store) else {
+        let Some(reference) = (0..store.places()).find_map(|place| store.live_at(place)) else {
             return Ok(());
         };
         let counts = count_watches(store, self.pool.rows())?;

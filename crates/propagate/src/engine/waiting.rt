@@ -2,15 +2,15 @@
 //
 // A clause that was attached without two literals that are not false waits until the next
 // propagation, which may find it unit or false. Where two are not false by then it watches these.
-// Else the literal that is left is made true, and the clause goes on to wait until it finds a second
-// watch, a literal of the current level, or is dropped as satisfied at level 0.
+// Else the literal that is left is made true, and the clause goes on to wait until it finds a
+// second watch, a literal of the current level, or is dropped as satisfied at level 0.
 ghost use Rattle.std.specs.Prelude.{◌≡◌, ◌<◌, ◌≤◌, Some, true, length, filter, slice_get};
 ghost use Rattle.std.specs.Prelude.{IfOk, IfSome, IfNone, OnOk, OnErr};
 ghost use Rattle.cnf.specs.Clause.{contains_literal};
 ghost use Rattle.clauses.specs.Slots.{clause_at};
 ghost use Rattle.propagate_watches.specs.Table.{attachment_in};
 ghost use Rattle.propagate_watches.specs.declared.table.Rest.{Rest};
-ghost use Rattle.propagate.specs.Trail.{literals_of};
+ghost use Rattle.propagate_trail.specs.Trail.{literals_of};
 ghost use Rattle.propagate.specs.Watches.{IsVariable, is_attached};
 ghost use Rattle.propagate.specs.Fits.{Fits, IsRest};
 ghost use Rattle.propagate.specs.Steps.{GoesOn, AreTrueWaiting, FindsConflict, WaitSays};

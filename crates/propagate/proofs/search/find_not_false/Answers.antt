@@ -2,7 +2,7 @@ use Rattle.std.proofs.Common.{◌≡◌, false, Some, subst}
 use Rattle.std.specs.Prelude.{All}
 use Rattle.cnf.specs.Literal.{Literal}
 use Rattle.std.proofs.lemmas.List.{take_all}
-use Rattle.propagate.specs.Trail.{value_in}
+use Rattle.propagate_trail.specs.Trail.{value_in}
 use Rattle.propagate.proofs.Searches.{all_read}
 use Rattle.propagate.proofs.search.find_not_false.Goals as goal
 

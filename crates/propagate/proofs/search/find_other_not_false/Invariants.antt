@@ -1,6 +1,6 @@
 use Rattle.std.proofs.Common.{◌≡◌, false, Some, take, ◌⊎◌}
 use Rattle.std.specs.Prelude.{All}
-use Rattle.propagate.specs.Trail.{value_in}
+use Rattle.propagate_trail.specs.Trail.{value_in}
 use Rattle.propagate.proofs.search.find_other_not_false.Given as goal
 
 abbrev pub invariant-loop-lit : goal.invariant-loop-lit

@@ -1,5 +1,5 @@
 use Rattle.std.proofs.Common.{sym, subst, arith}
-use Rattle.propagate.specs.Trail.{TrailState}
+use Rattle.propagate_trail.specs.Trail.{TrailState}
 use Rattle.propagate.specs.Watches.{engine_state}
 use Rattle.propagate.specs.Fits.{Fits}
 use Rattle.propagate.proofs.Fitting.{fits_backtrack}

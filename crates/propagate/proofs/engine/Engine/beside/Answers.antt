@@ -5,7 +5,7 @@ use Rattle.std.proofs.lemmas.Bool.{true≢false}
 use Rattle.cnf.specs.Literal.{Literal, negation}
 use Rattle.cnf.specs.Clause.{contains_literal}
 use Rattle.propagate_watches.specs.declared.table.Rest.TheVariants.{Nothing, One}
-use Rattle.propagate.specs.Trail.{literals_of, value_in}
+use Rattle.propagate_trail.specs.Trail.{literals_of, value_in}
 use Rattle.propagate.specs.Watches.{EngineState}
 use Rattle.propagate.proofs.Looking.{within_variable, within_all, false_value}
 use Rattle.propagate.proofs.Beside.{rest_known, nothing_left, one_false, search_left}

@@ -1,8 +1,8 @@
 use Rattle.std.proofs.Common.{◌≡◌, None, sym, ap, subst, ◌∙◌, arith}
-use Rattle.propagate.specs.Trail.{TrailState, value_in}
+use Rattle.propagate_trail.specs.Trail.{TrailState, value_in}
 use Rattle.propagate.specs.Watches.{EngineState, engine_state}
 use Rattle.propagate.specs.Fits.{Fits}
-use Rattle.propagate.proofs.Trails.{open_at, made}
+use Rattle.propagate_trail.proofs.Laws.{open_at, made}
 use Rattle.propagate.proofs.Fitting.{fits_grow}
 use Rattle.propagate.proofs.engine.Engine.decide.Goals as goal
 

@@ -6,10 +6,10 @@ use Rattle.propagate_watches.specs.declared.table.Attachment.TheVariants.{Detach
 use Rattle.propagate_watches.specs.declared.table.Attachment.TheVariants.{Satisfied}
 use Rattle.propagate_watches.specs.Table.{IsWatching, attachment_in}
 use Rattle.propagate_watches.specs.Pool.{row_at}
-use Rattle.propagate.specs.Trail.{Assigned}
+use Rattle.propagate_trail.specs.Trail.{Assigned}
 use Rattle.propagate.specs.Watches.{EngineState, IsVariable, engine_state, is_attached, watches_at}
 use Rattle.propagate.specs.Fits.{Fits}
-use Rattle.propagate.proofs.Literals.{index-within}
+use Rattle.propagate_trail.proofs.Laws.{index-within}
 use Rattle.propagate.proofs.Attaching.{fits_detach_watching, fits_detach_other, without}
 use Rattle.propagate.proofs.Attaching.{without_kept, without_clause, kept_within, engine_set}
 use Rattle.propagate.proofs.Attaching.{watching_is}

@@ -1,7 +1,7 @@
 use Rattle.std.proofs.Common.{◌≡◌, false, sym, subst}
 use Rattle.std.specs.Prelude.{All, IfSome}
 use Rattle.propagate_watches.specs.Doomed.{is_doomed}
-use Rattle.propagate.specs.Trail.{Assigned}
+use Rattle.propagate_trail.specs.Trail.{Assigned}
 use Rattle.propagate.specs.Watches.{EngineState, engine_state}
 use Rattle.propagate.specs.Fits.{Fits}
 use Rattle.propagate.proofs.Sparing.{fits_spared}

@@ -2,7 +2,7 @@ use Rattle.std.proofs.Common.{◌≡◌, true, false, None, Some, sym, ap, subst
 use Rattle.std.proofs.lemmas.Bool.{true≢false}
 use Rattle.cnf.specs.Clause.{contains_literal}
 use Rattle.propagate_watches.specs.Table.{attachment_in, IsWatchedBy}
-use Rattle.propagate.specs.Trail.{value_in}
+use Rattle.propagate_trail.specs.Trail.{value_in}
 use Rattle.propagate.specs.Watches.{EngineState}
 use Rattle.propagate.proofs.Looking.{within_variable, same_other, open_left, unit_left, false_left}
 use Rattle.propagate.proofs.engine.Engine.look_at.Goals as goal

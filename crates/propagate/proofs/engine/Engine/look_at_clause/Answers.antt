@@ -4,7 +4,7 @@ use Rattle.cnf.specs.Clause.{contains_literal}
 use Rattle.clauses.specs.Slots.{clause_at}
 use Rattle.propagate_watches.specs.declared.table.Attachment.TheVariants.{Watching}
 use Rattle.propagate_watches.specs.Table.{is_kept}
-use Rattle.propagate.specs.Trail.{literals_of, value_in}
+use Rattle.propagate_trail.specs.Trail.{literals_of, value_in}
 use Rattle.propagate.specs.Watches.{EngineState, IsEngine, IsVariable}
 use Rattle.propagate.specs.Fits.{Fits}
 use Rattle.propagate.specs.Steps.{Continues, GoesOn}

@@ -4,7 +4,7 @@ use Rattle.std.specs.List.{AllByRecursion}
 use Rattle.std.proofs.lemmas.List.{length-append}
 use Rattle.cnf.specs.Literal.{index_of}
 use Rattle.propagate_watches.specs.Pool.{row_at}
-use Rattle.propagate.specs.Trail.{literals_of}
+use Rattle.propagate_trail.specs.Trail.{literals_of}
 use Rattle.propagate.specs.Fits.{Fits}
 use Rattle.propagate.specs.Steps.{Continues, AreTrueWaiting, IsTrueEntry}
 use Rattle.propagate.proofs.Continuing.{goes_on_then, continues_progress}

@@ -1,8 +1,8 @@
 use Rattle.std.proofs.Common.{◌≡◌, ◌<◌, List, Some, length, get_or, sym, ap, ◌∙◌, arith}
 use Rattle.cnf.specs.Literal.{Literal}
 use Rattle.std.proofs.lemmas.List.{length-map}
-use Rattle.propagate.specs.Trail.{Assigned, literals_of, level_in, depth_of}
-use Rattle.propagate.proofs.Kept.{past_kept}
+use Rattle.propagate_trail.specs.Trail.{Assigned, literals_of, level_in, depth_of}
+use Rattle.propagate_trail.proofs.Laws.{past_kept}
 use Rattle.propagate.proofs.Searches.{level_from_test}
 use Rattle.propagate.proofs.Fitting.{fits_settled}
 use Rattle.propagate.proofs.engine.Engine.promote.Goals as goal

@@ -6,10 +6,10 @@ use Rattle.std.proofs.lemmas.List.{with_items_is}
 use Rattle.std.proofs.lemmas.List.Elements.{recursion_from_All}
 use Rattle.clauses.specs.Slots.{Renaming, renamed}
 use Rattle.propagate_watches.specs.Renames.{IsMoved, named}
-use Rattle.propagate.specs.Trail.{Assigned, TrailState}
+use Rattle.propagate_trail.specs.Trail.{Assigned, TrailState}
 use Rattle.propagate.specs.Watches.{EngineState}
-use Rattle.propagate.specs.Renames.{named_trail}
-use Rattle.propagate.proofs.Naming.{trail_listed}
+use Rattle.propagate_trail.specs.Renames.{named_trail}
+use Rattle.propagate_trail.proofs.Laws.{trail_listed}
 use Rattle.propagate.proofs.Renamed.{all_renamed}
 use Rattle.propagate.proofs.engine.Engine.rename.Goals as goal
 

@@ -1,5 +1,5 @@
 use Rattle.std.proofs.Common.{◌≡◌, Some, true, subst, ap, arith}
-use Rattle.propagate.specs.Trail.{value_in}
+use Rattle.propagate_trail.specs.Trail.{value_in}
 use Rattle.propagate.specs.Watches.{EngineState}
 use Rattle.propagate.proofs.Stepping.{blocker_within, stay_row, true_blocker}
 use Rattle.propagate.proofs.engine.Engine.skip_true.Goals as goal

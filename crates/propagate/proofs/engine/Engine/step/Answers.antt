@@ -7,7 +7,7 @@ use Rattle.propagate_watches.specs.Table.{attachment_in}
 use Rattle.propagate.specs.Watches.{EngineState, IsVariable, is_attached}
 use Rattle.propagate.specs.Steps.{InRow, IsTrueIn, Continues, with_rows, with_trail}
 use Rattle.propagate.specs.Steps.{entry_of}
-use Rattle.propagate.proofs.Trails.{made}
+use Rattle.propagate_trail.proofs.Laws.{made}
 use Rattle.propagate.proofs.Looking.{within_variable, same_other}
 use Rattle.propagate.proofs.Stepping.{keep_row, imply_row, rewatch_row}
 use Rattle.propagate.proofs.Stepping.{kept_by, moved_row, engine_trail, last_true}

@@ -5,8 +5,8 @@ use Rattle.cnf.specs.Clause.{contains_literal}
 use Rattle.cnf.specs.Literal.{Literal, negation}
 use Rattle.clauses.specs.Slots.{clause_at}
 use Rattle.propagate_watches.specs.declared.table.Attachment.TheVariants.{Watching}
-use Rattle.propagate.specs.Trail.{Assigned, literals_of, value_in}
-use Rattle.propagate.specs.Watches.{EngineState, IsEngine, IsVariable, SetsAttached}
+use Rattle.propagate_trail.specs.Trail.{Assigned, literals_of, value_in}
+use Rattle.propagate.specs.Watches.{EngineState, IsEngine, SetsAttached}
 use Rattle.propagate.specs.Fits.{Fits, IsWithin}
 use Rattle.propagate.specs.Steps.{entry_of, pushed}
 use Rattle.propagate.proofs.Attaching.{fits_attach, sets_kept}
@@ -92,7 +92,8 @@ pub returns-clause-fits : goal.returns-clause-fits
 returns-clause-fits c =
     let e = c.args.self.now in
     let slots = c.args.store.now.slots in
-    let within = subst (λ o. IfSome o (IsWithin e.variables)) c.lits-lits.ensures c.requires.small in
+    let within = subst (λ o. IfSome o (IsWithin e.variables)) c.lits-lits.ensures
+    c.requires.small in
     subst (λ x. Fits x slots) (sym c.in_ok-enlist.ensures.ok)
     (fits_attach e slots c.args.reference c.lits-lits.result.now c.requires.once
     c.lits-lits.ensures within c.requires.fits)

@@ -7,7 +7,7 @@ use Rattle.propagate_watches.specs.Pool.{row_at, with_row}
 use Rattle.propagate.specs.Watches.{EngineState, engine_state}
 use Rattle.propagate.specs.Steps.{entry_of}
 use Rattle.propagate.proofs.Pools.{on_err_at, on_ok_at}
-use Rattle.propagate.proofs.Literals.{index-within}
+use Rattle.propagate_trail.proofs.Laws.{index-within}
 use Rattle.propagate.proofs.Attaching.{engine_set}
 use Rattle.propagate.proofs.Watching.{unpushed}
 use Rattle.propagate.proofs.engine.Engine.watch.Goals as goal

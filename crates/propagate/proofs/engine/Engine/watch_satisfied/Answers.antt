@@ -3,7 +3,7 @@ use Rattle.std.specs.Prelude.{IfSome}
 use Rattle.cnf.specs.Clause.{contains_literal}
 use Rattle.propagate_watches.specs.declared.table.Attachment.TheVariants.{Watching, Satisfied}
 use Rattle.propagate_watches.specs.Table.{is_kept}
-use Rattle.propagate.specs.Trail.{level_in, depth_of}
+use Rattle.propagate_trail.specs.Trail.{level_in, depth_of}
 use Rattle.propagate.specs.Watches.{EngineState, IsEngine}
 use Rattle.propagate.specs.Steps.{GoesOn}
 use Rattle.propagate.proofs.Looking.{waiting_variable, waiting_all}
