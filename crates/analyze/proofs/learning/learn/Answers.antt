@@ -23,28 +23,24 @@ mark_clause-count-requires-clause-named c =
     false_within c.args.engine.now c.args.store.now.slots c.lits.result.now c.requires.can.fits
     conflict.falsified
 
-pub resolve-asserting-requires-clause-above : goal.resolve-asserting-requires-clause-above
-resolve-asserting-requires-clause-above c =
-    start_above c.args.engine.now.trail c.lits.result.now c.args.marks.now
-    c.mark_clause-count.new.marks c.requires.clear c.mark_clause-count.ensures.marked
-
-pub resolve-asserting-requires-clause-counted : goal.resolve-asserting-requires-clause-counted
-resolve-asserting-requires-clause-counted c =
-    let zero = current_clear c.args.engine.now.trail c.args.marks.now c.requires.clear in
-    let n = c.mark_clause-count.ensures.counted in
-    omega arith
-
-pub resolve-asserting-requires-clause-some : goal.resolve-asserting-requires-clause-some
-resolve-asserting-requires-clause-some c =
+pub resolve-asserting-requires : goal.resolve-asserting-requires
+resolve-asserting-requires c =
     let T = c.args.engine.now.trail in
+    let ls = c.lits.result.now in
     let old = c.args.marks.now in
-    let conflict = conflict_is T c.lits.result.now _ c.lits.ensures c.requires.can.falsified in
-    let some =
-    start_some T c.lits.result.now old c.mark_clause-count.new.marks c.requires.clear
-    c.mark_clause-count.ensures.marked c.requires.can.deep conflict in
+    let new = c.mark_clause-count.new.marks in
+    let marked = c.mark_clause-count.ensures.marked in
+    let conflict = conflict_is T ls _ c.lits.ensures c.requires.can.falsified in
+    let some = start_some T ls old new c.requires.clear marked c.requires.can.deep conflict in
     let zero = current_clear T old c.requires.clear in
     let n = c.mark_clause-count.ensures.counted in
-    omega arith
+    record {
+      fits = c.requires.can.fits;
+      above = start_above T ls old new c.requires.clear marked;
+      counted = omega arith;
+      some = omega arith;
+      marking = c.mark_clause-count.ensures.marking;
+    }
 
 pub greatest-back_level-requires : goal.greatest-back_level-requires
 greatest-back_level-requires c =
@@ -86,7 +82,8 @@ returns-clause-learns c =
           (learned_asserting at T M u back reasons reduces.reduced greatest);
       hints = subst (λ x. IsRefutedBy slots T x c.collect.new.hints.items)
           (sym c.in_ok-collect.ensures.lits)
-          (subst (IsRefutedBy slots T (learned_from T M u)) (sym c.in_ok-collect.ensures.hints) refuted);
+          (subst (IsRefutedBy slots T (learned_from T M u)) (sym c.in_ok-collect.ensures.hints)
+          refuted);
       order = record {
         chosen = λ l. resolved_of M l.variable;
         ordered = c.in_ok-collect.ensures.hints;
