@@ -1,13 +1,13 @@
 // Recursive minimisation: a literal is redundant where its reason's literals are of level 0, stand
 // in the clause, were resolved, or are redundant in their turn.
 //
-// It has two halves. `search` only looks. From a literal of the clause it goes back over the reasons
-// along one path at a time. A variable that has no reason, or stands on the trail before all
-// literals of its level in the clause, is not redundant, and neither is then what led to it. What
-// the path leaves is known from then on, so that no reason is read twice, with no recursion and no
-// search of the trail. Nothing rests on what it finds: `drop_redundant` resolves it by its reasons,
-// as any literal of a conflict is, so that the hints are just the reasons that were used. It takes
-// what was found last first, since a variable is found to be redundant after those of its reason.
+// It has two halves. `search` only looks. From a literal of the clause it goes back over the
+// reasons along one path at a time. A variable that has no reason, or stands on the trail before
+// all literals of its level in the clause, is not redundant, and neither is then what led to it.
+// What the path leaves is known from then on, so that no reason is read twice, with no recursion
+// and no search of the trail. Nothing rests on what it finds: `drop_redundant` resolves it by its
+// reasons, as any literal of a conflict is, so that the hints are just the reasons that were used.
+// It takes what was found last first, as a variable is found redundant after those of its reason.
 ghost use Rattle.std.specs.Prelude.{◌<◌, ◌≤◌, length};
 ghost use Rattle.propagate.specs.Fits.{Fits};
 ghost use Rattle.analyze.specs.Marks.{IsReduced, Reduces, HasMarks, FitsMarks};
