@@ -1,7 +1,7 @@
 -- The heads of lines in words.
-use Rattle.std.proofs.Common.{◌≡◌, ℕ, zero, suc, ◌+◌, ◌*◌, ◌-◌, ◌/◌, ◌%◌, ◌^◌, ◌<◌, ◌≤◌, List, [], ◌∷◌, ◌++◌}
-use Rattle.std.proofs.Common.{length, map, get_or, refl, sym, ◌∙◌, ap, arith, add-zero, Some}
-use Rattle.std.proofs.Common.{length-append}
+use Rattle.std.proofs.Common.{◌≡◌, ℕ, zero, suc, ◌+◌, ◌*◌, ◌-◌, ◌/◌, ◌%◌, ◌^◌, ◌<◌, ◌≤◌, List, []}
+use Rattle.std.proofs.Common.{◌∷◌, ◌++◌, length, map, get_or, refl, sym, ◌∙◌, ap, arith, add-zero}
+use Rattle.std.proofs.Common.{Some, length-append}
 use Rattle.std.specs.Prelude.{slice_get}
 use Rattle.std.proofs.lemmas.List.{get_or_append_left, get_or_read, get_or-map, length-map}
 use Rattle.std.proofs.lemmas.Option.{slice_get_read}
@@ -124,7 +124,8 @@ module _ (bs : List Ends) (ws : List ℕ) (fs : List FarHead) (whole : List Head
       sym (near_heads-at 0 bs ws k x lt
       ∙ ap (λ c. near_head c (get_or ws k 0)) at
       ∙ ap (near_head base) (sym (get_or_read ws k w lt is 0))) in
-      let s = stands_first (near_heads 0 bs ws) (map far_head fs) whole joined k x (omega arith) e in
+      let s =
+      stands_first (near_heads 0 bs ws) (map far_head fs) whole joined k x (omega arith) e in
       slice_get_read whole (length whole) k x refl s.within s.here
 
   pub far_at : (k : ℕ) (f : FarHead) → length ws ≤ k → k < length whole

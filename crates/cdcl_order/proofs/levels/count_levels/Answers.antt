@@ -10,7 +10,9 @@ use Rattle.cdcl_order.proofs.levels.count_levels.Goals as goal
 use Rattle.cdcl_order.proofs.levels.count_levels.Goals.{After-unwrap_or-level}
 use Rattle.cdcl_order.proofs.levels.count_levels.Goals.{then-level-gt0+then-stamps-level}
 use Rattle.cdcl_order.proofs.levels.count_levels.Goals.{else-level-gt0}
-use Rattle.cdcl_order.proofs.levels.count_levels.Goals.{else-level-gt0-via-then-level-gt0+else-stamps-level}
+use Rattle.cdcl_order.proofs.levels.count_levels.Goals.{
+  else-level-gt0-via-then-level-gt0+else-stamps-level,
+}
 use Rattle.cdcl_order.proofs.levels.count_levels.Goals.{else-level-gt0-via-else-level-gt0}
 
 -- the level that was looked up

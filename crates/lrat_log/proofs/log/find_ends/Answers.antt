@@ -9,5 +9,5 @@ returns-clause-lits c =
 
 pub returns-clause-hints : goal.returns-clause-hints
 returns-clause-hints c =
-    hints_before-last c.args.heads.now c.args.count c.get-head.result c.if-count-eq0.false c.requires
-    c.get-head.ensures
+    hints_before-last c.args.heads.now c.args.count c.get-head.result c.if-count-eq0.false
+    c.requires c.get-head.ensures

@@ -67,8 +67,8 @@ returns-in_err-extend-clause-err c =
       | inr e ↦ ap (λ ss. recent_in s.lits.items ss s.given s.gap) e ∙ recent_same at
     ] in
     on_err c.from_residual.result
-    (ap (λ ls. recent_in ls c.extend.new.spans.items s.given s.gap) c.in_err-extend.ensures.lits_stay
-    ∙ spans ∙ ap (λ (m : Parts). m.recent) c.self.view_is)
+    (ap (λ ls. recent_in ls c.extend.new.spans.items s.given s.gap)
+    c.in_err-extend.ensures.lits_stay ∙ spans ∙ ap (λ (m : Parts). m.recent) c.self.view_is)
 
 pub invariant_of-self-2 : goal.invariant_of-self-2
 invariant_of-self-2 c =
