@@ -2,8 +2,12 @@ use Rattle.std.proofs.Common.{arith, not, ap, ◌∙◌}
 use Rattle.std.proofs.lemmas.Bool.{both_ways}
 use Rattle.lrat_read.proofs.Places.{letter_missing}
 use Rattle.lrat_read.proofs.numbers.after_letter.Goals as goal
-use Rattle.lrat_read.proofs.numbers.after_letter.Goals.{else-first-line-via-then-first-line+then-line-first-eq100+else-is_token_end}
-use Rattle.lrat_read.proofs.numbers.after_letter.Goals.{else-first-line-via-then-first-line+else-line-first-eq100}
+use Rattle.lrat_read.proofs.numbers.after_letter.Goals.{
+  else-first-line-via-then-first-line+then-line-first-eq100+else-is_token_end,
+}
+use Rattle.lrat_read.proofs.numbers.after_letter.Goals.{
+  else-first-line-via-then-first-line+else-line-first-eq100,
+}
 use Rattle.lrat_read.proofs.numbers.after_letter.Goals.{else-first-line-via-else-first-line}
 
 pub returns-else-first-line : goal.returns-else-first-line
