@@ -1,5 +1,6 @@
 -- What was written of what was found.
-use Rattle.std.proofs.Common.{◌≡◌, ℕ, Bool, List, ◌++◌, Option, Result, Ok, Err, sym, ◌∙◌, ap, subst}
+use Rattle.std.proofs.Common.{◌≡◌, ℕ, Bool, List, ◌++◌, Option, Result, Ok, Err, sym, ◌∙◌, ap}
+use Rattle.std.proofs.Common.{subst}
 use Rattle.std.specs.Prelude.{IfErr, OnErr}
 use Rattle.std.specs.Io.KnownBytes.{Appends}
 use Rattle.text.specs.Writing.{AppendsPart}

@@ -15,9 +15,13 @@ use Rattle.cdcl.proofs.Gathering.{other_value, met_before, gathers_clause, found
 use Rattle.cdcl.proofs.Places.{live_within}
 use Rattle.cdcl.proofs.hints.add_units.Goals as goal
 use Rattle.cdcl.proofs.hints.add_units.Goals.{After-variable-variable}
-use Rattle.cdcl.proofs.hints.add_units.Goals.{then-stamps-place+then-eq+then-eq-2+in-Some+in_ok-push-in-Some}
+use Rattle.cdcl.proofs.hints.add_units.Goals.{
+  then-stamps-place+then-eq+then-eq-2+in-Some+in_ok-push-in-Some,
+}
 use Rattle.cdcl.proofs.hints.add_units.Goals.{else-stamps-place}
-use Rattle.cdcl.proofs.hints.add_units.Goals.{else-stamps-place-via-then-stamps-place+then-eq+else-eq-2}
+use Rattle.cdcl.proofs.hints.add_units.Goals.{
+  else-stamps-place-via-then-stamps-place+then-eq+else-eq-2,
+}
 use Rattle.cdcl.proofs.hints.add_units.Goals.{else-stamps-place-via-then-stamps-place+else-eq}
 use Rattle.cdcl.proofs.hints.add_units.Goals.{else-stamps-place-via-else-stamps-place}
 use Rattle.cnf.specs.Literal.{negation}

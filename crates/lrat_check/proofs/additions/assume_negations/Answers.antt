@@ -5,7 +5,9 @@ use Rattle.lrat_check.proofs.Negations.{not_apart, not_single, negations_more, s
 use Rattle.lrat_check.proofs.Negations.{apart_more, within_more}
 use Rattle.lrat_check.proofs.additions.assume_negations.Goals as goal
 use Rattle.lrat_check.proofs.additions.assume_negations.Goals.{then-is_true-via-then-is_true}
-use Rattle.lrat_check.proofs.additions.assume_negations.Goals.{then-is_true-via-else-is_true+then-is_true-2}
+use Rattle.lrat_check.proofs.additions.assume_negations.Goals.{
+  then-is_true-via-else-is_true+then-is_true-2,
+}
 
 pub returns-then-is_true-clause-distinct : goal.returns-then-is_true-clause-distinct
 returns-then-is_true-clause-distinct c =

@@ -8,7 +8,8 @@ use Rattle.text.specs.Writing.{AppendsPart}
 use Rattle.report.proofs.Answered.{end_is, err_with, output_left, answers}
 use Rattle.report.proofs.answering.write_answer.Goals as goal
 
-pub returns-in_ok-deliver_proof-in-Optimum-clause-ok : goal.returns-in_ok-deliver_proof-in-Optimum-clause-ok
+pub returns-in_ok-deliver_proof-in-Optimum-clause-ok
+    : goal.returns-in_ok-deliver_proof-in-Optimum-clause-ok
 returns-in_ok-deliver_proof-in-Optimum-clause-ok g c =
     let e = end_is (codes "s OPTIMUM FOUND\n") _ c.in-Optimum.bits.items _ _ c.spell_optimum.ensures
     c.deref.ensures.value c.deref-in-Optimum.ensures.value in
@@ -16,7 +17,8 @@ returns-in_ok-deliver_proof-in-Optimum-clause-ok g c =
     on_ok_weaker c.deliver_end.result (λ h. answers c.args.found.now _ c.in-Optimum.is _ _ _ _
     (subst (Appends _ _) e h) k.ok k.lines) c.deliver_end.ensures.ok
 
-pub returns-in_ok-deliver_proof-in-Optimum-clause-fault : goal.returns-in_ok-deliver_proof-in-Optimum-clause-fault
+pub returns-in_ok-deliver_proof-in-Optimum-clause-fault
+    : goal.returns-in_ok-deliver_proof-in-Optimum-clause-fault
 returns-in_ok-deliver_proof-in-Optimum-clause-fault g c =
     let e = end_is (codes "s OPTIMUM FOUND\n") _ c.in-Optimum.bits.items _ _ c.spell_optimum.ensures
     c.deref.ensures.value c.deref-in-Optimum.ensures.value in
@@ -25,13 +27,15 @@ returns-in_ok-deliver_proof-in-Optimum-clause-fault g c =
     c.in-Optimum.is _ _ _ _ fault is (subst (AppendsPart _ _) e h) k.ok k.lines)
     c.deliver_end.ensures.fault c.deliver_end.ensures.part
 
-pub returns-in_ok-deliver_proof-in-Unsat-clause-ok : goal.returns-in_ok-deliver_proof-in-Unsat-clause-ok
+pub returns-in_ok-deliver_proof-in-Unsat-clause-ok
+    : goal.returns-in_ok-deliver_proof-in-Unsat-clause-ok
 returns-in_ok-deliver_proof-in-Unsat-clause-ok g c =
     let k = c.in_ok-deliver_proof-in-Unsat.ensures in
     on_ok_weaker c.deliver_end-in-Unsat.result (λ h. answers c.args.found.now _ c.in-Unsat.is
     _ _ _ _ h k.ok k.lines) c.deliver_end-in-Unsat.ensures.ok
 
-pub returns-in_ok-deliver_proof-in-Unsat-clause-fault : goal.returns-in_ok-deliver_proof-in-Unsat-clause-fault
+pub returns-in_ok-deliver_proof-in-Unsat-clause-fault
+    : goal.returns-in_ok-deliver_proof-in-Unsat-clause-fault
 returns-in_ok-deliver_proof-in-Unsat-clause-fault g c =
     let k = c.in_ok-deliver_proof-in-Unsat.ensures in
     err_with c.deliver_end-in-Unsat.result _ _ _ (λ fault is h. output_left c.args.found.now _

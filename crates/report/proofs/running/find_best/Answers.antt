@@ -10,15 +10,16 @@ returns g c =
     let p = c.args.instance.now in
     let n = c.new-told.ensures in
     let t =
-    c.improve_watched-searched.ensures.follows c.new-told.result (refl, tells_none _ _ _ _ _ n.none) in
+    c.improve_watched-searched.ensures.follows c.new-told.result
+    (refl, tells_none _ _ _ _ _ n.none) in
     let f = c.finish-writer.ensures in
     -- it is still the caller's writer
     let name = ap (λ w. w.ghost_name) f.writer ∙ t.0 ∙ n.writer in
     let result = c.conclude.ensures ∙ ap (outcome_of c.improve_watched-searched.result) f.fault in
     let s =
     search_ended c.args.profile p c.limits.ensures _ _ c.args.budget.now
-    c.improve_watched-searched.new.budget _ _ _ n.none.0 n.none.1 t.1 c.improve_watched-searched.result
-    c.improve_watched-searched.ensures.improves in
+    c.improve_watched-searched.new.budget _ _ _ n.none.0 n.none.1 t.1
+    c.improve_watched-searched.result c.improve_watched-searched.ensures.improves in
     let first =
     subst (λ x. Searches c.args.profile p c.conclude.result (held x)
     (held c.improve_watched-searched.new.progress.writer.now) c.args.budget.now
