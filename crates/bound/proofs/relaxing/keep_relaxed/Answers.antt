@@ -11,7 +11,9 @@ use Rattle.bound.proofs.Relaxations.{soft_within, soft_more}
 use Rattle.bound.proofs.relaxing.keep_relaxed.Goals as goal
 use Rattle.bound.proofs.relaxing.keep_relaxed.Goals.{}
 use Rattle.bound.proofs.relaxing.keep_relaxed.Goals.{}
-use Rattle.bound.proofs.relaxing.keep_relaxed.Goals.{then-is_given_variable+in_ok-relaxed+in_ok-keep}
+use Rattle.bound.proofs.relaxing.keep_relaxed.Goals.{
+  then-is_given_variable+in_ok-relaxed+in_ok-keep,
+}
 use Rattle.bound.proofs.relaxing.keep_relaxed.Goals.{else-is_given_variable}
 
 pub keep-requires-clause-no_repeat : goal.keep-requires-clause-no_repeat
