@@ -48,16 +48,17 @@ impl PackedRest {
         }
     }
 
-    /// The rest itself.
+    /// The rest itself. In this order of tests it takes no branch: propagation reads the rest of
+    /// each clause before it knows whether it needs it.
     pub(crate) fn get(self) -> Rest
         ensures { result ≡ self }
     {
-        if self.code == 0 {
-            Rest::Nothing
-        } else if self.code == 1 {
-            Rest::Many
-        } else {
+        if self.code >= 2 {
             Rest::One(Lit::new(self.code / 2, self.code % 2 == 1))
+        } else if self.code == 0 {
+            Rest::Nothing
+        } else {
+            Rest::Many
         }
     }
 
