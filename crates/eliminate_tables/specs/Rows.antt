@@ -1,6 +1,6 @@
 -- Rows of references, one for each literal.
 use Rattle.std.specs.Prelude.{◌≡◌, ℕ, ◌<◌, Bool, true, false, List, [], ◌∷◌, ◌++◌, length, Option}
-use Rattle.std.specs.Prelude.{Some, None, Contains, fold, map, unwrap_or}
+use Rattle.std.specs.Prelude.{Some, None, Contains, filter, fold, map, unwrap_or}
 use Rattle.cnf.specs.Literal.{Literal, index_of}
 use Rattle.cnf.specs.Clause.{contains_literal}
 use Rattle.clauses.specs.Slots.{Slots, clause_at}
@@ -28,6 +28,10 @@ is_some (Some c) = true
 -- whether the store has a clause under this reference
 abbrev pub has_clause : Slots → ℕ → Bool
 has_clause slots r = is_some (clause_at slots r)
+
+-- rows of which one has lost the references that have no clause
+abbrev pub cleaned : List (List ℕ) → Slots → ℕ → List (List ℕ)
+cleaned rows slots i = with_row rows i (filter (has_clause slots) (row_at rows i))
 
 -- each live clause stands in the rows of its literals, and live ones in no others; what stands in a
 -- row was added before

@@ -1,7 +1,8 @@
--- Worked values of extended bits, of a schedule, and of what is worthwhile.
-use Rattle.std.specs.Prelude.{◌≡◌, true, false, List, [], ◌∷◌, fold, Some, refl}
+-- Worked values of extended bits, of rows, of a schedule, and of what is worthwhile.
+use Rattle.std.specs.Prelude.{◌≡◌, true, false, List, [], ◌∷◌, fold, Some, None, refl}
 use Rattle.cnf.specs.Literal.{Literal, positive as p, negative as n}
 use Rattle.eliminate_tables.specs.Removals.{Removed, extended}
+use Rattle.eliminate_tables.specs.Rows.{cleaned}
 use Rattle.eliminate_tables.specs.Schedule.{ScheduleState, entered, left, first_of, without_first}
 use Rattle.eliminate_tables.specs.Schedule.{is_candidate}
 use Rattle.eliminate_tables.specs.Worthwhile.{are_opposed, is_worthwhile}
@@ -15,6 +16,11 @@ needed = refl
 
 not_needed : extended one (true ∷ true ∷ false ∷ []) ≡ false ∷ true ∷ false ∷ []
 not_needed = refl
+
+-- the clause 0 was deleted, and one row is cleaned of it
+one_cleaned : cleaned ((0 ∷ 1 ∷ []) ∷ (0 ∷ []) ∷ []) (None ∷ Some (p 1 ∷ []) ∷ []) 0
+    ≡ (1 ∷ []) ∷ (0 ∷ []) ∷ []
+one_cleaned = refl
 
 -- no clause of two variables
 abbrev none : ScheduleState

@@ -3,10 +3,11 @@
 //
 // The rows of a formula get just the room that its clauses need. A vector for each row took 24
 // bytes a row, with room that doubles, and left its pieces between the blocks that came later.
-ghost use Rattle.std.specs.Prelude.{◌≡◌, ◌<◌, ◌≤◌, [], ◌∷◌, ◌++◌, ◌⊎◌, length, replicate, Some};
-ghost use Rattle.std.specs.Prelude.{slice_get, slice_set, take, filter, IfOk, All};
+ghost use Rattle.std.specs.Prelude.{◌≡◌, ◌<◌, [], ◌∷◌, ◌++◌, ◌⊎◌, length, replicate, Some};
+ghost use Rattle.std.specs.Prelude.{slice_get, IfOk, OnErr, All};
 ghost use Rattle.cnf.specs.Marks.{HasPlace};
 ghost use Rattle.eliminate_tables.specs.Rows.{row_at, with_row, with_clause_rows, has_clause};
+ghost use Rattle.eliminate_tables.specs.Rows.{cleaned};
 
 use clauses::store::{CRef, Store};
 use cnf::types::Lit;
@@ -73,8 +74,9 @@ impl Rows {
     /// Puts a reference at the end of a row.
     pub fn push(&mut self, row: usize, reference: CRef) -> Result<(), AllocError>
         requires { row < length self.old }
-        ensures { IfOk result (λ _.
+        ensures ok { IfOk result (λ _.
             self.new ≡ with_row self.old row (row_at self.old row ++ reference ∷ [])) }
+        ensures err { OnErr result (self.new ≡ self.old) }
     {
         self.rows.push(row, reference)
     }
@@ -93,37 +95,17 @@ impl Rows {
     /// Takes what was deleted out of a row.
     pub fn clean(&mut self, row: usize, store: &Store)
         requires { row < length self.old }
-        ensures { self.new ≡ with_row self.old row
-            (filter (has_clause store.now.slots) (row_at self.old row)) }
+        ensures { self.new ≡ cleaned self.old store.now.slots row }
     {
         let mut write = 0;
         for read in 0..self.len(row) {
             let reference = self.get(row, read);
             if has_clause(store, reference) {
-                self.set(row, write, reference);
+                self.rows.set(row, write, reference);
                 write += 1;
             }
         }
-        self.truncate(row, write);
-    }
-
-    /// Writes a reference at a place of a row.
-    fn set(&mut self, row: usize, place: usize, reference: CRef)
-        requires row { row < length self.old }
-        requires place { place < length (row_at self.old row) }
-        ensures { self.new ≡ with_row self.old row
-            (slice_set (row_at self.old row) place reference) }
-    {
-        self.rows.set(row, place, reference);
-    }
-
-    /// Keeps the first references of a row, so many.
-    fn truncate(&mut self, row: usize, len: usize)
-        requires row { row < length self.old }
-        requires shorter { len ≤ length (row_at self.old row) }
-        ensures { self.new ≡ with_row self.old row (take len (row_at self.old row)) }
-    {
-        self.rows.truncate(row, len);
+        self.rows.truncate(row, write);
     }
 
     /// Makes space in a row that is full: what was deleted is taken out of it. Where that leaves
@@ -135,8 +117,7 @@ impl Rows {
     /// `AllocError` where a growth was refused. The row is then cleaned.
     pub fn make_space(&mut self, row: usize, store: &Store, fill: CRef) -> Result<(), AllocError>
         requires { row < length self.old }
-        ensures { (self.new ≡ self.old) ⊎ (self.new ≡ with_row self.old row
-            (filter (has_clause store.now.slots) (row_at self.old row))) }
+        ensures { (self.new ≡ self.old) ⊎ (self.new ≡ cleaned self.old store.now.slots row) }
     {
         let room = self.rows.room(row);
         if self.rows.len(row) < room {

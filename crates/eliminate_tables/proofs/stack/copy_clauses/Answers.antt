@@ -49,7 +49,8 @@ loop-reference-preserved c =
     ∙ map-append (clause_under slots) (take i refs) (r ∷ [])
     ∙ ap (λ xs. clauses_under slots (take i refs) ++ xs) last in
     subst (λ (cs : List (List Literal)). AddsClauses c.args.pieces.now.items
-    c.copy_clause.new.pieces.items c.args.literals.now.items c.copy_clause.new.literals.items cs) (sym more)
+    c.copy_clause.new.pieces.items c.args.literals.now.items c.copy_clause.new.literals.items cs)
+    (sym more)
     (adds_join c.args.pieces.now.items c.loop-reference.pieces.items c.copy_clause.new.pieces.items
     c.args.literals.now.items c.loop-reference.literals.items c.copy_clause.new.literals.items _
     (c.lits.result.now ∷ []) c.loop-reference.invariant c.in_ok-copy_clause.ensures.ok)
