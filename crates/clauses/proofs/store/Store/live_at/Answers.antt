@@ -3,7 +3,9 @@ use Rattle.std.proofs.Common.{sym, ◌∙◌, refl, arith}
 use Rattle.std.proofs.lemmas.Bool.{true≢false}
 use Rattle.clauses.proofs.Stored.{live_by_flag, live_within, none_live}
 use Rattle.clauses.proofs.store.Store.live_at.Goals as goal
-use Rattle.clauses.proofs.store.Store.live_at.Goals.{else-place-lt-MOST-via-then-place-lt-MOST+else-is_live}
+use Rattle.clauses.proofs.store.Store.live_at.Goals.{
+  else-place-lt-MOST-via-then-place-lt-MOST+else-is_live,
+}
 use Rattle.clauses.proofs.store.Store.live_at.Goals.{else-place-lt-MOST-via-else-place-lt-MOST}
 
 pub returns-then-is_live-clause-live : goal.returns-then-is_live-clause-live
