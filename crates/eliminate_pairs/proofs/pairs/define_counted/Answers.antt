@@ -5,7 +5,9 @@ use Rattle.clauses.specs.Slots.{StoreState}
 use Rattle.eliminate_pairs.specs.Pairs.{stage_of, Stage}
 use Rattle.eliminate_pairs.proofs.Defining.{replaces_on, replaces_same, leaves_on, leaves_now}
 use Rattle.eliminate_pairs.proofs.pairs.define_counted.Goals as goal
-use Rattle.eliminate_pairs.proofs.pairs.define_counted.Goals.{in-Some+in_ok-find+then-found-fewest+in_ok-last}
+use Rattle.eliminate_pairs.proofs.pairs.define_counted.Goals.{
+  in-Some+in_ok-find+then-found-fewest+in_ok-last,
+}
 use Rattle.eliminate_pairs.proofs.pairs.define_counted.Goals.{in-Some+in_ok-find+else-found-fewest}
 use Rattle.eliminate_pairs.proofs.pairs.define_counted.Goals.{in_default}
 

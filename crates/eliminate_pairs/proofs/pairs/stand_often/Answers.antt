@@ -2,7 +2,9 @@
 use Rattle.std.proofs.Common.{◌+◌, rules, slice_index_or, arith}
 use Rattle.eliminate_pairs.proofs.Meetings.{one_more, some_of}
 use Rattle.eliminate_pairs.proofs.pairs.stand_often.Goals as goal
-use Rattle.eliminate_pairs.proofs.pairs.stand_often.Goals.{then-place-from+then-stand_at+else-count-eq-FEWEST}
+use Rattle.eliminate_pairs.proofs.pairs.stand_often.Goals.{
+  then-place-from+then-stand_at+else-count-eq-FEWEST,
+}
 use Rattle.eliminate_pairs.proofs.pairs.stand_often.Goals.{else-place-from}
 
 pub returns-then-count-eq-FEWEST : goal.returns-then-count-eq-FEWEST
