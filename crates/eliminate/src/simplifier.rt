@@ -138,37 +138,6 @@ impl Simplifier {
         ensures vars { OnOk result (self.new.vars ≡ self.old.vars) }
         ensures removals { OnOk result (self.new.removals ≡ self.old.removals) }
     {
-        let reference = self.add_line(store, sink, kind, hints)?;
-        make_space(&mut self.occurrences, store, &self.clause, reference)?;
-        Ok(reference)
-    }
-
-    /// As `add`, whatever room is left in the rows.
-    fn add_line<S: Sink>(
-        &mut self,
-        store: &mut Store,
-        sink: &mut S,
-        kind: Kind,
-        hints: Vec<Hint>,
-    ) -> Result<CRef, AllocError>
-        requires is_open { IsOpen self.old store.old.slots (S.lines sink.old) }
-        requires line { (start : Start)
-            → IsSimplified start self.old store.old.slots (S.lines sink.old)
-            → IsAddableLine start self.old (S.lines sink.old) (record {
-              kind = kind;
-              clause = self.old.clause.items;
-              hints = hints.items;
-            }) }
-        ensures reference { IfOk result (λ r. r ≡ length store.old.slots) }
-        ensures slots { IfOk result (λ _.
-            store.new.slots ≡ store.old.slots ++ Some self.old.clause.items ∷ []) }
-        ensures passes { Passes result self.old store.old.slots (S.lines sink.old)
-            self.new store.new.slots (S.lines sink.new) }
-        ensures refuted { IfOk result (λ _.
-            self.new.is_refuted ≡ is_empty_clause self.old.clause.items) }
-        ensures vars { OnOk result (self.new.vars ≡ self.old.vars) }
-        ensures removals { OnOk result (self.new.removals ≡ self.old.removals) }
-    {
         sink.is_short();
         let mut lits = Vec::with_capacity(store.allocator(), self.clause.len())?;
         lits.extend_from_slice(&self.clause)?;
@@ -176,6 +145,7 @@ impl Simplifier {
         self.occurrences.add(&self.clause, reference)?;
         self.schedule.enter(&self.clause)?;
         self.is_refuted = is_empty_clause(&self.clause);
+        make_space(&mut self.occurrences, store, &self.clause, reference)?;
         Ok(reference)
     }
 

@@ -1,5 +1,5 @@
 -- One row more may be cleaned.
-use Rattle.std.proofs.Common.{ℕ, ◌≡◌, ◌∙◌, ◌<◌, List, length, arith, ap, subst, sym}
+use Rattle.std.proofs.Common.{ℕ, ◌∙◌, List, length, arith, ap, subst, sym}
 use Rattle.eliminate_tables.specs.Rows.{AreRows}
 use Rattle.eliminate.proofs.Gathering.{rows_spaced}
 use Rattle.eliminate.proofs.simplifier.make_space.Goals as goal
