@@ -10,7 +10,7 @@ use Rattle.cnf.specs.Literal.{Literal, index_of}
 use Rattle.clauses.specs.Slots.{Slots, clause_at}
 use Rattle.cnf.specs.Marks.{HasPlace}
 use Rattle.cnf.proofs.Laws.{place_within}
-use Rattle.eliminate_tables.specs.Rows.{row_at, with_row, is_some, has_clause, AreRows}
+use Rattle.eliminate_tables.specs.Rows.{row_at, cleaned, is_some, has_clause, AreRows}
 use Rattle.eliminate.specs.Variables.{AreThoseWith}
 use Rattle.eliminate_tables.proofs.Laws.{some_clause}
 
@@ -35,9 +35,6 @@ pub filter-contains : {X : Type 0} (p : X → Bool) (xs : List X) (x : X) → Co
 filter-contains p xs x h =
     All-contains (Contains xs) (filter p xs) x
     (All-filter p (Contains xs) xs (All-contains_itself xs)) h
-
-abbrev cleaned : List (List ℕ) → Slots → ℕ → List (List ℕ)
-cleaned rows slots i = with_row rows i (filter (has_clause slots) (row_at rows i))
 
 cleaned-from : (rows : List (List ℕ)) (slots : Slots) (i j r : ℕ) → i < length rows
     → Contains (row_at (cleaned rows slots i) j) r → Contains (row_at rows j) r
@@ -64,8 +61,7 @@ cleaned-keeps rows slots i j r lt live h = elim (cases_eq j i) [
 
 -- a row without the clauses that were deleted is still complete
 pub rows_cleaned : (rows : List (List ℕ)) (slots : Slots) (i : ℕ) → i < length rows
-    → AreRows rows slots
-    → AreRows (with_row rows i (filter (has_clause slots) (row_at rows i))) slots
+    → AreRows rows slots → AreRows (cleaned rows slots i) slots
 rows_cleaned rows slots i lt a = record {
   complete = λ r c l live has. cleaned-keeps rows slots i (index_of l) r lt (ap is_some live)
       (a.complete r c l live has);
@@ -77,22 +73,21 @@ rows_cleaned rows slots i lt a = record {
 
 -- rows of which one may have been cleaned
 pub rows_spaced : (old new : List (List ℕ)) (slots : Slots) (i : ℕ) → i < length old
-    → (new ≡ old) ⊎ (new ≡ with_row old i (filter (has_clause slots) (row_at old i)))
+    → (new ≡ old) ⊎ (new ≡ cleaned old slots i)
     → (AreRows old slots → AreRows new slots) × (length new ≡ length old)
 rows_spaced old new slots i lt h = elim h [
   | inl same ↦ (λ a. subst (λ rs. AreRows rs slots) (sym same) a, ap length same)
-  | inr cleaned ↦ (
-    λ a. subst (λ rs. AreRows rs slots) (sym cleaned) (rows_cleaned old slots i lt a),
-    ap length cleaned ∙ length-set old i _,
+  | inr less ↦ (
+    λ a. subst (λ rs. AreRows rs slots) (sym less) (rows_cleaned old slots i lt a),
+    ap length less ∙ length-set old i _,
   )
 ]
 
 -- the live clauses in a literal's row are those with it
 pub those_with : (rows : List (List ℕ)) (slots : Slots) (l : Literal) (references : List ℕ)
     → HasPlace (length rows) l → AreRows rows slots
-    → references ≡ row_at
-    (with_row rows (index_of l) (filter (has_clause slots) (row_at rows (index_of l))))
-    (index_of l) → AreThoseWith l slots references
+    → references ≡ row_at (cleaned rows slots (index_of l)) (index_of l)
+    → AreThoseWith l slots references
 those_with rows slots l references place a is =
     let row : List ℕ = row_at rows (index_of l) in
     let are : references ≡ filter (has_clause slots) row =

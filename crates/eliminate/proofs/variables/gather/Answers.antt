@@ -1,20 +1,17 @@
 -- The row of the literal, cleaned, has just the clauses with it.
-use Rattle.std.proofs.Common.{◌≡◌, ◌∙◌, ap, refl, sym, subst, ◌++◌, List, ℕ, length, filter}
+use Rattle.std.proofs.Common.{◌≡◌, ◌∙◌, ap, refl, sym, subst, ◌++◌, List, ℕ, length}
 use Rattle.std.proofs.lemmas.List.{length-set}
 use Rattle.cnf.specs.Literal.{Literal, index_of}
 use Rattle.clauses.specs.Slots.{Slots}
 use Rattle.cnf.specs.Marks.{HasPlace}
 use Rattle.cnf.proofs.Laws.{place_within}
 use Rattle.eliminate.specs.declared.simplifier.Simplifier.{Simplifier}
-use Rattle.eliminate_tables.specs.Rows.{AreRows, row_at, with_row, has_clause}
+use Rattle.eliminate_tables.specs.Rows.{AreRows, row_at, cleaned}
 use Rattle.eliminate.specs.Simplifier.{KeepsForm}
 use Rattle.eliminate.proofs.Gathering.{rows_cleaned, those_with}
 use Rattle.eliminate.proofs.Tables.{simplified_same}
 use Rattle.eliminate.proofs.variables.gather.Goals as goal
 use Rattle.eliminate.proofs.variables.gather.Goals.{After-clean}
-
-abbrev cleaned : List (List ℕ) → Slots → ℕ → List (List ℕ)
-cleaned rows slots i = with_row rows i (filter (has_clause slots) (row_at rows i))
 
 are_cleaned : (old rows : List (List ℕ)) (slots : Slots) (l : Literal) (i : ℕ)
     → HasPlace (length old) l → AreRows old slots → i ≡ index_of l → rows ≡ cleaned old slots i
