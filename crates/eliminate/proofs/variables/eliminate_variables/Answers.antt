@@ -8,7 +8,9 @@ use Rattle.eliminate.specs.Variables.{StaysOver}
 use Rattle.eliminate.proofs.Tables.{simplified_beside, simplified_at}
 use Rattle.eliminate.proofs.variables.eliminate_variables.Given.{Over}
 use Rattle.eliminate.proofs.variables.eliminate_variables.Goals as goal
-use Rattle.eliminate.proofs.variables.eliminate_variables.Goals.{then-is_free+in_ok-is_gone+else-simplifier}
+use Rattle.eliminate.proofs.variables.eliminate_variables.Goals.{
+  then-is_free+in_ok-is_gone+else-simplifier,
+}
 use Rattle.eliminate.proofs.variables.eliminate_variables.Goals.{else-is_free, After-pop}
 
 -- the schedule without its first says as much
