@@ -88,7 +88,8 @@ fn count_live(store: &Store, from: usize) -> usize {
         .count()
 }
 
-/// Counts the pairs of the clauses from the place `first` on, and replaces those that stand in many.
+/// Counts the pairs of the clauses from the place `first` on, and replaces those that stand in
+/// many.
 fn define_counted<S: Sink>(
     store: &mut Store,
     names: &mut Names,

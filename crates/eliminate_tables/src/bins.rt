@@ -123,9 +123,9 @@ impl Bins {
         }
     }
 
-    /// Gives each bin the room that it needs for these clauses, before the first of them is put into
-    /// one. Where clauses are deleted or shortened meanwhile, they will need another. Once there are
-    /// clauses in bins, nothing is done.
+    /// Gives each bin the room that it needs for these clauses, before the first of them is put
+    /// into one. Where clauses are deleted or shortened meanwhile, another room is needed. Once
+    /// there are clauses in bins, nothing is done.
     ///
     /// # Errors
     ///

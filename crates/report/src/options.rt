@@ -201,8 +201,8 @@ fn make_solve<'a>(alloc: Global) -> Result<Command<'a>, Error> {
         .long("progress")
         .action(ArgAction::SetTrue)
         .help(
-            "Tells on standard error how far the search is: a line at each better solution and at the \
-             end, and at most one a second between them. On a terminal one line is written over",
+            "Tells on standard error how far the search is: a line at each better solution and at \
+             the end, and at most one a second between. On a terminal one line is written over",
         );
     let command = Command::new(alloc, "solve")
         .about("Finds a solution of least cost, and a certificate that nothing is cheaper")

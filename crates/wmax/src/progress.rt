@@ -116,18 +116,14 @@ impl<'a, R: Clock + AllocGlobal> Meter<'a, R> {
         let age = now.duration_since(self.start);
         let report = &self.report;
         let cost = self.spell_cost()?;
+        let pace = self.spell_pace(age)?;
         let spent = self.spell_spent()?;
         format!(in self.rt.alloc();
-            "{start}{}.{} s, {}, {} conflicts, {}/s, {} propagations, {} learned, {} restarts, {}{end}",
+            "{start}{}.{} s, {cost}, {pace}, {} learned, {} restarts, {spent}{end}",
             age.as_secs(),
             age.subsec_millis() / 100,
-            cost,
-            report.conflicts,
-            per_second(report.conflicts, age),
-            self.propagations.saturating_add(report.propagations),
             report.learned,
-            self.restarts.saturating_add(report.restarts),
-            spent
+            self.restarts.saturating_add(report.restarts)
         )
     }
 
@@ -137,6 +133,14 @@ impl<'a, R: Clock + AllocGlobal> Meter<'a, R> {
             Some(cost) => format!(in self.rt.alloc(); "cost {cost}"),
             None => format!(in self.rt.alloc(); "no solution yet"),
         }
+    }
+
+    /// How many conflicts and propagations there were.
+    fn spell_pace(&self, age: Duration) -> Result<String, AllocError> {
+        let conflicts = self.report.conflicts;
+        let pace = per_second(conflicts, age);
+        let propagations = self.propagations.saturating_add(self.report.propagations);
+        format!(in self.rt.alloc(); "{conflicts} conflicts, {pace}/s, {propagations} propagations")
     }
 
     /// How much of the effort is spent, in hundredths of a percent.
