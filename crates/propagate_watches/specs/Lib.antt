@@ -1,5 +1,4 @@
 pub mod Pool
-pub mod Packed
 pub mod Table
 pub mod TableLayout
 pub mod Doomed

@@ -1,13 +1,12 @@
 -- Worked rows, a worked table, and references that move.
 use Rattle.std.specs.Prelude.{◌≡◌, ℕ, true, false, List, [], ◌∷◌, refl}
-use Rattle.cnf.specs.Literal.{positive as p, negative as n}
+use Rattle.cnf.specs.Literal.{positive as p}
 use Rattle.clauses.specs.Slots.{Renaming, old_at, new_at}
 use Rattle.propagate_watches.specs.declared.pool.Entry.{Entry}
 use Rattle.propagate_watches.specs.declared.table.Attachment.{Attachment}
 use Rattle.propagate_watches.specs.declared.table.Attachment.TheVariants.{Detached, Waiting}
 use Rattle.propagate_watches.specs.declared.table.Attachment.TheVariants.{Watching}
-use Rattle.propagate_watches.specs.declared.table.Rest.TheVariants.{Nothing, One, Many}
-use Rattle.propagate_watches.specs.Packed.{rest_of, code_of}
+use Rattle.propagate_watches.specs.declared.table.Rest.TheVariants.{One}
 use Rattle.propagate_watches.specs.Pool.{row_at, with_row, closed_row}
 use Rattle.propagate_watches.specs.Table.{attachment_in, is_kept, rest_in, rest_after, grown_table}
 use Rattle.propagate_watches.specs.Doomed.{is_doomed, spared_rows}
@@ -57,18 +56,6 @@ rest = refl
 
 rest_moved : rest_after (p 2) (One (p 4)) ≡ One (p 2)
 rest_moved = refl
-
-packed_nothing : rest_of (record { code = 0 }) ≡ Nothing
-packed_nothing = refl
-
-packed_many : rest_of (record { code = 1 }) ≡ Many
-packed_many = refl
-
-packed_one : rest_of (record { code = 2 }) ≡ One (p 1)
-packed_one = refl
-
-packed_negation : code_of (One (n 3)) ≡ record { code = 7 }
-packed_negation = refl
 
 grown : grown_table (Waiting ∷ []) 2 ≡ Waiting ∷ Detached ∷ Detached ∷ []
 grown = refl

@@ -8,6 +8,5 @@
 
 pub mod doomed;
 pub mod moved;
-mod packed;
 pub mod pool;
 pub mod table;

@@ -11,7 +11,6 @@ ghost use Rattle.propagate_watches.specs.Table.{attachment_in, rest_in, rest_aft
 ghost use Rattle.propagate_watches.specs.Table.{IsWatching};
 ghost use Rattle.propagate_watches.specs.Table.{IsWatchedBy};
 
-use crate::packed::PackedRest;
 use clauses::store::CRef;
 use cnf::types::Lit;
 use std::alloc::{AllocError, Global};
@@ -41,6 +40,19 @@ pub enum Rest {
     Many,
 }
 
+impl Rest {
+    /// The same where the only literal there is watched in the place of `falsified`.
+    pub(crate) fn after(self, falsified: Lit) -> Rest
+        ensures { result ≡ rest_after falsified self }
+    {
+        match self {
+            Rest::Nothing => Rest::Nothing,
+            Rest::One(_) => Rest::One(falsified),
+            Rest::Many => Rest::Many,
+        }
+    }
+}
+
 /// An attachment without its literals.
 #[derive(Clone, Copy, Debug, PartialEq, Eq, Drop)]
 pub(crate) enum Tag {
@@ -58,12 +70,10 @@ pub(crate) struct Pair {
     pub(crate) one: Lit,
     pub(crate) other: Lit,
     // The others.
-    pub(crate) rest: PackedRest,
+    pub(crate) rest: Rest,
 }
 
-const _: () = prove!(size_of::<Pair>() == 12);
-
-/// An attachment for each reference. The literals stand apart, twelve bytes a clause, since
+/// An attachment for each reference. The literals stand apart, sixteen bytes a clause, since
 /// propagation reads nothing else.
 #[derive(Drop)]
 pub struct Table {
@@ -117,7 +127,7 @@ impl Table {
             Tag::Satisfied => Attachment::Satisfied,
             Tag::Watching => {
                 let Pair { one, other, rest } = self.pairs[reference];
-                Attachment::Watching(one, other, rest.get())
+                Attachment::Watching(one, other, rest)
             }
         }
     }
@@ -133,7 +143,6 @@ impl Table {
             Attachment::Satisfied => self.tags[reference] = Tag::Satisfied,
             Attachment::Watching(one, other, rest) => {
                 self.tags[reference] = Tag::Watching;
-                let rest = PackedRest::of(rest);
                 self.pairs[reference] = Pair { one, other, rest };
             }
         }
@@ -160,7 +169,6 @@ impl Table {
         ensures rest { result.1 ≡ rest_in (attachment_in self.now reference) }
     {
         let Pair { one, other, rest } = self.pairs[reference.index()];
-        let rest = rest.get();
         if one == watched {
             (other, rest)
         } else {
@@ -200,7 +208,7 @@ impl Table {
         let pair = Pair {
             one: none,
             other: none,
-            rest: PackedRest::of(Rest::Nothing),
+            rest: Rest::Nothing,
         };
         if self.pairs.resize(reference.index() + 1, pair).is_err() {
             self.tags.truncate(len);

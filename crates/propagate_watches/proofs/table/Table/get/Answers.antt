@@ -1,5 +1,4 @@
 use Rattle.std.proofs.Common.{◌<◌, ◌≤◌, length, refl, ◌∙◌, ap, arith}
-use Rattle.propagate_watches.specs.declared.table.Attachment.TheVariants.{Watching}
 use Rattle.propagate_watches.specs.Table.{attachment_in}
 use Rattle.propagate_watches.proofs.Zipped.{attachments_past, attachments_tag, attachments_pair}
 use Rattle.propagate_watches.proofs.table.Table.get.Goals as goal
@@ -38,11 +37,9 @@ returns-in-Satisfied c =
 
 pub returns-in-Watching : goal.returns-in-Watching
 returns-in-Watching c =
-    let p = c.index-in-Watching.result.now in
     let within : c.args.reference < length c.self.inside.tags.items =
     omega (arith, c.len.ensures, c.self.inside.tags.ok.0, c.if-reference-len.false) in
-    ap (Watching p.one p.other) c.get.ensures
-    ∙ attachments_pair c.self.inside.tags.items c.self.inside.pairs.items c.args.reference
-    c.index.result.now p c.self.invariant within c.index.ensures
+    attachments_pair c.self.inside.tags.items c.self.inside.pairs.items c.args.reference
+    c.index.result.now c.index-in-Watching.result.now c.self.invariant within c.index.ensures
     c.in-Watching.is c.index-in-Watching.ensures
     ∙ ap (λ t. attachment_in t c.args.reference) c.self.view_is

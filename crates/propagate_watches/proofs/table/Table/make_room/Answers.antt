@@ -6,6 +6,7 @@ use Rattle.std.proofs.lemmas.List.{append-nil}
 use Rattle.clauses.proofs.Laws.{length-zipped}
 use Rattle.propagate_watches.specs.declared.table.Attachment.TheVariants.{Detached}
 use Rattle.propagate_watches.specs.declared.table.Tag.TheVariants.{Detached as Nothing}
+use Rattle.propagate_watches.specs.declared.table.Rest.TheVariants.{Nothing as NoRest}
 use Rattle.propagate_watches.specs.TableLayout.{attachment_of}
 use Rattle.propagate_watches.proofs.Zipped.{attachments_grow, grown_by}
 use Rattle.propagate_watches.proofs.table.Table.make_room.Goals as goal
@@ -40,7 +41,7 @@ returns-clause-ok c =
     c.in_ok-resize.ensures.items
     ∙ grown_by _ _ r _ _ Nothing c.index-2.ensures (omega (arith, i.tags.ok.0, same)) short in
     let pairs : c.resize-2.new.self.items ≡ i.pairs.items ++ replicate n
-    (record { one = c.new-none.result; other = c.new-none.result; rest = c.of.result }) =
+    (record { one = c.new-none.result; other = c.new-none.result; rest = NoRest }) =
     c.resize-2.ensures.items ∙ cond-true (is_ok c.resize-2.result) _ _ ok
     ∙ grown_by _ _ r _ _ _ c.index-3.ensures (omega (arith, i.pairs.ok.0, c.self.invariant, same))
     (omega (arith, c.self.invariant)) in

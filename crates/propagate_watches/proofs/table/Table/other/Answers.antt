@@ -29,8 +29,7 @@ returns-then-eq-clause-rest c =
     let p = c.index-2.result.now in
     let at : p ≡ get_or i.pairs.items c.args.reference p =
     c.index-2.ensures ∙ ap (λ k. get_or i.pairs.items k p) c.index.ensures in
-    c.get-rest.ensures
-    ∙ rw (← c.self.view_is) (watched_rest i.tags.items i.pairs.items c.args.reference p
+    rw (← c.self.view_is) (watched_rest i.tags.items i.pairs.items c.args.reference p
     c.args.watched c.requires.0 at (rw (← c.self.view_is) at c.requires.1))
 
 pub returns-else-eq-clause-other : goal.returns-else-eq-clause-other
@@ -49,6 +48,5 @@ returns-else-eq-clause-rest c =
     let p = c.index-2.result.now in
     let at : p ≡ get_or i.pairs.items c.args.reference p =
     c.index-2.ensures ∙ ap (λ k. get_or i.pairs.items k p) c.index.ensures in
-    c.get-rest.ensures
-    ∙ rw (← c.self.view_is) (watched_rest i.tags.items i.pairs.items c.args.reference p
+    rw (← c.self.view_is) (watched_rest i.tags.items i.pairs.items c.args.reference p
     c.args.watched c.requires.0 at (rw (← c.self.view_is) at c.requires.1))

@@ -57,8 +57,7 @@ returns-in-Watching c =
     let i = c.self.inside in
     let one = c.in-Watching.one in
     let other = c.in-Watching.other in
-    rw c.of-rest.ensures
-    (zipped-set attachment_of i.tags.items i.pairs.items c.args.reference Watching
-    (record { one = one; other = other; rest = c.in-Watching.rest }))
+    zipped-set attachment_of i.tags.items i.pairs.items c.args.reference Watching
+    (record { one = one; other = other; rest = c.in-Watching.rest })
     ∙ ap (λ t. set t c.args.reference (Attachment.Watching one other c.in-Watching.rest))
     c.self.view_is ∙ ap (set c.args.self.now c.args.reference) (sym c.in-Watching.is)
