@@ -130,9 +130,10 @@ pub fn eliminate<S: Sink>(
     simplify(&mut simplifier, store, frozen, sink)?;
     let vars = define_where_open(&mut simplifier, store, frozen, sink)?;
     move_together(store, &mut simplifier.names);
+    let names = simplifier.names.into_packed()?;
     Ok(Stack {
         vars,
         removed: simplifier.removals,
-        names: simplifier.names.into_packed(),
+        names,
     })
 }

@@ -190,28 +190,19 @@ fn schedule_of(alloc: Global, store: &Store, vars: u32) -> Result<Schedule, Allo
     Ok(schedule)
 }
 
-/// Gives each row the room that the clauses of the store need, and half as much for resolvents.
+/// Gives each row the room that the clauses of the store need, and an eighth more for resolvents: a
+/// row without room left is cleaned before it moves, so few do.
 fn make_rooms(rows: &mut Rows, store: &Store, schedule: &Schedule) -> Result<(), AllocError>
     ensures { rows.new ≡ rows.old }
 {
-    let Some(reference) = first_live(store) else {
+    let Some(reference) = (0..store.places()).find_map(|place| store.live_at(place)) else {
         return Ok(());
     };
     let mut rooms = Vec::with_capacity(store.allocator(), schedule.counts().len())?;
     for count in schedule.counts() {
-        rooms.push(count.saturating_add(1 + *count / 2))?;
+        rooms.push(count.saturating_add(1 + *count / 8))?;
     }
     rows.make_rooms(&rooms, reference)
-}
-
-/// The first live clause, where there is one.
-fn first_live(store: &Store) -> Option<CRef> {
-    for place in 0..store.places() {
-        if let Some(reference) = store.live_at(place) {
-            return Some(reference);
-        }
-    }
-    None
 }
 
 /// Makes space in the rows of these literals that are full.

@@ -3,7 +3,7 @@ use Rattle.std.proofs.Common.{◌≡◌, ℕ, zero, suc, ◌+◌, ◌<◌, ◌�
 use Rattle.std.proofs.Common.{set, take, drop, map, Some, None, refl, sym, ◌∙◌, ap, subst, arith}
 use Rattle.std.proofs.Common.{append_assoc}
 use Rattle.std.specs.Prelude.{All}
-use Rattle.std.proofs.lemmas.List.{length-set, take_more_set, drop-set-lt, drop_more, take_all}
+use Rattle.std.proofs.lemmas.List.{length-set, take_more_set, drop-set-lt, drop_more}
 use Rattle.std.proofs.lemmas.List.{append-nil}
 use Rattle.std.proofs.lemmas.List.Elements.{All-nil, All-cons, All-head, All-tail}
 use Rattle.std.proofs.lemmas.Grind.{drop_more_same}
@@ -13,9 +13,8 @@ use Rattle.cnf.specs.Refute.{Clauses}
 use Rattle.cnf.specs.Lrat.{IsId}
 use Rattle.clauses.specs.Slots.{Slots, clause_at, live_clauses}
 use Rattle.lrat_log.specs.declared.lines.Name.{Name}
-use Rattle.lrat_log.specs.declared.lines.Name.TheVariants.{Formula}
 use Rattle.lrat_log.specs.Log.{LogLine, Given, id_of, number_in}
-use Rattle.eliminate_names.specs.Work.{name_at, NamesState, AreLiveAs, IsNamed, AreClauses}
+use Rattle.eliminate_names.specs.Work.{name_at, NamesState, AreLiveAs}
 use Rattle.eliminate_names.specs.Work.{IsWork}
 use Rattle.eliminate_names.specs.Together.{live_names}
 

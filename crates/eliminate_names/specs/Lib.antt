@@ -1,3 +1,4 @@
+pub mod NarrowName
 pub mod Together
 pub mod Vectors
 pub mod Work

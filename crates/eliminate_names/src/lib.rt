@@ -2,4 +2,6 @@
 //! does so with its line.
 #![tactic(auto)]
 
+mod name_list;
 pub mod names;
+mod narrow_name;

@@ -9,6 +9,7 @@ ghost use Rattle.lrat_log.specs.Steps.{added_count};
 ghost use Rattle.eliminate_names.specs.Together.{live_names};
 ghost use Rattle.eliminate_names.specs.Work.{name_at, added_line, delete_line, formula_names};
 
+use crate::name_list::NameList;
 use clauses::store::{CRef, Store};
 use cnf::types::Lit;
 use lrat_log::lines::{Hint, Kind, Line, Name, Number};
@@ -21,7 +22,7 @@ use std::marker::Model;
 #[derive(Drop)]
 pub struct Names {
     // By reference, also of deleted clauses.
-    names: Vec<PackedName>,
+    names: NameList,
     // How many lines of the log add a clause; the next one is named by one more.
     additions: u64,
 }
@@ -31,7 +32,7 @@ impl Model for Names {
 
     ghost Value = { NamesState };
 
-    ghost view = { λ n. record { names = n.names.items; additions = n.additions } };
+    ghost view = { λ n. record { names = n.names; additions = n.additions } };
 }
 
 impl Names {
@@ -43,10 +44,10 @@ impl Names {
         }) }
         ensures numbers { IfOk result (λ n. All (λ k. IsId (number_in k)) n.names) }
     {
-        let mut names = Vec::with_capacity(alloc, store.places())?;
+        let mut names = NameList::with_capacity(alloc, store.places())?;
         let mut number = 1u64;
         for place in 0..store.places() {
-            names.push(PackedName::new(Name::Formula(Number::new(number))))?;
+            names.push(Name::Formula(Number::new(number)))?;
             match store.live_at(place) {
                 Some(_reference) => number += 1,
                 None => {}
@@ -63,14 +64,18 @@ impl Names {
         requires { reference < length self.now.names }
         ensures { result ≡ name_at self.now.names reference }
     {
-        self.names[reference.index()].name()
+        self.names.get(reference.index())
     }
 
     /// The names alone, by reference.
-    pub fn into_packed(self) -> Vec<PackedName>
-        ensures { result.items ≡ self.names }
+    ///
+    /// # Errors
+    ///
+    /// `AllocError` where memory was refused: such a list may take twice the memory that they have.
+    pub fn into_packed(self) -> Result<Vec<PackedName>, AllocError>
+        ensures { IfOk result (λ n. n.items ≡ self.names) }
     {
-        self.names
+        self.names.into_packed()
     }
 
     /// Closes the gaps that deleted clauses leave, in place: no name is written over before it was
@@ -85,14 +90,13 @@ impl Names {
         for place in 0..store.places() {
             match store.live_at(place) {
                 Some(_reference) => {
-                    self.names[kept] = self.names[place];
+                    self.names.copy(place, kept);
                     kept += 1;
                 }
                 None => {}
             }
         }
-        self.names.truncate(kept);
-        self.names.shrink_to_fit();
+        self.names.shrink(kept);
     }
 }
 
@@ -137,7 +141,7 @@ pub fn add<S: Sink>(
 {
     sink.is_short();
     let name = Name::Added(Number::new(names.additions + 1));
-    names.names.push(PackedName::new(name))?;
+    names.names.push(name)?;
     names.additions += 1;
     let reference = store.add(&lits)?;
     sink.append(Line::new(kind, lits, hints))?;

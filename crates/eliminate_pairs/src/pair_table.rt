@@ -24,7 +24,7 @@ pub(crate) const FEWEST: usize = 4;
 /// So a large formula does not get longer.
 const FEWEST_IN_A_LARGE_STORE: usize = 8;
 
-/// A store with more literals, dead ones too, is large.
+/// A store with more literals and clauses, dead ones too, is large.
 const LARGE: usize = 1 << 20;
 
 /// The lengths of the clauses in which pairs are looked for.
@@ -72,12 +72,14 @@ pub(crate) struct Candidate {
     // The meetings, from one place up to another.
     start: usize,
     end: usize,
+    // In how many clauses every pair must stand.
+    least: usize,
 }
 
 impl Candidate {
     /// In how many clauses it must still stand.
     pub(crate) fn fewest(&self) -> usize {
-        FEWEST.max(self.end.saturating_sub(self.start) / 2)
+        self.least.max(self.end.saturating_sub(self.start) / 2)
     }
 }
 
@@ -89,6 +91,8 @@ pub(crate) struct PairTable {
     meetings: Vec<u64>,
     // The pairs that were met often enough, in their order.
     runs: Vec<Run>,
+    // In how many clauses a pair must stand.
+    fewest: usize,
     // By place at the time of the walks, where the clause stands now.
     moved: Vec<u32>,
     // The clauses of the pair in hand: the place now, and the place at the time of the walks.
@@ -99,9 +103,10 @@ impl PairTable {
     /// The pairs of the clauses from the place `first` on, over the variables up to `vars`.
     pub(crate) fn new(store: &Store, first: usize, vars: u32) -> Result<Self, AllocError> {
         let alloc = store.allocator();
-        let literals = Literals::of(alloc, store, first, vars)?;
-        let (mut meetings, ends) = rows_of(alloc, store, &literals)?;
-        let mut runs = runs_of(alloc, &mut meetings, &ends, literals.fewest)?;
+        let frequencies = Frequencies::of(alloc, store, first, vars)?;
+        let fewest = frequencies.fewest;
+        let (mut meetings, ends) = rows_of(alloc, store, &frequencies)?;
+        let mut runs = runs_of(alloc, &mut meetings, &ends, fewest)?;
         runs.sort_unstable();
         let mut moved = Vec::with_capacity(alloc, store.places())?;
         for place in 0..store.places() {
@@ -110,6 +115,7 @@ impl PairTable {
         Ok(PairTable {
             meetings,
             runs,
+            fewest,
             moved,
             found: Vec::new(alloc),
         })
@@ -130,6 +136,7 @@ impl PairTable {
             right: literal_at(right_of(*meeting))?,
             start,
             end: run.end as usize,
+            least: self.fewest,
         })
     }
 
@@ -213,9 +220,14 @@ fn is_looked_at(length: usize) -> bool {
     SHORTEST <= length && length <= LONGEST
 }
 
+/// Whether the store is large.
+fn is_large(store: &Store) -> bool {
+    store.used() > LARGE
+}
+
 /// In how many clauses a pair must stand to be worth a variable, `FEWEST` or more.
 fn fewest_in(store: &Store) -> usize {
-    if store.used() > LARGE {
+    if is_large(store) {
         FEWEST_IN_A_LARGE_STORE
     } else {
         FEWEST
@@ -225,7 +237,7 @@ fn fewest_in(store: &Store) -> usize {
 /// The first place of those where a round after the first one looks for pairs: as many clauses as
 /// `new` came last.
 pub(crate) fn first_looked_at(store: &Store, new: usize) -> usize {
-    if store.used() > LARGE {
+    if is_large(store) {
         store.places().saturating_sub(new)
     } else {
         0
@@ -234,7 +246,7 @@ pub(crate) fn first_looked_at(store: &Store, new: usize) -> usize {
 
 /// Which literals stand in enough clauses.
 #[derive(Drop)]
-struct Literals {
+struct Frequencies {
     // The first place of the store where pairs are looked for.
     first: usize,
     // By literal, in how many of the clauses in which pairs are looked for it stands.
@@ -243,18 +255,18 @@ struct Literals {
     fewest: usize,
 }
 
-impl Literals {
+impl Frequencies {
     /// The literals of the clauses from a place on, over the variables up to `vars`.
     fn of(alloc: Global, store: &Store, first: usize, vars: u32) -> Result<Self, AllocError> {
         let mut counts = Vec::from_elem(alloc, 0u32, 2 * vars as usize)?;
         for place in first..store.places() {
-            for lit in clause_at(store, place) {
+            for lit in lits_looked_at(store, place) {
                 if let Some(count) = counts.get_mut(lit.index()) {
                     *count = count.saturating_add(1);
                 }
             }
         }
-        Ok(Literals {
+        Ok(Frequencies {
             first,
             counts,
             fewest: fewest_in(store),
@@ -272,7 +284,7 @@ impl Literals {
     /// Puts the indices of the frequent literals of a clause into `out`.
     fn list(&self, store: &Store, place: usize, out: &mut Vec<u32>) -> Result<(), AllocError> {
         out.clear();
-        for lit in clause_at(store, place) {
+        for lit in lits_looked_at(store, place) {
             if self.is_frequent(*lit) {
                 out.push(lit.index() as u32)?;
             }
@@ -282,7 +294,7 @@ impl Literals {
 }
 
 /// The literals of the clause at a place, where pairs are looked for in it; else none.
-fn clause_at(store: &Store, place: usize) -> &[Lit] {
+fn lits_looked_at(store: &Store, place: usize) -> &[Lit] {
     match store.live_at(place) {
         Some(reference) => {
             let lits = store.lits(reference);
@@ -360,14 +372,14 @@ fn bits_for(pairs: usize) -> u32
 fn meetings_of(
     alloc: Global,
     store: &Store,
-    literals: &Literals,
+    frequencies: &Frequencies,
 ) -> Result<Vec<Meeting>, AllocError> {
     let mut lits = Vec::new(alloc);
-    let (sketch, end) = sketch_of(alloc, store, literals, &mut lits)?;
+    let (sketch, end) = sketch_of(alloc, store, frequencies, &mut lits)?;
     // Room for all at once: a list that doubles leaves its old places between what comes later.
     let mut meetings = Vec::with_capacity(alloc, sketch.many)?;
-    for place in literals.first..end {
-        literals.list(store, place, &mut lits)?;
+    for place in frequencies.first..end {
+        frequencies.list(store, place, &mut lits)?;
         write_down(&mut meetings, &sketch, &lits, place)?;
     }
     Ok(meetings)
@@ -377,13 +389,13 @@ fn meetings_of(
 fn sketch_of(
     alloc: Global,
     store: &Store,
-    literals: &Literals,
+    frequencies: &Frequencies,
     lits: &mut Vec<u32>,
 ) -> Result<(Sketch, usize), AllocError> {
     let mut pairs = 0usize;
-    let mut end = literals.first;
-    for place in literals.first..store.places() {
-        literals.list(store, place, lits)?;
+    let mut end = frequencies.first;
+    for place in frequencies.first..store.places() {
+        frequencies.list(store, place, lits)?;
         let length = lits.len().min(LONGEST);
         pairs = pairs.saturating_add(length * length / 2);
         if pairs > MOST_MEETINGS {
@@ -391,9 +403,9 @@ fn sketch_of(
         }
         end = place + 1;
     }
-    let mut sketch = Sketch::new(alloc, pairs, literals.fewest)?;
-    for place in literals.first..end {
-        literals.list(store, place, lits)?;
+    let mut sketch = Sketch::new(alloc, pairs, frequencies.fewest)?;
+    for place in frequencies.first..end {
+        frequencies.list(store, place, lits)?;
         for j in 0..lits.len() {
             for i in 0..j {
                 sketch.count(lits[i].min(lits[j]), lits[i].max(lits[j]));
@@ -430,10 +442,10 @@ fn write_down(
 fn rows_of(
     alloc: Global,
     store: &Store,
-    literals: &Literals,
+    frequencies: &Frequencies,
 ) -> Result<(Vec<u64>, Vec<u32>), AllocError> {
-    let written = meetings_of(alloc, store, literals)?;
-    dealt(alloc, &written, literals.counts.len())
+    let written = meetings_of(alloc, store, frequencies)?;
+    dealt(alloc, &written, frequencies.counts.len())
 }
 
 /// The index of the higher literal of a meeting.

@@ -20,7 +20,9 @@ pub trait Sink: Drop {
         ensures ok { OnOk result (lines self.new ≡ lines self.old ++ line ∷ []) }
         ensures err { OnErr result (lines self.new ≡ lines self.old) };
 
-    /// Says that it has fewer than 2^61 lines; it does nothing.
+    /// Says that it has fewer than 2^61 lines; it does nothing. It is a call and no law of the
+    /// trait: a law has to hold of every list of lines, and this holds of those that were built, by
+    /// the invariant of the type, which only a call hands on.
     fn is_short(&self)
         ensures { length (lines self.now) < 2 ^ 61 };
 }

@@ -141,6 +141,14 @@ pub move_together-requires : goal.move_together-requires
 move_together-requires g c =
     (ended g (goal.at.move_together-requires g c).In_ok-vars).work.named.long
 
+pub returns-in_err-names-clause-lines : goal.returns-in_err-names-clause-lines
+returns-in_err-names-clause-lines g c =
+    (ended g (goal.at.returns-in_err-names-clause-lines g c).In_ok-vars).work.log
+
+pub returns-in_err-names-clause-none_learned : goal.returns-in_err-names-clause-none_learned
+returns-in_err-names-clause-none_learned g c =
+    (ended g (goal.at.returns-in_err-names-clause-none_learned g c).In_ok-vars).work.none_learned
+
 -- what was left has its clauses still
 same_clauses : (g : Over) (c : After-move_together g)
     → live_clauses c.move_together.new.store.slots ≡ live_clauses
@@ -156,11 +164,11 @@ pub returns-clause-live : goal.returns-clause-live
 returns-clause-live g c base above =
     let k = ended g (goal.at.returns-clause-live g c).In_ok-vars in
     together_holds c.define_where_open.new.store.slots c.move_together.new.store.slots
-    c.define_where_open.new.simplifier.names.names c.into_packed.result.items base _
+    c.define_where_open.new.simplifier.names.names c.in_ok-names.names.items base _
     (log_live (given_of (live_clauses c.args.store.now.slots)) base
     (g.S.Sink.lines c.define_where_open.new.sink)) k.work.named.numbers k.work.named.long
     c.move_together.ensures.slots
-    (c.into_packed.ensures ∙ ap (λ (n : NamesState). n.names) c.move_together.ensures.names)
+    (c.in_ok-names.ensures ∙ ap (λ (n : NamesState). n.names) c.move_together.ensures.names)
     (k.work.named.live base above)
 
 pub returns-clause-left : goal.returns-clause-left

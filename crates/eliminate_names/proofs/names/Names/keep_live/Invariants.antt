@@ -5,6 +5,6 @@ use Rattle.eliminate_names.proofs.names.Names.keep_live.Given as goal
 
 abbrev pub invariant-loop-place : goal.invariant-loop-place
 invariant-loop-place l = record {
-  closing : IsClosing (l.self-inside).names.items l.fn.self.names l.store.slots l.kept l.place;
+  closing : IsClosing (l.self-inside).names l.fn.self.names l.store.slots l.kept l.place;
   additions : (l.self-inside).additions ≡ l.fn.self.additions;
 }

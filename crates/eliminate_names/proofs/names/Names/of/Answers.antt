@@ -15,13 +15,12 @@ use Rattle.eliminate_names.proofs.names.Names.of.Goals.{in-Some, in-None}
 pub loop-place-preserved : goal.loop-place-preserved
 loop-place-preserved c =
     let slots : Slots = c.args.store.now.slots in
-    let items : List Name = c.loop-place.names.items in
+    let items : List Name = c.loop-place.names in
     let n = c.loop-place.number in
     let i = c.loop-place.place in
-    let pushed : c.push.new.self.items ≡ items ++ Formula n ∷ [] = c.in_ok-push.ensures.items
-    ∙ ap (λ (k : Name). items ++ k ∷ []) c.new-in-loop-place.ensures
+    let pushed : c.push.new.self ≡ items ++ Formula n ∷ [] = c.in_ok-push.ensures.ok
     ∙ ap (λ k. items ++ Formula k ∷ []) c.new.ensures in
-    let all : All (λ k. IsId (number_in k)) c.push.new.self.items =
+    let all : All (λ k. IsId (number_in k)) c.push.new.self =
     subst (All (λ k. IsId (number_in k))) (sym pushed)
     (All-push (λ k. IsId (number_in k)) items (Formula n) c.loop-place.invariant.numbers
     (c.loop-place.invariant.from_one, omega arith)) in
@@ -35,7 +34,7 @@ loop-place-preserved c =
             few = (let f = c.loop-place.invariant.few in omega arith);
             numbers = all;
             named =
-                rw more (names_pushed items c.push.new.self.items (formula_names 1 slots) n
+                rw more (names_pushed items c.push.new.self (formula_names 1 slots) n
                 (n + 1) i slots pushed (names_some n i slots at.1.0 there)
                 c.loop-place.invariant.named);
           }
@@ -46,7 +45,7 @@ loop-place-preserved c =
             few = (let f = c.loop-place.invariant.few in omega arith);
             numbers = all;
             named =
-                rw same (names_pushed items c.push.new.self.items (formula_names 1 slots)
+                rw same (names_pushed items c.push.new.self (formula_names 1 slots)
                 n n i slots
                 pushed (names_none n i slots (omega arith) (c.live_at.ensures.none w.in-None.is))
                 c.loop-place.invariant.named);

@@ -9,7 +9,7 @@ abbrev pub invariant-loop-place : goal.invariant-loop-place
 invariant-loop-place l = record {
   from_one : 0 < l.number;
   few : l.number ≤ l.place + 1;
-  numbers : All (λ k. IsId (number_in k)) l.names.items;
-  named : l.names.items ++ formula_names l.number (drop l.place l.store.slots)
+  numbers : All (λ k. IsId (number_in k)) l.names;
+  named : l.names ++ formula_names l.number (drop l.place l.store.slots)
       ≡ formula_names 1 l.store.slots;
 }
