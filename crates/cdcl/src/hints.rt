@@ -1,23 +1,51 @@
 // The hints of a line: first the clauses of one literal that it needs, then those that the search
 // found.
-ghost use Rattle.std.specs.Prelude.{◌≡◌, ℕ, ◌<◌, ◌≤◌, true, List, [], ◌∷◌, ◌++◌, All, length, map};
-ghost use Rattle.std.specs.Prelude.{Contains, IfOk, OnOk, IfSome};
+ghost use Rattle.std.specs.Prelude.{◌≡◌, ℕ, ◌+◌, ◌<◌, ◌≤◌, ◌^◌, true, List, [], ◌∷◌, ◌++◌, All};
+ghost use Rattle.std.specs.Prelude.{Contains, IfOk, OnOk, IfSome, length, map};
 ghost use Rattle.clauses.specs.Slots.{clause_at};
 ghost use Rattle.propagate.specs.Watches.{is_attached};
 ghost use Rattle.cdcl.specs.Invariant.{name_at};
 ghost use Rattle.cdcl.specs.Hinting.{AreTables, AreNoted, IsNotedIn, AreHintsOf, plain_hints};
 ghost use Rattle.cdcl.specs.Moves.{Gathers};
+ghost use Rattle.cdcl.specs.Running.{IsReady};
 
+use crate::search::Search;
 use clauses::store::{CRef, MaybeCRef, Store};
 use lrat_log::lines::Hint;
 use lrat_log::packed_name::PackedName;
 use propagate::engine::Engine;
 use std::alloc::AllocError;
 
-/// The hints by which a line follows that needs these clauses: before them the unit clauses of the
-/// literals of level 0 whose negations stand in them, each once. A stamp by variable says which
-/// were met.
-pub(crate) fn hints_of(
+impl Search {
+    /// The hints by which the next line follows that needs these clauses: before them the unit
+    /// clauses of the literals of level 0 whose negations stand in them, each once.
+    pub(crate) fn hints_of(&mut self, references: &[CRef]) -> Result<Vec<Hint>, AllocError>
+        requires ready { IsReady self.old }
+        requires past { All (λ n. n ≤ self.old.additions) self.old.stamps.items }
+        requires few { self.old.additions < 2 ^ 61 }
+        requires attached { All (λ r. is_attached self.old.engine r ≡ true) references.now }
+        requires noted { AreNoted self.old.store.slots self.old.units.items self.old.engine.trail
+            references.now }
+        ensures hints { IfOk result (λ hints. AreHintsOf self.old.store.slots self.old.names.items
+            self.old.engine.trail references.now hints.items) }
+        ensures only_stamps { self.new ≡ record self.old { stamps = self.new.stamps } }
+        ensures past { All (λ n. n ≤ self.old.additions + 1) self.new.stamps.items }
+        ensures ready { IsReady self.new }
+    {
+        gather(
+            &self.store,
+            &self.engine,
+            &self.names,
+            &self.units,
+            &mut self.stamps,
+            self.additions + 1,
+            references,
+        )
+    }
+}
+
+/// The hints of a line that needs these clauses. A stamp by variable says which were met.
+fn gather(
     store: &Store,
     engine: &Engine,
     names: &[PackedName],

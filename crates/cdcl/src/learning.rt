@@ -5,7 +5,6 @@ ghost use Rattle.propagate.specs.Fits.{IsFalseClause};
 ghost use Rattle.cdcl.specs.Running.{Runs};
 ghost use Rattle.cdcl.specs.Turns.{Learns};
 
-use crate::hints::hints_of;
 use crate::input::Input;
 use crate::search::Search;
 use clauses::store::CRef;
@@ -31,15 +30,7 @@ pub(crate) fn learn<S: Sink>(
     let learned = search
         .analyzer
         .analyze(&search.engine, &search.store, conflict)?;
-    let hints = hints_of(
-        &search.store,
-        &search.engine,
-        &search.names,
-        &search.units,
-        &mut search.stamps,
-        search.additions + 1,
-        learned.hints.as_slice(),
-    )?;
+    let hints = search.hints_of(learned.hints.as_slice())?;
     let distance = search.learn_from(&learned);
     search.backtrack(learned.back_level);
     let reference = search.add_line(sink, Kind::Learned, learned.lits.as_slice(), hints)?;

@@ -6,7 +6,6 @@ ghost use Rattle.propagate.specs.Fits.{IsFalseClause};
 ghost use Rattle.cdcl.specs.Running.{Runs, IsEnded};
 ghost use Rattle.cdcl.specs.Turns.{LearnsNothing, NotesAll, NotesNext};
 
-use crate::hints::hints_of;
 use crate::input::Input;
 use crate::search::Search;
 use clauses::store::{CRef, MaybeCRef};
@@ -46,15 +45,7 @@ fn note_unit<S: Sink>(search: &mut Search, input: &Input, sink: &mut S) -> Resul
     let Some(reason) = search.engine.reason(lit.variable()) else {
         unreachable!()
     };
-    let hints = hints_of(
-        &search.store,
-        &search.engine,
-        &search.names,
-        &search.units,
-        &mut search.stamps,
-        search.additions + 1,
-        &[reason],
-    )?;
+    let hints = search.hints_of(&[reason])?;
     let unit = search.add_line(sink, Kind::Unit, &[lit], hints)?;
     search.units[place] = MaybeCRef::new(Some(unit));
     search.noted += 1;
@@ -75,15 +66,7 @@ pub(crate) fn refute<S: Sink>(
         (S.lines sink.old) (S.lines sink.new) }
 {
     note_units(search, input, sink)?;
-    let hints = hints_of(
-        &search.store,
-        &search.engine,
-        &search.names,
-        &search.units,
-        &mut search.stamps,
-        search.additions + 1,
-        &[conflict],
-    )?;
+    let hints = search.hints_of(&[conflict])?;
     let none = Vec::new(search.store.allocator());
     sink.append(Line::new(Kind::Empty, none, hints))
 }

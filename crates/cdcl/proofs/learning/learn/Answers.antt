@@ -1,7 +1,6 @@
 use Rattle.std.proofs.Common.{◌≡◌, ◌+◌, ◌≤◌, true, [], ◌∷◌, ◌++◌, length, refl, sym, ◌∙◌, ap, subst}
 use Rattle.std.proofs.Common.{arith}
 use Rattle.std.specs.Prelude.{All}
-use Rattle.std.proofs.lemmas.List.{with_items_is}
 use Rattle.propagate.specs.Trail.{depth_of, kept_to}
 use Rattle.propagate.specs.Watches.{is_attached}
 use Rattle.propagate.specs.Fits.{IsWithin}
@@ -37,31 +36,34 @@ hints_of-requires-clause-attached g c =
 pub hints_of-requires-clause-noted : goal.hints_of-requires-clause-noted
 hints_of-requires-clause-noted g c =
     let s = c.args.search.now in
-    subst (λ us. AreNoted s.store.slots us s.engine.trail c.as_slice.result.now)
-    (sym c.deref-2.ensures.value)
-    (all_noted s.store.slots s.engine.trail s.units.items s.noted c.as_slice.result.now
-    c.requires.runs.running.units c.requires.deep)
+    all_noted s.store.slots s.engine.trail s.units.items s.noted c.as_slice.result.now
+    c.requires.runs.running.units c.requires.deep
 
 pub learn_from-distance-requires-clause-hints : goal.learn_from-distance-requires-clause-hints
 learn_from-distance-requires-clause-hints g c =
     let s = c.args.search.now in
     let learned = c.in_ok-learned.learned in
-    live_attached s.engine s.store.slots learned.hints.items c.requires.runs.running.searches
-    (refutes_live s.store.slots _ learned.hints.items c.in_ok-learned.ensures.hints)
+    subst (λ (x : Search). All (λ r. is_attached x.engine r ≡ true) learned.hints.items)
+    (sym c.hints_of.ensures.only_stamps)
+    (live_attached s.engine s.store.slots learned.hints.items c.requires.runs.running.searches
+    (refutes_live s.store.slots _ learned.hints.items c.in_ok-learned.ensures.hints))
 
 pub learn_from-distance-requires-clause-within : goal.learn_from-distance-requires-clause-within
 learn_from-distance-requires-clause-within g c =
     let s = c.args.search.now in
     let learned = c.in_ok-learned.learned in
-    asserting_within s.engine s.store.slots learned.lits.items learned.back_level
-    c.requires.runs.running.searches.fits c.in_ok-learned.ensures.asserting
+    subst (λ (x : Search). IsWithin (x.engine).variables learned.lits.items)
+    (sym c.hints_of.ensures.only_stamps)
+    (asserting_within s.engine s.store.slots learned.lits.items learned.back_level
+    c.requires.runs.running.searches.fits c.in_ok-learned.ensures.asserting)
 
 pub backtrack-requires-clause-level : goal.backtrack-requires-clause-level
 backtrack-requires-clause-level g c =
     let s = c.args.search.now in
     let learned = c.in_ok-learned.learned in
     let same : depth_of c.learn_from-distance.new.self.engine.trail ≡ depth_of s.engine.trail =
-    ap (λ (x : Search). depth_of (x.engine).trail) c.learn_from-distance.ensures.only_policy in
+    ap (λ (x : Search). depth_of (x.engine).trail) c.learn_from-distance.ensures.only_policy
+    ∙ ap (λ (x : Search). depth_of (x.engine).trail) c.hints_of.ensures.only_stamps in
     let low =
     back_low s.engine.trail learned.lits.items learned.back_level
     c.in_ok-learned.ensures.asserting in
@@ -76,7 +78,8 @@ add_line-requires-clause-within g c =
     c.requires.runs.running.searches.fits c.in_ok-learned.ensures.asserting in
     let same : c.backtrack.new.self.engine.variables ≡ s.engine.variables =
     c.backtrack.ensures.engine.variables
-    ∙ ap (λ (x : Search). (x.engine).variables) c.learn_from-distance.ensures.only_policy in
+    ∙ ap (λ (x : Search). (x.engine).variables) c.learn_from-distance.ensures.only_policy
+    ∙ ap (λ (x : Search). (x.engine).variables) c.hints_of.ensures.only_stamps in
     subst (λ n. IsWithin n c.as_slice-2.result.now) (sym same)
     (subst (IsWithin s.engine.variables) (sym c.as_slice-2.ensures) within)
 
@@ -86,9 +89,7 @@ add_line-requires-clause-hints g c =
     let slots = s.store.slots in
     let learned = c.in_ok-learned.learned in
     let rs = c.as_slice.result.now in
-    let h =
-    subst (λ x. AreHintsOf slots x s.engine.trail rs c.in_ok-hints.hints.items)
-    c.deref.ensures.value c.in_ok-hints.ensures.hints in
+    let h = c.in_ok-hints.ensures.hints in
     let refutes =
     subst (IsRefutedBy slots s.engine.trail learned.lits.items) (sym c.as_slice.ensures.value)
     c.in_ok-learned.ensures.hints in
@@ -108,7 +109,7 @@ returns-clause-learns g c =
     learned.hints.items c.as_slice.result.now _ c.in_ok-hints.hints.items c.requires.runs
     c.requires.deep
     c.in_ok-learned.ensures.asserting c.in_ok-learned.ensures.hints c.in_ok-hints.ensures.hints
-    c.as_slice-2.ensures c.as_slice.ensures.value c.deref.ensures.value in
+    c.as_slice-2.ensures c.as_slice.ensures.value refl in
     let m = c.backtrack.new.self in
     let n = c.add_line.new.self in
     let l : LogLine =
@@ -117,24 +118,24 @@ returns-clause-learns g c =
       clause = c.as_slice-2.result.now;
       hints = c.in_ok-hints.hints.items;
     } in
-    let bumped : IsRunning c.learn_from-distance.new.self.engine
-    c.learn_from-distance.new.self.store.slots p.stack
-    (tables_of c.learn_from-distance.new.self) p.frozen.items p.first p.given ls =
-    subst (λ (x : Search). IsRunning x.engine (x.store).slots p.stack (tables_of x) p.frozen.items
-    p.first p.given ls) (sym c.learn_from-distance.ensures.only_policy) c.requires.runs.running in
+    let goes : Search → Type 0 = λ (x : Search). IsRunning x.engine (x.store).slots p.stack
+    (tables_of x) p.frozen.items p.first p.given ls in
+    let bumped : goes c.learn_from-distance.new.self =
+    subst goes (sym c.learn_from-distance.ensures.only_policy)
+    (subst goes (sym c.hints_of.ensures.only_stamps) c.requires.runs.running) in
     let moved = c.backtrack.ensures.state p ls bumped in
     let trail : m.engine.trail ≡ kept_to learned.back_level T = c.backtrack.ensures.trail
     ∙ ap (λ (x : Search). kept_to learned.back_level (x.engine).trail)
-    c.learn_from-distance.ensures.only_policy in
-    let long : length c.hints_of.new.stamps ≡ s.stamps.len =
-    c.hints_of.ensures.long ∙ ap length c.deref_mut.ensures.value ∙ sym s.stamps.ok.0 in
-    let stamps : m.stamps.items ≡ c.hints_of.new.stamps =
+    c.learn_from-distance.ensures.only_policy
+    ∙ ap (λ (x : Search). kept_to learned.back_level (x.engine).trail)
+    c.hints_of.ensures.only_stamps in
+    let stamps : m.stamps.items ≡ c.hints_of.new.self.stamps.items =
     ap (λ (x : Search). (x.stamps).items) c.backtrack.ensures.engine.rest
-    ∙ ap (λ (x : Search). (x.stamps).items) c.learn_from-distance.ensures.only_policy
-    ∙ with_items_is s.stamps c.hints_of.new.stamps long in
+    ∙ ap (λ (x : Search). (x.stamps).items) c.learn_from-distance.ensures.only_policy in
     let additions : m.additions ≡ s.additions =
     ap (λ (x : Search). x.additions) c.backtrack.ensures.engine.rest
-    ∙ ap (λ (x : Search). x.additions) c.learn_from-distance.ensures.only_policy in
+    ∙ ap (λ (x : Search). x.additions) c.learn_from-distance.ensures.only_policy
+    ∙ ap (λ (x : Search). x.additions) c.hints_of.ensures.only_stamps in
     let past : All (λ x. x ≤ m.additions + 1) m.stamps.items =
     subst (λ k. All (λ x. x ≤ k + 1) m.stamps.items) (sym additions)
     (subst (All (λ x. x ≤ s.additions + 1)) (sym stamps) c.hints_of.ensures.past) in
@@ -146,7 +147,8 @@ returns-clause-learns g c =
     subst (Runs n p) (sym c.in_ok-reference.ensures.lines) on in
     let run = c.requires.runs.running in
     let same : m.engine.variables ≡ s.engine.variables = c.backtrack.ensures.engine.variables
-    ∙ ap (λ (x : Search). (x.engine).variables) c.learn_from-distance.ensures.only_policy in
+    ∙ ap (λ (x : Search). (x.engine).variables) c.learn_from-distance.ensures.only_policy
+    ∙ ap (λ (x : Search). (x.engine).variables) c.hints_of.ensures.only_stamps in
     record {
       runs = runs_chosen n c.note_learned.new.self p _
           (ap (λ x. x.variables) c.note_learned.ensures) written;

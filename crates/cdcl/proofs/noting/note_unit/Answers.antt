@@ -3,20 +3,19 @@ use Rattle.std.proofs.Common.{◌≡◌, ◌+◌, ◌-◌, ◌<◌, ◌≤◌, �
 use Rattle.std.proofs.Common.{true, Some, None, sym, ◌∙◌, ap, subst, arith, refl, set}
 use Rattle.std.specs.Prelude.{All}
 use Rattle.std.proofs.lemmas.Option.{none-some}
-use Rattle.std.proofs.lemmas.List.{with_items_is}
 use Rattle.std.proofs.lemmas.List.Elements.{All-cons, All-nil}
-use Rattle.std.specs.Vec.{with_items}
 use Rattle.cnf.specs.Literal.{Literal}
 use Rattle.clauses.specs.Slots.{clause_at}
 use Rattle.propagate.specs.Trail.{Assigned, literals_of, reason_in}
 use Rattle.propagate.specs.Watches.{is_attached, IsVariable}
-use Rattle.cdcl.specs.Running.{Runs, HasRoom, Writes}
-use Rattle.cdcl.specs.Hinting.{AreHintsOf, AreNoted}
+use Rattle.cdcl.specs.declared.search.Search.{Search}
+use Rattle.cdcl.specs.Running.{Runs, HasRoom, Places, Writes}
 use Rattle.cdcl.proofs.HintNames.{hint_ids}
 use Rattle.cdcl.proofs.Placing.{literal_small}
 use Rattle.cdcl.proofs.UnitLines.{flat_reason, IsNext, is_next, next_noted, adds_unit, runs_noted}
 use Rattle.analyze.proofs.Laws.{reason_at}
 use Rattle.std.proofs.lemmas.List.{get_or-map, get_or_default, length-map}
+use Rattle.lrat_log.specs.declared.lines.Name.TheVariants.{Added}
 use Rattle.lrat_log.specs.declared.lines.Kind.TheVariants.{Unit as UnitKind}
 use Rattle.lrat_log.specs.Log.{LogLine}
 use Rattle.cdcl_order.specs.Orders.{positive}
@@ -83,19 +82,19 @@ hints_of-requires-clause-noted g c =
     let s = c.args.search.now in
     let r = c.in-Some.reason in
     let n = next g (goal.at.hints_of-requires-clause-noted g c).In-Some in
-    subst (λ us. AreNoted (s.store).slots us (s.engine).trail (r ∷ []))
-    (sym c.deref-2.ensures.value)
-    (next_noted (s.store).slots (s.engine).trail c.index-trail-search.result r (s.units).items
+    next_noted (s.store).slots (s.engine).trail c.index-trail-search.result r (s.units).items
     s.noted c.requires.runs.running.searches.fits.reasons c.requires.flat n
-    c.requires.runs.running.units)
+    c.requires.runs.running.units
 
 pub add_line-requires-clause-within : goal.add_line-requires-clause-within
 add_line-requires-clause-within g c =
     let s = c.args.search.now in
-    let small = named g (goal.at.add_line-requires-clause-within g c).After-index-trail-search in (
+    let small = named g (goal.at.add_line-requires-clause-within g c).After-index-trail-search in
+    let kept : (c.hints_of.new.self.engine).variables ≡ (s.engine).variables =
+    ap (λ (x : Search). (x.engine).variables) c.hints_of.ensures.only_stamps in (
       All-cons (λ (l : Literal). 0 < l.variable) c.index-trail-search.result [] small.0
           (All-nil (λ (l : Literal). 0 < l.variable)),
-      (let h = small.1 in omega arith),
+      (let h = small.1 in omega (arith, kept)),
     )
 
 pub add_line-requires-clause-hints : goal.add_line-requires-clause-hints
@@ -103,9 +102,7 @@ add_line-requires-clause-hints g c =
     let s = c.args.search.now in
     let r = c.in-Some.reason in
     let n = next g (goal.at.add_line-requires-clause-hints g c).In-Some in
-    let h =
-    subst (λ x. AreHintsOf (s.store).slots x (s.engine).trail (r ∷ []) c.in_ok-hints.hints.items)
-    c.deref.ensures.value c.in_ok-hints.ensures.hints in
+    let h = c.in_ok-hints.ensures.hints in
     hint_ids (s.store).slots (s.names).items (s.engine).trail (r ∷ []) c.in_ok-hints.hints.items h
     c.requires.runs.running.recorded.names.as_many c.requires.runs.running.recorded.numbers
     ((n.clause, n.here), tt)
@@ -115,7 +112,8 @@ index_mut-requires g c =
     let s = c.args.search.now in
     let small = named g (goal.at.index_mut-requires g c).After-index-trail-search in
     let same : length (c.add_line.new.self.units).items ≡ length (s.units).items =
-    ap (λ v. length v.items) c.in_ok-unit.ensures.placed.units in
+    ap (λ v. length v.items) c.in_ok-unit.ensures.placed.units
+    ∙ ap (λ (x : Search). length (x.units).items) c.hints_of.ensures.only_stamps in
     let room = c.requires.runs.room.units in
     let v = c.variable.ensures.variable in
     let low = small.1 in
@@ -133,9 +131,7 @@ returns-clause-notes g c =
     let run = c.requires.runs.running in
     let reasons = run.searches.fits.reasons in
     let n = next g (goal.at.returns-clause-notes g c).In-Some in
-    let h =
-    subst (λ x. AreHintsOf slots x T (r ∷ []) c.in_ok-hints.hints.items) c.deref.ensures.value
-    c.in_ok-hints.ensures.hints in
+    let h = c.in_ok-hints.ensures.hints in
     let small = named g (goal.at.returns-clause-notes g c).After-index-trail-search in
     let few_k : k.variable < 2 ^ 27 =
     (let a = c.variable.ensures.small in let b = c.variable.ensures.variable in omega arith) in
@@ -143,19 +139,13 @@ returns-clause-notes g c =
     adds_unit slots T (s.names).items c.args.input.now.given
     (g.S.Sink.lines c.args.sink.now) c.in_ok-hints.hints.items k s.noted r reasons
     c.requires.flat n run.recorded.names h few_k in
-    let long : length c.hints_of.new.stamps ≡ length (s.stamps).items =
-    c.hints_of.ensures.long ∙ ap length c.deref_mut.ensures.value in
-    let stamps : (with_items s.stamps c.hints_of.new.stamps).items ≡ c.hints_of.new.stamps =
-    with_items_is s.stamps c.hints_of.new.stamps (long ∙ sym (s.stamps).ok.0) in
-    let room : HasRoom (record s { stamps = with_items s.stamps c.hints_of.new.stamps }) = record {
-      policy = c.requires.runs.room.policy;
-      analyzer = c.requires.runs.room.analyzer;
-      few = c.requires.runs.room.few;
-      stamps = ap length stamps ∙ long ∙ c.requires.runs.room.stamps;
-      units = c.requires.runs.room.units;
-    } in
+    let stamped : Search = record s { stamps = (c.hints_of.new.self).stamps } in
+    let only : c.hints_of.new.self ≡ stamped = c.hints_of.ensures.only_stamps in
+    let room : HasRoom stamped = subst HasRoom only c.hints_of.ensures.ready.room in
     let A : List Literal = literals_of T in
-    let placed = c.in_ok-unit.ensures.placed in
+    let placed : Places stamped c.add_line.new.self (Added (s.additions + 1)) (k ∷ []) =
+    subst (λ (x : Search). Places x c.add_line.new.self (Added (x.additions + 1)) (k ∷ [])) only
+    c.in_ok-unit.ensures.placed in
     let first : k ≡ get_or A s.noted (positive 0) =
     at ∙ get_or_default A s.noted k (positive 0)
     (let long : length A ≡ length T = length-map T (λ (x : Assigned). x.literal) in
@@ -165,13 +155,15 @@ returns-clause-notes g c =
     record {
       runs =
           subst (Runs _ c.args.input.now) (sym c.in_ok-unit.ensures.lines)
-          (runs_noted (record s { stamps = with_items s.stamps c.hints_of.new.stamps })
+          (runs_noted stamped
           c.add_line.new.self _ c.args.input.now (g.S.Sink.lines c.args.sink.now)
           c.in_ok-hints.hints.items k (c.variable.result - 1) c.in_ok-unit.unit run room
-          (subst (All (λ x. x ≤ s.additions + 1)) (sym stamps) c.hints_of.ensures.past)
-          c.requires.flat c.requires.next at adds placed c.in_ok-unit.ensures.additions
+          c.hints_of.ensures.past
+          c.requires.flat c.requires.next at adds placed
+          (c.in_ok-unit.ensures.additions ∙ ap (λ (x : Search). x.additions + 1) only)
           c.in_ok-unit.ensures.few
-          (ap (λ x. x - 1) c.variable.ensures.variable) c.in_ok-unit.ensures.reference
+          (ap (λ x. x - 1) c.variable.ensures.variable)
+          (c.in_ok-unit.ensures.reference ∙ ap (λ (x : Search). length (x.store).slots) only)
           (record {
             engine = refl;
             slots = refl;

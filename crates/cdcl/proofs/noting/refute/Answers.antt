@@ -8,7 +8,6 @@ use Rattle.propagate.specs.Watches.{is_attached}
 use Rattle.lrat_log.specs.declared.lines.Kind.TheVariants.{Empty}
 use Rattle.lrat_log.specs.Log.{LogLine, IsLine}
 use Rattle.cdcl.specs.Running.{IsEnded, StaysOpen, Writes}
-use Rattle.cdcl.specs.Hinting.{AreHintsOf, AreNoted}
 use Rattle.cdcl.proofs.HintNames.{hint_ids}
 use Rattle.cdcl.proofs.Placing.{adding_line}
 use Rattle.cdcl.proofs.Written.{writes_short, writes_join, either, refused}
@@ -27,19 +26,15 @@ hints_of-requires-clause-attached g c =
 pub hints_of-requires-clause-noted : goal.hints_of-requires-clause-noted
 hints_of-requires-clause-noted g c =
     let s = c.note_units.new.search in
-    subst (λ us. AreNoted (s.store).slots us (s.engine).trail (c.args.conflict ∷ []))
-    (sym c.deref-2.ensures.value)
-    (all_noted s c.args.input.now (g.S.Sink.lines c.note_units.new.sink) (c.args.conflict ∷ [])
-    c.in_ok-note_units.ensures.leaves.keeps.runs c.in_ok-note_units.ensures.leaves.all)
+    all_noted s c.args.input.now (g.S.Sink.lines c.note_units.new.sink) (c.args.conflict ∷ [])
+    c.in_ok-note_units.ensures.leaves.keeps.runs c.in_ok-note_units.ensures.leaves.all
 
 pub new-requires : goal.new-requires
 new-requires g c =
     let s = c.note_units.new.search in
     let e = c.in_ok-note_units.ensures.leaves.keeps in
     let w = e.false_stays c.args.conflict c.requires.conflict in
-    let h =
-    subst (λ x. AreHintsOf (s.store).slots x (s.engine).trail (c.args.conflict ∷ [])
-    c.in_ok-hints.hints.items) c.deref.ensures.value c.in_ok-hints.ensures.hints in
+    let h = c.in_ok-hints.ensures.hints in
     subst (λ x. IsLine (record { kind = Empty; clause = x; hints = c.in_ok-hints.hints.items }))
     (sym c.new-none.ensures.items)
     (adding_line Empty [] c.in_ok-hints.hints.items (s.engine).variables refl e.runs.room.few
@@ -64,9 +59,7 @@ returns g c =
     let ls = g.S.Sink.lines c.note_units.new.sink in
     let e = c.in_ok-note_units.ensures in
     let k = e.leaves.keeps in
-    let h =
-    subst (λ x. AreHintsOf (s.store).slots x (s.engine).trail (c.args.conflict ∷ [])
-    c.in_ok-hints.hints.items) c.deref.ensures.value c.in_ok-hints.ensures.hints in
+    let h = c.in_ok-hints.ensures.hints in
     let adds =
     adds_empty s p ls c.in_ok-hints.hints.items c.args.conflict k.runs (ap depth_of k.trail
     ∙ c.requires.flat) (k.false_stays c.args.conflict c.requires.conflict) h in

@@ -1,7 +1,7 @@
 use Rattle.std.proofs.Common.{◌≤◌, [], take}
 use Rattle.std.specs.Prelude.{All}
 use Rattle.cdcl.specs.Moves.{Gathers}
-use Rattle.cdcl.proofs.hints.hints_of.Given as goal
+use Rattle.cdcl.proofs.hints.gather.Given as goal
 
 abbrev pub invariant-loop-reference : goal.invariant-loop-reference
 invariant-loop-reference l = record {

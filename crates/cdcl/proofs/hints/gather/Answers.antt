@@ -2,7 +2,7 @@ use Rattle.std.proofs.Common.{[], ◌∷◌, ◌++◌, take, subst, sym, ◌∙�
 use Rattle.std.proofs.lemmas.List.{take_all, take_more}
 use Rattle.cdcl.specs.Moves.{Gathers}
 use Rattle.cdcl.proofs.Gathering.{gathers_start, hints_are}
-use Rattle.cdcl.proofs.hints.hints_of.Goals as goal
+use Rattle.cdcl.proofs.hints.gather.Goals as goal
 
 pub loop-reference-init : goal.loop-reference-init
 loop-reference-init c = record {
