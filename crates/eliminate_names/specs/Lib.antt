@@ -1,4 +1,3 @@
-pub mod NarrowName
 pub mod Together
 pub mod Vectors
 pub mod Work

@@ -4,4 +4,3 @@
 
 mod name_list;
 pub mod names;
-mod narrow_name;

@@ -5,9 +5,8 @@ ghost use Rattle.std.specs.Prelude.{◌≡◌, ◌<◌, ◌≤◌, ◌^◌, [], 
 ghost use Rattle.std.specs.Prelude.{IfOk, OnOk, OnErr};
 ghost use Rattle.eliminate_names.specs.Work.{name_at};
 
-use crate::narrow_name::NarrowName;
 use lrat_log::lines::Name;
-use lrat_log::packed_name::PackedName;
+use lrat_log::packed_name::{NarrowName, PackedName};
 use std::alloc::{AllocError, Global};
 use std::marker::Model;
 
@@ -50,7 +49,7 @@ impl NameList {
     {
         let count = self.narrow.len();
         if place < count {
-            self.narrow[place].name()
+            self.narrow[place].widen().name()
         } else {
             self.wide[place - count].name()
         }
@@ -63,7 +62,7 @@ impl NameList {
     {
         let packed = PackedName::new(name);
         if self.wide.is_empty() {
-            if let Some(narrow) = NarrowName::new(packed.name()) {
+            if let Some(narrow) = packed.narrow() {
                 self.narrow.push(narrow)?;
                 return Ok(());
             }
@@ -114,7 +113,7 @@ fn widened(names: &Vec<NarrowName>) -> Result<Vec<PackedName>, AllocError>
 {
     let mut wide = Vec::with_capacity(*names.allocator(), names.len())?;
     for name in names {
-        wide.push(PackedName::new(name.name()))?;
+        wide.push(name.widen())?;
     }
     Ok(wide)
 }

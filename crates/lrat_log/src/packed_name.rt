@@ -1,6 +1,7 @@
-// Names as tables keep them: there is one for each clause, so each takes one word. A name itself
-// takes two.
-ghost use Rattle.std.specs.Prelude.{◌≡◌, ◌<◌, ◌≤◌, ◌^◌};
+// Names as tables keep them: there is one for each clause, so each takes one word, of four bytes
+// where its number is small. A name itself takes two.
+ghost use Rattle.std.specs.Prelude.{◌≡◌, ◌<◌, ◌≤◌, ◌^◌, IfSome, IfNone};
+ghost use Rattle.lrat_log.specs.Log.{number_in};
 
 use crate::lines::{Name, Number};
 use std::marker::Model;
@@ -55,6 +56,56 @@ impl PackedName {
             Name::Added(number)
         } else {
             Name::Formula(number)
+        }
+    }
+    /// The name in four bytes; none where its number is 2^31 or more.
+    pub fn narrow(self) -> Option<NarrowName>
+        ensures some { IfSome result (λ n. n ≡ self) }
+        ensures none { IfNone result (2 ^ 31 ≤ number_in self) }
+    {
+        if self.code < 1 << 32 {
+            Some(NarrowName {
+                code: self.code as u32,
+            })
+        } else {
+            None
+        }
+    }
+}
+
+/// A name in four bytes: as a packed name, where that is below 2^32.
+#[derive(Clone, Copy, Debug, PartialEq, Eq, Drop)]
+pub struct NarrowName {
+    // From 2 to 2^32 - 1.
+    code: u32,
+}
+
+impl Model for NarrowName {
+    ghost use Rattle.std.specs.Prelude.{◌≤◌};
+    ghost use Rattle.lrat_log.specs.declared.lines.Name.{Name};
+
+    ghost Value = { Name };
+
+    ghost use Rattle.lrat_log.specs.PackedNames.{narrow_in, narrow_of, narrow_of-narrow_in};
+
+    ghost view = { narrow_in };
+
+    ghost invariant = { λ n. 2 ≤ n.code };
+
+    ghost inverse = { narrow_of };
+
+    ghost inverse_ok = { λ n _. narrow_of-narrow_in n };
+}
+
+const _: () = prove!(size_of::<NarrowName>() == 4);
+
+impl NarrowName {
+    /// The name in eight bytes.
+    pub fn widen(self) -> PackedName
+        ensures { result ≡ self }
+    {
+        PackedName {
+            code: u64::from(self.code),
         }
     }
 }
