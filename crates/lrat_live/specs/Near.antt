@@ -4,13 +4,14 @@ use Rattle.std.specs.Prelude.{length, take, drop, get_or, replicate, slice_range
 use Rattle.std.specs.Prelude.{if◌then◌else◌}
 use Rattle.cnf.specs.Literal.{Literal}
 use Rattle.lrat_live.specs.declared.spans.Span.{Span}
+use Rattle.lrat_live.specs.declared.spans.TheConstants.{DEAD}
 
 abbrev pub is_live : Span → Bool
-is_live s = not (s.start == 4294967295)
+is_live s = not (s.start == DEAD)
 
 -- that of no clause
 abbrev pub nowhere : Span
-nowhere = record { start = 4294967295; length = 0 }
+nowhere = record { start = DEAD; length = 0 }
 
 abbrev pub literals_at : List Literal → Span → List Literal
 literals_at literals s = slice_range literals s.start (s.start + s.length)
