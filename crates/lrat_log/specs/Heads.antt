@@ -1,10 +1,12 @@
 -- What the log keeps of each line: the number of its kind and the places where its literals and its
 -- hints end, in one word over the ends of another line, or in three words. There the places stand
 -- without their 2^32s, and these are in the third word, with the number of the kind.
-use Rattle.std.specs.Prelude.{ℕ, suc, ◌+◌, ◌*◌, ◌/◌, ◌%◌, ◌^◌, ◌==◌, if◌then◌else◌, List, []}
+use Rattle.std.specs.Prelude.{ℕ, suc, ◌+◌, ◌*◌, ◌/◌, ◌%◌, ◌==◌, if◌then◌else◌, List, []}
 use Rattle.std.specs.Prelude.{◌∷◌, slice_index_or}
 use Rattle.lrat_log.specs.declared.heads.Head.{Head}
 use Rattle.lrat_log.specs.declared.heads.FarHead.{FarHead}
+use Rattle.lrat_log.specs.declared.heads.TheConstants.{WORD, BLOCK, NEAR_LITS_UNIT}
+use Rattle.lrat_log.specs.declared.heads.TheConstants.{FAR_LITS_UNIT, HINTS_UNIT}
 use Rattle.lrat_log.specs.declared.lines.Kind.{Kind}
 use Rattle.lrat_log.specs.declared.lines.Kind.TheVariants.{Learned, Unit, Resolvent, Definition}
 use Rattle.lrat_log.specs.declared.lines.Kind.TheVariants.{Weaker, Delete, Empty}
@@ -38,13 +40,13 @@ pub record Ends : Type 0 where
 -- a line's word, over the ends of the first line of its block
 abbrev pub near_head : Ends → ℕ → Head
 near_head base word = record {
-  kind = kind_at (word % 2 ^ 3);
-  lits_end = base.lits + word / 2 ^ 18;
-  hints_end = base.hints + word % 2 ^ 18 / 2 ^ 3;
+  kind = kind_at (word % HINTS_UNIT);
+  lits_end = base.lits + word / NEAR_LITS_UNIT;
+  hints_end = base.hints + word % NEAR_LITS_UNIT / HINTS_UNIT;
 }
 
 abbrev pub base_at : List Ends → ℕ → Ends
-base_at bases place = slice_index_or bases (place / 32) (record { lits = 0; hints = 0 })
+base_at bases place = slice_index_or bases (place / BLOCK) (record { lits = 0; hints = 0 })
 
 -- the words of the lines from a place on
 abbrev pub near_heads : ℕ → List Ends → List ℕ → List Head
@@ -55,7 +57,7 @@ near_heads place bases (word ∷ words) =
 -- a line in three words
 abbrev pub far_head : FarHead → Head
 far_head h = record {
-  kind = kind_at (h.tops % 2 ^ 3);
-  lits_end = h.lits_low + 2 ^ 32 * (h.tops / 2 ^ 17);
-  hints_end = h.hints_low + 2 ^ 32 * (h.tops % 2 ^ 17 / 2 ^ 3);
+  kind = kind_at (h.tops % HINTS_UNIT);
+  lits_end = h.lits_low + WORD * (h.tops / FAR_LITS_UNIT);
+  hints_end = h.hints_low + WORD * (h.tops % FAR_LITS_UNIT / HINTS_UNIT);
 }
