@@ -1,9 +1,10 @@
 -- The steps that build the tree of an instance, as the code hands them out.
-use Rattle.std.specs.Prelude.{ℕ, ◌^◌, nat_le, List, [], length, Option, Some, None}
+use Rattle.std.specs.Prelude.{nat_le, List, [], length, Option, Some, None}
 use Rattle.std.specs.Prelude.{if◌then◌else◌}
 use Rattle.cnf.specs.Problem.{Problem}
 use Rattle.sums_tree.specs.declared.arrangement.Step as made
 use Rattle.sums_tree.specs.declared.arrangement.Step.TheVariants as variant
+use Rattle.sums_tree.specs.declared.arrangement.TheConstants.{GROUP_LIMIT}
 use Rattle.sums_tree.specs.Tree.{Tree, Step, Take, Join, steps_of}
 use Rattle.sums_tree.specs.Groups.{groups}
 use Rattle.sums_tree.specs.Arranging.{tree}
@@ -18,11 +19,7 @@ abbrev pub steps_to : Option Tree → List Step
 steps_to None = []
 steps_to (Some t) = steps_of t
 
--- a tree is built over so many groups at most
-abbrev pub group_limit : ℕ
-group_limit = 2 ^ 15
-
 -- the steps that build the tree of an instance, no step where there is no group; none where there
 -- are too many groups
 abbrev pub arranged : Problem → Option (List Step)
-arranged p = if nat_le (length (groups p)) group_limit then Some (steps_to (tree p)) else None
+arranged p = if nat_le (length (groups p)) GROUP_LIMIT then Some (steps_to (tree p)) else None

@@ -1,11 +1,12 @@
 -- Groups of soft clauses of which at most one is false wherever the hard clauses hold.
-use Rattle.std.specs.Prelude.{ℕ, ◌+◌, ◌^◌, Bool, not, List, [], ◌∷◌, ◌++◌, map, filter, sum_by}
+use Rattle.std.specs.Prelude.{ℕ, ◌+◌, Bool, not, List, [], ◌∷◌, ◌++◌, map, filter, sum_by}
 use Rattle.std.specs.Prelude.{reverse}
 use Rattle.std.specs.Prelude.{count_by, nat_le, if◌then◌else◌}
 use Rattle.std.specs.List.{list_any, list_all}
 use Rattle.cnf.specs.Literal.{Literal, negation, literal_eq}
 use Rattle.cnf.specs.Clause.{contains_literal, has_opposites}
 use Rattle.cnf.specs.Problem.{Problem, SoftClause}
+use Rattle.sums_tree.specs.declared.joining.TheConstants.{LOOK_LIMIT}
 
 -- a soft clause by its place in the instance, from 0
 pub record Placed : Type 0 where
@@ -62,7 +63,7 @@ looks_cost hard earlier c =
 
 -- what all looks may cost together, which bounds the work
 abbrev pub look_limit : ℕ
-look_limit = 2 ^ 22
+look_limit = LOOK_LIMIT
 
 -- the clause joins the first group all of whose members it excludes, or else begins a group
 abbrev pub joined : List (List Literal) → Placed → List (List Placed) → List (List Placed)

@@ -11,7 +11,7 @@ use cnf::types::Instance;
 use std::alloc::AllocError;
 
 /// A tree is built over so many groups at most.
-const GROUP_LIMIT: usize = 32_768;
+pub const GROUP_LIMIT: usize = 32_768;
 
 /// A step that builds a tree over groups of soft clauses.
 #[derive(Drop)]

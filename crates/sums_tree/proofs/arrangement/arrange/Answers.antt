@@ -4,8 +4,9 @@ use Rattle.std.proofs.Common.{Some, None}
 use Rattle.std.proofs.lemmas.Bool.{cond-true, le-leb}
 use Rattle.sums_tree.specs.Groups.{groups}
 use Rattle.sums_tree.specs.Arranging.{leaves_from, nodes, round_count, rounds, tree}
-use Rattle.sums_tree.specs.Arrangement.{group_limit, steps_to}
+use Rattle.sums_tree.specs.Arrangement.{steps_to}
 use Rattle.sums_tree.specs.Nodes.{AreAmong, AreNodes, steps_at}
+use Rattle.sums_tree.specs.declared.arrangement.TheConstants.{GROUP_LIMIT}
 use Rattle.sums_tree.proofs.Among.{connections_among}
 use Rattle.sums_tree.proofs.Laid.{length-groups, length-rows, rows_back}
 use Rattle.sums_tree.proofs.arrangement.arrange.Goals as goal
@@ -22,8 +23,8 @@ returns c =
     let p = c.args.instance.now in
     let long : length (groups p) ≡ c.len-2.result =
     length-groups p ∙ sym (c.len-2.ensures ∙ ap length c.in_ok-members.ensures) in
-    let few : nat_le (length (groups p)) group_limit ≡ true =
-    le-leb (length (groups p)) group_limit
+    let few : nat_le (length (groups p)) GROUP_LIMIT ≡ true =
+    le-leb (length (groups p)) GROUP_LIMIT
     (omega (
       arith,
       length-groups p,
@@ -38,7 +39,7 @@ returns c =
     (c.in_ok-nodes.ensures.nodes (groups p) long) in
     let track = c.in_ok-track.ensures (groups p) (nodes p)
     (long ∙ sym c.in_ok-nodes.ensures.labels.labels_long) are in
-    cond-true (nat_le (length (groups p)) group_limit) (Some (steps_to (tree p))) None few
+    cond-true (nat_le (length (groups p)) GROUP_LIMIT) (Some (steps_to (tree p))) None few
     ∙ ap Some (sym (c.in_ok-steps_from.ensures
     ∙ ap (λ gs. steps_at gs c.in_ok-track.track)
     (ap (map reverse) c.in_ok-members.ensures ∙ rows_back p)
