@@ -28,7 +28,7 @@ use std::marker::Model;
 use text::output::{Block, WriteFault};
 
 /// A log has fewer lines than this, 2^61.
-const LINE_LIMIT: usize = 1 << 61;
+pub const LINE_LIMIT: usize = 1 << 61;
 
 /// The lines of a solver, in memory: 4 bytes for each literal and each hint, and 4.5 for each line.
 /// From the first line on with a number of 2^30 or more a hint takes 8, and from the first on that
