@@ -7,9 +7,11 @@ use Rattle.std.specs.List.{AllByRecursion, flat_map}
 use Rattle.cnf.specs.Literal.{Assignment, Literal, positive, negative}
 use Rattle.cnf.specs.Clause.{Satisfies, IsCovered}
 use Rattle.cnf.specs.Problem.{Problem, SoftClause, IsFeasible, cost_under}
+use Rattle.sums_tree.specs.declared.arrangement.TheConstants.{GROUP_LIMIT}
 use Rattle.sums_tree.specs.Tree.{Tree, Leaf, Fork, groups_of}
 use Rattle.sums_tree.specs.Groups.{placed}
 use Rattle.sums_tree.specs.Arranging.{IsArrangement}
+use Rattle.sums.specs.declared.root.TheConstants.{MOST_CLAUSES}
 
 -- the variable is true where a sum is at least the number
 pub record AtLeast : Type 0 where
@@ -245,15 +247,15 @@ root problem t p = node problem p 0 t (problem.variables + length problem.soft +
 abbrev pub tree_weight : Problem → Tree → ℕ
 tree_weight p t = sum_by (λ g. sum_by (λ x. x.number) (members p g)) (groups_of t)
 
--- the first of p, p + 1, .. with at most 2^17 clauses, up to the number of binary digits of what is
+-- the first of p, p + 1, .. without too many clauses, up to the number of binary digits of what is
 -- left above p
 unfoldable pub first_small : (ℕ → Node) → ℕ → ℕ → ℕ → Option Node
 first_small make zero p left = None
 first_small make (suc steps) p left =
-    if nat_le (length (make p).clauses) (2 ^ 17) then Some (make p)
+    if nat_le (length (make p).clauses) MOST_CLAUSES then Some (make p)
     else if left == 0 then None else first_small make steps (p + 1) (left / 2)
 
--- the sums over a tree, if the groups are at most 2^15 and the clauses at most 2^17
+-- the sums over a tree, if neither the groups nor the clauses are too many
 abbrev pub sums_over : Problem → Option Tree → Option Node
 sums_over problem None = Some (record {
   digits = [];
@@ -262,7 +264,7 @@ sums_over problem None = Some (record {
   fresh = problem.variables + length problem.soft + 1;
 })
 sums_over problem (Some t) =
-    if nat_lt (2 ^ 15) (length (groups_of t)) then None
+    if nat_lt GROUP_LIMIT (length (groups_of t)) then None
     else first_small (root problem t) 63 0 (tree_weight problem t)
 
 -- -r for a digit, before what the digits above it say; None where one of them has no list
@@ -352,9 +354,9 @@ HaveVariables last fresh cs =
 -- the clauses are few, and so are the new variables, which follow those of the soft clauses; none
 -- speaks of a variable of the instance
 pub record AreSmall (p : Problem) (n : Node) : Type 0 where
-  pub clauses : length n.clauses ≤ 2 ^ 17
+  pub clauses : length n.clauses ≤ MOST_CLAUSES
   pub from : p.variables + length p.soft < n.fresh
-  pub to : n.fresh ≤ p.variables + length p.soft + 1 + 2 ^ 17
+  pub to : n.fresh ≤ p.variables + length p.soft + 1 + MOST_CLAUSES
   pub variables : HaveVariables p.variables n.fresh n.clauses
   pub compared : (k : ℕ) → HaveVariables p.variables n.fresh (comparator n k)
-  pub comparators : (k : ℕ) → length (comparator n k) ≤ 2 ^ 17 + 64
+  pub comparators : (k : ℕ) → length (comparator n k) ≤ MOST_CLAUSES + 64

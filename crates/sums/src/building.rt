@@ -9,10 +9,8 @@ use crate::halts::Halt;
 use crate::linking::{push_both, push_order, push_own};
 use crate::lists::AtLeast;
 use crate::naming::{Named, push_numbers, push_sums};
+use crate::root::MOST_CLAUSES;
 use cnf::clause_list::ClauseList;
-
-/// There are at most so many clauses.
-const MOST: usize = 131_072;
 
 /// The clauses so far, and the next new variable.
 #[derive(Drop)]
@@ -136,6 +134,6 @@ impl Builder {
     pub fn has_room(&self, more: usize) -> bool
         ensures { IsTrue result ↔ length self.now.clauses + more ≤ 2 ^ 17 }
     {
-        self.clauses.len() <= MOST && more <= MOST - self.clauses.len()
+        self.clauses.len() <= MOST_CLAUSES && more <= MOST_CLAUSES - self.clauses.len()
     }
 }

@@ -6,6 +6,9 @@ use crate::taking::{Lists, Sums};
 use cnf::clause_list::ClauseList;
 use std::marker::Model;
 
+/// There are at most so many clauses.
+pub const MOST_CLAUSES: usize = 131_072;
+
 /// The sums of an instance at the root of its tree: lists of variables that say how much is given
 /// up at least, and the clauses that make them say so.
 #[derive(Drop)]
