@@ -1,11 +1,12 @@
 -- The work in hand: clauses in a store, each under a name, and the lines of the log so far.
-use Rattle.std.specs.Prelude.{◌≡◌, ℕ, ◌+◌, ◌<◌, ◌≤◌, ◌^◌, false, List, [], ◌∷◌, length, map}
+use Rattle.std.specs.Prelude.{◌≡◌, ℕ, ◌+◌, ◌<◌, ◌≤◌, false, List, [], ◌∷◌, length, map}
 use Rattle.std.specs.Prelude.{Some, None, All, slice_index_or}
 use Rattle.cnf.specs.Literal.{Literal, negation}
 use Rattle.cnf.specs.Clause.{has_repeat, has_opposites, greatest_variable}
 use Rattle.cnf.specs.Formula.{IsFormulaClause}
 use Rattle.cnf.specs.Refute.{Clauses, Refutes}
 use Rattle.cnf.specs.Lrat.{IsId}
+use Rattle.cnf.specs.declared.limits.TheConstants.{VARIABLE_LIMIT}
 use Rattle.clauses.specs.Slots.{Slots, clause_at}
 use Rattle.lrat_log.specs.declared.lines.Name.{Name}
 use Rattle.lrat_log.specs.declared.lines.Name.TheVariants.{Formula, Added}
@@ -74,7 +75,7 @@ pub record IsRupLine (given : Given) (ls : List LogLine) (l : LogLine) : Type 0 
   pub adds : is_delete l.kind ≡ false
   pub no_repeat : has_repeat l.clause ≡ false
   pub no_opposites : has_opposites l.clause ≡ false
-  pub small : greatest_variable l.clause < 2 ^ 27
+  pub small : greatest_variable l.clause < VARIABLE_LIMIT
   pub plain : (base : ℕ) → group_ids base l.hints ≡ []
   pub refutes : (base : ℕ) → IsBaseOf given base
       → Refutes (log_live given base ls) (map negation l.clause) (leading_ids base l.hints)
