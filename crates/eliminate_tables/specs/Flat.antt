@@ -1,6 +1,7 @@
 -- Eliminated variables with their clauses, in flat lists.
-use Rattle.std.specs.Prelude.{◌≡◌, ℕ, ◌<◌, ◌≤◌, ◌^◌, List, ◌++◌, length, map, All, slice_range}
+use Rattle.std.specs.Prelude.{◌≡◌, ℕ, ◌<◌, ◌≤◌, List, ◌++◌, length, map, All, slice_range}
 use Rattle.cnf.specs.Literal.{Literal}
+use Rattle.cnf.specs.declared.limits.TheConstants.{VARIABLE_LIMIT}
 use Rattle.eliminate_tables.specs.declared.stack.Piece.{Piece}
 use Rattle.eliminate_tables.specs.declared.stack.Gone.{Gone}
 use Rattle.eliminate_tables.specs.Removals.{Removed}
@@ -24,7 +25,8 @@ abbrev pub IsWithin : ℕ → Piece → Type 0
 IsWithin count p = (p.start ≤ p.end) × (p.end ≤ count)
 
 abbrev pub IsGone : ℕ → Gone → Type 0
-IsGone count g = (0 < g.variable) × (g.variable < 2 ^ 27) × (g.start ≤ g.end) × (g.end ≤ count)
+IsGone count g =
+    (0 < g.variable) × (g.variable < VARIABLE_LIMIT) × (g.start ≤ g.end) × (g.end ≤ count)
 
 pub record AreRemovals (gone : List Gone) (pieces : List Piece) (literals : List Literal) : Type 0
   where
