@@ -7,6 +7,7 @@ use Rattle.adder.specs.declared.cells.Cell.{Cell}
 use Rattle.adder.specs.declared.profiles.Relaxing.{Relaxing}
 use Rattle.adder.specs.declared.profiles.Relaxing.TheVariants.{EachByVariable, UnitsByNegation}
 use Rattle.adder.specs.Network.{Adders}
+use Rattle.sums.specs.declared.root.TheConstants.{MOST_CLAUSES}
 use Rattle.bound.specs.declared.additions.Addition.{Addition}
 use Rattle.bound.specs.declared.additions.Addition.TheVariants.{Network, Sums}
 use Rattle.bound.specs.Bound.{kept}
@@ -29,7 +30,7 @@ pub record IsFitNetwork (n : Adders) : Type 0 where
 
 abbrev pub IsFit : Addition → Type 0
 IsFit (Network n) = IsFitNetwork n
-IsFit (Sums n) = length n.clauses ≤ 2 ^ 17
+IsFit (Sums n) = length n.clauses ≤ MOST_CLAUSES
 
 -- so are the variables, where the last one of the relaxation is known
 abbrev pub HasRoom : ℕ → Addition → Type 0
