@@ -191,7 +191,7 @@ fn schedule_of(alloc: Global, store: &Store, vars: u32) -> Result<Schedule, Allo
 }
 
 /// Gives each row the room that the clauses of the store need, and an eighth more for resolvents: a
-/// row without room left is cleaned before it moves, so few do.
+/// row is cleaned when it becomes full, so few move.
 fn make_rooms(rows: &mut Rows, store: &Store, schedule: &Schedule) -> Result<(), AllocError>
     ensures { rows.new ≡ rows.old }
 {

@@ -111,7 +111,8 @@ impl Rows {
 
     /// Makes space in a row that is full: what was deleted is taken out of it. Where that leaves
     /// less than an eighth of its room it gets twice as much, so that a long row is not cleaned at
-    /// each reference that it gets.
+    /// each reference that it gets. A row with room for fewer than eight does not grow here: the
+    /// next push moves it, where it is full still.
     ///
     /// # Errors
     ///

@@ -1,5 +1,5 @@
--- How a name is kept in one word, of eight bytes or of four: twice its number, and one more where it
--- is that of an addition.
+-- How a name is kept in one word, of eight bytes or of four: twice its number, and one more where
+-- it is that of an addition.
 use Rattle.std.specs.Prelude.{ℕ, Bool, true, false, ◌≡◌, ◌+◌, ◌*◌, ◌/◌, ◌%◌, ◌<◌, ◌==◌}
 use Rattle.std.specs.Prelude.{if◌then◌else◌}
 use Rattle.std.proofs.Common.{arith, ap, ◌∙◌}

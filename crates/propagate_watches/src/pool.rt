@@ -1,9 +1,9 @@
 // Rows of watches, in one block of memory.
 //
 // Propagation goes along the row of each literal that became false: `get` reads its entries one
-// after another, `set` writes those that stay over those that leave, `close` takes the gap out at
-// the end, and `push` adds an entry to another row. Where the rows lie is the business of
-// `BlockRows`.
+// after another, `set` writes those that stay over those that leave, and `push` adds an entry to
+// another row. What is left over at the end of the row `truncate` cuts off; where propagation stops
+// before it, `close` takes the gap out. Where the rows lie is the business of `BlockRows`.
 ghost use Rattle.std.specs.Prelude.{◌≡◌, ℕ, ◌<◌, ◌≤◌, List, [], ◌∷◌, ◌++◌, length, map, replicate};
 ghost use Rattle.std.specs.Prelude.{take, Some, slice_get, slice_set, OnOk, OnErr, IfOk};
 ghost use Rattle.std.specs.Prelude.{filter, not, ◌==◌};
