@@ -72,11 +72,11 @@ loop-place-preserved-in-Some c =
       marking = c.resolve_one-fresh.ensures.marking;
     }
 
-pub returns-in-None-clause-reduces : goal.returns-in-None-clause-reduces
-returns-in-None-clause-reduces c =
-    let m = met (goal.at.returns-in-None-clause-reduces c).After-variable-variable in
+pub unreachable-requires : goal.unreachable-requires
+unreachable-requires c =
+    let m = met (goal.at.unreachable-requires c).After-variable-variable in
     let kept : mark_at c.loop-place.marks c.variable-variable.result ≡ Kept = search rules in
-    absurd (met_decision m kept c.if-open-eq1.false (sym c.reason.ensures ∙ c.in-None.is))
+    met_decision m kept c.if-open-eq1.false (sym c.reason.ensures ∙ c.in-None.is)
 
 pub loop-place-preserved : goal.loop-place-preserved
 loop-place-preserved c =
@@ -91,8 +91,8 @@ loop-place-preserved c =
       marking = i.marking;
     }
 
-pub unreachable-requires : goal.unreachable-requires
-unreachable-requires c =
+pub unreachable-requires-2 : goal.unreachable-requires-2
+unreachable-requires-2 c =
     let zero : c.loop-place.place ≡ 0 = omega arith in
     walk_end c.args.store.now.slots c.args.engine.now.trail c.args.marks.now c.loop-place.marks
     c.loop-place.open (subst (IsWalked c.args.store.now.slots c.args.engine.now.trail
