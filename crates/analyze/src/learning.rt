@@ -106,8 +106,8 @@ impl Analyzer {
     }
 
     /// Learns a clause from one that is false and has a literal of the current level. Beside the
-    /// clause and its hints it takes no memory. Its time is that of the clauses that it reads, and a
-    /// step for each 4096 variables.
+    /// clause and its hints it takes no memory. Its time is that of the clauses that it reads, and
+    /// a step for each 4096 variables.
     ///
     /// # Errors
     ///
