@@ -102,7 +102,7 @@ impl Units {
                 match found {
                     ClauseState::Falsified => found = ClauseState::Unit(*lit),
                     ClauseState::Unit(_) => return ClauseState::Settled,
-                    ClauseState::Settled => return ClauseState::Settled,
+                    ClauseState::Settled => unreachable!(),
                 }
             }
         }
@@ -124,7 +124,7 @@ impl Units {
             if self.values.is_marked(lit.negation()) {
                 match self.clauses[lit.variable() as usize - 1].get() {
                     Some(unit) => hints.push(Hint::Plain(names.get(unit)))?,
-                    None => {}
+                    None => unreachable!(),
                 }
             }
         }

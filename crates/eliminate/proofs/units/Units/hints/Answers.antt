@@ -16,7 +16,7 @@ use Rattle.eliminate.proofs.ClauseStates.{literal_place, mark_says}
 use Rattle.eliminate.proofs.UnitLines.{looked_up, falsified_more, falsified_same}
 use Rattle.eliminate.proofs.units.Units.hints.Goals as goal
 use Rattle.eliminate.proofs.units.Units.hints.Goals.{then-is_marked+in-Some+in_ok-push-in-Some}
-use Rattle.eliminate.proofs.units.Units.hints.Goals.{then-is_marked+in-None, else-is_marked}
+use Rattle.eliminate.proofs.units.Units.hints.Goals.{else-is_marked}
 
 pub is_marked-requires : goal.is_marked-requires
 is_marked-requires c =
@@ -68,6 +68,24 @@ get-requires-in-Some c =
     let e = c.requires.named in
     omega arith
 
+pub unreachable-requires : goal.unreachable-requires
+unreachable-requires c =
+    let u : Units = c.args.self.now in
+    let l : Literal = c.lit-item.result in
+    let lits : List Literal = c.lits-lit-items.result.now in
+    let place = literal_place u c.args.store.now.slots lits c.loop-lit.lit-index l c.requires.units
+    (c.requires.clauses c.args.reference lits c.lits-lit-items.ensures) (omega arith)
+    c.lit-item.is in
+    let on = mark_says u c.args.store.now.slots (negation l) true c.requires.units place.0
+    (c.if-is_marked.ensures ∙ ap (mark_of u.values) c.negation.ensures) in
+    let by = c.requires.units.by_units (negation l) on in
+    let lt : c.variable.result - 1 < length u.clauses.items =
+    omega (arith, place.0, place.1, c.requires.units.places, c.variable.ensures.variable) in
+    let read : c.index.result.now ≡ get_or u.clauses.items (l.variable - 1) None =
+    looked_up u.clauses.items c.variable.result l c.index.result.now c.variable.ensures.variable
+    lt c.index.ensures in
+    none-some by.place (c.in-None.ensures ∙ read ∙ by.there)
+
 pub get-requires-2 : goal.get-requires-2
 get-requires-2 c = let lt =
     live_within c.args.store.now.slots c.args.reference c.requires.live.0 c.requires.live.1 in
@@ -98,16 +116,6 @@ loop-lit-preserved c =
           (sym (ap (mark_of u.values) c.negation.ensures) ∙ sym w.if-is_marked.ensures)
           (w.get-in-Some.ensures ∙ ap (name_at names) unit) c.loop-lit.invariant
           (ap (λ (v : Vec Hint Global). v.items) w.hints-is ∙ w.in_ok-push-in-Some.ensures.items)
-      | then-is_marked+in-None w ↦
-          let on = mark_says u c.args.store.now.slots (negation l) true c.requires.units place.0
-          (w.if-is_marked.ensures ∙ ap (mark_of u.values) c.negation.ensures) in
-          let by = c.requires.units.by_units (negation l) on in
-          let lt : w.variable.result - 1 < length u.clauses.items =
-          omega (arith, place.0, place.1, c.requires.units.places, w.variable.ensures.variable) in
-          let read : w.index.result.now ≡ get_or u.clauses.items (l.variable - 1) None =
-          looked_up u.clauses.items w.variable.result l w.index.result.now
-          w.variable.ensures.variable lt w.index.ensures in
-          absurd (none-some by.place (w.in-None.ensures ∙ read ∙ by.there))
       | else-is_marked w ↦
           ap (λ (v : Vec Hint Global). v.items) w.hints-is ∙ c.loop-lit.invariant
           ∙ ap (map (λ k. Plain (unit_name u.clauses.items names k)))

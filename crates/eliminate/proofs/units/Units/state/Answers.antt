@@ -60,11 +60,10 @@ returns-in-Unit c d at =
     open_one (subst (HasStatusSoFar u.trail.items (take i lits)) c.in-Unit.is
     c.loop-lit.invariant))
 
-pub returns-in-Settled : goal.returns-in-Settled
-returns-in-Settled c d at =
-    absurd (subst (HasStatusSoFar c.args.self.now.trail.items
-    (take c.loop-lit.lit-index c.lits-lit-items.result.now)) c.in-Settled.is
-    c.loop-lit.invariant)
+pub unreachable-requires : goal.unreachable-requires
+unreachable-requires c =
+    subst (HasStatusSoFar c.args.self.now.trail.items
+    (take c.loop-lit.lit-index c.lits-lit-items.result.now)) c.in-Settled.is c.loop-lit.invariant
 
 pub loop-lit-preserved : goal.loop-lit-preserved
 loop-lit-preserved c =
