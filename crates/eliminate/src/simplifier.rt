@@ -149,7 +149,8 @@ impl Simplifier {
         Ok(reference)
     }
 
-    /// Deletes a clause that another one of the store subsumes.
+    /// Deletes a clause that another one of the store subsumes. Only the contract reads `by`, the
+    /// other one.
     pub(crate) fn delete_subsumed<S: Sink>(
         &mut self,
         store: &mut Store,
@@ -171,7 +172,6 @@ impl Simplifier {
         ensures removals { OnOk result (self.new.removals ≡ self.old.removals) }
         ensures err { OnErr result (S.lines sink.new ≡ S.lines sink.old) }
     {
-        let _ = by;
         self.schedule.leave(store.lits(reference))?;
         let alloc = store.allocator();
         delete(store, &self.names, sink, alloc, reference)?;

@@ -8,7 +8,7 @@ ghost use Rattle.std.specs.Prelude.{length, replicate, Some, None, IfOk, OnOk};
 ghost use Rattle.cnf.specs.Literal.{Literal, negation};
 ghost use Rattle.cnf.specs.Clause.{contains_literal};
 ghost use Rattle.cnf.specs.Refute.{IsRefutedByHints};
-ghost use Rattle.clauses.specs.Slots.{IsLive, clause_at, live_clauses};
+ghost use Rattle.clauses.specs.Slots.{Slots, IsLive, clause_at, live_clauses};
 ghost use Rattle.cnf.specs.Marks.{HasPlace};
 ghost use Rattle.eliminate_names.specs.Work.{AreClauses};
 ghost use Rattle.eliminate.specs.Simplifier.{IsOpen, Passes, Grows};
@@ -72,8 +72,8 @@ impl Visits {
 
 impl Units {
     /// Nothing is true.
-    fn new(alloc: Global, vars: u32, store: &Store) -> Result<Self, AllocError>
-        ensures units { IfOk result (λ u. AreUnits u store.now.slots) }
+    fn new(alloc: Global, vars: u32) -> Result<Self, AllocError>
+        ensures units { IfOk result (λ u. (slots : Slots) → AreUnits u slots) }
         ensures rows { IfOk result (λ u. length u.clauses.items ≡ vars) }
     {
         let values = Marks::new(alloc, vars)?;
@@ -186,7 +186,7 @@ impl Units {
         Ok(())
     }
 
-    /// Makes a literal true, by a clause that has it alone.
+    /// Makes a literal true, by a clause that has it alone. Only the contract reads `store`.
     fn assign(&mut self, store: &Store, lit: Lit, unit: CRef) -> Result<(), AllocError>
         requires units { AreUnits self.old store.now.slots }
         requires place { HasPlace (length self.old.values) lit }
@@ -197,7 +197,6 @@ impl Units {
             MakesTrue self.old store.now.slots self.new store.now.slots) }
         ensures progress { IfOk result (λ _. open_count self.new < open_count self.old) }
     {
-        let _ = store;
         self.trail.push(lit)?;
         self.clauses[lit.variable() as usize - 1] = MaybeCRef::new(Some(unit));
         self.values.mark(lit);
@@ -388,7 +387,7 @@ pub(crate) fn propagate_units<S: Sink>(
         → IsRefutedByHints (live_clauses store.old.slots) → ⊥) }
 {
     let alloc = store.allocator();
-    let mut units = Units::new(alloc, simplifier.vars, store)?;
+    let mut units = Units::new(alloc, simplifier.vars)?;
     let mut visits = Visits::new(alloc, store)?;
     'sweeps: loop {
         let found = units.sweep(simplifier, store, sink)?;

@@ -233,7 +233,7 @@ fn add_resolvents_of<S: Sink>(
 }
 
 /// Takes the variable out, whose resolvents are all there: its clauses are kept for the way back,
-/// and deleted.
+/// and deleted. Only the contract reads `frozen`.
 fn remove_variable<S: Sink>(
     simplifier: &mut Simplifier,
     store: &mut Store,

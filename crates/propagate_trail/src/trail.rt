@@ -70,6 +70,7 @@ fn set_value(values: &mut Vec<Truth>, lit: Lit, value: Option<bool>)
 }
 
 /// Takes the values and the levels of the literals from place `keep` on away, the last one first.
+/// Only the contract reads `variables`.
 fn undo(
     values: &mut Vec<Truth>,
     vardata: &mut VarTable,
@@ -86,7 +87,6 @@ fn undo(
         (depth_of (assigned_by vardata.old.reasons (take keep literals.now))) variables }
     ensures reasons { vardata.new.reasons ≡ vardata.old.reasons }
 {
-    let _ = variables;
     let mut at = literals.len();
     while at > keep {
         at -= 1;

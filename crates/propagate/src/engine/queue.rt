@@ -144,7 +144,7 @@ impl Engine {
                 }
             }
         }
-        self.end_row(falsified, write, read);
+        self.end_row(falsified, write);
         Ok(None)
     }
 
@@ -186,7 +186,8 @@ impl Engine {
         kept
     }
 
-    /// The entry at place `read` of a row that is being filtered.
+    /// The entry at place `read` of a row that is being filtered. Only the contract reads `store`
+    /// and `write`.
     fn entry_at(&self, store: &Store, falsified: Lit, write: usize, read: usize) -> Entry
         requires state { InRow store.now.slots self.now falsified write read }
         requires more { read < length (row_at self.now.watches.rows (index_of falsified)) }
@@ -195,19 +196,16 @@ impl Engine {
         ensures known { IsWatched store.now.slots self.now falsified result }
         ensures sound { IsEngine self.now }
     {
-        let _ = store;
-        let _ = write;
         self.pool.get(falsified.index(), read)
     }
 
     /// Takes out of a row what stands from place `write` up to its end.
-    fn end_row(&mut self, lit: Lit, write: usize, read: usize)
+    fn end_row(&mut self, lit: Lit, write: usize)
         requires in_range { lit.variable ≤ self.old.variables }
-        requires order { write ≤ read }
-        requires end { read ≡ length (row_at self.old.watches.rows (index_of lit)) }
-        ensures { self.new ≡ closed self.old (index_of lit) write read }
+        requires within { write ≤ length (row_at self.old.watches.rows (index_of lit)) }
+        ensures { self.new ≡ closed self.old (index_of lit) write
+            (length (row_at self.old.watches.rows (index_of lit))) }
     {
-        let _ = read;
         self.pool.truncate(lit.index(), write);
     }
 
@@ -272,7 +270,7 @@ impl Engine {
     }
 
     /// A literal that is not false, beside the two that a clause watches. The store is not asked
-    /// for a clause of up to three.
+    /// for a clause of up to three. Only the contract reads `falsified`.
     fn beside(
         &self,
         store: &Store,

@@ -11,7 +11,7 @@ sweeps-init g c = record {
   simplified = λ start h. h;
   propagating = record {
     is_open = c.requires;
-    units = c.in_ok-units.ensures.units;
+    units = c.in_ok-units.ensures.units c.args.store.now.slots;
     fits = c.in_ok-units.ensures.rows;
   };
   grows = λ r d e. e;
