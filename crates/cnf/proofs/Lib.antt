@@ -9,6 +9,8 @@ mod Laid
 mod Cutting
 mod Rising
 mod Literals
+mod Members
+mod Repeats
 mod Marking
 mod Opposed
 mod Unstamped

@@ -1,11 +1,11 @@
--- Literals that are one, that are negated twice, and their places in a table with a row for each.
+-- Literals that are one, opposite, or negated twice, and their places in a table of rows.
 use Rattle.std.proofs.Common.{◌≡◌, ℕ, zero, suc, ◌+◌, ◌-◌, ◌*◌, ◌<◌, ◌≤◌, Bool, true, false, ◌||◌}
-use Rattle.std.proofs.Common.{List, [], ◌∷◌, ◌++◌, length, get_or, inl, inr, refl, sym, ap}
-use Rattle.std.proofs.Common.{subst, arith}
-use Rattle.std.specs.Prelude.{if◌then◌else◌}
+use Rattle.std.proofs.Common.{not, ◌&&◌, List, [], ◌∷◌, ◌++◌, length, get_or, ◌⊎◌, inl, inr, refl}
+use Rattle.std.proofs.Common.{sym, ap, subst, arith}
+use Rattle.std.specs.Prelude.{if◌then◌else◌, ◌==◌}
 use Rattle.std.specs.List.{AllByRecursion}
-use Rattle.std.proofs.lemmas.Bool.{and_from, or_left, or_right, eq-eqb, false_from_ne_true}
-use Rattle.std.proofs.lemmas.Bool.{both_ways, false≢true, or_cases}
+use Rattle.std.proofs.lemmas.Bool.{and_from, and_right, or_left, or_right, eq-eqb}
+use Rattle.std.proofs.lemmas.Bool.{both_ways, false_from_ne_true, false≢true, or_cases}
 use Rattle.std.proofs.Math.Bool.{or-false, not-not}
 use Rattle.cnf.specs.Literal.{Literal, negation, literal_eq, same_bool, index_of}
 use Rattle.cnf.specs.Clause.{contains_literal}
@@ -23,6 +23,38 @@ literal_eq_ne k l n = false_from_ne_true (literal_eq k l) (λ e. n (literal_eq-t
 
 pub literal_ne : (k l : Literal) → literal_eq k l ≡ false → k ≡ l → ⊥
 literal_ne k l e s = both_ways (literal_eq k l) e (rw s (literal_eq-refl l))
+
+same_bool-not : (b : Bool) → same_bool (not b) b ≡ false
+same_bool-not true = refl
+same_bool-not false = refl
+
+pub literal_eq-opposite : (l : Literal) → literal_eq (negation l) l ≡ false
+literal_eq-opposite l =
+    and_right (l.variable == l.variable) (same_bool (not l.negated) l.negated)
+    (same_bool-not l.negated)
+
+signs_swapped : (a b : Bool) → same_bool a (not b) ≡ same_bool (not a) b
+signs_swapped true true = refl
+signs_swapped true false = refl
+signs_swapped false true = refl
+signs_swapped false false = refl
+
+pub literal_eq-swapped : (k l : Literal) → literal_eq k (negation l) ≡ literal_eq (negation k) l
+literal_eq-swapped k l =
+    ap (λ b. (k.variable == l.variable) && b) (signs_swapped k.negated l.negated)
+
+-- literals of one variable
+same_variable_at : (a b : Bool) → (a ≡ b) ⊎ (a ≡ not b)
+same_variable_at true true = inl refl
+same_variable_at true false = inr refl
+same_variable_at false true = inr refl
+same_variable_at false false = inl refl
+
+pub same_variable : (k l : Literal) → k.variable ≡ l.variable → (k ≡ l) ⊎ (k ≡ negation l)
+same_variable k l e = elim (same_variable_at k.negated l.negated) [
+  | inl h ↦ inl (λ i. record { variable = e i; negated = h i })
+  | inr h ↦ inr (λ i. record { variable = e i; negated = h i })
+]
 
 index_same_at : (v w : ℕ) (s t : Bool) → 0 < v → 0 < w
     → 2 * (v - 1) + (if s then 1 else 0) ≡ 2 * (w - 1) + (if t then 1 else 0) → (v ≡ w) × (s ≡ t)
