@@ -20,5 +20,6 @@ pub use Rattle.cnf.proofs.Members.{contains_negation, member_pushed, subset_at, 
 pub use Rattle.cnf.proofs.Numbers.{numbered_past, one_if_le, same_number, tests_agree}
 pub use Rattle.cnf.proofs.Opposed.{contained_true, opposites_true}
 pub use Rattle.cnf.proofs.Repeats.{absent_own, repeat_distinct, repeat_push}
+pub use Rattle.cnf.proofs.Results.{on_err_at, on_ok_at}
 pub use Rattle.cnf.proofs.Rising.{rises_least, rises_weaker, rising_from}
 pub use Rattle.cnf.proofs.Sound.{literal_eq-true, negation-value}

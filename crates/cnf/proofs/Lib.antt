@@ -1,4 +1,5 @@
 mod Lists
+mod Results
 mod Numbers
 mod Assignments
 mod Sound
