@@ -1,52 +1,22 @@
 -- Rows within the limits make an instance: what holds of the literals as written holds of them with
 -- repeats dropped.
-use Rattle.std.proofs.Common.{◌≡◌, ℕ, ◌+◌, ◌^◌, ◌<◌, ◌≤◌, false, not, List, [], ◌∷◌, ◌++◌, map, inl}
+use Rattle.std.proofs.Common.{◌≡◌, ℕ, ◌+◌, ◌^◌, ◌<◌, ◌≤◌, not, List, [], ◌∷◌, ◌++◌, map, inl}
 use Rattle.std.proofs.Common.{inr, refl, sym, subst, arith, length, length-append}
 use Rattle.std.specs.Prelude.{All, sum, sum_by}
 use Rattle.std.specs.List.{flat_map}
-use Rattle.std.proofs.lemmas.Bool.{cases_Bool, or_from, or_parts}
+use Rattle.std.proofs.lemmas.Bool.{cases_Bool}
 use Rattle.std.proofs.lemmas.List.Elements.{All-nil, All-cons, All-head, All-tail, All-weaker}
 use Rattle.std.proofs.lemmas.List.Elements.{All-filter}
 use Rattle.std.proofs.lemmas.List.Sums.{sum_by-cons}
 use Rattle.cnf.specs.Literal.{Literal, literal_eq}
-use Rattle.cnf.specs.Clause.{contains_literal, without_literal, distinct, has_repeat}
+use Rattle.cnf.specs.Clause.{without_literal, distinct}
 use Rattle.cnf.specs.Clause.{greatest_variable}
 use Rattle.cnf.specs.Problem.{Problem, SoftClause}
 use Rattle.cnf.specs.Instance.{IsClauseWithin, IsInstance}
+use Rattle.cnf.proofs.Laws.{repeat_distinct}
 use Rattle.wcnf.specs.Wcnf.{Row, Ignored, Hard, Soft, hard_of, soft_of, literals_of, weight_of}
 use Rattle.wcnf.specs.Wcnf.{IsWithinLimits, Reads}
 use Rattle.wcnf.proofs.Drafting.{greatest-append}
-
--- a clause without one of its literals
-contains-without : (l : Literal) (c : List Literal)
-    → contains_literal l (without_literal l c) ≡ false
-contains-without l [] = refl
-contains-without l (k ∷ c) =
-    elim (cases_Bool (literal_eq l k)) [
-      | inl e ↦ rw e (contains-without l c)
-      | inr e ↦ rw (e, e) (contains-without l c)
-    ]
-
-contains_still : (m l : Literal) (c : List Literal) → contains_literal m c ≡ false
-    → contains_literal m (without_literal l c) ≡ false
-contains_still m l [] h = refl
-contains_still m l (k ∷ c) h =
-    let p = or_parts (literal_eq m k) (contains_literal m c) h in
-    elim (cases_Bool (literal_eq l k)) [
-      | inl e ↦ rw e (contains_still m l c p.1)
-      | inr e ↦ rw e (or_from (literal_eq m k) _ p.0 (contains_still m l c p.1))
-    ]
-
-once_still : (l : Literal) (c : List Literal) → has_repeat c ≡ false
-    → has_repeat (without_literal l c) ≡ false
-once_still l [] h = refl
-once_still l (k ∷ c) h =
-    let p = or_parts (contains_literal k c) (has_repeat c) h in
-    elim (cases_Bool (literal_eq l k)) [
-      | inl e ↦ rw e (once_still l c p.1)
-      | inr e ↦ rw e (or_from (contains_literal k (without_literal l c))
-          (has_repeat (without_literal l c)) (contains_still k l c p.0) (once_still l c p.1))
-    ]
 
 greatest-without : (l : Literal) (c : List Literal)
     → greatest_variable (without_literal l c) ≤ greatest_variable c
@@ -66,13 +36,6 @@ length-without l (k ∷ c) =
     ]
 
 -- a clause with each literal once
-pub repeat-distinct : (c : List Literal) → has_repeat (distinct c) ≡ false
-repeat-distinct [] = refl
-repeat-distinct (l ∷ c) =
-    or_from (contains_literal l (without_literal l (distinct c)))
-    (has_repeat (without_literal l (distinct c))) (contains-without l (distinct c))
-    (once_still l (distinct c) (repeat-distinct c))
-
 All-distinct : (P : Literal → Type 0) (c : List Literal) → All P c → All P (distinct c)
 All-distinct P [] a = All-nil P
 All-distinct P (l ∷ c) a =
@@ -100,7 +63,7 @@ All-parts (x ∷ xs) ys a =
 clause_within : (v : ℕ) (c : List Literal) → All IsVariable c → greatest_variable c ≤ v
     → IsClauseWithin v (distinct c)
 clause_within v c a h = (
-  repeat-distinct c,
+  repeat_distinct c,
   All-weaker IsVariable (λ l. 0 < l.variable) (λ l p. p.0) (distinct c)
       (All-distinct IsVariable c a),
   omega (arith, greatest-distinct c),
