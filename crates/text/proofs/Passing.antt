@@ -39,7 +39,7 @@ pub part-more : (a b : Option (List ℕ)) (x y : List ℕ) → AppendsPart a b x
     → AppendsPart a b (x ++ y)
 part-more a b x y p = (p.0, (p.1.0 ++ y, ap (λ z. z ++ y) p.1.1 ∙ append_assoc p.0 p.1.0 y), p.2)
 
-part-after : (a b c : Option (List ℕ)) (w x : List ℕ) → Appends a b w → AppendsPart b c x
+pub part-after : (a b c : Option (List ℕ)) (w x : List ℕ) → Appends a b w → AppendsPart b c x
     → AppendsPart a c (w ++ x)
 part-after a b c w x p q = (
   w ++ q.0,
