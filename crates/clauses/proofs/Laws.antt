@@ -1,4 +1,5 @@
 -- The laws of this crate that other crates cite, from one place.
+pub use Rattle.clauses.proofs.LiveClauses.{all_live, contains_live, live_all, live_map}
 pub use Rattle.clauses.proofs.Lookup.{renamed_at, rises_pairs}
 pub use Rattle.clauses.proofs.Moves.{came, moved_all, new_rise, renamed_place, same_clause}
 pub use Rattle.clauses.proofs.Moves.{same_origin, stands, went}

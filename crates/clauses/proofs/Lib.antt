@@ -1,4 +1,5 @@
 mod Flat
+mod LiveClauses
 mod Lookup
 mod Moves
 mod Places
