@@ -10,7 +10,7 @@ use Rattle.cnf.specs.Clause.{distinct, has_repeat, has_opposites, greatest_varia
 use Rattle.cnf.specs.Formula.{IsFormula, IsFormulaClause}
 use Rattle.cnf.specs.Problem.{Problem, SoftClause}
 use Rattle.cnf.specs.Instance.{IsInstance, IsClauseWithin}
-use Rattle.cnf.proofs.Laws.{all_append}
+use Rattle.cnf.proofs.Laws.{all_append, repeat_distinct}
 use Rattle.adder.specs.declared.cells.Cell.{Cell}
 use Rattle.adder.specs.declared.cells.Profile.{Profile}
 use Rattle.adder.specs.Network.{relaxing_of, Relaxed, relaxed_as, relaxed_variables, adders_as}
@@ -22,7 +22,6 @@ use Rattle.bound.specs.Adding.{HasVariables, HasRoom, IsFit}
 use Rattle.bound.specs.Bound.{kept, hard_cnf, cell_clauses, relaxed_clauses, addition_as}
 use Rattle.bound.specs.Bound.{rising_clauses, comparator_of, addition_clauses, comparator_over}
 use Rattle.bound.specs.Bound.{last_variable, bound_as}
-use Rattle.bound.proofs.Clauses.{repeat-distinct}
 use Rattle.bound.proofs.Subsets.{all_reverse}
 use Rattle.bound.proofs.Addition.{clauses_with, addition_cases, sums_few, sums_variables}
 use Rattle.bound.proofs.Compared.{AreCompared, distinct_of, rising_of, named_of, over_sums}
@@ -58,7 +57,7 @@ kept_formula v (c ∷ cs) h =
       | false ↦ λ e.
           let plain = distinct_of (IsVariable v) c h.0 in (
             record {
-              no_repeat = repeat-distinct c;
+              no_repeat = repeat_distinct c;
               no_opposites = e;
               from_one =
                   All-from_recursion (λ l. 0 < l.variable) (distinct c)
@@ -180,7 +179,7 @@ once_kept (c ∷ cs) =
     elim (has_opposites (distinct c))
     as (λ b. AllByRecursion IsOnce (if not b then distinct c ∷ kept cs else kept cs)) [
       | true ↦ once_kept cs
-      | false ↦ (repeat-distinct c, once_kept cs)
+      | false ↦ (repeat_distinct c, once_kept cs)
     ]
 
 pub kept_once : (cs : List (List Literal)) → All (λ c. has_repeat c ≡ false) (kept cs)

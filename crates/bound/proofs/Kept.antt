@@ -8,8 +8,8 @@ use Rattle.cnf.specs.Literal.{Literal, literal_eq, same_bool}
 use Rattle.cnf.specs.Clause.{contains_literal, without_literal, distinct, has_repeat, has_opposites}
 use Rattle.bound.specs.Bound.{kept}
 use Rattle.bound.specs.Adding.{Adds}
-use Rattle.cnf.proofs.Laws.{same_number}
-use Rattle.bound.proofs.Clauses.{any-distinct, repeat-distinct}
+use Rattle.cnf.proofs.Laws.{same_number, repeat_distinct}
+use Rattle.bound.proofs.Clauses.{any-distinct}
 
 without_absent : (l : Literal) (c : List Literal) → contains_literal l c ≡ false
     → without_literal l c ≡ c
@@ -64,7 +64,7 @@ kept_more old cs i c now new h is inv e =
 pub kept-distinct : (c once : List Literal) → once ≡ distinct c → kept (once ∷ []) ≡ kept (c ∷ [])
 kept-distinct c once e =
     ap (λ x. if not (has_opposites x) then x ∷ [] else [])
-    (distinct_same once (rw e (repeat-distinct c)) ∙ e)
+    (distinct_same once (rw e (repeat_distinct c)) ∙ e)
 
 -- a clause that has an opposite pair adds nothing, and another one itself
 pub kept_none : (old : List (List Literal)) (c : List Literal) → has_repeat c ≡ false

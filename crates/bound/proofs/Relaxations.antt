@@ -17,9 +17,9 @@ use Rattle.adder.specs.Network.{Relaxed, relaxed_one, relaxed_from}
 use Rattle.adder.proofs.Laws.{relaxed_cases}
 use Rattle.bound.specs.Bound.{kept}
 use Rattle.cnf.specs.Marks.{HasPlace}
-use Rattle.cnf.proofs.Laws.{all_append, places_each}
+use Rattle.cnf.proofs.Laws.{all_append, places_each, absent_above, repeat_push}
 use Rattle.bound.specs.Adding.{gets_variable}
-use Rattle.bound.proofs.Kept.{kept-append, same_literals}
+use Rattle.bound.proofs.Kept.{kept-append}
 
 -- the clauses of those that have a variable, and how many these are
 abbrev pub with_variables : List Relaxed → List (List Literal)
@@ -163,33 +163,10 @@ module _ (relaxing : Relaxing) (vars : ℕ) (ss : List SoftClause) (s : SoftClau
         few = omega (arith, h.few, length-append ss (s ∷ []));
       }
 
--- the clause with its new variable
-absent_above : (l : Literal) (c : List Literal) → greatest_variable c < l.variable
-    → contains_literal l c ≡ false
-absent_above l [] h = refl
-absent_above l (k ∷ c) h =
-    or_from (literal_eq l k) (contains_literal l c)
-    (ap (λ b. b && same_bool l.negated k.negated)
-    (ne_eqb l.variable k.variable (λ e. absurd (omega arith))))
-    (absent_above l c (omega arith))
-
-repeat-more : (c : List Literal) (l : Literal) → has_repeat c ≡ false → contains_literal l c ≡ false
-    → has_repeat (c ++ l ∷ []) ≡ false
-repeat-more [] l h a = refl
-repeat-more (k ∷ c) l h a =
-    let parts = or_parts (contains_literal k c) (has_repeat c) h in
-    let apart = or_parts (literal_eq l k) (contains_literal l c) a in
-    let here : contains_literal k (c ++ l ∷ []) ≡ false =
-    list_any-append (literal_eq k) c (l ∷ [])
-    ∙ or_from (contains_literal k c) (literal_eq k l || false) parts.0
-    (or_from (literal_eq k l) false (same_literals k l ∙ apart.0) refl) in
-    or_from (contains_literal k (c ++ l ∷ [])) (has_repeat (c ++ l ∷ [])) here
-    (repeat-more c l parts.1 apart.1)
-
 pub relaxed_no_repeat : (c : List Literal) (vars v : ℕ) → has_repeat c ≡ false
     → IsClauseWithin vars c → vars < v → has_repeat (c ++ positive v ∷ []) ≡ false
 relaxed_no_repeat c vars v h w lt =
-    repeat-more c (positive v) h (absent_above (positive v) c (omega (arith, w.2)))
+    repeat_push c (positive v) (absent_above (positive v) c (omega (arith, w.2))) h
 
 pub relaxed_places : (c : List Literal) (vars v rows : ℕ) → IsClauseWithin vars c → vars < v
     → 2 * v ≤ rows → All (HasPlace rows) (c ++ positive v ∷ [])

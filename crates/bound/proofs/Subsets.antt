@@ -8,7 +8,8 @@ use Rattle.std.proofs.lemmas.List.Folds.{list_any-append}
 use Rattle.std.proofs.Math.Bool.{or_comm}
 use Rattle.cnf.specs.Literal.{Literal, negation, literal_eq}
 use Rattle.cnf.specs.Clause.{contains_literal, distinct, has_opposites, is_subset}
-use Rattle.cnf.proofs.Laws.{literal_eq-refl, literal_eq-true, negation_twice, all_append}
+use Rattle.cnf.proofs.Laws.{literal_eq-refl, literal_eq-true, negation_twice, all_append, subset_at}
+use Rattle.cnf.proofs.Laws.{subset_from}
 use Rattle.bound.specs.Bound.{kept}
 use Rattle.bound.proofs.Clauses.{any-distinct}
 
@@ -19,28 +20,6 @@ not_own_negation l e = by l.negated (λ i. (e i).negated)
     by true h = true≢false h
     by false h = false≢true h
 
-subset_member : (l : Literal) (d c : List Literal) → is_subset d c ≡ true
-    → contains_literal l d ≡ true → contains_literal l c ≡ true
-subset_member l [] c h m = absurd (false≢true m)
-subset_member l (k ∷ d) c h m =
-    elim (contains_literal k c) as (λ b. contains_literal k c ≡ b
-    → (if b then is_subset d c else false) ≡ true → contains_literal l c ≡ true) [
-      | false ↦ λ e g. absurd (false≢true g)
-      | true ↦ λ e g. elim (or_cases (literal_eq l k) (contains_literal l d) m) [
-        | inl same ↦ subst (λ x. contains_literal x c ≡ true) (sym (literal_eq-true l k same)) e
-        | inr more ↦ subset_member l d c g more
-      ]
-    ] refl h
-
-subset_from : (d c : List Literal)
-    → ((l : Literal) → contains_literal l d ≡ true → contains_literal l c ≡ true)
-    → is_subset d c ≡ true
-subset_from [] c f = refl
-subset_from (k ∷ d) c f =
-    ap (λ b. if b then is_subset d c else false)
-    (f k (or_left (literal_eq k k) (contains_literal k d) (literal_eq-refl k)))
-    ∙ subset_from d c (λ l m. f l (or_right (literal_eq l k) (contains_literal l d) m))
-
 pub subset_self : (c : List Literal) → is_subset c c ≡ true
 subset_self c = subset_from c c (λ l m. m)
 
@@ -48,13 +27,13 @@ pub subset_more : (l : Literal) (d c : List Literal) → is_subset d c ≡ true
     → is_subset d (l ∷ c) ≡ true
 subset_more l d c h =
     subset_from d (l ∷ c) (λ k m. or_right (literal_eq k l) (contains_literal k c)
-    (subset_member k d c h m))
+    (subset_at d c k h m))
 
 subset-distinct : (d c : List Literal) → is_subset d c ≡ true
     → is_subset (distinct d) (distinct c) ≡ true
 subset-distinct d c h =
     subset_from (distinct d) (distinct c) (λ l m. any-distinct (literal_eq l) c
-    ∙ subset_member l d c h (sym (any-distinct (literal_eq l) d) ∙ m))
+    ∙ subset_at d c l h (sym (any-distinct (literal_eq l) d) ∙ m))
 
 opposites_from : (c : List Literal) → has_opposites c ≡ true
     → (l : Literal) × (contains_literal l c ≡ true) × (contains_literal (negation l) c ≡ true)
@@ -103,8 +82,8 @@ subset_no_opposites d c h e =
       | false ↦ λ g. refl
       | true ↦ λ g.
           let r = opposites_from d g in
-          absurd (both_ways _ e (opposites_to r.0 c (subset_member r.0 d c h r.1)
-          (subset_member (negation r.0) d c h r.2)))
+          absurd (both_ways _ e (opposites_to r.0 c (subset_at d c r.0 h r.1)
+          (subset_at d c (negation r.0) h r.2)))
     ] refl
 
 -- some clause of cs is a subset of c

@@ -2,13 +2,13 @@
 use Rattle.std.proofs.Common.{◌≡◌, ◌++◌, ap, ◌∙◌}
 use Rattle.std.proofs.lemmas.Result.{on_ok_weaker}
 use Rattle.cnf.specs.Clause.{distinct}
-use Rattle.bound.proofs.Clauses.{repeat-distinct}
+use Rattle.cnf.proofs.Laws.{repeat_distinct}
 use Rattle.bound.proofs.Kept.{kept-distinct}
 use Rattle.bound.proofs.keeping.keep_short.Goals as goal
 
 pub keep_once-requires : goal.keep_once-requires
 keep_once-requires c =
-    rw (c.deref.ensures.value, c.in_ok-once.ensures) (repeat-distinct c.args.lits.now)
+    rw (c.deref.ensures.value, c.in_ok-once.ensures) (repeat_distinct c.args.lits.now)
 
 pub returns-in_ok-once : goal.returns-in_ok-once
 returns-in_ok-once c =
