@@ -10,10 +10,10 @@ use Rattle.std.proofs.lemmas.List.{get_or-set_same, get_or-set_other}
 use Rattle.std.proofs.lemmas.List.Elements.{All-push, All-pop, All-weaker}
 use Rattle.cnf.specs.Literal.{Literal, index_of, literal_eq}
 use Rattle.cnf.specs.Clause.{contains_literal}
-use Rattle.cnf.proofs.Laws.{index_same, index_below}
+use Rattle.cnf.proofs.Laws.{index_same, index_below, member_pushed, repeat_push}
 use Rattle.cnf.proofs.Laws.{literal_eq-true}
 use Rattle.lrat_check.specs.Assumed.{AreValues}
-use Rattle.lrat_check.proofs.Members.{push_other, in_push-last, has_repeat-push, has_repeat-last}
+use Rattle.lrat_check.proofs.Members.{push_other, has_repeat-last}
 use Rattle.lrat_check.proofs.Members.{none_past}
 
 -- one literal more
@@ -28,7 +28,7 @@ value_assume values n xs l t p q k pk qk =
           let same : l ≡ k = sym (index_same k l pk p e) in
           subst (λ m. get_or (slice_set values (index_of l) true) (index_of m) false
           ≡ contains_literal m (xs ++ l ∷ [])) same
-          (get_or-set_same values (index_of l) true false i ∙ sym (in_push-last l xs))
+          (get_or-set_same values (index_of l) true false i ∙ sym (member_pushed l xs))
       | inr ne ↦
           let other : literal_eq k l ≡ false =
           false_from_ne_true _ (λ e. ne (ap index_of (literal_eq-true k l e))) in
@@ -43,7 +43,7 @@ AreValues-assume values n xs l t p q h = record {
   long = length-set values (index_of l) true ∙ t.long;
   few = t.few;
   within = All-push (λ k. k.variable ≤ n) xs l t.within q;
-  once = has_repeat-push l xs t.once h;
+  once = repeat_push xs l h t.once;
   value = value_assume values n xs l t p q;
 }
 

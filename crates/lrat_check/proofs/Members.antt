@@ -8,34 +8,11 @@ use Rattle.std.proofs.lemmas.List.Folds.{list_any-append}
 use Rattle.std.proofs.lemmas.List.Elements.{All-head, All-tail}
 use Rattle.cnf.specs.Literal.{Literal, negation, literal_eq}
 use Rattle.cnf.specs.Clause.{contains_literal, has_repeat, has_opposites}
-use Rattle.cnf.proofs.Laws.{literal_eq-refl, literal_eq-true, negation_twice}
+use Rattle.cnf.proofs.Laws.{literal_eq-refl, literal_eq-true, negation_twice, literal_eq-swapped}
+use Rattle.cnf.proofs.Laws.{tests_agree}
 use Rattle.bound.proofs.Laws.{same_literals}
 use Rattle.lrat_check.specs.Assumed.{AreWithin}
 use Rattle.lrat_check.specs.Steps.{HaveSame}
-
--- two tests that imply each other
-pub same_tests : (a b : Bool) → (a ≡ true → b ≡ true) → (b ≡ true → a ≡ true) → a ≡ b
-same_tests true true f g = refl
-same_tests true false f g = sym (f refl)
-same_tests false true f g = g refl
-same_tests false false f g = refl
-
-literal_eq-from : (k l : Literal) → k ≡ l → literal_eq k l ≡ true
-literal_eq-from k l e = subst (λ m. literal_eq k m ≡ true) e (literal_eq-refl k)
-
-pub literal_eq-negation : (k l : Literal) → literal_eq k (negation l) ≡ literal_eq (negation k) l
-literal_eq-negation k l =
-    same_tests _ _
-    (λ e. literal_eq-from (negation k) l (ap negation (literal_eq-true k (negation l) e)
-    ∙ negation_twice l))
-    (λ e. literal_eq-from k (negation l) (sym (negation_twice k)
-    ∙ ap negation (literal_eq-true (negation k) l e)))
-
-pub contains-negations : (l : Literal) (xs : List Literal)
-    → contains_literal l (map negation xs) ≡ contains_literal (negation l) xs
-contains-negations l [] = refl
-contains-negations l (x ∷ xs) = let e = literal_eq-negation l x in
-    let f = contains-negations l xs in cc
 
 -- one more at the end
 pub contains-push : (k l : Literal) (xs : List Literal)
@@ -55,9 +32,6 @@ not_in_push-parts k l xs h =
     ∙ h) in
     (p.0, (or_parts (literal_eq k l) false p.1).0)
 
-pub in_push-last : (l : Literal) (xs : List Literal) → contains_literal l (xs ++ l ∷ []) ≡ true
-in_push-last l xs = contains-push l l xs ∙ or_right _ _ (or_left _ _ (literal_eq-refl l))
-
 pub push_other : (k l : Literal) (xs : List Literal) → literal_eq k l ≡ false
     → contains_literal k (xs ++ l ∷ []) ≡ contains_literal k xs
 push_other k l xs e =
@@ -72,7 +46,7 @@ in_middle l xs ys = list_any-append (literal_eq l) xs (l ∷ ys)
 -- at the end or at the front is the same
 pub HaveSame-push : (l : Literal) (A : List Literal) → HaveSame (l ∷ A) (A ++ l ∷ [])
 HaveSame-push l A k =
-    same_tests _ _
+    tests_agree _ _
     (λ e. contains-push k l A ∙ elim (or_cases (literal_eq k l) (contains_literal k A) e) [
       | inl h ↦
           or_right _ _ (or_left _ _ h)
@@ -89,14 +63,6 @@ HaveSame-push l A k =
     ])
 
 -- repeats
-pub has_repeat-push : (l : Literal) (xs : List Literal) → has_repeat xs ≡ false
-    → contains_literal l xs ≡ false → has_repeat (xs ++ l ∷ []) ≡ false
-has_repeat-push l [] r h = refl
-has_repeat-push l (x ∷ xs) r h =
-    let p = or_parts (contains_literal x xs) (has_repeat xs) r in
-    let q = or_parts (literal_eq l x) (contains_literal l xs) h in
-    or_from _ _ (not_in_push x l xs p.0 (same_literals x l ∙ q.0)) (has_repeat-push l xs p.1 q.1)
-
 pub has_repeat-last : (l : Literal) (xs : List Literal) → has_repeat (xs ++ l ∷ []) ≡ false
     → (has_repeat xs ≡ false) × (contains_literal l xs ≡ false)
 has_repeat-last l [] r = (refl, refl)
@@ -123,7 +89,7 @@ has_opposites-push l [] r h = refl
 has_opposites-push l (x ∷ xs) r h =
     let p = or_parts (contains_literal (negation x) xs) (has_opposites xs) r in
     let q = or_parts (literal_eq (negation l) x) (contains_literal (negation l) xs) h in
-    or_from _ _ (not_in_push (negation x) l xs p.0 (sym (literal_eq-negation x l)
+    or_from _ _ (not_in_push (negation x) l xs p.0 (sym (literal_eq-swapped x l)
     ∙ same_literals x (negation l) ∙ q.0)) (has_opposites-push l xs p.1 q.1)
 
 pub opposite_at : (l : Literal) (xs ys : List Literal) → contains_literal (negation l) xs ≡ true

@@ -17,8 +17,8 @@ use Rattle.lrat_check.specs.declared.hints.Walked.{Walked}
 use Rattle.lrat_live.specs.Listed.{same_ids}
 use Rattle.lrat_check.specs.Verdict.{Open, Refuted, walk, ids_with, groups_fault, clause_fault}
 use Rattle.lrat_check.specs.Steps.{EndAlike, walked_as}
-use Rattle.cnf.proofs.Laws.{negation_twice}
-use Rattle.lrat_check.proofs.Members.{contains-negations, has_repeat-push, has_opposites-push}
+use Rattle.cnf.proofs.Laws.{negation_twice, contains_negation, repeat_push}
+use Rattle.lrat_check.proofs.Members.{has_opposites-push}
 use Rattle.lrat_check.proofs.Members.{repeat_at, opposite_at}
 use Rattle.lrat_check.proofs.Alike.{clause_fault-alike}
 use Rattle.lrat_check.proofs.Effects.{drop_at}
@@ -33,14 +33,14 @@ module _ (c : List Literal) (i : ℕ) (l : Literal) (lt : i < length c)
 
   in_negations : contains_literal (negation l) (map negation (take i c))
       ≡ contains_literal l (take i c)
-  in_negations = contains-negations (negation l) (take i c)
+  in_negations = contains_negation (negation l) (take i c)
       ∙ ap (λ k. contains_literal k (take i c)) (negation_twice l)
 
   pub not_apart : (T : List Literal) → T ≡ map negation (take i c) → contains_literal l T ≡ true
       → false ≡ not (has_repeat c || has_opposites c)
   not_apart T e h =
       let among : contains_literal (negation l) (take i c) ≡ true =
-      sym (contains-negations l (take i c)) ∙ ap (contains_literal l) (sym e) ∙ h in
+      sym (contains_negation l (take i c)) ∙ ap (contains_literal l) (sym e) ∙ h in
       let opposite : has_opposites c ≡ true =
       subst (λ d. has_opposites d ≡ true) split (opposite_at l (take i c) (drop (i + 1) c) among)
       in
@@ -63,15 +63,15 @@ module _ (c : List Literal) (i : ℕ) (l : Literal) (lt : i < length c)
   pub single_more : (T : List Literal) → T ≡ map negation (take i c) → has_repeat (take i c) ≡ false
       → contains_literal (negation l) T ≡ false → has_repeat (take (i + 1) c) ≡ false
   single_more T e r h =
-      ap has_repeat more ∙ has_repeat-push l (take i c) r (sym in_negations
-      ∙ ap (contains_literal (negation l)) (sym e) ∙ h)
+      ap has_repeat more ∙ repeat_push (take i c) l (sym in_negations
+      ∙ ap (contains_literal (negation l)) (sym e) ∙ h) r
 
   pub apart_more : (T : List Literal) → T ≡ map negation (take i c)
       → has_opposites (take i c) ≡ false → contains_literal l T ≡ false
       → has_opposites (take (i + 1) c) ≡ false
   apart_more T e r h =
       ap has_opposites more
-      ∙ has_opposites-push l (take i c) r (sym (contains-negations l (take i c))
+      ∙ has_opposites-push l (take i c) r (sym (contains_negation l (take i c))
       ∙ ap (contains_literal l) (sym e) ∙ h)
 
   pub within_more : (n m : ℕ) → n ≤ m → AreWithin n (take i c) → l.variable ≤ m

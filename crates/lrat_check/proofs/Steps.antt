@@ -19,6 +19,7 @@ use Rattle.cnf.specs.Refute.{Clauses}
 use Rattle.cnf.specs.Lrat.{CandidateHints, Deletion as DeletesLine, Live}
 use Rattle.cnf.specs.Lrat.{start_of, with_clause, without_ids, IsAddable, HoldsForCandidate}
 use Rattle.cnf.specs.Lrat.{candidates_of, IsRat, IsRup, Step}
+use Rattle.cnf.proofs.Laws.{numbered_past}
 use Rattle.lrat_check.specs.declared.verdicts.Cause.{Cause}
 use Rattle.lrat_check.specs.declared.verdicts.Cause.TheVariants.{IdOrder, DeadId, HintAfterConflict}
 use Rattle.lrat_check.specs.declared.verdicts.Cause.TheVariants.{Candidates, ClauseForm}
@@ -379,10 +380,6 @@ no_clause_repeats (d ∷ cs) h zero c e = let same : d ≡ c = cc in
     subst (λ x. has_repeat x ≡ false) same (All-head (λ x. has_repeat x ≡ false) d cs h)
 no_clause_repeats (d ∷ cs) h (suc i) c e =
     no_clause_repeats cs (All-tail (λ x. has_repeat x ≡ false) d cs h) i c e
-
-numbered_past : (cs : List (List Literal)) (i : ℕ) → length cs < i → numbered cs i ≡ None
-numbered_past cs zero h = absurd (omega arith)
-numbered_past cs (suc i) h = slice_get_past cs i (omega arith)
 
 numbered_single : (cs : List (List Literal)) → All (λ c. has_repeat c ≡ false) cs
     → (i : ℕ) (c : List Literal) → numbered cs i ≡ Some c → has_repeat c ≡ false
