@@ -34,10 +34,6 @@ pub numbered_right : (xs ys : List (List Literal)) (i k : ℕ)
 numbered_right xs ys zero k e = absurd (omega arith)
 numbered_right xs ys (suc i) k e = get_right xs ys i k (omega arith)
 
-pub numbered_past : (xs : List (List Literal)) (i : ℕ) → length xs < i → numbered xs i ≡ None
-numbered_past xs zero h = refl
-numbered_past xs (suc i) h = slice_get_past xs i (omega arith)
-
 pub numbered_within : (xs : List (List Literal)) (i : ℕ) (c : List Literal)
     → numbered xs i ≡ Some c → i ≤ length xs
 numbered_within xs zero c e = absurd (none-some c e)

@@ -4,13 +4,13 @@ pub use Rattle.lrat_log.proofs.Additions.{additions_cons, additions_few, additio
 pub use Rattle.lrat_log.proofs.Additions.{last_numbered}
 pub use Rattle.lrat_log.proofs.Additions.{numbered_on-append}
 pub use Rattle.lrat_log.proofs.GivenNumbers.{base_more, base_of, clauses_given, given_at-given_of}
-pub use Rattle.lrat_log.proofs.GivenNumbers.{given_on, numbered_past, numbered_right}
+pub use Rattle.lrat_log.proofs.GivenNumbers.{given_on, numbered_right}
 pub use Rattle.lrat_log.proofs.Growing.{base_front, chain_join, ids_covered, live_after-append}
 pub use Rattle.lrat_log.proofs.Growing.{live_more, one_apart, open_push, refutes_covered}
 pub use Rattle.lrat_log.proofs.Growing.{stops_push}
 pub use Rattle.lrat_log.proofs.Ids.{accepted_ids, small_ids}
 pub use Rattle.lrat_log.proofs.LineTexts.{item_fault}
-pub use Rattle.lrat_log.proofs.Literals.{contains-negations, literal_eq-negation}
+pub use Rattle.lrat_log.proofs.Literals.{contains-negations, literal_eq-negations}
 pub use Rattle.lrat_log.proofs.MoreGiven.{new_more, new_searched}
 pub use Rattle.lrat_log.proofs.Names.{steps_from_chain}
 pub use Rattle.lrat_log.proofs.NewLines.{first_new, none_new}

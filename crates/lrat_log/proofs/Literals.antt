@@ -10,12 +10,12 @@ same_bool-not true false = refl
 same_bool-not false true = refl
 same_bool-not false false = refl
 
-pub literal_eq-negation : (k l : Literal) → literal_eq (negation k) (negation l) ≡ literal_eq k l
-literal_eq-negation k l =
+pub literal_eq-negations : (k l : Literal) → literal_eq (negation k) (negation l) ≡ literal_eq k l
+literal_eq-negations k l =
     ap (λ b. (k.variable == l.variable) && b) (same_bool-not k.negated l.negated)
 
 -- it is there just where the literal is in the clause
 pub contains-negations : (k : Literal) (c : List Literal)
     → contains_literal (negation k) (map negation c) ≡ contains_literal k c
 contains-negations k [] = refl
-contains-negations k (l ∷ c) = rw (literal_eq-negation, contains-negations k c)
+contains-negations k (l ∷ c) = rw (literal_eq-negations, contains-negations k c)

@@ -17,6 +17,7 @@ use Rattle.cnf.specs.Refute.{IsFalseUnder}
 use Rattle.cnf.specs.Lrat.{Addition, Deletion, Live, with_clause, start_of, Step, Chain, Accepts}
 use Rattle.cnf.specs.Lrat.{AcceptsFrom}
 use Rattle.cnf.specs.Lrat.{IsId}
+use Rattle.cnf.proofs.Laws.{numbered_past}
 use Rattle.lrat_log.specs.declared.lines.Name.{Name}
 use Rattle.lrat_log.specs.declared.lines.Name.TheVariants.{Formula, Added}
 use Rattle.lrat_log.specs.declared.lines.Hint.{Hint}
@@ -36,7 +37,7 @@ use Rattle.lrat_log.proofs.Names.{LineKnown, chain_after, steps_from_chain}
 use Rattle.lrat_log.proofs.Numbering.{log_steps_from, given_below, given_past}
 use Rattle.lrat_log.proofs.Ids.{known_names}
 use Rattle.lrat_log.proofs.Literals.{contains-negations}
-use Rattle.lrat_log.proofs.GivenNumbers.{numbered_left, numbered_right, numbered_past}
+use Rattle.lrat_log.proofs.GivenNumbers.{numbered_left, numbered_right}
 use Rattle.lrat_log.proofs.GivenNumbers.{numbered_within, base_of, given_at-given_of}
 
 -- a weaker clause by the hint of its number

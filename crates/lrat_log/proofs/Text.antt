@@ -22,7 +22,7 @@ use Rattle.text.specs.LratText.{group_tokens}
 use Rattle.cnf.specs.Lrat.{IsId}
 use Rattle.text.specs.LratText.{line_tokens, has_tokens, HasNumbers, IsTextOf}
 use Rattle.cnf.proofs.Laws.{GroupHasIds}
-use Rattle.text.proofs.Laws.{digit_bounds, is_number-decimal}
+use Rattle.text.proofs.Laws.{digit_bounds, is_number-decimal, parts-cons}
 use Rattle.lrat_log.specs.declared.lines.Hint.{Hint}
 use Rattle.lrat_log.specs.declared.lines.Hint.TheVariants.{Plain, Group}
 use Rattle.lrat_log.specs.declared.lines.Name.{Name}
@@ -98,11 +98,6 @@ no_return [] i h = refl
 no_return (b ∷ x) zero h = ne_eqb b 13 (λ e. absurd (omega (arith, h.0)))
 no_return (b ∷ x) (suc i) h = no_return x i h.1
 
-parts_cons : (x : List ℕ) (parts : List (List ℕ)) → 0 < length parts
-    → lines_of_parts (x ∷ parts) ≡ strip_carriage_return x ∷ lines_of_parts parts
-parts_cons x [] h = absurd (omega arith)
-parts_cons x (y ∷ more) h = refl
-
 abbrev is_feed : ℕ → Bool
 is_feed b = b == 10
 
@@ -115,7 +110,7 @@ line_first x rest h =
     let stripped : strip_carriage_return x ≡ x = rw (no_return x (length x - 1) h) refl in
     ap lines_of_parts (slice_split_at is_feed x 10 rest
     (All-from_recursion (λ b. is_feed b ≡ false) x (no_feed x h)) refl)
-    ∙ parts_cons x (slice_split is_feed rest) (omega (arith, length-slice_split is_feed rest))
+    ∙ parts-cons x (slice_split is_feed rest) (omega (arith, length-slice_split is_feed rest))
     ∙ ap (λ y. y ∷ lines rest) stripped
 
 abbrev pub HasWords : ProofLine → Type 0
