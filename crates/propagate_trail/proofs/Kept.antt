@@ -9,21 +9,11 @@ use Rattle.std.proofs.lemmas.List.{take-take}
 use Rattle.std.proofs.lemmas.List.Folds.{list_any_at}
 use Rattle.cnf.specs.Literal.{Literal, literal_eq}
 use Rattle.cnf.specs.Clause.{contains_literal}
-use Rattle.cnf.proofs.Laws.{literal_eq-true}
+use Rattle.cnf.proofs.Laws.{literal_eq-true, contains_front}
 use Rattle.propagate_trail.specs.Trail.{Assigned, literals_of, depth_of, level_after, level_from}
 use Rattle.propagate_trail.specs.Trail.{level_in, kept_from, kept_to}
-use Rattle.propagate_trail.proofs.Literals.{literal_eq-self, contains-append}
+use Rattle.propagate_trail.proofs.Literals.{literal_eq-self}
 use Rattle.propagate_trail.proofs.Levels.{kept_all, depth_step}
-
-pub contains_front : (l : Literal) (A B : List Literal) → contains_literal l A ≡ true
-    → contains_literal l (A ++ B) ≡ true
-contains_front l A B h =
-    contains-append l A B ∙ or_left (contains_literal l A) (contains_literal l B) h
-
-pub contains_back : (l : Literal) (A B : List Literal) → contains_literal l B ≡ true
-    → contains_literal l (A ++ B) ≡ true
-contains_back l A B h =
-    contains-append l A B ∙ or_right (contains_literal l A) (contains_literal l B) h
 
 pub contains_take : (l : Literal) (m : ℕ) (A : List Literal) → contains_literal l (take m A) ≡ true
     → contains_literal l A ≡ true

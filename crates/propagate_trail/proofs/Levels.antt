@@ -1,9 +1,11 @@
 -- What is kept of a trail up to a level.
 use Rattle.std.proofs.Common.{◌≡◌, ℕ, ◌+◌, ◌<◌, ◌≤◌, leb, List, [], ◌∷◌, ◌++◌}
-use Rattle.std.proofs.Common.{inl, inr, refl, sym, ◌∙◌, ap, subst, arith}
+use Rattle.std.proofs.Common.{Some, inl, inr, refl, sym, ◌∙◌, ap, subst, arith}
+use Rattle.std.specs.Prelude.{◌==◌}
 use Rattle.std.proofs.lemmas.Bool.{cases_Bool, le-leb, lt-leb, cond-true, cond-false}
+use Rattle.std.proofs.lemmas.Option.{none-some, same_Some}
 use Rattle.propagate_trail.specs.Trail.{Assigned, depth_of, is_decision, level_after, kept_from}
-use Rattle.propagate_trail.specs.Trail.{kept_to}
+use Rattle.propagate_trail.specs.Trail.{kept_to, level_from}
 use Rattle.propagate_trail.proofs.Trails.{depth-cons, depth_push}
 
 pub depth_step : (n : ℕ) (a : Assigned) (T : List Assigned)
@@ -14,6 +16,16 @@ depth_step n a T =
       | inr h ↦
           rw h (omega arith)
     ])
+
+pub level_from-le : (n : ℕ) (T : List Assigned) (v m : ℕ) → level_from n T v ≡ Some m
+    → m ≤ n + depth_of T
+level_from-le n [] v m e = absurd (none-some m e)
+level_from-le n (a ∷ T) v m e = elim (cases_Bool (a.literal.variable == v)) [
+  | inl s ↦ let same : level_after n a ≡ m = same_Some (level_after n a) m (rw s at e) in
+      omega (arith, depth_step n a T)
+  | inr s ↦ let rest = level_from-le (level_after n a) T v m (rw s at e) in
+      omega (arith, depth_step n a T)
+]
 
 pub kept_all_from : (n to : ℕ) (T : List Assigned) → n + depth_of T ≤ to → kept_from n to T ≡ T
 kept_all_from n to [] h = refl

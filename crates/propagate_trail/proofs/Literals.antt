@@ -12,22 +12,10 @@ use Rattle.cnf.proofs.Laws.{index_same, index_below}
 use Rattle.propagate_trail.specs.Tables.{mentions}
 use Rattle.propagate_trail.specs.Trail.{IsVariable}
 
-same_bool-not : (b : Bool) → same_bool (not b) b ≡ false
-same_bool-not true = refl
-same_bool-not false = refl
-
-pub literal_eq-negation : (l : Literal) → literal_eq (negation l) l ≡ false
-literal_eq-negation l =
-    Prim.grind (arith, eq-eqb l.variable l.variable refl, same_bool-not l.negated)
-
 pub literal_eq-other : (k l : Literal) → k.variable ≢ l.variable → literal_eq k l ≡ false
 literal_eq-other k l h =
     and_left (k.variable == l.variable) (same_bool k.negated l.negated)
     (ne_eqb k.variable l.variable h)
-
-pub contains-append : (l : Literal) (A B : List Literal)
-    → contains_literal l (A ++ B) ≡ (contains_literal l A || contains_literal l B)
-contains-append l A B = list_any-append (literal_eq l) A B
 
 -- the literals of one variable
 same_sign : (v : Bool) (a b : Bool) → (v && same_bool a b) ≡ false
@@ -76,16 +64,3 @@ index-negation l = elim (cases_Bool l.negated) [
 pub index-within : (variables : ℕ) (l : Literal) → IsVariable variables l
     → index_of l < 2 * variables
 index-within variables l h = index_below l variables h.0 h.1
-
--- a literal of the same variable is the same or its negation
-same_variable_at : (a b : Bool) → (a ≡ b) ⊎ (a ≡ not b)
-same_variable_at true true = inl refl
-same_variable_at true false = inr refl
-same_variable_at false true = inr refl
-same_variable_at false false = inl refl
-
-pub same_variable : (k l : Literal) → k.variable ≡ l.variable → (k ≡ l) ⊎ (k ≡ negation l)
-same_variable k l e = elim (same_variable_at k.negated l.negated) [
-  | inl h ↦ inl (λ i. record { variable = e i; negated = h i })
-  | inr h ↦ inr (λ i. record { variable = e i; negated = h i })
-]

@@ -63,7 +63,7 @@ level_from_named ms level (a ∷ T) v =
     ∙ ap (λ X. if a.literal.variable == v then Some (level_after level a) else X)
     (level_from_named ms (level_after level a) T v)
 
-depth_named : (ms : Renaming) (T : List Assigned) → depth_of (named_trail ms T) ≡ depth_of T
+pub depth_named : (ms : Renaming) (T : List Assigned) → depth_of (named_trail ms T) ≡ depth_of T
 depth_named ms [] = refl
 depth_named ms (a ∷ T) =
     depth-cons (named_assigned ms a) (named_trail ms T)

@@ -6,10 +6,10 @@ use Rattle.std.proofs.lemmas.List.{append-nil}
 use Rattle.cnf.specs.Literal.{Literal, negation, literal_eq}
 use Rattle.cnf.specs.Clause.{contains_literal, HaveSame}
 use Rattle.cnf.specs.Refute.{Clauses}
-use Rattle.cnf.proofs.Laws.{literal_eq-true}
+use Rattle.cnf.proofs.Laws.{literal_eq-true, literal_eq-opposite, contains-append}
 use Rattle.cnf.proofs.Laws.{unit_same}
 use Rattle.propagate_trail.specs.Trail.{Assigned, literals_of, HasReasons, IsJustified}
-use Rattle.propagate_trail.proofs.Literals.{literal_eq-negation, negation_twice, contains-append}
+use Rattle.propagate_trail.proofs.Literals.{negation_twice}
 
 pub justified_same : (at : Clauses) (A B : List Literal) (l : Literal) (r : Option ℕ) → HaveSame A B
     → IsJustified at A l r → IsJustified at B l r
@@ -68,7 +68,7 @@ no_opposites_cons A k new h l e f = elim (or_cases (literal_eq l k) (contains_li
       let s = literal_eq-true l k same in
       elim (or_cases (literal_eq (negation l) k) (contains_literal (negation l) A) f) [
         | inl g ↦ both_ways _ (subst (λ x. literal_eq (negation x) k ≡ false) (sym s)
-            (literal_eq-negation k)) g
+            (literal_eq-opposite k)) g
         | inr g ↦ both_ways _ (subst (λ x. contains_literal (negation x) A ≡ false) (sym s) new) g
       ]
   | inr member ↦ elim (or_cases (literal_eq (negation l) k) (contains_literal (negation l) A) f) [

@@ -14,10 +14,11 @@ use Rattle.std.proofs.lemmas.List.{take_all}
 use Rattle.std.proofs.lemmas.List.Sums.{sum_by-cons}
 use Rattle.std.proofs.lemmas.List.Elements.{All-push, All-nil}
 use Rattle.cnf.specs.Literal.{Literal, negation, index_of}
+use Rattle.cnf.proofs.Laws.{same_variable}
 use Rattle.propagate_trail.specs.Trail.{Assigned, literals_of, depth_of, value_in, level_in}
 use Rattle.propagate_trail.specs.Trail.{level_after, position_in, position_from, IsVariable}
 use Rattle.propagate_trail.specs.Tables.{mentions, reason_at, assigned_by, IsTrail}
-use Rattle.propagate_trail.proofs.Literals.{same_variable, index-other, index-negation}
+use Rattle.propagate_trail.proofs.Literals.{index-other, index-negation}
 use Rattle.propagate_trail.proofs.Literals.{index-within}
 use Rattle.propagate_trail.proofs.Trails.{made, literals_of-assigned, open_none, assigned_by-set}
 use Rattle.propagate_trail.proofs.Trails.{value_push_other, value_push_same, value_push_negation}
