@@ -7,6 +7,7 @@ use Rattle.std.proofs.lemmas.Option.{slice_get_past, slice_get_read, slice_get-g
 use Rattle.std.proofs.Math.Seq.{get_or-append_seam}
 use Rattle.cnf.specs.Literal.{Literal}
 use Rattle.clauses.specs.Slots.{Slots, clause_at, in_slot}
+use Rattle.clauses.proofs.Laws.{clause_new, clause_old}
 use Rattle.propagate.specs.Watches.{EngineState, is_attached}
 use Rattle.propagate.specs.Fits.{Fits}
 use Rattle.propagate.proofs.FitsLaws.{fits_local}
@@ -18,24 +19,6 @@ past_end slots r c past e =
     let none : clause_at slots r ≡ None = ap in_slot (slice_get_past slots r past) in
     let both : None ≡ Some c = sym none ∙ e in
     cc
-
--- a new clause is at the end, and the others stay
-pub added_here : (slots : Slots) (c : List Literal)
-    → clause_at (slots ++ Some c ∷ []) (length slots) ≡ Some c
-added_here slots c =
-    let all = slots ++ Some c ∷ [] in
-    let within : length slots < length all = omega (arith, length-append slots (Some c ∷ [])) in
-    ap in_slot (slice_get_read all (length all) (length slots) (Some c) refl within
-    (sym (get_or-append_seam slots (Some c) [] (Some c))))
-
-added_others : (slots : Slots) (c : List Literal) (r : ℕ) → r < length slots
-    → clause_at (slots ++ Some c ∷ []) r ≡ clause_at slots r
-added_others slots c r lt =
-    let all = slots ++ Some c ∷ [] in
-    let within : r < length all = omega (arith, lt, length-append slots (Some c ∷ [])) in
-    ap in_slot (slice_get-get_or all r None within
-    ∙ ap Some (get_or_append_left slots (Some c ∷ []) None r lt)
-    ∙ sym (slice_get-get_or slots r None lt))
 
 pub new_is_detached : (e : EngineState) (slots : Slots) → Fits e slots
     → is_attached e (length slots) ≡ false
@@ -49,11 +32,11 @@ pub fits_added : (e : EngineState) (slots : Slots) (c : List Literal) → Fits e
     → Fits e (slots ++ Some c ∷ [])
 fits_added e slots c fits =
     fits_local e slots (slots ++ Some c ∷ []) fits (λ r held. elim (cases_lt r (length slots)) [
-      | inl lt ↦ added_others slots c r lt
+      | inl lt ↦ clause_old slots c r lt
       | inr le ↦ let found = fits.attached r held in absurd (past_end slots r found.0 le found.1)
     ])
 
 -- what an attached clause owes, where it was just added
 pub added_live : (slots : Slots) (c : List Literal) (r : ℕ) → r ≡ length slots
     → clause_at (slots ++ Some c ∷ []) r ≡ Some c
-added_live slots c r e = ap (clause_at (slots ++ Some c ∷ [])) e ∙ added_here slots c
+added_live slots c r e = ap (clause_at (slots ++ Some c ∷ [])) e ∙ clause_new slots c

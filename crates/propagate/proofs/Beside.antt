@@ -6,7 +6,8 @@ use Rattle.std.specs.List.{AllByRecursion}
 use Rattle.std.proofs.lemmas.Bool.{or_cases, or_left, false≢true}
 use Rattle.cnf.specs.Literal.{Literal, literal_eq, negation}
 use Rattle.cnf.specs.Clause.{contains_literal}
-use Rattle.cnf.proofs.Laws.{literal_eq-true, all_from, literal_eq-refl}
+use Rattle.cnf.proofs.Laws.{literal_eq-true, all_from, literal_eq-refl, contains-append}
+use Rattle.cnf.proofs.Laws.{contains_front, member_pushed}
 use Rattle.clauses.specs.Slots.{Slots, clause_at}
 use Rattle.propagate_watches.specs.declared.table.Rest.{Rest}
 use Rattle.propagate_watches.specs.declared.table.Rest.TheVariants.{Nothing, One, Many}
@@ -16,7 +17,6 @@ use Rattle.propagate_trail.specs.Trail.{literals_of, value_in}
 use Rattle.propagate.specs.Watches.{EngineState}
 use Rattle.propagate.specs.Fits.{IsRest}
 use Rattle.propagate.specs.Steps.{IsWatched, LeavesOne, MayBeWatched}
-use Rattle.propagate_trail.proofs.Laws.{contains-append, contains_front, contains_back}
 use Rattle.propagate.proofs.Looking.{same_other, one_left}
 
 pushed_member : (l x : Literal) (c : List Literal) → contains_literal l (c ++ x ∷ []) ≡ true
@@ -31,9 +31,6 @@ pushed_member l x c e =
             absurd (false≢true f)
       ]
     ]
-
-member_pushed : (x : Literal) (c : List Literal) → contains_literal x (c ++ x ∷ []) ≡ true
-member_pushed x c = contains_back x c (x ∷ []) (or_left (literal_eq x x) false (literal_eq-refl x))
 
 -- one of the two literals more
 pub rest_same : (c : List Literal) (one other x : Literal) (rest : Rest) → (x ≡ one) ⊎ (x ≡ other)

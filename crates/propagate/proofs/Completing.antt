@@ -7,7 +7,7 @@ use Rattle.std.proofs.lemmas.List.{take_more, take_all, length-map, get_or_appen
 use Rattle.cnf.specs.Literal.{Literal, negation, literal_eq, index_of}
 use Rattle.cnf.specs.Clause.{contains_literal}
 use Rattle.cnf.specs.Refute.{IsUnit, IsFalseUnder}
-use Rattle.cnf.proofs.Laws.{literal_eq-true, all_at, negation_twice, contains-push}
+use Rattle.cnf.proofs.Laws.{literal_eq-true, all_at, negation_twice, contains-push, contains_front}
 use Rattle.clauses.specs.Slots.{Slots, clause_at}
 use Rattle.propagate_watches.specs.declared.pool.Entry.{Entry}
 use Rattle.propagate_watches.specs.declared.table.Attachment.{Attachment}
@@ -19,7 +19,7 @@ use Rattle.propagate_trail.specs.Trail.{Assigned, literals_of, kept_to}
 use Rattle.propagate.specs.Watches.{EngineState, is_attached, watches_at, count_in}
 use Rattle.propagate.specs.Fits.{Fits, FitsAttachment, IsWatch, HasTrue, IsComplete}
 use Rattle.propagate.specs.Steps.{IsTrueEntry, AreTrueWaiting}
-use Rattle.propagate_trail.proofs.Laws.{kept_prefix, literals-append, contains_front, NoOpposites}
+use Rattle.propagate_trail.proofs.Laws.{kept_prefix, literals-append, NoOpposites}
 use Rattle.propagate_trail.proofs.Laws.{no_opposites}
 use Rattle.propagate.proofs.Fitting.{with_progress, true_more}
 use Rattle.propagate.proofs.Attachments.{count-cons, one-same, one-other}

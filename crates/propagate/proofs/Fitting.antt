@@ -8,6 +8,7 @@ use Rattle.std.proofs.lemmas.List.{get_or_append_left, length-append}
 use Rattle.std.proofs.lemmas.List.Elements.{All-push}
 use Rattle.cnf.specs.Literal.{Literal, negation}
 use Rattle.cnf.specs.Clause.{contains_literal}
+use Rattle.cnf.proofs.Laws.{contains_front}
 use Rattle.clauses.specs.Slots.{Slots, clause_at}
 use Rattle.clauses.specs.Within.{Within}
 use Rattle.propagate_watches.specs.declared.table.Attachment.{Attachment}
@@ -19,7 +20,7 @@ use Rattle.propagate_trail.specs.Trail.{Assigned, literals_of, depth_of, kept_to
 use Rattle.propagate_trail.specs.Trail.{IsJustified}
 use Rattle.propagate.specs.Watches.{EngineState, is_attached}
 use Rattle.propagate.specs.Fits.{Fits, FitsAttachment, HasTrue, IsCovered, StaysCovered, IsWatch}
-use Rattle.propagate_trail.proofs.Laws.{kept_all, kept_push, depth_grows, contains_front}
+use Rattle.propagate_trail.proofs.Laws.{kept_all, kept_push, depth_grows}
 use Rattle.propagate_trail.proofs.Laws.{contains_take_more, kept_prefix, kept_kept, kept_above}
 use Rattle.propagate_trail.proofs.Laws.{reasons_front, reasons_push}
 

@@ -1,6 +1,5 @@
 mod Sparing
 mod Facts
-mod Pools
 mod Searches
 mod FitsLaws
 mod Fitting

@@ -11,8 +11,8 @@ use Rattle.std.proofs.lemmas.List.Sums.{sum_by-append}
 use Rattle.cnf.specs.Literal.{Literal, negation, index_of, literal_eq}
 use Rattle.cnf.specs.Clause.{contains_literal}
 use Rattle.cnf.specs.Refute.{IsUnit}
-use Rattle.cnf.proofs.Laws.{index_same, all_weaker, all_left, all_right, all_append}
-use Rattle.cnf.proofs.Laws.{literal_eq-refl}
+use Rattle.cnf.proofs.Laws.{index_same, all_weaker, all_left, all_right, all_append, contains_front}
+use Rattle.cnf.proofs.Laws.{literal_eq-refl, contains_back}
 use Rattle.clauses.specs.Slots.{Slots, clause_at}
 use Rattle.propagate_watches.specs.declared.pool.Entry.{Entry}
 use Rattle.propagate_watches.specs.declared.table.Attachment.{Attachment}
@@ -30,8 +30,8 @@ use Rattle.propagate.specs.Watches.{one_at, count_in}
 use Rattle.propagate.specs.Fits.{Fits, FitsAttachment, IsRest, IsWatch, HasBlocker}
 use Rattle.propagate.specs.Steps.{with_rows, with_trail, closed, entry_of, moved, InRow, IsWatched}
 use Rattle.propagate.specs.Steps.{IsTrueIn, IsTrueEntry, MayBeWatched}
-use Rattle.propagate_trail.proofs.Laws.{index-within, made, contains_take, contains_front}
-use Rattle.propagate_trail.proofs.Laws.{contains_back, kept_prefix, literals-append}
+use Rattle.propagate_trail.proofs.Laws.{index-within, made, contains_take}
+use Rattle.propagate_trail.proofs.Laws.{kept_prefix, literals-append}
 use Rattle.propagate.proofs.Fitting.{fits_grow, more_literals, true_more}
 use Rattle.propagate.proofs.Attachments.{with_watches, attachment_same, fits_attachment}
 use Rattle.propagate.proofs.Attachments.{blockers_kept, count-cons, one-same, one-other}

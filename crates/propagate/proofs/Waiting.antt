@@ -5,6 +5,7 @@ use Rattle.std.specs.Prelude.{Contains, slice_get}
 use Rattle.std.proofs.lemmas.List.{take_more, take_all}
 use Rattle.std.proofs.lemmas.List.Elements.{Contains-push_cases}
 use Rattle.cnf.specs.Clause.{contains_literal}
+use Rattle.cnf.proofs.Laws.{contains_front}
 use Rattle.clauses.specs.Slots.{Slots}
 use Rattle.propagate_watches.specs.declared.table.Attachment.TheVariants.{Waiting}
 use Rattle.propagate_watches.specs.Table.{attachment_in}
@@ -12,7 +13,7 @@ use Rattle.propagate_trail.specs.Trail.{literals_of}
 use Rattle.propagate.specs.Watches.{EngineState}
 use Rattle.propagate.specs.Fits.{Fits}
 use Rattle.propagate.specs.Steps.{Continues, IsTrueWaiting, AreTrueWaiting, is_waiting}
-use Rattle.propagate_trail.proofs.Laws.{literals-append, contains_front}
+use Rattle.propagate_trail.proofs.Laws.{literals-append}
 use Rattle.propagate.proofs.Fitting.{true_more}
 use Rattle.propagate.proofs.Attachments.{with_watches, attachment_same}
 use Rattle.propagate.proofs.Attaching.{Contains-filter}

@@ -2,11 +2,11 @@ use Rattle.std.proofs.Common.{◌≡◌, ◌<◌, length, take, ◌++◌, ◌∷
 use Rattle.std.proofs.Common.{subst}
 use Rattle.std.proofs.lemmas.List.{length-set}
 use Rattle.cnf.specs.Literal.{index_of}
+use Rattle.cnf.proofs.Laws.{on_err_at, on_ok_at}
 use Rattle.propagate_watches.specs.declared.table.Attachment.TheVariants.{Watching}
 use Rattle.propagate_watches.specs.Pool.{row_at, with_row}
 use Rattle.propagate.specs.Watches.{EngineState, engine_state}
 use Rattle.propagate.specs.Steps.{entry_of}
-use Rattle.propagate.proofs.Pools.{on_err_at, on_ok_at}
 use Rattle.propagate_trail.proofs.Laws.{index-within}
 use Rattle.propagate.proofs.Attaching.{engine_set}
 use Rattle.propagate.proofs.Watching.{unpushed}
