@@ -92,10 +92,6 @@ work_deleted first variables given slots names ls r c w going live = record {
 }
 
 -- the log stays open
-pub open_added : (ls : List LogLine) (l : LogLine) → AddsNoEmptyClause ls
-    → adds_empty_clause l ≡ false → AddsNoEmptyClause (ls ++ l ∷ [])
-open_added ls l h e = open_push ls l h e
-
 pub open_deleted : (ls : List LogLine) (n : Name) → AddsNoEmptyClause ls
     → AddsNoEmptyClause (ls ++ delete_line n ∷ [])
 open_deleted ls n h = open_push ls (delete_line n) h refl
