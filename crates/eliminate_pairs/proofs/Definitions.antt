@@ -9,7 +9,7 @@ use Rattle.cnf.specs.Clause.{contains_literal, without_literal, has_repeat, has_
 use Rattle.cnf.specs.Refute.{Clauses}
 use Rattle.cnf.specs.Lrat.{CandidateHints, Live, IsAddable, IsRat}
 use Rattle.eliminate_pairs.specs.Pairs.{positive, whole_clause, side_clause}
-use Rattle.cnf.proofs.Laws.{literal_eq-refl}
+use Rattle.cnf.proofs.Laws.{literal_eq-refl, contains_one}
 use Rattle.eliminate_pairs.proofs.Literals.{any_member, negation_twice, contains-filter}
 
 -- no live clause has the variable
@@ -32,10 +32,6 @@ pub other_variable : (k l : Literal) → (k.variable ≡ l.variable → ⊥) →
 other_variable k l n =
     and_left (k.variable == l.variable) (same_bool k.negated l.negated)
     (ne_eqb k.variable l.variable n)
-
-only_hint : (j i : ℕ) → Contains (j ∷ []) i → i ≡ j
-only_hint j i (zero, l, e) = sym e
-only_hint j i (suc k, l, e) = absurd (omega arith)
 
 -- the first line has no candidates
 pub first_rat : (at : Clauses) (z : ℕ) (a b : Literal) → IsFreshIn z at
@@ -70,7 +66,7 @@ side_rat at z a i c live has has_a other only = record {
   leads = refl;
   rising = λ k h. absurd (omega arith);
   complete = λ j. (
-    λ h. rw (only_hint i j h) (c, live, has),
+    λ h. rw (contains_one i j h) (c, live, has),
     λ x. (0, omega arith, sym (only j x.0 x.1 x.2)),
   );
   each = (

@@ -1,13 +1,12 @@
 -- The laws of this crate that other crates cite, from one place.
 pub use Rattle.eliminate_pairs.proofs.Literals.{Covers, any_member, contains-filter}
 pub use Rattle.eliminate_pairs.proofs.Literals.{contains-negations}
-pub use Rattle.eliminate_pairs.proofs.Literals.{contains_same, covered_unit, each_literal}
+pub use Rattle.eliminate_pairs.proofs.Literals.{contains_same, covered_unit}
 pub use Rattle.eliminate_pairs.proofs.Literals.{filter-contains}
 pub use Rattle.eliminate_pairs.proofs.Literals.{greatest-filter, has_opposites-filter}
 pub use Rattle.eliminate_pairs.proofs.Literals.{has_repeat-filter}
-pub use Rattle.eliminate_pairs.proofs.Literals.{has_true, literal_eq-negation, literal_eq-sides}
+pub use Rattle.eliminate_pairs.proofs.Literals.{literal_eq-negations, literal_eq-sides}
 pub use Rattle.eliminate_pairs.proofs.Literals.{member-small}
-pub use Rattle.eliminate_pairs.proofs.Literals.{negation_twice, not-opposite, not-without, not_not}
+pub use Rattle.eliminate_pairs.proofs.Literals.{negation_twice, not-opposite, not_not}
 pub use Rattle.eliminate_pairs.proofs.Literals.{without-contains}
-pub use Rattle.eliminate_pairs.proofs.LiveClauses.{all_live, contains_live, live_all, live_map}
 pub use Rattle.eliminate_pairs.proofs.Together.{fit_together, stage_together}

@@ -1,7 +1,6 @@
 mod Defining
 mod Definitions
 mod Literals
-mod LiveClauses
 mod Meetings
 mod Pairing
 mod Replacing

@@ -9,19 +9,14 @@ use Rattle.cnf.specs.Literal.{Literal, Assignment, negation, literal_eq, literal
 use Rattle.cnf.specs.Clause.{clause_value, contains_literal, without_literal, has_repeat}
 use Rattle.cnf.specs.Clause.{has_opposites, greatest_variable}
 use Rattle.cnf.specs.Refute.{IsUnit}
-use Rattle.cnf.proofs.Laws.{literal_eq-refl}
+use Rattle.cnf.proofs.Laws.{literal_eq-refl, contains_negation, literal_eq-opposite}
 use Rattle.cnf.proofs.Laws.{literal_eq-true}
 pub use Rattle.cnf.proofs.Laws.{negation_twice}
-pub use Rattle.lrat_log.proofs.Laws.{literal_eq-negation, contains-negations}
+pub use Rattle.lrat_log.proofs.Laws.{literal_eq-negations, contains-negations}
 
 pub not_not : (a : Bool) → not (not a) ≡ a
 not_not true = refl
 not_not false = refl
-
-pub contains-twice : (k : Literal) (c : List Literal)
-    → contains_literal k (map negation c) ≡ contains_literal (negation k) c
-contains-twice k c = ap (λ x. contains_literal x (map negation c)) (sym (negation_twice k))
-    ∙ contains-negations (negation k) c
 
 -- each literal of c but p is in r
 abbrev pub Covers : Literal → List Literal → List Literal → Type 0
@@ -41,7 +36,7 @@ pub covered_unit : (p : Literal) (r c : List Literal) → contains_literal p c �
     → IsUnit c (map negation r) p
 covered_unit p r c member covers apart apart_not = record {
   member = member;
-  not_true = contains-twice p r ∙ apart_not;
+  not_true = contains_negation p r ∙ apart_not;
   not_false = contains-negations p r ∙ apart;
   others = covered_others p r c covers;
 }
@@ -85,15 +80,6 @@ filter-contains q k (l ∷ c) e =
           (or_right (literal_eq k l) (contains_literal k c) m.0, m.1)
     ] refl e
 
--- each literal of c is p or has the test
-pub each_literal : (P : Literal → Type 0) (c : List Literal)
-    → ((k : Literal) → contains_literal k c ≡ true → P k) → AllByRecursion P c
-each_literal P [] f = tt
-each_literal P (k ∷ c) f = (
-  f k (or_left (literal_eq k k) (contains_literal k c) (literal_eq-refl k)),
-  each_literal P c (λ l h. f l (or_right (literal_eq l k) (contains_literal l c) h)),
-)
-
 pub without-contains : (p k : Literal) (c : List Literal) → contains_literal k c ≡ true
     → (k ≡ p) ⊎ (contains_literal k (without_literal p c) ≡ true)
 without-contains p k c e =
@@ -102,22 +88,6 @@ without-contains p k c e =
       | true ↦ λ h. inl (sym (literal_eq-true p k h))
       | false ↦ λ h. inr (contains-filter (λ l. not (literal_eq p l)) k c e (ap not h))
     ] refl
-
-pub not-without : (p : Literal) (c : List Literal)
-    → contains_literal p (without_literal p c) ≡ false
-not-without p c = false_from_ne_true (contains_literal p (without_literal p c)) (λ e.
-    both_ways (literal_eq p p) (sym (not_not (literal_eq p p))
-    ∙ ap not (filter-contains (λ l. not (literal_eq p l)) p c e).1) (literal_eq-refl p))
-
-literal_eq-other : (l : Literal) → literal_eq (negation l) l ≡ false
-literal_eq-other l =
-    false_from_ne_true (literal_eq (negation l) l)
-    (λ e. other l.negated
-    (and_parts (l.variable == l.variable) (same_bool (not l.negated) l.negated) e).1)
-  where
-    other : (b : Bool) → same_bool (not b) b ≡ true → ⊥
-    other true e = false≢true e
-    other false e = false≢true e
 
 -- a clause without opposites that has a literal has not its negation
 pub not-opposite : (p : Literal) (c : List Literal) → has_opposites c ≡ false
@@ -129,7 +99,7 @@ not-opposite p (k ∷ c) o e =
       | inl same ↦ subst (λ x. contains_literal (negation x) (k ∷ c) ≡ false)
           (sym (literal_eq-true p k same))
           (or_from (literal_eq (negation k) k) (contains_literal (negation k) c)
-          (literal_eq-other k) h.0)
+          (literal_eq-opposite k) h.0)
       | inr more ↦ or_from (literal_eq (negation p) k) (contains_literal (negation p) c)
           (false_from_ne_true (literal_eq (negation p) k)
           (λ x. both_ways (contains_literal (negation k) c) h.0
@@ -192,17 +162,6 @@ member-small l (k ∷ c) e =
           (sym (literal_eq-true l k h))
           (let m : k.variable ≤ max k.variable (greatest_variable c) = omega arith in m)
       | inr h ↦ omega (arith, member-small l c h)
-    ]
-
--- a clause with a true literal is true
-pub has_true : (t : Assignment) (p : Literal) (c : List Literal) → contains_literal p c ≡ true
-    → literal_value t p ≡ true → clause_value t c ≡ true
-has_true t p [] e h = absurd (false≢true e)
-has_true t p (k ∷ c) e h =
-    elim (or_cases (literal_eq p k) (contains_literal p c) e) [
-      | inl same ↦ or_left (literal_value t k) (clause_value t c)
-          (subst (λ x. literal_value t x ≡ true) (literal_eq-true p k same) h)
-      | inr more ↦ or_right (literal_value t k) (clause_value t c) (has_true t p c more h)
     ]
 
 pub value-filter : (t : Assignment) (q : Literal → Bool) (c : List Literal)

@@ -9,6 +9,7 @@ use Rattle.std.proofs.lemmas.Option.{same_Some, none-some}
 use Rattle.cnf.specs.Literal.{Literal, negation, literal_eq, same_bool}
 use Rattle.cnf.specs.Clause.{contains_literal, greatest_variable}
 use Rattle.cnf.specs.Lrat.{ProofLine, Addition, Deletion, Live, with_clause, without_ids}
+use Rattle.cnf.proofs.Laws.{absent_above}
 use Rattle.clauses.specs.Slots.{Slots, clause_at}
 use Rattle.lrat_log.specs.declared.lines.Name.{Name}
 use Rattle.lrat_log.specs.declared.lines.Name.TheVariants.{Formula, Added}
@@ -83,19 +84,11 @@ live_either first given more base ls all =
     (start_over (given ++ more) base) (numbered_lines base ls)
     (given_either (λ d. greatest_variable d ≤ first) given more all)
 
--- a clause on smaller variables lacks the literal
-above-apart : (k : Literal) (c : List Literal) → greatest_variable c < k.variable
-    → contains_literal k c ≡ false
-above-apart k [] h = refl
-above-apart k (l ∷ c) h = or_from (literal_eq k l) (contains_literal k c)
-    (and_left (k.variable == l.variable) (same_bool k.negated l.negated)
-    (ne_eqb k.variable l.variable (λ e. omega arith))) (above-apart k c (omega arith))
-
 -- a clause of few variables lacks the fresh one
 pub lacks_both : (z : ℕ) (d : List Literal) → greatest_variable d < z
     → (contains_literal (positive z) d ≡ false)
     × (contains_literal (negation (positive z)) d ≡ false)
-lacks_both z d h = (above-apart (positive z) d h, above-apart (negation (positive z)) d h)
+lacks_both z d h = (absent_above (positive z) d h, absent_above (negation (positive z)) d h)
 
 module _ (first : ℕ) (given : Given) (slots : Slots) (names : List Name) (ls : List LogLine)
     (n : IsNamed given slots names ls) where
@@ -133,7 +126,7 @@ module _ (first : ℕ) (given : Given) (slots : Slots) (names : List Name) (ls :
         | inl here ↦
             let o = (n.live base (base_front given more base is_base)).only i d here in
             sym o.2 ∙ ap (λ r. id_of base (name_at names r)) (only o.0 d o.1 has)
-        | inr other ↦ absurd (both_ways (contains_literal l d) (above-apart l d (omega arith)) has)
+        | inr other ↦ absurd (both_ways (contains_literal l d) (absent_above l d (omega arith)) has)
       ]
 
   -- the first line of a definition

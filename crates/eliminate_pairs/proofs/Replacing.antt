@@ -9,7 +9,7 @@ use Rattle.cnf.specs.Clause.{Satisfies, clause_value, contains_literal, without_
 use Rattle.cnf.specs.Clause.{has_repeat, has_opposites, greatest_variable}
 use Rattle.cnf.specs.Formula.{IsFormulaClause}
 use Rattle.cnf.specs.Refute.{Clauses, Refutes}
-use Rattle.cnf.proofs.Laws.{literal_eq-true}
+use Rattle.cnf.proofs.Laws.{literal_eq-true, all_from, absent_own, contained_true}
 use Rattle.lrat_log.specs.declared.lines.Name.{Name}
 use Rattle.lrat_log.specs.declared.lines.Kind.{Kind}
 use Rattle.lrat_log.specs.declared.lines.Hint.TheVariants.{Plain}
@@ -18,11 +18,11 @@ use Rattle.lrat_log.specs.Steps.{IsBaseOf, log_live}
 use Rattle.eliminate_pairs.specs.Pairs.{positive, whole_clause, side_clause, replaced}
 use Rattle.eliminate_names.specs.Work.{IsRupLine}
 use Rattle.cnf.proofs.Laws.{literal_eq-refl}
-use Rattle.eliminate_pairs.proofs.Literals.{negation_twice, contains-negations, each_literal}
-use Rattle.eliminate_pairs.proofs.Literals.{without-contains, not-without, not-opposite, Covers}
+use Rattle.eliminate_pairs.proofs.Literals.{negation_twice, contains-negations}
+use Rattle.eliminate_pairs.proofs.Literals.{without-contains, not-opposite, Covers}
 use Rattle.eliminate_pairs.proofs.Literals.{covered_unit}
 use Rattle.eliminate_pairs.proofs.Literals.{literal_eq-sides, apart-filter, has_repeat-filter}
-use Rattle.eliminate_pairs.proofs.Literals.{has_opposites-filter, has_true, value-filter}
+use Rattle.eliminate_pairs.proofs.Literals.{has_opposites-filter, value-filter}
 use Rattle.eliminate_pairs.proofs.Literals.{greatest-filter}
 
 -- a clause with two literals and without z
@@ -106,11 +106,11 @@ replaced_refutes at z a b c j k i live_a live_b live h =
     let lacks_a : contains_literal a r ≡ false =
     replaced-lacks z a b a c
     (literal_eq-sides (positive z) a (not_same a (positive z) c h.has_a h.no_z.0))
-    (apart-filter (λ k. not (literal_eq b k)) a (without_literal a c) (not-without a c)) in
+    (apart-filter (λ k. not (literal_eq b k)) a (without_literal a c) (absent_own a c)) in
     let lacks_b : contains_literal b r ≡ false =
     replaced-lacks z a b b c
     (literal_eq-sides (positive z) b (not_same b (positive z) c h.has_b h.no_z.0))
-    (not-without b (without_literal a c)) in
+    (absent_own b (without_literal a c)) in
     record {
       front = j ∷ k ∷ [];
       final = i;
@@ -140,7 +140,7 @@ replaced_refutes at z a b c j k i live_a live_b live h =
       clause = c;
       live = live;
       conflict =
-          each_literal (λ l. contains_literal (negation l) (map negation (b ∷ a ∷ r)) ≡ true) c
+          all_from (λ l. contains_literal (negation l) (map negation (b ∷ a ∷ r)) ≡ true) c
           (λ l e. contains-negations l (b ∷ a ∷ r) ∙ elim (replaced-parts a b l c e) [
             | inl s ↦ same_in l b (a ∷ r) s
             | inr more ↦ or_right (literal_eq l b) (contains_literal l (a ∷ r)) (elim more [
@@ -211,9 +211,9 @@ replaced_back t z a b c has_a has_b first second =
           (value-filter t (λ k. not (literal_eq b k)) (without_literal a c) h)
       | inl on ↦ elim (or_cases (literal_value t a) (clause_value t (b ∷ []))
           (subst (λ v. (not v || clause_value t (a ∷ b ∷ [])) ≡ true) on first)) [
-            | inl h ↦ has_true t a c has_a h
+            | inl h ↦ contained_true t a c has_a h
             | inr h ↦ elim (or_cases (literal_value t b) false h) [
-              | inl m ↦ has_true t b c has_b m
+              | inl m ↦ contained_true t b c has_b m
               | inr m ↦ absurd (false≢true m)
             ]
           ]

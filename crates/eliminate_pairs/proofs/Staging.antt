@@ -33,18 +33,17 @@ use Rattle.eliminate_pairs.specs.Pairs.{Stage}
 use Rattle.eliminate_pairs.specs.Pairs.{IsStage}
 use Rattle.eliminate_pairs.proofs.Definitions.{IsPairFor, first_addable, side_addable, side_lacks}
 use Rattle.eliminate_pairs.proofs.Definitions.{other_variable}
-use Rattle.eliminate_names.proofs.Laws.{learned-push, stays_added, work_deleted, open_added}
+use Rattle.eliminate_names.proofs.Laws.{learned-push, stays_added, work_deleted}
 use Rattle.eliminate_names.proofs.Laws.{open_deleted}
 use Rattle.clauses.proofs.Laws.{clause_cases, clause_kept, clause_left, clause_new, clause_other}
-use Rattle.clauses.proofs.Laws.{live_within}
-use Rattle.lrat_log.proofs.Laws.{additions_push}
+use Rattle.clauses.proofs.Laws.{live_within, all_live, live_all}
+use Rattle.lrat_log.proofs.Laws.{additions_push, open_push}
 use Rattle.eliminate_names.proofs.Laws.{named_added, name-push, name-last}
 use Rattle.eliminate_pairs.proofs.Replacing.{HasPair, replaced_line, replaced_back}
 use Rattle.eliminate_pairs.proofs.Replacing.{replaced-no_repeat}
 use Rattle.eliminate_pairs.proofs.Replacing.{replaced-no_opposites, pair_variables}
 use Rattle.cnf.proofs.Laws.{literal_eq-refl}
 use Rattle.eliminate_pairs.proofs.Literals.{greatest-filter, member-small}
-use Rattle.eliminate_pairs.proofs.LiveClauses.{all_live, live_all}
 use Rattle.eliminate_pairs.proofs.Pairing.{lacks_both, stays_whole, stays_side}
 
 -- with a clause more
@@ -143,7 +142,7 @@ module _ (ground : Ground) (s : Stage) (k : IsStage ground s) where
         | inr e ↦ subst (IsFormulaClause v) (sym e.1) clause
       ];
     };
-    going = open_added s.lines l k.going stays;
+    going = open_push s.lines l k.going stays;
     back =
         λ t all. k.back t (all_live (Satisfies t) s.slots
         (λ r c e. live_all (Satisfies t) (s.slots ++ Some l.clause ∷ []) all r c

@@ -4,12 +4,12 @@ use Rattle.std.proofs.Common.{subst, arith}
 use Rattle.std.specs.Prelude.{All}
 use Rattle.cnf.specs.Clause.{Satisfies}
 use Rattle.clauses.specs.Slots.{Slots, live_clauses}
+use Rattle.clauses.proofs.Laws.{live_map}
 use Rattle.lrat_log.specs.Log.{LogLine}
 use Rattle.eliminate_names.specs.Together.{live_names}
 use Rattle.eliminate_names.specs.Work.{NamesState}
 use Rattle.eliminate_names.proofs.Laws.{AreTogether, together_fit, was_there, work_together}
 use Rattle.eliminate_pairs.specs.Pairs.{Stage, Ground, IsStage, FitNames, Replaces, stage_of}
-use Rattle.eliminate_pairs.proofs.LiveClauses.{live_map}
 
 pub stage_together : (ground : Ground) (v : ℕ) (slots moved : Slots) (names n : NamesState)
     (lines : List LogLine) → AreTogether slots moved names n
