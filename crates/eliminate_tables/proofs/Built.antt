@@ -8,12 +8,12 @@ use Rattle.std.proofs.lemmas.Bool.{false_from_ne_true, false≢true}
 use Rattle.std.proofs.lemmas.List.Elements.{All-head, All-tail}
 use Rattle.cnf.specs.Literal.{Literal, negation, literal_eq}
 use Rattle.cnf.specs.Clause.{contains_literal, without_literal, has_opposites}
-use Rattle.cnf.proofs.Laws.{literal_eq-true}
+use Rattle.cnf.proofs.Laws.{literal_eq-true, contains_front, contains_back}
 use Rattle.cnf.specs.Marks.{IsMarked, mark_of}
 use Rattle.eliminate_tables.specs.Resolvents.{resolvent, unmarked_rest, is_opposed}
 use Rattle.cnf.proofs.Laws.{literal_eq-refl}
 use Rattle.eliminate_tables.proofs.Resolve.{negation_twice, contains-filter, filter-contains}
-use Rattle.eliminate_tables.proofs.Resolve.{contains-left, contains-right, contains-either}
+use Rattle.eliminate_tables.proofs.Resolve.{contains-either}
 use Rattle.eliminate_tables.proofs.Resolve.{not-opposite}
 use Rattle.eliminate_pairs.proofs.Laws.{has_opposites-filter, literal_eq-sides}
 use Rattle.eliminate_pairs.proofs.Laws.{any_member}
@@ -122,8 +122,8 @@ opposed_is marks p c d m some oc od =
           let in_a : contains_literal (negation k) a ≡ true =
           sym (m.marked (negation k) (from_one k w.1)) ∙ w.2 in
           sym (ap (λ x. has_opposites (a ++ x)) (sym is)
-          ∙ opposites_both (a ++ rest) k (contains-right k a rest w.1)
-          (contains-left (negation k) a rest in_a))
+          ∙ opposites_both (a ++ rest) k (contains_back k a rest w.1)
+          (contains_front (negation k) a rest in_a))
       | false ↦ λ e.
           sym (ap (λ x. has_opposites (a ++ x)) (sym is)
           ∙ no_opposites-append a rest o_a o_rest (λ k h.

@@ -1,8 +1,8 @@
 -- The laws of this crate that other crates cite, from one place.
 pub use Rattle.eliminate_tables.proofs.Built.{member_has}
 pub use Rattle.eliminate_tables.proofs.Counted.{under_live}
-pub use Rattle.eliminate_tables.proofs.Resolve.{contains-either, each_literal, filter-contains}
-pub use Rattle.eliminate_tables.proofs.Resolve.{literal_eq-negation, negation_twice, not-opposite}
+pub use Rattle.eliminate_tables.proofs.Resolve.{contains-either, filter-contains}
+pub use Rattle.eliminate_tables.proofs.Resolve.{literal_eq-negations, negation_twice, not-opposite}
 pub use Rattle.eliminate_tables.proofs.Resolve.{not-opposite_too, not_not, resolvent-open}
 pub use Rattle.eliminate_tables.proofs.Resolve.{resolvent-open_not, resolvent-parts}
 pub use Rattle.eliminate_tables.proofs.Resolve.{resolvent_refutes, without-contains}

@@ -9,7 +9,7 @@ use Rattle.std.proofs.lemmas.List.Folds.{list_any_at}
 use Rattle.cnf.specs.Literal.{Literal, Assignment, literal_value, literal_eq}
 use Rattle.cnf.specs.Clause.{contains_literal, without_literal}
 use Rattle.cnf.specs.Bits.{assignment_of}
-use Rattle.cnf.proofs.Laws.{literal_eq-true}
+use Rattle.cnf.proofs.Laws.{literal_eq-true, contained_true}
 use Rattle.cnf.proofs.Laws.{at_contains}
 use Rattle.eliminate_tables.specs.Removals.{Removed, extended, is_needed, becomes_true, positive}
 use Rattle.eliminate_tables.specs.declared.stack.Piece.{Piece}
@@ -17,7 +17,6 @@ use Rattle.eliminate_tables.specs.declared.stack.Gone.{Gone}
 use Rattle.eliminate_tables.specs.Flat.{clause_in, clauses_at, one_removed, removed_in, IsGone}
 use Rattle.cnf.proofs.Laws.{literal_eq-refl}
 use Rattle.eliminate_tables.proofs.Resolve.{contains-filter}
-use Rattle.eliminate_pairs.proofs.Laws.{has_true}
 
 -- another literal is true: the clause needs nothing
 pub not_needed : (t : Assignment) (p : Literal) (c : List Literal) (i : ℕ) (l : Literal)
@@ -30,7 +29,7 @@ not_needed t p c i l h is other value =
     (subst (λ x. literal_eq l x ≡ true) (sym (literal_eq-true p l e)) (literal_eq-refl l))) in
     let in_rest : contains_literal l (without_literal p c) ≡ true =
     contains-filter (λ k. not (literal_eq p k)) l c (at_contains c i l h is) (ap not apart) in
-    rw (has_true t l (without_literal p c) in_rest value) (none (contains_literal p c))
+    rw (contained_true t l (without_literal p c) in_rest value) (none (contains_literal p c))
   where
     both : (b : Bool) → b ≡ false → b ≡ true → ⊥
     both true e f = cc

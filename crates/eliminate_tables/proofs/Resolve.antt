@@ -7,12 +7,11 @@ use Rattle.cnf.specs.Literal.{Literal, negation, literal_eq}
 use Rattle.cnf.specs.Clause.{contains_literal, without_literal, has_opposites}
 use Rattle.cnf.specs.Refute.{IsFalseUnder, Clauses, Refutes}
 use Rattle.eliminate_tables.specs.Resolvents.{resolvent}
-use Rattle.cnf.proofs.Laws.{literal_eq-refl}
-pub use Rattle.eliminate_pairs.proofs.Laws.{not_not, negation_twice, literal_eq-negation}
+use Rattle.cnf.proofs.Laws.{literal_eq-refl, all_from, absent_own, contains_front, contains_back}
+pub use Rattle.eliminate_pairs.proofs.Laws.{not_not, negation_twice, literal_eq-negations}
 pub use Rattle.eliminate_pairs.proofs.Laws.{contains-negations}
 pub use Rattle.eliminate_pairs.proofs.Laws.{Covers, covered_unit, contains_same, contains-filter}
-pub use Rattle.eliminate_pairs.proofs.Laws.{filter-contains, each_literal, without-contains}
-pub use Rattle.eliminate_pairs.proofs.Laws.{not-without}
+pub use Rattle.eliminate_pairs.proofs.Laws.{filter-contains, without-contains}
 pub use Rattle.eliminate_pairs.proofs.Laws.{not-opposite}
 
 covered_false : (p : Literal) (r d : List Literal) → Covers (negation p) r d
@@ -47,21 +46,6 @@ two_refute at p r c d i j first second member covers_c covers_d apart apart_not 
   conflict = covered_false p r d covers_d;
 }
 
-pub contains-left : (k : Literal) (c d : List Literal) → contains_literal k c ≡ true
-    → contains_literal k (c ++ d) ≡ true
-contains-left k [] d e = absurd (false≢true e)
-contains-left k (l ∷ c) d e =
-    elim (or_cases (literal_eq k l) (contains_literal k c) e) [
-      | inl h ↦ or_left (literal_eq k l) (contains_literal k (c ++ d)) h
-      | inr h ↦ or_right (literal_eq k l) (contains_literal k (c ++ d)) (contains-left k c d h)
-    ]
-
-pub contains-right : (k : Literal) (c d : List Literal) → contains_literal k d ≡ true
-    → contains_literal k (c ++ d) ≡ true
-contains-right k [] d e = e
-contains-right k (l ∷ c) d e =
-    or_right (literal_eq k l) (contains_literal k (c ++ d)) (contains-right k c d e)
-
 pub contains-either : (k : Literal) (c d : List Literal) → contains_literal k (c ++ d) ≡ true
     → (contains_literal k c ≡ true) ⊎ (contains_literal k d ≡ true)
 contains-either k [] d e = inr e
@@ -76,10 +60,10 @@ contains-either k (l ∷ c) d e =
 
 pub resolvent-covers_left : (p : Literal) (c d : List Literal) → Covers p (resolvent p c d) c
 resolvent-covers_left p c d =
-    each_literal (λ k. (k ≡ p) ⊎ (contains_literal k (resolvent p c d) ≡ true)) c (λ k e.
+    all_from (λ k. (k ≡ p) ⊎ (contains_literal k (resolvent p c d) ≡ true)) c (λ k e.
     elim (without-contains p k c e) [
       | inl h ↦ inl h
-      | inr h ↦ inr (contains-left k (without_literal p c) _ h)
+      | inr h ↦ inr (contains_front k (without_literal p c) _ h)
     ])
 
 in_rest : (k : Literal) (a b : List Literal) → contains_literal k b ≡ true
@@ -87,15 +71,15 @@ in_rest : (k : Literal) (a b : List Literal) → contains_literal k b ≡ true
 in_rest k a b e =
     elim (contains_literal k a) as (λ v. contains_literal k a ≡ v
     → contains_literal k (a ++ filter (λ k. not (contains_literal k a)) b) ≡ true) [
-      | true ↦ λ h. contains-left k a _ h
-      | false ↦ λ h. contains-right k a _ (contains-filter (λ k. not (contains_literal k a)) k b e
+      | true ↦ λ h. contains_front k a _ h
+      | false ↦ λ h. contains_back k a _ (contains-filter (λ k. not (contains_literal k a)) k b e
           (ap not h))
     ] refl
 
 pub resolvent-covers_right : (p : Literal) (c d : List Literal)
     → Covers (negation p) (resolvent p c d) d
 resolvent-covers_right p c d =
-    each_literal (λ k. (k ≡ negation p) ⊎ (contains_literal k (resolvent p c d) ≡ true)) d (λ k e.
+    all_from (λ k. (k ≡ negation p) ⊎ (contains_literal k (resolvent p c d) ≡ true)) d (λ k e.
     elim (without-contains (negation p) k d e) [
       | inl h ↦ inl h
       | inr h ↦ inr (in_rest k (without_literal p c) (without_literal (negation p) d) h)
@@ -118,7 +102,7 @@ pub resolvent-open : (p : Literal) (c d : List Literal) → contains_literal p d
 resolvent-open p c d n =
     false_from_ne_true (contains_literal p (resolvent p c d))
     (λ e. elim (resolvent-parts p p c d e) [
-      | inl h ↦ both_ways (contains_literal p (without_literal p c)) (not-without p c) h
+      | inl h ↦ both_ways (contains_literal p (without_literal p c)) (absent_own p c) h
       | inr h ↦ both_ways (contains_literal p d) n
           (filter-contains (λ l. not (literal_eq (negation p) l)) p d h).0
     ])
@@ -132,7 +116,7 @@ resolvent-open_not p c d n =
       | inl h ↦ both_ways (contains_literal (negation p) c) n
           (filter-contains (λ l. not (literal_eq p l)) (negation p) c h).0
       | inr h ↦ both_ways (contains_literal (negation p) (without_literal (negation p) d))
-          (not-without (negation p) d) h
+          (absent_own (negation p) d) h
     ])
 
 -- what is asked of two parents

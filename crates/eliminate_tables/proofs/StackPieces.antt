@@ -7,18 +7,11 @@ use Rattle.std.proofs.lemmas.List.{append-nil, map-append}
 use Rattle.std.proofs.lemmas.List.Elements.{All-nil, All-cons, All-head, All-tail, All-append}
 use Rattle.std.proofs.lemmas.List.Elements.{All-weaker, All-push, All-take, All-drop}
 use Rattle.cnf.specs.Literal.{Literal}
+use Rattle.cnf.proofs.Laws.{range-append, range-appended}
 use Rattle.eliminate_tables.specs.declared.stack.Piece.{Piece}
 use Rattle.eliminate_tables.specs.declared.stack.Gone.{Gone}
 use Rattle.eliminate_tables.specs.Flat.{clause_in, clauses_at, one_removed, removed_in, IsWithin}
 use Rattle.eliminate_tables.specs.Flat.{IsGone, AreRemovals, AddsClauses}
-
-range-append : {X : Type 0} (xs more : List X) (i n : ℕ) → i ≤ n → n ≤ length xs
-    → slice_range (xs ++ more) i n ≡ slice_range xs i n
-range-append xs more i n h k = grind (arith, common_steps)
-
-range-appended : {X : Type 0} (xs more : List X) (i n : ℕ) → i ≡ length xs
-    → n ≡ length xs + length more → slice_range (xs ++ more) i n ≡ more
-range-appended xs more i n h k = grind (arith, common_steps)
 
 -- pieces of the first literals
 clauses_at-append : (ls more : List Literal) (ps : List Piece) → All (IsWithin (length ls)) ps
