@@ -8,7 +8,7 @@ use Rattle.std.proofs.lemmas.List.{length-replicate, length-set, get_or-set_same
 use Rattle.std.proofs.lemmas.List.Sums.{sum_by-set}
 use Rattle.cnf.specs.Literal.{Literal, negation, literal_eq, index_of}
 use Rattle.cnf.specs.Clause.{contains_literal}
-use Rattle.cnf.proofs.Laws.{literal_eq-true}
+use Rattle.cnf.proofs.Laws.{literal_eq-true, same_variable}
 use Rattle.clauses.specs.Slots.{Slots, clause_at}
 use Rattle.cnf.specs.Marks.{IsMarked, HasPlace}
 use Rattle.cnf.proofs.Laws.{marked_one, place_within, none_marked}
@@ -28,20 +28,6 @@ contains-pushed (x ∷ c) k l e =
         | inr s ↦ inr s
       ]
     ]
-
-abbrev literal_of : ℕ → Bool → Literal
-literal_of v b = record { variable = v; negated = b }
-
--- literals on one variable are one, or opposite
-pub same_variable : (k l : Literal) → k.variable ≡ l.variable → (k ≡ l) ⊎ (k ≡ negation l)
-same_variable k l e = by k.variable l.variable k.negated l.negated e
-  where
-    by : (v w : ℕ) (a b : Bool) → v ≡ w → (literal_of v a ≡ literal_of w b)
-        ⊎ (literal_of v a ≡ negation (literal_of w b))
-    by v w true true e = inl (ap (λ x. literal_of x true) e)
-    by v w true false e = inr (ap (λ x. literal_of x true) e)
-    by v w false true e = inr (ap (λ x. literal_of x false) e)
-    by v w false false e = inl (ap (λ x. literal_of x false) e)
 
 -- how a literal is made true
 pub record Assigns (u v : Units) (l : Literal) (r : ℕ) : Type 0 where

@@ -15,32 +15,17 @@ pub use Rattle.cnf.specs.Literal.{negative}
 use Rattle.cnf.specs.Clause.{Satisfies, clause_value, contains_literal, without_literal}
 use Rattle.cnf.specs.Clause.{has_opposites, is_subset}
 use Rattle.cnf.specs.Bits.{assignment_of}
-use Rattle.cnf.proofs.Laws.{negation-value}
+use Rattle.cnf.proofs.Laws.{negation-value, all_from, contained_true, opposites_true}
 use Rattle.cnf.proofs.Laws.{made_true, made, clause_kept, rest_kept}
 use Rattle.eliminate.specs.Elimination.{Removed, positive, becomes_true, is_eliminated, extended}
 use Rattle.eliminate.specs.Elimination.{SatisfiesAll}
 use Rattle.eliminate.specs.State.{GivesBack}
 use Rattle.eliminate_tables.specs.Resolvents.{resolvent}
-use Rattle.eliminate_pairs.proofs.Laws.{has_true}
-use Rattle.eliminate_tables.proofs.Laws.{not_not, each_literal, resolvent-parts}
+use Rattle.eliminate_tables.proofs.Laws.{not_not, resolvent-parts}
 
 -- the variable with this value, as a literal
 abbrev pub valued : ℕ → Bool → Literal
 valued v b = record { variable = v; negated = not b }
-
--- a clause with an opposite pair is true
-pub opposites_true : (t : Assignment) (c : List Literal) → has_opposites c ≡ true
-    → clause_value t c ≡ true
-opposites_true t [] e = e
-opposites_true t (k ∷ c) e =
-    elim (or_cases (contains_literal (negation k) c) (has_opposites c) e) [
-      | inl pair ↦ elim (literal_value t k) as (λ b. literal_value t k ≡ b
-          → (b || clause_value t c) ≡ true) [
-            | true ↦ λ h. refl
-            | false ↦ λ h. has_true t (negation k) c pair (negation-value t k h)
-          ] refl
-      | inr more ↦ or_right (literal_value t k) (clause_value t c) (opposites_true t c more)
-    ]
 
 -- each literal of r is in a or b, as those of a resolvent are in what is left of its parents
 abbrev pub IsMadeOf : List Literal → List Literal → List Literal → Type 0
@@ -53,8 +38,8 @@ made_of_true t [] a b m e = absurd (false≢true e)
 made_of_true t (k ∷ r) a b m e =
     elim (or_cases (literal_value t k) (clause_value t r) e) [
       | inl h ↦ elim m.0 [
-        | inl x ↦ inl (has_true t k a x h)
-        | inr x ↦ inr (has_true t k b x h)
+        | inl x ↦ inl (contained_true t k a x h)
+        | inr x ↦ inr (contained_true t k b x h)
       ]
       | inr h ↦ made_of_true t r a b m.1 h
     ]
@@ -62,7 +47,7 @@ made_of_true t (k ∷ r) a b m e =
 pub resolvent-made_of : (p : Literal) (c d : List Literal)
     → IsMadeOf (resolvent p c d) (without_literal p c) (without_literal (negation p) d)
 resolvent-made_of p c d =
-    each_literal (λ k. (contains_literal k (without_literal p c) ≡ true)
+    all_from (λ k. (contains_literal k (without_literal p c) ≡ true)
     ⊎ (contains_literal k (without_literal (negation p) d) ≡ true)) (resolvent p c d)
     (λ k e. resolvent-parts p k c d e)
 
@@ -113,7 +98,7 @@ needed_back t r have resolved e k z lt =
     ⊎ (clause_value t (without_literal (negative r.variable) d) ≡ true)) r.clauses) r.clauses
     w.0 resolved w.1 in
     elim (have k z lt) [
-      | inl h ↦ has_true (made_true t (positive r.variable)) (positive r.variable) d h
+      | inl h ↦ contained_true (made_true t (positive r.variable)) (positive r.variable) d h
           (made t (positive r.variable))
       | inr h ↦ elim (pair k z lt q.0 h) [
         | inl a ↦ absurd (both_ways (clause_value t (without_literal (positive r.variable) w.0))
@@ -130,7 +115,7 @@ not_needed_back t r have e k z lt =
     none_at (λ c. contains_literal (positive r.variable) c &&
     not (clause_value t (without_literal (positive r.variable) c))) r.clauses e k z lt in
     elim (have k z lt) [
-      | inr h ↦ has_true (made_true t (negative r.variable)) (negative r.variable) d h
+      | inr h ↦ contained_true (made_true t (negative r.variable)) (negative r.variable) d h
           (made t (negative r.variable))
       | inl h ↦ elim (and_cases (contains_literal (positive r.variable) d)
           (not (clause_value t (without_literal (positive r.variable) d))) q) [
@@ -287,7 +272,7 @@ subsumed_true t (l ∷ c) d s e =
     elim (contains_literal l d) as (λ b. contains_literal l d ≡ b
     → (if b then is_subset c d else false) ≡ true → clause_value t d ≡ true) [
       | true ↦ λ h sub. elim (or_cases (literal_value t l) (clause_value t c) e) [
-        | inl m ↦ has_true t l d h m
+        | inl m ↦ contained_true t l d h m
         | inr m ↦ subsumed_true t c d sub m
       ]
       | false ↦ λ h sub. absurd (false≢true sub)

@@ -10,8 +10,8 @@ use Rattle.std.proofs.lemmas.Option.{same_Some}
 use Rattle.cnf.specs.Literal.{Literal, negation, literal_eq}
 use Rattle.cnf.specs.Clause.{contains_literal, has_repeat}
 use Rattle.cnf.specs.Refute.{IsUnit, IsFalseUnder}
-use Rattle.cnf.proofs.Laws.{literal_eq-true}
-use Rattle.cnf.proofs.Laws.{at_contains}
+use Rattle.cnf.proofs.Laws.{literal_eq-true, all_at, all_push, all_weaker, contains_front}
+use Rattle.cnf.proofs.Laws.{at_contains, member_pushed}
 use Rattle.cnf.specs.Formula.{IsFormulaClause}
 use Rattle.clauses.specs.Slots.{Slots, clause_at}
 use Rattle.cnf.specs.Marks.{mark_of, HasPlace}
@@ -21,38 +21,6 @@ use Rattle.eliminate.specs.declared.units.ClauseState.TheVariants.{Settled, Unit
 use Rattle.eliminate.specs.Units.{IsSettled, AreUnits}
 use Rattle.cnf.proofs.Laws.{literal_eq-refl}
 use Rattle.eliminate.proofs.States.{places_of}
-
-pub all_member : (P : Literal → Type 0) (c : List Literal) (l : Literal) → AllByRecursion P c
-    → contains_literal l c ≡ true → P l
-all_member P [] l all e = absurd (false≢true e)
-all_member P (k ∷ c) l all e = elim (or_cases (literal_eq l k) (contains_literal l c) e) [
-  | inl same ↦ subst P (sym (literal_eq-true l k same)) all.0
-  | inr more ↦ all_member P c l all.1 more
-]
-
-all_pushed : (P : Literal → Type 0) (c : List Literal) (l : Literal) → AllByRecursion P c → P l
-    → AllByRecursion P (c ++ l ∷ [])
-all_pushed P [] l all p = (p, tt)
-all_pushed P (k ∷ c) l all p = (all.0, all_pushed P c l all.1 p)
-
-all_weaker : (P Q : Literal → Type 0) (c : List Literal) → ((l : Literal) → P l → Q l)
-    → AllByRecursion P c → AllByRecursion Q c
-all_weaker P Q [] f all = tt
-all_weaker P Q (k ∷ c) f all = (f k all.0, all_weaker P Q c f all.1)
-
-contains-last : (c : List Literal) (l : Literal) → contains_literal l (c ++ l ∷ []) ≡ true
-contains-last [] l = or_left (literal_eq l l) false (literal_eq-refl l)
-contains-last (k ∷ c) l =
-    or_right (literal_eq l k) (contains_literal l (c ++ l ∷ [])) (contains-last c l)
-
-contains-before : (c : List Literal) (l k : Literal) → contains_literal l c ≡ true
-    → contains_literal l (c ++ k ∷ []) ≡ true
-contains-before [] l k e = absurd (false≢true e)
-contains-before (x ∷ c) l k e = elim (or_cases (literal_eq l x) (contains_literal l c) e) [
-  | inl same ↦ or_left (literal_eq l x) (contains_literal l (c ++ k ∷ [])) same
-  | inr more ↦ or_right (literal_eq l x) (contains_literal l (c ++ k ∷ []))
-      (contains-before c l k more)
-]
 
 contains-take : (c : List Literal) (i : ℕ) (l : Literal) → contains_literal l (take i c) ≡ true
     → contains_literal l c ≡ true
@@ -110,8 +78,8 @@ pub settled_true : (u : Units) (slots : Slots) (c : List Literal) (k : Literal) 
     → IsSettled u.trail.items c
 settled_true u slots c k a has t = (
   λ f. consistent u slots k a t
-      (all_member (λ l. contains_literal (negation l) u.trail.items ≡ true) c k f has),
-  λ m w. elim (all_member (λ l. (l ≡ m) ⊎ (contains_literal (negation l) u.trail.items ≡ true)) c k
+      (all_at (λ l. contains_literal (negation l) u.trail.items ≡ true) c k f has),
+  λ m w. elim (all_at (λ l. (l ≡ m) ⊎ (contains_literal (negation l) u.trail.items ≡ true)) c k
       w.others has) [
         | inl same ↦ both_ways (contains_literal m u.trail.items) w.not_true
             (subst (λ x. contains_literal x u.trail.items ≡ true) same t)
@@ -126,11 +94,11 @@ pub settled_two : (A c : List Literal) (k l : Literal) → contains_literal k c 
     → IsSettled A c
 settled_two A c k l hk hl apart nk nl = (
   λ f. both_ways (contains_literal (negation k) A) nk
-      (all_member (λ x. contains_literal (negation x) A ≡ true) c k f hk),
-  λ m w. elim (all_member (λ x. (x ≡ m) ⊎ (contains_literal (negation x) A ≡ true)) c k
+      (all_at (λ x. contains_literal (negation x) A ≡ true) c k f hk),
+  λ m w. elim (all_at (λ x. (x ≡ m) ⊎ (contains_literal (negation x) A ≡ true)) c k
       w.others hk) [
         | inr n ↦ both_ways (contains_literal (negation k) A) nk n
-        | inl km ↦ elim (all_member (λ x. (x ≡ m) ⊎ (contains_literal (negation x) A ≡ true)) c l
+        | inl km ↦ elim (all_at (λ x. (x ≡ m) ⊎ (contains_literal (negation x) A ≡ true)) c l
             w.others hl) [
               | inl lm ↦ apart (km ∙ sym lm)
               | inr n ↦ both_ways (contains_literal (negation l) A) nl n
@@ -150,15 +118,15 @@ pub status_false : (A c : List Literal) (i : ℕ) (k : Literal) (s : ClauseState
     → HasStatusSoFar A (take i c) s → HasStatusSoFar A (take (i + 1) c) s
 status_false A c i k Settled h is f so = so
 status_false A c i k (Unit l) h is f so = rw (take_next c i k h is) (record {
-  member = contains-before (take i c) l k so.member;
+  member = contains_front l (take i c) (k ∷ []) so.member;
   not_true = so.not_true;
   not_false = so.not_false;
   others =
-      all_pushed (λ x. (x ≡ l) ⊎ (contains_literal (negation x) A ≡ true)) (take i c) k
+      all_push (λ x. (x ≡ l) ⊎ (contains_literal (negation x) A ≡ true)) (take i c) k
       so.others (inr f);
 })
 status_false A c i k Falsified h is f so =
-    rw (take_next c i k h is) (all_pushed (λ x. contains_literal (negation x) A ≡ true)
+    rw (take_next c i k h is) (all_push (λ x. contains_literal (negation x) A ≡ true)
     (take i c) k so f)
 
 -- a first open one
@@ -166,10 +134,10 @@ pub status_open : (A c : List Literal) (i : ℕ) (k : Literal) → i < length c 
     → contains_literal k A ≡ false → contains_literal (negation k) A ≡ false
     → IsFalseUnder (take i c) A → IsUnit (take (i + 1) c) A k
 status_open A c i k h is t f so = rw (take_next c i k h is) (record {
-  member = contains-last (take i c) k;
+  member = member_pushed k (take i c);
   not_true = t;
   not_false = f;
-  others = all_pushed (λ x. (x ≡ k) ⊎ (contains_literal (negation x) A ≡ true)) (take i c) k
+  others = all_push (λ x. (x ≡ k) ⊎ (contains_literal (negation x) A ≡ true)) (take i c) k
       (all_weaker (λ x. contains_literal (negation x) A ≡ true)
       (λ x. (x ≡ k) ⊎ (contains_literal (negation x) A ≡ true)) (take i c) (λ x n. inr n) so)
       (inl refl);

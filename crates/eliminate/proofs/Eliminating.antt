@@ -16,6 +16,7 @@ use Rattle.cnf.specs.Literal.{Literal, Assignment, negation}
 use Rattle.cnf.specs.Clause.{contains_literal, has_opposites}
 use Rattle.cnf.specs.Bits.{assignment_of}
 use Rattle.clauses.specs.Slots.{Slots, clause_at, live_clauses}
+use Rattle.clauses.proofs.Laws.{contains_live}
 use Rattle.cnf.specs.Lrat.{IsId}
 use Rattle.lrat_log.specs.declared.lines.Name.{Name}
 use Rattle.lrat_log.specs.declared.lines.Hint.TheVariants.{Plain}
@@ -35,7 +36,7 @@ use Rattle.eliminate.proofs.Back.{negative, extended-append}
 use Rattle.eliminate.proofs.Deleting.{leaves_join, rows_left}
 use Rattle.eliminate.proofs.Growing.{resolvent-lacks}
 use Rattle.eliminate_tables.proofs.Laws.{not-opposite_too, under_live}
-use Rattle.eliminate.proofs.States.{GoesWith, Lacks, goes_back, goes_free, contains_live}
+use Rattle.eliminate.proofs.States.{GoesWith, Lacks, goes_back, goes_free}
 
 -- what holds of each clause with the literal holds of those under the references
 under_all : (P : List Literal → Type 0) (l : Literal) (slots : Slots) (refs : List ℕ)

@@ -11,6 +11,7 @@ use Rattle.std.proofs.lemmas.Simd.{map-map}
 use Rattle.cnf.specs.Literal.{Literal}
 use Rattle.cnf.specs.Refute.{Clauses}
 use Rattle.cnf.specs.Lrat.{IsId}
+use Rattle.cnf.proofs.Laws.{all_mapped}
 use Rattle.clauses.specs.Slots.{Slots, clause_at, places_from, live_places, live_clauses, Renaming}
 use Rattle.clauses.specs.Slots.{IsRenaming, moves_from, moves_of}
 use Rattle.lrat_log.specs.declared.lines.Name.{Name}
@@ -34,11 +35,6 @@ all_places P n (Some d ∷ slots) h = (
   all_places P (n + 1) slots (λ r c e. subst P (let x : n + suc r ≡ n + 1 + r = omega arith in
       x) (h (suc r) c e)),
 )
-
-mapped : {X Y : Type 0} (P : Y → Type 0) (f : X → Y) (xs : List X)
-    → AllByRecursion (λ x. P (f x)) xs → AllByRecursion P (map f xs)
-mapped P f [] all = tt
-mapped P f (x ∷ xs) all = (all.0, mapped P f xs all.1)
 
 -- what holds of each live clause's place holds of the old place of each move
 pub by_old : (old : Slots) (moves : Renaming) (P : ℕ → Type 0)
@@ -64,7 +60,7 @@ distinct_places f n (None ∷ slots) h = distinct_places f (n + 1) slots (λ r s
     let z : suc r ≡ suc s = h (suc r) (suc s) c d e g (ap f (sym x) ∙ same ∙ ap f y) in
     omega arith)
 distinct_places f n (Some b ∷ slots) h = (
-  mapped (λ y. nat_eq (f n) y ≡ false) f (places_from (n + 1) slots)
+  all_mapped (λ y. nat_eq (f n) y ≡ false) f (places_from (n + 1) slots)
       (all_places (λ r. nat_eq (f n) (f r) ≡ false) (n + 1) slots (λ r c e.
       ne_eqb (f n) (f (n + 1 + r)) (λ same.
       let x : n + 0 ≡ n = omega arith in

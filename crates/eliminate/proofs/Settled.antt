@@ -7,10 +7,9 @@ use Rattle.cnf.specs.Literal.{Literal}
 use Rattle.cnf.specs.Formula.{numbered}
 use Rattle.cnf.specs.Refute.{IsRefutedByHints}
 use Rattle.clauses.specs.Slots.{Slots, live_clauses}
-use Rattle.clauses.proofs.Laws.{not_refuted}
+use Rattle.clauses.proofs.Laws.{not_refuted, all_live}
 use Rattle.eliminate.specs.Simplifier.{Grows}
 use Rattle.eliminate.specs.Units.{IsSettled, AreSettled}
-use Rattle.eliminate.proofs.States.{all_live}
 
 numbered_all : (P : List Literal → Type 0) (cs : List (List Literal)) (i : ℕ) (c : List Literal)
     → All P cs → numbered cs i ≡ Some c → P c

@@ -17,10 +17,10 @@ use Rattle.eliminate_names.specs.Work.{NamesState, name_at, added_line, delete_l
 use Rattle.eliminate_tables.specs.Rows.{with_clause_rows}
 use Rattle.eliminate.specs.State.{Start, IsState}
 use Rattle.eliminate.specs.Simplifier.{IsSimplified, IsAddableLine, IsLogOf}
-use Rattle.eliminate_names.proofs.Laws.{open_added, open_deleted}
-use Rattle.clauses.proofs.Laws.{clause_new}
-use Rattle.lrat_log.proofs.Laws.{additions_push}
-use Rattle.eliminate.proofs.States.{state_added, state_subsumed, contains_live, places_of}
+use Rattle.eliminate_names.proofs.Laws.{open_deleted}
+use Rattle.clauses.proofs.Laws.{clause_new, contains_live}
+use Rattle.lrat_log.proofs.Laws.{additions_push, open_push}
+use Rattle.eliminate.proofs.States.{state_added, state_subsumed, places_of}
 
 no_empty : (b e : Bool) → e ≡ false → (b && e) ≡ false
 no_empty true e h = h
@@ -73,7 +73,7 @@ simplified_added start s t slots ls l h works a small n =
       given = (let v = n.vars in let g = h.given in omega arith);
       fresh = (let v = n.vars in let f = h.fresh in omega arith);
       going =
-          λ e. open_added ls l going (no_empty _ (is_empty_clause l.clause) (sym n.refuted ∙ e));
+          λ e. open_push ls l going (no_empty _ (is_empty_clause l.clause) (sym n.refuted ∙ e));
       refuted =
           λ e. subst (Contains (live_clauses more)) (sym (is_empty l.clause (sym n.refuted ∙ e)))
           (contains_live more (length slots) l.clause (clause_new slots l.clause));

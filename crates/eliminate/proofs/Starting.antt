@@ -13,6 +13,7 @@ use Rattle.cnf.specs.Literal.{Literal}
 use Rattle.cnf.specs.Formula.{IsFormula, IsFormulaClause}
 use Rattle.cnf.specs.Lrat.{IsId}
 use Rattle.clauses.specs.Slots.{Slots, clause_at, live_clauses}
+use Rattle.clauses.proofs.Laws.{live_all}
 use Rattle.lrat_log.specs.declared.lines.Name.{Name}
 use Rattle.lrat_log.specs.declared.lines.Name.TheVariants.{Formula, Added}
 use Rattle.lrat_log.specs.Log.{Given, given_at, id_of, number_in}
@@ -23,7 +24,6 @@ use Rattle.eliminate.specs.State.{Start, IsState}
 use Rattle.eliminate.specs.Simplifier.{IsSimplified}
 use Rattle.eliminate_names.specs.Work.{NamesState, name_at, formula_names, IsNamed}
 use Rattle.eliminate_tables.specs.Rows.{row_at, AreRows}
-use Rattle.eliminate.proofs.States.{live_all}
 
 abbrev given_from : ℕ → Slots → Given
 given_from n slots = map (λ e. (Formula e.0, e.1)) (enumerate_from n (live_clauses slots))

@@ -27,9 +27,9 @@ use Rattle.eliminate.specs.State.{Start, IsState, AreFree, GivesBack}
 use Rattle.eliminate.proofs.Back.{Entails, IsKept, HaveVariable, negative, extends_weaker}
 use Rattle.eliminate.proofs.Back.{extends_eliminated, resolve_to, entails_subsumed, entails_member}
 use Rattle.eliminate_names.proofs.Laws.{work_added, work_deleted}
-use Rattle.clauses.proofs.Laws.{clause_cases, clause_kept, clause_left, clause_other}
+use Rattle.clauses.proofs.Laws.{clause_cases, clause_kept, clause_left, clause_other, all_live}
+use Rattle.clauses.proofs.Laws.{live_all, contains_live}
 use Rattle.eliminate.proofs.Occurring.{rows_added, rows_deleted, rows-length}
-pub use Rattle.eliminate_pairs.proofs.Laws.{all_live, live_all, contains_live}
 
 place_of : (n : ℕ) (l : Literal) → 0 < l.variable → l.variable ≤ n → HasPlace (2 * n) l
 place_of n l some few = (some, omega arith)

@@ -12,7 +12,7 @@ use Rattle.cnf.specs.Clause.{contains_literal, without_literal, greatest_variabl
 use Rattle.cnf.specs.Formula.{IsFormulaClause}
 use Rattle.cnf.specs.Refute.{IsUnit, IsFalseUnder}
 use Rattle.cnf.specs.Lrat.{IsId}
-use Rattle.cnf.proofs.Laws.{literal_eq-true}
+use Rattle.cnf.proofs.Laws.{literal_eq-true, all_from, all_at}
 use Rattle.clauses.specs.Slots.{Slots, clause_at}
 use Rattle.lrat_log.specs.declared.lines.Name.{Name}
 use Rattle.lrat_log.specs.declared.lines.Hint.{Hint}
@@ -31,9 +31,9 @@ use Rattle.eliminate.specs.Units.{AreUnits, unit_of, unit_name, falsified_in, un
 use Rattle.eliminate.proofs.Adding.{unit_line, empty_line}
 use Rattle.eliminate.proofs.Falsified.{AreFalseByUnits}
 use Rattle.cnf.proofs.Laws.{literal_eq-refl}
-use Rattle.eliminate_tables.proofs.Laws.{each_literal, filter-contains, member_has}
+use Rattle.eliminate_tables.proofs.Laws.{filter-contains, member_has}
 use Rattle.eliminate_names.proofs.Laws.{number_at}
-use Rattle.eliminate.proofs.ClauseStates.{all_member, take_next}
+use Rattle.eliminate.proofs.ClauseStates.{take_next}
 
 -- the next literal of a clause is false, or not
 falsified-pushed : (u : Units) (c : List Literal) (l : Literal)
@@ -98,7 +98,7 @@ module _ (u : Units) (slots : Slots) (c : List Literal) (a : AreUnits u slots)
       → falsified_in u c ≡ without_literal l c
   falsified_unit l w =
       same_filter (λ k. mark_of u.values (negation k)) (λ k. not (literal_eq l k)) c (λ k has.
-      elim (all_member (λ x. (x ≡ l) ⊎ (contains_literal (negation x) u.trail.items ≡ true)) c k
+      elim (all_at (λ x. (x ≡ l) ⊎ (contains_literal (negation x) u.trail.items ≡ true)) c k
       w.others has) [
         | inl same ↦ marked_as k false has
             (ap (λ x. contains_literal (negation x) u.trail.items) same ∙ w.not_false)
@@ -114,7 +114,7 @@ module _ (u : Units) (slots : Slots) (c : List Literal) (a : AreUnits u slots)
   falsified_all w =
       all_kept (λ k. mark_of u.values (negation k)) c
       (λ k has. marked_as k true has
-      (all_member (λ x. contains_literal (negation x) u.trail.items ≡ true) c k w has))
+      (all_at (λ x. contains_literal (negation x) u.trail.items ≡ true) c k w has))
 
 -- what is read at a literal's variable
 pub looked_up : (clauses : List (Option ℕ)) (n : ℕ) (l : Literal) (o : Option ℕ) → n ≡ l.variable
@@ -154,7 +154,7 @@ module _ (start : Start) (s : Simplifier) (slots : Slots) (ls : List LogLine) (u
       → contains_literal (negation k) u.trail.items ≡ true)
       → AreFalseByUnits (log_live (given_of start.clauses) base ls) (λ k. id_of base (by_unit k)) ks
   false_by_units base above ks f =
-      each_literal (λ k. log_live (given_of start.clauses) base ls (id_of base (by_unit k))
+      all_from (λ k. log_live (given_of start.clauses) base ls (id_of base (by_unit k))
       ≡ Some (negation k ∷ [])) ks (λ k has.
       let w = a.by_units (negation k) (f k has) in
       let place : unit_of u.clauses.items k ≡ w.place = ap (λ o. unwrap_or o 0) w.there in
@@ -203,7 +203,7 @@ module _ (start : Start) (s : Simplifier) (slots : Slots) (ls : List LogLine) (u
           (h.state.work.named.live base above).named r c at,
           false_by_units base above (without_literal l c) (λ k has.
               let in_c = filter-contains (λ x. not (literal_eq l x)) k c has in
-              elim (all_member (λ x. (x ≡ l) ⊎ (contains_literal (negation x) u.trail.items ≡ true))
+              elim (all_at (λ x. (x ≡ l) ⊎ (contains_literal (negation x) u.trail.items ≡ true))
               c k w.others in_c.0) [
                 | inl is ↦ absurd (not_itself (literal_eq l k) in_c.1 (ap (literal_eq l) is
                     ∙ literal_eq-refl l))
@@ -266,7 +266,7 @@ module _ (start : Start) (s : Simplifier) (slots : Slots) (ls : List LogLine) (u
         (λ base above. (
           (h.state.work.named.live base above).named r c at,
           false_by_units base above c
-              (λ k has. all_member (λ x. contains_literal (negation x) u.trail.items ≡ true) c k
+              (λ k has. all_at (λ x. contains_literal (negation x) u.trail.items ≡ true) c k
               w has),
         )) in
         record {

@@ -7,6 +7,7 @@ use Rattle.cnf.specs.Literal.{Literal}
 use Rattle.cnf.specs.Formula.{IsFormulaClause}
 use Rattle.cnf.specs.Bits.{assignment_of}
 use Rattle.clauses.specs.Slots.{Slots, live_clauses}
+use Rattle.clauses.proofs.Laws.{live_map, all_live}
 use Rattle.lrat_log.specs.Log.{LogLine}
 use Rattle.lrat_log.specs.Steps.{given_of, StaysLogOver, log_live, learned_count}
 use Rattle.eliminate_names.specs.Work.{NamesState}
@@ -15,10 +16,8 @@ use Rattle.eliminate.specs.Elimination.{is_eliminated, AreFreeOf, SatisfiesAll}
 use Rattle.eliminate.specs.Ending.{IsResult}
 use Rattle.eliminate.specs.State.{Start}
 use Rattle.eliminate.specs.Simplifier.{IsSimplified}
-use Rattle.eliminate_pairs.proofs.Laws.{live_map}
 use Rattle.eliminate.proofs.Listed.{together_holds}
 use Rattle.eliminate.proofs.Starting.{stays_start}
-use Rattle.eliminate.proofs.States.{all_live}
 use Rattle.eliminate.proofs.elimination.eliminate.Given.{Over}
 use Rattle.eliminate.proofs.elimination.eliminate.Goals as goal
 use Rattle.eliminate.proofs.elimination.eliminate.Goals.{In_ok-simplifier, In_ok-propagate_units}

@@ -6,11 +6,12 @@ use Rattle.std.proofs.lemmas.List.{take_more, length-replicate, length-take-le, 
 use Rattle.cnf.specs.Literal.{Literal}
 use Rattle.cnf.specs.Formula.{IsFormulaClause}
 use Rattle.clauses.specs.Slots.{Slots, clause_at}
+use Rattle.clauses.proofs.Laws.{live_all}
 use Rattle.cnf.specs.Marks.{HasPlace}
 use Rattle.eliminate_tables.specs.Rows.{AreRows, with_clause_rows}
 use Rattle.eliminate.proofs.Occurring.{rows_added, rows-length}
 use Rattle.eliminate.proofs.Starting.{rows_start, rows_none, slot_some, slot_none, simplified_start}
-use Rattle.eliminate.proofs.States.{places_of, live_all}
+use Rattle.eliminate.proofs.States.{places_of}
 use Rattle.eliminate.proofs.simplifier.Simplifier.new.Goals as goal
 use Rattle.eliminate.proofs.simplifier.Simplifier.new.Goals.{in-Some+in_ok-add-in-Some}
 use Rattle.eliminate.proofs.simplifier.Simplifier.new.Goals.{in-None}
