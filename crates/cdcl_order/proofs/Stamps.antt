@@ -11,23 +11,10 @@ use Rattle.std.proofs.lemmas.Option.{same_Some}
 use Rattle.cnf.specs.Literal.{Literal}
 use Rattle.propagate.specs.Trail.{Assigned, is_decision, depth_of, level_in, level_from}
 use Rattle.propagate.specs.Trail.{level_after, level_of}
-use Rattle.propagate.proofs.Laws.{depth_step}
+use Rattle.propagate.proofs.Laws.{level_from-le}
 use Rattle.cdcl_order.specs.Levels.{with_level, levels_of}
 
 -- Levels.
-
-none_some : {A : Type 0} (x : A) → None ≡ Some x → ⊥
-none_some x e = cc
-
-level_from-le : (n : ℕ) (T : List Assigned) (v k : ℕ) → level_from n T v ≡ Some k
-    → k ≤ n + depth_of T
-level_from-le n [] v k e = absurd (none_some k e)
-level_from-le n (a ∷ T) v k e = elim (cases_Bool (a.literal.variable == v)) [
-  | inl s ↦ let same : level_after n a ≡ k = same_Some (level_after n a) k (rw s at e) in
-      omega (arith, depth_step n a T)
-  | inr s ↦ let rest = level_from-le (level_after n a) T v k (rw s at e) in
-      omega (arith, depth_step n a T)
-]
 
 unwrapped_low : (o : Option ℕ) (most : ℕ) → ((k : ℕ) → o ≡ Some k → k ≤ most)
     → unwrap_or o 0 ≤ most
