@@ -12,26 +12,15 @@ use Rattle.cnf.specs.Refute.{Clauses, IsFalseUnder}
 use Rattle.clauses.specs.Slots.{Slots, clause_at}
 use Rattle.propagate.specs.Trail.{Assigned, literals_of, depth_of, level_after, level_from}
 use Rattle.propagate.specs.Trail.{level_in, kept_to, HasReasons, level_of}
-use Rattle.propagate.proofs.Laws.{depth_step, negation_twice, contains-append}
-use Rattle.cnf.proofs.Laws.{literal_eq-refl, all_weaker}
-use Rattle.propagate.proofs.Laws.{in_kept, contains_front, contains_back, kept_prefix}
+use Rattle.propagate.proofs.Laws.{negation_twice, level_from-le}
+use Rattle.cnf.proofs.Laws.{literal_eq-refl, all_weaker, contains-append, contains_front}
+use Rattle.cnf.proofs.Laws.{contains_back}
+use Rattle.propagate.proofs.Laws.{in_kept, kept_prefix}
 use Rattle.propagate.proofs.Laws.{literals-append}
 use Rattle.analyze.specs.Learning.{IsConflict, IsQuiet}
 use Rattle.analyze.proofs.Laws.{level_is, false_below}
 use Rattle.cdcl.specs.Invariant.{zero_of}
 use Rattle.cdcl.specs.Hinting.{Serves}
-
-level_from-le : (n : ℕ) (T : List Assigned) (v m : ℕ) → level_from n T v ≡ Some m
-    → m ≤ n + depth_of T
-level_from-le n [] v m e = absurd (none-some m e)
-level_from-le n (a ∷ T) v m e =
-    let step = depth_step n a T in
-    elim (cases_Bool (a.literal.variable == v)) [
-      | inl s ↦ let same : level_after n a ≡ m = same_Some (level_after n a) m (rw s at e) in
-          omega arith
-      | inr s ↦ let rest : m ≤ level_after n a + depth_of T =
-          level_from-le (level_after n a) T v m (rw s at e) in omega arith
-    ]
 
 -- a literal of the current level, or all were false at the end of the level below
 current_or_below : (at : Clauses) (T : List Assigned) (c : List Literal) → HasReasons at [] T

@@ -18,6 +18,7 @@ use Rattle.cnf.specs.Refute.{IsRefutedByHints}
 use Rattle.cnf.specs.Bits.{assignment_of}
 use Rattle.cnf.specs.Formula.{Cnf, IsFormula, IsFormulaClause}
 use Rattle.clauses.specs.Slots.{Slots, clause_at, IsLive, live_places, live_clauses, places_from}
+use Rattle.clauses.proofs.Laws.{all_live, live_all}
 use Rattle.propagate.specs.Trail.{depth_of}
 use Rattle.propagate.specs.Watches.{is_attached}
 use Rattle.lrat_log.specs.declared.lines.Name.{Name}
@@ -31,7 +32,6 @@ use Rattle.cdcl.specs.declared.input.Input.{Input}
 use Rattle.cdcl.specs.Solving.{is_refuted}
 use Rattle.cdcl.specs.Invariant.{name_at, is_kept_name, NamesStore, NotesUnits, zero_of, IsRunning}
 use Rattle.cdcl.specs.Running.{Runs, IsInput, tables_of}
-use Rattle.eliminate.proofs.Laws.{live_all}
 use Rattle.cdcl.specs.Starts.{IsLiveWithin, IsStarted}
 use Rattle.cdcl.proofs.Places.{stands}
 use Rattle.cdcl.proofs.FirstNames.{names_start}
@@ -55,13 +55,6 @@ place_live n (None ∷ slots) i lt =
 place_live n (Some c ∷ slots) zero lt = (0, c, omega arith, refl)
 place_live n (Some c ∷ slots) (suc i) lt =
     let w = place_live (n + 1) slots i (omega arith) in (suc w.0, w.1, w.2 ∙ omega arith, w.3)
-
-all_live : (P : List Literal → Type 0) (slots : Slots)
-    → ((r : ℕ) (c : List Literal) → clause_at slots r ≡ Some c → P c) → All P (live_clauses slots)
-all_live P [] h = All-nil P
-all_live P (None ∷ slots) h = all_live P slots (λ r c e. h (suc r) c e)
-all_live P (Some d ∷ slots) h =
-    All-cons P d (live_clauses slots) (h 0 d refl) (all_live P slots (λ r c e. h (suc r) c e))
 
 live_found : (slots : Slots) (i : ℕ) (c : List Literal) → i < length (live_clauses slots)
     → get_or (live_clauses slots) i c ≡ c → (r : ℕ) × (clause_at slots r ≡ Some c)
@@ -227,11 +220,6 @@ module _ (cs : List (List Literal)) (slots : Slots) (stack : StackState) (ls : L
       → IsLive slots r → is_attached e.engine r ≡ true
   all_attached e on r live =
       let w = listed_at r live.0 live.1 in ap (is_attached e.engine) (sym w.2) ∙ on w.0 none w.1
-
--- a store of these clauses
-pub live_map : (cs : List (List Literal)) → live_clauses (map Some cs) ≡ cs
-live_map [] = refl
-live_map (c ∷ cs) = ap (λ x. c ∷ x) (live_map cs)
 
 -- the empty clause refutes by itself
 empty_refutes : (cs : List (List Literal)) → Contains cs [] → IsRefutedByHints cs

@@ -10,14 +10,14 @@ use Rattle.std.proofs.lemmas.List.{take_more, length-set, map_push, map-append}
 use Rattle.std.proofs.lemmas.Option.{none-some, same_Some}
 use Rattle.cnf.specs.Literal.{Literal, negation, literal_eq}
 use Rattle.cnf.specs.Clause.{contains_literal, has_repeat}
-use Rattle.cnf.proofs.Laws.{literal_eq-true}
+use Rattle.cnf.proofs.Laws.{literal_eq-true, same_variable, contains_front, repeat_push}
 use Rattle.clauses.specs.Slots.{Slots, clause_at}
 use Rattle.propagate.specs.Trail.{Assigned, literals_of, level_in, value_in, HasReasons}
 use Rattle.propagate.specs.Watches.{EngineState, is_attached, IsVariable}
 use Rattle.propagate.specs.Fits.{Fits}
-use Rattle.propagate.proofs.Laws.{negation_twice, contains-push, same_variable}
+use Rattle.propagate.proofs.Laws.{negation_twice, contains-push}
 use Rattle.cnf.proofs.Laws.{literal_eq-refl, all_weaker, all_append}
-use Rattle.propagate.proofs.Laws.{contains_at, contains_front}
+use Rattle.propagate.proofs.Laws.{contains_at}
 use Rattle.propagate.proofs.Laws.{attached_within, within_variable, false_value, not_false_value}
 use Rattle.propagate.proofs.Laws.{no_opposites}
 use Rattle.analyze.proofs.Laws.{low_kept}
@@ -81,22 +81,6 @@ found_unit e slots units r c i l fits noted live lt is v o named level value fou
       has.1,
       has.2,
     )
-
-repeat_push : (c : List Literal) (l : Literal) → contains_literal l c ≡ false → has_repeat c ≡ false
-    → has_repeat (c ++ l ∷ []) ≡ false
-repeat_push [] l e h = refl
-repeat_push (k ∷ c) l e h =
-    let p = or_parts (literal_eq l k) (contains_literal l c) e in
-    let q = or_parts (contains_literal k c) (has_repeat c) h in
-    let other : literal_eq k l ≡ false =
-    elim (cases_Bool (literal_eq k l)) as (λ _. literal_eq k l ≡ false) [
-      | inr n ↦ n
-      | inl y ↦ absurd (both_ways _ p.0 (ap (λ x. literal_eq l x) (literal_eq-true k l y)
-          ∙ literal_eq-refl l))
-    ] in
-    or_from (contains_literal k (c ++ l ∷ [])) (has_repeat (c ++ l ∷ []))
-    (contains-push k c l ∙ or_from (contains_literal k c) (literal_eq k l) q.0 other)
-    (repeat_push c l p.1 q.1)
 
 push_cases : (k : Literal) (c : List Literal) (l : Literal) (P : Type 0)
     → contains_literal k (c ++ l ∷ []) ≡ true → (contains_literal k c ≡ true → P) → (k ≡ l → P) → P

@@ -7,19 +7,18 @@ use Rattle.std.proofs.lemmas.List.Elements.{recursion_from_All}
 use Rattle.cnf.specs.Literal.{Literal, negation, literal_eq}
 use Rattle.cnf.specs.Clause.{contains_literal, has_repeat, has_opposites, is_subset}
 use Rattle.cnf.specs.Refute.{Clauses, Refutes, IsFalseUnder}
-use Rattle.cnf.proofs.Laws.{literal_eq-true}
+use Rattle.cnf.proofs.Laws.{literal_eq-true, contains-append, contains_front, contains_back}
 use Rattle.clauses.specs.Slots.{Slots, clause_at}
 use Rattle.propagate.specs.Trail.{Assigned, literals_of, depth_of, kept_to, HasReasons, level_of}
-use Rattle.propagate.proofs.Laws.{negation_twice, contains-append}
-use Rattle.cnf.proofs.Laws.{literal_eq-refl, all_at}
-use Rattle.propagate.proofs.Laws.{kept_prefix, contains_front, contains_back, literals-append}
+use Rattle.propagate.proofs.Laws.{negation_twice}
+use Rattle.cnf.proofs.Laws.{literal_eq-refl, all_at, contains_negation}
+use Rattle.propagate.proofs.Laws.{kept_prefix, literals-append}
 use Rattle.propagate.proofs.Laws.{NoOpposites, no_opposites}
 use Rattle.lrat_log.specs.declared.lines.Name.{Name}
 use Rattle.lrat_log.specs.Log.{LogLine, Given, is_delete, id_of, leading_ids, group_ids}
 use Rattle.lrat_log.specs.Steps.{log_live, IsNewTo, IsByRup, nothing_exempt}
 use Rattle.analyze.specs.Learning.{IsAsserting, IsRefutedBy}
 use Rattle.clauses.specs.Within.{Within}
-use Rattle.analyze.proofs.Laws.{contains_negation}
 use Rattle.cdcl.specs.Invariant.{NamesWhatIsLive, NamesStore, name_at, zero_of}
 use Rattle.cdcl.proofs.LogLines.{IsNewClause, AddsByHints, leading-plain, groups-plain}
 use Rattle.cdcl.proofs.Named.{refutes_named}

@@ -15,7 +15,6 @@ use Rattle.propagate.specs.Fits.{Fits, IsWithin}
 use Rattle.lrat_log.specs.declared.lines.Kind.{Kind}
 use Rattle.lrat_log.specs.declared.lines.Hint.{Hint}
 use Rattle.lrat_log.specs.Log.{LogLine, Given, IsLine, is_delete, name_of, number_in}
-use Rattle.propagate.proofs.Laws.{fits_local}
 use Rattle.propagate.specs.Trail.{Assigned, literals_of}
 use Rattle.eliminate.specs.Elimination.{StackState}
 use Rattle.lrat_log.specs.declared.lines.Name.{Name}
@@ -23,26 +22,8 @@ use Rattle.lrat_log.specs.Steps.{added_count}
 use Rattle.cdcl.specs.declared.search.Search.{Search}
 use Rattle.cdcl.specs.Invariant.{Tables, IsRunning}
 use Rattle.cdcl.specs.Running.{HasRoom, Places}
-use Rattle.cdcl.proofs.Places.{clause_old, live_within}
+use Rattle.cdcl.proofs.Places.{live_within}
 use Rattle.clauses.proofs.Laws.{clause_new}
-
--- an engine belongs to the store with one clause more
-pub fits_more : (e : EngineState) (slots : Slots) (c : List Literal) → Fits e slots
-    → Fits e (slots ++ Some c ∷ [])
-fits_more e slots c fits =
-    fits_local e slots (slots ++ Some c ∷ []) fits (λ r on. let w = fits.attached r on in
-    clause_old slots c r (live_within slots r w.0 w.1))
-
--- in which that clause is not attached yet
-pub not_attached : (e : EngineState) (slots : Slots) → Fits e slots
-    → is_attached e (length slots) ≡ false
-not_attached e slots fits =
-    elim (cases_Bool (is_attached e (length slots)))
-    as (λ _. is_attached e (length slots) ≡ false) [
-      | inl t ↦ let w = fits.attached (length slots) t in
-          let h = live_within slots (length slots) w.0 w.1 in absurd (omega arith)
-      | inr f ↦ f
-    ]
 
 pub new_at : (slots now : Slots) (c : List Literal) (r : ℕ) → now ≡ slots ++ Some c ∷ []
     → r ≡ length slots → clause_at now r ≡ Some c

@@ -13,8 +13,8 @@ use Rattle.clauses.specs.Slots.{Slots, Renaming, renamed, IsRenaming}
 use Rattle.propagate.specs.Trail.{Assigned, literals_of, depth_of, is_decision, kept_to}
 use Rattle.propagate.specs.Watches.{EngineState, is_attached, SameAttached, SetsAttached}
 use Rattle.propagate.specs.Fits.{Fits, GrowsByUnits, MovesAttached, renamed_trail}
-use Rattle.propagate.proofs.Laws.{kept_push, kept_all}
-use Rattle.propagate.proofs.Laws.{depth_push, depth-cons}
+use Rattle.propagate.proofs.Laws.{kept_push, kept_all, depth_named}
+use Rattle.propagate.proofs.Laws.{depth_push}
 use Rattle.propagate.proofs.Laws.{kept_kept, kept_low}
 use Rattle.propagate.proofs.Laws.{kept_named, trail_listed}
 use Rattle.propagate.specs.Renames.{named_trail, named_reason}
@@ -111,19 +111,6 @@ searches_add slots e f c s sets trail works fits new = record {
 
 -- A compacted store.
 
-none_moved : (ms : Renaming) (o : Option ℕ) → is_none (named_reason ms o) ≡ is_none o
-none_moved ms None = refl
-none_moved ms (Some r) = refl
-
-depth_moved : (ms : Renaming) (T : List Assigned) → depth_of (named_trail ms T) ≡ depth_of T
-depth_moved ms [] = refl
-depth_moved ms (a ∷ T) =
-    let b : Assigned = record { literal = a.literal; reason = named_reason ms a.reason } in
-    depth-cons b (named_trail ms T)
-    ∙ ap (λ k. cond k 1 0 + depth_of (named_trail ms T)) (none_moved ms a.reason)
-    ∙ ap (λ k. cond (is_decision a) 1 0 + k) (depth_moved ms T)
-    ∙ sym (depth-cons a T)
-
 pub searches_move : (before after : Slots) (ms : Renaming) (e f : EngineState)
     → IsRenaming before after ms → IsStrictlyIncreasing (map (λ m. m.0) ms) → Searches e before
     → MovesAttached e f ms → f.trail ≡ renamed_trail ms e.trail → f.failed ≡ e.failed → Fits f after
@@ -136,7 +123,7 @@ searches_move before after ms e f renames rises s moves trail failed fits =
     let as_named : f.trail ≡ named_trail ms e.trail =
     trail ∙ sym (trail_listed ms e.trail listed) in
     let depth : depth_of f.trail ≡ depth_of e.trail =
-    ap depth_of as_named ∙ depth_moved ms e.trail in
+    ap depth_of as_named ∙ depth_named ms e.trail in
     let kept : (level : ℕ)
     → literals_of (kept_to level f.trail) ≡ literals_of (kept_to level e.trail) =
     λ level. ap (λ T. literals_of (kept_to level T)) as_named ∙ kept_named ms level e.trail in (

@@ -12,7 +12,7 @@ use Rattle.std.proofs.lemmas.List.Elements.{recursion_from_All}
 use Rattle.cnf.specs.Literal.{Literal, negation}
 use Rattle.cnf.specs.Clause.{contains_literal}
 use Rattle.cnf.specs.Refute.{IsUnit}
-use Rattle.cnf.proofs.Laws.{all_at}
+use Rattle.cnf.proofs.Laws.{all_at, contains_one}
 use Rattle.clauses.specs.Slots.{Slots, clause_at}
 use Rattle.propagate.specs.Trail.{Assigned, literals_of, depth_of, is_decision, reason_in}
 use Rattle.propagate.specs.Trail.{HasReasons, IsJustified}
@@ -112,16 +112,12 @@ same_reference : (slots : Slots) (r q : ℕ) (c d : List Literal) → q ≡ r �
     → clause_at slots q ≡ Some d → d ≡ c
 same_reference slots r q c d e at bt = same_Some d c (sym bt ∙ ap (clause_at slots) e ∙ at)
 
-only_one : (r q : ℕ) → Contains (r ∷ []) q → q ≡ r
-only_one r q (zero, lt, e) = sym e
-only_one r q (suc i, lt, e) = absurd (omega arith)
-
 -- the reason's false literals are noted
 pub next_noted : (slots : Slots) (T : List Assigned) (k : Literal) (r : ℕ) (units : List (Option ℕ))
     (noted : ℕ) → HasReasons (clause_at slots) [] T → depth_of T ≡ 0 → IsNext slots T noted k r
     → NotesUnits slots (zero_of T) (depth_of T) units noted → AreNoted slots units T (r ∷ [])
 next_noted slots T k r units noted reasons flat n notes q m c at x x_in f =
-    let same : c ≡ n.clause = same_reference slots r q n.clause c (only_one r q m) n.here at in
+    let same : c ≡ n.clause = same_reference slots r q n.clause c (contains_one r q m) n.here at in
     let z = flat_zero T flat in
     let before = false_before slots T noted k r n x (no_opposites (clause_at slots) T reasons)
     (ap (contains_literal x) (sym same) ∙ x_in) (ap (contains_literal (negation x)) (sym z)
@@ -147,7 +143,7 @@ adds_unit slots T names given ls hints k i r reasons flat n store h few =
     λ y m.
     (let w = h.needed y m in
     let same : w.clause ≡ n.clause =
-    same_reference slots r w.reference n.clause w.clause (only_one r w.reference w.listed)
+    same_reference slots r w.reference n.clause w.clause (contains_one r w.reference w.listed)
     n.here w.live in
     let b =
     false_before slots T i k r n (negation y) apart (ap (contains_literal (negation y)) (sym same)

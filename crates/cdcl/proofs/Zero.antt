@@ -7,8 +7,7 @@ use Rattle.std.proofs.lemmas.Bool.{cases_Bool, or_cases, or_left, or_right, both
 use Rattle.cnf.specs.Literal.{Literal, negation, literal_eq}
 use Rattle.cnf.specs.Clause.{contains_literal, HaveSame}
 use Rattle.cnf.specs.Refute.{Clauses, IsUnit, Leads, Refutes}
-use Rattle.cnf.proofs.Laws.{refutes_after}
-use Rattle.propagate.proofs.Laws.{contains-append}
+use Rattle.cnf.proofs.Laws.{refutes_after, contains-append}
 use Rattle.cnf.proofs.Laws.{literal_eq-refl, all_weaker}
 use Rattle.cdcl.specs.Hinting.{Serves, AreUnits}
 use Rattle.clauses.specs.Within.{Within}

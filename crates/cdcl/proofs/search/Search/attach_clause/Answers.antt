@@ -1,13 +1,14 @@
 use Rattle.std.proofs.Common.{ap, sym, subst, ◌∙◌}
 use Rattle.propagate.specs.Watches.{is_attached}
 use Rattle.propagate.specs.Fits.{Fits}
-use Rattle.cdcl.proofs.Placing.{fits_more, not_attached, new_live, new_within}
+use Rattle.propagate.proofs.Laws.{fits_added, new_is_detached}
+use Rattle.cdcl.proofs.Placing.{new_live, new_within}
 use Rattle.cdcl.proofs.search.Search.attach_clause.Goals as goal
 
 pub attach-requires-clause-fits : goal.attach-requires-clause-fits
 attach-requires-clause-fits c =
     subst (Fits c.args.self.now.engine) (sym (ap (λ s. s.slots) c.in_ok-reference.ensures.ok))
-    (fits_more c.args.self.now.engine (c.args.self.now.store).slots c.args.lits.now
+    (fits_added c.args.self.now.engine (c.args.self.now.store).slots c.args.lits.now
     c.requires.ready.searches.fits)
 
 pub attach-requires-clause-live : goal.attach-requires-clause-live
@@ -26,5 +27,5 @@ attach-requires-clause-small c =
 pub attach-requires-clause-once : goal.attach-requires-clause-once
 attach-requires-clause-once c =
     ap (is_attached c.args.self.now.engine) c.in_ok-reference.ensures.reference
-    ∙ not_attached c.args.self.now.engine (c.args.self.now.store).slots
+    ∙ new_is_detached c.args.self.now.engine (c.args.self.now.store).slots
     c.requires.ready.searches.fits

@@ -6,13 +6,14 @@ use Rattle.std.proofs.lemmas.List.{drop_all, length-map}
 use Rattle.cnf.specs.Literal.{Literal}
 use Rattle.cnf.specs.Refute.{IsRefutedByHints}
 use Rattle.clauses.specs.Slots.{live_clauses}
+use Rattle.clauses.proofs.Laws.{live_map}
 use Rattle.lrat_log.specs.declared.lines.Name.{Name}
 use Rattle.lrat_log.specs.Steps.{StaysLogOver, given_of}
 use Rattle.lrat_log.proofs.Laws.{clauses_given}
 use Rattle.eliminate.specs.Elimination.{ExtendsBack, IsFree, StackState}
 use Rattle.cdcl.specs.declared.input.Input.{Input}
 use Rattle.cdcl.proofs.Placing.{added_few}
-use Rattle.cdcl.proofs.FirstRun.{IsLeft, formula_again, left_from, live_map, left_long, left_live}
+use Rattle.cdcl.proofs.FirstRun.{IsLeft, formula_again, left_from, left_long, left_live}
 use Rattle.cdcl.proofs.FirstRun.{left_numbers, new_input, first_clauses, first_runs}
 use Rattle.cdcl.proofs.Answered.{log_now}
 use Rattle.cdcl.proofs.solver.Solver.of.Goals as goal
