@@ -9,11 +9,12 @@ use Rattle.std.proofs.lemmas.List.{length-map, map-append}
 use Rattle.std.proofs.lemmas.List.Sums.{sum_by-append}
 use Rattle.cnf.specs.Literal.{Literal}
 use Rattle.cnf.specs.Formula.{Cnf}
+use Rattle.cnf.proofs.Laws.{numbered_past}
 use Rattle.lrat_log.specs.declared.lines.Name.{Name}
 use Rattle.lrat_log.specs.declared.lines.Name.TheVariants.{Formula}
 use Rattle.lrat_log.specs.Log.{LogLine, Given, given_at, is_learned, clauses_in}
 use Rattle.lrat_log.specs.Steps.{IsLogOver, LearnsNew, is_later, learned_count, given_of}
-use Rattle.lrat_log.proofs.Laws.{numbered_past, given_on, clauses_given, given_at-given_of}
+use Rattle.lrat_log.proofs.Laws.{given_on, clauses_given, given_at-given_of}
 use Rattle.cdcl.specs.Solving.{given_to, GivesMore, lines_since}
 use Rattle.improve.specs.Bounds.{LogSolver, IsUsable, GivesAll}
 use Rattle.lrat_log.proofs.Laws.{none_new}

@@ -27,7 +27,7 @@ use Rattle.improve.specs.Improving.{AreFalling, first_subset, weaker_among}
 use Rattle.improve.specs.Bounds.{IsOver}
 use Rattle.improve.specs.declared.bounds.Bounds.{Bounds}
 use Rattle.cnf.specs.Lrat.{IsId}
-use Rattle.cnf.proofs.Laws.{all_right, all_append, all_weaker, all_both}
+use Rattle.cnf.proofs.Laws.{all_right, all_append, all_weaker, all_both, all_mapped}
 use Rattle.lrat_log.specs.Rebase.{weaker_list}
 use Rattle.std.specs.declared.vec.Vec.{Vec}
 use Rattle.std.specs.declared.alloc.Global.{Global}
@@ -54,11 +54,6 @@ all_flat : {X : Type 0} (P : X → Type 0) (f : ℕ → List X) (ns : List ℕ)
     → AllByRecursion (λ n. AllByRecursion P (f n)) ns → AllByRecursion P (flat_map f ns)
 all_flat P f [] h = tt
 all_flat P f (n ∷ ns) h = all_append P (f n) (flat_map f ns) h.0 (all_flat P f ns h.1)
-
-all_mapped : {X Y : Type 0} (P : Y → Type 0) (f : X → Y) (xs : List X)
-    → AllByRecursion (λ x. P (f x)) xs → AllByRecursion P (map f xs)
-all_mapped P f [] h = tt
-all_mapped P f (x ∷ xs) h = (h.0, all_mapped P f xs h.1)
 
 -- falling costs are above the last one
 falling_above : (ds : List ℕ) (c : ℕ) → AreFalling (ds ++ c ∷ []) → AllByRecursion (λ d. c < d) ds

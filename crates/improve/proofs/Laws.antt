@@ -1,3 +1,3 @@
 -- The laws of this crate that other crates cite, from one place.
-pub use Rattle.improve.proofs.Lowering.{at_err, cost_small}
+pub use Rattle.improve.proofs.Lowering.{cost_small}
 pub use Rattle.improve.proofs.Told.{told_each, told_fall}

@@ -97,14 +97,6 @@ told_more costs new c d more mid last old e f =
     f ∙ ap (λ x. x ++ d ∷ []) e ∙ append_assoc old (costs ++ c ∷ []) (d ∷ [])
     ∙ ap (λ x. old ++ (x ++ d ∷ [])) (sym more)
 
-pub at_ok : {T E P : Type 0} (r : Result T E) → false ≡ is_err r → OnOk r P → P
-at_ok (Ok x) e h = h
-at_ok (Err x) e h = absurd (cc)
-
-pub at_err : {T E P : Type 0} (r : Result T E) → true ≡ is_err r → OnErr r P → P
-at_err (Ok x) e h = absurd (cc)
-at_err (Err x) e h = h
-
 pub on_work_weaker : (r : Result Found ImproveFault) (P Q : Work → Type 0)
     → ((w : Work) → P w → Q w) → OnWork r P → OnWork r Q
 on_work_weaker (Ok (Optimum c bits log clauses)) P Q f h = tt

@@ -6,7 +6,8 @@ use Rattle.std.specs.Prelude.{IfOk}
 use Rattle.improve.specs.Improving.{IsCostOfSome, IsSolution, IsRightFound, work_count}
 use Rattle.improve.specs.Improving.{Improves}
 use Rattle.improve.proofs.SearchEnds.{progress_end}
-use Rattle.improve.proofs.Lowering.{honest_new, at_ok, at_err, on_work_weaker, lowered_end}
+use Rattle.cnf.proofs.Laws.{on_ok_at, on_err_at}
+use Rattle.improve.proofs.Lowering.{honest_new, on_work_weaker, lowered_end}
 use Rattle.improve.proofs.Lowering.{lowered_memory}
 use Rattle.improve.proofs.search.lower.Goals as goal
 
@@ -14,7 +15,7 @@ pub returns-then-is_err-clause-improves : goal.returns-then-is_err-clause-improv
 returns-then-is_err-clause-improves g c = λ before paid.
     let p = c.args.instance.now in
     let first = c.args.first in
-    let err = at_err c.tell.result c.if-is_err.ensures.value c.tell.ensures.err in
+    let err = on_err_at c.tell.result c.if-is_err.ensures.value c.tell.ensures.err in
     progress_end c.args.profile p _ _ before c.args.budget.now (sym paid.limit) []
     (ap (λ t. t.told) err ∙ sym (append-nil _)) first.cost tt
     (honest_new p [] (first.cost ∷ []) first.cost first.bits.items refl c.requires.solution
@@ -35,7 +36,7 @@ returns-then-first-eq0-clause-improves g c = λ before paid.
     let first = c.args.first in
     let left = c.args.budget.now in
     let zero : first.cost ≡ 0 = omega arith in
-    let ok = at_ok c.tell.result c.if-is_err.ensures.value c.tell.ensures.ok in
+    let ok = on_ok_at c.tell.result c.if-is_err.ensures.value c.tell.ensures.ok in
     let r = c.conclude_zero in
     lowered_end p [] (first.cost ∷ []) first.cost first.bits.items refl c.args.profile
     c.args.profile _ _ before left r.result (sym paid.limit)
@@ -51,7 +52,7 @@ pub returns-in_default-clause-improves : goal.returns-in_default-clause-improves
 returns-in_default-clause-improves g c = λ before paid.
     let p = c.args.instance.now in
     let first = c.args.first in
-    let ok = at_ok c.tell.result c.if-is_err.ensures.value c.tell.ensures.ok in
+    let ok = on_ok_at c.tell.result c.if-is_err.ensures.value c.tell.ensures.ok in
     lowered_memory p [] (first.cost ∷ []) first.cost first.bits.items refl c.args.profile _ _
     before c.args.budget.now (sym paid.limit)
     (ap (λ t. t.told) ok) (ap (λ t. t.failures) ok) tt c.requires.solution
@@ -63,7 +64,7 @@ returns-clause-follows g c =
 
 pub returns-clause-improves : goal.returns-clause-improves
 returns-clause-improves g c = λ before paid.
-    let ok = at_ok c.tell.result c.if-is_err.ensures.value c.tell.ensures.ok in
+    let ok = on_ok_at c.tell.result c.if-is_err.ensures.value c.tell.ensures.ok in
     let earlier = g.T.Progress.state c.args.progress.now in
     subst (λ q. Improves q c.args.instance.now c.tighten.result earlier
     (g.T.Progress.state c.tighten.new.progress) before c.tighten.new.budget)

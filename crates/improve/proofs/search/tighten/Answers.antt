@@ -6,7 +6,8 @@ use Rattle.cdcl_order.specs.Budgets.{left_of}
 use Rattle.lrat_log.specs.Steps.{learned_count}
 use Rattle.improve.specs.Improving.{AreFalling, IsHardLog, work_count}
 use Rattle.improve.proofs.CheaperBits.{cost_of_solution, falling_more}
-use Rattle.improve.proofs.Lowering.{cost_small, honest_new, count_new, at_ok, at_err, told_more}
+use Rattle.cnf.proofs.Laws.{on_ok_at, on_err_at}
+use Rattle.improve.proofs.Lowering.{cost_small, honest_new, count_new, told_more}
 use Rattle.improve.proofs.Lowering.{on_work_weaker, work_learned, lowered_end, lowered_memory}
 use Rattle.improve.proofs.Lowering.{lowered_progress}
 use Rattle.improve.proofs.search.tighten.Goals as goal
@@ -41,14 +42,14 @@ returns-in-Err-clause-improves g c = λ before paid earlier h.
     (i.failures ∙ ap (λ t. t.failures) h) i.falling i.solution i.honest
 
 pub search-requires-clause-over : goal.search-requires-clause-over
-search-requires-clause-over g c = at_ok c.add.result c.if-is_err.ensures.value c.add.ensures.over
+search-requires-clause-over g c = on_ok_at c.add.result c.if-is_err.ensures.value c.add.ensures.over
 
 pub search-requires-clause-bounded : goal.search-requires-clause-bounded
 search-requires-clause-bounded g c = (
   c.loop-best.best.cost,
   (
     c.loop-best.bounds.costs.items,
-    at_ok c.add.result c.if-is_err.ensures.value c.add.ensures.costs,
+    on_ok_at c.add.result c.if-is_err.ensures.value c.add.ensures.costs,
   ),
 )
 
@@ -64,10 +65,10 @@ returns-then-is_err-2-clause-improves g c = λ before paid earlier h.
     let best = c.loop-best.best in
     let cost = c.in-Ok-Cheaper.solution.cost in
     let next = rw c.in-Ok-Cheaper.field-0-is at c.in-Ok-Cheaper.ensures.next in
-    let err = at_err c.tell.result c.if-is_err-2.ensures.value c.tell.ensures.err in
+    let err = on_err_at c.tell.result c.if-is_err-2.ensures.value c.tell.ensures.err in
     let more : c.search.new.self.costs.items ≡ costs ++ best.cost ∷ [] =
     ap (λ (v : Vec ℕ Global). v.items) c.search.ensures.costs
-    ∙ at_ok c.add.result c.if-is_err.ensures.value c.add.ensures.costs in
+    ∙ on_ok_at c.add.result c.if-is_err.ensures.value c.add.ensures.costs in
     lowered_progress p costs c.search.new.self.costs.items best.cost best.bits.items more
     c.args.bounds.now.profile earlier _ before c.search.new.budget
     (c.search.ensures.limit ∙ i.limit ∙ sym paid.limit) cost c.in-Ok-Cheaper.solution.bits.items
@@ -78,7 +79,7 @@ returns-then-is_err-2-clause-improves g c = λ before paid earlier h.
 
 pub loop-best-smaller : goal.loop-best-smaller
 loop-best-smaller g c =
-    let added = at_ok c.add.result c.if-is_err.ensures.value c.add.ensures.costs in
+    let added = on_ok_at c.add.result c.if-is_err.ensures.value c.add.ensures.costs in
     let next = rw c.in-Ok-Cheaper.field-0-is at c.in-Ok-Cheaper.ensures.next in
     next.below c.loop-best.bounds.costs.items c.loop-best.best.cost
     (ap (λ (v : Vec ℕ Global). v.items) c.search.ensures.costs ∙ added)
@@ -90,10 +91,10 @@ loop-best-preserved g c =
     let costs = c.loop-best.bounds.costs.items in
     let best = c.loop-best.best in
     let next = rw c.in-Ok-Cheaper.field-0-is at c.in-Ok-Cheaper.ensures.next in
-    let ok = at_ok c.tell.result c.if-is_err-2.ensures.value c.tell.ensures.ok in
-    let added = at_ok c.add.result c.if-is_err.ensures.value c.add.ensures.costs in
-    let same = at_ok c.add.result c.if-is_err.ensures.value c.add.ensures.profile in
-    let unlearned = at_ok c.add.result c.if-is_err.ensures.value c.add.ensures.learned in
+    let ok = on_ok_at c.tell.result c.if-is_err-2.ensures.value c.tell.ensures.ok in
+    let added = on_ok_at c.add.result c.if-is_err.ensures.value c.add.ensures.costs in
+    let same = on_ok_at c.add.result c.if-is_err.ensures.value c.add.ensures.profile in
+    let unlearned = on_ok_at c.add.result c.if-is_err.ensures.value c.add.ensures.learned in
     let more : c.search.new.self.costs.items ≡ costs ++ best.cost ∷ [] =
     ap (λ (v : Vec ℕ Global). v.items) c.search.ensures.costs ∙ added in
     record {
@@ -131,13 +132,13 @@ returns-in-Ok-Refuted-clause-improves g c = λ before paid earlier h.
     lowered_end c.args.instance.now c.loop-best.bounds.costs.items c.search.new.self.costs.items
     c.loop-best.best.cost c.loop-best.best.bits.items
     (ap (λ (v : Vec ℕ Global). v.items) c.search.ensures.costs
-    ∙ at_ok c.add.result c.if-is_err.ensures.value c.add.ensures.costs)
+    ∙ on_ok_at c.add.result c.if-is_err.ensures.value c.add.ensures.costs)
     c.args.bounds.now.profile _ earlier _ before c.search.new.budget r.result
     (c.search.ensures.limit ∙ i.limit ∙ sym paid.limit)
     (i.told earlier h) (i.failures ∙ ap (λ t. t.failures) h) i.falling i.solution i.honest
     r.ensures.fault
-    (c.search.ensures.profile ∙ at_ok c.add.result c.if-is_err.ensures.value c.add.ensures.profile
-    ∙ i.profile)
+    (c.search.ensures.profile
+    ∙ on_ok_at c.add.result c.if-is_err.ensures.value c.add.ensures.profile ∙ i.profile)
     r.ensures.found (omega (arith, next.answers, i.answers, paid.answers))
     (on_work_weaker r.result (λ w. ⊥)
     (λ w. c.search.new.budget.learned ≡ before.learned + work_count w) (λ w x. absurd x)
@@ -147,7 +148,7 @@ returns-in-Ok-Refuted-clause-improves g c = λ before paid earlier h.
 
 pub conclude_spent-requires-clause-above : goal.conclude_spent-requires-clause-above
 conclude_spent-requires-clause-above g c =
-    let added = at_ok c.add.result c.if-is_err.ensures.value c.add.ensures.costs in
+    let added = on_ok_at c.add.result c.if-is_err.ensures.value c.add.ensures.costs in
     let next = rw c.in-Ok-Spent.field-0-is at c.in-Ok-Spent.ensures.next in
     next.above_zero c.loop-best.bounds.costs.items c.loop-best.best.cost
     (ap (λ (v : Vec ℕ Global). v.items) c.search.ensures.costs ∙ added)
@@ -162,20 +163,20 @@ returns-in-Ok-Spent-clause-improves g c = λ before paid earlier h.
     let next = rw c.in-Ok-Spent.field-0-is at c.in-Ok-Spent.ensures.next in
     let r = c.conclude_spent in
     let sink = c.search.new.self.solver.sink in
-    let unlearned = at_ok c.add.result c.if-is_err.ensures.value c.add.ensures.learned in
+    let unlearned = on_ok_at c.add.result c.if-is_err.ensures.value c.add.ensures.learned in
     let learned : c.search.new.budget.learned ≡ c.args.budget.now.learned + learned_count
     c.search.new.self.solver.sink =
     omega (arith, c.search.ensures.learned, unlearned, i.learned) in
     lowered_end c.args.instance.now c.loop-best.bounds.costs.items c.search.new.self.costs.items
     c.loop-best.best.cost c.loop-best.best.bits.items
     (ap (λ (v : Vec ℕ Global). v.items) c.search.ensures.costs
-    ∙ at_ok c.add.result c.if-is_err.ensures.value c.add.ensures.costs)
+    ∙ on_ok_at c.add.result c.if-is_err.ensures.value c.add.ensures.costs)
     c.args.bounds.now.profile _ earlier _ before c.search.new.budget r.result
     (c.search.ensures.limit ∙ i.limit ∙ sym paid.limit)
     (i.told earlier h) (i.failures ∙ ap (λ t. t.failures) h) i.falling i.solution i.honest
     r.ensures.fault
-    (c.search.ensures.profile ∙ at_ok c.add.result c.if-is_err.ensures.value c.add.ensures.profile
-    ∙ i.profile)
+    (c.search.ensures.profile
+    ∙ on_ok_at c.add.result c.if-is_err.ensures.value c.add.ensures.profile ∙ i.profile)
     r.ensures.found (omega (arith, next.answers, i.answers, paid.answers))
     (on_work_weaker r.result (λ w. (w.hard ≡ c.loop-best.hard)
     × (learned_count w.bound ≡ learned_count sink))
