@@ -20,20 +20,6 @@ use Rattle.report.specs.Answering.{bits_word, words_text}
 use Rattle.report.specs.Best.{IsFound, IsTrueText, best_text, said_of}
 use Rattle.report.proofs.ResultTexts.{optimum_text, satisfiable_text, text_says}
 
--- a text after another, whole or begun
-pub then_part : (a b c : Option (List ℕ)) (x y : List ℕ) → Appends a b x → AppendsPart b c y
-    → AppendsPart a c (x ++ y)
-then_part a b c x y p q = (
-  x ++ q.0,
-  (q.1.0, ap (λ z. x ++ z) q.1.1 ∙ sym (append_assoc x q.0 q.1.0)),
-  Appends-trans a b c x q.0 p q.2,
-)
-
-pub first_part : (a b : Option (List ℕ)) (x y : List ℕ) → AppendsPart a b x
-    → AppendsPart a b (x ++ y)
-first_part a b x y q =
-    (q.0, (q.1.0 ++ y, ap (λ z. z ++ y) q.1.1 ∙ append_assoc q.0 q.1.0 y), q.2)
-
 pub satisfiable_best : (c : ℕ) (bits : List Bool) → spaced (cost_tokens c)
     ++ words_text (codes "s SATISFIABLE\n" ++ bits_word bits) bits
     ≡ best_text (Satisfiable c bits)

@@ -2,7 +2,7 @@
 use Rattle.std.proofs.Common.{◌∙◌, ap, sym, subst, arith}
 use Rattle.text.specs.Writing.{AppendsPart, spaced}
 use Rattle.lrat_result.specs.Result.{cost_tokens}
-use Rattle.improve.proofs.Laws.{at_err}
+use Rattle.cnf.proofs.Laws.{on_err_at}
 use Rattle.report.proofs.CostLines.{broke}
 use Rattle.report.proofs.telling.ToldProgress.improved.Goals as goal
 
@@ -10,7 +10,7 @@ pub returns-then-is_err-2-clause-follows : goal.returns-then-is_err-2-clause-fol
 returns-then-is_err-2-clause-follows g c = λ first h.
     let f = c.fail-then-is_err-2.ensures in
     let part =
-    at_err c.write_cost.result c.if-is_err-2.ensures.value c.write_cost.ensures.fault in (
+    on_err_at c.write_cost.result c.if-is_err-2.ensures.value c.write_cost.ensures.fault in (
       ap (λ z. z.ghost_name) f.writer ∙ h.0,
       broke (g.W.Write.contents first.writer.now) _ _ c.args.self.now.costs.items _ c.args.cost _ _
           _ (h.1.all_told (omega arith))
