@@ -1,12 +1,12 @@
 #!/usr/bin/env bash
-# No law and no definition stands twice, and each lemma is named: by another lemma, an answer or a line of code.
-# `said_twice` lists what is; `said_twice --types` lists also laws that may be one.
+# No law and no definition stands twice, no two laws have the same type up to the names of variables, and each lemma is
+# named: by another lemma, an answer or a line of code.
 source "$(dirname "$0")/../lib"
 
 # stands_once FOLDER: the list of this folder has no row
 stands_once() {
     local rows
-    rows=$(python3 tests/tree/said_twice "$1" | grep -E '^(twice|alone) [^0-9]') || return 0
+    rows=$(python3 tests/tree/said_twice --types "$1" | grep -E '^(twice|alone|alike) [^0-9]') || return 0
     printf '%s\n' "$rows"
     return 1
 }
@@ -31,4 +31,10 @@ mkdir -p "$work/crates/planted/src"
 lines crates/planted/src/lib.rt '#[tactic(auto, using(crate::proofs::Second::parts, crate::proofs::First::used))]'
 ok 'a lemma that code names counts as one that nothing names' [ "$(python3 tests/tree/said_twice "$work" | tail -n 1)" = \
     'twice 1, alone 0' ]
+lines crates/planted/proofs/First.antt 'pub adds : (m n : ℕ) → m + n ≡ n + m' 'adds m n = omega arith'
+lines crates/planted/proofs/Second.antt 'swaps : (b a : ℕ) → b + a ≡ a + b' 'swaps b a = sym (adds a b)'
+ok 'a law with the same type and another body is passed over' [ \
+    "$(python3 tests/tree/said_twice --types "$work" | grep alike | sed -n 1p)" = \
+    'alike planted/proofs/First.antt:1 adds; planted/proofs/Second.antt:1 swaps' ]
+ok 'a row of `alike` is no fault' [ -n "$(stands_once "$work" | grep alike)" ]
 totals
