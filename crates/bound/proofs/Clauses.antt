@@ -2,13 +2,12 @@
 use Rattle.std.proofs.Common.{◌≡◌, Bool, true, false, not, ◌&&◌, ◌||◌, List, [], ◌∷◌, reverse}
 use Rattle.std.proofs.Common.{if◌then◌else◌, All, ◌↔◌, refl, sym, ◌∙◌, ap, subst}
 use Rattle.std.specs.List.{list_all, list_any}
-use Rattle.std.proofs.lemmas.Bool.{or_from, or_parts}
 use Rattle.std.proofs.lemmas.Grind.{reverse_onto}
 use Rattle.std.proofs.lemmas.List.Folds.{list_all-append}
 use Rattle.std.proofs.lemmas.List.Sums.{AllPass-from_list_all, list_all-from_AllPass}
 use Rattle.cnf.specs.Literal.{Assignment, Literal, negation, literal_value, literal_eq}
-use Rattle.cnf.specs.Clause.{Satisfies, clause_value, contains_literal, without_literal, distinct}
-use Rattle.cnf.specs.Clause.{has_opposites, has_repeat}
+use Rattle.cnf.specs.Clause.{Satisfies, clause_value, without_literal, distinct}
+use Rattle.cnf.specs.Clause.{has_opposites}
 use Rattle.cnf.specs.Problem.{Problem, IsFeasible}
 use Rattle.cnf.proofs.Laws.{literal_eq-true, opposites_true}
 use Rattle.bound.specs.Bound.{kept, hard_cnf}

@@ -1,14 +1,13 @@
 -- Soft clauses with their variables, as they are added one after another.
 use Rattle.std.proofs.Common.{◌≡◌, ℕ, suc, ◌+◌, ◌*◌, ◌<◌, ◌≤◌, if◌then◌else◌, Bool, true, false}
-use Rattle.std.proofs.Common.{not, ◌&&◌, ◌||◌, List, [], ◌∷◌, ◌++◌, length, map, filter, take}
+use Rattle.std.proofs.Common.{not, List, [], ◌∷◌, ◌++◌, length, map, filter, take}
 use Rattle.std.proofs.Common.{get_or, All, refl, sym, ◌∙◌, ap, subst, arith, append_assoc}
 use Rattle.std.proofs.Common.{append-nil}
-use Rattle.std.proofs.lemmas.Bool.{ne_eqb, or_from, or_parts, false≢true}
+use Rattle.std.proofs.lemmas.Bool.{ne_eqb, false≢true}
 use Rattle.std.proofs.lemmas.List.{take_more, length-append}
-use Rattle.std.proofs.lemmas.List.Folds.{list_any-append}
 use Rattle.std.proofs.lemmas.List.Elements.{All-from_recursion, recursion_from_All}
-use Rattle.cnf.specs.Literal.{Literal, literal_eq, same_bool, positive}
-use Rattle.cnf.specs.Clause.{contains_literal, has_repeat, greatest_variable}
+use Rattle.cnf.specs.Literal.{Literal, positive}
+use Rattle.cnf.specs.Clause.{has_repeat}
 use Rattle.cnf.specs.Problem.{SoftClause}
 use Rattle.cnf.specs.Instance.{IsClauseWithin}
 use Rattle.adder.specs.declared.profiles.Relaxing.{Relaxing}

@@ -2,15 +2,13 @@
 -- need.
 use Rattle.std.proofs.Common.{◌≡◌, ℕ, ◌+◌, ◌-◌, ◌<◌, ◌≤◌, true, List, [], ◌∷◌, ◌++◌, map, Some, ◌⊎◌}
 use Rattle.std.proofs.Common.{inl, inr, sym, ◌∙◌, ap, arith}
-use Rattle.std.specs.Prelude.{◌==◌}
 use Rattle.std.specs.List.{AllByRecursion}
-use Rattle.std.proofs.lemmas.Bool.{cases_Bool, cases_eq, or_left, or_right, or_cases}
-use Rattle.std.proofs.lemmas.Option.{none-some, same_Some}
+use Rattle.std.proofs.lemmas.Bool.{cases_eq, or_left, or_right, or_cases}
 use Rattle.cnf.specs.Literal.{Literal, negation, literal_eq}
 use Rattle.cnf.specs.Clause.{contains_literal}
 use Rattle.cnf.specs.Refute.{Clauses, IsFalseUnder}
 use Rattle.clauses.specs.Slots.{Slots, clause_at}
-use Rattle.propagate.specs.Trail.{Assigned, literals_of, depth_of, level_after, level_from}
+use Rattle.propagate.specs.Trail.{Assigned, literals_of, depth_of}
 use Rattle.propagate.specs.Trail.{level_in, kept_to, HasReasons, level_of}
 use Rattle.propagate.proofs.Laws.{negation_twice, level_from-le}
 use Rattle.cnf.proofs.Laws.{literal_eq-refl, all_weaker, contains-append, contains_front}

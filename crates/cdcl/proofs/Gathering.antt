@@ -4,12 +4,12 @@ use Rattle.std.proofs.Common.{get_or, set, take, map, Option, Some, None, inl, i
 use Rattle.std.proofs.Common.{ap, subst, arith}
 use Rattle.std.specs.Prelude.{unwrap_or, All, IfSome, Contains}
 use Rattle.std.proofs.lemmas.Bool.{cases_Bool, cases_eq, cases_lt, or_cases, or_left, or_right}
-use Rattle.std.proofs.lemmas.Bool.{or_from, or_parts, false≢true, both_ways}
+use Rattle.std.proofs.lemmas.Bool.{false≢true, both_ways}
 use Rattle.std.proofs.lemmas.List.{get_or_past, get_or_default, get_or-set_same, get_or-set_other}
 use Rattle.std.proofs.lemmas.List.{take_more, length-set, map_push, map-append}
 use Rattle.std.proofs.lemmas.Option.{none-some, same_Some}
 use Rattle.cnf.specs.Literal.{Literal, negation, literal_eq}
-use Rattle.cnf.specs.Clause.{contains_literal, has_repeat}
+use Rattle.cnf.specs.Clause.{contains_literal}
 use Rattle.cnf.proofs.Laws.{literal_eq-true, same_variable, contains_front, repeat_push}
 use Rattle.clauses.specs.Slots.{Slots, clause_at}
 use Rattle.propagate.specs.Trail.{Assigned, literals_of, level_in, value_in, HasReasons}

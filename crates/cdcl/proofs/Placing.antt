@@ -1,8 +1,8 @@
 -- A clause comes to a store and its engine.
 use Rattle.std.proofs.Common.{◌≡◌, ℕ, ◌<◌, ◌≤◌, ◌^◌, Bool, false, not, List, [], ◌∷◌, ◌++◌, length}
-use Rattle.std.proofs.Common.{get_or, Some, None, inl, inr, arith, sym, subst, ◌∙◌, ap}
+use Rattle.std.proofs.Common.{get_or, Some, None, arith, sym, subst, ◌∙◌, ap}
 use Rattle.std.specs.Prelude.{IfSome, All}
-use Rattle.std.proofs.lemmas.Bool.{cases_Bool, both_ways}
+use Rattle.std.proofs.lemmas.Bool.{both_ways}
 use Rattle.std.proofs.lemmas.List.Elements.{All-cons, All-nil, All-head, All-tail}
 use Rattle.std.proofs.lemmas.List.{get_or-map}
 use Rattle.std.proofs.lemmas.List.Sums.{count_by-le-length}
@@ -10,7 +10,7 @@ use Rattle.cnf.specs.Literal.{Literal}
 use Rattle.cnf.specs.Clause.{greatest_variable}
 use Rattle.cnf.specs.Lrat.{IsId}
 use Rattle.clauses.specs.Slots.{Slots, clause_at, IsLive}
-use Rattle.propagate.specs.Watches.{EngineState, is_attached}
+use Rattle.propagate.specs.Watches.{EngineState}
 use Rattle.propagate.specs.Fits.{Fits, IsWithin}
 use Rattle.lrat_log.specs.declared.lines.Kind.{Kind}
 use Rattle.lrat_log.specs.declared.lines.Hint.{Hint}
@@ -22,7 +22,6 @@ use Rattle.lrat_log.specs.Steps.{added_count}
 use Rattle.cdcl.specs.declared.search.Search.{Search}
 use Rattle.cdcl.specs.Invariant.{Tables, IsRunning}
 use Rattle.cdcl.specs.Running.{HasRoom, Places}
-use Rattle.cdcl.proofs.Places.{live_within}
 use Rattle.clauses.proofs.Laws.{clause_new}
 
 pub new_at : (slots now : Slots) (c : List Literal) (r : ℕ) → now ≡ slots ++ Some c ∷ []

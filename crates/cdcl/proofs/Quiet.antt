@@ -1,8 +1,8 @@
 -- The engine between the moves of a search: at the ends of the levels below the current one nothing
 -- was false or unit.
-use Rattle.std.proofs.Common.{◌≡◌, ℕ, ◌+◌, ◌<◌, ◌≤◌, true, false, cond, List, [], ◌∷◌, ◌++◌, length}
-use Rattle.std.proofs.Common.{map, Option, Some, None, inl, inr, refl, sym, ◌∙◌, ap, subst, arith}
-use Rattle.std.specs.Prelude.{IfSome, is_none}
+use Rattle.std.proofs.Common.{◌≡◌, ℕ, ◌+◌, ◌<◌, ◌≤◌, true, false, List, [], ◌∷◌, ◌++◌, length}
+use Rattle.std.proofs.Common.{map, Some, None, inl, inr, sym, ◌∙◌, ap, subst, arith}
+use Rattle.std.specs.Prelude.{IfSome}
 use Rattle.std.specs.List.{AllByRecursion}
 use Rattle.std.specs.List.Sorted.{IsStrictlyIncreasing}
 use Rattle.std.proofs.lemmas.List.Elements.{recursion_from_All}
@@ -10,14 +10,14 @@ use Rattle.std.proofs.lemmas.Bool.{cases_lt, cases_eq}
 use Rattle.cnf.specs.Literal.{Literal}
 use Rattle.cnf.specs.Refute.{IsUnit, IsFalseUnder}
 use Rattle.clauses.specs.Slots.{Slots, Renaming, renamed, IsRenaming}
-use Rattle.propagate.specs.Trail.{Assigned, literals_of, depth_of, is_decision, kept_to}
+use Rattle.propagate.specs.Trail.{Assigned, literals_of, depth_of, kept_to}
 use Rattle.propagate.specs.Watches.{EngineState, is_attached, SameAttached, SetsAttached}
 use Rattle.propagate.specs.Fits.{Fits, GrowsByUnits, MovesAttached, renamed_trail}
 use Rattle.propagate.proofs.Laws.{kept_push, kept_all, depth_named}
 use Rattle.propagate.proofs.Laws.{depth_push}
 use Rattle.propagate.proofs.Laws.{kept_kept, kept_low}
 use Rattle.propagate.proofs.Laws.{kept_named, trail_listed}
-use Rattle.propagate.specs.Renames.{named_trail, named_reason}
+use Rattle.propagate.specs.Renames.{named_trail}
 use Rattle.propagate.proofs.Laws.{reasons_listed}
 use Rattle.cdcl.specs.Invariant.{Searches, zero_of}
 use Rattle.analyze.specs.Learning.{IsQuiet}

@@ -7,10 +7,9 @@ use Rattle.std.specs.List.{list_any}
 use Rattle.std.proofs.lemmas.Bool.{cases_Bool, cases_eq, eq-eqb, ne_eqb, lt-ltb}
 use Rattle.std.proofs.lemmas.List.{get_or-set_other, get_or-set_same, length-set}
 use Rattle.std.proofs.lemmas.List.Sums.{count_by-le-length, fold_more}
-use Rattle.std.proofs.lemmas.Option.{same_Some}
 use Rattle.cnf.specs.Literal.{Literal}
-use Rattle.propagate.specs.Trail.{Assigned, is_decision, depth_of, level_in, level_from}
-use Rattle.propagate.specs.Trail.{level_after, level_of}
+use Rattle.propagate.specs.Trail.{Assigned, is_decision, depth_of, level_in}
+use Rattle.propagate.specs.Trail.{level_of}
 use Rattle.propagate.proofs.Laws.{level_from-le}
 use Rattle.cdcl_order.specs.Levels.{with_level, levels_of}
 

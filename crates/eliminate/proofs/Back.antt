@@ -1,11 +1,11 @@
 -- Eliminated variables get values that satisfy the clauses that went with them, the last eliminated
 -- first.
-use Rattle.std.proofs.Common.{◌≡◌, ℕ, zero, suc, Bool, true, false, not, ◌||◌, ◌&&◌, ◌+◌, ◌-◌, ◌<◌}
+use Rattle.std.proofs.Common.{◌≡◌, ℕ, zero, suc, Bool, true, false, not, ◌&&◌, ◌+◌, ◌-◌, ◌<◌}
 use Rattle.std.proofs.Common.{◌≤◌, List, [], ◌∷◌, ◌++◌, length, ◌⊎◌, inl, inr, refl, sym, ◌∙◌, ap}
 use Rattle.std.proofs.Common.{subst, arith, get_or, set}
 use Rattle.std.specs.Prelude.{if◌then◌else◌, ◌==◌, All, Contains, slice_get, slice_set, unwrap_or}
 use Rattle.std.specs.List.{AllByRecursion, list_any}
-use Rattle.std.proofs.lemmas.Bool.{not-true, not-false, or_cases, or_parts, or_right, and_parts}
+use Rattle.std.proofs.lemmas.Bool.{not-true, not-false, or_cases, or_parts, and_parts}
 use Rattle.std.proofs.lemmas.Bool.{and_cases, both_ways, cases_eq, eq-eqb, ne_eqb, false≢true}
 use Rattle.std.proofs.lemmas.List.{length-set, get_or-set_same, get_or-set_other}
 use Rattle.std.proofs.lemmas.List.Elements.{All-nil, All-cons, All-contains, All-head, All-tail}
@@ -15,7 +15,7 @@ pub use Rattle.cnf.specs.Literal.{negative}
 use Rattle.cnf.specs.Clause.{Satisfies, clause_value, contains_literal, without_literal}
 use Rattle.cnf.specs.Clause.{has_opposites, is_subset}
 use Rattle.cnf.specs.Bits.{assignment_of}
-use Rattle.cnf.proofs.Laws.{negation-value, all_from, contained_true, opposites_true}
+use Rattle.cnf.proofs.Laws.{all_from, contained_true, opposites_true}
 use Rattle.cnf.proofs.Laws.{made_true, made, clause_kept, rest_kept}
 use Rattle.eliminate.specs.Elimination.{Removed, positive, becomes_true, is_eliminated, extended}
 use Rattle.eliminate.specs.Elimination.{SatisfiesAll}

@@ -2,7 +2,6 @@
 use Rattle.std.proofs.Common.{◌≡◌, ℕ, zero, suc, ◌+◌, ◌*◌, ◌<◌, Bool, true, false, List, [], ◌∷◌}
 use Rattle.std.proofs.Common.{◌++◌, length, take, get_or, ◌⊎◌, inl, inr, refl, sym, ◌∙◌, ap, subst}
 use Rattle.std.proofs.Common.{arith}
-use Rattle.std.specs.List.{AllByRecursion}
 use Rattle.std.proofs.lemmas.Bool.{or_cases, or_parts, or_left, or_right, both_ways, false≢true}
 use Rattle.std.proofs.lemmas.Bool.{true≢false}
 use Rattle.std.proofs.lemmas.List.{take_more}
@@ -19,7 +18,6 @@ use Rattle.eliminate.specs.declared.units.Units.{Units}
 use Rattle.eliminate.specs.declared.units.ClauseState.{ClauseState}
 use Rattle.eliminate.specs.declared.units.ClauseState.TheVariants.{Settled, Unit, Falsified}
 use Rattle.eliminate.specs.Units.{IsSettled, AreUnits}
-use Rattle.cnf.proofs.Laws.{literal_eq-refl}
 use Rattle.eliminate.proofs.States.{places_of}
 
 contains-take : (c : List Literal) (i : ℕ) (l : Literal) → contains_literal l (take i c) ≡ true

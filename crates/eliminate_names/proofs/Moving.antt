@@ -10,7 +10,7 @@ use Rattle.clauses.specs.Slots.{Slots, clause_at}
 use Rattle.lrat_log.specs.declared.lines.Name.{Name}
 use Rattle.lrat_log.specs.Log.{LogLine, Given, id_of, is_learned}
 use Rattle.lrat_log.specs.Steps.{IsBaseOf, log_live, StaysLogOver, AddsNoEmptyClause, IsOwnGroup}
-use Rattle.lrat_log.specs.Steps.{learned_count, adds_empty_clause}
+use Rattle.lrat_log.specs.Steps.{learned_count}
 use Rattle.lrat_log.proofs.Laws.{one_apart, open_push, stops_push}
 use Rattle.lrat_log.specs.Steps.{added_count}
 use Rattle.eliminate_names.specs.Work.{name_at, added_line, delete_line, IsWork, IsRupLine}

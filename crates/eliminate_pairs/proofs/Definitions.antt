@@ -1,7 +1,7 @@
 -- A fresh variable z, defined as 'a or b', and the clauses in which z takes the place of a and b.
-use Rattle.std.proofs.Common.{◌≡◌, ℕ, zero, suc, true, false, not, ◌<◌, ◌^◌, max, List, [], ◌∷◌}
+use Rattle.std.proofs.Common.{◌≡◌, ℕ, true, false, not, ◌<◌, ◌^◌, max, List, [], ◌∷◌}
 use Rattle.std.proofs.Common.{map, Some, inl, refl, sym, ap, subst, arith}
-use Rattle.std.specs.Prelude.{◌==◌, Contains}
+use Rattle.std.specs.Prelude.{◌==◌}
 use Rattle.std.proofs.lemmas.Bool.{or_left, or_right, or_from, and_left, and_right, both_ways}
 use Rattle.std.proofs.lemmas.Bool.{ne_eqb}
 use Rattle.cnf.specs.Literal.{Literal, negation, literal_eq, same_bool}

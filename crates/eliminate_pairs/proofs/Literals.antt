@@ -1,11 +1,11 @@
 -- Literals in clauses: negations, tests, and which of them a clause covers.
 use Rattle.std.proofs.Common.{◌≡◌, Bool, true, false, not, ◌≤◌, max, List, [], ◌∷◌, map, filter}
 use Rattle.std.proofs.Common.{◌⊎◌, inl, inr, refl, sym, ◌∙◌, ap, subst, arith}
-use Rattle.std.specs.Prelude.{if◌then◌else◌, ◌==◌}
+use Rattle.std.specs.Prelude.{if◌then◌else◌}
 use Rattle.std.specs.List.{AllByRecursion, list_any}
-use Rattle.std.proofs.lemmas.Bool.{or_cases, or_parts, or_left, or_right, or_from, and_parts}
+use Rattle.std.proofs.lemmas.Bool.{or_cases, or_parts, or_left, or_right, or_from}
 use Rattle.std.proofs.lemmas.Bool.{both_ways, false_from_ne_true, false≢true}
-use Rattle.cnf.specs.Literal.{Literal, Assignment, negation, literal_eq, literal_value, same_bool}
+use Rattle.cnf.specs.Literal.{Literal, Assignment, negation, literal_eq, literal_value}
 use Rattle.cnf.specs.Clause.{clause_value, contains_literal, without_literal, has_repeat}
 use Rattle.cnf.specs.Clause.{has_opposites, greatest_variable}
 use Rattle.cnf.specs.Refute.{IsUnit}

@@ -2,7 +2,6 @@
 use Rattle.std.proofs.Common.{◌≡◌, ℕ, true, false, not, List, [], ◌∷◌, ◌++◌, map, filter, Some, ◌⊎◌}
 use Rattle.std.proofs.Common.{inl, inr, refl, sym, ◌∙◌, ap, subst}
 use Rattle.std.proofs.lemmas.Bool.{or_cases, or_left, or_right, both_ways, false_from_ne_true}
-use Rattle.std.proofs.lemmas.Bool.{false≢true}
 use Rattle.cnf.specs.Literal.{Literal, negation, literal_eq}
 use Rattle.cnf.specs.Clause.{contains_literal, without_literal, has_opposites}
 use Rattle.cnf.specs.Refute.{IsFalseUnder, Clauses, Refutes}

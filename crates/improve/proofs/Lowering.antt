@@ -3,7 +3,7 @@ use Rattle.std.proofs.Common.{◌≡◌, ℕ, ◌+◌, ◌<◌, ◌≤◌, ◌^�
 use Rattle.std.proofs.Common.{Result, Ok, Err, Some, length, append_assoc, length-append, sym, ◌∙◌}
 use Rattle.std.proofs.Common.{ap}
 use Rattle.std.proofs.Common.{subst, arith}
-use Rattle.std.specs.Prelude.{All, OnOk, OnErr, IfOk, IfErr, is_err, if◌then◌else◌, sum_by}
+use Rattle.std.specs.Prelude.{All, IfOk, IfErr, if◌then◌else◌, sum_by}
 use Rattle.std.proofs.lemmas.List.Elements.{All-push}
 use Rattle.std.proofs.lemmas.List.Sums.{sum_by-le-sum_by}
 use Rattle.cnf.specs.Clause.{clause_value}

@@ -1,6 +1,6 @@
 -- What a line's check answers, against a correct step.
 use Rattle.std.proofs.Common.{◌≡◌, ℕ, zero, suc, ◌<◌, ◌^◌, Bool, true, false, ◌||◌, List, [], ◌∷◌}
-use Rattle.std.proofs.Common.{◌++◌, map, length, Option, Some, None, ◌⊎◌, inl, inr, refl, sym, ◌∙◌}
+use Rattle.std.proofs.Common.{◌++◌, map, Option, Some, None, ◌⊎◌, inl, inr, refl, sym, ◌∙◌}
 use Rattle.std.proofs.Common.{ap, subst, arith}
 use Rattle.std.proofs.Math.Bool.{cond}
 use Rattle.std.proofs.Math.Path.{fun_ext}
@@ -8,7 +8,6 @@ use Rattle.std.specs.Prelude.{◌↔◌, ◌==◌, nat_eq, nat_le, All, slice_ge
 use Rattle.std.specs.List.{AllByRecursion, IsDistinct, list_any}
 use Rattle.std.proofs.lemmas.Bool.{or_parts, or_from, cases_Bool, eqb-false, ne_eqb, leb-false}
 use Rattle.std.proofs.lemmas.Bool.{lt-leb, cond-true, cond-false}
-use Rattle.std.proofs.lemmas.Option.{slice_get_past}
 use Rattle.std.proofs.lemmas.List.Elements.{All-head, All-tail}
 use Rattle.std.proofs.lemmas.Map.Keys.{IsDistinct-head, IsDistinct-tail, IsDistinct-cons}
 use Rattle.cnf.specs.Formula.{numbered}

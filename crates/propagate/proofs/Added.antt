@@ -1,10 +1,8 @@
 -- An engine and a store to which a clause is added.
-use Rattle.std.proofs.Common.{◌≡◌, ℕ, ◌<◌, ◌≤◌, false, List, [], ◌∷◌, ◌++◌, length, Some, None, inl}
-use Rattle.std.proofs.Common.{inr, refl, sym, ◌∙◌, ap, arith}
+use Rattle.std.proofs.Common.{◌≡◌, ℕ, ◌≤◌, false, List, [], ◌∷◌, ◌++◌, length, Some, None, inl}
+use Rattle.std.proofs.Common.{inr, sym, ◌∙◌, ap, arith}
 use Rattle.std.proofs.lemmas.Bool.{cases_lt, cases_Bool}
-use Rattle.std.proofs.lemmas.List.{length-append, get_or_append_left}
-use Rattle.std.proofs.lemmas.Option.{slice_get_past, slice_get_read, slice_get-get_or}
-use Rattle.std.proofs.Math.Seq.{get_or-append_seam}
+use Rattle.std.proofs.lemmas.Option.{slice_get_past}
 use Rattle.cnf.specs.Literal.{Literal}
 use Rattle.clauses.specs.Slots.{Slots, clause_at, in_slot}
 use Rattle.clauses.proofs.Laws.{clause_new, clause_old}

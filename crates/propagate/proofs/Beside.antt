@@ -3,10 +3,10 @@ use Rattle.std.proofs.Common.{◌≡◌, ◌≢◌, ℕ, true, false, List, [], 
 use Rattle.std.proofs.Common.{◌⊎◌, inl, inr, sym, ◌∙◌, subst}
 use Rattle.std.specs.Prelude.{All, MatchOption}
 use Rattle.std.specs.List.{AllByRecursion}
-use Rattle.std.proofs.lemmas.Bool.{or_cases, or_left, false≢true}
+use Rattle.std.proofs.lemmas.Bool.{or_cases, false≢true}
 use Rattle.cnf.specs.Literal.{Literal, literal_eq, negation}
 use Rattle.cnf.specs.Clause.{contains_literal}
-use Rattle.cnf.proofs.Laws.{literal_eq-true, all_from, literal_eq-refl, contains-append}
+use Rattle.cnf.proofs.Laws.{literal_eq-true, all_from, contains-append}
 use Rattle.cnf.proofs.Laws.{contains_front, member_pushed}
 use Rattle.clauses.specs.Slots.{Slots, clause_at}
 use Rattle.propagate_watches.specs.declared.table.Rest.{Rest}

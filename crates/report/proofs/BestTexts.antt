@@ -1,15 +1,13 @@
 -- The text of the best solution: how it is spelled, and that it is so.
-use Rattle.std.proofs.Common.{◌≡◌, ℕ, ◌<◌, ◌^◌, Bool, List, [], ◌∷◌, ◌++◌, Option, refl, sym, ◌∙◌}
-use Rattle.std.proofs.Common.{ap, append_assoc, append-nil}
-use Rattle.std.specs.Io.KnownBytes.{Appends}
-use Rattle.std.proofs.KnownBytes.{Appends-trans}
+use Rattle.std.proofs.Common.{◌≡◌, ℕ, ◌<◌, ◌^◌, Bool, List, [], ◌∷◌, ◌++◌, refl, sym, ◌∙◌}
+use Rattle.std.proofs.Common.{ap, append-nil}
 use Rattle.std.proofs.lemmas.List.Elements.{All-from_recursion}
 use lib.Chars.{codes}
 use Rattle.cnf.specs.Bits.{assignment_of}
 use Rattle.cnf.specs.Problem.{Problem}
 use Rattle.cnf.specs.Instance.{IsInstance}
 use Rattle.cnf.proofs.Laws.{extends_own}
-use Rattle.text.specs.Writing.{AppendsPart, spaced}
+use Rattle.text.specs.Writing.{spaced}
 use Rattle.lrat_result.specs.Result.{OptimumFound, Unsatisfiable, Satisfiable, Unknown, FallsTo}
 use Rattle.lrat_result.specs.Result.{cost_tokens}
 use Rattle.improve.specs.declared.found.Found.{Found}
