@@ -159,6 +159,7 @@ impl Search {
         ensures stays { result ≡ false → self.new.engine ≡ self.old.engine }
         ensures engine { EngineMoves self.old self.new }
     {
+        // There are at most as many literals as variables.
         let _ = self.engine.assigned();
         match self.policy.next(&self.engine) {
             Some(lit) => {
@@ -189,26 +190,6 @@ impl Search {
     }
 }
 
-/// Where on the trail the first literal above this level stands: levels rise along it, so a few of
-/// them tell.
-fn first_above(engine: &Engine, level: u32) -> usize
-    requires { All (λ l. l.variable ≤ engine.now.variables) (literals_of engine.now.trail) }
-    ensures { result ≤ length engine.now.trail }
-{
-    let trail = engine.trail();
-    let mut first = 0;
-    let mut end = trail.len();
-    while first < end {
-        let middle = first + (end - first) / 2;
-        if engine.level(trail[middle].variable()).unwrap_or(0) <= level {
-            first = middle + 1;
-        } else {
-            end = middle;
-        }
-    }
-    end
-}
-
 /// The variables above this level may be decided again.
 fn put_back(policy: &mut Policy, engine: &Engine, level: u32)
     requires room { policy.old.variables ≡ engine.now.variables }
@@ -216,7 +197,7 @@ fn put_back(policy: &mut Policy, engine: &Engine, level: u32)
     ensures { policy.new ≡ policy.old }
 {
     let trail = engine.trail();
-    let first = first_above(engine, level);
+    let first = engine.first_above(level);
     let mut place = trail.len();
     while place > first {
         place -= 1;

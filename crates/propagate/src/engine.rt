@@ -1,6 +1,6 @@
 // The trail and the clauses that are attached to it.
 ghost use Rattle.std.specs.Prelude.{◌≡◌, ℕ, ◌<◌, ◌≤◌, true, false, [], ◌∷◌, ◌++◌, Some, None};
-ghost use Rattle.std.specs.Prelude.{length, All, OnOk, OnErr, IfOk};
+ghost use Rattle.std.specs.Prelude.{length, take, All, OnOk, OnErr, IfOk};
 ghost use Rattle.std.specs.Prelude.{IfSome, IfNone, IsErr, ◌↔◌};
 ghost use Rattle.clauses.specs.Slots.{Slots, IsLive, clause_at};
 ghost use Rattle.propagate_watches.specs.Table.{attachment_in};
@@ -248,6 +248,15 @@ impl Engine {
         ensures { result.now ≡ literals_of self.now.trail }
     {
         self.trail.literals()
+    }
+
+    /// How many literals the levels up to `level` have: the first ones of the trail. In logarithmic
+    /// time.
+    pub fn first_above(&self, level: u32) -> usize
+        ensures kept { kept_to level self.now.trail ≡ take result self.now.trail }
+        ensures within { result ≤ length self.now.trail }
+    {
+        self.trail.first_above(level)
     }
 
     /// How many literals are true: at most one for each variable.

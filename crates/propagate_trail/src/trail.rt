@@ -236,7 +236,7 @@ impl Trail {
 
     /// How many literals the levels up to `level` have: levels rise along the trail, so a few of
     /// them tell.
-    fn first_above(&self, level: u32) -> usize
+    pub fn first_above(&self, level: u32) -> usize
         ensures kept { kept_to level self.now.assigned ≡ take result self.now.assigned }
         ensures within { result ≤ length self.now.assigned }
     {
