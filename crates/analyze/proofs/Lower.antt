@@ -9,7 +9,7 @@ use Rattle.cnf.specs.Clause.{contains_literal}
 use Rattle.cnf.specs.Refute.{Clauses, IsUnit}
 use Rattle.clauses.specs.Slots.{Slots, clause_at}
 use Rattle.propagate.specs.Trail.{Assigned, depth_of, reason_in, HasReasons}
-use Rattle.analyze.specs.Learning.{IsMarked}
+use Rattle.analyze.specs.Analyzer.{IsMarked}
 use Rattle.analyze.specs.declared.marks.Mark.{Mark}
 use Rattle.analyze.specs.declared.marks.Mark.TheVariants.{Clear, Kept, Resolved}
 use Rattle.analyze.specs.Marks.{mark_at, level_at_variable, kept_of, resolved_of, IsAbove}

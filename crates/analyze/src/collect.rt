@@ -1,10 +1,10 @@
 // What is learned, read off the marks.
 ghost use Rattle.std.specs.Prelude.{◌≡◌, ◌≤◌, ◌<◌, All, [], ◌∷◌, ◌++◌, OnOk, length, vec_capacity};
-ghost use Rattle.analyze.specs.Learning.{greatest_level, chosen_reasons};
+ghost use Rattle.analyze.specs.Analyzer.{greatest_level, chosen_reasons};
 ghost use Rattle.analyze.specs.Met.{GoesAlong};
 ghost use Rattle.analyze.specs.Marks.{learned_from, resolved_of};
 
-use crate::learning::SHORT;
+use crate::analyzer::SHORT;
 use crate::marks::{Mark, literal_at};
 use clauses::store::CRef;
 use cnf::types::Lit;

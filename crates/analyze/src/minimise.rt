@@ -1,20 +1,21 @@
 // Recursive minimisation: a literal is redundant where its reason's literals are of level 0, stand
 // in the clause, were resolved, or are redundant in their turn.
 //
-// It has two halves. `search` only looks. From a literal of the clause it goes back over the
-// reasons along one path at a time. A variable that has no reason, or stands on the trail before
-// all literals of its level in the clause, is not redundant, and neither is then what led to it.
-// What the path leaves is known from then on, so that no reason is read twice, with no recursion
-// and no search of the trail. Nothing rests on what it finds: `drop_redundant` resolves it by its
-// reasons, as any literal of a conflict is, so that the hints are just the reasons that were used.
-// It takes what was found last first, as a variable is found redundant after those of its reason.
+// It has two halves. `find_redundant` only looks. From a literal of the clause it goes back over
+// the reasons along one path at a time. A variable that has no reason, or stands on the trail
+// before all literals of its level in the clause, is not redundant, and neither is then what led to
+// it. What the path leaves is known from then on, so that no reason is read twice, with no
+// recursion and no search of the trail. Nothing rests on what it finds: `drop_redundant` resolves
+// it by its reasons, as any literal of a conflict is, so that the hints are just the reasons that
+// were used. It takes what was found last first, as a variable is found redundant after those of
+// its reason.
 ghost use Rattle.std.specs.Prelude.{◌<◌, ◌≤◌, length};
 ghost use Rattle.propagate.specs.Fits.{Fits};
 ghost use Rattle.analyze.specs.Marks.{IsReduced, Reduces, HasMarks, FitsMarks};
 ghost use Rattle.analyze.specs.Met.{IsMarking};
 
 use crate::marks::{Mark, resolve_one};
-use crate::places::{Places, put};
+use crate::positions::{Positions, put};
 use clauses::store::Store;
 use cnf::types::Lit;
 use propagate::engine::Engine;
@@ -197,7 +198,7 @@ fn go_on(
 }
 
 /// Finds out whether a variable is redundant, and what it takes to know it.
-fn search(
+fn find_redundant(
     engine: &Engine,
     store: &Store,
     variable: u32,
@@ -254,7 +255,7 @@ fn drop_redundant(
     settled: &[u32],
     marks: &mut [Mark],
     met: &mut Vec<u32>,
-    marked: &mut Places,
+    marked: &mut Positions,
 )
     requires fits { Fits engine.now store.now.slots }
     requires reduced { IsReduced engine.now.trail marks.old asserting }
@@ -325,7 +326,7 @@ pub(crate) fn minimise(
     asserting: Lit,
     marks: &mut [Mark],
     met: &mut Vec<u32>,
-    marked: &mut Places,
+    marked: &mut Positions,
     ideas: &mut [Idea],
     queue: &mut Vec<u32>,
     firsts: &mut [u32],
@@ -341,7 +342,7 @@ pub(crate) fn minimise(
     start(engine, asserting, marks, met, queue, firsts);
     settled.clear();
     for variable in queue.iter() {
-        search(
+        find_redundant(
             engine, store, *variable, marks, ideas, firsts, path, settled,
         );
     }

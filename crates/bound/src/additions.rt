@@ -5,7 +5,7 @@ ghost use Rattle.bound.specs.Bound.{addition_as, addition_clauses, last_variable
 ghost use Rattle.bound.specs.Adding.{HasRoom, IsFit};
 
 use crate::cells::keep_cells;
-use crate::keeping::keep_all;
+use crate::kept_clauses::keep_all;
 use adder::building::network_as;
 use adder::cells::Profile;
 use adder::networks::Network;

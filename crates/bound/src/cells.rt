@@ -4,7 +4,7 @@ ghost use Rattle.std.specs.List.{flat_map};
 ghost use Rattle.bound.specs.Bound.{cell_clauses, full_clauses, half_clauses};
 ghost use Rattle.bound.specs.Adding.{Adds, HasVariables};
 
-use crate::keeping::keep_short;
+use crate::kept_clauses::keep_short;
 use adder::cells::Cell;
 use cnf::clause_list::ClauseList;
 use cnf::types::Lit;

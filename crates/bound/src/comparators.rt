@@ -7,7 +7,7 @@ ghost use Rattle.bound.specs.Bound.{comparator_over, CoversLargerOver};
 ghost use Rattle.sums.specs.Sums.{comparator};
 
 use crate::additions::Addition;
-use crate::keeping::{keep_all, keep_short};
+use crate::kept_clauses::{keep_all, keep_short};
 use adder::networks::Network;
 use cnf::clause_list::ClauseList;
 use cnf::limits::NUMBER_LIMIT;

@@ -14,7 +14,7 @@ use crate::additions::Addition;
 use crate::cells::keep_cell;
 use crate::comparators::keep_comparator;
 use crate::dimacs::{put_clause, put_clauses, put_header};
-use crate::keeping::keep_short;
+use crate::kept_clauses::keep_short;
 use crate::relaxing::keep_relaxed;
 use adder::cells::{Cell, Profile};
 use adder::networks::Network;

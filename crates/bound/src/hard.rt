@@ -5,7 +5,7 @@ ghost use Rattle.cnf.specs.Clause.{Satisfies};
 ghost use Rattle.cnf.specs.Problem.{IsFeasible};
 ghost use Rattle.bound.specs.Bound.{hard_cnf, kept};
 
-use crate::keeping::keep;
+use crate::kept_clauses::keep;
 use cnf::clause_list::ClauseList;
 use cnf::marks::Marks;
 use cnf::types::{Formula, Instance};

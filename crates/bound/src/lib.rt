@@ -9,5 +9,5 @@ mod dimacs;
 pub mod encoding;
 pub mod formulas;
 mod hard;
-mod keeping;
+mod kept_clauses;
 mod relaxing;

@@ -7,7 +7,7 @@ ghost use Rattle.adder.specs.Network.{relaxed_variables};
 ghost use Rattle.bound.specs.Bound.{kept, relaxed_clauses};
 ghost use Rattle.bound.specs.Adding.{gets_variable};
 
-use crate::keeping::keep;
+use crate::kept_clauses::keep;
 use adder::cells::Profile;
 use adder::profiles::Relaxing;
 use cnf::clause_list::ClauseList;

@@ -15,7 +15,7 @@ use Rattle.cnf.proofs.Laws.{literal_eq-refl, all_weaker, contains-append, contai
 use Rattle.cnf.proofs.Laws.{contains_back}
 use Rattle.propagate.proofs.Laws.{in_kept, kept_prefix}
 use Rattle.propagate.proofs.Laws.{literals-append}
-use Rattle.analyze.specs.Learning.{IsConflict, IsQuiet}
+use Rattle.analyze.specs.Analyzer.{IsConflict, IsQuiet}
 use Rattle.analyze.proofs.Laws.{level_is, false_below}
 use Rattle.cdcl.specs.Invariant.{zero_of}
 use Rattle.cdcl.specs.Hinting.{Serves}

@@ -20,7 +20,7 @@ use Rattle.propagate.specs.Watches.{EngineState, is_attached}
 use Rattle.propagate.specs.Doomed.{is_doomed}
 use Rattle.propagate.specs.Fits.{Fits}
 use Rattle.propagate.proofs.Laws.{fits_local}
-use Rattle.analyze.specs.Learning.{IsQuiet}
+use Rattle.analyze.specs.Analyzer.{IsQuiet}
 use Rattle.cdcl_order.specs.Policies.{PolicyState}
 use Rattle.lrat_log.specs.Log.{LogLine, IsLine, IsPlain, is_delete, name_of, number_in}
 use Rattle.cdcl.specs.declared.input.Input.{Input}

@@ -17,7 +17,7 @@ use Rattle.propagate.proofs.Laws.{NoOpposites, no_opposites}
 use Rattle.lrat_log.specs.declared.lines.Name.{Name}
 use Rattle.lrat_log.specs.Log.{LogLine, Given, is_delete, id_of, leading_ids, group_ids}
 use Rattle.lrat_log.specs.Steps.{log_live, IsNewTo, IsByRup, nothing_exempt}
-use Rattle.analyze.specs.Learning.{IsAsserting, IsRefutedBy}
+use Rattle.analyze.specs.Analyzer.{IsAsserting, IsRefutedBy}
 use Rattle.clauses.specs.Within.{Within}
 use Rattle.cdcl.specs.Invariant.{NamesWhatIsLive, NamesStore, name_at, zero_of}
 use Rattle.cdcl.proofs.LogLines.{IsNewClause, AddsByHints, leading-plain, groups-plain}

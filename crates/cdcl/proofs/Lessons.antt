@@ -15,7 +15,7 @@ use Rattle.propagate.specs.Trail.{Assigned, literals_of, depth_of, kept_to, HasR
 use Rattle.propagate.specs.Watches.{EngineState, is_attached}
 use Rattle.propagate.specs.Fits.{Fits, IsWithin, IsFalseClause}
 use Rattle.propagate.proofs.Laws.{kept_low, no_opposites}
-use Rattle.analyze.specs.Learning.{IsAsserting, IsConflict, IsRefutedBy, greatest_level}
+use Rattle.analyze.specs.Analyzer.{IsAsserting, IsConflict, IsRefutedBy, greatest_level}
 use Rattle.lrat_log.specs.declared.lines.Hint.{Hint}
 use Rattle.lrat_log.specs.declared.lines.Name.{Name}
 use Rattle.lrat_log.specs.declared.lines.Name.TheVariants.{Added}
@@ -25,13 +25,13 @@ use Rattle.cdcl.specs.declared.search.Search.{Search}
 use Rattle.cdcl.specs.declared.input.Input.{Input}
 use Rattle.cdcl.specs.Invariant.{HasUnit, NotesUnits, NamesStore, Searches, IsRunning, zero_of}
 use Rattle.cdcl.specs.Hinting.{AreHintsOf, AreNoted}
-use Rattle.cdcl.specs.Running.{HasRoom, Places, Runs, tables_of}
+use Rattle.cdcl.specs.Running.{HasRoom, Stores, Runs, tables_of}
 use Rattle.cdcl.proofs.LogLines.{AddsByHints}
 use Rattle.cdcl.proofs.LearnedLines.{adds_learned, refutes_alone, no_opposites_false}
 use Rattle.cdcl.proofs.Conflicts.{is_conflict, serves_zero}
 use Rattle.cdcl.proofs.Moves.{with_addition}
 use Rattle.cdcl.proofs.MoreMoves.{run_learn}
-use Rattle.cdcl.proofs.Placing.{room_placed, running_same, tables_same}
+use Rattle.cdcl.proofs.Placing.{room_stored, running_same, tables_same}
 
 -- hints that refute are live
 leads_live : (slots : Slots) (A : List Literal) (hs : List ℕ) (B : List Literal)
@@ -174,26 +174,26 @@ pub runs_learned : (m n : Search) (p : Input) (ls : List LogLine) (l : LogLine)
     → HasRoom m
     → All (λ x. x ≤ m.additions + 1) (m.stamps).items → IsAsserting T l.clause back
     → (m.engine).trail ≡ kept_to back T → AddsByHints p.given ls l
-    → Places m n (Added (m.additions + 1)) l.clause → n.additions ≡ m.additions + 1
+    → Stores m n (Added (m.additions + 1)) l.clause → n.additions ≡ m.additions + 1
     → n.additions < 2 ^ 61 → Runs n p (ls ++ l ∷ [])
-runs_learned m n p ls l T back run room past w trail adds placed more few =
+runs_learned m n p ls l T back run room past w trail adds stored more few =
     let slots = (m.store).slots in
     let low : depth_of (m.engine).trail ≤ back =
     subst (λ X. depth_of X ≤ back) (sym trail) (kept_low back T) in
     let ran = run_learn m.engine n.engine slots p.stack (tables_of m) (p.frozen).items p.first
     p.given ls l T back run w (back_low T l.clause back w) trail low adds (omega arith)
-    placed.attached (placed.trail, placed.variables) placed.works placed.fits in
+    stored.attached (stored.trail, stored.variables) stored.works stored.fits in
     record {
       running = running_same n.engine n.engine (slots ++ Some l.clause ∷ []) (n.store).slots p.stack
           (with_addition (tables_of m) (m.units).items m.noted) (tables_of n)
           (p.frozen).items p.first
           p.given (ls ++ l ∷ [])
-          refl placed.slots
+          refl stored.slots
           (tables_same (with_addition (tables_of m) (m.units).items m.noted) (tables_of n)
-          placed.names (ap (λ x. x.items) placed.units) placed.noted placed.kept more)
+          stored.names (ap (λ x. x.items) stored.units) stored.noted stored.kept more)
           ran;
-      room = room_placed m n (Added (m.additions + 1)) l.clause room placed;
-      past = subst (λ x. All (λ y. y ≤ n.additions) x.items) (sym placed.stamps)
+      room = room_stored m n (Added (m.additions + 1)) l.clause room stored;
+      past = subst (λ x. All (λ y. y ≤ n.additions) x.items) (sym stored.stamps)
           (subst (λ x. All (λ y. y ≤ x) (m.stamps).items) (sym more) past);
       few = few;
     }

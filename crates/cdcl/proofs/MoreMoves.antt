@@ -32,11 +32,11 @@ use Rattle.lrat_log.specs.Steps.{adds_empty_clause, is_empty_clause, IsBaseOf, l
 use Rattle.lrat_log.specs.Steps.{nothing_exempt}
 use Rattle.lrat_log.proofs.Laws.{accepted_log}
 use Rattle.eliminate.specs.Elimination.{StackState, Removed, extended, IsFree, becomes_true}
-use Rattle.analyze.specs.Learning.{IsAsserting}
+use Rattle.analyze.specs.Analyzer.{IsAsserting}
 use Rattle.cdcl.specs.Solving.{is_refuted, IsFrozen, SatisfyGiven, IsLiveRefuted}
 use Rattle.cdcl.specs.Invariant.{Tables, name_at, NamesStore, Searches, NotesUnits, zero_of}
 use Rattle.cdcl.specs.Invariant.{KeepsPlain, IsRunning}
-use Rattle.analyze.specs.Learning.{IsQuiet}
+use Rattle.analyze.specs.Analyzer.{IsQuiet}
 use Rattle.cdcl.proofs.LogLines.{AddsByHints, log_add}
 use Rattle.cdcl.proofs.Named.{names_move}
 use Rattle.cdcl.proofs.MoreGiven.{log_given, names_given}

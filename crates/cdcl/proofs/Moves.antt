@@ -18,7 +18,7 @@ use Rattle.lrat_log.proofs.Laws.{one_apart, open_push}
 use Rattle.eliminate.specs.Elimination.{StackState}
 use Rattle.cdcl.specs.Invariant.{Tables, name_at, is_kept_name, NamesStore, NotesUnits, zero_of}
 use Rattle.cdcl.specs.Invariant.{IsRecorded, IsRunning}
-use Rattle.analyze.specs.Learning.{IsQuiet}
+use Rattle.analyze.specs.Analyzer.{IsQuiet}
 use Rattle.cdcl.proofs.Chains.{count_push_addition, count_push_deletion}
 use Rattle.cdcl.specs.Hinting.{plain_hints}
 use Rattle.cdcl.proofs.LogLines.{AddsByHints, DeletesNames, log_add, log_delete}

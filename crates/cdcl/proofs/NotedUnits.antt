@@ -12,7 +12,7 @@ use Rattle.clauses.specs.Slots.{Slots, clause_at}
 use Rattle.propagate.specs.Trail.{Assigned, literals_of, depth_of}
 use Rattle.propagate.proofs.Laws.{NoOpposites, no_opposites}
 use Rattle.propagate.proofs.Laws.{contains_at}
-use Rattle.analyze.specs.Learning.{IsQuiet}
+use Rattle.analyze.specs.Analyzer.{IsQuiet}
 use Rattle.lrat_log.specs.Log.{LogLine}
 use Rattle.cdcl_order.specs.Orders.{positive}
 use Rattle.cdcl.specs.declared.search.Search.{Search}

@@ -21,7 +21,7 @@ use Rattle.lrat_log.specs.declared.lines.Name.{Name}
 use Rattle.lrat_log.specs.Steps.{added_count}
 use Rattle.cdcl.specs.declared.search.Search.{Search}
 use Rattle.cdcl.specs.Invariant.{Tables, IsRunning}
-use Rattle.cdcl.specs.Running.{HasRoom, Places}
+use Rattle.cdcl.specs.Running.{HasRoom, Stores}
 use Rattle.clauses.proofs.Laws.{clause_new}
 
 pub new_at : (slots now : Slots) (c : List Literal) (r : ℕ) → now ≡ slots ++ Some c ∷ []
@@ -61,9 +61,9 @@ adding_line kind c hints variables adds few w names = record {
 }
 
 -- the parts by variable
-pub room_placed : (s n : Search) (name : Name) (c : List Literal) → HasRoom s → Places s n name c
+pub room_stored : (s n : Search) (name : Name) (c : List Literal) → HasRoom s → Stores s n name c
     → HasRoom n
-room_placed s n name c r w = record {
+room_stored s n name c r w = record {
   policy = ap (λ o. o.variables) w.policy ∙ r.policy ∙ sym w.variables;
   analyzer =
       subst (λ k. k < n.analyzer) (sym w.variables)

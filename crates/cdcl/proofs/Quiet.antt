@@ -20,7 +20,7 @@ use Rattle.propagate.proofs.Laws.{kept_named, trail_listed}
 use Rattle.propagate.specs.Renames.{named_trail}
 use Rattle.propagate.proofs.Laws.{reasons_listed}
 use Rattle.cdcl.specs.Invariant.{Searches, zero_of}
-use Rattle.analyze.specs.Learning.{IsQuiet}
+use Rattle.analyze.specs.Analyzer.{IsQuiet}
 use Rattle.cdcl.proofs.Places.{clause_cases, came, same_clause}
 use Rattle.analyze.proofs.Laws.{kept_more, depth_follow}
 

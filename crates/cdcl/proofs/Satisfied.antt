@@ -15,7 +15,7 @@ use Rattle.cnf.specs.Refute.{IsFalseUnder}
 use Rattle.clauses.specs.Slots.{Slots, clause_at}
 use Rattle.propagate.specs.Trail.{Assigned, literals_of, value_in}
 use Rattle.propagate.specs.Fits.{IsWithin}
-use Rattle.analyze.specs.Learning.{IsQuiet}
+use Rattle.analyze.specs.Analyzer.{IsQuiet}
 use Rattle.cdcl.specs.Moves.{AreValues}
 use Rattle.cdcl_order.specs.Orders.{positive}
 

@@ -11,14 +11,14 @@ use Rattle.lrat_log.specs.Log.{LogLine, number_in}
 use Rattle.cdcl.specs.declared.search.Search.{Search}
 use Rattle.cdcl.specs.declared.input.Input.{Input}
 use Rattle.cdcl.specs.Invariant.{IsRunning}
-use Rattle.cdcl.specs.Running.{Runs, Places, IsGivable, GivesOne, tables_of}
+use Rattle.cdcl.specs.Running.{Runs, Stores, IsGivable, GivesOne, tables_of}
 use Rattle.cdcl.proofs.MoreMoves.{run_given, with_given}
-use Rattle.cdcl.proofs.Placing.{room_placed, running_same, tables_same}
+use Rattle.cdcl.proofs.Placing.{room_stored, running_same, tables_same}
 
 pub taken : (m n : Search) (p q : Input) (name : Name) (c : List Literal) (ls : List LogLine)
     → Runs m p ls → depth_of (m.engine).trail ≡ 0 → IsGivable p name c → GivesOne p q name c
     → p.first ≤ length p.given
-    → Places m n name c → n.additions ≡ m.additions → Runs n q ls
+    → Stores m n name c → n.additions ≡ m.additions → Runs n q ls
 taken m n p q name c ls r flat ask gives first w same =
     let f = ask.fresh in
     let slots = (m.store).slots in
@@ -44,7 +44,7 @@ taken m n p q name c ls r flat ask gives first w same =
           q.given ls) (sym gives.first)
           (subst (λ x. IsRunning n.engine (n.store).slots p.stack (tables_of n) (p.frozen).items
           p.first x ls) (sym given) now)));
-      room = room_placed m n name c r.room w;
+      room = room_stored m n name c r.room w;
       past =
           subst (λ x. All (λ y. y ≤ n.additions) x.items) (sym w.stamps)
           (subst (λ x. All (λ y. y ≤ x) (m.stamps).items) (sym same) r.past);

@@ -29,11 +29,11 @@ use Rattle.lrat_log.specs.declared.lines.Name.TheVariants.{Added}
 use Rattle.cdcl.specs.declared.search.Search.{Search}
 use Rattle.cdcl.specs.declared.input.Input.{Input}
 use Rattle.cdcl.specs.Invariant.{IsRunning}
-use Rattle.cdcl.specs.Running.{HasRoom, Places, Runs, tables_of}
+use Rattle.cdcl.specs.Running.{HasRoom, Stores, Runs, tables_of}
 use Rattle.cdcl.proofs.LogLines.{AddsByHints}
 use Rattle.cdcl.proofs.Moves.{with_addition}
 use Rattle.cdcl.proofs.MoreMoves.{run_note}
-use Rattle.cdcl.proofs.Placing.{room_placed, running_same, tables_same, literal_small}
+use Rattle.cdcl.proofs.Placing.{room_stored, running_same, tables_same, literal_small}
 use Rattle.cdcl.proofs.LearnedLines.{adds_learned}
 use Rattle.cdcl.proofs.ZeroLines.{refutes_unit, justified_at}
 
@@ -190,7 +190,7 @@ pub runs_noted : (m n u : Search) (p : Input) (ls : List LogLine) (hints : List 
     → depth_of (m.engine).trail ≡ 0 → m.noted < length (m.engine).trail
     → k ≡ get_or (literals_of (m.engine).trail) m.noted k
     → AddsByHints p.given ls (record { kind = UnitKind; clause = k ∷ []; hints = hints })
-    → Places m n (Added (m.additions + 1)) (k ∷ []) → n.additions ≡ m.additions + 1
+    → Stores m n (Added (m.additions + 1)) (k ∷ []) → n.additions ≡ m.additions + 1
     → n.additions < 2 ^ 61
     → v ≡ k.variable - 1 → r ≡ length (m.store).slots → NotesOne n u v r
     → Runs u p (ls ++ record { kind = UnitKind; clause = k ∷ []; hints = hints } ∷ [])
@@ -223,7 +223,7 @@ runs_noted m n u p ls hints k v r run room past flat left at adds w more few vis
       w.trail,
       w.variables,
     ) w.works w.fits in
-    let placed = room_placed m n (Added (m.additions + 1)) (k ∷ []) room w in
+    let stored = room_stored m n (Added (m.additions + 1)) (k ∷ []) room w in
     record {
       running = running_same n.engine u.engine (slots ++ Some (k ∷ []) ∷ []) (u.store).slots p.stack
           (with_addition (tables_of m) (set (m.units).items (k.variable - 1) (Some (length slots)))
@@ -237,15 +237,15 @@ runs_noted m n u p ls hints k v r run room past flat left at adds w more few vis
           ∙ ap (λ x. x + 1) w.noted) (d.kept ∙ w.kept) (d.additions ∙ more))
           ran;
       room = record {
-        policy = ap (λ x. x.variables) d.policy ∙ placed.policy
+        policy = ap (λ x. x.variables) d.policy ∙ stored.policy
             ∙ sym (ap (λ x. x.variables) d.engine);
         analyzer =
             subst (λ x. x.variables < u.analyzer) (sym d.engine)
-            (subst (λ x. (n.engine).variables < x) (sym d.analyzer) placed.analyzer);
-        few = subst (λ x. x.variables < 2 ^ 27) (sym d.engine) placed.few;
-        stamps = ap (λ x. length x.items) d.stamps ∙ placed.stamps
+            (subst (λ x. (n.engine).variables < x) (sym d.analyzer) stored.analyzer);
+        few = subst (λ x. x.variables < 2 ^ 27) (sym d.engine) stored.few;
+        stamps = ap (λ x. length x.items) d.stamps ∙ stored.stamps
             ∙ sym (ap (λ x. x.variables) d.engine);
-        units = ap length d.units ∙ length-set (n.units).items v (Some r) ∙ placed.units
+        units = ap length d.units ∙ length-set (n.units).items v (Some r) ∙ stored.units
             ∙ sym (ap (λ x. x.variables) d.engine);
       };
       past =

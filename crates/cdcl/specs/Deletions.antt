@@ -7,7 +7,7 @@ use Rattle.propagate.specs.Trail.{literals_of, kept_to, depth_of}
 use Rattle.propagate.specs.Watches.{is_attached}
 use Rattle.propagate.specs.Doomed.{is_doomed}
 use Rattle.propagate.specs.Fits.{Fits}
-use Rattle.analyze.specs.Learning.{IsQuiet}
+use Rattle.analyze.specs.Analyzer.{IsQuiet}
 use Rattle.lrat_log.specs.Log.{LogLine}
 use Rattle.cdcl.specs.declared.input.Input.{Input}
 use Rattle.cdcl.specs.declared.search.Search.{Search}

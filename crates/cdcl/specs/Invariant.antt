@@ -11,7 +11,7 @@ use Rattle.clauses.specs.Slots.{Slots, clause_at, IsLive}
 use Rattle.propagate.specs.Trail.{Assigned, literals_of, kept_to, depth_of}
 use Rattle.propagate.specs.Watches.{EngineState, is_attached}
 use Rattle.propagate.specs.Fits.{Fits}
-use Rattle.analyze.specs.Learning.{IsQuiet}
+use Rattle.analyze.specs.Analyzer.{IsQuiet}
 use Rattle.lrat_log.specs.declared.lines.Name.{Name}
 use Rattle.lrat_log.specs.declared.lines.Name.TheVariants.{Formula, Added}
 use Rattle.lrat_log.specs.Log.{LogLine, Given, id_of, number_in}

@@ -8,7 +8,7 @@ use Rattle.cnf.specs.Formula.{IsFormulaClause}
 use Rattle.propagate.specs.Trail.{literals_of}
 use Rattle.propagate.specs.Watches.{SetsAttached}
 use Rattle.propagate.specs.Fits.{Fits}
-use Rattle.analyze.specs.Learning.{IsQuiet}
+use Rattle.analyze.specs.Analyzer.{IsQuiet}
 use Rattle.cdcl_order.specs.Budgets.{BudgetState, left_of}
 use Rattle.cdcl_order.specs.Orders.{AreClosed}
 use Rattle.lrat_log.specs.declared.lines.Name.{Name}
@@ -81,7 +81,7 @@ pub record EngineMoves (old new : Search) : Type 0 where
   pub rest : new ≡ record old { engine = new.engine }
 
 -- a clause came under a name, the last of the store
-pub record Places (old new : Search) (n : Name) (c : List Literal) : Type 0 where
+pub record Stores (old new : Search) (n : Name) (c : List Literal) : Type 0 where
   pub slots : (new.store).slots ≡ (old.store).slots ++ Some c ∷ []
   pub names : (new.names).items ≡ (old.names).items ++ n ∷ []
   pub attached : SetsAttached old.engine new.engine (length (old.store).slots) true

@@ -5,7 +5,7 @@ use Rattle.clauses.specs.Slots.{IsLive}
 use Rattle.propagate.specs.Doomed.{is_doomed}
 use Rattle.propagate.specs.Trail.{literals_of}
 use Rattle.propagate.specs.Fits.{IsFalseClause}
-use Rattle.analyze.specs.Learning.{IsQuiet}
+use Rattle.analyze.specs.Analyzer.{IsQuiet}
 use Rattle.cdcl_order.specs.Budgets.{BudgetState}
 use Rattle.cdcl_order.specs.Orders.{positive}
 use Rattle.lrat_log.specs.Log.{LogLine}

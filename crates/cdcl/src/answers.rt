@@ -1,7 +1,7 @@
 // The bits of a satisfying assignment.
 ghost use Rattle.std.specs.Prelude.{◌≡◌, List, length, IfOk};
 ghost use Rattle.propagate.specs.Trail.{literals_of};
-ghost use Rattle.analyze.specs.Learning.{IsQuiet};
+ghost use Rattle.analyze.specs.Analyzer.{IsQuiet};
 ghost use Rattle.cdcl_order.specs.Orders.{AreClosed};
 ghost use Rattle.lrat_log.specs.Log.{LogLine};
 ghost use Rattle.cdcl.specs.Solving.{SatisfyGiven};

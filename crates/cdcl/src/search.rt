@@ -4,13 +4,13 @@ ghost use Rattle.std.specs.Prelude.{length, All, IfOk, OnOk, IfSome, IfNone};
 ghost use Rattle.propagate.specs.Trail.{literals_of, depth_of, kept_to};
 ghost use Rattle.propagate.specs.Watches.{is_attached};
 ghost use Rattle.propagate.specs.Fits.{IsFalseClause, IsWithin};
-ghost use Rattle.analyze.specs.Learning.{IsQuiet};
+ghost use Rattle.analyze.specs.Analyzer.{IsQuiet};
 ghost use Rattle.cdcl_order.specs.Orders.{IsOpenVariable, AreClosed};
 ghost use Rattle.cdcl.specs.Invariant.{zero_of};
 ghost use Rattle.cdcl.specs.Running.{EngineMoves, IsReady, KeepsRunning};
 ghost use Rattle.cdcl.specs.Moves.{KeepsState};
 
-use analyze::learning::{Analyzer, Learned};
+use analyze::analyzer::{Analyzer, Learned};
 use cdcl_order::policy::Policy;
 use clauses::store::{CRef, MaybeCRef, Store};
 use cnf::types::Lit;

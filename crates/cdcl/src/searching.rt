@@ -5,7 +5,7 @@
 ghost use Rattle.std.specs.Prelude.{◌≡◌, IfOk};
 ghost use Rattle.propagate.specs.Trail.{literals_of};
 ghost use Rattle.propagate.specs.Fits.{IsFalseClause};
-ghost use Rattle.analyze.specs.Learning.{IsQuiet};
+ghost use Rattle.analyze.specs.Analyzer.{IsQuiet};
 ghost use Rattle.cdcl.specs.Solving.{IsLiveRefuted};
 ghost use Rattle.cdcl.specs.Running.{Runs};
 ghost use Rattle.cdcl.specs.Turns.{Ends, Turns, LearnsNothing, NotesAll};

@@ -5,7 +5,7 @@ ghost use Rattle.lrat_log.specs.Log.{number_in};
 ghost use Rattle.cdcl.specs.Starts.{AreAttachedBelow, AreWithin, IsLiveWithin, IsStarted};
 
 use crate::search::Search;
-use analyze::learning::Analyzer;
+use analyze::analyzer::Analyzer;
 use cdcl_order::policy::Policy;
 use clauses::store::{MaybeCRef, Store};
 use cnf::clause_list::ClauseList;

@@ -6,7 +6,7 @@ ghost use Rattle.propagate.specs.Fits.{IsWithin};
 ghost use Rattle.lrat_log.specs.declared.lines.Name.TheVariants.{Added};
 ghost use Rattle.lrat_log.specs.Log.{is_delete, name_of, number_in};
 ghost use Rattle.lrat_log.specs.Steps.{added_count};
-ghost use Rattle.cdcl.specs.Running.{IsReady, Places};
+ghost use Rattle.cdcl.specs.Running.{IsReady, Stores};
 
 use crate::search::Search;
 use clauses::store::CRef;
@@ -21,7 +21,7 @@ impl Search {
     pub(crate) fn attach_clause(&mut self, name: Name, lits: &[Lit]) -> Result<CRef, AllocError>
         requires ready { IsReady self.old }
         requires within { IsWithin self.old.engine.variables lits.now }
-        ensures placed { OnOk result (Places self.old self.new name lits.now) }
+        ensures stored { OnOk result (Stores self.old self.new name lits.now) }
         ensures additions { self.new.additions ≡ self.old.additions }
         ensures reference { IfOk result (λ r. r ≡ length self.old.store.slots) }
     {
@@ -48,8 +48,8 @@ impl Search {
         requires hints { All (λ h. IsId (number_in (name_of h))) hints.items }
         requires counted { self.old.additions ≡ added_count (S.lines sink.old) }
         requires few { self.old.additions < 2 ^ 61 }
-        ensures placed { OnOk result
-            (Places self.old self.new (Added (self.old.additions + 1)) lits.now) }
+        ensures stored { OnOk result
+            (Stores self.old self.new (Added (self.old.additions + 1)) lits.now) }
         ensures additions { OnOk result (self.new.additions ≡ self.old.additions + 1) }
         ensures few { OnOk result (self.new.additions < 2 ^ 61) }
         ensures reference { IfOk result (λ r. r ≡ length self.old.store.slots) }

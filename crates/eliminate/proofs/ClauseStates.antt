@@ -105,17 +105,17 @@ settled_two A c k l hk hl apart nk nl = (
 )
 
 -- what is found of the first literals of a clause
-abbrev pub HasStatusSoFar : List Literal → List Literal → ClauseState → Type 0
-HasStatusSoFar A c Settled = ⊥
-HasStatusSoFar A c (Unit l) = IsUnit c A l
-HasStatusSoFar A c Falsified = IsFalseUnder c A
+abbrev pub HasStateSoFar : List Literal → List Literal → ClauseState → Type 0
+HasStateSoFar A c Settled = ⊥
+HasStateSoFar A c (Unit l) = IsUnit c A l
+HasStateSoFar A c Falsified = IsFalseUnder c A
 
 -- a false literal more
-pub status_false : (A c : List Literal) (i : ℕ) (k : Literal) (s : ClauseState) → i < length c
+pub state_false : (A c : List Literal) (i : ℕ) (k : Literal) (s : ClauseState) → i < length c
     → k ≡ get_or c i k → contains_literal (negation k) A ≡ true
-    → HasStatusSoFar A (take i c) s → HasStatusSoFar A (take (i + 1) c) s
-status_false A c i k Settled h is f so = so
-status_false A c i k (Unit l) h is f so = rw (take_next c i k h is) (record {
+    → HasStateSoFar A (take i c) s → HasStateSoFar A (take (i + 1) c) s
+state_false A c i k Settled h is f so = so
+state_false A c i k (Unit l) h is f so = rw (take_next c i k h is) (record {
   member = contains_front l (take i c) (k ∷ []) so.member;
   not_true = so.not_true;
   not_false = so.not_false;
@@ -123,15 +123,15 @@ status_false A c i k (Unit l) h is f so = rw (take_next c i k h is) (record {
       all_push (λ x. (x ≡ l) ⊎ (contains_literal (negation x) A ≡ true)) (take i c) k
       so.others (inr f);
 })
-status_false A c i k Falsified h is f so =
+state_false A c i k Falsified h is f so =
     rw (take_next c i k h is) (all_push (λ x. contains_literal (negation x) A ≡ true)
     (take i c) k so f)
 
 -- a first open one
-pub status_open : (A c : List Literal) (i : ℕ) (k : Literal) → i < length c → k ≡ get_or c i k
+pub state_open : (A c : List Literal) (i : ℕ) (k : Literal) → i < length c → k ≡ get_or c i k
     → contains_literal k A ≡ false → contains_literal (negation k) A ≡ false
     → IsFalseUnder (take i c) A → IsUnit (take (i + 1) c) A k
-status_open A c i k h is t f so = rw (take_next c i k h is) (record {
+state_open A c i k h is t f so = rw (take_next c i k h is) (record {
   member = member_pushed k (take i c);
   not_true = t;
   not_false = f;
@@ -142,10 +142,10 @@ status_open A c i k h is t f so = rw (take_next c i k h is) (record {
 })
 
 -- a second one
-pub status_second : (A c : List Literal) (i : ℕ) (k l : Literal) → has_repeat c ≡ false
+pub state_second : (A c : List Literal) (i : ℕ) (k l : Literal) → has_repeat c ≡ false
     → i < length c → k ≡ get_or c i k → contains_literal (negation k) A ≡ false
     → IsUnit (take i c) A l → IsSettled A c
-status_second A c i k l r h is f so =
+state_second A c i k l r h is f so =
     settled_two A c k l (at_contains c i k h is) (contains-take c i l so.member)
     (λ same. once_at c i k r h is (subst (λ x. contains_literal x (take i c) ≡ true)
     (sym same) so.member)) f so.not_false

@@ -1,6 +1,6 @@
 // What a person reads: the cost, what is given up for it, and what the bits break.
+use crate::clause_lines::{ClauseLine, ClauseLines};
 use crate::falsified::{GivenUp, broken, given_up};
-use crate::places::{Place, Places};
 use cnf::types::Instance;
 use lrat_result::report::{Report, ReportFault, Said, Solution};
 use lrat_result::result::read_report;
@@ -108,15 +108,15 @@ fn explain_solution<W: Write>(
     }
     let broken = broken(instance, bits)?;
     let given_up = given_up(instance, bits)?;
-    let places = Places::of(alloc, text, &broken)?;
+    let clause_lines = ClauseLines::of(alloc, text, &broken)?;
     let cost = instance.cost(bits);
     let told = solution.cost.cost;
     put_cost(block, writer, cost, told)?;
     put_count(block, writer, given_up.len(), instance.soft().len())?;
-    put_given_up(block, writer, &given_up, &places)?;
-    for place in &places.hard {
+    put_given_up(block, writer, &given_up, &clause_lines)?;
+    for clause_line in &clause_lines.hard {
         block.put(writer, b"broken, hard, ")?;
-        put_place(block, writer, place)?;
+        put_clause_line(block, writer, clause_line)?;
     }
     Ok(cost == told && broken.is_empty())
 }
@@ -170,7 +170,7 @@ fn put_given_up<W: Write>(
     block: &mut Block,
     writer: &mut W,
     given_up: &[GivenUp],
-    places: &Places<'_>,
+    clause_lines: &ClauseLines<'_>,
 ) -> Result<(), WriteFault> {
     let mut sum: u64 = 0;
     for each in given_up {
@@ -180,27 +180,27 @@ fn put_given_up<W: Write>(
         block.put(writer, b" = ")?;
         block.put_number(writer, sum)?;
         block.put(writer, b", ")?;
-        if let Some(place) = places.soft.get(each.place as usize) {
-            put_place(block, writer, place)?;
+        if let Some(clause_line) = clause_lines.soft.get(each.place as usize) {
+            put_clause_line(block, writer, clause_line)?;
         }
     }
     Ok(())
 }
 
 /// A line of the text with its number, and the comment above it.
-fn put_place<W: Write>(
+fn put_clause_line<W: Write>(
     block: &mut Block,
     writer: &mut W,
-    place: &Place<'_>,
+    clause_line: &ClauseLine<'_>,
 ) -> Result<(), WriteFault> {
     block.put(writer, b"line ")?;
-    block.put_number(writer, place.line)?;
+    block.put_number(writer, clause_line.line)?;
     block.put(writer, b": ")?;
-    block.put(writer, place.text)?;
+    block.put(writer, clause_line.text)?;
     block.put(writer, b"\n")?;
-    if !place.comment.is_empty() {
+    if !clause_line.comment.is_empty() {
         block.put(writer, b"    ")?;
-        block.put(writer, place.comment)?;
+        block.put(writer, clause_line.comment)?;
         block.put(writer, b"\n")?;
     }
     Ok(())

@@ -1,6 +1,6 @@
 //! What a solution gives up, clause by clause: for a person who asks why a plan costs what it does.
 #![tactic(auto)]
 
+mod clause_lines;
 pub mod explaining;
 pub mod falsified;
-mod places;

@@ -107,7 +107,7 @@ impl Bounds {
     }
 
     /// Looks for a solution below the last bound.
-    pub fn search<W: Watch>(
+    pub fn solve<W: Watch>(
         &mut self,
         instance: &Instance,
         budget: &mut Budget,

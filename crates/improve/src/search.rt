@@ -190,7 +190,7 @@ fn tighten<T: Progress, W: Watch>(
         if bounds.add(instance, best.cost).is_err() {
             return Err(ImproveFault::Memory);
         }
-        match bounds.search(instance, budget, watch) {
+        match bounds.solve(instance, budget, watch) {
             Ok(Next::Cheaper(solution)) => {
                 if tell(instance, progress, watch, &solution).is_err() {
                     return Err(ImproveFault::Progress);

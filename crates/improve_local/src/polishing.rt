@@ -32,7 +32,7 @@ pub fn polish(instance: &Instance, bits: Vec<bool>) -> Vec<bool>
     if cost == 0 {
         return bits;
     }
-    let Ok(found) = search(instance, &bits) else {
+    let Ok(found) = walk_from(instance, &bits) else {
         return bits;
     };
     if is_solution(instance, &found, cost) {
@@ -54,7 +54,7 @@ fn is_solution(instance: &Instance, bits: &[bool], most: u64) -> bool
 }
 
 /// The best bits that a search from these meets.
-fn search(instance: &Instance, bits: &[bool]) -> Result<Vec<bool>, AllocError> {
+fn walk_from(instance: &Instance, bits: &[bool]) -> Result<Vec<bool>, AllocError> {
     let alloc = instance.allocator();
     let mut first = Vec::new(alloc);
     first.extend_from_slice(bits)?;

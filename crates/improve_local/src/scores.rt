@@ -97,7 +97,7 @@ impl Scores {
         self.false_hard.clear();
         self.false_soft.clear();
         self.cost = 0;
-        self.judge_all(instance);
+        self.add_shares(instance);
     }
 
     /// What the flip of a variable would better.
@@ -155,7 +155,7 @@ impl Scores {
     }
 
     // Begins: what each clause adds to the scores.
-    fn judge_all(&mut self, instance: &Instance) {
+    fn add_shares(&mut self, instance: &Instance) {
         let hard = instance.hard().len();
         for place in 0..count(instance) {
             let number = narrow(place);
@@ -172,12 +172,12 @@ impl Scores {
                     self.count_true(number, 1, variable);
                 }
             }
-            self.judge(instance, number);
+            self.add_share(instance, number);
         }
     }
 
-    // Begins: what this clause adds to the scores.
-    fn judge(&mut self, instance: &Instance, number: u32) {
+    // This clause adds its share to the scores.
+    fn add_share(&mut self, instance: &Instance, number: u32) {
         let weight = at(&self.weights, number as usize);
         match at(&self.true_counts, number as usize) {
             0 => {
@@ -212,7 +212,7 @@ impl Scores {
     // The variable's literal in this clause becomes false.
     fn lose(&mut self, instance: &Instance, number: u32, variable: u32) {
         self.count_true(number, -1, variable);
-        self.judge(instance, number);
+        self.add_share(instance, number);
     }
 
     // So many more literals of the clause are true: that of this variable became so or was it.

@@ -104,12 +104,12 @@ impl Walk {
             set(&mut self.flipped, variable as usize, self.flips);
             self.scores.flip(instance, places, variable);
             self.best.follow(variable);
-            self.keep();
+            self.keep_best();
         }
     }
 
     // Keeps the bits where they are the best.
-    fn keep(&mut self) {
+    fn keep_best(&mut self) {
         if self.scores.false_hard.len() > 0 || self.scores.cost >= self.best_cost {
             return;
         }

@@ -20,7 +20,7 @@ mod renaming;
 mod rooms;
 mod waiting;
 
-use crate::search::{find_not_false, find_other_not_false};
+use crate::not_false::{find_not_false, find_other_not_false};
 use clauses::store::{CRef, Store};
 use cnf::types::Lit;
 use propagate_trail::trail::Trail;

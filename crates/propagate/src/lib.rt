@@ -8,4 +8,4 @@ pub use propagate_watches::{pool, table};
 
 pub mod engine;
 mod moved;
-mod search;
+mod not_false;

@@ -10,7 +10,7 @@ use Rattle.std.proofs.lemmas.List.{drop-set, drop_more, drop_all, length-set}
 use Rattle.text.specs.Writing.{spaced, AppendsPart}
 use Rattle.std.proofs.lemmas.Grind.{flat_map-append}
 use Rattle.lrat_result.specs.Result.{cost_tokens}
-use Rattle.report.specs.Telling.{cost_lines, Tells}
+use Rattle.report.specs.Told.{cost_lines, Tells}
 
 -- a number of 64 bits has at most 20 digits
 pub cost_digits : (n : ℕ) → n < 2 ^ 64 → length (decimal n) ≤ 20

@@ -31,7 +31,7 @@ use Rattle.cnf.proofs.Laws.{extends_own}
 use Rattle.report.specs.declared.status.Status.{Status}
 use Rattle.report.specs.declared.fault.RunFault.{RunFault}
 use Rattle.report.specs.declared.fault.RunFault.TheVariants.{Read, Memory, Output, ProofOutput}
-use Rattle.report.specs.Telling.{cost_lines}
+use Rattle.report.specs.Told.{cost_lines}
 use Rattle.report.specs.Answering.{status_of, end_text, proof_text, HasRoom, HasProofRoom}
 use Rattle.report.specs.Answering.{IsSpelledProof, HasProof, LeavesAnswer, Answers}
 use Rattle.report.specs.Running.{result_text, told_in, AreHonest, AreChecked, IsTrueAnswer}

@@ -14,7 +14,7 @@ use Rattle.lrat_result.specs.Result.{Said, OptimumFound, Unsatisfiable, Satisfia
 use Rattle.lrat_result.specs.Result.{FallsTo, Says, fall_to, cost_tokens, digit_of, bits_tokens}
 use Rattle.lrat_result.specs.Result.{is_ignored, result_lines}
 use Rattle.improve.specs.Improving.{AreFalling}
-use Rattle.report.specs.Telling.{cost_lines}
+use Rattle.report.specs.Told.{cost_lines}
 use Rattle.report.specs.Running.{result_text}
 use Rattle.report.specs.Answering.{digits_text, bits_word, words_text}
 

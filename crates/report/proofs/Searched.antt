@@ -19,7 +19,7 @@ use Rattle.improve.proofs.Laws.{cost_small}
 use Rattle.improve.proofs.Laws.{told_fall, told_each}
 use Rattle.report.specs.declared.fault.RunFault.{RunFault}
 use Rattle.report.specs.declared.fault.RunFault.TheVariants.{Memory, Output}
-use Rattle.report.specs.Telling.{Tells, cost_lines, fault_of_telling}
+use Rattle.report.specs.Told.{Tells, cost_lines, fault_of_telling}
 use Rattle.report.specs.Running.{HasLines, Searches, outcome_of}
 
 pub costs_small : (p : Problem) (costs : List ℕ) → IsInstance p → All (IsCostOfSome p) costs

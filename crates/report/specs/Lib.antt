@@ -1,7 +1,7 @@
 pub mod Printing
 pub mod Codes
 pub mod Faults
-pub mod Telling
+pub mod Told
 pub mod Answering
 pub mod Running
 pub mod Best

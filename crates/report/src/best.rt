@@ -8,7 +8,7 @@ ghost use Rattle.report.specs.Answering.{words_text};
 ghost use Rattle.report.specs.Best.{IsFound, IsTrueText, best_text, said_of};
 
 use crate::answering::{spell_optimum, spell_satisfiable, write_end};
-use crate::telling::write_cost;
+use crate::told::write_cost;
 use cnf::types::Instance;
 use improve::found::Found;
 use improve::watch::{Silent, Watch};

@@ -9,4 +9,4 @@ pub mod options;
 pub mod printing;
 pub mod running;
 pub mod status;
-pub mod telling;
+pub mod told;

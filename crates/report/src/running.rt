@@ -6,7 +6,7 @@ use crate::answering::write_answer;
 use crate::best::Keep;
 use crate::fault::RunFault;
 use crate::status::Status;
-use crate::telling::{Finished, Told};
+use crate::told::{Finished, Told};
 use adder::cells::Profile;
 use cdcl::budget::Budget;
 use cnf::types::Instance;

@@ -4,7 +4,7 @@ ghost use Rattle.sums.specs.Halts.{IfTooMany};
 ghost use Rattle.sums.specs.Parts.{carried, digit_made, rest_made};
 ghost use Rattle.sums.specs.Sums.{Members, Both};
 
-use crate::building::Builder;
+use crate::builder::Builder;
 use crate::halts::Halt;
 use crate::halving::{Halves, split_list};
 use crate::lists::AtLeast;

@@ -3,7 +3,7 @@ ghost use Rattle.std.specs.Prelude.{◌≡◌, ◌+◌, ◌<◌, ◌≤◌, ◌^
 ghost use Rattle.sums.specs.Halts.{IfTooMany};
 ghost use Rattle.sums.specs.Sums.{halved, halves, odd_clauses, split};
 
-use crate::building::Builder;
+use crate::builder::Builder;
 use crate::halts::Halt;
 use crate::lists::AtLeast;
 use cnf::clause_list::ClauseList;

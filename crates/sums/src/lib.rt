@@ -2,7 +2,7 @@
 //! and lists of variables that say that a sum is at least a number.
 #![tactic(auto)]
 
-mod building;
+mod builder;
 mod carrying;
 pub mod comparators;
 mod halts;

@@ -7,7 +7,7 @@ ghost use Rattle.sums.specs.Stepping.{begun, finished, root_made, step_made};
 ghost use Rattle.sums.specs.Stepping.{group_weight, steps_weight};
 ghost use Rattle.sums.specs.Sums.{members};
 
-use crate::building::Builder;
+use crate::builder::Builder;
 use crate::halts::Halt;
 use crate::lists::AtLeast;
 use crate::root::Root;

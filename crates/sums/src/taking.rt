@@ -4,7 +4,7 @@ ghost use Rattle.sums.specs.Halts.{IfTooMany};
 ghost use Rattle.sums.specs.Parts.{group_node, joined_node};
 ghost use Rattle.sums.specs.Sums.{counted, lowest, without_lowest};
 
-use crate::building::Builder;
+use crate::builder::Builder;
 use crate::carrying::{group_digit, group_rest, join_digit, join_rest};
 use crate::halts::Halt;
 use crate::lists::AtLeast;

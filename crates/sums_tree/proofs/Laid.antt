@@ -5,7 +5,7 @@ use Rattle.cnf.specs.Problem.{Problem}
 use Rattle.sums_tree.specs.Tree.{steps_of}
 use Rattle.sums_tree.specs.Groups.{Placed, grouped, groups, group_rows}
 use Rattle.sums_tree.specs.Arranging.{Node}
-use Rattle.sums_tree.proofs.Standing.{row_of}
+use Rattle.sums_tree.proofs.GroupTables.{row_of}
 use Rattle.sums_tree.proofs.Grouping.{places}
 
 pub trees_of_nodes : (ns : List Node)

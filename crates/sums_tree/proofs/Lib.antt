@@ -10,7 +10,7 @@ mod Joins
 mod Lists
 mod Finding
 mod Entering
-mod Standing
+mod GroupTables
 mod Progress
 mod Touching
 mod Members

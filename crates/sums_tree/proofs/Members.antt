@@ -20,7 +20,7 @@ use Rattle.sums_tree.specs.Looking.{row_at}
 use Rattle.sums_tree.specs.Homes.{clause_at, occurs}
 use Rattle.sums_tree.proofs.Grouping.{IsAt, placed_at}
 use Rattle.sums_tree.proofs.Lists.{any_reverse, any_map, any_agree}
-use Rattle.sums_tree.proofs.Standing.{joined_each, row_of}
+use Rattle.sums_tree.proofs.GroupTables.{joined_each, row_of}
 
 pub record IsMember (soft : List SoftClause) (d : Placed) : Type 0 where
   pub at : d.literals ≡ clause_at soft d.place

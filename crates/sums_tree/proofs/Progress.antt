@@ -24,7 +24,7 @@ use Rattle.sums_tree.specs.Joining.{Adds, IsReady}
 use Rattle.sums_tree.specs.Partners.{ArePartners}
 use Rattle.sums_tree.proofs.Finding.{partners_places}
 use Rattle.sums_tree.proofs.Joins.{below-weaker}
-use Rattle.sums_tree.proofs.Standing.{Stands, row_of, stands_after}
+use Rattle.sums_tree.proofs.GroupTables.{HasGroups, row_of, groups_after}
 use Rattle.sums_tree.proofs.Grouping.{after}
 
 -- the literals of the soft clause at a place
@@ -35,7 +35,7 @@ pub record Progress (p : Problem) (g : Grouping) (i : ℕ) : Type 0 where
   pub cost : ℕ
   pub earlier : List Placed
   pub groups : List (List Placed)
-  pub stands : Stands (lits_at p) p.variables (length p.soft) g cost i earlier groups
+  pub held : HasGroups (lits_at p) p.variables (length p.soft) g cost i earlier groups
   pub rest : grouped_from (binding p) cost earlier groups (placed_from i (drop i p.soft))
       ≡ grouped p
 
@@ -95,7 +95,7 @@ begun p g cost having members group_of seen = record {
   cost = 0;
   earlier = [];
   groups = [];
-  stands = record {
+  held = record {
     long = ap length having ∙ length-replicate {A = List ℕ} (2 * p.variables) [];
     seen_long = seen;
     reach = λ k d lt i e h. absurd (none k d lt i h);
@@ -155,17 +155,17 @@ module _ (p : Problem) (i : ℕ) (s : SoftClause) (h : i < length p.soft) (is : 
       cost = pr.cost;
       earlier = pr.earlier;
       groups = pr.groups;
-      stands = record {
-        long = (pr.stands).long;
-        seen_long = (pr.stands).seen_long;
-        reach = (pr.stands).reach;
-        within = (pr.stands).within;
-        over = (pr.stands).over;
-        members = (pr.stands).members;
-        named = (pr.stands).named;
-        fresh = below-weaker g.members i (i + 1) (omega arith) (pr.stands).fresh;
-        at = (pr.stands).at;
-        known = (pr.stands).known;
+      held = record {
+        long = (pr.held).long;
+        seen_long = (pr.held).seen_long;
+        reach = (pr.held).reach;
+        within = (pr.held).within;
+        over = (pr.held).over;
+        members = (pr.held).members;
+        named = (pr.held).named;
+        fresh = below-weaker g.members i (i + 1) (omega arith) (pr.held).fresh;
+        at = (pr.held).at;
+        known = (pr.held).known;
       };
       rest =
           sym (ap (grouped_from (binding p) pr.cost pr.earlier pr.groups)
@@ -181,7 +181,7 @@ module _ (p : Problem) (i : ℕ) (s : SoftClause) (h : i < length p.soft) (is : 
       is_ready g pr =
           let within = within_limits limits in
           let n = length g.having in
-          let same : n ≡ 2 * p.variables = (pr.stands).long in
+          let same : n ≡ 2 * p.variables = (pr.held).long in
           record {
             once = within.0;
             literals = places_within p.variables n s.clause (omega (arith, same)) within;
@@ -189,11 +189,11 @@ module _ (p : Problem) (i : ℕ) (s : SoftClause) (h : i < length p.soft) (is : 
               long = long ∙ sym same;
               indices = partners_below p rows n limits long same others;
             };
-            reach = subst (λ k. AreBelow k g.having) (sym (pr.stands).seen_long) (pr.stands).reach;
-            groups = subst (λ k. AreGroups g.members g.group_of.items k) (sym (pr.stands).seen_long)
-                (pr.stands).named;
-            fresh = (pr.stands).fresh;
-            place = subst (λ k. i < k) (sym (pr.stands).seen_long) h;
+            reach = subst (λ k. AreBelow k g.having) (sym (pr.held).seen_long) (pr.held).reach;
+            groups = subst (λ k. AreGroups g.members g.group_of.items k) (sym (pr.held).seen_long)
+                (pr.held).named;
+            fresh = (pr.held).fresh;
+            place = subst (λ k. i < k) (sym (pr.held).seen_long) h;
           }
 
       -- the clause has its group
@@ -206,10 +206,10 @@ module _ (p : Problem) (i : ℕ) (s : SoftClause) (h : i < length p.soft) (is : 
             cost = total;
             earlier = pr.earlier ++ c ∷ [];
             groups = after (binding p) total c pr.groups;
-            stands =
-                stands_after (lits_at p) p.variables (length p.soft) (binding p) rows others old new
-                pr.cost pr.earlier pr.groups c pr.stands
-                (hards_have_places p (length old.having) limits (omega (arith, (pr.stands).long)))
+            held =
+                groups_after (lits_at p) p.variables (length p.soft) (binding p) rows others old new
+                pr.cost pr.earlier pr.groups c pr.held
+                (hards_have_places p (length old.having) limits (omega (arith, (pr.held).long)))
                 lits_here (is_ready old pr) adds;
             rest =
                 sym (ap (grouped_from (binding p) pr.cost pr.earlier pr.groups)
@@ -222,6 +222,6 @@ module _ (p : Problem) (i : ℕ) (s : SoftClause) (h : i < length p.soft) (is : 
 pub all_grouped : (p : Problem) (g : Grouping) (i : ℕ) → length p.soft ≤ i → Progress p g i
     → g.members ≡ group_rows p
 all_grouped p g i h pr =
-    (pr.stands).members
+    (pr.held).members
     ∙ ap (map row_of) (sym (ap (λ ss. grouped_from (binding p) pr.cost pr.earlier pr.groups
     (placed_from i ss)) (drop_all i p.soft h)) ∙ pr.rest)

@@ -2,11 +2,11 @@
 //! libraries.
 #![tactic(auto)]
 
-mod keeping;
-mod placing;
+mod file_id;
+mod keeper;
+mod onlooker;
 mod progress;
 mod standard_error;
-mod watching;
 
 use adder::cells::Profile;
 use bound::encoding::write_formula;
@@ -14,10 +14,11 @@ use cdcl::budget::Budget;
 use clap::error::ErrorKind;
 use clap::{ArgMatches, Error};
 use explain::explaining::{ExplainFault, write_explanation};
-use keeping::{BestPaths, Keeper};
+use file_id::{FileId, find_file_id, open_proof};
+use keeper::{BestPaths, Keeper};
 use lrat_check::checking::check_from_as;
 use lrat_check::verdicts::{Cause, CheckFault, Verdict};
-use placing::{Place, find_place, open_proof};
+use onlooker::Onlooker;
 use progress::Meter;
 use report::fault::RunFault;
 use report::options::{self, MOST_CONFLICTS, MOST_COST};
@@ -30,7 +31,6 @@ use std::mem::ManuallyDrop;
 use std::process::ExitCode;
 use std::rt::{Clock, Env, Files};
 use std::{env, io};
-use watching::Onlooker;
 use wcnf::faults::{FaultKind, ReadFault};
 use wcnf::reading::read_from;
 use wcnf::whole::read_all;
@@ -64,7 +64,7 @@ fn solve<R: Files + AllocGlobal + Print + Clock, E: Write>(
         return Err(UNREADABLE);
     };
     let mut text = File::open(rt, text).map_err(|_| UNREADABLE)?;
-    let Some(here) = find_place(&text) else {
+    let Some(here) = find_file_id(&text) else {
         return Err(UNREADABLE);
     };
     // `clap` lets no greater effort pass; said again, since nothing is known of that here.
@@ -72,7 +72,7 @@ fn solve<R: Files + AllocGlobal + Print + Clock, E: Write>(
     match matches.get_str("proof") {
         Some(path) => {
             let mut proof = open_proof(rt, path, here)?;
-            let Some(there) = find_place(&proof) else {
+            let Some(there) = find_file_id(&proof) else {
                 return Err(RunFault::ProofOutput);
             };
             solve_kept(
@@ -108,7 +108,7 @@ fn solve_kept<'a, R: Files + AllocGlobal + Print + Clock, E: Write, T: Read, P: 
     mut budget: Budget,
     text: &mut T,
     proof: &mut P,
-    others: [Place; 2],
+    others: [FileId; 2],
 ) -> Result<u8, RunFault> {
     let Some(profile) = read_profile(matches) else {
         return Err(UNREADABLE);

@@ -31,7 +31,7 @@ ghost use Rattle.propagate.specs.Steps.{MayBeWatched, InRow, with_rows, closed, 
 ghost use Rattle.propagate.specs.Queue.{LookSays, StepSays};
 
 use super::Engine;
-use crate::search::find_other_not_false;
+use crate::not_false::find_other_not_false;
 use clauses::store::{CRef, Store};
 use cnf::types::Lit;
 use propagate_watches::pool::Entry;

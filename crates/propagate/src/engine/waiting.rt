@@ -17,7 +17,7 @@ ghost use Rattle.propagate.specs.Steps.{GoesOn, AreTrueWaiting, FindsConflict, W
 ghost use Rattle.propagate.specs.Steps.{IsMadeTrue, is_waiting, watched, with_attachment};
 
 use super::Engine;
-use crate::search::{find_not_false, find_other_not_false, find_other_of_level, gather_rest};
+use crate::not_false::{find_not_false, find_other_not_false, find_other_of_level, gather_rest};
 use clauses::store::{CRef, Store};
 use cnf::types::Lit;
 use propagate_watches::pool::Entry;

@@ -4,7 +4,7 @@ use Rattle.std.proofs.lemmas.List.{take_more, append-nil, get_or_default, length
 use Rattle.cnf.specs.Literal.{Literal, negation}
 use Rattle.clauses.specs.Slots.{clause_at}
 use Rattle.propagate.specs.Trail.{Assigned, literals_of, reason_in}
-use Rattle.analyze.specs.Learning.{chosen_reasons}
+use Rattle.analyze.specs.Analyzer.{chosen_reasons}
 use Rattle.analyze.specs.declared.marks.Mark.TheVariants.{Kept, Resolved}
 use Rattle.analyze.specs.Marks.{mark_at, is_resolved, others_in, resolved_of}
 use Rattle.analyze.specs.Met.{nowhere, variable_at}

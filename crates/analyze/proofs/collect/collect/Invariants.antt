@@ -1,7 +1,7 @@
 use Rattle.std.proofs.Common.{◌≡◌, ◌<◌, ◌≤◌, ◌∷◌, length, get_or, take, vec_capacity}
 use Rattle.cnf.specs.Literal.{negation}
 use Rattle.propagate.specs.Trail.{literals_of}
-use Rattle.analyze.specs.Learning.{chosen_reasons}
+use Rattle.analyze.specs.Analyzer.{chosen_reasons}
 use Rattle.analyze.specs.Marks.{others_in, resolved_of}
 use Rattle.analyze.proofs.collect.collect.Given as goal
 

@@ -5,17 +5,18 @@ use Rattle.analyze.specs.declared.marks.Mark.TheVariants.{Kept}
 use Rattle.analyze.specs.Marks.{mark_at, level_at_variable, IsReducing}
 use Rattle.analyze.proofs.Counting.{current_le}
 use Rattle.analyze.proofs.Reducing.{level_current, reducing_resolved}
-use Rattle.analyze.proofs.Walking.{Stands, stands, stands_last}
+use Rattle.analyze.proofs.Walking.{IsLiteralAt, is_literal_at, reduces_last}
 use Rattle.analyze.proofs.marks.resolve_marked.Goals as goal
 use Rattle.analyze.proofs.marks.resolve_marked.Goals.{After-variable-variable, Then-eq-2}
 
 -- the literal at the position
 here : (c : After-variable-variable)
-    → Stands c.args.engine.now c.args.store.now.slots c.in-Some.position
+    → IsLiteralAt c.args.engine.now c.args.store.now.slots c.in-Some.position
     c.index-trail-position.result c.variable-variable.result
 here c =
     let i = c.loop-position.invariant in
-    stands c.args.engine.now c.args.store.now.slots c.trail-trail.result.now c.in-Some.position
+    is_literal_at c.args.engine.now c.args.store.now.slots c.trail-trail.result.now
+    c.in-Some.position
     c.index-trail-position.result c.variable-variable.result c.requires.fits i.literals
     (let low = c.in-Some.ensures in let within = i.within in omega arith)
     c.index-trail-position.is c.variable-variable.ensures.variable
@@ -40,7 +41,7 @@ returns-then-left-eq1-clause-reduces c =
     let e = c.args.engine.now in
     let slots = c.args.store.now.slots in
     let M = c.loop-position.marks in
-    stands_last e slots c.args.marks.now M c.in-Some.position c.index-trail-position.result
+    reduces_last e slots c.args.marks.now M c.in-Some.position c.index-trail-position.result
     c.variable-variable.result
     (here (goal.at.returns-then-left-eq1-clause-reduces c).After-variable-variable) kept
     (level (goal.at.returns-then-left-eq1-clause-reduces c).Then-eq-2)

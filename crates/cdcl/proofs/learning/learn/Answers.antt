@@ -4,7 +4,7 @@ use Rattle.std.specs.Prelude.{All}
 use Rattle.propagate.specs.Trail.{depth_of, kept_to}
 use Rattle.propagate.specs.Watches.{is_attached}
 use Rattle.propagate.specs.Fits.{IsWithin}
-use Rattle.analyze.specs.Learning.{IsRefutedBy}
+use Rattle.analyze.specs.Analyzer.{IsRefutedBy}
 use Rattle.lrat_log.specs.declared.lines.Kind.TheVariants.{Learned}
 use Rattle.lrat_log.specs.Log.{LogLine}
 use Rattle.cdcl.specs.declared.search.Search.{Search}
@@ -141,7 +141,7 @@ returns-clause-learns g c =
     (subst (All (λ x. x ≤ s.additions + 1)) (sym stamps) c.hints_of.ensures.past) in
     let on : Runs n p (ls ++ l ∷ []) =
     runs_learned m n p ls l T learned.back_level moved c.backtrack.ensures.ready.room past
-    lesson.asserting trail lesson.adds c.in_ok-reference.ensures.placed
+    lesson.asserting trail lesson.adds c.in_ok-reference.ensures.stored
     c.in_ok-reference.ensures.additions c.in_ok-reference.ensures.few in
     let written : Runs n p (g.S.Sink.lines c.add_line.new.sink) =
     subst (Runs n p) (sym c.in_ok-reference.ensures.lines) on in
@@ -152,7 +152,7 @@ returns-clause-learns g c =
     record {
       runs = runs_chosen n c.note_learned.new.self p _
           (ap (λ x. x.variables) c.note_learned.ensures) written;
-      variables = c.in_ok-reference.ensures.placed.variables ∙ same;
+      variables = c.in_ok-reference.ensures.stored.variables ∙ same;
       writes =
           subst (λ x. Writes p.given ls x 1) (sym c.in_ok-reference.ensures.lines)
           (writes_learned p.given ls l refl lesson.adds

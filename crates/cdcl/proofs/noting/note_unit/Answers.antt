@@ -9,7 +9,7 @@ use Rattle.clauses.specs.Slots.{clause_at}
 use Rattle.propagate.specs.Trail.{Assigned, literals_of, reason_in}
 use Rattle.propagate.specs.Watches.{is_attached, IsVariable}
 use Rattle.cdcl.specs.declared.search.Search.{Search}
-use Rattle.cdcl.specs.Running.{Runs, HasRoom, Places, Writes}
+use Rattle.cdcl.specs.Running.{Runs, HasRoom, Stores, Writes}
 use Rattle.cdcl.proofs.HintNames.{hint_ids}
 use Rattle.cdcl.proofs.Placing.{literal_small}
 use Rattle.cdcl.proofs.UnitLines.{flat_reason, IsNext, is_next, next_noted, adds_unit, runs_noted}
@@ -112,7 +112,7 @@ index_mut-requires g c =
     let s = c.args.search.now in
     let small = named g (goal.at.index_mut-requires g c).After-index-trail-search in
     let same : length (c.add_line.new.self.units).items ≡ length (s.units).items =
-    ap (λ v. length v.items) c.in_ok-unit.ensures.placed.units
+    ap (λ v. length v.items) c.in_ok-unit.ensures.stored.units
     ∙ ap (λ (x : Search). length (x.units).items) c.hints_of.ensures.only_stamps in
     let room = c.requires.runs.room.units in
     let v = c.variable.ensures.variable in
@@ -143,9 +143,9 @@ returns-clause-notes g c =
     let only : c.hints_of.new.self ≡ stamped = c.hints_of.ensures.only_stamps in
     let room : HasRoom stamped = subst HasRoom only c.hints_of.ensures.ready.room in
     let A : List Literal = literals_of T in
-    let placed : Places stamped c.add_line.new.self (Added (s.additions + 1)) (k ∷ []) =
-    subst (λ (x : Search). Places x c.add_line.new.self (Added (x.additions + 1)) (k ∷ [])) only
-    c.in_ok-unit.ensures.placed in
+    let stored : Stores stamped c.add_line.new.self (Added (s.additions + 1)) (k ∷ []) =
+    subst (λ (x : Search). Stores x c.add_line.new.self (Added (x.additions + 1)) (k ∷ [])) only
+    c.in_ok-unit.ensures.stored in
     let first : k ≡ get_or A s.noted (positive 0) =
     at ∙ get_or_default A s.noted k (positive 0)
     (let long : length A ≡ length T = length-map T (λ (x : Assigned). x.literal) in
@@ -159,7 +159,7 @@ returns-clause-notes g c =
           c.add_line.new.self _ c.args.input.now (g.S.Sink.lines c.args.sink.now)
           c.in_ok-hints.hints.items k (c.variable.result - 1) c.in_ok-unit.unit run room
           c.hints_of.ensures.past
-          c.requires.flat c.requires.next at adds placed
+          c.requires.flat c.requires.next at adds stored
           (c.in_ok-unit.ensures.additions ∙ ap (λ (x : Search). x.additions + 1) only)
           c.in_ok-unit.ensures.few
           (ap (λ x. x - 1) c.variable.ensures.variable)
@@ -177,11 +177,11 @@ returns-clause-notes g c =
             policy = refl;
             analyzer = refl;
           }));
-      noted = ap (λ n. n + 1) placed.noted;
-      trail = placed.trail;
-      variables = placed.variables;
-      policy = placed.policy;
-      slots = placed.slots ∙ ap (λ x. slots ++ Some (x ∷ []) ∷ []) first;
+      noted = ap (λ n. n + 1) stored.noted;
+      trail = stored.trail;
+      variables = stored.variables;
+      policy = stored.policy;
+      slots = stored.slots ∙ ap (λ x. slots ++ Some (x ∷ []) ∷ []) first;
       writes =
           subst (λ x. Writes c.args.input.now.given (g.S.Sink.lines c.args.sink.now) x 0)
           (sym c.in_ok-unit.ensures.lines)

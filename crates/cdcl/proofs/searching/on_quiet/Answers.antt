@@ -2,7 +2,7 @@ use Rattle.std.proofs.Common.{◌≡◌, List, length, subst, sym, ◌∙◌, ap
 use Rattle.propagate.specs.Trail.{Assigned, literals_of}
 use Rattle.propagate.specs.Watches.{EngineState}
 use Rattle.clauses.specs.Slots.{StoreState}
-use Rattle.analyze.specs.Learning.{IsQuiet}
+use Rattle.analyze.specs.Analyzer.{IsQuiet}
 use Rattle.cdcl_order.specs.Orders.{AreClosed}
 use Rattle.cdcl_order.specs.Policies.{PolicyState}
 use Rattle.cdcl.specs.declared.search.Search.{Search}

@@ -4,7 +4,7 @@ use Rattle.std.specs.Prelude.{IfNone}
 use Rattle.std.proofs.lemmas.Result.{IfOk-weaker}
 use Rattle.propagate.specs.Trail.{depth_of, kept_to, literals_of}
 use Rattle.propagate.proofs.Laws.{kept_low}
-use Rattle.analyze.specs.Learning.{IsQuiet}
+use Rattle.analyze.specs.Analyzer.{IsQuiet}
 use Rattle.cdcl.specs.declared.searching.End.TheVariants.{Refuted}
 use Rattle.cdcl.specs.Solving.{IsLiveRefuted}
 use Rattle.cdcl.specs.Running.{IsEndOf}

@@ -10,7 +10,7 @@ use Rattle.sums_tree.specs.Groups.{grouped, group_rows}
 use Rattle.sums_tree.specs.Connections.{groups_with}
 use Rattle.sums_tree.specs.Looking.{row_at}
 use Rattle.sums_tree.specs.Homes.{clause_at, occurs}
-use Rattle.sums_tree.proofs.Standing.{row_of}
+use Rattle.sums_tree.proofs.GroupTables.{row_of}
 use Rattle.sums_tree.proofs.Members.{row_below, occurs_in, variables_below}
 use Rattle.sums_tree.proofs.Touching.{with_group}
 use Rattle.sums_tree.proofs.homes.homes_of.Goals as goal

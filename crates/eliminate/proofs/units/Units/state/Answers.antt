@@ -5,8 +5,8 @@ use Rattle.cnf.specs.Literal.{Literal, negation}
 use Rattle.cnf.specs.Marks.{mark_of, HasPlace}
 use Rattle.eliminate.specs.declared.units.Units.{Units}
 use Rattle.eliminate.specs.Units.{IsSettled}
-use Rattle.eliminate.proofs.ClauseStates.{HasStatusSoFar, settled_true, status_false, status_open}
-use Rattle.eliminate.proofs.ClauseStates.{status_second, literal_place, mark_says}
+use Rattle.eliminate.proofs.ClauseStates.{HasStateSoFar, settled_true, state_false, state_open}
+use Rattle.eliminate.proofs.ClauseStates.{state_second, literal_place, mark_says}
 use Rattle.cnf.proofs.Laws.{at_contains}
 use Rattle.eliminate.proofs.units.Units.state.Goals as goal
 use Rattle.eliminate.proofs.units.Units.state.Goals.{then-not-is_marked+in-Falsified}
@@ -56,13 +56,13 @@ returns-in-Unit c d at =
     let open_one = mark_says u c.args.store.now.slots (negation l) false c.requires.units place.0
     (c.if-not-is_marked.ensures ∙ ap (mark_of u.values) c.negation.ensures) in
     subst (IsSettled u.trail.items) (same_Some lits d (sym c.lits-lit-items.ensures ∙ at))
-    (status_second u.trail.items lits i l c.in-Unit.field-0 f.no_repeat (omega arith) c.lit-item.is
-    open_one (subst (HasStatusSoFar u.trail.items (take i lits)) c.in-Unit.is
+    (state_second u.trail.items lits i l c.in-Unit.field-0 f.no_repeat (omega arith) c.lit-item.is
+    open_one (subst (HasStateSoFar u.trail.items (take i lits)) c.in-Unit.is
     c.loop-lit.invariant))
 
 pub unreachable-requires : goal.unreachable-requires
 unreachable-requires c =
-    subst (HasStatusSoFar c.args.self.now.trail.items
+    subst (HasStateSoFar c.args.self.now.trail.items
     (take c.loop-lit.lit-index c.lits-lit-items.result.now)) c.in-Settled.is c.loop-lit.invariant
 
 pub loop-lit-preserved : goal.loop-lit-preserved
@@ -83,15 +83,15 @@ loop-lit-preserved c =
           let not_false =
           mark_says u c.args.store.now.slots (negation l) false c.requires.units place.0
           (w.if-not-is_marked.ensures ∙ ap (mark_of u.values) c.negation.ensures) in
-          subst (HasStatusSoFar u.trail.items (take (i + 1) lits)) (sym w.found-is)
-          (status_open u.trail.items lits i l (omega arith) c.lit-item.is not_true not_false
-          (subst (HasStatusSoFar u.trail.items (take i lits)) w.in-Falsified.is
+          subst (HasStateSoFar u.trail.items (take (i + 1) lits)) (sym w.found-is)
+          (state_open u.trail.items lits i l (omega arith) c.lit-item.is not_true not_false
+          (subst (HasStateSoFar u.trail.items (take i lits)) w.in-Falsified.is
           c.loop-lit.invariant))
       | else-not-is_marked w ↦
           let is_false =
           mark_says u c.args.store.now.slots (negation l) true c.requires.units place.0
           (w.if-not-is_marked.ensures ∙ ap (mark_of u.values) c.negation.ensures) in
-          subst (HasStatusSoFar u.trail.items (take (i + 1) lits)) (sym w.found-is)
-          (status_false u.trail.items lits i l c.loop-lit.found (omega arith) c.lit-item.is is_false
+          subst (HasStateSoFar u.trail.items (take (i + 1) lits)) (sym w.found-is)
+          (state_false u.trail.items lits i l c.loop-lit.found (omega arith) c.lit-item.is is_false
           c.loop-lit.invariant)
     ]

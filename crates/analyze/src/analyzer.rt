@@ -1,0 +1,226 @@
+// First unique implication point.
+ghost use Rattle.std.specs.Prelude.{◌≡◌, ◌+◌, ◌<◌, ◌≤◌, [], length, vec_capacity, All, IfOk};
+ghost use Rattle.std.specs.Prelude.{IfSome};
+ghost use Rattle.analyze.specs.Marks.{IsClear};
+ghost use Rattle.analyze.specs.Met.{HasMet};
+ghost use Rattle.clauses.specs.Slots.{IsLive, clause_at};
+ghost use Rattle.propagate.specs.Trail.{depth_of};
+ghost use Rattle.propagate.specs.Fits.{Fits};
+ghost use Rattle.analyze.specs.Analyzer.{IsAsserting, IsConflict, IsInTrailOrder, IsRefutedBy};
+ghost use Rattle.analyze.specs.Analyzer.{CanLearn, Learns};
+
+use crate::collect::{collect, greatest};
+use crate::marks::{Mark, clear, mark_clause, resolve};
+use crate::minimise::{Idea, NOWHERE, Step, meet_reasons, minimise};
+use crate::ordering::put_in_order;
+use crate::positions::Positions;
+use clauses::store::{CRef, Store};
+use cnf::types::Lit;
+use propagate::engine::Engine;
+use smallvec::SmallVec;
+use std::alloc::{AllocError, Global};
+use std::marker::Model;
+
+/// Learned clauses of so many literals or fewer keep them inline, so that they take no memory
+/// beside their hints.
+pub const SHORT: usize = 8;
+
+/// A clause that follows, and what shows it.
+#[derive(Drop)]
+pub struct Learned {
+    /// The first is the asserting literal, the only one of the current level. The others are of
+    /// lower levels above 0.
+    pub lits: SmallVec<Lit, SHORT>,
+    /// The greatest level of the other literals, or 0.
+    pub back_level: u32,
+    /// Clauses that are unit in turn where all these literals are false and those of level 0 hold,
+    /// in the order of the trail, and last one that is false then.
+    pub hints: Vec<CRef>,
+}
+
+/// Learns clauses, with memory that it keeps between calls: by the first unique implication point,
+/// and then without the literals that follow from the others (Handbook of Satisfiability, chapter
+/// 4; Sörensson and Biere 2009).
+#[derive(Drop)]
+pub struct Analyzer {
+    // By variable, from 0, which no literal has: what the analysis at work knows of it, and all
+    // clear between calls.
+    marks: Vec<Mark>,
+    // The variables that are marked, by their positions on the trail; between calls, those that the
+    // last analysis met. It has room for all variables.
+    met: Vec<u32>,
+    // These positions once more; nothing is taken in between calls.
+    marked: Positions,
+    // By variable: what the minimisation at work knows of it, and all unknown between calls.
+    ideas: Vec<Idea>,
+    // The variables that a minimisation begins with; between calls, those beside what was learned.
+    // It has room for all variables.
+    queue: Vec<u32>,
+    // By level: the first position of a literal of it in the clause, and nowhere between calls.
+    firsts: Vec<u32>,
+    // The way of a minimisation back over the reasons. It has room for all variables.
+    path: Vec<Step>,
+    // The variables of which a minimisation knows whether they are redundant. It has room for all.
+    settled: Vec<u32>,
+}
+
+impl Model for Analyzer {
+    ghost use Rattle.std.specs.Prelude.{ℕ, length, vec_capacity};
+    ghost use Rattle.analyze.specs.Met.{IsAtRest};
+
+    ghost Value = { ℕ };
+
+    ghost view = { λ a. length a.marks.items };
+
+    ghost invariant = { λ a. IsAtRest a.marks.items a.met.items (vec_capacity a.met) };
+}
+
+impl Analyzer {
+    /// One for engines that have so many variables or fewer.
+    ///
+    /// # Errors
+    ///
+    /// `AllocError` where memory was refused.
+    pub fn new(alloc: Global, variables: u32) -> Result<Self, AllocError>
+        ensures { IfOk result (λ a. a ≡ variables + 1) }
+    {
+        let count = variables as usize + 1;
+        let marks = Vec::from_elem(alloc, Mark::Clear, count)?;
+        let met = Vec::with_capacity(alloc, count)?;
+        let marked = Positions::new(alloc, variables)?;
+        let ideas = Vec::from_elem(alloc, Idea::Unknown, count)?;
+        let queue = Vec::with_capacity(alloc, count)?;
+        let firsts = Vec::from_elem(alloc, NOWHERE, count)?;
+        let path = Vec::with_capacity(alloc, count)?;
+        let settled = Vec::with_capacity(alloc, count)?;
+        Ok(Analyzer {
+            marks,
+            met,
+            marked,
+            ideas,
+            queue,
+            firsts,
+            path,
+            settled,
+        })
+    }
+
+    /// Learns a clause from one that is false and has a literal of the current level. Beside the
+    /// clause and its hints it takes no memory. Its time is that of the clauses that it reads, and
+    /// a step for each 4096 variables.
+    ///
+    /// # Errors
+    ///
+    /// `AllocError` where memory was refused. Nothing has changed then.
+    pub fn analyze(
+        &mut self,
+        engine: &Engine,
+        store: &Store,
+        conflict: CRef,
+    ) -> Result<Learned, AllocError>
+        requires fits { Fits engine.now store.now.slots }
+        requires live { IsLive store.now.slots conflict }
+        requires falsified { IfSome (clause_at store.now.slots conflict)
+            (IsConflict engine.now.trail) }
+        requires deep { 0 < depth_of engine.now.trail }
+        requires room { engine.now.variables < self.old }
+        ensures asserting { IfOk result (λ learned.
+            IsAsserting engine.now.trail learned.lits.items learned.back_level) }
+        ensures hints { IfOk result (λ learned. IsRefutedBy store.now.slots engine.now.trail
+            learned.lits.items learned.hints.items) }
+        ensures order { IfOk result (λ learned.
+            IsInTrailOrder engine.now.trail conflict learned.hints.items) }
+        ensures unchanged { self.new ≡ self.old }
+    {
+        self.met.clear();
+        let alloc = store.allocator();
+        let learned = learn(
+            alloc,
+            engine,
+            store,
+            conflict,
+            &mut self.marks,
+            &mut self.met,
+            &mut self.marked,
+            &mut self.ideas,
+            &mut self.queue,
+            &mut self.firsts,
+            &mut self.path,
+            &mut self.settled,
+        );
+        clear(engine, &mut self.marks, &mut self.met);
+        learned
+    }
+
+    /// The variables that the last analysis met.
+    pub fn met(&self) -> &[u32]
+        ensures { All (λ v. (0 < v) × (v < self.now)) result.now }
+    {
+        &self.met
+    }
+
+    /// The variables of the reasons of what was learned last that its analysis did not meet, each
+    /// once.
+    pub fn beside(&self) -> &[u32] {
+        &self.queue
+    }
+}
+
+/// Learns one clause, as [`Analyzer::analyze`] does, with memory of its own for each variable.
+///
+/// # Errors
+///
+/// `AllocError` where memory was refused.
+pub fn analyze(engine: &Engine, store: &Store, conflict: CRef) -> Result<Learned, AllocError>
+    requires { CanLearn engine.now store.now.slots conflict }
+    ensures { IfOk result (Learns store.now.slots engine.now.trail conflict) }
+{
+    let mut analyzer = Analyzer::new(store.allocator(), engine.variables())?;
+    analyzer.analyze(engine, store, conflict)
+}
+
+/// Learns a clause, with a clear mark for each variable, and lists what it marks.
+fn learn(
+    alloc: Global,
+    engine: &Engine,
+    store: &Store,
+    conflict: CRef,
+    marks: &mut [Mark],
+    met: &mut Vec<u32>,
+    marked: &mut Positions,
+    ideas: &mut [Idea],
+    queue: &mut Vec<u32>,
+    firsts: &mut [u32],
+    path: &mut Vec<Step>,
+    settled: &mut Vec<u32>,
+) -> Result<Learned, AllocError>
+    requires can { CanLearn engine.now store.now.slots conflict }
+    requires room { engine.now.variables < length marks.old }
+    requires clear { IsClear marks.old }
+    requires none { met.old.items ≡ [] }
+    requires spare { length marks.old ≤ vec_capacity met.old }
+    ensures learns { IfOk result (Learns store.now.slots engine.now.trail conflict) }
+    ensures listed { HasMet engine.now.trail marks.new met.new.items }
+    ensures long { length marks.new ≡ length marks.old }
+    ensures spare { length marks.old ≤ vec_capacity met.new }
+{
+    let count = mark_clause(engine, store.lits(conflict), marks, met, marked);
+    let asserting = resolve(engine, store, count, marks, met, marked);
+    minimise(
+        engine, store, asserting, marks, met, marked, ideas, queue, firsts, path, settled,
+    );
+    put_in_order(engine, marks, met, marked, queue);
+    let mut lits = SmallVec::new(alloc);
+    // Room for all at once, so that they do not grow step by step.
+    let mut hints = Vec::with_capacity(alloc, met.len() + 1)?;
+    collect(
+        engine, asserting, conflict, marks, met, &mut lits, &mut hints,
+    )?;
+    let back_level = greatest(engine, &lits.as_slice()[1..]);
+    meet_reasons(engine, store, lits.as_slice(), marks, ideas, queue);
+    Ok(Learned {
+        lits,
+        back_level,
+        hints,
+    })
+}

@@ -1,0 +1,85 @@
+// Where the clauses of a text stand, with the comments above them. The text reads as an instance:
+// what is no clause there is blank, a comment, or the header of the older form.
+use std::alloc::{AllocError, Global};
+use text::cutting::{lines, tokens};
+
+/// A clause as the text has it.
+#[derive(Clone, Copy)]
+pub(crate) struct ClauseLine<'a> {
+    /// The number of its line, from 1.
+    pub(crate) line: u64,
+    /// The line.
+    pub(crate) text: &'a [u8],
+    /// The last comment above it, unless a blank line or an empty comment is between; else empty.
+    pub(crate) comment: &'a [u8],
+}
+
+/// The lines of soft clauses, and of some hard ones.
+#[derive(Drop)]
+pub(crate) struct ClauseLines<'a> {
+    /// Of all soft clauses, in their order.
+    pub(crate) soft: Vec<ClauseLine<'a>>,
+    /// Of the hard clauses that were asked for, in their order.
+    pub(crate) hard: Vec<ClauseLine<'a>>,
+    // How many hard clauses were met.
+    hard_count: u32,
+}
+
+impl<'a> ClauseLines<'a> {
+    /// Those of all soft clauses of the text, and of the hard ones with these numbers, which
+    /// count from 0 and rise.
+    pub(crate) fn of(alloc: Global, text: &'a [u8], wanted: &[u32]) -> Result<Self, AllocError> {
+        let mut clauses = ClauseLines {
+            soft: Vec::new(alloc),
+            hard: Vec::new(alloc),
+            hard_count: 0,
+        };
+        // The first token of a hard clause: in the older form the weight that the header says.
+        let mut hard_word: &[u8] = b"h";
+        let mut comment: &[u8] = b"";
+        for (line, text) in lines(text) {
+            let clause = ClauseLine {
+                line,
+                text,
+                comment,
+            };
+            match tokens(text).next() {
+                None => comment = b"",
+                Some([b'c']) => comment = comment_in(text),
+                Some([b'c', ..]) => comment = text,
+                Some([b'p']) => hard_word = last_token(text),
+                Some(word) if word == hard_word => clauses.add_hard(clause, wanted)?,
+                Some(_) => clauses.soft.push(clause)?,
+            }
+        }
+        Ok(clauses)
+    }
+
+    /// A hard clause comes, which is kept where it was asked for.
+    fn add_hard(&mut self, clause: ClauseLine<'a>, wanted: &[u32]) -> Result<(), AllocError> {
+        if wanted.get(self.hard.len()) == Some(&self.hard_count) {
+            self.hard.push(clause)?;
+        }
+        self.hard_count = self.hard_count.saturating_add(1);
+        Ok(())
+    }
+}
+
+/// The line of a comment; nothing where it has no word but the `c`.
+fn comment_in(line: &[u8]) -> &[u8] {
+    let mut words = tokens(line);
+    let _ = words.next();
+    match words.next() {
+        None => b"",
+        Some(_) => line,
+    }
+}
+
+/// The last token of a line; nothing where it has none.
+fn last_token(line: &[u8]) -> &[u8] {
+    let mut last: &[u8] = b"";
+    for token in tokens(line) {
+        last = token;
+    }
+    last
+}

@@ -1,0 +1,28 @@
+use Rattle.std.proofs.Common.{◌≡◌, ◌++◌, length, ap, arith, ◌∙◌}
+use Rattle.sums.specs.Sums.{joined, named_from, numbers, rising, sums_with}
+use Rattle.sums.proofs.Making.{joined_length, too_many}
+use Rattle.sums.proofs.builder.Builder.join_both.Goals as goal
+
+pub returns-then-not-has_room-3-clause-many : goal.returns-then-not-has_room-3-clause-many
+returns-then-not-has_room-3-clause-many c =
+    let v = c.args.self.now.fresh in
+    let xs = c.args.left.now in
+    let ys = c.args.right.now in
+    too_many (length c.args.self.now.clauses) _ (length (joined v xs ys).clauses)
+    c.has_room-3.result c.has_room-3.ensures c.if-not-has_room-3.true
+    (omega (arith, joined_length v xs ys))
+
+pub returns-then-not-has_room-4-clause-many : goal.returns-then-not-has_room-4-clause-many
+returns-then-not-has_room-4-clause-many c =
+    let v = c.args.self.now.fresh in
+    let xs = c.args.left.now in
+    let ys = c.args.right.now in
+    let list : c.in_ok-list.list ≡ (joined v xs ys).list =
+    c.in_ok-list.ensures.list
+    ∙ ap (λ ns. named_from v (rising ns)) (c.in_ok-push_sums.ensures
+    ∙ ap (λ ns. ns ++ sums_with xs ys) (c.in_ok-push_numbers-2.ensures
+    ∙ ap (λ ns. ns ++ numbers ys) (c.in_ok-push_numbers.ensures
+    ∙ ap (λ ns. ns ++ numbers xs) c.new-all.ensures.items))) in
+    too_many (length c.args.self.now.clauses) _ (length (joined v xs ys).clauses)
+    c.has_room-4.result c.has_room-4.ensures c.if-not-has_room-4.true
+    (omega (arith, joined_length v xs ys, ap length list, c.len.ensures, c.saturating_sub.ensures))

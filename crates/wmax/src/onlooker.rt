@@ -1,0 +1,54 @@
+//! Who looks on while a run goes, for `--best` and `--progress`.
+use crate::keeper::Keeper;
+use crate::progress::Meter;
+use crate::standard_error::Messages;
+use cdcl::watch::SearchReport;
+use improve::found::Found;
+use improve::watch::Watch;
+use report::best::Keep;
+use std::io::Write;
+use std::rt::{Clock, Files};
+use wcnf::types::Instance;
+
+/// Keeps the best solution, tells how far the run is, both or neither.
+#[derive(Drop)]
+pub struct Onlooker<'a, 'b, R: Files + Clock, E: Write> {
+    /// What keeps the best solution.
+    pub keeper: Keeper<'a, R>,
+    /// What tells how far the run is, if it is to be told.
+    pub meter: Option<Meter<'a, R>>,
+    /// Where both tell something.
+    pub messages: &'a mut Messages<'b, E>,
+}
+
+impl<'a, 'b, R: Files + Clock + AllocGlobal, E: Write> cdcl::watch::Watch
+    for Onlooker<'a, 'b, R, E> {
+    fn learned(&mut self, report: &SearchReport) {
+        if let Some(meter) = &mut self.meter {
+            meter.learned(report, self.messages);
+        }
+    }
+}
+
+impl<'a, 'b, R: Files + Clock + AllocGlobal, E: Write> Watch for Onlooker<'a, 'b, R, E> {
+    fn better(&mut self, instance: &Instance, cost: u64, bits: &[bool]) {
+        self.keeper.better(instance, cost, bits, self.messages);
+        if let Some(meter) = &mut self.meter {
+            meter.better(cost, self.messages);
+        }
+        self.messages.give_way();
+    }
+}
+
+impl<'a, 'b, R: Files + Clock + AllocGlobal, E: Write> Keep for Onlooker<'a, 'b, R, E> {
+    fn searched(&mut self) {
+        if let Some(meter) = &mut self.meter {
+            meter.searched(self.messages);
+        }
+        self.messages.give_way();
+    }
+
+    fn ended(&mut self, instance: &Instance, found: &Found) {
+        self.keeper.ended(instance, found, self.messages);
+    }
+}
