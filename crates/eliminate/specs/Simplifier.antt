@@ -1,13 +1,15 @@
 -- What a simplifier's tables say of the store and the log: that together they are a simplified form
 -- of some formula.
-use Rattle.std.specs.Prelude.{◌≡◌, ℕ, ◌*◌, ◌+◌, ◌<◌, ◌≤◌, ◌^◌, true, false, List, [], length}
+use Rattle.std.specs.Prelude.{◌≡◌, ℕ, ◌*◌, ◌+◌, ◌<◌, ◌≤◌, true, false, List, [], length}
 use Rattle.std.specs.Prelude.{Some, All, Contains, Result, MatchResult}
 use Rattle.cnf.specs.Literal.{Literal}
 use Rattle.cnf.specs.Formula.{IsFormulaClause}
+use Rattle.cnf.specs.declared.limits.TheConstants.{FORMULA_VARIABLE_LIMIT}
 use Rattle.clauses.specs.Slots.{Slots, clause_at, live_clauses}
 use Rattle.lrat_log.specs.Log.{LogLine, IsLine, is_learned}
 use Rattle.lrat_log.specs.Steps.{given_of, StaysLogOver, AddsNoEmptyClause, learned_count}
 use Rattle.lrat_log.specs.Steps.{IsOwnGroup}
+use Rattle.eliminate.specs.declared.ending.TheConstants.{MOST_FRESH}
 use Rattle.eliminate.specs.declared.simplifier.Simplifier.{Simplifier}
 use Rattle.eliminate.specs.Elimination.{is_eliminated}
 use Rattle.lrat_log.specs.Steps.{added_count}
@@ -20,9 +22,9 @@ pub record IsSimplified (start : Start) (s : Simplifier) (slots : Slots) (lines 
   pub state : IsState start s.vars slots s.names.names lines s.occurrences s.removals
   pub counted : s.names.additions ≡ added_count lines
   pub marks : length s.marks ≡ 2 * s.vars
-  pub few : length start.frozen < 2 ^ 26
+  pub few : length start.frozen < FORMULA_VARIABLE_LIMIT
   pub given : length start.frozen ≤ s.vars
-  pub fresh : s.vars ≤ length start.frozen + 2 ^ 20
+  pub fresh : s.vars ≤ length start.frozen + MOST_FRESH
   pub going : s.is_refuted ≡ false → AddsNoEmptyClause lines
   pub refuted : s.is_refuted ≡ true → Contains (live_clauses slots) []
 
