@@ -1,5 +1,5 @@
 -- Learned clauses that are marked, detached and deleted.
-use Rattle.std.specs.Prelude.{◌≡◌, ℕ, ◌<◌, ◌≤◌, ◌^◌, Bool, true, false, not, List, length, Some}
+use Rattle.std.specs.Prelude.{◌≡◌, ℕ, ◌<◌, ◌≤◌, Bool, true, false, not, List, length, Some}
 use Rattle.std.specs.Prelude.{All, slice_index_or}
 use Rattle.cnf.specs.Literal.{Literal}
 use Rattle.clauses.specs.Slots.{clause_at, IsLive}
@@ -8,6 +8,7 @@ use Rattle.propagate.specs.Watches.{is_attached}
 use Rattle.propagate.specs.Doomed.{is_doomed}
 use Rattle.propagate.specs.Fits.{Fits}
 use Rattle.analyze.specs.Analyzer.{IsQuiet}
+use Rattle.lrat_log.specs.declared.log.TheConstants.{LINE_LIMIT}
 use Rattle.lrat_log.specs.Log.{LogLine}
 use Rattle.cdcl.specs.declared.input.Input.{Input}
 use Rattle.cdcl.specs.declared.search.Search.{Search}
@@ -40,7 +41,7 @@ pub record IsDeleting (s : Search) (p : Input) (ls : List LogLine)
       (s.units).items s.noted
   pub room : HasRoom s
   pub past : All (λ n. n ≤ s.additions) (s.stamps).items
-  pub few : s.additions < 2 ^ 61
+  pub few : s.additions < LINE_LIMIT
   pub long : length doomed ≡ length (s.store).slots
   pub droppable : (r : ℕ) (c : List Literal) → clause_at (s.store).slots r ≡ Some c
       → is_doomed doomed r ≡ true

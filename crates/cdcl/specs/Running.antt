@@ -1,10 +1,11 @@
 -- What holds of a search between its moves, and what moves do.
-use Rattle.std.specs.Prelude.{◌≡◌, ℕ, ◌+◌, ◌<◌, ◌≤◌, ◌^◌, Bool, true, false, List, [], ◌∷◌, ◌++◌}
+use Rattle.std.specs.Prelude.{◌≡◌, ℕ, ◌+◌, ◌<◌, ◌≤◌, Bool, true, false, List, [], ◌∷◌, ◌++◌}
 use Rattle.std.specs.Prelude.{length, take, map, Some, All, Result}
 use Rattle.cnf.specs.Literal.{Literal}
 use Rattle.cnf.specs.Clause.{greatest_variable}
 use Rattle.cnf.specs.Lrat.{IsId}
 use Rattle.cnf.specs.Formula.{IsFormulaClause}
+use Rattle.cnf.specs.declared.limits.TheConstants.{VARIABLE_LIMIT, FORMULA_VARIABLE_LIMIT}
 use Rattle.propagate.specs.Trail.{literals_of}
 use Rattle.propagate.specs.Watches.{SetsAttached}
 use Rattle.propagate.specs.Fits.{Fits}
@@ -12,6 +13,7 @@ use Rattle.analyze.specs.Analyzer.{IsQuiet}
 use Rattle.cdcl_order.specs.Budgets.{BudgetState, left_of}
 use Rattle.cdcl_order.specs.Orders.{AreClosed}
 use Rattle.lrat_log.specs.declared.lines.Name.{Name}
+use Rattle.lrat_log.specs.declared.log.TheConstants.{LINE_LIMIT}
 use Rattle.lrat_log.specs.Log.{LogLine, Given, number_in}
 use Rattle.lrat_log.specs.Steps.{StaysLogOver, AddsNoEmptyClause, IsBaseOf, given_of, learned_count}
 use Rattle.lrat_log.specs.Steps.{IsLearnedOrShort, LearnsNew, nothing_exempt}
@@ -39,7 +41,7 @@ tables_of s = record {
 pub record HasRoom (s : Search) : Type 0 where
   pub policy : (s.policy).variables ≡ (s.engine).variables
   pub analyzer : (s.engine).variables < s.analyzer
-  pub few : (s.engine).variables < 2 ^ 27
+  pub few : (s.engine).variables < VARIABLE_LIMIT
   pub stamps : length (s.stamps).items ≡ (s.engine).variables
   pub units : length (s.units).items ≡ (s.engine).variables
 
@@ -56,7 +58,7 @@ pub record Runs (s : Search) (p : Input) (ls : List LogLine) : Type 0 where
   pub room : HasRoom s
   -- no line before the next addition has its number as a stamp
   pub past : All (λ n. n ≤ s.additions) (s.stamps).items
-  pub few : s.additions < 2 ^ 61
+  pub few : s.additions < LINE_LIMIT
 
 -- what is known of the clauses given
 pub record IsInput (p : Input) : Type 0 where
@@ -65,8 +67,8 @@ pub record IsInput (p : Input) : Type 0 where
       ≡ take p.first p.given
   pub first_within : p.first ≤ length p.given
   pub based : (base : ℕ) × IsBaseOf p.given base
-  pub few_given : length (p.frozen).items < 2 ^ 26
-  pub few : (p.stack).variables < 2 ^ 27
+  pub few_given : length (p.frozen).items < FORMULA_VARIABLE_LIMIT
+  pub few : (p.stack).variables < VARIABLE_LIMIT
   pub no_fewer : length (p.frozen).items ≤ (p.stack).variables
   pub given_small : All (λ g. IsFormulaClause (length (p.frozen).items) g.1) p.given
 
