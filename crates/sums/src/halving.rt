@@ -7,6 +7,7 @@ use crate::builder::Builder;
 use crate::halts::Halt;
 use crate::lists::AtLeast;
 use cnf::clause_list::ClauseList;
+use cnf::limits::FORMULA_VARIABLE_LIMIT;
 use std::alloc::{AllocError, Global};
 
 /// What is left of a digit's list, and what it carries.
@@ -60,7 +61,7 @@ fn halve_list(builder: &mut Builder, list: &[AtLeast]) -> Result<Halves, Halt>
     if !builder.has_room(list.len() / 2 + list.len() % 2) {
         return Err(Halt::TooMany);
     }
-    if builder.fresh >= VARIABLE_LIMIT {
+    if builder.fresh >= FORMULA_VARIABLE_LIMIT {
         return Err(Halt::Memory);
     }
     let alloc = builder.clauses.allocator();
@@ -113,6 +114,3 @@ fn push_odd(clauses: &mut ClauseList, odd: AtLeast, list: &[AtLeast]) -> Result<
     }
     Ok(())
 }
-
-/// New variables stay below 2^26.
-const VARIABLE_LIMIT: u32 = 67_108_864;

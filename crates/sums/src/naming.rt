@@ -3,6 +3,7 @@ ghost use Rattle.std.specs.Prelude.{◌≡◌, ℕ, ◌+◌, ◌<◌, ◌≤◌,
 ghost use Rattle.sums.specs.Sums.{literal_of, named_from, numbers, rising, sums_with};
 
 use crate::lists::AtLeast;
+use cnf::limits::FORMULA_VARIABLE_LIMIT;
 use cnf::types::Lit;
 use std::alloc::{AllocError, Global};
 use std::marker::Model;
@@ -56,7 +57,7 @@ fn name(alloc: Global, fresh: u32, all: &[u64]) -> Result<Vec<AtLeast>, AllocErr
     ensures list { IfOk result (λ l. l.items ≡ named_from fresh all.now) }
     ensures small { OnOk result (fresh + length all.now ≤ 2 ^ 26) }
 {
-    if fresh > VARIABLE_LIMIT || all.len() > (VARIABLE_LIMIT - fresh) as usize {
+    if fresh > FORMULA_VARIABLE_LIMIT || all.len() > (FORMULA_VARIABLE_LIMIT - fresh) as usize {
         return Err(AllocError);
     }
     let mut list = Vec::with_capacity(alloc, all.len())?;
@@ -133,6 +134,3 @@ impl Named {
         }
     }
 }
-
-/// New variables stay below 2^26.
-const VARIABLE_LIMIT: u32 = 67_108_864;
