@@ -100,8 +100,8 @@ fn add_units(
     for lit in store.lits(reference) {
         let variable = lit.variable();
         let place = variable as usize - 1;
-        if stamps[place] < stamp
-            && engine.level(variable) == Some(0)
+        if engine.level(variable) == Some(0)
+            && stamps[place] < stamp
             && engine.value(*lit) == Some(false)
         {
             stamps[place] = stamp;

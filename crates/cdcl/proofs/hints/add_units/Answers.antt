@@ -16,14 +16,14 @@ use Rattle.cdcl.proofs.Places.{live_within}
 use Rattle.cdcl.proofs.hints.add_units.Goals as goal
 use Rattle.cdcl.proofs.hints.add_units.Goals.{After-variable-variable}
 use Rattle.cdcl.proofs.hints.add_units.Goals.{
-  then-stamps-place+then-eq+then-eq-2+in-Some+in_ok-push-in-Some,
+  then-eq+then-stamps-place+then-eq-2+in-Some+in_ok-push-in-Some,
 }
-use Rattle.cdcl.proofs.hints.add_units.Goals.{else-stamps-place}
+use Rattle.cdcl.proofs.hints.add_units.Goals.{else-eq}
 use Rattle.cdcl.proofs.hints.add_units.Goals.{
-  else-stamps-place-via-then-stamps-place+then-eq+else-eq-2,
+  else-eq-via-then-eq+then-stamps-place+else-eq-2,
 }
-use Rattle.cdcl.proofs.hints.add_units.Goals.{else-stamps-place-via-then-stamps-place+else-eq}
-use Rattle.cdcl.proofs.hints.add_units.Goals.{else-stamps-place-via-else-stamps-place}
+use Rattle.cdcl.proofs.hints.add_units.Goals.{else-eq-via-then-eq+else-stamps-place}
+use Rattle.cdcl.proofs.hints.add_units.Goals.{else-eq-via-else-eq}
 use Rattle.cnf.specs.Literal.{negation}
 use Rattle.cnf.specs.Clause.{contains_literal}
 
@@ -126,17 +126,17 @@ loop-lit-preserved c =
     ap (λ v. get_or stamps (v - 1) 0) variable in
     let reasons = c.requires.tables.fits.reasons in
     let live = c.lits-lit-items.ensures in
-    elim c.if-stamps-place.branch [
-      | then-stamps-place+then-eq+then-eq-2+in-Some+in_ok-push-in-Some w ↦
-          let zero : w.level.result ≡ Some 0 = search rules in
+    elim c.if-eq.branch [
+      | then-eq+then-stamps-place+then-eq-2+in-Some+in_ok-push-in-Some w ↦
+          let zero : c.level.result ≡ Some 0 = search rules in
           let value : w.value.result ≡ Some false = search rules in
           let level : level_in T l.variable ≡ Some 0 = sym (ap (level_in T) variable)
-          ∙ sym w.level.ensures ∙ zero in
+          ∙ sym c.level.ensures ∙ zero in
           let is_false : value_in T l ≡ Some false = sym w.value.ensures ∙ value in
           let has =
           found_unit e S U c.args.reference lits i l c.requires.tables.fits c.requires.noted live
           c.loop-lit-test.true c.lit-item.is
-          c.variable-variable.result w.index-units-place.result variable (sym w.level.ensures
+          c.variable-variable.result w.index-units-place.result variable (sym c.level.ensures
           ∙ zero) is_false w.index-units-place.is in
           let same : w.in-Some.unit ≡ has.0 =
           same_Some w.in-Some.unit has.0 (sym w.in-Some.is ∙ w.get.ensures ∙ has.1) in
@@ -160,28 +160,28 @@ loop-lit-preserved c =
                 level is_false fresh room inside.0
                 (subst (λ o. IfSome o (IsNotedIn S U T)) live c.requires.noted) name;
           })
-      | else-stamps-place w ↦ rw (w.stamps-is, w.hints-is) (record {
+      | else-eq w ↦ rw (w.stamps-is, w.hints-is) (record {
         past = c.loop-lit.invariant.past;
         gathers = λ all done listed g. (let old = c.loop-lit.invariant.gathers all done listed g in
             gathers_miss S N U T stamp all done c.args.reference lits listed reasons live i stamps
             c.loop-lit.hints.items l old c.loop-lit-test.true c.lit-item.is
-            (elim w.else-stamps-place.branch as (λ _. contains_literal (negation l) (zero_of T)
+            (elim w.else-eq.branch as (λ _. contains_literal (negation l) (zero_of T)
             ≡ true → contains_literal (negation l) old.zeros ≡ true) [
-              | else-stamps-place-via-then-stamps-place+then-eq+else-eq-2 x ↦
+              | else-eq-via-then-eq+then-stamps-place+else-eq-2 x ↦
                   let value : x.value.result ≢ Some false = search rules in
                   other_value S N U T stamp all done c.args.reference lits listed reasons live
                   old.zeros l (λ y. value (x.value.ensures ∙ y))
-              | else-stamps-place-via-then-stamps-place+else-eq x ↦
-                  let other : x.level.result ≢ Some 0 = search rules in
-                  other_level S N U T stamp all done c.args.reference lits listed reasons live
-                  old.zeros l (λ y. other (x.level.ensures ∙ ap (level_in T) variable ∙ y))
-              | else-stamps-place-via-else-stamps-place x ↦
+              | else-eq-via-then-eq+else-stamps-place x ↦
                   let low : get_or stamps (l.variable - 1) 0 ≤ stamp =
                   c.loop-lit.invariant.past (l.variable - 1) 0 room in
                   let met : get_or stamps (l.variable - 1) 0 ≡ stamp =
                   omega (arith, here, x.if-stamps-place.false) in
                   met_before S N U T stamp all done c.args.reference lits listed reasons live
                   (take i lits) stamps c.loop-lit.hints.items l old inside.0 room met
+              | else-eq-via-else-eq x ↦
+                  let other : c.level.result ≢ Some 0 = search rules in
+                  other_level S N U T stamp all done c.args.reference lits listed reasons live
+                  old.zeros l (λ y. other (c.level.ensures ∙ ap (level_in T) variable ∙ y))
             ]));
       })
     ]
