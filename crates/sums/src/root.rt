@@ -6,7 +6,7 @@ use crate::taking::{Lists, Sums};
 use cnf::clause_list::ClauseList;
 use std::marker::Model;
 
-/// There are at most so many clauses.
+/// The sums of an instance have at most so many clauses; where there would be more, there are none.
 pub const MOST_CLAUSES: usize = 131_072;
 
 /// The sums of an instance at the root of its tree: lists of variables that say how much is given
