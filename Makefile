@@ -1,4 +1,4 @@
-# make          proves and builds the program, and leaves it as ./wmax; what the prover says goes to build.log
+# make          proves and builds the program, crates side by side, and leaves it as ./wmax; what the prover says goes to build.log
 # make demo     solves a week's roster, and checks the certificate of its optimum
 # make test     the gate (rt ci), and then the scripts of tests/ on the program that it left
 # make edits    all edits that the prover must refuse, also those that the gate leaves out (some hours; CRATES='wcnf ..' for some)
@@ -11,7 +11,7 @@ all:
 
 demo:
 	@[ -x wmax ] || $(MAKE) all
-	@bash examples/demo
+	@examples/demo
 
 test:
 	@bash tests/gate
@@ -26,4 +26,4 @@ install:
 	install -D -m 644 wmax.1 "$(DESTDIR)$(PREFIX)/share/man/man1/wmax.1"
 
 clean:
-	rm -rf crates/*/out wmax wmax.1 build.log
+	rm -rf crates/*/out .lanes.* wmax wmax.1 build.log

@@ -2,16 +2,14 @@
 """A week's roster: from a table to the cheapest week, found and checked by wmax.
 
     examples/roster.py           prints the week, and what it costs
-    examples/roster.py --wcnf    prints the instance alone
+    examples/roster.py --wcnf    prints the instance alone, with the names of its variables
 
-Change the table below to plan something else. The program is ./wmax, or WMAX in the environment.
-The week is printed only where `wmax check` says YES: else the script stops with a message.
+Change the table below to plan something else. It stands on python/wmax.py, which runs ./wmax, or
+WMAX in the environment. The week is printed only where `wmax check` says YES: else the script stops
+with a message.
 """
-import os
 import pathlib
-import subprocess
 import sys
-import tempfile
 
 PEOPLE = ["Ann", "Ben", "Cem"]
 DAYS = ["Mon", "Tue", "Wed", "Thu", "Fri"]
@@ -34,94 +32,37 @@ NO_DAY = 5
 MOST_IN_A_ROW = 2
 
 HERE = pathlib.Path(__file__).resolve().parent
-WMAX = os.environ.get("WMAX", str(HERE.parent / "wmax"))
-
-
-class Instance:
-    """Clauses over numbered variables; of each soft one what it costs and what it is about."""
-
-    def __init__(self):
-        self.lines = []
-        self.soft_clauses = []
-        self.variables = 0
-
-    def new_variable(self):
-        self.variables += 1
-        return self.variables
-
-    def hard(self, *literals):
-        self.lines.append(" ".join(["h", *map(str, literals), "0"]))
-
-    def soft(self, weight, about, *literals):
-        self.lines.append(" ".join([str(weight), *map(str, literals), "0"]))
-        self.soft_clauses.append((weight, about, literals))
-
-    def text(self):
-        return "".join(line + "\n" for line in self.lines)
-
-    def given_up(self, bits):
-        """What these bits give up: weight and subject of each soft clause without a true literal."""
-        for weight, about, literals in self.soft_clauses:
-            if not any(bits[abs(literal) - 1] == (literal > 0) for literal in literals):
-                yield weight, about
+sys.path.insert(0, str(HERE.parent / "python"))
+import wmax  # noqa: E402 (python/wmax.py)
 
 
 def make_instance():
     """The instance, and the variable of 'this one works on this day'."""
-    instance = Instance()
-    works = {(who, day): instance.new_variable() for who in PEOPLE for day in DAYS}
+    instance = wmax.Instance()
+    works = {(who, day): instance.variable(f"{who} {day}") for who in PEOPLE for day in DAYS}
     for day in DAYS:
-        instance.hard(*(works[who, day] for who in PEOPLE))
+        instance.at_least(1, [works[who, day] for who in PEOPLE])
     for day in DAYS:
-        for at, who in enumerate(PEOPLE):
-            for other in PEOPLE[at + 1:]:
-                instance.hard(-works[who, day], -works[other, day])
+        instance.at_most(1, [works[who, day] for who in PEOPLE])
     for who, day in AWAY:
         instance.hard(-works[who, day])
     for who in PEOPLE:
         for first in range(len(DAYS) - MOST_IN_A_ROW):
             row = DAYS[first:first + MOST_IN_A_ROW + 1]
-            instance.hard(*(-works[who, day] for day in row))
+            instance.at_most(MOST_IN_A_ROW, [works[who, day] for day in row])
     for who, day, cost in RATHER_NOT:
-        instance.soft(cost, f"{who} works on {day}", -works[who, day])
+        instance.soft(cost, -works[who, day], about=f"{who} works on {day}")
     for who, day, other, cost in NOT_BOTH:
         about = f"{who} works on {day} and {other}"
-        instance.soft(cost, about, -works[who, day], -works[who, other])
+        instance.soft(cost, -works[who, day], -works[who, other], about=about)
     for who in PEOPLE:
-        instance.soft(NO_DAY, f"{who} works on no day", *(works[who, day] for day in DAYS))
+        instance.soft(NO_DAY, *(works[who, day] for day in DAYS), about=f"{who} works on no day")
     return instance, works
 
 
 def stop(message):
     print(f"roster.py: {message}", file=sys.stderr)
     sys.exit(1)
-
-
-def run(*words):
-    try:
-        return subprocess.run([WMAX, *words], stdout=subprocess.PIPE, text=True, check=False)
-    except OSError as error:
-        stop(f"{WMAX} does not run ({error.strerror}); 'make' builds it")
-
-
-def solve(text):
-    """The cost and the bits of an optimum that was checked, or None where no week is possible."""
-    with tempfile.TemporaryDirectory() as folder:
-        instance, result, proof = (f"{folder}/week.{end}" for end in ("wcnf", "result", "lrat"))
-        pathlib.Path(instance).write_text(text)
-        solved = run("solve", "--proof", proof, instance)
-        if solved.returncode not in (30, 20):
-            stop(f"wmax solve ended with status {solved.returncode}: no optimum was shown")
-        pathlib.Path(result).write_text(solved.stdout)
-        verdict = run("check", instance, result, proof).stdout.strip()
-    if verdict != "YES":
-        stop(f"the certificate does not check: {verdict or 'no verdict'}")
-    if solved.returncode == 20:
-        return None
-    said = [line.split() for line in solved.stdout.splitlines()]
-    cost = [int(words[1]) for words in said if words[0] == "o"][-1]
-    digits = next("".join(words[1:]) for words in said if words[0] == "v")
-    return cost, [digit == "1" for digit in digits]
 
 
 def main():
@@ -131,17 +72,22 @@ def main():
         return
     if sys.argv[1:]:
         stop("usage: roster.py [--wcnf]")
-    found = solve(instance.text())
-    if found is None:
+    try:
+        week = instance.solve()
+    except wmax.Unsatisfiable:
         stop("no week satisfies the rules that must hold")
-    cost, bits = found
+    except wmax.WmaxError as error:
+        stop(error)
+    if not week.is_optimum:
+        stop(f"wmax solve ended with status {week.status}: no optimum was shown")
     print("     " + " ".join(DAYS))
     for who in PEOPLE:
-        row = ["x" if bits[works[who, day] - 1] else "." for day in DAYS]
+        row = ["x" if week[works[who, day]] else "." for day in DAYS]
         print(f"{who:5}" + " ".join(f"{mark:3}" for mark in row).rstrip())
-    print(f"It costs {cost}, and no week costs less:")
-    for weight, about in instance.given_up(bits):
-        print(f"{weight:3}  {about}")
+    print(f"It costs {week.cost}, and no week costs less:")
+    for part in week.given_up:
+        print(f"{part.weight:3}  {part.about}")
 
 
-main()
+if __name__ == "__main__":
+    main()

@@ -9,41 +9,76 @@ best_is() { # NAME LINE..: PATH has these lines, and nothing is left beside it
     ok "$name: nothing beside it" [ ! -e "$work/best.part" ]
 }
 
-# Each status, over what an earlier run left.
-lines best 'of an earlier run'
+# Each status, where nothing stands there yet.
+: > "$work/best"
 lines text 'h 1 2 0' '3 -1 0' '4 -2 0'
 call solve --best best --proof proof text
 expect 'an optimum' 30 $'o 3\ns OPTIMUM FOUND\nv 10' ''
 best_is 'an optimum' 'o 3' 's OPTIMUM FOUND' 'v 10'
 call check text best proof
 expect 'it checks' 0 YES ''
+rm "$work/best"
 cp examples/roster.wcnf "$work/text"
+call solve --best best --conflicts 0 text
+best_is 'nothing' 's UNKNOWN'
 call solve --best best --conflicts 1 text
 ok 'little effort' [ "$status" = 10 ]
 best_is 'a solution' "$(grep '^o' <<< "$out" | tail -n 1)" 's SATISFIABLE' "$(grep '^v' <<< "$out")"
 call check text best /dev/null
 expect 'the solution is right' 1 'NO StatusWithoutProof 2' ''
-call solve --best best --conflicts 0 text
-best_is 'nothing' 's UNKNOWN'
+rm "$work/best"
 lines text 'h 1 0' '3 2 0'
 call solve --best best text
 best_is 'no cost' 'o 0' 's OPTIMUM FOUND' 'v 11'
+rm "$work/best"
 lines text 'h 1 0' 'h -1 0'
 call solve --best best text
 best_is 'no solution' 's UNSATISFIABLE'
-lines text 'h 0'
-lines best 'of an earlier run'
+rm "$work/best"
 lines bad 'h 1'
 call solve --best best bad
 expect 'a faulty text' 2 '' 'error: line 1: NoZero'
 best_is 'a faulty text' 's UNKNOWN'
 
-# A failed output: what was met before stays.
+# What an earlier run left stays until there is better.
 lines text 'h 1 2 0' '3 -1 0' '4 -2 0'
+lines best 'o 4' 's SATISFIABLE' 'v 01'
+call solve --best best --conflicts 0 text
+expect 'an earlier solution, no effort' 0 's UNKNOWN' ''
+best_is 'an earlier solution, no effort' 'o 4' 's SATISFIABLE' 'v 01'
+call solve --best best text
+best_is 'an earlier solution, a cheaper one' 'o 3' 's OPTIMUM FOUND' 'v 10'
+call solve --best best --conflicts 0 text
+best_is 'an earlier optimum' 'o 3' 's OPTIMUM FOUND' 'v 10'
+lines best 'o 5' 'o 3' 's SATISFIABLE' 'v 10'
+call solve --best best text
+best_is 'the optimum of an earlier cost' 'o 3' 's OPTIMUM FOUND' 'v 10'
+lines best 'o 4' 's SATISFIABLE' 'v 01'
+call solve --best best bad
+expect 'an earlier solution, a faulty text' 2 '' 'error: line 1: NoZero'
+best_is 'an earlier solution, a faulty text' 'o 4' 's SATISFIABLE' 'v 01'
+lost() { # NAME LINE..: PATH has these lines, which this run does not lose
+    local name=$1
+    shift
+    lines best "$@"
+    call solve --best best text
+    expect "$name" 2 '' 'error: --best names a file that has no solution of FILE at the cost that it tells'
+    best_is "$name" "$@"
+}
+lost 'no result' 'of an earlier run'
+lost 'no end' 'o 3'
+lost 'another cost' 'o 3' 's SATISFIABLE' 'v 01'
+lost 'no solution of this instance' 'o 0' 's OPTIMUM FOUND' 'v 00'
+lost 'too few bits' 'o 3' 's OPTIMUM FOUND' 'v 1'
+lost 'nothing that bits show' 's UNSATISFIABLE'
+
+# A failed output: what was met before stays.
+rm "$work/best"
 if [ -c /dev/full ]; then
     err=$(cd "$work" && timeout 60 "$wmax" solve --best best text 2>&1 > /dev/full)
     ok 'a full output' [ "$?" = 3 -a "$err" = 'error: Output' ]
     ok 'a full output: the solution' [ "$(sed -n 2p "$work/best")" = 's SATISFIABLE' ]
+    rm "$work/best"
     call solve --best best --proof /dev/full text
     ok 'a full certificate' [ "$status" = 3 -a "$err" = 'error: ProofOutput' ]
     best_is 'a full certificate' "$(tail -n 1 <<< "$out")" 's SATISFIABLE' "$(tail -n 1 "$work/best")"
@@ -74,18 +109,24 @@ ok 'a device stays' [ -c /dev/null ]
 mkfifo "$work/pipe.part"
 refused 'a pipe beside it' --best pipe text
 
-# What cannot be written is told once, and changes nothing else.
+# What cannot be written is told before the search.
+unwritten='error: --best cannot be written'
 cp examples/roster.wcnf "$work/text"
-call solve text
-plain=$out
 for path in missing/best text/best; do
     call solve --best $path text
-    expect "an unwritable path, $path" 30 "$plain" "warning: $path cannot be written"
+    expect "an unwritable path, $path" 3 '' "$unwritten"
 done
-lines best 'of an earlier run'
-err=$(cd "$work" && { trap '' XFSZ; ulimit -f 0; timeout 60 "$wmax" solve --best best text 2>&1 > /dev/null; } | cat)
-ok 'a full disk' [ "$err" = 'warning: best cannot be written' ]
-best_is 'a full disk' 'of an earlier run'
+rm -f "$work/best"
+full() { # NAME: with no room on the disk
+    err=$(cd "$work" && { trap '' XFSZ; ulimit -f 0; timeout 60 "$wmax" solve --best best text 2>&1 > /dev/null; } | cat)
+    ok "$1" [ "$err" = "$unwritten" -a ! -e "$work/best.part" ]
+}
+full 'a full disk'
+ok 'a full disk: no text' [ ! -e "$work/best" ]
+lines text 'h 1 2 0' '3 -1 0' '4 -2 0'
+lines best 'o 4' 's SATISFIABLE' 'v 01'
+full 'a full disk, an earlier solution'
+best_is 'a full disk, an earlier solution' 'o 4' 's SATISFIABLE' 'v 01'
 
 # Killed at forty moments: PATH has a whole text, and the solution in it is one. Where the machine is so busy that few
 # solutions were met by then, at forty later ones.

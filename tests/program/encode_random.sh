@@ -18,5 +18,7 @@ while read -r number wanted; do
             ok "instance $number, profile $profile: the optimum" [ "$(answer $((wanted + 1)))" = 's OPTIMUM FOUND' ]
         fi
     done
+    ok "instance $number, profile 5: without cores it is the formula of profile 4" cmp -s \
+        <("$wmax" encode --profile 4 "$work/$number.wcnf" 9) <("$wmax" encode --profile 5 "$work/$number.wcnf" 9)
 done < "$work/wanted"
 totals

@@ -34,7 +34,10 @@ lines result 'o 0' 's SATISFIABLE' 'v 00'
 explained 'the older form, broken' 1 'cost 0' 'given up: 0 of 2 soft clauses' 'broken, hard, line 4: 10 1 2 0' '    c needed'
 printf 'c cr\r\nh 1 2 0\r\n3 -1 0\r\n4 -2 0' > "$work/text"
 lines result 'o 4' 's SATISFIABLE' 'v 01'
-explained 'CR LF' 0 'cost 4' 'given up: 1 of 2 soft clauses' '+ 4 = 4, line 4: 4 -2 0' $'    c cr'
+explained 'CR LF' 0 'cost 4' 'given up: 1 of 2 soft clauses' '+ 4 = 4, line 4: 4 -2 0' '    c cr'
+
+printf 'c a\tb\033[31mc\177\001 \303\251\nh 1 2 0\n3 -1 0\n4 -2 0\n' > "$work/text"
+explained 'bytes that command a terminal' 0 'cost 4' 'given up: 1 of 2 soft clauses' '+ 4 = 4, line 4: 4 -2 0' $'    c a\tb?[31mc?? \303\251'
 
 # The sum of what is listed is the cost that `solve` told, and nothing is broken.
 awk -v dir="$work" -v count=60 -f tests/program/random.awk > "$work/wanted"

@@ -1,5 +1,6 @@
 #!/usr/bin/env bash
-# `make install` puts the program and its manual page in place; the page has each command, option and status of the help.
+# `make install` puts the program and its manual page in place; the page has each command, option and status of the help, and
+# each fault of docs/FAULTS.md, which has all that the program can print.
 source "$(dirname "$0")/../lib"
 
 ok 'make install' make -s install DESTDIR="$work/root" PREFIX=/usr > /dev/null
@@ -15,6 +16,18 @@ done
 for status in 30 20 10 0 1 2 3; do
     ok "the page has status $status" grep -qx "\.B $status" "$page"
 done
+known=$(grep '^| `' docs/FAULTS.md | cut -d '|' -f 2 | tr -d '` ')
+for fault in $known; do
+    ok "the page has $fault" grep -qE "^\.B $fault\$" <(sed -n '/^\.SH FAULTS$/,$p' "$page")
+done
+printed=$({
+    sed -n '/^pub enum FaultKind/,/^}/p' crates/wcnf/src/faults.rt | grep -oE '^    [A-Z][A-Za-z]+'
+    grep -oE 'b"NO [A-Za-z]+ "' crates/report/src/printing.rt | cut -d ' ' -f 2 | grep -vx Text
+    printf '%s\n' Output ProofOutput
+} | tr -d ' ')
+for fault in $printed; do ok "docs/FAULTS.md has $fault" grep -qx "$fault" <<< "$known"; done
+ok 'faults are printed' [ "$(wc -w <<< "$printed")" -gt 25 ]
+ok 'the page sends nobody elsewhere for faults' [ -z "$(grep -E '(README|FAULTS\.md).* (has|have) (the others|all)\.' "$page")" ]
 if command -v man > /dev/null; then
     ok 'man has nothing to say against it' [ -z "$(man --warnings -l "$page" 2>&1 > /dev/null)" ]
     ok 'man shows it' [ "$(MANWIDTH=100 man -l "$page" 2> /dev/null | grep -cE '^ +wmax (solve|check|explain|encode) ')" -ge 8 ]

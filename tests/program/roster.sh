@@ -11,6 +11,9 @@ plan() {
 }
 
 plan --wcnf
+ok 'the names of its variables' grep -qx 'c 12 = Cem Tue' <<< "$out"
+ok 'what a soft clause is about' grep -qx -A 1 'c Ben works on Fri' <<< "$out"
+out=$(grep -v '^c' <<< "$out")
 expect 'the instance' 0 "$(grep -v '^c' examples/roster.wcnf)" ''
 
 plan

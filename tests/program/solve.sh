@@ -7,7 +7,7 @@ source "$(dirname "$0")/../lib"
 solved() {
     local name=$1 wanted=$2 profile
     shift 2
-    for profile in 1 2 3 4; do
+    for profile in 1 2 3 4 5; do
         rm -f "$work/proof"
         call solve --profile $profile --proof proof "$@" text
         printf '%s\n' "$out" > "$work/result"
@@ -132,7 +132,7 @@ if [ -c /dev/full ]; then
 fi
 
 # The command line.
-for words in '--conflicts 4611686018427387905' '--conflicts x' '--profile 0' '--profile 5' '--profile x' '--proof'; do
+for words in '--conflicts 4611686018427387905' '--conflicts x' '--profile 0' '--profile 6' '--profile x' '--proof'; do
     call solve $words text
     ok "refused: $words" [ "$status" = 2 ]
 done

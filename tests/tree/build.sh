@@ -1,46 +1,125 @@
 #!/usr/bin/env bash
-# tools/build over three small crates with a stand-in for `rt`: which crate it is at, where it stops, what it shows then.
+# tools/build over a few small crates with a stand-in for `rt`: which crates it is at, where it stops, what it shows then; its
+# lanes, and that nothing is left of them however it ends.
 source "$(dirname "$0")/../lib"
 
 cp -r tools "$work"
-mkdir -p "$work/bin" "$work/crates/low/src" "$work/crates/wmax/src" "$work/crates/other"
-printf '%s\n' '# shared' 'low: memchr' '' '# program' 'wmax: low clap' 'other: low' > "$work/crates.txt"
-echo 'fn low() {}' > "$work/crates/low/src/lib.rt"
+mkdir -p "$work/bin" "$work/crates"/{low,left,right,wmax,other}/src
+printf '%s\n' '# shared' 'low: memchr' 'left: low' 'right: low' '' '# program' 'wmax: left right clap' 'other: low' > "$work/crates.txt"
+echo 'Handles allowed: none.' > "$work/HANDLES"
 echo 'fn main() {}' > "$work/crates/wmax/src/main.rt"
+for crate in low left right other; do echo "fn $crate() {}" > "$work/crates/$crate/src/lib.rt"; done
+
+# The stand-in builds in no time, or waits for a file `go` where SLOW names a crate. Its journal has a line when a crate begins and
+# one when it ends: the crate, its folder and what the folder has of the crates below.
 cat > "$work/bin/rt" <<'RT'
 #!/usr/bin/env bash
 name=$(basename "$PWD")
+case $PWD in */.lanes.*) lane=$(basename "$(dirname "$(dirname "$PWD")")") ;; *) lane=here ;; esac
+has=$(cd .. && echo */out/rlib | tr ' ' '\n' | sed 's|/out/rlib||' | tr '\n' ' ')
+[ -e ../../HANDLES ] && [ -e ../../crates.txt ] || exit 9
+echo "begin $name $lane $* : $has" >> "$JOURNAL"
 echo "fn $name::good: proved"
 if [ "$name" = "$REFUSED" ]; then
     echo "fn $name::bad: no proof: what it ensures"
     exit 1
 fi
-if [ "$1" = run ]; then mkdir -p out && echo "$*" > out/wmax; fi
+case " $SLOW " in *" $name "*) [ $lane = here -a -z "$ONE" ] || until [ -e "$JOURNAL.go" ]; do sleep 0.1; done ;; esac
+mkdir -p out/rlib
+if [ "$1" = run ]; then echo "$name" > out/wmax; fi
+echo "end $name $lane" >> "$JOURNAL"
 RT
 chmod +x "$work/bin/rt"
+export JOURNAL=$work/journal
 
-# built CRATE: the build, where this crate is not proved
+# built LANES REFUSED [CRATE]: the build in so many lanes, where the crate REFUSED is not proved
 built() {
-    out=$(cd "$work" && PATH="$work/bin:$PATH" REFUSED=$1 bash tools/build 2> .err < /dev/null)
+    rm -rf "$work"/crates/*/out "$work/wmax" "$JOURNAL"*
+    touch "$JOURNAL.go"
+    out=$(cd "$work" && LANES=$1 PATH="$work/bin:$PATH" REFUSED=$2 timeout 60 bash tools/build "${@:3}" 2> .err < /dev/null)
     status=$?
     err=$(cat "$work/.err")
 }
+clean() { # NAME: no lanes are left
+    ok "$1: nothing is left" [ -z "$(ls -d "$work"/.lanes.* 2> /dev/null)" ]
+}
 
-built none
-ok 'the status' [ "$status$err" = 0 ]
-ok 'the first crate' grep -qE '^crate 1 of 2: low \(about [0-9]+ minutes left\)$' <<< "$out"
-ok 'the second crate' grep -qE '^crate 2 of 2: wmax \(about [0-9]+ minutes left\)$' <<< "$out"
-ok 'the end' [ "$(tail -n 1 <<< "$out")" = 'all 2 crates are proved, and the program is ./wmax' ]
-ok 'the program' [ "$(cat "$work/wmax")" = 'run -- --help' ]
-ok 'the log' [ "$(grep -c proved "$work/build.log")" = 2 ]
-ok 'the prover'\''s own lines are not shown' [ -z "$(grep 'fn ' <<< "$out")" ]
+for lanes in 1 2 3; do
+    built $lanes none
+    ok "$lanes lanes: the status" [ "$status$err" = 0 ]
+    ok "$lanes lanes: the first crate" grep -qE '^0 of 4 crates are built, now low \(about [0-9]+ minutes left\)$' <<< "$out"
+    ok "$lanes lanes: the last crate" grep -qE '^3 of 4 crates are built, now wmax \(about [0-9]+ minutes left\)$' <<< "$out"
+    ok "$lanes lanes: the end" [ "$(tail -n 1 <<< "$out")" = 'all 4 crates are proved, and the program is ./wmax' ]
+    ok "$lanes lanes: the program" [ "$(cat "$work/wmax")" = wmax ]
+    ok "$lanes lanes: the log" [ "$(grep -c proved "$work/build.log")" = 4 ]
+    ok "$lanes lanes: the prover's own lines are not shown" [ -z "$(grep 'fn ' <<< "$out")" ]
+    ok "$lanes lanes: each library is in the checkout" [ "$(ls -d "$work"/crates/*/out/rlib | wc -l)" = 4 ]
+    ok "$lanes lanes: the crates below are there before" [ -z "$(grep -E '^begin (left|right) ' "$JOURNAL" | grep -v ': .*low ')" ]
+    ok "$lanes lanes: the program is built in place" grep -q '^begin wmax here run .*-- --help : ' "$JOURNAL"
+    ok "$lanes lanes: another crate is not touched" [ ! -e "$work/crates/other/out" ]
+    clean "$lanes lanes"
+done
+built 1 none
+ok 'one lane: in place, by as many jobs as rt chooses' [ -z "$(grep '^begin' "$JOURNAL" | grep -vE ' here (lib|run -- --help) : ')" ]
 
-rm "$work/wmax"
-built low
-ok 'a proof that fails: the status' [ "$status" = 1 ]
-ok 'a proof that fails: nothing after it' [ "$(wc -l <<< "$out")" = 1 ]
-ok 'a proof that fails: no program' [ ! -e "$work/wmax" ]
-expect 'a proof that fails: the message' 1 "$out" $'fn low::bad: no proof: what it ensures\nthe crate low was not proved and built: see build.log'
-built wmax
-expect 'the program is not proved' 1 "$out" $'fn wmax::bad: no proof: what it ensures\nthe crate wmax was not proved and built: see build.log'
+# Two crates that do not stand on one another are built at once, in lanes of their own: each waits until the other has begun.
+rm -rf "$work"/crates/*/out "$JOURNAL"*
+(cd "$work" && LANES=2 SLOW='left right' ONE= REFUSED=none PATH="$work/bin:$PATH" timeout 60 bash tools/build > .out 2>&1 < /dev/null) &
+for ((k = 0; k < 300; k++)); do
+    [ "$(grep -cE '^begin (left|right) [12] ' "$JOURNAL" 2> /dev/null)" = 2 ] && break
+    sleep 0.1
+done
+ok 'two at once' [ "$(grep -E '^begin (left|right) ' "$JOURNAL" | cut -d ' ' -f 3 | sort -u | wc -l)" = 2 ]
+ok 'two at once: what is shown' grep -qE '^1 of 4 crates are built, now (left, right|right, left) \(' "$work/.out"
+touch "$JOURNAL.go"
+wait
+ok 'two at once: the end' [ "$(tail -n 1 "$work/.out")" = 'all 4 crates are proved, and the program is ./wmax' ]
+clean 'two at once'
+
+# A library as the target.
+built 2 none left
+ok 'a library: the end' [ "$status$err$(tail -n 1 <<< "$out")" = '0all 2 crates are proved and built, up to left' ]
+ok 'a library: no program' [ ! -e "$work/wmax" -a ! -e "$work/crates/right/out" ]
+built 2 none nothing
+expect 'no such crate' 1 '' 'crates.txt has no crate nothing'
+built none none
+expect 'no number of lanes' 1 '' 'LANES=none is no number of lanes'
+clean 'what is refused'
+
+# Proofs that fail.
+for lanes in 1 2; do
+    built $lanes low
+    ok "$lanes lanes, a proof that fails: the status" [ "$status" = 1 ]
+    ok "$lanes lanes, a proof that fails: nothing after it" [ "$(wc -l <<< "$out")" = 1 ]
+    ok "$lanes lanes, a proof that fails: no program" [ ! -e "$work/wmax" ]
+    expect "$lanes lanes, a proof that fails: the message" 1 "$out" $'fn low::bad: no proof: what it ensures\nthe crate low was not proved and built: see build.log'
+    clean "$lanes lanes, a proof that fails"
+    built $lanes wmax
+    expect "$lanes lanes, the program is not proved" 1 "$out" $'fn wmax::bad: no proof: what it ensures\nthe crate wmax was not proved and built: see build.log'
+    clean "$lanes lanes, the program is not proved"
+done
+
+# Interrupted in the middle: nothing goes on, nothing is left but what was built.
+for signal in INT TERM HUP; do
+    rm -rf "$work"/crates/*/out "$JOURNAL"*
+    (cd "$work" && exec env --default-signal=INT LANES=2 SLOW='left right' ONE= REFUSED=none PATH="$work/bin:$PATH" bash tools/build > .out 2>&1 < /dev/null) &
+    build=$!
+    for ((k = 0; k < 300; k++)); do
+        [ "$(grep -cE '^begin (left|right) [12] ' "$JOURNAL" 2> /dev/null)" = 2 ] && break
+        sleep 0.1
+    done
+    kill -s $signal $build
+    wait $build
+    ok "$signal: the status" [ $? -ge 128 ]
+    clean "$signal"
+    ok "$signal: nothing goes on" [ -z "$(pgrep -f "$work/bin/rt")" ]
+    ok "$signal: what was built stays" [ -d "$work/crates/low/out/rlib" -a ! -e "$work/crates/left/out" ]
+    ok "$signal: no program" [ ! -e "$work/wmax" ]
+done
+
+# What a killed build left is removed by the next one.
+mkdir -p "$work/.lanes.99999999/1"
+built 2 none
+ok 'what a killed build left' [ "$status" = 0 ]
+clean 'what a killed build left'
 totals

@@ -9,7 +9,7 @@ use Rattle.cnf.specs.Clause.{greatest_variable}
 use Rattle.cnf.specs.Problem.{Problem, SoftClause, AreWithin}
 use Rattle.cnf.specs.Instance.{IsInstance, IsClauseWithin}
 use Rattle.adder.specs.declared.cells.Profile.{Profile}
-use Rattle.adder.specs.declared.cells.Profile.TheVariants.{One, Two, Three, Four}
+use Rattle.adder.specs.declared.cells.Profile.TheVariants.{One, Two, Three, Four, Five}
 use Rattle.adder.specs.declared.profiles.Adding.{Adding}
 use Rattle.adder.specs.declared.profiles.Adding.TheVariants.{Columns, Tree, Sums}
 use Rattle.adder.specs.Network.{relaxing_of, adding_of}
@@ -38,6 +38,7 @@ adders_are One p = refl
 adders_are Two p = refl
 adders_are Three p = refl
 adders_are Four p = refl
+adders_are Five p = refl
 
 pub is_columns : (profile : Profile) (p : Problem) (a : Adding) → a ≡ adding_of profile
     → a ≡ Columns

@@ -36,8 +36,8 @@ pub fn network(instance: &Instance) -> Result<Network, AllocError>
 /// added up from the lowest on. In `Profile::Three` each weight is a number of its own. By rising
 /// weight, and in the order of the soft clauses where weights are equal, these are added in pairs,
 /// an odd one is left for the next round, and rounds follow until one number is left: a column has
-/// the bits of two numbers. In `Profile::Four` the network is that of `Profile::Three`: it stands
-/// in where sums take too many clauses.
+/// the bits of two numbers. In `Profile::Four` and `Profile::Five` the network is that of
+/// `Profile::Three`: it stands in where sums take too many clauses.
 ///
 /// # Errors
 ///

@@ -33,7 +33,9 @@ impl Profile {
         ensures { result ≡ relaxing_of self }
     {
         match self {
-            Profile::One | Profile::Three | Profile::Four => Relaxing::EachByVariable,
+            Profile::One | Profile::Three | Profile::Four | Profile::Five => {
+                Relaxing::EachByVariable
+            }
             Profile::Two => Relaxing::UnitsByNegation,
         }
     }
@@ -45,7 +47,7 @@ impl Profile {
         match self {
             Profile::One | Profile::Two => Adding::Columns,
             Profile::Three => Adding::Tree,
-            Profile::Four => Adding::Sums,
+            Profile::Four | Profile::Five => Adding::Sums,
         }
     }
 }

@@ -1,15 +1,16 @@
 -- What is learned from a clause that is false.
 use Rattle.std.specs.Prelude.{Option, None, if◌then◌else◌, ◌≡◌, ℕ, ◌<◌, Bool, true, false, List, []}
-use Rattle.std.specs.Prelude.{◌∷◌, ◌++◌, map, max, All, IfSome, Some, ◌⊎◌}
+use Rattle.std.specs.Prelude.{◌∷◌, ◌++◌, ◌==◌, map, max, All, IfSome, Some, ◌⊎◌}
 use Rattle.std.specs.List.{AllByRecursion}
 use Rattle.cnf.specs.Literal.{Literal, negation}
 use Rattle.cnf.specs.Clause.{contains_literal, has_repeat}
 use Rattle.cnf.specs.Refute.{Clauses, Refutes, IsUnit, IsFalseUnder}
 use Rattle.clauses.specs.Slots.{Slots, clause_at, IsLive}
-use Rattle.propagate.specs.Trail.{Assigned, literals_of, depth_of, kept_to, level_of}
+use Rattle.propagate.specs.Trail.{Assigned, literals_of, depth_of, kept_to, level_of, reason_in}
 use Rattle.propagate.specs.Watches.{EngineState}
 use Rattle.propagate.specs.Fits.{Fits}
 use Rattle.analyze.specs.declared.analyzer.Learned.{Learned}
+use Rattle.analyze.specs.declared.analyzer.FinalClause.{FinalClause}
 
 abbrev pub greatest_level : List Assigned → List Literal → ℕ
 greatest_level trail [] = 0
@@ -103,3 +104,29 @@ pub record Learns (slots : Slots) (trail : List Assigned) (conflict : ℕ) (lear
   pub asserting : IsAsserting trail learned.lits.items learned.back_level
   pub hints : IsRefutedBy slots trail learned.lits.items learned.hints.items
   pub order : IsInTrailOrder trail conflict learned.hints.items
+
+-- Why a literal is false.
+
+-- the trail up to the literal's variable, where the literal is decided in place of what came
+abbrev pub decided : Literal → List Assigned → List Assigned
+decided l [] = []
+decided l (a ∷ T) = if a.literal.variable == l.variable
+    then record { literal = l; reason = None } ∷ []
+    else a ∷ decided l T
+
+-- its negation is true above level 0, by this reason
+pub record IsFalsified (trail : List Assigned) (l : Literal) (reason : ℕ) : Type 0 where
+  pub negated : contains_literal (negation l) (literals_of trail) ≡ true
+  pub above : 0 < level_of trail l
+  pub reason_is : reason_in trail l.variable ≡ Some reason
+
+-- the clause has the negation of the literal; on the trail on which the literal was decided instead
+-- it is asserting, and hints refute its negation; these are reasons in the order of the trail
+pub record IsFinal (slots : Slots) (trail : List Assigned) (l : Literal) (reason : ℕ)
+    (final : FinalClause) : Type 0 where
+  pub others : List Literal
+  pub split : final.lits.items ≡ negation l ∷ others
+  pub back : ℕ
+  pub asserting : IsAsserting (decided l trail) final.lits.items back
+  pub hints : IsRefutedBy slots (decided l trail) final.lits.items final.hints.items
+  pub order : IsInTrailOrder trail reason final.hints.items

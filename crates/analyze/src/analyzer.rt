@@ -7,9 +7,10 @@ ghost use Rattle.clauses.specs.Slots.{IsLive, clause_at};
 ghost use Rattle.propagate.specs.Trail.{depth_of};
 ghost use Rattle.propagate.specs.Fits.{Fits};
 ghost use Rattle.analyze.specs.Analyzer.{IsAsserting, IsConflict, IsInTrailOrder, IsRefutedBy};
-ghost use Rattle.analyze.specs.Analyzer.{CanLearn, Learns};
+ghost use Rattle.analyze.specs.Analyzer.{CanLearn, Learns, IsFalsified, IsFinal};
 
 use crate::collect::{collect, greatest};
+use crate::final_clause::learn_final;
 use crate::marks::{Mark, clear, mark_clause, resolve};
 use crate::minimise::{Idea, NOWHERE, Step, meet_reasons, minimise};
 use crate::ordering::put_in_order;
@@ -35,6 +36,17 @@ pub struct Learned {
     pub back_level: u32,
     /// Clauses that are unit in turn where all these literals are false and those of level 0 hold,
     /// in the order of the trail, and last one that is false then.
+    pub hints: Vec<CRef>,
+}
+
+/// A clause that follows where a literal is false, and what shows it.
+#[derive(Drop)]
+pub struct FinalClause {
+    /// The first is the negation of the literal, which is true. The others are false, and of levels
+    /// above 0: the negations of the decisions on which it rests.
+    pub lits: SmallVec<Lit, SHORT>,
+    /// Clauses that are unit in turn where all these literals are false and those of level 0 hold,
+    /// in the order of the trail, and last the reason of the first, which is false then.
     pub hints: Vec<CRef>,
 }
 
@@ -149,6 +161,45 @@ impl Analyzer {
             &mut self.settled,
         );
         clear(engine, &mut self.marks, &mut self.met);
+        learned
+    }
+
+    /// Why a literal is false: a clause of its negation and the negations of the decisions on which
+    /// that rests (Eén and Sörensson 2003, final conflict analysis). `reason` is that of the
+    /// negation. Its memory and its time are those of `analyze`.
+    ///
+    /// # Errors
+    ///
+    /// `AllocError` where memory was refused. Nothing has changed then.
+    pub fn analyze_final(
+        &mut self,
+        engine: &Engine,
+        store: &Store,
+        falsified: Lit,
+        reason: CRef,
+    ) -> Result<FinalClause, AllocError>
+        requires fits { Fits engine.now store.now.slots }
+        requires small { falsified.variable ≤ engine.now.variables }
+        requires falsified { IsFalsified engine.now.trail falsified reason }
+        requires room { engine.now.variables < self.old }
+        ensures learns { IfOk result (IsFinal store.now.slots engine.now.trail falsified reason) }
+        ensures unchanged { self.new ≡ self.old }
+    {
+        self.met.clear();
+        let alloc = store.allocator();
+        let learned = learn_final(
+            alloc,
+            engine,
+            store,
+            falsified,
+            reason,
+            &mut self.marks,
+            &mut self.met,
+            &mut self.marked,
+            &mut self.queue,
+        );
+        clear(engine, &mut self.marks, &mut self.met);
+        self.queue.clear();
         learned
     }
 

@@ -76,7 +76,7 @@ fn settle(ideas: &mut [Idea], settled: &mut Vec<u32>, variable: u32, idea: Idea)
 }
 
 /// The variable at a position of the trail; 0, which no literal has, past its end.
-fn variable_of(engine: &Engine, position: u32) -> u32
+pub(crate) fn variable_of(engine: &Engine, position: u32) -> u32
     ensures { result ≤ engine.now.variables }
 {
     match engine.trail().get(position as usize) {

@@ -4,7 +4,7 @@ use Rattle.std.proofs.Common.{◌++◌, refl, ◌∙◌, ap}
 use Rattle.cnf.specs.Literal.{Literal, positive}
 use Rattle.cnf.specs.Problem.{Problem, SoftClause}
 use Rattle.adder.specs.declared.cells.Profile.{Profile}
-use Rattle.adder.specs.declared.cells.Profile.TheVariants.{One, Two, Three, Four}
+use Rattle.adder.specs.declared.cells.Profile.TheVariants.{One, Two, Three, Four, Five}
 use Rattle.adder.specs.declared.profiles.Relaxing.TheVariants.{EachByVariable}
 use Rattle.adder.specs.Network.{relaxing_of, relaxed_from, relaxed_variables, adders_as}
 use Rattle.sums_tree.specs.Arranging.{tree}
@@ -44,6 +44,12 @@ addition_cases Four p P network sums =
       | None ↦ λ e. network
       | Some n ↦ λ e. sums n (record { relaxing = refl; sums = e })
     ] refl
+addition_cases Five p P network sums =
+    elim (sums_over p (tree p))
+    as (λ o. sums_over p (tree p) ≡ o → P (sums_or (adders_as Five p) o)) [
+      | None ↦ λ e. network
+      | Some n ↦ λ e. sums n (record { relaxing = refl; sums = e })
+    ] refl
 
 arranged : (p : Problem) → IsArrangedBy p (tree p)
 arranged p =
@@ -52,7 +58,7 @@ arranged p =
       | Some t ↦ tree_is_arrangement p t
     ] refl
 
-each_count : (v : ℕ) (ss : List SoftClause)
+pub each_count : (v : ℕ) (ss : List SoftClause)
     → fresh_count (relaxed_from EachByVariable v ss) ≡ length ss
 each_count v [] = refl
 each_count v (s ∷ ss) = ap suc (each_count (v + 1) ss)

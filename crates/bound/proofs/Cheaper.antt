@@ -138,7 +138,7 @@ cost_le t relaxing v (s ∷ ss) =
     ))
 
 -- where the relaxation literals are tight, their clauses hold and what is given up is the cost
-tight_clauses : (t : Assignment) (es : List Relaxed) → AllByRecursion (IsRelaxedTightly t) es
+pub tight_clauses : (t : Assignment) (es : List Relaxed) → AllByRecursion (IsRelaxedTightly t) es
     → all_true t (with_variables es) ≡ true
 tight_clauses t [] h = refl
 tight_clauses t (e ∷ es) h =
@@ -205,7 +205,7 @@ cost_same n t u (s ∷ ss) same h =
       sum_by-cons (cost_of t) s ss,
     )
 
-clauses_same : (n : ℕ) (t u : Assignment) (cs : List (List Literal)) → SameUpTo n t u
+pub clauses_same : (n : ℕ) (t u : Assignment) (cs : List (List Literal)) → SameUpTo n t u
     → AllByRecursion (λ c. greatest_variable c ≤ n) cs → all_true u cs ≡ all_true t cs
 clauses_same n t u [] same h = refl
 clauses_same n t u (c ∷ cs) same h =

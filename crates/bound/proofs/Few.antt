@@ -77,7 +77,7 @@ comparator_le outputs (suc limit) =
 pub hard_few : (p : Problem) → IsInstance p → length (hard_cnf p).clauses < 2 ^ 28
 hard_few p h = omega (arith, kept_le p.hard, h.hard_count)
 
-relaxed_few : (profile : Profile) (p : Problem)
+pub relaxed_few : (profile : Profile) (p : Problem)
     → length (kept (relaxed_clauses profile p)) ≤ length p.soft
 relaxed_few profile p =
     omega (

@@ -238,7 +238,7 @@ network_variables profile p h =
     (λ x l u. (omega arith, omega arith))
 
 -- the hard clauses and the soft ones, whatever adds up the weights
-given_formula : (profile : Profile) (p : Problem) (v : ℕ) → IsInstance p
+pub given_formula : (profile : Profile) (p : Problem) (v : ℕ) → IsInstance p
     → relaxed_variables profile p ≤ v
     → AllByRecursion (IsFormulaClause v) (kept p.hard ++ kept (relaxed_clauses profile p))
 given_formula profile p v h le =

@@ -3,6 +3,7 @@ mod Adders
 mod Comparator
 mod Addition
 mod Cheaper
+mod Counted
 mod Compared
 mod Subsets
 mod Covers
@@ -13,6 +14,8 @@ mod Rows
 mod Columns
 mod Relaxations
 mod Parts
+mod RelaxedParts
+mod RelaxedHold
 mod Lines
 mod Streams
 pub mod Laws

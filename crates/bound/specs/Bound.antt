@@ -7,14 +7,14 @@ use Rattle.std.specs.Fmt.{decimal}
 use lib.Chars.{codes}
 use Rattle.cnf.specs.Literal.{Assignment, Literal, negation, positive}
 use Rattle.cnf.specs.Clause.{Satisfies, IsCovered, distinct, has_opposites}
-use Rattle.cnf.specs.Formula.{Cnf}
+use Rattle.cnf.specs.Formula.{Cnf, IsUnsatisfiable}
 use Rattle.cnf.specs.Problem.{Problem, IsFeasible, cost_under}
 use Rattle.cnf.specs.declared.limits.TheConstants.{NUMBER_LIMIT}
 use Rattle.text.specs.Text.{literal_text}
 use Rattle.text.specs.Writing.{spaced}
 use Rattle.adder.specs.declared.cells.Cell.{Cell}
 use Rattle.adder.specs.declared.cells.Profile.{Profile}
-use Rattle.adder.specs.declared.cells.Profile.TheVariants.{One}
+use Rattle.adder.specs.declared.cells.Profile.TheVariants.{One, Five}
 use Rattle.adder.specs.declared.profiles.Adding.{Adding}
 use Rattle.adder.specs.declared.profiles.Adding.TheVariants.{Columns, Tree as AlongTree}
 use Rattle.adder.specs.declared.profiles.Adding.TheVariants.{Sums as BySums}
@@ -22,6 +22,7 @@ use Rattle.adder.specs.Network.{Adders, adders_as, adding_of, bit, relaxed_as, r
 use Rattle.adder.specs.Network.{SameUpTo}
 use Rattle.sums_tree.specs.Arranging.{tree}
 use Rattle.sums.specs.Sums.{Node, sums_over, comparator}
+use Rattle.cores.specs.Cores.{Counted, counted_clauses}
 use Rattle.bound.specs.declared.additions.Addition.{Addition}
 use Rattle.bound.specs.declared.additions.Addition.TheVariants.{Network, Sums}
 
@@ -146,6 +147,20 @@ pub record SaysCheaper (profile : Profile) (p : Problem) (k : ℕ) : Type 0 wher
   pub from : (u : Assignment) → IsFeasible p u → cost_under p u < k
       → (t : Assignment) × SameUpTo p.variables u t
       × All (Satisfies t) (bound_as profile p k).clauses
+
+-- the formula of an instance with cores: the hard clauses, the soft ones, each with its relaxation
+-- variable last, and those of the cores
+abbrev pub core_cnf : Problem → Counted → Cnf
+core_cnf p s = record {
+  variables = s.fresh - 1;
+  clauses = kept p.hard ++ kept (relaxed_clauses Five p) ++ kept (counted_clauses s);
+}
+
+-- where it is unsatisfiable, nothing costs less than the cores are worth together
+abbrev pub RefutesCheaper : Problem → Counted → Type 0
+RefutesCheaper p s =
+    IsUnsatisfiable (core_cnf p s).clauses → (u : Assignment) → IsFeasible p u
+    → s.weight ≤ cost_under p u
 
 -- each clause of the comparator for a larger bound has one for this bound as a subset
 abbrev pub CoversLarger : List (Option Literal) → ℕ → Type 0

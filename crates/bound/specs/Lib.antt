@@ -1,4 +1,5 @@
 pub mod Bound
+pub mod Relaxed
 pub mod Adding
 pub mod Vectors
 pub mod Encoding

@@ -6,9 +6,11 @@ ghost use Rattle.bound.specs.Bound.{kept, relaxed_clauses, bound_as, comparator_
 use crate::additions::{Addition, keep_addition};
 use crate::comparators::keep_comparator;
 pub use crate::comparators::{comparator, comparator_as};
+pub use crate::core_formulas::formula_of_cores;
 pub use crate::dimacs::write_dimacs;
 pub use crate::hard::hard_formula;
 use crate::hard::keep_hard;
+pub use crate::relaxed::relaxed_formula;
 use crate::relaxing::keep_relaxed;
 use adder::cells::Profile;
 use cnf::clause_list::ClauseList;
@@ -39,7 +41,8 @@ pub fn formula(instance: &Instance, k: u64) -> Result<Formula, AllocError>
 /// As `formula`, in any profile: in `Profile::Two` a soft clause of one literal has no relaxation
 /// variable and is not among the clauses, as the negation of its literal relaxes it; in
 /// `Profile::Three` the network adds the weights in pairs along a balanced tree; in `Profile::Four`
-/// the clauses of sums stand in place of those of cells, unless they would be too many.
+/// and `Profile::Five` the clauses of sums stand in place of those of cells, unless they would be
+/// too many.
 ///
 /// # Errors
 ///
@@ -62,7 +65,7 @@ pub fn formula_as(instance: &Instance, k: u64, profile: Profile) -> Result<Formu
 
 /// Adds the hard clauses and the soft ones with their relaxation variables; answers the last of all
 /// these variables.
-fn keep_given(
+pub(crate) fn keep_given(
     clauses: &mut ClauseList,
     instance: &Instance,
     profile: Profile,

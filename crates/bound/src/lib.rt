@@ -5,9 +5,11 @@
 pub mod additions;
 mod cells;
 mod comparators;
+mod core_formulas;
 mod dimacs;
 pub mod encoding;
 pub mod formulas;
 mod hard;
 mod kept_clauses;
+mod relaxed;
 mod relaxing;

@@ -72,13 +72,13 @@ all_noted slots T units noted rs n deep r m c at k k_in z =
     z
 
 -- what is false has the engine's variables
-small_literals : (T : List Assigned) (n : ℕ)
+pub small_literals : (T : List Assigned) (n : ℕ)
     → AllByRecursion (λ (a : Assigned). (0 < a.literal.variable) × (a.literal.variable ≤ n)) T
     → AllByRecursion (λ (l : Literal). (0 < l.variable) × (l.variable ≤ n)) (literals_of T)
 small_literals [] n h = tt
 small_literals (a ∷ T) n h = (h.0, small_literals T n h.1)
 
-false_small : (A : List Literal) (n : ℕ) (c : List Literal)
+pub false_small : (A : List Literal) (n : ℕ) (c : List Literal)
     → AllByRecursion (λ (l : Literal). (0 < l.variable) × (l.variable ≤ n)) A → IsFalseUnder c A
     → IsWithin n c
 false_small A n [] small f = (All-nil (λ (l : Literal). 0 < l.variable), omega arith)

@@ -32,5 +32,9 @@ pub mod Answered
 pub mod GivenList
 pub mod GivenClause
 pub mod Rounds
+pub mod CoreLines
+pub mod Halts
+pub mod Assumed
+pub mod Frozen
 pub mod Deleting
 pub mod Solved

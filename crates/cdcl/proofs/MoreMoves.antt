@@ -98,7 +98,7 @@ run_move e f before after stack t frozen first given ls ms names units r renames
 
 -- One more clause is given, over frozen variables, at level 0.
 
-extended_frozen : (frozen : List Bool) (removed : List Removed) (bits : List Bool) (v : ℕ)
+pub extended_frozen : (frozen : List Bool) (removed : List Removed) (bits : List Bool) (v : ℕ)
     → All (λ r. IsFree frozen r.variable) removed → slice_get frozen v ≡ Some true
     → get_or (extended removed bits) v false ≡ get_or bits v false
 extended_frozen frozen [] bits v free e = refl

@@ -153,7 +153,7 @@ search_fails result new p before after had left fails log pays = record {
 
 -- Before a turn literals became true.
 
-fewer_before : (old mid new : Search) (had left : BudgetState)
+pub fewer_before : (old mid new : Search) (had left : BudgetState)
     → (mid.engine).variables ≡ (old.engine).variables → mid.policy ≡ old.policy
     → length (old.engine).trail ≤ length (mid.engine).trail
     → rounds_left new left < rounds_left mid had → rounds_left new left < rounds_left old had

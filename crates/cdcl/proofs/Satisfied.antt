@@ -19,7 +19,7 @@ use Rattle.analyze.specs.Analyzer.{IsQuiet}
 use Rattle.cdcl.specs.Moves.{AreValues}
 use Rattle.cdcl_order.specs.Orders.{positive}
 
-value_by : (a b : Bool) (v : Bool)
+pub value_by : (a b : Bool) (v : Bool)
     → ◌≡◌ {A = Option Bool} (if a then Some true else if b then Some false else None) (Some v)
     → ((v ≡ true) × (a ≡ true)) ⊎ ((v ≡ false) × (b ≡ true))
 value_by true b v e = inl (sym (same_Some true v e), refl)

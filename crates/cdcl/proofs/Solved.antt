@@ -56,17 +56,17 @@ module _ (p : Input) (before after : List LogLine) (n : ℕ) (i : IsInput p)
   since : lines_since before after ≡ w.more
   since = since_more before after w.more w.grows
 
-  grows_by : after ≡ before ++ lines_since before after
+  pub grows_by : after ≡ before ++ lines_since before after
   grows_by = w.grows ∙ ap (λ x. before ++ x) (sym since)
 
-  new_since : (base : ℕ) → IsBaseOf (seen_given p) base
+  pub new_since : (base : ℕ) → IsBaseOf (seen_given p) base
       → LearnsNew nothing_exempt (seen_given p) base before (lines_since before after)
   new_since base above =
       subst (λ x. LearnsNew nothing_exempt (seen_given p) base before x) (sym since)
       (subst (λ g. LearnsNew nothing_exempt g base before w.more) (sym (given_seen p i))
       (w.new base (subst (λ g. IsBaseOf g base) (given_seen p i) above)))
 
-  learned_since : (had left : ℕ) → left ≡ had + n
+  pub learned_since : (had left : ℕ) → left ≡ had + n
       → left ≡ had + learned_count (lines_since before after)
   learned_since had left e = e ∙ ap (λ k. had + k) (sym w.learned_is ∙ ap learned_count (sym since))
 

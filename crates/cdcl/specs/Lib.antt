@@ -1,4 +1,5 @@
 pub mod Solving
+pub mod Assuming
 pub mod GivenNumbers
 pub mod Invariant
 pub mod Hinting
@@ -7,3 +8,5 @@ pub mod Starts
 pub mod Moves
 pub mod Deletions
 pub mod Turns
+pub mod Halting
+pub mod Answering

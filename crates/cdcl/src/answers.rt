@@ -1,10 +1,12 @@
 // The bits of a satisfying assignment.
-ghost use Rattle.std.specs.Prelude.{◌≡◌, List, length, IfOk};
-ghost use Rattle.propagate.specs.Trail.{literals_of};
+ghost use Rattle.std.specs.Prelude.{◌≡◌, ◌<◌, true, Some, List, length, IfOk};
+ghost use Rattle.cnf.specs.Literal.{Literal};
+ghost use Rattle.propagate.specs.Trail.{literals_of, value_in};
 ghost use Rattle.analyze.specs.Analyzer.{IsQuiet};
 ghost use Rattle.cdcl_order.specs.Orders.{AreClosed};
 ghost use Rattle.lrat_log.specs.Log.{LogLine};
-ghost use Rattle.cdcl.specs.Solving.{SatisfyGiven};
+ghost use Rattle.cdcl.specs.Solving.{SatisfyGiven, IsFrozen};
+ghost use Rattle.cdcl.specs.Assuming.{IsTrueUnder};
 ghost use Rattle.cdcl.specs.Running.{Runs, IsInput};
 
 use crate::input::Input;
@@ -21,6 +23,9 @@ pub(crate) fn bits(search: &Search, input: &Input) -> Result<Vec<bool>, AllocErr
     requires closed { AreClosed search.now.engine.trail search.now.engine.variables }
     ensures long { IfOk result (λ bits. length bits.items ≡ length input.now.frozen.items) }
     ensures satisfied { IfOk result (λ bits. SatisfyGiven bits.items input.now.given) }
+    ensures frozen { IfOk result (λ bits. (l : Literal) → 0 < l.variable
+        → IsFrozen input.now.frozen.items l → value_in search.now.engine.trail l ≡ Some true
+        → IsTrueUnder bits.items l) }
 {
     let mut bits = Vec::new(search.store.allocator());
     for variable in 1..input.stack.vars() + 1 {

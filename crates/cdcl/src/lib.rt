@@ -4,7 +4,9 @@
 pub use cdcl_order::{budget, watch};
 
 mod answers;
+mod assuming;
 mod compacting;
+mod cores;
 pub mod given;
 mod giving;
 mod hints;

@@ -126,6 +126,18 @@ impl Search {
         self.policy.start_over();
     }
 
+    /// Starts over from this level, or goes on from the current one where that is lower.
+    pub(crate) fn start_over_above(&mut self, level: usize)
+        requires { IsReady self.old }
+        ensures runs { KeepsRunning self.old self.new }
+        ensures variables { self.new.engine.variables ≡ self.old.engine.variables }
+        ensures policy { self.new.policy.has_learned ≡ false }
+    {
+        let depth = self.engine.depth();
+        self.backtrack(level.min(depth as usize) as u32);
+        self.policy.start_over();
+    }
+
     /// The policy sees what the last analysis taught, before the way back. It answers how many
     /// levels above 0 the clause's literals stand in.
     pub(crate) fn learn_from(&mut self, learned: &Learned) -> u32

@@ -154,7 +154,11 @@ fn on_quiet<S: Sink>(
 }
 
 /// Writes down what is true at level 0, if that is the current level; above it that is done.
-fn note_level<S: Sink>(search: &mut Search, input: &Input, sink: &mut S) -> Result<(), AllocError>
+pub(crate) fn note_level<S: Sink>(
+    search: &mut Search,
+    input: &Input,
+    sink: &mut S,
+) -> Result<(), AllocError>
     requires runs { Runs search.old input.now (S.lines sink.old) }
     ensures { LearnsNothing result (NotesAll search.old search.new input.now (S.lines sink.new))
         input.now (S.lines sink.old) (S.lines sink.new) }

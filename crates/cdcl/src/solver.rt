@@ -1,19 +1,23 @@
 // The solver.
 ghost use Rattle.std.specs.Prelude.{◌≡◌, true, false, [], ◌++◌, length, Ok, Err, All, IfOk, OnOk};
-ghost use Rattle.std.specs.Prelude.{OnErr, IsErr, ◌↔◌, ◌⊎◌};
+ghost use Rattle.std.specs.Prelude.{OnErr, IsErr, ◌↔◌, ◌⊎◌, ◌<◌};
 ghost use Rattle.cnf.specs.Clause.{has_repeat, has_opposites};
 ghost use Rattle.lrat_log.specs.Steps.{IsLogOver, learned_count, IsShortLine};
 ghost use Rattle.cdcl.specs.declared.outcome.Outcome.TheVariants.{Unsat};
-ghost use Rattle.cdcl.specs.Running.{Runs, IsInput, IsAnswer, PaysFor, StaysOpen};
+ghost use Rattle.cdcl.specs.Running.{Runs, IsInput, IsAnswer, PaysFor, StaysOpen, Pays};
 ghost use Rattle.cdcl.specs.Solving.{Solves, given_to, IsFreshName, IsFrozen, SameGiven, GivesMore};
 ghost use Rattle.cdcl.specs.Solving.{IsLiveRefuted, lines_since};
+ghost use Rattle.cdcl.specs.Assuming.{SolvesAssuming};
+ghost use Rattle.cdcl.specs.Answering.{IsAssumed};
+ghost use Rattle.cdcl.specs.Halting.{IsPlain};
 
 use crate::answers::bits;
+use crate::assuming::{Halt, run_assuming};
 use crate::budget::Budget;
 use crate::given::GivenClauses;
 use crate::giving::{are_named, give};
 use crate::input::Input;
-use crate::outcome::{Outcome, SolveFault};
+use crate::outcome::{Assumed, Outcome, Share, SolveFault};
 use crate::search::Search;
 use crate::searching::{End, run};
 use crate::starting::{copy_of, start, store_of};
@@ -259,6 +263,93 @@ impl<S: Sink> Solver<S> {
                 Err(SolveFault::Memory)
             }
         }
+    }
+
+    /// Searches under assumptions until it has an answer, or the share or the budget is spent. Each
+    /// call begins at level 0, with what was learned before. The assumptions are decided first, in
+    /// their order; they hold for this call alone. An answer with bits costs no unit of the budget;
+    /// the clause of a core costs one, unless a live clause has no literals but its.
+    ///
+    /// # Errors
+    ///
+    /// `Memory` where memory was refused: the lines are steps also then. `Failed` after that.
+    pub fn solve_assuming<W: Watch>(
+        &mut self,
+        assumptions: &[Lit],
+        share: Share,
+        budget: &mut Budget,
+        watch: &mut W,
+    ) -> Result<Assumed, SolveFault>
+        requires { All (IsFrozen self.old.frozen) assumptions.now }
+        ensures { SolvesAssuming result self.old self.new assumptions.now
+            (S.lines self.old.sink) (S.lines self.new.sink) budget.old budget.new }
+    {
+        if self.failed {
+            return Err(SolveFault::Failed);
+        }
+        if self.refuted {
+            return Ok(Assumed::Unsat);
+        }
+        let _ = are_named(assumptions);
+        let answer = answer_assuming(
+            &mut self.search,
+            &self.input,
+            &mut self.sink,
+            budget,
+            watch,
+            assumptions,
+            share,
+        );
+        match answer {
+            Ok(Assumed::Sat(bits)) => Ok(Assumed::Sat(bits)),
+            Ok(Assumed::Core(core)) => Ok(Assumed::Core(core)),
+            Ok(Assumed::Open) => Ok(Assumed::Open),
+            Ok(Assumed::Limit) => Ok(Assumed::Limit),
+            Ok(Assumed::Unsat) => {
+                self.refuted = true;
+                Ok(Assumed::Unsat)
+            }
+            Err(_) => {
+                self.failed = true;
+                Err(SolveFault::Memory)
+            }
+        }
+    }
+}
+
+/// Searches under assumptions, and reads the bits off the trail.
+fn answer_assuming<S: Sink, W: Watch>(
+    search: &mut Search,
+    input: &Input,
+    sink: &mut S,
+    budget: &mut Budget,
+    watch: &mut W,
+    assumptions: &[Lit],
+    share: Share,
+) -> Result<Assumed, AllocError>
+    requires runs { Runs search.old input.now (S.lines sink.old) }
+    requires input { IsInput input.now }
+    requires named { All (λ l. 0 < l.variable) assumptions.now }
+    requires frozen { All (IsFrozen input.now.frozen.items) assumptions.now }
+    ensures answers { IfOk result
+        (IsAssumed search.new input.now (S.lines sink.new) budget.new assumptions.now) }
+    ensures propagates { IfOk result (λ o.
+        IsLiveRefuted input.now.given (S.lines sink.old) → o ≡ Assumed.Unsat) }
+    ensures plain { IfOk result (λ o. IsPlain input.now → o ≡ Assumed.Unsat) }
+    ensures pays { Pays input.now.given (S.lines sink.old) (S.lines sink.new)
+        budget.old budget.new }
+    ensures err { OnErr result (StaysOpen input.now (S.lines sink.new)) }
+{
+    let halt = run_assuming(search, input, sink, budget, watch, assumptions, share)?;
+    match halt {
+        Halt::Satisfied => {
+            let bits = bits(search, input)?;
+            Ok(Assumed::Sat(bits))
+        }
+        Halt::Refuted => Ok(Assumed::Unsat),
+        Halt::Core(core) => Ok(Assumed::Core(core)),
+        Halt::Open => Ok(Assumed::Open),
+        Halt::Spent => Ok(Assumed::Limit),
     }
 }
 

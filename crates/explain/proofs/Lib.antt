@@ -1,1 +1,4 @@
+mod Comments
+mod Explained
 mod Listing
+mod Sheets

@@ -1,2 +1,7 @@
+pub mod ClauseLines
+pub mod Explained
+pub mod Explanation
 pub mod Falsified
+pub mod Judging
+pub mod Sheets
 pub mod Vectors

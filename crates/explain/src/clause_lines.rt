@@ -1,17 +1,51 @@
 // Where the clauses of a text stand, with the comments above them. The text reads as an instance:
 // what is no clause there is blank, a comment, or the header of the older form.
+ghost use Rattle.std.specs.Prelude.{◌≡◌};
+
 use std::alloc::{AllocError, Global};
+use std::marker::Model;
 use text::cutting::{lines, tokens};
 
 /// A clause as the text has it.
-#[derive(Clone, Copy)]
+#[derive(Drop)]
 pub(crate) struct ClauseLine<'a> {
+    // The number of its line, from 1.
+    line: u64,
+    // The line.
+    text: &'a [u8],
+    // The last comment above it, unless a blank line or an empty comment is between; else empty.
+    comment: &'a [u8],
+}
+
+impl<'a> Model for ClauseLine<'a> {
+    ghost use Rattle.explain.specs.ClauseLines.{SourceLine};
+
+    ghost Value = { SourceLine };
+
+    ghost view = { λ c. record { number = c.line; text = c.text.now; comment = c.comment.now } };
+}
+
+impl<'a> ClauseLine<'a> {
     /// The number of its line, from 1.
-    pub(crate) line: u64,
+    pub(crate) fn line(&self) -> u64
+        ensures { result ≡ self.now.number }
+    {
+        self.line
+    }
+
     /// The line.
-    pub(crate) text: &'a [u8],
+    pub(crate) fn text(&self) -> &[u8]
+        ensures { result.now ≡ self.now.text }
+    {
+        self.text
+    }
+
     /// The last comment above it, unless a blank line or an empty comment is between; else empty.
-    pub(crate) comment: &'a [u8],
+    pub(crate) fn comment(&self) -> &[u8]
+        ensures { result.now ≡ self.now.comment }
+    {
+        self.comment
+    }
 }
 
 /// The lines of soft clauses, and of some hard ones.

@@ -1,12 +1,24 @@
 // What a person reads: the cost, what is given up for it, and what the bits break.
-use crate::clause_lines::{ClauseLine, ClauseLines};
+ghost use Rattle.std.specs.Prelude.{◌≡◌, ◌<◌, ◌^◌, Ok, IsTrue, ◌↔◌, IfOk, IfErr, OnOk, OnErr, length, sum_by};
+ghost use Rattle.std.specs.Io.KnownBytes.{Appends};
+ghost use Rattle.text.specs.Writing.{AppendsPart};
+ghost use Rattle.wcnf.specs.Wcnf.{Reads};
+ghost use Rattle.lrat_result.specs.Result.{OptimumFound, report_of};
+ghost use Rattle.lrat_result.specs.Report.{reported};
+ghost use Rattle.explain.specs.Explanation.{bits_line};
+ghost use Rattle.explain.specs.Explained.{AreFindings, Explains, ExplainsTexts, IsAnswerFault};
+ghost use Rattle.explain.specs.Explained.{IsSolutionOf, IsTextFault, Leaves, LeavesRead, listing_text};
+
+use crate::clause_lines::ClauseLines;
 use crate::falsified::{GivenUp, broken, given_up};
+use crate::putting::{put_bits, put_broken, put_cost, put_count, put_given_up};
+use crate::sheet::Sheet;
 use cnf::types::Instance;
 use lrat_result::report::{Report, ReportFault, Said, Solution};
 use lrat_result::result::read_report;
 use std::alloc::{AllocError, Global};
 use std::io::Write;
-use text::output::{Block, WriteFault};
+use text::output::{WriteFault, write_piece};
 use wcnf::faults::{FaultKind, ReadFault};
 use wcnf::reading::read;
 
@@ -23,18 +35,6 @@ pub enum ExplainFault {
     Output,
 }
 
-impl From<AllocError> for ExplainFault {
-    fn from(_error: AllocError) -> Self {
-        ExplainFault::Memory
-    }
-}
-
-impl From<WriteFault> for ExplainFault {
-    fn from(_fault: WriteFault) -> Self {
-        ExplainFault::Output
-    }
-}
-
 /// Writes for a person what a result comes to: `text` is the instance in the WCNF of the MaxSAT
 /// Evaluation 2022 or of the years before, `answer` the result's `o`, `s` and `v` lines. First the
 /// cost, then each soft clause that the bits give up, heaviest first, with its line and the comment
@@ -49,18 +49,39 @@ pub fn write_explanation<W: Write>(
     text: &[u8],
     answer: &[u8],
     writer: &mut W,
-) -> Result<bool, ExplainFault> {
-    let instance = match read(alloc, text) {
-        Ok(instance) => instance,
-        Err(fault) if fault.kind == FaultKind::Memory => return Err(ExplainFault::Memory),
-        Err(fault) => return Err(ExplainFault::Text(fault)),
-    };
-    let report = match read_report(alloc, answer) {
-        Ok(report) => report,
-        Err(ReportFault::Form(line)) => return Err(ExplainFault::Result(line)),
-        Err(ReportFault::Memory) => return Err(ExplainFault::Memory),
-    };
+) -> Result<bool, ExplainFault>
+    ensures ok { IfOk result (λ is_right. ExplainsTexts text.now answer.now is_right
+        (W.contents writer.old) (W.contents writer.new)) }
+    ensures fault { IfErr result (λ fault. Leaves fault text.now answer.now
+        (W.contents writer.old) (W.contents writer.new)) }
+{
+    let instance = read_text(alloc, text)?;
+    let report = read_answer(alloc, answer)?;
     explain_report(alloc, text, &instance, &report, writer)
+}
+
+/// The instance.
+pub(crate) fn read_text(alloc: Global, text: &[u8]) -> Result<Instance, ExplainFault>
+    ensures ok { IfOk result (λ i. Reads text.now i) }
+    ensures fault { IfErr result (λ fault. IsTextFault text.now fault) }
+{
+    match read(alloc, text) {
+        Ok(instance) => Ok(instance),
+        Err(fault) if fault.kind == FaultKind::Memory => Err(ExplainFault::Memory),
+        Err(fault) => Err(ExplainFault::Text(fault)),
+    }
+}
+
+/// The result.
+pub(crate) fn read_answer(alloc: Global, answer: &[u8]) -> Result<Report, ExplainFault>
+    ensures ok { IfOk result (λ r. report_of answer.now ≡ Ok (reported r)) }
+    ensures fault { IfErr result (λ fault. IsAnswerFault answer.now fault) }
+{
+    match read_report(alloc, answer) {
+        Ok(report) => Ok(report),
+        Err(ReportFault::Form(line)) => Err(ExplainFault::Result(line)),
+        Err(ReportFault::Memory) => Err(ExplainFault::Memory),
+    }
 }
 
 /// Writes what is to be said of a result that was read.
@@ -70,26 +91,38 @@ fn explain_report<W: Write>(
     instance: &Instance,
     report: &Report,
     writer: &mut W,
-) -> Result<bool, ExplainFault> {
-    let mut block = Block::new();
-    let is_right = match &report.said {
+) -> Result<bool, ExplainFault>
+    ensures ok { IfOk result (λ is_right. Explains text.now instance.now (reported report.now).said
+        is_right (W.contents writer.old) (W.contents writer.new)) }
+    ensures fault { IfErr result (λ fault. LeavesRead fault text.now instance.now
+        (reported report.now).said (W.contents writer.old) (W.contents writer.new)) }
+{
+    match &report.said {
         Said::Optimum(solution) | Said::Sat(solution) => {
-            explain_solution(alloc, text, instance, solution, &mut block, writer)?
+            explain_solution(alloc, text, instance, solution, writer)
         }
-        Said::Unsat => {
-            block.put(
-                writer,
-                b"the result has no bits: it says that there is no solution\n",
-            )?;
-            true
-        }
-        Said::Limit => {
-            block.put(writer, b"the result has no bits: no solution was met\n")?;
-            true
-        }
-    };
-    block.flush(writer)?;
-    Ok(is_right)
+        Said::Unsat => match write_piece(writer, NO_SOLUTION) {
+            Ok(()) => Ok(true),
+            Err(_) => Err(ExplainFault::Output),
+        },
+        Said::Limit => match write_piece(writer, NOTHING_MET) {
+            Ok(()) => Ok(true),
+            Err(_) => Err(ExplainFault::Output),
+        },
+    }
+}
+
+const NO_SOLUTION: &[u8] = b"the result has no bits: it says that there is no solution\n";
+
+const NOTHING_MET: &[u8] = b"the result has no bits: no solution was met\n";
+
+/// What is to be said of bits.
+#[derive(Drop)]
+pub(crate) struct Findings<'a> {
+    /// What they give up, heaviest first.
+    pub(crate) given_up: Vec<GivenUp>,
+    /// The lines of all soft clauses, and of the hard ones that they break.
+    pub(crate) lines: ClauseLines<'a>,
 }
 
 /// Writes what is to be said of a solution, or of bits that are none.
@@ -98,110 +131,109 @@ fn explain_solution<W: Write>(
     text: &[u8],
     instance: &Instance,
     solution: &Solution,
-    block: &mut Block,
     writer: &mut W,
-) -> Result<bool, ExplainFault> {
+) -> Result<bool, ExplainFault>
+    ensures ok { IfOk result (λ is_right. Explains text.now instance.now
+        (OptimumFound solution.now.cost.cost solution.now.bits.items) is_right
+        (W.contents writer.old) (W.contents writer.new)) }
+    ensures fault { IfErr result (λ fault. LeavesRead fault text.now instance.now
+        (OptimumFound solution.now.cost.cost solution.now.bits.items)
+        (W.contents writer.old) (W.contents writer.new)) }
+{
     let bits = solution.bits.as_slice();
-    if bits.len() != instance.vars() as usize {
-        put_bits(block, writer, bits.len(), instance.vars())?;
-        return Ok(false);
-    }
-    let broken = broken(instance, bits)?;
-    let given_up = given_up(instance, bits)?;
-    let clause_lines = ClauseLines::of(alloc, text, &broken)?;
-    let cost = instance.cost(bits);
     let told = solution.cost.cost;
-    put_cost(block, writer, cost, told)?;
-    put_count(block, writer, given_up.len(), instance.soft().len())?;
-    put_given_up(block, writer, &given_up, &clause_lines)?;
-    for clause_line in &clause_lines.hard {
-        block.put(writer, b"broken, hard, ")?;
-        put_clause_line(block, writer, clause_line)?;
+    if bits.len() == instance.vars() as usize {
+        return explain_bits(alloc, text, instance, bits, told, writer);
     }
-    Ok(cost == told && broken.is_empty())
+    match write_bits(bits.len(), instance.vars(), writer) {
+        Ok(()) => Ok(false),
+        Err(_) => Err(ExplainFault::Output),
+    }
 }
 
-/// There are too few or too many bits.
-fn put_bits<W: Write>(
-    block: &mut Block,
+/// Writes what is to be said of bits, one for each variable.
+fn explain_bits<W: Write>(
+    alloc: Global,
+    text: &[u8],
+    instance: &Instance,
+    bits: &[bool],
+    told: u64,
     writer: &mut W,
-    bits: usize,
-    vars: u32,
-) -> Result<(), WriteFault> {
-    block.put(writer, b"the result has ")?;
-    block.put_number(writer, bits as u64)?;
-    block.put(writer, b" bits, and the instance ")?;
-    block.put_number(writer, u64::from(vars))?;
-    block.put(writer, b" variables\n")
+) -> Result<bool, ExplainFault>
+    requires { length bits.now ≡ instance.now.variables }
+    ensures ok { IfOk result (λ is_right. Explains text.now instance.now
+        (OptimumFound told bits.now) is_right (W.contents writer.old) (W.contents writer.new)) }
+    ensures fault { IfErr result (λ fault. LeavesRead fault text.now instance.now
+        (OptimumFound told bits.now) (W.contents writer.old) (W.contents writer.new)) }
+{
+    let Ok(findings) = find(alloc, text, instance, bits) else {
+        return Err(ExplainFault::Memory);
+    };
+    instance.limits();
+    let cost = instance.cost(bits);
+    let is_right = is_solution(instance, bits, told);
+    match write_listing(cost, told, instance.soft().len(), &findings, writer) {
+        Ok(()) => Ok(is_right),
+        Err(_) => Err(ExplainFault::Output),
+    }
 }
 
-/// What the bits cost, and whether that was told.
-fn put_cost<W: Write>(
-    block: &mut Block,
-    writer: &mut W,
+/// Whether the bits, one for each variable, are a solution of this cost.
+pub(crate) fn is_solution(instance: &Instance, bits: &[bool], cost: u64) -> bool
+    requires { length bits.now ≡ instance.now.variables }
+    ensures { IsTrue result ↔ IsSolutionOf instance.now bits.now cost }
+{
+    instance.cost(bits) == cost && instance.feasible(bits)
+}
+
+/// Looks for what is to be said of the bits.
+fn find<'a>(
+    alloc: Global,
+    text: &'a [u8],
+    instance: &Instance,
+    bits: &[bool],
+) -> Result<Findings<'a>, AllocError>
+    ensures { IfOk result (λ f. AreFindings text.now instance.now bits.now f) }
+{
+    let given_up = given_up(instance, bits)?;
+    let broken = broken(instance, bits)?;
+    let lines = ClauseLines::of(alloc, text, &broken)?;
+    Ok(Findings { given_up, lines })
+}
+
+/// Writes what was found.
+fn write_listing<W: Write>(
     cost: u64,
     told: u64,
-) -> Result<(), WriteFault> {
-    block.put(writer, b"cost ")?;
-    block.put_number(writer, cost)?;
-    if cost != told {
-        block.put(writer, b", where the result says ")?;
-        block.put_number(writer, told)?;
-    }
-    block.put(writer, b"\n")
+    all: usize,
+    findings: &Findings<'_>,
+    writer: &mut W,
+) -> Result<(), WriteFault>
+    requires { sum_by (λ g. g.weight) findings.now.given_up.items < 2 ^ 64 }
+    ensures ok { OnOk result (Appends (W.contents writer.old) (W.contents writer.new)
+        (listing_text cost told all findings.now)) }
+    ensures fault { OnErr result (AppendsPart (W.contents writer.old) (W.contents writer.new)
+        (listing_text cost told all findings.now)) }
+{
+    let given_up = findings.given_up.as_slice();
+    let soft = findings.lines.soft.as_slice();
+    let hard = findings.lines.hard.as_slice();
+    let mut sheet = Sheet::new();
+    put_cost(&mut sheet, writer, cost, told);
+    put_count(&mut sheet, writer, given_up.len(), all);
+    put_given_up(&mut sheet, writer, given_up, soft);
+    put_broken(&mut sheet, writer, hard);
+    sheet.finish(writer)
 }
 
-/// How many of the soft clauses are given up.
-fn put_count<W: Write>(
-    block: &mut Block,
-    writer: &mut W,
-    count: usize,
-    of: usize,
-) -> Result<(), WriteFault> {
-    block.put(writer, b"given up: ")?;
-    block.put_number(writer, count as u64)?;
-    block.put(writer, b" of ")?;
-    block.put_number(writer, of as u64)?;
-    block.put(writer, b" soft clauses\n")
-}
-
-/// Each of them, with what is paid from the first one up to it.
-fn put_given_up<W: Write>(
-    block: &mut Block,
-    writer: &mut W,
-    given_up: &[GivenUp],
-    clause_lines: &ClauseLines<'_>,
-) -> Result<(), WriteFault> {
-    let mut sum: u64 = 0;
-    for each in given_up {
-        sum = sum.saturating_add(each.weight);
-        block.put(writer, b"+ ")?;
-        block.put_number(writer, each.weight)?;
-        block.put(writer, b" = ")?;
-        block.put_number(writer, sum)?;
-        block.put(writer, b", ")?;
-        if let Some(clause_line) = clause_lines.soft.get(each.place as usize) {
-            put_clause_line(block, writer, clause_line)?;
-        }
-    }
-    Ok(())
-}
-
-/// A line of the text with its number, and the comment above it.
-fn put_clause_line<W: Write>(
-    block: &mut Block,
-    writer: &mut W,
-    clause_line: &ClauseLine<'_>,
-) -> Result<(), WriteFault> {
-    block.put(writer, b"line ")?;
-    block.put_number(writer, clause_line.line)?;
-    block.put(writer, b": ")?;
-    block.put(writer, clause_line.text)?;
-    block.put(writer, b"\n")?;
-    if !clause_line.comment.is_empty() {
-        block.put(writer, b"    ")?;
-        block.put(writer, clause_line.comment)?;
-        block.put(writer, b"\n")?;
-    }
-    Ok(())
+/// Writes that there are too few or too many bits.
+fn write_bits<W: Write>(bits: usize, vars: u32, writer: &mut W) -> Result<(), WriteFault>
+    ensures ok { OnOk result (Appends (W.contents writer.old) (W.contents writer.new)
+        (bits_line bits vars)) }
+    ensures fault { OnErr result (AppendsPart (W.contents writer.old) (W.contents writer.new)
+        (bits_line bits vars)) }
+{
+    let mut sheet = Sheet::new();
+    put_bits(&mut sheet, writer, bits, vars);
+    sheet.finish(writer)
 }

@@ -4,3 +4,6 @@
 mod clause_lines;
 pub mod explaining;
 pub mod falsified;
+pub mod judging;
+mod putting;
+mod sheet;

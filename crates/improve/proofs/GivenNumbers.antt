@@ -16,6 +16,7 @@ use Rattle.lrat_log.specs.Log.{LogLine, Given, given_at, is_learned, clauses_in}
 use Rattle.lrat_log.specs.Steps.{IsLogOver, LearnsNew, is_later, learned_count, given_of}
 use Rattle.lrat_log.proofs.Laws.{given_on, clauses_given, given_at-given_of}
 use Rattle.cdcl.specs.Solving.{given_to, GivesMore, lines_since}
+use Rattle.improve_cores.proofs.Laws.{given_pushed}
 use Rattle.improve.specs.Bounds.{LogSolver, IsUsable, GivesAll}
 use Rattle.lrat_log.proofs.Laws.{none_new}
 use Rattle.lrat_log.proofs.Laws.{new_more}
@@ -31,15 +32,6 @@ fresh_name given n e l =
       ap (λ g. given_at g n) e ∙ given_at-given_of (clauses_in given) n
           ∙ numbered_past (clauses_in given) n few,
     )
-
-given_push : (n : ℕ) (cs : List (List Literal)) (c : List Literal) (m : ℕ) → m ≡ n + length cs
-    → given_on n (cs ++ c ∷ []) ≡ given_on n cs ++ (Formula m, c) ∷ []
-given_push n [] c m e = let same : n ≡ m = omega arith in ap (λ k. (Formula k, c) ∷ []) same
-given_push n (d ∷ cs) c m e = ap (λ x. (Formula n, d) ∷ x) (given_push (n + 1) cs c m (omega arith))
-
-given_more : (cs : List (List Literal)) (c : List Literal) (m : ℕ) → m ≡ length cs + 1
-    → given_of (cs ++ c ∷ []) ≡ given_of cs ++ (Formula m, c) ∷ []
-given_more cs c m e = given_push 1 cs c m (omega arith)
 
 learned_on : (a b : List LogLine) → learned_count b ≡ 0 → learned_count (a ++ b) ≡ learned_count a
 learned_on a b h =
@@ -64,7 +56,7 @@ module _ (old new : LogSolver) (n : ℕ) (c : List Literal) (usable : IsUsable o
       omega (arith, length-map (given_to old) (λ g. g.1)) in
       given_is
       ∙ ap (λ x. x ++ (Formula n, c) ∷ []) usable.numbered
-      ∙ sym (given_more (clauses_in (given_to old)) c n len)
+      ∙ sym (given_pushed (clauses_in (given_to old)) c n len)
       ∙ ap given_of (sym clauses_are)
 
   formula_few : length old.formula.clauses < n

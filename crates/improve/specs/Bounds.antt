@@ -11,6 +11,7 @@ use Rattle.lrat_log.specs.Rebase.{rebased}
 use Rattle.adder.specs.declared.cells.Profile.{Profile}
 use Rattle.bound.specs.Bound.{hard_cnf, bound_as, addition_as, fixed_clauses, comparator_for}
 use Rattle.cdcl.specs.Solving.{SolverState, given_to}
+pub use Rattle.improve_cores.specs.Counting.{LogSolver}
 use Rattle.improve.specs.Frozen.{IsFrozenFor}
 use Rattle.improve.specs.Improving.{AreFalling, IsSolution, IsNewOver}
 use Rattle.improve.specs.Improving.{comparators_for, weaker_before}
@@ -18,9 +19,6 @@ use Rattle.improve.specs.declared.bounds.Bounds.{Bounds}
 use Rattle.improve.specs.declared.bounds.Next.{Next}
 use Rattle.improve.specs.declared.bounds.Next.TheVariants.{Cheaper, Refuted, Spent}
 use Rattle.cdcl_order.specs.Budgets.{BudgetState, left_of}
-
-abbrev pub LogSolver : Type 0
-LogSolver = SolverState (List LogLine)
 
 -- a solver that works, whose clauses are numbered in the order in which they were given
 pub record IsUsable (s : LogSolver) : Type 0 where

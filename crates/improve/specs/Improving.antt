@@ -20,6 +20,7 @@ use Rattle.lrat_log.specs.Rebase.{WeakerList, weaker_line}
 use Rattle.adder.specs.declared.cells.Profile.{Profile}
 use Rattle.bound.specs.Bound.{hard_cnf, bound_as, fixed_clauses, comparator_for}
 use Rattle.cdcl_order.specs.Budgets.{BudgetState, left_of}
+pub use Rattle.improve_cores.specs.CoreWork.{IsAcceptedOver}
 use Rattle.improve.specs.Progress.{Telling}
 use Rattle.improve.specs.declared.found.Work.{Work}
 use Rattle.improve.specs.declared.found.Found.{Found}
@@ -82,10 +83,6 @@ weaker_for profile p costs last = weaker_before profile p (but_last costs) last
 abbrev pub BeginsWithWeaker : Profile → Problem → List ℕ → ℕ → List LogLine → Type 0
 BeginsWithWeaker profile p costs last ls =
     (rest : List LogLine) × (ls ≡ map weaker_line (weaker_for profile p costs last) ++ rest)
-
--- the log is accepted over these clauses
-abbrev pub IsAcceptedOver : List (List Literal) → List LogLine → Type 0
-IsAcceptedOver cs ls = Accepts cs (numbered_lines (length cs) ls)
 
 -- the empty clause has this number in the formula, and the one line of the log adds it again
 abbrev pub repeats_empty : ℕ → List LogLine

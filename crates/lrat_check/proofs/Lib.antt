@@ -9,6 +9,7 @@ pub mod Groups
 pub mod Negations
 pub mod Base
 pub mod Proofs
+pub mod HeadVerdicts
 pub mod Judged
 pub mod Whole
 pub mod Checked
@@ -17,4 +18,6 @@ pub mod BitsFaults
 pub mod Judging
 pub mod PieceLaws
 pub mod ReadingLaws
+pub mod HeadLaws
+pub mod BehindLaws
 pub mod LeftLaws

@@ -1,7 +1,9 @@
 -- A certificate in pieces: what holds after a line more, after a piece, and at the end.
-use Rattle.std.proofs.Common.{◌≡◌, ℕ, ◌+◌, ◌<◌, ◌≤◌, Bool, true, false, List, [], ◌∷◌, ◌++◌, map}
+use Rattle.std.proofs.Common.{◌≡◌, ℕ, zero, suc, ◌+◌, ◌<◌, ◌≤◌, Bool, true, false, List, [], ◌∷◌}
+use Rattle.std.proofs.Common.{◌++◌, map}
 use Rattle.std.proofs.Common.{take, drop, Option, Some, None, refl, sym, ◌∙◌, ap, subst}
-use Rattle.std.proofs.Common.{length, arith, append_assoc, append-nil}
+use Rattle.std.proofs.Common.{length, replicate, rules, arith, append_assoc, append-nil}
+use Rattle.cnf.specs.Lrat.{Live, start_of}
 use Rattle.std.specs.Prelude.{◌-◌, ◌==◌, not, is_some}
 use Rattle.std.specs.Str.Lines.{strip_carriage_return}
 use Rattle.std.proofs.lemmas.List.{length-drop, take_rest, take-append-drop}
@@ -15,7 +17,7 @@ use Rattle.text.proofs.Laws.{cut-ended, cut-kept, cut-nothing, lines-rest, lines
 use Rattle.text.proofs.Laws.{taken-on, taken-whole}
 use Rattle.lrat_check.specs.declared.verdicts.Verdict.{Verdict}
 use Rattle.lrat_live.specs.Listed.{listed_from}
-use Rattle.lrat_check.specs.Machine.{MachineState, verdict_after}
+use Rattle.lrat_check.specs.Machine.{MachineState, after_lines, verdict_after}
 use Rattle.lrat_check.specs.Verdict.{verdict_on, proof_verdict}
 use Rattle.lrat_check.proofs.Base.{live_of-start}
 use Rattle.lrat_check.proofs.Judged.{state_of}
@@ -23,11 +25,11 @@ use Rattle.lrat_check.specs.Pieces.{ReadingState, IsOpen, IsRefused, Holds, Judg
 use Rattle.lrat_check.specs.Pieces.{CheckerState, HasJudged, JudgesLines}
 
 -- the tokens of the first line, and those of the others
-tokens-first : (x more : List ℕ) → IsNoFeed x
+pub tokens-first : (x more : List ℕ) → IsNoFeed x
     → token_lines (x ++ 10 ∷ more) ≡ tokens_of (strip_carriage_return x) ∷ token_lines more
 tokens-first x more h = ap (map tokens_of) (lines-split x more h)
 
-tokens-last : (x : List ℕ) → 0 < length x → IsNoFeed x → token_lines x ≡ tokens_of x ∷ []
+pub tokens-last : (x : List ℕ) → 0 < length x → IsNoFeed x → token_lines x ≡ tokens_of x ∷ []
 tokens-last x l h = ap (map tokens_of) (lines-rest x l h)
 
 regroup : (d r t more : List ℕ) → d ++ ((r ++ t) ++ more) ≡ ((d ++ r) ++ t) ++ more
@@ -182,9 +184,9 @@ pub taken_none : (old mid new : ReadingState) (piece left : List ℕ) (count : �
     → ((formula : List (List Literal)) (bytes : List ℕ) → Holds mid formula bytes
     → Holds new formula (bytes ++ take count left))
     → TakesUpTo old new piece left
-taken_none old mid new piece left count t zero next =
+taken_none old mid new piece left count t is_zero next =
     taken_on old mid new piece left (take count left) left t
-    (sym (ap (λ k. take k left ++ left) zero)) next
+    (sym (ap (λ k. take k left ++ left) is_zero)) next
 
 kept_rest : (mid new : ReadingState) (left : List ℕ) → mid.refused ≡ None → IsNoFeed left
     → new.machine ≡ mid.machine → new.refused ≡ mid.refused → new.rest ≡ mid.rest ++ left
@@ -228,16 +230,41 @@ some_from_test o b e h none = let t : false ≡ true = sym (ap is_some none) ∙
 pub some_from_true : (o : Option Verdict) → is_some o ≡ true → o ≡ None → ⊥
 some_from_true o e none = let t : false ≡ true = sym (ap is_some none) ∙ e in cc
 
--- the start
-pub starts : (r : ReadingState) (formula : List (List Literal))
-    → r.machine ≡ state_of (listed_from 1 formula) (length formula) false 0 → r.rest ≡ []
-    → r.refused ≡ None → Holds r formula []
-starts r formula e empty none = record {
-  open_end = λ n. record {
-    done = [];
-    cut = subst (IsCut [] []) (sym empty) cut-nothing;
+-- the start, behind line feeds
+pub lines_passed_on : (l : Live) (k n : ℕ) (more : List ℕ)
+    → verdict_on l false k (token_lines (replicate n 10 ++ more))
+    ≡ verdict_on l false (k + n) (token_lines more)
+lines_passed_on l k zero more =
+    let same : k ≡ k + 0 = omega arith in ap (λ j. verdict_on l false j (token_lines more)) same
+lines_passed_on l k (suc n) more =
+    ap (verdict_on l false k) (tokens-first [] (replicate n 10 ++ more) none)
+    ∙ lines_passed_on l (k + 1) n more
+    ∙ (let same : (k + 1) + n ≡ k + suc n = omega arith in
+    ap (λ j. verdict_on l false j (token_lines more)) same)
+  where
+    none : IsNoFeed []
+    none = search rules
+
+feeds_cut : (n : ℕ) → IsCut (replicate n 10) (replicate n 10) []
+feeds_cut zero = cut-nothing
+feeds_cut (suc n) = cut-ended [] (replicate (suc n) 10) (feeds n)
+  where
+    feeds : (m : ℕ) → EndsInFeed (replicate (suc m) 10)
+    feeds zero = ([], refl)
+    feeds (suc m) = let e = feeds m in (10 ∷ e.0, ap (λ x. 10 ∷ x) e.1)
+
+pub starts : (r : ReadingState) (formula : List (List Literal)) (n : ℕ)
+    → r.machine ≡ after_lines (state_of (listed_from 1 formula) (length formula) false 0) n
+    → r.rest ≡ [] → r.refused ≡ None → Holds r formula (replicate n 10)
+starts r formula n e empty none = record {
+  open_end = λ _. record {
+    done = replicate n 10;
+    cut = subst (IsCut (replicate n 10) (replicate n 10)) (sym empty) (feeds_cut n);
     resumes = λ more. ap (λ (x : MachineState). verdict_after x (token_lines more)) e
-        ∙ ap (λ l. verdict_on l false 1 (token_lines more)) (live_of-start formula);
+        ∙ ap (λ l. verdict_on l false (0 + n + 1) (token_lines more)) (live_of-start formula)
+        ∙ (let same : 0 + n + 1 ≡ 1 + n = omega arith in
+        ap (λ k. verdict_on (start_of formula) false k (token_lines more)) same)
+        ∙ sym (lines_passed_on (start_of formula) 1 n more);
   };
   refused = λ v s. absurd (let two : None ≡ Some v = sym none ∙ s in cc);
 }
@@ -304,27 +331,32 @@ read_more (Some x) (Some y) (Some z) a b p q = p ∙ ap (λ w. a ++ w) q ∙ sym
 
 -- the verdict on all bytes of the reader, where it was found over the bytes so far and whatever
 -- comes, or at their end
-pub over_all : (o n : Option (List ℕ)) (fed : List ℕ) (v : Verdict) (formula : List (List Literal))
-    → Consumes o n fed → ((more : List ℕ) → v ≡ proof_verdict formula (fed ++ more))
-    → IfSome o (λ bytes. v ≡ proof_verdict formula bytes)
-over_all None n fed v formula p h = tt
-over_all (Some x) None fed v formula p h = absurd p
-over_all (Some x) (Some y) fed v formula p h = h y ∙ ap (proof_verdict formula) (sym p)
+pub over_all : (o n : Option (List ℕ)) (fed : List ℕ) (v : Verdict) (f : List ℕ → Verdict)
+    → Consumes o n fed → ((more : List ℕ) → v ≡ f (fed ++ more)) → IfSome o (λ bytes. v ≡ f bytes)
+over_all None n fed v f p h = tt
+over_all (Some x) None fed v f p h = absurd p
+over_all (Some x) (Some y) fed v f p h = h y ∙ ap f (sym p)
 
-pub over_ended : (o n : Option (List ℕ)) (fed : List ℕ) (v : Verdict)
-    (formula : List (List Literal)) → Consumes o n fed → IsAtEnd n → v ≡ proof_verdict formula fed
-    → IfSome o (λ bytes. v ≡ proof_verdict formula bytes)
-over_ended None n fed v formula p e h = tt
-over_ended (Some x) None fed v formula p e h = absurd p
-over_ended (Some x) (Some y) fed v formula p e h =
-    h ∙ ap (proof_verdict formula) (sym (append-nil fed) ∙ ap (λ z. fed ++ z) (sym e) ∙ sym p)
+-- where another function gives the verdict on the rest
+pub over_rest : (o n : Option (List ℕ)) (fed : List ℕ) (v : Verdict) (f g : List ℕ → Verdict)
+    → Consumes o n fed → ((more : List ℕ) → f (fed ++ more) ≡ g more)
+    → IfSome n (λ bytes. v ≡ g bytes) → IfSome o (λ bytes. v ≡ f bytes)
+over_rest None n fed v f g p same h = tt
+over_rest (Some x) None fed v f g p same h = absurd p
+over_rest (Some x) (Some y) fed v f g p same h = h ∙ sym (same y) ∙ ap f (sym p)
+
+pub over_ended : (o n : Option (List ℕ)) (fed : List ℕ) (v : Verdict) (f : List ℕ → Verdict)
+    → Consumes o n fed → IsAtEnd n → v ≡ f fed → IfSome o (λ bytes. v ≡ f bytes)
+over_ended None n fed v f p e h = tt
+over_ended (Some x) None fed v f p e h = absurd p
+over_ended (Some x) (Some y) fed v f p e h =
+    h ∙ ap f (sym (append-nil fed) ∙ ap (λ z. fed ++ z) (sym e) ∙ sym p)
 
 pub over_end : (o m n : Option (List ℕ)) (fed buf : List ℕ) (k : ℕ) (v : Verdict)
-    (formula : List (List Literal)) → Consumes o m fed → Consumes m n (take k buf) → k ≡ 0
-    → IsAtEnd n
-    → v ≡ proof_verdict formula fed → IfSome o (λ bytes. v ≡ proof_verdict formula bytes)
-over_end o m n fed buf k v formula p q e end h =
+    (f : List ℕ → Verdict) → Consumes o m fed → Consumes m n (take k buf) → k ≡ 0
+    → IsAtEnd n → v ≡ f fed → IfSome o (λ bytes. v ≡ f bytes)
+over_end o m n fed buf k v f p q e end h =
     let none : take k buf ≡ [] = ap (λ j. take j buf) e in
-    over_ended o n fed v formula
+    over_ended o n fed v f
     (subst (Consumes o n) (append-nil fed)
     (read_more o m n fed [] p (subst (Consumes m n) none q))) end h

@@ -13,7 +13,7 @@ use Rattle.cnf.specs.Lrat.{ProofLine, Addition as AddsLine, Deletion as DeletesL
 use Rattle.text.specs.LratText.{line_tokens}
 use Rattle.text.specs.LratText.{HasNumbers, has_tokens}
 use Rattle.cnf.specs.Lrat.{Live, start_of, with_clause, Step, Chain}
-use Rattle.cnf.specs.Lrat.{adds_empty, AcceptsFrom}
+use Rattle.cnf.specs.Lrat.{adds_empty, Accepts, AcceptsFrom}
 use Rattle.lrat_check.specs.Checks.{IsProofOver}
 use Rattle.lrat_check.specs.declared.verdicts.Cause.{Cause}
 use Rattle.lrat_check.specs.declared.verdicts.Cause.TheVariants.{LineForm, DeadId}
@@ -266,17 +266,41 @@ verdict_from ((t ∷ ts) ∷ more) live n s (l ∷ ls) spelled numbers a =
 abbrev pub NoneRepeatsIn : List (List Literal) → Type 0
 NoneRepeatsIn formula = All (λ c. has_repeat c ≡ false) formula
 
+-- the lines spell a proof that is accepted
+pub record AreAccepted (formula : List (List Literal)) (lines : List (List (List ℕ)))
+    (ls : List ProofLine) : Type 0 where
+  pub spelled : filter has_tokens lines ≡ map line_tokens ls
+  pub numbers : All HasNumbers ls
+  pub accepts : Accepts formula ls
+
+pub lines_mean : (formula : List (List Literal)) → NoneRepeatsIn formula → (n : ℕ)
+    (lines : List (List (List ℕ))) → verdict_on (start_of formula) false n lines ≡ Yes
+    → (ls : List ProofLine) × AreAccepted formula lines ls
+lines_mean formula h n lines e =
+    let r = verdict_means lines (start_of formula) n (start_sane formula h) e in (
+      r.0,
+      record {
+        spelled = r.1;
+        numbers = All-from_recursion HasNumbers r.0 r.2;
+        accepts = accepts_from r.0 (start_of formula) r.3;
+      },
+    )
+
+pub lines_from : (formula : List (List Literal)) → NoneRepeatsIn formula → (n : ℕ)
+    (lines : List (List (List ℕ))) (ls : List ProofLine) → AreAccepted formula lines ls
+    → verdict_on (start_of formula) false n lines ≡ Yes
+lines_from formula h n lines ls r =
+    verdict_from lines (start_of formula) n (start_sane formula h) ls r.spelled
+    (recursion_from_All HasNumbers ls r.numbers) (accepted_from (start_of formula) ls r.accepts)
+
 -- 4. exactly when
 pub proof_verdict-Yes : (formula : List (List Literal)) → NoneRepeatsIn formula → (bytes : List ℕ)
     → (proof_verdict formula bytes ≡ Yes) ↔ IsProofOver formula bytes
 proof_verdict-Yes formula h bytes = (
-  λ e. let r = verdict_means (token_lines bytes) (start_of formula) 1 (start_sane formula h) e in (
-    r.0,
-    record { spelled = r.1; numbers = All-from_recursion HasNumbers r.0 r.2 },
-    accepts_from r.0 (start_of formula) r.3,
-  ),
-  λ r. verdict_from (token_lines bytes) (start_of formula) 1 (start_sane formula h) r.0 r.1.spelled
-      (recursion_from_All HasNumbers r.0 r.1.numbers) (accepted_from (start_of formula) r.0 r.2),
+  λ e. let r = lines_mean formula h 1 (token_lines bytes) e in
+      (r.0, record { spelled = r.1.spelled; numbers = r.1.numbers }, r.1.accepts),
+  λ r. lines_from formula h 1 (token_lines bytes) r.0
+      (record { spelled = r.1.spelled; numbers = r.1.numbers; accepts = r.2 }),
 )
 
 NoneRepeatsIn-IsFormula : (f : Cnf) → IsFormula f → NoneRepeatsIn f.clauses

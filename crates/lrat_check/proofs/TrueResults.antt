@@ -11,15 +11,15 @@ use Rattle.wcnf.proofs.Laws.{reads_one}
 use Rattle.adder.specs.declared.cells.Profile.{Profile}
 use Rattle.bound.specs.Bound.{hard_cnf, bound_as, SaysCheaper}
 use Rattle.lrat_result.specs.Result.{Said, Report, Says, report_of}
-use Rattle.lrat_check.specs.Checks.{HasCost, IsTrueOf, IsTrueResult}
+use Rattle.lrat_check.specs.Checks.{CostsAtLeast, HasCost, IsTrueOf, IsTrueResult}
 use Rattle.lrat_result.proofs.Laws.{report_from_says}
 
-not_cheaper : (profile : Profile) (p : Problem) (c : ℕ) → SaysCheaper profile p c
+pub not_cheaper : (profile : Profile) (p : Problem) (c : ℕ) → SaysCheaper profile p c
     → IsUnsatisfiable (bound_as profile p c).clauses → (u : Assignment) → IsFeasible p u
     → cost_under p u < c → ⊥
 not_cheaper profile p c says none u f lower = let k = says.from u f lower in none k.0 k.2
 
-at_least : (m c : ℕ) → (m < c → ⊥) → c ≤ m
+pub at_least : (m c : ℕ) → (m < c → ⊥) → c ≤ m
 at_least m c n = omega arith
 
 pub optimal_by : (profile : Profile) (p : Problem) (c : ℕ) (bits : List Bool)
@@ -32,6 +32,11 @@ optimal_by profile p c bits says none has t e =
       exact = h.1;
       least = λ u f. at_least (cost_under p u) c (not_cheaper profile p c says none u f);
     }
+
+pub optimal_least : (p : Problem) (c : ℕ) (bits : List Bool) → CostsAtLeast p c → HasCost p bits c
+    → (t : Assignment) → Extends bits t → IsOptimal p t c
+optimal_least p c bits least has t e =
+    let h = has t e in record { feasible = h.0; exact = h.1; least = least }
 
 pub inconsistent_by : (p : Problem)
     → ((t : Assignment) → All (Satisfies t) (hard_cnf p).clauses ↔ IsFeasible p t)

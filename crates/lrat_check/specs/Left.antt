@@ -2,17 +2,20 @@
 use Rattle.std.specs.Prelude.{◌≡◌, ℕ, List}
 use Rattle.cnf.specs.Formula.{IsUnsatisfiable}
 use Rattle.lrat_check.specs.declared.checking.Left.{Left}
-use Rattle.lrat_check.specs.declared.checking.Left.TheVariants.{Nothing, Proof}
+use Rattle.lrat_check.specs.declared.checking.Left.TheVariants.{Nothing, Proof, Headed}
 use Rattle.lrat_check.specs.declared.verdicts.Verdict.{Verdict}
 use Rattle.lrat_check.specs.declared.verdicts.Verdict.TheVariants.{Yes}
-use Rattle.lrat_check.specs.Verdict.{proof_verdict}
+use Rattle.lrat_check.specs.Checks.{CostsAtLeast}
+use Rattle.lrat_check.specs.Verdict.{headed_verdict, proof_verdict}
 
 -- the verdict with this certificate
 abbrev pub verdict_left : Left → List ℕ → Verdict
 verdict_left (Nothing v) proof = v
 verdict_left (Proof f) proof = proof_verdict f.clauses proof
+verdict_left (Headed p c) proof = headed_verdict p c.cost proof
 
--- a yes, or a refutation, shows it
+-- a yes, or a refutation, or that nothing costs less, shows it
 abbrev pub Shows : Left → Type 0 → Type 0
 Shows (Nothing v) P = v ≡ Yes → P
 Shows (Proof f) P = IsUnsatisfiable f.clauses → P
+Shows (Headed p c) P = CostsAtLeast p c.cost → P

@@ -5,4 +5,6 @@ pub mod Assumed
 pub mod Steps
 pub mod Vectors
 pub mod Pieces
+pub mod CoreLines
+pub mod Heads
 pub mod Left

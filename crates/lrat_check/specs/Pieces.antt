@@ -88,9 +88,10 @@ pub record HasJudged (c : CheckerState) (formula : List (List Literal)) (bytes :
   pub fed : c.fed ≡ length bytes
   pub holds : Holds c.reading formula bytes
 
--- the verdict is that on some bytes, which are those of the reader where they are known
-pub record IsJudged (remaining : Option (List ℕ)) (formula : List (List Literal)) (v : Verdict) :
-    Type 0 where
+-- the verdict is that on some bytes after those before, and these are those of the reader where
+-- they are known
+pub record IsJudged (before : List ℕ) (remaining : Option (List ℕ)) (formula : List (List Literal))
+    (v : Verdict) : Type 0 where
   pub bytes : List ℕ
-  pub verdict : v ≡ proof_verdict formula bytes
-  pub all : IfSome remaining (λ all. v ≡ proof_verdict formula all)
+  pub verdict : v ≡ proof_verdict formula (before ++ bytes)
+  pub all : IfSome remaining (λ all. v ≡ proof_verdict formula (before ++ all))

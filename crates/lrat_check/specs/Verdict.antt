@@ -16,13 +16,17 @@ use Rattle.cnf.specs.Refute.{Clauses}
 use Rattle.cnf.specs.Lrat.{Live, CandidateHints, start_of, with_clause}
 use Rattle.cnf.specs.declared.limits.TheConstants.{VARIABLE_LIMIT}
 use Rattle.adder.specs.declared.cells.Profile.{Profile}
-use Rattle.adder.specs.declared.cells.Profile.TheVariants.{One}
-use Rattle.bound.specs.Bound.{hard_cnf, bound_as}
+use Rattle.adder.specs.declared.cells.Profile.TheVariants.{One, Five}
+use Rattle.cores.specs.Cores.{Core, Counted, count_core, first_relaxation, no_cores}
+use Rattle.cores.specs.declared.counting.CoreFault.{CoreFault}
+use Rattle.cores.specs.declared.counting.CoreFault.TheVariants.{Weight, TooMany}
+use Rattle.bound.specs.Bound.{hard_cnf, bound_as, core_cnf}
+use Rattle.lrat_cores.specs.Form.{is_core_word, core_of}
 use Rattle.lrat_read.specs.Form.{Parsed, Addition, Deletion, Malformed, line_of, leading, groups_of}
 use Rattle.lrat_live.specs.Listed.{same_ids}
 use Rattle.lrat_result.specs.Result.{Said, OptimumFound, Unsatisfiable, Satisfiable, Unknown}
 use Rattle.lrat_result.specs.Result.{Report, report_of}
-use Rattle.lrat_check.specs.Checks.{ChecksAs}
+use Rattle.lrat_check.specs.Checks.{ChecksAs, takes_cores}
 use Rattle.lrat_check.specs.declared.verdicts.Cause.{Cause}
 use Rattle.lrat_check.specs.declared.verdicts.Cause.TheVariants.{Text, ResultForm, BitsLength}
 use Rattle.lrat_check.specs.declared.verdicts.Cause.TheVariants.{NotFeasible, CostWrong}
@@ -31,6 +35,7 @@ use Rattle.lrat_check.specs.declared.verdicts.Cause.TheVariants.{IdOrder, DeadId
 use Rattle.lrat_check.specs.declared.verdicts.Cause.TheVariants.{HintAfterConflict, NoConflict}
 use Rattle.lrat_check.specs.declared.verdicts.Cause.TheVariants.{Candidates, NoEmptyClause}
 use Rattle.lrat_check.specs.declared.verdicts.Cause.TheVariants.{TrailingLine, ClauseForm}
+use Rattle.lrat_check.specs.declared.verdicts.Cause.TheVariants.{CoreForm, CoreWeight, CoreSum}
 use Rattle.lrat_check.specs.declared.verdicts.Verdict.{Verdict}
 use Rattle.lrat_check.specs.declared.verdicts.Verdict.TheVariants.{Yes, No}
 
@@ -164,6 +169,47 @@ verdict_on live false n ((t ∷ ts) ∷ more) =
 abbrev pub proof_verdict : List (List Literal) → List ℕ → Verdict
 proof_verdict formula bytes = verdict_on (start_of formula) false 1 (token_lines bytes)
 
+abbrev pub cause_of : CoreFault → Cause
+cause_of Weight = CoreWeight
+cause_of TooMany = CoreForm
+
+-- the verdict on the lines after the cores, which are those from line n on; the first of them with
+-- a token is line first
+abbrev pub verdict_behind : Problem → ℕ → Bool → Counted → (first n : ℕ) → List (List (List ℕ))
+    → Verdict
+verdict_behind p cost false s first n lines =
+    verdict_on (start_of (bound_as Five p cost).clauses) false n lines
+verdict_behind p cost true s first n lines =
+    if nat_le cost s.weight then verdict_on (start_of (core_cnf p s).clauses) false n lines
+    else No CoreSum first
+
+-- the verdict on the lines that are left, after the cores that count to s; some says that there was
+-- one
+abbrev pub head_verdict : Problem → ℕ → Bool → Counted → ℕ → List (List (List ℕ)) → Verdict
+head_verdict p cost some s n [] = verdict_behind p cost some s 0 n []
+head_verdict p cost some s n ([] ∷ more) = head_verdict p cost some s (n + 1) more
+head_verdict p cost some s n ((t ∷ ts) ∷ more) =
+    if is_core_word t then read (core_of ts) (λ next. head_verdict p cost true next (n + 1) more)
+    else verdict_behind p cost some s n n ((t ∷ ts) ∷ more)
+  where
+    counted : Result Counted CoreFault → (Counted → Verdict) → Verdict
+    counted (Err e) next = No (cause_of e) n
+    counted (Ok left) next = next left
+
+    read : Option Core → (Counted → Verdict) → Verdict
+    read None next = No CoreForm n
+    read (Some c) next = counted (count_core (first_relaxation p) s c) next
+
+-- the verdict on a certificate that may begin with cores
+abbrev pub headed_verdict : Problem → ℕ → List ℕ → Verdict
+headed_verdict p cost proof = head_verdict p cost false (no_cores p) 1 (token_lines proof)
+
+-- the verdict on a certificate that nothing costs less
+abbrev pub bound_verdict : Profile → Problem → ℕ → List ℕ → Verdict
+bound_verdict profile p cost proof =
+    if takes_cores profile cost then headed_verdict p cost proof
+    else proof_verdict (bound_as profile p cost).clauses proof
+
 -- the bits of a result: their number, whether they satisfy the hard clauses, and their cost
 abbrev pub bits_fault : Problem → Report → ℕ → List Bool → Option Verdict
 bits_fault p r cost bits =
@@ -182,7 +228,7 @@ said_verdict profile p r proof = by r.said
 
     by : Said → Verdict
     by (OptimumFound c bits) =
-        first (bits_fault p r c bits) (proof_verdict (bound_as profile p c).clauses proof)
+        first (bits_fault p r c bits) (bound_verdict profile p c proof)
     by (Satisfiable c bits) = first (bits_fault p r c bits) (No StatusWithoutProof r.status_line)
     by Unsatisfiable = proof_verdict (hard_cnf p).clauses proof
     by Unknown = No StatusWithoutProof r.status_line

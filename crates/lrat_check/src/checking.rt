@@ -4,17 +4,18 @@
 ghost use Rattle.std.specs.Prelude.{◌≡◌, ℕ, List, IfOk, IfSome, ◌↔◌, None};
 ghost use Rattle.lrat_result.specs.Result.{Report as Reported};
 ghost use Rattle.lrat_result.specs.Report.{reported};
-ghost use Rattle.lrat_check.specs.Checks.{ChecksAs, IsTrueResult, IsTrueOf, HasCost};
+ghost use Rattle.lrat_check.specs.Checks.{ChecksAs, IsTrueResult, IsTrueOf, HasCost, takes_cores};
 ghost use Rattle.lrat_check.specs.Verdict.{verdict_as, said_verdict, bits_fault};
 ghost use Rattle.lrat_check.specs.Left.{verdict_left, Shows};
 
 use crate::certificate::check_owned;
+use crate::headed::{check_headed, check_headed_stream};
 use crate::streams::check_stream;
 use crate::verdicts::{Cause, CheckFault, Verdict};
 use adder::cells::Profile;
 use bound::formulas::{formula_as, hard_formula};
 use cnf::types::{Formula, Instance};
-use lrat_result::report::{Report, ReportFault, Said, Solution};
+use lrat_result::report::{Cost, Report, ReportFault, Said, Solution};
 use lrat_result::result::read_report;
 use std::alloc::{AllocError, Global};
 use std::io::Read;
@@ -28,6 +29,8 @@ enum Left {
     Nothing(Verdict),
     // A proof over this formula.
     Proof(Formula),
+    // A proof that nothing costs less, which may begin with core lines.
+    Headed(Instance, Cost),
 }
 
 /// Checks what a solver answered on an instance, with its proof: `text` is the instance in the WCNF
@@ -61,6 +64,17 @@ pub fn check(alloc: Global, text: &[u8], answer: &[u8], proof: &[u8]) -> Result<
 }
 
 /// As `check`, where the formula for a cost below the told one is that of `profile`.
+///
+/// In `Profile::Five`, the certificate of an optimum above 0 may begin with core lines,
+/// `core W H x1 .. xm 0`: the weight, the number of outputs and the inputs of a core (Morgado,
+/// Dodaro and Marques-Silva 2014). The LRAT lines behind them then refute the formula that the cores make, if
+/// these are worth the told cost together. Further faults are:
+/// - `CoreForm`: a line that begins with `core` and has not the form, or with whose core there are
+/// more than 2^22 clauses of cores; that line.
+/// - `CoreWeight`: a core that is worth nothing, has no output or more outputs than inputs, or has
+/// an input twice, or one that has not so much left; its line.
+/// - `CoreSum`: the cores are worth less together than the told cost; the first line behind them
+/// that has a token, or 0 where the certificate ends with them.
 pub fn check_as(
     alloc: Global,
     text: &[u8],
@@ -77,6 +91,7 @@ pub fn check_as(
     match left {
         Left::Nothing(verdict) => Ok(verdict),
         Left::Proof(formula) => check_owned(formula, proof),
+        Left::Headed(instance, cost) => check_headed(&instance, cost.cost, proof),
     }
 }
 
@@ -126,6 +141,7 @@ pub fn check_from_as<R: Read>(
     match left {
         Left::Nothing(verdict) => Ok(verdict),
         Left::Proof(formula) => check_stream(formula, proof),
+        Left::Headed(instance, cost) => check_headed_stream(&instance, cost.cost, proof),
     }
 }
 
@@ -146,7 +162,7 @@ fn read_texts(
         Err(fault) => return Ok(Left::Nothing(Verdict::No(Cause::Text, fault.line))),
     };
     match read_report(alloc, answer) {
-        Ok(report) => read_claim(&instance, &report, profile),
+        Ok(report) => read_claim(instance, &report, profile),
         Err(ReportFault::Form(line)) => Ok(Left::Nothing(Verdict::No(Cause::ResultForm, line))),
         Err(ReportFault::Memory) => Err(AllocError),
     }
@@ -154,30 +170,42 @@ fn read_texts(
 
 // What is left of what was said of an instance. The bits come first, since they cost the least to
 // check.
-fn read_claim(instance: &Instance, report: &Report, profile: Profile) -> Result<Left, AllocError>
+fn read_claim(instance: Instance, report: &Report, profile: Profile) -> Result<Left, AllocError>
     ensures verdict { IfOk result (λ left. (proof : List ℕ)
-        → verdict_left left proof
-        ≡ said_verdict profile instance.now (reported report.now) proof) }
+        → verdict_left left proof ≡ said_verdict profile instance (reported report.now) proof) }
     ensures sound { IfOk result
-        (λ left. Shows left (IsTrueOf instance.now (reported report.now).said)) }
+        (λ left. Shows left (IsTrueOf instance (reported report.now).said)) }
 {
     match &report.said {
-        Said::Optimum(solution) => match solution_fault(instance, solution) {
+        Said::Optimum(solution) => match solution_fault(&instance, solution) {
             Some(refused) => Ok(Left::Nothing(refused)),
             None => {
-                let formula = formula_as(instance, solution.cost.cost, profile)?;
+                if takes_cores(profile, solution.cost.cost) {
+                    return Ok(Left::Headed(instance, solution.cost));
+                }
+                let formula = formula_as(&instance, solution.cost.cost, profile)?;
                 Ok(Left::Proof(formula))
             }
         },
-        Said::Sat(solution) => match solution_fault(instance, solution) {
+        Said::Sat(solution) => match solution_fault(&instance, solution) {
             Some(refused) => Ok(Left::Nothing(refused)),
             None => Ok(refuse_status(report)),
         },
         Said::Unsat => {
-            let formula = hard_formula(instance)?;
+            let formula = hard_formula(&instance)?;
             Ok(Left::Proof(formula))
         }
         Said::Limit => Ok(refuse_status(report)),
+    }
+}
+
+// Whether core lines may come first, where a certificate shows that nothing costs less.
+fn takes_cores(profile: Profile, cost: u64) -> bool
+    ensures { result ≡ takes_cores profile cost }
+{
+    match profile {
+        Profile::Five => cost > 0,
+        _ => false,
     }
 }
 

@@ -1,6 +1,7 @@
 //! A certificate in pieces.
 ghost use Rattle.std.specs.Prelude.{◌≡◌, ℕ, ◌+◌, ◌<◌, ◌^◌, true, false, List, [], ◌++◌, length};
-ghost use Rattle.std.specs.Prelude.{None, Err, IfOk, OnOk, IfSome, IsErr, IsOk, IsSome, ◌↔◌};
+ghost use Rattle.std.specs.Prelude.{replicate, None, Err, IfOk, OnOk, IfSome, IsErr, IsOk, IsSome};
+ghost use Rattle.std.specs.Prelude.{◌↔◌};
 ghost use Rattle.cnf.specs.Literal.{Literal};
 ghost use Rattle.lrat_check.specs.Pieces.{HasJudged};
 ghost use Rattle.lrat_check.specs.Verdict.{proof_verdict};
@@ -62,15 +63,25 @@ impl Checker {
         ensures judged { IfOk result (λ c. HasJudged c formula.clauses []) }
         ensures works { IfOk result (λ c. c.failed ≡ false) }
     {
+        Checker::behind(formula, 0)
+    }
+
+    /// As `over`, where so many line feeds came in before.
+    pub(crate) fn behind(formula: Formula, lines: u64) -> Result<Self, AllocError>
+        ensures judged { IfOk result (λ c. HasJudged c formula.clauses (replicate lines 10)) }
+        ensures works { IfOk result (λ c. c.failed ≡ false) }
+    {
         let alloc = formula.allocator();
+        let mut machine = Machine::new(formula)?;
+        machine.pass_over(lines);
         Ok(Checker {
             reading: Reading {
-                machine: Machine::new(formula)?,
+                machine,
                 rest: LineBuffer::new(alloc),
                 refused: None,
                 batch: Batch::new(alloc),
             },
-            fed: 0,
+            fed: lines,
             failed: false,
         })
     }

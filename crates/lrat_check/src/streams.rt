@@ -24,11 +24,12 @@ pub(crate) fn check_stream<R: Read>(formula: Formula, proof: &mut R) -> Result<V
     judge_stream(checker, proof)
 }
 
-/// The verdict on the bytes of the reader, which is read up to the first faulty line. A certificate
-/// of 2^64 bytes or more counts as a failed read.
-fn judge_stream<R: Read>(checker: Checker, proof: &mut R) -> Result<Verdict, CheckFault>
-    ensures { IfOk result (λ v. (formula : List (List Literal)) → HasJudged checker formula []
-        → IsJudged (R.remaining proof.old) formula v) }
+/// The verdict on what the checker has judged and the bytes of the reader, which is read up to the
+/// first faulty line. A certificate of 2^64 bytes or more counts as a failed read.
+pub(crate) fn judge_stream<R: Read>(checker: Checker, proof: &mut R) -> Result<Verdict, CheckFault>
+    ensures { IfOk result (λ v. (formula : List (List Literal)) (before : List ℕ)
+        → HasJudged checker formula before
+        → IsJudged before (R.remaining proof.old) formula v) }
 {
     let mut checker = checker;
     let mut chunk = [0u8; 65536];

@@ -1,7 +1,8 @@
 -- What a run ends with, or leaves.
 use Rattle.std.proofs.Common.{◌≡◌, ℕ, ◌+◌, ◌<◌, ◌^◌, Bool, List, [], ◌∷◌, ◌++◌, length, Option}
 use Rattle.std.proofs.Common.{Some, None, Ok, Err, refl, sym, ◌∙◌, ap, subst, arith, append_assoc}
-use Rattle.std.proofs.Common.{append-nil, length-append}
+use Rattle.std.proofs.Common.{append-nil, length-append, zero, suc}
+use Rattle.std.proofs.lemmas.List.Elements.{All-nil}
 use Rattle.std.specs.Prelude.{All, IfSome}
 use Rattle.std.specs.Io.KnownBytes.{Appends}
 use Rattle.std.proofs.KnownBytes.{Appends-nil, Appends-trans, Keeps-refl}
@@ -9,11 +10,13 @@ use lib.Chars.{codes}
 use Rattle.cnf.specs.Literal.{Literal}
 use Rattle.cnf.specs.Bits.{assignment_of}
 use Rattle.cnf.specs.Problem.{Problem}
+use Rattle.cores.specs.Spelling.{HasCoreNumbers}
 use Rattle.wcnf.specs.Wcnf.{Reads}
 use Rattle.text.specs.Writing.{AppendsPart, Begins}
 use Rattle.text.specs.LratText.{IsTextOf}
 use Rattle.cnf.specs.Lrat.{Accepts}
 use Rattle.adder.specs.declared.cells.Profile.{Profile}
+use Rattle.adder.specs.declared.cells.Profile.TheVariants.{One, Two, Three, Four, Five}
 use Rattle.bound.specs.Bound.{hard_cnf, bound_as}
 use Rattle.cdcl_order.specs.Budgets.{BudgetState}
 use Rattle.lrat_log.specs.Log.{LogLine, HasSmallIds, numbered_lines, text_of}
@@ -22,7 +25,7 @@ use Rattle.lrat_result.specs.Result.{Said, OptimumFound as SaysOptimum}
 use Rattle.lrat_result.specs.Result.{Unsatisfiable as SaysUnsatisfiable}
 use Rattle.lrat_result.specs.Result.{Satisfiable as SaysSatisfiable, Unknown as SaysUnknown}
 use Rattle.lrat_result.specs.Result.{FallsTo, Says}
-use Rattle.lrat_check.specs.Checks.{IsProofOver, ChecksAs}
+use Rattle.lrat_check.specs.Checks.{IsProofOver, IsBoundProof, ChecksAs}
 use Rattle.improve.specs.declared.found.Found.{Found}
 use Rattle.improve.specs.declared.found.Found.TheVariants.{Optimum, Unsat, Best, Nothing}
 use Rattle.improve.specs.Improving.{AreFalling, IsCostOfSome, IsSolution, IsAcceptedOver}
@@ -81,6 +84,25 @@ record Spells (profile : Profile) (text : Option (List ℕ)) (p : Problem) (trie
       → AreChecked profile text (result_text before said) (proof_text found)
   pub limit : IsTrueLimit text said new
 
+-- a proof over the formula for a lower cost is what a checker wants
+bounds_proof : (profile : Profile) (p : Problem) (c : ℕ) (text : List ℕ)
+    → IsProofOver (bound_as profile p c).clauses text → IsBoundProof profile p c text
+bounds_proof One p c text h = h
+bounds_proof Two p c text h = h
+bounds_proof Three p c text h = h
+bounds_proof Four p c text h = h
+bounds_proof Five p zero text h = h
+bounds_proof Five p (suc c) text (ls, t, a) = (
+  [],
+  ls,
+  record {
+    spelled = t.spelled;
+    cores = All-nil HasCoreNumbers;
+    numbers = t.numbers;
+  },
+  a,
+)
+
 module _ (profile : Profile) (text : Option (List ℕ)) (p : Problem)
     (reads : IfSome text (λ bytes. Reads bytes p))
     (only : IfSome text (λ bytes. (q : Problem) → Reads bytes q → q ≡ p)) where
@@ -109,7 +131,7 @@ module _ (profile : Profile) (text : Option (List ℕ)) (p : Problem)
   optimum_checks None r c bits written proved says s over = tt
   optimum_checks (Some bytes) r c bits written proved says s over =
       let h = s.1 (assignment_of bits) (extends_own bits) in
-      (p, SaysOptimum c bits, r, says, (s.0, h.0, h.1, over))
+      (p, SaysOptimum c bits, r, says, (s.0, h.0, h.1, bounds_proof profile p c proved over))
 
   unsatisfiable_checks : (known : Option (List ℕ)) → IfSome known (λ bytes. Reads bytes p)
       → (written proved : List ℕ) → Says written SaysUnsatisfiable

@@ -10,6 +10,7 @@ use Rattle.lrat_check.specs.declared.verdicts.Cause.TheVariants.{IdOrder, DeadId
 use Rattle.lrat_check.specs.declared.verdicts.Cause.TheVariants.{HintAfterConflict, NoConflict}
 use Rattle.lrat_check.specs.declared.verdicts.Cause.TheVariants.{Candidates, NoEmptyClause}
 use Rattle.lrat_check.specs.declared.verdicts.Cause.TheVariants.{TrailingLine, ClauseForm}
+use Rattle.lrat_check.specs.declared.verdicts.Cause.TheVariants.{CoreForm, CoreWeight, CoreSum}
 use Rattle.lrat_check.specs.declared.verdicts.Verdict.{Verdict}
 use Rattle.lrat_check.specs.declared.verdicts.Verdict.TheVariants.{Yes, No}
 
@@ -31,6 +32,9 @@ cause_name Candidates = codes "Candidates"
 cause_name NoEmptyClause = codes "NoEmptyClause"
 cause_name TrailingLine = codes "TrailingLine"
 cause_name ClauseForm = codes "ClauseForm"
+cause_name CoreForm = codes "CoreForm"
+cause_name CoreWeight = codes "CoreWeight"
+cause_name CoreSum = codes "CoreSum"
 
 abbrev pub no_text : Cause → List ℕ
 no_text cause = codes "NO " ++ cause_name cause ++ codes " "

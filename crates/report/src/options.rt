@@ -26,15 +26,16 @@ Statuses:
    3  a file cannot be opened, read or written, or memory is refused
 
 --conflicts N bounds the effort: each learned clause and each solution costs one unit. A million
-units take a minute or more, and some hundred bytes of memory each, as what was learned is kept for
-the certificate. The same N gives the same answer on each machine, whatever its speed.
+units take a minute or more. What was learned stays in memory for the certificate, also without
+--proof: 4 bytes for each literal and hint of a line. The same N gives the same answer on each
+machine, whatever its speed.
 
 The certificate proves OPTIMUM FOUND and UNSATISFIABLE to whoever checks it, and is written before
 the 's' line. For the other two none is. Without --proof it is dropped.
 
---profile 4 finds most optima; a certificate belongs to its profile. --best PATH keeps the best
-solution, so that a run can be stopped at any moment. --progress tells meanwhile how far it is. A
-script that stops at errors writes
+--profile 4 finds most optima; check wants the profile that the certificate
+was made in. --best PATH keeps the best solution, so that a run can be stopped at any moment.
+--progress tells meanwhile how far it is. A script that stops at errors writes
 
   wmax solve --profile 4 a.wcnf > a.result || [ $? = 30 ]
 
@@ -43,7 +44,7 @@ Example:
 
 Faults:
   error: line N: FirstToken  line N of FILE begins with neither 'h', a weight nor 'c'
-  error: line N: Weight      a weight that is no number from 1 on: 0, -2, 1.5
+  error: line N: Weight      a weight that is no number from 1 on: 0, 01, 1.5
   error: line N: Literal     a word that is no literal: x, +1, 01
   error: line N: NoZero      the clause on line N has no 0 at its end
   error: line N: AfterZero   something stands behind the 0 of the clause
@@ -52,12 +53,12 @@ Faults:
   error: Memory              memory was refused
   error: Output              standard output cannot be written
   error: ProofOutput         the certificate cannot be written, or is FILE
-README.md has the others.";
+docs/FAULTS.md and the manual page have the others.";
 
 const CHECK_NOTES: &str = "\
-OPTIMUM FOUND is checked against the formula for 'cheaper than the last o line', UNSATISFIABLE
-against the hard clauses. A result that says SATISFIABLE or UNKNOWN claims nothing that a
-certificate shows: NO.
+OPTIMUM FOUND is checked against the formula for 'cheaper than the last o line', or that of the
+core lines where PROOF begins with some; UNSATISFIABLE against the hard clauses. A result that says
+SATISFIABLE or UNKNOWN claims nothing that a certificate shows: NO.
 
 Statuses:
    0  YES: the result is true
@@ -65,7 +66,8 @@ Statuses:
    2  the command line is faulty
    3  a file cannot be opened or read, the verdict cannot be written, or memory is refused
 
-A certificate of another profile is refused, as with NO DeadId 1: give the one of solve.
+Give the profile that the certificate was made in: in another one it is refused, as with
+NO DeadId 1 or NO LineForm 1.
 
 Example:
   wmax check --profile 4 a.wcnf a.result a.lrat
@@ -81,7 +83,10 @@ Faults:
   NO HintNotUnit N          a clause that line N of PROOF names does not serve there
   NO NoConflict N           the clauses that line N of PROOF names do not suffice
   NO NoEmptyClause 0        PROOF ends too soon
-README.md has the others.";
+  NO CoreForm N             line N of PROOF begins with 'core' and is no core line, or one too many
+  NO CoreWeight N           the core on line N is worth nothing, or more than its inputs have left
+  NO CoreSum N              the cores before line N are worth less than the solution costs
+docs/FAULTS.md and the manual page have the others.";
 
 const EXPLAIN_NOTES: &str = "\
 Prints the cost, then each soft clause that the bits give up, heaviest first, with its line and the
@@ -102,11 +107,11 @@ Faults:
   error: Read            a file cannot be opened or read
   error: Memory          memory was refused
   error: Output          standard output cannot be written
-'wmax solve --help' has more of those of FILE, and README.md all.";
+'wmax solve --help' has more of those of FILE; docs/FAULTS.md and the manual page have all.";
 
 const ENCODE_NOTES: &str = "\
-A certificate for cost COST refutes this formula. Another LRAT checker takes it, and a SAT solver
-that writes LRAT can make one.
+A certificate for cost COST without core lines refutes this formula. Another LRAT checker takes it,
+and a SAT solver that writes LRAT can make one.
 
 Statuses:
    0  the formula is written
@@ -121,7 +126,7 @@ Faults:
   error: Read            FILE cannot be opened or read
   error: Memory          memory was refused
   error: Output          standard output cannot be written
-'wmax solve --help' has more of those of FILE, and README.md all.";
+'wmax solve --help' has more of those of FILE; docs/FAULTS.md and the manual page have all.";
 
 const NOTES: &str = "\
 Statuses: solve 30, 20, 10, 0; check and explain 0, 1; encode 0; each 2 and 3 for faults. 'wmax
@@ -143,34 +148,37 @@ fn make_path<'a>(alloc: Global, id: &'a str, help: &'a str) -> Arg<'a> {
         .help(help)
 }
 
-/// Which clauses say 'cheaper': a certificate belongs to the profile that it was made with.
+/// Which clauses say 'cheaper': `check` wants the profile that the certificate was made in.
 fn make_profile<'a>(alloc: Global) -> Arg<'a> {
     Arg::new(alloc, "profile")
         .long("profile")
-        .value_name("1|2|3|4")
-        .value_parser(ValueParser::unsigned(1, 4))
+        .value_name("1|2|3|4|5")
+        .value_parser(ValueParser::unsigned(1, 5))
         .default_value("1")
         .help(
             "How 'cheaper' is encoded: 1 adds all weights column by column; 2 as 1, and spends no \
              variable on soft clauses of one literal; 3 adds weights in pairs, light ones first; \
-             4, which finds most, has sums of weights along a tree that follows the hard clauses. \
-             solve and check need the same one",
+             4, which finds most, has sums of weights along a tree that follows the hard clauses; 5 \
+             is as 4, but that a certificate which is checked may begin with core lines. check wants \
+             the one that the certificate was made in",
         )
 }
 
-/// The profile with this number, from 1 to 4.
+/// The profile with this number, from 1 to 5.
 pub fn pick_profile(number: u64) -> Option<Profile>
     ensures first { number ≡ 1 → result ≡ Some Profile.One }
     ensures second { number ≡ 2 → result ≡ Some Profile.Two }
     ensures third { number ≡ 3 → result ≡ Some Profile.Three }
     ensures fourth { number ≡ 4 → result ≡ Some Profile.Four }
-    ensures no_other { (number ≡ 0) ⊎ (4 < number) → result ≡ None }
+    ensures fifth { number ≡ 5 → result ≡ Some Profile.Five }
+    ensures no_other { (number ≡ 0) ⊎ (5 < number) → result ≡ None }
 {
     match number {
         1 => Some(Profile::One),
         2 => Some(Profile::Two),
         3 => Some(Profile::Three),
         4 => Some(Profile::Four),
+        5 => Some(Profile::Five),
         _ => None,
     }
 }
@@ -195,7 +203,9 @@ fn make_solve<'a>(alloc: Global) -> Result<Command<'a>, Error> {
         );
     let best = Arg::new(alloc, "best").long("best").value_name("PATH").help(
         "Where the best solution is kept: at each moment a whole result text, which each better \
-             solution replaces. FILE and the certificate are refused",
+             solution replaces. A solution of FILE that stands there already is replaced only by a \
+             better one; any other file, and one that cannot be written, is refused, and so are \
+             FILE and the certificate",
     );
     let progress = Arg::new(alloc, "progress")
         .long("progress")

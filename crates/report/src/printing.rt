@@ -65,6 +65,9 @@ fn spell_no(cause: Cause) -> &'static [u8]
         Cause::NoEmptyClause => b"NO NoEmptyClause ",
         Cause::TrailingLine => b"NO TrailingLine ",
         Cause::ClauseForm => b"NO ClauseForm ",
+        Cause::CoreForm => b"NO CoreForm ",
+        Cause::CoreWeight => b"NO CoreWeight ",
+        Cause::CoreSum => b"NO CoreSum ",
     }
 }
 

@@ -15,7 +15,7 @@ use clap::error::ErrorKind;
 use clap::{ArgMatches, Error};
 use explain::explaining::{ExplainFault, write_explanation};
 use file_id::{FileId, find_file_id, open_proof};
-use keeper::{BestPaths, Keeper};
+use keeper::{BestPaths, Earlier, Keeper, judge_earlier};
 use lrat_check::checking::check_from_as;
 use lrat_check::verdicts::{Cause, CheckFault, Verdict};
 use onlooker::Onlooker;
@@ -100,38 +100,76 @@ fn solve<R: Files + AllocGlobal + Print + Clock, E: Write>(
     }
 }
 
-/// Solves with a certificate, where `--best` may name neither of the others.
+/// Solves with a certificate, where `--best` may name neither of the others. Where that has
+/// something already, it is judged by FILE first, all of which is in memory then.
 fn solve_kept<'a, R: Files + AllocGlobal + Print + Clock, E: Write, T: Read, P: Write>(
+    rt: &'a R,
+    messages: &'a mut Messages<'_, E>,
+    matches: &'a ArgMatches<'_>,
+    budget: Budget,
+    text: &mut T,
+    proof: &mut P,
+    others: [FileId; 2],
+) -> Result<u8, RunFault> {
+    let paths = match matches.get_str("best") {
+        Some(path) => Some(BestPaths::new(rt.alloc(), path).map_err(|_| RunFault::Memory)?),
+        None => None,
+    };
+    let Some(paths) = paths else {
+        let keeper = Keeper::start(rt, None, others, None);
+        return solve_over(rt, messages, matches, budget, text, proof, keeper);
+    };
+    if paths.are_taken(rt, &others) {
+        let _ = writeln!(
+            messages.below(),
+            "error: --best names FILE, the certificate or no regular file"
+        );
+        return Ok(2);
+    }
+    let left = paths.read_earlier(rt)?;
+    if left.is_empty() {
+        let keeper = Keeper::start(rt, Some(paths), others, None);
+        return solve_over(rt, messages, matches, budget, text, proof, keeper);
+    }
+    let bytes = read_file(rt, text)?;
+    let earlier = match judge_earlier(rt.alloc(), &bytes, &left)? {
+        Earlier::Nothing => None,
+        Earlier::Cost(cost) => Some(cost),
+        Earlier::Other => {
+            let _ = writeln!(
+                messages.below(),
+                "error: --best names a file that has no solution of FILE at the cost that it tells"
+            );
+            return Ok(2);
+        }
+    };
+    let keeper = Keeper::start(rt, Some(paths), others, earlier);
+    let mut text = bytes.as_slice();
+    solve_over(rt, messages, matches, budget, &mut text, proof, keeper)
+}
+
+/// Solves, where the file of `--best` can be written.
+fn solve_over<'a, R: Files + AllocGlobal + Print + Clock, E: Write, T: Read, P: Write>(
     rt: &'a R,
     messages: &'a mut Messages<'_, E>,
     matches: &'a ArgMatches<'_>,
     mut budget: Budget,
     text: &mut T,
     proof: &mut P,
-    others: [FileId; 2],
+    keeper: Option<Keeper<'a, R>>,
 ) -> Result<u8, RunFault> {
     let Some(profile) = read_profile(matches) else {
         return Err(UNREADABLE);
     };
-    let paths = match matches.get_str("best") {
-        Some(path) => Some(BestPaths::new(rt.alloc(), path).map_err(|_| RunFault::Memory)?),
-        None => None,
+    let Some(keeper) = keeper else {
+        let _ = writeln!(messages.below(), "error: --best cannot be written");
+        return Ok(3);
     };
-    if let Some(paths) = &paths {
-        if paths.are_taken(rt, &others) {
-            let _ = writeln!(
-                messages.below(),
-                "error: --best names FILE, the certificate or no regular file"
-            );
-            return Ok(2);
-        }
-    }
     let meter = if matches.get_flag("progress") {
         Meter::start(rt, budget.left())
     } else {
         None
     };
-    let keeper = Keeper::new(rt, paths, others, messages);
     let mut onlooker = Onlooker {
         keeper,
         meter,

@@ -1,18 +1,29 @@
-use Rattle.std.proofs.Common.{ℕ, [], refl}
+use Rattle.std.proofs.Common.{ℕ, [], ◌∙◌, refl, sym}
 use Rattle.std.specs.Prelude.{Ok}
 use Rattle.lrat_check.specs.declared.verdicts.Verdict.TheVariants.{Yes}
-use Rattle.lrat_check.proofs.Judging.{optimum_sound, unsat_sound}
+use Rattle.lrat_check.proofs.Judging.{headed_is_true, headed_optimum, optimum_sound}
+use Rattle.lrat_check.proofs.Judging.{unsat_sound}
 use Rattle.lrat_check.proofs.checking.read_claim.Goals as goal
 
-pub returns-in_ok-formula-in-None-clause-sound : goal.returns-in_ok-formula-in-None-clause-sound
-returns-in_ok-formula-in-None-clause-sound c =
+pub returns-in-Optimum-clause-sound : goal.returns-in-Optimum-clause-sound
+returns-in-Optimum-clause-sound c =
     let f = c.in_ok-formula-in-None in
-    λ none. optimum_sound c.args.profile c.args.instance.now c.args.report.now []
+    λ none. optimum_sound c.args.profile c.args.instance c.args.report.now []
     c.in-Optimum.solution c.in-Optimum.is (c.in-None.ensures.right refl) f.ensures.cheaper
     f.formula f.ensures.clauses {E = ℕ} (Ok Yes) (λ _. none) refl
 
-pub returns-in_ok-formula-in-Unsat-clause-sound : goal.returns-in_ok-formula-in-Unsat-clause-sound
-returns-in_ok-formula-in-Unsat-clause-sound c =
+pub returns-in-Unsat-clause-sound : goal.returns-in-Unsat-clause-sound
+returns-in-Unsat-clause-sound c =
     let f = c.in_ok-formula-in-Unsat in
-    λ none. unsat_sound c.args.profile c.args.instance.now c.args.report.now [] c.in-Unsat.is
+    λ none. unsat_sound c.args.profile c.args.instance c.args.report.now [] c.in-Unsat.is
     f.ensures.feasible f.formula f.ensures.clauses {E = ℕ} (Ok Yes) (λ _. none) refl
+
+pub returns-then-takes_cores-clause-verdict : goal.returns-then-takes_cores-clause-verdict
+returns-then-takes_cores-clause-verdict c = λ proof.
+    headed_optimum c.args.profile c.args.instance c.args.report.now proof c.in-Optimum.solution
+    c.in-Optimum.is c.in-None.ensures.fault (sym c.takes_cores.ensures ∙ c.if-takes_cores.true)
+
+pub returns-then-takes_cores-clause-sound : goal.returns-then-takes_cores-clause-sound
+returns-then-takes_cores-clause-sound c =
+    headed_is_true c.args.profile c.args.instance c.args.report.now [] c.in-Optimum.solution
+    c.in-Optimum.is (c.in-None.ensures.right refl)

@@ -1,3 +1,4 @@
+use Rattle.std.proofs.Common.{[]}
 use Rattle.std.proofs.lemmas.Result.{IfOk-weaker}
 use Rattle.lrat_check.proofs.Whole.{yes_is_sound}
 use Rattle.lrat_check.proofs.streams.check_stream.Goals as goal
@@ -5,11 +6,11 @@ use Rattle.lrat_check.proofs.streams.check_stream.Goals as goal
 pub returns-clause-verdict : goal.returns-clause-verdict
 returns-clause-verdict g c =
     IfOk-weaker c.judge_stream.result _ _
-    (λ v h. (h c.args.formula.clauses c.in-Ok.ensures.judged).all) c.judge_stream.ensures
+    (λ v h. (h c.args.formula.clauses [] c.in-Ok.ensures.judged).all) c.judge_stream.ensures
 
 pub returns-clause-sound : goal.returns-clause-sound
 returns-clause-sound g c =
     IfOk-weaker c.judge_stream.result _ _
-    (λ v h. let j = h c.args.formula.clauses c.in-Ok.ensures.judged in
+    (λ v h. let j = h c.args.formula.clauses [] c.in-Ok.ensures.judged in
     yes_is_sound c.args.formula j.bytes v c.limits.ensures j.verdict)
     c.judge_stream.ensures

@@ -1,20 +1,32 @@
 -- The verdict is that on all bytes of the reader.
-use Rattle.std.proofs.Common.{rules, ◌≡◌, [], ◌++◌, arith}
+use Rattle.std.proofs.Common.{rules, ◌≡◌, ℕ, List, [], ◌++◌, ◌∙◌, ap, append_assoc, append-nil}
+use Rattle.std.proofs.Common.{arith, subst, sym}
 use Rattle.std.specs.Io.KnownBytes.{IsAtEnd}
 use Rattle.std.proofs.lemmas.Result.{IfOk-weaker}
+use Rattle.lrat_check.specs.Pieces.{HasJudged}
+use Rattle.lrat_check.specs.Verdict.{proof_verdict}
 use Rattle.lrat_check.proofs.PieceLaws.{over_all, over_end, read_more}
 use Rattle.lrat_check.proofs.streams.judge_stream.Goals as goal
+
+pub pieces-init : goal.pieces-init
+pieces-init g c = (
+  [],
+  λ formula before s. subst (HasJudged c.args.checker formula) (sym (append-nil before)) s,
+  search rules,
+)
 
 pub returns-in-Some : goal.returns-in-Some
 returns-in-Some g c =
     let i = c.pieces.invariant in
-    λ formula s. record {
+    λ formula before s.
+    let stays = λ (more : List ℕ). c.in-Some.ensures.stays formula (before ++ i.0) more
+    (i.1 formula before s) ∙ ap (proof_verdict formula) (append_assoc before i.0 more) in
+    record {
       bytes = i.0 ++ [];
-      verdict = c.in-Some.ensures.stays formula i.0 [] (i.1 formula s);
+      verdict = stays [];
       all =
           over_all (g.R.Read.remaining c.args.proof.now) (g.R.Read.remaining c.pieces.proof) i.0
-          c.in-Some.refused formula i.2 (λ more. c.in-Some.ensures.stays formula i.0 more
-          (i.1 formula s));
+          c.in-Some.refused (λ x. proof_verdict formula (before ++ x)) i.2 stays;
     }
 
 pub returns-in-Ok-eq0 : goal.returns-in-Ok-eq0
@@ -23,12 +35,13 @@ returns-in-Ok-eq0 g c =
     let zero : c.in-Ok-eq0.field-0 ≡ 0 = first_of (omega arith, search rules, cc) in
     let end : IsAtEnd (g.R.Read.remaining c.read.new.self) = search rules in
     IfOk-weaker c.conclude.result _ _
-    (λ v h. λ formula s. record {
+    (λ v h. λ formula before s. record {
       bytes = i.0;
-      verdict = h formula i.0 (i.1 formula s);
+      verdict = h formula (before ++ i.0) (i.1 formula before s);
       all = over_end (g.R.Read.remaining c.args.proof.now) (g.R.Read.remaining c.pieces.proof)
-          (g.R.Read.remaining c.read.new.self) i.0 _ c.in-Ok-eq0.field-0 v formula i.2
-          c.in-Ok-eq0.ensures.bytes.0 zero end (h formula i.0 (i.1 formula s));
+          (g.R.Read.remaining c.read.new.self) i.0 _ c.in-Ok-eq0.field-0 v
+          (λ x. proof_verdict formula (before ++ x)) i.2 c.in-Ok-eq0.ensures.bytes.0 zero end
+          (h formula (before ++ i.0) (i.1 formula before s));
     })
     c.conclude.ensures.verdict
 
@@ -36,7 +49,9 @@ pub pieces-preserved : goal.pieces-preserved
 pieces-preserved g c =
     let i = c.pieces.invariant in (
       _,
-      λ formula s. c.in_ok-hand_on.ensures.judged formula i.0 (i.1 formula s),
+      λ formula before s. subst (HasJudged c.hand_on.new.checker formula)
+          (append_assoc before i.0 _)
+          (c.in_ok-hand_on.ensures.judged formula (before ++ i.0) (i.1 formula before s)),
       read_more (g.R.Read.remaining c.args.proof.now) (g.R.Read.remaining c.pieces.proof)
           (g.R.Read.remaining c.read.new.self) i.0 _ i.2 c.in-Ok.ensures.bytes.0,
     )

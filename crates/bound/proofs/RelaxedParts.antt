@@ -1,0 +1,45 @@
+-- The relaxed clauses of an instance are a formula.
+use Rattle.std.proofs.Common.{◌≡◌, ℕ, suc, ◌+◌, ◌^◌, ◌≤◌, List, [], ◌∷◌, ◌++◌, length, filter, refl, ◌∙◌}
+use Rattle.std.proofs.Common.{ap, arith}
+use Rattle.std.proofs.lemmas.List.Elements.{All-from_recursion}
+use Rattle.cnf.specs.Literal.{Literal}
+use Rattle.cnf.specs.Formula.{Cnf, IsFormula, IsFormulaClause}
+use Rattle.cnf.specs.Problem.{Problem, SoftClause}
+use Rattle.cnf.specs.Instance.{IsInstance}
+use Rattle.adder.specs.declared.cells.Profile.TheVariants.{Five}
+use Rattle.adder.specs.declared.profiles.Relaxing.TheVariants.{EachByVariable}
+use Rattle.adder.specs.Network.{relaxed_from, relaxed_variables}
+use Rattle.bound.specs.Relaxed.{relaxed_cnf}
+use Rattle.bound.proofs.Fits.{given_formula}
+
+each_relaxed : (v : ℕ) (ss : List SoftClause)
+    → length (filter (λ e. e.is_fresh) (relaxed_from EachByVariable v ss)) ≡ length ss
+each_relaxed v [] = refl
+each_relaxed v (s ∷ ss) = ap (λ n. suc n) (each_relaxed (v + 1) ss)
+
+-- the last relaxation variable
+pub all_relaxed : (p : Problem) → relaxed_variables Five p ≡ p.variables + length p.soft
+all_relaxed p = ap (λ n. p.variables + n) (each_relaxed (p.variables + 1) p.soft)
+
+pub relaxed_is_formula : (p : Problem) (more : ℕ) → IsInstance p → more ≤ 2 ^ 20
+    → IsFormula (record {
+      variables = p.variables + length p.soft + more;
+      clauses = relaxed_cnf p;
+    })
+relaxed_is_formula p more h few = record {
+  few = omega (arith, h.variables, h.soft_count);
+  clauses =
+      let v = p.variables + length p.soft + more in
+      All-from_recursion (IsFormulaClause v) (relaxed_cnf p)
+      (given_formula Five p v h (omega (arith, all_relaxed p)));
+}
+
+pub relaxed_parts : (p : Problem) (last vars more : ℕ) (a b : List (List Literal)) → a ≡ []
+    → b ≡ a ++ relaxed_cnf p → last ≡ relaxed_variables Five p → vars ≡ last + more
+    → (let f : Cnf = record { variables = vars; clauses = b } in
+    f ≡ record { variables = p.variables + length p.soft + more; clauses = relaxed_cnf p })
+relaxed_parts p last vars more a b none given counted v =
+    let most : vars ≡ p.variables + length p.soft + more =
+    v ∙ ap (λ n. n + more) (counted ∙ all_relaxed p) in
+    let whole : b ≡ relaxed_cnf p = given ∙ ap (λ z. z ++ relaxed_cnf p) none in
+    λ i. record { variables = most i; clauses = whole i }

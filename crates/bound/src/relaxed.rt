@@ -1,0 +1,29 @@
+// The clauses of an instance where nothing is said of what a solution costs.
+ghost use Rattle.std.specs.Prelude.{◌≡◌, ◌+◌, ◌≤◌, ◌^◌, length, IfOk};
+ghost use Rattle.bound.specs.Relaxed.{relaxed_cnf};
+
+use crate::formulas::keep_given;
+use adder::cells::Profile;
+use cnf::clause_list::ClauseList;
+use cnf::types::{Formula, Instance};
+use std::alloc::AllocError;
+
+/// The hard clauses, and each soft clause with its relaxation variable, as in `Profile::Five`; and
+/// so many variables more, up to 2^20, which no clause has: clauses over them may be added later.
+///
+/// # Errors
+///
+/// `AllocError` where memory was refused.
+pub fn relaxed_formula(instance: &Instance, more: u32) -> Result<Formula, AllocError>
+    requires { more ≤ 2 ^ 20 }
+    ensures { IfOk result (λ f. f
+        ≡ record {
+          variables = instance.now.variables + length instance.now.soft + more;
+          clauses = relaxed_cnf instance.now;
+        }) }
+{
+    instance.limits();
+    let mut clauses = ClauseList::new(instance.allocator());
+    let last = keep_given(&mut clauses, instance, Profile::Five)?;
+    Ok(Formula::new(last + more, clauses))
+}

@@ -1,0 +1,61 @@
+use Rattle.std.proofs.Common.{◌≡◌, List, length, sym, ◌∙◌, ap, arith}
+use Rattle.propagate.specs.Trail.{Assigned}
+use Rattle.cdcl.specs.declared.assuming.Halt.TheVariants.{Spent}
+use Rattle.cdcl.proofs.Written.{writes_none}
+use Rattle.cdcl.proofs.Rounds.{goes_over, pays_none, pays_nothing}
+use Rattle.cdcl.proofs.Halts.{turn_halts, turn_goes_on, turn_breaks, turn_after}
+use Rattle.cdcl.proofs.assuming.decide_assuming.Goals as goal
+
+pub returns-then-left-eq0 : goal.returns-then-left-eq0
+returns-then-left-eq0 g c =
+    let s = c.args.search.now in
+    let p = c.args.input.now in
+    let b = c.args.budget.now in
+    let ls = g.S.Sink.lines c.args.sink.now in
+    turn_halts s s p c.args.assumptions.now ls ls b b Spent
+    (c.requires.runs, sym c.left.ensures.left ∙ c.if-left-eq0.true) (pays_nothing p.given ls b)
+
+pub returns-then-is_restart_due : goal.returns-then-is_restart_due
+returns-then-is_restart_due g c =
+    let s = c.args.search.now in
+    let p = c.args.input.now in
+    let ls = g.S.Sink.lines c.args.sink.now in
+    let o = c.start_over_above.ensures in
+    turn_goes_on s c.start_over_above.new.self p c.args.assumptions.now ls ls c.args.budget.now
+    (goes_over s c.start_over_above.new.self p ls c.args.budget.now (o.runs p ls c.requires.runs)
+    o.variables (c.is_restart_due.ensures c.if-is_restart_due.true) o.policy)
+    (writes_none p.given ls)
+
+pub returns-in_err-note_level : goal.returns-in_err-note_level
+returns-in_err-note_level g c =
+    let p = c.args.input.now in
+    let b = c.args.budget.now in
+    let ls = g.S.Sink.lines c.args.sink.now in
+    let more = g.S.Sink.lines c.note_level.new.sink in
+    turn_breaks c.from_residual.result c.args.search.now c.note_level.new.search p
+    c.args.assumptions.now ls more b b c.from_residual.ensures.0
+    c.in_err-note_level.ensures.err (pays_none p.given ls more b c.note_level.ensures.writes)
+
+pub choose-requires-clause-runs : goal.choose-requires-clause-runs
+choose-requires-clause-runs g c = c.in_ok-note_level.ensures.leaves.keeps.runs
+
+pub choose-requires-clause-quiet : goal.choose-requires-clause-quiet
+choose-requires-clause-quiet g c =
+    c.in_ok-note_level.ensures.leaves.keeps.quiet c.requires.quiet
+
+pub choose-requires-clause-noted : goal.choose-requires-clause-noted
+choose-requires-clause-noted g c = c.in_ok-note_level.ensures.leaves.all
+
+pub choose-requires-clause-left : goal.choose-requires-clause-left
+choose-requires-clause-left g c = omega (arith, c.left.ensures.left, c.if-left-eq0.false)
+
+pub returns : goal.returns
+returns g c =
+    let s = c.args.search.now in
+    let n = c.in_ok-note_level.ensures.leaves.keeps in
+    let same : length c.note_level.new.search.engine.trail ≡ length s.engine.trail =
+    ap (λ (T : List Assigned). length T) n.trail in
+    turn_after c.choose.result s c.note_level.new.search c.choose.new.search c.args.input.now
+    c.args.assumptions.now (g.S.Sink.lines c.args.sink.now) (g.S.Sink.lines c.note_level.new.sink)
+    (g.S.Sink.lines c.choose.new.sink) c.args.budget.now c.choose.new.budget n.variables n.policy
+    (omega arith) c.note_level.ensures.writes c.choose.ensures

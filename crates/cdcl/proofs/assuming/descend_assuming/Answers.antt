@@ -1,0 +1,52 @@
+use Rattle.cdcl.proofs.Rounds.{pays_nothing, pays_join}
+use Rattle.cdcl.proofs.Halts.{open_log, halt_fails}
+use Rattle.cdcl.proofs.assuming.descend_assuming.Goals as goal
+
+pub returns-in_err-progress : goal.returns-in_err-progress
+returns-in_err-progress g c =
+    let p = c.args.input.now in
+    let b = c.args.budget.now in
+    let ls = g.S.Sink.lines c.args.sink.now in
+    halt_fails c.from_residual.result c.args.search.now p c.args.assumptions.now ls ls b b
+    c.from_residual.ensures.0 (open_log c.args.search.now p ls c.requires.runs)
+    (pays_nothing p.given ls b)
+
+pub rounds-init : goal.rounds-init
+rounds-init g c =
+    record {
+      runs = c.requires.runs;
+      pays = pays_nothing c.args.input.now.given (g.S.Sink.lines c.args.sink.now)
+          c.args.budget.now;
+    }
+
+pub rounds-preserved : goal.rounds-preserved
+rounds-preserved g c = record {
+  runs = (let goes = rw c.in-None.is at c.in_ok-halt.ensures.goes in goes.runs);
+  pays =
+      pays_join c.args.input.now.given (g.S.Sink.lines c.args.sink.now)
+      (g.S.Sink.lines c.rounds.sink) (g.S.Sink.lines c.round_assuming.new.sink) c.args.budget.now
+      c.rounds.budget c.round_assuming.new.budget c.rounds.invariant.pays
+      c.round_assuming.ensures.pays;
+}
+
+pub returns-in_err-halt : goal.returns-in_err-halt
+returns-in_err-halt g c =
+    halt_fails c.from_residual-in_err-halt.result c.round_assuming.new.search c.args.input.now
+    c.args.assumptions.now (g.S.Sink.lines c.args.sink.now)
+    (g.S.Sink.lines c.round_assuming.new.sink) c.args.budget.now c.round_assuming.new.budget
+    c.from_residual-in_err-halt.ensures.0 c.in_err-halt.ensures.err
+    (pays_join c.args.input.now.given (g.S.Sink.lines c.args.sink.now)
+    (g.S.Sink.lines c.rounds.sink) (g.S.Sink.lines c.round_assuming.new.sink) c.args.budget.now
+    c.rounds.budget c.round_assuming.new.budget c.rounds.invariant.pays
+    c.round_assuming.ensures.pays)
+
+pub returns-in-Some : goal.returns-in-Some
+returns-in-Some g c = record {
+  ends = (let ends = rw c.in-Some.is at c.in_ok-halt.ensures.ends in ends);
+  pays =
+      pays_join c.args.input.now.given (g.S.Sink.lines c.args.sink.now)
+      (g.S.Sink.lines c.rounds.sink) (g.S.Sink.lines c.round_assuming.new.sink) c.args.budget.now
+      c.rounds.budget c.round_assuming.new.budget c.rounds.invariant.pays
+      c.round_assuming.ensures.pays;
+  err = tt;
+}

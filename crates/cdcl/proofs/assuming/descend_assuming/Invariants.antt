@@ -1,0 +1,13 @@
+use Rattle.cdcl.specs.Running.{Runs, Pays}
+use Rattle.cdcl.specs.Moves.{rounds_left}
+use Rattle.cdcl.proofs.assuming.descend_assuming.Given as goal
+
+abbrev pub invariant-rounds : goal.invariant-rounds
+invariant-rounds g l = record {
+  runs : Runs l.search l.input (g.S.Sink.lines l.sink);
+  pays : Pays l.input.given (g.S.Sink.lines l.fn.sink) (g.S.Sink.lines l.sink)
+      l.fn.budget l.budget;
+}
+
+abbrev pub decreases-rounds : goal.decreases-rounds
+decreases-rounds g l = rounds_left l.search l.budget

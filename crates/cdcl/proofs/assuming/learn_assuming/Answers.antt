@@ -1,0 +1,70 @@
+use Rattle.std.proofs.Common.{sym, ◌∙◌, subst, arith}
+use Rattle.cdcl.specs.declared.assuming.Halt.TheVariants.{Refuted, Open, Spent}
+use Rattle.cdcl.specs.Running.{StaysOpen, Writes}
+use Rattle.cdcl.proofs.Written.{writes_none}
+use Rattle.cdcl.proofs.Rounds.{goes_learned, pays_none, pays_nothing}
+use Rattle.cdcl.proofs.Halts.{open_log, turn_halts, turn_breaks}
+use Rattle.cdcl.proofs.assuming.learn_assuming.Goals as goal
+
+pub returns-in_err-refute : goal.returns-in_err-refute
+returns-in_err-refute g c =
+    let p = c.args.input.now in
+    let b = c.args.budget.now in
+    let ls = g.S.Sink.lines c.args.sink.now in
+    let more = g.S.Sink.lines c.refute.new.sink in
+    turn_breaks c.from_residual.result c.args.search.now c.refute.new.search p
+    c.args.assumptions.now ls more b b c.from_residual.ensures.0 c.in_err-refute.ensures.err
+    (pays_none p.given ls more b c.refute.ensures.writes)
+
+pub returns-then-depth-eq0 : goal.returns-then-depth-eq0
+returns-then-depth-eq0 g c =
+    let p = c.args.input.now in
+    let b = c.args.budget.now in
+    let ls = g.S.Sink.lines c.args.sink.now in
+    let more = g.S.Sink.lines c.refute.new.sink in
+    turn_halts c.args.search.now c.refute.new.search p c.args.assumptions.now ls more b b Refuted
+    c.in_ok-refute.ensures.leaves (pays_none p.given ls more b c.refute.ensures.writes)
+
+pub returns-then-left-eq0 : goal.returns-then-left-eq0
+returns-then-left-eq0 g c =
+    let s = c.args.search.now in
+    let p = c.args.input.now in
+    let b = c.args.budget.now in
+    let ls = g.S.Sink.lines c.args.sink.now in
+    turn_halts s s p c.args.assumptions.now ls ls b b Spent
+    (c.requires.runs, sym c.left.ensures.left ∙ c.if-left-eq0.true) (pays_nothing p.given ls b)
+
+pub returns-then-progress-eq0 : goal.returns-then-progress-eq0
+returns-then-progress-eq0 g c =
+    let s = c.args.search.now in
+    let p = c.args.input.now in
+    let b = c.args.budget.now in
+    let ls = g.S.Sink.lines c.args.sink.now in
+    turn_halts s s p c.args.assumptions.now ls ls b b Open c.requires.runs
+    (pays_nothing p.given ls b)
+
+pub returns-in_err-learn : goal.returns-in_err-learn
+returns-in_err-learn g c =
+    let p = c.args.input.now in
+    let b = c.args.budget.now in
+    let ls = g.S.Sink.lines c.args.sink.now in
+    let more = g.S.Sink.lines c.learn.new.sink in
+    turn_breaks c.from_residual-in_err-learn.result c.args.search.now c.learn.new.search p
+    c.args.assumptions.now ls more b b c.from_residual-in_err-learn.ensures.0
+    (subst (StaysOpen p) (sym c.in_err-learn.ensures.err)
+    (open_log c.args.search.now p ls c.requires.runs))
+    (pays_none p.given ls more b
+    (subst (λ x. Writes p.given ls x 0) (sym c.in_err-learn.ensures.err)
+    (writes_none p.given ls)))
+
+pub returns : goal.returns
+returns g c = record {
+  ends = tt;
+  goes =
+      goes_learned c.args.search.now c.learn.new.search c.args.input.now
+      (g.S.Sink.lines c.learn.new.sink) c.args.budget.now c.count_learned.new.self
+      c.in_ok-learn.ensures.learns.runs c.in_ok-learn.ensures.learns.variables
+      c.count_learned.ensures (omega (arith, c.left.ensures.left, c.if-left-eq0.false));
+  pays = (1, c.in_ok-learn.ensures.learns.writes, c.count_learned.ensures);
+  err = tt;
+}

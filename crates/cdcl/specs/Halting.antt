@@ -1,0 +1,153 @@
+-- How a search under assumptions ends, and what its parts promise.
+use Rattle.std.specs.Prelude.{◌≡◌, ℕ, ◌+◌, ◌<◌, ◌≤◌, Bool, true, false, List, [], length, map}
+use Rattle.std.specs.Prelude.{take, Option, Some, None, ◌⊎◌, Result, IfOk, OnErr, IfSome, IfNone}
+use Rattle.std.specs.Prelude.{All, Contains, ⊤}
+use Rattle.cnf.specs.Literal.{Literal, negation}
+use Rattle.cnf.specs.Clause.{has_repeat, is_subset}
+use Rattle.cnf.specs.Refute.{IsRefutedByHints}
+use Rattle.clauses.specs.Slots.{Slots, clause_at}
+use Rattle.propagate.specs.Trail.{Assigned, value_in}
+use Rattle.analyze.specs.declared.analyzer.FinalClause.{FinalClause}
+use Rattle.analyze.specs.Analyzer.{IsFalsified, IsFinal}
+use Rattle.lrat_log.specs.Log.{LogLine}
+use Rattle.cdcl_order.specs.Budgets.{BudgetState, left_of}
+use Rattle.cdcl_order.specs.Orders.{AreClosed}
+use Rattle.cdcl.specs.declared.input.Input.{Input}
+use Rattle.cdcl.specs.declared.search.Search.{Search}
+use Rattle.cdcl.specs.declared.cores.Refusal.{Refusal}
+use Rattle.cdcl.specs.declared.cores.Refusal.TheVariants.{Shown, Follows, Unknown}
+use Rattle.cdcl.specs.declared.assuming.Halt.{Halt}
+use Rattle.cdcl.specs.declared.assuming.Halt.TheVariants.{Satisfied, Refuted, Core, Open, Spent}
+use Rattle.cdcl.specs.declared.assuming.Choice.{Choice}
+use Rattle.cdcl.specs.declared.assuming.Choice.TheVariants.{Decided, Refuses, Closes, GivesUp}
+use Rattle.cdcl.specs.declared.assuming.Untrue.{Untrue}
+use Rattle.cdcl.specs.declared.assuming.Untrue.TheVariants.{Unassigned, Falsified, NoneLeft}
+use Rattle.cdcl.specs.Solving.{SatisfyGiven}
+use Rattle.cdcl.specs.Assuming.{IsTrueUnder}
+use Rattle.cdcl.specs.Running.{Runs, Writes, Pays, StaysOpen, IsEnded, IsSatisfied}
+use Rattle.cdcl.specs.Moves.{GoesOn}
+
+-- literals of so many variables
+pub record AreKnown (variables : ℕ) (ls : List Literal) : Type 0 where
+  pub from_one : All (λ l. 0 < l.variable) ls
+  pub small : All (λ l. l.variable ≤ variables) ls
+
+abbrev pub AreTrue : List Assigned → List Literal → Type 0
+AreTrue T ls = All (λ l. value_in T l ≡ Some true) ls
+
+-- the first assumption that is not true
+abbrev pub IsUntrue : List Assigned → List Literal → Untrue → Type 0
+IsUntrue T assumptions (Unassigned l) = Contains assumptions l × (value_in T l ≡ None)
+IsUntrue T assumptions (Falsified l) = Contains assumptions l × (value_in T l ≡ Some false)
+IsUntrue T assumptions NoneLeft = ⊤
+
+-- Cores.
+
+-- a live clause of the store has no literals but those of c
+pub record HasSubset (slots : Slots) (c : List Literal) : Type 0 where
+  pub reference : ℕ
+  pub clause : List Literal
+  pub live : clause_at slots reference ≡ Some clause
+  pub within : is_subset clause c ≡ true
+
+-- and none has
+abbrev pub HasNoSubset : Slots → List Literal → Type 0
+HasNoSubset slots c = (r : ℕ) (d : List Literal) → clause_at slots r ≡ Some d
+    → is_subset d c ≡ false
+
+-- some of the assumptions, each once
+pub record AreAssumed (assumptions core : List Literal) : Type 0 where
+  pub some : 0 < length core
+  pub assumed : All (Contains assumptions) core
+  pub once : has_repeat core ≡ false
+
+-- they cannot hold together, as a live clause shows
+pub record IsShown (slots : Slots) (assumptions core : List Literal) : Type 0 where
+  pub assumed : AreAssumed assumptions core
+  pub shown : HasSubset slots (map negation core)
+
+-- the clause explains why a literal is false, and no live clause is a subset of it
+pub record IsCoreClause (s : Search) (clause : FinalClause) : Type 0 where
+  pub literal : Literal
+  pub reason : ℕ
+  pub falsified : IsFalsified (s.engine).trail literal reason
+  pub small : literal.variable ≤ (s.engine).variables
+  pub final : IsFinal (s.store).slots (s.engine).trail literal reason clause
+  pub new : HasNoSubset (s.store).slots clause.lits.items
+
+-- they cannot hold together, as the clause shows
+pub record IsExplained (s : Search) (assumptions core : List Literal)
+    (clause : FinalClause) : Type 0 where
+  pub assumed : AreAssumed assumptions core
+  pub lesson : IsCoreClause s clause
+  pub negated : map negation core ≡ clause.lits.items
+
+abbrev pub IsRefusal : Search → List Literal → Refusal → Type 0
+IsRefusal s assumptions (Shown core) = IsShown (s.store).slots assumptions core.items
+IsRefusal s assumptions (Follows core clause) = IsExplained s assumptions core.items clause
+IsRefusal s assumptions Unknown = ⊤
+
+-- The clause of a core was learned.
+pub record LearnsCore (old new : Search) (p : Input) (before after : List LogLine)
+    (c : List Literal) : Type 0 where
+  pub runs : Runs new p after
+  pub writes : Writes p.given before after 1
+  pub has : HasSubset (new.store).slots c
+
+-- How a search ends.
+
+pub record IsAtCore (s : Search) (p : Input) (ls : List LogLine)
+    (assumptions core : List Literal) : Type 0 where
+  pub runs : Runs s p ls
+  pub shown : IsShown (s.store).slots assumptions core
+
+abbrev pub IsHaltOf : Search → Input → List LogLine → BudgetState → List Literal → Halt → Type 0
+IsHaltOf s p ls b assumptions Satisfied =
+    IsSatisfied s p ls b × AreTrue (s.engine).trail assumptions
+IsHaltOf s p ls b assumptions Refuted = IsEnded p ls
+IsHaltOf s p ls b assumptions (Core core) = IsAtCore s p ls assumptions core.items
+IsHaltOf s p ls b assumptions Open = Runs s p ls
+IsHaltOf s p ls b assumptions Spent = Runs s p ls × (left_of b ≡ 0)
+
+-- A search ends as it answers, and has paid for each learned line.
+pub record Halts {E : Type 0} (result : Result Halt E) (new : Search) (p : Input)
+    (assumptions : List Literal) (before after : List LogLine) (had left : BudgetState)
+    : Type 0 where
+  pub ends : IfOk result (IsHaltOf new p after left assumptions)
+  pub pays : Pays p.given before after had left
+  pub err : OnErr result (StaysOpen p after)
+
+-- So does a turn of it, or it leaves a search that goes on.
+pub record TurnsOrHalts {E : Type 0} (result : Result (Option Halt) E) (old new : Search)
+    (p : Input) (assumptions : List Literal) (before after : List LogLine)
+    (had left : BudgetState) : Type 0 where
+  pub ends : IfOk result (λ next. IfSome next (IsHaltOf new p after left assumptions))
+  pub goes : IfOk result (λ next. IfNone next (GoesOn old new p after had left))
+  pub pays : Pays p.given before after had left
+  pub err : OnErr result (StaysOpen p after)
+
+-- What a search does where no clause is false or unit.
+abbrev pub IsChoice : Search → Search → List Literal → Choice → Type 0
+IsChoice old new assumptions Decided =
+    (length (new.engine).trail ≡ length (old.engine).trail + 1)
+    × (length (old.engine).trail ≤ (old.engine).variables)
+IsChoice old new assumptions (Refuses l) = Contains assumptions l
+    × (value_in (old.engine).trail l ≡ Some false) × (new ≡ old)
+IsChoice old new assumptions Closes = (new.engine ≡ old.engine)
+    × AreTrue (new.engine).trail assumptions
+    × AreClosed (new.engine).trail (new.engine).variables
+IsChoice old new assumptions GivesUp = ⊤
+
+-- Propagation alone refutes the formula, or the empty clause was given.
+abbrev pub IsPlain : Input → Type 0
+IsPlain p = IsRefutedByHints (map (λ g. g.1) (take p.first p.given))
+    ⊎ Contains (map (λ g. g.1) p.given) []
+
+-- What a search under assumptions answers.
+
+pub record AreSatisfying (s : Search) (p : Input) (ls : List LogLine) (assumptions : List Literal)
+    (bits : List Bool) : Type 0 where
+  pub runs : Runs s p ls
+  pub long : length bits ≡ length (p.frozen).items
+  pub satisfied : SatisfyGiven bits p.given
+  pub assumed : All (IsTrueUnder bits) assumptions

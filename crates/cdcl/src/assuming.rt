@@ -1,0 +1,411 @@
+// The loop of a search under assumptions: that of `searching`, but for its decisions. It decides
+// the assumptions first, in their order, one level each, and passes over those that are true
+// already. Where one is false, what it rests on is a core. Clauses are learned from conflicts as
+// ever, and a restart keeps the levels of assumptions. Which assumptions are known to be true is
+// kept by level, so that a conflict costs a look at those alone that it made open. No answer rests
+// on that: all are looked at once more before an answer with bits.
+ghost use Rattle.std.specs.Prelude.{◌≡◌, ◌+◌, ◌<◌, ◌≤◌, true, length, All, Contains, IfOk, IfSome};
+ghost use Rattle.std.specs.Prelude.{Some, None, false};
+ghost use Rattle.propagate.specs.Trail.{literals_of, value_in};
+ghost use Rattle.propagate.specs.Fits.{IsFalseClause};
+ghost use Rattle.analyze.specs.Analyzer.{IsQuiet};
+ghost use Rattle.cdcl_order.specs.Budgets.{left_of};
+ghost use Rattle.cdcl.specs.Invariant.{zero_of};
+ghost use Rattle.cdcl.specs.Solving.{IsLiveRefuted};
+ghost use Rattle.cdcl.specs.Running.{Runs, IsReady, KeepsRunning, EngineMoves};
+ghost use Rattle.cdcl.specs.Halting.{AreKnown, AreTrue, IsUntrue, IsChoice, IsPlain, Halts};
+ghost use Rattle.cdcl.specs.Halting.{TurnsOrHalts};
+ghost use Rattle.cdcl.specs.declared.assuming.Halt.TheVariants.{Refuted};
+
+use crate::budget::Budget;
+use crate::cores::{Refusal, learn_core};
+use crate::input::Input;
+use crate::learning::learn;
+use crate::noting::refute;
+use crate::outcome::Share;
+use crate::reducing::reduce;
+use crate::search::Search;
+use crate::searching::note_level;
+use crate::watch::Watch;
+use clauses::store::CRef;
+use cnf::types::Lit;
+use lrat_log::sink::Sink;
+use propagate::engine::Engine;
+use std::alloc::{AllocError, Global};
+
+/// How a search under assumptions ended.
+#[derive(Drop)]
+pub(crate) enum Halt {
+    /// Each variable has a value, all assumptions are true, and no clause is false.
+    Satisfied,
+    /// The empty clause was added.
+    Refuted,
+    /// These assumptions cannot hold together.
+    Core(Vec<Lit>),
+    /// The share is spent.
+    Open,
+    /// Nothing is left of the budget.
+    Spent,
+}
+
+/// The first assumption that is not true.
+#[derive(Clone, Copy, Debug, PartialEq, Eq, Drop)]
+pub(crate) enum Untrue {
+    /// It has no value.
+    Unassigned(Lit),
+    /// It is false.
+    Falsified(Lit),
+    /// All are true.
+    NoneLeft,
+}
+
+/// What a search under assumptions does where no clause is false or unit.
+#[derive(Clone, Copy, Debug, PartialEq, Eq, Drop)]
+pub(crate) enum Choice {
+    /// It has decided a literal.
+    Decided,
+    /// It ends at this assumption, which is false.
+    Refuses(Lit),
+    /// It ends with a value for each variable, and all assumptions are true.
+    Closes,
+    /// It ends as its share is spent.
+    GivesUp,
+}
+
+/// How far a search under assumptions has come. No answer rests on it.
+#[derive(Drop)]
+pub(crate) struct Progress {
+    // The assumptions before this one are true.
+    next: usize,
+    // By level, that of 1 first, as far as assumptions opened them: which assumption did. It has
+    // room for all of them.
+    opened: Vec<usize>,
+    // How many clauses may still be learned from conflicts.
+    learned: u64,
+    // How many decisions beside the assumptions may be made until the next conflict or restart.
+    decisions: u64,
+}
+
+impl Progress {
+    fn new(alloc: Global, count: usize, share: Share) -> Result<Self, AllocError> {
+        Ok(Progress {
+            next: 0,
+            opened: Vec::with_capacity(alloc, count)?,
+            learned: share.learned,
+            decisions: share.decisions,
+        })
+    }
+
+    /// The next assumption opens a level.
+    fn open(&mut self) {
+        if self.opened.len() < self.opened.capacity() {
+            self.opened.push_reserved(self.next);
+        }
+    }
+
+    /// The search went back to this level.
+    fn go_back(&mut self, level: u32, share: Share) {
+        self.decisions = share.decisions;
+        if let Some(first) = self.opened.get(level as usize) {
+            self.next = *first;
+            self.opened.truncate(level as usize);
+        }
+    }
+}
+
+/// The first assumption from this one on that is not true.
+fn untrue_from(engine: &Engine, assumptions: &[Lit], progress: &mut Progress) -> Untrue
+    requires { All (λ l. l.variable ≤ engine.now.variables) assumptions.now }
+    ensures { IsUntrue engine.now.trail assumptions.now result }
+{
+    while progress.next < assumptions.len() {
+        let lit = assumptions[progress.next];
+        match engine.value(lit) {
+            Some(true) => progress.next += 1,
+            Some(false) => return Untrue::Falsified(lit),
+            None => return Untrue::Unassigned(lit),
+        }
+    }
+    Untrue::NoneLeft
+}
+
+/// Whether each of these literals is true.
+fn are_true(engine: &Engine, assumptions: &[Lit]) -> bool
+    requires { All (λ l. l.variable ≤ engine.now.variables) assumptions.now }
+    ensures { result ≡ true → AreTrue engine.now.trail assumptions.now }
+{
+    for lit in assumptions {
+        if engine.value(*lit) != Some(true) {
+            return false;
+        }
+    }
+    true
+}
+
+/// Searches from level 0 under these assumptions until it has an answer, or the share or the budget
+/// is spent.
+pub(crate) fn run_assuming<S: Sink, W: Watch>(
+    search: &mut Search,
+    input: &Input,
+    sink: &mut S,
+    budget: &mut Budget,
+    watch: &mut W,
+    assumptions: &[Lit],
+    share: Share,
+) -> Result<Halt, AllocError>
+    requires runs { Runs search.old input.now (S.lines sink.old) }
+    requires known { AreKnown input.now.stack.variables assumptions.now }
+    ensures search { Halts result search.new input.now assumptions.now (S.lines sink.old)
+        (S.lines sink.new) budget.old budget.new }
+    ensures propagates { IfOk result
+        (λ halt. IsLiveRefuted input.now.given (S.lines sink.old)
+        → halt ≡ Refuted) }
+    ensures plain { IfOk result (λ halt. IsPlain input.now → halt ≡ Refuted) }
+{
+    search.begin();
+    let found = search.propagate()?;
+    match found {
+        Some(conflict) => {
+            refute(search, input, sink, conflict)?;
+            Ok(Halt::Refuted)
+        }
+        None => descend_assuming(search, input, sink, budget, watch, assumptions, share),
+    }
+}
+
+/// Learns and decides until it has an answer, or the share or the budget is spent.
+fn descend_assuming<S: Sink, W: Watch>(
+    search: &mut Search,
+    input: &Input,
+    sink: &mut S,
+    budget: &mut Budget,
+    watch: &mut W,
+    assumptions: &[Lit],
+    share: Share,
+) -> Result<Halt, AllocError>
+    requires runs { Runs search.old input.now (S.lines sink.old) }
+    requires known { AreKnown input.now.stack.variables assumptions.now }
+    ensures { Halts result search.new input.now assumptions.now (S.lines sink.old)
+        (S.lines sink.new) budget.old budget.new }
+{
+    let mut progress = Progress::new(search.store.allocator(), assumptions.len(), share)?;
+    'rounds: loop {
+        match round_assuming(
+            search,
+            input,
+            sink,
+            budget,
+            watch,
+            assumptions,
+            share,
+            &mut progress,
+        )? {
+            Some(halt) => return Ok(halt),
+            None => {}
+        }
+    }
+}
+
+/// Propagates, and then learns, starts over or decides; it answers how the search ended, if it did.
+fn round_assuming<S: Sink, W: Watch>(
+    search: &mut Search,
+    input: &Input,
+    sink: &mut S,
+    budget: &mut Budget,
+    watch: &mut W,
+    assumptions: &[Lit],
+    share: Share,
+    progress: &mut Progress,
+) -> Result<Option<Halt>, AllocError>
+    requires runs { Runs search.old input.now (S.lines sink.old) }
+    requires known { AreKnown input.now.stack.variables assumptions.now }
+    ensures { TurnsOrHalts result search.old search.new input.now assumptions.now (S.lines sink.old)
+        (S.lines sink.new) budget.old budget.new }
+{
+    match search.propagate()? {
+        Some(conflict) => learn_assuming(
+            search,
+            input,
+            sink,
+            budget,
+            watch,
+            assumptions,
+            conflict,
+            share,
+            progress,
+        ),
+        None => decide_assuming(search, input, sink, budget, assumptions, share, progress),
+    }
+}
+
+/// Learns from a conflict, if it is above level 0 and something is left of the share and of the
+/// budget.
+fn learn_assuming<S: Sink, W: Watch>(
+    search: &mut Search,
+    input: &Input,
+    sink: &mut S,
+    budget: &mut Budget,
+    watch: &mut W,
+    assumptions: &[Lit],
+    conflict: CRef,
+    share: Share,
+    progress: &mut Progress,
+) -> Result<Option<Halt>, AllocError>
+    requires runs { Runs search.old input.now (S.lines sink.old) }
+    requires conflict { IsFalseClause search.old.store.slots search.old.engine conflict }
+    ensures { TurnsOrHalts result search.old search.new input.now assumptions.now (S.lines sink.old)
+        (S.lines sink.new) budget.old budget.new }
+{
+    if search.engine.depth() == 0 {
+        refute(search, input, sink, conflict)?;
+        return Ok(Some(Halt::Refuted));
+    }
+    if budget.left() == 0 {
+        return Ok(Some(Halt::Spent));
+    }
+    if progress.learned == 0 {
+        return Ok(Some(Halt::Open));
+    }
+    learn(search, input, sink, conflict)?;
+    budget.count_learned();
+    watch.learned(&search.policy.report(budget));
+    progress.learned -= 1;
+    progress.go_back(search.engine.depth(), share);
+    Ok(None)
+}
+
+/// Starts over or decides, if something is left of the budget.
+fn decide_assuming<S: Sink>(
+    search: &mut Search,
+    input: &Input,
+    sink: &mut S,
+    budget: &mut Budget,
+    assumptions: &[Lit],
+    share: Share,
+    progress: &mut Progress,
+) -> Result<Option<Halt>, AllocError>
+    requires runs { Runs search.old input.now (S.lines sink.old) }
+    requires quiet { IsQuiet search.old.store.slots (literals_of search.old.engine.trail) }
+    requires known { AreKnown input.now.stack.variables assumptions.now }
+    ensures { TurnsOrHalts result search.old search.new input.now assumptions.now (S.lines sink.old)
+        (S.lines sink.new) budget.old budget.new }
+{
+    if budget.left() == 0 {
+        return Ok(Some(Halt::Spent));
+    }
+    if search.policy.is_restart_due() {
+        search.start_over_above(progress.opened.len());
+        progress.decisions = share.decisions;
+        return Ok(None);
+    }
+    note_level(search, input, sink)?;
+    choose(search, input, sink, budget, assumptions, progress)
+}
+
+/// Decides, or ends.
+fn choose<S: Sink>(
+    search: &mut Search,
+    input: &Input,
+    sink: &mut S,
+    budget: &mut Budget,
+    assumptions: &[Lit],
+    progress: &mut Progress,
+) -> Result<Option<Halt>, AllocError>
+    requires runs { Runs search.old input.now (S.lines sink.old) }
+    requires quiet { IsQuiet search.old.store.slots (literals_of search.old.engine.trail) }
+    requires noted { length (zero_of search.old.engine.trail) ≤ search.old.noted }
+    requires known { AreKnown input.now.stack.variables assumptions.now }
+    requires left { 0 < left_of budget.old }
+    ensures { TurnsOrHalts result search.old search.new input.now assumptions.now (S.lines sink.old)
+        (S.lines sink.new) budget.old budget.new }
+{
+    match decide_next(search, assumptions, progress) {
+        Choice::Decided => {
+            reduce(search, input, sink)?;
+            Ok(None)
+        }
+        Choice::Refuses(lit) => {
+            let halt = halt_at(search, input, sink, budget, assumptions, lit)?;
+            Ok(Some(halt))
+        }
+        Choice::Closes => Ok(Some(Halt::Satisfied)),
+        Choice::GivesUp => Ok(Some(Halt::Open)),
+    }
+}
+
+/// Decides the next assumption, or a variable beside the assumptions where all are true.
+fn decide_next(search: &mut Search, assumptions: &[Lit], progress: &mut Progress) -> Choice
+    requires ready { IsReady search.old }
+    requires quiet { IsQuiet search.old.store.slots (literals_of search.old.engine.trail) }
+    requires noted { length (zero_of search.old.engine.trail) ≤ search.old.noted }
+    requires known { AreKnown search.old.engine.variables assumptions.now }
+    ensures runs { KeepsRunning search.old search.new }
+    ensures engine { EngineMoves search.old search.new }
+    ensures choice { IsChoice search.old search.new assumptions.now result }
+{
+    // There are at most as many literals as variables.
+    let _ = search.engine.assigned();
+    match untrue_from(&search.engine, assumptions, progress) {
+        Untrue::Unassigned(lit) => {
+            progress.open();
+            search.decide(lit);
+            Choice::Decided
+        }
+        Untrue::Falsified(lit) => Choice::Refuses(lit),
+        Untrue::NoneLeft => branch_beside(search, assumptions, progress),
+    }
+}
+
+/// Decides a variable beside the assumptions.
+fn branch_beside(search: &mut Search, assumptions: &[Lit], progress: &mut Progress) -> Choice
+    requires ready { IsReady search.old }
+    requires quiet { IsQuiet search.old.store.slots (literals_of search.old.engine.trail) }
+    requires noted { length (zero_of search.old.engine.trail) ≤ search.old.noted }
+    requires known { AreKnown search.old.engine.variables assumptions.now }
+    ensures runs { KeepsRunning search.old search.new }
+    ensures engine { EngineMoves search.old search.new }
+    ensures choice { IsChoice search.old search.new assumptions.now result }
+{
+    let variables = search.engine.variables() as usize;
+    if progress.decisions == 0 && search.engine.assigned() < variables {
+        return Choice::GivesUp;
+    }
+    if search.branch() {
+        progress.decisions = progress.decisions.saturating_sub(1);
+        return Choice::Decided;
+    }
+    if are_true(&search.engine, assumptions) {
+        Choice::Closes
+    } else {
+        Choice::GivesUp
+    }
+}
+
+/// Ends at an assumption that is false.
+fn halt_at<S: Sink>(
+    search: &mut Search,
+    input: &Input,
+    sink: &mut S,
+    budget: &mut Budget,
+    assumptions: &[Lit],
+    falsified: Lit,
+) -> Result<Halt, AllocError>
+    requires runs { Runs search.old input.now (S.lines sink.old) }
+    requires noted { length (zero_of search.old.engine.trail) ≤ search.old.noted }
+    requires assumed { Contains assumptions.now falsified }
+    requires small { falsified.variable ≤ search.old.engine.variables }
+    requires falsified { value_in search.old.engine.trail falsified ≡ Some false }
+    requires left { 0 < left_of budget.old }
+    ensures { Halts result search.new input.now assumptions.now (S.lines sink.old)
+        (S.lines sink.new) budget.old budget.new }
+{
+    match search.refuse(assumptions, falsified)? {
+        Refusal::Shown(core) => Ok(Halt::Core(core)),
+        Refusal::Follows(core, clause) => {
+            learn_core(search, input, sink, &clause)?;
+            budget.count_learned();
+            Ok(Halt::Core(core))
+        }
+        Refusal::Unknown => Ok(Halt::Open),
+    }
+}

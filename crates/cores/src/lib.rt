@@ -1,0 +1,11 @@
+//! Cores: sets of soft clauses of which one is false, and the clauses that count them.
+#![tactic(auto)]
+
+mod charging;
+pub mod counting;
+mod repeats;
+mod sizes;
+mod spans;
+mod state;
+mod totalizing;
+pub mod types;

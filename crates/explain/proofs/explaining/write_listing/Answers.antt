@@ -1,0 +1,35 @@
+-- What was put is what is written.
+use Rattle.std.proofs.Common.{sym}
+use Rattle.std.proofs.lemmas.Result.{on_ok_weaker, on_err_weaker}
+use Rattle.explain.specs.Sheets.{Puts}
+use Rattle.explain.specs.Explained.{listing_text}
+use Rattle.explain.proofs.Sheets.{finished, cut_off, more}
+use Rattle.explain.proofs.explaining.write_listing.Given.{Over}
+use Rattle.explain.proofs.explaining.write_listing.Goals as goal
+use Rattle.explain.proofs.explaining.write_listing.Goals.{After-put_broken}
+
+-- one part after another
+put : (g : Over) (c : After-put_broken g)
+    → Puts (g.W.Write.contents c.args.writer.now) c.new-sheet.result
+    (listing_text c.args.cost c.args.told c.args.all c.args.findings.now)
+    (g.W.Write.contents c.put_broken.new.writer) c.put_broken.new.sheet
+put g c =
+    rw (
+      sym c.as_slice-given_up.ensures.value,
+      sym c.as_slice-soft.ensures.value,
+      sym c.as_slice-hard.ensures.value,
+    )
+    (more c.put_cost.ensures (more c.put_count.ensures
+    (more c.put_given_up.ensures c.put_broken.ensures)))
+
+pub returns-clause-ok : goal.returns-clause-ok
+returns-clause-ok g c =
+    let whole = put g (goal.at.returns-clause-ok g c).After-put_broken in
+    on_ok_weaker c.finish.result
+    (finished _ c.new-sheet.ensures.empty c.new-sheet.ensures.whole whole) c.finish.ensures.ok
+
+pub returns-clause-fault : goal.returns-clause-fault
+returns-clause-fault g c =
+    let whole = put g (goal.at.returns-clause-fault g c).After-put_broken in
+    on_err_weaker c.finish.result
+    (cut_off c.new-sheet.ensures.empty c.new-sheet.ensures.whole whole) c.finish.ensures.fault

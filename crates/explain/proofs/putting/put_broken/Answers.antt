@@ -1,0 +1,16 @@
+-- A line more.
+use Rattle.std.proofs.Common.{◌∙◌, ◌∷◌, ◌+◌, ap, sym, drop, rules}
+use Rattle.std.specs.List.{flat_map}
+use Rattle.std.proofs.lemmas.List.{drop_more}
+use Rattle.explain.specs.Explanation.{broken_line}
+use Rattle.explain.proofs.Sheets.{more, leads_on, leads_same}
+use Rattle.explain.proofs.putting.put_broken.Goals as goal
+
+pub loop-clause_line-preserved : goal.loop-clause_line-preserved
+loop-clause_line-preserved g c =
+    let i = c.loop-clause_line.clause_line-index in
+    let e =
+    drop_more c.args.hard.now i c.clause_line-item.result (search rules)
+    ∙ ap (λ z. z ∷ drop (i + 1) c.args.hard.now) (sym c.clause_line-item.is) in
+    leads_on (more c.put.ensures c.put_source.ensures)
+    (leads_same c.loop-clause_line.invariant (ap (flat_map broken_line) e))

@@ -1,0 +1,7 @@
+mod Between
+mod Given
+mod Works
+mod Opens
+mod Ends
+mod Answered
+pub mod Laws

@@ -1,0 +1,9 @@
+-- The same clauses are given, and what was learned was counted.
+use Rattle.improve_cores.specs.CoreWork.{KeepsClauses, CountsLearned}
+use Rattle.improve_cores.proofs.shortening.leave_out_each.Given as goal
+
+abbrev pub invariant-loop : goal.invariant-loop
+invariant-loop g l = record {
+  clauses : KeepsClauses l.fn.solver l.solver;
+  learned : CountsLearned l.fn.solver.lines l.solver.lines l.fn.budget l.budget;
+}

@@ -1,0 +1,3 @@
+pub mod CoreWork
+pub mod Counting
+pub mod Events

@@ -1,0 +1,20 @@
+// Tables that are read and written at any place. A place outside has the value 0 or `false`, and
+// writing there does nothing: so no table of the search has to be known to be long enough. What the
+// search does with them decides only how good its cores are, not what is told of them.
+
+/// What stands there.
+pub(crate) fn at<T: Copy + Default>(table: &[T], place: usize) -> T {
+    table.get(place).copied().unwrap_or_default()
+}
+
+/// Writes there.
+pub(crate) fn set<T: Drop>(table: &mut [T], place: usize, value: T) {
+    if let Some(slot) = table.get_mut(place) {
+        *slot = value;
+    }
+}
+
+/// The number in four bytes; the greatest of those where it has no room.
+pub(crate) fn narrow(number: usize) -> u32 {
+    u32::try_from(number).unwrap_or(u32::MAX)
+}

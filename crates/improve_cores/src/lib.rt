@@ -1,0 +1,14 @@
+//! The search for cores: sets of soft clauses of which one is falsified, found under assumptions
+//! over one solver. What they are worth together is a lower bound of each solution's cost.
+#![tactic(auto)]
+
+mod checked;
+pub mod counted;
+pub mod counting_solver;
+mod found;
+mod frozen;
+mod items;
+pub mod refuting;
+pub mod searching;
+mod shortening;
+mod trees;

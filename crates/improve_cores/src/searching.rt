@@ -1,0 +1,348 @@
+//! Core-guided search, stratified and weight-aware, with totalizers that grow. It is OLL (Andres,
+//! Kaufmann, Matheis and Schaub, "Unsatisfiability-based optimization in clasp", 2012), as for
+//! soft cardinality constraints (Morgado, Dodaro and Marques-Silva, "Core-Guided MaxSAT with Soft
+//! Cardinality Constraints", 2014).
+//!
+//! In a stratum all relaxation variables and outputs with a rest of at least the threshold are
+//! assumed false (stratification: Ansótegui, Bonet and Levy, "Improving SAT-Based Weighted MaxSAT
+//! Solvers", 2012). A core takes the least rest of its inputs; what an output was worth goes on to
+//! the next one. The totalizer of a core is made once its stratum has no further core (weight-aware
+//! core extraction: Berg and Järvisalo, "Weight-Aware Core Extraction in SAT-Based MaxSAT Solving",
+//! 2017). A model under all assumptions of a stratum leads to the next lower one; under all of them
+//! it costs just what the cores are worth.
+//!
+//! What was tried, on 85 instances: disjoint cores without totalizers closed 12 of them, this
+//! closes 66. With 5,000 conflicts it closes 55, with 20,000 it closes 62, with 60,000 it closes 66
+//! to 69.
+//!
+//! What is told of the search does not rest on its policy: see `counting_solver` and `counted`.
+ghost use Rattle.std.specs.Prelude.{◌≡◌, ◌≤◌, ◌^◌, IfOk, IfSome};
+ghost use Rattle.lrat_log.specs.Steps.{learned_count};
+ghost use Rattle.improve_cores.specs.CoreWork.{IsSearchFor, KeepsFormula, KeepsClauses};
+ghost use Rattle.improve_cores.specs.CoreWork.{CountsLearned};
+ghost use Rattle.improve_cores.specs.Counting.{IsAnswerOf, GivesOnly};
+ghost use Rattle.improve_cores.specs.Events.{AreRightCores, IsEventOf, IsStepOf};
+
+use crate::checked::{at, narrow};
+use crate::counted::{Counted, count_found};
+use crate::counting_solver::CountingSolver;
+use crate::found::FoundCore;
+use crate::items::{Items, Origin};
+use crate::shortening::{push_negated, shorten, variables_of};
+use crate::trees::{Growth, Trees};
+use bound::formulas::relaxed_formula;
+use cdcl::budget::Budget;
+use cdcl::outcome::{Assumed, Share};
+use cdcl::watch::Watch;
+use cnf::types::{Instance, Lit};
+use std::alloc::AllocError;
+use std::marker::Model;
+
+/// What the search has come to.
+#[derive(Drop)]
+pub enum Event {
+    /// Bits that satisfy the hard clauses.
+    Model(Vec<bool>),
+    /// The cores are worth what the best solution costs.
+    Closed,
+    /// The share of the effort is spent, or no further core can be looked for.
+    Over,
+}
+
+/// A search that is under way.
+#[derive(Drop)]
+pub struct CoreSearch {
+    // The clauses, and what was learned of them.
+    solver: CountingSolver,
+    // How it goes on.
+    policy: Policy,
+    // What was assumed last; kept for its memory.
+    assumptions: Vec<Lit>,
+}
+
+/// What the search knows of its cores.
+#[derive(Drop)]
+struct Policy {
+    // What may be assumed false.
+    items: Items,
+    // The totalizers of cores.
+    trees: Trees,
+    // The cores so far.
+    cores: Vec<FoundCore>,
+    // The places of cores of this stratum that have no totalizer yet.
+    pending: Vec<u32>,
+    // What has at least so much of its weight left is assumed false; from 1.
+    threshold: u64,
+    // What the cores are worth together.
+    lower: u64,
+    // Whether the list of assumptions has to be made anew.
+    is_stale: bool,
+    // How many clauses it may learn still.
+    share: u64,
+}
+
+impl Model for CoreSearch {
+    ghost use Rattle.improve_cores.specs.CoreWork.{CoreWork};
+
+    ghost Value = { CoreWork };
+
+    ghost view = { λ s. s.solver };
+}
+
+impl CoreSearch {
+    /// A search that may learn about so many clauses, with so many variables to count with, up to
+    /// 2^20.
+    ///
+    /// # Errors
+    ///
+    /// `AllocError` where memory was refused.
+    pub fn new(instance: &Instance, share: u64, reserve: u32) -> Result<Self, AllocError>
+        requires { reserve ≤ 2 ^ 20 }
+        ensures search { IfOk result (IsSearchFor instance.now) }
+        ensures none_learned { IfOk result (λ w. learned_count w.lines ≡ 0) }
+    {
+        let alloc = instance.allocator();
+        let relaxed = instance.vars() + instance.soft().len() as u32;
+        let formula = relaxed_formula(instance, reserve)?;
+        let solver = CountingSolver::of(formula, instance.vars(), relaxed)?;
+        let items = Items::new(instance, reserve as usize)?;
+        let trees = Trees::new(alloc, relaxed + 1, solver.last());
+        let greatest = items.greatest_below(u64::MAX);
+        Ok(CoreSearch {
+            solver,
+            policy: Policy {
+                items,
+                trees,
+                cores: Vec::new(alloc),
+                pending: Vec::new(alloc),
+                threshold: (greatest / 2).max(1),
+                lower: 0,
+                is_stale: true,
+                share,
+            },
+            assumptions: Vec::new(alloc),
+        })
+    }
+
+    /// What was given and learned. It is the last that is asked of the search, whose memory is given
+    /// back.
+    pub fn into_work(self) -> CountingSolver
+        ensures { result ≡ self }
+    {
+        let mut solver = self.solver;
+        solver.retire();
+        solver
+    }
+
+    /// The cores so far as core lines; none where one of them is not right.
+    ///
+    /// # Errors
+    ///
+    /// `AllocError` where memory was refused.
+    pub fn counted(&self, instance: &Instance) -> Result<Option<Counted>, AllocError>
+        ensures { IfOk result (λ c. IfSome c (AreRightCores instance.now)) }
+    {
+        count_found(instance, &self.policy.cores, &self.policy.items)
+    }
+
+    /// Goes on until a model is met, or the cores are worth what the best solution costs.
+    ///
+    /// # Errors
+    ///
+    /// `AllocError` where memory was refused. What was learned is told right also then.
+    pub fn next<W: Watch>(
+        &mut self,
+        best: u64,
+        budget: &mut Budget,
+        watch: &mut W,
+    ) -> Result<Event, AllocError>
+        ensures formula { KeepsFormula self.old self.new }
+        ensures event { IfOk result (IsEventOf self.new) }
+        ensures learned { CountsLearned self.old.lines self.new.lines budget.old budget.new }
+    {
+        for _ in 0..u64::MAX {
+            if self.policy.lower >= best {
+                return Ok(Event::Closed);
+            }
+            if self.policy.share == 0 {
+                return Ok(Event::Over);
+            }
+            match self.step(budget, watch)? {
+                Step::Model(bits) => return Ok(Event::Model(bits)),
+                Step::On => {}
+                Step::Over => return Ok(Event::Over),
+            }
+        }
+        Ok(Event::Over)
+    }
+
+    /// One search under the assumptions of the stratum, and what follows from its answer.
+    fn step<W: Watch>(&mut self, budget: &mut Budget, watch: &mut W) -> Result<Step, AllocError>
+        ensures formula { KeepsFormula self.old self.new }
+        ensures step { IfOk result (IsStepOf self.new) }
+        ensures learned { CountsLearned self.old.lines self.new.lines budget.old budget.new }
+    {
+        let before = budget.learned();
+        self.policy.assume_stratum(&mut self.assumptions)?;
+        let share = Share {
+            learned: self.policy.share,
+            decisions: u64::MAX,
+        };
+        match self.solver.assume(&self.assumptions, share, budget, watch)? {
+            Assumed::Sat(bits) => {
+                self.policy.spend(budget.learned().saturating_sub(before));
+                self.policy.after_model()?;
+                self.give()?;
+                Ok(Step::Model(bits))
+            }
+            Assumed::Core(core) => {
+                let inputs = variables_of(&core)?;
+                let items = &self.policy.items;
+                let core = shorten(inputs, items, &mut self.solver, budget, watch)?;
+                self.policy.add_core(core)?;
+                self.policy.spend(budget.learned().saturating_sub(before));
+                self.give()?;
+                Ok(Step::On)
+            }
+            Assumed::Unsat | Assumed::Open | Assumed::Limit => Ok(Step::Over),
+        }
+    }
+
+    /// Gives the clauses of totalizers that are new. Where one does not count, which no totalizer
+    /// makes, the search is over.
+    fn give(&mut self) -> Result<(), AllocError>
+        ensures { GivesOnly self.old self.new }
+    {
+        if !self.solver.give(&mut self.policy.trees.clauses)? {
+            self.policy.share = 0;
+        }
+        Ok(())
+    }
+}
+
+/// What one search has led to.
+#[derive(Drop)]
+enum Step {
+    /// Bits that satisfy the hard clauses, and all assumptions of the stratum.
+    Model(Vec<bool>),
+    /// A core.
+    On,
+    /// Nothing: the effort is spent.
+    Over,
+}
+
+impl Policy {
+    /// What the stratum assumes, in place of what was assumed before.
+    fn assume_stratum(&mut self, assumptions: &mut Vec<Lit>) -> Result<(), AllocError> {
+        if self.is_stale {
+            self.items.relist(self.threshold)?;
+            self.is_stale = false;
+        } else {
+            self.items.refresh(self.threshold)?;
+        }
+        assumptions.clear();
+        for variable in self.items.list() {
+            push_negated(assumptions, *variable)?;
+        }
+        Ok(())
+    }
+
+    /// So many clauses were learned.
+    fn spend(&mut self, learned: u64) {
+        self.share = self.share.saturating_sub(learned);
+    }
+
+    /// A core's weight is taken from its inputs. Where that cannot be, the search is over.
+    fn add_core(&mut self, core: Vec<u32>) -> Result<(), AllocError> {
+        let weight = self.weight_of(&core);
+        if weight == 0 {
+            self.share = 0;
+            return Ok(());
+        }
+        self.lower = self.lower.saturating_add(weight);
+        for variable in &core {
+            self.pay(*variable, weight)?;
+        }
+        if core.len() > 1 {
+            self.pending.push(narrow(self.cores.len()))?;
+        }
+        self.cores.push(FoundCore {
+            weight,
+            inputs: core,
+            root: None,
+            used: 1,
+        })?;
+        Ok(())
+    }
+
+    /// The least rest of the inputs; 0 where there are none.
+    fn weight_of(&self, core: &[u32]) -> u64 {
+        if core.is_empty() {
+            return 0;
+        }
+        let mut weight = u64::MAX;
+        for variable in core {
+            weight = weight.min(self.items.rest(*variable));
+        }
+        weight
+    }
+
+    /// An input pays; where it is an output, what it pays goes on to the next one.
+    fn pay(&mut self, variable: u32, weight: u64) -> Result<(), AllocError> {
+        self.items.charge(variable, weight);
+        let origin = self.items.origin(variable);
+        if origin.core == 0 {
+            return Ok(());
+        }
+        if let Some(core) = self.cores.get_mut(origin.core as usize - 1) {
+            core.used = core.used.max(origin.output);
+        }
+        self.credit_output(origin.core, origin.output.saturating_add(1), weight)
+    }
+
+    /// The output of a core is worth so much more; it is made where it is not there yet. `core` is
+    /// one more than its place. Where no variable is left for it, the search is over.
+    fn credit_output(&mut self, core: u32, output: u32, weight: u64) -> Result<(), AllocError> {
+        let Some(found) = self.cores.get_mut((core as usize).saturating_sub(1)) else {
+            return Ok(());
+        };
+        if output as usize > found.inputs.len() {
+            return Ok(());
+        }
+        let root = match found.root {
+            Some(root) => root,
+            None => self.trees.plant(&found.inputs)?,
+        };
+        found.root = Some(root);
+        if self.trees.grow(root, output as usize)? == Growth::Full {
+            self.share = 0;
+            return Ok(());
+        }
+        let variable = self.trees.output(root, output as usize);
+        self.items.credit(variable, weight, Origin { core, output })
+    }
+
+    /// A model under all assumptions: cores that wait get their second output, or the threshold
+    /// falls.
+    fn after_model(&mut self) -> Result<(), AllocError> {
+        self.is_stale = true;
+        if self.pending.is_empty() {
+            let next = self.items.greatest_below(self.threshold);
+            self.threshold = next.min(next / 2 + 1).max(1);
+            if next == 0 {
+                self.share = 0;
+            }
+            return Ok(());
+        }
+        for read in 0..self.pending.len() {
+            let place = at(&self.pending, read);
+            let weight = match self.cores.get(place as usize) {
+                Some(core) => core.weight,
+                None => 0,
+            };
+            self.credit_output(place.saturating_add(1), 2, weight)?;
+        }
+        self.pending.clear();
+        Ok(())
+    }
+}

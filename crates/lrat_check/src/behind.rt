@@ -1,0 +1,145 @@
+// What follows the head of a certificate: LRAT lines over a formula that the cores make, or over
+// that for a lower cost where there is no core.
+ghost use Rattle.std.specs.Prelude.{◌≡◌, ℕ, ◌+◌, ◌<◌, ◌≤◌, ◌^◌, ◌++◌, [], true, false, List};
+ghost use Rattle.std.specs.Prelude.{length, IfOk, OnOk};
+ghost use Rattle.cnf.specs.Formula.{IsUnsatisfiable};
+ghost use Rattle.cnf.specs.Literal.{Literal};
+ghost use Rattle.cnf.specs.Lrat.{start_of};
+ghost use Rattle.text.specs.Text.{token_lines};
+ghost use Rattle.lrat_check.specs.CoreLines.{IsHeadOf, verdict_ended, verdict_from};
+ghost use Rattle.lrat_check.specs.Checks.{CostsAtLeast};
+ghost use Rattle.lrat_check.specs.Heads.{IsBehind, IsOpenHead, head_reading};
+ghost use Rattle.lrat_check.specs.Pieces.{HasJudged};
+ghost use Rattle.lrat_check.specs.Verdict.{headed_verdict, verdict_behind, verdict_on};
+
+use crate::core_lines::{CoreLines, HeadStep};
+use crate::heads::Head;
+use crate::pieces::Checker;
+use crate::verdicts::{Cause, Verdict};
+use adder::cells::Profile;
+use bound::formulas::{formula_as, formula_of_cores};
+use cnf::types::{Formula, Instance};
+use std::alloc::AllocError;
+
+/// Whether there are cores, and they are worth less together than the cost.
+fn falls_short(cores: &CoreLines, cost: u64) -> bool
+    ensures short { result ≡ true → (cores.now.some ≡ true) × ((cores.now.counted).weight < cost) }
+    ensures enough { result ≡ false → cores.now.some ≡ true → cost ≤ (cores.now.counted).weight }
+{
+    cores.has_some() && cores.counter().weight() < cost
+}
+
+/// The formula that the lines behind the head refute.
+fn formula_behind(cores: &CoreLines, instance: &Instance, cost: u64) -> Result<Formula, AllocError>
+    requires small { cost ≤ 2 ^ 62 }
+    requires is { IsHeadOf instance.now cores.now }
+    requires enough { cores.now.some ≡ true → cost ≤ (cores.now.counted).weight }
+    ensures same { IfOk result (λ f. (first n : ℕ) (lines : List (List (List ℕ)))
+        → verdict_behind instance.now cost cores.now.some cores.now.counted first n lines
+        ≡ verdict_on (start_of f.clauses) false n lines) }
+    ensures refutes { IfOk result
+        (λ f. IsUnsatisfiable f.clauses → CostsAtLeast instance.now cost) }
+{
+    if cores.has_some() {
+        formula_of_cores(instance, cores.counter())
+    } else {
+        formula_as(instance, cost, Profile::Five)
+    }
+}
+
+/// The checker of what follows the head, which has judged what is left already; none where the
+/// cores are worth too little.
+pub(crate) fn checker_behind(
+    head: &Head,
+    instance: &Instance,
+    cost: u64,
+    left: &[u8],
+) -> Result<Option<Checker>, AllocError>
+    requires small { cost ≤ 2 ^ 62 }
+    requires is { IsHeadOf instance.now head.now.cores }
+    requires room { head.now.cores.lines + length head.now.rest + length left.now < 2 ^ 64 }
+    ensures { IfOk result (λ c. IsBehind instance.now cost (head_reading head.now) left.now c) }
+{
+    if falls_short(&head.cores, cost) {
+        return Ok(None);
+    }
+    let formula = formula_behind(&head.cores, instance, cost)?;
+    formula.limits();
+    let mut checker = Checker::behind(formula, head.cores.lines())?;
+    feed_more(&mut checker, head.rest.bytes())?;
+    feed_more(&mut checker, left)?;
+    Ok(Some(checker))
+}
+
+/// Hands the piece to the checker.
+fn feed_more(checker: &mut Checker, piece: &[u8]) -> Result<(), AllocError>
+    requires { checker.old.fed + length piece.now < 2 ^ 64 }
+    ensures judged { OnOk result ((formula : List (List Literal)) (bytes : List ℕ)
+        → HasJudged checker.old formula bytes
+        → HasJudged checker.new formula (bytes ++ piece.now)) }
+    ensures fed { checker.new.fed ≡ checker.old.fed + length piece.now }
+{
+    match checker.feed(piece) {
+        Ok(()) => Ok(()),
+        Err(_) => Err(AllocError),
+    }
+}
+
+/// The verdict, where the head has ended and nothing comes behind what is left.
+pub(crate) fn judge_behind(
+    head: &Head,
+    instance: &Instance,
+    cost: u64,
+    left: &[u8],
+) -> Result<Verdict, AllocError>
+    requires small { cost ≤ 2 ^ 62 }
+    requires is { IsHeadOf instance.now head.now.cores }
+    requires room { head.now.cores.lines + length head.now.rest + length left.now < 2 ^ 64 }
+    requires line { head.now.cores.lines + 1 < 2 ^ 64 }
+    ensures verdict { IfOk result (λ v. v
+        ≡ verdict_ended instance.now cost head.now.cores
+        (token_lines (head.now.rest ++ left.now))) }
+    ensures sound { IfOk result (λ v. v ≡ Verdict.Yes → CostsAtLeast instance.now cost) }
+{
+    match checker_behind(head, instance, cost, left)? {
+        None => Ok(Verdict::No(Cause::CoreSum, head.cores.lines() + 1)),
+        Some(checker) => match checker.finish() {
+            Ok(verdict) => Ok(verdict),
+            Err(_) => Err(AllocError),
+        },
+    }
+}
+
+/// The verdict, where the certificate ends with the head.
+fn verdict_at_end(cores: &CoreLines, instance: &Instance, cost: u64) -> Verdict
+    ensures verdict { result ≡ verdict_from instance.now cost cores.now [] }
+    ensures no { result ≡ Verdict.Yes → ⊥ }
+{
+    if falls_short(cores, cost) {
+        Verdict::No(Cause::CoreSum, 0)
+    } else {
+        Verdict::No(Cause::NoEmptyClause, 0)
+    }
+}
+
+/// The verdict, where nothing follows the pieces of the head.
+pub(crate) fn end_head(head: Head, instance: &Instance, cost: u64) -> Result<Verdict, AllocError>
+    requires small { cost ≤ 2 ^ 62 }
+    requires is { IsHeadOf instance.now head.cores }
+    requires room { head.cores.lines + length head.rest < 2 ^ 64 }
+    ensures verdict { IfOk result (λ v. (bytes : List ℕ)
+        → IsOpenHead instance.now cost (head_reading head) bytes
+        → v ≡ headed_verdict instance.now cost bytes) }
+    ensures sound { IfOk result (λ v. v ≡ Verdict.Yes → CostsAtLeast instance.now cost) }
+{
+    let mut head = head;
+    if head.rest.is_empty() {
+        return Ok(verdict_at_end(&head.cores, instance, cost));
+    }
+    let line = head.cores.lines() + 1;
+    match head.cores.step(head.rest.bytes())? {
+        HeadStep::Ended => judge_behind(&head, instance, cost, &[]),
+        HeadStep::Fails(cause) => Ok(Verdict::No(cause, line)),
+        HeadStep::GoesOn => Ok(verdict_at_end(&head.cores, instance, cost)),
+    }
+}

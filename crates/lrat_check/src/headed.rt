@@ -1,0 +1,115 @@
+// Certificates that may begin with core lines, whole or from a reader.
+ghost use Rattle.std.specs.Prelude.{◌≡◌, ℕ, ◌+◌, ◌<◌, ◌≤◌, ◌^◌, ◌++◌, List, length, IfOk, IfSome};
+ghost use Rattle.text.specs.Text.{token_lines};
+ghost use Rattle.lrat_check.specs.Checks.{CostsAtLeast};
+ghost use Rattle.lrat_check.specs.CoreLines.{IsHeadOf, verdict_ended};
+ghost use Rattle.lrat_check.specs.Heads.{IsOpenHead, head_reading};
+ghost use Rattle.lrat_check.specs.Verdict.{headed_verdict};
+
+use crate::behind::{checker_behind, end_head, judge_behind};
+use crate::heads::{Head, Taken};
+use crate::streams::judge_stream;
+use crate::verdicts::{Cause, CheckFault, Verdict};
+use cnf::types::Instance;
+use std::alloc::AllocError;
+use std::io::Read;
+
+/// The verdict on a certificate that nothing costs less, which may begin with core lines.
+pub(crate) fn check_headed(
+    instance: &Instance,
+    cost: u64,
+    proof: &[u8],
+) -> Result<Verdict, AllocError>
+    requires { cost ≤ 2 ^ 62 }
+    ensures verdict { IfOk result (λ v. v ≡ headed_verdict instance.now cost proof.now) }
+    ensures sound { IfOk result (λ v. v ≡ Verdict.Yes → CostsAtLeast instance.now cost) }
+{
+    let mut head = Head::new(instance)?;
+    match head.take(proof)? {
+        Taken::All => end_head(head, instance, cost),
+        Taken::Ended(left) => judge_behind(&head, instance, cost, left),
+        Taken::Fails(cause) => Ok(Verdict::No(cause, head.cores.lines() + 1)),
+    }
+}
+
+/// As `check_headed`, with the certificate from a reader, which is read up to the first faulty
+/// line. A certificate of 2^64 bytes or more counts as a failed read.
+pub(crate) fn check_headed_stream<R: Read>(
+    instance: &Instance,
+    cost: u64,
+    proof: &mut R,
+) -> Result<Verdict, CheckFault>
+    requires { cost ≤ 2 ^ 62 }
+    ensures verdict { IfOk result (λ v. IfSome (R.remaining proof.old)
+        (λ bytes. v ≡ headed_verdict instance.now cost bytes)) }
+    ensures sound { IfOk result (λ v. v ≡ Verdict.Yes → CostsAtLeast instance.now cost) }
+{
+    let Ok(new) = Head::new(instance) else {
+        return Err(CheckFault::Memory);
+    };
+    let mut head = new;
+    let mut fed = 0u64;
+    let mut chunk = [0u8; 65536];
+    'pieces: loop {
+        let count = match proof.read(&mut chunk) {
+            Ok(0) => return conclude(head, instance, cost),
+            Ok(count) => count,
+            Err(_) => return Err(CheckFault::Read),
+        };
+        if fed > u64::MAX - count as u64 {
+            return Err(CheckFault::Read);
+        }
+        fed += count as u64;
+        let Ok(taken) = head.take(&chunk[..count]) else {
+            return Err(CheckFault::Memory);
+        };
+        match taken {
+            Taken::All => {}
+            Taken::Ended(left) => return judge_rest(&head, instance, cost, left, proof),
+            Taken::Fails(cause) => return Ok(Verdict::No(cause, head.cores.lines() + 1)),
+        }
+    }
+}
+
+/// The verdict, where the certificate ends with the pieces of the head.
+fn conclude(head: Head, instance: &Instance, cost: u64) -> Result<Verdict, CheckFault>
+    requires small { cost ≤ 2 ^ 62 }
+    requires is { IsHeadOf instance.now head.cores }
+    requires room { head.cores.lines + length head.rest < 2 ^ 64 }
+    ensures verdict { IfOk result (λ v. (bytes : List ℕ)
+        → IsOpenHead instance.now cost (head_reading head) bytes
+        → v ≡ headed_verdict instance.now cost bytes) }
+    ensures sound { IfOk result (λ v. v ≡ Verdict.Yes → CostsAtLeast instance.now cost) }
+{
+    match end_head(head, instance, cost) {
+        Ok(verdict) => Ok(verdict),
+        Err(_) => Err(CheckFault::Memory),
+    }
+}
+
+/// The verdict, where the head has ended, on what is left of the last piece and what the reader
+/// still gives.
+fn judge_rest<R: Read>(
+    head: &Head,
+    instance: &Instance,
+    cost: u64,
+    left: &[u8],
+    proof: &mut R,
+) -> Result<Verdict, CheckFault>
+    requires small { cost ≤ 2 ^ 62 }
+    requires is { IsHeadOf instance.now head.now.cores }
+    requires room { head.now.cores.lines + length head.now.rest + length left.now < 2 ^ 64 }
+    requires line { head.now.cores.lines + 1 < 2 ^ 64 }
+    ensures verdict { IfOk result (λ v. IfSome (R.remaining proof.old) (λ more. v
+        ≡ verdict_ended instance.now cost head.now.cores
+        (token_lines ((head.now.rest ++ left.now) ++ more)))) }
+    ensures sound { IfOk result (λ v. v ≡ Verdict.Yes → CostsAtLeast instance.now cost) }
+{
+    let Ok(behind) = checker_behind(head, instance, cost, left) else {
+        return Err(CheckFault::Memory);
+    };
+    match behind {
+        None => Ok(Verdict::No(Cause::CoreSum, head.cores.lines() + 1)),
+        Some(checker) => judge_stream(checker, proof),
+    }
+}

@@ -1,0 +1,105 @@
+// The head of a certificate that comes in pieces: each line is read once its line feed is there, up
+// to the first line with a token that is no core line. Only what follows the last line feed is
+// kept, and a line that no piece boundary cuts is not copied.
+ghost use Rattle.std.specs.Prelude.{◌≡◌, ℕ, ◌+◌, ◌<◌, ◌≤◌, ◌^◌, ◌++◌, [], List, length, IfOk};
+ghost use Rattle.std.specs.Prelude.{drop};
+ghost use Rattle.std.specs.Str.Lines.{strip_carriage_return};
+ghost use Rattle.text.specs.Text.{tokens_of};
+ghost use Rattle.cnf.specs.Problem.{Problem};
+ghost use Rattle.lrat_check.specs.CoreLines.{CountsOn, JudgesHead};
+ghost use Rattle.lrat_check.specs.Heads.{IsOpenHead, IsSomeLeft, Takes, head_reading, left_length};
+
+use crate::core_lines::{CoreLines, HeadStep};
+use crate::verdicts::Cause;
+use cnf::types::Instance;
+use std::alloc::AllocError;
+use text::buffer::LineBuffer;
+use text::pieces::{split_line, without_return};
+
+/// What the pieces so far leave.
+#[derive(Drop)]
+pub struct Head {
+    /// The lines that a line feed has ended.
+    pub cores: CoreLines,
+    /// What follows the last line feed; once the head has ended, the front of the first line behind
+    /// it, or nothing.
+    pub rest: LineBuffer,
+}
+
+/// What a piece does.
+#[derive(Clone, Copy, Drop)]
+pub enum Taken<'a> {
+    /// The head may go on behind the piece.
+    All,
+    /// The head has ended: what is kept and these bytes come behind it.
+    Ended(&'a [u8]),
+    /// The certificate fails at the line behind those that were counted.
+    Fails(Cause),
+}
+
+impl Head {
+    /// Before the first piece.
+    pub fn new(instance: &Instance) -> Result<Self, AllocError>
+        ensures open { IfOk result
+            (λ h. (cost : ℕ) → IsOpenHead instance.now cost (head_reading h) []) }
+        ensures lines { IfOk result (λ h. h.cores.lines + length h.rest ≡ 0) }
+    {
+        Ok(Head {
+            cores: CoreLines::new(instance)?,
+            rest: LineBuffer::new(instance.allocator()),
+        })
+    }
+
+    /// Reads the piece, up to the line behind the head or the first fault.
+    pub fn take<'a>(&mut self, piece: &'a [u8]) -> Result<Taken<'a>, AllocError>
+        requires { self.old.cores.lines + length self.old.rest + length piece.now < 2 ^ 64 }
+        ensures takes { IfOk result (λ taken. (p : Problem) (cost : ℕ) (bytes : List ℕ)
+            → IsOpenHead p cost (head_reading self.old) bytes
+            → Takes p cost taken (head_reading self.new) (bytes ++ piece.now)) }
+        ensures lines { IfOk result (λ taken.
+            self.new.cores.lines + length self.new.rest + left_length taken
+            ≤ self.old.cores.lines + length self.old.rest + length piece.now) }
+        ensures some { IfOk result (λ taken. IsSomeLeft taken) }
+    {
+        let mut left = piece;
+        while let Some((end, after)) = split_line(left) {
+            match self.end_line(end)? {
+                (HeadStep::GoesOn, _) => left = after,
+                (HeadStep::Ended, kept) => return Ok(Taken::Ended(&left[kept..])),
+                (HeadStep::Fails(cause), _) => return Ok(Taken::Fails(cause)),
+            }
+        }
+        self.rest.keep(left)?;
+        Ok(Taken::All)
+    }
+
+    /// Reads the line that these bytes and a line feed end. Where the head has ended before it,
+    /// tells also how many of the bytes are kept.
+    fn end_line(&mut self, end: &[u8]) -> Result<(HeadStep, usize), AllocError>
+        requires { self.old.cores.lines + 1 < 2 ^ 64 }
+        ensures judges { IfOk result (λ r.
+            JudgesHead self.old.cores
+            (tokens_of (strip_carriage_return (self.old.rest ++ end.now))) r.0 self.new.cores) }
+        ensures counts { IfOk result (λ r. CountsOn self.old.cores self.new.cores) }
+        ensures cleared { IfOk result (λ r. r.0 ≡ HeadStep.GoesOn → self.new.rest ≡ []) }
+        ensures kept { IfOk result (λ r. r.0 ≡ HeadStep.Ended
+            → self.new.rest ++ drop r.1 end.now ≡ self.old.rest ++ end.now) }
+        ensures within { IfOk result (λ r. r.1 ≤ length end.now) }
+        ensures short { IfOk result
+            (λ r. length self.new.rest ≤ length self.old.rest + length end.now) }
+        ensures lines { self.new.cores.lines ≤ self.old.cores.lines + 1 }
+    {
+        if self.rest.is_empty() {
+            let step = self.cores.step(without_return(end))?;
+            return Ok((step, 0));
+        }
+        self.rest.keep(end)?;
+        match self.cores.step(without_return(self.rest.bytes()))? {
+            HeadStep::GoesOn => {
+                self.rest.clear();
+                Ok((HeadStep::GoesOn, 0))
+            }
+            other => Ok((other, end.len())),
+        }
+    }
+}
