@@ -81,8 +81,24 @@ same 'with --best'
 ok 'with --best: each line has the form' [ -n "$err" -a -z "$(grep -vxE "$form" <<< "$err")" ]
 ok 'with --best: the text' [ "$(cat "$work/best")" = "$(tail -n 3 <<< "$out")" ]
 call solve --progress --best missing/best --proof proof text
-same 'an unwritable best'
-ok 'an unwritable best: told once, on a line' [ "$(grep -vxE "$form" <<< "$err")" = 'warning: missing/best cannot be written' ]
+expect 'an unwritable best' 3 '' 'error: --best cannot be written'
+
+# A folder of --best that goes away between the start and the search: FILE is a pipe, which is written into after it.
+mkfifo "$work/pipe"
+lose() { # what follows it loses its folder
+    rm -rf "$work/folder"
+    mkdir "$work/folder"
+    (
+        until [ -e "$work/folder/best" ] || ! kill -0 $$; do sleep 0.05; done
+        rm -r "$work/folder"
+        cat "$work/text"
+    ) > "$work/pipe" &
+}
+lose
+call solve --progress --best folder/best --proof proof pipe
+same 'a best that is lost'
+ok 'a best that is lost: told once, on a line' [ "$(grep -vxE "$form" <<< "$err")" = 'warning: folder/best cannot be written' ]
+wait
 
 # A terminal. terminal WHICH WORD..: what the terminal got goes to $work/screen, WHICH is err, or both for standard output too
 terminal() {
@@ -120,9 +136,11 @@ ok 'a terminal: one line, ended at the end' [ "$(wc -l < "$work/screen")" = 1 -a
 ok 'a terminal: written over at each solution' [ "$(tr -cd '\r' < "$work/screen" | wc -c)" -ge "$(grep -c '^o' <<< "$out")" ]
 ok 'a terminal: it begins with a cleared line' [ "$(head -c "${#clear}" "$work/screen")" = "$clear" ]
 ok 'a terminal: the last cost stands' grep -qxE "${form/(no solution yet|cost \[0-9\]+)/$(grep '^o' <<< "$out" | tail -n 1 | sed 's/^o/cost/')}" <<< "$(shown)"
-terminal err solve --progress --best missing/best --proof proof text
+lose
+terminal err solve --progress --best folder/best --proof proof pipe
 same 'a terminal, a warning'
-ok 'a terminal, a warning: on a line of its own' grep -qx 'warning: missing/best cannot be written' "$work/screen"
+ok 'a terminal, a warning: on a line of its own' grep -qx 'warning: folder/best cannot be written' "$work/screen"
+wait
 if [ -c /dev/full ]; then
     terminal err solve --progress --proof /dev/full text
     ok 'a terminal, a fault: on a line of its own' [ "$status" = 3 -a "$(tail -n 1 "$work/screen")" = 'error: ProofOutput' ]
