@@ -13,8 +13,9 @@ use Rattle.lrat_log.proofs.Laws.{numbered_right}
 use Rattle.adder.specs.declared.cells.Profile.{Profile}
 use Rattle.bound.specs.Bound.{bound_as, addition_as, fixed_clauses}
 use Rattle.improve.specs.Improving.{IsSolution, IsAcceptedOver, IsClauseCount, IsRightFound}
-use Rattle.improve.specs.Improving.{repeats_empty}
+use Rattle.improve.specs.Improving.{repeats_empty, IsRefutation}
 use Rattle.improve.specs.declared.found.Found.TheVariants.{Optimum}
+use Rattle.cores.specs.Cores.{Core}
 use Rattle.improve.proofs.Comparators.{compared_zero}
 
 -- its number is that of the clauses
@@ -61,15 +62,16 @@ zero_accepted profile p n log e is =
     (empty_accepted fixed n (e ∙ ap (λ x. length (fixed ++ x)) none)))
 
 pub right_zero : (profile : Profile) (p : Problem) (bits : Vec Bool Global) (log : List LogLine)
-    (count : ℕ) → IsSolution p bits.items 0 → IsAcceptedOver (bound_as profile p 0).clauses log
+    (count : ℕ) (cores : Vec Core Global) → cores.items ≡ []
+    → IsSolution p bits.items 0 → IsAcceptedOver (bound_as profile p 0).clauses log
     → IsClauseCount count (bound_as profile p 0).clauses
-    → IsRightFound profile p (0 ∷ []) (Optimum 0 bits log count)
-right_zero profile p bits log count s accepted counted = record {
+    → IsRightFound profile p (0 ∷ []) (Optimum 0 bits log count cores)
+right_zero profile p bits log count cores none s accepted counted = record {
   solution = s;
   told = ([], refl);
   optimal =
       λ t x. record { feasible = (s.1 t x).0; exact = (s.1 t x).1; least = λ u f. omega arith };
-  accepted = accepted;
-  begins = (log, refl);
-  counted = counted;
+  refutation =
+      subst (λ x. IsRefutation profile p (0 ∷ []) 0 x log count) (sym none)
+      (record { accepted = accepted; begins = (log, refl); counted = counted });
 }

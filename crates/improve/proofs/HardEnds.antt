@@ -1,6 +1,6 @@
 -- The ends of a search over the hard clauses alone.
 use Rattle.std.proofs.Common.{◌≡◌, ℕ, ◌+◌, Bool, List, [], ◌++◌, length, inl, refl, sym, ◌∙◌}
-use Rattle.std.proofs.Common.{ap, subst, arith}
+use Rattle.std.proofs.Common.{ap, subst, arith, None}
 use Rattle.std.specs.Prelude.{All}
 use Rattle.std.proofs.lemmas.List.{length-map}
 use Rattle.std.proofs.lemmas.List.Elements.{All-map}
@@ -23,9 +23,13 @@ use Rattle.bound.proofs.Laws.{hard_few}
 use Rattle.cdcl.specs.Solving.{given_to, SatisfyGiven, SameGiven, IsPlainlyRefuted, lines_since}
 use Rattle.improve.specs.Improving.{IsHardLog, IsRightFound, work_count}
 use Rattle.improve.specs.Bounds.{LogSolver, IsOverHard}
+use Rattle.improve.specs.declared.found.Work.{Work}
 use Rattle.improve.specs.declared.found.Found.TheVariants.{Unsat, Nothing}
 use Rattle.lrat_log.proofs.Laws.{first_new}
 use Rattle.improve.proofs.CheaperBits.{same_given, learned_more}
+
+abbrev pub only_hard : List LogLine → List LogLine → Work
+only_hard hard bound = record { hard = hard; bound = bound; search = None; refutation = None }
 
 module _ (p : Problem) (old : LogSolver) (h : IsOverHard p old) where
   pub hard_feasible : (bits : List Bool) → SatisfyGiven bits (given_to old) → (t : Assignment)
@@ -77,7 +81,7 @@ module _ (p : Problem) (old : LogSolver) (h : IsOverHard p old) where
 
   pub right_nothing : (profile : Profile) (hard bound : List LogLine) → IsHardLog p hard
       → bound ≡ [] → (IsPlainlyRefuted old → ⊥)
-      → IsRightFound profile p [] (Nothing (record { hard = hard; bound = bound }))
+      → IsRightFound profile p [] (Nothing (only_hard hard bound))
   right_nothing profile hard bound work none free =
       record {
         none_told = refl;
@@ -85,6 +89,8 @@ module _ (p : Problem) (old : LogSolver) (h : IsOverHard p old) where
             λ r. free (inl (subst IsRefutedByHints (sym (ap (λ f. f.clauses) h.formula)) r));
         hard = work;
         no_bound = none;
+        no_search = refl;
+        no_refutation = refl;
       }
 
   -- what was learned in the first search
@@ -97,7 +103,7 @@ module _ (p : Problem) (old : LogSolver) (h : IsOverHard p old) where
 
 pub nothing_learned : (hard bound sink : List LogLine) (before after : ℕ) → hard ≡ sink → bound ≡ []
     → after ≡ before + learned_count sink
-    → after ≡ before + work_count (record { hard = hard; bound = bound })
+    → after ≡ before + work_count (only_hard hard bound)
 nothing_learned hard bound sink before after e none h =
     let empty : learned_count bound ≡ 0 = ap learned_count none in
     omega (arith, ap learned_count e, empty, h)

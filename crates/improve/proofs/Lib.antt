@@ -13,4 +13,6 @@ mod AtZero
 mod SearchEnds
 mod HardEnds
 mod Lowering
+mod Standings
+mod CoreEnds
 pub mod Laws

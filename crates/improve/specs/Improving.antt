@@ -1,7 +1,7 @@
 -- What the improving search finds.
-use Rattle.std.specs.Prelude.{◌≡◌, ◌+◌, ◌<◌, [], ◌∷◌, ◌++◌, if◌then◌else◌, ⊤}
+use Rattle.std.specs.Prelude.{◌≡◌, ◌+◌, ◌<◌, ◌≤◌, [], ◌∷◌, ◌++◌, if◌then◌else◌, ⊤}
 use Rattle.std.specs.Prelude.{ℕ, Bool, List, length, map, drop, All}
-use Rattle.std.specs.Prelude.{Option, Some, Result, Ok, Err, IfOk, OnOk}
+use Rattle.std.specs.Prelude.{Option, Some, None, Result, Ok, Err, IfOk, IfSome, OnOk}
 use Rattle.std.specs.List.{flat_map}
 use Rattle.cnf.specs.Literal.{Literal, Assignment}
 use Rattle.cnf.specs.Clause.{is_subset}
@@ -18,10 +18,14 @@ use Rattle.lrat_log.specs.Steps.{AreSteps, AddsNoEmptyClause, LearnsNew}
 use Rattle.lrat_log.specs.Steps.{nothing_exempt, is_later, given_of, learned_count}
 use Rattle.lrat_log.specs.Rebase.{WeakerList, weaker_line}
 use Rattle.adder.specs.declared.cells.Profile.{Profile}
-use Rattle.bound.specs.Bound.{hard_cnf, bound_as, fixed_clauses, comparator_for}
+use Rattle.adder.specs.declared.cells.Profile.TheVariants.{Five}
+use Rattle.cores.specs.Cores.{Core, Counted, AreCounted}
+use Rattle.bound.specs.Bound.{hard_cnf, bound_as, fixed_clauses, comparator_for, core_cnf}
 use Rattle.cdcl_order.specs.Budgets.{BudgetState, left_of}
-pub use Rattle.improve_cores.specs.CoreWork.{IsAcceptedOver}
 use Rattle.improve.specs.Progress.{Telling}
+use Rattle.improve_cores.specs.CoreWork.{CoreWork, IsCoreWork}
+pub use Rattle.improve_cores.specs.CoreWork.{IsAcceptedOver}
+use Rattle.improve.specs.declared.found.CoreRefutation.{CoreRefutation}
 use Rattle.improve.specs.declared.found.Work.{Work}
 use Rattle.improve.specs.declared.found.Found.{Found}
 use Rattle.improve.specs.declared.found.Found.TheVariants.{Optimum, Unsat, Best, Nothing}
@@ -127,20 +131,48 @@ pub record IsBoundWork (profile : Profile) (p : Problem) (costs : List ℕ) (c :
   pub begins : BeginsWithWeaker profile p costs c w.bound
   pub new : IsNewBoundWork profile p costs c w.bound
 
+-- a refutation by these cores that did not end: steps from their formula, each learned one new
+pub record IsOpenRefutation (p : Problem) (r : CoreRefutation) : Type 0 where
+  pub leaves : Counted
+  pub are_counted : AreCounted p (r.cores).items leaves
+  pub work : IsWorkOver (core_cnf p leaves).clauses r.log
+  pub new : IsNewWork (core_cnf p leaves).clauses r.log
+
 -- the number of these clauses, which are few
 abbrev pub IsClauseCount : ℕ → List (List Literal) → Type 0
 IsClauseCount n cs = (n ≡ length cs) × (n < CLAUSE_LIMIT)
 
 -- What was found is right, where these costs were told.
 
-pub record IsRightOptimum (profile : Profile) (p : Problem) (costs : List ℕ) (c : ℕ)
-    (bits : List Bool) (log : List LogLine) (clauses : ℕ) : Type 0 where
-  pub solution : IsSolution p bits c
-  pub told : EndsWith costs c
-  pub optimal : (t : Assignment) → Extends bits t → IsOptimal p t c
+-- the log refutes the formula for the last bound, which has so many clauses
+pub record IsByBounds (profile : Profile) (p : Problem) (costs : List ℕ) (c : ℕ)
+    (log : List LogLine) (clauses : ℕ) : Type 0 where
   pub accepted : IsAcceptedOver (bound_as profile p c).clauses log
   pub begins : BeginsWithWeaker profile p costs c log
   pub counted : IsClauseCount clauses (bound_as profile p c).clauses
+
+-- the log refutes the formula of the cores, which are worth as much as the solution costs
+pub record IsByCores (profile : Profile) (p : Problem) (c : ℕ) (cores : List Core)
+    (log : List LogLine) (clauses : ℕ) : Type 0 where
+  pub profile_is : profile ≡ Five
+  pub above_zero : 0 < c
+  pub leaves : Counted
+  pub are_counted : AreCounted p cores leaves
+  pub worth : c ≤ leaves.weight
+  pub accepted : IsAcceptedOver (core_cnf p leaves).clauses log
+  pub counted : IsClauseCount clauses (core_cnf p leaves).clauses
+
+-- without cores by bounds
+abbrev pub IsRefutation : Profile → Problem → List ℕ → ℕ → List Core → List LogLine → ℕ → Type 0
+IsRefutation profile p costs c [] log clauses = IsByBounds profile p costs c log clauses
+IsRefutation profile p costs c (k ∷ ks) log clauses = IsByCores profile p c (k ∷ ks) log clauses
+
+pub record IsRightOptimum (profile : Profile) (p : Problem) (costs : List ℕ) (c : ℕ)
+    (bits : List Bool) (log : List LogLine) (clauses : ℕ) (cores : List Core) : Type 0 where
+  pub solution : IsSolution p bits c
+  pub told : EndsWith costs c
+  pub optimal : (t : Assignment) → Extends bits t → IsOptimal p t c
+  pub refutation : IsRefutation profile p costs c cores log clauses
 
 pub record IsRightUnsat (p : Problem) (costs : List ℕ) (log : List LogLine) (clauses : ℕ)
     : Type 0 where
@@ -156,6 +188,8 @@ pub record IsRightBest (profile : Profile) (p : Problem) (costs : List ℕ) (c :
   pub above_zero : 0 < c
   pub hard : IsHardWork p work
   pub bound : IsBoundWork profile p costs c work
+  pub search : IfSome work.search (IsCoreWork p)
+  pub refutation : IfSome work.refutation (IsOpenRefutation p)
 
 pub record IsRightNothing (p : Problem) (costs : List ℕ) (work : Work) : Type 0 where
   pub none_told : costs ≡ []
@@ -163,10 +197,12 @@ pub record IsRightNothing (p : Problem) (costs : List ℕ) (work : Work) : Type 
   pub not_refuted : IsRefutedByHints (hard_cnf p).clauses → ⊥
   pub hard : IsHardWork p work
   pub no_bound : work.bound ≡ []
+  pub no_search : work.search ≡ None
+  pub no_refutation : work.refutation ≡ None
 
 abbrev pub IsRightFound : Profile → Problem → List ℕ → Found → Type 0
-IsRightFound profile p costs (Optimum c bits log clauses) =
-    IsRightOptimum profile p costs c bits.items log clauses
+IsRightFound profile p costs (Optimum c bits log clauses cores) =
+    IsRightOptimum profile p costs c bits.items log clauses cores.items
 IsRightFound profile p costs (Unsat log clauses) = IsRightUnsat p costs log clauses
 IsRightFound profile p costs (Best c bits work) = IsRightBest profile p costs c bits.items work
 IsRightFound profile p costs (Nothing work) = IsRightNothing p costs work
@@ -187,12 +223,23 @@ TellsOf (Err Progress) tried told failed = TellsAllButLast tried told failed
 abbrev pub OnWork : Result Found ImproveFault → (Work → Type 0) → Type 0
 OnWork (Ok (Best c bits work)) P = P work
 OnWork (Ok (Nothing work)) P = P work
-OnWork (Ok (Optimum c bits log clauses)) P = ⊤
+OnWork (Ok (Optimum c bits log clauses cores)) P = ⊤
 OnWork (Ok (Unsat log clauses)) P = ⊤
 OnWork (Err e) P = ⊤
 
+-- the learned lines of a search for cores, and of a refutation by cores, where there was one
+abbrev pub search_count : Option CoreWork → ℕ
+search_count None = 0
+search_count (Some w) = learned_count w.lines
+
+abbrev pub refutation_count : Option CoreRefutation → ℕ
+refutation_count None = 0
+refutation_count (Some r) = learned_count r.log
+
 abbrev pub work_count : Work → ℕ
-work_count w = learned_count w.hard + learned_count w.bound
+work_count w =
+    learned_count w.hard + learned_count w.bound + search_count w.search
+    + refutation_count w.refutation
 
 -- the budget before the search over the hard clauses, of which this is left: its one solution and
 -- its learned lines were counted

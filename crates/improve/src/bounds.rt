@@ -106,6 +106,23 @@ impl Bounds {
         Ok(())
     }
 
+    /// Gives the clauses of bounds for these costs, in their order.
+    pub fn add_all(&mut self, instance: &Instance, costs: &[u64]) -> Result<(), AllocError>
+        requires over { IsOver instance.now self.old }
+        requires small { All (λ c. c ≤ 2 ^ 62) costs.now }
+        ensures over { OnOk result (IsOver instance.now self.new) }
+        ensures costs { OnOk result
+            (self.new.costs.items ≡ self.old.costs.items ++ costs.now) }
+        ensures profile { OnOk result (self.new.profile ≡ self.old.profile) }
+        ensures learned { OnOk result
+            (learned_count self.new.solver.sink ≡ learned_count self.old.solver.sink) }
+    {
+        for cost in costs {
+            self.add(instance, *cost)?;
+        }
+        Ok(())
+    }
+
     /// Looks for a solution below the last bound.
     pub fn solve<W: Watch>(
         &mut self,

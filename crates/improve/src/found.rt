@@ -1,4 +1,6 @@
 // What the search finds.
+use cores::types::Core;
+use improve_cores::counting_solver::CountingSolver;
 use lrat_log::log::Log;
 
 /// What the budget was spent on. Each line that was learned cost a unit, and none adds the empty
@@ -10,6 +12,19 @@ pub struct Work {
     /// The log over the formula for 'cheaper than the best solution'; without lines where none was
     /// met.
     pub bound: Log,
+    /// What the search for cores was given and learned, where there was one.
+    pub search: Option<CountingSolver>,
+    /// A refutation by cores that did not end, where there was one.
+    pub refutation: Option<CoreRefutation>,
+}
+
+/// A refutation by cores that did not end.
+#[derive(Drop)]
+pub struct CoreRefutation {
+    /// The cores.
+    pub cores: Vec<Core>,
+    /// The log over the formula of these cores.
+    pub log: Log,
 }
 
 /// The end of a search. A cost is the sum of the weights of the soft clauses that the bits falsify,
@@ -24,6 +39,7 @@ pub enum Found {
         bits: Vec<bool>,
         log: Log,
         clauses: u64,
+        cores: Vec<Core>,
     },
     /// There is no solution. The log refutes the formula of the hard clauses, which has so many
     /// clauses, fewer than 2^28.

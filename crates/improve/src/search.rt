@@ -1,20 +1,25 @@
 //! The improving search: each solution bounds the cost of the next (Handbook of Satisfiability,
 //! chapter MaxSAT, linear search from satisfiable to unsatisfiable).
-ghost use Rattle.std.specs.Prelude.{◌≡◌, ◌<◌, ◌^◌, [], ◌∷◌};
-ghost use Rattle.std.specs.Prelude.{IfOk, IfErr, OnOk, OnErr};
+ghost use Rattle.std.specs.Prelude.{◌≡◌, ◌+◌, ◌<◌, ◌^◌, [], ◌∷◌};
+ghost use Rattle.std.specs.Prelude.{ℕ, List, All, Ok, IfOk, IfErr, OnOk, OnErr};
 ghost use Rattle.lrat_log.specs.Steps.{IsAcceptedLog, AddsNoEmptyClause, learned_count};
 ghost use Rattle.cdcl_order.specs.Budgets.{BudgetState};
 ghost use Rattle.cdcl.specs.Solving.{given_to};
 ghost use Rattle.improve.specs.Improving.{Improves, IsHardLog, IsRightFound, IsSolution, OnWork};
-ghost use Rattle.improve.specs.Improving.{PaysForHard, EndsWith, AreFalling};
-ghost use Rattle.improve.specs.Progress.{Telling, with_told, with_failed};
-ghost use Rattle.improve.specs.Bounds.{HasNoBound, IsOver, IsOverHard};
+ghost use Rattle.improve.specs.Improving.{PaysForHard, EndsWith, AreFalling, IsCostOfSome};
+ghost use Rattle.improve.specs.Improving.{work_count};
+ghost use Rattle.improve.specs.Progress.{with_told, with_failed};
+ghost use Rattle.improve.specs.Bounds.{IsOver, IsOverHard};
+ghost use Rattle.improve.specs.Standing.{IsStanding, IsEarlyWork, HasNoCores, Ends};
+ghost use Rattle.improve.specs.Standing.{IsCoreProof};
 
 use crate::bounds::{Bounds, Next};
+use crate::by_cores::{ByCores, refute_by_cores};
 use crate::found::{Found, ImproveFault, Work};
 use crate::frozen::freeze_none;
 use crate::progress::{Progress, ProgressFault};
 use crate::solutions::{Solution, price_polished};
+use crate::standing::Standing;
 use crate::watch::{Silent, Watch};
 use crate::zero::refute_zero;
 use adder::cells::Profile;
@@ -104,7 +109,12 @@ pub fn improve_watched<T: Progress, W: Watch>(
             let hard = solver.into_sink();
             let bound = Log::new(instance.allocator());
             Ok(Found::Nothing {
-                work: Work { hard, bound },
+                work: Work {
+                    hard,
+                    bound,
+                    search: None,
+                    refutation: None,
+                },
             })
         }
         Err(_) => Err(ImproveFault::Memory),
@@ -152,38 +162,148 @@ fn lower<T: Progress, W: Watch>(
     if first.cost == 0 {
         return conclude_zero(instance, profile, first.bits);
     }
-    let Ok(mut bounds) = Bounds::new(instance, profile) else {
+    let alloc = instance.allocator();
+    let standing = Standing {
+        best: first,
+        earlier: Vec::new(alloc),
+    };
+    let work = Work {
+        hard,
+        bound: Log::new(alloc),
+        search: None,
+        refutation: None,
+    };
+    go_on(instance, budget, progress, profile, watch, standing, work)
+}
+
+/// Goes on from a solution that was told: in `Profile::Five` first by cores, and then by bounds.
+fn go_on<T: Progress, W: Watch>(
+    instance: &Instance,
+    budget: &mut Budget,
+    progress: &mut T,
+    profile: Profile,
+    watch: &mut W,
+    standing: Standing,
+    work: Work,
+) -> Result<Found, ImproveFault>
+    requires failures { (T.state progress.old).failures < 2 ^ 62 }
+    requires standing { IsStanding instance.now standing }
+    requires work { IsEarlyWork instance.now work }
+    requires none { HasNoCores work }
+    ensures follows { (first : T) → T.follows first progress.old → T.follows first progress.new }
+    ensures ends { Ends profile instance.now result
+        (T.state progress.old) (T.state progress.new)
+        budget.old budget.new standing (work_count work) }
+{
+    match profile {
+        Profile::Five => lower_by_cores(instance, budget, progress, watch, standing, work),
+        _ => lower_by_bounds(instance, budget, progress, profile, watch, standing, work),
+    }
+}
+
+/// Goes on by cores, and by bounds where these do not show an optimum.
+fn lower_by_cores<T: Progress, W: Watch>(
+    instance: &Instance,
+    budget: &mut Budget,
+    progress: &mut T,
+    watch: &mut W,
+    standing: Standing,
+    work: Work,
+) -> Result<Found, ImproveFault>
+    requires failures { (T.state progress.old).failures < 2 ^ 62 }
+    requires standing { IsStanding instance.now standing }
+    requires work { IsEarlyWork instance.now work }
+    requires none { HasNoCores work }
+    ensures follows { (first : T) → T.follows first progress.old → T.follows first progress.new }
+    ensures ends { Ends Profile.Five instance.now result
+        (T.state progress.old) (T.state progress.new)
+        budget.old budget.new standing (work_count work) }
+{
+    let mut standing = standing;
+    let mut work = work;
+    match refute_by_cores(instance, budget, progress, watch, &mut standing, &mut work)? {
+        Some(by_cores) => Ok(conclude_cores(instance, standing.best, by_cores)),
+        None => lower_by_bounds(
+            instance,
+            budget,
+            progress,
+            Profile::Five,
+            watch,
+            standing,
+            work,
+        ),
+    }
+}
+
+/// Goes on by bounds. They are given all costs that were told so far, in their order, as if they
+/// had been met below bounds.
+fn lower_by_bounds<T: Progress, W: Watch>(
+    instance: &Instance,
+    budget: &mut Budget,
+    progress: &mut T,
+    profile: Profile,
+    watch: &mut W,
+    standing: Standing,
+    work: Work,
+) -> Result<Found, ImproveFault>
+    requires failures { (T.state progress.old).failures < 2 ^ 62 }
+    requires standing { IsStanding instance.now standing }
+    requires work { IsEarlyWork instance.now work }
+    ensures follows { (first : T) → T.follows first progress.old → T.follows first progress.new }
+    ensures ends { Ends profile instance.now result
+        (T.state progress.old) (T.state progress.new)
+        budget.old budget.new standing (work_count work) }
+{
+    let Ok(mut bounds) = make_bounds(instance, profile, &standing.earlier) else {
         return Err(ImproveFault::Memory);
     };
-    tighten(instance, budget, progress, watch, &mut bounds, hard, first)
+    tighten(
+        instance,
+        budget,
+        progress,
+        watch,
+        &mut bounds,
+        standing.best,
+        work,
+    )
+}
+
+/// The bounds for these costs.
+fn make_bounds(instance: &Instance, profile: Profile, costs: &[u64]) -> Result<Bounds, AllocError>
+    requires { All (IsCostOfSome instance.now) costs.now }
+    ensures over { IfOk result (IsOver instance.now) }
+    ensures profile { IfOk result (λ b. b.profile ≡ profile) }
+    ensures costs { IfOk result (λ b. b.costs.items ≡ costs.now) }
+    ensures learned { IfOk result (λ b. learned_count b.solver.sink ≡ 0) }
+{
+    let mut bounds = Bounds::new(instance, profile)?;
+    bounds.add_all(instance, costs)?;
+    Ok(bounds)
 }
 
 /// Goes from a solution that was told to cheaper ones: the cost of each is the next bound, and what
-/// is found below it is told. The solver of the bounds is its caller's, so that no exit here has to
-/// give it back.
+/// is found below it is told. The bounds are those of the costs told before. The solver of the
+/// bounds is its caller's, so that no exit here has to give it back.
 fn tighten<T: Progress, W: Watch>(
     instance: &Instance,
     budget: &mut Budget,
     progress: &mut T,
     watch: &mut W,
     bounds: &mut Bounds,
-    hard: Log,
     first: Solution,
+    work: Work,
 ) -> Result<Found, ImproveFault>
     requires failures { (T.state progress.old).failures < 2 ^ 62 }
-    requires solution { IsSolution instance.now first.bits.items first.cost }
-    requires hard { IsHardLog instance.now hard }
+    requires standing { IsStanding instance.now
+        (record { best = first; earlier = bounds.old.costs }) }
+    requires work { IsEarlyWork instance.now work }
     requires over { IsOver instance.now bounds.old }
-    requires none { HasNoBound bounds.old.profile bounds.old }
+    requires learned { learned_count bounds.old.solver.sink ≡ 0 }
     ensures follows { (first : T) → T.follows first progress.old → T.follows first progress.new }
-
-    // From before the search over the hard clauses, as in `lower`, and before the first cost was
-    // told.
-    ensures improves { (before : BudgetState) → PaysForHard before budget.old hard
-        → (earlier : Telling) → T.state progress.old ≡ with_told first.cost earlier
-        → Improves bounds.old.profile instance.now result earlier
-        (T.state progress.new)
-        before budget.new }
+    ensures ends { Ends bounds.old.profile instance.now result
+        (T.state progress.old) (T.state progress.new)
+        budget.old budget.new
+        (record { best = first; earlier = bounds.old.costs }) (work_count work) }
 {
     let mut best = first;
     loop {
@@ -198,7 +318,7 @@ fn tighten<T: Progress, W: Watch>(
                 best = solution;
             }
             Ok(Next::Refuted) => return conclude_optimum(instance, bounds, best),
-            Ok(Next::Spent) => return conclude_spent(instance, bounds, best, hard),
+            Ok(Next::Spent) => return conclude_spent(instance, bounds, best, work),
             Err(AllocError) => return Err(ImproveFault::Memory),
         }
     }
@@ -206,7 +326,7 @@ fn tighten<T: Progress, W: Watch>(
 
 /// Shows the solution, and then tells what it costs: whoever is told a cost finds what it belongs
 /// to.
-fn tell<T: Progress, W: Watch>(
+pub fn tell<T: Progress, W: Watch>(
     instance: &Instance,
     progress: &mut T,
     watch: &mut W,
@@ -241,6 +361,7 @@ fn conclude_zero(
             bits,
             log: refutation.log,
             clauses: refutation.clauses,
+            cores: Vec::new(instance.allocator()),
         }),
         Err(AllocError) => Err(ImproveFault::Memory),
     }
@@ -269,8 +390,28 @@ fn conclude_optimum(
             bits: best.bits,
             log,
             clauses,
+            cores: Vec::new(instance.allocator()),
         }),
         Err(AllocError) => Err(ImproveFault::Memory),
+    }
+}
+
+/// The end where the cores are worth as much as the solution costs, and this refutes what is
+/// cheaper.
+fn conclude_cores(instance: &Instance, best: Solution, by_cores: ByCores) -> Found
+    requires solution { IsSolution instance.now best.bits.items best.cost }
+    requires proof { IsCoreProof instance.now best.cost by_cores }
+    ensures found { (costs : List ℕ) → EndsWith costs best.cost
+        → IsRightFound Profile.Five instance.now costs result }
+    ensures work { OnWork (Ok result) (λ _. ⊥) }
+{
+    instance.limits();
+    Found::Optimum {
+        cost: best.cost,
+        bits: best.bits,
+        log: by_cores.log,
+        clauses: by_cores.clauses,
+        cores: by_cores.cores,
     }
 }
 
@@ -279,7 +420,7 @@ fn conclude_spent(
     instance: &Instance,
     bounds: &mut Bounds,
     best: Solution,
-    hard: Log,
+    work: Work,
 ) -> Result<Found, ImproveFault>
     requires over { IsOver instance.now bounds.old }
     requires open { AddsNoEmptyClause bounds.old.solver.sink }
@@ -287,18 +428,23 @@ fn conclude_spent(
     requires above { 0 < best.cost }
     requires last { EndsWith bounds.old.costs.items best.cost }
     requires falling { AreFalling bounds.old.costs.items }
-    requires hard { IsHardLog instance.now hard }
+    requires work { IsEarlyWork instance.now work }
     ensures found { IfOk result
         (IsRightFound bounds.old.profile instance.now bounds.old.costs.items) }
-    ensures work { OnWork result (λ work. (work.hard ≡ hard)
-        × (learned_count work.bound ≡ learned_count bounds.old.solver.sink)) }
+    ensures work { OnWork result (λ w. work_count w
+        ≡ work_count work + learned_count bounds.old.solver.sink) }
     ensures fault { IfErr result (λ e. e ≡ ImproveFault.Memory) }
 {
     match bounds.rebase_log(instance) {
         Ok(bound) => Ok(Found::Best {
             cost: best.cost,
             bits: best.bits,
-            work: Work { hard, bound },
+            work: Work {
+                hard: work.hard,
+                bound,
+                search: work.search,
+                refutation: work.refutation,
+            },
         }),
         Err(AllocError) => Err(ImproveFault::Memory),
     }

@@ -49,7 +49,7 @@ satisfiable_true p c bits h s =
 
 pub found_true : (p : Problem) (found : Found) → IsInstance p → IsFound p found
     → IsTrueText p (best_text (said_of found))
-found_true p (Optimum c bits log clauses) h f = let r = f.2 in (
+found_true p (Optimum c bits log clauses cores) h f = let r = f.2 in (
   OptimumFound c bits.items,
   text_says [] (OptimumFound c bits.items) (one_falls p c bits.items h r.solution),
   (r.solution, r.optimal),

@@ -1,4 +1,6 @@
 pub mod NoLine
+pub mod CoreLines
+pub mod HeadedTexts
 pub mod CostLines
 pub mod Searched
 pub mod ResultTexts

@@ -1,5 +1,5 @@
 -- The text of the best solution so far, and what it claims.
-use Rattle.std.specs.Prelude.{◌≡◌, ℕ, List, [], length, ⊤}
+use Rattle.std.specs.Prelude.{ℕ, List, [], ⊤}
 use Rattle.cnf.specs.Literal.{Assignment}
 use Rattle.cnf.specs.Bits.{Extends}
 use Rattle.cnf.specs.Problem.{Problem, IsOptimal, IsInconsistent}
@@ -16,7 +16,7 @@ best_text said = result_text [] said
 
 -- what was found, as a result says it
 abbrev pub said_of : Found → Said
-said_of (Optimum c bits log clauses) = OptimumFound c bits.items
+said_of (Optimum c bits log clauses cores) = OptimumFound c bits.items
 said_of (Unsat log clauses) = Unsatisfiable
 said_of (Best c bits work) = Satisfiable c bits.items
 said_of (Nothing work) = Unknown

@@ -2,7 +2,7 @@
 -- those over memory do.
 use Rattle.std.specs.Prelude.{◌≡◌, ◌+◌, ◌<◌, [], ◌∷◌, ◌++◌, ⊤, ◌⊎◌}
 use Rattle.std.specs.Prelude.{ℕ, Bool, List, length, All}
-use Rattle.std.specs.Prelude.{Option, IfSome, Result, Ok, Err, IfOk, OnOk}
+use Rattle.std.specs.Prelude.{Option, None, IfSome, Result, Ok, Err, IfOk, OnOk}
 use Rattle.std.specs.List.{flat_map}
 use Rattle.std.specs.Io.KnownBytes.{Keeps, Appends}
 use Rattle.cnf.specs.Literal.{Assignment}
@@ -29,6 +29,8 @@ use Rattle.improve.specs.declared.found.ImproveFault.{ImproveFault}
 use Rattle.improve.specs.declared.found.ImproveFault.TheVariants.{Memory as SearchMemory, Progress}
 use Rattle.improve.specs.Improving.{AreFalling, EndsWith, IsCostOfSome, IsSolution}
 use Rattle.improve.specs.Improving.{IsHardWork, IsBoundWork, IsRightFound, OnWork, work_count}
+use Rattle.improve.specs.Improving.{IsOpenRefutation}
+use Rattle.improve_cores.specs.CoreWork.{IsCoreWork}
 use Rattle.report.specs.Told.{cost_lines}
 use Rattle.report.specs.declared.status.Status.{Status}
 use Rattle.report.specs.declared.status.Status.TheVariants.{OptimumFound, Unsatisfiable}
@@ -73,6 +75,8 @@ pub record IsTrueSatisfiable (profile : Profile) (p : Problem) (costs : List ℕ
   pub above_zero : 0 < c
   pub spent : IsSpentOn p proved work old new
   pub bound : IsBoundWork profile p costs c work
+  pub search : IfSome work.search (IsCoreWork p)
+  pub refutation : IfSome work.refutation (IsOpenRefutation p)
 
 -- no solution was met
 pub record IsTrueUnknown (p : Problem) (proved : List ℕ) (work : Work) (old new : BudgetState)
@@ -81,6 +85,8 @@ pub record IsTrueUnknown (p : Problem) (proved : List ℕ) (work : Work) (old ne
   pub not_refuted : IsRefutedByHints (hard_cnf p).clauses → ⊥
   pub spent : IsSpentOn p proved work old new
   pub no_bound : work.bound ≡ []
+  pub no_search : work.search ≡ None
+  pub no_refutation : work.refutation ≡ None
 
 -- what the status and the result say is so
 abbrev pub IsTrueAnswer : Profile → Problem → List ℕ → Status → Said → List ℕ

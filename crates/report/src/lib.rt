@@ -5,6 +5,7 @@
 mod answering;
 pub mod best;
 pub mod fault;
+mod heading;
 pub mod options;
 pub mod printing;
 pub mod running;

@@ -33,14 +33,14 @@ machine, whatever its speed.
 The certificate proves OPTIMUM FOUND and UNSATISFIABLE to whoever checks it, and is written before
 the 's' line. For the other two none is. Without --proof it is dropped.
 
---profile 4 finds most optima; check wants the profile that the certificate
+--profile 5 finds most optima on what planners have; check wants the profile that the certificate
 was made in. --best PATH keeps the best solution, so that a run can be stopped at any moment.
 --progress tells meanwhile how far it is. A script that stops at errors writes
 
-  wmax solve --profile 4 a.wcnf > a.result || [ $? = 30 ]
+  wmax solve --profile 5 a.wcnf > a.result || [ $? = 30 ]
 
 Example:
-  wmax solve --profile 4 --proof a.lrat --best a.best a.wcnf > a.result
+  wmax solve --profile 5 --proof a.lrat --best a.best a.wcnf > a.result
 
 Faults:
   error: line N: FirstToken  line N of FILE begins with neither 'h', a weight nor 'c'
@@ -70,7 +70,7 @@ Give the profile that the certificate was made in: in another one it is refused,
 NO DeadId 1 or NO LineForm 1.
 
 Example:
-  wmax check --profile 4 a.wcnf a.result a.lrat
+  wmax check --profile 5 a.wcnf a.result a.lrat
 
 Faults:
   NO Text N                 line N of FILE is faulty: wmax explain says how
@@ -133,8 +133,8 @@ Statuses: solve 30, 20, 10, 0; check and explain 0, 1; encode 0; each 2 and 3 fo
 COMMAND --help' says what they mean. FILE may be /dev/stdin, or a pipe such as <(zcat a.wcnf.gz).
 
 Example:
-  wmax solve --profile 4 --proof a.lrat a.wcnf > a.result
-  wmax check --profile 4 a.wcnf a.result a.lrat
+  wmax solve --profile 5 --proof a.lrat a.wcnf > a.result
+  wmax check --profile 5 a.wcnf a.result a.lrat
   wmax explain a.wcnf a.result";
 
 /// What `--version` prints after the name.
@@ -158,9 +158,9 @@ fn make_profile<'a>(alloc: Global) -> Arg<'a> {
         .help(
             "How 'cheaper' is encoded: 1 adds all weights column by column; 2 as 1, and spends no \
              variable on soft clauses of one literal; 3 adds weights in pairs, light ones first; \
-             4, which finds most, has sums of weights along a tree that follows the hard clauses; 5 \
-             is as 4, but that a certificate which is checked may begin with core lines. check wants \
-             the one that the certificate was made in",
+             4 has sums of weights along a tree that follows the hard clauses; 5, which finds most \
+             on what planners have, as 4, and first looks for cores, whose lines then stand at the \
+             head of the certificate. check wants the one that the certificate was made in",
         )
 }
 

@@ -60,8 +60,9 @@ pub fn run<R: Read, O: Write, P: Write>(
     run_as(alloc, input, budget, out, proof, Profile::One)
 }
 
-/// As `run`, where soft clauses are relaxed as the profile says. The certificate belongs to this
-/// profile.
+/// As `run`, where soft clauses are relaxed as the profile says. `check` wants the profile that the
+/// certificate was made in. In profile 5 it may begin with core lines, and then refutes the formula
+/// of these.
 ///
 /// # Errors
 ///
@@ -110,6 +111,7 @@ pub fn run_watched<R: Read, O: Write, P: Write, K: Keep>(
     ensures same_limit { budget.new.limit ≡ budget.old.limit }
 {
     let instance = read_from(alloc, input)?;
+    instance.limits();
     let found = find_best(alloc, &instance, budget, out, profile, keeper)?;
     keeper.searched();
     write_answer(&found, out, proof)?;

@@ -8,7 +8,7 @@ use Rattle.improve.specs.Improving.{IsCostOfSome, IsHardLog}
 use Rattle.improve.proofs.CheaperBits.{same_given}
 use Rattle.improve.proofs.SearchEnds.{memory_end, found_end}
 use Rattle.improve.proofs.HardEnds.{hard_feasible, hard_log, right_unsat, right_nothing}
-use Rattle.improve.proofs.HardEnds.{hard_learned, nothing_learned}
+use Rattle.improve.proofs.HardEnds.{hard_learned, nothing_learned, only_hard}
 use Rattle.improve.proofs.search.improve_watched.Goals as goal
 
 pub price_polished-first-requires-clause-feasible :
@@ -73,7 +73,7 @@ returns-in-Ok-Limit-clause-improves g c =
     c.solve_watched.ensures.learned in
     found_end c.args.profile p _ _ c.args.budget.now c.solve_watched.new.budget
     c.solve_watched.ensures.same_limit [] (sym (append-nil _))
-    (Ok (Nothing (record { hard = log; bound = c.new-bound.result }))) tt
+    (Ok (Nothing (only_hard log c.new-bound.result))) tt
     (All-nil (IsCostOfSome p)) refl tt
     (right_nothing p c.in-Ok.solver c.in-Ok.ensures c.args.profile log c.new-bound.result work
     c.new-bound.ensures (λ r. let x = refuted r in cc)) (omega (arith, answers))

@@ -1,14 +1,15 @@
 -- The first cost is told; where it is 0 there is no bound.
-use Rattle.std.proofs.Common.{◌≡◌, ◌+◌, [], ◌∷◌, refl, sym, ◌∙◌, ap, subst, arith, append-nil}
-use Rattle.std.proofs.lemmas.List.Elements.{All-nil}
+use Rattle.std.proofs.Common.{◌≡◌, ◌+◌, [], ◌∷◌, ◌++◌, refl, sym, ◌∙◌, ap, subst, arith, append-nil}
+use Rattle.std.proofs.Common.{length}
+use Rattle.std.proofs.lemmas.List.Elements.{All-nil, All-push}
 use Rattle.cdcl_order.specs.Budgets.{left_of}
-use Rattle.std.specs.Prelude.{IfOk}
-use Rattle.improve.specs.Improving.{IsCostOfSome, IsSolution, IsRightFound, work_count}
-use Rattle.improve.specs.Improving.{Improves}
-use Rattle.improve.proofs.SearchEnds.{progress_end}
+use Rattle.std.specs.Prelude.{All, IfOk}
+use Rattle.lrat_log.specs.Steps.{learned_count}
+use Rattle.improve.specs.Improving.{AreFalling, IsCostOfSome, IsSolution, IsRightFound, work_count}
+use Rattle.improve.proofs.CheaperBits.{cost_of_solution}
+use Rattle.improve.proofs.SearchEnds.{progress_end, found_end}
 use Rattle.cnf.proofs.Laws.{on_ok_at, on_err_at}
-use Rattle.improve.proofs.Lowering.{honest_new, on_work_weaker, lowered_end}
-use Rattle.improve.proofs.Lowering.{lowered_memory}
+use Rattle.improve.proofs.Lowering.{on_work_weaker}
 use Rattle.improve.proofs.search.lower.Goals as goal
 
 pub returns-then-is_err-clause-improves : goal.returns-then-is_err-clause-improves
@@ -18,8 +19,8 @@ returns-then-is_err-clause-improves g c = λ before paid.
     let err = on_err_at c.tell.result c.if-is_err.ensures.value c.tell.ensures.err in
     progress_end c.args.profile p _ _ before c.args.budget.now (sym paid.limit) []
     (ap (λ t. t.told) err ∙ sym (append-nil _)) first.cost tt
-    (honest_new p [] (first.cost ∷ []) first.cost first.bits.items refl c.requires.solution
-    (All-nil (IsCostOfSome p)))
+    (All-push (IsCostOfSome p) [] first.cost (All-nil (IsCostOfSome p))
+    (cost_of_solution p first.bits.items first.cost c.requires.solution))
     (ap (λ t. t.failed) err) (ap (λ t. t.failures) err)
 
 pub conclude_zero-requires : goal.conclude_zero-requires
@@ -38,34 +39,62 @@ returns-then-first-eq0-clause-improves g c = λ before paid.
     let zero : first.cost ≡ 0 = omega arith in
     let ok = on_ok_at c.tell.result c.if-is_err.ensures.value c.tell.ensures.ok in
     let r = c.conclude_zero in
-    lowered_end p [] (first.cost ∷ []) first.cost first.bits.items refl c.args.profile
-    c.args.profile _ _ before left r.result (sym paid.limit)
-    (ap (λ t. t.told) ok) (ap (λ t. t.failures) ok) tt c.requires.solution
-    (All-nil (IsCostOfSome p)) r.ensures.fault refl
+    found_end c.args.profile p _ _ before left (sym paid.limit) (first.cost ∷ [])
+    (ap (λ t. t.told) ok) r.result tt
+    (All-push (IsCostOfSome p) [] first.cost (All-nil (IsCostOfSome p))
+    (cost_of_solution p first.bits.items first.cost c.requires.solution))
+    (ap (λ t. t.failures) ok) r.ensures.fault
     (subst (λ x. IfOk r.result (IsRightFound c.args.profile p (x ∷ []))) (sym zero)
     r.ensures.found) (omega (arith, paid.answers))
     (on_work_weaker r.result (λ w. ⊥) (λ w. left.learned ≡ before.learned + work_count w)
     (λ w x. absurd x) r.ensures.work)
     (on_work_weaker r.result (λ w. ⊥) (λ w. left_of left ≡ 0) (λ w x. absurd x) r.ensures.work)
 
-pub returns-in_default-clause-improves : goal.returns-in_default-clause-improves
-returns-in_default-clause-improves g c = λ before paid.
-    let p = c.args.instance.now in
-    let first = c.args.first in
+pub go_on-requires-clause-failures : goal.go_on-requires-clause-failures
+go_on-requires-clause-failures g c =
     let ok = on_ok_at c.tell.result c.if-is_err.ensures.value c.tell.ensures.ok in
-    lowered_memory p [] (first.cost ∷ []) first.cost first.bits.items refl c.args.profile _ _
-    before c.args.budget.now (sym paid.limit)
-    (ap (λ t. t.told) ok) (ap (λ t. t.failures) ok) tt c.requires.solution
-    (All-nil (IsCostOfSome p))
+    omega (arith, c.requires.failures, ap (λ t. t.failures) ok)
+
+pub go_on-requires-clause-standing : goal.go_on-requires-clause-standing
+go_on-requires-clause-standing g c =
+    let p = c.args.instance.now in
+    let none = c.new.ensures.items in
+    record {
+      solution = c.requires.solution;
+      falling = subst (λ cs. AreFalling (cs ++ c.args.first.cost ∷ [])) (sym none) tt;
+      honest = subst (All (IsCostOfSome p)) (sym none) (All-nil (IsCostOfSome p));
+    }
+
+pub go_on-requires-clause-work : goal.go_on-requires-clause-work
+go_on-requires-clause-work g c = record {
+  hard = c.requires.hard;
+  no_bound = c.new-2.ensures;
+  search = tt;
+  refutation = tt;
+}
+
+pub go_on-requires-clause-none : goal.go_on-requires-clause-none
+go_on-requires-clause-none g c = (refl, refl)
 
 pub returns-clause-follows : goal.returns-clause-follows
 returns-clause-follows g c =
-    λ first h. c.tighten.ensures.follows first (c.tell.ensures.follows first h)
+    λ first h. c.go_on.ensures.follows first (c.tell.ensures.follows first h)
 
 pub returns-clause-improves : goal.returns-clause-improves
 returns-clause-improves g c = λ before paid.
     let ok = on_ok_at c.tell.result c.if-is_err.ensures.value c.tell.ensures.ok in
-    let earlier = g.T.Progress.state c.args.progress.now in
-    subst (λ q. Improves q c.args.instance.now c.tighten.result earlier
-    (g.T.Progress.state c.tighten.new.progress) before c.tighten.new.budget)
-    c.in-Ok.ensures.none.profile_is (c.tighten.ensures.improves before paid earlier ok)
+    let none = c.new.ensures.items in
+    let empty : learned_count c.new-2.result ≡ 0 = ap learned_count c.new-2.ensures in
+    let one : c.new.result.items ++ c.args.first.cost ∷ [] ≡ c.args.first.cost ∷ [] =
+    ap (λ cs. cs ++ c.args.first.cost ∷ []) none in
+    c.go_on.ensures.ends (g.T.Progress.state c.args.progress.now) before
+    (record {
+      told = ap (λ t. t.told) ok
+          ∙ ap (λ cs. (g.T.Progress.state c.args.progress.now).told ++ cs) (sym one);
+      failures = ap (λ t. t.failures) ok;
+    })
+    (record {
+      limit = sym paid.limit;
+      answers = omega (arith, paid.answers, ap length one);
+      learned = omega (arith, paid.learned, empty);
+    })

@@ -4,13 +4,27 @@ use Rattle.std.specs.declared.vec.Vec.{Vec}
 use Rattle.std.specs.declared.alloc.Global.{Global}
 use Rattle.cdcl_order.specs.Budgets.{left_of}
 use Rattle.lrat_log.specs.Steps.{learned_count}
-use Rattle.improve.specs.Improving.{AreFalling, IsHardLog, work_count}
-use Rattle.improve.proofs.CheaperBits.{cost_of_solution, falling_more}
+use Rattle.improve.specs.Improving.{work_count}
+use Rattle.improve.specs.declared.found.ImproveFault.TheVariants.{Memory, Progress}
+use Rattle.improve.proofs.CheaperBits.{cost_of_solution}
 use Rattle.cnf.proofs.Laws.{on_ok_at, on_err_at}
-use Rattle.improve.proofs.Lowering.{cost_small, honest_new, count_new, told_more}
-use Rattle.improve.proofs.Lowering.{on_work_weaker, work_learned, lowered_end, lowered_memory}
-use Rattle.improve.proofs.Lowering.{lowered_progress}
+use Rattle.improve.proofs.Lowering.{cost_small, on_work_weaker}
+use Rattle.improve.proofs.Standings.{goes_cheaper, goes_further, goes_nowhere, goes_same}
+use Rattle.improve.proofs.Standings.{fails_memory, fails_progress}
+use Rattle.improve.proofs.Standings.{fails_after, ends_after, ends_failing, ends_found}
 use Rattle.improve.proofs.search.tighten.Goals as goal
+
+pub loop-best-init : goal.loop-best-init
+loop-best-init g c = record {
+  over = c.requires.over;
+  profile = refl;
+  goes_on =
+      goes_same c.args.instance.now _ _ _ _ _ _ 0 0 0 _
+      (goes_nowhere c.args.instance.now (g.T.Progress.state c.args.progress.now) c.args.budget.now
+      (record { best = c.args.first; earlier = c.args.bounds.now.costs }) 0 c.requires.standing)
+      (omega (arith, c.requires.learned));
+  follows = λ first h. h;
+}
 
 pub add-requires-clause-small : goal.add-requires-clause-small
 add-requires-clause-small g c =
@@ -19,27 +33,32 @@ add-requires-clause-small g c =
     let best = c.loop-best.best in
     let small =
     cost_small p best.cost i.over.instance
-    (cost_of_solution p best.bits.items best.cost i.solution) in
+    (cost_of_solution p best.bits.items best.cost i.goes_on.standing.solution) in
     omega (arith, small)
 
-pub returns-then-is_err-clause-improves : goal.returns-then-is_err-clause-improves
-returns-then-is_err-clause-improves g c = λ before paid earlier h.
+pub returns-then-is_err-clause-ends : goal.returns-then-is_err-clause-ends
+returns-then-is_err-clause-ends g c =
     let i = c.loop-best.invariant in
-    let best = c.loop-best.best in
-    lowered_memory c.args.instance.now c.loop-best.bounds.costs.items _ best.cost
-    best.bits.items refl c.args.bounds.now.profile earlier _ before c.loop-best.budget
-    (i.limit ∙ sym paid.limit) (i.told earlier h)
-    (i.failures ∙ ap (λ t. t.failures) h) i.falling i.solution i.honest
+    ends_failing c.args.bounds.now.profile c.args.instance.now Memory
+    (g.T.Progress.state c.args.progress.now) _ c.args.budget.now _
+    (record { best = c.args.first; earlier = c.args.bounds.now.costs }) (work_count c.args.work)
+    (fails_after _ _ _ _ _ _ _ _ _ _ _ i.goes_on Memory
+    (fails_memory c.args.instance.now (g.T.Progress.state c.loop-best.progress)
+    (g.T.Progress.state c.loop-best.progress) c.loop-best.budget c.loop-best.budget
+    (record { best = c.loop-best.best; earlier = c.loop-best.bounds.costs })
+    i.goes_on.standing refl refl))
 
-pub returns-in-Err-clause-improves : goal.returns-in-Err-clause-improves
-returns-in-Err-clause-improves g c = λ before paid earlier h.
+pub returns-in-Err-clause-ends : goal.returns-in-Err-clause-ends
+returns-in-Err-clause-ends g c =
     let i = c.loop-best.invariant in
-    let best = c.loop-best.best in
-    lowered_memory c.args.instance.now c.loop-best.bounds.costs.items _ best.cost
-    best.bits.items refl c.args.bounds.now.profile earlier _ before c.solve.new.budget
-    (c.solve.ensures.limit ∙ i.limit ∙ sym paid.limit)
-    (i.told earlier h)
-    (i.failures ∙ ap (λ t. t.failures) h) i.falling i.solution i.honest
+    ends_failing c.args.bounds.now.profile c.args.instance.now Memory
+    (g.T.Progress.state c.args.progress.now) _ c.args.budget.now _
+    (record { best = c.args.first; earlier = c.args.bounds.now.costs }) (work_count c.args.work)
+    (fails_after _ _ _ _ _ _ _ _ _ _ _ i.goes_on Memory
+    (fails_memory c.args.instance.now (g.T.Progress.state c.loop-best.progress)
+    (g.T.Progress.state c.loop-best.progress) c.loop-best.budget c.solve.new.budget
+    (record { best = c.loop-best.best; earlier = c.loop-best.bounds.costs })
+    i.goes_on.standing c.solve.ensures.limit refl))
 
 pub solve-requires-clause-over : goal.solve-requires-clause-over
 solve-requires-clause-over g c = on_ok_at c.add.result c.if-is_err.ensures.value c.add.ensures.over
@@ -57,8 +76,12 @@ pub tell-requires-clause-solution : goal.tell-requires-clause-solution
 tell-requires-clause-solution g c =
     let next = rw c.in-Ok-Cheaper.field-0-is at c.in-Ok-Cheaper.ensures.next in next.solution
 
-pub returns-then-is_err-2-clause-improves : goal.returns-then-is_err-2-clause-improves
-returns-then-is_err-2-clause-improves g c = λ before paid earlier h.
+pub tell-requires-clause-failures : goal.tell-requires-clause-failures
+tell-requires-clause-failures g c =
+    omega (arith, c.requires.failures, c.loop-best.invariant.goes_on.failures)
+
+pub returns-then-is_err-2-clause-ends : goal.returns-then-is_err-2-clause-ends
+returns-then-is_err-2-clause-ends g c =
     let p = c.args.instance.now in
     let i = c.loop-best.invariant in
     let costs = c.loop-best.bounds.costs.items in
@@ -69,13 +92,16 @@ returns-then-is_err-2-clause-improves g c = λ before paid earlier h.
     let more : c.solve.new.self.costs.items ≡ costs ++ best.cost ∷ [] =
     ap (λ (v : Vec ℕ Global). v.items) c.solve.ensures.costs
     ∙ on_ok_at c.add.result c.if-is_err.ensures.value c.add.ensures.costs in
-    lowered_progress p costs c.solve.new.self.costs.items best.cost best.bits.items more
-    c.args.bounds.now.profile earlier _ before c.solve.new.budget
-    (c.solve.ensures.limit ∙ i.limit ∙ sym paid.limit) cost c.in-Ok-Cheaper.solution.bits.items
-    (ap (λ t. t.told) err ∙ i.told earlier h) i.falling i.solution i.honest
-    (next.below costs best.cost more)
-    next.solution (ap (λ t. t.failed) err)
-    (ap (λ t. t.failures) err ∙ ap (λ n. n + 1) (i.failures ∙ ap (λ t. t.failures) h))
+    ends_failing c.args.bounds.now.profile c.args.instance.now Progress
+    (g.T.Progress.state c.args.progress.now) _ c.args.budget.now _
+    (record { best = c.args.first; earlier = c.args.bounds.now.costs }) (work_count c.args.work)
+    (fails_after _ _ _ _ _ _ _ _ _ _ _ i.goes_on Progress
+    (fails_progress p (g.T.Progress.state c.loop-best.progress)
+    (g.T.Progress.state c.tell.new.progress)
+    c.loop-best.budget c.solve.new.budget
+    (record { best = c.loop-best.best; earlier = c.loop-best.bounds.costs })
+    i.goes_on.standing c.solve.ensures.limit cost
+    c.in-Ok-Cheaper.solution.bits.items next.solution (next.below costs best.cost more) err))
 
 pub loop-best-smaller : goal.loop-best-smaller
 loop-best-smaller g c =
@@ -100,51 +126,53 @@ loop-best-preserved g c =
     record {
       over = c.in-Ok-Cheaper.ensures.over;
       profile = c.solve.ensures.profile ∙ same ∙ i.profile;
-      solution = next.solution;
-      falling = subst (λ x. AreFalling (x ++ c.in-Ok-Cheaper.solution.cost ∷ [])) (sym more)
-          (falling_more costs best.cost c.in-Ok-Cheaper.solution.cost i.falling
-          (next.below costs best.cost more));
-      honest =
-          honest_new p costs c.solve.new.self.costs.items best.cost best.bits.items more
-          i.solution i.honest;
-      told = λ earlier h. told_more costs c.solve.new.self.costs.items best.cost
-          c.in-Ok-Cheaper.solution.cost more _ _ earlier.told (i.told earlier h)
-          (ap (λ t. t.told) ok);
-      failures = ap (λ t. t.failures) ok ∙ i.failures;
+      goes_on =
+          goes_further p _ _ _ _ _ _ _ _ _ 0
+          (learned_count c.loop-best.bounds.solver.sink)
+          (learned_count c.solve.new.self.solver.sink) i.goes_on
+          (goes_cheaper p _ _ _ _
+          (record { best = c.loop-best.best; earlier = c.loop-best.bounds.costs })
+          (record { best = c.in-Ok-Cheaper.solution; earlier = c.solve.new.self.costs })
+          i.goes_on.standing more (next.below costs best.cost more) next.solution ok next.answers
+          c.solve.ensures.limit (learned_count c.loop-best.bounds.solver.sink)
+          (learned_count c.solve.new.self.solver.sink)
+          (omega (arith, c.solve.ensures.learned, unlearned)));
       follows = λ first h. c.tell.ensures.follows first (i.follows first h);
-      hard = i.hard;
-      limit = c.solve.ensures.limit ∙ i.limit;
-      answers =
-          omega (
-            arith,
-            next.answers,
-            i.answers,
-            count_new p costs c.solve.new.self.costs.items best.cost best.bits.items more,
-          );
-      learned = omega (arith, c.solve.ensures.learned, unlearned, i.learned);
     }
 
-pub returns-in-Ok-Refuted-clause-improves : goal.returns-in-Ok-Refuted-clause-improves
-returns-in-Ok-Refuted-clause-improves g c = λ before paid earlier h.
+pub returns-in-Ok-Refuted-clause-ends : goal.returns-in-Ok-Refuted-clause-ends
+returns-in-Ok-Refuted-clause-ends g c =
+    let p = c.args.instance.now in
     let i = c.loop-best.invariant in
     let next = rw c.in-Ok-Refuted.field-0-is at c.in-Ok-Refuted.ensures.next in
     let r = c.conclude_optimum in
-    lowered_end c.args.instance.now c.loop-best.bounds.costs.items c.solve.new.self.costs.items
-    c.loop-best.best.cost c.loop-best.best.bits.items
-    (ap (λ (v : Vec ℕ Global). v.items) c.solve.ensures.costs
-    ∙ on_ok_at c.add.result c.if-is_err.ensures.value c.add.ensures.costs)
-    c.args.bounds.now.profile _ earlier _ before c.solve.new.budget r.result
-    (c.solve.ensures.limit ∙ i.limit ∙ sym paid.limit)
-    (i.told earlier h) (i.failures ∙ ap (λ t. t.failures) h) i.falling i.solution i.honest
+    let sink = c.solve.new.self.solver.sink in
+    let was = learned_count c.loop-best.bounds.solver.sink in
+    let unlearned = on_ok_at c.add.result c.if-is_err.ensures.value c.add.ensures.learned in
+    let n = work_count c.args.work + was in
+    ends_after p _ _ _ _ _ c.solve.new.budget _ _ _ _ i.goes_on c.args.bounds.now.profile r.result
+    (work_count c.args.work) n (omega arith)
+    (ends_found c.args.bounds.now.profile c.solve.new.self.profile p r.result
+    (g.T.Progress.state c.loop-best.progress)
+    c.loop-best.budget c.solve.new.budget
+    (record { best = c.loop-best.best; earlier = c.loop-best.bounds.costs })
+    c.solve.new.self.costs.items n was (learned_count sink) i.goes_on.standing
+    c.solve.ensures.limit next.answers (omega (arith, c.solve.ensures.learned, unlearned))
     r.ensures.fault
     (c.solve.ensures.profile
     ∙ on_ok_at c.add.result c.if-is_err.ensures.value c.add.ensures.profile ∙ i.profile)
-    r.ensures.found (omega (arith, next.answers, i.answers, paid.answers))
-    (on_work_weaker r.result (λ w. ⊥)
-    (λ w. c.solve.new.budget.learned ≡ before.learned + work_count w) (λ w x. absurd x)
-    r.ensures.work)
+    (ap (λ (v : Vec ℕ Global). v.items) c.solve.ensures.costs
+    ∙ on_ok_at c.add.result c.if-is_err.ensures.value c.add.ensures.costs) r.ensures.found
+    (on_work_weaker r.result (λ w. ⊥) (λ w. work_count w + was ≡ n + learned_count sink)
+    (λ w x. absurd x) r.ensures.work)
     (on_work_weaker r.result (λ w. ⊥) (λ w. left_of c.solve.new.budget ≡ 0) (λ w x. absurd x)
-    r.ensures.work)
+    r.ensures.work))
+
+pub conclude_optimum-requires-clause-solution : goal.conclude_optimum-requires-clause-solution
+conclude_optimum-requires-clause-solution g c = c.loop-best.invariant.goes_on.standing.solution
+
+pub conclude_spent-requires-clause-solution : goal.conclude_spent-requires-clause-solution
+conclude_spent-requires-clause-solution g c = c.loop-best.invariant.goes_on.standing.solution
 
 pub conclude_spent-requires-clause-above : goal.conclude_spent-requires-clause-above
 conclude_spent-requires-clause-above g c =
@@ -153,39 +181,36 @@ conclude_spent-requires-clause-above g c =
     next.above_zero c.loop-best.bounds.costs.items c.loop-best.best.cost
     (ap (λ (v : Vec ℕ Global). v.items) c.solve.ensures.costs ∙ added)
 
-pub conclude_spent-requires-clause-hard : goal.conclude_spent-requires-clause-hard
-conclude_spent-requires-clause-hard g c =
-    subst (IsHardLog c.args.instance.now) (sym c.loop-best.invariant.hard) c.requires.hard
-
-pub returns-in-Ok-Spent-clause-improves : goal.returns-in-Ok-Spent-clause-improves
-returns-in-Ok-Spent-clause-improves g c = λ before paid earlier h.
+pub returns-in-Ok-Spent-clause-ends : goal.returns-in-Ok-Spent-clause-ends
+returns-in-Ok-Spent-clause-ends g c =
+    let p = c.args.instance.now in
     let i = c.loop-best.invariant in
     let next = rw c.in-Ok-Spent.field-0-is at c.in-Ok-Spent.ensures.next in
     let r = c.conclude_spent in
     let sink = c.solve.new.self.solver.sink in
+    let was = learned_count c.loop-best.bounds.solver.sink in
     let unlearned = on_ok_at c.add.result c.if-is_err.ensures.value c.add.ensures.learned in
-    let learned : c.solve.new.budget.learned ≡ c.args.budget.now.learned + learned_count
-    c.solve.new.self.solver.sink =
-    omega (arith, c.solve.ensures.learned, unlearned, i.learned) in
-    lowered_end c.args.instance.now c.loop-best.bounds.costs.items c.solve.new.self.costs.items
-    c.loop-best.best.cost c.loop-best.best.bits.items
-    (ap (λ (v : Vec ℕ Global). v.items) c.solve.ensures.costs
-    ∙ on_ok_at c.add.result c.if-is_err.ensures.value c.add.ensures.costs)
-    c.args.bounds.now.profile _ earlier _ before c.solve.new.budget r.result
-    (c.solve.ensures.limit ∙ i.limit ∙ sym paid.limit)
-    (i.told earlier h) (i.failures ∙ ap (λ t. t.failures) h) i.falling i.solution i.honest
+    let n = work_count c.args.work + was in
+    ends_after p _ _ _ _ _ c.solve.new.budget _ _ _ _ i.goes_on c.args.bounds.now.profile r.result
+    (work_count c.args.work) n (omega arith)
+    (ends_found c.args.bounds.now.profile c.solve.new.self.profile p r.result
+    (g.T.Progress.state c.loop-best.progress)
+    c.loop-best.budget c.solve.new.budget
+    (record { best = c.loop-best.best; earlier = c.loop-best.bounds.costs })
+    c.solve.new.self.costs.items n was (learned_count sink) i.goes_on.standing
+    c.solve.ensures.limit next.answers (omega (arith, c.solve.ensures.learned, unlearned))
     r.ensures.fault
     (c.solve.ensures.profile
     ∙ on_ok_at c.add.result c.if-is_err.ensures.value c.add.ensures.profile ∙ i.profile)
-    r.ensures.found (omega (arith, next.answers, i.answers, paid.answers))
-    (on_work_weaker r.result (λ w. (w.hard ≡ c.loop-best.hard)
-    × (learned_count w.bound ≡ learned_count sink))
-    (λ w. c.solve.new.budget.learned ≡ before.learned + work_count w)
-    (λ w x. work_learned w c.args.hard sink before.learned c.args.budget.now.learned
-    c.solve.new.budget.learned (x.0 ∙ i.hard, x.1) paid.learned learned) r.ensures.work)
-    (on_work_weaker r.result (λ w. (w.hard ≡ c.loop-best.hard)
-    × (learned_count w.bound ≡ learned_count sink))
-    (λ w. left_of c.solve.new.budget ≡ 0) (λ w x. next.none_left) r.ensures.work)
+    (ap (λ (v : Vec ℕ Global). v.items) c.solve.ensures.costs
+    ∙ on_ok_at c.add.result c.if-is_err.ensures.value c.add.ensures.costs) r.ensures.found
+    (on_work_weaker r.result
+    (λ w. work_count w ≡ work_count c.args.work + learned_count sink)
+    (λ w. work_count w + was ≡ n + learned_count sink)
+    (λ w x. omega (arith, x)) r.ensures.work)
+    (on_work_weaker r.result
+    (λ w. work_count w ≡ work_count c.args.work + learned_count sink)
+    (λ w. left_of c.solve.new.budget ≡ 0) (λ w x. next.none_left) r.ensures.work))
 
 pub returns-then-is_err-2-clause-follows : goal.returns-then-is_err-2-clause-follows
 returns-then-is_err-2-clause-follows g c =

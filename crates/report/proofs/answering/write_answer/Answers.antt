@@ -1,5 +1,5 @@
 -- The end of the result, by its words and bits.
-use Rattle.std.proofs.Common.{◌∙◌, refl, subst}
+use Rattle.std.proofs.Common.{subst}
 use lib.Chars.{codes}
 use Rattle.std.proofs.lemmas.Result.{on_ok_weaker}
 use Rattle.std.proofs.KnownBytes.{Appends-nil}
@@ -8,23 +8,27 @@ use Rattle.text.specs.Writing.{AppendsPart}
 use Rattle.report.proofs.Answered.{end_is, err_with, output_left, answers}
 use Rattle.report.proofs.answering.write_answer.Goals as goal
 
-pub returns-in_ok-deliver_proof-in-Optimum-clause-ok
-    : goal.returns-in_ok-deliver_proof-in-Optimum-clause-ok
-returns-in_ok-deliver_proof-in-Optimum-clause-ok g c =
+pub returns-in_ok-deliver_headed-in-Optimum-clause-ok
+    : goal.returns-in_ok-deliver_headed-in-Optimum-clause-ok
+returns-in_ok-deliver_headed-in-Optimum-clause-ok g c =
     let e = end_is (codes "s OPTIMUM FOUND\n") _ c.in-Optimum.bits.items _ _ c.spell_optimum.ensures
-    c.deref.ensures.value c.deref-in-Optimum.ensures.value in
-    let k = c.in_ok-deliver_proof-in-Optimum.ensures in
+    c.deref-in-Optimum.ensures.value c.deref-in-Optimum-2.ensures.value in
+    let k = c.in_ok-deliver_headed-in-Optimum.ensures in
+    let grows = rw c.deref.ensures.value at k.ok in
+    let spelled = rw c.deref.ensures.value at k.lines in
     on_ok_weaker c.deliver_end.result (λ h. answers c.args.found.now _ c.in-Optimum.is _ _ _ _
-    (subst (Appends _ _) e h) k.ok k.lines) c.deliver_end.ensures.ok
+    (subst (Appends _ _) e h) grows spelled) c.deliver_end.ensures.ok
 
-pub returns-in_ok-deliver_proof-in-Optimum-clause-fault
-    : goal.returns-in_ok-deliver_proof-in-Optimum-clause-fault
-returns-in_ok-deliver_proof-in-Optimum-clause-fault g c =
+pub returns-in_ok-deliver_headed-in-Optimum-clause-fault
+    : goal.returns-in_ok-deliver_headed-in-Optimum-clause-fault
+returns-in_ok-deliver_headed-in-Optimum-clause-fault g c =
     let e = end_is (codes "s OPTIMUM FOUND\n") _ c.in-Optimum.bits.items _ _ c.spell_optimum.ensures
-    c.deref.ensures.value c.deref-in-Optimum.ensures.value in
-    let k = c.in_ok-deliver_proof-in-Optimum.ensures in
+    c.deref-in-Optimum.ensures.value c.deref-in-Optimum-2.ensures.value in
+    let k = c.in_ok-deliver_headed-in-Optimum.ensures in
+    let grows = rw c.deref.ensures.value at k.ok in
+    let spelled = rw c.deref.ensures.value at k.lines in
     err_with c.deliver_end.result _ _ _ (λ fault is h. output_left c.args.found.now _
-    c.in-Optimum.is _ _ _ _ fault is (subst (AppendsPart _ _) e h) k.ok k.lines)
+    c.in-Optimum.is _ _ _ _ fault is (subst (AppendsPart _ _) e h) grows spelled)
     c.deliver_end.ensures.fault c.deliver_end.ensures.part
 
 pub returns-in_ok-deliver_proof-in-Unsat-clause-ok

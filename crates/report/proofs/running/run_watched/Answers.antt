@@ -20,7 +20,8 @@ write_answer-requires g c =
     let held = g.O.Write.contents in
     let f = c.in_ok-found in
     proof_room c.args.profile c.in_ok-instance.instance (held c.args.out.now)
-    (held c.find_best.new.out) c.args.budget.now c.find_best.new.budget f.found f.ensures
+    (held c.find_best.new.out) c.args.budget.now c.find_best.new.budget f.found c.limits.ensures
+    f.ensures
 
 pub returns-in_err-write_answer-clause-fault : goal.returns-in_err-write_answer-clause-fault
 returns-in_err-write_answer-clause-fault g c =

@@ -1,0 +1,90 @@
+-- A refutation by cores: it shows an optimum, or it is open.
+use Rattle.std.proofs.Common.{◌≡◌, ℕ, ◌+◌, ◌<◌, ◌≤◌, ◌^◌, List}
+use Rattle.std.proofs.Common.{[], ◌∷◌, Bool, refl, sym, ◌∙◌, subst}
+use Rattle.std.proofs.Common.{ap, arith, length, Ok}
+use Rattle.cnf.specs.Literal.{Literal, Assignment}
+use Rattle.cnf.specs.Bits.{Extends}
+use Rattle.cnf.specs.Formula.{Cnf}
+use Rattle.cnf.specs.Problem.{Problem, IsOptimal}
+use Rattle.cnf.specs.Instance.{IsInstance}
+use Rattle.cnf.proofs.Laws.{certificate_sound}
+use Rattle.lrat_log.specs.Log.{LogLine, numbered_lines}
+use Rattle.cnf.specs.Lrat.{start_of}
+use Rattle.lrat_log.specs.Steps.{AddsNoEmptyClause, AreSteps}
+use Rattle.adder.specs.declared.cells.Profile.TheVariants.{Five}
+use Rattle.bound.specs.Bound.{core_cnf}
+use Rattle.bound.proofs.Laws.{refutes_cheaper, core_clauses_few}
+use Rattle.cores.specs.Cores.{Core, Counted, AreCounted, no_cores, count_cores, first_relaxation}
+use Rattle.improve_cores.specs.CoreWork.{AreStepsOver}
+use Rattle.improve.specs.Improving.{IsByCores, IsRefutation, IsSolution, EndsWith}
+use Rattle.improve.specs.Improving.{IsAcceptedOver, IsRightFound, IsNewWork, IsOpenRefutation}
+use Rattle.improve.specs.Standing.{IsCoreProof}
+use Rattle.std.specs.declared.vec.Vec.{Vec}
+use Rattle.std.specs.declared.alloc.Global.{Global}
+use Rattle.improve.specs.declared.by_cores.ByCores.{ByCores}
+use Rattle.improve.specs.declared.found.Found.TheVariants.{Optimum}
+
+-- no cores are worth nothing
+some_cores : (p : Problem) (costs : List ℕ) (c : ℕ) (cores : List Core) (log : List LogLine)
+    (clauses : ℕ) → IsByCores Five p c cores log clauses
+    → IsRefutation Five p costs c cores log clauses
+some_cores p costs c [] log clauses h =
+    let e : count_cores (first_relaxation p) (no_cores p) [] ≡ Ok h.leaves = h.are_counted in
+    let none : no_cores p ≡ h.leaves = cc in
+    absurd (omega (arith, h.above_zero, h.worth, ap (λ s. s.weight) none))
+some_cores p costs c (k ∷ ks) log clauses h = h
+
+pub right_by_cores : (p : Problem) → IsInstance p → (c : ℕ) (bits : Vec Bool Global)
+    → IsSolution p bits.items c → (r : ByCores) → IsCoreProof p c r → (costs : List ℕ)
+    → EndsWith costs c
+    → IsRightFound Five p costs (Optimum c bits r.log r.clauses r.cores)
+right_by_cores p h c bits solution r proof costs ends =
+    let cs = (core_cnf p proof.leaves).clauses in
+    let refuted = certificate_sound cs (numbered_lines (length cs) r.log) proof.accepted in
+    record {
+      solution = solution;
+      told = ends;
+      optimal = λ t x. record {
+        feasible = (solution.1 t x).0;
+        exact = (solution.1 t x).1;
+        least = λ u f. omega (
+          arith,
+          proof.worth,
+          refutes_cheaper p h (r.cores).items proof.leaves proof.are_counted refuted u f,
+        );
+      };
+      refutation = some_cores p costs c (r.cores).items r.log r.clauses proof;
+    }
+
+pub core_proof : (p : Problem) (cores : List Core) (s : Counted) → AreCounted p cores s
+    → (f : Cnf) (log : List LogLine) → f ≡ core_cnf p s → IsInstance p → (c clauses : ℕ) → 0 < c
+    → c ≤ s.weight → clauses ≡ length f.clauses → IsAcceptedOver f.clauses log
+    → IsByCores Five p c cores log clauses
+core_proof p cores s counted f log same h c clauses above worth count accepted =
+    let number : clauses ≡ length (core_cnf p s).clauses =
+    count ∙ ap (λ x. length x.clauses) same in
+    record {
+      profile_is = refl;
+      above_zero = above;
+      leaves = s;
+      are_counted = counted;
+      worth = worth;
+      accepted = subst (λ x. IsAcceptedOver x.clauses log) same accepted;
+      counted = (number, omega (arith, number, core_clauses_few p h cores s counted));
+    }
+
+pub open_refutation : (p : Problem) (cores : Vec Core Global) (s : Counted)
+    → AreCounted p cores.items s → (f : Cnf) (log : List LogLine) → f ≡ core_cnf p s
+    → AreStepsOver f.clauses log → AddsNoEmptyClause log
+    → IsOpenRefutation p (record { cores = cores; log = log })
+open_refutation p cores s counted f log same steps free = record {
+  leaves = s;
+  are_counted = counted;
+  work = record {
+    steps = subst
+        (λ (x : Cnf). AreSteps (start_of x.clauses) (numbered_lines (length x.clauses) log)) same
+        steps.steps;
+    open_end = free;
+  };
+  new = subst (λ (x : Cnf). IsNewWork x.clauses log) same steps.new;
+}

@@ -1,0 +1,246 @@
+-- From one standing to the next, and how a search ends that came to one.
+use Rattle.std.proofs.Common.{◌≡◌, ℕ, ◌+◌, ◌<◌, ◌≤◌, ◌^◌, List}
+use Rattle.std.proofs.Common.{[], ◌∷◌, ◌++◌, Bool, Option, Some, None}
+use Rattle.std.proofs.Common.{Result, Ok, Err, length, append_assoc}
+use Rattle.std.proofs.Common.{length-append, refl, sym, ◌∙◌, ap}
+use Rattle.std.proofs.Common.{subst, arith, false}
+use Rattle.std.specs.Prelude.{All, IfOk, IfErr, is_ok, is_err, if◌then◌else◌}
+use Rattle.std.proofs.lemmas.Bool.{false≢true}
+use Rattle.std.proofs.lemmas.List.Elements.{All-push}
+use Rattle.std.specs.declared.vec.Vec.{Vec}
+use Rattle.std.specs.declared.alloc.Global.{Global}
+use Rattle.cnf.specs.Problem.{Problem}
+use Rattle.lrat_log.specs.Log.{LogLine}
+use Rattle.lrat_log.specs.Steps.{learned_count}
+use Rattle.adder.specs.declared.cells.Profile.{Profile}
+use Rattle.cdcl_order.specs.Budgets.{BudgetState, left_of}
+use Rattle.improve_cores.specs.CoreWork.{CoreWork, CountsLearned, IsSearchFor, KeepsFormula}
+use Rattle.improve.specs.declared.found.Found.{Found}
+use Rattle.improve.specs.declared.found.ImproveFault.{ImproveFault}
+use Rattle.improve.specs.declared.found.ImproveFault.TheVariants.{Memory, Progress}
+use Rattle.improve.specs.declared.standing.Standing.{Standing}
+use Rattle.improve.specs.Progress.{Telling, with_told, with_failed}
+use Rattle.improve.specs.Improving.{IsSolution, IsCostOfSome, AreFalling, IsRightFound, Improves}
+use Rattle.improve.specs.Improving.{OnWork, work_count}
+use Rattle.improve.specs.Standing.{costs_of, IsStanding, HasTold, HasSpent, GoesOn, Ends, Fails}
+use Rattle.improve.proofs.SearchEnds.{memory_end, progress_end, found_end}
+use Rattle.improve.proofs.CheaperBits.{cost_of_solution, falling_more}
+use Rattle.improve.proofs.Lowering.{on_work_weaker}
+
+-- the costs told, with the best one, are costs of solutions
+pub honest_costs : (p : Problem) (s : Standing) → IsStanding p s → All (IsCostOfSome p) (costs_of s)
+honest_costs p s h =
+    All-push (IsCostOfSome p) (s.earlier).items (s.best).cost h.honest
+    (cost_of_solution p ((s.best).bits).items (s.best).cost h.solution)
+
+-- nothing was told or spent
+pub goes_nowhere : (p : Problem) (now : Telling) (had : BudgetState) (s : Standing) (n : ℕ)
+    → IsStanding p s → GoesOn p now now had had s s n n
+goes_nowhere p now had s n h = record {
+  standing = h;
+  told = λ earlier x. x;
+  failures = refl;
+  limit = refl;
+  answers = refl;
+  learned = refl;
+}
+
+-- lines were learned
+pub goes_learned : (p : Problem) (now : Telling) (had left : BudgetState) (s : Standing)
+    (was more : List LogLine) → IsStanding p s → CountsLearned was more had left
+    → GoesOn p now now had left s s (learned_count was) (learned_count more)
+goes_learned p now had left s was more h c = record {
+  standing = h;
+  told = λ earlier x. x;
+  failures = refl;
+  limit = c.limit;
+  answers = ap (λ n. n + length (costs_of s)) c.answers;
+  learned = c.learned;
+}
+
+-- the same, where it is told otherwise
+pub goes_spent : (p : Problem) (now : Telling) (had left : BudgetState) (s : Standing) (x y : ℕ)
+    → IsStanding p s → left.limit ≡ had.limit → left.answers ≡ had.answers
+    → left.learned + x ≡ had.learned + y → GoesOn p now now had left s s x y
+goes_spent p now had left s x y h limit answers learned = record {
+  standing = h;
+  told = λ earlier z. z;
+  failures = refl;
+  limit = limit;
+  answers = ap (λ n. n + length (costs_of s)) answers;
+  learned = learned;
+}
+
+module _ (p : Problem) (old mid new : Telling) (had between left : BudgetState) (s t u : Standing)
+  where
+    pub goes_further : (x y z : ℕ) → GoesOn p old mid had between s t x y
+        → GoesOn p mid new between left t u y z → GoesOn p old new had left s u x z
+    goes_further x y z a b = record {
+      standing = b.standing;
+      told = λ earlier h. b.told earlier (a.told earlier h);
+      failures = b.failures ∙ a.failures;
+      limit = b.limit ∙ a.limit;
+      answers = omega (arith, a.answers, b.answers);
+      learned = omega (arith, a.learned, b.learned);
+    }
+
+    -- where nothing was learned in the second part
+    pub goes_told : (x y : ℕ) → GoesOn p old mid had between s t x y
+        → GoesOn p mid new between left t u 0 0 → GoesOn p old new had left s u x y
+    goes_told x y a b = record {
+      standing = b.standing;
+      told = λ earlier h. b.told earlier (a.told earlier h);
+      failures = b.failures ∙ a.failures;
+      limit = b.limit ∙ a.limit;
+      answers = omega (arith, a.answers, b.answers);
+      learned = omega (arith, a.learned, b.learned);
+    }
+
+module _ (p : Problem) (old mid new : Telling) (had between left : BudgetState) (s t : Standing)
+    (x y : ℕ) (a : GoesOn p old mid had between s t x y) where
+  pub fails_after : (e : ImproveFault) → Fails p e mid new between left t
+      → Fails p e old new had left s
+  fails_after e b =
+      λ profile earlier before told limit. b profile earlier before (a.told earlier told)
+      (a.limit ∙ limit)
+
+  pub ends_after : (profile : Profile) (result : Result Found ImproveFault) (m n : ℕ)
+      → n + x ≡ m + y → Ends profile p result mid new between left t n
+      → Ends profile p result old new had left s m
+  ends_after profile result m n e b =
+      λ earlier before told spent. b earlier before (a.told earlier told) (record {
+        limit = a.limit ∙ spent.limit;
+        answers = omega (arith, a.answers, spent.answers);
+        learned = omega (arith, a.learned, spent.learned, e);
+      })
+
+pub goes_same : (p : Problem) (old new : Telling) (had left : BudgetState) (s t : Standing)
+    (x y v w : ℕ) → GoesOn p old new had left s t x y → left.learned + v ≡ had.learned + w
+    → GoesOn p old new had left s t v w
+goes_same p old new had left s t x y v w a e = record {
+  standing = a.standing;
+  told = a.told;
+  failures = a.failures;
+  limit = a.limit;
+  answers = a.answers;
+  learned = e;
+}
+
+-- a cheaper solution was told
+pub goes_cheaper : (p : Problem) (old new : Telling) (had left : BudgetState) (s t : Standing)
+    → IsStanding p s → (t.earlier).items ≡ costs_of s → (t.best).cost < (s.best).cost
+    → IsSolution p ((t.best).bits).items (t.best).cost → new ≡ with_told (t.best).cost old
+    → left.answers ≡ had.answers + 1 → left.limit ≡ had.limit → (x y : ℕ)
+    → left.learned + x ≡ had.learned + y → GoesOn p old new had left s t x y
+goes_cheaper p old new had left s t h more less solution tells answers limit x y learned = record {
+  standing = record {
+    solution = solution;
+    falling = subst (λ cs. AreFalling (cs ++ (t.best).cost ∷ [])) (sym more)
+        (falling_more (s.earlier).items (s.best).cost (t.best).cost h.falling less);
+    honest = subst (All (IsCostOfSome p)) (sym more) (honest_costs p s h);
+  };
+  told = λ earlier z. record {
+    told = ap (λ n. n.told) tells ∙ ap (λ cs. cs ++ (t.best).cost ∷ []) z.told
+        ∙ append_assoc earlier.told (costs_of s) ((t.best).cost ∷ [])
+        ∙ ap (λ cs. earlier.told ++ (cs ++ (t.best).cost ∷ [])) (sym more);
+    failures = ap (λ n. n.failures) tells ∙ z.failures;
+  };
+  failures = ap (λ n. n.failures) tells;
+  limit = limit;
+  answers =
+      omega (
+        arith,
+        answers,
+        ap length more,
+        length-append (t.earlier).items ((t.best).cost ∷ []),
+      );
+  learned = learned;
+}
+
+module _ (p : Problem) (old new : Telling) (had left : BudgetState) (s : Standing)
+    (h : IsStanding p s) (same : left.limit ≡ had.limit) where
+  -- memory was refused
+  pub fails_memory : new ≡ old → Fails p Memory old new had left s
+  fails_memory e =
+      λ profile earlier before told limit. memory_end profile p earlier new before left
+      (same ∙ limit) (costs_of s) (ap (λ n. n.told) e ∙ told.told) h.falling (honest_costs p s h)
+      (ap (λ n. n.failures) e ∙ told.failures)
+
+  -- a cheaper solution could not be told
+  pub fails_progress : (c : ℕ) (bits : List Bool) → IsSolution p bits c → c < (s.best).cost
+      → new ≡ with_failed c old → Fails p Progress old new had left s
+  fails_progress c bits solution less e =
+      λ profile earlier before told limit. progress_end profile p earlier new before left
+      (same ∙ limit) (costs_of s) (ap (λ n. n.told) e ∙ told.told) c
+      (falling_more (s.earlier).items (s.best).cost c h.falling less)
+      (All-push (IsCostOfSome p) (costs_of s) c (honest_costs p s h)
+      (cost_of_solution p bits c solution)) (ap (λ n. n.failed) e)
+      (ap (λ n. n.failures) e ∙ ap (λ n. n + 1) told.failures)
+
+pub ends_failing : (profile : Profile) (p : Problem) (e : ImproveFault) (old new : Telling)
+    (had left : BudgetState) (s : Standing) (n : ℕ) → Fails p e old new had left s
+    → Ends profile p (Err e) old new had left s n
+ends_failing profile p e old new had left s n f =
+    λ earlier before told spent. f profile earlier before told spent.limit
+
+-- something was found
+pub ends_found : (profile used : Profile) (p : Problem) (result : Result Found ImproveFault)
+    (now : Telling) (had left : BudgetState) (s : Standing) (costs : List ℕ) (n x y : ℕ)
+    → IsStanding p s → left.limit ≡ had.limit → left.answers ≡ had.answers
+    → left.learned + x ≡ had.learned + y → IfErr result (λ e. e ≡ Memory) → used ≡ profile
+    → costs ≡ costs_of s → IfOk result (IsRightFound used p costs)
+    → OnWork result (λ w. work_count w + x ≡ n + y) → OnWork result (λ w. left_of left ≡ 0)
+    → Ends profile p result now now had left s n
+ends_found profile used p result now had left s costs n x y h limit answers learned fault same told
+    right work spent =
+    λ earlier before tells paid. found_end profile p earlier now before left (limit ∙ paid.limit)
+    (costs_of s) tells.told result h.falling (honest_costs p s h) tells.failures fault
+    (subst (λ q. IfOk result (IsRightFound q p (costs_of s))) same
+    (subst (λ cs. IfOk result (IsRightFound used p cs)) told right))
+    (omega (arith, answers, paid.answers))
+    (on_work_weaker result (λ w. work_count w + x ≡ n + y)
+    (λ w. left.learned ≡ before.learned + work_count w)
+    (λ w e. omega (arith, e, learned, paid.learned)) work) spent
+
+-- what was pushed
+pub if_ok_at : {T F : Type 0} (r : Result T F) → false ≡ is_err r → (xs ys zs : List ℕ)
+    → zs ≡ (if is_ok r then ys else xs) → zs ≡ ys
+if_ok_at (Ok x) e xs ys zs h = h
+if_ok_at (Err d) e xs ys zs h = absurd (false≢true e)
+
+-- the same standing, told otherwise
+pub same_standing : (p : Problem) (s : Standing) (costs : Vec ℕ Global)
+    → costs.items ≡ (s.earlier).items → IsStanding p s
+    → IsStanding p (record { best = s.best; earlier = costs })
+same_standing p s costs e h = record {
+  solution = h.solution;
+  falling = subst (λ cs. AreFalling (cs ++ (s.best).cost ∷ [])) (sym e) h.falling;
+  honest = subst (All (IsCostOfSome p)) (sym e) h.honest;
+}
+
+pub ends_same : (profile used : Profile) (p : Problem) (result : Result Found ImproveFault)
+    (old new : Telling) (had left : BudgetState) (s t : Standing) (n : ℕ) → used ≡ profile
+    → costs_of t ≡ costs_of s → Ends used p result old new had left t n
+    → Ends profile p result old new had left s n
+ends_same profile used p result old new had left s t n same costs e =
+    λ earlier before tells paid.
+    subst (λ q. Improves q p result earlier new before left) same
+    (e earlier before
+    (record {
+      told = tells.told ∙ ap (λ cs. earlier.told ++ cs) (sym costs);
+      failures = tells.failures;
+    })
+    (record {
+      limit = paid.limit;
+      answers = omega (arith, paid.answers, ap length costs);
+      learned = paid.learned;
+    }))
+
+-- it goes on as a search for cores of the same instance
+pub search_kept : (p : Problem) (old new : CoreWork) → IsSearchFor p old → KeepsFormula old new
+    → IsSearchFor p new
+search_kept p old new h k = record {
+  clauses = ap (λ f. f.clauses) k.0 ∙ h.clauses;
+  last = k.1 ∙ h.last;
+  room = omega (arith, h.room, k.1, ap (λ f. f.variables) k.0);
+}

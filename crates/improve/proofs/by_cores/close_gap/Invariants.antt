@@ -1,0 +1,15 @@
+-- What was told and learned so far.
+use Rattle.lrat_log.specs.Steps.{learned_count}
+use Rattle.improve_cores.specs.CoreWork.{IsSearchFor}
+use Rattle.improve.specs.Standing.{GoesOn}
+use Rattle.improve.proofs.by_cores.close_gap.Given as goal
+
+abbrev pub invariant-events : goal.invariant-events
+invariant-events g l = record {
+  search : IsSearchFor l.instance l.search;
+  goes_on : GoesOn l.instance (g.T.Progress.state l.fn.progress) (g.T.Progress.state l.progress)
+      l.fn.budget l.budget l.fn.standing l.standing
+      (learned_count (l.fn.search).lines) (learned_count (l.search).lines);
+  follows : (first : g.row.T.Denot) → g.T.Progress.follows first l.fn.progress
+      → g.T.Progress.follows first l.progress;
+}
