@@ -46,6 +46,15 @@ pub struct Solver<S: Sink> {
     failed: bool,
 }
 
+/// What is left of a solver that is done with.
+#[derive(Drop)]
+pub struct Parts<S: Sink> {
+    /// The clauses that it was given, in their order.
+    pub given: GivenClauses,
+    /// What its lines went to.
+    pub sink: S,
+}
+
 impl<S: Sink> Model for Solver<S> {
     ghost use Rattle.std.specs.Prelude.{map, take, drop, length};
     ghost use Rattle.cdcl.specs.Solving.{SolverState};
@@ -150,6 +159,17 @@ impl<S: Sink> Solver<S> {
         ensures { result ≡ self.sink }
     {
         self.sink
+    }
+
+    /// What it was given, and its lines, once the solver is done with.
+    pub fn into_parts(self) -> Parts<S>
+        ensures given { result.given ≡ given_to self }
+        ensures sink { result.sink ≡ self.sink }
+    {
+        Parts {
+            given: self.input.given,
+            sink: self.sink,
+        }
     }
 
     /// Gives back the memory of the search, for whoever needs only the lines and the clauses from

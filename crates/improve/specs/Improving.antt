@@ -23,8 +23,9 @@ use Rattle.cores.specs.Cores.{Core, Counted, AreCounted}
 use Rattle.bound.specs.Bound.{hard_cnf, bound_as, fixed_clauses, comparator_for, core_cnf}
 use Rattle.cdcl_order.specs.Budgets.{BudgetState, left_of}
 use Rattle.improve.specs.Progress.{Telling}
-use Rattle.improve_cores.specs.CoreWork.{CoreWork, IsCoreWork}
 pub use Rattle.improve_cores.specs.CoreWork.{IsAcceptedOver}
+use Rattle.improve_cores.specs.Work.{IsSearchWork}
+use Rattle.improve_cores.specs.declared.work.SearchWork.{SearchWork}
 use Rattle.improve.specs.declared.found.CoreRefutation.{CoreRefutation}
 use Rattle.improve.specs.declared.found.Work.{Work}
 use Rattle.improve.specs.declared.found.Found.{Found}
@@ -188,7 +189,7 @@ pub record IsRightBest (profile : Profile) (p : Problem) (costs : List ℕ) (c :
   pub above_zero : 0 < c
   pub hard : IsHardWork p work
   pub bound : IsBoundWork profile p costs c work
-  pub search : IfSome work.search (IsCoreWork p)
+  pub search : IfSome work.search (IsSearchWork p)
   pub refutation : IfSome work.refutation (IsOpenRefutation p)
 
 pub record IsRightNothing (p : Problem) (costs : List ℕ) (work : Work) : Type 0 where
@@ -228,9 +229,9 @@ OnWork (Ok (Unsat log clauses)) P = ⊤
 OnWork (Err e) P = ⊤
 
 -- the learned lines of a search for cores, and of a refutation by cores, where there was one
-abbrev pub search_count : Option CoreWork → ℕ
+abbrev pub search_count : Option SearchWork → ℕ
 search_count None = 0
-search_count (Some w) = learned_count w.lines
+search_count (Some w) = learned_count w.log
 
 abbrev pub refutation_count : Option CoreRefutation → ℕ
 refutation_count None = 0

@@ -9,7 +9,7 @@ use Rattle.lrat_log.specs.Steps.{learned_count}
 use Rattle.adder.specs.declared.cells.Profile.{Profile}
 use Rattle.adder.specs.declared.cells.Profile.TheVariants.{Five}
 use Rattle.cdcl_order.specs.Budgets.{BudgetState}
-use Rattle.improve_cores.specs.CoreWork.{IsCoreWork}
+use Rattle.improve_cores.specs.Work.{IsSearchWork}
 use Rattle.improve.specs.Progress.{Telling}
 use Rattle.improve.specs.Improving.{IsSolution, AreFalling, IsCostOfSome, IsHardLog}
 use Rattle.improve.specs.Improving.{IsByCores, IsOpenRefutation, Improves, refutation_count}
@@ -35,7 +35,7 @@ pub record IsStanding (p : Problem) (s : Standing) : Type 0 where
 pub record IsEarlyWork (p : Problem) (w : Work) : Type 0 where
   pub hard : IsHardLog p w.hard
   pub no_bound : w.bound ≡ []
-  pub search : IfSome w.search (IsCoreWork p)
+  pub search : IfSome w.search (IsSearchWork p)
   pub refutation : IfSome w.refutation (IsOpenRefutation p)
 
 -- with this log over the formula for the last bound

@@ -124,9 +124,7 @@ fn search_cores<T: Progress, W: Watch>(
     };
     let is_closed = close_gap(instance, budget, progress, watch, standing, &mut search)?;
     let counted = take_cores(instance, &search, is_closed);
-    let solver = search.into_work();
-    solver.is_core_work(instance);
-    work.search = Some(solver);
+    work.search = Some(search.into_work(instance));
     Ok(counted)
 }
 

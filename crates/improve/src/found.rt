@@ -1,6 +1,6 @@
 // What the search finds.
 use cores::types::Core;
-use improve_cores::counting_solver::CountingSolver;
+use improve_cores::work::SearchWork;
 use lrat_log::log::Log;
 
 /// What the budget was spent on. Each line that was learned cost a unit, and none adds the empty
@@ -13,7 +13,7 @@ pub struct Work {
     /// met.
     pub bound: Log,
     /// What the search for cores was given and learned, where there was one.
-    pub search: Option<CountingSolver>,
+    pub search: Option<SearchWork>,
     /// A refutation by cores that did not end, where there was one.
     pub refutation: Option<CoreRefutation>,
 }

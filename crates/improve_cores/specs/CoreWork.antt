@@ -51,16 +51,6 @@ abbrev pub KeepsClauses : CoreWork → CoreWork → Type 0
 KeepsClauses old new = (new.formula ≡ old.formula) × (new.last ≡ old.last)
     × (new.counting ≡ old.counting)
 
--- steps from the relaxed clauses and those that count, none of them the empty clause; each learned
--- one is new, but for the clauses that count
-pub record IsCoreWork (p : Problem) (w : CoreWork) : Type 0 where
-  pub relaxed : (w.formula).clauses ≡ relaxed_cnf p
-  pub beyond : All (CountsBeyond (p.variables + length p.soft)) w.counting
-  pub steps : AreSteps (start_of (work_clauses w)) (numbered_lines (length (work_clauses w)) w.lines)
-  pub open_end : AddsNoEmptyClause w.lines
-  pub new : LearnsNew (is_later (length (relaxed_cnf p)) (length (work_clauses w)))
-      (given_of (work_clauses w)) (length (work_clauses w)) [] w.lines
-
 -- bits that satisfy the formula
 abbrev pub IsModelOf : Cnf → List Bool → Type 0
 IsModelOf f bits = (length bits ≡ f.variables)

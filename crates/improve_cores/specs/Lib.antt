@@ -1,3 +1,4 @@
 pub mod CoreWork
 pub mod Counting
 pub mod Events
+pub mod Work

@@ -10,11 +10,13 @@ ghost use Rattle.cnf.specs.Clause.{has_repeat};
 ghost use Rattle.cnf.specs.Problem.{IsFeasible};
 ghost use Rattle.lrat_log.specs.Steps.{learned_count};
 ghost use Rattle.cnf.specs.Literal.{Assignment};
-ghost use Rattle.improve_cores.specs.CoreWork.{CountsBeyond, IsCoreWork, IsSearchFor, IsWork};
+ghost use Rattle.improve_cores.specs.CoreWork.{CountsBeyond, IsSearchFor, IsWork};
 ghost use Rattle.improve_cores.specs.CoreWork.{KeepsClauses, CountsLearned};
 ghost use Rattle.improve_cores.specs.Counting.{IsAddable, IsBetween, GivesOnly, IsAnswerOf};
+ghost use Rattle.improve_cores.specs.Work.{IsSearchWork};
 
 use crate::frozen::freeze_after;
+use crate::work::SearchWork;
 use cdcl::budget::Budget;
 use cdcl::outcome::{Assumed, Share};
 use cdcl::solver::Solver;
@@ -153,23 +155,20 @@ impl CountingSolver {
         self.solver.into_sink()
     }
 
-    /// Gives back the memory of the search, for whoever needs only the clauses and the lines from
-    /// now on.
-    pub(crate) fn retire(&mut self)
-        ensures { self.new ≡ self.old }
-    {
-        self.solver.retire();
-    }
-
-    /// What is known of the lines of a search for cores, where the instance has a solution. Nothing
-    /// is done.
-    pub fn is_core_work(&self, instance: &Instance)
-        requires search { IsSearchFor instance.now self.now }
+    /// What it was given and learned, once the solver is done with, where it looked for cores of an
+    /// instance that has a solution.
+    pub(crate) fn into_work(self, instance: &Instance) -> SearchWork
+        requires search { IsSearchFor instance.now self }
         requires feasible { (t : Assignment) × IsFeasible instance.now t }
-        ensures { IsCoreWork instance.now self.now }
+        ensures work { IsSearchWork instance.now result }
+        ensures log { result.log ≡ self.lines }
     {
-        let _ = &self.solver;
         instance.limits();
+        let parts = self.solver.into_parts();
+        SearchWork {
+            given: parts.given,
+            log: parts.sink,
+        }
     }
 }
 

@@ -4,7 +4,7 @@
 
 mod checked;
 pub mod counted;
-pub mod counting_solver;
+mod counting_solver;
 mod found;
 mod frozen;
 mod items;
@@ -12,3 +12,4 @@ pub mod refuting;
 pub mod searching;
 mod shortening;
 mod trees;
+pub mod work;

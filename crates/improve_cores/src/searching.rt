@@ -17,15 +17,19 @@
 //!
 //! What is told of the search does not rest on its policy: see `counting_solver` and `counted`.
 ghost use Rattle.std.specs.Prelude.{◌≡◌, ◌≤◌, ◌^◌, IfOk, IfSome};
+ghost use Rattle.cnf.specs.Literal.{Assignment};
+ghost use Rattle.cnf.specs.Problem.{IsFeasible};
 ghost use Rattle.lrat_log.specs.Steps.{learned_count};
 ghost use Rattle.improve_cores.specs.CoreWork.{IsSearchFor, KeepsFormula, KeepsClauses};
 ghost use Rattle.improve_cores.specs.CoreWork.{CountsLearned};
 ghost use Rattle.improve_cores.specs.Counting.{IsAnswerOf, GivesOnly};
 ghost use Rattle.improve_cores.specs.Events.{AreRightCores, IsEventOf, IsStepOf};
+ghost use Rattle.improve_cores.specs.Work.{IsSearchWork};
 
 use crate::checked::{at, narrow};
 use crate::counted::{Counted, count_found};
 use crate::counting_solver::CountingSolver;
+use crate::work::SearchWork;
 use crate::found::FoundCore;
 use crate::items::{Items, Origin};
 use crate::shortening::{push_negated, shorten, variables_of};
@@ -124,14 +128,14 @@ impl CoreSearch {
         })
     }
 
-    /// What was given and learned. It is the last that is asked of the search, whose memory is given
-    /// back.
-    pub fn into_work(self) -> CountingSolver
-        ensures { result ≡ self }
+    /// What was given and learned, where the instance has a solution.
+    pub fn into_work(self, instance: &Instance) -> SearchWork
+        requires search { IsSearchFor instance.now self }
+        requires feasible { (t : Assignment) × IsFeasible instance.now t }
+        ensures work { IsSearchWork instance.now result }
+        ensures log { result.log ≡ self.lines }
     {
-        let mut solver = self.solver;
-        solver.retire();
-        solver
+        self.solver.into_work(instance)
     }
 
     /// The cores so far as core lines; none where one of them is not right.

@@ -30,7 +30,7 @@ use Rattle.improve.specs.declared.found.ImproveFault.TheVariants.{Memory as Sear
 use Rattle.improve.specs.Improving.{AreFalling, EndsWith, IsCostOfSome, IsSolution}
 use Rattle.improve.specs.Improving.{IsHardWork, IsBoundWork, IsRightFound, OnWork, work_count}
 use Rattle.improve.specs.Improving.{IsOpenRefutation}
-use Rattle.improve_cores.specs.CoreWork.{IsCoreWork}
+use Rattle.improve_cores.specs.Work.{IsSearchWork}
 use Rattle.report.specs.Told.{cost_lines}
 use Rattle.report.specs.declared.status.Status.{Status}
 use Rattle.report.specs.declared.status.Status.TheVariants.{OptimumFound, Unsatisfiable}
@@ -75,7 +75,7 @@ pub record IsTrueSatisfiable (profile : Profile) (p : Problem) (costs : List ℕ
   pub above_zero : 0 < c
   pub spent : IsSpentOn p proved work old new
   pub bound : IsBoundWork profile p costs c work
-  pub search : IfSome work.search (IsCoreWork p)
+  pub search : IfSome work.search (IsSearchWork p)
   pub refutation : IfSome work.refutation (IsOpenRefutation p)
 
 -- no solution was met
