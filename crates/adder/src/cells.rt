@@ -34,7 +34,7 @@ pub enum Profile {
     /// Relaxed as in `One`. The weights are added by sums over groups of soft clauses, along a tree
     /// that follows the hard clauses; where these would take too many clauses, as in `Three`.
     Four,
-    /// Relaxed and added up as in `Four`. A certificate may bring cores, whose clauses then stand in
-    /// place of the sums.
+    /// Relaxed and added up as in `Four`. A certificate may bring cores, whose clauses then stand
+    /// in place of the sums.
     Five,
 }

@@ -22,10 +22,10 @@ use Rattle.adder.specs.Network.{SameUpTo, relaxed_as, relaxed_from}
 use Rattle.adder.proofs.Laws.{IsRelaxedTightly}
 use Rattle.cores.specs.Cores.{Core, Counted, AreCounted, RelaxesFrom, ExtendsOver}
 use Rattle.cores.specs.Cores.{counted_clauses, first_relaxation, last_clause}
+use Rattle.cores.specs.Spans.{IsLiteralVariable}
 use Rattle.cores.proofs.Laws.{ClauseOf, IsNamed, counted_after, counted_few}
 use Rattle.cores.proofs.Laws.{counted_shaped, cheaper_extends, shaped_named}
 use Rattle.bound.specs.Bound.{core_cnf, kept, relaxed_clauses, RefutesCheaper}
-use Rattle.bound.specs.Adding.{IsLiteralVariable}
 use Rattle.bound.proofs.Addition.{each_count}
 use Rattle.bound.proofs.Cheaper.{clauses_same, tight_clauses}
 use Rattle.bound.proofs.Clauses.{all_true, all_true-from, all_true-kept, from_all_true}

@@ -1,25 +1,19 @@
 -- The relaxed clauses of an instance are a formula.
-use Rattle.std.proofs.Common.{◌≡◌, ℕ, suc, ◌+◌, ◌^◌, ◌≤◌, List, [], ◌∷◌, ◌++◌, length, filter, refl, ◌∙◌}
-use Rattle.std.proofs.Common.{ap, arith}
+use Rattle.std.proofs.Common.{◌≡◌, ℕ, ◌+◌, ◌^◌, ◌≤◌, List, [], ◌++◌, length, ◌∙◌, ap, arith}
 use Rattle.std.proofs.lemmas.List.Elements.{All-from_recursion}
 use Rattle.cnf.specs.Literal.{Literal}
 use Rattle.cnf.specs.Formula.{Cnf, IsFormula, IsFormulaClause}
-use Rattle.cnf.specs.Problem.{Problem, SoftClause}
+use Rattle.cnf.specs.Problem.{Problem}
 use Rattle.cnf.specs.Instance.{IsInstance}
 use Rattle.adder.specs.declared.cells.Profile.TheVariants.{Five}
-use Rattle.adder.specs.declared.profiles.Relaxing.TheVariants.{EachByVariable}
-use Rattle.adder.specs.Network.{relaxed_from, relaxed_variables}
+use Rattle.adder.specs.Network.{relaxed_variables}
 use Rattle.bound.specs.Relaxed.{relaxed_cnf}
+use Rattle.bound.proofs.Addition.{each_count}
 use Rattle.bound.proofs.Fits.{given_formula}
-
-each_relaxed : (v : ℕ) (ss : List SoftClause)
-    → length (filter (λ e. e.is_fresh) (relaxed_from EachByVariable v ss)) ≡ length ss
-each_relaxed v [] = refl
-each_relaxed v (s ∷ ss) = ap (λ n. suc n) (each_relaxed (v + 1) ss)
 
 -- the last relaxation variable
 pub all_relaxed : (p : Problem) → relaxed_variables Five p ≡ p.variables + length p.soft
-all_relaxed p = ap (λ n. p.variables + n) (each_relaxed (p.variables + 1) p.soft)
+all_relaxed p = ap (λ n. p.variables + n) (each_count (p.variables + 1) p.soft)
 
 pub relaxed_is_formula : (p : Problem) (more : ℕ) → IsInstance p → more ≤ 2 ^ 20
     → IsFormula (record {

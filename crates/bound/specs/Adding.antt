@@ -12,10 +12,6 @@ use Rattle.bound.specs.declared.additions.Addition.{Addition}
 use Rattle.bound.specs.declared.additions.Addition.TheVariants.{Network, Sums}
 use Rattle.bound.specs.Bound.{kept}
 
--- a number that a literal may have as its variable
-abbrev pub IsLiteralVariable : ℕ → Type 0
-IsLiteralVariable v = (0 < v) × (v < VARIABLE_LIMIT)
-
 -- its sum and its carry are variables
 abbrev pub HasVariables : Cell → Type 0
 HasVariables cell =

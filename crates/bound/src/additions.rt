@@ -29,7 +29,7 @@ pub enum Addition {
 
 impl Addition {
     /// What adds up the weights of an instance in a profile. In `Profile::Four` and `Profile::Five`
-    /// that are sums, unless there are more than 2^15 groups or they take more than 2^17 clauses;
+    /// these are sums, unless there are more than 2^15 groups or they take more than 2^17 clauses;
     /// then, and in the other profiles, it is the network that `network_as` gives.
     ///
     /// # Errors

@@ -5,7 +5,7 @@ ghost use Rattle.cnf.specs.Literal.{negative};
 ghost use Rattle.cnf.specs.Numbers.{RisesFrom};
 ghost use Rattle.cores.specs.Cores.{Core, AreCounted, first_relaxation};
 ghost use Rattle.bound.specs.Bound.{core_cnf, kept, RefutesCheaper};
-ghost use Rattle.bound.specs.Adding.{IsLiteralVariable};
+ghost use Rattle.cores.specs.Spans.{IsLiteralVariable};
 
 use crate::formulas::keep_given;
 use crate::kept_clauses::keep_all;

@@ -6,6 +6,7 @@ ghost use Rattle.bound.specs.Bound.{kept};
 ghost use Rattle.bound.specs.Adding.{Adds};
 ghost use Rattle.cnf.specs.Marks.{HasPlace};
 
+use crate::repeats::has_repeat;
 use cnf::clause_list::ClauseList;
 use cnf::marks::Marks;
 use cnf::opposites::{are_opposed, contains, has_opposites};
@@ -62,20 +63,6 @@ fn keep_once(clauses: &mut ClauseList, lits: &[Lit]) -> Result<(), AllocError>
         return Ok(());
     }
     clauses.push(lits)
-}
-
-/// Whether some literal stands twice.
-fn has_repeat(lits: &[Lit]) -> bool
-    ensures { result ≡ has_repeat lits.now }
-{
-    let mut rest = lits;
-    while let [first, more @ ..] = rest {
-        if contains(more, *first) {
-            return true;
-        }
-        rest = more;
-    }
-    false
 }
 
 /// Each literal once, at its first place.

@@ -13,3 +13,4 @@ mod hard;
 mod kept_clauses;
 mod relaxed;
 mod relaxing;
+pub mod repeats;

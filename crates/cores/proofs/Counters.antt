@@ -10,7 +10,7 @@ use Rattle.cores.specs.Totalizer.{totalizer, variables_from}
 use Rattle.cores.specs.Cores.{Core, CounterState, counters, first_relaxation, no_cores}
 use Rattle.cores.specs.Cores.{is_right, with_core}
 use Rattle.cores.specs.Counter.{IsCounter}
-use Rattle.cores.specs.Spans.{Span, variables_of, IsNamed, IsVariable}
+use Rattle.cores.specs.Spans.{Span, variables_of, IsNamed, IsLiteralVariable}
 use Rattle.cores.specs.declared.counting.TheConstants.{MOST_CORE_CLAUSES}
 use Rattle.cores.proofs.Right.{IsRight, right_from}
 use Rattle.cores.proofs.Rests.{core_is_paid, counted_is_paid}
@@ -114,9 +114,10 @@ outputs_of v c some few from_one named =
     counters_have v c.weight c.outputs c.inputs some few from_one
     (recursion_from_All (IsNamed v) c.inputs named)
 
-pub variables_all : (v : ℕ) (xs : List ℕ) → v ≤ 2 ^ 26 → All (IsNamed v) xs → All IsVariable xs
+pub variables_all : (v : ℕ) (xs : List ℕ) → v ≤ 2 ^ 26 → All (IsNamed v) xs
+    → All IsLiteralVariable xs
 variables_all v xs small h =
-    All-weaker (IsNamed v) IsVariable (λ x p. (p.0, omega (arith, p.1))) xs h
+    All-weaker (IsNamed v) IsLiteralVariable (λ x p. (p.0, omega (arith, p.1))) xs h
 
 -- the first of them
 pub first_of : (s : Span) (xs : List ℕ) (v n : ℕ) → variables_of s ≡ xs

@@ -43,7 +43,12 @@ module _ (from start : ℕ) (low : start < 2 ^ 32) where
       let small : s.fresh < 2 ^ 62 = omega (arith, low, b.few.variables, b.few.clauses) in
       record {
         weight =
-            omega (arith, count_is_paid from s c t e, b.paid, ap (λ (u : Counted). u.weight) h.after);
+            omega (
+              arith,
+              count_is_paid from s c t e,
+              b.paid,
+              ap (λ (u : Counted). u.weight) h.after,
+            );
         outputs =
             omega (
               arith,

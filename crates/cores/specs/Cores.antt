@@ -75,7 +75,7 @@ is_right from rests c =
     nat_le 1 c.weight && nat_le 1 c.outputs && nat_le c.outputs (length c.inputs)
     && not (has_repeat (map positive c.inputs)) && list_all (has_rest from rests c.weight) c.inputs
 
--- its outputs
+-- its outputs: one that each input implies, or those of the totalizer
 abbrev pub counters : ℕ → Core → Totals
 counters v c = by c.outputs
   where

@@ -11,12 +11,12 @@ abbrev pub variables_of : Span → List ℕ
 variables_of s = variables_from s.first s.count
 
 -- a number that a literal may have as its variable
-abbrev pub IsVariable : ℕ → Type 0
-IsVariable x = (0 < x) × (x < 2 ^ 27)
+abbrev pub IsLiteralVariable : ℕ → Type 0
+IsLiteralVariable x = (0 < x) × (x < 2 ^ 27)
 
 -- a variable that has places in a table with so many rows
 abbrev pub IsMarkable : ℕ → ℕ → Type 0
-IsMarkable rows x = IsVariable x × (2 * x ≤ rows)
+IsMarkable rows x = IsLiteralVariable x × (2 * x ≤ rows)
 
 -- a variable from 1 below the fresh one
 abbrev pub IsNamed : ℕ → ℕ → Type 0

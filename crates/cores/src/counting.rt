@@ -166,8 +166,13 @@ impl Counter {
     }
 }
 
-/// What is left of each relaxation variable at first.
-fn rests_of(instance: &Instance) -> Result<Vec<u64>, AllocError>
+/// What is left of each relaxation variable at first: the weight of its soft clause, or 0 where
+/// that is a tautology.
+///
+/// # Errors
+///
+/// `AllocError` where memory was refused.
+pub fn rests_of(instance: &Instance) -> Result<Vec<u64>, AllocError>
     ensures { IfOk result (λ r. r.items ≡ map rest_of_soft instance.now.soft) }
 {
     let alloc = instance.allocator();

@@ -7,7 +7,7 @@ ghost use Rattle.std.specs.Prelude.{map, min, IfOk, OnOk};
 ghost use Rattle.cnf.specs.Literal.{Literal, positive, negative};
 ghost use Rattle.cores.specs.Totalizer.{right_clauses, left_clauses, order_clauses, sum_clauses};
 ghost use Rattle.cores.specs.Totalizer.{totalizer};
-ghost use Rattle.cores.specs.Spans.{variables_of, IsVariable};
+ghost use Rattle.cores.specs.Spans.{variables_of, IsLiteralVariable};
 
 use crate::spans::Span;
 use cnf::clause_list::ClauseList;
@@ -32,7 +32,7 @@ pub(crate) fn push_totalizer(
     inputs: &[u64],
 ) -> Result<Total, AllocError>
     requires some { 0 < length inputs.now }
-    requires variables { All IsVariable inputs.now }
+    requires variables { All IsLiteralVariable inputs.now }
     requires from_one { 0 < fresh }
     requires room { (totalizer most fresh inputs.now).fresh ≤ 2 ^ 26 }
     ensures outputs { IfOk result
@@ -146,7 +146,7 @@ pub(crate) fn push_any(
     output: u32,
     inputs: &[u64],
 ) -> Result<(), AllocError>
-    requires variables { All IsVariable inputs.now }
+    requires variables { All IsLiteralVariable inputs.now }
     requires from_one { 0 < output }
     requires small { output < 2 ^ 27 }
     ensures { OnOk result (clauses.new

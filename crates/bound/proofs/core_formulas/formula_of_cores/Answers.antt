@@ -5,8 +5,8 @@ use Rattle.cnf.specs.Literal.{negative}
 use Rattle.cnf.specs.Numbers.{RisesFrom}
 use Rattle.adder.specs.declared.cells.Profile.TheVariants.{Five}
 use Rattle.cores.specs.Cores.{last_clause}
+use Rattle.cores.specs.Spans.{IsLiteralVariable}
 use Rattle.bound.specs.Bound.{core_cnf, kept, relaxed_clauses}
-use Rattle.bound.specs.Adding.{IsLiteralVariable}
 use Rattle.bound.proofs.Counted.{clauses_made, core_clauses_few, core_is_formula, firsts_rise}
 use Rattle.bound.proofs.Counted.{firsts_variables, refutes_cheaper}
 use Rattle.bound.proofs.core_formulas.formula_of_cores.Goals as goal

@@ -2,7 +2,7 @@ use Rattle.std.proofs.Common.{[], ◌∷◌, ap, arith, ◌∙◌, sym, subst}
 use Rattle.std.specs.Prelude.{All}
 use Rattle.cores.specs.Totalizer.{totalizer}
 use Rattle.cores.specs.Cores.{Core}
-use Rattle.cores.specs.Spans.{IsVariable}
+use Rattle.cores.specs.Spans.{IsLiteralVariable}
 use Rattle.cores.proofs.Counters.{counters_many, first_of, outputs_of, variables_all}
 use Rattle.cores.proofs.state.push_outputs.Goals as goal
 
@@ -22,7 +22,7 @@ push_totalizer-requires-clause-variables c =
     let core = c.args.core.now in
     let some = outputs_of c.args.fresh core c.requires.some c.requires.few c.requires.from_one
     c.requires.inputs in
-    subst (All IsVariable)
+    subst (All IsLiteralVariable)
     (sym (c.deref-2.ensures.value ∙ ap (λ (k : Core). k.inputs) c.core.view_is))
     (variables_all c.args.fresh core.inputs (omega (arith, some.room, c.requires.room))
     c.requires.inputs)

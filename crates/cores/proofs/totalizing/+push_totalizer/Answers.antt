@@ -3,7 +3,7 @@ use Rattle.std.proofs.Common.{arith, subst, refl, ◌^◌}
 use Rattle.std.specs.Prelude.{All}
 use Rattle.std.proofs.lemmas.List.Elements.{All-take, All-drop}
 use Rattle.cores.specs.Totalizer.{totalizer, variables_from, sum_clauses}
-use Rattle.cores.specs.Spans.{variables_of, IsVariable}
+use Rattle.cores.specs.Spans.{variables_of, IsLiteralVariable}
 use Rattle.cores.proofs.Halving.{IsSplit, left_room, right_room, node_made, three_parts, fresh_le}
 use Rattle.cores.proofs.totalizing.+push_totalizer.Goals as goal
 
@@ -20,8 +20,8 @@ push_totalizer-requires t c =
       (
         omega arith,
         (
-          subst (All IsVariable) (sym c.split_at.ensures.front)
-              (All-take IsVariable (length xs / 2) xs c.requires.variables),
+          subst (All IsLiteralVariable) (sym c.split_at.ensures.front)
+              (All-take IsLiteralVariable (length xs / 2) xs c.requires.variables),
           (
             c.requires.from_one,
             left_room c.args.most c.args.fresh _ xs c.split_at.result.0.now
@@ -44,8 +44,8 @@ push_totalizer-requires-2 t c =
       (
         omega arith,
         (
-          subst (All IsVariable) (sym c.split_at.ensures.back)
-              (All-drop IsVariable (length xs / 2) xs c.requires.variables),
+          subst (All IsLiteralVariable) (sym c.split_at.ensures.back)
+              (All-drop IsLiteralVariable (length xs / 2) xs c.requires.variables),
           (
             omega (
               arith,

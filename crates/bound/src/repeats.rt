@@ -1,0 +1,20 @@
+//! Whether a literal stands twice.
+ghost use Rattle.std.specs.Prelude.{◌≡◌, length};
+ghost use Rattle.cnf.specs.Clause.{has_repeat};
+
+use cnf::opposites::contains;
+use cnf::types::Lit;
+
+/// Whether some literal stands twice: pair by pair, for a few literals.
+pub fn has_repeat(lits: &[Lit]) -> bool
+    ensures { result ≡ has_repeat lits.now }
+{
+    let mut rest = lits;
+    while let [first, more @ ..] = rest {
+        if contains(more, *first) {
+            return true;
+        }
+        rest = more;
+    }
+    false
+}
