@@ -6,7 +6,7 @@ source "$(dirname "$0")/../lib"
 driver eliminate cnf clauses lrat_log lrat_check eliminate cdcl
 [ $# -gt 0 ] || set -- 1
 for seed; do
-    drive --seconds 300 -- "$seed" 1500
+    drive --seconds 1000 -- "$seed" 1500
     expect "seed $seed" 0 'ok 1504' ''
 done
 totals

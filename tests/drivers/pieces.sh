@@ -26,7 +26,7 @@ done
 [ $# -gt 0 ] || set -- 1
 for seed; do
     # shellcheck disable=SC2086
-    drive --steps 1000000000 --seconds 400 -- "$seed" 40 $files
+    drive --steps 1000000000 --seconds 1000 -- "$seed" 40 $files
     expect "certificates in pieces, seed $seed" 0 'ok 200' ''
 done
 totals

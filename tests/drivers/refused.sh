@@ -9,7 +9,7 @@ mkdir "$work/cases"
 for ((before = 0; before < most; before++)); do
     echo $before > "$work/cases/$before"
 done
-(cd "$work/crates/drive" && "${RT:-rt}" try --steps 1000 --seconds 100 --fail-alloc $most --cases "$work/cases") > "$work/log" 2>&1
+(cd "$work/crates/drive" && "${RT:-rt}" try --steps 1000 --seconds 400 --fail-alloc $most --cases "$work/cases") > "$work/log" 2>&1
 # told WORD: how many runs say that
 told() {
     grep -cx "$1" "$work/log"

@@ -7,7 +7,7 @@ source "$(dirname "$0")/../lib"
 driver solver cnf clauses propagate analyze cdcl lrat_log lrat_check
 [ $# -gt 0 ] || set -- 1
 for seed; do
-    drive --steps 1000 --seconds 100 -- "$seed" 300
+    drive --steps 1000 --seconds 400 -- "$seed" 300
     expect "seed $seed" 0 'ok 300' ''
 done
 totals

@@ -3,6 +3,6 @@
 # fail after each number of bytes and at each flush. The driver is run with no proof, by `rt try`.
 source "$(dirname "$0")/../lib"
 driver worked_runs cnf wcnf adder cores bound lrat_log cdcl_order cdcl improve_cores improve lrat_check report
-drive --steps 1000 --seconds 400
+drive --steps 1000 --seconds 1000
 expect 'the run in memory' 0 ok ''
 totals

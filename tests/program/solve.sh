@@ -163,13 +163,17 @@ lines text 'h 1 2 0' '3 -1 0' '4 -2 0'
 call solve --proof wanted text
 for closed in '<&-' '2>&-' '<&- 2>&-' '>&-' '<&- >&-' '2>&- >&-' '<&- 2>&- >&-'; do
     rm -f "$work/proof"
-    printed=$(cd "$work" && eval "\"$wmax\" solve --proof proof text $closed")
+    printed=$(cd "$work" && eval "\"$wmax\" solve --proof proof text $closed" 2> .err)
     status=$?
     case " $closed" in
         *' >&-')
             ok "closed $closed: status $status" [ "$status" = 3 ]
             ok "closed $closed: nothing printed" [ -z "$printed" ]
             ok "closed $closed: no certificate" [ ! -s "$work/proof" ]
+            case $closed in
+                *'2>&-'*) ;;
+                *) ok "closed $closed: the fault" [ "$(cat "$work/.err")" = 'error: Output' ] ;;
+            esac
             ;;
         *)
             ok "closed $closed: status $status" [ "$status" = 30 ]

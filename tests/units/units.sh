@@ -22,7 +22,7 @@ for crate; do
         printf '\n#[cfg(test)]\nmod tests;\n' >> "$src/$of.rt"
         wanted=$((wanted + $(grep -c '^#\[test\]' "$folder/tests.rt")))
     done
-    out=$(cd "$work/crates/$crate" && "${RT:-rt}" try --test --steps 1000 --seconds 100 2>&1)
+    out=$(cd "$work/crates/$crate" && "${RT:-rt}" try --test --steps 1000 --seconds 400 2>&1)
     ran=$(grep -cE '^test .* \.\.\. ok$' <<< "$out")
     ok "$crate: $ran of $wanted tests" [ "$ran" = "$wanted" ]
     [ "$ran" = "$wanted" ] || grep -E '^test .*FAILED|^error|panicked' <<< "$out" | head -n 20
