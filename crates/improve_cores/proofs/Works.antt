@@ -20,7 +20,8 @@ use Rattle.cdcl.specs.Solving.{given_to, GivesMore, SameGiven, lines_since}
 use Rattle.improve_cores.specs.CoreWork.{CountsBeyond, KeepsClauses}
 use Rattle.improve_cores.specs.CoreWork.{CountsLearned}
 use Rattle.improve_cores.specs.Counting.{LogSolver, IsCounting, GivesOnly, seen_of, IsFrozenAfter}
-use Rattle.improve_cores.proofs.Given.{given_count, given_pushed, given_one, given_none, learned_both}
+use Rattle.improve_cores.proofs.Given.{given_count, given_pushed, given_one, given_none}
+use Rattle.improve_cores.proofs.Given.{learned_both}
 
 -- a solver that was given a formula alone
 pub begins : (s : LogSolver) (f : Cnf) (frozen : List Bool) (free relaxed last : ℕ) → s.formula ≡ f

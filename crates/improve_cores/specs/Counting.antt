@@ -1,6 +1,6 @@
 -- What is known of a solver to which clauses that count are added, and its answers.
 use Rattle.std.specs.Prelude.{◌≡◌, ℕ, ◌-◌, ◌<◌, ◌≤◌, true, false, List, ◌++◌, Some, All}
-use Rattle.std.specs.Prelude.{Bool, slice_get}
+use Rattle.std.specs.Prelude.{Bool, length, slice_get}
 use Rattle.cnf.specs.Literal.{Literal}
 use Rattle.cnf.specs.Clause.{has_repeat, has_opposites}
 use Rattle.lrat_log.specs.Log.{LogLine, clauses_in}
@@ -27,6 +27,11 @@ seen_of s relaxed = record {
 abbrev pub IsFrozenAfter : ℕ → ℕ → List Bool → Type 0
 IsFrozenAfter first last frozen =
     (v : ℕ) → first < v → v ≤ last → slice_get frozen (v - 1) ≡ Some true
+
+-- none of the first variables is frozen
+abbrev pub IsFreeUpTo : ℕ → List Bool → Type 0
+IsFreeUpTo first frozen =
+    (v : ℕ) → 0 < v → v ≤ first → v ≤ length frozen → slice_get frozen (v - 1) ≡ Some false
 
 -- its clauses have the numbers from 1 on
 pub record IsCounting (s : LogSolver) (free relaxed last : ℕ) : Type 0 where

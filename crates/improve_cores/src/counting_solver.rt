@@ -17,12 +17,13 @@ ghost use Rattle.improve_cores.specs.Work.{IsSearchWork};
 
 use crate::frozen::freeze_after;
 use crate::work::SearchWork;
+use bound::repeats::has_repeat;
 use cdcl::budget::Budget;
 use cdcl::outcome::{Assumed, Share};
 use cdcl::solver::Solver;
 use cdcl::watch::Watch;
 use cnf::clause_list::ClauseList;
-use cnf::opposites::{contains, has_opposites};
+use cnf::opposites::has_opposites;
 use cnf::types::{Formula, Instance, Lit};
 use lrat_log::lines::{Name, Number};
 use lrat_log::log::Log;
@@ -123,7 +124,7 @@ impl CountingSolver {
         }
     }
 
-    /// Searches under these assumptions. The answer is `Open` also where one of them is not frozen.
+    /// Searches under these assumptions; under none where one of them is not frozen.
     ///
     /// # Errors
     ///
@@ -205,20 +206,6 @@ fn has_beyond(lits: &[Lit], relaxed: u32) -> bool
         if lit.variable() > relaxed && !lit.is_negated() {
             return true;
         }
-    }
-    false
-}
-
-/// Whether a literal stands twice. It is asked of a few literals.
-fn has_repeat(lits: &[Lit]) -> bool
-    ensures { result ≡ has_repeat lits.now }
-{
-    let mut rest = lits;
-    while let [first, more @ ..] = rest {
-        if contains(more, *first) {
-            return true;
-        }
-        rest = more;
     }
     false
 }

@@ -1,23 +1,35 @@
-// Which variables stay: all that are not of the instance. Assumptions and the clauses that count
-// are said in them.
-ghost use Rattle.std.specs.Prelude.{◌≡◌, length, IfOk};
-ghost use Rattle.improve_cores.specs.Counting.{IsFrozenAfter};
+//! Which variables no elimination takes away: all that are not of the instance. Assumptions and
+//! clauses that come later are said in them.
+ghost use Rattle.std.specs.Prelude.{◌≡◌, false, length, replicate, IfOk};
+ghost use Rattle.improve_cores.specs.Counting.{IsFrozenAfter, IsFreeUpTo};
 
 use std::alloc::{AllocError, Global};
 
 /// For each variable from 1, whether it comes after the first ones.
-pub(crate) fn freeze_after(alloc: Global, first: u32, vars: u32) -> Result<Vec<bool>, AllocError>
+///
+/// # Errors
+///
+/// `AllocError` where memory was refused.
+pub fn freeze_after(alloc: Global, first: u32, vars: u32) -> Result<Vec<bool>, AllocError>
     ensures len { IfOk result (λ frozen. length frozen.items ≡ vars) }
     ensures frozen { IfOk result (λ frozen. IsFrozenAfter first vars frozen.items) }
+    ensures free { IfOk result (λ frozen. IsFreeUpTo first frozen.items) }
 {
     let mut frozen = freeze_none(alloc, first as usize)?;
     frozen.resize(vars as usize, true)?;
     Ok(frozen)
 }
 
-/// So many values, all of them false.
-fn freeze_none(alloc: Global, count: usize) -> Result<Vec<bool>, AllocError>
-    ensures { IfOk result (λ frozen. length frozen.items ≡ count) }
+/// So many values, all of them false: no variable is frozen.
+///
+/// # Errors
+///
+/// `AllocError` where memory was refused.
+pub fn freeze_none(alloc: Global, count: usize) -> Result<Vec<bool>, AllocError>
+    ensures len { IfOk result (λ frozen. length frozen.items ≡ count) }
+    ensures items { IfOk result (λ frozen. frozen.items ≡ replicate count false) }
 {
-    Vec::from_elem(alloc, false, count)
+    let mut frozen = Vec::new(alloc);
+    frozen.resize(count, false)?;
+    Ok(frozen)
 }

@@ -6,9 +6,8 @@
 // 2012), the dearest first. The list is made anew for each stratum, in the time of a sort; within a
 // stratum what is used up leaves it, and new outputs come last.
 use crate::checked::{at, narrow, set};
-use cnf::marks::Marks;
-use cnf::opposites::are_opposed;
 use cnf::types::Instance;
+use cores::counting::rests_of;
 use std::alloc::AllocError;
 
 /// Which output of which core a variable is; none for a relaxation variable.
@@ -44,9 +43,11 @@ impl Items {
         let alloc = instance.allocator();
         let first = instance.vars() + 1;
         let all = instance.soft().len().saturating_add(reserve);
+        let mut rests = rests_of(instance)?;
+        rests.resize(all, 0)?;
         Ok(Items {
             first,
-            rests: rests_of(instance, all)?,
+            rests,
             origins: Vec::from_elem(alloc, Origin::default(), all)?,
             listed: Vec::from_elem(alloc, false, all)?,
             list: Vec::new(alloc),
@@ -88,13 +89,8 @@ impl Items {
 
     /// The greatest rest below a number; 0 where there is none.
     pub(crate) fn greatest_below(&self, bound: u64) -> u64 {
-        let mut greatest = 0;
-        for rest in &self.rests {
-            if *rest < bound && *rest > greatest {
-                greatest = *rest;
-            }
-        }
-        greatest
+        let below = self.rests.iter().copied().filter(|rest| *rest < bound);
+        below.max().unwrap_or(0)
     }
 
     /// Makes the list anew: all with a rest of at least so much, and from 1, the dearest first.
@@ -159,21 +155,4 @@ fn place_of(first: u32, variable: u32) -> usize {
         Some(place) => place as usize,
         None => usize::MAX,
     }
-}
-
-/// The weights of the soft clauses, 0 for tautologies, and zeros up to so many.
-fn rests_of(instance: &Instance, all: usize) -> Result<Vec<u64>, AllocError> {
-    let alloc = instance.allocator();
-    let mut marks = Marks::new(alloc, instance.vars())?;
-    let mut rests = Vec::with_capacity(alloc, all)?;
-    for soft in instance.soft() {
-        let rest = if are_opposed(&mut marks, soft.clause().lits()) {
-            0
-        } else {
-            soft.weight()
-        };
-        rests.push(rest)?;
-    }
-    rests.resize(all, 0)?;
-    Ok(rests)
 }

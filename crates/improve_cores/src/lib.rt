@@ -6,7 +6,7 @@ mod checked;
 pub mod counted;
 mod counting_solver;
 mod found;
-mod frozen;
+pub mod frozen;
 mod items;
 pub mod refuting;
 pub mod searching;

@@ -52,7 +52,8 @@ impl Model for Refutation {
 
     ghost view = { λ r. record { formula = r.solver.formula; lines = r.solver.lines } };
 
-    ghost invariant = { λ r. (r.solver.counting ≡ []) × (r.clauses ≡ length (r.solver.formula).clauses) };
+    ghost invariant = { λ r.
+        (r.solver.counting ≡ []) × (r.clauses ≡ length (r.solver.formula).clauses) };
 }
 
 impl Refutation {
