@@ -230,9 +230,11 @@ call
 ok 'no command' test "$status" = 2 -a -z "$out" -a -n "$err"
 call check --help
 ok 'help' test "$status" = 0 -a -n "$out" -a -z "$err"
-out=$(cd "$work" && "$wmax" check text result proof 2>&1 > /dev/full)
-status=$?
-ok 'an output that is full' test "$status" = 3 -a "$out" = 'error: Output'
+if [ -c /dev/full ]; then
+    out=$(cd "$work" && "$wmax" check text result proof 2>&1 > /dev/full)
+    status=$?
+    ok 'an output that is full' test "$status" = 3 -a "$out" = 'error: Output'
+fi
 
 # Bytes of any kind.
 random_bytes() { # SEED: 2,000 of them

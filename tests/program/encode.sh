@@ -95,9 +95,11 @@ call encode text -1
 ok 'a negative cost' test "$status" = 2 -a -z "$out" -a -n "$err"
 call encode text
 ok 'no cost' test "$status" = 2 -a -z "$out" -a -n "$err"
-err=$(cd "$work" && "$wmax" encode text 1 2>&1 > /dev/full)
-status=$?
-ok 'an output that is full' test "$status" = 3 -a "$err" = 'error: Output'
+if [ -c /dev/full ]; then
+    err=$(cd "$work" && "$wmax" encode text 1 2>&1 > /dev/full)
+    status=$?
+    ok 'an output that is full' test "$status" = 3 -a "$err" = 'error: Output'
+fi
 
 # A stock SAT solver finds the formula satisfiable exactly above the optimum.
 solver=

@@ -39,6 +39,17 @@ explained 'CR LF' 0 'cost 4' 'given up: 1 of 2 soft clauses' '+ 4 = 4, line 4: 4
 printf 'c a\tb\033[31mc\177\001 \303\251\nh 1 2 0\n3 -1 0\n4 -2 0\n' > "$work/text"
 explained 'bytes that command a terminal' 0 'cost 4' 'given up: 1 of 2 soft clauses' '+ 4 = 4, line 4: 4 -2 0' $'    c a\tb?[31mc?? \303\251'
 
+# Names of variables.
+lines text 'c 1 = tea' 'c 2 = coffee  with milk' $'  c\t2\t=\t\033[1mmocha' 'c' 'h 1 2 0' '3 -1 0' '4 -2 0' 'c' 'c 3 = above' \
+    'c -1 = negated' 'c 02 = no number' 'c 0 = zero' 'c 2 =' 'c 2 : colon' 'cc 2 = cc' 'c 2= no space' 'c 4194305 = beyond the limit'
+lines result 'o 4' 's SATISFIABLE' 'v 01'
+explained 'names' 0 'cost 4' 'given up: 1 of 2 soft clauses' '+ 4 = 4, line 7: 4 -2 0' 'true: coffee with milk' 'true: ?[1mmocha'
+lines result 'o 0' 's SATISFIABLE' 'v 00'
+explained 'names, none true' 1 'cost 0' 'given up: 0 of 2 soft clauses' 'broken, hard, line 5: h 1 2 0'
+lines result 'o 7' 's SATISFIABLE' 'v 11'
+explained 'names, in the order of the comments' 0 'cost 7' 'given up: 2 of 2 soft clauses' '+ 4 = 4, line 7: 4 -2 0' '+ 3 = 7, line 6: 3 -1 0' \
+    'true: tea' 'true: coffee with milk' 'true: ?[1mmocha'
+
 # The sum of what is listed is the cost that `solve` told, and nothing is broken.
 awk -v dir="$work" -v count=60 -f tests/program/random.awk > "$work/wanted"
 while read -r number wanted; do

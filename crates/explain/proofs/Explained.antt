@@ -9,13 +9,14 @@ use Rattle.explain.specs.Explained.{AreFindings, IsSolutionText, listing_text}
 pub listed : (text : List ℕ) (p : Problem) (bits : List Bool) (told : ℕ) (f : Findings) (cost : ℕ)
     (soft : List SoftClause) → length bits ≡ p.variables → AreFindings text p bits f
     → cost ≡ cost_under p (assignment_of bits) → soft ≡ p.soft
-    → IsSolutionText text p bits told (listing_text cost told (length soft) f)
+    → IsSolutionText text p bits told
+    (listing_text text bits cost told (length soft) f)
 listed text p bits told f cost soft n found e s = record {
   listing = λ m. record {
     findings = f;
     found = found;
-    spelled = ap (λ z. listing_text z told (length soft) f) e
-        ∙ ap (λ z. listing_text (cost_under p (assignment_of bits)) told (length z) f) s;
+    spelled = ap (λ z. listing_text text bits z told (length soft) f) e
+        ∙ ap (λ z. listing_text text bits (cost_under p (assignment_of bits)) told (length z) f) s;
   };
   miscounted = λ m. absurd (m n);
 }

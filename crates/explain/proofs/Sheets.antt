@@ -61,8 +61,8 @@ leads_same {a} {b} {s} {t} {whole} k e = subst (λ z. Leads a s whole z b t) e k
 
 -- a sheet that was begun with nothing, at its end
 pub finished : {a b : Option (List ℕ)} {s t : Sheet} {x : List ℕ} (c : Option (List ℕ))
-    → s.block ≡ [] → s.has_failed ≡ false → Puts a s x b t → (t.has_failed ≡ false) × Appends b c t.block
-    → Appends a c x
+    → s.block ≡ [] → s.has_failed ≡ false → Puts a s x b t
+    → (t.has_failed ≡ false) × Appends b c t.block → Appends a c x
 finished {a} {b} {s} {t} {x} c e h p q =
     subst (λ z. Appends a c (z ++ x)) e
     (passed_whole a b c s.block t.block x (p.whole h q.0) q.1)

@@ -18,6 +18,7 @@ use Rattle.explain.specs.declared.explaining.ExplainFault.TheVariants.{Text, Res
 use Rattle.explain.specs.declared.explaining.ExplainFault.TheVariants.{Output}
 use Rattle.explain.specs.Falsified.{false_soft, most_weight}
 use Rattle.explain.specs.Explanation.{bits_line, broken_line, cost_line, count_line, paid_lines}
+use Rattle.explain.specs.Names.{names_text}
 
 -- the bits are a solution of just this cost
 pub record IsSolutionOf (p : Problem) (bits : List Bool) (cost : ℕ) : Type 0 where
@@ -39,11 +40,11 @@ pub record AreFindings (text : List ℕ) (p : Problem) (bits : List Bool) (f : F
     pub heaviest : IsNonDecreasingBy (λ g. most_weight - g.weight) f.given_up.items
     pub sum : sum_by (λ g. g.weight) f.given_up.items ≡ cost_under p (assignment_of bits)
 
-abbrev pub listing_text : ℕ → ℕ → ℕ → Findings → List ℕ
-listing_text cost told all f =
+abbrev pub listing_text : List ℕ → List Bool → ℕ → ℕ → ℕ → Findings → List ℕ
+listing_text text bits cost told all f =
     cost_line cost told ++ (count_line (length f.given_up.items) all
     ++ (paid_lines f.lines.soft.items 0 f.given_up.items
-    ++ flat_map broken_line f.lines.hard.items))
+    ++ (flat_map broken_line f.lines.hard.items ++ names_text bits text)))
 
 pub record IsListing (text : List ℕ) (p : Problem) (bits : List Bool) (told : ℕ)
     (explanation : List ℕ) : Type 0 where
@@ -51,7 +52,7 @@ pub record IsListing (text : List ℕ) (p : Problem) (bits : List Bool) (told : 
   pub found : AreFindings text p bits findings
   pub spelled :
       explanation
-      ≡ listing_text (cost_under p (assignment_of bits)) told (length p.soft) findings
+      ≡ listing_text text bits (cost_under p (assignment_of bits)) told (length p.soft) findings
 
 -- of bits that may be too few or too many
 pub record IsSolutionText (text : List ℕ) (p : Problem) (bits : List Bool) (told : ℕ)

@@ -3,5 +3,6 @@ pub mod Explained
 pub mod Explanation
 pub mod Falsified
 pub mod Judging
+pub mod Names
 pub mod Sheets
 pub mod Vectors

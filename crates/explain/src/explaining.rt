@@ -1,5 +1,6 @@
 // What a person reads: the cost, what is given up for it, and what the bits break.
-ghost use Rattle.std.specs.Prelude.{◌≡◌, ◌<◌, ◌^◌, Ok, IsTrue, ◌↔◌, IfOk, IfErr, OnOk, OnErr, length, sum_by};
+ghost use Rattle.std.specs.Prelude.{◌≡◌, ◌<◌, ◌^◌, Ok, IsTrue, ◌↔◌, IfOk, IfErr, OnOk, OnErr};
+ghost use Rattle.std.specs.Prelude.{length, sum_by};
 ghost use Rattle.std.specs.Io.KnownBytes.{Appends};
 ghost use Rattle.text.specs.Writing.{AppendsPart};
 ghost use Rattle.wcnf.specs.Wcnf.{Reads};
@@ -7,10 +8,12 @@ ghost use Rattle.lrat_result.specs.Result.{OptimumFound, report_of};
 ghost use Rattle.lrat_result.specs.Report.{reported};
 ghost use Rattle.explain.specs.Explanation.{bits_line};
 ghost use Rattle.explain.specs.Explained.{AreFindings, Explains, ExplainsTexts, IsAnswerFault};
-ghost use Rattle.explain.specs.Explained.{IsSolutionOf, IsTextFault, Leaves, LeavesRead, listing_text};
+ghost use Rattle.explain.specs.Explained.{IsSolutionOf, IsTextFault, Leaves, LeavesRead};
+ghost use Rattle.explain.specs.Explained.{listing_text};
 
 use crate::clause_lines::ClauseLines;
 use crate::falsified::{GivenUp, broken, given_up};
+use crate::names::put_names;
 use crate::putting::{put_bits, put_broken, put_cost, put_count, put_given_up};
 use crate::sheet::Sheet;
 use cnf::types::Instance;
@@ -38,8 +41,9 @@ pub enum ExplainFault {
 /// Writes for a person what a result comes to: `text` is the instance in the WCNF of the MaxSAT
 /// Evaluation 2022 or of the years before, `answer` the result's `o`, `s` and `v` lines. First the
 /// cost, then each soft clause that the bits give up, heaviest first, with its line and the comment
-/// above it; then each hard clause that they break. Answers whether the bits are a solution of
-/// just the cost that was told last; also where the result has none.
+/// above it; then each hard clause that they break; then the name of each true variable that a
+/// comment names, as `c 7 = Ann Tue`. Answers whether the bits are a solution of just the cost that
+/// was told last; also where the result has none.
 ///
 /// # Errors
 ///
@@ -172,7 +176,15 @@ fn explain_bits<W: Write>(
     instance.limits();
     let cost = instance.cost(bits);
     let is_right = is_solution(instance, bits, told);
-    match write_listing(cost, told, instance.soft().len(), &findings, writer) {
+    match write_listing(
+        text,
+        bits,
+        cost,
+        told,
+        instance.soft().len(),
+        &findings,
+        writer,
+    ) {
         Ok(()) => Ok(is_right),
         Err(_) => Err(ExplainFault::Output),
     }
@@ -201,8 +213,10 @@ fn find<'a>(
     Ok(Findings { given_up, lines })
 }
 
-/// Writes what was found.
+/// Writes what was found, and then the names of the true variables.
 fn write_listing<W: Write>(
+    text: &[u8],
+    bits: &[bool],
     cost: u64,
     told: u64,
     all: usize,
@@ -211,9 +225,9 @@ fn write_listing<W: Write>(
 ) -> Result<(), WriteFault>
     requires { sum_by (λ g. g.weight) findings.now.given_up.items < 2 ^ 64 }
     ensures ok { OnOk result (Appends (W.contents writer.old) (W.contents writer.new)
-        (listing_text cost told all findings.now)) }
+        (listing_text text.now bits.now cost told all findings.now)) }
     ensures fault { OnErr result (AppendsPart (W.contents writer.old) (W.contents writer.new)
-        (listing_text cost told all findings.now)) }
+        (listing_text text.now bits.now cost told all findings.now)) }
 {
     let given_up = findings.given_up.as_slice();
     let soft = findings.lines.soft.as_slice();
@@ -223,6 +237,7 @@ fn write_listing<W: Write>(
     put_count(&mut sheet, writer, given_up.len(), all);
     put_given_up(&mut sheet, writer, given_up, soft);
     put_broken(&mut sheet, writer, hard);
+    put_names(&mut sheet, writer, text, bits);
     sheet.finish(writer)
 }
 

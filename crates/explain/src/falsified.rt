@@ -97,7 +97,7 @@ fn is_satisfied(clause: &[Lit], bits: &[bool]) -> bool
 }
 
 /// Whether the bits make the literal true.
-fn is_true(lit: Lit, bits: &[bool]) -> bool
+pub(crate) fn is_true(lit: Lit, bits: &[bool]) -> bool
     ensures { result ≡ literal_value (assignment_of bits.now) lit }
 {
     let value = bits.get(lit.variable() as usize - 1);

@@ -5,5 +5,6 @@ mod clause_lines;
 pub mod explaining;
 pub mod falsified;
 pub mod judging;
+mod names;
 mod putting;
 mod sheet;

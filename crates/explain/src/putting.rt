@@ -144,7 +144,7 @@ fn put_comment<W: Write>(sheet: &mut Sheet, writer: &mut W, comment: &[u8])
 }
 
 /// A line, with a question mark for each byte that would command a terminal.
-fn put_shown<W: Write>(sheet: &mut Sheet, writer: &mut W, line: &[u8])
+pub(crate) fn put_shown<W: Write>(sheet: &mut Sheet, writer: &mut W, line: &[u8])
     ensures { Puts (W.contents writer.old) sheet.old (map shown line.now)
         (W.contents writer.new) sheet.new }
 {

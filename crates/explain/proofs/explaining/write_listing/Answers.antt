@@ -6,13 +6,14 @@ use Rattle.explain.specs.Explained.{listing_text}
 use Rattle.explain.proofs.Sheets.{finished, cut_off, more}
 use Rattle.explain.proofs.explaining.write_listing.Given.{Over}
 use Rattle.explain.proofs.explaining.write_listing.Goals as goal
-use Rattle.explain.proofs.explaining.write_listing.Goals.{After-put_broken}
+use Rattle.explain.proofs.explaining.write_listing.Goals.{After-put_names}
 
 -- one part after another
-put : (g : Over) (c : After-put_broken g)
+put : (g : Over) (c : After-put_names g)
     → Puts (g.W.Write.contents c.args.writer.now) c.new-sheet.result
-    (listing_text c.args.cost c.args.told c.args.all c.args.findings.now)
-    (g.W.Write.contents c.put_broken.new.writer) c.put_broken.new.sheet
+    (listing_text c.args.text.now c.args.bits.now c.args.cost c.args.told c.args.all
+    c.args.findings.now)
+    (g.W.Write.contents c.put_names.new.writer) c.put_names.new.sheet
 put g c =
     rw (
       sym c.as_slice-given_up.ensures.value,
@@ -20,16 +21,16 @@ put g c =
       sym c.as_slice-hard.ensures.value,
     )
     (more c.put_cost.ensures (more c.put_count.ensures
-    (more c.put_given_up.ensures c.put_broken.ensures)))
+    (more c.put_given_up.ensures (more c.put_broken.ensures c.put_names.ensures))))
 
 pub returns-clause-ok : goal.returns-clause-ok
 returns-clause-ok g c =
-    let whole = put g (goal.at.returns-clause-ok g c).After-put_broken in
+    let whole = put g (goal.at.returns-clause-ok g c).After-put_names in
     on_ok_weaker c.finish.result
     (finished _ c.new-sheet.ensures.empty c.new-sheet.ensures.whole whole) c.finish.ensures.ok
 
 pub returns-clause-fault : goal.returns-clause-fault
 returns-clause-fault g c =
-    let whole = put g (goal.at.returns-clause-fault g c).After-put_broken in
+    let whole = put g (goal.at.returns-clause-fault g c).After-put_names in
     on_err_weaker c.finish.result
     (cut_off c.new-sheet.ensures.empty c.new-sheet.ensures.whole whole) c.finish.ensures.fault

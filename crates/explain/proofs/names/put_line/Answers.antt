@@ -1,0 +1,7 @@
+-- One part after another.
+use Rattle.explain.proofs.Sheets.{more}
+use Rattle.explain.proofs.names.put_line.Goals as goal
+
+pub returns : goal.returns
+returns g c =
+    more c.put.ensures (more c.put-2.ensures (more c.put_shown.ensures c.put_words.ensures))
