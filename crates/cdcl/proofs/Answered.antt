@@ -14,17 +14,18 @@ use Rattle.lrat_log.specs.Steps.{IsLogOver, IsAcceptedLog, StaysLogOver}
 use Rattle.lrat_log.specs.Steps.{AddsNoEmptyClause, adds_empty_clause}
 use Rattle.lrat_log.specs.Steps.{IsLearnedOrShort, given_of}
 use Rattle.lrat_log.proofs.Laws.{accepted_log}
-use Rattle.cdcl.specs.declared.search.Search.{Search}
-use Rattle.cdcl.specs.declared.input.Input.{Input}
+use Rattle.cdcl_search.specs.declared.search.Search.{Search}
+use Rattle.cdcl_search.specs.declared.input.Input.{Input}
 use Rattle.cdcl.specs.declared.outcome.Outcome.{Outcome}
 use Rattle.cdcl.specs.declared.outcome.Outcome.TheVariants.{Sat, Unsat, Limit}
-use Rattle.cdcl.specs.Solving.{SolverState, given_to, lines_since, is_refuted}
+use Rattle.cdcl.specs.Solving.{SolverState, given_to, lines_since}
+use Rattle.cdcl_search.specs.Running.{is_refuted, Writes, IsInput, Runs, IsEnded, StaysOpen}
 use Rattle.cdcl_order.specs.Budgets.{BudgetState}
 use Rattle.cdcl.specs.declared.searching.End.{End}
 use Rattle.cdcl.specs.declared.searching.End.TheVariants.{Satisfied}
-use Rattle.cdcl.specs.Running.{Writes, IsInput, Runs, IsEnded, StaysOpen, IsSolver, IsSatisfied}
-use Rattle.cdcl.specs.Running.{IsEndOf, IsAnswer}
-use Rattle.cdcl.proofs.MoreMoves.{plain_open}
+use Rattle.cdcl.specs.Outcomes.{IsSolver, IsAnswer}
+use Rattle.cdcl.specs.Turns.{IsSatisfied, IsEndOf}
+use Rattle.cdcl.proofs.Satisfied.{plain_open}
 
 drop_front : (before more : List LogLine) → drop (length before) (before ++ more) ≡ more
 drop_front [] more = refl

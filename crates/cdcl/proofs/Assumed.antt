@@ -8,22 +8,24 @@ use Rattle.cnf.specs.Refute.{IsRefutedByHints}
 use Rattle.lrat_log.specs.Log.{LogLine, id_of}
 use Rattle.lrat_log.specs.Steps.{IsAcceptedLog, StaysLogOver, IsLogOver}
 use Rattle.cdcl_order.specs.Budgets.{BudgetState, left_of}
-use Rattle.cdcl.specs.declared.search.Search.{Search}
-use Rattle.cdcl.specs.declared.input.Input.{Input}
+use Rattle.cdcl_search.specs.declared.search.Search.{Search}
+use Rattle.cdcl_search.specs.declared.input.Input.{Input}
 use Rattle.cdcl.specs.declared.outcome.Assumed.{Assumed}
 use Rattle.cdcl.specs.declared.outcome.Assumed.TheVariants.{Sat, Unsat, Core, Open, Limit}
 use Rattle.cdcl.specs.declared.outcome.SolveFault.TheVariants.{Memory, Failed}
-use Rattle.cdcl.specs.Solving.{SolverState, SatisfyGiven, IsLiveRefuted, is_refuted}
-use Rattle.cdcl.specs.Invariant.{name_at}
-use Rattle.cdcl.specs.Running.{IsInput, IsEnded, StaysOpen, Pays, Runs, IsSolver}
-use Rattle.cdcl.specs.Assuming.{SolvesAssuming, OnSat, OnUnsat, OnCore, OnLimit}
-use Rattle.cdcl.specs.Assuming.{IsTrueUnder, IsCore}
+use Rattle.cdcl.specs.Solving.{SolverState, SatisfyGiven, IsLiveRefuted}
+use Rattle.cdcl_search.specs.Running.{is_refuted, IsInput, IsEnded, StaysOpen, Runs}
+use Rattle.cdcl_search.specs.Invariant.{name_at}
+use Rattle.cdcl.specs.Turns.{Pays}
+use Rattle.cdcl.specs.Outcomes.{IsSolver}
+use Rattle.cdcl.specs.Assuming.{SolvesAssuming, OnSat, OnUnsat, OnCore, OnLimit, IsTrueUnder}
+use Rattle.cdcl.specs.Assuming.{IsCore}
 use Rattle.cdcl.specs.Halting.{IsPlain, IsAtCore}
 use Rattle.cdcl.specs.Answering.{IsAssumed}
 use Rattle.cdcl.proofs.Answered.{seen_given, given_seen, log_now, ended_log, view_of, written_short}
 use Rattle.cdcl.proofs.Answered.{solver_runs}
 use Rattle.cdcl.proofs.Solved.{grows_by, new_since, learned_since}
-use Rattle.cdcl.proofs.Written.{writes_none}
+use Rattle.cdcl_search.proofs.Laws.{writes_none}
 
 -- what an answer says
 

@@ -27,15 +27,15 @@ use Rattle.lrat_log.specs.Log.{LogLine, id_of, number_in}
 use Rattle.lrat_log.specs.Steps.{StaysLogOver, IsBaseOf, log_live, given_of, AddsNoEmptyClause}
 use Rattle.lrat_log.specs.Steps.{adds_empty_clause, added_count}
 use Rattle.eliminate.specs.Elimination.{StackState, HoldsWhatIsLive, ExtendsBack, IsFree, extended}
-use Rattle.cdcl.specs.declared.search.Search.{Search}
-use Rattle.cdcl.specs.declared.input.Input.{Input}
-use Rattle.cdcl.specs.Solving.{is_refuted}
-use Rattle.cdcl.specs.Invariant.{name_at, is_kept_name, NamesStore, NotesUnits, zero_of, IsRunning}
-use Rattle.cdcl.specs.Running.{Runs, IsInput, tables_of}
-use Rattle.cdcl.specs.Starts.{IsLiveWithin, IsStarted}
-use Rattle.cdcl.proofs.Places.{stands}
+use Rattle.cdcl_search.specs.declared.search.Search.{Search}
+use Rattle.cdcl_search.specs.declared.input.Input.{Input}
+use Rattle.cdcl_search.specs.Running.{is_refuted, Runs, IsInput, tables_of}
+use Rattle.cdcl_search.specs.Invariant.{name_at, is_kept_name, NamesStore, NotesUnits, zero_of}
+use Rattle.cdcl_search.specs.Invariant.{IsRunning}
+use Rattle.cdcl_search.specs.Starts.{IsLiveWithin, IsStarted}
+use Rattle.clauses.proofs.Laws.{stands}
+use Rattle.cdcl_search.proofs.Laws.{live_below}
 use Rattle.cdcl.proofs.FirstNames.{names_start}
-use Rattle.cdcl.proofs.Named.{live_below}
 use Rattle.lrat_log.proofs.Laws.{base_of, clauses_given}
 
 -- Lists of places.

@@ -11,10 +11,10 @@ use Rattle.propagate.specs.Trail.{Assigned, literals_of, value_in}
 use Rattle.propagate.proofs.Laws.{NoOpposites}
 use Rattle.eliminate.specs.Elimination.{Removed, extended, IsFree}
 use Rattle.eliminate.proofs.Laws.{length-extended}
-use Rattle.cdcl.specs.Solving.{IsFrozen}
+use Rattle.cdcl_search.specs.Giving.{IsFrozen}
 use Rattle.cdcl.specs.Assuming.{IsTrueUnder}
-use Rattle.cdcl.specs.Moves.{AreValues}
-use Rattle.cdcl.proofs.MoreMoves.{extended_frozen}
+use Rattle.cdcl.specs.Outcomes.{AreValues}
+use Rattle.cdcl_search.proofs.Laws.{extended_frozen}
 use Rattle.cdcl.proofs.Satisfied.{value_by}
 
 -- a true literal tells the value of its variable

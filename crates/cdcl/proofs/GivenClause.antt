@@ -1,8 +1,8 @@
 -- One clause more among those given.
-use Rattle.std.proofs.Common.{◌≡◌, ℕ, ◌+◌, ◌-◌, ◌<◌, ◌≤◌, ◌^◌, Bool, true, false, List, [], ◌∷◌}
-use Rattle.std.proofs.Common.{◌++◌, length, take, map, get_or, sym, ◌∙◌, ap, subst, arith}
+use Rattle.std.proofs.Common.{◌≡◌, ℕ, ◌-◌, ◌<◌, ◌≤◌, ◌^◌, Bool, true, false, List, [], ◌∷◌, ◌++◌}
+use Rattle.std.proofs.Common.{length, take, map, sym, ◌∙◌, ap, subst, arith}
 use Rattle.std.specs.Prelude.{All}
-use Rattle.std.proofs.lemmas.List.{take-append-le, length-append, take_more}
+use Rattle.std.proofs.lemmas.List.{take-append-le, length-append}
 use Rattle.std.proofs.lemmas.List.Elements.{All-push, All-head, All-tail}
 use Rattle.std.proofs.lemmas.Option.{slice_get_within}
 use Rattle.cnf.specs.Literal.{Literal}
@@ -15,11 +15,12 @@ use Rattle.lrat_log.specs.declared.lines.Name.{Name}
 use Rattle.lrat_log.specs.declared.lines.Name.TheVariants.{Formula}
 use Rattle.lrat_log.specs.Log.{LogLine, number_in}
 use Rattle.lrat_log.specs.Steps.{IsBaseOf, StaysLogOver, given_of}
-use Rattle.cdcl.specs.declared.search.Search.{Search}
-use Rattle.cdcl.specs.declared.input.Input.{Input}
-use Rattle.cdcl.specs.Solving.{IsFreshName, IsFrozen}
-use Rattle.cdcl.specs.Running.{IsInput, GivesOne, Takes, Runs, IsSolver}
-use Rattle.cdcl.proofs.MoreGiven.{log_given, based_given}
+use Rattle.cdcl_search.specs.declared.search.Search.{Search}
+use Rattle.cdcl_search.specs.declared.input.Input.{Input}
+use Rattle.cdcl_search.specs.Giving.{IsFreshName, IsFrozen, GivesOne, Takes}
+use Rattle.cdcl_search.specs.Running.{IsInput, Runs}
+use Rattle.cdcl.specs.Outcomes.{IsSolver}
+use Rattle.cdcl_search.proofs.Laws.{log_given, based_given}
 
 pub frozen_small : (frozen : List Bool) (c : List Literal) → All (IsFrozen frozen) c
     → All (λ l. 0 < l.variable) c → greatest_variable c ≤ length frozen
@@ -32,14 +33,6 @@ frozen_small frozen (l ∷ c) fixed ones =
     frozen_small frozen c (All-tail (IsFrozen frozen) l c fixed)
     (All-tail (λ (k : Literal). 0 < k.variable) l c ones) in
     omega arith
-
-pub named_more : (c : List Literal) (i : ℕ) (k : Literal) → i < length c → k ≡ get_or c i k
-    → 0 < k.variable → All (λ l. 0 < l.variable) (take i c)
-    → All (λ l. 0 < l.variable) (take (i + 1) c)
-named_more c i k lt at one all =
-    subst (All (λ (l : Literal). 0 < l.variable)) (sym (take_more c i k lt))
-    (All-push (λ (l : Literal). 0 < l.variable) (take i c) (get_or c i k) all
-    (subst (λ (l : Literal). 0 < l.variable) at one))
 
 pub input_gives : (p q : Input) (n : Name) (c : List Literal) → IsInput p → GivesOne p q n c
     → IsFreshName p.given n → has_repeat c ≡ false → has_opposites c ≡ false

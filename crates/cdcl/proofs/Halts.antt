@@ -13,14 +13,14 @@ use Rattle.lrat_log.specs.Log.{LogLine}
 use Rattle.lrat_log.proofs.Laws.{when_err}
 use Rattle.cdcl_order.specs.Budgets.{BudgetState}
 use Rattle.cdcl_order.specs.Orders.{IsOpenVariable}
-use Rattle.cdcl.specs.declared.input.Input.{Input}
-use Rattle.cdcl.specs.declared.search.Search.{Search}
+use Rattle.cdcl_search.specs.declared.input.Input.{Input}
+use Rattle.cdcl_search.specs.declared.search.Search.{Search}
 use Rattle.cdcl.specs.declared.assuming.Halt.{Halt}
 use Rattle.propagate.proofs.Laws.{within_all}
-use Rattle.cdcl.specs.Solving.{IsFrozen}
+use Rattle.cdcl_search.specs.Giving.{IsFrozen}
 use Rattle.cdcl.specs.Assuming.{IsTrueUnder}
-use Rattle.cdcl.specs.Running.{IsInput, Runs, Writes, Pays, StaysOpen}
-use Rattle.cdcl.specs.Moves.{GoesOn}
+use Rattle.cdcl_search.specs.Running.{IsInput, Runs, Writes, StaysOpen}
+use Rattle.cdcl.specs.Turns.{Pays, GoesOn}
 use Rattle.cdcl.proofs.GivenClause.{frozen_small}
 use Rattle.cdcl.specs.Halting.{AreKnown, AreTrue, Halts, TurnsOrHalts, IsHaltOf}
 use Rattle.cdcl.proofs.Rounds.{pays_none, pays_join, fewer_before}

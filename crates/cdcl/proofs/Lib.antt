@@ -1,40 +1,10 @@
-pub mod Chains
-pub mod LogLines
-pub mod Places
-pub mod Named
-pub mod Zero
-pub mod Quiet
-pub mod Units
-pub mod Keeping
-pub mod Satisfied
-pub mod LearnedLines
-pub mod ZeroLines
-pub mod Moves
-pub mod MoreGiven
-pub mod MoreMoves
-pub mod Conflicts
-pub mod Compacted
-pub mod MovingNames
-pub mod Gathering
-pub mod FirstNames
-pub mod Placing
-pub mod Written
-pub mod UnitLines
-pub mod HintNames
-pub mod NotedUnits
-pub mod EngineMoves
-pub mod EmptyLine
-pub mod Started
-pub mod Lessons
-pub mod Taking
-pub mod FirstRun
-pub mod Answered
-pub mod GivenList
-pub mod GivenClause
-pub mod Rounds
-pub mod CoreLines
-pub mod Halts
-pub mod Assumed
-pub mod Frozen
-pub mod Deleting
-pub mod Solved
+mod Satisfied
+mod FirstNames
+mod FirstRun
+mod Answered
+mod GivenClause
+mod Rounds
+mod Halts
+mod Assumed
+mod Frozen
+mod Solved

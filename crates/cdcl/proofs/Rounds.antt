@@ -10,13 +10,12 @@ use Rattle.cnf.proofs.Laws.{one_if_le}
 use Rattle.cdcl_order.specs.Budgets.{BudgetState, left_of}
 use Rattle.cdcl_order.specs.Policies.{PolicyState}
 use Rattle.lrat_log.specs.Log.{LogLine, Given}
-use Rattle.cdcl.specs.declared.input.Input.{Input}
-use Rattle.cdcl.specs.declared.search.Search.{Search}
+use Rattle.cdcl_search.specs.declared.input.Input.{Input}
+use Rattle.cdcl_search.specs.declared.search.Search.{Search}
 use Rattle.cdcl.specs.declared.searching.End.{End}
-use Rattle.cdcl.specs.Running.{Runs, Writes, Pays, StaysOpen, IsEndOf}
-use Rattle.cdcl.specs.Moves.{rounds_left, GoesOn}
-use Rattle.cdcl.specs.Turns.{Ends, Turns}
-use Rattle.cdcl.proofs.Written.{writes_none, writes_join}
+use Rattle.cdcl_search.specs.Running.{Runs, Writes, StaysOpen}
+use Rattle.cdcl.specs.Turns.{Pays, IsEndOf, rounds_left, GoesOn, Ends, Turns}
+use Rattle.cdcl_search.proofs.Laws.{writes_none, writes_join}
 
 -- What is paid.
 

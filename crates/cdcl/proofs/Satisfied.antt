@@ -2,8 +2,8 @@
 -- clauses.
 use Rattle.std.proofs.Common.{◌≡◌, ℕ, zero, suc, ◌+◌, ◌-◌, ◌<◌, ◌≤◌, Bool, true, false, not, List}
 use Rattle.std.proofs.Common.{[], ◌∷◌, length, take, get_or, Option, Some, None, ◌⊎◌, inl, inr}
-use Rattle.std.proofs.Common.{refl, sym, ◌∙◌, ap, subst, arith}
-use Rattle.std.specs.Prelude.{All, if◌then◌else◌}
+use Rattle.std.proofs.Common.{refl, sym, ◌∙◌, ap, subst, arith, map}
+use Rattle.std.specs.Prelude.{All, if◌then◌else◌, Contains}
 use Rattle.std.proofs.lemmas.Bool.{or_left, or_right, or_cases}
 use Rattle.std.proofs.lemmas.List.Elements.{All-head, All-tail}
 use Rattle.std.proofs.lemmas.List.{get_or-take, length-take-le}
@@ -11,13 +11,23 @@ use Rattle.std.proofs.lemmas.Option.{none-some, same_Some, slice_get-get_or, unw
 use Rattle.cnf.specs.Literal.{Literal, Assignment, negation, literal_value}
 use Rattle.cnf.specs.Clause.{clause_value, Satisfies, contains_literal, greatest_variable}
 use Rattle.cnf.specs.Bits.{assignment_of, Extends}
-use Rattle.cnf.specs.Refute.{IsFalseUnder}
+use Rattle.cnf.specs.Refute.{IsFalseUnder, IsRefutedByHints}
 use Rattle.clauses.specs.Slots.{Slots, clause_at}
 use Rattle.propagate.specs.Trail.{Assigned, literals_of, value_in}
 use Rattle.propagate.specs.Fits.{IsWithin}
 use Rattle.analyze.specs.Analyzer.{IsQuiet}
-use Rattle.cdcl.specs.Moves.{AreValues}
+use Rattle.cdcl.specs.Outcomes.{AreValues}
 use Rattle.cdcl_order.specs.Orders.{positive}
+use Rattle.cnf.specs.Formula.{IsFormulaClause}
+use Rattle.propagate.specs.Watches.{EngineState}
+use Rattle.lrat_log.specs.declared.lines.Name.{Name}
+use Rattle.lrat_log.specs.Log.{LogLine, Given}
+use Rattle.lrat_log.specs.Steps.{log_live}
+use Rattle.eliminate.specs.Elimination.{StackState, extended}
+use Rattle.cdcl.specs.Solving.{SatisfyGiven, IsLiveRefuted}
+use Rattle.cdcl_search.specs.Invariant.{Tables, NamesStore, KeepsPlain, IsRunning}
+use Rattle.clauses.proofs.Laws.{not_refuted}
+use Rattle.cdcl_search.proofs.Laws.{value_agrees}
 
 pub value_by : (a b : Bool) (v : Bool)
     → ◌≡◌ {A = Option Bool} (if a then Some true else if b then Some false else None) (Some v)
@@ -103,10 +113,6 @@ live_satisfied slots T bits values quiet small r c e =
 abbrev AgreeUpTo : ℕ → Assignment → Assignment → Type 0
 AgreeUpTo n t u = (v : ℕ) → 0 < v → v ≤ n → t v ≡ u v
 
-pub value_agrees : (t u : Assignment) (l : Literal) → t l.variable ≡ u l.variable
-    → literal_value t l ≡ literal_value u l
-value_agrees t u l e = ap (λ b. if l.negated then not b else b) e
-
 pub satisfied_agrees : (n : ℕ) (t u : Assignment) (c : List Literal) → AgreeUpTo n t u
     → All (λ l. 0 < l.variable) c → greatest_variable c ≤ n → Satisfies t c → Satisfies u c
 satisfied_agrees n t u [] agree ones small s = s
@@ -130,3 +136,40 @@ extends_agrees n bits t within ext (suc v) one low =
     bit_at bits v ∙ sym (get_or-take n bits v false low)
     ∙ sym (ext v (get_or (take n bits) v false)
     (slice_get-get_or (take n bits) v false (omega arith)))
+
+-- The answers.
+
+-- the bits of a quiet trail without open variables, on the way back, satisfy all that was given
+pub answer_sat : (e : EngineState) (slots : Slots) (stack : StackState) (t : Tables)
+    (frozen : List Bool) (first : ℕ) (given : Given) (ls : List LogLine) (bits : List Bool)
+    → IsRunning e slots stack t frozen first given ls → IsQuiet slots (literals_of e.trail)
+    → length bits ≡ stack.variables → AreValues e.trail bits
+    → All (λ g. IsFormulaClause (length frozen) g.1) given
+    → length frozen ≤ length (extended stack.removed bits)
+    → SatisfyGiven (take (length frozen) (extended stack.removed bits)) given
+answer_sat e slots stack t frozen first given ls bits r quiet long values small wide u ext =
+    let live = live_satisfied slots e.trail bits values quiet (λ q c at.
+    let w = r.searches.fits.attached q (r.searches.all_attached q (c, at)) in
+    let same : w.0 ≡ c = same_Some w.0 c (sym w.1 ∙ at) in
+    let size : e.variables ≡ length bits = r.variables ∙ sym long in
+    subst (λ n. IsWithin n c) size (subst (IsWithin e.variables) same w.2.0)) in
+    let all = r.recorded.back bits long (λ q c at keeps. live q c at) in
+    λ k d lt.
+    satisfied_agrees (length frozen) (assignment_of (extended stack.removed bits)) u
+    (get_or given k d).1
+    (extends_agrees (length frozen) (extended stack.removed bits) u wide ext)
+    (small k d lt).from_one (small k d lt).small (all k d lt)
+
+-- hints refute nothing where no clause is false or unit
+pub answer_open : (e : EngineState) (slots : Slots) (names : List Name) (given : Given)
+    (ls : List LogLine) → NamesStore slots names given ls → IsQuiet slots (literals_of e.trail)
+    → IsLiveRefuted given ls → ⊥
+answer_open e slots names given ls n quiet w =
+    not_refuted (log_live given w.0 ls) (literals_of e.trail)
+    (λ i c at. let z = (n.live w.0 w.1).only i c at in quiet z.0 c z.1) w.2 w.3
+
+-- nor is the empty clause live there
+pub plain_open : (slots : Slots) (A : List Literal) (first : ℕ) (given : Given)
+    → KeepsPlain slots first given → IsQuiet slots A
+    → IsRefutedByHints (map (λ g. g.1) (take first given)) ⊎ Contains (map (λ g. g.1) given) [] → ⊥
+plain_open slots A first given plain quiet h = let w = plain h in (quiet w.0 [] w.1).0 tt

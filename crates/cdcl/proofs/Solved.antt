@@ -8,18 +8,19 @@ use Rattle.lrat_log.specs.Log.{LogLine}
 use Rattle.lrat_log.specs.Steps.{IsAcceptedLog, StaysLogOver, AddsNoEmptyClause, IsBaseOf}
 use Rattle.lrat_log.specs.Steps.{LearnsNew, nothing_exempt, learned_count}
 use Rattle.cdcl_order.specs.Budgets.{BudgetState, left_of}
-use Rattle.cdcl.specs.declared.search.Search.{Search}
-use Rattle.cdcl.specs.declared.input.Input.{Input}
+use Rattle.cdcl_search.specs.declared.search.Search.{Search}
+use Rattle.cdcl_search.specs.declared.input.Input.{Input}
 use Rattle.cdcl.specs.declared.outcome.Outcome.{Outcome}
 use Rattle.cdcl.specs.declared.outcome.Outcome.TheVariants.{Sat, Unsat, Limit}
 use Rattle.cdcl.specs.declared.outcome.SolveFault.{SolveFault}
 use Rattle.cdcl.specs.declared.outcome.SolveFault.TheVariants.{Memory, Failed}
-use Rattle.cdcl.specs.Solving.{SolverState, Solves, lines_since, is_refuted, OnSat, OnUnsat}
-use Rattle.cdcl.specs.Solving.{OnLimit, SatisfyGiven, IsLiveRefuted, Answer, answer_count}
-use Rattle.cdcl.specs.Running.{Writes, IsInput, IsAnswer, IsEnded, PaysFor, StaysOpen}
+use Rattle.cdcl.specs.Solving.{SolverState, Solves, lines_since, OnSat, OnUnsat, OnLimit}
+use Rattle.cdcl.specs.Solving.{SatisfyGiven, IsLiveRefuted, Answer, answer_count}
+use Rattle.cdcl_search.specs.Running.{is_refuted, Writes, IsInput, IsEnded, StaysOpen}
+use Rattle.cdcl.specs.Outcomes.{IsAnswer, PaysFor}
 use Rattle.cdcl.proofs.Answered.{seen_given, given_seen, log_now, ended_log, plain_unsat, view_of}
 use Rattle.cdcl.proofs.Answered.{answered_log, since_more, written_short}
-use Rattle.cdcl.proofs.Written.{writes_none}
+use Rattle.cdcl_search.proofs.Laws.{writes_none}
 
 -- what an answer says
 

@@ -3,11 +3,11 @@ use Rattle.std.specs.Prelude.{◌≡◌, List}
 use Rattle.cnf.specs.Literal.{Literal}
 use Rattle.lrat_log.specs.Log.{LogLine}
 use Rattle.cdcl_order.specs.Budgets.{BudgetState, left_of}
-use Rattle.cdcl.specs.declared.input.Input.{Input}
-use Rattle.cdcl.specs.declared.search.Search.{Search}
+use Rattle.cdcl_search.specs.declared.input.Input.{Input}
+use Rattle.cdcl_search.specs.declared.search.Search.{Search}
 use Rattle.cdcl.specs.declared.outcome.Assumed.{Assumed}
 use Rattle.cdcl.specs.declared.outcome.Assumed.TheVariants.{Sat, Unsat, Core, Open, Limit}
-use Rattle.cdcl.specs.Running.{Runs, IsEnded}
+use Rattle.cdcl_search.specs.Running.{Runs, IsEnded}
 use Rattle.cdcl.specs.Halting.{AreSatisfying, IsAtCore}
 
 abbrev pub IsAssumed : Search → Input → List LogLine → BudgetState → List Literal → Assumed → Type 0

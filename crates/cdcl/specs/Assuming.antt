@@ -1,7 +1,7 @@
 -- Answers of a search under assumptions.
 use Rattle.std.specs.Prelude.{◌≡◌, ℕ, ◌+◌, ◌-◌, ◌<◌, not, true, false, Bool, List, ◌++◌, length}
-use Rattle.std.specs.Prelude.{map, Some}
-use Rattle.std.specs.Prelude.{Result, Ok, Err, IsErr, OnOk, All, Contains, slice_get, ⊤, ◌↔◌}
+use Rattle.std.specs.Prelude.{map, Some, Result, Ok, Err, IsErr, OnOk, All, Contains, slice_get, ⊤}
+use Rattle.std.specs.Prelude.{◌↔◌}
 use Rattle.cnf.specs.Literal.{Literal, negation}
 use Rattle.cnf.specs.Clause.{has_repeat, is_subset}
 use Rattle.lrat_log.specs.Log.{LogLine, Given}
@@ -12,8 +12,9 @@ use Rattle.cdcl.specs.declared.outcome.Assumed.TheVariants.{Sat, Unsat, Core, Op
 use Rattle.cdcl.specs.declared.outcome.SolveFault.{SolveFault}
 use Rattle.cdcl.specs.declared.outcome.SolveFault.TheVariants.{Failed}
 use Rattle.cdcl_order.specs.Budgets.{BudgetState, left_of}
-use Rattle.cdcl.specs.Solving.{SolverState, SameGiven, SatisfyGiven, given_to, is_refuted}
-use Rattle.cdcl.specs.Solving.{IsPlainlyRefuted, IsLiveRefuted, lines_since}
+use Rattle.cdcl.specs.Solving.{SolverState, SameGiven, SatisfyGiven, given_to, IsPlainlyRefuted}
+use Rattle.cdcl.specs.Solving.{IsLiveRefuted, lines_since}
+use Rattle.cdcl_search.specs.Running.{is_refuted}
 
 abbrev pub AssumedAnswer : Type 0
 AssumedAnswer = Result Assumed SolveFault

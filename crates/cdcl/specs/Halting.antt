@@ -1,21 +1,15 @@
 -- How a search under assumptions ends, and what its parts promise.
-use Rattle.std.specs.Prelude.{◌≡◌, ℕ, ◌+◌, ◌<◌, ◌≤◌, Bool, true, false, List, [], length, map}
-use Rattle.std.specs.Prelude.{take, Option, Some, None, ◌⊎◌, Result, IfOk, OnErr, IfSome, IfNone}
-use Rattle.std.specs.Prelude.{All, Contains, ⊤}
-use Rattle.cnf.specs.Literal.{Literal, negation}
-use Rattle.cnf.specs.Clause.{has_repeat, is_subset}
+use Rattle.std.specs.Prelude.{◌≡◌, ℕ, ◌+◌, ◌<◌, ◌≤◌, Bool, true, false, List, [], length, map, take}
+use Rattle.std.specs.Prelude.{Option, Some, None, ◌⊎◌, Result, IfOk, OnErr, IfSome, IfNone, All}
+use Rattle.std.specs.Prelude.{Contains, ⊤}
+use Rattle.cnf.specs.Literal.{Literal}
 use Rattle.cnf.specs.Refute.{IsRefutedByHints}
-use Rattle.clauses.specs.Slots.{Slots, clause_at}
 use Rattle.propagate.specs.Trail.{Assigned, value_in}
-use Rattle.analyze.specs.declared.analyzer.FinalClause.{FinalClause}
-use Rattle.analyze.specs.Analyzer.{IsFalsified, IsFinal}
 use Rattle.lrat_log.specs.Log.{LogLine}
 use Rattle.cdcl_order.specs.Budgets.{BudgetState, left_of}
 use Rattle.cdcl_order.specs.Orders.{AreClosed}
-use Rattle.cdcl.specs.declared.input.Input.{Input}
-use Rattle.cdcl.specs.declared.search.Search.{Search}
-use Rattle.cdcl.specs.declared.cores.Refusal.{Refusal}
-use Rattle.cdcl.specs.declared.cores.Refusal.TheVariants.{Shown, Follows, Unknown}
+use Rattle.cdcl_search.specs.declared.input.Input.{Input}
+use Rattle.cdcl_search.specs.declared.search.Search.{Search}
 use Rattle.cdcl.specs.declared.assuming.Halt.{Halt}
 use Rattle.cdcl.specs.declared.assuming.Halt.TheVariants.{Satisfied, Refuted, Core, Open, Spent}
 use Rattle.cdcl.specs.declared.assuming.Choice.{Choice}
@@ -24,8 +18,9 @@ use Rattle.cdcl.specs.declared.assuming.Untrue.{Untrue}
 use Rattle.cdcl.specs.declared.assuming.Untrue.TheVariants.{Unassigned, Falsified, NoneLeft}
 use Rattle.cdcl.specs.Solving.{SatisfyGiven}
 use Rattle.cdcl.specs.Assuming.{IsTrueUnder}
-use Rattle.cdcl.specs.Running.{Runs, Writes, Pays, StaysOpen, IsEnded, IsSatisfied}
-use Rattle.cdcl.specs.Moves.{GoesOn}
+use Rattle.cdcl_search.specs.Running.{Runs, StaysOpen, IsEnded}
+use Rattle.cdcl.specs.Turns.{Pays, IsSatisfied, GoesOn}
+use Rattle.cdcl_search.specs.Cores.{IsShown}
 
 -- literals of so many variables
 pub record AreKnown (variables : ℕ) (ls : List Literal) : Type 0 where
@@ -40,59 +35,6 @@ abbrev pub IsUntrue : List Assigned → List Literal → Untrue → Type 0
 IsUntrue T assumptions (Unassigned l) = Contains assumptions l × (value_in T l ≡ None)
 IsUntrue T assumptions (Falsified l) = Contains assumptions l × (value_in T l ≡ Some false)
 IsUntrue T assumptions NoneLeft = ⊤
-
--- Cores.
-
--- a live clause of the store has no literals but those of c
-pub record HasSubset (slots : Slots) (c : List Literal) : Type 0 where
-  pub reference : ℕ
-  pub clause : List Literal
-  pub live : clause_at slots reference ≡ Some clause
-  pub within : is_subset clause c ≡ true
-
--- and none has
-abbrev pub HasNoSubset : Slots → List Literal → Type 0
-HasNoSubset slots c = (r : ℕ) (d : List Literal) → clause_at slots r ≡ Some d
-    → is_subset d c ≡ false
-
--- some of the assumptions, each once
-pub record AreAssumed (assumptions core : List Literal) : Type 0 where
-  pub some : 0 < length core
-  pub assumed : All (Contains assumptions) core
-  pub once : has_repeat core ≡ false
-
--- they cannot hold together, as a live clause shows
-pub record IsShown (slots : Slots) (assumptions core : List Literal) : Type 0 where
-  pub assumed : AreAssumed assumptions core
-  pub shown : HasSubset slots (map negation core)
-
--- the clause explains why a literal is false, and no live clause is a subset of it
-pub record IsCoreClause (s : Search) (clause : FinalClause) : Type 0 where
-  pub literal : Literal
-  pub reason : ℕ
-  pub falsified : IsFalsified (s.engine).trail literal reason
-  pub small : literal.variable ≤ (s.engine).variables
-  pub final : IsFinal (s.store).slots (s.engine).trail literal reason clause
-  pub new : HasNoSubset (s.store).slots clause.lits.items
-
--- they cannot hold together, as the clause shows
-pub record IsExplained (s : Search) (assumptions core : List Literal)
-    (clause : FinalClause) : Type 0 where
-  pub assumed : AreAssumed assumptions core
-  pub lesson : IsCoreClause s clause
-  pub negated : map negation core ≡ clause.lits.items
-
-abbrev pub IsRefusal : Search → List Literal → Refusal → Type 0
-IsRefusal s assumptions (Shown core) = IsShown (s.store).slots assumptions core.items
-IsRefusal s assumptions (Follows core clause) = IsExplained s assumptions core.items clause
-IsRefusal s assumptions Unknown = ⊤
-
--- The clause of a core was learned.
-pub record LearnsCore (old new : Search) (p : Input) (before after : List LogLine)
-    (c : List Literal) : Type 0 where
-  pub runs : Runs new p after
-  pub writes : Writes p.given before after 1
-  pub has : HasSubset (new.store).slots c
 
 -- How a search ends.
 

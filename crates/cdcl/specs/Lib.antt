@@ -1,12 +1,6 @@
 pub mod Solving
 pub mod Assuming
-pub mod GivenNumbers
-pub mod Invariant
-pub mod Hinting
-pub mod Running
-pub mod Starts
-pub mod Moves
-pub mod Deletions
 pub mod Turns
+pub mod Outcomes
 pub mod Halting
 pub mod Answering

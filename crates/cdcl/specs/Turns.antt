@@ -1,21 +1,54 @@
--- What the parts of a search promise. Where memory was refused, its log stays open.
-use Rattle.std.specs.Prelude.{◌≡◌, ℕ, ◌+◌, ◌≤◌, List, [], ◌∷◌, ◌++◌, length, slice_index_or, Option}
-use Rattle.std.specs.Prelude.{Some, Bool, true, Result, IfOk, OnOk, OnErr, IfSome, IfNone}
-use Rattle.clauses.specs.Slots.{IsLive}
-use Rattle.propagate.specs.Doomed.{is_doomed}
+-- How a search ends, and what a turn of it promises. Where memory was refused, its log stays open.
+use Rattle.std.specs.Prelude.{◌≡◌, ℕ, ◌+◌, List, length, Option, Result, IfOk, OnErr, IfSome}
+use Rattle.std.specs.Prelude.{if◌then◌else◌, IfNone, ◌<◌, ◌-◌, ◌*◌}
 use Rattle.propagate.specs.Trail.{literals_of}
-use Rattle.propagate.specs.Fits.{IsFalseClause}
 use Rattle.analyze.specs.Analyzer.{IsQuiet}
-use Rattle.cdcl_order.specs.Budgets.{BudgetState}
-use Rattle.cdcl_order.specs.Orders.{positive}
-use Rattle.lrat_log.specs.Log.{LogLine}
-use Rattle.cdcl.specs.declared.input.Input.{Input}
-use Rattle.cdcl.specs.declared.search.Search.{Search}
+use Rattle.cdcl_order.specs.Budgets.{BudgetState, left_of}
+use Rattle.lrat_log.specs.Log.{LogLine, Given}
+use Rattle.cdcl_search.specs.declared.input.Input.{Input}
+use Rattle.cdcl_search.specs.declared.search.Search.{Search}
 use Rattle.cdcl.specs.declared.searching.End.{End}
-use Rattle.cdcl.specs.Invariant.{zero_of}
-use Rattle.cdcl.specs.Running.{Runs, Writes, Pays, StaysOpen, IsEndOf}
-use Rattle.cdcl.specs.Moves.{GoesOn}
-use Rattle.cdcl.specs.Deletions.{IsDeleting}
+use Rattle.cdcl_search.specs.Running.{Runs, Writes, StaysOpen, IsEnded}
+use Rattle.cnf.specs.Literal.{Literal}
+use Rattle.cdcl_order.specs.Orders.{AreClosed}
+use Rattle.cdcl.specs.declared.searching.End.TheVariants.{Satisfied, Refuted, Spent}
+
+-- what was written, and that a unit was paid for each learned line
+abbrev pub Pays : Given → List LogLine → List LogLine → BudgetState → BudgetState → Type 0
+Pays given before after old new = (n : ℕ) × Writes given before after n
+    × (new ≡ record old { learned = old.learned + n })
+
+-- each variable has a value, no clause is false, and the answer can be paid for
+pub record IsSatisfied (s : Search) (p : Input) (ls : List LogLine)
+    (b : BudgetState) : Type 0 where
+  pub runs : Runs s p ls
+  pub quiet : IsQuiet (s.store).slots (literals_of (s.engine).trail)
+  pub closed : AreClosed (s.engine).trail (s.engine).variables
+  pub left : 0 < left_of b
+
+-- nothing is left of the budget, and hints do not refute what is live
+pub record IsSpent (s : Search) (p : Input) (ls : List LogLine) (b : BudgetState) : Type 0 where
+  pub runs : Runs s p ls
+  pub quiet : (A : List Literal) × IsQuiet (s.store).slots A
+  pub spent : left_of b ≡ 0
+
+abbrev pub IsEndOf : Search → Input → List LogLine → BudgetState → End → Type 0
+IsEndOf s p ls b Satisfied = IsSatisfied s p ls b
+IsEndOf s p ls b Refuted = IsEnded p ls
+IsEndOf s p ls b Spent = IsSpent s p ls b
+
+-- Rounds of a search: each learns and pays a unit, starts over after something was learned, or
+-- makes one more literal true.
+abbrev pub rounds_left : Search → BudgetState → ℕ
+rounds_left s b =
+    (2 * left_of b + (if (s.policy).has_learned then 1 else 0)) * ((s.engine).variables + 2)
+    + ((s.engine).variables + 1 - length (s.engine).trail)
+
+-- after a round the search goes on, and fewer are left
+pub record GoesOn (old new : Search) (p : Input) (ls : List LogLine)
+    (before after : BudgetState) : Type 0 where
+  pub runs : Runs new p ls
+  pub fewer : rounds_left new after < rounds_left old before
 
 -- A search ends as it answers, and has paid for each learned line.
 pub record Ends {E : Type 0} (result : Result End E) (new : Search) (p : Input)
@@ -31,60 +64,3 @@ pub record Turns {E : Type 0} (result : Result (Option End) E) (old new : Search
   pub goes : IfOk result (λ next. IfNone next (GoesOn old new p after had left))
   pub pays : Pays p.given before after had left
   pub err : OnErr result (StaysOpen p after)
-
--- A part of a turn learns nothing, and leaves what is said of it.
-pub record LearnsNothing {A E : Type 0} (result : Result A E) (Left : Type 0) (p : Input)
-    (before after : List LogLine) : Type 0 where
-  pub leaves : OnOk result Left
-  pub writes : Writes p.given before after 0
-  pub err : OnErr result (StaysOpen p after)
-
--- A clause was learned.
-pub record Learns (old new : Search) (p : Input) (before after : List LogLine) : Type 0 where
-  pub runs : Runs new p after
-  pub variables : (new.engine).variables ≡ (old.engine).variables
-  pub writes : Writes p.given before after 1
-
--- The next literal of level 0 got a clause of its own.
-pub record NotesNext (old new : Search) (p : Input) (before after : List LogLine) : Type 0 where
-  pub runs : Runs new p after
-  pub noted : new.noted ≡ old.noted + 1
-  pub trail : (new.engine).trail ≡ (old.engine).trail
-  pub variables : (new.engine).variables ≡ (old.engine).variables
-  pub policy : new.policy ≡ old.policy
-  pub slots : (new.store).slots ≡ (old.store).slots
-      ++ Some (slice_index_or (literals_of (old.engine).trail) old.noted (positive 0) ∷ []) ∷ []
-  pub writes : Writes p.given before after 0
-
--- Clauses of one true literal came: what was quiet or false is so still.
-pub record KeepsTrail (old new : Search) (p : Input) (ls : List LogLine) : Type 0 where
-  pub runs : Runs new p ls
-  pub trail : (new.engine).trail ≡ (old.engine).trail
-  pub variables : (new.engine).variables ≡ (old.engine).variables
-  pub policy : new.policy ≡ old.policy
-  pub quiet : IsQuiet (old.store).slots (literals_of (old.engine).trail)
-      → IsQuiet (new.store).slots (literals_of (new.engine).trail)
-  pub false_stays : (r : ℕ) → IsFalseClause (old.store).slots old.engine r
-      → IsFalseClause (new.store).slots new.engine r
-
--- And each literal of level 0 has one.
-pub record NotesAll (old new : Search) (p : Input) (ls : List LogLine) : Type 0 where
-  pub keeps : KeepsTrail old new p ls
-  pub all : length (zero_of (new.engine).trail) ≤ new.noted
-
--- A clause that was detached was deleted, where it is marked and live.
-pub record Deletes (old new : Search) (p : Input) (before after : List LogLine)
-    (doomed : List Bool) (reference : ℕ) : Type 0 where
-  pub deleting : IsDeleting new p after doomed
-  pub gone : is_doomed doomed reference ≡ true → IsLive (new.store).slots reference → ⊥
-  pub fewer : (r : ℕ) → IsLive (new.store).slots r → IsLive (old.store).slots r
-  pub engine : new.engine ≡ old.engine
-  pub policy : new.policy ≡ old.policy
-  pub writes : Writes p.given before after 0
-
--- Learned clauses were deleted: as many literals are true.
-pub record Reduces (old new : Search) (p : Input) (ls : List LogLine) : Type 0 where
-  pub runs : Runs new p ls
-  pub long : length (new.engine).trail ≡ length (old.engine).trail
-  pub variables : (new.engine).variables ≡ (old.engine).variables
-  pub policy : new.policy ≡ old.policy

@@ -5,12 +5,13 @@ ghost use Rattle.propagate.specs.Trail.{literals_of, value_in};
 ghost use Rattle.analyze.specs.Analyzer.{IsQuiet};
 ghost use Rattle.cdcl_order.specs.Orders.{AreClosed};
 ghost use Rattle.lrat_log.specs.Log.{LogLine};
-ghost use Rattle.cdcl.specs.Solving.{SatisfyGiven, IsFrozen};
+ghost use Rattle.cdcl.specs.Solving.{SatisfyGiven};
+ghost use Rattle.cdcl_search.specs.Giving.{IsFrozen};
 ghost use Rattle.cdcl.specs.Assuming.{IsTrueUnder};
-ghost use Rattle.cdcl.specs.Running.{Runs, IsInput};
+ghost use Rattle.cdcl_search.specs.Running.{Runs, IsInput};
 
-use crate::input::Input;
-use crate::search::Search;
+use cdcl_search::input::Input;
+use cdcl_search::search::Search;
 use cnf::types::Lit;
 use std::alloc::AllocError;
 

@@ -7,17 +7,18 @@ ghost use Rattle.propagate.specs.Trail.{literals_of};
 ghost use Rattle.propagate.specs.Fits.{IsFalseClause};
 ghost use Rattle.analyze.specs.Analyzer.{IsQuiet};
 ghost use Rattle.cdcl.specs.Solving.{IsLiveRefuted};
-ghost use Rattle.cdcl.specs.Running.{Runs};
-ghost use Rattle.cdcl.specs.Turns.{Ends, Turns, LearnsNothing, NotesAll};
+ghost use Rattle.cdcl_search.specs.Running.{Runs};
+ghost use Rattle.cdcl.specs.Turns.{Ends, Turns};
+ghost use Rattle.cdcl_search.specs.Parts.{LearnsNothing, NotesAll};
 ghost use Rattle.cdcl.specs.declared.searching.End.TheVariants.{Refuted};
 
 use crate::budget::Budget;
-use crate::input::Input;
-use crate::learning::learn;
-use crate::noting::{note_units, refute};
-use crate::reducing::reduce;
-use crate::search::Search;
 use crate::watch::Watch;
+use cdcl_search::input::Input;
+use cdcl_search::learning::learn;
+use cdcl_search::noting::{note_level, refute};
+use cdcl_search::reducing::reduce;
+use cdcl_search::search::Search;
 use clauses::store::CRef;
 use lrat_log::sink::Sink;
 use std::alloc::AllocError;
@@ -151,20 +152,4 @@ fn on_quiet<S: Sink>(
     }
     reduce(search, input, sink)?;
     Ok(None)
-}
-
-/// Writes down what is true at level 0, if that is the current level; above it that is done.
-pub(crate) fn note_level<S: Sink>(
-    search: &mut Search,
-    input: &Input,
-    sink: &mut S,
-) -> Result<(), AllocError>
-    requires runs { Runs search.old input.now (S.lines sink.old) }
-    ensures { LearnsNothing result (NotesAll search.old search.new input.now (S.lines sink.new))
-        input.now (S.lines sink.old) (S.lines sink.new) }
-{
-    if search.engine.depth() > 0 {
-        return Ok(());
-    }
-    note_units(search, input, sink)
 }

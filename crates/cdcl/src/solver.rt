@@ -4,9 +4,12 @@ ghost use Rattle.std.specs.Prelude.{OnErr, IsErr, ◌↔◌, ◌⊎◌, ◌<◌}
 ghost use Rattle.cnf.specs.Clause.{has_repeat, has_opposites};
 ghost use Rattle.lrat_log.specs.Steps.{IsLogOver, learned_count, IsShortLine};
 ghost use Rattle.cdcl.specs.declared.outcome.Outcome.TheVariants.{Unsat};
-ghost use Rattle.cdcl.specs.Running.{Runs, IsInput, IsAnswer, PaysFor, StaysOpen, Pays};
-ghost use Rattle.cdcl.specs.Solving.{Solves, given_to, IsFreshName, IsFrozen, SameGiven, GivesMore};
-ghost use Rattle.cdcl.specs.Solving.{IsLiveRefuted, lines_since};
+ghost use Rattle.cdcl_search.specs.Running.{Runs, IsInput, StaysOpen};
+ghost use Rattle.cdcl.specs.Outcomes.{IsAnswer, PaysFor};
+ghost use Rattle.cdcl.specs.Turns.{Pays};
+ghost use Rattle.cdcl.specs.Solving.{Solves, given_to, SameGiven, GivesMore, IsLiveRefuted};
+ghost use Rattle.cdcl.specs.Solving.{lines_since};
+ghost use Rattle.cdcl_search.specs.Giving.{IsFreshName, IsFrozen};
 ghost use Rattle.cdcl.specs.Assuming.{SolvesAssuming};
 ghost use Rattle.cdcl.specs.Answering.{IsAssumed};
 ghost use Rattle.cdcl.specs.Halting.{IsPlain};
@@ -14,15 +17,15 @@ ghost use Rattle.cdcl.specs.Halting.{IsPlain};
 use crate::answers::bits;
 use crate::assuming::{Halt, run_assuming};
 use crate::budget::Budget;
-use crate::given::GivenClauses;
-use crate::giving::{are_named, give};
-use crate::input::Input;
 use crate::outcome::{Assumed, Outcome, Share, SolveFault};
-use crate::search::Search;
 use crate::searching::{End, run};
-use crate::starting::{copy_of, start, store_of};
 use crate::tally::Tally;
 use crate::watch::{Unwatched, Watch};
+use cdcl_search::given::GivenClauses;
+use cdcl_search::giving::{are_named, give};
+use cdcl_search::input::Input;
+use cdcl_search::search::Search;
+use cdcl_search::starting::{copy_of, start, store_of};
 use cnf::types::{Formula, Lit};
 use eliminate::elimination::eliminate;
 use lrat_log::lines::Name;
@@ -58,7 +61,7 @@ pub struct Parts<S: Sink> {
 impl<S: Sink> Model for Solver<S> {
     ghost use Rattle.std.specs.Prelude.{map, take, drop, length};
     ghost use Rattle.cdcl.specs.Solving.{SolverState};
-    ghost use Rattle.cdcl.specs.Running.{IsSolver};
+    ghost use Rattle.cdcl.specs.Outcomes.{IsSolver};
 
     ghost Value = { SolverState S };
 

@@ -1,7 +1,7 @@
 // A sink that counts what passes through it.
 ghost use Rattle.std.specs.Prelude.{◌≡◌, [], ◌∷◌, ◌++◌, ◌<◌, ◌^◌, length, OnOk, OnErr};
 ghost use Rattle.lrat_log.specs.Steps.{added_count};
-ghost use Rattle.cdcl.specs.Solving.{is_refuted};
+ghost use Rattle.cdcl_search.specs.Running.{is_refuted};
 
 use lrat_log::lines::Line;
 use lrat_log::sink::Sink;

@@ -3,8 +3,8 @@ use Rattle.std.proofs.lemmas.List.{with_items_is}
 use Rattle.eliminate.specs.Elimination.{extended}
 use Rattle.eliminate.proofs.Laws.{length-extended}
 use Rattle.cdcl.specs.Solving.{SatisfyGiven}
-use Rattle.cdcl.specs.Running.{tables_of}
-use Rattle.cdcl.proofs.MoreMoves.{answer_sat}
+use Rattle.cdcl_search.specs.Running.{tables_of}
+use Rattle.cdcl.proofs.Satisfied.{answer_sat}
 use Rattle.clauses.specs.Slots.{clause_at}
 use Rattle.propagate.proofs.Laws.{no_opposites}
 use Rattle.cdcl.specs.Assuming.{IsTrueUnder}

@@ -1,5 +1,5 @@
 use Rattle.std.proofs.Common.{◌≡◌, ◌+◌, length}
-use Rattle.cdcl.specs.Moves.{AreValues}
+use Rattle.cdcl.specs.Outcomes.{AreValues}
 use Rattle.cdcl.proofs.answers.bits.Given as goal
 
 abbrev pub invariant-loop-variable : goal.invariant-loop-variable

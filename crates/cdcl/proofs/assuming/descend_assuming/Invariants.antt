@@ -1,5 +1,5 @@
-use Rattle.cdcl.specs.Running.{Runs, Pays}
-use Rattle.cdcl.specs.Moves.{rounds_left}
+use Rattle.cdcl_search.specs.Running.{Runs}
+use Rattle.cdcl.specs.Turns.{Pays, rounds_left}
 use Rattle.cdcl.proofs.assuming.descend_assuming.Given as goal
 
 abbrev pub invariant-rounds : goal.invariant-rounds

@@ -1,8 +1,8 @@
 use Rattle.std.proofs.Common.{subst, sym}
-use Rattle.cdcl.specs.declared.search.Search.{Search}
-use Rattle.cdcl.specs.Running.{Runs, Writes, StaysOpen}
-use Rattle.cdcl.specs.Halting.{IsRefusal, IsShown}
-use Rattle.cdcl.proofs.Written.{writes_none}
+use Rattle.cdcl_search.specs.declared.search.Search.{Search}
+use Rattle.cdcl_search.specs.Running.{Runs, Writes, StaysOpen}
+use Rattle.cdcl_search.specs.Cores.{IsRefusal, IsShown}
+use Rattle.cdcl_search.proofs.Laws.{writes_none}
 use Rattle.cdcl.proofs.Rounds.{pays_none, pays_nothing}
 use Rattle.cdcl.proofs.Halts.{open_log, halt_fails}
 use Rattle.cdcl.proofs.assuming.halt_at.Goals as goal

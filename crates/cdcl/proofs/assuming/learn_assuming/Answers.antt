@@ -1,7 +1,7 @@
 use Rattle.std.proofs.Common.{sym, ◌∙◌, subst, arith}
 use Rattle.cdcl.specs.declared.assuming.Halt.TheVariants.{Refuted, Open, Spent}
-use Rattle.cdcl.specs.Running.{StaysOpen, Writes}
-use Rattle.cdcl.proofs.Written.{writes_none}
+use Rattle.cdcl_search.specs.Running.{StaysOpen, Writes}
+use Rattle.cdcl_search.proofs.Laws.{writes_none}
 use Rattle.cdcl.proofs.Rounds.{goes_learned, pays_none, pays_nothing}
 use Rattle.cdcl.proofs.Halts.{open_log, turn_halts, turn_breaks}
 use Rattle.cdcl.proofs.assuming.learn_assuming.Goals as goal

@@ -8,7 +8,7 @@ use Rattle.analyze.specs.Analyzer.{IsQuiet}
 use Rattle.cdcl.specs.declared.assuming.Halt.TheVariants.{Refuted}
 use Rattle.cdcl.specs.Solving.{IsLiveRefuted}
 use Rattle.cdcl.specs.Halting.{IsHaltOf, IsPlain}
-use Rattle.cdcl.proofs.MoreMoves.{answer_open, plain_open}
+use Rattle.cdcl.proofs.Satisfied.{answer_open, plain_open}
 use Rattle.cdcl.proofs.Rounds.{pays_none, pays_nothing}
 use Rattle.cdcl.proofs.Halts.{open_log, halt_fails}
 use Rattle.cdcl.proofs.assuming.run_assuming.Goals as goal

@@ -1,8 +1,8 @@
 use Rattle.std.proofs.Common.{◌-◌, sym, ◌∙◌, subst, arith}
 use Rattle.propagate.specs.Trail.{literals_of, depth_of, kept_to}
 use Rattle.cdcl.specs.declared.searching.End.TheVariants.{Refuted, Spent}
-use Rattle.cdcl.specs.Running.{StaysOpen, Writes}
-use Rattle.cdcl.proofs.Written.{writes_none}
+use Rattle.cdcl_search.specs.Running.{StaysOpen, Writes}
+use Rattle.cdcl_search.proofs.Laws.{writes_none}
 use Rattle.cdcl.proofs.Rounds.{goes_learned, turn_ends, turn_fails}
 use Rattle.cdcl.proofs.searching.on_conflict.Goals as goal
 

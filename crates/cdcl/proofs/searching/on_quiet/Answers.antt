@@ -5,9 +5,9 @@ use Rattle.clauses.specs.Slots.{StoreState}
 use Rattle.analyze.specs.Analyzer.{IsQuiet}
 use Rattle.cdcl_order.specs.Orders.{AreClosed}
 use Rattle.cdcl_order.specs.Policies.{PolicyState}
-use Rattle.cdcl.specs.declared.search.Search.{Search}
+use Rattle.cdcl_search.specs.declared.search.Search.{Search}
 use Rattle.cdcl.specs.declared.searching.End.TheVariants.{Satisfied, Spent}
-use Rattle.cdcl.proofs.Written.{writes_none, writes_join}
+use Rattle.cdcl_search.proofs.Laws.{writes_none, writes_join}
 use Rattle.cdcl.proofs.Rounds.{goes_over, goes_decided, turn_ends, turn_goes, turn_fails}
 use Rattle.cdcl.proofs.searching.on_quiet.Goals as goal
 

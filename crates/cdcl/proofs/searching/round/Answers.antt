@@ -1,6 +1,6 @@
 use Rattle.std.proofs.Common.{ap}
-use Rattle.cdcl.specs.declared.search.Search.{Search}
-use Rattle.cdcl.proofs.Written.{writes_none}
+use Rattle.cdcl_search.specs.declared.search.Search.{Search}
+use Rattle.cdcl_search.proofs.Laws.{writes_none}
 use Rattle.cdcl.proofs.Rounds.{turn_fails, turn_from}
 use Rattle.cdcl.proofs.searching.round.Goals as goal
 

@@ -7,8 +7,8 @@ use Rattle.propagate.proofs.Laws.{kept_low}
 use Rattle.analyze.specs.Analyzer.{IsQuiet}
 use Rattle.cdcl.specs.declared.searching.End.TheVariants.{Refuted}
 use Rattle.cdcl.specs.Solving.{IsLiveRefuted}
-use Rattle.cdcl.specs.Running.{IsEndOf}
-use Rattle.cdcl.proofs.MoreMoves.{answer_open}
+use Rattle.cdcl.specs.Turns.{IsEndOf}
+use Rattle.cdcl.proofs.Satisfied.{answer_open}
 use Rattle.cdcl.proofs.Rounds.{pays_none, pays_nothing, search_fails}
 use Rattle.cdcl.proofs.searching.run.Goals as goal
 

@@ -1,8 +1,9 @@
 use Rattle.std.proofs.Common.{◌≡◌, true, sym, ◌∙◌, ap, subst}
 use Rattle.std.specs.Prelude.{All}
 use Rattle.lrat_log.specs.declared.lines.Name.TheVariants.{Formula}
-use Rattle.cdcl.specs.Solving.{given_to, IsFrozen, IsFreshName}
-use Rattle.cdcl.specs.Running.{IsSolver}
+use Rattle.cdcl.specs.Solving.{given_to}
+use Rattle.cdcl_search.specs.Giving.{IsFrozen, IsFreshName}
+use Rattle.cdcl.specs.Outcomes.{IsSolver}
 use Rattle.cdcl.proofs.Answered.{given_seen, log_now, seen_log}
 use Rattle.cdcl.proofs.GivenClause.{gives_solver, fails_solver, frozen_within}
 use Rattle.cdcl.proofs.solver.Solver.add_clause.Goals as goal

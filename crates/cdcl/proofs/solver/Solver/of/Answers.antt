@@ -11,8 +11,8 @@ use Rattle.lrat_log.specs.declared.lines.Name.{Name}
 use Rattle.lrat_log.specs.Steps.{StaysLogOver, given_of}
 use Rattle.lrat_log.proofs.Laws.{clauses_given}
 use Rattle.eliminate.specs.Elimination.{ExtendsBack, IsFree, StackState}
-use Rattle.cdcl.specs.declared.input.Input.{Input}
-use Rattle.cdcl.proofs.Placing.{added_few}
+use Rattle.cdcl_search.specs.declared.input.Input.{Input}
+use Rattle.cdcl_search.proofs.Laws.{added_few}
 use Rattle.cdcl.proofs.FirstRun.{IsLeft, formula_again, left_from, left_long, left_live}
 use Rattle.cdcl.proofs.FirstRun.{left_numbers, new_input, first_clauses, first_runs}
 use Rattle.cdcl.proofs.Answered.{log_now}

@@ -1,7 +1,7 @@
 use Rattle.std.proofs.Common.{sym, ◌∙◌}
 use Rattle.cdcl.proofs.Answered.{solver_fails}
-use Rattle.cdcl.proofs.Assumed.{assuming_runs, assuming_answered, assuming_refused}
-use Rattle.cdcl.proofs.Assumed.{assuming_failed, assuming_refuted}
+use Rattle.cdcl.proofs.Assumed.{assuming_runs, assuming_answered, assuming_refused, assuming_failed}
+use Rattle.cdcl.proofs.Assumed.{assuming_refuted}
 use Rattle.cdcl.proofs.solver.Solver.solve_assuming.Goals as goal
 
 pub returns-then-self : goal.returns-then-self

@@ -1,5 +1,5 @@
 use Rattle.std.proofs.Common.{sym, ◌∙◌, subst}
-use Rattle.cdcl.specs.Running.{IsAnswer}
+use Rattle.cdcl.specs.Outcomes.{IsAnswer}
 use Rattle.cdcl.proofs.Answered.{solver_runs, solver_fails}
 use Rattle.cdcl.proofs.Solved.{has_answered, has_refused, has_failed, was_refuted}
 use Rattle.cdcl.proofs.solver.Solver.solve_watched.Goals as goal

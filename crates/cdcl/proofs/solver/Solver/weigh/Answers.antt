@@ -1,6 +1,6 @@
 -- Of its policy a solver knows what stays.
 use Rattle.std.proofs.Common.{ap}
-use Rattle.cdcl.proofs.EngineMoves.{runs_chosen}
+use Rattle.cdcl_search.proofs.Laws.{runs_chosen}
 use Rattle.cdcl.proofs.solver.Solver.weigh.Goals as goal
 
 pub invariant_of-self : goal.invariant_of-self

@@ -1,9 +1,0 @@
-use Rattle.std.proofs.Common.{ap}
-use Rattle.cdcl.proofs.EngineMoves.{runs_chosen}
-use Rattle.cdcl.proofs.search.Search.start_over_above.Goals as goal
-
-pub returns-clause-runs : goal.returns-clause-runs
-returns-clause-runs c p ls r =
-    runs_chosen c.backtrack.new.self c.start_over.new.self p ls
-    (ap (λ x. x.variables) c.start_over.ensures)
-    (c.backtrack.ensures.runs p ls r)

@@ -1,7 +1,0 @@
--- The clauses below a place are attached, and no others.
-use Rattle.std.proofs.Common.{◌≡◌}
-use Rattle.cdcl.specs.Starts.{AreAttachedBelow}
-use Rattle.cdcl.proofs.starting.engine_of.Given as goal
-
-abbrev pub invariant-loop-place : goal.invariant-loop-place
-invariant-loop-place l = AreAttachedBelow l.engine l.store.slots l.variables l.place

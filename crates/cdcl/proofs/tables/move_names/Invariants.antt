@@ -1,5 +1,0 @@
-use Rattle.cdcl.proofs.MovingNames.{IsMovingNames}
-use Rattle.cdcl.proofs.tables.move_names.Given as goal
-
-abbrev pub invariant-loop-old : goal.invariant-loop-old
-invariant-loop-old l = IsMovingNames l.initial.names.items l.names.items l.pairs l.old-index

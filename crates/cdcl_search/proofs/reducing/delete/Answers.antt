@@ -1,0 +1,109 @@
+use Rattle.std.proofs.Common.{◌≡◌, ◌<◌, [], ◌∷◌, ◌++◌, Some, true, false, length, refl, subst, sym}
+use Rattle.std.proofs.Common.{◌∙◌, ap, arith}
+use Rattle.std.proofs.lemmas.Bool.{both_ways}
+use Rattle.clauses.specs.Slots.{StoreState, clause_at}
+use Rattle.propagate.specs.Doomed.{is_doomed}
+use Rattle.lrat_log.specs.declared.lines.Name.TheVariants.{Formula}
+use Rattle.lrat_log.specs.declared.lines.Hint.TheVariants.{Plain}
+use Rattle.lrat_log.specs.declared.lines.Kind.TheVariants.{Delete}
+use Rattle.lrat_log.specs.Log.{LogLine, number_in}
+use Rattle.cnf.specs.Lrat.{IsId}
+use Rattle.cdcl_search.specs.declared.search.Search.{Search}
+use Rattle.cdcl_search.specs.Invariant.{name_at}
+use Rattle.cdcl_search.specs.Deletions.{IsDeleting}
+use Rattle.cdcl_search.proofs.Places.{live_within, clause_gone, clause_left}
+use Rattle.cdcl_search.specs.Running.{Writes}
+use Rattle.cdcl_search.proofs.Written.{writes_none, writes_short}
+use Rattle.cdcl_search.proofs.Deleting.{named_at, deleting_line, deleting_more}
+use Rattle.cdcl_search.proofs.reducing.delete.Goals as goal
+
+pub returns-then-not-is_live-clause-deletes : goal.returns-then-not-is_live-clause-deletes
+returns-then-not-is_live-clause-deletes g c = record {
+  deleting = c.requires.deleting;
+  gone = λ on live. both_ways c.is_live.result c.if-not-is_live.true (c.is_live.ensures.1 live);
+  fewer = λ r live. live;
+  engine = refl;
+  policy = refl;
+  writes = writes_none c.args.input.now.given (g.S.Sink.lines c.args.sink.now);
+}
+
+pub returns-then-not-doomed-index-clause-deletes : goal.returns-then-not-doomed-index-clause-deletes
+returns-then-not-doomed-index-clause-deletes g c =
+    let doomed = c.args.doomed.now in
+    let r = c.args.reference in
+    let off : is_doomed doomed r ≡ false =
+    subst (λ k. is_doomed doomed k ≡ false) c.index.ensures c.if-not-doomed-index.true in
+    record {
+      deleting = c.requires.deleting;
+      gone = λ on live. both_ways (is_doomed doomed r) off on;
+      fewer = λ q live. live;
+      engine = refl;
+      policy = refl;
+      writes = writes_none c.args.input.now.given (g.S.Sink.lines c.args.sink.now);
+    }
+
+pub new-requires-2 : goal.new-requires-2
+new-requires-2 g c =
+    let s : Search = c.args.search.now in
+    let r = c.args.reference in
+    let recorded = c.requires.deleting.recorded in
+    let live = c.is_live.ensures.0 c.if-not-is_live.false in
+    let inside = live_within s.store.slots r live.0 live.1 in
+    let lt : r < length s.names.items = omega (arith, recorded.names.as_many) in
+    let name : c.name.result ≡ name_at s.names.items r =
+    c.name.ensures ∙ named_at s.names.items c.index-2.result r c.index-3.result.now
+    c.index-2.ensures c.index-3.ensures lt in
+    deleting_line c.new.result.items c.push.new.self.items c.name.result c.new.ensures.items
+    (c.in_ok-push.ensures.items
+    ∙ ap (λ x. x ++ Plain c.name.result ∷ []) c.new-hints.ensures.items)
+    (subst (λ n. IsId (number_in n)) (sym name) (recorded.numbers r (Formula 0) lt))
+
+pub returns-clause-deletes : goal.returns-clause-deletes
+returns-clause-deletes g c =
+    let s : Search = c.args.search.now in
+    let p = c.args.input.now in
+    let ls = g.S.Sink.lines c.args.sink.now in
+    let r = c.args.reference in
+    let doomed = c.args.doomed.now in
+    let d = c.requires.deleting in
+    let live = c.is_live.ensures.0 c.if-not-is_live.false in
+    let inside = live_within s.store.slots r live.0 live.1 in
+    let lt : r < length s.names.items = omega (arith, d.recorded.names.as_many) in
+    let name : c.name.result ≡ name_at s.names.items r =
+    c.name.ensures ∙ named_at s.names.items c.index-2.result r c.index-3.result.now
+    c.index-2.ensures c.index-3.ensures lt in
+    let hints = c.in_ok-push.ensures.items
+    ∙ ap (λ x. x ++ Plain c.name.result ∷ []) c.new-hints.ensures.items
+    ∙ ap (λ n. Plain n ∷ []) name in
+    let on : is_doomed doomed r ≡ true =
+    subst (λ k. is_doomed doomed k ≡ true) c.index.ensures c.if-not-doomed-index.false in
+    let l : LogLine =
+    record { kind = Delete; clause = c.new.result.items; hints = c.push.new.self.items } in
+    let k = c.count_deleted.new.self in
+    let more =
+    deleting_more s k p ls l doomed r live.0 d live.1 on refl hints c.count_deleted.ensures in
+    let written : g.S.Sink.lines c.append.new.self ≡ ls ++ l ∷ [] =
+    c.in_ok-append.ensures.ok ∙ ap (λ x. ls ++ x ∷ []) c.new-2.ensures in
+    let store = c.delete.ensures in
+    record {
+      deleting =
+          subst (λ x. IsDeleting (record s { store = c.delete.new.self; policy = k }) p x doomed)
+          (sym written)
+          (subst (λ (x : StoreState). IsDeleting (record s { store = x; policy = k }) p
+          (ls ++ l ∷ []) doomed) (sym store) more);
+      gone =
+          λ here still. clause_gone s.store.slots r still.0
+          (subst (λ (x : StoreState). clause_at x.slots r ≡ Some still.0) store still.1);
+      fewer =
+          λ q still. (
+            still.0,
+            (clause_left s.store.slots r q still.0
+                (subst (λ (x : StoreState). clause_at x.slots q ≡ Some still.0) store
+                still.1)).1,
+          );
+      engine = refl;
+      policy = c.count_deleted.ensures;
+      writes =
+          subst (λ x. Writes p.given ls x 0) (sym written)
+          (writes_short p.given ls l refl (omega (arith, ap length c.new.ensures.items)));
+    }

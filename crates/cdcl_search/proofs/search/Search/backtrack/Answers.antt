@@ -1,0 +1,44 @@
+use Rattle.std.proofs.Common.{◌≤◌, sym, ap, subst}
+use Rattle.std.specs.Prelude.{All}
+use Rattle.cnf.specs.Literal.{Literal}
+use Rattle.propagate.specs.Trail.{literals_of}
+use Rattle.cdcl_search.specs.Running.{tables_of}
+use Rattle.cdcl_search.proofs.Moves.{run_backtrack}
+use Rattle.cdcl_search.proofs.Quiet.{searches_backtrack}
+use Rattle.cdcl_search.proofs.EngineMoves.{ready_moved, runs_moved, literals_within}
+use Rattle.cdcl_search.proofs.search.Search.backtrack.Goals as goal
+
+pub put_back-requires-clause-within : goal.put_back-requires-clause-within
+put_back-requires-clause-within c =
+    let s = c.args.self.now in
+    subst (λ n. All (λ (l : Literal). l.variable ≤ n) (literals_of s.engine.trail))
+    (sym c.requires.ready.room.policy)
+    (literals_within s.engine.trail s.engine.variables c.requires.ready.searches.fits.small)
+
+pub returns-clause-state : goal.returns-clause-state
+returns-clause-state c p ls r =
+    let s = c.args.self.now in
+    let b = c.backtrack.ensures in
+    run_backtrack s.engine c.backtrack.new.self s.store.slots p.stack (tables_of s) p.frozen.items
+    p.first p.given ls c.args.level r c.requires.level b.trail b.attached b.frame
+    (b.fits s.store.slots c.requires.ready.searches.fits)
+
+pub returns-clause-runs : goal.returns-clause-runs
+returns-clause-runs c p ls r =
+    let s = c.args.self.now in
+    let b = c.backtrack.ensures in
+    runs_moved s c.backtrack.new.self c.put_back.new.policy p ls r b.frame.0
+    (ap (λ o. o.variables) c.put_back.ensures)
+    (run_backtrack s.engine c.backtrack.new.self s.store.slots p.stack (tables_of s) p.frozen.items
+    p.first p.given ls c.args.level r.running c.requires.level b.trail b.attached b.frame
+    (b.fits s.store.slots c.requires.ready.searches.fits))
+
+pub returns-clause-ready : goal.returns-clause-ready
+returns-clause-ready c =
+    let s = c.args.self.now in
+    let b = c.backtrack.ensures in
+    ready_moved s c.backtrack.new.self c.put_back.new.policy c.requires.ready b.frame.0
+    (ap (λ o. o.variables) c.put_back.ensures)
+    (searches_backtrack s.store.slots s.engine c.backtrack.new.self c.args.level
+    c.requires.ready.searches c.requires.level b.trail b.attached b.frame.1
+    (b.fits s.store.slots c.requires.ready.searches.fits))

@@ -1,0 +1,15 @@
+use Rattle.std.proofs.Common.{refl, ap}
+use Rattle.cdcl_search.proofs.EngineMoves.{ready_moved, runs_chosen}
+use Rattle.cdcl_search.proofs.search.Search.begin.Goals as goal
+
+pub returns-clause-runs : goal.returns-clause-runs
+returns-clause-runs c p ls r =
+    runs_chosen c.backtrack.new.self c.begin.new.self p ls (ap (λ x. x.variables) c.begin.ensures)
+    (c.backtrack.ensures.runs p ls r)
+
+pub returns-clause-ready : goal.returns-clause-ready
+returns-clause-ready c =
+    let m = c.backtrack.new.self in
+    let ready = c.backtrack.ensures.ready in
+    ready_moved m m.engine c.begin.new.self ready refl (ap (λ x. x.variables) c.begin.ensures)
+    ready.searches

@@ -1,0 +1,10 @@
+pub mod GivenNumbers
+pub mod Invariant
+pub mod Hinting
+pub mod Running
+pub mod Giving
+pub mod Starts
+pub mod Moves
+pub mod Cores
+pub mod Deletions
+pub mod Parts

@@ -1,0 +1,70 @@
+// Clauses that come after the formula.
+ghost use Rattle.std.specs.Prelude.{◌≡◌, ◌<◌, ◌^◌, false, All, OnOk, OnErr};
+ghost use Rattle.propagate.specs.Fits.{IsWithin};
+ghost use Rattle.lrat_log.specs.declared.lines.Name.TheVariants.{Formula};
+ghost use Rattle.cdcl_search.specs.Running.{IsReady};
+ghost use Rattle.cdcl_search.specs.Giving.{TakesClause, Takes, GivesOne};
+
+use crate::input::Input;
+use crate::search::Search;
+use cnf::types::Lit;
+use lrat_log::lines::{Name, Number};
+use std::alloc::AllocError;
+
+/// Searches on with one clause more, from level 0.
+fn take_clause(search: &mut Search, number: u64, lits: &[Lit]) -> Result<(), AllocError>
+    requires number { (0 < number) × (number < 2 ^ 62) }
+    requires ready { IsReady search.old }
+    requires within { IsWithin search.old.engine.variables lits.now }
+    ensures { OnOk result (TakesClause search.old search.new (Formula number) lits.now) }
+{
+    search.backtrack(0);
+    search.attach_clause(Name::Formula(Number::new(number)), lits)?;
+    Ok(())
+}
+
+/// Keeps the clause among those given.
+fn keep_clause(input: &mut Input, number: u64, lits: &[Lit]) -> Result<(), AllocError>
+    requires number { (0 < number) × (number < 2 ^ 62) }
+    ensures given { OnOk result (GivesOne input.old input.new (Formula number) lits.now) }
+    ensures unchanged { OnErr result (input.new ≡ input.old) }
+{
+    input.given.push(Number::new(number), lits)
+}
+
+/// Gives the clause to the search, unless that has ended with the empty clause, and keeps it among
+/// those given.
+pub fn give(
+    search: &mut Search,
+    input: &mut Input,
+    refuted: bool,
+    number: u64,
+    lits: &[Lit],
+) -> Result<(), AllocError>
+    requires number { (0 < number) × (number < 2 ^ 62) }
+    requires ready { refuted ≡ false → IsReady search.old }
+    requires within { refuted ≡ false → IsWithin search.old.engine.variables lits.now }
+    ensures takes { OnOk result (refuted ≡ false
+        → Takes search.old search.new input.old input.new (Formula number) lits.now) }
+    ensures given { OnOk result (GivesOne input.old input.new (Formula number) lits.now) }
+    ensures unchanged { OnErr result (input.new ≡ input.old) }
+{
+    if refuted {
+        return keep_clause(input, number, lits);
+    }
+    take_clause(search, number, lits)?;
+    keep_clause(input, number, lits)
+}
+
+/// Says that variables are from 1, as those of all literals. A proof learns this of a literal that
+/// the code asks, and of no others, so each is asked.
+pub fn are_named(lits: &[Lit]) -> bool
+    ensures { All (λ l. 0 < l.variable) lits.now }
+{
+    let mut all = true;
+    for lit in lits {
+        let variable = lit.variable();
+        all = all && variable > 0;
+    }
+    all
+}

@@ -1,0 +1,18 @@
+//! The state of a conflict-driven search, and its moves: it starts, takes a clause, propagates,
+//! decides, learns, notes what is true at level 0, deletes and says which assumptions clash. Each
+//! move keeps the log right. What to do next is up to `cdcl`.
+#![tactic(auto)]
+
+mod compacting;
+pub mod cores;
+pub mod given;
+pub mod giving;
+mod hints;
+pub mod input;
+pub mod learning;
+pub mod noting;
+pub mod reducing;
+pub mod search;
+pub mod starting;
+mod tables;
+mod writing;

@@ -1,0 +1,218 @@
+// The state of a search, and the moves of its engine.
+ghost use Rattle.std.specs.Prelude.{◌≡◌, ℕ, true, false, ◌+◌, ◌<◌, ◌≤◌, [], ◌∷◌, ◌++◌, Some, None};
+ghost use Rattle.std.specs.Prelude.{length, All, IfOk, OnOk, IfSome, IfNone};
+ghost use Rattle.propagate.specs.Trail.{literals_of, depth_of, kept_to};
+ghost use Rattle.propagate.specs.Watches.{is_attached};
+ghost use Rattle.propagate.specs.Fits.{IsFalseClause, IsWithin};
+ghost use Rattle.analyze.specs.Analyzer.{IsQuiet};
+ghost use Rattle.cdcl_order.specs.Orders.{IsOpenVariable, AreClosed};
+ghost use Rattle.cdcl_search.specs.Invariant.{zero_of};
+ghost use Rattle.cdcl_search.specs.Running.{EngineMoves, IsReady, KeepsRunning};
+ghost use Rattle.cdcl_search.specs.Moves.{KeepsState};
+
+use analyze::analyzer::{Analyzer, Learned};
+use cdcl_order::policy::Policy;
+use clauses::store::{CRef, MaybeCRef, Store};
+use cnf::types::Lit;
+use lrat_log::packed_name::PackedName;
+use propagate::engine::Engine;
+use std::alloc::AllocError;
+
+/// What a search works on, between its moves.
+#[derive(Drop)]
+pub struct Search {
+    /// The live clauses.
+    pub store: Store,
+    /// The trail. All live clauses are attached.
+    pub engine: Engine,
+    /// The name of the clause in each place of the store.
+    pub names: Vec<PackedName>,
+    /// By variable, that of 1 first: the reference of the clause of one literal that it has from
+    /// level 0, or none.
+    pub units: Vec<MaybeCRef>,
+    /// How many literals of level 0 have such a clause: the first ones of the trail.
+    pub noted: usize,
+    /// How many additions elimination made, at most `additions`. Their clauses are never deleted,
+    /// nor are those given.
+    pub kept: u64,
+    /// How many additions the log has, below 2^61.
+    pub additions: u64,
+    /// By variable, that of 1 first: the number of the last addition that has its unit clause among
+    /// the hints, at most `additions`; 0 where none has.
+    pub stamps: Vec<u64>,
+    /// What it decides, when it starts over, and what it deletes.
+    pub policy: Policy,
+    /// The memory of conflict analysis.
+    pub analyzer: Analyzer,
+}
+
+impl Search {
+    /// Gives back the memory of its tables. It is not used after that.
+    pub fn clear(&mut self) {
+        let alloc = self.store.allocator();
+        if let Ok(engine) = Engine::new(alloc, 0) {
+            self.engine = engine;
+        }
+        if let Ok(policy) = Policy::new(alloc, 0) {
+            self.policy = policy;
+        }
+        if let Ok(analyzer) = Analyzer::new(alloc, 0) {
+            self.analyzer = analyzer;
+        }
+        self.store = Store::new(alloc);
+        self.names = Vec::new(alloc);
+        self.units = Vec::new(alloc);
+        self.stamps = Vec::new(alloc);
+    }
+
+    /// Makes true what is left, and answers a clause that is false, or none: then no clause is
+    /// false or unit.
+    ///
+    /// # Errors
+    ///
+    /// `AllocError` where memory was refused: the search cannot go on.
+    pub fn propagate(&mut self) -> Result<Option<CRef>, AllocError>
+        requires { IsReady self.old }
+        ensures runs { OnOk result (KeepsRunning self.old self.new) }
+        ensures ready { OnOk result (IsReady self.new) }
+        ensures conflict { IfOk result (λ found.
+            IfSome found (IsFalseClause self.new.store.slots self.new.engine)) }
+        ensures quiet { IfOk result (λ found. IfNone found
+            (IsQuiet self.new.store.slots (literals_of self.new.engine.trail))) }
+        ensures depth { OnOk result (depth_of self.new.engine.trail
+            ≡ depth_of self.old.engine.trail) }
+        ensures grows { OnOk result (length self.old.engine.trail ≤ length self.new.engine.trail) }
+        ensures engine { EngineMoves self.old self.new }
+    {
+        match self.engine.propagate(&self.store) {
+            Ok(found) => Ok(found),
+            Err(_) => Err(AllocError),
+        }
+    }
+
+    /// Undoes the levels above this one. Their variables may be decided again.
+    pub(crate) fn backtrack(&mut self, level: u32)
+        requires ready { IsReady self.old }
+        requires level { level ≤ depth_of self.old.engine.trail }
+        ensures runs { KeepsRunning self.old self.new }
+        ensures state { KeepsState self.old self.new }
+        ensures ready { IsReady self.new }
+        ensures trail { self.new.engine.trail ≡ kept_to level self.old.engine.trail }
+        ensures engine { EngineMoves self.old self.new }
+    {
+        put_back(&mut self.policy, &self.engine, level);
+        self.engine.backtrack(level);
+    }
+
+    /// Begins at level 0.
+    pub fn begin(&mut self)
+        requires { IsReady self.old }
+        ensures runs { KeepsRunning self.old self.new }
+        ensures ready { IsReady self.new }
+        ensures trail { self.new.engine.trail ≡ kept_to 0 self.old.engine.trail }
+    {
+        self.backtrack(0);
+        self.policy.begin();
+    }
+
+    /// Starts over from level 0.
+    pub fn start_over(&mut self)
+        requires { IsReady self.old }
+        ensures runs { KeepsRunning self.old self.new }
+        ensures variables { self.new.engine.variables ≡ self.old.engine.variables }
+        ensures policy { self.new.policy.has_learned ≡ false }
+    {
+        self.backtrack(0);
+        self.policy.start_over();
+    }
+
+    /// Starts over from this level, or goes on from the current one where that is lower.
+    pub fn start_over_above(&mut self, level: usize)
+        requires { IsReady self.old }
+        ensures runs { KeepsRunning self.old self.new }
+        ensures variables { self.new.engine.variables ≡ self.old.engine.variables }
+        ensures policy { self.new.policy.has_learned ≡ false }
+    {
+        let depth = self.engine.depth();
+        self.backtrack(level.min(depth as usize) as u32);
+        self.policy.start_over();
+    }
+
+    /// The policy sees what the last analysis taught, before the way back. It answers how many
+    /// levels above 0 the clause's literals stand in.
+    pub(crate) fn learn_from(&mut self, learned: &Learned) -> u32
+        requires ready { IsReady self.old }
+        requires hints { All (λ r. is_attached self.old.engine r ≡ true) learned.now.hints.items }
+        requires within { IsWithin self.old.engine.variables learned.now.lits.items }
+        ensures variables { self.new.policy.variables ≡ self.old.policy.variables }
+        ensures only_policy { self.new ≡ record self.old { policy = self.new.policy } }
+    {
+        self.policy.learn_from(
+            &self.engine,
+            &self.store,
+            learned.hints.as_slice(),
+            self.analyzer.met(),
+            self.analyzer.beside(),
+            learned.lits.as_slice(),
+        )
+    }
+
+    /// Decides a variable without a value; it answers whether there was one.
+    pub fn branch(&mut self) -> bool
+        requires ready { IsReady self.old }
+        requires quiet { IsQuiet self.old.store.slots (literals_of self.old.engine.trail) }
+        requires noted { length (zero_of self.old.engine.trail) ≤ self.old.noted }
+        ensures runs { KeepsRunning self.old self.new }
+        ensures longer { result ≡ true
+            → length self.new.engine.trail ≡ length self.old.engine.trail + 1 }
+        ensures within { length self.old.engine.trail ≤ self.old.engine.variables }
+        ensures closed { result ≡ false
+            → AreClosed self.old.engine.trail self.old.engine.variables }
+        ensures stays { result ≡ false → self.new.engine ≡ self.old.engine }
+        ensures engine { EngineMoves self.old self.new }
+    {
+        // There are at most as many literals as variables.
+        let _ = self.engine.assigned();
+        match self.policy.next(&self.engine) {
+            Some(lit) => {
+                self.decide(lit);
+                true
+            }
+            None => false,
+        }
+    }
+
+    /// Opens a level with the literal.
+    pub fn decide(&mut self, lit: Lit)
+        requires ready { IsReady self.old }
+        requires open { IsOpenVariable self.old.engine.trail self.old.engine.variables
+            lit.variable }
+        requires quiet { IsQuiet self.old.store.slots (literals_of self.old.engine.trail) }
+        requires noted { length (zero_of self.old.engine.trail) ≤ self.old.noted }
+        ensures runs { KeepsRunning self.old self.new }
+        ensures ready { IsReady self.new }
+        ensures trail { self.new.engine.trail ≡ self.old.engine.trail ++ record {
+          literal = lit;
+          reason = None;
+        } ∷ [] }
+        ensures longer { length self.new.engine.trail ≡ length self.old.engine.trail + 1 }
+        ensures engine { EngineMoves self.old self.new }
+    {
+        self.engine.decide(lit);
+    }
+}
+
+/// The variables above this level may be decided again.
+fn put_back(policy: &mut Policy, engine: &Engine, level: u32)
+    requires room { policy.old.variables ≡ engine.now.variables }
+    requires within { All (λ l. l.variable ≤ policy.old.variables) (literals_of engine.now.trail) }
+    ensures { policy.new ≡ policy.old }
+{
+    let trail = engine.trail();
+    let first = engine.first_above(level);
+    let mut place = trail.len();
+    while place > first {
+        place -= 1;
+        policy.put_back(trail[place]);
+    }
+}

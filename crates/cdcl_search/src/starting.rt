@@ -1,0 +1,98 @@
+// A search over what elimination has left of a formula.
+ghost use Rattle.std.specs.Prelude.{◌≡◌, ◌+◌, ◌<◌, ◌^◌, [], Some, map, length, All, IfOk, OnOk};
+ghost use Rattle.cnf.specs.Lrat.{IsId};
+ghost use Rattle.lrat_log.specs.Log.{number_in};
+ghost use Rattle.cdcl_search.specs.Starts.{AreAttachedBelow, AreWithin, IsLiveWithin, IsStarted};
+
+use crate::search::Search;
+use analyze::analyzer::Analyzer;
+use cdcl_order::policy::Policy;
+use clauses::store::{MaybeCRef, Store};
+use cnf::clause_list::ClauseList;
+use cnf::types::Formula;
+use eliminate::elimination::Stack;
+use propagate::engine::Engine;
+use std::alloc::AllocError;
+
+/// A store of these clauses, in their order.
+pub fn store_of(clauses: &ClauseList) -> Result<Store, AllocError>
+    ensures { IfOk result (λ store. store.slots ≡ map Some clauses.now) }
+{
+    let mut store = Store::new(clauses.allocator());
+    for clause in clauses.iter() {
+        store.add(clause)?;
+    }
+    Ok(store)
+}
+
+/// The same formula once more.
+pub fn copy_of(formula: &Formula) -> Result<Formula, AllocError>
+    ensures { IfOk result (λ copy. copy ≡ formula.now) }
+{
+    let vars = formula.vars();
+    let mut clauses = ClauseList::new(formula.allocator());
+    for clause in formula.clauses().iter() {
+        clauses.push(clause)?;
+    }
+    Ok(Formula::new(vars, clauses))
+}
+
+/// Attaches the clause at this place, where it is live.
+fn attach_at(engine: &mut Engine, store: &Store, place: usize) -> Result<(), AllocError>
+    requires before { AreAttachedBelow engine.old store.now.slots engine.old.variables place }
+    requires within { AreWithin store.now.slots engine.old.variables }
+    ensures { OnOk result
+        (AreAttachedBelow engine.new store.now.slots engine.old.variables (place + 1)) }
+{
+    match store.live_at(place) {
+        Some(reference) => match engine.attach(store, reference) {
+            Ok(()) => Ok(()),
+            Err(_) => Err(AllocError),
+        },
+        None => Ok(()),
+    }
+}
+
+/// An engine in which each clause of the store is attached.
+fn engine_of(store: &Store, variables: u32) -> Result<Engine, AllocError>
+    requires { AreWithin store.now.slots variables }
+    ensures { IfOk result (λ e.
+        AreAttachedBelow e store.now.slots variables (length store.now.slots)) }
+{
+    let mut engine = Engine::with_room(store.allocator(), variables, store)?;
+    for place in 0..store.places() {
+        attach_at(&mut engine, store, place)?;
+    }
+    Ok(engine)
+}
+
+/// A search at level 0 over a store. It takes the names out of the stack.
+pub fn start(store: Store, stack: &mut Stack, additions: u64) -> Result<Search, AllocError>
+    requires few { stack.old.variables < 2 ^ 27 }
+    requires long { length stack.old.names ≡ length store.slots }
+    requires numbers { All (λ n. IsId (number_in n.1)) stack.old.names }
+    requires live { All (λ n. IsLiveWithin store.slots stack.old.variables n.0) stack.old.names }
+    ensures started { IfOk result (IsStarted store.slots stack.old additions) }
+    ensures names { OnOk result (stack.new ≡ record stack.old { names = [] }) }
+{
+    let alloc = store.allocator();
+    let variables = stack.vars();
+    let names = stack.take_names();
+    let engine = engine_of(&store, variables)?;
+    let units = Vec::from_elem(alloc, MaybeCRef::new(None), variables as usize)?;
+    let stamps = Vec::from_elem(alloc, 0, variables as usize)?;
+    let policy = Policy::new(alloc, variables)?;
+    let analyzer = Analyzer::new(alloc, variables)?;
+    Ok(Search {
+        store,
+        engine,
+        names,
+        units,
+        noted: 0,
+        kept: additions,
+        additions,
+        stamps,
+        policy,
+        analyzer,
+    })
+}
