@@ -169,10 +169,9 @@ impl<S: Sink> Solver<S> {
         ensures given { result.given ≡ given_to self }
         ensures sink { result.sink ≡ self.sink }
     {
-        Parts {
-            given: self.input.given,
-            sink: self.sink,
-        }
+        let Solver { input, sink, .. } = self;
+        let Input { given, .. } = input;
+        Parts { given, sink }
     }
 
     /// Gives back the memory of the search, for whoever needs only the lines and the clauses from

@@ -1,12 +1,13 @@
 // Which variables stay: those that the clauses of a bound may name. With sums all stay that are not
 // of the instance: what is learned of a part of the tree is said in them.
-ghost use Rattle.std.specs.Prelude.{◌≡◌, ℕ, ◌-◌, ◌<◌, ◌≤◌, true, length, Some, slice_get, All};
+ghost use Rattle.std.specs.Prelude.{◌≡◌, ◌<◌, true, length, Some, slice_get, All};
 ghost use Rattle.std.specs.Prelude.{IfOk};
 ghost use Rattle.improve.specs.Frozen.{AreFrozen, IsFrozenFor, IsOutputWithin, IsWithin};
 ghost use Rattle.improve.specs.Frozen.{KeepsFrozen};
 
 use bound::additions::Addition;
 use cnf::types::{Instance, Lit};
+use improve_cores::frozen::{freeze_after, freeze_none};
 use std::alloc::{AllocError, Global};
 
 /// For each variable from 1, whether a comparator may speak of it: with a network those of its
@@ -27,17 +28,6 @@ pub fn freeze_compared(
     }
 }
 
-/// For each variable from 1, whether it comes after the first ones.
-fn freeze_after(alloc: Global, first: u32, vars: u32) -> Result<Vec<bool>, AllocError>
-    ensures len { IfOk result (λ frozen. length frozen.items ≡ vars) }
-    ensures frozen { IfOk result (λ frozen. (v : ℕ) → first < v → v ≤ vars
-        → slice_get frozen.items (v - 1) ≡ Some true) }
-{
-    let mut frozen = freeze_none(alloc, first as usize)?;
-    frozen.resize(vars as usize, true)?;
-    Ok(frozen)
-}
-
 /// For each variable from 1, whether an output has it.
 fn freeze_outputs(
     alloc: Global,
@@ -56,13 +46,6 @@ fn freeze_outputs(
         }
     }
     Ok(frozen)
-}
-
-/// So many values, all of them false.
-pub fn freeze_none(alloc: Global, count: usize) -> Result<Vec<bool>, AllocError>
-    ensures { IfOk result (λ frozen. length frozen.items ≡ count) }
-{
-    Vec::from_elem(alloc, false, count)
 }
 
 /// Makes the value in this place true.

@@ -16,7 +16,6 @@ ghost use Rattle.improve.specs.Standing.{IsCoreProof};
 use crate::bounds::{Bounds, Next};
 use crate::by_cores::{ByCores, refute_by_cores};
 use crate::found::{Found, ImproveFault, Work};
-use crate::frozen::freeze_none;
 use crate::progress::{Progress, ProgressFault};
 use crate::solutions::{Solution, price_polished};
 use crate::standing::Standing;
@@ -28,6 +27,7 @@ use cdcl::budget::Budget;
 use cdcl::outcome::Outcome;
 use cdcl::solver::Solver;
 use cnf::types::Instance;
+use improve_cores::frozen::freeze_none;
 use lrat_log::log::Log;
 use std::alloc::AllocError;
 
