@@ -93,12 +93,17 @@ lose() { # what follows it loses its folder
         rm -r "$work/folder"
         cat "$work/text"
     ) > "$work/pipe" &
+    loser=$!
+}
+found() { # where the program has not opened the pipe, what waits for it ends here
+    kill "$loser" 2> /dev/null
+    wait
 }
 lose
 call solve --progress --best folder/best --proof proof pipe
 same 'a best that is lost'
 ok 'a best that is lost: told once, on a line' [ "$(grep -vxE "$form" <<< "$err")" = 'warning: folder/best cannot be written' ]
-wait
+found
 
 # A terminal. terminal WHICH WORD..: what the terminal got goes to $work/screen, WHICH is err, or both for standard output too
 terminal() {
@@ -140,7 +145,7 @@ lose
 terminal err solve --progress --best folder/best --proof proof pipe
 same 'a terminal, a warning'
 ok 'a terminal, a warning: on a line of its own' grep -qx 'warning: folder/best cannot be written' "$work/screen"
-wait
+found
 if [ -c /dev/full ]; then
     terminal err solve --progress --proof /dev/full text
     ok 'a terminal, a fault: on a line of its own' [ "$status" = 3 -a "$(tail -n 1 "$work/screen")" = 'error: ProofOutput' ]
