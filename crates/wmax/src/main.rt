@@ -51,53 +51,38 @@ fn read_profile(matches: &ArgMatches<'_>) -> Option<Profile> {
     options::pick_profile(matches.get_one::<u64>("profile")?)
 }
 
+/// The effort that `--conflicts` names. `clap` lets none above the greatest pass; said again, since
+/// nothing is known of that here.
+fn read_budget(matches: &ArgMatches<'_>) -> Option<Budget> {
+    let limit = matches.get_one::<u64>("conflicts")?;
+    Some(Budget::new(limit.min(MOST_CONFLICTS)))
+}
+
 /// `wmax solve`: FILE is opened, then the PATH of the certificate is created or emptied, then the
-/// PATH of the best solution, then the text is read. Without a PATH the certificate is dropped.
+/// PATH of the best solution is looked at, then the text is read. Without a PATH the certificate is
+/// dropped.
 fn solve<R: Files + AllocGlobal + Print + Clock, E: Write>(
     rt: &R,
     messages: &mut Messages<'_, E>,
     matches: &ArgMatches<'_>,
 ) -> Result<u8, RunFault> {
-    // `clap` lets no command line pass that lacks one of these; nothing is known of that here.
-    let (Some(text), Some(limit)) = (matches.get_str("FILE"), matches.get_one::<u64>("conflicts"))
-    else {
+    let Some(text) = matches.get_str("FILE") else {
         return Err(UNREADABLE);
     };
     let mut text = File::open(rt, text).map_err(|_| UNREADABLE)?;
     let Some(here) = find_file_id(&text) else {
         return Err(UNREADABLE);
     };
-    // `clap` lets no greater effort pass; said again, since nothing is known of that here.
-    let budget = Budget::new(limit.min(MOST_CONFLICTS));
-    match matches.get_str("proof") {
-        Some(path) => {
-            let mut proof = open_proof(rt, path, here)?;
-            let Some(there) = find_file_id(&proof) else {
-                return Err(RunFault::ProofOutput);
-            };
-            solve_kept(
-                rt,
-                messages,
-                matches,
-                budget,
-                &mut text,
-                &mut proof,
-                [here, there],
-            )
-        }
-        None => {
-            let mut dropped = io::sink();
-            solve_kept(
-                rt,
-                messages,
-                matches,
-                budget,
-                &mut text,
-                &mut dropped,
-                [here, here],
-            )
-        }
-    }
+    let Some(proof) = matches.get_str("proof") else {
+        let mut dropped = io::sink();
+        let others = [here, here];
+        return solve_kept(rt, messages, matches, &mut text, &mut dropped, others);
+    };
+    let mut proof = open_proof(rt, proof, here)?;
+    let Some(there) = find_file_id(&proof) else {
+        return Err(RunFault::ProofOutput);
+    };
+    solve_kept(rt, messages, matches, &mut text, &mut proof, [here, there])
 }
 
 /// Solves with a certificate, where `--best` may name neither of the others. Where that has
@@ -106,46 +91,44 @@ fn solve_kept<'a, R: Files + AllocGlobal + Print + Clock, E: Write, T: Read, P: 
     rt: &'a R,
     messages: &'a mut Messages<'_, E>,
     matches: &'a ArgMatches<'_>,
-    budget: Budget,
     text: &mut T,
     proof: &mut P,
     others: [FileId; 2],
 ) -> Result<u8, RunFault> {
-    let paths = match matches.get_str("best") {
-        Some(path) => Some(BestPaths::new(rt.alloc(), path).map_err(|_| RunFault::Memory)?),
-        None => None,
-    };
-    let Some(paths) = paths else {
+    let Some(path) = matches.get_str("best") else {
         let keeper = Keeper::start(rt, None, others, None);
-        return solve_over(rt, messages, matches, budget, text, proof, keeper);
+        return solve_over(rt, messages, matches, text, proof, keeper);
     };
+    let paths = BestPaths::new(rt.alloc(), path).map_err(|_| RunFault::Memory)?;
     if paths.are_taken(rt, &others) {
-        let _ = writeln!(
-            messages.below(),
-            "error: --best names FILE, the certificate or no regular file"
-        );
-        return Ok(2);
+        return Ok(refuse_best(messages, TAKEN, 2));
     }
     let left = paths.read_earlier(rt)?;
     if left.is_empty() {
         let keeper = Keeper::start(rt, Some(paths), others, None);
-        return solve_over(rt, messages, matches, budget, text, proof, keeper);
+        return solve_over(rt, messages, matches, text, proof, keeper);
     }
     let bytes = read_file(rt, text)?;
     let earlier = match judge_earlier(rt.alloc(), &bytes, &left)? {
         Earlier::Nothing => None,
         Earlier::Cost(cost) => Some(cost),
-        Earlier::Other => {
-            let _ = writeln!(
-                messages.below(),
-                "error: --best names a file that has no solution of FILE at the cost that it tells"
-            );
-            return Ok(2);
-        }
+        Earlier::Other => return Ok(refuse_best(messages, OTHER, 2)),
     };
     let keeper = Keeper::start(rt, Some(paths), others, earlier);
     let mut text = bytes.as_slice();
-    solve_over(rt, messages, matches, budget, &mut text, proof, keeper)
+    solve_over(rt, messages, matches, &mut text, proof, keeper)
+}
+
+/// What is said of a `--best` that the run uses otherwise, or that is a device.
+const TAKEN: &str = "names FILE, the certificate or no regular file";
+
+/// What is said of a `--best` that would be lost.
+const OTHER: &str = "names a file that has no solution of FILE at the cost that it tells";
+
+/// Tells why there is no run with this `--best`; the exit status.
+fn refuse_best<E: Write>(messages: &mut Messages<'_, E>, why: &str, status: u8) -> u8 {
+    let _ = writeln!(messages.below(), "error: --best {why}");
+    status
 }
 
 /// Solves, where the file of `--best` can be written.
@@ -153,17 +136,16 @@ fn solve_over<'a, R: Files + AllocGlobal + Print + Clock, E: Write, T: Read, P: 
     rt: &'a R,
     messages: &'a mut Messages<'_, E>,
     matches: &'a ArgMatches<'_>,
-    mut budget: Budget,
     text: &mut T,
     proof: &mut P,
     keeper: Option<Keeper<'a, R>>,
 ) -> Result<u8, RunFault> {
-    let Some(profile) = read_profile(matches) else {
+    // `clap` lets no command line pass that lacks one of these; nothing is known of that here.
+    let (Some(profile), Some(mut budget)) = (read_profile(matches), read_budget(matches)) else {
         return Err(UNREADABLE);
     };
     let Some(keeper) = keeper else {
-        let _ = writeln!(messages.below(), "error: --best cannot be written");
-        return Ok(3);
+        return Ok(refuse_best(messages, "cannot be written", 3));
     };
     let meter = if matches.get_flag("progress") {
         Meter::start(rt, budget.left())
