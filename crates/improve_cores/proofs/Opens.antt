@@ -82,7 +82,7 @@ search_work p w h s work t feasible r given log =
     subst (IsLogOver (given_of cs)) (sym log)
     (subst (λ x. IsLogOver (given_of x) w.lines) clauses work.log) in
     let new : LearnsNew (is_later (length (relaxed_cnf p)) (length cs)) (given_of cs) (length cs) []
-        w.lines =
+    w.lines =
     subst (λ x. LearnsNew (is_later (length x) (length cs)) (given_of cs) (length cs) [] w.lines)
     s.clauses
     (subst (λ x. LearnsNew (is_later (length (w.formula).clauses) (length cs)) (given_of x)
