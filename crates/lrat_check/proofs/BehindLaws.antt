@@ -16,14 +16,14 @@ use Rattle.lrat_check.specs.CoreLines.{verdict_from}
 use Rattle.lrat_check.specs.Checks.{CostsAtLeast}
 use Rattle.lrat_check.specs.Heads.{HeadReading, IsEndedHead, IsOpenHead, JudgesBehind}
 use Rattle.lrat_check.specs.Pieces.{CheckerState}
-use Rattle.lrat_check.specs.declared.verdicts.Verdict.{Verdict}
-use Rattle.lrat_check.specs.declared.verdicts.Verdict.TheVariants.{Yes}
+use Rattle.lrat_machine.specs.declared.verdicts.Verdict.{Verdict}
+use Rattle.lrat_machine.specs.declared.verdicts.Verdict.TheVariants.{Yes}
 use Rattle.lrat_check.specs.Verdict.{headed_verdict, proof_verdict, verdict_behind, verdict_on}
 use Rattle.lrat_check.proofs.HeadLaws.{behind_at}
 use Rattle.lrat_check.proofs.HeadVerdicts.{enough_goes}
 use Rattle.lrat_check.proofs.PieceLaws.{lines_passed_on, tokens-last}
 use Rattle.lrat_check.proofs.TrueResults.{at_least, not_cheaper}
-use Rattle.lrat_check.proofs.Whole.{yes_is_sound}
+use Rattle.lrat_machine.proofs.Laws.{yes_is_sound}
 
 module _ (p : Problem) (cost : ℕ) where
   -- the formula

@@ -11,8 +11,9 @@ use Rattle.cnf.proofs.Laws.{extends_own}
 use Rattle.cnf.specs.Clause.{clause_value}
 use Rattle.cnf.specs.Problem.{Problem, IsFeasible, cost_under}
 use Rattle.lrat_result.specs.Result.{Report}
-use Rattle.lrat_check.specs.declared.verdicts.Cause.TheVariants.{BitsLength, NotFeasible, CostWrong}
-use Rattle.lrat_check.specs.declared.verdicts.Verdict.TheVariants.{No}
+use Rattle.lrat_machine.specs.declared.verdicts.Cause.TheVariants.{BitsLength, NotFeasible}
+use Rattle.lrat_machine.specs.declared.verdicts.Cause.TheVariants.{CostWrong}
+use Rattle.lrat_machine.specs.declared.verdicts.Verdict.TheVariants.{No}
 use Rattle.lrat_check.specs.Verdict.{bits_fault}
 use Rattle.lrat_check.proofs.Checked.{feasible_from, feasible_to}
 

@@ -17,17 +17,17 @@ use Rattle.bound.proofs.Laws.{kept_once}
 use Rattle.lrat_result.specs.Result.{Said, OptimumFound, Unsatisfiable, Satisfiable, Unknown}
 use Rattle.lrat_result.specs.Result.{Report, report_of}
 use Rattle.lrat_check.specs.Checks.{ChecksSaid, ChecksAs}
-use Rattle.lrat_check.specs.declared.verdicts.Cause.{Cause}
-use Rattle.lrat_check.specs.declared.verdicts.Cause.TheVariants.{Text, ResultForm, BitsLength}
-use Rattle.lrat_check.specs.declared.verdicts.Cause.TheVariants.{NotFeasible, CostWrong}
-use Rattle.lrat_check.specs.declared.verdicts.Cause.TheVariants.{StatusWithoutProof}
-use Rattle.lrat_check.specs.declared.verdicts.Verdict.{Verdict}
-use Rattle.lrat_check.specs.declared.verdicts.Verdict.TheVariants.{Yes, No}
+use Rattle.lrat_machine.specs.declared.verdicts.Cause.{Cause}
+use Rattle.lrat_machine.specs.declared.verdicts.Cause.TheVariants.{Text, ResultForm, BitsLength}
+use Rattle.lrat_machine.specs.declared.verdicts.Cause.TheVariants.{NotFeasible, CostWrong}
+use Rattle.lrat_machine.specs.declared.verdicts.Cause.TheVariants.{StatusWithoutProof}
+use Rattle.lrat_machine.specs.declared.verdicts.Verdict.{Verdict}
+use Rattle.lrat_machine.specs.declared.verdicts.Verdict.TheVariants.{Yes, No}
 use Rattle.lrat_check.specs.Verdict.{bound_verdict, proof_verdict, bits_fault, said_verdict}
 use Rattle.lrat_check.specs.Verdict.{verdict_as}
 use Rattle.lrat_check.specs.Verdict.{CheckVerdictIsRight}
 use Rattle.lrat_check.proofs.HeadVerdicts.{bound_verdict-Yes}
-use Rattle.lrat_check.proofs.Proofs.{proof_verdict-Yes}
+use Rattle.lrat_machine.proofs.Laws.{proof_verdict-Yes}
 use Rattle.lrat_result.proofs.Laws.{says_from_report, report_from_says}
 
 -- the bits

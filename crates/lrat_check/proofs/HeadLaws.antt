@@ -1,8 +1,6 @@
 -- A head in pieces: what holds after a line more, after a piece, and where it has ended.
-use Rattle.std.proofs.Common.{◌≡◌, ℕ, ◌+◌, ◌≤◌, false, List, [], ◌∷◌}
-use Rattle.std.proofs.Common.{◌++◌, length, Result, Ok, Err, refl}
-use Rattle.std.proofs.Common.{sym, ◌∙◌, ap, subst, append_assoc}
-use Rattle.std.proofs.Common.{drop}
+use Rattle.std.proofs.Common.{◌≡◌, ℕ, ◌+◌, ◌≤◌, false, List, [], ◌∷◌, ◌++◌, length, drop, Ok}
+use Rattle.std.proofs.Common.{refl, sym, ◌∙◌, ap, subst, append_assoc}
 use Rattle.std.specs.Prelude.{◌==◌}
 use Rattle.std.specs.Str.Lines.{strip_carriage_return}
 use Rattle.std.proofs.lemmas.List.{drop-append-le}
@@ -11,12 +9,11 @@ use Rattle.cnf.specs.Problem.{Problem}
 use Rattle.text.specs.Pieces.{HasTaken, IsCut, IsFirstLine}
 use Rattle.text.specs.Text.{IsNoFeed, token_lines, tokens_of}
 use Rattle.text.proofs.Laws.{cut-ended, cut-kept, cut-nothing, taken-on, taken-whole}
-use Rattle.cores.specs.Cores.{Core, Counted, count_core, count_cores, first_relaxation, no_cores}
-use Rattle.cores.specs.declared.counting.CoreFault.{CoreFault}
+use Rattle.cores.specs.Cores.{Core, count_core, first_relaxation, no_cores}
 use Rattle.lrat_check.specs.declared.core_lines.HeadStep.{HeadStep}
 use Rattle.lrat_check.specs.declared.core_lines.HeadStep.TheVariants.{GoesOn, Fails}
-use Rattle.lrat_check.specs.declared.verdicts.Cause.{Cause}
-use Rattle.lrat_check.specs.declared.verdicts.Verdict.TheVariants.{No}
+use Rattle.lrat_machine.specs.declared.verdicts.Cause.{Cause}
+use Rattle.lrat_machine.specs.declared.verdicts.Verdict.TheVariants.{No}
 use Rattle.lrat_check.specs.CoreLines.{CountsOn, HeadState, IsBehindHead, IsHeadOf, JudgesHead}
 use Rattle.lrat_check.specs.CoreLines.{verdict_ended, verdict_from}
 use Rattle.lrat_check.specs.Heads.{HeadReading, IsEndedHead, IsOpenHead}

@@ -26,13 +26,12 @@ use Rattle.lrat_cores.specs.Form.{is_core_word, core_of}
 use Rattle.lrat_cores.proofs.Laws.{core_from, core_means, number_is_no_word, word_means}
 use Rattle.lrat_check.specs.Checks.{AcceptsAfter, IsBoundProof, IsHeadedProof}
 use Rattle.lrat_check.specs.Checks.{takes_cores}
-use Rattle.lrat_check.specs.declared.verdicts.Cause.TheVariants.{CoreForm, CoreSum}
-use Rattle.lrat_check.specs.declared.verdicts.Verdict.{Verdict}
-use Rattle.lrat_check.specs.declared.verdicts.Verdict.TheVariants.{Yes, No}
+use Rattle.lrat_machine.specs.declared.verdicts.Cause.TheVariants.{CoreForm, CoreSum}
+use Rattle.lrat_machine.specs.declared.verdicts.Verdict.{Verdict}
+use Rattle.lrat_machine.specs.declared.verdicts.Verdict.TheVariants.{Yes, No}
 use Rattle.lrat_check.specs.Verdict.{bound_verdict, cause_of, head_verdict, headed_verdict}
 use Rattle.lrat_check.specs.Verdict.{verdict_behind, verdict_on}
-use Rattle.lrat_check.proofs.Proofs.{NoneRepeatsIn, lines_from, lines_mean}
-use Rattle.lrat_check.proofs.Proofs.{proof_verdict-Yes}
+use Rattle.lrat_machine.proofs.Laws.{NoneRepeatsIn, lines_from, lines_mean, proof_verdict-Yes}
 
 -- the clauses with cores
 pub cores_once : (p : Problem) (s : Counted) → NoneRepeatsIn (core_cnf p s).clauses
@@ -278,8 +277,8 @@ module _ (p : Problem) (cost : ℕ) (some : Bool) (s : Counted) where
         ends = subst (λ b. EndsIn p cost b left ls) (sym (some_still cs)) ends;
       })
 
-  line_from : (n : ℕ) (t : List ℕ) (ts : List (List ℕ)) (more : List (List (List ℕ))) → HeadComes more
-      → (cs : List Core) (left : Counted) (ls : List ProofLine)
+  line_from : (n : ℕ) (t : List ℕ) (ts : List (List ℕ)) (more : List (List (List ℕ)))
+      → HeadComes more → (cs : List Core) (left : Counted) (ls : List ProofLine)
       → (t ∷ ts) ∷ filter has_tokens more ≡ map core_tokens cs ++ map line_tokens ls
       → AllByRecursion HasCoreNumbers cs → All HasNumbers ls
       → count_cores (first_relaxation p) s cs ≡ Ok left

@@ -13,9 +13,9 @@ use Rattle.bound.specs.Bound.{hard_cnf, bound_as, SaysCheaper}
 use Rattle.lrat_result.specs.declared.report.Report.{Report as ReadReport}
 use Rattle.lrat_result.specs.declared.report.Solution.{Solution}
 use Rattle.lrat_result.specs.declared.report.Said.TheVariants.{Optimum, Unsat}
-use Rattle.lrat_check.specs.declared.verdicts.Verdict.{Verdict}
-use Rattle.lrat_check.specs.declared.verdicts.Verdict.TheVariants.{Yes, No}
-use Rattle.lrat_check.specs.declared.verdicts.Cause.TheVariants.{ResultForm}
+use Rattle.lrat_machine.specs.declared.verdicts.Verdict.{Verdict}
+use Rattle.lrat_machine.specs.declared.verdicts.Verdict.TheVariants.{Yes, No}
+use Rattle.lrat_machine.specs.declared.verdicts.Cause.TheVariants.{ResultForm}
 use Rattle.lrat_result.specs.Result.{Report, OptimumFound, report_of}
 use Rattle.lrat_result.specs.Report.{reported}
 use Rattle.lrat_check.specs.Checks.{CostsAtLeast, HasCost, IsTrueOf, IsTrueResult, takes_cores}

@@ -4,8 +4,8 @@ use Rattle.std.specs.Prelude.{IfSome}
 use Rattle.cnf.specs.Formula.{Cnf, IsUnsatisfiable}
 use Rattle.lrat_check.specs.declared.checking.Left.{Left}
 use Rattle.lrat_check.specs.declared.checking.Left.TheVariants.{Nothing, Proof, Headed}
-use Rattle.lrat_check.specs.declared.verdicts.Verdict.{Verdict}
-use Rattle.lrat_check.specs.declared.verdicts.Verdict.TheVariants.{Yes}
+use Rattle.lrat_machine.specs.declared.verdicts.Verdict.{Verdict}
+use Rattle.lrat_machine.specs.declared.verdicts.Verdict.TheVariants.{Yes}
 use Rattle.lrat_check.specs.Left.{verdict_left, Shows}
 use Rattle.lrat_check.specs.Checks.{CostsAtLeast}
 use Rattle.lrat_check.specs.Verdict.{headed_verdict, proof_verdict}

@@ -1,17 +1,4 @@
-pub mod Walk
-pub mod Members
-pub mod AssumedLaws
-pub mod Candidates
-pub mod Steps
-pub mod Alike
-pub mod Effects
-pub mod Groups
-pub mod Negations
-pub mod Base
-pub mod Proofs
 pub mod HeadVerdicts
-pub mod Judged
-pub mod Whole
 pub mod Checked
 pub mod TrueResults
 pub mod BitsFaults

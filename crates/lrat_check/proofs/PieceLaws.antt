@@ -15,12 +15,10 @@ use Rattle.text.specs.Text.{tokens_of, token_lines, IsNoFeed}
 use Rattle.text.specs.Pieces.{EndsInFeed, IsCut, HasTaken}
 use Rattle.text.proofs.Laws.{cut-ended, cut-kept, cut-nothing, lines-rest, lines-split}
 use Rattle.text.proofs.Laws.{taken-on, taken-whole}
-use Rattle.lrat_check.specs.declared.verdicts.Verdict.{Verdict}
-use Rattle.lrat_live.specs.Listed.{listed_from}
-use Rattle.lrat_check.specs.Machine.{MachineState, after_lines, verdict_after}
+use Rattle.lrat_machine.specs.declared.verdicts.Verdict.{Verdict}
+use Rattle.lrat_machine.specs.Machine.{MachineState, after_lines, listed_from, verdict_after}
 use Rattle.lrat_check.specs.Verdict.{verdict_on, proof_verdict}
-use Rattle.lrat_check.proofs.Base.{live_of-start}
-use Rattle.lrat_check.proofs.Judged.{state_of}
+use Rattle.lrat_machine.proofs.Laws.{live_of-start, state_of}
 use Rattle.lrat_check.specs.Pieces.{ReadingState, IsOpen, IsRefused, Holds, Judges}
 use Rattle.lrat_check.specs.Pieces.{CheckerState, HasJudged, JudgesLines}
 

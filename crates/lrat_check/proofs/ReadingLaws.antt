@@ -11,8 +11,8 @@ use Rattle.lrat_read.specs.Batch.{AreRead, IsFirstRead}
 use Rattle.lrat_read.specs.Blanks.{no_tokens}
 use Rattle.lrat_read.specs.Reader.{IsReadAs}
 use Rattle.lrat_read.specs.declared.line.ReadLine.{ReadLine}
-use Rattle.lrat_check.specs.declared.verdicts.Verdict.{Verdict}
-use Rattle.lrat_check.specs.Machine.{MachineState, after_lines, live_in, verdict_after}
+use Rattle.lrat_machine.specs.declared.verdicts.Verdict.{Verdict}
+use Rattle.lrat_machine.specs.Machine.{MachineState, after_lines, live_in, verdict_after}
 use Rattle.lrat_check.specs.Pieces.{Judges, JudgesLines, JudgesUpTo}
 use Rattle.lrat_check.specs.Verdict.{verdict_on}
 use Rattle.lrat_check.proofs.PieceLaws.{verdict_first}

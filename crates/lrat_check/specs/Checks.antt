@@ -1,23 +1,20 @@
 -- What a result and a certificate must be, for an instance.
 use Rattle.std.specs.Prelude.{◌≡◌, ℕ, suc, ◌≤◌, Bool, true, false, List, [], ◌∷◌, ◌++◌, length}
 use Rattle.std.specs.Prelude.{All, map, filter}
-use Rattle.cnf.specs.Literal.{Literal, Assignment}
+use Rattle.cnf.specs.Literal.{Assignment}
 use Rattle.cnf.specs.Bits.{Extends, assignment_of}
 use Rattle.cnf.specs.Problem.{Problem, IsFeasible, cost_under, IsOptimal, IsInconsistent}
 use Rattle.wcnf.specs.Wcnf.{Reads}
 use Rattle.cnf.specs.Lrat.{ProofLine, Accepts}
 use Rattle.text.specs.Text.{token_lines}
-use Rattle.text.specs.LratText.{IsTextOf, HasNumbers, has_tokens, line_tokens}
+use Rattle.text.specs.LratText.{HasNumbers, has_tokens, line_tokens}
 use Rattle.adder.specs.declared.cells.Profile.{Profile}
 use Rattle.adder.specs.declared.cells.Profile.TheVariants.{One, Five}
 use Rattle.cores.specs.Cores.{Core, Counted, AreCounted}
 use Rattle.cores.specs.Spelling.{core_tokens, HasCoreNumbers}
 use Rattle.bound.specs.Bound.{hard_cnf, bound_as, core_cnf}
 use Rattle.lrat_result.specs.Result.{Said, OptimumFound, Unsatisfiable, Satisfiable, Unknown, Says}
-
--- the proof is accepted over these clauses
-abbrev pub IsProofOver : List (List Literal) → List ℕ → Type 0
-IsProofOver formula proof = (ls : List ProofLine) × IsTextOf proof ls × Accepts formula ls
+pub use Rattle.lrat_machine.specs.Proofs.{IsProofOver}
 
 -- the bytes are core lines and then lines of a proof; a line without tokens is ignored
 pub record IsHeadedText (bytes : List ℕ) (cs : List Core) (ls : List ProofLine) : Type 0 where

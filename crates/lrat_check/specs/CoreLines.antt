@@ -5,8 +5,8 @@ use Rattle.cores.specs.Cores.{Core, Counted, AreCounted, first_relaxation}
 use Rattle.lrat_cores.specs.Form.{is_core_word}
 use Rattle.lrat_check.specs.declared.core_lines.HeadStep.{HeadStep}
 use Rattle.lrat_check.specs.declared.core_lines.HeadStep.TheVariants.{GoesOn, Ended, Fails}
-use Rattle.lrat_check.specs.declared.verdicts.Verdict.{Verdict}
-use Rattle.lrat_check.specs.declared.verdicts.Verdict.TheVariants.{No}
+use Rattle.lrat_machine.specs.declared.verdicts.Verdict.{Verdict}
+use Rattle.lrat_machine.specs.declared.verdicts.Verdict.TheVariants.{No}
 use Rattle.lrat_check.specs.Verdict.{head_verdict, verdict_behind}
 
 -- what the lines of a head leave

@@ -10,8 +10,8 @@ use Rattle.lrat_check.specs.declared.heads.Head.{Head}
 use Rattle.lrat_check.specs.declared.heads.Taken.{Taken}
 use Rattle.lrat_check.specs.declared.heads.Taken.TheVariants.{All, Ended as HasEnded}
 use Rattle.lrat_check.specs.declared.heads.Taken.TheVariants.{Fails as HasFailed}
-use Rattle.lrat_check.specs.declared.verdicts.Cause.TheVariants.{CoreSum}
-use Rattle.lrat_check.specs.declared.verdicts.Verdict.TheVariants.{No}
+use Rattle.lrat_machine.specs.declared.verdicts.Cause.TheVariants.{CoreSum}
+use Rattle.lrat_machine.specs.declared.verdicts.Verdict.TheVariants.{No}
 use Rattle.lrat_check.specs.Pieces.{CheckerState, HasJudged}
 use Rattle.lrat_check.specs.Verdict.{headed_verdict, proof_verdict}
 
@@ -48,7 +48,7 @@ Takes p cost (HasEnded left) r bytes = IsEndedHead p cost r left.now bytes
 Takes p cost (HasFailed cause) r bytes =
     (more : List ℕ) → headed_verdict p cost (bytes ++ more) ≡ No cause ((r.head).lines + 1)
 
--- how many bytes of the piece belong to no line that was counted, at least
+-- at least so many bytes of the piece belong to no line that was counted
 abbrev pub left_length : Taken → ℕ
 left_length All = 0
 left_length (HasEnded left) = length left.now

@@ -3,8 +3,8 @@ use Rattle.std.specs.Prelude.{◌≡◌, ℕ, List}
 use Rattle.cnf.specs.Formula.{IsUnsatisfiable}
 use Rattle.lrat_check.specs.declared.checking.Left.{Left}
 use Rattle.lrat_check.specs.declared.checking.Left.TheVariants.{Nothing, Proof, Headed}
-use Rattle.lrat_check.specs.declared.verdicts.Verdict.{Verdict}
-use Rattle.lrat_check.specs.declared.verdicts.Verdict.TheVariants.{Yes}
+use Rattle.lrat_machine.specs.declared.verdicts.Verdict.{Verdict}
+use Rattle.lrat_machine.specs.declared.verdicts.Verdict.TheVariants.{Yes}
 use Rattle.lrat_check.specs.Checks.{CostsAtLeast}
 use Rattle.lrat_check.specs.Verdict.{headed_verdict, proof_verdict}
 

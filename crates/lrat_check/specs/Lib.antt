@@ -1,8 +1,5 @@
 pub mod Checks
 pub mod Verdict
-pub mod Machine
-pub mod Assumed
-pub mod Steps
 pub mod Vectors
 pub mod Pieces
 pub mod CoreLines

@@ -5,11 +5,11 @@ use Rattle.text.specs.Text.{token_lines, tokens_of}
 use Rattle.text.specs.Pieces.{IsCut, IsEnded}
 use Rattle.lrat_read.specs.declared.line.ReadLine.{ReadLine}
 use Rattle.lrat_read.specs.Batch.{AreRead}
-use Rattle.lrat_check.specs.declared.verdicts.Cause.{Cause}
-use Rattle.lrat_check.specs.declared.verdicts.Verdict.{Verdict}
-use Rattle.lrat_check.specs.declared.verdicts.Verdict.TheVariants.{No}
+use Rattle.lrat_machine.specs.declared.verdicts.Cause.{Cause}
+use Rattle.lrat_machine.specs.declared.verdicts.Verdict.{Verdict}
+use Rattle.lrat_machine.specs.declared.verdicts.Verdict.TheVariants.{No}
 use Rattle.lrat_check.specs.declared.reading.Reading.{Reading}
-use Rattle.lrat_check.specs.Machine.{MachineState, verdict_after}
+use Rattle.lrat_machine.specs.Machine.{MachineState, verdict_after}
 use Rattle.lrat_check.specs.Verdict.{proof_verdict}
 
 -- what the pieces so far leave

@@ -67,14 +67,14 @@ pub fn check(alloc: Global, text: &[u8], answer: &[u8], proof: &[u8]) -> Result<
 ///
 /// In `Profile::Five`, the certificate of an optimum above 0 may begin with core lines,
 /// `core W H x1 .. xm 0`: the weight, the number of outputs and the inputs of a core (Morgado,
-/// Dodaro and Marques-Silva 2014). The LRAT lines behind them then refute the formula that the cores make, if
-/// these are worth the told cost together. Further faults are:
-/// - `CoreForm`: a line that begins with `core` and has not the form, or with whose core there are
-/// more than 2^22 clauses of cores; that line.
+/// Dodaro and Marques-Silva 2014). The LRAT lines behind them have to refute the formula that the
+/// cores make, and the cores have to be worth the told cost together. Further faults are:
+/// - `CoreForm`: a line whose first word is `core` and that has not the form, or with whose core
+/// there are more than 2^22 clauses of cores; that line.
 /// - `CoreWeight`: a core that is worth nothing, has no output or more outputs than inputs, or has
 /// an input twice, or one that has not so much left; its line.
 /// - `CoreSum`: the cores are worth less together than the told cost; the first line behind them
-/// that has a token, or 0 where the certificate ends with them.
+/// that has a token, or 0 where there is none.
 pub fn check_as(
     alloc: Global,
     text: &[u8],
@@ -119,7 +119,7 @@ pub fn check_from<R: Read>(
     check_from_as(alloc, text, answer, proof, Profile::One)
 }
 
-/// As `check_from`, where the formula for a cost below the told one is that of `profile`.
+/// As `check_from`, in any profile: core lines may come first where `check_as` takes them.
 pub fn check_from_as<R: Read>(
     alloc: Global,
     text: &[u8],

@@ -7,10 +7,10 @@ ghost use Rattle.lrat_check.specs.Pieces.{HasJudged};
 ghost use Rattle.lrat_check.specs.Verdict.{proof_verdict};
 
 use crate::copies::copy_formula;
-use crate::machine::Machine;
 use crate::reading::Reading;
 use crate::verdicts::{FeedFault, Verdict};
 use cnf::types::Formula;
+use lrat_machine::machine::Machine;
 use lrat_read::batch::Batch;
 use std::alloc::AllocError;
 use std::marker::Model;

@@ -12,8 +12,8 @@ ghost use Rattle.lrat_read.specs.Reader.{IsReadAs};
 ghost use Rattle.lrat_check.specs.Pieces.{Holds, Judges, JudgesLines, reading_state};
 ghost use Rattle.lrat_check.specs.Verdict.{proof_verdict};
 
-use crate::machine::Machine;
 use crate::verdicts::Verdict;
+use lrat_machine::machine::Machine;
 use lrat_read::batch::Batch;
 use lrat_read::blanks::blank_lines;
 use lrat_read::line::ReadLine;

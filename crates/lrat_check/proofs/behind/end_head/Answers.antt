@@ -3,7 +3,7 @@ use Rattle.std.proofs.Common.{[], ◌++◌, ◌∙◌, ◌+◌, ap, arith, sym}
 use Rattle.std.proofs.lemmas.Result.{IfOk-weaker}
 use Rattle.text.specs.Text.{token_lines}
 use Rattle.lrat_check.specs.CoreLines.{HeadState, verdict_ended}
-use Rattle.lrat_check.specs.declared.verdicts.Verdict.TheVariants.{No}
+use Rattle.lrat_machine.specs.declared.verdicts.Verdict.TheVariants.{No}
 use Rattle.lrat_check.specs.Heads.{head_reading}
 use Rattle.lrat_check.proofs.BehindLaws.{last_ended, last_line}
 use Rattle.lrat_check.proofs.behind.end_head.Goals as goal

@@ -1,5 +1,5 @@
 use Rattle.std.proofs.lemmas.Result.{IfOk-weaker}
-use Rattle.lrat_check.proofs.Whole.{yes_is_sound}
+use Rattle.lrat_machine.proofs.Laws.{yes_is_sound}
 use Rattle.lrat_check.proofs.certificate.check_owned.Goals as goal
 
 pub returns-clause-verdict : goal.returns-clause-verdict

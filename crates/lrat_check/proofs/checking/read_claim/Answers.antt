@@ -1,6 +1,6 @@
 use Rattle.std.proofs.Common.{ℕ, [], ◌∙◌, refl, sym}
 use Rattle.std.specs.Prelude.{Ok}
-use Rattle.lrat_check.specs.declared.verdicts.Verdict.TheVariants.{Yes}
+use Rattle.lrat_machine.specs.declared.verdicts.Verdict.TheVariants.{Yes}
 use Rattle.lrat_check.proofs.Judging.{headed_is_true, headed_optimum, optimum_sound}
 use Rattle.lrat_check.proofs.Judging.{unsat_sound}
 use Rattle.lrat_check.proofs.checking.read_claim.Goals as goal

@@ -1,7 +1,7 @@
 use Rattle.std.proofs.Common.{ℕ, [], refl}
 use Rattle.std.specs.Prelude.{Ok}
 use Rattle.std.proofs.lemmas.Result.{IfOk-weaker}
-use Rattle.lrat_check.specs.declared.verdicts.Verdict.TheVariants.{Yes}
+use Rattle.lrat_machine.specs.declared.verdicts.Verdict.TheVariants.{Yes}
 use Rattle.lrat_check.specs.Left.{verdict_left}
 use Rattle.lrat_check.proofs.Judging.{reported_verdict, reported_sound, form_verdict}
 use Rattle.lrat_check.proofs.LeftLaws.{shows_more}

@@ -3,7 +3,7 @@ use Rattle.std.proofs.Common.{◌+◌, [], ◌∙◌, ap, append-nil, subst, sym
 use Rattle.std.proofs.lemmas.Result.{IfOk-weaker}
 use Rattle.lrat_check.specs.Heads.{Takes, head_reading}
 use Rattle.lrat_check.specs.Verdict.{headed_verdict}
-use Rattle.lrat_check.specs.declared.verdicts.Verdict.TheVariants.{No}
+use Rattle.lrat_machine.specs.declared.verdicts.Verdict.TheVariants.{No}
 use Rattle.lrat_check.proofs.BehindLaws.{ended_whole}
 use Rattle.lrat_check.proofs.headed.check_headed.Goals as goal
 

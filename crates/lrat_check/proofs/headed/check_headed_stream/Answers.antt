@@ -5,7 +5,7 @@ use Rattle.text.specs.Text.{token_lines}
 use Rattle.lrat_check.specs.CoreLines.{verdict_ended}
 use Rattle.lrat_check.specs.Heads.{head_reading}
 use Rattle.lrat_check.specs.Verdict.{headed_verdict}
-use Rattle.lrat_check.specs.declared.verdicts.Verdict.TheVariants.{No}
+use Rattle.lrat_machine.specs.declared.verdicts.Verdict.TheVariants.{No}
 use Rattle.lrat_check.proofs.PieceLaws.{over_all, over_rest, read_more}
 use Rattle.lrat_check.proofs.headed.check_headed_stream.Goals as goal
 

@@ -1,6 +1,6 @@
 -- A line more of those that were read together, and the first fault.
 use Rattle.std.proofs.Common.{ap, arith, drop, subst, sym}
-use Rattle.lrat_check.specs.Machine.{MachineState}
+use Rattle.lrat_machine.specs.Machine.{MachineState}
 use Rattle.lrat_check.specs.Pieces.{JudgesUpTo}
 use Rattle.lrat_check.proofs.ReadingLaws.{judged_more, judged_fault}
 use Rattle.lrat_check.proofs.reading.judge_batch.Goals as goal

@@ -1,6 +1,6 @@
 use Rattle.std.proofs.Common.{[]}
 use Rattle.std.proofs.lemmas.Result.{IfOk-weaker}
-use Rattle.lrat_check.proofs.Whole.{yes_is_sound}
+use Rattle.lrat_machine.proofs.Laws.{yes_is_sound}
 use Rattle.lrat_check.proofs.streams.check_stream.Goals as goal
 
 pub returns-clause-verdict : goal.returns-clause-verdict

@@ -1,7 +1,7 @@
 -- No byte but line feeds was fed.
 use Rattle.std.proofs.Common.{◌∙◌, ap, refl, sym}
 use Rattle.std.proofs.lemmas.List.{length-replicate}
-use Rattle.lrat_check.specs.Machine.{MachineState, after_lines}
+use Rattle.lrat_machine.specs.Machine.{MachineState, after_lines}
 use Rattle.lrat_check.proofs.PieceLaws.{starts}
 use Rattle.lrat_check.proofs.pieces.Checker.behind.Goals as goal
 

@@ -2,7 +2,7 @@
 use Rattle.std.proofs.Common.{◌++◌, None, replicate, take, ap, sym, subst, arith}
 use Rattle.std.proofs.lemmas.List.{length-take-le}
 use Rattle.lrat_read.specs.Blanks.{no_tokens}
-use Rattle.lrat_check.specs.Machine.{MachineState}
+use Rattle.lrat_machine.specs.Machine.{MachineState}
 use Rattle.lrat_check.specs.Pieces.{JudgesLines, reading_state}
 use Rattle.lrat_check.proofs.PieceLaws.{lines_more}
 use Rattle.lrat_check.proofs.ReadingLaws.{lines_passed, lines_within, read_ends}

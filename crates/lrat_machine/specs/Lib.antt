@@ -1,0 +1,6 @@
+pub mod Assumed
+pub mod Machine
+pub mod Proofs
+pub mod Steps
+pub mod Vectors
+pub mod Verdict
