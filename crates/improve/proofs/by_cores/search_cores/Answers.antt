@@ -21,12 +21,8 @@ returns-in_err-is_closed-clause-fault g c =
     let q = err_from_is_err_and c.from_residual.result c.from_residual.ensures.1 in
     rw (q.1, q.2) c.in_err-is_closed.ensures.fault
 
-pub is_core_work-requires-clause-search : goal.is_core_work-requires-clause-search
-is_core_work-requires-clause-search g c =
-    rw (c.into_work-solver.ensures) c.in_ok-is_closed.ensures.search
-
-pub is_core_work-requires-clause-feasible : goal.is_core_work-requires-clause-feasible
-is_core_work-requires-clause-feasible g c =
+pub into_work-requires-clause-feasible : goal.into_work-requires-clause-feasible
+into_work-requires-clause-feasible g c =
     let bits = c.close_gap.new.standing.best.bits.items in (
       assignment_of bits,
       (c.in_ok-is_closed.ensures.goes_on.standing.solution.1 (assignment_of bits)
@@ -37,7 +33,7 @@ pub returns-clause-work : goal.returns-clause-work
 returns-clause-work g c = record {
   hard = c.requires.work.hard;
   no_bound = c.requires.work.no_bound;
-  search = c.is_core_work.ensures;
+  search = c.into_work.ensures.work;
   refutation = c.requires.work.refutation;
 }
 
@@ -48,6 +44,6 @@ pub returns-clause-goes_on : goal.returns-clause-goes_on
 returns-clause-goes_on g c =
     let a = c.in_ok-is_closed.ensures.goes_on in
     let none = ap search_count c.requires.none.0 in
-    let lines = ap (λ w. learned_count w.lines) c.into_work-solver.ensures in
+    let lines = ap learned_count c.into_work.ensures.log in
     goes_same c.args.instance.now _ _ _ _ _ _ _ _ _ _ a
     (omega (arith, a.learned, none, lines, c.in-Ok.ensures.none_learned))
