@@ -1,6 +1,6 @@
 -- What a solver answers under assumptions, from what its search does.
-use Rattle.std.proofs.Common.{◌≡◌, true, false, Bool, List, [], length, map, take, refl}
-use Rattle.std.proofs.Common.{sym, ◌∙◌, ap, subst, arith}
+use Rattle.std.proofs.Common.{◌≡◌, true, false, Bool, List, [], length, map, take, refl, sym, ◌∙◌}
+use Rattle.std.proofs.Common.{ap, subst, arith}
 use Rattle.std.specs.Prelude.{Ok, Err, Contains, ◌⊎◌, All}
 use Rattle.std.proofs.lemmas.Bool.{both_ways, false≢true}
 use Rattle.cnf.specs.Literal.{Literal}
@@ -16,11 +16,11 @@ use Rattle.cdcl.specs.declared.outcome.SolveFault.TheVariants.{Memory, Failed}
 use Rattle.cdcl.specs.Solving.{SolverState, SatisfyGiven, IsLiveRefuted}
 use Rattle.cdcl_search.specs.Running.{is_refuted, IsInput, IsEnded, StaysOpen, Runs}
 use Rattle.cdcl_search.specs.Invariant.{name_at}
-use Rattle.cdcl.specs.Turns.{Pays}
+use Rattle.cdcl.specs.Turns.{Pays, IsPlain}
 use Rattle.cdcl.specs.Outcomes.{IsSolver}
 use Rattle.cdcl.specs.Assuming.{SolvesAssuming, OnSat, OnUnsat, OnCore, OnLimit, IsTrueUnder}
 use Rattle.cdcl.specs.Assuming.{IsCore}
-use Rattle.cdcl.specs.Halting.{IsPlain, IsAtCore}
+use Rattle.cdcl.specs.Halting.{IsAtCore}
 use Rattle.cdcl.specs.Answering.{IsAssumed}
 use Rattle.cdcl.proofs.Answered.{seen_given, given_seen, log_now, ended_log, view_of, written_short}
 use Rattle.cdcl.proofs.Answered.{solver_runs}

@@ -1,7 +1,6 @@
 -- Turns of a search under assumptions.
 use Rattle.std.proofs.Common.{◌≡◌, ℕ, ◌<◌, ◌≤◌, Bool, true, false, List, [], ◌∷◌, length, Option}
-use Rattle.std.proofs.Common.{Some, None}
-use Rattle.std.proofs.Common.{refl, sym, subst, arith}
+use Rattle.std.proofs.Common.{Some, None, refl, sym, subst, arith}
 use Rattle.std.specs.Prelude.{Result, Ok, IsErr, IfSome, IfNone, All, Contains, if◌then◌else◌}
 use Rattle.std.proofs.lemmas.List.Elements.{All-contains, All-nil, All-cons, All-head, All-tail}
 use Rattle.std.proofs.lemmas.Option.{none-some}
@@ -24,10 +23,6 @@ use Rattle.cdcl.specs.Turns.{Pays, GoesOn}
 use Rattle.cdcl.proofs.GivenClause.{frozen_small}
 use Rattle.cdcl.specs.Halting.{AreKnown, AreTrue, Halts, TurnsOrHalts, IsHaltOf}
 use Rattle.cdcl.proofs.Rounds.{pays_none, pays_join, fewer_before}
-
-pub open_log : (s : Search) (p : Input) (ls : List LogLine) → Runs s p ls → StaysOpen p ls
-open_log s p ls r =
-    let log = r.running.recorded.log in record { stays = log.stays; unrefuted = log.unrefuted }
 
 pub known_there : (s : Search) (p : Input) (ls : List LogLine) (asked : List Literal)
     → Runs s p ls → AreKnown (p.stack).variables asked → AreKnown (s.engine).variables asked

@@ -1,6 +1,6 @@
 -- Turns of a search: each leaves fewer.
-use Rattle.std.proofs.Common.{◌≡◌, ℕ, ◌+◌, ◌-◌, ◌*◌, ◌<◌, ◌≤◌, true, false, List, length, sym}
-use Rattle.std.proofs.Common.{◌∙◌, ap, subst, arith, Option, Some, None}
+use Rattle.std.proofs.Common.{◌≡◌, ℕ, ◌+◌, ◌-◌, ◌*◌, ◌<◌, ◌≤◌, true, false, List, length, sym, ◌∙◌}
+use Rattle.std.proofs.Common.{ap, subst, arith, Option, Some, None, Bool}
 use Rattle.std.specs.Prelude.{Result, Ok, IsErr, IfSome, IfNone}
 use Rattle.std.proofs.lemmas.Result.{IfOk-weaker, IfOk-from_err}
 use Rattle.lrat_log.proofs.Laws.{when_err}
@@ -13,8 +13,8 @@ use Rattle.lrat_log.specs.Log.{LogLine, Given}
 use Rattle.cdcl_search.specs.declared.input.Input.{Input}
 use Rattle.cdcl_search.specs.declared.search.Search.{Search}
 use Rattle.cdcl.specs.declared.searching.End.{End}
-use Rattle.cdcl_search.specs.Running.{Runs, Writes, StaysOpen}
-use Rattle.cdcl.specs.Turns.{Pays, IsEndOf, rounds_left, GoesOn, Ends, Turns}
+use Rattle.cdcl_search.specs.Running.{Runs, Writes, StaysOpen, IsEnded}
+use Rattle.cdcl.specs.Turns.{Pays, IsEndOf, rounds_left, GoesOn, Ends, Turns, Opens, IsOpened}
 use Rattle.cdcl_search.proofs.Laws.{writes_none, writes_join}
 
 -- What is paid.
@@ -147,6 +147,22 @@ pub search_fails : {E : Type 0} (result : Result End E) (new : Search) (p : Inpu
 search_fails result new p before after had left fails log pays = record {
   ends = IfOk-from_err result (IsEndOf new p after left) fails;
   pays = pays;
+  err = when_err result log;
+}
+
+-- Before the first turn.
+
+pub open_log : (s : Search) (p : Input) (ls : List LogLine) → Runs s p ls → StaysOpen p ls
+open_log s p ls r =
+    let log = r.running.recorded.log in record { stays = log.stays; unrefuted = log.unrefuted }
+
+pub opens_not : {E : Type 0} (result : Result Bool E) (new : Search) (p : Input)
+    (before after : List LogLine) → IsErr result → StaysOpen p after
+    → Writes p.given before after 0 → Opens result new p before after
+opens_not result new p before after fails log w = record {
+  ended = IfOk-from_err result (λ refuted. refuted ≡ true → IsEnded p after) fails;
+  opened = IfOk-from_err result (λ refuted. refuted ≡ false → IsOpened new p before after) fails;
+  writes = w;
   err = when_err result log;
 }
 

@@ -1,9 +1,7 @@
 -- How a search under assumptions ends, and what its parts promise.
-use Rattle.std.specs.Prelude.{◌≡◌, ℕ, ◌+◌, ◌<◌, ◌≤◌, Bool, true, false, List, [], length, map, take}
-use Rattle.std.specs.Prelude.{Option, Some, None, ◌⊎◌, Result, IfOk, OnErr, IfSome, IfNone, All}
-use Rattle.std.specs.Prelude.{Contains, ⊤}
+use Rattle.std.specs.Prelude.{◌≡◌, ℕ, ◌+◌, ◌<◌, ◌≤◌, Bool, true, false, List, length, Option, Some}
+use Rattle.std.specs.Prelude.{None, Result, IfOk, OnErr, IfSome, IfNone, All, Contains, ⊤}
 use Rattle.cnf.specs.Literal.{Literal}
-use Rattle.cnf.specs.Refute.{IsRefutedByHints}
 use Rattle.propagate.specs.Trail.{Assigned, value_in}
 use Rattle.lrat_log.specs.Log.{LogLine}
 use Rattle.cdcl_order.specs.Budgets.{BudgetState, left_of}
@@ -79,11 +77,6 @@ IsChoice old new assumptions Closes = (new.engine ≡ old.engine)
     × AreTrue (new.engine).trail assumptions
     × AreClosed (new.engine).trail (new.engine).variables
 IsChoice old new assumptions GivesUp = ⊤
-
--- Propagation alone refutes the formula, or the empty clause was given.
-abbrev pub IsPlain : Input → Type 0
-IsPlain p = IsRefutedByHints (map (λ g. g.1) (take p.first p.given))
-    ⊎ Contains (map (λ g. g.1) p.given) []
 
 -- What a search under assumptions answers.
 

@@ -12,13 +12,15 @@ ghost use Rattle.analyze.specs.Analyzer.{IsQuiet};
 ghost use Rattle.cdcl_order.specs.Budgets.{left_of};
 ghost use Rattle.cdcl_search.specs.Invariant.{zero_of};
 ghost use Rattle.cdcl.specs.Solving.{IsLiveRefuted};
+ghost use Rattle.cdcl.specs.Turns.{IsPlain};
 ghost use Rattle.cdcl_search.specs.Running.{Runs, IsReady, KeepsRunning, EngineMoves};
-ghost use Rattle.cdcl.specs.Halting.{AreKnown, AreTrue, IsUntrue, IsChoice, IsPlain, Halts};
+ghost use Rattle.cdcl.specs.Halting.{AreKnown, AreTrue, IsUntrue, IsChoice, Halts};
 ghost use Rattle.cdcl.specs.Halting.{TurnsOrHalts};
 ghost use Rattle.cdcl.specs.declared.assuming.Halt.TheVariants.{Refuted};
 
 use crate::budget::Budget;
 use crate::outcome::Share;
+use crate::searching::refutes_at_once;
 use crate::watch::Watch;
 use cdcl_search::cores::{Refusal, learn_core};
 use cdcl_search::input::Input;
@@ -161,15 +163,10 @@ pub(crate) fn run_assuming<S: Sink, W: Watch>(
         → halt ≡ Refuted) }
     ensures plain { IfOk result (λ halt. IsPlain input.now → halt ≡ Refuted) }
 {
-    search.begin();
-    let found = search.propagate()?;
-    match found {
-        Some(conflict) => {
-            refute(search, input, sink, conflict)?;
-            Ok(Halt::Refuted)
-        }
-        None => descend_assuming(search, input, sink, budget, watch, assumptions, share),
+    if refutes_at_once(search, input, sink)? {
+        return Ok(Halt::Refuted);
     }
+    descend_assuming(search, input, sink, budget, watch, assumptions, share)
 }
 
 /// Learns and decides until it has an answer, or the share or the budget is spent.

@@ -8,7 +8,7 @@ ghost use Rattle.propagate.specs.Fits.{IsFalseClause};
 ghost use Rattle.analyze.specs.Analyzer.{IsQuiet};
 ghost use Rattle.cdcl.specs.Solving.{IsLiveRefuted};
 ghost use Rattle.cdcl_search.specs.Running.{Runs};
-ghost use Rattle.cdcl.specs.Turns.{Ends, Turns};
+ghost use Rattle.cdcl.specs.Turns.{Ends, Turns, Opens};
 ghost use Rattle.cdcl_search.specs.Parts.{LearnsNothing, NotesAll};
 ghost use Rattle.cdcl.specs.declared.searching.End.TheVariants.{Refuted};
 
@@ -50,14 +50,30 @@ pub(crate) fn run<S: Sink, W: Watch>(
         (λ end. IsLiveRefuted input.now.given (S.lines sink.old)
         → end ≡ Refuted) }
 {
+    if refutes_at_once(search, input, sink)? {
+        return Ok(End::Refuted);
+    }
+    descend(search, input, sink, budget, watch)
+}
+
+/// Begins at level 0, propagates, and answers whether that refutes the clauses: then the Empty line
+/// is written.
+pub(crate) fn refutes_at_once<S: Sink>(
+    search: &mut Search,
+    input: &Input,
+    sink: &mut S,
+) -> Result<bool, AllocError>
+    requires runs { Runs search.old input.now (S.lines sink.old) }
+    ensures { Opens result search.new input.now (S.lines sink.old) (S.lines sink.new) }
+{
     search.begin();
     let found = search.propagate()?;
     match found {
         Some(conflict) => {
             refute(search, input, sink, conflict)?;
-            Ok(End::Refuted)
+            Ok(true)
         }
-        None => descend(search, input, sink, budget, watch),
+        None => Ok(false),
     }
 }
 

@@ -6,13 +6,12 @@ ghost use Rattle.lrat_log.specs.Steps.{IsLogOver, learned_count, IsShortLine};
 ghost use Rattle.cdcl.specs.declared.outcome.Outcome.TheVariants.{Unsat};
 ghost use Rattle.cdcl_search.specs.Running.{Runs, IsInput, StaysOpen};
 ghost use Rattle.cdcl.specs.Outcomes.{IsAnswer, PaysFor};
-ghost use Rattle.cdcl.specs.Turns.{Pays};
+ghost use Rattle.cdcl.specs.Turns.{Pays, IsPlain};
 ghost use Rattle.cdcl.specs.Solving.{Solves, given_to, SameGiven, GivesMore, IsLiveRefuted};
 ghost use Rattle.cdcl.specs.Solving.{lines_since};
 ghost use Rattle.cdcl_search.specs.Giving.{IsFreshName, IsFrozen};
 ghost use Rattle.cdcl.specs.Assuming.{SolvesAssuming};
 ghost use Rattle.cdcl.specs.Answering.{IsAssumed};
-ghost use Rattle.cdcl.specs.Halting.{IsPlain};
 
 use crate::answers::bits;
 use crate::assuming::{Halt, run_assuming};
@@ -22,7 +21,7 @@ use crate::searching::{End, run};
 use crate::tally::Tally;
 use crate::watch::{Unwatched, Watch};
 use cdcl_search::given::GivenClauses;
-use cdcl_search::giving::{are_named, give};
+use cdcl_search::giving::{ask_variables, give};
 use cdcl_search::input::Input;
 use cdcl_search::search::Search;
 use cdcl_search::starting::{copy_of, start, store_of};
@@ -175,12 +174,15 @@ impl<S: Sink> Solver<S> {
     }
 
     /// Gives back the memory of the search, for whoever needs only the lines and the clauses from
-    /// now on: as after a failure no clause can be given, and nothing is solved.
+    /// now on: as after a failure no clause can be given, and nothing is solved. Where memory is
+    /// refused it keeps its own.
     pub fn retire(&mut self)
         ensures { self.new ≡ record self.old { failed = true } }
     {
         self.failed = true;
-        self.search.clear();
+        if let Ok(search) = Search::empty(self.search.store.allocator()) {
+            self.search = search;
+        }
     }
 
     /// Gives one more clause, under a name that none has.
@@ -216,7 +218,7 @@ impl<S: Sink> Solver<S> {
             Name::Formula(number) => number.get(),
             Name::Added(_) => unreachable!(),
         };
-        let _ = are_named(lits);
+        ask_variables(lits);
         match give(
             &mut self.search,
             &mut self.input,
@@ -312,7 +314,7 @@ impl<S: Sink> Solver<S> {
         if self.refuted {
             return Ok(Assumed::Unsat);
         }
-        let _ = are_named(assumptions);
+        ask_variables(assumptions);
         let answer = answer_assuming(
             &mut self.search,
             &self.input,

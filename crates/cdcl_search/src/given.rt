@@ -2,7 +2,7 @@
 // each clause. Those of the formula are its own list, whose places tell their numbers; only clauses
 // that came later have a number each, in eight bytes more.
 ghost use Rattle.std.specs.Prelude.{◌≡◌, ◌<◌, ◌^◌, Some, [], ◌∷◌, ◌++◌, length, slice_get, map};
-ghost use Rattle.std.specs.Prelude.{IfOk, OnOk, OnErr};
+ghost use Rattle.std.specs.Prelude.{IfOk, IsErr, OnOk, OnErr, ◌≤◌};
 ghost use Rattle.lrat_log.specs.declared.lines.Name.TheVariants.{Formula};
 ghost use Rattle.lrat_log.specs.Log.{clauses_in};
 ghost use Rattle.lrat_log.specs.Steps.{given_of};
@@ -48,7 +48,8 @@ impl GivenClauses {
     ///
     /// `AllocError` where there are more than 2^32 - 1.
     pub fn of(clauses: ClauseList) -> Result<Self, AllocError>
-        ensures { IfOk result (λ given. given ≡ given_of clauses) }
+        ensures ok { IfOk result (λ given. given ≡ given_of clauses) }
+        ensures err { IsErr result → 2 ^ 32 ≤ length clauses }
     {
         let first = clauses.len();
         if first > MOST {

@@ -56,15 +56,12 @@ pub fn give(
     keep_clause(input, number, lits)
 }
 
-/// Says that variables are from 1, as those of all literals. A proof learns this of a literal that
-/// the code asks, and of no others, so each is asked.
-pub fn are_named(lits: &[Lit]) -> bool
+/// Asks each literal its variable, which is from 1. A proof learns this of a literal that the code
+/// asks, and of no others.
+pub fn ask_variables(lits: &[Lit])
     ensures { All (λ l. 0 < l.variable) lits.now }
 {
-    let mut all = true;
     for lit in lits {
-        let variable = lit.variable();
-        all = all && variable > 0;
+        lit.variable();
     }
-    all
 }

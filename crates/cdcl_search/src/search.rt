@@ -2,8 +2,8 @@
 ghost use Rattle.std.specs.Prelude.{◌≡◌, ℕ, true, false, ◌+◌, ◌<◌, ◌≤◌, [], ◌∷◌, ◌++◌, Some, None};
 ghost use Rattle.std.specs.Prelude.{length, All, IfOk, OnOk, IfSome, IfNone};
 ghost use Rattle.propagate.specs.Trail.{literals_of, depth_of, kept_to};
-ghost use Rattle.propagate.specs.Watches.{is_attached};
-ghost use Rattle.propagate.specs.Fits.{IsFalseClause, IsWithin};
+ghost use Rattle.propagate.specs.Watches.{is_attached, IsBare};
+ghost use Rattle.propagate.specs.Fits.{IsFalseClause, IsWithin, GrowsByUnits};
 ghost use Rattle.analyze.specs.Analyzer.{IsQuiet};
 ghost use Rattle.cdcl_order.specs.Orders.{IsOpenVariable, AreClosed};
 ghost use Rattle.cdcl_search.specs.Invariant.{zero_of};
@@ -16,7 +16,7 @@ use clauses::store::{CRef, MaybeCRef, Store};
 use cnf::types::Lit;
 use lrat_log::packed_name::PackedName;
 use propagate::engine::Engine;
-use std::alloc::AllocError;
+use std::alloc::{AllocError, Global};
 
 /// What a search works on, between its moves.
 #[derive(Drop)]
@@ -47,22 +47,36 @@ pub struct Search {
 }
 
 impl Search {
-    /// Gives back the memory of its tables. It is not used after that.
-    pub fn clear(&mut self) {
-        let alloc = self.store.allocator();
-        if let Ok(engine) = Engine::new(alloc, 0) {
-            self.engine = engine;
-        }
-        if let Ok(policy) = Policy::new(alloc, 0) {
-            self.policy = policy;
-        }
-        if let Ok(analyzer) = Analyzer::new(alloc, 0) {
-            self.analyzer = analyzer;
-        }
-        self.store = Store::new(alloc);
-        self.names = Vec::new(alloc);
-        self.units = Vec::new(alloc);
-        self.stamps = Vec::new(alloc);
+    /// A search over no clauses and no variables.
+    ///
+    /// # Errors
+    ///
+    /// `AllocError` where memory was refused.
+    pub fn empty(alloc: Global) -> Result<Self, AllocError>
+        ensures clauses { IfOk result (λ s. (s.store.slots ≡ []) × (s.names.items ≡ [])) }
+        ensures engine { IfOk result (λ s. IsBare 0 s.engine) }
+        ensures units { IfOk result (λ s. (s.units.items ≡ []) × (s.noted ≡ 0)) }
+        ensures additions { IfOk result (λ s. (s.kept ≡ 0) × (s.additions ≡ 0)) }
+        ensures stamps { IfOk result (λ s. s.stamps.items ≡ []) }
+        ensures policy { IfOk result (λ s.
+            s.policy ≡ record { variables = 0; has_learned = false }) }
+        ensures analyzer { IfOk result (λ s. s.analyzer ≡ 1) }
+    {
+        let engine = Engine::new(alloc, 0)?;
+        let policy = Policy::new(alloc, 0)?;
+        let analyzer = Analyzer::new(alloc, 0)?;
+        Ok(Search {
+            store: Store::new(alloc),
+            engine,
+            names: Vec::new(alloc),
+            units: Vec::new(alloc),
+            noted: 0,
+            kept: 0,
+            additions: 0,
+            stamps: Vec::new(alloc),
+            policy,
+            analyzer,
+        })
     }
 
     /// Makes true what is left, and answers a clause that is false, or none: then no clause is
@@ -82,6 +96,7 @@ impl Search {
         ensures depth { OnOk result (depth_of self.new.engine.trail
             ≡ depth_of self.old.engine.trail) }
         ensures grows { OnOk result (length self.old.engine.trail ≤ length self.new.engine.trail) }
+        ensures by_units { GrowsByUnits self.old.store.slots self.old.engine self.new.engine }
         ensures engine { EngineMoves self.old self.new }
     {
         match self.engine.propagate(&self.store) {
@@ -110,6 +125,9 @@ impl Search {
         ensures runs { KeepsRunning self.old self.new }
         ensures ready { IsReady self.new }
         ensures trail { self.new.engine.trail ≡ kept_to 0 self.old.engine.trail }
+        ensures policy { self.new.policy ≡ record self.old.policy { has_learned = false } }
+        ensures rest { self.new
+            ≡ record self.old { engine = self.new.engine; policy = self.new.policy } }
     {
         self.backtrack(0);
         self.policy.begin();
@@ -119,8 +137,11 @@ impl Search {
     pub fn start_over(&mut self)
         requires { IsReady self.old }
         ensures runs { KeepsRunning self.old self.new }
+        ensures trail { self.new.engine.trail ≡ kept_to 0 self.old.engine.trail }
         ensures variables { self.new.engine.variables ≡ self.old.engine.variables }
-        ensures policy { self.new.policy.has_learned ≡ false }
+        ensures policy { self.new.policy ≡ record self.old.policy { has_learned = false } }
+        ensures rest { self.new
+            ≡ record self.old { engine = self.new.engine; policy = self.new.policy } }
     {
         self.backtrack(0);
         self.policy.start_over();
@@ -131,7 +152,9 @@ impl Search {
         requires { IsReady self.old }
         ensures runs { KeepsRunning self.old self.new }
         ensures variables { self.new.engine.variables ≡ self.old.engine.variables }
-        ensures policy { self.new.policy.has_learned ≡ false }
+        ensures policy { self.new.policy ≡ record self.old.policy { has_learned = false } }
+        ensures rest { self.new
+            ≡ record self.old { engine = self.new.engine; policy = self.new.policy } }
     {
         let depth = self.engine.depth();
         self.backtrack(level.min(depth as usize) as u32);

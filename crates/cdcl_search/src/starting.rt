@@ -73,7 +73,7 @@ pub fn start(store: Store, stack: &mut Stack, additions: u64) -> Result<Search, 
     requires numbers { All (λ n. IsId (number_in n.1)) stack.old.names }
     requires live { All (λ n. IsLiveWithin store.slots stack.old.variables n.0) stack.old.names }
     ensures started { IfOk result (IsStarted store.slots stack.old additions) }
-    ensures names { OnOk result (stack.new ≡ record stack.old { names = [] }) }
+    ensures names { stack.new ≡ record stack.old { names = [] } }
 {
     let alloc = store.allocator();
     let variables = stack.vars();

@@ -1,5 +1,6 @@
 use Rattle.std.proofs.Common.{◌≡◌, List, length, sym, ◌∙◌, ap, arith}
 use Rattle.propagate.specs.Trail.{Assigned}
+use Rattle.cdcl_order.specs.Policies.{PolicyState}
 use Rattle.cdcl.specs.declared.assuming.Halt.TheVariants.{Spent}
 use Rattle.cdcl_search.proofs.Laws.{writes_none}
 use Rattle.cdcl.proofs.Rounds.{goes_over, pays_none, pays_nothing}
@@ -23,7 +24,8 @@ returns-then-is_restart_due g c =
     let o = c.start_over_above.ensures in
     turn_goes_on s c.start_over_above.new.self p c.args.assumptions.now ls ls c.args.budget.now
     (goes_over s c.start_over_above.new.self p ls c.args.budget.now (o.runs p ls c.requires.runs)
-    o.variables (c.is_restart_due.ensures c.if-is_restart_due.true) o.policy)
+    o.variables (c.is_restart_due.ensures c.if-is_restart_due.true)
+    (ap (λ (x : PolicyState). x.has_learned) o.policy))
     (writes_none p.given ls)
 
 pub returns-in_err-note_level : goal.returns-in_err-note_level

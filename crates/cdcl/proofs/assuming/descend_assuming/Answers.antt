@@ -1,5 +1,6 @@
 use Rattle.cdcl.proofs.Rounds.{pays_nothing, pays_join}
-use Rattle.cdcl.proofs.Halts.{open_log, halt_fails}
+use Rattle.cdcl.proofs.Rounds.{open_log}
+use Rattle.cdcl.proofs.Halts.{halt_fails}
 use Rattle.cdcl.proofs.assuming.descend_assuming.Goals as goal
 
 pub returns-in_err-progress : goal.returns-in_err-progress

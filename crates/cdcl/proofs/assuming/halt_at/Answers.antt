@@ -4,7 +4,8 @@ use Rattle.cdcl_search.specs.Running.{Runs, Writes, StaysOpen}
 use Rattle.cdcl_search.specs.Cores.{IsRefusal, IsShown}
 use Rattle.cdcl_search.proofs.Laws.{writes_none}
 use Rattle.cdcl.proofs.Rounds.{pays_none, pays_nothing}
-use Rattle.cdcl.proofs.Halts.{open_log, halt_fails}
+use Rattle.cdcl.proofs.Rounds.{open_log}
+use Rattle.cdcl.proofs.Halts.{halt_fails}
 use Rattle.cdcl.proofs.assuming.halt_at.Goals as goal
 
 pub returns-in-Unknown : goal.returns-in-Unknown

@@ -3,7 +3,8 @@ use Rattle.cdcl.specs.declared.assuming.Halt.TheVariants.{Refuted, Open, Spent}
 use Rattle.cdcl_search.specs.Running.{StaysOpen, Writes}
 use Rattle.cdcl_search.proofs.Laws.{writes_none}
 use Rattle.cdcl.proofs.Rounds.{goes_learned, pays_none, pays_nothing}
-use Rattle.cdcl.proofs.Halts.{open_log, turn_halts, turn_breaks}
+use Rattle.cdcl.proofs.Rounds.{open_log}
+use Rattle.cdcl.proofs.Halts.{turn_halts, turn_breaks}
 use Rattle.cdcl.proofs.assuming.learn_assuming.Goals as goal
 
 pub returns-in_err-refute : goal.returns-in_err-refute

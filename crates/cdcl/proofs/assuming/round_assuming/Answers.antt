@@ -2,7 +2,8 @@ use Rattle.std.proofs.Common.{ap}
 use Rattle.cdcl_search.specs.declared.search.Search.{Search}
 use Rattle.cdcl_search.proofs.Laws.{writes_none}
 use Rattle.cdcl.proofs.Rounds.{pays_nothing}
-use Rattle.cdcl.proofs.Halts.{open_log, turn_breaks, turn_after}
+use Rattle.cdcl.proofs.Rounds.{open_log}
+use Rattle.cdcl.proofs.Halts.{turn_breaks, turn_after}
 use Rattle.cdcl.proofs.assuming.round_assuming.Goals as goal
 
 pub returns-in_err-conflict : goal.returns-in_err-conflict

@@ -32,7 +32,8 @@ returns-then-is_restart_due g c =
     let o = c.start_over.ensures in
     turn_goes s c.start_over.new.self p ls ls c.args.budget.now
     (goes_over s c.start_over.new.self p ls c.args.budget.now (o.runs p ls c.requires.runs)
-    o.variables (c.is_restart_due.ensures c.if-is_restart_due.true) o.policy)
+    o.variables (c.is_restart_due.ensures c.if-is_restart_due.true)
+    (ap (λ (x : PolicyState). x.has_learned) o.policy))
     (writes_none p.given ls)
 
 pub returns-in_err-note_level : goal.returns-in_err-note_level

@@ -1,7 +1,6 @@
 -- The next literal of level 0 follows from its reason.
-use Rattle.std.proofs.Common.{◌≡◌, ◌+◌, ◌-◌, ◌<◌, ◌≤◌, ◌^◌, List, [], ◌∷◌, ◌++◌, length, get_or}
-use Rattle.std.proofs.Common.{true, Some, None, sym, ◌∙◌, ap, subst, arith, refl, set}
-use Rattle.std.specs.Prelude.{All}
+use Rattle.std.proofs.Common.{◌≡◌, ◌+◌, ◌-◌, ◌<◌, ◌^◌, List, [], ◌∷◌, ◌++◌, length, get_or, true}
+use Rattle.std.proofs.Common.{Some, None, sym, ◌∙◌, ap, subst, arith, refl, set}
 use Rattle.std.proofs.lemmas.Option.{none-some}
 use Rattle.std.proofs.lemmas.List.Elements.{All-cons, All-nil}
 use Rattle.cnf.specs.Literal.{Literal}

@@ -1,5 +1,4 @@
 -- The clauses below a place are attached, and no others.
-use Rattle.std.proofs.Common.{◌≡◌}
 use Rattle.cdcl_search.specs.Starts.{AreAttachedBelow}
 use Rattle.cdcl_search.proofs.starting.engine_of.Given as goal
 

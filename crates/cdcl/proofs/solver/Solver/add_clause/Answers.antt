@@ -31,7 +31,7 @@ gives g c =
       c.get-number.ensures.from_one,
       c.get-number.ensures.small,
     ) fixed c.requires.no_repeat
-    c.requires.no_opposites c.are_named.ensures c.in-Ok.ensures.takes
+    c.requires.no_opposites c.ask_variables.ensures c.in-Ok.ensures.takes
 
 -- memory was refused
 fails : (g : _) (c : In-Err g)
@@ -52,7 +52,7 @@ give-requires-clause-within g c = λ u.
     subst (λ s. All (IsFrozen s.frozen) c.args.lits.now) (sym c.self.view_is) c.requires.frozen in
     frozen_within c.self.inside.search c.self.inside.input (g.S.Sink.lines c.self.inside.sink)
     c.args.lits.now c.self.invariant.input (c.self.invariant.running c.if-self.false u) fixed
-    c.are_named.ensures
+    c.ask_variables.ensures
 
 pub invariant_of-self : goal.invariant_of-self
 invariant_of-self g c = gives g (goal.at.invariant_of-self g c).In-Ok

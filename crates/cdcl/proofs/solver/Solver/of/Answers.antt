@@ -64,7 +64,7 @@ start-requires-clause-numbers g c =
     let same = c.eliminate.new.sink.counted in
     let cs = c.into_clauses-clauses.result in
     let firsts = c.len-first.ensures in
-    let numbered = ap length c.in_ok-given.ensures in
+    let numbered = ap length c.in_ok-given.ensures.ok in
     let alone = length-map (given_of cs) (λ (g : Name × List Literal). g.1) in
     let many = ap length (clauses_given cs) in
     left_numbers c.into_clauses-clauses.result c.eliminate.new.store.slots c.in_ok-stack.stack ls
@@ -97,19 +97,19 @@ invariant_of-result g c =
     added_few ls c.eliminate.new.sink.additions c.eliminate.new.sink.counted c.is_short.ensures in
     record {
       input = new_input c.args.formula p cs c.limits.ensures c.into_clauses-clauses.ensures
-          c.requires.frozen c.in_ok-given.ensures firsts
+          c.requires.frozen c.in_ok-given.ensures.ok firsts
           (subst (λ f. length f ≤ p.stack.variables) (sym frozen)
           (subst (λ n. length c.deref.result.now ≤ n) (sym wide) stack.variables.0))
           (subst (λ f. p.stack.variables ≤ length f + 2 ^ 20) (sym frozen)
           (subst (λ n. n ≤ length c.deref.result.now + 2 ^ 20) (sym wide) stack.variables.1));
       lines =
           subst (λ x. StaysLogOver (length c.args.frozen.items) x ls)
-          (sym c.in_ok-given.ensures) stays;
+          (sym c.in_ok-given.ensures.ok) stays;
       refuted_is = c.eliminate.new.sink.told;
       running =
           λ works not_refuted. first_runs c.in_ok-search.search p ls cs slots
           c.eliminate.new.sink.additions c.in_ok-stack.stack c.in_ok-search.ensures.names
-          c.in_ok-search.ensures.started rest c.in_ok-given.ensures
+          c.in_ok-search.ensures.started rest c.in_ok-given.ensures.ok
           firsts stays (sym c.eliminate.new.sink.told ∙ not_refuted) c.eliminate.new.sink.counted
           few
           (subst (λ f. All (λ r. IsFree f r.variable) (c.in_ok-stack.stack).removed) (sym frozen)
@@ -131,7 +131,7 @@ returns-clause-given g c =
     let firsts : c.len-first.result ≡ length c.in_ok-given.given = c.len-first.ensures.len in
     let wide : length c.args.frozen.items ≡ c.args.formula.variables = c.requires.frozen in
     let same : map (λ x. x.1) (take c.len-first.result c.in_ok-given.given)
-    ≡ c.args.formula.clauses = first_clauses p cs c.in_ok-given.ensures firsts
+    ≡ c.args.formula.clauses = first_clauses p cs c.in_ok-given.ensures.ok firsts
     ∙ c.into_clauses-clauses.ensures in (
       λ i. record { variables = wide i; clauses = same i },
       drop_all c.len-first.result c.in_ok-given.given (omega arith),
@@ -160,10 +160,10 @@ returns-clause-lines g c =
     (subst (λ x. StaysLogOver (length c.deref.result.now) (given_of x) ls) e stack.lines) in
     let input =
     new_input c.args.formula p cs c.limits.ensures c.into_clauses-clauses.ensures
-    c.requires.frozen c.in_ok-given.ensures firsts
+    c.requires.frozen c.in_ok-given.ensures.ok firsts
     (subst (λ f. length f ≤ p.stack.variables) (sym frozen)
     (subst (λ n. length c.deref.result.now ≤ n) (sym wide) stack.variables.0))
     (subst (λ f. p.stack.variables ≤ length f + 2 ^ 20) (sym frozen)
     (subst (λ n. n ≤ length c.deref.result.now + 2 ^ 20) (sym wide) stack.variables.1)) in
     log_now p ls input (subst (λ x. StaysLogOver (length c.args.frozen.items) x ls)
-    (sym c.in_ok-given.ensures) stays)
+    (sym c.in_ok-given.ensures.ok) stays)

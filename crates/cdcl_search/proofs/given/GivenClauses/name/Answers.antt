@@ -1,4 +1,4 @@
-use Rattle.std.proofs.Common.{◌≡◌, ◌∙◌, ◌<◌, List, ℕ, length, ap, arith, sym}
+use Rattle.std.proofs.Common.{◌∙◌, ◌<◌, List, ℕ, length, ap, arith, sym}
 use Rattle.clauses.proofs.Laws.{length-zipped}
 use Rattle.cdcl_search.specs.GivenNumbers.{given_as, numbers_with}
 use Rattle.cdcl_search.proofs.GivenList.{listed_name, length-numbers, first_number, later_number}

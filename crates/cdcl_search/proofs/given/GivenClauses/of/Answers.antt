@@ -1,7 +1,6 @@
 -- The clauses of a formula have the numbers from 1 on.
-use Rattle.std.proofs.Common.{length}
 use Rattle.cdcl_search.proofs.GivenList.{given_first}
 use Rattle.cdcl_search.proofs.given.GivenClauses.of.Goals as goal
 
-pub returns : goal.returns
-returns c = rw (c.new.ensures.items, c.len-first.ensures) (given_first c.args.clauses)
+pub returns-clause-ok : goal.returns-clause-ok
+returns-clause-ok c = rw (c.new.ensures.items, c.len-first.ensures) (given_first c.args.clauses)

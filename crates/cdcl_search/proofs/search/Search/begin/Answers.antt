@@ -1,4 +1,5 @@
-use Rattle.std.proofs.Common.{refl, ap}
+use Rattle.std.proofs.Common.{false, refl, ap, ◌∙◌}
+use Rattle.cdcl_search.specs.declared.search.Search.{Search}
 use Rattle.cdcl_search.proofs.EngineMoves.{ready_moved, runs_chosen}
 use Rattle.cdcl_search.proofs.search.Search.begin.Goals as goal
 
@@ -13,3 +14,12 @@ returns-clause-ready c =
     let ready = c.backtrack.ensures.ready in
     ready_moved m m.engine c.begin.new.self ready refl (ap (λ x. x.variables) c.begin.ensures)
     ready.searches
+
+pub returns-clause-policy : goal.returns-clause-policy
+returns-clause-policy c =
+    c.begin.ensures
+    ∙ ap (λ (s : Search). record s.policy { has_learned = false }) c.backtrack.ensures.engine.rest
+
+pub returns-clause-rest : goal.returns-clause-rest
+returns-clause-rest c =
+    ap (λ (s : Search). record s { policy = c.begin.new.self }) c.backtrack.ensures.engine.rest

@@ -1,4 +1,5 @@
-use Rattle.std.proofs.Common.{ap}
+use Rattle.std.proofs.Common.{false, ap, ◌∙◌}
+use Rattle.cdcl_search.specs.declared.search.Search.{Search}
 use Rattle.cdcl_search.proofs.EngineMoves.{runs_chosen}
 use Rattle.cdcl_search.proofs.search.Search.start_over.Goals as goal
 
@@ -7,3 +8,12 @@ returns-clause-runs c p ls r =
     runs_chosen c.backtrack.new.self c.start_over.new.self p ls
     (ap (λ x. x.variables) c.start_over.ensures)
     (c.backtrack.ensures.runs p ls r)
+
+pub returns-clause-policy : goal.returns-clause-policy
+returns-clause-policy c =
+    c.start_over.ensures
+    ∙ ap (λ (s : Search). record s.policy { has_learned = false }) c.backtrack.ensures.engine.rest
+
+pub returns-clause-rest : goal.returns-clause-rest
+returns-clause-rest c =
+    ap (λ (s : Search). record s { policy = c.start_over.new.self }) c.backtrack.ensures.engine.rest
