@@ -24,7 +24,7 @@ use Rattle.bound.specs.Bound.{hard_cnf, bound_as, fixed_clauses, comparator_for,
 use Rattle.cdcl_order.specs.Budgets.{BudgetState, left_of}
 use Rattle.improve.specs.Progress.{Telling}
 pub use Rattle.improve_cores.specs.CoreWork.{IsAcceptedOver}
-use Rattle.improve_cores.specs.Work.{IsSearchWork}
+pub use Rattle.improve_cores.specs.Work.{IsSearchWork}
 use Rattle.improve_cores.specs.declared.work.SearchWork.{SearchWork}
 use Rattle.improve.specs.declared.found.CoreRefutation.{CoreRefutation}
 use Rattle.improve.specs.declared.found.Work.{Work}

@@ -29,8 +29,7 @@ use Rattle.improve.specs.declared.found.ImproveFault.{ImproveFault}
 use Rattle.improve.specs.declared.found.ImproveFault.TheVariants.{Memory as SearchMemory, Progress}
 use Rattle.improve.specs.Improving.{AreFalling, EndsWith, IsCostOfSome, IsSolution}
 use Rattle.improve.specs.Improving.{IsHardWork, IsBoundWork, IsRightFound, OnWork, work_count}
-use Rattle.improve.specs.Improving.{IsOpenRefutation}
-use Rattle.improve_cores.specs.Work.{IsSearchWork}
+use Rattle.improve.specs.Improving.{IsOpenRefutation, IsSearchWork}
 use Rattle.report.specs.Told.{cost_lines}
 use Rattle.report.specs.declared.status.Status.{Status}
 use Rattle.report.specs.declared.status.Status.TheVariants.{OptimumFound, Unsatisfiable}
