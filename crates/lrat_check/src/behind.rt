@@ -29,7 +29,11 @@ pub(crate) fn falls_short(cores: &CoreLines, cost: u64) -> bool
 }
 
 /// The formula that the lines behind the head refute.
-pub(crate) fn formula_behind(cores: &CoreLines, instance: &Instance, cost: u64) -> Result<Formula, AllocError>
+pub(crate) fn formula_behind(
+    cores: &CoreLines,
+    instance: &Instance,
+    cost: u64,
+) -> Result<Formula, AllocError>
     requires small { cost ≤ 2 ^ 62 }
     requires is { IsHeadOf instance.now cores.now }
     requires enough { cores.now.some ≡ true → cost ≤ (cores.now.counted).weight }
