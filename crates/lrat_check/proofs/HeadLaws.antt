@@ -1,5 +1,5 @@
 -- A head in pieces: what holds after a line more, after a piece, and where it has ended.
-use Rattle.std.proofs.Common.{◌≡◌, ℕ, ◌+◌, ◌≤◌, false, List, [], ◌∷◌, ◌++◌, length, drop, Ok}
+use Rattle.std.proofs.Common.{◌≡◌, ℕ, ◌+◌, ◌≤◌, Bool, false, List, [], ◌∷◌, ◌++◌, length, drop, Ok}
 use Rattle.std.proofs.Common.{refl, sym, ◌∙◌, ap, subst, append_assoc}
 use Rattle.std.specs.Prelude.{◌==◌}
 use Rattle.std.specs.Str.Lines.{strip_carriage_return}
@@ -9,16 +9,15 @@ use Rattle.cnf.specs.Problem.{Problem}
 use Rattle.text.specs.Pieces.{HasTaken, IsCut, IsFirstLine}
 use Rattle.text.specs.Text.{IsNoFeed, token_lines, tokens_of}
 use Rattle.text.proofs.Laws.{cut-ended, cut-kept, cut-nothing, taken-on, taken-whole}
-use Rattle.cores.specs.Cores.{Core, count_core, first_relaxation, no_cores}
+use Rattle.cores.specs.Cores.{Core, Counted, count_core, first_relaxation, no_cores}
 use Rattle.lrat_check.specs.declared.core_lines.HeadStep.{HeadStep}
 use Rattle.lrat_check.specs.declared.core_lines.HeadStep.TheVariants.{GoesOn, Fails}
 use Rattle.lrat_machine.specs.declared.verdicts.Cause.{Cause}
-use Rattle.lrat_machine.specs.declared.verdicts.Verdict.TheVariants.{No}
-use Rattle.lrat_check.specs.CoreLines.{CountsOn, HeadState, IsBehindHead, IsHeadOf, JudgesHead}
-use Rattle.lrat_check.specs.CoreLines.{verdict_ended, verdict_from}
+use Rattle.lrat_check.specs.CoreLines.{CountsOn, HeadState, IsBehindHead, IsHeadOf, ReadsHead}
+use Rattle.lrat_check.specs.CoreLines.{end_at, end_from}
+use Rattle.lrat_check.specs.Ends.{Behind, Faulty, end_of_head, head_end}
 use Rattle.lrat_check.specs.Heads.{HeadReading, IsEndedHead, IsOpenHead}
-use Rattle.lrat_check.specs.Verdict.{headed_verdict}
-use Rattle.lrat_check.proofs.HeadVerdicts.{here_other}
+use Rattle.lrat_cores.specs.Form.{is_core_word}
 use Rattle.cores.proofs.Laws.{counted_push}
 use Rattle.lrat_check.proofs.PieceLaws.{tokens-first}
 
@@ -32,18 +31,23 @@ core_counted old new c same e = λ p h. record {
       (subst (λ f. count_core f old.counted c ≡ Ok new.counted) h.from e);
 }
 
+other_first : (from : ℕ) (some : Bool) (s : Counted) (n : ℕ) (t : List ℕ) (ts : List (List ℕ))
+    (more : List (List (List ℕ))) → is_core_word t ≡ false
+    → head_end from some s n ((t ∷ ts) ∷ more) ≡ Behind some s n n ((t ∷ ts) ∷ more)
+other_first from some s n t ts more e = rw e refl
+
 -- the head has ended where a line comes that is behind it
-pub behind_at : (p : Problem) (cost : ℕ) (h : HeadState) (ts : List (List ℕ))
-    (more : List (List (List ℕ))) → IsBehindHead ts
-    → verdict_from p cost h (ts ∷ more) ≡ verdict_ended p cost h (ts ∷ more)
-behind_at p cost h ts more (t, us, split, no_word) =
-    ap (λ x. verdict_from p cost h (x ∷ more)) split
-    ∙ here_other p cost h.some h.counted (h.lines + 1) t us more no_word
-    ∙ ap (λ x. verdict_ended p cost h (x ∷ more)) (sym split)
+pub behind_at : (h : HeadState) (ts : List (List ℕ)) (more : List (List (List ℕ)))
+    → IsBehindHead ts
+    → end_from h (ts ∷ more) ≡ end_at h (ts ∷ more)
+behind_at h ts more (t, us, split, no_word) =
+    ap (λ x. end_from h (x ∷ more)) split
+    ∙ other_first h.from h.some h.counted (h.lines + 1) t us more no_word
+    ∙ ap (λ x. end_at h (x ∷ more)) (sym split)
 
 -- one line more
-module _ (p : Problem) (cost : ℕ) (old : HeadReading) (bytes end : List ℕ)
-    (h : IsOpenHead p cost old bytes) (no_feed : IsNoFeed end) where
+module _ (p : Problem) (old : HeadReading) (bytes end : List ℕ)
+    (h : IsOpenHead p old bytes) (no_feed : IsNoFeed end) where
   abbrev tokens : List (List ℕ)
   tokens = tokens_of (strip_carriage_return (old.rest ++ end))
 
@@ -58,32 +62,32 @@ module _ (p : Problem) (cost : ℕ) (old : HeadReading) (bytes end : List ℕ)
       e ∙ ap (λ x. (x ++ (end ++ 10 ∷ [])) ++ more) (sym (h.cut).split)
 
   -- where the line comes next
-  at_line : (more : List ℕ) → verdict_from p cost old.head (tokens ∷ token_lines more)
-      ≡ headed_verdict p cost ((bytes ++ (end ++ 10 ∷ [])) ++ more)
+  at_line : (more : List ℕ) → end_from old.head (tokens ∷ token_lines more)
+      ≡ end_of_head p ((bytes ++ (end ++ 10 ∷ [])) ++ more)
   at_line more =
-      ap (verdict_from p cost old.head) (sym (tokens-first (old.rest ++ end) more no_feeds))
+      ap (end_from old.head) (sym (tokens-first (old.rest ++ end) more no_feeds))
       ∙ h.resumes ((old.rest ++ end) ++ 10 ∷ more)
-      ∙ ap (headed_verdict p cost) (regroup more)
+      ∙ ap (end_of_head p) (regroup more)
 
-  line_on : (new : HeadReading) → JudgesHead old.head tokens GoesOn new.head
+  line_on : (new : HeadReading) → ReadsHead old.head tokens GoesOn new.head
       → CountsOn old.head new.head → new.rest ≡ []
-      → IsOpenHead p cost new (bytes ++ (end ++ 10 ∷ []))
+      → IsOpenHead p new (bytes ++ (end ++ 10 ∷ []))
   line_on new j counts empty =
       let whole = bytes ++ (end ++ 10 ∷ []) in
       record {
         is = counts p h.is;
         done = whole;
         cut = subst (IsCut whole whole) (sym empty) (cut-ended bytes (end ++ 10 ∷ []) (end, refl));
-        resumes = λ more. sym (j p cost ((h.is).from) (token_lines more)) ∙ at_line more;
+        resumes = λ more. sym (j (token_lines more)) ∙ at_line more;
       }
 
   -- the head has ended before the line
   line_ended : (more : List ℕ) → IsBehindHead tokens
-      → headed_verdict p cost ((bytes ++ (end ++ 10 ∷ [])) ++ more)
-      ≡ verdict_ended p cost old.head (token_lines ((old.rest ++ end) ++ 10 ∷ more))
+      → end_of_head p ((bytes ++ (end ++ 10 ∷ [])) ++ more)
+      ≡ end_at old.head (token_lines ((old.rest ++ end) ++ 10 ∷ more))
   line_ended more behind =
-      sym (at_line more) ∙ behind_at p cost old.head tokens (token_lines more) behind
-      ∙ ap (verdict_ended p cost old.head) (sym (tokens-first (old.rest ++ end) more no_feeds))
+      sym (at_line more) ∙ behind_at old.head tokens (token_lines more) behind
+      ∙ ap (end_at old.head) (sym (tokens-first (old.rest ++ end) more no_feeds))
 
 -- what is left where the head has ended before a line
 left_behind : (rest new_rest end after left more : List ℕ) (kept : ℕ) → kept ≤ length end
@@ -100,101 +104,101 @@ left_behind rest new_rest end after left more kept within same split =
 
 abbrev pub TakesOn : HeadReading → HeadReading → List ℕ → List ℕ → Type 0
 TakesOn old new piece left =
-    (p : Problem) (cost : ℕ) → HasTaken (IsOpenHead p cost old) (IsOpenHead p cost new) piece left
+    (p : Problem) → HasTaken (IsOpenHead p old) (IsOpenHead p new) piece left
 
 pub taken_line : (old mid new : HeadReading) (piece left end after : List ℕ)
     → TakesOn old mid piece left → IsFirstLine left end after
     → (step : HeadStep)
-    → JudgesHead mid.head (tokens_of (strip_carriage_return (mid.rest ++ end))) step new.head
+    → ReadsHead mid.head (tokens_of (strip_carriage_return (mid.rest ++ end))) step new.head
     → step ≡ GoesOn → CountsOn mid.head new.head → new.rest ≡ []
     → TakesOn old new piece after
-taken_line old mid new piece left end after t first step j goes counts empty p cost =
-    taken-on (IsOpenHead p cost old) (IsOpenHead p cost mid) (IsOpenHead p cost new) piece left
-    (end ++ 10 ∷ []) after (t p cost) first.split
-    (λ bytes h. line_on p cost mid bytes end h first.no_feed new
-    (subst (λ s. JudgesHead mid.head (tokens_of (strip_carriage_return (mid.rest ++ end))) s
+taken_line old mid new piece left end after t first step j goes counts empty p =
+    taken-on (IsOpenHead p old) (IsOpenHead p mid) (IsOpenHead p new) piece left
+    (end ++ 10 ∷ []) after (t p) first.split
+    (λ bytes h. line_on p mid bytes end h first.no_feed new
+    (subst (λ s. ReadsHead mid.head (tokens_of (strip_carriage_return (mid.rest ++ end))) s
     new.head) goes j) counts empty)
 
 module _ (old mid new : HeadReading) (piece left end after : List ℕ)
     (t : TakesOn old mid piece left) (first : IsFirstLine left end after)
-    (p : Problem) (cost : ℕ) (bytes : List ℕ) (open_head : IsOpenHead p cost old bytes) where
+    (p : Problem) (bytes : List ℕ) (open_head : IsOpenHead p old bytes) where
   abbrev before : List ℕ
-  before = bytes ++ (t p cost).taken
+  before = bytes ++ (t p).taken
 
-  mid_open : IsOpenHead p cost mid before
-  mid_open = (t p cost).holds bytes open_head
+  mid_open : IsOpenHead p mid before
+  mid_open = (t p).holds bytes open_head
 
   whole : (more : List ℕ)
       → (bytes ++ piece) ++ more ≡ (before ++ (end ++ 10 ∷ [])) ++ (after ++ more)
   whole more =
-      let e : (bytes ++ ((t p cost).taken ++ ((end ++ 10 ∷ []) ++ after))) ++ more
+      let e : (bytes ++ ((t p).taken ++ ((end ++ 10 ∷ []) ++ after))) ++ more
       ≡ (before ++ (end ++ 10 ∷ [])) ++ (after ++ more) = simp append_assoc in
       ap (λ x. (bytes ++ x) ++ more)
-      ((t p cost).split ∙ ap (λ x. (t p cost).taken ++ x) first.split)
+      ((t p).split ∙ ap (λ x. (t p).taken ++ x) first.split)
       ∙ e
 
   pub taken_ended : (kept : ℕ) → kept ≤ length end
       → new.rest ++ drop kept end ≡ mid.rest ++ end → new.head ≡ mid.head
       → IsBehindHead (tokens_of (strip_carriage_return (mid.rest ++ end)))
       → CountsOn mid.head new.head
-      → IsEndedHead p cost new (drop kept left) (bytes ++ piece)
+      → IsEndedHead p new (drop kept left) (bytes ++ piece)
   taken_ended kept within same head behind counts = record {
     is = counts p mid_open.is;
     resumes = λ more.
-        ap (headed_verdict p cost) (whole more)
-        ∙ line_ended p cost mid before end mid_open first.no_feed (after ++ more) behind
-        ∙ ap (λ x. verdict_ended p cost mid.head (token_lines x))
+        ap (end_of_head p) (whole more)
+        ∙ line_ended p mid before end mid_open first.no_feed (after ++ more) behind
+        ∙ ap (λ x. end_at mid.head (token_lines x))
         (sym (left_behind mid.rest new.rest end after left more kept within same first.split))
-        ∙ ap (λ (h : HeadState). verdict_ended p cost h
+        ∙ ap (λ (h : HeadState). end_at h
         (token_lines ((new.rest ++ drop kept left) ++ more))) (sym head);
   }
 
   pub taken_failed : (cause : Cause)
-      → JudgesHead mid.head (tokens_of (strip_carriage_return (mid.rest ++ end))) (Fails cause)
+      → ReadsHead mid.head (tokens_of (strip_carriage_return (mid.rest ++ end))) (Fails cause)
       new.head
       → (more : List ℕ)
-      → headed_verdict p cost ((bytes ++ piece) ++ more) ≡ No cause ((new.head).lines + 1)
+      → end_of_head p ((bytes ++ piece) ++ more) ≡ Faulty cause ((new.head).lines + 1)
   taken_failed cause j more =
-      ap (headed_verdict p cost) (whole more)
-      ∙ sym (at_line p cost mid before end mid_open first.no_feed (after ++ more))
-      ∙ j.1 p cost ((mid_open.is).from) (token_lines (after ++ more))
-      ∙ ap (λ n. No cause (n + 1)) (sym j.0)
+      ap (end_of_head p) (whole more)
+      ∙ sym (at_line p mid before end mid_open first.no_feed (after ++ more))
+      ∙ j.1 (token_lines (after ++ more))
+      ∙ ap (λ n. Faulty cause (n + 1)) (sym j.0)
 
 -- the last bytes of a piece
-kept_on : (p : Problem) (cost : ℕ) (mid new : HeadReading) (left : List ℕ) → IsNoFeed left
+kept_on : (p : Problem) (mid new : HeadReading) (left : List ℕ) → IsNoFeed left
     → new.head ≡ mid.head → new.rest ≡ mid.rest ++ left → (bytes : List ℕ)
-    → IsOpenHead p cost mid bytes → IsOpenHead p cost new (bytes ++ left)
-kept_on p cost mid new left no_feed head rest bytes h = record {
+    → IsOpenHead p mid bytes → IsOpenHead p new (bytes ++ left)
+kept_on p mid new left no_feed head rest bytes h = record {
   is = subst (IsHeadOf p) (sym head) h.is;
   done = h.done;
   cut =
       subst (IsCut (bytes ++ left) h.done) (sym rest)
       (cut-kept bytes h.done mid.rest left h.cut no_feed);
-  resumes = λ more. ap (λ (x : HeadState). verdict_from p cost x (token_lines more)) head
+  resumes = λ more. ap (λ (x : HeadState). end_from x (token_lines more)) head
       ∙ h.resumes more;
 }
 
 pub taken_rest : (old mid new : HeadReading) (piece left : List ℕ) → TakesOn old mid piece left
     → IsNoFeed left → new.head ≡ mid.head → new.rest ≡ mid.rest ++ left
-    → (p : Problem) (cost : ℕ) (bytes : List ℕ) → IsOpenHead p cost old bytes
-    → IsOpenHead p cost new (bytes ++ piece)
-taken_rest old mid new piece left t no_feed head rest p cost =
-    taken-whole (IsOpenHead p cost old) (IsOpenHead p cost mid) (IsOpenHead p cost new) piece left
-    (t p cost) (kept_on p cost mid new left no_feed head rest)
+    → (p : Problem) (bytes : List ℕ) → IsOpenHead p old bytes
+    → IsOpenHead p new (bytes ++ piece)
+taken_rest old mid new piece left t no_feed head rest p =
+    taken-whole (IsOpenHead p old) (IsOpenHead p mid) (IsOpenHead p new) piece left
+    (t p) (kept_on p mid new left no_feed head rest)
 
 -- before the first piece
-pub opens : (p : Problem) (cost : ℕ) (r : HeadReading)
+pub opens : (p : Problem) (r : HeadReading)
     → r.head ≡ record {
       from = first_relaxation p;
       counted = no_cores p;
       some = false;
       lines = 0;
     }
-    → r.rest ≡ [] → IsOpenHead p cost r []
-opens p cost r head empty = record {
+    → r.rest ≡ [] → IsOpenHead p r []
+opens p r head empty = record {
   is =
       subst (IsHeadOf p) (sym head) (record { from = refl; cores = []; counted = refl });
   done = [];
   cut = subst (IsCut [] []) (sym empty) cut-nothing;
-  resumes = λ more. ap (λ (h : HeadState). verdict_from p cost h (token_lines more)) head;
+  resumes = λ more. ap (λ (h : HeadState). end_from h (token_lines more)) head;
 }

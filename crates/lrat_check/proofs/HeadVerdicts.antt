@@ -29,8 +29,9 @@ use Rattle.lrat_check.specs.Checks.{takes_cores}
 use Rattle.lrat_machine.specs.declared.verdicts.Cause.TheVariants.{CoreForm, CoreSum}
 use Rattle.lrat_machine.specs.declared.verdicts.Verdict.{Verdict}
 use Rattle.lrat_machine.specs.declared.verdicts.Verdict.TheVariants.{Yes, No}
-use Rattle.lrat_check.specs.Verdict.{bound_verdict, cause_of, head_verdict, headed_verdict}
-use Rattle.lrat_check.specs.Verdict.{verdict_behind, verdict_on}
+use Rattle.lrat_check.specs.Ends.{cause_of}
+use Rattle.lrat_check.specs.Verdict.{bound_verdict, head_verdict, headed_verdict}
+use Rattle.lrat_check.specs.Verdict.{formula_behind, verdict_behind, verdict_on}
 use Rattle.lrat_machine.proofs.Laws.{NoneRepeatsIn, lines_from, lines_mean, proof_verdict-Yes}
 
 -- the clauses with cores
@@ -57,6 +58,10 @@ record Behind (p : Problem) (cost : ℕ) (some : Bool) (s : Counted) (lines : Li
   pub ends : EndsIn p cost some s proof
 
 module _ (p : Problem) (cost : ℕ) where
+  pub enough_formula : (s : Counted) (first : ℕ) → nat_le cost s.weight ≡ true
+      → formula_behind p cost true s first ≡ Ok (core_cnf p s)
+  enough_formula s first e = rw e refl
+
   pub enough_goes : (s : Counted) (first n : ℕ) (lines : List (List (List ℕ)))
       → nat_le cost s.weight ≡ true → verdict_behind p cost true s first n lines
       ≡ verdict_on (start_of (core_cnf p s).clauses) false n lines

@@ -1,7 +1,9 @@
 pub mod Checks
+pub mod Ends
 pub mod Verdict
 pub mod Vectors
 pub mod Pieces
 pub mod CoreLines
 pub mod Heads
+pub mod CoreFormula
 pub mod Left

@@ -1,11 +1,11 @@
 -- The verdict on a certificate that may begin with cores, and on a text with its result and
 -- certificate. The first fault decides.
-use Rattle.std.specs.Prelude.{◌≡◌, ℕ, ◌+◌, Bool, true, false, not, List, [], ◌∷◌, length}
+use Rattle.std.specs.Prelude.{◌≡◌, ℕ, Bool, true, false, not, List, length}
 use Rattle.std.specs.Prelude.{Option, Some, None, Result, Ok, Err, nat_le, ◌==◌, if◌then◌else◌}
 use Rattle.std.specs.Prelude.{◌↔◌}
 use Rattle.std.specs.List.{list_all}
 use Rattle.cnf.specs.Clause.{clause_value}
-use Rattle.text.specs.Text.{token_lines}
+use Rattle.cnf.specs.Formula.{Cnf}
 use Rattle.cnf.specs.Problem.{Problem, cost_under}
 use Rattle.wcnf.specs.declared.faults.FaultKind.{FaultKind}
 use Rattle.wcnf.specs.Reading.{reading_of}
@@ -13,63 +13,69 @@ use Rattle.cnf.specs.Bits.{assignment_of}
 use Rattle.cnf.specs.Lrat.{start_of}
 use Rattle.adder.specs.declared.cells.Profile.{Profile}
 use Rattle.adder.specs.declared.cells.Profile.TheVariants.{One, Five}
-use Rattle.cores.specs.Cores.{Core, Counted, count_core, first_relaxation, no_cores}
-use Rattle.cores.specs.declared.counting.CoreFault.{CoreFault}
-use Rattle.cores.specs.declared.counting.CoreFault.TheVariants.{Weight, TooMany}
+use Rattle.cores.specs.Cores.{Counted, first_relaxation}
 use Rattle.bound.specs.Bound.{hard_cnf, bound_as, core_cnf}
-use Rattle.lrat_cores.specs.Form.{is_core_word, core_of}
 use Rattle.lrat_result.specs.Result.{Said, OptimumFound, Unsatisfiable, Satisfiable, Unknown}
 use Rattle.lrat_result.specs.Result.{Report, report_of}
 use Rattle.lrat_check.specs.Checks.{ChecksAs, takes_cores}
+use Rattle.lrat_check.specs.Ends.{HeadEnd, Behind, Faulty, end_of_head, head_end}
 use Rattle.lrat_machine.specs.declared.verdicts.Cause.{Cause}
 use Rattle.lrat_machine.specs.declared.verdicts.Cause.TheVariants.{Text, ResultForm, BitsLength}
 use Rattle.lrat_machine.specs.declared.verdicts.Cause.TheVariants.{NotFeasible, CostWrong}
 use Rattle.lrat_machine.specs.declared.verdicts.Cause.TheVariants.{StatusWithoutProof}
-use Rattle.lrat_machine.specs.declared.verdicts.Cause.TheVariants.{CoreForm, CoreWeight, CoreSum}
+use Rattle.lrat_machine.specs.declared.verdicts.Cause.TheVariants.{CoreSum}
 use Rattle.lrat_machine.specs.declared.verdicts.Verdict.{Verdict}
 use Rattle.lrat_machine.specs.declared.verdicts.Verdict.TheVariants.{Yes, No}
 pub use Rattle.lrat_machine.specs.Verdict.{verdict_on, proof_verdict}
 
-abbrev pub cause_of : CoreFault → Cause
-cause_of Weight = CoreWeight
-cause_of TooMany = CoreForm
+-- the formula that the lines behind the cores refute. Where the cores are worth too little, the
+-- fault is at line first: the first of them with a token, or 0
+abbrev pub formula_behind : Problem → ℕ → Bool → Counted → (first : ℕ) → Result Cnf (Cause × ℕ)
+formula_behind p cost false s first = Ok (bound_as Five p cost)
+formula_behind p cost true s first =
+    if nat_le cost s.weight then Ok (core_cnf p s) else Err (CoreSum, first)
 
--- the verdict on the lines behind the cores, which are those from line n on. Where the cores are
--- worth too little, the fault is at line first: the first of them with a token, or 0
+abbrev pub formula_at : Problem → ℕ → HeadEnd → Result Cnf (Cause × ℕ)
+formula_at p cost (Behind some s first n lines) = formula_behind p cost some s first
+formula_at p cost (Faulty cause line) = Err (cause, line)
+
+-- the formula that a certificate refutes, which may begin with cores
+abbrev pub headed_formula : Problem → ℕ → List ℕ → Result Cnf (Cause × ℕ)
+headed_formula p cost proof = formula_at p cost (end_of_head p proof)
+
+-- the verdict on the lines behind the cores, which are those from line n on
 abbrev pub verdict_behind : Problem → ℕ → Bool → Counted → (first n : ℕ) → List (List (List ℕ))
     → Verdict
-verdict_behind p cost false s first n lines =
-    verdict_on (start_of (bound_as Five p cost).clauses) false n lines
-verdict_behind p cost true s first n lines =
-    if nat_le cost s.weight then verdict_on (start_of (core_cnf p s).clauses) false n lines
-    else No CoreSum first
+verdict_behind p cost some s first n lines = by (formula_behind p cost some s first)
+  where
+    by : Result Cnf (Cause × ℕ) → Verdict
+    by (Ok f) = verdict_on (start_of f.clauses) false n lines
+    by (Err e) = No e.0 e.1
+
+abbrev pub verdict_at : Problem → ℕ → HeadEnd → Verdict
+verdict_at p cost (Behind some s first n lines) = verdict_behind p cost some s first n lines
+verdict_at p cost (Faulty cause line) = No cause line
 
 -- the verdict on the lines from line n on, after the cores that count to s; some says that there
 -- was one
 abbrev pub head_verdict : Problem → ℕ → Bool → Counted → ℕ → List (List (List ℕ)) → Verdict
-head_verdict p cost some s n [] = verdict_behind p cost some s 0 n []
-head_verdict p cost some s n ([] ∷ more) = head_verdict p cost some s (n + 1) more
-head_verdict p cost some s n ((t ∷ ts) ∷ more) =
-    if is_core_word t then read (core_of ts) (λ next. head_verdict p cost true next (n + 1) more)
-    else verdict_behind p cost some s n n ((t ∷ ts) ∷ more)
-  where
-    counted : Result Counted CoreFault → (Counted → Verdict) → Verdict
-    counted (Err e) next = No (cause_of e) n
-    counted (Ok left) next = next left
-
-    read : Option Core → (Counted → Verdict) → Verdict
-    read None next = No CoreForm n
-    read (Some c) next = counted (count_core (first_relaxation p) s c) next
+head_verdict p cost some s n lines =
+    verdict_at p cost (head_end (first_relaxation p) some s n lines)
 
 -- the verdict on a certificate that may begin with cores
 abbrev pub headed_verdict : Problem → ℕ → List ℕ → Verdict
-headed_verdict p cost proof = head_verdict p cost false (no_cores p) 1 (token_lines proof)
+headed_verdict p cost proof = verdict_at p cost (end_of_head p proof)
 
 -- the verdict on a certificate that nothing costs less
 abbrev pub bound_verdict : Profile → Problem → ℕ → List ℕ → Verdict
 bound_verdict profile p cost proof =
     if takes_cores profile cost then headed_verdict p cost proof
     else proof_verdict (bound_as profile p cost).clauses proof
+
+-- in the profile of cores: the formula that a certificate refutes that nothing costs less
+abbrev pub refuted_formula : Problem → ℕ → List ℕ → Result Cnf (Cause × ℕ)
+refuted_formula p cost proof =
+    if takes_cores Five cost then headed_formula p cost proof else Ok (bound_as Five p cost)
 
 -- the bits of a result: their number, whether they satisfy the hard clauses, and their cost
 abbrev pub bits_fault : Problem → Report → ℕ → List Bool → Option Verdict

@@ -1,16 +1,15 @@
 // What follows the head of a certificate: LRAT lines over a formula that the cores make, or over
 // that for a lower cost where there is no core.
 ghost use Rattle.std.specs.Prelude.{◌≡◌, ℕ, ◌+◌, ◌<◌, ◌≤◌, ◌^◌, ◌++◌, [], true, false, List};
-ghost use Rattle.std.specs.Prelude.{length, IfOk, OnOk};
+ghost use Rattle.std.specs.Prelude.{length, IfOk, OnOk, Ok};
 ghost use Rattle.cnf.specs.Formula.{IsUnsatisfiable};
 ghost use Rattle.cnf.specs.Literal.{Literal};
-ghost use Rattle.cnf.specs.Lrat.{start_of};
 ghost use Rattle.text.specs.Text.{token_lines};
-ghost use Rattle.lrat_check.specs.CoreLines.{IsHeadOf, verdict_ended, verdict_from};
+ghost use Rattle.lrat_check.specs.CoreLines.{IsHeadOf, end_from};
 ghost use Rattle.lrat_check.specs.Checks.{CostsAtLeast};
-ghost use Rattle.lrat_check.specs.Heads.{IsBehind, IsOpenHead, head_reading};
+ghost use Rattle.lrat_check.specs.Heads.{IsBehind, IsOpenHead, head_reading, verdict_ended};
 ghost use Rattle.lrat_check.specs.Pieces.{HasJudged};
-ghost use Rattle.lrat_check.specs.Verdict.{headed_verdict, verdict_behind, verdict_on};
+ghost use Rattle.lrat_check.specs.Verdict.{formula_behind, headed_verdict, verdict_at};
 
 use crate::core_lines::{CoreLines, HeadStep};
 use crate::heads::Head;
@@ -22,7 +21,7 @@ use cnf::types::{Formula, Instance};
 use std::alloc::AllocError;
 
 /// Whether there are cores, and they are worth less together than the cost.
-fn falls_short(cores: &CoreLines, cost: u64) -> bool
+pub(crate) fn falls_short(cores: &CoreLines, cost: u64) -> bool
     ensures short { result ≡ true → (cores.now.some ≡ true) × ((cores.now.counted).weight < cost) }
     ensures enough { result ≡ false → cores.now.some ≡ true → cost ≤ (cores.now.counted).weight }
 {
@@ -30,13 +29,16 @@ fn falls_short(cores: &CoreLines, cost: u64) -> bool
 }
 
 /// The formula that the lines behind the head refute.
-fn formula_behind(cores: &CoreLines, instance: &Instance, cost: u64) -> Result<Formula, AllocError>
+pub(crate) fn formula_behind(
+    cores: &CoreLines,
+    instance: &Instance,
+    cost: u64,
+) -> Result<Formula, AllocError>
     requires small { cost ≤ 2 ^ 62 }
     requires is { IsHeadOf instance.now cores.now }
     requires enough { cores.now.some ≡ true → cost ≤ (cores.now.counted).weight }
-    ensures same { IfOk result (λ f. (first n : ℕ) (lines : List (List (List ℕ)))
-        → verdict_behind instance.now cost cores.now.some cores.now.counted first n lines
-        ≡ verdict_on (start_of f.clauses) false n lines) }
+    ensures same { IfOk result (λ f. (first : ℕ)
+        → formula_behind instance.now cost cores.now.some cores.now.counted first ≡ Ok f) }
     ensures refutes { IfOk result
         (λ f. IsUnsatisfiable f.clauses → CostsAtLeast instance.now cost) }
 {
@@ -112,7 +114,7 @@ pub(crate) fn judge_behind(
 
 /// The verdict, where the certificate ends with the head.
 fn verdict_at_end(cores: &CoreLines, instance: &Instance, cost: u64) -> Verdict
-    ensures verdict { result ≡ verdict_from instance.now cost cores.now [] }
+    ensures verdict { result ≡ verdict_at instance.now cost (end_from cores.now []) }
     ensures no { result ≡ Verdict.Yes → ⊥ }
 {
     if falls_short(cores, cost) {
@@ -128,7 +130,7 @@ pub(crate) fn end_head(head: Head, instance: &Instance, cost: u64) -> Result<Ver
     requires is { IsHeadOf instance.now head.cores }
     requires room { head.cores.lines + length head.rest < 2 ^ 64 }
     ensures verdict { IfOk result (λ v. (bytes : List ℕ)
-        → IsOpenHead instance.now cost (head_reading head) bytes
+        → IsOpenHead instance.now (head_reading head) bytes
         → v ≡ headed_verdict instance.now cost bytes) }
     ensures sound { IfOk result (λ v. v ≡ Verdict.Yes → CostsAtLeast instance.now cost) }
 {

@@ -3,8 +3,8 @@
 ghost use Rattle.std.specs.Prelude.{◌≡◌, ◌+◌, ◌<◌, ◌≤◌, ◌^◌, false, IfOk};
 ghost use Rattle.cores.specs.Cores.{first_relaxation, no_cores};
 ghost use Rattle.text.specs.Text.{tokens_of};
-ghost use Rattle.lrat_check.specs.CoreLines.{CountsOn, JudgesHead};
-ghost use Rattle.lrat_check.specs.Verdict.{cause_of};
+ghost use Rattle.lrat_check.specs.CoreLines.{CountsOn, ReadsHead};
+ghost use Rattle.lrat_check.specs.Ends.{cause_of};
 
 use crate::verdicts::Cause;
 use cnf::types::Instance;
@@ -78,7 +78,7 @@ impl CoreLines {
     pub fn step(&mut self, line: &[u8]) -> Result<HeadStep, AllocError>
         requires room { self.old.lines + 1 < 2 ^ 64 }
         ensures judges { IfOk result
-            (λ step. JudgesHead self.old (tokens_of line.now) step self.new) }
+            (λ step. ReadsHead self.old (tokens_of line.now) step self.new) }
         ensures counts { IfOk result (λ step. CountsOn self.old self.new) }
         ensures lines { self.new.lines ≤ self.old.lines + 1 }
     {

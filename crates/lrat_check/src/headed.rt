@@ -2,8 +2,8 @@
 ghost use Rattle.std.specs.Prelude.{◌≡◌, ℕ, ◌+◌, ◌<◌, ◌≤◌, ◌^◌, ◌++◌, List, length, IfOk, IfSome};
 ghost use Rattle.text.specs.Text.{token_lines};
 ghost use Rattle.lrat_check.specs.Checks.{CostsAtLeast};
-ghost use Rattle.lrat_check.specs.CoreLines.{IsHeadOf, verdict_ended};
-ghost use Rattle.lrat_check.specs.Heads.{IsOpenHead, head_reading};
+ghost use Rattle.lrat_check.specs.CoreLines.{IsHeadOf};
+ghost use Rattle.lrat_check.specs.Heads.{IsOpenHead, head_reading, verdict_ended};
 ghost use Rattle.lrat_check.specs.Verdict.{headed_verdict};
 
 use crate::behind::{checker_behind, end_head, judge_behind};
@@ -77,7 +77,7 @@ fn conclude(head: Head, instance: &Instance, cost: u64) -> Result<Verdict, Check
     requires is { IsHeadOf instance.now head.cores }
     requires room { head.cores.lines + length head.rest < 2 ^ 64 }
     ensures verdict { IfOk result (λ v. (bytes : List ℕ)
-        → IsOpenHead instance.now cost (head_reading head) bytes
+        → IsOpenHead instance.now (head_reading head) bytes
         → v ≡ headed_verdict instance.now cost bytes) }
     ensures sound { IfOk result (λ v. v ≡ Verdict.Yes → CostsAtLeast instance.now cost) }
 {

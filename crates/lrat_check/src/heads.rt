@@ -6,7 +6,7 @@ ghost use Rattle.std.specs.Prelude.{drop};
 ghost use Rattle.std.specs.Str.Lines.{strip_carriage_return};
 ghost use Rattle.text.specs.Text.{tokens_of};
 ghost use Rattle.cnf.specs.Problem.{Problem};
-ghost use Rattle.lrat_check.specs.CoreLines.{CountsOn, JudgesHead};
+ghost use Rattle.lrat_check.specs.CoreLines.{CountsOn, ReadsHead};
 ghost use Rattle.lrat_check.specs.Heads.{IsOpenHead, IsSomeLeft, Takes, head_reading, left_length};
 
 use crate::core_lines::{CoreLines, HeadStep};
@@ -41,7 +41,7 @@ impl Head {
     /// Before the first piece.
     pub fn new(instance: &Instance) -> Result<Self, AllocError>
         ensures open { IfOk result
-            (λ h. (cost : ℕ) → IsOpenHead instance.now cost (head_reading h) []) }
+            (λ h. IsOpenHead instance.now (head_reading h) []) }
         ensures lines { IfOk result (λ h. h.cores.lines + length h.rest ≡ 0) }
     {
         Ok(Head {
@@ -53,9 +53,9 @@ impl Head {
     /// Reads the piece, up to the line behind the head or the first fault.
     pub fn take<'a>(&mut self, piece: &'a [u8]) -> Result<Taken<'a>, AllocError>
         requires { self.old.cores.lines + length self.old.rest + length piece.now < 2 ^ 64 }
-        ensures takes { IfOk result (λ taken. (p : Problem) (cost : ℕ) (bytes : List ℕ)
-            → IsOpenHead p cost (head_reading self.old) bytes
-            → Takes p cost taken (head_reading self.new) (bytes ++ piece.now)) }
+        ensures takes { IfOk result (λ taken. (p : Problem) (bytes : List ℕ)
+            → IsOpenHead p (head_reading self.old) bytes
+            → Takes p taken (head_reading self.new) (bytes ++ piece.now)) }
         ensures lines { IfOk result (λ taken.
             self.new.cores.lines + length self.new.rest + left_length taken
             ≤ self.old.cores.lines + length self.old.rest + length piece.now) }
@@ -78,7 +78,7 @@ impl Head {
     fn end_line(&mut self, end: &[u8]) -> Result<(HeadStep, usize), AllocError>
         requires { self.old.cores.lines + 1 < 2 ^ 64 }
         ensures judges { IfOk result (λ r.
-            JudgesHead self.old.cores
+            ReadsHead self.old.cores
             (tokens_of (strip_carriage_return (self.old.rest ++ end.now))) r.0 self.new.cores) }
         ensures counts { IfOk result (λ r. CountsOn self.old.cores self.new.cores) }
         ensures cleared { IfOk result (λ r. r.0 ≡ HeadStep.GoesOn → self.new.rest ≡ []) }

@@ -5,6 +5,7 @@ mod behind;
 pub mod certificate;
 pub mod checking;
 mod copies;
+pub mod core_formula;
 mod core_lines;
 mod headed;
 mod heads;

@@ -111,21 +111,26 @@ Faults:
 
 const ENCODE_NOTES: &str = "\
 A certificate for cost COST without core lines refutes this formula. Another LRAT checker takes it,
-and a SAT solver that writes LRAT can make one.
+and a SAT solver that writes LRAT can make one. Where a certificate begins with core lines, its
+other lines refute the formula that --proof prints.
 
 Statuses:
    0  the formula is written
-   2  the FILE or the command line is faulty
+   2  the FILE, a core line of CERTIFICATE or the command line is faulty
    3  a file cannot be opened or read, the formula cannot be written, or memory is refused
 
 Example:
-  wmax encode a.wcnf 4 > a.cnf
+  wmax encode --profile 5 --proof a.lrat a.wcnf 3 > a.cnf
+  grep -v '^core' a.lrat > b.lrat  # refutes a.cnf
 
 Faults:
-  error: line N: NoZero  the clause on line N has no 0 at its end, and so on
-  error: Read            FILE cannot be opened or read
-  error: Memory          memory was refused
-  error: Output          standard output cannot be written
+  error: line N: NoZero      the clause on line N of FILE has no 0 at its end, and so on
+  error: line N: CoreForm    line N of CERTIFICATE is no core line, or one too many
+  error: line N: CoreWeight  the core on line N is worth nothing, or more than its inputs have left
+  error: line N: CoreSum     the cores before line N are worth less than COST
+  error: Read                a file cannot be opened or read
+  error: Memory              memory was refused
+  error: Output              standard output cannot be written
 'wmax solve --help' has more of those of FILE; docs/FAULTS.md and the manual page have all.";
 
 const NOTES: &str = "\
@@ -266,6 +271,13 @@ fn make_encode<'a>(alloc: Global) -> Result<Command<'a>, Error> {
         .action(ArgAction::Set)
         .value_parser(ValueParser::unsigned(0, MOST_COST))
         .help("The bound: the formula says 'cost below COST'");
+    let proof = Arg::new(alloc, "proof")
+        .long("proof")
+        .value_name("CERTIFICATE")
+        .help(
+            "Prints the formula that the lines of CERTIFICATE behind its core lines refute, where \
+             it shows that nothing costs less than COST. With --profile 5 alone",
+        );
     let command = Command::new(alloc, "encode")
         .about(
             "Prints a formula as DIMACS CNF that is satisfiable exactly when some solution costs \
@@ -274,6 +286,7 @@ fn make_encode<'a>(alloc: Global) -> Result<Command<'a>, Error> {
         .after_help(ENCODE_NOTES)
         .arg(make_path(alloc, "FILE", "The instance, a WCNF text"))?
         .arg(cost)?
+        .arg(proof)?
         .arg(make_profile(alloc))?;
     Ok(command)
 }

@@ -10,6 +10,7 @@ mod standard_error;
 
 use adder::cells::Profile;
 use bound::encoding::write_formula;
+use bound::formulas::write_dimacs;
 use cdcl::budget::Budget;
 use clap::error::ErrorKind;
 use clap::{ArgMatches, Error};
@@ -17,6 +18,7 @@ use explain::explaining::{ExplainFault, write_explanation};
 use file_id::{FileId, find_file_id, open_proof};
 use keeper::{BestPaths, Earlier, Keeper, judge_earlier};
 use lrat_check::checking::check_from_as;
+use lrat_check::core_formula::{Refuted, core_formula};
 use lrat_check::verdicts::{Cause, CheckFault, Verdict};
 use onlooker::Onlooker;
 use progress::Meter;
@@ -237,10 +239,14 @@ fn explain<R: Files + AllocGlobal + Print>(
     }
 }
 
-/// `wmax encode`: the formula for 'cost below COST'. The process ends after it, so the clauses of
-/// the text are not given back one by one.
-fn encode<R: Files + AllocGlobal + Print>(
+/// What is said of a `--proof` in another profile.
+const NO_CORES: &str = "error: encode takes --proof with --profile 5 alone";
+
+/// `wmax encode`: the formula for 'cost below COST', or with `--proof` that of the core lines of the
+/// certificate, which is opened after FILE and before any of it is read.
+fn encode<R: Files + AllocGlobal + Print, E: Write>(
     rt: &R,
+    messages: &mut Messages<'_, E>,
     matches: &ArgMatches<'_>,
 ) -> Result<u8, RunFault> {
     let (Some(text), Some(cost), Some(profile)) = (
@@ -250,13 +256,58 @@ fn encode<R: Files + AllocGlobal + Print>(
     ) else {
         return Err(UNREADABLE);
     };
+    let Some(proof) = matches.get_str("proof") else {
+        let mut text = File::open(rt, text).map_err(|_| UNREADABLE)?;
+        return encode_bound(rt, &mut text, cost, profile);
+    };
+    if !matches!(profile, Profile::Five) {
+        let _ = writeln!(messages.below(), "{NO_CORES}");
+        return Ok(2);
+    }
     let mut text = File::open(rt, text).map_err(|_| UNREADABLE)?;
-    let instance = ManuallyDrop::new(read_from(rt.alloc(), &mut text)?);
+    let mut proof = File::open(rt, proof).map_err(|_| UNREADABLE)?;
+    encode_refuted(rt, messages, &mut text, &mut proof, cost)
+}
+
+/// Prints the formula for 'cost below COST'. The process ends after it, so the clauses of the text
+/// are not given back one by one.
+fn encode_bound<R: AllocGlobal + Print, T: Read>(
+    rt: &R,
+    text: &mut T,
+    cost: u64,
+    profile: Profile,
+) -> Result<u8, RunFault> {
+    let instance = ManuallyDrop::new(read_from(rt.alloc(), text)?);
     let mut out = io::writer(rt);
     // `clap` lets no greater cost pass; said again, since nothing is known of that here.
     write_formula(&instance, cost.min(MOST_COST), profile, &mut out)?;
     deliver(Ok(()), &mut out)?;
     Ok(0)
+}
+
+/// Prints the formula that the certificate refutes for COST. A fault of its core lines is told on
+/// standard error, with its line.
+fn encode_refuted<R: AllocGlobal + Print, E: Write, T: Read, P: Read>(
+    rt: &R,
+    messages: &mut Messages<'_, E>,
+    text: &mut T,
+    proof: &mut P,
+    cost: u64,
+) -> Result<u8, RunFault> {
+    let instance = ManuallyDrop::new(read_from(rt.alloc(), text)?);
+    let proof = read_file(rt, proof)?;
+    match core_formula(&instance, cost.min(MOST_COST), &proof) {
+        Ok(Refuted::Formula(formula)) => {
+            let mut out = io::writer(rt);
+            deliver(write_dimacs(&formula, &mut out), &mut out)?;
+            Ok(0)
+        }
+        Ok(Refuted::Nothing(cause, line)) => {
+            let _ = writeln!(messages.below(), "error: line {line}: {cause:?}");
+            Ok(2)
+        }
+        Err(_) => Err(RunFault::Memory),
+    }
 }
 
 /// The exit status. A fault is told on standard error; one that cannot be told changes no status.
@@ -355,7 +406,10 @@ fn run_matches<R: Files + AllocGlobal + Print + Clock, E: Write>(
         }
         Some(("check", found)) => tell(messages, check(rt, found)),
         Some(("explain", found)) => tell(messages, explain(rt, found)),
-        Some(("encode", found)) => tell(messages, encode(rt, found)),
+        Some(("encode", found)) => {
+            let outcome = encode(rt, messages, found);
+            tell(messages, outcome)
+        }
         _ => 2,
     }
 }

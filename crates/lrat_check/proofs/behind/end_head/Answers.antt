@@ -2,9 +2,10 @@
 use Rattle.std.proofs.Common.{[], ◌++◌, ◌∙◌, ◌+◌, ap, arith, sym}
 use Rattle.std.proofs.lemmas.Result.{IfOk-weaker}
 use Rattle.text.specs.Text.{token_lines}
-use Rattle.lrat_check.specs.CoreLines.{HeadState, verdict_ended}
+use Rattle.lrat_check.specs.CoreLines.{HeadState}
+use Rattle.lrat_check.specs.Heads.{head_reading, verdict_ended}
+use Rattle.lrat_check.specs.Verdict.{verdict_at}
 use Rattle.lrat_machine.specs.declared.verdicts.Verdict.TheVariants.{No}
-use Rattle.lrat_check.specs.Heads.{head_reading}
 use Rattle.lrat_check.proofs.BehindLaws.{last_ended, last_line}
 use Rattle.lrat_check.proofs.behind.end_head.Goals as goal
 
@@ -16,7 +17,8 @@ returns-in-Ended-clause-verdict c =
     (λ v e. λ bytes h. e
     ∙ ap (λ (s : HeadState). verdict_ended c.args.instance.now c.args.cost s
     (token_lines (c.args.head.rest ++ []))) judges.0
-    ∙ last_ended c.args.instance.now c.args.cost (head_reading c.args.head) bytes h some judges.1)
+    ∙ ap (verdict_at c.args.instance.now c.args.cost)
+    (last_ended c.args.instance.now (head_reading c.args.head) bytes h some judges.1))
     c.judge_behind.ensures.verdict
 
 pub returns-in-Fails-clause-verdict : goal.returns-in-Fails-clause-verdict
@@ -25,8 +27,8 @@ returns-in-Fails-clause-verdict c =
     let judges = rw (c.bytes.ensures, c.in-Fails.is) at c.in_ok-step.ensures.judges in
     λ bytes h.
     ap (λ n. No c.in-Fails.cause (n + 1)) c.lines-line.ensures
-    ∙ sym (judges.1 c.args.instance.now c.args.cost c.requires.is.from [])
-    ∙ last_line c.args.instance.now c.args.cost (head_reading c.args.head) bytes h some
+    ∙ ap (verdict_at c.args.instance.now c.args.cost) (sym (judges.1 [])
+    ∙ last_line c.args.instance.now (head_reading c.args.head) bytes h some)
 
 pub returns-clause-verdict : goal.returns-clause-verdict
 returns-clause-verdict c =
@@ -34,8 +36,8 @@ returns-clause-verdict c =
     let judges = rw (c.bytes.ensures, c.in-GoesOn.is) at c.in_ok-step.ensures.judges in
     λ bytes h.
     c.verdict_at_end-in-GoesOn.ensures.verdict
-    ∙ sym (judges c.args.instance.now c.args.cost c.requires.is.from [])
-    ∙ last_line c.args.instance.now c.args.cost (head_reading c.args.head) bytes h some
+    ∙ ap (verdict_at c.args.instance.now c.args.cost) (sym (judges [])
+    ∙ last_line c.args.instance.now (head_reading c.args.head) bytes h some)
 
 pub judge_behind-requires-clause-room : goal.judge_behind-requires-clause-room
 judge_behind-requires-clause-room c =

@@ -6,7 +6,7 @@ use Rattle.lrat_check.proofs.headed.check_headed_stream.Given as goal
 
 abbrev pub invariant-pieces : goal.invariant-pieces
 invariant-pieces g l =
-    (done : List ℕ) × IsOpenHead l.instance l.cost (head_reading l.head) done
+    (done : List ℕ) × IsOpenHead l.instance (head_reading l.head) done
     × Consumes (g.R.Read.remaining l.fn.proof) (g.R.Read.remaining l.proof) done
     × (((l.head).cores).lines + length (l.head).rest ≤ l.fed)
 

@@ -5,7 +5,7 @@ use Rattle.std.proofs.lemmas.List.{length-drop, take_rest}
 use Rattle.std.specs.Str.Lines.{strip_carriage_return}
 use Rattle.text.specs.Text.{tokens_of}
 use Rattle.text.proofs.Laws.{line_lengths}
-use Rattle.lrat_check.specs.CoreLines.{JudgesHead}
+use Rattle.lrat_check.specs.CoreLines.{ReadsHead}
 use Rattle.lrat_check.specs.Heads.{IsEndedHead, head_reading}
 use Rattle.lrat_check.proofs.HeadLaws.{taken_ended, taken_failed, taken_line, taken_rest}
 use Rattle.lrat_check.proofs.heads.Head.take.Goals as goal
@@ -28,28 +28,28 @@ loop-end-preserved c =
     }
 
 pub returns-in-Ended-default-clause-takes : goal.returns-in-Ended-default-clause-takes
-returns-in-Ended-default-clause-takes c = λ p cost bytes h.
+returns-in-Ended-default-clause-takes c = λ p bytes h.
     let e = c.in_ok-end_line.ensures in
     let ended = c.in-Ended-default.is-0 in
-    let judged = subst (λ s. JudgesHead c.loop-end.self.cores
+    let judged = subst (λ s. ReadsHead c.loop-end.self.cores
     (tokens_of (strip_carriage_return (c.loop-end.self.rest ++ c.in-Some.end.now))) s
     c.end_line.new.self.cores) ended e.judges in
-    subst (λ x. IsEndedHead p cost (head_reading c.end_line.new.self) x (bytes ++ c.args.piece.now))
+    subst (λ x. IsEndedHead p (head_reading c.end_line.new.self) x (bytes ++ c.args.piece.now))
     (sym (take_rest c.loop-end.left.now c.in_ok-end_line.field-0.1))
     (taken_ended (head_reading c.args.self.now) (head_reading c.loop-end.self)
     (head_reading c.end_line.new.self) c.args.piece.now c.loop-end.left.now c.in-Some.end.now
-    c.in-Some.after.now c.loop-end.invariant.taken c.in-Some.ensures p cost bytes h
+    c.in-Some.after.now c.loop-end.invariant.taken c.in-Some.ensures p bytes h
     c.in_ok-end_line.field-0.1 e.within (e.kept ended) judged.0 judged.1 e.counts)
 
 pub returns-in-Fails-default-clause-takes : goal.returns-in-Fails-default-clause-takes
-returns-in-Fails-default-clause-takes c = λ p cost bytes h.
+returns-in-Fails-default-clause-takes c = λ p bytes h.
     let e = c.in_ok-end_line.ensures in
-    let judged = subst (λ s. JudgesHead c.loop-end.self.cores
+    let judged = subst (λ s. ReadsHead c.loop-end.self.cores
     (tokens_of (strip_carriage_return (c.loop-end.self.rest ++ c.in-Some.end.now))) s
     c.end_line.new.self.cores) c.in-Fails-default.is-0 e.judges in
     taken_failed (head_reading c.args.self.now) (head_reading c.loop-end.self)
     (head_reading c.end_line.new.self) c.args.piece.now c.loop-end.left.now c.in-Some.end.now
-    c.in-Some.after.now c.loop-end.invariant.taken c.in-Some.ensures p cost bytes h
+    c.in-Some.after.now c.loop-end.invariant.taken c.in-Some.ensures p bytes h
     c.in-Fails-default.cause judged
 
 pub returns-in-Fails-default-clause-lines : goal.returns-in-Fails-default-clause-lines
@@ -57,7 +57,7 @@ returns-in-Fails-default-clause-lines c =
     let e = c.in_ok-end_line.ensures in
     let n = line_lengths c.loop-end.left.now c.in-Some.end.now c.in-Some.after.now
     c.in-Some.ensures in
-    let judged = subst (λ s. JudgesHead c.loop-end.self.cores
+    let judged = subst (λ s. ReadsHead c.loop-end.self.cores
     (tokens_of (strip_carriage_return (c.loop-end.self.rest ++ c.in-Some.end.now))) s
     c.end_line.new.self.cores) c.in-Fails-default.is-0 e.judges in
     omega (arith, n, e.short, judged.0, c.loop-end.invariant.room)
@@ -70,7 +70,7 @@ returns-in-Ended-default-clause-some c =
     (simp length-drop (omega (arith, n, c.in_ok-end_line.ensures.within)))
 
 pub returns-clause-takes : goal.returns-clause-takes
-returns-clause-takes c = λ p cost bytes h.
+returns-clause-takes c = λ p bytes h.
     taken_rest (head_reading c.args.self.now) (head_reading c.loop-end.self) _ c.args.piece.now
     c.loop-end.left.now c.loop-end.invariant.taken c.in_default.ensures refl
-    c.in_ok-keep.ensures.kept p cost bytes h
+    c.in_ok-keep.ensures.kept p bytes h

@@ -1,0 +1,86 @@
+//! The formula that a certificate with core lines refutes.
+ghost use Rattle.std.specs.Prelude.{◌≡◌, ℕ, ◌+◌, ◌<◌, ◌≤◌, ◌^◌, List, length, IfOk};
+ghost use Rattle.lrat_check.specs.CoreFormula.{refuted};
+ghost use Rattle.lrat_check.specs.CoreLines.{IsHeadOf};
+ghost use Rattle.lrat_check.specs.Heads.{IsOpenHead, head_reading};
+ghost use Rattle.lrat_check.specs.Verdict.{formula_behind, headed_formula, refuted_formula};
+
+use crate::behind::{falls_short, formula_behind};
+use crate::core_lines::{CoreLines, HeadStep};
+use crate::heads::{Head, Taken};
+use crate::verdicts::Cause;
+use adder::cells::Profile;
+use bound::formulas::formula_as;
+use cnf::types::{Formula, Instance};
+use std::alloc::AllocError;
+
+/// What a certificate refutes.
+#[derive(Drop)]
+pub enum Refuted {
+    /// This formula, if its lines are right that are no core lines.
+    Formula(Formula),
+    /// Nothing: its core lines fail with this cause at this line, from 1, or 0 where they are worth
+    /// too little and nothing follows them.
+    Nothing(Cause, u64),
+}
+
+/// The formula that a certificate in `Profile::Five` refutes where nothing costs less: that of its
+/// core lines, or the one for a lower cost where it has none. For a cost of 0 that is always the
+/// one. Of the certificate only the core lines are read, and the line that ends them.
+///
+/// # Errors
+///
+/// `AllocError` where memory was refused.
+pub fn core_formula(instance: &Instance, cost: u64, proof: &[u8]) -> Result<Refuted, AllocError>
+    requires { cost ≤ 2 ^ 62 }
+    ensures { IfOk result (λ r. refuted r ≡ refuted_formula instance.now cost proof.now) }
+{
+    if cost == 0 {
+        return Ok(Refuted::Formula(formula_as(instance, cost, Profile::Five)?));
+    }
+    let mut head = Head::new(instance)?;
+    match head.take(proof)? {
+        Taken::All => end_formula(head, instance, cost),
+        Taken::Ended(_) => formula_of(&head.cores, instance, cost, head.cores.lines() + 1),
+        Taken::Fails(cause) => Ok(Refuted::Nothing(cause, head.cores.lines() + 1)),
+    }
+}
+
+/// The formula of the cores. The first line behind them is this one; 0 stands for none.
+fn formula_of(
+    cores: &CoreLines,
+    instance: &Instance,
+    cost: u64,
+    first: u64,
+) -> Result<Refuted, AllocError>
+    requires small { cost ≤ 2 ^ 62 }
+    requires is { IsHeadOf instance.now cores.now }
+    ensures { IfOk result (λ r. refuted r
+        ≡ formula_behind instance.now cost cores.now.some cores.now.counted first) }
+{
+    if falls_short(cores, cost) {
+        return Ok(Refuted::Nothing(Cause::CoreSum, first));
+    }
+    Ok(Refuted::Formula(formula_behind(cores, instance, cost)?))
+}
+
+/// The formula, where nothing follows the pieces of the head.
+fn end_formula(head: Head, instance: &Instance, cost: u64) -> Result<Refuted, AllocError>
+    requires small { cost ≤ 2 ^ 62 }
+    requires is { IsHeadOf instance.now head.cores }
+    requires room { head.cores.lines + length head.rest < 2 ^ 64 }
+    ensures { IfOk result (λ r. (bytes : List ℕ)
+        → IsOpenHead instance.now (head_reading head) bytes
+        → refuted r ≡ headed_formula instance.now cost bytes) }
+{
+    let mut head = head;
+    if head.rest.is_empty() {
+        return formula_of(&head.cores, instance, cost, 0);
+    }
+    let line = head.cores.lines() + 1;
+    match head.cores.step(head.rest.bytes())? {
+        HeadStep::Ended => formula_of(&head.cores, instance, cost, line),
+        HeadStep::Fails(cause) => Ok(Refuted::Nothing(cause, line)),
+        HeadStep::GoesOn => formula_of(&head.cores, instance, cost, 0),
+    }
+}
