@@ -101,6 +101,8 @@ if [ -e "$work/device.so" ]; then
     each text check text result given
     each out encode text 3
     each text encode text 3
+    lines cores 'core 3 1 3 4 0' '7 0 6 4 5 2 3 1 0'
+    for device in out text; do each $device encode --profile 5 --proof cores text 3; done
     lines given '6 0 1 0'
     each out check text result given
 fi

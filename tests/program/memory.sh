@@ -75,6 +75,8 @@ each 'one of two' solve --proof proof text
 lines result 'o 3' 's OPTIMUM FOUND' 'v 10'
 lines given '6 0 5 4 2 3 1 0'
 each 'check: one of two' check text result given
+lines given 'core 3 1 3 4 0' '7 0 6 4 5 2 3 1 0'
+each 'encode: a core' encode --profile 5 --proof given text 3
 lines text 'h 1 -1 0' '2 1 1 0' '3 -1 0'
 each 'a clause with opposites' solve --proof proof text
 printf 'c x\r\n\r\nh -1 0\r\n7 1 0' > "$work/text"
