@@ -33,9 +33,9 @@ machine, whatever its speed.
 The certificate proves OPTIMUM FOUND and UNSATISFIABLE to whoever checks it, and is written before
 the 's' line. For the other two none is. Without --proof it is dropped.
 
---profile 5 finds most optima on what planners have; check wants the profile that the certificate
-was made in. --best PATH keeps the best solution, so that a run can be stopped at any moment.
---progress tells meanwhile how far it is. A script that stops at errors writes
+--profile 5 finds most optima; check wants the profile that the certificate was made in. --best PATH
+keeps the best solution, so that a run can be stopped at any moment. --progress tells meanwhile how
+far it is. A script that stops at errors writes
 
   wmax solve --profile 5 a.wcnf > a.result || [ $? = 30 ]
 
@@ -66,8 +66,8 @@ Statuses:
    2  the command line is faulty
    3  a file cannot be opened or read, the verdict cannot be written, or memory is refused
 
-Give the profile that the certificate was made in: in another one it is refused, as with
-NO DeadId 1 or NO LineForm 1.
+Give the profile that the certificate was made in: in another one it is mostly refused, as with
+NO DeadId 1, NO IdOrder 1 or NO LineForm 1.
 
 Example:
   wmax check --profile 5 a.wcnf a.result a.lrat
@@ -164,8 +164,8 @@ fn make_profile<'a>(alloc: Global) -> Arg<'a> {
             "How 'cheaper' is encoded: 1 adds all weights column by column; 2 as 1, and spends no \
              variable on soft clauses of one literal; 3 adds weights in pairs, light ones first; \
              4 has sums of weights along a tree that follows the hard clauses; 5, which finds most \
-             on what planners have, as 4, and first looks for cores, whose lines then stand at the \
-             head of the certificate. check wants the one that the certificate was made in",
+             optima, looks for cores first, whose lines then begin the certificate, and goes on as \
+             4. check wants the one that the certificate was made in",
         )
 }
 
@@ -281,7 +281,7 @@ fn make_encode<'a>(alloc: Global) -> Result<Command<'a>, Error> {
     let command = Command::new(alloc, "encode")
         .about(
             "Prints a formula as DIMACS CNF that is satisfiable exactly when some solution costs \
-             less than COST",
+             less than COST; with --proof, the formula that CERTIFICATE refutes",
         )
         .after_help(ENCODE_NOTES)
         .arg(make_path(alloc, "FILE", "The instance, a WCNF text"))?
