@@ -16,7 +16,7 @@ ghost use Rattle.cdcl.specs.Answering.{IsAssumed};
 use crate::answers::bits;
 use crate::assuming::{Halt, run_assuming};
 use crate::budget::Budget;
-use crate::outcome::{Assumed, Outcome, Share, SolveFault};
+use crate::outcome::{Assumed, Outcome, Passed, Share, SolveFault};
 use crate::searching::{End, run};
 use crate::tally::Tally;
 use crate::watch::{Unwatched, Watch};
@@ -308,6 +308,30 @@ impl<S: Sink> Solver<S> {
         ensures { SolvesAssuming result self.old self.new assumptions.now
             (S.lines self.old.sink) (S.lines self.new.sink) budget.old budget.new }
     {
+        let mut none = Passed::new(self.search.store.allocator(), 0);
+        self.solve_passing(assumptions, share, &mut none, budget, watch)
+    }
+
+    /// As `solve_assuming`, where an assumption that is false is passed over as long as there is
+    /// room for what explains it. No line is learned for it. Where some were passed over, the search
+    /// ends `Open` as soon as all others are true or no room is left, unless another answer comes
+    /// first.
+    ///
+    /// # Errors
+    ///
+    /// Those of `solve_assuming`.
+    pub fn solve_passing<W: Watch>(
+        &mut self,
+        assumptions: &[Lit],
+        share: Share,
+        passed: &mut Passed,
+        budget: &mut Budget,
+        watch: &mut W,
+    ) -> Result<Assumed, SolveFault>
+        requires { All (IsFrozen self.old.frozen) assumptions.now }
+        ensures { SolvesAssuming result self.old self.new assumptions.now
+            (S.lines self.old.sink) (S.lines self.new.sink) budget.old budget.new }
+    {
         if self.failed {
             return Err(SolveFault::Failed);
         }
@@ -323,6 +347,7 @@ impl<S: Sink> Solver<S> {
             watch,
             assumptions,
             share,
+            passed,
         );
         match answer {
             Ok(Assumed::Sat(bits)) => Ok(Assumed::Sat(bits)),
@@ -350,6 +375,7 @@ fn answer_assuming<S: Sink, W: Watch>(
     watch: &mut W,
     assumptions: &[Lit],
     share: Share,
+    passed: &mut Passed,
 ) -> Result<Assumed, AllocError>
     requires runs { Runs search.old input.now (S.lines sink.old) }
     requires input { IsInput input.now }
@@ -364,7 +390,16 @@ fn answer_assuming<S: Sink, W: Watch>(
         budget.old budget.new }
     ensures err { OnErr result (StaysOpen input.now (S.lines sink.new)) }
 {
-    let halt = run_assuming(search, input, sink, budget, watch, assumptions, share)?;
+    let halt = run_assuming(
+        search,
+        input,
+        sink,
+        budget,
+        watch,
+        assumptions,
+        share,
+        passed,
+    )?;
     match halt {
         Halt::Satisfied => {
             let bits = bits(search, input)?;

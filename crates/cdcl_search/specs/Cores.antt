@@ -36,6 +36,12 @@ pub record IsShown (slots : Slots) (assumptions core : List Literal) : Type 0 wh
   pub assumed : AreAssumed assumptions core
   pub shown : HasSubset slots (map negation core)
 
+-- the clause explains why a literal is false
+pub record IsExplanation (s : Search) (literal : Literal) (clause : FinalClause) : Type 0 where
+  pub reason : ℕ
+  pub falsified : IsFalsified (s.engine).trail literal reason
+  pub final : IsFinal (s.store).slots (s.engine).trail literal reason clause
+
 -- the clause explains why a literal is false, and no live clause is a subset of it
 pub record IsCoreClause (s : Search) (clause : FinalClause) : Type 0 where
   pub literal : Literal

@@ -13,6 +13,7 @@ ghost use Rattle.analyze.specs.Analyzer.{IsFalsified};
 ghost use Rattle.cdcl_search.specs.Invariant.{NotesUnits, zero_of};
 ghost use Rattle.cdcl_search.specs.Running.{IsReady, Runs};
 ghost use Rattle.cdcl_search.specs.Cores.{HasSubset, HasNoSubset, IsCoreClause, IsRefusal};
+ghost use Rattle.cdcl_search.specs.Cores.{IsExplanation};
 ghost use Rattle.cdcl_search.specs.Cores.{LearnsCore};
 
 use crate::input::Input;
@@ -134,6 +135,31 @@ impl Search {
             return Ok(Refusal::Shown(core));
         }
         Ok(Refusal::Follows(core, clause))
+    }
+
+    /// Why a literal is false, as a clause: the literal's negation, and negations of decisions. None
+    /// where the negation itself was decided.
+    ///
+    /// # Errors
+    ///
+    /// `AllocError` where memory was refused: nothing has changed.
+    pub fn explain_false(&mut self, falsified: Lit) -> Result<Option<FinalClause>, AllocError>
+        requires ready { IsReady self.old }
+        requires small { falsified.variable ≤ self.old.engine.variables }
+        requires falsified { value_in self.old.engine.trail falsified ≡ Some false }
+        ensures explained { IfOk result (λ found. IfSome found
+            (IsExplanation self.old falsified)) }
+        ensures unchanged { self.new ≡ self.old }
+    {
+        match self.engine.reason(falsified.variable()) {
+            Some(reason) => {
+                let clause = self
+                    .analyzer
+                    .analyze_final(&self.engine, &self.store, falsified, reason)?;
+                Ok(Some(clause))
+            }
+            None => Ok(None),
+        }
     }
 
     /// What an assumption that is false rests on.

@@ -2,7 +2,7 @@ use Rattle.std.proofs.Common.{sym, ◌∙◌}
 use Rattle.cdcl.proofs.Answered.{solver_fails}
 use Rattle.cdcl.proofs.Assumed.{assuming_runs, assuming_answered, assuming_refused, assuming_failed}
 use Rattle.cdcl.proofs.Assumed.{assuming_refuted}
-use Rattle.cdcl.proofs.solver.Solver.solve_assuming.Goals as goal
+use Rattle.cdcl.proofs.solver.Solver.solve_passing.Goals as goal
 
 pub returns-then-self : goal.returns-then-self
 returns-then-self g c =
