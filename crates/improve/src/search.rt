@@ -2,7 +2,9 @@
 //! chapter MaxSAT, linear search from satisfiable to unsatisfiable).
 ghost use Rattle.std.specs.Prelude.{◌≡◌, ◌+◌, ◌<◌, ◌^◌, [], ◌∷◌};
 ghost use Rattle.std.specs.Prelude.{ℕ, List, All, Ok, IfOk, IfErr, OnOk, OnErr};
+ghost use Rattle.cnf.specs.Refute.{IsRefutedByHints};
 ghost use Rattle.lrat_log.specs.Steps.{IsAcceptedLog, AddsNoEmptyClause, learned_count};
+ghost use Rattle.bound.specs.Bound.{hard_cnf};
 ghost use Rattle.cdcl_order.specs.Budgets.{BudgetState};
 ghost use Rattle.cdcl.specs.Solving.{given_to};
 ghost use Rattle.improve.specs.Improving.{Improves, IsHardLog, IsRightFound, IsSolution, OnWork};
@@ -105,10 +107,7 @@ pub fn improve_watched<T: Progress, W: Watch>(
             let log = solver.into_sink();
             Ok(Found::Unsat { log, clauses })
         }
-        Ok(Outcome::Limit) => {
-            let work = begin_work(instance, solver.into_sink());
-            Ok(Found::Nothing { work })
-        }
+        Ok(Outcome::Limit) => Ok(conclude_nothing(instance, solver.into_sink())),
         Err(_) => Err(ImproveFault::Memory),
     }
 }
@@ -136,11 +135,9 @@ pub fn improve_from<T: Progress, W: Watch>(
         (T.state progress.old) (T.state progress.new)
         budget.old budget.new }
 {
-    instance.limits();
     let hard = Log::new(instance.allocator());
     if budget.left() == 0 {
-        let work = begin_work(instance, hard);
-        return Ok(Found::Nothing { work });
+        return Ok(conclude_nothing(instance, hard));
     }
     let first = price_polished(instance, bits);
     budget.count_answer();
@@ -444,6 +441,18 @@ fn conclude_cores(instance: &Instance, best: Solution, by_cores: ByCores) -> Fou
         log: by_cores.log,
         clauses: by_cores.clauses,
         cores: by_cores.cores,
+    }
+}
+
+/// The end where the budget is spent and no solution was told. The log is that of the hard clauses.
+fn conclude_nothing(instance: &Instance, hard: Log) -> Found
+    requires hard { IsHardLog instance.now hard }
+    requires open { IsRefutedByHints (hard_cnf instance.now).clauses → ⊥ }
+    ensures found { (profile : Profile) → IsRightFound profile instance.now [] result }
+    ensures work { OnWork (Ok result) (λ w. work_count w ≡ learned_count hard) }
+{
+    Found::Nothing {
+        work: begin_work(instance, hard),
     }
 }
 
