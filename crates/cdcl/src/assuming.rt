@@ -331,6 +331,27 @@ fn decide_assuming<S: Sink>(
         return Ok(None);
     }
     note_level(search, input, sink)?;
+    pass_and_choose(search, input, sink, budget, assumptions, progress)
+}
+
+/// Passes over assumptions that are false, where there is room, and then decides or ends.
+fn pass_and_choose<S: Sink>(
+    search: &mut Search,
+    input: &Input,
+    sink: &mut S,
+    budget: &mut Budget,
+    assumptions: &[Lit],
+    progress: &mut Progress<'_>,
+) -> Result<Option<Halt>, AllocError>
+    requires runs { Runs search.old input.now (S.lines sink.old) }
+    requires quiet { IsQuiet search.old.store.slots (literals_of search.old.engine.trail) }
+    requires noted { length (zero_of search.old.engine.trail) ≤ search.old.noted }
+    requires known { AreKnown input.now.stack.variables assumptions.now }
+    requires left { 0 < left_of budget.old }
+    ensures { TurnsOrHalts result search.old search.new input.now assumptions.now (S.lines sink.old)
+        (S.lines sink.new) budget.old budget.new }
+{
+    pass_false(search, assumptions, progress)?;
     choose(search, input, sink, budget, assumptions, progress)
 }
 
@@ -357,9 +378,6 @@ fn choose<S: Sink>(
             Ok(None)
         }
         Choice::Refuses(lit) => {
-            if progress.passed.room > 0 {
-                return pass(search, lit, progress);
-            }
             if progress.has_passed() {
                 return Ok(Some(Halt::Open));
             }
@@ -421,24 +439,42 @@ fn branch_beside(search: &mut Search, assumptions: &[Lit], progress: &mut Progre
     }
 }
 
-/// Passes over an assumption that is false; it ends where the assumption's negation was decided.
+/// Passes over assumptions that are false, as long as there is room, up to one without a value.
+fn pass_false(
+    search: &mut Search,
+    assumptions: &[Lit],
+    progress: &mut Progress<'_>,
+) -> Result<(), AllocError>
+    requires ready { IsReady search.old }
+    requires known { AreKnown search.old.engine.variables assumptions.now }
+    ensures { search.new ≡ search.old }
+{
+    for _ in 0..assumptions.len() {
+        if progress.passed.room == 0 {
+            return Ok(());
+        }
+        match untrue_from(&search.engine, assumptions, progress) {
+            Untrue::Falsified(lit) => pass(search, lit, progress)?,
+            Untrue::Unassigned(_) | Untrue::NoneLeft => return Ok(()),
+        }
+    }
+    Ok(())
+}
+
+/// Passes over an assumption that is false.
 fn pass(
     search: &mut Search,
     falsified: Lit,
     progress: &mut Progress<'_>,
-) -> Result<Option<Halt>, AllocError>
+) -> Result<(), AllocError>
     requires ready { IsReady search.old }
     requires small { falsified.variable ≤ search.old.engine.variables }
     requires falsified { value_in search.old.engine.trail falsified ≡ Some false }
-    ensures halt { IfOk result (λ next. IfSome next (λ halt. halt ≡ Halt.Open)) }
-    ensures unchanged { search.new ≡ search.old }
+    ensures { search.new ≡ search.old }
 {
     match search.explain_false(falsified)? {
-        Some(clause) => {
-            progress.pass_over(clause.lits.as_slice())?;
-            Ok(None)
-        }
-        None => Ok(Some(Halt::Open)),
+        Some(clause) => progress.pass_over(clause.lits.as_slice()),
+        None => progress.pass_over(&[falsified.negation()]),
     }
 }
 

@@ -36,8 +36,8 @@ pub record IsShown (slots : Slots) (assumptions core : List Literal) : Type 0 wh
   pub assumed : AreAssumed assumptions core
   pub shown : HasSubset slots (map negation core)
 
--- the clause explains why a literal is false
-pub record IsExplanation (s : Search) (literal : Literal) (clause : FinalClause) : Type 0 where
+-- the clause is what the analysis of a false literal comes to
+pub record IsWhyFalse (s : Search) (literal : Literal) (clause : FinalClause) : Type 0 where
   pub reason : ℕ
   pub falsified : IsFalsified (s.engine).trail literal reason
   pub final : IsFinal (s.store).slots (s.engine).trail literal reason clause

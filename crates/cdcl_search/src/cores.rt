@@ -13,7 +13,7 @@ ghost use Rattle.analyze.specs.Analyzer.{IsFalsified};
 ghost use Rattle.cdcl_search.specs.Invariant.{NotesUnits, zero_of};
 ghost use Rattle.cdcl_search.specs.Running.{IsReady, Runs};
 ghost use Rattle.cdcl_search.specs.Cores.{HasSubset, HasNoSubset, IsCoreClause, IsRefusal};
-ghost use Rattle.cdcl_search.specs.Cores.{IsExplanation};
+ghost use Rattle.cdcl_search.specs.Cores.{IsWhyFalse};
 ghost use Rattle.cdcl_search.specs.Cores.{LearnsCore};
 
 use crate::input::Input;
@@ -137,8 +137,8 @@ impl Search {
         Ok(Refusal::Follows(core, clause))
     }
 
-    /// Why a literal is false, as a clause: the literal's negation, and negations of decisions. None
-    /// where the negation itself was decided.
+    /// Why a literal is false, as a clause: its negation, and negations of decisions. None at level
+    /// 0, and where its negation was decided.
     ///
     /// # Errors
     ///
@@ -147,19 +147,19 @@ impl Search {
         requires ready { IsReady self.old }
         requires small { falsified.variable ≤ self.old.engine.variables }
         requires falsified { value_in self.old.engine.trail falsified ≡ Some false }
-        ensures explained { IfOk result (λ found. IfSome found
-            (IsExplanation self.old falsified)) }
+        ensures explained { IfOk result (λ found. IfSome found (IsWhyFalse self.old falsified)) }
         ensures unchanged { self.new ≡ self.old }
     {
-        match self.engine.reason(falsified.variable()) {
-            Some(reason) => {
-                let clause = self
-                    .analyzer
-                    .analyze_final(&self.engine, &self.store, falsified, reason)?;
-                Ok(Some(clause))
-            }
-            None => Ok(None),
+        if self.engine.level(falsified.variable()) == Some(0) {
+            return Ok(None);
         }
+        let Some(reason) = self.engine.reason(falsified.variable()) else {
+            return Ok(None);
+        };
+        let clause = self
+            .analyzer
+            .analyze_final(&self.engine, &self.store, falsified, reason)?;
+        Ok(Some(clause))
     }
 
     /// What an assumption that is false rests on.

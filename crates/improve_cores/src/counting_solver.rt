@@ -19,7 +19,7 @@ use crate::frozen::freeze_after;
 use crate::work::SearchWork;
 use bound::repeats::has_repeat;
 use cdcl::budget::Budget;
-use cdcl::outcome::{Assumed, Share};
+use cdcl::outcome::{Assumed, Passed, Share};
 use cdcl::solver::Solver;
 use cdcl::watch::Watch;
 use cnf::clause_list::ClauseList;
@@ -140,9 +140,34 @@ impl CountingSolver {
         ensures answer { IfOk result (IsAnswerOf self.new) }
         ensures learned { CountsLearned self.old.lines self.new.lines budget.old budget.new }
     {
+        let mut none = Passed::new(self.allocator(), 0);
+        self.assume_passing(assumptions, share, &mut none, budget, watch)
+    }
+
+    /// As `assume`, where assumptions that are false are passed over as long as there is room for
+    /// what explains them.
+    ///
+    /// # Errors
+    ///
+    /// `AllocError` where memory was refused, now or before.
+    pub(crate) fn assume_passing<W: Watch>(
+        &mut self,
+        assumptions: &[Lit],
+        share: Share,
+        passed: &mut Passed,
+        budget: &mut Budget,
+        watch: &mut W,
+    ) -> Result<Assumed, AllocError>
+        ensures clauses { KeepsClauses self.old self.new }
+        ensures answer { IfOk result (IsAnswerOf self.new) }
+        ensures learned { CountsLearned self.old.lines self.new.lines budget.old budget.new }
+    {
         let are_assumable = are_between(assumptions, self.free, self.last);
         let some: &[Lit] = if are_assumable { assumptions } else { &[] };
-        match self.solver.solve_assuming(some, share, budget, watch) {
+        match self
+            .solver
+            .solve_passing(some, share, passed, budget, watch)
+        {
             Ok(found) => Ok(found),
             Err(_) => Err(AllocError),
         }

@@ -39,10 +39,15 @@ use crate::watch::Watch;
 use crate::work::SearchWork;
 use bound::formulas::relaxed_formula;
 use cdcl::budget::Budget;
-use cdcl::outcome::{Assumed, Share};
+use cdcl::outcome::{Assumed, Passed, Share};
+use cnf::clause_list::ClauseList;
 use cnf::types::{Instance, Lit};
 use std::alloc::AllocError;
 use std::marker::Model;
+
+/// What explains the assumptions that are passed over in one search has about so many literals for
+/// each assumption.
+const PASSED: usize = 4;
 
 /// What the search has come to.
 #[derive(Drop)]
@@ -196,28 +201,72 @@ impl CoreSearch {
             learned: self.policy.share,
             decisions: u64::MAX,
         };
-        match self.solver.assume(&self.assumptions, share, budget, watch)? {
+        let room = self.assumptions.len().saturating_mul(PASSED);
+        let mut passed = Passed::new(self.solver.allocator(), room);
+        let found =
+            self.solver
+                .assume_passing(&self.assumptions, share, &mut passed, budget, watch)?;
+        self.policy.spend(budget.learned().saturating_sub(before));
+        match found {
             Assumed::Sat(bits) => {
-                self.policy.spend(budget.learned().saturating_sub(before));
                 self.policy.after_model()?;
                 self.give()?;
                 Ok(Step::Model(bits))
             }
             Assumed::Core(core) => {
-                let inputs = variables_of(&core)?;
-                let items = &self.policy.items;
-                let core = shorten(inputs, items, &mut self.solver, budget, watch)?;
-                let lower = self.policy.lower;
-                self.policy.add_core(core)?;
-                if self.policy.lower > lower {
-                    watch.raised(self.policy.lower);
-                }
-                self.policy.spend(budget.learned().saturating_sub(before));
+                self.take(&core, budget, watch)?;
+                self.give()?;
+                Ok(Step::On)
+            }
+            Assumed::Open if passed.clauses.len() > 0 => {
+                self.take_all(&passed.clauses, budget, watch)?;
                 self.give()?;
                 Ok(Step::On)
             }
             Assumed::Unsat | Assumed::Open | Assumed::Limit => Ok(Step::Over),
         }
+    }
+
+    /// Takes the cores of assumptions that were passed over, in their order, but for those that one
+    /// before them has left too little of.
+    fn take_all<W: Watch>(
+        &mut self,
+        cores: &ClauseList,
+        budget: &mut Budget,
+        watch: &mut W,
+    ) -> Result<(), AllocError>
+        ensures clauses { KeepsClauses self.old self.new }
+        ensures learned { CountsLearned self.old.lines self.new.lines budget.old budget.new }
+    {
+        for core in cores.iter() {
+            if self.policy.share > 0 && self.policy.are_listed(core) {
+                self.take(core, budget, watch)?;
+            }
+        }
+        Ok(())
+    }
+
+    /// Shortens a core, and takes its weight from its inputs.
+    fn take<W: Watch>(
+        &mut self,
+        core: &[Lit],
+        budget: &mut Budget,
+        watch: &mut W,
+    ) -> Result<(), AllocError>
+        ensures clauses { KeepsClauses self.old self.new }
+        ensures learned { CountsLearned self.old.lines self.new.lines budget.old budget.new }
+    {
+        let before = budget.learned();
+        let inputs = variables_of(core, self.solver.allocator())?;
+        let items = &self.policy.items;
+        let core = shorten(inputs, items, &mut self.solver, budget, watch)?;
+        self.policy.spend(budget.learned().saturating_sub(before));
+        let lower = self.policy.lower;
+        self.policy.add_core(core)?;
+        if self.policy.lower > lower {
+            watch.raised(self.policy.lower);
+        }
+        Ok(())
     }
 
     /// Gives the clauses of totalizers that are new. Where one does not count, which no totalizer
@@ -257,6 +306,12 @@ impl Policy {
             push_negated(assumptions, *variable)?;
         }
         Ok(())
+    }
+
+    /// Whether the stratum would assume all variables of these literals.
+    fn are_listed(&self, lits: &[Lit]) -> bool {
+        lits.iter()
+            .all(|lit| self.items.rest(lit.variable()) >= self.threshold)
     }
 
     /// So many clauses were learned.

@@ -15,7 +15,7 @@ use cdcl::budget::Budget;
 use cdcl::outcome::{Assumed, Share};
 use cdcl::watch::Watch;
 use cnf::types::Lit;
-use std::alloc::AllocError;
+use std::alloc::{AllocError, Global};
 
 /// A core is searched again so often at most,
 const AGAIN: u32 = 5;
@@ -156,7 +156,7 @@ fn find_core<W: Watch>(
         }
     }
     match solver.assume(&assumptions, share, budget, watch)? {
-        Assumed::Core(core) => Ok(Some(variables_of(&core)?)),
+        Assumed::Core(core) => Ok(Some(variables_of(&core, solver.allocator())?)),
         Assumed::Sat(_) | Assumed::Unsat | Assumed::Open | Assumed::Limit => Ok(None),
     }
 }
@@ -170,8 +170,8 @@ pub(crate) fn push_negated(lits: &mut Vec<Lit>, variable: u32) -> Result<(), All
 }
 
 /// The variables of the literals.
-pub(crate) fn variables_of(lits: &Vec<Lit>) -> Result<Vec<u32>, AllocError> {
-    let mut variables = Vec::with_capacity(*lits.allocator(), lits.len())?;
+pub(crate) fn variables_of(lits: &[Lit], alloc: Global) -> Result<Vec<u32>, AllocError> {
+    let mut variables = Vec::with_capacity(alloc, lits.len())?;
     for lit in lits {
         variables.push(lit.variable())?;
     }

@@ -50,3 +50,11 @@ returns-in-GivesUp g c =
     let ls = g.S.Sink.lines c.args.sink.now in
     turn_halts c.args.search.now c.decide_next.new.search p c.args.assumptions.now ls ls b b Open
     (c.decide_next.ensures.runs p ls c.requires.runs) (pays_nothing p.given ls b)
+
+pub returns-then-has_passed : goal.returns-then-has_passed
+returns-then-has_passed g c =
+    let p = c.args.input.now in
+    let b = c.args.budget.now in
+    let ls = g.S.Sink.lines c.args.sink.now in
+    turn_halts c.args.search.now c.decide_next.new.search p c.args.assumptions.now ls ls b b Open
+    (c.decide_next.ensures.runs p ls c.requires.runs) (pays_nothing p.given ls b)
