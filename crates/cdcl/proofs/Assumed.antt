@@ -1,8 +1,8 @@
 -- What a solver answers under assumptions, from what its search does.
-use Rattle.std.proofs.Common.{◌≡◌, true, false, Bool, List, [], length, map, take, refl, sym, ◌∙◌}
+use Rattle.std.proofs.Common.{◌≡◌, true, false, Bool, List, [], length, map, take, refl, sym}
 use Rattle.std.proofs.Common.{ap, subst, arith}
 use Rattle.std.specs.Prelude.{Ok, Err, Contains, ◌⊎◌, All}
-use Rattle.std.proofs.lemmas.Bool.{both_ways, false≢true}
+use Rattle.std.proofs.lemmas.Bool.{both_ways, false≢true, true≢false}
 use Rattle.cnf.specs.Literal.{Literal}
 use Rattle.cnf.specs.Refute.{IsRefutedByHints}
 use Rattle.lrat_log.specs.Log.{LogLine, id_of}
@@ -21,7 +21,7 @@ use Rattle.cdcl.specs.Outcomes.{IsSolver}
 use Rattle.cdcl.specs.Assuming.{SolvesAssuming, OnSat, OnUnsat, OnCore, OnLimit, IsTrueUnder}
 use Rattle.cdcl.specs.Assuming.{IsCore}
 use Rattle.cdcl.specs.Halting.{IsAtCore}
-use Rattle.cdcl.specs.Answering.{IsAssumed}
+use Rattle.cdcl.specs.Answering.{IsAssumed, is_unsat}
 use Rattle.cdcl.proofs.Answered.{seen_given, given_seen, log_now, ended_log, view_of, written_short}
 use Rattle.cdcl.proofs.Answered.{solver_runs}
 use Rattle.cdcl.proofs.Solved.{grows_by, new_since, learned_since}
@@ -108,32 +108,39 @@ plain_seen p i h =
     subst (λ g. IsRefutedByHints (map (λ x. x.1) (take p.first p.given))
     ⊎ Contains (map (λ x. x.1) g) []) (given_seen p i) h
 
--- the solver, after an answer that does not refute
-pub assuming_runs : (s : Search) (p : Input) (ls : List LogLine) (b : BudgetState)
-    (asked : List Literal) (o seen : Assumed) (refuted failed : Bool) → o ≡ seen
-    → (seen ≡ Unsat → ⊥) → IsInput p → IsAssumed s p ls b asked o → refuted ≡ false
-    → IsSolver s p ls refuted failed
-assuming_runs s p ls b asked o seen refuted failed is other i a e =
-    solver_runs s p ls refuted failed i (on_runs s p ls b asked o a (λ u. other (sym is ∙ u))) e
+-- the solver after an answer
+pub assuming_solver : (s : Search) (p : Input) (ls : List LogLine) (b : BudgetState)
+    (asked : List Literal) (o : Assumed) (failed : Bool) → IsInput p → IsAssumed s p ls b asked o
+    → IsSolver s p ls (is_unsat o) failed
+assuming_solver s p ls b asked (Sat bits) failed i a =
+    solver_runs s p ls false failed i a.runs refl
+assuming_solver s p ls b asked Unsat failed i a = record {
+  input = i;
+  lines = a.stays;
+  refuted_is = sym a.refuted;
+  running = λ f u. absurd (true≢false u);
+}
+assuming_solver s p ls b asked (Core core) failed i a =
+    solver_runs s p ls false failed i a.runs refl
+assuming_solver s p ls b asked Open failed i a = solver_runs s p ls false failed i a refl
+assuming_solver s p ls b asked Limit failed i a = solver_runs s p ls false failed i a.0 refl
 
 module _ {S : Type 0} (lines : S → List LogLine) {p : Input} {sink : S} {failed : Bool}
     {old : SolverState S} (i : IsInput p) (same : view_of p sink failed ≡ old)
     (asked : List Literal) where
   -- the search has answered
   pub assuming_answered : (s : Search) (more : S) (had left : BudgetState)
-      (o seen : Assumed) → o ≡ seen → failed ≡ false → is_refuted (lines sink) ≡ false
+      (o : Assumed) → failed ≡ false → is_refuted (lines sink) ≡ false
       → IsAssumed s p (lines more) left asked o
       → (IsLiveRefuted p.given (lines sink) → o ≡ Unsat) → (IsPlain p → o ≡ Unsat)
       → Pays p.given (lines sink) (lines more) had left
-      → SolvesAssuming (Ok seen) old (view_of p more failed) asked (lines old.sink) (lines more)
+      → SolvesAssuming (Ok o) old (view_of p more failed) asked (lines old.sink) (lines more)
       had left
-  assuming_answered s more had left o seen is works unrefuted a live plain pays =
+  assuming_answered s more had left o works unrefuted a live plain pays =
       let before = lines sink in
       let after = lines more in
       let w = pays.1 in
-      subst (λ x. SolvesAssuming (Ok x) old (view_of p more failed) asked (lines old.sink) after
-      had left) is
-      (subst (λ (v : SolverState S). SolvesAssuming (Ok o) v (view_of p more failed) asked
+      subst (λ (v : SolverState S). SolvesAssuming (Ok o) v (view_of p more failed) asked
       (lines v.sink) after had left) same (record {
         sat = sat_of s p after left asked o i a;
         unsat = unsat_of s p after left asked o i a;
@@ -158,7 +165,7 @@ module _ {S : Type 0} (lines : S → List LogLine) {p : Input} {sink : S} {faile
             (ap (λ (b : BudgetState). b.learned) pays.2);
         answers = ap (λ (b : BudgetState). b.answers) pays.2;
         same_limit = ap (λ (b : BudgetState). b.limit) pays.2;
-      }))
+      })
 
   -- memory was refused
   pub assuming_refused : (more : S) (had left : BudgetState)

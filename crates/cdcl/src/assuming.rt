@@ -326,7 +326,7 @@ fn decide_assuming<S: Sink>(
         return Ok(Some(Halt::Spent));
     }
     if search.policy.is_restart_due() {
-        search.start_over_above(progress.opened.len());
+        search.start_over(progress.opened.len());
         progress.decisions = share.decisions;
         return Ok(None);
     }

@@ -159,7 +159,7 @@ fn on_quiet<S: Sink>(
         return Ok(Some(End::Spent));
     }
     if search.policy.is_restart_due() {
-        search.start_over();
+        search.start_over(0);
         return Ok(None);
     }
     note_level(search, input, sink)?;

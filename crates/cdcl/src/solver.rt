@@ -11,7 +11,7 @@ ghost use Rattle.cdcl.specs.Solving.{Solves, given_to, SameGiven, GivesMore, IsL
 ghost use Rattle.cdcl.specs.Solving.{lines_since};
 ghost use Rattle.cdcl_search.specs.Giving.{IsFreshName, IsFrozen};
 ghost use Rattle.cdcl.specs.Assuming.{SolvesAssuming};
-ghost use Rattle.cdcl.specs.Answering.{IsAssumed};
+ghost use Rattle.cdcl.specs.Answering.{IsAssumed, is_unsat};
 
 use crate::answers::bits;
 use crate::assuming::{Halt, run_assuming};
@@ -350,13 +350,9 @@ impl<S: Sink> Solver<S> {
             passed,
         );
         match answer {
-            Ok(Assumed::Sat(bits)) => Ok(Assumed::Sat(bits)),
-            Ok(Assumed::Core(core)) => Ok(Assumed::Core(core)),
-            Ok(Assumed::Open) => Ok(Assumed::Open),
-            Ok(Assumed::Limit) => Ok(Assumed::Limit),
-            Ok(Assumed::Unsat) => {
-                self.refuted = true;
-                Ok(Assumed::Unsat)
+            Ok(found) => {
+                self.refuted = is_unsat(&found);
+                Ok(found)
             }
             Err(_) => {
                 self.failed = true;
@@ -364,6 +360,13 @@ impl<S: Sink> Solver<S> {
             }
         }
     }
+}
+
+/// Whether no bits satisfy the clauses given, whatever is assumed.
+fn is_unsat(found: &Assumed) -> bool
+    ensures { result ≡ is_unsat found.now }
+{
+    matches!(found, Assumed::Unsat)
 }
 
 /// Searches under assumptions, and reads the bits off the trail.

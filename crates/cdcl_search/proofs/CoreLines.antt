@@ -1,7 +1,7 @@
 -- Cores: what an assumption that is false rests on, and the line of its clause.
-use Rattle.std.proofs.Common.{◌≡◌, ℕ, ◌+◌, ◌<◌, ◌≤◌, ◌-◌, ◌*◌, ◌^◌, ◌||◌, Bool, true, false, List}
+use Rattle.std.proofs.Common.{◌≡◌, ℕ, ◌+◌, ◌<◌, ◌≤◌, ◌-◌, ◌^◌, ◌||◌, true, false, List}
 use Rattle.std.proofs.Common.{[], ◌∷◌, ◌++◌}
-use Rattle.std.proofs.Common.{length, take, map, Option, Some, None, refl, sym, ◌∙◌, ap, subst}
+use Rattle.std.proofs.Common.{length, take, map, Option, Some, refl, sym, ◌∙◌, ap, subst}
 use Rattle.std.proofs.Common.{arith, not}
 use Rattle.std.proofs.Common.{◌&&◌}
 use Rattle.std.specs.Prelude.{All, Contains}
@@ -10,20 +10,19 @@ use Rattle.std.proofs.Common.{get_or, drop, inl, inr}
 use Rattle.std.proofs.lemmas.Bool.{cases_lt}
 use Rattle.std.proofs.lemmas.List.{take_all, take_more}
 use Rattle.std.proofs.lemmas.List.Elements.{All-nil, All-cons, All-head, All-tail, All-push}
-use Rattle.std.proofs.lemmas.List.Elements.{recursion_from_All, All-from_recursion}
-use Rattle.std.proofs.lemmas.Option.{none-some}
+use Rattle.std.proofs.lemmas.List.Elements.{recursion_from_All}
 use Rattle.cnf.specs.Literal.{Literal, negation}
 use Rattle.cnf.specs.Clause.{contains_literal, has_repeat, is_subset}
-use Rattle.cnf.specs.Marks.{IsMarked, HasPlace, are_marked}
-use Rattle.cnf.proofs.Laws.{all_at, contains_negation, subset_from, places_each, marked_subset}
+use Rattle.cnf.proofs.Laws.{all_at, contains_front, contains_negation, subset_from}
 use Rattle.clauses.specs.Slots.{Slots, clause_at}
 use Rattle.clauses.specs.Within.{Within}
 use Rattle.clauses.proofs.Laws.{clause_new}
 use Rattle.propagate.specs.Trail.{Assigned, literals_of, depth_of, kept_to, level_in, value_in}
 use Rattle.propagate.specs.Trail.{HasReasons, level_of, reason_in}
 use Rattle.propagate.specs.Watches.{EngineState}
-use Rattle.propagate.specs.Fits.{Fits, IsWithin}
-use Rattle.propagate.proofs.Laws.{negation_twice, false_value, attached_within}
+use Rattle.propagate.specs.Fits.{Fits, HasTrue, IsWithin}
+use Rattle.propagate.proofs.Laws.{negation_twice, false_value, kept_prefix, literals-append}
+use Rattle.propagate.proofs.Laws.{no_opposites}
 use Rattle.analyze.specs.Analyzer.{IsFalsified, IsFinal, IsAsserting, IsRefutedBy, decided}
 use Rattle.analyze.specs.declared.analyzer.FinalClause.{FinalClause}
 use Rattle.analyze.proofs.Laws.{level_is, tail_is}
@@ -38,7 +37,7 @@ use Rattle.cdcl_search.specs.declared.input.Input.{Input}
 use Rattle.cdcl_search.specs.declared.search.Search.{Search}
 use Rattle.cdcl_search.specs.Invariant.{HasUnit, NotesUnits, IsRunning, zero_of}
 use Rattle.cdcl_search.specs.Hinting.{AreHintsOf, AreNoted, Serves}
-use Rattle.cdcl_search.specs.Running.{HasRoom, Stores, Runs, IsReady, tables_of}
+use Rattle.cdcl_search.specs.Running.{HasRoom, Stores, Runs, tables_of}
 use Rattle.cdcl_search.specs.Cores.{HasSubset, AreAssumed, IsShown, IsCoreClause}
 use Rattle.cdcl_search.proofs.LogLines.{AddsByHints}
 use Rattle.cdcl_search.proofs.LearnedLines.{new_to_log}
@@ -248,27 +247,23 @@ core_has slots now lits c e is = record {
   within = subset_from lits c (λ l m. ap (contains_literal l) (sym is) ∙ m);
 }
 
--- Looking for a live clause that is a subset.
-
-pub live_within_engine : (s : Search) (r : ℕ) (c : List Literal) → IsReady s
-    → clause_at (s.store).slots r ≡ Some c → IsWithin (s.engine).variables c
-live_within_engine s r c k at =
-    attached_within s.engine (s.store).slots r c k.searches.fits
-    (k.searches.all_attached r (c, at)) at
-
-pub have_places : (n rows : ℕ) (c : List Literal) → 2 * n ≤ rows → IsWithin n c
-    → All (HasPlace rows) c
-have_places n rows c room w =
-    All-from_recursion (HasPlace rows) c
-    (places_each n rows c room (recursion_from_All (λ l. 0 < l.variable) c w.0) w.1)
-
-pub marks_tell : (marks : List Bool) (c d : List Literal) (n : ℕ) (b : Bool) → IsMarked marks c
-    → IsWithin n d → b ≡ are_marked marks d → is_subset d c ≡ b
-marks_tell marks c d n b m w e = sym (e ∙ marked_subset marks d c m w.0)
-
-pub none_stands : (slots : Slots) (place : ℕ) (d : List Literal) → clause_at slots place ≡ None
-    → clause_at slots place ≡ Some d → ⊥
-none_stands slots place d e f = none-some d (sym e ∙ f)
+-- no literal of the clause is true at level 0
+pub core_untrue : (slots : Slots) (T : List Assigned) (l : Literal) (r : ℕ) (clause : FinalClause)
+    → HasReasons (clause_at slots) [] T → IsFalsified T l r → IsFinal slots T l r clause
+    → HasTrue clause.lits.items (zero_of T) → ⊥
+core_untrue slots T l r clause reasons falsified final h =
+    let D = decided l T in
+    let p = kept_prefix 0 D in
+    let zero : contains_literal h.0 (zero_of D) ≡ true =
+    subst (λ X. contains_literal h.0 (literals_of X) ≡ true)
+    (sym (decided_zero 0 l T falsified.above)) h.2 in
+    let there : contains_literal h.0 (literals_of D) ≡ true =
+    subst (λ X. contains_literal h.0 X ≡ true)
+    (sym (ap literals_of p.1 ∙ literals-append (kept_to 0 D) p.0))
+    (contains_front h.0 (zero_of D) (literals_of p.0) zero) in
+    no_opposites (clause_at slots) D (decided_reasons (clause_at slots) [] l T reasons) h.0 there
+    (all_at (λ k. contains_literal (negation k) (literals_of D) ≡ true) clause.lits.items h.0
+    final.asserting.falsified h.1)
 
 -- What was assumed, as the code finds it.
 

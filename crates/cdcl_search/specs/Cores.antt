@@ -1,9 +1,10 @@
 -- Cores: which assumptions cannot hold together.
-use Rattle.std.specs.Prelude.{◌≡◌, ℕ, ◌<◌, ◌≤◌, true, false, List, length, map, Some, All, Contains}
+use Rattle.std.specs.Prelude.{◌≡◌, ℕ, ◌<◌, ◌≤◌, false, List, length, map, Some, All, Contains}
 use Rattle.std.specs.Prelude.{⊤}
 use Rattle.cnf.specs.Literal.{Literal, negation}
 use Rattle.cnf.specs.Clause.{has_repeat, is_subset}
 use Rattle.clauses.specs.Slots.{Slots, clause_at}
+pub use Rattle.propagate.specs.Subsets.{HasSubset}
 use Rattle.analyze.specs.declared.analyzer.FinalClause.{FinalClause}
 use Rattle.analyze.specs.Analyzer.{IsFalsified, IsFinal}
 use Rattle.lrat_log.specs.Log.{LogLine}
@@ -13,14 +14,7 @@ use Rattle.cdcl_search.specs.declared.cores.Refusal.{Refusal}
 use Rattle.cdcl_search.specs.declared.cores.Refusal.TheVariants.{Shown, Follows, Unknown}
 use Rattle.cdcl_search.specs.Running.{Runs, Writes}
 
--- a live clause of the store has no literals but those of c
-pub record HasSubset (slots : Slots) (c : List Literal) : Type 0 where
-  pub reference : ℕ
-  pub clause : List Literal
-  pub live : clause_at slots reference ≡ Some clause
-  pub within : is_subset clause c ≡ true
-
--- and none has
+-- no live clause has no literals but those of c
 abbrev pub HasNoSubset : Slots → List Literal → Type 0
 HasNoSubset slots c = (r : ℕ) (d : List Literal) → clause_at slots r ≡ Some d
     → is_subset d c ≡ false

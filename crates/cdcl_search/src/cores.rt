@@ -1,18 +1,18 @@
 // Cores: which assumptions cannot hold together, from one that is false where nothing else was
 // decided (Eén and Sörensson 2003, final conflict analysis). The clause of their negations becomes
 // a line of the log, unless a live clause has no other literals.
+//
+// Whether one has, a look at the rows of the clauses that watch its literals tells (`subsets`), which
+// propagation has read before. So a core takes the time of its analysis and of the assumptions, and
+// none by the number of variables or of clauses.
 ghost use Rattle.std.specs.Prelude.{◌≡◌, ◌<◌, ◌≤◌, ◌+◌, true, false, map, length, All, Contains};
-ghost use Rattle.std.specs.Prelude.{IfOk, IfSome, OnOk, OnErr, Some, ◌*◌, List};
+ghost use Rattle.std.specs.Prelude.{IfOk, IfSome, OnOk, OnErr, Some};
 ghost use Rattle.cnf.specs.Literal.{Literal, negation};
-ghost use Rattle.cnf.specs.Clause.{is_subset};
-ghost use Rattle.cnf.specs.Marks.{IsMarked};
-ghost use Rattle.clauses.specs.Slots.{clause_at};
 ghost use Rattle.propagate.specs.Trail.{value_in, depth_of};
-ghost use Rattle.propagate.specs.Fits.{IsWithin};
 ghost use Rattle.analyze.specs.Analyzer.{IsFalsified};
 ghost use Rattle.cdcl_search.specs.Invariant.{NotesUnits, zero_of};
 ghost use Rattle.cdcl_search.specs.Running.{IsReady, Runs};
-ghost use Rattle.cdcl_search.specs.Cores.{HasSubset, HasNoSubset, IsCoreClause, IsRefusal};
+ghost use Rattle.cdcl_search.specs.Cores.{IsCoreClause, IsRefusal};
 ghost use Rattle.cdcl_search.specs.Cores.{IsWhyFalse};
 ghost use Rattle.cdcl_search.specs.Cores.{LearnsCore};
 
@@ -20,7 +20,6 @@ use crate::input::Input;
 use crate::search::Search;
 use analyze::analyzer::FinalClause;
 use clauses::store::CRef;
-use cnf::marks::Marks;
 use cnf::types::Lit;
 use lrat_log::lines::Kind;
 use lrat_log::sink::Sink;
@@ -75,40 +74,6 @@ fn are_assumed(lits: &[Lit], assumptions: &[Lit]) -> bool
 }
 
 impl Search {
-    /// Whether a live clause stands in this place whose literals are all marked.
-    fn is_subset_at(&self, marks: &Marks, place: usize) -> bool
-        requires ready { IsReady self.now }
-        requires room { 2 * self.now.engine.variables ≤ length marks.now }
-        ensures some { (c : List Literal) → IsMarked marks.now c → result ≡ true
-            → HasSubset self.now.store.slots c }
-        ensures none { (c d : List Literal) → IsMarked marks.now c → result ≡ false
-            → clause_at self.now.store.slots place ≡ Some d → is_subset d c ≡ false }
-    {
-        match self.store.live_at(place) {
-            Some(reference) => marks.has_all(self.store.lits(reference)),
-            None => false,
-        }
-    }
-
-    /// Whether some live clause has no literals but these.
-    fn has_subset(&self, lits: &[Lit]) -> Result<bool, AllocError>
-        requires ready { IsReady self.now }
-        requires within { IsWithin self.now.engine.variables lits.now }
-        ensures some { IfOk result (λ found. found ≡ true
-            → HasSubset self.now.store.slots lits.now) }
-        ensures none { IfOk result (λ found. found ≡ false
-            → HasNoSubset self.now.store.slots lits.now) }
-    {
-        let mut marks = Marks::new(self.store.allocator(), self.engine.variables())?;
-        marks.mark_all(lits);
-        for place in 0..self.store.places() {
-            if self.is_subset_at(&marks, place) {
-                return Ok(true);
-            }
-        }
-        Ok(false)
-    }
-
     /// What an assumption that is false at a level above 0 rests on.
     fn explain(
         &mut self,
@@ -131,7 +96,7 @@ impl Search {
             return Ok(Refusal::Unknown);
         }
         let core = negations(self.store.allocator(), lits)?;
-        if self.has_subset(lits)? {
+        if self.subsets.find(&self.engine, &self.store, lits)? {
             return Ok(Refusal::Shown(core));
         }
         Ok(Refusal::Follows(core, clause))

@@ -14,5 +14,6 @@ pub mod noting;
 pub mod reducing;
 pub mod search;
 pub mod starting;
+pub mod subsets;
 mod tables;
 mod writing;

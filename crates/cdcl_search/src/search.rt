@@ -1,6 +1,6 @@
 // The state of a search, and the moves of its engine.
 ghost use Rattle.std.specs.Prelude.{◌≡◌, ℕ, true, false, ◌+◌, ◌<◌, ◌≤◌, [], ◌∷◌, ◌++◌, Some, None};
-ghost use Rattle.std.specs.Prelude.{length, All, IfOk, OnOk, IfSome, IfNone};
+ghost use Rattle.std.specs.Prelude.{length, min, All, IfOk, OnOk, IfSome, IfNone};
 ghost use Rattle.propagate.specs.Trail.{literals_of, depth_of, kept_to};
 ghost use Rattle.propagate.specs.Watches.{is_attached, IsBare};
 ghost use Rattle.propagate.specs.Fits.{IsFalseClause, IsWithin, GrowsByUnits};
@@ -10,6 +10,7 @@ ghost use Rattle.cdcl_search.specs.Invariant.{zero_of};
 ghost use Rattle.cdcl_search.specs.Running.{EngineMoves, IsReady, KeepsRunning};
 ghost use Rattle.cdcl_search.specs.Moves.{KeepsState};
 
+use crate::subsets::Subsets;
 use analyze::analyzer::{Analyzer, Learned};
 use cdcl_order::policy::Policy;
 use clauses::store::{CRef, MaybeCRef, Store};
@@ -44,6 +45,8 @@ pub struct Search {
     pub policy: Policy,
     /// The memory of conflict analysis.
     pub analyzer: Analyzer,
+    /// The memory of the search for clauses that are subsets of a core's.
+    pub subsets: Subsets,
 }
 
 impl Search {
@@ -76,6 +79,7 @@ impl Search {
             stamps: Vec::new(alloc),
             policy,
             analyzer,
+            subsets: Subsets::new(alloc),
         })
     }
 
@@ -133,24 +137,12 @@ impl Search {
         self.policy.begin();
     }
 
-    /// Starts over from level 0.
-    pub fn start_over(&mut self)
-        requires { IsReady self.old }
-        ensures runs { KeepsRunning self.old self.new }
-        ensures trail { self.new.engine.trail ≡ kept_to 0 self.old.engine.trail }
-        ensures variables { self.new.engine.variables ≡ self.old.engine.variables }
-        ensures policy { self.new.policy ≡ record self.old.policy { has_learned = false } }
-        ensures rest { self.new
-            ≡ record self.old { engine = self.new.engine; policy = self.new.policy } }
-    {
-        self.backtrack(0);
-        self.policy.start_over();
-    }
-
     /// Starts over from this level, or goes on from the current one where that is lower.
-    pub fn start_over_above(&mut self, level: usize)
+    pub fn start_over(&mut self, level: usize)
         requires { IsReady self.old }
         ensures runs { KeepsRunning self.old self.new }
+        ensures trail { self.new.engine.trail
+            ≡ kept_to (min level (depth_of self.old.engine.trail)) self.old.engine.trail }
         ensures variables { self.new.engine.variables ≡ self.old.engine.variables }
         ensures policy { self.new.policy ≡ record self.old.policy { has_learned = false } }
         ensures rest { self.new

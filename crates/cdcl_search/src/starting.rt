@@ -5,6 +5,7 @@ ghost use Rattle.lrat_log.specs.Log.{number_in};
 ghost use Rattle.cdcl_search.specs.Starts.{AreAttachedBelow, AreWithin, IsLiveWithin, IsStarted};
 
 use crate::search::Search;
+use crate::subsets::Subsets;
 use analyze::analyzer::Analyzer;
 use cdcl_order::policy::Policy;
 use clauses::store::{MaybeCRef, Store};
@@ -94,5 +95,6 @@ pub fn start(store: Store, stack: &mut Stack, additions: u64) -> Result<Search, 
         stamps,
         policy,
         analyzer,
+        subsets: Subsets::new(alloc),
     })
 }

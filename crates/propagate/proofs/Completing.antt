@@ -24,15 +24,14 @@ use Rattle.propagate_trail.proofs.Laws.{no_opposites}
 use Rattle.propagate.proofs.Fitting.{with_progress, true_more}
 use Rattle.propagate.proofs.Attachments.{count-cons, one-same, one-other}
 
--- a clause of the row is true
-true_from_row : (slots : Slots) (A : List Literal) (row : List Entry) (r : ℕ) (c : List Literal)
-    → 0 < count_in r row → AllByRecursion (IsTrueEntry slots A) row → clause_at slots r ≡ Some c
-    → HasTrue c A
-true_from_row slots A [] r c n h live = absurd (omega arith)
-true_from_row slots A (x ∷ row) r c n h live = elim (cases_eq x.reference r) [
-  | inl same ↦ h.0 c (ap (clause_at slots) same ∙ live)
-  | inr ne ↦ true_from_row slots A row r c (let a = count-cons r x row in
-      let b = one-other x.reference r ne in omega arith) h.1 live
+-- what holds of the clauses of a row's entries holds of one that stands in the row
+pub named_in_row : (P : ℕ → Type 0) (row : List Entry) (r : ℕ) → 0 < count_in r row
+    → AllByRecursion (λ w. P w.reference) row → P r
+named_in_row P [] r n h = absurd (omega arith)
+named_in_row P (x ∷ row) r n h = elim (cases_eq x.reference r) [
+  | inl same ↦ subst P same h.0
+  | inr ne ↦ named_in_row P row r (let a = count-cons r x row in
+      let b = one-other x.reference r ne in omega arith) h.1
 ]
 
 watch_advance : (e : EngineState) (slots : Slots) (w d : Literal) (r : ℕ) (c : List Literal)
@@ -64,7 +63,8 @@ watch_advance e slots w d r c x fits lt at row live n h =
                 subst (λ k. 0 < k) (sym (fits.rows (index_of w) r))
                 (subst (λ z. 0 < watches_at (attachment_in e.watches.table r) (index_of z)) same
                 n) in
-                true_from_row slots A (row_at e.watches.rows (index_of w)) r c n' row live
+                named_in_row (λ q. (d : List Literal) → clause_at slots q ≡ Some d → HasTrue d A)
+                (row_at e.watches.rows (index_of w)) r n' row c live
           ];
       stays = h.stays;
     }

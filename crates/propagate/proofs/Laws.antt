@@ -5,6 +5,7 @@ pub use Rattle.propagate.proofs.Compacting.{reasons_listed}
 pub use Rattle.propagate.proofs.FitsLaws.{fits_local}
 pub use Rattle.propagate.proofs.Looking.{attached_within, false_value, not_false_value, within_all}
 pub use Rattle.propagate.proofs.Looking.{within_variable}
+pub use Rattle.propagate.proofs.Subsets.{have_places}
 pub use Rattle.propagate_trail.proofs.Laws.{NoOpposites, contains_at, contains_take, depth-cons}
 pub use Rattle.propagate_trail.proofs.Laws.{depth_grows, depth_named, depth_push, depth_step}
 pub use Rattle.propagate_trail.proofs.Laws.{in_kept, justified_same, kept_all, kept_kept, kept_low}

@@ -10,6 +10,7 @@ mod Looking
 mod Stepping
 mod Continuing
 mod Completing
+mod Subsets
 mod Watching
 mod Waiting
 mod Following

@@ -32,19 +32,24 @@ got_number [] k x e = refl
 got_number (y ∷ w) zero x e = (cc)
 got_number (y ∷ w) (suc k) x e = got_number w k x e
 
+-- what holds of the first clauses of the list and of the next
+pub seen_next : (P : ℕ → Type 0) (w : List ℕ) (at x : ℕ) → at < length w → slice_get w at ≡ Some x
+    → P x → ((r : ℕ) → Contains (take at w) r → P r) → (r : ℕ) → Contains (take (at + 1) w) r → P r
+seen_next P w at x lt got here before r h =
+    let shape : take (at + 1) w ≡ take at w ++ x ∷ [] =
+    take_more w at x lt ∙ ap (λ y. take at w ++ y ∷ []) (got_number w at x got) in
+    elim (Contains-push_cases (take at w) x r (subst (λ z. Contains z r) shape h)) as (λ _. P r) [
+      | inl earlier ↦ before r earlier
+      | inr is ↦ subst P is here
+    ]
+
 pub seen_more : (slots : Slots) (e f : EngineState) (w v : List ℕ) (at x : ℕ) → v ≡ w
     → at < length w → slice_get v at ≡ Some x → Continues e f
     → ((r : ℕ) → Contains (take at w) r → IsTrueWaiting slots e r) → IsTrueWaiting slots f x
     → (r : ℕ) → Contains (take (at + 1) w) r → IsTrueWaiting slots f r
-seen_more slots e f w v at x same lt got g seen here r h =
-    let got' : slice_get w at ≡ Some x = ap (λ z. slice_get z at) (sym same) ∙ got in
-    let shape : take (at + 1) w ≡ take at w ++ x ∷ [] =
-    take_more w at x lt ∙ ap (λ y. take at w ++ y ∷ []) (got_number w at x got') in
-    elim (Contains-push_cases (take at w) x r (subst (λ z. Contains z r) shape h))
-    as (λ _. IsTrueWaiting slots f r) [
-      | inl before ↦ waiting_more slots e f r g (seen r before)
-      | inr is ↦ subst (IsTrueWaiting slots f) is here
-    ]
+seen_more slots e f w v at x same lt got g seen here =
+    seen_next (IsTrueWaiting slots f) w at x lt (ap (λ z. slice_get z at) (sym same) ∙ got) here
+    (λ r h. waiting_more slots e f r g (seen r h))
 
 pub all_seen : (slots : Slots) (e : EngineState) (w : List ℕ) (n : ℕ) → Fits e slots
     → e.watches.waiting ≡ w → length w ≤ n

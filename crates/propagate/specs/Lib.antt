@@ -4,5 +4,6 @@ pub mod Doomed
 pub mod Fits
 pub mod Steps
 pub mod Queue
+pub mod Subsets
 pub mod Renames
 pub mod Vectors

@@ -18,6 +18,7 @@ mod detaching;
 mod queue;
 mod renaming;
 mod rooms;
+mod subsets;
 mod waiting;
 
 use crate::not_false::{find_not_false, find_other_not_false};

@@ -149,7 +149,7 @@ impl Engine {
     }
 
     /// How many clauses watch this literal.
-    fn row_len(&self, lit: Lit) -> usize
+    pub(super) fn row_len(&self, lit: Lit) -> usize
         requires { lit.variable ≤ self.now.variables }
         ensures { result ≡ length (row_at self.now.watches.rows (index_of lit)) }
     {

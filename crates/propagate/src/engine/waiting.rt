@@ -59,14 +59,14 @@ impl Engine {
     }
 
     /// How many clauses wait, with those that need it no more.
-    fn waiting_len(&self) -> usize
+    pub(super) fn waiting_len(&self) -> usize
         ensures { result ≡ length self.now.watches.waiting }
     {
         self.waiting.len()
     }
 
     /// The clause at a place among these.
-    fn waiting_at(&self, at: usize) -> CRef
+    pub(super) fn waiting_at(&self, at: usize) -> CRef
         requires { at < length self.now.watches.waiting }
         ensures { slice_get self.now.watches.waiting at ≡ Some result }
     {

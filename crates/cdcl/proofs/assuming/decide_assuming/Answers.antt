@@ -21,9 +21,9 @@ returns-then-is_restart_due g c =
     let s = c.args.search.now in
     let p = c.args.input.now in
     let ls = g.S.Sink.lines c.args.sink.now in
-    let o = c.start_over_above.ensures in
-    turn_goes_on s c.start_over_above.new.self p c.args.assumptions.now ls ls c.args.budget.now
-    (goes_over s c.start_over_above.new.self p ls c.args.budget.now (o.runs p ls c.requires.runs)
+    let o = c.start_over.ensures in
+    turn_goes_on s c.start_over.new.self p c.args.assumptions.now ls ls c.args.budget.now
+    (goes_over s c.start_over.new.self p ls c.args.budget.now (o.runs p ls c.requires.runs)
     o.variables (c.is_restart_due.ensures c.if-is_restart_due.true)
     (ap (λ (x : PolicyState). x.has_learned) o.policy))
     (writes_none p.given ls)

@@ -1,6 +1,6 @@
 use Rattle.std.proofs.Common.{◌≡◌, ◌+◌, length}
 use Rattle.cdcl.specs.Outcomes.{AreValues}
-use Rattle.cdcl.proofs.answers.bits.Given as goal
+use Rattle.cdcl.proofs.answers.read_values.Given as goal
 
 abbrev pub invariant-loop-variable : goal.invariant-loop-variable
 invariant-loop-variable l = record {

@@ -1,0 +1,22 @@
+use Rattle.std.proofs.Common.{sym, subst}
+use Rattle.propagate.specs.Trail.{literals_of}
+use Rattle.analyze.specs.Analyzer.{IsQuiet}
+use Rattle.cdcl_search.specs.declared.search.Search.{Search}
+use Rattle.cdcl_search.specs.Running.{Runs}
+use Rattle.cdcl.proofs.Rounds.{open_log, pays_nothing}
+use Rattle.cdcl.proofs.Halts.{turn_breaks}
+use Rattle.cdcl.proofs.assuming.pass_and_choose.Goals as goal
+
+pub returns-in_err-pass_false : goal.returns-in_err-pass_false
+returns-in_err-pass_false g c =
+    let s = c.args.search.now in
+    let p = c.args.input.now in
+    let b = c.args.budget.now in
+    let ls = g.S.Sink.lines c.args.sink.now in
+    turn_breaks c.from_residual.result s c.pass_false.new.search p c.args.assumptions.now ls ls b b
+    c.from_residual.ensures.0 (open_log s p ls c.requires.runs) (pays_nothing p.given ls b)
+
+pub choose-requires-clause-quiet : goal.choose-requires-clause-quiet
+choose-requires-clause-quiet g c =
+    subst (λ (s : Search). IsQuiet s.store.slots (literals_of s.engine.trail))
+    (sym c.pass_false.ensures) c.requires.quiet
