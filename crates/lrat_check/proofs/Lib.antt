@@ -8,3 +8,4 @@ pub mod ReadingLaws
 pub mod HeadLaws
 pub mod BehindLaws
 pub mod LeftLaws
+pub mod Stops

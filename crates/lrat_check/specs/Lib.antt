@@ -7,3 +7,4 @@ pub mod CoreLines
 pub mod Heads
 pub mod CoreFormula
 pub mod Left
+pub mod Stopping

@@ -1,5 +1,7 @@
 -- A checker that is handed the certificate in pieces.
-use Rattle.std.specs.Prelude.{◌≡◌, ℕ, Bool, List, ◌∷◌, ◌++◌, length, Option, Some, None, IfSome}
+use Rattle.std.specs.Prelude.{◌≡◌, ℕ, Bool, List, [], ◌∷◌, ◌++◌, length, Option, Some, None}
+use Rattle.std.specs.Prelude.{IfSome, ◌⊎◌}
+use Rattle.std.specs.Io.KnownBytes.{Consumes}
 use Rattle.cnf.specs.Literal.{Literal}
 use Rattle.text.specs.Text.{token_lines, tokens_of}
 use Rattle.text.specs.Pieces.{IsCut, IsEnded}
@@ -10,6 +12,7 @@ use Rattle.lrat_machine.specs.declared.verdicts.Verdict.{Verdict}
 use Rattle.lrat_machine.specs.declared.verdicts.Verdict.TheVariants.{No}
 use Rattle.lrat_check.specs.declared.reading.Reading.{Reading}
 use Rattle.lrat_machine.specs.Machine.{MachineState, verdict_after}
+use Rattle.lrat_check.specs.Stopping.{ReadsOn}
 use Rattle.lrat_check.specs.Verdict.{proof_verdict}
 
 -- what the pieces so far leave
@@ -88,10 +91,12 @@ pub record HasJudged (c : CheckerState) (formula : List (List Literal)) (bytes :
   pub fed : c.fed ≡ length bytes
   pub holds : Holds c.reading formula bytes
 
--- the verdict is that on some bytes after those before, and these are those of the reader where
--- they are known
-pub record IsJudged (before : List ℕ) (remaining : Option (List ℕ)) (formula : List (List Literal))
+-- the verdict is that on some bytes after those before, which were read no further than it takes;
+-- and on those of the reader, where they are known
+pub record IsJudged (before : List ℕ) (old new : Option (List ℕ)) (formula : List (List Literal))
     (v : Verdict) : Type 0 where
   pub bytes : List ℕ
+  pub read : Consumes old new bytes
+  pub in_time : (bytes ≡ []) ⊎ ReadsOn (proof_verdict formula) before bytes
   pub verdict : v ≡ proof_verdict formula (before ++ bytes)
-  pub all : IfSome remaining (λ all. v ≡ proof_verdict formula (before ++ all))
+  pub all : IfSome old (λ all. v ≡ proof_verdict formula (before ++ all))

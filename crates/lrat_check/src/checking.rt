@@ -1,12 +1,13 @@
 //! A result with its certificate, against the instance's text. Everything that is checked is built
 //! from that text: of the certificate, only the refutation is read. The result is a text too, which
 //! is called the answer here, since in a contract `result` is what a function returns.
-ghost use Rattle.std.specs.Prelude.{◌≡◌, ℕ, List, IfOk, IfSome, ◌↔◌, None};
+ghost use Rattle.std.specs.Prelude.{◌≡◌, ℕ, List, IfOk, IfSome, OnOk, ◌↔◌, None};
 ghost use Rattle.lrat_result.specs.Result.{Report as Reported};
 ghost use Rattle.lrat_result.specs.Report.{reported};
 ghost use Rattle.lrat_check.specs.Checks.{ChecksAs, IsTrueResult, IsTrueOf, HasCost, takes_cores};
 ghost use Rattle.lrat_check.specs.Verdict.{verdict_as, said_verdict, bits_fault};
 ghost use Rattle.lrat_check.specs.Left.{verdict_left, Shows};
+ghost use Rattle.lrat_check.specs.Stopping.{StopsInTime};
 
 use crate::certificate::check_owned;
 use crate::headed::{check_headed, check_headed_stream};
@@ -114,6 +115,8 @@ pub fn check_from<R: Read>(
     ensures yes { IfOk result (λ v.
         IfSome (R.remaining proof.old)
         (λ bytes. (v ≡ Verdict.Yes) ↔ ChecksAs Profile.One text.now answer.now bytes)) }
+    ensures stops { OnOk result (StopsInTime (verdict_as Profile.One text.now answer.now)
+        (R.remaining proof.old) (R.remaining proof.new)) }
     ensures sound { IfOk result (λ v. v ≡ Verdict.Yes → IsTrueResult text.now answer.now) }
 {
     check_from_as(alloc, text, answer, proof, Profile::One)
@@ -133,6 +136,8 @@ pub fn check_from_as<R: Read>(
     ensures yes { IfOk result (λ v.
         IfSome (R.remaining proof.old)
         (λ bytes. (v ≡ Verdict.Yes) ↔ ChecksAs profile text.now answer.now bytes)) }
+    ensures stops { OnOk result (StopsInTime (verdict_as profile text.now answer.now)
+        (R.remaining proof.old) (R.remaining proof.new)) }
     ensures sound { IfOk result (λ v. v ≡ Verdict.Yes → IsTrueResult text.now answer.now) }
 {
     let Ok(left) = read_texts(alloc, text, answer, profile) else {

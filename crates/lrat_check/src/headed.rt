@@ -1,9 +1,11 @@
 // Certificates that may begin with core lines, whole or from a reader.
 ghost use Rattle.std.specs.Prelude.{◌≡◌, ℕ, ◌+◌, ◌<◌, ◌≤◌, ◌^◌, ◌++◌, List, length, IfOk, IfSome};
+ghost use Rattle.std.specs.Prelude.{OnOk};
 ghost use Rattle.text.specs.Text.{token_lines};
 ghost use Rattle.lrat_check.specs.Checks.{CostsAtLeast};
 ghost use Rattle.lrat_check.specs.CoreLines.{IsHeadOf};
-ghost use Rattle.lrat_check.specs.Heads.{IsOpenHead, head_reading, verdict_ended};
+ghost use Rattle.lrat_check.specs.Heads.{IsEndedHead, IsOpenHead, head_reading, verdict_ended};
+ghost use Rattle.lrat_check.specs.Stopping.{GoesOnFor, StopsBehind, StopsInTime};
 ghost use Rattle.lrat_check.specs.Verdict.{headed_verdict};
 
 use crate::behind::{checker_behind, end_head, judge_behind};
@@ -42,6 +44,8 @@ pub(crate) fn check_headed_stream<R: Read>(
     requires { cost ≤ 2 ^ 62 }
     ensures verdict { IfOk result (λ v. IfSome (R.remaining proof.old)
         (λ bytes. v ≡ headed_verdict instance.now cost bytes)) }
+    ensures stops { OnOk result (StopsInTime (headed_verdict instance.now cost)
+        (R.remaining proof.old) (R.remaining proof.new)) }
     ensures sound { IfOk result (λ v. v ≡ Verdict.Yes → CostsAtLeast instance.now cost) }
 {
     let Ok(new) = Head::new(instance) else {
@@ -103,6 +107,11 @@ fn judge_rest<R: Read>(
     ensures verdict { IfOk result (λ v. IfSome (R.remaining proof.old) (λ more. v
         ≡ verdict_ended instance.now cost head.now.cores
         (token_lines ((head.now.rest ++ left.now) ++ more)))) }
+    ensures stops { OnOk result ((bytes : List ℕ)
+        → IsEndedHead instance.now (head_reading head.now) left.now bytes
+        → GoesOnFor (2 ^ 16) (headed_verdict instance.now cost) bytes
+        → StopsBehind (headed_verdict instance.now cost) bytes
+        (R.remaining proof.old) (R.remaining proof.new)) }
     ensures sound { IfOk result (λ v. v ≡ Verdict.Yes → CostsAtLeast instance.now cost) }
 {
     let Ok(behind) = checker_behind(head, instance, cost, left) else {

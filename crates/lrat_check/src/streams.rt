@@ -4,6 +4,7 @@ ghost use Rattle.std.specs.Prelude.{IfSome, OnOk};
 ghost use Rattle.cnf.specs.Literal.{Literal};
 ghost use Rattle.cnf.specs.Formula.{IsUnsatisfiable};
 ghost use Rattle.lrat_check.specs.Pieces.{HasJudged, IsJudged};
+ghost use Rattle.lrat_check.specs.Stopping.{StopsInTime};
 ghost use Rattle.lrat_check.specs.Verdict.{proof_verdict};
 
 use crate::pieces::Checker;
@@ -15,6 +16,8 @@ use std::io::Read;
 pub(crate) fn check_stream<R: Read>(formula: Formula, proof: &mut R) -> Result<Verdict, CheckFault>
     ensures verdict { IfOk result (λ v.
         IfSome (R.remaining proof.old) (λ bytes. v ≡ proof_verdict formula.clauses bytes)) }
+    ensures stops { OnOk result (StopsInTime (proof_verdict formula.clauses)
+        (R.remaining proof.old) (R.remaining proof.new)) }
     ensures sound { IfOk result (λ v. v ≡ Verdict.Yes → IsUnsatisfiable formula.clauses) }
 {
     formula.limits();
@@ -29,7 +32,7 @@ pub(crate) fn check_stream<R: Read>(formula: Formula, proof: &mut R) -> Result<V
 pub(crate) fn judge_stream<R: Read>(checker: Checker, proof: &mut R) -> Result<Verdict, CheckFault>
     ensures { IfOk result (λ v. (formula : List (List Literal)) (before : List ℕ)
         → HasJudged checker formula before
-        → IsJudged before (R.remaining proof.old) formula v) }
+        → IsJudged before (R.remaining proof.old) (R.remaining proof.new) formula v) }
 {
     let mut checker = checker;
     let mut chunk = [0u8; 65536];

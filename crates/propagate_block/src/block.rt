@@ -103,7 +103,7 @@ impl<T: Copy> Block<T> {
     }
 
     /// Copies the `count` values from place `from` on to the places from `to` on, all of which lie
-    /// after them.
+    /// after them. Nothing else changes.
     pub fn copy_within(&mut self, from: usize, to: usize, count: usize)
         requires before { from + count ≤ to }
         requires room { to + count ≤ length self.old }
@@ -112,6 +112,8 @@ impl<T: Copy> Block<T> {
         ensures kept { (k : ℕ) (d : T) → k < to → get_or self.new k d ≡ get_or self.old k d }
         ensures copied { (k : ℕ) (d : T) → k < count → get_or self.new (to + k) d
             ≡ get_or self.old (from + k) d }
+        ensures behind { (k : ℕ) (d : T) → to + count ≤ k
+            → get_or self.new k d ≡ get_or self.old k d }
     {
         for moved in 0..count {
             let value = self.get(from + moved);

@@ -6,6 +6,8 @@ use Rattle.lrat_check.proofs.Checked.{yes_by}
 use Rattle.lrat_check.proofs.LeftLaws.{headed_gives, headed_shows}
 use Rattle.lrat_check.proofs.LeftLaws.{nothing_gives, proof_gives, proof_shows, if_some_all}
 use Rattle.lrat_check.proofs.LeftLaws.{if_some_more}
+use Rattle.lrat_check.specs.Verdict.{headed_verdict, proof_verdict}
+use Rattle.lrat_check.proofs.Stops.{stops_at_once, stops_same}
 use Rattle.lrat_check.proofs.checking.check_from_as.Goals as goal
 
 pub returns-in-Nothing-clause-verdict : goal.returns-in-Nothing-clause-verdict
@@ -73,3 +75,30 @@ returns-in-Headed-clause-sound g c =
     IfOk-weaker c.check_headed_stream.result _ _
     (λ v h y. headed_shows c.in-Ok.left c.in-Headed.instance c.in-Headed.cost _ c.in-Headed.is
     c.in-Ok.ensures.sound (h y)) c.check_headed_stream.ensures.sound
+
+pub returns-in-Nothing-clause-stops : goal.returns-in-Nothing-clause-stops
+returns-in-Nothing-clause-stops g c =
+    stops_at_once (verdict_as c.args.profile c.args.text.now c.args.answer.now)
+    (g.R.Read.remaining c.args.proof.now)
+
+pub returns-in-Proof-clause-stops : goal.returns-in-Proof-clause-stops
+returns-in-Proof-clause-stops g c =
+    IfOk-weaker c.check_stream.result _ _
+    (λ v h. stops_same (proof_verdict c.in-Proof.formula.clauses)
+    (verdict_as c.args.profile c.args.text.now c.args.answer.now)
+    (g.R.Read.remaining c.args.proof.now) _
+    (proof_gives c.in-Ok.left c.in-Proof.formula
+    (verdict_as c.args.profile c.args.text.now c.args.answer.now) c.in-Proof.is
+    c.in-Ok.ensures.verdict) h)
+    c.check_stream.ensures.stops
+
+pub returns-in-Headed-clause-stops : goal.returns-in-Headed-clause-stops
+returns-in-Headed-clause-stops g c =
+    IfOk-weaker c.check_headed_stream.result _ _
+    (λ v h. stops_same (headed_verdict c.in-Headed.instance c.in-Headed.cost.cost)
+    (verdict_as c.args.profile c.args.text.now c.args.answer.now)
+    (g.R.Read.remaining c.args.proof.now) _
+    (headed_gives c.in-Ok.left c.in-Headed.instance c.in-Headed.cost
+    (verdict_as c.args.profile c.args.text.now c.args.answer.now) c.in-Headed.is
+    c.in-Ok.ensures.verdict) h)
+    c.check_headed_stream.ensures.stops

@@ -1,6 +1,8 @@
 use Rattle.std.proofs.Common.{[]}
 use Rattle.std.proofs.lemmas.Result.{IfOk-weaker}
 use Rattle.lrat_machine.proofs.Laws.{yes_is_sound}
+use Rattle.lrat_check.specs.Verdict.{proof_verdict}
+use Rattle.lrat_check.proofs.Stops.{stops_in_time}
 use Rattle.lrat_check.proofs.streams.check_stream.Goals as goal
 
 pub returns-clause-verdict : goal.returns-clause-verdict
@@ -14,3 +16,10 @@ returns-clause-sound g c =
     (λ v h. let j = h c.args.formula.clauses [] c.in-Ok.ensures.judged in
     yes_is_sound c.args.formula j.bytes v c.limits.ensures j.verdict)
     c.judge_stream.ensures
+
+pub returns-clause-stops : goal.returns-clause-stops
+returns-clause-stops g c =
+    IfOk-weaker c.judge_stream.result _ _
+    (λ v h. let j = h c.args.formula.clauses [] c.in-Ok.ensures.judged in
+    stops_in_time (proof_verdict c.args.formula.clauses) (g.R.Read.remaining c.args.proof.now) _
+    j.bytes j.read j.in_time) c.judge_stream.ensures
