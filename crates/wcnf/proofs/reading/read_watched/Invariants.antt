@@ -6,7 +6,8 @@ use Rattle.wcnf.proofs.reading.read_watched.Given as goal
 
 abbrev pub invariant-pieces : goal.invariant-pieces
 invariant-pieces g l =
-    (bytes : List ℕ) × HasRead l.parser bytes × Consumes (g.R.Read.remaining (l.fn.reader).reader.now)
+    (bytes : List ℕ) × HasRead l.parser bytes
+    × Consumes (g.R.Read.remaining (l.fn.reader).reader.now)
     (g.R.Read.remaining (l.reader).reader.now) bytes × ((l.reader).has_failed ≡ false)
     × ((l.reader).reader.ghost_name ≡ (l.fn.reader).reader.ghost_name)
 
