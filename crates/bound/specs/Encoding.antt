@@ -1,7 +1,9 @@
 -- The formula that is written part by part.
-use Rattle.std.specs.Prelude.{List, ◌++◌}
+use Rattle.std.specs.Prelude.{Bool, true, false, List, ◌++◌}
 use Rattle.cnf.specs.Literal.{Literal}
 use Rattle.cnf.specs.Formula.{Cnf}
+use Rattle.bound.specs.declared.encoding.EncodeFault.{EncodeFault}
+use Rattle.bound.specs.declared.encoding.EncodeFault.TheVariants.{Memory, Output}
 use Rattle.bound.specs.declared.encoding.Outline.{Outline}
 use Rattle.bound.specs.Bound.{kept, addition_clauses}
 
@@ -11,3 +13,8 @@ outlined hard o = record {
   variables = o.vars;
   clauses = kept hard ++ o.relaxed ++ addition_clauses o.addition ++ o.comparator;
 }
+
+-- why a formula was not written to its end, by whether the writer has failed
+abbrev pub fault_by : Bool → EncodeFault
+fault_by false = Memory
+fault_by true = Output

@@ -1,14 +1,14 @@
 // The text of a formula, written while its clauses are made: in memory stand what the formula is
 // made of and the clauses of one cell, so that it may be far longer than what there is room for.
 ghost use Rattle.std.specs.Prelude.{◌≡◌, ◌+◌, ◌*◌, ◌<◌, ◌≤◌, ◌^◌, ◌++◌, length, All, IfOk, OnOk};
-ghost use Rattle.std.specs.Prelude.{OnErr};
+ghost use Rattle.std.specs.Prelude.{OnErr, IfErr};
 ghost use Rattle.std.specs.List.{flat_map};
 ghost use Rattle.std.specs.Io.KnownBytes.{Appends};
 ghost use Rattle.text.specs.Writing.{AppendsPart, PassesOn};
 ghost use Rattle.bound.specs.Bound.{kept, bound_as, cell_clauses, comparator_for, dimacs_clause};
 ghost use Rattle.bound.specs.Bound.{dimacs_text, relaxed_clauses, addition_as, addition_clauses};
 ghost use Rattle.bound.specs.Adding.{HasVariables, IsFit};
-ghost use Rattle.bound.specs.Encoding.{outlined};
+ghost use Rattle.bound.specs.Encoding.{fault_by, outlined};
 
 use crate::additions::Addition;
 use crate::cells::keep_cell;
@@ -25,6 +25,7 @@ use cnf::types::Instance;
 use std::alloc::AllocError;
 use std::io::Write;
 use text::output::{Block, WriteFault};
+pub use text::watched::WatchedWriter;
 
 /// Why a formula was not written to its end.
 #[derive(Clone, Copy, Debug, PartialEq, Eq, Drop)]
@@ -60,9 +61,40 @@ impl From<WriteFault> for EncodeFault {
 ///
 /// # Errors
 ///
-/// `Memory` where a growth was refused, and `Output` where the writer failed. The writer then has a
-/// beginning of the text, and is not called again.
+/// `Output` where the writer has failed, and else `Memory`: a growth was refused. The writer then
+/// has a beginning of the text, and is not called again.
 pub fn write_formula<W: Write>(
+    instance: &Instance,
+    k: u64,
+    profile: Profile,
+    writer: &mut WatchedWriter<'_, W>,
+) -> Result<(), EncodeFault>
+    requires { k ≤ 2 ^ 62 }
+    ensures ok { OnOk result (Appends (W.contents writer.old.writer.now)
+        (W.contents writer.new.writer.now) (dimacs_text (bound_as profile instance.now k))) }
+    ensures fault { OnErr result (AppendsPart (W.contents writer.old.writer.now)
+        (W.contents writer.new.writer.now) (dimacs_text (bound_as profile instance.now k))) }
+    ensures why { IfErr result (λ fault. fault ≡ fault_by writer.new.has_failed) }
+{
+    match write_parts(instance, k, profile, writer) {
+        Ok(()) => Ok(()),
+        Err(_) => Err(fault_by(writer.has_failed())),
+    }
+}
+
+/// Why a formula was not written to its end, by whether the writer has failed.
+fn fault_by(has_failed: bool) -> EncodeFault
+    ensures { result ≡ fault_by has_failed }
+{
+    if has_failed {
+        EncodeFault::Output
+    } else {
+        EncodeFault::Memory
+    }
+}
+
+/// As `write_formula`, to any writer: why it ended is then open.
+fn write_parts<W: Write>(
     instance: &Instance,
     k: u64,
     profile: Profile,

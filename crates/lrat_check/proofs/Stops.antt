@@ -172,7 +172,8 @@ stops_same f g old new same h = record {
   in_time = on h.in_time;
 }
   where
-    on : (h.bytes ≡ []) ⊎ GoesOnFor (2 ^ 17) f h.bytes → (h.bytes ≡ []) ⊎ GoesOnFor (2 ^ 17) g h.bytes
+    on : (h.bytes ≡ []) ⊎ GoesOnFor (2 ^ 17) f h.bytes
+        → (h.bytes ≡ []) ⊎ GoesOnFor (2 ^ 17) g h.bytes
     on (inl none) = inl none
     on (inr k) = inr (record {
       done = k.done;
@@ -248,10 +249,13 @@ module _ (p : Problem) (cost : ℕ) where
           ap (λ x. head ++ x) (k.split ∙ ap (λ x. x ++ k.piece) f)
           ∙ regroup head u k.rest k.piece;
       few = over_few k.rest k.piece k.unfinished k.small;
-      is_open = λ s. k.is_open (s.0, λ more.
-          ap (λ x. behind (x ++ more)) g ∙ ap behind (append_assoc j.bytes u more)
-          ∙ sym (same_behind (u ++ more))
-          ∙ ap (headed_verdict p cost) (sym (append_assoc head u more)) ∙ s.1 more);
+      is_open = λ s. k.is_open (
+        s.0,
+        λ more.
+            ap (λ x. behind (x ++ more)) g ∙ ap behind (append_assoc j.bytes u more)
+            ∙ sym (same_behind (u ++ more))
+            ∙ ap (headed_verdict p cost) (sym (append_assoc head u more)) ∙ s.1 more,
+      );
     }
       where
         regroup : (a b c d : List ℕ) → a ++ ((b ++ c) ++ d) ≡ (a ++ b) ++ (c ++ d)

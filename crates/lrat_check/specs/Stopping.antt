@@ -1,5 +1,5 @@
--- How far the certificate of a reader is read. A line is judged once its line feed is there, and the
--- reader is asked for 65536 bytes at once.
+-- How far the certificate of a reader is read. A line is judged once its line feed is there, and
+-- the reader is asked for 65536 bytes at once.
 use Rattle.std.specs.Prelude.{◌≡◌, ℕ, ◌+◌, ◌^◌, ◌≤◌, List, [], ◌∷◌, ◌++◌, length, Option, ◌⊎◌}
 use Rattle.std.specs.Prelude.{◌==◌, if◌then◌else◌}
 use Rattle.std.specs.Io.KnownBytes.{Consumes}
@@ -23,8 +23,8 @@ pub record GoesOnFor (most : ℕ) (verdict : List ℕ → Verdict) (bytes : List
   pub few : feeds over ≤ most
   pub is_open : Settles verdict done → ⊥
 
--- what a reader gave, from what it had left to what it has left: nothing, or no more than 2^17 lines
--- behind some that leave the verdict open
+-- what a reader gave, from what it had left to what it has left: nothing, or no more than 2^17
+-- lines behind bytes that leave the verdict open
 pub record StopsInTime (verdict : List ℕ → Verdict) (old new : Option (List ℕ)) : Type 0 where
   pub bytes : List ℕ
   pub read : Consumes old new bytes

@@ -1,5 +1,6 @@
 -- Texts of tokens, and what a writer has of a text.
-use Rattle.std.specs.Prelude.{◌≡◌, ℕ, List, [], ◌∷◌, ◌++◌, Option}
+use Rattle.std.specs.Prelude.{◌≡◌, ℕ, Bool, true, ◌&&◌, nat_lt, ◌==◌, List, [], ◌∷◌, ◌++◌, length}
+use Rattle.std.specs.Prelude.{Option, Result, Ok, Err}
 use Rattle.std.specs.Io.KnownBytes.{Appends}
 
 -- tokens with single spaces, and a line feed
@@ -23,3 +24,8 @@ pub record PassesOn (old : Option (List ℕ)) (held : List ℕ) (text : List ℕ
   pub written : List ℕ
   pub appended : Appends old new written
   pub split : held ++ text ≡ written ++ left
+
+-- a write fails by an error, or where it takes none of some bytes
+abbrev pub write_fails : {E : Type 0} → Result ℕ E → List ℕ → Bool
+write_fails (Ok n) bytes = (n == 0) && nat_lt 0 (length bytes)
+write_fails (Err e) bytes = true

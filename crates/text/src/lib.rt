@@ -1,5 +1,5 @@
-//! Texts: lines and their tokens, numbers in digits, and output that is gathered before it is
-//! written.
+//! Texts: lines and their tokens, numbers in digits, and readers and writers: output is gathered
+//! before it is written, and nothing is asked of one that has failed.
 #![tactic(auto)]
 
 pub mod buffer;
@@ -7,4 +7,5 @@ pub mod cutting;
 pub mod digits;
 pub mod output;
 pub mod pieces;
+pub mod watched;
 pub mod words;

@@ -1,7 +1,7 @@
 -- A text in pieces: what holds after a line more, after a piece, and at the end.
 use Rattle.std.proofs.Common.{◌≡◌, ℕ, ◌+◌, ◌<◌, List, [], ◌∷◌, ◌++◌, length, take, inl, inr}
 use Rattle.std.proofs.Common.{◌⊎◌, refl, sym, ◌∙◌, ap, subst, append_assoc, append-nil, None, Some}
-use Rattle.std.specs.Prelude.{◌==◌, false, Ok, Err, Option, Result, IfSome, IfOk, IfErr}
+use Rattle.std.specs.Prelude.{◌==◌, Bool, false, Ok, Err, Option, Result, IfSome, IfOk, IfErr}
 use Rattle.std.specs.List.{enumerate_from}
 use Rattle.std.specs.Str.Lines.{lines, strip_carriage_return}
 use Rattle.std.specs.Io.KnownBytes.{Consumes, IsAtEnd}
@@ -12,7 +12,8 @@ use Rattle.wcnf.specs.Wcnf.{Reads}
 use Rattle.cnf.specs.Problem.{Problem}
 use Rattle.wcnf.specs.Drafts.{Drafted, nothing_drafted, drafted_line}
 use Rattle.wcnf.specs.Reading.{drafted_lines, IsFirstFault}
-use Rattle.wcnf.specs.Parsing.{HasRead, Ends, NoMemory, IsLineFault, Refuses}
+use Rattle.wcnf.specs.Parsing.{HasRead, Ends, NoMemory, IsFaultOf, IsLineFault, Refuses}
+use Rattle.wcnf.specs.Parsing.{TellsFailure}
 use Rattle.wcnf.specs.declared.faults.FaultKind.TheVariants.{Read}
 use Rattle.wcnf.specs.declared.faults.ReadFault.{ReadFault}
 use Rattle.wcnf.specs.declared.parser.Parser.{Parser}
@@ -172,6 +173,18 @@ abbrev IsRefusedReading : Option (List ℕ) → ReadFault → Type 0
 IsRefusedReading known f = NoMemory f ⊎ (f ≡ record { kind = Read; line = 0 })
     ⊎ IfSome known (λ text. IsFirstFault text f.kind f.line)
 
+-- the reader has failed, or this is a fault of the whole text
+abbrev IsRefusedWatched : Bool → Option (List ℕ) → ReadFault → Type 0
+IsRefusedWatched has_failed known f = NoMemory f ⊎ TellsFailure has_failed f ⊎ IsFaultOf known f
+
+pub reading_refused : {X : Type 0} (has_failed : Bool) (known : Option (List ℕ))
+    (r : Result X ReadFault) → IfErr r (IsRefusedWatched has_failed known)
+    → IfErr r (IsRefusedReading known)
+reading_refused has_failed known (Ok x) h = tt
+reading_refused has_failed known (Err f) (inl m) = inl m
+reading_refused has_failed known (Err f) (inr (inl t)) = inr (inl t.1)
+reading_refused has_failed known (Err f) (inr (inr h)) = inr (inr h.all)
+
 over_known : (a c : Option (List ℕ)) (bytes piece : List ℕ) (f : ReadFault)
     → Consumes a c (bytes ++ piece)
     → ((more : List ℕ) → IsFirstFault (bytes ++ piece ++ more) f.kind f.line)
@@ -181,21 +194,29 @@ over_known (Some x) None bytes piece f p h = absurd p
 over_known (Some x) (Some y) bytes piece f p h =
     subst (λ t. IsFirstFault t f.kind f.line) (sym p) (h y)
 
-pub piece_refused : (a b c : Option (List ℕ)) (bytes piece : List ℕ) (p : Parser) (f : ReadFault)
-    → Consumes a b bytes → Consumes b c piece → HasRead p bytes → Refuses p piece f
-    → IsRefusedReading a f
-piece_refused a b c bytes piece p f u v s (inl m) = inl m
-piece_refused a b c bytes piece p f u v s (inr r) =
-    inr (inr (over_known a c bytes piece f (Consumes-trans a b c bytes piece u v)
-    (λ more. r bytes more s)))
+pub piece_refused : (has_failed : Bool) (a b c : Option (List ℕ)) (bytes piece : List ℕ)
+    (p : Parser) (f : ReadFault) → Consumes a b bytes → Consumes b c piece → HasRead p bytes
+    → Refuses p piece f → IsRefusedWatched has_failed a f
+piece_refused has_failed a b c bytes piece p f u v s (inl m) = inl m
+piece_refused has_failed a b c bytes piece p f u v s (inr r) =
+    inr (inr (record {
+      text = bytes ++ piece ++ [];
+      is = r bytes [] s;
+      all = over_known a c bytes piece f (Consumes-trans a b c bytes piece u v)
+          (λ more. r bytes more s);
+    }))
 
-pub reader_refused : {X : Type 0} (a c : Option (List ℕ)) (bytes : List ℕ) (p : Parser)
-    (r : Result X ReadFault) → Consumes a c bytes → IsAtEnd c → HasRead p bytes
-    → IfErr r (IsRefusedAtEnd p) → IfErr r (IsRefusedReading a)
-reader_refused a c bytes p (Ok x) u e s h = tt
-reader_refused a c bytes p (Err f) u e s (inl m) = inl m
-reader_refused a c bytes p (Err f) u e s (inr g) =
-    inr (inr (Consumes-whole a c bytes (λ t. IsFirstFault t f.kind f.line) u e (g bytes s)))
+pub reader_refused : {X : Type 0} (has_failed : Bool) (a c : Option (List ℕ)) (bytes : List ℕ)
+    (p : Parser) (r : Result X ReadFault) → Consumes a c bytes → IsAtEnd c → HasRead p bytes
+    → IfErr r (IsRefusedAtEnd p) → IfErr r (IsRefusedWatched has_failed a)
+reader_refused has_failed a c bytes p (Ok x) u e s h = tt
+reader_refused has_failed a c bytes p (Err f) u e s (inl m) = inl m
+reader_refused has_failed a c bytes p (Err f) u e s (inr g) =
+    inr (inr (record {
+      text = bytes;
+      is = g bytes s;
+      all = Consumes-whole a c bytes (λ t. IsFirstFault t f.kind f.line) u e (g bytes s);
+    }))
 
 -- what is told at the end is told there
 pub told_at_end : {X : Type 0} (c : Option (List ℕ)) (r : Result X ReadFault) → IsAtEnd c

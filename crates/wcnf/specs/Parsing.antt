@@ -1,5 +1,5 @@
 -- A text that is read in pieces.
-use Rattle.std.specs.Prelude.{◌≡◌, ℕ, List, [], ◌++◌, Err, ◌⊎◌}
+use Rattle.std.specs.Prelude.{◌≡◌, ℕ, Bool, true, List, [], ◌++◌, Option, Err, IfSome, ◌⊎◌}
 use Rattle.std.specs.List.{enumerate_from}
 use Rattle.std.specs.Str.Lines.{lines}
 use Rattle.text.specs.Text.{tokens_of, numbered_text}
@@ -7,7 +7,7 @@ use Rattle.text.specs.Pieces.{IsCut}
 use Rattle.wcnf.specs.Drafts.{Drafted, nothing_drafted, drafted_line}
 use Rattle.wcnf.specs.Reading.{drafted_lines, IsFirstFault}
 use Rattle.wcnf.specs.declared.faults.ReadFault.{ReadFault}
-use Rattle.wcnf.specs.declared.faults.FaultKind.TheVariants.{Memory}
+use Rattle.wcnf.specs.declared.faults.FaultKind.TheVariants.{Memory, Read}
 use Rattle.wcnf.specs.declared.parser.Parser.{Parser}
 
 -- the parser has read these bytes: from its draft, which the ended lines make, the text reads on,
@@ -35,3 +35,13 @@ abbrev pub Refuses : Parser → List ℕ → ReadFault → Type 0
 Refuses p piece f =
     NoMemory f ⊎ ((bytes more : List ℕ) → HasRead p bytes
     → IsFirstFault (bytes ++ piece ++ more) f.kind f.line)
+
+-- the reader has failed, and this says so
+abbrev pub TellsFailure : Bool → ReadFault → Type 0
+TellsFailure has_failed f = (has_failed ≡ true) × (f ≡ record { kind = Read; line = 0 })
+
+-- the first fault of a text, which is all that the reader gave, where that is known
+pub record IsFaultOf (known : Option (List ℕ)) (f : ReadFault) : Type 0 where
+  pub text : List ℕ
+  pub is : IsFirstFault text f.kind f.line
+  pub all : IfSome known (λ text. IsFirstFault text f.kind f.line)

@@ -1,9 +1,10 @@
 // Reading a WCNF text, given as bytes or by a reader.
-ghost use Rattle.std.specs.Prelude.{◌≡◌, IfOk, IfErr, OnOk, IfSome, ◌⊎◌};
+ghost use Rattle.std.specs.Prelude.{◌≡◌, IfOk, IfErr, OnOk, IfSome, Err, is_err, true, false, ◌⊎◌};
 ghost use Rattle.std.specs.Io.KnownBytes.{IsAtEnd};
 ghost use Rattle.cnf.specs.Problem.{Problem};
 ghost use Rattle.wcnf.specs.Wcnf.{Reads};
 ghost use Rattle.wcnf.specs.Reading.{IsFirstFault};
+ghost use Rattle.wcnf.specs.Parsing.{IsFaultOf, TellsFailure};
 
 use crate::faults::{FaultKind, ReadFault};
 use crate::parser::Parser;
@@ -11,6 +12,7 @@ use crate::whole::FAILED;
 use cnf::types::Instance;
 use std::alloc::Global;
 use std::io::Read;
+use text::watched::{ReadFailure, WatchedReader};
 
 /// The instance that a WCNF text reads as, in the form of the MaxSAT Evaluation 2022 or in the
 /// older one with a header.
@@ -60,9 +62,44 @@ pub fn read_from<R: Read>(alloc: Global, reader: &mut R) -> Result<Instance, Rea
     ensures whole { IfErr result (λ f. (f ≡ record { kind = FaultKind.Read; line = 0 })
         ⊎ IsAtEnd (R.remaining reader.new)) }
 {
+    let mut watched = WatchedReader::new(reader);
+    let instance = read_watched(alloc, &mut watched);
+    let reader = watched.finish();
+    // Nothing is done here: the proof learns from this use what the reader has left.
+    let _ = &*reader;
+    instance
+}
+
+/// As `read_from`, of a reader that has not failed. Where it fails nothing more is read.
+///
+/// # Errors
+///
+/// Those of `read_from`: `Read` just where the reader has failed.
+pub fn read_watched<R: Read>(
+    alloc: Global,
+    reader: &mut WatchedReader<'_, R>,
+) -> Result<Instance, ReadFault>
+    requires { reader.old.has_failed ≡ false }
+    ensures at_end { OnOk result (IsAtEnd (R.remaining reader.new.reader.now)) }
+    ensures instance { IfOk result
+        (λ i. IfSome (R.remaining reader.old.reader.now) (λ text. Reads text i)) }
+    ensures only_one { IfOk result (λ i. IfSome (R.remaining reader.old.reader.now)
+        (λ text. (p : Problem) → Reads text p → p ≡ i)) }
+
+    // The reader has failed, or this is the fault of the whole text, which was read to its end.
+    ensures fault { IfErr result (λ f. (f ≡ record { kind = FaultKind.Memory; line = 0 })
+        ⊎ TellsFailure reader.new.has_failed f ⊎ IsFaultOf (R.remaining reader.old.reader.now) f) }
+    ensures whole { IfErr result (λ f. (f ≡ record { kind = FaultKind.Read; line = 0 })
+        ⊎ IsAtEnd (R.remaining reader.new.reader.now)) }
+
+    // No failure is passed over.
+    ensures failed { reader.new.has_failed ≡ true
+        → result ≡ Err (record { kind = FaultKind.Read; line = 0 }) }
+    ensures reader { reader.new.reader.ghost_name ≡ reader.old.reader.ghost_name }
+{
     let mut parser = Parser::new(alloc);
     let mut chunk = [0u8; 65536];
-    'pieces: for _ in 0..u64::MAX {
+    'pieces: loop {
         let count = match reader.read(&mut chunk) {
             Ok(0) => return parser.finish(),
             Ok(count) => count,
@@ -73,21 +110,22 @@ pub fn read_from<R: Read>(alloc: Global, reader: &mut R) -> Result<Instance, Rea
             return Err(fault);
         }
     }
-    Err(FAILED)
 }
 
 /// Reads to the end, and keeps nothing.
-fn read_on<R: Read>(reader: &mut R) -> Result<(), ReadFault>
-    ensures at_end { OnOk result (IsAtEnd (R.remaining reader.new)) }
+fn read_on<R: Read>(reader: &mut WatchedReader<'_, R>) -> Result<(), ReadFault>
+    requires { reader.old.has_failed ≡ false }
+    ensures at_end { OnOk result (IsAtEnd (R.remaining reader.new.reader.now)) }
     ensures fault { IfErr result (λ f. f ≡ record { kind = FaultKind.Read; line = 0 }) }
+    ensures failed { reader.new.has_failed ≡ is_err result }
+    ensures reader { reader.new.reader.ghost_name ≡ reader.old.reader.ghost_name }
 {
     let mut chunk = [0u8; 65536];
-    for _ in 0..u64::MAX {
+    'rest: loop {
         match reader.read(&mut chunk) {
             Ok(0) => return Ok(()),
             Ok(_) => {}
-            Err(_) => return Err(FAILED),
+            Err(ReadFailure) => return Err(FAILED),
         }
     }
-    Err(FAILED)
 }

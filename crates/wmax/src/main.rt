@@ -9,7 +9,7 @@ mod progress;
 mod standard_error;
 
 use adder::cells::Profile;
-use bound::encoding::write_formula;
+use bound::encoding::{WatchedWriter, write_formula};
 use bound::formulas::write_dimacs;
 use cdcl::budget::Budget;
 use clap::error::ErrorKind;
@@ -279,9 +279,10 @@ fn encode_bound<R: AllocGlobal + Print, T: Read>(
 ) -> Result<u8, RunFault> {
     let instance = ManuallyDrop::new(read_from(rt.alloc(), text)?);
     let mut out = io::writer(rt);
+    let mut watched = WatchedWriter::new(&mut out);
     // `clap` lets no greater cost pass; said again, since nothing is known of that here.
-    write_formula(&instance, cost.min(MOST_COST), profile, &mut out)?;
-    deliver(Ok(()), &mut out)?;
+    write_formula(&instance, cost.min(MOST_COST), profile, &mut watched)?;
+    deliver(Ok(()), &mut watched)?;
     Ok(0)
 }
 

@@ -1,57 +1,12 @@
--- What the pieces so far say of all bytes of the reader.
-use Rattle.std.proofs.Common.{rules, ◌≡◌, [], arith}
+-- What the watched reader gave is what the reader gave.
+use Rattle.std.proofs.Common.{◌≡◌, ◌∙◌, sym, ap, subst, rules}
+use Rattle.std.specs.Prelude.{IfOk, IfErr, IfSome, OnOk, ◌⊎◌}
 use Rattle.std.specs.Io.KnownBytes.{IsAtEnd}
-use Rattle.std.proofs.KnownBytes.{Consumes-nil, Consumes-trans}
-use Rattle.wcnf.proofs.ParserLaws.{all_read, piece_refused, reader_read, reader_read_one}
-use Rattle.wcnf.proofs.ParserLaws.{reader_refused, told_at_end}
+use Rattle.wcnf.specs.Wcnf.{Reads}
+use Rattle.wcnf.proofs.ParserLaws.{reading_refused}
 use Rattle.wcnf.proofs.reading.read_from.Goals as goal
 
-pub pieces-init : goal.pieces-init
-pieces-init g c = ([], c.new-parser.ensures, Consumes-nil _)
-
-pub finish-requires : goal.finish-requires
-finish-requires g c = let i = c.pieces.invariant in (i.0, i.1)
-
-pub returns-in-Ok-eq0-clause-instance : goal.returns-in-Ok-eq0-clause-instance
-returns-in-Ok-eq0-clause-instance g c =
-    let i = c.pieces.invariant in
-    let zero : c.in-Ok-eq0.field-0 ≡ 0 = first_of (omega arith, search rules, cc) in
-    let end : IsAtEnd (g.R.Read.remaining c.read.new.self) = search rules in
-    reader_read _ _ i.0 c.pieces.parser c.finish.result
-    (all_read _ _ _ i.0 _ c.in-Ok-eq0.field-0 i.2 c.in-Ok-eq0.ensures.bytes.0 zero) end i.1
-    c.finish.ensures.instance
-
-pub returns-in-Ok-eq0-clause-only_one : goal.returns-in-Ok-eq0-clause-only_one
-returns-in-Ok-eq0-clause-only_one g c =
-    let i = c.pieces.invariant in
-    let zero : c.in-Ok-eq0.field-0 ≡ 0 = first_of (omega arith, search rules, cc) in
-    let end : IsAtEnd (g.R.Read.remaining c.read.new.self) = search rules in
-    reader_read_one _ _ i.0 c.pieces.parser c.finish.result
-    (all_read _ _ _ i.0 _ c.in-Ok-eq0.field-0 i.2 c.in-Ok-eq0.ensures.bytes.0 zero) end i.1
-    c.finish.ensures.instance
-
-pub returns-in-Ok-eq0-clause-fault : goal.returns-in-Ok-eq0-clause-fault
-returns-in-Ok-eq0-clause-fault g c =
-    let i = c.pieces.invariant in
-    let zero : c.in-Ok-eq0.field-0 ≡ 0 = first_of (omega arith, search rules, cc) in
-    let end : IsAtEnd (g.R.Read.remaining c.read.new.self) = search rules in
-    reader_refused _ _ i.0 c.pieces.parser c.finish.result
-    (all_read _ _ _ i.0 _ c.in-Ok-eq0.field-0 i.2 c.in-Ok-eq0.ensures.bytes.0 zero) end i.1
-    c.finish.ensures.fault
-
-pub returns-in-Ok-eq0-clause-whole : goal.returns-in-Ok-eq0-clause-whole
-returns-in-Ok-eq0-clause-whole g c =
-    let zero : c.in-Ok-eq0.field-0 ≡ 0 = first_of (omega arith, search rules, cc) in
-    let end : IsAtEnd (g.R.Read.remaining c.read.new.self) = search rules in
-    told_at_end _ c.finish.result end
-
-pub returns-in-Err-feed-clause-fault : goal.returns-in-Err-feed-clause-fault
-returns-in-Err-feed-clause-fault g c =
-    let i = c.pieces.invariant in
-    piece_refused _ _ _ i.0 _ c.pieces.parser _ i.2 c.in-Ok.ensures.bytes.0 i.1
-    c.in-Err-feed.ensures.fault
-
-pub pieces-preserved : goal.pieces-preserved
-pieces-preserved g c =
-    let i = c.pieces.invariant in
-    (_, c.in_default.ensures.read i.0 i.1, Consumes-trans _ _ _ i.0 _ i.2 c.in-Ok.ensures.bytes.0)
+pub returns-clause-instance : goal.returns-clause-instance
+returns-clause-instance g c =
+    subst (λ x. IfOk c.read_watched-instance.result (λ i. IfSome (g.R.Read.remaining x)
+    (λ text. Reads text i))) c.new-watched.ensures.gives c.read_watched-instance.ensures.instance

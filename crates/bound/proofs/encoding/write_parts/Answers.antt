@@ -13,7 +13,7 @@ use Rattle.bound.specs.Adding.{IsFit}
 use Rattle.bound.specs.Encoding.{outlined}
 use Rattle.bound.proofs.Fits.{addition_fits}
 use Rattle.bound.proofs.Streams.{nothing_put}
-use Rattle.bound.proofs.encoding.write_formula.Goals as goal
+use Rattle.bound.proofs.encoding.write_parts.Goals as goal
 
 outlined_is : (profile : Profile) (p : Problem) (k : ℕ) (o : Outline)
     → o.relaxed ≡ kept (relaxed_clauses profile p) → o.addition ≡ addition_as profile p
