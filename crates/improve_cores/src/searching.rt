@@ -11,6 +11,10 @@
 //! 2017). A model under all assumptions of a stratum leads to the next lower one; under all of them
 //! it costs just what the cores are worth.
 //!
+//! One search of a stratum finds many cores: it passes over each assumption that is false where
+//! those before it hold, and what explains it is a core. They are shortened and taken in turn, but
+//! for those that one before them has left too little of.
+//!
 //! docs/EXPERIMENTS.md, under 'The search for cores', has how many instances this closes, after how
 //! many conflicts, and how many disjoint cores without totalizers do. Assumed in windows of the
 //! list, which double once they stand, cores were found sooner and were worse.
