@@ -2,6 +2,7 @@ mod Told
 mod GivenNumbers
 mod BitLaws
 mod SubsetSearch
+mod SubsetRows
 mod Comparators
 mod FrozenOutputs
 mod OverBounds

@@ -1,20 +1,24 @@
 // The clauses of the bounds before the last one, each with a clause of the last one that is a
-// subset of it: by that clause alone it follows.
-ghost use Rattle.std.specs.Prelude.{◌≡◌, ℕ, ◌+◌, ◌-◌, ◌<◌, ◌≤◌, ◌^◌, List, length, map, drop};
-ghost use Rattle.std.specs.Prelude.{take, IfOk};
+// subset of it: by that clause alone it follows. A comparator has at most 62 clauses where it
+// speaks of a network's outputs, and up to 2^17 + 64 where it speaks of sums.
+ghost use Rattle.std.specs.Prelude.{◌≡◌, ℕ, ◌+◌, ◌*◌, ◌-◌, ◌<◌, ◌≤◌, ◌^◌, List, length, map, drop};
+ghost use Rattle.std.specs.Prelude.{take, All, IfOk};
 ghost use Rattle.cnf.specs.Literal.{Literal};
-ghost use Rattle.cnf.specs.Clause.{contains_literal, is_subset};
+ghost use Rattle.cnf.specs.Marks.{HasPlace};
 ghost use Rattle.lrat_log.specs.Log.{clauses_in};
 ghost use Rattle.lrat_log.specs.Rebase.{weaker_list};
-ghost use Rattle.improve.specs.Improving.{first_subset, weaker_among};
+ghost use Rattle.improve.specs.Firsts.{HavePlaces};
+ghost use Rattle.improve.specs.Improving.{weaker_among};
 
+use crate::firsts::Firsts;
 use cdcl::given::GivenClauses;
+use cnf::marks::Marks;
 use cnf::types::Lit;
 use std::alloc::{AllocError, Global};
 
 /// The clauses from the place `start` to the place `end`, each with the number of the first of
 /// those from `end` on, the last ones, that is a subset of it, where the last ones have the numbers
-/// from `first` on. A bound has at most 62 clauses of at most 62 literals.
+/// from `first` on.
 pub fn pair_with_subsets(
     alloc: Global,
     given: &GivenClauses,
@@ -29,50 +33,42 @@ pub fn pair_with_subsets(
         ≡ weaker_among first (clauses_in (drop end given.now))
         (clauses_in (take (end - start) (drop start given.now)))) }
 {
+    let vars = greatest_variable(given, start);
+    let firsts = Firsts::of(alloc, given, end, vars)?;
+    let mut marks = Marks::new(alloc, vars)?;
     let mut weaker = Vec::new(alloc);
     for place in start..end {
         let lits = given.lits(place);
-        let number = find_subset(given, end, lits, first);
+        marks.mark_all(lits);
+        let number = first + u64::from(firsts.find(given, end, &marks, lits));
         weaker.push((Vec::from_slice(alloc, lits)?, number))?;
     }
     Ok(weaker)
 }
 
-/// The number of the first clause from the place `start` on that is a subset of these literals,
-/// where the clause at that place has the number `first`; one more than the last one's where none
-/// is.
-#[tactic(auto, using(crate::proofs::SubsetSearch::first_on, crate::proofs::SubsetSearch::first_end))]
-fn find_subset(given: &GivenClauses, start: usize, lits: &[Lit], first: u64) -> u64
-    requires within { start ≤ length given.now }
-    requires few { first + length given.now < 2 ^ 62 }
-    ensures { result ≡ first_subset first (clauses_in (drop start given.now)) lits.now }
+/// The greatest variable of the clauses from the place `start` on.
+fn greatest_variable(given: &GivenClauses, start: usize) -> u32
+    requires { start ≤ length given.now }
+    ensures small { result < 2 ^ 27 }
+    ensures places { HavePlaces (2 * result) given.now start (length given.now) }
 {
-    let mut number = first;
+    let mut vars = 0;
     for place in start..given.len() {
-        if is_subset(given.lits(place), lits) {
-            return number;
-        }
-        number += 1;
+        vars = greatest_of(given.lits(place), vars);
     }
-    number
+    vars
 }
 
-/// Whether each of the first literals stands among the others.
-#[tactic(auto, using(crate::proofs::SubsetSearch::subset_on, crate::proofs::SubsetSearch::subset_end))]
-pub(crate) fn is_subset(lits: &[Lit], others: &[Lit]) -> bool
-    ensures { result ≡ is_subset lits.now others.now }
+/// The greatest variable of the literals, and at least `least`.
+fn greatest_of(lits: &[Lit], least: u32) -> u32
+    requires { least < 2 ^ 27 }
+    ensures small { result < 2 ^ 27 }
+    ensures least { least ≤ result }
+    ensures places { All (HasPlace (2 * result)) lits.now }
 {
+    let mut vars = least;
     for lit in lits {
-        if !contains(others, *lit) {
-            return false;
-        }
+        vars = vars.max(lit.variable());
     }
-    true
-}
-
-/// Whether the literal stands there.
-fn contains(lits: &[Lit], lit: Lit) -> bool
-    ensures { result ≡ contains_literal lit lits.now }
-{
-    lits.iter().any(|other| *other == lit)
+    vars
 }
