@@ -11,7 +11,8 @@ use Rattle.std.proofs.lemmas.Option.{same_Some, none-some}
 use Rattle.cnf.specs.Literal.{Literal, literal_eq, index_of}
 use Rattle.cnf.specs.Clause.{contains_literal, is_subset}
 use Rattle.cnf.specs.Marks.{mark_of, IsMarked, HasPlace, are_marked}
-use Rattle.cnf.proofs.Laws.{all_at, all_push, literal_eq-true, marked_subset, places_each, subset_at}
+use Rattle.cnf.proofs.Laws.{all_at, all_push, literal_eq-true, marked_subset, places_each}
+use Rattle.cnf.proofs.Laws.{subset_at}
 use Rattle.clauses.specs.Slots.{Slots, clause_at}
 use Rattle.propagate_watches.specs.declared.pool.Entry.{Entry}
 use Rattle.propagate_watches.specs.declared.table.Attachment.{Attachment}

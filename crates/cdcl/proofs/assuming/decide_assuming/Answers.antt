@@ -57,7 +57,8 @@ returns g c =
     let n = c.in_ok-note_level.ensures.leaves.keeps in
     let same : length c.note_level.new.search.engine.trail ≡ length s.engine.trail =
     ap (λ (T : List Assigned). length T) n.trail in
-    turn_after c.pass_and_choose.result s c.note_level.new.search c.pass_and_choose.new.search c.args.input.now
-    c.args.assumptions.now (g.S.Sink.lines c.args.sink.now) (g.S.Sink.lines c.note_level.new.sink)
-    (g.S.Sink.lines c.pass_and_choose.new.sink) c.args.budget.now c.pass_and_choose.new.budget n.variables n.policy
-    (omega arith) c.note_level.ensures.writes c.pass_and_choose.ensures
+    turn_after c.pass_and_choose.result s c.note_level.new.search c.pass_and_choose.new.search
+    c.args.input.now c.args.assumptions.now (g.S.Sink.lines c.args.sink.now)
+    (g.S.Sink.lines c.note_level.new.sink) (g.S.Sink.lines c.pass_and_choose.new.sink)
+    c.args.budget.now c.pass_and_choose.new.budget n.variables n.policy (omega arith)
+    c.note_level.ensures.writes c.pass_and_choose.ensures
