@@ -4,10 +4,9 @@
 // ever, and a restart keeps the levels of assumptions. Which assumptions are known to be true is
 // kept by level, so that a conflict costs a look at those alone that it made open. No answer rests
 // on that: all are looked at once more before an answer with bits.
-// A caller that looks for many cores at once has false assumptions passed over, and is told why each
-// is false. To decide some ten thousand assumptions takes longer than most conflicts, and so one
-// search finds what took a thousand: of 20,000 and 48,000 soft clauses, where each core took a search
-// of its own, nine tenths of the time went into deciding the same assumptions again.
+// A caller that looks for many cores at once has false assumptions passed over, and is told why
+// each is false. To decide ten thousand assumptions takes longer than most conflicts: where each
+// core took a search of its own, nearly all the time went into deciding the same ones again.
 ghost use Rattle.std.specs.Prelude.{◌≡◌, ◌+◌, ◌<◌, ◌≤◌, true, length, All, Contains, IfOk, IfSome};
 ghost use Rattle.std.specs.Prelude.{Some, None, false};
 ghost use Rattle.propagate.specs.Trail.{literals_of, value_in};
@@ -423,9 +422,7 @@ fn branch_beside(search: &mut Search, assumptions: &[Lit], progress: &mut Progre
     ensures choice { IsChoice search.old search.new assumptions.now result }
 {
     let variables = search.engine.variables() as usize;
-    if progress.has_passed()
-        || progress.decisions == 0 && search.engine.assigned() < variables
-    {
+    if progress.has_passed() || progress.decisions == 0 && search.engine.assigned() < variables {
         return Choice::GivesUp;
     }
     if search.branch() {
@@ -462,11 +459,7 @@ fn pass_false(
 }
 
 /// Passes over an assumption that is false.
-fn pass(
-    search: &mut Search,
-    falsified: Lit,
-    progress: &mut Progress<'_>,
-) -> Result<(), AllocError>
+fn pass(search: &mut Search, falsified: Lit, progress: &mut Progress<'_>) -> Result<(), AllocError>
     requires ready { IsReady search.old }
     requires small { falsified.variable ≤ search.old.engine.variables }
     requires falsified { value_in search.old.engine.trail falsified ≡ Some false }

@@ -313,9 +313,9 @@ impl<S: Sink> Solver<S> {
     }
 
     /// As `solve_assuming`, where an assumption that is false is passed over as long as there is
-    /// room for what explains it. No line is learned for it. Where some were passed over, the search
-    /// ends `Open` as soon as all others are true or no room is left, unless another answer comes
-    /// first.
+    /// room for what explains it. No line is learned for it. Where some were passed over, the
+    /// search ends `Open` as soon as all others are true or no room is left, unless another answer
+    /// comes first.
     ///
     /// # Errors
     ///

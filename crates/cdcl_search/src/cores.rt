@@ -2,8 +2,8 @@
 // decided (Eén and Sörensson 2003, final conflict analysis). The clause of their negations becomes
 // a line of the log, unless a live clause has no other literals.
 //
-// Whether one has, the rows of the clauses that watch its literals tell (`subsets`). So a core takes
-// the time of its analysis, of the assumptions and of these rows, and none by the number of
+// Whether one has, the rows of the clauses that watch its literals tell (`subsets`). So a core
+// takes the time of its analysis, of the assumptions and of these rows, and none by the number of
 // variables or of clauses.
 ghost use Rattle.std.specs.Prelude.{◌≡◌, ◌<◌, ◌≤◌, ◌+◌, true, false, map, length, All, Contains};
 ghost use Rattle.std.specs.Prelude.{IfOk, IfSome, OnOk, OnErr, Some};

@@ -205,9 +205,9 @@ impl CoreSearch {
         };
         let room = self.assumptions.len().saturating_mul(PASSED);
         let mut passed = Passed::new(self.solver.allocator(), room);
-        let found =
-            self.solver
-                .assume_passing(&self.assumptions, share, &mut passed, budget, watch)?;
+        let found = self
+            .solver
+            .assume_passing(&self.assumptions, share, &mut passed, budget, watch)?;
         self.policy.spend(budget.learned().saturating_sub(before));
         match found {
             Assumed::Sat(bits) => {

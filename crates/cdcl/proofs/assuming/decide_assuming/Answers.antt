@@ -38,18 +38,18 @@ returns-in_err-note_level g c =
     c.args.assumptions.now ls more b b c.from_residual.ensures.0
     c.in_err-note_level.ensures.err (pays_none p.given ls more b c.note_level.ensures.writes)
 
-pub choose-requires-clause-runs : goal.choose-requires-clause-runs
-choose-requires-clause-runs g c = c.in_ok-note_level.ensures.leaves.keeps.runs
+pub pass_and_choose-requires-clause-runs : goal.pass_and_choose-requires-clause-runs
+pass_and_choose-requires-clause-runs g c = c.in_ok-note_level.ensures.leaves.keeps.runs
 
-pub choose-requires-clause-quiet : goal.choose-requires-clause-quiet
-choose-requires-clause-quiet g c =
+pub pass_and_choose-requires-clause-quiet : goal.pass_and_choose-requires-clause-quiet
+pass_and_choose-requires-clause-quiet g c =
     c.in_ok-note_level.ensures.leaves.keeps.quiet c.requires.quiet
 
-pub choose-requires-clause-noted : goal.choose-requires-clause-noted
-choose-requires-clause-noted g c = c.in_ok-note_level.ensures.leaves.all
+pub pass_and_choose-requires-clause-noted : goal.pass_and_choose-requires-clause-noted
+pass_and_choose-requires-clause-noted g c = c.in_ok-note_level.ensures.leaves.all
 
-pub choose-requires-clause-left : goal.choose-requires-clause-left
-choose-requires-clause-left g c = omega (arith, c.left.ensures.left, c.if-left-eq0.false)
+pub pass_and_choose-requires-clause-left : goal.pass_and_choose-requires-clause-left
+pass_and_choose-requires-clause-left g c = omega (arith, c.left.ensures.left, c.if-left-eq0.false)
 
 pub returns : goal.returns
 returns g c =
@@ -57,7 +57,8 @@ returns g c =
     let n = c.in_ok-note_level.ensures.leaves.keeps in
     let same : length c.note_level.new.search.engine.trail ≡ length s.engine.trail =
     ap (λ (T : List Assigned). length T) n.trail in
-    turn_after c.pass_and_choose.result s c.note_level.new.search c.pass_and_choose.new.search c.args.input.now
-    c.args.assumptions.now (g.S.Sink.lines c.args.sink.now) (g.S.Sink.lines c.note_level.new.sink)
-    (g.S.Sink.lines c.pass_and_choose.new.sink) c.args.budget.now c.pass_and_choose.new.budget n.variables n.policy
-    (omega arith) c.note_level.ensures.writes c.pass_and_choose.ensures
+    turn_after c.pass_and_choose.result s c.note_level.new.search c.pass_and_choose.new.search
+    c.args.input.now c.args.assumptions.now (g.S.Sink.lines c.args.sink.now)
+    (g.S.Sink.lines c.note_level.new.sink) (g.S.Sink.lines c.pass_and_choose.new.sink)
+    c.args.budget.now c.pass_and_choose.new.budget n.variables n.policy (omega arith)
+    c.note_level.ensures.writes c.pass_and_choose.ensures

@@ -2,7 +2,6 @@ use Rattle.std.proofs.Common.{sym, subst}
 use Rattle.propagate.specs.Trail.{literals_of}
 use Rattle.analyze.specs.Analyzer.{IsQuiet}
 use Rattle.cdcl_search.specs.declared.search.Search.{Search}
-use Rattle.cdcl_search.specs.Running.{Runs}
 use Rattle.cdcl.proofs.Rounds.{open_log, pays_nothing}
 use Rattle.cdcl.proofs.Halts.{turn_breaks}
 use Rattle.cdcl.proofs.assuming.pass_and_choose.Goals as goal

@@ -1,8 +1,8 @@
 use Rattle.std.proofs.Common.{sym, ◌∙◌, subst}
 use Rattle.cdcl.specs.Outcomes.{IsSolver}
 use Rattle.cdcl.proofs.Answered.{solver_fails}
-use Rattle.cdcl.proofs.Assumed.{assuming_solver, assuming_answered, assuming_refused, assuming_failed}
-use Rattle.cdcl.proofs.Assumed.{assuming_refuted}
+use Rattle.cdcl.proofs.Assumed.{assuming_solver, assuming_answered, assuming_refused}
+use Rattle.cdcl.proofs.Assumed.{assuming_failed, assuming_refuted}
 use Rattle.cdcl.proofs.solver.Solver.solve_passing.Goals as goal
 
 pub returns-then-self : goal.returns-then-self
