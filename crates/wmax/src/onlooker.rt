@@ -49,6 +49,9 @@ impl<'a, 'b, R: Files + Clock + AllocGlobal, E: Write> Keep for Onlooker<'a, 'b,
     }
 
     fn ended(&mut self, instance: &Instance, found: &Found) {
+        if instance.hard().len() == 0 && instance.soft().is_empty() {
+            let _ = writeln!(self.messages.below(), "warning: no clause was read");
+        }
         self.keeper.ended(instance, found, self.messages);
     }
 }
