@@ -1,15 +1,16 @@
 -- The ends of a search over the hard clauses alone.
-use Rattle.std.proofs.Common.{◌≡◌, ℕ, ◌+◌, Bool, List, [], ◌++◌, length, inl, refl, sym, ◌∙◌}
-use Rattle.std.proofs.Common.{ap, subst, arith, None}
+use Rattle.std.proofs.Common.{◌≡◌, ℕ, ◌+◌, Bool, List, [], ◌∷◌, ◌++◌, length, inl, refl, sym, ◌∙◌}
+use Rattle.std.proofs.Common.{ap, subst, arith}
 use Rattle.std.specs.Prelude.{All}
 use Rattle.std.proofs.lemmas.List.{length-map}
 use Rattle.std.proofs.lemmas.List.Elements.{All-map}
 use Rattle.cnf.specs.Literal.{Literal, Assignment}
 use Rattle.cnf.specs.Clause.{Satisfies}
-use Rattle.cnf.specs.Bits.{Extends}
+use Rattle.cnf.specs.Bits.{Extends, assignment_of}
 use Rattle.cnf.specs.Problem.{Problem, IsFeasible}
 use Rattle.cnf.specs.Refute.{IsRefutedByHints}
-use Rattle.cnf.proofs.Laws.{certificate_sound}
+use Rattle.cnf.specs.Lrat.{Addition, start_of, with_clause}
+use Rattle.cnf.proofs.Laws.{certificate_sound, extends_own}
 use Rattle.lrat_log.specs.declared.lines.Name.{Name}
 use Rattle.lrat_log.specs.Log.{LogLine, numbered_lines, clauses_in}
 use Rattle.lrat_log.specs.Steps.{IsLogOver, IsAcceptedLog, IsBaseOf, AddsNoEmptyClause, LearnsNew}
@@ -21,15 +22,52 @@ use Rattle.bound.specs.Bound.{hard_cnf}
 use Rattle.bound.proofs.Laws.{feasible}
 use Rattle.bound.proofs.Laws.{hard_few}
 use Rattle.cdcl.specs.Solving.{given_to, SatisfyGiven, SameGiven, IsPlainlyRefuted, lines_since}
-use Rattle.improve.specs.Improving.{IsHardLog, IsRightFound, work_count}
+use Rattle.improve.specs.Improving.{IsHardLog, IsRightFound}
+use Rattle.improve.specs.Standing.{AreFeasible, only_hard}
 use Rattle.improve.specs.Bounds.{LogSolver, IsOverHard}
 use Rattle.improve.specs.declared.found.Work.{Work}
 use Rattle.improve.specs.declared.found.Found.TheVariants.{Unsat, Nothing}
 use Rattle.lrat_log.proofs.Laws.{first_new}
 use Rattle.improve.proofs.CheaperBits.{same_given, learned_more}
 
-abbrev pub only_hard : List LogLine → List LogLine → Work
-only_hard hard bound = record { hard = hard; bound = bound; search = None; refutation = None }
+-- a log without lines is one
+pub hard_none : (p : Problem) (log : List LogLine) → log ≡ [] → IsHardLog p log
+hard_none p log e =
+    subst (IsHardLog p) (sym e) (record { steps = refl; open_end = tt }, tt)
+
+-- hints that refute would make a certificate of one line
+hints_refute : (cs : List (List Literal)) → IsRefutedByHints cs → (t : Assignment)
+    → All (Satisfies t) cs → ⊥
+hints_refute cs h =
+    certificate_sound cs (Addition (length cs + 1) [] h.0 [] ∷ []) (record {
+      front = [];
+      final = Addition (length cs + 1) [] h.0 [];
+      split = refl;
+      ends = refl;
+      not_before = tt;
+      left = with_clause (start_of cs) (length cs + 1) [];
+      chain = (
+        with_clause (start_of cs) (length cs + 1) [],
+        (
+          record {
+            rising = omega arith;
+            no_repeat = refl;
+            no_opposites = refl;
+            small = omega arith;
+          },
+          inl (refl, h.1),
+          refl,
+        ),
+        refl,
+      );
+    })
+
+-- hints do not refute what a solution satisfies
+pub solved_open : (p : Problem) (bits : List Bool) → AreFeasible p bits
+    → IsRefutedByHints (hard_cnf p).clauses → ⊥
+solved_open p bits h r =
+    hints_refute (hard_cnf p).clauses r (assignment_of bits)
+    ((feasible p (assignment_of bits)).1 (h.1 (assignment_of bits) (extends_own bits)))
 
 module _ (p : Problem) (old : LogSolver) (h : IsOverHard p old) where
   pub hard_feasible : (bits : List Bool) → SatisfyGiven bits (given_to old) → (t : Assignment)
@@ -79,19 +117,9 @@ module _ (p : Problem) (old : LogSolver) (h : IsOverHard p old) where
           e ∙ sym (length-map (given_to old) (λ (g : Name × List Literal). g.1))
           ∙ ap length (ap clauses_in h.given ∙ clauses_given (hard_cnf p).clauses)
 
-  pub right_nothing : (profile : Profile) (hard bound : List LogLine) → IsHardLog p hard
-      → bound ≡ [] → (IsPlainlyRefuted old → ⊥)
-      → IsRightFound profile p [] (Nothing (only_hard hard bound))
-  right_nothing profile hard bound work none free =
-      record {
-        none_told = refl;
-        not_refuted =
-            λ r. free (inl (subst IsRefutedByHints (sym (ap (λ f. f.clauses) h.formula)) r));
-        hard = work;
-        no_bound = none;
-        no_search = refl;
-        no_refutation = refl;
-      }
+  pub plainly_open : (IsPlainlyRefuted old → ⊥) → IsRefutedByHints (hard_cnf p).clauses → ⊥
+  plainly_open free r =
+      free (inl (subst IsRefutedByHints (sym (ap (λ f. f.clauses) h.formula)) r))
 
   -- what was learned in the first search
   pub hard_learned : (new : List LogLine) (before after : ℕ)
@@ -101,9 +129,16 @@ module _ (p : Problem) (old : LogSolver) (h : IsOverHard p old) where
   hard_learned new before after e l =
       omega (arith, learned_more old.sink new before after e l, h.learned)
 
-pub nothing_learned : (hard bound sink : List LogLine) (before after : ℕ) → hard ≡ sink → bound ≡ []
-    → after ≡ before + learned_count sink
-    → after ≡ before + work_count (only_hard hard bound)
-nothing_learned hard bound sink before after e none h =
-    let empty : learned_count bound ≡ 0 = ap learned_count none in
-    omega (arith, ap learned_count e, empty, h)
+-- nothing was found
+pub right_nothing : (profile : Profile) (p : Problem) (hard : List LogLine) (work : Work)
+    → work ≡ only_hard hard → IsHardLog p hard → (IsRefutedByHints (hard_cnf p).clauses → ⊥)
+    → IsRightFound profile p [] (Nothing work)
+right_nothing profile p hard work e log free =
+    subst (λ w. IsRightFound profile p [] (Nothing w)) (sym e) (record {
+      none_told = refl;
+      not_refuted = free;
+      hard = log;
+      no_bound = refl;
+      no_search = refl;
+      no_refutation = refl;
+    })

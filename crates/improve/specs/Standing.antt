@@ -38,6 +38,10 @@ pub record IsEarlyWork (p : Problem) (w : Work) : Type 0 where
   pub search : IfSome w.search (IsSearchWork p)
   pub refutation : IfSome w.refutation (IsOpenRefutation p)
 
+-- nothing but this log over the hard clauses
+abbrev pub only_hard : List LogLine → Work
+only_hard hard = record { hard = hard; bound = []; search = None; refutation = None }
+
 -- with this log over the formula for the last bound
 abbrev pub with_bound : List LogLine → Work → Work
 with_bound log w = record w { bound = log }

@@ -2,7 +2,9 @@
 //! chapter MaxSAT, linear search from satisfiable to unsatisfiable).
 ghost use Rattle.std.specs.Prelude.{◌≡◌, ◌+◌, ◌<◌, ◌^◌, [], ◌∷◌};
 ghost use Rattle.std.specs.Prelude.{ℕ, List, All, Ok, IfOk, IfErr, OnOk, OnErr};
+ghost use Rattle.cnf.specs.Refute.{IsRefutedByHints};
 ghost use Rattle.lrat_log.specs.Steps.{IsAcceptedLog, AddsNoEmptyClause, learned_count};
+ghost use Rattle.bound.specs.Bound.{hard_cnf};
 ghost use Rattle.cdcl_order.specs.Budgets.{BudgetState};
 ghost use Rattle.cdcl.specs.Solving.{given_to};
 ghost use Rattle.improve.specs.Improving.{Improves, IsHardLog, IsRightFound, IsSolution, OnWork};
@@ -11,7 +13,7 @@ ghost use Rattle.improve.specs.Improving.{work_count};
 ghost use Rattle.improve.specs.Progress.{with_told, with_failed};
 ghost use Rattle.improve.specs.Bounds.{IsOver, IsOverHard};
 ghost use Rattle.improve.specs.Standing.{IsStanding, IsEarlyWork, HasNoCores, Ends};
-ghost use Rattle.improve.specs.Standing.{IsCoreProof};
+ghost use Rattle.improve.specs.Standing.{IsCoreProof, AreFeasible, only_hard};
 
 use crate::bounds::{Bounds, Next};
 use crate::by_cores::{ByCores, refute_by_cores};
@@ -105,19 +107,52 @@ pub fn improve_watched<T: Progress, W: Watch>(
             let log = solver.into_sink();
             Ok(Found::Unsat { log, clauses })
         }
-        Ok(Outcome::Limit) => {
-            let hard = solver.into_sink();
-            let bound = Log::new(instance.allocator());
-            Ok(Found::Nothing {
-                work: Work {
-                    hard,
-                    bound,
-                    search: None,
-                    refutation: None,
-                },
-            })
-        }
+        Ok(Outcome::Limit) => Ok(conclude_nothing(instance, solver.into_sink())),
         Err(_) => Err(ImproveFault::Memory),
+    }
+}
+
+/// As `improve_watched`, but the first solution is given: the bits satisfy the hard clauses, and
+/// there may be more of them than variables. It is made cheaper by the local search, told for one
+/// unit of the budget, and never dearer than what was given. No solution of the hard clauses is
+/// searched for, so their log is empty. Where nothing is left of the budget, nothing is found.
+///
+/// # Errors
+///
+/// Those of `improve`.
+pub fn improve_from<T: Progress, W: Watch>(
+    instance: &Instance,
+    bits: Vec<bool>,
+    budget: &mut Budget,
+    progress: &mut T,
+    profile: Profile,
+    watch: &mut W,
+) -> Result<Found, ImproveFault>
+    requires failures { (T.state progress.old).failures < 2 ^ 62 }
+    requires solution { AreFeasible instance.now bits.items }
+    ensures follows { (first : T) → T.follows first progress.old → T.follows first progress.new }
+    ensures improves { Improves profile instance.now result
+        (T.state progress.old) (T.state progress.new)
+        budget.old budget.new }
+{
+    let hard = Log::new(instance.allocator());
+    if budget.left() == 0 {
+        return Ok(conclude_nothing(instance, hard));
+    }
+    let first = price_polished(instance, bits);
+    budget.count_answer();
+    lower(instance, budget, progress, profile, watch, hard, first)
+}
+
+/// The work of a search that has met no bound yet. The log is that of the hard clauses.
+fn begin_work(instance: &Instance, hard: Log) -> Work
+    ensures { result ≡ only_hard hard }
+{
+    Work {
+        hard,
+        bound: Log::new(instance.allocator()),
+        search: None,
+        refutation: None,
     }
 }
 
@@ -162,17 +197,11 @@ fn lower<T: Progress, W: Watch>(
     if first.cost == 0 {
         return conclude_zero(instance, profile, first.bits);
     }
-    let alloc = instance.allocator();
     let standing = Standing {
         best: first,
-        earlier: Vec::new(alloc),
+        earlier: Vec::new(instance.allocator()),
     };
-    let work = Work {
-        hard,
-        bound: Log::new(alloc),
-        search: None,
-        refutation: None,
-    };
+    let work = begin_work(instance, hard);
     go_on(instance, budget, progress, profile, watch, standing, work)
 }
 
@@ -412,6 +441,18 @@ fn conclude_cores(instance: &Instance, best: Solution, by_cores: ByCores) -> Fou
         log: by_cores.log,
         clauses: by_cores.clauses,
         cores: by_cores.cores,
+    }
+}
+
+/// The end where the budget is spent and no solution was told. The log is that of the hard clauses.
+fn conclude_nothing(instance: &Instance, hard: Log) -> Found
+    requires hard { IsHardLog instance.now hard }
+    requires open { IsRefutedByHints (hard_cnf instance.now).clauses → ⊥ }
+    ensures found { (profile : Profile) → IsRightFound profile instance.now [] result }
+    ensures work { OnWork (Ok result) (λ w. work_count w ≡ learned_count hard) }
+{
+    Found::Nothing {
+        work: begin_work(instance, hard),
     }
 }
 

@@ -12,4 +12,5 @@ pub mod refuting;
 pub mod searching;
 mod shortening;
 mod trees;
+pub mod watch;
 pub mod work;

@@ -35,11 +35,11 @@ use crate::found::FoundCore;
 use crate::items::{Items, Origin};
 use crate::shortening::{push_negated, shorten, variables_of};
 use crate::trees::{Growth, Trees};
+use crate::watch::Watch;
 use crate::work::SearchWork;
 use bound::formulas::relaxed_formula;
 use cdcl::budget::Budget;
 use cdcl::outcome::{Assumed, Share};
-use cdcl::watch::Watch;
 use cnf::types::{Instance, Lit};
 use std::alloc::AllocError;
 use std::marker::Model;
@@ -207,7 +207,11 @@ impl CoreSearch {
                 let inputs = variables_of(&core)?;
                 let items = &self.policy.items;
                 let core = shorten(inputs, items, &mut self.solver, budget, watch)?;
+                let lower = self.policy.lower;
                 self.policy.add_core(core)?;
+                if self.policy.lower > lower {
+                    watch.raised(self.policy.lower);
+                }
                 self.policy.spend(budget.learned().saturating_sub(before));
                 self.give()?;
                 Ok(Step::On)

@@ -3,12 +3,14 @@ use Rattle.std.proofs.Common.{ℕ, length, Ok, [], refl, sym, ◌∙◌, ap, sub
 use Rattle.std.proofs.lemmas.List.Elements.{All-nil}
 use Rattle.lrat_log.specs.Steps.{IsAcceptedLog, learned_count}
 use Rattle.cdcl.specs.Solving.{given_to}
-use Rattle.improve.specs.declared.found.Found.TheVariants.{Unsat, Nothing}
+use Rattle.cdcl_order.specs.Budgets.{left_of}
+use Rattle.improve.specs.declared.found.Found.TheVariants.{Unsat}
 use Rattle.improve.specs.Improving.{IsCostOfSome, IsHardLog}
 use Rattle.improve.proofs.CheaperBits.{same_given}
 use Rattle.improve.proofs.SearchEnds.{memory_end, found_end}
-use Rattle.improve.proofs.HardEnds.{hard_feasible, hard_log, right_unsat, right_nothing}
-use Rattle.improve.proofs.HardEnds.{hard_learned, nothing_learned, only_hard}
+use Rattle.improve.proofs.Lowering.{on_work_weaker}
+use Rattle.improve.proofs.HardEnds.{hard_feasible, hard_log, hard_learned, right_unsat}
+use Rattle.improve.proofs.HardEnds.{plainly_open}
 use Rattle.improve.proofs.search.improve_watched.Goals as goal
 
 pub price_polished-first-requires-clause-feasible :
@@ -54,32 +56,37 @@ returns-in-Ok-Unsat-clause-improves g c =
     ∙ sym (same_given c.in-Ok.solver c.solve_watched.new.self c.solve_watched.ensures.given))))
     (omega (arith, answers)) tt tt
 
+pub conclude_nothing-requires-clause-hard : goal.conclude_nothing-requires-clause-hard
+conclude_nothing-requires-clause-hard g c =
+    let free = rw c.in-Ok-Limit.field-0-is at c.in-Ok-Limit.ensures.stays_open in
+    subst (IsHardLog c.args.instance.now) (sym c.into_sink.ensures)
+    (hard_log c.args.instance.now c.in-Ok.solver c.in-Ok.ensures c.solve_watched.new.self
+    c.solve_watched.ensures.given c.solve_watched.ensures.lines (free (λ e. cc))
+    c.solve_watched.ensures.grows c.solve_watched.ensures.new)
+
+pub conclude_nothing-requires-clause-open : goal.conclude_nothing-requires-clause-open
+conclude_nothing-requires-clause-open g c =
+    let refuted = rw c.in-Ok-Limit.field-0-is at c.in-Ok-Limit.ensures.refuted in
+    plainly_open c.args.instance.now c.in-Ok.solver c.in-Ok.ensures (λ r. let x = refuted r in cc)
+
 pub returns-in-Ok-Limit-clause-improves : goal.returns-in-Ok-Limit-clause-improves
 returns-in-Ok-Limit-clause-improves g c =
     let p = c.args.instance.now in
-    let log = c.into_sink-hard-in-Ok-Limit.result in
-    let free = rw c.in-Ok-Limit.field-0-is at c.in-Ok-Limit.ensures.stays_open in
-    let refuted = rw c.in-Ok-Limit.field-0-is at c.in-Ok-Limit.ensures.refuted in
     let left = rw c.in-Ok-Limit.field-0-is at c.in-Ok-Limit.ensures.limit in
     let answers = rw c.in-Ok-Limit.field-0-is at c.in-Ok-Limit.ensures.answers in
-    let work =
-    subst (IsHardLog p) (sym c.into_sink-hard-in-Ok-Limit.ensures)
-    (hard_log p c.in-Ok.solver c.in-Ok.ensures c.solve_watched.new.self
-    c.solve_watched.ensures.given c.solve_watched.ensures.lines (free (λ e. cc))
-    c.solve_watched.ensures.grows c.solve_watched.ensures.new) in
+    let work = c.conclude_nothing.ensures.work in
     let learned =
     hard_learned p c.in-Ok.solver c.in-Ok.ensures c.solve_watched.new.self.sink
     c.args.budget.now.learned c.solve_watched.new.budget.learned c.solve_watched.ensures.grows
     c.solve_watched.ensures.learned in
     found_end c.args.profile p _ _ c.args.budget.now c.solve_watched.new.budget
     c.solve_watched.ensures.same_limit [] (sym (append-nil _))
-    (Ok (Nothing (only_hard log c.new-bound.result))) tt
-    (All-nil (IsCostOfSome p)) refl tt
-    (right_nothing p c.in-Ok.solver c.in-Ok.ensures c.args.profile log c.new-bound.result work
-    c.new-bound.ensures (λ r. let x = refuted r in cc)) (omega (arith, answers))
-    (nothing_learned log c.new-bound.result c.solve_watched.new.self.sink c.args.budget.now.learned
-    c.solve_watched.new.budget.learned c.into_sink-hard-in-Ok-Limit.ensures c.new-bound.ensures
-    learned) left
+    (Ok c.conclude_nothing.result) tt (All-nil (IsCostOfSome p)) refl tt
+    (c.conclude_nothing.ensures.found c.args.profile) (omega (arith, answers))
+    (on_work_weaker (Ok c.conclude_nothing.result) _ _
+    (λ w x. omega (arith, x, learned, ap learned_count c.into_sink.ensures)) work)
+    (on_work_weaker (Ok c.conclude_nothing.result) _ (λ w. left_of c.solve_watched.new.budget ≡ 0)
+    (λ w x. left) work)
 
 pub returns-in-Err-clause-improves : goal.returns-in-Err-clause-improves
 returns-in-Err-clause-improves g c =

@@ -1,0 +1,13 @@
+-- The work is that over the hard clauses.
+use Rattle.std.proofs.Common.{ap}
+use Rattle.improve.specs.Improving.{work_count}
+use Rattle.improve.proofs.HardEnds.{right_nothing}
+use Rattle.improve.proofs.search.conclude_nothing.Goals as goal
+
+pub returns-clause-found : goal.returns-clause-found
+returns-clause-found c =
+    λ profile. right_nothing profile c.args.instance.now c.args.hard c.begin_work.result
+    c.begin_work.ensures c.requires.hard c.requires.open
+
+pub returns-clause-work : goal.returns-clause-work
+returns-clause-work c = ap work_count c.begin_work.ensures
