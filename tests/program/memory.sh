@@ -77,6 +77,7 @@ lines given '6 0 5 4 2 3 1 0'
 each 'check: one of two' check text result given
 each 'check in each profile: one of two' check --profile any text result given
 each 'explain: one of two' explain text result
+each 'from a solution' solve --from result --proof proof text
 each 'explain, no result' explain text
 lines given 'core 3 1 3 4 0' '7 0 6 4 5 2 3 1 0'
 each 'encode: a core' encode --profile 5 --proof given text 3

@@ -23,8 +23,12 @@ Statuses:
   20  s UNSATISFIABLE    no assignment satisfies the hard clauses
   10  s SATISFIABLE      the effort ran out; the bits are a solution, maybe not the cheapest
    0  s UNKNOWN          the effort ran out before a solution was met
+   1  NO, and the fault of the RESULT of --from
    2  the FILE or the command line is faulty
    3  a file cannot be opened, read or written, or memory is refused
+
+A text without any clause has an optimum of cost 0, and standard error gets 'warning: no clause was
+read'.
 
 --conflicts N bounds the effort: each learned clause and each solution costs one unit. A million
 units take a minute or more. What was learned stays in memory for the certificate, also without
@@ -39,13 +43,14 @@ the 's' line. For the other two none is. Without --proof it is dropped.
   export WMAX_PROFILE=5
 
 each command takes it where it is given no --profile. --best PATH keeps the best solution, so that a
-run can be stopped at any moment. --progress tells meanwhile how far it is. A script that stops at
-errors writes
+run can be stopped at any moment; --from begins with a solution, so that it goes on. --progress
+tells meanwhile how far it is. A script that stops at errors writes
 
   wmax solve a.wcnf > a.result || [ $? = 30 ]
 
 Example:
   wmax solve --profile 5 --proof a.lrat --best a.best a.wcnf > a.result
+  wmax solve --profile 5 --proof a.lrat --best a.best --from a.best a.wcnf > a.result
 
 Faults:
   error: line N: FirstToken  line N of FILE begins with neither 'h', a weight nor 'c'
@@ -57,7 +62,7 @@ Faults:
   error: Read                FILE cannot be opened or read
   error: Memory              memory was refused
   error: Output              standard output cannot be written
-  error: ProofOutput         the certificate cannot be written, or is FILE
+  error: ProofOutput         the certificate cannot be written, or is FILE or RESULT
 docs/FAULTS.md and the manual page have the others.";
 
 const CHECK_NOTES: &str = "\
@@ -143,7 +148,7 @@ Faults:
 'wmax solve --help' has more of those of FILE; docs/FAULTS.md and the manual page have all.";
 
 const NOTES: &str = "\
-Statuses: solve 30, 20, 10, 0; check and explain 0, 1; encode 0; each 2 and 3 for faults. 'wmax
+Statuses: solve 30, 20, 10, 0, 1; check and explain 0, 1; encode 0; each 2 and 3 for faults. 'wmax
 COMMAND --help' says what they mean. FILE may be /dev/stdin, or a pipe such as <(zcat a.wcnf.gz).
 WMAX_PROFILE in the environment is the profile of each command that is given no --profile.
 
@@ -241,12 +246,23 @@ fn make_solve<'a>(alloc: Global) -> Result<Command<'a>, Error> {
              better one; any other file, and one that cannot be written, is refused, and so are \
              FILE and the certificate",
     );
+    let from = Arg::new(alloc, "from")
+        .long("from")
+        .value_name("RESULT")
+        .help(
+            "The search begins with the solution of this result, as --best kept it or another \
+             solver printed it: its cost, or a cheaper one, is the first o line. A RESULT that is \
+             not right for FILE is refused by the fault that check tells, and one that says \
+             UNKNOWN is passed over. It may be the PATH of --best",
+        );
     let progress = Arg::new(alloc, "progress")
         .long("progress")
         .action(ArgAction::SetTrue)
         .help(
             "Tells on standard error how far the search is: a line at each better solution and at \
-             the end, and at most one a second between. On a terminal one line is written over",
+             the end, and at most one a second between. 'at least L' is what the cores found so \
+             far are worth, not yet proved by a certificate; the gap is what the cost is above it, \
+             of the cost. On a terminal one line is written over",
         );
     let command = Command::new(alloc, "solve")
         .about("Finds a solution of least cost, and a certificate that nothing is cheaper")
@@ -254,6 +270,7 @@ fn make_solve<'a>(alloc: Global) -> Result<Command<'a>, Error> {
         .arg(conflicts)?
         .arg(proof)?
         .arg(best)?
+        .arg(from)?
         .arg(progress)?
         .arg(make_profile(alloc))?
         .arg(make_path(alloc, "FILE", "The instance, a WCNF text"))?;

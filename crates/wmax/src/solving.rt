@@ -1,4 +1,5 @@
 //! `wmax solve`: a result and its certificate.
+use crate::checking::show;
 use crate::file_id::{FileId, find_file_id, open_proof};
 use crate::files::{UNREADABLE, read_file};
 use crate::keeper::{BestPaths, Keeper, judge_left};
@@ -9,11 +10,13 @@ use crate::standard_error::Messages;
 use adder::cells::Profile;
 use cdcl::budget::Budget;
 use clap::ArgMatches;
-use explain::judging::Judgement;
+use explain::judging::{Judgement, read_bits};
+use lrat_check::checking::check_as;
 use report::fault::RunFault;
 use report::options::MOST_CONFLICTS;
-use report::running::run_watched;
-use std::fs::{File, OpenFile};
+use report::running::run_from;
+use std::alloc::Global;
+use std::fs::File;
 use std::io::{self, Read, Write};
 use std::rt::{Clock, Env, Files};
 
@@ -24,14 +27,20 @@ struct Search<'a> {
     profile: Profile,
     /// The effort.
     budget: Budget,
+    /// Where it begins, if it has such a solution.
+    start: Option<Vec<bool>>,
     /// Where the best solution is kept, if it is to be kept.
     best: Option<&'a str>,
     /// Whether it is to be told how far the run is.
     is_told: bool,
+    /// Whether there is a file for the certificate.
+    has_proof: bool,
 }
 
-/// FILE is opened, then the PATH of the certificate is created or emptied, then the PATH of the best
-/// solution is looked at, then the text is read. Without a PATH the certificate is dropped.
+/// FILE is opened, then RESULT, if the search begins with one: that is judged by FILE, all of which
+/// is in memory then. Then the PATH of the certificate is created or emptied, then the PATH of the
+/// best solution is looked at, then what is left of FILE is read. Without a PATH the certificate is
+/// dropped.
 pub fn solve<R: Files + AllocGlobal + Print + Env + Clock, E: Write>(
     rt: &R,
     messages: &mut Messages<'_, E>,
@@ -50,34 +59,79 @@ pub fn solve<R: Files + AllocGlobal + Print + Env + Clock, E: Write>(
         profile,
         // Said again, since nothing is known here of the greatest that `clap` lets pass.
         budget: Budget::new(limit.min(MOST_CONFLICTS)),
+        start: None,
         best: matches.get_str("best"),
         is_told: matches.get_flag("progress"),
+        has_proof: matches.contains_id("proof"),
     };
-    solve_file(rt, messages, search, text, matches.get_str("proof"))
+    let mut text = File::open(rt, text).map_err(|_| UNREADABLE)?;
+    let proof = matches.get_str("proof");
+    match matches.get_str("from") {
+        Some(from) => solve_from(rt, messages, search, &mut text, from, proof),
+        None => {
+            let Some(here) = find_file_id(&text) else {
+                return Err(UNREADABLE);
+            };
+            solve_proved(rt, messages, search, &mut text, proof, [here, here])
+        }
+    }
 }
 
-/// Solves the FILE of this name, with the certificate in the file of that name.
-fn solve_file<R: Files + AllocGlobal + Print + Clock, E: Write>(
+/// Solves the text of a file, where the search begins with a result. What `check` would say of one
+/// that is not right is printed.
+fn solve_from<R: Files + AllocGlobal + Print + Clock, E: Write>(
+    rt: &R,
+    messages: &mut Messages<'_, E>,
+    mut search: Search<'_>,
+    text: &mut R::File,
+    from: &str,
+    proof: Option<&str>,
+) -> Result<u8, RunFault> {
+    let mut from = File::open(rt, from).map_err(|_| UNREADABLE)?;
+    let (Some(here), Some(there)) = (find_file_id(text), find_file_id(&from)) else {
+        return Err(UNREADABLE);
+    };
+    let text = read_file(rt, text)?;
+    let said = read_file(rt, &mut from)?;
+    match judge_left(rt.alloc(), &text, &said)? {
+        Judgement::Unknown => {}
+        Judgement::Right(_) => search.start = read_start(rt.alloc(), &said)?,
+        Judgement::Wrong | Judgement::Unsatisfiable => {
+            let verdict = check_as(rt.alloc(), &text, &said, &[], Profile::One);
+            return show(rt, &verdict.map_err(|_| RunFault::Memory)?);
+        }
+    }
+    let mut text = text.as_slice();
+    solve_proved(rt, messages, search, &mut text, proof, [here, there])
+}
+
+/// The bits of a result, with which a search begins.
+fn read_start(alloc: Global, said: &[u8]) -> Result<Option<Vec<bool>>, RunFault> {
+    match read_bits(alloc, said) {
+        Ok(start) => Ok(start),
+        Err(_) => Err(RunFault::Memory),
+    }
+}
+
+/// Solves, with the certificate in the file of this name, which may be none of those that are read.
+fn solve_proved<R: Files + AllocGlobal + Print + Clock, E: Write, T: Read>(
     rt: &R,
     messages: &mut Messages<'_, E>,
     search: Search<'_>,
-    text: &str,
+    text: &mut T,
     proof: Option<&str>,
+    read: [FileId; 2],
 ) -> Result<u8, RunFault> {
-    let mut text = File::open(rt, text).map_err(|_| UNREADABLE)?;
-    let Some(here) = find_file_id(&text) else {
-        return Err(UNREADABLE);
-    };
+    let [here, _] = read;
     let Some(proof) = proof else {
         let mut dropped = io::sink();
-        let others = [here, here];
-        return solve_kept(rt, messages, search, &mut text, &mut dropped, others);
+        return solve_kept(rt, messages, search, text, &mut dropped, [here, here]);
     };
-    let mut proof = open_proof(rt, proof, here)?;
+    let mut proof = open_proof(rt, proof, read)?;
     let Some(there) = find_file_id(&proof) else {
         return Err(RunFault::ProofOutput);
     };
-    solve_kept(rt, messages, search, &mut text, &mut proof, [here, there])
+    solve_kept(rt, messages, search, text, &mut proof, [here, there])
 }
 
 /// Solves with a certificate, where `--best` may name neither of the others. Where that has
@@ -143,11 +197,13 @@ fn solve_over<'a, R: Files + AllocGlobal + Print + Clock, E: Write, T: Read, P: 
     let Search {
         profile,
         mut budget,
+        start,
         is_told,
+        has_proof,
         ..
     } = search;
     let meter = if is_told {
-        Meter::start(rt, budget.left())
+        Meter::start(rt, budget.left(), has_proof)
     } else {
         None
     };
@@ -157,9 +213,10 @@ fn solve_over<'a, R: Files + AllocGlobal + Print + Clock, E: Write, T: Read, P: 
         messages,
     };
     let mut out = io::writer(rt);
-    let status = run_watched(
+    let status = run_from(
         rt.alloc(),
         text,
+        start,
         &mut budget,
         &mut out,
         proof,
