@@ -61,11 +61,101 @@ while read -r number wanted; do
     ok "instance $number" test "$status $err" = '0 ' -a "$(head -n 1 <<< "$out")" = "cost $wanted" -a -z "$(grep broken <<< "$out")"
 done < "$work/wanted"
 
+# Without a result: how much there is.
+counted() { # NAME VARIABLES HARD SOFT WEIGHTS: of text
+    call explain text
+    expect "$1" 0 "variables: $2"$'\n'"hard clauses: $3"$'\n'"soft clauses: $4"$'\n'"sum of weights: $5" ''
+}
+lines text 'c who works' 'h 1 2 3 0' '3 -1 0' '4 -2 0' '' '4 -3 9 0' 'h 4 0'
+counted 'an instance' 9 2 3 11
+lines text 'p wcnf 12 3 10' '10 1 2 0' '3 -1 0' '4 -2 0'
+counted 'an instance of the older form' 12 1 2 7
+: > "$work/text"
+counted 'a text without a clause' 0 0 0 0
+lines text '4611686018427387902 1 0' '1 -1 0'
+counted 'the greatest weights' 1 0 2 4611686018427387903
+text=examples/roster.wcnf
+cp $text "$work/text"
+counted 'the roster' 15 "$(grep -c '^h' $text)" "$(grep -c '^[0-9]' $text)" "$(awk '/^[0-9]/ { sum += $1 } END { print sum }' $text)"
+
+# Of a faulty text: the line, the word, and what would mend it.
+mended() { # NAME TEXT FAULT LINE WORD SENTENCE: with no word, none is shown
+    printf "$2" > "$work/text"
+    wanted="error: $3"$'\n'"  $4"$'\n'
+    [ -z "$5" ] || wanted+="  here: $5"$'\n'
+    call explain text
+    expect "$1" 2 '' "$wanted  $6"
+    call solve text
+    expect "$1: solve tells the fault alone" 2 '' "error: $3"
+}
+mended 'a byte order mark' '\357\273\277h 1 0\n' 'line 1: FirstToken' $'\357\273\277h 1 0' $'\357\273\277h' \
+    'It begins with a byte order mark, which editors do not show: save FILE as UTF-8 without it.'
+mended 'a no-break space' 'h 1\302\2402 0\n' 'line 1: Literal' $'h 1\302\2402 0' $'1\302\2402' \
+    'It has a no-break space, which looks like a space and is none: write a plain one.'
+mended 'a minus sign of print' 'h 1 \342\210\2222 0\n' 'line 1: Literal' $'h 1 \342\210\2222 0' $'\342\210\2222' \
+    "It has a long dash or a minus sign of print: write the plain '-'."
+mended 'no weight' 'c x\n-2 -1 0\n' 'line 2: FirstToken' '-2 -1 0' '-2' \
+    "A clause begins with 'h' where it must hold, else with its weight: 'h -1 0' or '3 -1 0'."
+mended 'h in the older form' 'p wcnf 2 1 7\nh 1 0\n' 'line 2: FirstToken' 'h 1 0' h \
+    "Below a line 'p wcnf V C T' a clause begins with its weight; with T where it must hold."
+mended 'another sign of a comment' '# x\n' 'line 1: FirstToken' '# x' '#' "A comment begins with 'c'."
+mended 'a result' 'o 3\ns UNKNOWN\n' 'line 1: FirstToken' 'o 3' o 'This is a line of a result: the instance comes first, then its result.'
+mended 'a plus' '+3 1 0\n' 'line 1: FirstToken' '+3 1 0' '+3' "A number has no '+'."
+mended 'a second header' 'h 1 0\np wcnf 1 1 1\n' 'line 2: OldForm' 'p wcnf 1 1 1' p \
+    "A line 'p wcnf' can only be the first one that is no comment; today's form has none."
+mended 'a weight of 0' '0 1 0\n' 'line 1: Weight' '0 1 0' 0 'A weight is 1 at least: what costs nothing can be left out.'
+mended 'a weight with decimals' '1.5 1 0\n' 'line 1: Weight' '1.5 1 0' 1.5 \
+    'A weight is a whole number: multiply all weights, so that no decimals are left.'
+mended 'a weight with a leading 0' '01 1 0\n' 'line 1: Weight' '01 1 0' 01 'A number has no leading 0.'
+mended 'a weight with a letter' '3x 1 0\n' 'line 1: Weight' '3x 1 0' 3x 'A weight has digits alone.'
+mended 'a weight that is too large' '4611686018427387904 1 0\n' 'line 1: Weight' '4611686018427387904 1 0' 4611686018427387904 \
+    'A weight is below 2^62 = 4611686018427387904, and so are all together.'
+mended 'a weight above the last number' 'p wcnf 2 1 7\n8 1 0\n' 'line 2: Weight' '8 1 0' 8 \
+    "No weight is above T of the line 'p wcnf V C T', which makes a clause hard."
+mended 'a word' 'h 1 x2 0\n' 'line 1: Literal' 'h 1 x2 0' x2 "A literal is a variable from 1 on, with '-' before it for its negation."
+mended 'a literal with a plus' 'h 1 +2 0\n' 'line 1: Literal' 'h 1 +2 0' '+2' "A number has no '+'."
+mended 'a literal with a leading 0' 'h 1 -02 0\n' 'line 1: Literal' 'h 1 -02 0' -02 'A number has no leading 0.'
+mended 'a negated 0' 'h 1 -0\n' 'line 1: Literal' 'h 1 -0' -0 'The end of a clause is a plain 0, and variables begin at 1.'
+mended 'commas' 'h 1,2 0\n' 'line 1: Literal' 'h 1,2 0' 1,2 'Words stand apart by spaces or tabs alone.'
+mended 'no 0' 'h 1 2\n0\n' 'line 1: NoZero' 'h 1 2' '' 'A clause ends with 0, on the line on which it begins.'
+mended 'two clauses' 'h 1 0 3 2 0\n' 'line 1: AfterZero' 'h 1 0 3 2 0' 3 \
+    'The 0 ends the clause: each clause and each comment has a line of its own.'
+mended 'two clauses, the second one hard' 'h 1 0 h 2 0\n' 'line 1: Literal' 'h 1 0 h 2 0' h \
+    'The 0 ends the clause: each clause and each comment has a line of its own.'
+mended 'a variable that is too large' 'h 4194305 0\n' 'line 1: Variable' 'h 4194305 0' 4194305 \
+    'A variable is 2^22 = 4194304 at most: number them from 1 on without gaps.'
+mended 'a variable above the header' 'p wcnf 2 1 7\n7 1 -3 0\n' 'line 2: Variable' '7 1 -3 0' -3 \
+    "A variable is V of the line 'p wcnf V C T' at most: mend that line, or this."
+mended 'weights together' '4611686018427387903 1 0\n1 2 0\n' 'line 2: WeightSum' '1 2 0' 1 \
+    'With this weight all weights together reach 2^62 = 4611686018427387904: take smaller ones.'
+mended 'a text for SAT' 'p cnf 2 1\n1 2 0\n' 'line 1: Header' 'p cnf 2 1' '' \
+    "This is a text for SAT: leave this line out, and write 'h' before each clause that must hold."
+mended 'no weight of hard clauses' 'p wcnf 2 1\n1 2 0\n' 'line 1: Header' 'p wcnf 2 1' '' \
+    "T of 'p wcnf V C T' is missing, which makes a clause hard: it is above all weights."
+mended 'a weight of hard clauses that is too large' 'p wcnf 2 1 4611686018427387905\n' 'line 1: Header' 'p wcnf 2 1 4611686018427387905' '' \
+    'The last number T is from 1 to 2^62 = 4611686018427387904: any above all weights will do.'
+mended 'a weight of hard clauses of 0' 'p wcnf 2 1 0\n' 'line 1: Header' 'p wcnf 2 1 0' '' \
+    'The last number T is from 1 to 2^62 = 4611686018427387904: any above all weights will do.'
+mended 'too many variables' 'p wcnf 4194305 1 2\n' 'line 1: Header' 'p wcnf 4194305 1 2' '' 'There may be 2^22 = 4194304 variables.'
+mended 'too many clauses' 'p wcnf 1 4456449 2\n' 'line 1: Header' 'p wcnf 1 4456449 2' '' 'There may be 4456448 clauses: 2^22 hard and 2^18 soft ones.'
+mended 'another header' 'p max 1\n' 'line 1: Header' 'p max 1' '' \
+    "In the older form this line is 'p wcnf V C T', three numbers; in today's there is none."
+mended 'more clauses' 'c x\np wcnf 2 1 7\n7 1 0\n7 2 0\n' 'line 4: Count' '7 2 0' '' "There are more clauses than C of the line 'p wcnf V C T' says."
+mended 'fewer clauses' 'c x\np wcnf 2 3 7\n7 1 0\n' 'line 2: Count' 'p wcnf 2 3 7' '' 'There are fewer clauses than this line says.'
+mended 'bytes that command a terminal' 'h\t1 \033[31m\001 0\r\n' 'line 1: Literal' $'h\t1 ?[31m? 0' '?[31m?' \
+    "A literal is a variable from 1 on, with '-' before it for its negation."
+a=$(printf 'a%.0s' {1..100})
+mended 'a long word' "h ${a}a 0\n" 'line 1: Literal' "h ${a:2} .." "$a .." "A literal is a variable from 1 on, with '-' before it for its negation."
+mended 'a line of just the length' "h ${a:2}\n" 'line 1: Literal' "h ${a:2}" "${a:2}" \
+    "A literal is a variable from 1 on, with '-' before it for its negation."
+
 # Faults.
 lines text 'h 1 2'
 lines result 's UNKNOWN'
 call explain text result
-expect 'a faulty text' 2 '' 'error: line 1: NoZero'
+expect 'a faulty text' 2 '' $'error: line 1: NoZero\n  h 1 2\n  A clause ends with 0, on the line on which it begins.'
+call explain missing
+expect 'a missing text, no result' 3 '' 'error: Read'
 lines text 'h 1 2 0'
 lines result 's MAYBE'
 call explain text result
@@ -74,8 +164,8 @@ call explain missing result
 expect 'a missing text' 3 '' 'error: Read'
 call explain text missing
 expect 'a missing result' 3 '' 'error: Read'
-call explain text
-ok 'no result is named' test "$status" = 2 -a -z "$out" -a -n "$err"
+call explain
+ok 'no text is named' test "$status" = 2 -a -z "$out" -a -n "$err"
 lines result 's UNKNOWN'
 if [ -c /dev/full ]; then
     err=$(cd "$work" && "$wmax" explain text result 2>&1 > /dev/full)

@@ -75,6 +75,10 @@ each 'one of two' solve --proof proof text
 lines result 'o 3' 's OPTIMUM FOUND' 'v 10'
 lines given '6 0 5 4 2 3 1 0'
 each 'check: one of two' check text result given
+each 'check in each profile: one of two' check --profile any text result given
+each 'explain: one of two' explain text result
+each 'from a solution' solve --from result --proof proof text
+each 'explain, no result' explain text
 lines given 'core 3 1 3 4 0' '7 0 6 4 5 2 3 1 0'
 each 'encode: a core' encode --profile 5 --proof given text 3
 lines text 'h 1 -1 0' '2 1 1 0' '3 -1 0'

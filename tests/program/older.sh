@@ -29,7 +29,7 @@ call encode text 3
 expect 'one of two, the formula' 0 "$(printf '%s\n' 'p cnf 4 5' '1 2 0' '-1 3 0' '-2 4 0' '-4 0' '-3 0')" ''
 lines text 'p wcnf 0 0 1'
 call solve text
-expect 'no clauses' 30 "$(printf '%s\n' 'o 0' 's OPTIMUM FOUND' 'v')" ''
+expect 'no clauses' 30 "$(printf '%s\n' 'o 0' 's OPTIMUM FOUND' 'v')" 'warning: no clause was read'
 lines text 'p wcnf 3 1 5' '2 1 0'
 call encode text 5
 expect 'more variables than the clauses have' 0 "$(printf '%s\n' 'p cnf 4 1' '1 4 0')" ''

@@ -2,7 +2,7 @@
 # `--progress`: lines on standard error, and nothing else is different.
 source "$(dirname "$0")/../lib"
 
-form='[0-9]+\.[0-9] s, (no solution yet|cost [0-9]+), [0-9]+ conflicts, [0-9]+/s, [0-9]+ propagations, [0-9]+ learned, [0-9]+ restarts, [0-9]+\.[0-9]{2} % spent'
+form='[0-9]+\.[0-9] s, ((no solution yet|cost [0-9]+)(, at least [0-9]+(, gap [0-9]+\.[0-9]{2} %)?)?, [0-9]+ conflicts, [0-9]+/s, [0-9]+ propagations, [0-9]+ learned, [0-9]+ restarts, [0-9]+\.[0-9]{2} % spent|writing the certificate)'
 
 plain() { # WORD..: the run without the option: `out`, `status` and the certificate
     rm -f "$work/proof"
@@ -47,6 +47,27 @@ ok 'the share of the effort' awk -F '[ ,]+' '
     END { exit wrong || !NR }' <<< "$(grep 'cost' <<< "$err")"
 
 ok 'the last line is of the end' grep -q ', 100.00 % spent$' <<< "$(sed -n '$p' <<< "$err")"
+
+# What is needed at least: by cores, in profile 5 alone.
+ok 'profile 4 tells nothing of it' [ -z "$(grep 'at least' <<< "$err")" ]
+awk -v family=set_cover -v size=40 -v seed=1 -f bench/maxsat.awk > "$work/text"
+plain --profile 5
+call solve --profile 5 --proof proof --progress text
+same 'profile 5'
+ok 'profile 5: each line has the form' [ -z "$(grep -vxE "$form" <<< "$err")" ]
+ok 'profile 5: at least, never more than the optimum, and the gap' awk -F '[ ,]+' -v best="$(grep '^o' <<< "$out" | tail -n 1 | cut -c 3-)" '
+    { for (i = 3; i <= NF; i++) { if ($i == "least") low = $(i + 1); if ($i == "cost") cost = $(i + 1); if ($i == "gap") gap = $(i + 1) } }
+    / at least / {
+        if (low < last || low > best) wrong = 1
+        last = low
+        lines++
+        off = gap - 100 * (cost - low) / cost
+        if (/gap/ && (off < -0.01 || off > 0.01)) wrong = 1
+    }
+    END { exit wrong || !lines }' <<< "$(grep cost <<< "$err")"
+ok 'the certificate is told of once, at the end' [ "$(grep -c 'writing the certificate' <<< "$err") $(tail -n 1 <<< "$err" | cut -d ' ' -f 3-)" = '1 writing the certificate' ]
+call solve --profile 5 --progress text
+ok 'no file, no word of it' [ -z "$(grep certificate <<< "$err")" ]
 
 # Nothing to tell.
 lines text 'h 1 0' 'h -1 0'

@@ -3,7 +3,8 @@
 source "$(dirname "$0")/../lib"
 
 # solved NAME STATUS WORD..: what solving the text prints, in each profile, and whether the certificate checks.
-# Of the `o` lines only the last is fixed.
+# Of the `o` lines only the last is fixed. `told` is what stands on standard error.
+told=
 solved() {
     local name=$1 wanted=$2 profile
     shift 2
@@ -12,7 +13,7 @@ solved() {
         call solve --profile $profile --proof proof "$@" text
         printf '%s\n' "$out" > "$work/result"
         out=$(grep -v '^o ' <<< "$out"; grep '^o ' <<< "$out" | tail -n 1)
-        expect "$name, profile $profile" "$wanted" "$result" ""
+        expect "$name, profile $profile" "$wanted" "$result" "$told"
         case $wanted in
             20 | 30)
                 call check --profile $profile text result proof
@@ -29,7 +30,13 @@ optimum() { # COST BITS
 
 : > "$work/text"
 optimum 0 ''
+told='warning: no clause was read'
 solved 'an empty text' 30
+printf 'c h 1 0\n\n' > "$work/text"
+solved 'comments alone' 30
+lines text 'p wcnf 0 0 1'
+solved 'a header alone' 30
+told=
 lines text 'h 0'
 result='s UNSATISFIABLE'
 solved 'an empty hard clause, without effort' 20 --conflicts 0
@@ -66,10 +73,12 @@ exactly() { # NAME STATUS RESULT WORD..
     local name=$1 wanted=$2 text=$3
     shift 3
     call solve "$@" text
-    expect "$name" "$wanted" "$text" ""
+    expect "$name" "$wanted" "$text" "$told"
 }
 : > "$work/text"
+told='warning: no clause was read'
 exactly 'an empty text, without certificate' 30 $'o 0\ns OPTIMUM FOUND\nv'
+told=
 lines text 'h 1 0'
 exactly 'one solution' 30 $'o 0\ns OPTIMUM FOUND\nv 1' --conflicts 1
 

@@ -1,4 +1,6 @@
 mod Comments
+mod Counts
 mod Explained
 mod Listing
 mod Sheets
+mod Words

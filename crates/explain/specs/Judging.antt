@@ -1,5 +1,5 @@
 -- What a result comes to on an instance.
-use Rattle.std.specs.Prelude.{◌≡◌, ℕ, Bool, List, Err, ⊤}
+use Rattle.std.specs.Prelude.{◌≡◌, ℕ, Bool, List, Option, Some, None, Ok, Err, ⊤}
 use Rattle.cnf.specs.Problem.{Problem}
 use Rattle.wcnf.specs.Reading.{IsFirstFault}
 use Rattle.lrat_result.specs.Result.{Said, OptimumFound, Satisfiable, Report, report_of}
@@ -29,6 +29,18 @@ pub record JudgesTexts (text answer : List ℕ) (judgement : Judgement) : Type 0
   pub report : Report
   pub read : AreRead text answer problem report
   pub judged : IsJudged problem report.said judgement
+
+-- the bits of what is said
+abbrev pub bits_said : Said → Option (List Bool)
+bits_said (OptimumFound c bits) = Some bits
+bits_said (Satisfiable c bits) = Some bits
+bits_said SaysUnsatisfiable = None
+bits_said SaysUnknown = None
+
+-- the text tells these bits as a result does, or none
+abbrev pub TellsBits : List ℕ → Option (List Bool) → Type 0
+TellsBits answer bits =
+    (report : Report) × (report_of answer ≡ Ok report) × (bits ≡ bits_said report.said)
 
 -- what each fault says
 abbrev pub IsReadFault : List ℕ → List ℕ → ExplainFault → Type 0

@@ -3,6 +3,8 @@ pub mod Explained
 pub mod Explanation
 pub mod Falsified
 pub mod Judging
+pub mod Mending
 pub mod Names
 pub mod Sheets
+pub mod Summary
 pub mod Vectors

@@ -1,7 +1,9 @@
 // Whether a result is right for an instance, and what it is worth.
-ghost use Rattle.std.specs.Prelude.{IfOk, IfErr};
+ghost use Rattle.std.specs.Prelude.{IfOk, IfErr, option_map};
 ghost use Rattle.lrat_result.specs.Report.{reported};
+ghost use Rattle.explain.specs.Explained.{IsAnswerFault};
 ghost use Rattle.explain.specs.Judging.{IsJudged, IsJudgedSolution, IsReadFault, JudgesTexts};
+ghost use Rattle.explain.specs.Judging.{TellsBits};
 
 use crate::explaining::{ExplainFault, is_solution, read_answer, read_text};
 use cnf::types::Instance;
@@ -34,6 +36,22 @@ pub fn judge(alloc: Global, text: &[u8], answer: &[u8]) -> Result<Judgement, Exp
     let instance = read_text(alloc, text)?;
     let report = read_answer(alloc, answer)?;
     Ok(judge_report(&instance, &report))
+}
+
+/// The bits that a result tells; none where it tells none.
+///
+/// # Errors
+///
+/// `Result` and `Memory`, as `write_explanation`.
+pub fn read_bits(alloc: Global, answer: &[u8]) -> Result<Option<Vec<bool>>, ExplainFault>
+    ensures ok { IfOk result (λ found. TellsBits answer.now (option_map (λ b. b.items) found)) }
+    ensures fault { IfErr result (λ fault. IsAnswerFault answer.now fault) }
+{
+    let report = read_answer(alloc, answer)?;
+    match report.said {
+        Said::Optimum(solution) | Said::Sat(solution) => Ok(Some(solution.bits)),
+        Said::Unsat | Said::Limit => Ok(None),
+    }
 }
 
 /// Judges a result that was read.

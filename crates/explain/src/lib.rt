@@ -1,10 +1,13 @@
 //! What a solution gives up, clause by clause: for a person who asks why a plan costs what it does.
 #![tactic(auto)]
 
+mod advice;
 mod clause_lines;
 pub mod explaining;
 pub mod falsified;
 pub mod judging;
+pub mod mending;
 mod names;
 mod putting;
 mod sheet;
+pub mod summary;

@@ -1,4 +1,5 @@
 pub mod Printing
+pub mod Profiles
 pub mod Codes
 pub mod Faults
 pub mod Told

@@ -17,8 +17,8 @@ use text::output::WriteFault;
 
 /// Looks on while a run goes, and is shown how it ended.
 pub trait Keep: Watch {
-    /// The search is over, and nothing of its end is written yet.
-    fn searched(&mut self);
+    /// The search is over with this, and nothing of its end is written yet.
+    fn searched(&mut self, found: &Found);
 
     /// Is shown what was found, once the result and the certificate are written and flushed.
     fn ended(&mut self, instance: &Instance, found: &Found)
@@ -26,7 +26,7 @@ pub trait Keep: Watch {
 }
 
 impl Keep for Silent {
-    fn searched(&mut self) {}
+    fn searched(&mut self, _found: &Found) {}
 
     fn ended(&mut self, _instance: &Instance, _found: &Found) {}
 }

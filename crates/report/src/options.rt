@@ -1,5 +1,6 @@
 //! The command line.
-ghost use Rattle.std.specs.Prelude.{◌≡◌, ◌<◌, ◌⊎◌, Some, None};
+ghost use Rattle.std.specs.Prelude.{◌≡◌};
+ghost use Rattle.report.specs.Profiles.{profile_named};
 
 use adder::cells::Profile;
 use clap::builder::ValueParser;
@@ -22,25 +23,34 @@ Statuses:
   20  s UNSATISFIABLE    no assignment satisfies the hard clauses
   10  s SATISFIABLE      the effort ran out; the bits are a solution, maybe not the cheapest
    0  s UNKNOWN          the effort ran out before a solution was met
+   1  NO, and the fault of the RESULT of --from
    2  the FILE or the command line is faulty
    3  a file cannot be opened, read or written, or memory is refused
 
+A text without any clause has an optimum of cost 0, and standard error gets 'warning: no clause was
+read'.
+
 --conflicts N bounds the effort: each learned clause and each solution costs one unit. A million
 units take a minute or more. What was learned stays in memory for the certificate, also without
---proof: 4 bytes for each literal and hint of a line. The same N gives the same answer on each
-machine, whatever its speed.
+--proof: 4 bytes for each literal and hint of a line, mostly 1 to 2 KB for each conflict. The same N
+gives the same answer on each machine, whatever its speed.
 
 The certificate proves OPTIMUM FOUND and UNSATISFIABLE to whoever checks it, and is written before
 the 's' line. For the other two none is. Without --proof it is dropped.
 
---profile 5 finds most optima; check wants the profile that the certificate was made in. --best PATH
-keeps the best solution, so that a run can be stopped at any moment. --progress tells meanwhile how
-far it is. A script that stops at errors writes
+--profile 5 finds most optima; check wants the profile that the certificate was made in. After
 
-  wmax solve --profile 5 a.wcnf > a.result || [ $? = 30 ]
+  export WMAX_PROFILE=5
+
+each command takes it where it is given no --profile. --best PATH keeps the best solution, so that a
+run can be stopped at any moment; --from begins with a solution, so that it goes on. --progress
+tells meanwhile how far it is. A script that stops at errors writes
+
+  wmax solve a.wcnf > a.result || [ $? = 30 ]
 
 Example:
   wmax solve --profile 5 --proof a.lrat --best a.best a.wcnf > a.result
+  wmax solve --profile 5 --proof a.lrat --best a.best --from a.best a.wcnf > a.result
 
 Faults:
   error: line N: FirstToken  line N of FILE begins with neither 'h', a weight nor 'c'
@@ -52,7 +62,7 @@ Faults:
   error: Read                FILE cannot be opened or read
   error: Memory              memory was refused
   error: Output              standard output cannot be written
-  error: ProofOutput         the certificate cannot be written, or is FILE
+  error: ProofOutput         the certificate cannot be written, or is FILE or RESULT
 docs/FAULTS.md and the manual page have the others.";
 
 const CHECK_NOTES: &str = "\
@@ -66,8 +76,8 @@ Statuses:
    2  the command line is faulty
    3  a file cannot be opened or read, the verdict cannot be written, or memory is refused
 
-Give the profile that the certificate was made in: in another one it is mostly refused, as with
-NO DeadId 1, NO IdOrder 1 or NO LineForm 1.
+Give the profile that the certificate was made in, here or by WMAX_PROFILE: in another one it is
+mostly refused, as with NO DeadId 1, NO IdOrder 1 or NO LineForm 1. --profile any tries each.
 
 Example:
   wmax check --profile 5 a.wcnf a.result a.lrat
@@ -90,7 +100,10 @@ docs/FAULTS.md and the manual page have the others.";
 
 const EXPLAIN_NOTES: &str = "\
 Prints the cost, then each soft clause that the bits give up, heaviest first, with its line and the
-comment above it, and what is paid so far; then each hard clause that the bits break.
+comment above it, and what is paid so far; then each hard clause that the bits break, and the names
+of true variables. Without RESULT: how many variables, hard and soft clauses FILE has, and the sum
+of the weights. Of a faulty FILE it shows the line and the word, too, and says what would mend it:
+as that '-2 -1 0', which is a FirstToken, lacks the 'h' or the weight before it.
 
 Statuses:
    0  the bits are a solution of just the cost that the result says, or it has none
@@ -100,6 +113,7 @@ Statuses:
 
 Example:
   wmax explain a.wcnf a.result
+  wmax explain a.wcnf
 
 Faults:
   error: line N: NoZero  the clause on line N of FILE has no 0 at its end, and so on
@@ -134,8 +148,9 @@ Faults:
 'wmax solve --help' has more of those of FILE; docs/FAULTS.md and the manual page have all.";
 
 const NOTES: &str = "\
-Statuses: solve 30, 20, 10, 0; check and explain 0, 1; encode 0; each 2 and 3 for faults. 'wmax
+Statuses: solve 30, 20, 10, 0, 1; check and explain 0, 1; encode 0; each 2 and 3 for faults. 'wmax
 COMMAND --help' says what they mean. FILE may be /dev/stdin, or a pipe such as <(zcat a.wcnf.gz).
+WMAX_PROFILE in the environment is the profile of each command that is given no --profile.
 
 Example:
   wmax solve --profile 5 --proof a.lrat a.wcnf > a.result
@@ -153,37 +168,56 @@ fn make_path<'a>(alloc: Global, id: &'a str, help: &'a str) -> Arg<'a> {
         .help(help)
 }
 
+/// The names of the profiles.
+const PROFILES: [&str; 5] = ["1", "2", "3", "4", "5"];
+
+/// What `check` calls each of them in turn.
+pub const ANY: &str = "any";
+
+/// The names that `check` takes.
+const PROFILES_OR_ANY: [&str; 6] = ["1", "2", "3", "4", "5", ANY];
+
 /// Which clauses say 'cheaper': `check` wants the profile that the certificate was made in.
 fn make_profile<'a>(alloc: Global) -> Arg<'a> {
     Arg::new(alloc, "profile")
         .long("profile")
         .value_name("1|2|3|4|5")
-        .value_parser(ValueParser::unsigned(1, 5))
-        .default_value("1")
+        .value_parser(ValueParser::Names(&PROFILES))
+        .hide_possible_values(true)
         .help(
-            "How 'cheaper' is encoded: 1 adds all weights column by column; 2 as 1, and spends no \
-             variable on soft clauses of one literal; 3 adds weights in pairs, light ones first; \
-             4 has sums of weights along a tree that follows the hard clauses; 5, which finds most \
-             optima, looks for cores first, whose lines then begin the certificate, and goes on as \
-             4. check wants the one that the certificate was made in",
+            "How 'cheaper' is encoded; where it is not said, as WMAX_PROFILE says, else 1. 1 adds \
+             all weights column by column; 2 as 1, and spends no variable on soft clauses of one \
+             literal; 3 adds weights in pairs, light ones first; 4 has sums of weights along a \
+             tree that follows the hard clauses; 5, which finds most optima, looks for cores \
+             first, whose lines then begin the certificate, and goes on as 4. check wants the one \
+             that the certificate was made in",
         )
 }
 
-/// The profile with this number, from 1 to 5.
-pub fn pick_profile(number: u64) -> Option<Profile>
-    ensures first { number ≡ 1 → result ≡ Some Profile.One }
-    ensures second { number ≡ 2 → result ≡ Some Profile.Two }
-    ensures third { number ≡ 3 → result ≡ Some Profile.Three }
-    ensures fourth { number ≡ 4 → result ≡ Some Profile.Four }
-    ensures fifth { number ≡ 5 → result ≡ Some Profile.Five }
-    ensures no_other { (number ≡ 0) ⊎ (5 < number) → result ≡ None }
+/// As `make_profile`, or each in turn.
+fn make_profile_or_any<'a>(alloc: Global) -> Arg<'a> {
+    Arg::new(alloc, "profile")
+        .long("profile")
+        .value_name("1|2|3|4|5|any")
+        .value_parser(ValueParser::Names(&PROFILES_OR_ANY))
+        .hide_possible_values(true)
+        .help(
+            "The profile that the certificate was made in; where it is not said, as WMAX_PROFILE \
+             says, else 1. any tries 5, 4, 3, 2, 1 until one says YES; else NO with the fault that \
+             stands furthest down. PROOF is read anew for each, so it is no pipe then",
+        )
+}
+
+/// The profile of this name, a digit from 1 to 5.
+pub fn pick_profile(name: &str) -> Option<Profile>
+    ensures { result ≡ profile_named name.now }
 {
-    match number {
-        1 => Some(Profile::One),
-        2 => Some(Profile::Two),
-        3 => Some(Profile::Three),
-        4 => Some(Profile::Four),
-        5 => Some(Profile::Five),
+    match name.as_bytes() {
+        [b'1'] => Some(Profile::One),
+        [b'2'] => Some(Profile::Two),
+        [b'3'] => Some(Profile::Three),
+        [b'4'] => Some(Profile::Four),
+        [b'5'] => Some(Profile::Five),
         _ => None,
     }
 }
@@ -212,12 +246,23 @@ fn make_solve<'a>(alloc: Global) -> Result<Command<'a>, Error> {
              better one; any other file, and one that cannot be written, is refused, and so are \
              FILE and the certificate",
     );
+    let from = Arg::new(alloc, "from")
+        .long("from")
+        .value_name("RESULT")
+        .help(
+            "The search begins with the solution of this result, as --best kept it or another \
+             solver printed it: its cost, or a cheaper one, is the first o line. A RESULT that is \
+             not right for FILE is refused by the fault that check tells, and one that says \
+             UNKNOWN is passed over. It may be the PATH of --best",
+        );
     let progress = Arg::new(alloc, "progress")
         .long("progress")
         .action(ArgAction::SetTrue)
         .help(
             "Tells on standard error how far the search is: a line at each better solution and at \
-             the end, and at most one a second between. On a terminal one line is written over",
+             the end, and at most one a second between. 'at least L' is what the cores found so \
+             far are worth, not yet proved by a certificate; the gap is what the cost is above it, \
+             of the cost. On a terminal one line is written over",
         );
     let command = Command::new(alloc, "solve")
         .about("Finds a solution of least cost, and a certificate that nothing is cheaper")
@@ -225,6 +270,7 @@ fn make_solve<'a>(alloc: Global) -> Result<Command<'a>, Error> {
         .arg(conflicts)?
         .arg(proof)?
         .arg(best)?
+        .arg(from)?
         .arg(progress)?
         .arg(make_profile(alloc))?
         .arg(make_path(alloc, "FILE", "The instance, a WCNF text"))?;
@@ -246,21 +292,24 @@ fn make_check<'a>(alloc: Global) -> Result<Command<'a>, Error> {
             "The result, as a solver printed it: o, s and v lines",
         ))?
         .arg(make_path(alloc, "PROOF", "The certificate, LRAT as text"))?
-        .arg(make_profile(alloc))?;
+        .arg(make_profile_or_any(alloc))?;
     Ok(command)
 }
 
 /// `wmax explain`.
 fn make_explain<'a>(alloc: Global) -> Result<Command<'a>, Error> {
     let command = Command::new(alloc, "explain")
-        .about("Prints what a result costs, what is given up for it, and what it breaks")
+        .about(
+            "Prints what a result costs, what is given up for it, and what it breaks; without a \
+             result, how much there is of the instance",
+        )
         .after_help(EXPLAIN_NOTES)
         .arg(make_path(alloc, "FILE", "The instance, a WCNF text"))?
-        .arg(make_path(
-            alloc,
-            "RESULT",
-            "The result, as a solver printed it: o, s and v lines",
-        ))?;
+        .arg(
+            Arg::new(alloc, "RESULT")
+                .action(ArgAction::Set)
+                .help("The result, as a solver printed it: o, s and v lines"),
+        )?;
     Ok(command)
 }
 

@@ -1,5 +1,7 @@
 // The run: a text in, a result and its certificate out.
-ghost use Rattle.std.specs.Prelude.{◌≡◌, IfOk, IfErr};
+ghost use Rattle.std.specs.Prelude.{◌≡◌, ◌<◌, ◌^◌, IfOk, IfErr, IsTrue};
+ghost use Rattle.improve.specs.Improving.{Improves};
+ghost use Rattle.improve.specs.Standing.{AreFeasible};
 ghost use Rattle.report.specs.Running.{EndsAs, Leaves, Searches, outcome_of};
 
 use crate::answering::write_answer;
@@ -11,7 +13,8 @@ use adder::cells::Profile;
 use cdcl::budget::Budget;
 use cnf::types::Instance;
 use improve::found::{Found, ImproveFault};
-use improve::search::improve_watched;
+use improve::progress::Progress;
+use improve::search::{improve_from, improve_watched};
 use improve::watch::Silent;
 use std::alloc::Global;
 use std::io::{Read, Write};
@@ -110,10 +113,37 @@ pub fn run_watched<R: Read, O: Write, P: Write, K: Keep>(
         budget.new) }
     ensures same_limit { budget.new.limit ≡ budget.old.limit }
 {
+    run_from(alloc, input, None, budget, out, proof, profile, keeper)
+}
+
+/// As `run_watched`, where the search begins with these bits, if they are a solution: then its
+/// first `o` line tells what they cost, or less.
+///
+/// # Errors
+///
+/// Those of `run`.
+pub fn run_from<R: Read, O: Write, P: Write, K: Keep>(
+    alloc: Global,
+    input: &mut R,
+    start: Option<Vec<bool>>,
+    budget: &mut Budget,
+    out: &mut O,
+    proof: &mut P,
+    profile: Profile,
+    keeper: &mut K,
+) -> Result<Status, RunFault>
+    ensures ok { IfOk result (λ status. EndsAs profile (R.remaining input.old)
+        (O.contents out.old) (O.contents out.new) (P.contents proof.old) (P.contents proof.new)
+        status budget.old budget.new) }
+    ensures fault { IfErr result (λ fault. Leaves profile fault (R.remaining input.old)
+        (O.contents out.old) (O.contents out.new) (P.contents proof.old) (P.contents proof.new)
+        budget.new) }
+    ensures same_limit { budget.new.limit ≡ budget.old.limit }
+{
     let instance = read_from(alloc, input)?;
     instance.limits();
-    let found = find_best(alloc, &instance, budget, out, profile, keeper)?;
-    keeper.searched();
+    let found = find_best(alloc, &instance, start, budget, out, profile, keeper)?;
+    keeper.searched(&found);
     write_answer(&found, out, proof)?;
     keeper.ended(&instance, &found);
     Ok(Status::of(found))
@@ -123,6 +153,7 @@ pub fn run_watched<R: Read, O: Write, P: Write, K: Keep>(
 fn find_best<O: Write, K: Keep>(
     alloc: Global,
     instance: &Instance,
+    start: Option<Vec<bool>>,
     budget: &mut Budget,
     out: &mut O,
     profile: Profile,
@@ -133,11 +164,45 @@ fn find_best<O: Write, K: Keep>(
 {
     instance.limits();
     let mut told = Told::new(alloc, out);
-    let searched = improve_watched(instance, budget, &mut told, profile, keeper);
+    let searched = search(instance, start, budget, &mut told, profile, keeper);
     let Finished { writer, fault } = told.finish();
     // Nothing is done here: the proof learns from this use what the writer holds.
     let _ = &*writer;
     conclude(searched, fault)
+}
+
+/// Looks for an optimum, from the start if that is a solution.
+fn search<T: Progress, K: Keep>(
+    instance: &Instance,
+    start: Option<Vec<bool>>,
+    budget: &mut Budget,
+    progress: &mut T,
+    profile: Profile,
+    keeper: &mut K,
+) -> Result<Found, ImproveFault>
+    requires { (T.state progress.old).failures < 2 ^ 62 }
+    ensures follows { (first : T) → T.follows first progress.old → T.follows first progress.new }
+    ensures improves { Improves profile instance.now result
+        (T.state progress.old) (T.state progress.new)
+        budget.old budget.new }
+{
+    match start {
+        Some(bits) => {
+            if is_solution(instance, &bits) {
+                improve_from(instance, bits, budget, progress, profile, keeper)
+            } else {
+                improve_watched(instance, budget, progress, profile, keeper)
+            }
+        }
+        None => improve_watched(instance, budget, progress, profile, keeper),
+    }
+}
+
+/// Whether there is a bit for each variable, and all hard clauses hold.
+fn is_solution(instance: &Instance, bits: &[bool]) -> bool
+    ensures { IsTrue result → AreFeasible instance.now bits.now }
+{
+    bits.len() == instance.vars() as usize && instance.feasible(bits)
 }
 
 /// The outcome of a search, where this is why a telling failed.

@@ -64,9 +64,9 @@ pub fn open_empty<R: Files>(rt: &R, path: &str, others: &[FileId]) -> Option<R::
 ///
 /// # Errors
 ///
-/// `ProofOutput` where it cannot be opened, looked at or emptied, or is the instance.
-pub fn open_proof<R: Files>(rt: &R, path: &str, text: FileId) -> Result<R::File, RunFault> {
-    match open_empty(rt, path, &[text]) {
+/// `ProofOutput` where it cannot be opened, looked at or emptied, or is one of those that are read.
+pub fn open_proof<R: Files>(rt: &R, path: &str, read: [FileId; 2]) -> Result<R::File, RunFault> {
+    match open_empty(rt, path, &read) {
         Some(file) => Ok(file),
         None => Err(RunFault::ProofOutput),
     }

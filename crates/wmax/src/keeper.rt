@@ -1,8 +1,10 @@
 //! The file of `--best`: at each moment a whole result text. A text is written beside it and then
 //! renamed over it, so that whoever kills the program finds the text before or the one after. A
 //! solution that an earlier run left there stays until this run has a better one.
+ghost use Rattle.std.specs.Prelude.{IfOk};
 ghost use Rattle.improve.specs.Improving.{IsSolution};
 ghost use Rattle.report.specs.Best.{IsFound};
+ghost use Rattle.wmax.specs.Keeper.{IsLeft};
 
 use crate::file_id::{FileId, is_taken, open_empty};
 use crate::standard_error::Messages;
@@ -66,30 +68,18 @@ impl<'a> BestPaths<'a> {
     }
 }
 
-/// What an earlier run left, as far as this one keeps it.
-#[derive(Clone, Copy, Drop)]
-pub enum Earlier {
-    /// Nothing that would be lost.
-    Nothing,
-    /// A solution of this cost.
-    Cost(u64),
-    /// What is not to be lost, and is no solution of this instance at the cost that it tells.
-    Other,
-}
-
-/// What an earlier run left, by the text of the instance. Nothing is lost with a result that says
-/// `UNKNOWN`. One that says `UNSATISFIABLE` has no bits that could be judged.
+/// Judges what an earlier run left, by the text of the instance. What is no result is wrong.
 ///
 /// # Errors
 ///
 /// `Read` with the first fault of the instance; `Memory`.
-pub fn judge_earlier(alloc: Global, text: &[u8], left: &[u8]) -> Result<Earlier, RunFault> {
+pub fn judge_left(alloc: Global, text: &[u8], left: &[u8]) -> Result<Judgement, RunFault>
+    ensures { IfOk result (λ judgement. IsLeft text.now left.now judgement) }
+{
     match judge(alloc, text, left) {
-        Ok(Judgement::Unknown) => Ok(Earlier::Nothing),
-        Ok(Judgement::Right(cost)) => Ok(Earlier::Cost(cost)),
-        Ok(Judgement::Wrong | Judgement::Unsatisfiable) => Ok(Earlier::Other),
-        Err(ExplainFault::Result(_)) => Ok(Earlier::Other),
-        Err(ExplainFault::Text(fault)) => Err(RunFault::Read(fault)),
+        Ok(judgement) => Ok(judgement),
+        Err(ExplainFault::Result(_)) => Ok(Judgement::Wrong),
+        Err(ExplainFault::Text(fault)) => Err(fault.into()),
         Err(ExplainFault::Memory) => Err(RunFault::Memory),
         Err(ExplainFault::Output) => Err(RunFault::Output),
     }

@@ -30,6 +30,15 @@ impl<'a, 'b, R: Files + Clock + AllocGlobal, E: Write> cdcl::watch::Watch
     }
 }
 
+impl<'a, 'b, R: Files + Clock + AllocGlobal, E: Write> improve_cores::watch::Watch
+    for Onlooker<'a, 'b, R, E> {
+    fn raised(&mut self, lower: u64) {
+        if let Some(meter) = &mut self.meter {
+            meter.raised(lower);
+        }
+    }
+}
+
 impl<'a, 'b, R: Files + Clock + AllocGlobal, E: Write> Watch for Onlooker<'a, 'b, R, E> {
     fn better(&mut self, instance: &Instance, cost: u64, bits: &[bool]) {
         self.keeper.better(instance, cost, bits, self.messages);
@@ -41,14 +50,18 @@ impl<'a, 'b, R: Files + Clock + AllocGlobal, E: Write> Watch for Onlooker<'a, 'b
 }
 
 impl<'a, 'b, R: Files + Clock + AllocGlobal, E: Write> Keep for Onlooker<'a, 'b, R, E> {
-    fn searched(&mut self) {
+    fn searched(&mut self, found: &Found) {
         if let Some(meter) = &mut self.meter {
-            meter.searched(self.messages);
+            let is_proved = matches!(found, Found::Optimum { .. } | Found::Unsat { .. });
+            meter.searched(is_proved, self.messages);
         }
         self.messages.give_way();
     }
 
     fn ended(&mut self, instance: &Instance, found: &Found) {
+        if instance.hard().len() == 0 && instance.soft().is_empty() {
+            let _ = writeln!(self.messages.below(), "warning: no clause was read");
+        }
         self.keeper.ended(instance, found, self.messages);
     }
 }

@@ -1,5 +1,5 @@
 //! The lines of `--progress`: how far a run is, once a second, at each better solution and at the
-//! end of the search.
+//! end of the search, and that the certificate is being written.
 use crate::standard_error::Messages;
 use cdcl::watch::SearchReport;
 use std::alloc::AllocError;
@@ -36,11 +36,15 @@ pub struct Meter<'a, R: Clock> {
     solutions: u64,
     /// What the best of them costs, below 2^62; none where there is none.
     cost: Option<u64>,
+    /// What the cores found so far are worth together, below 2^62; none where none was found.
+    lower: Option<u64>,
+    /// Whether a certificate goes to a file.
+    has_proof: bool,
 }
 
 impl<'a, R: Clock + AllocGlobal> Meter<'a, R> {
     /// A run begins; none where the clock cannot be read.
-    pub fn start(rt: &'a R, limit: u64) -> Option<Self> {
+    pub fn start(rt: &'a R, limit: u64, has_proof: bool) -> Option<Self> {
         let Ok(start) = Instant::now(rt) else {
             return None;
         };
@@ -60,6 +64,8 @@ impl<'a, R: Clock + AllocGlobal> Meter<'a, R> {
             propagations: 0,
             solutions: 0,
             cost: None,
+            lower: None,
+            has_proof,
         })
     }
 
@@ -91,13 +97,36 @@ impl<'a, R: Clock + AllocGlobal> Meter<'a, R> {
         }
     }
 
-    /// The search has ended: it tells how far it came, where it has gone on since the last line.
-    pub fn searched<E: Write>(&mut self, messages: &mut Messages<'_, E>) {
-        if self.report.conflicts == self.told_conflicts {
+    /// Takes note of what the cores found so far are worth together.
+    pub fn raised(&mut self, lower: u64) {
+        self.lower = Some(lower);
+    }
+
+    /// The search has ended: it tells how far it came, where it has gone on since the last line,
+    /// and that what it has proved is being written.
+    pub fn searched<E: Write>(&mut self, is_proved: bool, messages: &mut Messages<'_, E>) {
+        let Ok(now) = Instant::now(self.rt) else {
             return;
-        }
-        if let Ok(now) = Instant::now(self.rt) {
+        };
+        if self.report.conflicts != self.told_conflicts {
             self.tell(now, messages);
+        }
+        if is_proved && self.has_proof {
+            self.tell_writing(now, messages);
+        }
+    }
+
+    /// Tells that the certificate is being written; where memory for the line is refused, nothing.
+    fn tell_writing<E: Write>(&self, now: Instant, messages: &mut Messages<'_, E>) {
+        let age = now.duration_since(self.start);
+        let (start, end) = messages.edges();
+        let line = format!(in self.rt.alloc();
+            "{start}{}.{} s, writing the certificate{end}",
+            age.as_secs(),
+            age.subsec_millis() / 100
+        );
+        if let Ok(line) = line {
+            messages.show(line.as_str());
         }
     }
 
@@ -127,11 +156,18 @@ impl<'a, R: Clock + AllocGlobal> Meter<'a, R> {
         )
     }
 
-    /// What the best solution costs.
+    /// What the best solution costs, and what is known to be needed.
     fn spell_cost(&self) -> Result<String, AllocError> {
-        match self.cost {
-            Some(cost) => format!(in self.rt.alloc(); "cost {cost}"),
-            None => format!(in self.rt.alloc(); "no solution yet"),
+        let alloc = self.rt.alloc();
+        match (self.cost, self.lower) {
+            (None, None) => format!(in alloc; "no solution yet"),
+            (None, Some(lower)) => format!(in alloc; "no solution yet, at least {lower}"),
+            (Some(cost), None) => format!(in alloc; "cost {cost}"),
+            (Some(cost), Some(lower)) => {
+                let gap = gap_of(cost, lower);
+                format!(in alloc;
+                    "cost {cost}, at least {lower}, gap {}.{:02} %", gap / 100, gap % 100)
+            }
         }
     }
 
@@ -149,6 +185,13 @@ impl<'a, R: Clock + AllocGlobal> Meter<'a, R> {
         let part = spent.saturating_mul(10_000) / self.limit.max(1);
         format!(in self.rt.alloc(); "{}.{:02} % spent", part / 100, part % 100)
     }
+}
+
+/// By how much the cost is above what is needed at least, in hundredths of a percent of the cost.
+fn gap_of(cost: u64, lower: u64) -> u64 {
+    let above = u128::from(cost.saturating_sub(lower));
+    let gap = above.saturating_mul(10_000) / u128::from(cost.max(1));
+    gap.min(10_000) as u64
 }
 
 /// How many a second: none in the first thousandth of one. A product past 2^64 is cut off, which

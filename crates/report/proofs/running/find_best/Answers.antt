@@ -10,27 +10,27 @@ returns g c =
     let p = c.args.instance.now in
     let n = c.new-told.ensures in
     let t =
-    c.improve_watched-searched.ensures.follows c.new-told.result
+    c.search-searched.ensures.follows c.new-told.result
     (refl, tells_none _ _ _ _ _ n.none) in
     let f = c.finish-writer.ensures in
     -- it is still the caller's writer
     let name = ap (λ w. w.ghost_name) f.writer ∙ t.0 ∙ n.writer in
-    let result = c.conclude.ensures ∙ ap (outcome_of c.improve_watched-searched.result) f.fault in
+    let result = c.conclude.ensures ∙ ap (outcome_of c.search-searched.result) f.fault in
     let s =
     search_ended c.args.profile p c.limits.ensures _ _ c.args.budget.now
-    c.improve_watched-searched.new.budget _ _ _ n.none.0 n.none.1 t.1
-    c.improve_watched-searched.result c.improve_watched-searched.ensures.improves in
+    c.search-searched.new.budget _ _ _ n.none.0 n.none.1 t.1
+    c.search-searched.result c.search-searched.ensures.improves in
     let first =
     subst (λ x. Searches c.args.profile p c.conclude.result (held x)
-    (held c.improve_watched-searched.new.progress.writer.now) c.args.budget.now
-    c.improve_watched-searched.new.budget) n.holds
+    (held c.search-searched.new.progress.writer.now) c.args.budget.now
+    c.search-searched.new.budget) n.holds
     (subst (λ x. Searches c.args.profile p x (held c.new-told.result.writer.now)
-    (held c.improve_watched-searched.new.progress.writer.now) c.args.budget.now
-    c.improve_watched-searched.new.budget) (sym result) s) in
+    (held c.search-searched.new.progress.writer.now) c.args.budget.now
+    c.search-searched.new.budget) (sym result) s) in
     let last : (w : g.row.O.Denot) → w ≡ c.finish-writer.result.writer.now
     → Searches c.args.profile p c.conclude.result (held c.args.out.now) (held w) c.args.budget.now
-    c.improve_watched-searched.new.budget =
+    c.search-searched.new.budget =
     λ w e. subst (λ x. Searches c.args.profile p c.conclude.result (held c.args.out.now)
-    (held x) c.args.budget.now c.improve_watched-searched.new.budget)
+    (held x) c.args.budget.now c.search-searched.new.budget)
     (sym (e ∙ ap (λ x. x.now) f.writer)) first in
     last _ (search rules)

@@ -1,7 +1,7 @@
 -- The ends of a run, by what was read, searched and written.
 use Rattle.std.proofs.lemmas.Result.{err_from_is_err_and}
 use Rattle.report.proofs.Ends.{proof_room, ends, answer_leaves, search_leaves}
-use Rattle.report.proofs.running.run_watched.Goals as goal
+use Rattle.report.proofs.running.run_from.Goals as goal
 
 pub returns-in_err-found-clause-fault : goal.returns-in_err-found-clause-fault
 returns-in_err-found-clause-fault g c =

@@ -1,0 +1,10 @@
+-- The word has a byte.
+use Rattle.std.proofs.Common.{sym, ◌∙◌}
+use Rattle.explain.proofs.Words.{word_with}
+use Rattle.explain.proofs.Sheets.{more}
+use Rattle.explain.proofs.mending.put_word.Goals as goal
+
+pub returns : goal.returns
+returns g c =
+    rw (word_with c.args.word.now (sym c.is_empty.ensures ∙ c.if-is_empty.false))
+    (more c.put.ensures (more c.put_cut.ensures c.put-2.ensures))

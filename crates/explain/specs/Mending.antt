@@ -1,0 +1,42 @@
+-- What is shown of a faulty text.
+use Rattle.std.specs.Prelude.{ℕ, List, [], ◌∷◌, ◌++◌, length, map, take, Option, nat_lt, ◌==◌}
+use Rattle.std.specs.Prelude.{if◌then◌else◌}
+use Rattle.std.specs.Io.KnownBytes.{Appends}
+use lib.Chars.{codes}
+use Rattle.text.specs.Text.{numbered_text}
+use Rattle.text.specs.Writing.{AppendsPart}
+use Rattle.explain.specs.Explanation.{shown}
+use Rattle.explain.specs.declared.mending.TheConstants.{MOST_SHOWN}
+
+-- the line of this number; nothing where there is none
+abbrev pub line_in : List (ℕ × List ℕ) → ℕ → List ℕ
+line_in [] n = []
+line_in (l ∷ ls) n = if l.0 == n then l.1 else line_in ls n
+
+abbrev pub line_of : List ℕ → ℕ → List ℕ
+line_of text n = line_in (numbered_text text) n
+
+-- bytes as they are shown, and cut off at a limit
+abbrev pub cut_text : List ℕ → List ℕ
+cut_text bytes =
+    if nat_lt MOST_SHOWN (length bytes) then map shown (take MOST_SHOWN bytes) ++ codes " .."
+    else map shown bytes
+
+-- how the line is shown
+abbrev pub shown_line : List ℕ → List ℕ
+shown_line line = codes "  " ++ (cut_text line ++ codes "\n")
+
+-- how a word of it is shown
+abbrev pub word_line : List ℕ → List ℕ
+word_line [] = []
+word_line (b ∷ bs) = codes "  here: " ++ (cut_text (b ∷ bs) ++ codes "\n")
+
+-- the line of this number, and then some advice
+pub record Mends (text : List ℕ) (n : ℕ) (out out' : Option (List ℕ)) : Type 0 where
+  pub advice : List ℕ
+  pub appended : Appends out out' (shown_line (line_of text n) ++ advice)
+
+-- a beginning of that
+pub record BreaksMending (text : List ℕ) (n : ℕ) (out out' : Option (List ℕ)) : Type 0 where
+  pub advice : List ℕ
+  pub part : AppendsPart out out' (shown_line (line_of text n) ++ advice)

@@ -1,0 +1,89 @@
+//! What there is of an instance, for a person who has no result of it: how many variables and
+//! clauses, and the sum of the weights.
+ghost use Rattle.std.specs.Prelude.{◌≡◌, sum_by, OnOk, IfErr, OnErr};
+ghost use Rattle.std.specs.Io.KnownBytes.{Appends};
+ghost use Rattle.text.specs.Writing.{AppendsPart};
+ghost use Rattle.explain.specs.Sheets.{Puts};
+ghost use Rattle.explain.specs.Summary.{Summarises, LeavesSummary, counts_text, summary_text};
+
+use crate::explaining::{ExplainFault, read_text};
+use crate::sheet::Sheet;
+use cnf::types::Instance;
+use std::alloc::Global;
+use std::io::Write;
+use text::output::WriteFault;
+
+/// Writes how many variables, hard and soft clauses there are, and the sum of the weights: `text`
+/// is the instance in the WCNF of the MaxSAT Evaluation 2022 or of the years before.
+///
+/// # Errors
+///
+/// `Text`, `Memory` and `Output`, as `write_explanation`. Nothing is written before the first two.
+pub fn write_summary<W: Write>(
+    alloc: Global,
+    text: &[u8],
+    writer: &mut W,
+) -> Result<(), ExplainFault>
+    ensures ok { OnOk result
+        (Summarises text.now (W.contents writer.old) (W.contents writer.new)) }
+    ensures fault { IfErr result (λ fault. LeavesSummary fault text.now
+        (W.contents writer.old) (W.contents writer.new)) }
+{
+    let instance = read_text(alloc, text)?;
+    match write_counts(&instance, writer) {
+        Ok(()) => Ok(()),
+        Err(_) => Err(ExplainFault::Output),
+    }
+}
+
+/// Writes what there is of an instance.
+fn write_counts<W: Write>(instance: &Instance, writer: &mut W) -> Result<(), WriteFault>
+    ensures ok { OnOk result (Appends (W.contents writer.old) (W.contents writer.new)
+        (summary_text instance.now)) }
+    ensures fault { OnErr result (AppendsPart (W.contents writer.old) (W.contents writer.new)
+        (summary_text instance.now)) }
+{
+    let hard = instance.hard().len();
+    let soft = instance.soft().len();
+    let mut sheet = Sheet::new();
+    put_counts(
+        &mut sheet,
+        writer,
+        instance.vars(),
+        hard,
+        soft,
+        sum_weights(instance),
+    );
+    sheet.finish(writer)
+}
+
+/// The sum of the weights.
+fn sum_weights(instance: &Instance) -> u64
+    ensures { result ≡ sum_by (λ s. s.weight) instance.now.soft }
+{
+    instance.limits();
+    instance.soft().iter().map(|soft| soft.weight()).sum()
+}
+
+/// Each number, on a line of its own.
+fn put_counts<W: Write>(
+    sheet: &mut Sheet,
+    writer: &mut W,
+    vars: u32,
+    hard: usize,
+    soft: usize,
+    weights: u64,
+)
+    ensures { Puts (W.contents writer.old) sheet.old (counts_text vars hard soft weights)
+        (W.contents writer.new) sheet.new }
+{
+    sheet.put(writer, b"variables: ");
+    sheet.put_number(writer, vars as u64);
+    sheet.put(writer, b"\nhard clauses: ");
+    sheet.put_number(writer, hard as u64);
+    sheet.put(writer, b"\nsoft clauses: ");
+    sheet.put_number(writer, soft as u64);
+    sheet.put(writer, b"\nsum of weights: ");
+    sheet.put_number(writer, weights);
+    sheet.put(writer, b"\n");
+}

@@ -1,0 +1,89 @@
+//! `wmax encode`: the formula that a certificate refutes.
+use crate::files::{UNREADABLE, read_file};
+use crate::profiles::{choose_profile, refuse_profile};
+use crate::standard_error::Messages;
+use adder::cells::Profile;
+use bound::encoding::{WatchedWriter, write_formula};
+use bound::formulas::write_dimacs;
+use clap::ArgMatches;
+use lrat_check::core_formula::{Refuted, core_formula};
+use report::fault::RunFault;
+use report::options::MOST_COST;
+use report::printing::deliver;
+use std::fs::File;
+use std::io::{self, Read, Write};
+use std::mem::ManuallyDrop;
+use std::rt::{Env, Files};
+use wcnf::reading::read_from;
+
+/// What is said of a `--proof` in another profile.
+const NO_CORES: &str = "error: encode takes --proof with --profile 5 alone";
+
+/// The formula for 'cost below COST', or with `--proof` that of the core lines of the certificate,
+/// which is opened after FILE and before any of it is read.
+pub fn encode<R: Files + AllocGlobal + Print + Env, E: Write>(
+    rt: &R,
+    messages: &mut Messages<'_, E>,
+    matches: &ArgMatches<'_>,
+) -> Result<u8, RunFault> {
+    let (Some(text), Some(cost)) = (matches.get_str("FILE"), matches.get_one::<u64>("COST")) else {
+        return Err(UNREADABLE);
+    };
+    let profile = match choose_profile(rt, matches) {
+        Ok(profile) => profile,
+        Err(why) => return refuse_profile(messages, why),
+    };
+    let Some(proof) = matches.get_str("proof") else {
+        let mut text = File::open(rt, text).map_err(|_| UNREADABLE)?;
+        return encode_bound(rt, &mut text, cost, profile);
+    };
+    if !matches!(profile, Profile::Five) {
+        let _ = writeln!(messages.below(), "{NO_CORES}");
+        return Ok(2);
+    }
+    let mut text = File::open(rt, text).map_err(|_| UNREADABLE)?;
+    let mut proof = File::open(rt, proof).map_err(|_| UNREADABLE)?;
+    encode_refuted(rt, messages, &mut text, &mut proof, cost)
+}
+
+/// Prints the formula for 'cost below COST'. The process ends after it, so the clauses of the text
+/// are not given back one by one.
+fn encode_bound<R: AllocGlobal + Print, T: Read>(
+    rt: &R,
+    text: &mut T,
+    cost: u64,
+    profile: Profile,
+) -> Result<u8, RunFault> {
+    let instance = ManuallyDrop::new(read_from(rt.alloc(), text)?);
+    let mut out = io::writer(rt);
+    let mut watched = WatchedWriter::new(&mut out);
+    // `clap` lets no greater cost pass; said again, since nothing is known of that here.
+    write_formula(&instance, cost.min(MOST_COST), profile, &mut watched)?;
+    deliver(Ok(()), &mut watched)?;
+    Ok(0)
+}
+
+/// Prints the formula that the certificate refutes for COST. A fault of its core lines is told on
+/// standard error, with its line.
+fn encode_refuted<R: AllocGlobal + Print, E: Write, T: Read, P: Read>(
+    rt: &R,
+    messages: &mut Messages<'_, E>,
+    text: &mut T,
+    proof: &mut P,
+    cost: u64,
+) -> Result<u8, RunFault> {
+    let instance = ManuallyDrop::new(read_from(rt.alloc(), text)?);
+    let proof = read_file(rt, proof)?;
+    match core_formula(&instance, cost.min(MOST_COST), &proof) {
+        Ok(Refuted::Formula(formula)) => {
+            let mut out = io::writer(rt);
+            deliver(write_dimacs(&formula, &mut out), &mut out)?;
+            Ok(0)
+        }
+        Ok(Refuted::Nothing(cause, line)) => {
+            let _ = writeln!(messages.below(), "error: line {line}: {cause:?}");
+            Ok(2)
+        }
+        Err(_) => Err(RunFault::Memory),
+    }
+}

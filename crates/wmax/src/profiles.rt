@@ -1,0 +1,65 @@
+//! Which profile a command takes: the one of `--profile`, else that of the environment, else the
+//! first.
+use crate::standard_error::Messages;
+use adder::cells::Profile;
+use clap::ArgMatches;
+use report::fault::RunFault;
+use report::options::pick_profile;
+use std::env::{self, VarError};
+use std::io::Write;
+use std::rt::Env;
+
+/// The variable of the environment that names the profile where no `--profile` does.
+const VARIABLE: &str = "WMAX_PROFILE";
+
+/// Why there is no profile.
+#[derive(Clone, Copy, Drop)]
+pub enum NoProfile {
+    /// What is named is none.
+    Named,
+    /// Memory was refused.
+    Memory,
+}
+
+/// The profile that `--profile` names, else that of the environment.
+///
+/// # Errors
+///
+/// `Named` where that of the environment is none; `Memory`.
+pub fn choose_profile<R: Env + AllocGlobal>(
+    rt: &R,
+    matches: &ArgMatches<'_>,
+) -> Result<Profile, NoProfile> {
+    match matches.get_str("profile") {
+        Some(name) => pick_profile(name).ok_or(NoProfile::Named),
+        None => usual_profile(rt),
+    }
+}
+
+/// The profile of the environment; the first where the variable is not set, or empty.
+fn usual_profile<R: Env + AllocGlobal>(rt: &R) -> Result<Profile, NoProfile> {
+    match env::var(rt, VARIABLE) {
+        Ok(name) if name.is_empty() => Ok(Profile::One),
+        Ok(name) => pick_profile(name.as_str()).ok_or(NoProfile::Named),
+        Err(VarError::NotPresent) => Ok(Profile::One),
+        Err(VarError::NotUnicode) => Err(NoProfile::Named),
+        Err(VarError::OutOfMemory) => Err(NoProfile::Memory),
+    }
+}
+
+/// Tells why there is no profile; the exit status.
+pub fn refuse_profile<E: Write>(
+    messages: &mut Messages<'_, E>,
+    why: NoProfile,
+) -> Result<u8, RunFault> {
+    match why {
+        NoProfile::Named => {
+            let _ = writeln!(
+                messages.below(),
+                "error: {VARIABLE} names no profile from 1 to 5"
+            );
+            Ok(2)
+        }
+        NoProfile::Memory => Err(RunFault::Memory),
+    }
+}
