@@ -1,7 +1,7 @@
 -- A reader that is read no further than the verdict takes.
 use Rattle.std.proofs.Common.{◌≡◌, ℕ, ◌+◌, ◌≤◌, Bool, true, false, List, [], ◌∷◌}
 use Rattle.std.proofs.Common.{◌++◌, length, inl, inr, ◌⊎◌, refl, sym, ◌∙◌, ap, subst, arith}
-use Rattle.std.proofs.Common.{append_assoc, append-nil, take}
+use Rattle.std.proofs.Common.{append_assoc, append-nil}
 use Rattle.std.specs.Prelude.{◌^◌, ◌==◌, Option, if◌then◌else◌}
 use Rattle.std.proofs.lemmas.Bool.{false≢true}
 use Rattle.std.proofs.lemmas.List.Elements.{All-head, All-tail}
@@ -104,14 +104,6 @@ two_cuts [] b c d e = inl (c, e, refl)
 two_cuts (x ∷ a) b [] d e = inr (x ∷ a, sym e, refl)
 two_cuts (x ∷ a) b (y ∷ c) d e =
     cuts_more x y a b c d (ap first e) (two_cuts a b c d (ap others e))
-
--- at the end nothing is read
-pub read_none : (o m n : Option (List ℕ)) (fed buf : List ℕ) (k : ℕ) → Consumes o m fed
-    → Consumes m n (take k buf) → k ≡ 0 → Consumes o n fed
-read_none o m n fed buf k p q e =
-    let none : take k buf ≡ [] = ap (λ j. take j buf) e in
-    subst (Consumes o n) (append-nil fed)
-    (read_more o m n fed [] p (subst (Consumes m n) none q))
 
 -- parts that leave the verdict open
 over_few : (rest piece : List ℕ) → IsNoFeed rest → length piece ≤ 2 ^ 16

@@ -4,10 +4,11 @@ use Rattle.std.proofs.Common.{append-nil, arith, inl, inr, length-take, refl, su
 use Rattle.std.specs.Prelude.{None}
 use Rattle.std.specs.Io.KnownBytes.{IsAtEnd}
 use Rattle.std.proofs.lemmas.Result.{IfOk-weaker}
+use Rattle.wcnf.proofs.Laws.{all_read}
 use Rattle.lrat_check.specs.Pieces.{HasJudged}
 use Rattle.lrat_check.specs.Verdict.{proof_verdict}
 use Rattle.lrat_check.proofs.PieceLaws.{over_all, over_end, read_more}
-use Rattle.lrat_check.proofs.Stops.{piece_on, read_none}
+use Rattle.lrat_check.proofs.Stops.{piece_on}
 use Rattle.lrat_check.proofs.streams.judge_stream.Goals as goal
 
 pub pieces-init : goal.pieces-init
@@ -44,7 +45,7 @@ returns-in-Ok-eq0 g c =
     IfOk-weaker c.conclude.result _ _
     (λ v h. λ formula before s. record {
       bytes = i.0;
-      read = read_none (g.R.Read.remaining c.args.proof.now) (g.R.Read.remaining c.pieces.proof)
+      read = all_read (g.R.Read.remaining c.args.proof.now) (g.R.Read.remaining c.pieces.proof)
           (g.R.Read.remaining c.read.new.self) i.0 _ c.in-Ok-eq0.field-0 i.2
           c.in-Ok-eq0.ensures.bytes.0 zero;
       in_time = (i.1 formula before s).1;
