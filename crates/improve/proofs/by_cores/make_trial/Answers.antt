@@ -23,8 +23,8 @@ returns-in-Ok-end-clause-trial g c =
       counted = c.clauses-clauses.ensures
           ∙ ap (λ (f : Cnf). length f.clauses) c.in-Ok.ensures.formula;
       steps = subst (λ (f : Cnf). AreStepsOver f.clauses log) same c.into_log-log.ensures.steps;
-      end_is = subst (λ (f : Cnf).
-          IsEndOf (record { formula = f; lines = log }) c.in-Ok-end.end) same
+      end_is = subst
+          (λ (f : Cnf). IsEndOf (record { formula = f; lines = log }) c.in-Ok-end.end) same
           (subst (λ (ls : List LogLine).
           IsEndOf (record { formula = c.search-end.new.self.formula; lines = ls }) c.in-Ok-end.end)
           (sym c.into_log-log.ensures.log) c.in-Ok-end.ensures.end);
