@@ -1,11 +1,9 @@
 -- A refutation by cores: it shows an optimum, or it is open.
-use Rattle.std.proofs.Common.{◌≡◌, ℕ, ◌+◌, ◌<◌, ◌≤◌, ◌^◌, List}
-use Rattle.std.proofs.Common.{[], ◌∷◌, Bool, refl, sym, ◌∙◌, subst}
+use Rattle.std.proofs.Common.{◌≡◌, ℕ, ◌<◌, ◌≤◌, List}
+use Rattle.std.proofs.Common.{[], ◌∷◌, Bool, refl, ◌∙◌, subst}
 use Rattle.std.proofs.Common.{ap, arith, length, Ok}
-use Rattle.cnf.specs.Literal.{Literal, Assignment}
-use Rattle.cnf.specs.Bits.{Extends}
 use Rattle.cnf.specs.Formula.{Cnf}
-use Rattle.cnf.specs.Problem.{Problem, IsOptimal}
+use Rattle.cnf.specs.Problem.{Problem}
 use Rattle.cnf.specs.Instance.{IsInstance}
 use Rattle.cnf.proofs.Laws.{certificate_sound}
 use Rattle.lrat_log.specs.Log.{LogLine, numbered_lines}

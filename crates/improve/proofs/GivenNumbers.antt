@@ -14,7 +14,7 @@ use Rattle.lrat_log.specs.declared.lines.Name.{Name}
 use Rattle.lrat_log.specs.declared.lines.Name.TheVariants.{Formula}
 use Rattle.lrat_log.specs.Log.{LogLine, Given, given_at, is_learned, clauses_in}
 use Rattle.lrat_log.specs.Steps.{IsLogOver, LearnsNew, is_later, learned_count, given_of}
-use Rattle.lrat_log.proofs.Laws.{given_on, clauses_given, given_at-given_of}
+use Rattle.lrat_log.proofs.Laws.{clauses_given, given_at-given_of}
 use Rattle.cdcl.specs.Solving.{given_to, GivesMore, lines_since}
 use Rattle.improve_cores.proofs.Laws.{given_pushed}
 use Rattle.improve.specs.Bounds.{LogSolver, IsUsable, GivesAll}

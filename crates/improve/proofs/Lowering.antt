@@ -1,28 +1,17 @@
 -- From one bound to the next: the cost in hand is one more that was told.
-use Rattle.std.proofs.Common.{◌≡◌, ℕ, ◌+◌, ◌<◌, ◌≤◌, ◌^◌, Bool, true, false, List, [], ◌∷◌, ◌++◌}
-use Rattle.std.proofs.Common.{Result, Ok, Err, Some, length, append_assoc, length-append, sym, ◌∙◌}
-use Rattle.std.proofs.Common.{ap}
-use Rattle.std.proofs.Common.{subst, arith}
-use Rattle.std.specs.Prelude.{All, IfOk, IfErr, if◌then◌else◌, sum_by}
-use Rattle.std.proofs.lemmas.List.Elements.{All-push}
+use Rattle.std.proofs.Common.{ℕ, ◌<◌, ◌≤◌, ◌^◌, Bool, true, false}
+use Rattle.std.proofs.Common.{Result, Ok, Err}
+use Rattle.std.proofs.Common.{arith}
+use Rattle.std.specs.Prelude.{if◌then◌else◌, sum_by}
 use Rattle.std.proofs.lemmas.List.Sums.{sum_by-le-sum_by}
 use Rattle.cnf.specs.Clause.{clause_value}
 use Rattle.cnf.specs.Problem.{Problem, SoftClause, cost_under}
 use Rattle.cnf.specs.Instance.{IsInstance}
-use Rattle.lrat_log.specs.Log.{LogLine}
-use Rattle.lrat_log.specs.Steps.{learned_count}
 use Rattle.improve.specs.declared.found.Found.{Found}
 use Rattle.improve.specs.declared.found.Found.TheVariants.{Optimum, Unsat, Best, Nothing}
 use Rattle.improve.specs.declared.found.Work.{Work}
 use Rattle.improve.specs.declared.found.ImproveFault.{ImproveFault}
-use Rattle.improve.specs.declared.found.ImproveFault.TheVariants.{Memory, Progress}
-use Rattle.adder.specs.declared.cells.Profile.{Profile}
-use Rattle.cdcl_order.specs.Budgets.{BudgetState, left_of}
-use Rattle.improve.specs.Progress.{Telling}
-use Rattle.improve.specs.Improving.{IsSolution, IsCostOfSome, OnWork, work_count}
-use Rattle.improve.specs.Improving.{AreFalling, IsRightFound, Improves}
-use Rattle.improve.proofs.SearchEnds.{memory_end, progress_end, found_end}
-use Rattle.improve.proofs.CheaperBits.{cost_of_solution, falling_more}
+use Rattle.improve.specs.Improving.{IsCostOfSome, OnWork}
 
 part : (b : Bool) (w : ℕ) → (if b then 0 else w) ≤ w
 part true w = omega arith

@@ -1,6 +1,6 @@
 -- From one standing to the next, and how a search ends that came to one.
-use Rattle.std.proofs.Common.{◌≡◌, ℕ, ◌+◌, ◌<◌, ◌≤◌, ◌^◌, List}
-use Rattle.std.proofs.Common.{[], ◌∷◌, ◌++◌, Bool, Option, Some, None}
+use Rattle.std.proofs.Common.{◌≡◌, ℕ, ◌+◌, ◌<◌, List}
+use Rattle.std.proofs.Common.{[], ◌∷◌, ◌++◌, Bool}
 use Rattle.std.proofs.Common.{Result, Ok, Err, length, append_assoc}
 use Rattle.std.proofs.Common.{length-append, refl, sym, ◌∙◌, ap}
 use Rattle.std.proofs.Common.{subst, arith, false}
@@ -22,7 +22,7 @@ use Rattle.improve.specs.declared.standing.Standing.{Standing}
 use Rattle.improve.specs.Progress.{Telling, with_told, with_failed}
 use Rattle.improve.specs.Improving.{IsSolution, IsCostOfSome, AreFalling, IsRightFound, Improves}
 use Rattle.improve.specs.Improving.{OnWork, work_count}
-use Rattle.improve.specs.Standing.{costs_of, IsStanding, HasTold, HasSpent, GoesOn, Ends, Fails}
+use Rattle.improve.specs.Standing.{costs_of, IsStanding, GoesOn, Ends, Fails}
 use Rattle.improve.proofs.SearchEnds.{memory_end, progress_end, found_end}
 use Rattle.improve.proofs.CheaperBits.{cost_of_solution, falling_more}
 use Rattle.improve.proofs.Lowering.{on_work_weaker}
@@ -201,6 +201,23 @@ ends_found profile used p result now had left s costs n x y h limit answers lear
     (on_work_weaker result (λ w. work_count w + x ≡ n + y)
     (λ w. left.learned ≡ before.learned + work_count w)
     (λ w e. omega (arith, e, learned, paid.learned)) work) spent
+
+-- something was found after what was told and learned on the way from one standing to the other
+pub ends_further : (profile used : Profile) (p : Problem) (result : Result Found ImproveFault)
+    (old now : Telling) (had between left : BudgetState) (s t : Standing) (costs : List ℕ)
+    (lines was more : ℕ) → GoesOn p old now had between s t 0 was → left.limit ≡ between.limit
+    → left.answers ≡ between.answers → left.learned + was ≡ between.learned + more
+    → IfErr result (λ e. e ≡ Memory) → used ≡ profile → costs ≡ costs_of t
+    → IfOk result (IsRightFound used p costs) → OnWork result (λ w. work_count w ≡ lines + more)
+    → OnWork result (λ w. left_of left ≡ 0) → Ends profile p result old now had left s lines
+ends_further profile used p result old now had between left s t costs lines was more a limit answers
+    learned fault same told right work spent =
+    ends_after p old now now had between left s t 0 was a profile result lines (lines + was)
+    (omega arith)
+    (ends_found profile used p result now between left t costs (lines + was) was more a.standing
+    limit answers learned fault same told right
+    (on_work_weaker result (λ w. work_count w ≡ lines + more)
+    (λ w. work_count w + was ≡ lines + was + more) (λ w e. omega (arith, e)) work) spent)
 
 -- what was pushed
 pub if_ok_at : {T F : Type 0} (r : Result T F) → false ≡ is_err r → (xs ys zs : List ℕ)

@@ -8,7 +8,7 @@ use Rattle.cnf.specs.Clause.{is_subset}
 use Rattle.cnf.specs.Bits.{Extends}
 use Rattle.cnf.specs.Problem.{Problem, IsFeasible, cost_under, IsOptimal, IsInconsistent}
 use Rattle.cnf.specs.Refute.{IsRefutedByHints}
-use Rattle.cnf.specs.Lrat.{Accepts, start_of}
+use Rattle.cnf.specs.Lrat.{start_of}
 use Rattle.cnf.specs.declared.limits.TheConstants.{CLAUSE_LIMIT}
 use Rattle.lrat_log.specs.declared.lines.Name.TheVariants.{Formula}
 use Rattle.lrat_log.specs.declared.lines.Hint.TheVariants.{Plain}

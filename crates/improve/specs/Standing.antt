@@ -1,23 +1,29 @@
 -- What stands between the first solution and the last one.
-use Rattle.std.specs.Prelude.{◌≡◌, ℕ, ◌+◌, ◌≤◌, ⊤, Bool, List, [], ◌∷◌, ◌++◌, length, All}
-use Rattle.std.specs.Prelude.{Option, Some, None, Result, Ok, Err, IfSome}
+use Rattle.std.specs.Prelude.{◌≡◌, ℕ, ◌+◌, ◌<◌, ◌≤◌, ⊤, Bool, List, [], ◌∷◌, ◌++◌, length, All}
+use Rattle.std.specs.Prelude.{Option, Some, None, Result, Err, IfSome}
 use Rattle.cnf.specs.Literal.{Assignment}
 use Rattle.cnf.specs.Bits.{Extends}
 use Rattle.cnf.specs.Problem.{Problem, IsFeasible}
+use Rattle.cnf.specs.Instance.{IsInstance}
 use Rattle.lrat_log.specs.Log.{LogLine}
 use Rattle.lrat_log.specs.Steps.{learned_count}
 use Rattle.adder.specs.declared.cells.Profile.{Profile}
 use Rattle.adder.specs.declared.cells.Profile.TheVariants.{Five}
+use Rattle.bound.specs.Bound.{core_cnf}
+use Rattle.cores.specs.Cores.{Core, Counted, AreCounted}
 use Rattle.cdcl_order.specs.Budgets.{BudgetState}
+use Rattle.improve_cores.specs.CoreWork.{AreStepsOver}
+use Rattle.improve_cores.specs.Events.{IsEndOf}
 use Rattle.improve_cores.specs.Work.{IsSearchWork}
 use Rattle.improve.specs.Progress.{Telling}
 use Rattle.improve.specs.Improving.{IsSolution, AreFalling, IsCostOfSome, IsHardLog}
-use Rattle.improve.specs.Improving.{IsByCores, IsOpenRefutation, Improves, refutation_count}
+use Rattle.improve.specs.Improving.{IsByCores, IsOpenRefutation, Improves}
 use Rattle.improve.specs.declared.found.Found.{Found}
 use Rattle.improve.specs.declared.found.ImproveFault.{ImproveFault}
 use Rattle.improve.specs.declared.found.Work.{Work}
 use Rattle.improve.specs.declared.standing.Standing.{Standing}
 use Rattle.improve.specs.declared.by_cores.ByCores.{ByCores}
+use Rattle.improve.specs.declared.by_cores.Trial.{Trial}
 use Rattle.improve.specs.declared.by_cores.Attempt.{Attempt}
 use Rattle.improve.specs.declared.by_cores.Attempt.TheVariants.{Unmade, Refuted, Open, Model}
 
@@ -103,6 +109,21 @@ IsAttempt p c Unmade = ⊤
 IsAttempt p c (Refuted r) = IsCoreProof p c r
 IsAttempt p c (Open r) = IsOpenRefutation p r
 IsAttempt p c (Model r bits) = IsOpenRefutation p r × AreFeasible p bits.items
+
+-- what is known of a search for a refutation by these cores, of what costs less than c
+pub record IsTrial (p : Problem) (c : ℕ) (cores : List Core) (t : Trial) : Type 0 where
+  pub instance : IsInstance p
+  pub leaves : Counted
+  pub are_counted : AreCounted p cores leaves
+  pub above_zero : 0 < c
+  pub worth : c ≤ leaves.weight
+  pub counted : t.clauses ≡ length (core_cnf p leaves).clauses
+  pub steps : AreStepsOver (core_cnf p leaves).clauses t.log
+  pub end_is : IsEndOf (record { formula = core_cnf p leaves; lines = t.log }) t.end
+
+abbrev pub trial_lines : Option Trial → List LogLine
+trial_lines None = []
+trial_lines (Some t) = t.log
 
 -- its lines
 abbrev pub lines_of : Attempt → List LogLine

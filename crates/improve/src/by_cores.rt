@@ -1,15 +1,17 @@
 //! The way by cores: a core-guided search whose lower bound meets the best solution, and then a
 //! refutation by the cores. Where it does not end within its share of the effort, the search goes
 //! on by bounds.
-ghost use Rattle.std.specs.Prelude.{◌≡◌, ◌+◌, ◌<◌, ◌≤◌, ◌^◌, [], None};
+ghost use Rattle.std.specs.Prelude.{◌≡◌, ℕ, ◌+◌, ◌<◌, ◌≤◌, ◌^◌, [], None};
 ghost use Rattle.std.specs.Prelude.{IfOk, IfErr, IfSome, OnOk};
+ghost use Rattle.cnf.specs.Literal.{Assignment};
+ghost use Rattle.cnf.specs.Problem.{IsFeasible};
 ghost use Rattle.lrat_log.specs.Steps.{learned_count};
 ghost use Rattle.improve_cores.specs.CoreWork.{IsSearchFor, CountsLearned};
 ghost use Rattle.improve_cores.specs.Events.{AreRightCores};
 ghost use Rattle.improve.specs.Improving.{work_count};
 ghost use Rattle.improve.specs.Standing.{IsStanding, IsEarlyWork, HasNoCores, GoesOn, Fails};
-ghost use Rattle.improve.specs.Standing.{IsCoreProof, AreFeasible, IsAttempt};
-ghost use Rattle.improve.specs.Standing.{lines_of, by_cores_count};
+ghost use Rattle.improve.specs.Standing.{IsCoreProof, AreFeasible, IsAttempt, IsTrial};
+ghost use Rattle.improve.specs.Standing.{lines_of, trial_lines, by_cores_count};
 
 use crate::found::{CoreRefutation, ImproveFault, Work};
 use crate::progress::Progress;
@@ -60,6 +62,17 @@ pub enum Attempt {
     Open(CoreRefutation),
     /// It met a solution: the bits satisfy the hard clauses.
     Model(CoreRefutation, Vec<bool>),
+}
+
+/// A search for a refutation by cores that has ended.
+#[derive(Drop)]
+pub struct Trial {
+    /// How it ended.
+    pub end: refuting::Refuted,
+    /// Its lines, over the formula of the cores,
+    pub log: Log,
+    /// which has so many clauses.
+    pub clauses: u64,
 }
 
 /// Looks for cores that are worth what the best solution costs, and for a refutation by them.
@@ -122,10 +135,30 @@ fn search_cores<T: Progress, W: Watch>(
     let Ok(mut search) = CoreSearch::new(instance, share, reserve_of(instance)) else {
         return Ok(None);
     };
-    let is_closed = close_gap(instance, budget, progress, watch, standing, &mut search)?;
-    let counted = take_cores(instance, &search, is_closed);
+    match close_gap(instance, budget, progress, watch, standing, &mut search) {
+        Ok(is_closed) => {
+            let counted = take_cores(instance, &search, is_closed);
+            keep_search(instance, search, work);
+            Ok(counted)
+        }
+        Err(fault) => {
+            keep_search(instance, search, work);
+            Err(fault)
+        }
+    }
+}
+
+/// What the search was given and learned is part of the work.
+fn keep_search(instance: &Instance, search: CoreSearch, work: &mut Work)
+    requires search { IsSearchFor instance.now search }
+    requires feasible { (t : Assignment) × IsFeasible instance.now t }
+    requires work { IsEarlyWork instance.now work.old }
+    requires none { HasNoCores work.old }
+    ensures work { IsEarlyWork instance.now work.new }
+    ensures none { work.new.refutation ≡ None }
+    ensures count { work_count work.new ≡ work_count work.old + learned_count search.lines }
+{
     work.search = Some(search.into_work(instance));
-    Ok(counted)
 }
 
 /// So many variables are reserved to count with.
@@ -143,7 +176,10 @@ fn take_cores(instance: &Instance, search: &CoreSearch, is_closed: bool) -> Opti
     if !is_closed {
         return None;
     }
-    search.counted(instance).unwrap_or(None)
+    match search.counted(instance) {
+        Ok(counted) => counted,
+        Err(AllocError) => None,
+    }
 }
 
 /// Goes on until the cores are worth what the best solution costs; solutions that are met and are
@@ -160,7 +196,7 @@ fn close_gap<T: Progress, W: Watch>(
     requires standing { IsStanding instance.now standing.old }
     requires search { IsSearchFor instance.now search.old }
     ensures follows { (first : T) → T.follows first progress.old → T.follows first progress.new }
-    ensures search { OnOk result (IsSearchFor instance.now search.new) }
+    ensures search { IsSearchFor instance.now search.new }
     ensures goes_on { OnOk result (GoesOn instance.now
         (T.state progress.old) (T.state progress.new)
         budget.old budget.new standing.old standing.new
@@ -286,27 +322,63 @@ fn try_cores<W: Watch>(
     ensures answers { budget.new.answers ≡ budget.old.answers }
     ensures limit { budget.new.limit ≡ budget.old.limit }
 {
+    let trial = make_trial(instance, budget, watch, best, &counted);
+    let cores = counted.into_cores();
+    match trial {
+        Ok(Some(trial)) => Ok(end_trial(instance, cores, trial)),
+        Ok(None) => Ok(Attempt::Unmade),
+        Err(AllocError) => Err(AllocError),
+    }
+}
+
+/// Searches for a refutation by cores, where they are worth as much as this solution costs.
+fn make_trial<W: Watch>(
+    instance: &Instance,
+    budget: &mut Budget,
+    watch: &mut W,
+    best: u64,
+    counted: &Counted,
+) -> Result<Option<Trial>, AllocError>
+    requires { AreRightCores instance.now counted.now }
+    ensures trial { IfOk result
+        (λ t. IfSome t (IsTrial instance.now best counted.now.cores.items)) }
+    ensures spends { IfOk result (λ t. budget.new.learned
+        ≡ budget.old.learned + learned_count (trial_lines t)) }
+    ensures answers { budget.new.answers ≡ budget.old.answers }
+    ensures limit { budget.new.limit ≡ budget.old.limit }
+{
     instance.limits();
     if best == 0 || counted.counter.weight() < best {
-        return Ok(Attempt::Unmade);
+        return Ok(None);
     }
-    let Ok(mut refutation) = Refutation::new(instance, &counted) else {
-        return Ok(Attempt::Unmade);
+    let Ok(mut refutation) = Refutation::new(instance, counted) else {
+        return Ok(None);
     };
     let clauses = refutation.clauses();
     let share = budget.left() / 2;
-    let end = refutation.search(counted.counter.firsts(), share, budget, watch)?;
+    let end = refutation.search(counted.counter.firsts(), share, budget, watch);
     let log = refutation.into_log();
-    let cores = counted.cores;
     match end {
-        refuting::Refuted::Yes => Ok(Attempt::Refuted(ByCores {
+        Ok(end) => Ok(Some(Trial { end, log, clauses })),
+        Err(AllocError) => Err(AllocError),
+    }
+}
+
+/// What a trial with these cores comes to.
+fn end_trial(instance: &Instance, cores: Vec<Core>, trial: Trial) -> Attempt
+    ensures attempt { (best : ℕ) → IsTrial instance.now best cores.items trial
+        → IsAttempt instance.now best result }
+    ensures lines { lines_of result ≡ trial.log }
+{
+    let log = trial.log;
+    let end = trial.end;
+    match end {
+        refuting::Refuted::Yes => Attempt::Refuted(ByCores {
             cores,
             log,
-            clauses,
-        })),
-        refuting::Refuted::Model(bits) => {
-            Ok(Attempt::Model(CoreRefutation { cores, log }, bits))
-        }
-        refuting::Refuted::Open => Ok(Attempt::Open(CoreRefutation { cores, log })),
+            clauses: trial.clauses,
+        }),
+        refuting::Refuted::Model(bits) => Attempt::Model(CoreRefutation { cores, log }, bits),
+        refuting::Refuted::Open => Attempt::Open(CoreRefutation { cores, log }),
     }
 }

@@ -9,8 +9,8 @@ use Rattle.bound.specs.Relaxed.{relaxed_cnf}
 use Rattle.improve_cores.specs.CoreWork.{CountsBeyond}
 use Rattle.improve_cores.specs.declared.work.SearchWork.{SearchWork}
 
--- it was given the relaxed clauses and then some that count; its lines are steps from these, none of
--- them the empty clause, and each learned one is new, but for the clauses that count
+-- it was given the relaxed clauses and then some that count; its lines are steps from these, none
+-- of them the empty clause, and each learned one is new, but for the clauses that count
 pub record IsSearchWork (p : Problem) (w : SearchWork) : Type 0 where
   pub counting : List (List Literal)
   pub given : w.given ≡ given_of (relaxed_cnf p ++ counting)

@@ -1,5 +1,5 @@
 //! Cores as a certificate says them.
-ghost use Rattle.std.specs.Prelude.{IfOk, IfSome};
+ghost use Rattle.std.specs.Prelude.{◌≡◌, IfOk, IfSome};
 ghost use Rattle.improve_cores.specs.Events.{AreRightCores};
 
 use crate::checked::at;
@@ -17,6 +17,15 @@ pub struct Counted {
     pub cores: Vec<Core>,
     /// What they leave.
     pub counter: Counter,
+}
+
+impl Counted {
+    /// The core lines alone.
+    pub fn into_cores(self) -> Vec<Core>
+        ensures { result ≡ self.cores }
+    {
+        self.cores
+    }
 }
 
 /// The cores of a search as core lines: an output is told by its variable in the formula of the

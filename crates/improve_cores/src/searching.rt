@@ -11,11 +11,9 @@
 //! 2017). A model under all assumptions of a stratum leads to the next lower one; under all of them
 //! it costs just what the cores are worth.
 //!
-//! What was tried, on 85 instances: disjoint cores without totalizers closed 12 of them, this
-//! closes 66. With 5,000 conflicts it closes 55, with 20,000 it closes 62, with 60,000 it closes 66
-//! to 69. Assumed in windows of the list, which double once they stand, cores are found sooner and
-//! are worse: of two upgrades the one of 3,800 soft clauses takes as long, that of 10,000 stays
-//! open.
+//! docs/EXPERIMENTS.md, under 'The search for cores', has how many instances this closes, after how
+//! many conflicts, and how many disjoint cores without totalizers do. Assumed in windows of the
+//! list, which double once they stand, cores were found sooner and were worse.
 //!
 //! What is told of the search does not rest on its policy: see `counting_solver` and `counted`.
 ghost use Rattle.std.specs.Prelude.{◌≡◌, ◌≤◌, ◌^◌, IfOk, IfSome};
@@ -49,8 +47,8 @@ use std::marker::Model;
 pub enum Event {
     /// Bits that satisfy the hard clauses.
     Model(Vec<bool>),
-    /// The cores are worth what the best solution costs, as the search counts; what `counted` gives
-    /// is sure.
+    /// The cores are worth what the best solution costs, as the search counts. No contract says so:
+    /// what they are worth is known of what `counted` gives.
     Closed,
     /// The share of the effort is spent, or no further core can be looked for.
     Over,

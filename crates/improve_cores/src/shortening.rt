@@ -1,9 +1,8 @@
 // A core is shortened: it is searched again under itself while it shrinks, and then each literal in
 // turn is left out and the rest searched again for a few conflicts (as in deletion-based
-// extraction of minimal cores). What was tried: without shortening the refutation takes 1.3 times
-// the conflicts; with propagation alone, without conflicts, cores have twice the literals. Without
-// a decision beside the assumptions (`DECISIONS` 0) a schedule takes half of the conflicts, but
-// covers take 1.8 times as many, and a test selection 4.5 times.
+// extraction of minimal cores). Without shortening the refutation took more conflicts; with
+// propagation alone, without conflicts, cores were longer. docs/EXPERIMENTS.md, under 'The search
+// for cores', has what decisions beside the assumptions (`DECISIONS`) are good for.
 ghost use Rattle.std.specs.Prelude.{◌≡◌};
 ghost use Rattle.improve_cores.specs.CoreWork.{CountsLearned, KeepsClauses};
 

@@ -1,5 +1,5 @@
 -- The parts of the list.
-use Rattle.std.proofs.Common.{◌≡◌, ◌-◌, length, take, drop, ◌∙◌, refl, sym}
+use Rattle.std.proofs.Common.{◌-◌, length, take, drop, ◌∙◌, sym}
 use Rattle.std.proofs.lemmas.List.{take_rest}
 use Rattle.std.proofs.lemmas.Result.{IfOk-weaker}
 use Rattle.improve.proofs.GivenParts.{parts_weaker}

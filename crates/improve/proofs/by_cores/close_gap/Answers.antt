@@ -43,6 +43,12 @@ note_model-requires-clause-feasible g c =
     (search_kept c.args.instance.now c.events.search c.next.new.self c.events.invariant.search
     c.next.ensures.formula) model
 
+pub returns-in_err-note_model-in-Model-clause-search :
+    goal.returns-in_err-note_model-in-Model-clause-search
+returns-in_err-note_model-in-Model-clause-search g c =
+    search_kept c.args.instance.now c.events.search c.next.new.self c.events.invariant.search
+    c.next.ensures.formula
+
 pub returns-in_err-note_model-in-Model-clause-follows :
     goal.returns-in_err-note_model-in-Model-clause-follows
 returns-in_err-note_model-in-Model-clause-follows g c =

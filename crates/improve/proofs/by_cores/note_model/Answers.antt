@@ -1,5 +1,5 @@
 -- A cheaper solution is told, or nothing.
-use Rattle.std.proofs.Common.{◌≡◌, ◌+◌, refl, ap, arith}
+use Rattle.std.proofs.Common.{◌+◌, refl, ap, arith}
 use Rattle.cnf.proofs.Laws.{on_ok_at, on_err_at}
 use Rattle.improve.proofs.Standings.{if_ok_at}
 use Rattle.improve.proofs.Standings.{goes_nowhere, goes_cheaper, fails_memory, fails_progress}

@@ -1,10 +1,10 @@
 -- What was tried ends in a refutation, or is part of the work.
-use Rattle.std.proofs.Common.{◌≡◌, ◌+◌, ap, arith, refl}
+use Rattle.std.proofs.Common.{ap, arith, refl}
 use Rattle.std.proofs.lemmas.Result.{err_from_is_err_and}
 use Rattle.lrat_log.specs.Steps.{learned_count}
-use Rattle.improve.specs.Improving.{work_count, refutation_count}
+use Rattle.improve.specs.Improving.{refutation_count}
 use Rattle.improve.specs.Standing.{lines_of}
-use Rattle.improve.proofs.Standings.{goes_spent, goes_told, goes_same, fails_after, fails_memory}
+use Rattle.improve.proofs.Standings.{goes_spent, goes_told, fails_after, fails_memory}
 use Rattle.improve.proofs.by_cores.refute.Goals as goal
 
 pub returns-in_default-clause-fault : goal.returns-in_default-clause-fault

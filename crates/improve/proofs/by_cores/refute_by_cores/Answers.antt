@@ -1,8 +1,6 @@
 -- The search for cores, and then the refutation.
-use Rattle.std.proofs.Common.{◌≡◌, ◌+◌, arith}
+use Rattle.std.proofs.Common.{arith}
 use Rattle.std.proofs.lemmas.Result.{err_from_is_err_and, IfOk-weaker, IfErr-weaker}
-use Rattle.improve.specs.Improving.{work_count}
-use Rattle.improve.specs.Standing.{GoesOn, Fails, by_cores_count}
 use Rattle.improve.proofs.Standings.{goes_further, goes_same, fails_after}
 use Rattle.improve.proofs.by_cores.refute_by_cores.Goals as goal
 

@@ -1,35 +1,21 @@
--- The refutation is one of the formula of the cores.
-use Rattle.std.proofs.Common.{◌≡◌, ◌+◌, ◌∙◌, ap, arith, length, refl, sym}
-use Rattle.improve_cores.proofs.Laws.{refuted_feasible}
-use Rattle.improve.proofs.CoreEnds.{core_proof, open_refutation}
+-- The cores that were tried are those that were counted.
+use Rattle.std.proofs.Common.{ap, arith, sym, subst}
+use Rattle.lrat_log.specs.Steps.{learned_count}
+use Rattle.improve.specs.Standing.{IsTrial}
 use Rattle.improve.proofs.by_cores.try_cores.Goals as goal
 
-pub returns-in-Yes-clause-attempt : goal.returns-in-Yes-clause-attempt
-returns-in-Yes-clause-attempt g c =
-    let accepted = rw c.in-Yes.is at c.in_ok-end.ensures.end in
-    core_proof c.args.instance.now c.args.counted.cores.items c.args.counted.counter.counted
-    c.requires.1 c.search.new.self.formula c.into_log-log.result
-    (c.search.ensures.formula ∙ c.in-Ok.ensures.formula) c.limits.ensures c.args.best
-    c.clauses-clauses.result (omega arith) (omega (arith, c.weight.ensures.weight))
-    (c.clauses-clauses.ensures ∙ ap (λ f. length f.clauses) (sym c.search.ensures.formula))
-    (rw (c.into_log-log.ensures.log) accepted)
+pub returns-in-Ok-Some-clause-attempt : goal.returns-in-Ok-Some-clause-attempt
+returns-in-Ok-Some-clause-attempt g c =
+    let tried = rw c.in-Ok-Some.field-0-is at c.in-Ok-Some.ensures.trial in
+    c.end_trial.ensures.attempt c.args.best
+    (subst (λ v. IsTrial c.args.instance.now c.args.best v.items c.in-Ok-Some.trial)
+    (sym c.into_cores-cores.ensures) tried)
 
-pub returns-in-Model-clause-attempt : goal.returns-in-Model-clause-attempt
-returns-in-Model-clause-attempt g c =
-    let met = rw c.in-Model.is at c.in_ok-end.ensures.end in (
-      open_refutation c.args.instance.now c.args.counted.cores c.args.counted.counter.counted
-          c.requires.1 c.search.new.self.formula c.into_log-log.result
-          (c.search.ensures.formula ∙ c.in-Ok.ensures.formula) c.into_log-log.ensures.steps
-          (rw (c.into_log-log.ensures.log) (met.1)),
-      refuted_feasible c.args.instance.now c.args.counted.cores.items
-          c.args.counted.counter.counted c.in-Model.bits.items c.requires.1
-          (rw (c.search.ensures.formula ∙ c.in-Ok.ensures.formula) at met.0),
-    )
+pub returns-in-Ok-Some-clause-spends : goal.returns-in-Ok-Some-clause-spends
+returns-in-Ok-Some-clause-spends g c =
+    let spends = rw c.in-Ok-Some.field-0-is at c.in-Ok-Some.ensures.spends in
+    omega (arith, spends, ap learned_count c.end_trial.ensures.lines)
 
-pub returns-clause-attempt : goal.returns-clause-attempt
-returns-clause-attempt g c =
-    let free = rw c.in-Open.is at c.in_ok-end.ensures.end in
-    open_refutation c.args.instance.now c.args.counted.cores c.args.counted.counter.counted
-    c.requires.1 c.search.new.self.formula c.into_log-log.result
-    (c.search.ensures.formula ∙ c.in-Ok.ensures.formula) c.into_log-log.ensures.steps
-    (rw (c.into_log-log.ensures.log) free)
+pub returns-in-Ok-None-clause-spends : goal.returns-in-Ok-None-clause-spends
+returns-in-Ok-None-clause-spends g c =
+    rw c.in-Ok-None.field-0-is at c.in-Ok-None.ensures.spends

@@ -1,5 +1,5 @@
 -- The work is that over the hard clauses.
-use Rattle.std.proofs.Common.{ap}
+use Rattle.std.proofs.Common.{ap, arith}
 use Rattle.improve.specs.Improving.{work_count}
 use Rattle.improve.proofs.HardEnds.{right_nothing}
 use Rattle.improve.proofs.search.conclude_nothing.Goals as goal
@@ -10,4 +10,4 @@ returns-clause-found c =
     c.begin_work.ensures c.requires.hard c.requires.open
 
 pub returns-clause-work : goal.returns-clause-work
-returns-clause-work c = ap work_count c.begin_work.ensures
+returns-clause-work c = omega (arith, ap work_count c.begin_work.ensures)

@@ -1,5 +1,5 @@
 -- The ends of the search over the hard clauses, and what goes on from its bits.
-use Rattle.std.proofs.Common.{ℕ, length, Ok, [], refl, sym, ◌∙◌, ap, subst, arith, append-nil}
+use Rattle.std.proofs.Common.{◌≡◌, ℕ, length, Ok, [], refl, sym, ◌∙◌, ap, subst, arith, append-nil}
 use Rattle.std.proofs.lemmas.List.Elements.{All-nil}
 use Rattle.lrat_log.specs.Steps.{IsAcceptedLog, learned_count}
 use Rattle.cdcl.specs.Solving.{given_to}

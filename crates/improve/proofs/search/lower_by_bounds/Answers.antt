@@ -1,5 +1,5 @@
 -- The bounds are those of the costs told before.
-use Rattle.std.proofs.Common.{◌≡◌, ◌++◌, [], ◌∷◌, refl, ◌∙◌, ap}
+use Rattle.std.proofs.Common.{◌++◌, [], ◌∷◌, refl, ◌∙◌, ap}
 use Rattle.improve.specs.Improving.{work_count}
 use Rattle.improve.specs.declared.found.ImproveFault.TheVariants.{Memory}
 use Rattle.improve.proofs.Standings.{ends_failing, ends_same, fails_memory, same_standing}

@@ -7,7 +7,7 @@ use Rattle.adder.specs.declared.cells.Profile.TheVariants.{Five}
 use Rattle.improve.specs.Improving.{work_count}
 use Rattle.improve.specs.Standing.{costs_of}
 use Rattle.improve.proofs.Lowering.{on_work_weaker}
-use Rattle.improve.proofs.Standings.{ends_after, ends_failing, ends_found, goes_same}
+use Rattle.improve.proofs.Standings.{ends_after, ends_failing, ends_found}
 use Rattle.improve.proofs.search.lower_by_cores.Goals as goal
 
 pub returns-in_err-by_cores-clause-ends : goal.returns-in_err-by_cores-clause-ends

@@ -1,5 +1,5 @@
 -- What was told are the bounds so far and the cost in hand.
-use Rattle.std.proofs.Common.{◌≡◌, ℕ, ◌+◌, [], ◌∷◌, ◌++◌, refl, sym, ◌∙◌, ap, subst, arith}
+use Rattle.std.proofs.Common.{◌≡◌, ℕ, ◌+◌, [], ◌∷◌, ◌++◌, refl, ◌∙◌, ap, arith}
 use Rattle.std.specs.declared.vec.Vec.{Vec}
 use Rattle.std.specs.declared.alloc.Global.{Global}
 use Rattle.cdcl_order.specs.Budgets.{left_of}
@@ -11,7 +11,7 @@ use Rattle.cnf.proofs.Laws.{on_ok_at, on_err_at}
 use Rattle.improve.proofs.Lowering.{cost_small, on_work_weaker}
 use Rattle.improve.proofs.Standings.{goes_cheaper, goes_further, goes_nowhere, goes_same}
 use Rattle.improve.proofs.Standings.{fails_memory, fails_progress}
-use Rattle.improve.proofs.Standings.{fails_after, ends_after, ends_failing, ends_found}
+use Rattle.improve.proofs.Standings.{fails_after, ends_failing, ends_further}
 use Rattle.improve.proofs.search.tighten.Goals as goal
 
 pub loop-best-init : goal.loop-best-init
@@ -142,31 +142,25 @@ loop-best-preserved g c =
 
 pub returns-in-Ok-Refuted-clause-ends : goal.returns-in-Ok-Refuted-clause-ends
 returns-in-Ok-Refuted-clause-ends g c =
-    let p = c.args.instance.now in
     let i = c.loop-best.invariant in
     let next = rw c.in-Ok-Refuted.field-0-is at c.in-Ok-Refuted.ensures.next in
     let r = c.conclude_optimum in
     let sink = c.solve.new.self.solver.sink in
-    let was = learned_count c.loop-best.bounds.solver.sink in
     let unlearned = on_ok_at c.add.result c.if-is_err.ensures.value c.add.ensures.learned in
-    let n = work_count c.args.work + was in
-    ends_after p _ _ _ _ _ c.solve.new.budget _ _ _ _ i.goes_on c.args.bounds.now.profile r.result
-    (work_count c.args.work) n (omega arith)
-    (ends_found c.args.bounds.now.profile c.solve.new.self.profile p r.result
-    (g.T.Progress.state c.loop-best.progress)
-    c.loop-best.budget c.solve.new.budget
-    (record { best = c.loop-best.best; earlier = c.loop-best.bounds.costs })
-    c.solve.new.self.costs.items n was (learned_count sink) i.goes_on.standing
-    c.solve.ensures.limit next.answers (omega (arith, c.solve.ensures.learned, unlearned))
-    r.ensures.fault
+    ends_further c.args.bounds.now.profile c.solve.new.self.profile c.args.instance.now r.result
+    _ _ _ c.loop-best.budget c.solve.new.budget _ _ c.solve.new.self.costs.items
+    (work_count c.args.work) (learned_count c.loop-best.bounds.solver.sink) (learned_count sink)
+    i.goes_on c.solve.ensures.limit next.answers
+    (omega (arith, c.solve.ensures.learned, unlearned)) r.ensures.fault
     (c.solve.ensures.profile
     ∙ on_ok_at c.add.result c.if-is_err.ensures.value c.add.ensures.profile ∙ i.profile)
     (ap (λ (v : Vec ℕ Global). v.items) c.solve.ensures.costs
     ∙ on_ok_at c.add.result c.if-is_err.ensures.value c.add.ensures.costs) r.ensures.found
-    (on_work_weaker r.result (λ w. ⊥) (λ w. work_count w + was ≡ n + learned_count sink)
-    (λ w x. absurd x) r.ensures.work)
+    (on_work_weaker r.result (λ w. ⊥)
+    (λ w. work_count w ≡ work_count c.args.work + learned_count sink) (λ w x. absurd x)
+    r.ensures.work)
     (on_work_weaker r.result (λ w. ⊥) (λ w. left_of c.solve.new.budget ≡ 0) (λ w x. absurd x)
-    r.ensures.work))
+    r.ensures.work)
 
 pub conclude_optimum-requires-clause-solution : goal.conclude_optimum-requires-clause-solution
 conclude_optimum-requires-clause-solution g c = c.loop-best.invariant.goes_on.standing.solution
@@ -183,34 +177,24 @@ conclude_spent-requires-clause-above g c =
 
 pub returns-in-Ok-Spent-clause-ends : goal.returns-in-Ok-Spent-clause-ends
 returns-in-Ok-Spent-clause-ends g c =
-    let p = c.args.instance.now in
     let i = c.loop-best.invariant in
     let next = rw c.in-Ok-Spent.field-0-is at c.in-Ok-Spent.ensures.next in
     let r = c.conclude_spent in
     let sink = c.solve.new.self.solver.sink in
-    let was = learned_count c.loop-best.bounds.solver.sink in
     let unlearned = on_ok_at c.add.result c.if-is_err.ensures.value c.add.ensures.learned in
-    let n = work_count c.args.work + was in
-    ends_after p _ _ _ _ _ c.solve.new.budget _ _ _ _ i.goes_on c.args.bounds.now.profile r.result
-    (work_count c.args.work) n (omega arith)
-    (ends_found c.args.bounds.now.profile c.solve.new.self.profile p r.result
-    (g.T.Progress.state c.loop-best.progress)
-    c.loop-best.budget c.solve.new.budget
-    (record { best = c.loop-best.best; earlier = c.loop-best.bounds.costs })
-    c.solve.new.self.costs.items n was (learned_count sink) i.goes_on.standing
-    c.solve.ensures.limit next.answers (omega (arith, c.solve.ensures.learned, unlearned))
-    r.ensures.fault
+    ends_further c.args.bounds.now.profile c.solve.new.self.profile c.args.instance.now r.result
+    _ _ _ c.loop-best.budget c.solve.new.budget _ _ c.solve.new.self.costs.items
+    (work_count c.args.work) (learned_count c.loop-best.bounds.solver.sink) (learned_count sink)
+    i.goes_on c.solve.ensures.limit next.answers
+    (omega (arith, c.solve.ensures.learned, unlearned)) r.ensures.fault
     (c.solve.ensures.profile
     ∙ on_ok_at c.add.result c.if-is_err.ensures.value c.add.ensures.profile ∙ i.profile)
     (ap (λ (v : Vec ℕ Global). v.items) c.solve.ensures.costs
     ∙ on_ok_at c.add.result c.if-is_err.ensures.value c.add.ensures.costs) r.ensures.found
+    r.ensures.work
     (on_work_weaker r.result
     (λ w. work_count w ≡ work_count c.args.work + learned_count sink)
-    (λ w. work_count w + was ≡ n + learned_count sink)
-    (λ w x. omega (arith, x)) r.ensures.work)
-    (on_work_weaker r.result
-    (λ w. work_count w ≡ work_count c.args.work + learned_count sink)
-    (λ w. left_of c.solve.new.budget ≡ 0) (λ w x. next.none_left) r.ensures.work))
+    (λ w. left_of c.solve.new.budget ≡ 0) (λ w x. next.none_left) r.ensures.work)
 
 pub returns-then-is_err-2-clause-follows : goal.returns-then-is_err-2-clause-follows
 returns-then-is_err-2-clause-follows g c =

@@ -1,5 +1,5 @@
 -- The costs told are the bounds so far and the cost in hand, which is below them.
-use Rattle.std.proofs.Common.{◌≡◌, ◌+◌}
+use Rattle.std.proofs.Common.{◌≡◌}
 use Rattle.lrat_log.specs.Steps.{learned_count}
 use Rattle.improve.specs.Bounds.{IsOver}
 use Rattle.improve.specs.Standing.{GoesOn}

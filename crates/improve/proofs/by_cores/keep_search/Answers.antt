@@ -1,0 +1,24 @@
+-- What was learned is counted.
+use Rattle.std.proofs.Common.{ap, arith}
+use Rattle.lrat_log.specs.Steps.{learned_count}
+use Rattle.improve.specs.Improving.{search_count}
+use Rattle.improve.proofs.by_cores.keep_search.Goals as goal
+
+pub returns-clause-work : goal.returns-clause-work
+returns-clause-work c = record {
+  hard = c.requires.work.hard;
+  no_bound = c.requires.work.no_bound;
+  search = c.into_work.ensures.work;
+  refutation = c.requires.work.refutation;
+}
+
+pub returns-clause-none : goal.returns-clause-none
+returns-clause-none c = c.requires.none.1
+
+pub returns-clause-count : goal.returns-clause-count
+returns-clause-count c =
+    omega (
+      arith,
+      ap search_count c.requires.none.0,
+      ap learned_count c.into_work.ensures.log,
+    )
