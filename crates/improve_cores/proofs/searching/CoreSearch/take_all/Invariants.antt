@@ -1,0 +1,9 @@
+-- The same clauses are given, and what was learned was counted.
+use Rattle.improve_cores.specs.CoreWork.{KeepsClauses, CountsLearned}
+use Rattle.improve_cores.proofs.searching.CoreSearch.take_all.Given as goal
+
+abbrev pub invariant-loop-core : goal.invariant-loop-core
+invariant-loop-core g l = record {
+  clauses : KeepsClauses l.fn.self l.self;
+  learned : CountsLearned l.fn.self.lines l.self.lines l.fn.budget l.budget;
+}
