@@ -166,7 +166,10 @@ impl<'a, R: Clock + AllocGlobal> Meter<'a, R> {
             (Some(cost), Some(lower)) => {
                 let gap = gap_of(cost, lower);
                 format!(in alloc;
-                    "cost {cost}, at least {lower}, gap {}.{:02} %", gap / 100, gap % 100)
+                    "cost {cost}, at least {lower}, gap {}.{:02} %",
+                    gap / 100,
+                    gap % 100
+                )
             }
         }
     }
