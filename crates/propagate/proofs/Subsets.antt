@@ -1,5 +1,5 @@
 -- Looking for attached clauses that have no literals but those of a given one.
-use Rattle.std.proofs.Common.{◌≡◌, ℕ, zero, suc, ◌+◌, ◌<◌, ◌≤◌, ◌*◌, Bool, true, false, List, []}
+use Rattle.std.proofs.Common.{◌≡◌, ℕ, ◌+◌, ◌<◌, ◌≤◌, ◌*◌, Bool, true, false, List, []}
 use Rattle.std.proofs.Common.{◌∷◌, ◌++◌, take, length, if◌then◌else◌, Some, inl, inr, refl}
 use Rattle.std.proofs.Common.{sym, ◌∙◌, ap, subst, arith}
 use Rattle.std.specs.Prelude.{All, Contains, slice_get}
@@ -7,7 +7,7 @@ use Rattle.std.specs.List.{AllByRecursion}
 use Rattle.std.proofs.lemmas.Bool.{or_cases, false≢true, both_ways, false_from_ne_true}
 use Rattle.std.proofs.lemmas.List.{take_more}
 use Rattle.std.proofs.lemmas.List.Elements.{All-from_recursion, recursion_from_All}
-use Rattle.std.proofs.lemmas.Option.{same_Some, none-some}
+use Rattle.std.proofs.lemmas.Option.{same_Some}
 use Rattle.cnf.specs.Literal.{Literal, literal_eq, index_of}
 use Rattle.cnf.specs.Clause.{contains_literal, is_subset}
 use Rattle.cnf.specs.Marks.{mark_of, IsMarked, HasPlace, are_marked}
@@ -28,14 +28,6 @@ use Rattle.propagate.proofs.Attachments.{one-same}
 use Rattle.propagate.proofs.Completing.{named_in_row}
 use Rattle.propagate.proofs.Looking.{attached_within, within_variable}
 use Rattle.propagate.proofs.Stepping.{got_at}
-
--- Entries.
-
-pub entry_has : (P : Entry → Type 0) (row : List Entry) (k : ℕ) (x : Entry) → AllByRecursion P row
-    → slice_get row k ≡ Some x → P x
-entry_has P [] k x h e = absurd (none-some x e)
-entry_has P (y ∷ row) zero x h e = subst P (same_Some y x e) h.0
-entry_has P (y ∷ row) (suc k) x h e = entry_has P row k x h.1 e
 
 -- the literals of a clause over the engine's variables have places
 pub have_places : (n rows : ℕ) (c : List Literal) → 2 * n ≤ rows → IsWithin n c
