@@ -20,7 +20,7 @@ same() { # NAME: as without the option
 
 # numbers NAME EXPRESSION: these of the lines do not fall
 numbers() {
-    ok "$1 do not fall" awk -v last=0 '{ if ($1 + 0 < last) wrong = 1; last = $1 + 0 } END { exit wrong }' <<< "$(sed -E "s|$2|\\1|" <<< "$err")"
+    ok "$1 do not fall" awk -v last=0 '{ if ($1 + 0 < last) wrong = 1; last = $1 + 0 } END { exit wrong }' <<< "$(sed -nE "s|$2|\\1|p" <<< "$err")"
 }
 
 # A run of a second or two, into a file.
